@@ -1,0 +1,7 @@
+pub mod Behind
+pub mod Definite
+pub mod Falling
+pub mod Normaliser
+pub mod Ring
+pub mod Signs
+pub mod Sums

@@ -1,0 +1,43 @@
+-- The companion matrix of a polynomial and the forms that fall along its trajectories.
+--
+-- A linear recursion c_0 y(n) + c_1 y(n-1) + .. + c_d y(n-d) = 0 takes the vector of its last d values to the next
+-- one by its companion matrix. Times c_0, so that all entries are whole, this matrix has the first row -c_1, .., -c_d
+-- and c_0 below the diagonal. A form that is positive and is less behind each such step, divided by c_0, is a
+-- Lyapunov function of the recursion.
+use Rattle.std.specs.Prelude.{◌≡◌, ℕ, zero, suc, ◌==◌, nat_lt, if◌then◌else◌, ℤ, pos, ◌+ℤ◌, ◌-ℤ◌, ◌*ℤ◌, ◌<ℤ◌}
+use Rattle.dsv_algebra.specs.Vectors.{Vector, Matrix, dot, form_at, behind, IsNotZero}
+
+-- the companion matrix of c 0 to c d
+abbrev pub companion : Vector → Matrix
+companion c zero j = pos 0 -ℤ c (suc j)
+companion c (suc i) j = if i == j then c 0 else pos 0
+
+-- one step of a trajectory: the companion matrix times v
+abbrev pub step : ℕ → Vector → Vector → Vector
+step d c v i = dot d (companion c i) v
+
+-- The form is positive at each integer vector other than 0, and less behind a step, that step divided by c 0.
+pub record StrictlyFalls (d : ℕ) (c : Vector) (P : Matrix) : Type 0 where
+  pub positive : (v : Vector) → IsNotZero d v → pos 0 <ℤ form_at d P v
+  pub falls : (v : Vector) → IsNotZero d v → form_at d P (step d c v) <ℤ (c 0 *ℤ c 0 *ℤ form_at d P v)
+
+-- What a form loses in a step: at each vector F is c 0 squared times P less P behind the step.
+abbrev pub IsLoss : ℕ → Vector → Matrix → Matrix → Type 0
+IsLoss d c P F = (v : Vector) → form_at d F v ≡ c 0 *ℤ c 0 *ℤ form_at d P v -ℤ form_at d P (step d c v)
+
+-- the matrix of what P loses in a step: c_0^2 P - C^T P C
+abbrev pub fall_form : ℕ → Vector → Matrix → Matrix
+fall_form d c P i j = c 0 *ℤ c 0 *ℤ P i j -ℤ behind d P (companion c) i j
+
+-- z where i is one of the first d places, else 0
+abbrev pub within : ℕ → ℕ → ℤ → ℤ
+within d i z = if nat_lt i d then z else pos 0
+
+-- An entry of the fall form in the entries of P alone, those outside the first d places taken as 0.
+abbrev pub fall_entry : ℕ → Vector → Matrix → ℕ → ℕ → ℤ
+fall_entry d c P i j =
+    c 0 *ℤ c 0 *ℤ P i j
+    -ℤ c (suc i) *ℤ c (suc j) *ℤ P 0 0
+    +ℤ within d (suc j) (c (suc i) *ℤ c 0 *ℤ P 0 (suc j))
+    +ℤ within d (suc i) (c 0 *ℤ c (suc j) *ℤ P (suc i) 0)
+    -ℤ within d (suc i) (within d (suc j) (c 0 *ℤ c 0 *ℤ P (suc i) (suc j)))

@@ -1,0 +1,4 @@
+pub mod Companion
+pub mod Narrow
+pub mod Squares
+pub mod Vectors

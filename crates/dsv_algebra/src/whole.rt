@@ -1,0 +1,86 @@
+// Whole numbers with exact arithmetic.
+ghost use Rattle.std.specs.Prelude.{◌≡◌, ◌+ℤ◌, ◌-ℤ◌, ◌*ℤ◌};
+ghost use Rattle.dsv_algebra.specs.Narrow.{narrowed};
+
+use std::marker::Model;
+
+/// The least size that an exact result may not have.
+const TOO_WIDE: u128 = 1 << 126;
+
+/// A whole number of 128 bits. Its arithmetic is exact, and an operation whose result passes 2^126 answers `None`.
+#[derive(Clone, Copy, Debug, PartialEq, Eq)]
+pub struct Whole {
+    value: i128,
+}
+
+impl Model for Whole {
+    ghost use Rattle.std.specs.Prelude.{ℤ};
+
+    ghost Value = { ℤ };
+
+    ghost view = { λ w. w.value };
+
+    ghost inverse = { λ z. record { value = z } };
+}
+
+impl From<i128> for Whole {
+    ghost from_gives = { λ value w. w ≡ value };
+
+    fn from(value: i128) -> Self {
+        Whole { value }
+    }
+}
+
+impl From<i64> for Whole {
+    ghost from_gives = { λ value w. w ≡ value };
+
+    fn from(value: i64) -> Self {
+        Whole {
+            value: i128::from(value),
+        }
+    }
+}
+
+impl Whole {
+    /// The number itself.
+    pub fn get(self) -> i128
+        ensures { result ≡ self }
+    {
+        self.value
+    }
+
+    /// The number, where it doesn't pass 2^126.
+    pub fn narrow(self) -> Option<Whole>
+        ensures { result ≡ narrowed self }
+    {
+        if self.value.unsigned_abs() < TOO_WIDE {
+            Some(self)
+        } else {
+            None
+        }
+    }
+
+    /// The product, where it doesn't pass 2^126.
+    pub fn checked_mul(self, other: Whole) -> Option<Whole>
+        ensures { result ≡ narrowed (self *ℤ other) }
+    {
+        let value = self.value.checked_mul(other.value)?;
+        Whole { value }.narrow()
+    }
+
+    /// The sum, where it doesn't pass 2^126.
+    pub fn checked_add(self, other: Whole) -> Option<Whole>
+        ensures { result ≡ narrowed (self +ℤ other) }
+    {
+        let value = self.value.checked_add(other.value)?;
+        Whole { value }.narrow()
+    }
+
+    /// The difference, where it doesn't pass 2^126.
+    pub fn checked_sub(self, other: Whole) -> Option<Whole>
+        ensures { result ≡ narrowed (self -ℤ other) }
+    {
+        let value = self.value.checked_sub(other.value)?;
+        Whole { value }.narrow()
+    }
+}
