@@ -1,0 +1,9 @@
+pub mod Content
+pub mod Counts
+pub mod FetchEnds
+pub mod FilesView
+pub mod Held
+pub mod Reading
+pub mod SinkState
+pub mod Taking
+pub mod Text

@@ -1,0 +1,125 @@
+// Files that are read in pieces.
+ghost use Rattle.std.specs.Prelude.{◌≡◌, ℕ, ◌+◌, ◌^◌, ◌<◌, ◌≤◌, ◌⊎◌, List, length, Option, IfOk, OnOk, IfSome, IsErrOf};
+ghost use Rattle.dsv_base.specs.Counts.{Rose, RoseBy};
+ghost use Rattle.dsv_base.specs.Reading.{IsPiece};
+ghost use Rattle.dsv_base.specs.FetchEnds.{count_of, read_end_of};
+ghost use Rattle.dsv_base.specs.declared.fetching.ReadEnd.TheVariants as end;
+
+use crate::{Bytes, NoMemory};
+use std::alloc::Global;
+use thiserror::Error;
+
+/// How a fetch ended without bytes.
+#[derive(Clone, Copy, Debug, PartialEq, Eq, Error)]
+pub enum FetchEnd {
+    #[error("the read failed")]
+    Failed,
+    #[error("out of memory")]
+    NoMemory,
+}
+
+/// Files that are read in pieces, each under a name. A missing file is a fault.
+pub trait Files {
+    /// The bytes of the file of a name, where they are told.
+    ghost held: { Self → List ℕ → Option (List ℕ) };
+
+    /// How many fetches failed: a count that never falls.
+    ghost faults: { Self → ℕ };
+
+    /// The name of the last fetch that failed, where one did and it is told.
+    ghost blamed: { Self → Option (List ℕ) };
+
+    /// How many bytes have come from all fetches: a count that never falls.
+    ghost came: { Self → ℕ };
+
+    /// Reads into `room` what comes first of the file's bytes from the offset `at` on, and answers how many
+    /// bytes came; none come only at the file's end or behind it.
+    fn fetch(&mut self, name: &str, at: u64, room: &mut [u8]) -> Result<usize, FetchEnd>
+        requires has_room { 0 < length room.old }
+        requires at { at ≤ 2 ^ 26 }
+        ensures held { held self.new ≡ held self.old }
+        ensures count { IfOk result (λ c. c ≤ length room.old) }
+        ensures piece { IfOk result (λ c. IfSome (held self.old name.now) (λ file. IsPiece file at c room.new)) }
+        ensures came { RoseBy (count_of result) (came self.old) (came self.new) }
+
+        ensures faults { faults self.old ≤ faults self.new }
+        ensures failed { IsErrOf result FetchEnd.Failed → Rose (faults self.old) (faults self.new) }
+        ensures blamed { IsErrOf result FetchEnd.Failed → blamed self.new ≡ Some name.now }
+        ensures blamed_on_ok { OnOk result (blamed self.new ≡ blamed self.old) }
+        ensures blamed_on_no_memory { IsErrOf result FetchEnd.NoMemory → blamed self.new ≡ blamed self.old };
+}
+
+/// How reading a file ended without it.
+#[derive(Clone, Copy, Debug, PartialEq, Eq, Error)]
+pub enum ReadEnd {
+    /// A fetch failed.
+    #[error("the read failed")]
+    Failed,
+    /// More bytes came than were allowed.
+    #[error("the file is too long")]
+    TooLong,
+    #[error("out of memory")]
+    NoMemory,
+}
+
+impl From<NoMemory> for ReadEnd {
+    ghost from_gives = { λ _ e. e ≡ end.NoMemory };
+
+    fn from(_: NoMemory) -> Self {
+        ReadEnd::NoMemory
+    }
+}
+
+impl From<FetchEnd> for ReadEnd {
+    ghost from_gives = { λ f e. e ≡ read_end_of f };
+
+    fn from(end: FetchEnd) -> Self {
+        match end {
+            FetchEnd::Failed => ReadEnd::Failed,
+            FetchEnd::NoMemory => ReadEnd::NoMemory,
+        }
+    }
+}
+
+/// How many bytes are asked for at a time.
+const PIECE: usize = 4096;
+
+/// Reads the whole file of a name, where it has at most `limit` bytes.
+pub fn read_all<F: Files>(
+    alloc: Global,
+    files: &mut F,
+    name: &str,
+    limit: u64,
+) -> Result<Bytes, ReadEnd>
+    requires { limit ≤ 2 ^ 26 }
+    ensures held { F.held files.new ≡ F.held files.old }
+    ensures whole { IfOk result (λ bytes. IfSome (F.held files.old name.now) (λ file. bytes ≡ file)) }
+    ensures fits { IfOk result (λ bytes. length bytes ≤ limit) }
+    ensures all { IfOk result (λ bytes. RoseBy (length bytes) (F.came files.old) (F.came files.new)) }
+
+    // More than `limit` bytes came, also where the file's bytes aren't told; and else at most as many.
+    ensures too_long { IsErrOf result ReadEnd.TooLong → IfSome (F.held files.old name.now) (λ file. limit < length file) }
+    ensures too_many { IsErrOf result ReadEnd.TooLong → Rose (F.came files.old + limit) (F.came files.new) }
+    ensures not_too_many { IsErrOf result ReadEnd.TooLong ⊎ (F.came files.new ≤ F.came files.old + limit) }
+
+    ensures faults { F.faults files.old ≤ F.faults files.new }
+    ensures failed { IsErrOf result ReadEnd.Failed → Rose (F.faults files.old) (F.faults files.new) }
+    ensures blamed { IsErrOf result ReadEnd.Failed → F.blamed files.new ≡ Some name.now }
+    ensures blamed_else { IsErrOf result ReadEnd.Failed ⊎ (F.blamed files.new ≡ F.blamed files.old) }
+{
+    let mut bytes = Bytes::new(alloc);
+    let mut got = 0;
+    let mut room = [0; PIECE];
+    for turn in 0..limit + 2 {
+        let count = files.fetch(name, got, &mut room)?;
+        if count == 0 {
+            return Ok(bytes);
+        }
+        got += count as u64;
+        if got > limit {
+            return Err(ReadEnd::TooLong);
+        }
+        bytes.extend_from_slice(&room[..count])?;
+    }
+    unreachable!()
+}

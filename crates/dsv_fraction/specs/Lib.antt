@@ -1,0 +1,5 @@
+pub mod Arithmetic
+pub mod Gcd
+pub mod Inside
+pub mod Parts
+pub mod Ratio
