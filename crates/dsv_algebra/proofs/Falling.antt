@@ -1,5 +1,5 @@
 -- What a form loses in a step of the companion matrix.
-use Rattle.std.proofs.Common.{◌≡◌, ◌≢◌, ℕ, suc, ◌<◌, ◌≤◌, ◌==◌, nat_lt, if◌then◌else◌, Bool, true, false, [], ◌∷◌, inl, inr, refl, sym, ap, ◌∙◌, arith}
+use Rattle.std.proofs.Common.{◌++◌, ◌&&◌, ◌≡◌, ◌≢◌, ℕ, suc, ◌<◌, ◌≤◌, ◌==◌, nat_lt, if◌then◌else◌, Bool, true, false, [], ◌∷◌, inl, inr, refl, sym, ap, ◌∙◌, arith}
 use Rattle.std.proofs.Math.IntN.{ℤ, pos, ◌+ℤ◌, ◌-ℤ◌, ◌*ℤ◌, neg_ℤ, *ℤ_comm}
 use Rattle.std.proofs.lemmas.Int.{ints}
 use Rattle.std.proofs.lemmas.Bool.{cases_lt}
@@ -7,7 +7,7 @@ use Rattle.std.proofs.lemmas.Bool.Decides.{nat_tests}
 use lib.Signed.{◌<ℤ◌}
 use Rattle.dsv_algebra.proofs.Normaliser.{ring, env, var, num, plus, times, minus}
 use Rattle.dsv_algebra.specs.Vectors.{Vector, Matrix, sum_to, form_at, behind, IsNotZero}
-use Rattle.dsv_algebra.specs.Companion.{companion, step, StrictlyFalls, IsLoss, fall_form, within, fall_entry}
+use Rattle.dsv_algebra.specs.Companion.{companion, step, StrictlyFalls, IsLoss, fall_form, only, total_from, fall_entry}
 use Rattle.dsv_algebra.specs.Squares.{squares, IsTriangular, IsDominant}
 use Rattle.dsv_algebra.proofs.Sums.{sum_one, sum_same, sum_none, sum_add, sum_scale, form_add, form_scale, form_neg, sum_first}
 use Rattle.dsv_algebra.proofs.Behind.{form_behind}
@@ -20,6 +20,10 @@ loss-fall_form d c P v =
     ∙ rw (form_scale d (c 0 *ℤ c 0) P v, form_behind d P (companion c) v, form_neg d (behind d P (companion c)) v) refl
 
 -- ---- the entries of the fall form
+-- z where i is one of the first d places, else 0
+abbrev within : ℕ → ℕ → ℤ → ℤ
+within d i z = if nat_lt i d then z else pos 0
+
 within_in : (d i : ℕ) (z : ℤ) → i < d → within d i z ≡ z
 within_in d i z h = grind (arith, nat_tests)
 
@@ -87,23 +91,23 @@ behind_companion e c P k l =
 
 expanded : (a b : Bool) (c ck cl p p00 p0l pk0 pkl : ℤ)
     → c *ℤ c *ℤ p -ℤ ((p00 *ℤ (pos 0 -ℤ ck) +ℤ (if a then pk0 *ℤ c else pos 0)) *ℤ (pos 0 -ℤ cl) +ℤ (if b then (p0l *ℤ (pos 0 -ℤ ck) +ℤ (if a then pkl *ℤ c else pos 0)) *ℤ c else pos 0))
-    ≡ c *ℤ c *ℤ p -ℤ ck *ℤ cl *ℤ p00 +ℤ (if b then ck *ℤ c *ℤ p0l else pos 0) +ℤ (if a then c *ℤ cl *ℤ pk0 else pos 0) -ℤ (if a then (if b then c *ℤ c *ℤ pkl else pos 0) else pos 0)
+    ≡ total_from (pos 0) ((c *ℤ c, p) ∷ (neg_ℤ (ck *ℤ cl), p00) ∷ only b (ck *ℤ c, p0l) ++ only a (c *ℤ cl, pk0) ++ only (a && b) (neg_ℤ (c *ℤ c), pkl))
 expanded true true c ck cl p p00 p0l pk0 pkl =
     ring (env (c ∷ ck ∷ cl ∷ p ∷ p00 ∷ p0l ∷ pk0 ∷ pkl ∷ []))
-    (plus (times (times (var 0) (var 0)) (var 3)) (minus (plus (times (plus (times (var 4) (plus (num (pos 0)) (minus (var 1)))) (times (var 6) (var 0))) (plus (num (pos 0)) (minus (var 2)))) (times (plus (times (var 5) (plus (num (pos 0)) (minus (var 1)))) (times (var 7) (var 0))) (var 0)))))
-    (plus (plus (plus (plus (times (times (var 0) (var 0)) (var 3)) (minus (times (times (var 1) (var 2)) (var 4)))) (times (times (var 1) (var 0)) (var 5))) (times (times (var 0) (var 2)) (var 6))) (minus (times (times (var 0) (var 0)) (var 7)))) refl
+        (plus (times (times (var 0) (var 0)) (var 3)) (minus (plus (times (plus (times (var 4) (plus (num (pos 0)) (minus (var 1)))) (times (var 6) (var 0))) (plus (num (pos 0)) (minus (var 2)))) (times (plus (times (var 5) (plus (num (pos 0)) (minus (var 1)))) (times (var 7) (var 0))) (var 0)))))
+        (plus (plus (plus (plus (plus (num (pos 0)) (times (times (var 0) (var 0)) (var 3))) (times (minus (times (var 1) (var 2))) (var 4))) (times (times (var 1) (var 0)) (var 5))) (times (times (var 0) (var 2)) (var 6))) (times (minus (times (var 0) (var 0))) (var 7))) refl
 expanded true false c ck cl p p00 p0l pk0 pkl =
     ring (env (c ∷ ck ∷ cl ∷ p ∷ p00 ∷ p0l ∷ pk0 ∷ pkl ∷ []))
-    (plus (times (times (var 0) (var 0)) (var 3)) (minus (plus (times (plus (times (var 4) (plus (num (pos 0)) (minus (var 1)))) (times (var 6) (var 0))) (plus (num (pos 0)) (minus (var 2)))) (num (pos 0)))))
-    (plus (plus (plus (plus (times (times (var 0) (var 0)) (var 3)) (minus (times (times (var 1) (var 2)) (var 4)))) (num (pos 0))) (times (times (var 0) (var 2)) (var 6))) (minus (num (pos 0)))) refl
+        (plus (times (times (var 0) (var 0)) (var 3)) (minus (plus (times (plus (times (var 4) (plus (num (pos 0)) (minus (var 1)))) (times (var 6) (var 0))) (plus (num (pos 0)) (minus (var 2)))) (num (pos 0)))))
+        (plus (plus (plus (num (pos 0)) (times (times (var 0) (var 0)) (var 3))) (times (minus (times (var 1) (var 2))) (var 4))) (times (times (var 0) (var 2)) (var 6))) refl
 expanded false true c ck cl p p00 p0l pk0 pkl =
     ring (env (c ∷ ck ∷ cl ∷ p ∷ p00 ∷ p0l ∷ pk0 ∷ pkl ∷ []))
-    (plus (times (times (var 0) (var 0)) (var 3)) (minus (plus (times (plus (times (var 4) (plus (num (pos 0)) (minus (var 1)))) (num (pos 0))) (plus (num (pos 0)) (minus (var 2)))) (times (plus (times (var 5) (plus (num (pos 0)) (minus (var 1)))) (num (pos 0))) (var 0)))))
-    (plus (plus (plus (plus (times (times (var 0) (var 0)) (var 3)) (minus (times (times (var 1) (var 2)) (var 4)))) (times (times (var 1) (var 0)) (var 5))) (num (pos 0))) (minus (num (pos 0)))) refl
+        (plus (times (times (var 0) (var 0)) (var 3)) (minus (plus (times (plus (times (var 4) (plus (num (pos 0)) (minus (var 1)))) (num (pos 0))) (plus (num (pos 0)) (minus (var 2)))) (times (plus (times (var 5) (plus (num (pos 0)) (minus (var 1)))) (num (pos 0))) (var 0)))))
+        (plus (plus (plus (num (pos 0)) (times (times (var 0) (var 0)) (var 3))) (times (minus (times (var 1) (var 2))) (var 4))) (times (times (var 1) (var 0)) (var 5))) refl
 expanded false false c ck cl p p00 p0l pk0 pkl =
     ring (env (c ∷ ck ∷ cl ∷ p ∷ p00 ∷ p0l ∷ pk0 ∷ pkl ∷ []))
-    (plus (times (times (var 0) (var 0)) (var 3)) (minus (plus (times (plus (times (var 4) (plus (num (pos 0)) (minus (var 1)))) (num (pos 0))) (plus (num (pos 0)) (minus (var 2)))) (num (pos 0)))))
-    (plus (plus (plus (plus (times (times (var 0) (var 0)) (var 3)) (minus (times (times (var 1) (var 2)) (var 4)))) (num (pos 0))) (num (pos 0))) (minus (num (pos 0)))) refl
+        (plus (times (times (var 0) (var 0)) (var 3)) (minus (plus (times (plus (times (var 4) (plus (num (pos 0)) (minus (var 1)))) (num (pos 0))) (plus (num (pos 0)) (minus (var 2)))) (num (pos 0)))))
+        (plus (plus (num (pos 0)) (times (times (var 0) (var 0)) (var 3))) (times (minus (times (var 1) (var 2))) (var 4))) refl
 
 -- the fall form in the entries of P alone
 pub fall_form-is : (e : ℕ) (c : Vector) (P : Matrix) (i j : ℕ) → fall_form (suc e) c P i j ≡ fall_entry (suc e) c P i j

@@ -4,7 +4,7 @@
 -- one by its companion matrix. Times c_0, so that all entries are whole, this matrix has the first row -c_1, .., -c_d
 -- and c_0 below the diagonal. A form that is positive and is less behind each such step, divided by c_0, is a
 -- Lyapunov function of the recursion.
-use Rattle.std.specs.Prelude.{◌≡◌, ℕ, zero, suc, ◌==◌, nat_lt, if◌then◌else◌, ℤ, pos, ◌+ℤ◌, ◌-ℤ◌, ◌*ℤ◌, ◌<ℤ◌}
+use Rattle.std.specs.Prelude.{Bool, true, false, ◌&&◌, List, [], ◌∷◌, ◌++◌, neg_ℤ, ◌≡◌, ℕ, zero, suc, ◌==◌, nat_lt, if◌then◌else◌, ℤ, pos, ◌+ℤ◌, ◌-ℤ◌, ◌*ℤ◌, ◌<ℤ◌}
 use Rattle.dsv_algebra.specs.Vectors.{Vector, Matrix, dot, form_at, behind, IsNotZero}
 
 -- the companion matrix of c 0 to c d
@@ -29,15 +29,28 @@ IsLoss d c P F = (v : Vector) → form_at d F v ≡ c 0 *ℤ c 0 *ℤ form_at d 
 abbrev pub fall_form : ℕ → Vector → Matrix → Matrix
 fall_form d c P i j = c 0 *ℤ c 0 *ℤ P i j -ℤ behind d P (companion c) i j
 
--- z where i is one of the first d places, else 0
-abbrev pub within : ℕ → ℕ → ℤ → ℤ
-within d i z = if nat_lt i d then z else pos 0
+-- the term, where the test holds
+abbrev pub only : Bool → ℤ × ℤ → List (ℤ × ℤ)
+only true term = term ∷ []
+only false term = []
 
--- An entry of the fall form in the entries of P alone, those outside the first d places taken as 0.
+-- The terms of an entry of the fall form in the entries of P alone: a product of two of the c, and the entry that it is
+-- multiplied with. Entries outside the first d places are absent.
+abbrev pub fall_terms : ℕ → Vector → Matrix → ℕ → ℕ → List (ℤ × ℤ)
+fall_terms d c P i j =
+    let below = nat_lt (suc i) d in
+    let beside = nat_lt (suc j) d in
+    (c 0 *ℤ c 0, P i j)
+    ∷ (neg_ℤ (c (suc i) *ℤ c (suc j)), P 0 0)
+    ∷ only beside (c (suc i) *ℤ c 0, P 0 (suc j))
+    ++ only below (c 0 *ℤ c (suc j), P (suc i) 0)
+    ++ only (below && beside) (neg_ℤ (c 0 *ℤ c 0), P (suc i) (suc j))
+
+-- the sum of terms, from left to right behind a number
+abbrev pub total_from : ℤ → List (ℤ × ℤ) → ℤ
+total_from sum [] = sum
+total_from sum (term ∷ terms) = total_from (sum +ℤ term.0 *ℤ term.1) terms
+
+-- an entry of the fall form
 abbrev pub fall_entry : ℕ → Vector → Matrix → ℕ → ℕ → ℤ
-fall_entry d c P i j =
-    c 0 *ℤ c 0 *ℤ P i j
-    -ℤ c (suc i) *ℤ c (suc j) *ℤ P 0 0
-    +ℤ within d (suc j) (c (suc i) *ℤ c 0 *ℤ P 0 (suc j))
-    +ℤ within d (suc i) (c 0 *ℤ c (suc j) *ℤ P (suc i) 0)
-    -ℤ within d (suc i) (within d (suc j) (c 0 *ℤ c 0 *ℤ P (suc i) (suc j)))
+fall_entry d c P i j = total_from (pos 0) (fall_terms d c P i j)

@@ -1,0 +1,4 @@
+pub mod OneAnswer
+pub mod OneFall
+pub mod OnePlaceLemmas
+pub mod OneSound

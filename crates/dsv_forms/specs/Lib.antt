@@ -1,0 +1,4 @@
+pub mod FallForm
+pub mod OnePlace
+pub mod Poly
+pub mod Refusals

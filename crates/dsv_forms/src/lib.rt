@@ -1,0 +1,13 @@
+//! Quadratic forms that show whether the trajectories of a polynomial fall, and the check of what is offered for that.
+#![tactic(auto)]
+
+mod checking;
+mod offers;
+mod one_place;
+mod poly;
+mod refusal;
+
+pub use checking::check_falls;
+pub use offers::{Falls, Form, FormOffer, KeptAway, Squares};
+pub use poly::{BadPoly, Poly};
+pub use refusal::{FormRefusal, Part};

@@ -1,0 +1,44 @@
+// What is offered for a polynomial: forms, with the squares that show their signs.
+
+/// A quadratic form of d places, d at most 8: the sum of `rows[i][j]` times `v[i]` times `v[j]`. Entries outside the
+/// first d places are ignored.
+#[derive(Clone, Copy, Debug, PartialEq, Eq)]
+pub struct Form {
+    pub d: u32,
+    pub rows: [[i128; 8]; 8],
+}
+
+/// A way to write m times a form: `count` weighted squares of rows, and a rest. Where the weights are positive, the
+/// rows triangular and the rest dominant, the form is positive.
+#[derive(Clone, Copy, Debug, PartialEq, Eq)]
+pub struct Squares {
+    pub m: i128,
+    pub count: u32,
+    pub weights: [i128; 8],
+    pub rows: [[i128; 8]; 8],
+    pub rest: [[i128; 8]; 8],
+}
+
+/// A form that is to fall along each trajectory, with squares for the form and for what it loses in a step.
+#[derive(Clone, Copy, Debug, PartialEq, Eq)]
+pub struct Falls {
+    pub form: Form,
+    pub positive: Squares,
+    pub fall: Squares,
+}
+
+/// A form that is to be negative at the start and to rise along no trajectory, with squares for what it loses in a
+/// step.
+#[derive(Clone, Copy, Debug, PartialEq, Eq)]
+pub struct KeptAway {
+    pub form: Form,
+    pub start: [i64; 8],
+    pub fall: Squares,
+}
+
+/// An offer of either kind.
+#[derive(Clone, Copy, Debug, PartialEq, Eq)]
+pub enum FormOffer {
+    Falls(Falls),
+    KeptAway(KeptAway),
+}

@@ -1,0 +1,83 @@
+// The check of a part with one place.
+ghost use Rattle.std.specs.Prelude.{◌≡◌, Some, IfOk};
+ghost use Rattle.std.specs.Option.{option_map, option_and_then};
+ghost use Rattle.dsv_forms.specs.Refusals.{refusal_of};
+ghost use Rattle.dsv_forms.specs.OnePlace.{sides_of, sides_refusal, one_place_refusal, fall_of};
+
+use crate::{FormRefusal, Part, Squares};
+use dsv_algebra::Whole;
+
+/// Checks that the squares show the one entry of a form to be positive, and gives the entry. One that was too wide
+/// to be had is refused where the others would be as too wide.
+pub(crate) fn check_one_place(
+    part: Part,
+    squares: &Squares,
+    entry: Option<Whole>,
+) -> Result<Whole, FormRefusal>
+    ensures refusal { refusal_of result ≡ one_place_refusal part squares.now entry }
+    ensures entry { IfOk result (λ x. entry ≡ Some x) }
+{
+    if squares.m < 1 || squares.count != 1 {
+        return Err(FormRefusal::Shape { part });
+    }
+    if squares.weights[0] <= 0 {
+        return Err(FormRefusal::Weight { part, i: 0 });
+    }
+    if squares.rows[0][0] == 0 {
+        return Err(FormRefusal::Triangle { part, i: 0 });
+    }
+    let wide = FormRefusal::Wide { part, i: 0, j: 0 };
+    let entry = entry.ok_or(wide)?;
+    let sides = both_sides(squares, entry).ok_or(wide)?;
+    check_sides(part, squares, entry, sides)
+}
+
+/// Both sides of the identity at the one place.
+#[derive(Clone, Copy)]
+struct Sides {
+    left: Whole,
+    right: Whole,
+}
+
+/// Both sides of the identity at the one place, where nothing on the way is too wide.
+fn both_sides(squares: &Squares, entry: Whole) -> Option<Sides>
+    ensures { option_map (λ x. (x.left, x.right)) result ≡ sides_of squares.now entry }
+{
+    let row = Whole::from(squares.rows[0][0]);
+    let left = Whole::from(squares.m).checked_mul(entry)?;
+    let product = Whole::from(squares.weights[0]).checked_mul(row)?;
+    let square = product.checked_mul(row)?;
+    let right = square.checked_add(Whole::from(squares.rest[0][0]))?;
+    Some(Sides { left, right })
+}
+
+/// Checks both sides and the rest, and gives the entry.
+fn check_sides(
+    part: Part,
+    squares: &Squares,
+    entry: Whole,
+    sides: Sides,
+) -> Result<Whole, FormRefusal>
+    ensures refusal { refusal_of result ≡ sides_refusal part squares.now (Some (sides.left, sides.right)) }
+    ensures entry { IfOk result (λ x. x ≡ entry) }
+{
+    if sides.left.get() != sides.right.get() {
+        return Err(FormRefusal::Identity { part, i: 0, j: 0 });
+    }
+    let rest = Whole::from(squares.rest[0][0]);
+    if rest.narrow().is_none() || rest.get() < 0 {
+        return Err(FormRefusal::Dominance { part, i: 0 });
+    }
+    Ok(entry)
+}
+
+/// What a form of one place loses in a step, where nothing on the way is too wide.
+pub(crate) fn fall_entry(c0: Whole, c1: Whole, entry: Whole) -> Option<Whole>
+    ensures { result ≡ fall_of c0 c1 entry }
+{
+    let first = c0.checked_mul(c0)?;
+    let second = c1.checked_mul(c1)?;
+    let kept = first.checked_mul(entry)?;
+    let left = second.checked_mul(entry)?;
+    kept.checked_sub(left)
+}

@@ -1,0 +1,6 @@
+//! Reads controller files.
+#![tactic(auto)]
+
+mod fixed_form;
+
+pub use fixed_form::{FirstOrder, first_order};
