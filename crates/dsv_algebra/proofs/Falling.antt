@@ -94,20 +94,20 @@ expanded : (a b : Bool) (c ck cl p p00 p0l pk0 pkl : ℤ)
     ≡ total_from (pos 0) ((c *ℤ c, p) ∷ (neg_ℤ (ck *ℤ cl), p00) ∷ only b (ck *ℤ c, p0l) ++ only a (c *ℤ cl, pk0) ++ only (a && b) (neg_ℤ (c *ℤ c), pkl))
 expanded true true c ck cl p p00 p0l pk0 pkl =
     ring (env (c ∷ ck ∷ cl ∷ p ∷ p00 ∷ p0l ∷ pk0 ∷ pkl ∷ []))
-        (plus (times (times (var 0) (var 0)) (var 3)) (minus (plus (times (plus (times (var 4) (plus (num (pos 0)) (minus (var 1)))) (times (var 6) (var 0))) (plus (num (pos 0)) (minus (var 2)))) (times (plus (times (var 5) (plus (num (pos 0)) (minus (var 1)))) (times (var 7) (var 0))) (var 0)))))
-        (plus (plus (plus (plus (plus (num (pos 0)) (times (times (var 0) (var 0)) (var 3))) (times (minus (times (var 1) (var 2))) (var 4))) (times (times (var 1) (var 0)) (var 5))) (times (times (var 0) (var 2)) (var 6))) (times (minus (times (var 0) (var 0))) (var 7))) refl
+    (plus (times (times (var 0) (var 0)) (var 3)) (minus (plus (times (plus (times (var 4) (plus (num (pos 0)) (minus (var 1)))) (times (var 6) (var 0))) (plus (num (pos 0)) (minus (var 2)))) (times (plus (times (var 5) (plus (num (pos 0)) (minus (var 1)))) (times (var 7) (var 0))) (var 0)))))
+    (plus (plus (plus (plus (plus (num (pos 0)) (times (times (var 0) (var 0)) (var 3))) (times (minus (times (var 1) (var 2))) (var 4))) (times (times (var 1) (var 0)) (var 5))) (times (times (var 0) (var 2)) (var 6))) (times (minus (times (var 0) (var 0))) (var 7))) refl
 expanded true false c ck cl p p00 p0l pk0 pkl =
     ring (env (c ∷ ck ∷ cl ∷ p ∷ p00 ∷ p0l ∷ pk0 ∷ pkl ∷ []))
-        (plus (times (times (var 0) (var 0)) (var 3)) (minus (plus (times (plus (times (var 4) (plus (num (pos 0)) (minus (var 1)))) (times (var 6) (var 0))) (plus (num (pos 0)) (minus (var 2)))) (num (pos 0)))))
-        (plus (plus (plus (num (pos 0)) (times (times (var 0) (var 0)) (var 3))) (times (minus (times (var 1) (var 2))) (var 4))) (times (times (var 0) (var 2)) (var 6))) refl
+    (plus (times (times (var 0) (var 0)) (var 3)) (minus (plus (times (plus (times (var 4) (plus (num (pos 0)) (minus (var 1)))) (times (var 6) (var 0))) (plus (num (pos 0)) (minus (var 2)))) (num (pos 0)))))
+    (plus (plus (plus (num (pos 0)) (times (times (var 0) (var 0)) (var 3))) (times (minus (times (var 1) (var 2))) (var 4))) (times (times (var 0) (var 2)) (var 6))) refl
 expanded false true c ck cl p p00 p0l pk0 pkl =
     ring (env (c ∷ ck ∷ cl ∷ p ∷ p00 ∷ p0l ∷ pk0 ∷ pkl ∷ []))
-        (plus (times (times (var 0) (var 0)) (var 3)) (minus (plus (times (plus (times (var 4) (plus (num (pos 0)) (minus (var 1)))) (num (pos 0))) (plus (num (pos 0)) (minus (var 2)))) (times (plus (times (var 5) (plus (num (pos 0)) (minus (var 1)))) (num (pos 0))) (var 0)))))
-        (plus (plus (plus (num (pos 0)) (times (times (var 0) (var 0)) (var 3))) (times (minus (times (var 1) (var 2))) (var 4))) (times (times (var 1) (var 0)) (var 5))) refl
+    (plus (times (times (var 0) (var 0)) (var 3)) (minus (plus (times (plus (times (var 4) (plus (num (pos 0)) (minus (var 1)))) (num (pos 0))) (plus (num (pos 0)) (minus (var 2)))) (times (plus (times (var 5) (plus (num (pos 0)) (minus (var 1)))) (num (pos 0))) (var 0)))))
+    (plus (plus (plus (num (pos 0)) (times (times (var 0) (var 0)) (var 3))) (times (minus (times (var 1) (var 2))) (var 4))) (times (times (var 1) (var 0)) (var 5))) refl
 expanded false false c ck cl p p00 p0l pk0 pkl =
     ring (env (c ∷ ck ∷ cl ∷ p ∷ p00 ∷ p0l ∷ pk0 ∷ pkl ∷ []))
-        (plus (times (times (var 0) (var 0)) (var 3)) (minus (plus (times (plus (times (var 4) (plus (num (pos 0)) (minus (var 1)))) (num (pos 0))) (plus (num (pos 0)) (minus (var 2)))) (num (pos 0)))))
-        (plus (plus (num (pos 0)) (times (times (var 0) (var 0)) (var 3))) (times (minus (times (var 1) (var 2))) (var 4))) refl
+    (plus (times (times (var 0) (var 0)) (var 3)) (minus (plus (times (plus (times (var 4) (plus (num (pos 0)) (minus (var 1)))) (num (pos 0))) (plus (num (pos 0)) (minus (var 2)))) (num (pos 0)))))
+    (plus (plus (num (pos 0)) (times (times (var 0) (var 0)) (var 3))) (times (minus (times (var 1) (var 2))) (var 4))) refl
 
 -- the fall form in the entries of P alone
 pub fall_form-is : (e : ℕ) (c : Vector) (P : Matrix) (i j : ℕ) → fall_form (suc e) c P i j ≡ fall_entry (suc e) c P i j

@@ -1,3 +1,4 @@
+pub mod Accepting
 pub mod OneAnswer
 pub mod OneFall
 pub mod OnePlaceLemmas

@@ -76,8 +76,8 @@ answer_falls cs c0 c1 offer (Ok fall) e h = rw e (falls_one c0 c1 offer (sym h))
 answer_falls cs c0 c1 offer (Err r) e h = tt
 
 pub answer_fall : (cs : List ℤ) (c0 c1 : ℤ) (offer : Falls) (r : Result Form FormRefusal) → cs ≡ c0 ∷ c1 ∷ []
-    → IfOk r (λ fall. fall.d ≡ 1) → IfOk r (λ fall. HasOneEntry fall.rows (matrix_of fall.rows 0 0))
+    → IfOk r (λ fall. (offer.form.d ≡ 1) × (fall.d ≡ 1)) → IfOk r (λ fall. HasOneEntry fall.rows (matrix_of fall.rows 0 0))
     → IfOk r (λ fall. fall_of c0 c1 (matrix_of offer.form.rows 0 0) ≡ Some (matrix_of fall.rows 0 0))
     → IfOk r (λ fall. IsFallForm (length cs - 1) (vector_of cs) offer.form fall)
-answer_fall cs c0 c1 offer (Ok fall) e places one h = rw e (fall_form_one c0 c1 offer fall places one h)
+answer_fall cs c0 c1 offer (Ok fall) e places one h = rw e (fall_form_one c0 c1 offer fall places.1 one h)
 answer_fall cs c0 c1 offer (Err r) e places one h = tt

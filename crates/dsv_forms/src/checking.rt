@@ -1,5 +1,5 @@
 // The check of an offer.
-ghost use Rattle.std.specs.Prelude.{◌≡◌, ◌≤◌, ◌-◌, length, pos, Some, IfOk};
+ghost use Rattle.std.specs.Prelude.{◌≡◌, ◌≤◌, ◌+◌, ◌-◌, length, pos, Some, IfOk, OnOk};
 ghost use Rattle.dsv_algebra.specs.Vectors.{vector_of, matrix_of};
 ghost use Rattle.dsv_algebra.specs.Companion.{StrictlyFalls};
 ghost use Rattle.dsv_forms.specs.FallForm.{IsFallForm};
@@ -18,6 +18,7 @@ pub fn check_falls(poly: &Poly, offer: &Falls) -> Result<Form, FormRefusal>
     ensures refusal { refusal_of result ≡ falls_refusal poly.now offer.now }
     ensures falls { IfOk result (λ _. StrictlyFalls (length poly.now - 1) (vector_of poly.now) (matrix_of offer.now.form.rows)) }
     ensures fall { IfOk result (λ fall. IsFallForm (length poly.now - 1) (vector_of poly.now) offer.now.form fall) }
+    ensures places { OnOk result (offer.now.form.d + 1 ≡ length poly.now) }
 {
     match poly.coefficients() {
         [_] => check_no_place(offer),
@@ -29,7 +30,7 @@ pub fn check_falls(poly: &Poly, offer: &Falls) -> Result<Form, FormRefusal>
 /// Checks an offer for a polynomial of order 0, which has no vectors.
 fn check_no_place(offer: &Falls) -> Result<Form, FormRefusal>
     ensures refusal { refusal_of result ≡ no_place_falls offer.now }
-    ensures places { IfOk result (λ fall. fall.d ≡ 0) }
+    ensures places { IfOk result (λ fall. (offer.now.form.d ≡ 0) × (fall.d ≡ 0)) }
     ensures rows { IfOk result (λ fall. HasOneEntry fall.rows (pos 0)) }
 {
     if offer.form.d != 0 {
@@ -56,7 +57,7 @@ fn check_no_squares(part: Part, squares: &Squares) -> Result<(), FormRefusal>
 /// Checks an offer for the polynomial c0, c1.
 fn check_place(c0: Whole, c1: Whole, offer: &Falls) -> Result<Form, FormRefusal>
     ensures refusal { refusal_of result ≡ one_place_falls c0 c1 offer.now }
-    ensures places { IfOk result (λ fall. fall.d ≡ 1) }
+    ensures places { IfOk result (λ fall. (offer.now.form.d ≡ 1) × (fall.d ≡ 1)) }
     ensures fall { IfOk result (λ fall. fall_of c0 c1 (matrix_of offer.now.form.rows 0 0) ≡ Some (matrix_of fall.rows 0 0)) }
     ensures rows { IfOk result (λ fall. HasOneEntry fall.rows (matrix_of fall.rows 0 0)) }
 {
