@@ -20,7 +20,12 @@ pub struct OsFiles {
 }
 
 impl OsFiles {
-    pub fn new(rt: HostRuntime, alloc: Global) -> Self {
+    /// The files of the system, of which nothing was read.
+    pub fn new(rt: HostRuntime, alloc: Global) -> Self
+        ensures faults { ⟦<OsFiles as Files>⟧.faults result ≡ 0 }
+        ensures came { ⟦<OsFiles as Files>⟧.came result ≡ 0 }
+        ensures blamed { ⟦<OsFiles as Files>⟧.blamed result ≡ None }
+    {
         OsFiles {
             rt,
             alloc,
@@ -84,7 +89,10 @@ pub struct OsOut {
 }
 
 impl OsOut {
-    pub fn new(rt: HostRuntime) -> Self {
+    /// Standard output, to which nothing was written.
+    pub fn new(rt: HostRuntime) -> Self
+        ensures faults { ⟦<OsOut as Sink>⟧.faults result ≡ 0 }
+    {
         OsOut { rt, faults: 0 }
     }
 }
