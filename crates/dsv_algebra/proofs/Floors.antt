@@ -6,7 +6,7 @@ use Rattle.std.proofs.lemmas.Nat.{div-add-mod', mod_below}
 use Rattle.dsv_algebra.specs.Floor.{IsFloor, floored}
 use Rattle.dsv_algebra.proofs.Ring.{same, is_mul, is_neg, is_self}
 
-step_up : (q d : ℕ) → (negsuc q +ℤ pos 1) *ℤ pos d ≡ neg_ℤ (pos (q * d))
+pub step_up : (q d : ℕ) → (negsuc q +ℤ pos 1) *ℤ pos d ≡ neg_ℤ (pos (q * d))
 step_up q d =
     let e : negsuc q +ℤ pos 1 ≡ neg_ℤ (pos q) = omega (arith, ints) in
     let f : neg_ℤ (pos q) *ℤ pos d ≡ neg_ℤ (pos (q * d)) = same (is_mul (is_neg (is_self (pos q))) (is_self (pos d))) (is_neg (is_self (pos (q * d)))) (omega arith) in

@@ -1,0 +1,11 @@
+pub mod Casts
+pub mod Decimals
+pub mod Digits
+pub mod Gcds
+pub mod Lowest
+pub mod Order
+pub mod Powers
+pub mod Products
+pub mod Quotients
+pub mod Signed
+pub mod Values

@@ -1,0 +1,18 @@
+use Rattle.std.proofs.Common.{sym, arith}
+use Rattle.dsv_fraction.specs.Number.{front_digits}
+use Rattle.dsv_fraction.specs.Decimal.{digits_value, behind_point}
+use Rattle.dsv_fraction.proofs.Digits.{value_append, value_grows, all_below}
+use Rattle.dsv_fraction.proofs.decimal.digits_of.Goals as goal
+
+pub digits_value-requires : goal.digits_value-requires
+digits_value-requires c =
+    rw c.front_digits.ensures (omega (arith, all_below c.args.body.now c.requires, value_grows (digits_value 0 (front_digits c.args.body.now)) (behind_point c.args.body.now)))
+
+pub digits_value-requires-2 : goal.digits_value-requires-2
+digits_value-requires-2 c =
+    rw (c.digits_value.ensures, c.front_digits.ensures, c.behind_point.ensures) (omega (arith, all_below c.args.body.now c.requires))
+
+pub returns-clause-value : goal.returns-clause-value
+returns-clause-value c =
+    rw (c.digits_value-2.ensures, c.digits_value.ensures, c.front_digits.ensures, c.behind_point.ensures)
+    (sym (value_append 0 (front_digits c.args.body.now) (behind_point c.args.body.now)))

@@ -1,0 +1,74 @@
+-- Exact arithmetic on fractions, refused where a part passes 2^127.
+use Rattle.std.specs.Prelude.{ℕ, suc, ◌*◌, ◌/◌, ◌^◌, Bool, true, false, ◌&&◌, nat_lt, Result, Ok, Err, if◌then◌else◌, ℤ, pos, negsuc, ◌*ℤ◌, ◌+ℤ◌, neg_ℤ}
+use Rattle.std.specs.Int.RustNames.{unsigned_abs}
+use Rattle.std.specs.declared.cmp.Ordering.{Ordering}
+use Rattle.std.specs.Ordering.{int_cmp}
+use Rattle.dsv_fraction.specs.Ratio.{Ratio}
+use Rattle.dsv_fraction.specs.Gcd.{gcd}
+use Rattle.dsv_fraction.specs.declared.fraction.TooWide.{TooWide}
+
+-- the number of that size, negative or not
+abbrev pub signed : Bool → ℕ → ℤ
+signed true n = neg_ℤ (pos n)
+signed false n = pos n
+
+abbrev pub is_negative : ℤ → Bool
+is_negative (pos n) = false
+is_negative (negsuc n) = true
+
+-- n / d in lowest terms
+abbrev pub lowest : ℤ → ℕ → Ratio
+lowest n d = let g = gcd (unsigned_abs n) d in record { num = signed (is_negative n) (unsigned_abs n / g); den = d / g }
+
+-- n / d in lowest terms, for a divisor of either sign
+abbrev pub over : ℤ → ℤ → Ratio
+over n (pos d) = lowest n d
+over n (negsuc d) = lowest (neg_ℤ n) (suc d)
+
+abbrev pub times : Ratio → Ratio → Ratio
+times r s = lowest (r.num *ℤ s.num) (r.den * s.den)
+
+abbrev pub quotient : Ratio → Ratio → Ratio
+quotient r s = over (r.num *ℤ pos s.den) (pos r.den *ℤ s.num)
+
+abbrev pub negated : Ratio → Ratio
+negated r = record { num = neg_ℤ r.num; den = r.den }
+
+-- how r stands to s: the order of the cross products
+abbrev pub compared : Ratio → Ratio → Ordering
+compared r s = int_cmp (r.num *ℤ pos s.den) (s.num *ℤ pos r.den)
+
+-- ---- refusals
+abbrev pub too_wide : TooWide
+too_wide = record {}
+
+-- neither part passes 2^127
+abbrev pub is_narrow : Ratio → Bool
+is_narrow r = nat_lt (unsigned_abs r.num) (2 ^ 127) && nat_lt r.den (2 ^ 127)
+
+-- the fraction, where neither part passes 2^127
+abbrev pub narrowed : Ratio → Result Ratio TooWide
+narrowed r = if is_narrow r then Ok r else Err too_wide
+
+-- the whole number, where it doesn't pass 2^127
+abbrev pub narrow_whole : ℤ → Result ℤ TooWide
+narrow_whole z = if nat_lt (unsigned_abs z) (2 ^ 127) then Ok z else Err too_wide
+
+abbrev pub narrow_size : ℕ → Result ℕ TooWide
+narrow_size n = if nat_lt n (2 ^ 127) then Ok n else Err too_wide
+
+abbrev pub and_then : {A B : Type 0} → Result A TooWide → (A → Result B TooWide) → Result B TooWide
+and_then (Ok x) f = f x
+and_then (Err e) f = Err e
+
+-- a/b + c/d with g = gcd b d: each of b (d/g), a (d/g), c (b/g) and the sum of the last two is tested
+abbrev pub sum_of : Ratio → Ratio → Result Ratio TooWide
+sum_of r s =
+    let g = gcd r.den s.den in
+    and_then (narrow_size (r.den * (s.den / g))) (λ den.
+    and_then (narrow_whole (r.num *ℤ pos (s.den / g))) (λ left.
+    and_then (narrow_whole (s.num *ℤ pos (r.den / g))) (λ right.
+    and_then (narrow_whole (left +ℤ right)) (λ total. Ok (lowest total den)))))
+
+abbrev pub difference_of : Ratio → Ratio → Result Ratio TooWide
+difference_of r s = sum_of r (negated s)

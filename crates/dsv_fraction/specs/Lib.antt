@@ -1,0 +1,7 @@
+pub mod Arithmetic
+pub mod Decimal
+pub mod Gcd
+pub mod Inside
+pub mod Number
+pub mod Parts
+pub mod Ratio

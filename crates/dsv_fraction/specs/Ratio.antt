@@ -1,0 +1,16 @@
+-- A fraction as contracts see it, and what is true of each `Frac`.
+use Rattle.std.specs.Prelude.{ℕ, ◌^◌, ◌<◌, ℤ}
+use Rattle.std.specs.Int.RustNames.{unsigned_abs}
+use Rattle.std.specs.Int.{IsGcd}
+
+-- the number num / den
+pub record Ratio : Type 0 where
+  pub num : ℤ
+  pub den : ℕ
+
+-- in lowest terms, with a positive denominator and both parts below 2^127 in size
+pub record IsLowest (r : Ratio) : Type 0 where
+  pub positive : 0 < r.den
+  pub coprime : IsGcd (unsigned_abs r.num) r.den 1
+  pub narrow_num : unsigned_abs r.num < 2 ^ 127
+  pub narrow_den : r.den < 2 ^ 127

@@ -1,0 +1,288 @@
+// Decimal numbers.
+#![tactic(auto, using(crate::proofs::Casts::casts))]
+
+ghost use Rattle.std.specs.Prelude.{◌≡◌, ◌^◌, ◌<◌, ◌≤◌, ◌++◌, nat_lt, if◌then◌else◌, Some, None, IfSome, length, pos, ◌-ℤ◌};
+ghost use Rattle.std.specs.Int.RustNames.{unsigned_abs};
+ghost use Rattle.dsv_fraction.specs.Arithmetic.{times, narrowed};
+ghost use Rattle.dsv_fraction.specs.Number.{front_digits};
+ghost use Rattle.dsv_fraction.specs.Decimal.{digits_value, behind_point, exponent_of, ten_to, tenth_to, power_of_ten, decimal_value, IsWhole};
+
+use crate::fraction::{Frac, TooWide};
+use crate::number::{
+    digits_len, exponent_len, front_digits, front_len, has_byte, is_number, rest, sign_len,
+    whole_len,
+};
+use thiserror::Error;
+
+/// The most digits that a decimal has before its exponent.
+const GREATEST_DIGITS: usize = 18;
+
+/// The greatest size of a decimal's exponent.
+const GREATEST_EXPONENT: u32 = 30;
+
+/// Why a text isn't read as a decimal; the first that applies.
+#[derive(Clone, Copy, Debug, PartialEq, Eq, Error)]
+pub enum DecimalRefusal {
+    /// At this offset, in bytes, the text stops being the front of a number; the length where it ends too early.
+    #[error("no decimal number at {at}")]
+    NotDecimal { at: u64 },
+    /// More than 18 digits stand before the exponent.
+    #[error("over 18 digits before the exponent")]
+    Digits,
+    /// The exponent isn't -30 to 30.
+    #[error("an exponent outside -30 to 30")]
+    Exponent,
+    /// A part of the reduced value has a size of 2^127 or more.
+    #[error("a part of the value has a size of 2^127 or more")]
+    TooWide,
+}
+
+impl From<TooWide> for DecimalRefusal {
+    ghost use Rattle.std.specs.Prelude.{◌≡◌};
+    ghost use Rattle.dsv_fraction.specs.declared.decimal.DecimalRefusal.TheVariants as refusal;
+
+    ghost from_gives = { λ _ e. e ≡ refusal.TooWide };
+
+    fn from(_: TooWide) -> Self {
+        DecimalRefusal::TooWide
+    }
+}
+
+/// The number that digits spell behind `start`.
+#[tactic(auto, using(crate::proofs::Digits::value_grows))]
+fn digits_value(start: u64, digits: &[u8]) -> u64
+    requires { digits_value start digits.now < 2 ^ 64 }
+    ensures { result ≡ digits_value start digits.now }
+{
+    let mut value = start;
+    for byte in digits {
+        value = value * 10 + u64::from(byte.saturating_sub(b'0'));
+    }
+    value
+}
+
+/// The number that digits spell, where it is at most the greatest exponent.
+#[tactic(auto, using(crate::proofs::Digits::value_grows))]
+fn small_value(digits: &[u8]) -> Option<u32>
+    ensures { let n = digits_value 0 digits.now in result ≡ (if nat_lt 30 n then None else Some n) }
+{
+    let mut value = 0;
+    for byte in digits {
+        value = value * 10 + u32::from(byte.saturating_sub(b'0'));
+        if value > GREATEST_EXPONENT {
+            return None;
+        }
+    }
+    Some(value)
+}
+
+/// The digits behind the point.
+fn behind_point(body: &[u8]) -> &[u8]
+    ensures { result.now ≡ behind_point body.now }
+{
+    let tail = rest(body, digits_len(body));
+    if has_byte(b'.', tail) {
+        front_digits(rest(tail, 1))
+    } else {
+        rest(tail, tail.len())
+    }
+}
+
+/// The exponent that the text begins with, 0 where there is none.
+fn exponent_of(tail: &[u8]) -> Option<i32>
+    ensures small { IfSome result (λ e. unsigned_abs e ≤ 30) }
+    ensures value { let e = exponent_of tail.now in
+        result ≡ (if nat_lt 30 (unsigned_abs e) then None else Some e) }
+{
+    if exponent_len(tail) == 0 {
+        return Some(0);
+    }
+    let signed = rest(tail, 1);
+    let size = small_value(front_digits(rest(signed, sign_len(signed))))? as i32;
+    Some(if has_byte(b'-', signed) { -size } else { size })
+}
+
+/// A whole number times `10^count`.
+fn times_ten_to(number: &Frac, count: u32) -> Result<Frac, TooWide>
+    requires { IsWhole number.now }
+    ensures { result ≡ narrowed (times number.now (ten_to count)) }
+{
+    if count == 0 {
+        return Ok(*number);
+    }
+    times_ten_to(number, count - 1)?.mul(&Frac::whole(false, 10))
+}
+
+/// A whole number over `10^count`, in lowest terms.
+fn over_ten_to(number: &Frac, count: u32) -> Result<Frac, TooWide>
+    requires { IsWhole number.now }
+    ensures { result ≡ narrowed (times number.now (tenth_to count)) }
+{
+    if count == 0 {
+        return Ok(*number);
+    }
+    over_ten_to(number, count - 1)?.mul(&Frac::tenth())
+}
+
+/// The power of ten by which the digits are multiplied.
+fn shift_of(exponent: i32, places: usize) -> i32
+    requires exponent { unsigned_abs exponent ≤ 30 }
+    requires places { places ≤ 18 }
+    ensures { result ≡ exponent -ℤ pos places }
+{
+    exponent - places as i32
+}
+
+/// A whole number times `10^shift`, in lowest terms.
+fn scaled(number: &Frac, shift: i32) -> Result<Frac, TooWide>
+    requires { IsWhole number.now }
+    ensures { result ≡ narrowed (times number.now (power_of_ten shift)) }
+{
+    let count = shift.unsigned_abs();
+    if shift < 0 {
+        over_ten_to(number, count)
+    } else {
+        times_ten_to(number, count)
+    }
+}
+
+/// The number that the digits before and behind the point spell.
+fn digits_of(body: &[u8]) -> u64
+    requires { length (front_digits body.now ++ behind_point body.now) ≤ 18 }
+    ensures value { result ≡ digits_value 0 (front_digits body.now ++ behind_point body.now) }
+    ensures narrow { result < 2 ^ 127 }
+{
+    digits_value(digits_value(0, front_digits(body)), behind_point(body))
+}
+
+/// The value of a decimal whose digits and point stand at the front of `body`.
+fn value_of(negative: bool, body: &[u8], exponent: i32) -> Result<Frac, TooWide>
+    requires digits { length (front_digits body.now ++ behind_point body.now) ≤ 18 }
+    requires exponent { unsigned_abs exponent ≤ 30 }
+    ensures { let digits = digits_value 0 (front_digits body.now ++ behind_point body.now) in
+        let places = length (behind_point body.now) in
+        result ≡ narrowed (decimal_value negative digits (exponent -ℤ pos places)) }
+{
+    let number = Frac::whole(negative, u128::from(digits_of(body)));
+    let places = behind_point(body).len();
+    scaled(&number, shift_of(exponent, places))
+}
+
+impl Frac {
+    ghost use Rattle.std.specs.Prelude.{◌≡◌};
+    ghost use Rattle.dsv_fraction.specs.Decimal.{decimal_of};
+
+    /// The decimal number that the text spells. Digits alone with a leading 0 are a decimal too, and a suffix has
+    /// no effect on the value.
+    pub fn of_decimal(text: &[u8]) -> Result<Frac, DecimalRefusal>
+        ensures { result ≡ decimal_of text.now }
+    {
+        if !is_number(text) {
+            return Err(DecimalRefusal::NotDecimal {
+                at: front_len(text) as u64,
+            });
+        }
+        let body = rest(text, sign_len(text));
+        if front_digits(body).len() + behind_point(body).len() > GREATEST_DIGITS {
+            return Err(DecimalRefusal::Digits);
+        }
+        let Some(exponent) = exponent_of(rest(body, whole_len(body))) else {
+            return Err(DecimalRefusal::Exponent);
+        };
+        Ok(value_of(has_byte(b'-', text), body, exponent)?)
+    }
+}
+
+#[cfg(test)]
+mod tests {
+    use super::*;
+
+    fn read(text: &str) -> Result<(i128, i128), DecimalRefusal> {
+        let value = Frac::of_decimal(text.as_bytes())?;
+        Ok(value.to_parts())
+    }
+
+    #[test]
+    fn decimals_have_their_value(rt: HostRuntime) {
+        for (text, num, den) in [
+            (".25f", 1, 4),
+            ("1.5e-1", 3, 20),
+            ("+1.0", 1, 1),
+            ("07L", 7, 1),
+            ("007", 7, 1),
+            (
+                "1e0000000000000000000030",
+                1000000000000000000000000000000,
+                1,
+            ),
+            ("-2.50E+1F", -25, 1),
+            ("1.", 1, 1),
+            ("1.e1l", 10, 1),
+            ("-.5", -1, 2),
+            ("-0.0", 0, 1),
+            ("123456789012345678", 123456789012345678, 1),
+            ("1e-30", 1, 1000000000000000000000000000000),
+            ("100000000000000000e-30", 1, 10000000000000),
+            ("576460752303423488e-23", 68719476736, 11920928955078125),
+            (
+                "170141183460469231e21",
+                170141183460469231000000000000000000000,
+                1,
+            ),
+            (
+                "0.00000000000000001e-21",
+                1,
+                100000000000000000000000000000000000000,
+            ),
+        ] {
+            assert_eq!(rt; read(text), Ok((num, den)), "{text}");
+        }
+    }
+
+    #[test]
+    fn other_texts_have_their_refusal(rt: HostRuntime) {
+        for (text, refusal) in [
+            ("0000000000000000001", DecimalRefusal::Digits),
+            ("12345678.12345678901", DecimalRefusal::Digits),
+            ("0000000000000000001e31", DecimalRefusal::Digits),
+            ("1e31", DecimalRefusal::Exponent),
+            ("1e-31", DecimalRefusal::Exponent),
+            ("1e99999999999999999999", DecimalRefusal::Exponent),
+            (
+                "1E-00000000000000000000000000000000031",
+                DecimalRefusal::Exponent,
+            ),
+            ("170141183460469232e21", DecimalRefusal::TooWide),
+            ("0.00000000000000001e-22", DecimalRefusal::TooWide),
+        ] {
+            assert_eq!(rt; read(text), Err(refusal), "{text}");
+        }
+    }
+
+    #[test]
+    fn texts_that_are_no_number_name_the_place(rt: HostRuntime) {
+        for (text, at) in [
+            ("1e", 2),
+            ("1e+", 3),
+            ("x.5", 0),
+            ("", 0),
+            (".", 1),
+            ("+", 1),
+            ("-.", 2),
+            ("1.5x", 3),
+            ("1e5.", 3),
+            ("1f0", 2),
+            ("..5", 1),
+            ("1.2.3", 3),
+            ("--1", 1),
+            ("1ef", 2),
+            ("00000000000000000000_", 20),
+        ] {
+            assert_eq!(rt;
+                read(text),
+                Err(DecimalRefusal::NotDecimal { at }),
+                "{text}"
+            );
+        }
+    }
+}

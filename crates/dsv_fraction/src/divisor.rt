@@ -1,0 +1,57 @@
+// The greatest common divisor.
+ghost use Rattle.std.specs.Prelude.{◌≡◌, ◌<◌, ◌≤◌, ◌^◌, ◌/◌};
+ghost use Rattle.std.specs.Int.{IsGcd};
+ghost use Rattle.dsv_fraction.specs.Gcd.{gcd};
+ghost use Rattle.dsv_fraction.specs.Arithmetic.{signed};
+ghost use Rattle.dsv_fraction.specs.Parts.{Cancels};
+
+/// The greatest number that divides both, and 0 for two zeros.
+fn common_divisor(a: u128, b: u128) -> u128
+    ensures value { result ≡ gcd a b }
+    ensures divides { IsGcd a b result }
+{
+    let mut x = a;
+    let mut y = b;
+    while y != 0 {
+        let rest = x % y;
+        x = y;
+        y = rest;
+    }
+    x
+}
+
+/// The number of that size, negative or not.
+pub(crate) fn with_sign(negative: bool, size: u128) -> i128
+    requires { size < 2 ^ 127 }
+    ensures { result ≡ signed negative size }
+{
+    if negative {
+        -(size as i128)
+    } else {
+        size as i128
+    }
+}
+
+/// Two sizes without a common factor.
+#[derive(Clone, Copy)]
+pub(crate) struct Cancelled {
+    pub(crate) num: u128,
+    pub(crate) den: u128,
+}
+
+/// Divides both by what they have in common.
+#[tactic(auto, using(crate::proofs::Gcds::positive_gcd, crate::proofs::Gcds::quotient_smaller))]
+pub(crate) fn cancel(num: u128, den: u128) -> Cancelled
+    requires { 0 < den }
+    ensures parts { Cancels num den result.num result.den }
+    ensures num { result.num ≡ num / gcd num den }
+    ensures den { result.den ≡ den / gcd num den }
+    ensures smaller_num { result.num ≤ num }
+    ensures smaller_den { result.den ≤ den }
+{
+    let common = common_divisor(num, den);
+    Cancelled {
+        num: num / common,
+        den: den / common,
+    }
+}

@@ -1,0 +1,12 @@
+//! Exact fractions in lowest terms, whose parts have 128 bits, and the decimal numbers that spell them.
+#![tactic(auto)]
+
+mod compare;
+mod decimal;
+mod divisor;
+mod fraction;
+pub mod number;
+mod wholes;
+
+pub use decimal::DecimalRefusal;
+pub use fraction::{Frac, FracList, TooWide};

@@ -1,0 +1,4 @@
+pub mod Casts
+pub mod Floors
+pub mod Meanings
+pub mod Powers

@@ -1,0 +1,3 @@
+pub mod Quotients
+pub mod Width
+pub mod Words

@@ -1,0 +1,45 @@
+-- Quotients that are made whole.
+use Rattle.std.specs.Prelude.{◌≡◌, ℕ, ◌-◌, ◌*◌, ◌^◌, ◌==◌, if◌then◌else◌, MatchBool, Result, Ok, ℤ, pos, neg_ℤ, ◌+ℤ◌, ◌*ℤ◌}
+use Rattle.dsv_algebra.specs.Floor.{IsFloor, floored}
+use Rattle.dsv_fraction.specs.Ratio.{Ratio}
+use Rattle.dsv_fraction.specs.Arithmetic.{times, narrowed, and_then}
+use Rattle.dsv_fraction.specs.declared.fraction.TooWide.{TooWide}
+use Rattle.dsv_word.specs.declared.format.Rounding.{Rounding}
+use Rattle.dsv_word.specs.declared.format.Rounding.TheVariants as rounding
+
+-- the least w with v ≤ w d
+abbrev pub ceiled : ℤ → ℕ → ℤ
+ceiled v d = neg_ℤ (floored (neg_ℤ v) d)
+
+-- v / 2^f made whole
+abbrev pub shifted : Rounding → ℕ → ℤ → ℤ
+shifted rounding.Floor f v = floored v (2 ^ f)
+shifted rounding.Ceil f v = ceiled v (2 ^ f)
+shifted rounding.Nearest f v = if f == 0 then v else floored (v +ℤ pos (2 ^ (f - 1))) (2 ^ f)
+
+-- n / d made whole; the nearest is the floor of n / d + 1/2
+abbrev pub rounded : Rounding → ℤ → ℕ → ℤ
+rounded rounding.Floor n d = floored n d
+rounded rounding.Ceil n d = ceiled n d
+rounded rounding.Nearest n d = floored (pos 2 *ℤ n +ℤ pos d) (2 * d)
+
+-- the fraction q 2^f made whole, where no part of it in lowest terms passes 2^127
+abbrev pub word_of : (ℤ → ℕ → ℤ) → ℕ → Ratio → Result ℤ TooWide
+word_of whole f q = and_then (narrowed (times q (record { num = pos (2 ^ f); den = 1 }))) (λ r. Ok (whole (q.num *ℤ pos (2 ^ f)) q.den))
+
+-- ---- what these mean
+-- v <= w d < v + d
+abbrev pub IsCeiling : ℤ → ℕ → ℤ → Type 0
+IsCeiling v d w = IsFloor (neg_ℤ v) d (neg_ℤ w)
+
+-- w is v / 2^f, made whole
+abbrev pub IsShifted : Rounding → ℕ → ℤ → ℤ → Type 0
+IsShifted rounding.Floor f v w = IsFloor v (2 ^ f) w
+IsShifted rounding.Ceil f v w = IsCeiling v (2 ^ f) w
+IsShifted rounding.Nearest f v w = MatchBool (f == 0) (w ≡ v) (IsFloor (v +ℤ pos (2 ^ (f - 1))) (2 ^ f) w)
+
+-- w is n / d, made whole
+abbrev pub IsRounded : Rounding → ℤ → ℕ → ℤ → Type 0
+IsRounded rounding.Floor n d w = IsFloor n d w
+IsRounded rounding.Ceil n d w = IsCeiling n d w
+IsRounded rounding.Nearest n d w = IsFloor (pos 2 *ℤ n +ℤ pos d) (2 * d) w

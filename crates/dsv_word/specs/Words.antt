@@ -1,0 +1,46 @@
+-- Words of n bits in two's complement.
+use Rattle.std.specs.Prelude.{◌≡◌, ℕ, ◌+◌, ◌-◌, ◌^◌, if◌then◌else◌, ℤ, pos, neg_ℤ, ◌+ℤ◌, ◌-ℤ◌, ◌*ℤ◌, ◌≤ℤ◌, ◌<ℤ◌, int_lt}
+use Rattle.std.specs.Int.{int_rem_euclid}
+use Rattle.dsv_word.specs.declared.format.Format.{Format}
+use Rattle.dsv_word.specs.declared.format.Overflow.{Overflow}
+use Rattle.dsv_word.specs.declared.format.Overflow.TheVariants as overflow
+
+abbrev pub width : Format → ℕ
+width format = format.int_bits + format.frac_bits
+
+-- the least and the greatest word
+abbrev pub lo : ℕ → ℤ
+lo n = neg_ℤ (pos (2 ^ (n - 1)))
+
+abbrev pub hi : ℕ → ℤ
+hi n = pos (2 ^ (n - 1)) -ℤ pos 1
+
+-- v as a word: by the rest of the division by 2^n, less 2^n where that is above the greatest word
+abbrev pub wrapped : ℕ → ℤ → ℤ
+wrapped n v = let rest = int_rem_euclid v (pos (2 ^ n)) in if int_lt rest (pos (2 ^ (n - 1))) then rest else rest -ℤ pos (2 ^ n)
+
+abbrev pub saturated : ℕ → ℤ → ℤ
+saturated n v = if int_lt v (lo n) then lo n else if int_lt (hi n) v then hi n else v
+
+abbrev pub fit : Overflow → ℕ → ℤ → ℤ
+fit overflow.Wrap n v = wrapped n v
+fit overflow.Saturate n v = saturated n v
+
+-- ---- what these mean
+-- w is the word that differs from v by a multiple of 2^n
+pub record IsWrapped (n : ℕ) (v w : ℤ) : Type 0 where
+  pub low : lo n ≤ℤ w
+  pub high : w ≤ℤ hi n
+  pub turns : (k : ℤ) × (v ≡ w +ℤ k *ℤ pos (2 ^ n))
+
+-- w is the word nearest to v: v itself, or the end that it lies behind
+pub record IsNearest (n : ℕ) (v w : ℤ) : Type 0 where
+  pub low : lo n ≤ℤ w
+  pub high : w ≤ℤ hi n
+  pub inside : lo n ≤ℤ v → v ≤ℤ hi n → w ≡ v
+  pub below : v <ℤ lo n → w ≡ lo n
+  pub above : hi n <ℤ v → w ≡ hi n
+
+abbrev pub IsFitted : Overflow → ℕ → ℤ → ℤ → Type 0
+IsFitted overflow.Wrap n v w = IsWrapped n v w
+IsFitted overflow.Saturate n v w = IsNearest n v w

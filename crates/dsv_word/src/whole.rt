@@ -1,0 +1,62 @@
+// Fractions made whole.
+#![tactic(auto, using(crate::proofs::Casts::casts))]
+
+ghost use Rattle.std.specs.Prelude.{◌≡◌, ◌≤◌, ◌<◌, ◌*◌, ◌^◌, pos, ◌+ℤ◌, ◌*ℤ◌};
+ghost use Rattle.dsv_algebra.specs.Floor.{floored};
+ghost use Rattle.dsv_word.specs.Quotients.{ceiled, shifted};
+ghost use Rattle.std.specs.Int.RustNames.{unsigned_abs};
+ghost use Rattle.dsv_word.specs.declared.format.TheConstants.{GREATEST_WIDTH};
+
+use crate::format::{GREATEST_WIDTH, Rounding};
+use crate::word::power;
+use dsv_fraction::Frac;
+
+/// `v / 2^bits` made whole.
+pub(crate) fn shift(v: i128, bits: u32, rounding: Rounding) -> i128
+    requires size { unsigned_abs v < 2 ^ 126 }
+    requires bits { bits ≤ GREATEST_WIDTH }
+    ensures { result ≡ shifted rounding bits v }
+{
+    let size = i128::from(power(bits));
+    match rounding {
+        Rounding::Floor => v.div_euclid(size),
+        Rounding::Ceil => -((-v).div_euclid(size)),
+        Rounding::Nearest => {
+            if bits == 0 {
+                v
+            } else {
+                (v + i128::from(power(bits - 1))).div_euclid(size)
+            }
+        }
+    }
+}
+
+/// The greatest whole number that isn't above the fraction.
+pub(crate) fn floor_of(q: &Frac) -> i128
+    ensures { result ≡ floored q.now.num q.now.den }
+{
+    let (num, den) = q.to_parts();
+    num.div_euclid(den)
+}
+
+/// The least whole number that isn't below the fraction.
+pub(crate) fn ceiling_of(q: &Frac) -> i128
+    ensures { result ≡ ceiled q.now.num q.now.den }
+{
+    let (num, den) = q.to_parts();
+    -((-num).div_euclid(den))
+}
+
+/// The whole number nearest to the fraction, the upper one of two that are as near.
+pub(crate) fn nearest_to(q: &Frac) -> i128
+    ensures { result ≡ floored (pos 2 *ℤ q.now.num +ℤ pos q.now.den) (2 * q.now.den) }
+{
+    let (num, den) = q.to_parts();
+    let floor = num.div_euclid(den);
+    let rest = num.rem_euclid(den).unsigned_abs();
+    if rest < den.unsigned_abs() - rest {
+        floor
+    } else {
+        floor + 1
+    }
+}

@@ -1,0 +1,46 @@
+// Words of a given number of bits.
+#![tactic(auto, using(crate::proofs::Casts::casts))]
+
+ghost use Rattle.std.specs.Prelude.{◌≡◌, ◌≤◌, ◌^◌, ◌≤ℤ◌, if◌then◌else◌, int_lt, pos};
+ghost use Rattle.dsv_word.specs.declared.format.TheConstants.{GREATEST_WIDTH};
+ghost use Rattle.dsv_word.specs.Words.{wrapped};
+
+use crate::format::GREATEST_WIDTH;
+
+/// Two to that power.
+#[tactic(auto, using(crate::proofs::Powers::power_small))]
+pub(crate) fn power(bits: u32) -> i64
+    requires { bits ≤ GREATEST_WIDTH }
+    ensures value { result ≡ pos (2 ^ bits) }
+    ensures small { result ≤ℤ pos (2 ^ GREATEST_WIDTH) }
+{
+    1i64 << bits
+}
+
+/// The word of that many bits that differs from `v` by a multiple of two to their number.
+pub(crate) fn wrap(v: i128, bits: u32) -> i64
+    requires least { 1 ≤ bits }
+    requires greatest { bits ≤ GREATEST_WIDTH }
+    ensures { result ≡ wrapped bits v }
+{
+    let size = power(bits);
+    let rest = v.rem_euclid(i128::from(size)) as i64;
+    if rest < power(bits - 1) {
+        rest
+    } else {
+        rest - size
+    }
+}
+
+/// The number, or the end that it lies behind.
+pub(crate) fn saturate(v: i128, low: i64, high: i64) -> i64
+    ensures { result ≡ (if int_lt v low then low else if int_lt high v then high else v) }
+{
+    if v < i128::from(low) {
+        low
+    } else if v > i128::from(high) {
+        high
+    } else {
+        v as i64
+    }
+}
