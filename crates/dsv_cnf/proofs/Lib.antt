@@ -1,0 +1,4 @@
+pub mod LiteralLemmas
+pub mod PieceLemmas
+pub mod ReadingLemmas
+pub mod RoundTrip

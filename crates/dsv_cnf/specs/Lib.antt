@@ -1,0 +1,11 @@
+pub mod Dimacs
+pub mod Formula
+pub mod FormulaInside
+pub mod FormulaView
+pub mod LitInside
+pub mod Literal
+pub mod LiteralCode
+pub mod Pieces
+pub mod Reading
+pub mod ReadingInside
+pub mod ReadingView

@@ -1,0 +1,17 @@
+//! Formulas in conjunctive normal form: literals, clauses in one list, truth assignments, and the DIMACS text.
+#![tactic(auto)]
+
+mod assignment;
+mod dimacs;
+mod formula;
+mod literal;
+mod reading;
+
+pub use assignment::{Assignment, holds};
+pub use dimacs::write_dimacs;
+pub use formula::Formula;
+pub use literal::Lit;
+pub use reading::{CnfRefusal, read_dimacs};
+
+#[cfg(test)]
+mod tests;

@@ -1,0 +1,5 @@
+pub mod Moves
+pub mod SetLemmas
+pub mod SlotLemmas
+pub mod Soundness
+pub mod Starting

@@ -1,0 +1,11 @@
+pub mod CheckerInside
+pub mod CheckerView
+pub mod Derivation
+pub mod Follows
+pub mod LiteralSet
+pub mod MoveOver
+pub mod SetInside
+pub mod Slots
+pub mod StoreInside
+pub mod StoreView
+pub mod Taken

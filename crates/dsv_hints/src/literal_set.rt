@@ -1,0 +1,67 @@
+// A set of literals that is emptied at once.
+ghost use Rattle.std.specs.Prelude.{◌≡◌, ◌<◌, ◌≤◌, ◌^◌, IfOk};
+ghost use Rattle.dsv_hints.specs.LiteralSet.{empty_set, set_of, with};
+
+use dsv_base::NoMemory;
+use dsv_cnf::Lit;
+use std::alloc::Global;
+use std::marker::Model;
+
+/// A set of literals: those whose mark is the number of the current round. A new round empties the set.
+#[derive(Drop)]
+pub(crate) struct LiteralSet {
+    vars: u32,
+    round: u32,
+    marks: Vec<u32>,
+}
+
+impl Model for LiteralSet {
+    ghost use Rattle.dsv_hints.specs.LiteralSet.{SetView};
+
+    ghost Value = { SetView };
+
+    ghost use Rattle.dsv_hints.specs.SetInside.{view_of, IsSet};
+
+    ghost view = { view_of };
+
+    ghost invariant = { IsSet };
+}
+
+impl LiteralSet {
+    pub fn new(alloc: Global, vars: u32) -> Result<Self, NoMemory>
+        requires { vars ≤ 2 ^ 31 }
+        ensures { IfOk result (λ s. s ≡ empty_set vars) }
+    {
+        Ok(LiteralSet {
+            vars,
+            round: 1,
+            marks: vec![in alloc; 0; 2 * vars as usize]?,
+        })
+    }
+
+    pub fn contains(&self, literal: Lit) -> bool
+        requires { literal.var < self.now.vars }
+        ensures { result ≡ set_of self.now literal }
+    {
+        self.marks[literal.code() as usize] == self.round
+    }
+
+    pub fn insert(&mut self, literal: Lit)
+        requires { literal.var < self.old.vars }
+        ensures vars { self.new.vars ≡ self.old.vars }
+        ensures set { set_of self.new ≡ with literal (set_of self.old) }
+    {
+        self.marks[literal.code() as usize] = self.round;
+    }
+
+    pub fn clear(&mut self)
+        ensures { self.new ≡ empty_set self.old.vars }
+    {
+        if self.round == u32::MAX {
+            self.marks.fill(0);
+            self.round = 1;
+            return;
+        }
+        self.round += 1;
+    }
+}

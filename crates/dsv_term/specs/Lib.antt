@@ -1,0 +1,6 @@
+pub mod Making
+pub mod TermNode
+pub mod Terms
+pub mod TermsInside
+pub mod TermsView
+pub mod Word
