@@ -35,11 +35,6 @@ assoc a b c =
     let x = is_self a in let y = is_self b in let z = is_self c in
     same (is_mul (is_mul x y) z) (is_mul x (is_mul y z)) (omega arith)
 
-pub distrib : (a b c : ℤ) → a *ℤ (b +ℤ c) ≡ a *ℤ b +ℤ a *ℤ c
-distrib a b c =
-    let x = is_self a in let y = is_self b in let z = is_self c in
-    same (is_mul x (is_add y z)) (is_add (is_mul x y) (is_mul x z)) (omega arith)
-
 pub square : (a b : ℤ) → (a +ℤ b) *ℤ (a +ℤ b) ≡ a *ℤ a +ℤ pos 2 *ℤ (a *ℤ b) +ℤ b *ℤ b
 square a b =
     let x = is_self a in let y = is_self b in

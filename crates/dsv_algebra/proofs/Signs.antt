@@ -1,8 +1,7 @@
 -- Signs of products of integers.
 use Rattle.std.proofs.Common.{◌≡◌, ◌≢◌, ℕ, ◌*◌, ◌<◌, zero, suc, refl, arith}
-use Rattle.std.proofs.Math.IntN.{ℤ, pos, negsuc, ◌+ℤ◌, ◌*ℤ◌}
+use Rattle.std.proofs.Math.IntN.{ℤ, pos, negsuc, ◌*ℤ◌}
 use Rattle.std.proofs.lemmas.Int.{ints}
-use Rattle.dsv_algebra.proofs.Ring.{assoc}
 use lib.Signed.{◌<ℤ◌, ◌≤ℤ◌}
 
 nat_mul : (a b : ℕ) → 0 < a → 0 < b → 0 < a * b
@@ -32,12 +31,3 @@ positive_factor (pos m) (pos zero) p q = absurd (let e : m * 0 ≡ 0 = omega ari
 positive_factor (pos m) (pos (suc t)) p q = omega (arith, ints)
 positive_factor (pos m) (negsuc t) p q = absurd (omega (arith, ints))
 positive_factor (negsuc m) t p q = absurd (omega (arith, ints))
-
--- a number is positive where m times it is a weighted square and a rest
-pub positive_by_square : (m t w r rest : ℤ) → pos 1 ≤ℤ m → pos 0 <ℤ w → r ≢ pos 0 → pos 0 ≤ℤ rest
-    → m *ℤ t ≡ w *ℤ r *ℤ r +ℤ rest → pos 0 <ℤ t
-positive_by_square m t w r rest one weight row not_negative identity =
-    let square : pos 0 <ℤ (w *ℤ (r *ℤ r)) = mul_positive w (r *ℤ r) weight (square_positive r row) in
-    let same : (w *ℤ r) *ℤ r ≡ w *ℤ (r *ℤ r) = assoc w r r in
-    let first : pos 0 <ℤ m = omega (arith, ints) in
-    positive_factor m t first (omega (arith, ints))

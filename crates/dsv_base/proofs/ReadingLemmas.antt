@@ -31,9 +31,6 @@ longer (Some file) bytes got count limit room so_far piece fits past =
     let h = same_length file room got count fits so_far.1 piece.bytes in omega arith
 
 -- ---- counts
-pub rose_none : (a : ℕ) → RoseBy 0 a a
-rose_none a = record { least = omega arith; most = omega arith; whole = inl (omega arith) }
-
 whole_more : (a b c n m : ℕ) → b ≤ c → (b ≡ a + n) ⊎ (last_count ≤ b) → (c ≡ b + m) ⊎ (last_count ≤ c) → (c ≡ a + (n + m)) ⊎ (last_count ≤ c)
 whole_more a b c n m h (inl e) (inl f) = inl (omega arith)
 whole_more a b c n m h (inl e) (inr f) = inr f

@@ -4,18 +4,11 @@ use Rattle.std.proofs.lemmas.Grind.{common_steps}
 use Rattle.dsv_base.specs.Counts.{Rose}
 use Rattle.dsv_base.specs.Taking.{Grew, Wrote, CutShort, Writes}
 
-pub Rose-later : (a b c : ℕ) → Rose a b → a ≤ b → b ≤ c → Rose a c
-Rose-later a b c r m h = grind arith
-
 pub Rose-earlier : (a b c : ℕ) → a ≤ b → Rose b c → Rose a c
 Rose-earlier a b c m r = grind arith
 
 pub append_nil : (xs : List ℕ) → xs ≡ xs ++ []
 append_nil xs = grind (arith, common_steps)
-
-pub Grew-none : (a : Option (List ℕ)) → Grew a a []
-Grew-none None = record { told = tt }
-Grew-none (Some t) = record { told = ap Some (append_nil t) }
 
 grew_more : (a b c : Option (List ℕ)) (x y : List ℕ) → IfSome a (λ t. b ≡ Some (t ++ x)) → IfSome b (λ t. c ≡ Some (t ++ y)) → IfSome a (λ t. c ≡ Some (t ++ (x ++ y)))
 grew_more None b c x y f g = tt
@@ -23,9 +16,6 @@ grew_more (Some t) b c x y f g = let h = rw f at g in h ∙ ap Some (append_asso
 
 pub Grew-more : {a b c : Option (List ℕ)} {x y : List ℕ} → Grew a b x → Grew b c y → Grew a c (x ++ y)
 Grew-more {a} {b} {c} {x} {y} f g = record { told = grew_more a b c x y f.told g.told }
-
-pub wrote_none : {K : Type 0} {taken : K → Option (List ℕ)} {faults : K → ℕ} (a : K) → Wrote taken faults a a []
-wrote_none {taken = taken} a = record { grew = Grew-none (taken a); later = omega arith }
 
 pub wrote_more : {K : Type 0} {taken : K → Option (List ℕ)} {faults : K → ℕ} {a b c : K} {x y : List ℕ}
     → Wrote taken faults a b x → Wrote taken faults b c y → Wrote taken faults a c (x ++ y)
@@ -46,11 +36,6 @@ cut_more {x = x} y f = record {
   later = f.later;
   rose = f.rose;
 }
-
--- the same with the whole text named
-pub cut_front : {K : Type 0} {taken : K → Option (List ℕ)} {faults : K → ℕ} {a b : K} {x : List ℕ} (y z : List ℕ)
-    → z ≡ x ++ y → CutShort taken faults a b x → CutShort taken faults a b z
-cut_front y z e f = rw e (cut_more y f)
 
 -- what is left of a text is written after its front
 pub writes_after : {K T E : Type 0} {taken : K → Option (List ℕ)} {faults : K → ℕ} {a b c : K} {r : Result T E} {x y : List ℕ}
