@@ -1,0 +1,100 @@
+// Tokens.
+use crate::refusal::{Field, FileRefusal};
+use std::alloc::Global;
+use std::marker::Model;
+
+/// The blocks of a controller file.
+#[derive(Clone, Copy, Debug, PartialEq, Eq)]
+pub enum Block {
+    System,
+    Implementation,
+    Hardware,
+}
+
+/// The fields of the block `hardware` that are read: the clock and what the parts of a sample cost.
+#[derive(Clone, Copy, Debug, PartialEq, Eq)]
+pub enum Setting {
+    Clock,
+    CostSample,
+    CostMul,
+    CostAdd,
+    CostRound,
+    CostFit,
+    CostMoves,
+}
+
+/// The names that the grammar knows, and any other name.
+#[derive(Clone, Copy, Debug, PartialEq, Eq)]
+pub enum Word {
+    Block(Block),
+    Field(Field),
+    Setting(Setting),
+    Other,
+}
+
+/// What a token is.
+#[derive(Clone, Copy, Debug, PartialEq, Eq)]
+pub enum Kind {
+    Open,
+    Close,
+    Equals,
+    Comma,
+    Dot,
+    Semicolon,
+    Number,
+    Name(Word),
+}
+
+/// A token: what it is, the offset of its first byte in the file, and its number of bytes.
+#[derive(Clone, Copy, Debug, PartialEq, Eq)]
+pub struct Token {
+    pub kind: Kind,
+    pub at: usize,
+    pub len: usize,
+}
+
+/// A list of tokens.
+#[derive(Drop)]
+pub struct Tokens {
+    held: Vec<Token>,
+}
+
+impl Model for Tokens {
+    ghost use Rattle.std.specs.Prelude.{List};
+    ghost use Rattle.dsv_token.specs.declared.token.Token.{Token};
+
+    ghost Value = { List Token };
+
+    ghost view = { λ t. t.held.items };
+}
+
+impl Tokens {
+    ghost use Rattle.std.specs.Prelude.{◌≡◌, ◌++◌, [], ◌∷◌, OnOk, OnErr, Err};
+    ghost use Rattle.dsv_token.specs.declared.refusal.FileRefusal.TheVariants.{NoMemory};
+
+    /// The empty list.
+    pub fn new(alloc: Global) -> Self
+        ensures { result ≡ [] }
+    {
+        Tokens {
+            held: Vec::new(alloc),
+        }
+    }
+
+    /// Puts a token at the end.
+    pub fn push(&mut self, token: Token) -> Result<(), FileRefusal>
+        ensures ok { OnOk result (self.new ≡ self.old ++ token ∷ []) }
+        ensures err { OnErr result (result ≡ Err NoMemory) }
+        ensures unchanged { OnErr result (self.new ≡ self.old) }
+    {
+        self.held.push(token)?;
+        Ok(())
+    }
+
+    /// The tokens in their order.
+    pub fn as_slice(&self) -> &[Token]
+        ensures { result.now ≡ self.now }
+    {
+        self.held.as_slice()
+    }
+}
