@@ -1,0 +1,9 @@
+//! The grammar of controller files: from tokens to the fields of the blocks.
+#![tactic(auto)]
+
+mod entry;
+mod parser;
+mod parsing;
+
+pub use entry::{Entries, Entry, Label};
+pub use parsing::{Syntax, parse};
