@@ -1,3 +1,4 @@
 pub mod Binds
 pub mod States
 pub mod ReadLemmas
+pub mod TakenLemmas
