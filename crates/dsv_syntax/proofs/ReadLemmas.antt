@@ -1,11 +1,9 @@
 -- What the grammar allows is read.
-use Rattle.std.proofs.Common.{◌≡◌, ℕ, ◌+◌, ◌-◌, ◌≤◌, ◌==◌, Bool, true, false, List, [], ◌∷◌, ◌++◌, Option, Some, None, refl, sym, ap, ◌∙◌, arith, append_assoc, append-nil}
-use Rattle.std.specs.Prelude.{Result, Ok, Err}
+use Rattle.std.proofs.Common.{◌≡◌, ℕ, ◌+◌, ◌-◌, ◌≤◌, ◌==◌, true, false, List, [], ◌∷◌, ◌++◌, Some, refl, sym, ap, ◌∙◌, arith, append_assoc, append-nil}
+use Rattle.std.specs.Prelude.{Ok}
 use Rattle.std.proofs.lemmas.Bool.Decides.{nat_tests}
-use Rattle.dsv_token.specs.declared.refusal.FileRefusal.{FileRefusal}
 use Rattle.dsv_token.specs.declared.refusal.Field.TheVariants as field
 use Rattle.dsv_token.specs.declared.token.Block.{Block}
-use Rattle.dsv_token.specs.declared.token.Word.{Word}
 use Rattle.dsv_token.specs.declared.token.Word.TheVariants as word
 use Rattle.dsv_token.specs.declared.token.Kind.{Kind}
 use Rattle.dsv_token.specs.declared.token.Kind.TheVariants as kind
@@ -13,13 +11,11 @@ use Rattle.dsv_token.specs.declared.token.Token.{Token}
 use Rattle.dsv_syntax.specs.declared.entry.Label.{Label}
 use Rattle.dsv_syntax.specs.declared.entry.Label.TheVariants as label
 use Rattle.dsv_syntax.specs.declared.entry.Entry.{Entry}
-use Rattle.dsv_syntax.specs.declared.parser.Place.{Place}
 use Rattle.dsv_syntax.specs.declared.parser.Place.TheVariants as place
 use Rattle.dsv_syntax.specs.declared.parser.Closed.{Closed}
 use Rattle.dsv_syntax.specs.declared.parser.Parser.{Parser}
 use Rattle.dsv_syntax.specs.declared.parsing.Syntax.{Syntax}
-use Rattle.dsv_syntax.specs.Steps.{◌>>=◌}
-use Rattle.dsv_syntax.specs.Parsing.{blank, begun, is_list, is_alone, is_mark, is_closed, with_close, value_place, declared, labelled, label_of, group, group_closed, field_done, step_at, parsed_from, parsed, whole_of}
+use Rattle.dsv_syntax.specs.Parsing.{is_list, is_alone, is_mark, is_closed, with_close, value_place, declared, labelled, group, group_closed, parsed_from, parsed, whole_of}
 use Rattle.dsv_syntax.specs.Grammar.{Numbers, Group, Value, IsField, Fields, IsBlock, Blocks, IsFile}
 use Rattle.dsv_syntax.proofs.States.{entry, between, within, behind, goes}
 

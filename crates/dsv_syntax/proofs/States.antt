@@ -1,7 +1,6 @@
 -- What was read of a file, at the places of the grammar.
 use Rattle.std.proofs.Common.{◌≡◌, ℕ, List, [], ◌∷◌, ◌++◌, ap, ◌∙◌}
-use Rattle.std.specs.Prelude.{Result, Ok}
-use Rattle.dsv_token.specs.declared.refusal.FileRefusal.{FileRefusal}
+use Rattle.std.specs.Prelude.{Ok}
 use Rattle.dsv_token.specs.declared.token.Block.{Block}
 use Rattle.dsv_token.specs.declared.token.Kind.{Kind}
 use Rattle.dsv_token.specs.declared.token.Token.{Token}
@@ -11,7 +10,6 @@ use Rattle.dsv_syntax.specs.declared.parser.Place.{Place}
 use Rattle.dsv_syntax.specs.declared.parser.Place.TheVariants as place
 use Rattle.dsv_syntax.specs.declared.parser.Closed.{Closed}
 use Rattle.dsv_syntax.specs.declared.parser.Parser.{Parser}
-use Rattle.dsv_syntax.specs.declared.parsing.Syntax.{Syntax}
 use Rattle.dsv_syntax.specs.Steps.{◌>>=◌}
 use Rattle.dsv_syntax.specs.Parsing.{blank, step_at, parsed_from}
 

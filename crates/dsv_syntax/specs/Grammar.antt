@@ -11,11 +11,10 @@
 -- A value is a list, a number, or, of a field that is passed over, a number, a name or tokens in balanced braces.
 -- Each type below says of a list of tokens that a part of the file stands at its front, and which tokens are left
 -- behind it.
-use Rattle.std.specs.Prelude.{◌≡◌, ℕ, Bool, true, false, List, [], ◌∷◌, ◌++◌, Option, Some, None}
+use Rattle.std.specs.Prelude.{◌≡◌, ℕ, true, false, List, [], ◌∷◌, ◌++◌, Some}
 use Rattle.dsv_token.specs.declared.token.Block.{Block}
 use Rattle.dsv_token.specs.declared.token.Word.{Word}
 use Rattle.dsv_token.specs.declared.token.Word.TheVariants as word
-use Rattle.dsv_token.specs.declared.token.Kind.{Kind}
 use Rattle.dsv_token.specs.declared.token.Kind.TheVariants as kind
 use Rattle.dsv_token.specs.declared.token.Token.{Token}
 use Rattle.dsv_syntax.specs.declared.entry.Label.{Label}

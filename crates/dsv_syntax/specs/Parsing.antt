@@ -1,5 +1,5 @@
 -- Reading a file's tokens one by one: what is wanted next, and the first token that can't go on.
-use Rattle.std.specs.Prelude.{◌≡◌, ℕ, ◌+◌, ◌-◌, ◌==◌, Bool, true, false, List, [], ◌∷◌, ◌++◌, Result, Ok, Err, Option, Some, None, is_some, if◌then◌else◌}
+use Rattle.std.specs.Prelude.{ℕ, ◌+◌, ◌-◌, ◌==◌, Bool, true, false, List, [], ◌∷◌, ◌++◌, Result, Ok, Err, Option, Some, None, is_some, if◌then◌else◌}
 use Rattle.dsv_token.specs.declared.refusal.FileRefusal.{FileRefusal}
 use Rattle.dsv_token.specs.declared.refusal.FileRefusal.TheVariants as refusal
 use Rattle.dsv_token.specs.declared.refusal.Field.{Field}

@@ -2,8 +2,10 @@
 #![tactic(auto)]
 
 mod entry;
+mod law;
 mod parser;
 mod parsing;
 
 pub use entry::{Entries, Entry, Label};
+pub use law::grammar_is_read;
 pub use parsing::{Syntax, parse};

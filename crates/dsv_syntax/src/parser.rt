@@ -421,7 +421,10 @@ impl Parser {
         ensures { Gives (λ p. p) result (number token.kind token self) }
     {
         match token.kind {
-            Kind::Number => self.begin(alloc, token).with_number(token)?.field_done(alloc),
+            Kind::Number => self
+                .begin(alloc, token)
+                .with_number(token)?
+                .field_done(alloc),
             _ => Err(unexpected(token, Wanted::Number)),
         }
     }
@@ -430,7 +433,10 @@ impl Parser {
         ensures { Gives (λ p. p) result (value token.kind token self) }
     {
         match token.kind {
-            Kind::Number => self.begin(alloc, token).with_number(token)?.field_done(alloc),
+            Kind::Number => self
+                .begin(alloc, token)
+                .with_number(token)?
+                .field_done(alloc),
             Kind::Name(_) => self.begin(alloc, token).field_done(alloc),
             Kind::Open => Ok(Parser {
                 depth: 1,
