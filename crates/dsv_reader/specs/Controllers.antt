@@ -1,0 +1,51 @@
+-- Controllers as contracts see them.
+use Rattle.std.specs.Prelude.{◌≡◌, ℕ, ◌^◌, ◌<◌, ◌≤◌, List, length, Option, ℤ, pos, ◌<ℤ◌, slice_index_or}
+use Rattle.std.specs.Int.RustNames.{unsigned_abs}
+use Rattle.dsv_fraction.specs.Ratio.{Ratio}
+use Rattle.dsv_word.specs.Width.{IsLawful}
+use Rattle.dsv_reader.specs.declared.controller.Costs.{Costs}
+
+-- what a controller's file says, with the coefficients divided by the leading one and padded
+pub record Design : Type 0 where
+  pub b : List Ratio
+  pub a : List Ratio
+  pub sample_time : Ratio
+  pub int_bits : ℕ
+  pub frac_bits : ℕ
+  pub max : Ratio
+  pub min : Ratio
+  pub delta : Option Ratio
+  pub clock : ℕ
+  pub costs : Costs
+
+abbrev pub zero : Ratio
+zero = record { num = pos 0; den = 1 }
+
+abbrev pub one : Ratio
+one = record { num = pos 1; den = 1 }
+
+-- positive, with both parts below 2^62
+pub record IsTime (t : Ratio) : Type 0 where
+  pub positive : pos 0 <ℤ t.num
+  pub small_num : unsigned_abs t.num < 2 ^ 62
+  pub small_den : t.den < 2 ^ 62
+
+pub record AreCosts (c : Costs) : Type 0 where
+  pub sample : c.sample ≤ 10000
+  pub mul : c.mul ≤ 10000
+  pub add : c.add ≤ 10000
+  pub round : c.round ≤ 10000
+  pub fit : c.fit ≤ 10000
+  pub moves : c.moves ≤ 10000
+
+-- what is true of each controller
+pub record IsDesign (c : Design) : Type 0 where
+  pub one_length : length c.b ≡ length c.a
+  pub some : 1 ≤ length c.a
+  pub few : length c.a ≤ 9
+  pub leading : slice_index_or c.a 0 zero ≡ one
+  pub time : IsTime c.sample_time
+  pub width : IsLawful c.int_bits c.frac_bits
+  pub least_clock : 1 ≤ c.clock
+  pub greatest_clock : c.clock ≤ 1000000000000
+  pub costs : AreCosts c.costs
