@@ -1,0 +1,47 @@
+// Lists of coefficients as a file has them.
+use crate::numbers::Coefficient;
+use arrayvec::ArrayVec;
+use std::marker::Model;
+
+/// Up to nine decimals of a file in their order.
+#[derive(Drop)]
+pub(crate) struct Coefficients {
+    held: ArrayVec<Coefficient, 9>,
+}
+
+impl Model for Coefficients {
+    ghost use Rattle.std.specs.Prelude.{List, length, ◌≤◌};
+    ghost use Rattle.dsv_reader.specs.declared.numbers.Coefficient.{Coefficient};
+
+    ghost Value = { List Coefficient };
+
+    ghost view = { λ c. c.held.items };
+
+    ghost invariant = { λ c. length c.held.items ≤ 9 };
+}
+
+impl Coefficients {
+    ghost use Rattle.std.specs.Prelude.{◌≡◌, ◌++◌, [], ◌∷◌, ◌<◌, ◌≤◌, length};
+
+    pub(crate) fn new() -> Self
+        ensures { result ≡ [] }
+    {
+        Coefficients {
+            held: ArrayVec::new(),
+        }
+    }
+
+    pub(crate) fn push(&mut self, coefficient: Coefficient)
+        requires { length self.old < 9 }
+        ensures { self.new ≡ self.old ++ coefficient ∷ [] }
+    {
+        self.held.push(coefficient);
+    }
+
+    pub(crate) fn as_slice(&self) -> &[Coefficient]
+        ensures same { result.now ≡ self.now }
+        ensures few { length self.now ≤ 9 }
+    {
+        self.held.as_slice()
+    }
+}

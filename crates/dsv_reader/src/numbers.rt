@@ -1,0 +1,214 @@
+// The numbers of a file.
+ghost use Rattle.std.specs.Prelude.{◌≡◌, ◌≤◌, ◌<◌, ◌^◌, [], length, IfOk};
+ghost use Rattle.dsv_fraction.specs.Decimal.{digits_value};
+ghost use Rattle.dsv_token.specs.declared.refusal.FileRefusal.TheVariants.{Number};
+ghost use Rattle.dsv_reader.specs.Numbers.{text_at, is_plain, is_octal, is_whole, no_number, whole_at, bounded_at, by_decimal, decimal_at, is_time, by_time, time_at, only_of, coefficients_from, coefficients_of, passed_over};
+
+use crate::lists::Coefficients;
+use dsv_fraction::number::{digits_len, front_digits, has_byte, sign_len};
+use dsv_fraction::{DecimalRefusal, Frac};
+use dsv_token::{FileRefusal, Token};
+
+/// The greatest number of digits of a whole number.
+const GREATEST_DIGITS: usize = 18;
+
+/// A whole number of a file, and the offset where it stands.
+#[derive(Clone, Copy, Debug, PartialEq, Eq)]
+pub(crate) struct Whole {
+    pub(crate) value: u64,
+    pub(crate) at: usize,
+}
+
+/// A decimal of a file, and the offset where it stands.
+#[derive(Clone, Copy, Debug, PartialEq, Eq)]
+pub(crate) struct Coefficient {
+    pub(crate) value: Frac,
+    pub(crate) at: usize,
+}
+
+impl Default for Coefficient {
+    fn default() -> Self {
+        Coefficient {
+            value: Frac::default(),
+            at: 0,
+        }
+    }
+}
+
+fn no_number(token: Token) -> FileRefusal
+    ensures { result ≡ Number token.at }
+{
+    FileRefusal::Number {
+        at: token.at as u64,
+    }
+}
+
+/// The token's bytes.
+fn text_at(bytes: &[u8], token: Token) -> &[u8]
+    ensures { result.now ≡ text_at bytes.now token }
+{
+    let rest = bytes.get(token.at..).unwrap_or_default();
+    rest.get(..token.len).unwrap_or(rest)
+}
+
+/// Whether the text is digits alone.
+fn is_plain(text: &[u8]) -> bool
+    ensures { result ≡ is_plain text.now }
+{
+    !text.is_empty() && digits_len(text) == text.len()
+}
+
+/// Whether C reads the number as octal.
+fn is_octal(text: &[u8]) -> bool
+    ensures { result ≡ is_octal text.now }
+{
+    let body = &text[sign_len(text)..];
+    is_plain(body) && body.len() > 1 && has_byte(b'0', body)
+}
+
+fn is_whole(text: &[u8]) -> bool
+    ensures { result ≡ is_whole text.now }
+{
+    is_plain(text) && text.len() <= GREATEST_DIGITS
+}
+
+/// The number that digits spell.
+#[tactic(auto, using(dsv_fraction::proofs::Digits::value_grows))]
+fn digits_value(digits: &[u8]) -> u64
+    requires { digits_value 0 digits.now < 2 ^ 64 }
+    ensures { result ≡ digits_value 0 digits.now }
+{
+    let mut value = 0;
+    for byte in digits {
+        value = value * 10 + u64::from(byte.saturating_sub(b'0'));
+    }
+    value
+}
+
+#[tactic(auto, using(crate::proofs::Wholes::whole_small))]
+pub(crate) fn whole_at(bytes: &[u8], token: Token) -> Result<Whole, FileRefusal>
+    ensures { result ≡ whole_at bytes.now token }
+{
+    let text = text_at(bytes, token);
+    if is_octal(text) || !is_whole(text) {
+        return Err(no_number(token));
+    }
+    Ok(Whole {
+        value: digits_value(front_digits(text)),
+        at: token.at,
+    })
+}
+
+/// A whole number from `least` to `greatest`.
+pub(crate) fn bounded_at(
+    least: u64,
+    greatest: u64,
+    bytes: &[u8],
+    token: Token,
+) -> Result<u64, FileRefusal>
+    ensures value { result ≡ bounded_at least greatest bytes.now token }
+    ensures least { IfOk result (λ n. least ≤ n) }
+    ensures greatest { IfOk result (λ n. n ≤ greatest) }
+{
+    let Whole { value, at: _ } = whole_at(bytes, token)?;
+    if value < least || value > greatest {
+        return Err(no_number(token));
+    }
+    Ok(value)
+}
+
+pub(crate) fn decimal_at(bytes: &[u8], token: Token) -> Result<Coefficient, FileRefusal>
+    ensures { result ≡ decimal_at bytes.now token }
+{
+    let text = text_at(bytes, token);
+    if is_octal(text) {
+        return Err(no_number(token));
+    }
+    match Frac::of_decimal(text) {
+        Ok(value) => Ok(Coefficient {
+            value,
+            at: token.at,
+        }),
+        Err(DecimalRefusal::TooWide) => Err(FileRefusal::FractionWide {
+            at: token.at as u64,
+        }),
+        Err(_) => Err(no_number(token)),
+    }
+}
+
+/// Whether the number is positive, with both parts below 2^62.
+fn is_time(value: &Frac) -> bool
+    ensures { result ≡ is_time value.now }
+{
+    let (num, den) = value.to_parts();
+    0 < num && num < 1 << 62 && den < 1 << 62
+}
+
+pub(crate) fn time_at(bytes: &[u8], token: Token) -> Result<Frac, FileRefusal>
+    ensures { result ≡ time_at bytes.now token }
+{
+    let text = text_at(bytes, token);
+    if is_octal(text) {
+        return Err(no_number(token));
+    }
+    match Frac::of_decimal(text) {
+        Ok(value) => {
+            if is_time(&value) {
+                Ok(value)
+            } else {
+                Err(no_number(token))
+            }
+        }
+        Err(_) => Err(no_number(token)),
+    }
+}
+
+/// The one number of a field that wants one.
+pub(crate) fn only_of(place: usize, numbers: &[Token]) -> Result<Token, FileRefusal>
+    ensures { result ≡ only_of place numbers.now }
+{
+    match numbers {
+        [token, ..] => Ok(*token),
+        [] => Err(FileRefusal::Number { at: place as u64 }),
+    }
+}
+
+/// The numbers of a list, which has one to nine.
+pub(crate) fn coefficients_of(
+    bytes: &[u8],
+    place: usize,
+    numbers: &[Token],
+) -> Result<Coefficients, FileRefusal>
+    ensures { result ≡ coefficients_of bytes.now place numbers.now }
+{
+    if numbers.is_empty() || numbers.len() > 9 {
+        return Err(FileRefusal::Length { at: place as u64 });
+    }
+    read_coefficients(bytes, numbers)
+}
+
+fn read_coefficients(bytes: &[u8], numbers: &[Token]) -> Result<Coefficients, FileRefusal>
+    requires { length numbers.now ≤ 9 }
+    ensures { result ≡ coefficients_from bytes.now numbers.now [] }
+{
+    let mut list = Coefficients::new();
+    for token in numbers {
+        match decimal_at(bytes, *token) {
+            Ok(coefficient) => list.push(coefficient),
+            Err(refusal) => return Err(refusal),
+        }
+    }
+    Ok(list)
+}
+
+/// Tests the numbers of a field that is passed over.
+pub(crate) fn passed_over(bytes: &[u8], numbers: &[Token]) -> Result<(), FileRefusal>
+    ensures { result ≡ passed_over bytes.now numbers.now }
+{
+    for token in numbers {
+        if is_octal(text_at(bytes, *token)) {
+            return Err(no_number(*token));
+        }
+    }
+    Ok(())
+}
