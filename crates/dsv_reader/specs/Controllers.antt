@@ -30,6 +30,11 @@ pub record IsTime (t : Ratio) : Type 0 where
   pub small_num : unsigned_abs t.num < 2 ^ 62
   pub small_den : t.den < 2 ^ 62
 
+-- 1 to 10^12 cycles a second
+pub record IsClock (c : ℕ) : Type 0 where
+  pub least : 1 ≤ c
+  pub greatest : c ≤ 1000000000000
+
 pub record AreCosts (c : Costs) : Type 0 where
   pub sample : c.sample ≤ 10000
   pub mul : c.mul ≤ 10000
@@ -46,6 +51,5 @@ pub record IsDesign (c : Design) : Type 0 where
   pub leading : slice_index_or c.a 0 zero ≡ one
   pub time : IsTime c.sample_time
   pub width : IsLawful c.int_bits c.frac_bits
-  pub least_clock : 1 ≤ c.clock
-  pub greatest_clock : c.clock ≤ 1000000000000
+  pub clock : IsClock c.clock
   pub costs : AreCosts c.costs

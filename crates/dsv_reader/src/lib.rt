@@ -2,9 +2,11 @@
 #![tactic(auto)]
 
 mod controller;
+mod fields;
 mod fixed_form;
 mod lists;
 mod numbers;
+mod settings;
 
 pub use controller::{Controller, Costs};
 pub use fixed_form::{FirstOrder, first_order};

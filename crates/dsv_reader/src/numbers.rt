@@ -2,6 +2,8 @@
 ghost use Rattle.std.specs.Prelude.{◌≡◌, ◌≤◌, ◌<◌, ◌^◌, [], length, IfOk};
 ghost use Rattle.dsv_fraction.specs.Decimal.{digits_value};
 ghost use Rattle.dsv_token.specs.declared.refusal.FileRefusal.TheVariants.{Number};
+ghost use Rattle.std.specs.Bool.{OnTrue};
+ghost use Rattle.dsv_reader.specs.Controllers.{IsTime};
 ghost use Rattle.dsv_reader.specs.Numbers.{text_at, is_plain, is_octal, is_whole, no_number, whole_at, bounded_at, by_decimal, decimal_at, is_time, by_time, time_at, only_of, coefficients_from, coefficients_of, passed_over};
 
 use crate::lists::Coefficients;
@@ -138,14 +140,16 @@ pub(crate) fn decimal_at(bytes: &[u8], token: Token) -> Result<Coefficient, File
 
 /// Whether the number is positive, with both parts below 2^62.
 fn is_time(value: &Frac) -> bool
-    ensures { result ≡ is_time value.now }
+    ensures value { result ≡ is_time value.now }
+    ensures time { OnTrue result (IsTime value.now) }
 {
     let (num, den) = value.to_parts();
     0 < num && num < 1 << 62 && den < 1 << 62
 }
 
 pub(crate) fn time_at(bytes: &[u8], token: Token) -> Result<Frac, FileRefusal>
-    ensures { result ≡ time_at bytes.now token }
+    ensures value { result ≡ time_at bytes.now token }
+    ensures time { IfOk result IsTime }
 {
     let text = text_at(bytes, token);
     if is_octal(text) {

@@ -1,0 +1,109 @@
+-- The fields of a file and their values, in the order of the file.
+use Rattle.std.specs.Prelude.{ℕ, Bool, true, false, List, [], ◌∷◌, Option, Some, None, is_some, Result, Ok, Err}
+use Rattle.dsv_token.specs.declared.refusal.FileRefusal.{FileRefusal}
+use Rattle.dsv_token.specs.declared.refusal.FileRefusal.TheVariants as refusal
+use Rattle.dsv_token.specs.declared.refusal.Field.{Field}
+use Rattle.dsv_token.specs.declared.refusal.Field.TheVariants as field
+use Rattle.dsv_token.specs.declared.token.Setting.{Setting}
+use Rattle.dsv_token.specs.declared.token.Setting.TheVariants as setting
+use Rattle.dsv_token.specs.declared.token.Token.{Token}
+use Rattle.dsv_syntax.specs.declared.entry.Label.{Label}
+use Rattle.dsv_syntax.specs.declared.entry.Label.TheVariants as label
+use Rattle.dsv_syntax.specs.declared.entry.Entry.{Entry}
+use Rattle.dsv_syntax.specs.Steps.{◌>>=◌}
+use Rattle.dsv_reader.specs.declared.fields.SystemFields.{SystemFields}
+use Rattle.dsv_reader.specs.declared.fields.ImplementationFields.{ImplementationFields}
+use Rattle.dsv_reader.specs.declared.fields.HardwareFields.{HardwareFields}
+use Rattle.dsv_reader.specs.declared.fields.Values.{Values}
+use Rattle.dsv_reader.specs.Numbers.{only_of, whole_at, bounded_at, decimal_at, time_at, coefficients_of, passed_over}
+
+abbrev pub no_values : Values
+no_values = record {
+  system = record { b = None; a = None; b_size = None; a_size = None; sample_time = None };
+  implementation = record { int_bits = None; frac_bits = None; max = None; min = None; delta = None };
+  hardware = record { clock = None; sample = None; mul = None; add = None; round = None; fit = None; moves = None } }
+
+-- the field has its value already
+abbrev pub has_field : Field → Values → Bool
+has_field field.B v = is_some v.system.b
+has_field field.A v = is_some v.system.a
+has_field field.BSize v = is_some v.system.b_size
+has_field field.ASize v = is_some v.system.a_size
+has_field field.SampleTime v = is_some v.system.sample_time
+has_field field.IntBits v = is_some v.implementation.int_bits
+has_field field.FracBits v = is_some v.implementation.frac_bits
+has_field field.Max v = is_some v.implementation.max
+has_field field.Min v = is_some v.implementation.min
+has_field field.Delta v = is_some v.implementation.delta
+
+abbrev pub has_setting : Setting → Values → Bool
+has_setting setting.Clock v = is_some v.hardware.clock
+has_setting setting.CostSample v = is_some v.hardware.sample
+has_setting setting.CostMul v = is_some v.hardware.mul
+has_setting setting.CostAdd v = is_some v.hardware.add
+has_setting setting.CostRound v = is_some v.hardware.round
+has_setting setting.CostFit v = is_some v.hardware.fit
+has_setting setting.CostMoves v = is_some v.hardware.moves
+
+-- the table of fields: what each field's value is, and where it goes
+abbrev pub system_field : Field → List ℕ → Entry → SystemFields → Result SystemFields FileRefusal
+system_field field.B bytes e s = coefficients_of bytes e.place e.numbers >>= λ xs. Ok (record s { b = Some xs })
+system_field field.A bytes e s = coefficients_of bytes e.place e.numbers >>= λ xs. Ok (record s { a = Some xs })
+system_field field.BSize bytes e s = only_of e.place e.numbers >>= λ t. whole_at bytes t >>= λ w. Ok (record s { b_size = Some w })
+system_field field.ASize bytes e s = only_of e.place e.numbers >>= λ t. whole_at bytes t >>= λ w. Ok (record s { a_size = Some w })
+system_field field.SampleTime bytes e s = only_of e.place e.numbers >>= λ t. time_at bytes t >>= λ q. Ok (record s { sample_time = Some q })
+system_field f bytes e s = Ok s
+
+abbrev pub implementation_field : Field → List ℕ → Entry → ImplementationFields → Result ImplementationFields FileRefusal
+implementation_field field.IntBits bytes e i = only_of e.place e.numbers >>= λ t. whole_at bytes t >>= λ w. Ok (record i { int_bits = Some w })
+implementation_field field.FracBits bytes e i = only_of e.place e.numbers >>= λ t. whole_at bytes t >>= λ w. Ok (record i { frac_bits = Some w })
+implementation_field field.Max bytes e i = only_of e.place e.numbers >>= λ t. decimal_at bytes t >>= λ c. Ok (record i { max = Some c.value })
+implementation_field field.Min bytes e i = only_of e.place e.numbers >>= λ t. decimal_at bytes t >>= λ c. Ok (record i { min = Some c.value })
+implementation_field field.Delta bytes e i = only_of e.place e.numbers >>= λ t. decimal_at bytes t >>= λ c. Ok (record i { delta = Some c.value })
+implementation_field f bytes e i = Ok i
+
+abbrev pub is_cost : Setting → Bool
+is_cost setting.Clock = false
+is_cost s = true
+
+-- a clock is 1 to 10^12, a cost 0 to 10000
+abbrev pub setting_value : Setting → List ℕ → Entry → Result ℕ FileRefusal
+setting_value setting.Clock bytes e = only_of e.place e.numbers >>= λ t. bounded_at 1 1000000000000 bytes t
+setting_value s bytes e = only_of e.place e.numbers >>= λ t. bounded_at 0 10000 bytes t
+
+abbrev pub with_setting : Setting → ℕ → HardwareFields → HardwareFields
+with_setting setting.Clock n h = record h { clock = Some n }
+with_setting setting.CostSample n h = record h { sample = Some n }
+with_setting setting.CostMul n h = record h { mul = Some n }
+with_setting setting.CostAdd n h = record h { add = Some n }
+with_setting setting.CostRound n h = record h { round = Some n }
+with_setting setting.CostFit n h = record h { fit = Some n }
+with_setting setting.CostMoves n h = record h { moves = Some n }
+
+abbrev pub hardware_field : Setting → List ℕ → Entry → HardwareFields → Result HardwareFields FileRefusal
+hardware_field s bytes e h = setting_value s bytes e >>= λ n. Ok (with_setting s n h)
+
+-- a field that stands a second time is refused at its dot, before its value is looked at
+abbrev pub once : {A : Type 0} → Bool → ℕ → Result A FileRefusal → Result A FileRefusal
+once true dot r = Err (refusal.FieldTwice dot)
+once false dot r = r
+
+abbrev pub field_read : Field → List ℕ → Entry → Values → Result Values FileRefusal
+field_read f bytes e v = once (has_field f v) e.dot (
+    system_field f bytes e v.system >>= λ s. implementation_field f bytes e v.implementation >>= λ i. Ok (record v { system = s; implementation = i }))
+
+abbrev pub setting_read : Setting → List ℕ → Entry → Values → Result Values FileRefusal
+setting_read s bytes e v = once (has_setting s v) e.dot (hardware_field s bytes e v.hardware >>= λ h. Ok (record v { hardware = h }))
+
+abbrev pub entry_read : Label → List ℕ → Entry → Values → Result Values FileRefusal
+entry_read (label.Field f) bytes e v = field_read f bytes e v
+entry_read (label.Setting s) bytes e v = setting_read s bytes e v
+entry_read label.Passed bytes e v = passed_over bytes e.numbers >>= λ u. Ok v
+
+-- the values of all fields, behind those that were read, or the first fault
+abbrev pub values_from : List ℕ → List Entry → Values → Result Values FileRefusal
+values_from bytes [] v = Ok v
+values_from bytes (e ∷ es) v = entry_read e.label bytes e v >>= λ w. values_from bytes es w
+
+abbrev pub values_of : List ℕ → List Entry → Result Values FileRefusal
+values_of bytes es = values_from bytes es no_values

@@ -1,0 +1,276 @@
+// The fields of a file and their values.
+ghost use Rattle.std.specs.Prelude.{◌≡◌, true};
+ghost use Rattle.dsv_token.specs.declared.refusal.FileRefusal.TheVariants.{FieldTwice};
+ghost use Rattle.dsv_reader.specs.Numbers.{only_of, coefficients_of};
+ghost use Rattle.dsv_reader.specs.Fields.{no_values, has_field, has_setting, system_field, implementation_field, is_cost, setting_value, with_setting, hardware_field, field_read, setting_read, entry_read, values_of};
+
+use crate::lists::Coefficients;
+use crate::numbers::{
+    Whole, bounded_at, coefficients_of, decimal_at, only_of, passed_over, time_at, whole_at,
+};
+use crate::settings::{Clock, Cost, SampleTime};
+use dsv_fraction::Frac;
+use dsv_syntax::{Entry, Label};
+use dsv_token::{Field, FileRefusal, Setting, Token};
+
+const GREATEST_CLOCK: u64 = 1_000_000_000_000;
+
+const GREATEST_COST: u64 = 10_000;
+
+/// The fields of the block `digital_system` that have stood.
+#[derive(Drop)]
+pub(crate) struct SystemFields {
+    pub(crate) b: Option<Coefficients>,
+    pub(crate) a: Option<Coefficients>,
+    pub(crate) b_size: Option<Whole>,
+    pub(crate) a_size: Option<Whole>,
+    pub(crate) sample_time: Option<SampleTime>,
+}
+
+/// The fields of the block `implementation` that have stood.
+#[derive(Drop)]
+pub(crate) struct ImplementationFields {
+    pub(crate) int_bits: Option<Whole>,
+    pub(crate) frac_bits: Option<Whole>,
+    pub(crate) max: Option<Frac>,
+    pub(crate) min: Option<Frac>,
+    pub(crate) delta: Option<Frac>,
+}
+
+/// The fields of the block `hardware` that are read and have stood.
+#[derive(Drop)]
+pub(crate) struct HardwareFields {
+    pub(crate) clock: Option<Clock>,
+    pub(crate) sample: Option<Cost>,
+    pub(crate) mul: Option<Cost>,
+    pub(crate) add: Option<Cost>,
+    pub(crate) round: Option<Cost>,
+    pub(crate) fit: Option<Cost>,
+    pub(crate) moves: Option<Cost>,
+}
+
+/// The values of the fields that have stood.
+#[derive(Drop)]
+pub(crate) struct Values {
+    pub(crate) system: SystemFields,
+    pub(crate) implementation: ImplementationFields,
+    pub(crate) hardware: HardwareFields,
+}
+
+impl SystemFields {
+    /// Puts in the value of a field of this block.
+    fn read(mut self, field: Field, bytes: &[u8], entry: &Entry) -> Result<Self, FileRefusal>
+        ensures { result ≡ system_field field bytes.now entry.now self }
+    {
+        match field {
+            Field::B => self.b = Some(list_of(bytes, entry)?),
+            Field::A => self.a = Some(list_of(bytes, entry)?),
+            Field::BSize => self.b_size = Some(whole_at(bytes, number_of(entry)?)?),
+            Field::ASize => self.a_size = Some(whole_at(bytes, number_of(entry)?)?),
+            Field::SampleTime => {
+                self.sample_time = Some(SampleTime::new(time_at(bytes, number_of(entry)?)?));
+            }
+            _ => (),
+        }
+        Ok(self)
+    }
+}
+
+impl ImplementationFields {
+    /// Puts in the value of a field of this block.
+    fn read(mut self, field: Field, bytes: &[u8], entry: &Entry) -> Result<Self, FileRefusal>
+        ensures { result ≡ implementation_field field bytes.now entry.now self }
+    {
+        match field {
+            Field::IntBits => self.int_bits = Some(whole_at(bytes, number_of(entry)?)?),
+            Field::FracBits => self.frac_bits = Some(whole_at(bytes, number_of(entry)?)?),
+            Field::Max => self.max = Some(decimal_at(bytes, number_of(entry)?)?.value),
+            Field::Min => self.min = Some(decimal_at(bytes, number_of(entry)?)?.value),
+            Field::Delta => self.delta = Some(decimal_at(bytes, number_of(entry)?)?.value),
+            _ => (),
+        }
+        Ok(self)
+    }
+}
+
+impl HardwareFields {
+    /// Puts in the value of a field of this block.
+    fn read(self, setting: Setting, bytes: &[u8], entry: &Entry) -> Result<Self, FileRefusal>
+        ensures { result ≡ hardware_field setting bytes.now entry.now self }
+    {
+        if setting == Setting::Clock {
+            let value = bounded_at(1, GREATEST_CLOCK, bytes, number_of(entry)?)?;
+            return Ok(HardwareFields {
+                clock: Some(Clock::new(value)),
+                ..self
+            });
+        }
+        let value = bounded_at(0, GREATEST_COST, bytes, number_of(entry)?)?;
+        Ok(self.with_cost(setting, Cost::new(value as u32)))
+    }
+
+    fn with_cost(mut self, setting: Setting, cost: Cost) -> Self
+        requires { is_cost setting ≡ true }
+        ensures { result ≡ with_setting setting cost self }
+    {
+        let cost = Some(cost);
+        match setting {
+            Setting::Clock => unreachable!(),
+            Setting::CostSample => self.sample = cost,
+            Setting::CostMul => self.mul = cost,
+            Setting::CostAdd => self.add = cost,
+            Setting::CostRound => self.round = cost,
+            Setting::CostFit => self.fit = cost,
+            Setting::CostMoves => self.moves = cost,
+        }
+        self
+    }
+}
+
+/// The numbers of a field whose value is a list.
+fn list_of(bytes: &[u8], entry: &Entry) -> Result<Coefficients, FileRefusal>
+    ensures { result ≡ coefficients_of bytes.now entry.now.place entry.now.numbers }
+{
+    coefficients_of(bytes, entry.place, entry.numbers.as_slice())
+}
+
+/// The number of a field that wants one.
+fn number_of(entry: &Entry) -> Result<Token, FileRefusal>
+    ensures { result ≡ only_of entry.now.place entry.now.numbers }
+{
+    only_of(entry.place, entry.numbers.as_slice())
+}
+
+impl Values {
+    /// No field has stood.
+    pub(crate) fn none() -> Self
+        ensures { result ≡ no_values }
+    {
+        Values {
+            system: SystemFields {
+                b: None,
+                a: None,
+                b_size: None,
+                a_size: None,
+                sample_time: None,
+            },
+            implementation: ImplementationFields {
+                int_bits: None,
+                frac_bits: None,
+                max: None,
+                min: None,
+                delta: None,
+            },
+            hardware: HardwareFields {
+                clock: None,
+                sample: None,
+                mul: None,
+                add: None,
+                round: None,
+                fit: None,
+                moves: None,
+            },
+        }
+    }
+
+    fn has_field(&self, field: Field) -> bool
+        ensures { result ≡ has_field field self.now }
+    {
+        let Values {
+            system,
+            implementation,
+            hardware: _,
+        } = self;
+        match field {
+            Field::B => system.b.is_some(),
+            Field::A => system.a.is_some(),
+            Field::BSize => system.b_size.is_some(),
+            Field::ASize => system.a_size.is_some(),
+            Field::SampleTime => system.sample_time.is_some(),
+            Field::IntBits => implementation.int_bits.is_some(),
+            Field::FracBits => implementation.frac_bits.is_some(),
+            Field::Max => implementation.max.is_some(),
+            Field::Min => implementation.min.is_some(),
+            Field::Delta => implementation.delta.is_some(),
+        }
+    }
+
+    fn has_setting(&self, setting: Setting) -> bool
+        ensures { result ≡ has_setting setting self.now }
+    {
+        let hardware = &self.hardware;
+        match setting {
+            Setting::Clock => hardware.clock.is_some(),
+            Setting::CostSample => hardware.sample.is_some(),
+            Setting::CostMul => hardware.mul.is_some(),
+            Setting::CostAdd => hardware.add.is_some(),
+            Setting::CostRound => hardware.round.is_some(),
+            Setting::CostFit => hardware.fit.is_some(),
+            Setting::CostMoves => hardware.moves.is_some(),
+        }
+    }
+
+    fn read_field(self, field: Field, bytes: &[u8], entry: &Entry) -> Result<Self, FileRefusal>
+        ensures { result ≡ field_read field bytes.now entry.now self }
+    {
+        if self.has_field(field) {
+            return Err(twice(entry));
+        }
+        let system = self.system.read(field, bytes, entry)?;
+        let implementation = self.implementation.read(field, bytes, entry)?;
+        Ok(Values {
+            system,
+            implementation,
+            hardware: self.hardware,
+        })
+    }
+
+    fn read_setting(self, setting: Setting, bytes: &[u8], entry: &Entry) -> Result<Self, FileRefusal>
+        ensures { result ≡ setting_read setting bytes.now entry.now self }
+    {
+        if self.has_setting(setting) {
+            return Err(twice(entry));
+        }
+        let hardware = self.hardware.read(setting, bytes, entry)?;
+        Ok(Values {
+            system: self.system,
+            implementation: self.implementation,
+            hardware,
+        })
+    }
+
+    fn read(self, bytes: &[u8], entry: &Entry) -> Result<Self, FileRefusal>
+        ensures { result ≡ entry_read entry.now.label bytes.now entry.now self }
+    {
+        match entry.label {
+            Label::Field(field) => self.read_field(field, bytes, entry),
+            Label::Setting(setting) => self.read_setting(setting, bytes, entry),
+            Label::Passed => match passed_over(bytes, entry.numbers.as_slice()) {
+                Ok(()) => Ok(self),
+                Err(refusal) => Err(refusal),
+            },
+        }
+    }
+}
+
+fn twice(entry: &Entry) -> FileRefusal
+    ensures { result ≡ FieldTwice entry.now.dot }
+{
+    FileRefusal::FieldTwice {
+        at: entry.dot as u64,
+    }
+}
+
+/// The values of all fields of a file, or the first fault in them.
+pub(crate) fn values_of(bytes: &[u8], entries: &[Entry]) -> Result<Values, FileRefusal>
+    ensures { result ≡ values_of bytes.now entries.now }
+{
+    let mut values = Values::none();
+    for entry in entries {
+        values = match values.read(bytes, entry) {
+            Ok(values) => values,
+            Err(refusal) => return Err(refusal),
+        };
+    }
+    Ok(values)
+}
