@@ -1,1 +1,4 @@
+pub mod Lexing
 pub mod Memory
+pub mod Names
+pub mod Text
