@@ -10,15 +10,9 @@ use dsv_fraction::number::{has_byte, is_digit, number_len};
 #[derive(Clone, Copy)]
 pub enum Piece {
     /// Blanks, a comment or a `#` line. Behind it the line is fresh where nothing but blanks stood on it.
-    Gap {
-        len: usize,
-        fresh: bool,
-    },
+    Gap { len: usize, fresh: bool },
     /// A token.
-    Found {
-        kind: Kind,
-        len: usize,
-    },
+    Found { kind: Kind, len: usize },
     /// No token.
     Bad,
 }

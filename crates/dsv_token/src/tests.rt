@@ -32,7 +32,10 @@ fn bytes_are_text(rt: HostRuntime) {
         (b"ab\xe2\x82".as_slice(), 2),
         (b"\xc3\xa9\xed\xa0\x80".as_slice(), 2),
     ] {
-        assert!(rt; check_text(bytes) == Err(FileRefusal::Utf8 { at }), "from {at}");
+        assert!(rt;
+            check_text(bytes) == Err(FileRefusal::Utf8 { at }),
+            "from {at}"
+        );
     }
     assert!(rt; check_text(b"\xe2\x82\xac").is_ok());
     assert!(rt; check_text(b"").is_ok());

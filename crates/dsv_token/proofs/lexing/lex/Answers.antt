@@ -1,4 +1,4 @@
-use Rattle.std.proofs.Common.{◌∙◌, ◌≤◌, ◌+◌, arith, length, length-drop}
+use Rattle.std.proofs.Common.{◌∙◌, ◌+◌, arith, length-drop}
 use Rattle.dsv_token.proofs.Places.{in_order_later, in_order_push}
 use Rattle.dsv_token.proofs.Skips.{gap_step, found_step}
 use Rattle.dsv_token.proofs.lexing.lex.Goals as goal

@@ -6,7 +6,7 @@ abbrev pub invariant-pieces : goal.invariant-pieces
 invariant-pieces l = record {
   within : l.at ≤ length l.text;
   lexed : lexed (drop l.at l.text) l.at 0 l.fresh l.tokens ≡ tokens_of l.text;
-  placed : AreInOrder 0 l.at l.tokens
+  placed : AreInOrder 0 l.at l.tokens;
 }
 
 abbrev pub decreases-pieces : goal.decreases-pieces
