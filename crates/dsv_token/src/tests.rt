@@ -98,3 +98,33 @@ fn the_sample_has_107_tokens(rt: HostRuntime) -> Result<(), Fail> {
     assert_eq!(rt; tokens.as_slice().len(), 107);
     Ok(())
 }
+
+#[test]
+fn names_and_their_words(rt: HostRuntime) {
+    for (name, word) in [
+        ("digital_system", Word::Block(Block::System)),
+        ("implementation", Word::Block(Block::Implementation)),
+        ("hardware", Word::Block(Block::Hardware)),
+        ("b", Word::Field(Field::B)),
+        ("a", Word::Field(Field::A)),
+        ("b_size", Word::Field(Field::BSize)),
+        ("a_size", Word::Field(Field::ASize)),
+        ("sample_time", Word::Field(Field::SampleTime)),
+        ("int_bits", Word::Field(Field::IntBits)),
+        ("frac_bits", Word::Field(Field::FracBits)),
+        ("max", Word::Field(Field::Max)),
+        ("min", Word::Field(Field::Min)),
+        ("delta", Word::Field(Field::Delta)),
+        ("clock", Word::Setting(Setting::Clock)),
+        ("cost_sample", Word::Setting(Setting::CostSample)),
+        ("cost_mul", Word::Setting(Setting::CostMul)),
+        ("cost_add", Word::Setting(Setting::CostAdd)),
+        ("cost_round", Word::Setting(Setting::CostRound)),
+        ("cost_fit", Word::Setting(Setting::CostFit)),
+        ("cost_moves", Word::Setting(Setting::CostMoves)),
+        ("Delta", Word::Other),
+        ("b_", Word::Other),
+    ] {
+        assert!(rt; words::word_of(name.as_bytes()) == word, "{name}");
+    }
+}
