@@ -1,5 +1,5 @@
 -- A text as tokens. Between them stand blanks, comments and lines that begin with `#`.
-use Rattle.std.specs.Prelude.{ℕ, zero, suc, ◌+◌, ◌-◌, ◌≤◌, Bool, true, false, ◌&&◌, ◌||◌, ◌==◌, nat_le, if◌then◌else◌, List, [], ◌∷◌, ◌++◌, take, drop, Option, Some, None, Result, Ok, Err}
+use Rattle.std.specs.Prelude.{ℕ, zero, suc, ◌+◌, ◌-◌, ◌≤◌, Bool, true, false, not, ◌&&◌, ◌||◌, ◌==◌, nat_le, if◌then◌else◌, List, [], ◌∷◌, ◌++◌, take, drop, Option, Some, None, Result, Ok, Err}
 use Rattle.dsv_fraction.specs.Number.{is_digit, has_byte, number_len}
 use Rattle.dsv_token.specs.Names.{word_of}
 use Rattle.dsv_token.specs.declared.refusal.FileRefusal.{FileRefusal}
@@ -23,6 +23,10 @@ is_letter b = b == 95 || nat_le 97 b && nat_le b 122 || nat_le 65 b && nat_le b 
 abbrev pub is_name_byte : ℕ → Bool
 is_name_byte b = is_letter b || is_digit b
 
+-- any but a line feed
+abbrev pub in_line : ℕ → Bool
+in_line b = not (b == 10)
+
 -- one of `{ } = , ;`
 abbrev pub mark_of : ℕ → Option Kind
 mark_of b =
@@ -34,15 +38,18 @@ mark_of b =
 
 -- ---- lengths, each from the front of a text
 
+-- of bytes of a class
+abbrev pub run_len : (ℕ → Bool) → List ℕ → ℕ
+run_len class [] = 0
+run_len class (b ∷ bs) = elim (class b) [ true ↦ suc (run_len class bs) | false ↦ 0 ]
+
 -- of a line without its line feed
 abbrev pub line_len : List ℕ → ℕ
-line_len [] = 0
-line_len (b ∷ bs) = elim (b == 10) [ true ↦ 0 | false ↦ suc (line_len bs) ]
+line_len text = run_len in_line text
 
 -- of letters, digits and `_`
 abbrev pub name_len : List ℕ → ℕ
-name_len [] = 0
-name_len (b ∷ bs) = elim (is_name_byte b) [ true ↦ suc (name_len bs) | false ↦ 0 ]
+name_len text = run_len is_name_byte text
 
 -- of a comment to the end of its `*/`: so many bytes stand before the text, the last of them a star or not
 abbrev pub close_len : ℕ → Bool → List ℕ → Option ℕ
