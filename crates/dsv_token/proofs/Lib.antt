@@ -5,3 +5,4 @@ pub mod Skips
 pub mod Places
 pub mod PieceLaws
 pub mod FrontLaws
+pub mod CutLaws

@@ -14,7 +14,7 @@ skip (b ∷ bs) at (suc n) fresh out =
     let e : at + 1 + n ≡ at + suc n = omega arith in
     rw (← e) (skip bs (at + 1) n fresh out)
 
-front_gap : (rest : List ℕ) (at len : ℕ) (fresh next : Bool) (out : List Token) → 0 < length rest → 1 ≤ len → piece_of fresh rest ≡ piece.Gap len next →
+pub front_gap : (rest : List ℕ) (at len : ℕ) (fresh next : Bool) (out : List Token) → 0 < length rest → 1 ≤ len → piece_of fresh rest ≡ piece.Gap len next →
     lexed (drop len rest) (at + len) 0 next out ≡ lexed rest at 0 fresh out
 front_gap [] at len fresh next out p q e = absurd (omega arith)
 front_gap (b ∷ bs) at zero fresh next out p q e = absurd (omega arith)
@@ -23,7 +23,7 @@ front_gap (b ∷ bs) at (suc n) fresh next out p q e =
     let m : suc n - 1 ≡ n = omega arith in
     rw (← k) (sym (skip bs (at + 1) n next out)) ∙ ap (λ t. lexed bs (at + 1) t next out) (sym m) ∙ sym (ap (by_piece at out (λ n f o. lexed bs (at + 1) (n - 1) f o)) e)
 
-front_found : (rest : List ℕ) (at len : ℕ) (fresh : Bool) (kind : Kind) (out : List Token) → 0 < length rest → 1 ≤ len → piece_of fresh rest ≡ piece.Found kind len →
+pub front_found : (rest : List ℕ) (at len : ℕ) (fresh : Bool) (kind : Kind) (out : List Token) → 0 < length rest → 1 ≤ len → piece_of fresh rest ≡ piece.Found kind len →
     lexed (drop len rest) (at + len) 0 false (out ++ record { kind = kind; at = at; len = len } ∷ []) ≡ lexed rest at 0 fresh out
 front_found [] at len fresh kind out p q e = absurd (omega arith)
 front_found (b ∷ bs) at zero fresh kind out p q e = absurd (omega arith)
