@@ -1,5 +1,5 @@
 -- A text's tokens are those of its one cut into gaps and tokens.
-use Rattle.std.proofs.Common.{◌≡◌, ℕ, zero, suc, ◌+◌, ◌-◌, ◌<◌, ◌≤◌, Bool, true, false, List, [], ◌∷◌, ◌++◌, length, drop, refl, sym, ap, ◌∙◌, subst, inl, inr, arith, append_assoc, append-nil, length-append}
+use Rattle.std.proofs.Common.{◌≡◌, ℕ, zero, suc, ◌+◌, ◌-◌, ◌≤◌, Bool, true, false, List, [], ◌∷◌, ◌++◌, length, drop, refl, sym, ap, ◌∙◌, subst, inl, inr, arith, append_assoc, append-nil, length-append}
 use Rattle.std.proofs.Math.Seq.{drop-append_seam}
 use Rattle.std.specs.Prelude.{Result, Ok, Err, ◌⊎◌, ◌↔◌}
 use Rattle.dsv_token.specs.declared.refusal.FileRefusal.{FileRefusal}
@@ -12,7 +12,7 @@ use Rattle.dsv_token.specs.Lexing.{piece_of, by_piece, lexed, tokens_of}
 use Rattle.dsv_token.specs.Pieces.{IsGap, IsToken, IsCut, IsStuck, StopsAt}
 use Rattle.dsv_token.proofs.Skips.{front_gap, front_found}
 use Rattle.dsv_token.proofs.PieceLaws.{gap_again, token_again}
-use Rattle.dsv_token.proofs.FrontLaws.{FrontGap, FrontToken, Stands, front_stands}
+use Rattle.dsv_token.proofs.FrontLaws.{Stands, front_stands}
 
 -- ---- what is cut is read
 
@@ -34,7 +34,7 @@ behind_gap fresh next at gap rest out g =
     let some : 1 ≤ length gap = gap_some fresh next gap rest g in
     let n : length (gap ++ rest) ≡ length gap + length rest = length-append gap rest in
     sym (front_gap (gap ++ rest) at (length gap) fresh next out (omega (arith, some, n)) some (gap_again fresh next gap rest g))
-      ∙ ap (λ t. lexed t (at + length gap) 0 next out) (drop-append_seam gap rest)
+    ∙ ap (λ t. lexed t (at + length gap) 0 next out) (drop-append_seam gap rest)
 
 behind_token : (fresh : Bool) (at : ℕ) (k : Kind) (token rest : List ℕ) (out : List Token) → IsToken k token rest →
     lexed (token ++ rest) at 0 fresh out ≡ lexed rest (at + length token) 0 false (out ++ record { kind = k; at = at; len = length token } ∷ [])
@@ -43,7 +43,7 @@ behind_token fresh at k token rest out g =
     let n : length (token ++ rest) ≡ length token + length rest = length-append token rest in
     let new : List Token = out ++ record { kind = k; at = at; len = length token } ∷ [] in
     sym (front_found (token ++ rest) at (length token) fresh k out (omega (arith, some, n)) some (token_again fresh k token rest g))
-      ∙ ap (λ t. lexed t (at + length token) 0 false new) (drop-append_seam token rest)
+    ∙ ap (λ t. lexed t (at + length token) 0 false new) (drop-append_seam token rest)
 
 pub cut_again : (fresh : Bool) (at : ℕ) (text : List ℕ) (ts : List Token) → IsCut fresh at text ts → (out : List Token) → lexed text at 0 fresh out ≡ Ok (out ++ ts)
 cut_again fresh at text ts (IsCut.none f a) out = rw (append-nil out) refl
@@ -114,7 +114,7 @@ said_piece fresh at b bs out next said (piece.Gap len fresh_next) s e =
     let behind : drop (len - 1) bs ≡ s.rest = rest_behind b bs s.gap s.rest len s.split s.count s.some_byte in
     let here : Said fresh_next (at + 1 + (len - 1)) (drop (len - 1) bs) out r = said len fresh_next out in
     let there : Said fresh_next (at + length s.gap) s.rest out r =
-        subst (λ n. Said fresh_next n s.rest out r) place (subst (λ t. Said fresh_next (at + 1 + (len - 1)) t out r) behind here) in
+    subst (λ n. Said fresh_next n s.rest out r) place (subst (λ t. Said fresh_next (at + 1 + (len - 1)) t out r) behind here) in
     subst (λ t. Said fresh at t out r) (sym s.split) (said_gap fresh fresh_next at s.gap s.rest out r s.is_gap there)
 said_piece fresh at b bs out next said (piece.Found k len) s e =
     let new : ℕ → List Token = λ n. out ++ record { kind = k; at = at; len = n } ∷ [] in
@@ -125,8 +125,8 @@ said_piece fresh at b bs out next said (piece.Found k len) s e =
     let behind : drop (len - 1) bs ≡ s.rest = rest_behind b bs s.token s.rest len s.split s.count s.some_byte in
     let here : Said false (at + 1 + (len - 1)) (drop (len - 1) bs) (new len) r = said len false (new len) in
     let there : Said false (at + length s.token) s.rest (new (length s.token)) r =
-        subst (λ n. Said false (at + length s.token) s.rest (new n) r) s.count
-          (subst (λ n. Said false n s.rest (new len) r) place (subst (λ t. Said false (at + 1 + (len - 1)) t (new len) r) behind here)) in
+    subst (λ n. Said false (at + length s.token) s.rest (new n) r) s.count
+    (subst (λ n. Said false n s.rest (new len) r) place (subst (λ t. Said false (at + 1 + (len - 1)) t (new len) r) behind here)) in
     subst (λ t. Said fresh at t out r) (sym s.split) (said_token fresh at k s.token s.rest out r s.is_token there)
 said_piece fresh at b bs out next said piece.Bad s e = (at, refl, StopsAt.here fresh at (b ∷ bs) (stuck_at fresh b bs e))
 
@@ -139,7 +139,7 @@ said (b ∷ bs) at (suc n) fresh out =
 said (b ∷ bs) at zero fresh out =
     let e : at ≡ at + 0 = omega arith in
     subst (λ k. Said fresh k (b ∷ bs) out (lexed (b ∷ bs) at 0 fresh out)) e
-      (said_piece fresh at b bs out (λ n f o. lexed bs (at + 1) (n - 1) f o) (λ n f o. said bs (at + 1) (n - 1) f o) (piece_of fresh (b ∷ bs)) (front_stands fresh b bs) refl)
+    (said_piece fresh at b bs out (λ n f o. lexed bs (at + 1) (n - 1) f o) (λ n f o. said bs (at + 1) (n - 1) f o) (piece_of fresh (b ∷ bs)) (front_stands fresh b bs) refl)
 
 -- ---- the law
 

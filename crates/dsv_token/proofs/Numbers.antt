@@ -1,16 +1,12 @@
 -- The bytes that a number begins with, and how many it has.
-use Rattle.std.proofs.Common.{◌≡◌, ℕ, suc, ◌+◌, ◌-◌, ◌<◌, ◌≤◌, Bool, true, false, not, ◌&&◌, ◌||◌, ◌==◌, nat_le, cond, inl, inr, List, [], ◌∷◌, length, drop, refl, sym, ap, ◌∙◌, subst, arith, length-drop}
+use Rattle.std.proofs.Common.{◌≡◌, ℕ, suc, ◌+◌, ◌-◌, ◌<◌, ◌≤◌, Bool, true, false, not, ◌&&◌, ◌||◌, ◌==◌, nat_le, cond, inl, inr, List, [], ◌∷◌, length, drop, refl, ap, ◌∙◌, arith, length-drop}
 use Rattle.std.proofs.lemmas.Bool.{cond_both, cases_Bool, both_ways, and_parts, or_cases, ne_eqb, eqb-true, leb-true}
-use Rattle.dsv_fraction.specs.Number.{is_digit, has_byte, digits_len, sign_len, point_len, suffix_len, whole_len, has_mark, exponent_len, number_len}
+use Rattle.dsv_fraction.specs.Number.{is_digit, digits_len, sign_len, point_len, suffix_len, whole_len, has_mark, exponent_len, number_len}
 use Rattle.dsv_token.specs.Lexing.{is_letter}
 use Rattle.dsv_token.specs.Pieces.{BeginsOther}
 use Rattle.dsv_token.proofs.Runs.{either}
 
 -- ---- no part is longer than its text
-
-mark_within : (byte : ℕ) (text : List ℕ) → has_byte byte text ≡ true → 1 ≤ length text
-mark_within byte [] h = absurd (cc)
-mark_within byte (b ∷ bs) h = omega arith
 
 digits_within : (text : List ℕ) → digits_len text ≤ length text
 digits_within [] = omega arith
@@ -142,10 +138,12 @@ letter_or_digit b h d =
     let low : 48 ≤ b = leb-true 48 b p.0 in
     let high : b ≤ 57 = leb-true b 57 p.1 in
     elim (or_cases (b == 95 || nat_le 97 b && nat_le b 122) (nat_le 65 b && nat_le b 90) h) [
-        inl l ↦ elim (or_cases (b == 95) (nat_le 97 b && nat_le b 122) l) [
-            inl e ↦ let f : b ≡ 95 = eqb-true b 95 e in omega (arith, f, high)
-          | inr e ↦ let f : 97 ≤ b = leb-true 97 b (and_parts (nat_le 97 b) (nat_le b 122) e).0 in omega (arith, f, high) ]
-      | inr r ↦ let f : 65 ≤ b = leb-true 65 b (and_parts (nat_le 65 b) (nat_le b 90) r).0 in omega (arith, f, high) ]
+      | inl l ↦ elim (or_cases (b == 95) (nat_le 97 b && nat_le b 122) l) [
+        | inl e ↦ let f : b ≡ 95 = eqb-true b 95 e in omega (arith, f, high)
+        | inr e ↦ let f : 97 ≤ b = leb-true 97 b (and_parts (nat_le 97 b) (nat_le b 122) e).0 in omega (arith, f, high)
+      ]
+      | inr r ↦ let f : 65 ≤ b = leb-true 65 b (and_parts (nat_le 65 b) (nat_le b 90) r).0 in omega (arith, f, high)
+    ]
 
 letter_no_digit : (b : ℕ) → is_letter b ≡ true → is_digit b ≡ false
 letter_no_digit b h = elim (cases_Bool (is_digit b)) [ inl d ↦ absurd (letter_or_digit b h d) | inr d ↦ d ]

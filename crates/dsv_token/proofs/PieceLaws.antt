@@ -1,20 +1,18 @@
 -- The piece at the front is the gap or the token that stands there.
-use Rattle.std.proofs.Common.{◌≡◌, ℕ, suc, ◌+◌, ◌<◌, ◌≤◌, Bool, true, false, ◌&&◌, ◌||◌, ◌==◌, cond, inl, inr, List, [], ◌∷◌, ◌++◌, length, take, drop, refl, sym, ap, ◌∙◌, subst, arith}
+use Rattle.std.proofs.Common.{◌≡◌, ℕ, suc, ◌+◌, ◌<◌, Bool, true, false, ◌||◌, ◌==◌, inl, inr, List, [], ◌∷◌, ◌++◌, length, take, drop, refl, ap, ◌∙◌, arith}
 use Rattle.std.proofs.Math.Seq.{drop-append_seam, take-append_seam}
-use Rattle.std.proofs.lemmas.List.{take-append-drop, length-take-le}
 use Rattle.std.proofs.lemmas.Bool.{cond_both, cases_Bool, eqb-true, ne_eqb, or_from}
 use Rattle.std.specs.Prelude.{Option, Some, None}
 use Rattle.std.specs.List.{list_all}
-use Rattle.dsv_fraction.specs.Number.{is_digit, number_len}
+use Rattle.dsv_fraction.specs.Number.{number_len}
 use Rattle.dsv_token.specs.declared.token.Kind.{Kind}
 use Rattle.dsv_token.specs.declared.token.Kind.TheVariants as kind
-use Rattle.dsv_token.specs.declared.pieces.Piece.{Piece}
 use Rattle.dsv_token.specs.declared.pieces.Piece.TheVariants as piece
 use Rattle.dsv_token.specs.Names.{word_of}
-use Rattle.dsv_token.specs.Lexing.{is_blank, is_letter, is_name_byte, in_line, mark_of, mark_or, run_len, line_len, name_len, close_len, closed, comment_of, is_joined, number_of, name_of, piece_of}
-use Rattle.dsv_token.specs.Pieces.{BeginsOther, has_close, IsGap, IsToken}
-use Rattle.dsv_token.proofs.Runs.{run_again, run_all, run_ends, run_within, close_again, Closes, closes}
-use Rattle.dsv_token.proofs.Numbers.{number_within, point_alone, point_number, apart, letter_no_number, no_start}
+use Rattle.dsv_token.specs.Lexing.{is_blank, is_letter, is_name_byte, in_line, mark_of, name_len, closed, is_joined, number_of, name_of, piece_of}
+use Rattle.dsv_token.specs.Pieces.{IsGap, IsToken}
+use Rattle.dsv_token.proofs.Runs.{run_again, close_again}
+use Rattle.dsv_token.proofs.Numbers.{point_alone, apart, letter_no_number, no_start}
 
 -- ---- what stands there is the piece
 
@@ -33,7 +31,7 @@ mark_piece : (fresh : Bool) (b : ℕ) (k : Kind) (rest : List ℕ) → mark_of b
 mark_piece fresh b k rest =
     let P : Option Kind → Type 0 = λ o. o ≡ Some k → piece_of fresh (b ∷ rest) ≡ piece.Found k 1 in
     let step : (c : ℕ) (m : Kind) → piece_of fresh (c ∷ rest) ≡ piece.Found m 1 → (b == c) ≡ true → P (Some m) =
-        λ c m s e h. let f : b ≡ c = eqb-true b c e in let g : m ≡ k = cc in rw f (s ∙ ap (λ x. piece.Found x 1) g) in
+    λ c m s e h. let f : b ≡ c = eqb-true b c e in let g : m ≡ k = cc in rw f (s ∙ ap (λ x. piece.Found x 1) g) in
     cond_both (b == 123) (Some kind.Open) _ P (step 123 kind.Open refl) (λ e.
     cond_both (b == 125) (Some kind.Close) _ P (step 125 kind.Close refl) (λ e.
     cond_both (b == 61) (Some kind.Equals) _ P (step 61 kind.Equals refl) (λ e.
@@ -77,5 +75,5 @@ token_again fresh k token rest (IsToken.dot r h) = rw (point_alone rest h) refl
 token_again fresh k token rest (IsToken.name b bs r h all p) =
     let front : list_all is_name_byte (b ∷ bs) ≡ true = rw (h, all) refl in
     name_here fresh b (bs ++ rest) h
-      ∙ name_piece (b ∷ (bs ++ rest)) (b ∷ bs) (length (b ∷ bs)) (run_again is_name_byte (b ∷ bs) rest front p) (take-append_seam (b ∷ bs) rest)
+    ∙ name_piece (b ∷ (bs ++ rest)) (b ∷ bs) (length (b ∷ bs)) (run_again is_name_byte (b ∷ bs) rest front p) (take-append_seam (b ∷ bs) rest)
 token_again fresh k token rest (IsToken.number t r some e h) = number_again fresh token rest some e h

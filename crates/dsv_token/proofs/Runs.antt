@@ -1,6 +1,6 @@
 -- Bytes of a class at the front, and comments.
-use Rattle.std.proofs.Common.{◌≡◌, ℕ, suc, ◌+◌, ◌≤◌, Bool, true, false, ◌&&◌, ◌||◌, ◌==◌, List, [], ◌∷◌, ◌++◌, length, take, drop, refl, sym, ap, ◌∙◌, arith}
-use Rattle.std.specs.Prelude.{Option, Some, None}
+use Rattle.std.proofs.Common.{◌≡◌, ℕ, suc, ◌+◌, ◌≤◌, Bool, true, false, ◌&&◌, ◌==◌, List, [], ◌∷◌, ◌++◌, length, take, drop, refl, sym, ap, ◌∙◌, arith}
+use Rattle.std.specs.Prelude.{Some}
 use Rattle.std.specs.List.{list_all}
 use Rattle.std.proofs.lemmas.Bool.{and_parts, or_parts, or_from, eqb-true}
 use Rattle.dsv_token.specs.Lexing.{run_len, close_len}
@@ -64,9 +64,9 @@ pub closes : (text : List ℕ) (before : ℕ) (star : Bool) (n : ℕ) → close_
 closes [] before star n = λ h. absurd (cc)
 closes (b ∷ bs) before star n =
     either (star && b == 47) (Some (before + 1)) (close_len (before + 1) (b == 42) bs) (λ o. o ≡ Some n → Closes before star (b ∷ bs) n)
-      (λ e h.
-        let p = and_parts star (b == 47) e in
-        let c : b ≡ 47 = eqb-true b 47 p.1 in
-        let k : before + 1 ≡ n = cc in
-        Closes.at_once bs p.0 (rw c refl) (sym k))
-      (λ e h. closes_later before n b star bs e (closes bs (before + 1) (b == 42) n h))
+    (λ e h.
+    let p = and_parts star (b == 47) e in
+    let c : b ≡ 47 = eqb-true b 47 p.1 in
+    let k : before + 1 ≡ n = cc in
+    Closes.at_once bs p.0 (rw c refl) (sym k))
+    (λ e h. closes_later before n b star bs e (closes bs (before + 1) (b == 42) n h))

@@ -11,5 +11,4 @@ pub fn one_cut()
     ensures cut { (text : List ℕ) (ts : List Token) → (tokens_of text ≡ Ok ts) ↔ IsCut true 0 text ts }
     ensures stops { (text : List ℕ) (place : ℕ) → (tokens_of text ≡ Err (refusal.Token place)) ↔ StopsAt true 0 text place }
     ensures each { (text : List ℕ) → ((ts : List Token) × IsCut true 0 text ts) ⊎ ((place : ℕ) × StopsAt true 0 text place) }
-{
-}
+{}
