@@ -1,6 +1,7 @@
 //! Reads controller files.
 #![tactic(auto)]
 
+mod blocks;
 mod controller;
 mod fields;
 mod fixed_form;

@@ -1,0 +1,131 @@
+-- What a file says, pass by pass over the whole file; the first pass that refuses gives the answer.
+use Rattle.std.specs.Prelude.{ℕ, ◌+◌, ◌-◌, Bool, true, false, not, ◌&&◌, ◌==◌, nat_lt, nat_le, max, if◌then◌else◌, List, [], ◌∷◌, ◌++◌, length, replicate, Option, Some, None, Result, Ok, Err, ℤ, pos, slice_index_or, unwrap_or}
+use Rattle.std.specs.Ordering.{int_eq}
+use Rattle.dsv_fraction.specs.Ratio.{Ratio}
+use Rattle.dsv_fraction.specs.Arithmetic.{quotient, narrowed}
+use Rattle.dsv_fraction.specs.declared.fraction.TooWide.{TooWide}
+use Rattle.dsv_word.specs.declared.format.TheConstants.{GREATEST_WIDTH}
+use Rattle.dsv_token.specs.Lexing.{tokens_of}
+use Rattle.dsv_token.specs.Text.{text_of}
+use Rattle.dsv_token.specs.declared.refusal.FileRefusal.{FileRefusal}
+use Rattle.dsv_token.specs.declared.refusal.FileRefusal.TheVariants as refusal
+use Rattle.dsv_token.specs.declared.refusal.Field.{Field}
+use Rattle.dsv_token.specs.declared.refusal.Field.TheVariants as field
+use Rattle.dsv_syntax.specs.Steps.{◌>>=◌}
+use Rattle.dsv_syntax.specs.Parsing.{parsed}
+use Rattle.dsv_syntax.specs.declared.parsing.Syntax.{Syntax}
+use Rattle.dsv_reader.specs.declared.controller.Costs.{Costs}
+use Rattle.dsv_reader.specs.declared.numbers.Whole.{Whole}
+use Rattle.dsv_reader.specs.declared.numbers.Coefficient.{Coefficient}
+use Rattle.dsv_reader.specs.declared.fields.SystemFields.{SystemFields}
+use Rattle.dsv_reader.specs.declared.fields.ImplementationFields.{ImplementationFields}
+use Rattle.dsv_reader.specs.declared.fields.HardwareFields.{HardwareFields}
+use Rattle.dsv_reader.specs.declared.fields.Values.{Values}
+use Rattle.dsv_reader.specs.declared.blocks.System.{System}
+use Rattle.dsv_reader.specs.declared.blocks.Implementation.{Implementation}
+use Rattle.dsv_reader.specs.declared.blocks.Blocks.{Blocks}
+use Rattle.dsv_reader.specs.Controllers.{Design, zero, one}
+use Rattle.dsv_reader.specs.Fields.{values_of}
+
+-- ---- fields that are missing
+-- the field's value, or a refusal at the closing brace of its block
+abbrev pub wanted : {A : Type 0} → ℕ → Field → Option A → Result A FileRefusal
+wanted close f (Some x) = Ok x
+wanted close f None = Err (refusal.FieldMissing close f)
+
+abbrev pub system_of : ℕ → SystemFields → Result System FileRefusal
+system_of close s =
+    wanted close field.B s.b >>= λ b.
+    wanted close field.A s.a >>= λ a.
+    wanted close field.BSize s.b_size >>= λ b_size.
+    wanted close field.ASize s.a_size >>= λ a_size.
+    Ok (record { b = b; a = a; b_size = b_size; a_size = a_size; sample_time = s.sample_time })
+
+abbrev pub implementation_of : ℕ → ImplementationFields → Result Implementation FileRefusal
+implementation_of close i =
+    wanted close field.IntBits i.int_bits >>= λ int_bits.
+    wanted close field.FracBits i.frac_bits >>= λ frac_bits.
+    wanted close field.Max i.max >>= λ max.
+    wanted close field.Min i.min >>= λ min.
+    Ok (record { int_bits = int_bits; frac_bits = frac_bits; max = max; min = min; delta = i.delta })
+
+-- the block that is closed first is tested first
+abbrev pub blocks_in_order : Bool → Syntax → Values → Result Blocks FileRefusal
+blocks_in_order true x v = system_of x.system v.system >>= λ s. implementation_of x.implementation v.implementation >>= λ i.
+    Ok (record { system = s; implementation = i; hardware = v.hardware })
+blocks_in_order false x v = implementation_of x.implementation v.implementation >>= λ i. system_of x.system v.system >>= λ s.
+    Ok (record { system = s; implementation = i; hardware = v.hardware })
+
+abbrev pub blocks_of : Syntax → Values → Result Blocks FileRefusal
+blocks_of x v = blocks_in_order (nat_lt x.system x.implementation) x v
+
+-- ---- tests over the whole
+-- a size is its list's length
+abbrev pub sized : Whole → List Coefficient → Result (Unit {0}) FileRefusal
+sized w xs = if w.value == length xs then Ok tt else Err (refusal.SizeMismatch w.at)
+
+abbrev pub no_coefficient : Coefficient
+no_coefficient = record { value = zero; at = 0 }
+
+-- the leading coefficient, which isn't 0
+abbrev pub leading : List Coefficient → Result Ratio FileRefusal
+leading xs = let c = slice_index_or xs 0 no_coefficient in if int_eq c.value.num (pos 0) then Err (refusal.LeadingZero c.at) else Ok c.value
+
+abbrev pub by_quotient : ℕ → Result Ratio TooWide → Result Ratio FileRefusal
+by_quotient at (Ok q) = Ok q
+by_quotient at (Err e) = Err (refusal.FractionWide at)
+
+-- the coefficients divided by the leading one, behind those that are
+abbrev pub divided_from : Ratio → List Coefficient → List Ratio → Result (List Ratio) FileRefusal
+divided_from a0 [] out = Ok out
+divided_from a0 (c ∷ cs) out = by_quotient c.at (narrowed (quotient c.value a0)) >>= λ q. divided_from a0 cs (out ++ q ∷ [])
+
+abbrev pub divided : Ratio → List Coefficient → Result (List Ratio) FileRefusal
+divided a0 cs = divided_from a0 cs []
+
+-- at least one bit before the point, and 2 to the greatest width in all
+abbrev pub is_lawful : ℕ → ℕ → Bool
+is_lawful int_bits frac_bits = nat_le 1 int_bits && nat_le 2 (int_bits + frac_bits) && nat_le (int_bits + frac_bits) GREATEST_WIDTH
+
+abbrev pub lawful : Whole → Whole → Result (Unit {0}) FileRefusal
+lawful int_bits frac_bits = if is_lawful int_bits.value frac_bits.value then Ok tt else Err (refusal.Width int_bits.at)
+
+-- zeros behind a list up to so many entries
+abbrev pub padded : ℕ → List Ratio → List Ratio
+padded n xs = xs ++ replicate (n - length xs) zero
+
+-- a sample costs 10, a product 4, a sum, a rounding and a fitting 1, and a move 2, where the file doesn't say else
+abbrev pub costs_of : HardwareFields → Costs
+costs_of h = record {
+  sample = unwrap_or h.sample 10; mul = unwrap_or h.mul 4; add = unwrap_or h.add 1;
+  round = unwrap_or h.round 1; fit = unwrap_or h.fit 1; moves = unwrap_or h.moves 2 }
+
+-- the sample time is 1 and the clock 16 MHz where the file doesn't say else
+abbrev pub design_with : Blocks → List Ratio → List Ratio → Design
+design_with x b a = let n = max (length b) (length a) in record {
+  b = padded n b; a = padded n a;
+  sample_time = unwrap_or x.system.sample_time one;
+  int_bits = x.implementation.int_bits.value; frac_bits = x.implementation.frac_bits.value;
+  max = x.implementation.max; min = x.implementation.min; delta = x.implementation.delta;
+  clock = unwrap_or x.hardware.clock 16000000;
+  costs = costs_of x.hardware }
+
+abbrev pub design_of : Blocks → Result Design FileRefusal
+design_of x =
+    sized x.system.b_size x.system.b >>= λ u.
+    sized x.system.a_size x.system.a >>= λ u.
+    leading x.system.a >>= λ a0.
+    divided a0 x.system.b >>= λ b.
+    divided a0 x.system.a >>= λ a.
+    lawful x.implementation.int_bits x.implementation.frac_bits >>= λ u.
+    Ok (design_with x b a)
+
+-- what the bytes of a file say, or the first refusal
+abbrev pub reading : List ℕ → Result Design FileRefusal
+reading bytes =
+    text_of bytes >>= λ u.
+    tokens_of bytes >>= λ ts.
+    parsed (length bytes) ts >>= λ x.
+    values_of bytes x.entries >>= λ v.
+    blocks_of x v >>= λ b.
+    design_of b

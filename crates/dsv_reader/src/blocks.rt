@@ -1,0 +1,107 @@
+// The two blocks that each file has, with their fields.
+ghost use Rattle.std.specs.Prelude.{◌≡◌};
+ghost use Rattle.dsv_reader.specs.Reading.{wanted, system_of, implementation_of, blocks_of};
+
+use crate::fields::{HardwareFields, ImplementationFields, SystemFields, Values};
+use crate::lists::Coefficients;
+use crate::numbers::Whole;
+use crate::settings::SampleTime;
+use dsv_fraction::Frac;
+use dsv_syntax::Syntax;
+use dsv_token::{Field, FileRefusal};
+
+/// The block `digital_system`.
+#[derive(Drop)]
+pub(crate) struct System {
+    pub(crate) b: Coefficients,
+    pub(crate) a: Coefficients,
+    pub(crate) b_size: Whole,
+    pub(crate) a_size: Whole,
+    pub(crate) sample_time: Option<SampleTime>,
+}
+
+/// The block `implementation`.
+#[derive(Drop)]
+pub(crate) struct Implementation {
+    pub(crate) int_bits: Whole,
+    pub(crate) frac_bits: Whole,
+    pub(crate) max: Frac,
+    pub(crate) min: Frac,
+    pub(crate) delta: Option<Frac>,
+}
+
+/// The blocks of a file, with all the fields that it has to have.
+#[derive(Drop)]
+pub(crate) struct Blocks {
+    pub(crate) system: System,
+    pub(crate) implementation: Implementation,
+    pub(crate) hardware: HardwareFields,
+}
+
+/// The field's value, or the refusal of a block that lacks it and is closed here.
+fn wanted<T: Drop>(close: usize, field: Field, value: Option<T>) -> Result<T, FileRefusal>
+    ensures { result ≡ wanted close field value }
+{
+    match value {
+        Some(value) => Ok(value),
+        None => Err(FileRefusal::FieldMissing {
+            at: close as u64,
+            field,
+        }),
+    }
+}
+
+fn system_of(close: usize, fields: SystemFields) -> Result<System, FileRefusal>
+    ensures { result ≡ system_of close fields }
+{
+    Ok(System {
+        b: wanted(close, Field::B, fields.b)?,
+        a: wanted(close, Field::A, fields.a)?,
+        b_size: wanted(close, Field::BSize, fields.b_size)?,
+        a_size: wanted(close, Field::ASize, fields.a_size)?,
+        sample_time: fields.sample_time,
+    })
+}
+
+fn implementation_of(
+    close: usize,
+    fields: ImplementationFields,
+) -> Result<Implementation, FileRefusal>
+    ensures { result ≡ implementation_of close fields }
+{
+    Ok(Implementation {
+        int_bits: wanted(close, Field::IntBits, fields.int_bits)?,
+        frac_bits: wanted(close, Field::FracBits, fields.frac_bits)?,
+        max: wanted(close, Field::Max, fields.max)?,
+        min: wanted(close, Field::Min, fields.min)?,
+        delta: fields.delta,
+    })
+}
+
+/// The blocks of a file, or the first field that is missing: the block that is closed first is tested first.
+pub(crate) fn blocks_of(syntax: &Syntax, values: Values) -> Result<Blocks, FileRefusal>
+    ensures { result ≡ blocks_of syntax.now values }
+{
+    let Values {
+        system,
+        implementation,
+        hardware,
+    } = values;
+    if syntax.system < syntax.implementation {
+        let system = system_of(syntax.system, system)?;
+        let implementation = implementation_of(syntax.implementation, implementation)?;
+        Ok(Blocks {
+            system,
+            implementation,
+            hardware,
+        })
+    } else {
+        let implementation = implementation_of(syntax.implementation, implementation)?;
+        let system = system_of(syntax.system, system)?;
+        Ok(Blocks {
+            system,
+            implementation,
+            hardware,
+        })
+    }
+}
