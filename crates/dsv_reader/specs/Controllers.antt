@@ -3,7 +3,7 @@ use Rattle.std.specs.Prelude.{◌≡◌, ℕ, ◌^◌, ◌<◌, ◌≤◌, List,
 use Rattle.std.specs.Int.RustNames.{unsigned_abs}
 use Rattle.dsv_fraction.specs.Ratio.{Ratio}
 use Rattle.dsv_word.specs.Width.{IsLawful}
-use Rattle.dsv_reader.specs.declared.controller.Costs.{Costs}
+use Rattle.dsv_reader.specs.declared.costs.Costs.{Costs}
 
 -- what a controller's file says, with the coefficients divided by the leading one and padded
 pub record Design : Type 0 where

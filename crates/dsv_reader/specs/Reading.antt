@@ -1,5 +1,5 @@
 -- What a file says, pass by pass over the whole file; the first pass that refuses gives the answer.
-use Rattle.std.specs.Prelude.{ℕ, ◌+◌, ◌-◌, Bool, true, false, not, ◌&&◌, ◌==◌, nat_lt, nat_le, max, if◌then◌else◌, List, [], ◌∷◌, ◌++◌, length, replicate, Option, Some, None, Result, Ok, Err, ℤ, pos, slice_index_or, unwrap_or}
+use Rattle.std.specs.Prelude.{◌≡◌, ℕ, ◌+◌, ◌-◌, Bool, true, false, not, ◌&&◌, ◌==◌, nat_lt, nat_le, max, if◌then◌else◌, List, [], ◌∷◌, ◌++◌, length, replicate, Option, Some, None, Result, Ok, Err, ℤ, pos, unwrap_or}
 use Rattle.std.specs.Ordering.{int_eq}
 use Rattle.dsv_fraction.specs.Ratio.{Ratio}
 use Rattle.dsv_fraction.specs.Arithmetic.{quotient, narrowed}
@@ -14,7 +14,7 @@ use Rattle.dsv_token.specs.declared.refusal.Field.TheVariants as field
 use Rattle.dsv_syntax.specs.Steps.{◌>>=◌}
 use Rattle.dsv_syntax.specs.Parsing.{parsed}
 use Rattle.dsv_syntax.specs.declared.parsing.Syntax.{Syntax}
-use Rattle.dsv_reader.specs.declared.controller.Costs.{Costs}
+use Rattle.dsv_reader.specs.declared.costs.Costs.{Costs}
 use Rattle.dsv_reader.specs.declared.numbers.Whole.{Whole}
 use Rattle.dsv_reader.specs.declared.numbers.Coefficient.{Coefficient}
 use Rattle.dsv_reader.specs.declared.fields.SystemFields.{SystemFields}
@@ -64,12 +64,15 @@ blocks_of x v = blocks_in_order (nat_lt x.system x.implementation) x v
 abbrev pub sized : Whole → List Coefficient → Result (Unit {0}) FileRefusal
 sized w xs = if w.value == length xs then Ok tt else Err (refusal.SizeMismatch w.at)
 
-abbrev pub no_coefficient : Coefficient
-no_coefficient = record { value = zero; at = 0 }
-
--- the leading coefficient, which isn't 0
+-- the leading coefficient, which isn't 0; a list has one at least
 abbrev pub leading : List Coefficient → Result Ratio FileRefusal
-leading xs = let c = slice_index_or xs 0 no_coefficient in if int_eq c.value.num (pos 0) then Err (refusal.LeadingZero c.at) else Ok c.value
+leading [] = Err (refusal.LeadingZero 0)
+leading (c ∷ cs) = if int_eq c.value.num (pos 0) then Err (refusal.LeadingZero c.at) else Ok c.value
+
+-- the first coefficient has this value
+abbrev pub BeginsWith : Ratio → List Coefficient → Type 0
+BeginsWith q [] = ⊥
+BeginsWith q (c ∷ cs) = c.value ≡ q
 
 abbrev pub by_quotient : ℕ → Result Ratio TooWide → Result Ratio FileRefusal
 by_quotient at (Ok q) = Ok q

@@ -1,17 +1,14 @@
 // Controllers as a file gives them.
+ghost use Rattle.std.specs.Prelude.{◌≡◌, unwrap_or};
+ghost use Rattle.dsv_reader.specs.Controllers.{IsTime, IsClock, one};
+
+use crate::blocks::Blocks;
+use crate::costing::costs_of;
+use crate::costs::Costs;
+use crate::dividing::padded;
+use crate::settings::{Clock, SampleTime};
 use dsv_fraction::{Frac, FracList};
 use std::marker::Model;
-
-/// What the parts of a sample cost, in cycles of the clock; each at most 10,000.
-#[derive(Clone, Copy, Debug, PartialEq, Eq)]
-pub struct Costs {
-    pub sample: u32,
-    pub mul: u32,
-    pub add: u32,
-    pub round: u32,
-    pub fit: u32,
-    pub moves: u32,
-}
 
 /// A controller as its file gives it: the transfer function (b_0 + b_1 z^-1 + ..) / (a_0 + a_1 z^-1 + ..), divided by
 /// its leading denominator coefficient, with both lists padded by zeros to one length; the words that it is to run in
@@ -48,9 +45,34 @@ impl Model for Controller {
 }
 
 impl Controller {
-    ghost use Rattle.std.specs.Prelude.{◌≡◌};
-    ghost use Rattle.std.specs.Option.{option_copied};
-    ghost use Rattle.dsv_reader.specs.Controllers.{Design, IsDesign};
+    ghost use Rattle.std.specs.Prelude.{◌≡◌, ◌≤◌, length, slice_index_or, true};
+    ghost use Rattle.dsv_reader.specs.Controllers.{IsDesign, zero, one};
+    ghost use Rattle.dsv_reader.specs.Reading.{design_with, is_lawful};
+
+    /// The controller of these blocks, for both lists divided by the leading coefficient.
+    pub(crate) fn assemble(blocks: &Blocks, b: FracList, a: FracList) -> Controller
+        requires b_few { length b.items ≤ 9 }
+        requires a_few { length a.items ≤ 9 }
+        requires some { 1 ≤ length a.items }
+        requires leading { slice_index_or a.items 0 zero ≡ one }
+        requires lawful { is_lawful blocks.now.implementation.int_bits.value blocks.now.implementation.frac_bits.value ≡ true }
+        ensures { result ≡ design_with blocks.now b.items a.items }
+    {
+        let count = b.len().max(a.len());
+        let implementation = &blocks.implementation;
+        Controller {
+            b: padded(b, count),
+            a: padded(a, count),
+            sample_time: sample_time_of(&blocks.system.sample_time),
+            int_bits: implementation.int_bits.value as u32,
+            frac_bits: implementation.frac_bits.value as u32,
+            max: implementation.max,
+            min: implementation.min,
+            delta: implementation.delta,
+            clock: clock_of(&blocks.hardware.clock),
+            costs: costs_of(&blocks.hardware),
+        }
+    }
 
     /// The numerator's coefficients, b_0 first.
     pub fn b(&self) -> &[Frac]
@@ -127,5 +149,27 @@ impl Controller {
         ensures design { IsDesign self.now }
     {
         &self.costs
+    }
+}
+
+/// The sample time, 1 where the file doesn't say else.
+fn sample_time_of(sample_time: &Option<SampleTime>) -> Frac
+    ensures value { result ≡ unwrap_or sample_time.now one }
+    ensures time { IsTime result }
+{
+    match sample_time {
+        Some(time) => time.get(),
+        None => Frac::from(1),
+    }
+}
+
+/// The clock, 16 MHz where the file doesn't say else.
+fn clock_of(clock: &Option<Clock>) -> u64
+    ensures value { result ≡ unwrap_or clock.now 16000000 }
+    ensures clock { IsClock result }
+{
+    match clock {
+        Some(clock) => clock.get(),
+        None => 16_000_000,
     }
 }

@@ -1,0 +1,20 @@
+-- Lists with zeros behind them.
+use Rattle.std.proofs.Common.{◌≡◌, ℕ, suc, ◌+◌, ◌-◌, ◌<◌, ◌≤◌, List, [], ◌∷◌, ◌++◌, length, refl, sym, ap, ◌∙◌, arith, append_assoc, append-nil, length-append}
+use Rattle.std.specs.Prelude.{replicate}
+use Rattle.dsv_fraction.specs.Ratio.{Ratio}
+use Rattle.dsv_reader.specs.Controllers.{zero}
+use Rattle.dsv_reader.specs.Reading.{padded}
+
+-- one more zero
+pub padded_more : (n : ℕ) (xs : List Ratio) → length xs < n → padded n (xs ++ zero ∷ []) ≡ padded n xs
+padded_more n xs h =
+    let e : n - length (xs ++ zero ∷ []) ≡ n - length xs - 1 = omega (arith, length-append xs (zero ∷ [])) in
+    let f : n - length xs ≡ suc (n - length xs - 1) = omega arith in
+    append_assoc xs (zero ∷ []) (replicate (n - length (xs ++ zero ∷ [])) zero)
+    ∙ ap (λ k. xs ++ zero ∷ replicate k zero) e
+    ∙ ap (λ k. xs ++ replicate k zero) (sym f)
+
+pub padded_none : (n : ℕ) (xs : List Ratio) → length xs ≡ n → padded n xs ≡ xs
+padded_none n xs h =
+    let e : n - length xs ≡ 0 = omega arith in
+    ap (λ k. xs ++ replicate k zero) e ∙ append-nil xs

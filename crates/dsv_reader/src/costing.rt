@@ -1,0 +1,35 @@
+// The costs of a file.
+ghost use Rattle.std.specs.Prelude.{◌≡◌, ◌≤◌, unwrap_or};
+ghost use Rattle.dsv_reader.specs.Controllers.{AreCosts};
+ghost use Rattle.dsv_reader.specs.Reading.{costs_of};
+
+use crate::costs::Costs;
+use crate::fields::HardwareFields;
+use crate::settings::Cost;
+
+/// The cost, or what holds where the file doesn't say it.
+fn cost_or(cost: &Option<Cost>, default: u32) -> u32
+    requires { default ≤ 10000 }
+    ensures value { result ≡ unwrap_or cost.now default }
+    ensures small { result ≤ 10000 }
+{
+    match cost {
+        Some(cost) => cost.get(),
+        None => default,
+    }
+}
+
+/// The costs of the block `hardware`, and where it doesn't say them 10, 4, 1, 1, 1 and 2.
+pub(crate) fn costs_of(hardware: &HardwareFields) -> Costs
+    ensures value { result ≡ costs_of hardware.now }
+    ensures small { AreCosts result }
+{
+    Costs {
+        sample: cost_or(&hardware.sample, 10),
+        mul: cost_or(&hardware.mul, 4),
+        add: cost_or(&hardware.add, 1),
+        round: cost_or(&hardware.round, 1),
+        fit: cost_or(&hardware.fit, 1),
+        moves: cost_or(&hardware.moves, 2),
+    }
+}

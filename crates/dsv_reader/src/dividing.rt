@@ -1,0 +1,82 @@
+// Coefficients divided by the leading one.
+ghost use Rattle.std.specs.Prelude.{◌≡◌, ◌≢◌, ◌≤◌, length, pos, IfOk, Ok, Err, MatchResult};
+ghost use Rattle.dsv_fraction.specs.Arithmetic.{narrowed, quotient};
+ghost use Rattle.dsv_reader.specs.Reading.{sized, BeginsWith, leading, by_quotient, divided, padded};
+
+use crate::lists::Coefficients;
+use crate::numbers::{Coefficient, Whole};
+use dsv_fraction::{Frac, FracList};
+use dsv_token::FileRefusal;
+
+/// Tests that the size is the list's length.
+pub(crate) fn sized(size: Whole, list: &Coefficients) -> Result<(), FileRefusal>
+    ensures { result ≡ sized size list.now }
+{
+    if size.value == list.as_slice().len() as u64 {
+        Ok(())
+    } else {
+        Err(FileRefusal::SizeMismatch { at: size.at as u64 })
+    }
+}
+
+/// The leading coefficient, which isn't 0.
+pub(crate) fn leading(list: &Coefficients) -> Result<Frac, FileRefusal>
+    ensures value { result ≡ leading list.now }
+    ensures apart { IfOk result (λ q. q.num ≢ pos 0) }
+    ensures some { IfOk result (λ _. 1 ≤ length list.now) }
+    ensures first { IfOk result (λ q. BeginsWith q list.now) }
+{
+    let [first, ..] = list.as_slice() else {
+        return Err(FileRefusal::LeadingZero { at: 0 });
+    };
+    if first.value.num() == 0 {
+        return Err(FileRefusal::LeadingZero {
+            at: first.at as u64,
+        });
+    }
+    Ok(first.value)
+}
+
+/// A coefficient divided by the leading one.
+fn quotient(coefficient: &Coefficient, divisor: &Frac) -> Result<Frac, FileRefusal>
+    requires { divisor.now.num ≢ pos 0 }
+    ensures { result ≡ by_quotient coefficient.now.at (narrowed (quotient coefficient.now.value divisor.now)) }
+{
+    match coefficient.value.div(divisor) {
+        Ok(quotient) => Ok(quotient),
+        Err(_) => Err(FileRefusal::FractionWide {
+            at: coefficient.at as u64,
+        }),
+    }
+}
+
+/// The coefficients divided by the leading one.
+pub(crate) fn divided(divisor: &Frac, list: &Coefficients) -> Result<FracList, FileRefusal>
+    requires { divisor.now.num ≢ pos 0 }
+    ensures value { MatchResult result (λ v. divided divisor.now list.now ≡ Ok v.items) (λ r. divided divisor.now list.now ≡ Err r) }
+    ensures places { IfOk result (λ v. length v.items ≡ length list.now) }
+    ensures few { length list.now ≤ 9 }
+{
+    let mut quotients = FracList::new();
+    for coefficient in list.as_slice() {
+        match quotient(coefficient, divisor) {
+            Ok(quotient) => quotients.push(quotient),
+            Err(refusal) => return Err(refusal),
+        }
+    }
+    Ok(quotients)
+}
+
+/// The list with zeros behind it up to `count` entries.
+pub(crate) fn padded(list: FracList, count: usize) -> FracList
+    requires room { length list.items ≤ count }
+    requires few { count ≤ 9 }
+    ensures value { result.items ≡ padded count list.items }
+    ensures places { length result.items ≡ count }
+{
+    let mut list = list;
+    for _ in list.len()..count {
+        list.push(Frac::default());
+    }
+    list
+}
