@@ -1,12 +1,11 @@
 -- What an accepted offer of one place that is kept away shows, said of the polynomial's list.
 use Rattle.std.proofs.Common.{◌≡◌, ℕ, zero, suc, ◌-◌, ◌<◌, ◌≤◌, Bool, true, false, not, ◌||◌, ◌&&◌, ◌==◌, nat_lt, int_lt, if◌then◌else◌, List, [], ◌∷◌, length, Option, Some, None, Result, Ok, Err, IfOk, refl, sym, ap, ◌∙◌, arith}
 use Rattle.std.proofs.Math.IntN.{ℤ, pos, ◌+ℤ◌, ◌*ℤ◌, +ℤ_idl}
-use Rattle.std.proofs.lemmas.Int.{ints}
 use Rattle.std.proofs.lemmas.Bool.Decides.{nat_tests}
 use lib.Signed.{◌<ℤ◌, ◌≤ℤ◌}
 use Rattle.std.specs.Option.{option_and_then, option_map}
 use Rattle.dsv_algebra.specs.Narrow.{is_narrow, narrowed}
-use Rattle.dsv_algebra.specs.Vectors.{Matrix, Vector, sum_to, form_at, vector_of, matrix_of}
+use Rattle.dsv_algebra.specs.Vectors.{Matrix, sum_to, form_at, vector_of, matrix_of}
 use Rattle.dsv_algebra.specs.Companion.{fall_form, fall_entry, IsKeptAway}
 use Rattle.dsv_algebra.specs.Squares.{squares, beside}
 use Rattle.dsv_algebra.proofs.Falling.{fall_form-is}
@@ -20,7 +19,7 @@ use Rattle.dsv_forms.specs.declared.refusal.FormRefusal.{FormRefusal}
 use Rattle.dsv_forms.specs.declared.refusal.FormRefusal.TheVariants as refusal
 use Rattle.dsv_forms.specs.FallForm.{IsFallForm}
 use Rattle.dsv_forms.specs.Refusals.{any_wide, fall_numbers, weights_of, rows_of, rest_of, refusal_of, kept_away_refusal}
-use Rattle.dsv_forms.specs.OnePlace.{or_else, place_refusal, sides_of, sides_refusal, fall_of, HasOneEntry}
+use Rattle.dsv_forms.specs.OnePlace.{or_else, place_refusal, sides_refusal, fall_of, HasOneEntry}
 use Rattle.dsv_forms.specs.OneAway.{bare_sides_of, some_sides_of, early_weak_refusal, weak_place_refusal, value_of, value_refusal, one_place_kept_away}
 use Rattle.dsv_forms.proofs.OnePlaceLemmas.{unless}
 use Rattle.dsv_forms.proofs.OneFall.{fall_same}

@@ -1,5 +1,5 @@
 -- The general tests of a form that is kept away, with one place, are those of the code.
-use Rattle.std.proofs.Common.{◌≡◌, ℕ, zero, suc, ◌<◌, Bool, true, false, not, ◌||◌, ◌&&◌, ◌==◌, nat_lt, if◌then◌else◌, int_lt, List, [], ◌∷◌, ◌++◌, map, Option, Some, None, refl, ap, ◌∙◌, arith}
+use Rattle.std.proofs.Common.{◌≡◌, ℕ, zero, suc, Bool, true, false, not, ◌||◌, ◌&&◌, ◌==◌, nat_lt, if◌then◌else◌, int_lt, List, [], ◌∷◌, ◌++◌, map, Option, Some, None, refl, ◌∙◌, arith}
 use Rattle.std.proofs.Math.IntN.{ℤ, pos, ◌+ℤ◌, ◌*ℤ◌, +ℤ_idl}
 use Rattle.std.proofs.lemmas.Bool.{lt-ltb}
 use Rattle.std.specs.Ordering.{int_eq}
@@ -14,7 +14,7 @@ use Rattle.dsv_forms.specs.declared.refusal.Part.TheVariants as part
 use Rattle.dsv_forms.specs.declared.refusal.FormRefusal.{FormRefusal}
 use Rattle.dsv_forms.specs.declared.refusal.FormRefusal.TheVariants as refusal
 use Rattle.dsv_forms.specs.Refusals.{Test, first_of, any_wide, side_numbers, right_side, not_dominant, rest_of, weights_of, bad_rest, places, side_tests, dominance_tests, negative_weight, bad_form, semidefinite_tests, fall_numbers, value_numbers, start_tests, kept_away_refusal}
-use Rattle.dsv_forms.specs.OnePlace.{or_else, place_refusal, sides_of, sides_refusal, fall_of}
+use Rattle.dsv_forms.specs.OnePlace.{or_else, sides_refusal}
 use Rattle.dsv_forms.specs.OneAway.{bare_sides_of, some_sides_of, weak_place_refusal, value_of, value_refusal, one_place_kept_away}
 use Rattle.dsv_forms.proofs.OnePlaceLemmas.{unless, any_wide-append, narrow_first, narrow_last, sides_by, sides, dominance, rest_of_one}
 use Rattle.dsv_forms.proofs.OneFall.{first_before, first_of-append, form_shape, fall_same}
@@ -56,19 +56,19 @@ weak_with : (n : ℕ) (p : Part) (s : Squares) (T : Matrix) (numbers : ℕ → �
     → first_of (semidefinite_tests p 1 s T numbers) ≡ weak_place_refusal p s (unless (any_wide (numbers 0 0)) (T 0 0))
 weak_with zero p s T numbers e =
     rw e (
-      first_before (bad_rest 1 s || false) (refusal.Shape p)
-      ((any_wide (numbers 0 0 ++ side_numbers 0 s (T 0 0) 0 0), refusal.Wide p 0 0)
-      ∷ (not (int_eq (s.m *ℤ T 0 0) (right_side 0 s 0 0)), refusal.Identity p 0 0)
-      ∷ (not_dominant 1 s 0, refusal.Dominance p 0) ∷ [])
-      ∙ rw (rest_of_one s, bare p s (T 0 0) (numbers 0 0)) refl
+    first_before (bad_rest 1 s || false) (refusal.Shape p)
+    ((any_wide (numbers 0 0 ++ side_numbers 0 s (T 0 0) 0 0), refusal.Wide p 0 0)
+    ∷ (not (int_eq (s.m *ℤ T 0 0) (right_side 0 s 0 0)), refusal.Identity p 0 0)
+    ∷ (not_dominant 1 s 0, refusal.Dominance p 0) ∷ [])
+    ∙ rw (rest_of_one s, bare p s (T 0 0) (numbers 0 0)) refl
     )
 weak_with (suc zero) p s T numbers e =
     rw e (
-      two_before (bad_rest 1 s || false) (negative_weight s 0) (refusal.Shape p) (refusal.Weight p 0)
-      ((any_wide (numbers 0 0 ++ side_numbers 1 s (T 0 0) 0 0), refusal.Wide p 0 0)
-      ∷ (not (int_eq (s.m *ℤ T 0 0) (right_side 1 s 0 0)), refusal.Identity p 0 0)
-      ∷ (not_dominant 1 s 0, refusal.Dominance p 0) ∷ [])
-      ∙ rw (rest_of_one s, sides p s (T 0 0) (numbers 0 0)) refl
+    two_before (bad_rest 1 s || false) (negative_weight s 0) (refusal.Shape p) (refusal.Weight p 0)
+    ((any_wide (numbers 0 0 ++ side_numbers 1 s (T 0 0) 0 0), refusal.Wide p 0 0)
+    ∷ (not (int_eq (s.m *ℤ T 0 0) (right_side 1 s 0 0)), refusal.Identity p 0 0)
+    ∷ (not_dominant 1 s 0, refusal.Dominance p 0) ∷ [])
+    ∙ rw (rest_of_one s, sides p s (T 0 0) (numbers 0 0)) refl
     )
 weak_with (suc (suc n)) p s T numbers e =
     refused (nat_lt 1 s.count) (bad_rest 1 s) (int_lt s.m (pos 1)) (refusal.Shape p)

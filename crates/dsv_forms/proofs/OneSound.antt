@@ -79,8 +79,7 @@ pub sides_shown : (p : Part) (s : Squares) (left right : ℤ) → sides_refusal 
 sides_shown p s left right h =
     let same = passes (not (int_eq left right)) (refusal.Identity p 0 0)
     ((not (is_narrow (rest_of s 0 0)) || int_lt (rest_of s 0 0) (pos 0), refusal.Dominance p 0) ∷ []) h in
-    let rest = passes (not (is_narrow (rest_of s 0 0)) || int_lt (rest_of s 0 0) (pos 0)) (refusal.Dominance p 0) [] same.1 in
-    (
+    let rest = passes (not (is_narrow (rest_of s 0 0)) || int_lt (rest_of s 0 0) (pos 0)) (refusal.Dominance p 0) [] same.1 in (
       (Decides-int_eq left right).0 (not_false (int_eq left right) same.0),
       less_not (rest_of s 0 0) (pos 0) (neither_test (not (is_narrow (rest_of s 0 0))) (int_lt (rest_of s 0 0) (pos 0)) rest.0).1,
     )

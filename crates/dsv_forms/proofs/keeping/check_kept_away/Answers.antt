@@ -1,4 +1,4 @@
-use Rattle.std.proofs.Common.{◌≡◌, [], ◌∷◌, length, get_or, sym, ap, ◌∙◌, arith, rules}
+use Rattle.std.proofs.Common.{◌≡◌, [], ◌∷◌, length, get_or, sym, ◌∙◌, arith, rules}
 use Rattle.std.proofs.Math.IntN.{pos}
 use Rattle.std.proofs.lemmas.Int.{to_z-of_z}
 use lib.Signed.{◌<ℤ◌}
