@@ -16,7 +16,7 @@ use Rattle.dsv_forms.specs.Refusals.{Test, first_of, any_wide, bad_form, definit
 use Rattle.dsv_forms.specs.OnePlace.{or_else, one_place_falls, fall_of}
 use Rattle.dsv_forms.proofs.OnePlaceLemmas.{unless, one_place}
 
-is_narrow-neg : (x : ℤ) → is_narrow (neg_ℤ x) ≡ is_narrow x
+pub is_narrow-neg : (x : ℤ) → is_narrow (neg_ℤ x) ≡ is_narrow x
 is_narrow-neg (pos zero) = refl
 is_narrow-neg (pos (suc n)) = refl
 is_narrow-neg (negsuc n) = refl
