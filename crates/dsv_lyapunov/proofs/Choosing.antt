@@ -1,5 +1,5 @@
 -- The closed form of order 1 by the sizes of the coefficients.
-use Rattle.std.proofs.Common.{◌≡◌, ℕ, ◌-◌, ◌*◌, ◌<◌, ◌≤◌, Bool, true, false, int_lt, nat_lt, if◌then◌else◌, List, [], ◌∷◌, length, get_or, refl, sym, ap, ◌∙◌, arith}
+use Rattle.std.proofs.Common.{◌≡◌, ℕ, ◌-◌, ◌*◌, ◌≤◌, Bool, true, false, int_lt, nat_lt, if◌then◌else◌, List, [], ◌∷◌, length, get_or, refl, sym, ap, ◌∙◌, arith}
 use Rattle.std.proofs.Math.IntN.{ℤ, pos, negsuc, ◌-ℤ◌, ◌*ℤ◌}
 use Rattle.std.specs.Int.RustNames.{unsigned_abs}
 use Rattle.std.proofs.lemmas.Int.{ints}
@@ -34,16 +34,16 @@ not_less a b h = grind (arith, nat_tests)
 
 chosen : (t : Bool) (c0 c1 : ℤ) → nat_lt (unsigned_abs c1) (unsigned_abs c0) ≡ t
     → (if t
-      then offer.Falls (falling (pos (unsigned_abs c0 * unsigned_abs c0 - unsigned_abs c1 * unsigned_abs c1)))
-      else offer.KeptAway (rising (pos (unsigned_abs c1 * unsigned_abs c1 - unsigned_abs c0 * unsigned_abs c0))))
+    then offer.Falls (falling (pos (unsigned_abs c0 * unsigned_abs c0 - unsigned_abs c1 * unsigned_abs c1)))
+    else offer.KeptAway (rising (pos (unsigned_abs c1 * unsigned_abs c1 - unsigned_abs c0 * unsigned_abs c0))))
     ≡ (if t then offer.Falls (falling (c0 *ℤ c0 -ℤ c1 *ℤ c1)) else offer.KeptAway (rising (c1 *ℤ c1 -ℤ c0 *ℤ c0)))
 chosen true c0 c1 h = ap (λ w. offer.Falls (falling w)) (squares_apart c0 c1 (less (unsigned_abs c1) (unsigned_abs c0) h))
 chosen false c0 c1 h = ap (λ w. offer.KeptAway (rising w)) (squares_apart c1 c0 (not_less (unsigned_abs c1) (unsigned_abs c0) h))
 
 pair : (c0 c1 : ℤ) → pos 0 <ℤ c0
     → (if nat_lt (unsigned_abs c1) (unsigned_abs c0)
-      then offer.Falls (falling (pos (unsigned_abs c0 * unsigned_abs c0 - unsigned_abs c1 * unsigned_abs c1)))
-      else offer.KeptAway (rising (pos (unsigned_abs c1 * unsigned_abs c1 - unsigned_abs c0 * unsigned_abs c0))))
+    then offer.Falls (falling (pos (unsigned_abs c0 * unsigned_abs c0 - unsigned_abs c1 * unsigned_abs c1)))
+    else offer.KeptAway (rising (pos (unsigned_abs c1 * unsigned_abs c1 - unsigned_abs c0 * unsigned_abs c0))))
     ≡ closed_form_of (c0 ∷ c1 ∷ [])
 pair c0 c1 first =
     chosen (nat_lt (unsigned_abs c1) (unsigned_abs c0)) c0 c1 refl

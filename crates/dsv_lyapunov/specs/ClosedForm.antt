@@ -1,5 +1,5 @@
 -- The closed forms: what is offered for a polynomial, in terms of its coefficients.
-use Rattle.std.specs.Prelude.{◌≡◌, ℕ, Bool, true, List, [], ◌∷◌, ◌++◌, length, map, take, replicate, int_lt, if◌then◌else◌, None, ℤ, pos, negsuc, ◌-ℤ◌, ◌*ℤ◌}
+use Rattle.std.specs.Prelude.{◌≡◌, Bool, true, List, [], ◌∷◌, ◌++◌, length, map, take, replicate, int_lt, if◌then◌else◌, None, ℤ, pos, negsuc, ◌-ℤ◌, ◌*ℤ◌}
 use Rattle.dsv_algebra.specs.Squares.{size}
 use Rattle.dsv_forms.specs.declared.offers.Form.{Form}
 use Rattle.dsv_forms.specs.declared.offers.Squares.{Squares}

@@ -42,11 +42,9 @@ fn offer_without_place() -> Falls
 fn first_order(size_0: u64, size_1: u64) -> FormOffer
     requires small_0 { size_0 ≤ 2 ^ 44 }
     requires small_1 { size_1 ≤ 2 ^ 44 }
-    ensures {
-        result ≡ (if nat_lt size_1 size_0
-            then FormOffer.Falls (falling (pos (size_0 * size_0 - size_1 * size_1)))
-            else FormOffer.KeptAway (rising (pos (size_1 * size_1 - size_0 * size_0))))
-    }
+    ensures { result ≡ (if nat_lt size_1 size_0
+        then FormOffer.Falls (falling (pos (size_0 * size_0 - size_1 * size_1)))
+        else FormOffer.KeptAway (rising (pos (size_1 * size_1 - size_0 * size_0)))) }
 {
     if size_1 < size_0 {
         FormOffer::Falls(falling_offer(difference_of_squares(size_0, size_1)))

@@ -11,7 +11,10 @@ use dsv_forms::{Falls, Form, FormOffer, KeptAway, Poly, check_falls, check_kept_
 #[derive(Clone, Copy, Debug, PartialEq, Eq)]
 pub enum FormAnswer {
     /// The offer's form strictly falls along each trajectory, and loses `fall` in a step.
-    Falls { offer: Falls, fall: Form },
+    Falls {
+        offer: Falls,
+        fall: Form,
+    },
     /// The offer's form has this negative value at the offer's start, rises back along no trajectory, and loses `fall`
     /// in a step.
     KeptAway {

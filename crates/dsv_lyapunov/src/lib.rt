@@ -4,6 +4,8 @@
 mod closing;
 mod deciding;
 mod reducing;
+#[cfg(test)]
+mod tests;
 
 pub use closing::closed_form;
 pub use deciding::{FormAnswer, decide};

@@ -1,5 +1,4 @@
-use Rattle.std.proofs.Common.{◌≡◌, length, map, take, sym, ◌∙◌, arith}
-use Rattle.std.proofs.Math.IntN.{pos, ◌*ℤ◌}
+use Rattle.std.proofs.Common.{◌≡◌, take, sym, ◌∙◌, arith}
 use Rattle.std.proofs.lemmas.List.{take_all}
 use Rattle.dsv_lyapunov.proofs.Halves.{halves_poly}
 use Rattle.dsv_lyapunov.proofs.reducing.halved.Goals as goal
