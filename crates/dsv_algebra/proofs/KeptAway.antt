@@ -68,8 +68,8 @@ along d c P start h holds (suc n) =
     let u = trajectory d c start n in
     let first = form_at d P start in
     rw (assoc z (power z n) first) (
-      at_most_through (form_at d P (step d c u)) (z *ℤ form_at d P u) (z *ℤ (power z n *ℤ first)) (holds u)
-      (scaled z (form_at d P u) (power z n *ℤ first) (weakly z (mul_positive (c 0) (c 0) h h)) (along d c P start h holds n))
+    at_most_through (form_at d P (step d c u)) (z *ℤ form_at d P u) (z *ℤ (power z n *ℤ first)) (holds u)
+    (scaled z (form_at d P u) (power z n *ℤ first) (weakly z (mul_positive (c 0) (c 0) h h)) (along d c P start h holds n))
     )
 
 -- A form that is negative at the start is kept away where squares show its fall form nowhere negative.

@@ -1,5 +1,5 @@
 -- Lists whose entries are halved.
-use Rattle.std.proofs.Common.{◌≡◌, ℕ, suc, ◌*◌, ◌^◌, ◌<◌, List, [], ◌∷◌, length, map, get_or, refl, sym, ap, ◌∙◌, arith}
+use Rattle.std.proofs.Common.{◌≡◌, ℕ, suc, ◌*◌, ◌^◌, List, [], ◌∷◌, length, map, get_or, refl, sym, ap, ◌∙◌, arith}
 use Rattle.std.proofs.Math.IntN.{ℤ, pos, ◌*ℤ◌}
 use Rattle.std.proofs.Math.Nat.{pow-suc}
 use Rattle.std.proofs.Math.ListN.{get_or-map}
@@ -51,9 +51,6 @@ first_half ys (z ∷ zs) e = rw e refl
 half_positive : (y z : ℤ) → y ≡ pos 2 *ℤ z → pos 0 <ℤ y → pos 0 <ℤ z
 half_positive y z e h = omega (arith, ints)
 
-half_smaller : (y z : ℤ) → y ≡ pos 2 *ℤ z → pos 0 <ℤ z → unsigned_abs z < unsigned_abs y
-half_smaller y z e h = omega (arith, ints)
-
 -- the halves of a polynomial are one
 pub halves_poly : (ys zs : List ℤ) → ys ≡ map (λ z. pos 2 *ℤ z) zs → IsPoly ys → IsPoly zs
 halves_poly ys zs e poly =
@@ -68,8 +65,3 @@ halves_poly ys zs e poly =
           let s : unsigned_abs (get_or ys i (pos 2 *ℤ d)) ≡ 2 * unsigned_abs (get_or zs i d) = ap unsigned_abs f ∙ double_size (get_or zs i d) in
           omega arith;
     }
-
--- the first of the halves is smaller
-pub halves_smaller : (ys zs : List ℤ) → ys ≡ map (λ z. pos 2 *ℤ z) zs → IsPoly ys → unsigned_abs (get_or zs 0 (pos 0)) < unsigned_abs (get_or ys 0 (pos 0))
-halves_smaller ys zs e poly =
-    half_smaller (get_or ys 0 (pos 0)) (get_or zs 0 (pos 0)) (first_half ys zs e) (halves_poly ys zs e poly).first
