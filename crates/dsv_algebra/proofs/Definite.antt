@@ -6,10 +6,10 @@ use Rattle.std.proofs.lemmas.Bool.{cases_lt, eq-eqb}
 use Rattle.std.proofs.lemmas.Bool.Decides.{eqb_tells}
 use lib.Signed.{◌<ℤ◌, ◌≤ℤ◌}
 use Rattle.dsv_algebra.proofs.Normaliser.{ring, env, var, num, plus, times, minus}
-use Rattle.dsv_algebra.proofs.Signs.{mul_positive, mul_not_negative, square_positive, positive_factor}
+use Rattle.dsv_algebra.proofs.Signs.{mul_positive, mul_not_negative, square_positive, positive_factor, not_negative_factor}
 use Rattle.dsv_algebra.specs.Vectors.{Vector, Matrix, sum_to, form_at, dot}
 use Rattle.dsv_algebra.specs.Squares.{squares, IsTriangular, size, beside, IsDominant}
-use Rattle.dsv_algebra.proofs.Sums.{sum_one, sum_same, sum_add, sum_scale, sum_swap, sum_positive, last_of, form_by_squares}
+use Rattle.dsv_algebra.proofs.Sums.{sum_one, sum_same, sum_add, sum_scale, sum_swap, sum_positive, sum_not_negative, last_of, form_by_squares}
 
 times_none : (a : ℤ) → a *ℤ pos 0 ≡ pos 0
 times_none a = ring (env (a ∷ [])) (times (var 0) (num (pos 0))) (num (pos 0)) refl
@@ -147,3 +147,15 @@ definite_positive d m T R w rows v i scale identity t dom below apart =
     let a = triangular_positive d w rows v i t below apart in
     let b = dominant_not_negative d R v dom in
     positive_factor m (form_at d T v) scale (omega (arith, ints))
+
+-- a form is nowhere negative where m times it is squares, with weights that are not negative, and a dominant rest
+pub semidefinite_not_negative : (d n : ℕ) (m : ℤ) (T R : Matrix) (w : Vector) (rows : ℕ → Vector) (v : Vector)
+    → pos 0 <ℤ m
+    → ((i j : ℕ) → i < d → j < d → m *ℤ T i j ≡ squares n w rows i j +ℤ R i j)
+    → ((k : ℕ) → k < n → pos 0 ≤ℤ w k) → IsDominant d R → pos 0 ≤ℤ form_at d T v
+semidefinite_not_negative d n m T R w rows v scale identity weights dom =
+    let e = form_by_squares d n m T R w rows v identity in
+    let a = sum_not_negative n (λ k. w k *ℤ dot d (rows k) v *ℤ dot d (rows k) v)
+    (λ k p. rw (grouped (w k) (dot d (rows k) v)) (mul_not_negative (w k) (dot d (rows k) v *ℤ dot d (rows k) v) (weights k p) (square_not_negative (dot d (rows k) v)))) in
+    let b = dominant_not_negative d R v dom in
+    not_negative_factor m (form_at d T v) scale (omega (arith, ints))

@@ -2,6 +2,7 @@ pub mod Behind
 pub mod Definite
 pub mod Falling
 pub mod Floors
+pub mod KeptAway
 pub mod Normaliser
 pub mod Ring
 pub mod Signs

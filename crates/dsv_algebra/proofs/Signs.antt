@@ -31,3 +31,15 @@ positive_factor (pos m) (pos zero) p q = absurd (let e : m * 0 ≡ 0 = omega ari
 positive_factor (pos m) (pos (suc t)) p q = omega (arith, ints)
 positive_factor (pos m) (negsuc t) p q = absurd (omega (arith, ints))
 positive_factor (negsuc m) t p q = absurd (omega (arith, ints))
+
+pub not_negative_factor : (m t : ℤ) → pos 0 <ℤ m → pos 0 ≤ℤ (m *ℤ t) → pos 0 ≤ℤ t
+not_negative_factor (pos m) (pos t) p q = omega (arith, ints)
+not_negative_factor (pos zero) (negsuc t) p q = absurd (omega (arith, ints))
+not_negative_factor (pos (suc m)) (negsuc t) p q = absurd (omega (arith, ints))
+not_negative_factor (negsuc m) t p q = absurd (omega (arith, ints))
+
+pub mul_negative : (a b : ℤ) → pos 0 <ℤ a → b <ℤ pos 0 → (a *ℤ b) <ℤ pos 0
+mul_negative (pos zero) b p q = absurd (omega (arith, ints))
+mul_negative (pos (suc a)) (pos b) p q = absurd (omega (arith, ints))
+mul_negative (pos (suc a)) (negsuc b) p q = omega (arith, ints)
+mul_negative (negsuc a) b p q = absurd (omega (arith, ints))

@@ -4,7 +4,7 @@
 -- one by its companion matrix. Times c_0, so that all entries are whole, this matrix has the first row -c_1, .., -c_d
 -- and c_0 below the diagonal. A form that is positive and is less behind each such step, divided by c_0, is a
 -- Lyapunov function of the recursion.
-use Rattle.std.specs.Prelude.{Bool, true, false, ◌&&◌, List, [], ◌∷◌, ◌++◌, neg_ℤ, ◌≡◌, ℕ, zero, suc, ◌==◌, nat_lt, if◌then◌else◌, ℤ, pos, ◌+ℤ◌, ◌-ℤ◌, ◌*ℤ◌, ◌<ℤ◌}
+use Rattle.std.specs.Prelude.{Bool, true, false, ◌&&◌, List, [], ◌∷◌, ◌++◌, neg_ℤ, ◌≡◌, ℕ, zero, suc, ◌==◌, nat_lt, if◌then◌else◌, ℤ, pos, ◌+ℤ◌, ◌-ℤ◌, ◌*ℤ◌, ◌<ℤ◌, ◌≤ℤ◌}
 use Rattle.dsv_algebra.specs.Vectors.{Vector, Matrix, dot, form_at, behind, IsNotZero}
 
 -- the companion matrix of c 0 to c d
@@ -20,6 +20,24 @@ step d c v i = dot d (companion c i) v
 pub record StrictlyFalls (d : ℕ) (c : Vector) (P : Matrix) : Type 0 where
   pub positive : (v : Vector) → IsNotZero d v → pos 0 <ℤ form_at d P v
   pub falls : (v : Vector) → IsNotZero d v → form_at d P (step d c v) <ℤ (c 0 *ℤ c 0 *ℤ form_at d P v)
+
+-- z times itself, n times
+abbrev pub power : ℤ → ℕ → ℤ
+power z zero = pos 1
+power z (suc n) = z *ℤ power z n
+
+-- the n-th vector of a trajectory: n steps behind its start
+abbrev pub trajectory : ℕ → Vector → Vector → ℕ → Vector
+trajectory d c start zero = start
+trajectory d c start (suc n) = step d c (trajectory d c start n)
+
+-- The form is negative at the start and rises in no step, that step divided by c 0. So along the trajectory from the
+-- start it stays at most at its first value, each step divided by c 0, and negative: the trajectory is kept away from 0.
+pub record IsKeptAway (d : ℕ) (c : Vector) (P : Matrix) (start : Vector) : Type 0 where
+  pub negative : form_at d P start <ℤ pos 0
+  pub holds : (v : Vector) → form_at d P (step d c v) ≤ℤ (c 0 *ℤ c 0 *ℤ form_at d P v)
+  pub along : (n : ℕ) → form_at d P (trajectory d c start n) ≤ℤ (power (c 0 *ℤ c 0) n *ℤ form_at d P start)
+  pub stays : (n : ℕ) → form_at d P (trajectory d c start n) <ℤ pos 0
 
 -- What a form loses in a step: at each vector F is c 0 squared times P less P behind the step.
 abbrev pub IsLoss : ℕ → Vector → Matrix → Matrix → Type 0

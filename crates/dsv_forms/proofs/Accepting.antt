@@ -1,4 +1,4 @@
--- The closed form of order 1 is accepted.
+-- The closed form of order 1 is accepted where it falls.
 use Rattle.std.proofs.Common.{◌≡◌, ℕ, ◌-◌, ◌*◌, ◌^◌, ◌<◌, ◌≤◌, true, int_lt, List, [], ◌∷◌, length, Some, None, refl, ap, ◌∙◌, arith}
 use Rattle.std.proofs.Math.IntN.{ℤ, pos, negsuc, ◌-ℤ◌, ◌*ℤ◌, +ℤ_idr}
 use Rattle.std.specs.Int.RustNames.{unsigned_abs}
@@ -22,16 +22,16 @@ use Rattle.dsv_forms.specs.OneSquare.{IsOneSquare, IsClosedForm}
 use Rattle.dsv_forms.proofs.OneFall.{one_place_falls-is}
 use Rattle.dsv_forms.proofs.OneAnswer.{two}
 
-times_one : (w : ℤ) → w *ℤ pos 1 ≡ w
+pub times_one : (w : ℤ) → w *ℤ pos 1 ≡ w
 times_one w = ring (env (w ∷ [])) (times (var 0) (num (pos 1))) (var 0) refl
 
-one_times : (w : ℤ) → pos 1 *ℤ w ≡ w
+pub one_times : (w : ℤ) → pos 1 *ℤ w ≡ w
 one_times w = ring (env (w ∷ [])) (times (num (pos 1)) (var 0)) (var 0) refl
 
-positive_test : (w : ℤ) → pos 0 <ℤ w → int_lt (pos 0) w ≡ true
+pub positive_test : (w : ℤ) → pos 0 <ℤ w → int_lt (pos 0) w ≡ true
 positive_test w h = grind (arith, ints)
 
-same_test : (w : ℤ) → int_eq w w ≡ true
+pub same_test : (w : ℤ) → int_eq w w ≡ true
 same_test w = (Decides-int_eq w w).1 refl
 
 early : (p : Part) (s : Squares) (w : ℤ) → IsOneSquare s w → pos 0 <ℤ w → early_refusal p s ≡ None
@@ -47,17 +47,17 @@ fall_is : (c0 c1 : ℤ) → is_narrow (c0 *ℤ c0) ≡ true → is_narrow (c1 *�
     → fall_of c0 c1 (pos 1) ≡ Some (c0 *ℤ c0 -ℤ c1 *ℤ c1)
 fall_is c0 c1 n0 n1 n = rw (n0, n1, times_one (c0 *ℤ c0), n0, times_one (c1 *ℤ c1), n1, n) refl
 
-square_of : (c : ℤ) → c *ℤ c ≡ pos (unsigned_abs c * unsigned_abs c)
+pub square_of : (c : ℤ) → c *ℤ c ≡ pos (unsigned_abs c * unsigned_abs c)
 square_of (pos n) = refl
 square_of (negsuc n) = refl
 
-small_square : (a : ℕ) → a ≤ 2 ^ 44 → a * a ≤ 2 ^ 88
+pub small_square : (a : ℕ) → a ≤ 2 ^ 44 → a * a ≤ 2 ^ 88
 small_square a h = mul-le a a (2 ^ 44) (2 ^ 44) h h
 
-narrow_nat : (n : ℕ) → n ≤ 2 ^ 88 → is_narrow (pos n) ≡ true
+pub narrow_nat : (n : ℕ) → n ≤ 2 ^ 88 → is_narrow (pos n) ≡ true
 narrow_nat n h = lt-ltb n (2 ^ 126) (omega arith)
 
-difference : (a b : ℕ) → b ≤ a → pos a -ℤ pos b ≡ pos (a - b)
+pub difference : (a b : ℕ) → b ≤ a → pos a -ℤ pos b ≡ pos (a - b)
 difference a b h = omega (arith, ints)
 
 squares_apart : (a b : ℕ) → b < a → b * b < a * a

@@ -18,7 +18,7 @@ use Rattle.dsv_forms.proofs.OnePlaceLemmas.{unless}
 use Rattle.dsv_forms.proofs.OneFall.{one_place_falls-is, fall_same}
 use Rattle.dsv_forms.proofs.OneSound.{neither, at_none, shown_one, show_positive}
 
-never_none : (a : Option FormRefusal) (r : FormRefusal) → or_else a (Some r) ≡ None → ⊥
+pub never_none : (a : Option FormRefusal) (r : FormRefusal) → or_else a (Some r) ≡ None → ⊥
 never_none None r h = cc
 never_none (Some q) r h = cc
 
@@ -34,7 +34,7 @@ falls_one c0 c1 offer h =
     let P = matrix_of offer.form.rows in
     let positive = one_place_refusal part.Positive offer.positive (Some (P 0 0)) in
     let fall = one_place_refusal part.Fall offer.fall (fall_of c0 c1 (P 0 0)) in
-    let both = neither positive fall (neither (place_refusal 1 offer) (or_else positive fall) h).1 in
+    let both = neither positive fall (neither (place_refusal 1 offer.form) (or_else positive fall) h).1 in
     let same : one_place_refusal part.Fall offer.fall (unless (any_wide (fall_numbers 1 c P 0 0)) (fall_entry 1 c P 0 0)) ≡ None =
     ap (one_place_refusal part.Fall offer.fall) (sym (fall_same c P)) ∙ both.1 in
     strictly_falls 1 c P
@@ -46,11 +46,11 @@ had_entry : (w : Bool) (t x : ℤ) → unless w t ≡ Some x → x ≡ t
 had_entry true t x h = cc
 had_entry false t x h = cc
 
-pub fall_form_one : (c0 c1 : ℤ) (offer : Falls) (fall : Form) → fall.d ≡ 1 → HasOneEntry fall.rows (matrix_of fall.rows 0 0)
-    → fall_of c0 c1 (matrix_of offer.form.rows 0 0) ≡ Some (matrix_of fall.rows 0 0) → IsFallForm 1 (vector_of (c0 ∷ c1 ∷ [])) offer.form fall
-fall_form_one c0 c1 offer fall places one h =
+pub fall_form_one : (c0 c1 : ℤ) (form fall : Form) → fall.d ≡ 1 → HasOneEntry fall.rows (matrix_of fall.rows 0 0)
+    → fall_of c0 c1 (matrix_of form.rows 0 0) ≡ Some (matrix_of fall.rows 0 0) → IsFallForm 1 (vector_of (c0 ∷ c1 ∷ [])) form fall
+fall_form_one c0 c1 form fall places one h =
     let c = vector_of (c0 ∷ c1 ∷ []) in
-    let P = matrix_of offer.form.rows in
+    let P = matrix_of form.rows in
     let F = matrix_of fall.rows in
     let entry : F 0 0 ≡ fall_form 1 c P 0 0 = had_entry (any_wide (fall_numbers 1 c P 0 0)) (fall_entry 1 c P 0 0) (F 0 0) (sym (fall_same c P) ∙ h) ∙ sym (fall_form-is 0 c P 0 0) in
     record {
@@ -79,5 +79,5 @@ pub answer_fall : (cs : List ℤ) (c0 c1 : ℤ) (offer : Falls) (r : Result Form
     → IfOk r (λ fall. (offer.form.d ≡ 1) × (fall.d ≡ 1)) → IfOk r (λ fall. HasOneEntry fall.rows (matrix_of fall.rows 0 0))
     → IfOk r (λ fall. fall_of c0 c1 (matrix_of offer.form.rows 0 0) ≡ Some (matrix_of fall.rows 0 0))
     → IfOk r (λ fall. IsFallForm (length cs - 1) (vector_of cs) offer.form fall)
-answer_fall cs c0 c1 offer (Ok fall) e places one h = rw e (fall_form_one c0 c1 offer fall places.1 one h)
+answer_fall cs c0 c1 offer (Ok fall) e places one h = rw e (fall_form_one c0 c1 offer.form fall places.1 one h)
 answer_fall cs c0 c1 offer (Err r) e places one h = tt

@@ -7,6 +7,7 @@ use Rattle.dsv_algebra.specs.Narrow.{is_narrow, narrowed}
 use Rattle.dsv_algebra.specs.Vectors.{Vector, Matrix, vector_of, matrix_of}
 use Rattle.dsv_algebra.specs.Companion.{fall_entry}
 use Rattle.dsv_algebra.proofs.Normaliser.{ring, env, var, num, plus, times, minus}
+use Rattle.dsv_forms.specs.declared.offers.Form.{Form}
 use Rattle.dsv_forms.specs.declared.offers.Falls.{Falls}
 use Rattle.dsv_forms.specs.declared.refusal.Part.TheVariants as part
 use Rattle.dsv_forms.specs.declared.refusal.FormRefusal.{FormRefusal}
@@ -15,7 +16,7 @@ use Rattle.dsv_forms.specs.Refusals.{Test, first_of, any_wide, bad_form, definit
 use Rattle.dsv_forms.specs.OnePlace.{or_else, one_place_falls, fall_of}
 use Rattle.dsv_forms.proofs.OnePlaceLemmas.{unless, one_place}
 
-is_narrow-neg : (x : ℤ) → is_narrow (neg_ℤ x) ≡ is_narrow x
+pub is_narrow-neg : (x : ℤ) → is_narrow (neg_ℤ x) ≡ is_narrow x
 is_narrow-neg (pos zero) = refl
 is_narrow-neg (pos (suc n)) = refl
 is_narrow-neg (negsuc n) = refl
@@ -60,7 +61,7 @@ fall_same c P =
     fourth last t (ap (λ n. not n || last) (ap is_narrow (neg-times b x) ∙ is_narrow-neg (b *ℤ x))) (λ _.
     narrow_end (is_narrow (a *ℤ x -ℤ b *ℤ x)) (a *ℤ x -ℤ b *ℤ x) t last (ending a b x n) (difference a b x)))))
 
-first_before : (b : Bool) (r : FormRefusal) (tests : List Test) → first_of ((b, r) ∷ tests) ≡ or_else (first_of ((b, r) ∷ [])) (first_of tests)
+pub first_before : (b : Bool) (r : FormRefusal) (tests : List Test) → first_of ((b, r) ∷ tests) ≡ or_else (first_of ((b, r) ∷ [])) (first_of tests)
 first_before true r tests = refl
 first_before false r tests = refl
 
@@ -75,8 +76,8 @@ first_of-append (x ∷ xs) ys =
     ap (λ (o : Option FormRefusal). elim x.0 as (λ b. Option FormRefusal) [ true ↦ Some x.1 | false ↦ o ]) (first_of-append xs ys)
     ∙ one_more x (first_of xs) (first_of ys)
 
-form_shape : (offer : Falls) → bad_form 1 offer.form ≡ not (offer.form.d == 1)
-form_shape offer = rw ((Decides-int_eq (matrix_of offer.form.rows 0 0) (matrix_of offer.form.rows 0 0)).1 refl) (grind (arith, nat_tests))
+pub form_shape : (form : Form) → bad_form 1 form ≡ not (form.d == 1)
+form_shape form = rw ((Decides-int_eq (matrix_of form.rows 0 0) (matrix_of form.rows 0 0)).1 refl) (grind (arith, nat_tests))
 
 -- the tests of an offer of one place
 pub one_place_falls-is : (c0 c1 : ℤ) (offer : Falls) → falls_refusal (c0 ∷ c1 ∷ []) offer ≡ one_place_falls c0 c1 offer
@@ -86,4 +87,4 @@ one_place_falls-is c0 c1 offer =
     let positive = definite_tests part.Positive 1 offer.positive P (λ i j. []) in
     let fall = definite_tests part.Fall 1 offer.fall (fall_entry 1 c P) (fall_numbers 1 c P) in
     first_before (bad_form 1 offer.form) (refusal.Shape part.Form) (positive ++ fall)
-    ∙ rw (form_shape offer, first_of-append positive fall, one_place part.Positive offer.positive P (λ i j. []), one_place part.Fall offer.fall (fall_entry 1 c P) (fall_numbers 1 c P), ← fall_same c P) refl
+    ∙ rw (form_shape offer.form, first_of-append positive fall, one_place part.Positive offer.positive P (λ i j. []), one_place part.Fall offer.fall (fall_entry 1 c P) (fall_numbers 1 c P), ← fall_same c P) refl

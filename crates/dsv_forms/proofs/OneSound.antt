@@ -18,7 +18,7 @@ use Rattle.dsv_forms.specs.Refusals.{Test, first_of, weights_of, rows_of, rest_o
 use Rattle.dsv_forms.specs.OnePlace.{or_else, sides_of, sides_refusal, early_refusal, one_place_refusal}
 
 -- a test that comes first and doesn't refuse
-passes : (b : Bool) (r : FormRefusal) (tests : List Test) → first_of ((b, r) ∷ tests) ≡ None → (b ≡ false) × (first_of tests ≡ None)
+pub passes : (b : Bool) (r : FormRefusal) (tests : List Test) → first_of ((b, r) ∷ tests) ≡ None → (b ≡ false) × (first_of tests ≡ None)
 passes true r tests h = cc
 passes false r tests h = (refl, h)
 
@@ -26,11 +26,11 @@ pub neither : (a b : Option FormRefusal) → or_else a b ≡ None → (a ≡ Non
 neither None b h = (refl, h)
 neither (Some r) b h = cc
 
-neither_test : (a b : Bool) → (a || b) ≡ false → (a ≡ false) × (b ≡ false)
+pub neither_test : (a b : Bool) → (a || b) ≡ false → (a ≡ false) × (b ≡ false)
 neither_test true b h = cc
 neither_test false b h = (refl, h)
 
-not_false : (a : Bool) → not a ≡ false → a ≡ true
+pub not_false : (a : Bool) → not a ≡ false → a ≡ true
 not_false true h = refl
 not_false false h = cc
 
@@ -42,27 +42,27 @@ pub record ShowsOne (s : Squares) (x : ℤ) : Type 0 where
   pub identity : s.m *ℤ x ≡ weights_of s 0 *ℤ rows_of s 0 0 *ℤ rows_of s 0 0 +ℤ rest_of s 0 0
   pub rest : pos 0 ≤ℤ rest_of s 0 0
 
-less_not : (a b : ℤ) → int_lt a b ≡ false → b ≤ℤ a
+pub less_not : (a b : ℤ) → int_lt a b ≡ false → b ≤ℤ a
 less_not a b h = grind (arith, ints)
 
-less : (a b : ℤ) → int_lt a b ≡ true → a <ℤ b
+pub less : (a b : ℤ) → int_lt a b ≡ true → a <ℤ b
 less a b h = grind (arith, ints)
 
-more_than_none : (m : ℤ) → pos 1 ≤ℤ m → pos 0 <ℤ m
+pub more_than_none : (m : ℤ) → pos 1 ≤ℤ m → pos 0 <ℤ m
 more_than_none m h = omega (arith, ints)
 
 -- a number that had to be narrow
-narrow_open : (n : Bool) (z : ℤ) (k : ℤ → Option (ℤ × ℤ)) (p : Part) (s : Squares)
+pub narrow_open : (n : Bool) (z : ℤ) (k : ℤ → Option (ℤ × ℤ)) (p : Part) (s : Squares)
     → sides_refusal p s (option_and_then k (if n then Some z else None)) ≡ None → sides_refusal p s (k z) ≡ None
 narrow_open true z k p s h = h
 narrow_open false z k p s h = cc
 
-narrow_both : (n : Bool) (left right : ℤ) (p : Part) (s : Squares)
+pub narrow_both : (n : Bool) (left right : ℤ) (p : Part) (s : Squares)
     → sides_refusal p s (option_map (λ r. (left, r)) (if n then Some right else None)) ≡ None → sides_refusal p s (Some (left, right)) ≡ None
 narrow_both true left right p s h = h
 narrow_both false left right p s h = cc
 
-both_shown : (p : Part) (s : Squares) (x : ℤ) → sides_refusal p s (sides_of s x) ≡ None
+pub both_shown : (p : Part) (s : Squares) (x : ℤ) → sides_refusal p s (sides_of s x) ≡ None
     → sides_refusal p s (Some (s.m *ℤ x, weights_of s 0 *ℤ rows_of s 0 0 *ℤ rows_of s 0 0 +ℤ rest_of s 0 0)) ≡ None
 both_shown p s x h =
     let w = weights_of s 0 in
@@ -74,6 +74,16 @@ both_shown p s x h =
     (narrow_open (is_narrow (s.m *ℤ x)) (s.m *ℤ x)
     (λ left. option_and_then (λ a. option_and_then (λ b. option_map (λ right. (left, right)) (narrowed (b +ℤ rest))) (narrowed (a *ℤ r))) (narrowed (w *ℤ r))) p s h)))
 
+-- both sides and a rest without a refusal
+pub sides_shown : (p : Part) (s : Squares) (left right : ℤ) → sides_refusal p s (Some (left, right)) ≡ None → (left ≡ right) × (pos 0 ≤ℤ rest_of s 0 0)
+sides_shown p s left right h =
+    let same = passes (not (int_eq left right)) (refusal.Identity p 0 0)
+    ((not (is_narrow (rest_of s 0 0)) || int_lt (rest_of s 0 0) (pos 0), refusal.Dominance p 0) ∷ []) h in
+    let rest = passes (not (is_narrow (rest_of s 0 0)) || int_lt (rest_of s 0 0) (pos 0)) (refusal.Dominance p 0) [] same.1 in (
+      (Decides-int_eq left right).0 (not_false (int_eq left right) same.0),
+      less_not (rest_of s 0 0) (pos 0) (neither_test (not (is_narrow (rest_of s 0 0))) (int_lt (rest_of s 0 0) (pos 0)) rest.0).1,
+    )
+
 -- an entry without a refusal is shown positive
 pub shown_one : (p : Part) (s : Squares) (x : ℤ) → one_place_refusal p s (Some x) ≡ None → ShowsOne s x
 shown_one p s x h =
@@ -82,15 +92,13 @@ shown_one p s x h =
     let weight = passes (not (int_lt (pos 0) (weights_of s 0))) (refusal.Weight p 0) ((int_eq (rows_of s 0 0) (pos 0), refusal.Triangle p 0) ∷ []) shape.1 in
     let row = passes (int_eq (rows_of s 0 0) (pos 0)) (refusal.Triangle p 0) [] weight.1 in
     let right = weights_of s 0 *ℤ rows_of s 0 0 *ℤ rows_of s 0 0 +ℤ rest_of s 0 0 in
-    let same = passes (not (int_eq (s.m *ℤ x) right)) (refusal.Identity p 0 0)
-    ((not (is_narrow (rest_of s 0 0)) || int_lt (rest_of s 0 0) (pos 0), refusal.Dominance p 0) ∷ []) (both_shown p s x parts.1) in
-    let rest = passes (not (is_narrow (rest_of s 0 0)) || int_lt (rest_of s 0 0) (pos 0)) (refusal.Dominance p 0) [] same.1 in
+    let sides = sides_shown p s (s.m *ℤ x) right (both_shown p s x parts.1) in
     record {
       scale = more_than_none s.m (less_not s.m (pos 1) (neither_test (int_lt s.m (pos 1)) (not (s.count == 1)) shape.0).0);
       weight = less (pos 0) (weights_of s 0) (not_false (int_lt (pos 0) (weights_of s 0)) weight.0);
       row = λ e. apart (row.0) ((Decides-int_eq (rows_of s 0 0) (pos 0)).1 e);
-      identity = (Decides-int_eq (s.m *ℤ x) right).0 (not_false (int_eq (s.m *ℤ x) right) same.0);
-      rest = less_not (rest_of s 0 0) (pos 0) (neither_test (not (is_narrow (rest_of s 0 0))) (int_lt (rest_of s 0 0) (pos 0)) rest.0).1;
+      identity = sides.0;
+      rest = sides.1;
     }
   where
     apart : {b : Bool} → b ≡ false → b ≡ true → ⊥

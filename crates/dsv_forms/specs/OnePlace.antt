@@ -4,6 +4,7 @@ use Rattle.std.specs.Option.{option_and_then, option_map}
 use Rattle.std.specs.Ordering.{int_eq}
 use Rattle.dsv_algebra.specs.Narrow.{is_narrow, narrowed}
 use Rattle.dsv_algebra.specs.Vectors.{matrix_of}
+use Rattle.dsv_forms.specs.declared.offers.Form.{Form}
 use Rattle.dsv_forms.specs.declared.offers.Squares.{Squares}
 use Rattle.dsv_forms.specs.declared.offers.Falls.{Falls}
 use Rattle.dsv_forms.specs.declared.refusal.Part.{Part}
@@ -53,15 +54,15 @@ fall_of c0 c1 x =
     option_and_then (λ kept.
     option_and_then (λ left. narrowed (kept -ℤ left)) (narrowed (b *ℤ x))) (narrowed (a *ℤ x))) (narrowed (c1 *ℤ c1))) (narrowed (c0 *ℤ c0))
 
--- why an offer hasn't this number of places
-abbrev pub place_refusal : ℕ → Falls → Option FormRefusal
-place_refusal d offer = first_of ((not (offer.form.d == d), refusal.Shape part.Form) ∷ [])
+-- why a form hasn't this number of places
+abbrev pub place_refusal : ℕ → Form → Option FormRefusal
+place_refusal d form = first_of ((not (form.d == d), refusal.Shape part.Form) ∷ [])
 
 -- why an offer of one place isn't accepted for the polynomial c0, c1
 abbrev pub one_place_falls : ℤ → ℤ → Falls → Option FormRefusal
 one_place_falls c0 c1 offer =
     let x = matrix_of offer.form.rows 0 0 in
-    or_else (place_refusal 1 offer)
+    or_else (place_refusal 1 offer.form)
     (or_else (one_place_refusal part.Positive offer.positive (Some x)) (one_place_refusal part.Fall offer.fall (fall_of c0 c1 x)))
 
 -- why squares without a place don't show what they should
@@ -71,7 +72,7 @@ no_squares_refusal p s = first_of ((int_lt s.m (pos 1) || not (s.count == 0), re
 -- why an offer without a place isn't accepted for a polynomial of order 0
 abbrev pub no_place_falls : Falls → Option FormRefusal
 no_place_falls offer =
-    or_else (place_refusal 0 offer)
+    or_else (place_refusal 0 offer.form)
     (or_else (no_squares_refusal part.Positive offer.positive) (no_squares_refusal part.Fall offer.fall))
 
 -- The rows have this entry in their first place, and 0 elsewhere.

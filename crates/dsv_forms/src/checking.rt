@@ -1,4 +1,4 @@
-// The check of an offer.
+// The check of an offer of a form that falls.
 ghost use Rattle.std.specs.Prelude.{◌≡◌, ◌≤◌, ◌+◌, ◌-◌, length, pos, Some, IfOk, OnOk};
 ghost use Rattle.dsv_algebra.specs.Vectors.{vector_of, matrix_of};
 ghost use Rattle.dsv_algebra.specs.Companion.{StrictlyFalls};
@@ -45,7 +45,7 @@ fn check_no_place(offer: &Falls) -> Result<Form, FormRefusal>
 }
 
 /// Checks squares without a place.
-fn check_no_squares(part: Part, squares: &Squares) -> Result<(), FormRefusal>
+pub(crate) fn check_no_squares(part: Part, squares: &Squares) -> Result<(), FormRefusal>
     ensures { refusal_of result ≡ no_squares_refusal part squares.now }
 {
     if squares.m < 1 || squares.count != 0 {
@@ -74,7 +74,7 @@ fn check_place(c0: Whole, c1: Whole, offer: &Falls) -> Result<Form, FormRefusal>
 }
 
 /// A matrix with this entry in its first place.
-fn one_entry(entry: i128) -> [[i128; 8]; 8]
+pub(crate) fn one_entry(entry: i128) -> [[i128; 8]; 8]
     ensures { HasOneEntry result entry }
 {
     let mut rows = [[0; 8]; 8];

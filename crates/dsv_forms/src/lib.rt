@@ -2,12 +2,14 @@
 #![tactic(auto)]
 
 mod checking;
+mod keeping;
 mod offers;
 mod one_place;
 mod poly;
 mod refusal;
 
 pub use checking::check_falls;
+pub use keeping::check_kept_away;
 pub use offers::{Falls, Form, FormOffer, KeptAway, Squares};
 pub use poly::{BadPoly, Poly};
 pub use refusal::{FormRefusal, Part};

@@ -1,0 +1,4 @@
+pub mod Accepted
+pub mod Casts
+pub mod Choosing
+pub mod Halves

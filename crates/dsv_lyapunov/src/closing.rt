@@ -1,0 +1,123 @@
+// The closed form of a polynomial: a form that shows whether its trajectories fall, in terms of its coefficients.
+ghost use Rattle.std.specs.Prelude.{◌≡◌, ◌≤◌, ◌*◌, ◌-◌, ◌^◌, nat_lt, if◌then◌else◌, [], ◌∷◌, length, pos, negsuc};
+ghost use Rattle.dsv_lyapunov.specs.ClosedForm.{row_of, matrix_with, form_with, squares_with, without_place, falling, rising, closed_form_of, IsAccepted};
+
+use dsv_forms::{Falls, Form, FormOffer, KeptAway, Poly, Squares};
+
+/// The offer that the closed form of the polynomial gives. It takes no memory.
+pub fn closed_form(poly: &Poly) -> FormOffer
+    requires { length poly.now ≤ 2 }
+    ensures exact { result ≡ closed_form_of poly.now }
+    ensures accepted { IsAccepted poly.now result }
+{
+    match poly.coefficients() {
+        [_] => FormOffer::Falls(offer_without_place()),
+        [c0, c1] => first_order(c0.unsigned_abs(), c1.unsigned_abs()),
+        _ => unreachable!(),
+    }
+}
+
+/// The offer for a polynomial of order 0, which has no vectors.
+fn offer_without_place() -> Falls
+    ensures { result ≡ without_place }
+{
+    let none = Squares {
+        m: 1,
+        count: 0,
+        weights: [0; 8],
+        rows: [[0; 8]; 8],
+        rest: [[0; 8]; 8],
+    };
+    Falls {
+        form: Form {
+            d: 0,
+            rows: [[0; 8]; 8],
+        },
+        positive: none,
+        fall: none,
+    }
+}
+
+/// The offer for a polynomial of order 1 with coefficients of these sizes.
+fn first_order(size_0: u64, size_1: u64) -> FormOffer
+    requires small_0 { size_0 ≤ 2 ^ 44 }
+    requires small_1 { size_1 ≤ 2 ^ 44 }
+    ensures { result ≡ (if nat_lt size_1 size_0
+        then FormOffer.Falls (falling (pos (size_0 * size_0 - size_1 * size_1)))
+        else FormOffer.KeptAway (rising (pos (size_1 * size_1 - size_0 * size_0)))) }
+{
+    if size_1 < size_0 {
+        FormOffer::Falls(falling_offer(difference_of_squares(size_0, size_1)))
+    } else {
+        FormOffer::KeptAway(rising_offer(difference_of_squares(size_1, size_0)))
+    }
+}
+
+fn difference_of_squares(a: u64, b: u64) -> i128
+    requires apart { b ≤ a }
+    requires small { a ≤ 2 ^ 44 }
+    ensures { result ≡ pos (a * a - b * b) }
+{
+    let (a, b) = (u128::from(a), u128::from(b));
+    (a * a - b * b) as i128
+}
+
+/// The form 1, which loses this number, a positive one, in a step.
+fn falling_offer(loss: i128) -> Falls
+    ensures { result ≡ falling loss }
+{
+    Falls {
+        form: Form {
+            d: 1,
+            rows: first_entry(1),
+        },
+        positive: one_square(1),
+        fall: one_square(loss),
+    }
+}
+
+/// The form -1, which is negative at 1 and loses this number, 0 or more, in a step.
+fn rising_offer(loss: i128) -> KeptAway
+    ensures { result ≡ rising loss }
+{
+    let mut start = [0; 8];
+    start[0] = 1;
+    KeptAway {
+        form: Form {
+            d: 1,
+            rows: first_entry(-1),
+        },
+        start,
+        fall: Squares {
+            m: 1,
+            count: 0,
+            weights: [0; 8],
+            rows: [[0; 8]; 8],
+            rest: first_entry(loss),
+        },
+    }
+}
+
+/// The square of the one place itself, with this weight.
+fn one_square(weight: i128) -> Squares
+    ensures { result ≡ squares_with (pos 1) (weight ∷ []) ((pos 1 ∷ []) ∷ []) [] }
+{
+    let mut weights = [0; 8];
+    weights[0] = weight;
+    Squares {
+        m: 1,
+        count: 1,
+        weights,
+        rows: first_entry(1),
+        rest: [[0; 8]; 8],
+    }
+}
+
+/// The matrix with this entry in its first place and 0 elsewhere.
+fn first_entry(entry: i128) -> [[i128; 8]; 8]
+    ensures { result ≡ matrix_with ((entry ∷ []) ∷ []) }
+{
+    let mut rows = [[0; 8]; 8];
+    rows[0][0] = entry;
+    rows
+}

@@ -1,0 +1,12 @@
+//! Decides whether the trajectories of a polynomial fall, by forms that are checked.
+#![tactic(auto)]
+
+mod closing;
+mod deciding;
+mod reducing;
+#[cfg(test)]
+mod tests;
+
+pub use closing::closed_form;
+pub use deciding::{FormAnswer, decide};
+pub use reducing::reduced;
