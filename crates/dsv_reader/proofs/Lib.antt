@@ -1,2 +1,4 @@
+pub mod FirstQuotients
 pub mod Padding
+pub mod TextLaws
 pub mod Wholes

@@ -1,5 +1,5 @@
 -- Controllers as contracts see them.
-use Rattle.std.specs.Prelude.{◌≡◌, ℕ, ◌^◌, ◌<◌, ◌≤◌, List, length, Option, ℤ, pos, ◌<ℤ◌, slice_index_or}
+use Rattle.std.specs.Prelude.{◌≡◌, ℕ, ◌^◌, ◌<◌, ◌≤◌, List, length, Option, pos, ◌<ℤ◌, slice_index_or}
 use Rattle.std.specs.Int.RustNames.{unsigned_abs}
 use Rattle.dsv_fraction.specs.Ratio.{Ratio}
 use Rattle.dsv_word.specs.Width.{IsLawful}

@@ -1,5 +1,5 @@
 -- What a number of a file says, and where it breaks the rule of its field.
-use Rattle.std.specs.Prelude.{ℕ, ◌+◌, ◌^◌, Bool, true, false, not, ◌&&◌, ◌||◌, ◌==◌, nat_lt, nat_le, if◌then◌else◌, List, [], ◌∷◌, ◌++◌, length, take, drop, Result, Ok, Err, ℤ, pos, int_lt}
+use Rattle.std.specs.Prelude.{ℕ, ◌^◌, Bool, not, ◌&&◌, ◌==◌, nat_lt, nat_le, if◌then◌else◌, List, [], ◌∷◌, ◌++◌, length, take, drop, Result, Ok, Err, pos, int_lt}
 use Rattle.std.specs.Int.RustNames.{unsigned_abs}
 use Rattle.dsv_fraction.specs.Ratio.{Ratio}
 use Rattle.dsv_fraction.specs.Number.{has_byte, sign_len, digits_len, front_digits}
@@ -9,7 +9,6 @@ use Rattle.dsv_fraction.specs.declared.decimal.DecimalRefusal.TheVariants as dec
 use Rattle.dsv_token.specs.declared.refusal.FileRefusal.{FileRefusal}
 use Rattle.dsv_token.specs.declared.refusal.FileRefusal.TheVariants as refusal
 use Rattle.dsv_token.specs.declared.token.Token.{Token}
-use Rattle.dsv_syntax.specs.declared.entry.Entry.{Entry}
 use Rattle.dsv_syntax.specs.Steps.{◌>>=◌}
 use Rattle.dsv_reader.specs.declared.numbers.Whole.{Whole}
 use Rattle.dsv_reader.specs.declared.numbers.Coefficient.{Coefficient}

@@ -1,5 +1,5 @@
 -- What a file says, pass by pass over the whole file; the first pass that refuses gives the answer.
-use Rattle.std.specs.Prelude.{◌≡◌, ℕ, ◌+◌, ◌-◌, Bool, true, false, not, ◌&&◌, ◌==◌, nat_lt, nat_le, max, if◌then◌else◌, List, [], ◌∷◌, ◌++◌, length, replicate, Option, Some, None, Result, Ok, Err, ℤ, pos, unwrap_or}
+use Rattle.std.specs.Prelude.{◌≡◌, ℕ, ◌+◌, ◌-◌, Bool, true, false, ◌&&◌, ◌==◌, nat_lt, nat_le, max, if◌then◌else◌, List, [], ◌∷◌, ◌++◌, length, replicate, Option, Some, None, Result, Ok, Err, pos, unwrap_or}
 use Rattle.std.specs.Ordering.{int_eq}
 use Rattle.dsv_fraction.specs.Ratio.{Ratio}
 use Rattle.dsv_fraction.specs.Arithmetic.{quotient, narrowed}

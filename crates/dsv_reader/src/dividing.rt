@@ -1,5 +1,5 @@
 // Coefficients divided by the leading one.
-ghost use Rattle.std.specs.Prelude.{◌≡◌, ◌≢◌, ◌≤◌, length, pos, IfOk, Ok, Err, MatchResult};
+ghost use Rattle.std.specs.Prelude.{◌≡◌, ◌≢◌, ◌<◌, ◌≤◌, length, pos, IfOk, Ok, Err, MatchResult};
 ghost use Rattle.dsv_fraction.specs.Arithmetic.{narrowed, quotient};
 ghost use Rattle.dsv_reader.specs.Reading.{sized, BeginsWith, leading, by_quotient, divided, padded};
 
@@ -23,13 +23,15 @@ pub(crate) fn sized(size: Whole, list: &Coefficients) -> Result<(), FileRefusal>
 pub(crate) fn leading(list: &Coefficients) -> Result<Frac, FileRefusal>
     ensures value { result ≡ leading list.now }
     ensures apart { IfOk result (λ q. q.num ≢ pos 0) }
+    ensures positive { IfOk result (λ q. 0 < q.den) }
     ensures some { IfOk result (λ _. 1 ≤ length list.now) }
     ensures first { IfOk result (λ q. BeginsWith q list.now) }
 {
     let [first, ..] = list.as_slice() else {
         return Err(FileRefusal::LeadingZero { at: 0 });
     };
-    if first.value.num() == 0 {
+    let (num, _den) = first.value.to_parts();
+    if num == 0 {
         return Err(FileRefusal::LeadingZero {
             at: first.at as u64,
         });

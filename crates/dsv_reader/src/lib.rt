@@ -7,11 +7,17 @@ mod costing;
 mod costs;
 mod dividing;
 mod fields;
-mod fixed_form;
+mod law;
 mod lists;
 mod numbers;
+mod reading;
 mod settings;
 
 pub use controller::Controller;
 pub use costs::Costs;
-pub use fixed_form::{FirstOrder, first_order};
+pub use dsv_token::{Field, FileRefusal, Wanted};
+pub use law::one_answer;
+pub use reading::read;
+
+#[cfg(test)]
+mod tests;

@@ -1,4 +1,4 @@
-use Rattle.std.proofs.Common.{◌≡◌, drop, length, []}
+use Rattle.std.proofs.Common.{◌≡◌, drop, length}
 use Rattle.dsv_reader.specs.Reading.{divided_from, divided}
 use Rattle.dsv_reader.proofs.dividing.divided.Given as goal
 

@@ -1,0 +1,37 @@
+-- What a controller file is, apart from how it is read: a text, cut into gaps and tokens, whose tokens are in the
+-- grammar; with each field once, and the values of its fields.
+use Rattle.std.specs.Prelude.{◌≡◌, ℕ, List, true, Ok, Err}
+use Rattle.dsv_token.specs.Pieces.{IsCut}
+use Rattle.dsv_token.specs.Text.{text_of}
+use Rattle.dsv_token.specs.declared.refusal.FileRefusal.{FileRefusal}
+use Rattle.dsv_token.specs.declared.token.Token.{Token}
+use Rattle.dsv_syntax.specs.Grammar.{IsFile}
+use Rattle.dsv_syntax.specs.declared.parsing.Syntax.{Syntax}
+use Rattle.dsv_reader.specs.declared.fields.Values.{Values}
+use Rattle.dsv_reader.specs.declared.blocks.Blocks.{Blocks}
+use Rattle.dsv_reader.specs.Controllers.{Design}
+use Rattle.dsv_reader.specs.Fields.{values_of}
+use Rattle.dsv_reader.specs.Reading.{blocks_of, design_of, reading}
+
+-- The bytes are the text of this controller.
+pub record IsTextOf (bytes : List ℕ) (c : Design) : Type 0 where
+  -- they are UTF-8
+  pub text : text_of bytes ≡ Ok tt
+  -- without gaps they are these tokens
+  pub tokens : List Token
+  pub cut : IsCut true 0 bytes tokens
+  -- which are these fields in their blocks
+  pub syntax : Syntax
+  pub grammar : IsFile tokens syntax
+  -- none of which stands twice, and whose values these are
+  pub values : Values
+  pub read : values_of bytes syntax.entries ≡ Ok values
+  -- with those that a file has to have
+  pub blocks : Blocks
+  pub whole : blocks_of syntax values ≡ Ok blocks
+  -- of which the controller is made
+  pub made : design_of blocks ≡ Ok c
+
+-- The refusal is the first fault of the bytes.
+abbrev pub IsFaultOf : List ℕ → FileRefusal → Type 0
+IsFaultOf bytes r = reading bytes ≡ Err r

@@ -1,0 +1,17 @@
+// What the bytes of a file are.
+ghost use Rattle.std.specs.Prelude.{◌≡◌, ◌↔◌, ◌⊎◌, ℕ, List, Ok};
+ghost use Rattle.dsv_token.specs.declared.refusal.FileRefusal.{FileRefusal};
+ghost use Rattle.dsv_reader.specs.Controllers.{Design};
+ghost use Rattle.dsv_reader.specs.Reading.{reading};
+ghost use Rattle.dsv_reader.specs.Texts.{IsTextOf, IsFaultOf};
+
+/// The law behind [`read`](crate::read), for proofs: each list of bytes is the text of one controller or has one first
+/// fault, and never both. The call does nothing.
+pub fn one_answer()
+    ensures some { (bytes : List ℕ) → ((c : Design) × IsTextOf bytes c) ⊎ ((r : FileRefusal) × IsFaultOf bytes r) }
+    ensures apart { (bytes : List ℕ) (c : Design) (r : FileRefusal) → IsTextOf bytes c → IsFaultOf bytes r → ⊥ }
+    ensures one { (bytes : List ℕ) (c d : Design) → IsTextOf bytes c → IsTextOf bytes d → c ≡ d }
+    ensures first { (bytes : List ℕ) (r s : FileRefusal) → IsFaultOf bytes r → IsFaultOf bytes s → r ≡ s }
+    ensures read { (bytes : List ℕ) (c : Design) → (reading bytes ≡ Ok c) ↔ IsTextOf bytes c }
+{
+}
