@@ -1,0 +1,5 @@
+pub mod Asking
+pub mod Jobs
+pub mod Reading
+pub mod Taken
+pub mod Views

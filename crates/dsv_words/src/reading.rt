@@ -1,0 +1,113 @@
+// Reading word after word.
+ghost use Rattle.std.specs.Prelude.{◌≡◌, [], map, string_bytes, option_map, IfOk};
+ghost use Rattle.dsv_words.specs.Reading.{uses_of, start, gives, once, meet, meet_option};
+ghost use Rattle.dsv_words.specs.Views.{rules_in, uses_in, option_text};
+ghost use Rattle.dsv_words.specs.Taken.{IsTaken};
+
+use crate::given::{Given, is_given};
+use crate::options::{FILE_KEY, OptionRule, takes_value};
+use crate::shape::{Shape, shape_of};
+use dsv_base::NoMemory;
+use std::alloc::Global;
+use std::marker::Model;
+
+/// What was read so far.
+#[derive(Drop)]
+pub struct Reader<'a> {
+    uses: Vec<Given<'a>>,
+    waits: Option<&'a str>,
+    ended: bool,
+}
+
+impl<'a> Model for Reader<'a> {
+    ghost use Rattle.dsv_words.specs.Reading.{Reading};
+
+    ghost Value = { Reading };
+
+    ghost use Rattle.dsv_words.specs.Views.{uses_in, option_text};
+
+    ghost view = { λ r. record { uses = uses_in r.uses.items; waits = option_text r.waits; ended = r.ended } };
+}
+
+impl<'a> Reader<'a> {
+    fn new(alloc: Global) -> Reader<'a>
+        ensures { result ≡ start }
+    {
+        Reader {
+            uses: Vec::new(alloc),
+            waits: None,
+            ended: false,
+        }
+    }
+
+    /// Keeps a value; false where the key has one.
+    fn give(&mut self, key: &'a str, value: &'a str) -> Result<bool, NoMemory>
+        ensures { IfOk result (λ taken. IsTaken (gives key.now value.now self.old) taken self.new) }
+    {
+        if is_given(self.uses.as_slice(), key) {
+            return Ok(false);
+        }
+        self.uses.push(Given { key, value })?;
+        self.waits = None;
+        Ok(true)
+    }
+
+    /// Takes an option, with the value that follows `=` in its word.
+    fn meet_option(&mut self, rules: &[OptionRule], name: &'a str, value: Option<&'a str>) -> Result<bool, NoMemory>
+        ensures { IfOk result (λ taken. IsTaken (meet_option (rules_in rules.now) name.now (option_text value.entry) self.old) taken self.new) }
+    {
+        match (takes_value(rules, name), value) {
+            (Some(true), Some(value)) => self.give(name, value),
+            (Some(true), None) => {
+                if is_given(self.uses.as_slice(), name) {
+                    return Ok(false);
+                }
+                self.waits = Some(name);
+                Ok(true)
+            }
+            (Some(false), None) => self.give(name, "true"),
+            (_, _) => Ok(false),
+        }
+    }
+
+    /// Takes the next word; false where it isn't allowed.
+    fn meet(&mut self, rules: &[OptionRule], word: &'a str) -> Result<bool, NoMemory>
+        ensures { IfOk result (λ taken. IsTaken (meet (rules_in rules.now) self.old word.now) taken self.new) }
+    {
+        if self.ended {
+            return self.give(FILE_KEY, word);
+        }
+        match (shape_of(word), self.waits) {
+            (Shape::Plain, None) => self.give(FILE_KEY, word),
+            (Shape::Plain, Some(name)) => self.give(name, word),
+            (Shape::Stop, None) => {
+                self.ended = true;
+                Ok(true)
+            }
+            (Shape::Long(name, value), None) => self.meet_option(rules, name, value),
+            (_, _) => Ok(false),
+        }
+    }
+}
+
+#[tactic(auto, unfolding(crate::specs::Reading::uses_of))]
+/// What the words give, in their order, where the options with these rules allow them.
+pub fn read_words<'a>(alloc: Global, rules: &[OptionRule], words: &'a [String]) -> Result<Option<Vec<Given<'a>>>, NoMemory>
+    ensures { IfOk result (λ found. option_map (λ uses. uses_in uses.items) found ≡ uses_of (rules_in rules.now) (map string_bytes words.entry.now)) }
+{
+    let mut reader = Reader::new(alloc);
+    for word in words {
+        if !reader.meet(rules, word.as_str())? {
+            return Ok(None);
+        }
+    }
+    if reader.waits.is_some() {
+        return Ok(None);
+    }
+    let Reader {
+        uses,
+        waits: _,
+        ended: _,
+    } = reader;
+    Ok(Some(uses))
+}
