@@ -1,5 +1,5 @@
 -- The job that the words ask for.
-use Rattle.std.specs.Prelude.{ℕ, ◌==◌, List, [], ◌∷◌, Bool, true, false, Option, Some, None, codes, if◌then◌else◌, option_and_then, option_map, length}
+use Rattle.std.specs.Prelude.{ℕ, ◌==◌, List, [], ◌∷◌, Bool, Option, Some, None, codes, if◌then◌else◌, option_and_then, length}
 use Rattle.std.specs.List.{list_any}
 use Rattle.std.specs.Map.{lookup}
 use Rattle.std.specs.Str.{bytes_eq}
@@ -12,17 +12,15 @@ use Rattle.dsv_word.specs.declared.format.Overflow.TheVariants.{Wrap, Saturate}
 use Rattle.dsv_words.specs.declared.job.Property.{Property}
 use Rattle.dsv_words.specs.declared.job.Property.TheVariants.{Stability}
 use Rattle.dsv_words.specs.declared.job.Design.{Design}
-use Rattle.dsv_words.specs.Reading.{Rule, Use, file_key, value_of, uses_of}
+use Rattle.dsv_words.specs.Options.{command_options, file_key}
+use Rattle.dsv_words.specs.Reading.{Use, value_of, uses_of}
 
--- the options of the command
-abbrev pub options : List Rule
-options =
-  record { name = codes "property"; takes_value = true }
-  ∷ record { name = codes "realization"; takes_value = true }
-  ∷ record { name = codes "rounding"; takes_value = true }
-  ∷ record { name = codes "overflow-mode"; takes_value = true }
-  ∷ []
+-- the next, where there is the first
+infixl 10 ◌>>=◌
+abbrev pub ◌>>=◌ : {A B : Type 0} → Option A → (A → Option B) → Option B
+found >>= next = option_and_then next found
 
+-- what the names of values stand for
 abbrev pub property_named : List ℕ → Option Property
 property_named name = lookup (bytes_eq name) ((codes "STABILITY", Stability) ∷ [])
 
@@ -40,33 +38,33 @@ abbrev pub chosen : {A : Type 0} → (List ℕ → Option A) → A → Option (L
 chosen named default None = Some default
 chosen named default (Some name) = named name
 
+-- DFI, FLOOR and WRAPAROUND are the defaults
 abbrev pub design_of_uses : List Use → Option Design
 design_of_uses uses =
-  option_and_then (λ kind.
-  option_and_then (λ rounding.
-  option_map (λ overflow. record { kind = kind; rounding = rounding; overflow = overflow })
-    (chosen overflow_named Wrap (value_of (codes "overflow-mode") uses)))
-    (chosen rounding_named Floor (value_of (codes "rounding") uses)))
-    (chosen kind_named Dfi (value_of (codes "realization") uses))
+    chosen kind_named Dfi (value_of (codes "realization") uses) >>= λ kind.
+    chosen rounding_named Floor (value_of (codes "rounding") uses) >>= λ rounding.
+    chosen overflow_named Wrap (value_of (codes "overflow-mode") uses) >>= λ overflow.
+    Some (record { kind = kind; rounding = rounding; overflow = overflow })
 
+-- FILE or the value of an option is empty
 abbrev pub has_empty_value : List Use → Bool
 has_empty_value uses = list_any (λ u. length u.value == 0) uses
 
+-- what is asked: a property of the controller in a file, realised by a design
 pub record Asked : Type 0 where
   pub file : List ℕ
   pub property : Property
   pub design : Design
 
--- FILE and a property are given, and no value is empty
+-- no value is empty, and FILE and a property are given
 abbrev pub job_of_uses : List Use → Option Asked
 job_of_uses uses = if has_empty_value uses then None else
-  option_and_then (λ file.
-  option_and_then (λ property.
-  option_map (λ design. record { file = file; property = property; design = design })
-    (design_of_uses uses))
-    (option_and_then property_named (value_of (codes "property") uses)))
-    (value_of file_key uses)
+    (value_of file_key uses >>= λ file.
+    value_of (codes "property") uses >>= λ name.
+    property_named name >>= λ property.
+    design_of_uses uses >>= λ design.
+    Some (record { file = file; property = property; design = design }))
 
 -- the job of a list of words, or none
 unfoldable pub job_of : List (List ℕ) → Option Asked
-job_of words = option_and_then job_of_uses (uses_of options words)
+job_of words = uses_of command_options words >>= job_of_uses

@@ -13,14 +13,14 @@ use dsv_quantiser::Kind;
 use dsv_word::{Overflow, Rounding};
 use std::alloc::Global;
 
-/// What is asked of a controller.
+/// A property of controllers.
 #[derive(Clone, Copy, Debug, PartialEq, Eq)]
 pub enum Property {
-    /// Whether all its poles are inside the unit circle.
+    /// All its poles are inside the unit circle.
     Stability,
 }
 
-/// How a controller is realised: its structure and its modes.
+/// How a controller is realised: the structure of its realisation, and how its sums become words.
 #[derive(Clone, Copy, Debug, PartialEq, Eq)]
 pub struct Design {
     pub kind: Kind,
@@ -28,9 +28,10 @@ pub struct Design {
     pub overflow: Overflow,
 }
 
-/// A job of the command: a property of the controller in a file, as it is realised.
+/// A job of the command: the property that is to be decided of the controller in a file, realised by this design.
 #[derive(Clone, Copy, Debug)]
 pub struct Job<'a> {
+    /// The name of the file, which isn't empty.
     pub file: &'a str,
     pub property: Property,
     pub design: Design,
@@ -88,8 +89,8 @@ fn find_job<'a>(uses: &[Given<'a>]) -> Option<Job<'a>>
     })
 }
 
-#[tactic(auto, unfolding(crate::specs::Jobs::job_of))]
 /// The job that the words behind the program's name ask for; `None` where they are no job.
+#[tactic(auto, unfolding(crate::specs::Jobs::job_of))]
 pub fn read_job<'a>(alloc: Global, words: &'a [String]) -> Result<Option<Job<'a>>, NoMemory>
     ensures { IfOk result (λ job. option_map asked_of job ≡ job_of (map string_bytes words.entry.now)) }
 {

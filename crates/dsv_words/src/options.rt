@@ -1,30 +1,31 @@
 // The options of the command.
-ghost use Rattle.std.specs.Prelude.{◌≡◌, option_map};
-ghost use Rattle.dsv_words.specs.Reading.{find_option, file_key};
-ghost use Rattle.dsv_words.specs.Views.{rules_in};
+ghost use Rattle.std.specs.Prelude.{◌≡◌};
+ghost use Rattle.std.specs.Map.{lookup};
+ghost use Rattle.std.specs.Str.{bytes_eq};
+ghost use Rattle.dsv_words.specs.Views.{options_in};
 
 /// An option: its name without the dashes, and whether it takes a value.
 #[derive(Clone, Copy, Debug)]
-pub struct OptionRule {
+pub struct CommandOption {
     pub name: &'static str,
     pub takes_value: bool,
 }
 
-/// The options that the command has.
-pub const OPTIONS: [OptionRule; 4] = [
-    OptionRule {
+/// The options that the command has. One more stands here and in `specs/Options.antt`; what it asks for, in the job.
+pub const OPTIONS: [CommandOption; 4] = [
+    CommandOption {
         name: "property",
         takes_value: true,
     },
-    OptionRule {
+    CommandOption {
         name: "realization",
         takes_value: true,
     },
-    OptionRule {
+    CommandOption {
         name: "rounding",
         takes_value: true,
     },
-    OptionRule {
+    CommandOption {
         name: "overflow-mode",
         takes_value: true,
     },
@@ -33,13 +34,16 @@ pub const OPTIONS: [OptionRule; 4] = [
 /// The key of FILE. No option has it, since the name of an option ends before the first `=` of its word.
 pub const FILE_KEY: &str = "FILE=";
 
+/// The value of an option that takes none.
+pub const FLAG_VALUE: &str = "true";
+
 /// Whether the option of this name takes a value, where there is such an option.
-pub fn takes_value(rules: &[OptionRule], name: &str) -> Option<bool>
-    ensures { result ≡ find_option name.now (rules_in rules.now) }
+pub fn takes_value(options: &[CommandOption], name: &str) -> Option<bool>
+    ensures { result ≡ lookup (bytes_eq name.now) (options_in options.now) }
 {
-    for rule in rules {
-        if rule.name == name {
-            return Some(rule.takes_value);
+    for option in options {
+        if name == option.name {
+            return Some(option.takes_value);
         }
     }
     None

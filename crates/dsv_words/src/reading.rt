@@ -1,11 +1,11 @@
 // Reading word after word.
 ghost use Rattle.std.specs.Prelude.{◌≡◌, [], map, string_bytes, option_map, IfOk};
 ghost use Rattle.dsv_words.specs.Reading.{uses_of, start, gives, once, meet, meet_option};
-ghost use Rattle.dsv_words.specs.Views.{rules_in, uses_in, option_text};
+ghost use Rattle.dsv_words.specs.Views.{options_in, uses_in, option_text};
 ghost use Rattle.dsv_words.specs.Taken.{IsTaken};
 
 use crate::given::{Given, is_given};
-use crate::options::{FILE_KEY, OptionRule, takes_value};
+use crate::options::{CommandOption, FILE_KEY, FLAG_VALUE, takes_value};
 use crate::shape::{Shape, shape_of};
 use dsv_base::NoMemory;
 use std::alloc::Global;
@@ -30,6 +30,7 @@ impl<'a> Model for Reader<'a> {
 }
 
 impl<'a> Reader<'a> {
+    /// The reader before the first word.
     fn new(alloc: Global) -> Reader<'a>
         ensures { result ≡ start }
     {
@@ -40,7 +41,7 @@ impl<'a> Reader<'a> {
         }
     }
 
-    /// Keeps a value; false where the key has one.
+    /// Keeps a value for a key; false where it has one.
     fn give(&mut self, key: &'a str, value: &'a str) -> Result<bool, NoMemory>
         ensures { IfOk result (λ taken. IsTaken (gives key.now value.now self.old) taken self.new) }
     {
@@ -53,10 +54,15 @@ impl<'a> Reader<'a> {
     }
 
     /// Takes an option, with the value that follows `=` in its word.
-    fn meet_option(&mut self, rules: &[OptionRule], name: &'a str, value: Option<&'a str>) -> Result<bool, NoMemory>
-        ensures { IfOk result (λ taken. IsTaken (meet_option (rules_in rules.now) name.now (option_text value.entry) self.old) taken self.new) }
+    fn meet_option(
+        &mut self,
+        options: &[CommandOption],
+        name: &'a str,
+        value: Option<&'a str>,
+    ) -> Result<bool, NoMemory>
+        ensures { IfOk result (λ taken. IsTaken (meet_option (options_in options.now) name.now (option_text value.entry) self.old) taken self.new) }
     {
-        match (takes_value(rules, name), value) {
+        match (takes_value(options, name), value) {
             (Some(true), Some(value)) => self.give(name, value),
             (Some(true), None) => {
                 if is_given(self.uses.as_slice(), name) {
@@ -65,14 +71,14 @@ impl<'a> Reader<'a> {
                 self.waits = Some(name);
                 Ok(true)
             }
-            (Some(false), None) => self.give(name, "true"),
+            (Some(false), None) => self.give(name, FLAG_VALUE),
             (_, _) => Ok(false),
         }
     }
 
     /// Takes the next word; false where it isn't allowed.
-    fn meet(&mut self, rules: &[OptionRule], word: &'a str) -> Result<bool, NoMemory>
-        ensures { IfOk result (λ taken. IsTaken (meet (rules_in rules.now) self.old word.now) taken self.new) }
+    fn meet(&mut self, options: &[CommandOption], word: &'a str) -> Result<bool, NoMemory>
+        ensures { IfOk result (λ taken. IsTaken (meet (options_in options.now) self.old word.now) taken self.new) }
     {
         if self.ended {
             return self.give(FILE_KEY, word);
@@ -84,20 +90,24 @@ impl<'a> Reader<'a> {
                 self.ended = true;
                 Ok(true)
             }
-            (Shape::Long(name, value), None) => self.meet_option(rules, name, value),
+            (Shape::Long(name, value), None) => self.meet_option(options, name, value),
             (_, _) => Ok(false),
         }
     }
 }
 
+/// What the words give, in their order, by a table of options; `None` where they aren't allowed.
 #[tactic(auto, unfolding(crate::specs::Reading::uses_of))]
-/// What the words give, in their order, where the options with these rules allow them.
-pub fn read_words<'a>(alloc: Global, rules: &[OptionRule], words: &'a [String]) -> Result<Option<Vec<Given<'a>>>, NoMemory>
-    ensures { IfOk result (λ found. option_map (λ uses. uses_in uses.items) found ≡ uses_of (rules_in rules.now) (map string_bytes words.entry.now)) }
+pub fn read_words<'a>(
+    alloc: Global,
+    options: &[CommandOption],
+    words: &'a [String],
+) -> Result<Option<Vec<Given<'a>>>, NoMemory>
+    ensures { IfOk result (λ found. option_map (λ uses. uses_in uses.items) found ≡ uses_of (options_in options.now) (map string_bytes words.entry.now)) }
 {
     let mut reader = Reader::new(alloc);
     for word in words {
-        if !reader.meet(rules, word.as_str())? {
+        if !reader.meet(options, word.as_str())? {
             return Ok(None);
         }
     }

@@ -1,5 +1,5 @@
 // The rules of the words, by lists of words with what is wanted of each.
-use crate::options::OptionRule;
+use crate::options::CommandOption;
 use crate::reading::read_words;
 use crate::{Design, Property, read_job};
 use dsv_quantiser::Kind;
@@ -34,7 +34,11 @@ fn jobs_have_a_file_and_a_design(rt: HostRuntime) -> Result<(), Fail> {
         ("-|--property|STABILITY", "-", DEFAULTS),
         ("--property|STABILITY|a=b", "a=b", DEFAULTS),
         ("--property|STABILITY|help", "help", DEFAULTS),
-        ("f|--property|STABILITY|--realization|DFI|--rounding=FLOOR|--overflow-mode|WRAPAROUND", "f", DEFAULTS),
+        (
+            "f|--property|STABILITY|--realization|DFI|--rounding=FLOOR|--overflow-mode|WRAPAROUND",
+            "f",
+            DEFAULTS,
+        ),
         (
             "--realization=DFII|f|--rounding|CEIL|--property=STABILITY",
             "f",
@@ -118,12 +122,12 @@ fn other_words_are_no_job(rt: HostRuntime) -> Result<(), Fail> {
 #[test]
 fn an_option_may_take_no_value(rt: HostRuntime) -> Result<(), Fail> {
     let alloc = rt.alloc();
-    let rules = [
-        OptionRule {
+    let options = [
+        CommandOption {
             name: "flag",
             takes_value: false,
         },
-        OptionRule {
+        CommandOption {
             name: "name",
             takes_value: true,
         },
@@ -139,7 +143,11 @@ fn an_option_may_take_no_value(rt: HostRuntime) -> Result<(), Fail> {
         ("--name|--flag", false),
     ] {
         let words = words_of(alloc, text)?;
-        assert_eq!(rt; read_words(alloc, &rules, &words)?.is_some(), allowed, "at {text}");
+        assert_eq!(rt;
+            read_words(alloc, &options, &words)?.is_some(),
+            allowed,
+            "at {text}"
+        );
     }
     Ok(())
 }

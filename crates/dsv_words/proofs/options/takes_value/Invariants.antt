@@ -1,7 +1,8 @@
 use Rattle.std.proofs.Common.{◌≡◌, drop}
-use Rattle.dsv_words.specs.Reading.{find_option}
-use Rattle.dsv_words.specs.Views.{rules_in}
+use Rattle.std.specs.Map.{lookup}
+use Rattle.std.specs.Str.{bytes_eq}
+use Rattle.dsv_words.specs.Views.{options_in}
 use Rattle.dsv_words.proofs.options.takes_value.Given as goal
 
-abbrev pub invariant-loop-rule : goal.invariant-loop-rule
-invariant-loop-rule l = find_option l.name (rules_in (drop l.rule-index l.rules)) ≡ find_option l.name (rules_in l.rules)
+abbrev pub invariant-loop-option : goal.invariant-loop-option
+invariant-loop-option l = lookup (bytes_eq l.name) (options_in (drop l.option-index l.options)) ≡ lookup (bytes_eq l.name) (options_in l.options)
