@@ -63,6 +63,7 @@ impl<'a> Reader<'a> {
         ensures { IfOk result (λ taken. IsTaken (meet_option (options_in options.now) name.now (option_text value.entry) self.old) taken self.new) }
     {
         match (takes_value(options, name), value) {
+            (None, _) => Ok(false),
             (Some(true), Some(value)) => self.give(name, value),
             (Some(true), None) => {
                 if is_given(self.uses.as_slice(), name) {
@@ -71,8 +72,8 @@ impl<'a> Reader<'a> {
                 self.waits = Some(name);
                 Ok(true)
             }
+            (Some(false), Some(_)) => Ok(false),
             (Some(false), None) => self.give(name, FLAG_VALUE),
-            (_, _) => Ok(false),
         }
     }
 
