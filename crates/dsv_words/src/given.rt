@@ -1,6 +1,5 @@
 // What words give.
-ghost use Rattle.std.specs.Prelude.{◌≡◌, IsTrue};
-ghost use Rattle.std.specs.Prelude.{option_map};
+ghost use Rattle.std.specs.Prelude.{◌≡◌, option_map};
 ghost use Rattle.dsv_words.specs.Reading.{value_of, has_key};
 ghost use Rattle.dsv_words.specs.Views.{uses_in};
 

@@ -1,6 +1,6 @@
 // The job that the words ask for.
 ghost use Rattle.std.specs.Prelude.{◌≡◌, map, string_bytes, option_map, IfOk};
-ghost use Rattle.dsv_words.specs.Jobs.{job_of, job_of_uses, chosen, kind_named, rounding_named, overflow_named, has_empty_value, design_of_uses};
+ghost use Rattle.dsv_words.specs.Jobs.{job_of, job_of_uses, has_empty_value, design_of_uses};
 ghost use Rattle.dsv_words.specs.Views.{uses_in};
 ghost use Rattle.dsv_words.specs.Asking.{asked_of};
 
@@ -31,7 +31,7 @@ pub struct Design {
 /// A job of the command: the property that is to be decided of the controller in a file, realised by this design.
 #[derive(Clone, Copy, Debug)]
 pub struct Job<'a> {
-    /// The name of the file, which isn't empty.
+    /// The name of the file.
     pub file: &'a str,
     pub property: Property,
     pub design: Design,

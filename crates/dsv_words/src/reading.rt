@@ -1,6 +1,6 @@
 // Reading word after word.
-ghost use Rattle.std.specs.Prelude.{◌≡◌, [], map, string_bytes, option_map, IfOk};
-ghost use Rattle.dsv_words.specs.Reading.{uses_of, start, gives, once, meet, meet_option};
+ghost use Rattle.std.specs.Prelude.{◌≡◌, map, string_bytes, option_map, IfOk};
+ghost use Rattle.dsv_words.specs.Reading.{uses_of, start, gives, meet, meet_option};
 ghost use Rattle.dsv_words.specs.Views.{options_in, uses_in, option_text};
 ghost use Rattle.dsv_words.specs.Taken.{IsTaken};
 
@@ -26,7 +26,11 @@ impl<'a> Model for Reader<'a> {
 
     ghost use Rattle.dsv_words.specs.Views.{uses_in, option_text};
 
-    ghost view = { λ r. record { uses = uses_in r.uses.items; waits = option_text r.waits; ended = r.ended } };
+    ghost view = { λ r. record {
+      uses = uses_in r.uses.items;
+      waits = option_text r.waits;
+      ended = r.ended;
+    } };
 }
 
 impl<'a> Reader<'a> {
@@ -60,7 +64,8 @@ impl<'a> Reader<'a> {
         name: &'a str,
         value: Option<&'a str>,
     ) -> Result<bool, NoMemory>
-        ensures { IfOk result (λ taken. IsTaken (meet_option (options_in options.now) name.now (option_text value.entry) self.old) taken self.new) }
+        ensures { IfOk result (λ taken.
+            IsTaken (meet_option (options_in options.now) name.now (option_text value.entry) self.old) taken self.new) }
     {
         match (takes_value(options, name), value) {
             (None, _) => Ok(false),
@@ -104,7 +109,8 @@ pub fn read_words<'a>(
     options: &[CommandOption],
     words: &'a [String],
 ) -> Result<Option<Vec<Given<'a>>>, NoMemory>
-    ensures { IfOk result (λ found. option_map (λ uses. uses_in uses.items) found ≡ uses_of (options_in options.now) (map string_bytes words.entry.now)) }
+    ensures { IfOk result (λ found. option_map (λ uses. uses_in uses.items) found
+        ≡ uses_of (options_in options.now) (map string_bytes words.entry.now)) }
 {
     let mut reader = Reader::new(alloc);
     for word in words {

@@ -1,4 +1,4 @@
-// What a word is, where no value is waited for.
+// What a word is, where no `--` stands before it.
 ghost use Rattle.std.specs.Prelude.{◌≡◌};
 ghost use Rattle.dsv_words.specs.Reading.{kind_of_word};
 ghost use Rattle.dsv_words.specs.Views.{kind_of};

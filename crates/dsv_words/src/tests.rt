@@ -137,6 +137,7 @@ fn an_option_may_take_no_value(rt: HostRuntime) -> Result<(), Fail> {
         ("--flag|f", true),
         ("f|--flag|--name|-", true),
         ("--flag|--|--flag", true),
+        ("--name=a=b", true),
         ("--flag=", false),
         ("--flag=1", false),
         ("--flag|--flag", false),

@@ -1,4 +1,4 @@
-use Rattle.std.proofs.Common.{rules, ◌≡◌, ◌∙◌, ℕ, List, Some, ap, map, string_bytes, refl}
+use Rattle.std.proofs.Common.{rules, ◌≡◌, ℕ, List, Some, map, string_bytes, refl}
 use Rattle.dsv_words.specs.Jobs.{job_of, job_of_uses}
 use Rattle.dsv_words.specs.Options.{command_options}
 use Rattle.dsv_words.specs.Reading.{Use, uses_of}
