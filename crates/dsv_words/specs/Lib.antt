@@ -1,0 +1,6 @@
+pub mod Asking
+pub mod Jobs
+pub mod Options
+pub mod Reading
+pub mod Taken
+pub mod Views

@@ -1,0 +1,101 @@
+// The job that the words ask for.
+ghost use Rattle.std.specs.Prelude.{◌≡◌, map, string_bytes, option_map, IfOk};
+ghost use Rattle.dsv_words.specs.Jobs.{job_of, job_of_uses, has_empty_value, design_of_uses};
+ghost use Rattle.dsv_words.specs.Views.{uses_in};
+ghost use Rattle.dsv_words.specs.Asking.{asked_of};
+
+use crate::given::{Given, find_value};
+use crate::names::{find_kind, find_overflow, find_property, find_rounding};
+use crate::options::{FILE_KEY, OPTIONS};
+use crate::reading::read_words;
+use dsv_base::NoMemory;
+use dsv_quantiser::Kind;
+use dsv_word::{Overflow, Rounding};
+use std::alloc::Global;
+
+/// A property of controllers.
+#[derive(Clone, Copy, Debug, PartialEq, Eq)]
+pub enum Property {
+    /// All its poles are inside the unit circle.
+    Stability,
+}
+
+/// How a controller is realised: the structure of its realisation, and how its sums become words.
+#[derive(Clone, Copy, Debug, PartialEq, Eq)]
+pub struct Design {
+    pub kind: Kind,
+    pub rounding: Rounding,
+    pub overflow: Overflow,
+}
+
+/// A job of the command: the property that is to be decided of the controller in a file, realised by this design.
+#[derive(Clone, Copy, Debug)]
+pub struct Job<'a> {
+    /// The name of the file.
+    pub file: &'a str,
+    pub property: Property,
+    pub design: Design,
+}
+
+/// Whether one of the values is empty.
+fn has_empty(uses: &[Given]) -> bool
+    ensures { result ≡ has_empty_value (uses_in uses.now) }
+{
+    for given in uses {
+        if given.value.is_empty() {
+            return true;
+        }
+    }
+    false
+}
+
+/// How the controller is to be realised.
+fn find_design(uses: &[Given]) -> Option<Design>
+    ensures { result ≡ design_of_uses (uses_in uses.now) }
+{
+    let kind = match find_value(uses, "realization") {
+        Some(name) => find_kind(name)?,
+        None => Kind::Dfi,
+    };
+    let rounding = match find_value(uses, "rounding") {
+        Some(name) => find_rounding(name)?,
+        None => Rounding::Floor,
+    };
+    let overflow = match find_value(uses, "overflow-mode") {
+        Some(name) => find_overflow(name)?,
+        None => Overflow::Wrap,
+    };
+    Some(Design {
+        kind,
+        rounding,
+        overflow,
+    })
+}
+
+/// The job of what the words give.
+fn find_job<'a>(uses: &[Given<'a>]) -> Option<Job<'a>>
+    ensures { option_map asked_of result ≡ job_of_uses (uses_in uses.now) }
+{
+    if has_empty(uses) {
+        return None;
+    }
+    let file = find_value(uses, FILE_KEY)?;
+    let property = find_property(find_value(uses, "property")?)?;
+    let design = find_design(uses)?;
+    Some(Job {
+        file,
+        property,
+        design,
+    })
+}
+
+/// The job that the words behind the program's name ask for; `None` where they are no job.
+#[tactic(auto, unfolding(crate::specs::Jobs::job_of))]
+pub fn read_job<'a>(alloc: Global, words: &'a [String]) -> Result<Option<Job<'a>>, NoMemory>
+    ensures { IfOk result (λ job. option_map asked_of job ≡ job_of (map string_bytes words.entry.now)) }
+{
+    let Some(uses) = read_words(alloc, OPTIONS.as_slice(), words)? else {
+        return Ok(None);
+    };
+    Ok(find_job(uses.as_slice()))
+}

@@ -1,0 +1,154 @@
+// The rules of the words, by lists of words with what is wanted of each.
+use crate::options::CommandOption;
+use crate::reading::read_words;
+use crate::{Design, Property, read_job};
+use dsv_quantiser::Kind;
+use dsv_word::{Overflow, Rounding};
+use std::alloc::Global;
+use std::test::Fail;
+
+/// The words of a text, which stand between its bars.
+fn words_of(alloc: Global, text: &str) -> Result<Vec<String>, Fail> {
+    let mut words = Vec::new(alloc);
+    for word in text.split('|') {
+        words.push(String::from_str(alloc, word)?)?;
+    }
+    Ok(words)
+}
+
+/// What is chosen where nothing is.
+const DEFAULTS: Design = Design {
+    kind: Kind::Dfi,
+    rounding: Rounding::Floor,
+    overflow: Overflow::Wrap,
+};
+
+#[test]
+fn jobs_have_a_file_and_a_design(rt: HostRuntime) -> Result<(), Fail> {
+    let alloc = rt.alloc();
+    for (text, file, design) in [
+        ("f|--property|STABILITY", "f", DEFAULTS),
+        ("--property=STABILITY|f", "f", DEFAULTS),
+        ("--property|STABILITY|--|-f", "-f", DEFAULTS),
+        ("--property|STABILITY|--|--", "--", DEFAULTS),
+        ("-|--property|STABILITY", "-", DEFAULTS),
+        ("--property|STABILITY|a=b", "a=b", DEFAULTS),
+        ("--property|STABILITY|help", "help", DEFAULTS),
+        (
+            "f|--property|STABILITY|--realization|DFI|--rounding=FLOOR|--overflow-mode|WRAPAROUND",
+            "f",
+            DEFAULTS,
+        ),
+        (
+            "--realization=DFII|f|--rounding|CEIL|--property=STABILITY",
+            "f",
+            Design {
+                kind: Kind::Dfii,
+                rounding: Rounding::Ceil,
+                overflow: Overflow::Wrap,
+            },
+        ),
+        (
+            "--overflow-mode|SATURATE|--rounding|NEAREST|--realization|TDFII|--property|STABILITY|--|f",
+            "f",
+            Design {
+                kind: Kind::Tdfii,
+                rounding: Rounding::Nearest,
+                overflow: Overflow::Saturate,
+            },
+        ),
+    ] {
+        let words = words_of(alloc, text)?;
+        match read_job(alloc, &words)? {
+            Some(job) => {
+                assert_eq!(rt; job.file, file, "the file of {text}");
+                assert_eq!(rt; job.property, Property::Stability, "the property of {text}");
+                assert_eq!(rt; job.design, design, "the design of {text}");
+            }
+            None => assert!(rt; false, "no job: {text}"),
+        }
+    }
+    Ok(())
+}
+
+#[test]
+fn other_words_are_no_job(rt: HostRuntime) -> Result<(), Fail> {
+    let alloc = rt.alloc();
+    let none: Vec<String> = Vec::new(alloc);
+    assert!(rt; read_job(alloc, &none)?.is_none(), "no words");
+    for text in [
+        "",
+        "f",
+        "help",
+        "--help",
+        "-h",
+        "--version",
+        "---",
+        "--=x",
+        "--property|STABILITY",
+        "--property=|f",
+        "--property||f",
+        "--property=--x|f",
+        "--property=STABILITY=|f",
+        "f|--property|stability",
+        "f|--property|OVERFLOW",
+        "f|--property|STABILITY|--property|STABILITY",
+        "f|--property=STABILITY|--property=STABILITY",
+        "f|g|--property|STABILITY",
+        "f|f|--property|STABILITY",
+        "-f|--property|STABILITY",
+        "|--property|STABILITY",
+        "f|--property|STABILITY|--unbounded",
+        "f|--prop|STABILITY",
+        "f|-property|STABILITY",
+        "--|--property",
+        "f|--|--property|STABILITY",
+        "--property|--|STABILITY|f",
+        "f|--property|STABILITY|--rounding",
+        "--rounding|--property|STABILITY|f",
+        "--rounding|-|--property|STABILITY|f",
+        "--rounding=|--property|STABILITY|f",
+        "f|--property|STABILITY|--realization|DDFI",
+        "f|--property|STABILITY|--realization|dfi",
+        "f|--property|STABILITY|--overflow-mode|WRAP",
+        "f|--property|STABILITY|--FILE=|g",
+    ] {
+        let words = words_of(alloc, text)?;
+        assert!(rt; read_job(alloc, &words)?.is_none(), "a job: {text}");
+    }
+    Ok(())
+}
+
+#[test]
+fn an_option_may_take_no_value(rt: HostRuntime) -> Result<(), Fail> {
+    let alloc = rt.alloc();
+    let options = [
+        CommandOption {
+            name: "flag",
+            takes_value: false,
+        },
+        CommandOption {
+            name: "name",
+            takes_value: true,
+        },
+    ];
+    for (text, allowed) in [
+        ("--flag", true),
+        ("--flag|f", true),
+        ("f|--flag|--name|-", true),
+        ("--flag|--|--flag", true),
+        ("--name=a=b", true),
+        ("--flag=", false),
+        ("--flag=1", false),
+        ("--flag|--flag", false),
+        ("--name|--flag", false),
+    ] {
+        let words = words_of(alloc, text)?;
+        assert_eq!(rt;
+            read_words(alloc, &options, &words)?.is_some(),
+            allowed,
+            "at {text}"
+        );
+    }
+    Ok(())
+}
