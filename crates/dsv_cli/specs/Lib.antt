@@ -1,6 +1,3 @@
-pub mod Halves
 pub mod Headline
-pub mod Outcome
+pub mod Refusals
 pub mod Report
-pub mod Tested
-pub mod Words

@@ -1,12 +1,24 @@
 -- The text of an answer, and its status.
-use Rattle.std.specs.Prelude.{ℕ, ◌≤◌, List, ◌++◌, take, codes, ℤ}
+use Rattle.std.specs.Prelude.{ℕ, ◌≤◌, List, [], ◌∷◌, ◌++◌, take, codes, Option, Some, None, ℤ}
 use Rattle.std.specs.List.{flat_map}
-use Rattle.std.specs.Fmt.{signed_decimal}
-use Rattle.dsv_base.specs.Text.{line_of}
+use Rattle.std.specs.Fmt.{decimal, signed_decimal}
+use Rattle.dsv_base.specs.Text.{spaced, line_of}
+use Rattle.dsv_quantiser.specs.declared.kind.Kind.{Kind}
+use Rattle.dsv_quantiser.specs.declared.kind.Kind.TheVariants as kind
 use Rattle.dsv_forms.specs.declared.offers.Form.{Form}
+use Rattle.dsv_words.specs.Jobs.{Asked}
+use Rattle.dsv_cli.specs.Refusals.{file_text, quant_text}
 use Rattle.dsv_cli.specs.declared.answers.Answer.{Answer}
 use Rattle.dsv_cli.specs.declared.answers.Answer.TheVariants as answer
 use Rattle.dsv_cli.specs.declared.answers.WhichFile.TheVariants as file
+
+abbrev pub kind_name : Kind → List ℕ
+kind_name kind.Dfi = codes "DFI"
+kind_name kind.Dfii = codes "DFII"
+kind_name kind.Tdfii = codes "TDFII"
+kind_name kind.Ddfi = codes "DDFI"
+kind_name kind.Ddfii = codes "DDFII"
+kind_name kind.Tddfii = codes "TDDFII"
 
 -- a word and numbers behind it, each behind a space, up to the end of the line
 abbrev pub numbers_line : List ℕ → List ℤ → List ℕ
@@ -16,29 +28,50 @@ numbers_line = line_of signed_decimal
 abbrev pub rows_text : List ℕ → Form → List ℕ
 rows_text word form = flat_map (λ row. numbers_line word (take form.d row)) (take form.d form.rows)
 
-unfoldable pub successful_head : List ℕ
-successful_head = codes "VERIFICATION SUCCESSFUL\nproperty STABILITY realization DFI\n"
+unfoldable pub successful : List ℕ
+successful = codes "VERIFICATION SUCCESSFUL\nproperty STABILITY realization "
+
+unfoldable pub failed : List ℕ
+failed = codes "VERIFICATION FAILED\nproperty STABILITY realization "
+
+-- the verdict and the property with its realisation
+abbrev pub head_text : List ℕ → Kind → List ℕ
+head_text verdict k = verdict ++ kind_name k ++ 10 ∷ []
 
 -- the polynomial, the form and what it loses in a step
-abbrev pub falls_text : List ℤ → Form → Form → List ℕ
-falls_text poly form fall =
-    successful_head
-    ++ numbers_line (codes "polynomial") poly
+abbrev pub form_text : List ℤ → Form → Form → List ℕ
+form_text poly form fall =
+    numbers_line (codes "polynomial") poly
     ++ rows_text (codes "form") form
     ++ rows_text (codes "fall") fall
 
-abbrev pub text_of : Answer → List ℕ
-text_of (answer.Falls poly offer fall) = falls_text poly offer.form fall
-text_of answer.Usage = codes "USAGE\n"
-text_of answer.FileTooLong = codes "FILE REFUSED 12 TOO_LONG at 65536\n"
-text_of answer.NotYet = codes "FILE REFUSED 13 NOT_YET\n"
-text_of (answer.ReadFault file.Controller) = codes "READ FAULT CONTROLLER\n"
-text_of answer.NoMemory = codes "NO MEMORY\n"
+-- where a form is negative, and its value there
+abbrev pub start_text : List ℤ → ℤ → List ℕ
+start_text start value = codes "start" ++ flat_map (spaced signed_decimal) start ++ codes " value" ++ spaced signed_decimal value ++ 10 ∷ []
+
+abbrev pub text_of : Kind → Answer → List ℕ
+text_of k (answer.Falls poly offer fall) = head_text successful k ++ form_text poly offer.form fall
+text_of k (answer.KeptAway poly offer fall value) = head_text failed k ++ form_text poly offer.form fall ++ start_text (take offer.form.d offer.start) value
+text_of k answer.Usage = codes "USAGE\n"
+text_of k (answer.FileRefused r) = file_text r
+text_of k answer.FileTooLong = codes "FILE REFUSED 12 TOO_LONG at 65536\n"
+text_of k (answer.QuantRefused r) = quant_text r
+text_of k answer.NotYet = codes "FILE REFUSED 13 NOT_YET\n"
+text_of k (answer.ReadFault file.Controller) = codes "READ FAULT CONTROLLER\n"
+text_of k answer.NoMemory = codes "NO MEMORY\n"
+
+-- the realisation of a job; the text of words that are no job names none
+abbrev pub kind_of : Option Asked → Kind
+kind_of (Some job) = job.design.kind
+kind_of None = kind.Dfi
 
 abbrev pub status_of : Answer → ℕ
 status_of (answer.Falls poly offer fall) = 0
+status_of (answer.KeptAway poly offer fall value) = 10
 status_of answer.Usage = 1
+status_of (answer.FileRefused r) = 2
 status_of answer.FileTooLong = 2
+status_of (answer.QuantRefused r) = 2
 status_of answer.NotYet = 2
 status_of (answer.ReadFault file) = 3
 status_of answer.NoMemory = 5
@@ -46,4 +79,5 @@ status_of answer.NoMemory = 5
 -- the forms of an answer have at most eight places
 abbrev pub HasPlaces : Answer → Type 0
 HasPlaces (answer.Falls poly offer fall) = (offer.form.d ≤ 8) × (fall.d ≤ 8)
+HasPlaces (answer.KeptAway poly offer fall value) = (offer.form.d ≤ 8) × (fall.d ≤ 8)
 HasPlaces other = Unit {0}

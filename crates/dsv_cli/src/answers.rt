@@ -1,5 +1,7 @@
 // What the command answers.
-use dsv_forms::{Falls, Form, Poly};
+use dsv_forms::{Falls, Form, KeptAway, Poly};
+use dsv_quantiser::QuantRefusal;
+use dsv_reader::FileRefusal;
 
 /// A file that the command reads.
 #[derive(Clone, Copy, Debug, PartialEq, Eq)]
@@ -16,11 +18,23 @@ pub enum Answer {
         offer: Falls,
         fall: Form,
     },
+    /// The form of the offer has the negative `value` at its start, and rises back along no trajectory of the
+    /// polynomial; in a step it loses the form `fall`.
+    KeptAway {
+        poly: Poly,
+        offer: KeptAway,
+        fall: Form,
+        value: i128,
+    },
     /// The words are no job.
     Usage,
+    /// The first fault of the controller file.
+    FileRefused(FileRefusal),
     /// The controller file has over 65,536 bytes.
     FileTooLong,
-    /// The file is one that isn't decided yet.
+    /// The first number of the controller that is no word, or the range of its inputs, where it is empty.
+    QuantRefused(QuantRefusal),
+    /// The file is one that isn't decided yet: the controller's order is 2 or more.
     NotYet,
     /// The file couldn't be read.
     ReadFault(WhichFile),

@@ -1,93 +1,88 @@
-// Decides stability for files of first order.
-ghost use Rattle.std.specs.Prelude.{◌≡◌, ◌<◌, ◌≤◌, ◌*◌, ◌-◌, ◌^◌, pos, IfSome, IfNone, OnSome, length};
-ghost use Rattle.std.specs.Int.RustNames.{unsigned_abs};
-ghost use Rattle.dsv_algebra.specs.Vectors.{vector_of};
-ghost use Rattle.dsv_forms.specs.OneSquare.{IsOneSquare, IsClosedForm};
-ghost use Rattle.dsv_cli.specs.Headline.{IsStable};
-ghost use Rattle.dsv_cli.specs.Outcome.{not_yet, stable, outcome_by};
-ghost use Rattle.dsv_cli.specs.Tested.{tested_word, IsTested};
+// Decides a job on the bytes of a controller file.
+ghost use Rattle.std.specs.Prelude.{◌≡◌, ◌≤◌, length, Ok, IfOk, IsTrue};
+ghost use Rattle.dsv_token.specs.Memory.{Gives};
+ghost use Rattle.dsv_forms.specs.Poly.{IsPoly};
+ghost use Rattle.dsv_quantiser.specs.Kinds.{is_direct};
+ghost use Rattle.dsv_quantiser.specs.FixedPoint.{IsFixedPoint};
+ghost use Rattle.dsv_reader.specs.Controllers.{IsDesign};
+ghost use Rattle.dsv_cli.specs.Headline.{IsCauseIn, IsShown, IsOfPolynomial, IsFormatOf, IsQuantisedAs};
+ghost use Rattle.dsv_cli.specs.Report.{HasPlaces};
+ghost use Rattle.dsv_words.specs.Asking.{asked_of};
 
-use crate::polynomial::{denominator, word};
-use dsv_forms::{Falls, Form, Poly, Squares, check_falls};
-use dsv_reader::first_order;
+use crate::answers::Answer;
+use dsv_lyapunov::{FormAnswer, decide, reduced};
+use dsv_quantiser::{Quantised, quantise};
+use dsv_reader::{Controller, FileRefusal, read};
+use dsv_word::Format;
+use dsv_words::{Design, Job};
+use std::alloc::Global;
 
-/// A polynomial with an offer that was accepted for it, and what the offer's form loses in a step.
-#[derive(Drop)]
-pub struct Stable {
-    pub poly: Poly,
-    pub offer: Falls,
-    pub fall: Form,
-}
+/// The most coefficients of a polynomial that is decided.
+const MOST_COEFFICIENTS: usize = 2;
 
-/// Whether the file is of first order with trajectories that fall.
-pub fn decide(bytes: &[u8]) -> Option<Stable>
-    ensures stable { IfSome result (λ s. IsStable s.poly s.offer.form s.fall) }
-    ensures tested { IfSome result (λ s. IsTested bytes.now s.poly) }
-    ensures falls { OnSome result (outcome_by (tested_word bytes.now) ≡ stable) }
-    ensures not_yet { IfNone result (outcome_by (tested_word bytes.now) ≡ not_yet) }
+/// The answer to a job on a file of these bytes.
+pub fn answer_for(alloc: Global, bytes: &[u8], job: &Job) -> Answer
+    requires few { length bytes.now ≤ 65536 }
+    requires direct { IsTrue (is_direct job.now.design.kind) }
+    ensures cause { IsCauseIn (asked_of job.now) bytes.now result }
+    ensures shown { IsShown result }
+    ensures places { HasPlaces result }
 {
-    let word = word(&first_order(bytes)?);
-    if word.unsigned_abs() >= 1 << 14 {
-        return None;
+    match read(alloc, bytes) {
+        Ok(controller) => quantised(&controller, job.design),
+        Err(FileRefusal::NoMemory) => Answer::NoMemory,
+        Err(refusal) => Answer::FileRefused(refusal),
     }
-    Some(falling(denominator(word)))
 }
 
-/// The accepted closed form of a polynomial of order 1 whose first coefficient is the greater in size.
-fn falling(poly: Poly) -> Stable
-    requires order { length poly ≡ 2 }
-    requires apart { unsigned_abs (vector_of poly 1) < unsigned_abs (vector_of poly 0) }
-    ensures poly { result.poly ≡ poly }
-    ensures stable { IsStable result.poly result.offer.form result.fall }
+/// The format of a controller's words in a design.
+fn format_of(controller: &Controller, design: Design) -> Format
+    ensures { IsFormatOf controller.now design result }
 {
-    let [c0, c1] = poly.coefficients() else {
-        unreachable!()
-    };
-    let offer = closed_form(c0.unsigned_abs(), c1.unsigned_abs());
-    match check_falls(&poly, &offer) {
-        Ok(fall) => Stable { poly, offer, fall },
+    let format = Format::new(
+        controller.int_bits(),
+        controller.frac_bits(),
+        design.rounding,
+        design.overflow,
+    );
+    match format {
+        Ok(format) => format,
         Err(_) => unreachable!(),
     }
 }
 
-/// The offer for a polynomial of order 1 with coefficients of these sizes: the form 1, which loses c_0^2 - c_1^2 in a
-/// step.
-fn closed_form(size_0: u64, size_1: u64) -> Falls
-    requires apart { size_1 < size_0 }
-    requires small { size_0 ≤ 2 ^ 44 }
-    ensures { IsClosedForm result (pos (size_0 * size_0 - size_1 * size_1)) }
+/// The answer for a controller in words.
+fn decided(words: &Quantised) -> Answer
+    ensures polynomial { IsOfPolynomial words.now result }
+    ensures shown { IsShown result }
+    ensures places { HasPlaces result }
 {
-    let mut rows = [[0; 8]; 8];
-    rows[0][0] = 1;
-    Falls {
-        form: Form { d: 1, rows },
-        positive: one_square(1),
-        fall: one_square(difference_of_squares(size_0, size_1)),
+    let denominator = words.a();
+    if denominator.len() > MOST_COEFFICIENTS {
+        return Answer::NotYet;
+    }
+    let poly = reduced(denominator);
+    match decide(&poly) {
+        FormAnswer::Falls { offer, fall } => Answer::Falls { poly, offer, fall },
+        FormAnswer::KeptAway { offer, fall, value } => Answer::KeptAway {
+            poly,
+            offer,
+            fall,
+            value,
+        },
     }
 }
 
-fn difference_of_squares(a: u64, b: u64) -> i128
-    requires apart { b < a }
-    requires small { a ≤ 2 ^ 44 }
-    ensures { result ≡ pos (a * a - b * b) }
+/// The answer for a controller.
+fn quantised(controller: &Controller, design: Design) -> Answer
+    requires { IsTrue (is_direct design.kind) }
+    ensures quantised { IsQuantisedAs controller.now design result }
+    ensures shown { IsShown result }
+    ensures places { HasPlaces result }
 {
-    let (a, b) = (u128::from(a), u128::from(b));
-    (a * a - b * b) as i128
-}
-
-/// The square of the one place itself, with this weight.
-fn one_square(weight: i128) -> Squares
-    ensures { IsOneSquare result weight }
-{
-    let mut weights = [0; 8];
-    let mut rows = [[0; 8]; 8];
-    weights[0] = weight;
-    rows[0][0] = 1;
-    Squares {
-        m: 1,
-        count: 1,
-        weights,
-        rows,
-        rest: [[0; 8]; 8],
+    let format = format_of(controller, design);
+    match quantise(controller, format, design.kind) {
+        Ok(words) => decided(&words),
+        Err(refusal) => Answer::QuantRefused(refusal),
     }
 }

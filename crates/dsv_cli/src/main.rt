@@ -5,10 +5,9 @@
 mod answers;
 mod deciding;
 mod outside;
-mod polynomial;
+mod refusals;
 mod report;
 mod running;
-mod words;
 
 pub use answers::{Answer, Done, WhichFile};
 pub use outside::{OsFiles, OsOut};

@@ -1,13 +1,44 @@
 // Writes the text of an answer, with no memory.
-ghost use Rattle.std.specs.Prelude.{◌≡◌, ◌≤◌, length, codes};
+ghost use Rattle.std.specs.Prelude.{◌≡◌, ◌≤◌, ◌++◌, take};
+ghost use Rattle.std.specs.Fmt.{signed_decimal};
+ghost use Rattle.std.specs.List.{flat_map};
 ghost use Rattle.dsv_base.specs.Taking.{Writes};
-ghost use Rattle.dsv_cli.specs.Report.{text_of, rows_text, falls_text, HasPlaces};
+ghost use Rattle.dsv_base.specs.Text.{spaced};
+ghost use Rattle.dsv_cli.specs.Report.{kind_name, head_text, successful, failed, text_of, rows_text, form_text, start_text, HasPlaces};
 
 use crate::answers::{Answer, WhichFile};
-use dsv_base::{Failed, Sink, put_all, put_line};
-use dsv_forms::{Form, Poly};
+use crate::refusals::{put_file_refusal, put_quant_refusal};
+use dsv_base::{Failed, Sink, put_all, put_line, put_spaced};
+use dsv_forms::{Form, KeptAway, Poly};
+use dsv_quantiser::Kind;
+use itoa::Integer;
 
-const SUCCESSFUL_HEAD: &[u8] = b"VERIFICATION SUCCESSFUL\nproperty STABILITY realization DFI\n";
+const SUCCESSFUL: &[u8] = b"VERIFICATION SUCCESSFUL\nproperty STABILITY realization ";
+
+const FAILED: &[u8] = b"VERIFICATION FAILED\nproperty STABILITY realization ";
+
+/// The name of a realisation.
+fn kind_name(kind: Kind) -> &'static [u8]
+    ensures { result.now ≡ kind_name kind }
+{
+    match kind {
+        Kind::Dfi => b"DFI",
+        Kind::Dfii => b"DFII",
+        Kind::Tdfii => b"TDFII",
+        Kind::Ddfi => b"DDFI",
+        Kind::Ddfii => b"DDFII",
+        Kind::Tddfii => b"TDDFII",
+    }
+}
+
+/// Writes the verdict and the property with its realisation.
+fn put_head<K: Sink>(sink: &mut K, verdict: &[u8], kind: Kind) -> Result<(), Failed>
+    ensures { Writes K.taken K.faults sink.old sink.new result (head_text verdict.now kind) }
+{
+    put_all(sink, verdict)?;
+    put_all(sink, kind_name(kind))?;
+    put_all(sink, b"\n")
+}
 
 /// Writes a line for each row of a form.
 fn put_rows<K: Sink>(sink: &mut K, word: &[u8], form: &Form) -> Result<(), Failed>
@@ -21,29 +52,94 @@ fn put_rows<K: Sink>(sink: &mut K, word: &[u8], form: &Form) -> Result<(), Faile
     Ok(())
 }
 
-/// Writes the text of an answer.
-pub fn put_answer<K: Sink>(sink: &mut K, answer: &Answer) -> Result<(), Failed>
+/// Writes the polynomial, the form and what it loses in a step.
+fn put_form<K: Sink>(sink: &mut K, poly: &Poly, form: &Form, fall: &Form) -> Result<(), Failed>
+    requires form { form.now.d ≤ 8 }
+    requires fall { fall.now.d ≤ 8 }
+    ensures { Writes K.taken K.faults sink.old sink.new result (form_text poly.now form.now fall.now) }
+{
+    put_line(sink, b"polynomial", poly.coefficients())?;
+    put_rows(sink, b"form", form)?;
+    put_rows(sink, b"fall", fall)
+}
+
+/// Writes numbers, each behind a space.
+fn put_numbers<K: Sink, I: Integer>(sink: &mut K, numbers: &[I]) -> Result<(), Failed>
+    ensures { Writes K.taken K.faults sink.old sink.new result (flat_map (spaced I.text) numbers.now) }
+{
+    for number in numbers {
+        put_spaced(sink, *number)?;
+    }
+    Ok(())
+}
+
+/// Writes where a form is negative, and its value there.
+fn put_start<K: Sink>(sink: &mut K, start: &[i64], value: i128) -> Result<(), Failed>
+    ensures { Writes K.taken K.faults sink.old sink.new result (start_text start.now value) }
+{
+    put_all(sink, b"start")?;
+    put_numbers(sink, start)?;
+    put_all(sink, b" value")?;
+    put_spaced(sink, value)?;
+    put_all(sink, b"\n")
+}
+
+/// Writes the text of a form that falls.
+#[tactic(auto, unfolding(crate::specs::Report::successful))]
+fn put_falls<K: Sink>(
+    sink: &mut K,
+    kind: Kind,
+    poly: &Poly,
+    form: &Form,
+    fall: &Form,
+) -> Result<(), Failed>
+    requires form { form.now.d ≤ 8 }
+    requires fall { fall.now.d ≤ 8 }
+    ensures { Writes K.taken K.faults sink.old sink.new result (head_text successful kind ++ form_text poly.now form.now fall.now) }
+{
+    put_head(sink, SUCCESSFUL, kind)?;
+    put_form(sink, poly, form, fall)
+}
+
+/// Writes the text of a form that keeps trajectories away from 0.
+#[tactic(auto, unfolding(crate::specs::Report::failed))]
+fn put_kept_away<K: Sink>(
+    sink: &mut K,
+    kind: Kind,
+    poly: &Poly,
+    offer: &KeptAway,
+    fall: &Form,
+    value: i128,
+) -> Result<(), Failed>
+    requires form { offer.now.form.d ≤ 8 }
+    requires fall { fall.now.d ≤ 8 }
+    ensures { Writes K.taken K.faults sink.old sink.new result
+        (head_text failed kind ++ form_text poly.now offer.now.form fall.now ++ start_text (take offer.now.form.d offer.now.start) value) }
+{
+    put_head(sink, FAILED, kind)?;
+    put_form(sink, poly, &offer.form, fall)?;
+    put_start(sink, &offer.start[..offer.form.d as usize], value)
+}
+
+/// Writes the text of an answer, for a job with this realisation.
+pub fn put_answer<K: Sink>(sink: &mut K, kind: Kind, answer: &Answer) -> Result<(), Failed>
     requires { HasPlaces answer.now }
-    ensures { Writes K.taken K.faults sink.old sink.new result (text_of answer.now) }
+    ensures { Writes K.taken K.faults sink.old sink.new result (text_of kind answer.now) }
 {
     match answer {
-        Answer::Falls { poly, offer, fall } => put_falls(sink, poly, &offer.form, fall),
+        Answer::Falls { poly, offer, fall } => put_falls(sink, kind, poly, &offer.form, fall),
+        Answer::KeptAway {
+            poly,
+            offer,
+            fall,
+            value,
+        } => put_kept_away(sink, kind, poly, offer, fall, *value),
         Answer::Usage => put_all(sink, b"USAGE\n"),
+        Answer::FileRefused(refusal) => put_file_refusal(sink, *refusal),
         Answer::FileTooLong => put_all(sink, b"FILE REFUSED 12 TOO_LONG at 65536\n"),
+        Answer::QuantRefused(refusal) => put_quant_refusal(sink, *refusal),
         Answer::NotYet => put_all(sink, b"FILE REFUSED 13 NOT_YET\n"),
         Answer::ReadFault(WhichFile::Controller) => put_all(sink, b"READ FAULT CONTROLLER\n"),
         Answer::NoMemory => put_all(sink, b"NO MEMORY\n"),
     }
-}
-
-/// Writes the text of a form that falls.
-fn put_falls<K: Sink>(sink: &mut K, poly: &Poly, form: &Form, fall: &Form) -> Result<(), Failed>
-    requires form { form.now.d ≤ 8 }
-    requires fall { fall.now.d ≤ 8 }
-    ensures { Writes K.taken K.faults sink.old sink.new result (falls_text poly.now form.now fall.now) }
-{
-    put_all(sink, SUCCESSFUL_HEAD)?;
-    put_line(sink, b"polynomial", poly.coefficients())?;
-    put_rows(sink, b"form", form)?;
-    put_rows(sink, b"fall", fall)
 }

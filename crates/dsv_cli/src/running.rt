@@ -1,35 +1,33 @@
 // The command.
-ghost use Rattle.std.specs.Prelude.{◌≡◌, map, string_bytes};
-ghost use Rattle.dsv_cli.specs.Headline.{IsExplained, IsWritten};
-ghost use Rattle.dsv_cli.specs.Report.{text_of, status_of, HasPlaces};
+ghost use Rattle.std.specs.Prelude.{◌≡◌, map, string_bytes, IsTrue};
+ghost use Rattle.dsv_quantiser.specs.Kinds.{is_direct};
+ghost use Rattle.dsv_words.specs.Jobs.{job_of};
+ghost use Rattle.dsv_words.specs.Asking.{asked_of};
+ghost use Rattle.dsv_cli.specs.Headline.{HasCause, IsExplained, IsWritten};
+ghost use Rattle.dsv_cli.specs.Report.{kind_of, text_of, status_of, HasPlaces};
 
 use crate::answers::{Answer, Done, WhichFile};
-use crate::deciding::{Stable, decide};
+use crate::deciding::answer_for;
 use crate::report::put_answer;
-use crate::words::job;
 use dsv_base::{Files, ReadEnd, Sink, read_all};
+use dsv_quantiser::Kind;
+use dsv_words::{Job, read_job};
 use std::alloc::Global;
 
 /// The most bytes that a controller file may have.
 const LONGEST_FILE: u64 = 65_536;
 
-/// Finds the answer for the command's words.
-fn answer<F: Files>(alloc: Global, words: &[String], files: &mut F) -> Answer
-    ensures explained { IsExplained F.held F.faults F.blamed F.came files.old files.new (map string_bytes words.now) result }
+/// The answer to a job.
+fn answer_of<F: Files>(alloc: Global, job: &Job, files: &mut F) -> Answer
+    requires { IsTrue (is_direct job.now.design.kind) }
+    ensures cause { HasCause F.held F.faults F.blamed F.came files.old files.new (asked_of job.now) result }
     ensures places { HasPlaces result }
 {
-    let Some(name) = job(words) else {
-        return Answer::Usage;
-    };
-    let bytes = match read_all(alloc, files, name, LONGEST_FILE) {
-        Ok(bytes) => bytes,
-        Err(ReadEnd::Failed) => return Answer::ReadFault(WhichFile::Controller),
-        Err(ReadEnd::TooLong) => return Answer::FileTooLong,
-        Err(ReadEnd::NoMemory) => return Answer::NoMemory,
-    };
-    match decide(bytes.as_slice()) {
-        Some(Stable { poly, offer, fall }) => Answer::Falls { poly, offer, fall },
-        None => Answer::NotYet,
+    match read_all(alloc, files, job.file, LONGEST_FILE) {
+        Ok(bytes) => answer_for(alloc, bytes.as_slice(), job),
+        Err(ReadEnd::Failed) => Answer::ReadFault(WhichFile::Controller),
+        Err(ReadEnd::TooLong) => Answer::FileTooLong,
+        Err(ReadEnd::NoMemory) => Answer::NoMemory,
     }
 }
 
@@ -39,8 +37,12 @@ fn status_of_answer(answer: &Answer) -> u8
 {
     match answer {
         Answer::Falls { .. } => 0,
+        Answer::KeptAway { .. } => 10,
         Answer::Usage => 1,
-        Answer::FileTooLong | Answer::NotYet => 2,
+        Answer::FileRefused(_)
+        | Answer::FileTooLong
+        | Answer::QuantRefused(_)
+        | Answer::NotYet => 2,
         Answer::ReadFault(_) => 3,
         Answer::NoMemory => 5,
     }
@@ -52,10 +54,15 @@ pub fn run<F: Files, K: Sink>(alloc: Global, words: &[String], files: &mut F, si
     // Words that are no job are answered by Usage, and each other answer has its cause.
     ensures explained { IsExplained F.held F.faults F.blamed F.came files.old files.new (map string_bytes words.now) result.answer }
     // The answer's text was written and the status is the answer's, or the status is 4 and the sink failed.
-    ensures written { IsWritten K.taken K.faults sink.old sink.new result.status (status_of result.answer) (text_of result.answer) }
+    ensures written { IsWritten K.taken K.faults sink.old sink.new result.status (status_of result.answer)
+        (text_of (kind_of (job_of (map string_bytes words.now))) result.answer) }
 {
-    let answer = answer(alloc, words, files);
-    let status = match put_answer(sink, &answer) {
+    let (kind, answer) = match read_job(alloc, words) {
+        Ok(Some(job)) => (job.design.kind, answer_of(alloc, &job, files)),
+        Ok(None) => (Kind::Dfi, Answer::Usage),
+        Err(_) => (Kind::Dfi, Answer::NoMemory),
+    };
+    let status = match put_answer(sink, kind, &answer) {
         Ok(()) => status_of_answer(&answer),
         Err(_) => 4,
     };
