@@ -1,3 +1,1 @@
-pub mod Casts
-pub mod Outcomes
-pub mod Powers
+pub mod Causes

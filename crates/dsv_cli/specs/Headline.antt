@@ -70,6 +70,13 @@ IsCauseIn job bytes (answer.ReadFault file) = Unit {0}
 IsCauseIn job bytes answer.NoMemory = Unit {0}
 IsCauseIn job bytes found = (length bytes ≤ 65536) × IsOfText job.design bytes found
 
+-- The answer is found in the bytes of a file.
+abbrev pub IsFound : Answer → Type 0
+IsFound answer.Usage = ⊥
+IsFound answer.FileTooLong = ⊥
+IsFound (answer.ReadFault file) = ⊥
+IsFound other = Unit {0}
+
 -- What an answer shows of its polynomial, whatever the file.
 abbrev pub IsShown : Answer → Type 0
 IsShown (answer.Falls poly offer fall) = IsStable poly offer.form fall

@@ -1,3 +1,4 @@
 pub mod Headline
+pub mod Pieces
 pub mod Refusals
 pub mod Report

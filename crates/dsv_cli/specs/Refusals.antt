@@ -1,13 +1,13 @@
 -- The texts of refusals of a controller file.
-use Rattle.std.specs.Prelude.{ℕ, List, [], ◌∷◌, ◌++◌, codes, ℤ}
-use Rattle.std.specs.Fmt.{decimal, signed_decimal}
-use Rattle.dsv_base.specs.Text.{spaced}
+use Rattle.std.specs.Prelude.{ℕ, List, [], ◌∷◌, codes, pos}
+use Rattle.std.specs.Fmt.{signed_decimal}
 use Rattle.dsv_token.specs.declared.refusal.FileRefusal.{FileRefusal}
 use Rattle.dsv_token.specs.declared.refusal.FileRefusal.TheVariants as refusal
 use Rattle.dsv_token.specs.declared.refusal.Field.{Field}
 use Rattle.dsv_token.specs.declared.refusal.Field.TheVariants as field
 use Rattle.dsv_token.specs.declared.refusal.Wanted.{Wanted}
 use Rattle.dsv_token.specs.declared.refusal.Wanted.TheVariants as wanted
+use Rattle.dsv_cli.specs.Pieces.{joined}
 use Rattle.dsv_quantiser.specs.declared.list_name.ListName.{ListName}
 use Rattle.dsv_quantiser.specs.declared.list_name.ListName.TheVariants as list
 use Rattle.dsv_quantiser.specs.declared.refusal.QuantRefusal.{QuantRefusal}
@@ -75,24 +75,33 @@ place_of (refusal.FractionWide at) = at
 place_of (refusal.Width at) = at
 place_of refusal.NoMemory = 0
 
--- what is wanted there, or which field
-abbrev pub detail_of : FileRefusal → List ℕ
-detail_of (refusal.Unexpected at w) = codes " wanted " ++ wanted_name w
-detail_of (refusal.FieldMissing at f) = codes " field " ++ field_name f
-detail_of r = []
+-- before what is wanted there, or before the field
+abbrev pub detail_head : FileRefusal → List ℕ
+detail_head (refusal.Unexpected at w) = codes " wanted "
+detail_head (refusal.FieldMissing at f) = codes " field "
+detail_head r = []
+
+abbrev pub detail_name : FileRefusal → List ℕ
+detail_name (refusal.Unexpected at w) = wanted_name w
+detail_name (refusal.FieldMissing at f) = field_name f
+detail_name r = []
 
 abbrev pub file_text : FileRefusal → List ℕ
-file_text r = code_of r ++ decimal (place_of r) ++ detail_of r ++ 10 ∷ []
+file_text r = joined (code_of r ∷ signed_decimal (pos (place_of r)) ∷ detail_head r ∷ detail_name r ∷ codes "\n" ∷ [])
 
--- a list and a place in it
-abbrev pub list_place : ListName → ℕ → List ℕ
-list_place name i = list_name name ++ spaced decimal i
+-- the code and the name of a refusal
+unfoldable pub quant_code : QuantRefusal → List ℕ
+quant_code (quant.CoefficientRange name i w) = codes "FILE REFUSED 21 COEFFICIENT_RANGE "
+quant_code (quant.DeltaNotPositive w) = codes "FILE REFUSED 22 DELTA_NOT_POSITIVE wanted "
+quant_code (quant.RangeEmpty lo hi) = codes "FILE REFUSED 23 RANGE_EMPTY "
+quant_code (quant.FractionWide name i) = codes "FILE REFUSED 24 FRACTION_WIDE "
 
-abbrev pub range_text : ListName → ℕ → ℤ → List ℕ
-range_text name i w = codes "FILE REFUSED 21 COEFFICIENT_RANGE " ++ list_place name i ++ codes " wanted" ++ spaced signed_decimal w ++ 10 ∷ []
+abbrev pub quant_text_behind : List ℕ → QuantRefusal → List ℕ
+quant_text_behind code (quant.CoefficientRange name i w) =
+    joined (code ∷ list_name name ∷ codes " " ∷ signed_decimal (pos i) ∷ codes " wanted " ∷ signed_decimal w ∷ codes "\n" ∷ [])
+quant_text_behind code (quant.DeltaNotPositive w) = joined (code ∷ signed_decimal w ∷ codes "\n" ∷ [])
+quant_text_behind code (quant.RangeEmpty lo hi) = joined (code ∷ signed_decimal lo ∷ codes " " ∷ signed_decimal hi ∷ codes "\n" ∷ [])
+quant_text_behind code (quant.FractionWide name i) = joined (code ∷ list_name name ∷ codes " " ∷ signed_decimal (pos i) ∷ codes "\n" ∷ [])
 
 abbrev pub quant_text : QuantRefusal → List ℕ
-quant_text (quant.CoefficientRange name i w) = range_text name i w
-quant_text (quant.DeltaNotPositive w) = codes "FILE REFUSED 22 DELTA_NOT_POSITIVE wanted" ++ spaced signed_decimal w ++ 10 ∷ []
-quant_text (quant.RangeEmpty lo hi) = codes "FILE REFUSED 23 RANGE_EMPTY" ++ spaced signed_decimal lo ++ spaced signed_decimal hi ++ 10 ∷ []
-quant_text (quant.FractionWide name i) = codes "FILE REFUSED 24 FRACTION_WIDE " ++ list_place name i ++ 10 ∷ []
+quant_text r = quant_text_behind (quant_code r) r

@@ -1,12 +1,13 @@
 -- The text of an answer, and its status.
 use Rattle.std.specs.Prelude.{ℕ, ◌≤◌, List, [], ◌∷◌, ◌++◌, take, codes, Option, Some, None, ℤ}
 use Rattle.std.specs.List.{flat_map}
-use Rattle.std.specs.Fmt.{decimal, signed_decimal}
+use Rattle.std.specs.Fmt.{signed_decimal}
 use Rattle.dsv_base.specs.Text.{spaced, line_of}
 use Rattle.dsv_quantiser.specs.declared.kind.Kind.{Kind}
 use Rattle.dsv_quantiser.specs.declared.kind.Kind.TheVariants as kind
 use Rattle.dsv_forms.specs.declared.offers.Form.{Form}
 use Rattle.dsv_words.specs.Jobs.{Asked}
+use Rattle.dsv_cli.specs.Pieces.{joined}
 use Rattle.dsv_cli.specs.Refusals.{file_text, quant_text}
 use Rattle.dsv_cli.specs.declared.answers.Answer.{Answer}
 use Rattle.dsv_cli.specs.declared.answers.Answer.TheVariants as answer
@@ -36,7 +37,7 @@ failed = codes "VERIFICATION FAILED\nproperty STABILITY realization "
 
 -- the verdict and the property with its realisation
 abbrev pub head_text : List ℕ → Kind → List ℕ
-head_text verdict k = verdict ++ kind_name k ++ 10 ∷ []
+head_text verdict k = joined (verdict ∷ kind_name k ∷ codes "\n" ∷ [])
 
 -- the polynomial, the form and what it loses in a step
 abbrev pub form_text : List ℤ → Form → Form → List ℕ
@@ -45,9 +46,12 @@ form_text poly form fall =
     ++ rows_text (codes "form") form
     ++ rows_text (codes "fall") fall
 
+abbrev pub value_text : ℤ → List ℕ
+value_text value = joined (codes " value " ∷ signed_decimal value ∷ codes "\n" ∷ [])
+
 -- where a form is negative, and its value there
 abbrev pub start_text : List ℤ → ℤ → List ℕ
-start_text start value = codes "start" ++ flat_map (spaced signed_decimal) start ++ codes " value" ++ spaced signed_decimal value ++ 10 ∷ []
+start_text start value = codes "start" ++ flat_map (spaced signed_decimal) start ++ value_text value
 
 abbrev pub text_of : Kind → Answer → List ℕ
 text_of k (answer.Falls poly offer fall) = head_text successful k ++ form_text poly offer.form fall

@@ -5,7 +5,7 @@ ghost use Rattle.dsv_forms.specs.Poly.{IsPoly};
 ghost use Rattle.dsv_quantiser.specs.Kinds.{is_direct};
 ghost use Rattle.dsv_quantiser.specs.FixedPoint.{IsFixedPoint};
 ghost use Rattle.dsv_reader.specs.Controllers.{IsDesign};
-ghost use Rattle.dsv_cli.specs.Headline.{IsCauseIn, IsShown, IsOfPolynomial, IsFormatOf, IsQuantisedAs};
+ghost use Rattle.dsv_cli.specs.Headline.{IsCauseIn, IsFound, IsShown, IsOfPolynomial, IsFormatOf, IsQuantisedAs};
 ghost use Rattle.dsv_cli.specs.Report.{HasPlaces};
 ghost use Rattle.dsv_words.specs.Asking.{asked_of};
 
@@ -25,6 +25,7 @@ pub fn answer_for(alloc: Global, bytes: &[u8], job: &Job) -> Answer
     requires few { length bytes.now ≤ 65536 }
     requires direct { IsTrue (is_direct job.now.design.kind) }
     ensures cause { IsCauseIn (asked_of job.now) bytes.now result }
+    ensures found { IsFound result }
     ensures shown { IsShown result }
     ensures places { HasPlaces result }
 {
@@ -54,6 +55,7 @@ fn format_of(controller: &Controller, design: Design) -> Format
 /// The answer for a controller in words.
 fn decided(words: &Quantised) -> Answer
     ensures polynomial { IsOfPolynomial words.now result }
+    ensures found { IsFound result }
     ensures shown { IsShown result }
     ensures places { HasPlaces result }
 {
@@ -77,6 +79,7 @@ fn decided(words: &Quantised) -> Answer
 fn quantised(controller: &Controller, design: Design) -> Answer
     requires { IsTrue (is_direct design.kind) }
     ensures quantised { IsQuantisedAs controller.now design result }
+    ensures found { IsFound result }
     ensures shown { IsShown result }
     ensures places { HasPlaces result }
 {

@@ -5,6 +5,7 @@
 mod answers;
 mod deciding;
 mod outside;
+mod pieces;
 mod refusals;
 mod report;
 mod running;

@@ -1,9 +1,10 @@
 // Writes why a controller file is refused, with no memory.
 ghost use Rattle.std.specs.Prelude.{◌≡◌};
 ghost use Rattle.dsv_base.specs.Taking.{Writes};
-ghost use Rattle.dsv_cli.specs.Refusals.{wanted_name, field_name, list_name, code_of, place_of, detail_of, file_text, list_place, range_text, quant_text};
+ghost use Rattle.dsv_cli.specs.Refusals.{wanted_name, field_name, list_name, code_of, place_of, detail_head, detail_name, file_text, quant_code, quant_text, quant_text_behind};
 
-use dsv_base::{Failed, Sink, put_all, put_number, put_spaced};
+use crate::pieces::{Piece, put_pieces};
+use dsv_base::{Failed, Sink};
 use dsv_quantiser::{ListName, QuantRefusal};
 use dsv_reader::{Field, FileRefusal, Wanted};
 
@@ -96,20 +97,25 @@ fn place_of(refusal: FileRefusal) -> u64
     }
 }
 
-/// Writes what is wanted where a refusal stands, or which field.
-fn put_detail<K: Sink>(sink: &mut K, refusal: FileRefusal) -> Result<(), Failed>
-    ensures { Writes K.taken K.faults sink.old sink.new result (detail_of refusal) }
+/// What stands before the detail of a refusal.
+fn detail_head(refusal: FileRefusal) -> &'static [u8]
+    ensures { result.now ≡ detail_head refusal }
 {
     match refusal {
-        FileRefusal::Unexpected { at: _, wanted } => {
-            put_all(sink, b" wanted ")?;
-            put_all(sink, wanted_name(wanted))
-        }
-        FileRefusal::FieldMissing { at: _, field } => {
-            put_all(sink, b" field ")?;
-            put_all(sink, field_name(field))
-        }
-        _ => Ok(()),
+        FileRefusal::Unexpected { .. } => b" wanted ",
+        FileRefusal::FieldMissing { .. } => b" field ",
+        _ => b"",
+    }
+}
+
+/// What is wanted where a refusal stands, or which field.
+fn detail_name(refusal: FileRefusal) -> &'static [u8]
+    ensures { result.now ≡ detail_name refusal }
+{
+    match refusal {
+        FileRefusal::Unexpected { at: _, wanted } => wanted_name(wanted),
+        FileRefusal::FieldMissing { at: _, field } => field_name(field),
+        _ => b"",
     }
 }
 
@@ -117,61 +123,70 @@ fn put_detail<K: Sink>(sink: &mut K, refusal: FileRefusal) -> Result<(), Failed>
 pub fn put_file_refusal<K: Sink>(sink: &mut K, refusal: FileRefusal) -> Result<(), Failed>
     ensures { Writes K.taken K.faults sink.old sink.new result (file_text refusal) }
 {
-    put_all(sink, code_of(refusal))?;
-    put_number(sink, place_of(refusal))?;
-    put_detail(sink, refusal)?;
-    put_all(sink, b"\n")
+    put_pieces(
+        sink,
+        &[
+            Piece::Bytes(code_of(refusal)),
+            Piece::Number(place_of(refusal).into()),
+            Piece::Bytes(detail_head(refusal)),
+            Piece::Bytes(detail_name(refusal)),
+            Piece::Bytes(b"\n"),
+        ],
+    )
 }
 
-/// Writes a list and a place in it.
-fn put_list_place<K: Sink>(sink: &mut K, list: ListName, index: u32) -> Result<(), Failed>
-    ensures { Writes K.taken K.faults sink.old sink.new result (list_place list index) }
+/// The code and the name of a refusal.
+#[tactic(auto, unfolding(crate::specs::Refusals::quant_code))]
+fn quant_code(refusal: QuantRefusal) -> &'static [u8]
+    ensures { result.now ≡ quant_code refusal }
 {
-    put_all(sink, list_name(list))?;
-    put_spaced(sink, index)
+    match refusal {
+        QuantRefusal::CoefficientRange { .. } => b"FILE REFUSED 21 COEFFICIENT_RANGE ",
+        QuantRefusal::DeltaNotPositive { .. } => b"FILE REFUSED 22 DELTA_NOT_POSITIVE wanted ",
+        QuantRefusal::RangeEmpty { .. } => b"FILE REFUSED 23 RANGE_EMPTY ",
+        QuantRefusal::FractionWide { .. } => b"FILE REFUSED 24 FRACTION_WIDE ",
+    }
 }
 
 /// Writes why a controller has no words.
 pub fn put_quant_refusal<K: Sink>(sink: &mut K, refusal: QuantRefusal) -> Result<(), Failed>
     ensures { Writes K.taken K.faults sink.old sink.new result (quant_text refusal) }
 {
+    put_quant_refusal_behind(sink, quant_code(refusal), refusal)
+}
+
+fn put_quant_refusal_behind<K: Sink>(
+    sink: &mut K,
+    code: &[u8],
+    refusal: QuantRefusal,
+) -> Result<(), Failed>
+    ensures { Writes K.taken K.faults sink.old sink.new result (quant_text_behind code.now refusal) }
+{
+    let code = Piece::Bytes(code);
+    let space = Piece::Bytes(b" ");
+    let end = Piece::Bytes(b"\n");
     match refusal {
         QuantRefusal::CoefficientRange {
             list,
             index,
             wanted,
-        } => put_range(sink, list, index, wanted),
+        } => {
+            let name = Piece::Bytes(list_name(list));
+            let place = Piece::Number(index.into());
+            let middle = Piece::Bytes(b" wanted ");
+            let word = Piece::Number(wanted);
+            put_pieces(sink, &[code, name, space, place, middle, word, end])
+        }
         QuantRefusal::DeltaNotPositive { wanted } => {
-            put_all(sink, b"FILE REFUSED 22 DELTA_NOT_POSITIVE wanted")?;
-            put_spaced(sink, wanted)?;
-            put_all(sink, b"\n")
+            put_pieces(sink, &[code, Piece::Number(wanted), end])
         }
         QuantRefusal::RangeEmpty { lo, hi } => {
-            put_all(sink, b"FILE REFUSED 23 RANGE_EMPTY")?;
-            put_spaced(sink, lo)?;
-            put_spaced(sink, hi)?;
-            put_all(sink, b"\n")
+            let (lo, hi) = (Piece::Number(lo), Piece::Number(hi));
+            put_pieces(sink, &[code, lo, space, hi, end])
         }
         QuantRefusal::FractionWide { list, index } => {
-            put_all(sink, b"FILE REFUSED 24 FRACTION_WIDE ")?;
-            put_list_place(sink, list, index)?;
-            put_all(sink, b"\n")
+            let name = Piece::Bytes(list_name(list));
+            put_pieces(sink, &[code, name, space, Piece::Number(index.into()), end])
         }
     }
-}
-
-/// Writes that a word lies outside the words of the format.
-fn put_range<K: Sink>(
-    sink: &mut K,
-    list: ListName,
-    index: u32,
-    wanted: i128,
-) -> Result<(), Failed>
-    ensures { Writes K.taken K.faults sink.old sink.new result (range_text list index wanted) }
-{
-    put_all(sink, b"FILE REFUSED 21 COEFFICIENT_RANGE ")?;
-    put_list_place(sink, list, index)?;
-    put_all(sink, b" wanted")?;
-    put_spaced(sink, wanted)?;
-    put_all(sink, b"\n")
 }

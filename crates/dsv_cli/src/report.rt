@@ -4,9 +4,10 @@ ghost use Rattle.std.specs.Fmt.{signed_decimal};
 ghost use Rattle.std.specs.List.{flat_map};
 ghost use Rattle.dsv_base.specs.Taking.{Writes};
 ghost use Rattle.dsv_base.specs.Text.{spaced};
-ghost use Rattle.dsv_cli.specs.Report.{kind_name, head_text, successful, failed, text_of, rows_text, form_text, start_text, HasPlaces};
+ghost use Rattle.dsv_cli.specs.Report.{kind_name, head_text, successful, failed, text_of, rows_text, form_text, value_text, start_text, HasPlaces};
 
 use crate::answers::{Answer, WhichFile};
+use crate::pieces::{Piece, put_pieces};
 use crate::refusals::{put_file_refusal, put_quant_refusal};
 use dsv_base::{Failed, Sink, put_all, put_line, put_spaced};
 use dsv_forms::{Form, KeptAway, Poly};
@@ -35,9 +36,14 @@ fn kind_name(kind: Kind) -> &'static [u8]
 fn put_head<K: Sink>(sink: &mut K, verdict: &[u8], kind: Kind) -> Result<(), Failed>
     ensures { Writes K.taken K.faults sink.old sink.new result (head_text verdict.now kind) }
 {
-    put_all(sink, verdict)?;
-    put_all(sink, kind_name(kind))?;
-    put_all(sink, b"\n")
+    put_pieces(
+        sink,
+        &[
+            Piece::Bytes(verdict),
+            Piece::Bytes(kind_name(kind)),
+            Piece::Bytes(b"\n"),
+        ],
+    )
 }
 
 /// Writes a line for each row of a form.
@@ -74,14 +80,25 @@ fn put_numbers<K: Sink, I: Integer>(sink: &mut K, numbers: &[I]) -> Result<(), F
 }
 
 /// Writes where a form is negative, and its value there.
-fn put_start<K: Sink>(sink: &mut K, start: &[i64], value: i128) -> Result<(), Failed>
-    ensures { Writes K.taken K.faults sink.old sink.new result (start_text start.now value) }
+fn put_start<K: Sink>(sink: &mut K, start: &[i64], value: &i128) -> Result<(), Failed>
+    ensures { Writes K.taken K.faults sink.old sink.new result (start_text start.now value.now) }
 {
     put_all(sink, b"start")?;
     put_numbers(sink, start)?;
-    put_all(sink, b" value")?;
-    put_spaced(sink, value)?;
-    put_all(sink, b"\n")
+    put_value(sink, value)
+}
+
+fn put_value<K: Sink>(sink: &mut K, value: &i128) -> Result<(), Failed>
+    ensures { Writes K.taken K.faults sink.old sink.new result (value_text value.now) }
+{
+    put_pieces(
+        sink,
+        &[
+            Piece::Bytes(b" value "),
+            Piece::Number(*value),
+            Piece::Bytes(b"\n"),
+        ],
+    )
 }
 
 /// Writes the text of a form that falls.
@@ -109,12 +126,12 @@ fn put_kept_away<K: Sink>(
     poly: &Poly,
     offer: &KeptAway,
     fall: &Form,
-    value: i128,
+    value: &i128,
 ) -> Result<(), Failed>
     requires form { offer.now.form.d ≤ 8 }
     requires fall { fall.now.d ≤ 8 }
     ensures { Writes K.taken K.faults sink.old sink.new result
-        (head_text failed kind ++ form_text poly.now offer.now.form fall.now ++ start_text (take offer.now.form.d offer.now.start) value) }
+        (head_text failed kind ++ form_text poly.now offer.now.form fall.now ++ start_text (take offer.now.form.d offer.now.start) value.now) }
 {
     put_head(sink, FAILED, kind)?;
     put_form(sink, poly, &offer.form, fall)?;
@@ -133,7 +150,7 @@ pub fn put_answer<K: Sink>(sink: &mut K, kind: Kind, answer: &Answer) -> Result<
             offer,
             fall,
             value,
-        } => put_kept_away(sink, kind, poly, offer, fall, *value),
+        } => put_kept_away(sink, kind, poly, offer, fall, value),
         Answer::Usage => put_all(sink, b"USAGE\n"),
         Answer::FileRefused(refusal) => put_file_refusal(sink, *refusal),
         Answer::FileTooLong => put_all(sink, b"FILE REFUSED 12 TOO_LONG at 65536\n"),

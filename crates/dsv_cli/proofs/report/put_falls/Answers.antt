@@ -1,30 +1,11 @@
-use Rattle.std.proofs.Common.{codes}
-use Rattle.dsv_base.proofs.TakingLemmas.{writes_after, writes_err, cut_later, cut_more, wrote_more}
-use Rattle.dsv_cli.specs.Report.{numbers_line, rows_text, successful_head}
+use Rattle.dsv_base.proofs.TakingLemmas.{writes_after, writes_err, cut_more}
+use Rattle.dsv_cli.specs.Report.{form_text, successful}
 use Rattle.dsv_cli.proofs.report.put_falls.Goals as goal
 
-pub returns-in_err-put_all : goal.returns-in_err-put_all
-unfolding successful_head
-returns-in_err-put_all g c =
-    let a = c.args in
-    writes_err c.from_residual.ensures.0 (cut_more (rows_text (codes "fall") a.fall.now) (cut_more (rows_text (codes "form") a.form.now) (cut_more (numbers_line (codes "polynomial") a.poly.now) c.in_err-put_all.ensures.cut)))
-
-pub returns-in_err-put_line : goal.returns-in_err-put_line
-unfolding successful_head
-returns-in_err-put_line g c =
-    let a = c.args in
-    let cut = rw c.coefficients.ensures.same at c.in_err-put_line.ensures.cut in
-    writes_err c.from_residual-in_err-put_line.ensures.0 (cut_more (rows_text (codes "fall") a.fall.now) (cut_more (rows_text (codes "form") a.form.now) (cut_later c.in_ok-put_all.ensures.whole cut)))
-
-pub returns-in_err-put_rows : goal.returns-in_err-put_rows
-unfolding successful_head
-returns-in_err-put_rows g c =
-    let a = c.args in
-    let line = rw c.coefficients.ensures.same at c.in_ok-put_line.ensures.whole in
-    writes_err c.from_residual-in_err-put_rows.ensures.0 (cut_more (rows_text (codes "fall") a.fall.now) (cut_later (wrote_more c.in_ok-put_all.ensures.whole line) c.in_err-put_rows.ensures.cut))
+pub returns-in_err-put_head : goal.returns-in_err-put_head
+unfolding successful
+returns-in_err-put_head g c = writes_err c.from_residual.ensures.0 (cut_more (form_text c.args.poly.now c.args.form.now c.args.fall.now) c.in_err-put_head.ensures.cut)
 
 pub returns : goal.returns
-unfolding successful_head
-returns g c =
-    let line = rw c.coefficients.ensures.same at c.in_ok-put_line.ensures.whole in
-    writes_after (wrote_more (wrote_more c.in_ok-put_all.ensures.whole line) c.in_ok-put_rows.ensures.whole) c.put_rows-2.ensures
+unfolding successful
+returns g c = writes_after c.in_ok-put_head.ensures.whole c.put_form.ensures
