@@ -1,0 +1,171 @@
+-- The written equations of the six realisations. N is the order, x(n) the input, y(n) the output.
+use Rattle.std.specs.Prelude.{ℕ, zero, suc, ◌+◌, ◌-◌, ◌*◌, Bool, true, false, List, [], ◌∷◌, ◌++◌, length, take, drop, ℤ, pos, slice_index_or}
+use Rattle.dsv_quantiser.specs.declared.kind.Kind.{Kind}
+use Rattle.dsv_quantiser.specs.declared.kind.Kind.TheVariants.{Dfi, Dfii, Tdfii, Ddfi, Ddfii, Tddfii}
+use Rattle.dsv_quantiser.specs.FixedPoint.{FixedPoint}
+use Rattle.dsv_meaning.specs.Lines.{Term, Times, Alone, Sum, terms, line}
+use Rattle.dsv_meaning.specs.Runs.{Sampled}
+
+abbrev pub order : FixedPoint → ℕ
+order q = length q.a - 1
+
+-- the coefficients a_1 to a_N
+abbrev pub feedback : FixedPoint → List ℤ
+feedback q = drop 1 q.a
+
+-- the word of a signal i samples ago, where the newest stands first
+abbrev pub ago : List ℤ → ℕ → ℤ
+ago signal i = slice_index_or signal i (pos 0)
+
+-- A run's past: whole signals, newest sample first, which go on behind sample 0 into the start. `signal` is x of DFI and
+-- w of DFII, `outputs` is y of DFI. The chains are the registers behind each sample, newest sample first: s of TDFII
+-- and TDDFII, w of DDFII, u of DDFI; `output_chain` is v of DDFI.
+pub record Past : Type 0 where
+  pub signal : List ℤ
+  pub outputs : List ℤ
+  pub chain : List (List ℤ)
+  pub output_chain : List (List ℤ)
+
+abbrev pub latest : List (List ℤ) → List ℤ
+latest chains = slice_index_or chains 0 []
+
+-- ---- the lines, over words or over the nodes that have them
+-- b_0 w(0) + b_1 w(1) + ..
+abbrev pub forward_terms : {A : Type 0} → FixedPoint → (ℕ → A) → List (Term A)
+forward_terms q w = terms false q.b w 0
+
+-- - a_1 w(k) - a_2 w(k+1) - ..
+abbrev pub feedback_terms : {A : Type 0} → FixedPoint → (ℕ → A) → ℕ → List (Term A)
+feedback_terms q w k = terms true (feedback q) w k
+
+-- the first word of a chain, alone
+abbrev pub first_alone : {A : Type 0} → List A → List (Term A)
+first_alone [] = []
+first_alone (s ∷ ss) = Alone s ∷ []
+
+-- b_0 x + s_1
+abbrev pub transposed_output : {A : Type 0} → FixedPoint → A → List A → List (Term A)
+transposed_output q x s = terms false (take 1 q.b) (λ i. x) 0 ++ first_alone s
+
+-- b_i x - a_i y + old s_(i+1), where `s` begins with old s_(i+1)
+abbrev pub transposed_line : {A : Type 0} → ℤ → ℤ → A → A → List A → List (Term A)
+transposed_line b a x y s = Times false b x ∷ Times true a y ∷ first_alone s
+
+-- old w + delta v
+abbrev pub delta_line : {A : Type 0} → FixedPoint → A → A → List (Term A)
+delta_line q w v = Alone w ∷ Times false q.delta v ∷ []
+
+-- ---- chains
+-- the new words of a chain so far, with the exact values so far
+pub record Chain : Type 0 where
+  pub words : List ℤ
+  pub exact : List ℤ
+
+abbrev pub no_words : List ℤ → Chain
+no_words exact = record { words = []; exact = exact }
+
+abbrev pub chained : Chain → Sum → Chain
+chained c s = record { words = c.words ++ s.value ∷ []; exact = s.exact }
+
+-- new w_j = old w_j + delta old w_(j-1), where `before` is old w_(j-1)
+abbrev pub delta_chain : FixedPoint → ℤ → List ℤ → Chain → Chain
+delta_chain q before [] c = c
+delta_chain q before (w ∷ ws) c = delta_chain q w ws (chained c (line q.format c.exact (delta_line q w before)))
+
+-- new s_i = b_i x - a_i y + old s_(i+1), where `s` is old s_i and those behind it
+abbrev pub transposed_chain : FixedPoint → ℤ → ℤ → List ℤ → List ℤ → List ℤ → Chain → Chain
+transposed_chain q x y (b ∷ bs) (a ∷ cs) s c =
+    transposed_chain q x y bs cs (drop 1 s) (chained c (line q.format c.exact (transposed_line b a x y (drop 1 s))))
+transposed_chain q x y _ _ s c = c
+
+-- new s_i = old s_i + delta (b_i x - a_i y + old s_(i+1))
+abbrev pub transposed_delta_chain : FixedPoint → ℤ → ℤ → List ℤ → List ℤ → List ℤ → Chain → Chain
+transposed_delta_chain q x y (b ∷ bs) (a ∷ cs) (s ∷ ss) c =
+    let t = line q.format c.exact (transposed_line b a x y ss) in
+    transposed_delta_chain q x y bs cs ss (chained c (line q.format t.exact (delta_line q s t.value)))
+transposed_delta_chain q x y _ _ _ c = c
+
+-- ---- one sample
+abbrev pub sample_as : Kind → FixedPoint → Past → ℤ → Sampled Past
+-- y(n) = b_0 x(n) + .. + b_N x(n-N) - a_1 y(n-1) - .. - a_N y(n-N)
+sample_as Dfi q p x =
+    let xs = x ∷ p.signal in
+    let y = line q.format [] (forward_terms q (ago xs) ++ feedback_terms q (ago p.outputs) 0) in
+    record { y = y.value; exact = y.exact; past = record p { signal = xs; outputs = y.value ∷ p.outputs } }
+-- w(n) = x(n) - a_1 w(n-1) - .. - a_N w(n-N); y(n) = b_0 w(n) + .. + b_N w(n-N)
+sample_as Dfii q p x =
+    let w = line q.format [] (Alone x ∷ feedback_terms q (ago p.signal) 0) in
+    let ws = w.value ∷ p.signal in
+    let y = line q.format w.exact (forward_terms q (ago ws)) in
+    record { y = y.value; exact = y.exact; past = record p { signal = ws } }
+-- y(n) = b_0 x(n) + s_1; then the new s_i
+sample_as Tdfii q p x =
+    let s = latest p.chain in
+    let y = line q.format [] (transposed_output q x s) in
+    let c = transposed_chain q x y.value (drop 1 q.b) (feedback q) s (no_words y.exact) in
+    record { y = y.value; exact = c.exact; past = record p { chain = c.words ∷ p.chain } }
+-- y(n) = b_0 x(n) + b_1 u_1 + .. + b_N u_N - a_1 v_1 - .. - a_N v_N; then the new u_j and the new v_j
+sample_as Ddfi q p x =
+    let u = latest p.chain in
+    let v = latest p.output_chain in
+    let y = line q.format [] (forward_terms q (ago (x ∷ u)) ++ feedback_terms q (ago v) 0) in
+    let c = delta_chain q x u (no_words y.exact) in
+    let d = delta_chain q y.value v (no_words c.exact) in
+    record { y = y.value; exact = d.exact; past = record p { chain = c.words ∷ p.chain; output_chain = d.words ∷ p.output_chain } }
+-- w_0 = x(n) - a_1 w_1 - .. - a_N w_N; y(n) = b_0 w_0 + .. + b_N w_N; then the new w_j
+sample_as Ddfii q p x =
+    let w = latest p.chain in
+    let w_0 = line q.format [] (Alone x ∷ feedback_terms q (ago w) 0) in
+    let y = line q.format w_0.exact (forward_terms q (ago (w_0.value ∷ w))) in
+    let c = delta_chain q w_0.value w (no_words y.exact) in
+    record { y = y.value; exact = c.exact; past = record p { chain = c.words ∷ p.chain } }
+-- y(n) = b_0 x(n) + s_1; then the new s_i
+sample_as Tddfii q p x =
+    let s = latest p.chain in
+    let y = line q.format [] (transposed_output q x s) in
+    let c = transposed_delta_chain q x y.value (drop 1 q.b) (feedback q) s (no_words y.exact) in
+    record { y = y.value; exact = c.exact; past = record p { chain = c.words ∷ p.chain } }
+
+abbrev pub sample : FixedPoint → Past → ℤ → Sampled Past
+sample q p x = sample_as q.kind q p x
+
+-- ---- registers
+-- the registers in a past, read from the lists, for an order N
+abbrev pub registers_as : Kind → ℕ → Past → List ℤ
+registers_as Dfi n p = take n p.signal ++ take n p.outputs
+registers_as Dfii n p = take n p.signal
+registers_as Ddfi n p = latest p.chain ++ latest p.output_chain
+registers_as k n p = latest p.chain
+
+-- the past before sample 0, for these words in the registers
+abbrev pub start_as : Kind → ℕ → List ℤ → Past
+start_as Dfi n start = record { signal = take n start; outputs = drop n start; chain = []; output_chain = [] }
+start_as Dfii n start = record { signal = start; outputs = []; chain = []; output_chain = [] }
+start_as Ddfi n start = record { signal = []; outputs = []; chain = take n start ∷ []; output_chain = drop n start ∷ [] }
+start_as k n start = record { signal = []; outputs = []; chain = start ∷ []; output_chain = [] }
+
+-- ---- the table of counts
+-- how many registers a realisation has
+abbrev pub registers_of : Kind → ℕ → ℕ
+registers_of Dfi n = 2 * n
+registers_of Ddfi n = 2 * n
+registers_of k n = n
+
+-- how many of them, the first ones, are feed-forward
+abbrev pub forward_registers_of : Kind → ℕ → ℕ
+forward_registers_of Dfi n = n
+forward_registers_of Ddfi n = n
+forward_registers_of k n = 0
+
+-- how many products a sample has
+abbrev pub products_of : Kind → ℕ → ℕ
+products_of Dfi n = 2 * n + 1
+products_of Dfii n = 2 * n + 1
+products_of Tdfii n = 2 * n + 1
+products_of Ddfi n = 4 * n + 1
+products_of Ddfii n = 3 * n + 1
+products_of Tddfii n = 3 * n + 1
+
+-- how many sums and differences
+abbrev pub sums_of : Kind → ℕ → ℕ
+sums_of k n = products_of k n - 1

@@ -1,0 +1,4 @@
+pub mod Equations
+pub mod Lines
+pub mod Runs
+pub mod Systems

@@ -1,0 +1,51 @@
+-- Lines of written equations: sums of products of coefficients and words, in fixed point.
+use Rattle.std.specs.Prelude.{ℕ, ◌+◌, Bool, List, [], ◌∷◌, ◌++◌, if◌then◌else◌, ℤ, pos, ◌+ℤ◌, ◌-ℤ◌, ◌*ℤ◌}
+use Rattle.dsv_word.specs.declared.format.Format.{Format}
+use Rattle.dsv_word.specs.Words.{width, fit}
+use Rattle.dsv_word.specs.Quotients.{shifted}
+
+-- A line is a list of terms: a product of a coefficient and a word, added or taken away, or a word alone, added.
+-- A is the type of the words: whole numbers in an equation, numbers of nodes in a netlist.
+pub data Term (A : Type 0) : Type 0 where
+  Times : (away : Bool) (coeff : ℤ) (word : A) → Term A
+  Alone : (word : A) → Term A
+
+-- the terms c_0 w(k), c_1 w(k+1), ..
+abbrev pub terms : {A : Type 0} → Bool → List ℤ → (ℕ → A) → ℕ → List (Term A)
+terms away [] w k = []
+terms away (c ∷ cs) w k = Times away c (w k) ∷ terms away cs w (k + 1)
+
+-- how far a line has come: its value, and the exact values of the operations so far, each before it was fitted
+pub record Sum : Type 0 where
+  pub value : ℤ
+  pub exact : List ℤ
+
+-- one operation more, whose exact value is e: its value is the word that e becomes
+abbrev pub fitted : Format → List ℤ → ℤ → Sum
+fitted f old e = record { value = fit f.overflow (width f) e; exact = old ++ e ∷ [] }
+
+-- prod(c, w): the product over 2^frac_bits made whole, and fitted
+abbrev pub product : Format → List ℤ → ℤ → ℤ → Sum
+product f old c w = fitted f old (shifted f.rounding f.frac_bits (c *ℤ w))
+
+-- plus(v, s) or minus(v, s)
+abbrev pub joined : Format → Bool → ℤ → Sum → Sum
+joined f away v s = fitted f s.exact (if away then v -ℤ s.value else v +ℤ s.value)
+
+-- a line starts with its first term, which is never taken away; a word alone is no operation
+abbrev pub first_term : Format → List ℤ → Term ℤ → Sum
+first_term f old (Times away c w) = product f old c w
+first_term f old (Alone w) = record { value = w; exact = old }
+
+abbrev pub next_term : Format → Sum → Term ℤ → Sum
+next_term f s (Times away c w) = joined f away s.value (product f s.exact c w)
+next_term f s (Alone w) = fitted f s.exact (s.value +ℤ w)
+
+abbrev pub next_terms : Format → Sum → List (Term ℤ) → Sum
+next_terms f s [] = s
+next_terms f s (t ∷ ts) = next_terms f (next_term f s t) ts
+
+-- a line from left to right, behind the exact values of the lines before it
+abbrev pub line : Format → List ℤ → List (Term ℤ) → Sum
+line f old [] = record { value = pos 0; exact = old }
+line f old (t ∷ ts) = next_terms f (first_term f old t) ts
