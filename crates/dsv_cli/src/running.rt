@@ -39,10 +39,8 @@ fn status_of_answer(answer: &Answer) -> u8
         Answer::Falls { .. } => 0,
         Answer::KeptAway { .. } => 10,
         Answer::Usage => 1,
-        Answer::FileRefused(_)
-        | Answer::FileTooLong
-        | Answer::QuantRefused(_)
-        | Answer::NotYet => 2,
+        Answer::FileRefused(_) | Answer::FileTooLong | Answer::QuantRefused(_) | Answer::NotYet =>
+            2,
         Answer::ReadFault(_) => 3,
         Answer::NoMemory => 5,
     }
