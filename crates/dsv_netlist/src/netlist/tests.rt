@@ -91,23 +91,25 @@ fn counts_of_what_is_allowed(rt: HostRuntime) -> Result<(), Fail> {
 #[test]
 fn bounds_below_the_limit(rt: HostRuntime) -> Result<(), Fail> {
     let alloc = rt.alloc();
-    // A word's bound is 2^3; the limit is 2^78.
-    for (coeff, wanted) in [
-        (1 << 13, None),
-        ((1 << 13) - 1, Some(((1 << 13) - 1) << 65)),
-    ] {
-        let first = Node::MulConst {
-            coeff: 1 << 62,
-            of: 0,
-        };
-        let second = Node::MulConst { coeff, of: 1 };
-        let nodes = [Node::Input, first, second];
-        let found = match made(alloc, &nodes, &[], 0, 0)? {
-            Some(net) if net.len() == 3 => Some(net.bound(2)),
-            _ => None,
-        };
-        assert_eq!(rt; found, wanted, "{coeff}");
-    }
+    // A word's bound is 2^3, and the limit is 2^78.
+    let first = Node::MulConst {
+        coeff: 1 << 62,
+        of: 0,
+    };
+    let below = Node::MulConst {
+        coeff: 1 - (1 << 13),
+        of: 1,
+    };
+    let at = Node::MulConst {
+        coeff: -(1 << 13),
+        of: 1,
+    };
+    assert!(rt; made(alloc, &[Node::Input, first, at], &[], 0, 0)?.is_none());
+    let Some(net) = made(alloc, &[Node::Input, first, below], &[], 0, 0)? else {
+        return Err(Fail::from("no netlist"));
+    };
+    assert_eq!(rt; net.len(), 3);
+    assert_eq!(rt; net.bound(2), ((1 << 13) - 1) << 65);
     Ok(())
 }
 
@@ -164,13 +166,12 @@ fn what_is_counted(rt: HostRuntime) -> Result<(), Fail> {
     };
     assert_eq!(rt; net.counts(), wanted);
     assert_eq!(rt;
-        (net.registers(), net.output(), net.past_inputs()),
-        (3, 5, 1)
+        (net.output(), net.past_inputs(), net.format().width()),
+        (5, 1, 4)
     );
-    assert_eq!(rt; net.format().width(), 4);
-    if net.registers() == 3 && net.len() == 6 {
-        assert_eq!(rt; (net.next(0), net.next(1)), (0, 5));
-        assert_eq!(rt; net.node(4), Node::Sub(3, 0));
-    }
+    assert_eq!(rt; net.registers(), 3);
+    assert_eq!(rt; (net.next(0), net.next(1)), (0, 5));
+    assert_eq!(rt; net.len(), 6);
+    assert_eq!(rt; net.node(4), Node::Sub(3, 0));
     Ok(())
 }
