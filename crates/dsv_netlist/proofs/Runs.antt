@@ -1,5 +1,5 @@
 -- A sample of a netlist from words: what each node is computed from, and what it gives.
-use Rattle.std.proofs.Common.{◌≡◌, ℕ, zero, suc, ◌+◌, ◌<◌, ◌≤◌, Bool, true, false, cond, List, [], ◌∷◌, ◌++◌, length, get_or, zero-add, map, refl, sym, ap, subst, ◌∙◌, inl, inr, arith, rules, take, length-append}
+use Rattle.std.proofs.Common.{◌≡◌, ℕ, zero, suc, ◌+◌, ◌<◌, ◌≤◌, true, cond, List, [], ◌∷◌, ◌++◌, length, zero-add, map, refl, sym, ap, subst, ◌∙◌, inl, inr, arith, rules, take, length-append}
 use Rattle.std.specs.Prelude.{IsTrue, count_by, slice_index}
 use Rattle.std.specs.List.{All}
 use Rattle.std.specs.Int.RustNames.{unsigned_abs}
@@ -11,16 +11,16 @@ use Rattle.std.proofs.lemmas.List.Elements.{All-head, All-tail, All-get_or, All-
 use Rattle.dsv_word.specs.declared.format.Format.{Format}
 use Rattle.dsv_netlist.specs.declared.node.Node.{Node}
 use Rattle.dsv_netlist.specs.declared.node.Node.TheVariants.{Input, Reg, MulConst, Round, Add, Sub, Fit}
-use Rattle.dsv_netlist.specs.declared.TheConstants.{MOST_EXACT, BOUND_LIMIT}
+use Rattle.dsv_netlist.specs.declared.TheConstants.{MOST_EXACT}
 use Rattle.dsv_netlist.specs.Nodes.{IsWord, Net, Sample, at, node_value, node_exact, after_node, sample_from, sample_of}
-use Rattle.dsv_netlist.specs.Bounds.{word_bound, node_bound, bounds_from, bounds_of}
+use Rattle.dsv_netlist.specs.Bounds.{word_bound, node_bound, bounds_from}
 use Rattle.dsv_netlist.specs.Conditions.{NamesBelow, AllNameBack, ReadsBelow, gives_word, names_word, is_fit, IsNetlist}
 use Rattle.dsv_netlist.specs.Law.{AreWords, ValuesAreBounded}
 use Rattle.dsv_netlist.specs.Safety.{IsSafe, AreSafe}
 use Rattle.dsv_netlist.specs.declared.netlist.Netlist.TheInside.{Inside}
 use Rattle.dsv_netlist.specs.Inside.{view_of}
 use Rattle.dsv_netlist.proofs.Sizes.{fit_is_word, word_size, shifted_size, product_size, sum_size, difference_size}
-use Rattle.dsv_netlist.proofs.BoundLemmas.{AreBelow, from-length as bounds_from-length, first_below}
+use Rattle.dsv_netlist.proofs.BoundLemmas.{AreBelow, first_below}
 use Rattle.dsv_netlist.proofs.Naming.{names_word-below}
 
 -- the values are within the bounds

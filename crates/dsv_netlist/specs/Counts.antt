@@ -1,5 +1,5 @@
 -- How many operations a sample takes.
-use Rattle.std.specs.Prelude.{ℕ, Bool, true, false, length, count_by}
+use Rattle.std.specs.Prelude.{Bool, true, false, length, count_by}
 use Rattle.dsv_netlist.specs.declared.node.Node.{Node}
 use Rattle.dsv_netlist.specs.declared.node.Node.TheVariants.{MulConst, Add, Sub}
 use Rattle.dsv_netlist.specs.declared.netlist.OpCounts.{OpCounts}

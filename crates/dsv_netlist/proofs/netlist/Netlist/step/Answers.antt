@@ -1,4 +1,4 @@
-use Rattle.std.proofs.Common.{arith, refl, rules, ap, map, take, length, ◌≡◌, ◌∙◌, to_z, of_z, w64}
+use Rattle.std.proofs.Common.{ap, map, take, length, ◌∙◌, to_z, of_z, w64}
 use Rattle.std.proofs.lemmas.Int.{to_z-of_z}
 use Rattle.dsv_netlist.specs.Nodes.{at}
 use Rattle.dsv_netlist.specs.Inside.{view_of}
