@@ -178,7 +178,6 @@ net_word net rs x k n w h =
 
 -- what stands where the values of all nodes are these
 pub record IsDone (net : Net) (values : List ℤ) : Type 0 where
-  pub many : length values ≡ length net.nodes
   pub named : All (λ k. k < length values) net.next
   pub words : All (λ k. IsWord net.format (at values k)) net.next
   pub below : net.output < length values
@@ -190,7 +189,6 @@ done net rs x values n w e =
     let below = λ (k : ℕ) (h : IsTrue (names_word net.nodes k)). (let b = names_word-below net.nodes k (search rules) in let l : k < length values = omega arith in l) in
     let words = λ (k : ℕ) (h : IsTrue (names_word net.nodes k)). subst (λ (vs : List ℤ). IsWord net.format (at vs k)) (sym e) (net_word net rs x k n w h) in
     record {
-      many = m;
       named = All-weaker (λ k. IsTrue (names_word net.nodes k)) (λ k. k < length values) below net.next n.next;
       words = All-weaker (λ k. IsTrue (names_word net.nodes k)) (λ k. IsWord net.format (at values k)) words net.next n.next;
       below = below net.output n.output;

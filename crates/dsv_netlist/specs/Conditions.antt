@@ -44,6 +44,8 @@ abbrev pub is_fit : Node → Bool
 is_fit (Fit of) = true
 is_fit _ = false
 
+-- What Netlist::new accepts: few enough nodes, registers and exact values; past inputs are registers; nodes name nodes
+-- before them and registers that are there; the output and what loads a register are words; no bound reaches the limit.
 pub record IsNetlist (net : Net) : Type 0 where
   pub few_nodes : length net.nodes ≤ MOST_NODES
   pub few_registers : length net.next ≤ MOST_REGISTERS
