@@ -1,0 +1,5 @@
+pub mod Casts
+pub mod Sizes
+pub mod Naming
+pub mod BoundLemmas
+pub mod Runs

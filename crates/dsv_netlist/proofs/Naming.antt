@@ -1,0 +1,35 @@
+-- Which nodes are named.
+use Rattle.std.proofs.Common.{◌≡◌, ℕ, zero, suc, ◌+◌, ◌<◌, ◌≤◌, true, false, List, [], ◌∷◌, length, get_or, drop, refl, sym, subst, arith}
+use Rattle.std.proofs.lemmas.List.{drop_more}
+use Rattle.dsv_netlist.specs.declared.node.Node.{Node}
+use Rattle.dsv_netlist.specs.declared.node.Node.TheVariants.{Input}
+use Rattle.dsv_netlist.specs.Conditions.{NamesBelow, AllNameBack, gives_word, names_word}
+
+pub names_word-get_or : (nodes : List Node) (k : ℕ) (d : Node) → k < length nodes → names_word nodes k ≡ gives_word (get_or nodes k d)
+names_word-get_or [] k d h = absurd (omega arith)
+names_word-get_or (node ∷ nodes) zero d h = refl
+names_word-get_or (node ∷ nodes) (suc k) d h = names_word-get_or nodes k d (omega arith)
+
+pub names_word-outside : (nodes : List Node) (k : ℕ) → length nodes ≤ k → names_word nodes k ≡ false
+names_word-outside [] k h = refl
+names_word-outside (node ∷ nodes) zero h = absurd (omega arith)
+names_word-outside (node ∷ nodes) (suc k) h = names_word-outside nodes k (omega arith)
+
+pub names_word-below : (nodes : List Node) (k : ℕ) → names_word nodes k ≡ true → k < length nodes
+names_word-below [] k h = absurd cc
+names_word-below (node ∷ nodes) zero h = omega arith
+names_word-below (node ∷ nodes) (suc k) h = omega (arith, names_word-below nodes k h)
+
+-- the i-th node and those behind it
+pub record NamesBackAt (nodes : List Node) (i : ℕ) : Type 0 where
+  pub here : NamesBelow i (get_or nodes i Input)
+  pub behind : AllNameBack (i + 1) (drop (i + 1) nodes)
+
+pub name_back_at : (nodes : List Node) (i : ℕ) → i < length nodes → AllNameBack i (drop i nodes) → NamesBackAt nodes i
+name_back_at nodes i l h =
+    let both = subst (λ (ns : List Node). AllNameBack i ns) (drop_more nodes i Input l) h in
+    record { here = both.0; behind = both.1 }
+
+pub name_back_from : (nodes : List Node) (i : ℕ) → i < length nodes → NamesBackAt nodes i → AllNameBack i (drop i nodes)
+name_back_from nodes i l h =
+    subst (λ (ns : List Node). AllNameBack i ns) (sym (drop_more nodes i Input l)) (h.here, h.behind)

@@ -1,0 +1,29 @@
+-- Bounds on the sizes of the nodes' values, for registers and an input that are words.
+use Rattle.std.specs.Prelude.{ℕ, ◌+◌, ◌-◌, ◌*◌, ◌^◌, List, [], ◌∷◌, ◌++◌, slice_index}
+use Rattle.std.specs.Int.RustNames.{unsigned_abs}
+use Rattle.dsv_word.specs.declared.format.Format.{Format}
+use Rattle.dsv_word.specs.Words.{width}
+use Rattle.dsv_netlist.specs.declared.node.Node.{Node}
+use Rattle.dsv_netlist.specs.declared.node.Node.TheVariants.{Input, Reg, MulConst, Round, Add, Sub, Fit}
+
+-- the greatest size of a word
+abbrev pub word_bound : Format → ℕ
+word_bound format = 2 ^ (width format - 1)
+
+-- the bound of a node, where a word's and those of the nodes before it are these
+abbrev pub node_bound : ℕ → List ℕ → Node → ℕ
+node_bound word bounds Input = word
+node_bound word bounds (Reg register) = word
+node_bound word bounds (MulConst coeff of) = unsigned_abs coeff * slice_index bounds of
+node_bound word bounds (Round of) = slice_index bounds of
+node_bound word bounds (Add left right) = slice_index bounds left + slice_index bounds right
+node_bound word bounds (Sub left right) = slice_index bounds left + slice_index bounds right
+node_bound word bounds (Fit of) = word
+
+abbrev pub bounds_from : ℕ → List Node → List ℕ → List ℕ
+bounds_from word [] bounds = bounds
+bounds_from word (node ∷ nodes) bounds = bounds_from word nodes (bounds ++ node_bound word bounds node ∷ [])
+
+-- the bounds of all nodes
+abbrev pub bounds_of : Format → List Node → List ℕ
+bounds_of format nodes = bounds_from (word_bound format) nodes []

@@ -1,0 +1,7 @@
+pub mod Bounds
+pub mod Conditions
+pub mod Counts
+pub mod Inside
+pub mod Law
+pub mod Nodes
+pub mod Safety

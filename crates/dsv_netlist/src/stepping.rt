@@ -1,0 +1,94 @@
+// One sample of a netlist's nodes.
+ghost use Rattle.std.specs.Prelude.{◌≡◌, ◌+◌, ◌<◌, ◌≤◌, ◌++◌, [], length, take, map};
+ghost use Rattle.std.specs.List.{All};
+ghost use Rattle.std.specs.Int.RustNames.{unsigned_abs};
+ghost use Rattle.dsv_netlist.specs.Nodes.{IsWord, at, node_value, node_exact, sample_of};
+ghost use Rattle.dsv_netlist.specs.Conditions.{NamesBelow, ReadsBelow};
+ghost use Rattle.dsv_netlist.specs.Safety.{AreSafe};
+ghost use Rattle.dsv_netlist.specs.declared.TheConstants.{MOST_EXACT, BOUND_LIMIT};
+
+use crate::MOST_EXACT;
+use crate::node::Node;
+use arrayvec::ArrayVec;
+use dsv_word::Format;
+
+/// The exact values of one sample, in the order in which they are made.
+pub type ExactList = ArrayVec<i128, MOST_EXACT>;
+
+/// What a node gives, over the values of the nodes before it.
+fn value_of(format: &Format, node: &Node, registers: &[i64], x: &i64, values: &[i128]) -> i128
+    requires backwards { NamesBelow (length values.now) node.now }
+    requires reads { ReadsBelow (length registers.now) node.now }
+    requires bounded { All (λ v. unsigned_abs v < BOUND_LIMIT) values.now }
+    requires small { unsigned_abs (node_value format.now registers.now x.now values.now node.now) < BOUND_LIMIT }
+    ensures { result ≡ node_value format.now registers.now x.now values.now node.now }
+{
+    match node {
+        Node::Input => (*x).into(),
+        Node::Reg(register) => registers[*register as usize].into(),
+        Node::MulConst { coeff, of } => {
+            let coeff: i128 = (*coeff).into();
+            coeff * values[*of as usize]
+        }
+        Node::Round(of) => format.round_shift(values[*of as usize]),
+        Node::Add(left, right) => values[*left as usize] + values[*right as usize],
+        Node::Sub(left, right) => values[*left as usize] - values[*right as usize],
+        Node::Fit(of) => format.fit(values[*of as usize]).into(),
+    }
+}
+
+/// Appends the exact value of a node that fits one.
+fn push_exact(node: &Node, values: &[i128], exact: &mut ExactList)
+    requires backwards { NamesBelow (length values.now) node.now }
+    requires room { length exact.old.items + length (node_exact values.now node.now) ≤ MOST_EXACT }
+    ensures { exact.new.items ≡ exact.old.items ++ node_exact values.now node.now }
+{
+    if let Node::Fit(of) = node {
+        exact.push(values[*of as usize]);
+    }
+}
+
+/// The nodes one after another: their values, and the exact values.
+pub(crate) fn run_nodes(
+    format: &Format,
+    nodes: &[Node],
+    registers: &[i64],
+    x: &i64,
+    values: &mut [i128],
+    exact: &mut ExactList,
+)
+    requires safe { AreSafe format.now registers.now x.now nodes.now (record { values = []; exact = [] }) }
+    requires room { length nodes.now ≤ length values.old }
+    requires empty { exact.old.items ≡ [] }
+    ensures values { take (length nodes.now) values.new ≡ (sample_of format.now registers.now x.now nodes.now).values }
+    ensures exact { exact.new.items ≡ (sample_of format.now registers.now x.now nodes.now).exact }
+{
+    for (i, node) in nodes.iter().enumerate() {
+        let done = &values[..i];
+        let value = value_of(format, node, registers, x, done);
+        push_exact(node, done, exact);
+        values[i] = value;
+    }
+}
+
+/// A word that was computed wide.
+pub(crate) fn narrow(format: &Format, value: &i128) -> i64
+    requires { IsWord format.now value.now }
+    ensures value { result ≡ value.now }
+    ensures word { IsWord format.now result }
+{
+    *value as i64
+}
+
+/// Loads each register from its next node.
+pub(crate) fn load(format: &Format, next: &[u32], values: &[i128], registers: &mut [i64])
+    requires many { length registers.old ≡ length next.now }
+    requires named { All (λ k. k < length values.now) next.now }
+    requires words { All (λ k. IsWord format.now (at values.now k)) next.now }
+    ensures { registers.new ≡ map (at values.now) next.now }
+{
+    for (k, id) in next.iter().enumerate() {
+        let value = narrow(format, &values[*id as usize]);
+        registers[k] = value;
+    }
+}
