@@ -1,4 +1,6 @@
 // The realisations.
+ghost use Rattle.std.specs.Prelude.{◌≡◌};
+ghost use Rattle.dsv_quantiser.specs.Kinds.{is_delta};
 
 /// A realisation of a controller: one of the three direct forms, or its delta form.
 #[derive(Clone, Copy, Debug, PartialEq, Eq)]
@@ -15,4 +17,16 @@ pub enum Kind {
     Ddfii,
     /// Transposed delta direct form II.
     Tddfii,
+}
+
+impl Kind {
+    /// Whether it is a delta form.
+    pub fn is_delta(self) -> bool
+        ensures { result ≡ is_delta self }
+    {
+        match self {
+            Kind::Dfi | Kind::Dfii | Kind::Tdfii => false,
+            Kind::Ddfi | Kind::Ddfii | Kind::Tddfii => true,
+        }
+    }
 }

@@ -1,0 +1,4 @@
+pub mod FixedPoint
+pub mod Kinds
+pub mod Meaning
+pub mod Quantising

@@ -1,0 +1,54 @@
+-- What the words of a controller mean.
+use Rattle.std.specs.Prelude.{◌≡◌, ℕ, ◌+◌, ◌^◌, ◌<◌, ◌≤◌, ◌↔◌, List, length, ℤ, pos, ◌*ℤ◌, ◌≤ℤ◌, slice_index_or}
+use Rattle.dsv_fraction.specs.Ratio.{Ratio}
+use Rattle.dsv_word.specs.declared.format.Format.{Format}
+use Rattle.dsv_word.specs.Quotients.{IsRounded}
+use Rattle.dsv_word.specs.Words.{width, lo, hi}
+use Rattle.dsv_reader.specs.Controllers.{Design, zero}
+use Rattle.dsv_quantiser.specs.declared.kind.Kind.{Kind}
+use Rattle.dsv_quantiser.specs.declared.range.Range.{Range}
+use Rattle.dsv_quantiser.specs.FixedPoint.{FixedPoint, unit, IsWord}
+
+-- w is a word of the format, and it is q 2^f made whole by the format's rounding
+pub record IsWordOf (format : Format) (q : Ratio) (w : ℤ) : Type 0 where
+  pub word : IsWord format w
+  pub rounded : IsRounded format.rounding (q.num *ℤ pos (2 ^ format.frac_bits)) q.den w
+
+-- the words of the fractions behind those of a front
+pub record AreWordsOf (format : Format) (qs : List Ratio) (front words : List ℤ) : Type 0 where
+  pub places : length words ≡ length front + length qs
+  pub same : (k : ℕ) → k < length front → slice_index_or words k (pos 0) ≡ slice_index_or front k (pos 0)
+  pub each : (k : ℕ) → k < length qs → IsWordOf format (slice_index_or qs k zero) (slice_index_or words (length front + k) (pos 0))
+
+-- q ≤ w / 2^f
+abbrev pub IsFrom : Format → Ratio → ℤ → Type 0
+IsFrom format q w = (q.num *ℤ pos (2 ^ format.frac_bits)) ≤ℤ (w *ℤ pos q.den)
+
+-- w / 2^f ≤ q
+abbrev pub IsTo : Format → Ratio → ℤ → Type 0
+IsTo format q w = (w *ℤ pos q.den) ≤ℤ (q.num *ℤ pos (2 ^ format.frac_bits))
+
+-- the range is not empty, and it has the words from low to high, and no others
+pub record IsClamped (format : Format) (low high : ℤ) (r : Range) : Type 0 where
+  pub low_end : lo (width format) ≤ℤ r.lo
+  pub order : r.lo ≤ℤ r.hi
+  pub high_end : r.hi ≤ℤ hi (width format)
+  pub inputs : (w : ℤ) → IsWord format w → (r.lo ≤ℤ w) × (w ≤ℤ r.hi) ↔ (low ≤ℤ w) × (w ≤ℤ high)
+
+-- the range is not empty, and it has the words that stand for a number from min to max, and no others
+pub record IsRangeOf (format : Format) (min max : Ratio) (r : Range) : Type 0 where
+  pub low : lo (width format) ≤ℤ r.lo
+  pub order : r.lo ≤ℤ r.hi
+  pub high : r.hi ≤ℤ hi (width format)
+  pub inputs : (w : ℤ) → IsWord format w → (r.lo ≤ℤ w) × (w ≤ℤ r.hi) ↔ IsFrom format min w × IsTo format max w
+
+-- the controller in words whose coefficients become those of b and a
+pub record IsInWords (c : Design) (format : Format) (kind : Kind) (b a : List Ratio) (q : FixedPoint) : Type 0 where
+  pub same_format : q.format ≡ format
+  pub same_kind : q.kind ≡ kind
+  pub leading : slice_index_or q.a 0 (pos 0) ≡ unit format
+  pub b_places : length q.b ≡ length b
+  pub a_places : length q.a ≡ length a
+  pub b_words : (i : ℕ) → i < length b → IsWordOf format (slice_index_or b i zero) (slice_index_or q.b i (pos 0))
+  pub a_words : (i : ℕ) → 1 ≤ i → i < length a → IsWordOf format (slice_index_or a i zero) (slice_index_or q.a i (pos 0))
+  pub range : IsRangeOf format c.min c.max (record { lo = q.xlo; hi = q.xhi })

@@ -1,0 +1,79 @@
+-- How a controller becomes words, and the first reason for which it can't.
+use Rattle.std.specs.Prelude.{ℕ, List, [], ◌∷◌, ◌++◌, length, drop, Bool, ◌&&◌, if◌then◌else◌, Result, Ok, Err, ℤ, pos, int_lt, int_le}
+use Rattle.std.specs.Int.{int_max, int_min}
+use Rattle.dsv_algebra.specs.Floor.{floored}
+use Rattle.dsv_fraction.specs.Ratio.{Ratio}
+use Rattle.dsv_fraction.specs.declared.fraction.TooWide.{TooWide}
+use Rattle.dsv_word.specs.declared.format.Format.{Format}
+use Rattle.dsv_word.specs.Quotients.{ceiled, rounded, word_of}
+use Rattle.dsv_word.specs.Words.{width, lo, hi}
+use Rattle.dsv_reader.specs.Controllers.{Design}
+use Rattle.dsv_quantiser.specs.declared.kind.Kind.{Kind}
+use Rattle.dsv_quantiser.specs.declared.list_name.ListName.{ListName}
+use Rattle.dsv_quantiser.specs.declared.list_name.ListName.TheVariants as list
+use Rattle.dsv_quantiser.specs.declared.range.Range.{Range}
+use Rattle.dsv_quantiser.specs.declared.refusal.QuantRefusal.{QuantRefusal}
+use Rattle.dsv_quantiser.specs.declared.refusal.QuantRefusal.TheVariants as refusal
+use Rattle.dsv_quantiser.specs.FixedPoint.{FixedPoint, unit}
+
+infixl 10 ◌>>=◌
+-- the first step, and behind what it gives the second; the first refusal is the answer
+abbrev pub ◌>>=◌ : {A B : Type 0} → Result A QuantRefusal → (A → Result B QuantRefusal) → Result B QuantRefusal
+(Ok x) >>= f = f x
+(Err r) >>= f = Err r
+
+-- ---- one number
+-- the whole number that was made, where no part was too wide
+abbrev pub or_wide : ListName → ℕ → Result ℤ TooWide → Result ℤ QuantRefusal
+or_wide name i (Ok w) = Ok w
+or_wide name i (Err e) = Err (refusal.FractionWide name i)
+
+abbrev pub is_word : Format → ℤ → Bool
+is_word format w = int_le (lo (width format)) w && int_le w (hi (width format))
+
+abbrev pub fitting : Format → ListName → ℕ → ℤ → Result ℤ QuantRefusal
+fitting format name i w = if is_word format w then Ok w else Err (refusal.CoefficientRange name i w)
+
+-- the word of the fraction, which is number i of its list
+abbrev pub word_at : Format → ListName → ℕ → Ratio → Result ℤ QuantRefusal
+word_at format name i q = or_wide name i (word_of (rounded format.rounding) format.frac_bits q) >>= λ w. fitting format name i w
+
+-- ---- lists
+-- the words of the fractions behind those that the list has so far
+abbrev pub words_from : Format → ListName → List Ratio → List ℤ → Result (List ℤ) QuantRefusal
+words_from format name [] out = Ok out
+words_from format name (q ∷ qs) out = word_at format name (length out) q >>= λ w. words_from format name qs (out ++ w ∷ [])
+
+-- the words of the numerator
+abbrev pub b_words : Format → List Ratio → Result (List ℤ) QuantRefusal
+b_words format b = words_from format list.B b []
+
+-- the words of the denominator, whose leading coefficient is 1 and isn't tested
+abbrev pub a_words : Format → List Ratio → Result (List ℤ) QuantRefusal
+a_words format a = words_from format list.A (drop 1 a) (unit format ∷ [])
+
+-- ---- the inputs
+-- the words from the one end to the other, each end moved to the words of the format
+abbrev pub clamped : Format → ℤ → ℤ → Result Range QuantRefusal
+clamped format low high =
+    let xlo = int_max low (lo (width format)) in
+    let xhi = int_min high (hi (width format)) in
+    if int_lt xhi xlo then Err (refusal.RangeEmpty xlo xhi) else Ok (record { lo = xlo; hi = xhi })
+
+-- the words from min to max
+abbrev pub range_of : Format → Ratio → Ratio → Result Range QuantRefusal
+range_of format min max =
+    or_wide list.Min 0 (word_of ceiled format.frac_bits min) >>= λ low.
+    or_wide list.Max 0 (word_of floored format.frac_bits max) >>= λ high. clamped format low high
+
+-- ---- all of it
+-- the controller whose coefficients are these
+abbrev pub in_words : Design → Format → Kind → List Ratio → List Ratio → ℤ → Result FixedPoint QuantRefusal
+in_words c format kind b a delta =
+    b_words format b >>= λ num.
+    a_words format a >>= λ den.
+    range_of format c.min c.max >>= λ range.
+    Ok (record { b = num; a = den; delta = delta; xlo = range.lo; xhi = range.hi; format = format; kind = kind })
+
+abbrev pub quantised : Design → Format → Kind → Result FixedPoint QuantRefusal
+quantised c format kind = in_words c format kind c.b c.a (pos 0)

@@ -1,0 +1,152 @@
+// Controllers in words.
+#![tactic(auto, using(crate::proofs::Casts::casts))]
+
+use crate::kind::Kind;
+use crate::range::range_of;
+use crate::refusal::QuantRefusal;
+use crate::words::{Coeffs, a_words, b_words};
+use dsv_fraction::Frac;
+use dsv_reader::Controller;
+use dsv_word::Format;
+use std::marker::Model;
+
+/// A controller in words of a format, as one realisation computes it.
+///
+/// Both lists of coefficients have one length from 1 to 9. The leading denominator coefficient is two to the format's
+/// `frac_bits`, and all others are words of the format. `delta` is 0 for the direct forms, and a positive word for the
+/// delta forms. The inputs are the words from `xlo` to `xhi`, of which there is at least one.
+#[derive(Drop)]
+pub struct Quantised {
+    b: Coeffs,
+    a: Coeffs,
+    delta: i64,
+    xlo: i64,
+    xhi: i64,
+    format: Format,
+    kind: Kind,
+}
+
+impl Model for Quantised {
+    ghost use Rattle.dsv_quantiser.specs.FixedPoint.{FixedPoint, IsFixedPoint};
+
+    ghost Value = { FixedPoint };
+
+    ghost view = { λ q. record {
+      b = q.b.items;
+      a = q.a.items;
+      delta = q.delta;
+      xlo = q.xlo;
+      xhi = q.xhi;
+      format = q.format;
+      kind = q.kind;
+    } };
+
+    ghost invariant = { λ q. IsFixedPoint (record {
+      b = q.b.items;
+      a = q.a.items;
+      delta = q.delta;
+      xlo = q.xlo;
+      xhi = q.xhi;
+      format = q.format;
+      kind = q.kind;
+    }) };
+}
+
+impl Quantised {
+    ghost use Rattle.std.specs.Prelude.{◌≡◌, ◌≤◌, ◌+◌, length, IfOk};
+    ghost use Rattle.dsv_quantiser.specs.FixedPoint.{FixedPoint, IsFixedPoint, IsDeltaWord};
+    ghost use Rattle.dsv_quantiser.specs.Quantising.{in_words};
+    ghost use Rattle.dsv_quantiser.specs.Meaning.{IsInWords};
+
+    /// The controller in words whose coefficients become those of `b` and `a`.
+    pub(crate) fn in_words(
+        controller: &Controller,
+        format: Format,
+        kind: Kind,
+        b: &[Frac],
+        a: &[Frac],
+        delta: i64,
+    ) -> Result<Quantised, QuantRefusal>
+        requires one_length { length b.now ≡ length a.now }
+        requires some { 1 ≤ length a.now }
+        requires few { length a.now ≤ 9 }
+        requires delta { IsDeltaWord format kind delta }
+        ensures value { result ≡ in_words controller.now format kind b.now a.now delta }
+        ensures meaning { IfOk result (IsInWords controller.now format kind b.now a.now) }
+    {
+        let b = b_words(format, b)?;
+        let a = a_words(format, a)?;
+        let range = range_of(format, controller.min(), controller.max())?;
+        Ok(Quantised {
+            b,
+            a,
+            delta,
+            xlo: range.lo,
+            xhi: range.hi,
+            format,
+            kind,
+        })
+    }
+
+    /// The numerator's words, b_0 first; in the delta forms those of the converted numerator.
+    pub fn b(&self) -> &[i64]
+        ensures same { result.now ≡ self.now.b }
+        ensures fixed_point { IsFixedPoint self.now }
+    {
+        self.b.as_slice()
+    }
+
+    /// The denominator's words, a_0 first; in the delta forms those of the converted denominator.
+    pub fn a(&self) -> &[i64]
+        ensures same { result.now ≡ self.now.a }
+        ensures fixed_point { IsFixedPoint self.now }
+    {
+        self.a.as_slice()
+    }
+
+    /// The order: one less than the number of coefficients of either list.
+    pub fn order(&self) -> usize
+        ensures value { result + 1 ≡ length self.now.a }
+        ensures fixed_point { IsFixedPoint self.now }
+    {
+        self.a.len() - 1
+    }
+
+    /// Delta's word, 0 in the direct forms.
+    pub fn delta(&self) -> i64
+        ensures same { result ≡ self.now.delta }
+        ensures fixed_point { IsFixedPoint self.now }
+    {
+        self.delta
+    }
+
+    /// The least input.
+    pub fn xlo(&self) -> i64
+        ensures same { result ≡ self.now.xlo }
+        ensures fixed_point { IsFixedPoint self.now }
+    {
+        self.xlo
+    }
+
+    /// The greatest input.
+    pub fn xhi(&self) -> i64
+        ensures same { result ≡ self.now.xhi }
+        ensures fixed_point { IsFixedPoint self.now }
+    {
+        self.xhi
+    }
+
+    /// The format of its words.
+    pub fn format(&self) -> Format
+        ensures { result ≡ self.now.format }
+    {
+        self.format
+    }
+
+    /// The realisation.
+    pub fn kind(&self) -> Kind
+        ensures { result ≡ self.now.kind }
+    {
+        self.kind
+    }
+}

@@ -1,0 +1,45 @@
+// The range of the inputs.
+#![tactic(auto, using(crate::proofs::Casts::casts))]
+
+ghost use Rattle.std.specs.Prelude.{◌≡◌, IfOk};
+ghost use Rattle.dsv_quantiser.specs.Quantising.{range_of, clamped};
+ghost use Rattle.dsv_quantiser.specs.Meaning.{IsClamped, IsRangeOf};
+
+use crate::list_name::ListName;
+use crate::refusal::QuantRefusal;
+use crate::words::or_wide;
+use dsv_fraction::Frac;
+use dsv_word::Format;
+
+/// The words from `lo` to `hi`.
+#[derive(Clone, Copy)]
+pub(crate) struct Range {
+    pub(crate) lo: i64,
+    pub(crate) hi: i64,
+}
+
+/// The words from the one end to the other, each end moved to the words of the format.
+fn clamped(format: Format, low: i128, high: i128) -> Result<Range, QuantRefusal>
+    ensures value { result ≡ clamped format low high }
+    ensures meaning { IfOk result (IsClamped format low high) }
+{
+    let lo = low.max(i128::from(format.lo()));
+    let hi = high.min(i128::from(format.hi()));
+    if hi < lo {
+        return Err(QuantRefusal::RangeEmpty { lo, hi });
+    }
+    Ok(Range {
+        lo: lo as i64,
+        hi: hi as i64,
+    })
+}
+
+/// The words from `min` to `max`.
+pub(crate) fn range_of(format: Format, min: &Frac, max: &Frac) -> Result<Range, QuantRefusal>
+    ensures value { result ≡ range_of format min.now max.now }
+    ensures meaning { IfOk result (IsRangeOf format min.now max.now) }
+{
+    let low = or_wide(ListName::Min, 0, format.ceil_frac(min))?;
+    let high = or_wide(ListName::Max, 0, format.floor_frac(max))?;
+    clamped(format, low, high)
+}

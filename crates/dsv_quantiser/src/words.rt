@@ -1,0 +1,108 @@
+// Coefficients as words.
+#![tactic(auto, using(crate::proofs::Casts::casts))]
+
+ghost use Rattle.std.specs.Prelude.{◌≡◌, ◌+◌, ◌≤◌, ◌<◌, ◌^◌, length, drop, [], ◌∷◌, MatchResult, Ok, Err, IfOk};
+ghost use Rattle.dsv_quantiser.specs.FixedPoint.{unit, IsWord};
+ghost use Rattle.dsv_quantiser.specs.Meaning.{IsWordOf, AreWordsOf};
+ghost use Rattle.dsv_quantiser.specs.Quantising.{or_wide, fitting, word_at, words_from, a_words, b_words};
+
+use crate::list_name::ListName;
+use crate::refusal::QuantRefusal;
+use arrayvec::ArrayVec;
+use dsv_fraction::{Frac, TooWide};
+use dsv_word::Format;
+
+/// Up to nine coefficients as words.
+pub type Coeffs = ArrayVec<i64, 9>;
+
+/// The whole number that was made of a fraction.
+pub(crate) fn or_wide(
+    list: ListName,
+    index: u32,
+    made: Result<i128, TooWide>,
+) -> Result<i128, QuantRefusal>
+    ensures value { result ≡ or_wide list index made }
+    ensures made { IfOk result (λ whole. made ≡ Ok whole) }
+{
+    match made {
+        Ok(whole) => Ok(whole),
+        Err(_) => Err(QuantRefusal::FractionWide { list, index }),
+    }
+}
+
+/// The word of the number 1, whether or not it is a word of the format.
+#[tactic(auto, using(dsv_word::proofs::Powers::power_small))]
+fn unit(format: Format) -> i64
+    ensures { result ≡ unit format }
+{
+    1i64 << format.frac_bits
+}
+
+/// The number as a word of the format, where it is one.
+fn fitting(format: Format, list: ListName, index: u32, wanted: i128) -> Result<i64, QuantRefusal>
+    ensures value { result ≡ fitting format list index wanted }
+    ensures meaning { IfOk result (λ word. (word ≡ wanted) × IsWord format word) }
+{
+    if format.fits(wanted) {
+        Ok(wanted as i64)
+    } else {
+        Err(QuantRefusal::CoefficientRange {
+            list,
+            index,
+            wanted,
+        })
+    }
+}
+
+/// The word of the fraction, which is that number of its list.
+fn word_at(format: Format, list: ListName, index: u32, fraction: &Frac) -> Result<i64, QuantRefusal>
+    ensures value { result ≡ word_at format list index fraction.now }
+    ensures meaning { IfOk result (IsWordOf format fraction.now) }
+{
+    let made = format.round_frac(fraction);
+    let wanted = or_wide(list, index, made)?;
+    fitting(format, list, index, wanted)
+}
+
+/// The words of the fractions behind those of `front`.
+fn words_from(
+    format: Format,
+    list: ListName,
+    fractions: &[Frac],
+    front: Coeffs,
+) -> Result<Coeffs, QuantRefusal>
+    requires { length front.items + length fractions.now ≤ 9 }
+    ensures value { let meant = words_from format list fractions.now front.items in
+        MatchResult result (λ words. meant ≡ Ok words.items) (λ refusal. meant ≡ Err refusal) }
+    ensures meaning { IfOk result (λ words. AreWordsOf format fractions.now front.items words.items) }
+{
+    let mut out = front;
+    for fraction in fractions {
+        let word = word_at(format, list, out.len() as u32, fraction)?;
+        out.push(word);
+    }
+    Ok(out)
+}
+
+/// The words of the numerator.
+pub(crate) fn b_words(format: Format, b: &[Frac]) -> Result<Coeffs, QuantRefusal>
+    requires { length b.now ≤ 9 }
+    ensures value { let meant = b_words format b.now in
+        MatchResult result (λ words. meant ≡ Ok words.items) (λ refusal. meant ≡ Err refusal) }
+    ensures meaning { IfOk result (λ words. AreWordsOf format b.now [] words.items) }
+{
+    words_from(format, ListName::B, b, Coeffs::new())
+}
+
+/// The words of the denominator, whose leading coefficient is 1 and isn't tested.
+pub(crate) fn a_words(format: Format, a: &[Frac]) -> Result<Coeffs, QuantRefusal>
+    requires some { 1 ≤ length a.now }
+    requires few { length a.now ≤ 9 }
+    ensures value { let meant = a_words format a.now in
+        MatchResult result (λ words. meant ≡ Ok words.items) (λ refusal. meant ≡ Err refusal) }
+    ensures meaning { IfOk result (λ words. AreWordsOf format (drop 1 a.now) (unit format ∷ []) words.items) }
+{
+    let mut front = Coeffs::new();
+    front.push(unit(format));
+    words_from(format, ListName::A, &a[1..], front)
+}
