@@ -1,5 +1,5 @@
 -- The table of repeated synthetic divisions.
-use Rattle.std.proofs.Common.{◌≡◌, ℕ, zero, suc, ◌+◌, ◌-◌, ◌*◌, ◌^◌, ◌<◌, ◌≤◌, ◌⊎◌, inl, inr, List, [], ◌∷◌, ◌++◌, length, take, drop, get_or, refl, sym, ap, ◌∙◌, arith, add-one, zero-add}
+use Rattle.std.proofs.Common.{◌≡◌, ℕ, zero, suc, ◌+◌, ◌-◌, ◌^◌, ◌<◌, ◌≤◌, ◌⊎◌, inl, inr, List, [], ◌∷◌, ◌++◌, length, take, drop, get_or, refl, sym, ap, ◌∙◌, arith}
 use Rattle.std.proofs.Math.IntN.{ℤ, pos, ◌+ℤ◌, ◌*ℤ◌}
 use Rattle.std.proofs.lemmas.Int.{ints}
 use Rattle.dsv_algebra.specs.Vectors.{Vector, sum_to, vector_of}
@@ -129,23 +129,23 @@ one_more ns now len is some =
       places = omega (arith, length-append (running (pos 0) (take len now)) (drop len now), length-drop len now, is.places, is.left);
       left = omega (arith, is.left);
       small =
-        let less : len - 1 ≤ length (running (pos 0) (take len now)) = omega arith in
-        let e = take-append-le (len - 1) (running (pos 0) (take len now)) (drop len now) less in
-        let f = ap (λ k. weight (take (k - 1) (running (pos 0) (take len now)))) long in
-        omega (arith, is.small, lighter (take len now), ap weight e, f);
+          let less : len - 1 ≤ length (running (pos 0) (take len now)) = omega arith in
+          let e = take-append-le (len - 1) (running (pos 0) (take len now)) (drop len now) less in
+          let f = ap (λ k. weight (take (k - 1) (running (pos 0) (take len now)))) long in
+          omega (arith, is.small, lighter (take len now), ap weight e, f);
       front = λ j h.
-        let one : length ns - (len - 1) ≡ suc (length ns - len) = omega (arith, is.left) in
-        divided_front ns now len j is (omega arith) ∙ ap (λ k. table (vector_of ns) k j) (sym one);
+          let one : length ns - (len - 1) ≡ suc (length ns - len) = omega (arith, is.left) in
+          divided_front ns now len j is (omega arith) ∙ ap (λ k. table (vector_of ns) k j) (sym one);
       back = λ j h k.
-        elim (last_or_behind j len h) [
-            inl last ↦
-              let one : suc (length ns - len) ≡ length ns - j = omega arith in
-              divided_front ns now len j is last ∙ ap (λ k. table (vector_of ns) k j) one
-          | inr behind ↦
-              let at : len + (j - len) ≡ j = omega arith in
-              get_or-append_right (running (pos 0) (take len now)) (drop len now) len j (pos 0) made behind
-              ∙ get_or-drop len now (j - len) (pos 0) ∙ ap (λ m. get_or now m (pos 0)) at ∙ is.back j behind k
-        ];
+          elim (last_or_behind j len h) [
+            | inl last ↦
+                let one : suc (length ns - len) ≡ length ns - j = omega arith in
+                divided_front ns now len j is last ∙ ap (λ k. table (vector_of ns) k j) one
+            | inr behind ↦
+                let at : len + (j - len) ≡ j = omega arith in
+                get_or-append_right (running (pos 0) (take len now)) (drop len now) len j (pos 0) made behind
+                ∙ get_or-drop len now (j - len) (pos 0) ∙ ap (λ m. get_or now m (pos 0)) at ∙ is.back j behind k
+          ];
     }
 
 pub all_done : (ns now : List ℤ) (len : ℕ) → AreDivided ns len now → len ≡ 0 → (j : ℕ) → j < length ns → get_or now j (pos 0) ≡ binomial_sum (length ns - 1) (vector_of ns) j

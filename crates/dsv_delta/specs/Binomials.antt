@@ -1,7 +1,7 @@
 -- Binomial coefficients, and the sums by which a polynomial in z becomes one in z - 1.
 use Rattle.std.specs.Prelude.{ℕ, zero, suc, ◌+◌, ◌-◌, ◌*◌, ◌^◌, List, [], ◌∷◌, length, ℤ, pos, ◌*ℤ◌}
 use Rattle.std.specs.Int.RustNames.{unsigned_abs}
-use Rattle.dsv_algebra.specs.Vectors.{Vector, sum_to, vector_of}
+use Rattle.dsv_algebra.specs.Vectors.{Vector, sum_to}
 
 -- how many sets of k things there are among n
 abbrev pub choose : ℕ → ℕ → ℕ

@@ -1,7 +1,7 @@
 -- Coefficients in the delta operator: those of the powers of (z - 1) / delta.
-use Rattle.std.specs.Prelude.{ℕ, zero, suc, ◌-◌, ◌*◌, ◌/◌, ◌^◌, Bool, ◌&&◌, nat_lt, if◌then◌else◌, List, [], ◌∷◌, ◌++◌, length, Result, Ok, Err, ℤ, pos, ◌*ℤ◌}
+use Rattle.std.specs.Prelude.{ℕ, zero, suc, ◌-◌, ◌*◌, ◌/◌, ◌^◌, ◌&&◌, nat_lt, if◌then◌else◌, List, [], ◌∷◌, ◌++◌, length, Result, Ok, Err, ℤ, pos, ◌*ℤ◌}
 use Rattle.std.specs.Int.RustNames.{unsigned_abs}
-use Rattle.dsv_algebra.specs.Vectors.{vector_of}
+use Rattle.dsv_algebra.specs.Vectors.{Vector, vector_of}
 use Rattle.dsv_fraction.specs.Ratio.{Ratio}
 use Rattle.dsv_fraction.specs.Gcd.{gcd}
 use Rattle.dsv_fraction.specs.Arithmetic.{lowest, narrowed, and_then}
@@ -35,10 +35,6 @@ abbrev pub numerators : ℕ → List Ratio → List ℤ
 numerators l [] = []
 numerators l (q ∷ qs) = (q.num *ℤ pos (l / q.den)) ∷ numerators l qs
 
--- neither the common denominator nor the weight of the numerators passes 2^126
-abbrev pub is_narrow_list : List Ratio → Bool
-is_narrow_list qs = nat_lt (common qs) (2 ^ 126) && nat_lt (weight (numerators (common qs) qs)) (2 ^ 126)
-
 -- ---- one coefficient
 -- s / l over delta^t
 abbrev pub over_power : Ratio → ℤ → ℕ → ℕ → Ratio
@@ -53,20 +49,27 @@ abbrev pub or_wide : ListName → ℕ → Result Ratio TooWide → Result Ratio 
 or_wide name i (Ok r) = Ok r
 or_wide name i (Err e) = Err (record { list = name; index = i })
 
--- coefficient number j of the list
-abbrev pub coefficient_at : ListName → Ratio → List Ratio → ℕ → Result Ratio DeltaWide
-coefficient_at name delta qs j =
-    let l = common qs in or_wide name j (divided delta (binomial_sum (length qs - 1) (vector_of (numerators l qs)) j) l j)
-
 -- ---- all of them
--- so many coefficients behind those that the list has so far
-abbrev pub coefficients_from : ListName → Ratio → List Ratio → ℕ → List Ratio → Result (List Ratio) DeltaWide
-coefficients_from name delta qs zero out = Ok out
-coefficients_from name delta qs (suc count) out =
-    coefficient_at name delta qs (length out) >>= λ r. coefficients_from name delta qs count (out ++ r ∷ [])
+-- so many coefficients behind those that the list has so far, made of the sums over l
+abbrev pub coefficients_from : ListName → Ratio → ℕ → Vector → ℕ → List Ratio → Result (List Ratio) DeltaWide
+coefficients_from name delta l sums zero out = Ok out
+coefficients_from name delta l sums (suc count) out =
+    or_wide name (length out) (divided delta (sums (length out)) l (length out)) >>= λ r. coefficients_from name delta l sums count (out ++ r ∷ [])
 
+-- the list's coefficients in the delta operator: number j is the sum of q_i C(N - i, N - j) over i ≤ j, over delta^j
 abbrev pub delta_list : ListName → Ratio → List Ratio → Result (List Ratio) DeltaWide
-delta_list name delta qs = if is_narrow_list qs then coefficients_from name delta qs (length qs) [] else Err (record { list = name; index = 0 })
+delta_list name delta qs =
+    let l = common qs in
+    let ns = numerators l qs in
+    let sums = binomial_sum (length qs - 1) (vector_of ns) in
+    if nat_lt l (2 ^ 126) && nat_lt (weight ns) (2 ^ 126)
+    then coefficients_from name delta l sums (length qs) [] else Err (record { list = name; index = 0 })
+
+abbrev pub zero_ratio : Ratio
+zero_ratio = record { num = pos 0; den = 1 }
+
+abbrev pub one : Ratio
+one = record { num = pos 1; den = 1 }
 
 -- both lists of a transfer function
 pub record Lists : Type 0 where

@@ -1,8 +1,8 @@
-use Rattle.std.proofs.Common.{◌≡◌, ◌+◌, ◌+ℤ◌, ap, rules, arith, pos, ℤ, slice_index_or}
+use Rattle.std.proofs.Common.{◌+◌, ◌+ℤ◌, ap, rules, arith, pos, ℤ, slice_index_or}
 use Rattle.std.proofs.lemmas.Int.{to_z-of_z, ints}
 use Rattle.std.proofs.lemmas.List.{drop-set-lt}
 use mir.Syntax.{w128}
-use mir.Val.{SFits, to_z, of_z}
+use mir.Val.{SFits, to_z}
 use Rattle.dsv_delta.specs.Binomials.{weight}
 use Rattle.dsv_delta.specs.Running.{running}
 use Rattle.dsv_delta.proofs.Weights.{carry_small, running_step}

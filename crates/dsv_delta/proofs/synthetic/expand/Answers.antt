@@ -1,6 +1,5 @@
-use Rattle.std.proofs.Common.{refl, ◌≡◌, ◌∙◌, ◌++◌, rules, arith, pos, take, drop, subst, sym, ap}
-use Rattle.dsv_delta.specs.Running.{running}
-use Rattle.dsv_delta.proofs.Table.{AreDivided, not_yet, one_more, all_done}
+use Rattle.std.proofs.Common.{refl, arith}
+use Rattle.dsv_delta.proofs.Table.{not_yet, one_more, all_done}
 use Rattle.dsv_delta.proofs.synthetic.expand.Goals as goal
 
 pub loop-len-init : goal.loop-len-init
