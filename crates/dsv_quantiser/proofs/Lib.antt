@@ -1,3 +1,4 @@
 pub mod Casts
+pub mod Converted
 pub mod Listing
 pub mod Ranges

@@ -9,7 +9,7 @@ use Rattle.dsv_fraction.specs.Ratio.{Ratio}
 use Rattle.dsv_word.specs.declared.format.Format.{Format}
 use Rattle.dsv_reader.specs.Controllers.{Design, zero as nought}
 use Rattle.dsv_quantiser.specs.declared.kind.Kind.{Kind}
-use Rattle.dsv_quantiser.specs.declared.list_name.ListName.{ListName}
+use Rattle.dsv_delta.specs.declared.list_name.ListName.{ListName}
 use Rattle.dsv_quantiser.specs.declared.refusal.QuantRefusal.{QuantRefusal}
 use Rattle.dsv_quantiser.specs.FixedPoint.{IsFixedPoint, IsDeltaWord, IsWord, unit}
 use Rattle.dsv_quantiser.specs.Quantising.{◌>>=◌, word_at, words_from}
@@ -68,10 +68,11 @@ behind_first f a words i so some h =
 
 pub in_words_meant : (c : Design) (f : Format) (k : Kind) (b a : List Ratio) (num den : List ℤ) (d low high : ℤ) → 1 ≤ length a
     → AreWordsOf f b [] num → AreWordsOf f (drop 1 a) (unit f ∷ []) den → IsRangeOf f c.min c.max (record { lo = low; hi = high })
-    → IsInWords c f k b a (record { b = num; a = den; delta = d; xlo = low; xhi = high; format = f; kind = k })
+    → IsInWords c f k b a d (record { b = num; a = den; delta = d; xlo = low; xhi = high; format = f; kind = k })
 in_words_meant c f k b a num den d low high some is so range = record {
   same_format = refl;
   same_kind = refl;
+  same_delta = refl;
   leading = so.same 0 (omega arith);
   b_places = omega (arith, is.places);
   a_places = omega (arith, so.places, length-drop 1 a);
@@ -82,7 +83,7 @@ in_words_meant c f k b a num den d low high some is so range = record {
 
 -- ---- what stays true
 pub is_fixed_point : (c : Design) (f : Format) (k : Kind) (b a : List Ratio) (num den : List ℤ) (d low high : ℤ) → length b ≡ length a → 1 ≤ length a → length a ≤ 9
-    → IsDeltaWord f k d → IsInWords c f k b a (record { b = num; a = den; delta = d; xlo = low; xhi = high; format = f; kind = k })
+    → IsDeltaWord f k d → IsInWords c f k b a d (record { b = num; a = den; delta = d; xlo = low; xhi = high; format = f; kind = k })
     → IsFixedPoint (record { b = num; a = den; delta = d; xlo = low; xhi = high; format = f; kind = k })
 is_fixed_point c f k b a num den d low high same some few delta is = record {
   one_length = omega (arith, is.b_places, is.a_places);

@@ -1,5 +1,5 @@
 -- The two families of realisations.
-use Rattle.std.specs.Prelude.{Bool, true, false, not}
+use Rattle.std.specs.Prelude.{Bool, true, false}
 use Rattle.dsv_quantiser.specs.declared.kind.Kind.{Kind}
 use Rattle.dsv_quantiser.specs.declared.kind.Kind.TheVariants as kind
 
@@ -8,6 +8,3 @@ is_delta kind.Ddfi = true
 is_delta kind.Ddfii = true
 is_delta kind.Tddfii = true
 is_delta k = false
-
-abbrev pub is_direct : Kind → Bool
-is_direct k = not (is_delta k)

@@ -1,10 +1,12 @@
 -- What the words of a controller mean.
-use Rattle.std.specs.Prelude.{◌≡◌, ℕ, ◌+◌, ◌^◌, ◌<◌, ◌≤◌, ◌↔◌, List, length, ℤ, pos, ◌*ℤ◌, ◌≤ℤ◌, slice_index_or}
+use Rattle.std.specs.Prelude.{◌≡◌, ℕ, ◌+◌, ◌^◌, ◌<◌, ◌≤◌, ◌↔◌, List, length, ℤ, pos, ◌*ℤ◌, ◌≤ℤ◌, slice_index_or, MatchBool, Some, Ok, ◌<ℤ◌}
 use Rattle.dsv_fraction.specs.Ratio.{Ratio}
 use Rattle.dsv_word.specs.declared.format.Format.{Format}
 use Rattle.dsv_word.specs.Quotients.{IsRounded}
 use Rattle.dsv_word.specs.Words.{width, lo, hi}
 use Rattle.dsv_reader.specs.Controllers.{Design, zero}
+use Rattle.dsv_delta.specs.Deltas.{Lists, delta_lists}
+use Rattle.dsv_quantiser.specs.Kinds.{is_delta}
 use Rattle.dsv_quantiser.specs.declared.kind.Kind.{Kind}
 use Rattle.dsv_quantiser.specs.declared.range.Range.{Range}
 use Rattle.dsv_quantiser.specs.FixedPoint.{FixedPoint, unit, IsWord}
@@ -42,13 +44,29 @@ pub record IsRangeOf (format : Format) (min max : Ratio) (r : Range) : Type 0 wh
   pub high : r.hi ≤ℤ hi (width format)
   pub inputs : (w : ℤ) → IsWord format w → (r.lo ≤ℤ w) × (w ≤ℤ r.hi) ↔ IsFrom format min w × IsTo format max w
 
--- the controller in words whose coefficients become those of b and a
-pub record IsInWords (c : Design) (format : Format) (kind : Kind) (b a : List Ratio) (q : FixedPoint) : Type 0 where
+-- the controller in words whose coefficients are made of b and a, with that word for delta
+pub record IsInWords (c : Design) (format : Format) (kind : Kind) (b a : List Ratio) (delta : ℤ) (q : FixedPoint) : Type 0 where
   pub same_format : q.format ≡ format
   pub same_kind : q.kind ≡ kind
+  pub same_delta : q.delta ≡ delta
   pub leading : slice_index_or q.a 0 (pos 0) ≡ unit format
   pub b_places : length q.b ≡ length b
   pub a_places : length q.a ≡ length a
   pub b_words : (i : ℕ) → i < length b → IsWordOf format (slice_index_or b i zero) (slice_index_or q.b i (pos 0))
   pub a_words : (i : ℕ) → 1 ≤ i → i < length a → IsWordOf format (slice_index_or a i zero) (slice_index_or q.a i (pos 0))
   pub range : IsRangeOf format c.min c.max (record { lo = q.xlo; hi = q.xhi })
+
+-- the coefficients are those in the delta operator with the exact delta, which is positive, and its word is too
+pub record IsOfDelta (c : Design) (format : Format) (kind : Kind) (q : FixedPoint) : Type 0 where
+  pub delta : Ratio
+  pub exact : c.delta ≡ Some delta
+  pub positive : pos 0 <ℤ delta.num
+  pub word : IsWordOf format delta q.delta
+  pub positive_word : pos 1 ≤ℤ q.delta
+  pub lists : Lists
+  pub converted : delta_lists c.b c.a delta ≡ Ok lists
+  pub words : IsInWords c format kind lists.b lists.a q.delta q
+
+-- the controller in words of the format, as the realisation computes it
+abbrev pub IsQuantised : Design → Format → Kind → FixedPoint → Type 0
+IsQuantised c format kind q = MatchBool (is_delta kind) (IsOfDelta c format kind q) (IsInWords c format kind c.b c.a (pos 0) q)

@@ -1,5 +1,5 @@
 -- How a controller becomes words, and the first reason for which it can't.
-use Rattle.std.specs.Prelude.{ℕ, List, [], ◌∷◌, ◌++◌, length, drop, Bool, ◌&&◌, if◌then◌else◌, Result, Ok, Err, ℤ, pos, int_lt, int_le}
+use Rattle.std.specs.Prelude.{ℕ, List, [], ◌∷◌, ◌++◌, length, drop, Bool, ◌&&◌, if◌then◌else◌, Result, Ok, Err, Option, Some, None, ℤ, pos, int_lt, int_le}
 use Rattle.std.specs.Int.{int_max, int_min}
 use Rattle.dsv_algebra.specs.Floor.{floored}
 use Rattle.dsv_fraction.specs.Ratio.{Ratio}
@@ -7,13 +7,16 @@ use Rattle.dsv_fraction.specs.declared.fraction.TooWide.{TooWide}
 use Rattle.dsv_word.specs.declared.format.Format.{Format}
 use Rattle.dsv_word.specs.Quotients.{ceiled, rounded, word_of}
 use Rattle.dsv_word.specs.Words.{width, lo, hi}
+use Rattle.dsv_delta.specs.declared.refusal.DeltaWide.{DeltaWide}
+use Rattle.dsv_delta.specs.Deltas.{Lists, delta_lists}
 use Rattle.dsv_reader.specs.Controllers.{Design}
 use Rattle.dsv_quantiser.specs.declared.kind.Kind.{Kind}
-use Rattle.dsv_quantiser.specs.declared.list_name.ListName.{ListName}
-use Rattle.dsv_quantiser.specs.declared.list_name.ListName.TheVariants as list
+use Rattle.dsv_delta.specs.declared.list_name.ListName.{ListName}
+use Rattle.dsv_delta.specs.declared.list_name.ListName.TheVariants as list
 use Rattle.dsv_quantiser.specs.declared.range.Range.{Range}
 use Rattle.dsv_quantiser.specs.declared.refusal.QuantRefusal.{QuantRefusal}
 use Rattle.dsv_quantiser.specs.declared.refusal.QuantRefusal.TheVariants as refusal
+use Rattle.dsv_quantiser.specs.Kinds.{is_delta}
 use Rattle.dsv_quantiser.specs.FixedPoint.{FixedPoint, unit}
 
 infixl 10 ◌>>=◌
@@ -75,5 +78,27 @@ in_words c format kind b a delta =
     range_of format c.min c.max >>= λ range.
     Ok (record { b = num; a = den; delta = delta; xlo = range.lo; xhi = range.hi; format = format; kind = kind })
 
+-- ---- delta
+-- delta's word, which is positive
+abbrev pub positive_word : Format → ℤ → Result ℤ QuantRefusal
+positive_word format w = if int_le w (pos 0) then Err (refusal.DeltaNotPositive w) else fitting format list.Delta 0 w
+
+abbrev pub delta_word : Format → Ratio → Result ℤ QuantRefusal
+delta_word format delta = or_wide list.Delta 0 (word_of (rounded format.rounding) format.frac_bits delta) >>= λ w. positive_word format w
+
+-- the lists in the delta operator, where none of their parts is too wide
+abbrev pub converted : Result Lists DeltaWide → Result Lists QuantRefusal
+converted (Ok lists) = Ok lists
+converted (Err e) = Err (refusal.FractionWide e.list e.index)
+
+-- the controller of a delta form, by the exact delta
+abbrev pub with_delta : Design → Format → Kind → Option Ratio → Result FixedPoint QuantRefusal
+with_delta c format kind None = Err (refusal.DeltaNotPositive (pos 0))
+with_delta c format kind (Some delta) =
+    delta_word format delta >>= λ word.
+    converted (delta_lists c.b c.a delta) >>= λ lists.
+    in_words c format kind lists.b lists.a word
+
+-- the controller in words, or the first refusal
 abbrev pub quantised : Design → Format → Kind → Result FixedPoint QuantRefusal
-quantised c format kind = in_words c format kind c.b c.a (pos 0)
+quantised c format kind = if is_delta kind then with_delta c format kind c.delta else in_words c format kind c.b c.a (pos 0)

@@ -2,15 +2,14 @@
 #![tactic(auto)]
 
 mod kind;
-mod list_name;
 mod quantised;
 mod quantising;
 mod range;
 mod refusal;
 mod words;
 
+pub use dsv_delta::ListName;
 pub use kind::Kind;
-pub use list_name::ListName;
 pub use quantised::Quantised;
 pub use quantising::quantise;
 pub use refusal::QuantRefusal;

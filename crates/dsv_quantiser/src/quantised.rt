@@ -72,7 +72,7 @@ impl Quantised {
         requires few { length a.now ≤ 9 }
         requires delta { IsDeltaWord format kind delta }
         ensures value { result ≡ in_words controller.now format kind b.now a.now delta }
-        ensures meaning { IfOk result (IsInWords controller.now format kind b.now a.now) }
+        ensures meaning { IfOk result (IsInWords controller.now format kind b.now a.now delta) }
     {
         let b = b_words(format, b)?;
         let a = a_words(format, a)?;

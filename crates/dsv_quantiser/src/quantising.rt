@@ -1,25 +1,78 @@
 // Controllers made words.
-ghost use Rattle.std.specs.Prelude.{◌≡◌, IsTrue, IfOk};
-ghost use Rattle.dsv_quantiser.specs.Kinds.{is_direct};
-ghost use Rattle.dsv_quantiser.specs.Quantising.{quantised};
-ghost use Rattle.dsv_quantiser.specs.Meaning.{IsInWords};
+#![tactic(auto, using(crate::proofs::Casts::casts))]
+
+ghost use Rattle.std.specs.Prelude.{◌≡◌, ◌≤ℤ◌, ◌<ℤ◌, pos, IfOk, true};
+ghost use Rattle.dsv_word.specs.Words.{width, hi};
+ghost use Rattle.dsv_quantiser.specs.Kinds.{is_delta};
+ghost use Rattle.dsv_quantiser.specs.Quantising.{delta_word, with_delta, quantised};
+ghost use Rattle.dsv_quantiser.specs.Meaning.{IsWordOf, IsOfDelta, IsQuantised};
 
 use crate::kind::Kind;
 use crate::quantised::Quantised;
 use crate::refusal::QuantRefusal;
+use crate::words::{fitting, or_wide};
+use dsv_delta::{ListName, to_delta};
+use dsv_fraction::Frac;
 use dsv_reader::Controller;
 use dsv_word::Format;
 
-/// The controller in words of the format, as that realisation computes it; or the first refusal: of the numerator's
-/// coefficients by their index, then of the denominator's, of the least input, the greatest one and their range.
+/// Delta's word, which is positive.
+fn delta_word(format: Format, delta: &Frac) -> Result<i64, QuantRefusal>
+    ensures value { result ≡ delta_word format delta.now }
+    ensures word { IfOk result (IsWordOf format delta.now) }
+    ensures least { IfOk result (λ word. pos 1 ≤ℤ word) }
+    ensures greatest { IfOk result (λ word. word ≤ℤ hi (width format)) }
+    ensures positive { IfOk result (λ word. pos 0 <ℤ delta.now.num) }
+{
+    let made = format.round_frac(delta);
+    let wanted = or_wide(ListName::Delta, 0, made)?;
+    if wanted <= 0 {
+        return Err(QuantRefusal::DeltaNotPositive { wanted });
+    }
+    fitting(format, ListName::Delta, 0, wanted)
+}
+
+/// The controller in words as that delta form computes it: its coefficients in the delta operator with the exact
+/// delta, and then all as words.
+fn with_delta(
+    controller: &Controller,
+    format: Format,
+    kind: Kind,
+) -> Result<Quantised, QuantRefusal>
+    requires { is_delta kind ≡ true }
+    ensures value { result ≡ with_delta controller.now format kind controller.now.delta }
+    ensures meaning { IfOk result (IsOfDelta controller.now format kind) }
+{
+    let Some(delta) = controller.delta() else {
+        return Err(QuantRefusal::DeltaNotPositive { wanted: 0 });
+    };
+    let word = delta_word(format, &delta)?;
+    let pair = to_delta(controller.b(), controller.a(), &delta)?;
+    Quantised::in_words(
+        controller,
+        format,
+        kind,
+        pair.b.as_slice(),
+        pair.a.as_slice(),
+        word,
+    )
+}
+
+/// The controller in words of the format, as that realisation computes it; or the first refusal. For a delta form
+/// alone delta's word comes first, and then the coefficients in the delta operator, the numerator's before the
+/// denominator's. The words of the numerator come next by their index, then those of the denominator, and at last the
+/// least input, the greatest one and their range.
 pub fn quantise(
     controller: &Controller,
     format: Format,
     kind: Kind,
 ) -> Result<Quantised, QuantRefusal>
-    requires { IsTrue (is_direct kind) }
     ensures exact { result ≡ quantised controller.now format kind }
-    ensures meaning { IfOk result (IsInWords controller.now format kind controller.now.b controller.now.a) }
+    ensures meaning { IfOk result (IsQuantised controller.now format kind) }
 {
-    Quantised::in_words(controller, format, kind, controller.b(), controller.a(), 0)
+    if kind.is_delta() {
+        with_delta(controller, format, kind)
+    } else {
+        Quantised::in_words(controller, format, kind, controller.b(), controller.a(), 0)
+    }
 }

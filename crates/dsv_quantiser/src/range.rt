@@ -5,9 +5,9 @@ ghost use Rattle.std.specs.Prelude.{◌≡◌, IfOk};
 ghost use Rattle.dsv_quantiser.specs.Quantising.{range_of, clamped};
 ghost use Rattle.dsv_quantiser.specs.Meaning.{IsClamped, IsRangeOf};
 
-use crate::list_name::ListName;
 use crate::refusal::QuantRefusal;
 use crate::words::or_wide;
+use dsv_delta::ListName;
 use dsv_fraction::Frac;
 use dsv_word::Format;
 

@@ -1,5 +1,5 @@
 // Why a controller can't be made words.
-use crate::list_name::ListName;
+use dsv_delta::{DeltaWide, ListName};
 use thiserror::Error;
 
 /// The first reason for which a controller has no words in a format. The index is a coefficient's place in its list,
@@ -30,4 +30,18 @@ pub enum QuantRefusal {
         list: ListName,
         index: u32,
     },
+}
+
+impl From<DeltaWide> for QuantRefusal {
+    ghost use Rattle.std.specs.Prelude.{◌≡◌};
+    ghost use Rattle.dsv_quantiser.specs.declared.refusal.QuantRefusal.TheVariants.{FractionWide};
+
+    ghost from_gives = { λ wide refusal. refusal ≡ FractionWide wide.list wide.index };
+
+    fn from(wide: DeltaWide) -> Self {
+        QuantRefusal::FractionWide {
+            list: wide.list,
+            index: wide.index,
+        }
+    }
 }

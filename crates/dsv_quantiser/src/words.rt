@@ -6,9 +6,9 @@ ghost use Rattle.dsv_quantiser.specs.FixedPoint.{unit, IsWord};
 ghost use Rattle.dsv_quantiser.specs.Meaning.{IsWordOf, AreWordsOf};
 ghost use Rattle.dsv_quantiser.specs.Quantising.{or_wide, fitting, word_at, words_from, a_words, b_words};
 
-use crate::list_name::ListName;
 use crate::refusal::QuantRefusal;
 use arrayvec::ArrayVec;
+use dsv_delta::ListName;
 use dsv_fraction::{Frac, TooWide};
 use dsv_word::Format;
 
@@ -39,7 +39,12 @@ fn unit(format: Format) -> i64
 }
 
 /// The number as a word of the format, where it is one.
-fn fitting(format: Format, list: ListName, index: u32, wanted: i128) -> Result<i64, QuantRefusal>
+pub(crate) fn fitting(
+    format: Format,
+    list: ListName,
+    index: u32,
+    wanted: i128,
+) -> Result<i64, QuantRefusal>
     ensures value { result ≡ fitting format list index wanted }
     ensures meaning { IfOk result (λ word. (word ≡ wanted) × IsWord format word) }
 {

@@ -1,0 +1,7 @@
+pub mod Casts
+pub mod Heavy
+pub mod Multiples
+pub mod Overs
+pub mod Table
+pub mod Weights
+pub mod Wholes

@@ -1,0 +1,73 @@
+// Fractions over one denominator.
+#![tactic(auto, using(crate::proofs::Casts::casts))]
+
+ghost use Rattle.std.specs.Prelude.{◌≡◌, ℕ, ◌<◌, ◌≤◌, ◌^◌, ◌*ℤ◌, ◌/◌, length, pos, ◌≤ℤ◌, MatchOption};
+ghost use Rattle.std.specs.Int.RustNames.{unsigned_abs};
+ghost use Rattle.dsv_algebra.specs.Narrow.{narrowed};
+ghost use Rattle.dsv_delta.specs.Binomials.{weight};
+ghost use Rattle.dsv_delta.specs.Deltas.{lcm, common, numerators};
+
+use arrayvec::ArrayVec;
+use dsv_algebra::Whole;
+use dsv_fraction::Frac;
+
+/// Up to nine numerators.
+pub(crate) type Numerators = ArrayVec<i128, 9>;
+
+/// The least weight that is too great.
+const LIMIT: u128 = 1 << 126;
+
+/// The least common multiple of the number and the fraction's denominator, where neither passes 2^126.
+fn multiple(common: Option<Whole>, fraction: &Frac) -> Option<Whole>
+    ensures positive { 0 < fraction.now.den }
+    ensures value { (n : ℕ) → 0 < n → common ≡ narrowed (pos n) → result ≡ narrowed (pos (lcm n fraction.now.den)) }
+{
+    let (_, den) = fraction.to_parts();
+    let common = common?;
+    let Ok(reduced) = Frac::new(common.get(), den) else {
+        return None;
+    };
+    common.checked_mul(Whole::from(reduced.den()))
+}
+
+/// The least common multiple of the denominators, where it doesn't pass 2^126.
+pub(crate) fn common_denominator(fractions: &[Frac]) -> Option<Whole>
+    ensures value { result ≡ narrowed (pos (common fractions.now)) }
+    ensures positive { 0 < common fractions.now }
+{
+    let mut common = Some(Whole::from(1i64));
+    for fraction in fractions {
+        common = multiple(common, fraction);
+    }
+    common
+}
+
+/// The fraction's numerator over a multiple of its denominator, where it doesn't pass 2^126.
+fn numerator(common: Whole, fraction: &Frac) -> Option<Whole>
+    requires { pos 0 ≤ℤ common }
+    ensures { result ≡ narrowed (fraction.now.num *ℤ pos (unsigned_abs common / fraction.now.den)) }
+{
+    let (num, den) = fraction.to_parts();
+    let factor = common.get().div_euclid(den);
+    Whole::from(num).checked_mul(Whole::from(factor))
+}
+
+/// The numerators over a common denominator, where their weight doesn't pass 2^126.
+pub(crate) fn numerators(common: Whole, fractions: &[Frac]) -> Option<Numerators>
+    requires positive { pos 0 ≤ℤ common }
+    requires few { length fractions.now ≤ 9 }
+    ensures { let meant = numerators (unsigned_abs common) fractions.now in
+        MatchOption result (2 ^ 126 ≤ weight meant) (λ found. (found.items ≡ meant) × (weight meant < 2 ^ 126)) }
+{
+    let mut out = Numerators::new();
+    let mut weight: u128 = 0;
+    for fraction in fractions {
+        let number = numerator(common, fraction)?;
+        weight = weight * 2 + number.get().unsigned_abs();
+        if weight >= LIMIT {
+            return None;
+        }
+        out.push(number.get());
+    }
+    Some(out)
+}

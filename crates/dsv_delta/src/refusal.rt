@@ -1,0 +1,12 @@
+// Why a list can't be converted.
+use crate::list_name::ListName;
+use thiserror::Error;
+
+/// A coefficient of the converted list is too wide, or, at the index 0, the list has no common denominator that is
+/// narrow enough.
+#[derive(Clone, Copy, Debug, PartialEq, Eq, Error)]
+#[error("the coefficient {index} of {list:?} in the delta operator is too wide")]
+pub struct DeltaWide {
+    pub list: ListName,
+    pub index: u32,
+}
