@@ -6,6 +6,7 @@ use Rattle.dsv_word.specs.declared.format.Format.{Format}
 use Rattle.dsv_reader.specs.Controllers as controllers
 use Rattle.dsv_reader.specs.Texts.{IsTextOf, IsFaultOf}
 use Rattle.dsv_quantiser.specs.FixedPoint.{FixedPoint}
+use Rattle.dsv_quantiser.specs.Kinds.{is_delta}
 use Rattle.dsv_quantiser.specs.Quantising.{quantised}
 use Rattle.dsv_quantiser.specs.declared.refusal.QuantRefusal.{QuantRefusal}
 use Rattle.dsv_lyapunov.specs.Answers.{IsStable, IsKeptAwayFrom}
@@ -29,16 +30,17 @@ pub record BecomesWords (c : controllers.Design) (design : Design) (outcome : Re
   pub modes : IsFormatOf c design format
   pub quantised : quantised c format design.kind ≡ outcome
 
--- The denominator's words with their greatest common power of two taken out are the polynomial, of order 0 or 1; its leading
+-- Of a direct form, the denominator's words with their greatest common power of two taken out are the polynomial, of order 0 or 1; its leading
 -- coefficient is greater than the size of the other one, or isn't.
 pub record IsTested (words : FixedPoint) (poly : List ℤ) (leads : Bool) : Type 0 where
+  pub direct : is_delta words.kind ≡ false
   pub low : length words.a ≤ 2
   pub reduced : IsReduced words.a poly
   pub which : first_leads poly ≡ leads
 
 -- the answer is that of a controller in these words
 abbrev pub IsOfPolynomial : FixedPoint → Answer → Type 0
-IsOfPolynomial words answer.NotYet = 3 ≤ length words.a
+IsOfPolynomial words answer.NotYet = (is_delta words.kind ≡ true) ⊎ (3 ≤ length words.a)
 IsOfPolynomial words (answer.Falls poly offer fall) = IsTested words poly true
 IsOfPolynomial words (answer.KeptAway poly offer fall value) = IsTested words poly false
 IsOfPolynomial words other = ⊥

@@ -8,8 +8,8 @@ use Rattle.dsv_token.specs.declared.refusal.Field.TheVariants as field
 use Rattle.dsv_token.specs.declared.refusal.Wanted.{Wanted}
 use Rattle.dsv_token.specs.declared.refusal.Wanted.TheVariants as wanted
 use Rattle.dsv_cli.specs.Pieces.{joined}
-use Rattle.dsv_quantiser.specs.declared.list_name.ListName.{ListName}
-use Rattle.dsv_quantiser.specs.declared.list_name.ListName.TheVariants as list
+use Rattle.dsv_delta.specs.declared.list_name.ListName.{ListName}
+use Rattle.dsv_delta.specs.declared.list_name.ListName.TheVariants as list
 use Rattle.dsv_quantiser.specs.declared.refusal.QuantRefusal.{QuantRefusal}
 use Rattle.dsv_quantiser.specs.declared.refusal.QuantRefusal.TheVariants as quant
 

@@ -34,7 +34,7 @@ pub enum Answer {
     FileTooLong,
     /// The first number of the controller that is no word, or the range of its inputs, where it is empty.
     QuantRefused(QuantRefusal),
-    /// The file is one that isn't decided yet: the controller's order is 2 or more.
+    /// The controller isn't decided yet: its order is 2 or more, or the realisation is a delta form.
     NotYet,
     /// The file couldn't be read.
     ReadFault(WhichFile),

@@ -1,10 +1,5 @@
 // Decides a job on the bytes of a controller file.
-ghost use Rattle.std.specs.Prelude.{◌≡◌, ◌≤◌, length, Ok, IfOk, IsTrue};
-ghost use Rattle.dsv_token.specs.Memory.{Gives};
-ghost use Rattle.dsv_forms.specs.Poly.{IsPoly};
-ghost use Rattle.dsv_quantiser.specs.Kinds.{is_direct};
-ghost use Rattle.dsv_quantiser.specs.FixedPoint.{IsFixedPoint};
-ghost use Rattle.dsv_reader.specs.Controllers.{IsDesign};
+ghost use Rattle.std.specs.Prelude.{◌≤◌, length};
 ghost use Rattle.dsv_cli.specs.Headline.{IsCauseIn, IsFound, IsShown, IsOfPolynomial, IsFormatOf, IsQuantisedAs};
 ghost use Rattle.dsv_cli.specs.Report.{HasPlaces};
 ghost use Rattle.dsv_words.specs.Asking.{asked_of};
@@ -22,8 +17,7 @@ const MOST_COEFFICIENTS: usize = 2;
 
 /// The answer to a job on a file of these bytes.
 pub fn answer_for(alloc: Global, bytes: &[u8], job: &Job) -> Answer
-    requires few { length bytes.now ≤ 65536 }
-    requires direct { IsTrue (is_direct job.now.design.kind) }
+    requires { length bytes.now ≤ 65536 }
     ensures cause { IsCauseIn (asked_of job.now) bytes.now result }
     ensures found { IsFound result }
     ensures shown { IsShown result }
@@ -60,7 +54,7 @@ fn decided(words: &Quantised) -> Answer
     ensures places { HasPlaces result }
 {
     let denominator = words.a();
-    if denominator.len() > MOST_COEFFICIENTS {
+    if words.kind().is_delta() || denominator.len() > MOST_COEFFICIENTS {
         return Answer::NotYet;
     }
     let poly = reduced(denominator);
@@ -77,7 +71,6 @@ fn decided(words: &Quantised) -> Answer
 
 /// The answer for a controller.
 fn quantised(controller: &Controller, design: Design) -> Answer
-    requires { IsTrue (is_direct design.kind) }
     ensures quantised { IsQuantisedAs controller.now design result }
     ensures found { IsFound result }
     ensures shown { IsShown result }

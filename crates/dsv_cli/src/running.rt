@@ -1,6 +1,5 @@
 // The command.
-ghost use Rattle.std.specs.Prelude.{◌≡◌, map, string_bytes, IsTrue};
-ghost use Rattle.dsv_quantiser.specs.Kinds.{is_direct};
+ghost use Rattle.std.specs.Prelude.{◌≡◌, map, string_bytes};
 ghost use Rattle.dsv_words.specs.Jobs.{job_of};
 ghost use Rattle.dsv_words.specs.Asking.{asked_of};
 ghost use Rattle.dsv_cli.specs.Headline.{HasCause, IsExplained, IsWritten};
@@ -19,7 +18,6 @@ const LONGEST_FILE: u64 = 65_536;
 
 /// The answer to a job.
 fn answer_of<F: Files>(alloc: Global, job: &Job, files: &mut F) -> Answer
-    requires { IsTrue (is_direct job.now.design.kind) }
     ensures cause { HasCause F.held F.faults F.blamed F.came files.old files.new (asked_of job.now) result }
     ensures places { HasPlaces result }
 {

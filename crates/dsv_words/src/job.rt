@@ -1,6 +1,5 @@
 // The job that the words ask for.
-ghost use Rattle.std.specs.Prelude.{◌≡◌, map, string_bytes, option_map, IfOk, IfSome, IsTrue};
-ghost use Rattle.dsv_quantiser.specs.Kinds.{is_direct};
+ghost use Rattle.std.specs.Prelude.{◌≡◌, map, string_bytes, option_map, IfOk};
 ghost use Rattle.dsv_words.specs.Jobs.{job_of, job_of_uses, has_empty_value, design_of_uses};
 ghost use Rattle.dsv_words.specs.Views.{uses_in};
 ghost use Rattle.dsv_words.specs.Asking.{asked_of};
@@ -52,8 +51,7 @@ fn has_empty(uses: &[Given]) -> bool
 
 /// How the controller is to be realised.
 fn find_design(uses: &[Given]) -> Option<Design>
-    ensures value { result ≡ design_of_uses (uses_in uses.now) }
-    ensures direct { IfSome result (λ design. IsTrue (is_direct design.kind)) }
+    ensures { result ≡ design_of_uses (uses_in uses.now) }
 {
     let kind = match find_value(uses, "realization") {
         Some(name) => find_kind(name)?,
@@ -76,8 +74,7 @@ fn find_design(uses: &[Given]) -> Option<Design>
 
 /// The job of what the words give.
 fn find_job<'a>(uses: &[Given<'a>]) -> Option<Job<'a>>
-    ensures value { option_map asked_of result ≡ job_of_uses (uses_in uses.now) }
-    ensures direct { IfSome result (λ job. IsTrue (is_direct job.design.kind)) }
+    ensures { option_map asked_of result ≡ job_of_uses (uses_in uses.now) }
 {
     if has_empty(uses) {
         return None;
@@ -95,8 +92,7 @@ fn find_job<'a>(uses: &[Given<'a>]) -> Option<Job<'a>>
 /// The job that the words behind the program's name ask for; `None` where they are no job.
 #[tactic(auto, unfolding(crate::specs::Jobs::job_of))]
 pub fn read_job<'a>(alloc: Global, words: &'a [String]) -> Result<Option<Job<'a>>, NoMemory>
-    ensures value { IfOk result (λ job. option_map asked_of job ≡ job_of (map string_bytes words.entry.now)) }
-    ensures direct { IfOk result (λ job. IfSome job (λ j. IsTrue (is_direct j.design.kind))) }
+    ensures { IfOk result (λ job. option_map asked_of job ≡ job_of (map string_bytes words.entry.now)) }
 {
     let Some(uses) = read_words(alloc, OPTIONS.as_slice(), words)? else {
         return Ok(None);

@@ -1,6 +1,5 @@
 // The values of the options, by their names.
-ghost use Rattle.std.specs.Prelude.{◌≡◌, IfSome, IsTrue};
-ghost use Rattle.dsv_quantiser.specs.Kinds.{is_direct};
+ghost use Rattle.std.specs.Prelude.{◌≡◌};
 ghost use Rattle.dsv_words.specs.Jobs.{property_named, kind_named, rounding_named, overflow_named};
 
 use crate::job::Property;
@@ -19,8 +18,7 @@ pub fn find_property(name: &str) -> Option<Property>
 
 /// The realisation of this name.
 pub fn find_kind(name: &str) -> Option<Kind>
-    ensures value { result ≡ kind_named name.now }
-    ensures direct { IfSome result (λ kind. IsTrue (is_direct kind)) }
+    ensures { result ≡ kind_named name.now }
 {
     match name {
         "DFI" => Some(Kind::Dfi),
