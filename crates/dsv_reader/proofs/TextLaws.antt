@@ -19,7 +19,6 @@ use Rattle.dsv_reader.specs.Fields.{values_of}
 use Rattle.dsv_reader.specs.Reading.{blocks_of, design_of, reading}
 use Rattle.dsv_reader.specs.Texts.{IsTextOf, IsFaultOf}
 
-
 -- what the passes behind a pass say
 abbrev from_values : Syntax → Values → Result Design FileRefusal
 from_values x v = blocks_of x v >>= λ b. design_of b

@@ -225,7 +225,12 @@ impl Values {
         })
     }
 
-    fn read_setting(self, setting: Setting, bytes: &[u8], entry: &Entry) -> Result<Self, FileRefusal>
+    fn read_setting(
+        self,
+        setting: Setting,
+        bytes: &[u8],
+        entry: &Entry,
+    ) -> Result<Self, FileRefusal>
         ensures { result ≡ setting_read setting bytes.now entry.now self }
     {
         if self.has_setting(setting) {

@@ -13,5 +13,4 @@ pub fn one_answer()
     ensures one { (bytes : List ℕ) (c d : Design) → IsTextOf bytes c → IsTextOf bytes d → c ≡ d }
     ensures first { (bytes : List ℕ) (r s : FileRefusal) → IsFaultOf bytes r → IsFaultOf bytes s → r ≡ s }
     ensures read { (bytes : List ℕ) (c : Design) → (reading bytes ≡ Ok c) ↔ IsTextOf bytes c }
-{
-}
+{}
