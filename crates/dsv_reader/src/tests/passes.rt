@@ -164,6 +164,7 @@ fn the_first_test_that_refuses(rt: HostRuntime) -> Result<(), Fail> {
         (".a={1,^9999999999999999999e30}", number),
         (".a_size=2,.a={0},.b_size=^2,.b={1}", size),
         (".a_size=^2,.a={0},.b_size=1,.b={1}", size),
+        (".b={1},.b_size=^3,.a={1,0,0},.a_size=3", size),
         (".a_size=1,.a={^0},.b_size=1,.b={1}", zero),
         (".a_size=2,.a={1e-30,1e30},.b_size=2,.b={1,^1e30}", wide),
         (".a_size=2,.a={1e-30,^1e30},.b_size=2,.b={1,0}", wide),

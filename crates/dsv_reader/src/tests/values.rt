@@ -44,7 +44,7 @@ fn files_that_are_read(rt: HostRuntime) -> Result<(), Fail> {
         (
             SYSTEM,
             IMPLEMENTATION,
-            ".delta={.int_bits=x,{2,{};=,.}},.int_bits=0,.assembly={},.assembly={3}",
+            ".delta={.int_bits=x,{2,{};=,.}},.int_bits=0,.delta=1,.assembly={},.assembly={3}",
         ),
     ] {
         let text = file(alloc, system, implementation, hardware)?;
