@@ -21,9 +21,6 @@ one_gcd : IsGcd 1 1 1
 unfolding gcd
 one_gcd = gcd-is 1 1
 
-ratio : ℕ → ℕ → Ratio
-ratio n d = record { num = pos n; den = d }
-
 self_lowest : (n : ℕ) → lowest (pos (suc n)) (suc n) ≡ one
 self_lowest n =
     let p = lowest_parts (suc n) (suc n) 1 1 (omega arith) one_gcd (omega arith) in

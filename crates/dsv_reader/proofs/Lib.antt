@@ -1,4 +1,6 @@
 pub mod FirstQuotients
+pub mod Labels
 pub mod Padding
 pub mod TextLaws
+pub mod ValueLaws
 pub mod Wholes

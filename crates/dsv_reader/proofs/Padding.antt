@@ -1,5 +1,5 @@
 -- Lists with zeros behind them.
-use Rattle.std.proofs.Common.{◌≡◌, ℕ, suc, ◌-◌, ◌<◌, List, [], ◌∷◌, ◌++◌, length, sym, ap, ◌∙◌, arith, append_assoc, append-nil, length-append}
+use Rattle.std.proofs.Common.{◌≡◌, ℕ, suc, ◌-◌, ◌<◌, List, [], ◌∷◌, ◌++◌, length, sym, ap, ◌∙◌, arith, append_assoc, length-append}
 use Rattle.std.specs.Prelude.{replicate}
 use Rattle.dsv_fraction.specs.Ratio.{Ratio}
 use Rattle.dsv_reader.specs.Controllers.{zero}
@@ -13,8 +13,3 @@ padded_more n xs h =
     append_assoc xs (zero ∷ []) (replicate (n - length (xs ++ zero ∷ [])) zero)
     ∙ ap (λ k. xs ++ zero ∷ replicate k zero) e
     ∙ ap (λ k. xs ++ replicate k zero) (sym f)
-
-pub padded_none : (n : ℕ) (xs : List Ratio) → length xs ≡ n → padded n xs ≡ xs
-padded_none n xs h =
-    let e : n - length xs ≡ 0 = omega arith in
-    ap (λ k. xs ++ replicate k zero) e ∙ append-nil xs

@@ -18,7 +18,7 @@ use Rattle.dsv_reader.specs.Controllers.{Design}
 use Rattle.dsv_reader.specs.Fields.{values_of}
 use Rattle.dsv_reader.specs.Reading.{blocks_of, design_of, reading}
 use Rattle.dsv_reader.specs.Texts.{IsTextOf, IsFaultOf}
-
+use Rattle.dsv_reader.proofs.ValueLaws.{values_taken, values_read}
 
 -- what the passes behind a pass say
 abbrev from_values : Syntax → Values → Result Design FileRefusal
@@ -48,7 +48,7 @@ text_taken bytes c e =
       syntax = p.value;
       grammar = file_taken (length bytes) l.value p.value p.first;
       values = v.value;
-      read = v.first;
+      table = values_taken bytes p.value.entries v.value v.first;
       blocks = b.value;
       whole = b.first;
       made = b.second;
@@ -60,7 +60,7 @@ text_read bytes c h =
     ap (λ r. r >>= from_text bytes) h.text
     ∙ ap (λ r. r >>= from_tokens bytes) ((cut_law bytes h.tokens).1 h.cut)
     ∙ ap (λ r. r >>= from_syntax bytes) (file_read (length bytes) h.tokens h.syntax h.grammar)
-    ∙ ap (λ r. r >>= from_values h.syntax) h.read
+    ∙ ap (λ r. r >>= from_values h.syntax) (values_read bytes h.syntax.entries h.values h.table)
     ∙ ap (λ r. r >>= design_of) h.whole
     ∙ h.made
 

@@ -20,7 +20,8 @@ abbrev pub no_values : Values
 no_values = record {
   system = record { b = None; a = None; b_size = None; a_size = None; sample_time = None };
   implementation = record { int_bits = None; frac_bits = None; max = None; min = None; delta = None };
-  hardware = record { clock = None; sample = None; mul = None; add = None; round = None; fit = None; moves = None } }
+  hardware = record { clock = None; sample = None; mul = None; add = None; round = None; fit = None; moves = None };
+}
 
 -- the field has its value already
 abbrev pub has_field : Field → Values → Bool

@@ -100,18 +100,28 @@ padded n xs = xs ++ replicate (n - length xs) zero
 -- a sample costs 10, a product 4, a sum, a rounding and a fitting 1, and a move 2, where the file doesn't say else
 abbrev pub costs_of : HardwareFields → Costs
 costs_of h = record {
-  sample = unwrap_or h.sample 10; mul = unwrap_or h.mul 4; add = unwrap_or h.add 1;
-  round = unwrap_or h.round 1; fit = unwrap_or h.fit 1; moves = unwrap_or h.moves 2 }
+  sample = unwrap_or h.sample 10;
+  mul = unwrap_or h.mul 4;
+  add = unwrap_or h.add 1;
+  round = unwrap_or h.round 1;
+  fit = unwrap_or h.fit 1;
+  moves = unwrap_or h.moves 2;
+}
 
 -- the sample time is 1 and the clock 16 MHz where the file doesn't say else
 abbrev pub design_with : Blocks → List Ratio → List Ratio → Design
 design_with x b a = let n = max (length b) (length a) in record {
-  b = padded n b; a = padded n a;
+  b = padded n b;
+  a = padded n a;
   sample_time = unwrap_or x.system.sample_time one;
-  int_bits = x.implementation.int_bits.value; frac_bits = x.implementation.frac_bits.value;
-  max = x.implementation.max; min = x.implementation.min; delta = x.implementation.delta;
+  int_bits = x.implementation.int_bits.value;
+  frac_bits = x.implementation.frac_bits.value;
+  max = x.implementation.max;
+  min = x.implementation.min;
+  delta = x.implementation.delta;
   clock = unwrap_or x.hardware.clock 16000000;
-  costs = costs_of x.hardware }
+  costs = costs_of x.hardware;
+}
 
 abbrev pub design_of : Blocks → Result Design FileRefusal
 design_of x =

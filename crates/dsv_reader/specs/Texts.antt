@@ -1,5 +1,5 @@
 -- What a controller file is, apart from how it is read: a text, cut into gaps and tokens, whose tokens are in the
--- grammar; with each field once, and the values of its fields.
+-- grammar; where no field that is read stands twice, with the values of these fields.
 use Rattle.std.specs.Prelude.{◌≡◌, ℕ, List, true, Ok, Err}
 use Rattle.dsv_token.specs.Pieces.{IsCut}
 use Rattle.dsv_token.specs.Text.{text_of}
@@ -10,7 +10,7 @@ use Rattle.dsv_syntax.specs.declared.parsing.Syntax.{Syntax}
 use Rattle.dsv_reader.specs.declared.fields.Values.{Values}
 use Rattle.dsv_reader.specs.declared.blocks.Blocks.{Blocks}
 use Rattle.dsv_reader.specs.Controllers.{Design}
-use Rattle.dsv_reader.specs.Fields.{values_of}
+use Rattle.dsv_reader.specs.Values.{AreValuesOf}
 use Rattle.dsv_reader.specs.Reading.{blocks_of, design_of, reading}
 
 -- The bytes are the text of this controller.
@@ -23,9 +23,9 @@ pub record IsTextOf (bytes : List ℕ) (c : Design) : Type 0 where
   -- which are these fields in their blocks
   pub syntax : Syntax
   pub grammar : IsFile tokens syntax
-  -- none of which stands twice, and whose values these are
+  -- of which those that are read stand at most once, and have these values
   pub values : Values
-  pub read : values_of bytes syntax.entries ≡ Ok values
+  pub table : AreValuesOf bytes syntax.entries values
   -- with those that a file has to have
   pub blocks : Blocks
   pub whole : blocks_of syntax values ≡ Ok blocks

@@ -51,6 +51,7 @@ fn wanted<T: Drop>(close: usize, field: Field, value: Option<T>) -> Result<T, Fi
     }
 }
 
+/// The block `digital_system`, which is closed here.
 fn system_of(close: usize, fields: SystemFields) -> Result<System, FileRefusal>
     ensures { result ≡ system_of close fields }
 {
@@ -63,6 +64,7 @@ fn system_of(close: usize, fields: SystemFields) -> Result<System, FileRefusal>
     })
 }
 
+/// The block `implementation`, which is closed here.
 fn implementation_of(
     close: usize,
     fields: ImplementationFields,

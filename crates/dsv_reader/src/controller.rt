@@ -36,12 +36,30 @@ impl Model for Controller {
     ghost Value = { Design };
 
     ghost view = { λ c. record {
-        b = c.b.items; a = c.a.items; sample_time = c.sample_time; int_bits = c.int_bits; frac_bits = c.frac_bits;
-        max = c.max; min = c.min; delta = c.delta; clock = c.clock; costs = c.costs } };
+      b = c.b.items;
+      a = c.a.items;
+      sample_time = c.sample_time;
+      int_bits = c.int_bits;
+      frac_bits = c.frac_bits;
+      max = c.max;
+      min = c.min;
+      delta = c.delta;
+      clock = c.clock;
+      costs = c.costs;
+    } };
 
     ghost invariant = { λ c. IsDesign (record {
-        b = c.b.items; a = c.a.items; sample_time = c.sample_time; int_bits = c.int_bits; frac_bits = c.frac_bits;
-        max = c.max; min = c.min; delta = c.delta; clock = c.clock; costs = c.costs }) };
+      b = c.b.items;
+      a = c.a.items;
+      sample_time = c.sample_time;
+      int_bits = c.int_bits;
+      frac_bits = c.frac_bits;
+      max = c.max;
+      min = c.min;
+      delta = c.delta;
+      clock = c.clock;
+      costs = c.costs;
+    }) };
 }
 
 impl Controller {

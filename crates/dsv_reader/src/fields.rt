@@ -109,6 +109,7 @@ impl HardwareFields {
         Ok(self.with_cost(setting, Cost::new(value as u32)))
     }
 
+    /// Puts in a cost.
     fn with_cost(mut self, setting: Setting, cost: Cost) -> Self
         requires { is_cost setting ≡ true }
         ensures { result ≡ with_setting setting cost self }
@@ -173,6 +174,7 @@ impl Values {
         }
     }
 
+    /// Whether the field has stood.
     fn has_field(&self, field: Field) -> bool
         ensures { result ≡ has_field field self.now }
     {
@@ -195,6 +197,7 @@ impl Values {
         }
     }
 
+    /// Whether the field of the block `hardware` has stood.
     fn has_setting(&self, setting: Setting) -> bool
         ensures { result ≡ has_setting setting self.now }
     {
@@ -210,6 +213,7 @@ impl Values {
         }
     }
 
+    /// Puts in the value of a field of the first two blocks, which hasn't stood.
     fn read_field(self, field: Field, bytes: &[u8], entry: &Entry) -> Result<Self, FileRefusal>
         ensures { result ≡ field_read field bytes.now entry.now self }
     {
@@ -225,7 +229,12 @@ impl Values {
         })
     }
 
-    fn read_setting(self, setting: Setting, bytes: &[u8], entry: &Entry) -> Result<Self, FileRefusal>
+    fn read_setting(
+        self,
+        setting: Setting,
+        bytes: &[u8],
+        entry: &Entry,
+    ) -> Result<Self, FileRefusal>
         ensures { result ≡ setting_read setting bytes.now entry.now self }
     {
         if self.has_setting(setting) {
@@ -239,6 +248,7 @@ impl Values {
         })
     }
 
+    /// Puts in the value of an entry, or tests the numbers of one that is passed over.
     fn read(self, bytes: &[u8], entry: &Entry) -> Result<Self, FileRefusal>
         ensures { result ≡ entry_read entry.now.label bytes.now entry.now self }
     {
@@ -253,6 +263,7 @@ impl Values {
     }
 }
 
+/// The refusal of a field that stands a second time.
 fn twice(entry: &Entry) -> FileRefusal
     ensures { result ≡ FieldTwice entry.now.dot }
 {

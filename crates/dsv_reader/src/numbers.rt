@@ -37,6 +37,7 @@ impl Default for Coefficient {
     }
 }
 
+/// The refusal of a number that breaks the rule of its field.
 fn no_number(token: Token) -> FileRefusal
     ensures { result ≡ Number token.at }
 {
@@ -68,6 +69,7 @@ fn is_octal(text: &[u8]) -> bool
     is_plain(body) && body.len() > 1 && has_byte(b'0', body)
 }
 
+/// Whether the text is 1 to 18 digits.
 fn is_whole(text: &[u8]) -> bool
     ensures { result ≡ is_whole text.now }
 {
@@ -87,6 +89,7 @@ fn digits_value(digits: &[u8]) -> u64
     value
 }
 
+/// The whole number that the token spells: 1 to 18 digits alone, without a leading 0.
 #[tactic(auto, using(crate::proofs::Wholes::whole_small))]
 pub(crate) fn whole_at(bytes: &[u8], token: Token) -> Result<Whole, FileRefusal>
     ensures { result ≡ whole_at bytes.now token }
@@ -119,6 +122,7 @@ pub(crate) fn bounded_at(
     Ok(value)
 }
 
+/// The decimal that the token spells, where C doesn't read it as octal.
 pub(crate) fn decimal_at(bytes: &[u8], token: Token) -> Result<Coefficient, FileRefusal>
     ensures { result ≡ decimal_at bytes.now token }
 {
@@ -147,6 +151,7 @@ fn is_time(value: &Frac) -> bool
     0 < num && num < 1 << 62 && den < 1 << 62
 }
 
+/// The sample time that the token spells. A number that is too wide breaks its rule like any other that is too large.
 pub(crate) fn time_at(bytes: &[u8], token: Token) -> Result<Frac, FileRefusal>
     ensures value { result ≡ time_at bytes.now token }
     ensures time { IfOk result IsTime }

@@ -26,6 +26,7 @@ pub fn read(alloc: Global, bytes: &[u8]) -> Result<Controller, FileRefusal>
     read_passes(alloc, bytes)
 }
 
+/// The passes over a file, one behind another.
 fn read_passes(alloc: Global, bytes: &[u8]) -> Result<Controller, FileRefusal>
     ensures { Gives (λ c. c) result (reading bytes.now) }
 {

@@ -1,4 +1,5 @@
 use Rattle.dsv_reader.proofs.TextLaws.{text_taken, text_read, some_answer, answers_apart, one_design}
+use Rattle.dsv_reader.proofs.ValueLaws.{values_taken, values_read}
 use Rattle.dsv_reader.proofs.law.one_answer.Goals as goal
 
 pub returns-clause-some : goal.returns-clause-some
@@ -12,3 +13,6 @@ returns-clause-one c = one_design
 
 pub returns-clause-read : goal.returns-clause-read
 returns-clause-read c = λ bytes d. (text_taken bytes d, text_read bytes d)
+
+pub returns-clause-table : goal.returns-clause-table
+returns-clause-table c = λ bytes fields v. (values_taken bytes fields v, values_read bytes fields v)
