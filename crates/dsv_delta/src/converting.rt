@@ -1,6 +1,5 @@
 // Transfer functions in the delta operator.
 ghost use Rattle.std.specs.Prelude.{◌≡◌, ◌≤◌, length, pos, ◌<ℤ◌, slice_index_or, MatchResult, Ok, Err, IfOk};
-ghost use Rattle.dsv_fraction.specs.Ratio.{Ratio};
 ghost use Rattle.dsv_delta.specs.Deltas.{delta_list, delta_lists, zero_ratio, one};
 
 use crate::denominators::{common_denominator, numerators};
