@@ -5,6 +5,8 @@ use std::alloc::Global;
 use std::fs;
 use std::test::Fail;
 
+mod quantising;
+
 /// A controller file in one line: the numerator's and the denominator's coefficients, the bits before and behind the
 /// point, and the least and the greatest input.
 fn one_line(
