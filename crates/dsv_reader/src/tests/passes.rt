@@ -9,10 +9,7 @@ fn what_is_wanted(rt: HostRuntime) -> Result<(), Fail> {
         ("digital_system d={};^digital_system", Wanted::Declaration),
         ("digital_system d={};^", Wanted::Declaration),
         ("hardware h={};implementation i={};\n^", Wanted::Declaration),
-        (
-            "hardware h={};digital_system d={};implementation i={};^hardware",
-            Wanted::Declaration,
-        ),
+        ("hardware h={};^hardware", Wanted::Declaration),
         ("digital_system ^=", Wanted::Name),
         ("hardware /* none */^", Wanted::Name),
         ("implementation i ^{", Wanted::Equals),

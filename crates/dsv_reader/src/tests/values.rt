@@ -2,52 +2,40 @@
 use super::*;
 
 #[test]
-fn files_that_are_read(rt: HostRuntime) -> Result<(), Fail> {
+fn systems_and_hardware_that_are_read(rt: HostRuntime) -> Result<(), Fail> {
     let alloc = rt.alloc();
-    for (system, implementation, hardware) in [
-        (SYSTEM, IMPLEMENTATION, ""),
-        (
-            ".b={1,},.a={1,},.a_size=1,.b_size=1,",
-            IMPLEMENTATION,
-            ".clock=1,",
-        ),
+    for (system, hardware) in [
+        (SYSTEM, ""),
+        (".b={1,},.a={1,},.a_size=1,.b_size=1,", ".clock=1,"),
         (
             "\r\n.a_size=1,\r\n.a={0.5}\r\n,.b_size=1,.b={0}\r\n",
-            IMPLEMENTATION,
             "\r\n",
         ),
+        (SYSTEM, ".b=1,.b=1e999,.b=x,.wide=hardware,.wide=00.5"),
         (
             SYSTEM,
-            ".min=07.,.max=07L,.delta=07e0,.frac_bits=14,.int_bits=2",
-            "",
+            ".delta={.int_bits=x,{2,{};=,.}},.int_bits=0,.delta=1",
         ),
-        (
-            SYSTEM,
-            ".min=1e0000000000000000000030,.max=-1e-30,.frac_bits=1,.int_bits=1",
-            "",
-        ),
-        (
-            SYSTEM,
-            ".min=00000000000000001.0,.max=0.00000001e-30,.frac_bits=16,.int_bits=16",
-            "",
-        ),
-        (
-            SYSTEM,
-            ".min=170141183460469231e21,.max=0,.frac_bits=0,.int_bits=2",
-            "",
-        ),
-        (
-            SYSTEM,
-            IMPLEMENTATION,
-            ".b=1,.b=1e999,.b=x,.wide=hardware,.wide=00.5",
-        ),
-        (
-            SYSTEM,
-            IMPLEMENTATION,
-            ".delta={.int_bits=x,{2,{};=,.}},.int_bits=0,.delta=1,.assembly={},.assembly={3}",
-        ),
+        (SYSTEM, ".assembly={},.clock=1,.assembly={3}"),
     ] {
-        let text = file(alloc, system, implementation, hardware)?;
+        let text = file(alloc, system, IMPLEMENTATION, hardware)?;
+        let (refusal, _) = refusal_of(alloc, &text)?;
+        assert!(rt; refusal == None, "{text}");
+    }
+    Ok(())
+}
+
+#[test]
+fn implementations_that_are_read(rt: HostRuntime) -> Result<(), Fail> {
+    let alloc = rt.alloc();
+    for implementation in [
+        ".min=07.,.max=07L,.delta=07e0,.frac_bits=14,.int_bits=2",
+        ".min=1e0000000000000000000030,.max=-1e-30,.frac_bits=1,.int_bits=1",
+        ".min=00000000000000001.0,.max=0.00000001e-30,.frac_bits=16,.int_bits=16",
+        ".min=170141183460469231e21,.max=0,.frac_bits=0,.int_bits=2",
+        ".min=0,.max=+0,.delta=-0,.frac_bits=0,.int_bits=32",
+    ] {
+        let text = file(alloc, SYSTEM, implementation, "")?;
         let (refusal, _) = refusal_of(alloc, &text)?;
         assert!(rt; refusal == None, "{text}");
     }
@@ -86,46 +74,30 @@ fn blocks_stand_in_any_order(rt: HostRuntime) -> Result<(), Fail> {
 #[test]
 fn lists_are_divided_and_padded(rt: HostRuntime) -> Result<(), Fail> {
     let alloc = rt.alloc();
-    let text = file(
-        alloc,
-        ".b={1},.b_size=1,.a={2,-1,3e-1},.a_size=3",
-        IMPLEMENTATION,
-        "",
-    )?;
+    let system = ".b={1},.b_size=1,.a={2,-1,3e-1},.a_size=3";
+    let text = file(alloc, system, IMPLEMENTATION, "")?;
     let controller = read(alloc, text.as_bytes())?;
     assert!(rt; are(controller.b(), &[(1, 2), (0, 1), (0, 1)]));
     assert!(rt; are(controller.a(), &[(1, 1), (-1, 2), (3, 20)]));
-    let text = file(
-        alloc,
-        ".b={07L,0,07e0,1,2,3,4,5,6},.b_size=9,.a={-2},.a_size=1",
-        IMPLEMENTATION,
-        "",
-    )?;
+    Ok(())
+}
+
+#[test]
+fn nine_coefficients(rt: HostRuntime) -> Result<(), Fail> {
+    let alloc = rt.alloc();
+    let system = ".b={07L,0,07e0,1,2,3,4,5,6},.b_size=9,.a={-2},.a_size=1";
+    let text = file(alloc, system, IMPLEMENTATION, "")?;
     let controller = read(alloc, text.as_bytes())?;
-    let b = [
-        (-7, 2),
-        (0, 1),
-        (-7, 2),
-        (-1, 2),
-        (-1, 1),
-        (-3, 2),
-        (-2, 1),
-        (-5, 2),
-        (-3, 1),
-    ];
-    assert!(rt; are(controller.b(), &b));
-    let a = [
-        (1, 1),
-        (0, 1),
-        (0, 1),
-        (0, 1),
-        (0, 1),
-        (0, 1),
-        (0, 1),
-        (0, 1),
-        (0, 1),
-    ];
-    assert!(rt; are(controller.a(), &a));
+    let halves = [-7, 0, -7, -1, -2, -3, -4, -5, -6];
+    assert_eq!(rt; controller.b().len(), 9);
+    for (found, half) in controller.b().iter().zip(&halves) {
+        assert!(rt; *found == Frac::new(*half, 2)?, "{half}");
+    }
+    assert_eq!(rt; controller.a().len(), 9);
+    for (place, found) in controller.a().iter().enumerate() {
+        let wanted = if place == 0 { 1 } else { 0 };
+        assert!(rt; found.to_parts() == (wanted, 1), "{place}");
+    }
     Ok(())
 }
 
