@@ -8,6 +8,7 @@ use std::alloc::Global;
 use std::test::Fail;
 
 /// What a file says: both lists, the bits before and behind the point, the least and the greatest input, and delta.
+#[derive(Clone, Copy)]
 struct Said<'a> {
     b: &'a str,
     a: &'a str,
@@ -16,7 +17,7 @@ struct Said<'a> {
     delta: &'a str,
 }
 
-fn said<'a>(
+fn row<'a>(
     b: &'a str,
     a: &'a str,
     bits: (u32, u32),
@@ -66,10 +67,10 @@ fn quantised(
 #[test]
 fn coefficients_and_inputs_become_words(rt: HostRuntime) -> Result<(), Fail> {
     let alloc = rt.alloc();
-    let order_three = said("0", "1,-0.5,0.25,-0.1249", (11, 13), UNIT, "0.1");
+    let order_three = row("0", "1,-0.5,0.25,-0.1249", (11, 13), UNIT, "0.1");
     for (said, rounding, kind, b, a, ends) in [
         (
-            said("1.75", "1", (2, 2), UNIT, "0"),
+            row("1.75", "1", (2, 2), UNIT, "0"),
             Rounding::Floor,
             Kind::Dfi,
             [7].as_slice(),
@@ -78,7 +79,7 @@ fn coefficients_and_inputs_become_words(rt: HostRuntime) -> Result<(), Fail> {
         ),
         // 9.0 is no word of 2.2, whose greatest is 7.
         (
-            said("1.75", "1", (2, 2), ("-1.0", "9.0"), "0"),
+            row("1.75", "1", (2, 2), ("-1.0", "9.0"), "0"),
             Rounding::Floor,
             Kind::Dfi,
             &[7],
@@ -86,7 +87,7 @@ fn coefficients_and_inputs_become_words(rt: HostRuntime) -> Result<(), Fail> {
             [0, -4, 7],
         ),
         (
-            said("0.5", "1", (2, 2), ("0.3", "0.6"), "0"),
+            row("0.5", "1", (2, 2), ("0.3", "0.6"), "0"),
             Rounding::Floor,
             Kind::Dfii,
             &[2],
@@ -94,7 +95,7 @@ fn coefficients_and_inputs_become_words(rt: HostRuntime) -> Result<(), Fail> {
             [0, 2, 2],
         ),
         (
-            said("0.375", "1,-0.625", (2, 2), UNIT, "0"),
+            row("0.375", "1,-0.625", (2, 2), UNIT, "0"),
             Rounding::Floor,
             Kind::Dfi,
             &[1, 0],
@@ -102,7 +103,7 @@ fn coefficients_and_inputs_become_words(rt: HostRuntime) -> Result<(), Fail> {
             [0, -4, 4],
         ),
         (
-            said("0.375", "1,-0.625", (2, 2), UNIT, "0"),
+            row("0.375", "1,-0.625", (2, 2), UNIT, "0"),
             Rounding::Ceil,
             Kind::Tdfii,
             &[2, 0],
@@ -110,7 +111,7 @@ fn coefficients_and_inputs_become_words(rt: HostRuntime) -> Result<(), Fail> {
             [0, -4, 4],
         ),
         (
-            said("0.375", "1,-0.625", (2, 2), UNIT, "0"),
+            row("0.375", "1,-0.625", (2, 2), UNIT, "0"),
             Rounding::Nearest,
             Kind::Dfi,
             &[2, 0],
@@ -119,7 +120,7 @@ fn coefficients_and_inputs_become_words(rt: HostRuntime) -> Result<(), Fail> {
         ),
         // The leading 1 is no word of 1.3, and needs not be one.
         (
-            said("0.5", "1,0.5", (1, 3), UNIT, "0"),
+            row("0.5", "1,0.5", (1, 3), UNIT, "0"),
             Rounding::Floor,
             Kind::Dfi,
             &[4, 0],
@@ -127,7 +128,7 @@ fn coefficients_and_inputs_become_words(rt: HostRuntime) -> Result<(), Fail> {
             [0, -8, 7],
         ),
         (
-            said("0.25,-0.25", "1,-1.5,0.56", (3, 13), UNIT, "0.25"),
+            row("0.25,-0.25", "1,-1.5,0.56", (3, 13), UNIT, "0.25"),
             Rounding::Floor,
             Kind::Ddfii,
             &[2048, 8192, 0],
@@ -135,7 +136,7 @@ fn coefficients_and_inputs_become_words(rt: HostRuntime) -> Result<(), Fail> {
             [2048, -8192, 8192],
         ),
         (
-            said("0,1", "1,-0.5", (3, 4), UNIT, "0.5"),
+            row("0,1", "1,-0.5", (3, 4), UNIT, "0.5"),
             Rounding::Floor,
             Kind::Tddfii,
             &[0, 32],
@@ -167,62 +168,62 @@ fn the_first_refusal_is_answered(rt: HostRuntime) -> Result<(), Fail> {
     let alloc = rt.alloc();
     for (said, rounding, kind, refusal) in [
         (
-            said("1", "1", (1, 3), UNIT, "0"),
+            row("1", "1", (1, 3), UNIT, "0"),
             Rounding::Floor,
             Kind::Dfi,
             wide(ListName::B, 0, 8),
         ),
         (
-            said("0.5", "1,1", (1, 3), UNIT, "0"),
+            row("0.5", "1,1", (1, 3), UNIT, "0"),
             Rounding::Floor,
             Kind::Dfi,
             wide(ListName::A, 1, 8),
         ),
         (
-            said("0.5,2", "1,3", (2, 2), UNIT, "0"),
+            row("0.5,2", "1,3", (2, 2), UNIT, "0"),
             Rounding::Floor,
             Kind::Dfi,
             wide(ListName::B, 1, 8),
         ),
         (
-            said("0.5", "1,3", (2, 2), ("3", "9"), "0"),
+            row("0.5", "1,3", (2, 2), ("3", "9"), "0"),
             Rounding::Floor,
             Kind::Dfi,
             wide(ListName::A, 1, 12),
         ),
         (
-            said("0.5", "1", (2, 2), ("0.3", "0.4"), "0"),
+            row("0.5", "1", (2, 2), ("0.3", "0.4"), "0"),
             Rounding::Ceil,
             Kind::Dfi,
             QuantRefusal::RangeEmpty { lo: 2, hi: 1 },
         ),
         (
-            said("0.5", "1", (2, 2), ("-9", "-3"), "0"),
+            row("0.5", "1", (2, 2), ("-9", "-3"), "0"),
             Rounding::Floor,
             Kind::Dfi,
             QuantRefusal::RangeEmpty { lo: -8, hi: -12 },
         ),
         (
-            said("1", "1,-0.5", (2, 14), UNIT, "0.00001"),
+            row("1", "1,-0.5", (2, 14), UNIT, "0.00001"),
             Rounding::Floor,
             Kind::Ddfi,
             QuantRefusal::DeltaNotPositive { wanted: 0 },
         ),
         (
-            said("1", "1,-0.5", (2, 14), UNIT, "-0.25"),
+            row("1", "1,-0.5", (2, 14), UNIT, "-0.25"),
             Rounding::Floor,
             Kind::Tddfii,
             QuantRefusal::DeltaNotPositive { wanted: -4096 },
         ),
         (
-            said("1", "1,-0.5", (2, 14), UNIT, "2"),
+            row("1", "1,-0.5", (2, 14), UNIT, "2"),
             Rounding::Floor,
             Kind::Ddfi,
             wide(ListName::Delta, 0, 32768),
         ),
         // Rounded up, delta's word is 1, and the converted b_1 is 1 / 0.00001.
         (
-            said("1", "1,-0.5", (2, 14), UNIT, "0.00001"),
+            row("1", "1,-0.5", (2, 14), UNIT, "0.00001"),
             Rounding::Ceil,
             Kind::Ddfi,
             wide(ListName::B, 1, 1638400000),
