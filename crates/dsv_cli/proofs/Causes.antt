@@ -1,13 +1,13 @@
 -- The causes of answers, put together.
 use Rattle.std.proofs.Common.{◌≡◌, ℕ, List, subst}
-use Rattle.std.specs.Prelude.{Result, Ok, Err, Option, Some, None, IfSome}
+use Rattle.std.specs.Prelude.{Ok, Option, Some, None, IfSome}
 use Rattle.dsv_reader.specs.Controllers as controllers
 use Rattle.dsv_quantiser.specs.FixedPoint.{FixedPoint}
 use Rattle.dsv_words.specs.Jobs.{Asked}
 use Rattle.dsv_words.specs.declared.job.Design.{Design}
 use Rattle.dsv_cli.specs.declared.answers.Answer.{Answer}
 use Rattle.dsv_cli.specs.declared.answers.Answer.TheVariants as answer
-use Rattle.dsv_cli.specs.Headline.{BecomesWords, IsOfPolynomial, IsOfWords, IsQuantisedAs, IsFound, IsCauseIn, IsCauseOutside}
+use Rattle.dsv_cli.specs.Headline.{BecomesWords, IsOfPolynomial, IsQuantisedAs, IsFound, IsCauseIn, IsCauseOutside}
 
 -- the answer of a controller's words is that of the controller
 pub quantised_as : (c : controllers.Design) (design : Design) (words : FixedPoint) (found : Answer) → BecomesWords c design (Ok words) → IsOfPolynomial words found → IsQuantisedAs c design found

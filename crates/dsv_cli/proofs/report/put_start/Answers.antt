@@ -1,9 +1,7 @@
-use Rattle.std.proofs.Common.{codes, [], ◌∷◌}
 use Rattle.std.specs.List.{flat_map}
 use Rattle.std.specs.Fmt.{signed_decimal}
 use Rattle.dsv_base.specs.Text.{spaced}
 use Rattle.dsv_base.proofs.TakingLemmas.{writes_after, writes_err, cut_later, cut_more, wrote_more}
-use Rattle.dsv_cli.specs.Pieces.{joined}
 use Rattle.dsv_cli.specs.Report.{value_text}
 use Rattle.dsv_cli.proofs.report.put_start.Goals as goal
 
