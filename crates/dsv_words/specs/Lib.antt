@@ -1,4 +1,5 @@
 pub mod Asking
+pub mod Inputs
 pub mod Jobs
 pub mod Options
 pub mod Reading

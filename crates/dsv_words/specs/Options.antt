@@ -5,6 +5,7 @@ use Rattle.std.specs.Prelude.{ℕ, List, [], ◌∷◌, Bool, true, codes}
 abbrev pub command_options : List (List ℕ × Bool)
 command_options =
     (codes "property", true) ∷
+    (codes "simulate", true) ∷
     (codes "realization", true) ∷
     (codes "rounding", true) ∷
     (codes "overflow-mode", true) ∷ []

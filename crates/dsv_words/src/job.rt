@@ -1,12 +1,14 @@
 // The job that the words ask for.
-ghost use Rattle.std.specs.Prelude.{◌≡◌, map, string_bytes, option_map, IfOk};
-ghost use Rattle.dsv_words.specs.Jobs.{job_of, job_of_uses, has_empty_value, design_of_uses};
+ghost use Rattle.std.specs.Prelude.{◌≡◌, codes, map, string_bytes, option_map, IfOk};
+ghost use Rattle.dsv_words.specs.Jobs.{job_of, job_of_uses, task_of, has_empty_value, design_of_uses};
+ghost use Rattle.dsv_words.specs.Reading.{value_of};
 ghost use Rattle.dsv_words.specs.Views.{uses_in};
-ghost use Rattle.dsv_words.specs.Asking.{asked_of};
+ghost use Rattle.dsv_words.specs.Asking.{asked_task, asked_of};
 
 use crate::given::{Given, find_value};
+use crate::inputs::{Inputs, find_inputs};
 use crate::names::{find_kind, find_overflow, find_property, find_rounding};
-use crate::options::{FILE_KEY, OPTIONS};
+use crate::options::{FILE_KEY, command_options};
 use crate::reading::read_words;
 use dsv_base::NoMemory;
 use dsv_quantiser::Kind;
@@ -28,12 +30,21 @@ pub struct Design {
     pub overflow: Overflow,
 }
 
-/// A job of the command: the property that is to be decided of the controller in a file, realised by this design.
-#[derive(Clone, Copy, Debug)]
+/// What is to be done with a controller.
+#[derive(Drop)]
+pub enum Task {
+    /// It is decided whether the controller has the property.
+    Decide(Property),
+    /// The controller is run over these inputs, from registers that are 0.
+    Simulate(Inputs),
+}
+
+/// A job of the command: a task for the controller in a file, realised by this design.
+#[derive(Drop)]
 pub struct Job<'a> {
     /// The name of the file.
     pub file: &'a str,
-    pub property: Property,
+    pub task: Task,
     pub design: Design,
 }
 
@@ -72,6 +83,17 @@ fn find_design(uses: &[Given]) -> Option<Design>
     })
 }
 
+/// What is to be done.
+fn find_task(uses: &[Given]) -> Option<Task>
+    ensures { option_map asked_task result ≡ task_of (value_of (codes "property") (uses_in uses.now)) (value_of (codes "simulate") (uses_in uses.now)) }
+{
+    match (find_value(uses, "property"), find_value(uses, "simulate")) {
+        (Some(name), None) => Some(Task::Decide(find_property(name)?)),
+        (None, Some(list)) => Some(Task::Simulate(find_inputs(list)?)),
+        _ => None,
+    }
+}
+
 /// The job of what the words give.
 fn find_job<'a>(uses: &[Given<'a>]) -> Option<Job<'a>>
     ensures { option_map asked_of result ≡ job_of_uses (uses_in uses.now) }
@@ -80,13 +102,9 @@ fn find_job<'a>(uses: &[Given<'a>]) -> Option<Job<'a>>
         return None;
     }
     let file = find_value(uses, FILE_KEY)?;
-    let property = find_property(find_value(uses, "property")?)?;
+    let task = find_task(uses)?;
     let design = find_design(uses)?;
-    Some(Job {
-        file,
-        property,
-        design,
-    })
+    Some(Job { file, task, design })
 }
 
 /// The job that the words behind the program's name ask for; `None` where they are no job.
@@ -94,7 +112,7 @@ fn find_job<'a>(uses: &[Given<'a>]) -> Option<Job<'a>>
 pub fn read_job<'a>(alloc: Global, words: &'a [String]) -> Result<Option<Job<'a>>, NoMemory>
     ensures { IfOk result (λ job. option_map asked_of job ≡ job_of (map string_bytes words.entry.now)) }
 {
-    let Some(uses) = read_words(alloc, OPTIONS.as_slice(), words)? else {
+    let Some(uses) = read_words(alloc, command_options(), words)? else {
         return Ok(None);
     };
     Ok(find_job(uses.as_slice()))

@@ -2,13 +2,15 @@
 #![tactic(auto)]
 
 mod given;
+mod inputs;
 mod job;
 mod names;
 mod options;
 mod reading;
 mod shape;
 
-pub use job::{Design, Job, Property, read_job};
+pub use inputs::{Inputs, MOST_INPUTS};
+pub use job::{Design, Job, Property, Task, read_job};
 
 #[cfg(test)]
 mod tests;

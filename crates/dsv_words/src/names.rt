@@ -24,6 +24,9 @@ pub fn find_kind(name: &str) -> Option<Kind>
         "DFI" => Some(Kind::Dfi),
         "DFII" => Some(Kind::Dfii),
         "TDFII" => Some(Kind::Tdfii),
+        "DDFI" => Some(Kind::Ddfi),
+        "DDFII" => Some(Kind::Ddfii),
+        "TDDFII" => Some(Kind::Tddfii),
         _ => None,
     }
 }

@@ -2,6 +2,7 @@
 ghost use Rattle.std.specs.Prelude.{◌≡◌};
 ghost use Rattle.std.specs.Map.{lookup};
 ghost use Rattle.std.specs.Str.{bytes_eq};
+ghost use Rattle.dsv_words.specs.Options.{command_options};
 ghost use Rattle.dsv_words.specs.Views.{options_in};
 
 /// An option: its name without the dashes, and whether it takes a value.
@@ -12,9 +13,13 @@ pub struct CommandOption {
 }
 
 /// The options that the command has. One more stands here and in `specs/Options.antt`; what it asks for, in the job.
-pub const OPTIONS: [CommandOption; 4] = [
+const OPTIONS: [CommandOption; 5] = [
     CommandOption {
         name: "property",
+        takes_value: true,
+    },
+    CommandOption {
+        name: "simulate",
         takes_value: true,
     },
     CommandOption {
@@ -30,6 +35,13 @@ pub const OPTIONS: [CommandOption; 4] = [
         takes_value: true,
     },
 ];
+
+/// The table of the options.
+pub fn command_options() -> &'static [CommandOption]
+    ensures { options_in result.now ≡ command_options }
+{
+    &OPTIONS
+}
 
 /// The key of FILE. No option has it, since the name of an option ends before the first `=` of its word.
 pub const FILE_KEY: &str = "FILE=";

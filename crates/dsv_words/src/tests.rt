@@ -1,7 +1,7 @@
 // The rules of the words, by lists of words with what is wanted of each.
 use crate::options::CommandOption;
 use crate::reading::read_words;
-use crate::{Design, Property, read_job};
+use crate::{Design, Property, Task, read_job};
 use dsv_quantiser::Kind;
 use dsv_word::{Overflow, Rounding};
 use std::alloc::Global;
@@ -49,6 +49,14 @@ fn jobs_have_a_file_and_a_design(rt: HostRuntime) -> Result<(), Fail> {
             },
         ),
         (
+            "f|--property|STABILITY|--realization|TDDFII",
+            "f",
+            Design {
+                kind: Kind::Tddfii,
+                ..DEFAULTS
+            },
+        ),
+        (
             "--overflow-mode|SATURATE|--rounding|NEAREST|--realization|TDFII|--property|STABILITY|--|f",
             "f",
             Design {
@@ -62,11 +70,76 @@ fn jobs_have_a_file_and_a_design(rt: HostRuntime) -> Result<(), Fail> {
         match read_job(alloc, &words)? {
             Some(job) => {
                 assert_eq!(rt; job.file, file, "the file of {text}");
-                assert_eq!(rt; job.property, Property::Stability, "the property of {text}");
+                assert!(rt;
+                    matches!(job.task, Task::Decide(Property::Stability)),
+                    "the task of {text}"
+                );
                 assert_eq!(rt; job.design, design, "the design of {text}");
             }
             None => assert!(rt; false, "no job: {text}"),
         }
+    }
+    Ok(())
+}
+
+/// The words of a simulation over so many inputs.
+fn ones(alloc: Global, count: usize) -> Result<String, Fail> {
+    let mut list = String::from_str(alloc, "f|--simulate=1")?;
+    for _ in 1..count {
+        list.push_str(",1")?;
+    }
+    Ok(list)
+}
+
+#[test]
+fn inputs_are_numbers_joined_by_commas(rt: HostRuntime) -> Result<(), Fail> {
+    let alloc = rt.alloc();
+    for (text, inputs) in [
+        ("f|--simulate|4,4", [4, 4].as_slice()),
+        ("f|--simulate=-1", &[-1]),
+        ("--simulate=-0,00,-007|f", &[0, 0, -7]),
+        (
+            "--simulate=999999999999,-999999999999|f",
+            &[999_999_999_999, -999_999_999_999],
+        ),
+        ("--realization|DDFII|--simulate|0|f", &[0]),
+    ] {
+        let words = words_of(alloc, text)?;
+        let job = read_job(alloc, &words)?.ok_or("a job")?;
+        match &job.task {
+            Task::Simulate(found) => assert_eq!(rt; found.as_slice(), inputs, "at {text}"),
+            Task::Decide(_) => assert!(rt; false, "no simulation: {text}"),
+        }
+    }
+    for text in [
+        "f|--simulate|",
+        "f|--simulate=,",
+        "f|--simulate=1,",
+        "f|--simulate=,1",
+        "f|--simulate=1,,2",
+        "f|--simulate|-1",
+        "f|--simulate=--1",
+        "f|--simulate=+1",
+        "f|--simulate=-",
+        "f|--simulate=1.0",
+        "f|--simulate=1, 2",
+        "f|--simulate=1234567890123",
+        "f|--simulate=-0000000000001",
+        "f|--simulate=1|--simulate=1",
+        "f|--simulate=1|--property=STABILITY",
+        "--simulate=1",
+    ] {
+        let words = words_of(alloc, text)?;
+        assert!(rt; read_job(alloc, &words)?.is_none(), "a job: {text}");
+    }
+    for (count, allowed) in [(64, true), (65, false)] {
+        let text = ones(alloc, count)?;
+        let words = words_of(alloc, &text)?;
+        assert_eq!(rt;
+            read_job(alloc, &words)?.is_some(),
+            allowed,
+            "{count} inputs"
+        );
     }
     Ok(())
 }
@@ -108,8 +181,8 @@ fn other_words_are_no_job(rt: HostRuntime) -> Result<(), Fail> {
         "--rounding|--property|STABILITY|f",
         "--rounding|-|--property|STABILITY|f",
         "--rounding=|--property|STABILITY|f",
-        "f|--property|STABILITY|--realization|DDFI",
         "f|--property|STABILITY|--realization|dfi",
+        "f|--property|STABILITY|--realization|DDF",
         "f|--property|STABILITY|--overflow-mode|WRAP",
         "f|--property|STABILITY|--FILE=|g",
     ] {
