@@ -1,1 +1,5 @@
+pub mod Casts
+pub mod ChainLemmas
+pub mod LineLemmas
+pub mod Sizes
 pub mod WorkedRows

@@ -1,4 +1,5 @@
 pub mod Equations
 pub mod Lines
 pub mod Runs
+pub mod Stepping
 pub mod Systems
