@@ -2,4 +2,5 @@ pub mod Casts
 pub mod ChainLemmas
 pub mod LineLemmas
 pub mod Sizes
+pub mod StepLemmas
 pub mod WorkedRows

@@ -47,6 +47,14 @@ pub(crate) fn feed_forward(q: &Quantised) -> &[i64]
     behind(q.b(), 1)
 }
 
+/// Delta's word.
+fn delta_word(q: &Quantised) -> i64
+    ensures same { result ≡ q.now.delta }
+    ensures word { IsWord q.now.format result }
+{
+    q.delta()
+}
+
 /// Adds the new words of a delay line: the newest word, and the old ones but for the oldest.
 pub(crate) fn delay(newest: &i64, old: &[i64], registers: &mut Registers)
     requires { length registers.old.items + length old.now ≤ MOST_REGISTERS }
@@ -68,7 +76,6 @@ pub(crate) fn delta_chain(
     exact: &mut ExactList,
     registers: &mut Registers,
 )
-    requires delta { IsWord q.now.format q.now.delta }
     requires room { length exact.old.items + 2 * length old.now ≤ MOST_EXACT }
     requires many { length registers.old.items + length old.now ≤ MOST_REGISTERS }
     ensures value { record { words = registers.new.items; exact = exact.new.items } ≡
@@ -77,12 +84,12 @@ pub(crate) fn delta_chain(
     ensures room { length exact.new.items ≡ length exact.old.items + 2 * length old.now }
 {
     let format = q.format();
-    let delta = q.delta();
-    let mut before = *newest;
+    let delta = delta_word(q);
+    let mut before = newest;
     for word in old {
-        let next = next_product(&format, false, word, &delta, &before, exact);
+        let next = next_product(&format, false, word, &delta, before, exact);
         registers.push(next);
-        before = *word;
+        before = word;
     }
 }
 
@@ -144,7 +151,6 @@ pub(crate) fn transposed_delta_chain(
     exact: &mut ExactList,
     registers: &mut Registers,
 )
-    requires delta { IsWord q.now.format q.now.delta }
     requires old { length old.now ≡ order q.now }
     requires room { length exact.old.items + 6 * order q.now ≤ MOST_EXACT }
     requires many { length registers.old.items + order q.now ≤ MOST_REGISTERS }
@@ -155,7 +161,7 @@ pub(crate) fn transposed_delta_chain(
     ensures room { length exact.new.items ≤ length exact.old.items + 6 * order q.now }
 {
     let format = q.format();
-    let delta = q.delta();
+    let delta = delta_word(q);
     let a = feedback(q);
     let b = feed_forward(q);
     for (i, coeff) in b.iter().enumerate() {

@@ -4,6 +4,7 @@
 mod chains;
 mod counts;
 mod operations;
+mod stepping;
 
 pub use counts::{products, registers, sums};
 pub use operations::{ExactList, MOST_EXACT};
