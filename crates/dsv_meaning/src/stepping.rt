@@ -19,6 +19,7 @@ fn fed_forward(q: &Quantised, newest: &i64, older: &[i64], exact: &mut ExactList
     ensures value { record { value = result; exact = exact.new.items } ≡
         line q.now.format exact.old.items (forward_terms q.now (ago (newest.now ∷ older.now))) }
     ensures count { length exact.new.items ≡ length exact.old.items + 2 * order q.now + 1 }
+    ensures some { 1 ≤ length q.now.b }
 {
     let format = q.format();
     forward(&format, q.b(), newest, older, exact)

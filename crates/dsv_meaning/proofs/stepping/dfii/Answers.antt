@@ -1,4 +1,4 @@
-use Rattle.std.proofs.Common.{◌≡◌, ◌∙◌, rules, refl, arith, ap, sym, []}
+use Rattle.std.proofs.Common.{◌≡◌, ◌∙◌, rules, refl, arith, ap, sym}
 use Rattle.std.proofs.lemmas.Int.{to_z-of_z}
 use mir.Syntax.{w64}
 use mir.Val.{SFits}
@@ -12,4 +12,6 @@ returns-clause-sample c =
     simp to_z-of_z
     (dfii_sample c.args.q.now c.args.registers.now.items c.delay.new.registers.items c.args.x.now
     (record { value = c.fed_back-w.result; exact = c.fed_back-w.new.exact.items }) (record { value = c.fed_forward-y.result; exact = c.fed_forward-y.new.exact.items })
-    (omega arith) ? ? ?)
+    c.requires.many (rw (c.requires.empty, c.as_slice-old.ensures.value) at c.fed_back-w.ensures.value)
+    (simp (to_z-of_z, c.as_slice-old.ensures.value) at c.fed_forward-y.ensures.value)
+    (simp (to_z-of_z, c.new-next.ensures, c.as_slice-old.ensures.value) at c.delay.ensures.value))

@@ -12,4 +12,4 @@ returns-clause-value c =
     simp to_z-of_z
     (direct_line c.args.q.now c.args.exact.now.items c.args.u.now c.args.v.now c.args.x.now
     (record { value = c.fed_forward-sum.result; exact = c.fed_forward-sum.new.exact.items }) (record { value = c.fed_back.result; exact = c.fed_back.new.exact.items })
-    (? ) c.fed_forward-sum.ensures.value (simp to_z-of_z at c.fed_back.ensures.value))
+    c.fed_forward-sum.ensures.some c.fed_forward-sum.ensures.value (simp to_z-of_z at c.fed_back.ensures.value))

@@ -1,4 +1,4 @@
-use Rattle.std.proofs.Common.{◌≡◌, ◌∙◌, rules, refl, arith, ap, sym, []}
+use Rattle.std.proofs.Common.{◌≡◌, ◌∙◌, rules, refl, arith, ap, sym}
 use Rattle.std.proofs.lemmas.Int.{to_z-of_z}
 use mir.Syntax.{w64}
 use mir.Val.{SFits}
@@ -10,4 +10,6 @@ returns-clause-sample c =
     let result : SFits w64 c.transposed_output-y.result = search rules in
     simp to_z-of_z
     (tdfii_sample c.args.q.now c.args.registers.now.items c.args.x.now (record { value = c.transposed_output-y.result; exact = c.transposed_output-y.new.exact.items })
-    (record { words = c.transposed_chain.new.registers.items; exact = c.transposed_chain.new.exact.items }) ? ?)
+    (record { words = c.transposed_chain.new.registers.items; exact = c.transposed_chain.new.exact.items })
+    (rw (c.requires.empty, c.as_slice-old.ensures.value) at c.transposed_output-y.ensures.value)
+    (simp (to_z-of_z, c.new-next.ensures, c.as_slice-old.ensures.value) at c.transposed_chain.ensures.value))
