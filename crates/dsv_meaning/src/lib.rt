@@ -4,7 +4,11 @@
 mod chains;
 mod counts;
 mod operations;
+mod rows;
+mod simulating;
 mod stepping;
 
 pub use counts::{products, registers, sums};
 pub use operations::{ExactList, MOST_EXACT};
+pub use rows::{Row, Rows};
+pub use simulating::simulate;
