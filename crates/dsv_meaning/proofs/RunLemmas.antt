@@ -200,17 +200,3 @@ run_more q r new x inputs i shown longer row m h l is e g more =
     ∙ ap (λ (rs : List SampleRow). map row_of shown ++ rs)
     (next_rows q.kind q r new x (drop (i + 1) inputs) (row_of row) m h e g
     ∙ ap (rows_from (sample q) (start_as q.kind (order q) r)) (ap (λ w. w ∷ drop (i + 1) inputs) is ∙ sym (drop_more inputs i (pos 0) l)))
-
--- a run over all inputs
-pub run_done : (q : FixedPoint) (r : List ℤ) (inputs : List ℤ) (i : ℕ) (shown : List Row) → length inputs ≤ i
-    → map row_of shown ++ rows_from (sample q) (start_as q.kind (order q) r) (drop i inputs) ≡ map row_of shown
-run_done q r inputs i shown h =
-    ap (λ l. map row_of shown ++ rows_from (sample q) (start_as q.kind (order q) r) l) (drop_all i inputs h) ∙ append-nil (map row_of shown)
-
-pub few_registers : (k : Kind) (n : ℕ) → n ≤ 8 → registers_of k n ≤ 16
-few_registers Dfi n h = omega arith
-few_registers Dfii n h = omega arith
-few_registers Tdfii n h = omega arith
-few_registers Ddfi n h = omega arith
-few_registers Ddfii n h = omega arith
-few_registers Tddfii n h = omega arith

@@ -8,7 +8,7 @@ mod rows;
 mod simulating;
 mod stepping;
 
-pub use counts::{products, registers, sums};
+pub use counts::{forward_registers, products, registers, sums};
 pub use operations::{ExactList, MOST_EXACT};
 pub use rows::{Row, Rows};
 pub use simulating::simulate;

@@ -1,5 +1,5 @@
 // The rows of runs.
-ghost use Rattle.std.specs.Prelude.{◌≡◌, length, map};
+ghost use Rattle.std.specs.Prelude.{◌≡◌, ◌↔◌, [], length, map, IsTrue};
 ghost use Rattle.dsv_meaning.specs.RowViews.{row_of};
 
 use crate::operations::ExactList;
@@ -46,6 +46,12 @@ impl Rows {
         ensures { result ≡ length self.now }
     {
         self.rows.len()
+    }
+
+    pub fn is_empty(&self) -> bool
+        ensures { IsTrue result ↔ (self.now ≡ []) }
+    {
+        self.rows.is_empty()
     }
 
     pub fn as_slice(&self) -> &[Row]

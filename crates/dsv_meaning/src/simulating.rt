@@ -65,3 +65,6 @@ pub fn simulate(
     }
     Ok(Rows::from(rows))
 }
+
+#[cfg(test)]
+mod tests;
