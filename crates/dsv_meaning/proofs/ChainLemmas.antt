@@ -1,5 +1,5 @@
 -- Chains, one register more.
-use Rattle.std.proofs.Common.{◌≡◌, ℕ, ◌+◌, ◌<◌, ◌≤◌, false, List, [], ◌∷◌, ◌++◌, length, take, drop, get_or, refl, sym, ap, ◌∙◌, arith}
+use Rattle.std.proofs.Common.{◌≡◌, ℕ, ◌+◌, ◌<◌, false, List, [], ◌∷◌, ◌++◌, length, drop, get_or, sym, ap, ◌∙◌}
 use Rattle.std.proofs.Math.IntN.{ℤ, pos}
 use Rattle.std.proofs.lemmas.List.{drop_more, drop-drop}
 use Rattle.dsv_word.specs.declared.format.Format.{Format}
@@ -20,8 +20,8 @@ pub delta_more : (q : FixedPoint) (f : Format) (d : ℤ) (old rs new es : List �
     → delta_chain q w (drop (i + 1) old) (record { words = new; exact = s.exact }) ≡ delta_chain q before (drop i old) (record { words = rs; exact = es })
 delta_more q f d old rs new es i before w s p r h e g n =
     let same : s ≡ line q.format es (delta_line q w before) =
-        g ∙ ap (λ v. next_term v (record { value = w; exact = es }) (Times false d before)) p
-        ∙ ap (λ v. next_term q.format (record { value = w; exact = es }) (Times false v before)) r in
+    g ∙ ap (λ v. next_term v (record { value = w; exact = es }) (Times false d before)) p
+    ∙ ap (λ v. next_term q.format (record { value = w; exact = es }) (Times false v before)) r in
     ap (delta_chain q w (drop (i + 1) old)) (sym (added rs new s (line q.format es (delta_line q w before)) n same))
     ∙ ap (λ ws. delta_chain q before ws (record { words = rs; exact = es })) (from_place old i w h e)
 
@@ -48,9 +48,9 @@ transposed_delta_more q f d x y bs cs old rest rs new es i b a w t s p k hb hc h
     let u = line q.format es (transposed_line b a x y (drop (i + 1) old)) in
     let change : t ≡ u = g ∙ ap (λ v. line v es (transposed_line b a x y rest)) p ∙ ap (λ v. line q.format es (transposed_line b a x y v)) r in
     let same : s ≡ line q.format u.exact (delta_line q w u.value) =
-        m ∙ ap (λ (v : Sum). next_term f (record { value = w; exact = v.exact }) (Times false d v.value)) change
-        ∙ ap (λ v. next_term v (record { value = w; exact = u.exact }) (Times false d u.value)) p
-        ∙ ap (λ v. next_term q.format (record { value = w; exact = u.exact }) (Times false v u.value)) k in
+    m ∙ ap (λ (v : Sum). next_term f (record { value = w; exact = v.exact }) (Times false d v.value)) change
+    ∙ ap (λ v. next_term v (record { value = w; exact = u.exact }) (Times false d u.value)) p
+    ∙ ap (λ v. next_term q.format (record { value = w; exact = u.exact }) (Times false v u.value)) k in
     let start : Chain = record { words = rs; exact = es } in
     ap (transposed_delta_chain q x y (drop (i + 1) bs) (drop (i + 1) cs) (drop (i + 1) old)) (sym (added rs new s (line q.format u.exact (delta_line q w u.value)) n same))
     ∙ ap (λ v. transposed_delta_chain q x y v (a ∷ drop (i + 1) cs) (w ∷ drop (i + 1) old) start) (from_place bs i b hb eb)

@@ -1,8 +1,8 @@
 -- Lines in parts.
-use Rattle.std.proofs.Common.{◌≡◌, ℕ, zero, suc, ◌+◌, ◌<◌, ◌≤◌, Bool, true, false, List, [], ◌∷◌, ◌++◌, length, take, drop, get_or, refl, sym, ap, ◌∙◌, arith, add-one}
+use Rattle.std.proofs.Common.{◌≡◌, ℕ, ◌+◌, ◌≤◌, Bool, false, List, [], ◌∷◌, length, take, drop, get_or, refl, sym, ap, ◌∙◌, arith, add-one}
 use Rattle.std.proofs.Math.IntN.{ℤ, pos}
 use Rattle.dsv_word.specs.declared.format.Format.{Format}
-use Rattle.dsv_meaning.specs.Lines.{Term, Times, Sum, terms, product, next_terms, line}
+use Rattle.dsv_meaning.specs.Lines.{Times, Sum, terms, product, next_terms, line}
 use Rattle.dsv_meaning.specs.Equations.{ago}
 
 -- terms that leave out the newest word

@@ -1,7 +1,7 @@
 -- Runs read no more of the past than the registers hold.
-use Rattle.std.proofs.Common.{◌≡◌, ℕ, zero, suc, ◌+◌, ◌-◌, ◌*◌, ◌<◌, ◌≤◌, Bool, true, false, List, [], ◌∷◌, ◌++◌, length, take, drop, map, get_or, refl, sym, ap, ◌∙◌, arith, add-one, length-append, append_assoc}
+use Rattle.std.proofs.Common.{◌≡◌, ℕ, zero, suc, ◌+◌, ◌<◌, ◌≤◌, Bool, true, false, List, [], ◌∷◌, ◌++◌, length, take, drop, map, get_or, refl, sym, ap, ◌∙◌, arith, add-one, append_assoc}
 use Rattle.std.proofs.Math.IntN.{ℤ, pos}
-use Rattle.std.proofs.lemmas.List.{append-nil, drop_more, drop_all, get_or-take, take-take, take_at, drop_at, length-take-le, length-drop, length_push, map_push}
+use Rattle.std.proofs.lemmas.List.{drop_more, get_or-take, take-take, take_at, drop_at, length-take-le, length-drop, length_push, map_push}
 use Rattle.dsv_quantiser.specs.declared.kind.Kind.{Kind}
 use Rattle.dsv_quantiser.specs.declared.kind.Kind.TheVariants.{Dfi, Dfii, Tdfii, Ddfi, Ddfii, Tddfii}
 use Rattle.dsv_quantiser.specs.FixedPoint.{FixedPoint}
@@ -66,7 +66,7 @@ alike_samples Dfi q p s x m h =
     let f = same_forward q x p.signal s.signal m h.signal in
     let b = same_feedback q p.outputs s.outputs h.outputs in
     let e : of (forward_terms q (ago (x ∷ p.signal))) (feedback_terms q (ago p.outputs) 0) ≡ of (forward_terms q (ago (x ∷ s.signal))) (feedback_terms q (ago s.outputs) 0) =
-        ap (λ ts. of ts (feedback_terms q (ago p.outputs) 0)) f ∙ ap (of (forward_terms q (ago (x ∷ s.signal)))) b in
+    ap (λ ts. of ts (feedback_terms q (ago p.outputs) 0)) f ∙ ap (of (forward_terms q (ago (x ∷ s.signal)))) b in
     record {
       y = ap (λ (t : Sum). t.value) e;
       exact = ap (λ (t : Sum). t.exact) e;
@@ -83,9 +83,9 @@ alike_samples Dfii q p s x m h =
     let w = of (feedback_terms q (ago s.signal) 0) in
     let e : of (feedback_terms q (ago p.signal) 0) ≡ w = ap of (same_feedback q p.signal s.signal h.signal) in
     let g : line q.format (of (feedback_terms q (ago p.signal) 0)).exact (forward_terms q (ago ((of (feedback_terms q (ago p.signal) 0)).value ∷ p.signal)))
-        ≡ line q.format w.exact (forward_terms q (ago (w.value ∷ s.signal))) =
-        ap (λ (t : Sum). line q.format t.exact (forward_terms q (ago (t.value ∷ p.signal)))) e
-        ∙ ap (line q.format w.exact) (same_forward q w.value p.signal s.signal m h.signal) in
+    ≡ line q.format w.exact (forward_terms q (ago (w.value ∷ s.signal))) =
+    ap (λ (t : Sum). line q.format t.exact (forward_terms q (ago (t.value ∷ p.signal)))) e
+    ∙ ap (line q.format w.exact) (same_forward q w.value p.signal s.signal m h.signal) in
     record {
       y = ap (λ (t : Sum). t.value) g;
       exact = ap (λ (t : Sum). t.exact) g;
@@ -104,7 +104,7 @@ alike_samples Tdfii q p s x m h = record {
 alike_samples Ddfi q p s x m h =
     let of : List ℤ → List ℤ → Sampled Past = λ (u v : List ℤ). sample_as Ddfi q (chains u v) x in
     let e : of (latest p.chain) (latest p.output_chain) ≡ of (latest s.chain) (latest s.output_chain) =
-        ap (λ u. of u (latest p.output_chain)) h.chain ∙ ap (of (latest s.chain)) h.output_chain in
+    ap (λ u. of u (latest p.output_chain)) h.chain ∙ ap (of (latest s.chain)) h.output_chain in
     record {
       y = ap (λ (t : Sampled Past). t.y) e;
       exact = ap (λ (t : Sampled Past). t.exact) e;

@@ -1,5 +1,5 @@
 -- The sizes of products.
-use Rattle.std.proofs.Common.{◌≡◌, ℕ, ◌+◌, ◌-◌, ◌*◌, ◌^◌, ◌<◌, ◌≤◌, Bool, true, false, arith}
+use Rattle.std.proofs.Common.{◌≡◌, ℕ, ◌-◌, ◌^◌, ◌<◌, ◌≤◌, Bool, true, false, arith}
 use Rattle.std.specs.Prelude.{MatchBool}
 use Rattle.std.specs.Int.RustNames.{unsigned_abs}
 use Rattle.std.proofs.Math.IntN.{ℤ, pos, negsuc, neg_ℤ, ◌*ℤ◌, ◌-ℤ◌}
@@ -7,7 +7,7 @@ use Rattle.std.proofs.lemmas.Int.{ints, unsigned_abs-mul}
 use Rattle.std.proofs.lemmas.Nat.{mul-le, pow_pos}
 use lib.Signed.{◌≤ℤ◌}
 use Rattle.dsv_word.specs.declared.format.Format.{Format}
-use Rattle.dsv_word.specs.Words.{width, lo, hi}
+use Rattle.dsv_word.specs.Words.{width, hi}
 use Rattle.dsv_word.proofs.Powers.{power_small}
 use Rattle.dsv_quantiser.specs.FixedPoint.{FixedPoint, IsWord, IsFixedPoint}
 use Rattle.dsv_quantiser.specs.Kinds.{is_delta}

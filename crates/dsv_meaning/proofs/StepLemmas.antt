@@ -1,6 +1,6 @@
 -- Samples from their lines, for each realisation.
-use Rattle.std.proofs.Common.{◌≡◌, ℕ, ◌+◌, ◌*◌, ◌<◌, ◌≤◌, Bool, true, false, List, [], ◌∷◌, ◌++◌, length, take, drop, refl, sym, ap, ◌∙◌, arith, append_assoc}
-use Rattle.std.proofs.Math.IntN.{ℤ, pos}
+use Rattle.std.proofs.Common.{◌≡◌, ℕ, ◌≤◌, false, List, [], ◌∷◌, ◌++◌, length, take, drop, refl, sym, ap, ◌∙◌, arith, append_assoc}
+use Rattle.std.proofs.Math.IntN.{ℤ}
 use Rattle.std.proofs.lemmas.List.{append-nil}
 use Rattle.dsv_word.specs.declared.format.Format.{Format}
 use Rattle.dsv_quantiser.specs.declared.kind.Kind.TheVariants.{Dfi, Dfii, Tdfii, Ddfi, Ddfii, Tddfii}
@@ -47,10 +47,10 @@ unfolding stepped
 dfi_sample q r u v first new x y a b m n e g h =
     let z = line q.format [] (forward_terms q (ago (x ∷ take (order q) r)) ++ feedback_terms q (ago (drop (order q) r)) 0) in
     let same : y ≡ z = e ∙ ap (λ w. line q.format [] (forward_terms q (ago (x ∷ w)) ++ feedback_terms q (ago v) 0)) a
-        ∙ ap (λ w. line q.format [] (forward_terms q (ago (x ∷ take (order q) r)) ++ feedback_terms q (ago w) 0)) b in
+    ∙ ap (λ w. line q.format [] (forward_terms q (ago (x ∷ take (order q) r)) ++ feedback_terms q (ago w) 0)) b in
     let registers : new ≡ take (order q) (x ∷ take (order q) r) ++ take (order q) (y.value ∷ drop (order q) r) =
-        h ∙ delayed_take first (order q) y.value v n ∙ ap (λ w. w ++ take (order q) (y.value ∷ v)) (g ∙ delayed_take [] (order q) x u m)
-        ∙ ap (λ w. take (order q) (x ∷ w) ++ take (order q) (y.value ∷ v)) a ∙ ap (λ w. take (order q) (x ∷ take (order q) r) ++ take (order q) (y.value ∷ w)) b in
+    h ∙ delayed_take first (order q) y.value v n ∙ ap (λ w. w ++ take (order q) (y.value ∷ v)) (g ∙ delayed_take [] (order q) x u m)
+    ∙ ap (λ w. take (order q) (x ∷ w) ++ take (order q) (y.value ∷ v)) a ∙ ap (λ w. take (order q) (x ∷ take (order q) r) ++ take (order q) (y.value ∷ w)) b in
     ap (λ w. record { y = y.value; exact = y.exact; registers = w }) registers
     ∙ ap (λ (t : Sum). record { y = t.value; exact = t.exact; registers = take (order q) (x ∷ take (order q) r) ++ take (order q) (t.value ∷ drop (order q) r) }) same
 
@@ -62,7 +62,7 @@ dfii_sample q r new x w y m e g h =
     ap (λ s. record { y = y.value; exact = y.exact; registers = s }) (h ∙ delayed_take [] (order q) w.value r m)
     ∙ ap (λ (t : Sum). record { y = t.value; exact = t.exact; registers = take (order q) (w.value ∷ r) }) g
     ∙ ap (λ (t : Sum). let z = line q.format t.exact (forward_terms q (ago (t.value ∷ r))) in
-        record { y = z.value; exact = z.exact; registers = take (order q) (t.value ∷ r) }) e
+    record { y = z.value; exact = z.exact; registers = take (order q) (t.value ∷ r) }) e
 
 pub tdfii_sample : (q : FixedPoint) (r : List ℤ) (x : ℤ) (y : Sum) (c : Chain) → y ≡ line q.format [] (transposed_output q x r)
     → c ≡ transposed_chain q x y.value (drop 1 q.b) (feedback q) r (no_words y.exact)
@@ -89,16 +89,16 @@ pub ddfi_sample : (q : FixedPoint) (r u v : List ℤ) (x : ℤ) (y : Sum) (c d :
 unfolding stepped
 ddfi_sample q r u v x y c d a b e g h =
     let with_both : List ℤ → List ℤ → Stepped = λ (s t : List ℤ).
-        let z = line q.format [] (forward_terms q (ago (x ∷ s)) ++ feedback_terms q (ago t) 0) in
-        let j = delta_chain q x s (no_words z.exact) in
-        let k = delta_chain q z.value t (no_words j.exact) in
-        record { y = z.value; exact = k.exact; registers = j.words ++ k.words } in
+    let z = line q.format [] (forward_terms q (ago (x ∷ s)) ++ feedback_terms q (ago t) 0) in
+    let j = delta_chain q x s (no_words z.exact) in
+    let k = delta_chain q z.value t (no_words j.exact) in
+    record { y = z.value; exact = k.exact; registers = j.words ++ k.words } in
     let apart : d ≡ behind c.words (delta_chain q y.value v (no_words c.exact)) =
-        h ∙ ap (λ w. delta_chain q y.value v (record { words = w; exact = c.exact })) (sym (append-nil c.words)) ∙ chain_behind q y.value v c.words (no_words c.exact) in
+    h ∙ ap (λ w. delta_chain q y.value v (record { words = w; exact = c.exact })) (sym (append-nil c.words)) ∙ chain_behind q y.value v c.words (no_words c.exact) in
     ap (λ (j : Chain). record { y = y.value; exact = j.exact; registers = j.words }) apart
     ∙ ap (λ (j : Chain). let k = delta_chain q y.value v (no_words j.exact) in record { y = y.value; exact = k.exact; registers = j.words ++ k.words }) g
     ∙ ap (λ (z : Sum). let j = delta_chain q x u (no_words z.exact) in let k = delta_chain q z.value v (no_words j.exact) in
-        record { y = z.value; exact = k.exact; registers = j.words ++ k.words }) e
+    record { y = z.value; exact = k.exact; registers = j.words ++ k.words }) e
     ∙ ap (λ s. with_both s v) a ∙ ap (with_both (take (order q) r)) b
 
 pub ddfii_sample : (q : FixedPoint) (r : List ℤ) (x : ℤ) (w y : Sum) (c : Chain) → w ≡ line q.format [] (Alone x ∷ feedback_terms q (ago r) 0)
@@ -109,7 +109,7 @@ ddfii_sample q r x w y c e g h =
     ap (λ (d : Chain). record { y = y.value; exact = d.exact; registers = d.words }) h
     ∙ ap (λ (t : Sum). let d = delta_chain q w.value r (no_words t.exact) in record { y = t.value; exact = d.exact; registers = d.words }) g
     ∙ ap (λ (t : Sum). let z = line q.format t.exact (forward_terms q (ago (t.value ∷ r))) in let d = delta_chain q t.value r (no_words z.exact) in
-        record { y = z.value; exact = d.exact; registers = d.words }) e
+    record { y = z.value; exact = d.exact; registers = d.words }) e
 
 pub tddfii_sample : (q : FixedPoint) (r : List ℤ) (x : ℤ) (y : Sum) (c : Chain) → y ≡ line q.format [] (transposed_output q x r)
     → c ≡ transposed_delta_chain q x y.value (drop 1 q.b) (feedback q) r (no_words y.exact)

@@ -20,8 +20,13 @@ pub record Equations (P : Type 0) : Type 0 where
 -- the written equations of a controller in words
 abbrev pub equations_of : FixedPoint → Equations Past
 equations_of q = record {
-  start = start_as q.kind (order q); sample = sample q; registers = registers_as q.kind (order q);
-  many = registers_of q.kind (order q); forward = forward_registers_of q.kind (order q); format = q.format }
+  start = start_as q.kind (order q);
+  sample = sample q;
+  registers = registers_as q.kind (order q);
+  many = registers_of q.kind (order q);
+  forward = forward_registers_of q.kind (order q);
+  format = q.format;
+}
 
 -- the rows of a run from these words in the registers, over these inputs
 abbrev pub rows : {P : Type 0} → Equations P → List ℤ → List ℤ → List SampleRow

@@ -1,5 +1,6 @@
 // The operations of a written equation, each of which adds its exact value to those of the sample.
 #![tactic(auto, using(crate::proofs::Casts::casts))]
+
 ghost use Rattle.std.specs.Prelude.{◌≡◌, ◌+◌, ◌*◌, ◌^◌, ◌<◌, ◌≤◌, false, length, ◌∷◌, ◌+ℤ◌, ◌-ℤ◌, ◌*ℤ◌};
 ghost use Rattle.std.specs.Int.RustNames.{unsigned_abs};
 ghost use Rattle.std.specs.List.{All};

@@ -8,7 +8,9 @@ ghost use Rattle.dsv_meaning.specs.Equations.{ago, order, forward_terms, feedbac
 ghost use Rattle.dsv_meaning.specs.Stepping.{stepped};
 ghost use Rattle.dsv_meaning.specs.declared.operations.TheConstants.{MOST_EXACT};
 
-use crate::chains::{Registers, delay, delta_chain, feedback, transposed_chain, transposed_delta_chain};
+use crate::chains::{
+    Registers, delay, delta_chain, feedback, transposed_chain, transposed_delta_chain,
+};
 use crate::operations::{ExactList, MOST_EXACT, forward, next_products, plus_first, product};
 use dsv_quantiser::{Kind, Quantised};
 

@@ -74,7 +74,11 @@ implementation r = { .int_bits = 2, .frac_bits = 2, .max = 1.0, .min = -1.0 };";
 #[test]
 fn roundings(rt: HostRuntime) -> Result<(), Fail> {
     let alloc = rt.alloc();
-    for (rounding, y) in [(Rounding::Floor, -1), (Rounding::Ceil, 0), (Rounding::Nearest, 0)] {
+    for (rounding, y) in [
+        (Rounding::Floor, -1),
+        (Rounding::Ceil, 0),
+        (Rounding::Nearest, 0),
+    ] {
         let format = Format::new(2, 2, rounding, Overflow::Wrap)?;
         let rows = simulated(alloc, HALF, format, Kind::Dfi, &[], &[-1])?;
         assert_row(&rt, &rows, 0, y, &[y.into()]);
@@ -83,7 +87,8 @@ fn roundings(rt: HostRuntime) -> Result<(), Fail> {
 }
 
 /// (1 + 0.5 z^-1 - z^-2) / (1 + 0.5 z^-1 - 0.5 z^-2), whose words are 2, 1, -2 and 2, 1, -1.
-const SECOND: &str = "digital_system d = { .b = {1.0, 0.5, -1.0}, .b_size = 3, .a = {1.0, 0.5, -0.5}, .a_size = 3 };
+const SECOND: &str =
+    "digital_system d = { .b = {1.0, 0.5, -1.0}, .b_size = 3, .a = {1.0, 0.5, -0.5}, .a_size = 3 };
 implementation r = { .int_bits = 4, .frac_bits = 1, .max = 1.0, .min = -1.0 };";
 
 #[test]
@@ -107,7 +112,8 @@ fn direct_forms(rt: HostRuntime) -> Result<(), Fail> {
 }
 
 /// z^-1 / (1 - 0.5 z^-1) with delta 0.5, whose words are 0, 32 and 16, 16, and 8 of delta.
-const DELTA: &str = "digital_system d = { .b = {0.0, 1.0}, .b_size = 2, .a = {1.0, -0.5}, .a_size = 2 };
+const DELTA: &str =
+    "digital_system d = { .b = {0.0, 1.0}, .b_size = 2, .a = {1.0, -0.5}, .a_size = 2 };
 implementation r = { .int_bits = 3, .frac_bits = 4, .max = 1.0, .min = -1.0, .delta = 0.5 };";
 
 #[test]

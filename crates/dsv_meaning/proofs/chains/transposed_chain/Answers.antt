@@ -1,4 +1,4 @@
-use Rattle.std.proofs.Common.{◌≡◌, ◌∙◌, rules, refl, arith, get_or, slice_index_or, pos}
+use Rattle.std.proofs.Common.{◌∙◌, rules, refl, arith, slice_index_or, pos}
 use Rattle.std.proofs.lemmas.Int.{to_z-of_z}
 use mir.Syntax.{w64}
 use mir.Val.{SFits}

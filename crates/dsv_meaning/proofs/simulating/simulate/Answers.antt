@@ -1,4 +1,4 @@
-use Rattle.std.proofs.Common.{◌≡◌, ◌∙◌, rules, refl, arith, slice_index_or, pos}
+use Rattle.std.proofs.Common.{◌∙◌, refl, arith, slice_index_or, pos}
 use Rattle.dsv_meaning.proofs.RunLemmas.{run_more}
 use Rattle.dsv_meaning.proofs.simulating.simulate.Goals as goal
 

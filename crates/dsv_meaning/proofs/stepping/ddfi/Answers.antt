@@ -1,8 +1,7 @@
-use Rattle.std.proofs.Common.{◌≡◌, ◌∙◌, rules, refl, arith, ap, sym}
+use Rattle.std.proofs.Common.{◌≡◌, rules, arith}
 use Rattle.std.proofs.lemmas.Int.{to_z-of_z}
 use mir.Syntax.{w64}
 use mir.Val.{SFits}
-use Rattle.std.proofs.Common.{length}
 use Rattle.dsv_meaning.specs.Equations.{order}
 use Rattle.dsv_meaning.proofs.StepLemmas.{ddfi_sample}
 use Rattle.dsv_meaning.proofs.stepping.ddfi.Goals as goal
