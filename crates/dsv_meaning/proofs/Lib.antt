@@ -1,1 +1,7 @@
+pub mod Casts
+pub mod ChainLemmas
+pub mod LineLemmas
+pub mod RunLemmas
+pub mod Sizes
+pub mod StepLemmas
 pub mod WorkedRows

@@ -1,5 +1,5 @@
 -- The written equations of the six realisations. N is the order, x(n) the input, y(n) the output.
-use Rattle.std.specs.Prelude.{ℕ, zero, suc, ◌+◌, ◌-◌, ◌*◌, Bool, true, false, List, [], ◌∷◌, ◌++◌, length, take, drop, ℤ, pos, slice_index_or}
+use Rattle.std.specs.Prelude.{ℕ, ◌+◌, ◌-◌, ◌*◌, true, false, List, [], ◌∷◌, ◌++◌, length, take, drop, ℤ, pos, slice_index_or}
 use Rattle.dsv_quantiser.specs.declared.kind.Kind.{Kind}
 use Rattle.dsv_quantiser.specs.declared.kind.Kind.TheVariants.{Dfi, Dfii, Tdfii, Ddfi, Ddfii, Tddfii}
 use Rattle.dsv_quantiser.specs.FixedPoint.{FixedPoint}

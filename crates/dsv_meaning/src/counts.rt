@@ -1,6 +1,6 @@
 // How many registers and operations a realisation has.
 ghost use Rattle.std.specs.Prelude.{◌≡◌, ◌≤◌};
-ghost use Rattle.dsv_meaning.specs.Equations.{registers_of, products_of, sums_of};
+ghost use Rattle.dsv_meaning.specs.Equations.{registers_of, forward_registers_of, products_of, sums_of};
 
 use dsv_quantiser::Kind;
 
@@ -12,6 +12,17 @@ pub fn registers(kind: Kind, order: u32) -> u32
     match kind {
         Kind::Dfi | Kind::Ddfi => 2 * order,
         Kind::Dfii | Kind::Tdfii | Kind::Ddfii | Kind::Tddfii => order,
+    }
+}
+
+/// How many of the registers are feed-forward, which are the first ones.
+pub fn forward_registers(kind: Kind, order: u32) -> u32
+    requires { order ≤ 8 }
+    ensures { result ≡ forward_registers_of kind order }
+{
+    match kind {
+        Kind::Dfi | Kind::Ddfi => order,
+        Kind::Dfii | Kind::Tdfii | Kind::Ddfii | Kind::Tddfii => 0,
     }
 }
 

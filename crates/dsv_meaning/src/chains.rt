@@ -1,0 +1,172 @@
+// The new words of registers.
+#![tactic(auto, using(crate::proofs::Casts::casts))]
+
+ghost use Rattle.std.specs.Prelude.{◌≡◌, ◌+◌, ◌*◌, ◌<◌, ◌≤◌, length, drop};
+ghost use Rattle.std.specs.List.{All};
+ghost use Rattle.dsv_quantiser.specs.FixedPoint.{IsWord};
+ghost use Rattle.dsv_meaning.specs.Lines.{line};
+ghost use Rattle.dsv_meaning.specs.Equations.{order, feedback, transposed_line, delta_chain, transposed_chain, transposed_delta_chain};
+ghost use Rattle.dsv_meaning.specs.Stepping.{delayed};
+ghost use Rattle.dsv_meaning.specs.declared.chains.TheConstants.{MOST_REGISTERS};
+ghost use Rattle.dsv_meaning.specs.declared.operations.TheConstants.{MOST_EXACT};
+
+use crate::operations::{ExactList, MOST_EXACT, next_product, plus_first, product};
+use arrayvec::ArrayVec;
+use dsv_quantiser::Quantised;
+use dsv_word::Format;
+
+/// The most registers that a realisation has.
+pub(crate) const MOST_REGISTERS: usize = 16;
+
+/// The words in the registers.
+pub(crate) type Registers = ArrayVec<i64, MOST_REGISTERS>;
+
+/// The words behind the first so many.
+pub(crate) fn behind(words: &[i64], count: usize) -> &[i64]
+    requires { count ≤ length words.now }
+    ensures { result.now ≡ drop count words.now }
+{
+    words.split_at(count).1
+}
+
+/// The coefficients a_1, a_2, .. of the controller.
+pub(crate) fn feedback(q: &Quantised) -> &[i64]
+    ensures same { result.now ≡ feedback q.now }
+    ensures many { length result.now ≡ order q.now }
+    ensures words { All (IsWord q.now.format) result.now }
+{
+    behind(q.a(), 1)
+}
+
+/// The coefficients b_1, b_2, .. of the controller.
+pub(crate) fn feed_forward(q: &Quantised) -> &[i64]
+    ensures same { result.now ≡ drop 1 q.now.b }
+    ensures many { length result.now ≡ order q.now }
+    ensures words { All (IsWord q.now.format) result.now }
+{
+    behind(q.b(), 1)
+}
+
+/// Delta's word.
+fn delta_word(q: &Quantised) -> i64
+    ensures same { result ≡ q.now.delta }
+    ensures word { IsWord q.now.format result }
+{
+    q.delta()
+}
+
+/// Adds the new words of a delay line: the newest word, and the old ones but for the oldest.
+pub(crate) fn delay(newest: &i64, old: &[i64], registers: &mut Registers)
+    requires { length registers.old.items + length old.now ≤ MOST_REGISTERS }
+    ensures value { registers.new.items ≡ delayed registers.old.items newest.now old.now }
+    ensures count { length registers.new.items ≡ length registers.old.items + length old.now }
+{
+    let mut before = *newest;
+    for word in old {
+        registers.push(before);
+        before = *word;
+    }
+}
+
+/// Adds the new words of a chain of the delta forms: to each old word delta times the old one before it.
+pub(crate) fn delta_chain(
+    q: &Quantised,
+    newest: &i64,
+    old: &[i64],
+    exact: &mut ExactList,
+    registers: &mut Registers,
+)
+    requires room { length exact.old.items + 2 * length old.now ≤ MOST_EXACT }
+    requires many { length registers.old.items + length old.now ≤ MOST_REGISTERS }
+    ensures value { record { words = registers.new.items; exact = exact.new.items } ≡
+        delta_chain q.now newest.now old.now (record { words = registers.old.items; exact = exact.old.items }) }
+    ensures count { length registers.new.items ≡ length registers.old.items + length old.now }
+    ensures room { length exact.new.items ≡ length exact.old.items + 2 * length old.now }
+{
+    let format = q.format();
+    let delta = delta_word(q);
+    let mut before = newest;
+    for word in old {
+        let next = next_product(&format, false, word, &delta, before, exact);
+        registers.push(next);
+        before = word;
+    }
+}
+
+/// The line b x - a y + w, where w is the first of the words, if there is one.
+fn transposed_line(
+    format: &Format,
+    b: &i64,
+    a: &i64,
+    x: &i64,
+    y: &i64,
+    words: &[i64],
+    exact: &mut ExactList,
+) -> i64
+    requires b { IsWord format.now b.now }
+    requires a { IsWord format.now a.now }
+    requires room { length exact.old.items + 4 ≤ MOST_EXACT }
+    ensures value { record { value = result; exact = exact.new.items } ≡
+        line format.now exact.old.items (transposed_line b.now a.now x.now y.now words.now) }
+    ensures count { length exact.new.items ≤ length exact.old.items + 4 }
+{
+    let sum = product(format, b, x, exact);
+    let sum = next_product(format, true, &sum, a, y, exact);
+    plus_first(format, &sum, words, exact)
+}
+
+/// Adds the new words of the transposed form's chain.
+pub(crate) fn transposed_chain(
+    q: &Quantised,
+    x: &i64,
+    y: &i64,
+    old: &[i64],
+    exact: &mut ExactList,
+    registers: &mut Registers,
+)
+    requires old { length old.now ≡ order q.now }
+    requires room { length exact.old.items + 4 * order q.now ≤ MOST_EXACT }
+    requires many { length registers.old.items + order q.now ≤ MOST_REGISTERS }
+    ensures value { record { words = registers.new.items; exact = exact.new.items } ≡
+        transposed_chain q.now x.now y.now (drop 1 q.now.b) (feedback q.now) old.now
+        (record { words = registers.old.items; exact = exact.old.items }) }
+    ensures count { length registers.new.items ≡ length registers.old.items + order q.now }
+    ensures room { length exact.new.items ≤ length exact.old.items + 4 * order q.now }
+{
+    let format = q.format();
+    let a = feedback(q);
+    let b = feed_forward(q);
+    for (i, coeff) in b.iter().enumerate() {
+        let next = transposed_line(&format, coeff, &a[i], x, y, behind(old, i + 1), exact);
+        registers.push(next);
+    }
+}
+
+/// Adds the new words of the transposed delta form's chain.
+pub(crate) fn transposed_delta_chain(
+    q: &Quantised,
+    x: &i64,
+    y: &i64,
+    old: &[i64],
+    exact: &mut ExactList,
+    registers: &mut Registers,
+)
+    requires old { length old.now ≡ order q.now }
+    requires room { length exact.old.items + 6 * order q.now ≤ MOST_EXACT }
+    requires many { length registers.old.items + order q.now ≤ MOST_REGISTERS }
+    ensures value { record { words = registers.new.items; exact = exact.new.items } ≡
+        transposed_delta_chain q.now x.now y.now (drop 1 q.now.b) (feedback q.now) old.now
+        (record { words = registers.old.items; exact = exact.old.items }) }
+    ensures count { length registers.new.items ≡ length registers.old.items + order q.now }
+    ensures room { length exact.new.items ≤ length exact.old.items + 6 * order q.now }
+{
+    let format = q.format();
+    let delta = delta_word(q);
+    let a = feedback(q);
+    let b = feed_forward(q);
+    for (i, coeff) in b.iter().enumerate() {
+        let change = transposed_line(&format, coeff, &a[i], x, y, behind(old, i + 1), exact);
+        let next = next_product(&format, false, &old[i], &delta, &change, exact);
+        registers.push(next);
+    }
+}

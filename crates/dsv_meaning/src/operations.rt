@@ -1,0 +1,150 @@
+// The operations of a written equation, each of which adds its exact value to those of the sample.
+#![tactic(auto, using(crate::proofs::Casts::casts))]
+
+ghost use Rattle.std.specs.Prelude.{◌≡◌, ◌+◌, ◌*◌, ◌^◌, ◌<◌, ◌≤◌, false, length, ◌∷◌, ◌+ℤ◌, ◌-ℤ◌, ◌*ℤ◌};
+ghost use Rattle.std.specs.Int.RustNames.{unsigned_abs};
+ghost use Rattle.std.specs.List.{All};
+ghost use Rattle.dsv_quantiser.specs.FixedPoint.{IsWord};
+ghost use Rattle.dsv_meaning.specs.Lines.{Times, terms, fitted, product, next_term, next_terms, line};
+ghost use Rattle.dsv_meaning.specs.Equations.{ago, first_alone};
+ghost use Rattle.dsv_meaning.specs.declared.operations.TheConstants.{MOST_EXACT};
+
+use arrayvec::ArrayVec;
+use dsv_word::Format;
+
+/// The most exact values that a list of them takes in.
+pub const MOST_EXACT: usize = 160;
+
+/// The exact values of one sample, in the order of the operations.
+pub type ExactList = ArrayVec<i128, MOST_EXACT>;
+
+/// The word that the exact value of an operation becomes.
+fn fitted(format: &Format, value: &i128, exact: &mut ExactList) -> i64
+    requires { length exact.old.items < MOST_EXACT }
+    ensures value { record { value = result; exact = exact.new.items } ≡ fitted format.now exact.old.items value.now }
+    ensures count { length exact.new.items ≡ length exact.old.items + 1 }
+{
+    exact.push(*value);
+    format.fit(*value)
+}
+
+/// A coefficient times a word, before it is rounded.
+fn times(coeff: &i64, word: &i64) -> i128
+    ensures value { result ≡ coeff.now *ℤ word.now }
+    ensures word { unsigned_abs word.now ≤ 2 ^ 63 }
+{
+    let coeff: i128 = (*coeff).into();
+    let word: i128 = (*word).into();
+    coeff * word
+}
+
+/// A coefficient times a word.
+pub(crate) fn product(format: &Format, coeff: &i64, word: &i64, exact: &mut ExactList) -> i64
+    requires coeff { IsWord format.now coeff.now }
+    requires room { length exact.old.items < MOST_EXACT }
+    ensures value { record { value = result; exact = exact.new.items } ≡ product format.now exact.old.items coeff.now word.now }
+    ensures count { length exact.new.items ≡ length exact.old.items + 1 }
+{
+    let value = format.round_shift(times(coeff, word));
+    fitted(format, &value, exact)
+}
+
+/// A word added to a line.
+fn plus(format: &Format, sum: &i64, word: &i64, exact: &mut ExactList) -> i64
+    requires { length exact.old.items < MOST_EXACT }
+    ensures value { record { value = result; exact = exact.new.items } ≡ fitted format.now exact.old.items (sum.now +ℤ word.now) }
+    ensures count { length exact.new.items ≡ length exact.old.items + 1 }
+{
+    let value = i128::from(*sum) + i128::from(*word);
+    fitted(format, &value, exact)
+}
+
+/// A word taken away from a line.
+fn minus(format: &Format, sum: &i64, word: &i64, exact: &mut ExactList) -> i64
+    requires { length exact.old.items < MOST_EXACT }
+    ensures value { record { value = result; exact = exact.new.items } ≡ fitted format.now exact.old.items (sum.now -ℤ word.now) }
+    ensures count { length exact.new.items ≡ length exact.old.items + 1 }
+{
+    let value = i128::from(*sum) - i128::from(*word);
+    fitted(format, &value, exact)
+}
+
+/// A product more in a line.
+pub(crate) fn next_product(
+    format: &Format,
+    away: bool,
+    sum: &i64,
+    coeff: &i64,
+    word: &i64,
+    exact: &mut ExactList,
+) -> i64
+    requires coeff { IsWord format.now coeff.now }
+    requires room { length exact.old.items + 2 ≤ MOST_EXACT }
+    ensures value { record { value = result; exact = exact.new.items } ≡
+        next_term format.now (record { value = sum.now; exact = exact.old.items }) (Times away coeff.now word.now) }
+    ensures count { length exact.new.items ≡ length exact.old.items + 2 }
+{
+    let term = product(format, coeff, word, exact);
+    if away {
+        minus(format, sum, &term, exact)
+    } else {
+        plus(format, sum, &term, exact)
+    }
+}
+
+/// Products of coefficients and words more in a line, one after another.
+pub(crate) fn next_products(
+    format: &Format,
+    away: bool,
+    sum: &i64,
+    coeffs: &[i64],
+    words: &[i64],
+    exact: &mut ExactList,
+) -> i64
+    requires coeffs { All (IsWord format.now) coeffs.now }
+    requires words { length coeffs.now ≤ length words.now }
+    requires room { length exact.old.items + 2 * length coeffs.now ≤ MOST_EXACT }
+    ensures value { record { value = result; exact = exact.new.items } ≡
+        next_terms format.now (record { value = sum.now; exact = exact.old.items }) (terms away coeffs.now (ago words.now) 0) }
+    ensures count { length exact.new.items ≡ length exact.old.items + 2 * length coeffs.now }
+{
+    let mut value = *sum;
+    for (i, coeff) in coeffs.iter().enumerate() {
+        value = next_product(format, away, &value, coeff, &words[i], exact);
+    }
+    value
+}
+
+/// The first of these words, if there is one, added to a line.
+pub(crate) fn plus_first(format: &Format, sum: &i64, words: &[i64], exact: &mut ExactList) -> i64
+    requires { length exact.old.items < MOST_EXACT }
+    ensures value { record { value = result; exact = exact.new.items } ≡
+        next_terms format.now (record { value = sum.now; exact = exact.old.items }) (first_alone words.now) }
+    ensures count { length exact.new.items ≤ length exact.old.items + 1 }
+{
+    match words.first() {
+        Some(word) => plus(format, sum, word, exact),
+        None => *sum,
+    }
+}
+
+/// A line of the products of coefficients and words, of which the newest stands alone.
+pub(crate) fn forward(
+    format: &Format,
+    coeffs: &[i64],
+    newest: &i64,
+    older: &[i64],
+    exact: &mut ExactList,
+) -> i64
+    requires coeffs { All (IsWord format.now) coeffs.now }
+    requires some { 1 ≤ length coeffs.now }
+    requires words { length coeffs.now ≤ length older.now + 1 }
+    requires room { length exact.old.items + 2 * length coeffs.now ≤ MOST_EXACT }
+    ensures value { record { value = result; exact = exact.new.items } ≡
+        line format.now exact.old.items (terms false coeffs.now (ago (newest.now ∷ older.now)) 0) }
+    ensures count { length exact.new.items + 1 ≡ length exact.old.items + 2 * length coeffs.now }
+{
+    let (first, rest) = coeffs.split_at(1);
+    let sum = product(format, &first[0], newest, exact);
+    next_products(format, false, &sum, rest, older, exact)
+}

@@ -1,0 +1,69 @@
+// The rows of runs.
+ghost use Rattle.std.specs.Prelude.{◌≡◌, ◌↔◌, [], length, map, IsTrue};
+ghost use Rattle.dsv_meaning.specs.RowViews.{row_of};
+
+use crate::operations::ExactList;
+use std::marker::Model;
+
+/// A sample: its input and its output, which are words, and its exact values in the order of the operations.
+#[derive(Debug, Drop)]
+pub struct Row {
+    pub x: i64,
+    pub y: i64,
+    pub exact: ExactList,
+}
+
+/// The rows of a run, one for each sample. It is made from a `Vec` and gives it back with no memory taken.
+#[derive(Debug, Drop)]
+pub struct Rows {
+    rows: Vec<Row>,
+}
+
+impl Model for Rows {
+    ghost use Rattle.std.specs.Prelude.{List, map};
+    ghost use Rattle.dsv_meaning.specs.Runs.{SampleRow};
+    ghost use Rattle.dsv_meaning.specs.RowViews.{row_of};
+
+    ghost Value = { List SampleRow };
+
+    ghost view = { λ r. map row_of r.rows.items };
+}
+
+impl From<Vec<Row>> for Rows {
+    ghost use Rattle.std.specs.Prelude.{◌≡◌, map};
+    ghost use Rattle.dsv_meaning.specs.RowViews.{row_of};
+
+    ghost from_gives = { λ v rows. rows ≡ map row_of v.items };
+
+    fn from(rows: Vec<Row>) -> Self {
+        Rows { rows }
+    }
+}
+
+impl Rows {
+    /// How many samples there are.
+    pub fn len(&self) -> usize
+        ensures { result ≡ length self.now }
+    {
+        self.rows.len()
+    }
+
+    pub fn is_empty(&self) -> bool
+        ensures { IsTrue result ↔ (self.now ≡ []) }
+    {
+        self.rows.is_empty()
+    }
+
+    pub fn as_slice(&self) -> &[Row]
+        ensures { map row_of result.now ≡ self.now }
+    {
+        self.rows.as_slice()
+    }
+
+    /// The `Vec` that holds the rows.
+    pub fn into_vec(self) -> Vec<Row>
+        ensures { map row_of result.items ≡ self }
+    {
+        self.rows
+    }
+}

@@ -1,0 +1,70 @@
+// Runs of a controller in words over inputs.
+#![tactic(auto, using(crate::proofs::Casts::casts))]
+
+ghost use Rattle.std.specs.Prelude.{◌≡◌, ◌+◌, length, IfOk};
+ghost use Rattle.std.specs.List.{All};
+ghost use Rattle.dsv_quantiser.specs.FixedPoint.{IsWord};
+ghost use Rattle.dsv_meaning.specs.Equations.{order, registers_of};
+ghost use Rattle.dsv_meaning.specs.RowViews.{row_of};
+ghost use Rattle.dsv_meaning.specs.Stepping.{stepped};
+ghost use Rattle.dsv_meaning.specs.Systems.{equations_of, rows};
+
+use crate::chains::Registers;
+use crate::operations::ExactList;
+use crate::rows::{Row, Rows};
+use crate::stepping::step;
+use dsv_base::NoMemory;
+use dsv_quantiser::Quantised;
+use std::alloc::Global;
+
+/// The registers with these words.
+fn loaded(q: &Quantised, start: &[i64]) -> Registers
+    requires { length start.now ≡ registers_of q.now.kind (order q.now) }
+    ensures words { result.items ≡ start.now }
+    ensures numerator { length q.now.b ≡ order q.now + 1 }
+{
+    let _order = q.order();
+    let mut registers = Registers::new();
+    for word in start {
+        registers.push(*word);
+    }
+    registers
+}
+
+/// The row of one sample, after which the registers have their new words.
+fn next_row(q: &Quantised, x: &i64, registers: &mut Registers) -> Row
+    requires { length registers.old.items ≡ registers_of q.now.kind (order q.now) }
+    ensures row { let s = stepped q.now.kind q.now registers.old.items x.now in
+        row_of result ≡ record { x = x.now; y = s.y; exact = s.exact } }
+    ensures registers { registers.new.items ≡ (stepped q.now.kind q.now registers.old.items x.now).registers }
+    ensures many { length registers.new.items ≡ length registers.old.items }
+{
+    let mut exact = ExactList::new();
+    let y = step(q, x, registers, &mut exact);
+    Row { x: *x, y, exact }
+}
+
+/// The rows of a run from these words in the registers over these inputs: each row is what the realisation's written
+/// equations give at its sample. Takes memory for the rows alone.
+pub fn simulate(
+    alloc: Global,
+    q: &Quantised,
+    start: &[i64],
+    inputs: &[i64],
+) -> Result<Rows, NoMemory>
+    requires many { length start.now ≡ registers_of q.now.kind (order q.now) }
+    requires start { All (IsWord q.now.format) start.now }
+    requires inputs { All (IsWord q.now.format) inputs.now }
+    ensures { IfOk result (λ found. found ≡ rows (equations_of q.now) start.now inputs.now) }
+{
+    let mut registers = loaded(q, start);
+    let mut rows = Vec::new(alloc);
+    for x in inputs {
+        let row = next_row(q, x, &mut registers);
+        rows.push(row)?;
+    }
+    Ok(Rows::from(rows))
+}
+
+#[cfg(test)]
+mod tests;
