@@ -1,0 +1,11 @@
+pub mod Chains
+pub mod DeltaChains
+pub mod DeltaSteps
+pub mod FirstForm
+pub mod Follow
+pub mod LineNodes
+pub mod Runs
+pub mod Samples
+pub mod SecondForm
+pub mod Sources
+pub mod Steps

@@ -1,0 +1,4 @@
+//! The netlists of controllers in words.
+#![tactic(auto)]
+
+mod parts;
