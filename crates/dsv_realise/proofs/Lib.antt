@@ -1,8 +1,11 @@
 pub mod Chains
+pub mod Conditions
 pub mod DeltaChains
 pub mod DeltaSteps
 pub mod FirstForm
 pub mod Follow
+pub mod Growing
+pub mod GrowingLines
 pub mod LineNodes
 pub mod Runs
 pub mod Samples
