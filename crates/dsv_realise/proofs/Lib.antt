@@ -7,8 +7,11 @@ pub mod Follow
 pub mod Growing
 pub mod GrowingLines
 pub mod LineNodes
+pub mod Numbers
 pub mod Runs
 pub mod Samples
 pub mod SecondForm
 pub mod Sources
+pub mod Steadily
 pub mod Steps
+pub mod Whole

@@ -1,4 +1,10 @@
 //! The netlists of controllers in words.
 #![tactic(auto)]
 
+mod building;
+mod forms;
+mod kinds;
 mod parts;
+mod realising;
+
+pub use realising::realise;
