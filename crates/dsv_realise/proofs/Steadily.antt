@@ -1,14 +1,15 @@
 -- Lines and chains made piece after piece.
-use Rattle.std.proofs.Common.{◌≡◌, ℕ, zero, suc, ◌+◌, ◌-◌, ◌*◌, ◌<◌, ◌≤◌, true, false, List, [], ◌∷◌, ◌++◌, length, get_or, take, drop, refl, sym, ap, ◌∙◌, arith}
+use Rattle.std.proofs.Common.{◌≡◌, ℕ, zero, suc, ◌+◌, ◌-◌, ◌*◌, ◌<◌, ◌≤◌, true, false, List, [], ◌∷◌, ◌++◌, length, get_or, take, drop, refl, sym, ap, ◌∙◌, arith, append_assoc}
 use Rattle.std.specs.Prelude.{Option, Some, None}
 use Rattle.std.proofs.Math.IntN.{ℤ, pos}
-use Rattle.std.proofs.lemmas.List.{drop_more, drop_all}
+use Rattle.std.proofs.lemmas.List.{append-nil, drop_more, drop_all}
 use Rattle.dsv_netlist.specs.declared.node.Node.{Node}
+use Rattle.dsv_quantiser.specs.declared.kind.Kind.TheVariants.{Ddfi}
 use Rattle.dsv_quantiser.specs.FixedPoint.{FixedPoint}
 use Rattle.dsv_meaning.specs.Lines.{Term, Times, Alone, terms}
 use Rattle.dsv_meaning.specs.Equations.{order, feedback, first_alone, transposed_line, forward_terms, feedback_terms}
-use Rattle.dsv_realise.specs.Making.{Made, with_product, with_sum, with_first, with_next, with_terms, with_line, Chained, with_place, with_transposed}
-use Rattle.dsv_realise.specs.Netlists.{sources, count, newest_at, first_form, transposed_form}
+use Rattle.dsv_realise.specs.Making.{Made, with_product, with_sum, with_first, with_next, with_terms, with_line, Chained, no_places, with_place, with_transposed, with_delta, with_transposed_delta}
+use Rattle.dsv_realise.specs.Netlists.{sources, count, newest_at, first_form, transposed_form, delta_inputs, delta_outputs, net_with, net_as}
 use Rattle.dsv_realise.specs.Parts.{behind_of}
 use Rattle.dsv_realise.proofs.LineNodes.{same_terms, length-terms}
 
@@ -112,3 +113,63 @@ pub transposed_end : (y i : ℕ) (b a : List ℤ) (c all : Chained) → length a
 transposed_end y i b a c all h l e =
     let d : drop i b ≡ [] = drop_all i b (omega arith) in
     ap (λ (bs : List ℤ). with_transposed 0 y bs (drop i a) (count i (length a - i)) c) (sym d) ∙ e
+
+-- one new word of a delta chain more
+pub delta_more : (q : FixedPoint) (older node end : ℕ) (d : ℤ) (ns ms : List Node) (ps qs : List ℕ) (p : ℕ) (all : Chained) → node < end → d ≡ q.delta
+    → record { nodes = ms; place = p } ≡ with_next (record { nodes = ns; place = node }) (Times false d older) → qs ≡ ps ++ p ∷ []
+    → with_delta q older (count node (end - node)) (record { nodes = ns; places = ps }) ≡ all
+    → with_delta q node (count (node + 1) (end - (node + 1))) (record { nodes = ms; places = qs }) ≡ all
+delta_more q older node end d ns ms ps qs p all h ed m e before =
+    let rest = count (node + 1) (end - (node + 1)) in
+    let made = with_next (record { nodes = ns; place = node }) (Times false q.delta older) in
+    let step : with_delta q older (count node (end - node)) (record { nodes = ns; places = ps }) ≡ with_delta q node rest (with_place (record { nodes = ns; places = ps }) made) = rw (count_first node end h) refl in
+    let line : record { nodes = ms; place = p } ≡ made = m ∙ ap (λ (c : ℤ). with_next (record { nodes = ns; place = node }) (Times false c older)) ed in
+    let same : record { nodes = ms; places = qs } ≡ with_place (record { nodes = ns; places = ps }) made =
+        ap (λ (js : List ℕ). record { nodes = ms; places = js }) e ∙ ap (with_place (record { nodes = ns; places = ps })) line in
+    ap (with_delta q node rest) same ∙ sym step ∙ before
+
+pub delta_end : (q : FixedPoint) (older node end : ℕ) (c all : Chained) → end ≤ node → with_delta q older (count node (end - node)) c ≡ all → c ≡ all
+delta_end q older node end c all h e = let z : 0 ≡ end - node = omega arith in ap (λ (k : ℕ). with_delta q older (count node k) c) z ∙ e
+
+-- a chain behind another
+pub delta_behind : (q : FixedPoint) (before : ℕ) (ks : List ℕ) (ns : List Node) (ps qs : List ℕ)
+    → with_delta q before ks (record { nodes = ns; places = ps ++ qs }) ≡ record { nodes = (with_delta q before ks (record { nodes = ns; places = qs })).nodes; places = ps ++ (with_delta q before ks (record { nodes = ns; places = qs })).places }
+delta_behind q before [] ns ps qs = refl
+delta_behind q before (k ∷ ks) ns ps qs =
+    let m = with_next (record { nodes = ns; place = k }) (Times false q.delta before) in
+    ap (λ (js : List ℕ). with_delta q k ks (record { nodes = m.nodes; places = js })) (append_assoc ps qs (m.place ∷ [])) ∙ delta_behind q k ks m.nodes ps (qs ++ m.place ∷ [])
+
+pub delta_pair : (q : FixedPoint) (ns n1 n2 : List Node) (y n : ℕ) (p0 p1 p2 : List ℕ) → record { nodes = ns; place = y } ≡ first_form q → p0 ≡ [] → n ≡ order q
+    → record { nodes = n1; places = p1 } ≡ with_delta q 0 (count 1 (order q)) (record { nodes = ns; places = p0 })
+    → record { nodes = n2; places = p2 } ≡ with_delta q y (count (n + 1) (order q)) (record { nodes = n1; places = p1 })
+    → net_with q Ddfi n2 p2 y ≡ net_as Ddfi q
+delta_pair q ns n1 n2 y n p0 p1 p2 f z e one two =
+    let first : record { nodes = n1; places = p1 } ≡ delta_inputs q = one ∙ ap (λ (js : List ℕ). with_delta q 0 (count 1 (order q)) (record { nodes = ns; places = js })) z ∙ ap (λ (m : Made). with_delta q 0 (count 1 (order q)) (no_places m.nodes)) f in
+    let place : y ≡ (first_form q).place = ap (λ (m : Made). m.place) f in
+    let c = delta_inputs q in
+    let ks = count (order q + 1) (order q) in
+    let second : record { nodes = n2; places = p2 } ≡ record { nodes = (delta_outputs q).nodes; places = c.places ++ (delta_outputs q).places } =
+        two ∙ ap (λ (j : ℕ). with_delta q y (count (j + 1) (order q)) (record { nodes = n1; places = p1 })) e ∙ ap (λ (m : Chained). with_delta q y ks m) first ∙ ap (λ (j : ℕ). with_delta q j ks c) place
+        ∙ ap (λ (js : List ℕ). with_delta q (first_form q).place ks (record { nodes = c.nodes; places = js })) (sym (append-nil c.places)) ∙ delta_behind q (first_form q).place ks c.nodes c.places [] in
+    ap (λ (m : Chained). net_with q Ddfi m.nodes m.places y) second ∙ ap (net_with q Ddfi (delta_outputs q).nodes (c.places ++ (delta_outputs q).places)) place
+
+-- one new word of a transposed delta chain more
+pub transposed_delta_more : (q : FixedPoint) (y i : ℕ) (b a : List ℤ) (d : ℤ) (ns n1 ms : List Node) (ps qs ks : List ℕ) (t p : ℕ) (all : Chained) → i < length a → length b ≡ length a → d ≡ q.delta
+    → record { nodes = n1; place = t } ≡ with_line ns (transposed_line (get_or b i (pos 0)) (get_or a i (pos 0)) 0 y ks) → first_alone ks ≡ first_alone (count (i + 1) (length a - (i + 1)))
+    → record { nodes = ms; place = p } ≡ with_next (record { nodes = n1; place = i }) (Times false d t) → qs ≡ ps ++ p ∷ []
+    → with_transposed_delta q 0 y (drop i b) (drop i a) (count i (length a - i)) (record { nodes = ns; places = ps }) ≡ all
+    → with_transposed_delta q 0 y (drop (i + 1) b) (drop (i + 1) a) (count (i + 1) (length a - (i + 1))) (record { nodes = ms; places = qs }) ≡ all
+transposed_delta_more q y i b a d ns n1 ms ps qs ks t p all h l ed m alone u e before =
+    let bi = get_or b i (pos 0) in
+    let ai = get_or a i (pos 0) in
+    let rest = count (i + 1) (length a - (i + 1)) in
+    let made = with_line ns (transposed_line bi ai 0 y rest) in
+    let line : record { nodes = n1; place = t } ≡ made = m ∙ ap (λ (ts : List (Term ℕ)). with_line ns (Times false bi 0 ∷ Times true ai y ∷ ts)) alone in
+    let delta : record { nodes = ms; place = p } ≡ with_next (record { nodes = made.nodes; place = i }) (Times false q.delta made.place) =
+        u ∙ ap (λ (c : ℤ). with_next (record { nodes = n1; place = i }) (Times false c t)) ed ∙ ap (λ (k : Made). with_next (record { nodes = k.nodes; place = i }) (Times false q.delta k.place)) line in
+    let step : with_transposed_delta q 0 y (drop i b) (drop i a) (count i (length a - i)) (record { nodes = ns; places = ps })
+        ≡ with_transposed_delta q 0 y (drop (i + 1) b) (drop (i + 1) a) rest (with_place (record { nodes = ns; places = ps }) (with_next (record { nodes = made.nodes; place = i }) (Times false q.delta made.place))) =
+        rw (drop_more b i (pos 0) (omega arith), drop_more a i (pos 0) h, count_first i (length a) h) refl in
+    let same : record { nodes = ms; places = qs } ≡ with_place (record { nodes = ns; places = ps }) (with_next (record { nodes = made.nodes; place = i }) (Times false q.delta made.place)) =
+        ap (λ (js : List ℕ). record { nodes = ms; places = js }) e ∙ ap (with_place (record { nodes = ns; places = ps })) delta in
+    ap (with_transposed_delta q 0 y (drop (i + 1) b) (drop (i + 1) a) rest) same ∙ sym step ∙ before
