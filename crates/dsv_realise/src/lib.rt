@@ -8,3 +8,6 @@ mod parts;
 mod realising;
 
 pub use realising::realise;
+
+#[cfg(test)]
+mod tests;
