@@ -1,12 +1,12 @@
 -- Chains of lines, in nodes, and the first line of both transposed forms.
-use Rattle.std.proofs.Common.{◌≡◌, ℕ, suc, ◌+◌, ◌<◌, ◌≤◌, true, false, List, [], ◌∷◌, ◌++◌, length, take, drop, map, refl, sym, ap, subst, ◌∙◌, arith, length-append}
+use Rattle.std.proofs.Common.{◌≡◌, ℕ, suc, ◌+◌, ◌<◌, true, false, List, [], ◌∷◌, ◌++◌, length, take, drop, map, refl, ap, subst, ◌∙◌, arith, length-append}
 use Rattle.std.proofs.Math.IntN.{ℤ}
 use Rattle.std.proofs.lemmas.List.{map-append, map_push, length_push, length-take-le}
 use Rattle.dsv_word.specs.declared.format.Format.{Format}
 use Rattle.dsv_netlist.specs.Nodes.{at}
 use Rattle.dsv_quantiser.specs.FixedPoint.{FixedPoint}
-use Rattle.dsv_meaning.specs.Lines.{Term, Times, Alone, Sum, terms, line}
-use Rattle.dsv_meaning.specs.Equations.{order, ago, first_alone, transposed_line, transposed_output, Chain, chained, transposed_chain}
+use Rattle.dsv_meaning.specs.Lines.{Term, Times, Sum, terms, line}
+use Rattle.dsv_meaning.specs.Equations.{order, first_alone, transposed_line, transposed_output, Chain, chained, transposed_chain}
 use Rattle.dsv_realise.specs.Making.{Made, with_line, Chained, with_place, with_transposed}
 use Rattle.dsv_realise.specs.Netlists.{count, sources, transposed_form}
 use Rattle.dsv_realise.proofs.Samples.{IsAt, Gives, Keeps, keeps_both}
@@ -54,7 +54,7 @@ transposed_line_gives f rs x vs xid yid b a s m c g p q h =
     let l = g.keeps.longer in
     let made = line_gives f rs x m.nodes g.now c.exact (Times false b xid) (Times true a yid ∷ first_alone s) g.stands (omega arith, (omega arith, alone_over (length g.now) s (below_more (length vs) (length g.now) s l h))) in
     let e : map (in_words g.now) (transposed_line b a xid yid s) ≡ transposed_line b a (at vs xid) (at vs yid) (map (at vs) s) =
-        rw (alone_words g.now s, kept_words vs g.now s g.keeps h, g.keeps.old xid p, g.keeps.old yid q) refl in
+    rw (alone_words g.now s, kept_words vs g.now s g.keeps h, g.keeps.old xid p, g.keeps.old yid q) refl in
     subst (λ (w : List (Term ℤ)). Gives f rs x g.now (with_line m.nodes (transposed_line b a xid yid s)) (line f c.exact w)) e made
 
 pub transposed_gives : (q : FixedPoint) (rs : List ℤ) (x : ℤ) (vs : List ℤ) (xid yid : ℕ) (bs cs : List ℤ) (s : List ℕ) (m : Chained) (c : Chain)
@@ -97,7 +97,7 @@ output_gives q x s z l =
     let o : AreOver (length vs) ts = over_both (length vs) b1 (first_alone ks) (over_any_terms (length vs) false (take 1 q.b) zeroth 0 (λ i h. omega arith)) (alone_over (length vs) ks bk) in
     let made = some_line_gives f s x (sources n) vs [] ts some (sources_give f s x n l) o in
     let e : map (in_words vs) ts ≡ transposed_output q x s =
-        map-append (in_words vs) b1 (first_alone ks)
-        ∙ ap (λ (us : List (Term ℤ)). us ++ map (in_words vs) (first_alone ks)) (in_words-terms vs false (take 1 q.b) zeroth 0)
-        ∙ ap (λ (us : List (Term ℤ)). terms false (take 1 q.b) (λ (i : ℕ). x) 0 ++ us) (alone_words vs ks ∙ ap first_alone (register_words n x s l)) in
+    map-append (in_words vs) b1 (first_alone ks)
+    ∙ ap (λ (us : List (Term ℤ)). us ++ map (in_words vs) (first_alone ks)) (in_words-terms vs false (take 1 q.b) zeroth 0)
+    ∙ ap (λ (us : List (Term ℤ)). terms false (take 1 q.b) (λ (i : ℕ). x) 0 ++ us) (alone_words vs ks ∙ ap first_alone (register_words n x s l)) in
     subst (λ (w : List (Term ℤ)). Gives f s x vs (transposed_form q) (line f [] w)) e made

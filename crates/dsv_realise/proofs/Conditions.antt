@@ -1,8 +1,7 @@
 -- The netlist of every controller in words is one, with the counts of the table.
-use Rattle.std.proofs.Common.{◌≡◌, ℕ, zero, suc, ◌+◌, ◌-◌, ◌*◌, ◌^◌, ◌<◌, ◌≤◌, Bool, true, false, List, [], ◌∷◌, ◌++◌, length, get_or, take, drop, refl, sym, ap, subst, ◌∙◌, arith, length-append, length-drop}
-use Rattle.std.specs.Prelude.{count_by, slice_index, IsTrue, ◌≤ℤ◌}
+use Rattle.std.proofs.Common.{◌≡◌, ℕ, zero, suc, ◌+◌, ◌*◌, ◌<◌, ◌≤◌, Bool, true, false, List, [], ◌∷◌, ◌++◌, length, take, drop, refl, sym, ap, subst, ◌∙◌, arith, length-append, length-drop}
+use Rattle.std.specs.Prelude.{count_by, IsTrue, ◌≤ℤ◌}
 use Rattle.std.specs.List.{All}
-use Rattle.std.specs.Int.RustNames.{unsigned_abs}
 use Rattle.std.proofs.Math.IntN.{ℤ, pos}
 use Rattle.std.proofs.lemmas.Int.{ints}
 use Rattle.std.proofs.lemmas.List.{length-take-le}
@@ -22,15 +21,15 @@ use Rattle.dsv_netlist.proofs.Sizes.{word_size}
 use Rattle.dsv_quantiser.specs.declared.kind.Kind.{Kind}
 use Rattle.dsv_quantiser.specs.declared.kind.Kind.TheVariants.{Dfi, Dfii, Tdfii, Ddfi, Ddfii, Tddfii}
 use Rattle.dsv_quantiser.specs.FixedPoint.{FixedPoint, IsFixedPoint, IsWord, IsDeltaWord}
-use Rattle.dsv_meaning.specs.Lines.{Term, Alone, terms}
+use Rattle.dsv_meaning.specs.Lines.{Alone, terms}
 use Rattle.dsv_meaning.specs.Equations.{order, feedback, first_alone, forward_terms, feedback_terms, transposed_output, registers_of, forward_registers_of, products_of, sums_of}
-use Rattle.dsv_realise.specs.Making.{Made, Chained, no_places}
+use Rattle.dsv_realise.specs.Making.{no_places}
 use Rattle.dsv_realise.specs.Netlists.{registers_from, sources, count, shift, newest_at, first_form, second_form_state, second_form, transposed_form, transposed_nodes, delta_inputs, delta_outputs, delta_states, transposed_delta_nodes, net_with, net_as, net_of}
 use Rattle.dsv_realise.specs.Running.{counts_as}
 use Rattle.dsv_realise.proofs.Sources.{IsSized, sized}
 use Rattle.dsv_realise.proofs.LineNodes.{length-terms}
 use Rattle.dsv_realise.proofs.Growing.{AreSound, HasCounts, IsSmall, word_small, bounds-length, one_if, Grown}
-use Rattle.dsv_realise.proofs.GrowingLines.{AreFit, products_in, line_grows, terms_fit, fit_both, products_in-terms, products_in-append, products_in-alone, AllNamed, named_later, named_both, alone_fit, GrownChain, chain_begins, transposed_grows, delta_grows, transposed_delta_grows}
+use Rattle.dsv_realise.proofs.GrowingLines.{AreFit, line_grows, terms_fit, fit_both, products_in-terms, products_in-append, products_in-alone, AllNamed, named_later, named_both, alone_fit, chain_begins, transposed_grows, delta_grows, transposed_delta_grows}
 
 -- ---- the first nodes
 registers_named : (j n i : ℕ) → i < n → names_word (registers_from j n) i ≡ true
@@ -152,14 +151,14 @@ first_grown q s m e =
     let bs = forward_terms q (λ (i : ℕ). i) in
     let as_ = feedback_terms q (λ (i : ℕ). i) (n + 1) in
     let fit : AreFit ns (bs ++ as_) = fit_both ns bs as_
-        (terms_fit ns false q.b (λ (i : ℕ). i) 0 m.b (λ i l. sources_named (n + n) (0 + i) (omega (arith, m.size.forward))))
-        (terms_fit ns true (feedback q) (λ (i : ℕ). i) (n + 1) m.a (λ i l. sources_named (n + n) (n + 1 + i) (omega (arith, m.size.back)))) in
+    (terms_fit ns false q.b (λ (i : ℕ). i) 0 m.b (λ i l. sources_named (n + n) (0 + i) (omega (arith, m.size.forward))))
+    (terms_fit ns true (feedback q) (λ (i : ℕ). i) (n + 1) m.a (λ i l. sources_named (n + n) (n + 1 + i) (omega (arith, m.size.back)))) in
     let lb = length-terms false q.b (λ (i : ℕ). i) 0 in
     let la = length-terms true (feedback q) (λ (i : ℕ). i) (n + 1) in
     let l = length-append bs as_ in
     line_grows q.format (n + n) ns 0 0 (2 * n + 1) s (bs ++ as_) (sources_sound q.format (n + n)) (sources_count (n + n)) fit
-        (omega (arith, products_in-append bs as_, products_in-terms false q.b (λ (i : ℕ). i) 0, products_in-terms true (feedback q) (λ (i : ℕ). i) (n + 1), m.size.forward, m.size.back))
-        (omega (arith, m.size.forward, m.size.back)) (omega (arith, m.size.forward))
+    (omega (arith, products_in-append bs as_, products_in-terms false q.b (λ (i : ℕ). i) 0, products_in-terms true (feedback q) (λ (i : ℕ). i) (n + 1), m.size.forward, m.size.back))
+    (omega (arith, m.size.forward, m.size.back)) (omega (arith, m.size.forward))
 
 state_grown : (q : FixedPoint) → IsMild q → Grown q.format (order q) (sources (order q)) (second_form_state q) (order q) (order q)
 state_grown q m =
@@ -167,9 +166,9 @@ state_grown q m =
     let ns = sources n in
     let as_ = feedback_terms q (λ (i : ℕ). i) 1 in
     line_grows q.format n ns 0 0 n n (Alone 0 ∷ as_) (sources_sound q.format n) (sources_count n)
-        (sources_named n 0 (omega arith), terms_fit ns true (feedback q) (λ (i : ℕ). i) 1 m.a (λ i l. sources_named n (1 + i) (omega (arith, m.size.back))))
-        (omega (arith, products_in-terms true (feedback q) (λ (i : ℕ). i) 1, m.size.back))
-        (omega (arith, length-terms true (feedback q) (λ (i : ℕ). i) 1, m.size.back)) (omega arith)
+    (sources_named n 0 (omega arith), terms_fit ns true (feedback q) (λ (i : ℕ). i) 1 m.a (λ i l. sources_named n (1 + i) (omega (arith, m.size.back))))
+    (omega (arith, products_in-terms true (feedback q) (λ (i : ℕ). i) 1, m.size.back))
+    (omega (arith, length-terms true (feedback q) (λ (i : ℕ). i) 1, m.size.back)) (omega arith)
 
 newest_named : (ns : List Node) (p n i : ℕ) → names_word ns p ≡ true → ((j : ℕ) → j < n + 1 → names_word ns j ≡ true) → i < n + 1 → names_word ns (newest_at p i) ≡ true
 newest_named ns p n zero h g l = h
@@ -182,8 +181,8 @@ second_grown q s m e =
     let ns = (second_form_state q).nodes in
     let ids = newest_at (second_form_state q).place in
     line_grows q.format n ns n n (2 * n + 1) s (forward_terms q ids) g.sound g.counts
-        (terms_fit ns false q.b ids 0 m.b (λ i l. newest_named ns (second_form_state q).place n (0 + i) g.place (λ j k. g.keeps j (sources_named n j k)) (omega (arith, m.size.forward))))
-        (omega (arith, products_in-terms false q.b ids 0, m.size.forward)) (omega (arith, length-terms false q.b ids 0, m.size.forward)) (omega (arith, length-terms false q.b ids 0, m.size.forward))
+    (terms_fit ns false q.b ids 0 m.b (λ i l. newest_named ns (second_form_state q).place n (0 + i) g.place (λ j k. g.keeps j (sources_named n j k)) (omega (arith, m.size.forward))))
+    (omega (arith, products_in-terms false q.b ids 0, m.size.forward)) (omega (arith, length-terms false q.b ids 0, m.size.forward)) (omega (arith, length-terms false q.b ids 0, m.size.forward))
 
 output_grown : (q : FixedPoint) → IsMild q → Grown q.format (order q) (sources (order q)) (transposed_form q) 1 (length (first_alone (count 1 (order q))))
 output_grown q m =
@@ -196,8 +195,8 @@ output_grown q m =
     let l = length-append bs (first_alone ks) in
     let lb = length-terms false (take 1 q.b) zeroth 0 in
     line_grows q.format n ns 0 0 1 (length (first_alone ks)) (transposed_output q 0 ks) (sources_sound q.format n) (sources_count n)
-        (fit_both ns bs (first_alone ks) (terms_fit ns false (take 1 q.b) zeroth 0 (All-take IsSmall 1 q.b m.b) (λ i k. sources_named n 0 (omega arith))) (alone_fit ns ks (named_count n 1 n (omega arith))))
-        (omega (arith, products_in-append bs (first_alone ks), products_in-terms false (take 1 q.b) zeroth 0, products_in-alone ks)) (omega arith) (omega arith)
+    (fit_both ns bs (first_alone ks) (terms_fit ns false (take 1 q.b) zeroth 0 (All-take IsSmall 1 q.b m.b) (λ i k. sources_named n 0 (omega arith))) (alone_fit ns ks (named_count n 1 n (omega arith))))
+    (omega (arith, products_in-append bs (first_alone ks), products_in-terms false (take 1 q.b) zeroth 0, products_in-alone ks)) (omega arith) (omega arith)
 
 -- ---- all of it
 products_few : (k : Kind) (n : ℕ) → n ≤ 8 → products_of k n ≤ 33
@@ -264,7 +263,8 @@ realised_as Dfi q m =
     let y = first_form q in
     let named = λ (j : ℕ) (l : ℕ) (h : j + l ≤ n + n + 1). named_later (sources (n + n)) y.nodes (count j l) g.keeps (named_count (n + n) j l h) in
     realised Dfi q (n + n) y.nodes (shift 0 1 n ++ shift y.place (n + 1) n) y.place m.few (omega arith) (record {
-      sound = g.sound; counts = g.counts;
+      sound = g.sound;
+      counts = g.counts;
       next = named_both y.nodes (shift 0 1 n) (shift y.place (n + 1) n) (named_shift y.nodes 0 1 n (g.keeps 0 refl) (λ l h. named 1 l (omega arith))) (named_shift y.nodes y.place (n + 1) n g.place (λ l h. named (n + 1) l (omega arith)));
       many = omega (arith, length-append (shift 0 1 n) (shift y.place (n + 1) n), shift-length 0 1 n, shift-length y.place (n + 1) n);
       output = g.place;
@@ -276,7 +276,8 @@ realised_as Dfii q m =
     let wp = (second_form_state q).place in
     let y = second_form q in
     realised Dfii q n y.nodes (shift wp 1 n) y.place m.few refl (record {
-      sound = g.sound; counts = g.counts;
+      sound = g.sound;
+      counts = g.counts;
       next = named_shift y.nodes wp 1 n (g.keeps wp w.place) (λ l h. named_later (sources n) y.nodes (count 1 l) (λ k u. g.keeps k (w.keeps k u)) (named_count n 1 l (omega arith)));
       many = shift-length wp 1 n;
       output = g.place;
@@ -288,8 +289,8 @@ realised_as Tdfii q m =
     let ks = count 1 n in
     let start = chain_begins q.format n y.nodes 1 (length (first_alone ks)) g.sound g.counts in
     let c = transposed_grows q.format n y.nodes 0 y.place (drop 1 q.b) (feedback q) ks (no_places y.nodes) 1 (length (first_alone ks)) 0 (products_of Tdfii n) (sums_of Tdfii n) n start
-        (g.keeps 0 refl) g.place (named_later (sources n) y.nodes ks g.keeps (named_count n 1 n (omega arith))) (All-drop IsSmall 1 q.b m.b) m.a
-        (omega (arith, m.size.forward, m.size.back, length-drop 1 q.b)) (count-length 1 n ∙ sym m.size.back) (omega (arith, m.size.back)) (omega (arith, m.size.back)) (omega (arith, m.size.back)) in
+    (g.keeps 0 refl) g.place (named_later (sources n) y.nodes ks g.keeps (named_count n 1 n (omega arith))) (All-drop IsSmall 1 q.b m.b) m.a
+    (omega (arith, m.size.forward, m.size.back, length-drop 1 q.b)) (count-length 1 n ∙ sym m.size.back) (omega (arith, m.size.back)) (omega (arith, m.size.back)) (omega (arith, m.size.back)) in
     realised Tdfii q n (transposed_nodes q).nodes (transposed_nodes q).places y.place m.few refl (record { sound = c.sound; counts = c.counts; next = c.named; many = c.many; output = c.keeps y.place g.place })
 realised_as Ddfi q m =
     let n = order q in
@@ -303,13 +304,14 @@ realised_as Ddfi q m =
     let li = count-length 1 n in
     let lo_ = count-length (n + 1) n in
     let c = delta_grows q r y.nodes 0 ki (no_places y.nodes) (2 * n + 1) s 0 (3 * n + 1) (3 * n) n (chain_begins f r y.nodes (2 * n + 1) s g.sound g.counts) m.delta
-        (g.keeps 0 refl) (named_later (sources r) y.nodes ki g.keeps (named_count r 1 n (omega arith))) (omega arith) (omega arith) (omega arith) in
+    (g.keeps 0 refl) (named_later (sources r) y.nodes ki g.keeps (named_count r 1 n (omega arith))) (omega arith) (omega arith) (omega arith) in
     let ns = (delta_inputs q).nodes in
     let d = delta_grows q r ns y.place ko (no_places ns) (3 * n + 1) (3 * n) 0 (products_of Ddfi n) (sums_of Ddfi n) n (chain_begins f r ns (3 * n + 1) (3 * n) c.sound c.counts) m.delta
-        (c.keeps y.place g.place) (named_later (sources r) ns ko (λ k u. c.keeps k (g.keeps k u)) (named_count r (n + 1) n (omega arith))) (omega arith) (omega arith) (omega arith) in
+    (c.keeps y.place g.place) (named_later (sources r) ns ko (λ k u. c.keeps k (g.keeps k u)) (named_count r (n + 1) n (omega arith))) (omega arith) (omega arith) (omega arith) in
     let out = delta_outputs q in
     realised Ddfi q r out.nodes ((delta_inputs q).places ++ out.places) y.place m.few (omega arith) (record {
-      sound = d.sound; counts = d.counts;
+      sound = d.sound;
+      counts = d.counts;
       next = named_both out.nodes (delta_inputs q).places out.places (named_later ns out.nodes (delta_inputs q).places d.keeps c.named) d.named;
       many = omega (arith, length-append (delta_inputs q).places out.places, c.many, d.many);
       output = d.keeps y.place (c.keeps y.place g.place);
@@ -324,7 +326,7 @@ realised_as Ddfii q m =
     let ks = count 1 n in
     let lk = count-length 1 n in
     let c = delta_grows q n y.nodes wp ks (no_places y.nodes) (2 * n + 1) s 0 (products_of Ddfii n) (sums_of Ddfii n) n (chain_begins q.format n y.nodes (2 * n + 1) s g.sound g.counts) m.delta
-        (g.keeps wp w.place) (named_later (sources n) y.nodes ks (λ k u. g.keeps k (w.keeps k u)) (named_count n 1 n (omega arith))) (omega arith) (omega arith) (omega arith) in
+    (g.keeps wp w.place) (named_later (sources n) y.nodes ks (λ k u. g.keeps k (w.keeps k u)) (named_count n 1 n (omega arith))) (omega arith) (omega arith) (omega arith) in
     realised Ddfii q n (delta_states q).nodes (delta_states q).places y.place m.few refl (record { sound = c.sound; counts = c.counts; next = c.named; many = c.many; output = c.keeps y.place g.place })
 realised_as Tddfii q m =
     let n = order q in
@@ -333,8 +335,8 @@ realised_as Tddfii q m =
     let ks = count 1 n in
     let start = chain_begins q.format n y.nodes 1 (length (first_alone ks)) g.sound g.counts in
     let c = transposed_delta_grows q n y.nodes 0 y.place (drop 1 q.b) (feedback q) ks (no_places y.nodes) 1 (length (first_alone ks)) 0 (products_of Tddfii n) (sums_of Tddfii n) n start m.delta
-        (g.keeps 0 refl) g.place (named_later (sources n) y.nodes ks g.keeps (named_count n 1 n (omega arith))) (All-drop IsSmall 1 q.b m.b) m.a
-        (omega (arith, m.size.forward, m.size.back, length-drop 1 q.b)) (count-length 1 n ∙ sym m.size.back) (omega (arith, m.size.back)) (omega (arith, m.size.back)) (omega (arith, m.size.back)) in
+    (g.keeps 0 refl) g.place (named_later (sources n) y.nodes ks g.keeps (named_count n 1 n (omega arith))) (All-drop IsSmall 1 q.b m.b) m.a
+    (omega (arith, m.size.forward, m.size.back, length-drop 1 q.b)) (count-length 1 n ∙ sym m.size.back) (omega (arith, m.size.back)) (omega (arith, m.size.back)) (omega (arith, m.size.back)) in
     realised Tddfii q n (transposed_delta_nodes q).nodes (transposed_delta_nodes q).places y.place m.few refl (record { sound = c.sound; counts = c.counts; next = c.named; many = c.many; output = c.keeps y.place g.place })
 
 pub net_realised : (q : FixedPoint) → IsFixedPoint q → IsRealised q.kind q (net_of q)

@@ -1,17 +1,17 @@
 -- The chains of the delta forms, in nodes.
-use Rattle.std.proofs.Common.{◌≡◌, ℕ, suc, ◌+◌, ◌<◌, ◌≤◌, false, List, [], ◌∷◌, length, map, refl, subst, arith}
+use Rattle.std.proofs.Common.{◌≡◌, ℕ, ◌+◌, ◌<◌, false, List, [], ◌∷◌, length, map, refl, subst, arith}
 use Rattle.std.proofs.Math.IntN.{ℤ}
 use Rattle.std.proofs.lemmas.List.{length_push}
 use Rattle.dsv_word.specs.declared.format.Format.{Format}
 use Rattle.dsv_netlist.specs.declared.node.Node.{Node}
 use Rattle.dsv_netlist.specs.Nodes.{at}
 use Rattle.dsv_quantiser.specs.FixedPoint.{FixedPoint}
-use Rattle.dsv_meaning.specs.Lines.{Term, Times, Alone, Sum, line}
+use Rattle.dsv_meaning.specs.Lines.{Term, Times, Alone, line}
 use Rattle.dsv_meaning.specs.Equations.{transposed_line, delta_line, Chain, no_words, chained, delta_chain, transposed_delta_chain}
-use Rattle.dsv_realise.specs.Making.{Made, with_line, Chained, no_places, with_place, with_delta, with_transposed_delta}
-use Rattle.dsv_realise.proofs.Samples.{IsAt, Gives, Keeps, keeps_self, keeps_both}
+use Rattle.dsv_realise.specs.Making.{with_line, Chained, no_places, with_place, with_delta, with_transposed_delta}
+use Rattle.dsv_realise.proofs.Samples.{IsAt, Gives, keeps_self, keeps_both}
 use Rattle.dsv_realise.proofs.LineNodes.{in_words, line_gives}
-use Rattle.dsv_realise.proofs.Sources.{AreBelow, below_more}
+use Rattle.dsv_realise.proofs.Sources.{AreBelow}
 use Rattle.dsv_realise.proofs.Chains.{GivesChain, chain_more, transposed_line_gives}
 
 -- a chain before its first line

@@ -1,13 +1,13 @@
 -- One step of the netlists of the first two delta forms is one sample of their written equations.
-use Rattle.std.proofs.Common.{◌≡◌, ℕ, suc, ◌+◌, ◌<◌, ◌≤◌, List, [], ◌∷◌, ◌++◌, length, take, map, refl, sym, ap, subst, ◌∙◌, arith, zero-add, length-append}
+use Rattle.std.proofs.Common.{◌≡◌, suc, ◌+◌, ◌<◌, ◌≤◌, List, ◌∷◌, ◌++◌, length, take, map, refl, ap, subst, ◌∙◌, arith, zero-add}
 use Rattle.std.proofs.Math.IntN.{ℤ}
 use Rattle.std.proofs.lemmas.List.{map-append, take_all}
-use Rattle.dsv_netlist.specs.Nodes.{at, sample_of, Step, step_of}
+use Rattle.dsv_netlist.specs.Nodes.{at, sample_of}
 use Rattle.dsv_quantiser.specs.declared.kind.Kind.TheVariants.{Ddfi, Ddfii}
 use Rattle.dsv_quantiser.specs.FixedPoint.{FixedPoint}
 use Rattle.dsv_meaning.specs.Equations.{order, ago, Past, latest, Chain, no_words, delta_chain}
 use Rattle.dsv_realise.specs.Making.{no_places}
-use Rattle.dsv_realise.specs.Netlists.{count, first_form, second_form_state, second_form, delta_inputs, delta_outputs, delta_states, net_as}
+use Rattle.dsv_realise.specs.Netlists.{count, first_form, second_form_state, second_form, delta_inputs, delta_outputs, delta_states}
 use Rattle.dsv_realise.proofs.Samples.{Gives, keeps_both}
 use Rattle.dsv_realise.proofs.Sources.{IsSized, counted_all, at_input, at_output, AreBelow, below_more, below_count}
 use Rattle.dsv_realise.proofs.FirstForm.{pair, pair-length, first_sum, first_form_gives}

@@ -1,5 +1,5 @@
 -- The line of both first forms, in nodes.
-use Rattle.std.proofs.Common.{◌≡◌, ℕ, ◌+◌, ◌<◌, ◌≤◌, true, false, List, [], ◌∷◌, ◌++◌, length, take, map, sym, ap, subst, ◌∙◌, arith, length-append}
+use Rattle.std.proofs.Common.{◌≡◌, ℕ, ◌+◌, ◌<◌, ◌≤◌, true, false, List, [], ◌∷◌, ◌++◌, length, take, map, ap, subst, ◌∙◌, arith, length-append}
 use Rattle.std.proofs.Math.IntN.{ℤ}
 use Rattle.std.proofs.lemmas.List.{length-take-le, map-append}
 use Rattle.dsv_netlist.specs.Nodes.{at}
@@ -39,7 +39,7 @@ first_form_gives q x xs ys s h k =
     let some : 0 < length (bs ++ as_) = omega (arith, s.forward, length-append bs as_, length-terms false q.b (λ (i : ℕ). i) 0) in
     let made = some_line_gives q.format rs x (sources (n + n)) vs [] (bs ++ as_) some (sources_give q.format rs x (n + n) lr) o in
     let w : map (in_words vs) (bs ++ as_) ≡ first_line q x xs ys =
-        map-append (in_words vs) bs as_
-        ∙ ap (λ (ts : List (Term ℤ)). ts ++ map (in_words vs) as_) (in_words-terms vs false q.b (λ (i : ℕ). i) 0 ∙ same_terms false q.b (at vs) (ago (x ∷ xs)) 0 0 (λ i l. old_x (0 + i) (omega (arith, s.forward))))
-        ∙ ap (λ (ts : List (Term ℤ)). terms false q.b (ago (x ∷ xs)) 0 ++ ts) (in_words-terms vs true (feedback q) (λ (i : ℕ). i) (n + 1) ∙ same_terms true (feedback q) (at vs) (ago ys) (n + 1) 0 (λ j l. let z : j ≡ 0 + j = omega arith in old_y j (omega (arith, s.back)) ∙ ap (ago ys) z)) in
+    map-append (in_words vs) bs as_
+    ∙ ap (λ (ts : List (Term ℤ)). ts ++ map (in_words vs) as_) (in_words-terms vs false q.b (λ (i : ℕ). i) 0 ∙ same_terms false q.b (at vs) (ago (x ∷ xs)) 0 0 (λ i l. old_x (0 + i) (omega (arith, s.forward))))
+    ∙ ap (λ (ts : List (Term ℤ)). terms false q.b (ago (x ∷ xs)) 0 ++ ts) (in_words-terms vs true (feedback q) (λ (i : ℕ). i) (n + 1) ∙ same_terms true (feedback q) (at vs) (ago ys) (n + 1) 0 (λ j l. let z : j ≡ 0 + j = omega arith in old_y j (omega (arith, s.back)) ∙ ap (ago ys) z)) in
     subst (λ (ts : List (Term ℤ)). Gives q.format rs x vs (first_form q) (line q.format [] ts)) w made

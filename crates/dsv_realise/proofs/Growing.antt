@@ -1,5 +1,5 @@
 -- Nodes that are made one after another are a netlist's.
-use Rattle.std.proofs.Common.{◌≡◌, ℕ, zero, suc, ◌+◌, ◌-◌, ◌*◌, ◌^◌, ◌<◌, ◌≤◌, Bool, true, false, cond, List, [], ◌∷◌, ◌++◌, length, get_or, map, refl, sym, ap, subst, ◌∙◌, inl, inr, arith, length-append}
+use Rattle.std.proofs.Common.{◌≡◌, ℕ, zero, suc, ◌+◌, ◌-◌, ◌*◌, ◌^◌, ◌<◌, ◌≤◌, Bool, true, false, cond, List, [], ◌∷◌, ◌++◌, length, get_or, refl, sym, ap, subst, ◌∙◌, inl, inr, arith}
 use Rattle.std.specs.Prelude.{count_by, slice_index}
 use Rattle.std.specs.List.{All}
 use Rattle.std.specs.Int.RustNames.{unsigned_abs}
@@ -13,7 +13,7 @@ use Rattle.std.proofs.lemmas.List.Elements.{All-push}
 use Rattle.dsv_word.specs.declared.format.Format.{Format}
 use Rattle.dsv_word.specs.Words.{width}
 use Rattle.dsv_netlist.specs.declared.node.Node.{Node}
-use Rattle.dsv_netlist.specs.declared.node.Node.TheVariants.{Input, Reg, MulConst, Round, Add, Sub, Fit}
+use Rattle.dsv_netlist.specs.declared.node.Node.TheVariants.{MulConst, Round, Fit}
 use Rattle.dsv_netlist.specs.declared.TheConstants.{BOUND_LIMIT}
 use Rattle.dsv_netlist.specs.Bounds.{word_bound, node_bound, bounds_from, bounds_of}
 use Rattle.dsv_netlist.specs.Conditions.{NamesBelow, AllNameBack, ReadsBelow, gives_word, names_word, is_fit}

@@ -1,9 +1,9 @@
 -- Lines and chains of words by small coefficients are nodes of a netlist.
-use Rattle.std.proofs.Common.{◌≡◌, ℕ, zero, suc, ◌+◌, ◌*◌, ◌<◌, ◌≤◌, Bool, true, false, List, [], ◌∷◌, ◌++◌, length, drop, refl, sym, ap, subst, ◌∙◌, arith, add-zero, length-append}
+use Rattle.std.proofs.Common.{◌≡◌, ℕ, ◌+◌, ◌*◌, ◌<◌, Bool, true, false, List, [], ◌∷◌, ◌++◌, length, drop, refl, subst, arith, add-zero}
 use Rattle.std.specs.List.{All}
 use Rattle.std.proofs.Math.IntN.{ℤ}
 use Rattle.std.proofs.lemmas.List.{length_push}
-use Rattle.std.proofs.lemmas.List.Elements.{All-push, All-weaker, All-head, All-tail}
+use Rattle.std.proofs.lemmas.List.Elements.{All-head, All-tail}
 use Rattle.dsv_word.specs.declared.format.Format.{Format}
 use Rattle.dsv_netlist.specs.declared.node.Node.{Node}
 use Rattle.dsv_netlist.specs.Conditions.{names_word}
@@ -61,7 +61,7 @@ terms_grow f r old m p s [] g k = recounted f r old m p s (p + 0) (s + 0) (omega
 terms_grow f r old m p s (t ∷ ts) g k =
     let one = products_in (t ∷ []) in
     recounted f r old (with_terms (with_next m t) ts) (p + one + products_in ts) (s + 1 + length ts) (p + products_in (t ∷ ts)) (s + length (t ∷ ts)) (omega (arith, products_in-cons t ts)) (omega arith)
-        (terms_grow f r old (with_next m t) (p + one) (s + 1) ts (next_grows f r old m p s t g k.0) k.1)
+    (terms_grow f r old (with_next m t) (p + one) (s + 1) ts (next_grows f r old m p s t g k.0) k.1)
 
 pub line_grows : (f : Format) (r : ℕ) (ns : List Node) (p s p2 s2 : ℕ) (ts : List (Term ℕ)) → AreSound f r ns → HasCounts r ns p s → AreFit ns ts → p + products_in ts ≡ p2 → s + length ts ≡ s2 + 1 → 0 < length ts
     → Grown f r ns (with_line ns ts) p2 s2
@@ -69,15 +69,16 @@ line_grows f r ns p s p2 s2 [] h u k e d l = absurd (omega arith)
 line_grows f r ns p s p2 s2 (t ∷ ts) h u k e d l =
     let one = products_in (t ∷ []) in
     recounted f r ns (with_terms (with_first ns t) ts) (p + one + products_in ts) (s + length ts) p2 s2 (omega (arith, products_in-cons t ts)) (omega arith)
-        (terms_grow f r ns (with_first ns t) (p + one) s ts (first_grows f r ns p s t h u k.0) k.1)
+    (terms_grow f r ns (with_first ns t) (p + one) s ts (first_grows f r ns p s t h u k.0) k.1)
 
 -- ---- terms
 pub terms_fit : (ns : List Node) (away : Bool) (cs : List ℤ) (g : ℕ → ℕ) (k : ℕ) → All IsSmall cs → ((i : ℕ) → i < length cs → names_word ns (g (k + i)) ≡ true) → AreFit ns (terms away cs g k)
 terms_fit ns away [] g k small h = tt
 terms_fit ns away (c ∷ cs) g k small h =
-    let z : k + 0 ≡ k = add-zero k in
-    ((All-head IsSmall c cs small, subst (λ (j : ℕ). names_word ns (g j) ≡ true) z (h 0 (omega arith))),
-     terms_fit ns away cs g (k + 1) (All-tail IsSmall c cs small) (λ i l. let e : k + (i + 1) ≡ k + 1 + i = omega arith in subst (λ (j : ℕ). names_word ns (g j) ≡ true) e (h (i + 1) (omega arith))))
+    let z : k + 0 ≡ k = add-zero k in (
+      (All-head IsSmall c cs small, subst (λ (j : ℕ). names_word ns (g j) ≡ true) z (h 0 (omega arith))),
+      terms_fit ns away cs g (k + 1) (All-tail IsSmall c cs small) (λ i l. let e : k + (i + 1) ≡ k + 1 + i = omega arith in subst (λ (j : ℕ). names_word ns (g j) ≡ true) e (h (i + 1) (omega arith))),
+    )
 
 pub fit_both : (ns : List Node) (ts us : List (Term ℕ)) → AreFit ns ts → AreFit ns us → AreFit ns (ts ++ us)
 fit_both ns [] us a b = b
@@ -162,7 +163,7 @@ transposed_grows f r old x y (b ∷ bs) (a ∷ cs) (k ∷ ks) c p s n p2 s2 n2 g
     let m = with_line c.nodes (transposed_line b a x y ks) in
     let h = transposed_line_grows f r c.nodes p s b a x y ks g.sound g.counts (All-head IsSmall b bs sb) (All-head IsSmall a cs sa) (g.keeps x wx) (g.keeps y wy) (named_later old c.nodes ks g.keeps wk.1) in
     transposed_grows f r old x y bs cs ks (with_place c m) (p + 2) (s + 1 + length (first_alone ks)) (n + 1) p2 s2 n2 (chain_grows f r old c p s (p + 2) (s + 1 + length (first_alone ks)) n m g h)
-        wx wy wk.1 (All-tail IsSmall b bs sb) (All-tail IsSmall a cs sa) (omega arith) (omega arith) (omega arith) (omega arith) (omega arith)
+    wx wy wk.1 (All-tail IsSmall b bs sb) (All-tail IsSmall a cs sa) (omega arith) (omega arith) (omega arith) (omega arith) (omega arith)
 transposed_grows f r old x y [] [] [] c p s n p2 s2 n2 g wx wy wk sb sa e d ep es en = rechained f r old c p s n p2 s2 n2 (omega arith) (omega arith) (omega arith) g
 transposed_grows f r old x y [] [] (k ∷ ks) c p s n p2 s2 n2 g wx wy wk sb sa e d ep es en = absurd (omega arith)
 transposed_grows f r old x y [] (a ∷ cs) ks c p s n p2 s2 n2 g wx wy wk sb sa e d ep es en = absurd (omega arith)
@@ -199,7 +200,7 @@ transposed_delta_grows q r old x y (b ∷ bs) (a ∷ cs) (k ∷ ks) c p s n p2 s
     let i = delta_line_grows q r t.nodes (p + 2) s1 k t.place h.sound h.counts sd (h.keeps k (g.keeps k wk.0)) h.place in
     let both : Grown f r c.nodes m (p + 2 + 1) (s1 + 1) = record { sound = i.sound; counts = i.counts; keeps = λ j u. i.keeps j (h.keeps j u); place = i.place } in
     transposed_delta_grows q r old x y bs cs ks (with_place c m) (p + 2 + 1) (s1 + 1) (n + 1) p2 s2 n2 (chain_grows f r old c p s (p + 2 + 1) (s1 + 1) n m g both)
-        sd wx wy wk.1 (All-tail IsSmall b bs sb) (All-tail IsSmall a cs sa) (omega arith) (omega arith) (omega arith) (omega arith) (omega arith)
+    sd wx wy wk.1 (All-tail IsSmall b bs sb) (All-tail IsSmall a cs sa) (omega arith) (omega arith) (omega arith) (omega arith) (omega arith)
 transposed_delta_grows q r old x y [] [] [] c p s n p2 s2 n2 g sd wx wy wk sb sa e d ep es en = rechained q.format r old c p s n p2 s2 n2 (omega arith) (omega arith) (omega arith) g
 transposed_delta_grows q r old x y [] [] (k ∷ ks) c p s n p2 s2 n2 g sd wx wy wk sb sa e d ep es en = absurd (omega arith)
 transposed_delta_grows q r old x y [] (a ∷ cs) ks c p s n p2 s2 n2 g sd wx wy wk sb sa e d ep es en = absurd (omega arith)

@@ -8,10 +8,10 @@ pub mod Growing
 pub mod GrowingLines
 pub mod LineNodes
 pub mod Numbers
+pub mod Piecewise
 pub mod Runs
 pub mod Samples
 pub mod SecondForm
 pub mod Sources
-pub mod Steadily
 pub mod Steps
 pub mod Whole

@@ -1,5 +1,5 @@
 -- Whole runs of a realisation's netlist are those of its written equations.
-use Rattle.std.proofs.Common.{◌≡◌, ℕ, ◌+◌, ◌*◌, ◌≤◌, List, ◌++◌, length, take, drop, refl, sym, subst, ◌∙◌, arith, length-take, length-drop}
+use Rattle.std.proofs.Common.{◌≡◌, ℕ, ◌*◌, List, ◌++◌, length, take, drop, refl, subst, arith, length-take, length-drop}
 use Rattle.std.proofs.Math.IntN.{ℤ}
 use Rattle.std.proofs.lemmas.List.{take-take, take_all, take-append-drop, length-take-le}
 use Rattle.dsv_quantiser.specs.declared.kind.Kind.{Kind}
@@ -49,13 +49,13 @@ rows_as : (k : Kind) (q : FixedPoint) (start xs : List ℤ) → IsSized q → le
 rows_as k q start xs s l =
     let n = order q in
     subst (λ (r : List ℤ). net_rows (net_as k q) r xs ≡ rows_from (sample_as k q) (start_as k n start) xs) (start_registers k n start l)
-        (same_rows Past (net_as k q) (registers_as k n) (sample_as k q) (HasRegisters k n) (λ p x h. follows k q p x s h) (start_as k n start) xs (start_has k n start l))
+    (same_rows Past (net_as k q) (registers_as k n) (sample_as k q) (HasRegisters k n) (λ p x h. follows k q p x s h) (start_as k n start) xs (start_has k n start l))
 
 registers_are : (k : Kind) (q : FixedPoint) (start xs : List ℤ) → IsSized q → length start ≡ registers_of k (order q) → net_registers (net_as k q) start xs ≡ registers_as k (order q) (past_after (sample_as k q) (start_as k (order q) start) xs)
 registers_are k q start xs s l =
     let n = order q in
     subst (λ (r : List ℤ). net_registers (net_as k q) r xs ≡ registers_as k n (past_after (sample_as k q) (start_as k n start) xs)) (start_registers k n start l)
-        (same_registers Past (net_as k q) (registers_as k n) (sample_as k q) (HasRegisters k n) (λ p x h. follows k q p x s h) (start_as k n start) xs (start_has k n start l))
+    (same_registers Past (net_as k q) (registers_as k n) (sample_as k q) (HasRegisters k n) (λ p x h. follows k q p x s h) (start_as k n start) xs (start_has k n start l))
 
 pub runs_are : (q : FixedPoint) → IsFixedPoint q → RunsAre q (net_of q)
 runs_are q h = record {

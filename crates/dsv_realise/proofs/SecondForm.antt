@@ -4,7 +4,7 @@ use Rattle.std.proofs.Math.IntN.{ℤ}
 use Rattle.std.proofs.lemmas.List.{length-take-le}
 use Rattle.dsv_netlist.specs.Nodes.{at}
 use Rattle.dsv_quantiser.specs.FixedPoint.{FixedPoint}
-use Rattle.dsv_meaning.specs.Lines.{Term, Alone, Sum, terms, line}
+use Rattle.dsv_meaning.specs.Lines.{Term, Alone, Sum, line}
 use Rattle.dsv_meaning.specs.Equations.{order, feedback, ago, forward_terms, feedback_terms}
 use Rattle.dsv_realise.specs.Netlists.{sources, newest_at, second_form_state, second_form}
 use Rattle.dsv_realise.proofs.Samples.{Gives}
@@ -30,8 +30,8 @@ state_gives q x ws s h =
     let lr : length rs ≡ n = length-take-le n ws h in
     let made = line_gives f rs x (sources n) vs [] (Alone 0) as_ (sources_give f rs x n lr) (omega arith, over_terms (length vs) true (feedback q) 1 (omega (arith, s.back))) in
     let e : map (in_words vs) as_ ≡ feedback_terms q (ago ws) 0 =
-        in_words-terms vs true (feedback q) (λ (i : ℕ). i) 1
-        ∙ same_terms true (feedback q) (at vs) (ago ws) 1 0 (λ i l. let z : i ≡ 0 + i = omega arith in at_state n i x ws (omega (arith, s.back)) ∙ ap (ago ws) z) in
+    in_words-terms vs true (feedback q) (λ (i : ℕ). i) 1
+    ∙ same_terms true (feedback q) (at vs) (ago ws) 1 0 (λ i l. let z : i ≡ 0 + i = omega arith in at_state n i x ws (omega (arith, s.back)) ∙ ap (ago ws) z) in
     subst (λ (ts : List (Term ℤ)). Gives f rs x vs (second_form_state q) (line f [] (Alone x ∷ ts))) e made
 
 newest_words : (n : ℕ) (ws : List ℤ) (x : ℤ) (now : List ℤ) (w : ℤ) (p : ℕ) → length (take n ws) ≡ n → at now p ≡ w → ((i : ℕ) → i < length (x ∷ take n ws) → at now i ≡ at (x ∷ take n ws) i)

@@ -1,22 +1,22 @@
 -- One step of a realisation's netlist is one sample of its written equations.
-use Rattle.std.proofs.Common.{◌≡◌, ℕ, suc, ◌+◌, ◌<◌, ◌≤◌, List, [], ◌∷◌, ◌++◌, length, take, drop, map, refl, sym, ap, subst, ◌∙◌, arith, zero-add, length-drop}
+use Rattle.std.proofs.Common.{◌≡◌, ℕ, suc, ◌+◌, ◌<◌, ◌≤◌, List, [], ◌∷◌, length, take, drop, map, refl, ap, subst, ◌∙◌, arith, zero-add, length-drop}
 use Rattle.std.proofs.Math.IntN.{ℤ}
-use Rattle.std.proofs.lemmas.List.{map-append, take_all, length-take-le}
-use Rattle.dsv_netlist.specs.Nodes.{at, sample_of, Step, step_of}
+use Rattle.std.proofs.lemmas.List.{map-append, length-take-le}
+use Rattle.dsv_netlist.specs.Nodes.{at, sample_of}
 use Rattle.dsv_quantiser.specs.declared.kind.Kind.{Kind}
-use Rattle.dsv_quantiser.specs.declared.kind.Kind.TheVariants.{Dfi, Dfii, Tdfii, Ddfi, Ddfii, Tddfii}
+use Rattle.dsv_quantiser.specs.declared.kind.Kind.TheVariants.{Dfi, Dfii, Tdfii, Ddfi, Tddfii}
 use Rattle.dsv_quantiser.specs.FixedPoint.{FixedPoint}
-use Rattle.dsv_meaning.specs.Lines.{Sum, line}
-use Rattle.dsv_meaning.specs.Equations.{order, feedback, ago, Past, latest, transposed_output, Chain, no_words, transposed_chain, delta_chain, transposed_delta_chain, sample_as, registers_as}
-use Rattle.dsv_realise.specs.Making.{Chained, no_places, with_transposed, with_delta, with_transposed_delta}
-use Rattle.dsv_realise.specs.Netlists.{count, shift, first_form, second_form_state, second_form, transposed_form, transposed_nodes, delta_inputs, delta_outputs, delta_states, transposed_delta_nodes, net_as}
-use Rattle.dsv_realise.proofs.Samples.{Gives, Keeps, keeps_both}
+use Rattle.dsv_meaning.specs.Lines.{line}
+use Rattle.dsv_meaning.specs.Equations.{order, feedback, ago, Past, latest, transposed_output, Chain, no_words, transposed_chain, transposed_delta_chain, sample_as, registers_as}
+use Rattle.dsv_realise.specs.Making.{no_places}
+use Rattle.dsv_realise.specs.Netlists.{count, shift, first_form, second_form_state, second_form, transposed_form, transposed_nodes, transposed_delta_nodes, net_as}
+use Rattle.dsv_realise.proofs.Samples.{Gives}
 use Rattle.dsv_realise.proofs.Follow.{Follows}
-use Rattle.dsv_realise.proofs.Sources.{IsSized, counted_all, shifted_words, at_input, at_output, at_state, AreBelow, below_more, below_count}
+use Rattle.dsv_realise.proofs.Sources.{IsSized, shifted_words, at_input, at_output, at_state, AreBelow, below_more, below_count}
 use Rattle.dsv_realise.proofs.FirstForm.{pair, pair-length, first_sum, first_form_gives}
-use Rattle.dsv_realise.proofs.SecondForm.{state_sum, second_sum, state_gives, second_gives}
+use Rattle.dsv_realise.proofs.SecondForm.{state_sum, state_gives, second_gives}
 use Rattle.dsv_realise.proofs.Chains.{GivesChain, kept_words, transposed_gives, transposed_chain-length, register_words, output_gives}
-use Rattle.dsv_realise.proofs.DeltaChains.{chain_start, delta_gives, delta_chain-length, transposed_delta_gives, transposed_delta_chain-length}
+use Rattle.dsv_realise.proofs.DeltaChains.{chain_start, transposed_delta_gives, transposed_delta_chain-length}
 
 -- the past has as many words as the registers hold
 abbrev pub HasRegisters : Kind → ℕ → Past → Type 0

@@ -1,5 +1,5 @@
 -- Nodes made one after another: products, sums, lines and chains of lines.
-use Rattle.std.specs.Prelude.{ℕ, ◌+◌, Bool, false, if◌then◌else◌, List, [], ◌∷◌, ◌++◌, length, drop, ℤ}
+use Rattle.std.specs.Prelude.{ℕ, Bool, false, if◌then◌else◌, List, [], ◌∷◌, ◌++◌, length, drop, ℤ}
 use Rattle.dsv_netlist.specs.declared.node.Node.{Node}
 use Rattle.dsv_netlist.specs.declared.node.Node.TheVariants.{MulConst, Round, Add, Sub, Fit}
 use Rattle.dsv_quantiser.specs.FixedPoint.{FixedPoint}

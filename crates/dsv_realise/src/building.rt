@@ -33,12 +33,7 @@ pub(crate) fn product(nodes: &mut Vec<Node>, coeff: &i64, of: u32) -> Result<u32
 }
 
 /// The nodes of a sum, or of a difference.
-pub(crate) fn sum(
-    nodes: &mut Vec<Node>,
-    away: bool,
-    left: u32,
-    right: u32,
-) -> Result<u32, NoMemory>
+pub(crate) fn sum(nodes: &mut Vec<Node>, away: bool, left: u32, right: u32) -> Result<u32, NoMemory>
     requires { length nodes.old.items < 2 ^ 19 }
     ensures made { IfOk result (λ place. record { nodes = nodes.new.items; place = place } ≡ with_sum away nodes.old.items left right) }
     ensures few { IfOk result (λ place. length nodes.new.items ≡ length nodes.old.items + 2) }
@@ -92,11 +87,7 @@ pub(crate) fn next_products(
 
 /// The line of the numerator: its first word is that of the node `newest`, and the others are those of the nodes from
 /// 1 on.
-pub(crate) fn forward_line(
-    nodes: &mut Vec<Node>,
-    b: &[i64],
-    newest: u32,
-) -> Result<u32, NoMemory>
+pub(crate) fn forward_line(nodes: &mut Vec<Node>, b: &[i64], newest: u32) -> Result<u32, NoMemory>
     requires few { length nodes.old.items < 2 ^ 15 }
     requires some { 1 ≤ length b.now }
     requires short { length b.now ≤ 9 }

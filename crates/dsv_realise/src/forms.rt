@@ -35,11 +35,7 @@ pub(crate) fn second_form_state(alloc: Global, q: &Quantised) -> Result<Form, No
 }
 
 /// The output's line of both second forms, behind the first line.
-pub(crate) fn second_form(
-    nodes: &mut Vec<Node>,
-    q: &Quantised,
-    state: u32,
-) -> Result<u32, NoMemory>
+pub(crate) fn second_form(nodes: &mut Vec<Node>, q: &Quantised, state: u32) -> Result<u32, NoMemory>
     requires begun { record { nodes = nodes.old.items; place = state } ≡ second_form_state q.now }
     requires few { length nodes.old.items ≤ 200 }
     ensures made { IfOk result (λ place. record { nodes = nodes.new.items; place = place } ≡ second_form q.now) }

@@ -8,17 +8,20 @@ use std::alloc::Global;
 use std::test::Fail;
 
 /// 1 / (1 - 0.9 z^-1).
-const DIRECT: &str = "digital_system d = { .b = {1.0}, .b_size = 1, .a = {1.0, -0.9}, .a_size = 2, .sample_time = 0.001 };
+const DIRECT: &str =
+    "digital_system d = { .b = {1.0}, .b_size = 1, .a = {1.0, -0.9}, .a_size = 2, .sample_time = 0.001 };
 implementation r = { .int_bits = 2, .frac_bits = 2, .max = 1.0, .min = -1.0 };
 ";
 
 /// z^-1 / (1 - 0.5 z^-1), with delta 0.5.
-const DELTA: &str = "digital_system d = { .b = {0.0, 1.0}, .b_size = 2, .a = {1.0, -0.5}, .a_size = 2, .sample_time = 0.001 };
+const DELTA: &str =
+    "digital_system d = { .b = {0.0, 1.0}, .b_size = 2, .a = {1.0, -0.5}, .a_size = 2, .sample_time = 0.001 };
 implementation r = { .int_bits = 3, .frac_bits = 4, .max = 1.0, .min = -1.0, .delta = 0.5 };
 ";
 
 /// (1 + 0.5 z^-1 + 0.25 z^-2) / (1 - 0.5 z^-1 + 0.25 z^-2).
-const SECOND_ORDER: &str = "digital_system d = { .b = {1.0, 0.5, 0.25}, .b_size = 3, .a = {1.0, -0.5, 0.25}, .a_size = 3, .sample_time = 0.001 };
+const SECOND_ORDER: &str =
+    "digital_system d = { .b = {1.0, 0.5, 0.25}, .b_size = 3, .a = {1.0, -0.5, 0.25}, .a_size = 3, .sample_time = 0.001 };
 implementation r = { .int_bits = 3, .frac_bits = 4, .max = 1.0, .min = -1.0 };
 ";
 

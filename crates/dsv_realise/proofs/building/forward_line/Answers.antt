@@ -2,7 +2,7 @@ use Rattle.std.proofs.Common.{◌≡◌, ◌-◌, length, take, drop, subst, ari
 use Rattle.std.specs.Prelude.{IfOk}
 use Rattle.std.proofs.lemmas.List.{take_rest}
 use Rattle.dsv_realise.specs.Making.{Made}
-use Rattle.dsv_realise.proofs.Steadily.{forward_made}
+use Rattle.dsv_realise.proofs.Piecewise.{forward_made}
 use Rattle.dsv_realise.proofs.building.forward_line.Goals as goal
 
 pub returns-clause-made : goal.returns-clause-made

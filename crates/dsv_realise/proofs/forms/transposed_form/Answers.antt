@@ -1,6 +1,6 @@
-use Rattle.std.proofs.Common.{◌≡◌, ◌-◌, ◌<◌, length, ap, arith}
+use Rattle.std.proofs.Common.{◌≡◌, ◌<◌, length, ap, arith}
 use Rattle.dsv_meaning.specs.Equations.{order}
-use Rattle.dsv_realise.proofs.Steadily.{output_alone, output_summed}
+use Rattle.dsv_realise.proofs.Piecewise.{output_alone, output_summed}
 use Rattle.dsv_realise.proofs.forms.transposed_form.Goals as goal
 use Rattle.dsv_realise.proofs.forms.transposed_form.Goals.{then-order-eq0, else-order-eq0+in_ok-place}
 

@@ -1,9 +1,9 @@
-use Rattle.std.proofs.Common.{◌≡◌, ◌+◌, arith, rules, length, ◌∙◌, w64, SFits, to_z, of_z}
+use Rattle.std.proofs.Common.{◌≡◌, ◌+◌, arith, rules, ◌∙◌, w64, SFits, to_z, of_z}
 use Rattle.std.proofs.lemmas.Int.{to_z-of_z}
 use Rattle.dsv_meaning.specs.Equations.{order}
 use Rattle.dsv_realise.specs.Making.{with_delta}
 use Rattle.dsv_realise.specs.Netlists.{count}
-use Rattle.dsv_realise.proofs.Steadily.{delta_more}
+use Rattle.dsv_realise.proofs.Piecewise.{delta_more}
 use Rattle.dsv_realise.proofs.kinds.delta_states.Goals as goal
 
 pub loop-node-preserved : goal.loop-node-preserved

@@ -3,7 +3,7 @@ use Rattle.std.proofs.lemmas.Int.{to_z-of_z}
 use Rattle.dsv_meaning.specs.Equations.{first_alone}
 use Rattle.dsv_realise.specs.Netlists.{count, transposed_delta_nodes}
 use Rattle.dsv_realise.specs.Parts.{behind_of}
-use Rattle.dsv_realise.proofs.Steadily.{behind_some, behind_none, transposed_delta_more}
+use Rattle.dsv_realise.proofs.Piecewise.{behind_some, behind_none, transposed_delta_more}
 use Rattle.dsv_realise.proofs.kinds.transposed_delta_states.Goals as goal
 use Rattle.dsv_realise.proofs.kinds.transposed_delta_states.Goals.{then-i-a, else-i-a}
 

@@ -1,8 +1,8 @@
-use Rattle.std.proofs.Common.{◌≡◌, ◌+◌, ◌-◌, length, ap, sym, ◌∙◌, arith}
+use Rattle.std.proofs.Common.{◌≡◌, ◌+◌, ◌-◌, length, ap, ◌∙◌, arith}
 use Rattle.dsv_meaning.specs.Equations.{first_alone}
 use Rattle.dsv_realise.specs.Netlists.{count, transposed_nodes}
 use Rattle.dsv_realise.specs.Parts.{behind_of}
-use Rattle.dsv_realise.proofs.Steadily.{behind_some, behind_none, transposed_more}
+use Rattle.dsv_realise.proofs.Piecewise.{behind_some, behind_none, transposed_more}
 use Rattle.dsv_realise.proofs.kinds.transposed_states.Goals as goal
 use Rattle.dsv_realise.proofs.kinds.transposed_states.Goals.{then-i-a, else-i-a}
 

@@ -1,4 +1,4 @@
-use Rattle.std.proofs.Common.{◌≡◌, ap, sym, subst, ◌∙◌}
+use Rattle.std.proofs.Common.{ap, sym, subst, ◌∙◌}
 use Rattle.dsv_netlist.specs.Conditions.{IsNetlist}
 use Rattle.dsv_netlist.specs.Counts.{counts_of}
 use Rattle.dsv_realise.specs.Running.{RunsAre}

@@ -1,12 +1,12 @@
 -- Lines and chains made piece after piece.
 use Rattle.std.proofs.Common.{◌≡◌, ℕ, zero, suc, ◌+◌, ◌-◌, ◌*◌, ◌<◌, ◌≤◌, true, false, List, [], ◌∷◌, ◌++◌, length, get_or, take, drop, refl, sym, ap, ◌∙◌, arith, append_assoc}
-use Rattle.std.specs.Prelude.{Option, Some, None}
+use Rattle.std.specs.Prelude.{Some, None}
 use Rattle.std.proofs.Math.IntN.{ℤ, pos}
 use Rattle.std.proofs.lemmas.List.{append-nil, drop_more, drop_all}
 use Rattle.dsv_netlist.specs.declared.node.Node.{Node}
 use Rattle.dsv_quantiser.specs.declared.kind.Kind.TheVariants.{Ddfi}
 use Rattle.dsv_quantiser.specs.FixedPoint.{FixedPoint}
-use Rattle.dsv_meaning.specs.Lines.{Term, Times, Alone, terms}
+use Rattle.dsv_meaning.specs.Lines.{Term, Times, terms}
 use Rattle.dsv_meaning.specs.Equations.{order, feedback, first_alone, transposed_line, forward_terms, feedback_terms}
 use Rattle.dsv_realise.specs.Making.{Made, with_product, with_sum, with_first, with_next, with_terms, with_line, Chained, no_places, with_place, with_transposed, with_delta, with_transposed_delta}
 use Rattle.dsv_realise.specs.Netlists.{sources, count, newest_at, first_form, transposed_form, delta_inputs, delta_outputs, net_with, net_as}
@@ -102,10 +102,10 @@ transposed_more y i b a ns ms ps qs ks p all h l m alone e before =
     let rest = count (i + 1) (length a - (i + 1)) in
     let line : record { nodes = ms; place = p } ≡ with_line ns (transposed_line bi ai 0 y rest) = m ∙ ap (λ (ts : List (Term ℕ)). with_line ns (Times false bi 0 ∷ Times true ai y ∷ ts)) alone in
     let step : with_transposed 0 y (drop i b) (drop i a) (count i (length a - i)) (record { nodes = ns; places = ps })
-        ≡ with_transposed 0 y (drop (i + 1) b) (drop (i + 1) a) rest (with_place (record { nodes = ns; places = ps }) (with_line ns (transposed_line bi ai 0 y rest))) =
-        rw (drop_more b i (pos 0) (omega arith), drop_more a i (pos 0) h, count_first i (length a) h) refl in
+    ≡ with_transposed 0 y (drop (i + 1) b) (drop (i + 1) a) rest (with_place (record { nodes = ns; places = ps }) (with_line ns (transposed_line bi ai 0 y rest))) =
+    rw (drop_more b i (pos 0) (omega arith), drop_more a i (pos 0) h, count_first i (length a) h) refl in
     let same : record { nodes = ms; places = qs } ≡ with_place (record { nodes = ns; places = ps }) (with_line ns (transposed_line bi ai 0 y rest)) =
-        ap (λ (js : List ℕ). record { nodes = ms; places = js }) e ∙ ap (with_place (record { nodes = ns; places = ps })) line in
+    ap (λ (js : List ℕ). record { nodes = ms; places = js }) e ∙ ap (with_place (record { nodes = ns; places = ps })) line in
     ap (with_transposed 0 y (drop (i + 1) b) (drop (i + 1) a) rest) same ∙ sym step ∙ before
 
 -- the chain is whole
@@ -125,7 +125,7 @@ delta_more q older node end d ns ms ps qs p all h ed m e before =
     let step : with_delta q older (count node (end - node)) (record { nodes = ns; places = ps }) ≡ with_delta q node rest (with_place (record { nodes = ns; places = ps }) made) = rw (count_first node end h) refl in
     let line : record { nodes = ms; place = p } ≡ made = m ∙ ap (λ (c : ℤ). with_next (record { nodes = ns; place = node }) (Times false c older)) ed in
     let same : record { nodes = ms; places = qs } ≡ with_place (record { nodes = ns; places = ps }) made =
-        ap (λ (js : List ℕ). record { nodes = ms; places = js }) e ∙ ap (with_place (record { nodes = ns; places = ps })) line in
+    ap (λ (js : List ℕ). record { nodes = ms; places = js }) e ∙ ap (with_place (record { nodes = ns; places = ps })) line in
     ap (with_delta q node rest) same ∙ sym step ∙ before
 
 pub delta_end : (q : FixedPoint) (older node end : ℕ) (c all : Chained) → end ≤ node → with_delta q older (count node (end - node)) c ≡ all → c ≡ all
@@ -149,8 +149,8 @@ delta_pair q ns n1 n2 y n p0 p1 p2 f z e one two =
     let c = delta_inputs q in
     let ks = count (order q + 1) (order q) in
     let second : record { nodes = n2; places = p2 } ≡ record { nodes = (delta_outputs q).nodes; places = c.places ++ (delta_outputs q).places } =
-        two ∙ ap (λ (j : ℕ). with_delta q y (count (j + 1) (order q)) (record { nodes = n1; places = p1 })) e ∙ ap (λ (m : Chained). with_delta q y ks m) first ∙ ap (λ (j : ℕ). with_delta q j ks c) place
-        ∙ ap (λ (js : List ℕ). with_delta q (first_form q).place ks (record { nodes = c.nodes; places = js })) (sym (append-nil c.places)) ∙ delta_behind q (first_form q).place ks c.nodes c.places [] in
+    two ∙ ap (λ (j : ℕ). with_delta q y (count (j + 1) (order q)) (record { nodes = n1; places = p1 })) e ∙ ap (λ (m : Chained). with_delta q y ks m) first ∙ ap (λ (j : ℕ). with_delta q j ks c) place
+    ∙ ap (λ (js : List ℕ). with_delta q (first_form q).place ks (record { nodes = c.nodes; places = js })) (sym (append-nil c.places)) ∙ delta_behind q (first_form q).place ks c.nodes c.places [] in
     ap (λ (m : Chained). net_with q Ddfi m.nodes m.places y) second ∙ ap (net_with q Ddfi (delta_outputs q).nodes (c.places ++ (delta_outputs q).places)) place
 
 -- one new word of a transposed delta chain more
@@ -166,10 +166,10 @@ transposed_delta_more q y i b a d ns n1 ms ps qs ks t p all h l ed m alone u e b
     let made = with_line ns (transposed_line bi ai 0 y rest) in
     let line : record { nodes = n1; place = t } ≡ made = m ∙ ap (λ (ts : List (Term ℕ)). with_line ns (Times false bi 0 ∷ Times true ai y ∷ ts)) alone in
     let delta : record { nodes = ms; place = p } ≡ with_next (record { nodes = made.nodes; place = i }) (Times false q.delta made.place) =
-        u ∙ ap (λ (c : ℤ). with_next (record { nodes = n1; place = i }) (Times false c t)) ed ∙ ap (λ (k : Made). with_next (record { nodes = k.nodes; place = i }) (Times false q.delta k.place)) line in
+    u ∙ ap (λ (c : ℤ). with_next (record { nodes = n1; place = i }) (Times false c t)) ed ∙ ap (λ (k : Made). with_next (record { nodes = k.nodes; place = i }) (Times false q.delta k.place)) line in
     let step : with_transposed_delta q 0 y (drop i b) (drop i a) (count i (length a - i)) (record { nodes = ns; places = ps })
-        ≡ with_transposed_delta q 0 y (drop (i + 1) b) (drop (i + 1) a) rest (with_place (record { nodes = ns; places = ps }) (with_next (record { nodes = made.nodes; place = i }) (Times false q.delta made.place))) =
-        rw (drop_more b i (pos 0) (omega arith), drop_more a i (pos 0) h, count_first i (length a) h) refl in
+    ≡ with_transposed_delta q 0 y (drop (i + 1) b) (drop (i + 1) a) rest (with_place (record { nodes = ns; places = ps }) (with_next (record { nodes = made.nodes; place = i }) (Times false q.delta made.place))) =
+    rw (drop_more b i (pos 0) (omega arith), drop_more a i (pos 0) h, count_first i (length a) h) refl in
     let same : record { nodes = ms; places = qs } ≡ with_place (record { nodes = ns; places = ps }) (with_next (record { nodes = made.nodes; place = i }) (Times false q.delta made.place)) =
-        ap (λ (js : List ℕ). record { nodes = ms; places = js }) e ∙ ap (with_place (record { nodes = ns; places = ps })) delta in
+    ap (λ (js : List ℕ). record { nodes = ms; places = js }) e ∙ ap (with_place (record { nodes = ns; places = ps })) delta in
     ap (with_transposed_delta q 0 y (drop (i + 1) b) (drop (i + 1) a) rest) same ∙ sym step ∙ before
