@@ -1,0 +1,17 @@
+pub mod Chains
+pub mod Conditions
+pub mod DeltaChains
+pub mod DeltaSteps
+pub mod FirstForm
+pub mod Follow
+pub mod Growing
+pub mod GrowingLines
+pub mod LineNodes
+pub mod Numbers
+pub mod Piecewise
+pub mod Runs
+pub mod Samples
+pub mod SecondForm
+pub mod Sources
+pub mod Steps
+pub mod Whole

@@ -1,0 +1,27 @@
+use Rattle.std.proofs.Common.{ap, sym, subst, ◌∙◌}
+use Rattle.dsv_netlist.specs.Conditions.{IsNetlist}
+use Rattle.dsv_netlist.specs.Counts.{counts_of}
+use Rattle.dsv_realise.specs.Running.{RunsAre}
+use Rattle.dsv_realise.proofs.Runs.{runs_are}
+use Rattle.dsv_realise.proofs.Conditions.{net_realised}
+use Rattle.dsv_realise.proofs.Whole.{net_made}
+use Rattle.dsv_realise.proofs.realising.realise.Goals as goal
+
+pub unwrap-requires : goal.unwrap-requires
+unwrap-requires c =
+    let q = c.args.q.now in
+    let parts = c.in_ok-parts.parts in
+    let e = net_made q parts.nodes.items parts.next.items parts.output c.forward_registers-past_inputs.result c.format.result c.kind.result c.order.result c.forward_registers-past_inputs.ensures c.kind.ensures c.order.ensures.value c.format.ensures c.in_ok-parts.ensures in
+    c.new-net.ensures.exact.1 (subst IsNetlist (sym e) (net_realised q c.order.ensures.fixed_point).netlist)
+
+pub returns-clause-net : goal.returns-clause-net
+returns-clause-net c =
+    let parts = c.in_ok-parts.parts in
+    let e = net_made c.args.q.now parts.nodes.items parts.next.items parts.output c.forward_registers-past_inputs.result c.format.result c.kind.result c.order.result c.forward_registers-past_inputs.ensures c.kind.ensures c.order.ensures.value c.format.ensures c.in_ok-parts.ensures in
+    (rw c.unwrap.ensures at c.new-net.ensures.same) ∙ e
+
+pub returns-clause-runs : goal.returns-clause-runs
+returns-clause-runs c = subst (RunsAre c.args.q.now) (sym (returns-clause-net c)) (runs_are c.args.q.now c.order.ensures.fixed_point)
+
+pub returns-clause-counts : goal.returns-clause-counts
+returns-clause-counts c = ap counts_of (returns-clause-net c) ∙ (net_realised c.args.q.now c.order.ensures.fixed_point).counts

@@ -1,0 +1,4 @@
+pub mod Making
+pub mod Netlists
+pub mod Parts
+pub mod Running

@@ -1,0 +1,61 @@
+// The lines that two realisations share.
+ghost use Rattle.std.specs.Prelude.{◌≡◌, ◌≤◌, length, IfOk};
+ghost use Rattle.dsv_realise.specs.Netlists.{first_form, second_form_state, second_form, transposed_form};
+ghost use Rattle.dsv_realise.specs.Parts.{form_made};
+
+use crate::building::{forward_line, next_products, product, sources, sum};
+use crate::parts::Form;
+use dsv_base::NoMemory;
+use dsv_netlist::Node;
+use dsv_quantiser::Quantised;
+use std::alloc::Global;
+
+/// The output's line of both first forms.
+pub(crate) fn first_form(alloc: Global, q: &Quantised) -> Result<Form, NoMemory>
+    ensures made { IfOk result (λ form. form_made form ≡ first_form q.now) }
+    ensures few { IfOk result (λ form. length form.nodes.items ≤ 200) }
+{
+    let a = q.a();
+    let order = (a.len() - 1) as u32;
+    let mut nodes = sources(alloc, 2 * order)?;
+    let forward = forward_line(&mut nodes, q.b(), 0)?;
+    let place = next_products(&mut nodes, forward, true, &a[1..], order + 1)?;
+    Ok(Form { nodes, place })
+}
+
+/// The first line of both second forms.
+pub(crate) fn second_form_state(alloc: Global, q: &Quantised) -> Result<Form, NoMemory>
+    ensures made { IfOk result (λ form. form_made form ≡ second_form_state q.now) }
+    ensures few { IfOk result (λ form. length form.nodes.items ≤ 200) }
+{
+    let a = q.a();
+    let mut nodes = sources(alloc, (a.len() - 1) as u32)?;
+    let place = next_products(&mut nodes, 0, true, &a[1..], 1)?;
+    Ok(Form { nodes, place })
+}
+
+/// The output's line of both second forms, behind the first line.
+pub(crate) fn second_form(nodes: &mut Vec<Node>, q: &Quantised, state: u32) -> Result<u32, NoMemory>
+    requires begun { record { nodes = nodes.old.items; place = state } ≡ second_form_state q.now }
+    requires few { length nodes.old.items ≤ 200 }
+    ensures made { IfOk result (λ place. record { nodes = nodes.new.items; place = place } ≡ second_form q.now) }
+    ensures few { IfOk result (λ place. length nodes.new.items ≤ 300) }
+{
+    forward_line(nodes, q.b(), state)
+}
+
+/// The output's line of both transposed forms.
+pub(crate) fn transposed_form(alloc: Global, q: &Quantised) -> Result<Form, NoMemory>
+    ensures made { IfOk result (λ form. form_made form ≡ transposed_form q.now) }
+    ensures few { IfOk result (λ form. length form.nodes.items ≤ 200) }
+{
+    let order = q.order() as u32;
+    let mut nodes = sources(alloc, order)?;
+    let first = product(&mut nodes, &q.b()[0], 0)?;
+    let place = if order == 0 {
+        first
+    } else {
+        sum(&mut nodes, false, first, 1)?
+    };
+    Ok(Form { nodes, place })
+}

@@ -1,0 +1,62 @@
+// Controllers in words made netlists.
+ghost use Rattle.std.specs.Prelude.{◌≡◌, IfOk};
+ghost use Rattle.dsv_meaning.specs.Equations.{order, forward_registers_of};
+ghost use Rattle.dsv_netlist.specs.Counts.{counts_of};
+ghost use Rattle.dsv_realise.specs.Netlists.{net_of};
+ghost use Rattle.dsv_realise.specs.Running.{RunsAre, counts_as};
+ghost use Rattle.dsv_realise.specs.Parts.{parts_as};
+
+use crate::kinds::{
+    delta_form_one, delta_form_two, direct_form_one, direct_form_two, transposed_delta_form_two,
+    transposed_form_two,
+};
+use crate::parts::Parts;
+use dsv_base::NoMemory;
+use dsv_netlist::Netlist;
+use dsv_quantiser::{Kind, Quantised};
+use std::alloc::Global;
+
+/// How many of the first registers are feed-forward.
+fn forward_registers(kind: Kind, order: u32) -> u32
+    ensures { result ≡ forward_registers_of kind order }
+{
+    match kind {
+        Kind::Dfi | Kind::Ddfi => order,
+        Kind::Dfii | Kind::Tdfii | Kind::Ddfii | Kind::Tddfii => 0,
+    }
+}
+
+/// The parts of the netlist of a controller in words.
+fn parts(alloc: Global, q: &Quantised) -> Result<Parts, NoMemory>
+    ensures { IfOk result (λ parts. parts_as q.now.kind q.now parts ≡ net_of q.now) }
+{
+    match q.kind() {
+        Kind::Dfi => direct_form_one(alloc, q),
+        Kind::Dfii => direct_form_two(alloc, q),
+        Kind::Tdfii => transposed_form_two(alloc, q),
+        Kind::Ddfi => delta_form_one(alloc, q),
+        Kind::Ddfii => delta_form_two(alloc, q),
+        Kind::Tddfii => transposed_delta_form_two(alloc, q),
+    }
+}
+
+/// The netlist of a controller in words: node 0 is the input, node k + 1 register k, and then come the operations of
+/// its lines, in their order. From every start its steps give the outputs, the exact values and the registers of the
+/// written equations.
+pub fn realise(alloc: Global, q: &Quantised) -> Result<Netlist, NoMemory>
+    ensures net { IfOk result (λ net. net ≡ net_of q.now) }
+    ensures runs { IfOk result (RunsAre q.now) }
+    ensures counts { IfOk result (λ net. counts_of net ≡ counts_as q.now.kind (order q.now)) }
+    ensures forward { IfOk result (λ net. net.past_inputs ≡ forward_registers_of q.now.kind (order q.now)) }
+{
+    let parts = parts(alloc, q)?;
+    let past_inputs = forward_registers(q.kind(), q.order() as u32);
+    let net = Netlist::new(
+        parts.nodes,
+        parts.next,
+        parts.output,
+        past_inputs,
+        q.format(),
+    );
+    Ok(net.unwrap())
+}
