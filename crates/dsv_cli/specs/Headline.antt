@@ -12,8 +12,9 @@ use Rattle.dsv_quantiser.specs.declared.refusal.QuantRefusal.{QuantRefusal}
 use Rattle.dsv_lyapunov.specs.Answers.{IsStable, IsKeptAwayFrom}
 use Rattle.dsv_lyapunov.specs.ClosedForm.{first_leads}
 use Rattle.dsv_lyapunov.specs.Reduced.{IsReduced}
-use Rattle.dsv_words.specs.Jobs.{Asked, job_of}
+use Rattle.dsv_words.specs.Jobs.{Task, decides, simulates, Asked, job_of}
 use Rattle.dsv_words.specs.declared.job.Design.{Design}
+use Rattle.dsv_cli.specs.Simulating.{IsRunOver, IsFirstOutside}
 use Rattle.dsv_cli.specs.declared.answers.Answer.{Answer}
 use Rattle.dsv_cli.specs.declared.answers.Answer.TheVariants as answer
 
@@ -45,22 +46,34 @@ IsOfPolynomial words (answer.Falls poly offer fall) = IsTested words poly true
 IsOfPolynomial words (answer.KeptAway poly offer fall value) = IsTested words poly false
 IsOfPolynomial words other = ⊥
 
+-- the answer is the controller's run over these inputs, or the first of them that is out of range
+abbrev pub IsOfRun : FixedPoint → List ℤ → Answer → Type 0
+IsOfRun words inputs (answer.Simulated found) = IsRunOver words inputs found
+IsOfRun words inputs (answer.InputRange index value) = IsFirstOutside words.xlo words.xhi inputs index value
+IsOfRun words inputs answer.NoMemory = Unit {0}
+IsOfRun words inputs other = ⊥
+
+-- the answer to a task for a controller in these words
+abbrev pub IsOfTask : Task → FixedPoint → Answer → Type 0
+IsOfTask (decides property) words found = IsOfPolynomial words found
+IsOfTask (simulates inputs) words found = IsOfRun words inputs found
+
 -- the controller becomes words, and the answer is that of these
-pub record IsOfWords (c : controllers.Design) (design : Design) (found : Answer) : Type 0 where
+pub record IsOfWords (c : controllers.Design) (design : Design) (task : Task) (found : Answer) : Type 0 where
   pub words : FixedPoint
   pub becomes : BecomesWords c design (Ok words)
-  pub polynomial : IsOfPolynomial words found
+  pub answer : IsOfTask task words found
 
 -- the answer is that of the controller in this design
-abbrev pub IsQuantisedAs : controllers.Design → Design → Answer → Type 0
-IsQuantisedAs c design (answer.QuantRefused r) = BecomesWords c design (Err r)
-IsQuantisedAs c design found = IsOfWords c design found
+abbrev pub IsQuantisedAs : controllers.Design → Design → Task → Answer → Type 0
+IsQuantisedAs c design task (answer.QuantRefused r) = BecomesWords c design (Err r)
+IsQuantisedAs c design task found = IsOfWords c design task found
 
 -- the bytes are the text of a controller, and the answer is that of the controller
-pub record IsOfText (design : Design) (bytes : List ℕ) (found : Answer) : Type 0 where
+pub record IsOfText (job : Asked) (bytes : List ℕ) (found : Answer) : Type 0 where
   pub controller : controllers.Design
   pub text : IsTextOf bytes controller
-  pub quantised : IsQuantisedAs controller design found
+  pub quantised : IsQuantisedAs controller job.design job.task found
 
 -- The cause of an answer in the bytes of the file: they have a first fault; they are too many; or they are the text of a
 -- controller, and the answer is that of the controller in the job's design.
@@ -70,7 +83,7 @@ IsCauseIn job bytes answer.FileTooLong = 65536 < length bytes
 IsCauseIn job bytes answer.Usage = ⊥
 IsCauseIn job bytes (answer.ReadFault file) = Unit {0}
 IsCauseIn job bytes answer.NoMemory = Unit {0}
-IsCauseIn job bytes found = (length bytes ≤ 65536) × IsOfText job.design bytes found
+IsCauseIn job bytes found = (length bytes ≤ 65536) × IsOfText job bytes found
 
 -- The answer is found in the bytes of a file.
 abbrev pub IsFound : Answer → Type 0

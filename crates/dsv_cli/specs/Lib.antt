@@ -2,3 +2,4 @@ pub mod Headline
 pub mod Pieces
 pub mod Refusals
 pub mod Report
+pub mod Simulating

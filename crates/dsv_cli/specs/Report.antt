@@ -1,11 +1,12 @@
 -- The text of an answer, and its status.
-use Rattle.std.specs.Prelude.{ℕ, ◌≤◌, List, [], ◌∷◌, ◌++◌, take, codes, Option, Some, None, ℤ}
+use Rattle.std.specs.Prelude.{ℕ, ◌+◌, ◌≤◌, pos, List, [], ◌∷◌, ◌++◌, take, codes, Option, Some, None, ℤ}
 use Rattle.std.specs.List.{flat_map}
 use Rattle.std.specs.Fmt.{signed_decimal}
 use Rattle.dsv_base.specs.Text.{spaced, line_of}
 use Rattle.dsv_quantiser.specs.declared.kind.Kind.{Kind}
 use Rattle.dsv_quantiser.specs.declared.kind.Kind.TheVariants as kind
 use Rattle.dsv_forms.specs.declared.offers.Form.{Form}
+use Rattle.dsv_meaning.specs.Runs.{SampleRow}
 use Rattle.dsv_words.specs.Jobs.{Asked}
 use Rattle.dsv_cli.specs.Pieces.{joined}
 use Rattle.dsv_cli.specs.Refusals.{file_text, quant_text}
@@ -35,7 +36,7 @@ successful = codes "VERIFICATION SUCCESSFUL\nproperty STABILITY realization "
 unfoldable pub failed : List ℕ
 failed = codes "VERIFICATION FAILED\nproperty STABILITY realization "
 
--- the verdict and the property with its realisation
+-- a heading that ends with the realisation
 abbrev pub head_text : List ℕ → Kind → List ℕ
 head_text verdict k = joined (verdict ∷ kind_name k ∷ codes "\n" ∷ [])
 
@@ -53,13 +54,38 @@ value_text value = joined (codes " value " ∷ signed_decimal value ∷ codes "\
 abbrev pub start_text : List ℤ → ℤ → List ℕ
 start_text start value = codes "start" ++ flat_map (spaced signed_decimal) start ++ value_text value
 
+-- a line for a sample: its number, its input and its output, and its exact values
+abbrev pub sample_text : ℕ → SampleRow → List ℕ
+sample_text number row =
+    joined (codes "sample " ∷ signed_decimal (pos number) ∷ codes " input " ∷ signed_decimal row.x ∷ codes " output " ∷ signed_decimal row.y ∷ [])
+    ++ numbers_line (codes " exact") row.exact
+
+-- the lines of samples with these numbers on
+abbrev pub samples_text : ℕ → List SampleRow → List ℕ
+samples_text number [] = []
+samples_text number (row ∷ rows) = sample_text number row ++ samples_text (number + 1) rows
+
+unfoldable pub simulation : List ℕ
+simulation = codes "SIMULATION\nrealization "
+
+abbrev pub simulation_text : Kind → List SampleRow → List ℕ
+simulation_text k rows = head_text simulation k ++ samples_text 0 rows
+
+unfoldable pub input_range : List ℕ
+input_range = codes "FILE REFUSED 25 INPUT_RANGE "
+
+abbrev pub input_range_text : ℕ → ℤ → List ℕ
+input_range_text index value = joined (input_range ∷ signed_decimal (pos index) ∷ codes " " ∷ signed_decimal value ∷ codes "\n" ∷ [])
+
 abbrev pub text_of : Kind → Answer → List ℕ
 text_of k (answer.Falls poly offer fall) = head_text successful k ++ form_text poly offer.form fall
 text_of k (answer.KeptAway poly offer fall value) = head_text failed k ++ form_text poly offer.form fall ++ start_text (take offer.form.d offer.start) value
+text_of k (answer.Simulated rows) = simulation_text k rows
 text_of k answer.Usage = codes "USAGE\n"
 text_of k (answer.FileRefused r) = file_text r
 text_of k answer.FileTooLong = codes "FILE REFUSED 12 TOO_LONG at 65536\n"
 text_of k (answer.QuantRefused r) = quant_text r
+text_of k (answer.InputRange index value) = input_range_text index value
 text_of k answer.NotYet = codes "FILE REFUSED 13 NOT_YET\n"
 text_of k (answer.ReadFault file.Controller) = codes "READ FAULT CONTROLLER\n"
 text_of k answer.NoMemory = codes "NO MEMORY\n"
@@ -72,10 +98,12 @@ kind_of None = kind.Dfi
 abbrev pub status_of : Answer → ℕ
 status_of (answer.Falls poly offer fall) = 0
 status_of (answer.KeptAway poly offer fall value) = 10
+status_of (answer.Simulated rows) = 0
 status_of answer.Usage = 1
 status_of (answer.FileRefused r) = 2
 status_of answer.FileTooLong = 2
 status_of (answer.QuantRefused r) = 2
+status_of (answer.InputRange index value) = 2
 status_of answer.NotYet = 2
 status_of (answer.ReadFault file) = 3
 status_of answer.NoMemory = 5

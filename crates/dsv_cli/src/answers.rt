@@ -1,5 +1,6 @@
 // What the command answers.
 use dsv_forms::{Falls, Form, KeptAway, Poly};
+use dsv_meaning::Rows;
 use dsv_quantiser::QuantRefusal;
 use dsv_reader::FileRefusal;
 
@@ -26,6 +27,8 @@ pub enum Answer {
         fall: Form,
         value: i128,
     },
+    /// The rows of the controller over the inputs of the job, from registers of zeros.
+    Simulated(Rows),
     /// The words are no job.
     Usage,
     /// The first fault of the controller file.
@@ -34,6 +37,11 @@ pub enum Answer {
     FileTooLong,
     /// The first number of the controller that is no word, or the range of its inputs, where it is empty.
     QuantRefused(QuantRefusal),
+    /// The first input of the job outside the controller's range, and its number from 0 on.
+    InputRange {
+        index: u32,
+        value: i64,
+    },
     /// The controller isn't decided yet: its order is 2 or more, or the realisation is a delta form.
     NotYet,
     /// The file couldn't be read.

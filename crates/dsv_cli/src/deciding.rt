@@ -1,15 +1,16 @@
 // Decides a job on the bytes of a controller file.
 ghost use Rattle.std.specs.Prelude.{◌≤◌, length};
-ghost use Rattle.dsv_cli.specs.Headline.{IsCauseIn, IsFound, IsShown, IsOfPolynomial, IsFormatOf, IsQuantisedAs};
+ghost use Rattle.dsv_cli.specs.Headline.{IsCauseIn, IsFound, IsShown, IsOfPolynomial, IsOfTask, IsFormatOf, IsQuantisedAs};
 ghost use Rattle.dsv_cli.specs.Report.{HasPlaces};
-ghost use Rattle.dsv_words.specs.Asking.{asked_of};
+ghost use Rattle.dsv_words.specs.Asking.{asked_task, asked_of};
 
 use crate::answers::Answer;
+use crate::simulating::simulated;
 use dsv_lyapunov::{FormAnswer, decide, reduced};
 use dsv_quantiser::{Quantised, quantise};
 use dsv_reader::{Controller, FileRefusal, read};
 use dsv_word::Format;
-use dsv_words::{Design, Job};
+use dsv_words::{Design, Job, Property, Task};
 use std::alloc::Global;
 
 /// The most coefficients of a polynomial that is decided.
@@ -24,7 +25,7 @@ pub fn answer_for(alloc: Global, bytes: &[u8], job: &Job) -> Answer
     ensures places { HasPlaces result }
 {
     match read(alloc, bytes) {
-        Ok(controller) => quantised(&controller, job.design),
+        Ok(controller) => quantised(alloc, &controller, job.design, &job.task),
         Err(FileRefusal::NoMemory) => Answer::NoMemory,
         Err(refusal) => Answer::FileRefused(refusal),
     }
@@ -69,16 +70,29 @@ fn decided(words: &Quantised) -> Answer
     }
 }
 
+/// The answer to a task for a controller in words.
+fn done(alloc: Global, words: &Quantised, task: &Task) -> Answer
+    ensures task { IsOfTask (asked_task task.now) words.now result }
+    ensures found { IsFound result }
+    ensures shown { IsShown result }
+    ensures places { HasPlaces result }
+{
+    match task {
+        Task::Decide(Property::Stability) => decided(words),
+        Task::Simulate(inputs) => simulated(alloc, words, inputs.as_slice()),
+    }
+}
+
 /// The answer for a controller.
-fn quantised(controller: &Controller, design: Design) -> Answer
-    ensures quantised { IsQuantisedAs controller.now design result }
+fn quantised(alloc: Global, controller: &Controller, design: Design, task: &Task) -> Answer
+    ensures quantised { IsQuantisedAs controller.now design (asked_task task.now) result }
     ensures found { IsFound result }
     ensures shown { IsShown result }
     ensures places { HasPlaces result }
 {
     let format = format_of(controller, design);
     match quantise(controller, format, design.kind) {
-        Ok(words) => decided(&words),
+        Ok(words) => done(alloc, &words, task),
         Err(refusal) => Answer::QuantRefused(refusal),
     }
 }

@@ -9,6 +9,7 @@ mod pieces;
 mod refusals;
 mod report;
 mod running;
+mod simulating;
 
 pub use answers::{Answer, Done, WhichFile};
 pub use outside::{OsFiles, OsOut};

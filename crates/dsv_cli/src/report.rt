@@ -1,22 +1,26 @@
 // Writes the text of an answer, with no memory.
-ghost use Rattle.std.specs.Prelude.{◌≡◌, ◌≤◌, ◌++◌, take};
+ghost use Rattle.std.specs.Prelude.{◌≡◌, ◌≤◌, ◌++◌, take, map};
 ghost use Rattle.std.specs.Fmt.{signed_decimal};
 ghost use Rattle.std.specs.List.{flat_map};
 ghost use Rattle.dsv_base.specs.Taking.{Writes};
 ghost use Rattle.dsv_base.specs.Text.{spaced};
-ghost use Rattle.dsv_cli.specs.Report.{kind_name, head_text, successful, failed, text_of, rows_text, form_text, value_text, start_text, HasPlaces};
+ghost use Rattle.dsv_meaning.specs.RowViews.{row_of};
+ghost use Rattle.dsv_cli.specs.Report.{kind_name, head_text, successful, failed, text_of, rows_text, form_text, value_text, start_text, sample_text, samples_text, simulation_text, input_range_text, HasPlaces};
 
 use crate::answers::{Answer, WhichFile};
 use crate::pieces::{Piece, put_pieces};
 use crate::refusals::{put_file_refusal, put_quant_refusal};
 use dsv_base::{Failed, Sink, put_all, put_line, put_spaced};
 use dsv_forms::{Form, KeptAway, Poly};
+use dsv_meaning::{Row, Rows};
 use dsv_quantiser::Kind;
 use itoa::Integer;
 
 const SUCCESSFUL: &[u8] = b"VERIFICATION SUCCESSFUL\nproperty STABILITY realization ";
 
 const FAILED: &[u8] = b"VERIFICATION FAILED\nproperty STABILITY realization ";
+
+const SIMULATION: &[u8] = b"SIMULATION\nrealization ";
 
 /// The name of a realisation.
 fn kind_name(kind: Kind) -> &'static [u8]
@@ -32,14 +36,14 @@ fn kind_name(kind: Kind) -> &'static [u8]
     }
 }
 
-/// Writes the verdict and the property with its realisation.
-fn put_head<K: Sink>(sink: &mut K, verdict: &[u8], kind: Kind) -> Result<(), Failed>
-    ensures { Writes K.taken K.faults sink.old sink.new result (head_text verdict.now kind) }
+/// Writes a heading that ends with the realisation.
+fn put_head<K: Sink>(sink: &mut K, heading: &[u8], kind: Kind) -> Result<(), Failed>
+    ensures { Writes K.taken K.faults sink.old sink.new result (head_text heading.now kind) }
 {
     put_pieces(
         sink,
         &[
-            Piece::Bytes(verdict),
+            Piece::Bytes(heading),
             Piece::Bytes(kind_name(kind)),
             Piece::Bytes(b"\n"),
         ],
@@ -138,6 +142,60 @@ fn put_kept_away<K: Sink>(
     put_start(sink, &offer.start[..offer.form.d as usize], value)
 }
 
+/// Writes a line for a sample.
+fn put_sample<K: Sink>(sink: &mut K, number: usize, row: &Row) -> Result<(), Failed>
+    ensures { Writes K.taken K.faults sink.old sink.new result (sample_text number (row_of row.now)) }
+{
+    put_pieces(
+        sink,
+        &[
+            Piece::Bytes(b"sample "),
+            Piece::Number(number as i128),
+            Piece::Bytes(b" input "),
+            Piece::Number(row.x.into()),
+            Piece::Bytes(b" output "),
+            Piece::Number(row.y.into()),
+        ],
+    )?;
+    put_line(sink, b" exact", row.exact.as_slice())
+}
+
+/// Writes a line for each sample.
+fn put_samples<K: Sink>(sink: &mut K, rows: &[Row]) -> Result<(), Failed>
+    ensures { Writes K.taken K.faults sink.old sink.new result (samples_text 0 (map row_of rows.now)) }
+{
+    for (number, row) in rows.iter().enumerate() {
+        put_sample(sink, number, row)?;
+    }
+    Ok(())
+}
+
+/// Writes the text of a simulation.
+#[tactic(auto, unfolding(crate::specs::Report::simulation))]
+fn put_simulation<K: Sink>(sink: &mut K, kind: Kind, rows: &Rows) -> Result<(), Failed>
+    ensures { Writes K.taken K.faults sink.old sink.new result (simulation_text kind rows.now) }
+{
+    put_head(sink, SIMULATION, kind)?;
+    put_samples(sink, rows.as_slice())
+}
+
+/// Writes the refusal of an input.
+#[tactic(auto, unfolding(crate::specs::Report::input_range))]
+fn put_input_range<K: Sink>(sink: &mut K, index: u32, value: &i64) -> Result<(), Failed>
+    ensures { Writes K.taken K.faults sink.old sink.new result (input_range_text index value.now) }
+{
+    put_pieces(
+        sink,
+        &[
+            Piece::Bytes(b"FILE REFUSED 25 INPUT_RANGE "),
+            Piece::Number(index.into()),
+            Piece::Bytes(b" "),
+            Piece::Number((*value).into()),
+            Piece::Bytes(b"\n"),
+        ],
+    )
+}
+
 /// Writes the text of an answer, for a job with this realisation.
 pub fn put_answer<K: Sink>(sink: &mut K, kind: Kind, answer: &Answer) -> Result<(), Failed>
     requires { HasPlaces answer.now }
@@ -151,10 +209,12 @@ pub fn put_answer<K: Sink>(sink: &mut K, kind: Kind, answer: &Answer) -> Result<
             fall,
             value,
         } => put_kept_away(sink, kind, poly, offer, fall, value),
+        Answer::Simulated(rows) => put_simulation(sink, kind, rows),
         Answer::Usage => put_all(sink, b"USAGE\n"),
         Answer::FileRefused(refusal) => put_file_refusal(sink, *refusal),
         Answer::FileTooLong => put_all(sink, b"FILE REFUSED 12 TOO_LONG at 65536\n"),
         Answer::QuantRefused(refusal) => put_quant_refusal(sink, *refusal),
+        Answer::InputRange { index, value } => put_input_range(sink, *index, value),
         Answer::NotYet => put_all(sink, b"FILE REFUSED 13 NOT_YET\n"),
         Answer::ReadFault(WhichFile::Controller) => put_all(sink, b"READ FAULT CONTROLLER\n"),
         Answer::NoMemory => put_all(sink, b"NO MEMORY\n"),

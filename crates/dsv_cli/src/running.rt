@@ -34,11 +34,14 @@ fn status_of_answer(answer: &Answer) -> u8
     ensures { result ≡ status_of answer.now }
 {
     match answer {
-        Answer::Falls { .. } => 0,
+        Answer::Falls { .. } | Answer::Simulated(_) => 0,
         Answer::KeptAway { .. } => 10,
         Answer::Usage => 1,
-        Answer::FileRefused(_) | Answer::FileTooLong | Answer::QuantRefused(_) | Answer::NotYet =>
-            2,
+        Answer::FileRefused(_)
+        | Answer::FileTooLong
+        | Answer::QuantRefused(_)
+        | Answer::InputRange { .. }
+        | Answer::NotYet => 2,
         Answer::ReadFault(_) => 3,
         Answer::NoMemory => 5,
     }

@@ -1,0 +1,83 @@
+// Runs a controller in words over inputs.
+ghost use Rattle.std.specs.Prelude.{◌≡◌, ◌≤◌, length, IfOk, MatchOption};
+ghost use Rattle.std.specs.List.{All};
+ghost use Rattle.dsv_meaning.specs.Equations.{order, registers_of};
+ghost use Rattle.dsv_meaning.specs.Systems.{equations_of, rows, zeros, AreInRange};
+ghost use Rattle.dsv_netlist.specs.Nodes.{IsWord};
+ghost use Rattle.dsv_realise.specs.Running.{net_rows};
+ghost use Rattle.dsv_cli.specs.Headline.{IsOfRun, IsFound, IsShown};
+ghost use Rattle.dsv_cli.specs.Report.{HasPlaces};
+ghost use Rattle.dsv_cli.specs.Simulating.{IsFirstOutside};
+
+use crate::answers::Answer;
+use dsv_base::NoMemory;
+use dsv_meaning::{ExactList, Row, Rows};
+use dsv_netlist::Netlist;
+use dsv_quantiser::Quantised;
+use dsv_realise::realise;
+use std::alloc::Global;
+
+/// An input, and its number among the inputs.
+struct Numbered {
+    index: u32,
+    value: i64,
+}
+
+/// The first input that isn't from `low` to `high`.
+fn find_outside(low: &i64, high: &i64, inputs: &[i64]) -> Option<Numbered>
+    requires { length inputs.now ≤ 64 }
+    ensures { MatchOption result (AreInRange low.now high.now inputs.now) (λ found. IsFirstOutside low.now high.now inputs.now found.index found.value) }
+{
+    for (i, input) in inputs.iter().enumerate() {
+        if *input < *low || *input > *high {
+            return Some(Numbered {
+                index: i as u32,
+                value: *input,
+            });
+        }
+    }
+    None
+}
+
+/// The rows of a netlist's steps over these inputs, from registers of zeros.
+fn run_netlist(alloc: Global, net: &Netlist, inputs: &[i64]) -> Result<Rows, NoMemory>
+    requires { All (IsWord net.now.format) inputs.now }
+    ensures { IfOk result (λ found. found ≡ net_rows net.now (zeros (length net.now.next)) inputs.now) }
+{
+    let _len = net.len();
+    let mut registers = vec![in alloc; 0i64; net.registers() as usize]?;
+    let mut rows = Vec::new(alloc);
+    for x in inputs {
+        let mut exact = ExactList::new();
+        let y = net.step(&mut registers, *x, &mut exact);
+        rows.push(Row { x: *x, y, exact })?;
+    }
+    Ok(Rows::from(rows))
+}
+
+/// The rows of the controller over these inputs, from registers of zeros.
+fn rows_over(alloc: Global, words: &Quantised, inputs: &[i64]) -> Result<Rows, NoMemory>
+    requires { AreInRange words.now.xlo words.now.xhi inputs.now }
+    ensures { IfOk result (λ found. found ≡ rows (equations_of words.now) (zeros (registers_of words.now.kind (order words.now))) inputs.now) }
+{
+    let _lowest = words.xlo();
+    let net = realise(alloc, words)?;
+    run_netlist(alloc, &net, inputs)
+}
+
+/// The answer to a simulation over these inputs.
+pub fn simulated(alloc: Global, words: &Quantised, inputs: &[i64]) -> Answer
+    requires { length inputs.now ≤ 64 }
+    ensures run { IsOfRun words.now inputs.now result }
+    ensures found { IsFound result }
+    ensures shown { IsShown result }
+    ensures places { HasPlaces result }
+{
+    if let Some(Numbered { index, value }) = find_outside(&words.xlo(), &words.xhi(), inputs) {
+        return Answer::InputRange { index, value };
+    }
+    match rows_over(alloc, words, inputs) {
+        Ok(rows) => Answer::Simulated(rows),
+        Err(_) => Answer::NoMemory,
+    }
+}
