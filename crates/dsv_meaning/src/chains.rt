@@ -1,7 +1,7 @@
 // The new words of registers.
 #![tactic(auto, using(crate::proofs::Casts::casts))]
 
-ghost use Rattle.std.specs.Prelude.{◌≡◌, ◌+◌, ◌*◌, ◌<◌, ◌≤◌, length, drop};
+ghost use Rattle.std.specs.Prelude.{◌≡◌, ◌+◌, ◌*◌, ◌≤◌, length, drop};
 ghost use Rattle.std.specs.List.{All};
 ghost use Rattle.dsv_quantiser.specs.FixedPoint.{IsWord};
 ghost use Rattle.dsv_meaning.specs.Lines.{line};
