@@ -1,5 +1,5 @@
 -- Lines and chains of words by small coefficients are nodes of a netlist.
-use Rattle.std.proofs.Common.{◌≡◌, ℕ, ◌+◌, ◌*◌, ◌<◌, Bool, true, false, List, [], ◌∷◌, ◌++◌, length, drop, refl, subst, arith, add-zero}
+use Rattle.std.proofs.Common.{◌≡◌, ℕ, ◌+◌, ◌*◌, ◌<◌, Bool, true, false, List, [], ◌∷◌, ◌++◌, length, refl, subst, arith, add-zero}
 use Rattle.std.specs.List.{All}
 use Rattle.std.proofs.Math.IntN.{ℤ}
 use Rattle.std.proofs.lemmas.List.{length_push}
@@ -27,10 +27,6 @@ abbrev pub products_in : List (Term ℕ) → ℕ
 products_in [] = 0
 products_in (Times away c i ∷ ts) = 1 + products_in ts
 products_in (Alone i ∷ ts) = products_in ts
-
-fit_later : (ns ms : List Node) (t : Term ℕ) → ((k : ℕ) → names_word ns k ≡ true → names_word ms k ≡ true) → IsFit ns t → IsFit ms t
-fit_later ns ms (Times away c i) e h = (h.0, e i h.1)
-fit_later ns ms (Alone i) e h = e i h
 
 -- ---- lines
 first_grows : (f : Format) (r : ℕ) (ns : List Node) (p s : ℕ) (t : Term ℕ) → AreSound f r ns → HasCounts r ns p s → IsFit ns t → Grown f r ns (with_first ns t) (p + products_in (t ∷ [])) s
@@ -113,10 +109,6 @@ named_push ns (j ∷ js) k h e = (h.0, named_push ns js k h.1 e)
 pub named_both : (ns : List Node) (ks js : List ℕ) → AllNamed ns ks → AllNamed ns js → AllNamed ns (ks ++ js)
 named_both ns [] js h g = g
 named_both ns (k ∷ ks) js h g = (h.0, named_both ns ks js h.1 g)
-
-pub named_drop : (ns : List Node) (ks : List ℕ) → AllNamed ns ks → AllNamed ns (drop 1 ks)
-named_drop ns [] h = tt
-named_drop ns (k ∷ ks) h = h.1
 
 pub alone_fit : (ns : List Node) (ks : List ℕ) → AllNamed ns ks → AreFit ns (first_alone ks)
 alone_fit ns [] h = tt

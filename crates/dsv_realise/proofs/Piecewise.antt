@@ -2,7 +2,7 @@
 use Rattle.std.proofs.Common.{◌≡◌, ℕ, zero, suc, ◌+◌, ◌-◌, ◌*◌, ◌<◌, ◌≤◌, true, false, List, [], ◌∷◌, ◌++◌, length, get_or, take, drop, refl, sym, ap, ◌∙◌, arith, append_assoc}
 use Rattle.std.specs.Prelude.{Some, None}
 use Rattle.std.proofs.Math.IntN.{ℤ, pos}
-use Rattle.std.proofs.lemmas.List.{append-nil, drop_more, drop_all}
+use Rattle.std.proofs.lemmas.List.{append-nil, drop_more}
 use Rattle.dsv_netlist.specs.declared.node.Node.{Node}
 use Rattle.dsv_quantiser.specs.declared.kind.Kind.TheVariants.{Ddfi}
 use Rattle.dsv_quantiser.specs.FixedPoint.{FixedPoint}
@@ -108,12 +108,6 @@ transposed_more y i b a ns ms ps qs ks p all h l m alone e before =
     ap (λ (js : List ℕ). record { nodes = ms; places = js }) e ∙ ap (with_place (record { nodes = ns; places = ps })) line in
     ap (with_transposed 0 y (drop (i + 1) b) (drop (i + 1) a) rest) same ∙ sym step ∙ before
 
--- the chain is whole
-pub transposed_end : (y i : ℕ) (b a : List ℤ) (c all : Chained) → length a ≤ i → length b ≡ length a → with_transposed 0 y (drop i b) (drop i a) (count i (length a - i)) c ≡ all → c ≡ all
-transposed_end y i b a c all h l e =
-    let d : drop i b ≡ [] = drop_all i b (omega arith) in
-    ap (λ (bs : List ℤ). with_transposed 0 y bs (drop i a) (count i (length a - i)) c) (sym d) ∙ e
-
 -- one new word of a delta chain more
 pub delta_more : (q : FixedPoint) (older node end : ℕ) (d : ℤ) (ns ms : List Node) (ps qs : List ℕ) (p : ℕ) (all : Chained) → node < end → d ≡ q.delta
     → record { nodes = ms; place = p } ≡ with_next (record { nodes = ns; place = node }) (Times false d older) → qs ≡ ps ++ p ∷ []
@@ -127,9 +121,6 @@ delta_more q older node end d ns ms ps qs p all h ed m e before =
     let same : record { nodes = ms; places = qs } ≡ with_place (record { nodes = ns; places = ps }) made =
     ap (λ (js : List ℕ). record { nodes = ms; places = js }) e ∙ ap (with_place (record { nodes = ns; places = ps })) line in
     ap (with_delta q node rest) same ∙ sym step ∙ before
-
-pub delta_end : (q : FixedPoint) (older node end : ℕ) (c all : Chained) → end ≤ node → with_delta q older (count node (end - node)) c ≡ all → c ≡ all
-delta_end q older node end c all h e = let z : 0 ≡ end - node = omega arith in ap (λ (k : ℕ). with_delta q older (count node k) c) z ∙ e
 
 -- a chain behind another
 pub delta_behind : (q : FixedPoint) (before : ℕ) (ks : List ℕ) (ns : List Node) (ps qs : List ℕ)

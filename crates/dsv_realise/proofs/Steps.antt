@@ -8,7 +8,7 @@ use Rattle.dsv_quantiser.specs.declared.kind.Kind.TheVariants.{Dfi, Dfii, Tdfii,
 use Rattle.dsv_quantiser.specs.FixedPoint.{FixedPoint}
 use Rattle.dsv_meaning.specs.Lines.{line}
 use Rattle.dsv_meaning.specs.Equations.{order, feedback, ago, Past, latest, transposed_output, Chain, no_words, transposed_chain, transposed_delta_chain, sample_as, registers_as}
-use Rattle.dsv_realise.specs.Making.{no_places}
+use Rattle.dsv_realise.specs.Making.{Chained, no_places}
 use Rattle.dsv_realise.specs.Netlists.{count, shift, first_form, second_form_state, second_form, transposed_form, transposed_nodes, transposed_delta_nodes, net_as}
 use Rattle.dsv_realise.proofs.Samples.{Gives}
 use Rattle.dsv_realise.proofs.Follow.{Follows}
@@ -70,52 +70,61 @@ dfii_follows q p x s h =
       good = omega (arith, h);
     }
 
-pub tdfii_follows : (q : FixedPoint) (p : Past) (x : ℤ) → IsSized q → HasRegisters Tdfii (order q) p → FollowsAs Tdfii q p x
-tdfii_follows q p x z l =
+-- a sample whose output is that of a transposed form, with these nodes and this chain behind it
+record StepsAs (q : FixedPoint) (s : List ℤ) (x : ℤ) (m : Chained) (c : Chain) : Type 0 where
+  y : at (sample_of q.format s x m.nodes).values (transposed_form q).place ≡ (line q.format [] (transposed_output q x s)).value
+  exact : (sample_of q.format s x m.nodes).exact ≡ c.exact
+  after : map (at (sample_of q.format s x m.nodes).values) m.places ≡ c.words
+
+transposed_steps : (q : FixedPoint) (s : List ℤ) (x : ℤ) → IsSized q → length s ≡ order q → (m : Chained) (chain : ℤ → ℤ → List ℤ → Chain → Chain)
+    → ((vs : List ℤ) (c : Chain) → GivesChain q.format s x vs (no_places (transposed_form q).nodes) c → 0 < length vs → (transposed_form q).place < length vs → AreBelow (length vs) (count 1 (order q))
+    → GivesChain q.format s x vs m (chain (at vs 0) (at vs (transposed_form q).place) (map (at vs) (count 1 (order q))) c))
+    → StepsAs q s x m (chain x (line q.format [] (transposed_output q x s)).value s (no_words (line q.format [] (transposed_output q x s)).exact))
+transposed_steps q s x z l m chain gives =
     let f = q.format in
-    let n = order q in
-    let s = latest p.chain in
     let vs = x ∷ s in
-    let ks = count 1 n in
-    let bk : AreBelow (length vs) ks = below_count (length vs) 1 n (omega arith) in
+    let ks = count 1 (order q) in
+    let bk : AreBelow (length vs) ks = below_count (length vs) 1 (order q) (omega arith) in
     let y = line f [] (transposed_output q x s) in
     let yp = (transposed_form q).place in
     let gy : Gives f s x vs (transposed_form q) y = output_gives q x s z l in
-    let start : Chain = no_words y.exact in
-    let chain = transposed_gives q s x gy.now 0 yp (drop 1 q.b) (feedback q) ks (no_places (transposed_form q).nodes) start (chain_start f s x (transposed_form q).nodes gy.now y.exact gy.stands) (omega (arith, gy.keeps.longer)) gy.within (below_more (length vs) (length gy.now) ks gy.keeps.longer bk) in
-    let ws : map (at gy.now) ks ≡ s = kept_words vs gy.now ks gy.keeps bk ∙ register_words n x s l in
+    let start = no_words y.exact in
+    let made = gives gy.now start (chain_start f s x (transposed_form q).nodes gy.now y.exact gy.stands) (omega (arith, gy.keeps.longer)) gy.within (below_more (length vs) (length gy.now) ks gy.keeps.longer bk) in
+    let ws : map (at gy.now) ks ≡ s = kept_words vs gy.now ks gy.keeps bk ∙ register_words (order q) x s l in
     let x0 : at gy.now 0 ≡ x = gy.keeps.old 0 (omega arith) in
-    let g1 = subst (λ (u : ℤ). GivesChain f s x gy.now (transposed_nodes q) (transposed_chain q u (at gy.now yp) (drop 1 q.b) (feedback q) (map (at gy.now) ks) start)) x0 chain in
-    let g2 = subst (λ (u : ℤ). GivesChain f s x gy.now (transposed_nodes q) (transposed_chain q x u (drop 1 q.b) (feedback q) (map (at gy.now) ks) start)) gy.value g1 in
-    let gc : GivesChain f s x gy.now (transposed_nodes q) (transposed_chain q x y.value (drop 1 q.b) (feedback q) s start) = subst (λ (u : List ℤ). GivesChain f s x gy.now (transposed_nodes q) (transposed_chain q x y.value (drop 1 q.b) (feedback q) u start)) ws g2 in
+    let g1 = subst (λ (u : ℤ). GivesChain f s x gy.now m (chain u (at gy.now yp) (map (at gy.now) ks) start)) x0 made in
+    let g2 = subst (λ (u : ℤ). GivesChain f s x gy.now m (chain x u (map (at gy.now) ks) start)) gy.value g1 in
+    let gc = subst (λ (u : List ℤ). GivesChain f s x gy.now m (chain x y.value u start)) ws g2 in
     record {
       y = ap (λ (u : List ℤ). at u yp) gc.stands.values ∙ gc.keeps.old yp gy.within ∙ gy.value;
       exact = gc.stands.exact;
-      after = ap (λ (u : List ℤ). map (at u) (transposed_nodes q).places) gc.stands.values ∙ gc.words;
-      good = transposed_chain-length q x y.value (drop 1 q.b) (feedback q) s start (omega (arith, z.forward, z.back, length-drop 1 q.b)) ∙ (zero-add (length (feedback q)) ∙ z.back);
+      after = ap (λ (u : List ℤ). map (at u) m.places) gc.stands.values ∙ gc.words;
+    }
+
+pub tdfii_follows : (q : FixedPoint) (p : Past) (x : ℤ) → IsSized q → HasRegisters Tdfii (order q) p → FollowsAs Tdfii q p x
+tdfii_follows q p x z l =
+    let s = latest p.chain in
+    let y = line q.format [] (transposed_output q x s) in
+    let start = no_places (transposed_form q).nodes in
+    let chain = λ (u v : ℤ) (w : List ℤ) (c : Chain). transposed_chain q u v (drop 1 q.b) (feedback q) w c in
+    let g = transposed_steps q s x z l (transposed_nodes q) chain (λ vs c g i j h. transposed_gives q s x vs 0 (transposed_form q).place (drop 1 q.b) (feedback q) (count 1 (order q)) start c g i j h) in
+    record {
+      y = g.y;
+      exact = g.exact;
+      after = g.after;
+      good = transposed_chain-length q x y.value (drop 1 q.b) (feedback q) s (no_words y.exact) (omega (arith, z.forward, z.back, length-drop 1 q.b)) ∙ (zero-add (length (feedback q)) ∙ z.back);
     }
 
 pub tddfii_follows : (q : FixedPoint) (p : Past) (x : ℤ) → IsSized q → HasRegisters Tddfii (order q) p → FollowsAs Tddfii q p x
 tddfii_follows q p x z l =
-    let f = q.format in
-    let n = order q in
     let s = latest p.chain in
-    let vs = x ∷ s in
-    let ks = count 1 n in
-    let bk : AreBelow (length vs) ks = below_count (length vs) 1 n (omega arith) in
-    let y = line f [] (transposed_output q x s) in
-    let yp = (transposed_form q).place in
-    let gy : Gives f s x vs (transposed_form q) y = output_gives q x s z l in
-    let start : Chain = no_words y.exact in
-    let chain = transposed_delta_gives q s x gy.now 0 yp (drop 1 q.b) (feedback q) ks (no_places (transposed_form q).nodes) start (chain_start f s x (transposed_form q).nodes gy.now y.exact gy.stands) (omega (arith, gy.keeps.longer)) gy.within (below_more (length vs) (length gy.now) ks gy.keeps.longer bk) in
-    let ws : map (at gy.now) ks ≡ s = kept_words vs gy.now ks gy.keeps bk ∙ register_words n x s l in
-    let x0 : at gy.now 0 ≡ x = gy.keeps.old 0 (omega arith) in
-    let g1 = subst (λ (u : ℤ). GivesChain f s x gy.now (transposed_delta_nodes q) (transposed_delta_chain q u (at gy.now yp) (drop 1 q.b) (feedback q) (map (at gy.now) ks) start)) x0 chain in
-    let g2 = subst (λ (u : ℤ). GivesChain f s x gy.now (transposed_delta_nodes q) (transposed_delta_chain q x u (drop 1 q.b) (feedback q) (map (at gy.now) ks) start)) gy.value g1 in
-    let gc : GivesChain f s x gy.now (transposed_delta_nodes q) (transposed_delta_chain q x y.value (drop 1 q.b) (feedback q) s start) = subst (λ (u : List ℤ). GivesChain f s x gy.now (transposed_delta_nodes q) (transposed_delta_chain q x y.value (drop 1 q.b) (feedback q) u start)) ws g2 in
+    let y = line q.format [] (transposed_output q x s) in
+    let start = no_places (transposed_form q).nodes in
+    let chain = λ (u v : ℤ) (w : List ℤ) (c : Chain). transposed_delta_chain q u v (drop 1 q.b) (feedback q) w c in
+    let g = transposed_steps q s x z l (transposed_delta_nodes q) chain (λ vs c g i j h. transposed_delta_gives q s x vs 0 (transposed_form q).place (drop 1 q.b) (feedback q) (count 1 (order q)) start c g i j h) in
     record {
-      y = ap (λ (u : List ℤ). at u yp) gc.stands.values ∙ gc.keeps.old yp gy.within ∙ gy.value;
-      exact = gc.stands.exact;
-      after = ap (λ (u : List ℤ). map (at u) (transposed_delta_nodes q).places) gc.stands.values ∙ gc.words;
-      good = transposed_delta_chain-length q x y.value (drop 1 q.b) (feedback q) s start (omega (arith, z.forward, z.back, length-drop 1 q.b)) (omega (arith, z.back)) ∙ (zero-add (length (feedback q)) ∙ z.back);
+      y = g.y;
+      exact = g.exact;
+      after = g.after;
+      good = transposed_delta_chain-length q x y.value (drop 1 q.b) (feedback q) s (no_words y.exact) (omega (arith, z.forward, z.back, length-drop 1 q.b)) (omega (arith, z.back)) ∙ (zero-add (length (feedback q)) ∙ z.back);
     }
