@@ -1,5 +1,5 @@
 -- The texts of refusals of a controller file.
-use Rattle.std.specs.Prelude.{ℕ, List, [], ◌∷◌, codes, pos}
+use Rattle.std.specs.Prelude.{ℕ, List, [], ◌∷◌, codes, ℤ, pos}
 use Rattle.std.specs.Fmt.{signed_decimal}
 use Rattle.dsv_token.specs.declared.refusal.FileRefusal.{FileRefusal}
 use Rattle.dsv_token.specs.declared.refusal.FileRefusal.TheVariants as refusal
@@ -105,3 +105,10 @@ quant_text_behind code (quant.FractionWide name i) = joined (code ∷ list_name 
 
 abbrev pub quant_text : QuantRefusal → List ℕ
 quant_text r = quant_text_behind (quant_code r) r
+
+-- the code and the name of the refusal of an input, which has this number and is this
+unfoldable pub input_code : List ℕ
+input_code = codes "FILE REFUSED 25 INPUT_RANGE "
+
+abbrev pub input_text : ℕ → ℤ → List ℕ
+input_text index value = joined (input_code ∷ signed_decimal (pos index) ∷ codes " " ∷ signed_decimal value ∷ codes "\n" ∷ [])

@@ -9,7 +9,7 @@ use Rattle.dsv_forms.specs.declared.offers.Form.{Form}
 use Rattle.dsv_meaning.specs.Runs.{SampleRow}
 use Rattle.dsv_words.specs.Jobs.{Asked}
 use Rattle.dsv_cli.specs.Pieces.{joined}
-use Rattle.dsv_cli.specs.Refusals.{file_text, quant_text}
+use Rattle.dsv_cli.specs.Refusals.{file_text, quant_text, input_text}
 use Rattle.dsv_cli.specs.declared.answers.Answer.{Answer}
 use Rattle.dsv_cli.specs.declared.answers.Answer.TheVariants as answer
 use Rattle.dsv_cli.specs.declared.answers.WhichFile.TheVariants as file
@@ -54,11 +54,14 @@ value_text value = joined (codes " value " ∷ signed_decimal value ∷ codes "\
 abbrev pub start_text : List ℤ → ℤ → List ℕ
 start_text start value = codes "start" ++ flat_map (spaced signed_decimal) start ++ value_text value
 
--- a line for a sample: its number, its input and its output, and its exact values
+-- the number, the input and the output of a sample
+abbrev pub words_text : ℕ → ℤ → ℤ → List ℕ
+words_text number x y =
+    joined (codes "sample " ∷ signed_decimal (pos number) ∷ codes " input " ∷ signed_decimal x ∷ codes " output " ∷ signed_decimal y ∷ [])
+
+-- and behind them its exact values, up to the end of the line
 abbrev pub sample_text : ℕ → SampleRow → List ℕ
-sample_text number row =
-    joined (codes "sample " ∷ signed_decimal (pos number) ∷ codes " input " ∷ signed_decimal row.x ∷ codes " output " ∷ signed_decimal row.y ∷ [])
-    ++ numbers_line (codes " exact") row.exact
+sample_text number row = words_text number row.x row.y ++ numbers_line (codes " exact") row.exact
 
 -- the lines of samples with these numbers on
 abbrev pub samples_text : ℕ → List SampleRow → List ℕ
@@ -71,12 +74,6 @@ simulation = codes "SIMULATION\nrealization "
 abbrev pub simulation_text : Kind → List SampleRow → List ℕ
 simulation_text k rows = head_text simulation k ++ samples_text 0 rows
 
-unfoldable pub input_range : List ℕ
-input_range = codes "FILE REFUSED 25 INPUT_RANGE "
-
-abbrev pub input_range_text : ℕ → ℤ → List ℕ
-input_range_text index value = joined (input_range ∷ signed_decimal (pos index) ∷ codes " " ∷ signed_decimal value ∷ codes "\n" ∷ [])
-
 abbrev pub text_of : Kind → Answer → List ℕ
 text_of k (answer.Falls poly offer fall) = head_text successful k ++ form_text poly offer.form fall
 text_of k (answer.KeptAway poly offer fall value) = head_text failed k ++ form_text poly offer.form fall ++ start_text (take offer.form.d offer.start) value
@@ -85,7 +82,7 @@ text_of k answer.Usage = codes "USAGE\n"
 text_of k (answer.FileRefused r) = file_text r
 text_of k answer.FileTooLong = codes "FILE REFUSED 12 TOO_LONG at 65536\n"
 text_of k (answer.QuantRefused r) = quant_text r
-text_of k (answer.InputRange index value) = input_range_text index value
+text_of k (answer.InputRange index value) = input_text index value
 text_of k answer.NotYet = codes "FILE REFUSED 13 NOT_YET\n"
 text_of k (answer.ReadFault file.Controller) = codes "READ FAULT CONTROLLER\n"
 text_of k answer.NoMemory = codes "NO MEMORY\n"

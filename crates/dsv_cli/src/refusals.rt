@@ -1,7 +1,7 @@
 // Writes why a controller file is refused, with no memory.
 ghost use Rattle.std.specs.Prelude.{◌≡◌};
 ghost use Rattle.dsv_base.specs.Taking.{Writes};
-ghost use Rattle.dsv_cli.specs.Refusals.{wanted_name, field_name, list_name, code_of, place_of, detail_head, detail_name, file_text, quant_code, quant_text, quant_text_behind};
+ghost use Rattle.dsv_cli.specs.Refusals.{wanted_name, field_name, list_name, code_of, place_of, detail_head, detail_name, file_text, quant_code, quant_text, quant_text_behind, input_code, input_text};
 
 use crate::pieces::{Piece, put_pieces};
 use dsv_base::{Failed, Sink};
@@ -189,4 +189,29 @@ fn put_quant_refusal_behind<K: Sink>(
             put_pieces(sink, &[code, name, space, Piece::Number(index.into()), end])
         }
     }
+}
+
+/// The code and the name of the refusal of an input.
+#[tactic(auto, unfolding(crate::specs::Refusals::input_code))]
+fn input_code() -> &'static [u8]
+    ensures { result.now ≡ input_code }
+{
+    b"FILE REFUSED 25 INPUT_RANGE "
+}
+
+/// Writes the refusal of an input.
+#[tactic(auto, using(dsv_word::proofs::Casts::casts))]
+pub fn put_input_range<K: Sink>(sink: &mut K, index: u32, value: &i64) -> Result<(), Failed>
+    ensures { Writes K.taken K.faults sink.old sink.new result (input_text index value.now) }
+{
+    put_pieces(
+        sink,
+        &[
+            Piece::Bytes(input_code()),
+            Piece::Number(index.into()),
+            Piece::Bytes(b" "),
+            Piece::Number((*value).into()),
+            Piece::Bytes(b"\n"),
+        ],
+    )
 }

@@ -1,15 +1,17 @@
 // Writes the text of an answer, with no memory.
+#![tactic(auto, using(dsv_word::proofs::Casts::casts))]
+
 ghost use Rattle.std.specs.Prelude.{◌≡◌, ◌≤◌, ◌++◌, take, map};
 ghost use Rattle.std.specs.Fmt.{signed_decimal};
 ghost use Rattle.std.specs.List.{flat_map};
 ghost use Rattle.dsv_base.specs.Taking.{Writes};
 ghost use Rattle.dsv_base.specs.Text.{spaced};
 ghost use Rattle.dsv_meaning.specs.RowViews.{row_of};
-ghost use Rattle.dsv_cli.specs.Report.{kind_name, head_text, successful, failed, text_of, rows_text, form_text, value_text, start_text, sample_text, samples_text, simulation_text, input_range_text, HasPlaces};
+ghost use Rattle.dsv_cli.specs.Report.{kind_name, head_text, successful, failed, text_of, rows_text, form_text, value_text, start_text, words_text, sample_text, samples_text, simulation_text, HasPlaces};
 
 use crate::answers::{Answer, WhichFile};
 use crate::pieces::{Piece, put_pieces};
-use crate::refusals::{put_file_refusal, put_quant_refusal};
+use crate::refusals::{put_file_refusal, put_input_range, put_quant_refusal};
 use dsv_base::{Failed, Sink, put_all, put_line, put_spaced};
 use dsv_forms::{Form, KeptAway, Poly};
 use dsv_meaning::{Row, Rows};
@@ -142,21 +144,28 @@ fn put_kept_away<K: Sink>(
     put_start(sink, &offer.start[..offer.form.d as usize], value)
 }
 
-/// Writes a line for a sample.
-fn put_sample<K: Sink>(sink: &mut K, number: usize, row: &Row) -> Result<(), Failed>
-    ensures { Writes K.taken K.faults sink.old sink.new result (sample_text number (row_of row.now)) }
+/// Writes a sample's number, its input and its output.
+fn put_words<K: Sink>(sink: &mut K, number: u64, x: &i64, y: &i64) -> Result<(), Failed>
+    ensures { Writes K.taken K.faults sink.old sink.new result (words_text number x.now y.now) }
 {
     put_pieces(
         sink,
         &[
             Piece::Bytes(b"sample "),
-            Piece::Number(number as i128),
+            Piece::Number(number.into()),
             Piece::Bytes(b" input "),
-            Piece::Number(row.x.into()),
+            Piece::Number((*x).into()),
             Piece::Bytes(b" output "),
-            Piece::Number(row.y.into()),
+            Piece::Number((*y).into()),
         ],
-    )?;
+    )
+}
+
+/// Writes a line for a sample.
+fn put_sample<K: Sink>(sink: &mut K, number: u64, row: &Row) -> Result<(), Failed>
+    ensures { Writes K.taken K.faults sink.old sink.new result (sample_text number (row_of row.now)) }
+{
+    put_words(sink, number, &row.x, &row.y)?;
     put_line(sink, b" exact", row.exact.as_slice())
 }
 
@@ -165,7 +174,7 @@ fn put_samples<K: Sink>(sink: &mut K, rows: &[Row]) -> Result<(), Failed>
     ensures { Writes K.taken K.faults sink.old sink.new result (samples_text 0 (map row_of rows.now)) }
 {
     for (number, row) in rows.iter().enumerate() {
-        put_sample(sink, number, row)?;
+        put_sample(sink, number as u64, row)?;
     }
     Ok(())
 }
@@ -177,23 +186,6 @@ fn put_simulation<K: Sink>(sink: &mut K, kind: Kind, rows: &Rows) -> Result<(), 
 {
     put_head(sink, SIMULATION, kind)?;
     put_samples(sink, rows.as_slice())
-}
-
-/// Writes the refusal of an input.
-#[tactic(auto, unfolding(crate::specs::Report::input_range))]
-fn put_input_range<K: Sink>(sink: &mut K, index: u32, value: &i64) -> Result<(), Failed>
-    ensures { Writes K.taken K.faults sink.old sink.new result (input_range_text index value.now) }
-{
-    put_pieces(
-        sink,
-        &[
-            Piece::Bytes(b"FILE REFUSED 25 INPUT_RANGE "),
-            Piece::Number(index.into()),
-            Piece::Bytes(b" "),
-            Piece::Number((*value).into()),
-            Piece::Bytes(b"\n"),
-        ],
-    )
 }
 
 /// Writes the text of an answer, for a job with this realisation.

@@ -1,13 +1,16 @@
 // Runs a controller in words over inputs.
+#![tactic(auto, using(dsv_word::proofs::Casts::casts))]
+
 ghost use Rattle.std.specs.Prelude.{◌≡◌, ◌≤◌, length, IfOk, MatchOption};
 ghost use Rattle.std.specs.List.{All};
 ghost use Rattle.dsv_meaning.specs.Equations.{order, registers_of};
 ghost use Rattle.dsv_meaning.specs.Systems.{equations_of, rows, zeros, AreInRange};
-ghost use Rattle.dsv_netlist.specs.Nodes.{IsWord};
+ghost use Rattle.dsv_meaning.specs.RowViews.{row_of};
+ghost use Rattle.dsv_netlist.specs.Nodes.{IsWord, step_of};
 ghost use Rattle.dsv_realise.specs.Running.{net_rows};
 ghost use Rattle.dsv_cli.specs.Headline.{IsOfRun, IsFound, IsShown};
 ghost use Rattle.dsv_cli.specs.Report.{HasPlaces};
-ghost use Rattle.dsv_cli.specs.Simulating.{IsFirstOutside};
+ghost use Rattle.dsv_cli.specs.Simulating.{IsFirstOutside, row_at};
 
 use crate::answers::Answer;
 use dsv_base::NoMemory;
@@ -39,18 +42,37 @@ fn find_outside(low: &i64, high: &i64, inputs: &[i64]) -> Option<Numbered>
     None
 }
 
-/// The rows of a netlist's steps over these inputs, from registers of zeros.
-fn run_netlist(alloc: Global, net: &Netlist, inputs: &[i64]) -> Result<Rows, NoMemory>
-    requires { All (IsWord net.now.format) inputs.now }
-    ensures { IfOk result (λ found. found ≡ net_rows net.now (zeros (length net.now.next)) inputs.now) }
+/// The row of a netlist's step, which loads the registers.
+fn step_row(net: &Netlist, registers: &mut [i64], x: &i64) -> Row
+    requires many { length registers.old ≡ length net.now.next }
+    requires words { All (IsWord net.now.format) registers.old }
+    requires input { IsWord net.now.format x.now }
+    ensures row { row_of result ≡ row_at (step_of net.now registers.old x.now) x.now }
+    ensures registers { registers.new ≡ (step_of net.now registers.old x.now).registers }
+    ensures many { length registers.new ≡ length net.now.next }
+    ensures words { All (IsWord net.now.format) registers.new }
 {
-    let _len = net.len();
-    let mut registers = vec![in alloc; 0i64; net.registers() as usize]?;
+    let mut exact = ExactList::new();
+    let y = net.step(registers, *x, &mut exact);
+    Row { x: *x, y, exact }
+}
+
+/// The rows of a netlist's steps over these inputs, from the words in the registers.
+fn run_netlist(
+    alloc: Global,
+    net: &Netlist,
+    registers: &mut [i64],
+    inputs: &[i64],
+) -> Result<Rows, NoMemory>
+    requires many { length registers.old ≡ length net.now.next }
+    requires words { All (IsWord net.now.format) registers.old }
+    requires inputs { All (IsWord net.now.format) inputs.now }
+    ensures { IfOk result (λ found. found ≡ net_rows net.now registers.old inputs.now) }
+{
     let mut rows = Vec::new(alloc);
     for x in inputs {
-        let mut exact = ExactList::new();
-        let y = net.step(&mut registers, *x, &mut exact);
-        rows.push(Row { x: *x, y, exact })?;
+        let row = step_row(net, registers, x);
+        rows.push(row)?;
     }
     Ok(Rows::from(rows))
 }
@@ -60,9 +82,10 @@ fn rows_over(alloc: Global, words: &Quantised, inputs: &[i64]) -> Result<Rows, N
     requires { AreInRange words.now.xlo words.now.xhi inputs.now }
     ensures { IfOk result (λ found. found ≡ rows (equations_of words.now) (zeros (registers_of words.now.kind (order words.now))) inputs.now) }
 {
-    let _lowest = words.xlo();
+    let _order = words.order();
     let net = realise(alloc, words)?;
-    run_netlist(alloc, &net, inputs)
+    let mut registers = vec![in alloc; 0i64; net.registers() as usize]?;
+    run_netlist(alloc, &net, &mut registers, inputs)
 }
 
 /// The answer to a simulation over these inputs.

@@ -6,6 +6,7 @@ use std::fs;
 use std::test::Fail;
 
 mod quantising;
+mod simulating;
 
 /// A controller file in one line: the numerator's and the denominator's coefficients, the bits before and behind the
 /// point, and the least and the greatest input.
@@ -277,7 +278,7 @@ fn words_choose_the_design(rt: HostRuntime) -> Result<(), Fail> {
         "f --property stability",
         "f --property",
         "f g --property STABILITY",
-        "f --property STABILITY --realization DDFI",
+        "f --property STABILITY --realization DDF",
         "f --property STABILITY --unbounded",
     ] {
         let (status, text) = run_on(alloc, words, b"")?;

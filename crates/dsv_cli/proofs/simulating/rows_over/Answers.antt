@@ -1,0 +1,10 @@
+use Rattle.std.proofs.Common.{rules, ◌≡◌, replicate, pos}
+use Rattle.std.proofs.lemmas.List.Elements.{All-replicate}
+use Rattle.dsv_netlist.specs.Nodes.{IsWord}
+use Rattle.dsv_cli.proofs.RunLines.{zero_word}
+use Rattle.dsv_cli.proofs.simulating.rows_over.Goals as goal
+
+pub run_netlist-requires-clause-words : goal.run_netlist-requires-clause-words
+run_netlist-requires-clause-words c =
+    let words : c.deref_mut.result.now ≡ replicate c.registers.result (pos 0) = search rules in
+    rw words (All-replicate (IsWord c.in_ok-net.net.format) c.registers.result (pos 0) (zero_word c.in_ok-net.net.format))

@@ -1,0 +1,13 @@
+use Rattle.std.proofs.Common.{◌≡◌, ◌++◌, length, drop, map}
+use Rattle.std.specs.List.{All}
+use Rattle.dsv_meaning.specs.RowViews.{row_of}
+use Rattle.dsv_netlist.specs.Nodes.{IsWord}
+use Rattle.dsv_realise.specs.Running.{net_rows}
+use Rattle.dsv_cli.proofs.simulating.run_netlist.Given as goal
+
+abbrev pub invariant-loop-x : goal.invariant-loop-x
+invariant-loop-x l = record {
+  same : map row_of l.rows.items ++ net_rows l.net l.registers (drop l.x-index l.inputs) ≡ net_rows l.net l.fn.registers l.inputs;
+  many : length l.registers ≡ length l.net.next;
+  words : All (IsWord l.net.format) l.registers;
+}
