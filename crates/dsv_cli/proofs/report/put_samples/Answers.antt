@@ -8,7 +8,7 @@ returns-in_err-put_sample g c =
     let row = c.index-rows-number.result in
     let item : row ≡ get_or c.args.rows.now c.loop-number.number row = search rules in
     writes_err c.from_residual.ensures.0
-        (cut_sample c.args.rows.now c.loop-number.number row (omega arith) item c.loop-number.invariant c.in_err-put_sample.ensures.cut)
+    (cut_sample c.args.rows.now c.loop-number.number row (omega arith) item c.loop-number.invariant c.in_err-put_sample.ensures.cut)
 
 pub loop-number-preserved : goal.loop-number-preserved
 loop-number-preserved g c =
