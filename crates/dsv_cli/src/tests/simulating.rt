@@ -8,6 +8,47 @@ const DELTA: &str =
 implementation r = { .int_bits = 3, .frac_bits = 4, .max = 1.0, .min = -1.0, .delta = 0.5 };
 ";
 
+/// alpha = 1, 1, 0.5 and beta = 0.5, 0, 1 in the delta operator, with delta 0.5: the words are a = 16, 16, 8 and
+/// b = 8, 0, 16, and delta's is 8.
+const DELTA_TWO: &str =
+    "digital_system d = { .b = {0.5, -1.0, 0.75}, .b_size = 3, .a = {1.0, -1.5, 0.625}, .a_size = 3, .sample_time = 0.001 };
+implementation r = { .int_bits = 4, .frac_bits = 4, .max = 1.0, .min = -1.0, .delta = 0.5 };
+";
+
+#[test]
+fn delta_forms_of_order_two_by_hand(rt: HostRuntime) -> Result<(), Fail> {
+    let alloc = rt.alloc();
+    for (name, first, second, third) in [
+        (
+            "DDFI",
+            "exact 8 0 8 0 8 0 8 0 8 8 8 0 0 4 4 0 0",
+            "exact 0 0 0 0 0 4 -4 0 -4 0 8 4 4 -2 2 2 2",
+            "exact 0 0 0 4 4 2 2 1 1 0 8 4 8 0 2 1 3",
+        ),
+        (
+            "DDFII",
+            "exact 0 16 0 16 8 0 8 0 8 8 8 0 0",
+            "exact 8 -8 0 -8 -4 0 -4 0 -4 -4 4 4 4",
+            "exact 4 -4 2 -6 -3 0 -3 4 1 -3 1 2 6",
+        ),
+        (
+            "TDDFII",
+            "exact 8 8 0 8 -8 -8 -4 -4 16 4 12 6 6",
+            "exact 0 -4 0 -4 4 10 5 1 0 -2 2 1 7",
+            "exact 0 1 0 1 -1 6 3 4 0 0 0 0 7",
+        ),
+    ] {
+        let words = format!(in alloc; "f --simulate 16,0,0 --realization {name}")?;
+        let (status, written) = run_on(alloc, &words, DELTA_TWO.as_bytes())?;
+        let wanted = format!(in alloc;
+            "SIMULATION\nrealization {name}\nsample 0 input 16 output 8 {first}\nsample 1 input 0 output -4 {second}\nsample 2 input 0 output 1 {third}\n"
+        )?;
+        assert_eq!(rt; status, 0, "at {name}");
+        assert_eq!(rt; written.as_slice(), wanted.as_bytes(), "at {name}");
+    }
+    Ok(())
+}
+
 #[test]
 fn direct_forms_are_simulated(rt: HostRuntime) -> Result<(), Fail> {
     let alloc = rt.alloc();
