@@ -4,4 +4,4 @@
 
 mod whole;
 
-pub use whole::Whole;
+pub use whole::NarrowInteger;

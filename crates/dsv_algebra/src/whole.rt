@@ -1,4 +1,4 @@
-// Whole numbers with exact arithmetic.
+// NarrowInteger numbers with exact arithmetic.
 ghost use Rattle.std.specs.Prelude.{◌≡◌, ◌+ℤ◌, ◌-ℤ◌, ◌*ℤ◌};
 ghost use Rattle.dsv_algebra.specs.Narrow.{narrowed};
 
@@ -9,11 +9,11 @@ const TOO_WIDE: u128 = 1 << 126;
 
 /// A whole number of 128 bits. Its arithmetic is exact, and an operation whose result passes 2^126 answers `None`.
 #[derive(Clone, Copy, Debug, PartialEq, Eq)]
-pub struct Whole {
+pub struct NarrowInteger {
     value: i128,
 }
 
-impl Model for Whole {
+impl Model for NarrowInteger {
     ghost use Rattle.std.specs.Prelude.{ℤ};
 
     ghost Value = { ℤ };
@@ -23,25 +23,25 @@ impl Model for Whole {
     ghost inverse = { λ z. record { value = z } };
 }
 
-impl From<i128> for Whole {
+impl From<i128> for NarrowInteger {
     ghost from_gives = { λ value w. w ≡ value };
 
     fn from(value: i128) -> Self {
-        Whole { value }
+        NarrowInteger { value }
     }
 }
 
-impl From<i64> for Whole {
+impl From<i64> for NarrowInteger {
     ghost from_gives = { λ value w. w ≡ value };
 
     fn from(value: i64) -> Self {
-        Whole {
+        NarrowInteger {
             value: i128::from(value),
         }
     }
 }
 
-impl Whole {
+impl NarrowInteger {
     /// The number itself.
     pub fn get(self) -> i128
         ensures { result ≡ self }
@@ -50,7 +50,7 @@ impl Whole {
     }
 
     /// The number, where it doesn't pass 2^126.
-    pub fn narrow(self) -> Option<Whole>
+    pub fn narrow(self) -> Option<NarrowInteger>
         ensures { result ≡ narrowed self }
     {
         if self.value.unsigned_abs() < TOO_WIDE {
@@ -61,26 +61,26 @@ impl Whole {
     }
 
     /// The product, where it doesn't pass 2^126.
-    pub fn checked_mul(self, other: Whole) -> Option<Whole>
+    pub fn checked_mul(self, other: NarrowInteger) -> Option<NarrowInteger>
         ensures { result ≡ narrowed (self *ℤ other) }
     {
         let value = self.value.checked_mul(other.value)?;
-        Whole { value }.narrow()
+        NarrowInteger { value }.narrow()
     }
 
     /// The sum, where it doesn't pass 2^126.
-    pub fn checked_add(self, other: Whole) -> Option<Whole>
+    pub fn checked_add(self, other: NarrowInteger) -> Option<NarrowInteger>
         ensures { result ≡ narrowed (self +ℤ other) }
     {
         let value = self.value.checked_add(other.value)?;
-        Whole { value }.narrow()
+        NarrowInteger { value }.narrow()
     }
 
     /// The difference, where it doesn't pass 2^126.
-    pub fn checked_sub(self, other: Whole) -> Option<Whole>
+    pub fn checked_sub(self, other: NarrowInteger) -> Option<NarrowInteger>
         ensures { result ≡ narrowed (self -ℤ other) }
     {
         let value = self.value.checked_sub(other.value)?;
-        Whole { value }.narrow()
+        NarrowInteger { value }.narrow()
     }
 }

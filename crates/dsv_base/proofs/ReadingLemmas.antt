@@ -3,7 +3,7 @@ use Rattle.std.proofs.Common.{◌≡◌, ℕ, ◌+◌, ◌<◌, ◌≤◌, List,
 use Rattle.std.proofs.Math.Seq.{take-add}
 use Rattle.std.proofs.lemmas.Grind.{common_steps}
 use Rattle.dsv_base.specs.Counts.{last_count, Rose, RoseBy}
-use Rattle.dsv_base.specs.Reading.{IsPiece}
+use Rattle.dsv_base.specs.Reading.{IsChunk}
 
 same_length : (file room : List ℕ) (got count : ℕ) → count ≤ length room → got ≤ length file → take count room ≡ take count (drop got file) → got + count ≤ length file
 same_length file room got count fits h e =
@@ -13,7 +13,7 @@ same_length file room got count fits h e =
 -- What was read so far is a front of the file, and the next piece goes on from there.
 pub read_more : (held : Option (List ℕ)) (bytes more : List ℕ) (got count : ℕ) (room : List ℕ)
     → IfSome held (λ file. (bytes ≡ take got file) × (got ≤ length file))
-    → IfSome held (λ file. IsPiece file got count room)
+    → IfSome held (λ file. IsChunk file got count room)
     → count ≤ length room → more ≡ bytes ++ take count room
     → IfSome held (λ file. (more ≡ take (got + count) file) × (got + count ≤ length file))
 read_more None bytes more got count room so_far piece fits e = tt
@@ -23,7 +23,7 @@ read_more (Some file) bytes more got count room so_far piece fits e =
 -- a file that is longer than the limit, since what was read and the next piece are
 pub longer : (held : Option (List ℕ)) (bytes : List ℕ) (got count limit : ℕ) (room : List ℕ)
     → IfSome held (λ file. (bytes ≡ take got file) × (got ≤ length file))
-    → IfSome held (λ file. IsPiece file got count room)
+    → IfSome held (λ file. IsChunk file got count room)
     → count ≤ length room → limit < got + count
     → IfSome held (λ file. limit < length file)
 longer None bytes got count limit room so_far piece fits past = tt

@@ -5,6 +5,7 @@ use Rattle.std.specs.BTreeMap.{BTreeMap, get_by_text}
 use Rattle.std.specs.Option.{option_map}
 use Rattle.std.specs.declared.alloc.Global.{Global}
 use Rattle.dsv_base.specs.Counts.{counted}
+use Rattle.dsv_base.specs.Seen.{FilesSeen}
 use Rattle.dsv_base.specs.declared.fetching.FetchEnd.{FetchEnd}
 use Rattle.dsv_base.specs.declared.fetching.FetchEnd.TheVariants as fetch
 
@@ -21,6 +22,10 @@ pub record FilesState : Type 0 where
   pub faults : ℕ
   pub came : ℕ
   pub blamed : Option (List ℕ)
+
+-- what they tell
+abbrev pub seen_of : FilesState → FilesSeen
+seen_of s = record { held = s.held; faults = s.faults; blamed = s.blamed; came = s.came }
 
 -- no files, and nothing fetched
 abbrev pub no_files : FilesState

@@ -4,6 +4,7 @@ pub mod FetchEnds
 pub mod FilesView
 pub mod Held
 pub mod Reading
+pub mod Seen
 pub mod SinkState
 pub mod Taking
 pub mod Text

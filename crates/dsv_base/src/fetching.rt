@@ -1,7 +1,8 @@
 // Files that are read in pieces.
-ghost use Rattle.std.specs.Prelude.{◌≡◌, ℕ, ◌+◌, ◌^◌, ◌<◌, ◌≤◌, ◌⊎◌, List, length, Option, IfOk, OnOk, IfSome, IsErrOf};
+ghost use Rattle.std.specs.Prelude.{◌≡◌, ◌+◌, ◌^◌, ◌<◌, ◌≤◌, ◌⊎◌, length, IfOk, OnOk, IfSome, IsErrOf};
 ghost use Rattle.dsv_base.specs.Counts.{Rose, RoseBy};
-ghost use Rattle.dsv_base.specs.Reading.{IsPiece};
+ghost use Rattle.dsv_base.specs.Reading.{IsChunk};
+ghost use Rattle.dsv_base.specs.Seen.{FilesSeen};
 ghost use Rattle.dsv_base.specs.FetchEnds.{count_of, read_end_of};
 ghost use Rattle.dsv_base.specs.declared.fetching.ReadEnd.TheVariants as end;
 
@@ -20,33 +21,25 @@ pub enum FetchEnd {
 
 /// Files that are read in pieces, each under a name. A missing file is a fault.
 pub trait Files {
-    /// The bytes of the file of a name, where they are told.
-    ghost held: { Self → List ℕ → Option (List ℕ) };
-
-    /// How many fetches failed: a count that never falls.
-    ghost faults: { Self → ℕ };
-
-    /// The name of the last fetch that failed, where one did and it is told.
-    ghost blamed: { Self → Option (List ℕ) };
-
-    /// How many bytes have come from all fetches: a count that never falls.
-    ghost came: { Self → ℕ };
+    /// What they tell: the bytes of each name, how many fetches failed and which name the last of these had, and how
+    /// many bytes came.
+    ghost seen: { Self → FilesSeen };
 
     /// Reads into `room` what comes first of the file's bytes from the offset `at` on, and answers how many
     /// bytes came; none come only at the file's end or behind it.
     fn fetch(&mut self, name: &str, at: u64, room: &mut [u8]) -> Result<usize, FetchEnd>
         requires has_room { 0 < length room.old }
         requires at { at ≤ 2 ^ 26 }
-        ensures held { held self.new ≡ held self.old }
+        ensures held { (seen self.new).held ≡ (seen self.old).held }
         ensures count { IfOk result (λ c. c ≤ length room.old) }
-        ensures piece { IfOk result (λ c. IfSome (held self.old name.now) (λ file. IsPiece file at c room.new)) }
-        ensures came { RoseBy (count_of result) (came self.old) (came self.new) }
+        ensures piece { IfOk result (λ c. IfSome ((seen self.old).held name.now) (λ file. IsChunk file at c room.new)) }
+        ensures came { RoseBy (count_of result) (seen self.old).came (seen self.new).came }
 
-        ensures faults { faults self.old ≤ faults self.new }
-        ensures failed { IsErrOf result FetchEnd.Failed → Rose (faults self.old) (faults self.new) }
-        ensures blamed { IsErrOf result FetchEnd.Failed → blamed self.new ≡ Some name.now }
-        ensures blamed_on_ok { OnOk result (blamed self.new ≡ blamed self.old) }
-        ensures blamed_on_no_memory { IsErrOf result FetchEnd.NoMemory → blamed self.new ≡ blamed self.old };
+        ensures faults { (seen self.old).faults ≤ (seen self.new).faults }
+        ensures failed { IsErrOf result FetchEnd.Failed → Rose (seen self.old).faults (seen self.new).faults }
+        ensures blamed { IsErrOf result FetchEnd.Failed → (seen self.new).blamed ≡ Some name.now }
+        ensures blamed_on_ok { OnOk result ((seen self.new).blamed ≡ (seen self.old).blamed) }
+        ensures blamed_on_no_memory { IsErrOf result FetchEnd.NoMemory → (seen self.new).blamed ≡ (seen self.old).blamed };
 }
 
 /// How reading a file ended without it.
@@ -92,20 +85,20 @@ pub fn read_all<F: Files>(
     limit: u64,
 ) -> Result<Bytes, ReadEnd>
     requires { limit ≤ 2 ^ 26 }
-    ensures held { F.held files.new ≡ F.held files.old }
-    ensures whole { IfOk result (λ bytes. IfSome (F.held files.old name.now) (λ file. bytes ≡ file)) }
+    ensures held { (F.seen files.new).held ≡ (F.seen files.old).held }
+    ensures whole { IfOk result (λ bytes. IfSome ((F.seen files.old).held name.now) (λ file. bytes ≡ file)) }
     ensures fits { IfOk result (λ bytes. length bytes ≤ limit) }
-    ensures all { IfOk result (λ bytes. RoseBy (length bytes) (F.came files.old) (F.came files.new)) }
+    ensures all { IfOk result (λ bytes. RoseBy (length bytes) (F.seen files.old).came (F.seen files.new).came) }
 
     // More than `limit` bytes came, also where the file's bytes aren't told; and else at most as many.
-    ensures too_long { IsErrOf result ReadEnd.TooLong → IfSome (F.held files.old name.now) (λ file. limit < length file) }
-    ensures too_many { IsErrOf result ReadEnd.TooLong → Rose (F.came files.old + limit) (F.came files.new) }
-    ensures not_too_many { IsErrOf result ReadEnd.TooLong ⊎ (F.came files.new ≤ F.came files.old + limit) }
+    ensures too_long { IsErrOf result ReadEnd.TooLong → IfSome ((F.seen files.old).held name.now) (λ file. limit < length file) }
+    ensures too_many { IsErrOf result ReadEnd.TooLong → Rose ((F.seen files.old).came + limit) (F.seen files.new).came }
+    ensures not_too_many { IsErrOf result ReadEnd.TooLong ⊎ ((F.seen files.new).came ≤ (F.seen files.old).came + limit) }
 
-    ensures faults { F.faults files.old ≤ F.faults files.new }
-    ensures failed { IsErrOf result ReadEnd.Failed → Rose (F.faults files.old) (F.faults files.new) }
-    ensures blamed { IsErrOf result ReadEnd.Failed → F.blamed files.new ≡ Some name.now }
-    ensures blamed_else { IsErrOf result ReadEnd.Failed ⊎ (F.blamed files.new ≡ F.blamed files.old) }
+    ensures faults { (F.seen files.old).faults ≤ (F.seen files.new).faults }
+    ensures failed { IsErrOf result ReadEnd.Failed → Rose (F.seen files.old).faults (F.seen files.new).faults }
+    ensures blamed { IsErrOf result ReadEnd.Failed → (F.seen files.new).blamed ≡ Some name.now }
+    ensures blamed_else { IsErrOf result ReadEnd.Failed ⊎ ((F.seen files.new).blamed ≡ (F.seen files.old).blamed) }
 {
     let mut bytes = Bytes::new(alloc);
     let mut got = 0;

@@ -3,7 +3,7 @@
 #![tactic(auto)]
 
 mod fetching;
-mod lists;
+mod items;
 mod mem_files;
 mod mem_sink;
 mod memory;
@@ -12,7 +12,7 @@ mod silent_files;
 mod text;
 
 pub use fetching::{FetchEnd, Files, ReadEnd, read_all};
-pub use lists::{Bytes, WordList};
+pub use items::{Bytes, Items, WordList};
 pub use mem_files::MemFiles;
 pub use mem_sink::MemSink;
 pub use memory::NoMemory;

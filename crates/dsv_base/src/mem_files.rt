@@ -62,18 +62,12 @@ impl MemFiles {
 impl Files for MemFiles {
     ghost use Rattle.std.specs.Prelude.{◌≡◌, ◌<◌, ◌≤◌, ◌^◌, not, is_ok, length, IfOk, OnOk, IfSome, IsErrOf, Some};
     ghost use Rattle.dsv_base.specs.Counts.{Rose, RoseBy};
-    ghost use Rattle.dsv_base.specs.Reading.{IsPiece};
+    ghost use Rattle.dsv_base.specs.Reading.{IsChunk};
     ghost use Rattle.dsv_base.specs.FetchEnds.{count_of};
-    ghost use Rattle.dsv_base.specs.Held.{fetch_fails, after_fetch};
+    ghost use Rattle.dsv_base.specs.Held.{seen_of, fetch_fails, after_fetch};
     ghost use Rattle.dsv_base.specs.FilesView.{state_of};
 
-    ghost held = { λ s. (state_of s).held };
-
-    ghost faults = { λ s. (state_of s).faults };
-
-    ghost blamed = { λ s. (state_of s).blamed };
-
-    ghost came = { λ s. (state_of s).came };
+    ghost seen = { λ s. seen_of (state_of s) };
 
     fn fetch(&mut self, name: &str, at: u64, room: &mut [u8]) -> Result<usize, FetchEnd>
         requires has_room { 0 < length room.old }
@@ -82,7 +76,7 @@ impl Files for MemFiles {
         ensures answers { is_ok result ≡ not (fetch_fails (state_of self.old) name.now) }
         ensures state { state_of self.new ≡ after_fetch (state_of self.old) name.now result }
         ensures count { IfOk result (λ c. c ≤ length room.old) }
-        ensures piece { IfOk result (λ c. IfSome ((state_of self.old).held name.now) (λ file. IsPiece file at c room.new)) }
+        ensures piece { IfOk result (λ c. IfSome ((state_of self.old).held name.now) (λ file. IsChunk file at c room.new)) }
         ensures came { RoseBy (count_of result) (state_of self.old).came (state_of self.new).came }
         ensures faults { (state_of self.old).faults ≤ (state_of self.new).faults }
         ensures failed { IsErrOf result FetchEnd.Failed → Rose (state_of self.old).faults (state_of self.new).faults }

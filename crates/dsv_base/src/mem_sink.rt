@@ -65,9 +65,7 @@ impl Sink for MemSink {
     ghost use Rattle.dsv_base.specs.Taking.{Grew};
     ghost use Rattle.dsv_base.specs.SinkState.{put_answer, after_put};
 
-    ghost taken = { λ s. Some s.taken };
-
-    ghost faults = { λ s. s.faults };
+    ghost seen = { λ s. record { taken = Some s.taken; faults = s.faults } };
 
     fn put(&mut self, piece: &[u8]) -> Result<usize, Failed>
         requires { 0 < length piece.now }

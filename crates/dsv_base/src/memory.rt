@@ -1,6 +1,6 @@
 // Want of memory, and what the objects in memory share.
 ghost use Rattle.std.specs.Prelude.{◌<◌, ◌≤◌, length};
-ghost use Rattle.dsv_base.specs.Reading.{IsPiece};
+ghost use Rattle.dsv_base.specs.Reading.{IsChunk};
 
 use std::alloc::{AllocError, AllocFailed};
 use thiserror::Error;
@@ -26,7 +26,7 @@ impl<T: Drop> From<AllocFailed<T>> for NoMemory {
 pub(crate) fn copy_from(bytes: &[u8], at: usize, room: &mut [u8]) -> usize
     requires { 0 < length room.old }
     ensures count { result ≤ length room.old }
-    ensures piece { IsPiece bytes.now at result room.new }
+    ensures piece { IsChunk bytes.now at result room.new }
 {
     if at >= bytes.len() {
         return 0;

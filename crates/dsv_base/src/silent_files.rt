@@ -36,23 +36,17 @@ impl SilentFiles {
 impl Files for SilentFiles {
     ghost use Rattle.std.specs.Prelude.{◌≡◌, ◌<◌, ◌≤◌, ◌^◌, length, IsOk, IfOk, Some, None};
     ghost use Rattle.dsv_base.specs.Counts.{RoseBy, counted};
-    ghost use Rattle.dsv_base.specs.Reading.{IsPiece};
+    ghost use Rattle.dsv_base.specs.Reading.{IsChunk};
     ghost use Rattle.dsv_base.specs.FetchEnds.{count_of};
 
-    ghost held = { λ s name. Some s.bytes };
-
-    ghost faults = { λ _. 0 };
-
-    ghost blamed = { λ _. None };
-
-    ghost came = { λ s. s.came };
+    ghost seen = { λ s. record { held = λ name. Some s.bytes; faults = 0; blamed = None; came = s.came } };
 
     fn fetch(&mut self, _name: &str, at: u64, room: &mut [u8]) -> Result<usize, FetchEnd>
         requires has_room { 0 < length room.old }
         requires at { at ≤ 2 ^ 26 }
         ensures never_fails { IsOk result }
         ensures count { IfOk result (λ c. c ≤ length room.old) }
-        ensures piece { IfOk result (λ c. IsPiece self.old.bytes at c room.new) }
+        ensures piece { IfOk result (λ c. IsChunk self.old.bytes at c room.new) }
         ensures state { self.new ≡ record self.old { came = counted self.old.came (count_of result) } }
         ensures came { RoseBy (count_of result) self.old.came self.new.came }
     {

@@ -3,14 +3,14 @@ use Rattle.std.proofs.Common.{◌≡◌, ℕ, List, subst}
 use Rattle.std.specs.Prelude.{Ok, Option, Some, None, IfSome}
 use Rattle.dsv_reader.specs.Controllers as controllers
 use Rattle.dsv_quantiser.specs.FixedPoint.{FixedPoint}
-use Rattle.dsv_words.specs.Jobs.{Task, decides, simulates, Asked}
-use Rattle.dsv_words.specs.declared.job.Design.{Design}
+use Rattle.dsv_command.specs.Jobs.{Task, decides, simulates, Asked}
+use Rattle.dsv_command.specs.declared.job.Design.{Design}
 use Rattle.dsv_cli.specs.declared.answers.Answer.{Answer}
 use Rattle.dsv_cli.specs.declared.answers.Answer.TheVariants as answer
 use Rattle.dsv_cli.specs.Headline.{BecomesWords, IsOfTask, IsQuantisedAs, IsFound, IsCauseIn, IsCauseOutside}
 
 -- the answer of a controller's words is that of the controller
-pub quantised_as : (c : controllers.Design) (design : Design) (task : Task) (words : FixedPoint) (found : Answer) → BecomesWords c design (Ok words) → IsOfTask task words found
+pub quantised_as : (c : controllers.ControllerView) (design : Design) (task : Task) (words : FixedPoint) (found : Answer) → BecomesWords c design (Ok words) → IsOfTask task words found
     → IsQuantisedAs c design task found
 quantised_as c design (decides property) words (answer.QuantRefused r) b h = absurd h
 quantised_as c design (simulates inputs) words (answer.QuantRefused r) b h = absurd h

@@ -10,8 +10,8 @@ use Rattle.dsv_meaning.specs.declared.rows.Row.{Row}
 use Rattle.dsv_meaning.specs.Runs.{SampleRow}
 use Rattle.dsv_meaning.specs.RowViews.{row_of}
 use Rattle.dsv_word.specs.declared.format.Format.{Format}
-use Rattle.dsv_word.specs.Words.{width}
-use Rattle.dsv_netlist.specs.Nodes.{Net, IsWord, step_of}
+use Rattle.dsv_word.specs.Words.{width, IsWord}
+use Rattle.dsv_netlist.specs.Nodes.{Net, step_of}
 use Rattle.dsv_realise.specs.Running.{net_rows}
 use Rattle.dsv_cli.specs.Simulating.{row_at}
 

@@ -1,6 +1,7 @@
 -- The lines of samples, one after another.
 use Rattle.std.proofs.Common.{◌≡◌, ◌∙◌, sym, ap, refl, ℕ, zero, suc, ◌+◌, ◌<◌, List, [], ◌∷◌, ◌++◌, length, take, drop, map, get_or, Option, subst, add-one, arith}
 use Rattle.std.proofs.lemmas.List.{append_assoc, append-nil}
+use Rattle.dsv_base.specs.Seen.{SinkSeen}
 use Rattle.dsv_base.specs.Taking.{Wrote, CutShort}
 use Rattle.dsv_base.proofs.TakingLemmas.{wrote_more, cut_later, cut_more}
 use Rattle.dsv_meaning.specs.declared.rows.Row.{Row}
@@ -39,17 +40,17 @@ line_more rows k row h e =
     ∙ ap (λ m. lines 0 (take k rows) ++ sample_text m (row_of (get_or rows k row))) n
     ∙ ap (λ (r : Row). lines 0 (take k rows) ++ sample_text k (row_of r)) (sym e)
 
-pub wrote_sample : {K : Type 0} {taken : K → Option (List ℕ)} {faults : K → ℕ} {a b c : K} (rows : List Row) (k : ℕ) (row : Row)
-    → k < length rows → row ≡ get_or rows k row → Wrote taken faults a b (lines 0 (take k rows)) → Wrote taken faults b c (sample_text k (row_of row))
-    → Wrote taken faults a c (lines 0 (take (k + 1) rows))
-wrote_sample {taken = taken} {faults} {a} {b} {c} rows k row h e f g =
-    subst (λ t. Wrote taken faults a c t) (sym (line_more rows k row h e) ∙ ap (λ n. lines 0 (take n rows)) (sym (add-one k))) (wrote_more f g)
+pub wrote_sample : {a b c : SinkSeen} (rows : List Row) (k : ℕ) (row : Row)
+    → k < length rows → row ≡ get_or rows k row → Wrote a b (lines 0 (take k rows)) → Wrote b c (sample_text k (row_of row))
+    → Wrote a c (lines 0 (take (k + 1) rows))
+wrote_sample {a} {b} {c} rows k row h e f g =
+    subst (λ t. Wrote a c t) (sym (line_more rows k row h e) ∙ ap (λ n. lines 0 (take n rows)) (sym (add-one k))) (wrote_more f g)
 
-pub cut_sample : {K : Type 0} {taken : K → Option (List ℕ)} {faults : K → ℕ} {a b c : K} (rows : List Row) (k : ℕ) (row : Row)
-    → k < length rows → row ≡ get_or rows k row → Wrote taken faults a b (lines 0 (take k rows)) → CutShort taken faults b c (sample_text k (row_of row))
-    → CutShort taken faults a c (lines 0 rows)
-cut_sample {taken = taken} {faults} {a} {b} {c} rows k row h e f g =
+pub cut_sample : {a b c : SinkSeen} (rows : List Row) (k : ℕ) (row : Row)
+    → k < length rows → row ≡ get_or rows k row → Wrote a b (lines 0 (take k rows)) → CutShort b c (sample_text k (row_of row))
+    → CutShort a c (lines 0 rows)
+cut_sample {a} {b} {c} rows k row h e f g =
     let rest = lines (0 + suc k) (drop (suc k) rows) in
-    subst (λ t. CutShort taken faults a c t)
+    subst (λ t. CutShort a c t)
     (ap (λ t. t ++ rest) (sym (line_more rows k row h e)) ∙ sym (lines_split 0 (suc k) rows))
     (cut_more rest (cut_later f g))

@@ -6,42 +6,42 @@ use Rattle.dsv_word.specs.declared.format.Format.{Format}
 use Rattle.dsv_reader.specs.Controllers as controllers
 use Rattle.dsv_reader.specs.Texts.{IsTextOf, IsFaultOf}
 use Rattle.dsv_quantiser.specs.FixedPoint.{FixedPoint}
-use Rattle.dsv_quantiser.specs.Kinds.{is_delta}
+use Rattle.dsv_names.specs.Realisations.{is_delta}
 use Rattle.dsv_quantiser.specs.Quantising.{quantised}
 use Rattle.dsv_quantiser.specs.declared.refusal.QuantRefusal.{QuantRefusal}
 use Rattle.dsv_lyapunov.specs.Answers.{IsStable, IsKeptAwayFrom}
 use Rattle.dsv_lyapunov.specs.ClosedForm.{first_leads}
 use Rattle.dsv_lyapunov.specs.Reduced.{IsReduced}
-use Rattle.dsv_words.specs.Jobs.{Task, decides, simulates, Asked, job_of}
-use Rattle.dsv_words.specs.declared.job.Design.{Design}
+use Rattle.dsv_command.specs.Jobs.{Task, decides, simulates, Asked, job_of}
+use Rattle.dsv_command.specs.declared.job.Design.{Design}
 use Rattle.dsv_cli.specs.Simulating.{IsRunOver, IsFirstOutside}
 use Rattle.dsv_cli.specs.declared.answers.Answer.{Answer}
 use Rattle.dsv_cli.specs.declared.answers.Answer.TheVariants as answer
 
 -- The format has the widths of the controller and the modes of the design.
-pub record IsFormatOf (c : controllers.Design) (design : Design) (format : Format) : Type 0 where
+pub record IsFormatOf (c : controllers.ControllerView) (design : Design) (format : Format) : Type 0 where
   pub int_bits : format.int_bits ≡ c.int_bits
   pub frac_bits : format.frac_bits ≡ c.frac_bits
   pub rounding : format.rounding ≡ design.rounding
   pub overflow : format.overflow ≡ design.overflow
 
 -- In the words of its format, by the modes and the realisation of the design, the controller is this, or refused so.
-pub record BecomesWords (c : controllers.Design) (design : Design) (outcome : Result FixedPoint QuantRefusal) : Type 0 where
+pub record BecomesWords (c : controllers.ControllerView) (design : Design) (outcome : Result FixedPoint QuantRefusal) : Type 0 where
   pub format : Format
   pub modes : IsFormatOf c design format
-  pub quantised : quantised c format design.kind ≡ outcome
+  pub quantised : quantised c format design.realisation ≡ outcome
 
 -- Of a direct form, the denominator's words with their greatest common power of two taken out are the polynomial, of order 0 or 1; its leading
 -- coefficient is greater than the size of the other one, or isn't.
 pub record IsTested (words : FixedPoint) (poly : List ℤ) (leads : Bool) : Type 0 where
-  pub direct : is_delta words.kind ≡ false
+  pub direct : is_delta words.realisation ≡ false
   pub low : length words.a ≤ 2
   pub reduced : IsReduced words.a poly
   pub which : first_leads poly ≡ leads
 
 -- the answer is that of a controller in these words
 abbrev pub IsOfPolynomial : FixedPoint → Answer → Type 0
-IsOfPolynomial words answer.NotYet = (is_delta words.kind ≡ true) ⊎ (3 ≤ length words.a)
+IsOfPolynomial words answer.NotYet = (is_delta words.realisation ≡ true) ⊎ (3 ≤ length words.a)
 IsOfPolynomial words (answer.Falls poly offer fall) = IsTested words poly true
 IsOfPolynomial words (answer.KeptAway poly offer fall value) = IsTested words poly false
 IsOfPolynomial words other = ⊥
@@ -59,19 +59,19 @@ IsOfTask (decides property) words found = IsOfPolynomial words found
 IsOfTask (simulates inputs) words found = IsOfRun words inputs found
 
 -- the controller becomes words, and the answer is that of these
-pub record IsOfWords (c : controllers.Design) (design : Design) (task : Task) (found : Answer) : Type 0 where
+pub record IsOfWords (c : controllers.ControllerView) (design : Design) (task : Task) (found : Answer) : Type 0 where
   pub words : FixedPoint
   pub becomes : BecomesWords c design (Ok words)
   pub answer : IsOfTask task words found
 
 -- the answer is that of the controller in this design
-abbrev pub IsQuantisedAs : controllers.Design → Design → Task → Answer → Type 0
+abbrev pub IsQuantisedAs : controllers.ControllerView → Design → Task → Answer → Type 0
 IsQuantisedAs c design task (answer.QuantRefused r) = BecomesWords c design (Err r)
 IsQuantisedAs c design task found = IsOfWords c design task found
 
 -- the bytes are the text of a controller, and the answer is that of the controller
 pub record IsOfText (job : Asked) (bytes : List ℕ) (found : Answer) : Type 0 where
-  pub controller : controllers.Design
+  pub controller : controllers.ControllerView
   pub text : IsTextOf bytes controller
   pub quantised : IsQuantisedAs controller job.design job.task found
 
@@ -126,4 +126,4 @@ IsExplained held faults blamed came old new words found = IsExplainedBy held fau
 -- the sink failed.
 abbrev pub IsWritten : {K : Type 0} → (K → Option (List ℕ)) → (K → ℕ) → K → K → ℕ → ℕ → List ℕ → Type 0
 IsWritten taken faults old new status wanted text =
-    ((status ≡ wanted) × Wrote taken faults old new text) ⊎ ((status ≡ 4) × CutShort taken faults old new text)
+    ((status ≡ wanted) × Wrote old new text) ⊎ ((status ≡ 4) × CutShort old new text)

@@ -1,11 +1,11 @@
 -- Texts in pieces.
 use Rattle.std.specs.Prelude.{ℕ, List, [], ◌∷◌, ◌++◌}
 use Rattle.std.specs.Fmt.{signed_decimal}
-use Rattle.dsv_cli.specs.declared.pieces.Piece.{Piece}
-use Rattle.dsv_cli.specs.declared.pieces.Piece.TheVariants as piece
+use Rattle.dsv_cli.specs.declared.pieces.Fragment.{Fragment}
+use Rattle.dsv_cli.specs.declared.pieces.Fragment.TheVariants as piece
 
 -- bytes as they stand, or a number in decimal
-abbrev pub piece_text : Piece → List ℕ
+abbrev pub piece_text : Fragment → List ℕ
 piece_text (piece.Bytes bytes) = bytes.now
 piece_text (piece.Number n) = signed_decimal n
 

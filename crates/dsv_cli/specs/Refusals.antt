@@ -3,48 +3,12 @@ use Rattle.std.specs.Prelude.{ℕ, List, [], ◌∷◌, codes, ℤ, pos}
 use Rattle.std.specs.Fmt.{signed_decimal}
 use Rattle.dsv_token.specs.declared.refusal.FileRefusal.{FileRefusal}
 use Rattle.dsv_token.specs.declared.refusal.FileRefusal.TheVariants as refusal
-use Rattle.dsv_token.specs.declared.refusal.Field.{Field}
-use Rattle.dsv_token.specs.declared.refusal.Field.TheVariants as field
-use Rattle.dsv_token.specs.declared.refusal.Wanted.{Wanted}
-use Rattle.dsv_token.specs.declared.refusal.Wanted.TheVariants as wanted
+use Rattle.dsv_names.specs.Fields.{field_name}
+use Rattle.dsv_names.specs.ListNames.{list_name}
+use Rattle.dsv_names.specs.Wants.{wanted_name}
 use Rattle.dsv_cli.specs.Pieces.{joined}
-use Rattle.dsv_delta.specs.declared.list_name.ListName.{ListName}
-use Rattle.dsv_delta.specs.declared.list_name.ListName.TheVariants as list
 use Rattle.dsv_quantiser.specs.declared.refusal.QuantRefusal.{QuantRefusal}
 use Rattle.dsv_quantiser.specs.declared.refusal.QuantRefusal.TheVariants as quant
-
-abbrev pub wanted_name : Wanted → List ℕ
-wanted_name wanted.Declaration = codes "DECLARATION"
-wanted_name wanted.Name = codes "NAME"
-wanted_name wanted.Equals = codes "EQUALS"
-wanted_name wanted.Open = codes "OPEN"
-wanted_name wanted.FieldOrClose = codes "FIELD_OR_CLOSE"
-wanted_name wanted.FieldName = codes "FIELD_NAME"
-wanted_name wanted.Number = codes "NUMBER"
-wanted_name wanted.NumberOrClose = codes "NUMBER_OR_CLOSE"
-wanted_name wanted.CommaOrClose = codes "COMMA_OR_CLOSE"
-wanted_name wanted.Value = codes "VALUE"
-wanted_name wanted.Close = codes "CLOSE"
-wanted_name wanted.Semicolon = codes "SEMICOLON"
-
-abbrev pub field_name : Field → List ℕ
-field_name field.B = codes "b"
-field_name field.A = codes "a"
-field_name field.BSize = codes "b_size"
-field_name field.ASize = codes "a_size"
-field_name field.SampleTime = codes "sample_time"
-field_name field.IntBits = codes "int_bits"
-field_name field.FracBits = codes "frac_bits"
-field_name field.Max = codes "max"
-field_name field.Min = codes "min"
-field_name field.Delta = codes "delta"
-
-abbrev pub list_name : ListName → List ℕ
-list_name list.B = codes "b"
-list_name list.A = codes "a"
-list_name list.Delta = codes "delta"
-list_name list.Min = codes "min"
-list_name list.Max = codes "max"
 
 -- the code and the name of a refusal, and the offset where it stands
 unfoldable pub code_of : FileRefusal → List ℕ

@@ -3,24 +3,17 @@ use Rattle.std.specs.Prelude.{ℕ, ◌+◌, ◌≤◌, pos, List, [], ◌∷◌,
 use Rattle.std.specs.List.{flat_map}
 use Rattle.std.specs.Fmt.{signed_decimal}
 use Rattle.dsv_base.specs.Text.{spaced, line_of}
-use Rattle.dsv_quantiser.specs.declared.kind.Kind.{Kind}
-use Rattle.dsv_quantiser.specs.declared.kind.Kind.TheVariants as kind
+use Rattle.dsv_names.specs.declared.realisation.Realisation.{Realisation}
+use Rattle.dsv_names.specs.declared.realisation.Realisation.TheVariants as realisation
+use Rattle.dsv_names.specs.Realisations.{realisation_name}
 use Rattle.dsv_forms.specs.declared.offers.Form.{Form}
 use Rattle.dsv_meaning.specs.Runs.{SampleRow}
-use Rattle.dsv_words.specs.Jobs.{Asked}
+use Rattle.dsv_command.specs.Jobs.{Asked}
 use Rattle.dsv_cli.specs.Pieces.{joined}
 use Rattle.dsv_cli.specs.Refusals.{file_text, quant_text, input_text}
 use Rattle.dsv_cli.specs.declared.answers.Answer.{Answer}
 use Rattle.dsv_cli.specs.declared.answers.Answer.TheVariants as answer
 use Rattle.dsv_cli.specs.declared.answers.WhichFile.TheVariants as file
-
-abbrev pub kind_name : Kind → List ℕ
-kind_name kind.Dfi = codes "DFI"
-kind_name kind.Dfii = codes "DFII"
-kind_name kind.Tdfii = codes "TDFII"
-kind_name kind.Ddfi = codes "DDFI"
-kind_name kind.Ddfii = codes "DDFII"
-kind_name kind.Tddfii = codes "TDDFII"
 
 -- a word and numbers behind it, each behind a space, up to the end of the line
 abbrev pub numbers_line : List ℕ → List ℤ → List ℕ
@@ -37,8 +30,8 @@ unfoldable pub failed : List ℕ
 failed = codes "VERIFICATION FAILED\nproperty STABILITY realization "
 
 -- a heading that ends with the realisation
-abbrev pub head_text : List ℕ → Kind → List ℕ
-head_text verdict k = joined (verdict ∷ kind_name k ∷ codes "\n" ∷ [])
+abbrev pub head_text : List ℕ → Realisation → List ℕ
+head_text verdict k = joined (verdict ∷ realisation_name k ∷ codes "\n" ∷ [])
 
 -- the polynomial, the form and what it loses in a step
 abbrev pub form_text : List ℤ → Form → Form → List ℕ
@@ -71,10 +64,10 @@ samples_text number (row ∷ rows) = sample_text number row ++ samples_text (num
 unfoldable pub simulation : List ℕ
 simulation = codes "SIMULATION\nrealization "
 
-abbrev pub simulation_text : Kind → List SampleRow → List ℕ
+abbrev pub simulation_text : Realisation → List SampleRow → List ℕ
 simulation_text k rows = head_text simulation k ++ samples_text 0 rows
 
-abbrev pub text_of : Kind → Answer → List ℕ
+abbrev pub text_of : Realisation → Answer → List ℕ
 text_of k (answer.Falls poly offer fall) = head_text successful k ++ form_text poly offer.form fall
 text_of k (answer.KeptAway poly offer fall value) = head_text failed k ++ form_text poly offer.form fall ++ start_text (take offer.form.d offer.start) value
 text_of k (answer.Simulated rows) = simulation_text k rows
@@ -88,9 +81,9 @@ text_of k (answer.ReadFault file.Controller) = codes "READ FAULT CONTROLLER\n"
 text_of k answer.NoMemory = codes "NO MEMORY\n"
 
 -- the realisation of a job; the text of words that are no job names none
-abbrev pub kind_of : Option Asked → Kind
-kind_of (Some job) = job.design.kind
-kind_of None = kind.Dfi
+abbrev pub kind_of : Option Asked → Realisation
+kind_of (Some job) = job.design.realisation
+kind_of None = realisation.Dfi
 
 abbrev pub status_of : Answer → ℕ
 status_of (answer.Falls poly offer fall) = 0

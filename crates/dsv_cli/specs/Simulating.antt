@@ -10,7 +10,7 @@ use Rattle.dsv_meaning.specs.Systems.{equations_of, rows, zeros, AreInRange}
 -- of zeros.
 pub record IsRunOver (words : FixedPoint) (inputs : List ℤ) (found : List SampleRow) : Type 0 where
   pub in_range : AreInRange words.xlo words.xhi inputs
-  pub rows : found ≡ rows (equations_of words) (zeros (registers_of words.kind (order words))) inputs
+  pub rows : found ≡ rows (equations_of words) (zeros (registers_of words.realisation (order words))) inputs
 
 -- the row of a netlist's step at this input
 abbrev pub row_at : Step → ℤ → SampleRow

@@ -2,15 +2,16 @@
 ghost use Rattle.std.specs.Prelude.{◌≤◌, length};
 ghost use Rattle.dsv_cli.specs.Headline.{IsCauseIn, IsFound, IsShown, IsOfPolynomial, IsOfTask, IsFormatOf, IsQuantisedAs};
 ghost use Rattle.dsv_cli.specs.Report.{HasPlaces};
-ghost use Rattle.dsv_words.specs.Asking.{asked_task, asked_of};
+ghost use Rattle.dsv_command.specs.Asking.{asked_task, asked_of};
 
 use crate::answers::Answer;
 use crate::simulating::simulated;
+use dsv_command::{Design, Job, Task};
 use dsv_lyapunov::{FormAnswer, decide, reduced};
+use dsv_names::Property;
 use dsv_quantiser::{Quantised, quantise};
 use dsv_reader::{Controller, FileRefusal, read};
 use dsv_word::Format;
-use dsv_words::{Design, Job, Property, Task};
 use std::alloc::Global;
 
 /// The most coefficients of a polynomial that is decided.
@@ -55,7 +56,7 @@ fn decided(words: &Quantised) -> Answer
     ensures places { HasPlaces result }
 {
     let denominator = words.a();
-    if words.kind().is_delta() || denominator.len() > MOST_COEFFICIENTS {
+    if words.realisation().is_delta() || denominator.len() > MOST_COEFFICIENTS {
         return Answer::NotYet;
     }
     let poly = reduced(denominator);
@@ -91,7 +92,7 @@ fn quantised(alloc: Global, controller: &Controller, design: Design, task: &Task
     ensures places { HasPlaces result }
 {
     let format = format_of(controller, design);
-    match quantise(controller, format, design.kind) {
+    match quantise(controller, format, design.realisation) {
         Ok(words) => done(alloc, &words, task),
         Err(refusal) => Answer::QuantRefused(refusal),
     }

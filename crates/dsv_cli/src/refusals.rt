@@ -1,60 +1,13 @@
 // Writes why a controller file is refused, with no memory.
 ghost use Rattle.std.specs.Prelude.{◌≡◌};
 ghost use Rattle.dsv_base.specs.Taking.{Writes};
-ghost use Rattle.dsv_cli.specs.Refusals.{wanted_name, field_name, list_name, code_of, place_of, detail_head, detail_name, file_text, quant_code, quant_text, quant_text_behind, input_code, input_text};
+ghost use Rattle.dsv_cli.specs.Refusals.{code_of, place_of, detail_head, detail_name, file_text, quant_code, quant_text, quant_text_behind, input_code, input_text};
 
-use crate::pieces::{Piece, put_pieces};
+use crate::pieces::{Fragment, put_pieces};
 use dsv_base::{Failed, Sink};
-use dsv_quantiser::{ListName, QuantRefusal};
-use dsv_reader::{Field, FileRefusal, Wanted};
-
-fn wanted_name(wanted: Wanted) -> &'static [u8]
-    ensures { result.now ≡ wanted_name wanted }
-{
-    match wanted {
-        Wanted::Declaration => b"DECLARATION",
-        Wanted::Name => b"NAME",
-        Wanted::Equals => b"EQUALS",
-        Wanted::Open => b"OPEN",
-        Wanted::FieldOrClose => b"FIELD_OR_CLOSE",
-        Wanted::FieldName => b"FIELD_NAME",
-        Wanted::Number => b"NUMBER",
-        Wanted::NumberOrClose => b"NUMBER_OR_CLOSE",
-        Wanted::CommaOrClose => b"COMMA_OR_CLOSE",
-        Wanted::Value => b"VALUE",
-        Wanted::Close => b"CLOSE",
-        Wanted::Semicolon => b"SEMICOLON",
-    }
-}
-
-fn field_name(field: Field) -> &'static [u8]
-    ensures { result.now ≡ field_name field }
-{
-    match field {
-        Field::B => b"b",
-        Field::A => b"a",
-        Field::BSize => b"b_size",
-        Field::ASize => b"a_size",
-        Field::SampleTime => b"sample_time",
-        Field::IntBits => b"int_bits",
-        Field::FracBits => b"frac_bits",
-        Field::Max => b"max",
-        Field::Min => b"min",
-        Field::Delta => b"delta",
-    }
-}
-
-fn list_name(list: ListName) -> &'static [u8]
-    ensures { result.now ≡ list_name list }
-{
-    match list {
-        ListName::B => b"b",
-        ListName::A => b"a",
-        ListName::Delta => b"delta",
-        ListName::Min => b"min",
-        ListName::Max => b"max",
-    }
-}
+use dsv_names::Named;
+use dsv_quantiser::QuantRefusal;
+use dsv_reader::FileRefusal;
 
 /// The code and the name of a refusal.
 #[tactic(auto, unfolding(crate::specs::Refusals::code_of))]
@@ -113,24 +66,24 @@ fn detail_name(refusal: FileRefusal) -> &'static [u8]
     ensures { result.now ≡ detail_name refusal }
 {
     match refusal {
-        FileRefusal::Unexpected { at: _, wanted } => wanted_name(wanted),
-        FileRefusal::FieldMissing { at: _, field } => field_name(field),
+        FileRefusal::Unexpected { at: _, wanted } => wanted.name().as_bytes(),
+        FileRefusal::FieldMissing { at: _, field } => field.name().as_bytes(),
         _ => b"",
     }
 }
 
 /// Writes the first fault of a file.
 pub fn put_file_refusal<K: Sink>(sink: &mut K, refusal: FileRefusal) -> Result<(), Failed>
-    ensures { Writes K.taken K.faults sink.old sink.new result (file_text refusal) }
+    ensures { Writes (K.seen sink.old) (K.seen sink.new) result (file_text refusal) }
 {
     put_pieces(
         sink,
         &[
-            Piece::Bytes(code_of(refusal)),
-            Piece::Number(place_of(refusal).into()),
-            Piece::Bytes(detail_head(refusal)),
-            Piece::Bytes(detail_name(refusal)),
-            Piece::Bytes(b"\n"),
+            Fragment::Bytes(code_of(refusal)),
+            Fragment::Number(place_of(refusal).into()),
+            Fragment::Bytes(detail_head(refusal)),
+            Fragment::Bytes(detail_name(refusal)),
+            Fragment::Bytes(b"\n"),
         ],
     )
 }
@@ -150,7 +103,7 @@ fn quant_code(refusal: QuantRefusal) -> &'static [u8]
 
 /// Writes why a controller has no words.
 pub fn put_quant_refusal<K: Sink>(sink: &mut K, refusal: QuantRefusal) -> Result<(), Failed>
-    ensures { Writes K.taken K.faults sink.old sink.new result (quant_text refusal) }
+    ensures { Writes (K.seen sink.old) (K.seen sink.new) result (quant_text refusal) }
 {
     put_quant_refusal_behind(sink, quant_code(refusal), refusal)
 }
@@ -160,33 +113,36 @@ fn put_quant_refusal_behind<K: Sink>(
     code: &[u8],
     refusal: QuantRefusal,
 ) -> Result<(), Failed>
-    ensures { Writes K.taken K.faults sink.old sink.new result (quant_text_behind code.now refusal) }
+    ensures { Writes (K.seen sink.old) (K.seen sink.new) result (quant_text_behind code.now refusal) }
 {
-    let code = Piece::Bytes(code);
-    let space = Piece::Bytes(b" ");
-    let end = Piece::Bytes(b"\n");
+    let code = Fragment::Bytes(code);
+    let space = Fragment::Bytes(b" ");
+    let end = Fragment::Bytes(b"\n");
     match refusal {
         QuantRefusal::CoefficientRange {
             list,
             index,
             wanted,
         } => {
-            let name = Piece::Bytes(list_name(list));
-            let place = Piece::Number(index.into());
-            let middle = Piece::Bytes(b" wanted ");
-            let word = Piece::Number(wanted);
+            let name = Fragment::Bytes(list.name().as_bytes());
+            let place = Fragment::Number(index.into());
+            let middle = Fragment::Bytes(b" wanted ");
+            let word = Fragment::Number(wanted);
             put_pieces(sink, &[code, name, space, place, middle, word, end])
         }
         QuantRefusal::DeltaNotPositive { wanted } => {
-            put_pieces(sink, &[code, Piece::Number(wanted), end])
+            put_pieces(sink, &[code, Fragment::Number(wanted), end])
         }
         QuantRefusal::RangeEmpty { lo, hi } => {
-            let (lo, hi) = (Piece::Number(lo), Piece::Number(hi));
+            let (lo, hi) = (Fragment::Number(lo), Fragment::Number(hi));
             put_pieces(sink, &[code, lo, space, hi, end])
         }
         QuantRefusal::FractionWide { list, index } => {
-            let name = Piece::Bytes(list_name(list));
-            put_pieces(sink, &[code, name, space, Piece::Number(index.into()), end])
+            let name = Fragment::Bytes(list.name().as_bytes());
+            put_pieces(
+                sink,
+                &[code, name, space, Fragment::Number(index.into()), end],
+            )
         }
     }
 }
@@ -202,16 +158,16 @@ fn input_code() -> &'static [u8]
 /// Writes the refusal of an input.
 #[tactic(auto, using(dsv_word::proofs::Casts::casts))]
 pub fn put_input_range<K: Sink>(sink: &mut K, index: u32, value: &i64) -> Result<(), Failed>
-    ensures { Writes K.taken K.faults sink.old sink.new result (input_text index value.now) }
+    ensures { Writes (K.seen sink.old) (K.seen sink.new) result (input_text index value.now) }
 {
     put_pieces(
         sink,
         &[
-            Piece::Bytes(input_code()),
-            Piece::Number(index.into()),
-            Piece::Bytes(b" "),
-            Piece::Number((*value).into()),
-            Piece::Bytes(b"\n"),
+            Fragment::Bytes(input_code()),
+            Fragment::Number(index.into()),
+            Fragment::Bytes(b" "),
+            Fragment::Number((*value).into()),
+            Fragment::Bytes(b"\n"),
         ],
     )
 }

@@ -1,7 +1,7 @@
 // The command.
 ghost use Rattle.std.specs.Prelude.{◌≡◌, map, string_bytes};
-ghost use Rattle.dsv_words.specs.Jobs.{job_of};
-ghost use Rattle.dsv_words.specs.Asking.{asked_of};
+ghost use Rattle.dsv_command.specs.Jobs.{job_of};
+ghost use Rattle.dsv_command.specs.Asking.{asked_of};
 ghost use Rattle.dsv_cli.specs.Headline.{HasCause, IsExplained, IsWritten};
 ghost use Rattle.dsv_cli.specs.Report.{kind_of, text_of, status_of, HasPlaces};
 
@@ -9,8 +9,8 @@ use crate::answers::{Answer, Done, WhichFile};
 use crate::deciding::answer_for;
 use crate::report::put_answer;
 use dsv_base::{Files, ReadEnd, Sink, read_all};
-use dsv_quantiser::Kind;
-use dsv_words::{Job, read_job};
+use dsv_command::{Job, read_job};
+use dsv_names::Realisation;
 use std::alloc::Global;
 
 /// The most bytes that a controller file may have.
@@ -56,12 +56,12 @@ pub fn run<F: Files, K: Sink>(alloc: Global, words: &[String], files: &mut F, si
     ensures written { IsWritten K.taken K.faults sink.old sink.new result.status (status_of result.answer)
         (text_of (kind_of (job_of (map string_bytes words.now))) result.answer) }
 {
-    let (kind, answer) = match read_job(alloc, words) {
-        Ok(Some(job)) => (job.design.kind, answer_of(alloc, &job, files)),
-        Ok(None) => (Kind::Dfi, Answer::Usage),
-        Err(_) => (Kind::Dfi, Answer::NoMemory),
+    let (realisation, answer) = match read_job(alloc, words) {
+        Ok(Some(job)) => (job.design.realisation, answer_of(alloc, &job, files)),
+        Ok(None) => (Realisation::Dfi, Answer::Usage),
+        Err(_) => (Realisation::Dfi, Answer::NoMemory),
     };
-    let status = match put_answer(sink, kind, &answer) {
+    let status = match put_answer(sink, realisation, &answer) {
         Ok(()) => status_of_answer(&answer),
         Err(_) => 4,
     };

@@ -1,12 +1,13 @@
 // Runs a controller in words over inputs.
 #![tactic(auto, using(dsv_word::proofs::Casts::casts))]
 
+ghost use Rattle.dsv_word.specs.Words.{IsWord};
 ghost use Rattle.std.specs.Prelude.{◌≡◌, ◌≤◌, length, IfOk, MatchOption};
 ghost use Rattle.std.specs.List.{All};
 ghost use Rattle.dsv_meaning.specs.Equations.{order, registers_of};
 ghost use Rattle.dsv_meaning.specs.Systems.{equations_of, rows, zeros, AreInRange};
 ghost use Rattle.dsv_meaning.specs.RowViews.{row_of};
-ghost use Rattle.dsv_netlist.specs.Nodes.{IsWord, step_of};
+ghost use Rattle.dsv_netlist.specs.Nodes.{step_of};
 ghost use Rattle.dsv_realise.specs.Running.{net_rows};
 ghost use Rattle.dsv_cli.specs.Headline.{IsOfRun, IsFound, IsShown};
 ghost use Rattle.dsv_cli.specs.Report.{HasPlaces};
@@ -80,7 +81,7 @@ fn run_netlist(
 /// The rows of the controller over these inputs, from registers of zeros.
 fn rows_over(alloc: Global, words: &Quantised, inputs: &[i64]) -> Result<Rows, NoMemory>
     requires { AreInRange words.now.xlo words.now.xhi inputs.now }
-    ensures { IfOk result (λ found. found ≡ rows (equations_of words.now) (zeros (registers_of words.now.kind (order words.now))) inputs.now) }
+    ensures { IfOk result (λ found. found ≡ rows (equations_of words.now) (zeros (registers_of words.now.realisation (order words.now))) inputs.now) }
 {
     let _order = words.order();
     let net = realise(alloc, words)?;

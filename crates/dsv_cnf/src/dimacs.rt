@@ -10,7 +10,7 @@ use dsv_base::{Failed, Sink, put_all, put_line, put_number};
 /// Writes `p cnf V C` and then a line per clause: its literals, numbered from 1, and a final 0. It takes no memory.
 /// The whole text reads back as the formula.
 pub fn write_dimacs<K: Sink>(formula: &Formula, sink: &mut K) -> Result<(), Failed>
-    ensures writes { Writes K.taken K.faults sink.old sink.new result (dimacs_text formula.now) }
+    ensures writes { Writes (K.seen sink.old) (K.seen sink.new) result (dimacs_text formula.now) }
     ensures reads_back { reading (dimacs_text formula.now) ≡ Ok formula.now }
 {
     put_line(sink, b"p cnf", &[formula.vars(), formula.len()])?;
@@ -21,7 +21,7 @@ pub fn write_dimacs<K: Sink>(formula: &Formula, sink: &mut K) -> Result<(), Fail
 }
 
 fn put_clause<K: Sink>(sink: &mut K, clause: &[Lit]) -> Result<(), Failed>
-    ensures { Writes K.taken K.faults sink.old sink.new result (clause_text clause.now) }
+    ensures { Writes (K.seen sink.old) (K.seen sink.new) result (clause_text clause.now) }
 {
     for literal in clause {
         put_literal(sink, *literal)?;
@@ -31,7 +31,7 @@ fn put_clause<K: Sink>(sink: &mut K, clause: &[Lit]) -> Result<(), Failed>
 
 /// Writes a literal and the space behind it.
 fn put_literal<K: Sink>(sink: &mut K, literal: Lit) -> Result<(), Failed>
-    ensures { Writes K.taken K.faults sink.old sink.new result (literal_text literal) }
+    ensures { Writes (K.seen sink.old) (K.seen sink.new) result (literal_text literal) }
 {
     put_sign(sink, literal)?;
     put_number(sink, literal.var() + 1)?;
@@ -39,7 +39,7 @@ fn put_literal<K: Sink>(sink: &mut K, literal: Lit) -> Result<(), Failed>
 }
 
 fn put_sign<K: Sink>(sink: &mut K, literal: Lit) -> Result<(), Failed>
-    ensures { Writes K.taken K.faults sink.old sink.new result (sign_text literal) }
+    ensures { Writes (K.seen sink.old) (K.seen sink.new) result (sign_text literal) }
 {
     if literal.positive() {
         return Ok(());

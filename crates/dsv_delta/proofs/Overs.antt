@@ -8,12 +8,12 @@ use lib.Signed.{◌<ℤ◌}
 use Rattle.dsv_algebra.specs.Vectors.{Vector}
 use Rattle.dsv_algebra.proofs.Normaliser.{ring, env, var, num, times as product}
 use Rattle.dsv_fraction.specs.Ratio.{Ratio}
-use Rattle.dsv_fraction.specs.Arithmetic.{lowest, over, quotient, narrowed, and_then}
+use Rattle.dsv_fraction.specs.Arithmetic.{lowest, over, quotient, bounded, and_then}
 use Rattle.dsv_fraction.specs.declared.fraction.TooWide.{TooWide}
 use Rattle.dsv_fraction.proofs.Gcds.{positive_product}
 use Rattle.dsv_fraction.proofs.Powers.{lowest_same, lowest_positive}
 use Rattle.dsv_fraction.proofs.Values.{lowest_exact, narrowed_only}
-use Rattle.dsv_delta.specs.declared.list_name.ListName.{ListName}
+use Rattle.dsv_names.specs.declared.list_name.ListName.{ListName}
 use Rattle.dsv_delta.specs.declared.refusal.DeltaWide.{DeltaWide}
 use Rattle.dsv_delta.specs.Deltas.{over_power, divided, or_wide, coefficients_from, ◌>>=◌}
 
@@ -67,7 +67,7 @@ pub stays_wide : (delta : Ratio) (s : ℤ) (l t n : ℕ) (e : TooWide) → t ≤
 stays_wide delta s l t zero e h is = let z : t ≡ 0 = omega arith in ap (divided delta s l) (sym z) ∙ is
 stays_wide delta s l t (suc n) e h is =
     elim (later t n h) [
-      | inl less ↦ ap (λ o. and_then o (λ r. narrowed (over_power delta s l (suc n)))) (stays_wide delta s l t n e less is)
+      | inl less ↦ ap (λ o. and_then o (λ r. bounded (over_power delta s l (suc n)))) (stays_wide delta s l t n e less is)
       | inr same ↦ ap (divided delta s l) (sym same) ∙ is
     ]
 
@@ -103,39 +103,39 @@ wide_coefficient name delta l sums total count n out s e more at is made =
     (ap (λ k. divided delta (sums k) l k) (sym at) ∙ ap (λ z. divided delta z l n) (sym is) ∙ made)
     ∙ ap (λ k. Err (record { list = name; index = k })) (sym at)
 
-pub first_wide : (delta : Ratio) (s l : ℤ) (n : ℕ) (o r : Result Ratio TooWide) (e : TooWide) → pos 0 <ℤ l → o ≡ narrowed (over s l) → o ≡ Err e → IsErr r
+pub first_wide : (delta : Ratio) (s l : ℤ) (n : ℕ) (o r : Result Ratio TooWide) (e : TooWide) → pos 0 <ℤ l → o ≡ bounded (over s l) → o ≡ Err e → IsErr r
     → r ≡ divided delta s (unsigned_abs l) n
 first_wide delta s l n o r e h made is wrong =
-    err_is r e wrong ∙ sym (stays_wide delta s (unsigned_abs l) 0 n e (omega arith) (sym (ap narrowed (first_power delta s l h)) ∙ sym made ∙ is))
+    err_is r e wrong ∙ sym (stays_wide delta s (unsigned_abs l) 0 n e (omega arith) (sym (ap bounded (first_power delta s l h)) ∙ sym made ∙ is))
 
 -- ---- turns of the division
 pub record IsPower (delta : Ratio) (s : ℤ) (l t : ℕ) (r : Ratio) : Type 0 where
   pub is : r ≡ over_power delta s l t
   pub fine : divided delta s l t ≡ Ok r
 
-pub first_given : (delta : Ratio) (s l : ℤ) (o : Result Ratio TooWide) (r : Ratio) → pos 0 <ℤ l → o ≡ narrowed (over s l) → o ≡ Ok r → IsPower delta s (unsigned_abs l) 0 r
+pub first_given : (delta : Ratio) (s l : ℤ) (o : Result Ratio TooWide) (r : Ratio) → pos 0 <ℤ l → o ≡ bounded (over s l) → o ≡ Ok r → IsPower delta s (unsigned_abs l) 0 r
 first_given delta s l o r h made is =
     let first = first_power delta s l h in
     record {
       is = narrowed_only (over s l) r (sym is ∙ made) ∙ first;
-      fine = sym (ap narrowed first) ∙ sym made ∙ is;
+      fine = sym (ap bounded first) ∙ sym made ∙ is;
     }
 
-next_is : (delta : Ratio) (s : ℤ) (l t : ℕ) (q : Ratio) (o : Result Ratio TooWide) → 0 < l → pos 0 <ℤ delta.num → IsPower delta s l t q → o ≡ narrowed (quotient q delta)
+next_is : (delta : Ratio) (s : ℤ) (l t : ℕ) (q : Ratio) (o : Result Ratio TooWide) → 0 < l → pos 0 <ℤ delta.num → IsPower delta s l t q → o ≡ bounded (quotient q delta)
     → divided delta s l (t + 1) ≡ o
 next_is delta s l t q o h p old made =
     ap (divided delta s l) (add-one t)
-    ∙ ap (λ m. and_then m (λ r. narrowed (over_power delta s l (suc t)))) old.fine
-    ∙ ap narrowed (sym (next_power delta s l t h p)) ∙ ap (λ (x : Ratio). narrowed (quotient x delta)) (sym old.is) ∙ sym made
+    ∙ ap (λ m. and_then m (λ r. bounded (over_power delta s l (suc t)))) old.fine
+    ∙ ap bounded (sym (next_power delta s l t h p)) ∙ ap (λ (x : Ratio). bounded (quotient x delta)) (sym old.is) ∙ sym made
 
 pub next_given : (delta : Ratio) (s : ℤ) (l t : ℕ) (q : Ratio) (o : Result Ratio TooWide) (r : Ratio) → 0 < l → pos 0 <ℤ delta.num → IsPower delta s l t q
-    → o ≡ narrowed (quotient q delta) → o ≡ Ok r → IsPower delta s l (t + 1) r
+    → o ≡ bounded (quotient q delta) → o ≡ Ok r → IsPower delta s l (t + 1) r
 next_given delta s l t q o r h p old made is = record {
   is = narrowed_only (quotient q delta) r (sym is ∙ made) ∙ ap (λ (x : Ratio). quotient x delta) old.is ∙ next_power delta s l t h p ∙ ap (over_power delta s l) (sym (add-one t));
   fine = next_is delta s l t q o h p old made ∙ is;
 }
 
 pub next_wide : (delta : Ratio) (s : ℤ) (l t n : ℕ) (q : Ratio) (o r : Result Ratio TooWide) (e : TooWide) → 0 < l → pos 0 <ℤ delta.num → IsPower delta s l t q
-    → o ≡ narrowed (quotient q delta) → o ≡ Err e → t + 1 ≤ n → IsErr r → r ≡ divided delta s l n
+    → o ≡ bounded (quotient q delta) → o ≡ Err e → t + 1 ≤ n → IsErr r → r ≡ divided delta s l n
 next_wide delta s l t n q o r e h p old made is less wrong =
     err_is r e wrong ∙ sym (stays_wide delta s l (t + 1) n e less (next_is delta s l t q o h p old made ∙ is))

@@ -8,7 +8,7 @@ use Rattle.std.specs.Int.RustNames.{unsigned_abs}
 use Rattle.dsv_algebra.specs.Narrow.{narrowed}
 use Rattle.dsv_algebra.specs.Vectors.{vector_of}
 use Rattle.dsv_fraction.specs.Ratio.{Ratio}
-use Rattle.dsv_delta.specs.declared.list_name.ListName.{ListName}
+use Rattle.dsv_names.specs.declared.list_name.ListName.{ListName}
 use Rattle.dsv_delta.specs.Binomials.{binomial_sum, weight}
 use Rattle.dsv_delta.specs.Deltas.{common, numerators, coefficients_from, delta_list}
 use Rattle.dsv_delta.proofs.Multiples.{some_small}

@@ -4,10 +4,10 @@ use Rattle.std.specs.Int.RustNames.{unsigned_abs}
 use Rattle.dsv_algebra.specs.Vectors.{Vector, vector_of}
 use Rattle.dsv_fraction.specs.Ratio.{Ratio}
 use Rattle.dsv_fraction.specs.Gcd.{gcd}
-use Rattle.dsv_fraction.specs.Arithmetic.{lowest, narrowed, and_then}
+use Rattle.dsv_fraction.specs.Arithmetic.{lowest, bounded, and_then}
 use Rattle.dsv_fraction.specs.declared.fraction.TooWide.{TooWide}
-use Rattle.dsv_delta.specs.declared.list_name.ListName.{ListName}
-use Rattle.dsv_delta.specs.declared.list_name.ListName.TheVariants as list
+use Rattle.dsv_names.specs.declared.list_name.ListName.{ListName}
+use Rattle.dsv_names.specs.declared.list_name.ListName.TheVariants as list
 use Rattle.dsv_delta.specs.declared.refusal.DeltaWide.{DeltaWide}
 use Rattle.dsv_delta.specs.Binomials.{binomial_sum, weight}
 
@@ -42,8 +42,8 @@ over_power delta s l t = lowest (s *ℤ pos (delta.den ^ t)) (l * unsigned_abs d
 
 -- s / l over delta^t, where no part passes 2^127 with any power from 0 to t
 abbrev pub divided : Ratio → ℤ → ℕ → ℕ → Result Ratio TooWide
-divided delta s l zero = narrowed (over_power delta s l 0)
-divided delta s l (suc t) = and_then (divided delta s l t) (λ r. narrowed (over_power delta s l (suc t)))
+divided delta s l zero = bounded (over_power delta s l 0)
+divided delta s l (suc t) = and_then (divided delta s l t) (λ r. bounded (over_power delta s l (suc t)))
 
 abbrev pub or_wide : ListName → ℕ → Result Ratio TooWide → Result Ratio DeltaWide
 or_wide name i (Ok r) = Ok r

@@ -3,11 +3,11 @@ ghost use Rattle.std.specs.Prelude.{◌≡◌, ◌≤◌, length, pos, ◌<ℤ�
 ghost use Rattle.dsv_delta.specs.Deltas.{delta_list, delta_lists, zero_ratio, one};
 
 use crate::denominators::{common_denominator, numerators};
-use crate::list_name::ListName;
 use crate::powers::coefficients;
 use crate::refusal::DeltaWide;
 use crate::synthetic::expand;
 use dsv_fraction::{Frac, FracList};
+use dsv_names::ListName;
 
 /// The coefficients of a transfer function in the delta operator, those of the highest power first.
 #[derive(Drop)]

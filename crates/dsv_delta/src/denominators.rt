@@ -8,7 +8,7 @@ ghost use Rattle.dsv_delta.specs.Binomials.{weight};
 ghost use Rattle.dsv_delta.specs.Deltas.{lcm, common, numerators};
 
 use arrayvec::ArrayVec;
-use dsv_algebra::Whole;
+use dsv_algebra::NarrowInteger;
 use dsv_fraction::Frac;
 
 /// Up to nine numerators.
@@ -18,7 +18,7 @@ pub(crate) type Numerators = ArrayVec<i128, 9>;
 const LIMIT: u128 = 1 << 126;
 
 /// The least common multiple of the number and the fraction's denominator, where neither passes 2^126.
-fn multiple(common: Option<Whole>, fraction: &Frac) -> Option<Whole>
+fn multiple(common: Option<NarrowInteger>, fraction: &Frac) -> Option<NarrowInteger>
     ensures positive { 0 < fraction.now.den }
     ensures value { (n : ℕ) → 0 < n → common ≡ narrowed (pos n) → result ≡ narrowed (pos (lcm n fraction.now.den)) }
 {
@@ -27,15 +27,15 @@ fn multiple(common: Option<Whole>, fraction: &Frac) -> Option<Whole>
     let Ok(reduced) = Frac::new(common.get(), den) else {
         return None;
     };
-    common.checked_mul(Whole::from(reduced.den()))
+    common.checked_mul(NarrowInteger::from(reduced.den()))
 }
 
 /// The least common multiple of the denominators, where it doesn't pass 2^126.
-pub(crate) fn common_denominator(fractions: &[Frac]) -> Option<Whole>
+pub(crate) fn common_denominator(fractions: &[Frac]) -> Option<NarrowInteger>
     ensures value { result ≡ narrowed (pos (common fractions.now)) }
     ensures positive { 0 < common fractions.now }
 {
-    let mut common = Some(Whole::from(1i64));
+    let mut common = Some(NarrowInteger::from(1i64));
     for fraction in fractions {
         common = multiple(common, fraction);
     }
@@ -43,17 +43,17 @@ pub(crate) fn common_denominator(fractions: &[Frac]) -> Option<Whole>
 }
 
 /// The fraction's numerator over a multiple of its denominator, where it doesn't pass 2^126.
-fn numerator(common: Whole, fraction: &Frac) -> Option<Whole>
+fn numerator(common: NarrowInteger, fraction: &Frac) -> Option<NarrowInteger>
     requires { pos 0 ≤ℤ common }
     ensures { result ≡ narrowed (fraction.now.num *ℤ pos (unsigned_abs common / fraction.now.den)) }
 {
     let (num, den) = fraction.to_parts();
     let factor = common.get().div_euclid(den);
-    Whole::from(num).checked_mul(Whole::from(factor))
+    NarrowInteger::from(num).checked_mul(NarrowInteger::from(factor))
 }
 
 /// The numerators over a common denominator, where their weight doesn't pass 2^126.
-pub(crate) fn numerators(common: Whole, fractions: &[Frac]) -> Option<Numerators>
+pub(crate) fn numerators(common: NarrowInteger, fractions: &[Frac]) -> Option<Numerators>
     requires positive { pos 0 ≤ℤ common }
     requires few { length fractions.now ≤ 9 }
     ensures { let meant = numerators (unsigned_abs common) fractions.now in

@@ -6,13 +6,18 @@ ghost use Rattle.std.specs.Int.RustNames.{unsigned_abs};
 ghost use Rattle.dsv_algebra.specs.Vectors.{vector_of};
 ghost use Rattle.dsv_delta.specs.Deltas.{divided, coefficients_from};
 
-use crate::list_name::ListName;
 use crate::refusal::DeltaWide;
-use dsv_algebra::Whole;
+use dsv_algebra::NarrowInteger;
 use dsv_fraction::{Frac, FracList, TooWide};
+use dsv_names::ListName;
 
 /// `sum / common` over that power of delta, or TooWide where a part of it, or with a lower power, is too wide.
-fn divided(sum: Whole, common: Whole, delta: &Frac, power: usize) -> Result<Frac, TooWide>
+fn divided(
+    sum: NarrowInteger,
+    common: NarrowInteger,
+    delta: &Frac,
+    power: usize,
+) -> Result<Frac, TooWide>
     requires common { pos 0 <ℤ common }
     requires delta { pos 0 <ℤ delta.now.num }
     ensures { result ≡ divided delta.now sum (unsigned_abs common) power }
@@ -28,7 +33,7 @@ fn divided(sum: Whole, common: Whole, delta: &Frac, power: usize) -> Result<Frac
 pub(crate) fn coefficients(
     list: ListName,
     sums: &[i128],
-    common: Whole,
+    common: NarrowInteger,
     delta: &Frac,
 ) -> Result<FracList, DeltaWide>
     requires few { length sums.now ≤ 9 }
@@ -41,7 +46,7 @@ pub(crate) fn coefficients(
     let mut out = FracList::new();
     for sum in sums {
         let index = out.len();
-        match divided(Whole::from(*sum), common, delta, index) {
+        match divided(NarrowInteger::from(*sum), common, delta, index) {
             Ok(coefficient) => out.push(coefficient),
             Err(_) => return Err(DeltaWide {
                 list,

@@ -1,5 +1,5 @@
 // Why a list can't be converted.
-use crate::list_name::ListName;
+use dsv_names::ListName;
 use thiserror::Error;
 
 /// A coefficient of the converted list is too wide, or, at the index 0, the list has no common denominator that is

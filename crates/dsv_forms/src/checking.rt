@@ -8,7 +8,7 @@ ghost use Rattle.dsv_forms.specs.OnePlace.{no_squares_refusal, no_place_falls, o
 
 use crate::one_place::{check_one_place, fall_entry};
 use crate::{Falls, Form, FormRefusal, Part, Poly, Squares};
-use dsv_algebra::Whole;
+use dsv_algebra::NarrowInteger;
 
 /// Checks that the offer shows a form which strictly falls along each trajectory of the polynomial, and gives what the
 /// form loses in a step. It takes no memory.
@@ -22,7 +22,7 @@ pub fn check_falls(poly: &Poly, offer: &Falls) -> Result<Form, FormRefusal>
 {
     match poly.coefficients() {
         [_] => check_no_place(offer),
-        [c0, c1] => check_place(Whole::from(*c0), Whole::from(*c1), offer),
+        [c0, c1] => check_place(NarrowInteger::from(*c0), NarrowInteger::from(*c1), offer),
         _ => unreachable!(),
     }
 }
@@ -55,7 +55,7 @@ pub(crate) fn check_no_squares(part: Part, squares: &Squares) -> Result<(), Form
 }
 
 /// Checks an offer for the polynomial c0, c1.
-fn check_place(c0: Whole, c1: Whole, offer: &Falls) -> Result<Form, FormRefusal>
+fn check_place(c0: NarrowInteger, c1: NarrowInteger, offer: &Falls) -> Result<Form, FormRefusal>
     ensures refusal { refusal_of result ≡ one_place_falls c0 c1 offer.now }
     ensures places { IfOk result (λ fall. (offer.now.form.d ≡ 1) × (fall.d ≡ 1)) }
     ensures fall { IfOk result (λ fall. fall_of c0 c1 (matrix_of offer.now.form.rows 0 0) ≡ Some (matrix_of fall.rows 0 0)) }
@@ -64,7 +64,7 @@ fn check_place(c0: Whole, c1: Whole, offer: &Falls) -> Result<Form, FormRefusal>
     if offer.form.d != 1 {
         return Err(FormRefusal::Shape { part: Part::Form });
     }
-    let entry = Whole::from(offer.form.rows[0][0]);
+    let entry = NarrowInteger::from(offer.form.rows[0][0]);
     check_one_place(Part::Positive, &offer.positive, Some(entry))?;
     let fall = check_one_place(Part::Fall, &offer.fall, fall_entry(c0, c1, entry))?;
     Ok(Form {

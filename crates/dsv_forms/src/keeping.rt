@@ -10,7 +10,7 @@ ghost use Rattle.dsv_forms.specs.OneAway.{value_of, value_refusal, one_place_kep
 use crate::checking::{check_no_squares, one_entry};
 use crate::one_place::{check_weak_place, fall_entry};
 use crate::{Form, FormRefusal, KeptAway, Part, Poly};
-use dsv_algebra::Whole;
+use dsv_algebra::NarrowInteger;
 
 /// Checks that the offer shows a form which is negative at the start and rises back along no trajectory of the
 /// polynomial. It gives what the form loses in a step and its value at the start, and takes no memory.
@@ -25,7 +25,7 @@ pub fn check_kept_away(poly: &Poly, offer: &KeptAway) -> Result<(Form, i128), Fo
 {
     match poly.coefficients() {
         [_] => Err(refusal_without_place(offer)),
-        [c0, c1] => check_place(Whole::from(*c0), Whole::from(*c1), offer),
+        [c0, c1] => check_place(NarrowInteger::from(*c0), NarrowInteger::from(*c1), offer),
         _ => unreachable!(),
     }
 }
@@ -44,7 +44,11 @@ fn refusal_without_place(offer: &KeptAway) -> FormRefusal
 }
 
 /// Checks an offer for the polynomial c0, c1.
-fn check_place(c0: Whole, c1: Whole, offer: &KeptAway) -> Result<(Form, i128), FormRefusal>
+fn check_place(
+    c0: NarrowInteger,
+    c1: NarrowInteger,
+    offer: &KeptAway,
+) -> Result<(Form, i128), FormRefusal>
     ensures refusal { refusal_of result ≡ one_place_kept_away c0 c1 offer.now }
     ensures places { IfOk result (λ x. (offer.now.form.d ≡ 1) × (x.0.d ≡ 1)) }
     ensures fall { IfOk result (λ x. fall_of c0 c1 (matrix_of offer.now.form.rows 0 0) ≡ Some (matrix_of x.0.rows 0 0)) }
@@ -54,7 +58,7 @@ fn check_place(c0: Whole, c1: Whole, offer: &KeptAway) -> Result<(Form, i128), F
     if offer.form.d != 1 {
         return Err(FormRefusal::Shape { part: Part::Form });
     }
-    let entry = Whole::from(offer.form.rows[0][0]);
+    let entry = NarrowInteger::from(offer.form.rows[0][0]);
     let fall = check_weak_place(Part::Fall, &offer.fall, fall_entry(c0, c1, entry))?;
     let value = check_value(value_at_start(offer))?;
     let form = Form {
@@ -65,17 +69,17 @@ fn check_place(c0: Whole, c1: Whole, offer: &KeptAway) -> Result<(Form, i128), F
 }
 
 /// The value of a form of one place at the start, where nothing on the way is too wide.
-fn value_at_start(offer: &KeptAway) -> Option<Whole>
+fn value_at_start(offer: &KeptAway) -> Option<NarrowInteger>
     ensures { result ≡ value_of (matrix_of offer.now.form.rows 0 0) (vector_of offer.now.start 0) }
 {
-    let entry = Whole::from(offer.form.rows[0][0]);
-    let start = Whole::from(offer.start[0]);
+    let entry = NarrowInteger::from(offer.form.rows[0][0]);
+    let start = NarrowInteger::from(offer.start[0]);
     let product = entry.checked_mul(start)?;
     product.checked_mul(start)
 }
 
 /// Checks that a form's value at the start is negative, and gives it.
-fn check_value(value: Option<Whole>) -> Result<Whole, FormRefusal>
+fn check_value(value: Option<NarrowInteger>) -> Result<NarrowInteger, FormRefusal>
     ensures refusal { refusal_of result ≡ value_refusal value }
     ensures value { IfOk result (λ x. value ≡ Some x) }
 {

@@ -6,15 +6,15 @@ ghost use Rattle.dsv_forms.specs.OnePlace.{sides_of, sides_refusal, one_place_re
 ghost use Rattle.dsv_forms.specs.OneAway.{bare_sides_of, some_sides_of, weak_place_refusal};
 
 use crate::{FormRefusal, Part, Squares};
-use dsv_algebra::Whole;
+use dsv_algebra::NarrowInteger;
 
 /// Checks that the squares show the one entry of a form to be positive, and gives the entry. One that was too wide
 /// to be had is refused where the others would be as too wide.
 pub(crate) fn check_one_place(
     part: Part,
     squares: &Squares,
-    entry: Option<Whole>,
-) -> Result<Whole, FormRefusal>
+    entry: Option<NarrowInteger>,
+) -> Result<NarrowInteger, FormRefusal>
     ensures refusal { refusal_of result ≡ one_place_refusal part squares.now entry }
     ensures entry { IfOk result (λ x. entry ≡ Some x) }
 {
@@ -38,8 +38,8 @@ pub(crate) fn check_one_place(
 pub(crate) fn check_weak_place(
     part: Part,
     squares: &Squares,
-    entry: Option<Whole>,
-) -> Result<Whole, FormRefusal>
+    entry: Option<NarrowInteger>,
+) -> Result<NarrowInteger, FormRefusal>
     ensures refusal { refusal_of result ≡ weak_place_refusal part squares.now entry }
     ensures entry { IfOk result (λ x. entry ≡ Some x) }
 {
@@ -58,33 +58,33 @@ pub(crate) fn check_weak_place(
 /// Both sides of the identity at the one place.
 #[derive(Clone, Copy)]
 struct Sides {
-    left: Whole,
-    right: Whole,
+    left: NarrowInteger,
+    right: NarrowInteger,
 }
 
 /// Both sides of the identity at the one place, where nothing on the way is too wide.
-fn both_sides(squares: &Squares, entry: Whole) -> Option<Sides>
+fn both_sides(squares: &Squares, entry: NarrowInteger) -> Option<Sides>
     ensures { option_map (λ x. (x.left, x.right)) result ≡ sides_of squares.now entry }
 {
-    let row = Whole::from(squares.rows[0][0]);
-    let left = Whole::from(squares.m).checked_mul(entry)?;
-    let product = Whole::from(squares.weights[0]).checked_mul(row)?;
+    let row = NarrowInteger::from(squares.rows[0][0]);
+    let left = NarrowInteger::from(squares.m).checked_mul(entry)?;
+    let product = NarrowInteger::from(squares.weights[0]).checked_mul(row)?;
     let square = product.checked_mul(row)?;
-    let right = square.checked_add(Whole::from(squares.rest[0][0]))?;
+    let right = square.checked_add(NarrowInteger::from(squares.rest[0][0]))?;
     Some(Sides { left, right })
 }
 
 /// Both sides of the identity without a square, where nothing on the way is too wide.
-fn bare_sides(squares: &Squares, entry: Whole) -> Option<Sides>
+fn bare_sides(squares: &Squares, entry: NarrowInteger) -> Option<Sides>
     ensures { option_map (λ x. (x.left, x.right)) result ≡ bare_sides_of squares.now entry }
 {
-    let left = Whole::from(squares.m).checked_mul(entry)?;
-    let right = Whole::from(squares.rest[0][0]).narrow()?;
+    let left = NarrowInteger::from(squares.m).checked_mul(entry)?;
+    let right = NarrowInteger::from(squares.rest[0][0]).narrow()?;
     Some(Sides { left, right })
 }
 
 /// Both sides of the identity with one square or none, where nothing on the way is too wide.
-fn some_sides(squares: &Squares, entry: Whole) -> Option<Sides>
+fn some_sides(squares: &Squares, entry: NarrowInteger) -> Option<Sides>
     ensures { option_map (λ x. (x.left, x.right)) result ≡ some_sides_of squares.now entry }
 {
     if squares.count == 0 {
@@ -98,16 +98,16 @@ fn some_sides(squares: &Squares, entry: Whole) -> Option<Sides>
 fn check_sides(
     part: Part,
     squares: &Squares,
-    entry: Whole,
+    entry: NarrowInteger,
     sides: Sides,
-) -> Result<Whole, FormRefusal>
+) -> Result<NarrowInteger, FormRefusal>
     ensures refusal { refusal_of result ≡ sides_refusal part squares.now (Some (sides.left, sides.right)) }
     ensures entry { IfOk result (λ x. x ≡ entry) }
 {
     if sides.left.get() != sides.right.get() {
         return Err(FormRefusal::Identity { part, i: 0, j: 0 });
     }
-    let rest = Whole::from(squares.rest[0][0]);
+    let rest = NarrowInteger::from(squares.rest[0][0]);
     if rest.narrow().is_none() || rest.get() < 0 {
         return Err(FormRefusal::Dominance { part, i: 0 });
     }
@@ -115,7 +115,11 @@ fn check_sides(
 }
 
 /// What a form of one place loses in a step, where nothing on the way is too wide.
-pub(crate) fn fall_entry(c0: Whole, c1: Whole, entry: Whole) -> Option<Whole>
+pub(crate) fn fall_entry(
+    c0: NarrowInteger,
+    c1: NarrowInteger,
+    entry: NarrowInteger,
+) -> Option<NarrowInteger>
     ensures { result ≡ fall_of c0 c1 entry }
 {
     let first = c0.checked_mul(c0)?;

@@ -4,9 +4,11 @@ use Rattle.std.specs.Prelude.{Some, None, if◌then◌else◌, Result, Ok, Err, 
 use Rattle.std.specs.Int.RustNames.{unsigned_abs}
 use Rattle.std.proofs.Math.IntN.{ℤ, pos, ◌-ℤ◌}
 use Rattle.dsv_fraction.specs.Ratio.{Ratio}
-use Rattle.dsv_fraction.specs.Arithmetic.{narrowed}
-use Rattle.dsv_fraction.specs.Number.{has_byte, sign_len, whole_len, is_number, front_digits}
-use Rattle.dsv_fraction.specs.Decimal.{behind_point, exponent_of, digits_value, decimal_value, decimal_of, or_too_wide}
+use Rattle.dsv_fraction.specs.Arithmetic.{bounded}
+use Rattle.dsv_text.specs.Bytes.{has_byte}
+use Rattle.dsv_text.specs.Digits.{digits_value, front_digits}
+use Rattle.dsv_fraction.specs.Number.{sign_len, whole_len, is_number}
+use Rattle.dsv_fraction.specs.Decimal.{behind_point, exponent_of, decimal_value, decimal_of, or_too_wide}
 use Rattle.dsv_fraction.specs.declared.decimal.DecimalRefusal.{DecimalRefusal}
 use Rattle.dsv_fraction.specs.declared.decimal.DecimalRefusal.TheVariants as refusal
 
@@ -21,7 +23,7 @@ passed : (text : List ℕ) → is_number text ≡ true
     let digits = front_digits body ++ behind_point body in
     let exponent = exponent_of (drop (whole_len body) body) in
     length digits ≤ 18 → nat_lt 30 (unsigned_abs exponent) ≡ false
-    → decimal_of text ≡ or_too_wide (narrowed (decimal_value (has_byte 45 text) (digits_value 0 digits) (exponent -ℤ pos (length (behind_point body)))))
+    → decimal_of text ≡ or_too_wide (bounded (decimal_value (has_byte 45 text) (digits_value 0 digits) (exponent -ℤ pos (length (behind_point body)))))
 passed text a p q =
     let body = drop (sign_len text) text in
     let digits = front_digits body ++ behind_point body in
@@ -29,7 +31,7 @@ passed text a p q =
 
 given : (text body : List ℕ) → body ≡ drop (sign_len text) text → is_number text ≡ true
     → length (front_digits body ++ behind_point body) ≤ 18 → nat_lt 30 (unsigned_abs (exponent_of (drop (whole_len body) body))) ≡ false
-    → or_too_wide (narrowed (decimal_value (has_byte 45 text) (digits_value 0 (front_digits body ++ behind_point body)) (exponent_of (drop (whole_len body) body) -ℤ pos (length (behind_point body))))) ≡ decimal_of text
+    → or_too_wide (bounded (decimal_value (has_byte 45 text) (digits_value 0 (front_digits body ++ behind_point body)) (exponent_of (drop (whole_len body) body) -ℤ pos (length (behind_point body))))) ≡ decimal_of text
 given text body e a p q = rw e (sym (passed text a (rw e at p) (rw e at q)))
 
 -- what the last step of reading a decimal gives
@@ -38,7 +40,7 @@ pub read_is : (text body tail before behind : List ℕ) (negative : Bool) (e z :
     → before ≡ front_digits body → behind ≡ behind_point body → length before + length behind ≤ 18
     → Some e ≡ (if nat_lt 30 (unsigned_abs (exponent_of tail)) then None else Some (exponent_of tail)) → z ≡ e
     → negative ≡ has_byte 45 text
-    → or_too_wide (narrowed (decimal_value negative (digits_value 0 (front_digits body ++ behind_point body)) (z -ℤ pos (length (behind_point body))))) ≡ decimal_of text
+    → or_too_wide (bounded (decimal_value negative (digits_value 0 (front_digits body ++ behind_point body)) (z -ℤ pos (length (behind_point body))))) ≡ decimal_of text
 read_is text body tail before behind negative e z a b t i j h x y s =
     let small = small_is e (exponent_of tail) x in
     let few : length (front_digits body ++ behind_point body) ≤ 18 =

@@ -13,7 +13,7 @@ use lib.Signed.{◌<ℤ◌}
 use Rattle.dsv_algebra.proofs.Normaliser.{ring, env, var, num, times as product}
 use Rattle.dsv_fraction.specs.Gcd.{gcd}
 use Rattle.dsv_fraction.specs.Ratio.{Ratio, IsLowest}
-use Rattle.dsv_fraction.specs.Arithmetic.{signed, is_negative, lowest, times, narrowed, too_wide}
+use Rattle.dsv_fraction.specs.Arithmetic.{signed, is_negative, lowest, times, bounded, too_wide}
 use Rattle.dsv_fraction.specs.Parts.{AreCoprime}
 use Rattle.dsv_fraction.specs.Decimal.{whole, IsWhole, ten_to, tenth_to}
 use Rattle.dsv_fraction.specs.declared.fraction.TooWide.{TooWide}
@@ -109,31 +109,31 @@ times_one z = ring (env (z ∷ [])) (product (var 0) (num (pos 1))) (var 0) refl
 whole_is : (r : Ratio) → IsWhole r → whole r.num ≡ r
 whole_is r w = ap (λ (d : ℕ). let t : Ratio = record { num = r.num; den = d } in t) (sym w.is)
 
-narrow_is : (r : Ratio) → unsigned_abs r.num < 2 ^ 127 → r.den < 2 ^ 127 → Ok r ≡ narrowed r
+narrow_is : (r : Ratio) → unsigned_abs r.num < 2 ^ 127 → r.den < 2 ^ 127 → Ok r ≡ bounded r
 narrow_is r p q = grind arith
 
 -- times and over 10^0
-pub unit_is : (r : Ratio) (k : ℕ) → IsWhole r → k ≡ 0 → Ok r ≡ narrowed (times r (ten_to k))
-unit_is r k w e = rw e (narrow_is r w.narrow (rw w.is (omega arith)) ∙ ap narrowed (sym (ten_whole r 0 w ∙ ap whole (times_one r.num) ∙ whole_is r w)))
+pub unit_is : (r : Ratio) (k : ℕ) → IsWhole r → k ≡ 0 → Ok r ≡ bounded (times r (ten_to k))
+unit_is r k w e = rw e (narrow_is r w.narrow (rw w.is (omega arith)) ∙ ap bounded (sym (ten_whole r 0 w ∙ ap whole (times_one r.num) ∙ whole_is r w)))
 
-pub units_is : (r : Ratio) (k : ℕ) → IsWhole r → k ≡ 0 → Ok r ≡ narrowed (times r (tenth_to k))
+pub units_is : (r : Ratio) (k : ℕ) → IsWhole r → k ≡ 0 → Ok r ≡ bounded (times r (tenth_to k))
 units_is r k w e = rw e (unit_is r 0 w refl)
 
 -- ---- one factor more
 last_factor : (k : ℕ) → (k ≡ 0 → ⊥) → suc (k - 1) ≡ k
 last_factor k h = omega arith
 
-pub ten_given : {r x t : Ratio} {k : ℕ} {o : Result Ratio TooWide} → IsWhole r → (k ≡ 0 → ⊥) → Ok x ≡ narrowed (times r (ten_to (k - 1)))
-    → t ≡ ten_to 1 → o ≡ narrowed (times x t) → o ≡ narrowed (times r (ten_to k))
+pub ten_given : {r x t : Ratio} {k : ℕ} {o : Result Ratio TooWide} → IsWhole r → (k ≡ 0 → ⊥) → Ok x ≡ bounded (times r (ten_to (k - 1)))
+    → t ≡ ten_to 1 → o ≡ bounded (times x t) → o ≡ bounded (times r (ten_to k))
 ten_given {r} {x} {t} {k} {o} w h e f g =
     let a : x ≡ times r (ten_to (k - 1)) = narrowed_only (times r (ten_to (k - 1))) x e in
-    g ∙ ap narrowed (ap (λ y. times y t) a ∙ ap (λ y. times (times r (ten_to (k - 1))) y) f ∙ ten_more r (k - 1) w ∙ ap (λ j. times r (ten_to j)) (last_factor k h))
+    g ∙ ap bounded (ap (λ y. times y t) a ∙ ap (λ y. times (times r (ten_to (k - 1))) y) f ∙ ten_more r (k - 1) w ∙ ap (λ j. times r (ten_to j)) (last_factor k h))
 
-pub tenth_given : {r x t : Ratio} {k : ℕ} {o : Result Ratio TooWide} → IsWhole r → (k ≡ 0 → ⊥) → Ok x ≡ narrowed (times r (tenth_to (k - 1)))
-    → t ≡ tenth_to 1 → o ≡ narrowed (times x t) → o ≡ narrowed (times r (tenth_to k))
+pub tenth_given : {r x t : Ratio} {k : ℕ} {o : Result Ratio TooWide} → IsWhole r → (k ≡ 0 → ⊥) → Ok x ≡ bounded (times r (tenth_to (k - 1)))
+    → t ≡ tenth_to 1 → o ≡ bounded (times x t) → o ≡ bounded (times r (tenth_to k))
 tenth_given {r} {x} {t} {k} {o} w h e f g =
     let a : x ≡ times r (tenth_to (k - 1)) = narrowed_only (times r (tenth_to (k - 1))) x e in
-    g ∙ ap narrowed (ap (λ y. times y t) a ∙ ap (λ y. times (times r (tenth_to (k - 1))) y) f ∙ tenth_more r (k - 1) w ∙ ap (λ j. times r (tenth_to j)) (last_factor k h))
+    g ∙ ap bounded (ap (λ y. times y t) a ∙ ap (λ y. times (times r (tenth_to (k - 1))) y) f ∙ tenth_more r (k - 1) w ∙ ap (λ j. times r (tenth_to j)) (last_factor k h))
 
 -- ---- a refusal on the way is one at the end
 -- a fraction over m more has no smaller denominator
@@ -153,23 +153,23 @@ den_grows n d m p q =
 size_lowest : (n : ℤ) (d : ℕ) → unsigned_abs (lowest n d).num ≤ unsigned_abs n
 size_lowest n d = rw (size_signed (is_negative n) (unsigned_abs n / gcd (unsigned_abs n) d)) (quotient_smaller (unsigned_abs n) (gcd (unsigned_abs n) d))
 
-wide_den : (r : Ratio) → unsigned_abs r.num < 2 ^ 127 → Err too_wide ≡ narrowed r → 2 ^ 127 ≤ r.den
-wide_den r h e = elim (cases_lt r.den (2 ^ 127)) [ inl less ↦ (let k : Ok r ≡ narrowed r = narrow_is r h less in absurd (cc)) | inr more ↦ more ]
+wide_den : (r : Ratio) → unsigned_abs r.num < 2 ^ 127 → Err too_wide ≡ bounded r → 2 ^ 127 ≤ r.den
+wide_den r h e = elim (cases_lt r.den (2 ^ 127)) [ inl less ↦ (let k : Ok r ≡ bounded r = narrow_is r h less in absurd (cc)) | inr more ↦ more ]
 
-wide_num : (r : Ratio) → r.den < 2 ^ 127 → Err too_wide ≡ narrowed r → 2 ^ 127 ≤ unsigned_abs r.num
-wide_num r h e = elim (cases_lt (unsigned_abs r.num) (2 ^ 127)) [ inl less ↦ (let k : Ok r ≡ narrowed r = narrow_is r less h in absurd (cc)) | inr more ↦ more ]
+wide_num : (r : Ratio) → r.den < 2 ^ 127 → Err too_wide ≡ bounded r → 2 ^ 127 ≤ unsigned_abs r.num
+wide_num r h e = elim (cases_lt (unsigned_abs r.num) (2 ^ 127)) [ inl less ↦ (let k : Ok r ≡ bounded r = narrow_is r less h in absurd (cc)) | inr more ↦ more ]
 
-den_refused : (r : Ratio) → 2 ^ 127 ≤ r.den → Err too_wide ≡ narrowed r
+den_refused : (r : Ratio) → 2 ^ 127 ≤ r.den → Err too_wide ≡ bounded r
 den_refused r h = grind arith
 
-num_refused : (r : Ratio) → 2 ^ 127 ≤ unsigned_abs r.num → Err too_wide ≡ narrowed r
+num_refused : (r : Ratio) → 2 ^ 127 ≤ unsigned_abs r.num → Err too_wide ≡ bounded r
 num_refused r h = grind arith
 
 err_is : (o : Result Ratio TooWide) → IsErr o → o ≡ Err too_wide
 err_is (Ok r) h = cc
 err_is (Err e) h = refl
 
-over_more : (n : ℤ) (d : ℕ) → 0 < d → unsigned_abs n < 2 ^ 127 → Err too_wide ≡ narrowed (lowest n d) → Err too_wide ≡ narrowed (lowest n (10 * d))
+over_more : (n : ℤ) (d : ℕ) → 0 < d → unsigned_abs n < 2 ^ 127 → Err too_wide ≡ bounded (lowest n d) → Err too_wide ≡ bounded (lowest n (10 * d))
 over_more n d p h e =
     let a : 2 ^ 127 ≤ (lowest n d).den = wide_den (lowest n d) (omega (arith, size_lowest n d)) e in
     den_refused (lowest n (10 * d)) (omega (arith, den_grows (unsigned_abs n) d 10 p (omega arith)))
@@ -177,24 +177,24 @@ over_more n d p h e =
 tenth_is : (r : Ratio) (k : ℕ) → IsWhole r → times r (tenth_to k) ≡ lowest r.num (10 ^ k)
 tenth_is r k w = let e : 1 * 10 ^ k ≡ 10 ^ k = omega arith in rw (times_one r.num, w.is, e) refl
 
-tenth_wide : (r : Ratio) (k : ℕ) → IsWhole r → Err too_wide ≡ narrowed (times r (tenth_to k)) → Err too_wide ≡ narrowed (times r (tenth_to (suc k)))
+tenth_wide : (r : Ratio) (k : ℕ) → IsWhole r → Err too_wide ≡ bounded (times r (tenth_to k)) → Err too_wide ≡ bounded (times r (tenth_to (suc k)))
 tenth_wide r k w e =
-    let a : Err too_wide ≡ narrowed (lowest r.num (10 * 10 ^ k)) = over_more r.num (10 ^ k) (ten_positive k) w.narrow (e ∙ ap narrowed (tenth_is r k w)) in
-    a ∙ ap (λ y. narrowed (lowest r.num y)) (sym (pow-succ' 10 k)) ∙ ap narrowed (sym (tenth_is r (suc k) w))
+    let a : Err too_wide ≡ bounded (lowest r.num (10 * 10 ^ k)) = over_more r.num (10 ^ k) (ten_positive k) w.narrow (e ∙ ap bounded (tenth_is r k w)) in
+    a ∙ ap (λ y. bounded (lowest r.num y)) (sym (pow-succ' 10 k)) ∙ ap bounded (sym (tenth_is r (suc k) w))
 
-ten_wide : (r : Ratio) (k : ℕ) → IsWhole r → Err too_wide ≡ narrowed (times r (ten_to k)) → Err too_wide ≡ narrowed (times r (ten_to (suc k)))
+ten_wide : (r : Ratio) (k : ℕ) → IsWhole r → Err too_wide ≡ bounded (times r (ten_to k)) → Err too_wide ≡ bounded (times r (ten_to (suc k)))
 ten_wide r k w e =
-    let a : 2 ^ 127 ≤ unsigned_abs (r.num *ℤ pos (10 ^ k)) = wide_num (whole (r.num *ℤ pos (10 ^ k))) (omega arith) (e ∙ ap narrowed (ten_whole r k w)) in
+    let a : 2 ^ 127 ≤ unsigned_abs (r.num *ℤ pos (10 ^ k)) = wide_num (whole (r.num *ℤ pos (10 ^ k))) (omega arith) (e ∙ ap bounded (ten_whole r k w)) in
     let b : unsigned_abs (r.num *ℤ pos (10 ^ k)) ≡ unsigned_abs r.num * 10 ^ k = unsigned_abs-mul r.num (pos (10 ^ k)) in
     let d : unsigned_abs (r.num *ℤ pos (10 ^ suc k)) ≡ unsigned_abs r.num * (10 ^ k * 10) = unsigned_abs-mul r.num (pos (10 ^ suc k)) ∙ rw (pow-suc 10 k) refl in
-    num_refused (whole (r.num *ℤ pos (10 ^ suc k))) (omega arith) ∙ ap narrowed (sym (ten_whole r (suc k) w))
+    num_refused (whole (r.num *ℤ pos (10 ^ suc k))) (omega arith) ∙ ap bounded (sym (ten_whole r (suc k) w))
 
-pub ten_refused : {r : Ratio} {k : ℕ} {e : TooWide} {o : Result Ratio TooWide} → IsWhole r → (k ≡ 0 → ⊥) → Err e ≡ narrowed (times r (ten_to (k - 1))) → IsErr o
-    → o ≡ narrowed (times r (ten_to k))
+pub ten_refused : {r : Ratio} {k : ℕ} {e : TooWide} {o : Result Ratio TooWide} → IsWhole r → (k ≡ 0 → ⊥) → Err e ≡ bounded (times r (ten_to (k - 1))) → IsErr o
+    → o ≡ bounded (times r (ten_to k))
 ten_refused {r} {k} {e} {o} w h f i =
-    let a : Err too_wide ≡ narrowed (times r (ten_to (suc (k - 1)))) = ten_wide r (k - 1) w f in err_is o i ∙ rw (last_factor k h) at a
+    let a : Err too_wide ≡ bounded (times r (ten_to (suc (k - 1)))) = ten_wide r (k - 1) w f in err_is o i ∙ rw (last_factor k h) at a
 
-pub tenth_refused : {r : Ratio} {k : ℕ} {e : TooWide} {o : Result Ratio TooWide} → IsWhole r → (k ≡ 0 → ⊥) → Err e ≡ narrowed (times r (tenth_to (k - 1))) → IsErr o
-    → o ≡ narrowed (times r (tenth_to k))
+pub tenth_refused : {r : Ratio} {k : ℕ} {e : TooWide} {o : Result Ratio TooWide} → IsWhole r → (k ≡ 0 → ⊥) → Err e ≡ bounded (times r (tenth_to (k - 1))) → IsErr o
+    → o ≡ bounded (times r (tenth_to k))
 tenth_refused {r} {k} {e} {o} w h f i =
-    let a : Err too_wide ≡ narrowed (times r (tenth_to (suc (k - 1)))) = tenth_wide r (k - 1) w f in err_is o i ∙ rw (last_factor k h) at a
+    let a : Err too_wide ≡ bounded (times r (tenth_to (suc (k - 1)))) = tenth_wide r (k - 1) w f in err_is o i ∙ rw (last_factor k h) at a

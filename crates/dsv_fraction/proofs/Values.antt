@@ -7,7 +7,7 @@ use Rattle.std.proofs.lemmas.Int.{ints}
 use Rattle.dsv_algebra.proofs.Normaliser.{ring, env, var, plus, times as product, minus}
 use Rattle.dsv_fraction.specs.Gcd.{gcd}
 use Rattle.dsv_fraction.specs.Ratio.{Ratio}
-use Rattle.dsv_fraction.specs.Arithmetic.{lowest, over, times, quotient, negated, is_narrow, narrowed, narrow_size, narrow_whole, and_then, too_wide, sum_of}
+use Rattle.dsv_fraction.specs.Arithmetic.{lowest, over, times, quotient, negated, is_bounded, bounded, bounded_size, bounded_whole, and_then, too_wide, sum_of}
 use Rattle.dsv_fraction.specs.declared.fraction.TooWide.{TooWide}
 use Rattle.dsv_fraction.proofs.Gcds.{gcd-is, divided, positive_product}
 use Rattle.dsv_fraction.proofs.Lowest.{cancels}
@@ -29,23 +29,23 @@ over_exact n (pos (suc d)) p = lowest_exact n (suc d) (omega arith)
 over_exact n (negsuc d) p = let r = lowest (neg_ℤ n) (suc d) in turned r.num (pos r.den) n d (lowest_exact (neg_ℤ n) (suc d) (omega arith))
 
 -- ---- behind the refusals
-pub narrowed_is : (r : Ratio) (P : Ratio → Type 0) → P r → IfOk (narrowed r) P
-narrowed_is r P p = elim (is_narrow r) as (λ b. IfOk {E = TooWide} (if b then Ok r else Err too_wide) P) [ true ↦ p | false ↦ tt ]
+pub narrowed_is : (r : Ratio) (P : Ratio → Type 0) → P r → IfOk (bounded r) P
+narrowed_is r P p = elim (is_bounded r) as (λ b. IfOk {E = TooWide} (if b then Ok r else Err too_wide) P) [ true ↦ p | false ↦ tt ]
 
-pub narrowed_only : (r x : Ratio) → Ok x ≡ narrowed r → x ≡ r
-narrowed_only r x = elim (is_narrow r) as (λ b. ◌≡◌ {A = Result Ratio TooWide} (Ok x) (if b then Ok r else Err too_wide) → x ≡ r) [ true ↦ (λ e. cc) | false ↦ (λ e. cc) ]
+pub narrowed_only : (r x : Ratio) → Ok x ≡ bounded r → x ≡ r
+narrowed_only r x = elim (is_bounded r) as (λ b. ◌≡◌ {A = Result Ratio TooWide} (Ok x) (if b then Ok r else Err too_wide) → x ≡ r) [ true ↦ (λ e. cc) | false ↦ (λ e. cc) ]
 
-size_is : {B : Type 0} (n : ℕ) (f : ℕ → Result B TooWide) (P : B → Type 0) → IfOk (f n) P → IfOk (and_then (narrow_size n) f) P
+size_is : {B : Type 0} (n : ℕ) (f : ℕ → Result B TooWide) (P : B → Type 0) → IfOk (f n) P → IfOk (and_then (bounded_size n) f) P
 size_is {B} n f P p = elim (nat_lt n (2 ^ 127)) as (λ b. IfOk (and_then (if b then Ok n else Err too_wide) f) P) [ true ↦ p | false ↦ tt ]
 
-whole_is : {B : Type 0} (z : ℤ) (f : ℤ → Result B TooWide) (P : B → Type 0) → IfOk (f z) P → IfOk (and_then (narrow_whole z) f) P
+whole_is : {B : Type 0} (z : ℤ) (f : ℤ → Result B TooWide) (P : B → Type 0) → IfOk (f z) P → IfOk (and_then (bounded_whole z) f) P
 whole_is {B} z f P p = elim (nat_lt (unsigned_abs z) (2 ^ 127)) as (λ b. IfOk (and_then (if b then Ok z else Err too_wide) f) P) [ true ↦ p | false ↦ tt ]
 
 -- ---- the operations
-pub over_value : (n d : ℤ) → d ≢ pos 0 → IfOk (narrowed (over n d)) (λ r. r.num *ℤ d ≡ n *ℤ pos r.den)
+pub over_value : (n d : ℤ) → d ≢ pos 0 → IfOk (bounded (over n d)) (λ r. r.num *ℤ d ≡ n *ℤ pos r.den)
 over_value n d p = narrowed_is (over n d) (λ r. r.num *ℤ d ≡ n *ℤ pos r.den) (over_exact n d p)
 
-pub times_value : (r s : Ratio) → 0 < r.den → 0 < s.den → IfOk (narrowed (times r s)) (λ t. t.num *ℤ pos (r.den * s.den) ≡ r.num *ℤ s.num *ℤ pos t.den)
+pub times_value : (r s : Ratio) → 0 < r.den → 0 < s.den → IfOk (bounded (times r s)) (λ t. t.num *ℤ pos (r.den * s.den) ≡ r.num *ℤ s.num *ℤ pos t.den)
 times_value r s p q = narrowed_is (times r s) (λ t. t.num *ℤ pos (r.den * s.den) ≡ r.num *ℤ s.num *ℤ pos t.den)
     (lowest_exact (r.num *ℤ s.num) (r.den * s.den) (positive_product r.den s.den p q))
 
@@ -54,7 +54,7 @@ apart d (pos zero) p n e = n refl
 apart d (pos (suc m)) p n e = let h = positive_product d (suc m) p (omega arith) in absurd (omega (arith, ints))
 apart d (negsuc m) p n e = let h = positive_product d (suc m) p (omega arith) in absurd (omega (arith, ints))
 
-pub quotient_value : (r s : Ratio) → 0 < r.den → s.num ≢ pos 0 → IfOk (narrowed (quotient r s)) (λ t. t.num *ℤ (pos r.den *ℤ s.num) ≡ r.num *ℤ pos s.den *ℤ pos t.den)
+pub quotient_value : (r s : Ratio) → 0 < r.den → s.num ≢ pos 0 → IfOk (bounded (quotient r s)) (λ t. t.num *ℤ (pos r.den *ℤ s.num) ≡ r.num *ℤ pos s.den *ℤ pos t.den)
 quotient_value r s p n = narrowed_is (quotient r s) (λ t. t.num *ℤ (pos r.den *ℤ s.num) ≡ r.num *ℤ pos s.den *ℤ pos t.den)
     (over_exact (r.num *ℤ pos s.den) (pos r.den *ℤ s.num) (apart r.den s.num p n))
 

@@ -43,19 +43,19 @@ abbrev pub too_wide : TooWide
 too_wide = record {}
 
 -- neither part passes 2^127
-abbrev pub is_narrow : Ratio → Bool
-is_narrow r = nat_lt (unsigned_abs r.num) (2 ^ 127) && nat_lt r.den (2 ^ 127)
+abbrev pub is_bounded : Ratio → Bool
+is_bounded r = nat_lt (unsigned_abs r.num) (2 ^ 127) && nat_lt r.den (2 ^ 127)
 
 -- the fraction, where neither part passes 2^127
-abbrev pub narrowed : Ratio → Result Ratio TooWide
-narrowed r = if is_narrow r then Ok r else Err too_wide
+abbrev pub bounded : Ratio → Result Ratio TooWide
+bounded r = if is_bounded r then Ok r else Err too_wide
 
 -- the whole number, where it doesn't pass 2^127
-abbrev pub narrow_whole : ℤ → Result ℤ TooWide
-narrow_whole z = if nat_lt (unsigned_abs z) (2 ^ 127) then Ok z else Err too_wide
+abbrev pub bounded_whole : ℤ → Result ℤ TooWide
+bounded_whole z = if nat_lt (unsigned_abs z) (2 ^ 127) then Ok z else Err too_wide
 
-abbrev pub narrow_size : ℕ → Result ℕ TooWide
-narrow_size n = if nat_lt n (2 ^ 127) then Ok n else Err too_wide
+abbrev pub bounded_size : ℕ → Result ℕ TooWide
+bounded_size n = if nat_lt n (2 ^ 127) then Ok n else Err too_wide
 
 abbrev pub and_then : {A B : Type 0} → Result A TooWide → (A → Result B TooWide) → Result B TooWide
 and_then (Ok x) f = f x
@@ -65,10 +65,10 @@ and_then (Err e) f = Err e
 abbrev pub sum_of : Ratio → Ratio → Result Ratio TooWide
 sum_of r s =
     let g = gcd r.den s.den in
-    and_then (narrow_size (r.den * (s.den / g))) (λ den.
-    and_then (narrow_whole (r.num *ℤ pos (s.den / g))) (λ left.
-    and_then (narrow_whole (s.num *ℤ pos (r.den / g))) (λ right.
-    and_then (narrow_whole (left +ℤ right)) (λ total. Ok (lowest total den)))))
+    and_then (bounded_size (r.den * (s.den / g))) (λ den.
+    and_then (bounded_whole (r.num *ℤ pos (s.den / g))) (λ left.
+    and_then (bounded_whole (s.num *ℤ pos (r.den / g))) (λ right.
+    and_then (bounded_whole (left +ℤ right)) (λ total. Ok (lowest total den)))))
 
 abbrev pub difference_of : Ratio → Ratio → Result Ratio TooWide
 difference_of r s = sum_of r (negated s)

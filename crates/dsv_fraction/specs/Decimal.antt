@@ -2,16 +2,13 @@
 use Rattle.std.specs.Prelude.{◌≡◌, ◌<◌, ℕ, suc, ◌+◌, ◌-◌, ◌*◌, ◌^◌, Bool, not, ◌==◌, nat_lt, if◌then◌else◌, List, [], ◌∷◌, ◌++◌, length, drop, Result, Ok, Err, ℤ, pos, negsuc, ◌-ℤ◌}
 use Rattle.std.specs.Int.RustNames.{unsigned_abs}
 use Rattle.dsv_fraction.specs.Ratio.{Ratio}
-use Rattle.dsv_fraction.specs.Arithmetic.{signed, times, narrowed}
-use Rattle.dsv_fraction.specs.Number.{has_byte, sign_len, digits_len, whole_len, exponent_len, is_number, front_len, front_digits}
+use Rattle.dsv_fraction.specs.Arithmetic.{signed, times, bounded}
+use Rattle.dsv_text.specs.Bytes.{has_byte}
+use Rattle.dsv_text.specs.Digits.{digits_len, digits_value, front_digits}
+use Rattle.dsv_fraction.specs.Number.{sign_len, whole_len, exponent_len, is_number, front_len}
 use Rattle.dsv_fraction.specs.declared.fraction.TooWide.{TooWide}
 use Rattle.dsv_fraction.specs.declared.decimal.DecimalRefusal.{DecimalRefusal}
 use Rattle.dsv_fraction.specs.declared.decimal.DecimalRefusal.TheVariants as refusal
-
--- the number that digits spell, behind the number n
-abbrev pub digits_value : ℕ → List ℕ → ℕ
-digits_value n [] = n
-digits_value n (b ∷ bs) = digits_value (n * 10 + (b - 48)) bs
 
 -- the digits behind the point
 abbrev pub behind_point : List ℕ → List ℕ
@@ -59,4 +56,4 @@ decimal_of text =
     if not (is_number text) then Err (refusal.NotDecimal (front_len text))
     else if nat_lt 18 (length digits) then Err refusal.Digits
     else if nat_lt 30 (unsigned_abs exponent) then Err refusal.Exponent
-    else or_too_wide (narrowed (decimal_value (has_byte 45 text) (digits_value 0 digits) (exponent -ℤ pos (length behind))))
+    else or_too_wide (bounded (decimal_value (has_byte 45 text) (digits_value 0 digits) (exponent -ℤ pos (length behind))))

@@ -2,19 +2,8 @@
 -- at least one digit; optionally `e` or `E` with an optional sign and digits; optionally one of `f F l L`.
 -- Each part is taken as long as it goes.
 use Rattle.std.specs.Prelude.{ℕ, suc, ◌+◌, Bool, true, false, ◌&&◌, ◌||◌, ◌==◌, nat_le, not, if◌then◌else◌, List, [], ◌∷◌, length, take, drop}
-
-abbrev pub is_digit : ℕ → Bool
-is_digit b = nat_le 48 b && nat_le b 57
-
--- the text begins with this byte
-abbrev pub has_byte : ℕ → List ℕ → Bool
-has_byte byte [] = false
-has_byte byte (b ∷ bs) = b == byte
-
--- the bytes of the digits at the front
-abbrev pub digits_len : List ℕ → ℕ
-digits_len [] = 0
-digits_len (b ∷ bs) = elim (is_digit b) [ true ↦ suc (digits_len bs) | false ↦ 0 ]
+use Rattle.dsv_text.specs.Bytes.{has_byte}
+use Rattle.dsv_text.specs.Digits.{digits_len}
 
 -- of a sign, `+` or `-`
 abbrev pub sign_len : List ℕ → ℕ
@@ -70,7 +59,3 @@ front_len text =
     if n == 0 then s + point_len (drop s text)
     else if e == 0 && has_mark tail then s + n + 1 + sign_len (drop 1 tail)
     else s + n + e + suffix_len (drop e tail)
-
--- the digits at the front
-abbrev pub front_digits : List ℕ → List ℕ
-front_digits text = take (digits_len text) text

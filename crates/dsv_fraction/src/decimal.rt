@@ -3,15 +3,13 @@
 
 ghost use Rattle.std.specs.Prelude.{◌≡◌, ◌^◌, ◌<◌, ◌≤◌, ◌++◌, nat_lt, if◌then◌else◌, Some, None, IfSome, length, pos, ◌-ℤ◌};
 ghost use Rattle.std.specs.Int.RustNames.{unsigned_abs};
-ghost use Rattle.dsv_fraction.specs.Arithmetic.{times, narrowed};
-ghost use Rattle.dsv_fraction.specs.Number.{front_digits};
-ghost use Rattle.dsv_fraction.specs.Decimal.{digits_value, behind_point, exponent_of, ten_to, tenth_to, power_of_ten, decimal_value, IsWhole};
+ghost use Rattle.dsv_fraction.specs.Arithmetic.{times, bounded};
+ghost use Rattle.dsv_text.specs.Digits.{digits_value, front_digits};
+ghost use Rattle.dsv_fraction.specs.Decimal.{behind_point, exponent_of, ten_to, tenth_to, power_of_ten, decimal_value, IsWhole};
 
 use crate::fraction::{Frac, TooWide};
-use crate::number::{
-    digits_len, exponent_len, front_digits, front_len, has_byte, is_number, rest, sign_len,
-    whole_len,
-};
+use crate::number::{exponent_len, front_len, is_number, rest, sign_len, whole_len};
+use dsv_text::{digits_len, digits_value, front_digits, has_byte};
 use thiserror::Error;
 
 /// The most digits that a decimal has before its exponent.
@@ -48,21 +46,8 @@ impl From<TooWide> for DecimalRefusal {
     }
 }
 
-/// The number that digits spell behind `start`.
-#[tactic(auto, using(crate::proofs::Digits::value_grows))]
-fn digits_value(start: u64, digits: &[u8]) -> u64
-    requires { digits_value start digits.now < 2 ^ 64 }
-    ensures { result ≡ digits_value start digits.now }
-{
-    let mut value = start;
-    for byte in digits {
-        value = value * 10 + u64::from(byte.saturating_sub(b'0'));
-    }
-    value
-}
-
 /// The number that digits spell, where it is at most the greatest exponent.
-#[tactic(auto, using(crate::proofs::Digits::value_grows))]
+#[tactic(auto, using(dsv_text::proofs::DigitLemmas::value_grows))]
 fn small_value(digits: &[u8]) -> Option<u32>
     ensures { let n = digits_value 0 digits.now in result ≡ (if nat_lt 30 n then None else Some n) }
 {
@@ -105,7 +90,7 @@ fn exponent_of(tail: &[u8]) -> Option<i32>
 /// A whole number times `10^count`.
 fn times_ten_to(number: &Frac, count: u32) -> Result<Frac, TooWide>
     requires { IsWhole number.now }
-    ensures { result ≡ narrowed (times number.now (ten_to count)) }
+    ensures { result ≡ bounded (times number.now (ten_to count)) }
 {
     if count == 0 {
         return Ok(*number);
@@ -116,7 +101,7 @@ fn times_ten_to(number: &Frac, count: u32) -> Result<Frac, TooWide>
 /// A whole number over `10^count`, in lowest terms.
 fn over_ten_to(number: &Frac, count: u32) -> Result<Frac, TooWide>
     requires { IsWhole number.now }
-    ensures { result ≡ narrowed (times number.now (tenth_to count)) }
+    ensures { result ≡ bounded (times number.now (tenth_to count)) }
 {
     if count == 0 {
         return Ok(*number);
@@ -136,7 +121,7 @@ fn shift_of(exponent: i32, places: usize) -> i32
 /// A whole number times `10^shift`, in lowest terms.
 fn scaled(number: &Frac, shift: i32) -> Result<Frac, TooWide>
     requires { IsWhole number.now }
-    ensures { result ≡ narrowed (times number.now (power_of_ten shift)) }
+    ensures { result ≡ bounded (times number.now (power_of_ten shift)) }
 {
     let count = shift.unsigned_abs();
     if shift < 0 {
@@ -161,7 +146,7 @@ fn value_of(negative: bool, body: &[u8], exponent: i32) -> Result<Frac, TooWide>
     requires exponent { unsigned_abs exponent ≤ 30 }
     ensures { let digits = digits_value 0 (front_digits body.now ++ behind_point body.now) in
         let places = length (behind_point body.now) in
-        result ≡ narrowed (decimal_value negative digits (exponent -ℤ pos places)) }
+        result ≡ bounded (decimal_value negative digits (exponent -ℤ pos places)) }
 {
     let number = Frac::whole(negative, u128::from(digits_of(body)));
     let places = behind_point(body).len();

@@ -80,13 +80,13 @@ impl Frac {
     ghost use Rattle.std.specs.Int.RustNames.{unsigned_abs};
     ghost use Rattle.dsv_fraction.specs.Ratio.{IsLowest};
     ghost use Rattle.dsv_fraction.specs.Arithmetic.{signed, lowest, over, times, quotient, negated, compared};
-    ghost use Rattle.dsv_fraction.specs.Arithmetic.{narrowed, sum_of, difference_of};
+    ghost use Rattle.dsv_fraction.specs.Arithmetic.{bounded, sum_of, difference_of};
     ghost use Rattle.dsv_fraction.specs.Parts.{ArePartsOf, AreCoprime, differ};
 
     /// The fraction `num / den` in lowest terms, or TooWide where a part of it has a size of 2^127 or more.
     pub fn new(num: i128, den: i128) -> Result<Frac, TooWide>
         requires { den ≢ pos 0 }
-        ensures exact { result ≡ narrowed (over num den) }
+        ensures exact { result ≡ bounded (over num den) }
         ensures value { IfOk result (λ r. r.num *ℤ den ≡ num *ℤ pos r.den) }
     {
         Frac::reduced(
@@ -121,7 +121,7 @@ impl Frac {
 
     /// The product.
     pub fn mul(&self, other: &Frac) -> Result<Frac, TooWide>
-        ensures exact { result ≡ narrowed (times self.now other.now) }
+        ensures exact { result ≡ bounded (times self.now other.now) }
         ensures value { IfOk result (λ r.
             r.num *ℤ pos (self.now.den * other.now.den) ≡ self.now.num *ℤ other.now.num *ℤ pos r.den) }
     {
@@ -131,7 +131,7 @@ impl Frac {
     /// The quotient.
     pub fn div(&self, other: &Frac) -> Result<Frac, TooWide>
         requires { other.now.num ≢ pos 0 }
-        ensures exact { result ≡ narrowed (quotient self.now other.now) }
+        ensures exact { result ≡ bounded (quotient self.now other.now) }
         ensures value { IfOk result (λ r.
             r.num *ℤ (pos self.now.den *ℤ other.now.num) ≡ self.now.num *ℤ pos other.now.den *ℤ pos r.den) }
     {
@@ -227,7 +227,7 @@ impl Frac {
         requires own { AreCoprime own.num own.den }
         requires its { AreCoprime its.num its.den }
         ensures { let num = signed (differ own.negative its.negative) (own.num * its.num) in
-            result ≡ narrowed (lowest num (own.den * its.den)) }
+            result ≡ bounded (lowest num (own.den * its.den)) }
     {
         let first = cancel(own.num, its.den);
         let second = cancel(its.num, own.den);
@@ -243,7 +243,7 @@ impl Frac {
     /// The fraction of these sizes in lowest terms, negative or not.
     fn reduced(negative: bool, num: u128, den: u128) -> Result<Frac, TooWide>
         requires { 0 < den }
-        ensures { result ≡ narrowed (lowest (signed negative num) den) }
+        ensures { result ≡ bounded (lowest (signed negative num) den) }
     {
         let parts = cancel(num, den);
         Frac::exact(negative, parts.num, parts.den)
@@ -263,7 +263,7 @@ impl Frac {
     /// The fraction of these sizes, which have no common factor, negative or not.
     fn exact(negative: bool, num: u128, den: u128) -> Result<Frac, TooWide>
         requires { AreCoprime num den }
-        ensures { result ≡ narrowed (record { num = signed negative num; den = den }) }
+        ensures { result ≡ bounded (record { num = signed negative num; den = den }) }
     {
         if num >= LIMIT || den >= LIMIT {
             return Err(TooWide);

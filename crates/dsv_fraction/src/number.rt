@@ -1,39 +1,11 @@
 //! The lengths of the parts of a number's text, each in bytes from the front of a text. Each part is taken as long as
 //! it goes, and its length is 0 where the text doesn't begin with it.
 ghost use Rattle.std.specs.Prelude.{◌≡◌, ◌≤◌, length, drop};
-ghost use Rattle.dsv_fraction.specs.Number.{is_digit, has_byte, digits_len, sign_len, point_len, suffix_len, whole_len, has_mark, exponent_len, number_len, is_number, front_len, front_digits};
+ghost use Rattle.dsv_text.specs.Bytes.{has_byte, is_digit};
+ghost use Rattle.dsv_text.specs.Digits.{digits_len, front_digits};
+ghost use Rattle.dsv_fraction.specs.Number.{sign_len, point_len, suffix_len, whole_len, has_mark, exponent_len, number_len, is_number, front_len};
 
-/// Whether the byte is an ASCII digit.
-pub fn is_digit(byte: u8) -> bool
-    ensures { result ≡ is_digit byte }
-{
-    byte >= b'0' && byte <= b'9'
-}
-
-/// Whether the text begins with the byte.
-pub fn has_byte(byte: u8, text: &[u8]) -> bool
-    ensures { result ≡ has_byte byte text.now }
-{
-    match text {
-        [first, ..] => *first == byte,
-        [] => false,
-    }
-}
-
-/// The length of the digits.
-pub fn digits_len(text: &[u8]) -> usize
-    ensures value { result ≡ digits_len text.now }
-    ensures within { result ≤ length text.now }
-{
-    let mut count = 0;
-    for byte in text {
-        if !is_digit(*byte) {
-            return count;
-        }
-        count += 1;
-    }
-    count
-}
+use dsv_text::{digits_len, has_byte};
 
 /// The length of a sign, `+` or `-`.
 pub fn sign_len(text: &[u8]) -> usize
@@ -148,13 +120,6 @@ pub fn front_len(text: &[u8]) -> usize
         return sign + whole + 1 + sign_len(&tail[1..]);
     }
     sign + whole + exponent + suffix_len(&tail[exponent..])
-}
-
-/// The digits that the text begins with.
-pub fn front_digits(text: &[u8]) -> &[u8]
-    ensures { result.now ≡ front_digits text.now }
-{
-    &text[..digits_len(text)]
 }
 
 /// The text behind its first `count` bytes.

@@ -3,13 +3,13 @@
 
 ghost use Rattle.std.specs.Prelude.{◌≡◌, ◌*ℤ◌, ◌+ℤ◌, ◌*◌, ◌<◌, ◌^◌, IfOk};
 ghost use Rattle.std.specs.Int.RustNames.{unsigned_abs};
-ghost use Rattle.dsv_fraction.specs.Arithmetic.{narrow_whole, narrow_size};
+ghost use Rattle.dsv_fraction.specs.Arithmetic.{bounded_whole, bounded_size};
 
 use crate::fraction::{LIMIT, TooWide};
 
 /// The number itself, unless it is the one of size 2^127.
 fn tested(number: i128) -> Result<i128, TooWide>
-    ensures value { result ≡ narrow_whole number }
+    ensures value { result ≡ bounded_whole number }
     ensures narrow { IfOk result (λ z. unsigned_abs z < 2 ^ 127) }
 {
     if number.unsigned_abs() < LIMIT {
@@ -20,7 +20,7 @@ fn tested(number: i128) -> Result<i128, TooWide>
 }
 
 pub(crate) fn product(a: i128, b: i128) -> Result<i128, TooWide>
-    ensures value { result ≡ narrow_whole (a *ℤ b) }
+    ensures value { result ≡ bounded_whole (a *ℤ b) }
     ensures narrow { IfOk result (λ z. unsigned_abs z < 2 ^ 127) }
 {
     match a.checked_mul(b) {
@@ -30,7 +30,7 @@ pub(crate) fn product(a: i128, b: i128) -> Result<i128, TooWide>
 }
 
 pub(crate) fn sum(a: i128, b: i128) -> Result<i128, TooWide>
-    ensures value { result ≡ narrow_whole (a +ℤ b) }
+    ensures value { result ≡ bounded_whole (a +ℤ b) }
     ensures narrow { IfOk result (λ z. unsigned_abs z < 2 ^ 127) }
 {
     match a.checked_add(b) {
@@ -41,7 +41,7 @@ pub(crate) fn sum(a: i128, b: i128) -> Result<i128, TooWide>
 
 #[tactic(auto, using(crate::proofs::Gcds::positive_product))]
 pub(crate) fn size_product(a: u128, b: u128) -> Result<u128, TooWide>
-    ensures value { result ≡ narrow_size (a * b) }
+    ensures value { result ≡ bounded_size (a * b) }
     ensures narrow { IfOk result (λ n. n < 2 ^ 127) }
     ensures positive { 0 < a → 0 < b → IfOk result (λ n. 0 < n) }
 {

@@ -2,28 +2,28 @@
 use Rattle.std.proofs.Common.{◌≡◌, ℕ, zero, suc, ◌+◌, ◌<◌, ◌≤◌, Bool, true, false, List, [], ◌∷◌, ◌++◌, length, take, drop, map, get_or, refl, sym, ap, ◌∙◌, arith, add-one, append_assoc}
 use Rattle.std.proofs.Math.IntN.{ℤ, pos}
 use Rattle.std.proofs.lemmas.List.{drop_more, get_or-take, take-take, take_at, drop_at, length-take-le, length-drop, length_push, map_push}
-use Rattle.dsv_quantiser.specs.declared.kind.Kind.{Kind}
-use Rattle.dsv_quantiser.specs.declared.kind.Kind.TheVariants.{Dfi, Dfii, Tdfii, Ddfi, Ddfii, Tddfii}
+use Rattle.dsv_names.specs.declared.realisation.Realisation.{Realisation}
+use Rattle.dsv_names.specs.declared.realisation.Realisation.TheVariants.{Dfi, Dfii, Tdfii, Ddfi, Ddfii, Tddfii}
 use Rattle.dsv_quantiser.specs.FixedPoint.{FixedPoint}
 use Rattle.dsv_meaning.specs.declared.rows.Row.{Row}
-use Rattle.dsv_meaning.specs.Lines.{Term, Times, Alone, Sum, terms, line}
+use Rattle.dsv_meaning.specs.Lines.{Summand, Times, Alone, Sum, summands, line}
 use Rattle.dsv_meaning.specs.Runs.{Sampled, SampleRow, rows_from}
 use Rattle.dsv_meaning.specs.RowViews.{row_of}
-use Rattle.dsv_meaning.specs.Equations.{Past, order, feedback, ago, latest, Chain, chained, forward_terms, feedback_terms, delta_line, delta_chain, no_words, sample_as, sample, start_as, registers_as, registers_of}
+use Rattle.dsv_meaning.specs.Equations.{Past, order, feedback, ago, latest, Chain, chained, forward_summands, feedback_summands, delta_line, delta_chain, no_words, sample_as, sample, start_as, registers_as, registers_of}
 use Rattle.dsv_meaning.specs.Stepping.{stepped}
 
 -- ---- what a sample reads
--- terms read the first words alone
-terms_take : (away : Bool) (cs ws : List ℤ) (k m : ℕ) → k + length cs ≤ m → terms away cs (ago (take m ws)) k ≡ terms away cs (ago ws) k
-terms_take away [] ws k m h = refl
-terms_take away (c ∷ cs) ws k m h =
-    ap (λ w. Times away c w ∷ terms away cs (ago (take m ws)) (k + 1)) (get_or-take m ws k (pos 0) (omega arith))
-    ∙ ap (λ ts. Times away c (ago ws k) ∷ ts) (terms_take away cs ws (k + 1) m (omega arith))
+-- summands read the first words alone
+summands_take : (away : Bool) (cs ws : List ℤ) (k m : ℕ) → k + length cs ≤ m → summands away cs (ago (take m ws)) k ≡ summands away cs (ago ws) k
+summands_take away [] ws k m h = refl
+summands_take away (c ∷ cs) ws k m h =
+    ap (λ w. Times away c w ∷ summands away cs (ago (take m ws)) (k + 1)) (get_or-take m ws k (pos 0) (omega arith))
+    ∙ ap (λ ts. Times away c (ago ws k) ∷ ts) (summands_take away cs ws (k + 1) m (omega arith))
 
--- so words that begin alike make the same terms
-same_terms : (away : Bool) (cs vs ws : List ℤ) → take (length cs) vs ≡ take (length cs) ws → terms away cs (ago vs) 0 ≡ terms away cs (ago ws) 0
-same_terms away cs vs ws e =
-    sym (terms_take away cs vs 0 (length cs) (omega arith)) ∙ ap (λ l. terms away cs (ago l) 0) e ∙ terms_take away cs ws 0 (length cs) (omega arith)
+-- so words that begin alike make the same summands
+same_summands : (away : Bool) (cs vs ws : List ℤ) → take (length cs) vs ≡ take (length cs) ws → summands away cs (ago vs) 0 ≡ summands away cs (ago ws) 0
+same_summands away cs vs ws e =
+    sym (summands_take away cs vs 0 (length cs) (omega arith)) ∙ ap (λ l. summands away cs (ago l) 0) e ∙ summands_take away cs ws 0 (length cs) (omega arith)
 
 -- the same word before words that begin alike
 front_same : (n : ℕ) (w : ℤ) (us vs : List ℤ) → take n us ≡ take n vs → take n (w ∷ us) ≡ take n (w ∷ vs)
@@ -32,15 +32,15 @@ front_same (suc n) w us vs e =
     ap (λ l. w ∷ l) (sym (take-take n (suc n) us (omega arith)) ∙ ap (take n) e ∙ take-take n (suc n) vs (omega arith))
 
 same_forward : (q : FixedPoint) (w : ℤ) (us vs : List ℤ) → length q.b ≡ order q + 1 → take (order q) us ≡ take (order q) vs
-    → forward_terms q (ago (w ∷ us)) ≡ forward_terms q (ago (w ∷ vs))
+    → forward_summands q (ago (w ∷ us)) ≡ forward_summands q (ago (w ∷ vs))
 same_forward q w us vs h e =
     let one_more : length q.b ≡ suc (order q) = h ∙ add-one (order q) in
-    same_terms false q.b (w ∷ us) (w ∷ vs) (ap (λ n. take n (w ∷ us)) one_more ∙ ap (λ l. w ∷ l) e ∙ ap (λ n. take n (w ∷ vs)) (sym one_more))
+    same_summands false q.b (w ∷ us) (w ∷ vs) (ap (λ n. take n (w ∷ us)) one_more ∙ ap (λ l. w ∷ l) e ∙ ap (λ n. take n (w ∷ vs)) (sym one_more))
 
-same_feedback : (q : FixedPoint) (us vs : List ℤ) → take (order q) us ≡ take (order q) vs → feedback_terms q (ago us) 0 ≡ feedback_terms q (ago vs) 0
+same_feedback : (q : FixedPoint) (us vs : List ℤ) → take (order q) us ≡ take (order q) vs → feedback_summands q (ago us) 0 ≡ feedback_summands q (ago vs) 0
 same_feedback q us vs e =
     let n = length-drop 1 q.a in
-    same_terms true (feedback q) us vs (ap (λ m. take m us) n ∙ e ∙ ap (λ m. take m vs) (sym n))
+    same_summands true (feedback q) us vs (ap (λ m. take m us) n ∙ e ∙ ap (λ m. take m vs) (sym n))
 
 -- ---- pasts that a sample can't tell apart
 pub record Alike (n : ℕ) (p s : Past) : Type 0 where
@@ -59,32 +59,32 @@ pub record AlikeSamples (n : ℕ) (s t : Sampled Past) : Type 0 where
 abbrev chains : List ℤ → List ℤ → Past
 chains u v = record { signal = []; outputs = []; chain = u ∷ []; output_chain = v ∷ [] }
 
-alike_samples : (k : Kind) (q : FixedPoint) (p s : Past) (x : ℤ) → length q.b ≡ order q + 1 → Alike (order q) p s → AlikeSamples (order q) (sample_as k q p x) (sample_as k q s x)
+alike_samples : (k : Realisation) (q : FixedPoint) (p s : Past) (x : ℤ) → length q.b ≡ order q + 1 → Alike (order q) p s → AlikeSamples (order q) (sample_as k q p x) (sample_as k q s x)
 alike_samples Dfi q p s x m h =
     let n = order q in
-    let of : List (Term ℤ) → List (Term ℤ) → Sum = λ (ts us : List (Term ℤ)). line q.format [] (ts ++ us) in
+    let of : List (Summand ℤ) → List (Summand ℤ) → Sum = λ (ts us : List (Summand ℤ)). line q.format [] (ts ++ us) in
     let f = same_forward q x p.signal s.signal m h.signal in
     let b = same_feedback q p.outputs s.outputs h.outputs in
-    let e : of (forward_terms q (ago (x ∷ p.signal))) (feedback_terms q (ago p.outputs) 0) ≡ of (forward_terms q (ago (x ∷ s.signal))) (feedback_terms q (ago s.outputs) 0) =
-    ap (λ ts. of ts (feedback_terms q (ago p.outputs) 0)) f ∙ ap (of (forward_terms q (ago (x ∷ s.signal)))) b in
+    let e : of (forward_summands q (ago (x ∷ p.signal))) (feedback_summands q (ago p.outputs) 0) ≡ of (forward_summands q (ago (x ∷ s.signal))) (feedback_summands q (ago s.outputs) 0) =
+    ap (λ ts. of ts (feedback_summands q (ago p.outputs) 0)) f ∙ ap (of (forward_summands q (ago (x ∷ s.signal)))) b in
     record {
       y = ap (λ (t : Sum). t.value) e;
       exact = ap (λ (t : Sum). t.exact) e;
       past = record {
         signal = front_same n x p.signal s.signal h.signal;
-        outputs = ap (λ (t : Sum). take n (t.value ∷ p.outputs)) e ∙ front_same n (of (forward_terms q (ago (x ∷ s.signal))) (feedback_terms q (ago s.outputs) 0)).value p.outputs s.outputs h.outputs;
+        outputs = ap (λ (t : Sum). take n (t.value ∷ p.outputs)) e ∙ front_same n (of (forward_summands q (ago (x ∷ s.signal))) (feedback_summands q (ago s.outputs) 0)).value p.outputs s.outputs h.outputs;
         chain = h.chain;
         output_chain = h.output_chain;
       };
     }
 alike_samples Dfii q p s x m h =
     let n = order q in
-    let of : List (Term ℤ) → Sum = λ (ts : List (Term ℤ)). line q.format [] (Alone x ∷ ts) in
-    let w = of (feedback_terms q (ago s.signal) 0) in
-    let e : of (feedback_terms q (ago p.signal) 0) ≡ w = ap of (same_feedback q p.signal s.signal h.signal) in
-    let g : line q.format (of (feedback_terms q (ago p.signal) 0)).exact (forward_terms q (ago ((of (feedback_terms q (ago p.signal) 0)).value ∷ p.signal)))
-    ≡ line q.format w.exact (forward_terms q (ago (w.value ∷ s.signal))) =
-    ap (λ (t : Sum). line q.format t.exact (forward_terms q (ago (t.value ∷ p.signal)))) e
+    let of : List (Summand ℤ) → Sum = λ (ts : List (Summand ℤ)). line q.format [] (Alone x ∷ ts) in
+    let w = of (feedback_summands q (ago s.signal) 0) in
+    let e : of (feedback_summands q (ago p.signal) 0) ≡ w = ap of (same_feedback q p.signal s.signal h.signal) in
+    let g : line q.format (of (feedback_summands q (ago p.signal) 0)).exact (forward_summands q (ago ((of (feedback_summands q (ago p.signal) 0)).value ∷ p.signal)))
+    ≡ line q.format w.exact (forward_summands q (ago (w.value ∷ s.signal))) =
+    ap (λ (t : Sum). line q.format t.exact (forward_summands q (ago (t.value ∷ p.signal)))) e
     ∙ ap (line q.format w.exact) (same_forward q w.value p.signal s.signal m h.signal) in
     record {
       y = ap (λ (t : Sum). t.value) g;
@@ -126,7 +126,7 @@ alike_samples Tddfii q p s x m h = record {
   past = record { signal = h.signal; outputs = h.outputs; chain = ap (λ u. latest (sample_as Tddfii q (chains u []) x).past.chain) h.chain; output_chain = h.output_chain };
 }
 
-alike_rows : (k : Kind) (q : FixedPoint) (p s : Past) (xs : List ℤ) → length q.b ≡ order q + 1 → Alike (order q) p s → rows_from (sample_as k q) p xs ≡ rows_from (sample_as k q) s xs
+alike_rows : (k : Realisation) (q : FixedPoint) (p s : Past) (xs : List ℤ) → length q.b ≡ order q + 1 → Alike (order q) p s → rows_from (sample_as k q) p xs ≡ rows_from (sample_as k q) s xs
 alike_rows k q p s [] m h = refl
 alike_rows k q p s (x ∷ xs) m h =
     let a = alike_samples k q p s x m h in
@@ -153,7 +153,7 @@ two_lines n us vs h =
       output_chain = refl;
     }
 
-begun_anew : (k : Kind) (q : FixedPoint) (r : List ℤ) (x : ℤ) → length r ≡ registers_of k (order q)
+begun_anew : (k : Realisation) (q : FixedPoint) (r : List ℤ) (x : ℤ) → length r ≡ registers_of k (order q)
     → Alike (order q) (sample_as k q (start_as k (order q) r) x).past (start_as k (order q) (registers_as k (order q) (sample_as k q (start_as k (order q) r) x).past))
 begun_anew Dfi q r x h =
     let p = (sample_as Dfi q (start_as Dfi (order q) r) x).past in
@@ -169,14 +169,14 @@ begun_anew Ddfi q r x h =
     let u = latest p.chain in
     let v = latest p.output_chain in
     let m = length-take-le n r (omega arith) in
-    let y = line q.format [] (forward_terms q (ago (x ∷ take n r)) ++ feedback_terms q (ago (drop n r)) 0) in
+    let y = line q.format [] (forward_summands q (ago (x ∷ take n r)) ++ feedback_summands q (ago (drop n r)) 0) in
     let long : length u ≡ n = omega (arith, delta_chain-length q x (take n r) (no_words y.exact)) in
     record { signal = refl; outputs = refl; chain = sym (take_at u v n long); output_chain = sym (drop_at u v n long) }
 begun_anew Ddfii q r x h = record { signal = refl; outputs = refl; chain = refl; output_chain = refl }
 begun_anew Tddfii q r x h = record { signal = refl; outputs = refl; chain = refl; output_chain = refl }
 
 -- the rows over registers, one sample more
-next_rows : (k : Kind) (q : FixedPoint) (r new : List ℤ) (x : ℤ) (xs : List ℤ) (row : SampleRow) → length q.b ≡ order q + 1 → length r ≡ registers_of k (order q)
+next_rows : (k : Realisation) (q : FixedPoint) (r new : List ℤ) (x : ℤ) (xs : List ℤ) (row : SampleRow) → length q.b ≡ order q + 1 → length r ≡ registers_of k (order q)
     → row ≡ record { x = x; y = (stepped k q r x).y; exact = (stepped k q r x).exact } → new ≡ (stepped k q r x).registers
     → row ∷ rows_from (sample_as k q) (start_as k (order q) new) xs ≡ rows_from (sample_as k q) (start_as k (order q) r) (x ∷ xs)
 unfolding stepped
@@ -188,15 +188,15 @@ next_rows k q r new x xs row m h e g =
     ∙ sym (alike_rows k q t.past (start_as k (order q) (registers_as k (order q) t.past)) xs m (begun_anew k q r x h)))
 
 pub run_more : (q : FixedPoint) (r new : List ℤ) (x : ℤ) (inputs : List ℤ) (i : ℕ) (shown longer : List Row) (row : Row) → length q.b ≡ order q + 1
-    → length r ≡ registers_of q.kind (order q) → i < length inputs → x ≡ get_or inputs i (pos 0)
-    → row_of row ≡ record { x = x; y = (stepped q.kind q r x).y; exact = (stepped q.kind q r x).exact } → new ≡ (stepped q.kind q r x).registers → longer ≡ shown ++ row ∷ []
-    → map row_of longer ++ rows_from (sample q) (start_as q.kind (order q) new) (drop (i + 1) inputs)
-    ≡ map row_of shown ++ rows_from (sample q) (start_as q.kind (order q) r) (drop i inputs)
+    → length r ≡ registers_of q.realisation (order q) → i < length inputs → x ≡ get_or inputs i (pos 0)
+    → row_of row ≡ record { x = x; y = (stepped q.realisation q r x).y; exact = (stepped q.realisation q r x).exact } → new ≡ (stepped q.realisation q r x).registers → longer ≡ shown ++ row ∷ []
+    → map row_of longer ++ rows_from (sample q) (start_as q.realisation (order q) new) (drop (i + 1) inputs)
+    ≡ map row_of shown ++ rows_from (sample q) (start_as q.realisation (order q) r) (drop i inputs)
 run_more q r new x inputs i shown longer row m h l is e g more =
-    let rest = rows_from (sample q) (start_as q.kind (order q) new) (drop (i + 1) inputs) in
+    let rest = rows_from (sample q) (start_as q.realisation (order q) new) (drop (i + 1) inputs) in
     ap (λ (rs : List Row). map row_of rs ++ rest) more
     ∙ ap (λ (rs : List SampleRow). rs ++ rest) (map_push row_of shown row)
     ∙ append_assoc (map row_of shown) (row_of row ∷ []) rest
     ∙ ap (λ (rs : List SampleRow). map row_of shown ++ rs)
-    (next_rows q.kind q r new x (drop (i + 1) inputs) (row_of row) m h e g
-    ∙ ap (rows_from (sample q) (start_as q.kind (order q) r)) (ap (λ w. w ∷ drop (i + 1) inputs) is ∙ sym (drop_more inputs i (pos 0) l)))
+    (next_rows q.realisation q r new x (drop (i + 1) inputs) (row_of row) m h e g
+    ∙ ap (rows_from (sample q) (start_as q.realisation (order q) r)) (ap (λ w. w ∷ drop (i + 1) inputs) is ∙ sym (drop_more inputs i (pos 0) l)))

@@ -7,10 +7,10 @@ use Rattle.std.proofs.lemmas.Int.{ints, unsigned_abs-mul}
 use Rattle.std.proofs.lemmas.Nat.{mul-le, pow_pos}
 use lib.Signed.{◌≤ℤ◌}
 use Rattle.dsv_word.specs.declared.format.Format.{Format}
-use Rattle.dsv_word.specs.Words.{width, hi}
+use Rattle.dsv_word.specs.Words.{width, hi, IsWord}
 use Rattle.dsv_word.proofs.Powers.{power_small}
-use Rattle.dsv_quantiser.specs.FixedPoint.{FixedPoint, IsWord, IsFixedPoint}
-use Rattle.dsv_quantiser.specs.Kinds.{is_delta}
+use Rattle.dsv_quantiser.specs.FixedPoint.{FixedPoint, IsFixedPoint}
+use Rattle.dsv_names.specs.Realisations.{is_delta}
 
 sized : (c : ℤ) (h : ℕ) → h ≤ 2 ^ 32 → neg_ℤ (pos h) ≤ℤ c → c ≤ℤ (pos h -ℤ pos 1) → unsigned_abs c ≤ 2 ^ 32
 sized (pos n) h p a b = omega (arith, ints)
@@ -18,15 +18,15 @@ sized (negsuc n) h p a b = omega (arith, ints)
 
 -- a word is at most 2^32 in size
 word_size : (f : Format) (c : ℤ) → IsWord f c → unsigned_abs c ≤ 2 ^ 32
-word_size f c w = sized c (2 ^ (width f - 1)) (power_small (width f - 1) (omega (arith, f.lawful))) w.0 w.1
+word_size f c w = sized c (2 ^ (width f - 1)) (power_small (width f - 1) (omega (arith, f.lawful))) w.low w.high
 
 pub product_size : (f : Format) (c w p : ℤ) → IsWord f c → unsigned_abs w ≤ 2 ^ 63 → p ≡ c *ℤ w → unsigned_abs p < 2 ^ 126
 product_size f c w p word h e =
     rw (e, unsigned_abs-mul c w) (omega (arith, mul-le (unsigned_abs c) (unsigned_abs w) (2 ^ 32) (2 ^ 63) (word_size f c word) h))
 
 word_by : (f : Format) (d : ℤ) (b : Bool) → MatchBool b ((pos 1 ≤ℤ d) × (d ≤ℤ hi (width f))) (d ≡ pos 0) → IsWord f d
-word_by f d true h = let p = pow_pos (width f - 1) in let l : pos 1 ≤ℤ d = h.0 in (omega (arith, ints), h.1)
-word_by f d false h = let p = pow_pos (width f - 1) in let e : d ≡ pos 0 = h in (omega (arith, ints), omega (arith, ints))
+word_by f d true h = let p = pow_pos (width f - 1) in let l : pos 1 ≤ℤ d = h.0 in record { low = omega (arith, ints); high = h.1 }
+word_by f d false h = let p = pow_pos (width f - 1) in let e : d ≡ pos 0 = h in record { low = omega (arith, ints); high = omega (arith, ints) }
 
 pub delta_is_word : (q : FixedPoint) (d : ℤ) → IsFixedPoint q → d ≡ q.delta → IsWord q.format d
-delta_is_word q d h e = rw e (word_by q.format q.delta (is_delta q.kind) h.delta)
+delta_is_word q d h e = rw e (word_by q.format q.delta (is_delta q.realisation) h.delta)

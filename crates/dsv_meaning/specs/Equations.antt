@@ -1,9 +1,9 @@
 -- The written equations of the six realisations. N is the order, x(n) the input, y(n) the output.
 use Rattle.std.specs.Prelude.{ℕ, ◌+◌, ◌-◌, ◌*◌, true, false, List, [], ◌∷◌, ◌++◌, length, take, drop, ℤ, pos, slice_index_or}
-use Rattle.dsv_quantiser.specs.declared.kind.Kind.{Kind}
-use Rattle.dsv_quantiser.specs.declared.kind.Kind.TheVariants.{Dfi, Dfii, Tdfii, Ddfi, Ddfii, Tddfii}
+use Rattle.dsv_names.specs.declared.realisation.Realisation.{Realisation}
+use Rattle.dsv_names.specs.declared.realisation.Realisation.TheVariants.{Dfi, Dfii, Tdfii, Ddfi, Ddfii, Tddfii}
 use Rattle.dsv_quantiser.specs.FixedPoint.{FixedPoint}
-use Rattle.dsv_meaning.specs.Lines.{Term, Times, Alone, Sum, terms, line}
+use Rattle.dsv_meaning.specs.Lines.{Summand, Times, Alone, Sum, summands, line}
 use Rattle.dsv_meaning.specs.Runs.{Sampled}
 
 abbrev pub order : FixedPoint → ℕ
@@ -31,28 +31,28 @@ latest chains = slice_index_or chains 0 []
 
 -- ---- the lines, over words or over the nodes that have them
 -- b_0 w(0) + b_1 w(1) + ..
-abbrev pub forward_terms : {A : Type 0} → FixedPoint → (ℕ → A) → List (Term A)
-forward_terms q w = terms false q.b w 0
+abbrev pub forward_summands : {A : Type 0} → FixedPoint → (ℕ → A) → List (Summand A)
+forward_summands q w = summands false q.b w 0
 
 -- - a_1 w(k) - a_2 w(k+1) - ..
-abbrev pub feedback_terms : {A : Type 0} → FixedPoint → (ℕ → A) → ℕ → List (Term A)
-feedback_terms q w k = terms true (feedback q) w k
+abbrev pub feedback_summands : {A : Type 0} → FixedPoint → (ℕ → A) → ℕ → List (Summand A)
+feedback_summands q w k = summands true (feedback q) w k
 
 -- the first word of a chain, alone
-abbrev pub first_alone : {A : Type 0} → List A → List (Term A)
+abbrev pub first_alone : {A : Type 0} → List A → List (Summand A)
 first_alone [] = []
 first_alone (s ∷ ss) = Alone s ∷ []
 
 -- b_0 x + s_1
-abbrev pub transposed_output : {A : Type 0} → FixedPoint → A → List A → List (Term A)
-transposed_output q x s = terms false (take 1 q.b) (λ i. x) 0 ++ first_alone s
+abbrev pub transposed_output : {A : Type 0} → FixedPoint → A → List A → List (Summand A)
+transposed_output q x s = summands false (take 1 q.b) (λ i. x) 0 ++ first_alone s
 
 -- b_i x - a_i y + old s_(i+1), where `s` begins with old s_(i+1)
-abbrev pub transposed_line : {A : Type 0} → ℤ → ℤ → A → A → List A → List (Term A)
+abbrev pub transposed_line : {A : Type 0} → ℤ → ℤ → A → A → List A → List (Summand A)
 transposed_line b a x y s = Times false b x ∷ Times true a y ∷ first_alone s
 
 -- old w + delta v
-abbrev pub delta_line : {A : Type 0} → FixedPoint → A → A → List (Term A)
+abbrev pub delta_line : {A : Type 0} → FixedPoint → A → A → List (Summand A)
 delta_line q w v = Alone w ∷ Times false q.delta v ∷ []
 
 -- ---- chains
@@ -86,17 +86,17 @@ transposed_delta_chain q x y (b ∷ bs) (a ∷ cs) (s ∷ ss) c =
 transposed_delta_chain q x y _ _ _ c = c
 
 -- ---- one sample
-abbrev pub sample_as : Kind → FixedPoint → Past → ℤ → Sampled Past
+abbrev pub sample_as : Realisation → FixedPoint → Past → ℤ → Sampled Past
 -- y(n) = b_0 x(n) + .. + b_N x(n-N) - a_1 y(n-1) - .. - a_N y(n-N)
 sample_as Dfi q p x =
     let xs = x ∷ p.signal in
-    let y = line q.format [] (forward_terms q (ago xs) ++ feedback_terms q (ago p.outputs) 0) in
+    let y = line q.format [] (forward_summands q (ago xs) ++ feedback_summands q (ago p.outputs) 0) in
     record { y = y.value; exact = y.exact; past = record p { signal = xs; outputs = y.value ∷ p.outputs } }
 -- w(n) = x(n) - a_1 w(n-1) - .. - a_N w(n-N); y(n) = b_0 w(n) + .. + b_N w(n-N)
 sample_as Dfii q p x =
-    let w = line q.format [] (Alone x ∷ feedback_terms q (ago p.signal) 0) in
+    let w = line q.format [] (Alone x ∷ feedback_summands q (ago p.signal) 0) in
     let ws = w.value ∷ p.signal in
-    let y = line q.format w.exact (forward_terms q (ago ws)) in
+    let y = line q.format w.exact (forward_summands q (ago ws)) in
     record { y = y.value; exact = y.exact; past = record p { signal = ws } }
 -- y(n) = b_0 x(n) + s_1; then the new s_i
 sample_as Tdfii q p x =
@@ -108,15 +108,15 @@ sample_as Tdfii q p x =
 sample_as Ddfi q p x =
     let u = latest p.chain in
     let v = latest p.output_chain in
-    let y = line q.format [] (forward_terms q (ago (x ∷ u)) ++ feedback_terms q (ago v) 0) in
+    let y = line q.format [] (forward_summands q (ago (x ∷ u)) ++ feedback_summands q (ago v) 0) in
     let c = delta_chain q x u (no_words y.exact) in
     let d = delta_chain q y.value v (no_words c.exact) in
     record { y = y.value; exact = d.exact; past = record p { chain = c.words ∷ p.chain; output_chain = d.words ∷ p.output_chain } }
 -- w_0 = x(n) - a_1 w_1 - .. - a_N w_N; y(n) = b_0 w_0 + .. + b_N w_N; then the new w_j
 sample_as Ddfii q p x =
     let w = latest p.chain in
-    let w_0 = line q.format [] (Alone x ∷ feedback_terms q (ago w) 0) in
-    let y = line q.format w_0.exact (forward_terms q (ago (w_0.value ∷ w))) in
+    let w_0 = line q.format [] (Alone x ∷ feedback_summands q (ago w) 0) in
+    let y = line q.format w_0.exact (forward_summands q (ago (w_0.value ∷ w))) in
     let c = delta_chain q w_0.value w (no_words y.exact) in
     record { y = y.value; exact = c.exact; past = record p { chain = c.words ∷ p.chain } }
 -- y(n) = b_0 x(n) + s_1; then the new s_i
@@ -127,18 +127,18 @@ sample_as Tddfii q p x =
     record { y = y.value; exact = c.exact; past = record p { chain = c.words ∷ p.chain } }
 
 abbrev pub sample : FixedPoint → Past → ℤ → Sampled Past
-sample q p x = sample_as q.kind q p x
+sample q p x = sample_as q.realisation q p x
 
 -- ---- registers
 -- the registers in a past, read from the lists, for an order N
-abbrev pub registers_as : Kind → ℕ → Past → List ℤ
+abbrev pub registers_as : Realisation → ℕ → Past → List ℤ
 registers_as Dfi n p = take n p.signal ++ take n p.outputs
 registers_as Dfii n p = take n p.signal
 registers_as Ddfi n p = latest p.chain ++ latest p.output_chain
 registers_as k n p = latest p.chain
 
 -- the past before sample 0, for these words in the registers
-abbrev pub start_as : Kind → ℕ → List ℤ → Past
+abbrev pub start_as : Realisation → ℕ → List ℤ → Past
 start_as Dfi n start = record { signal = take n start; outputs = drop n start; chain = []; output_chain = [] }
 start_as Dfii n start = record { signal = start; outputs = []; chain = []; output_chain = [] }
 start_as Ddfi n start = record { signal = []; outputs = []; chain = take n start ∷ []; output_chain = drop n start ∷ [] }
@@ -146,19 +146,19 @@ start_as k n start = record { signal = []; outputs = []; chain = start ∷ []; o
 
 -- ---- the table of counts
 -- how many registers a realisation has
-abbrev pub registers_of : Kind → ℕ → ℕ
+abbrev pub registers_of : Realisation → ℕ → ℕ
 registers_of Dfi n = 2 * n
 registers_of Ddfi n = 2 * n
 registers_of k n = n
 
 -- how many of them, the first ones, are feed-forward
-abbrev pub forward_registers_of : Kind → ℕ → ℕ
+abbrev pub forward_registers_of : Realisation → ℕ → ℕ
 forward_registers_of Dfi n = n
 forward_registers_of Ddfi n = n
 forward_registers_of k n = 0
 
 -- how many products a sample has
-abbrev pub products_of : Kind → ℕ → ℕ
+abbrev pub products_of : Realisation → ℕ → ℕ
 products_of Dfi n = 2 * n + 1
 products_of Dfii n = 2 * n + 1
 products_of Tdfii n = 2 * n + 1
@@ -167,5 +167,5 @@ products_of Ddfii n = 3 * n + 1
 products_of Tddfii n = 3 * n + 1
 
 -- how many sums and differences
-abbrev pub sums_of : Kind → ℕ → ℕ
+abbrev pub sums_of : Realisation → ℕ → ℕ
 sums_of k n = products_of k n - 1

@@ -4,16 +4,16 @@ use Rattle.dsv_word.specs.declared.format.Format.{Format}
 use Rattle.dsv_word.specs.Words.{width, fit}
 use Rattle.dsv_word.specs.Quotients.{shifted}
 
--- A line is a list of terms: a product of a coefficient and a word, added or taken away, or a word alone, added.
+-- A line is a list of summands: a product of a coefficient and a word, added or taken away, or a word alone, added.
 -- A is the type of the words: whole numbers in an equation, numbers of nodes in a netlist.
-pub data Term (A : Type 0) : Type 0 where
-  Times : (away : Bool) (coeff : ℤ) (word : A) → Term A
-  Alone : (word : A) → Term A
+pub data Summand (A : Type 0) : Type 0 where
+  Times : (away : Bool) (coeff : ℤ) (word : A) → Summand A
+  Alone : (word : A) → Summand A
 
--- the terms c_0 w(k), c_1 w(k+1), ..
-abbrev pub terms : {A : Type 0} → Bool → List ℤ → (ℕ → A) → ℕ → List (Term A)
-terms away [] w k = []
-terms away (c ∷ cs) w k = Times away c (w k) ∷ terms away cs w (k + 1)
+-- the summands c_0 w(k), c_1 w(k+1), ..
+abbrev pub summands : {A : Type 0} → Bool → List ℤ → (ℕ → A) → ℕ → List (Summand A)
+summands away [] w k = []
+summands away (c ∷ cs) w k = Times away c (w k) ∷ summands away cs w (k + 1)
 
 -- how far a line has come: its value, and the exact values of the operations so far, each before it was fitted
 pub record Sum : Type 0 where
@@ -32,20 +32,20 @@ product f old c w = fitted f old (shifted f.rounding f.frac_bits (c *ℤ w))
 abbrev pub joined : Format → Bool → ℤ → Sum → Sum
 joined f away v s = fitted f s.exact (if away then v -ℤ s.value else v +ℤ s.value)
 
--- a line starts with its first term, which is never taken away; a word alone is no operation
-abbrev pub first_term : Format → List ℤ → Term ℤ → Sum
-first_term f old (Times away c w) = product f old c w
-first_term f old (Alone w) = record { value = w; exact = old }
+-- a line starts with its first summand, which is never taken away; a word alone is no operation
+abbrev pub first_summand : Format → List ℤ → Summand ℤ → Sum
+first_summand f old (Times away c w) = product f old c w
+first_summand f old (Alone w) = record { value = w; exact = old }
 
-abbrev pub next_term : Format → Sum → Term ℤ → Sum
-next_term f s (Times away c w) = joined f away s.value (product f s.exact c w)
-next_term f s (Alone w) = fitted f s.exact (s.value +ℤ w)
+abbrev pub next_summand : Format → Sum → Summand ℤ → Sum
+next_summand f s (Times away c w) = joined f away s.value (product f s.exact c w)
+next_summand f s (Alone w) = fitted f s.exact (s.value +ℤ w)
 
-abbrev pub next_terms : Format → Sum → List (Term ℤ) → Sum
-next_terms f s [] = s
-next_terms f s (t ∷ ts) = next_terms f (next_term f s t) ts
+abbrev pub next_summands : Format → Sum → List (Summand ℤ) → Sum
+next_summands f s [] = s
+next_summands f s (t ∷ ts) = next_summands f (next_summand f s t) ts
 
 -- a line from left to right, behind the exact values of the lines before it
-abbrev pub line : Format → List ℤ → List (Term ℤ) → Sum
+abbrev pub line : Format → List ℤ → List (Summand ℤ) → Sum
 line f old [] = record { value = pos 0; exact = old }
-line f old (t ∷ ts) = next_terms f (first_term f old t) ts
+line f old (t ∷ ts) = next_summands f (first_summand f old t) ts

@@ -1,6 +1,6 @@
 -- Samples over registers alone, which is all that a sample reads of its past.
 use Rattle.std.specs.Prelude.{List, [], ◌∷◌, ◌++◌, ℤ}
-use Rattle.dsv_quantiser.specs.declared.kind.Kind.{Kind}
+use Rattle.dsv_names.specs.declared.realisation.Realisation.{Realisation}
 use Rattle.dsv_quantiser.specs.FixedPoint.{FixedPoint}
 use Rattle.dsv_meaning.specs.Equations.{order, sample_as, start_as, registers_as}
 
@@ -11,7 +11,7 @@ pub record Stepped : Type 0 where
   pub registers : List ℤ
 
 -- one sample of the realisation from these words in the registers
-unfoldable pub stepped : Kind → FixedPoint → List ℤ → ℤ → Stepped
+unfoldable pub stepped : Realisation → FixedPoint → List ℤ → ℤ → Stepped
 stepped k q r x =
     let s = sample_as k q (start_as k (order q) r) x in
     record { y = s.y; exact = s.exact; registers = registers_as k (order q) s.past }

@@ -1,9 +1,10 @@
 -- Systems of written equations, and what breaks in them. A realisation is one; so will be a cascade of them, and a system
 -- in state space.
+use Rattle.dsv_word.specs.Words.{IsWord}
 use Rattle.std.specs.Prelude.{◌≡◌, ◌≢◌, ℕ, ◌+◌, List, length, map, take, replicate, slice_get, Some, ℤ, pos, ◌≤ℤ◌}
 use Rattle.std.specs.List.{All, Contains}
 use Rattle.dsv_word.specs.declared.format.Format.{Format}
-use Rattle.dsv_quantiser.specs.FixedPoint.{FixedPoint, IsWord}
+use Rattle.dsv_quantiser.specs.FixedPoint.{FixedPoint}
 use Rattle.dsv_meaning.specs.Runs.{Sampled, SampleRow, rows_from, past_after}
 use Rattle.dsv_meaning.specs.Equations.{Past, order, sample, registers_as, start_as, registers_of, forward_registers_of}
 
@@ -20,11 +21,11 @@ pub record Equations (P : Type 0) : Type 0 where
 -- the written equations of a controller in words
 abbrev pub equations_of : FixedPoint → Equations Past
 equations_of q = record {
-  start = start_as q.kind (order q);
+  start = start_as q.realisation (order q);
   sample = sample q;
-  registers = registers_as q.kind (order q);
-  many = registers_of q.kind (order q);
-  forward = forward_registers_of q.kind (order q);
+  registers = registers_as q.realisation (order q);
+  many = registers_of q.realisation (order q);
+  forward = forward_registers_of q.realisation (order q);
   format = q.format;
 }
 
@@ -46,7 +47,7 @@ AreInRange low high xs = All (λ x. (low ≤ℤ x) × (x ≤ℤ high)) xs
 abbrev pub IsOutside : Format → SampleRow → Type 0
 IsOutside f r = (e : ℤ) × Contains r.exact e × (IsWord f e → ⊥)
 
--- Overflow: these inputs are in range, and from registers of zeros some sample has an exact value that is no word.
+-- OverflowMode: these inputs are in range, and from registers of zeros some sample has an exact value that is no word.
 pub record Breaks (P : Type 0) (m : Equations P) (low high : ℤ) (xs : List ℤ) : Type 0 where
   pub in_range : AreInRange low high xs
   pub broken : (r : SampleRow) × Contains (rows m (zeros m.many) xs) r × IsOutside m.format r

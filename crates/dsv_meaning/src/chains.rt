@@ -1,9 +1,9 @@
 // The new words of registers.
 #![tactic(auto, using(crate::proofs::Casts::casts))]
 
+ghost use Rattle.dsv_word.specs.Words.{IsWord};
 ghost use Rattle.std.specs.Prelude.{◌≡◌, ◌+◌, ◌*◌, ◌≤◌, length, drop};
 ghost use Rattle.std.specs.List.{All};
-ghost use Rattle.dsv_quantiser.specs.FixedPoint.{IsWord};
 ghost use Rattle.dsv_meaning.specs.Lines.{line};
 ghost use Rattle.dsv_meaning.specs.Equations.{order, feedback, transposed_line, delta_chain, transposed_chain, transposed_delta_chain};
 ghost use Rattle.dsv_meaning.specs.Stepping.{delayed};

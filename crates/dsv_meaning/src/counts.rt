@@ -2,46 +2,46 @@
 ghost use Rattle.std.specs.Prelude.{◌≡◌, ◌≤◌};
 ghost use Rattle.dsv_meaning.specs.Equations.{registers_of, forward_registers_of, products_of, sums_of};
 
-use dsv_quantiser::Kind;
+use dsv_names::Realisation;
 
 /// How many registers the realisation of this order has.
-pub fn registers(kind: Kind, order: u32) -> u32
+pub fn registers(realisation: Realisation, order: u32) -> u32
     requires { order ≤ 8 }
-    ensures { result ≡ registers_of kind order }
+    ensures { result ≡ registers_of realisation order }
 {
-    match kind {
-        Kind::Dfi | Kind::Ddfi => 2 * order,
-        Kind::Dfii | Kind::Tdfii | Kind::Ddfii | Kind::Tddfii => order,
+    match realisation {
+        Realisation::Dfi | Realisation::Ddfi => 2 * order,
+        Realisation::Dfii | Realisation::Tdfii | Realisation::Ddfii | Realisation::Tddfii => order,
     }
 }
 
 /// How many of the registers are feed-forward, which are the first ones.
-pub fn forward_registers(kind: Kind, order: u32) -> u32
+pub fn forward_registers(realisation: Realisation, order: u32) -> u32
     requires { order ≤ 8 }
-    ensures { result ≡ forward_registers_of kind order }
+    ensures { result ≡ forward_registers_of realisation order }
 {
-    match kind {
-        Kind::Dfi | Kind::Ddfi => order,
-        Kind::Dfii | Kind::Tdfii | Kind::Ddfii | Kind::Tddfii => 0,
+    match realisation {
+        Realisation::Dfi | Realisation::Ddfi => order,
+        Realisation::Dfii | Realisation::Tdfii | Realisation::Ddfii | Realisation::Tddfii => 0,
     }
 }
 
 /// How many products a sample of the realisation of this order takes.
-pub fn products(kind: Kind, order: u32) -> u32
+pub fn products(realisation: Realisation, order: u32) -> u32
     requires { order ≤ 8 }
-    ensures { result ≡ products_of kind order }
+    ensures { result ≡ products_of realisation order }
 {
-    match kind {
-        Kind::Dfi | Kind::Dfii | Kind::Tdfii => 2 * order + 1,
-        Kind::Ddfi => 4 * order + 1,
-        Kind::Ddfii | Kind::Tddfii => 3 * order + 1,
+    match realisation {
+        Realisation::Dfi | Realisation::Dfii | Realisation::Tdfii => 2 * order + 1,
+        Realisation::Ddfi => 4 * order + 1,
+        Realisation::Ddfii | Realisation::Tddfii => 3 * order + 1,
     }
 }
 
 /// How many sums and differences a sample of the realisation of this order takes.
-pub fn sums(kind: Kind, order: u32) -> u32
+pub fn sums(realisation: Realisation, order: u32) -> u32
     requires { order ≤ 8 }
-    ensures { result ≡ sums_of kind order }
+    ensures { result ≡ sums_of realisation order }
 {
-    products(kind, order) - 1
+    products(realisation, order) - 1
 }

@@ -1,11 +1,11 @@
 // The operations of a written equation, each of which adds its exact value to those of the sample.
 #![tactic(auto, using(crate::proofs::Casts::casts))]
 
+ghost use Rattle.dsv_word.specs.Words.{IsWord};
 ghost use Rattle.std.specs.Prelude.{◌≡◌, ◌+◌, ◌*◌, ◌^◌, ◌<◌, ◌≤◌, false, length, ◌∷◌, ◌+ℤ◌, ◌-ℤ◌, ◌*ℤ◌};
 ghost use Rattle.std.specs.Int.RustNames.{unsigned_abs};
 ghost use Rattle.std.specs.List.{All};
-ghost use Rattle.dsv_quantiser.specs.FixedPoint.{IsWord};
-ghost use Rattle.dsv_meaning.specs.Lines.{Times, terms, fitted, product, next_term, next_terms, line};
+ghost use Rattle.dsv_meaning.specs.Lines.{Times, summands, fitted, product, next_summand, next_summands, line};
 ghost use Rattle.dsv_meaning.specs.Equations.{ago, first_alone};
 ghost use Rattle.dsv_meaning.specs.declared.operations.TheConstants.{MOST_EXACT};
 
@@ -81,7 +81,7 @@ pub(crate) fn next_product(
     requires coeff { IsWord format.now coeff.now }
     requires room { length exact.old.items + 2 ≤ MOST_EXACT }
     ensures value { record { value = result; exact = exact.new.items } ≡
-        next_term format.now (record { value = sum.now; exact = exact.old.items }) (Times away coeff.now word.now) }
+        next_summand format.now (record { value = sum.now; exact = exact.old.items }) (Times away coeff.now word.now) }
     ensures count { length exact.new.items ≡ length exact.old.items + 2 }
 {
     let term = product(format, coeff, word, exact);
@@ -105,7 +105,7 @@ pub(crate) fn next_products(
     requires words { length coeffs.now ≤ length words.now }
     requires room { length exact.old.items + 2 * length coeffs.now ≤ MOST_EXACT }
     ensures value { record { value = result; exact = exact.new.items } ≡
-        next_terms format.now (record { value = sum.now; exact = exact.old.items }) (terms away coeffs.now (ago words.now) 0) }
+        next_summands format.now (record { value = sum.now; exact = exact.old.items }) (summands away coeffs.now (ago words.now) 0) }
     ensures count { length exact.new.items ≡ length exact.old.items + 2 * length coeffs.now }
 {
     let mut value = *sum;
@@ -119,7 +119,7 @@ pub(crate) fn next_products(
 pub(crate) fn plus_first(format: &Format, sum: &i64, words: &[i64], exact: &mut ExactList) -> i64
     requires { length exact.old.items < MOST_EXACT }
     ensures value { record { value = result; exact = exact.new.items } ≡
-        next_terms format.now (record { value = sum.now; exact = exact.old.items }) (first_alone words.now) }
+        next_summands format.now (record { value = sum.now; exact = exact.old.items }) (first_alone words.now) }
     ensures count { length exact.new.items ≤ length exact.old.items + 1 }
 {
     match words.first() {
@@ -141,7 +141,7 @@ pub(crate) fn forward(
     requires words { length coeffs.now ≤ length older.now + 1 }
     requires room { length exact.old.items + 2 * length coeffs.now ≤ MOST_EXACT }
     ensures value { record { value = result; exact = exact.new.items } ≡
-        line format.now exact.old.items (terms false coeffs.now (ago (newest.now ∷ older.now)) 0) }
+        line format.now exact.old.items (summands false coeffs.now (ago (newest.now ∷ older.now)) 0) }
     ensures count { length exact.new.items + 1 ≡ length exact.old.items + 2 * length coeffs.now }
 {
     let (first, rest) = coeffs.split_at(1);

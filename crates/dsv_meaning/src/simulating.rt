@@ -1,9 +1,9 @@
 // Runs of a controller in words over inputs.
 #![tactic(auto, using(crate::proofs::Casts::casts))]
 
+ghost use Rattle.dsv_word.specs.Words.{IsWord};
 ghost use Rattle.std.specs.Prelude.{◌≡◌, ◌+◌, length, IfOk};
 ghost use Rattle.std.specs.List.{All};
-ghost use Rattle.dsv_quantiser.specs.FixedPoint.{IsWord};
 ghost use Rattle.dsv_meaning.specs.Equations.{order, registers_of};
 ghost use Rattle.dsv_meaning.specs.RowViews.{row_of};
 ghost use Rattle.dsv_meaning.specs.Stepping.{stepped};
@@ -19,7 +19,7 @@ use std::alloc::Global;
 
 /// The registers with these words.
 fn loaded(q: &Quantised, start: &[i64]) -> Registers
-    requires { length start.now ≡ registers_of q.now.kind (order q.now) }
+    requires { length start.now ≡ registers_of q.now.realisation (order q.now) }
     ensures words { result.items ≡ start.now }
     ensures numerator { length q.now.b ≡ order q.now + 1 }
 {
@@ -33,10 +33,10 @@ fn loaded(q: &Quantised, start: &[i64]) -> Registers
 
 /// The row of one sample, after which the registers have their new words.
 fn next_row(q: &Quantised, x: &i64, registers: &mut Registers) -> Row
-    requires { length registers.old.items ≡ registers_of q.now.kind (order q.now) }
-    ensures row { let s = stepped q.now.kind q.now registers.old.items x.now in
+    requires { length registers.old.items ≡ registers_of q.now.realisation (order q.now) }
+    ensures row { let s = stepped q.now.realisation q.now registers.old.items x.now in
         row_of result ≡ record { x = x.now; y = s.y; exact = s.exact } }
-    ensures registers { registers.new.items ≡ (stepped q.now.kind q.now registers.old.items x.now).registers }
+    ensures registers { registers.new.items ≡ (stepped q.now.realisation q.now registers.old.items x.now).registers }
     ensures many { length registers.new.items ≡ length registers.old.items }
 {
     let mut exact = ExactList::new();
@@ -52,7 +52,7 @@ pub fn simulate(
     start: &[i64],
     inputs: &[i64],
 ) -> Result<Rows, NoMemory>
-    requires many { length start.now ≡ registers_of q.now.kind (order q.now) }
+    requires many { length start.now ≡ registers_of q.now.realisation (order q.now) }
     requires start { All (IsWord q.now.format) start.now }
     requires inputs { All (IsWord q.now.format) inputs.now }
     ensures { IfOk result (λ found. found ≡ rows (equations_of q.now) start.now inputs.now) }

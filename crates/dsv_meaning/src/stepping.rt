@@ -2,9 +2,9 @@
 #![tactic(auto, using(crate::proofs::Casts::casts))]
 
 ghost use Rattle.std.specs.Prelude.{◌≡◌, ◌+◌, ◌*◌, ◌≤◌, [], ◌∷◌, ◌++◌, length};
-ghost use Rattle.dsv_quantiser.specs.declared.kind.Kind.TheVariants.{Dfi, Dfii, Tdfii, Ddfi, Ddfii, Tddfii};
+ghost use Rattle.dsv_names.specs.declared.realisation.Realisation.TheVariants.{Dfi, Dfii, Tdfii, Ddfi, Ddfii, Tddfii};
 ghost use Rattle.dsv_meaning.specs.Lines.{Alone, line};
-ghost use Rattle.dsv_meaning.specs.Equations.{ago, order, forward_terms, feedback_terms, transposed_output, registers_of};
+ghost use Rattle.dsv_meaning.specs.Equations.{ago, order, forward_summands, feedback_summands, transposed_output, registers_of};
 ghost use Rattle.dsv_meaning.specs.Stepping.{stepped};
 ghost use Rattle.dsv_meaning.specs.declared.operations.TheConstants.{MOST_EXACT};
 
@@ -12,14 +12,15 @@ use crate::chains::{
     Registers, delay, delta_chain, feedback, transposed_chain, transposed_delta_chain,
 };
 use crate::operations::{ExactList, MOST_EXACT, forward, next_products, plus_first, product};
-use dsv_quantiser::{Kind, Quantised};
+use dsv_names::Realisation;
+use dsv_quantiser::Quantised;
 
 /// The line b_0 w_0 + b_1 w_1 + .., where w_0 is the newest word.
 fn fed_forward(q: &Quantised, newest: &i64, older: &[i64], exact: &mut ExactList) -> i64
     requires older { length older.now ≡ order q.now }
     requires room { length exact.old.items + 2 * order q.now + 2 ≤ MOST_EXACT }
     ensures value { record { value = result; exact = exact.new.items } ≡
-        line q.now.format exact.old.items (forward_terms q.now (ago (newest.now ∷ older.now))) }
+        line q.now.format exact.old.items (forward_summands q.now (ago (newest.now ∷ older.now))) }
     ensures count { length exact.new.items ≡ length exact.old.items + 2 * order q.now + 1 }
     ensures some { 1 ≤ length q.now.b }
 {
@@ -32,7 +33,7 @@ fn fed_back(q: &Quantised, x: &i64, words: &[i64], exact: &mut ExactList) -> i64
     requires words { length words.now ≡ order q.now }
     requires room { length exact.old.items + 2 * order q.now ≤ MOST_EXACT }
     ensures value { record { value = result; exact = exact.new.items } ≡
-        line q.now.format exact.old.items (Alone x.now ∷ feedback_terms q.now (ago words.now) 0) }
+        line q.now.format exact.old.items (Alone x.now ∷ feedback_summands q.now (ago words.now) 0) }
     ensures count { length exact.new.items ≡ length exact.old.items + 2 * order q.now }
 {
     let format = q.format();
@@ -45,7 +46,7 @@ fn direct_output(q: &Quantised, x: &i64, u: &[i64], v: &[i64], exact: &mut Exact
     requires v { length v.now ≡ order q.now }
     requires room { length exact.old.items + 4 * order q.now + 2 ≤ MOST_EXACT }
     ensures value { record { value = result; exact = exact.new.items } ≡
-        line q.now.format exact.old.items (forward_terms q.now (ago (x.now ∷ u.now)) ++ feedback_terms q.now (ago v.now) 0) }
+        line q.now.format exact.old.items (forward_summands q.now (ago (x.now ∷ u.now)) ++ feedback_summands q.now (ago v.now) 0) }
     ensures count { length exact.new.items ≡ length exact.old.items + 4 * order q.now + 1 }
 {
     let sum = fed_forward(q, x, u, exact);
@@ -166,18 +167,18 @@ fn tddfii(q: &Quantised, x: &i64, registers: &mut Registers, exact: &mut ExactLi
 
 /// One sample: answers the output, loads the registers with their new words, and gives the exact values.
 pub(crate) fn step(q: &Quantised, x: &i64, registers: &mut Registers, exact: &mut ExactList) -> i64
-    requires many { length registers.old.items ≡ registers_of q.now.kind (order q.now) }
+    requires many { length registers.old.items ≡ registers_of q.now.realisation (order q.now) }
     requires empty { exact.old.items ≡ [] }
     ensures sample { record { y = result; exact = exact.new.items; registers = registers.new.items } ≡
-        stepped q.now.kind q.now registers.old.items x.now }
+        stepped q.now.realisation q.now registers.old.items x.now }
     ensures many { length registers.new.items ≡ length registers.old.items }
 {
-    match q.kind() {
-        Kind::Dfi => dfi(q, x, registers, exact),
-        Kind::Dfii => dfii(q, x, registers, exact),
-        Kind::Tdfii => tdfii(q, x, registers, exact),
-        Kind::Ddfi => ddfi(q, x, registers, exact),
-        Kind::Ddfii => ddfii(q, x, registers, exact),
-        Kind::Tddfii => tddfii(q, x, registers, exact),
+    match q.realisation() {
+        Realisation::Dfi => dfi(q, x, registers, exact),
+        Realisation::Dfii => dfii(q, x, registers, exact),
+        Realisation::Tdfii => tdfii(q, x, registers, exact),
+        Realisation::Ddfi => ddfi(q, x, registers, exact),
+        Realisation::Ddfii => ddfii(q, x, registers, exact),
+        Realisation::Tddfii => tddfii(q, x, registers, exact),
     }
 }

@@ -1,4 +1,5 @@
 -- A sample of a netlist from words: what each node is computed from, and what it gives.
+use Rattle.dsv_word.specs.Words.{IsWord}
 use Rattle.std.proofs.Common.{◌≡◌, ℕ, zero, suc, ◌+◌, ◌<◌, ◌≤◌, true, cond, List, [], ◌∷◌, ◌++◌, length, zero-add, map, refl, sym, ap, subst, ◌∙◌, inl, inr, arith, rules, take, length-append}
 use Rattle.std.specs.Prelude.{IsTrue, count_by, slice_index}
 use Rattle.std.specs.List.{All}
@@ -12,7 +13,7 @@ use Rattle.dsv_word.specs.declared.format.Format.{Format}
 use Rattle.dsv_netlist.specs.declared.node.Node.{Node}
 use Rattle.dsv_netlist.specs.declared.node.Node.TheVariants.{Input, Reg, MulConst, Round, Add, Sub, Fit}
 use Rattle.dsv_netlist.specs.declared.TheConstants.{MOST_EXACT}
-use Rattle.dsv_netlist.specs.Nodes.{IsWord, Net, Sample, at, node_value, node_exact, after_node, sample_from, sample_of}
+use Rattle.dsv_netlist.specs.Nodes.{Net, Sample, at, node_value, node_exact, after_node, sample_from, sample_of}
 use Rattle.dsv_netlist.specs.Bounds.{word_bound, node_bound, bounds_from}
 use Rattle.dsv_netlist.specs.Conditions.{NamesBelow, AllNameBack, ReadsBelow, gives_word, names_word, is_fit, IsNetlist}
 use Rattle.dsv_netlist.specs.Law.{AreWords, ValuesAreBounded}

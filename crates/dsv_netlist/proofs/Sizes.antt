@@ -11,14 +11,13 @@ use lib.Signed.{◌<ℤ◌, ◌≤ℤ◌}
 use Rattle.dsv_algebra.specs.Floor.{IsFloor, floored}
 use Rattle.dsv_algebra.proofs.Floors.{step_up, floored_is}
 use Rattle.dsv_word.specs.declared.format.Format.{Format}
-use Rattle.dsv_word.specs.declared.format.Rounding.{Rounding}
-use Rattle.dsv_word.specs.declared.format.Rounding.TheVariants as rounding
-use Rattle.dsv_word.specs.declared.format.Overflow.{Overflow}
-use Rattle.dsv_word.specs.declared.format.Overflow.TheVariants as overflow
-use Rattle.dsv_word.specs.Words.{width, lo, hi, fit}
+use Rattle.dsv_names.specs.declared.rounding.Rounding.{Rounding}
+use Rattle.dsv_names.specs.declared.rounding.Rounding.TheVariants as rounding
+use Rattle.dsv_names.specs.declared.overflow_mode.OverflowMode.{OverflowMode}
+use Rattle.dsv_names.specs.declared.overflow_mode.OverflowMode.TheVariants as overflow_mode
+use Rattle.dsv_word.specs.Words.{width, lo, hi, fit, IsWord}
 use Rattle.dsv_word.specs.Quotients.{shifted}
 use Rattle.dsv_word.proofs.Meanings.{wrapped_is, saturated_is}
-use Rattle.dsv_netlist.specs.Nodes.{IsWord}
 use Rattle.dsv_netlist.specs.Bounds.{word_bound}
 
 -- v is at most b in size
@@ -35,9 +34,9 @@ within_size b (pos a) h = omega (arith, ints, h.high)
 within_size b (negsuc a) h = omega (arith, ints, h.low)
 
 -- ---- words
-fitted : (o : Overflow) (n : ℕ) (v : ℤ) → 1 ≤ n → (lo n ≤ℤ fit o n v) × (fit o n v ≤ℤ hi n)
-fitted overflow.Wrap n v p = let w = wrapped_is n v p in (w.low, w.high)
-fitted overflow.Saturate n v p = let w = saturated_is n v in (w.low, w.high)
+fitted : (o : OverflowMode) (n : ℕ) (v : ℤ) → 1 ≤ n → (lo n ≤ℤ fit o n v) × (fit o n v ≤ℤ hi n)
+fitted overflow_mode.Wrap n v p = let w = wrapped_is n v p in (w.low, w.high)
+fitted overflow_mode.Saturate n v p = let w = saturated_is n v in (w.low, w.high)
 
 pub fit_is_word : (format : Format) (v : ℤ) → IsWord format (fit format.overflow (width format) v)
 fit_is_word format v =

@@ -50,7 +50,7 @@ pub record IsNetlist (net : Net) : Type 0 where
   pub few_nodes : length net.nodes ≤ MOST_NODES
   pub few_registers : length net.next ≤ MOST_REGISTERS
   pub few_exact : count_by is_fit net.nodes ≤ MOST_EXACT
-  pub past_inputs : net.past_inputs ≤ length net.next
+  pub feed_forward : net.feed_forward ≤ length net.next
   pub backwards : AllNameBack 0 net.nodes
   pub registers : All (ReadsBelow (length net.next)) net.nodes
   pub output : IsTrue (names_word net.nodes net.output)

@@ -1,8 +1,9 @@
 -- What the bounds mean.
+use Rattle.dsv_word.specs.Words.{IsWord}
 use Rattle.std.specs.Prelude.{◌≡◌, ℕ, ◌<◌, ◌≤◌, List, length, slice_index, ℤ}
 use Rattle.std.specs.List.{All}
 use Rattle.std.specs.Int.RustNames.{unsigned_abs}
-use Rattle.dsv_netlist.specs.Nodes.{IsWord, Net, at, sample_of}
+use Rattle.dsv_netlist.specs.Nodes.{Net, at, sample_of}
 use Rattle.dsv_netlist.specs.Bounds.{bounds_of}
 use Rattle.dsv_netlist.specs.Conditions.{IsNetlist}
 

@@ -1,26 +1,21 @@
 -- Netlists, and what their nodes give in one sample.
-use Rattle.std.specs.Prelude.{ℕ, List, [], ◌∷◌, ◌++◌, map, slice_index_or, ℤ, pos, ◌+ℤ◌, ◌-ℤ◌, ◌*ℤ◌, ◌≤ℤ◌}
+use Rattle.std.specs.Prelude.{ℕ, List, [], ◌∷◌, ◌++◌, map, slice_index_or, ℤ, pos, ◌+ℤ◌, ◌-ℤ◌, ◌*ℤ◌}
 use Rattle.dsv_word.specs.declared.format.Format.{Format}
-use Rattle.dsv_word.specs.Words.{width, lo, hi, fit}
+use Rattle.dsv_word.specs.Words.{width, fit}
 use Rattle.dsv_word.specs.Quotients.{shifted}
 use Rattle.dsv_netlist.specs.declared.node.Node.{Node}
 use Rattle.dsv_netlist.specs.declared.node.Node.TheVariants.{Input, Reg, MulConst, Round, Add, Sub, Fit}
-
--- v is a word
-pub record IsWord (format : Format) (v : ℤ) : Type 0 where
-  pub low : lo (width format) ≤ℤ v
-  pub high : v ≤ℤ hi (width format)
 
 -- what contracts see of a netlist: register k is loaded from the node that `next` has at place k
 pub record Net : Type 0 where
   pub nodes : List Node
   pub next : List ℕ
   pub output : ℕ
-  pub past_inputs : ℕ
+  pub feed_forward : ℕ
   pub format : Format
 
 abbrev pub net_from : List Node → List ℕ → ℕ → ℕ → Format → Net
-net_from nodes next output past_inputs format = record { nodes = nodes; next = next; output = output; past_inputs = past_inputs; format = format }
+net_from nodes next output feed_forward format = record { nodes = nodes; next = next; output = output; feed_forward = feed_forward; format = format }
 
 -- how far a sample has come: the values of the nodes so far, and those that were fitted, as they were before
 pub record Sample : Type 0 where

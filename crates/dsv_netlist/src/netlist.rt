@@ -1,7 +1,8 @@
 // Netlists and their steps.
+ghost use Rattle.dsv_word.specs.Words.{IsWord};
 ghost use Rattle.std.specs.Prelude.{◌≡◌, ◌<◌, ◌≤◌, ◌↔◌, [], length, pos, slice_get, slice_index, Some, IsSome, IfSome, ◌<ℤ◌};
 ghost use Rattle.std.specs.List.{All};
-ghost use Rattle.dsv_netlist.specs.Nodes.{IsWord, net_from, step_of};
+ghost use Rattle.dsv_netlist.specs.Nodes.{net_from, step_of};
 ghost use Rattle.dsv_netlist.specs.Bounds.{bounds_of};
 ghost use Rattle.dsv_netlist.specs.Conditions.{IsNetlist};
 ghost use Rattle.dsv_netlist.specs.Counts.{counts_of};
@@ -24,13 +25,13 @@ pub struct OpCounts {
 }
 
 /// Nodes that refer backwards, a node whose value is the output, and for each register the node that it is loaded
-/// from. The first `past_inputs` registers hold inputs of samples before. Beside them stand the nodes' bounds.
+/// from. The first `feed_forward` registers hold inputs of samples before. Beside them stand the nodes' bounds.
 #[derive(Drop)]
 pub struct Netlist {
     nodes: Vec<Node>,
     next: Vec<u32>,
     output: u32,
-    past_inputs: u32,
+    feed_forward: u32,
     format: Format,
     bounds: [u128; MOST_NODES],
 }
@@ -53,16 +54,16 @@ impl Netlist {
         nodes: Vec<Node>,
         next: Vec<u32>,
         output: u32,
-        past_inputs: u32,
+        feed_forward: u32,
         format: Format,
     ) -> Option<Netlist>
-        ensures exact { IsSome result ↔ IsNetlist (net_from nodes.items next.items output past_inputs format) }
-        ensures same { IfSome result (λ net. net ≡ net_from nodes.items next.items output past_inputs format) }
+        ensures exact { IsSome result ↔ IsNetlist (net_from nodes.items next.items output feed_forward format) }
+        ensures same { IfSome result (λ net. net ≡ net_from nodes.items next.items output feed_forward format) }
     {
         if nodes.len() > MOST_NODES
             || next.len() > MOST_REGISTERS
             || fits_in(&nodes) > MOST_EXACT
-            || past_inputs as usize > next.len()
+            || feed_forward as usize > next.len()
         {
             return None;
         }
@@ -77,7 +78,7 @@ impl Netlist {
             nodes,
             next,
             output,
-            past_inputs,
+            feed_forward,
             format,
             bounds,
         })
@@ -122,10 +123,10 @@ impl Netlist {
     }
 
     /// How many of the first registers hold inputs of samples before.
-    pub fn past_inputs(&self) -> u32
-        ensures { result ≡ self.now.past_inputs }
+    pub fn feed_forward(&self) -> u32
+        ensures { result ≡ self.now.feed_forward }
     {
-        self.past_inputs
+        self.feed_forward
     }
 
     /// The format of the words.

@@ -1,8 +1,9 @@
 // One sample of a netlist's nodes.
+ghost use Rattle.dsv_word.specs.Words.{IsWord};
 ghost use Rattle.std.specs.Prelude.{◌≡◌, ◌+◌, ◌<◌, ◌≤◌, ◌++◌, [], length, take, map};
 ghost use Rattle.std.specs.List.{All};
 ghost use Rattle.std.specs.Int.RustNames.{unsigned_abs};
-ghost use Rattle.dsv_netlist.specs.Nodes.{IsWord, at, node_value, node_exact, sample_of};
+ghost use Rattle.dsv_netlist.specs.Nodes.{at, node_value, node_exact, sample_of};
 ghost use Rattle.dsv_netlist.specs.Conditions.{NamesBelow, ReadsBelow};
 ghost use Rattle.dsv_netlist.specs.Safety.{AreSafe};
 ghost use Rattle.dsv_netlist.specs.declared.TheConstants.{MOST_EXACT, BOUND_LIMIT};

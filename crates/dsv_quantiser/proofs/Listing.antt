@@ -1,4 +1,5 @@
 -- Lists of words.
+use Rattle.dsv_word.specs.Words.{IsWord}
 use Rattle.std.proofs.Common.{◌≡◌, ℕ, suc, ◌+◌, ◌-◌, ◌<◌, ◌≤◌, ◌⊎◌, List, [], ◌∷◌, ◌++◌, length, take, drop, get_or, refl, sym, ap, ◌∙◌, subst, inl, inr, arith, add-one, zero-add, length-append, drop-cons, Result, Ok}
 use Rattle.std.proofs.Math.IntN.{ℤ, pos}
 use Rattle.std.proofs.Math.ListN.{get_or-append}
@@ -7,11 +8,11 @@ use Rattle.std.proofs.lemmas.List.{take_more, get_or_default, length-drop}
 use Rattle.std.proofs.lemmas.Grind.{get_or_after_one}
 use Rattle.dsv_fraction.specs.Ratio.{Ratio}
 use Rattle.dsv_word.specs.declared.format.Format.{Format}
-use Rattle.dsv_reader.specs.Controllers.{Design, zero as nought}
-use Rattle.dsv_quantiser.specs.declared.kind.Kind.{Kind}
-use Rattle.dsv_delta.specs.declared.list_name.ListName.{ListName}
+use Rattle.dsv_reader.specs.Controllers.{ControllerView, zero as nought}
+use Rattle.dsv_names.specs.declared.realisation.Realisation.{Realisation}
+use Rattle.dsv_names.specs.declared.list_name.ListName.{ListName}
 use Rattle.dsv_quantiser.specs.declared.refusal.QuantRefusal.{QuantRefusal}
-use Rattle.dsv_quantiser.specs.FixedPoint.{IsFixedPoint, IsDeltaWord, IsWord, unit}
+use Rattle.dsv_quantiser.specs.FixedPoint.{IsFixedPoint, IsDeltaWord, unit}
 use Rattle.dsv_quantiser.specs.Quantising.{◌>>=◌, word_at, words_from}
 use Rattle.dsv_quantiser.specs.Meaning.{IsWordOf, AreWordsOf, IsRangeOf, IsInWords}
 
@@ -66,9 +67,9 @@ behind_first f a words i so some h =
     let Q : Ratio → Type 0 = λ r. IsWordOf f r (get_or words (1 + (i - 1)) (pos 0)) in
     subst P at (subst Q (get_or_after_one a (i - 1) nought) (so.each (i - 1) (omega (arith, length-drop 1 a))))
 
-pub in_words_meant : (c : Design) (f : Format) (k : Kind) (b a : List Ratio) (num den : List ℤ) (d low high : ℤ) → 1 ≤ length a
+pub in_words_meant : (c : ControllerView) (f : Format) (k : Realisation) (b a : List Ratio) (num den : List ℤ) (d low high : ℤ) → 1 ≤ length a
     → AreWordsOf f b [] num → AreWordsOf f (drop 1 a) (unit f ∷ []) den → IsRangeOf f c.min c.max (record { lo = low; hi = high })
-    → IsInWords c f k b a d (record { b = num; a = den; delta = d; xlo = low; xhi = high; format = f; kind = k })
+    → IsInWords c f k b a d (record { b = num; a = den; delta = d; xlo = low; xhi = high; format = f; realisation = k })
 in_words_meant c f k b a num den d low high some is so range = record {
   same_format = refl;
   same_kind = refl;
@@ -82,9 +83,9 @@ in_words_meant c f k b a num den d low high some is so range = record {
 }
 
 -- ---- what stays true
-pub is_fixed_point : (c : Design) (f : Format) (k : Kind) (b a : List Ratio) (num den : List ℤ) (d low high : ℤ) → length b ≡ length a → 1 ≤ length a → length a ≤ 9
-    → IsDeltaWord f k d → IsInWords c f k b a d (record { b = num; a = den; delta = d; xlo = low; xhi = high; format = f; kind = k })
-    → IsFixedPoint (record { b = num; a = den; delta = d; xlo = low; xhi = high; format = f; kind = k })
+pub is_fixed_point : (c : ControllerView) (f : Format) (k : Realisation) (b a : List Ratio) (num den : List ℤ) (d low high : ℤ) → length b ≡ length a → 1 ≤ length a → length a ≤ 9
+    → IsDeltaWord f k d → IsInWords c f k b a d (record { b = num; a = den; delta = d; xlo = low; xhi = high; format = f; realisation = k })
+    → IsFixedPoint (record { b = num; a = den; delta = d; xlo = low; xhi = high; format = f; realisation = k })
 is_fixed_point c f k b a num den d low high same some few delta is = record {
   one_length = omega (arith, is.b_places, is.a_places);
   some = omega (arith, is.a_places);

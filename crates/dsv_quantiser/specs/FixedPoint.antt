@@ -1,9 +1,9 @@
 -- Controllers in words as contracts see them.
 use Rattle.std.specs.Prelude.{◌≡◌, ◌≤◌, ◌^◌, List, length, drop, All, MatchBool, ℤ, pos, ◌≤ℤ◌, slice_index_or}
 use Rattle.dsv_word.specs.declared.format.Format.{Format}
-use Rattle.dsv_word.specs.Words.{width, lo, hi}
-use Rattle.dsv_quantiser.specs.declared.kind.Kind.{Kind}
-use Rattle.dsv_quantiser.specs.Kinds.{is_delta}
+use Rattle.dsv_word.specs.Words.{width, lo, hi, IsWord}
+use Rattle.dsv_names.specs.declared.realisation.Realisation.{Realisation}
+use Rattle.dsv_names.specs.Realisations.{is_delta}
 
 -- the words of a controller, the range of its inputs, its format and its realisation
 pub record FixedPoint : Type 0 where
@@ -13,18 +13,15 @@ pub record FixedPoint : Type 0 where
   pub xlo : ℤ
   pub xhi : ℤ
   pub format : Format
-  pub kind : Kind
+  pub realisation : Realisation
 
 -- the word of the number 1, which may lie above the greatest word
 abbrev pub unit : Format → ℤ
 unit format = pos (2 ^ format.frac_bits)
 
-abbrev pub IsWord : Format → ℤ → Type 0
-IsWord format w = (lo (width format) ≤ℤ w) × (w ≤ℤ hi (width format))
-
 -- a positive word for the delta forms, and 0 for the direct ones
-abbrev pub IsDeltaWord : Format → Kind → ℤ → Type 0
-IsDeltaWord format kind w = MatchBool (is_delta kind) ((pos 1 ≤ℤ w) × (w ≤ℤ hi (width format))) (w ≡ pos 0)
+abbrev pub IsDeltaWord : Format → Realisation → ℤ → Type 0
+IsDeltaWord format realisation w = MatchBool (is_delta realisation) ((pos 1 ≤ℤ w) × (w ≤ℤ hi (width format))) (w ≡ pos 0)
 
 -- what is true of each controller in words
 pub record IsFixedPoint (q : FixedPoint) : Type 0 where
@@ -34,7 +31,7 @@ pub record IsFixedPoint (q : FixedPoint) : Type 0 where
   pub leading : slice_index_or q.a 0 (pos 0) ≡ unit q.format
   pub b_words : All (IsWord q.format) q.b
   pub a_words : All (IsWord q.format) (drop 1 q.a)
-  pub delta : IsDeltaWord q.format q.kind q.delta
+  pub delta : IsDeltaWord q.format q.realisation q.delta
   pub low : lo (width q.format) ≤ℤ q.xlo
   pub order : q.xlo ≤ℤ q.xhi
   pub high : q.xhi ≤ℤ hi (width q.format)

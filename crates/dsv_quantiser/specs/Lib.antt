@@ -1,4 +1,3 @@
 pub mod FixedPoint
-pub mod Kinds
 pub mod Meaning
 pub mod Quantising

@@ -3,13 +3,13 @@ use Rattle.std.specs.Prelude.{◌≡◌, ℕ, ◌+◌, ◌^◌, ◌<◌, ◌≤�
 use Rattle.dsv_fraction.specs.Ratio.{Ratio}
 use Rattle.dsv_word.specs.declared.format.Format.{Format}
 use Rattle.dsv_word.specs.Quotients.{IsRounded}
-use Rattle.dsv_word.specs.Words.{width, lo, hi}
-use Rattle.dsv_reader.specs.Controllers.{Design, zero}
+use Rattle.dsv_word.specs.Words.{width, lo, hi, IsWord}
+use Rattle.dsv_reader.specs.Controllers.{ControllerView, zero}
 use Rattle.dsv_delta.specs.Deltas.{Lists, delta_lists}
-use Rattle.dsv_quantiser.specs.Kinds.{is_delta}
-use Rattle.dsv_quantiser.specs.declared.kind.Kind.{Kind}
+use Rattle.dsv_names.specs.Realisations.{is_delta}
+use Rattle.dsv_names.specs.declared.realisation.Realisation.{Realisation}
 use Rattle.dsv_quantiser.specs.declared.range.Range.{Range}
-use Rattle.dsv_quantiser.specs.FixedPoint.{FixedPoint, unit, IsWord}
+use Rattle.dsv_quantiser.specs.FixedPoint.{FixedPoint, unit}
 
 -- w is a word of the format, and it is q 2^f made whole by the format's rounding
 pub record IsWordOf (format : Format) (q : Ratio) (w : ℤ) : Type 0 where
@@ -45,9 +45,9 @@ pub record IsRangeOf (format : Format) (min max : Ratio) (r : Range) : Type 0 wh
   pub inputs : (w : ℤ) → IsWord format w → (r.lo ≤ℤ w) × (w ≤ℤ r.hi) ↔ IsFrom format min w × IsTo format max w
 
 -- the controller in words whose coefficients are made of b and a, with that word for delta
-pub record IsInWords (c : Design) (format : Format) (kind : Kind) (b a : List Ratio) (delta : ℤ) (q : FixedPoint) : Type 0 where
+pub record IsInWords (c : ControllerView) (format : Format) (realisation : Realisation) (b a : List Ratio) (delta : ℤ) (q : FixedPoint) : Type 0 where
   pub same_format : q.format ≡ format
-  pub same_kind : q.kind ≡ kind
+  pub same_kind : q.realisation ≡ realisation
   pub same_delta : q.delta ≡ delta
   pub leading : slice_index_or q.a 0 (pos 0) ≡ unit format
   pub b_places : length q.b ≡ length b
@@ -57,7 +57,7 @@ pub record IsInWords (c : Design) (format : Format) (kind : Kind) (b a : List Ra
   pub range : IsRangeOf format c.min c.max (record { lo = q.xlo; hi = q.xhi })
 
 -- the coefficients are those in the delta operator with the exact delta, which is positive, and its word is too
-pub record IsOfDelta (c : Design) (format : Format) (kind : Kind) (q : FixedPoint) : Type 0 where
+pub record IsOfDelta (c : ControllerView) (format : Format) (realisation : Realisation) (q : FixedPoint) : Type 0 where
   pub delta : Ratio
   pub exact : c.delta ≡ Some delta
   pub positive : pos 0 <ℤ delta.num
@@ -65,8 +65,8 @@ pub record IsOfDelta (c : Design) (format : Format) (kind : Kind) (q : FixedPoin
   pub positive_word : pos 1 ≤ℤ q.delta
   pub lists : Lists
   pub converted : delta_lists c.b c.a delta ≡ Ok lists
-  pub words : IsInWords c format kind lists.b lists.a q.delta q
+  pub words : IsInWords c format realisation lists.b lists.a q.delta q
 
 -- the controller in words of the format, as the realisation computes it
-abbrev pub IsQuantised : Design → Format → Kind → FixedPoint → Type 0
-IsQuantised c format kind q = MatchBool (is_delta kind) (IsOfDelta c format kind q) (IsInWords c format kind c.b c.a (pos 0) q)
+abbrev pub IsQuantised : ControllerView → Format → Realisation → FixedPoint → Type 0
+IsQuantised c format realisation q = MatchBool (is_delta realisation) (IsOfDelta c format realisation q) (IsInWords c format realisation c.b c.a (pos 0) q)

@@ -9,14 +9,14 @@ use Rattle.dsv_word.specs.Quotients.{ceiled, rounded, word_of}
 use Rattle.dsv_word.specs.Words.{width, lo, hi}
 use Rattle.dsv_delta.specs.declared.refusal.DeltaWide.{DeltaWide}
 use Rattle.dsv_delta.specs.Deltas.{Lists, delta_lists}
-use Rattle.dsv_reader.specs.Controllers.{Design}
-use Rattle.dsv_quantiser.specs.declared.kind.Kind.{Kind}
-use Rattle.dsv_delta.specs.declared.list_name.ListName.{ListName}
-use Rattle.dsv_delta.specs.declared.list_name.ListName.TheVariants as list
+use Rattle.dsv_reader.specs.Controllers.{ControllerView}
+use Rattle.dsv_names.specs.declared.realisation.Realisation.{Realisation}
+use Rattle.dsv_names.specs.declared.list_name.ListName.{ListName}
+use Rattle.dsv_names.specs.declared.list_name.ListName.TheVariants as list
 use Rattle.dsv_quantiser.specs.declared.range.Range.{Range}
 use Rattle.dsv_quantiser.specs.declared.refusal.QuantRefusal.{QuantRefusal}
 use Rattle.dsv_quantiser.specs.declared.refusal.QuantRefusal.TheVariants as refusal
-use Rattle.dsv_quantiser.specs.Kinds.{is_delta}
+use Rattle.dsv_names.specs.Realisations.{is_delta}
 use Rattle.dsv_quantiser.specs.FixedPoint.{FixedPoint, unit}
 
 infixl 10 ◌>>=◌
@@ -71,12 +71,12 @@ range_of format min max =
 
 -- ---- all of it
 -- the controller whose coefficients are these
-abbrev pub in_words : Design → Format → Kind → List Ratio → List Ratio → ℤ → Result FixedPoint QuantRefusal
-in_words c format kind b a delta =
+abbrev pub in_words : ControllerView → Format → Realisation → List Ratio → List Ratio → ℤ → Result FixedPoint QuantRefusal
+in_words c format realisation b a delta =
     b_words format b >>= λ num.
     a_words format a >>= λ den.
     range_of format c.min c.max >>= λ range.
-    Ok (record { b = num; a = den; delta = delta; xlo = range.lo; xhi = range.hi; format = format; kind = kind })
+    Ok (record { b = num; a = den; delta = delta; xlo = range.lo; xhi = range.hi; format = format; realisation = realisation })
 
 -- ---- delta
 -- delta's word, which is positive
@@ -92,13 +92,13 @@ converted (Ok lists) = Ok lists
 converted (Err e) = Err (refusal.FractionWide e.list e.index)
 
 -- the controller of a delta form, by the exact delta
-abbrev pub with_delta : Design → Format → Kind → Option Ratio → Result FixedPoint QuantRefusal
-with_delta c format kind None = Err (refusal.DeltaNotPositive (pos 0))
-with_delta c format kind (Some delta) =
+abbrev pub with_delta : ControllerView → Format → Realisation → Option Ratio → Result FixedPoint QuantRefusal
+with_delta c format realisation None = Err (refusal.DeltaNotPositive (pos 0))
+with_delta c format realisation (Some delta) =
     delta_word format delta >>= λ word.
     converted (delta_lists c.b c.a delta) >>= λ lists.
-    in_words c format kind lists.b lists.a word
+    in_words c format realisation lists.b lists.a word
 
 -- the controller in words, or the first refusal
-abbrev pub quantised : Design → Format → Kind → Result FixedPoint QuantRefusal
-quantised c format kind = if is_delta kind then with_delta c format kind c.delta else in_words c format kind c.b c.a (pos 0)
+abbrev pub quantised : ControllerView → Format → Realisation → Result FixedPoint QuantRefusal
+quantised c format realisation = if is_delta realisation then with_delta c format realisation c.delta else in_words c format realisation c.b c.a (pos 0)

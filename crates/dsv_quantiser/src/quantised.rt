@@ -1,11 +1,11 @@
 // Controllers in words.
 #![tactic(auto, using(crate::proofs::Casts::casts))]
 
-use crate::kind::Kind;
 use crate::range::range_of;
 use crate::refusal::QuantRefusal;
 use crate::words::{Coeffs, a_words, b_words};
 use dsv_fraction::Frac;
+use dsv_names::Realisation;
 use dsv_reader::Controller;
 use dsv_word::Format;
 use std::marker::Model;
@@ -23,7 +23,7 @@ pub struct Quantised {
     xlo: i64,
     xhi: i64,
     format: Format,
-    kind: Kind,
+    realisation: Realisation,
 }
 
 impl Model for Quantised {
@@ -38,7 +38,7 @@ impl Model for Quantised {
       xlo = q.xlo;
       xhi = q.xhi;
       format = q.format;
-      kind = q.kind;
+      realisation = q.realisation;
     } };
 
     ghost invariant = { λ q. IsFixedPoint (record {
@@ -48,7 +48,7 @@ impl Model for Quantised {
       xlo = q.xlo;
       xhi = q.xhi;
       format = q.format;
-      kind = q.kind;
+      realisation = q.realisation;
     }) };
 }
 
@@ -62,7 +62,7 @@ impl Quantised {
     pub(crate) fn in_words(
         controller: &Controller,
         format: Format,
-        kind: Kind,
+        realisation: Realisation,
         b: &[Frac],
         a: &[Frac],
         delta: i64,
@@ -70,9 +70,9 @@ impl Quantised {
         requires one_length { length b.now ≡ length a.now }
         requires some { 1 ≤ length a.now }
         requires few { length a.now ≤ 9 }
-        requires delta { IsDeltaWord format kind delta }
-        ensures value { result ≡ in_words controller.now format kind b.now a.now delta }
-        ensures meaning { IfOk result (IsInWords controller.now format kind b.now a.now delta) }
+        requires delta { IsDeltaWord format realisation delta }
+        ensures value { result ≡ in_words controller.now format realisation b.now a.now delta }
+        ensures meaning { IfOk result (IsInWords controller.now format realisation b.now a.now delta) }
     {
         let b = b_words(format, b)?;
         let a = a_words(format, a)?;
@@ -84,7 +84,7 @@ impl Quantised {
             xlo: range.lo,
             xhi: range.hi,
             format,
-            kind,
+            realisation,
         })
     }
 
@@ -144,9 +144,9 @@ impl Quantised {
     }
 
     /// The realisation.
-    pub fn kind(&self) -> Kind
-        ensures { result ≡ self.now.kind }
+    pub fn realisation(&self) -> Realisation
+        ensures { result ≡ self.now.realisation }
     {
-        self.kind
+        self.realisation
     }
 }

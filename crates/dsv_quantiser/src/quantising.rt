@@ -3,16 +3,16 @@
 
 ghost use Rattle.std.specs.Prelude.{◌≡◌, ◌≤ℤ◌, ◌<ℤ◌, pos, IfOk, true};
 ghost use Rattle.dsv_word.specs.Words.{width, hi};
-ghost use Rattle.dsv_quantiser.specs.Kinds.{is_delta};
+ghost use Rattle.dsv_names.specs.Realisations.{is_delta};
 ghost use Rattle.dsv_quantiser.specs.Quantising.{delta_word, with_delta, quantised};
 ghost use Rattle.dsv_quantiser.specs.Meaning.{IsWordOf, IsOfDelta, IsQuantised};
 
-use crate::kind::Kind;
 use crate::quantised::Quantised;
 use crate::refusal::QuantRefusal;
 use crate::words::{fitting, or_wide};
-use dsv_delta::{ListName, to_delta};
+use dsv_delta::to_delta;
 use dsv_fraction::Frac;
+use dsv_names::{ListName, Realisation};
 use dsv_reader::Controller;
 use dsv_word::Format;
 
@@ -37,11 +37,11 @@ fn delta_word(format: Format, delta: &Frac) -> Result<i64, QuantRefusal>
 fn with_delta(
     controller: &Controller,
     format: Format,
-    kind: Kind,
+    realisation: Realisation,
 ) -> Result<Quantised, QuantRefusal>
-    requires { is_delta kind ≡ true }
-    ensures value { result ≡ with_delta controller.now format kind controller.now.delta }
-    ensures meaning { IfOk result (IsOfDelta controller.now format kind) }
+    requires { is_delta realisation ≡ true }
+    ensures value { result ≡ with_delta controller.now format realisation controller.now.delta }
+    ensures meaning { IfOk result (IsOfDelta controller.now format realisation) }
 {
     let Some(delta) = controller.delta() else {
         return Err(QuantRefusal::DeltaNotPositive { wanted: 0 });
@@ -51,7 +51,7 @@ fn with_delta(
     Quantised::in_words(
         controller,
         format,
-        kind,
+        realisation,
         pair.b.as_slice(),
         pair.a.as_slice(),
         word,
@@ -65,14 +65,21 @@ fn with_delta(
 pub fn quantise(
     controller: &Controller,
     format: Format,
-    kind: Kind,
+    realisation: Realisation,
 ) -> Result<Quantised, QuantRefusal>
-    ensures exact { result ≡ quantised controller.now format kind }
-    ensures meaning { IfOk result (IsQuantised controller.now format kind) }
+    ensures exact { result ≡ quantised controller.now format realisation }
+    ensures meaning { IfOk result (IsQuantised controller.now format realisation) }
 {
-    if kind.is_delta() {
-        with_delta(controller, format, kind)
+    if realisation.is_delta() {
+        with_delta(controller, format, realisation)
     } else {
-        Quantised::in_words(controller, format, kind, controller.b(), controller.a(), 0)
+        Quantised::in_words(
+            controller,
+            format,
+            realisation,
+            controller.b(),
+            controller.a(),
+            0,
+        )
     }
 }

@@ -7,8 +7,8 @@ ghost use Rattle.dsv_quantiser.specs.Meaning.{IsClamped, IsRangeOf};
 
 use crate::refusal::QuantRefusal;
 use crate::words::or_wide;
-use dsv_delta::ListName;
 use dsv_fraction::Frac;
+use dsv_names::ListName;
 use dsv_word::Format;
 
 /// The words from `lo` to `hi`.

@@ -1,5 +1,6 @@
 // Why a controller can't be made words.
-use dsv_delta::{DeltaWide, ListName};
+use dsv_delta::DeltaWide;
+use dsv_names::ListName;
 use thiserror::Error;
 
 /// The first reason for which a controller has no words in a format. The index is a coefficient's place in its list,

@@ -1,15 +1,16 @@
 // Coefficients as words.
 #![tactic(auto, using(crate::proofs::Casts::casts))]
 
+ghost use Rattle.dsv_word.specs.Words.{IsWord};
 ghost use Rattle.std.specs.Prelude.{◌≡◌, ◌+◌, ◌≤◌, ◌<◌, ◌^◌, length, drop, [], ◌∷◌, MatchResult, Ok, Err, IfOk};
-ghost use Rattle.dsv_quantiser.specs.FixedPoint.{unit, IsWord};
+ghost use Rattle.dsv_quantiser.specs.FixedPoint.{unit};
 ghost use Rattle.dsv_quantiser.specs.Meaning.{IsWordOf, AreWordsOf};
 ghost use Rattle.dsv_quantiser.specs.Quantising.{or_wide, fitting, word_at, words_from, a_words, b_words};
 
 use crate::refusal::QuantRefusal;
 use arrayvec::ArrayVec;
-use dsv_delta::ListName;
 use dsv_fraction::{Frac, TooWide};
+use dsv_names::ListName;
 use dsv_word::Format;
 
 /// Up to nine coefficients as words.

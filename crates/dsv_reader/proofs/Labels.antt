@@ -3,10 +3,10 @@ use Rattle.std.proofs.Common.{◌≡◌, ◌≢◌, ℕ, Bool, true, false, List
 use Rattle.std.specs.Prelude.{Option, Some, None, is_some, Result, Ok, Err}
 use Rattle.dsv_fraction.specs.Ratio.{Ratio}
 use Rattle.dsv_token.specs.declared.refusal.FileRefusal.{FileRefusal}
-use Rattle.dsv_token.specs.declared.refusal.Field.{Field}
-use Rattle.dsv_token.specs.declared.refusal.Field.TheVariants as field
-use Rattle.dsv_token.specs.declared.token.Setting.{Setting}
-use Rattle.dsv_token.specs.declared.token.Setting.TheVariants as setting
+use Rattle.dsv_names.specs.declared.field.Field.{Field}
+use Rattle.dsv_names.specs.declared.field.Field.TheVariants as field
+use Rattle.dsv_names.specs.declared.setting.Setting.{Setting}
+use Rattle.dsv_names.specs.declared.setting.Setting.TheVariants as setting
 use Rattle.dsv_syntax.specs.declared.entry.Label.{Label}
 use Rattle.dsv_syntax.specs.declared.entry.Label.TheVariants as label
 use Rattle.dsv_syntax.specs.declared.entry.Entry.{Entry}

@@ -14,27 +14,27 @@ use Rattle.dsv_syntax.proofs.Binds.{unbind}
 use Rattle.dsv_syntax.proofs.ReadLemmas.{file_read}
 use Rattle.dsv_syntax.proofs.TakenLemmas.{file_taken}
 use Rattle.dsv_reader.specs.declared.fields.Values.{Values}
-use Rattle.dsv_reader.specs.Controllers.{Design}
+use Rattle.dsv_reader.specs.Controllers.{ControllerView}
 use Rattle.dsv_reader.specs.Fields.{values_of}
 use Rattle.dsv_reader.specs.Reading.{blocks_of, design_of, reading}
 use Rattle.dsv_reader.specs.Texts.{IsTextOf, IsFaultOf}
 use Rattle.dsv_reader.proofs.ValueLaws.{values_taken, values_read}
 
 -- what the passes behind a pass say
-abbrev from_values : Syntax → Values → Result Design FileRefusal
+abbrev from_values : Syntax → Values → Result ControllerView FileRefusal
 from_values x v = blocks_of x v >>= λ b. design_of b
 
-abbrev from_syntax : List ℕ → Syntax → Result Design FileRefusal
+abbrev from_syntax : List ℕ → Syntax → Result ControllerView FileRefusal
 from_syntax bytes x = values_of bytes x.entries >>= λ v. from_values x v
 
-abbrev from_tokens : List ℕ → List Token → Result Design FileRefusal
+abbrev from_tokens : List ℕ → List Token → Result ControllerView FileRefusal
 from_tokens bytes ts = parsed (length bytes) ts >>= λ x. from_syntax bytes x
 
-abbrev from_text : List ℕ → Unit {0} → Result Design FileRefusal
+abbrev from_text : List ℕ → Unit {0} → Result ControllerView FileRefusal
 from_text bytes u = tokens_of bytes >>= λ ts. from_tokens bytes ts
 
 -- what is read is a text
-pub text_taken : (bytes : List ℕ) (c : Design) → reading bytes ≡ Ok c → IsTextOf bytes c
+pub text_taken : (bytes : List ℕ) (c : ControllerView) → reading bytes ≡ Ok c → IsTextOf bytes c
 text_taken bytes c e =
     let t = unbind (text_of bytes) (from_text bytes) c e in
     let l = unbind (tokens_of bytes) (from_tokens bytes) c t.second in
@@ -55,7 +55,7 @@ text_taken bytes c e =
     }
 
 -- a text is read
-pub text_read : (bytes : List ℕ) (c : Design) → IsTextOf bytes c → reading bytes ≡ Ok c
+pub text_read : (bytes : List ℕ) (c : ControllerView) → IsTextOf bytes c → reading bytes ≡ Ok c
 text_read bytes c h =
     ap (λ r. r >>= from_text bytes) h.text
     ∙ ap (λ r. r >>= from_tokens bytes) ((cut_law bytes h.tokens).1 h.cut)
@@ -64,20 +64,20 @@ text_read bytes c h =
     ∙ ap (λ r. r >>= design_of) h.whole
     ∙ h.made
 
-either : (bytes : List ℕ) (r : Result Design FileRefusal) → reading bytes ≡ r → ((c : Design) × IsTextOf bytes c) ⊎ ((f : FileRefusal) × IsFaultOf bytes f)
+either : (bytes : List ℕ) (r : Result ControllerView FileRefusal) → reading bytes ≡ r → ((c : ControllerView) × IsTextOf bytes c) ⊎ ((f : FileRefusal) × IsFaultOf bytes f)
 either bytes (Ok c) e = inl (c, text_taken bytes c e)
 either bytes (Err f) e = inr (f, e)
 
-pub some_answer : (bytes : List ℕ) → ((c : Design) × IsTextOf bytes c) ⊎ ((r : FileRefusal) × IsFaultOf bytes r)
+pub some_answer : (bytes : List ℕ) → ((c : ControllerView) × IsTextOf bytes c) ⊎ ((r : FileRefusal) × IsFaultOf bytes r)
 some_answer bytes = either bytes (reading bytes) refl
 
-pub answers_apart : (bytes : List ℕ) (c : Design) (r : FileRefusal) → IsTextOf bytes c → IsFaultOf bytes r → ⊥
+pub answers_apart : (bytes : List ℕ) (c : ControllerView) (r : FileRefusal) → IsTextOf bytes c → IsFaultOf bytes r → ⊥
 answers_apart bytes c r h f = let e = text_read bytes c h in cc
 
-pub one_design : (bytes : List ℕ) (c d : Design) → IsTextOf bytes c → IsTextOf bytes d → c ≡ d
+pub one_design : (bytes : List ℕ) (c d : ControllerView) → IsTextOf bytes c → IsTextOf bytes d → c ≡ d
 one_design bytes c d h i = let e = text_read bytes c h in let f = text_read bytes d i in cc
 
 -- what is read is a text, where it is no refusal
-pub gives_text : (bytes : List ℕ) (r : Result Design FileRefusal) → Gives (λ c. c) r (reading bytes) → IfOk r (IsTextOf bytes)
+pub gives_text : (bytes : List ℕ) (r : Result ControllerView FileRefusal) → Gives (λ c. c) r (reading bytes) → IfOk r (IsTextOf bytes)
 gives_text bytes (Ok c) e = text_taken bytes c e
 gives_text bytes (Err f) e = tt

@@ -4,9 +4,8 @@ use Rattle.std.proofs.lemmas.List.{length-take}
 use Rattle.std.specs.Prelude.{nat_le}
 use Rattle.std.proofs.lemmas.Bool.{leb-true}
 use Rattle.std.proofs.Math.Nat.{pow-le-pow_right}
-use Rattle.dsv_fraction.specs.Number.{front_digits, digits_len}
-use Rattle.dsv_fraction.specs.Decimal.{digits_value}
-use Rattle.dsv_fraction.proofs.Digits.{value_below}
+use Rattle.dsv_text.specs.Digits.{digits_len, digits_value, front_digits}
+use Rattle.dsv_text.proofs.DigitLemmas.{value_below}
 use Rattle.dsv_reader.specs.Numbers.{is_plain, is_whole}
 
 few_small : (text : List ℕ) → length text ≤ 18 → digits_value 0 (front_digits text) < 2 ^ 64

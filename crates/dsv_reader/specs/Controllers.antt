@@ -6,7 +6,7 @@ use Rattle.dsv_word.specs.Width.{IsLawful}
 use Rattle.dsv_reader.specs.declared.costs.Costs.{Costs}
 
 -- what a controller's file says, with the coefficients divided by the leading one and padded
-pub record Design : Type 0 where
+pub record ControllerView : Type 0 where
   pub b : List Ratio
   pub a : List Ratio
   pub sample_time : Ratio
@@ -44,7 +44,7 @@ pub record AreCosts (c : Costs) : Type 0 where
   pub moves : c.moves ≤ 10000
 
 -- what is true of each controller
-pub record IsDesign (c : Design) : Type 0 where
+pub record IsController (c : ControllerView) : Type 0 where
   pub one_length : length c.b ≡ length c.a
   pub some : 1 ≤ length c.a
   pub few : length c.a ≤ 9

@@ -2,8 +2,10 @@
 use Rattle.std.specs.Prelude.{ℕ, ◌^◌, Bool, not, ◌&&◌, ◌==◌, nat_lt, nat_le, if◌then◌else◌, List, [], ◌∷◌, ◌++◌, length, take, drop, Result, Ok, Err, pos, int_lt}
 use Rattle.std.specs.Int.RustNames.{unsigned_abs}
 use Rattle.dsv_fraction.specs.Ratio.{Ratio}
-use Rattle.dsv_fraction.specs.Number.{has_byte, sign_len, digits_len, front_digits}
-use Rattle.dsv_fraction.specs.Decimal.{digits_value, decimal_of}
+use Rattle.dsv_text.specs.Bytes.{has_byte}
+use Rattle.dsv_text.specs.Digits.{digits_len, digits_value, front_digits}
+use Rattle.dsv_fraction.specs.Number.{sign_len}
+use Rattle.dsv_fraction.specs.Decimal.{decimal_of}
 use Rattle.dsv_fraction.specs.declared.decimal.DecimalRefusal.{DecimalRefusal}
 use Rattle.dsv_fraction.specs.declared.decimal.DecimalRefusal.TheVariants as decimal
 use Rattle.dsv_token.specs.declared.refusal.FileRefusal.{FileRefusal}

@@ -2,15 +2,15 @@
 use Rattle.std.specs.Prelude.{◌≡◌, ℕ, ◌+◌, ◌-◌, Bool, true, false, ◌&&◌, ◌==◌, nat_lt, nat_le, max, if◌then◌else◌, List, [], ◌∷◌, ◌++◌, length, replicate, Option, Some, None, Result, Ok, Err, pos, unwrap_or}
 use Rattle.std.specs.Ordering.{int_eq}
 use Rattle.dsv_fraction.specs.Ratio.{Ratio}
-use Rattle.dsv_fraction.specs.Arithmetic.{quotient, narrowed}
+use Rattle.dsv_fraction.specs.Arithmetic.{quotient, bounded}
 use Rattle.dsv_fraction.specs.declared.fraction.TooWide.{TooWide}
 use Rattle.dsv_word.specs.declared.format.TheConstants.{GREATEST_WIDTH}
 use Rattle.dsv_token.specs.Lexing.{tokens_of}
 use Rattle.dsv_token.specs.Text.{text_of}
 use Rattle.dsv_token.specs.declared.refusal.FileRefusal.{FileRefusal}
 use Rattle.dsv_token.specs.declared.refusal.FileRefusal.TheVariants as refusal
-use Rattle.dsv_token.specs.declared.refusal.Field.{Field}
-use Rattle.dsv_token.specs.declared.refusal.Field.TheVariants as field
+use Rattle.dsv_names.specs.declared.field.Field.{Field}
+use Rattle.dsv_names.specs.declared.field.Field.TheVariants as field
 use Rattle.dsv_syntax.specs.Steps.{◌>>=◌}
 use Rattle.dsv_syntax.specs.Parsing.{parsed}
 use Rattle.dsv_syntax.specs.declared.parsing.Syntax.{Syntax}
@@ -24,7 +24,7 @@ use Rattle.dsv_reader.specs.declared.fields.Values.{Values}
 use Rattle.dsv_reader.specs.declared.blocks.System.{System}
 use Rattle.dsv_reader.specs.declared.blocks.Implementation.{Implementation}
 use Rattle.dsv_reader.specs.declared.blocks.Blocks.{Blocks}
-use Rattle.dsv_reader.specs.Controllers.{Design, zero, one}
+use Rattle.dsv_reader.specs.Controllers.{ControllerView, zero, one}
 use Rattle.dsv_reader.specs.Fields.{values_of}
 
 -- ---- fields that are missing
@@ -81,7 +81,7 @@ by_quotient at (Err e) = Err (refusal.FractionWide at)
 -- the coefficients divided by the leading one, behind those that are
 abbrev pub divided_from : Ratio → List Coefficient → List Ratio → Result (List Ratio) FileRefusal
 divided_from a0 [] out = Ok out
-divided_from a0 (c ∷ cs) out = by_quotient c.at (narrowed (quotient c.value a0)) >>= λ q. divided_from a0 cs (out ++ q ∷ [])
+divided_from a0 (c ∷ cs) out = by_quotient c.at (bounded (quotient c.value a0)) >>= λ q. divided_from a0 cs (out ++ q ∷ [])
 
 abbrev pub divided : Ratio → List Coefficient → Result (List Ratio) FileRefusal
 divided a0 cs = divided_from a0 cs []
@@ -109,7 +109,7 @@ costs_of h = record {
 }
 
 -- the sample time is 1 and the clock 16 MHz where the file doesn't say else
-abbrev pub design_with : Blocks → List Ratio → List Ratio → Design
+abbrev pub design_with : Blocks → List Ratio → List Ratio → ControllerView
 design_with x b a = let n = max (length b) (length a) in record {
   b = padded n b;
   a = padded n a;
@@ -123,7 +123,7 @@ design_with x b a = let n = max (length b) (length a) in record {
   costs = costs_of x.hardware;
 }
 
-abbrev pub design_of : Blocks → Result Design FileRefusal
+abbrev pub design_of : Blocks → Result ControllerView FileRefusal
 design_of x =
     sized x.system.b_size x.system.b >>= λ u.
     sized x.system.a_size x.system.a >>= λ u.
@@ -134,7 +134,7 @@ design_of x =
     Ok (design_with x b a)
 
 -- what the bytes of a file say, or the first refusal
-abbrev pub reading : List ℕ → Result Design FileRefusal
+abbrev pub reading : List ℕ → Result ControllerView FileRefusal
 reading bytes =
     text_of bytes >>= λ u.
     tokens_of bytes >>= λ ts.

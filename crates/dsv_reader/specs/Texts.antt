@@ -9,12 +9,12 @@ use Rattle.dsv_syntax.specs.Grammar.{IsFile}
 use Rattle.dsv_syntax.specs.declared.parsing.Syntax.{Syntax}
 use Rattle.dsv_reader.specs.declared.fields.Values.{Values}
 use Rattle.dsv_reader.specs.declared.blocks.Blocks.{Blocks}
-use Rattle.dsv_reader.specs.Controllers.{Design}
+use Rattle.dsv_reader.specs.Controllers.{ControllerView}
 use Rattle.dsv_reader.specs.Values.{AreValuesOf}
 use Rattle.dsv_reader.specs.Reading.{blocks_of, design_of, reading}
 
 -- The bytes are the text of this controller.
-pub record IsTextOf (bytes : List ℕ) (c : Design) : Type 0 where
+pub record IsTextOf (bytes : List ℕ) (c : ControllerView) : Type 0 where
   -- they are UTF-8
   pub text : text_of bytes ≡ Ok tt
   -- without gaps they are these tokens

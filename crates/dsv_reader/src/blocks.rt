@@ -7,8 +7,9 @@ use crate::lists::Coefficients;
 use crate::numbers::Whole;
 use crate::settings::SampleTime;
 use dsv_fraction::Frac;
+use dsv_names::Field;
 use dsv_syntax::Syntax;
-use dsv_token::{Field, FileRefusal};
+use dsv_token::FileRefusal;
 
 /// The block `digital_system`.
 #[derive(Drop)]

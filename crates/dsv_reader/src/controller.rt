@@ -31,9 +31,9 @@ pub struct Controller {
 }
 
 impl Model for Controller {
-    ghost use Rattle.dsv_reader.specs.Controllers.{Design, IsDesign};
+    ghost use Rattle.dsv_reader.specs.Controllers.{ControllerView, IsController};
 
-    ghost Value = { Design };
+    ghost Value = { ControllerView };
 
     ghost view = { λ c. record {
       b = c.b.items;
@@ -48,7 +48,7 @@ impl Model for Controller {
       costs = c.costs;
     } };
 
-    ghost invariant = { λ c. IsDesign (record {
+    ghost invariant = { λ c. IsController (record {
       b = c.b.items;
       a = c.a.items;
       sample_time = c.sample_time;
@@ -64,7 +64,7 @@ impl Model for Controller {
 
 impl Controller {
     ghost use Rattle.std.specs.Prelude.{◌≡◌, ◌≤◌, length, slice_index_or, true};
-    ghost use Rattle.dsv_reader.specs.Controllers.{IsDesign, zero, one};
+    ghost use Rattle.dsv_reader.specs.Controllers.{IsController, zero, one};
     ghost use Rattle.dsv_reader.specs.Reading.{design_with, is_lawful};
 
     /// The controller of these blocks, for both lists divided by the leading coefficient.
@@ -95,7 +95,7 @@ impl Controller {
     /// The numerator's coefficients, b_0 first.
     pub fn b(&self) -> &[Frac]
         ensures same { result.now ≡ self.now.b }
-        ensures design { IsDesign self.now }
+        ensures design { IsController self.now }
     {
         self.b.as_slice()
     }
@@ -103,7 +103,7 @@ impl Controller {
     /// The denominator's coefficients, a_0 first, which is 1.
     pub fn a(&self) -> &[Frac]
         ensures same { result.now ≡ self.now.a }
-        ensures design { IsDesign self.now }
+        ensures design { IsController self.now }
     {
         self.a.as_slice()
     }
@@ -111,7 +111,7 @@ impl Controller {
     /// The time between two samples, in seconds.
     pub fn sample_time(&self) -> &Frac
         ensures same { result.now ≡ self.now.sample_time }
-        ensures design { IsDesign self.now }
+        ensures design { IsController self.now }
     {
         &self.sample_time
     }
@@ -119,7 +119,7 @@ impl Controller {
     /// The bits before the point, the sign among them.
     pub fn int_bits(&self) -> u32
         ensures same { result ≡ self.now.int_bits }
-        ensures design { IsDesign self.now }
+        ensures design { IsController self.now }
     {
         self.int_bits
     }
@@ -127,7 +127,7 @@ impl Controller {
     /// The bits behind the point.
     pub fn frac_bits(&self) -> u32
         ensures same { result ≡ self.now.frac_bits }
-        ensures design { IsDesign self.now }
+        ensures design { IsController self.now }
     {
         self.frac_bits
     }
@@ -156,7 +156,7 @@ impl Controller {
     /// The clock of the hardware, in cycles a second.
     pub fn clock(&self) -> u64
         ensures same { result ≡ self.now.clock }
-        ensures design { IsDesign self.now }
+        ensures design { IsController self.now }
     {
         self.clock
     }
@@ -164,7 +164,7 @@ impl Controller {
     /// What the parts of a sample cost.
     pub fn costs(&self) -> &Costs
         ensures same { result.now ≡ self.now.costs }
-        ensures design { IsDesign self.now }
+        ensures design { IsController self.now }
     {
         &self.costs
     }

@@ -1,6 +1,6 @@
 // Coefficients divided by the leading one.
 ghost use Rattle.std.specs.Prelude.{◌≡◌, ◌≢◌, ◌<◌, ◌≤◌, length, pos, IfOk, Ok, Err, MatchResult};
-ghost use Rattle.dsv_fraction.specs.Arithmetic.{narrowed, quotient};
+ghost use Rattle.dsv_fraction.specs.Arithmetic.{bounded, quotient};
 ghost use Rattle.dsv_reader.specs.Reading.{sized, BeginsWith, leading, by_quotient, divided, padded};
 
 use crate::lists::Coefficients;
@@ -42,7 +42,7 @@ pub(crate) fn leading(list: &Coefficients) -> Result<Frac, FileRefusal>
 /// A coefficient divided by the leading one.
 fn quotient(coefficient: &Coefficient, divisor: &Frac) -> Result<Frac, FileRefusal>
     requires { divisor.now.num ≢ pos 0 }
-    ensures { result ≡ by_quotient coefficient.now.at (narrowed (quotient coefficient.now.value divisor.now)) }
+    ensures { result ≡ by_quotient coefficient.now.at (bounded (quotient coefficient.now.value divisor.now)) }
 {
     match coefficient.value.div(divisor) {
         Ok(quotient) => Ok(quotient),

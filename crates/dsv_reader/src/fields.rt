@@ -10,8 +10,9 @@ use crate::numbers::{
 };
 use crate::settings::{Clock, Cost, SampleTime};
 use dsv_fraction::Frac;
+use dsv_names::{Field, Setting};
 use dsv_syntax::{Entry, Label};
-use dsv_token::{Field, FileRefusal, Setting, Token};
+use dsv_token::{FileRefusal, Token};
 
 const GREATEST_CLOCK: u64 = 1_000_000_000_000;
 

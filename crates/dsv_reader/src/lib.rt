@@ -15,7 +15,7 @@ mod settings;
 
 pub use controller::Controller;
 pub use costs::Costs;
-pub use dsv_token::{Field, FileRefusal, Wanted};
+pub use dsv_token::FileRefusal;
 pub use law::one_answer;
 pub use reading::read;
 

@@ -1,14 +1,15 @@
 // The numbers of a file.
 ghost use Rattle.std.specs.Prelude.{◌≡◌, ◌≤◌, ◌<◌, ◌^◌, [], length, IfOk};
-ghost use Rattle.dsv_fraction.specs.Decimal.{digits_value};
+ghost use Rattle.dsv_text.specs.Digits.{digits_value};
 ghost use Rattle.dsv_token.specs.declared.refusal.FileRefusal.TheVariants.{Number};
 ghost use Rattle.std.specs.Bool.{OnTrue};
 ghost use Rattle.dsv_reader.specs.Controllers.{IsTime};
 ghost use Rattle.dsv_reader.specs.Numbers.{text_at, is_plain, is_octal, is_whole, no_number, whole_at, bounded_at, by_decimal, decimal_at, is_time, by_time, time_at, only_of, coefficients_from, coefficients_of, passed_over};
 
 use crate::lists::Coefficients;
-use dsv_fraction::number::{digits_len, front_digits, has_byte, sign_len};
+use dsv_fraction::number::sign_len;
 use dsv_fraction::{DecimalRefusal, Frac};
+use dsv_text::{digits_len, front_digits, has_byte};
 use dsv_token::{FileRefusal, Token};
 
 /// The greatest number of digits of a whole number.
@@ -77,7 +78,7 @@ fn is_whole(text: &[u8]) -> bool
 }
 
 /// The number that digits spell.
-#[tactic(auto, using(dsv_fraction::proofs::Digits::value_grows))]
+#[tactic(auto, using(dsv_text::proofs::DigitLemmas::value_grows))]
 fn digits_value(digits: &[u8]) -> u64
     requires { digits_value 0 digits.now < 2 ^ 64 }
     ensures { result ≡ digits_value 0 digits.now }

@@ -5,12 +5,12 @@ use Rattle.std.proofs.lemmas.List.{map-append, map_push, length_push, length-tak
 use Rattle.dsv_word.specs.declared.format.Format.{Format}
 use Rattle.dsv_netlist.specs.Nodes.{at}
 use Rattle.dsv_quantiser.specs.FixedPoint.{FixedPoint}
-use Rattle.dsv_meaning.specs.Lines.{Term, Times, Sum, terms, line}
+use Rattle.dsv_meaning.specs.Lines.{Summand, Times, Sum, summands, line}
 use Rattle.dsv_meaning.specs.Equations.{order, first_alone, transposed_line, transposed_output, Chain, chained, transposed_chain}
 use Rattle.dsv_realise.specs.Making.{Made, with_line, Chained, with_place, with_transposed}
 use Rattle.dsv_realise.specs.Netlists.{count, sources, transposed_form}
 use Rattle.dsv_realise.proofs.Samples.{IsAt, Gives, Keeps, keeps_both}
-use Rattle.dsv_realise.proofs.LineNodes.{in_words, AreOver, line_gives, some_line_gives, over_both, over_any_terms, in_words-terms, length-terms}
+use Rattle.dsv_realise.proofs.LineNodes.{in_words, AreOver, line_gives, some_line_gives, over_both, over_any_summands, in_words-summands, length-summands}
 use Rattle.dsv_realise.proofs.Sources.{IsSized, sources_give, counted_all, AreBelow, below_more, below_push, below_drop, below_count}
 
 pub kept_words : (vs ws : List ℤ) (ks : List ℕ) → Keeps vs ws → AreBelow (length vs) ks → map (at ws) ks ≡ map (at vs) ks
@@ -55,7 +55,7 @@ transposed_line_gives f rs x vs xid yid b a s m c g p q h =
     let made = line_gives f rs x m.nodes g.now c.exact (Times false b xid) (Times true a yid ∷ first_alone s) g.stands (omega arith, (omega arith, alone_over (length g.now) s (below_more (length vs) (length g.now) s l h))) in
     let e : map (in_words g.now) (transposed_line b a xid yid s) ≡ transposed_line b a (at vs xid) (at vs yid) (map (at vs) s) =
     rw (alone_words g.now s, kept_words vs g.now s g.keeps h, g.keeps.old xid p, g.keeps.old yid q) refl in
-    subst (λ (w : List (Term ℤ)). Gives f rs x g.now (with_line m.nodes (transposed_line b a xid yid s)) (line f c.exact w)) e made
+    subst (λ (w : List (Summand ℤ)). Gives f rs x g.now (with_line m.nodes (transposed_line b a xid yid s)) (line f c.exact w)) e made
 
 pub transposed_gives : (q : FixedPoint) (rs : List ℤ) (x : ℤ) (vs : List ℤ) (xid yid : ℕ) (bs cs : List ℤ) (s : List ℕ) (m : Chained) (c : Chain)
     → GivesChain q.format rs x vs m c → xid < length vs → yid < length vs → AreBelow (length vs) s
@@ -90,14 +90,14 @@ output_gives q x s z l =
     let ks = count 1 n in
     let bk : AreBelow (length vs) ks = below_count (length vs) 1 n (omega arith) in
     let zeroth : ℕ → ℕ = λ i. 0 in
-    let b1 : List (Term ℕ) = terms false (take 1 q.b) zeroth 0 in
+    let b1 : List (Summand ℕ) = summands false (take 1 q.b) zeroth 0 in
     let ts = transposed_output q 0 ks in
     let lt : length (take 1 q.b) ≡ 1 = length-take-le 1 q.b (omega (arith, z.forward)) in
-    let some : 0 < length ts = omega (arith, lt, length-append b1 (first_alone ks), length-terms false (take 1 q.b) zeroth 0) in
-    let o : AreOver (length vs) ts = over_both (length vs) b1 (first_alone ks) (over_any_terms (length vs) false (take 1 q.b) zeroth 0 (λ i h. omega arith)) (alone_over (length vs) ks bk) in
+    let some : 0 < length ts = omega (arith, lt, length-append b1 (first_alone ks), length-summands false (take 1 q.b) zeroth 0) in
+    let o : AreOver (length vs) ts = over_both (length vs) b1 (first_alone ks) (over_any_summands (length vs) false (take 1 q.b) zeroth 0 (λ i h. omega arith)) (alone_over (length vs) ks bk) in
     let made = some_line_gives f s x (sources n) vs [] ts some (sources_give f s x n l) o in
     let e : map (in_words vs) ts ≡ transposed_output q x s =
     map-append (in_words vs) b1 (first_alone ks)
-    ∙ ap (λ (us : List (Term ℤ)). us ++ map (in_words vs) (first_alone ks)) (in_words-terms vs false (take 1 q.b) zeroth 0)
-    ∙ ap (λ (us : List (Term ℤ)). terms false (take 1 q.b) (λ (i : ℕ). x) 0 ++ us) (alone_words vs ks ∙ ap first_alone (register_words n x s l)) in
-    subst (λ (w : List (Term ℤ)). Gives f s x vs (transposed_form q) (line f [] w)) e made
+    ∙ ap (λ (us : List (Summand ℤ)). us ++ map (in_words vs) (first_alone ks)) (in_words-summands vs false (take 1 q.b) zeroth 0)
+    ∙ ap (λ (us : List (Summand ℤ)). summands false (take 1 q.b) (λ (i : ℕ). x) 0 ++ us) (alone_words vs ks ∙ ap first_alone (register_words n x s l)) in
+    subst (λ (w : List (Summand ℤ)). Gives f s x vs (transposed_form q) (line f [] w)) e made

@@ -8,7 +8,7 @@ use Rattle.std.proofs.lemmas.List.{length-take-le}
 use Rattle.std.proofs.lemmas.List.Sums.{sum_by-cons}
 use Rattle.std.proofs.lemmas.List.Elements.{All-nil, All-cons, All-push, All-weaker, All-get_or, All-take, All-drop}
 use Rattle.dsv_word.specs.declared.format.Format.{Format}
-use Rattle.dsv_word.specs.Words.{width, hi}
+use Rattle.dsv_word.specs.Words.{width, hi, IsWord}
 use Rattle.dsv_netlist.specs.declared.node.Node.{Node}
 use Rattle.dsv_netlist.specs.declared.node.Node.TheVariants.{Input, Reg}
 use Rattle.dsv_netlist.specs.declared.TheConstants.{BOUND_LIMIT}
@@ -18,18 +18,18 @@ use Rattle.dsv_netlist.specs.Conditions.{AllNameBack, ReadsBelow, names_word, is
 use Rattle.dsv_netlist.specs.Counts.{is_product, is_sum, counts_of}
 use Rattle.dsv_netlist.proofs.Naming.{names_word-below}
 use Rattle.dsv_netlist.proofs.Sizes.{word_size}
-use Rattle.dsv_quantiser.specs.declared.kind.Kind.{Kind}
-use Rattle.dsv_quantiser.specs.declared.kind.Kind.TheVariants.{Dfi, Dfii, Tdfii, Ddfi, Ddfii, Tddfii}
-use Rattle.dsv_quantiser.specs.FixedPoint.{FixedPoint, IsFixedPoint, IsWord, IsDeltaWord}
-use Rattle.dsv_meaning.specs.Lines.{Alone, terms}
-use Rattle.dsv_meaning.specs.Equations.{order, feedback, first_alone, forward_terms, feedback_terms, transposed_output, registers_of, forward_registers_of, products_of, sums_of}
+use Rattle.dsv_names.specs.declared.realisation.Realisation.{Realisation}
+use Rattle.dsv_names.specs.declared.realisation.Realisation.TheVariants.{Dfi, Dfii, Tdfii, Ddfi, Ddfii, Tddfii}
+use Rattle.dsv_quantiser.specs.FixedPoint.{FixedPoint, IsFixedPoint, IsDeltaWord}
+use Rattle.dsv_meaning.specs.Lines.{Alone, summands}
+use Rattle.dsv_meaning.specs.Equations.{order, feedback, first_alone, forward_summands, feedback_summands, transposed_output, registers_of, forward_registers_of, products_of, sums_of}
 use Rattle.dsv_realise.specs.Making.{no_places}
 use Rattle.dsv_realise.specs.Netlists.{registers_from, sources, count, shift, newest_at, first_form, second_form_state, second_form, transposed_form, transposed_nodes, delta_inputs, delta_outputs, delta_states, transposed_delta_nodes, net_with, net_as, net_of}
 use Rattle.dsv_realise.specs.Running.{counts_as}
 use Rattle.dsv_realise.proofs.Sources.{IsSized, sized}
-use Rattle.dsv_realise.proofs.LineNodes.{length-terms}
+use Rattle.dsv_realise.proofs.LineNodes.{length-summands}
 use Rattle.dsv_realise.proofs.Growing.{AreSound, HasCounts, IsSmall, word_small, bounds-length, one_if, Grown}
-use Rattle.dsv_realise.proofs.GrowingLines.{AreFit, line_grows, terms_fit, fit_both, products_in-terms, products_in-append, products_in-alone, AllNamed, named_later, named_both, alone_fit, chain_begins, transposed_grows, delta_grows, transposed_delta_grows}
+use Rattle.dsv_realise.proofs.GrowingLines.{AreFit, line_grows, summands_fit, fit_both, products_in-summands, products_in-append, products_in-alone, AllNamed, named_later, named_both, alone_fit, chain_begins, transposed_grows, delta_grows, transposed_delta_grows}
 
 -- ---- the first nodes
 registers_named : (j n i : ℕ) → i < n → names_word (registers_from j n) i ≡ true
@@ -110,7 +110,7 @@ all_named ns (k ∷ ks) h = All-cons (λ j. IsTrue (names_word ns j)) k ks h.0 (
 
 -- ---- coefficients
 small_word : (f : Format) (v : ℤ) → IsWord f v → IsSmall v
-small_word f v h = omega (arith, word_size f v (record { low = h.0; high = h.1 }), word_small f)
+small_word f v h = omega (arith, word_size f v h, word_small f)
 
 zero_small : (v : ℤ) → v ≡ pos 0 → IsSmall v
 zero_small v e = rw e (omega arith)
@@ -118,7 +118,7 @@ zero_small v e = rw e (omega arith)
 positive_small : (f : Format) (v : ℤ) → pos 1 ≤ℤ v → v ≤ℤ hi (width f) → IsSmall v
 positive_small f v l h = small_word f v (omega (arith, ints), h)
 
-delta_small : (k : Kind) (f : Format) (v : ℤ) → IsDeltaWord f k v → IsSmall v
+delta_small : (k : Realisation) (f : Format) (v : ℤ) → IsDeltaWord f k v → IsSmall v
 delta_small Dfi f v h = zero_small v h
 delta_small Dfii f v h = zero_small v h
 delta_small Tdfii f v h = zero_small v h
@@ -140,7 +140,7 @@ mild q h = record {
   few = omega (arith, h.few);
   b = All-weaker (IsWord q.format) IsSmall (small_word q.format) q.b h.b_words;
   a = All-weaker (IsWord q.format) IsSmall (small_word q.format) (feedback q) h.a_words;
-  delta = delta_small q.kind q.format q.delta h.delta;
+  delta = delta_small q.realisation q.format q.delta h.delta;
 }
 
 -- ---- lines
@@ -148,27 +148,27 @@ first_grown : (q : FixedPoint) (s : ℕ) → IsMild q → s + 1 ≡ 2 * order q 
 first_grown q s m e =
     let n = order q in
     let ns = sources (n + n) in
-    let bs = forward_terms q (λ (i : ℕ). i) in
-    let as_ = feedback_terms q (λ (i : ℕ). i) (n + 1) in
+    let bs = forward_summands q (λ (i : ℕ). i) in
+    let as_ = feedback_summands q (λ (i : ℕ). i) (n + 1) in
     let fit : AreFit ns (bs ++ as_) = fit_both ns bs as_
-    (terms_fit ns false q.b (λ (i : ℕ). i) 0 m.b (λ i l. sources_named (n + n) (0 + i) (omega (arith, m.size.forward))))
-    (terms_fit ns true (feedback q) (λ (i : ℕ). i) (n + 1) m.a (λ i l. sources_named (n + n) (n + 1 + i) (omega (arith, m.size.back)))) in
-    let lb = length-terms false q.b (λ (i : ℕ). i) 0 in
-    let la = length-terms true (feedback q) (λ (i : ℕ). i) (n + 1) in
+    (summands_fit ns false q.b (λ (i : ℕ). i) 0 m.b (λ i l. sources_named (n + n) (0 + i) (omega (arith, m.size.forward))))
+    (summands_fit ns true (feedback q) (λ (i : ℕ). i) (n + 1) m.a (λ i l. sources_named (n + n) (n + 1 + i) (omega (arith, m.size.back)))) in
+    let lb = length-summands false q.b (λ (i : ℕ). i) 0 in
+    let la = length-summands true (feedback q) (λ (i : ℕ). i) (n + 1) in
     let l = length-append bs as_ in
     line_grows q.format (n + n) ns 0 0 (2 * n + 1) s (bs ++ as_) (sources_sound q.format (n + n)) (sources_count (n + n)) fit
-    (omega (arith, products_in-append bs as_, products_in-terms false q.b (λ (i : ℕ). i) 0, products_in-terms true (feedback q) (λ (i : ℕ). i) (n + 1), m.size.forward, m.size.back))
+    (omega (arith, products_in-append bs as_, products_in-summands false q.b (λ (i : ℕ). i) 0, products_in-summands true (feedback q) (λ (i : ℕ). i) (n + 1), m.size.forward, m.size.back))
     (omega (arith, m.size.forward, m.size.back)) (omega (arith, m.size.forward))
 
 state_grown : (q : FixedPoint) → IsMild q → Grown q.format (order q) (sources (order q)) (second_form_state q) (order q) (order q)
 state_grown q m =
     let n = order q in
     let ns = sources n in
-    let as_ = feedback_terms q (λ (i : ℕ). i) 1 in
+    let as_ = feedback_summands q (λ (i : ℕ). i) 1 in
     line_grows q.format n ns 0 0 n n (Alone 0 ∷ as_) (sources_sound q.format n) (sources_count n)
-    (sources_named n 0 (omega arith), terms_fit ns true (feedback q) (λ (i : ℕ). i) 1 m.a (λ i l. sources_named n (1 + i) (omega (arith, m.size.back))))
-    (omega (arith, products_in-terms true (feedback q) (λ (i : ℕ). i) 1, m.size.back))
-    (omega (arith, length-terms true (feedback q) (λ (i : ℕ). i) 1, m.size.back)) (omega arith)
+    (sources_named n 0 (omega arith), summands_fit ns true (feedback q) (λ (i : ℕ). i) 1 m.a (λ i l. sources_named n (1 + i) (omega (arith, m.size.back))))
+    (omega (arith, products_in-summands true (feedback q) (λ (i : ℕ). i) 1, m.size.back))
+    (omega (arith, length-summands true (feedback q) (λ (i : ℕ). i) 1, m.size.back)) (omega arith)
 
 newest_named : (ns : List Node) (p n i : ℕ) → names_word ns p ≡ true → ((j : ℕ) → j < n + 1 → names_word ns j ≡ true) → i < n + 1 → names_word ns (newest_at p i) ≡ true
 newest_named ns p n zero h g l = h
@@ -180,9 +180,9 @@ second_grown q s m e =
     let g = state_grown q m in
     let ns = (second_form_state q).nodes in
     let ids = newest_at (second_form_state q).place in
-    line_grows q.format n ns n n (2 * n + 1) s (forward_terms q ids) g.sound g.counts
-    (terms_fit ns false q.b ids 0 m.b (λ i l. newest_named ns (second_form_state q).place n (0 + i) g.place (λ j k. g.keeps j (sources_named n j k)) (omega (arith, m.size.forward))))
-    (omega (arith, products_in-terms false q.b ids 0, m.size.forward)) (omega (arith, length-terms false q.b ids 0, m.size.forward)) (omega (arith, length-terms false q.b ids 0, m.size.forward))
+    line_grows q.format n ns n n (2 * n + 1) s (forward_summands q ids) g.sound g.counts
+    (summands_fit ns false q.b ids 0 m.b (λ i l. newest_named ns (second_form_state q).place n (0 + i) g.place (λ j k. g.keeps j (sources_named n j k)) (omega (arith, m.size.forward))))
+    (omega (arith, products_in-summands false q.b ids 0, m.size.forward)) (omega (arith, length-summands false q.b ids 0, m.size.forward)) (omega (arith, length-summands false q.b ids 0, m.size.forward))
 
 output_grown : (q : FixedPoint) → IsMild q → Grown q.format (order q) (sources (order q)) (transposed_form q) 1 (length (first_alone (count 1 (order q))))
 output_grown q m =
@@ -190,16 +190,16 @@ output_grown q m =
     let ns = sources n in
     let ks = count 1 n in
     let zeroth : ℕ → ℕ = λ i. 0 in
-    let bs = terms false (take 1 q.b) zeroth 0 in
+    let bs = summands false (take 1 q.b) zeroth 0 in
     let lt : length (take 1 q.b) ≡ 1 = length-take-le 1 q.b (omega (arith, m.size.forward)) in
     let l = length-append bs (first_alone ks) in
-    let lb = length-terms false (take 1 q.b) zeroth 0 in
+    let lb = length-summands false (take 1 q.b) zeroth 0 in
     line_grows q.format n ns 0 0 1 (length (first_alone ks)) (transposed_output q 0 ks) (sources_sound q.format n) (sources_count n)
-    (fit_both ns bs (first_alone ks) (terms_fit ns false (take 1 q.b) zeroth 0 (All-take IsSmall 1 q.b m.b) (λ i k. sources_named n 0 (omega arith))) (alone_fit ns ks (named_count n 1 n (omega arith))))
-    (omega (arith, products_in-append bs (first_alone ks), products_in-terms false (take 1 q.b) zeroth 0, products_in-alone ks)) (omega arith) (omega arith)
+    (fit_both ns bs (first_alone ks) (summands_fit ns false (take 1 q.b) zeroth 0 (All-take IsSmall 1 q.b m.b) (λ i k. sources_named n 0 (omega arith))) (alone_fit ns ks (named_count n 1 n (omega arith))))
+    (omega (arith, products_in-append bs (first_alone ks), products_in-summands false (take 1 q.b) zeroth 0, products_in-alone ks)) (omega arith) (omega arith)
 
 -- ---- all of it
-products_few : (k : Kind) (n : ℕ) → n ≤ 8 → products_of k n ≤ 33
+products_few : (k : Realisation) (n : ℕ) → n ≤ 8 → products_of k n ≤ 33
 products_few Dfi n h = omega arith
 products_few Dfii n h = omega arith
 products_few Tdfii n h = omega arith
@@ -207,7 +207,7 @@ products_few Ddfi n h = omega arith
 products_few Ddfii n h = omega arith
 products_few Tddfii n h = omega arith
 
-registers_few : (k : Kind) (n : ℕ) → n ≤ 8 → registers_of k n ≤ 16
+registers_few : (k : Realisation) (n : ℕ) → n ≤ 8 → registers_of k n ≤ 16
 registers_few Dfi n h = omega arith
 registers_few Dfii n h = omega arith
 registers_few Tdfii n h = omega arith
@@ -215,7 +215,7 @@ registers_few Ddfi n h = omega arith
 registers_few Ddfii n h = omega arith
 registers_few Tddfii n h = omega arith
 
-forward_few : (k : Kind) (n : ℕ) → forward_registers_of k n ≤ registers_of k n
+forward_few : (k : Realisation) (n : ℕ) → forward_registers_of k n ≤ registers_of k n
 forward_few Dfi n = omega arith
 forward_few Dfii n = omega arith
 forward_few Tdfii n = omega arith
@@ -224,7 +224,7 @@ forward_few Ddfii n = omega arith
 forward_few Tddfii n = omega arith
 
 -- nodes, numbers of those that load the registers, and of the output
-record IsWhole (k : Kind) (q : FixedPoint) (r : ℕ) (ns : List Node) (ks : List ℕ) (y : ℕ) : Type 0 where
+record IsWhole (k : Realisation) (q : FixedPoint) (r : ℕ) (ns : List Node) (ks : List ℕ) (y : ℕ) : Type 0 where
   sound : AreSound q.format r ns
   counts : HasCounts r ns (products_of k (order q)) (sums_of k (order q))
   next : AllNamed ns ks
@@ -232,11 +232,11 @@ record IsWhole (k : Kind) (q : FixedPoint) (r : ℕ) (ns : List Node) (ks : List
   output : names_word ns y ≡ true
 
 -- the netlist of a realisation is one, with the table's counts
-pub record IsRealised (k : Kind) (q : FixedPoint) (net : Net) : Type 0 where
+pub record IsRealised (k : Realisation) (q : FixedPoint) (net : Net) : Type 0 where
   pub netlist : IsNetlist net
   pub counts : counts_of net ≡ counts_as k (order q)
 
-realised : (k : Kind) (q : FixedPoint) (r : ℕ) (ns : List Node) (next : List ℕ) (output : ℕ) → order q ≤ 8 → r ≡ registers_of k (order q) → IsWhole k q r ns next output → IsRealised k q (net_with q k ns next output)
+realised : (k : Realisation) (q : FixedPoint) (r : ℕ) (ns : List Node) (next : List ℕ) (output : ℕ) → order q ≤ 8 → r ≡ registers_of k (order q) → IsWhole k q r ns next output → IsRealised k q (net_with q k ns next output)
 realised k q r ns next output few e w =
     let p = products_few k (order q) few in
     let rf = registers_few k (order q) few in
@@ -246,7 +246,7 @@ realised k q r ns next output few e w =
         few_nodes = omega (arith, w.counts.nodes);
         few_registers = omega arith;
         few_exact = omega (arith, w.counts.fits);
-        past_inputs = omega (arith, forward_few k (order q));
+        feed_forward = omega (arith, forward_few k (order q));
         backwards = w.sound.backwards;
         registers = subst (λ (j : ℕ). All (ReadsBelow j) ns) (sym w.many) w.sound.registers;
         output = w.output;
@@ -256,7 +256,7 @@ realised k q r ns next output few e w =
       counts = rw (w.counts.products, w.counts.sums, many) refl;
     }
 
-realised_as : (k : Kind) (q : FixedPoint) → IsMild q → IsRealised k q (net_as k q)
+realised_as : (k : Realisation) (q : FixedPoint) → IsMild q → IsRealised k q (net_as k q)
 realised_as Dfi q m =
     let n = order q in
     let g = first_grown q (sums_of Dfi n) m (omega arith) in
@@ -339,5 +339,5 @@ realised_as Tddfii q m =
     (omega (arith, m.size.forward, m.size.back, length-drop 1 q.b)) (count-length 1 n ∙ sym m.size.back) (omega (arith, m.size.back)) (omega (arith, m.size.back)) (omega (arith, m.size.back)) in
     realised Tddfii q n (transposed_delta_nodes q).nodes (transposed_delta_nodes q).places y.place m.few refl (record { sound = c.sound; counts = c.counts; next = c.named; many = c.many; output = c.keeps y.place g.place })
 
-pub net_realised : (q : FixedPoint) → IsFixedPoint q → IsRealised q.kind q (net_of q)
-net_realised q h = realised_as q.kind q (mild q h)
+pub net_realised : (q : FixedPoint) → IsFixedPoint q → IsRealised q.realisation q (net_of q)
+net_realised q h = realised_as q.realisation q (mild q h)

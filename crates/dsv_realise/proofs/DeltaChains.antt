@@ -6,7 +6,7 @@ use Rattle.dsv_word.specs.declared.format.Format.{Format}
 use Rattle.dsv_netlist.specs.declared.node.Node.{Node}
 use Rattle.dsv_netlist.specs.Nodes.{at}
 use Rattle.dsv_quantiser.specs.FixedPoint.{FixedPoint}
-use Rattle.dsv_meaning.specs.Lines.{Term, Times, Alone, line}
+use Rattle.dsv_meaning.specs.Lines.{Summand, Times, Alone, line}
 use Rattle.dsv_meaning.specs.Equations.{transposed_line, delta_line, Chain, no_words, chained, delta_chain, transposed_delta_chain}
 use Rattle.dsv_realise.specs.Making.{with_line, Chained, no_places, with_place, with_delta, with_transposed_delta}
 use Rattle.dsv_realise.proofs.Samples.{IsAt, Gives, keeps_self, keeps_both}
@@ -24,7 +24,7 @@ delta_line_gives : (q : FixedPoint) (rs : List ℤ) (x : ℤ) (ns : List Node) (
 delta_line_gives q rs x ns vs es wid vid w v h k l e d =
     let made = line_gives q.format rs x ns vs es (Alone wid) (Times false q.delta vid ∷ []) h (k, (l, tt)) in
     let same : map (in_words vs) (delta_line q wid vid) ≡ delta_line q w v = rw (e, d) refl in
-    subst (λ (ts : List (Term ℤ)). Gives q.format rs x vs (with_line ns (delta_line q wid vid)) (line q.format es ts)) same made
+    subst (λ (ts : List (Summand ℤ)). Gives q.format rs x vs (with_line ns (delta_line q wid vid)) (line q.format es ts)) same made
 
 pub delta_gives : (q : FixedPoint) (rs : List ℤ) (x : ℤ) (vs : List ℤ) (before : ℕ) (ws : List ℕ) (m : Chained) (c : Chain)
     → GivesChain q.format rs x vs m c → before < length vs → AreBelow (length vs) ws

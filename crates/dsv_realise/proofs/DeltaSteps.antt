@@ -3,7 +3,7 @@ use Rattle.std.proofs.Common.{◌≡◌, suc, ◌+◌, ◌<◌, ◌≤◌, List,
 use Rattle.std.proofs.Math.IntN.{ℤ}
 use Rattle.std.proofs.lemmas.List.{map-append, take_all}
 use Rattle.dsv_netlist.specs.Nodes.{at, sample_of}
-use Rattle.dsv_quantiser.specs.declared.kind.Kind.TheVariants.{Ddfi, Ddfii}
+use Rattle.dsv_names.specs.declared.realisation.Realisation.TheVariants.{Ddfi, Ddfii}
 use Rattle.dsv_quantiser.specs.FixedPoint.{FixedPoint}
 use Rattle.dsv_meaning.specs.Equations.{order, ago, Past, latest, Chain, no_words, delta_chain}
 use Rattle.dsv_realise.specs.Making.{no_places}

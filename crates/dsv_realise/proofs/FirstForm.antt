@@ -4,19 +4,19 @@ use Rattle.std.proofs.Math.IntN.{ℤ}
 use Rattle.std.proofs.lemmas.List.{length-take-le, map-append}
 use Rattle.dsv_netlist.specs.Nodes.{at}
 use Rattle.dsv_quantiser.specs.FixedPoint.{FixedPoint}
-use Rattle.dsv_meaning.specs.Lines.{Term, Sum, terms, line}
-use Rattle.dsv_meaning.specs.Equations.{order, feedback, ago, forward_terms, feedback_terms}
+use Rattle.dsv_meaning.specs.Lines.{Summand, Sum, summands, line}
+use Rattle.dsv_meaning.specs.Equations.{order, feedback, ago, forward_summands, feedback_summands}
 use Rattle.dsv_realise.specs.Netlists.{sources, first_form}
 use Rattle.dsv_realise.proofs.Samples.{Gives}
-use Rattle.dsv_realise.proofs.LineNodes.{in_words, AreOver, in_words-terms, same_terms, over_terms, over_both, some_line_gives, length-terms}
+use Rattle.dsv_realise.proofs.LineNodes.{in_words, AreOver, in_words-summands, same_summands, over_summands, over_both, some_line_gives, length-summands}
 use Rattle.dsv_realise.proofs.Sources.{IsSized, sources_give, at_input, at_output}
 
 -- the registers: x_1 to x_N, then y_1 to y_N
 abbrev pub pair : FixedPoint → List ℤ → List ℤ → List ℤ
 pair q xs ys = take (order q) xs ++ take (order q) ys
 
-abbrev pub first_line : FixedPoint → ℤ → List ℤ → List ℤ → List (Term ℤ)
-first_line q x xs ys = forward_terms q (ago (x ∷ xs)) ++ feedback_terms q (ago ys) 0
+abbrev pub first_line : FixedPoint → ℤ → List ℤ → List ℤ → List (Summand ℤ)
+first_line q x xs ys = forward_summands q (ago (x ∷ xs)) ++ feedback_summands q (ago ys) 0
 
 abbrev pub first_sum : FixedPoint → ℤ → List ℤ → List ℤ → Sum
 first_sum q x xs ys = line q.format [] (first_line q x xs ys)
@@ -31,15 +31,15 @@ first_form_gives q x xs ys s h k =
     let rs = pair q xs ys in
     let vs = x ∷ rs in
     let lr = pair-length q xs ys h k in
-    let bs = forward_terms q (λ (i : ℕ). i) in
-    let as_ = feedback_terms q (λ (i : ℕ). i) (n + 1) in
+    let bs = forward_summands q (λ (i : ℕ). i) in
+    let as_ = feedback_summands q (λ (i : ℕ). i) (n + 1) in
     let old_x : (i : ℕ) → i < n + 1 → at vs i ≡ ago (x ∷ xs) i = λ i l. at_input n i x xs (take n ys) h l in
     let old_y : (j : ℕ) → j < n → at vs (n + 1 + j) ≡ ago ys j = λ j l. at_output n j x xs ys h l in
-    let o : AreOver (length vs) (bs ++ as_) = over_both (length vs) bs as_ (over_terms (length vs) false q.b 0 (omega (arith, s.forward))) (over_terms (length vs) true (feedback q) (n + 1) (omega (arith, s.back))) in
-    let some : 0 < length (bs ++ as_) = omega (arith, s.forward, length-append bs as_, length-terms false q.b (λ (i : ℕ). i) 0) in
+    let o : AreOver (length vs) (bs ++ as_) = over_both (length vs) bs as_ (over_summands (length vs) false q.b 0 (omega (arith, s.forward))) (over_summands (length vs) true (feedback q) (n + 1) (omega (arith, s.back))) in
+    let some : 0 < length (bs ++ as_) = omega (arith, s.forward, length-append bs as_, length-summands false q.b (λ (i : ℕ). i) 0) in
     let made = some_line_gives q.format rs x (sources (n + n)) vs [] (bs ++ as_) some (sources_give q.format rs x (n + n) lr) o in
     let w : map (in_words vs) (bs ++ as_) ≡ first_line q x xs ys =
     map-append (in_words vs) bs as_
-    ∙ ap (λ (ts : List (Term ℤ)). ts ++ map (in_words vs) as_) (in_words-terms vs false q.b (λ (i : ℕ). i) 0 ∙ same_terms false q.b (at vs) (ago (x ∷ xs)) 0 0 (λ i l. old_x (0 + i) (omega (arith, s.forward))))
-    ∙ ap (λ (ts : List (Term ℤ)). terms false q.b (ago (x ∷ xs)) 0 ++ ts) (in_words-terms vs true (feedback q) (λ (i : ℕ). i) (n + 1) ∙ same_terms true (feedback q) (at vs) (ago ys) (n + 1) 0 (λ j l. let z : j ≡ 0 + j = omega arith in old_y j (omega (arith, s.back)) ∙ ap (ago ys) z)) in
-    subst (λ (ts : List (Term ℤ)). Gives q.format rs x vs (first_form q) (line q.format [] ts)) w made
+    ∙ ap (λ (ts : List (Summand ℤ)). ts ++ map (in_words vs) as_) (in_words-summands vs false q.b (λ (i : ℕ). i) 0 ∙ same_summands false q.b (at vs) (ago (x ∷ xs)) 0 0 (λ i l. old_x (0 + i) (omega (arith, s.forward))))
+    ∙ ap (λ (ts : List (Summand ℤ)). summands false q.b (ago (x ∷ xs)) 0 ++ ts) (in_words-summands vs true (feedback q) (λ (i : ℕ). i) (n + 1) ∙ same_summands true (feedback q) (at vs) (ago ys) (n + 1) 0 (λ j l. let z : j ≡ 0 + j = omega arith in old_y j (omega (arith, s.back)) ∙ ap (ago ys) z)) in
+    subst (λ (ts : List (Summand ℤ)). Gives q.format rs x vs (first_form q) (line q.format [] ts)) w made

@@ -8,32 +8,32 @@ use Rattle.dsv_word.specs.declared.format.Format.{Format}
 use Rattle.dsv_netlist.specs.declared.node.Node.{Node}
 use Rattle.dsv_netlist.specs.Conditions.{names_word}
 use Rattle.dsv_quantiser.specs.FixedPoint.{FixedPoint}
-use Rattle.dsv_meaning.specs.Lines.{Term, Times, Alone, terms}
+use Rattle.dsv_meaning.specs.Lines.{Summand, Times, Alone, summands}
 use Rattle.dsv_meaning.specs.Equations.{first_alone, transposed_line, delta_line}
-use Rattle.dsv_realise.specs.Making.{Made, with_product, with_sum, with_first, with_next, with_terms, with_line, Chained, no_places, with_place, with_transposed, with_delta, with_transposed_delta}
+use Rattle.dsv_realise.specs.Making.{Made, with_product, with_sum, with_first, with_next, with_summands, with_line, Chained, no_places, with_place, with_transposed, with_delta, with_transposed_delta}
 use Rattle.dsv_realise.proofs.Growing.{AreSound, HasCounts, IsSmall, Grown, product_grows, sum_grows}
 
--- a term of a word among these nodes, by a small coefficient
-abbrev pub IsFit : List Node → Term ℕ → Type 0
+-- a summand of a word among these nodes, by a small coefficient
+abbrev pub IsFit : List Node → Summand ℕ → Type 0
 IsFit ns (Times away c i) = IsSmall c × (names_word ns i ≡ true)
 IsFit ns (Alone i) = names_word ns i ≡ true
 
-abbrev pub AreFit : List Node → List (Term ℕ) → Type 0
+abbrev pub AreFit : List Node → List (Summand ℕ) → Type 0
 AreFit ns [] = Unit {0}
 AreFit ns (t ∷ ts) = IsFit ns t × AreFit ns ts
 
--- how many products the terms have
-abbrev pub products_in : List (Term ℕ) → ℕ
+-- how many products the summands have
+abbrev pub products_in : List (Summand ℕ) → ℕ
 products_in [] = 0
 products_in (Times away c i ∷ ts) = 1 + products_in ts
 products_in (Alone i ∷ ts) = products_in ts
 
 -- ---- lines
-first_grows : (f : Format) (r : ℕ) (ns : List Node) (p s : ℕ) (t : Term ℕ) → AreSound f r ns → HasCounts r ns p s → IsFit ns t → Grown f r ns (with_first ns t) (p + products_in (t ∷ [])) s
+first_grows : (f : Format) (r : ℕ) (ns : List Node) (p s : ℕ) (t : Summand ℕ) → AreSound f r ns → HasCounts r ns p s → IsFit ns t → Grown f r ns (with_first ns t) (p + products_in (t ∷ [])) s
 first_grows f r ns p s (Times away c i) h u k = product_grows f r ns p s c i h u k.0 k.1
 first_grows f r ns p s (Alone i) h u k = let e : p ≡ p + 0 = omega arith in record { sound = h; counts = subst (λ (j : ℕ). HasCounts r ns j s) e u; keeps = λ j g. g; place = k }
 
-next_grows : (f : Format) (r : ℕ) (old : List Node) (m : Made) (p s : ℕ) (t : Term ℕ) → Grown f r old m p s → IsFit old t → Grown f r old (with_next m t) (p + products_in (t ∷ [])) (s + 1)
+next_grows : (f : Format) (r : ℕ) (old : List Node) (m : Made) (p s : ℕ) (t : Summand ℕ) → Grown f r old m p s → IsFit old t → Grown f r old (with_next m t) (p + products_in (t ∷ [])) (s + 1)
 next_grows f r old m p s (Times away c i) g k =
     let u = with_product m.nodes c i in
     let a = product_grows f r m.nodes p s c i g.sound g.counts k.0 (g.keeps i k.1) in
@@ -48,43 +48,43 @@ next_grows f r old m p s (Alone i) g k =
 pub recounted : (f : Format) (r : ℕ) (old : List Node) (m : Made) (p s p2 s2 : ℕ) → p ≡ p2 → s ≡ s2 → Grown f r old m p s → Grown f r old m p2 s2
 recounted f r old m p s p2 s2 e d g = subst (λ (j : ℕ). Grown f r old m j s2) e (subst (λ (j : ℕ). Grown f r old m p j) d g)
 
-products_in-cons : (t : Term ℕ) (ts : List (Term ℕ)) → products_in (t ∷ ts) ≡ products_in (t ∷ []) + products_in ts
+products_in-cons : (t : Summand ℕ) (ts : List (Summand ℕ)) → products_in (t ∷ ts) ≡ products_in (t ∷ []) + products_in ts
 products_in-cons (Times away c i) ts = refl
 products_in-cons (Alone i) ts = omega arith
 
-terms_grow : (f : Format) (r : ℕ) (old : List Node) (m : Made) (p s : ℕ) (ts : List (Term ℕ)) → Grown f r old m p s → AreFit old ts → Grown f r old (with_terms m ts) (p + products_in ts) (s + length ts)
-terms_grow f r old m p s [] g k = recounted f r old m p s (p + 0) (s + 0) (omega arith) (omega arith) g
-terms_grow f r old m p s (t ∷ ts) g k =
+summands_grow : (f : Format) (r : ℕ) (old : List Node) (m : Made) (p s : ℕ) (ts : List (Summand ℕ)) → Grown f r old m p s → AreFit old ts → Grown f r old (with_summands m ts) (p + products_in ts) (s + length ts)
+summands_grow f r old m p s [] g k = recounted f r old m p s (p + 0) (s + 0) (omega arith) (omega arith) g
+summands_grow f r old m p s (t ∷ ts) g k =
     let one = products_in (t ∷ []) in
-    recounted f r old (with_terms (with_next m t) ts) (p + one + products_in ts) (s + 1 + length ts) (p + products_in (t ∷ ts)) (s + length (t ∷ ts)) (omega (arith, products_in-cons t ts)) (omega arith)
-    (terms_grow f r old (with_next m t) (p + one) (s + 1) ts (next_grows f r old m p s t g k.0) k.1)
+    recounted f r old (with_summands (with_next m t) ts) (p + one + products_in ts) (s + 1 + length ts) (p + products_in (t ∷ ts)) (s + length (t ∷ ts)) (omega (arith, products_in-cons t ts)) (omega arith)
+    (summands_grow f r old (with_next m t) (p + one) (s + 1) ts (next_grows f r old m p s t g k.0) k.1)
 
-pub line_grows : (f : Format) (r : ℕ) (ns : List Node) (p s p2 s2 : ℕ) (ts : List (Term ℕ)) → AreSound f r ns → HasCounts r ns p s → AreFit ns ts → p + products_in ts ≡ p2 → s + length ts ≡ s2 + 1 → 0 < length ts
+pub line_grows : (f : Format) (r : ℕ) (ns : List Node) (p s p2 s2 : ℕ) (ts : List (Summand ℕ)) → AreSound f r ns → HasCounts r ns p s → AreFit ns ts → p + products_in ts ≡ p2 → s + length ts ≡ s2 + 1 → 0 < length ts
     → Grown f r ns (with_line ns ts) p2 s2
 line_grows f r ns p s p2 s2 [] h u k e d l = absurd (omega arith)
 line_grows f r ns p s p2 s2 (t ∷ ts) h u k e d l =
     let one = products_in (t ∷ []) in
-    recounted f r ns (with_terms (with_first ns t) ts) (p + one + products_in ts) (s + length ts) p2 s2 (omega (arith, products_in-cons t ts)) (omega arith)
-    (terms_grow f r ns (with_first ns t) (p + one) s ts (first_grows f r ns p s t h u k.0) k.1)
+    recounted f r ns (with_summands (with_first ns t) ts) (p + one + products_in ts) (s + length ts) p2 s2 (omega (arith, products_in-cons t ts)) (omega arith)
+    (summands_grow f r ns (with_first ns t) (p + one) s ts (first_grows f r ns p s t h u k.0) k.1)
 
--- ---- terms
-pub terms_fit : (ns : List Node) (away : Bool) (cs : List ℤ) (g : ℕ → ℕ) (k : ℕ) → All IsSmall cs → ((i : ℕ) → i < length cs → names_word ns (g (k + i)) ≡ true) → AreFit ns (terms away cs g k)
-terms_fit ns away [] g k small h = tt
-terms_fit ns away (c ∷ cs) g k small h =
+-- ---- summands
+pub summands_fit : (ns : List Node) (away : Bool) (cs : List ℤ) (g : ℕ → ℕ) (k : ℕ) → All IsSmall cs → ((i : ℕ) → i < length cs → names_word ns (g (k + i)) ≡ true) → AreFit ns (summands away cs g k)
+summands_fit ns away [] g k small h = tt
+summands_fit ns away (c ∷ cs) g k small h =
     let z : k + 0 ≡ k = add-zero k in (
       (All-head IsSmall c cs small, subst (λ (j : ℕ). names_word ns (g j) ≡ true) z (h 0 (omega arith))),
-      terms_fit ns away cs g (k + 1) (All-tail IsSmall c cs small) (λ i l. let e : k + (i + 1) ≡ k + 1 + i = omega arith in subst (λ (j : ℕ). names_word ns (g j) ≡ true) e (h (i + 1) (omega arith))),
+      summands_fit ns away cs g (k + 1) (All-tail IsSmall c cs small) (λ i l. let e : k + (i + 1) ≡ k + 1 + i = omega arith in subst (λ (j : ℕ). names_word ns (g j) ≡ true) e (h (i + 1) (omega arith))),
     )
 
-pub fit_both : (ns : List Node) (ts us : List (Term ℕ)) → AreFit ns ts → AreFit ns us → AreFit ns (ts ++ us)
+pub fit_both : (ns : List Node) (ts us : List (Summand ℕ)) → AreFit ns ts → AreFit ns us → AreFit ns (ts ++ us)
 fit_both ns [] us a b = b
 fit_both ns (t ∷ ts) us a b = (a.0, fit_both ns ts us a.1 b)
 
-pub products_in-terms : (away : Bool) (cs : List ℤ) (g : ℕ → ℕ) (k : ℕ) → products_in (terms away cs g k) ≡ length cs
-products_in-terms away [] g k = refl
-products_in-terms away (c ∷ cs) g k = omega (arith, products_in-terms away cs g (k + 1))
+pub products_in-summands : (away : Bool) (cs : List ℤ) (g : ℕ → ℕ) (k : ℕ) → products_in (summands away cs g k) ≡ length cs
+products_in-summands away [] g k = refl
+products_in-summands away (c ∷ cs) g k = omega (arith, products_in-summands away cs g (k + 1))
 
-pub products_in-append : (ts us : List (Term ℕ)) → products_in (ts ++ us) ≡ products_in ts + products_in us
+pub products_in-append : (ts us : List (Summand ℕ)) → products_in (ts ++ us) ≡ products_in ts + products_in us
 products_in-append [] us = omega arith
 products_in-append (Times away c i ∷ ts) us = omega (arith, products_in-append ts us)
 products_in-append (Alone i ∷ ts) us = products_in-append ts us

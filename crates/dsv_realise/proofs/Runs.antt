@@ -2,8 +2,8 @@
 use Rattle.std.proofs.Common.{◌≡◌, ℕ, ◌*◌, List, ◌++◌, length, take, drop, refl, subst, arith, length-take, length-drop}
 use Rattle.std.proofs.Math.IntN.{ℤ}
 use Rattle.std.proofs.lemmas.List.{take-take, take_all, take-append-drop, length-take-le}
-use Rattle.dsv_quantiser.specs.declared.kind.Kind.{Kind}
-use Rattle.dsv_quantiser.specs.declared.kind.Kind.TheVariants.{Dfi, Dfii, Tdfii, Ddfi, Ddfii, Tddfii}
+use Rattle.dsv_names.specs.declared.realisation.Realisation.{Realisation}
+use Rattle.dsv_names.specs.declared.realisation.Realisation.TheVariants.{Dfi, Dfii, Tdfii, Ddfi, Ddfii, Tddfii}
 use Rattle.dsv_quantiser.specs.FixedPoint.{FixedPoint, IsFixedPoint}
 use Rattle.dsv_meaning.specs.Runs.{rows_from, past_after}
 use Rattle.dsv_meaning.specs.Equations.{order, Past, sample_as, registers_as, start_as, registers_of}
@@ -14,7 +14,7 @@ use Rattle.dsv_realise.proofs.Sources.{IsSized, sized}
 use Rattle.dsv_realise.proofs.Steps.{HasRegisters, FollowsAs, dfi_follows, dfii_follows, tdfii_follows, tddfii_follows}
 use Rattle.dsv_realise.proofs.DeltaSteps.{ddfi_follows, ddfii_follows}
 
-follows : (k : Kind) (q : FixedPoint) (p : Past) (x : ℤ) → IsSized q → HasRegisters k (order q) p → FollowsAs k q p x
+follows : (k : Realisation) (q : FixedPoint) (p : Past) (x : ℤ) → IsSized q → HasRegisters k (order q) p → FollowsAs k q p x
 follows Dfi q p x s h = dfi_follows q p x s h
 follows Dfii q p x s h = dfii_follows q p x s h
 follows Tdfii q p x s h = tdfii_follows q p x s h
@@ -29,7 +29,7 @@ halves n start l =
     let b : take n (drop n start) ≡ drop n start = take_all n (drop n start) (omega (arith, length-drop n start)) in
     rw (a, b) (take-append-drop n start)
 
-start_registers : (k : Kind) (n : ℕ) (start : List ℤ) → length start ≡ registers_of k n → registers_as k n (start_as k n start) ≡ start
+start_registers : (k : Realisation) (n : ℕ) (start : List ℤ) → length start ≡ registers_of k n → registers_as k n (start_as k n start) ≡ start
 start_registers Dfi n start l = halves n start l
 start_registers Dfii n start l = take_all n start (omega arith)
 start_registers Tdfii n start l = refl
@@ -37,7 +37,7 @@ start_registers Ddfi n start l = take-append-drop n start
 start_registers Ddfii n start l = refl
 start_registers Tddfii n start l = refl
 
-start_has : (k : Kind) (n : ℕ) (start : List ℤ) → length start ≡ registers_of k n → HasRegisters k n (start_as k n start)
+start_has : (k : Realisation) (n : ℕ) (start : List ℤ) → length start ≡ registers_of k n → HasRegisters k n (start_as k n start)
 start_has Dfi n start l = (omega (arith, length-take n start), omega (arith, length-drop n start))
 start_has Dfii n start l = omega arith
 start_has Tdfii n start l = l
@@ -45,13 +45,13 @@ start_has Ddfi n start l = (length-take-le n start (omega arith), omega (arith, 
 start_has Ddfii n start l = l
 start_has Tddfii n start l = l
 
-rows_as : (k : Kind) (q : FixedPoint) (start xs : List ℤ) → IsSized q → length start ≡ registers_of k (order q) → net_rows (net_as k q) start xs ≡ rows_from (sample_as k q) (start_as k (order q) start) xs
+rows_as : (k : Realisation) (q : FixedPoint) (start xs : List ℤ) → IsSized q → length start ≡ registers_of k (order q) → net_rows (net_as k q) start xs ≡ rows_from (sample_as k q) (start_as k (order q) start) xs
 rows_as k q start xs s l =
     let n = order q in
     subst (λ (r : List ℤ). net_rows (net_as k q) r xs ≡ rows_from (sample_as k q) (start_as k n start) xs) (start_registers k n start l)
     (same_rows Past (net_as k q) (registers_as k n) (sample_as k q) (HasRegisters k n) (λ p x h. follows k q p x s h) (start_as k n start) xs (start_has k n start l))
 
-registers_are : (k : Kind) (q : FixedPoint) (start xs : List ℤ) → IsSized q → length start ≡ registers_of k (order q) → net_registers (net_as k q) start xs ≡ registers_as k (order q) (past_after (sample_as k q) (start_as k (order q) start) xs)
+registers_are : (k : Realisation) (q : FixedPoint) (start xs : List ℤ) → IsSized q → length start ≡ registers_of k (order q) → net_registers (net_as k q) start xs ≡ registers_as k (order q) (past_after (sample_as k q) (start_as k (order q) start) xs)
 registers_are k q start xs s l =
     let n = order q in
     subst (λ (r : List ℤ). net_registers (net_as k q) r xs ≡ registers_as k n (past_after (sample_as k q) (start_as k n start) xs)) (start_registers k n start l)
@@ -59,6 +59,6 @@ registers_are k q start xs s l =
 
 pub runs_are : (q : FixedPoint) → IsFixedPoint q → RunsAre q (net_of q)
 runs_are q h = record {
-  rows = λ start xs l. rows_as q.kind q start xs (sized q h) l;
-  registers = λ start xs l. registers_are q.kind q start xs (sized q h) l;
+  rows = λ start xs l. rows_as q.realisation q start xs (sized q h) l;
+  registers = λ start xs l. registers_are q.realisation q start xs (sized q h) l;
 }

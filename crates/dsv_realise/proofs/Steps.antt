@@ -3,8 +3,8 @@ use Rattle.std.proofs.Common.{◌≡◌, ℕ, suc, ◌+◌, ◌<◌, ◌≤◌, 
 use Rattle.std.proofs.Math.IntN.{ℤ}
 use Rattle.std.proofs.lemmas.List.{map-append, length-take-le}
 use Rattle.dsv_netlist.specs.Nodes.{at, sample_of}
-use Rattle.dsv_quantiser.specs.declared.kind.Kind.{Kind}
-use Rattle.dsv_quantiser.specs.declared.kind.Kind.TheVariants.{Dfi, Dfii, Tdfii, Ddfi, Tddfii}
+use Rattle.dsv_names.specs.declared.realisation.Realisation.{Realisation}
+use Rattle.dsv_names.specs.declared.realisation.Realisation.TheVariants.{Dfi, Dfii, Tdfii, Ddfi, Tddfii}
 use Rattle.dsv_quantiser.specs.FixedPoint.{FixedPoint}
 use Rattle.dsv_meaning.specs.Lines.{line}
 use Rattle.dsv_meaning.specs.Equations.{order, feedback, ago, Past, latest, transposed_output, Chain, no_words, transposed_chain, transposed_delta_chain, sample_as, registers_as}
@@ -19,13 +19,13 @@ use Rattle.dsv_realise.proofs.Chains.{GivesChain, kept_words, transposed_gives, 
 use Rattle.dsv_realise.proofs.DeltaChains.{chain_start, transposed_delta_gives, transposed_delta_chain-length}
 
 -- the past has as many words as the registers hold
-abbrev pub HasRegisters : Kind → ℕ → Past → Type 0
+abbrev pub HasRegisters : Realisation → ℕ → Past → Type 0
 HasRegisters Dfi n p = (n ≤ length p.signal) × (n ≤ length p.outputs)
 HasRegisters Dfii n p = n ≤ length p.signal
 HasRegisters Ddfi n p = (length (latest p.chain) ≡ n) × (length (latest p.output_chain) ≡ n)
 HasRegisters k n p = length (latest p.chain) ≡ n
 
-abbrev pub FollowsAs : Kind → FixedPoint → Past → ℤ → Type 0
+abbrev pub FollowsAs : Realisation → FixedPoint → Past → ℤ → Type 0
 FollowsAs k q p x = Follows Past (net_as k q) (registers_as k (order q)) (sample_as k q) (HasRegisters k (order q)) p x
 
 pub dfi_follows : (q : FixedPoint) (p : Past) (x : ℤ) → IsSized q → HasRegisters Dfi (order q) p → FollowsAs Dfi q p x

@@ -3,7 +3,7 @@ use Rattle.std.specs.Prelude.{ℕ, Bool, false, if◌then◌else◌, List, [], �
 use Rattle.dsv_netlist.specs.declared.node.Node.{Node}
 use Rattle.dsv_netlist.specs.declared.node.Node.TheVariants.{MulConst, Round, Add, Sub, Fit}
 use Rattle.dsv_quantiser.specs.FixedPoint.{FixedPoint}
-use Rattle.dsv_meaning.specs.Lines.{Term, Times, Alone}
+use Rattle.dsv_meaning.specs.Lines.{Summand, Times, Alone}
 use Rattle.dsv_meaning.specs.Equations.{transposed_line, delta_line}
 
 -- nodes, and the number of the one that has the value that is wanted
@@ -31,23 +31,23 @@ with_sum away nodes left right =
     record { nodes = put summed (Fit (length nodes)); place = length summed }
 
 -- ---- lines
--- a line starts with its first term; a word alone needs no node
-abbrev pub with_first : List Node → Term ℕ → Made
+-- a line starts with its first summand; a word alone needs no node
+abbrev pub with_first : List Node → Summand ℕ → Made
 with_first nodes (Times away coeff of) = with_product nodes coeff of
 with_first nodes (Alone of) = record { nodes = nodes; place = of }
 
-abbrev pub with_next : Made → Term ℕ → Made
+abbrev pub with_next : Made → Summand ℕ → Made
 with_next m (Times away coeff of) = let factor = with_product m.nodes coeff of in with_sum away factor.nodes m.place factor.place
 with_next m (Alone of) = with_sum false m.nodes m.place of
 
-abbrev pub with_terms : Made → List (Term ℕ) → Made
-with_terms m [] = m
-with_terms m (t ∷ ts) = with_terms (with_next m t) ts
+abbrev pub with_summands : Made → List (Summand ℕ) → Made
+with_summands m [] = m
+with_summands m (t ∷ ts) = with_summands (with_next m t) ts
 
 -- the nodes of a line, in the order of its operations
-abbrev pub with_line : List Node → List (Term ℕ) → Made
+abbrev pub with_line : List Node → List (Summand ℕ) → Made
 with_line nodes [] = record { nodes = nodes; place = 0 }
-with_line nodes (t ∷ ts) = with_terms (with_first nodes t) ts
+with_line nodes (t ∷ ts) = with_summands (with_first nodes t) ts
 
 -- ---- chains of lines
 -- nodes, and the numbers of those that have the new words of a chain

@@ -1,13 +1,13 @@
 -- The netlists of the six realisations. N is the order.
 use Rattle.std.specs.Prelude.{ℕ, zero, suc, ◌+◌, List, [], ◌∷◌, ◌++◌, drop}
-use Rattle.dsv_quantiser.specs.declared.kind.Kind.{Kind}
-use Rattle.dsv_quantiser.specs.declared.kind.Kind.TheVariants.{Dfi, Dfii, Tdfii, Ddfi, Ddfii, Tddfii}
+use Rattle.dsv_names.specs.declared.realisation.Realisation.{Realisation}
+use Rattle.dsv_names.specs.declared.realisation.Realisation.TheVariants.{Dfi, Dfii, Tdfii, Ddfi, Ddfii, Tddfii}
 use Rattle.dsv_quantiser.specs.FixedPoint.{FixedPoint}
 use Rattle.dsv_netlist.specs.declared.node.Node.{Node}
 use Rattle.dsv_netlist.specs.declared.node.Node.TheVariants.{Input, Reg}
 use Rattle.dsv_netlist.specs.Nodes.{Net}
 use Rattle.dsv_meaning.specs.Lines.{Alone}
-use Rattle.dsv_meaning.specs.Equations.{order, feedback, forward_terms, feedback_terms, transposed_output, forward_registers_of}
+use Rattle.dsv_meaning.specs.Equations.{order, feedback, forward_summands, feedback_summands, transposed_output, forward_registers_of}
 use Rattle.dsv_realise.specs.Making.{Made, with_line, Chained, no_places, with_transposed, with_delta, with_transposed_delta}
 
 -- ---- the nodes that every netlist begins with
@@ -38,15 +38,15 @@ newest_at p (suc i) = suc i
 -- ---- lines that two realisations share
 -- y = b_0 x + .. + b_N x_N - a_1 y_1 - .. - a_N y_N, with x_1 to x_N in the first registers and then y_1 to y_N
 abbrev pub first_form : FixedPoint → Made
-first_form q = with_line (sources (order q + order q)) (forward_terms q (λ i. i) ++ feedback_terms q (λ i. i) (order q + 1))
+first_form q = with_line (sources (order q + order q)) (forward_summands q (λ i. i) ++ feedback_summands q (λ i. i) (order q + 1))
 
 -- w_0 = x - a_1 w_1 - .. - a_N w_N, with w_1 to w_N in the registers
 abbrev pub second_form_state : FixedPoint → Made
-second_form_state q = with_line (sources (order q)) (Alone 0 ∷ feedback_terms q (λ i. i) 1)
+second_form_state q = with_line (sources (order q)) (Alone 0 ∷ feedback_summands q (λ i. i) 1)
 
 -- y = b_0 w_0 + .. + b_N w_N behind it
 abbrev pub second_form : FixedPoint → Made
-second_form q = with_line (second_form_state q).nodes (forward_terms q (newest_at (second_form_state q).place))
+second_form q = with_line (second_form_state q).nodes (forward_summands q (newest_at (second_form_state q).place))
 
 -- y = b_0 x + s_1, with s_1 to s_N in the registers
 abbrev pub transposed_form : FixedPoint → Made
@@ -73,12 +73,12 @@ transposed_delta_nodes q =
     let y = transposed_form q in with_transposed_delta q 0 y.place (drop 1 q.b) (feedback q) (count 1 (order q)) (no_places y.nodes)
 
 -- ---- netlists
-abbrev pub net_with : FixedPoint → Kind → List Node → List ℕ → ℕ → Net
-net_with q kind nodes next output =
-    record { nodes = nodes; next = next; output = output; past_inputs = forward_registers_of kind (order q); format = q.format }
+abbrev pub net_with : FixedPoint → Realisation → List Node → List ℕ → ℕ → Net
+net_with q realisation nodes next output =
+    record { nodes = nodes; next = next; output = output; feed_forward = forward_registers_of realisation (order q); format = q.format }
 
 -- what the registers are loaded from, and the output
-abbrev pub net_as : Kind → FixedPoint → Net
+abbrev pub net_as : Realisation → FixedPoint → Net
 net_as Dfi q = net_with q Dfi (first_form q).nodes (shift 0 1 (order q) ++ shift (first_form q).place (order q + 1) (order q)) (first_form q).place
 net_as Dfii q = net_with q Dfii (second_form q).nodes (shift (second_form_state q).place 1 (order q)) (second_form q).place
 net_as Tdfii q = net_with q Tdfii (transposed_nodes q).nodes (transposed_nodes q).places (transposed_form q).place
@@ -88,4 +88,4 @@ net_as Tddfii q = net_with q Tddfii (transposed_delta_nodes q).nodes (transposed
 
 -- the netlist of a controller in words
 abbrev pub net_of : FixedPoint → Net
-net_of q = net_as q.kind q
+net_of q = net_as q.realisation q

@@ -1,6 +1,6 @@
 -- Runs of netlists beside runs of the written equations.
 use Rattle.std.specs.Prelude.{◌≡◌, ℕ, List, [], ◌∷◌, length, ℤ}
-use Rattle.dsv_quantiser.specs.declared.kind.Kind.{Kind}
+use Rattle.dsv_names.specs.declared.realisation.Realisation.{Realisation}
 use Rattle.dsv_quantiser.specs.FixedPoint.{FixedPoint}
 use Rattle.dsv_netlist.specs.declared.netlist.OpCounts.{OpCounts}
 use Rattle.dsv_netlist.specs.Nodes.{Net, step_of}
@@ -22,9 +22,9 @@ net_registers net registers (x ∷ xs) = net_registers net (step_of net register
 -- From every start and over all inputs, the netlist's steps give the rows of the written equations, and leave their
 -- registers.
 pub record RunsAre (q : FixedPoint) (net : Net) : Type 0 where
-  pub rows : (start xs : List ℤ) → length start ≡ registers_of q.kind (order q) → net_rows net start xs ≡ rows (equations_of q) start xs
-  pub registers : (start xs : List ℤ) → length start ≡ registers_of q.kind (order q) → net_registers net start xs ≡ registers_after (equations_of q) start xs
+  pub rows : (start xs : List ℤ) → length start ≡ registers_of q.realisation (order q) → net_rows net start xs ≡ rows (equations_of q) start xs
+  pub registers : (start xs : List ℤ) → length start ≡ registers_of q.realisation (order q) → net_registers net start xs ≡ registers_after (equations_of q) start xs
 
 -- the table's counts of a realisation
-abbrev pub counts_as : Kind → ℕ → OpCounts
-counts_as kind n = record { products = products_of kind n; sums = sums_of kind n; moves = registers_of kind n }
+abbrev pub counts_as : Realisation → ℕ → OpCounts
+counts_as realisation n = record { products = products_of realisation n; sums = sums_of realisation n; moves = registers_of realisation n }

@@ -1,8 +1,8 @@
 // Nodes made one after another.
 ghost use Rattle.std.specs.Prelude.{◌≡◌, ◌<◌, ◌≤◌, ◌+◌, ◌*◌, ◌^◌, ◌++◌, length, IfOk, false};
-ghost use Rattle.dsv_meaning.specs.Lines.{Times, terms};
+ghost use Rattle.dsv_meaning.specs.Lines.{Times, summands};
 ghost use Rattle.dsv_meaning.specs.Equations.{transposed_line};
-ghost use Rattle.dsv_realise.specs.Making.{put, with_product, with_sum, with_next, with_terms, with_line};
+ghost use Rattle.dsv_realise.specs.Making.{put, with_product, with_sum, with_next, with_summands, with_line};
 ghost use Rattle.dsv_realise.specs.Netlists.{sources, shift, newest_at};
 ghost use Rattle.dsv_realise.specs.Parts.{behind_of};
 
@@ -73,7 +73,7 @@ pub(crate) fn next_products(
     requires few { length nodes.old.items < 2 ^ 16 }
     requires short { length coeffs.now ≤ 9 }
     requires low { from ≤ 100 }
-    ensures made { IfOk result (λ place. record { nodes = nodes.new.items; place = place } ≡ with_terms (record { nodes = nodes.old.items; place = line }) (terms away coeffs.now (λ i. i) from)) }
+    ensures made { IfOk result (λ place. record { nodes = nodes.new.items; place = place } ≡ with_summands (record { nodes = nodes.old.items; place = line }) (summands away coeffs.now (λ i. i) from)) }
     ensures few { IfOk result (λ place. length nodes.new.items ≤ length nodes.old.items + 45) }
 {
     let mut place = line;
@@ -91,7 +91,7 @@ pub(crate) fn forward_line(nodes: &mut Vec<Node>, b: &[i64], newest: u32) -> Res
     requires few { length nodes.old.items < 2 ^ 15 }
     requires some { 1 ≤ length b.now }
     requires short { length b.now ≤ 9 }
-    ensures made { IfOk result (λ place. record { nodes = nodes.new.items; place = place } ≡ with_line nodes.old.items (terms false b.now (newest_at newest) 0)) }
+    ensures made { IfOk result (λ place. record { nodes = nodes.new.items; place = place } ≡ with_line nodes.old.items (summands false b.now (newest_at newest) 0)) }
     ensures few { IfOk result (λ place. length nodes.new.items ≤ length nodes.old.items + 48) }
 {
     let first = product(nodes, &b[0], newest)?;

@@ -1,18 +1,18 @@
 // The lines that two realisations share.
 ghost use Rattle.std.specs.Prelude.{◌≡◌, ◌≤◌, length, IfOk};
 ghost use Rattle.dsv_realise.specs.Netlists.{first_form, second_form_state, second_form, transposed_form};
-ghost use Rattle.dsv_realise.specs.Parts.{form_made};
+ghost use Rattle.dsv_realise.specs.Parts.{line_made};
 
 use crate::building::{forward_line, next_products, product, sources, sum};
-use crate::parts::Form;
+use crate::parts::BuiltLine;
 use dsv_base::NoMemory;
 use dsv_netlist::Node;
 use dsv_quantiser::Quantised;
 use std::alloc::Global;
 
 /// The output's line of both first forms.
-pub(crate) fn first_form(alloc: Global, q: &Quantised) -> Result<Form, NoMemory>
-    ensures made { IfOk result (λ form. form_made form ≡ first_form q.now) }
+pub(crate) fn first_form(alloc: Global, q: &Quantised) -> Result<BuiltLine, NoMemory>
+    ensures made { IfOk result (λ form. line_made form ≡ first_form q.now) }
     ensures few { IfOk result (λ form. length form.nodes.items ≤ 200) }
 {
     let a = q.a();
@@ -20,18 +20,18 @@ pub(crate) fn first_form(alloc: Global, q: &Quantised) -> Result<Form, NoMemory>
     let mut nodes = sources(alloc, 2 * order)?;
     let forward = forward_line(&mut nodes, q.b(), 0)?;
     let place = next_products(&mut nodes, forward, true, &a[1..], order + 1)?;
-    Ok(Form { nodes, place })
+    Ok(BuiltLine { nodes, place })
 }
 
 /// The first line of both second forms.
-pub(crate) fn second_form_state(alloc: Global, q: &Quantised) -> Result<Form, NoMemory>
-    ensures made { IfOk result (λ form. form_made form ≡ second_form_state q.now) }
+pub(crate) fn second_form_state(alloc: Global, q: &Quantised) -> Result<BuiltLine, NoMemory>
+    ensures made { IfOk result (λ form. line_made form ≡ second_form_state q.now) }
     ensures few { IfOk result (λ form. length form.nodes.items ≤ 200) }
 {
     let a = q.a();
     let mut nodes = sources(alloc, (a.len() - 1) as u32)?;
     let place = next_products(&mut nodes, 0, true, &a[1..], 1)?;
-    Ok(Form { nodes, place })
+    Ok(BuiltLine { nodes, place })
 }
 
 /// The output's line of both second forms, behind the first line.
@@ -45,8 +45,8 @@ pub(crate) fn second_form(nodes: &mut Vec<Node>, q: &Quantised, state: u32) -> R
 }
 
 /// The output's line of both transposed forms.
-pub(crate) fn transposed_form(alloc: Global, q: &Quantised) -> Result<Form, NoMemory>
-    ensures made { IfOk result (λ form. form_made form ≡ transposed_form q.now) }
+pub(crate) fn transposed_form(alloc: Global, q: &Quantised) -> Result<BuiltLine, NoMemory>
+    ensures made { IfOk result (λ form. line_made form ≡ transposed_form q.now) }
     ensures few { IfOk result (λ form. length form.nodes.items ≤ 200) }
 {
     let order = q.order() as u32;
@@ -57,5 +57,5 @@ pub(crate) fn transposed_form(alloc: Global, q: &Quantised) -> Result<Form, NoMe
     } else {
         sum(&mut nodes, false, first, 1)?
     };
-    Ok(Form { nodes, place })
+    Ok(BuiltLine { nodes, place })
 }

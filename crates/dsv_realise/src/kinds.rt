@@ -1,6 +1,6 @@
 // The netlist of each realisation, in its parts.
 ghost use Rattle.std.specs.Prelude.{◌≡◌, ◌≤◌, ◌+◌, length, IfOk};
-ghost use Rattle.dsv_quantiser.specs.declared.kind.Kind.TheVariants.{Dfi, Dfii, Tdfii, Ddfi, Ddfii, Tddfii};
+ghost use Rattle.dsv_names.specs.declared.realisation.Realisation.TheVariants.{Dfi, Dfii, Tdfii, Ddfi, Ddfii, Tddfii};
 ghost use Rattle.dsv_realise.specs.Netlists.{net_as, count, transposed_form, transposed_nodes, transposed_delta_nodes};
 ghost use Rattle.dsv_meaning.specs.Equations.{order};
 ghost use Rattle.dsv_realise.specs.Making.{with_delta};

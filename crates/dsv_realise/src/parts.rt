@@ -3,7 +3,7 @@ use dsv_netlist::Node;
 
 /// Nodes, and the number of the one that has a line's value.
 #[derive(Drop)]
-pub(crate) struct Form {
+pub(crate) struct BuiltLine {
     pub(crate) nodes: Vec<Node>,
     pub(crate) place: u32,
 }

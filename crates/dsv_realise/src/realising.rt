@@ -12,31 +12,32 @@ use crate::kinds::{
 };
 use crate::parts::Parts;
 use dsv_base::NoMemory;
+use dsv_names::Realisation;
 use dsv_netlist::Netlist;
-use dsv_quantiser::{Kind, Quantised};
+use dsv_quantiser::Quantised;
 use std::alloc::Global;
 
 /// How many of the first registers are feed-forward.
-fn forward_registers(kind: Kind, order: u32) -> u32
-    ensures { result ≡ forward_registers_of kind order }
+fn forward_registers(realisation: Realisation, order: u32) -> u32
+    ensures { result ≡ forward_registers_of realisation order }
 {
-    match kind {
-        Kind::Dfi | Kind::Ddfi => order,
-        Kind::Dfii | Kind::Tdfii | Kind::Ddfii | Kind::Tddfii => 0,
+    match realisation {
+        Realisation::Dfi | Realisation::Ddfi => order,
+        Realisation::Dfii | Realisation::Tdfii | Realisation::Ddfii | Realisation::Tddfii => 0,
     }
 }
 
 /// The parts of the netlist of a controller in words.
 fn parts(alloc: Global, q: &Quantised) -> Result<Parts, NoMemory>
-    ensures { IfOk result (λ parts. parts_as q.now.kind q.now parts ≡ net_of q.now) }
+    ensures { IfOk result (λ parts. parts_as q.now.realisation q.now parts ≡ net_of q.now) }
 {
-    match q.kind() {
-        Kind::Dfi => direct_form_one(alloc, q),
-        Kind::Dfii => direct_form_two(alloc, q),
-        Kind::Tdfii => transposed_form_two(alloc, q),
-        Kind::Ddfi => delta_form_one(alloc, q),
-        Kind::Ddfii => delta_form_two(alloc, q),
-        Kind::Tddfii => transposed_delta_form_two(alloc, q),
+    match q.realisation() {
+        Realisation::Dfi => direct_form_one(alloc, q),
+        Realisation::Dfii => direct_form_two(alloc, q),
+        Realisation::Tdfii => transposed_form_two(alloc, q),
+        Realisation::Ddfi => delta_form_one(alloc, q),
+        Realisation::Ddfii => delta_form_two(alloc, q),
+        Realisation::Tddfii => transposed_delta_form_two(alloc, q),
     }
 }
 
@@ -46,16 +47,16 @@ fn parts(alloc: Global, q: &Quantised) -> Result<Parts, NoMemory>
 pub fn realise(alloc: Global, q: &Quantised) -> Result<Netlist, NoMemory>
     ensures net { IfOk result (λ net. net ≡ net_of q.now) }
     ensures runs { IfOk result (RunsAre q.now) }
-    ensures counts { IfOk result (λ net. counts_of net ≡ counts_as q.now.kind (order q.now)) }
-    ensures forward { IfOk result (λ net. net.past_inputs ≡ forward_registers_of q.now.kind (order q.now)) }
+    ensures counts { IfOk result (λ net. counts_of net ≡ counts_as q.now.realisation (order q.now)) }
+    ensures forward { IfOk result (λ net. net.feed_forward ≡ forward_registers_of q.now.realisation (order q.now)) }
 {
     let parts = parts(alloc, q)?;
-    let past_inputs = forward_registers(q.kind(), q.order() as u32);
+    let feed_forward = forward_registers(q.realisation(), q.order() as u32);
     let net = Netlist::new(
         parts.nodes,
         parts.next,
         parts.output,
-        past_inputs,
+        feed_forward,
         q.format(),
     );
     Ok(net.unwrap())

@@ -1,9 +1,10 @@
 // Expected values are worked out by hand from the written equations.
 use super::*;
+use dsv_names::{OverflowMode, Realisation, Rounding};
 use dsv_netlist::{ExactList, Netlist, OpCounts};
-use dsv_quantiser::{Kind, quantise};
+use dsv_quantiser::quantise;
 use dsv_reader::read;
-use dsv_word::{Format, Overflow, Rounding};
+use dsv_word::Format;
 use std::alloc::Global;
 use std::test::Fail;
 
@@ -29,13 +30,13 @@ implementation r = { .int_bits = 3, .frac_bits = 4, .max = 1.0, .min = -1.0 };
 fn netlist(
     alloc: Global,
     file: &str,
-    kind: Kind,
+    realisation: Realisation,
     bits: (u32, u32),
-    overflow: Overflow,
+    overflow: OverflowMode,
 ) -> Result<Netlist, Fail> {
     let controller = read(alloc, file.as_bytes())?;
     let format = Format::new(bits.0, bits.1, Rounding::Floor, overflow)?;
-    let q = quantise(&controller, format, kind)?;
+    let q = quantise(&controller, format, realisation)?;
     Ok(realise(alloc, &q)?)
 }
 
@@ -56,15 +57,15 @@ fn stepped(net: &Netlist, registers: &mut [i64], x: i64) -> Result<(i64, ExactLi
 #[test]
 fn sizes_of_order_one(rt: HostRuntime) -> Result<(), Fail> {
     let alloc = rt.alloc();
-    for (kind, nodes, products, sums, moves, past_inputs) in [
-        (Kind::Dfi, 16, 3, 2, 2, 1),
-        (Kind::Dfii, 15, 3, 2, 1, 0),
-        (Kind::Tdfii, 15, 3, 2, 1, 0),
-        (Kind::Ddfi, 26, 5, 4, 2, 1),
-        (Kind::Ddfii, 20, 4, 3, 1, 0),
-        (Kind::Tddfii, 20, 4, 3, 1, 0),
+    for (realisation, nodes, products, sums, moves, feed_forward) in [
+        (Realisation::Dfi, 16, 3, 2, 2, 1),
+        (Realisation::Dfii, 15, 3, 2, 1, 0),
+        (Realisation::Tdfii, 15, 3, 2, 1, 0),
+        (Realisation::Ddfi, 26, 5, 4, 2, 1),
+        (Realisation::Ddfii, 20, 4, 3, 1, 0),
+        (Realisation::Tddfii, 20, 4, 3, 1, 0),
     ] {
-        let net = netlist(alloc, DELTA, kind, (3, 4), Overflow::Wrap)?;
+        let net = netlist(alloc, DELTA, realisation, (3, 4), OverflowMode::Wrap)?;
         let counts = OpCounts {
             products,
             sums,
@@ -72,7 +73,7 @@ fn sizes_of_order_one(rt: HostRuntime) -> Result<(), Fail> {
         };
         assert_eq!(rt; net.len(), nodes);
         assert_eq!(rt; net.counts(), counts);
-        assert_eq!(rt; net.past_inputs(), past_inputs);
+        assert_eq!(rt; net.feed_forward(), feed_forward);
     }
     Ok(())
 }
@@ -80,8 +81,8 @@ fn sizes_of_order_one(rt: HostRuntime) -> Result<(), Fail> {
 #[test]
 fn direct_form_one_of_order_one(rt: HostRuntime) -> Result<(), Fail> {
     let alloc = rt.alloc();
-    for (overflow, last) in [(Overflow::Wrap, -8), (Overflow::Saturate, 7)] {
-        let net = netlist(alloc, DIRECT, Kind::Dfi, (2, 2), overflow)?;
+    for (overflow, last) in [(OverflowMode::Wrap, -8), (OverflowMode::Saturate, 7)] {
+        let net = netlist(alloc, DIRECT, Realisation::Dfi, (2, 2), overflow)?;
         let mut registers = [0, 0];
         let (y, exact) = stepped(&net, &mut registers, 4)?;
         assert_eq!(rt; y, 4);
@@ -99,9 +100,9 @@ fn transposed_form_of_order_two(rt: HostRuntime) -> Result<(), Fail> {
     let net = netlist(
         rt.alloc(),
         SECOND_ORDER,
-        Kind::Tdfii,
+        Realisation::Tdfii,
         (3, 4),
-        Overflow::Wrap,
+        OverflowMode::Wrap,
     )?;
     let mut registers = [0, 0];
     for (x, y, exact, after) in [
@@ -119,7 +120,13 @@ fn transposed_form_of_order_two(rt: HostRuntime) -> Result<(), Fail> {
 
 #[test]
 fn delta_form_two_of_order_one(rt: HostRuntime) -> Result<(), Fail> {
-    let net = netlist(rt.alloc(), DELTA, Kind::Ddfii, (3, 4), Overflow::Wrap)?;
+    let net = netlist(
+        rt.alloc(),
+        DELTA,
+        Realisation::Ddfii,
+        (3, 4),
+        OverflowMode::Wrap,
+    )?;
     let mut registers = [0];
     for (x, y, exact) in [
         (16, 0, [0, 16, 0, 0, 0, 8, 8]),

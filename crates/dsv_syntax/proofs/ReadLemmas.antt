@@ -2,11 +2,11 @@
 use Rattle.std.proofs.Common.{◌≡◌, ℕ, ◌+◌, ◌-◌, ◌≤◌, ◌==◌, true, false, List, [], ◌∷◌, ◌++◌, Some, refl, sym, ap, ◌∙◌, arith, append_assoc, append-nil}
 use Rattle.std.specs.Prelude.{Ok}
 use Rattle.std.proofs.lemmas.Bool.Decides.{nat_tests}
-use Rattle.dsv_token.specs.declared.refusal.Field.TheVariants as field
-use Rattle.dsv_token.specs.declared.token.Block.{Block}
+use Rattle.dsv_names.specs.declared.field.Field.TheVariants as field
+use Rattle.dsv_names.specs.declared.block.Block.{Block}
 use Rattle.dsv_token.specs.declared.token.Word.TheVariants as word
-use Rattle.dsv_token.specs.declared.token.Kind.{Kind}
-use Rattle.dsv_token.specs.declared.token.Kind.TheVariants as kind
+use Rattle.dsv_token.specs.declared.token.TokenKind.{TokenKind}
+use Rattle.dsv_token.specs.declared.token.TokenKind.TheVariants as kind
 use Rattle.dsv_token.specs.declared.token.Token.{Token}
 use Rattle.dsv_syntax.specs.declared.entry.Label.{Label}
 use Rattle.dsv_syntax.specs.declared.entry.Label.TheVariants as label
@@ -34,7 +34,7 @@ numbers_read ts ns rest (Numbers.more n t us os r e f h) end b c es l dot at ms 
     ∙ ap (λ xs. parsed_from end (behind b c es (entry l dot at xs)) r) (append_assoc ms (n ∷ []) os)
 
 -- a mark in a group is passed over
-pub mark_passes : (k : Kind) (t : Token) (p : Parser) → is_mark k ≡ true → group k t p ≡ Ok p
+pub mark_passes : (k : TokenKind) (t : Token) (p : Parser) → is_mark k ≡ true → group k t p ≡ Ok p
 mark_passes kind.Open t p e = absurd (cc)
 mark_passes kind.Close t p e = absurd (cc)
 mark_passes kind.Number t p e = absurd (cc)

@@ -1,8 +1,8 @@
 -- What was read of a file, at the places of the grammar.
 use Rattle.std.proofs.Common.{◌≡◌, ℕ, List, [], ◌∷◌, ◌++◌, ap, ◌∙◌}
 use Rattle.std.specs.Prelude.{Ok}
-use Rattle.dsv_token.specs.declared.token.Block.{Block}
-use Rattle.dsv_token.specs.declared.token.Kind.{Kind}
+use Rattle.dsv_names.specs.declared.block.Block.{Block}
+use Rattle.dsv_token.specs.declared.token.TokenKind.{TokenKind}
 use Rattle.dsv_token.specs.declared.token.Token.{Token}
 use Rattle.dsv_syntax.specs.declared.entry.Label.{Label}
 use Rattle.dsv_syntax.specs.declared.entry.Entry.{Entry}
@@ -29,5 +29,5 @@ abbrev pub behind : Block → Closed → List Entry → Entry → Parser
 behind b c es e = between place.FieldComma b c (es ++ e ∷ [])
 
 -- a token that goes on
-pub goes : (end : ℕ) (p q : Parser) (t : Token) (ts : List Token) (k : Kind) → t.kind ≡ k → step_at p.place k t p ≡ Ok q → parsed_from end p (t ∷ ts) ≡ parsed_from end q ts
+pub goes : (end : ℕ) (p q : Parser) (t : Token) (ts : List Token) (k : TokenKind) → t.kind ≡ k → step_at p.place k t p ≡ Ok q → parsed_from end p (t ∷ ts) ≡ parsed_from end q ts
 goes end p q t ts k e f = ap (λ x. step_at p.place x t p >>= λ r. parsed_from end r ts) e ∙ ap (λ x. x >>= λ r. parsed_from end r ts) f

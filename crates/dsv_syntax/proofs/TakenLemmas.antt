@@ -2,13 +2,13 @@
 use Rattle.std.proofs.Common.{◌≡◌, ℕ, zero, suc, ◌+◌, ◌≤◌, ◌<◌, ◌==◌, Bool, true, false, List, [], ◌∷◌, ◌++◌, length, Option, Some, None, refl, sym, ap, subst, ◌∙◌, arith, append_assoc, append-nil}
 use Rattle.std.specs.Prelude.{Result, Ok}
 use Rattle.dsv_token.specs.declared.refusal.FileRefusal.{FileRefusal}
-use Rattle.dsv_token.specs.declared.refusal.Field.TheVariants as field
-use Rattle.dsv_token.specs.declared.token.Block.{Block}
-use Rattle.dsv_token.specs.declared.token.Block.TheVariants as block
+use Rattle.dsv_names.specs.declared.field.Field.TheVariants as field
+use Rattle.dsv_names.specs.declared.block.Block.{Block}
+use Rattle.dsv_names.specs.declared.block.Block.TheVariants as block
 use Rattle.dsv_token.specs.declared.token.Word.{Word}
 use Rattle.dsv_token.specs.declared.token.Word.TheVariants as word
-use Rattle.dsv_token.specs.declared.token.Kind.{Kind}
-use Rattle.dsv_token.specs.declared.token.Kind.TheVariants as kind
+use Rattle.dsv_token.specs.declared.token.TokenKind.{TokenKind}
+use Rattle.dsv_token.specs.declared.token.TokenKind.TheVariants as kind
 use Rattle.dsv_token.specs.declared.token.Token.{Token}
 use Rattle.dsv_syntax.specs.declared.entry.Label.{Label}
 use Rattle.dsv_syntax.specs.declared.entry.Label.TheVariants as label
@@ -80,14 +80,14 @@ with_comma end b c es l dot at ms t r out e h = record {
   shorter = let s = h.shorter in omega arith;
 }
 
-number_by : (end : ℕ) (b : Block) (c : Closed) (es : List Entry) (l : Label) (dot at : ℕ) (ms : List Token) (d : ℕ) (t : Token) (r : List Token) (out : Syntax) (k : Kind) → t.kind ≡ k →
+number_by : (end : ℕ) (b : Block) (c : Closed) (es : List Entry) (l : Label) (dot at : ℕ) (ms : List Token) (d : ℕ) (t : Token) (r : List Token) (out : Syntax) (k : TokenKind) → t.kind ≡ k →
     (parsed_from end (within place.ListComma b c es (entry l dot at (ms ++ t ∷ [])) d) r ≡ Ok out → NumbersTaken end b c es l dot at (ms ++ t ∷ []) true r out) →
     (list_number k t (within place.ListNumber b c es (entry l dot at ms) d) >>= next end r) ≡ Ok out → NumbersTaken end b c es l dot at ms false (t ∷ r) out
 number_by end b c es l dot at ms d t r out kind.Number e ih h = with_number end b c es l dot at ms t r out e (ih h)
 number_by end b c es l dot at ms d t r out kind.Close e ih h = list_ends end b c es l dot at ms false t r out e h
 number_by end b c es l dot at ms d t r out k e ih h = absurd (cc)
 
-comma_by : (end : ℕ) (b : Block) (c : Closed) (es : List Entry) (l : Label) (dot at : ℕ) (ms : List Token) (d : ℕ) (t : Token) (r : List Token) (out : Syntax) (k : Kind) → t.kind ≡ k →
+comma_by : (end : ℕ) (b : Block) (c : Closed) (es : List Entry) (l : Label) (dot at : ℕ) (ms : List Token) (d : ℕ) (t : Token) (r : List Token) (out : Syntax) (k : TokenKind) → t.kind ≡ k →
     (parsed_from end (within place.ListNumber b c es (entry l dot at ms) d) r ≡ Ok out → NumbersTaken end b c es l dot at ms false r out) →
     (list_comma k t (within place.ListComma b c es (entry l dot at ms) d) >>= next end r) ≡ Ok out → NumbersTaken end b c es l dot at ms true (t ∷ r) out
 comma_by end b c es l dot at ms d t r out kind.Comma e ih h = with_comma end b c es l dot at ms t r out e (ih h)
@@ -166,7 +166,7 @@ group_inside fuel end b c es l dot at ms k t r out few deep e ih i =
     group_nested end b c es l dot at ms k t r out e i (ih i.rest (ms ++ i.ns) k (omega arith) deep g)
 
 group_by : (fuel end : ℕ) (b : Block) (c : Closed) (es : List Entry) (l : Label) (dot at : ℕ) (ms : List Token) (k : ℕ) (t : Token) (r : List Token) (out : Syntax) → length r ≤ fuel → 1 ≤ k →
-    (x : Kind) → t.kind ≡ x → GroupsTaken fuel end b c es l dot at out →
+    (x : TokenKind) → t.kind ≡ x → GroupsTaken fuel end b c es l dot at out →
     (group x t (within place.Group b c es (entry l dot at ms) k) >>= next end r) ≡ Ok out → GroupTaken end b c es l dot at ms k (t ∷ r) out
 group_by fuel end b c es l dot at ms k t r out few deep kind.Open e ih h =
     group_inside fuel end b c es l dot at ms k t r out few deep e ih (ih r ms (k + 1) few (omega arith) h)
@@ -201,7 +201,7 @@ list_found end b c es l dot t r out e f h = record {
   shorter = let s = h.shorter in omega arith;
 }
 
-list_by : (end : ℕ) (b : Block) (c : Closed) (es : List Entry) (l : Label) (dot : ℕ) (t : Token) (r : List Token) (out : Syntax) → is_list l ≡ true → (k : Kind) → t.kind ≡ k →
+list_by : (end : ℕ) (b : Block) (c : Closed) (es : List Entry) (l : Label) (dot : ℕ) (t : Token) (r : List Token) (out : Syntax) → is_list l ≡ true → (k : TokenKind) → t.kind ≡ k →
     (list_open k t (within place.ListOpen b c es (entry l dot 0 []) 0) >>= next end r) ≡ Ok out → ValueTaken end b c es l dot (t ∷ r) out
 list_by end b c es l dot t r out e kind.Open f h = list_found end b c es l dot t r out e f (numbers_taken r end b c es l dot t.at [] 0 false out h)
 list_by end b c es l dot t r out e k f h = absurd (cc)
@@ -211,7 +211,7 @@ list_taken : (end : ℕ) (b : Block) (c : Closed) (es : List Entry) (l : Label) 
 list_taken end b c es l dot [] out e h = absurd (cc)
 list_taken end b c es l dot (t ∷ r) out e h = list_by end b c es l dot t r out e t.kind refl h
 
-alone_by : (end : ℕ) (b : Block) (c : Closed) (es : List Entry) (l : Label) (dot : ℕ) (t : Token) (r : List Token) (out : Syntax) → is_alone l ≡ true → (k : Kind) → t.kind ≡ k →
+alone_by : (end : ℕ) (b : Block) (c : Closed) (es : List Entry) (l : Label) (dot : ℕ) (t : Token) (r : List Token) (out : Syntax) → is_alone l ≡ true → (k : TokenKind) → t.kind ≡ k →
     (number k t (within place.Number b c es (entry l dot 0 []) 0) >>= next end r) ≡ Ok out → ValueTaken end b c es l dot (t ∷ r) out
 alone_by end b c es l dot t r out e kind.Number f h = record { at = t.at; ns = t ∷ []; rest = r; grammar = Value.alone l t r e f; goes_on = h; shorter = omega arith }
 alone_by end b c es l dot t r out e k f h = absurd (cc)
@@ -232,7 +232,7 @@ passed_group end b c es dot t r out e h = record {
   shorter = let s = h.shorter in omega arith;
 }
 
-passed_by : (end : ℕ) (b : Block) (c : Closed) (es : List Entry) (dot : ℕ) (t : Token) (r : List Token) (out : Syntax) (k : Kind) → t.kind ≡ k →
+passed_by : (end : ℕ) (b : Block) (c : Closed) (es : List Entry) (dot : ℕ) (t : Token) (r : List Token) (out : Syntax) (k : TokenKind) → t.kind ≡ k →
     (value k t (within place.Value b c es (entry label.Passed dot 0 []) 0) >>= next end r) ≡ Ok out → ValueTaken end b c es label.Passed dot (t ∷ r) out
 passed_by end b c es dot t r out kind.Number f h = record { at = t.at; ns = t ∷ []; rest = r; grammar = Value.passed_number t r f; goes_on = h; shorter = omega arith }
 passed_by end b c es dot t r out (kind.Name w) f h = record { at = t.at; ns = []; rest = r; grammar = Value.passed_name w t r f; goes_on = h; shorter = omega arith }
@@ -270,7 +270,7 @@ field_found end b c es l d n e r out i j m h = record {
   shorter = let s = h.shorter in omega arith;
 }
 
-equals_by : (end : ℕ) (b : Block) (c : Closed) (es : List Entry) (l : Label) (d n e : Token) (r : List Token) (out : Syntax) → d.kind ≡ kind.Dot → label_of b n.kind ≡ Some l → (k : Kind) → e.kind ≡ k →
+equals_by : (end : ℕ) (b : Block) (c : Closed) (es : List Entry) (l : Label) (d n e : Token) (r : List Token) (out : Syntax) → d.kind ≡ kind.Dot → label_of b n.kind ≡ Some l → (k : TokenKind) → e.kind ≡ k →
     (field_equals k e (within place.FieldEquals b c es (entry l d.at 0 []) 0) >>= next end r) ≡ Ok out → FieldTaken end b c es (d ∷ n ∷ e ∷ r) out
 equals_by end b c es l d n e r out i j kind.Equals m h = field_found end b c es l d n e r out i j m (value_taken end b c es l d.at r out h)
 equals_by end b c es l d n e r out i j k m h = absurd (cc)
@@ -329,7 +329,7 @@ more_fields end b c es ts f t r out i less e h = record {
 }
 
 behind_by : (fuel end : ℕ) (b : Block) (c : Closed) (es : List Entry) (ts : List Token) (f : Entry) (t : Token) (r : List Token) (out : Syntax) → IsField b ts f (t ∷ r) → length (t ∷ r) < length ts → length r ≤ fuel →
-    AllFieldsTaken fuel end b c out → (k : Kind) → t.kind ≡ k → (field_comma k t (behind b c es f) >>= next end r) ≡ Ok out → FieldsTaken end b c es ts out
+    AllFieldsTaken fuel end b c out → (k : TokenKind) → t.kind ≡ k → (field_comma k t (behind b c es f) >>= next end r) ≡ Ok out → FieldsTaken end b c es ts out
 behind_by fuel end b c es ts f t r out i less few ih kind.Comma e h = more_fields end b c es ts f t r out i less e (ih r (es ++ f ∷ []) few h)
 behind_by fuel end b c es ts f t r out i less few ih kind.Close e h = last_field end b c es ts f t r out i less e h
 behind_by fuel end b c es ts f t r out i less few ih k e h = absurd (cc)
@@ -339,7 +339,7 @@ behind_field : (fuel end : ℕ) (b : Block) (c : Closed) (es : List Entry) (ts :
 behind_field fuel end b c es ts f [] out i less few ih h = absurd (cc)
 behind_field fuel end b c es ts f (t ∷ r) out i less few ih h = behind_by fuel end b c es ts f t r out i less (omega arith) ih t.kind refl h
 
-fields_by : (fuel end : ℕ) (b : Block) (c : Closed) (es : List Entry) (t : Token) (r : List Token) (out : Syntax) → length (t ∷ r) ≤ suc fuel → AllFieldsTaken fuel end b c out → (k : Kind) → t.kind ≡ k →
+fields_by : (fuel end : ℕ) (b : Block) (c : Closed) (es : List Entry) (t : Token) (r : List Token) (out : Syntax) → length (t ∷ r) ≤ suc fuel → AllFieldsTaken fuel end b c out → (k : TokenKind) → t.kind ≡ k →
     (field_dot k t (between place.FieldDot b c es) >>= next end r) ≡ Ok out → FieldsTaken end b c es (t ∷ r) out
 fields_by fuel end b c es t r out few ih kind.Dot e h =
     let f = behind_dot end b c es t r out e h in behind_field fuel end b c es (t ∷ r) f.found f.rest out f.grammar f.shorter few ih f.goes_on
@@ -363,7 +363,7 @@ record BlockTaken (end : ℕ) (c : Closed) (es : List Entry) (ts : List Token) (
   pub shorter : length rest < length ts
 
 block_found : (end : ℕ) (b : Block) (c : Closed) (es : List Entry) (w : Word) (k n e o s : Token) (ts r : List Token) (fs : List Entry) (at : ℕ) (out : Syntax) → is_closed b c ≡ false →
-    k.kind ≡ kind.Name (word.Block b) → n.kind ≡ kind.Name w → e.kind ≡ kind.Equals → o.kind ≡ kind.Open → Fields b ts fs at (s ∷ r) → length (s ∷ r) < length ts → (x : Kind) → s.kind ≡ x →
+    k.kind ≡ kind.Name (word.Block b) → n.kind ≡ kind.Name w → e.kind ≡ kind.Equals → o.kind ≡ kind.Open → Fields b ts fs at (s ∷ r) → length (s ∷ r) < length ts → (x : TokenKind) → s.kind ≡ x →
     (semicolon x s (between place.Semicolon b (with_close b at c) (es ++ fs)) >>= next end r) ≡ Ok out → BlockTaken end c es (k ∷ n ∷ e ∷ o ∷ ts) out
 block_found end b c es w k n e o s ts r fs at out free h i j m g less kind.Semicolon u f =
     record { b = b; fs = fs; at = at; rest = r; free = free; grammar = IsBlock.block b w k n e o s ts r fs at h i j m g u; goes_on = f; shorter = omega arith }
@@ -376,7 +376,7 @@ behind_fields end b c es w k n e o ts [] fs at out free h i j m g less f = absur
 behind_fields end b c es w k n e o ts (s ∷ r) fs at out free h i j m g less f = block_found end b c es w k n e o s ts r fs at out free h i j m g less s.kind refl f
 
 open_by : (end : ℕ) (b : Block) (c : Closed) (es : List Entry) (w : Word) (k n e o : Token) (r : List Token) (out : Syntax) → is_closed b c ≡ false →
-    k.kind ≡ kind.Name (word.Block b) → n.kind ≡ kind.Name w → e.kind ≡ kind.Equals → (x : Kind) → o.kind ≡ x →
+    k.kind ≡ kind.Name (word.Block b) → n.kind ≡ kind.Name w → e.kind ≡ kind.Equals → (x : TokenKind) → o.kind ≡ x →
     (block_open x o (between place.BlockOpen b c es) >>= next end r) ≡ Ok out → BlockTaken end c es (k ∷ n ∷ e ∷ o ∷ r) out
 open_by end b c es w k n e o r out free h i j kind.Open m f =
     let g = fields_taken (length r) end b c out r es (omega arith) f in behind_fields end b c es w k n e o r g.rest g.fs g.at out free h i j m g.grammar g.shorter g.goes_on
@@ -388,7 +388,7 @@ behind_equals end b c es w k n e [] out free h i j f = absurd (cc)
 behind_equals end b c es w k n e (o ∷ r) out free h i j f = open_by end b c es w k n e o r out free h i j o.kind refl f
 
 block_equals_by : (end : ℕ) (b : Block) (c : Closed) (es : List Entry) (w : Word) (k n e : Token) (r : List Token) (out : Syntax) → is_closed b c ≡ false →
-    k.kind ≡ kind.Name (word.Block b) → n.kind ≡ kind.Name w → (x : Kind) → e.kind ≡ x →
+    k.kind ≡ kind.Name (word.Block b) → n.kind ≡ kind.Name w → (x : TokenKind) → e.kind ≡ x →
     (block_equals x e (between place.BlockEquals b c es) >>= next end r) ≡ Ok out → BlockTaken end c es (k ∷ n ∷ e ∷ r) out
 block_equals_by end b c es w k n e r out free h i kind.Equals j f = behind_equals end b c es w k n e r out free h i j f
 block_equals_by end b c es w k n e r out free h i x j f = absurd (cc)
@@ -398,7 +398,7 @@ behind_block_name : (end : ℕ) (b : Block) (c : Closed) (es : List Entry) (w : 
 behind_block_name end b c es w k n [] out free h i f = absurd (cc)
 behind_block_name end b c es w k n (e ∷ r) out free h i f = block_equals_by end b c es w k n e r out free h i e.kind refl f
 
-block_name_by : (end : ℕ) (b : Block) (c : Closed) (es : List Entry) (k n : Token) (r : List Token) (out : Syntax) → is_closed b c ≡ false → k.kind ≡ kind.Name (word.Block b) → (x : Kind) → n.kind ≡ x →
+block_name_by : (end : ℕ) (b : Block) (c : Closed) (es : List Entry) (k n : Token) (r : List Token) (out : Syntax) → is_closed b c ≡ false → k.kind ≡ kind.Name (word.Block b) → (x : TokenKind) → n.kind ≡ x →
     (block_name x n (between place.BlockName b c es) >>= next end r) ≡ Ok out → BlockTaken end c es (k ∷ n ∷ r) out
 block_name_by end b c es k n r out free h (kind.Name w) i f = behind_block_name end b c es w k n r out free h i f
 block_name_by end b c es k n r out free h x i f = absurd (cc)
@@ -418,7 +418,7 @@ word_by : (end : ℕ) (a : Block) (c : Closed) (es : List Entry) (k : Token) (r 
 word_by end a c es k r out (word.Block b) h f = declared_by end a b c es k r out h (is_closed b c) refl f
 word_by end a c es k r out w h f = absurd (cc)
 
-declaration_by : (end : ℕ) (a : Block) (c : Closed) (es : List Entry) (k : Token) (r : List Token) (out : Syntax) (x : Kind) → k.kind ≡ x →
+declaration_by : (end : ℕ) (a : Block) (c : Closed) (es : List Entry) (k : Token) (r : List Token) (out : Syntax) (x : TokenKind) → k.kind ≡ x →
     (declaration x k (between place.Declaration a c es) >>= next end r) ≡ Ok out → BlockTaken end c es (k ∷ r) out
 declaration_by end a c es k r out (kind.Name w) h f = word_by end a c es k r out w h f
 declaration_by end a c es k r out x h f = absurd (cc)

@@ -12,10 +12,10 @@
 -- Each type below says of a list of tokens that a part of the file stands at its front, and which tokens are left
 -- behind it.
 use Rattle.std.specs.Prelude.{◌≡◌, ℕ, true, false, List, [], ◌∷◌, ◌++◌, Some}
-use Rattle.dsv_token.specs.declared.token.Block.{Block}
+use Rattle.dsv_names.specs.declared.block.Block.{Block}
 use Rattle.dsv_token.specs.declared.token.Word.{Word}
 use Rattle.dsv_token.specs.declared.token.Word.TheVariants as word
-use Rattle.dsv_token.specs.declared.token.Kind.TheVariants as kind
+use Rattle.dsv_token.specs.declared.token.TokenKind.TheVariants as kind
 use Rattle.dsv_token.specs.declared.token.Token.{Token}
 use Rattle.dsv_syntax.specs.declared.entry.Label.{Label}
 use Rattle.dsv_syntax.specs.declared.entry.Label.TheVariants as label

@@ -2,16 +2,16 @@
 use Rattle.std.specs.Prelude.{ℕ, ◌+◌, ◌-◌, ◌==◌, Bool, true, false, List, [], ◌∷◌, ◌++◌, Result, Ok, Err, Option, Some, None, is_some, if◌then◌else◌}
 use Rattle.dsv_token.specs.declared.refusal.FileRefusal.{FileRefusal}
 use Rattle.dsv_token.specs.declared.refusal.FileRefusal.TheVariants as refusal
-use Rattle.dsv_token.specs.declared.refusal.Field.{Field}
-use Rattle.dsv_token.specs.declared.refusal.Field.TheVariants as field
-use Rattle.dsv_token.specs.declared.refusal.Wanted.{Wanted}
-use Rattle.dsv_token.specs.declared.refusal.Wanted.TheVariants as wanted
-use Rattle.dsv_token.specs.declared.token.Block.{Block}
-use Rattle.dsv_token.specs.declared.token.Block.TheVariants as block
+use Rattle.dsv_names.specs.declared.field.Field.{Field}
+use Rattle.dsv_names.specs.declared.field.Field.TheVariants as field
+use Rattle.dsv_names.specs.declared.wanted.Wanted.{Wanted}
+use Rattle.dsv_names.specs.declared.wanted.Wanted.TheVariants as wanted
+use Rattle.dsv_names.specs.declared.block.Block.{Block}
+use Rattle.dsv_names.specs.declared.block.Block.TheVariants as block
 use Rattle.dsv_token.specs.declared.token.Word.{Word}
 use Rattle.dsv_token.specs.declared.token.Word.TheVariants as word
-use Rattle.dsv_token.specs.declared.token.Kind.{Kind}
-use Rattle.dsv_token.specs.declared.token.Kind.TheVariants as kind
+use Rattle.dsv_token.specs.declared.token.TokenKind.{TokenKind}
+use Rattle.dsv_token.specs.declared.token.TokenKind.TheVariants as kind
 use Rattle.dsv_token.specs.declared.token.Token.{Token}
 use Rattle.dsv_syntax.specs.declared.entry.Label.{Label}
 use Rattle.dsv_syntax.specs.declared.entry.Label.TheVariants as label
@@ -41,7 +41,7 @@ label_named block.Hardware (word.Setting s) = Some (label.Setting s)
 label_named block.Hardware w = Some label.Passed
 label_named b w = None
 
-abbrev pub label_of : Block → Kind → Option Label
+abbrev pub label_of : Block → TokenKind → Option Label
 label_of b (kind.Name w) = label_named b w
 label_of b k = None
 
@@ -59,7 +59,7 @@ is_alone label.Passed = false
 is_alone l = true
 
 -- a token that is neither a brace nor a number
-abbrev pub is_mark : Kind → Bool
+abbrev pub is_mark : TokenKind → Bool
 is_mark kind.Open = false
 is_mark kind.Close = false
 is_mark kind.Number = false
@@ -108,23 +108,23 @@ abbrev pub declared : Bool → Block → Token → Parser → Result Parser File
 declared true b t p = unexpected t wanted.Declaration
 declared false b t p = Ok (record p { place = place.BlockName; block = b })
 
-abbrev pub declaration : Kind → Token → Parser → Result Parser FileRefusal
+abbrev pub declaration : TokenKind → Token → Parser → Result Parser FileRefusal
 declaration (kind.Name (word.Block b)) t p = declared (is_closed b p.closed) b t p
 declaration k t p = unexpected t wanted.Declaration
 
-abbrev pub block_name : Kind → Token → Parser → Result Parser FileRefusal
+abbrev pub block_name : TokenKind → Token → Parser → Result Parser FileRefusal
 block_name (kind.Name w) t p = Ok (record p { place = place.BlockEquals })
 block_name k t p = unexpected t wanted.Name
 
-abbrev pub block_equals : Kind → Token → Parser → Result Parser FileRefusal
+abbrev pub block_equals : TokenKind → Token → Parser → Result Parser FileRefusal
 block_equals kind.Equals t p = Ok (record p { place = place.BlockOpen })
 block_equals k t p = unexpected t wanted.Equals
 
-abbrev pub block_open : Kind → Token → Parser → Result Parser FileRefusal
+abbrev pub block_open : TokenKind → Token → Parser → Result Parser FileRefusal
 block_open kind.Open t p = Ok (record p { place = place.FieldDot })
 block_open k t p = unexpected t wanted.Open
 
-abbrev pub field_dot : Kind → Token → Parser → Result Parser FileRefusal
+abbrev pub field_dot : TokenKind → Token → Parser → Result Parser FileRefusal
 field_dot kind.Dot t p = Ok (record p { place = place.FieldName; entry = record p.entry { dot = t.at } })
 field_dot kind.Close t p = Ok (block_done t p)
 field_dot k t p = unexpected t wanted.FieldOrClose
@@ -133,7 +133,7 @@ abbrev pub labelled : Option Label → Token → Parser → Result Parser FileRe
 labelled (Some l) t p = Ok (record p { place = place.FieldEquals; entry = record p.entry { label = l } })
 labelled None t p = unexpected t wanted.FieldName
 
-abbrev pub field_name : Kind → Token → Parser → Result Parser FileRefusal
+abbrev pub field_name : TokenKind → Token → Parser → Result Parser FileRefusal
 field_name k t p = labelled (label_of p.block k) t p
 
 -- where the value of a field begins
@@ -143,29 +143,29 @@ value_place (label.Field field.A) = place.ListOpen
 value_place label.Passed = place.Value
 value_place l = place.Number
 
-abbrev pub field_equals : Kind → Token → Parser → Result Parser FileRefusal
+abbrev pub field_equals : TokenKind → Token → Parser → Result Parser FileRefusal
 field_equals kind.Equals t p = Ok (record p { place = value_place p.entry.label })
 field_equals k t p = unexpected t wanted.Equals
 
-abbrev pub list_open : Kind → Token → Parser → Result Parser FileRefusal
+abbrev pub list_open : TokenKind → Token → Parser → Result Parser FileRefusal
 list_open kind.Open t p = Ok (record p { place = place.ListNumber; entry = begun t.at [] p.entry })
 list_open k t p = unexpected t wanted.Open
 
-abbrev pub list_number : Kind → Token → Parser → Result Parser FileRefusal
+abbrev pub list_number : TokenKind → Token → Parser → Result Parser FileRefusal
 list_number kind.Number t p = Ok (record p { place = place.ListComma; entry = with_number t p.entry })
 list_number kind.Close t p = Ok (field_done p)
 list_number k t p = unexpected t wanted.NumberOrClose
 
-abbrev pub list_comma : Kind → Token → Parser → Result Parser FileRefusal
+abbrev pub list_comma : TokenKind → Token → Parser → Result Parser FileRefusal
 list_comma kind.Comma t p = Ok (record p { place = place.ListNumber })
 list_comma kind.Close t p = Ok (field_done p)
 list_comma k t p = unexpected t wanted.CommaOrClose
 
-abbrev pub number : Kind → Token → Parser → Result Parser FileRefusal
+abbrev pub number : TokenKind → Token → Parser → Result Parser FileRefusal
 number kind.Number t p = Ok (field_done (record p { entry = begun t.at (t ∷ []) p.entry }))
 number k t p = unexpected t wanted.Number
 
-abbrev pub value : Kind → Token → Parser → Result Parser FileRefusal
+abbrev pub value : TokenKind → Token → Parser → Result Parser FileRefusal
 value kind.Number t p = Ok (field_done (record p { entry = begun t.at (t ∷ []) p.entry }))
 value (kind.Name w) t p = Ok (field_done (record p { entry = begun t.at [] p.entry }))
 value kind.Open t p = Ok (record p { place = place.Group; depth = 1; entry = begun t.at [] p.entry })
@@ -176,22 +176,22 @@ abbrev pub group_closed : Bool → Parser → Parser
 group_closed true p = field_done p
 group_closed false p = record p { depth = p.depth - 1 }
 
-abbrev pub group : Kind → Token → Parser → Result Parser FileRefusal
+abbrev pub group : TokenKind → Token → Parser → Result Parser FileRefusal
 group kind.Open t p = Ok (record p { depth = p.depth + 1 })
 group kind.Close t p = Ok (group_closed (p.depth == 1) p)
 group kind.Number t p = Ok (record p { entry = with_number t p.entry })
 group k t p = Ok p
 
-abbrev pub field_comma : Kind → Token → Parser → Result Parser FileRefusal
+abbrev pub field_comma : TokenKind → Token → Parser → Result Parser FileRefusal
 field_comma kind.Comma t p = Ok (record p { place = place.FieldDot })
 field_comma kind.Close t p = Ok (block_done t p)
 field_comma k t p = unexpected t wanted.CommaOrClose
 
-abbrev pub semicolon : Kind → Token → Parser → Result Parser FileRefusal
+abbrev pub semicolon : TokenKind → Token → Parser → Result Parser FileRefusal
 semicolon kind.Semicolon t p = Ok (record p { place = place.Declaration })
 semicolon k t p = unexpected t wanted.Semicolon
 
-abbrev pub step_at : Place → Kind → Token → Parser → Result Parser FileRefusal
+abbrev pub step_at : Place → TokenKind → Token → Parser → Result Parser FileRefusal
 step_at place.Declaration k t p = declaration k t p
 step_at place.BlockName k t p = block_name k t p
 step_at place.BlockEquals k t p = block_equals k t p

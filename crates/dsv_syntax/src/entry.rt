@@ -1,5 +1,6 @@
 // Fields as they stand in a file.
-use dsv_token::{Field, FileRefusal, Setting, Tokens};
+use dsv_names::{Field, Setting};
+use dsv_token::{FileRefusal, Tokens};
 use std::alloc::Global;
 use std::marker::Model;
 

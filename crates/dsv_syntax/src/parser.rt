@@ -6,7 +6,8 @@ ghost use Rattle.dsv_syntax.specs.Parsing.{is_of_system, label_named, label_of, 
 
 use crate::entry::{Entries, Entry, Label};
 use crate::parsing::Syntax;
-use dsv_token::{Block, Field, FileRefusal, Kind, Token, Tokens, Wanted, Word};
+use dsv_names::{Block, Field, Wanted};
+use dsv_token::{FileRefusal, Token, TokenKind, Tokens, Word};
 use std::alloc::Global;
 use std::mem;
 
@@ -131,11 +132,11 @@ fn label_named(block: Block, word: Word) -> Option<Label>
     }
 }
 
-fn label_of(block: Block, kind: Kind) -> Option<Label>
+fn label_of(block: Block, kind: TokenKind) -> Option<Label>
     ensures { result ≡ label_of block kind }
 {
     match kind {
-        Kind::Name(word) => label_named(block, word),
+        TokenKind::Name(word) => label_named(block, word),
         _ => None,
     }
 }
@@ -286,7 +287,7 @@ impl Parser {
         ensures { result ≡ declaration token.kind token self }
     {
         match token.kind {
-            Kind::Name(Word::Block(block)) if !self.closed.has(block) => Ok(Parser {
+            TokenKind::Name(Word::Block(block)) if !self.closed.has(block) => Ok(Parser {
                 place: Place::BlockName,
                 block,
                 ..self
@@ -299,7 +300,7 @@ impl Parser {
         ensures { result ≡ block_name token.kind token self }
     {
         match token.kind {
-            Kind::Name(_) => Ok(self.at(Place::BlockEquals)),
+            TokenKind::Name(_) => Ok(self.at(Place::BlockEquals)),
             _ => Err(unexpected(token, Wanted::Name)),
         }
     }
@@ -308,7 +309,7 @@ impl Parser {
         ensures { result ≡ block_equals token.kind token self }
     {
         match token.kind {
-            Kind::Equals => Ok(self.at(Place::BlockOpen)),
+            TokenKind::Equals => Ok(self.at(Place::BlockOpen)),
             _ => Err(unexpected(token, Wanted::Equals)),
         }
     }
@@ -317,7 +318,7 @@ impl Parser {
         ensures { result ≡ block_open token.kind token self }
     {
         match token.kind {
-            Kind::Open => Ok(self.at(Place::FieldDot)),
+            TokenKind::Open => Ok(self.at(Place::FieldDot)),
             _ => Err(unexpected(token, Wanted::Open)),
         }
     }
@@ -326,7 +327,7 @@ impl Parser {
         ensures { result ≡ semicolon token.kind token self }
     {
         match token.kind {
-            Kind::Semicolon => Ok(self.at(Place::Declaration)),
+            TokenKind::Semicolon => Ok(self.at(Place::Declaration)),
             _ => Err(unexpected(token, Wanted::Semicolon)),
         }
     }
@@ -337,7 +338,7 @@ impl Parser {
         ensures { result ≡ field_dot token.kind token self }
     {
         match token.kind {
-            Kind::Dot => Ok(Parser {
+            TokenKind::Dot => Ok(Parser {
                 place: Place::FieldName,
                 entry: Entry {
                     dot: token.at,
@@ -345,7 +346,7 @@ impl Parser {
                 },
                 ..self
             }),
-            Kind::Close => Ok(self.block_done(token)),
+            TokenKind::Close => Ok(self.block_done(token)),
             _ => Err(unexpected(token, Wanted::FieldOrClose)),
         }
     }
@@ -371,7 +372,7 @@ impl Parser {
     {
         let place = value_place(self.entry.label);
         match token.kind {
-            Kind::Equals => Ok(self.at(place)),
+            TokenKind::Equals => Ok(self.at(place)),
             _ => Err(unexpected(token, Wanted::Equals)),
         }
     }
@@ -380,8 +381,8 @@ impl Parser {
         ensures { result ≡ field_comma token.kind token self }
     {
         match token.kind {
-            Kind::Comma => Ok(self.at(Place::FieldDot)),
-            Kind::Close => Ok(self.block_done(token)),
+            TokenKind::Comma => Ok(self.at(Place::FieldDot)),
+            TokenKind::Close => Ok(self.block_done(token)),
             _ => Err(unexpected(token, Wanted::CommaOrClose)),
         }
     }
@@ -392,7 +393,7 @@ impl Parser {
         ensures { result ≡ list_open token.kind token self }
     {
         match token.kind {
-            Kind::Open => Ok(self.begin(alloc, token).at(Place::ListNumber)),
+            TokenKind::Open => Ok(self.begin(alloc, token).at(Place::ListNumber)),
             _ => Err(unexpected(token, Wanted::Open)),
         }
     }
@@ -401,8 +402,8 @@ impl Parser {
         ensures { Gives (λ p. p) result (list_number token.kind token self) }
     {
         match token.kind {
-            Kind::Number => Ok(self.with_number(token)?.at(Place::ListComma)),
-            Kind::Close => self.field_done(alloc),
+            TokenKind::Number => Ok(self.with_number(token)?.at(Place::ListComma)),
+            TokenKind::Close => self.field_done(alloc),
             _ => Err(unexpected(token, Wanted::NumberOrClose)),
         }
     }
@@ -411,8 +412,8 @@ impl Parser {
         ensures { Gives (λ p. p) result (list_comma token.kind token self) }
     {
         match token.kind {
-            Kind::Comma => Ok(self.at(Place::ListNumber)),
-            Kind::Close => self.field_done(alloc),
+            TokenKind::Comma => Ok(self.at(Place::ListNumber)),
+            TokenKind::Close => self.field_done(alloc),
             _ => Err(unexpected(token, Wanted::CommaOrClose)),
         }
     }
@@ -421,7 +422,7 @@ impl Parser {
         ensures { Gives (λ p. p) result (number token.kind token self) }
     {
         match token.kind {
-            Kind::Number => self
+            TokenKind::Number => self
                 .begin(alloc, token)
                 .with_number(token)?
                 .field_done(alloc),
@@ -433,12 +434,12 @@ impl Parser {
         ensures { Gives (λ p. p) result (value token.kind token self) }
     {
         match token.kind {
-            Kind::Number => self
+            TokenKind::Number => self
                 .begin(alloc, token)
                 .with_number(token)?
                 .field_done(alloc),
-            Kind::Name(_) => self.begin(alloc, token).field_done(alloc),
-            Kind::Open => Ok(Parser {
+            TokenKind::Name(_) => self.begin(alloc, token).field_done(alloc),
+            TokenKind::Open => Ok(Parser {
                 depth: 1,
                 ..self.begin(alloc, token).at(Place::Group)
             }),
@@ -450,17 +451,17 @@ impl Parser {
         ensures { Gives (λ p. p) result (group token.kind token self) }
     {
         match token.kind {
-            Kind::Open => {
+            TokenKind::Open => {
                 // Where so many braces can be open there is no memory for them.
                 let depth = self.depth.checked_add(1).ok_or(FileRefusal::NoMemory)?;
                 Ok(Parser { depth, ..self })
             }
-            Kind::Close if self.depth == 1 => self.field_done(alloc),
-            Kind::Close => Ok(Parser {
+            TokenKind::Close if self.depth == 1 => self.field_done(alloc),
+            TokenKind::Close => Ok(Parser {
                 depth: self.depth.saturating_sub(1),
                 ..self
             }),
-            Kind::Number => self.with_number(token),
+            TokenKind::Number => self.with_number(token),
             _ => Ok(self),
         }
     }

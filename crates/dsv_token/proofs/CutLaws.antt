@@ -4,10 +4,10 @@ use Rattle.std.proofs.Math.Seq.{drop-append_seam}
 use Rattle.std.specs.Prelude.{Result, Ok, Err, ◌⊎◌, ◌↔◌}
 use Rattle.dsv_token.specs.declared.refusal.FileRefusal.{FileRefusal}
 use Rattle.dsv_token.specs.declared.refusal.FileRefusal.TheVariants as refusal
-use Rattle.dsv_token.specs.declared.token.Kind.{Kind}
+use Rattle.dsv_token.specs.declared.token.TokenKind.{TokenKind}
 use Rattle.dsv_token.specs.declared.token.Token.{Token}
-use Rattle.dsv_token.specs.declared.pieces.Piece.{Piece}
-use Rattle.dsv_token.specs.declared.pieces.Piece.TheVariants as piece
+use Rattle.dsv_token.specs.declared.lexemes.Lexeme.{Lexeme}
+use Rattle.dsv_token.specs.declared.lexemes.Lexeme.TheVariants as lexeme
 use Rattle.dsv_token.specs.Lexing.{piece_of, by_piece, lexed, tokens_of}
 use Rattle.dsv_token.specs.Pieces.{IsGap, IsToken, IsCut, IsStuck, StopsAt}
 use Rattle.dsv_token.proofs.Skips.{front_gap, front_found}
@@ -22,7 +22,7 @@ gap_some fresh next gap rest (IsGap.hash line r h k) = omega arith
 gap_some fresh next gap rest (IsGap.line f line r h k) = omega arith
 gap_some fresh next gap rest (IsGap.block f inside r h) = omega arith
 
-token_some : (k : Kind) (token rest : List ℕ) → IsToken k token rest → 1 ≤ length token
+token_some : (k : TokenKind) (token rest : List ℕ) → IsToken k token rest → 1 ≤ length token
 token_some k token rest (IsToken.mark l b r h) = omega arith
 token_some k token rest (IsToken.dot r h) = omega arith
 token_some k token rest (IsToken.name b bs r h all p) = omega arith
@@ -36,7 +36,7 @@ behind_gap fresh next at gap rest out g =
     sym (front_gap (gap ++ rest) at (length gap) fresh next out (omega (arith, some, n)) some (gap_again fresh next gap rest g))
     ∙ ap (λ t. lexed t (at + length gap) 0 next out) (drop-append_seam gap rest)
 
-behind_token : (fresh : Bool) (at : ℕ) (k : Kind) (token rest : List ℕ) (out : List Token) → IsToken k token rest →
+behind_token : (fresh : Bool) (at : ℕ) (k : TokenKind) (token rest : List ℕ) (out : List Token) → IsToken k token rest →
     lexed (token ++ rest) at 0 fresh out ≡ lexed rest (at + length token) 0 false (out ++ record { kind = k; at = at; len = length token } ∷ [])
 behind_token fresh at k token rest out g =
     let some : 1 ≤ length token = token_some k token rest g in
@@ -53,10 +53,10 @@ cut_again fresh at text ts (IsCut.token f a k token rest us g h) out =
     let t : Token = record { kind = k; at = at; len = length token } in
     behind_token fresh at k token rest out g ∙ cut_again false (at + length token) rest us h (out ++ t ∷ []) ∙ ap (λ x. Ok x) (append_assoc out (t ∷ []) us)
 
-bad_where_stuck : (fresh : Bool) (text : List ℕ) (p : Piece) → Stands fresh text p → IsStuck fresh text → p ≡ piece.Bad
-bad_where_stuck fresh text (piece.Gap len next) s h = absurd (h.no_gap s.gap s.rest next s.split s.is_gap)
-bad_where_stuck fresh text (piece.Found k len) s h = absurd (h.no_token k s.token s.rest s.split s.is_token)
-bad_where_stuck fresh text piece.Bad s h = refl
+bad_where_stuck : (fresh : Bool) (text : List ℕ) (p : Lexeme) → Stands fresh text p → IsStuck fresh text → p ≡ lexeme.Bad
+bad_where_stuck fresh text (lexeme.Gap len next) s h = absurd (h.no_gap s.gap s.rest next s.split s.is_gap)
+bad_where_stuck fresh text (lexeme.Found k len) s h = absurd (h.no_token k s.token s.rest s.split s.is_token)
+bad_where_stuck fresh text lexeme.Bad s h = refl
 
 stuck_again : (fresh : Bool) (at : ℕ) (text : List ℕ) → IsStuck fresh text → (out : List Token) → lexed text at 0 fresh out ≡ Err (refusal.Token at)
 stuck_again fresh at [] h out = let some = h.some_byte in absurd (omega (arith, some))
@@ -82,7 +82,7 @@ said_gap : (fresh next : Bool) (at : ℕ) (gap rest : List ℕ) (out : List Toke
 said_gap fresh next at gap rest out (Ok all) g s = (s.0, s.1, IsCut.gap fresh next at gap rest s.0 g s.2)
 said_gap fresh next at gap rest out (Err r) g s = (s.0, s.1, StopsAt.gap fresh next at gap rest s.0 g s.2)
 
-said_token : (fresh : Bool) (at : ℕ) (k : Kind) (token rest : List ℕ) (out : List Token) (r : Result (List Token) FileRefusal) → IsToken k token rest →
+said_token : (fresh : Bool) (at : ℕ) (k : TokenKind) (token rest : List ℕ) (out : List Token) (r : Result (List Token) FileRefusal) → IsToken k token rest →
     Said false (at + length token) rest (out ++ record { kind = k; at = at; len = length token } ∷ []) r → Said fresh at (token ++ rest) out r
 said_token fresh at k token rest out (Ok all) g s =
     let t : Token = record { kind = k; at = at; len = length token } in
@@ -96,17 +96,17 @@ rest_behind b bs front rest (suc n) e f g =
     let m : suc n - 1 ≡ n = omega arith in
     ap (λ k. drop k bs) m ∙ ap (λ t. drop (suc n) t) e ∙ ap (λ k. drop k (front ++ rest)) f ∙ drop-append_seam front rest
 
-stuck_at : (fresh : Bool) (b : ℕ) (bs : List ℕ) → piece_of fresh (b ∷ bs) ≡ piece.Bad → IsStuck fresh (b ∷ bs)
+stuck_at : (fresh : Bool) (b : ℕ) (bs : List ℕ) → piece_of fresh (b ∷ bs) ≡ lexeme.Bad → IsStuck fresh (b ∷ bs)
 stuck_at fresh b bs e = record {
   some_byte = omega arith;
-  no_gap = λ gap rest next f g. let h : piece_of fresh (b ∷ bs) ≡ piece.Gap (length gap) next = ap (piece_of fresh) f ∙ gap_again fresh next gap rest g in absurd (cc);
-  no_token = λ k token rest f g. let h : piece_of fresh (b ∷ bs) ≡ piece.Found k (length token) = ap (piece_of fresh) f ∙ token_again fresh k token rest g in absurd (cc);
+  no_gap = λ gap rest next f g. let h : piece_of fresh (b ∷ bs) ≡ lexeme.Gap (length gap) next = ap (piece_of fresh) f ∙ gap_again fresh next gap rest g in absurd (cc);
+  no_token = λ k token rest f g. let h : piece_of fresh (b ∷ bs) ≡ lexeme.Found k (length token) = ap (piece_of fresh) f ∙ token_again fresh k token rest g in absurd (cc);
 }
 
 said_piece : (fresh : Bool) (at b : ℕ) (bs : List ℕ) (out : List Token) (next : ℕ → Bool → List Token → Result (List Token) FileRefusal) →
     ((n : ℕ) (f : Bool) (o : List Token) → Said f (at + 1 + (n - 1)) (drop (n - 1) bs) o (next n f o)) →
-    (p : Piece) → Stands fresh (b ∷ bs) p → piece_of fresh (b ∷ bs) ≡ p → Said fresh at (b ∷ bs) out (by_piece at out next p)
-said_piece fresh at b bs out next said (piece.Gap len fresh_next) s e =
+    (p : Lexeme) → Stands fresh (b ∷ bs) p → piece_of fresh (b ∷ bs) ≡ p → Said fresh at (b ∷ bs) out (by_piece at out next p)
+said_piece fresh at b bs out next said (lexeme.Gap len fresh_next) s e =
     let r : Result (List Token) FileRefusal = next len fresh_next out in
     let count = s.count in
     let some = s.some_byte in
@@ -116,7 +116,7 @@ said_piece fresh at b bs out next said (piece.Gap len fresh_next) s e =
     let there : Said fresh_next (at + length s.gap) s.rest out r =
     subst (λ n. Said fresh_next n s.rest out r) place (subst (λ t. Said fresh_next (at + 1 + (len - 1)) t out r) behind here) in
     subst (λ t. Said fresh at t out r) (sym s.split) (said_gap fresh fresh_next at s.gap s.rest out r s.is_gap there)
-said_piece fresh at b bs out next said (piece.Found k len) s e =
+said_piece fresh at b bs out next said (lexeme.Found k len) s e =
     let new : ℕ → List Token = λ n. out ++ record { kind = k; at = at; len = n } ∷ [] in
     let r : Result (List Token) FileRefusal = next len false (new len) in
     let count = s.count in
@@ -128,7 +128,7 @@ said_piece fresh at b bs out next said (piece.Found k len) s e =
     subst (λ n. Said false (at + length s.token) s.rest (new n) r) s.count
     (subst (λ n. Said false n s.rest (new len) r) place (subst (λ t. Said false (at + 1 + (len - 1)) t (new len) r) behind here)) in
     subst (λ t. Said fresh at t out r) (sym s.split) (said_token fresh at k s.token s.rest out r s.is_token there)
-said_piece fresh at b bs out next said piece.Bad s e = (at, refl, StopsAt.here fresh at (b ∷ bs) (stuck_at fresh b bs e))
+said_piece fresh at b bs out next said lexeme.Bad s e = (at, refl, StopsAt.here fresh at (b ∷ bs) (stuck_at fresh b bs e))
 
 pub said : (text : List ℕ) (at skip : ℕ) (fresh : Bool) (out : List Token) → Said fresh (at + skip) (drop skip text) out (lexed text at skip fresh out)
 said [] at zero fresh out = ([], sym (append-nil out), IsCut.none fresh (at + 0))

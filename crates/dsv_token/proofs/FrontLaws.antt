@@ -3,13 +3,14 @@ use Rattle.std.proofs.Common.{◌≡◌, ℕ, suc, ◌+◌, ◌≤◌, Bool, tru
 use Rattle.std.proofs.lemmas.List.{take-append-drop, length-take-le}
 use Rattle.std.proofs.lemmas.Bool.{cond_both, eqb-true, eqb-false, both_ways}
 use Rattle.std.specs.Prelude.{Option, Some, None}
-use Rattle.dsv_fraction.specs.Number.{has_byte, number_len}
-use Rattle.dsv_token.specs.declared.token.Kind.{Kind}
-use Rattle.dsv_token.specs.declared.token.Kind.TheVariants as kind
-use Rattle.dsv_token.specs.declared.pieces.Piece.{Piece}
-use Rattle.dsv_token.specs.declared.pieces.Piece.TheVariants as piece
+use Rattle.dsv_text.specs.Bytes.{has_byte, is_blank, is_letter}
+use Rattle.dsv_fraction.specs.Number.{number_len}
+use Rattle.dsv_token.specs.declared.token.TokenKind.{TokenKind}
+use Rattle.dsv_token.specs.declared.token.TokenKind.TheVariants as kind
+use Rattle.dsv_token.specs.declared.lexemes.Lexeme.{Lexeme}
+use Rattle.dsv_token.specs.declared.lexemes.Lexeme.TheVariants as lexeme
 use Rattle.dsv_token.specs.Names.{word_of}
-use Rattle.dsv_token.specs.Lexing.{is_blank, is_letter, is_name_byte, in_line, mark_of, mark_or, run_len, line_len, close_len, closed, comment_of, is_joined, number_of, name_of, piece_of}
+use Rattle.dsv_token.specs.Lexing.{is_name_byte, in_line, mark_of, mark_or, run_len, line_len, close_len, closed, comment_of, is_joined, number_of, name_of, piece_of}
 use Rattle.dsv_token.specs.Pieces.{IsGap, IsToken}
 use Rattle.dsv_token.proofs.Runs.{either, run_all, run_ends, run_within, Closes, closes}
 use Rattle.dsv_token.proofs.Numbers.{number_within, point_number}
@@ -24,7 +25,7 @@ pub record FrontGap (fresh : Bool) (text : List ℕ) (len : ℕ) (next : Bool) :
   pub is_gap : IsGap fresh gap rest next
 
 -- a token of this length is at the front
-pub record FrontToken (text : List ℕ) (k : Kind) (len : ℕ) : Type 0 where
+pub record FrontToken (text : List ℕ) (k : TokenKind) (len : ℕ) : Type 0 where
   pub token : List ℕ
   pub rest : List ℕ
   pub split : text ≡ token ++ rest
@@ -33,12 +34,12 @@ pub record FrontToken (text : List ℕ) (k : Kind) (len : ℕ) : Type 0 where
   pub is_token : IsToken k token rest
 
 -- what a piece says of the text before which it was found
-abbrev pub Stands : Bool → List ℕ → Piece → Type 0
-Stands fresh text (piece.Gap len next) = FrontGap fresh text len next
-Stands fresh text (piece.Found k len) = FrontToken text k len
-Stands fresh text piece.Bad = Unit {0}
+abbrev pub Stands : Bool → List ℕ → Lexeme → Type 0
+Stands fresh text (lexeme.Gap len next) = FrontGap fresh text len next
+Stands fresh text (lexeme.Found k len) = FrontToken text k len
+Stands fresh text lexeme.Bad = Unit {0}
 
-hash_stands : (fresh : Bool) (bs : List ℕ) → Stands fresh (35 ∷ bs) (cond fresh (piece.Gap (line_len (35 ∷ bs)) true) piece.Bad)
+hash_stands : (fresh : Bool) (bs : List ℕ) → Stands fresh (35 ∷ bs) (cond fresh (lexeme.Gap (line_len (35 ∷ bs)) true) lexeme.Bad)
 hash_stands false bs = tt
 hash_stands true bs =
     let n = run_len in_line bs in
@@ -51,7 +52,7 @@ hash_stands true bs =
       is_gap = IsGap.hash (take n bs) (drop n bs) (run_all in_line bs) (run_ends in_line bs);
     }
 
-line_stands : (fresh : Bool) (bs : List ℕ) → Stands fresh (47 ∷ 47 ∷ bs) (piece.Gap (1 + line_len (47 ∷ bs)) false)
+line_stands : (fresh : Bool) (bs : List ℕ) → Stands fresh (47 ∷ 47 ∷ bs) (lexeme.Gap (1 + line_len (47 ∷ bs)) false)
 line_stands fresh bs =
     let n = run_len in_line bs in
     let l : length (take n bs) ≡ n = length-take-le n bs (run_within in_line bs) in
@@ -64,7 +65,7 @@ line_stands fresh bs =
       is_gap = IsGap.line fresh (take n bs) (drop n bs) (run_all in_line bs) (run_ends in_line bs);
     }
 
-block_closes : (fresh : Bool) (bs : List ℕ) (n : ℕ) → Closes 2 false bs n → Stands fresh (47 ∷ 42 ∷ bs) (piece.Gap n false)
+block_closes : (fresh : Bool) (bs : List ℕ) (n : ℕ) → Closes 2 false bs n → Stands fresh (47 ∷ 42 ∷ bs) (lexeme.Gap n false)
 block_closes fresh bs n (Closes.at_once rest f g h) = absurd (cc)
 block_closes fresh bs n (Closes.later inside rest f g h) =
     record {
@@ -83,10 +84,10 @@ block_stands fresh bs (Some n) e = block_closes fresh bs n (closes bs 2 false n 
 comment_stands : (fresh : Bool) (bs : List ℕ) → Stands fresh (47 ∷ bs) (comment_of bs)
 comment_stands fresh [] = tt
 comment_stands fresh (b ∷ bs) =
-    let P : Piece → Type 0 = λ p. Stands fresh (47 ∷ b ∷ bs) p in
-    cond_both (b == 47) (piece.Gap (1 + line_len (b ∷ bs)) false) _ P
+    let P : Lexeme → Type 0 = λ p. Stands fresh (47 ∷ b ∷ bs) p in
+    cond_both (b == 47) (lexeme.Gap (1 + line_len (b ∷ bs)) false) _ P
     (λ e. let f : b ≡ 47 = eqb-true b 47 e in rw f (line_stands fresh bs))
-    (λ e. cond_both (b == 42) (closed (close_len 2 false bs)) piece.Bad P
+    (λ e. cond_both (b == 42) (closed (close_len 2 false bs)) lexeme.Bad P
     (λ e. let f : b ≡ 42 = eqb-true b 42 e in rw f (block_stands fresh bs (close_len 2 false bs) refl))
     (λ e. tt))
 
@@ -100,7 +101,7 @@ name_stands fresh b bs h =
     let n = run_len is_name_byte bs in
     let e : run_len is_name_byte (b ∷ bs) ≡ suc n = name_one b bs h in
     let l : length (take n bs) ≡ n = length-take-le n bs (run_within is_name_byte bs) in
-    let P : ℕ → Type 0 = λ m. Stands fresh (b ∷ bs) (piece.Found (kind.Name (word_of (take m (b ∷ bs)))) m) in
+    let P : ℕ → Type 0 = λ m. Stands fresh (b ∷ bs) (lexeme.Found (kind.Name (word_of (take m (b ∷ bs)))) m) in
     subst P (sym e) (record {
       token = b ∷ take n bs;
       rest = drop n bs;
@@ -113,10 +114,10 @@ name_stands fresh b bs h =
 above : (n : ℕ) → (n ≡ 0 → ⊥) → 1 ≤ n
 above n h = omega (arith, h)
 
-dot_stands : (fresh : Bool) (text : List ℕ) → number_len text ≡ 0 → Stands fresh text (cond (has_byte 46 text) (piece.Found kind.Dot 1) piece.Bad)
+dot_stands : (fresh : Bool) (text : List ℕ) → number_len text ≡ 0 → Stands fresh text (cond (has_byte 46 text) (lexeme.Found kind.Dot 1) lexeme.Bad)
 dot_stands fresh [] h = tt
 dot_stands fresh (b ∷ bs) h =
-    cond_both (b == 46) (piece.Found kind.Dot 1) piece.Bad (λ p. Stands fresh (b ∷ bs) p) (λ e.
+    cond_both (b == 46) (lexeme.Found kind.Dot 1) lexeme.Bad (λ p. Stands fresh (b ∷ bs) p) (λ e.
     let f : b ≡ 46 = eqb-true b 46 e in
     let k : number_len (46 ∷ bs) ≡ 0 = rw f at h in
     rw f (record { token = 46 ∷ []; rest = bs; split = refl; count = refl; some_byte = omega arith; is_token = IsToken.dot bs (point_number bs k) }))
@@ -125,9 +126,9 @@ dot_stands fresh (b ∷ bs) h =
 number_stands : (fresh : Bool) (text : List ℕ) → Stands fresh text (number_of text)
 number_stands fresh text =
     let n = number_len text in
-    let P : Piece → Type 0 = λ p. Stands fresh text p in
+    let P : Lexeme → Type 0 = λ p. Stands fresh text p in
     cond_both (n == 0) _ _ P (λ e. dot_stands fresh text (eqb-true n 0 e))
-    (λ e. cond_both (is_joined (drop n text)) piece.Bad (piece.Found kind.Number n) P (λ f. tt)
+    (λ e. cond_both (is_joined (drop n text)) lexeme.Bad (lexeme.Found kind.Number n) P (λ f. tt)
     (λ f.
     let some : 1 ≤ n = above n (eqb-false n 0 e) in
     let l : length (take n text) ≡ n = length-take-le n text (number_within text) in
@@ -141,7 +142,7 @@ number_stands fresh text =
       is_token = IsToken.number (take n text) (drop n text) (omega (arith, l, some)) (ap number_len s ∙ sym l) f;
     }))
 
-mark_stands : (fresh : Bool) (b : ℕ) (bs : List ℕ) (o : Option Kind) → mark_of b ≡ o → Stands fresh (b ∷ bs) (mark_or o (number_of (b ∷ bs)))
+mark_stands : (fresh : Bool) (b : ℕ) (bs : List ℕ) (o : Option TokenKind) → mark_of b ≡ o → Stands fresh (b ∷ bs) (mark_or o (number_of (b ∷ bs)))
 mark_stands fresh b bs None e = number_stands fresh (b ∷ bs)
 mark_stands fresh b bs (Some k) e =
     record { token = b ∷ []; rest = bs; split = refl; count = refl; some_byte = omega arith; is_token = IsToken.mark k b bs e }
@@ -149,8 +150,8 @@ mark_stands fresh b bs (Some k) e =
 -- the piece at the front stands there
 pub front_stands : (fresh : Bool) (b : ℕ) (bs : List ℕ) → Stands fresh (b ∷ bs) (piece_of fresh (b ∷ bs))
 front_stands fresh b bs =
-    let P : Piece → Type 0 = λ p. Stands fresh (b ∷ bs) p in
-    cond_both (is_blank b) (piece.Gap 1 (fresh || b == 10)) _ P
+    let P : Lexeme → Type 0 = λ p. Stands fresh (b ∷ bs) p in
+    cond_both (is_blank b) (lexeme.Gap 1 (fresh || b == 10)) _ P
     (λ e. record { gap = b ∷ []; rest = bs; split = refl; count = refl; some_byte = omega arith; is_gap = IsGap.blank fresh b bs e })
     (λ e. cond_both (b == 35) _ _ P (λ e. let f : b ≡ 35 = eqb-true b 35 e in rw f (hash_stands fresh bs))
     (λ e. cond_both (b == 47) (comment_of bs) _ P (λ e. let f : b ≡ 47 = eqb-true b 47 e in rw f (comment_stands fresh bs))

@@ -1,8 +1,9 @@
 -- The bytes that a number begins with, and how many it has.
 use Rattle.std.proofs.Common.{◌≡◌, ℕ, suc, ◌+◌, ◌-◌, ◌<◌, ◌≤◌, Bool, true, false, not, ◌&&◌, ◌||◌, ◌==◌, nat_le, cond, inl, inr, List, [], ◌∷◌, length, drop, refl, ap, ◌∙◌, arith, length-drop}
 use Rattle.std.proofs.lemmas.Bool.{cond_both, cases_Bool, both_ways, and_parts, or_cases, ne_eqb, eqb-true, leb-true}
-use Rattle.dsv_fraction.specs.Number.{is_digit, digits_len, sign_len, point_len, suffix_len, whole_len, has_mark, exponent_len, number_len}
-use Rattle.dsv_token.specs.Lexing.{is_letter}
+use Rattle.dsv_text.specs.Bytes.{is_digit, is_letter}
+use Rattle.dsv_text.specs.Digits.{digits_len}
+use Rattle.dsv_fraction.specs.Number.{sign_len, point_len, suffix_len, whole_len, has_mark, exponent_len, number_len}
 use Rattle.dsv_token.specs.Pieces.{BeginsOther}
 use Rattle.dsv_token.proofs.Runs.{either}
 

@@ -5,40 +5,41 @@ use Rattle.std.proofs.lemmas.Bool.{cond_both, cases_Bool, eqb-true, ne_eqb, or_f
 use Rattle.std.specs.Prelude.{Option, Some, None}
 use Rattle.std.specs.List.{list_all}
 use Rattle.dsv_fraction.specs.Number.{number_len}
-use Rattle.dsv_token.specs.declared.token.Kind.{Kind}
-use Rattle.dsv_token.specs.declared.token.Kind.TheVariants as kind
-use Rattle.dsv_token.specs.declared.pieces.Piece.TheVariants as piece
+use Rattle.dsv_token.specs.declared.token.TokenKind.{TokenKind}
+use Rattle.dsv_token.specs.declared.token.TokenKind.TheVariants as kind
+use Rattle.dsv_token.specs.declared.lexemes.Lexeme.TheVariants as lexeme
 use Rattle.dsv_token.specs.Names.{word_of}
-use Rattle.dsv_token.specs.Lexing.{is_blank, is_letter, is_name_byte, in_line, mark_of, name_len, closed, is_joined, number_of, name_of, piece_of}
+use Rattle.dsv_text.specs.Bytes.{is_blank, is_letter}
+use Rattle.dsv_token.specs.Lexing.{is_name_byte, in_line, mark_of, name_len, closed, is_joined, number_of, name_of, piece_of}
 use Rattle.dsv_token.specs.Pieces.{IsGap, IsToken}
 use Rattle.dsv_token.proofs.Runs.{run_again, close_again}
 use Rattle.dsv_token.proofs.Numbers.{point_alone, apart, letter_no_number, no_start}
 
 -- ---- what stands there is the piece
 
-pub gap_again : (fresh next : Bool) (gap rest : List ℕ) → IsGap fresh gap rest next → piece_of fresh (gap ++ rest) ≡ piece.Gap (length gap) next
+pub gap_again : (fresh next : Bool) (gap rest : List ℕ) → IsGap fresh gap rest next → piece_of fresh (gap ++ rest) ≡ lexeme.Gap (length gap) next
 gap_again fresh next gap rest (IsGap.blank f b r h) = rw h refl
-gap_again fresh next gap rest (IsGap.hash line r h k) = ap (λ n. piece.Gap (suc n) true) (run_again in_line line rest h k)
+gap_again fresh next gap rest (IsGap.hash line r h k) = ap (λ n. lexeme.Gap (suc n) true) (run_again in_line line rest h k)
 gap_again fresh next gap rest (IsGap.line f line r h k) =
     let e : 1 + suc (length line) ≡ suc (suc (length line)) = omega arith in
-    ap (λ n. piece.Gap (1 + suc n) false) (run_again in_line line rest h k) ∙ ap (λ n. piece.Gap n false) e
+    ap (λ n. lexeme.Gap (1 + suc n) false) (run_again in_line line rest h k) ∙ ap (λ n. lexeme.Gap n false) e
 gap_again fresh next gap rest (IsGap.block f inside r h) =
     let n = length (inside ++ (42 ∷ 47 ∷ [])) in
     let e : 2 + n ≡ suc (suc n) = omega arith in
-    ap closed (close_again inside rest 2 false h) ∙ ap (λ n. piece.Gap n false) e
+    ap closed (close_again inside rest 2 false h) ∙ ap (λ n. lexeme.Gap n false) e
 
-mark_piece : (fresh : Bool) (b : ℕ) (k : Kind) (rest : List ℕ) → mark_of b ≡ Some k → piece_of fresh (b ∷ rest) ≡ piece.Found k 1
+mark_piece : (fresh : Bool) (b : ℕ) (k : TokenKind) (rest : List ℕ) → mark_of b ≡ Some k → piece_of fresh (b ∷ rest) ≡ lexeme.Found k 1
 mark_piece fresh b k rest =
-    let P : Option Kind → Type 0 = λ o. o ≡ Some k → piece_of fresh (b ∷ rest) ≡ piece.Found k 1 in
-    let step : (c : ℕ) (m : Kind) → piece_of fresh (c ∷ rest) ≡ piece.Found m 1 → (b == c) ≡ true → P (Some m) =
-    λ c m s e h. let f : b ≡ c = eqb-true b c e in let g : m ≡ k = cc in rw f (s ∙ ap (λ x. piece.Found x 1) g) in
+    let P : Option TokenKind → Type 0 = λ o. o ≡ Some k → piece_of fresh (b ∷ rest) ≡ lexeme.Found k 1 in
+    let step : (c : ℕ) (m : TokenKind) → piece_of fresh (c ∷ rest) ≡ lexeme.Found m 1 → (b == c) ≡ true → P (Some m) =
+    λ c m s e h. let f : b ≡ c = eqb-true b c e in let g : m ≡ k = cc in rw f (s ∙ ap (λ x. lexeme.Found x 1) g) in
     cond_both (b == 123) (Some kind.Open) _ P (step 123 kind.Open refl) (λ e.
     cond_both (b == 125) (Some kind.Close) _ P (step 125 kind.Close refl) (λ e.
     cond_both (b == 61) (Some kind.Equals) _ P (step 61 kind.Equals refl) (λ e.
     cond_both (b == 44) (Some kind.Comma) _ P (step 44 kind.Comma refl) (λ e.
     cond_both (b == 59) (Some kind.Semicolon) None P (step 59 kind.Semicolon refl) (λ e h. absurd (cc))))))
 
-name_piece : (text name : List ℕ) (n : ℕ) → name_len text ≡ n → take n text ≡ name → name_of text ≡ piece.Found (kind.Name (word_of name)) n
+name_piece : (text name : List ℕ) (n : ℕ) → name_len text ≡ n → take n text ≡ name → name_of text ≡ lexeme.Found (kind.Name (word_of name)) n
 name_piece text name n e f = rw (e, f) refl
 
 name_here : (fresh : Bool) (b : ℕ) (bs : List ℕ) → is_letter b ≡ true → piece_of fresh (b ∷ bs) ≡ name_of (b ∷ bs)
@@ -48,7 +49,7 @@ name_here fresh b bs h =
     let r : (b == 47) ≡ false = apart is_letter b 47 h refl in
     rw (p, q, r, h) refl
 
-number_piece : (text : List ℕ) (n : ℕ) → number_len text ≡ n → (n == 0) ≡ false → is_joined (drop n text) ≡ false → number_of text ≡ piece.Found kind.Number n
+number_piece : (text : List ℕ) (n : ℕ) → number_len text ≡ n → (n == 0) ≡ false → is_joined (drop n text) ≡ false → number_of text ≡ lexeme.Found kind.Number n
 number_piece text n e f g = rw (e, f, g) refl
 
 number_here : (fresh : Bool) (b : ℕ) (bs : List ℕ) → 0 < number_len (b ∷ bs) → piece_of fresh (b ∷ bs) ≡ number_of (b ∷ bs)
@@ -61,7 +62,7 @@ number_here fresh b bs h =
     let m : mark_of b ≡ None = rw (no 123 refl, no 125 refl, no 61 refl, no 44 refl, no 59 refl) refl in
     rw (p, q, r, s, m) refl
 
-number_again : (fresh : Bool) (token rest : List ℕ) → 0 < length token → number_len (token ++ rest) ≡ length token → is_joined rest ≡ false → piece_of fresh (token ++ rest) ≡ piece.Found kind.Number (length token)
+number_again : (fresh : Bool) (token rest : List ℕ) → 0 < length token → number_len (token ++ rest) ≡ length token → is_joined rest ≡ false → piece_of fresh (token ++ rest) ≡ lexeme.Found kind.Number (length token)
 number_again fresh [] rest some e h = absurd (omega arith)
 number_again fresh (b ∷ bs) rest some e h =
     let n = length (b ∷ bs) in
@@ -69,7 +70,7 @@ number_again fresh (b ∷ bs) rest some e h =
     let z : (n == 0) ≡ false = ne_eqb n 0 (λ e. omega (arith, e)) in
     number_here fresh b (bs ++ rest) (omega (arith, e, some)) ∙ number_piece (b ∷ (bs ++ rest)) n e z k
 
-pub token_again : (fresh : Bool) (k : Kind) (token rest : List ℕ) → IsToken k token rest → piece_of fresh (token ++ rest) ≡ piece.Found k (length token)
+pub token_again : (fresh : Bool) (k : TokenKind) (token rest : List ℕ) → IsToken k token rest → piece_of fresh (token ++ rest) ≡ lexeme.Found k (length token)
 token_again fresh k token rest (IsToken.mark l b r h) = mark_piece fresh b k rest h
 token_again fresh k token rest (IsToken.dot r h) = rw (point_alone rest h) refl
 token_again fresh k token rest (IsToken.name b bs r h all p) =

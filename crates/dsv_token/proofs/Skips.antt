@@ -1,9 +1,9 @@
 -- A piece's bytes are skipped at once.
 use Rattle.std.proofs.Common.{◌≡◌, ℕ, zero, suc, ◌+◌, ◌-◌, ◌<◌, ◌≤◌, Bool, false, List, [], ◌∷◌, ◌++◌, length, drop, refl, sym, ap, ◌∙◌, arith, length-drop}
 use Rattle.std.proofs.lemmas.List.{drop-drop}
-use Rattle.dsv_token.specs.declared.token.Kind.{Kind}
+use Rattle.dsv_token.specs.declared.token.TokenKind.{TokenKind}
 use Rattle.dsv_token.specs.declared.token.Token.{Token}
-use Rattle.dsv_token.specs.declared.pieces.Piece.TheVariants as piece
+use Rattle.dsv_token.specs.declared.lexemes.Lexeme.TheVariants as lexeme
 use Rattle.dsv_token.specs.Lexing.{lexed, piece_of, by_piece}
 
 -- so many bytes skipped are so many dropped
@@ -14,7 +14,7 @@ skip (b ∷ bs) at (suc n) fresh out =
     let e : at + 1 + n ≡ at + suc n = omega arith in
     rw (← e) (skip bs (at + 1) n fresh out)
 
-pub front_gap : (rest : List ℕ) (at len : ℕ) (fresh next : Bool) (out : List Token) → 0 < length rest → 1 ≤ len → piece_of fresh rest ≡ piece.Gap len next →
+pub front_gap : (rest : List ℕ) (at len : ℕ) (fresh next : Bool) (out : List Token) → 0 < length rest → 1 ≤ len → piece_of fresh rest ≡ lexeme.Gap len next →
     lexed (drop len rest) (at + len) 0 next out ≡ lexed rest at 0 fresh out
 front_gap [] at len fresh next out p q e = absurd (omega arith)
 front_gap (b ∷ bs) at zero fresh next out p q e = absurd (omega arith)
@@ -23,7 +23,7 @@ front_gap (b ∷ bs) at (suc n) fresh next out p q e =
     let m : suc n - 1 ≡ n = omega arith in
     rw (← k) (sym (skip bs (at + 1) n next out)) ∙ ap (λ t. lexed bs (at + 1) t next out) (sym m) ∙ sym (ap (by_piece at out (λ n f o. lexed bs (at + 1) (n - 1) f o)) e)
 
-pub front_found : (rest : List ℕ) (at len : ℕ) (fresh : Bool) (kind : Kind) (out : List Token) → 0 < length rest → 1 ≤ len → piece_of fresh rest ≡ piece.Found kind len →
+pub front_found : (rest : List ℕ) (at len : ℕ) (fresh : Bool) (kind : TokenKind) (out : List Token) → 0 < length rest → 1 ≤ len → piece_of fresh rest ≡ lexeme.Found kind len →
     lexed (drop len rest) (at + len) 0 false (out ++ record { kind = kind; at = at; len = len } ∷ []) ≡ lexed rest at 0 fresh out
 front_found [] at len fresh kind out p q e = absurd (omega arith)
 front_found (b ∷ bs) at zero fresh kind out p q e = absurd (omega arith)
@@ -34,7 +34,7 @@ front_found (b ∷ bs) at (suc n) fresh kind out p q e =
     rw (← k) (sym (skip bs (at + 1) n false o)) ∙ ap (λ t. lexed bs (at + 1) t false o) (sym m) ∙ sym (ap (by_piece at out (λ n f o. lexed bs (at + 1) (n - 1) f o)) e)
 
 -- behind a gap
-pub gap_step : (text : List ℕ) (at len : ℕ) (fresh next : Bool) (out : List Token) → at < length text → 1 ≤ len → piece.Gap len next ≡ piece_of fresh (drop at text) →
+pub gap_step : (text : List ℕ) (at len : ℕ) (fresh next : Bool) (out : List Token) → at < length text → 1 ≤ len → lexeme.Gap len next ≡ piece_of fresh (drop at text) →
     lexed (drop (at + len) text) (at + len) 0 next out ≡ lexed (drop at text) at 0 fresh out
 gap_step text at len fresh next out p q e =
     let d : length (drop at text) ≡ length text - at = length-drop at text in
@@ -42,7 +42,7 @@ gap_step text at len fresh next out p q e =
     ap (λ t. lexed t (at + len) 0 next out) (sym f) ∙ front_gap (drop at text) at len fresh next out (omega arith) q (sym e)
 
 -- behind a token
-pub found_step : (text : List ℕ) (at len : ℕ) (fresh : Bool) (kind : Kind) (out new : List Token) → at < length text → 1 ≤ len → piece.Found kind len ≡ piece_of fresh (drop at text) →
+pub found_step : (text : List ℕ) (at len : ℕ) (fresh : Bool) (kind : TokenKind) (out new : List Token) → at < length text → 1 ≤ len → lexeme.Found kind len ≡ piece_of fresh (drop at text) →
     new ≡ out ++ record { kind = kind; at = at; len = len } ∷ [] →
     lexed (drop (at + len) text) (at + len) 0 false new ≡ lexed (drop at text) at 0 fresh out
 found_step text at len fresh kind out new p q e g =

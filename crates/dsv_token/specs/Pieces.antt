@@ -2,11 +2,12 @@
 -- or a token is also says what may follow it.
 use Rattle.std.specs.Prelude.{◌≡◌, ℕ, ◌+◌, ◌<◌, Bool, true, false, ◌&&◌, ◌||◌, ◌==◌, List, [], ◌∷◌, ◌++◌, length, Some}
 use Rattle.std.specs.List.{list_all}
-use Rattle.dsv_fraction.specs.Number.{is_digit, number_len}
+use Rattle.dsv_text.specs.Bytes.{is_blank, is_digit, is_letter}
+use Rattle.dsv_fraction.specs.Number.{number_len}
 use Rattle.dsv_token.specs.Names.{word_of}
-use Rattle.dsv_token.specs.Lexing.{is_blank, is_letter, is_name_byte, is_joined, in_line, mark_of}
-use Rattle.dsv_token.specs.declared.token.Kind.{Kind}
-use Rattle.dsv_token.specs.declared.token.Kind.TheVariants as kind
+use Rattle.dsv_token.specs.Lexing.{is_name_byte, is_joined, in_line, mark_of}
+use Rattle.dsv_token.specs.declared.token.TokenKind.{TokenKind}
+use Rattle.dsv_token.specs.declared.token.TokenKind.TheVariants as kind
 use Rattle.dsv_token.specs.declared.token.Token.{Token}
 
 -- no byte of this class is first
@@ -27,8 +28,8 @@ pub data IsGap : Bool → List ℕ → List ℕ → Bool → Type 0 where
   block : (fresh : Bool) (inside rest : List ℕ) → has_close false inside ≡ false → IsGap fresh (47 ∷ 42 ∷ (inside ++ (42 ∷ 47 ∷ []))) rest false
 
 -- a token before a text
-pub data IsToken : Kind → List ℕ → List ℕ → Type 0 where
-  mark : (k : Kind) (b : ℕ) (rest : List ℕ) → mark_of b ≡ Some k → IsToken k (b ∷ []) rest
+pub data IsToken : TokenKind → List ℕ → List ℕ → Type 0 where
+  mark : (k : TokenKind) (b : ℕ) (rest : List ℕ) → mark_of b ≡ Some k → IsToken k (b ∷ []) rest
   dot : (rest : List ℕ) → BeginsOther is_digit rest → IsToken kind.Dot (46 ∷ []) rest
   name : (b : ℕ) (bs rest : List ℕ) → is_letter b ≡ true → list_all is_name_byte bs ≡ true → BeginsOther is_name_byte rest → IsToken (kind.Name (word_of (b ∷ bs))) (b ∷ bs) rest
   number : (text rest : List ℕ) → 0 < length text → number_len (text ++ rest) ≡ length text → is_joined rest ≡ false → IsToken kind.Number text rest
@@ -37,17 +38,17 @@ pub data IsToken : Kind → List ℕ → List ℕ → Type 0 where
 pub data IsCut : Bool → ℕ → List ℕ → List Token → Type 0 where
   none : (fresh : Bool) (at : ℕ) → IsCut fresh at [] []
   gap : (fresh next : Bool) (at : ℕ) (gap rest : List ℕ) (ts : List Token) → IsGap fresh gap rest next → IsCut next (at + length gap) rest ts → IsCut fresh at (gap ++ rest) ts
-  token : (fresh : Bool) (at : ℕ) (k : Kind) (text rest : List ℕ) (ts : List Token) → IsToken k text rest → IsCut false (at + length text) rest ts →
+  token : (fresh : Bool) (at : ℕ) (k : TokenKind) (text rest : List ℕ) (ts : List Token) → IsToken k text rest → IsCut false (at + length text) rest ts →
       IsCut fresh at (text ++ rest) (record { kind = k; at = at; len = length text } ∷ ts)
 
 -- neither a gap nor a token is at the front of the text, which isn't empty
 pub record IsStuck (fresh : Bool) (text : List ℕ) : Type 0 where
   pub some_byte : 0 < length text
   pub no_gap : (gap rest : List ℕ) (next : Bool) → text ≡ gap ++ rest → IsGap fresh gap rest next → ⊥
-  pub no_token : (k : Kind) (token rest : List ℕ) → text ≡ token ++ rest → IsToken k token rest → ⊥
+  pub no_token : (k : TokenKind) (token rest : List ℕ) → text ≡ token ++ rest → IsToken k token rest → ⊥
 
 -- behind gaps and tokens the text is stuck at this offset
 pub data StopsAt : Bool → ℕ → List ℕ → ℕ → Type 0 where
   here : (fresh : Bool) (at : ℕ) (text : List ℕ) → IsStuck fresh text → StopsAt fresh at text at
   gap : (fresh next : Bool) (at : ℕ) (gap rest : List ℕ) (place : ℕ) → IsGap fresh gap rest next → StopsAt next (at + length gap) rest place → StopsAt fresh at (gap ++ rest) place
-  token : (fresh : Bool) (at : ℕ) (k : Kind) (text rest : List ℕ) (place : ℕ) → IsToken k text rest → StopsAt false (at + length text) rest place → StopsAt fresh at (text ++ rest) place
+  token : (fresh : Bool) (at : ℕ) (k : TokenKind) (text rest : List ℕ) (place : ℕ) → IsToken k text rest → StopsAt false (at + length text) rest place → StopsAt fresh at (text ++ rest) place

@@ -3,7 +3,7 @@ ghost use Rattle.std.specs.Prelude.{◌≡◌, length, drop, IfOk};
 ghost use Rattle.dsv_token.specs.Lexing.{tokens_of, AreInOrder};
 ghost use Rattle.dsv_token.specs.Memory.{Gives};
 
-use crate::pieces::{Piece, piece_of};
+use crate::lexemes::{Lexeme, piece_of};
 use crate::refusal::FileRefusal;
 use crate::token::{Token, Tokens};
 use dsv_fraction::number::rest;
@@ -20,16 +20,16 @@ pub fn lex(alloc: Global, text: &[u8]) -> Result<Tokens, FileRefusal>
     let mut fresh = true;
     'pieces: while at < text.len() {
         match piece_of(fresh, rest(text, at)) {
-            Piece::Gap { len, fresh: next } => {
+            Lexeme::Gap { len, fresh: next } => {
                 at += len;
                 fresh = next;
             }
-            Piece::Found { kind, len } => {
+            Lexeme::Found { kind, len } => {
                 tokens.push(Token { kind, at, len })?;
                 at += len;
                 fresh = false;
             }
-            Piece::Bad => return Err(FileRefusal::Token { at: at as u64 }),
+            Lexeme::Bad => return Err(FileRefusal::Token { at: at as u64 }),
         }
     }
     Ok(tokens)

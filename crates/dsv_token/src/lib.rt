@@ -2,8 +2,8 @@
 #![tactic(auto)]
 
 mod cut;
+mod lexemes;
 mod lexing;
-mod pieces;
 mod refusal;
 mod text;
 mod token;
@@ -11,9 +11,9 @@ mod words;
 
 pub use cut::one_cut;
 pub use lexing::lex;
-pub use refusal::{Field, FileRefusal, Wanted};
+pub use refusal::FileRefusal;
 pub use text::check_text;
-pub use token::{Block, Kind, Setting, Token, Tokens, Word};
+pub use token::{Token, TokenKind, Tokens, Word};
 
 #[cfg(test)]
 mod tests;

@@ -1,47 +1,8 @@
 // Why a controller file is refused.
 use dsv_base::NoMemory;
+use dsv_names::{Field, Wanted};
 use std::alloc::AllocFailed;
 use thiserror::Error;
-
-/// What the grammar of controller files wants at a place.
-#[derive(Clone, Copy, Debug, PartialEq, Eq)]
-pub enum Wanted {
-    /// The name of a block that hasn't stood yet.
-    Declaration,
-    /// A name of the writer's choice.
-    Name,
-    Equals,
-    /// An opening brace.
-    Open,
-    /// The dot of a field, or the closing brace of a block.
-    FieldOrClose,
-    /// The name of a field that the block has.
-    FieldName,
-    Number,
-    /// A number, or the closing brace of a list.
-    NumberOrClose,
-    CommaOrClose,
-    /// The value of a field that is passed over: a number, a name, or tokens in balanced braces.
-    Value,
-    /// The closing brace of a group that is passed over.
-    Close,
-    Semicolon,
-}
-
-/// The fields of the blocks `digital_system` and `implementation`.
-#[derive(Clone, Copy, Debug, PartialEq, Eq)]
-pub enum Field {
-    B,
-    A,
-    BSize,
-    ASize,
-    SampleTime,
-    IntBits,
-    FracBits,
-    Max,
-    Min,
-    Delta,
-}
 
 /// Why a controller file is refused: its first fault, pass by pass over the whole file. Each offset counts the file's
 /// bytes from 0.

@@ -71,20 +71,20 @@ fn tokens_and_what_stands_between(rt: HostRuntime) -> Result<(), Fail> {
     let text = "\r\t # 1 /*\n{.b=x.5,1+2;} //*\n..5/**/_d1";
     let tokens = lex(rt.alloc(), text.as_bytes())?;
     let wanted = [
-        (Kind::Open, 10, 1),
-        (Kind::Dot, 11, 1),
-        (Kind::Name(Word::Field(Field::B)), 12, 1),
-        (Kind::Equals, 13, 1),
-        (Kind::Name(Word::Other), 14, 1),
-        (Kind::Number, 15, 2),
-        (Kind::Comma, 17, 1),
-        (Kind::Number, 18, 1),
-        (Kind::Number, 19, 2),
-        (Kind::Semicolon, 21, 1),
-        (Kind::Close, 22, 1),
-        (Kind::Dot, 28, 1),
-        (Kind::Number, 29, 2),
-        (Kind::Name(Word::Other), 35, 3),
+        (TokenKind::Open, 10, 1),
+        (TokenKind::Dot, 11, 1),
+        (TokenKind::Name(Word::Field(Field::B)), 12, 1),
+        (TokenKind::Equals, 13, 1),
+        (TokenKind::Name(Word::Other), 14, 1),
+        (TokenKind::Number, 15, 2),
+        (TokenKind::Comma, 17, 1),
+        (TokenKind::Number, 18, 1),
+        (TokenKind::Number, 19, 2),
+        (TokenKind::Semicolon, 21, 1),
+        (TokenKind::Close, 22, 1),
+        (TokenKind::Dot, 28, 1),
+        (TokenKind::Number, 29, 2),
+        (TokenKind::Name(Word::Other), 35, 3),
     ]
     .map(|(kind, at, len)| Token { kind, at, len });
     assert_eq!(rt; tokens.as_slice(), wanted.as_slice());

@@ -1,27 +1,8 @@
 // Tokens.
-use crate::refusal::{Field, FileRefusal};
+use crate::refusal::FileRefusal;
+use dsv_names::{Block, Field, Setting};
 use std::alloc::Global;
 use std::marker::Model;
-
-/// The blocks of a controller file.
-#[derive(Clone, Copy, Debug, PartialEq, Eq)]
-pub enum Block {
-    System,
-    Implementation,
-    Hardware,
-}
-
-/// The fields of the block `hardware` that are read: the clock and what the parts of a sample cost.
-#[derive(Clone, Copy, Debug, PartialEq, Eq)]
-pub enum Setting {
-    Clock,
-    CostSample,
-    CostMul,
-    CostAdd,
-    CostRound,
-    CostFit,
-    CostMoves,
-}
 
 /// The names that the grammar knows, and any other name.
 #[derive(Clone, Copy, Debug, PartialEq, Eq)]
@@ -34,7 +15,7 @@ pub enum Word {
 
 /// What a token is.
 #[derive(Clone, Copy, Debug, PartialEq, Eq)]
-pub enum Kind {
+pub enum TokenKind {
     Open,
     Close,
     Equals,
@@ -48,7 +29,7 @@ pub enum Kind {
 /// A token: what it is, the offset of its first byte in the file, and its number of bytes.
 #[derive(Clone, Copy, Debug, PartialEq, Eq)]
 pub struct Token {
-    pub kind: Kind,
+    pub kind: TokenKind,
     pub at: usize,
     pub len: usize,
 }

@@ -9,14 +9,14 @@ use Rattle.std.proofs.lemmas.Bool.{cases_lt}
 use lib.Signed.{◌<ℤ◌, ◌≤ℤ◌}
 use Rattle.dsv_algebra.proofs.Normaliser.{ring, env, var, num, plus, times as product}
 use Rattle.dsv_fraction.specs.Ratio.{Ratio}
-use Rattle.dsv_fraction.specs.Arithmetic.{times, narrowed, and_then}
+use Rattle.dsv_fraction.specs.Arithmetic.{times, bounded, and_then}
 use Rattle.dsv_fraction.specs.declared.fraction.TooWide.{TooWide}
 use Rattle.dsv_fraction.proofs.Values.{lowest_exact, narrowed_only}
 use Rattle.dsv_fraction.proofs.Powers.{lowest_positive}
-use Rattle.dsv_word.specs.declared.format.Rounding.{Rounding}
-use Rattle.dsv_word.specs.declared.format.Rounding.TheVariants as rounding
-use Rattle.dsv_word.specs.declared.format.Overflow.{Overflow}
-use Rattle.dsv_word.specs.declared.format.Overflow.TheVariants as overflow
+use Rattle.dsv_names.specs.declared.rounding.Rounding.{Rounding}
+use Rattle.dsv_names.specs.declared.rounding.Rounding.TheVariants as rounding
+use Rattle.dsv_names.specs.declared.overflow_mode.OverflowMode.{OverflowMode}
+use Rattle.dsv_names.specs.declared.overflow_mode.OverflowMode.TheVariants as overflow_mode
 use Rattle.dsv_word.specs.Words.{lo, hi, wrapped, saturated, IsWrapped, IsNearest, IsFitted}
 use Rattle.dsv_algebra.specs.Floor.{floored, IsFloor}
 use Rattle.dsv_word.specs.Quotients.{ceiled, shifted, rounded, word_of, IsCeiling, IsShifted, IsRounded}
@@ -49,7 +49,7 @@ abbrev pub IsOfValue : (ℤ → ℕ → ℤ) → Type 0
 IsOfValue whole = (n m : ℤ) (d e : ℕ) → 0 < d → 0 < e → n *ℤ pos e ≡ m *ℤ pos d → whole n d ≡ whole m e
 
 pub word_is : (whole : ℤ → ℕ → ℤ) (f : ℕ) (q r : Ratio) (w : ℤ) → IsOfValue whole → 0 < q.den
-    → Ok r ≡ narrowed (times q (record { num = pos (2 ^ f); den = 1 })) → w ≡ whole r.num r.den → Ok w ≡ word_of whole f q
+    → Ok r ≡ bounded (times q (record { num = pos (2 ^ f); den = 1 })) → w ≡ whole r.num r.den → Ok w ≡ word_of whole f q
 word_is whole f q r w h p e g =
     let n = q.num *ℤ pos (2 ^ f) in
     let t = times q (record { num = pos (2 ^ f); den = 1 }) in
@@ -67,7 +67,7 @@ within_narrow (Err e) z P p = tt
 within_word : (whole : ℤ → ℕ → ℤ) (f : ℕ) (q : Ratio) (P : ℤ → Type 0) (o : Result ℤ TooWide)
     → P (whole (q.num *ℤ pos (2 ^ f)) q.den) → o ≡ word_of whole f q → IfOk o P
 within_word whole f q P o p e =
-    rw e (within_narrow (narrowed (times q (record { num = pos (2 ^ f); den = 1 }))) (whole (q.num *ℤ pos (2 ^ f)) q.den) P p)
+    rw e (within_narrow (bounded (times q (record { num = pos (2 ^ f); den = 1 }))) (whole (q.num *ℤ pos (2 ^ f)) q.den) P p)
 
 pub floor_meant : (f : ℕ) (q : Ratio) (o : Result ℤ TooWide) → 0 < q.den → o ≡ word_of floored f q → IfOk o (IsFloor (q.num *ℤ pos (2 ^ f)) q.den)
 floor_meant f q o p = within_word floored f q (IsFloor (q.num *ℤ pos (2 ^ f)) q.den) o (floored_is (q.num *ℤ pos (2 ^ f)) q.den p)
@@ -106,7 +106,7 @@ wrapped_is n v p =
     let r = rest_within v (2 ^ n) (pow_pos n) in
     rw r.1 (either n r.0 v (floored v (2 ^ n)) p (rw r.1 at (parted v (2 ^ n) (pow_pos n))) r.2)
 
-pub wrapped_meant : (o : Overflow) (n m : ℕ) (v w : ℤ) → o ≡ overflow.Wrap → m ≡ n → 2 ≤ m → w ≡ wrapped m v → IsFitted o n v w
+pub wrapped_meant : (o : OverflowMode) (n m : ℕ) (v w : ℤ) → o ≡ overflow_mode.Wrap → m ≡ n → 2 ≤ m → w ≡ wrapped m v → IsFitted o n v w
 wrapped_meant o n m v w e f h g = rw (e, ← f, g) (wrapped_is m v (omega arith))
 
 -- ---- saturating
@@ -141,6 +141,6 @@ saturated_is n v = by_lt_z v (lo n)
     (λ more. held_high n v (saturated n v) more (rw (not_less v (lo n) not_low, is_less (hi n) v more) refl))
     (λ not_high. held_inside n v (saturated n v) not_low not_high (rw (not_less v (lo n) not_low, not_less (hi n) v not_high) refl)))
 
-pub saturated_meant : (o : Overflow) (n m : ℕ) (v w a b : ℤ) → o ≡ overflow.Saturate → m ≡ n → a ≡ lo m → b ≡ hi m
+pub saturated_meant : (o : OverflowMode) (n m : ℕ) (v w a b : ℤ) → o ≡ overflow_mode.Saturate → m ≡ n → a ≡ lo m → b ≡ hi m
     → w ≡ (if int_lt v a then a else if int_lt b v then b else v) → IsFitted o n v w
 saturated_meant o n m v w a b e f x y g = rw (e, ← f, g, x, y) (saturated_is m v)

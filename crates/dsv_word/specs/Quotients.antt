@@ -2,10 +2,10 @@
 use Rattle.std.specs.Prelude.{◌≡◌, ℕ, ◌-◌, ◌*◌, ◌^◌, ◌==◌, if◌then◌else◌, MatchBool, Result, Ok, ℤ, pos, neg_ℤ, ◌+ℤ◌, ◌*ℤ◌}
 use Rattle.dsv_algebra.specs.Floor.{IsFloor, floored}
 use Rattle.dsv_fraction.specs.Ratio.{Ratio}
-use Rattle.dsv_fraction.specs.Arithmetic.{times, narrowed, and_then}
+use Rattle.dsv_fraction.specs.Arithmetic.{times, bounded, and_then}
 use Rattle.dsv_fraction.specs.declared.fraction.TooWide.{TooWide}
-use Rattle.dsv_word.specs.declared.format.Rounding.{Rounding}
-use Rattle.dsv_word.specs.declared.format.Rounding.TheVariants as rounding
+use Rattle.dsv_names.specs.declared.rounding.Rounding.{Rounding}
+use Rattle.dsv_names.specs.declared.rounding.Rounding.TheVariants as rounding
 
 -- the least w with v ≤ w d
 abbrev pub ceiled : ℤ → ℕ → ℤ
@@ -25,7 +25,7 @@ rounded rounding.Nearest n d = floored (pos 2 *ℤ n +ℤ pos d) (2 * d)
 
 -- the fraction q 2^f made whole, where no part of it in lowest terms passes 2^127
 abbrev pub word_of : (ℤ → ℕ → ℤ) → ℕ → Ratio → Result ℤ TooWide
-word_of whole f q = and_then (narrowed (times q (record { num = pos (2 ^ f); den = 1 }))) (λ r. Ok (whole (q.num *ℤ pos (2 ^ f)) q.den))
+word_of whole f q = and_then (bounded (times q (record { num = pos (2 ^ f); den = 1 }))) (λ r. Ok (whole (q.num *ℤ pos (2 ^ f)) q.den))
 
 -- ---- what these mean
 -- v <= w d < v + d

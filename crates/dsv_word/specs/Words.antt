@@ -2,8 +2,8 @@
 use Rattle.std.specs.Prelude.{◌≡◌, ℕ, ◌+◌, ◌-◌, ◌^◌, if◌then◌else◌, ℤ, pos, neg_ℤ, ◌+ℤ◌, ◌-ℤ◌, ◌*ℤ◌, ◌≤ℤ◌, ◌<ℤ◌, int_lt}
 use Rattle.std.specs.Int.{int_rem_euclid}
 use Rattle.dsv_word.specs.declared.format.Format.{Format}
-use Rattle.dsv_word.specs.declared.format.Overflow.{Overflow}
-use Rattle.dsv_word.specs.declared.format.Overflow.TheVariants as overflow
+use Rattle.dsv_names.specs.declared.overflow_mode.OverflowMode.{OverflowMode}
+use Rattle.dsv_names.specs.declared.overflow_mode.OverflowMode.TheVariants as overflow_mode
 
 abbrev pub width : Format → ℕ
 width format = format.int_bits + format.frac_bits
@@ -15,6 +15,11 @@ lo n = neg_ℤ (pos (2 ^ (n - 1)))
 abbrev pub hi : ℕ → ℤ
 hi n = pos (2 ^ (n - 1)) -ℤ pos 1
 
+-- v is a word of the format
+pub record IsWord (format : Format) (v : ℤ) : Type 0 where
+  pub low : lo (width format) ≤ℤ v
+  pub high : v ≤ℤ hi (width format)
+
 -- v as a word: by the rest of the division by 2^n, less 2^n where that is above the greatest word
 abbrev pub wrapped : ℕ → ℤ → ℤ
 wrapped n v = let rest = int_rem_euclid v (pos (2 ^ n)) in if int_lt rest (pos (2 ^ (n - 1))) then rest else rest -ℤ pos (2 ^ n)
@@ -22,9 +27,9 @@ wrapped n v = let rest = int_rem_euclid v (pos (2 ^ n)) in if int_lt rest (pos (
 abbrev pub saturated : ℕ → ℤ → ℤ
 saturated n v = if int_lt v (lo n) then lo n else if int_lt (hi n) v then hi n else v
 
-abbrev pub fit : Overflow → ℕ → ℤ → ℤ
-fit overflow.Wrap n v = wrapped n v
-fit overflow.Saturate n v = saturated n v
+abbrev pub fit : OverflowMode → ℕ → ℤ → ℤ
+fit overflow_mode.Wrap n v = wrapped n v
+fit overflow_mode.Saturate n v = saturated n v
 
 -- ---- what these mean
 -- w is the word that differs from v by a multiple of 2^n
@@ -41,6 +46,6 @@ pub record IsNearest (n : ℕ) (v w : ℤ) : Type 0 where
   pub below : v <ℤ lo n → w ≡ lo n
   pub above : hi n <ℤ v → w ≡ hi n
 
-abbrev pub IsFitted : Overflow → ℕ → ℤ → ℤ → Type 0
-IsFitted overflow.Wrap n v w = IsWrapped n v w
-IsFitted overflow.Saturate n v w = IsNearest n v w
+abbrev pub IsFitted : OverflowMode → ℕ → ℤ → ℤ → Type 0
+IsFitted overflow_mode.Wrap n v w = IsWrapped n v w
+IsFitted overflow_mode.Saturate n v w = IsNearest n v w

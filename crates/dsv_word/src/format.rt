@@ -6,30 +6,11 @@ ghost use Rattle.dsv_word.specs.Width.{IsLawful};
 use crate::whole::{ceiling_of, floor_of, nearest_to, shift};
 use crate::word::{power, saturate, wrap};
 use dsv_fraction::{Frac, TooWide};
+use dsv_names::{OverflowMode, Rounding};
 use thiserror::Error;
 
 /// The most bits that a word has.
 pub const GREATEST_WIDTH: u32 = 32;
-
-/// How a number between two neighbours becomes one of them.
-#[derive(Clone, Copy, Debug, PartialEq, Eq)]
-pub enum Rounding {
-    /// The lower one.
-    Floor,
-    /// The upper one.
-    Ceil,
-    /// The nearer one, and the upper one halfway.
-    Nearest,
-}
-
-/// How a number outside the words becomes a word.
-#[derive(Clone, Copy, Debug, PartialEq, Eq)]
-pub enum Overflow {
-    /// The word that differs from it by a multiple of 2 to the width.
-    Wrap,
-    /// The nearest word.
-    Saturate,
-}
 
 /// The widths aren't lawful.
 #[derive(Clone, Copy, Debug, PartialEq, Eq, Error)]
@@ -43,14 +24,14 @@ pub struct Format {
     pub int_bits: u32,
     pub frac_bits: u32,
     pub rounding: Rounding,
-    pub overflow: Overflow,
+    pub overflow: OverflowMode,
     ghost lawful: { IsLawful int_bits frac_bits },
 }
 
 impl Format {
     ghost use Rattle.std.specs.Prelude.{◌≡◌, ◌≤◌, ◌<◌, ◌^◌, ◌↔◌, IsOk, IfOk, IsTrue, ◌≤ℤ◌, ◌*ℤ◌, pos};
     ghost use Rattle.std.specs.Int.RustNames.{unsigned_abs};
-    ghost use Rattle.dsv_fraction.specs.Arithmetic.{times, narrowed};
+    ghost use Rattle.dsv_fraction.specs.Arithmetic.{times, bounded};
     ghost use Rattle.dsv_word.specs.declared.format.TheConstants.{GREATEST_WIDTH};
     ghost use Rattle.dsv_word.specs.Width.{IsLawful};
     ghost use Rattle.dsv_word.specs.Words.{width, lo, hi, fit, IsFitted};
@@ -63,7 +44,7 @@ impl Format {
         int_bits: u32,
         frac_bits: u32,
         rounding: Rounding,
-        overflow: Overflow,
+        overflow: OverflowMode,
     ) -> Result<Format, BadWidth>
         ensures lawful { IsOk result ↔ IsLawful int_bits frac_bits }
         ensures widths { IfOk result (λ f. (f.int_bits ≡ int_bits) × (f.frac_bits ≡ frac_bits)) }
@@ -116,8 +97,8 @@ impl Format {
         ensures meaning { IsFitted self.now.overflow (width self.now) v result }
     {
         match self.overflow {
-            Overflow::Wrap => wrap(v, self.width()),
-            Overflow::Saturate => saturate(v, self.lo(), self.hi()),
+            OverflowMode::Wrap => wrap(v, self.width()),
+            OverflowMode::Saturate => saturate(v, self.lo(), self.hi()),
         }
     }
 
@@ -161,7 +142,7 @@ impl Format {
     /// `q * 2^frac_bits` in lowest terms.
     fn scaled(&self, q: &Frac) -> Result<Frac, TooWide>
         ensures positive { 0 < q.now.den }
-        ensures value { result ≡ narrowed (times q.now (record { num = pos (2 ^ self.now.frac_bits); den = 1 })) }
+        ensures value { result ≡ bounded (times q.now (record { num = pos (2 ^ self.now.frac_bits); den = 1 })) }
     {
         let _parts = q.to_parts();
         q.mul(&Frac::from(power(self.frac_bits)))

@@ -6,4 +6,4 @@ mod format;
 mod whole;
 mod word;
 
-pub use format::{BadWidth, Format, GREATEST_WIDTH, Overflow, Rounding};
+pub use format::{BadWidth, Format, GREATEST_WIDTH};

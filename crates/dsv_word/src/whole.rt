@@ -7,9 +7,10 @@ ghost use Rattle.dsv_word.specs.Quotients.{ceiled, shifted};
 ghost use Rattle.std.specs.Int.RustNames.{unsigned_abs};
 ghost use Rattle.dsv_word.specs.declared.format.TheConstants.{GREATEST_WIDTH};
 
-use crate::format::{GREATEST_WIDTH, Rounding};
+use crate::format::GREATEST_WIDTH;
 use crate::word::power;
 use dsv_fraction::Frac;
+use dsv_names::Rounding;
 
 /// `v / 2^bits` made whole.
 pub(crate) fn shift(v: i128, bits: u32, rounding: Rounding) -> i128

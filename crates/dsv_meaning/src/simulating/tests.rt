@@ -1,15 +1,16 @@
 // Expected values are worked out by hand, or are those of published worked examples.
 #![tactic(auto, using(crate::proofs::Casts::casts))]
 
+ghost use Rattle.dsv_word.specs.Words.{IsWord};
 ghost use Rattle.std.specs.Prelude.{IsTrue};
 ghost use Rattle.std.specs.List.{All};
-ghost use Rattle.dsv_quantiser.specs.FixedPoint.{IsWord};
 
 use super::*;
 use crate::counts::registers;
-use dsv_quantiser::{Kind, quantise};
+use dsv_names::{OverflowMode, Realisation, Rounding};
+use dsv_quantiser::quantise;
 use dsv_reader::read;
-use dsv_word::{Format, Overflow, Rounding};
+use dsv_word::Format;
 use std::process::Abort;
 use std::test::Fail;
 
@@ -24,13 +25,13 @@ fn simulated(
     alloc: Global,
     text: &str,
     format: Format,
-    kind: Kind,
+    realisation: Realisation,
     start: &[i64],
     inputs: &[i64],
 ) -> Result<Rows, Fail> {
     let controller = read(alloc, text.as_bytes())?;
-    let q = quantise(&controller, format, kind)?;
-    if start.len() != registers(q.kind(), q.order() as u32) as usize {
+    let q = quantise(&controller, format, realisation)?;
+    if start.len() != registers(q.realisation(), q.order() as u32) as usize {
         return Err(Fail::from("registers"));
     }
     let format = q.format();
@@ -54,13 +55,13 @@ implementation r = { .int_bits = 2, .frac_bits = 2, .max = 1.0, .min = -1.0 };";
 #[test]
 fn first_order(rt: HostRuntime) -> Result<(), Fail> {
     let alloc = rt.alloc();
-    let wrap = Format::new(2, 2, Rounding::Floor, Overflow::Wrap)?;
-    let rows = simulated(alloc, FIRST, wrap, Kind::Dfi, &[0, 0], &[4, 4])?;
+    let wrap = Format::new(2, 2, Rounding::Floor, OverflowMode::Wrap)?;
+    let rows = simulated(alloc, FIRST, wrap, Realisation::Dfi, &[0, 0], &[4, 4])?;
     assert_eq!(rt; rows.len(), 2);
     assert_row(&rt, &rows, 0, 4, &[4, 0, 4, 0, 4]);
     assert_row(&rt, &rows, 1, -8, &[4, 0, 4, -4, 8]);
-    let saturate = Format::new(2, 2, Rounding::Floor, Overflow::Saturate)?;
-    let rows = simulated(alloc, FIRST, saturate, Kind::Dfi, &[0, 0], &[4, 4])?;
+    let saturate = Format::new(2, 2, Rounding::Floor, OverflowMode::Saturate)?;
+    let rows = simulated(alloc, FIRST, saturate, Realisation::Dfi, &[0, 0], &[4, 4])?;
     assert_row(&rt, &rows, 1, 7, &[4, 0, 4, -4, 8]);
     let rows = Rows::from(rows.into_vec());
     assert_eq!(rt; rows.as_slice().last().map(|row| row.x), Some(4));
@@ -79,8 +80,8 @@ fn roundings(rt: HostRuntime) -> Result<(), Fail> {
         (Rounding::Ceil, 0),
         (Rounding::Nearest, 0),
     ] {
-        let format = Format::new(2, 2, rounding, Overflow::Wrap)?;
-        let rows = simulated(alloc, HALF, format, Kind::Dfi, &[], &[-1])?;
+        let format = Format::new(2, 2, rounding, OverflowMode::Wrap)?;
+        let rows = simulated(alloc, HALF, format, Realisation::Dfi, &[], &[-1])?;
         assert_row(&rt, &rows, 0, y, &[y.into()]);
     }
     Ok(())
@@ -94,18 +95,25 @@ implementation r = { .int_bits = 4, .frac_bits = 1, .max = 1.0, .min = -1.0 };";
 #[test]
 fn direct_forms(rt: HostRuntime) -> Result<(), Fail> {
     let alloc = rt.alloc();
-    let format = Format::new(4, 1, Rounding::Floor, Overflow::Wrap)?;
+    let format = Format::new(4, 1, Rounding::Floor, OverflowMode::Wrap)?;
     // 4: 4; 3/2 is 1: 5; -1: 4; less 1: 3; less -5/2, that is -3: 6. -3: -3; 2: -1; -3: -4; less 3: -7; less -1: -6.
-    let rows = simulated(alloc, SECOND, format, Kind::Dfi, &[3, 1, 2, 5], &[4, -3])?;
+    let rows = simulated(
+        alloc,
+        SECOND,
+        format,
+        Realisation::Dfi,
+        &[3, 1, 2, 5],
+        &[4, -3],
+    )?;
     assert_row(&rt, &rows, 0, 6, &[4, 1, 5, -1, 4, 1, 3, -3, 6]);
     assert_row(&rt, &rows, 1, -6, &[-3, 2, -1, -3, -4, 3, -7, -1, -6]);
     // 4 less 1: 3; less -3: w = 6. 6; 1: 7; -5: 2. Then -3 less 3: -6; less -3/2, that is -2: w = -4. -4; 3: -1; -3: -4.
-    let rows = simulated(alloc, SECOND, format, Kind::Dfii, &[3, 5], &[4, -3])?;
+    let rows = simulated(alloc, SECOND, format, Realisation::Dfii, &[3, 5], &[4, -3])?;
     assert_row(&rt, &rows, 0, 2, &[1, 3, -3, 6, 6, 1, 7, -5, 2]);
     assert_row(&rt, &rows, 1, -4, &[3, -6, -2, -4, -4, 3, -1, -3, -4]);
     // 4, and 3: y = 7. 2 less 7/2, that is 3: -1, and 5: s = 4. -4 less -4: 0. Then -3, and 4: y = 1. -2 less 0, and 0;
     // 3 less -1: 4.
-    let rows = simulated(alloc, SECOND, format, Kind::Tdfii, &[3, 5], &[4, -3])?;
+    let rows = simulated(alloc, SECOND, format, Realisation::Tdfii, &[3, 5], &[4, -3])?;
     assert_row(&rt, &rows, 0, 7, &[4, 7, 2, 3, -1, 4, -4, -4, 0]);
     assert_row(&rt, &rows, 1, 1, &[-3, 1, -2, 0, -2, -2, 3, -1, 4]);
     Ok(())
@@ -119,16 +127,16 @@ implementation r = { .int_bits = 3, .frac_bits = 4, .max = 1.0, .min = -1.0, .de
 #[test]
 fn delta_forms(rt: HostRuntime) -> Result<(), Fail> {
     let alloc = rt.alloc();
-    let format = Format::new(3, 4, Rounding::Floor, Overflow::Wrap)?;
-    let rows = simulated(alloc, DELTA, format, Kind::Ddfii, &[0], &[16, 0])?;
+    let format = Format::new(3, 4, Rounding::Floor, OverflowMode::Wrap)?;
+    let rows = simulated(alloc, DELTA, format, Realisation::Ddfii, &[0], &[16, 0])?;
     assert_row(&rt, &rows, 0, 0, &[0, 16, 0, 0, 0, 8, 8]);
     assert_row(&rt, &rows, 1, 16, &[8, -8, 0, 16, 16, -4, 4]);
     // 0; 6; less 5: y = 1. 8 onto 3: u = 11. 8/16 is 0: v = 5. Then 0; 22; less 5: y = 17. 0: u = 11. 136/16 is 8: v = 13.
-    let rows = simulated(alloc, DELTA, format, Kind::Ddfi, &[3, 5], &[16, 0])?;
+    let rows = simulated(alloc, DELTA, format, Realisation::Ddfi, &[3, 5], &[16, 0])?;
     assert_row(&rt, &rows, 0, 1, &[0, 6, 6, 5, 1, 8, 11, 0, 5]);
     assert_row(&rt, &rows, 1, 17, &[0, 22, 22, 5, 17, 0, 11, 8, 13]);
     // 0, and 3: y = 3. 32 less 3: 29; 232/16 is 14: s = 17. Then 0, and 17: y = 17. 0 less 17; -136/16 is -9: s = 8.
-    let rows = simulated(alloc, DELTA, format, Kind::Tddfii, &[3], &[16, 0])?;
+    let rows = simulated(alloc, DELTA, format, Realisation::Tddfii, &[3], &[16, 0])?;
     assert_row(&rt, &rows, 0, 3, &[0, 3, 32, 3, 29, 14, 17]);
     assert_row(&rt, &rows, 1, 17, &[0, 17, 0, 17, -17, -9, 8]);
     Ok(())

@@ -1,11 +1,11 @@
 // Expected values are worked out by hand.
 use super::*;
-use dsv_word::{Overflow, Rounding};
+use dsv_names::{OverflowMode, Rounding};
 use std::alloc::Global;
 use std::test::Fail;
 
 /// Words of four bits, two of them behind the point: -8 to 7.
-fn format(rounding: Rounding, overflow: Overflow) -> Result<Format, Fail> {
+fn format(rounding: Rounding, overflow: OverflowMode) -> Result<Format, Fail> {
     match Format::new(2, 2, rounding, overflow) {
         Ok(format) => Ok(format),
         Err(_) => Err(Fail::from("widths")),
@@ -17,12 +17,12 @@ fn made(
     nodes: &[Node],
     next: &[u32],
     output: u32,
-    past_inputs: u32,
+    feed_forward: u32,
 ) -> Result<Option<Netlist>, Fail> {
     let nodes = Vec::from_slice(alloc, nodes)?;
     let next = Vec::from_slice(alloc, next)?;
-    let format = format(Rounding::Floor, Overflow::Wrap)?;
-    Ok(Netlist::new(nodes, next, output, past_inputs, format))
+    let format = format(Rounding::Floor, OverflowMode::Wrap)?;
+    Ok(Netlist::new(nodes, next, output, feed_forward, format))
 }
 
 /// The output, the exact values and the register after one sample of a netlist whose one register is loaded from the
@@ -124,13 +124,13 @@ fn samples_by_hand(rt: HostRuntime) -> Result<(), Fail> {
         (Rounding::Ceil, -2),
         (Rounding::Nearest, -2),
     ] {
-        let format = format(rounding, Overflow::Wrap)?;
+        let format = format(rounding, OverflowMode::Wrap)?;
         let (y, exact, register) = sampled(alloc, format, &line, 3, 0, -3)?;
         assert_eq!(rt; (y, register), (wanted, -3), "{rounding:?}");
         assert_eq!(rt; exact.as_slice(), [i128::from(wanted)].as_slice());
     }
     let twice = [Node::Input, Node::Add(0, 0), Node::Fit(1)];
-    for (overflow, wanted) in [(Overflow::Wrap, -8), (Overflow::Saturate, 7)] {
+    for (overflow, wanted) in [(OverflowMode::Wrap, -8), (OverflowMode::Saturate, 7)] {
         let format = format(Rounding::Floor, overflow)?;
         let (y, exact, _) = sampled(alloc, format, &twice, 2, 0, 4)?;
         assert_eq!(rt; y, wanted, "{overflow:?}");
@@ -138,7 +138,7 @@ fn samples_by_hand(rt: HostRuntime) -> Result<(), Fail> {
     }
     // The register is read before it is loaded.
     let delay = [Node::Input, Node::Reg(0), Node::Sub(0, 1), Node::Fit(2)];
-    let format = format(Rounding::Floor, Overflow::Wrap)?;
+    let format = format(Rounding::Floor, OverflowMode::Wrap)?;
     let (y, exact, register) = sampled(alloc, format, &delay, 1, 5, 2)?;
     assert_eq!(rt; (y, register), (5, 2));
     assert_eq!(rt; exact.as_slice(), [-3].as_slice());
@@ -166,7 +166,7 @@ fn what_is_counted(rt: HostRuntime) -> Result<(), Fail> {
     };
     assert_eq!(rt; net.counts(), wanted);
     assert_eq!(rt;
-        (net.output(), net.past_inputs(), net.format().width()),
+        (net.output(), net.feed_forward(), net.format().width()),
         (5, 1, 4)
     );
     assert_eq!(rt; net.registers(), 3);

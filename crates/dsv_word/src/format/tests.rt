@@ -4,7 +4,7 @@ use super::*;
 const MODES: [Rounding; 3] = [Rounding::Floor, Rounding::Ceil, Rounding::Nearest];
 
 fn format(int_bits: u32, frac_bits: u32, rounding: Rounding) -> Result<Format, BadWidth> {
-    Format::new(int_bits, frac_bits, rounding, Overflow::Wrap)
+    Format::new(int_bits, frac_bits, rounding, OverflowMode::Wrap)
 }
 
 fn frac(num: i128, den: i128) -> Result<Frac, BadWidth> {
@@ -38,8 +38,8 @@ fn lawful_widths(rt: HostRuntime) {
 
 #[test]
 fn both_modes_at_both_ends(rt: HostRuntime) -> Result<(), BadWidth> {
-    let wrapping = Format::new(2, 2, Rounding::Floor, Overflow::Wrap)?;
-    let saturating = Format::new(2, 2, Rounding::Floor, Overflow::Saturate)?;
+    let wrapping = Format::new(2, 2, Rounding::Floor, OverflowMode::Wrap)?;
+    let saturating = Format::new(2, 2, Rounding::Floor, OverflowMode::Saturate)?;
     assert_eq!(rt;
         (wrapping.width(), wrapping.lo(), wrapping.hi()),
         (4, -8, 7)

@@ -13,7 +13,7 @@ loop-turn-preserved g c =
       turns = omega arith;
       size = grind (arith, common_steps, grown);
       held = cc;
-      front = read_more (g.F.Files.held c.args.files.now c.args.name.now) c.loop-turn.bytes c.extend_from_slice.new.self c.loop-turn.got c.in_ok-count.count c.fetch.new.room i.front (rw (← i.held) seen.piece) (omega arith) grown;
+      front = read_more ((g.F.Files.seen c.args.files.now).held c.args.name.now) c.loop-turn.bytes c.extend_from_slice.new.self c.loop-turn.got c.in_ok-count.count c.fetch.new.room i.front (rw (← i.held) seen.piece) (omega arith) grown;
       came = rose_more i.came seen.came;
       faults = omega arith;
       blamed = cc;
@@ -23,7 +23,7 @@ pub returns-then-got-limit-clause-too_long : goal.returns-then-got-limit-clause-
 returns-then-got-limit-clause-too_long g c = λ _.
     let i = c.loop-turn.invariant in
     let seen = c.in_ok-count.ensures in
-    longer (g.F.Files.held c.args.files.now c.args.name.now) c.loop-turn.bytes c.loop-turn.got c.in_ok-count.count c.args.limit c.fetch.new.room i.front (rw (← i.held) seen.piece) (omega arith) (omega arith)
+    longer ((g.F.Files.seen c.args.files.now).held c.args.name.now) c.loop-turn.bytes c.loop-turn.got c.in_ok-count.count c.args.limit c.fetch.new.room i.front (rw (← i.held) seen.piece) (omega arith) (omega arith)
 
 pub returns-then-got-limit-clause-too_many : goal.returns-then-got-limit-clause-too_many
 returns-then-got-limit-clause-too_many g c = λ _.

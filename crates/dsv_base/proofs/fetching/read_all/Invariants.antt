@@ -7,9 +7,9 @@ invariant-loop-turn g l = record {
   within : l.got ≤ l.limit;
   turns : l.turn ≤ l.got;
   size : length l.bytes ≡ l.got;
-  held : g.F.Files.held l.files ≡ g.F.Files.held l.fn.files;
-  front : IfSome (g.F.Files.held l.fn.files l.name) (λ file. (l.bytes ≡ take l.got file) × (l.got ≤ length file));
-  came : RoseBy l.got (g.F.Files.came l.fn.files) (g.F.Files.came l.files);
-  faults : g.F.Files.faults l.fn.files ≤ g.F.Files.faults l.files;
-  blamed : g.F.Files.blamed l.files ≡ g.F.Files.blamed l.fn.files;
+  held : (g.F.Files.seen l.files).held ≡ (g.F.Files.seen l.fn.files).held;
+  front : IfSome ((g.F.Files.seen l.fn.files).held l.name) (λ file. (l.bytes ≡ take l.got file) × (l.got ≤ length file));
+  came : RoseBy l.got (g.F.Files.seen l.fn.files).came (g.F.Files.seen l.files).came;
+  faults : (g.F.Files.seen l.fn.files).faults ≤ (g.F.Files.seen l.files).faults;
+  blamed : (g.F.Files.seen l.files).blamed ≡ (g.F.Files.seen l.fn.files).blamed;
 }

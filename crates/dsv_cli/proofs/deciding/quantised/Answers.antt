@@ -1,5 +1,5 @@
 use Rattle.std.proofs.Common.{sym}
-use Rattle.dsv_words.specs.Asking.{asked_task}
+use Rattle.dsv_command.specs.Asking.{asked_task}
 use Rattle.dsv_cli.proofs.Causes.{quantised_as}
 use Rattle.dsv_cli.proofs.deciding.quantised.Goals as goal
 

@@ -2,7 +2,7 @@ use Rattle.std.proofs.Common.{[], arith}
 use Rattle.dsv_base.proofs.TakingLemmas.{writes_cut, append_nil}
 use Rattle.dsv_base.proofs.ListWrites.{cut_item}
 use Rattle.std.specs.List.{flat_map}
-use Rattle.dsv_cli.specs.declared.pieces.Piece.TheVariants.{Bytes}
+use Rattle.dsv_cli.specs.declared.pieces.Fragment.TheVariants.{Bytes}
 use Rattle.dsv_cli.specs.Pieces.{piece_text}
 use Rattle.dsv_cli.proofs.pieces.put_pieces.Goals as goal
 

@@ -5,4 +5,4 @@ use Rattle.dsv_cli.specs.Pieces.{piece_text}
 use Rattle.dsv_cli.proofs.pieces.put_pieces.Given as goal
 
 abbrev pub invariant-loop-piece : goal.invariant-loop-piece
-invariant-loop-piece g l = Wrote g.K.Sink.taken g.K.Sink.faults l.fn.sink l.sink (flat_map piece_text (take l.piece-index l.pieces))
+invariant-loop-piece g l = Wrote (g.K.Sink.seen l.fn.sink) (g.K.Sink.seen l.sink) (flat_map piece_text (take l.piece-index l.pieces))

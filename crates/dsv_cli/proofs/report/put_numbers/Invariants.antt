@@ -5,4 +5,4 @@ use Rattle.dsv_base.specs.Text.{spaced}
 use Rattle.dsv_cli.proofs.report.put_numbers.Given as goal
 
 abbrev pub invariant-loop-number : goal.invariant-loop-number
-invariant-loop-number g l = Wrote g.K.Sink.taken g.K.Sink.faults l.fn.sink l.sink (flat_map (spaced g.I.Integer.text) (take l.number-index l.numbers))
+invariant-loop-number g l = Wrote (g.K.Sink.seen l.fn.sink) (g.K.Sink.seen l.sink) (flat_map (spaced g.I.Integer.text) (take l.number-index l.numbers))

@@ -6,4 +6,4 @@ use Rattle.dsv_cli.proofs.report.put_rows.Given as goal
 
 abbrev pub invariant-loop-row : goal.invariant-loop-row
 invariant-loop-row g l =
-    Wrote g.K.Sink.taken g.K.Sink.faults l.fn.sink l.sink (flat_map (λ row. numbers_line l.word (take l.form.d row)) (take l.row-index (take l.form.d l.form.rows)))
+    Wrote (g.K.Sink.seen l.fn.sink) (g.K.Sink.seen l.sink) (flat_map (λ row. numbers_line l.word (take l.form.d row)) (take l.row-index (take l.form.d l.form.rows)))

@@ -4,4 +4,4 @@ use Rattle.dsv_cli.proofs.SampleLines.{lines}
 use Rattle.dsv_cli.proofs.report.put_samples.Given as goal
 
 abbrev pub invariant-loop-number : goal.invariant-loop-number
-invariant-loop-number g l = Wrote g.K.Sink.taken g.K.Sink.faults l.fn.sink l.sink (lines 0 (take l.number l.rows))
+invariant-loop-number g l = Wrote (g.K.Sink.seen l.fn.sink) (g.K.Sink.seen l.sink) (lines 0 (take l.number l.rows))

@@ -1,4 +1,4 @@
-use Rattle.dsv_words.specs.Asking.{asked_of}
+use Rattle.dsv_command.specs.Asking.{asked_of}
 use Rattle.dsv_cli.proofs.Causes.{told_inside, found_inside}
 use Rattle.dsv_cli.proofs.running.answer_of.Goals as goal
 

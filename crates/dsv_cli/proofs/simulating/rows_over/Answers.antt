@@ -1,6 +1,6 @@
+use Rattle.dsv_word.specs.Words.{IsWord}
 use Rattle.std.proofs.Common.{rules, ◌≡◌, replicate, pos}
 use Rattle.std.proofs.lemmas.List.Elements.{All-replicate}
-use Rattle.dsv_netlist.specs.Nodes.{IsWord}
 use Rattle.dsv_cli.proofs.RunLines.{zero_word}
 use Rattle.dsv_cli.proofs.simulating.rows_over.Goals as goal
 

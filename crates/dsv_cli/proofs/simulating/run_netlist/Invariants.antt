@@ -1,7 +1,7 @@
+use Rattle.dsv_word.specs.Words.{IsWord}
 use Rattle.std.proofs.Common.{◌≡◌, ◌++◌, length, drop, map}
 use Rattle.std.specs.List.{All}
 use Rattle.dsv_meaning.specs.RowViews.{row_of}
-use Rattle.dsv_netlist.specs.Nodes.{IsWord}
 use Rattle.dsv_realise.specs.Running.{net_rows}
 use Rattle.dsv_cli.proofs.simulating.run_netlist.Given as goal
 

@@ -6,4 +6,4 @@ use Rattle.dsv_cnf.proofs.dimacs.put_clause.Given as goal
 
 abbrev pub invariant-loop-literal : goal.invariant-loop-literal
 invariant-loop-literal g l =
-    Wrote g.K.Sink.taken g.K.Sink.faults l.fn.sink l.sink (flat_map literal_text (take l.literal-index l.clause))
+    Wrote (g.K.Sink.seen l.fn.sink) (g.K.Sink.seen l.sink) (flat_map literal_text (take l.literal-index l.clause))

@@ -6,4 +6,4 @@ use Rattle.dsv_cnf.proofs.dimacs.write_dimacs.Given as goal
 
 abbrev pub invariant-loop-i : goal.invariant-loop-i
 invariant-loop-i g l =
-    Wrote g.K.Sink.taken g.K.Sink.faults l.fn.sink l.sink (header_text l.formula.vars (length l.formula.clauses) ++ flat_map clause_text (take l.i l.formula.clauses))
+    Wrote (g.K.Sink.seen l.fn.sink) (g.K.Sink.seen l.sink) (header_text l.formula.vars (length l.formula.clauses) ++ flat_map clause_text (take l.i l.formula.clauses))

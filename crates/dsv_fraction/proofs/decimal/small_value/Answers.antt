@@ -1,6 +1,6 @@
 use Rattle.std.proofs.Common.{◌≤◌, arith}
-use Rattle.dsv_fraction.specs.Decimal.{digits_value}
-use Rattle.dsv_fraction.proofs.Digits.{value_step}
+use Rattle.dsv_text.specs.Digits.{digits_value}
+use Rattle.dsv_text.proofs.DigitLemmas.{value_step}
 use Rattle.dsv_fraction.proofs.decimal.small_value.Goals as goal
 
 pub returns-then-value-gt-GREATEST_EXPONENT : goal.returns-then-value-gt-GREATEST_EXPONENT

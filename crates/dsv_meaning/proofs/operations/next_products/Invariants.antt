@@ -1,11 +1,11 @@
 use Rattle.std.proofs.Common.{◌≡◌, ◌+◌, ◌*◌, length, drop}
-use Rattle.dsv_meaning.specs.Lines.{terms, next_terms}
+use Rattle.dsv_meaning.specs.Lines.{summands, next_summands}
 use Rattle.dsv_meaning.specs.Equations.{ago}
 use Rattle.dsv_meaning.proofs.operations.next_products.Given as goal
 
 abbrev pub invariant-loop-i : goal.invariant-loop-i
 invariant-loop-i l = record {
-  same : next_terms l.format (record { value = l.value; exact = l.exact.items }) (terms l.away (drop l.i l.coeffs) (ago l.words) l.i)
-      ≡ next_terms l.format (record { value = l.sum; exact = l.initial.exact.items }) (terms l.away l.coeffs (ago l.words) 0);
+  same : next_summands l.format (record { value = l.value; exact = l.exact.items }) (summands l.away (drop l.i l.coeffs) (ago l.words) l.i)
+      ≡ next_summands l.format (record { value = l.sum; exact = l.initial.exact.items }) (summands l.away l.coeffs (ago l.words) 0);
   count : length l.exact.items ≡ length l.initial.exact.items + 2 * l.i;
 }

@@ -9,7 +9,7 @@ pub returns-clause-meaning : goal.returns-clause-meaning
 returns-clause-meaning c =
     let fits : SFits w64 c.in_ok-word.word = search rules in
     let meant = simp to_z-of_z at c.in_words.ensures.meaning in
-    of_delta c.args.controller.now c.args.format c.args.kind c.in-Some.delta c.in_ok-word.word (record { b = c.in_ok-pair.pair.b.items; a = c.in_ok-pair.pair.a.items }) c.in_words.result
+    of_delta c.args.controller.now c.args.format c.args.realisation c.in-Some.delta c.in_ok-word.word (record { b = c.in_ok-pair.pair.b.items; a = c.in_ok-pair.pair.a.items }) c.in_words.result
     (sym c.in-Some.ensures) c.in_ok-word.ensures.positive c.in_ok-word.ensures.word c.in_ok-word.ensures.least
     (rw (c.b.ensures.same, c.a.ensures.same) at c.in_ok-pair.ensures.exact)
     (rw (c.as_slice.ensures.value, c.as_slice-2.ensures.value) at meant)

@@ -1,5 +1,5 @@
 use Rattle.std.proofs.Common.{arith}
-use Rattle.dsv_fraction.proofs.Digits.{value_step}
+use Rattle.dsv_text.proofs.DigitLemmas.{value_step}
 use Rattle.dsv_reader.proofs.numbers.digits_value.Goals as goal
 
 pub overflow_mul-value : goal.overflow_mul-value

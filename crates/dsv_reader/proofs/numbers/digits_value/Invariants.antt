@@ -1,5 +1,5 @@
 use Rattle.std.proofs.Common.{◌≡◌, drop}
-use Rattle.dsv_fraction.specs.Decimal.{digits_value}
+use Rattle.dsv_text.specs.Digits.{digits_value}
 use Rattle.dsv_reader.proofs.numbers.digits_value.Given as goal
 
 abbrev pub invariant-loop-byte : goal.invariant-loop-byte

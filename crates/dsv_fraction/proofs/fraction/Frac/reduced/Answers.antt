@@ -1,5 +1,5 @@
 use Rattle.std.proofs.Common.{◌∙◌, ap, sym}
-use Rattle.dsv_fraction.specs.Arithmetic.{narrowed}
+use Rattle.dsv_fraction.specs.Arithmetic.{bounded}
 use Rattle.dsv_fraction.proofs.Lowest.{is_lowest}
 use Rattle.dsv_fraction.proofs.fraction.Frac.reduced.Goals as goal
 
@@ -9,4 +9,4 @@ exact-requires c = let f = c.cancel-parts.ensures.parts in record { positive = f
 pub returns : goal.returns
 returns c =
     let f = c.cancel-parts.ensures.parts in
-    c.exact.ensures ∙ ap narrowed (sym (is_lowest c.args.negative _ _ _ _ c.requires f.coprime f.same))
+    c.exact.ensures ∙ ap bounded (sym (is_lowest c.args.negative _ _ _ _ c.requires f.coprime f.same))

@@ -1,6 +1,6 @@
+use Rattle.dsv_word.specs.Words.{IsWord}
 use Rattle.std.proofs.Common.{[], to_z, of_z, w64, rules}
 use Rattle.std.proofs.lemmas.List.Elements.{All-cons, All-nil}
-use Rattle.dsv_netlist.specs.Nodes.{IsWord}
 use Rattle.dsv_netlist.proofs.netlist.tests.sampled.Goals as goal
 
 pub step-y-requires-clause-words : goal.step-y-requires-clause-words

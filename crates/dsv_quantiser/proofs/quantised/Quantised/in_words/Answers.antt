@@ -11,7 +11,7 @@ returns-clause-meaning c =
     let high : SFits w64 c.in_ok-range.range.hi = search rules in
     let delta : SFits w64 c.args.delta = search rules in
     rw (to_z-of_z w64 c.args.delta delta, to_z-of_z w64 c.in_ok-range.range.lo low, to_z-of_z w64 c.in_ok-range.range.hi high)
-    (in_words_meant c.args.controller.now c.args.format c.args.kind c.args.b.now c.args.a.now c.in_ok-b.b.items c.in_ok-a.a.items c.args.delta c.in_ok-range.range.lo c.in_ok-range.range.hi
+    (in_words_meant c.args.controller.now c.args.format c.args.realisation c.args.b.now c.args.a.now c.in_ok-b.b.items c.in_ok-a.a.items c.args.delta c.in_ok-range.range.lo c.in_ok-range.range.hi
     c.requires.some c.in_ok-b.ensures.meaning c.in_ok-a.ensures.meaning (rw (c.min.ensures, c.max.ensures) at c.in_ok-range.ensures.meaning))
 
 pub invariant_of-result : goal.invariant_of-result
@@ -20,7 +20,7 @@ invariant_of-result c =
     let high : SFits w64 c.in_ok-range.range.hi = search rules in
     let delta : SFits w64 c.args.delta = search rules in
     rw (to_z-of_z w64 c.args.delta delta, to_z-of_z w64 c.in_ok-range.range.lo low, to_z-of_z w64 c.in_ok-range.range.hi high)
-    (is_fixed_point c.args.controller.now c.args.format c.args.kind c.args.b.now c.args.a.now c.in_ok-b.b.items c.in_ok-a.a.items c.args.delta c.in_ok-range.range.lo c.in_ok-range.range.hi
+    (is_fixed_point c.args.controller.now c.args.format c.args.realisation c.args.b.now c.args.a.now c.in_ok-b.b.items c.in_ok-a.a.items c.args.delta c.in_ok-range.range.lo c.in_ok-range.range.hi
     c.requires.one_length c.requires.some c.requires.few c.requires.delta
-    (in_words_meant c.args.controller.now c.args.format c.args.kind c.args.b.now c.args.a.now c.in_ok-b.b.items c.in_ok-a.a.items c.args.delta c.in_ok-range.range.lo c.in_ok-range.range.hi
+    (in_words_meant c.args.controller.now c.args.format c.args.realisation c.args.b.now c.args.a.now c.in_ok-b.b.items c.in_ok-a.a.items c.args.delta c.in_ok-range.range.lo c.in_ok-range.range.hi
     c.requires.some c.in_ok-b.ensures.meaning c.in_ok-a.ensures.meaning (rw (c.min.ensures, c.max.ensures) at c.in_ok-range.ensures.meaning)))

@@ -2,7 +2,7 @@ use Rattle.std.proofs.Common.{rules}
 use Rattle.std.proofs.lemmas.Int.{to_z-of_z}
 use mir.Syntax.{w128}
 use mir.Val.{SFits}
-use Rattle.dsv_word.specs.declared.format.Rounding.TheVariants as rounding
+use Rattle.dsv_names.specs.declared.rounding.Rounding.TheVariants as rounding
 use Rattle.dsv_word.specs.Quotients.{rounded}
 use Rattle.dsv_word.proofs.Floors.{nearest_same}
 use Rattle.dsv_word.proofs.Meanings.{word_is, rounded_meant}

@@ -1,0 +1,62 @@
+// The options of the command.
+ghost use Rattle.std.specs.Prelude.{◌≡◌};
+ghost use Rattle.std.specs.Map.{lookup};
+ghost use Rattle.std.specs.Str.{bytes_eq};
+ghost use Rattle.dsv_command.specs.Options.{command_options};
+ghost use Rattle.dsv_command.specs.Views.{options_in};
+
+/// An option: its name without the dashes, and whether it takes a value.
+#[derive(Clone, Copy, Debug)]
+pub struct CommandOption {
+    pub name: &'static str,
+    pub takes_value: bool,
+}
+
+/// The options that the command has. One more stands here and in `specs/Options.antt`; what it asks for, in the job.
+const OPTIONS: [CommandOption; 5] = [
+    CommandOption {
+        name: "property",
+        takes_value: true,
+    },
+    CommandOption {
+        name: "simulate",
+        takes_value: true,
+    },
+    CommandOption {
+        name: "realization",
+        takes_value: true,
+    },
+    CommandOption {
+        name: "rounding",
+        takes_value: true,
+    },
+    CommandOption {
+        name: "overflow-mode",
+        takes_value: true,
+    },
+];
+
+/// The table of the options.
+pub fn command_options() -> &'static [CommandOption]
+    ensures { options_in result.now ≡ command_options }
+{
+    &OPTIONS
+}
+
+/// The key of FILE. No option has it, since the name of an option ends before the first `=` of its word.
+pub const FILE_KEY: &str = "FILE=";
+
+/// The value of an option that takes none.
+pub const FLAG_VALUE: &str = "true";
+
+/// Whether the option of this name takes a value, where there is such an option.
+pub fn takes_value(options: &[CommandOption], name: &str) -> Option<bool>
+    ensures { result ≡ lookup (bytes_eq name.now) (options_in options.now) }
+{
+    for option in options {
+        if name == option.name {
+            return Some(option.takes_value);
+        }
+    }
+    None
+}

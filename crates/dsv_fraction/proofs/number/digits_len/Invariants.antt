@@ -1,6 +1,0 @@
-use Rattle.std.proofs.Common.{◌≡◌, ◌+◌, drop}
-use Rattle.dsv_fraction.specs.Number.{digits_len}
-use Rattle.dsv_fraction.proofs.number.digits_len.Given as goal
-
-abbrev pub invariant-loop-byte : goal.invariant-loop-byte
-invariant-loop-byte l = (l.count ≡ l.byte-index) × (l.count + digits_len (drop l.byte-index l.text) ≡ digits_len l.text)

@@ -1,0 +1,10 @@
+pub mod Blocks
+pub mod Fields
+pub mod ListNames
+pub mod Names
+pub mod OverflowModes
+pub mod Properties
+pub mod Realisations
+pub mod Roundings
+pub mod Settings
+pub mod Wants

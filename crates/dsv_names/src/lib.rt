@@ -1,0 +1,26 @@
+//! The words that stand in commands, files and reports: enums whose values have names, one table each.
+#![tactic(auto)]
+
+mod block;
+mod field;
+mod law;
+mod list_name;
+mod named;
+mod overflow_mode;
+mod property;
+mod realisation;
+mod rounding;
+mod setting;
+mod wanted;
+
+pub use block::Block;
+pub use field::Field;
+pub use law::names_are_inverse;
+pub use list_name::ListName;
+pub use named::{Named, find_named};
+pub use overflow_mode::OverflowMode;
+pub use property::Property;
+pub use realisation::Realisation;
+pub use rounding::Rounding;
+pub use setting::Setting;
+pub use wanted::Wanted;
