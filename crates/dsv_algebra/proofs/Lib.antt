@@ -1,4 +1,5 @@
 pub mod Behind
+pub mod Casts
 pub mod Definite
 pub mod Falling
 pub mod Floors

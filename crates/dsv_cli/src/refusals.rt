@@ -156,7 +156,7 @@ fn input_code() -> &'static [u8]
 }
 
 /// Writes the refusal of an input.
-#[tactic(auto, using(dsv_word::proofs::Casts::casts))]
+#[tactic(auto, using(dsv_algebra::proofs::Casts::casts))]
 pub fn put_input_range<K: Sink>(sink: &mut K, index: u32, value: &i64) -> Result<(), Failed>
     ensures { Writes (K.seen sink.old) (K.seen sink.new) result (input_text index value.now) }
 {

@@ -1,5 +1,5 @@
 // Writes the text of an answer, with no memory.
-#![tactic(auto, using(dsv_word::proofs::Casts::casts))]
+#![tactic(auto, using(dsv_algebra::proofs::Casts::casts))]
 
 ghost use Rattle.std.specs.Prelude.{◌≡◌, ◌≤◌, ◌++◌, take, map};
 ghost use Rattle.std.specs.Fmt.{signed_decimal};

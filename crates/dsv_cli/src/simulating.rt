@@ -1,5 +1,5 @@
 // Runs a controller in words over inputs.
-#![tactic(auto, using(dsv_word::proofs::Casts::casts))]
+#![tactic(auto, using(dsv_algebra::proofs::Casts::casts))]
 
 ghost use Rattle.dsv_word.specs.Words.{IsWord};
 ghost use Rattle.std.specs.Prelude.{◌≡◌, ◌≤◌, length, IfOk, MatchOption};

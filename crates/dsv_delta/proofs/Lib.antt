@@ -1,4 +1,3 @@
-pub mod Casts
 pub mod Heavy
 pub mod Multiples
 pub mod Overs

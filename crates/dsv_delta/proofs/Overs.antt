@@ -8,14 +8,16 @@ use lib.Signed.{◌<ℤ◌}
 use Rattle.dsv_algebra.specs.Vectors.{Vector}
 use Rattle.dsv_algebra.proofs.Normaliser.{ring, env, var, num, times as product}
 use Rattle.dsv_fraction.specs.Ratio.{Ratio}
-use Rattle.dsv_fraction.specs.Arithmetic.{lowest, over, quotient, bounded, and_then}
+use Rattle.dsv_text.specs.Stages.{and_then}
+use Rattle.dsv_fraction.specs.Arithmetic.{lowest, over, quotient, bounded}
 use Rattle.dsv_fraction.specs.declared.fraction.TooWide.{TooWide}
 use Rattle.dsv_fraction.proofs.Gcds.{positive_product}
 use Rattle.dsv_fraction.proofs.Powers.{lowest_same, lowest_positive}
 use Rattle.dsv_fraction.proofs.Values.{lowest_exact, narrowed_only}
 use Rattle.dsv_names.specs.declared.list_name.ListName.{ListName}
 use Rattle.dsv_delta.specs.declared.refusal.DeltaWide.{DeltaWide}
-use Rattle.dsv_delta.specs.Deltas.{over_power, divided, or_wide, coefficients_from, ◌>>=◌}
+use Rattle.dsv_text.specs.Stages.{◌>>=◌}
+use Rattle.dsv_delta.specs.Deltas.{over_power, divided, or_wide, coefficients_from}
 
 pub first_power : (delta : Ratio) (s l : ℤ) → pos 0 <ℤ l → over s l ≡ over_power delta s (unsigned_abs l) 0
 first_power delta s (pos l) h =

@@ -1,21 +1,17 @@
 -- Coefficients in the delta operator: those of the powers of (z - 1) / delta.
 use Rattle.std.specs.Prelude.{ℕ, zero, suc, ◌-◌, ◌*◌, ◌/◌, ◌^◌, ◌&&◌, nat_lt, if◌then◌else◌, List, [], ◌∷◌, ◌++◌, length, Result, Ok, Err, ℤ, pos, ◌*ℤ◌}
 use Rattle.std.specs.Int.RustNames.{unsigned_abs}
+use Rattle.dsv_text.specs.Stages.{◌>>=◌}
 use Rattle.dsv_algebra.specs.Vectors.{Vector, vector_of}
 use Rattle.dsv_fraction.specs.Ratio.{Ratio}
 use Rattle.dsv_fraction.specs.Gcd.{gcd}
-use Rattle.dsv_fraction.specs.Arithmetic.{lowest, bounded, and_then}
+use Rattle.dsv_text.specs.Stages.{and_then}
+use Rattle.dsv_fraction.specs.Arithmetic.{lowest, bounded}
 use Rattle.dsv_fraction.specs.declared.fraction.TooWide.{TooWide}
 use Rattle.dsv_names.specs.declared.list_name.ListName.{ListName}
 use Rattle.dsv_names.specs.declared.list_name.ListName.TheVariants as list
 use Rattle.dsv_delta.specs.declared.refusal.DeltaWide.{DeltaWide}
 use Rattle.dsv_delta.specs.Binomials.{binomial_sum, weight}
-
-infixl 10 ◌>>=◌
--- the first step, and behind what it gives the second; the first refusal is the answer
-abbrev pub ◌>>=◌ : {A B : Type 0} → Result A DeltaWide → (A → Result B DeltaWide) → Result B DeltaWide
-(Ok x) >>= f = f x
-(Err r) >>= f = Err r
 
 -- ---- over one denominator
 -- the least common multiple

@@ -1,5 +1,5 @@
 // Fractions over one denominator.
-#![tactic(auto, using(crate::proofs::Casts::casts))]
+#![tactic(auto, using(dsv_algebra::proofs::Casts::casts))]
 
 ghost use Rattle.std.specs.Prelude.{◌≡◌, ℕ, ◌<◌, ◌≤◌, ◌^◌, ◌*ℤ◌, ◌/◌, length, pos, ◌≤ℤ◌, MatchOption};
 ghost use Rattle.std.specs.Int.RustNames.{unsigned_abs};

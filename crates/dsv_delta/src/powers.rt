@@ -1,5 +1,5 @@
 // Fractions over powers of delta.
-#![tactic(auto, using(crate::proofs::Casts::casts))]
+#![tactic(auto, using(dsv_algebra::proofs::Casts::casts))]
 
 ghost use Rattle.std.specs.Prelude.{◌≡◌, ◌≤◌, length, [], pos, ◌<ℤ◌, MatchResult, Ok, Err, IfOk};
 ghost use Rattle.std.specs.Int.RustNames.{unsigned_abs};

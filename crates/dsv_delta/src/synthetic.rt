@@ -1,5 +1,5 @@
 // Synthetic division by z - 1.
-#![tactic(auto, using(crate::proofs::Casts::casts))]
+#![tactic(auto, using(dsv_algebra::proofs::Casts::casts))]
 
 ghost use Rattle.std.specs.Prelude.{◌≡◌, ℕ, ◌-◌, ◌^◌, ◌<◌, ◌≤◌, length, take, pos, slice_index_or};
 ghost use Rattle.dsv_algebra.specs.Vectors.{vector_of};

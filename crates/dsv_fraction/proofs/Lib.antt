@@ -1,4 +1,3 @@
-pub mod Casts
 pub mod Decimals
 pub mod Digits
 pub mod Gcds

@@ -7,7 +7,8 @@ use Rattle.std.proofs.lemmas.Int.{ints}
 use Rattle.dsv_algebra.proofs.Normaliser.{ring, env, var, plus, times as product, minus}
 use Rattle.dsv_fraction.specs.Gcd.{gcd}
 use Rattle.dsv_fraction.specs.Ratio.{Ratio}
-use Rattle.dsv_fraction.specs.Arithmetic.{lowest, over, times, quotient, negated, is_bounded, bounded, bounded_size, bounded_whole, and_then, too_wide, sum_of}
+use Rattle.dsv_text.specs.Stages.{and_then}
+use Rattle.dsv_fraction.specs.Arithmetic.{lowest, over, times, quotient, negated, is_bounded, bounded, bounded_size, bounded_whole, too_wide, sum_of}
 use Rattle.dsv_fraction.specs.declared.fraction.TooWide.{TooWide}
 use Rattle.dsv_fraction.proofs.Gcds.{gcd-is, divided, positive_product}
 use Rattle.dsv_fraction.proofs.Lowest.{cancels}

@@ -3,6 +3,7 @@ use Rattle.std.specs.Prelude.{ℕ, suc, ◌*◌, ◌/◌, ◌^◌, Bool, true, f
 use Rattle.std.specs.Int.RustNames.{unsigned_abs}
 use Rattle.std.specs.declared.cmp.Ordering.{Ordering}
 use Rattle.std.specs.Ordering.{int_cmp}
+use Rattle.dsv_text.specs.Stages.{and_then}
 use Rattle.dsv_fraction.specs.Ratio.{Ratio}
 use Rattle.dsv_fraction.specs.Gcd.{gcd}
 use Rattle.dsv_fraction.specs.declared.fraction.TooWide.{TooWide}
@@ -56,10 +57,6 @@ bounded_whole z = if nat_lt (unsigned_abs z) (2 ^ 127) then Ok z else Err too_wi
 
 abbrev pub bounded_size : ℕ → Result ℕ TooWide
 bounded_size n = if nat_lt n (2 ^ 127) then Ok n else Err too_wide
-
-abbrev pub and_then : {A B : Type 0} → Result A TooWide → (A → Result B TooWide) → Result B TooWide
-and_then (Ok x) f = f x
-and_then (Err e) f = Err e
 
 -- a/b + c/d with g = gcd b d: each of b (d/g), a (d/g), c (b/g) and the sum of the last two is tested
 abbrev pub sum_of : Ratio → Ratio → Result Ratio TooWide

@@ -1,5 +1,5 @@
 -- A fraction as contracts see it, and what is true of each `Frac`.
-use Rattle.std.specs.Prelude.{ℕ, ◌^◌, ◌<◌, ℤ}
+use Rattle.std.specs.Prelude.{ℕ, ◌^◌, ◌<◌, ℤ, pos}
 use Rattle.std.specs.Int.RustNames.{unsigned_abs}
 use Rattle.std.specs.Int.{IsGcd}
 
@@ -7,6 +7,12 @@ use Rattle.std.specs.Int.{IsGcd}
 pub record Ratio : Type 0 where
   pub num : ℤ
   pub den : ℕ
+
+abbrev pub zero : Ratio
+zero = record { num = pos 0; den = 1 }
+
+abbrev pub one : Ratio
+one = record { num = pos 1; den = 1 }
 
 -- in lowest terms, with a positive denominator and both parts below 2^127 in size
 pub record IsLowest (r : Ratio) : Type 0 where

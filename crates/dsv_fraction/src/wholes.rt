@@ -1,5 +1,5 @@
 // Whole numbers of 128 bits, refused where they pass 2^127.
-#![tactic(auto, using(crate::proofs::Casts::casts))]
+#![tactic(auto, using(dsv_algebra::proofs::Casts::casts))]
 
 ghost use Rattle.std.specs.Prelude.{◌≡◌, ◌*ℤ◌, ◌+ℤ◌, ◌*◌, ◌<◌, ◌^◌, IfOk};
 ghost use Rattle.std.specs.Int.RustNames.{unsigned_abs};

@@ -1,4 +1,3 @@
 pub mod Accepted
-pub mod Casts
 pub mod Choosing
 pub mod Halves

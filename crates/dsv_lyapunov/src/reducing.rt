@@ -1,5 +1,5 @@
 // Takes the common power of two out of the coefficients of a polynomial.
-#![tactic(auto, using(crate::proofs::Casts::casts))]
+#![tactic(auto, using(dsv_algebra::proofs::Casts::casts))]
 
 ghost use Rattle.std.specs.Prelude.{◌≡◌, map, Any, length, pos, ◌*ℤ◌, IfSome, IfNone};
 ghost use Rattle.dsv_forms.specs.Poly.{IsPoly};

@@ -1,4 +1,3 @@
-pub mod Casts
 pub mod ChainLemmas
 pub mod LineLemmas
 pub mod RunLemmas

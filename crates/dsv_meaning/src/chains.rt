@@ -1,5 +1,5 @@
 // The new words of registers.
-#![tactic(auto, using(crate::proofs::Casts::casts))]
+#![tactic(auto, using(dsv_algebra::proofs::Casts::casts))]
 
 ghost use Rattle.dsv_word.specs.Words.{IsWord};
 ghost use Rattle.std.specs.Prelude.{◌≡◌, ◌+◌, ◌*◌, ◌≤◌, length, drop};

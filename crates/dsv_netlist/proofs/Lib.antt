@@ -1,4 +1,3 @@
-pub mod Casts
 pub mod Sizes
 pub mod Naming
 pub mod BoundLemmas

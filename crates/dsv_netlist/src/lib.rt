@@ -1,5 +1,5 @@
 //! Netlists: nodes that refer backwards, an output, and a next node for each register; their steps, sample by sample.
-#![tactic(auto, using(crate::proofs::Casts::casts))]
+#![tactic(auto, using(dsv_algebra::proofs::Casts::casts))]
 
 mod bounds;
 mod conditions;

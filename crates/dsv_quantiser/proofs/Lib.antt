@@ -1,4 +1,3 @@
-pub mod Casts
 pub mod Converted
 pub mod Listing
 pub mod Ranges

@@ -6,14 +6,15 @@ use Rattle.std.proofs.Math.ListN.{get_or-append}
 use Rattle.std.proofs.Math.Seq.{get_or-append_seam, take-length}
 use Rattle.std.proofs.lemmas.List.{take_more, get_or_default, length-drop}
 use Rattle.std.proofs.lemmas.Grind.{get_or_after_one}
-use Rattle.dsv_fraction.specs.Ratio.{Ratio}
+use Rattle.dsv_fraction.specs.Ratio.{Ratio, zero as nought}
 use Rattle.dsv_word.specs.declared.format.Format.{Format}
-use Rattle.dsv_reader.specs.Controllers.{ControllerView, zero as nought}
+use Rattle.dsv_reader.specs.Controllers.{ControllerView}
 use Rattle.dsv_names.specs.declared.realisation.Realisation.{Realisation}
 use Rattle.dsv_names.specs.declared.list_name.ListName.{ListName}
 use Rattle.dsv_quantiser.specs.declared.refusal.QuantRefusal.{QuantRefusal}
 use Rattle.dsv_quantiser.specs.FixedPoint.{IsFixedPoint, IsDeltaWord, unit}
-use Rattle.dsv_quantiser.specs.Quantising.{◌>>=◌, word_at, words_from}
+use Rattle.dsv_text.specs.Stages.{◌>>=◌}
+use Rattle.dsv_quantiser.specs.Quantising.{word_at, words_from}
 use Rattle.dsv_quantiser.specs.Meaning.{IsWordOf, AreWordsOf, IsRangeOf, IsInWords}
 
 -- one fraction more

@@ -1,10 +1,10 @@
 -- What the words of a controller mean.
 use Rattle.std.specs.Prelude.{◌≡◌, ℕ, ◌+◌, ◌^◌, ◌<◌, ◌≤◌, ◌↔◌, List, length, ℤ, pos, ◌*ℤ◌, ◌≤ℤ◌, slice_index_or, MatchBool, Some, Ok, ◌<ℤ◌}
-use Rattle.dsv_fraction.specs.Ratio.{Ratio}
+use Rattle.dsv_fraction.specs.Ratio.{Ratio, zero}
 use Rattle.dsv_word.specs.declared.format.Format.{Format}
 use Rattle.dsv_word.specs.Quotients.{IsRounded}
 use Rattle.dsv_word.specs.Words.{width, lo, hi, IsWord}
-use Rattle.dsv_reader.specs.Controllers.{ControllerView, zero}
+use Rattle.dsv_reader.specs.Controllers.{ControllerView}
 use Rattle.dsv_delta.specs.Deltas.{Lists, delta_lists}
 use Rattle.dsv_names.specs.Realisations.{is_delta}
 use Rattle.dsv_names.specs.declared.realisation.Realisation.{Realisation}

@@ -1,6 +1,7 @@
 -- How a controller becomes words, and the first reason for which it can't.
 use Rattle.std.specs.Prelude.{ℕ, List, [], ◌∷◌, ◌++◌, length, drop, Bool, ◌&&◌, if◌then◌else◌, Result, Ok, Err, Option, Some, None, ℤ, pos, int_lt, int_le}
 use Rattle.std.specs.Int.{int_max, int_min}
+use Rattle.dsv_text.specs.Stages.{◌>>=◌}
 use Rattle.dsv_algebra.specs.Floor.{floored}
 use Rattle.dsv_fraction.specs.Ratio.{Ratio}
 use Rattle.dsv_fraction.specs.declared.fraction.TooWide.{TooWide}
@@ -18,12 +19,6 @@ use Rattle.dsv_quantiser.specs.declared.refusal.QuantRefusal.{QuantRefusal}
 use Rattle.dsv_quantiser.specs.declared.refusal.QuantRefusal.TheVariants as refusal
 use Rattle.dsv_names.specs.Realisations.{is_delta}
 use Rattle.dsv_quantiser.specs.FixedPoint.{FixedPoint, unit}
-
-infixl 10 ◌>>=◌
--- the first step, and behind what it gives the second; the first refusal is the answer
-abbrev pub ◌>>=◌ : {A B : Type 0} → Result A QuantRefusal → (A → Result B QuantRefusal) → Result B QuantRefusal
-(Ok x) >>= f = f x
-(Err r) >>= f = Err r
 
 -- ---- one number
 -- the whole number that was made, where no part was too wide

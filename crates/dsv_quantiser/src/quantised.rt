@@ -1,5 +1,5 @@
 // Controllers in words.
-#![tactic(auto, using(crate::proofs::Casts::casts))]
+#![tactic(auto, using(dsv_algebra::proofs::Casts::casts))]
 
 use crate::range::range_of;
 use crate::refusal::QuantRefusal;

@@ -1,5 +1,5 @@
 // The range of the inputs.
-#![tactic(auto, using(crate::proofs::Casts::casts))]
+#![tactic(auto, using(dsv_algebra::proofs::Casts::casts))]
 
 ghost use Rattle.std.specs.Prelude.{◌≡◌, IfOk};
 ghost use Rattle.dsv_quantiser.specs.Quantising.{range_of, clamped};

@@ -5,16 +5,15 @@ use Rattle.std.proofs.lemmas.Int.{unsigned_abs-mul}
 use Rattle.std.specs.Int.RustNames.{unsigned_abs}
 use Rattle.std.specs.Prelude.{Result, Ok, Err, slice_index_or}
 use Rattle.std.specs.Int.{IsGcd}
-use Rattle.dsv_fraction.specs.Ratio.{Ratio}
+use Rattle.dsv_fraction.specs.Ratio.{Ratio, one}
 use Rattle.dsv_fraction.specs.Gcd.{gcd}
 use Rattle.dsv_fraction.specs.Arithmetic.{lowest, over, quotient, bounded}
 use Rattle.dsv_fraction.proofs.Gcds.{gcd-is}
 use Rattle.dsv_fraction.proofs.Lowest.{lowest_parts}
 use Rattle.dsv_token.specs.declared.refusal.FileRefusal.{FileRefusal}
-use Rattle.dsv_syntax.specs.Steps.{◌>>=◌}
+use Rattle.dsv_text.specs.Stages.{◌>>=◌}
 use Rattle.dsv_reader.specs.declared.numbers.Coefficient.{Coefficient}
-use Rattle.dsv_reader.specs.Controllers.{one}
-use Rattle.dsv_reader.specs.Controllers as controllers
+use Rattle.dsv_fraction.specs.Ratio as ratio
 use Rattle.dsv_reader.specs.Reading.{BeginsWith, by_quotient, divided_from, divided}
 
 one_gcd : IsGcd 1 1 1
@@ -42,16 +41,16 @@ self_quotient q h p =
 
 -- ---- the first quotient stays first
 kept_by : (a0 : Ratio) (cs : List Coefficient) (q : Ratio) (out qs : List Ratio) (r : Result Ratio FileRefusal) →
-    ((o : List Ratio) → divided_from a0 cs (q ∷ o) ≡ Ok qs → slice_index_or qs 0 controllers.zero ≡ q) →
-    (r >>= λ x. divided_from a0 cs (q ∷ out ++ x ∷ [])) ≡ Ok qs → slice_index_or qs 0 controllers.zero ≡ q
+    ((o : List Ratio) → divided_from a0 cs (q ∷ o) ≡ Ok qs → slice_index_or qs 0 ratio.zero ≡ q) →
+    (r >>= λ x. divided_from a0 cs (q ∷ out ++ x ∷ [])) ≡ Ok qs → slice_index_or qs 0 ratio.zero ≡ q
 kept_by a0 cs q out qs (Ok x) ih e = ih (out ++ x ∷ []) e
 kept_by a0 cs q out qs (Err f) ih e = absurd (cc)
 
-first_kept : (a0 : Ratio) (cs : List Coefficient) (q : Ratio) (out qs : List Ratio) → divided_from a0 cs (q ∷ out) ≡ Ok qs → slice_index_or qs 0 controllers.zero ≡ q
-first_kept a0 [] q out qs e = let f : qs ≡ q ∷ out = cc in ap (λ xs. slice_index_or xs 0 controllers.zero) f
+first_kept : (a0 : Ratio) (cs : List Coefficient) (q : Ratio) (out qs : List Ratio) → divided_from a0 cs (q ∷ out) ≡ Ok qs → slice_index_or qs 0 ratio.zero ≡ q
+first_kept a0 [] q out qs e = let f : qs ≡ q ∷ out = cc in ap (λ xs. slice_index_or xs 0 ratio.zero) f
 first_kept a0 (c ∷ cs) q out qs e = kept_by a0 cs q out qs (by_quotient c.at (bounded (quotient c.value a0))) (λ o. first_kept a0 cs q o qs) e
 
-pub divided_first : (a0 : Ratio) (cs : List Coefficient) (qs : List Ratio) → a0.num ≢ pos 0 → 0 < a0.den → BeginsWith a0 cs → divided a0 cs ≡ Ok qs → slice_index_or qs 0 controllers.zero ≡ one
+pub divided_first : (a0 : Ratio) (cs : List Coefficient) (qs : List Ratio) → a0.num ≢ pos 0 → 0 < a0.den → BeginsWith a0 cs → divided a0 cs ≡ Ok qs → slice_index_or qs 0 ratio.zero ≡ one
 divided_first a0 [] qs h p b e = absurd b
 divided_first a0 (c ∷ cs) qs h p b e =
     let f : quotient c.value a0 ≡ one = ap (λ v. quotient v a0) b ∙ self_quotient a0 h p in

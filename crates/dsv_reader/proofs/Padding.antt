@@ -1,8 +1,7 @@
 -- Lists with zeros behind them.
 use Rattle.std.proofs.Common.{◌≡◌, ℕ, suc, ◌-◌, ◌<◌, List, [], ◌∷◌, ◌++◌, length, sym, ap, ◌∙◌, arith, append_assoc, length-append}
 use Rattle.std.specs.Prelude.{replicate}
-use Rattle.dsv_fraction.specs.Ratio.{Ratio}
-use Rattle.dsv_reader.specs.Controllers.{zero}
+use Rattle.dsv_fraction.specs.Ratio.{Ratio, zero}
 use Rattle.dsv_reader.specs.Reading.{padded}
 
 -- one more zero

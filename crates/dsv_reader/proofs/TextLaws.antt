@@ -7,7 +7,7 @@ use Rattle.dsv_token.specs.Text.{text_of}
 use Rattle.dsv_token.specs.declared.refusal.FileRefusal.{FileRefusal}
 use Rattle.dsv_token.specs.declared.token.Token.{Token}
 use Rattle.dsv_token.proofs.CutLaws.{cut_law}
-use Rattle.dsv_syntax.specs.Steps.{◌>>=◌}
+use Rattle.dsv_text.specs.Stages.{◌>>=◌}
 use Rattle.dsv_syntax.specs.Parsing.{parsed}
 use Rattle.dsv_syntax.specs.declared.parsing.Syntax.{Syntax}
 use Rattle.dsv_syntax.proofs.Binds.{unbind}

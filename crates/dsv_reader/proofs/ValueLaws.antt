@@ -8,7 +8,7 @@ use Rattle.dsv_token.specs.declared.token.Token.{Token}
 use Rattle.dsv_syntax.specs.declared.entry.Label.{Label}
 use Rattle.dsv_syntax.specs.declared.entry.Label.TheVariants as label
 use Rattle.dsv_syntax.specs.declared.entry.Entry.{Entry}
-use Rattle.dsv_syntax.specs.Steps.{◌>>=◌}
+use Rattle.dsv_text.specs.Stages.{◌>>=◌}
 use Rattle.dsv_syntax.proofs.Binds.{unbind}
 use Rattle.dsv_reader.specs.declared.fields.Values.{Values}
 use Rattle.dsv_reader.specs.Numbers.{text_at, is_octal, no_number, passed_over}

@@ -1,7 +1,7 @@
 -- Controllers as contracts see them.
 use Rattle.std.specs.Prelude.{◌≡◌, ℕ, ◌^◌, ◌<◌, ◌≤◌, List, length, Option, pos, ◌<ℤ◌, slice_index_or}
 use Rattle.std.specs.Int.RustNames.{unsigned_abs}
-use Rattle.dsv_fraction.specs.Ratio.{Ratio}
+use Rattle.dsv_fraction.specs.Ratio.{Ratio, zero, one}
 use Rattle.dsv_word.specs.Width.{IsLawful}
 use Rattle.dsv_reader.specs.declared.costs.Costs.{Costs}
 
@@ -17,12 +17,6 @@ pub record ControllerView : Type 0 where
   pub delta : Option Ratio
   pub clock : ℕ
   pub costs : Costs
-
-abbrev pub zero : Ratio
-zero = record { num = pos 0; den = 1 }
-
-abbrev pub one : Ratio
-one = record { num = pos 1; den = 1 }
 
 -- positive, with both parts below 2^62
 pub record IsTime (t : Ratio) : Type 0 where

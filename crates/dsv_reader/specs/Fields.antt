@@ -9,7 +9,7 @@ use Rattle.dsv_names.specs.declared.setting.Setting.TheVariants as setting
 use Rattle.dsv_syntax.specs.declared.entry.Label.{Label}
 use Rattle.dsv_syntax.specs.declared.entry.Label.TheVariants as label
 use Rattle.dsv_syntax.specs.declared.entry.Entry.{Entry}
-use Rattle.dsv_syntax.specs.Steps.{◌>>=◌}
+use Rattle.dsv_text.specs.Stages.{◌>>=◌}
 use Rattle.dsv_reader.specs.declared.fields.SystemFields.{SystemFields}
 use Rattle.dsv_reader.specs.declared.fields.ImplementationFields.{ImplementationFields}
 use Rattle.dsv_reader.specs.declared.fields.HardwareFields.{HardwareFields}

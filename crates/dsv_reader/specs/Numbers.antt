@@ -11,7 +11,7 @@ use Rattle.dsv_fraction.specs.declared.decimal.DecimalRefusal.TheVariants as dec
 use Rattle.dsv_token.specs.declared.refusal.FileRefusal.{FileRefusal}
 use Rattle.dsv_token.specs.declared.refusal.FileRefusal.TheVariants as refusal
 use Rattle.dsv_token.specs.declared.token.Token.{Token}
-use Rattle.dsv_syntax.specs.Steps.{◌>>=◌}
+use Rattle.dsv_text.specs.Stages.{◌>>=◌}
 use Rattle.dsv_reader.specs.declared.numbers.Whole.{Whole}
 use Rattle.dsv_reader.specs.declared.numbers.Coefficient.{Coefficient}
 

@@ -1,7 +1,7 @@
 -- What a file says, pass by pass over the whole file; the first pass that refuses gives the answer.
 use Rattle.std.specs.Prelude.{◌≡◌, ℕ, ◌+◌, ◌-◌, Bool, true, false, ◌&&◌, ◌==◌, nat_lt, nat_le, max, if◌then◌else◌, List, [], ◌∷◌, ◌++◌, length, replicate, Option, Some, None, Result, Ok, Err, pos, unwrap_or}
 use Rattle.std.specs.Ordering.{int_eq}
-use Rattle.dsv_fraction.specs.Ratio.{Ratio}
+use Rattle.dsv_fraction.specs.Ratio.{Ratio, zero, one}
 use Rattle.dsv_fraction.specs.Arithmetic.{quotient, bounded}
 use Rattle.dsv_fraction.specs.declared.fraction.TooWide.{TooWide}
 use Rattle.dsv_word.specs.declared.format.TheConstants.{GREATEST_WIDTH}
@@ -11,7 +11,7 @@ use Rattle.dsv_token.specs.declared.refusal.FileRefusal.{FileRefusal}
 use Rattle.dsv_token.specs.declared.refusal.FileRefusal.TheVariants as refusal
 use Rattle.dsv_names.specs.declared.field.Field.{Field}
 use Rattle.dsv_names.specs.declared.field.Field.TheVariants as field
-use Rattle.dsv_syntax.specs.Steps.{◌>>=◌}
+use Rattle.dsv_text.specs.Stages.{◌>>=◌}
 use Rattle.dsv_syntax.specs.Parsing.{parsed}
 use Rattle.dsv_syntax.specs.declared.parsing.Syntax.{Syntax}
 use Rattle.dsv_reader.specs.declared.costs.Costs.{Costs}
@@ -24,7 +24,7 @@ use Rattle.dsv_reader.specs.declared.fields.Values.{Values}
 use Rattle.dsv_reader.specs.declared.blocks.System.{System}
 use Rattle.dsv_reader.specs.declared.blocks.Implementation.{Implementation}
 use Rattle.dsv_reader.specs.declared.blocks.Blocks.{Blocks}
-use Rattle.dsv_reader.specs.Controllers.{ControllerView, zero, one}
+use Rattle.dsv_reader.specs.Controllers.{ControllerView}
 use Rattle.dsv_reader.specs.Fields.{values_of}
 
 -- ---- fields that are missing

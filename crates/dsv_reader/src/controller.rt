@@ -1,6 +1,7 @@
 // Controllers as a file gives them.
 ghost use Rattle.std.specs.Prelude.{◌≡◌, unwrap_or};
-ghost use Rattle.dsv_reader.specs.Controllers.{IsTime, IsClock, one};
+ghost use Rattle.dsv_fraction.specs.Ratio.{one};
+ghost use Rattle.dsv_reader.specs.Controllers.{IsTime, IsClock};
 
 use crate::blocks::Blocks;
 use crate::costing::costs_of;
@@ -64,7 +65,8 @@ impl Model for Controller {
 
 impl Controller {
     ghost use Rattle.std.specs.Prelude.{◌≡◌, ◌≤◌, length, slice_index_or, true};
-    ghost use Rattle.dsv_reader.specs.Controllers.{IsController, zero, one};
+    ghost use Rattle.dsv_fraction.specs.Ratio.{zero, one};
+    ghost use Rattle.dsv_reader.specs.Controllers.{IsController};
     ghost use Rattle.dsv_reader.specs.Reading.{design_with, is_lawful};
 
     /// The controller of these blocks, for both lists divided by the leading coefficient.

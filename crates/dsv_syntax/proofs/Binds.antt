@@ -2,7 +2,7 @@
 use Rattle.std.proofs.Common.{◌≡◌, refl}
 use Rattle.std.specs.Prelude.{Result, Ok, Err}
 use Rattle.dsv_token.specs.declared.refusal.FileRefusal.{FileRefusal}
-use Rattle.dsv_syntax.specs.Steps.{◌>>=◌}
+use Rattle.dsv_text.specs.Stages.{◌>>=◌}
 
 pub record Bound {A B : Type 0} (r : Result A FileRefusal) (f : A → Result B FileRefusal) (y : B) : Type 0 where
   pub value : A

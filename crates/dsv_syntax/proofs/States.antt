@@ -10,7 +10,7 @@ use Rattle.dsv_syntax.specs.declared.parser.Place.{Place}
 use Rattle.dsv_syntax.specs.declared.parser.Place.TheVariants as place
 use Rattle.dsv_syntax.specs.declared.parser.Closed.{Closed}
 use Rattle.dsv_syntax.specs.declared.parser.Parser.{Parser}
-use Rattle.dsv_syntax.specs.Steps.{◌>>=◌}
+use Rattle.dsv_text.specs.Stages.{◌>>=◌}
 use Rattle.dsv_syntax.specs.Parsing.{blank, step_at, parsed_from}
 
 abbrev pub entry : Label → ℕ → ℕ → List Token → Entry

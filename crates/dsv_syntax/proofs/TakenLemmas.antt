@@ -18,7 +18,7 @@ use Rattle.dsv_syntax.specs.declared.parser.Place.TheVariants as place
 use Rattle.dsv_syntax.specs.declared.parser.Closed.{Closed}
 use Rattle.dsv_syntax.specs.declared.parser.Parser.{Parser}
 use Rattle.dsv_syntax.specs.declared.parsing.Syntax.{Syntax}
-use Rattle.dsv_syntax.specs.Steps.{◌>>=◌}
+use Rattle.dsv_text.specs.Stages.{◌>>=◌}
 use Rattle.dsv_syntax.specs.Parsing.{is_list, is_alone, is_mark, is_closed, with_close, none_closed, value_place, declared, declaration, block_name, block_equals, block_open, labelled, label_of, field_dot, field_equals, field_comma, list_open, list_number, list_comma, number, value, group, group_closed, semicolon, parsed_from, parsed, whole_of}
 use Rattle.dsv_syntax.specs.Grammar.{Numbers, Group, Value, IsField, Fields, IsBlock, Blocks, IsFile}
 use Rattle.dsv_syntax.proofs.States.{entry, between, within, behind}

@@ -1,4 +1,3 @@
-pub mod Casts
 pub mod Floors
 pub mod Meanings
 pub mod Powers

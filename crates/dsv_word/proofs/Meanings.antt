@@ -9,7 +9,8 @@ use Rattle.std.proofs.lemmas.Bool.{cases_lt}
 use lib.Signed.{◌<ℤ◌, ◌≤ℤ◌}
 use Rattle.dsv_algebra.proofs.Normaliser.{ring, env, var, num, plus, times as product}
 use Rattle.dsv_fraction.specs.Ratio.{Ratio}
-use Rattle.dsv_fraction.specs.Arithmetic.{times, bounded, and_then}
+use Rattle.dsv_text.specs.Stages.{and_then}
+use Rattle.dsv_fraction.specs.Arithmetic.{times, bounded}
 use Rattle.dsv_fraction.specs.declared.fraction.TooWide.{TooWide}
 use Rattle.dsv_fraction.proofs.Values.{lowest_exact, narrowed_only}
 use Rattle.dsv_fraction.proofs.Powers.{lowest_positive}

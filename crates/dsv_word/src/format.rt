@@ -1,5 +1,5 @@
 // The format of words.
-#![tactic(auto, using(crate::proofs::Casts::casts))]
+#![tactic(auto, using(dsv_algebra::proofs::Casts::casts))]
 
 ghost use Rattle.dsv_word.specs.Width.{IsLawful};
 

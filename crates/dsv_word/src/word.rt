@@ -1,5 +1,5 @@
 // Words of a given number of bits.
-#![tactic(auto, using(crate::proofs::Casts::casts))]
+#![tactic(auto, using(dsv_algebra::proofs::Casts::casts))]
 
 ghost use Rattle.std.specs.Prelude.{◌≡◌, ◌≤◌, ◌^◌, ◌≤ℤ◌, if◌then◌else◌, int_lt, pos};
 ghost use Rattle.dsv_word.specs.declared.format.TheConstants.{GREATEST_WIDTH};

@@ -1,6 +1,5 @@
 use Rattle.std.proofs.Common.{◌≡◌, ◌<◌, List, [], ◌∷◌, ◌++◌, length, ap, ◌∙◌, arith, length-append}
-use Rattle.dsv_fraction.specs.Ratio.{Ratio}
-use Rattle.dsv_reader.specs.Controllers.{zero}
+use Rattle.dsv_fraction.specs.Ratio.{Ratio, zero}
 use Rattle.dsv_reader.specs.Reading.{padded}
 use Rattle.dsv_reader.proofs.Padding.{padded_more}
 use Rattle.dsv_reader.proofs.dividing.padded.Goals as goal
