@@ -1,29 +1,29 @@
--- The causes of answers, put together.
-use Rattle.std.proofs.Common.{◌≡◌, ℕ, List, subst}
-use Rattle.std.specs.Prelude.{Ok, Option, Some, None, IfSome}
-use Rattle.dsv_reader.specs.Controllers as controllers
+-- The stages of a run lead to the rows of the table.
+use Rattle.std.proofs.Common.{◌≡◌, ℕ, ◌≤◌, List, length, subst, refl}
+use Rattle.std.specs.Prelude.{Ok, Err, Option, Some, None, IfSome, ℤ}
+use Rattle.dsv_base.specs.Seen.{FilesSeen}
+use Rattle.dsv_names.specs.declared.property.Property.TheVariants.{Stability}
+use Rattle.dsv_reader.specs.Controllers.{ControllerView}
+use Rattle.dsv_reader.specs.Texts.{IsTextOf}
 use Rattle.dsv_quantiser.specs.FixedPoint.{FixedPoint}
 use Rattle.dsv_command.specs.Jobs.{Task, decides, simulates, Asked}
 use Rattle.dsv_command.specs.declared.job.Design.{Design}
-use Rattle.dsv_cli.specs.declared.answers.Answer.{Answer}
-use Rattle.dsv_cli.specs.declared.answers.Answer.TheVariants as answer
-use Rattle.dsv_cli.specs.Headline.{BecomesWords, IsOfTask, IsQuantisedAs, IsFound, IsCauseIn, IsCauseOutside}
+use Rattle.dsv_report.specs.declared.answers.Answer.{Answer}
+use Rattle.dsv_report.specs.declared.answers.Answer.TheVariants as answer
+use Rattle.dsv_cli.specs.Headline.{longest_file, IsAccepted, Row, IsRow}
+use Rattle.dsv_cli.specs.Causes.{BecomesWords, IsOfTask, IsOfWords, IsOfController, IsOfText, IsOfBytes, HasRow}
 
 -- the answer of a controller's words is that of the controller
-pub quantised_as : (c : controllers.ControllerView) (design : Design) (task : Task) (words : FixedPoint) (found : Answer) → BecomesWords c design (Ok words) → IsOfTask task words found
-    → IsQuantisedAs c design task found
-quantised_as c design (decides property) words (answer.QuantRefused r) b h = absurd h
-quantised_as c design (simulates inputs) words (answer.QuantRefused r) b h = absurd h
-quantised_as c design task words found b h = record { words = words; becomes = b; answer = h }
+pub of_words : (c : ControllerView) (design : Design) (task : Task) (words : FixedPoint) (found : Answer) → BecomesWords c design (Ok words) → IsOfTask task words found
+    → IsOfController c design task found
+of_words c design (decides Stability) words (answer.QuantRefused r) b h = absurd h
+of_words c design (simulates inputs) words (answer.QuantRefused r) b h = absurd h
+of_words c design task words found b h = record { words = words; becomes = b; answer = h }
 
--- an answer that is found in the bytes says nothing of the files
-pub found_inside : {F : Type 0} (faults : F → ℕ) (blamed : F → Option (List ℕ)) (came : F → ℕ) (old new : F) (name : List ℕ) (found : Answer) → IsFound found → IsCauseOutside faults blamed came old new name found
-found_inside faults blamed came old new name answer.Usage h = absurd h
-found_inside faults blamed came old new name answer.FileTooLong h = absurd h
-found_inside faults blamed came old new name (answer.ReadFault file) h = absurd h
-found_inside faults blamed came old new name found h = tt
+-- what holds of the bytes that were read holds of the file's, where these are told
+told : (P : List ℕ → Type 0) (bytes : List ℕ) (file : Option (List ℕ)) → IfSome file (λ f. bytes ≡ f) → P bytes → IfSome file P
+told P bytes None e h = tt
+told P bytes (Some f) e h = subst P e h
 
--- a cause in the bytes that were read is one in the file's, where these are told
-pub told_inside : (job : Asked) (found : Answer) (bytes : List ℕ) (file : Option (List ℕ)) → IfSome file (λ f. bytes ≡ f) → IsCauseIn job bytes found → IfSome file (λ f. IsCauseIn job f found)
-told_inside job found bytes None e h = tt
-told_inside job found bytes (Some f) e h = subst (λ (b : List ℕ). IsCauseIn job b found) e h
+accepted : (job : Asked) (bytes : List ℕ) (c : ControllerView) (words : FixedPoint) → length bytes ≤ longest_file → IsTextOf bytes c → BecomesWords c job.design (Ok words) → IsAccepted job.design bytes (Ok words)
+accepted job bytes c words short text b = record { short = short; controller = c; text = text; format = b.format; modes = b.modes; quantised = b.quantised }

@@ -1,3 +1,2 @@
 pub mod Causes
 pub mod RunLines
-pub mod SampleLines

@@ -1,129 +1,148 @@
--- What a run says: each answer with its cause, and the text that was written.
-use Rattle.std.specs.Prelude.{◌≡◌, ◌⊎◌, Bool, true, false, ℕ, ◌+◌, ◌<◌, ◌≤◌, List, length, Option, Some, None, IfSome, Result, Ok, Err, ℤ}
+-- What a run answers: a table, one row for each answer.
+use Rattle.std.specs.Prelude.{◌≡◌, ◌⊎◌, Bool, true, false, ℕ, ◌+◌, ◌-◌, ◌<◌, ◌≤◌, List, length, Option, Some, None, IfSome, Result, Ok, Err, ℤ, ◌<ℤ◌, pos}
+use Rattle.dsv_algebra.specs.Vectors.{vector_of, matrix_of, form_at}
+use Rattle.dsv_algebra.specs.Companion.{StrictlyFalls, IsKeptAway}
 use Rattle.dsv_base.specs.Counts.{Rose}
+use Rattle.dsv_base.specs.Seen.{FilesSeen, SinkSeen}
 use Rattle.dsv_base.specs.Taking.{Wrote, CutShort}
+use Rattle.dsv_names.specs.Realisations.{is_delta}
+use Rattle.dsv_names.specs.declared.property.Property.TheVariants.{Stability}
 use Rattle.dsv_word.specs.declared.format.Format.{Format}
-use Rattle.dsv_reader.specs.Controllers as controllers
+use Rattle.dsv_reader.specs.Controllers.{ControllerView}
 use Rattle.dsv_reader.specs.Texts.{IsTextOf, IsFaultOf}
 use Rattle.dsv_quantiser.specs.FixedPoint.{FixedPoint}
-use Rattle.dsv_names.specs.Realisations.{is_delta}
 use Rattle.dsv_quantiser.specs.Quantising.{quantised}
 use Rattle.dsv_quantiser.specs.declared.refusal.QuantRefusal.{QuantRefusal}
-use Rattle.dsv_lyapunov.specs.Answers.{IsStable, IsKeptAwayFrom}
-use Rattle.dsv_lyapunov.specs.ClosedForm.{first_leads}
+use Rattle.dsv_forms.specs.declared.offers.Form.{Form}
+use Rattle.dsv_forms.specs.declared.offers.Falls.{Falls}
+use Rattle.dsv_forms.specs.declared.offers.KeptAway.{KeptAway}
+use Rattle.dsv_forms.specs.declared.offers.FormOffer.TheVariants as offered
+use Rattle.dsv_forms.specs.FallForm.{IsFallForm}
+use Rattle.dsv_forms.specs.Refusals.{falls_refusal, kept_away_refusal}
+use Rattle.dsv_lyapunov.specs.ClosedForm.{first_leads, closed_form_of}
 use Rattle.dsv_lyapunov.specs.Reduced.{IsReduced}
-use Rattle.dsv_command.specs.Jobs.{Task, decides, simulates, Asked, job_of}
+use Rattle.dsv_command.specs.Jobs.{Task, decides, simulates, Asked}
 use Rattle.dsv_command.specs.declared.job.Design.{Design}
+use Rattle.dsv_report.specs.declared.answers.Answer.{Answer}
+use Rattle.dsv_report.specs.declared.answers.Answer.TheVariants as answer
+use Rattle.dsv_report.specs.declared.answers.WhichFile.TheVariants as file
 use Rattle.dsv_cli.specs.Simulating.{IsRunOver, IsFirstOutside}
-use Rattle.dsv_cli.specs.declared.answers.Answer.{Answer}
-use Rattle.dsv_cli.specs.declared.answers.Answer.TheVariants as answer
 
--- The format has the widths of the controller and the modes of the design.
-pub record IsFormatOf (c : controllers.ControllerView) (design : Design) (format : Format) : Type 0 where
+-- ---- the accepted job
+-- the most bytes that a controller file has
+abbrev pub longest_file : ℕ
+longest_file = 65536
+
+-- The format has the widths of the controller and the modes of the job.
+pub record IsFormatOf (c : ControllerView) (design : Design) (format : Format) : Type 0 where
   pub int_bits : format.int_bits ≡ c.int_bits
   pub frac_bits : format.frac_bits ≡ c.frac_bits
   pub rounding : format.rounding ≡ design.rounding
   pub overflow : format.overflow ≡ design.overflow
 
--- In the words of its format, by the modes and the realisation of the design, the controller is this, or refused so.
-pub record BecomesWords (c : controllers.ControllerView) (design : Design) (outcome : Result FixedPoint QuantRefusal) : Type 0 where
+-- The bytes are the text of a controller, which in the job's realisation and modes becomes these words, or is refused so.
+pub record IsAccepted (design : Design) (bytes : List ℕ) (outcome : Result FixedPoint QuantRefusal) : Type 0 where
+  pub short : length bytes ≤ longest_file
+  pub controller : ControllerView
+  pub text : IsTextOf bytes controller
   pub format : Format
-  pub modes : IsFormatOf c design format
-  pub quantised : quantised c format design.realisation ≡ outcome
+  pub modes : IsFormatOf controller design format
+  pub quantised : quantised controller format design.realisation ≡ outcome
 
--- Of a direct form, the denominator's words with their greatest common power of two taken out are the polynomial, of order 0 or 1; its leading
--- coefficient is greater than the size of the other one, or isn't.
-pub record IsTested (words : FixedPoint) (poly : List ℤ) (leads : Bool) : Type 0 where
+-- The polynomial is the quantised denominator of a direct form, of order 0 or 1, with its greatest common power of two
+-- taken out. Whether its leading coefficient is greater than the size of the other one decides.
+pub record IsTested (design : Design) (bytes : List ℕ) (poly : List ℤ) (leads : Bool) : Type 0 where
+  pub words : FixedPoint
+  pub accepted : IsAccepted design bytes (Ok words)
   pub direct : is_delta words.realisation ≡ false
   pub low : length words.a ≤ 2
   pub reduced : IsReduced words.a poly
-  pub which : first_leads poly ≡ leads
+  pub decided : first_leads poly ≡ leads
 
--- the answer is that of a controller in these words
-abbrev pub IsOfPolynomial : FixedPoint → Answer → Type 0
-IsOfPolynomial words answer.NotYet = (is_delta words.realisation ≡ true) ⊎ (3 ≤ length words.a)
-IsOfPolynomial words (answer.Falls poly offer fall) = IsTested words poly true
-IsOfPolynomial words (answer.KeptAway poly offer fall value) = IsTested words poly false
-IsOfPolynomial words other = ⊥
-
--- the answer is the controller's run over these inputs, or the first of them that is out of range
-abbrev pub IsOfRun : FixedPoint → List ℤ → Answer → Type 0
-IsOfRun words inputs (answer.Simulated found) = IsRunOver words inputs found
-IsOfRun words inputs (answer.InputRange index value) = IsFirstOutside words.xlo words.xhi inputs index value
-IsOfRun words inputs answer.NoMemory = Unit {0}
-IsOfRun words inputs other = ⊥
-
--- the answer to a task for a controller in these words
-abbrev pub IsOfTask : Task → FixedPoint → Answer → Type 0
-IsOfTask (decides property) words found = IsOfPolynomial words found
-IsOfTask (simulates inputs) words found = IsOfRun words inputs found
-
--- the controller becomes words, and the answer is that of these
-pub record IsOfWords (c : controllers.ControllerView) (design : Design) (task : Task) (found : Answer) : Type 0 where
+-- The words are of a delta form, or of order 2 or more.
+pub record IsNotYet (design : Design) (bytes : List ℕ) : Type 0 where
   pub words : FixedPoint
-  pub becomes : BecomesWords c design (Ok words)
-  pub answer : IsOfTask task words found
+  pub accepted : IsAccepted design bytes (Ok words)
+  pub open_case : (is_delta words.realisation ≡ true) ⊎ (3 ≤ length words.a)
 
--- the answer is that of the controller in this design
-abbrev pub IsQuantisedAs : controllers.ControllerView → Design → Task → Answer → Type 0
-IsQuantisedAs c design task (answer.QuantRefused r) = BecomesWords c design (Err r)
-IsQuantisedAs c design task found = IsOfWords c design task found
+abbrev pub degree : List ℤ → ℕ
+degree poly = length poly - 1
 
--- the bytes are the text of a controller, and the answer is that of the controller
-pub record IsOfText (job : Asked) (bytes : List ℕ) (found : Answer) : Type 0 where
-  pub controller : controllers.ControllerView
-  pub text : IsTextOf bytes controller
-  pub quantised : IsQuantisedAs controller job.design job.task found
+-- the task runs the controller over these inputs
+abbrev pub Simulates : Task → List ℤ → Type 0
+Simulates task inputs = task ≡ simulates inputs
 
--- The cause of an answer in the bytes of the file: they have a first fault; they are too many; or they are the text of a
--- controller, and the answer is that of the controller in the job's design.
-abbrev pub IsCauseIn : Asked → List ℕ → Answer → Type 0
-IsCauseIn job bytes (answer.FileRefused r) = (length bytes ≤ 65536) × IsFaultOf bytes r
-IsCauseIn job bytes answer.FileTooLong = 65536 < length bytes
-IsCauseIn job bytes answer.Usage = ⊥
-IsCauseIn job bytes (answer.ReadFault file) = Unit {0}
-IsCauseIn job bytes answer.NoMemory = Unit {0}
-IsCauseIn job bytes found = (length bytes ≤ 65536) × IsOfText job bytes found
+-- These are the rows of the job's run.
+pub record IsRun (job : Asked) (bytes : List ℕ) (inputs : List ℤ) (words : FixedPoint) : Type 0 where
+  pub task : Simulates job.task inputs
+  pub accepted : IsAccepted job.design bytes (Ok words)
 
--- The answer is found in the bytes of a file.
-abbrev pub IsFound : Answer → Type 0
-IsFound answer.Usage = ⊥
-IsFound answer.FileTooLong = ⊥
-IsFound (answer.ReadFault file) = ⊥
-IsFound other = Unit {0}
+-- ---- what answers show of a polynomial, whatever the file
+-- The form is positive and strictly falls along every nonzero trajectory of the polynomial; it is the closed form's, its
+-- check accepts it, and `fall` is what it loses in a step.
+pub record ShowsFall (poly : List ℤ) (offer : Falls) (fall : Form) : Type 0 where
+  pub falls : StrictlyFalls (degree poly) (vector_of poly) (matrix_of offer.form.rows)
+  pub closed_form : offered.Falls offer ≡ closed_form_of poly
+  pub accepted : falls_refusal poly offer ≡ None
+  pub fall_form : IsFallForm (degree poly) (vector_of poly) offer.form fall
 
--- What an answer shows of its polynomial, whatever the file.
-abbrev pub IsShown : Answer → Type 0
-IsShown (answer.Falls poly offer fall) = IsStable poly offer.form fall
-IsShown (answer.KeptAway poly offer fall value) = IsKeptAwayFrom poly offer.form offer.start fall value
-IsShown other = Unit {0}
+-- The form is negative at the start, where it has this value, and rises in no step, so that the trajectory from the
+-- start is kept away from 0; it is the closed form's, its check accepts it, and `fall` is what it loses in a step.
+pub record ShowsKeptAway (poly : List ℤ) (offer : KeptAway) (fall : Form) (value : ℤ) : Type 0 where
+  pub kept_away : IsKeptAway (degree poly) (vector_of poly) (matrix_of offer.form.rows) (vector_of offer.start)
+  pub closed_form : offered.KeptAway offer ≡ closed_form_of poly
+  pub accepted : kept_away_refusal poly offer ≡ None
+  pub fall_form : IsFallForm (degree poly) (vector_of poly) offer.form fall
+  pub value_at : value ≡ form_at (degree poly) (matrix_of offer.form.rows) (vector_of offer.start)
 
--- What an answer says of the files, whose meanings these are: they were `old` and are `new`.
-abbrev pub IsCauseOutside : {F : Type 0} → (F → ℕ) → (F → Option (List ℕ)) → (F → ℕ) → F → F → List ℕ → Answer → Type 0
-IsCauseOutside faults blamed came old new name answer.Usage = ⊥
-IsCauseOutside faults blamed came old new name answer.FileTooLong = Rose (came old + 65536) (came new)
-IsCauseOutside faults blamed came old new name (answer.ReadFault file) = Rose (faults old) (faults new) × (blamed new ≡ Some name)
-IsCauseOutside faults blamed came old new name other = Unit {0}
+-- ---- the table
+-- A row of the table, for a file whose bytes are told or not: the jobs that the answer belongs to; its cause in the
+-- bytes; and what it says whatever the file.
+pub record Row (told : Option (List ℕ)) (belongs : Type 0) (cause : List ℕ → Type 0) (says : Type 0) : Type 0 where
+  pub belongs_to : belongs
+  pub comes_from : IfSome told cause
+  pub shows : says
 
--- The causes of an answer in a job: in the file's bytes, where they are told; in the files; and what it shows. The causes
--- in a file's bytes exclude one another, so a file that is told has the one answer whose cause it is, but for want of
--- memory and where a fault rose.
-pub record HasCause {F : Type 0} (held : F → List ℕ → Option (List ℕ)) (faults : F → ℕ) (blamed : F → Option (List ℕ)) (came : F → ℕ) (old new : F) (job : Asked) (found : Answer) : Type 0 where
-  pub inside : IfSome (held old job.file) (λ file. IsCauseIn job file found)
-  pub outside : IsCauseOutside faults blamed came old new job.file found
-  pub shown : IsShown found
+-- The row of each answer to a job on a file with these bytes, where they are told; the files were `old` and are `new`.
+abbrev pub IsRow : Option (List ℕ) → FilesSeen → FilesSeen → Asked → Answer → Type 0
+IsRow told old new job (answer.Falls poly offer fall) =
+    Row told (job.task ≡ decides Stability) (λ bytes. IsTested job.design bytes poly true) (ShowsFall poly offer fall)
+IsRow told old new job (answer.KeptAway poly offer fall value) =
+    Row told (job.task ≡ decides Stability) (λ bytes. IsTested job.design bytes poly false) (ShowsKeptAway poly offer fall value)
+IsRow told old new job answer.NotYet =
+    Row told (job.task ≡ decides Stability) (λ bytes. IsNotYet job.design bytes) (Unit {0})
+IsRow told old new job (answer.Simulated found) =
+    Row told ((inputs : List ℤ) × Simulates job.task inputs)
+    (λ bytes. (inputs : List ℤ) × (words : FixedPoint) × IsRun job bytes inputs words × IsRunOver words inputs found)
+    (Unit {0})
+IsRow told old new job (answer.InputRange index value) =
+    Row told ((inputs : List ℤ) × Simulates job.task inputs)
+    (λ bytes. (inputs : List ℤ) × (words : FixedPoint) × IsRun job bytes inputs words × IsFirstOutside words.format inputs index value)
+    (Unit {0})
+IsRow told old new job (answer.QuantRefused r) =
+    Row told (Unit {0}) (λ bytes. IsAccepted job.design bytes (Err r)) (Unit {0})
+IsRow told old new job (answer.FileRefused r) =
+    Row told (Unit {0}) (λ bytes. (length bytes ≤ longest_file) × IsFaultOf bytes r) (Unit {0})
+IsRow told old new job answer.FileTooLong =
+    Row told (Unit {0}) (λ bytes. longest_file < length bytes) (Rose (old.came + longest_file) new.came)
+IsRow told old new job (answer.ReadFault file.Controller) =
+    Row told (Unit {0}) (λ bytes. Unit {0}) (Rose old.faults new.faults × (new.blamed ≡ Some job.file))
+IsRow told old new job answer.Usage = ⊥
+IsRow told old new job answer.NoMemory = Unit {0}
 
--- Words that are no job are answered by Usage, and others by an answer with its cause; or there was no memory.
-abbrev pub IsExplainedBy : {F : Type 0} → (F → List ℕ → Option (List ℕ)) → (F → ℕ) → (F → Option (List ℕ)) → (F → ℕ) → F → F → Option Asked → Answer → Type 0
-IsExplainedBy held faults blamed came old new job answer.NoMemory = Unit {0}
-IsExplainedBy held faults blamed came old new None found = found ≡ answer.Usage
-IsExplainedBy held faults blamed came old new (Some job) found = HasCause held faults blamed came old new job found
+-- Arguments that ask for no job are answered by Usage with the files untouched, and a job by an answer with its row.
+-- Only NoMemory has no stated cause.
+abbrev pub IsExplained : FilesSeen → FilesSeen → Option Asked → Answer → Type 0
+IsExplained old new None found = (found ≡ answer.NoMemory) ⊎ ((found ≡ answer.Usage) × (new ≡ old))
+IsExplained old new (Some job) found = IsRow (old.held job.file) old new job found
 
-abbrev pub IsExplained : {F : Type 0} → (F → List ℕ → Option (List ℕ)) → (F → ℕ) → (F → Option (List ℕ)) → (F → ℕ) → F → F → List (List ℕ) → Answer → Type 0
-IsExplained held faults blamed came old new words found = IsExplainedBy held faults blamed came old new (job_of words) found
+-- ---- what stays, and what is written
+-- What the files hold is as before, and the count of faults didn't fall.
+pub record AreKept (old new : FilesSeen) : Type 0 where
+  pub held : new.held ≡ old.held
+  pub faults : old.faults ≤ new.faults
 
--- The text was written and the status is the answer's, or the status is 4 and a front of the text was written before
--- the sink failed.
-abbrev pub IsWritten : {K : Type 0} → (K → Option (List ℕ)) → (K → ℕ) → K → K → ℕ → ℕ → List ℕ → Type 0
-IsWritten taken faults old new status wanted text =
-    ((status ≡ wanted) × Wrote old new text) ⊎ ((status ≡ 4) × CutShort old new text)
+-- The whole text was written and the status is the answer's, or the status is 4 and a prefix of the text was written
+-- before the sink failed.
+abbrev pub IsWritten : SinkSeen → SinkSeen → ℕ → ℕ → List ℕ → Type 0
+IsWritten old new status wanted text = ((status ≡ wanted) × Wrote old new text) ⊎ ((status ≡ 4) × CutShort old new text)

@@ -1,5 +1,3 @@
+pub mod Causes
 pub mod Headline
-pub mod Pieces
-pub mod Refusals
-pub mod Report
 pub mod Simulating

@@ -1,36 +1,22 @@
-// Decides a job on the bytes of a controller file.
+// Answers a job on the bytes of a controller file.
 ghost use Rattle.std.specs.Prelude.{◌≤◌, length};
-ghost use Rattle.dsv_cli.specs.Headline.{IsCauseIn, IsFound, IsShown, IsOfPolynomial, IsOfTask, IsFormatOf, IsQuantisedAs};
-ghost use Rattle.dsv_cli.specs.Report.{HasPlaces};
 ghost use Rattle.dsv_command.specs.Asking.{asked_task, asked_of};
+ghost use Rattle.dsv_report.specs.Printing.{HasPlaces};
+ghost use Rattle.dsv_cli.specs.Headline.{longest_file, IsFormatOf};
+ghost use Rattle.dsv_cli.specs.Causes.{IsDecision, IsOfTask, IsOfController, IsOfBytes, HasRow};
 
-use crate::answers::Answer;
-use crate::simulating::simulated;
+use crate::simulating::simulated_answer;
 use dsv_command::{Design, Job, Task};
 use dsv_lyapunov::{FormAnswer, decide, reduced};
 use dsv_names::Property;
 use dsv_quantiser::{Quantised, quantise};
 use dsv_reader::{Controller, FileRefusal, read};
+use dsv_report::Answer;
 use dsv_word::Format;
 use std::alloc::Global;
 
 /// The most coefficients of a polynomial that is decided.
 const MOST_COEFFICIENTS: usize = 2;
-
-/// The answer to a job on a file of these bytes.
-pub fn answer_for(alloc: Global, bytes: &[u8], job: &Job) -> Answer
-    requires { length bytes.now ≤ 65536 }
-    ensures cause { IsCauseIn (asked_of job.now) bytes.now result }
-    ensures found { IsFound result }
-    ensures shown { IsShown result }
-    ensures places { HasPlaces result }
-{
-    match read(alloc, bytes) {
-        Ok(controller) => quantised(alloc, &controller, job.design, &job.task),
-        Err(FileRefusal::NoMemory) => Answer::NoMemory,
-        Err(refusal) => Answer::FileRefused(refusal),
-    }
-}
 
 /// The format of a controller's words in a design.
 fn format_of(controller: &Controller, design: Design) -> Format
@@ -48,11 +34,9 @@ fn format_of(controller: &Controller, design: Design) -> Format
     }
 }
 
-/// The answer for a controller in words.
-fn decided(words: &Quantised) -> Answer
-    ensures polynomial { IsOfPolynomial words.now result }
-    ensures found { IsFound result }
-    ensures shown { IsShown result }
+/// The answer that decides a controller in words.
+fn decision(words: &Quantised) -> Answer
+    ensures decision { IsDecision words.now result }
     ensures places { HasPlaces result }
 {
     let denominator = words.a();
@@ -72,28 +56,46 @@ fn decided(words: &Quantised) -> Answer
 }
 
 /// The answer to a task for a controller in words.
-fn done(alloc: Global, words: &Quantised, task: &Task) -> Answer
+fn task_answer(alloc: Global, words: &Quantised, task: &Task) -> Answer
     ensures task { IsOfTask (asked_task task.now) words.now result }
-    ensures found { IsFound result }
-    ensures shown { IsShown result }
     ensures places { HasPlaces result }
 {
     match task {
-        Task::Decide(Property::Stability) => decided(words),
-        Task::Simulate(inputs) => simulated(alloc, words, inputs.as_slice()),
+        Task::Decide(Property::Stability) => decision(words),
+        Task::Simulate(inputs) => simulated_answer(alloc, words, inputs.as_slice()),
     }
 }
 
 /// The answer for a controller.
-fn quantised(alloc: Global, controller: &Controller, design: Design, task: &Task) -> Answer
-    ensures quantised { IsQuantisedAs controller.now design (asked_task task.now) result }
-    ensures found { IsFound result }
-    ensures shown { IsShown result }
+fn controller_answer(alloc: Global, controller: &Controller, design: Design, task: &Task) -> Answer
+    ensures controller { IsOfController controller.now design (asked_task task.now) result }
     ensures places { HasPlaces result }
 {
     let format = format_of(controller, design);
     match quantise(controller, format, design.realisation) {
-        Ok(words) => done(alloc, &words, task),
+        Ok(words) => task_answer(alloc, &words, task),
         Err(refusal) => Answer::QuantRefused(refusal),
     }
+}
+
+/// The answer to a job on a file of these bytes.
+fn bytes_answer(alloc: Global, bytes: &[u8], job: &Job) -> Answer
+    requires { length bytes.now ≤ longest_file }
+    ensures bytes { IsOfBytes (asked_of job.now) bytes.now result }
+    ensures places { HasPlaces result }
+{
+    match read(alloc, bytes) {
+        Ok(controller) => controller_answer(alloc, &controller, job.design, &job.task),
+        Err(FileRefusal::NoMemory) => Answer::NoMemory,
+        Err(refusal) => Answer::FileRefused(refusal),
+    }
+}
+
+/// The answer to a job on a file of these bytes, with its row.
+pub fn answer_for(alloc: Global, bytes: &[u8], job: &Job) -> Answer
+    requires { length bytes.now ≤ longest_file }
+    ensures row { HasRow (asked_of job.now) bytes.now result }
+    ensures places { HasPlaces result }
+{
+    bytes_answer(alloc, bytes, job)
 }

@@ -22,9 +22,7 @@ pub struct OsFiles {
 impl OsFiles {
     /// The files of the system, of which nothing was read.
     pub fn new(rt: HostRuntime, alloc: Global) -> Self
-        ensures faults { ⟦<OsFiles as Files>⟧.faults result ≡ 0 }
-        ensures came { ⟦<OsFiles as Files>⟧.came result ≡ 0 }
-        ensures blamed { ⟦<OsFiles as Files>⟧.blamed result ≡ None }
+        ensures { ⟦<OsFiles as Files>⟧.seen result ≡ record { held = λ _. None; faults = 0; blamed = None; came = 0 } }
     {
         OsFiles {
             rt,
@@ -54,13 +52,7 @@ impl OsFiles {
 }
 
 impl Files for OsFiles {
-    ghost held = { λ _ _. None };
-
-    ghost faults = { λ s. s.faults };
-
-    ghost blamed = { λ s. option_map string_bytes s.blamed };
-
-    ghost came = { λ s. s.came };
+    ghost seen = { λ s. record { held = λ _. None; faults = s.faults; blamed = option_map string_bytes s.blamed; came = s.came } };
 
     fn fetch(&mut self, name: &str, at: u64, room: &mut [u8]) -> Result<usize, FetchEnd> {
         match self.read_piece(name, at, room) {
@@ -91,16 +83,14 @@ pub struct OsOut {
 impl OsOut {
     /// Standard output, to which nothing was written.
     pub fn new(rt: HostRuntime) -> Self
-        ensures faults { ⟦<OsOut as Sink>⟧.faults result ≡ 0 }
+        ensures { ⟦<OsOut as Sink>⟧.seen result ≡ record { taken = None; faults = 0 } }
     {
         OsOut { rt, faults: 0 }
     }
 }
 
 impl Sink for OsOut {
-    ghost taken = { λ _. None };
-
-    ghost faults = { λ s. s.faults };
+    ghost seen = { λ s. record { taken = None; faults = s.faults } };
 
     fn put(&mut self, piece: &[u8]) -> Result<usize, Failed> {
         match io::writer(&self.rt).write(piece) {

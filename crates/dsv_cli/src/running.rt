@@ -2,23 +2,33 @@
 ghost use Rattle.std.specs.Prelude.{◌≡◌, map, string_bytes};
 ghost use Rattle.dsv_command.specs.Jobs.{job_of};
 ghost use Rattle.dsv_command.specs.Asking.{asked_of};
-ghost use Rattle.dsv_cli.specs.Headline.{HasCause, IsExplained, IsWritten};
-ghost use Rattle.dsv_cli.specs.Report.{kind_of, text_of, status_of, HasPlaces};
+ghost use Rattle.dsv_report.specs.Printing.{HasPlaces, asked_in};
+ghost use Rattle.dsv_report.specs.Report.{text_of, status_of};
+ghost use Rattle.dsv_cli.specs.Headline.{IsRow, IsExplained, AreKept, IsWritten};
 
-use crate::answers::{Answer, Done, WhichFile};
 use crate::deciding::answer_for;
-use crate::report::put_answer;
 use dsv_base::{Files, ReadEnd, Sink, read_all};
 use dsv_command::{Job, read_job};
-use dsv_names::Realisation;
+use dsv_report::{Answer, WhichFile, put_answer, status_of};
 use std::alloc::Global;
 
 /// The most bytes that a controller file may have.
 const LONGEST_FILE: u64 = 65_536;
 
+/// The status of a run whose sink failed.
+const WRITE_FAULT: u8 = 4;
+
+/// The status and the answer of a run. The status is 4 where the answer couldn't be written, and else the answer's.
+#[derive(Drop)]
+pub struct Done {
+    pub status: u8,
+    pub answer: Answer,
+}
+
 /// The answer to a job.
 fn answer_of<F: Files>(alloc: Global, job: &Job, files: &mut F) -> Answer
-    ensures cause { HasCause F.held F.faults F.blamed F.came files.old files.new (asked_of job.now) result }
+    ensures row { IsRow ((F.seen files.old).held (asked_of job.now).file) (F.seen files.old) (F.seen files.new) (asked_of job.now) result }
+    ensures kept { AreKept (F.seen files.old) (F.seen files.new) }
     ensures places { HasPlaces result }
 {
     match read_all(alloc, files, job.file, LONGEST_FILE) {
@@ -29,41 +39,52 @@ fn answer_of<F: Files>(alloc: Global, job: &Job, files: &mut F) -> Answer
     }
 }
 
-/// The status of an answer that was written.
-fn status_of_answer(answer: &Answer) -> u8
-    ensures { result ≡ status_of answer.now }
+/// Writes an answer; the status is the answer's where the whole text was written, and else 4.
+fn written_status<K: Sink>(sink: &mut K, job: Option<&Job>, answer: &Answer) -> u8
+    requires { HasPlaces answer.now }
+    ensures { IsWritten (K.seen sink.old) (K.seen sink.new) result (status_of answer.now) (text_of (asked_in job.entry) answer.now) }
 {
-    match answer {
-        Answer::Falls { .. } | Answer::Simulated(_) => 0,
-        Answer::KeptAway { .. } => 10,
-        Answer::Usage => 1,
-        Answer::FileRefused(_)
-        | Answer::FileTooLong
-        | Answer::QuantRefused(_)
-        | Answer::InputRange { .. }
-        | Answer::NotYet => 2,
-        Answer::ReadFault(_) => 3,
-        Answer::NoMemory => 5,
+    match put_answer(sink, job, answer) {
+        Ok(()) => status_of(answer),
+        Err(_) => WRITE_FAULT,
     }
 }
 
-/// Runs the command: finds the answer for the words after the program's name, and writes its text to the sink. The
-/// writing takes no memory; where the sink fails, a front of the text was written and the status is 4.
-pub fn run<F: Files, K: Sink>(alloc: Global, words: &[String], files: &mut F, sink: &mut K) -> Done
-    // Words that are no job are answered by Usage, and each other answer has its cause.
-    ensures explained { IsExplained F.held F.faults F.blamed F.came files.old files.new (map string_bytes words.now) result.answer }
+/// Runs the command: finds the answer for the arguments after the program's name, and writes its text to the sink. The
+/// writing takes no memory; where the sink fails, a prefix of the text was written and the status is 4.
+pub fn run<F: Files, K: Sink>(
+    alloc: Global,
+    arguments: &[String],
+    files: &mut F,
+    sink: &mut K,
+) -> Done
+    // The answer's row in the table of answers holds.
+    ensures explained { IsExplained (F.seen files.old) (F.seen files.new) (job_of (map string_bytes arguments.now)) result.answer }
+    // What the files hold is as before.
+    ensures kept { AreKept (F.seen files.old) (F.seen files.new) }
     // The answer's text was written and the status is the answer's, or the status is 4 and the sink failed.
-    ensures written { IsWritten K.taken K.faults sink.old sink.new result.status (status_of result.answer)
-        (text_of (kind_of (job_of (map string_bytes words.now))) result.answer) }
+    ensures written { IsWritten (K.seen sink.old) (K.seen sink.new) result.status (status_of result.answer)
+        (text_of (job_of (map string_bytes arguments.now)) result.answer) }
 {
-    let (realisation, answer) = match read_job(alloc, words) {
-        Ok(Some(job)) => (job.design.realisation, answer_of(alloc, &job, files)),
-        Ok(None) => (Realisation::Dfi, Answer::Usage),
-        Err(_) => (Realisation::Dfi, Answer::NoMemory),
-    };
-    let status = match put_answer(sink, realisation, &answer) {
-        Ok(()) => status_of_answer(&answer),
-        Err(_) => 4,
-    };
-    Done { status, answer }
+    match read_job(alloc, arguments) {
+        Ok(Some(job)) => {
+            let answer = answer_of(alloc, &job, files);
+            let status = written_status(sink, Some(&job), &answer);
+            Done { status, answer }
+        }
+        Ok(None) => {
+            let status = written_status(sink, None, &Answer::Usage);
+            Done {
+                status,
+                answer: Answer::Usage,
+            }
+        }
+        Err(_) => {
+            let status = written_status(sink, None, &Answer::NoMemory);
+            Done {
+                status,
+                answer: Answer::NoMemory,
+            }
+        }
+    }
 }

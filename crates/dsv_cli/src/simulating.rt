@@ -1,24 +1,25 @@
 // Runs a controller in words over inputs.
 #![tactic(auto, using(dsv_algebra::proofs::Casts::casts))]
 
-ghost use Rattle.dsv_word.specs.Words.{IsWord};
 ghost use Rattle.std.specs.Prelude.{◌≡◌, ◌≤◌, length, IfOk, MatchOption};
 ghost use Rattle.std.specs.List.{All};
+ghost use Rattle.dsv_word.specs.Words.{IsWord};
 ghost use Rattle.dsv_meaning.specs.Equations.{order, registers_of};
-ghost use Rattle.dsv_meaning.specs.Systems.{equations_of, rows, zeros, AreInRange};
+ghost use Rattle.dsv_meaning.specs.Systems.{equations_of, rows, zeros};
 ghost use Rattle.dsv_meaning.specs.RowViews.{row_of};
 ghost use Rattle.dsv_netlist.specs.Nodes.{step_of};
 ghost use Rattle.dsv_realise.specs.Running.{net_rows};
-ghost use Rattle.dsv_cli.specs.Headline.{IsOfRun, IsFound, IsShown};
-ghost use Rattle.dsv_cli.specs.Report.{HasPlaces};
+ghost use Rattle.dsv_report.specs.Printing.{HasPlaces};
+ghost use Rattle.dsv_cli.specs.Causes.{IsOfRun};
 ghost use Rattle.dsv_cli.specs.Simulating.{IsFirstOutside, row_at};
 
-use crate::answers::Answer;
 use dsv_base::NoMemory;
 use dsv_meaning::{ExactList, Row, Rows};
 use dsv_netlist::Netlist;
 use dsv_quantiser::Quantised;
 use dsv_realise::realise;
+use dsv_report::Answer;
+use dsv_word::Format;
 use std::alloc::Global;
 
 /// An input, and its number among the inputs.
@@ -27,13 +28,14 @@ struct Numbered {
     value: i64,
 }
 
-/// The first input that isn't from `low` to `high`.
-fn find_outside(low: &i64, high: &i64, inputs: &[i64]) -> Option<Numbered>
+/// The first input that is no word of the format.
+fn find_outside(format: &Format, inputs: &[i64]) -> Option<Numbered>
     requires { length inputs.now ≤ 64 }
-    ensures { MatchOption result (AreInRange low.now high.now inputs.now) (λ found. IsFirstOutside low.now high.now inputs.now found.index found.value) }
+    ensures { MatchOption result (All (IsWord format.now) inputs.now)
+        (λ found. IsFirstOutside format.now inputs.now found.index found.value) }
 {
     for (i, input) in inputs.iter().enumerate() {
-        if *input < *low || *input > *high {
+        if !format.fits(i128::from(*input)) {
             return Some(Numbered {
                 index: i as u32,
                 value: *input,
@@ -80,7 +82,7 @@ fn run_netlist(
 
 /// The rows of the controller over these inputs, from registers of zeros.
 fn rows_over(alloc: Global, words: &Quantised, inputs: &[i64]) -> Result<Rows, NoMemory>
-    requires { AreInRange words.now.xlo words.now.xhi inputs.now }
+    requires { All (IsWord words.now.format) inputs.now }
     ensures { IfOk result (λ found. found ≡ rows (equations_of words.now) (zeros (registers_of words.now.realisation (order words.now))) inputs.now) }
 {
     let _order = words.order();
@@ -90,15 +92,16 @@ fn rows_over(alloc: Global, words: &Quantised, inputs: &[i64]) -> Result<Rows, N
 }
 
 /// The answer to a simulation over these inputs.
-pub fn simulated(alloc: Global, words: &Quantised, inputs: &[i64]) -> Answer
+pub fn simulated_answer(alloc: Global, words: &Quantised, inputs: &[i64]) -> Answer
     requires { length inputs.now ≤ 64 }
     ensures run { IsOfRun words.now inputs.now result }
-    ensures found { IsFound result }
-    ensures shown { IsShown result }
     ensures places { HasPlaces result }
 {
-    if let Some(Numbered { index, value }) = find_outside(&words.xlo(), &words.xhi(), inputs) {
-        return Answer::InputRange { index, value };
+    if let Some(Numbered { index, value }) = find_outside(&words.format(), inputs) {
+        return Answer::InputRange {
+            index,
+            value: i128::from(value),
+        };
     }
     match rows_over(alloc, words, inputs) {
         Ok(rows) => Answer::Simulated(rows),

@@ -1,0 +1,38 @@
+//! `dsv`: verifies a digital controller in fixed-point words. `main` makes the real files and the real output, and calls
+//! [`dsv_cli::run`].
+#![tactic(auto)]
+
+use dsv_cli::{OsFiles, OsOut, run};
+use std::io;
+use std::io::ErrorKind;
+use std::process::ExitCode;
+
+/// There is no memory for the command's arguments.
+const NO_MEMORY: u8 = 5;
+
+/// The command's arguments can't be had, as where one isn't UTF-8.
+const NO_ARGUMENTS: u8 = 8;
+
+/// The command's arguments, without the program's name.
+fn command_arguments(rt: &HostRuntime) -> io::Result<Vec<String>> {
+    let mut arguments = Vec::new(rt.alloc());
+    for argument in std::env::args(rt)?.skip(1) {
+        arguments.push(argument)?;
+    }
+    Ok(arguments)
+}
+
+fn main(rt: HostRuntime) -> ExitCode {
+    let alloc = rt.alloc();
+    let arguments = match command_arguments(&rt) {
+        Ok(arguments) => arguments,
+        Err(error) if error.kind() == ErrorKind::OutOfMemory => return ExitCode::from(NO_MEMORY),
+        Err(_) => return ExitCode::from(NO_ARGUMENTS),
+    };
+    let Ok(out) = rt.clone() else {
+        return ExitCode::from(NO_MEMORY);
+    };
+    let mut files = OsFiles::new(rt, alloc);
+    let mut sink = OsOut::new(out);
+    ExitCode::from(run(alloc, &arguments, &mut files, &mut sink).status)
+}

@@ -1,0 +1,4 @@
+pub mod Fragments
+pub mod Printing
+pub mod Refusals
+pub mod Report

@@ -1,0 +1,18 @@
+-- What the writers of answers ask of them; private contracts alone cite it.
+use Rattle.std.specs.Prelude.{◌≤◌, Option, option_map}
+use Rattle.std.specs.Borrow.{Bor}
+use Rattle.dsv_command.specs.Asking.{asked_of}
+use Rattle.dsv_command.specs.Jobs.{Asked}
+use Rattle.dsv_command.specs.declared.job.Job.{Job}
+use Rattle.dsv_report.specs.declared.answers.Answer.{Answer}
+use Rattle.dsv_report.specs.declared.answers.Answer.TheVariants as answer
+
+-- the forms of an answer have at most eight places
+abbrev pub HasPlaces : Answer → Type 0
+HasPlaces (answer.Falls poly offer fall) = (offer.form.d ≤ 8) × (fall.d ≤ 8)
+HasPlaces (answer.KeptAway poly offer fall value) = (offer.form.d ≤ 8) × (fall.d ≤ 8)
+HasPlaces other = Unit {0}
+
+-- what is asked for, where a job is
+abbrev pub asked_in : Option (Bor Job) → Option Asked
+asked_in = option_map (λ job. asked_of job.now)

@@ -1,0 +1,106 @@
+-- The text of an answer to a job, and its status.
+use Rattle.std.specs.Prelude.{ℕ, ◌+◌, pos, List, [], ◌∷◌, ◌++◌, take, codes, Option, Some, None, ℤ}
+use Rattle.std.specs.List.{flat_map}
+use Rattle.std.specs.Fmt.{signed_decimal}
+use Rattle.dsv_names.specs.Properties.{property_name}
+use Rattle.dsv_names.specs.Realisations.{realisation_name}
+use Rattle.dsv_names.specs.declared.realisation.Realisation.{Realisation}
+use Rattle.dsv_base.specs.Text.{spaced, line_of}
+use Rattle.dsv_forms.specs.declared.offers.Form.{Form}
+use Rattle.dsv_meaning.specs.Runs.{SampleRow}
+use Rattle.dsv_command.specs.Jobs.{Task, decides, simulates, Asked}
+use Rattle.dsv_report.specs.Fragments.{joined}
+use Rattle.dsv_report.specs.Refusals.{file_text, quant_text, input_text}
+use Rattle.dsv_report.specs.declared.answers.Answer.{Answer}
+use Rattle.dsv_report.specs.declared.answers.Answer.TheVariants as answer
+use Rattle.dsv_report.specs.declared.answers.WhichFile.TheVariants as file
+
+-- ---- headings
+unfoldable pub successful : List ℕ
+successful = codes "VERIFICATION SUCCESSFUL\n"
+
+unfoldable pub failed : List ℕ
+failed = codes "VERIFICATION FAILED\n"
+
+unfoldable pub simulation : List ℕ
+simulation = codes "SIMULATION\n"
+
+-- what is asked of the controller, before the realisation in the same line
+abbrev pub task_text : Task → List ℕ
+task_text (decides property) = codes "property " ++ property_name property ++ codes " "
+task_text (simulates inputs) = []
+
+abbrev pub realisation_text : Realisation → List ℕ
+realisation_text realisation = joined (codes "realization " ∷ realisation_name realisation ∷ codes "\n" ∷ [])
+
+-- the verdict and what the job asked for; without a job there is none
+abbrev pub heading : List ℕ → Option Asked → List ℕ
+heading verdict None = []
+heading verdict (Some job) = verdict ++ (task_text job.task ++ realisation_text job.design.realisation)
+
+-- ---- verdicts by a form
+-- a word and numbers after it, up to the end of the line
+abbrev pub numbers_line : List ℕ → List ℤ → List ℕ
+numbers_line = line_of signed_decimal
+
+-- a line for each row of a form
+abbrev pub rows_text : List ℕ → Form → List ℕ
+rows_text word form = flat_map (λ row. numbers_line word (take form.d row)) (take form.d form.rows)
+
+-- the polynomial, the form and what it loses in a step
+abbrev pub form_text : List ℤ → Form → Form → List ℕ
+form_text poly form fall =
+    numbers_line (codes "polynomial") poly
+    ++ rows_text (codes "form") form
+    ++ rows_text (codes "fall") fall
+
+abbrev pub value_text : ℤ → List ℕ
+value_text value = joined (codes " value " ∷ signed_decimal value ∷ codes "\n" ∷ [])
+
+-- where a form is negative, and its value there
+abbrev pub start_text : List ℤ → ℤ → List ℕ
+start_text start value = codes "start" ++ flat_map (spaced signed_decimal) start ++ value_text value
+
+-- ---- simulations
+-- the number, the input and the output of a sample
+abbrev pub sample_head : ℕ → ℤ → ℤ → List ℕ
+sample_head number x y =
+    joined (codes "sample " ∷ signed_decimal (pos number) ∷ codes " input " ∷ signed_decimal x ∷ codes " output " ∷ signed_decimal y ∷ [])
+
+-- and after them its exact values, up to the end of the line
+abbrev pub sample_text : ℕ → SampleRow → List ℕ
+sample_text number row = sample_head number row.x row.y ++ numbers_line (codes " exact") row.exact
+
+-- the lines of samples with these numbers on
+abbrev pub samples_text : ℕ → List SampleRow → List ℕ
+samples_text number [] = []
+samples_text number (row ∷ rows) = sample_text number row ++ samples_text (number + 1) rows
+
+-- ---- answers
+-- the text of an answer to a job, or where the arguments ask for none
+abbrev pub text_of : Option Asked → Answer → List ℕ
+text_of job (answer.Falls poly offer fall) = heading successful job ++ form_text poly offer.form fall
+text_of job (answer.KeptAway poly offer fall value) =
+    heading failed job ++ form_text poly offer.form fall ++ start_text (take offer.form.d offer.start) value
+text_of job (answer.Simulated rows) = heading simulation job ++ samples_text 0 rows
+text_of job answer.Usage = codes "USAGE\n"
+text_of job (answer.FileRefused r) = file_text r
+text_of job answer.FileTooLong = codes "FILE REFUSED 12 TOO_LONG at 65536\n"
+text_of job (answer.QuantRefused r) = quant_text r
+text_of job (answer.InputRange index value) = input_text index value
+text_of job answer.NotYet = codes "FILE REFUSED 13 NOT_YET\n"
+text_of job (answer.ReadFault file.Controller) = codes "READ FAULT CONTROLLER\n"
+text_of job answer.NoMemory = codes "NO MEMORY\n"
+
+abbrev pub status_of : Answer → ℕ
+status_of (answer.Falls poly offer fall) = 0
+status_of (answer.KeptAway poly offer fall value) = 10
+status_of (answer.Simulated rows) = 0
+status_of answer.Usage = 1
+status_of (answer.FileRefused r) = 2
+status_of answer.FileTooLong = 2
+status_of (answer.QuantRefused r) = 2
+status_of (answer.InputRange index value) = 2
+status_of answer.NotYet = 2
+status_of (answer.ReadFault file.Controller) = 3
+status_of answer.NoMemory = 5

@@ -1,0 +1,34 @@
+// Texts made of fragments.
+ghost use Rattle.std.specs.Prelude.{◌≡◌};
+ghost use Rattle.std.specs.List.{flat_map};
+ghost use Rattle.dsv_base.specs.Taking.{Writes};
+ghost use Rattle.dsv_report.specs.Fragments.{fragment_text};
+
+use dsv_base::{Failed, Sink, put_all, put_number};
+
+/// A fragment of a text: bytes as they stand, or a number in decimal.
+#[derive(Clone, Copy)]
+pub enum Fragment<'a> {
+    Bytes(&'a [u8]),
+    Number(i128),
+}
+
+/// Writes a fragment.
+fn put_fragment<K: Sink>(sink: &mut K, fragment: &Fragment) -> Result<(), Failed>
+    ensures { Writes (K.seen sink.old) (K.seen sink.new) result (fragment_text fragment.now) }
+{
+    match fragment {
+        Fragment::Bytes(bytes) => put_all(sink, bytes),
+        Fragment::Number(number) => put_number(sink, *number),
+    }
+}
+
+/// Writes fragments one after another.
+pub fn put_fragments<K: Sink>(sink: &mut K, fragments: &[Fragment]) -> Result<(), Failed>
+    ensures { Writes (K.seen sink.old) (K.seen sink.new) result (flat_map fragment_text fragments.now) }
+{
+    for fragment in fragments {
+        put_fragment(sink, fragment)?;
+    }
+    Ok(())
+}

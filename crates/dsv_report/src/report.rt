@@ -1,0 +1,257 @@
+// Writes the text of an answer, with no memory.
+#![tactic(auto, using(dsv_algebra::proofs::Casts::casts))]
+
+ghost use Rattle.std.specs.Prelude.{◌≡◌, ◌≤◌, ◌++◌, take, map, Some};
+ghost use Rattle.std.specs.Fmt.{signed_decimal};
+ghost use Rattle.std.specs.List.{flat_map};
+ghost use Rattle.dsv_base.specs.Taking.{Writes};
+ghost use Rattle.dsv_base.specs.Text.{spaced};
+ghost use Rattle.dsv_meaning.specs.RowViews.{row_of};
+ghost use Rattle.dsv_command.specs.Asking.{asked_of, asked_task};
+ghost use Rattle.dsv_report.specs.Printing.{HasPlaces, asked_in};
+ghost use Rattle.dsv_report.specs.Report as report;
+
+use crate::answers::{Answer, WhichFile};
+use crate::fragments::{Fragment, put_fragments};
+use crate::refusals::{put_file_refusal, put_input_range, put_quant_refusal};
+use dsv_base::{Failed, Sink, put_all, put_line, put_spaced};
+use dsv_command::{Job, Task};
+use dsv_forms::{Form, KeptAway, Poly};
+use dsv_meaning::{Row, Rows};
+use dsv_names::{Named, Realisation};
+use itoa::Integer;
+
+const SUCCESSFUL: &[u8] = b"VERIFICATION SUCCESSFUL\n";
+
+const FAILED: &[u8] = b"VERIFICATION FAILED\n";
+
+const SIMULATION: &[u8] = b"SIMULATION\n";
+
+/// Writes what is asked of the controller.
+fn put_task<K: Sink>(sink: &mut K, task: &Task) -> Result<(), Failed>
+    ensures { Writes (K.seen sink.old) (K.seen sink.new) result (report.task_text (asked_task task.now)) }
+{
+    match task {
+        Task::Decide(property) => put_fragments(
+            sink,
+            &[
+                Fragment::Bytes(b"property "),
+                Fragment::Bytes(property.name().as_bytes()),
+                Fragment::Bytes(b" "),
+            ],
+        ),
+        Task::Simulate(_) => put_all(sink, b""),
+    }
+}
+
+/// Writes the realisation, up to the end of the line.
+fn put_realisation<K: Sink>(sink: &mut K, realisation: Realisation) -> Result<(), Failed>
+    ensures { Writes (K.seen sink.old) (K.seen sink.new) result (report.realisation_text realisation) }
+{
+    put_fragments(
+        sink,
+        &[
+            Fragment::Bytes(b"realization "),
+            Fragment::Bytes(realisation.name().as_bytes()),
+            Fragment::Bytes(b"\n"),
+        ],
+    )
+}
+
+/// Writes the verdict and what the job asked for.
+fn put_job_heading<K: Sink>(sink: &mut K, verdict: &[u8], job: &Job) -> Result<(), Failed>
+    ensures { Writes (K.seen sink.old) (K.seen sink.new) result (report.heading verdict.now (Some (asked_of job.now))) }
+{
+    put_all(sink, verdict)?;
+    put_task(sink, &job.task)?;
+    put_realisation(sink, job.design.realisation)
+}
+
+/// Writes the heading of a verdict on a job; nothing without a job.
+fn put_heading<K: Sink>(sink: &mut K, verdict: &[u8], job: Option<&Job>) -> Result<(), Failed>
+    ensures { Writes (K.seen sink.old) (K.seen sink.new) result (report.heading verdict.now (asked_in job.entry)) }
+{
+    match job {
+        Some(job) => put_job_heading(sink, verdict, job),
+        None => put_all(sink, b""),
+    }
+}
+
+/// Writes a line for each row of a form.
+fn put_rows<K: Sink>(sink: &mut K, word: &[u8], form: &Form) -> Result<(), Failed>
+    requires { form.now.d ≤ 8 }
+    ensures { Writes (K.seen sink.old) (K.seen sink.new) result (report.rows_text word.now form.now) }
+{
+    let d = form.d as usize;
+    for row in &form.rows[..d] {
+        put_line(sink, word, &row[..d])?;
+    }
+    Ok(())
+}
+
+/// Writes the polynomial, the form and what it loses in a step.
+fn put_form<K: Sink>(sink: &mut K, poly: &Poly, form: &Form, fall: &Form) -> Result<(), Failed>
+    requires form { form.now.d ≤ 8 }
+    requires fall { fall.now.d ≤ 8 }
+    ensures { Writes (K.seen sink.old) (K.seen sink.new) result (report.form_text poly.now form.now fall.now) }
+{
+    put_line(sink, b"polynomial", poly.coefficients())?;
+    put_rows(sink, b"form", form)?;
+    put_rows(sink, b"fall", fall)
+}
+
+/// Writes numbers, each behind a space.
+fn put_numbers<K: Sink, I: Integer>(sink: &mut K, numbers: &[I]) -> Result<(), Failed>
+    ensures { Writes (K.seen sink.old) (K.seen sink.new) result (flat_map (spaced I.text) numbers.now) }
+{
+    for number in numbers {
+        put_spaced(sink, *number)?;
+    }
+    Ok(())
+}
+
+/// Writes where a form is negative, and its value there.
+fn put_start<K: Sink>(sink: &mut K, start: &[i64], value: &i128) -> Result<(), Failed>
+    ensures { Writes (K.seen sink.old) (K.seen sink.new) result (report.start_text start.now value.now) }
+{
+    put_all(sink, b"start")?;
+    put_numbers(sink, start)?;
+    put_value(sink, value)
+}
+
+fn put_value<K: Sink>(sink: &mut K, value: &i128) -> Result<(), Failed>
+    ensures { Writes (K.seen sink.old) (K.seen sink.new) result (report.value_text value.now) }
+{
+    put_fragments(
+        sink,
+        &[
+            Fragment::Bytes(b" value "),
+            Fragment::Number(*value),
+            Fragment::Bytes(b"\n"),
+        ],
+    )
+}
+
+/// Writes the text of a form that falls.
+#[tactic(auto, unfolding(crate::specs::Report::successful))]
+fn put_falls<K: Sink>(
+    sink: &mut K,
+    job: Option<&Job>,
+    poly: &Poly,
+    form: &Form,
+    fall: &Form,
+) -> Result<(), Failed>
+    requires form { form.now.d ≤ 8 }
+    requires fall { fall.now.d ≤ 8 }
+    ensures { Writes (K.seen sink.old) (K.seen sink.new) result (report.heading report.successful (asked_in job.entry) ++ report.form_text poly.now form.now fall.now) }
+{
+    put_heading(sink, SUCCESSFUL, job)?;
+    put_form(sink, poly, form, fall)
+}
+
+/// Writes the text of a form that keeps trajectories away from 0.
+#[tactic(auto, unfolding(crate::specs::Report::failed))]
+fn put_kept_away<K: Sink>(
+    sink: &mut K,
+    job: Option<&Job>,
+    poly: &Poly,
+    offer: &KeptAway,
+    fall: &Form,
+    value: &i128,
+) -> Result<(), Failed>
+    requires form { offer.now.form.d ≤ 8 }
+    requires fall { fall.now.d ≤ 8 }
+    ensures { Writes (K.seen sink.old) (K.seen sink.new) result
+        (report.heading report.failed (asked_in job.entry) ++ report.form_text poly.now offer.now.form fall.now ++ report.start_text (take offer.now.form.d offer.now.start) value.now) }
+{
+    put_heading(sink, FAILED, job)?;
+    put_form(sink, poly, &offer.form, fall)?;
+    put_start(sink, &offer.start[..offer.form.d as usize], value)
+}
+
+/// Writes a sample's number, its input and its output.
+fn put_sample_head<K: Sink>(sink: &mut K, number: u64, x: &i64, y: &i64) -> Result<(), Failed>
+    ensures { Writes (K.seen sink.old) (K.seen sink.new) result (report.sample_head number x.now y.now) }
+{
+    put_fragments(
+        sink,
+        &[
+            Fragment::Bytes(b"sample "),
+            Fragment::Number(number.into()),
+            Fragment::Bytes(b" input "),
+            Fragment::Number((*x).into()),
+            Fragment::Bytes(b" output "),
+            Fragment::Number((*y).into()),
+        ],
+    )
+}
+
+/// Writes a line for a sample.
+fn put_sample<K: Sink>(sink: &mut K, number: u64, row: &Row) -> Result<(), Failed>
+    ensures { Writes (K.seen sink.old) (K.seen sink.new) result (report.sample_text number (row_of row.now)) }
+{
+    put_sample_head(sink, number, &row.x, &row.y)?;
+    put_line(sink, b" exact", row.exact.as_slice())
+}
+
+/// Writes a line for each sample.
+fn put_samples<K: Sink>(sink: &mut K, rows: &[Row]) -> Result<(), Failed>
+    ensures { Writes (K.seen sink.old) (K.seen sink.new) result (report.samples_text 0 (map row_of rows.now)) }
+{
+    for (number, row) in rows.iter().enumerate() {
+        put_sample(sink, number as u64, row)?;
+    }
+    Ok(())
+}
+
+/// Writes the text of a simulation.
+#[tactic(auto, unfolding(crate::specs::Report::simulation))]
+fn put_simulation<K: Sink>(sink: &mut K, job: Option<&Job>, rows: &Rows) -> Result<(), Failed>
+    ensures { Writes (K.seen sink.old) (K.seen sink.new) result (report.heading report.simulation (asked_in job.entry) ++ report.samples_text 0 rows.now) }
+{
+    put_heading(sink, SIMULATION, job)?;
+    put_samples(sink, rows.as_slice())
+}
+
+/// The status of an answer that was written.
+pub fn status_of(answer: &Answer) -> u8
+    ensures { result ≡ report.status_of answer.now }
+{
+    match answer {
+        Answer::Falls { .. } | Answer::Simulated(_) => 0,
+        Answer::KeptAway { .. } => 10,
+        Answer::Usage => 1,
+        Answer::FileRefused(_)
+        | Answer::FileTooLong
+        | Answer::QuantRefused(_)
+        | Answer::InputRange { .. }
+        | Answer::NotYet => 2,
+        Answer::ReadFault(WhichFile::Controller) => 3,
+        Answer::NoMemory => 5,
+    }
+}
+
+/// Writes the text of an answer to a job, or to arguments that ask for none. It takes no memory.
+pub fn put_answer<K: Sink>(sink: &mut K, job: Option<&Job>, answer: &Answer) -> Result<(), Failed>
+    requires { HasPlaces answer.now }
+    ensures { Writes (K.seen sink.old) (K.seen sink.new) result (report.text_of (asked_in job.entry) answer.now) }
+{
+    match answer {
+        Answer::Falls { poly, offer, fall } => put_falls(sink, job, poly, &offer.form, fall),
+        Answer::KeptAway {
+            poly,
+            offer,
+            fall,
+            value,
+        } => put_kept_away(sink, job, poly, offer, fall, value),
+        Answer::Simulated(rows) => put_simulation(sink, job, rows),
+        Answer::Usage => put_all(sink, b"USAGE\n"),
+        Answer::FileRefused(refusal) => put_file_refusal(sink, *refusal),
+        Answer::FileTooLong => put_all(sink, b"FILE REFUSED 12 TOO_LONG at 65536\n"),
+        Answer::QuantRefused(refusal) => put_quant_refusal(sink, *refusal),
+        Answer::InputRange { index, value } => put_input_range(sink, *index, value),
+        Answer::NotYet => put_all(sink, b"FILE REFUSED 13 NOT_YET\n"),
+        Answer::ReadFault(WhichFile::Controller) => put_all(sink, b"READ FAULT CONTROLLER\n"),
+        Answer::NoMemory => put_all(sink, b"NO MEMORY\n"),
+    }
+}
