@@ -1,5 +1,5 @@
 -- The rows of a netlist's steps, one sample more.
-use Rattle.std.proofs.Common.{◌≡◌, ◌∙◌, sym, ap, ℕ, zero, suc, ◌+◌, ◌-◌, ◌<◌, List, [], ◌∷◌, ◌++◌, length, take, drop, map, get_or, append_assoc, arith}
+use Rattle.std.proofs.Common.{◌≡◌, ◌∙◌, sym, ap, ℕ, zero, suc, ◌+◌, ◌-◌, ◌<◌, List, [], ◌∷◌, ◌++◌, length, take, drop, map, get_or, append_assoc, arith, rules}
 use Rattle.std.proofs.Math.IntN.{ℤ, pos}
 use Rattle.std.specs.List.{All}
 use Rattle.std.proofs.lemmas.Int.{ints}
@@ -10,7 +10,8 @@ use Rattle.dsv_meaning.specs.declared.rows.Row.{Row}
 use Rattle.dsv_meaning.specs.Runs.{SampleRow}
 use Rattle.dsv_meaning.specs.RowViews.{row_of}
 use Rattle.dsv_word.specs.declared.format.Format.{Format}
-use Rattle.dsv_word.specs.Words.{width, IsWord}
+use Rattle.std.specs.Prelude.{◌≤ℤ◌, ◌↔◌, IsTrue, Bool, true, false}
+use Rattle.dsv_word.specs.Words.{width, lo, hi, IsWord}
 use Rattle.dsv_netlist.specs.Nodes.{Net, step_of}
 use Rattle.dsv_realise.specs.Running.{net_rows}
 use Rattle.dsv_cli.specs.Simulating.{row_at}
@@ -39,6 +40,18 @@ pub zero_word : (f : Format) → IsWord f (pos 0)
 zero_word f =
     let some = pow_pos (width f - 1) in
     record { low = omega (arith, ints, some); high = omega (arith, ints, some) }
+
+-- a number by the answer whether it fits
+pub is_word : (f : Format) (n : ℤ) {v : ℤ} (b : Bool) → n ≡ v → b ≡ true → (IsTrue b ↔ (lo (width f) ≤ℤ n) × (n ≤ℤ hi (width f))) → IsWord f v
+is_word f n b same fits e =
+    let both : (lo (width f) ≤ℤ n) × (n ≤ℤ hi (width f)) = e.0 (rw fits (search rules)) in
+    rw (← same) (record { low = both.0; high = both.1 })
+
+pub no_word : (f : Format) (n : ℤ) {v : ℤ} (b : Bool) → n ≡ v → b ≡ false → (IsTrue b ↔ (lo (width f) ≤ℤ n) × (n ≤ℤ hi (width f))) → IsWord f v → ⊥
+no_word f n b same fits e w =
+    let there : IsWord f n = rw same w in
+    let fit : IsTrue b = e.1 (there.low, there.high) in
+    grind arith
 
 -- one element more has what the first ones have
 pub all_more : (P : ℤ → Type 0) (xs : List ℤ) (i : ℕ) (d : ℤ) → i < length xs → All P (take i xs) → P (get_or xs i d) → All P (take (suc i) xs)

@@ -1,6 +1,7 @@
 use Rattle.std.proofs.Common.{take}
-use Rattle.dsv_meaning.specs.Systems.{AreInRange}
+use Rattle.std.specs.List.{All}
+use Rattle.dsv_word.specs.Words.{IsWord}
 use Rattle.dsv_cli.proofs.simulating.find_outside.Given as goal
 
 abbrev pub invariant-loop-i : goal.invariant-loop-i
-invariant-loop-i l = AreInRange l.low l.high (take l.i l.inputs)
+invariant-loop-i l = All (IsWord l.format) (take l.i l.inputs)
