@@ -1,4 +1,3 @@
-pub mod Accepting
 pub mod OneAnswer
 pub mod OneAwayAnswer
 pub mod OneAwayLemmas

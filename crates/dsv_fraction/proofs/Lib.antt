@@ -1,7 +1,9 @@
 pub mod Decimals
 pub mod Digits
 pub mod Gcds
+pub mod LongestNumbers
 pub mod Lowest
+pub mod NumberFronts
 pub mod Order
 pub mod Powers
 pub mod Products

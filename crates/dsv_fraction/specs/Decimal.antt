@@ -1,5 +1,5 @@
 -- What the text of a decimal number says.
-use Rattle.std.specs.Prelude.{◌≡◌, ◌<◌, ℕ, suc, ◌+◌, ◌-◌, ◌*◌, ◌^◌, Bool, not, ◌==◌, nat_lt, if◌then◌else◌, List, [], ◌∷◌, ◌++◌, length, drop, Result, Ok, Err, ℤ, pos, negsuc, ◌-ℤ◌}
+use Rattle.std.specs.Prelude.{◌≡◌, ◌<◌, ℕ, suc, ◌^◌, Bool, not, ◌==◌, nat_lt, if◌then◌else◌, List, [], ◌++◌, length, drop, Result, Ok, Err, ℤ, pos, negsuc, ◌-ℤ◌}
 use Rattle.std.specs.Int.RustNames.{unsigned_abs}
 use Rattle.dsv_fraction.specs.Ratio.{Ratio}
 use Rattle.dsv_fraction.specs.Arithmetic.{signed, times, bounded}

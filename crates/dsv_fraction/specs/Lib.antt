@@ -3,5 +3,6 @@ pub mod Decimal
 pub mod Gcd
 pub mod Inside
 pub mod Number
+pub mod NumberText
 pub mod Parts
 pub mod Ratio

@@ -1,7 +1,7 @@
 -- The text of a number: an optional sign; digits with an optional point and any digits behind it, or a point and
 -- at least one digit; optionally `e` or `E` with an optional sign and digits; optionally one of `f F l L`.
 -- Each part is taken as long as it goes.
-use Rattle.std.specs.Prelude.{ℕ, suc, ◌+◌, Bool, true, false, ◌&&◌, ◌||◌, ◌==◌, nat_le, not, if◌then◌else◌, List, [], ◌∷◌, length, take, drop}
+use Rattle.std.specs.Prelude.{ℕ, ◌+◌, Bool, ◌&&◌, ◌||◌, ◌==◌, not, if◌then◌else◌, List, length, drop}
 use Rattle.dsv_text.specs.Bytes.{has_byte}
 use Rattle.dsv_text.specs.Digits.{digits_len}
 

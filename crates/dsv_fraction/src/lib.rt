@@ -5,8 +5,10 @@ mod compare;
 mod decimal;
 mod divisor;
 mod fraction;
+mod law;
 pub mod number;
 mod wholes;
 
 pub use decimal::DecimalRefusal;
 pub use fraction::{Frac, FracList, TooWide};
+pub use law::longest_number_is_taken;

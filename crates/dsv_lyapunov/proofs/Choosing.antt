@@ -10,9 +10,9 @@ use Rattle.dsv_algebra.specs.Squares.{size}
 use Rattle.dsv_forms.specs.declared.offers.FormOffer.{FormOffer}
 use Rattle.dsv_forms.specs.declared.offers.FormOffer.TheVariants as offer
 use Rattle.dsv_forms.specs.Poly.{IsPoly}
-use Rattle.dsv_forms.proofs.Accepting.{square_of, difference}
+use Rattle.dsv_lyapunov.proofs.SmallSquares.{square_of, difference}
 use Rattle.dsv_forms.proofs.OneAnswer.{two}
-use Rattle.dsv_lyapunov.specs.ClosedForm.{falling, rising, closed_form_of}
+use Rattle.dsv_lyapunov.specs.ClosedForm.{form_that_falls, form_that_never_rises, closed_form_of}
 
 -- the test by sizes, since the first coefficient is positive
 by_sizes : (c0 c1 : ℤ) → pos 0 <ℤ c0 → nat_lt (unsigned_abs c1) (unsigned_abs c0) ≡ int_lt (size c1) c0
@@ -34,24 +34,24 @@ not_less a b h = grind (arith, nat_tests)
 
 chosen : (t : Bool) (c0 c1 : ℤ) → nat_lt (unsigned_abs c1) (unsigned_abs c0) ≡ t
     → (if t
-    then offer.Falls (falling (pos (unsigned_abs c0 * unsigned_abs c0 - unsigned_abs c1 * unsigned_abs c1)))
-    else offer.KeptAway (rising (pos (unsigned_abs c1 * unsigned_abs c1 - unsigned_abs c0 * unsigned_abs c0))))
-    ≡ (if t then offer.Falls (falling (c0 *ℤ c0 -ℤ c1 *ℤ c1)) else offer.KeptAway (rising (c1 *ℤ c1 -ℤ c0 *ℤ c0)))
-chosen true c0 c1 h = ap (λ w. offer.Falls (falling w)) (squares_apart c0 c1 (less (unsigned_abs c1) (unsigned_abs c0) h))
-chosen false c0 c1 h = ap (λ w. offer.KeptAway (rising w)) (squares_apart c1 c0 (not_less (unsigned_abs c1) (unsigned_abs c0) h))
+    then offer.Falls (form_that_falls (pos (unsigned_abs c0 * unsigned_abs c0 - unsigned_abs c1 * unsigned_abs c1)))
+    else offer.KeptAway (form_that_never_rises (pos (unsigned_abs c1 * unsigned_abs c1 - unsigned_abs c0 * unsigned_abs c0))))
+    ≡ (if t then offer.Falls (form_that_falls (c0 *ℤ c0 -ℤ c1 *ℤ c1)) else offer.KeptAway (form_that_never_rises (c1 *ℤ c1 -ℤ c0 *ℤ c0)))
+chosen true c0 c1 h = ap (λ w. offer.Falls (form_that_falls w)) (squares_apart c0 c1 (less (unsigned_abs c1) (unsigned_abs c0) h))
+chosen false c0 c1 h = ap (λ w. offer.KeptAway (form_that_never_rises w)) (squares_apart c1 c0 (not_less (unsigned_abs c1) (unsigned_abs c0) h))
 
 pair : (c0 c1 : ℤ) → pos 0 <ℤ c0
     → (if nat_lt (unsigned_abs c1) (unsigned_abs c0)
-    then offer.Falls (falling (pos (unsigned_abs c0 * unsigned_abs c0 - unsigned_abs c1 * unsigned_abs c1)))
-    else offer.KeptAway (rising (pos (unsigned_abs c1 * unsigned_abs c1 - unsigned_abs c0 * unsigned_abs c0))))
+    then offer.Falls (form_that_falls (pos (unsigned_abs c0 * unsigned_abs c0 - unsigned_abs c1 * unsigned_abs c1)))
+    else offer.KeptAway (form_that_never_rises (pos (unsigned_abs c1 * unsigned_abs c1 - unsigned_abs c0 * unsigned_abs c0))))
     ≡ closed_form_of (c0 ∷ c1 ∷ [])
 pair c0 c1 first =
     chosen (nat_lt (unsigned_abs c1) (unsigned_abs c0)) c0 c1 refl
-    ∙ ap (λ t. if t then offer.Falls (falling (c0 *ℤ c0 -ℤ c1 *ℤ c1)) else offer.KeptAway (rising (c1 *ℤ c1 -ℤ c0 *ℤ c0))) (by_sizes c0 c1 first)
+    ∙ ap (λ t. if t then offer.Falls (form_that_falls (c0 *ℤ c0 -ℤ c1 *ℤ c1)) else offer.KeptAway (form_that_never_rises (c1 *ℤ c1 -ℤ c0 *ℤ c0))) (by_sizes c0 c1 first)
 
 pub first_order_is : (cs : List ℤ) (a b : ℕ) (r : FormOffer) → length cs ≡ 2 → IsPoly cs
     → a ≡ unsigned_abs (get_or cs 0 (pos 0)) → b ≡ unsigned_abs (get_or cs 1 (pos 0))
-    → r ≡ (if nat_lt b a then offer.Falls (falling (pos (a * a - b * b))) else offer.KeptAway (rising (pos (b * b - a * a))))
+    → r ≡ (if nat_lt b a then offer.Falls (form_that_falls (pos (a * a - b * b))) else offer.KeptAway (form_that_never_rises (pos (b * b - a * a))))
     → r ≡ closed_form_of cs
 first_order_is cs a b r order poly e f h =
     (rw (e, f) at h) ∙ pair (get_or cs 0 (pos 0)) (get_or cs 1 (pos 0)) poly.first ∙ ap closed_form_of (sym (two cs (pos 0) order))

@@ -1,3 +1,6 @@
 pub mod Accepted
 pub mod Choosing
+pub mod FallsAccepted
 pub mod Halves
+pub mod KeptAwayAccepted
+pub mod SmallSquares

@@ -31,16 +31,16 @@ abbrev pub without_place : Falls
 without_place = record { form = form_with []; positive = squares_with (pos 1) [] [] []; fall = squares_with (pos 1) [] [] [] }
 
 -- the form 1, shown positive by its own square, which loses w times that square in a step
-abbrev pub falling : ℤ → Falls
-falling w = record {
+abbrev pub form_that_falls : ℤ → Falls
+form_that_falls w = record {
   form = form_with ((pos 1 ∷ []) ∷ []);
   positive = squares_with (pos 1) (pos 1 ∷ []) ((pos 1 ∷ []) ∷ []) [];
   fall = squares_with (pos 1) (w ∷ []) ((pos 1 ∷ []) ∷ []) [];
 }
 
 -- the form -1, negative at 1, which loses the rest w in a step
-abbrev pub rising : ℤ → KeptAway
-rising w = record {
+abbrev pub form_that_never_rises : ℤ → KeptAway
+form_that_never_rises w = record {
   form = form_with ((negsuc 0 ∷ []) ∷ []);
   start = row_of (pos 1 ∷ []);
   fall = squares_with (pos 1) [] [] ((w ∷ []) ∷ []);
@@ -57,7 +57,7 @@ abbrev pub closed_form_of : List ℤ → FormOffer
 closed_form_of [] = offered.Falls without_place
 closed_form_of (c0 ∷ []) = offered.Falls without_place
 closed_form_of (c0 ∷ c1 ∷ cs) =
-    if int_lt (size c1) c0 then offered.Falls (falling (c0 *ℤ c0 -ℤ c1 *ℤ c1)) else offered.KeptAway (rising (c1 *ℤ c1 -ℤ c0 *ℤ c0))
+    if int_lt (size c1) c0 then offered.Falls (form_that_falls (c0 *ℤ c0 -ℤ c1 *ℤ c1)) else offered.KeptAway (form_that_never_rises (c1 *ℤ c1 -ℤ c0 *ℤ c0))
 
 -- the check of the offer accepts it for the polynomial
 abbrev pub IsAccepted : List ℤ → FormOffer → Type 0

@@ -1,6 +1,6 @@
 // The closed form of a polynomial: a form that shows whether its trajectories fall, in terms of its coefficients.
 ghost use Rattle.std.specs.Prelude.{◌≡◌, ◌≤◌, ◌*◌, ◌-◌, ◌^◌, nat_lt, if◌then◌else◌, [], ◌∷◌, length, pos, negsuc};
-ghost use Rattle.dsv_lyapunov.specs.ClosedForm.{row_of, matrix_with, form_with, squares_with, without_place, falling, rising, closed_form_of, IsAccepted};
+ghost use Rattle.dsv_lyapunov.specs.ClosedForm.{row_of, matrix_with, form_with, squares_with, without_place, form_that_falls, form_that_never_rises, closed_form_of, IsAccepted};
 
 use dsv_forms::{Falls, Form, FormOffer, KeptAway, Poly, Squares};
 
@@ -43,13 +43,13 @@ fn first_order(size_0: u64, size_1: u64) -> FormOffer
     requires small_0 { size_0 ≤ 2 ^ 44 }
     requires small_1 { size_1 ≤ 2 ^ 44 }
     ensures { result ≡ (if nat_lt size_1 size_0
-        then FormOffer.Falls (falling (pos (size_0 * size_0 - size_1 * size_1)))
-        else FormOffer.KeptAway (rising (pos (size_1 * size_1 - size_0 * size_0)))) }
+        then FormOffer.Falls (form_that_falls (pos (size_0 * size_0 - size_1 * size_1)))
+        else FormOffer.KeptAway (form_that_never_rises (pos (size_1 * size_1 - size_0 * size_0)))) }
 {
     if size_1 < size_0 {
-        FormOffer::Falls(falling_offer(difference_of_squares(size_0, size_1)))
+        FormOffer::Falls(form_that_falls(difference_of_squares(size_0, size_1)))
     } else {
-        FormOffer::KeptAway(rising_offer(difference_of_squares(size_1, size_0)))
+        FormOffer::KeptAway(form_that_never_rises(difference_of_squares(size_1, size_0)))
     }
 }
 
@@ -63,8 +63,8 @@ fn difference_of_squares(a: u64, b: u64) -> i128
 }
 
 /// The form 1, which loses this number, a positive one, in a step.
-fn falling_offer(loss: i128) -> Falls
-    ensures { result ≡ falling loss }
+fn form_that_falls(loss: i128) -> Falls
+    ensures { result ≡ form_that_falls loss }
 {
     Falls {
         form: Form {
@@ -77,8 +77,8 @@ fn falling_offer(loss: i128) -> Falls
 }
 
 /// The form -1, which is negative at 1 and loses this number, 0 or more, in a step.
-fn rising_offer(loss: i128) -> KeptAway
-    ensures { result ≡ rising loss }
+fn form_that_never_rises(loss: i128) -> KeptAway
+    ensures { result ≡ form_that_never_rises loss }
 {
     let mut start = [0; 8];
     start[0] = 1;

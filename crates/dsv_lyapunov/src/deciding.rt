@@ -1,7 +1,7 @@
 // Decides a polynomial by a form that is checked.
 ghost use Rattle.std.specs.Prelude.{◌≡◌, ◌≤◌, length, None};
 ghost use Rattle.dsv_forms.specs.Refusals.{falls_refusal, kept_away_refusal};
-ghost use Rattle.dsv_lyapunov.specs.ClosedForm.{first_leads, closed_form_of};
+ghost use Rattle.dsv_lyapunov.specs.ClosedForm.{first_leads, closed_form_of, IsAccepted};
 ghost use Rattle.dsv_lyapunov.specs.Answers.{offer_of, is_falls, IsShown};
 
 use crate::closed_form;
@@ -15,7 +15,7 @@ pub enum FormAnswer {
         offer: Falls,
         fall: Form,
     },
-    /// The offer's form has this negative value at the offer's start, rises back along no trajectory, and loses `fall`
+    /// The offer's form has this negative value at the offer's start, rises along no trajectory, and loses `fall`
     /// in a step.
     KeptAway {
         offer: KeptAway,
@@ -27,7 +27,9 @@ pub enum FormAnswer {
 /// Decides a polynomial of order 0 or 1 by its closed form, which is checked. It takes no memory.
 pub fn decide(poly: &Poly) -> FormAnswer
     requires { length poly.now ≤ 2 }
+    // The offer in the answer is the closed form's, and its check accepts it.
     ensures offer { offer_of result ≡ closed_form_of poly.now }
+    ensures accepted { IsAccepted poly.now (offer_of result) }
     ensures which { is_falls result ≡ first_leads poly.now }
     ensures shown { IsShown poly.now result }
 {
