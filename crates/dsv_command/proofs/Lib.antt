@@ -1,2 +1,6 @@
+pub mod InputLaws
 pub mod InputLemmas
-pub mod KindLemmas
+pub mod JobLaws
+pub mod PartLaws
+pub mod ShapeLaws
+pub mod ShapeLemmas

@@ -1,11 +1,25 @@
 -- The inputs of a simulation, as a text.
-use Rattle.std.specs.Prelude.{ℕ, ◌==◌, nat_le, List, [], ◌∷◌, length, drop, Bool, ◌&&◌, Option, Some, None, if◌then◌else◌, option_and_then, option_map, ℤ}
+use Rattle.std.specs.Prelude.{ℕ, ◌==◌, nat_le, List, [], ◌∷◌, length, drop, Bool, Option, Some, None, if◌then◌else◌, option_and_then, option_map, ℤ}
 use Rattle.dsv_text.specs.Bytes.{has_byte}
-use Rattle.dsv_text.specs.Digits.{digits_len, digits_value}
+use Rattle.dsv_text.specs.Digits.{short_number}
 use Rattle.dsv_fraction.specs.Arithmetic.{signed}
 
+-- the most inputs of a simulation
+abbrev pub most_inputs : ℕ
+most_inputs = 64
+
+-- the most digits of an input
+abbrev pub most_digits : ℕ
+most_digits = 12
+
+abbrev pub comma : ℕ
+comma = 44
+
+abbrev pub minus : ℕ
+minus = 45
+
 abbrev pub is_comma : ℕ → Bool
-is_comma byte = byte == 44
+is_comma byte = byte == comma
 
 -- one byte more in front of the first piece
 abbrev pub onto_first : ℕ → List (List ℕ) → List (List ℕ)
@@ -17,17 +31,13 @@ abbrev pub pieces : List ℕ → List (List ℕ)
 pieces [] = [] ∷ []
 pieces (b ∷ bs) = if is_comma b then [] ∷ pieces bs else onto_first b (pieces bs)
 
--- 1 to 12 digits and nothing else
-abbrev pub is_short : List ℕ → Bool
-is_short text = nat_le 1 (length text) && nat_le (length text) 12 && digits_len text == length text
-
--- behind `-`, where it stands first
-abbrev pub behind_minus : List ℕ → List ℕ
-behind_minus text = drop (if has_byte 45 text then 1 else 0) text
+-- after `-`, where it stands first
+abbrev pub after_minus : List ℕ → List ℕ
+after_minus text = drop (if has_byte minus text then 1 else 0) text
 
 -- the number of an optional `-` before 1 to 12 digits
 abbrev pub input_of : List ℕ → Option ℤ
-input_of text = if is_short (behind_minus text) then Some (signed (has_byte 45 text) (digits_value 0 (behind_minus text))) else None
+input_of text = option_map (signed (has_byte minus text)) (short_number most_digits (after_minus text))
 
 -- the number of each piece, where all are numbers
 abbrev pub all_inputs : List (List ℕ) → Option (List ℤ)
@@ -36,4 +46,4 @@ all_inputs (p ∷ ps) = option_and_then (λ first. option_map (λ others. first 
 
 -- 1 to 64 numbers joined by commas
 abbrev pub inputs_of : List ℕ → Option (List ℤ)
-inputs_of text = if nat_le (length (pieces text)) 64 then all_inputs (pieces text) else None
+inputs_of text = if nat_le (length (pieces text)) most_inputs then all_inputs (pieces text) else None

@@ -1,11 +1,7 @@
--- The job that the words ask for.
-use Rattle.std.specs.Prelude.{ℕ, ◌==◌, List, [], ◌∷◌, Bool, Option, Some, None, codes, if◌then◌else◌, option_and_then, length, ℤ}
-use Rattle.std.specs.List.{list_any}
-use Rattle.dsv_names.specs.declared.realisation.Realisation.{Realisation}
+-- The job that the arguments ask for.
+use Rattle.std.specs.Prelude.{ℕ, List, Option, Some, None, codes, if◌then◌else◌, option_and_then, ℤ}
 use Rattle.dsv_names.specs.declared.realisation.Realisation.TheVariants.{Dfi}
-use Rattle.dsv_names.specs.declared.rounding.Rounding.{Rounding}
 use Rattle.dsv_names.specs.declared.rounding.Rounding.TheVariants.{Floor}
-use Rattle.dsv_names.specs.declared.overflow_mode.OverflowMode.{OverflowMode}
 use Rattle.dsv_names.specs.declared.overflow_mode.OverflowMode.TheVariants.{Wrap}
 use Rattle.dsv_names.specs.declared.property.Property.{Property}
 use Rattle.dsv_command.specs.declared.job.Design.{Design}
@@ -15,8 +11,22 @@ use Rattle.dsv_names.specs.Properties.{property_name, properties}
 use Rattle.dsv_names.specs.Realisations.{realisation_name, realisations}
 use Rattle.dsv_names.specs.Roundings.{rounding_name, roundings}
 use Rattle.dsv_command.specs.Inputs.{inputs_of}
-use Rattle.dsv_command.specs.Options.{command_options, file_key}
-use Rattle.dsv_command.specs.Reading.{Use, value_of, uses_of}
+use Rattle.dsv_command.specs.Options.{command_options}
+use Rattle.dsv_command.specs.Parts.{PartView, file_of, value_of, has_empty}
+use Rattle.dsv_command.specs.Reading.{parts_of}
+
+-- what is to be done with a controller
+pub data Task : Type 0 where
+  -- its property is decided
+  decides : Property → Task
+  -- it is run over these inputs
+  simulates : List ℤ → Task
+
+-- what is asked: a task for the controller in a file, realised by a design
+pub record Asked : Type 0 where
+  pub file : List ℕ
+  pub task : Task
+  pub design : Design
 
 -- the next, where there is the first
 infixl 10 ◌>>=◌
@@ -29,23 +39,12 @@ chosen named default None = Some default
 chosen named default (Some name) = named name
 
 -- DFI, FLOOR and WRAPAROUND are the defaults
-abbrev pub design_of_uses : List Use → Option Design
-design_of_uses uses =
-    chosen (named realisation_name realisations) Dfi (value_of (codes "realization") uses) >>= λ realisation.
-    chosen (named rounding_name roundings) Floor (value_of (codes "rounding") uses) >>= λ rounding.
-    chosen (named overflow_mode_name overflow_modes) Wrap (value_of (codes "overflow-mode") uses) >>= λ overflow.
+abbrev pub design_of : List PartView → Option Design
+design_of parts =
+    chosen (named realisation_name realisations) Dfi (value_of (codes "realization") parts) >>= λ realisation.
+    chosen (named rounding_name roundings) Floor (value_of (codes "rounding") parts) >>= λ rounding.
+    chosen (named overflow_mode_name overflow_modes) Wrap (value_of (codes "overflow-mode") parts) >>= λ overflow.
     Some (record { realisation = realisation; rounding = rounding; overflow = overflow })
-
--- FILE or the value of an option is empty
-abbrev pub has_empty_value : List Use → Bool
-has_empty_value uses = list_any (λ u. length u.value == 0) uses
-
--- what is to be done with a controller
-pub data Task : Type 0 where
-  -- its property is decided
-  decides : Property → Task
-  -- it is run over these inputs
-  simulates : List ℤ → Task
 
 -- exactly one of a property and inputs is given
 abbrev pub task_of : Option (List ℕ) → Option (List ℕ) → Option Task
@@ -53,20 +52,14 @@ task_of (Some name) None = named property_name properties name >>= λ property. 
 task_of None (Some list) = inputs_of list >>= λ inputs. Some (simulates inputs)
 task_of _ _ = None
 
--- what is asked: a task for the controller in a file, realised by a design
-pub record Asked : Type 0 where
-  pub file : List ℕ
-  pub task : Task
-  pub design : Design
-
--- no value is empty, and FILE and a task are given
-abbrev pub job_of_uses : List Use → Option Asked
-job_of_uses uses = if has_empty_value uses then None else
-    (value_of file_key uses >>= λ file.
-    task_of (value_of (codes "property") uses) (value_of (codes "simulate") uses) >>= λ task.
-    design_of_uses uses >>= λ design.
+-- no text is empty, and FILE and a task are given
+abbrev pub job_of_parts : List PartView → Option Asked
+job_of_parts parts = if has_empty parts then None else
+    (file_of parts >>= λ file.
+    task_of (value_of (codes "property") parts) (value_of (codes "simulate") parts) >>= λ task.
+    design_of parts >>= λ design.
     Some (record { file = file; task = task; design = design }))
 
--- the job of a list of words, or none
+-- the job of a list of arguments, or none
 unfoldable pub job_of : List (List ℕ) → Option Asked
-job_of words = uses_of command_options words >>= job_of_uses
+job_of arguments = parts_of command_options arguments >>= job_of_parts

@@ -2,6 +2,9 @@ pub mod Asking
 pub mod Inputs
 pub mod Jobs
 pub mod Options
+pub mod Parts
 pub mod Reading
+pub mod Rules
+pub mod Shapes
 pub mod Taken
 pub mod Views

@@ -9,11 +9,3 @@ command_options =
     (codes "realization", true) ∷
     (codes "rounding", true) ∷
     (codes "overflow-mode", true) ∷ []
-
--- the key of FILE, which is the name of no option, since a name ends before the first = of its word
-abbrev pub file_key : List ℕ
-file_key = codes "FILE="
-
--- the value of an option that takes none
-abbrev pub flag_value : List ℕ
-flag_value = codes "true"

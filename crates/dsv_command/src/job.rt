@@ -1,14 +1,14 @@
-// The job that the words ask for.
+// The job that the arguments ask for.
 ghost use Rattle.std.specs.Prelude.{◌≡◌, codes, map, string_bytes, option_map, IfOk};
-ghost use Rattle.dsv_command.specs.Jobs.{job_of, job_of_uses, task_of, has_empty_value, design_of_uses};
-ghost use Rattle.dsv_command.specs.Reading.{value_of};
-ghost use Rattle.dsv_command.specs.Views.{uses_in};
+ghost use Rattle.dsv_command.specs.Jobs.{job_of, job_of_parts, task_of, design_of};
+ghost use Rattle.dsv_command.specs.Parts.{value_of};
+ghost use Rattle.dsv_command.specs.Views.{parts_view};
 ghost use Rattle.dsv_command.specs.Asking.{asked_task, asked_of};
 
-use crate::given::{Given, find_value};
 use crate::inputs::{Inputs, find_inputs};
-use crate::options::{FILE_KEY, command_options};
-use crate::reading::read_words;
+use crate::options::command_options;
+use crate::parts::{Part, find_file, find_value, has_empty};
+use crate::reading::read_parts;
 use dsv_base::NoMemory;
 use dsv_names::{OverflowMode, Property, Realisation, Rounding, find_named};
 use std::alloc::Global;
@@ -39,31 +39,19 @@ pub struct Job<'a> {
     pub design: Design,
 }
 
-/// Whether one of the values is empty.
-fn has_empty(uses: &[Given]) -> bool
-    ensures { result ≡ has_empty_value (uses_in uses.now) }
-{
-    for given in uses {
-        if given.value.is_empty() {
-            return true;
-        }
-    }
-    false
-}
-
 /// How the controller is to be realised.
-fn find_design(uses: &[Given]) -> Option<Design>
-    ensures { result ≡ design_of_uses (uses_in uses.now) }
+fn find_design(parts: &[Part]) -> Option<Design>
+    ensures { result ≡ design_of (parts_view parts.now) }
 {
-    let realisation = match find_value(uses, "realization") {
+    let realisation = match find_value(parts, "realization") {
         Some(name) => find_named(name.as_bytes())?,
         None => Realisation::Dfi,
     };
-    let rounding = match find_value(uses, "rounding") {
+    let rounding = match find_value(parts, "rounding") {
         Some(name) => find_named(name.as_bytes())?,
         None => Rounding::Floor,
     };
-    let overflow = match find_value(uses, "overflow-mode") {
+    let overflow = match find_value(parts, "overflow-mode") {
         Some(name) => find_named(name.as_bytes())?,
         None => OverflowMode::Wrap,
     };
@@ -75,36 +63,37 @@ fn find_design(uses: &[Given]) -> Option<Design>
 }
 
 /// What is to be done.
-fn find_task(uses: &[Given]) -> Option<Task>
-    ensures { option_map asked_task result ≡ task_of (value_of (codes "property") (uses_in uses.now)) (value_of (codes "simulate") (uses_in uses.now)) }
+fn find_task(parts: &[Part]) -> Option<Task>
+    ensures { option_map asked_task result
+        ≡ task_of (value_of (codes "property") (parts_view parts.now)) (value_of (codes "simulate") (parts_view parts.now)) }
 {
-    match (find_value(uses, "property"), find_value(uses, "simulate")) {
+    match (find_value(parts, "property"), find_value(parts, "simulate")) {
         (Some(name), None) => Some(Task::Decide(find_named(name.as_bytes())?)),
         (None, Some(list)) => Some(Task::Simulate(find_inputs(list)?)),
         _ => None,
     }
 }
 
-/// The job of what the words give.
-fn find_job<'a>(uses: &[Given<'a>]) -> Option<Job<'a>>
-    ensures { option_map asked_of result ≡ job_of_uses (uses_in uses.now) }
+/// The job of the parts that are given.
+fn find_job<'a>(parts: &[Part<'a>]) -> Option<Job<'a>>
+    ensures { option_map asked_of result ≡ job_of_parts (parts_view parts.now) }
 {
-    if has_empty(uses) {
+    if has_empty(parts) {
         return None;
     }
-    let file = find_value(uses, FILE_KEY)?;
-    let task = find_task(uses)?;
-    let design = find_design(uses)?;
+    let file = find_file(parts)?;
+    let task = find_task(parts)?;
+    let design = find_design(parts)?;
     Some(Job { file, task, design })
 }
 
-/// The job that the words behind the program's name ask for; `None` where they are no job.
+/// The job that the arguments after the program's name ask for; `None` where they are no job.
 #[tactic(auto, unfolding(crate::specs::Jobs::job_of))]
-pub fn read_job<'a>(alloc: Global, words: &'a [String]) -> Result<Option<Job<'a>>, NoMemory>
-    ensures { IfOk result (λ job. option_map asked_of job ≡ job_of (map string_bytes words.entry.now)) }
+pub fn read_job<'a>(alloc: Global, arguments: &'a [String]) -> Result<Option<Job<'a>>, NoMemory>
+    ensures { IfOk result (λ job. option_map asked_of job ≡ job_of (map string_bytes arguments.entry.now)) }
 {
-    let Some(uses) = read_words(alloc, command_options(), words)? else {
+    let Some(parts) = read_parts(alloc, command_options(), arguments)? else {
         return Ok(None);
     };
-    Ok(find_job(uses.as_slice()))
+    Ok(find_job(parts.as_slice()))
 }

@@ -1,15 +1,14 @@
-//! The words of the command: from the words to what they give, and from there to the job.
+//! The command line: from the arguments to the parts that they give, and from there to the job.
 #![tactic(auto)]
 
-mod given;
 mod inputs;
 mod job;
+mod law;
 mod options;
+mod parts;
 mod reading;
 mod shape;
 
 pub use inputs::{Inputs, MOST_INPUTS};
 pub use job::{Design, Job, Task, read_job};
-
-#[cfg(test)]
-mod tests;
+pub use law::{jobs_are_read, parts_are_read};

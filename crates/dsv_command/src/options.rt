@@ -3,7 +3,7 @@ ghost use Rattle.std.specs.Prelude.{◌≡◌};
 ghost use Rattle.std.specs.Map.{lookup};
 ghost use Rattle.std.specs.Str.{bytes_eq};
 ghost use Rattle.dsv_command.specs.Options.{command_options};
-ghost use Rattle.dsv_command.specs.Views.{options_in};
+ghost use Rattle.dsv_command.specs.Views.{options_view};
 
 /// An option: its name without the dashes, and whether it takes a value.
 #[derive(Clone, Copy, Debug)]
@@ -38,20 +38,14 @@ const OPTIONS: [CommandOption; 5] = [
 
 /// The table of the options.
 pub fn command_options() -> &'static [CommandOption]
-    ensures { options_in result.now ≡ command_options }
+    ensures { options_view result.now ≡ command_options }
 {
     &OPTIONS
 }
 
-/// The key of FILE. No option has it, since the name of an option ends before the first `=` of its word.
-pub const FILE_KEY: &str = "FILE=";
-
-/// The value of an option that takes none.
-pub const FLAG_VALUE: &str = "true";
-
 /// Whether the option of this name takes a value, where there is such an option.
 pub fn takes_value(options: &[CommandOption], name: &str) -> Option<bool>
-    ensures { result ≡ lookup (bytes_eq name.now) (options_in options.now) }
+    ensures { result ≡ lookup (bytes_eq name.now) (options_view options.now) }
 {
     for option in options {
         if name == option.name {

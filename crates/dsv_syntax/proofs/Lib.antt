@@ -1,4 +1,7 @@
 pub mod Binds
-pub mod States
+pub mod Completions
 pub mod ReadLemmas
+pub mod States
+pub mod Steps
 pub mod TakenLemmas
+pub mod UnexpectedLemmas

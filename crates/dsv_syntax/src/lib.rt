@@ -7,5 +7,5 @@ mod parser;
 mod parsing;
 
 pub use entry::{Entries, Entry, Label};
-pub use law::grammar_is_read;
+pub use law::{first_unexpected_is_refused, grammar_is_read};
 pub use parsing::{Syntax, parse};
