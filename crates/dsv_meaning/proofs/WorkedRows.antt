@@ -6,8 +6,9 @@ use Rattle.dsv_names.specs.declared.rounding.Rounding.TheVariants.{Floor}
 use Rattle.dsv_names.specs.declared.overflow_mode.OverflowMode.TheVariants.{Wrap}
 use Rattle.dsv_names.specs.declared.realisation.Realisation.TheVariants.{Dfi, Ddfii}
 use Rattle.dsv_quantiser.specs.FixedPoint.{FixedPoint}
-use Rattle.dsv_meaning.specs.Runs.{SampleRow}
-use Rattle.dsv_meaning.specs.Systems.{equations_of, rows}
+use Rattle.dsv_system.specs.Runs.{SampleRow}
+use Rattle.dsv_system.specs.Systems.{rows}
+use Rattle.dsv_meaning.specs.Systems.{equations_of}
 
 exact_of : List SampleRow → List (List ℤ)
 exact_of rs = map (λ (r : SampleRow). r.exact) rs

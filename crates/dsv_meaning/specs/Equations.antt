@@ -4,7 +4,7 @@ use Rattle.dsv_names.specs.declared.realisation.Realisation.{Realisation}
 use Rattle.dsv_names.specs.declared.realisation.Realisation.TheVariants.{Dfi, Dfii, Tdfii, Ddfi, Ddfii, Tddfii}
 use Rattle.dsv_quantiser.specs.FixedPoint.{FixedPoint}
 use Rattle.dsv_meaning.specs.Lines.{Summand, Times, Alone, Sum, summands, line}
-use Rattle.dsv_meaning.specs.Runs.{Sampled}
+use Rattle.dsv_system.specs.Runs.{Sampled}
 
 abbrev pub order : FixedPoint → ℕ
 order q = length q.a - 1

@@ -116,7 +116,7 @@ zero_small : (v : ℤ) → v ≡ pos 0 → IsSmall v
 zero_small v e = rw e (omega arith)
 
 positive_small : (f : Format) (v : ℤ) → pos 1 ≤ℤ v → v ≤ℤ hi (width f) → IsSmall v
-positive_small f v l h = small_word f v (omega (arith, ints), h)
+positive_small f v l h = small_word f v (record { low = omega (arith, ints); high = h })
 
 delta_small : (k : Realisation) (f : Format) (v : ℤ) → IsDeltaWord f k v → IsSmall v
 delta_small Dfi f v h = zero_small v h

@@ -1,9 +1,12 @@
 // Controllers in words made netlists.
-ghost use Rattle.std.specs.Prelude.{◌≡◌, IfOk};
-ghost use Rattle.dsv_meaning.specs.Equations.{order, forward_registers_of};
+ghost use Rattle.std.specs.Prelude.{◌≡◌, List, ℤ, IfOk};
+ghost use Rattle.dsv_system.specs.Systems.{RunAlike};
+ghost use Rattle.dsv_meaning.specs.Equations.{Past, order, forward_registers_of};
+ghost use Rattle.dsv_meaning.specs.Systems.{equations_of};
 ghost use Rattle.dsv_netlist.specs.Counts.{counts_of};
+ghost use Rattle.dsv_netlist.specs.Systems.{system_of};
 ghost use Rattle.dsv_realise.specs.Netlists.{net_of};
-ghost use Rattle.dsv_realise.specs.Running.{RunsAre, counts_as};
+ghost use Rattle.dsv_realise.specs.Running.{counts_as};
 ghost use Rattle.dsv_realise.specs.Parts.{parts_as};
 
 use crate::kinds::{
@@ -46,7 +49,7 @@ fn parts(alloc: Global, q: &Quantised) -> Result<Parts, NoMemory>
 /// written equations.
 pub fn realise(alloc: Global, q: &Quantised) -> Result<Netlist, NoMemory>
     ensures net { IfOk result (λ net. net ≡ net_of q.now) }
-    ensures runs { IfOk result (RunsAre q.now) }
+    ensures runs { IfOk result (λ net. RunAlike (List ℤ) Past (system_of net) (equations_of q.now)) }
     ensures counts { IfOk result (λ net. counts_of net ≡ counts_as q.now.realisation (order q.now)) }
     ensures forward { IfOk result (λ net. net.feed_forward ≡ forward_registers_of q.now.realisation (order q.now)) }
 {

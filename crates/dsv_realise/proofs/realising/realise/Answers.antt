@@ -1,8 +1,13 @@
-use Rattle.std.proofs.Common.{ap, sym, subst, ◌∙◌}
+use Rattle.std.proofs.Common.{List, ap, sym, subst, ◌∙◌}
+use Rattle.std.proofs.Math.IntN.{ℤ}
+use Rattle.dsv_system.specs.Systems.{RunAlike}
+use Rattle.dsv_meaning.specs.Equations.{Past}
+use Rattle.dsv_meaning.specs.Systems.{equations_of}
+use Rattle.dsv_netlist.specs.Nodes.{Net}
+use Rattle.dsv_netlist.specs.Systems.{system_of}
 use Rattle.dsv_netlist.specs.Conditions.{IsNetlist}
 use Rattle.dsv_netlist.specs.Counts.{counts_of}
-use Rattle.dsv_realise.specs.Running.{RunsAre}
-use Rattle.dsv_realise.proofs.Runs.{runs_are}
+use Rattle.dsv_realise.proofs.Runs.{runs_alike}
 use Rattle.dsv_realise.proofs.Conditions.{net_realised}
 use Rattle.dsv_realise.proofs.Whole.{net_made}
 use Rattle.dsv_realise.proofs.realising.realise.Goals as goal
@@ -21,7 +26,9 @@ returns-clause-net c =
     (rw c.unwrap.ensures at c.new-net.ensures.same) ∙ e
 
 pub returns-clause-runs : goal.returns-clause-runs
-returns-clause-runs c = subst (RunsAre c.args.q.now) (sym (returns-clause-net c)) (runs_are c.args.q.now c.order.ensures.fixed_point)
+returns-clause-runs c =
+    let P : Net → Type 0 = λ net. RunAlike (List ℤ) Past (system_of net) (equations_of c.args.q.now) in
+    subst P (sym (returns-clause-net c)) (runs_alike c.args.q.now c.order.ensures.fixed_point)
 
 pub returns-clause-counts : goal.returns-clause-counts
 returns-clause-counts c = ap counts_of (returns-clause-net c) ∙ (net_realised c.args.q.now c.order.ensures.fixed_point).counts
