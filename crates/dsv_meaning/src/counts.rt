@@ -43,5 +43,9 @@ pub fn sums(realisation: Realisation, order: u32) -> u32
     requires { order ≤ 8 }
     ensures { result ≡ sums_of realisation order }
 {
-    products(realisation, order) - 1
+    match realisation {
+        Realisation::Dfi | Realisation::Dfii | Realisation::Tdfii => 2 * order,
+        Realisation::Ddfi => 4 * order,
+        Realisation::Ddfii | Realisation::Tddfii => 3 * order,
+    }
 }
