@@ -7,5 +7,5 @@ mod operations;
 mod simulating;
 mod stepping;
 
-pub use counts::{forward_registers, products, registers, sums};
+pub use counts::{MOST_ORDER, forward_registers, products, registers, sums};
 pub use simulating::simulate;

@@ -15,20 +15,11 @@ use crate::kinds::{
 };
 use crate::parts::Parts;
 use dsv_base::NoMemory;
+use dsv_meaning::forward_registers;
 use dsv_names::Realisation;
 use dsv_netlist::Netlist;
 use dsv_quantiser::Quantised;
 use std::alloc::Global;
-
-/// How many of the first registers are feed-forward.
-fn forward_registers(realisation: Realisation, order: u32) -> u32
-    ensures { result ≡ forward_registers_of realisation order }
-{
-    match realisation {
-        Realisation::Dfi | Realisation::Ddfi => order,
-        Realisation::Dfii | Realisation::Tdfii | Realisation::Ddfii | Realisation::Tddfii => 0,
-    }
-}
 
 /// The parts of the netlist of a controller in words.
 fn parts(alloc: Global, q: &Quantised) -> Result<Parts, NoMemory>

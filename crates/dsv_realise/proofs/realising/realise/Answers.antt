@@ -16,13 +16,13 @@ pub unwrap-requires : goal.unwrap-requires
 unwrap-requires c =
     let q = c.args.q.now in
     let parts = c.in_ok-parts.parts in
-    let e = net_made q parts.nodes.items parts.next.items parts.output c.forward_registers-feed_forward.result c.format.result c.realisation.result c.order.result c.forward_registers-feed_forward.ensures c.realisation.ensures c.order.ensures.value c.format.ensures c.in_ok-parts.ensures in
+    let e = net_made q parts.nodes.items parts.next.items parts.output c.forward_registers-feed_forward.result c.format.result c.realisation.result c.order.result c.forward_registers-feed_forward.ensures c.realisation.ensures.same c.order.ensures.value c.format.ensures.same c.in_ok-parts.ensures in
     c.new-net.ensures.exact.1 (subst IsNetlist (sym e) (net_realised q c.order.ensures.fixed_point).netlist)
 
 pub returns-clause-net : goal.returns-clause-net
 returns-clause-net c =
     let parts = c.in_ok-parts.parts in
-    let e = net_made c.args.q.now parts.nodes.items parts.next.items parts.output c.forward_registers-feed_forward.result c.format.result c.realisation.result c.order.result c.forward_registers-feed_forward.ensures c.realisation.ensures c.order.ensures.value c.format.ensures c.in_ok-parts.ensures in
+    let e = net_made c.args.q.now parts.nodes.items parts.next.items parts.output c.forward_registers-feed_forward.result c.format.result c.realisation.result c.order.result c.forward_registers-feed_forward.ensures c.realisation.ensures.same c.order.ensures.value c.format.ensures.same c.in_ok-parts.ensures in
     (rw c.unwrap.ensures at c.new-net.ensures.same) ∙ e
 
 pub returns-clause-runs : goal.returns-clause-runs
