@@ -3,4 +3,7 @@ pub mod LineLemmas
 pub mod RunLemmas
 pub mod Sizes
 pub mod StepLemmas
+pub mod WorkedBreaks
+pub mod WorkedControllers
+pub mod WorkedCycles
 pub mod WorkedRows

@@ -5,10 +5,10 @@ use Rattle.std.proofs.lemmas.List.{drop_more, get_or-take, take-take, take_at, d
 use Rattle.dsv_names.specs.declared.realisation.Realisation.{Realisation}
 use Rattle.dsv_names.specs.declared.realisation.Realisation.TheVariants.{Dfi, Dfii, Tdfii, Ddfi, Ddfii, Tddfii}
 use Rattle.dsv_quantiser.specs.FixedPoint.{FixedPoint}
-use Rattle.dsv_meaning.specs.declared.rows.Row.{Row}
+use Rattle.dsv_system.specs.declared.rows.Row.{Row}
 use Rattle.dsv_meaning.specs.Lines.{Summand, Times, Alone, Sum, summands, line}
-use Rattle.dsv_meaning.specs.Runs.{Sampled, SampleRow, rows_from}
-use Rattle.dsv_meaning.specs.RowViews.{row_of}
+use Rattle.dsv_system.specs.Runs.{Sampled, SampleRow, row_at, rows_from}
+use Rattle.dsv_system.specs.RowViews.{row_of}
 use Rattle.dsv_meaning.specs.Equations.{Past, order, feedback, ago, latest, Chain, chained, forward_summands, feedback_summands, delta_line, delta_chain, no_words, sample_as, sample, start_as, registers_as, registers_of}
 use Rattle.dsv_meaning.specs.Stepping.{stepped}
 
@@ -177,7 +177,7 @@ begun_anew Tddfii q r x h = record { signal = refl; outputs = refl; chain = refl
 
 -- the rows over registers, one sample more
 next_rows : (k : Realisation) (q : FixedPoint) (r new : List ℤ) (x : ℤ) (xs : List ℤ) (row : SampleRow) → length q.b ≡ order q + 1 → length r ≡ registers_of k (order q)
-    → row ≡ record { x = x; y = (stepped k q r x).y; exact = (stepped k q r x).exact } → new ≡ (stepped k q r x).registers
+    → row ≡ row_at (stepped k q r x) x → new ≡ (stepped k q r x).past
     → row ∷ rows_from (sample_as k q) (start_as k (order q) new) xs ≡ rows_from (sample_as k q) (start_as k (order q) r) (x ∷ xs)
 unfolding stepped
 next_rows k q r new x xs row m h e g =
@@ -189,7 +189,7 @@ next_rows k q r new x xs row m h e g =
 
 pub run_more : (q : FixedPoint) (r new : List ℤ) (x : ℤ) (inputs : List ℤ) (i : ℕ) (shown longer : List Row) (row : Row) → length q.b ≡ order q + 1
     → length r ≡ registers_of q.realisation (order q) → i < length inputs → x ≡ get_or inputs i (pos 0)
-    → row_of row ≡ record { x = x; y = (stepped q.realisation q r x).y; exact = (stepped q.realisation q r x).exact } → new ≡ (stepped q.realisation q r x).registers → longer ≡ shown ++ row ∷ []
+    → row_of row ≡ row_at (stepped q.realisation q r x) x → new ≡ (stepped q.realisation q r x).past → longer ≡ shown ++ row ∷ []
     → map row_of longer ++ rows_from (sample q) (start_as q.realisation (order q) new) (drop (i + 1) inputs)
     ≡ map row_of shown ++ rows_from (sample q) (start_as q.realisation (order q) r) (drop i inputs)
 run_more q r new x inputs i shown longer row m h l is e g more =

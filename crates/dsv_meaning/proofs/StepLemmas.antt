@@ -7,7 +7,8 @@ use Rattle.dsv_names.specs.declared.realisation.Realisation.TheVariants.{Dfi, Df
 use Rattle.dsv_quantiser.specs.FixedPoint.{FixedPoint}
 use Rattle.dsv_meaning.specs.Lines.{Summand, Alone, Sum, summands, next_summand, next_summands, line}
 use Rattle.dsv_meaning.specs.Equations.{order, feedback, ago, Chain, chained, no_words, forward_summands, feedback_summands, transposed_output, delta_line, delta_chain, transposed_chain, transposed_delta_chain}
-use Rattle.dsv_meaning.specs.Stepping.{Stepped, stepped, delayed}
+use Rattle.dsv_system.specs.Runs.{Sampled}
+use Rattle.dsv_meaning.specs.Stepping.{stepped, delayed}
 
 -- ---- delay lines
 pub delayed_is : (done : List ℤ) (x : ℤ) (ws : List ℤ) → delayed done x ws ≡ done ++ take (length ws) (x ∷ ws)
@@ -42,7 +43,7 @@ direct_line q old u v x s t h e g =
 
 pub dfi_sample : (q : FixedPoint) (r u v first new : List ℤ) (x : ℤ) (y : Sum) → u ≡ take (order q) r → v ≡ drop (order q) r → length u ≡ order q → length v ≡ order q
     → y ≡ line q.format [] (forward_summands q (ago (x ∷ u)) ++ feedback_summands q (ago v) 0) → first ≡ delayed [] x u → new ≡ delayed first y.value v
-    → record { y = y.value; exact = y.exact; registers = new } ≡ stepped Dfi q r x
+    → record { y = y.value; exact = y.exact; past = new } ≡ stepped Dfi q r x
 unfolding stepped
 dfi_sample q r u v first new x y a b m n e g h =
     let z = line q.format [] (forward_summands q (ago (x ∷ take (order q) r)) ++ feedback_summands q (ago (drop (order q) r)) 0) in
@@ -51,26 +52,26 @@ dfi_sample q r u v first new x y a b m n e g h =
     let registers : new ≡ take (order q) (x ∷ take (order q) r) ++ take (order q) (y.value ∷ drop (order q) r) =
     h ∙ delayed_take first (order q) y.value v n ∙ ap (λ w. w ++ take (order q) (y.value ∷ v)) (g ∙ delayed_take [] (order q) x u m)
     ∙ ap (λ w. take (order q) (x ∷ w) ++ take (order q) (y.value ∷ v)) a ∙ ap (λ w. take (order q) (x ∷ take (order q) r) ++ take (order q) (y.value ∷ w)) b in
-    ap (λ w. record { y = y.value; exact = y.exact; registers = w }) registers
-    ∙ ap (λ (t : Sum). record { y = t.value; exact = t.exact; registers = take (order q) (x ∷ take (order q) r) ++ take (order q) (t.value ∷ drop (order q) r) }) same
+    ap (λ w. record { y = y.value; exact = y.exact; past = w }) registers
+    ∙ ap (λ (t : Sum). record { y = t.value; exact = t.exact; past = take (order q) (x ∷ take (order q) r) ++ take (order q) (t.value ∷ drop (order q) r) }) same
 
 pub dfii_sample : (q : FixedPoint) (r new : List ℤ) (x : ℤ) (w y : Sum) → length r ≡ order q → w ≡ line q.format [] (Alone x ∷ feedback_summands q (ago r) 0)
     → y ≡ line q.format w.exact (forward_summands q (ago (w.value ∷ r))) → new ≡ delayed [] w.value r
-    → record { y = y.value; exact = y.exact; registers = new } ≡ stepped Dfii q r x
+    → record { y = y.value; exact = y.exact; past = new } ≡ stepped Dfii q r x
 unfolding stepped
 dfii_sample q r new x w y m e g h =
-    ap (λ s. record { y = y.value; exact = y.exact; registers = s }) (h ∙ delayed_take [] (order q) w.value r m)
-    ∙ ap (λ (t : Sum). record { y = t.value; exact = t.exact; registers = take (order q) (w.value ∷ r) }) g
+    ap (λ s. record { y = y.value; exact = y.exact; past = s }) (h ∙ delayed_take [] (order q) w.value r m)
+    ∙ ap (λ (t : Sum). record { y = t.value; exact = t.exact; past = take (order q) (w.value ∷ r) }) g
     ∙ ap (λ (t : Sum). let z = line q.format t.exact (forward_summands q (ago (t.value ∷ r))) in
-    record { y = z.value; exact = z.exact; registers = take (order q) (t.value ∷ r) }) e
+    record { y = z.value; exact = z.exact; past = take (order q) (t.value ∷ r) }) e
 
 pub tdfii_sample : (q : FixedPoint) (r : List ℤ) (x : ℤ) (y : Sum) (c : Chain) → y ≡ line q.format [] (transposed_output q x r)
     → c ≡ transposed_chain q x y.value (drop 1 q.b) (feedback q) r (no_words y.exact)
-    → record { y = y.value; exact = c.exact; registers = c.words } ≡ stepped Tdfii q r x
+    → record { y = y.value; exact = c.exact; past = c.words } ≡ stepped Tdfii q r x
 unfolding stepped
 tdfii_sample q r x y c e g =
-    ap (λ (d : Chain). record { y = y.value; exact = d.exact; registers = d.words }) g
-    ∙ ap (λ (t : Sum). let d = transposed_chain q x t.value (drop 1 q.b) (feedback q) r (no_words t.exact) in record { y = t.value; exact = d.exact; registers = d.words }) e
+    ap (λ (d : Chain). record { y = y.value; exact = d.exact; past = d.words }) g
+    ∙ ap (λ (t : Sum). let d = transposed_chain q x t.value (drop 1 q.b) (feedback q) r (no_words t.exact) in record { y = t.value; exact = d.exact; past = d.words }) e
 
 -- ---- delta forms
 -- the chain behind other words
@@ -85,36 +86,36 @@ chain_behind q before (w ∷ ws) front c =
 
 pub ddfi_sample : (q : FixedPoint) (r u v : List ℤ) (x : ℤ) (y : Sum) (c d : Chain) → u ≡ take (order q) r → v ≡ drop (order q) r
     → y ≡ line q.format [] (forward_summands q (ago (x ∷ u)) ++ feedback_summands q (ago v) 0) → c ≡ delta_chain q x u (no_words y.exact) → d ≡ delta_chain q y.value v c
-    → record { y = y.value; exact = d.exact; registers = d.words } ≡ stepped Ddfi q r x
+    → record { y = y.value; exact = d.exact; past = d.words } ≡ stepped Ddfi q r x
 unfolding stepped
 ddfi_sample q r u v x y c d a b e g h =
-    let with_both : List ℤ → List ℤ → Stepped = λ (s t : List ℤ).
+    let with_both : List ℤ → List ℤ → Sampled (List ℤ) = λ (s t : List ℤ).
     let z = line q.format [] (forward_summands q (ago (x ∷ s)) ++ feedback_summands q (ago t) 0) in
     let j = delta_chain q x s (no_words z.exact) in
     let k = delta_chain q z.value t (no_words j.exact) in
-    record { y = z.value; exact = k.exact; registers = j.words ++ k.words } in
+    record { y = z.value; exact = k.exact; past = j.words ++ k.words } in
     let apart : d ≡ behind c.words (delta_chain q y.value v (no_words c.exact)) =
     h ∙ ap (λ w. delta_chain q y.value v (record { words = w; exact = c.exact })) (sym (append-nil c.words)) ∙ chain_behind q y.value v c.words (no_words c.exact) in
-    ap (λ (j : Chain). record { y = y.value; exact = j.exact; registers = j.words }) apart
-    ∙ ap (λ (j : Chain). let k = delta_chain q y.value v (no_words j.exact) in record { y = y.value; exact = k.exact; registers = j.words ++ k.words }) g
+    ap (λ (j : Chain). record { y = y.value; exact = j.exact; past = j.words }) apart
+    ∙ ap (λ (j : Chain). let k = delta_chain q y.value v (no_words j.exact) in record { y = y.value; exact = k.exact; past = j.words ++ k.words }) g
     ∙ ap (λ (z : Sum). let j = delta_chain q x u (no_words z.exact) in let k = delta_chain q z.value v (no_words j.exact) in
-    record { y = z.value; exact = k.exact; registers = j.words ++ k.words }) e
+    record { y = z.value; exact = k.exact; past = j.words ++ k.words }) e
     ∙ ap (λ s. with_both s v) a ∙ ap (with_both (take (order q) r)) b
 
 pub ddfii_sample : (q : FixedPoint) (r : List ℤ) (x : ℤ) (w y : Sum) (c : Chain) → w ≡ line q.format [] (Alone x ∷ feedback_summands q (ago r) 0)
     → y ≡ line q.format w.exact (forward_summands q (ago (w.value ∷ r))) → c ≡ delta_chain q w.value r (no_words y.exact)
-    → record { y = y.value; exact = c.exact; registers = c.words } ≡ stepped Ddfii q r x
+    → record { y = y.value; exact = c.exact; past = c.words } ≡ stepped Ddfii q r x
 unfolding stepped
 ddfii_sample q r x w y c e g h =
-    ap (λ (d : Chain). record { y = y.value; exact = d.exact; registers = d.words }) h
-    ∙ ap (λ (t : Sum). let d = delta_chain q w.value r (no_words t.exact) in record { y = t.value; exact = d.exact; registers = d.words }) g
+    ap (λ (d : Chain). record { y = y.value; exact = d.exact; past = d.words }) h
+    ∙ ap (λ (t : Sum). let d = delta_chain q w.value r (no_words t.exact) in record { y = t.value; exact = d.exact; past = d.words }) g
     ∙ ap (λ (t : Sum). let z = line q.format t.exact (forward_summands q (ago (t.value ∷ r))) in let d = delta_chain q t.value r (no_words z.exact) in
-    record { y = z.value; exact = d.exact; registers = d.words }) e
+    record { y = z.value; exact = d.exact; past = d.words }) e
 
 pub tddfii_sample : (q : FixedPoint) (r : List ℤ) (x : ℤ) (y : Sum) (c : Chain) → y ≡ line q.format [] (transposed_output q x r)
     → c ≡ transposed_delta_chain q x y.value (drop 1 q.b) (feedback q) r (no_words y.exact)
-    → record { y = y.value; exact = c.exact; registers = c.words } ≡ stepped Tddfii q r x
+    → record { y = y.value; exact = c.exact; past = c.words } ≡ stepped Tddfii q r x
 unfolding stepped
 tddfii_sample q r x y c e g =
-    ap (λ (d : Chain). record { y = y.value; exact = d.exact; registers = d.words }) g
-    ∙ ap (λ (t : Sum). let d = transposed_delta_chain q x t.value (drop 1 q.b) (feedback q) r (no_words t.exact) in record { y = t.value; exact = d.exact; registers = d.words }) e
+    ap (λ (d : Chain). record { y = y.value; exact = d.exact; past = d.words }) g
+    ∙ ap (λ (t : Sum). let d = transposed_delta_chain q x t.value (drop 1 q.b) (feedback q) r (no_words t.exact) in record { y = t.value; exact = d.exact; past = d.words }) e

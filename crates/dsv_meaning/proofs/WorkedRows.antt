@@ -1,44 +1,80 @@
--- The written equations on controllers that were worked by hand.
-use Rattle.std.proofs.Common.{◌≡◌, List, [], ◌∷◌, map, refl, arith}
-use Rattle.std.proofs.Math.IntN.{ℤ, pos, negsuc}
-use Rattle.dsv_word.specs.declared.format.Format.{Format}
-use Rattle.dsv_names.specs.declared.rounding.Rounding.TheVariants.{Floor}
-use Rattle.dsv_names.specs.declared.overflow_mode.OverflowMode.TheVariants.{Wrap}
-use Rattle.dsv_names.specs.declared.realisation.Realisation.TheVariants.{Dfi, Ddfii}
-use Rattle.dsv_quantiser.specs.FixedPoint.{FixedPoint}
-use Rattle.dsv_meaning.specs.Runs.{SampleRow}
-use Rattle.dsv_meaning.specs.Systems.{equations_of, rows}
+-- The written equations of each realisation, one sample or two, worked by hand. `-> n` is a product divided by 2^frac_bits
+-- and rounded down.
+use Rattle.std.proofs.Common.{◌≡◌, [], ◌∷◌, refl}
+use Rattle.std.proofs.Math.IntN.{pos, negsuc}
+use Rattle.dsv_names.specs.declared.realisation.Realisation.TheVariants.{Dfi, Dfii, Tdfii, Ddfi, Ddfii, Tddfii}
+use Rattle.dsv_system.specs.Systems.{rows, registers_after}
+use Rattle.dsv_meaning.specs.Systems.{equations_of}
+use Rattle.dsv_meaning.proofs.WorkedControllers.{exact_of, outputs_of, format_2_2, format_3_4, format_4_1, slow_pole, second_order, delta_order_one}
 
-exact_of : List SampleRow → List (List ℤ)
-exact_of rs = map (λ (r : SampleRow). r.exact) rs
-
-outputs_of : List SampleRow → List ℤ
-outputs_of rs = map (λ (r : SampleRow). r.y) rs
-
-format_2_2 : Format
-format_2_2 = record { int_bits = 2; frac_bits = 2; rounding = Floor; overflow = Wrap; lawful = (omega arith, omega arith, omega arith) }
-
-format_3_4 : Format
-format_3_4 = record { int_bits = 3; frac_bits = 4; rounding = Floor; overflow = Wrap; lawful = (omega arith, omega arith, omega arith) }
-
--- 1 / (1 - 0.9 z^-1) in words of 2.2: a_1 is -4
-direct : FixedPoint
-direct = record { b = pos 4 ∷ pos 0 ∷ []; a = pos 4 ∷ negsuc 3 ∷ []; delta = pos 0; xlo = negsuc 3; xhi = pos 4; format = format_2_2; realisation = Dfi }
-
-direct_exact : exact_of (rows (equations_of direct) (pos 0 ∷ pos 0 ∷ []) (pos 4 ∷ pos 4 ∷ []))
+-- ---- two samples, of which the second wraps: 4; 0; 4; 0; y = 4. Then 4; 0; 4; -4; y = 8, which is the word -8.
+slow_pole_exact : exact_of (rows (equations_of slow_pole) (pos 0 ∷ pos 0 ∷ []) (pos 4 ∷ pos 4 ∷ []))
     ≡ (pos 4 ∷ pos 0 ∷ pos 4 ∷ pos 0 ∷ pos 4 ∷ []) ∷ (pos 4 ∷ pos 0 ∷ pos 4 ∷ negsuc 3 ∷ pos 8 ∷ []) ∷ []
-unfolding direct format_2_2 exact_of
-direct_exact = refl
+slow_pole_exact = refl
 
-direct_outputs : outputs_of (rows (equations_of direct) (pos 0 ∷ pos 0 ∷ []) (pos 4 ∷ pos 4 ∷ [])) ≡ pos 4 ∷ negsuc 7 ∷ []
-unfolding direct format_2_2 outputs_of
-direct_outputs = refl
+slow_pole_outputs : outputs_of (rows (equations_of slow_pole) (pos 0 ∷ pos 0 ∷ []) (pos 4 ∷ pos 4 ∷ [])) ≡ pos 4 ∷ negsuc 7 ∷ []
+slow_pole_outputs = refl
 
--- z^-1 / (1 - 0.5 z^-1) in words of 3.4 with delta 0.5
-delta : FixedPoint
-delta = record { b = pos 0 ∷ pos 32 ∷ []; a = pos 16 ∷ pos 16 ∷ []; delta = pos 8; xlo = negsuc 15; xhi = pos 16; format = format_3_4; realisation = Ddfii }
+-- ---- direct form I, with x_1 = 3, x_2 = 1, y_1 = 2, y_2 = 5 and x = 4:
+-- 2 4 -> 4; 1 3 -> 1; 5; -2 1 -> -1; 4; 1 2 -> 1; 4 - 1 = 3; -1 5 -> -3; y = 3 + 3 = 6
+dfi_exact : exact_of (rows (equations_of (second_order Dfi)) (pos 3 ∷ pos 1 ∷ pos 2 ∷ pos 5 ∷ []) (pos 4 ∷ []))
+    ≡ (pos 4 ∷ pos 1 ∷ pos 5 ∷ negsuc 0 ∷ pos 4 ∷ pos 1 ∷ pos 3 ∷ negsuc 2 ∷ pos 6 ∷ []) ∷ []
+dfi_exact = refl
 
-delta_exact : exact_of (rows (equations_of delta) (pos 0 ∷ []) (pos 16 ∷ pos 0 ∷ []))
+dfi_registers : registers_after (equations_of (second_order Dfi)) (pos 3 ∷ pos 1 ∷ pos 2 ∷ pos 5 ∷ []) (pos 4 ∷ []) ≡ pos 4 ∷ pos 3 ∷ pos 6 ∷ pos 2 ∷ []
+dfi_registers = refl
+
+-- ---- direct form II, with w_1 = 3, w_2 = 5 and x = 4:
+-- 1 3 -> 1; 4 - 1 = 3; -1 5 -> -3; w = 3 + 3 = 6. 2 6 -> 6; 1 3 -> 1; 7; -2 5 -> -5; y = 2
+dfii_exact : exact_of (rows (equations_of (second_order Dfii)) (pos 3 ∷ pos 5 ∷ []) (pos 4 ∷ []))
+    ≡ (pos 1 ∷ pos 3 ∷ negsuc 2 ∷ pos 6 ∷ pos 6 ∷ pos 1 ∷ pos 7 ∷ negsuc 4 ∷ pos 2 ∷ []) ∷ []
+dfii_exact = refl
+
+dfii_registers : registers_after (equations_of (second_order Dfii)) (pos 3 ∷ pos 5 ∷ []) (pos 4 ∷ []) ≡ pos 6 ∷ pos 3 ∷ []
+dfii_registers = refl
+
+-- ---- transposed direct form II, with s_1 = 3, s_2 = 5 and x = 4:
+-- 2 4 -> 4; y = 4 + 3 = 7. 1 4 -> 2; 1 7 -> 3; 2 - 3 = -1; new s_1 = -1 + 5 = 4. -2 4 -> -4; -1 7 -> -4; new s_2 = 0
+tdfii_exact : exact_of (rows (equations_of (second_order Tdfii)) (pos 3 ∷ pos 5 ∷ []) (pos 4 ∷ []))
+    ≡ (pos 4 ∷ pos 7 ∷ pos 2 ∷ pos 3 ∷ negsuc 0 ∷ pos 4 ∷ negsuc 3 ∷ negsuc 3 ∷ pos 0 ∷ []) ∷ []
+tdfii_exact = refl
+
+tdfii_outputs : outputs_of (rows (equations_of (second_order Tdfii)) (pos 3 ∷ pos 5 ∷ []) (pos 4 ∷ [])) ≡ pos 7 ∷ []
+tdfii_outputs = refl
+
+tdfii_registers : registers_after (equations_of (second_order Tdfii)) (pos 3 ∷ pos 5 ∷ []) (pos 4 ∷ []) ≡ pos 4 ∷ pos 0 ∷ []
+tdfii_registers = refl
+
+-- ---- delta direct form I, with u_1 = 3, v_1 = 5 and x = 16:
+-- 0 16 -> 0; 32 3 -> 6; 6; 16 5 -> 5; y = 6 - 5 = 1. 8 16 -> 8; new u_1 = 3 + 8 = 11. 8 1 -> 0; new v_1 = 5 + 0 = 5
+ddfi_exact : exact_of (rows (equations_of (delta_order_one Ddfi)) (pos 3 ∷ pos 5 ∷ []) (pos 16 ∷ []))
+    ≡ (pos 0 ∷ pos 6 ∷ pos 6 ∷ pos 5 ∷ pos 1 ∷ pos 8 ∷ pos 11 ∷ pos 0 ∷ pos 5 ∷ []) ∷ []
+ddfi_exact = refl
+
+ddfi_outputs : outputs_of (rows (equations_of (delta_order_one Ddfi)) (pos 3 ∷ pos 5 ∷ []) (pos 16 ∷ [])) ≡ pos 1 ∷ []
+ddfi_outputs = refl
+
+ddfi_registers : registers_after (equations_of (delta_order_one Ddfi)) (pos 3 ∷ pos 5 ∷ []) (pos 16 ∷ []) ≡ pos 11 ∷ pos 5 ∷ []
+ddfi_registers = refl
+
+-- ---- delta direct form II from 0, with x = 16 and then x = 0:
+-- 16 0 -> 0; w_0 = 16. 0 16 -> 0; 32 0 -> 0; y = 0. 8 16 -> 8; new w_1 = 0 + 8 = 8
+-- 16 8 -> 8; w_0 = 0 - 8 = -8. 0 -8 -> 0; 32 8 -> 16; y = 16. 8 -8 -> -4; new w_1 = 8 - 4 = 4
+ddfii_exact : exact_of (rows (equations_of (delta_order_one Ddfii)) (pos 0 ∷ []) (pos 16 ∷ pos 0 ∷ []))
     ≡ (pos 0 ∷ pos 16 ∷ pos 0 ∷ pos 0 ∷ pos 0 ∷ pos 8 ∷ pos 8 ∷ []) ∷ (pos 8 ∷ negsuc 7 ∷ pos 0 ∷ pos 16 ∷ pos 16 ∷ negsuc 3 ∷ pos 4 ∷ []) ∷ []
-unfolding delta format_3_4 exact_of
-delta_exact = refl
+ddfii_exact = refl
+
+ddfii_outputs : outputs_of (rows (equations_of (delta_order_one Ddfii)) (pos 0 ∷ []) (pos 16 ∷ pos 0 ∷ [])) ≡ pos 0 ∷ pos 16 ∷ []
+ddfii_outputs = refl
+
+-- ---- transposed delta direct form II, with s_1 = 3 and x = 16:
+-- 0 16 -> 0; y = 0 + 3 = 3. 32 16 -> 32; 16 3 -> 3; 32 - 3 = 29; 8 29 -> 14; new s_1 = 3 + 14 = 17
+tddfii_exact : exact_of (rows (equations_of (delta_order_one Tddfii)) (pos 3 ∷ []) (pos 16 ∷ []))
+    ≡ (pos 0 ∷ pos 3 ∷ pos 32 ∷ pos 3 ∷ pos 29 ∷ pos 14 ∷ pos 17 ∷ []) ∷ []
+tddfii_exact = refl
+
+tddfii_outputs : outputs_of (rows (equations_of (delta_order_one Tddfii)) (pos 3 ∷ []) (pos 16 ∷ [])) ≡ pos 3 ∷ []
+tddfii_outputs = refl
+
+tddfii_registers : registers_after (equations_of (delta_order_one Tddfii)) (pos 3 ∷ []) (pos 16 ∷ []) ≡ pos 17 ∷ []
+tddfii_registers = refl

@@ -4,7 +4,7 @@ use Rattle.dsv_names.specs.declared.realisation.Realisation.{Realisation}
 use Rattle.dsv_names.specs.declared.realisation.Realisation.TheVariants.{Dfi, Dfii, Tdfii, Ddfi, Ddfii, Tddfii}
 use Rattle.dsv_quantiser.specs.FixedPoint.{FixedPoint}
 use Rattle.dsv_meaning.specs.Lines.{Summand, Times, Alone, Sum, summands, line}
-use Rattle.dsv_meaning.specs.Runs.{Sampled}
+use Rattle.dsv_system.specs.Runs.{Sampled}
 
 abbrev pub order : FixedPoint → ℕ
 order q = length q.a - 1
@@ -17,8 +17,8 @@ feedback q = drop 1 q.a
 abbrev pub ago : List ℤ → ℕ → ℤ
 ago signal i = slice_index_or signal i (pos 0)
 
--- A run's past: whole signals, newest sample first, which go on behind sample 0 into the start. `signal` is x of DFI and
--- w of DFII, `outputs` is y of DFI. The chains are the registers behind each sample, newest sample first: s of TDFII
+-- A run's past: whole signals, newest sample first, which go on before sample 0 into the start. `signal` is x of DFI and
+-- w of DFII, `outputs` is y of DFI. The chains are the registers after each sample, newest sample first: s of TDFII
 -- and TDDFII, w of DDFII, u of DDFI; `output_chain` is v of DDFI.
 pub record Past : Type 0 where
   pub signal : List ℤ
@@ -135,27 +135,37 @@ abbrev pub registers_as : Realisation → ℕ → Past → List ℤ
 registers_as Dfi n p = take n p.signal ++ take n p.outputs
 registers_as Dfii n p = take n p.signal
 registers_as Ddfi n p = latest p.chain ++ latest p.output_chain
-registers_as k n p = latest p.chain
+registers_as Tdfii n p = latest p.chain
+registers_as Ddfii n p = latest p.chain
+registers_as Tddfii n p = latest p.chain
 
 -- the past before sample 0, for these words in the registers
 abbrev pub start_as : Realisation → ℕ → List ℤ → Past
 start_as Dfi n start = record { signal = take n start; outputs = drop n start; chain = []; output_chain = [] }
 start_as Dfii n start = record { signal = start; outputs = []; chain = []; output_chain = [] }
 start_as Ddfi n start = record { signal = []; outputs = []; chain = take n start ∷ []; output_chain = drop n start ∷ [] }
-start_as k n start = record { signal = []; outputs = []; chain = start ∷ []; output_chain = [] }
+start_as Tdfii n start = record { signal = []; outputs = []; chain = start ∷ []; output_chain = [] }
+start_as Ddfii n start = record { signal = []; outputs = []; chain = start ∷ []; output_chain = [] }
+start_as Tddfii n start = record { signal = []; outputs = []; chain = start ∷ []; output_chain = [] }
 
 -- ---- the table of counts
 -- how many registers a realisation has
 abbrev pub registers_of : Realisation → ℕ → ℕ
 registers_of Dfi n = 2 * n
+registers_of Dfii n = n
+registers_of Tdfii n = n
 registers_of Ddfi n = 2 * n
-registers_of k n = n
+registers_of Ddfii n = n
+registers_of Tddfii n = n
 
 -- how many of them, the first ones, are feed-forward
 abbrev pub forward_registers_of : Realisation → ℕ → ℕ
 forward_registers_of Dfi n = n
+forward_registers_of Dfii n = 0
+forward_registers_of Tdfii n = 0
 forward_registers_of Ddfi n = n
-forward_registers_of k n = 0
+forward_registers_of Ddfii n = 0
+forward_registers_of Tddfii n = 0
 
 -- how many products a sample has
 abbrev pub products_of : Realisation → ℕ → ℕ
@@ -168,4 +178,9 @@ products_of Tddfii n = 3 * n + 1
 
 -- how many sums and differences
 abbrev pub sums_of : Realisation → ℕ → ℕ
-sums_of k n = products_of k n - 1
+sums_of Dfi n = 2 * n
+sums_of Dfii n = 2 * n
+sums_of Tdfii n = 2 * n
+sums_of Ddfi n = 4 * n
+sums_of Ddfii n = 3 * n
+sums_of Tddfii n = 3 * n

@@ -8,11 +8,12 @@ ghost use Rattle.dsv_meaning.specs.Lines.{line};
 ghost use Rattle.dsv_meaning.specs.Equations.{order, feedback, transposed_line, delta_chain, transposed_chain, transposed_delta_chain};
 ghost use Rattle.dsv_meaning.specs.Stepping.{delayed};
 ghost use Rattle.dsv_meaning.specs.declared.chains.TheConstants.{MOST_REGISTERS};
-ghost use Rattle.dsv_meaning.specs.declared.operations.TheConstants.{MOST_EXACT};
+ghost use Rattle.dsv_system.specs.declared.exact_list.TheConstants.{MOST_EXACT};
 
-use crate::operations::{ExactList, MOST_EXACT, next_product, plus_first, product};
+use crate::operations::{next_product, plus_first, product};
 use arrayvec::ArrayVec;
 use dsv_quantiser::Quantised;
+use dsv_system::ExactList;
 use dsv_word::Format;
 
 /// The most registers that a realisation has.

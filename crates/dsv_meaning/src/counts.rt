@@ -1,12 +1,16 @@
 // How many registers and operations a realisation has.
 ghost use Rattle.std.specs.Prelude.{◌≡◌, ◌≤◌};
+ghost use Rattle.dsv_meaning.specs.declared.counts.TheConstants.{MOST_ORDER};
 ghost use Rattle.dsv_meaning.specs.Equations.{registers_of, forward_registers_of, products_of, sums_of};
 
 use dsv_names::Realisation;
 
+/// The greatest order of a controller.
+pub const MOST_ORDER: u32 = 8;
+
 /// How many registers the realisation of this order has.
 pub fn registers(realisation: Realisation, order: u32) -> u32
-    requires { order ≤ 8 }
+    requires { order ≤ MOST_ORDER }
     ensures { result ≡ registers_of realisation order }
 {
     match realisation {
@@ -17,7 +21,7 @@ pub fn registers(realisation: Realisation, order: u32) -> u32
 
 /// How many of the registers are feed-forward, which are the first ones.
 pub fn forward_registers(realisation: Realisation, order: u32) -> u32
-    requires { order ≤ 8 }
+    requires { order ≤ MOST_ORDER }
     ensures { result ≡ forward_registers_of realisation order }
 {
     match realisation {
@@ -28,7 +32,7 @@ pub fn forward_registers(realisation: Realisation, order: u32) -> u32
 
 /// How many products a sample of the realisation of this order takes.
 pub fn products(realisation: Realisation, order: u32) -> u32
-    requires { order ≤ 8 }
+    requires { order ≤ MOST_ORDER }
     ensures { result ≡ products_of realisation order }
 {
     match realisation {
@@ -40,8 +44,12 @@ pub fn products(realisation: Realisation, order: u32) -> u32
 
 /// How many sums and differences a sample of the realisation of this order takes.
 pub fn sums(realisation: Realisation, order: u32) -> u32
-    requires { order ≤ 8 }
+    requires { order ≤ MOST_ORDER }
     ensures { result ≡ sums_of realisation order }
 {
-    products(realisation, order) - 1
+    match realisation {
+        Realisation::Dfi | Realisation::Dfii | Realisation::Tdfii => 2 * order,
+        Realisation::Ddfi => 4 * order,
+        Realisation::Ddfii | Realisation::Tddfii => 3 * order,
+    }
 }

@@ -4,11 +4,8 @@
 mod chains;
 mod counts;
 mod operations;
-mod rows;
 mod simulating;
 mod stepping;
 
-pub use counts::{forward_registers, products, registers, sums};
-pub use operations::{ExactList, MOST_EXACT};
-pub use rows::{Row, Rows};
+pub use counts::{MOST_ORDER, forward_registers, products, registers, sums};
 pub use simulating::simulate;

@@ -7,16 +7,10 @@ ghost use Rattle.std.specs.Int.RustNames.{unsigned_abs};
 ghost use Rattle.std.specs.List.{All};
 ghost use Rattle.dsv_meaning.specs.Lines.{Times, summands, fitted, product, next_summand, next_summands, line};
 ghost use Rattle.dsv_meaning.specs.Equations.{ago, first_alone};
-ghost use Rattle.dsv_meaning.specs.declared.operations.TheConstants.{MOST_EXACT};
+ghost use Rattle.dsv_system.specs.declared.exact_list.TheConstants.{MOST_EXACT};
 
-use arrayvec::ArrayVec;
+use dsv_system::ExactList;
 use dsv_word::Format;
-
-/// The most exact values that a list of them takes in.
-pub const MOST_EXACT: usize = 160;
-
-/// The exact values of one sample, in the order of the operations.
-pub type ExactList = ArrayVec<i128, MOST_EXACT>;
 
 /// The word that the exact value of an operation becomes.
 fn fitted(format: &Format, value: &i128, exact: &mut ExactList) -> i64

@@ -5,16 +5,17 @@ ghost use Rattle.dsv_word.specs.Words.{IsWord};
 ghost use Rattle.std.specs.Prelude.{◌≡◌, ◌+◌, length, IfOk};
 ghost use Rattle.std.specs.List.{All};
 ghost use Rattle.dsv_meaning.specs.Equations.{order, registers_of};
-ghost use Rattle.dsv_meaning.specs.RowViews.{row_of};
+ghost use Rattle.dsv_system.specs.RowViews.{row_of};
 ghost use Rattle.dsv_meaning.specs.Stepping.{stepped};
-ghost use Rattle.dsv_meaning.specs.Systems.{equations_of, rows};
+ghost use Rattle.dsv_meaning.specs.Systems.{equations_of};
+ghost use Rattle.dsv_system.specs.Runs.{row_at};
+ghost use Rattle.dsv_system.specs.Systems.{rows};
 
 use crate::chains::Registers;
-use crate::operations::ExactList;
-use crate::rows::{Row, Rows};
 use crate::stepping::step;
 use dsv_base::NoMemory;
 use dsv_quantiser::Quantised;
+use dsv_system::{ExactList, Row, Rows};
 use std::alloc::Global;
 
 /// The registers with these words.
@@ -34,9 +35,8 @@ fn loaded(q: &Quantised, start: &[i64]) -> Registers
 /// The row of one sample, after which the registers have their new words.
 fn next_row(q: &Quantised, x: &i64, registers: &mut Registers) -> Row
     requires { length registers.old.items ≡ registers_of q.now.realisation (order q.now) }
-    ensures row { let s = stepped q.now.realisation q.now registers.old.items x.now in
-        row_of result ≡ record { x = x.now; y = s.y; exact = s.exact } }
-    ensures registers { registers.new.items ≡ (stepped q.now.realisation q.now registers.old.items x.now).registers }
+    ensures row { row_of result ≡ row_at (stepped q.now.realisation q.now registers.old.items x.now) x.now }
+    ensures registers { registers.new.items ≡ (stepped q.now.realisation q.now registers.old.items x.now).past }
     ensures many { length registers.new.items ≡ length registers.old.items }
 {
     let mut exact = ExactList::new();

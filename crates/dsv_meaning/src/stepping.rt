@@ -6,14 +6,15 @@ ghost use Rattle.dsv_names.specs.declared.realisation.Realisation.TheVariants.{D
 ghost use Rattle.dsv_meaning.specs.Lines.{Alone, line};
 ghost use Rattle.dsv_meaning.specs.Equations.{ago, order, forward_summands, feedback_summands, transposed_output, registers_of};
 ghost use Rattle.dsv_meaning.specs.Stepping.{stepped};
-ghost use Rattle.dsv_meaning.specs.declared.operations.TheConstants.{MOST_EXACT};
+ghost use Rattle.dsv_system.specs.declared.exact_list.TheConstants.{MOST_EXACT};
 
 use crate::chains::{
     Registers, delay, delta_chain, feedback, transposed_chain, transposed_delta_chain,
 };
-use crate::operations::{ExactList, MOST_EXACT, forward, next_products, plus_first, product};
+use crate::operations::{forward, next_products, plus_first, product};
 use dsv_names::Realisation;
 use dsv_quantiser::Quantised;
+use dsv_system::ExactList;
 
 /// The line b_0 w_0 + b_1 w_1 + .., where w_0 is the newest word.
 fn fed_forward(q: &Quantised, newest: &i64, older: &[i64], exact: &mut ExactList) -> i64
@@ -69,7 +70,7 @@ fn transposed_output(q: &Quantised, x: &i64, words: &[i64], exact: &mut ExactLis
 fn dfi(q: &Quantised, x: &i64, registers: &mut Registers, exact: &mut ExactList) -> i64
     requires many { length registers.old.items ≡ registers_of Dfi (order q.now) }
     requires empty { exact.old.items ≡ [] }
-    ensures sample { record { y = result; exact = exact.new.items; registers = registers.new.items } ≡
+    ensures sample { record { y = result; exact = exact.new.items; past = registers.new.items } ≡
         stepped Dfi q.now registers.old.items x.now }
     ensures many { length registers.new.items ≡ length registers.old.items }
 {
@@ -86,7 +87,7 @@ fn dfi(q: &Quantised, x: &i64, registers: &mut Registers, exact: &mut ExactList)
 fn dfii(q: &Quantised, x: &i64, registers: &mut Registers, exact: &mut ExactList) -> i64
     requires many { length registers.old.items ≡ registers_of Dfii (order q.now) }
     requires empty { exact.old.items ≡ [] }
-    ensures sample { record { y = result; exact = exact.new.items; registers = registers.new.items } ≡
+    ensures sample { record { y = result; exact = exact.new.items; past = registers.new.items } ≡
         stepped Dfii q.now registers.old.items x.now }
     ensures many { length registers.new.items ≡ length registers.old.items }
 {
@@ -103,7 +104,7 @@ fn dfii(q: &Quantised, x: &i64, registers: &mut Registers, exact: &mut ExactList
 fn tdfii(q: &Quantised, x: &i64, registers: &mut Registers, exact: &mut ExactList) -> i64
     requires many { length registers.old.items ≡ registers_of Tdfii (order q.now) }
     requires empty { exact.old.items ≡ [] }
-    ensures sample { record { y = result; exact = exact.new.items; registers = registers.new.items } ≡
+    ensures sample { record { y = result; exact = exact.new.items; past = registers.new.items } ≡
         stepped Tdfii q.now registers.old.items x.now }
     ensures many { length registers.new.items ≡ length registers.old.items }
 {
@@ -119,7 +120,7 @@ fn tdfii(q: &Quantised, x: &i64, registers: &mut Registers, exact: &mut ExactLis
 fn ddfi(q: &Quantised, x: &i64, registers: &mut Registers, exact: &mut ExactList) -> i64
     requires many { length registers.old.items ≡ registers_of Ddfi (order q.now) }
     requires empty { exact.old.items ≡ [] }
-    ensures sample { record { y = result; exact = exact.new.items; registers = registers.new.items } ≡
+    ensures sample { record { y = result; exact = exact.new.items; past = registers.new.items } ≡
         stepped Ddfi q.now registers.old.items x.now }
     ensures many { length registers.new.items ≡ length registers.old.items }
 {
@@ -136,7 +137,7 @@ fn ddfi(q: &Quantised, x: &i64, registers: &mut Registers, exact: &mut ExactList
 fn ddfii(q: &Quantised, x: &i64, registers: &mut Registers, exact: &mut ExactList) -> i64
     requires many { length registers.old.items ≡ registers_of Ddfii (order q.now) }
     requires empty { exact.old.items ≡ [] }
-    ensures sample { record { y = result; exact = exact.new.items; registers = registers.new.items } ≡
+    ensures sample { record { y = result; exact = exact.new.items; past = registers.new.items } ≡
         stepped Ddfii q.now registers.old.items x.now }
     ensures many { length registers.new.items ≡ length registers.old.items }
 {
@@ -153,7 +154,7 @@ fn ddfii(q: &Quantised, x: &i64, registers: &mut Registers, exact: &mut ExactLis
 fn tddfii(q: &Quantised, x: &i64, registers: &mut Registers, exact: &mut ExactList) -> i64
     requires many { length registers.old.items ≡ registers_of Tddfii (order q.now) }
     requires empty { exact.old.items ≡ [] }
-    ensures sample { record { y = result; exact = exact.new.items; registers = registers.new.items } ≡
+    ensures sample { record { y = result; exact = exact.new.items; past = registers.new.items } ≡
         stepped Tddfii q.now registers.old.items x.now }
     ensures many { length registers.new.items ≡ length registers.old.items }
 {
@@ -169,7 +170,7 @@ fn tddfii(q: &Quantised, x: &i64, registers: &mut Registers, exact: &mut ExactLi
 pub(crate) fn step(q: &Quantised, x: &i64, registers: &mut Registers, exact: &mut ExactList) -> i64
     requires many { length registers.old.items ≡ registers_of q.now.realisation (order q.now) }
     requires empty { exact.old.items ≡ [] }
-    ensures sample { record { y = result; exact = exact.new.items; registers = registers.new.items } ≡
+    ensures sample { record { y = result; exact = exact.new.items; past = registers.new.items } ≡
         stepped q.now.realisation q.now registers.old.items x.now }
     ensures many { length registers.new.items ≡ length registers.old.items }
 {

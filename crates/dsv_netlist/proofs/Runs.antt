@@ -12,7 +12,7 @@ use Rattle.std.proofs.lemmas.List.Elements.{All-head, All-tail, All-get_or, All-
 use Rattle.dsv_word.specs.declared.format.Format.{Format}
 use Rattle.dsv_netlist.specs.declared.node.Node.{Node}
 use Rattle.dsv_netlist.specs.declared.node.Node.TheVariants.{Input, Reg, MulConst, Round, Add, Sub, Fit}
-use Rattle.dsv_netlist.specs.declared.TheConstants.{MOST_EXACT}
+use Rattle.dsv_system.specs.declared.exact_list.TheConstants.{MOST_EXACT}
 use Rattle.dsv_netlist.specs.Nodes.{Net, Sample, at, node_value, node_exact, after_node, sample_from, sample_of}
 use Rattle.dsv_netlist.specs.Bounds.{word_bound, node_bound, bounds_from}
 use Rattle.dsv_netlist.specs.Conditions.{NamesBelow, AllNameBack, ReadsBelow, gives_word, names_word, is_fit, IsNetlist}

@@ -3,7 +3,8 @@ use Rattle.std.specs.Prelude.{ℕ, zero, suc, ◌+◌, ◌<◌, ◌≤◌, Bool,
 use Rattle.std.specs.List.{All}
 use Rattle.dsv_netlist.specs.declared.node.Node.{Node}
 use Rattle.dsv_netlist.specs.declared.node.Node.TheVariants.{Input, Reg, MulConst, Round, Add, Sub, Fit}
-use Rattle.dsv_netlist.specs.declared.TheConstants.{MOST_NODES, MOST_REGISTERS, MOST_EXACT, BOUND_LIMIT}
+use Rattle.dsv_system.specs.declared.exact_list.TheConstants.{MOST_EXACT}
+use Rattle.dsv_netlist.specs.declared.TheConstants.{MOST_NODES, MOST_REGISTERS, BOUND_LIMIT}
 use Rattle.dsv_netlist.specs.Nodes.{Net}
 use Rattle.dsv_netlist.specs.Bounds.{bounds_of}
 

@@ -1,4 +1,4 @@
--- What a netlist is made of.
+-- Serves private contracts: a netlist's fields, as its view and invariant see them.
 use Rattle.std.specs.Prelude.{◌≡◌, length, take}
 use Rattle.dsv_netlist.specs.declared.netlist.Netlist.TheInside.{Inside}
 use Rattle.dsv_netlist.specs.Nodes.{Net, net_from}

@@ -5,3 +5,4 @@ pub mod Inside
 pub mod Law
 pub mod Nodes
 pub mod Safety
+pub mod Systems

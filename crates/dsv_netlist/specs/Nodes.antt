@@ -3,6 +3,7 @@ use Rattle.std.specs.Prelude.{ℕ, List, [], ◌∷◌, ◌++◌, map, slice_ind
 use Rattle.dsv_word.specs.declared.format.Format.{Format}
 use Rattle.dsv_word.specs.Words.{width, fit}
 use Rattle.dsv_word.specs.Quotients.{shifted}
+use Rattle.dsv_system.specs.Runs.{Sampled}
 use Rattle.dsv_netlist.specs.declared.node.Node.{Node}
 use Rattle.dsv_netlist.specs.declared.node.Node.TheVariants.{Input, Reg, MulConst, Round, Add, Sub, Fit}
 
@@ -53,15 +54,10 @@ sample_from format registers x (node ∷ nodes) sample = sample_from format regi
 abbrev pub sample_of : Format → List ℤ → ℤ → List Node → Sample
 sample_of format registers x nodes = sample_from format registers x nodes (record { values = []; exact = [] })
 
--- the output, the exact values, and the registers for the next sample
-pub record Step : Type 0 where
-  pub y : ℤ
-  pub exact : List ℤ
-  pub registers : List ℤ
-
-abbrev pub step_from : Net → Sample → Step
-step_from net sample = record { y = at sample.values net.output; exact = sample.exact; registers = map (at sample.values) net.next }
+-- what a sample gives, whose past is the registers after it
+abbrev pub step_from : Net → Sample → Sampled (List ℤ)
+step_from net sample = record { y = at sample.values net.output; exact = sample.exact; past = map (at sample.values) net.next }
 
 -- one step of a netlist: every register is read before any is loaded
-abbrev pub step_of : Net → List ℤ → ℤ → Step
+abbrev pub step_of : Net → List ℤ → ℤ → Sampled (List ℤ)
 step_of net registers x = step_from net (sample_of net.format registers x net.nodes)

@@ -1,9 +1,10 @@
--- What is wanted of each node before it is computed.
+-- Serves private contracts: what is wanted of each node before it is computed.
 use Rattle.std.specs.Prelude.{◌+◌, ◌<◌, ◌≤◌, List, [], ◌∷◌, length, ℤ}
 use Rattle.std.specs.Int.RustNames.{unsigned_abs}
 use Rattle.dsv_word.specs.declared.format.Format.{Format}
 use Rattle.dsv_netlist.specs.declared.node.Node.{Node}
-use Rattle.dsv_netlist.specs.declared.TheConstants.{MOST_EXACT, BOUND_LIMIT}
+use Rattle.dsv_system.specs.declared.exact_list.TheConstants.{MOST_EXACT}
+use Rattle.dsv_netlist.specs.declared.TheConstants.{BOUND_LIMIT}
 use Rattle.dsv_netlist.specs.Nodes.{Sample, node_value, node_exact, after_node}
 use Rattle.dsv_netlist.specs.Conditions.{NamesBelow, ReadsBelow}
 

@@ -11,16 +11,12 @@ mod stepping;
 pub use law::values_are_bounded;
 pub use netlist::{Netlist, OpCounts};
 pub use node::Node;
-pub use stepping::ExactList;
 
 /// The most nodes that a netlist has.
 pub const MOST_NODES: usize = 512;
 
 /// The most registers that a netlist has.
 pub const MOST_REGISTERS: usize = 512;
-
-/// The most exact values that a sample has.
-pub const MOST_EXACT: usize = 160;
 
 /// The bound of each node is below this.
 pub const BOUND_LIMIT: u128 = 1 << 78;

@@ -11,8 +11,9 @@ ghost use Rattle.dsv_netlist.specs.declared.TheConstants.{BOUND_LIMIT};
 use crate::bounds::bounds_of;
 use crate::conditions::{all_name_back, all_name_words, all_read_below, fits_in, names_word};
 use crate::node::Node;
-use crate::stepping::{ExactList, load, narrow, run_nodes};
-use crate::{MOST_EXACT, MOST_NODES, MOST_REGISTERS};
+use crate::stepping::{load, narrow, run_nodes};
+use crate::{MOST_NODES, MOST_REGISTERS};
+use dsv_system::{ExactList, MOST_EXACT};
 use dsv_word::Format;
 use std::marker::Model;
 
@@ -166,7 +167,7 @@ impl Netlist {
         requires input { IsWord self.now.format x }
         requires empty { exact.old.items ≡ [] }
         ensures output { result ≡ (step_of self.now regs.old x).y }
-        ensures registers { regs.new ≡ (step_of self.now regs.old x).registers }
+        ensures registers { regs.new ≡ (step_of self.now regs.old x).past }
         ensures exact { exact.new.items ≡ (step_of self.now regs.old x).exact }
         ensures word { IsWord self.now.format result }
         ensures words { All (IsWord self.now.format) regs.new }

@@ -6,15 +6,12 @@ ghost use Rattle.std.specs.Int.RustNames.{unsigned_abs};
 ghost use Rattle.dsv_netlist.specs.Nodes.{at, node_value, node_exact, sample_of};
 ghost use Rattle.dsv_netlist.specs.Conditions.{NamesBelow, ReadsBelow};
 ghost use Rattle.dsv_netlist.specs.Safety.{AreSafe};
-ghost use Rattle.dsv_netlist.specs.declared.TheConstants.{MOST_EXACT, BOUND_LIMIT};
+ghost use Rattle.dsv_system.specs.declared.exact_list.TheConstants.{MOST_EXACT};
+ghost use Rattle.dsv_netlist.specs.declared.TheConstants.{BOUND_LIMIT};
 
-use crate::MOST_EXACT;
 use crate::node::Node;
-use arrayvec::ArrayVec;
+use dsv_system::ExactList;
 use dsv_word::Format;
-
-/// The exact values of one sample, in the order in which they are made.
-pub type ExactList = ArrayVec<i128, MOST_EXACT>;
 
 /// What a node gives, over the values of the nodes before it.
 fn value_of(format: &Format, node: &Node, registers: &[i64], x: &i64, values: &[i128]) -> i128

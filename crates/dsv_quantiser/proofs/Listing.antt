@@ -3,7 +3,7 @@ use Rattle.dsv_word.specs.Words.{IsWord}
 use Rattle.std.proofs.Common.{◌≡◌, ℕ, suc, ◌+◌, ◌-◌, ◌<◌, ◌≤◌, ◌⊎◌, List, [], ◌∷◌, ◌++◌, length, take, drop, get_or, refl, sym, ap, ◌∙◌, subst, inl, inr, arith, add-one, zero-add, length-append, drop-cons, Result, Ok}
 use Rattle.std.proofs.Math.IntN.{ℤ, pos}
 use Rattle.std.proofs.Math.ListN.{get_or-append}
-use Rattle.std.proofs.Math.Seq.{get_or-append_seam, take-length}
+use Rattle.std.proofs.Math.Seq.{get_or-append_seam}
 use Rattle.std.proofs.lemmas.List.{take_more, get_or_default, length-drop}
 use Rattle.std.proofs.lemmas.Grind.{get_or_after_one}
 use Rattle.dsv_fraction.specs.Ratio.{Ratio, zero as nought}
@@ -12,6 +12,7 @@ use Rattle.dsv_reader.specs.Controllers.{ControllerView}
 use Rattle.dsv_names.specs.declared.realisation.Realisation.{Realisation}
 use Rattle.dsv_names.specs.declared.list_name.ListName.{ListName}
 use Rattle.dsv_quantiser.specs.declared.refusal.QuantRefusal.{QuantRefusal}
+use Rattle.dsv_quantiser.specs.declared.words.TheConstants.{MOST_COEFFICIENTS}
 use Rattle.dsv_quantiser.specs.FixedPoint.{IsFixedPoint, IsDeltaWord, unit}
 use Rattle.dsv_text.specs.Stages.{◌>>=◌}
 use Rattle.dsv_quantiser.specs.Quantising.{word_at, words_from}
@@ -28,41 +29,36 @@ words_step f name qs i n q out w o h is e given fine =
     ∙ ap (λ m. words_from f name (drop m qs) (out ++ w ∷ [])) (sym (add-one i)))
 
 -- ---- what they mean
-pub no_words : (f : Format) (front : List ℤ) → AreWordsOf f [] front front
-no_words f front = record { places = omega arith; same = λ k h. refl; each = λ k h. absurd (omega arith) }
+pub no_words : (f : Format) (prefix : List ℤ) → AreWordsOf f [] prefix prefix
+no_words f prefix = record { places = omega arith; same = λ k h. refl; each = λ k h. absurd (omega arith) }
 
 below_or_last : (k n : ℕ) → k < n + 1 → (k < n) ⊎ (k ≡ n)
 below_or_last k n h = grind arith
 
-more : (f : Format) (qs : List Ratio) (front out : List ℤ) (q : Ratio) (w : ℤ) → AreWordsOf f qs front out → IsWordOf f q w → AreWordsOf f (qs ++ q ∷ []) front (out ++ w ∷ [])
-more f qs front out q w so is = record {
+more : (f : Format) (qs : List Ratio) (prefix out : List ℤ) (q : Ratio) (w : ℤ) → AreWordsOf f qs prefix out → IsWordOf f q w → AreWordsOf f (qs ++ q ∷ []) prefix (out ++ w ∷ [])
+more f qs prefix out q w so is = record {
   places = omega (arith, so.places, length-append out (w ∷ []), length-append qs (q ∷ []));
   same = λ k h. get_or-append out (w ∷ []) (pos 0) k (omega (arith, so.places)) ∙ so.same k h;
   each = λ k h.
       elim (below_or_last k (length qs) (omega (arith, length-append qs (q ∷ [])))) [
         | inl less ↦
             let P : Ratio → ℤ → Type 0 = λ r z. IsWordOf f r z in
-            rw (get_or-append qs (q ∷ []) nought k less, get_or-append out (w ∷ []) (pos 0) (length front + k) (omega (arith, so.places))) (so.each k less)
+            rw (get_or-append qs (q ∷ []) nought k less, get_or-append out (w ∷ []) (pos 0) (length prefix + k) (omega (arith, so.places))) (so.each k less)
         | inr last ↦
             rw (last, get_or-append_seam qs q [] nought, ← so.places, get_or-append_seam out w [] (pos 0)) is
       ];
 }
 
-pub words_more : (f : Format) (qs : List Ratio) (i : ℕ) (front out : List ℤ) (q : Ratio) (w : ℤ) → i < length qs → q ≡ get_or qs i q
-    → AreWordsOf f (take i qs) front out → IsWordOf f q w → AreWordsOf f (take (i + 1) qs) front (out ++ w ∷ [])
-words_more f qs i front out q w h is so word =
-    let P : List Ratio → Type 0 = λ r. AreWordsOf f r front (out ++ w ∷ []) in
-    subst P (sym (take_more qs i q h ∙ ap (λ x. take i qs ++ x ∷ []) (sym is))) (more f (take i qs) front out q w so word)
+pub words_more : (f : Format) (qs : List Ratio) (i : ℕ) (prefix out : List ℤ) (q : Ratio) (w : ℤ) → i < length qs → q ≡ get_or qs i q
+    → AreWordsOf f (take i qs) prefix out → IsWordOf f q w → AreWordsOf f (take (i + 1) qs) prefix (out ++ w ∷ [])
+words_more f qs i prefix out q w h is so word =
+    let P : List Ratio → Type 0 = λ r. AreWordsOf f r prefix (out ++ w ∷ []) in
+    subst P (sym (take_more qs i q h ∙ ap (λ x. take i qs ++ x ∷ []) (sym is))) (more f (take i qs) prefix out q w so word)
 
-pub all_words : (f : Format) (qs : List Ratio) (i : ℕ) (front out : List ℤ) → i ≡ length qs → AreWordsOf f (take i qs) front out → AreWordsOf f qs front out
-all_words f qs i front out h so =
-    let P : List Ratio → Type 0 = λ r. AreWordsOf f r front out in
-    subst P (ap (λ n. take n qs) h ∙ take-length qs) so
-
--- a denominator's words behind the leading one
-behind_first : (f : Format) (a : List Ratio) (words : List ℤ) (i : ℕ) → AreWordsOf f (drop 1 a) (unit f ∷ []) words → 1 ≤ i → i < length a
+-- a denominator's words after the leading one
+after_first : (f : Format) (a : List Ratio) (words : List ℤ) (i : ℕ) → AreWordsOf f (drop 1 a) (unit f ∷ []) words → 1 ≤ i → i < length a
     → IsWordOf f (get_or a i nought) (get_or words i (pos 0))
-behind_first f a words i so some h =
+after_first f a words i so some h =
     let at : 1 + (i - 1) ≡ i = omega arith in
     let P : ℕ → Type 0 = λ n. IsWordOf f (get_or a n nought) (get_or words n (pos 0)) in
     let Q : Ratio → Type 0 = λ r. IsWordOf f r (get_or words (1 + (i - 1)) (pos 0)) in
@@ -73,18 +69,18 @@ pub in_words_meant : (c : ControllerView) (f : Format) (k : Realisation) (b a : 
     → IsInWords c f k b a d (record { b = num; a = den; delta = d; xlo = low; xhi = high; format = f; realisation = k })
 in_words_meant c f k b a num den d low high some is so range = record {
   same_format = refl;
-  same_kind = refl;
+  same_realisation = refl;
   same_delta = refl;
   leading = so.same 0 (omega arith);
   b_places = omega (arith, is.places);
   a_places = omega (arith, so.places, length-drop 1 a);
   b_words = λ i h. let P : ℕ → Type 0 = λ n. IsWordOf f (get_or b i nought) (get_or num n (pos 0)) in subst P (zero-add i) (is.each i h);
-  a_words = λ i p h. behind_first f a den i so p h;
+  a_words = λ i p h. after_first f a den i so p h;
   range = range;
 }
 
 -- ---- what stays true
-pub is_fixed_point : (c : ControllerView) (f : Format) (k : Realisation) (b a : List Ratio) (num den : List ℤ) (d low high : ℤ) → length b ≡ length a → 1 ≤ length a → length a ≤ 9
+pub is_fixed_point : (c : ControllerView) (f : Format) (k : Realisation) (b a : List Ratio) (num den : List ℤ) (d low high : ℤ) → length b ≡ length a → 1 ≤ length a → length a ≤ MOST_COEFFICIENTS
     → IsDeltaWord f k d → IsInWords c f k b a d (record { b = num; a = den; delta = d; xlo = low; xhi = high; format = f; realisation = k })
     → IsFixedPoint (record { b = num; a = den; delta = d; xlo = low; xhi = high; format = f; realisation = k })
 is_fixed_point c f k b a num den d low high same some few delta is = record {

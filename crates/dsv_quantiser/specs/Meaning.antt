@@ -16,11 +16,11 @@ pub record IsWordOf (format : Format) (q : Ratio) (w : ℤ) : Type 0 where
   pub word : IsWord format w
   pub rounded : IsRounded format.rounding (q.num *ℤ pos (2 ^ format.frac_bits)) q.den w
 
--- the words of the fractions behind those of a front
-pub record AreWordsOf (format : Format) (qs : List Ratio) (front words : List ℤ) : Type 0 where
-  pub places : length words ≡ length front + length qs
-  pub same : (k : ℕ) → k < length front → slice_index_or words k (pos 0) ≡ slice_index_or front k (pos 0)
-  pub each : (k : ℕ) → k < length qs → IsWordOf format (slice_index_or qs k zero) (slice_index_or words (length front + k) (pos 0))
+-- the words of the fractions after those of a prefix
+pub record AreWordsOf (format : Format) (qs : List Ratio) (prefix words : List ℤ) : Type 0 where
+  pub places : length words ≡ length prefix + length qs
+  pub same : (k : ℕ) → k < length prefix → slice_index_or words k (pos 0) ≡ slice_index_or prefix k (pos 0)
+  pub each : (k : ℕ) → k < length qs → IsWordOf format (slice_index_or qs k zero) (slice_index_or words (length prefix + k) (pos 0))
 
 -- q ≤ w / 2^f
 abbrev pub IsFrom : Format → Ratio → ℤ → Type 0
@@ -47,7 +47,7 @@ pub record IsRangeOf (format : Format) (min max : Ratio) (r : Range) : Type 0 wh
 -- the controller in words whose coefficients are made of b and a, with that word for delta
 pub record IsInWords (c : ControllerView) (format : Format) (realisation : Realisation) (b a : List Ratio) (delta : ℤ) (q : FixedPoint) : Type 0 where
   pub same_format : q.format ≡ format
-  pub same_kind : q.realisation ≡ realisation
+  pub same_realisation : q.realisation ≡ realisation
   pub same_delta : q.delta ≡ delta
   pub leading : slice_index_or q.a 0 (pos 0) ≡ unit format
   pub b_places : length q.b ≡ length b

@@ -37,7 +37,7 @@ abbrev pub word_at : Format → ListName → ℕ → Ratio → Result ℤ QuantR
 word_at format name i q = or_wide name i (word_of (rounded format.rounding) format.frac_bits q) >>= λ w. fitting format name i w
 
 -- ---- lists
--- the words of the fractions behind those that the list has so far
+-- the words of the fractions after those that the list has so far
 abbrev pub words_from : Format → ListName → List Ratio → List ℤ → Result (List ℤ) QuantRefusal
 words_from format name [] out = Ok out
 words_from format name (q ∷ qs) out = word_at format name (length out) q >>= λ w. words_from format name qs (out ++ w ∷ [])

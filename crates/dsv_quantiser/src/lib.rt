@@ -10,4 +10,4 @@ mod words;
 pub use quantised::Quantised;
 pub use quantising::quantise;
 pub use refusal::QuantRefusal;
-pub use words::Coeffs;
+pub use words::{Coeffs, MOST_COEFFICIENTS};

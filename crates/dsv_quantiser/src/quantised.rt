@@ -10,19 +10,23 @@ use dsv_reader::Controller;
 use dsv_word::Format;
 use std::marker::Model;
 
-/// A controller in words of a format, as one realisation computes it.
-///
-/// Both lists of coefficients have one length from 1 to 9. The leading denominator coefficient is two to the format's
-/// `frac_bits`, and all others are words of the format. `delta` is 0 for the direct forms, and a positive word for the
-/// delta forms. The inputs are the words from `xlo` to `xhi`, of which there is at least one.
+/// A controller in words of a format, as one realisation computes it. Both lists of coefficients have one length, from 1
+/// to `MOST_COEFFICIENTS`.
 #[derive(Drop)]
 pub struct Quantised {
+    /// The numerator, words of the format.
     b: Coeffs,
+    /// The denominator: the first is two to the format's `frac_bits`, and the others are words of the format.
     a: Coeffs,
+    /// 0 in the direct forms, a positive word in the delta forms.
     delta: i64,
+    /// The least input, a word.
     xlo: i64,
+    /// The greatest input, a word that isn't below `xlo`.
     xhi: i64,
+    /// The format of the words.
     format: Format,
+    /// The realisation whose coefficients these are.
     realisation: Realisation,
 }
 
@@ -54,6 +58,7 @@ impl Model for Quantised {
 
 impl Quantised {
     ghost use Rattle.std.specs.Prelude.{◌≡◌, ◌≤◌, ◌+◌, length, IfOk};
+    ghost use Rattle.dsv_quantiser.specs.declared.words.TheConstants.{MOST_COEFFICIENTS};
     ghost use Rattle.dsv_quantiser.specs.FixedPoint.{FixedPoint, IsFixedPoint, IsDeltaWord};
     ghost use Rattle.dsv_quantiser.specs.Quantising.{in_words};
     ghost use Rattle.dsv_quantiser.specs.Meaning.{IsInWords};
@@ -69,7 +74,7 @@ impl Quantised {
     ) -> Result<Quantised, QuantRefusal>
         requires one_length { length b.now ≡ length a.now }
         requires some { 1 ≤ length a.now }
-        requires few { length a.now ≤ 9 }
+        requires few { length a.now ≤ MOST_COEFFICIENTS }
         requires delta { IsDeltaWord format realisation delta }
         ensures value { result ≡ in_words controller.now format realisation b.now a.now delta }
         ensures meaning { IfOk result (IsInWords controller.now format realisation b.now a.now delta) }
@@ -138,14 +143,16 @@ impl Quantised {
 
     /// The format of its words.
     pub fn format(&self) -> Format
-        ensures { result ≡ self.now.format }
+        ensures same { result ≡ self.now.format }
+        ensures fixed_point { IsFixedPoint self.now }
     {
         self.format
     }
 
     /// The realisation.
     pub fn realisation(&self) -> Realisation
-        ensures { result ≡ self.now.realisation }
+        ensures same { result ≡ self.now.realisation }
+        ensures fixed_point { IsFixedPoint self.now }
     {
         self.realisation
     }

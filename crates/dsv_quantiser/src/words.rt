@@ -3,6 +3,7 @@
 
 ghost use Rattle.dsv_word.specs.Words.{IsWord};
 ghost use Rattle.std.specs.Prelude.{◌≡◌, ◌+◌, ◌≤◌, ◌<◌, ◌^◌, length, drop, [], ◌∷◌, MatchResult, Ok, Err, IfOk};
+ghost use Rattle.dsv_quantiser.specs.declared.words.TheConstants.{MOST_COEFFICIENTS};
 ghost use Rattle.dsv_quantiser.specs.FixedPoint.{unit};
 ghost use Rattle.dsv_quantiser.specs.Meaning.{IsWordOf, AreWordsOf};
 ghost use Rattle.dsv_quantiser.specs.Quantising.{or_wide, fitting, word_at, words_from, a_words, b_words};
@@ -13,8 +14,11 @@ use dsv_fraction::{Frac, TooWide};
 use dsv_names::ListName;
 use dsv_word::Format;
 
+/// The most coefficients that a list has.
+pub const MOST_COEFFICIENTS: usize = 9;
+
 /// Up to nine coefficients as words.
-pub type Coeffs = ArrayVec<i64, 9>;
+pub type Coeffs = ArrayVec<i64, MOST_COEFFICIENTS>;
 
 /// The whole number that was made of a fraction.
 pub(crate) fn or_wide(
@@ -70,19 +74,19 @@ fn word_at(format: Format, list: ListName, index: u32, fraction: &Frac) -> Resul
     fitting(format, list, index, wanted)
 }
 
-/// The words of the fractions behind those of `front`.
+/// The words of the fractions after those of `prefix`.
 fn words_from(
     format: Format,
     list: ListName,
     fractions: &[Frac],
-    front: Coeffs,
+    prefix: Coeffs,
 ) -> Result<Coeffs, QuantRefusal>
-    requires { length front.items + length fractions.now ≤ 9 }
-    ensures value { let meant = words_from format list fractions.now front.items in
+    requires { length prefix.items + length fractions.now ≤ MOST_COEFFICIENTS }
+    ensures value { let meant = words_from format list fractions.now prefix.items in
         MatchResult result (λ words. meant ≡ Ok words.items) (λ refusal. meant ≡ Err refusal) }
-    ensures meaning { IfOk result (λ words. AreWordsOf format fractions.now front.items words.items) }
+    ensures meaning { IfOk result (λ words. AreWordsOf format fractions.now prefix.items words.items) }
 {
-    let mut out = front;
+    let mut out = prefix;
     for fraction in fractions {
         let word = word_at(format, list, out.len() as u32, fraction)?;
         out.push(word);
@@ -92,7 +96,7 @@ fn words_from(
 
 /// The words of the numerator.
 pub(crate) fn b_words(format: Format, b: &[Frac]) -> Result<Coeffs, QuantRefusal>
-    requires { length b.now ≤ 9 }
+    requires { length b.now ≤ MOST_COEFFICIENTS }
     ensures value { let meant = b_words format b.now in
         MatchResult result (λ words. meant ≡ Ok words.items) (λ refusal. meant ≡ Err refusal) }
     ensures meaning { IfOk result (λ words. AreWordsOf format b.now [] words.items) }
@@ -103,12 +107,12 @@ pub(crate) fn b_words(format: Format, b: &[Frac]) -> Result<Coeffs, QuantRefusal
 /// The words of the denominator, whose leading coefficient is 1 and isn't tested.
 pub(crate) fn a_words(format: Format, a: &[Frac]) -> Result<Coeffs, QuantRefusal>
     requires some { 1 ≤ length a.now }
-    requires few { length a.now ≤ 9 }
+    requires few { length a.now ≤ MOST_COEFFICIENTS }
     ensures value { let meant = a_words format a.now in
         MatchResult result (λ words. meant ≡ Ok words.items) (λ refusal. meant ≡ Err refusal) }
     ensures meaning { IfOk result (λ words. AreWordsOf format (drop 1 a.now) (unit format ∷ []) words.items) }
 {
-    let mut front = Coeffs::new();
-    front.push(unit(format));
-    words_from(format, ListName::A, &a[1..], front)
+    let mut prefix = Coeffs::new();
+    prefix.push(unit(format));
+    words_from(format, ListName::A, &a[1..], prefix)
 }

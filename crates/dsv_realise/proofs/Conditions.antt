@@ -207,6 +207,14 @@ products_few Ddfi n h = omega arith
 products_few Ddfii n h = omega arith
 products_few Tddfii n h = omega arith
 
+sums_few : (k : Realisation) (n : ℕ) → n ≤ 8 → sums_of k n ≤ 32
+sums_few Dfi n h = omega arith
+sums_few Dfii n h = omega arith
+sums_few Tdfii n h = omega arith
+sums_few Ddfi n h = omega arith
+sums_few Ddfii n h = omega arith
+sums_few Tddfii n h = omega arith
+
 registers_few : (k : Realisation) (n : ℕ) → n ≤ 8 → registers_of k n ≤ 16
 registers_few Dfi n h = omega arith
 registers_few Dfii n h = omega arith
@@ -239,6 +247,7 @@ pub record IsRealised (k : Realisation) (q : FixedPoint) (net : Net) : Type 0 wh
 realised : (k : Realisation) (q : FixedPoint) (r : ℕ) (ns : List Node) (next : List ℕ) (output : ℕ) → order q ≤ 8 → r ≡ registers_of k (order q) → IsWhole k q r ns next output → IsRealised k q (net_with q k ns next output)
 realised k q r ns next output few e w =
     let p = products_few k (order q) few in
+    let s = sums_few k (order q) few in
     let rf = registers_few k (order q) few in
     let many : length next ≡ registers_of k (order q) = w.many ∙ e in
     record {

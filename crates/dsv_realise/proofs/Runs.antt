@@ -1,14 +1,18 @@
 -- Whole runs of a realisation's netlist are those of its written equations.
-use Rattle.std.proofs.Common.{◌≡◌, ℕ, ◌*◌, List, ◌++◌, length, take, drop, refl, subst, arith, length-take, length-drop}
+use Rattle.std.proofs.Common.{◌≡◌, ℕ, ◌*◌, List, ◌++◌, length, take, drop, refl, ap, subst, arith, length-take, length-drop}
 use Rattle.std.proofs.Math.IntN.{ℤ}
 use Rattle.std.proofs.lemmas.List.{take-take, take_all, take-append-drop, length-take-le}
 use Rattle.dsv_names.specs.declared.realisation.Realisation.{Realisation}
 use Rattle.dsv_names.specs.declared.realisation.Realisation.TheVariants.{Dfi, Dfii, Tdfii, Ddfi, Ddfii, Tddfii}
 use Rattle.dsv_quantiser.specs.FixedPoint.{FixedPoint, IsFixedPoint}
-use Rattle.dsv_meaning.specs.Runs.{rows_from, past_after}
-use Rattle.dsv_meaning.specs.Equations.{order, Past, sample_as, registers_as, start_as, registers_of}
+use Rattle.dsv_system.specs.Runs.{rows_from, past_after}
+use Rattle.dsv_system.specs.Systems.{RunAlike, rows, registers_after}
+use Rattle.dsv_netlist.specs.Systems.{system_of}
+use Rattle.dsv_meaning.specs.Systems.{equations_of}
+use Rattle.dsv_netlist.specs.declared.netlist.OpCounts.{OpCounts}
+use Rattle.dsv_meaning.specs.Equations.{order, Past, sample_as, registers_as, start_as, registers_of, forward_registers_of}
 use Rattle.dsv_realise.specs.Netlists.{net_as, net_of}
-use Rattle.dsv_realise.specs.Running.{net_rows, net_registers, RunsAre}
+use Rattle.dsv_realise.proofs.Conditions.{net_realised}
 use Rattle.dsv_realise.proofs.Follow.{same_rows, same_registers}
 use Rattle.dsv_realise.proofs.Sources.{IsSized, sized}
 use Rattle.dsv_realise.proofs.Steps.{HasRegisters, FollowsAs, dfi_follows, dfii_follows, tdfii_follows, tddfii_follows}
@@ -45,20 +49,40 @@ start_has Ddfi n start l = (length-take-le n start (omega arith), omega (arith, 
 start_has Ddfii n start l = l
 start_has Tddfii n start l = l
 
-rows_as : (k : Realisation) (q : FixedPoint) (start xs : List ℤ) → IsSized q → length start ≡ registers_of k (order q) → net_rows (net_as k q) start xs ≡ rows_from (sample_as k q) (start_as k (order q) start) xs
+rows_as : (k : Realisation) (q : FixedPoint) (start xs : List ℤ) → IsSized q → length start ≡ registers_of k (order q) → rows (system_of (net_as k q)) start xs ≡ rows_from (sample_as k q) (start_as k (order q) start) xs
 rows_as k q start xs s l =
     let n = order q in
-    subst (λ (r : List ℤ). net_rows (net_as k q) r xs ≡ rows_from (sample_as k q) (start_as k n start) xs) (start_registers k n start l)
+    subst (λ (r : List ℤ). rows (system_of (net_as k q)) r xs ≡ rows_from (sample_as k q) (start_as k n start) xs) (start_registers k n start l)
     (same_rows Past (net_as k q) (registers_as k n) (sample_as k q) (HasRegisters k n) (λ p x h. follows k q p x s h) (start_as k n start) xs (start_has k n start l))
 
-registers_are : (k : Realisation) (q : FixedPoint) (start xs : List ℤ) → IsSized q → length start ≡ registers_of k (order q) → net_registers (net_as k q) start xs ≡ registers_as k (order q) (past_after (sample_as k q) (start_as k (order q) start) xs)
+registers_are : (k : Realisation) (q : FixedPoint) (start xs : List ℤ) → IsSized q → length start ≡ registers_of k (order q) → registers_after (system_of (net_as k q)) start xs ≡ registers_as k (order q) (past_after (sample_as k q) (start_as k (order q) start) xs)
 registers_are k q start xs s l =
     let n = order q in
-    subst (λ (r : List ℤ). net_registers (net_as k q) r xs ≡ registers_as k n (past_after (sample_as k q) (start_as k n start) xs)) (start_registers k n start l)
+    subst (λ (r : List ℤ). registers_after (system_of (net_as k q)) r xs ≡ registers_as k n (past_after (sample_as k q) (start_as k n start) xs)) (start_registers k n start l)
     (same_registers Past (net_as k q) (registers_as k n) (sample_as k q) (HasRegisters k n) (λ p x h. follows k q p x s h) (start_as k n start) xs (start_has k n start l))
 
-pub runs_are : (q : FixedPoint) → IsFixedPoint q → RunsAre q (net_of q)
-runs_are q h = record {
+-- ---- what the netlist says of itself
+forward_of : (k : Realisation) (q : FixedPoint) → (net_as k q).feed_forward ≡ forward_registers_of k (order q)
+forward_of Dfi q = refl
+forward_of Dfii q = refl
+forward_of Tdfii q = refl
+forward_of Ddfi q = refl
+forward_of Ddfii q = refl
+forward_of Tddfii q = refl
+
+format_of : (k : Realisation) (q : FixedPoint) → (net_as k q).format ≡ q.format
+format_of Dfi q = refl
+format_of Dfii q = refl
+format_of Tdfii q = refl
+format_of Ddfi q = refl
+format_of Ddfii q = refl
+format_of Tddfii q = refl
+
+pub runs_alike : (q : FixedPoint) → IsFixedPoint q → RunAlike (List ℤ) Past (system_of (net_of q)) (equations_of q)
+runs_alike q h = record {
+  many = ap (λ (c : OpCounts). c.moves) (net_realised q h).counts;
+  forward = forward_of q.realisation q;
+  format = format_of q.realisation q;
   rows = λ start xs l. rows_as q.realisation q start xs (sized q h) l;
   registers = λ start xs l. registers_are q.realisation q start xs (sized q h) l;
 }

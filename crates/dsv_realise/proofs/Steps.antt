@@ -4,7 +4,7 @@ use Rattle.std.proofs.Math.IntN.{ℤ}
 use Rattle.std.proofs.lemmas.List.{map-append, length-take-le}
 use Rattle.dsv_netlist.specs.Nodes.{at, sample_of}
 use Rattle.dsv_names.specs.declared.realisation.Realisation.{Realisation}
-use Rattle.dsv_names.specs.declared.realisation.Realisation.TheVariants.{Dfi, Dfii, Tdfii, Ddfi, Tddfii}
+use Rattle.dsv_names.specs.declared.realisation.Realisation.TheVariants.{Dfi, Dfii, Tdfii, Ddfi, Ddfii, Tddfii}
 use Rattle.dsv_quantiser.specs.FixedPoint.{FixedPoint}
 use Rattle.dsv_meaning.specs.Lines.{line}
 use Rattle.dsv_meaning.specs.Equations.{order, feedback, ago, Past, latest, transposed_output, Chain, no_words, transposed_chain, transposed_delta_chain, sample_as, registers_as}
@@ -23,7 +23,9 @@ abbrev pub HasRegisters : Realisation → ℕ → Past → Type 0
 HasRegisters Dfi n p = (n ≤ length p.signal) × (n ≤ length p.outputs)
 HasRegisters Dfii n p = n ≤ length p.signal
 HasRegisters Ddfi n p = (length (latest p.chain) ≡ n) × (length (latest p.output_chain) ≡ n)
-HasRegisters k n p = length (latest p.chain) ≡ n
+HasRegisters Tdfii n p = length (latest p.chain) ≡ n
+HasRegisters Ddfii n p = length (latest p.chain) ≡ n
+HasRegisters Tddfii n p = length (latest p.chain) ≡ n
 
 abbrev pub FollowsAs : Realisation → FixedPoint → Past → ℤ → Type 0
 FollowsAs k q p x = Follows Past (net_as k q) (registers_as k (order q)) (sample_as k q) (HasRegisters k (order q)) p x

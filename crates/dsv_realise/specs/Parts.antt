@@ -1,4 +1,4 @@
--- What a netlist is made of.
+-- Serves private contracts: what a netlist is put together from.
 use Rattle.std.specs.Prelude.{ℕ, List, [], ◌∷◌, Option, Some, None}
 use Rattle.dsv_names.specs.declared.realisation.Realisation.{Realisation}
 use Rattle.dsv_quantiser.specs.FixedPoint.{FixedPoint}

@@ -1,5 +1,7 @@
 // Nodes made one after another.
 ghost use Rattle.std.specs.Prelude.{◌≡◌, ◌<◌, ◌≤◌, ◌+◌, ◌*◌, ◌^◌, ◌++◌, length, IfOk, false};
+ghost use Rattle.dsv_quantiser.specs.declared.words.TheConstants.{MOST_COEFFICIENTS};
+ghost use Rattle.dsv_meaning.specs.declared.counts.TheConstants.{MOST_ORDER};
 ghost use Rattle.dsv_meaning.specs.Lines.{Times, summands};
 ghost use Rattle.dsv_meaning.specs.Equations.{transposed_line};
 ghost use Rattle.dsv_realise.specs.Making.{put, with_product, with_sum, with_next, with_summands, with_line};
@@ -71,7 +73,7 @@ pub(crate) fn next_products(
     from: u32,
 ) -> Result<u32, NoMemory>
     requires few { length nodes.old.items < 2 ^ 16 }
-    requires short { length coeffs.now ≤ 9 }
+    requires short { length coeffs.now ≤ MOST_COEFFICIENTS }
     requires low { from ≤ 100 }
     ensures made { IfOk result (λ place. record { nodes = nodes.new.items; place = place } ≡ with_summands (record { nodes = nodes.old.items; place = line }) (summands away coeffs.now (λ i. i) from)) }
     ensures few { IfOk result (λ place. length nodes.new.items ≤ length nodes.old.items + 45) }
@@ -90,7 +92,7 @@ pub(crate) fn next_products(
 pub(crate) fn forward_line(nodes: &mut Vec<Node>, b: &[i64], newest: u32) -> Result<u32, NoMemory>
     requires few { length nodes.old.items < 2 ^ 15 }
     requires some { 1 ≤ length b.now }
-    requires short { length b.now ≤ 9 }
+    requires short { length b.now ≤ MOST_COEFFICIENTS }
     ensures made { IfOk result (λ place. record { nodes = nodes.new.items; place = place } ≡ with_line nodes.old.items (summands false b.now (newest_at newest) 0)) }
     ensures few { IfOk result (λ place. length nodes.new.items ≤ length nodes.old.items + 48) }
 {
@@ -135,7 +137,7 @@ pub(crate) fn sources(alloc: Global, registers: u32) -> Result<Vec<Node>, NoMemo
 /// Registers that shift: one node goes into the first, and those from `rest` on into the others.
 pub(crate) fn shift(next: &mut Vec<u32>, first: u32, rest: u32, places: u32) -> Result<(), NoMemory>
     requires low { rest ≤ 100 }
-    requires few { places ≤ 8 }
+    requires few { places ≤ MOST_ORDER }
     ensures { IfOk result (λ u. next.new.items ≡ next.old.items ++ shift first rest places) }
 {
     if places == 0 {

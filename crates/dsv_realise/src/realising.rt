@@ -1,9 +1,12 @@
 // Controllers in words made netlists.
-ghost use Rattle.std.specs.Prelude.{◌≡◌, IfOk};
-ghost use Rattle.dsv_meaning.specs.Equations.{order, forward_registers_of};
+ghost use Rattle.std.specs.Prelude.{◌≡◌, List, ℤ, IfOk};
+ghost use Rattle.dsv_system.specs.Systems.{RunAlike};
+ghost use Rattle.dsv_meaning.specs.Equations.{Past, order, forward_registers_of};
+ghost use Rattle.dsv_meaning.specs.Systems.{equations_of};
 ghost use Rattle.dsv_netlist.specs.Counts.{counts_of};
+ghost use Rattle.dsv_netlist.specs.Systems.{system_of};
 ghost use Rattle.dsv_realise.specs.Netlists.{net_of};
-ghost use Rattle.dsv_realise.specs.Running.{RunsAre, counts_as};
+ghost use Rattle.dsv_realise.specs.Running.{counts_as};
 ghost use Rattle.dsv_realise.specs.Parts.{parts_as};
 
 use crate::kinds::{
@@ -12,20 +15,11 @@ use crate::kinds::{
 };
 use crate::parts::Parts;
 use dsv_base::NoMemory;
+use dsv_meaning::forward_registers;
 use dsv_names::Realisation;
 use dsv_netlist::Netlist;
 use dsv_quantiser::Quantised;
 use std::alloc::Global;
-
-/// How many of the first registers are feed-forward.
-fn forward_registers(realisation: Realisation, order: u32) -> u32
-    ensures { result ≡ forward_registers_of realisation order }
-{
-    match realisation {
-        Realisation::Dfi | Realisation::Ddfi => order,
-        Realisation::Dfii | Realisation::Tdfii | Realisation::Ddfii | Realisation::Tddfii => 0,
-    }
-}
 
 /// The parts of the netlist of a controller in words.
 fn parts(alloc: Global, q: &Quantised) -> Result<Parts, NoMemory>
@@ -46,7 +40,7 @@ fn parts(alloc: Global, q: &Quantised) -> Result<Parts, NoMemory>
 /// written equations.
 pub fn realise(alloc: Global, q: &Quantised) -> Result<Netlist, NoMemory>
     ensures net { IfOk result (λ net. net ≡ net_of q.now) }
-    ensures runs { IfOk result (RunsAre q.now) }
+    ensures runs { IfOk result (λ net. RunAlike (List ℤ) Past (system_of net) (equations_of q.now)) }
     ensures counts { IfOk result (λ net. counts_of net ≡ counts_as q.now.realisation (order q.now)) }
     ensures forward { IfOk result (λ net. net.feed_forward ≡ forward_registers_of q.now.realisation (order q.now)) }
 {

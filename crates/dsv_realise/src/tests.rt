@@ -1,9 +1,10 @@
 // Expected values are worked out by hand from the written equations.
 use super::*;
 use dsv_names::{OverflowMode, Realisation, Rounding};
-use dsv_netlist::{ExactList, Netlist, OpCounts};
+use dsv_netlist::{Netlist, OpCounts};
 use dsv_quantiser::quantise;
 use dsv_reader::read;
+use dsv_system::ExactList;
 use dsv_word::Format;
 use std::alloc::Global;
 use std::test::Fail;

@@ -1,8 +1,9 @@
 use Rattle.std.proofs.Common.{◌≡◌, ◌++◌, length, drop, map}
-use Rattle.dsv_meaning.specs.Runs.{rows_from}
-use Rattle.dsv_meaning.specs.RowViews.{row_of}
+use Rattle.dsv_system.specs.Runs.{rows_from}
+use Rattle.dsv_system.specs.RowViews.{row_of}
 use Rattle.dsv_meaning.specs.Equations.{order, sample, start_as, registers_of}
-use Rattle.dsv_meaning.specs.Systems.{equations_of, rows}
+use Rattle.dsv_system.specs.Systems.{rows}
+use Rattle.dsv_meaning.specs.Systems.{equations_of}
 use Rattle.dsv_meaning.proofs.simulating.simulate.Given as goal
 
 abbrev pub invariant-loop-x : goal.invariant-loop-x

@@ -12,7 +12,7 @@ loop-fraction-preserved c = record {
       let fits : SFits w64 c.in_ok-word.word = search rules in
       let pushed = simp to_z-of_z at c.push.ensures.items in
       rw pushed
-      (words_more c.args.format c.args.fractions.now c.loop-fraction.fraction-index c.args.front.items c.loop-fraction.out.items c.fraction-item.result c.in_ok-word.word
+      (words_more c.args.format c.args.fractions.now c.loop-fraction.fraction-index c.args.prefix.items c.loop-fraction.out.items c.fraction-item.result c.in_ok-word.word
       (search rules) c.fraction-item.is c.loop-fraction.invariant.words c.in_ok-word.ensures.meaning);
   same =
       let fits : SFits w64 c.in_ok-word.word = search rules in

@@ -5,7 +5,7 @@ use Rattle.dsv_quantiser.proofs.words.words_from.Given as goal
 
 abbrev pub invariant-loop-fraction : goal.invariant-loop-fraction
 invariant-loop-fraction l = record {
-  places : length l.out.items ≡ length l.fn.front.items + l.fraction-index;
-  words : AreWordsOf l.format (take l.fraction-index l.fractions) l.fn.front.items l.out.items;
-  same : words_from l.format l.list (drop l.fraction-index l.fractions) l.out.items ≡ words_from l.format l.list l.fractions l.fn.front.items;
+  places : length l.out.items ≡ length l.fn.prefix.items + l.fraction-index;
+  words : AreWordsOf l.format (take l.fraction-index l.fractions) l.fn.prefix.items l.out.items;
+  same : words_from l.format l.list (drop l.fraction-index l.fractions) l.out.items ≡ words_from l.format l.list l.fractions l.fn.prefix.items;
 }

@@ -1,15 +1,18 @@
 // The rows of runs.
 ghost use Rattle.std.specs.Prelude.{◌≡◌, ◌↔◌, [], length, map, IsTrue};
-ghost use Rattle.dsv_meaning.specs.RowViews.{row_of};
+ghost use Rattle.dsv_system.specs.RowViews.{row_of};
 
-use crate::operations::ExactList;
+use crate::exact_list::ExactList;
 use std::marker::Model;
 
-/// A sample: its input and its output, which are words, and its exact values in the order of the operations.
+/// One sample of a run.
 #[derive(Debug, Drop)]
 pub struct Row {
+    /// The input, a word.
     pub x: i64,
+    /// The output, a word.
     pub y: i64,
+    /// The exact values, in the order of the operations.
     pub exact: ExactList,
 }
 
@@ -21,8 +24,8 @@ pub struct Rows {
 
 impl Model for Rows {
     ghost use Rattle.std.specs.Prelude.{List, map};
-    ghost use Rattle.dsv_meaning.specs.Runs.{SampleRow};
-    ghost use Rattle.dsv_meaning.specs.RowViews.{row_of};
+    ghost use Rattle.dsv_system.specs.Runs.{SampleRow};
+    ghost use Rattle.dsv_system.specs.RowViews.{row_of};
 
     ghost Value = { List SampleRow };
 
@@ -31,7 +34,7 @@ impl Model for Rows {
 
 impl From<Vec<Row>> for Rows {
     ghost use Rattle.std.specs.Prelude.{◌≡◌, map};
-    ghost use Rattle.dsv_meaning.specs.RowViews.{row_of};
+    ghost use Rattle.dsv_system.specs.RowViews.{row_of};
 
     ghost from_gives = { λ v rows. rows ≡ map row_of v.items };
 
@@ -48,12 +51,14 @@ impl Rows {
         self.rows.len()
     }
 
+    /// Whether there are none.
     pub fn is_empty(&self) -> bool
         ensures { IsTrue result ↔ (self.now ≡ []) }
     {
         self.rows.is_empty()
     }
 
+    /// The rows, sample 0 first.
     pub fn as_slice(&self) -> &[Row]
         ensures { map row_of result.now ≡ self.now }
     {

@@ -1,0 +1,5 @@
+pub mod Breaks
+pub mod Cycles
+pub mod RowViews
+pub mod Runs
+pub mod Systems

@@ -1,0 +1,8 @@
+//! Systems that run in words, apart from what they compute: their runs, and what breaks in them.
+#![tactic(auto)]
+
+mod exact_list;
+mod rows;
+
+pub use exact_list::{ExactList, MOST_EXACT};
+pub use rows::{Row, Rows};
