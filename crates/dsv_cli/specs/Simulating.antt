@@ -4,10 +4,10 @@ use Rattle.std.specs.List.{All}
 use Rattle.dsv_word.specs.declared.format.Format.{Format}
 use Rattle.dsv_word.specs.Words.{IsWord}
 use Rattle.dsv_quantiser.specs.FixedPoint.{FixedPoint}
-use Rattle.dsv_netlist.specs.Nodes.{Step}
-use Rattle.dsv_meaning.specs.Runs.{SampleRow}
+use Rattle.dsv_system.specs.Runs.{SampleRow}
 use Rattle.dsv_meaning.specs.Equations.{order, registers_of}
-use Rattle.dsv_meaning.specs.Systems.{equations_of, rows, zeros}
+use Rattle.dsv_meaning.specs.Systems.{equations_of}
+use Rattle.dsv_system.specs.Systems.{rows, zeros}
 
 -- All inputs are words of the format, and these are the rows of the controller's written equations over them, from
 -- registers of zeros.
@@ -20,7 +20,3 @@ pub record IsFirstOutside (format : Format) (inputs : List ℤ) (index : ℕ) (v
   pub there : slice_get inputs index ≡ Some value
   pub outside : IsWord format value → ⊥
   pub before : All (IsWord format) (take index inputs)
-
--- the row of a netlist's step at this input
-abbrev pub row_at : Step → ℤ → SampleRow
-row_at step x = record { x = x; y = step.y; exact = step.exact }

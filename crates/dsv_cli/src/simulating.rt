@@ -5,16 +5,18 @@ ghost use Rattle.std.specs.Prelude.{◌≡◌, ◌≤◌, length, IfOk, MatchOpt
 ghost use Rattle.std.specs.List.{All};
 ghost use Rattle.dsv_word.specs.Words.{IsWord};
 ghost use Rattle.dsv_meaning.specs.Equations.{order, registers_of};
-ghost use Rattle.dsv_meaning.specs.Systems.{equations_of, rows, zeros};
-ghost use Rattle.dsv_meaning.specs.RowViews.{row_of};
+ghost use Rattle.dsv_meaning.specs.Systems.{equations_of};
+ghost use Rattle.dsv_system.specs.Systems.{rows, zeros};
+ghost use Rattle.dsv_system.specs.RowViews.{row_of};
+ghost use Rattle.dsv_system.specs.Runs.{row_at};
 ghost use Rattle.dsv_netlist.specs.Nodes.{step_of};
-ghost use Rattle.dsv_realise.specs.Running.{net_rows};
+ghost use Rattle.dsv_netlist.specs.Systems.{system_of};
 ghost use Rattle.dsv_report.specs.Printing.{HasPlaces};
 ghost use Rattle.dsv_cli.specs.Causes.{IsOfRun};
-ghost use Rattle.dsv_cli.specs.Simulating.{IsFirstOutside, row_at};
+ghost use Rattle.dsv_cli.specs.Simulating.{IsFirstOutside};
 
 use dsv_base::NoMemory;
-use dsv_meaning::{ExactList, Row, Rows};
+use dsv_system::{ExactList, Row, Rows};
 use dsv_netlist::Netlist;
 use dsv_quantiser::Quantised;
 use dsv_realise::realise;
@@ -51,7 +53,7 @@ fn step_row(net: &Netlist, registers: &mut [i64], x: &i64) -> Row
     requires words { All (IsWord net.now.format) registers.old }
     requires input { IsWord net.now.format x.now }
     ensures row { row_of result ≡ row_at (step_of net.now registers.old x.now) x.now }
-    ensures registers { registers.new ≡ (step_of net.now registers.old x.now).registers }
+    ensures registers { registers.new ≡ (step_of net.now registers.old x.now).past }
     ensures many { length registers.new ≡ length net.now.next }
     ensures words { All (IsWord net.now.format) registers.new }
 {
@@ -70,7 +72,7 @@ fn run_netlist(
     requires many { length registers.old ≡ length net.now.next }
     requires words { All (IsWord net.now.format) registers.old }
     requires inputs { All (IsWord net.now.format) inputs.now }
-    ensures { IfOk result (λ found. found ≡ net_rows net.now registers.old inputs.now) }
+    ensures { IfOk result (λ found. found ≡ rows (system_of net.now) registers.old inputs.now) }
 {
     let mut rows = Vec::new(alloc);
     for x in inputs {

@@ -4,8 +4,8 @@ use Rattle.std.proofs.lemmas.List.{append_assoc, append-nil}
 use Rattle.dsv_base.specs.Seen.{SinkSeen}
 use Rattle.dsv_base.specs.Taking.{Wrote, CutShort}
 use Rattle.dsv_base.proofs.TakingLemmas.{wrote_more, cut_later, cut_more}
-use Rattle.dsv_meaning.specs.declared.rows.Row.{Row}
-use Rattle.dsv_meaning.specs.RowViews.{row_of}
+use Rattle.dsv_system.specs.declared.rows.Row.{Row}
+use Rattle.dsv_system.specs.RowViews.{row_of}
 use Rattle.dsv_report.specs.Report.{sample_text, samples_text}
 
 -- the lines of these rows, whose first has this number

@@ -7,7 +7,7 @@ use Rattle.dsv_names.specs.Realisations.{realisation_name}
 use Rattle.dsv_names.specs.declared.realisation.Realisation.{Realisation}
 use Rattle.dsv_base.specs.Text.{spaced, line_of}
 use Rattle.dsv_forms.specs.declared.offers.Form.{Form}
-use Rattle.dsv_meaning.specs.Runs.{SampleRow}
+use Rattle.dsv_system.specs.Runs.{SampleRow}
 use Rattle.dsv_command.specs.Jobs.{Task, decides, simulates, Asked}
 use Rattle.dsv_report.specs.Fragments.{joined}
 use Rattle.dsv_report.specs.Refusals.{file_text, quant_text, input_text}

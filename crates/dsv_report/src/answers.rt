@@ -1,6 +1,6 @@
 // What the command answers.
 use dsv_forms::{Falls, Form, KeptAway, Poly};
-use dsv_meaning::Rows;
+use dsv_system::Rows;
 use dsv_quantiser::QuantRefusal;
 use dsv_reader::FileRefusal;
 

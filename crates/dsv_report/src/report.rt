@@ -6,7 +6,7 @@ ghost use Rattle.std.specs.Fmt.{signed_decimal};
 ghost use Rattle.std.specs.List.{flat_map};
 ghost use Rattle.dsv_base.specs.Taking.{Writes};
 ghost use Rattle.dsv_base.specs.Text.{spaced};
-ghost use Rattle.dsv_meaning.specs.RowViews.{row_of};
+ghost use Rattle.dsv_system.specs.RowViews.{row_of};
 ghost use Rattle.dsv_command.specs.Asking.{asked_of, asked_task};
 ghost use Rattle.dsv_report.specs.Printing.{HasPlaces, asked_in};
 ghost use Rattle.dsv_report.specs.Report as report;
@@ -17,7 +17,7 @@ use crate::refusals::{put_file_refusal, put_input_range, put_quant_refusal};
 use dsv_base::{Failed, Sink, put_all, put_line, put_spaced};
 use dsv_command::{Job, Task};
 use dsv_forms::{Form, KeptAway, Poly};
-use dsv_meaning::{Row, Rows};
+use dsv_system::{Row, Rows};
 use dsv_names::{Named, Realisation};
 use itoa::Integer;
 

@@ -1,5 +1,9 @@
-use Rattle.std.proofs.Common.{◌≡◌, length, take, get_or, arith, subst, add-one, rules}
+use Rattle.std.proofs.Common.{◌≡◌, true, false, refl, length, take, get_or, arith, subst, add-one, rules, w64}
+use mir.Syntax.{w128}
+use Rattle.std.proofs.lemmas.Int.{to_z-of_z}
 use Rattle.std.proofs.Math.IntN.{pos}
+use Rattle.std.proofs.lemmas.Option.{slice_get-get_or}
+use mir.Val.{SFits}
 use Rattle.std.proofs.Math.Seq.{take-length}
 use Rattle.std.specs.List.{All}
 use Rattle.dsv_word.specs.Words.{IsWord}
@@ -7,19 +11,30 @@ use Rattle.dsv_cli.proofs.RunLines.{all_more, no_word, is_word}
 use Rattle.dsv_cli.proofs.simulating.find_outside.Goals as goal
 
 pub returns-then-not-fits : goal.returns-then-not-fits
-returns-then-not-fits c = record {
-  there = search rules;
-  outside = no_word c.args.format.now c.from.result c.fits.result c.from.ensures c.if-not-fits.true c.fits.ensures;
-  before = c.loop-i.invariant;
-}
+returns-then-not-fits c =
+    let x = get_or c.args.inputs.now c.loop-i.i (pos 0) in
+    let fits : SFits w64 x = search rules in
+    let same : c.from.result ≡ x = simp to_z-of_z at c.from.ensures in
+    let wide : SFits w128 c.from.result = search rules in
+    let none : false ≡ true → ⊥ = λ e. cc in
+    let fact = rw (to_z-of_z w128 c.from.result wide) at c.if-not-fits.ensures.1 in
+    rw (to_z-of_z w64 x fits)
+    (record {
+      there = slice_get-get_or c.args.inputs.now c.loop-i.i (pos 0) (omega arith);
+      outside = no_word c.args.format.now c.from.result x same (λ both. none (fact both));
+      before = c.loop-i.invariant;
+    })
 
 pub loop-i-preserved : goal.loop-i-preserved
 loop-i-preserved c =
     let x = get_or c.args.inputs.now c.loop-i.i (pos 0) in
-    let same : c.from.result ≡ x = search rules in
+    let fits : SFits w64 x = search rules in
+    let same : c.from.result ≡ x = simp to_z-of_z at c.from.ensures in
+    let wide : SFits w128 c.from.result = search rules in
+    let both = rw (to_z-of_z w128 c.from.result wide) at (c.if-not-fits.ensures.0 refl) in
     rw (add-one c.loop-i.i)
     (all_more (IsWord c.args.format.now) c.args.inputs.now c.loop-i.i (pos 0) (omega arith) c.loop-i.invariant
-    (is_word c.args.format.now c.from.result c.fits.result same c.if-not-fits.false c.fits.ensures))
+    (is_word c.args.format.now c.from.result x same both.0 both.1))
 
 pub returns : goal.returns
 returns c =
