@@ -4,7 +4,8 @@ use Rattle.std.specs.Prelude.{slice_range}
 use Rattle.std.proofs.Math.Seq.{drop-cons}
 use Rattle.std.proofs.lemmas.Grind.{common_steps}
 use Rattle.std.proofs.lemmas.List.{take_more, length-take-le}
-use Rattle.dsv_cnf.specs.Reading.{clauses_from, take_part, is_blank, word_end}
+use Rattle.dsv_text.specs.Bytes.{is_blank}
+use Rattle.dsv_cnf.specs.Reading.{clauses_from, take_part, word_end}
 use Rattle.dsv_cnf.specs.declared.reading.CnfRefusal.TheVariants as refusal
 use Rattle.dsv_cnf.specs.ReadingView.{ReadingView}
 

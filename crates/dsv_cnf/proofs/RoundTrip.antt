@@ -13,7 +13,8 @@ use Rattle.dsv_cnf.specs.Formula.{IsOver, AreOver}
 use Rattle.dsv_cnf.specs.FormulaView.{FormulaView}
 use Rattle.dsv_cnf.specs.ReadingView.{ReadingView}
 use Rattle.dsv_cnf.specs.Dimacs.{header_text, literal_text, clause_text, dimacs_text}
-use Rattle.dsv_cnf.specs.Reading.{is_blank, is_digit, digits_from, digits_end, number_of, number_end, part_of, end_clause, clauses_from, word_end, header_of, reading}
+use Rattle.dsv_text.specs.Bytes.{is_blank, is_digit}
+use Rattle.dsv_cnf.specs.Reading.{digits_from, digits_end, number_of, number_end, part_of, end_clause, clauses_from, word_end, header_of, reading}
 use Rattle.dsv_cnf.specs.declared.reading.CnfRefusal.TheVariants as refusal
 use Rattle.dsv_cnf.specs.declared.reading.Number.{Number}
 use Rattle.dsv_cnf.specs.declared.reading.Part.TheVariants as part

@@ -1,5 +1,7 @@
 -- DIMACS text as a formula.
 use Rattle.std.specs.Prelude.{◌≡◌, ℕ, ◌+◌, ◌-◌, ◌*◌, ◌^◌, Bool, true, false, not, ◌||◌, ◌&&◌, ◌==◌, ◌⊎◌, nat_le, nat_lt, List, [], ◌∷◌, ◌++◌, length, drop, codes, cond, Option, Some, None, Result, Ok, Err, ◌<◌}
+use Rattle.dsv_text.specs.Bytes.{is_blank, is_digit}
+use Rattle.dsv_text.specs.Stages.{and_then}
 use Rattle.dsv_cnf.specs.Literal.{Literal}
 use Rattle.dsv_cnf.specs.FormulaView.{FormulaView}
 use Rattle.dsv_cnf.specs.ReadingView.{ReadingView}
@@ -10,20 +12,9 @@ use Rattle.dsv_cnf.specs.declared.reading.Number.{Number}
 use Rattle.dsv_cnf.specs.declared.reading.Part.{Part}
 use Rattle.dsv_cnf.specs.declared.reading.Part.TheVariants as part
 
--- one stage behind another: the first refusal stands
-abbrev pub «then» : {X Y : Type 0} → Result X CnfRefusal → (X → Result Y CnfRefusal) → Result Y CnfRefusal
-«then» (Ok x) next = next x
-«then» (Err why) next = Err why
-
 -- a refusal is the text's, or there was no memory
 abbrev pub IsRefusal : {X : Type 0} → Result X CnfRefusal → CnfRefusal → Type 0
 IsRefusal answer why = (why ≡ refusal.NoMemory) ⊎ (answer ≡ Err why)
-
-abbrev pub is_blank : ℕ → Bool
-is_blank b = (b == 32) || (b == 9) || (b == 13) || (b == 10)
-
-abbrev pub is_digit : ℕ → Bool
-is_digit b = nat_le 48 b && nat_le b 57
 
 -- ---- the header
 
@@ -56,11 +47,11 @@ number_end limit (b ∷ bs) at =
 -- the header from this offset on: `p cnf V C` and a line feed
 abbrev pub header_of : List ℕ → ℕ → Result Header CnfRefusal
 header_of bytes at =
-    «then» (word_end (codes "p cnf ") (drop at bytes) at) (λ v.
-    «then» (number_end (2 ^ 31) (drop v bytes) v) (λ vars.
-    «then» (word_end (codes " ") (drop vars.end bytes) vars.end) (λ c.
-    «then» (number_end (2 ^ 32 - 1) (drop c bytes) c) (λ clauses.
-    «then» (word_end (codes "\n") (drop clauses.end bytes) clauses.end) (λ end.
+    and_then (word_end (codes "p cnf ") (drop at bytes) at) (λ v.
+    and_then (number_end (2 ^ 31) (drop v bytes) v) (λ vars.
+    and_then (word_end (codes " ") (drop vars.end bytes) vars.end) (λ c.
+    and_then (number_end (2 ^ 32 - 1) (drop c bytes) c) (λ clauses.
+    and_then (word_end (codes "\n") (drop clauses.end bytes) clauses.end) (λ end.
     Ok (record { vars = vars.value; clauses = clauses.value; end = end }))))))
 
 -- ---- the clauses
@@ -111,7 +102,7 @@ take_part r text at = after_part r (part_of r.vars text) at
 abbrev pub clauses_from : List ℕ → List ℕ → ℕ → ReadingView → Result ReadingView CnfRefusal
 clauses_from [] text at r = take_part r text at
 clauses_from (b ∷ bs) text at r =
-    cond (is_blank b) («then» (take_part r text at) (clauses_from bs [] (at + length text + 1))) (clauses_from bs (text ++ b ∷ []) at r)
+    cond (is_blank b) (and_then (take_part r text at) (clauses_from bs [] (at + length text + 1))) (clauses_from bs (text ++ b ∷ []) at r)
 
 abbrev pub is_nil : List Literal → Bool
 is_nil [] = true
@@ -128,6 +119,6 @@ begun h = record { vars = h.vars; wanted = h.clauses; clauses = []; open_clause 
 -- the formula that a text writes, or the first refusal
 abbrev pub reading : List ℕ → Result FormulaView CnfRefusal
 reading bytes =
-    «then» (header_of bytes (comments_end false bytes 0)) (λ h.
-    «then» (clauses_from (drop h.end bytes) [] h.end (begun h)) (λ r.
+    and_then (header_of bytes (comments_end false bytes 0)) (λ h.
+    and_then (clauses_from (drop h.end bytes) [] h.end (begun h)) (λ r.
     finish r (length bytes)))

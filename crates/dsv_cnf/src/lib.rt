@@ -12,6 +12,3 @@ pub use dimacs::write_dimacs;
 pub use formula::Formula;
 pub use literal::Lit;
 pub use reading::{CnfRefusal, read_dimacs};
-
-#[cfg(test)]
-mod tests;

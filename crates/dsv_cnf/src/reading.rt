@@ -1,9 +1,10 @@
 // Reading a formula from DIMACS text.
 ghost use Rattle.std.specs.Prelude.{◌≡◌, ◌+◌, ◌^◌, ◌<◌, ◌≤◌, ◌⊎◌, [], Ok, Err, Some, false, length, drop, slice_range, IfOk, IfErr, IfSome, OnOk, OnErr};
-ghost use Rattle.dsv_cnf.specs.Reading.{clauses_from, comments_end, header_of, is_blank, is_digit, number_end, number_of, part_of, part_of_number, reading, end_clause, take_part, word_end, IsPartOver, IsRefusal, finish};
+ghost use Rattle.dsv_cnf.specs.Reading.{clauses_from, comments_end, header_of, number_end, number_of, part_of, part_of_number, reading, end_clause, take_part, word_end, IsPartOver, IsRefusal, finish};
 
 use crate::{Formula, Lit};
 use dsv_base::NoMemory;
+use dsv_text::{is_blank, is_digit};
 use std::alloc::{AllocFailed, Global};
 use std::marker::Model;
 use thiserror::Error;
@@ -61,18 +62,6 @@ pub fn read_dimacs(alloc: Global, bytes: &[u8]) -> Result<Formula, CnfRefusal>
     };
     read_clauses(&mut reading, bytes, header.end)?;
     reading.finish(bytes.len())
-}
-
-fn is_blank(byte: u8) -> bool
-    ensures { result ≡ is_blank byte }
-{
-    matches!(byte, b' ' | b'\t' | b'\r' | b'\n')
-}
-
-fn is_digit(byte: u8) -> bool
-    ensures { result ≡ is_digit byte }
-{
-    b'0' <= byte && byte <= b'9'
 }
 
 // ---- the header

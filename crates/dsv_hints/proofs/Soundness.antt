@@ -136,11 +136,6 @@ add-follows cs s id c hs q f = record {
 pub delete-follows : (cs : List (List Literal)) (s : Carried) (ids : List ℕ) → Follows cs s → Follows cs (record s { live = without_all s.live ids })
 delete-follows cs s ids f = record { live = λ v h. without_all-true v s.live ids (f.live v h); ended = f.ended }
 
--- a step that is taken keeps that all follows
-pub step-follows : (cs : List (List Literal)) (s : Carried) (step : Step) → step_answer s step ≡ Ok tt → Follows cs s → Follows cs (after s step)
-step-follows cs s (Add id c hs) q f = add-follows cs s id c hs (passed s.ended NotEmpty (clause_answer_of s id c hs) q).1 f
-step-follows cs s (Delete id ids) q f = delete-follows cs s ids f
-
 -- ---- the start
 
 entries-true : (v : ℕ → Bool) (cs : List (List Literal)) (id : ℕ) → Satisfies v cs → Satisfies v (clauses_of (entries_from cs id))

@@ -10,6 +10,3 @@ mod store;
 
 pub use checker::{Checker, check};
 pub use step::{HintList, LitList, Log, Step, StepRefusal, Verdict};
-
-#[cfg(test)]
-mod tests;

@@ -1,9 +1,9 @@
 // Logs and their steps.
-ghost use Rattle.std.specs.Prelude.{◌≡◌, [], ◌∷◌, ◌++◌, IfOk, OnOk, OnErr};
+ghost use Rattle.std.specs.Prelude.{◌≡◌, IfOk};
 ghost use Rattle.std.specs.Prelude.{ℕ, List};
 ghost use Rattle.dsv_cnf.specs.Literal.{Literal};
 
-use dsv_base::NoMemory;
+use dsv_base::{Items, NoMemory};
 use dsv_cnf::Lit;
 use smallvec::SmallVec;
 use std::alloc::Global;
@@ -117,45 +117,7 @@ impl Step {
 }
 
 /// The steps of a derivation, in order.
-#[derive(Drop)]
-pub struct Log {
-    steps: Vec<Step>,
-}
-
-impl Model for Log {
-    ghost use Rattle.std.specs.Prelude.{List};
-    ghost use Rattle.dsv_hints.specs.declared.step.Step.{Step};
-
-    ghost Value = { List Step };
-
-    ghost view = { λ l. l.steps.items };
-}
-
-impl Log {
-    /// No steps.
-    pub fn new(alloc: Global) -> Self
-        ensures { result ≡ [] }
-    {
-        Log {
-            steps: Vec::new(alloc),
-        }
-    }
-
-    /// Adds a step at the end; where there is no memory for it, the log stays as it was.
-    pub fn push(&mut self, step: Step) -> Result<(), NoMemory>
-        ensures ok { OnOk result (self.new ≡ self.old ++ step ∷ []) }
-        ensures err { OnErr result (self.new ≡ self.old) }
-    {
-        self.steps.push(step)?;
-        Ok(())
-    }
-
-    pub fn as_slice(&self) -> &[Step]
-        ensures { result.now ≡ self.now }
-    {
-        self.steps.as_slice()
-    }
-}
+pub type Log = Items<Step>;
 
 /// Why a step is refused.
 #[derive(Clone, Copy, Debug, PartialEq, Eq)]

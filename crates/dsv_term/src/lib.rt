@@ -7,8 +7,6 @@ mod lists;
 mod makers;
 mod node;
 mod terms;
-#[cfg(test)]
-mod tests;
 mod word;
 
 pub use eval::Scratch;

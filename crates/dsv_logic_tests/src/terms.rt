@@ -3,8 +3,8 @@ ghost use Rattle.std.specs.Prelude.{◌≡◌, ◌<◌, length, IfOk};
 ghost use Rattle.dsv_term.specs.Terms.{width_of};
 ghost use Rattle.dsv_term.specs.Word.{IsWidth};
 
-use crate::{Goal, MAX_WIDTH, TermId, Terms, ValueList};
 use dsv_base::NoMemory;
+use dsv_term::{Goal, MAX_WIDTH, TermId, Terms, ValueList};
 use std::alloc::Global;
 use std::process::Abort;
 
