@@ -1,8 +1,8 @@
--- A form behind a matrix.
+-- A form at the image of a vector under a matrix.
 use Rattle.std.proofs.Common.{◌≡◌, ℕ, zero, suc, [], ◌∷◌, refl, sym, ◌∙◌}
 use Rattle.std.proofs.Math.IntN.{ℤ, ◌*ℤ◌}
 use Rattle.dsv_algebra.proofs.Normaliser.{ring, env, var, times}
-use Rattle.dsv_algebra.specs.Vectors.{Vector, Matrix, sum_to, form_at, dot, behind}
+use Rattle.dsv_algebra.specs.Vectors.{Vector, Matrix, sum_to, form_at, dot, congruence}
 use Rattle.dsv_algebra.proofs.Sums.{sum_same, sum_scale, sum_swap, form_add, form_nought}
 
 scale_left : (d : ℕ) (f : ℕ → ℤ) (a : ℤ) → a *ℤ sum_to d f ≡ sum_to d (λ k. a *ℤ f k)
@@ -32,8 +32,8 @@ form_sum d zero A v = sym (form_nought d v)
 form_sum d (suc n) A v = rw (form_sum d n A v) (sym (form_add d (λ i j. sum_to n (λ k. A k i j)) (A n) v))
 
 -- the form P at C v is the form C^T P C at v
-pub form_behind : (d : ℕ) (P C : Matrix) (v : Vector) → form_at d P (λ i. dot d (C i) v) ≡ form_at d (behind d P C) v
-form_behind d P C v =
+pub form_congruence : (d : ℕ) (P C : Matrix) (v : Vector) → form_at d P (λ i. dot d (C i) v) ≡ form_at d (congruence d P C) v
+form_congruence d P C v =
     sum_same d (λ i. sum_to d (λ j. P i j *ℤ dot d (C i) v *ℤ dot d (C j) v)) (λ i. form_at d (λ k l. sum_to d (λ j. P i j *ℤ C i k *ℤ C j l)) v)
     (λ i p. sum_same d (λ j. P i j *ℤ dot d (C i) v *ℤ dot d (C j) v) (λ j. form_at d (λ k l. P i j *ℤ C i k *ℤ C j l) v) (λ j q. entry_out d (P i j) (C i) (C j) v)
     ∙ form_sum d d (λ j k l. P i j *ℤ C i k *ℤ C j l) v)
