@@ -7,7 +7,7 @@ ghost use Rattle.dsv_forms.specs.Refusals.{refusal_of, falls_refusal};
 ghost use Rattle.dsv_forms.specs.OnePlace.{no_squares_refusal, no_place_falls, one_place_falls, fall_of, HasOneEntry};
 
 use crate::one_place::{check_one_place, fall_entry};
-use crate::{Falls, Form, FormRefusal, Part, Poly, Squares};
+use crate::{Falls, Form, FormRefusal, GREATEST_ORDER, Part, Poly, Squares};
 use dsv_algebra::NarrowInteger;
 
 /// Checks that the offer shows a form which strictly falls along each trajectory of the polynomial, and gives what the
@@ -74,10 +74,10 @@ fn check_place(c0: NarrowInteger, c1: NarrowInteger, offer: &Falls) -> Result<Fo
 }
 
 /// A matrix with this entry in its first place.
-pub(crate) fn one_entry(entry: i128) -> [[i128; 8]; 8]
+pub(crate) fn one_entry(entry: i128) -> [[i128; GREATEST_ORDER]; GREATEST_ORDER]
     ensures { HasOneEntry result entry }
 {
-    let mut rows = [[0; 8]; 8];
+    let mut rows = [[0; GREATEST_ORDER]; GREATEST_ORDER];
     rows[0][0] = entry;
     rows
 }

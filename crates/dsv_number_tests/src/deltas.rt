@@ -1,5 +1,8 @@
-// Expected values are worked out by hand from the binomial sums.
-use super::*;
+// Coefficients in the delta operator; expected values are worked out by hand from the binomial sums.
+
+use dsv_delta::{DeltaWide, to_delta};
+use dsv_fraction::Frac;
+use dsv_names::ListName;
 use std::test::Fail;
 
 #[test]
