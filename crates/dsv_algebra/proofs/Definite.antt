@@ -37,9 +37,9 @@ product_apart a b p q e =
 
 other_place : (d : ℕ) (rows : ℕ → Vector) (w v : Vector) (k : ℕ) → IsTriangular d w rows → k < d → ((j : ℕ) → k < j → j < d → v j ≡ pos 0)
     → (j : ℕ) → j < d → j ≢ k → rows k j *ℤ v j ≡ pos 0
-other_place d rows w v k t below behind j p n = elim (cases_lt j k) [
+other_place d rows w v k t below later j p n = elim (cases_lt j k) [
   | inl less ↦ rw (t.before k j less below) (none_times (v j))
-  | inr more ↦ (let after : k < j = omega arith in rw (behind j after p) (times_none (rows k j)))
+  | inr more ↦ (let after : k < j = omega arith in rw (later j after p) (times_none (rows k j)))
 ]
 
 pub triangular_positive : (d : ℕ) (w : Vector) (rows : ℕ → Vector) (v : Vector) (i : ℕ) → IsTriangular d w rows → i < d → v i ≢ pos 0
@@ -47,7 +47,7 @@ pub triangular_positive : (d : ℕ) (w : Vector) (rows : ℕ → Vector) (v : Ve
 triangular_positive d w rows v i t below apart =
     let l = last_of d v i below apart in
     let k = l.place in
-    let one : dot d (rows k) v ≡ rows k k *ℤ v k = sum_one d (λ j. rows k j *ℤ v j) k l.below (other_place d rows w v k t l.below l.behind) in
+    let one : dot d (rows k) v ≡ rows k k *ℤ v k = sum_one d (λ j. rows k j *ℤ v j) k l.below (other_place d rows w v k t l.below l.after) in
     let x : pos 0 <ℤ (w k *ℤ dot d (rows k) v *ℤ dot d (rows k) v) =
     rw (grouped (w k) (dot d (rows k) v), one) (mul_positive (w k) ((rows k k *ℤ v k) *ℤ (rows k k *ℤ v k)) (t.weight k l.below) (square_positive (rows k k *ℤ v k) (product_apart (rows k k) (v k) (t.own k l.below) l.apart))) in
     sum_positive d (λ k. w k *ℤ dot d (rows k) v *ℤ dot d (rows k) v) k l.below

@@ -1,13 +1,13 @@
 -- A form that is negative at a start and rises in no step.
-use Rattle.std.proofs.Common.{◌≡◌, ℕ, zero, suc, ◌<◌, [], ◌∷◌, refl, arith}
+use Rattle.std.proofs.Common.{◌≡◌, ◌≢◌, ℕ, zero, suc, ◌<◌, [], ◌∷◌, refl, arith}
 use Rattle.std.proofs.Math.IntN.{ℤ, pos, ◌+ℤ◌, ◌-ℤ◌, ◌*ℤ◌}
 use Rattle.std.proofs.lemmas.Int.{ints}
 use lib.Signed.{◌<ℤ◌, ◌≤ℤ◌}
 use Rattle.dsv_algebra.proofs.Normaliser.{ring, env, var, num, plus, times, minus}
 use Rattle.dsv_algebra.proofs.Ring.{assoc}
-use Rattle.dsv_algebra.proofs.Signs.{mul_positive, mul_negative, mul_not_negative}
+use Rattle.dsv_algebra.proofs.Signs.{mul_positive, square_positive, mul_negative, mul_not_negative}
 use Rattle.dsv_algebra.specs.Vectors.{Vector, Matrix, form_at}
-use Rattle.dsv_algebra.specs.Companion.{step, fall_form, power, trajectory, IsKeptAway}
+use Rattle.dsv_algebra.specs.Falling.{step, fall_form, power, trajectory, IsKeptAway}
 use Rattle.dsv_algebra.specs.Squares.{squares, IsDominant}
 use Rattle.dsv_algebra.proofs.Definite.{semidefinite_not_negative}
 use Rattle.dsv_algebra.proofs.Falling.{loss-fall_form}
@@ -59,30 +59,30 @@ power_positive z zero h = omega (arith, ints)
 power_positive z (suc n) h = mul_positive z (power z n) h (power_positive z n h)
 
 -- what holds of each step holds of a trajectory
-along : (d : ℕ) (c : Vector) (P : Matrix) (start : Vector) → pos 0 <ℤ c 0
-    → ((v : Vector) → form_at d P (step d c v) ≤ℤ (c 0 *ℤ c 0 *ℤ form_at d P v))
-    → (n : ℕ) → form_at d P (trajectory d c start n) ≤ℤ (power (c 0 *ℤ c 0) n *ℤ form_at d P start)
-along d c P start h holds zero = same_at_most (form_at d P start) (pos 1 *ℤ form_at d P start) (one_times (form_at d P start))
-along d c P start h holds (suc n) =
-    let z = c 0 *ℤ c 0 in
-    let u = trajectory d c start n in
+along : (d : ℕ) (q : ℤ) (M P : Matrix) (start : Vector) → q ≢ pos 0
+    → ((v : Vector) → form_at d P (step d M v) ≤ℤ (q *ℤ q *ℤ form_at d P v))
+    → (n : ℕ) → form_at d P (trajectory d M start n) ≤ℤ (power (q *ℤ q) n *ℤ form_at d P start)
+along d q M P start h holds zero = same_at_most (form_at d P start) (pos 1 *ℤ form_at d P start) (one_times (form_at d P start))
+along d q M P start h holds (suc n) =
+    let z = q *ℤ q in
+    let u = trajectory d M start n in
     let first = form_at d P start in
     rw (assoc z (power z n) first) (
-    at_most_through (form_at d P (step d c u)) (z *ℤ form_at d P u) (z *ℤ (power z n *ℤ first)) (holds u)
-    (scaled z (form_at d P u) (power z n *ℤ first) (weakly z (mul_positive (c 0) (c 0) h h)) (along d c P start h holds n))
+    at_most_through (form_at d P (step d M u)) (z *ℤ form_at d P u) (z *ℤ (power z n *ℤ first)) (holds u)
+    (scaled z (form_at d P u) (power z n *ℤ first) (weakly z (square_positive q h)) (along d q M P start h holds n))
     )
 
 -- A form that is negative at the start is kept away where squares show its fall form nowhere negative.
-pub kept_away : (d : ℕ) (c : Vector) (P : Matrix) (start : Vector) → pos 0 <ℤ c 0 → form_at d P start <ℤ pos 0
-    → ShowNotNegative d (fall_form d c P) → IsKeptAway d c P start
-kept_away d c P start first negative shown =
-    let holds : (v : Vector) → form_at d P (step d c v) ≤ℤ (c 0 *ℤ c 0 *ℤ form_at d P v) =
-    λ v. at_most_by (form_at d P (step d c v)) (c 0 *ℤ c 0 *ℤ form_at d P v) (form_at d (fall_form d c P) v) (loss-fall_form d c P v) (shown_not_negative d (fall_form d c P) v shown) in
-    let z = c 0 *ℤ c 0 in
+pub kept_away : (d : ℕ) (q : ℤ) (M P : Matrix) (start : Vector) → q ≢ pos 0 → form_at d P start <ℤ pos 0
+    → ShowNotNegative d (fall_form d q M P) → IsKeptAway d q M P start
+kept_away d q M P start apart negative shown =
+    let holds : (v : Vector) → form_at d P (step d M v) ≤ℤ (q *ℤ q *ℤ form_at d P v) =
+    λ v. at_most_by (form_at d P (step d M v)) (q *ℤ q *ℤ form_at d P v) (form_at d (fall_form d q M P) v) (loss-fall_form d q M P v) (shown_not_negative d (fall_form d q M P) v shown) in
+    let z = q *ℤ q in
     record {
       negative = negative;
       holds = holds;
-      along = along d c P start first holds;
-      stays = λ n. negative_below (form_at d P (trajectory d c start n)) (power z n *ℤ form_at d P start) (along d c P start first holds n)
-          (mul_negative (power z n) (form_at d P start) (power_positive z n (mul_positive (c 0) (c 0) first first)) negative);
+      along = along d q M P start apart holds;
+      stays = λ n. negative_below (form_at d P (trajectory d M start n)) (power z n *ℤ form_at d P start) (along d q M P start apart holds n)
+          (mul_negative (power z n) (form_at d P start) (power_positive z n (square_positive q apart)) negative);
     }

@@ -1,5 +1,6 @@
-pub mod Behind
 pub mod Casts
+pub mod CompanionEntries
+pub mod Congruence
 pub mod Definite
 pub mod Falling
 pub mod Floors

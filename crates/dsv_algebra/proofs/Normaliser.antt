@@ -1,5 +1,5 @@
 use Rattle.std.proofs.Common.{◌≡◌, ℕ, zero, suc, Bool, true, false, cond, leb, List, [], ◌∷◌, get_or, refl, sym, ap, ◌∙◌, arith, rules}
-use Rattle.std.proofs.Math.IntN.{ℤ, pos, negsuc, ◌+ℤ◌, ◌*ℤ◌, ◌-ℤ◌, neg_ℤ, +ℤ_assoc, +ℤ_idl, +ℤ_idr}
+use Rattle.std.proofs.Math.IntN.{ℤ, pos, negsuc, ◌+ℤ◌, ◌*ℤ◌, neg_ℤ, +ℤ_assoc, +ℤ_idl, +ℤ_idr}
 use Rattle.std.proofs.lemmas.Int.{ints}
 use Rattle.std.specs.Str.{bytes_eq}
 use Rattle.std.proofs.lemmas.Slice.Eq.{bytes_eq-Decides}
@@ -185,27 +185,3 @@ ring ρ a b h = difference_zero (eval ρ a) (eval ρ b) (sym (value-norm ρ (plu
 
 abbrev pub env : List ℤ → Env
 env xs i = get_or xs i (pos 0)
-
-test : (a b : ℤ) → (a +ℤ b) *ℤ (a +ℤ b) ≡ a *ℤ a +ℤ pos 2 *ℤ (a *ℤ b) +ℤ b *ℤ b
-test a b = let x = var 0 in let y = var 1 in
-    ring (env (a ∷ b ∷ [])) (times (plus x y) (plus x y)) (plus (plus (times x x) (times (num (pos 2)) (times x y))) (times y y)) refl
-
--- the sum of squares of the closed form of order 2: (c0 + c2) V = 2 (..)^2 + D (c0^2 + c2^2) y^2
-order_two : (c0 c1 c2 x y : ℤ) →
-    let big = (c0 +ℤ c2) *ℤ (c0 +ℤ c2) -ℤ c1 *ℤ c1 in
-    let r = pos 2 *ℤ (c0 +ℤ c2) *ℤ c0 *ℤ c0 in
-    let p = pos 2 *ℤ c0 *ℤ c1 *ℤ c2 in
-    let s = pos 2 *ℤ (c0 +ℤ c2) *ℤ c2 *ℤ c2 +ℤ (c0 -ℤ c2) *ℤ big in
-    (c0 +ℤ c2) *ℤ (r *ℤ x *ℤ x +ℤ pos 2 *ℤ p *ℤ x *ℤ y +ℤ s *ℤ y *ℤ y)
-    ≡ pos 2 *ℤ ((c0 +ℤ c2) *ℤ c0 *ℤ x +ℤ c1 *ℤ c2 *ℤ y) *ℤ ((c0 +ℤ c2) *ℤ c0 *ℤ x +ℤ c1 *ℤ c2 *ℤ y) +ℤ big *ℤ (c0 *ℤ c0 +ℤ c2 *ℤ c2) *ℤ y *ℤ y
-order_two c0 c1 c2 x y =
-    let a = var 0 in let b = var 1 in let c = var 2 in let u = var 3 in let v = var 4 in
-    let two = num (pos 2) in
-    let big = plus (times (plus a c) (plus a c)) (minus (times b b)) in
-    let r = times (times (times two (plus a c)) a) a in
-    let p = times (times (times two a) b) c in
-    let s = plus (times (times (times two (plus a c)) c) c) (times (plus a (minus c)) big) in
-    let row = plus (times (times (plus a c) a) u) (times (times b c) v) in
-    ring (env (c0 ∷ c1 ∷ c2 ∷ x ∷ y ∷ []))
-    (times (plus a c) (plus (plus (times (times r u) u) (times (times (times two p) u) v)) (times (times s v) v)))
-    (plus (times (times two row) row) (times (times (times big (plus (times a a) (times c c))) v) v)) refl

@@ -125,20 +125,20 @@ pub record Last (d : ℕ) (v : Vector) : Type 0 where
   pub place : ℕ
   pub below : place < d
   pub apart : v place ≢ pos 0
-  pub behind : (j : ℕ) → place < j → j < d → v j ≡ pos 0
+  pub after : (j : ℕ) → place < j → j < d → v j ≡ pos 0
 
 below_last : (d : ℕ) (v : Vector) (i : ℕ) → i < suc d → v i ≢ pos 0 → v d ≡ pos 0 → i < d
 below_last d v i p n e = elim (cases_lt i d) [ inl less ↦ less | inr more ↦ (let same : i ≡ d = omega arith in absurd (n (rw same e))) ]
 
-behind_more : (d : ℕ) (v : Vector) (k : ℕ) → ((j : ℕ) → k < j → j < d → v j ≡ pos 0) → v d ≡ pos 0 → (j : ℕ) → k < j → j < suc d → v j ≡ pos 0
-behind_more d v k h e j q r = elim (cases_lt j d) [ inl less ↦ h j q less | inr more ↦ (let same : j ≡ d = omega arith in rw same e) ]
+after_more : (d : ℕ) (v : Vector) (k : ℕ) → ((j : ℕ) → k < j → j < d → v j ≡ pos 0) → v d ≡ pos 0 → (j : ℕ) → k < j → j < suc d → v j ≡ pos 0
+after_more d v k h e j q r = elim (cases_lt j d) [ inl less ↦ h j q less | inr more ↦ (let same : j ≡ d = omega arith in rw same e) ]
 
 pub last_of : (d : ℕ) (v : Vector) (i : ℕ) → i < d → v i ≢ pos 0 → Last d v
 last_of zero v i p n = absurd (omega arith)
 last_of (suc d) v i p n = elim (ℤ_discrete (v d) (pos 0)) [
   | yes e ↦ (let less : i < d = below_last d v i p n e in let l = last_of d v i less n in
-      record { place = l.place; below = omega (arith, l.below); apart = l.apart; behind = λ j q r. behind_more d v l.place l.behind e j q r })
-  | no m ↦ record { place = d; below = omega arith; apart = m; behind = λ j q r. absurd (omega arith) }
+      record { place = l.place; below = omega (arith, l.below); apart = l.apart; after = λ j q r. after_more d v l.place l.after e j q r })
+  | no m ↦ record { place = d; below = omega arith; apart = m; after = λ j q r. absurd (omega arith) }
 ]
 
 -- a sum with one term that isn't 0

@@ -1,4 +1,5 @@
 pub mod Companion
+pub mod Falling
 pub mod Floor
 pub mod Narrow
 pub mod Squares

@@ -26,7 +26,7 @@ form_at d P v = sum_to d (λ i. sum_to d (λ j. P i j *ℤ v i *ℤ v j))
 abbrev pub IsNotZero : ℕ → Vector → Type 0
 IsNotZero d v = (i : ℕ) × (i < d) × (v i ≢ pos 0)
 
--- the vector that a list spells, 0 behind its end
+-- the vector that a list spells, 0 after its end
 abbrev pub vector_of : List ℤ → Vector
 vector_of xs i = slice_index_or xs i (pos 0)
 
@@ -35,5 +35,5 @@ abbrev pub matrix_of : List (List ℤ) → Matrix
 matrix_of rows i j = slice_index_or (slice_index_or rows i []) j (pos 0)
 
 -- the matrix C^T P C: the form P at C v is this form at v
-abbrev pub behind : ℕ → Matrix → Matrix → Matrix
-behind d P C k l = sum_to d (λ i. sum_to d (λ j. P i j *ℤ C i k *ℤ C j l))
+abbrev pub congruence : ℕ → Matrix → Matrix → Matrix
+congruence d P C k l = sum_to d (λ i. sum_to d (λ j. P i j *ℤ C i k *ℤ C j l))

@@ -1,11 +1,11 @@
-// NarrowInteger numbers with exact arithmetic.
+// Whole numbers of a bounded size, with exact arithmetic.
 ghost use Rattle.std.specs.Prelude.{◌≡◌, ◌+ℤ◌, ◌-ℤ◌, ◌*ℤ◌};
 ghost use Rattle.dsv_algebra.specs.Narrow.{narrowed};
 
 use std::marker::Model;
 
 /// The least size that an exact result may not have.
-const TOO_WIDE: u128 = 1 << 126;
+const NARROW_LIMIT: u128 = 1 << 126;
 
 /// A whole number of 128 bits. Its arithmetic is exact, and an operation whose result passes 2^126 answers `None`.
 #[derive(Clone, Copy, Debug, PartialEq, Eq)]
@@ -53,7 +53,7 @@ impl NarrowInteger {
     pub fn narrow(self) -> Option<NarrowInteger>
         ensures { result ≡ narrowed self }
     {
-        if self.value.unsigned_abs() < TOO_WIDE {
+        if self.value.unsigned_abs() < NARROW_LIMIT {
             Some(self)
         } else {
             None

@@ -1,14 +1,12 @@
 -- Common denominators.
-use Rattle.std.proofs.Common.{◌≡◌, ℕ, zero, suc, ◌+◌, ◌*◌, ◌/◌, ◌^◌, ◌<◌, ◌≤◌, List, [], ◌∷◌, ◌++◌, take, length, get_or, refl, sym, ap, ◌∙◌, arith, Some, None, Ok, Err}
+use Rattle.std.proofs.Common.{◌≡◌, ℕ, zero, suc, ◌+◌, ◌*◌, ◌/◌, ◌^◌, ◌<◌, ◌≤◌, List, [], ◌∷◌, ◌++◌, take, length, get_or, refl, sym, ap, ◌∙◌, arith, Some, None}
 use Rattle.std.proofs.Math.IntN.{ℤ, pos}
 use Rattle.std.proofs.lemmas.List.{take_more}
 use Rattle.std.specs.Int.RustNames.{unsigned_abs}
 use Rattle.dsv_algebra.specs.Narrow.{narrowed}
 use Rattle.dsv_fraction.specs.Gcd.{gcd}
 use Rattle.dsv_fraction.specs.Ratio.{Ratio}
-use Rattle.dsv_fraction.specs.Arithmetic.{lowest, bounded as bounded_ratio}
-use Rattle.dsv_fraction.specs.declared.fraction.TooWide.{TooWide}
-use Rattle.dsv_fraction.proofs.Gcds.{gcd-is, divided, quotient_smaller}
+use Rattle.dsv_fraction.proofs.Gcds.{gcd-is, divided}
 use Rattle.dsv_delta.specs.Deltas.{lcm, common_from, common}
 
 pub some_small : (n : ℕ) (z : ℤ) → narrowed (pos n) ≡ Some z → (z ≡ pos n) × (n < 2 ^ 126)
@@ -29,17 +27,6 @@ lcm_grows n d p q = times_positive n (d / gcd n d) ((divided n d (gcd n d) q (gc
 
 pub multiple_none : (n d : ℕ) → 0 < n → 0 < d → narrowed (pos n) ≡ None → narrowed (pos (lcm n d)) ≡ None
 multiple_none n d p q e = large_none (pos (lcm n d)) (omega (arith, none_large (pos n) e, lcm_grows n d p q))
-
-fits : (n d : ℕ) → n < 2 ^ 127 → d < 2 ^ 127 → bounded_ratio (record { num = pos n; den = d }) ≡ Ok (record { num = pos n; den = d })
-fits n d p q = grind arith
-
--- the reduced fraction n / d is never too wide where both are narrow
-pub reduces : (n d : ℕ) (e : TooWide) → n < 2 ^ 127 → d < 2 ^ 127 → bounded_ratio (lowest (pos n) d) ≡ Err e → ⊥
-reduces n d e p q h =
-    let a = quotient_smaller n (gcd n d) in
-    let b = quotient_smaller d (gcd n d) in
-    let fine : bounded_ratio (lowest (pos n) d) ≡ Ok (lowest (pos n) d) = fits (n / gcd n d) (d / gcd n d) (omega arith) (omega arith) in
-    cc
 
 pub common_more : (l : ℕ) (qs : List Ratio) (q : Ratio) → common_from l (qs ++ q ∷ []) ≡ lcm (common_from l qs) q.den
 common_more l [] q = refl

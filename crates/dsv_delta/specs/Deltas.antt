@@ -2,6 +2,7 @@
 use Rattle.std.specs.Prelude.{ℕ, zero, suc, ◌-◌, ◌*◌, ◌/◌, ◌^◌, ◌&&◌, nat_lt, if◌then◌else◌, List, [], ◌∷◌, ◌++◌, length, Result, Ok, Err, ℤ, pos, ◌*ℤ◌}
 use Rattle.std.specs.Int.RustNames.{unsigned_abs}
 use Rattle.dsv_text.specs.Stages.{◌>>=◌}
+use Rattle.dsv_algebra.specs.Narrow.{narrow_limit}
 use Rattle.dsv_algebra.specs.Vectors.{Vector, vector_of}
 use Rattle.dsv_fraction.specs.Ratio.{Ratio}
 use Rattle.dsv_fraction.specs.Gcd.{gcd}
@@ -58,14 +59,8 @@ delta_list name delta qs =
     let l = common qs in
     let ns = numerators l qs in
     let sums = binomial_sum (length qs - 1) (vector_of ns) in
-    if nat_lt l (2 ^ 126) && nat_lt (weight ns) (2 ^ 126)
+    if nat_lt l narrow_limit && nat_lt (weight ns) narrow_limit
     then coefficients_from name delta l sums (length qs) [] else Err (record { list = name; index = 0 })
-
-abbrev pub zero_ratio : Ratio
-zero_ratio = record { num = pos 0; den = 1 }
-
-abbrev pub one : Ratio
-one = record { num = pos 1; den = 1 }
 
 -- both lists of a transfer function
 pub record Lists : Type 0 where

@@ -1,6 +1,7 @@
 // Transfer functions in the delta operator.
 ghost use Rattle.std.specs.Prelude.{◌≡◌, ◌≤◌, length, pos, ◌<ℤ◌, slice_index_or, MatchResult, Ok, Err, IfOk};
-ghost use Rattle.dsv_delta.specs.Deltas.{delta_list, delta_lists, zero_ratio, one};
+ghost use Rattle.dsv_fraction.specs.Ratio.{zero, one, most_coefficients};
+ghost use Rattle.dsv_delta.specs.Deltas.{delta_list, delta_lists};
 
 use crate::denominators::{common_denominator, numerators};
 use crate::powers::coefficients;
@@ -18,7 +19,7 @@ pub struct DeltaPair {
 
 /// The list's coefficients in the delta operator.
 fn delta_list(list: ListName, fractions: &[Frac], delta: &Frac) -> Result<FracList, DeltaWide>
-    requires few { length fractions.now ≤ 9 }
+    requires few { length fractions.now ≤ most_coefficients }
     requires delta { pos 0 <ℤ delta.now.num }
     ensures places { IfOk result (λ found. length found.items ≡ length fractions.now) }
     ensures value { let meant = delta_list list delta.now fractions.now in
@@ -40,8 +41,8 @@ fn delta_list(list: ListName, fractions: &[Frac], delta: &Frac) -> Result<FracLi
 pub fn to_delta(b: &[Frac], a: &[Frac], delta: &Frac) -> Result<DeltaPair, DeltaWide>
     requires one_length { length b.now ≡ length a.now }
     requires some { 1 ≤ length a.now }
-    requires few { length a.now ≤ 9 }
-    requires leading { slice_index_or a.now 0 zero_ratio ≡ one }
+    requires few { length a.now ≤ most_coefficients }
+    requires leading { slice_index_or a.now 0 zero ≡ one }
     requires delta { pos 0 <ℤ delta.now.num }
     ensures places { IfOk result (λ pair. (length pair.b.items ≡ length b.now) × (length pair.a.items ≡ length a.now)) }
     ensures exact { let meant = delta_lists b.now a.now delta.now in
@@ -51,6 +52,3 @@ pub fn to_delta(b: &[Frac], a: &[Frac], delta: &Frac) -> Result<DeltaPair, Delta
     let a = delta_list(ListName::A, a, delta)?;
     Ok(DeltaPair { b, a })
 }
-
-#[cfg(test)]
-mod tests;

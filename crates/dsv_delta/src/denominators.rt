@@ -1,21 +1,22 @@
 // Fractions over one denominator.
 #![tactic(auto, using(dsv_algebra::proofs::Casts::casts))]
 
-ghost use Rattle.std.specs.Prelude.{◌≡◌, ℕ, ◌<◌, ◌≤◌, ◌^◌, ◌*ℤ◌, ◌/◌, length, pos, ◌≤ℤ◌, MatchOption};
+ghost use Rattle.std.specs.Prelude.{◌≡◌, ℕ, ◌<◌, ◌≤◌, ◌*ℤ◌, ◌/◌, length, pos, ◌≤ℤ◌, MatchOption};
 ghost use Rattle.std.specs.Int.RustNames.{unsigned_abs};
-ghost use Rattle.dsv_algebra.specs.Narrow.{narrowed};
+ghost use Rattle.dsv_algebra.specs.Narrow.{narrow_limit, narrowed};
+ghost use Rattle.dsv_fraction.specs.Ratio.{most_coefficients};
 ghost use Rattle.dsv_delta.specs.Binomials.{weight};
 ghost use Rattle.dsv_delta.specs.Deltas.{lcm, common, numerators};
 
 use arrayvec::ArrayVec;
 use dsv_algebra::NarrowInteger;
-use dsv_fraction::Frac;
+use dsv_fraction::{Frac, MOST_COEFFICIENTS};
 
-/// Up to nine numerators.
-pub(crate) type Numerators = ArrayVec<i128, 9>;
+/// Up to `MOST_COEFFICIENTS` numerators.
+pub(crate) type Numerators = ArrayVec<i128, MOST_COEFFICIENTS>;
 
 /// The least weight that is too great.
-const LIMIT: u128 = 1 << 126;
+const WEIGHT_LIMIT: u128 = 1 << 126;
 
 /// The least common multiple of the number and the fraction's denominator, where neither passes 2^126.
 fn multiple(common: Option<NarrowInteger>, fraction: &Frac) -> Option<NarrowInteger>
@@ -55,16 +56,16 @@ fn numerator(common: NarrowInteger, fraction: &Frac) -> Option<NarrowInteger>
 /// The numerators over a common denominator, where their weight doesn't pass 2^126.
 pub(crate) fn numerators(common: NarrowInteger, fractions: &[Frac]) -> Option<Numerators>
     requires positive { pos 0 ≤ℤ common }
-    requires few { length fractions.now ≤ 9 }
+    requires few { length fractions.now ≤ most_coefficients }
     ensures { let meant = numerators (unsigned_abs common) fractions.now in
-        MatchOption result (2 ^ 126 ≤ weight meant) (λ found. (found.items ≡ meant) × (weight meant < 2 ^ 126)) }
+        MatchOption result (narrow_limit ≤ weight meant) (λ found. (found.items ≡ meant) × (weight meant < narrow_limit)) }
 {
     let mut out = Numerators::new();
     let mut weight: u128 = 0;
     for fraction in fractions {
         let number = numerator(common, fraction)?;
         weight = weight * 2 + number.get().unsigned_abs();
-        if weight >= LIMIT {
+        if weight >= WEIGHT_LIMIT {
             return None;
         }
         out.push(number.get());

@@ -4,6 +4,7 @@
 ghost use Rattle.std.specs.Prelude.{◌≡◌, ◌≤◌, length, [], pos, ◌<ℤ◌, MatchResult, Ok, Err, IfOk};
 ghost use Rattle.std.specs.Int.RustNames.{unsigned_abs};
 ghost use Rattle.dsv_algebra.specs.Vectors.{vector_of};
+ghost use Rattle.dsv_fraction.specs.Ratio.{most_coefficients};
 ghost use Rattle.dsv_delta.specs.Deltas.{divided, coefficients_from};
 
 use crate::refusal::DeltaWide;
@@ -36,7 +37,7 @@ pub(crate) fn coefficients(
     common: NarrowInteger,
     delta: &Frac,
 ) -> Result<FracList, DeltaWide>
-    requires few { length sums.now ≤ 9 }
+    requires few { length sums.now ≤ most_coefficients }
     requires common { pos 0 <ℤ common }
     requires delta { pos 0 <ℤ delta.now.num }
     ensures places { IfOk result (λ found. length found.items ≡ length sums.now) }

@@ -2,8 +2,9 @@
 use Rattle.std.proofs.Common.{◌≡◌, ◌-◌, Bool, true, false, List, [], ◌∷◌, length, get_or, Option, Some, None, Result, Ok, Err, IfOk, refl, sym, ap, ◌∙◌, arith}
 use Rattle.std.proofs.Math.IntN.{ℤ}
 use Rattle.dsv_algebra.specs.Vectors.{vector_of, matrix_of}
-use Rattle.dsv_algebra.specs.Companion.{StrictlyFalls, fall_form, fall_entry}
-use Rattle.dsv_algebra.proofs.Falling.{strictly_falls, fall_form-is}
+use Rattle.dsv_algebra.specs.Companion.{companion, StrictlyFallsAlong, companion_fall_form, fall_entry}
+use Rattle.dsv_algebra.proofs.CompanionEntries.{companion_fall_form-is}
+use Rattle.dsv_algebra.proofs.Falling.{strictly_falls}
 use Rattle.dsv_forms.specs.declared.offers.Form.{Form}
 use Rattle.dsv_forms.specs.declared.offers.Falls.{Falls}
 use Rattle.dsv_forms.specs.declared.offers.Squares.{Squares}
@@ -28,7 +29,7 @@ had true p s t h = absurd (never_none (early_refusal p s) (refusal.Wide p 0 0) h
 had false p s t h = h
 
 -- an accepted offer shows a form that falls
-falls_one : (c0 c1 : ℤ) (offer : Falls) → one_place_falls c0 c1 offer ≡ None → StrictlyFalls 1 (vector_of (c0 ∷ c1 ∷ [])) (matrix_of offer.form.rows)
+falls_one : (c0 c1 : ℤ) (offer : Falls) → one_place_falls c0 c1 offer ≡ None → StrictlyFallsAlong 1 (vector_of (c0 ∷ c1 ∷ [])) (matrix_of offer.form.rows)
 falls_one c0 c1 offer h =
     let c = vector_of (c0 ∷ c1 ∷ []) in
     let P = matrix_of offer.form.rows in
@@ -37,9 +38,9 @@ falls_one c0 c1 offer h =
     let both = neither positive fall (neither (place_refusal 1 offer.form) (or_else positive fall) h).1 in
     let same : one_place_refusal part.Fall offer.fall (unless (any_wide (fall_numbers 1 c P 0 0)) (fall_entry 1 c P 0 0)) ≡ None =
     ap (one_place_refusal part.Fall offer.fall) (sym (fall_same c P)) ∙ both.1 in
-    strictly_falls 1 c P
+    strictly_falls 1 (c 0) (companion c) P
     (show_positive offer.positive P (shown_one part.Positive offer.positive (P 0 0) both.0))
-    (show_positive offer.fall (fall_form 1 c P) (rw (fall_form-is 0 c P 0 0) (shown_one part.Fall offer.fall (fall_entry 1 c P 0 0) (had (any_wide (fall_numbers 1 c P 0 0)) part.Fall offer.fall (fall_entry 1 c P 0 0) same))))
+    (show_positive offer.fall (companion_fall_form 1 c P) (rw (companion_fall_form-is 0 c P 0 0) (shown_one part.Fall offer.fall (fall_entry 1 c P 0 0) (had (any_wide (fall_numbers 1 c P 0 0)) part.Fall offer.fall (fall_entry 1 c P 0 0) same))))
 
 -- the entry that was had is the fall form's
 had_entry : (w : Bool) (t x : ℤ) → unless w t ≡ Some x → x ≡ t
@@ -52,10 +53,10 @@ fall_form_one c0 c1 form fall places one h =
     let c = vector_of (c0 ∷ c1 ∷ []) in
     let P = matrix_of form.rows in
     let F = matrix_of fall.rows in
-    let entry : F 0 0 ≡ fall_form 1 c P 0 0 = had_entry (any_wide (fall_numbers 1 c P 0 0)) (fall_entry 1 c P 0 0) (F 0 0) (sym (fall_same c P) ∙ h) ∙ sym (fall_form-is 0 c P 0 0) in
+    let entry : F 0 0 ≡ companion_fall_form 1 c P 0 0 = had_entry (any_wide (fall_numbers 1 c P 0 0)) (fall_entry 1 c P 0 0) (F 0 0) (sym (fall_same c P) ∙ h) ∙ sym (companion_fall_form-is 0 c P 0 0) in
     record {
       places = places;
-      entries = λ i j p q. at_none (λ i. F i j ≡ fall_form 1 c P i j) (at_none (λ j. F 0 j ≡ fall_form 1 c P 0 j) entry j q) i p;
+      entries = λ i j p q. at_none (λ i. F i j ≡ companion_fall_form 1 c P i j) (at_none (λ j. F 0 j ≡ companion_fall_form 1 c P 0 j) entry j q) i p;
       elsewhere = one.elsewhere;
     }
 
@@ -71,7 +72,7 @@ pub answer_refusal : (cs : List ℤ) (c0 c1 : ℤ) (offer : Falls) (r : Result F
 answer_refusal cs c0 c1 offer r e h = rw e (h ∙ sym (one_place_falls-is c0 c1 offer))
 
 pub answer_falls : (cs : List ℤ) (c0 c1 : ℤ) (offer : Falls) (r : Result Form FormRefusal) → cs ≡ c0 ∷ c1 ∷ []
-    → refusal_of r ≡ one_place_falls c0 c1 offer → IfOk r (λ _. StrictlyFalls (length cs - 1) (vector_of cs) (matrix_of offer.form.rows))
+    → refusal_of r ≡ one_place_falls c0 c1 offer → IfOk r (λ _. StrictlyFallsAlong (length cs - 1) (vector_of cs) (matrix_of offer.form.rows))
 answer_falls cs c0 c1 offer (Ok fall) e h = rw e (falls_one c0 c1 offer (sym h))
 answer_falls cs c0 c1 offer (Err r) e h = tt
 

@@ -1,14 +1,15 @@
 -- What an accepted offer of one place that is kept away shows, said of the polynomial's list.
-use Rattle.std.proofs.Common.{◌≡◌, ℕ, zero, suc, ◌-◌, ◌<◌, ◌≤◌, Bool, true, false, not, ◌||◌, ◌&&◌, ◌==◌, nat_lt, int_lt, if◌then◌else◌, List, [], ◌∷◌, length, Option, Some, None, Result, Ok, Err, IfOk, refl, sym, ap, ◌∙◌, arith}
+use Rattle.std.proofs.Common.{◌≡◌, ◌≢◌, ℕ, zero, suc, ◌-◌, ◌<◌, ◌≤◌, Bool, true, false, not, ◌||◌, ◌&&◌, ◌==◌, nat_lt, int_lt, if◌then◌else◌, List, [], ◌∷◌, length, Option, Some, None, Result, Ok, Err, IfOk, refl, sym, ap, ◌∙◌, arith}
 use Rattle.std.proofs.Math.IntN.{ℤ, pos, ◌+ℤ◌, ◌*ℤ◌, +ℤ_idl}
 use Rattle.std.proofs.lemmas.Bool.Decides.{nat_tests}
+use Rattle.std.proofs.lemmas.Int.{ints}
 use lib.Signed.{◌<ℤ◌, ◌≤ℤ◌}
 use Rattle.std.specs.Option.{option_and_then, option_map}
 use Rattle.dsv_algebra.specs.Narrow.{is_narrow, narrowed}
 use Rattle.dsv_algebra.specs.Vectors.{Matrix, sum_to, form_at, vector_of, matrix_of}
-use Rattle.dsv_algebra.specs.Companion.{fall_form, fall_entry, IsKeptAway}
+use Rattle.dsv_algebra.specs.Companion.{companion, companion_fall_form, fall_entry, IsKeptAwayAlong}
 use Rattle.dsv_algebra.specs.Squares.{squares, beside}
-use Rattle.dsv_algebra.proofs.Falling.{fall_form-is}
+use Rattle.dsv_algebra.proofs.CompanionEntries.{companion_fall_form-is}
 use Rattle.dsv_algebra.proofs.KeptAway.{ShowNotNegative, kept_away}
 use Rattle.dsv_forms.specs.declared.offers.Form.{Form}
 use Rattle.dsv_forms.specs.declared.offers.KeptAway.{KeptAway}
@@ -113,9 +114,12 @@ value_shown : (x v : ℤ) → value_refusal (value_of x v) ≡ None → (x *ℤ 
 value_shown x v h =
     value_last (is_narrow (x *ℤ v *ℤ v)) (x *ℤ v *ℤ v) (value_open (is_narrow (x *ℤ v)) (x *ℤ v) (λ a. narrowed (a *ℤ v)) h)
 
+positive_apart : (z : ℤ) → pos 0 <ℤ z → z ≢ pos 0
+positive_apart z h e = omega (arith, ints, h, e)
+
 -- an accepted offer shows a form that is kept away
 kept_away_one : (c0 c1 : ℤ) (offer : KeptAway) → pos 0 <ℤ c0 → one_place_kept_away c0 c1 offer ≡ None
-    → IsKeptAway 1 (vector_of (c0 ∷ c1 ∷ [])) (matrix_of offer.form.rows) (vector_of offer.start)
+    → IsKeptAwayAlong 1 (vector_of (c0 ∷ c1 ∷ [])) (matrix_of offer.form.rows) (vector_of offer.start)
 kept_away_one c0 c1 offer first h =
     let c = vector_of (c0 ∷ c1 ∷ []) in
     let P = matrix_of offer.form.rows in
@@ -125,8 +129,8 @@ kept_away_one c0 c1 offer first h =
     let both = neither fall value (neither (place_refusal 1 offer.form) (or_else fall value) h).1 in
     let same : weak_place_refusal part.Fall offer.fall (unless (any_wide (fall_numbers 1 c P 0 0)) (fall_entry 1 c P 0 0)) ≡ None =
     ap (weak_place_refusal part.Fall offer.fall) (sym (fall_same c P)) ∙ both.0 in
-    kept_away 1 c P v first (rw (value_is P v) (value_shown (P 0 0) (v 0) both.1))
-    (show_not_negative offer.fall (fall_form 1 c P) (rw (fall_form-is 0 c P 0 0) (shown_weak part.Fall offer.fall (fall_entry 1 c P 0 0) (had (any_wide (fall_numbers 1 c P 0 0)) part.Fall offer.fall (fall_entry 1 c P 0 0) same))))
+    kept_away 1 (c 0) (companion c) P v (positive_apart c0 first) (rw (value_is P v) (value_shown (P 0 0) (v 0) both.1))
+    (show_not_negative offer.fall (companion_fall_form 1 c P) (rw (companion_fall_form-is 0 c P 0 0) (shown_weak part.Fall offer.fall (fall_entry 1 c P 0 0) (had (any_wide (fall_numbers 1 c P 0 0)) part.Fall offer.fall (fall_entry 1 c P 0 0) same))))
 
 -- a number that was had
 had_open : (n : Bool) (z x : ℤ) (k : ℤ → Option ℤ) → option_and_then k (if n then Some z else None) ≡ Some x → k z ≡ Some x
@@ -148,7 +152,7 @@ answer_refusal cs c0 c1 offer r e h = rw e (h ∙ sym (one_place_kept_away-is c0
 
 pub answer_away : (cs : List ℤ) (c0 c1 : ℤ) (offer : KeptAway) (r : Result (Form × ℤ) FormRefusal) → cs ≡ c0 ∷ c1 ∷ [] → pos 0 <ℤ c0
     → refusal_of r ≡ one_place_kept_away c0 c1 offer
-    → IfOk r (λ _. IsKeptAway (length cs - 1) (vector_of cs) (matrix_of offer.form.rows) (vector_of offer.start))
+    → IfOk r (λ _. IsKeptAwayAlong (length cs - 1) (vector_of cs) (matrix_of offer.form.rows) (vector_of offer.start))
 answer_away cs c0 c1 offer (Ok x) e first h = rw e (kept_away_one c0 c1 offer first (sym h))
 answer_away cs c0 c1 offer (Err r) e first h = tt
 

@@ -1,4 +1,4 @@
--- The check of a form that is kept away, with one place at most, in the order in which the code works.
+-- For private contracts: the check of a form that is kept away, with one place at most, in the order in which the code works.
 use Rattle.std.specs.Prelude.{not, ◌&&◌, ◌||◌, ◌==◌, nat_lt, if◌then◌else◌, int_lt, [], ◌∷◌, Option, Some, None, ℤ, pos, ◌*ℤ◌}
 use Rattle.std.specs.Option.{option_and_then, option_map}
 use Rattle.dsv_algebra.specs.Narrow.{narrowed}

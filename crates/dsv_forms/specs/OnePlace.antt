@@ -1,4 +1,4 @@
--- The check of a part with one place, in the order in which the code works.
+-- For private contracts: the check of a part with one place, in the order in which the code works.
 use Rattle.std.specs.Prelude.{◌≡◌, ◌≤◌, ◌⊎◌, List, ℕ, not, ◌||◌, ◌==◌, int_lt, [], ◌∷◌, Option, Some, None, ℤ, pos, ◌+ℤ◌, ◌-ℤ◌, ◌*ℤ◌}
 use Rattle.std.specs.Option.{option_and_then, option_map}
 use Rattle.std.specs.Ordering.{int_eq}

@@ -1,13 +1,13 @@
 // The check of an offer of a form that falls.
 ghost use Rattle.std.specs.Prelude.{◌≡◌, ◌≤◌, ◌+◌, ◌-◌, length, pos, Some, IfOk, OnOk};
 ghost use Rattle.dsv_algebra.specs.Vectors.{vector_of, matrix_of};
-ghost use Rattle.dsv_algebra.specs.Companion.{StrictlyFalls};
+ghost use Rattle.dsv_algebra.specs.Companion.{StrictlyFallsAlong};
 ghost use Rattle.dsv_forms.specs.FallForm.{IsFallForm};
 ghost use Rattle.dsv_forms.specs.Refusals.{refusal_of, falls_refusal};
 ghost use Rattle.dsv_forms.specs.OnePlace.{no_squares_refusal, no_place_falls, one_place_falls, fall_of, HasOneEntry};
 
 use crate::one_place::{check_one_place, fall_entry};
-use crate::{Falls, Form, FormRefusal, Part, Poly, Squares};
+use crate::{Falls, Form, FormRefusal, GREATEST_ORDER, Part, Poly, Squares};
 use dsv_algebra::NarrowInteger;
 
 /// Checks that the offer shows a form which strictly falls along each trajectory of the polynomial, and gives what the
@@ -16,7 +16,7 @@ pub fn check_falls(poly: &Poly, offer: &Falls) -> Result<Form, FormRefusal>
     requires { length poly.now ≤ 2 }
     // The first test that refuses, in their order; the offer is accepted exactly where none does.
     ensures refusal { refusal_of result ≡ falls_refusal poly.now offer.now }
-    ensures falls { IfOk result (λ _. StrictlyFalls (length poly.now - 1) (vector_of poly.now) (matrix_of offer.now.form.rows)) }
+    ensures falls { IfOk result (λ _. StrictlyFallsAlong (length poly.now - 1) (vector_of poly.now) (matrix_of offer.now.form.rows)) }
     ensures fall { IfOk result (λ fall. IsFallForm (length poly.now - 1) (vector_of poly.now) offer.now.form fall) }
     ensures places { OnOk result (offer.now.form.d + 1 ≡ length poly.now) }
 {
@@ -74,10 +74,10 @@ fn check_place(c0: NarrowInteger, c1: NarrowInteger, offer: &Falls) -> Result<Fo
 }
 
 /// A matrix with this entry in its first place.
-pub(crate) fn one_entry(entry: i128) -> [[i128; 8]; 8]
+pub(crate) fn one_entry(entry: i128) -> [[i128; GREATEST_ORDER]; GREATEST_ORDER]
     ensures { HasOneEntry result entry }
 {
-    let mut rows = [[0; 8]; 8];
+    let mut rows = [[0; GREATEST_ORDER]; GREATEST_ORDER];
     rows[0][0] = entry;
     rows
 }

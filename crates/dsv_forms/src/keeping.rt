@@ -1,7 +1,7 @@
 // The check of an offer of a form that is kept away.
 ghost use Rattle.std.specs.Prelude.{◌≡◌, ◌≤◌, ◌+◌, ◌-◌, length, Some, IfOk, OnOk};
 ghost use Rattle.dsv_algebra.specs.Vectors.{form_at, vector_of, matrix_of};
-ghost use Rattle.dsv_algebra.specs.Companion.{IsKeptAway};
+ghost use Rattle.dsv_algebra.specs.Companion.{IsKeptAwayAlong};
 ghost use Rattle.dsv_forms.specs.FallForm.{IsFallForm};
 ghost use Rattle.dsv_forms.specs.Refusals.{refusal_of, kept_away_refusal};
 ghost use Rattle.dsv_forms.specs.OnePlace.{fall_of, HasOneEntry};
@@ -12,13 +12,13 @@ use crate::one_place::{check_weak_place, fall_entry};
 use crate::{Form, FormRefusal, KeptAway, Part, Poly};
 use dsv_algebra::NarrowInteger;
 
-/// Checks that the offer shows a form which is negative at the start and rises back along no trajectory of the
+/// Checks that the offer shows a form which is negative at the start and rises along no trajectory of the
 /// polynomial. It gives what the form loses in a step and its value at the start, and takes no memory.
 pub fn check_kept_away(poly: &Poly, offer: &KeptAway) -> Result<(Form, i128), FormRefusal>
     requires { length poly.now ≤ 2 }
     // The first test that refuses, in their order; the offer is accepted exactly where none does.
     ensures refusal { refusal_of result ≡ kept_away_refusal poly.now offer.now }
-    ensures away { IfOk result (λ x. IsKeptAway (length poly.now - 1) (vector_of poly.now) (matrix_of offer.now.form.rows) (vector_of offer.now.start)) }
+    ensures away { IfOk result (λ x. IsKeptAwayAlong (length poly.now - 1) (vector_of poly.now) (matrix_of offer.now.form.rows) (vector_of offer.now.start)) }
     ensures fall { IfOk result (λ x. IsFallForm (length poly.now - 1) (vector_of poly.now) offer.now.form x.0) }
     ensures value { IfOk result (λ x. x.1 ≡ form_at (length poly.now - 1) (matrix_of offer.now.form.rows) (vector_of offer.now.start)) }
     ensures places { OnOk result (offer.now.form.d + 1 ≡ length poly.now) }

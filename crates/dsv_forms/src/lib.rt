@@ -10,6 +10,6 @@ mod refusal;
 
 pub use checking::check_falls;
 pub use keeping::check_kept_away;
-pub use offers::{Falls, Form, FormOffer, KeptAway, Squares};
-pub use poly::{BadPoly, Poly};
+pub use offers::{Falls, Form, FormOffer, GREATEST_ORDER, KeptAway, Squares};
+pub use poly::{BadPoly, GREATEST_COEFFICIENT, MOST_COEFFICIENTS, Poly};
 pub use refusal::{FormRefusal, Part};

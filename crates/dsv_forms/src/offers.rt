@@ -1,11 +1,14 @@
 // What is offered for a polynomial: forms, with the squares that show their signs.
 
-/// A quadratic form of d places, d at most 8: the sum of `rows[i][j]` times `v[i]` times `v[j]`. Entries outside the
+/// The greatest order of a polynomial, which is the most places of a form.
+pub const GREATEST_ORDER: usize = 8;
+
+/// A quadratic form of d places, d at most `GREATEST_ORDER`: the sum of `rows[i][j]` times `v[i]` times `v[j]`. Entries outside the
 /// first d places are ignored.
 #[derive(Clone, Copy, Debug, PartialEq, Eq)]
 pub struct Form {
     pub d: u32,
-    pub rows: [[i128; 8]; 8],
+    pub rows: [[i128; GREATEST_ORDER]; GREATEST_ORDER],
 }
 
 /// A way to write m times a form: `count` weighted squares of rows, and a rest. Where the weights are positive, the
@@ -14,9 +17,9 @@ pub struct Form {
 pub struct Squares {
     pub m: i128,
     pub count: u32,
-    pub weights: [i128; 8],
-    pub rows: [[i128; 8]; 8],
-    pub rest: [[i128; 8]; 8],
+    pub weights: [i128; GREATEST_ORDER],
+    pub rows: [[i128; GREATEST_ORDER]; GREATEST_ORDER],
+    pub rest: [[i128; GREATEST_ORDER]; GREATEST_ORDER],
 }
 
 /// A form that is to fall along each trajectory, with squares for the form and for what it loses in a step.
@@ -32,7 +35,7 @@ pub struct Falls {
 #[derive(Clone, Copy, Debug, PartialEq, Eq)]
 pub struct KeptAway {
     pub form: Form,
-    pub start: [i64; 8],
+    pub start: [i64; GREATEST_ORDER],
     pub fall: Squares,
 }
 

@@ -1,5 +1,5 @@
 -- What is measured of a number's text is a number's text.
-use Rattle.std.proofs.Common.{◌≡◌, ℕ, zero, suc, ◌+◌, ◌-◌, ◌<◌, ◌≤◌, Bool, true, false, not, ◌&&◌, ◌||◌, ◌==◌, cond, List, [], ◌∷◌, ◌++◌, length, take, drop, refl, sym, ap, ◌∙◌, subst, arith, append_assoc, length-drop}
+use Rattle.std.proofs.Common.{◌≡◌, ℕ, ◌+◌, ◌-◌, ◌<◌, ◌≤◌, Bool, true, false, not, ◌&&◌, ◌||◌, ◌==◌, cond, List, [], ◌∷◌, ◌++◌, length, take, drop, refl, sym, ap, ◌∙◌, subst, arith, append_assoc, length-drop}
 use Rattle.std.proofs.lemmas.Bool.{cond_both, and_parts, eqb-true}
 use Rattle.std.proofs.lemmas.List.{length-take-le}
 use Rattle.std.proofs.Math.Seq.{take-add}
@@ -94,13 +94,6 @@ body_at text false b h = plain_body text h
 
 pub body_front : (text : List ℕ) → 0 < whole_len text → Begins IsBody (whole_len text) text
 body_front text h = body_at text (has_byte 46 (drop (digits_len text) text)) refl h
-
-within_some : (n len : ℕ) → (0 < n → n ≤ len) → n ≤ len
-within_some zero len h = omega arith
-within_some (suc n) len h = h (omega arith)
-
-whole_within : (text : List ℕ) → whole_len text ≤ length text
-whole_within text = within_some (whole_len text) (length text) (λ h. (body_front text h).within)
 
 -- ---- the exponent
 

@@ -1,10 +1,10 @@
 -- Exact arithmetic on fractions, refused where a part passes 2^127.
-use Rattle.std.specs.Prelude.{ℕ, suc, ◌*◌, ◌/◌, ◌^◌, Bool, true, false, ◌&&◌, nat_lt, Result, Ok, Err, if◌then◌else◌, ℤ, pos, negsuc, ◌*ℤ◌, ◌+ℤ◌, neg_ℤ}
+use Rattle.std.specs.Prelude.{ℕ, suc, ◌*◌, ◌/◌, Bool, true, false, ◌&&◌, nat_lt, Result, Ok, Err, if◌then◌else◌, ℤ, pos, negsuc, ◌*ℤ◌, ◌+ℤ◌, neg_ℤ}
 use Rattle.std.specs.Int.RustNames.{unsigned_abs}
 use Rattle.std.specs.declared.cmp.Ordering.{Ordering}
 use Rattle.std.specs.Ordering.{int_cmp}
 use Rattle.dsv_text.specs.Stages.{and_then}
-use Rattle.dsv_fraction.specs.Ratio.{Ratio}
+use Rattle.dsv_fraction.specs.Ratio.{Ratio, part_limit}
 use Rattle.dsv_fraction.specs.Gcd.{gcd}
 use Rattle.dsv_fraction.specs.declared.fraction.TooWide.{TooWide}
 
@@ -45,7 +45,7 @@ too_wide = record {}
 
 -- neither part passes 2^127
 abbrev pub is_bounded : Ratio → Bool
-is_bounded r = nat_lt (unsigned_abs r.num) (2 ^ 127) && nat_lt r.den (2 ^ 127)
+is_bounded r = nat_lt (unsigned_abs r.num) part_limit && nat_lt r.den part_limit
 
 -- the fraction, where neither part passes 2^127
 abbrev pub bounded : Ratio → Result Ratio TooWide
@@ -53,10 +53,10 @@ bounded r = if is_bounded r then Ok r else Err too_wide
 
 -- the whole number, where it doesn't pass 2^127
 abbrev pub bounded_whole : ℤ → Result ℤ TooWide
-bounded_whole z = if nat_lt (unsigned_abs z) (2 ^ 127) then Ok z else Err too_wide
+bounded_whole z = if nat_lt (unsigned_abs z) part_limit then Ok z else Err too_wide
 
 abbrev pub bounded_size : ℕ → Result ℕ TooWide
-bounded_size n = if nat_lt n (2 ^ 127) then Ok n else Err too_wide
+bounded_size n = if nat_lt n part_limit then Ok n else Err too_wide
 
 -- a/b + c/d with g = gcd b d: each of b (d/g), a (d/g), c (b/g) and the sum of the last two is tested
 abbrev pub sum_of : Ratio → Ratio → Result Ratio TooWide

@@ -1,7 +1,7 @@
 -- What the text of a decimal number says.
 use Rattle.std.specs.Prelude.{◌≡◌, ◌<◌, ℕ, suc, ◌^◌, Bool, not, ◌==◌, nat_lt, if◌then◌else◌, List, [], ◌++◌, length, drop, Result, Ok, Err, ℤ, pos, negsuc, ◌-ℤ◌}
 use Rattle.std.specs.Int.RustNames.{unsigned_abs}
-use Rattle.dsv_fraction.specs.Ratio.{Ratio}
+use Rattle.dsv_fraction.specs.Ratio.{Ratio, part_limit}
 use Rattle.dsv_fraction.specs.Arithmetic.{signed, times, bounded}
 use Rattle.dsv_text.specs.Bytes.{has_byte}
 use Rattle.dsv_text.specs.Digits.{digits_len, digits_value, front_digits}
@@ -9,6 +9,14 @@ use Rattle.dsv_fraction.specs.Number.{sign_len, whole_len, exponent_len, is_numb
 use Rattle.dsv_fraction.specs.declared.fraction.TooWide.{TooWide}
 use Rattle.dsv_fraction.specs.declared.decimal.DecimalRefusal.{DecimalRefusal}
 use Rattle.dsv_fraction.specs.declared.decimal.DecimalRefusal.TheVariants as refusal
+
+-- the most digits that a decimal has before its exponent
+abbrev pub most_digits : ℕ
+most_digits = 18
+
+-- the greatest size of a decimal's exponent
+abbrev pub greatest_exponent : ℕ
+greatest_exponent = 30
 
 -- the digits behind the point
 abbrev pub behind_point : List ℕ → List ℕ
@@ -26,7 +34,7 @@ whole z = record { num = z; den = 1 }
 -- a whole number that doesn't pass 2^127
 pub record IsWhole (r : Ratio) : Type 0 where
   pub is : r.den ≡ 1
-  pub narrow : unsigned_abs r.num < 2 ^ 127
+  pub narrow : unsigned_abs r.num < part_limit
 
 abbrev pub ten_to : ℕ → Ratio
 ten_to k = record { num = pos (10 ^ k); den = 1 }
@@ -54,6 +62,6 @@ decimal_of text =
     let digits = front_digits body ++ behind in
     let exponent = exponent_of (drop (whole_len body) body) in
     if not (is_number text) then Err (refusal.NotDecimal (front_len text))
-    else if nat_lt 18 (length digits) then Err refusal.Digits
-    else if nat_lt 30 (unsigned_abs exponent) then Err refusal.Exponent
+    else if nat_lt most_digits (length digits) then Err refusal.Digits
+    else if nat_lt greatest_exponent (unsigned_abs exponent) then Err refusal.Exponent
     else or_too_wide (bounded (decimal_value (has_byte 45 text) (digits_value 0 digits) (exponent -ℤ pos (length behind))))

@@ -1,4 +1,4 @@
--- The fields of a `Frac` of a given value.
+-- For the model of a `Frac`: its fields of a given value.
 use Rattle.std.specs.Prelude.{◌≡◌, ℤ, pos, negsuc, ◌<ℤ◌, refl}
 use Rattle.std.proofs.Common.{ap}
 use Rattle.std.specs.Int.RustNames.{unsigned_abs}

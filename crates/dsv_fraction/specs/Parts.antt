@@ -1,8 +1,8 @@
--- Pairs of sizes that stand for a fraction.
-use Rattle.std.specs.Prelude.{◌≡◌, ℕ, ◌*◌, ◌^◌, ◌<◌, Bool, not}
+-- For private contracts: pairs of sizes that stand for a fraction.
+use Rattle.std.specs.Prelude.{◌≡◌, ℕ, ◌*◌, ◌<◌, Bool, not}
 use Rattle.std.specs.Int.{IsGcd, ◌∣◌}
 use mathlib.Core.Bool.{beq}
-use Rattle.dsv_fraction.specs.Ratio.{Ratio}
+use Rattle.dsv_fraction.specs.Ratio.{Ratio, part_limit}
 use Rattle.dsv_fraction.specs.Arithmetic.{signed, is_negative}
 
 -- n / d is a fraction in lowest terms
@@ -24,8 +24,8 @@ pub record ArePartsOf (r : Ratio) (negative : Bool) (n d : ℕ) : Type 0 where
   pub same_den : r.den ≡ d
   pub sign : negative ≡ is_negative r.num
   pub lowest : AreCoprime n d
-  pub narrow_num : n < 2 ^ 127
-  pub narrow_den : d < 2 ^ 127
+  pub narrow_num : n < part_limit
+  pub narrow_den : d < part_limit
 
 -- two truth values are not the same
 abbrev pub differ : Bool → Bool → Bool

@@ -3,6 +3,14 @@ use Rattle.std.specs.Prelude.{ℕ, ◌^◌, ◌<◌, ℤ, pos}
 use Rattle.std.specs.Int.RustNames.{unsigned_abs}
 use Rattle.std.specs.Int.{IsGcd}
 
+-- the least size that no part of a fraction may have
+abbrev pub part_limit : ℕ
+part_limit = 2 ^ 127
+
+-- the most coefficients of a list of them
+abbrev pub most_coefficients : ℕ
+most_coefficients = 9
+
 -- the number num / den
 pub record Ratio : Type 0 where
   pub num : ℤ
@@ -18,5 +26,5 @@ one = record { num = pos 1; den = 1 }
 pub record IsLowest (r : Ratio) : Type 0 where
   pub positive : 0 < r.den
   pub coprime : IsGcd (unsigned_abs r.num) r.den 1
-  pub narrow_num : unsigned_abs r.num < 2 ^ 127
-  pub narrow_den : r.den < 2 ^ 127
+  pub narrow_num : unsigned_abs r.num < part_limit
+  pub narrow_den : r.den < part_limit

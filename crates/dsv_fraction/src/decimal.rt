@@ -5,7 +5,8 @@ ghost use Rattle.std.specs.Prelude.{◌≡◌, ◌^◌, ◌<◌, ◌≤◌, ◌+
 ghost use Rattle.std.specs.Int.RustNames.{unsigned_abs};
 ghost use Rattle.dsv_fraction.specs.Arithmetic.{times, bounded};
 ghost use Rattle.dsv_text.specs.Digits.{digits_value, front_digits};
-ghost use Rattle.dsv_fraction.specs.Decimal.{behind_point, exponent_of, ten_to, tenth_to, power_of_ten, decimal_value, IsWhole};
+ghost use Rattle.dsv_fraction.specs.Ratio.{part_limit};
+ghost use Rattle.dsv_fraction.specs.Decimal.{most_digits, greatest_exponent, behind_point, exponent_of, ten_to, tenth_to, power_of_ten, decimal_value, IsWhole};
 
 use crate::fraction::{Frac, TooWide};
 use crate::number::{exponent_len, front_len, is_number, rest, sign_len, whole_len};
@@ -13,7 +14,7 @@ use dsv_text::{digits_len, digits_value, front_digits, has_byte};
 use thiserror::Error;
 
 /// The most digits that a decimal has before its exponent.
-const GREATEST_DIGITS: usize = 18;
+const MOST_DIGITS: usize = 18;
 
 /// The greatest size of a decimal's exponent.
 const GREATEST_EXPONENT: u32 = 30;
@@ -49,7 +50,7 @@ impl From<TooWide> for DecimalRefusal {
 /// The number that digits spell, where it is at most the greatest exponent.
 #[tactic(auto, using(dsv_text::proofs::DigitLemmas::value_grows))]
 fn small_value(digits: &[u8]) -> Option<u32>
-    ensures { let n = digits_value 0 digits.now in result ≡ (if nat_lt 30 n then None else Some n) }
+    ensures { let n = digits_value 0 digits.now in result ≡ (if nat_lt greatest_exponent n then None else Some n) }
 {
     let mut value = 0;
     for byte in digits {
@@ -75,9 +76,9 @@ fn behind_point(body: &[u8]) -> &[u8]
 
 /// The exponent that the text begins with, 0 where there is none.
 fn exponent_of(tail: &[u8]) -> Option<i32>
-    ensures small { IfSome result (λ e. unsigned_abs e ≤ 30) }
+    ensures small { IfSome result (λ e. unsigned_abs e ≤ greatest_exponent) }
     ensures value { let e = exponent_of tail.now in
-        result ≡ (if nat_lt 30 (unsigned_abs e) then None else Some e) }
+        result ≡ (if nat_lt greatest_exponent (unsigned_abs e) then None else Some e) }
 {
     if exponent_len(tail) == 0 {
         return Some(0);
@@ -111,8 +112,8 @@ fn over_ten_to(number: &Frac, count: u32) -> Result<Frac, TooWide>
 
 /// The power of ten by which the digits are multiplied.
 fn shift_of(exponent: i32, places: usize) -> i32
-    requires exponent { unsigned_abs exponent ≤ 30 }
-    requires places { places ≤ 18 }
+    requires exponent { unsigned_abs exponent ≤ greatest_exponent }
+    requires places { places ≤ most_digits }
     ensures { result ≡ exponent -ℤ pos places }
 {
     exponent - places as i32
@@ -133,17 +134,17 @@ fn scaled(number: &Frac, shift: i32) -> Result<Frac, TooWide>
 
 /// The number that the digits before and behind the point spell.
 fn digits_of(body: &[u8]) -> u64
-    requires { length (front_digits body.now ++ behind_point body.now) ≤ 18 }
+    requires { length (front_digits body.now ++ behind_point body.now) ≤ most_digits }
     ensures value { result ≡ digits_value 0 (front_digits body.now ++ behind_point body.now) }
-    ensures narrow { result < 2 ^ 127 }
+    ensures narrow { result < part_limit }
 {
     digits_value(digits_value(0, front_digits(body)), behind_point(body))
 }
 
 /// The value of a decimal whose digits and point stand at the front of `body`.
 fn value_of(negative: bool, body: &[u8], exponent: i32) -> Result<Frac, TooWide>
-    requires digits { length (front_digits body.now ++ behind_point body.now) ≤ 18 }
-    requires exponent { unsigned_abs exponent ≤ 30 }
+    requires digits { length (front_digits body.now ++ behind_point body.now) ≤ most_digits }
+    requires exponent { unsigned_abs exponent ≤ greatest_exponent }
     ensures { let digits = digits_value 0 (front_digits body.now ++ behind_point body.now) in
         let places = length (behind_point body.now) in
         result ≡ bounded (decimal_value negative digits (exponent -ℤ pos places)) }
@@ -168,106 +169,12 @@ impl Frac {
             });
         }
         let body = rest(text, sign_len(text));
-        if front_digits(body).len() + behind_point(body).len() > GREATEST_DIGITS {
+        if front_digits(body).len() + behind_point(body).len() > MOST_DIGITS {
             return Err(DecimalRefusal::Digits);
         }
         let Some(exponent) = exponent_of(rest(body, whole_len(body))) else {
             return Err(DecimalRefusal::Exponent);
         };
         Ok(value_of(has_byte(b'-', text), body, exponent)?)
-    }
-}
-
-#[cfg(test)]
-mod tests {
-    use super::*;
-
-    fn read(text: &str) -> Result<(i128, i128), DecimalRefusal> {
-        let value = Frac::of_decimal(text.as_bytes())?;
-        Ok(value.to_parts())
-    }
-
-    #[test]
-    fn decimals_have_their_value(rt: HostRuntime) {
-        for (text, num, den) in [
-            (".25f", 1, 4),
-            ("1.5e-1", 3, 20),
-            ("+1.0", 1, 1),
-            ("07L", 7, 1),
-            ("007", 7, 1),
-            (
-                "1e0000000000000000000030",
-                1000000000000000000000000000000,
-                1,
-            ),
-            ("-2.50E+1F", -25, 1),
-            ("1.", 1, 1),
-            ("1.e1l", 10, 1),
-            ("-.5", -1, 2),
-            ("-0.0", 0, 1),
-            ("123456789012345678", 123456789012345678, 1),
-            ("1e-30", 1, 1000000000000000000000000000000),
-            ("100000000000000000e-30", 1, 10000000000000),
-            ("576460752303423488e-23", 68719476736, 11920928955078125),
-            (
-                "170141183460469231e21",
-                170141183460469231000000000000000000000,
-                1,
-            ),
-            (
-                "0.00000000000000001e-21",
-                1,
-                100000000000000000000000000000000000000,
-            ),
-        ] {
-            assert_eq!(rt; read(text), Ok((num, den)), "{text}");
-        }
-    }
-
-    #[test]
-    fn other_texts_have_their_refusal(rt: HostRuntime) {
-        for (text, refusal) in [
-            ("0000000000000000001", DecimalRefusal::Digits),
-            ("12345678.12345678901", DecimalRefusal::Digits),
-            ("0000000000000000001e31", DecimalRefusal::Digits),
-            ("1e31", DecimalRefusal::Exponent),
-            ("1e-31", DecimalRefusal::Exponent),
-            ("1e99999999999999999999", DecimalRefusal::Exponent),
-            (
-                "1E-00000000000000000000000000000000031",
-                DecimalRefusal::Exponent,
-            ),
-            ("170141183460469232e21", DecimalRefusal::TooWide),
-            ("0.00000000000000001e-22", DecimalRefusal::TooWide),
-        ] {
-            assert_eq!(rt; read(text), Err(refusal), "{text}");
-        }
-    }
-
-    #[test]
-    fn texts_that_are_no_number_name_the_place(rt: HostRuntime) {
-        for (text, at) in [
-            ("1e", 2),
-            ("1e+", 3),
-            ("x.5", 0),
-            ("", 0),
-            (".", 1),
-            ("+", 1),
-            ("-.", 2),
-            ("1.5x", 3),
-            ("1e5.", 3),
-            ("1f0", 2),
-            ("..5", 1),
-            ("1.2.3", 3),
-            ("--1", 1),
-            ("1ef", 2),
-            ("00000000000000000000_", 20),
-        ] {
-            assert_eq!(rt;
-                read(text),
-                Err(DecimalRefusal::NotDecimal { at }),
-                "{text}"
-            );
-        }
     }
 }

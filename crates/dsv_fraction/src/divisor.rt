@@ -1,6 +1,7 @@
 // The greatest common divisor.
 ghost use Rattle.std.specs.Prelude.{◌≡◌, ◌<◌, ◌≤◌, ◌^◌, ◌/◌};
 ghost use Rattle.std.specs.Int.{IsGcd};
+ghost use Rattle.dsv_fraction.specs.Ratio.{part_limit};
 ghost use Rattle.dsv_fraction.specs.Gcd.{gcd};
 ghost use Rattle.dsv_fraction.specs.Arithmetic.{signed};
 ghost use Rattle.dsv_fraction.specs.Parts.{Cancels};
@@ -22,7 +23,7 @@ fn common_divisor(a: u128, b: u128) -> u128
 
 /// The number of that size, negative or not.
 pub(crate) fn with_sign(negative: bool, size: u128) -> i128
-    requires { size < 2 ^ 127 }
+    requires { size < part_limit }
     ensures { result ≡ signed negative size }
 {
     if negative {

@@ -8,7 +8,7 @@ use std::marker::Model;
 use thiserror::Error;
 
 /// The least size that no part of a fraction may have.
-pub(crate) const LIMIT: u128 = 1 << 127;
+pub(crate) const PART_LIMIT: u128 = 1 << 127;
 
 /// A part of the exact result has a size of 2^127 or more.
 #[derive(Clone, Copy, Debug, PartialEq, Eq, Error)]
@@ -22,8 +22,11 @@ pub struct Frac {
     den: i128,
 }
 
-/// Up to nine fractions.
-pub type FracList = ArrayVec<Frac, 9>;
+/// The most coefficients of a list of them.
+pub const MOST_COEFFICIENTS: usize = 9;
+
+/// Up to `MOST_COEFFICIENTS` fractions.
+pub type FracList = ArrayVec<Frac, MOST_COEFFICIENTS>;
 
 impl Model for Frac {
     ghost use Rattle.std.specs.Prelude.{pos, ◌<ℤ◌};
@@ -78,7 +81,7 @@ struct Parts {
 impl Frac {
     ghost use Rattle.std.specs.Prelude.{◌≡◌, ◌≢◌, ◌<◌, ◌^◌, ◌*◌, ℤ, pos, ◌*ℤ◌, ◌+ℤ◌, ◌-ℤ◌, neg_ℤ, IfOk};
     ghost use Rattle.std.specs.Int.RustNames.{unsigned_abs};
-    ghost use Rattle.dsv_fraction.specs.Ratio.{IsLowest};
+    ghost use Rattle.dsv_fraction.specs.Ratio.{IsLowest, part_limit};
     ghost use Rattle.dsv_fraction.specs.Arithmetic.{signed, lowest, over, times, quotient, negated, compared};
     ghost use Rattle.dsv_fraction.specs.Arithmetic.{bounded, sum_of, difference_of};
     ghost use Rattle.dsv_fraction.specs.Parts.{ArePartsOf, AreCoprime, differ};
@@ -190,7 +193,7 @@ impl Frac {
 
     /// The whole number of that size, negative or not.
     pub(crate) fn whole(negative: bool, size: u128) -> Frac
-        requires { size < 2 ^ 127 }
+        requires { size < part_limit }
         ensures { result ≡ record { num = signed negative size; den = 1 } }
     {
         Frac::of_sizes(negative, size, 1)
@@ -206,7 +209,7 @@ impl Frac {
     fn den_size(&self) -> u128
         ensures value { result ≡ self.now.den }
         ensures positive { 0 < result }
-        ensures narrow { result < 2 ^ 127 }
+        ensures narrow { result < part_limit }
     {
         self.den.unsigned_abs()
     }
@@ -252,8 +255,8 @@ impl Frac {
     /// The fraction of these parts in lowest terms.
     fn in_lowest_terms(num: i128, den: u128) -> Frac
         requires positive { 0 < den }
-        requires narrow_num { unsigned_abs num < 2 ^ 127 }
-        requires narrow_den { den < 2 ^ 127 }
+        requires narrow_num { unsigned_abs num < part_limit }
+        requires narrow_den { den < part_limit }
         ensures { result ≡ lowest num den }
     {
         let parts = cancel(num.unsigned_abs(), den);
@@ -265,7 +268,7 @@ impl Frac {
         requires { AreCoprime num den }
         ensures { result ≡ bounded (record { num = signed negative num; den = den }) }
     {
-        if num >= LIMIT || den >= LIMIT {
+        if num >= PART_LIMIT || den >= PART_LIMIT {
             return Err(TooWide);
         }
         Ok(Frac::of_sizes(negative, num, den))
@@ -274,8 +277,8 @@ impl Frac {
     /// The same of sizes that are known to be below 2^127.
     fn of_sizes(negative: bool, num: u128, den: u128) -> Frac
         requires coprime { AreCoprime num den }
-        requires narrow_num { num < 2 ^ 127 }
-        requires narrow_den { den < 2 ^ 127 }
+        requires narrow_num { num < part_limit }
+        requires narrow_den { den < part_limit }
         ensures { result ≡ record { num = signed negative num; den = den } }
     {
         Frac {
@@ -284,6 +287,3 @@ impl Frac {
         }
     }
 }
-
-#[cfg(test)]
-mod tests;

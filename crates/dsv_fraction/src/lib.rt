@@ -10,5 +10,5 @@ pub mod number;
 mod wholes;
 
 pub use decimal::DecimalRefusal;
-pub use fraction::{Frac, FracList, TooWide};
+pub use fraction::{Frac, FracList, MOST_COEFFICIENTS, TooWide};
 pub use law::longest_number_is_taken;

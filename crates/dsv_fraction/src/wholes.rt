@@ -3,16 +3,17 @@
 
 ghost use Rattle.std.specs.Prelude.{◌≡◌, ◌*ℤ◌, ◌+ℤ◌, ◌*◌, ◌<◌, ◌^◌, IfOk};
 ghost use Rattle.std.specs.Int.RustNames.{unsigned_abs};
+ghost use Rattle.dsv_fraction.specs.Ratio.{part_limit};
 ghost use Rattle.dsv_fraction.specs.Arithmetic.{bounded_whole, bounded_size};
 
-use crate::fraction::{LIMIT, TooWide};
+use crate::fraction::{PART_LIMIT, TooWide};
 
 /// The number itself, unless it is the one of size 2^127.
 fn tested(number: i128) -> Result<i128, TooWide>
     ensures value { result ≡ bounded_whole number }
-    ensures narrow { IfOk result (λ z. unsigned_abs z < 2 ^ 127) }
+    ensures narrow { IfOk result (λ z. unsigned_abs z < part_limit) }
 {
-    if number.unsigned_abs() < LIMIT {
+    if number.unsigned_abs() < PART_LIMIT {
         Ok(number)
     } else {
         Err(TooWide)
@@ -21,7 +22,7 @@ fn tested(number: i128) -> Result<i128, TooWide>
 
 pub(crate) fn product(a: i128, b: i128) -> Result<i128, TooWide>
     ensures value { result ≡ bounded_whole (a *ℤ b) }
-    ensures narrow { IfOk result (λ z. unsigned_abs z < 2 ^ 127) }
+    ensures narrow { IfOk result (λ z. unsigned_abs z < part_limit) }
 {
     match a.checked_mul(b) {
         Some(number) => tested(number),
@@ -31,7 +32,7 @@ pub(crate) fn product(a: i128, b: i128) -> Result<i128, TooWide>
 
 pub(crate) fn sum(a: i128, b: i128) -> Result<i128, TooWide>
     ensures value { result ≡ bounded_whole (a +ℤ b) }
-    ensures narrow { IfOk result (λ z. unsigned_abs z < 2 ^ 127) }
+    ensures narrow { IfOk result (λ z. unsigned_abs z < part_limit) }
 {
     match a.checked_add(b) {
         Some(number) => tested(number),
@@ -42,11 +43,11 @@ pub(crate) fn sum(a: i128, b: i128) -> Result<i128, TooWide>
 #[tactic(auto, using(crate::proofs::Gcds::positive_product))]
 pub(crate) fn size_product(a: u128, b: u128) -> Result<u128, TooWide>
     ensures value { result ≡ bounded_size (a * b) }
-    ensures narrow { IfOk result (λ n. n < 2 ^ 127) }
+    ensures narrow { IfOk result (λ n. n < part_limit) }
     ensures positive { 0 < a → 0 < b → IfOk result (λ n. 0 < n) }
 {
     match a.checked_mul(b) {
-        Some(size) if size < LIMIT => Ok(size),
+        Some(size) if size < PART_LIMIT => Ok(size),
         _ => Err(TooWide),
     }
 }

@@ -7,15 +7,16 @@ use Rattle.dsv_forms.specs.declared.offers.Falls.{Falls}
 use Rattle.dsv_forms.specs.declared.offers.KeptAway.{KeptAway}
 use Rattle.dsv_forms.specs.declared.offers.FormOffer.{FormOffer}
 use Rattle.dsv_forms.specs.declared.offers.FormOffer.TheVariants as offered
+use Rattle.dsv_forms.specs.Poly.{greatest_order}
 use Rattle.dsv_forms.specs.Refusals.{falls_refusal, kept_away_refusal}
 
 -- eight entries: these, and then 0
 abbrev pub row_of : List ℤ → List ℤ
-row_of xs = take 8 (xs ++ replicate 8 (pos 0))
+row_of xs = take greatest_order (xs ++ replicate greatest_order (pos 0))
 
 -- eight rows of eight entries: these, and 0 elsewhere
 abbrev pub matrix_with : List (List ℤ) → List (List ℤ)
-matrix_with rows = take 8 (map row_of rows ++ replicate 8 (row_of []))
+matrix_with rows = take greatest_order (map row_of rows ++ replicate greatest_order (row_of []))
 
 -- the form with these rows
 abbrev pub form_with : List (List ℤ) → Form

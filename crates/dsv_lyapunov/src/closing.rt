@@ -1,8 +1,9 @@
 // The closed form of a polynomial: a form that shows whether its trajectories fall, in terms of its coefficients.
-ghost use Rattle.std.specs.Prelude.{◌≡◌, ◌≤◌, ◌*◌, ◌-◌, ◌^◌, nat_lt, if◌then◌else◌, [], ◌∷◌, length, pos, negsuc};
+ghost use Rattle.std.specs.Prelude.{◌≡◌, ◌≤◌, ◌*◌, ◌-◌, nat_lt, if◌then◌else◌, [], ◌∷◌, length, pos, negsuc};
+ghost use Rattle.dsv_forms.specs.Poly.{greatest_coefficient};
 ghost use Rattle.dsv_lyapunov.specs.ClosedForm.{row_of, matrix_with, form_with, squares_with, without_place, form_that_falls, form_that_never_rises, closed_form_of, IsAccepted};
 
-use dsv_forms::{Falls, Form, FormOffer, KeptAway, Poly, Squares};
+use dsv_forms::{Falls, Form, FormOffer, GREATEST_ORDER, KeptAway, Poly, Squares};
 
 /// The offer that the closed form of the polynomial gives. It takes no memory.
 pub fn closed_form(poly: &Poly) -> FormOffer
@@ -24,14 +25,14 @@ fn offer_without_place() -> Falls
     let none = Squares {
         m: 1,
         count: 0,
-        weights: [0; 8],
-        rows: [[0; 8]; 8],
-        rest: [[0; 8]; 8],
+        weights: [0; GREATEST_ORDER],
+        rows: [[0; GREATEST_ORDER]; GREATEST_ORDER],
+        rest: [[0; GREATEST_ORDER]; GREATEST_ORDER],
     };
     Falls {
         form: Form {
             d: 0,
-            rows: [[0; 8]; 8],
+            rows: [[0; GREATEST_ORDER]; GREATEST_ORDER],
         },
         positive: none,
         fall: none,
@@ -40,8 +41,8 @@ fn offer_without_place() -> Falls
 
 /// The offer for a polynomial of order 1 with coefficients of these sizes.
 fn first_order(size_0: u64, size_1: u64) -> FormOffer
-    requires small_0 { size_0 ≤ 2 ^ 44 }
-    requires small_1 { size_1 ≤ 2 ^ 44 }
+    requires small_0 { size_0 ≤ greatest_coefficient }
+    requires small_1 { size_1 ≤ greatest_coefficient }
     ensures { result ≡ (if nat_lt size_1 size_0
         then FormOffer.Falls (form_that_falls (pos (size_0 * size_0 - size_1 * size_1)))
         else FormOffer.KeptAway (form_that_never_rises (pos (size_1 * size_1 - size_0 * size_0)))) }
@@ -55,7 +56,7 @@ fn first_order(size_0: u64, size_1: u64) -> FormOffer
 
 fn difference_of_squares(a: u64, b: u64) -> i128
     requires apart { b ≤ a }
-    requires small { a ≤ 2 ^ 44 }
+    requires small { a ≤ greatest_coefficient }
     ensures { result ≡ pos (a * a - b * b) }
 {
     let (a, b) = (u128::from(a), u128::from(b));
@@ -80,7 +81,7 @@ fn form_that_falls(loss: i128) -> Falls
 fn form_that_never_rises(loss: i128) -> KeptAway
     ensures { result ≡ form_that_never_rises loss }
 {
-    let mut start = [0; 8];
+    let mut start = [0; GREATEST_ORDER];
     start[0] = 1;
     KeptAway {
         form: Form {
@@ -91,8 +92,8 @@ fn form_that_never_rises(loss: i128) -> KeptAway
         fall: Squares {
             m: 1,
             count: 0,
-            weights: [0; 8],
-            rows: [[0; 8]; 8],
+            weights: [0; GREATEST_ORDER],
+            rows: [[0; GREATEST_ORDER]; GREATEST_ORDER],
             rest: first_entry(loss),
         },
     }
@@ -102,22 +103,22 @@ fn form_that_never_rises(loss: i128) -> KeptAway
 fn one_square(weight: i128) -> Squares
     ensures { result ≡ squares_with (pos 1) (weight ∷ []) ((pos 1 ∷ []) ∷ []) [] }
 {
-    let mut weights = [0; 8];
+    let mut weights = [0; GREATEST_ORDER];
     weights[0] = weight;
     Squares {
         m: 1,
         count: 1,
         weights,
         rows: first_entry(1),
-        rest: [[0; 8]; 8],
+        rest: [[0; GREATEST_ORDER]; GREATEST_ORDER],
     }
 }
 
 /// The matrix with this entry in its first place and 0 elsewhere.
-fn first_entry(entry: i128) -> [[i128; 8]; 8]
+fn first_entry(entry: i128) -> [[i128; GREATEST_ORDER]; GREATEST_ORDER]
     ensures { result ≡ matrix_with ((entry ∷ []) ∷ []) }
 {
-    let mut rows = [[0; 8]; 8];
+    let mut rows = [[0; GREATEST_ORDER]; GREATEST_ORDER];
     rows[0][0] = entry;
     rows
 }

@@ -6,7 +6,7 @@ ghost use Rattle.dsv_forms.specs.Poly.{IsPoly};
 ghost use Rattle.dsv_lyapunov.specs.Reduced.{IsOdd, IsReduced};
 
 use arrayvec::ArrayVec;
-use dsv_forms::Poly;
+use dsv_forms::{MOST_COEFFICIENTS, Poly};
 
 /// The polynomial of these words, with the greatest power of two that divides all of them taken out. It takes no
 /// memory.
@@ -38,7 +38,7 @@ fn halved(poly: &Poly) -> Option<Poly>
     ensures even { IfSome result (λ halves. poly.now ≡ map (λ z. pos 2 *ℤ z) halves) }
     ensures odd { IfNone result (Any IsOdd poly.now) }
 {
-    let mut halves: ArrayVec<i64, 9> = ArrayVec::new();
+    let mut halves: ArrayVec<i64, MOST_COEFFICIENTS> = ArrayVec::new();
     let coefficients = poly.coefficients();
     'each: for z in coefficients {
         halves.push(half(*z)?);

@@ -1,10 +1,13 @@
 // Worked polynomials, and offers that are refused.
 use crate::{FormAnswer, decide, reduced};
-use dsv_forms::{Form, FormRefusal, KeptAway, Part, Poly, Squares, check_kept_away};
-use std::test::Fail;
+use dsv_forms::{
+    Form, FormRefusal, GREATEST_ORDER, KeptAway, Part, Poly, Squares, check_kept_away,
+};
 
-fn matrix(entry: i128) -> [[i128; 8]; 8] {
-    let mut rows = [[0; 8]; 8];
+type Matrix = [[i128; GREATEST_ORDER]; GREATEST_ORDER];
+
+fn matrix(entry: i128) -> Matrix {
+    let mut rows = [[0; GREATEST_ORDER]; GREATEST_ORDER];
     rows[0][0] = entry;
     rows
 }
@@ -16,82 +19,160 @@ fn form(entry: i128) -> Form {
     }
 }
 
-/// A form of one place with a start, and a rest without squares.
-fn offer(entry: i128, first: i64, rest: i128) -> KeptAway {
-    let mut start = [0; 8];
-    start[0] = first;
+struct Reduction {
+    words: [i64; 3],
+    wanted: [i64; 3],
+}
+
+const REDUCTIONS: [Reduction; 3] = [
+    Reduction {
+        words: [8, -4, 2],
+        wanted: [4, -2, 1],
+    },
+    Reduction {
+        words: [16_384, -8_192, 0],
+        wanted: [2, -1, 0],
+    },
+    Reduction {
+        words: [3, 6, 12],
+        wanted: [3, 6, 12],
+    },
+];
+
+fn is_reduced(row: &Reduction) -> bool {
+    match Poly::new(&row.words) {
+        Ok(_) => reduced(&row.words).coefficients() == row.wanted.as_slice(),
+        Err(_) => false,
+    }
+}
+
+#[test]
+fn worked_polynomials_are_reduced(rt: HostRuntime) {
+    for row in &REDUCTIONS {
+        assert!(rt; is_reduced(row));
+    }
+}
+
+/// The entries of the form that falls and of its fall form.
+fn falls_by(c: &[i64; 2]) -> Option<(Form, Form)> {
+    let Ok(poly) = Poly::new(c) else {
+        return None;
+    };
+    match decide(&poly) {
+        FormAnswer::Falls { offer, fall } => Some((offer.form, fall)),
+        FormAnswer::KeptAway { .. } => None,
+    }
+}
+
+#[test]
+fn a_polynomial_falls(rt: HostRuntime) {
+    assert!(rt; falls_by(&[2, -1]) == Some((form(1), form(3))));
+}
+
+/// Whether the polynomial's form -1 is kept away from 1 on and loses this in a step.
+fn is_kept_away(c: &[i64; 2], loss: i128) -> bool {
+    let Ok(poly) = Poly::new(c) else {
+        return false;
+    };
+    match decide(&poly) {
+        FormAnswer::Falls { .. } => false,
+        FormAnswer::KeptAway { offer, fall, value } => {
+            offer.form == form(-1) && offer.start[0] == 1 && fall == form(loss) && value == -1
+        }
+    }
+}
+
+#[test]
+fn polynomials_are_kept_away(rt: HostRuntime) {
+    assert!(rt; is_kept_away(&[1, -1], 0) && is_kept_away(&[1, -2], 3));
+}
+
+/// An offer for a polynomial: a form of one place with a start, and a rest without squares; and why it is refused.
+struct Offered {
+    c: [i64; 2],
+    entry: i128,
+    start: i64,
+    rest: i128,
+    refusal: FormRefusal,
+}
+
+// The form 1 loses -3 in a step of 1 -2, and 3 in one of 2 -1; the form -2^100 loses nothing in one of 1 -1.
+const OFFERED: [Offered; 5] = [
+    Offered {
+        c: [1, -2],
+        entry: -1,
+        start: 0,
+        rest: 3,
+        refusal: FormRefusal::StartNotNegative { value: 0 },
+    },
+    Offered {
+        c: [1, -2],
+        entry: 1,
+        start: 1,
+        rest: 3,
+        refusal: FormRefusal::Identity {
+            part: Part::Fall,
+            i: 0,
+            j: 0,
+        },
+    },
+    Offered {
+        c: [1, -2],
+        entry: 1,
+        start: 1,
+        rest: -3,
+        refusal: FormRefusal::Dominance {
+            part: Part::Fall,
+            i: 0,
+        },
+    },
+    Offered {
+        c: [2, -1],
+        entry: 1,
+        start: 1,
+        rest: 3,
+        refusal: FormRefusal::StartNotNegative { value: 1 },
+    },
+    Offered {
+        c: [1, -1],
+        entry: -1 << 100,
+        start: 1 << 20,
+        rest: 0,
+        refusal: FormRefusal::Wide {
+            part: Part::Start,
+            i: 0,
+            j: 0,
+        },
+    },
+];
+
+fn offer(row: &Offered) -> KeptAway {
+    let mut start = [0; GREATEST_ORDER];
+    start[0] = row.start;
     let fall = Squares {
         m: 1,
         count: 0,
-        weights: [0; 8],
-        rows: [[0; 8]; 8],
-        rest: matrix(rest),
+        weights: [0; GREATEST_ORDER],
+        rows: matrix(0),
+        rest: matrix(row.rest),
     };
     KeptAway {
-        form: form(entry),
+        form: form(row.entry),
         start,
         fall,
     }
 }
 
-#[test]
-fn worked_polynomials_are_reduced_and_decided(rt: HostRuntime) -> Result<(), Fail> {
-    let words = [16_384, -8_192];
-    let _poly = Poly::new(&words)?;
-    let stable = reduced(&words);
-    assert_eq!(rt; stable.coefficients(), [2, -1].as_slice());
-    let words = [8, -4, 2];
-    let _poly = Poly::new(&words)?;
-    assert_eq!(rt; reduced(&words).coefficients(), [4, -2, 1].as_slice());
-
-    match decide(&stable) {
-        FormAnswer::Falls { offer, fall } => {
-            assert_eq!(rt; offer.form, form(1));
-            assert_eq!(rt; fall, form(3));
-        }
-        FormAnswer::KeptAway { .. } => assert!(rt; false, "2 -1 falls"),
+fn is_refused(row: &Offered) -> bool {
+    match Poly::new(&row.c) {
+        Ok(poly) => check_kept_away(&poly, &offer(row)).err() == Some(row.refusal),
+        Err(_) => false,
     }
-    match decide(&Poly::new(&[1, -1])?) {
-        FormAnswer::Falls { .. } => assert!(rt; false, "1 -1 falls weakly only"),
-        FormAnswer::KeptAway { offer, fall, value } => {
-            assert_eq!(rt; offer.form, form(-1));
-            assert_eq!(rt; offer.start, [1, 0, 0, 0, 0, 0, 0, 0]);
-            assert_eq!(rt; fall, form(0));
-            assert_eq!(rt; value, -1);
-        }
-    }
-    match decide(&Poly::new(&[1])?) {
-        FormAnswer::Falls { offer, fall } => assert_eq!(rt; (offer.form.d, fall.d), (0, 0)),
-        FormAnswer::KeptAway { .. } => assert!(rt; false, "order 0 has no state"),
-    }
-    Ok(())
 }
 
 #[test]
-fn offers_that_are_kept_away_are_refused_by_their_first_fault(rt: HostRuntime) -> Result<(), Fail> {
-    let part = Part::Fall;
-    let wide = FormRefusal::Wide {
-        part: Part::Start,
-        i: 0,
-        j: 0,
-    };
-    // The form 1 loses -3 in a step of 1 -2, and 3 in one of 2 -1; the form -2^100 loses nothing in one of 1 -1.
-    for (c, entry, start, rest, refusal) in [
-        (
-            [1, -2],
-            -1,
-            0,
-            3,
-            FormRefusal::StartNotNegative { value: 0 },
-        ),
-        ([1, -2], 1, 1, 3, FormRefusal::Identity { part, i: 0, j: 0 }),
-        ([1, -2], 1, 1, -3, FormRefusal::Dominance { part, i: 0 }),
-        ([2, -1], 1, 1, 3, FormRefusal::StartNotNegative { value: 1 }),
-        ([1, -1], -1 << 100, 1 << 20, 0, wide),
-    ] {
-        let poly = Poly::new(&c)?;
-        let found = check_kept_away(&poly, &offer(entry, start, rest));
-        assert_eq!(rt; found.err(), Some(refusal), "at {c:?} and {entry}");
+fn offers_are_refused_by_their_first_fault(rt: HostRuntime) {
+    for row in &OFFERED {
+        assert!(rt; is_refused(row));
     }
-    Ok(())
 }

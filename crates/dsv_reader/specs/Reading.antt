@@ -4,7 +4,7 @@ use Rattle.std.specs.Ordering.{int_eq}
 use Rattle.dsv_fraction.specs.Ratio.{Ratio, zero, one}
 use Rattle.dsv_fraction.specs.Arithmetic.{quotient, bounded}
 use Rattle.dsv_fraction.specs.declared.fraction.TooWide.{TooWide}
-use Rattle.dsv_word.specs.declared.format.TheConstants.{GREATEST_WIDTH}
+use Rattle.dsv_word.specs.Width.{widest_word}
 use Rattle.dsv_token.specs.Lexing.{tokens_of}
 use Rattle.dsv_token.specs.Text.{text_of}
 use Rattle.dsv_token.specs.declared.refusal.FileRefusal.{FileRefusal}
@@ -88,7 +88,7 @@ divided a0 cs = divided_from a0 cs []
 
 -- at least one bit before the point, and 2 to the greatest width in all
 abbrev pub is_lawful : ℕ → ℕ → Bool
-is_lawful int_bits frac_bits = nat_le 1 int_bits && nat_le 2 (int_bits + frac_bits) && nat_le (int_bits + frac_bits) GREATEST_WIDTH
+is_lawful int_bits frac_bits = nat_le 1 int_bits && nat_le 2 (int_bits + frac_bits) && nat_le (int_bits + frac_bits) widest_word
 
 abbrev pub lawful : Whole → Whole → Result (Unit {0}) FileRefusal
 lawful int_bits frac_bits = if is_lawful int_bits.value frac_bits.value then Ok tt else Err (refusal.Width int_bits.at)

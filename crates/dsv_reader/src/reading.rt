@@ -11,7 +11,7 @@ use crate::fields::values_of;
 use crate::numbers::Whole;
 use dsv_syntax::parse;
 use dsv_token::{FileRefusal, check_text, lex};
-use dsv_word::GREATEST_WIDTH;
+use dsv_word::WIDEST_WORD;
 use std::alloc::Global;
 
 /// The controller that a file's bytes spell; or the file's first fault, pass by pass over the whole file: its text, its
@@ -41,7 +41,7 @@ fn read_passes(alloc: Global, bytes: &[u8]) -> Result<Controller, FileRefusal>
 fn lawful(int_bits: Whole, frac_bits: Whole) -> Result<(), FileRefusal>
     ensures { result ≡ lawful int_bits frac_bits }
 {
-    let greatest = u64::from(GREATEST_WIDTH);
+    let greatest = u64::from(WIDEST_WORD);
     match int_bits.value.checked_add(frac_bits.value) {
         Some(bits) if int_bits.value >= 1 && bits >= 2 && bits <= greatest => Ok(()),
         _ => Err(FileRefusal::Width {

@@ -10,15 +10,15 @@ use dsv_names::{OverflowMode, Rounding};
 use thiserror::Error;
 
 /// The most bits that a word has.
-pub const GREATEST_WIDTH: u32 = 32;
+pub const WIDEST_WORD: u32 = 32;
 
 /// The widths aren't lawful.
 #[derive(Clone, Copy, Debug, PartialEq, Eq, Error)]
-#[error("a word has at least one bit before the point, and 2 to {GREATEST_WIDTH} bits in all")]
+#[error("a word has at least one bit before the point, and 2 to {WIDEST_WORD} bits in all")]
 pub struct BadWidth;
 
 /// The format of words in two's complement: `int_bits` bits before the point, the sign among them, and `frac_bits`
-/// behind it, together 2 to `GREATEST_WIDTH`. The word `w` stands for `w / 2^frac_bits`.
+/// behind it, together 2 to `WIDEST_WORD`. The word `w` stands for `w / 2^frac_bits`.
 #[derive(Clone, Copy, Debug, PartialEq, Eq)]
 pub struct Format {
     pub int_bits: u32,
@@ -32,10 +32,10 @@ impl Format {
     ghost use Rattle.std.specs.Prelude.{◌≡◌, ◌≤◌, ◌<◌, ◌^◌, ◌↔◌, IsOk, IfOk, IsTrue, ◌≤ℤ◌, ◌*ℤ◌, pos};
     ghost use Rattle.std.specs.Int.RustNames.{unsigned_abs};
     ghost use Rattle.dsv_fraction.specs.Arithmetic.{times, bounded};
-    ghost use Rattle.dsv_word.specs.declared.format.TheConstants.{GREATEST_WIDTH};
-    ghost use Rattle.dsv_word.specs.Width.{IsLawful};
+    ghost use Rattle.dsv_word.specs.Width.{IsLawful, widest_word};
     ghost use Rattle.dsv_word.specs.Words.{width, lo, hi, fit, IsFitted};
     ghost use Rattle.dsv_algebra.specs.Floor.{IsFloor, floored};
+    ghost use Rattle.dsv_algebra.specs.Narrow.{narrow_limit};
     ghost use Rattle.dsv_word.specs.Quotients.{ceiled, shifted, rounded, word_of};
     ghost use Rattle.dsv_word.specs.Quotients.{IsCeiling, IsShifted, IsRounded};
 
@@ -51,7 +51,7 @@ impl Format {
         ensures modes { IfOk result (λ f. (f.rounding ≡ rounding) × (f.overflow ≡ overflow)) }
     {
         match int_bits.checked_add(frac_bits) {
-            Some(bits) if int_bits >= 1 && bits >= 2 && bits <= GREATEST_WIDTH => Ok(Format {
+            Some(bits) if int_bits >= 1 && bits >= 2 && bits <= WIDEST_WORD => Ok(Format {
                 int_bits,
                 frac_bits,
                 rounding,
@@ -65,7 +65,7 @@ impl Format {
     pub fn width(&self) -> u32
         ensures value { result ≡ width self.now }
         ensures least { 2 ≤ result }
-        ensures greatest { result ≤ GREATEST_WIDTH }
+        ensures greatest { result ≤ widest_word }
     {
         self.int_bits + self.frac_bits
     }
@@ -104,7 +104,7 @@ impl Format {
 
     /// `v / 2^frac_bits` made whole.
     pub fn round_shift(&self, v: i128) -> i128
-        requires { unsigned_abs v < 2 ^ 126 }
+        requires { unsigned_abs v < narrow_limit }
         ensures value { result ≡ shifted self.now.rounding self.now.frac_bits v }
         ensures meaning { IsShifted self.now.rounding self.now.frac_bits v result }
     {
@@ -148,6 +148,3 @@ impl Format {
         q.mul(&Frac::from(power(self.frac_bits)))
     }
 }
-
-#[cfg(test)]
-mod tests;

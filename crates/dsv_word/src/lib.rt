@@ -6,4 +6,4 @@ mod format;
 mod whole;
 mod word;
 
-pub use format::{BadWidth, Format, GREATEST_WIDTH};
+pub use format::{BadWidth, Format, WIDEST_WORD};

@@ -3,19 +3,20 @@
 
 ghost use Rattle.std.specs.Prelude.{◌≡◌, ◌≤◌, ◌<◌, ◌*◌, ◌^◌, pos, ◌+ℤ◌, ◌*ℤ◌};
 ghost use Rattle.dsv_algebra.specs.Floor.{floored};
+ghost use Rattle.dsv_algebra.specs.Narrow.{narrow_limit};
 ghost use Rattle.dsv_word.specs.Quotients.{ceiled, shifted};
 ghost use Rattle.std.specs.Int.RustNames.{unsigned_abs};
-ghost use Rattle.dsv_word.specs.declared.format.TheConstants.{GREATEST_WIDTH};
+ghost use Rattle.dsv_word.specs.Width.{widest_word};
 
-use crate::format::GREATEST_WIDTH;
+use crate::format::WIDEST_WORD;
 use crate::word::power;
 use dsv_fraction::Frac;
 use dsv_names::Rounding;
 
 /// `v / 2^bits` made whole.
 pub(crate) fn shift(v: i128, bits: u32, rounding: Rounding) -> i128
-    requires size { unsigned_abs v < 2 ^ 126 }
-    requires bits { bits ≤ GREATEST_WIDTH }
+    requires size { unsigned_abs v < narrow_limit }
+    requires bits { bits ≤ widest_word }
     ensures { result ≡ shifted rounding bits v }
 {
     let size = i128::from(power(bits));

@@ -2,17 +2,17 @@
 #![tactic(auto, using(dsv_algebra::proofs::Casts::casts))]
 
 ghost use Rattle.std.specs.Prelude.{◌≡◌, ◌≤◌, ◌^◌, ◌≤ℤ◌, if◌then◌else◌, int_lt, pos};
-ghost use Rattle.dsv_word.specs.declared.format.TheConstants.{GREATEST_WIDTH};
+ghost use Rattle.dsv_word.specs.Width.{widest_word};
 ghost use Rattle.dsv_word.specs.Words.{wrapped};
 
-use crate::format::GREATEST_WIDTH;
+use crate::format::WIDEST_WORD;
 
 /// Two to that power.
 #[tactic(auto, using(crate::proofs::Powers::power_small))]
 pub(crate) fn power(bits: u32) -> i64
-    requires { bits ≤ GREATEST_WIDTH }
+    requires { bits ≤ widest_word }
     ensures value { result ≡ pos (2 ^ bits) }
-    ensures small { result ≤ℤ pos (2 ^ GREATEST_WIDTH) }
+    ensures small { result ≤ℤ pos (2 ^ widest_word) }
 {
     1i64 << bits
 }
@@ -20,7 +20,7 @@ pub(crate) fn power(bits: u32) -> i64
 /// The word of that many bits that differs from `v` by a multiple of two to their number.
 pub(crate) fn wrap(v: i128, bits: u32) -> i64
     requires least { 1 ≤ bits }
-    requires greatest { bits ≤ GREATEST_WIDTH }
+    requires greatest { bits ≤ widest_word }
     ensures { result ≡ wrapped bits v }
 {
     let size = power(bits);

@@ -13,8 +13,8 @@ returns-in_err-number c =
     let moved = heavier (unsigned_abs c.args.common) c.args.fractions.now c.loop-fraction.fraction-index c.fraction-item.result c.loop-fraction.weight _ (search rules) c.fraction-item.is c.loop-fraction.invariant.heavy in
     rw c.from_residual.ensures (omega (arith, large, heavy _ _ _ _ moved))
 
-pub returns-then-weight-ge-LIMIT : goal.returns-then-weight-ge-LIMIT
-returns-then-weight-ge-LIMIT c =
+pub returns-then-weight-ge-WEIGHT_LIMIT : goal.returns-then-weight-ge-WEIGHT_LIMIT
+returns-then-weight-ge-WEIGHT_LIMIT c =
     let n : ℤ = c.fraction-item.result.num *ℤ pos (unsigned_abs c.args.common / c.fraction-item.result.den) in
     let fits : SFits w128 c.get.result = search rules in
     let is = narrowed_only n c.in_ok-number.number (sym c.in_ok-number.was ∙ c.numerator.ensures) in

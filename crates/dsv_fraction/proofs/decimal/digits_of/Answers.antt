@@ -2,7 +2,8 @@ use Rattle.std.proofs.Common.{sym, arith}
 use Rattle.dsv_text.specs.Digits.{digits_value, front_digits}
 use Rattle.dsv_fraction.specs.Decimal.{behind_point}
 use Rattle.dsv_text.proofs.DigitLemmas.{value_grows}
-use Rattle.dsv_fraction.proofs.Digits.{value_append, all_below}
+use Rattle.dsv_text.proofs.DigitLemmas.{value_append}
+use Rattle.dsv_fraction.proofs.Digits.{all_below}
 use Rattle.dsv_fraction.proofs.decimal.digits_of.Goals as goal
 
 pub digits_value-requires : goal.digits_value-requires

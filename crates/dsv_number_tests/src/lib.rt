@@ -1,0 +1,14 @@
+//! Tests of the crates of numbers, by their public calls: digits and classes of bytes, fractions, decimals, words and
+//! coefficients in the delta operator.
+#![tactic(auto)]
+
+#[cfg(test)]
+mod decimals;
+#[cfg(test)]
+mod deltas;
+#[cfg(test)]
+mod fractions;
+#[cfg(test)]
+mod texts;
+#[cfg(test)]
+mod words;
