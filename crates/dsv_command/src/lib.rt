@@ -12,3 +12,6 @@ mod shape;
 pub use inputs::{Inputs, MOST_INPUTS};
 pub use job::{Design, Job, Task, read_job};
 pub use law::{jobs_are_read, parts_are_read};
+pub use options::CommandOption;
+pub use parts::{Part, PartKey};
+pub use reading::read_parts;

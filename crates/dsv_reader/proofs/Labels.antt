@@ -11,25 +11,26 @@ use Rattle.dsv_syntax.specs.declared.entry.Label.{Label}
 use Rattle.dsv_syntax.specs.declared.entry.Label.TheVariants as label
 use Rattle.dsv_syntax.specs.declared.entry.Entry.{Entry}
 use Rattle.dsv_text.specs.Stages.{◌>>=◌}
-use Rattle.dsv_reader.specs.declared.numbers.Whole.{Whole}
+use Rattle.dsv_reader.specs.declared.numbers.SpelledNumber.{SpelledNumber}
 use Rattle.dsv_reader.specs.declared.numbers.Coefficient.{Coefficient}
 use Rattle.dsv_reader.specs.declared.fields.SystemFields.{SystemFields}
 use Rattle.dsv_reader.specs.declared.fields.ImplementationFields.{ImplementationFields}
 use Rattle.dsv_reader.specs.declared.fields.HardwareFields.{HardwareFields}
 use Rattle.dsv_reader.specs.declared.fields.Values.{Values}
-use Rattle.dsv_reader.specs.Numbers.{only_of, whole_at, decimal_at, time_at}
+use Rattle.dsv_reader.specs.Limits.{greatest_clock, greatest_cost}
+use Rattle.dsv_reader.specs.Numbers.{only_of, whole_number_at, decimal_at, time_at}
 use Rattle.dsv_reader.specs.Fields.{setting_value, with_setting, once, entry_read}
-use Rattle.dsv_reader.specs.Values.{list_in, whole_in, bounded_in, time_in, decimal_in}
+use Rattle.dsv_reader.specs.Values.{list_in, whole_number_in, bounded_in, time_in, decimal_in}
 
 -- what a field's value is
 abbrev pub Value : Label → Type 0
 Value (label.Field field.B) = List Coefficient
 Value (label.Field field.A) = List Coefficient
-Value (label.Field field.BSize) = Whole
-Value (label.Field field.ASize) = Whole
+Value (label.Field field.BSize) = SpelledNumber
+Value (label.Field field.ASize) = SpelledNumber
 Value (label.Field field.SampleTime) = Ratio
-Value (label.Field field.IntBits) = Whole
-Value (label.Field field.FracBits) = Whole
+Value (label.Field field.IntBits) = SpelledNumber
+Value (label.Field field.FracBits) = SpelledNumber
 Value (label.Field field.Max) = Ratio
 Value (label.Field field.Min) = Ratio
 Value (label.Field field.Delta) = Ratio
@@ -40,16 +41,16 @@ Value label.Passed = Unit {0}
 abbrev pub read : (l : Label) → List ℕ → Entry → Result (Value l) FileRefusal
 read (label.Field field.B) bytes e = list_in bytes e
 read (label.Field field.A) bytes e = list_in bytes e
-read (label.Field field.BSize) bytes e = whole_in bytes e
-read (label.Field field.ASize) bytes e = whole_in bytes e
+read (label.Field field.BSize) bytes e = whole_number_in bytes e
+read (label.Field field.ASize) bytes e = whole_number_in bytes e
 read (label.Field field.SampleTime) bytes e = time_in bytes e
-read (label.Field field.IntBits) bytes e = whole_in bytes e
-read (label.Field field.FracBits) bytes e = whole_in bytes e
+read (label.Field field.IntBits) bytes e = whole_number_in bytes e
+read (label.Field field.FracBits) bytes e = whole_number_in bytes e
 read (label.Field field.Max) bytes e = decimal_in bytes e
 read (label.Field field.Min) bytes e = decimal_in bytes e
 read (label.Field field.Delta) bytes e = decimal_in bytes e
-read (label.Setting setting.Clock) bytes e = bounded_in 1 1000000000000 bytes e
-read (label.Setting s) bytes e = bounded_in 0 10000 bytes e
+read (label.Setting setting.Clock) bytes e = bounded_in 1 greatest_clock bytes e
+read (label.Setting s) bytes e = bounded_in 0 greatest_cost bytes e
 read label.Passed bytes e = Ok tt
 
 -- the value that a field of the first two blocks has
@@ -242,7 +243,7 @@ get_other (label.Setting setting.CostMoves) m x v h = refl
 get_other label.Passed m x v h = refl
 
 -- ---- an entry that is read
--- one step behind another
+-- one step after another
 bind1 : {A B C : Type 0} (r : Result A FileRefusal) (f : A → B) (g : B → Result C FileRefusal) →
     ((r >>= λ x. Ok (f x)) >>= g) ≡ (r >>= λ x. g (f x))
 bind1 (Ok x) f g = refl
@@ -263,33 +264,33 @@ abbrev pub read_at : (l : Label) → List ℕ → Entry → Values → Result Va
 read_at l bytes e v = once (is_some (get l v)) e.dot (read l bytes e >>= λ x. Ok (set l x v))
 
 -- the values, once the fields of one block are read
-abbrev behind_system : Values → SystemFields → Result Values FileRefusal
-behind_system v s = Ok (record v { system = s })
+abbrev after_system : Values → SystemFields → Result Values FileRefusal
+after_system v s = Ok (record v { system = s })
 
-abbrev behind_implementation : Values → ImplementationFields → Result Values FileRefusal
-behind_implementation v i = Ok (record v { implementation = i })
+abbrev after_implementation : Values → ImplementationFields → Result Values FileRefusal
+after_implementation v i = Ok (record v { implementation = i })
 
-abbrev behind_hardware : Values → HardwareFields → Result Values FileRefusal
-behind_hardware v h = Ok (record v { hardware = h })
+abbrev after_hardware : Values → HardwareFields → Result Values FileRefusal
+after_hardware v h = Ok (record v { hardware = h })
 
 pub entry_law : (l : Label) (bytes : List ℕ) (e : Entry) (v : Values) → is_read l ≡ true → entry_read l bytes e v ≡ read_at l bytes e v
-entry_law (label.Field field.B) bytes e v h = ap (once (is_some v.system.b) e.dot) (bind1 (list_in bytes e) (λ x. record v.system { b = Some x }) (behind_system v))
-entry_law (label.Field field.A) bytes e v h = ap (once (is_some v.system.a) e.dot) (bind1 (list_in bytes e) (λ x. record v.system { a = Some x }) (behind_system v))
-entry_law (label.Field field.BSize) bytes e v h = ap (once (is_some v.system.b_size) e.dot) (bind2 (only_of e.place e.numbers) (whole_at bytes) (λ x. record v.system { b_size = Some x }) (behind_system v))
-entry_law (label.Field field.ASize) bytes e v h = ap (once (is_some v.system.a_size) e.dot) (bind2 (only_of e.place e.numbers) (whole_at bytes) (λ x. record v.system { a_size = Some x }) (behind_system v))
-entry_law (label.Field field.SampleTime) bytes e v h = ap (once (is_some v.system.sample_time) e.dot) (bind2 (only_of e.place e.numbers) (time_at bytes) (λ x. record v.system { sample_time = Some x }) (behind_system v))
-entry_law (label.Field field.IntBits) bytes e v h = ap (once (is_some v.implementation.int_bits) e.dot) (bind2 (only_of e.place e.numbers) (whole_at bytes) (λ x. record v.implementation { int_bits = Some x }) (behind_implementation v))
-entry_law (label.Field field.FracBits) bytes e v h = ap (once (is_some v.implementation.frac_bits) e.dot) (bind2 (only_of e.place e.numbers) (whole_at bytes) (λ x. record v.implementation { frac_bits = Some x }) (behind_implementation v))
-entry_law (label.Field field.Max) bytes e v h = ap (once (is_some v.implementation.max) e.dot) (bind3 (only_of e.place e.numbers) (decimal_at bytes) (λ c. c.value) (λ x. record v.implementation { max = Some x }) (behind_implementation v))
-entry_law (label.Field field.Min) bytes e v h = ap (once (is_some v.implementation.min) e.dot) (bind3 (only_of e.place e.numbers) (decimal_at bytes) (λ c. c.value) (λ x. record v.implementation { min = Some x }) (behind_implementation v))
-entry_law (label.Field field.Delta) bytes e v h = ap (once (is_some v.implementation.delta) e.dot) (bind3 (only_of e.place e.numbers) (decimal_at bytes) (λ c. c.value) (λ x. record v.implementation { delta = Some x }) (behind_implementation v))
-entry_law (label.Setting setting.Clock) bytes e v h = ap (once (is_some v.hardware.clock) e.dot) (bind1 (setting_value setting.Clock bytes e) (λ n. with_setting setting.Clock n v.hardware) (behind_hardware v))
-entry_law (label.Setting setting.CostSample) bytes e v h = ap (once (is_some v.hardware.sample) e.dot) (bind1 (setting_value setting.CostSample bytes e) (λ n. with_setting setting.CostSample n v.hardware) (behind_hardware v))
-entry_law (label.Setting setting.CostMul) bytes e v h = ap (once (is_some v.hardware.mul) e.dot) (bind1 (setting_value setting.CostMul bytes e) (λ n. with_setting setting.CostMul n v.hardware) (behind_hardware v))
-entry_law (label.Setting setting.CostAdd) bytes e v h = ap (once (is_some v.hardware.add) e.dot) (bind1 (setting_value setting.CostAdd bytes e) (λ n. with_setting setting.CostAdd n v.hardware) (behind_hardware v))
-entry_law (label.Setting setting.CostRound) bytes e v h = ap (once (is_some v.hardware.round) e.dot) (bind1 (setting_value setting.CostRound bytes e) (λ n. with_setting setting.CostRound n v.hardware) (behind_hardware v))
-entry_law (label.Setting setting.CostFit) bytes e v h = ap (once (is_some v.hardware.fit) e.dot) (bind1 (setting_value setting.CostFit bytes e) (λ n. with_setting setting.CostFit n v.hardware) (behind_hardware v))
-entry_law (label.Setting setting.CostMoves) bytes e v h = ap (once (is_some v.hardware.moves) e.dot) (bind1 (setting_value setting.CostMoves bytes e) (λ n. with_setting setting.CostMoves n v.hardware) (behind_hardware v))
+entry_law (label.Field field.B) bytes e v h = ap (once (is_some v.system.b) e.dot) (bind1 (list_in bytes e) (λ x. record v.system { b = Some x }) (after_system v))
+entry_law (label.Field field.A) bytes e v h = ap (once (is_some v.system.a) e.dot) (bind1 (list_in bytes e) (λ x. record v.system { a = Some x }) (after_system v))
+entry_law (label.Field field.BSize) bytes e v h = ap (once (is_some v.system.b_size) e.dot) (bind2 (only_of e.place e.numbers) (whole_number_at bytes) (λ x. record v.system { b_size = Some x }) (after_system v))
+entry_law (label.Field field.ASize) bytes e v h = ap (once (is_some v.system.a_size) e.dot) (bind2 (only_of e.place e.numbers) (whole_number_at bytes) (λ x. record v.system { a_size = Some x }) (after_system v))
+entry_law (label.Field field.SampleTime) bytes e v h = ap (once (is_some v.system.sample_time) e.dot) (bind2 (only_of e.place e.numbers) (time_at bytes) (λ x. record v.system { sample_time = Some x }) (after_system v))
+entry_law (label.Field field.IntBits) bytes e v h = ap (once (is_some v.implementation.int_bits) e.dot) (bind2 (only_of e.place e.numbers) (whole_number_at bytes) (λ x. record v.implementation { int_bits = Some x }) (after_implementation v))
+entry_law (label.Field field.FracBits) bytes e v h = ap (once (is_some v.implementation.frac_bits) e.dot) (bind2 (only_of e.place e.numbers) (whole_number_at bytes) (λ x. record v.implementation { frac_bits = Some x }) (after_implementation v))
+entry_law (label.Field field.Max) bytes e v h = ap (once (is_some v.implementation.max) e.dot) (bind3 (only_of e.place e.numbers) (decimal_at bytes) (λ c. c.value) (λ x. record v.implementation { max = Some x }) (after_implementation v))
+entry_law (label.Field field.Min) bytes e v h = ap (once (is_some v.implementation.min) e.dot) (bind3 (only_of e.place e.numbers) (decimal_at bytes) (λ c. c.value) (λ x. record v.implementation { min = Some x }) (after_implementation v))
+entry_law (label.Field field.Delta) bytes e v h = ap (once (is_some v.implementation.delta) e.dot) (bind3 (only_of e.place e.numbers) (decimal_at bytes) (λ c. c.value) (λ x. record v.implementation { delta = Some x }) (after_implementation v))
+entry_law (label.Setting setting.Clock) bytes e v h = ap (once (is_some v.hardware.clock) e.dot) (bind1 (setting_value setting.Clock bytes e) (λ n. with_setting setting.Clock n v.hardware) (after_hardware v))
+entry_law (label.Setting setting.CostSample) bytes e v h = ap (once (is_some v.hardware.sample) e.dot) (bind1 (setting_value setting.CostSample bytes e) (λ n. with_setting setting.CostSample n v.hardware) (after_hardware v))
+entry_law (label.Setting setting.CostMul) bytes e v h = ap (once (is_some v.hardware.mul) e.dot) (bind1 (setting_value setting.CostMul bytes e) (λ n. with_setting setting.CostMul n v.hardware) (after_hardware v))
+entry_law (label.Setting setting.CostAdd) bytes e v h = ap (once (is_some v.hardware.add) e.dot) (bind1 (setting_value setting.CostAdd bytes e) (λ n. with_setting setting.CostAdd n v.hardware) (after_hardware v))
+entry_law (label.Setting setting.CostRound) bytes e v h = ap (once (is_some v.hardware.round) e.dot) (bind1 (setting_value setting.CostRound bytes e) (λ n. with_setting setting.CostRound n v.hardware) (after_hardware v))
+entry_law (label.Setting setting.CostFit) bytes e v h = ap (once (is_some v.hardware.fit) e.dot) (bind1 (setting_value setting.CostFit bytes e) (λ n. with_setting setting.CostFit n v.hardware) (after_hardware v))
+entry_law (label.Setting setting.CostMoves) bytes e v h = ap (once (is_some v.hardware.moves) e.dot) (bind1 (setting_value setting.CostMoves bytes e) (λ n. with_setting setting.CostMoves n v.hardware) (after_hardware v))
 entry_law label.Passed bytes e v h = false_true h
 
 -- the values of these fields

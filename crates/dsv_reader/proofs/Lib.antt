@@ -3,4 +3,3 @@ pub mod Labels
 pub mod Padding
 pub mod TextLaws
 pub mod ValueLaws
-pub mod Wholes

@@ -1,4 +1,4 @@
--- Lists with zeros behind them.
+-- Lists with zeros after them.
 use Rattle.std.proofs.Common.{◌≡◌, ℕ, suc, ◌-◌, ◌<◌, List, [], ◌∷◌, ◌++◌, length, sym, ap, ◌∙◌, arith, append_assoc, length-append}
 use Rattle.std.specs.Prelude.{replicate}
 use Rattle.dsv_fraction.specs.Ratio.{Ratio, zero}

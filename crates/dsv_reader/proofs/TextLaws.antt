@@ -3,7 +3,7 @@ use Rattle.std.proofs.Common.{◌≡◌, ℕ, List, length, refl, ap, ◌∙◌,
 use Rattle.std.specs.Prelude.{Result, Ok, Err, IfOk, ◌⊎◌}
 use Rattle.dsv_token.specs.Memory.{Gives}
 use Rattle.dsv_token.specs.Lexing.{tokens_of}
-use Rattle.dsv_token.specs.Text.{text_of}
+use Rattle.dsv_token.specs.Text.{utf8_test}
 use Rattle.dsv_token.specs.declared.refusal.FileRefusal.{FileRefusal}
 use Rattle.dsv_token.specs.declared.token.Token.{Token}
 use Rattle.dsv_token.proofs.CutLaws.{cut_law}
@@ -20,7 +20,7 @@ use Rattle.dsv_reader.specs.Reading.{blocks_of, design_of, reading}
 use Rattle.dsv_reader.specs.Texts.{IsTextOf, IsFaultOf}
 use Rattle.dsv_reader.proofs.ValueLaws.{values_taken, values_read}
 
--- what the passes behind a pass say
+-- what the passes after a pass say
 abbrev from_values : Syntax → Values → Result ControllerView FileRefusal
 from_values x v = blocks_of x v >>= λ b. design_of b
 
@@ -36,7 +36,7 @@ from_text bytes u = tokens_of bytes >>= λ ts. from_tokens bytes ts
 -- what is read is a text
 pub text_taken : (bytes : List ℕ) (c : ControllerView) → reading bytes ≡ Ok c → IsTextOf bytes c
 text_taken bytes c e =
-    let t = unbind (text_of bytes) (from_text bytes) c e in
+    let t = unbind (utf8_test bytes) (from_text bytes) c e in
     let l = unbind (tokens_of bytes) (from_tokens bytes) c t.second in
     let p = unbind (parsed (length bytes) l.value) (from_syntax bytes) c l.second in
     let v = unbind (values_of bytes p.value.entries) (from_values p.value) c p.second in

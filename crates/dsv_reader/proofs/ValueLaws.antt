@@ -35,7 +35,7 @@ free_read : (bytes : List ℕ) (ts : List Token) → NoOctal bytes ts → passed
 free_read bytes [] h = refl
 free_read bytes (t ∷ ts) h = octal_passed (is_octal (text_at bytes t)) t (passed_over bytes ts) h.0 (free_read bytes ts h.1)
 
--- ---- a field's value behind some fields, from what it was before them
+-- ---- a field's value after some fields, from what it was before them
 abbrev ValueFrom : {A : Type 0} → Label → (Entry → Result A FileRefusal) → List Entry → Option A → Option A → Type 0
 ValueFrom l reads es None v = IsValueOf l reads es v
 ValueFrom l reads es (Some x) v = (v ≡ Some x) × IsAbsent l es
@@ -57,14 +57,14 @@ skip l reads e es None None d h = (d, h)
 skip l reads e es None (Some y) d h = (h.0, inr (d, h.1), h.2)
 skip l reads e es (Some x) v d h = (h.0, (d, h.1))
 
-only_behind : (l : Label) (f e : Entry) (es : List Entry) → e.label ≢ l → IsOnly l f (e ∷ es) → IsOnly l f es
-only_behind l f e es d (inl h) = absurd (d h.1)
-only_behind l f e es d (inr h) = h.1
+only_after : (l : Label) (f e : Entry) (es : List Entry) → e.label ≢ l → IsOnly l f (e ∷ es) → IsOnly l f es
+only_after l f e es d (inl h) = absurd (d h.1)
+only_after l f e es d (inr h) = h.1
 
 unskip : {A : Type 0} (l : Label) (reads : Entry → Result A FileRefusal) (e : Entry) (es : List Entry) (o v : Option A) →
     e.label ≢ l → ValueFrom l reads (e ∷ es) o v → ValueFrom l reads es o v
 unskip l reads e es None None d h = h.1
-unskip l reads e es None (Some y) d h = (h.0, only_behind l h.0 e es d h.1, h.2)
+unskip l reads e es None (Some y) d h = (h.0, only_after l h.0 e es d h.1, h.2)
 unskip l reads e es (Some x) v d h = (h.0, h.1.1)
 
 -- what a field that wasn't there takes
@@ -94,7 +94,7 @@ untake l reads e es None None s h = absurd (h.0 s)
 untake l reads e es None (Some y) s h = taken_only l reads e h.0 es y s h.1 h.2
 untake l reads e es (Some x) v s h = absurd (h.1.0 s)
 
--- ---- all fields behind some, from what they were before them
+-- ---- all fields after some, from what they were before them
 pub record AreFrom (bytes : List ℕ) (es : List Entry) (w v : Values) : Type 0 where
   pub fields : (l : Label) → is_read l ≡ true → ValueFrom l (read l bytes) es (get l w) (get l v)
   pub passed : PassedOver bytes es

@@ -14,7 +14,8 @@ use Rattle.dsv_reader.specs.declared.fields.SystemFields.{SystemFields}
 use Rattle.dsv_reader.specs.declared.fields.ImplementationFields.{ImplementationFields}
 use Rattle.dsv_reader.specs.declared.fields.HardwareFields.{HardwareFields}
 use Rattle.dsv_reader.specs.declared.fields.Values.{Values}
-use Rattle.dsv_reader.specs.Numbers.{only_of, whole_at, bounded_at, decimal_at, time_at, coefficients_of, passed_over}
+use Rattle.dsv_reader.specs.Limits.{greatest_clock, greatest_cost}
+use Rattle.dsv_reader.specs.Numbers.{only_of, whole_number_at, bounded_at, decimal_at, time_at, coefficients_of, passed_over}
 
 abbrev pub no_values : Values
 no_values = record {
@@ -49,14 +50,14 @@ has_setting setting.CostMoves v = is_some v.hardware.moves
 abbrev pub system_field : Field → List ℕ → Entry → SystemFields → Result SystemFields FileRefusal
 system_field field.B bytes e s = coefficients_of bytes e.place e.numbers >>= λ xs. Ok (record s { b = Some xs })
 system_field field.A bytes e s = coefficients_of bytes e.place e.numbers >>= λ xs. Ok (record s { a = Some xs })
-system_field field.BSize bytes e s = only_of e.place e.numbers >>= λ t. whole_at bytes t >>= λ w. Ok (record s { b_size = Some w })
-system_field field.ASize bytes e s = only_of e.place e.numbers >>= λ t. whole_at bytes t >>= λ w. Ok (record s { a_size = Some w })
+system_field field.BSize bytes e s = only_of e.place e.numbers >>= λ t. whole_number_at bytes t >>= λ w. Ok (record s { b_size = Some w })
+system_field field.ASize bytes e s = only_of e.place e.numbers >>= λ t. whole_number_at bytes t >>= λ w. Ok (record s { a_size = Some w })
 system_field field.SampleTime bytes e s = only_of e.place e.numbers >>= λ t. time_at bytes t >>= λ q. Ok (record s { sample_time = Some q })
 system_field f bytes e s = Ok s
 
 abbrev pub implementation_field : Field → List ℕ → Entry → ImplementationFields → Result ImplementationFields FileRefusal
-implementation_field field.IntBits bytes e i = only_of e.place e.numbers >>= λ t. whole_at bytes t >>= λ w. Ok (record i { int_bits = Some w })
-implementation_field field.FracBits bytes e i = only_of e.place e.numbers >>= λ t. whole_at bytes t >>= λ w. Ok (record i { frac_bits = Some w })
+implementation_field field.IntBits bytes e i = only_of e.place e.numbers >>= λ t. whole_number_at bytes t >>= λ w. Ok (record i { int_bits = Some w })
+implementation_field field.FracBits bytes e i = only_of e.place e.numbers >>= λ t. whole_number_at bytes t >>= λ w. Ok (record i { frac_bits = Some w })
 implementation_field field.Max bytes e i = only_of e.place e.numbers >>= λ t. decimal_at bytes t >>= λ c. Ok (record i { max = Some c.value })
 implementation_field field.Min bytes e i = only_of e.place e.numbers >>= λ t. decimal_at bytes t >>= λ c. Ok (record i { min = Some c.value })
 implementation_field field.Delta bytes e i = only_of e.place e.numbers >>= λ t. decimal_at bytes t >>= λ c. Ok (record i { delta = Some c.value })
@@ -68,8 +69,8 @@ is_cost s = true
 
 -- a clock is 1 to 10^12, a cost 0 to 10000
 abbrev pub setting_value : Setting → List ℕ → Entry → Result ℕ FileRefusal
-setting_value setting.Clock bytes e = only_of e.place e.numbers >>= λ t. bounded_at 1 1000000000000 bytes t
-setting_value s bytes e = only_of e.place e.numbers >>= λ t. bounded_at 0 10000 bytes t
+setting_value setting.Clock bytes e = only_of e.place e.numbers >>= λ t. bounded_at 1 greatest_clock bytes t
+setting_value s bytes e = only_of e.place e.numbers >>= λ t. bounded_at 0 greatest_cost bytes t
 
 abbrev pub with_setting : Setting → ℕ → HardwareFields → HardwareFields
 with_setting setting.Clock n h = record h { clock = Some n }
@@ -100,7 +101,7 @@ entry_read (label.Field f) bytes e v = field_read f bytes e v
 entry_read (label.Setting s) bytes e v = setting_read s bytes e v
 entry_read label.Passed bytes e v = passed_over bytes e.numbers >>= λ u. Ok v
 
--- the values of all fields, behind those that were read, or the first fault
+-- the values of all fields, after those that were read, or the first fault
 abbrev pub values_from : List ℕ → List Entry → Values → Result Values FileRefusal
 values_from bytes [] v = Ok v
 values_from bytes (e ∷ es) v = entry_read e.label bytes e v >>= λ w. values_from bytes es w

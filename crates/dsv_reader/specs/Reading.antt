@@ -6,7 +6,7 @@ use Rattle.dsv_fraction.specs.Arithmetic.{quotient, bounded}
 use Rattle.dsv_fraction.specs.declared.fraction.TooWide.{TooWide}
 use Rattle.dsv_word.specs.Width.{widest_word}
 use Rattle.dsv_token.specs.Lexing.{tokens_of}
-use Rattle.dsv_token.specs.Text.{text_of}
+use Rattle.dsv_token.specs.Text.{utf8_test}
 use Rattle.dsv_token.specs.declared.refusal.FileRefusal.{FileRefusal}
 use Rattle.dsv_token.specs.declared.refusal.FileRefusal.TheVariants as refusal
 use Rattle.dsv_names.specs.declared.field.Field.{Field}
@@ -15,7 +15,7 @@ use Rattle.dsv_text.specs.Stages.{◌>>=◌}
 use Rattle.dsv_syntax.specs.Parsing.{parsed}
 use Rattle.dsv_syntax.specs.declared.parsing.Syntax.{Syntax}
 use Rattle.dsv_reader.specs.declared.costs.Costs.{Costs}
-use Rattle.dsv_reader.specs.declared.numbers.Whole.{Whole}
+use Rattle.dsv_reader.specs.declared.numbers.SpelledNumber.{SpelledNumber}
 use Rattle.dsv_reader.specs.declared.numbers.Coefficient.{Coefficient}
 use Rattle.dsv_reader.specs.declared.fields.SystemFields.{SystemFields}
 use Rattle.dsv_reader.specs.declared.fields.ImplementationFields.{ImplementationFields}
@@ -61,7 +61,7 @@ blocks_of x v = blocks_in_order (nat_lt x.system x.implementation) x v
 
 -- ---- tests over the whole
 -- a size is its list's length
-abbrev pub sized : Whole → List Coefficient → Result (Unit {0}) FileRefusal
+abbrev pub sized : SpelledNumber → List Coefficient → Result (Unit {0}) FileRefusal
 sized w xs = if w.value == length xs then Ok tt else Err (refusal.SizeMismatch w.at)
 
 -- the leading coefficient, which isn't 0; a list has one at least
@@ -78,7 +78,7 @@ abbrev pub by_quotient : ℕ → Result Ratio TooWide → Result Ratio FileRefus
 by_quotient at (Ok q) = Ok q
 by_quotient at (Err e) = Err (refusal.FractionWide at)
 
--- the coefficients divided by the leading one, behind those that are
+-- the coefficients divided by the leading one, after those that are
 abbrev pub divided_from : Ratio → List Coefficient → List Ratio → Result (List Ratio) FileRefusal
 divided_from a0 [] out = Ok out
 divided_from a0 (c ∷ cs) out = by_quotient c.at (bounded (quotient c.value a0)) >>= λ q. divided_from a0 cs (out ++ q ∷ [])
@@ -90,10 +90,10 @@ divided a0 cs = divided_from a0 cs []
 abbrev pub is_lawful : ℕ → ℕ → Bool
 is_lawful int_bits frac_bits = nat_le 1 int_bits && nat_le 2 (int_bits + frac_bits) && nat_le (int_bits + frac_bits) widest_word
 
-abbrev pub lawful : Whole → Whole → Result (Unit {0}) FileRefusal
+abbrev pub lawful : SpelledNumber → SpelledNumber → Result (Unit {0}) FileRefusal
 lawful int_bits frac_bits = if is_lawful int_bits.value frac_bits.value then Ok tt else Err (refusal.Width int_bits.at)
 
--- zeros behind a list up to so many entries
+-- zeros after a list up to so many entries
 abbrev pub padded : ℕ → List Ratio → List Ratio
 padded n xs = xs ++ replicate (n - length xs) zero
 
@@ -136,7 +136,7 @@ design_of x =
 -- what the bytes of a file say, or the first refusal
 abbrev pub reading : List ℕ → Result ControllerView FileRefusal
 reading bytes =
-    text_of bytes >>= λ u.
+    utf8_test bytes >>= λ u.
     tokens_of bytes >>= λ ts.
     parsed (length bytes) ts >>= λ x.
     values_of bytes x.entries >>= λ v.

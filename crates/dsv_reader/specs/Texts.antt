@@ -2,7 +2,7 @@
 -- grammar; where no field that is read stands twice, with the values of these fields.
 use Rattle.std.specs.Prelude.{◌≡◌, ℕ, List, true, Ok, Err}
 use Rattle.dsv_token.specs.Pieces.{IsCut}
-use Rattle.dsv_token.specs.Text.{text_of}
+use Rattle.dsv_token.specs.Text.{utf8_test}
 use Rattle.dsv_token.specs.declared.refusal.FileRefusal.{FileRefusal}
 use Rattle.dsv_token.specs.declared.token.Token.{Token}
 use Rattle.dsv_syntax.specs.Grammar.{IsFile}
@@ -16,7 +16,7 @@ use Rattle.dsv_reader.specs.Reading.{blocks_of, design_of, reading}
 -- The bytes are the text of this controller.
 pub record IsTextOf (bytes : List ℕ) (c : ControllerView) : Type 0 where
   -- they are UTF-8
-  pub text : text_of bytes ≡ Ok tt
+  pub text : utf8_test bytes ≡ Ok tt
   -- without gaps they are these tokens
   pub tokens : List Token
   pub cut : IsCut true 0 bytes tokens

@@ -9,18 +9,19 @@ use Rattle.dsv_syntax.specs.declared.entry.Label.{Label}
 use Rattle.dsv_syntax.specs.declared.entry.Label.TheVariants as label
 use Rattle.dsv_syntax.specs.declared.entry.Entry.{Entry}
 use Rattle.dsv_text.specs.Stages.{◌>>=◌}
-use Rattle.dsv_reader.specs.declared.numbers.Whole.{Whole}
+use Rattle.dsv_reader.specs.declared.numbers.SpelledNumber.{SpelledNumber}
 use Rattle.dsv_reader.specs.declared.numbers.Coefficient.{Coefficient}
 use Rattle.dsv_reader.specs.declared.fields.Values.{Values}
-use Rattle.dsv_reader.specs.Numbers.{text_at, is_octal, only_of, whole_at, bounded_at, decimal_at, time_at, coefficients_of}
+use Rattle.dsv_reader.specs.Limits.{greatest_clock, greatest_cost}
+use Rattle.dsv_reader.specs.Numbers.{text_at, is_octal, only_of, whole_number_at, bounded_at, decimal_at, time_at, coefficients_of}
 
 -- ---- kinds of values
 -- one to nine decimals
 abbrev pub list_in : List ℕ → Entry → Result (List Coefficient) FileRefusal
 list_in bytes e = coefficients_of bytes e.place e.numbers
 
-abbrev pub whole_in : List ℕ → Entry → Result Whole FileRefusal
-whole_in bytes e = only_of e.place e.numbers >>= λ t. whole_at bytes t
+abbrev pub whole_number_in : List ℕ → Entry → Result SpelledNumber FileRefusal
+whole_number_in bytes e = only_of e.place e.numbers >>= λ t. whole_number_at bytes t
 
 abbrev pub bounded_in : ℕ → ℕ → List ℕ → Entry → Result ℕ FileRefusal
 bounded_in least greatest bytes e = only_of e.place e.numbers >>= λ t. bounded_at least greatest bytes t
@@ -62,19 +63,19 @@ PassedOver bytes (e ∷ es) = (e.label ≡ label.Passed → NoOctal bytes e.numb
 pub record AreValuesOf (bytes : List ℕ) (es : List Entry) (v : Values) : Type 0 where
   pub b : IsValueOf (label.Field field.B) (list_in bytes) es v.system.b
   pub a : IsValueOf (label.Field field.A) (list_in bytes) es v.system.a
-  pub b_size : IsValueOf (label.Field field.BSize) (whole_in bytes) es v.system.b_size
-  pub a_size : IsValueOf (label.Field field.ASize) (whole_in bytes) es v.system.a_size
+  pub b_size : IsValueOf (label.Field field.BSize) (whole_number_in bytes) es v.system.b_size
+  pub a_size : IsValueOf (label.Field field.ASize) (whole_number_in bytes) es v.system.a_size
   pub sample_time : IsValueOf (label.Field field.SampleTime) (time_in bytes) es v.system.sample_time
-  pub int_bits : IsValueOf (label.Field field.IntBits) (whole_in bytes) es v.implementation.int_bits
-  pub frac_bits : IsValueOf (label.Field field.FracBits) (whole_in bytes) es v.implementation.frac_bits
+  pub int_bits : IsValueOf (label.Field field.IntBits) (whole_number_in bytes) es v.implementation.int_bits
+  pub frac_bits : IsValueOf (label.Field field.FracBits) (whole_number_in bytes) es v.implementation.frac_bits
   pub max : IsValueOf (label.Field field.Max) (decimal_in bytes) es v.implementation.max
   pub min : IsValueOf (label.Field field.Min) (decimal_in bytes) es v.implementation.min
   pub delta : IsValueOf (label.Field field.Delta) (decimal_in bytes) es v.implementation.delta
-  pub clock : IsValueOf (label.Setting setting.Clock) (bounded_in 1 1000000000000 bytes) es v.hardware.clock
-  pub cost_sample : IsValueOf (label.Setting setting.CostSample) (bounded_in 0 10000 bytes) es v.hardware.sample
-  pub cost_mul : IsValueOf (label.Setting setting.CostMul) (bounded_in 0 10000 bytes) es v.hardware.mul
-  pub cost_add : IsValueOf (label.Setting setting.CostAdd) (bounded_in 0 10000 bytes) es v.hardware.add
-  pub cost_round : IsValueOf (label.Setting setting.CostRound) (bounded_in 0 10000 bytes) es v.hardware.round
-  pub cost_fit : IsValueOf (label.Setting setting.CostFit) (bounded_in 0 10000 bytes) es v.hardware.fit
-  pub cost_moves : IsValueOf (label.Setting setting.CostMoves) (bounded_in 0 10000 bytes) es v.hardware.moves
+  pub clock : IsValueOf (label.Setting setting.Clock) (bounded_in 1 greatest_clock bytes) es v.hardware.clock
+  pub cost_sample : IsValueOf (label.Setting setting.CostSample) (bounded_in 0 greatest_cost bytes) es v.hardware.sample
+  pub cost_mul : IsValueOf (label.Setting setting.CostMul) (bounded_in 0 greatest_cost bytes) es v.hardware.mul
+  pub cost_add : IsValueOf (label.Setting setting.CostAdd) (bounded_in 0 greatest_cost bytes) es v.hardware.add
+  pub cost_round : IsValueOf (label.Setting setting.CostRound) (bounded_in 0 greatest_cost bytes) es v.hardware.round
+  pub cost_fit : IsValueOf (label.Setting setting.CostFit) (bounded_in 0 greatest_cost bytes) es v.hardware.fit
+  pub cost_moves : IsValueOf (label.Setting setting.CostMoves) (bounded_in 0 greatest_cost bytes) es v.hardware.moves
   pub passed : PassedOver bytes es

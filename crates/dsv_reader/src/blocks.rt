@@ -4,7 +4,7 @@ ghost use Rattle.dsv_reader.specs.Reading.{wanted, system_of, implementation_of,
 
 use crate::fields::{HardwareFields, ImplementationFields, SystemFields, Values};
 use crate::lists::Coefficients;
-use crate::numbers::Whole;
+use crate::numbers::SpelledNumber;
 use crate::settings::SampleTime;
 use dsv_fraction::Frac;
 use dsv_names::Field;
@@ -16,16 +16,16 @@ use dsv_token::FileRefusal;
 pub(crate) struct System {
     pub(crate) b: Coefficients,
     pub(crate) a: Coefficients,
-    pub(crate) b_size: Whole,
-    pub(crate) a_size: Whole,
+    pub(crate) b_size: SpelledNumber,
+    pub(crate) a_size: SpelledNumber,
     pub(crate) sample_time: Option<SampleTime>,
 }
 
 /// The block `implementation`.
 #[derive(Drop)]
 pub(crate) struct Implementation {
-    pub(crate) int_bits: Whole,
-    pub(crate) frac_bits: Whole,
+    pub(crate) int_bits: SpelledNumber,
+    pub(crate) frac_bits: SpelledNumber,
     pub(crate) max: Frac,
     pub(crate) min: Frac,
     pub(crate) delta: Option<Frac>,

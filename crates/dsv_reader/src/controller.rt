@@ -67,12 +67,13 @@ impl Controller {
     ghost use Rattle.std.specs.Prelude.{◌≡◌, ◌≤◌, length, slice_index_or, true};
     ghost use Rattle.dsv_fraction.specs.Ratio.{zero, one};
     ghost use Rattle.dsv_reader.specs.Controllers.{IsController};
+    ghost use Rattle.dsv_reader.specs.Limits.{most_coefficients};
     ghost use Rattle.dsv_reader.specs.Reading.{design_with, is_lawful};
 
     /// The controller of these blocks, for both lists divided by the leading coefficient.
     pub(crate) fn assemble(blocks: &Blocks, b: FracList, a: FracList) -> Controller
-        requires b_few { length b.items ≤ 9 }
-        requires a_few { length a.items ≤ 9 }
+        requires b_few { length b.items ≤ most_coefficients }
+        requires a_few { length a.items ≤ most_coefficients }
         requires some { 1 ≤ length a.items }
         requires leading { slice_index_or a.items 0 zero ≡ one }
         requires lawful { is_lawful blocks.now.implementation.int_bits.value blocks.now.implementation.frac_bits.value ≡ true }
@@ -126,7 +127,7 @@ impl Controller {
         self.int_bits
     }
 
-    /// The bits behind the point.
+    /// The bits after the point.
     pub fn frac_bits(&self) -> u32
         ensures same { result ≡ self.now.frac_bits }
         ensures design { IsController self.now }

@@ -1,6 +1,7 @@
 // The costs of a file.
 ghost use Rattle.std.specs.Prelude.{◌≡◌, ◌≤◌, unwrap_or};
 ghost use Rattle.dsv_reader.specs.Controllers.{AreCosts};
+ghost use Rattle.dsv_reader.specs.Limits.{greatest_cost};
 ghost use Rattle.dsv_reader.specs.Reading.{costs_of};
 
 use crate::costs::Costs;
@@ -9,9 +10,9 @@ use crate::settings::Cost;
 
 /// The cost, or what holds where the file doesn't say it.
 fn cost_or(cost: &Option<Cost>, default: u32) -> u32
-    requires { default ≤ 10000 }
+    requires { default ≤ greatest_cost }
     ensures value { result ≡ unwrap_or cost.now default }
-    ensures small { result ≤ 10000 }
+    ensures small { result ≤ greatest_cost }
 {
     match cost {
         Some(cost) => cost.get(),

@@ -1,15 +1,16 @@
 // Coefficients divided by the leading one.
 ghost use Rattle.std.specs.Prelude.{◌≡◌, ◌≢◌, ◌<◌, ◌≤◌, length, pos, IfOk, Ok, Err, MatchResult};
 ghost use Rattle.dsv_fraction.specs.Arithmetic.{bounded, quotient};
+ghost use Rattle.dsv_reader.specs.Limits.{most_coefficients};
 ghost use Rattle.dsv_reader.specs.Reading.{sized, BeginsWith, leading, by_quotient, divided, padded};
 
 use crate::lists::Coefficients;
-use crate::numbers::{Coefficient, Whole};
+use crate::numbers::{Coefficient, SpelledNumber};
 use dsv_fraction::{Frac, FracList};
 use dsv_token::FileRefusal;
 
 /// Tests that the size is the list's length.
-pub(crate) fn sized(size: Whole, list: &Coefficients) -> Result<(), FileRefusal>
+pub(crate) fn sized(size: SpelledNumber, list: &Coefficients) -> Result<(), FileRefusal>
     ensures { result ≡ sized size list.now }
 {
     if size.value == list.as_slice().len() as u64 {
@@ -57,7 +58,7 @@ pub(crate) fn divided(divisor: &Frac, list: &Coefficients) -> Result<FracList, F
     requires { divisor.now.num ≢ pos 0 }
     ensures value { MatchResult result (λ v. divided divisor.now list.now ≡ Ok v.items) (λ r. divided divisor.now list.now ≡ Err r) }
     ensures places { IfOk result (λ v. length v.items ≡ length list.now) }
-    ensures few { length list.now ≤ 9 }
+    ensures few { length list.now ≤ most_coefficients }
 {
     let mut quotients = FracList::new();
     for coefficient in list.as_slice() {
@@ -69,10 +70,10 @@ pub(crate) fn divided(divisor: &Frac, list: &Coefficients) -> Result<FracList, F
     Ok(quotients)
 }
 
-/// The list with zeros behind it up to `count` entries.
+/// The list with zeros after it up to `count` entries.
 pub(crate) fn padded(list: FracList, count: usize) -> FracList
     requires room { length list.items ≤ count }
-    requires few { count ≤ 9 }
+    requires few { count ≤ most_coefficients }
     ensures value { result.items ≡ padded count list.items }
     ensures places { length result.items ≡ count }
 {

@@ -6,7 +6,8 @@ ghost use Rattle.dsv_reader.specs.Fields.{no_values, has_field, has_setting, sys
 
 use crate::lists::Coefficients;
 use crate::numbers::{
-    Whole, bounded_at, coefficients_of, decimal_at, only_of, passed_over, time_at, whole_at,
+    SpelledNumber, bounded_at, coefficients_of, decimal_at, only_of, passed_over, time_at,
+    whole_number_at,
 };
 use crate::settings::{Clock, Cost, SampleTime};
 use dsv_fraction::Frac;
@@ -14,8 +15,10 @@ use dsv_names::{Field, Setting};
 use dsv_syntax::{Entry, Label};
 use dsv_token::{FileRefusal, Token};
 
+/// The greatest clock, in cycles a second.
 const GREATEST_CLOCK: u64 = 1_000_000_000_000;
 
+/// The greatest cost, in cycles.
 const GREATEST_COST: u64 = 10_000;
 
 /// The fields of the block `digital_system` that have stood.
@@ -23,16 +26,16 @@ const GREATEST_COST: u64 = 10_000;
 pub(crate) struct SystemFields {
     pub(crate) b: Option<Coefficients>,
     pub(crate) a: Option<Coefficients>,
-    pub(crate) b_size: Option<Whole>,
-    pub(crate) a_size: Option<Whole>,
+    pub(crate) b_size: Option<SpelledNumber>,
+    pub(crate) a_size: Option<SpelledNumber>,
     pub(crate) sample_time: Option<SampleTime>,
 }
 
 /// The fields of the block `implementation` that have stood.
 #[derive(Drop)]
 pub(crate) struct ImplementationFields {
-    pub(crate) int_bits: Option<Whole>,
-    pub(crate) frac_bits: Option<Whole>,
+    pub(crate) int_bits: Option<SpelledNumber>,
+    pub(crate) frac_bits: Option<SpelledNumber>,
     pub(crate) max: Option<Frac>,
     pub(crate) min: Option<Frac>,
     pub(crate) delta: Option<Frac>,
@@ -66,8 +69,8 @@ impl SystemFields {
         match field {
             Field::B => self.b = Some(list_of(bytes, entry)?),
             Field::A => self.a = Some(list_of(bytes, entry)?),
-            Field::BSize => self.b_size = Some(whole_at(bytes, number_of(entry)?)?),
-            Field::ASize => self.a_size = Some(whole_at(bytes, number_of(entry)?)?),
+            Field::BSize => self.b_size = Some(whole_number_at(bytes, number_of(entry)?)?),
+            Field::ASize => self.a_size = Some(whole_number_at(bytes, number_of(entry)?)?),
             Field::SampleTime => {
                 self.sample_time = Some(SampleTime::new(time_at(bytes, number_of(entry)?)?));
             }
@@ -83,8 +86,8 @@ impl ImplementationFields {
         ensures { result ≡ implementation_field field bytes.now entry.now self }
     {
         match field {
-            Field::IntBits => self.int_bits = Some(whole_at(bytes, number_of(entry)?)?),
-            Field::FracBits => self.frac_bits = Some(whole_at(bytes, number_of(entry)?)?),
+            Field::IntBits => self.int_bits = Some(whole_number_at(bytes, number_of(entry)?)?),
+            Field::FracBits => self.frac_bits = Some(whole_number_at(bytes, number_of(entry)?)?),
             Field::Max => self.max = Some(decimal_at(bytes, number_of(entry)?)?.value),
             Field::Min => self.min = Some(decimal_at(bytes, number_of(entry)?)?.value),
             Field::Delta => self.delta = Some(decimal_at(bytes, number_of(entry)?)?.value),

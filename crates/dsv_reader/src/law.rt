@@ -9,7 +9,7 @@ ghost use Rattle.dsv_reader.specs.Values.{AreValuesOf};
 ghost use Rattle.dsv_reader.specs.declared.fields.Values.{Values};
 ghost use Rattle.dsv_syntax.specs.declared.entry.Entry.{Entry};
 
-/// The law behind [`read`](crate::read), for proofs: each list of bytes is the text of one controller or has one first
+/// The law of [`read`](crate::read), for proofs: each list of bytes is the text of one controller or has one first
 /// fault, and never both; and the values of its fields are those of the table of fields. The call does nothing.
 pub fn one_answer()
     ensures some { (bytes : List ℕ) → ((c : ControllerView) × IsTextOf bytes c) ⊎ ((r : FileRefusal) × IsFaultOf bytes r) }

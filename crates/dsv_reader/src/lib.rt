@@ -18,6 +18,3 @@ pub use costs::Costs;
 pub use dsv_token::FileRefusal;
 pub use law::one_answer;
 pub use reading::read;
-
-#[cfg(test)]
-mod tests;

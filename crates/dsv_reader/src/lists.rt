@@ -3,25 +3,30 @@ use crate::numbers::Coefficient;
 use arrayvec::ArrayVec;
 use std::marker::Model;
 
+/// The most coefficients of a list.
+pub(crate) const MOST_COEFFICIENTS: usize = 9;
+
 /// Up to nine decimals of a file in their order.
 #[derive(Drop)]
 pub(crate) struct Coefficients {
-    held: ArrayVec<Coefficient, 9>,
+    held: ArrayVec<Coefficient, MOST_COEFFICIENTS>,
 }
 
 impl Model for Coefficients {
     ghost use Rattle.std.specs.Prelude.{List, length, ◌≤◌};
+    ghost use Rattle.dsv_reader.specs.Limits.{most_coefficients};
     ghost use Rattle.dsv_reader.specs.declared.numbers.Coefficient.{Coefficient};
 
     ghost Value = { List Coefficient };
 
     ghost view = { λ c. c.held.items };
 
-    ghost invariant = { λ c. length c.held.items ≤ 9 };
+    ghost invariant = { λ c. length c.held.items ≤ most_coefficients };
 }
 
 impl Coefficients {
     ghost use Rattle.std.specs.Prelude.{◌≡◌, ◌++◌, [], ◌∷◌, ◌<◌, ◌≤◌, length};
+    ghost use Rattle.dsv_reader.specs.Limits.{most_coefficients};
 
     pub(crate) fn new() -> Self
         ensures { result ≡ [] }
@@ -32,7 +37,7 @@ impl Coefficients {
     }
 
     pub(crate) fn push(&mut self, coefficient: Coefficient)
-        requires { length self.old < 9 }
+        requires { length self.old < most_coefficients }
         ensures { self.new ≡ self.old ++ coefficient ∷ [] }
     {
         self.held.push(coefficient);
@@ -40,7 +45,7 @@ impl Coefficients {
 
     pub(crate) fn as_slice(&self) -> &[Coefficient]
         ensures same { result.now ≡ self.now }
-        ensures few { length self.now ≤ 9 }
+        ensures few { length self.now ≤ most_coefficients }
     {
         self.held.as_slice()
     }

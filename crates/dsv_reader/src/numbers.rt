@@ -1,23 +1,26 @@
 // The numbers of a file.
-ghost use Rattle.std.specs.Prelude.{◌≡◌, ◌≤◌, ◌<◌, ◌^◌, [], length, IfOk};
-ghost use Rattle.dsv_text.specs.Digits.{digits_value};
+ghost use Rattle.std.specs.Prelude.{◌≡◌, ◌≤◌, [], length, IfOk};
 ghost use Rattle.dsv_token.specs.declared.refusal.FileRefusal.TheVariants.{Number};
 ghost use Rattle.std.specs.Bool.{OnTrue};
 ghost use Rattle.dsv_reader.specs.Controllers.{IsTime};
-ghost use Rattle.dsv_reader.specs.Numbers.{text_at, is_plain, is_octal, is_whole, no_number, whole_at, bounded_at, by_decimal, decimal_at, is_time, by_time, time_at, only_of, coefficients_from, coefficients_of, passed_over};
+ghost use Rattle.dsv_reader.specs.Limits.{most_coefficients};
+ghost use Rattle.dsv_reader.specs.Numbers.{text_at, is_octal, no_number, whole_number_at, bounded_at, by_decimal, decimal_at, is_time, by_time, time_at, only_of, coefficients_from, coefficients_of, passed_over};
 
-use crate::lists::Coefficients;
+use crate::lists::{Coefficients, MOST_COEFFICIENTS};
 use dsv_fraction::number::sign_len;
 use dsv_fraction::{DecimalRefusal, Frac};
-use dsv_text::{digits_len, front_digits, has_byte};
+use dsv_text::{has_byte, is_digits, short_number};
 use dsv_token::{FileRefusal, Token};
 
-/// The greatest number of digits of a whole number.
-const GREATEST_DIGITS: usize = 18;
+/// The most digits of a whole number.
+const MOST_DIGITS: usize = 18;
+
+/// Both parts of a sample time are below this.
+const TIME_LIMIT: i128 = 1 << 62;
 
 /// A whole number of a file, and the offset where it stands.
 #[derive(Clone, Copy, Debug, PartialEq, Eq)]
-pub(crate) struct Whole {
+pub(crate) struct SpelledNumber {
     pub(crate) value: u64,
     pub(crate) at: usize,
 }
@@ -55,54 +58,29 @@ fn text_at(bytes: &[u8], token: Token) -> &[u8]
     rest.get(..token.len).unwrap_or(rest)
 }
 
-/// Whether the text is digits alone.
-fn is_plain(text: &[u8]) -> bool
-    ensures { result ≡ is_plain text.now }
-{
-    !text.is_empty() && digits_len(text) == text.len()
-}
-
 /// Whether C reads the number as octal.
 fn is_octal(text: &[u8]) -> bool
     ensures { result ≡ is_octal text.now }
 {
     let body = &text[sign_len(text)..];
-    is_plain(body) && body.len() > 1 && has_byte(b'0', body)
-}
-
-/// Whether the text is 1 to 18 digits.
-fn is_whole(text: &[u8]) -> bool
-    ensures { result ≡ is_whole text.now }
-{
-    is_plain(text) && text.len() <= GREATEST_DIGITS
-}
-
-/// The number that digits spell.
-#[tactic(auto, using(dsv_text::proofs::DigitLemmas::value_grows))]
-fn digits_value(digits: &[u8]) -> u64
-    requires { digits_value 0 digits.now < 2 ^ 64 }
-    ensures { result ≡ digits_value 0 digits.now }
-{
-    let mut value = 0;
-    for byte in digits {
-        value = value * 10 + u64::from(byte.saturating_sub(b'0'));
-    }
-    value
+    is_digits(body) && body.len() > 1 && has_byte(b'0', body)
 }
 
 /// The whole number that the token spells: 1 to 18 digits alone, without a leading 0.
-#[tactic(auto, using(crate::proofs::Wholes::whole_small))]
-pub(crate) fn whole_at(bytes: &[u8], token: Token) -> Result<Whole, FileRefusal>
-    ensures { result ≡ whole_at bytes.now token }
+pub(crate) fn whole_number_at(bytes: &[u8], token: Token) -> Result<SpelledNumber, FileRefusal>
+    ensures { result ≡ whole_number_at bytes.now token }
 {
     let text = text_at(bytes, token);
-    if is_octal(text) || !is_whole(text) {
+    if is_octal(text) {
         return Err(no_number(token));
     }
-    Ok(Whole {
-        value: digits_value(front_digits(text)),
-        at: token.at,
-    })
+    match short_number(MOST_DIGITS, text) {
+        Some(value) => Ok(SpelledNumber {
+            value,
+            at: token.at,
+        }),
+        None => Err(no_number(token)),
+    }
 }
 
 /// A whole number from `least` to `greatest`.
@@ -116,7 +94,7 @@ pub(crate) fn bounded_at(
     ensures least { IfOk result (λ n. least ≤ n) }
     ensures greatest { IfOk result (λ n. n ≤ greatest) }
 {
-    let Whole { value, at: _ } = whole_at(bytes, token)?;
+    let SpelledNumber { value, at: _ } = whole_number_at(bytes, token)?;
     if value < least || value > greatest {
         return Err(no_number(token));
     }
@@ -149,7 +127,7 @@ fn is_time(value: &Frac) -> bool
     ensures time { OnTrue result (IsTime value.now) }
 {
     let (num, den) = value.to_parts();
-    0 < num && num < 1 << 62 && den < 1 << 62
+    0 < num && num < TIME_LIMIT && den < TIME_LIMIT
 }
 
 /// The sample time that the token spells. A number that is too wide breaks its rule like any other that is too large.
@@ -191,14 +169,14 @@ pub(crate) fn coefficients_of(
 ) -> Result<Coefficients, FileRefusal>
     ensures { result ≡ coefficients_of bytes.now place numbers.now }
 {
-    if numbers.is_empty() || numbers.len() > 9 {
+    if numbers.is_empty() || numbers.len() > MOST_COEFFICIENTS {
         return Err(FileRefusal::Length { at: place as u64 });
     }
     read_coefficients(bytes, numbers)
 }
 
 fn read_coefficients(bytes: &[u8], numbers: &[Token]) -> Result<Coefficients, FileRefusal>
-    requires { length numbers.now ≤ 9 }
+    requires { length numbers.now ≤ most_coefficients }
     ensures { result ≡ coefficients_from bytes.now numbers.now [] }
 {
     let mut list = Coefficients::new();

@@ -8,7 +8,7 @@ use crate::blocks::{Blocks, blocks_of};
 use crate::controller::Controller;
 use crate::dividing::{divided, leading, sized};
 use crate::fields::values_of;
-use crate::numbers::Whole;
+use crate::numbers::SpelledNumber;
 use dsv_syntax::parse;
 use dsv_token::{FileRefusal, check_text, lex};
 use dsv_word::WIDEST_WORD;
@@ -26,7 +26,7 @@ pub fn read(alloc: Global, bytes: &[u8]) -> Result<Controller, FileRefusal>
     read_passes(alloc, bytes)
 }
 
-/// The passes over a file, one behind another.
+/// The passes over a file, one after another.
 fn read_passes(alloc: Global, bytes: &[u8]) -> Result<Controller, FileRefusal>
     ensures { Gives (λ c. c) result (reading bytes.now) }
 {
@@ -38,7 +38,7 @@ fn read_passes(alloc: Global, bytes: &[u8]) -> Result<Controller, FileRefusal>
 }
 
 /// Tests that words of these widths can be had.
-fn lawful(int_bits: Whole, frac_bits: Whole) -> Result<(), FileRefusal>
+fn lawful(int_bits: SpelledNumber, frac_bits: SpelledNumber) -> Result<(), FileRefusal>
     ensures { result ≡ lawful int_bits frac_bits }
 {
     let greatest = u64::from(WIDEST_WORD);

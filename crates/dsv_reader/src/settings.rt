@@ -82,19 +82,21 @@ pub(crate) struct Cost {
 
 impl Model for Cost {
     ghost use Rattle.std.specs.Prelude.{ℕ, ◌≤◌};
+    ghost use Rattle.dsv_reader.specs.Limits.{greatest_cost};
 
     ghost Value = { ℕ };
 
     ghost view = { λ c. c.value };
 
-    ghost invariant = { λ c. c.value ≤ 10000 };
+    ghost invariant = { λ c. c.value ≤ greatest_cost };
 }
 
 impl Cost {
     ghost use Rattle.std.specs.Prelude.{◌≡◌, ◌≤◌};
+    ghost use Rattle.dsv_reader.specs.Limits.{greatest_cost};
 
     pub(crate) fn new(value: u32) -> Self
-        requires { value ≤ 10000 }
+        requires { value ≤ greatest_cost }
         ensures { result ≡ value }
     {
         Cost { value }
@@ -102,7 +104,7 @@ impl Cost {
 
     pub(crate) fn get(&self) -> u32
         ensures same { result ≡ self.now }
-        ensures small { self.now ≤ 10000 }
+        ensures small { self.now ≤ greatest_cost }
     {
         self.value
     }

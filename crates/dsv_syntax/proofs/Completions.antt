@@ -1,5 +1,5 @@
 -- From each place of the grammar a file can be completed.
-use Rattle.std.proofs.Common.{◌≡◌, ℕ, zero, suc, ◌+◌, ◌-◌, ◌≤◌, ◌==◌, false, List, [], ◌∷◌, ◌++◌, Option, Some, None, refl, ap, subst, ◌∙◌, arith}
+use Rattle.std.proofs.Common.{◌≡◌, ℕ, zero, suc, ◌+◌, ◌-◌, ◌≤◌, false, List, [], ◌∷◌, ◌++◌, Option, Some, None, refl, ap, subst, ◌∙◌, arith}
 use Rattle.std.specs.Prelude.{Ok}
 use Rattle.dsv_names.specs.declared.field.Field.TheVariants as field
 use Rattle.dsv_names.specs.declared.block.Block.{Block}
@@ -93,17 +93,17 @@ any_field_comma : AreCompleted place.FieldComma
 any_field_comma b c es e k =
     by_token kind.Close (within place.FieldComma b c es e k) (within place.Semicolon b (with_close b 0 c) es e k) refl (any_semicolon b (with_close b 0 c) es e k)
 
--- behind the value of the open field
-behind_value : (p : Parser) → IsCompleted (field_done p)
-behind_value p = any_field_comma p.block p.closed (p.entries ++ p.entry ∷ []) blank 0
+-- after the value of the open field
+after_value : (p : Parser) → IsCompleted (field_done p)
+after_value p = any_field_comma p.block p.closed (p.entries ++ p.entry ∷ []) blank 0
 
 any_list_comma : AreCompleted place.ListComma
 any_list_comma b c es e k =
-    let p = within place.ListComma b c es e k in by_token kind.Close p (field_done p) refl (behind_value p)
+    let p = within place.ListComma b c es e k in by_token kind.Close p (field_done p) refl (after_value p)
 
 any_list_number : AreCompleted place.ListNumber
 any_list_number b c es e k =
-    let p = within place.ListNumber b c es e k in by_token kind.Close p (field_done p) refl (behind_value p)
+    let p = within place.ListNumber b c es e k in by_token kind.Close p (field_done p) refl (after_value p)
 
 any_list_open : AreCompleted place.ListOpen
 any_list_open b c es e k =
@@ -113,18 +113,18 @@ any_number : AreCompleted place.Number
 any_number b c es e k =
     let t = mark kind.Number in
     let q = within place.Number b c es (begun 0 (t ∷ []) e) k in
-    by_token kind.Number (within place.Number b c es e k) (field_done q) refl (behind_value q)
+    by_token kind.Number (within place.Number b c es e k) (field_done q) refl (after_value q)
 
 any_value : AreCompleted place.Value
 any_value b c es e k =
     let t = mark kind.Number in
     let q = within place.Value b c es (begun 0 (t ∷ []) e) k in
-    by_token kind.Number (within place.Value b c es e k) (field_done q) refl (behind_value q)
+    by_token kind.Number (within place.Value b c es e k) (field_done q) refl (after_value q)
 
 -- each open brace is closed
 any_group : (deep : ℕ) (b : Block) (c : Closed) (es : List Entry) (e : Entry) → IsCompleted (within place.Group b c es e (deep + 1))
 any_group zero b c es e =
-    let p = within place.Group b c es e 1 in by_token kind.Close p (field_done p) refl (behind_value p)
+    let p = within place.Group b c es e 1 in by_token kind.Close p (field_done p) refl (after_value p)
 any_group (suc deep) b c es e =
     let more : 1 ≤ suc deep = omega arith in
     let one : deep + 1 ≡ suc deep = omega arith in

@@ -17,21 +17,21 @@ use Rattle.dsv_syntax.specs.declared.parser.Parser.{Parser}
 use Rattle.dsv_syntax.specs.declared.parsing.Syntax.{Syntax}
 use Rattle.dsv_syntax.specs.Parsing.{is_list, is_alone, is_mark, is_closed, with_close, value_place, declared, labelled, group, group_closed, parsed_from, parsed, whole_of}
 use Rattle.dsv_syntax.specs.Grammar.{Numbers, Group, Value, IsField, Fields, IsBlock, Blocks, IsFile}
-use Rattle.dsv_syntax.proofs.States.{entry, between, within, behind, goes}
+use Rattle.dsv_syntax.proofs.States.{entry, between, within, after_field, goes}
 
 pub numbers_read : (ts ns rest : List Token) → Numbers ts ns rest → (end : ℕ) (b : Block) (c : Closed) (es : List Entry) (l : Label) (dot at : ℕ) (ms : List Token) (k : ℕ) →
-    parsed_from end (within place.ListNumber b c es (entry l dot at ms) k) ts ≡ parsed_from end (behind b c es (entry l dot at (ms ++ ns))) rest
+    parsed_from end (within place.ListNumber b c es (entry l dot at ms) k) ts ≡ parsed_from end (after_field b c es (entry l dot at (ms ++ ns))) rest
 numbers_read ts ns rest (Numbers.none t r e) end b c es l dot at ms k =
-    goes end (within place.ListNumber b c es (entry l dot at ms) k) (behind b c es (entry l dot at ms)) t r kind.Close e refl
-    ∙ ap (λ xs. parsed_from end (behind b c es (entry l dot at xs)) r) (sym (append-nil ms))
+    goes end (within place.ListNumber b c es (entry l dot at ms) k) (after_field b c es (entry l dot at ms)) t r kind.Close e refl
+    ∙ ap (λ xs. parsed_from end (after_field b c es (entry l dot at xs)) r) (sym (append-nil ms))
 numbers_read ts ns rest (Numbers.last n t r e f) end b c es l dot at ms k =
     goes end (within place.ListNumber b c es (entry l dot at ms) k) (within place.ListComma b c es (entry l dot at (ms ++ n ∷ [])) k) n (t ∷ r) kind.Number e refl
-    ∙ goes end (within place.ListComma b c es (entry l dot at (ms ++ n ∷ [])) k) (behind b c es (entry l dot at (ms ++ n ∷ []))) t r kind.Close f refl
+    ∙ goes end (within place.ListComma b c es (entry l dot at (ms ++ n ∷ [])) k) (after_field b c es (entry l dot at (ms ++ n ∷ []))) t r kind.Close f refl
 numbers_read ts ns rest (Numbers.more n t us os r e f h) end b c es l dot at ms k =
     goes end (within place.ListNumber b c es (entry l dot at ms) k) (within place.ListComma b c es (entry l dot at (ms ++ n ∷ [])) k) n (t ∷ us) kind.Number e refl
     ∙ goes end (within place.ListComma b c es (entry l dot at (ms ++ n ∷ [])) k) (within place.ListNumber b c es (entry l dot at (ms ++ n ∷ [])) k) t us kind.Comma f refl
     ∙ numbers_read us os r h end b c es l dot at (ms ++ n ∷ []) k
-    ∙ ap (λ xs. parsed_from end (behind b c es (entry l dot at xs)) r) (append_assoc ms (n ∷ []) os)
+    ∙ ap (λ xs. parsed_from end (after_field b c es (entry l dot at xs)) r) (append_assoc ms (n ∷ []) os)
 
 -- a mark in a group is passed over
 pub mark_passes : (k : TokenKind) (t : Token) (p : Parser) → is_mark k ≡ true → group k t p ≡ Ok p
@@ -43,7 +43,7 @@ mark_passes k t p e = refl
 pub deeper : (k : ℕ) → 1 ≤ k → (k + 1 == 1) ≡ false
 deeper k h = grind (arith, nat_tests)
 
--- behind a group inside another one
+-- after a group inside another one
 pub group_left : (b : Block) (c : Closed) (es : List Entry) (e : Entry) (k : ℕ) → 1 ≤ k →
     group_closed (k + 1 == 1) (within place.Group b c es e (k + 1)) ≡ within place.Group b c es e k
 group_left b c es e k h =
@@ -82,24 +82,24 @@ alone_place label.Passed e = absurd (cc)
 alone_place l e = refl
 
 pub value_read : (l : Label) (ts : List Token) (at : ℕ) (ns rest : List Token) → Value l ts at ns rest → (end : ℕ) (b : Block) (c : Closed) (es : List Entry) (dot : ℕ) →
-    parsed_from end (within (value_place l) b c es (entry l dot 0 []) 0) ts ≡ parsed_from end (behind b c es (entry l dot at ns)) rest
+    parsed_from end (within (value_place l) b c es (entry l dot 0 []) 0) ts ≡ parsed_from end (after_field b c es (entry l dot at ns)) rest
 value_read l ts at ns rest (Value.list m o us os r e f g) end b c es dot =
     ap (λ x. parsed_from end (within x b c es (entry m dot 0 []) 0) (o ∷ us)) (list_place m e)
     ∙ goes end (within place.ListOpen b c es (entry m dot 0 []) 0) (within place.ListNumber b c es (entry m dot o.at []) 0) o us kind.Open f refl
     ∙ numbers_read us os r g end b c es m dot o.at [] 0
 value_read l ts at ns rest (Value.alone m n r e f) end b c es dot =
     ap (λ x. parsed_from end (within x b c es (entry m dot 0 []) 0) (n ∷ r)) (alone_place m e)
-    ∙ goes end (within place.Number b c es (entry m dot 0 []) 0) (behind b c es (entry m dot n.at (n ∷ []))) n r kind.Number f refl
+    ∙ goes end (within place.Number b c es (entry m dot 0 []) 0) (after_field b c es (entry m dot n.at (n ∷ []))) n r kind.Number f refl
 value_read l ts at ns rest (Value.passed_number n r f) end b c es dot =
-    goes end (within place.Value b c es (entry label.Passed dot 0 []) 0) (behind b c es (entry label.Passed dot n.at (n ∷ []))) n r kind.Number f refl
+    goes end (within place.Value b c es (entry label.Passed dot 0 []) 0) (after_field b c es (entry label.Passed dot n.at (n ∷ []))) n r kind.Number f refl
 value_read l ts at ns rest (Value.passed_name w n r f) end b c es dot =
-    goes end (within place.Value b c es (entry label.Passed dot 0 []) 0) (behind b c es (entry label.Passed dot n.at [])) n r (kind.Name w) f refl
+    goes end (within place.Value b c es (entry label.Passed dot 0 []) 0) (after_field b c es (entry label.Passed dot n.at [])) n r (kind.Name w) f refl
 value_read l ts at ns rest (Value.passed_group o us os r f g) end b c es dot =
     goes end (within place.Value b c es (entry label.Passed dot 0 []) 0) (within place.Group b c es (entry label.Passed dot o.at []) 1) o us kind.Open f refl
     ∙ group_read us os r g end b c es label.Passed dot o.at [] 1 (omega arith)
 
 pub field_read : (b : Block) (ts : List Token) (f : Entry) (rest : List Token) → IsField b ts f rest → (end : ℕ) (c : Closed) (es : List Entry) →
-    parsed_from end (between place.FieldDot b c es) ts ≡ parsed_from end (behind b c es f) rest
+    parsed_from end (between place.FieldDot b c es) ts ≡ parsed_from end (after_field b c es f) rest
 field_read b ts f rest (IsField.field b' l d n e at us ns r h i j v) end c es =
     let named = within place.FieldName b' c es (entry label.Passed d.at 0 []) 0 in
     goes end (between place.FieldDot b' c es) named d (n ∷ e ∷ us) kind.Dot h refl
@@ -114,10 +114,10 @@ fields_read b ts fs at rest (Fields.none b' t r e) end c es =
     ∙ ap (λ xs. parsed_from end (between place.Semicolon b' (with_close b' t.at c) xs) r) (sym (append-nil es))
 fields_read b ts fs at rest (Fields.last b' us f t r h e) end c es =
     field_read b' us f (t ∷ r) h end c es
-    ∙ goes end (behind b' c es f) (between place.Semicolon b' (with_close b' t.at c) (es ++ f ∷ [])) t r kind.Close e refl
+    ∙ goes end (after_field b' c es f) (between place.Semicolon b' (with_close b' t.at c) (es ++ f ∷ [])) t r kind.Close e refl
 fields_read b ts fs at rest (Fields.more b' us vs f gs t at' r h e i) end c es =
     field_read b' us f (t ∷ vs) h end c es
-    ∙ goes end (behind b' c es f) (between place.FieldDot b' c (es ++ f ∷ [])) t vs kind.Comma e refl
+    ∙ goes end (after_field b' c es f) (between place.FieldDot b' c (es ++ f ∷ [])) t vs kind.Comma e refl
     ∙ fields_read b' vs gs at' r i end c (es ++ f ∷ [])
     ∙ ap (λ xs. parsed_from end (between place.Semicolon b' (with_close b' at' c) xs) r) (append_assoc es (f ∷ []) gs)
 

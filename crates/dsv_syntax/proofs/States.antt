@@ -24,9 +24,9 @@ between pl b c es = record { place = pl; block = b; closed = c; entry = blank; d
 abbrev pub within : Place → Block → Closed → List Entry → Entry → ℕ → Parser
 within pl b c es e k = record { place = pl; block = b; closed = c; entry = e; depth = k; entries = es }
 
--- behind a field
-abbrev pub behind : Block → Closed → List Entry → Entry → Parser
-behind b c es e = between place.FieldComma b c (es ++ e ∷ [])
+-- after a field
+abbrev pub after_field : Block → Closed → List Entry → Entry → Parser
+after_field b c es e = between place.FieldComma b c (es ++ e ∷ [])
 
 -- a token that goes on
 pub goes : (end : ℕ) (p q : Parser) (t : Token) (ts : List Token) (k : TokenKind) → t.kind ≡ k → step_at p.place k t p ≡ Ok q → parsed_from end p (t ∷ ts) ≡ parsed_from end q ts

@@ -21,15 +21,15 @@ use Rattle.dsv_syntax.specs.declared.parsing.Syntax.{Syntax}
 use Rattle.dsv_text.specs.Stages.{◌>>=◌}
 use Rattle.dsv_syntax.specs.Parsing.{is_list, is_alone, is_mark, is_closed, with_close, none_closed, value_place, declared, declaration, block_name, block_equals, block_open, labelled, label_of, field_dot, field_equals, field_comma, list_open, list_number, list_comma, number, value, group, group_closed, semicolon, parsed_from, parsed, whole_of}
 use Rattle.dsv_syntax.specs.Grammar.{Numbers, Group, Value, IsField, Fields, IsBlock, Blocks, IsFile}
-use Rattle.dsv_syntax.proofs.States.{entry, between, within, behind}
+use Rattle.dsv_syntax.proofs.States.{entry, between, within, after_field}
 use Rattle.dsv_syntax.proofs.ReadLemmas.{group_left}
 
--- what is read behind the first token
+-- what is read after the first token
 abbrev next : ℕ → List Token → Parser → Result Syntax FileRefusal
 next end ts q = parsed_from end q ts
 
 -- ---- lists
--- the rest of a list, behind a number or not
+-- the rest of a list, after a number or not
 abbrev ListFrom : Bool → List Token → List Token → List Token → Type 0
 ListFrom false ts ns rest = Numbers ts ns rest
 ListFrom true ts ns rest = (m : Token) → m.kind ≡ kind.Number → Numbers (m ∷ ts) (m ∷ ns) rest
@@ -43,7 +43,7 @@ record NumbersTaken (end : ℕ) (b : Block) (c : Closed) (es : List Entry) (l : 
   pub ns : List Token
   pub rest : List Token
   pub grammar : ListFrom after ts ns rest
-  pub goes_on : parsed_from end (behind b c es (entry l dot at (ms ++ ns))) rest ≡ Ok out
+  pub goes_on : parsed_from end (after_field b c es (entry l dot at (ms ++ ns))) rest ≡ Ok out
   pub shorter : length rest < length ts
 
 list_closed : (after : Bool) (t : Token) (r : List Token) → t.kind ≡ kind.Close → ListFrom after (t ∷ r) [] r
@@ -51,12 +51,12 @@ list_closed false t r e = Numbers.none t r e
 list_closed true t r e = λ m f. Numbers.last m t r f e
 
 list_ends : (end : ℕ) (b : Block) (c : Closed) (es : List Entry) (l : Label) (dot at : ℕ) (ms : List Token) (after : Bool) (t : Token) (r : List Token) (out : Syntax) →
-    t.kind ≡ kind.Close → parsed_from end (behind b c es (entry l dot at ms)) r ≡ Ok out → NumbersTaken end b c es l dot at ms after (t ∷ r) out
+    t.kind ≡ kind.Close → parsed_from end (after_field b c es (entry l dot at ms)) r ≡ Ok out → NumbersTaken end b c es l dot at ms after (t ∷ r) out
 list_ends end b c es l dot at ms after t r out e h = record {
   ns = [];
   rest = r;
   grammar = list_closed after t r e;
-  goes_on = ap (λ xs. parsed_from end (behind b c es (entry l dot at xs)) r) (append-nil ms) ∙ h;
+  goes_on = ap (λ xs. parsed_from end (after_field b c es (entry l dot at xs)) r) (append-nil ms) ∙ h;
   shorter = omega arith;
 }
 
@@ -66,7 +66,7 @@ with_number end b c es l dot at ms t r out e h = record {
   ns = t ∷ h.ns;
   rest = h.rest;
   grammar = h.grammar t e;
-  goes_on = ap (λ xs. parsed_from end (behind b c es (entry l dot at xs)) h.rest) (sym (append_assoc ms (t ∷ []) h.ns)) ∙ h.goes_on;
+  goes_on = ap (λ xs. parsed_from end (after_field b c es (entry l dot at xs)) h.rest) (sym (append_assoc ms (t ∷ []) h.ns)) ∙ h.goes_on;
   shorter = let s = h.shorter in omega arith;
 }
 
@@ -187,7 +187,7 @@ record ValueTaken (end : ℕ) (b : Block) (c : Closed) (es : List Entry) (l : La
   pub ns : List Token
   pub rest : List Token
   pub grammar : Value l ts at ns rest
-  pub goes_on : parsed_from end (behind b c es (entry l dot at ns)) rest ≡ Ok out
+  pub goes_on : parsed_from end (after_field b c es (entry l dot at ns)) rest ≡ Ok out
   pub shorter : length rest < length ts
 
 list_found : (end : ℕ) (b : Block) (c : Closed) (es : List Entry) (l : Label) (dot : ℕ) (t : Token) (r : List Token) (out : Syntax) → is_list l ≡ true → t.kind ≡ kind.Open →
@@ -257,7 +257,7 @@ record FieldTaken (end : ℕ) (b : Block) (c : Closed) (es : List Entry) (ts : L
   pub found : Entry
   pub rest : List Token
   pub grammar : IsField b ts found rest
-  pub goes_on : parsed_from end (behind b c es found) rest ≡ Ok out
+  pub goes_on : parsed_from end (after_field b c es found) rest ≡ Ok out
   pub shorter : length rest < length ts
 
 field_found : (end : ℕ) (b : Block) (c : Closed) (es : List Entry) (l : Label) (d n e : Token) (r : List Token) (out : Syntax) → d.kind ≡ kind.Dot → label_of b n.kind ≡ Some l → e.kind ≡ kind.Equals →
@@ -275,20 +275,20 @@ equals_by : (end : ℕ) (b : Block) (c : Closed) (es : List Entry) (l : Label) (
 equals_by end b c es l d n e r out i j kind.Equals m h = field_found end b c es l d n e r out i j m (value_taken end b c es l d.at r out h)
 equals_by end b c es l d n e r out i j k m h = absurd (cc)
 
-behind_name : (end : ℕ) (b : Block) (c : Closed) (es : List Entry) (l : Label) (d n : Token) (ts : List Token) (out : Syntax) → d.kind ≡ kind.Dot → label_of b n.kind ≡ Some l →
+after_name : (end : ℕ) (b : Block) (c : Closed) (es : List Entry) (l : Label) (d n : Token) (ts : List Token) (out : Syntax) → d.kind ≡ kind.Dot → label_of b n.kind ≡ Some l →
     parsed_from end (within place.FieldEquals b c es (entry l d.at 0 []) 0) ts ≡ Ok out → FieldTaken end b c es (d ∷ n ∷ ts) out
-behind_name end b c es l d n [] out i j h = absurd (cc)
-behind_name end b c es l d n (e ∷ r) out i j h = equals_by end b c es l d n e r out i j e.kind refl h
+after_name end b c es l d n [] out i j h = absurd (cc)
+after_name end b c es l d n (e ∷ r) out i j h = equals_by end b c es l d n e r out i j e.kind refl h
 
 named_by : (end : ℕ) (b : Block) (c : Closed) (es : List Entry) (d n : Token) (r : List Token) (out : Syntax) → d.kind ≡ kind.Dot → (o : Option Label) → label_of b n.kind ≡ o →
     (labelled o n (within place.FieldName b c es (entry label.Passed d.at 0 []) 0) >>= next end r) ≡ Ok out → FieldTaken end b c es (d ∷ n ∷ r) out
-named_by end b c es d n r out i (Some l) j h = behind_name end b c es l d n r out i j h
+named_by end b c es d n r out i (Some l) j h = after_name end b c es l d n r out i j h
 named_by end b c es d n r out i None j h = absurd (cc)
 
-behind_dot : (end : ℕ) (b : Block) (c : Closed) (es : List Entry) (d : Token) (ts : List Token) (out : Syntax) → d.kind ≡ kind.Dot →
+after_dot : (end : ℕ) (b : Block) (c : Closed) (es : List Entry) (d : Token) (ts : List Token) (out : Syntax) → d.kind ≡ kind.Dot →
     parsed_from end (within place.FieldName b c es (entry label.Passed d.at 0 []) 0) ts ≡ Ok out → FieldTaken end b c es (d ∷ ts) out
-behind_dot end b c es d [] out i h = absurd (cc)
-behind_dot end b c es d (n ∷ r) out i h = named_by end b c es d n r out i (label_of b n.kind) refl h
+after_dot end b c es d [] out i h = absurd (cc)
+after_dot end b c es d (n ∷ r) out i h = named_by end b c es d n r out i (label_of b n.kind) refl h
 
 record FieldsTaken (end : ℕ) (b : Block) (c : Closed) (es : List Entry) (ts : List Token) (out : Syntax) : Type 0 where
   pub fs : List Entry
@@ -328,21 +328,21 @@ more_fields end b c es ts f t r out i less e h = record {
   shorter = let s = h.shorter in omega arith;
 }
 
-behind_by : (fuel end : ℕ) (b : Block) (c : Closed) (es : List Entry) (ts : List Token) (f : Entry) (t : Token) (r : List Token) (out : Syntax) → IsField b ts f (t ∷ r) → length (t ∷ r) < length ts → length r ≤ fuel →
-    AllFieldsTaken fuel end b c out → (k : TokenKind) → t.kind ≡ k → (field_comma k t (behind b c es f) >>= next end r) ≡ Ok out → FieldsTaken end b c es ts out
-behind_by fuel end b c es ts f t r out i less few ih kind.Comma e h = more_fields end b c es ts f t r out i less e (ih r (es ++ f ∷ []) few h)
-behind_by fuel end b c es ts f t r out i less few ih kind.Close e h = last_field end b c es ts f t r out i less e h
-behind_by fuel end b c es ts f t r out i less few ih k e h = absurd (cc)
+after_by : (fuel end : ℕ) (b : Block) (c : Closed) (es : List Entry) (ts : List Token) (f : Entry) (t : Token) (r : List Token) (out : Syntax) → IsField b ts f (t ∷ r) → length (t ∷ r) < length ts → length r ≤ fuel →
+    AllFieldsTaken fuel end b c out → (k : TokenKind) → t.kind ≡ k → (field_comma k t (after_field b c es f) >>= next end r) ≡ Ok out → FieldsTaken end b c es ts out
+after_by fuel end b c es ts f t r out i less few ih kind.Comma e h = more_fields end b c es ts f t r out i less e (ih r (es ++ f ∷ []) few h)
+after_by fuel end b c es ts f t r out i less few ih kind.Close e h = last_field end b c es ts f t r out i less e h
+after_by fuel end b c es ts f t r out i less few ih k e h = absurd (cc)
 
-behind_field : (fuel end : ℕ) (b : Block) (c : Closed) (es : List Entry) (ts : List Token) (f : Entry) (rest : List Token) (out : Syntax) → IsField b ts f rest → length rest < length ts → length ts ≤ suc fuel →
-    AllFieldsTaken fuel end b c out → parsed_from end (behind b c es f) rest ≡ Ok out → FieldsTaken end b c es ts out
-behind_field fuel end b c es ts f [] out i less few ih h = absurd (cc)
-behind_field fuel end b c es ts f (t ∷ r) out i less few ih h = behind_by fuel end b c es ts f t r out i less (omega arith) ih t.kind refl h
+fields_after : (fuel end : ℕ) (b : Block) (c : Closed) (es : List Entry) (ts : List Token) (f : Entry) (rest : List Token) (out : Syntax) → IsField b ts f rest → length rest < length ts → length ts ≤ suc fuel →
+    AllFieldsTaken fuel end b c out → parsed_from end (after_field b c es f) rest ≡ Ok out → FieldsTaken end b c es ts out
+fields_after fuel end b c es ts f [] out i less few ih h = absurd (cc)
+fields_after fuel end b c es ts f (t ∷ r) out i less few ih h = after_by fuel end b c es ts f t r out i less (omega arith) ih t.kind refl h
 
 fields_by : (fuel end : ℕ) (b : Block) (c : Closed) (es : List Entry) (t : Token) (r : List Token) (out : Syntax) → length (t ∷ r) ≤ suc fuel → AllFieldsTaken fuel end b c out → (k : TokenKind) → t.kind ≡ k →
     (field_dot k t (between place.FieldDot b c es) >>= next end r) ≡ Ok out → FieldsTaken end b c es (t ∷ r) out
 fields_by fuel end b c es t r out few ih kind.Dot e h =
-    let f = behind_dot end b c es t r out e h in behind_field fuel end b c es (t ∷ r) f.found f.rest out f.grammar f.shorter few ih f.goes_on
+    let f = after_dot end b c es t r out e h in fields_after fuel end b c es (t ∷ r) f.found f.rest out f.grammar f.shorter few ih f.goes_on
 fields_by fuel end b c es t r out few ih kind.Close e h = no_fields end b c es t r out e h
 fields_by fuel end b c es t r out few ih k e h = absurd (cc)
 
@@ -369,49 +369,49 @@ block_found end b c es w k n e o s ts r fs at out free h i j m g less kind.Semic
     record { b = b; fs = fs; at = at; rest = r; free = free; grammar = IsBlock.block b w k n e o s ts r fs at h i j m g u; goes_on = f; shorter = omega arith }
 block_found end b c es w k n e o s ts r fs at out free h i j m g less x u f = absurd (cc)
 
-behind_fields : (end : ℕ) (b : Block) (c : Closed) (es : List Entry) (w : Word) (k n e o : Token) (ts rest : List Token) (fs : List Entry) (at : ℕ) (out : Syntax) → is_closed b c ≡ false →
+fields_afters : (end : ℕ) (b : Block) (c : Closed) (es : List Entry) (w : Word) (k n e o : Token) (ts rest : List Token) (fs : List Entry) (at : ℕ) (out : Syntax) → is_closed b c ≡ false →
     k.kind ≡ kind.Name (word.Block b) → n.kind ≡ kind.Name w → e.kind ≡ kind.Equals → o.kind ≡ kind.Open → Fields b ts fs at rest → length rest < length ts →
     parsed_from end (between place.Semicolon b (with_close b at c) (es ++ fs)) rest ≡ Ok out → BlockTaken end c es (k ∷ n ∷ e ∷ o ∷ ts) out
-behind_fields end b c es w k n e o ts [] fs at out free h i j m g less f = absurd (cc)
-behind_fields end b c es w k n e o ts (s ∷ r) fs at out free h i j m g less f = block_found end b c es w k n e o s ts r fs at out free h i j m g less s.kind refl f
+fields_afters end b c es w k n e o ts [] fs at out free h i j m g less f = absurd (cc)
+fields_afters end b c es w k n e o ts (s ∷ r) fs at out free h i j m g less f = block_found end b c es w k n e o s ts r fs at out free h i j m g less s.kind refl f
 
 open_by : (end : ℕ) (b : Block) (c : Closed) (es : List Entry) (w : Word) (k n e o : Token) (r : List Token) (out : Syntax) → is_closed b c ≡ false →
     k.kind ≡ kind.Name (word.Block b) → n.kind ≡ kind.Name w → e.kind ≡ kind.Equals → (x : TokenKind) → o.kind ≡ x →
     (block_open x o (between place.BlockOpen b c es) >>= next end r) ≡ Ok out → BlockTaken end c es (k ∷ n ∷ e ∷ o ∷ r) out
 open_by end b c es w k n e o r out free h i j kind.Open m f =
-    let g = fields_taken (length r) end b c out r es (omega arith) f in behind_fields end b c es w k n e o r g.rest g.fs g.at out free h i j m g.grammar g.shorter g.goes_on
+    let g = fields_taken (length r) end b c out r es (omega arith) f in fields_afters end b c es w k n e o r g.rest g.fs g.at out free h i j m g.grammar g.shorter g.goes_on
 open_by end b c es w k n e o r out free h i j x m f = absurd (cc)
 
-behind_equals : (end : ℕ) (b : Block) (c : Closed) (es : List Entry) (w : Word) (k n e : Token) (ts : List Token) (out : Syntax) → is_closed b c ≡ false →
+after_equals : (end : ℕ) (b : Block) (c : Closed) (es : List Entry) (w : Word) (k n e : Token) (ts : List Token) (out : Syntax) → is_closed b c ≡ false →
     k.kind ≡ kind.Name (word.Block b) → n.kind ≡ kind.Name w → e.kind ≡ kind.Equals → parsed_from end (between place.BlockOpen b c es) ts ≡ Ok out → BlockTaken end c es (k ∷ n ∷ e ∷ ts) out
-behind_equals end b c es w k n e [] out free h i j f = absurd (cc)
-behind_equals end b c es w k n e (o ∷ r) out free h i j f = open_by end b c es w k n e o r out free h i j o.kind refl f
+after_equals end b c es w k n e [] out free h i j f = absurd (cc)
+after_equals end b c es w k n e (o ∷ r) out free h i j f = open_by end b c es w k n e o r out free h i j o.kind refl f
 
 block_equals_by : (end : ℕ) (b : Block) (c : Closed) (es : List Entry) (w : Word) (k n e : Token) (r : List Token) (out : Syntax) → is_closed b c ≡ false →
     k.kind ≡ kind.Name (word.Block b) → n.kind ≡ kind.Name w → (x : TokenKind) → e.kind ≡ x →
     (block_equals x e (between place.BlockEquals b c es) >>= next end r) ≡ Ok out → BlockTaken end c es (k ∷ n ∷ e ∷ r) out
-block_equals_by end b c es w k n e r out free h i kind.Equals j f = behind_equals end b c es w k n e r out free h i j f
+block_equals_by end b c es w k n e r out free h i kind.Equals j f = after_equals end b c es w k n e r out free h i j f
 block_equals_by end b c es w k n e r out free h i x j f = absurd (cc)
 
-behind_block_name : (end : ℕ) (b : Block) (c : Closed) (es : List Entry) (w : Word) (k n : Token) (ts : List Token) (out : Syntax) → is_closed b c ≡ false →
+after_block_name : (end : ℕ) (b : Block) (c : Closed) (es : List Entry) (w : Word) (k n : Token) (ts : List Token) (out : Syntax) → is_closed b c ≡ false →
     k.kind ≡ kind.Name (word.Block b) → n.kind ≡ kind.Name w → parsed_from end (between place.BlockEquals b c es) ts ≡ Ok out → BlockTaken end c es (k ∷ n ∷ ts) out
-behind_block_name end b c es w k n [] out free h i f = absurd (cc)
-behind_block_name end b c es w k n (e ∷ r) out free h i f = block_equals_by end b c es w k n e r out free h i e.kind refl f
+after_block_name end b c es w k n [] out free h i f = absurd (cc)
+after_block_name end b c es w k n (e ∷ r) out free h i f = block_equals_by end b c es w k n e r out free h i e.kind refl f
 
 block_name_by : (end : ℕ) (b : Block) (c : Closed) (es : List Entry) (k n : Token) (r : List Token) (out : Syntax) → is_closed b c ≡ false → k.kind ≡ kind.Name (word.Block b) → (x : TokenKind) → n.kind ≡ x →
     (block_name x n (between place.BlockName b c es) >>= next end r) ≡ Ok out → BlockTaken end c es (k ∷ n ∷ r) out
-block_name_by end b c es k n r out free h (kind.Name w) i f = behind_block_name end b c es w k n r out free h i f
+block_name_by end b c es k n r out free h (kind.Name w) i f = after_block_name end b c es w k n r out free h i f
 block_name_by end b c es k n r out free h x i f = absurd (cc)
 
-behind_keyword : (end : ℕ) (b : Block) (c : Closed) (es : List Entry) (k : Token) (ts : List Token) (out : Syntax) → is_closed b c ≡ false → k.kind ≡ kind.Name (word.Block b) →
+after_keyword : (end : ℕ) (b : Block) (c : Closed) (es : List Entry) (k : Token) (ts : List Token) (out : Syntax) → is_closed b c ≡ false → k.kind ≡ kind.Name (word.Block b) →
     parsed_from end (between place.BlockName b c es) ts ≡ Ok out → BlockTaken end c es (k ∷ ts) out
-behind_keyword end b c es k [] out free h f = absurd (cc)
-behind_keyword end b c es k (n ∷ r) out free h f = block_name_by end b c es k n r out free h n.kind refl f
+after_keyword end b c es k [] out free h f = absurd (cc)
+after_keyword end b c es k (n ∷ r) out free h f = block_name_by end b c es k n r out free h n.kind refl f
 
 declared_by : (end : ℕ) (a b : Block) (c : Closed) (es : List Entry) (k : Token) (r : List Token) (out : Syntax) → k.kind ≡ kind.Name (word.Block b) → (x : Bool) → is_closed b c ≡ x →
     (declared x b k (between place.Declaration a c es) >>= next end r) ≡ Ok out → BlockTaken end c es (k ∷ r) out
 declared_by end a b c es k r out h true i f = absurd (cc)
-declared_by end a b c es k r out h false i f = behind_keyword end b c es k r out i h f
+declared_by end a b c es k r out h false i f = after_keyword end b c es k r out i h f
 
 word_by : (end : ℕ) (a : Block) (c : Closed) (es : List Entry) (k : Token) (r : List Token) (out : Syntax) (w : Word) → k.kind ≡ kind.Name w →
     (declaration (kind.Name w) k (between place.Declaration a c es) >>= next end r) ≡ Ok out → BlockTaken end c es (k ∷ r) out

@@ -18,7 +18,7 @@ use Rattle.dsv_syntax.specs.Beginnings.{Begins, StopsAt, EndsEarly, IsUnexpected
 use Rattle.dsv_syntax.proofs.ReadLemmas.{file_read}
 use Rattle.dsv_syntax.proofs.TakenLemmas.{file_taken}
 use Rattle.dsv_syntax.proofs.Steps.{CanGoOn, IsStep, step_leads}
-use Rattle.dsv_syntax.proofs.Completions.{IsCompleted, completed}
+use Rattle.dsv_syntax.proofs.Completions.{completed}
 
 -- ---- tokens that are read to a state
 
@@ -27,7 +27,7 @@ pub data Leads : Parser → List Token → Parser → Type 0 where
   here : (p : Parser) → CanGoOn p.place p.depth → Leads p [] p
   step : (p q r : Parser) (t : Token) (ts : List Token) → step_at p.place t.kind t p ≡ Ok q → Leads q ts r → Leads p (t ∷ ts) r
 
--- what is read behind the first token
+-- what is read after the first token
 abbrev next : ℕ → List Token → Parser → Result Syntax FileRefusal
 next end ts q = parsed_from end q ts
 

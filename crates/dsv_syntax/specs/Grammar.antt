@@ -10,7 +10,7 @@
 --
 -- A value is a list, a number, or, of a field that is passed over, a number, a name or tokens in balanced braces.
 -- Each type below says of a list of tokens that a part of the file stands at its front, and which tokens are left
--- behind it.
+-- after it.
 use Rattle.std.specs.Prelude.{◌≡◌, ℕ, true, false, List, [], ◌∷◌, ◌++◌, Some}
 use Rattle.dsv_names.specs.declared.block.Block.{Block}
 use Rattle.dsv_token.specs.declared.token.Word.{Word}
@@ -24,13 +24,13 @@ use Rattle.dsv_syntax.specs.declared.parser.Closed.{Closed}
 use Rattle.dsv_syntax.specs.declared.parsing.Syntax.{Syntax}
 use Rattle.dsv_syntax.specs.Parsing.{label_of, is_list, is_alone, is_mark, is_closed, with_close, none_closed}
 
--- the numbers of a list, from behind its opening brace to its closing one
+-- the numbers of a list, from after its opening brace to its closing one
 pub data Numbers : List Token → List Token → List Token → Type 0 where
   none : (c : Token) (rest : List Token) → c.kind ≡ kind.Close → Numbers (c ∷ rest) [] rest
   last : (n c : Token) (rest : List Token) → n.kind ≡ kind.Number → c.kind ≡ kind.Close → Numbers (n ∷ c ∷ rest) (n ∷ []) rest
   more : (n c : Token) (ts ns rest : List Token) → n.kind ≡ kind.Number → c.kind ≡ kind.Comma → Numbers ts ns rest → Numbers (n ∷ c ∷ ts) (n ∷ ns) rest
 
--- tokens with balanced braces, from behind the opening brace to the closing one, and the numbers among them
+-- tokens with balanced braces, from after the opening brace to the closing one, and the numbers among them
 pub data Group : List Token → List Token → List Token → Type 0 where
   close : (c : Token) (rest : List Token) → c.kind ≡ kind.Close → Group (c ∷ rest) [] rest
   number : (n : Token) (ts ns rest : List Token) → n.kind ≡ kind.Number → Group ts ns rest → Group (n ∷ ts) (n ∷ ns) rest
@@ -51,7 +51,7 @@ pub data IsField : Block → List Token → Entry → List Token → Type 0 wher
       d.kind ≡ kind.Dot → label_of b n.kind ≡ Some l → e.kind ≡ kind.Equals → Value l ts place ns rest →
       IsField b (d ∷ n ∷ e ∷ ts) (record { label = l; dot = d.at; place = place; numbers = ns }) rest
 
--- the fields of a block, from behind its opening brace, and the place of its closing one
+-- the fields of a block, from after its opening brace, and the place of its closing one
 pub data Fields : Block → List Token → List Entry → ℕ → List Token → Type 0 where
   none : (b : Block) (c : Token) (rest : List Token) → c.kind ≡ kind.Close → Fields b (c ∷ rest) [] c.at rest
   last : (b : Block) (ts : List Token) (f : Entry) (c : Token) (rest : List Token) → IsField b ts f (c ∷ rest) → c.kind ≡ kind.Close → Fields b ts (f ∷ []) c.at rest
@@ -64,7 +64,7 @@ pub data IsBlock : Block → List Token → List Entry → ℕ → List Token �
       k.kind ≡ kind.Name (word.Block b) → n.kind ≡ kind.Name w → e.kind ≡ kind.Equals → o.kind ≡ kind.Open →
       Fields b ts fs place (s ∷ rest) → s.kind ≡ kind.Semicolon → IsBlock b (k ∷ n ∷ e ∷ o ∷ ts) fs place rest
 
--- blocks, none of them twice, behind some that stood before, to the file's end; the fields of all, and where each
+-- blocks, none of them twice, after some that stood before, to the file's end; the fields of all, and where each
 -- block is closed
 pub data Blocks : Closed → List Token → List Entry → Closed → Type 0 where
   done : (c : Closed) → Blocks c [] [] c

@@ -235,7 +235,7 @@ abbrev pub finish_at : Place → ℕ → Parser → Result Syntax FileRefusal
 finish_at place.Declaration end p = whole_of end p.closed.system p.closed.implementation p.entries
 finish_at q end p = Err (refusal.Unexpected end (wanted_at q))
 
--- ---- all tokens, behind what was read; the file ends at the offset `end`
+-- ---- all tokens, after what was read; the file ends at the offset `end`
 abbrev pub parsed_from : ℕ → Parser → List Token → Result Syntax FileRefusal
 parsed_from end p [] = finish_at p.place end p
 parsed_from end p (t ∷ ts) = step_at p.place t.kind t p >>= λ q. parsed_from end q ts

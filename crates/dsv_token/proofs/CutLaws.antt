@@ -28,17 +28,17 @@ token_some k token rest (IsToken.dot r h) = omega arith
 token_some k token rest (IsToken.name b bs r h all p) = omega arith
 token_some k token rest (IsToken.number t r some e h) = omega (arith, some)
 
-behind_gap : (fresh next : Bool) (at : ℕ) (gap rest : List ℕ) (out : List Token) → IsGap fresh gap rest next →
+after_gap : (fresh next : Bool) (at : ℕ) (gap rest : List ℕ) (out : List Token) → IsGap fresh gap rest next →
     lexed (gap ++ rest) at 0 fresh out ≡ lexed rest (at + length gap) 0 next out
-behind_gap fresh next at gap rest out g =
+after_gap fresh next at gap rest out g =
     let some : 1 ≤ length gap = gap_some fresh next gap rest g in
     let n : length (gap ++ rest) ≡ length gap + length rest = length-append gap rest in
     sym (front_gap (gap ++ rest) at (length gap) fresh next out (omega (arith, some, n)) some (gap_again fresh next gap rest g))
     ∙ ap (λ t. lexed t (at + length gap) 0 next out) (drop-append_seam gap rest)
 
-behind_token : (fresh : Bool) (at : ℕ) (k : TokenKind) (token rest : List ℕ) (out : List Token) → IsToken k token rest →
+after_token : (fresh : Bool) (at : ℕ) (k : TokenKind) (token rest : List ℕ) (out : List Token) → IsToken k token rest →
     lexed (token ++ rest) at 0 fresh out ≡ lexed rest (at + length token) 0 false (out ++ record { kind = k; at = at; len = length token } ∷ [])
-behind_token fresh at k token rest out g =
+after_token fresh at k token rest out g =
     let some : 1 ≤ length token = token_some k token rest g in
     let n : length (token ++ rest) ≡ length token + length rest = length-append token rest in
     let new : List Token = out ++ record { kind = k; at = at; len = length token } ∷ [] in
@@ -48,10 +48,10 @@ behind_token fresh at k token rest out g =
 pub cut_again : (fresh : Bool) (at : ℕ) (text : List ℕ) (ts : List Token) → IsCut fresh at text ts → (out : List Token) → lexed text at 0 fresh out ≡ Ok (out ++ ts)
 cut_again fresh at text ts (IsCut.none f a) out = rw (append-nil out) refl
 cut_again fresh at text ts (IsCut.gap f next a gap rest us g h) out =
-    behind_gap fresh next at gap rest out g ∙ cut_again next (at + length gap) rest ts h out
+    after_gap fresh next at gap rest out g ∙ cut_again next (at + length gap) rest ts h out
 cut_again fresh at text ts (IsCut.token f a k token rest us g h) out =
     let t : Token = record { kind = k; at = at; len = length token } in
-    behind_token fresh at k token rest out g ∙ cut_again false (at + length token) rest us h (out ++ t ∷ []) ∙ ap (λ x. Ok x) (append_assoc out (t ∷ []) us)
+    after_token fresh at k token rest out g ∙ cut_again false (at + length token) rest us h (out ++ t ∷ []) ∙ ap (λ x. Ok x) (append_assoc out (t ∷ []) us)
 
 bad_where_stuck : (fresh : Bool) (text : List ℕ) (p : Lexeme) → Stands fresh text p → IsStuck fresh text → p ≡ lexeme.Bad
 bad_where_stuck fresh text (lexeme.Gap len next) s h = absurd (h.no_gap s.gap s.rest next s.split s.is_gap)
@@ -66,9 +66,9 @@ stuck_again fresh at (b ∷ bs) h out =
 pub stops_again : (fresh : Bool) (at : ℕ) (text : List ℕ) (place : ℕ) → StopsAt fresh at text place → (out : List Token) → lexed text at 0 fresh out ≡ Err (refusal.Token place)
 stops_again fresh at text place (StopsAt.here f a t h) out = stuck_again fresh at text h out
 stops_again fresh at text place (StopsAt.gap f next a gap rest p g h) out =
-    behind_gap fresh next at gap rest out g ∙ stops_again next (at + length gap) rest place h out
+    after_gap fresh next at gap rest out g ∙ stops_again next (at + length gap) rest place h out
 stops_again fresh at text place (StopsAt.token f a k token rest p g h) out =
-    behind_token fresh at k token rest out g ∙ stops_again false (at + length token) rest place h (out ++ record { kind = k; at = at; len = length token } ∷ [])
+    after_token fresh at k token rest out g ∙ stops_again false (at + length token) rest place h (out ++ record { kind = k; at = at; len = length token } ∷ [])
 
 -- ---- what is read is cut
 
@@ -89,10 +89,10 @@ said_token fresh at k token rest out (Ok all) g s =
     (t ∷ s.0, s.1 ∙ append_assoc out (t ∷ []) s.0, IsCut.token fresh at k token rest s.0 g s.2)
 said_token fresh at k token rest out (Err r) g s = (s.0, s.1, StopsAt.token fresh at k token rest s.0 g s.2)
 
--- the bytes behind a piece, one byte at a time
-rest_behind : (b : ℕ) (bs front rest : List ℕ) (len : ℕ) → b ∷ bs ≡ front ++ rest → len ≡ length front → 1 ≤ len → drop (len - 1) bs ≡ rest
-rest_behind b bs front rest zero e f g = absurd (omega arith)
-rest_behind b bs front rest (suc n) e f g =
+-- the bytes after a piece, one byte at a time
+rest_after : (b : ℕ) (bs front rest : List ℕ) (len : ℕ) → b ∷ bs ≡ front ++ rest → len ≡ length front → 1 ≤ len → drop (len - 1) bs ≡ rest
+rest_after b bs front rest zero e f g = absurd (omega arith)
+rest_after b bs front rest (suc n) e f g =
     let m : suc n - 1 ≡ n = omega arith in
     ap (λ k. drop k bs) m ∙ ap (λ t. drop (suc n) t) e ∙ ap (λ k. drop k (front ++ rest)) f ∙ drop-append_seam front rest
 
@@ -111,10 +111,10 @@ said_piece fresh at b bs out next said (lexeme.Gap len fresh_next) s e =
     let count = s.count in
     let some = s.some_byte in
     let place : at + 1 + (len - 1) ≡ at + length s.gap = omega (arith, count, some) in
-    let behind : drop (len - 1) bs ≡ s.rest = rest_behind b bs s.gap s.rest len s.split s.count s.some_byte in
+    let after : drop (len - 1) bs ≡ s.rest = rest_after b bs s.gap s.rest len s.split s.count s.some_byte in
     let here : Said fresh_next (at + 1 + (len - 1)) (drop (len - 1) bs) out r = said len fresh_next out in
     let there : Said fresh_next (at + length s.gap) s.rest out r =
-    subst (λ n. Said fresh_next n s.rest out r) place (subst (λ t. Said fresh_next (at + 1 + (len - 1)) t out r) behind here) in
+    subst (λ n. Said fresh_next n s.rest out r) place (subst (λ t. Said fresh_next (at + 1 + (len - 1)) t out r) after here) in
     subst (λ t. Said fresh at t out r) (sym s.split) (said_gap fresh fresh_next at s.gap s.rest out r s.is_gap there)
 said_piece fresh at b bs out next said (lexeme.Found k len) s e =
     let new : ℕ → List Token = λ n. out ++ record { kind = k; at = at; len = n } ∷ [] in
@@ -122,11 +122,11 @@ said_piece fresh at b bs out next said (lexeme.Found k len) s e =
     let count = s.count in
     let some = s.some_byte in
     let place : at + 1 + (len - 1) ≡ at + length s.token = omega (arith, count, some) in
-    let behind : drop (len - 1) bs ≡ s.rest = rest_behind b bs s.token s.rest len s.split s.count s.some_byte in
+    let after : drop (len - 1) bs ≡ s.rest = rest_after b bs s.token s.rest len s.split s.count s.some_byte in
     let here : Said false (at + 1 + (len - 1)) (drop (len - 1) bs) (new len) r = said len false (new len) in
     let there : Said false (at + length s.token) s.rest (new (length s.token)) r =
     subst (λ n. Said false (at + length s.token) s.rest (new n) r) s.count
-    (subst (λ n. Said false n s.rest (new len) r) place (subst (λ t. Said false (at + 1 + (len - 1)) t (new len) r) behind here)) in
+    (subst (λ n. Said false n s.rest (new len) r) place (subst (λ t. Said false (at + 1 + (len - 1)) t (new len) r) after here)) in
     subst (λ t. Said fresh at t out r) (sym s.split) (said_token fresh at k s.token s.rest out r s.is_token there)
 said_piece fresh at b bs out next said lexeme.Bad s e = (at, refl, StopsAt.here fresh at (b ∷ bs) (stuck_at fresh b bs e))
 

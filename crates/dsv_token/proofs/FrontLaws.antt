@@ -1,4 +1,4 @@
--- The gap or the token that the piece at the front is.
+-- The gap or the token that the piece at the beginning is.
 use Rattle.std.proofs.Common.{◌≡◌, ℕ, suc, ◌+◌, ◌≤◌, Bool, true, false, ◌||◌, ◌==◌, cond, List, [], ◌∷◌, ◌++◌, length, take, drop, refl, sym, ap, ◌∙◌, subst, arith}
 use Rattle.std.proofs.lemmas.List.{take-append-drop, length-take-le}
 use Rattle.std.proofs.lemmas.Bool.{cond_both, eqb-true, eqb-false, both_ways}
@@ -15,7 +15,7 @@ use Rattle.dsv_token.specs.Pieces.{IsGap, IsToken}
 use Rattle.dsv_token.proofs.Runs.{either, run_all, run_ends, run_within, Closes, closes}
 use Rattle.dsv_token.proofs.Numbers.{number_within, point_number}
 
--- a gap of this length is at the front
+-- a gap of this length is at the beginning
 pub record FrontGap (fresh : Bool) (text : List ℕ) (len : ℕ) (next : Bool) : Type 0 where
   pub gap : List ℕ
   pub rest : List ℕ
@@ -24,7 +24,7 @@ pub record FrontGap (fresh : Bool) (text : List ℕ) (len : ℕ) (next : Bool) :
   pub some_byte : 1 ≤ len
   pub is_gap : IsGap fresh gap rest next
 
--- a token of this length is at the front
+-- a token of this length is at the beginning
 pub record FrontToken (text : List ℕ) (k : TokenKind) (len : ℕ) : Type 0 where
   pub token : List ℕ
   pub rest : List ℕ
@@ -147,7 +147,7 @@ mark_stands fresh b bs None e = number_stands fresh (b ∷ bs)
 mark_stands fresh b bs (Some k) e =
     record { token = b ∷ []; rest = bs; split = refl; count = refl; some_byte = omega arith; is_token = IsToken.mark k b bs e }
 
--- the piece at the front stands there
+-- the piece at the beginning stands there
 pub front_stands : (fresh : Bool) (b : ℕ) (bs : List ℕ) → Stands fresh (b ∷ bs) (piece_of fresh (b ∷ bs))
 front_stands fresh b bs =
     let P : Lexeme → Type 0 = λ p. Stands fresh (b ∷ bs) p in

@@ -107,7 +107,7 @@ no_digits : (text : List ℕ) → digits_len text ≡ 0 → point_len text ≡ 0
 no_digits text e f =
     ap (λ n. by_digits text n (point_len (drop n text))) e ∙ ap (λ p. by_digits text 0 p) f
 
--- a whole part that begins with a point, by the digits behind it
+-- a whole part that begins with a point, by the digits after it
 abbrev by_point : ℕ → ℕ
 by_point m = cond (0 + m == 0) 0 (0 + 1 + m)
 

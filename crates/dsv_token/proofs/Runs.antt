@@ -1,4 +1,4 @@
--- Bytes of a class at the front, and comments.
+-- Bytes of a class at the beginning, and comments.
 use Rattle.std.proofs.Common.{◌≡◌, ℕ, suc, ◌+◌, ◌≤◌, Bool, true, false, ◌&&◌, ◌==◌, List, [], ◌∷◌, ◌++◌, length, take, drop, refl, sym, ap, ◌∙◌, arith}
 use Rattle.std.specs.Prelude.{Some}
 use Rattle.std.specs.List.{list_all}
@@ -25,7 +25,7 @@ run_all class [] = refl
 run_all class (b ∷ bs) =
     either (class b) (suc (run_len class bs)) 0 (λ n. list_all class (take n (b ∷ bs)) ≡ true) (λ e. rw e (run_all class bs)) (λ e. refl)
 
--- another byte stands behind a run
+-- another byte stands after a run
 pub run_ends : (class : ℕ → Bool) (text : List ℕ) → BeginsOther class (drop (run_len class text) text)
 run_ends class [] = tt
 run_ends class (b ∷ bs) =
@@ -37,7 +37,7 @@ run_within class (b ∷ bs) =
     let i : run_len class bs ≤ length bs = run_within class bs in
     either (class b) (suc (run_len class bs)) 0 (λ n. n ≤ suc (length bs)) (λ e. omega (arith, i)) (λ e. omega arith)
 
--- what has no `*/` is closed by the first behind it
+-- what has no `*/` is closed by the first after it
 pub close_again : (inside rest : List ℕ) (before : ℕ) (star : Bool) → has_close star inside ≡ false →
     close_len before star ((inside ++ (42 ∷ 47 ∷ [])) ++ rest) ≡ Some (before + length (inside ++ (42 ∷ 47 ∷ [])))
 close_again [] rest before true h = let e : before + 1 + 1 ≡ before + 2 = omega arith in rw e refl
@@ -48,7 +48,7 @@ close_again (b ∷ bs) rest before star h =
     let e : before + 1 + length (bs ++ (42 ∷ 47 ∷ [])) ≡ before + suc (length (bs ++ (42 ∷ 47 ∷ []))) = omega arith in
     ap (λ t. elim t [ true ↦ Some (before + 1) | false ↦ close_len (before + 1) (b == 42) next ]) p.0 ∙ close_again bs rest (before + 1) (b == 42) p.1 ∙ ap (λ k. Some k) e
 
--- how a text is closed, behind so many bytes, the last of them a star or not
+-- how a text is closed, after so many bytes, the last of them a star or not
 pub data Closes (before : ℕ) (star : Bool) (text : List ℕ) (n : ℕ) : Type 0 where
   at_once : (rest : List ℕ) → star ≡ true → text ≡ 47 ∷ rest → n ≡ before + 1 → Closes before star text n
   later : (inside rest : List ℕ) → has_close star inside ≡ false → text ≡ (inside ++ (42 ∷ 47 ∷ [])) ++ rest → n ≡ before + length (inside ++ (42 ∷ 47 ∷ [])) → Closes before star text n

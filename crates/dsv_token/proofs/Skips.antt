@@ -33,7 +33,7 @@ front_found (b ∷ bs) at (suc n) fresh kind out p q e =
     let o : List Token = out ++ record { kind = kind; at = at; len = suc n } ∷ [] in
     rw (← k) (sym (skip bs (at + 1) n false o)) ∙ ap (λ t. lexed bs (at + 1) t false o) (sym m) ∙ sym (ap (by_piece at out (λ n f o. lexed bs (at + 1) (n - 1) f o)) e)
 
--- behind a gap
+-- after a gap
 pub gap_step : (text : List ℕ) (at len : ℕ) (fresh next : Bool) (out : List Token) → at < length text → 1 ≤ len → lexeme.Gap len next ≡ piece_of fresh (drop at text) →
     lexed (drop (at + len) text) (at + len) 0 next out ≡ lexed (drop at text) at 0 fresh out
 gap_step text at len fresh next out p q e =
@@ -41,7 +41,7 @@ gap_step text at len fresh next out p q e =
     let f : drop len (drop at text) ≡ drop (at + len) text = drop-drop len at text in
     ap (λ t. lexed t (at + len) 0 next out) (sym f) ∙ front_gap (drop at text) at len fresh next out (omega arith) q (sym e)
 
--- behind a token
+-- after a token
 pub found_step : (text : List ℕ) (at len : ℕ) (fresh : Bool) (kind : TokenKind) (out new : List Token) → at < length text → 1 ≤ len → lexeme.Found kind len ≡ piece_of fresh (drop at text) →
     new ≡ out ++ record { kind = kind; at = at; len = len } ∷ [] →
     lexed (drop (at + len) text) (at + len) 0 false new ≡ lexed (drop at text) at 0 fresh out

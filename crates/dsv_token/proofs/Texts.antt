@@ -5,10 +5,10 @@ use Rattle.std.specs.Str.{IsUtf8}
 use Rattle.std.specs.Str.Lossy.{utf8_valid_len}
 use Rattle.std.proofs.lemmas.Str.{utf8_valid_len-IsUtf8}
 use Rattle.std.proofs.lemmas.Bool.{eq-eqb}
-use Rattle.dsv_token.specs.Text.{text_of}
+use Rattle.dsv_token.specs.Text.{utf8_test}
 
 -- bytes that are UTF-8 pass
-pub text_ok : (bytes : List ℕ) → IsUtf8 bytes → Ok tt ≡ text_of bytes
+pub text_ok : (bytes : List ℕ) → IsUtf8 bytes → Ok tt ≡ utf8_test bytes
 text_ok bytes h =
     let e : (utf8_valid_len bytes == length bytes) ≡ true = eq-eqb (utf8_valid_len bytes) (length bytes) (utf8_valid_len-IsUtf8 bytes h) in
-    rw (e, text_of) refl
+    rw (e, utf8_test) refl

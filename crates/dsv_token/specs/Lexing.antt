@@ -1,5 +1,5 @@
 -- A text as tokens. Between them stand blanks, comments and lines that begin with `#`.
-use Rattle.std.specs.Prelude.{ℕ, zero, suc, ◌+◌, ◌-◌, ◌≤◌, Bool, true, false, not, ◌&&◌, ◌||◌, ◌==◌, nat_le, if◌then◌else◌, List, [], ◌∷◌, ◌++◌, take, drop, Option, Some, None, Result, Ok, Err}
+use Rattle.std.specs.Prelude.{ℕ, zero, suc, ◌+◌, ◌-◌, ◌≤◌, Bool, true, false, not, ◌&&◌, ◌||◌, ◌==◌, if◌then◌else◌, List, [], ◌∷◌, ◌++◌, take, drop, Option, Some, None, Result, Ok, Err}
 use Rattle.dsv_text.specs.Bytes.{has_byte, is_blank, is_digit, is_letter}
 use Rattle.dsv_fraction.specs.Number.{number_len}
 use Rattle.dsv_token.specs.Names.{word_of}
@@ -12,24 +12,53 @@ use Rattle.dsv_token.specs.declared.lexemes.Lexeme.{Lexeme}
 use Rattle.dsv_token.specs.declared.lexemes.Lexeme.TheVariants as lexeme
 
 -- ---- bytes
+abbrev pub open_brace : ℕ
+open_brace = 123
+
+abbrev pub close_brace : ℕ
+close_brace = 125
+
+abbrev pub equals_sign : ℕ
+equals_sign = 61
+
+abbrev pub comma : ℕ
+comma = 44
+
+abbrev pub semicolon : ℕ
+semicolon = 59
+
+abbrev pub line_feed : ℕ
+line_feed = 10
+
+abbrev pub hash_mark : ℕ
+hash_mark = 35
+
+abbrev pub star_mark : ℕ
+star_mark = 42
+
+abbrev pub point : ℕ
+point = 46
+
+abbrev pub slash : ℕ
+slash = 47
 
 abbrev pub is_name_byte : ℕ → Bool
 is_name_byte b = is_letter b || is_digit b
 
 -- any but a line feed
 abbrev pub in_line : ℕ → Bool
-in_line b = not (b == 10)
+in_line b = not (b == line_feed)
 
 -- one of `{ } = , ;`
 abbrev pub mark_of : ℕ → Option TokenKind
 mark_of b =
-    if b == 123 then Some kind.Open else
-    if b == 125 then Some kind.Close else
-    if b == 61 then Some kind.Equals else
-    if b == 44 then Some kind.Comma else
-    if b == 59 then Some kind.Semicolon else None
+    if b == open_brace then Some kind.Open else
+    if b == close_brace then Some kind.Close else
+    if b == equals_sign then Some kind.Equals else
+    if b == comma then Some kind.Comma else
+    if b == semicolon then Some kind.Semicolon else None
 
--- ---- lengths, each from the front of a text
+-- ---- lengths, each from the beginning of a text
 
 -- of bytes of a class
 abbrev pub run_len : (ℕ → Bool) → List ℕ → ℕ
@@ -47,30 +76,30 @@ name_len text = run_len is_name_byte text
 -- of a comment to the end of its `*/`: so many bytes stand before the text, the last of them a star or not
 abbrev pub close_len : ℕ → Bool → List ℕ → Option ℕ
 close_len before star [] = None
-close_len before star (b ∷ bs) = elim (star && b == 47) [ true ↦ Some (before + 1) | false ↦ close_len (before + 1) (b == 42) bs ]
+close_len before star (b ∷ bs) = elim (star && b == slash) [ true ↦ Some (before + 1) | false ↦ close_len (before + 1) (b == star_mark) bs ]
 
--- ---- the piece at the front of a text
+-- ---- the piece that a text begins with
 
 abbrev pub closed : Option ℕ → Lexeme
 closed None = lexeme.Bad
 closed (Some n) = lexeme.Gap n false
 
--- from behind a `/`: a comment to the line's end, or to the next `*/`
+-- after a `/`: a comment to the line's end, or to the next `*/`
 abbrev pub comment_of : List ℕ → Lexeme
 comment_of text =
-    if has_byte 47 text then lexeme.Gap (1 + line_len text) false else
-    if has_byte 42 text then closed (close_len 2 false (drop 1 text)) else lexeme.Bad
+    if has_byte slash text then lexeme.Gap (1 + line_len text) false else
+    if has_byte star_mark text then closed (close_len 2 false (drop 1 text)) else lexeme.Bad
 
 -- a letter, a digit, `_` or `.` begins the text, so that no number may end before it
 abbrev pub is_joined : List ℕ → Bool
 is_joined [] = false
-is_joined (b ∷ bs) = is_name_byte b || b == 46
+is_joined (b ∷ bs) = is_name_byte b || b == point
 
 -- the longest number; where there is none, a `.`, which no digit follows then
 abbrev pub number_of : List ℕ → Lexeme
 number_of text =
     let n = number_len text in
-    if n == 0 then (if has_byte 46 text then lexeme.Found kind.Dot 1 else lexeme.Bad)
+    if n == 0 then (if has_byte point text then lexeme.Found kind.Dot 1 else lexeme.Bad)
     else if is_joined (drop n text) then lexeme.Bad else lexeme.Found kind.Number n
 
 abbrev pub name_of : List ℕ → Lexeme
@@ -86,15 +115,15 @@ abbrev pub piece_of : Bool → List ℕ → Lexeme
 piece_of fresh [] = lexeme.Bad
 piece_of fresh (b ∷ bs) =
     let text = b ∷ bs in
-    if is_blank b then lexeme.Gap 1 (fresh || b == 10) else
-    if b == 35 then (if fresh then lexeme.Gap (line_len text) true else lexeme.Bad) else
-    if b == 47 then comment_of bs else
+    if is_blank b then lexeme.Gap 1 (fresh || b == line_feed) else
+    if b == hash_mark then (if fresh then lexeme.Gap (line_len text) true else lexeme.Bad) else
+    if b == slash then comment_of bs else
     if is_letter b then name_of text else
     mark_or (mark_of b) (number_of text)
 
 -- ---- the whole text
 
--- what a piece at this offset, behind these tokens, leads to
+-- what a piece at this offset, after these tokens, leads to
 abbrev pub by_piece : ℕ → List Token → (ℕ → Bool → List Token → Result (List Token) FileRefusal) → Lexeme → Result (List Token) FileRefusal
 by_piece at out next (lexeme.Gap len fresh) = next len fresh out
 by_piece at out next (lexeme.Found k len) = next len false (out ++ record { kind = k; at = at; len = len } ∷ [])
@@ -120,7 +149,7 @@ LexemeFits most lexeme.Bad = Unit {0}
 
 -- the token has a byte, and stands between two offsets
 pub record IsWithin (start end : ℕ) (t : Token) : Type 0 where
-  pub behind : start ≤ t.at
+  pub after : start ≤ t.at
   pub some_byte : 1 ≤ t.len
   pub inside : t.at + t.len ≤ end
 

@@ -8,7 +8,7 @@ use crate::words::word_of;
 use dsv_fraction::number::number_len;
 use dsv_text::{has_byte, is_blank, is_digit, is_letter};
 
-/// One piece at the front of a text.
+/// One piece at the beginning of a text.
 #[derive(Clone, Copy)]
 pub enum Lexeme {
     /// Blanks, a comment or a `#` line. Behind it the line is fresh where nothing but blanks stood on it.
@@ -69,7 +69,7 @@ fn name_len(text: &[u8]) -> usize
     count
 }
 
-/// The length of a comment, from what stands behind its `/*`.
+/// The length of a comment, from what stands after its `/*`.
 fn close_len(text: &[u8]) -> Option<usize>
     ensures value { result ≡ close_len 2 false text.now }
     ensures within { IfSome result (λ n. (1 ≤ n) × (n ≤ length text.now + 2)) }
@@ -142,7 +142,7 @@ fn number_of(text: &[u8]) -> Lexeme
     }
 }
 
-/// What stands at the front of a text. `fresh` says that nothing but blanks stands before it on its line.
+/// What stands at the beginning of a text. `fresh` says that nothing but blanks stands before it on its line.
 pub fn piece_of(fresh: bool, text: &[u8]) -> Lexeme
     ensures value { result ≡ piece_of fresh text.now }
     ensures within { LexemeFits (length text.now) result }

@@ -14,6 +14,3 @@ pub use lexing::lex;
 pub use refusal::FileRefusal;
 pub use text::check_text;
 pub use token::{Token, TokenKind, Tokens, Word};
-
-#[cfg(test)]
-mod tests;

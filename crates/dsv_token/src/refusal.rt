@@ -1,7 +1,6 @@
 // Why a controller file is refused.
 use dsv_base::NoMemory;
 use dsv_names::{Field, Wanted};
-use std::alloc::AllocFailed;
 use thiserror::Error;
 
 /// Why a controller file is refused: its first fault, pass by pass over the whole file. Each offset counts the file's
@@ -52,17 +51,6 @@ impl From<NoMemory> for FileRefusal {
     ghost from_gives = { λ _ r. r ≡ refusal.NoMemory };
 
     fn from(_: NoMemory) -> Self {
-        FileRefusal::NoMemory
-    }
-}
-
-impl<T: Drop> From<AllocFailed<T>> for FileRefusal {
-    ghost use Rattle.std.specs.Prelude.{◌≡◌};
-    ghost use Rattle.dsv_token.specs.declared.refusal.FileRefusal.TheVariants as refusal;
-
-    ghost from_gives = { λ _ r. r ≡ refusal.NoMemory };
-
-    fn from(_: AllocFailed<T>) -> Self {
         FileRefusal::NoMemory
     }
 }

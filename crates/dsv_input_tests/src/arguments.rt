@@ -1,0 +1,265 @@
+// The rules of the command, by lists of arguments with what is wanted of each. A text is the list of what stands between
+// its bars.
+use dsv_base::NoMemory;
+use dsv_command::{CommandOption, Design, Task, read_job, read_parts};
+use dsv_names::{OverflowMode, Property, Realisation, Rounding};
+use std::alloc::Global;
+use std::test::Fail;
+
+/// The arguments of a text.
+fn arguments_of(alloc: Global, text: &str) -> Result<Vec<String>, NoMemory> {
+    let mut arguments = Vec::new(alloc);
+    for argument in text.split('|') {
+        arguments.push(String::from_str(alloc, argument)?)?;
+    }
+    Ok(arguments)
+}
+
+/// What is chosen where nothing is.
+const DEFAULTS: Design = Design {
+    realisation: Realisation::Dfi,
+    rounding: Rounding::Floor,
+    overflow: OverflowMode::Wrap,
+};
+
+/// Arguments that ask whether the controller of a file is stable in this design.
+#[derive(Clone, Copy)]
+struct Decision(&'static str, &'static str, Design);
+
+const DECISIONS: [Decision; 11] = [
+    Decision("f|--property|STABILITY", "f", DEFAULTS),
+    Decision("--property=STABILITY|f", "f", DEFAULTS),
+    Decision("--property|STABILITY|--|-f", "-f", DEFAULTS),
+    Decision("--property|STABILITY|--|--", "--", DEFAULTS),
+    Decision("-|--property|STABILITY", "-", DEFAULTS),
+    Decision("--property|STABILITY|a=b", "a=b", DEFAULTS),
+    Decision("--property|STABILITY|help", "help", DEFAULTS),
+    Decision(
+        "f|--property|STABILITY|--realization|DFI|--rounding=FLOOR|--overflow-mode|WRAPAROUND",
+        "f",
+        DEFAULTS,
+    ),
+    Decision(
+        "--realization=DFII|f|--rounding|CEIL|--property=STABILITY",
+        "f",
+        Design {
+            realisation: Realisation::Dfii,
+            rounding: Rounding::Ceil,
+            overflow: OverflowMode::Wrap,
+        },
+    ),
+    Decision(
+        "f|--property|STABILITY|--realization|TDDFII",
+        "f",
+        Design {
+            realisation: Realisation::Tddfii,
+            rounding: Rounding::Floor,
+            overflow: OverflowMode::Wrap,
+        },
+    ),
+    Decision(
+        "--overflow-mode|SATURATE|--rounding|NEAREST|--realization|TDFII|--property|STABILITY|--|f",
+        "f",
+        Design {
+            realisation: Realisation::Tdfii,
+            rounding: Rounding::Nearest,
+            overflow: OverflowMode::Saturate,
+        },
+    ),
+];
+
+fn asks_for_decision(alloc: Global, row: &Decision) -> Result<bool, NoMemory> {
+    let Decision(text, file, design) = row;
+    let arguments = arguments_of(alloc, text)?;
+    Ok(match read_job(alloc, &arguments)? {
+        Some(job) => {
+            job.file == *file
+                && matches!(job.task, Task::Decide(Property::Stability))
+                && job.design == *design
+        }
+        None => false,
+    })
+}
+
+#[test]
+fn decisions_have_a_file_and_a_design(rt: HostRuntime) {
+    for row in &DECISIONS {
+        assert!(rt; asks_for_decision(rt.alloc(), row).unwrap_or(false));
+    }
+}
+
+/// Arguments that ask for a simulation.
+#[derive(Clone, Copy)]
+struct Simulation {
+    text: &'static str,
+    inputs: &'static [i64],
+}
+
+const SIMULATIONS: [Simulation; 5] = [
+    Simulation {
+        text: "f|--simulate|4,4",
+        inputs: &[4, 4],
+    },
+    Simulation {
+        text: "f|--simulate=-1",
+        inputs: &[-1],
+    },
+    Simulation {
+        text: "--simulate=-0,00,-007|f",
+        inputs: &[0, 0, -7],
+    },
+    Simulation {
+        text: "--simulate=999999999999,-999999999999|f",
+        inputs: &[999_999_999_999, -999_999_999_999],
+    },
+    Simulation {
+        text: "--realization|DDFII|--simulate|0|f",
+        inputs: &[0],
+    },
+];
+
+fn asks_for_simulation(alloc: Global, row: &Simulation) -> Result<bool, NoMemory> {
+    let arguments = arguments_of(alloc, row.text)?;
+    Ok(match read_job(alloc, &arguments)? {
+        Some(job) => match &job.task {
+            Task::Simulate(found) => found.as_slice() == row.inputs,
+            Task::Decide(_) => false,
+        },
+        None => false,
+    })
+}
+
+#[test]
+fn inputs_are_numbers_joined_by_commas(rt: HostRuntime) {
+    for row in &SIMULATIONS {
+        assert!(rt; asks_for_simulation(rt.alloc(), row).unwrap_or(false));
+    }
+}
+
+fn is_job(alloc: Global, text: &str) -> Result<bool, NoMemory> {
+    let arguments = arguments_of(alloc, text)?;
+    Ok(read_job(alloc, &arguments)?.is_some())
+}
+
+/// Whether so many inputs are a job.
+fn are_inputs(alloc: Global, count: usize) -> Result<bool, NoMemory> {
+    let mut list = String::from_str(alloc, "f|--simulate=1")?;
+    for _ in 1..count {
+        list.push_str(",1")?;
+    }
+    is_job(alloc, list.as_str())
+}
+
+#[test]
+fn at_most_64_inputs(rt: HostRuntime) {
+    let most = are_inputs(rt.alloc(), 64).unwrap_or(false);
+    let more = are_inputs(rt.alloc(), 65).unwrap_or(true);
+    assert!(rt; most && !more);
+}
+
+#[test]
+fn no_arguments_are_no_job(rt: HostRuntime) -> Result<(), Fail> {
+    let none: Vec<String> = Vec::new(rt.alloc());
+    assert!(rt; read_job(rt.alloc(), &none)?.is_none());
+    Ok(())
+}
+
+const NO_JOBS: [&str; 51] = [
+    "f|--simulate|",
+    "f|--simulate=,",
+    "f|--simulate=1,",
+    "f|--simulate=,1",
+    "f|--simulate=1,,2",
+    "f|--simulate|-1",
+    "f|--simulate=--1",
+    "f|--simulate=+1",
+    "f|--simulate=-",
+    "f|--simulate=1.0",
+    "f|--simulate=1, 2",
+    "f|--simulate=1234567890123",
+    "f|--simulate=-0000000000001",
+    "f|--simulate=1|--simulate=1",
+    "f|--simulate=1|--property=STABILITY",
+    "--simulate=1",
+    "",
+    "f",
+    "help",
+    "--help",
+    "-h",
+    "--version",
+    "---",
+    "--=x",
+    "--property|STABILITY",
+    "--property=|f",
+    "--property||f",
+    "--property=--x|f",
+    "--property=STABILITY=|f",
+    "f|--property|stability",
+    "f|--property|OVERFLOW",
+    "f|--property|STABILITY|--property|STABILITY",
+    "f|--property=STABILITY|--property=STABILITY",
+    "f|g|--property|STABILITY",
+    "f|f|--property|STABILITY",
+    "-f|--property|STABILITY",
+    "|--property|STABILITY",
+    "f|--property|STABILITY|--unbounded",
+    "f|--prop|STABILITY",
+    "f|-property|STABILITY",
+    "--|--property",
+    "f|--|--property|STABILITY",
+    "--property|--|STABILITY|f",
+    "f|--property|STABILITY|--rounding",
+    "--rounding|--property|STABILITY|f",
+    "--rounding|-|--property|STABILITY|f",
+    "--rounding=|--property|STABILITY|f",
+    "f|--property|STABILITY|--realization|dfi",
+    "f|--property|STABILITY|--realization|DDF",
+    "f|--property|STABILITY|--overflow-mode|WRAP",
+    "f|--property|STABILITY|--FILE=|g",
+];
+
+#[test]
+fn other_arguments_are_no_job(rt: HostRuntime) {
+    for text in &NO_JOBS {
+        assert!(rt; !is_job(rt.alloc(), text).unwrap_or(true));
+    }
+}
+
+const OPTIONS: [CommandOption; 2] = [
+    CommandOption {
+        name: "flag",
+        takes_value: false,
+    },
+    CommandOption {
+        name: "name",
+        takes_value: true,
+    },
+];
+
+/// Arguments, and whether the table with one flag and one name allows them.
+#[derive(Clone, Copy)]
+struct Flags(&'static str, bool);
+
+const FLAGS: [Flags; 9] = [
+    Flags("--flag", true),
+    Flags("--flag|f", true),
+    Flags("f|--flag|--name|-", true),
+    Flags("--flag|--|--flag", true),
+    Flags("--name=a=b", true),
+    Flags("--flag=", false),
+    Flags("--flag=1", false),
+    Flags("--flag|--flag", false),
+    Flags("--name|--flag", false),
+];
+
+fn is_allowed(alloc: Global, text: &str) -> Result<bool, NoMemory> {
+    let arguments = arguments_of(alloc, text)?;
+    Ok(read_parts(alloc, &OPTIONS, &arguments)?.is_some())
+}
+
+#[test]
+fn an_option_may_take_no_value(rt: HostRuntime) {
+    for Flags(text, allowed) in &FLAGS {
+        assert!(rt; is_allowed(rt.alloc(), text).unwrap_or(!*allowed) == *allowed);
+    }
+}

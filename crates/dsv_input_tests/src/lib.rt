@@ -1,0 +1,16 @@
+//! Tests of the input: what controller files and arguments are read as. Expected values are worked by hand from the format
+//! of controller files and the rules of the command.
+#![tactic(auto)]
+
+#[cfg(test)]
+mod arguments;
+#[cfg(test)]
+mod controllers;
+#[cfg(test)]
+mod faults;
+#[cfg(test)]
+mod files;
+#[cfg(test)]
+mod numbers;
+#[cfg(test)]
+mod tokens;
