@@ -8,6 +8,20 @@ use Rattle.dsv_realise.specs.declared.parts.Parts.{Parts}
 use Rattle.dsv_realise.specs.Making.{Made}
 use Rattle.dsv_realise.specs.Netlists.{net_with}
 
+-- the most nodes after a netlist's first line, after its second, and before the new words of its registers; and the most
+-- nodes that the input and the registers take
+abbrev pub most_line_nodes : ℕ
+most_line_nodes = 200
+
+abbrev pub most_second_line_nodes : ℕ
+most_second_line_nodes = 300
+
+abbrev pub most_state_nodes : ℕ
+most_state_nodes = 400
+
+abbrev pub most_source_nodes : ℕ
+most_source_nodes = 100
+
 abbrev pub line_made : BuiltLine → Made
 line_made form = record { nodes = form.nodes.items; place = form.place }
 

@@ -6,7 +6,7 @@ ghost use Rattle.dsv_meaning.specs.Lines.{Times, summands};
 ghost use Rattle.dsv_meaning.specs.Equations.{transposed_line};
 ghost use Rattle.dsv_realise.specs.Making.{put, with_product, with_sum, with_next, with_summands, with_line};
 ghost use Rattle.dsv_realise.specs.Netlists.{sources, shift, newest_at};
-ghost use Rattle.dsv_realise.specs.Parts.{behind_of};
+ghost use Rattle.dsv_realise.specs.Parts.{behind_of, most_source_nodes};
 
 use dsv_base::NoMemory;
 use dsv_netlist::Node;
@@ -74,7 +74,7 @@ pub(crate) fn next_products(
 ) -> Result<u32, NoMemory>
     requires few { length nodes.old.items < 2 ^ 16 }
     requires short { length coeffs.now ≤ MOST_COEFFICIENTS }
-    requires low { from ≤ 100 }
+    requires low { from ≤ most_source_nodes }
     ensures made { IfOk result (λ place. record { nodes = nodes.new.items; place = place } ≡ with_summands (record { nodes = nodes.old.items; place = line }) (summands away coeffs.now (λ i. i) from)) }
     ensures few { IfOk result (λ place. length nodes.new.items ≤ length nodes.old.items + 45) }
 {
@@ -136,7 +136,7 @@ pub(crate) fn sources(alloc: Global, registers: u32) -> Result<Vec<Node>, NoMemo
 
 /// Registers that shift: one node goes into the first, and those from `rest` on into the others.
 pub(crate) fn shift(next: &mut Vec<u32>, first: u32, rest: u32, places: u32) -> Result<(), NoMemory>
-    requires low { rest ≤ 100 }
+    requires low { rest ≤ most_source_nodes }
     requires few { places ≤ MOST_ORDER }
     ensures { IfOk result (λ u. next.new.items ≡ next.old.items ++ shift first rest places) }
 {
