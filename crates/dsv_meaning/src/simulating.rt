@@ -65,6 +65,3 @@ pub fn simulate(
     }
     Ok(Rows::from(rows))
 }
-
-#[cfg(test)]
-mod tests;

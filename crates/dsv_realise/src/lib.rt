@@ -8,6 +8,3 @@ mod realisations;
 mod realising;
 
 pub use realising::realise;
-
-#[cfg(test)]
-mod tests;
