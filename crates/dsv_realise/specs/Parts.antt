@@ -28,7 +28,7 @@ line_made form = record { nodes = form.nodes.items; place = form.place }
 abbrev pub parts_as : Realisation → FixedPoint → Parts → Net
 parts_as realisation q p = net_with q realisation p.nodes.items p.next.items p.output
 
--- the node of the word behind a word of a chain, if there is one
-abbrev pub behind_of : Option ℕ → List ℕ
-behind_of None = []
-behind_of (Some k) = k ∷ []
+-- the node of the word after a word of a chain, if there is one
+abbrev pub successor_of : Option ℕ → List ℕ
+successor_of None = []
+successor_of (Some k) = k ∷ []

@@ -6,7 +6,7 @@ ghost use Rattle.dsv_meaning.specs.Lines.{Times, summands};
 ghost use Rattle.dsv_meaning.specs.Equations.{transposed_line};
 ghost use Rattle.dsv_realise.specs.Making.{put, with_product, with_sum, with_next, with_summands, with_line};
 ghost use Rattle.dsv_realise.specs.Netlists.{sources, shift, newest_at};
-ghost use Rattle.dsv_realise.specs.Parts.{behind_of, most_source_nodes};
+ghost use Rattle.dsv_realise.specs.Parts.{successor_of, most_source_nodes};
 
 use dsv_base::NoMemory;
 use dsv_netlist::Node;
@@ -100,21 +100,21 @@ pub(crate) fn forward_line(nodes: &mut Vec<Node>, b: &[i64], newest: u32) -> Res
     next_products(nodes, first, false, &b[1..], 1)
 }
 
-/// The line of one new word of a transposed form, where `behind` is the node of the old word behind it, if there is one.
+/// The line of one new word of a transposed form, where `successor` is the node of the old word after it, if there is one.
 pub(crate) fn transposed_line(
     nodes: &mut Vec<Node>,
     b: &i64,
     a: &i64,
     output: u32,
-    behind: Option<u32>,
+    successor: Option<u32>,
 ) -> Result<u32, NoMemory>
     requires { length nodes.old.items < 2 ^ 15 }
-    ensures made { IfOk result (λ place. record { nodes = nodes.new.items; place = place } ≡ with_line nodes.old.items (transposed_line b.now a.now 0 output (behind_of behind))) }
+    ensures made { IfOk result (λ place. record { nodes = nodes.new.items; place = place } ≡ with_line nodes.old.items (transposed_line b.now a.now 0 output (successor_of successor))) }
     ensures few { IfOk result (λ place. length nodes.new.items ≤ length nodes.old.items + 10) }
 {
     let forward = product(nodes, b, 0)?;
     let line = next_product(nodes, forward, true, a, output)?;
-    match behind {
+    match successor {
         Some(of) => sum(nodes, false, line, of),
         None => Ok(line),
     }

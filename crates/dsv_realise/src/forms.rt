@@ -34,7 +34,7 @@ pub(crate) fn second_form_state(alloc: Global, q: &Quantised) -> Result<BuiltLin
     Ok(BuiltLine { nodes, place })
 }
 
-/// The output's line of both second forms, behind the first line.
+/// The output's line of both second forms, after the first line.
 pub(crate) fn second_form(nodes: &mut Vec<Node>, q: &Quantised, state: u32) -> Result<u32, NoMemory>
     requires begun { record { nodes = nodes.old.items; place = state } ≡ second_form_state q.now }
     requires few { length nodes.old.items ≤ most_line_nodes }

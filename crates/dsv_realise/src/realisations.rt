@@ -46,7 +46,7 @@ pub(crate) fn direct_form_two(alloc: Global, q: &Quantised) -> Result<Parts, NoM
     })
 }
 
-/// The new words of the transposed direct form, behind its output.
+/// The new words of the transposed direct form, after its output.
 fn transposed_states(
     alloc: Global,
     nodes: &mut Vec<Node>,
@@ -61,18 +61,18 @@ fn transposed_states(
     let a = q.a();
     let mut next = Vec::new(alloc);
     for i in 1..a.len() {
-        let behind = if i + 1 < a.len() {
+        let successor = if i + 1 < a.len() {
             Some(i as u32 + 1)
         } else {
             None
         };
-        let place = transposed_line(nodes, &b[i], &a[i], output, behind)?;
+        let place = transposed_line(nodes, &b[i], &a[i], output, successor)?;
         next.push(place)?;
     }
     Ok(next)
 }
 
-/// Transposed direct form II: each state is made of the one behind it.
+/// Transposed direct form II: each state is made of the one after it.
 pub(crate) fn transposed_form_two(alloc: Global, q: &Quantised) -> Result<Parts, NoMemory>
     ensures { IfOk result (λ parts. parts_as Tdfii q.now parts ≡ net_as Tdfii q.now) }
 {
@@ -143,7 +143,7 @@ pub(crate) fn delta_form_two(alloc: Global, q: &Quantised) -> Result<Parts, NoMe
     })
 }
 
-/// The new words of the transposed delta form, behind its output.
+/// The new words of the transposed delta form, after its output.
 fn transposed_delta_states(
     alloc: Global,
     nodes: &mut Vec<Node>,
@@ -159,19 +159,19 @@ fn transposed_delta_states(
     let delta = q.delta();
     let mut next = Vec::new(alloc);
     for i in 1..a.len() {
-        let behind = if i + 1 < a.len() {
+        let successor = if i + 1 < a.len() {
             Some(i as u32 + 1)
         } else {
             None
         };
-        let line = transposed_line(nodes, &b[i], &a[i], output, behind)?;
+        let line = transposed_line(nodes, &b[i], &a[i], output, successor)?;
         let place = next_product(nodes, i as u32, false, &delta, line)?;
         next.push(place)?;
     }
     Ok(next)
 }
 
-/// Transposed delta direct form II: each state with delta times a line that is made of the one behind it.
+/// Transposed delta direct form II: each state with delta times a line that is made of the one after it.
 pub(crate) fn transposed_delta_form_two(alloc: Global, q: &Quantised) -> Result<Parts, NoMemory>
     ensures { IfOk result (λ parts. parts_as Tddfii q.now parts ≡ net_as Tddfii q.now) }
 {
