@@ -1,3 +1,4 @@
 pub mod FixedPoint
+pub mod Leading
 pub mod Meaning
 pub mod Quantising
