@@ -11,6 +11,9 @@ pub record Made : Type 0 where
   pub nodes : List Node
   pub place : ℕ
 
+abbrev pub made_at : List Node → ℕ → Made
+made_at nodes place = record { nodes = nodes; place = place }
+
 abbrev pub put : List Node → Node → List Node
 put nodes node = nodes ++ node ∷ []
 
@@ -54,6 +57,9 @@ with_line nodes (t ∷ ts) = with_summands (with_first nodes t) ts
 pub record Chained : Type 0 where
   pub nodes : List Node
   pub places : List ℕ
+
+abbrev pub chained_at : List Node → List ℕ → Chained
+chained_at nodes places = record { nodes = nodes; places = places }
 
 abbrev pub no_places : List Node → Chained
 no_places nodes = record { nodes = nodes; places = [] }

@@ -1,5 +1,6 @@
 // The lines that two realisations share.
 ghost use Rattle.std.specs.Prelude.{◌≡◌, ◌≤◌, length, IfOk};
+ghost use Rattle.dsv_realise.specs.Making.{made_at};
 ghost use Rattle.dsv_realise.specs.Netlists.{first_form, second_form_state, second_form, transposed_form};
 ghost use Rattle.dsv_realise.specs.Parts.{line_made, most_line_nodes, most_second_line_nodes};
 
@@ -36,9 +37,9 @@ pub(crate) fn second_form_state(alloc: Global, q: &Quantised) -> Result<BuiltLin
 
 /// The output's line of both second forms, after the first line.
 pub(crate) fn second_form(nodes: &mut Vec<Node>, q: &Quantised, state: u32) -> Result<u32, NoMemory>
-    requires begun { record { nodes = nodes.old.items; place = state } ≡ second_form_state q.now }
+    requires begun { made_at nodes.old.items state ≡ second_form_state q.now }
     requires few { length nodes.old.items ≤ most_line_nodes }
-    ensures made { IfOk result (λ place. record { nodes = nodes.new.items; place = place } ≡ second_form q.now) }
+    ensures made { IfOk result (λ place. made_at nodes.new.items place ≡ second_form q.now) }
     ensures few { IfOk result (λ place. length nodes.new.items ≤ most_second_line_nodes) }
 {
     forward_line(nodes, q.b(), state)

@@ -3,7 +3,7 @@ ghost use Rattle.std.specs.Prelude.{◌≡◌, ◌≤◌, ◌+◌, length, IfOk}
 ghost use Rattle.dsv_names.specs.declared.realisation.Realisation.TheVariants.{Dfi, Dfii, Tdfii, Ddfi, Ddfii, Tddfii};
 ghost use Rattle.dsv_realise.specs.Netlists.{net_as, count, transposed_form, transposed_nodes, transposed_delta_nodes};
 ghost use Rattle.dsv_meaning.specs.Equations.{order};
-ghost use Rattle.dsv_realise.specs.Making.{with_delta};
+ghost use Rattle.dsv_realise.specs.Making.{made_at, chained_at, with_delta};
 ghost use Rattle.dsv_realise.specs.Parts.{parts_as, most_line_nodes, most_state_nodes, most_source_nodes};
 
 use crate::building::{next_product, shift, transposed_line};
@@ -53,9 +53,9 @@ fn transposed_states(
     q: &Quantised,
     output: u32,
 ) -> Result<Vec<u32>, NoMemory>
-    requires begun { record { nodes = nodes.old.items; place = output } ≡ transposed_form q.now }
+    requires begun { made_at nodes.old.items output ≡ transposed_form q.now }
     requires few { length nodes.old.items ≤ most_line_nodes }
-    ensures { IfOk result (λ next. record { nodes = nodes.new.items; places = next.items } ≡ transposed_nodes q.now) }
+    ensures { IfOk result (λ next. chained_at nodes.new.items next.items ≡ transposed_nodes q.now) }
 {
     let b = q.b();
     let a = q.a();
@@ -97,7 +97,8 @@ fn delta_states(
 ) -> Result<(), NoMemory>
     requires few { length nodes.old.items ≤ most_state_nodes }
     requires low { first ≤ most_source_nodes }
-    ensures made { IfOk result (λ u. record { nodes = nodes.new.items; places = next.new.items } ≡ with_delta q.now before (count first (order q.now)) (record { nodes = nodes.old.items; places = next.old.items })) }
+    ensures made { IfOk result (λ u. chained_at nodes.new.items next.new.items ≡
+        with_delta q.now before (count first (order q.now)) (chained_at nodes.old.items next.old.items)) }
     ensures few { IfOk result (λ u. length nodes.new.items ≤ length nodes.old.items + 40) }
 {
     let delta = q.delta();
@@ -150,9 +151,9 @@ fn transposed_delta_states(
     q: &Quantised,
     output: u32,
 ) -> Result<Vec<u32>, NoMemory>
-    requires begun { record { nodes = nodes.old.items; place = output } ≡ transposed_form q.now }
+    requires begun { made_at nodes.old.items output ≡ transposed_form q.now }
     requires few { length nodes.old.items ≤ most_line_nodes }
-    ensures { IfOk result (λ next. record { nodes = nodes.new.items; places = next.items } ≡ transposed_delta_nodes q.now) }
+    ensures { IfOk result (λ next. chained_at nodes.new.items next.items ≡ transposed_delta_nodes q.now) }
 {
     let b = q.b();
     let a = q.a();
