@@ -5,14 +5,14 @@ use Rattle.std.proofs.lemmas.List.{drop_more, drop-drop}
 use Rattle.dsv_word.specs.declared.format.Format.{Format}
 use Rattle.dsv_quantiser.specs.FixedPoint.{FixedPoint}
 use Rattle.dsv_meaning.specs.Lines.{Times, Sum, next_summand, line}
-use Rattle.dsv_meaning.specs.Equations.{Chain, chained, delta_line, transposed_line, delta_chain, transposed_chain, transposed_delta_chain}
+use Rattle.dsv_meaning.specs.Equations.{Chain, chain_with, delta_line, transposed_line, delta_chain, transposed_chain, transposed_delta_chain}
 
 -- the words from the i-th on, of which that is the first
 from_place : (ws : List ℤ) (i : ℕ) (w : ℤ) → i < length ws → w ≡ get_or ws i (pos 0) → w ∷ drop (i + 1) ws ≡ drop i ws
 from_place ws i w h e = ap (λ v. v ∷ drop (i + 1) ws) e ∙ sym (drop_more ws i (pos 0) h)
 
 -- the chain with one word more
-added : (rs new : List ℤ) (s t : Sum) → new ≡ rs ++ s.value ∷ [] → s ≡ t → chained (record { words = rs; exact = [] }) t ≡ record { words = new; exact = s.exact }
+added : (rs new : List ℤ) (s t : Sum) → new ≡ rs ++ s.value ∷ [] → s ≡ t → chain_with (record { words = rs; exact = [] }) t ≡ record { words = new; exact = s.exact }
 added rs new s t n e = ap (λ (v : Sum). record { words = rs ++ v.value ∷ []; exact = v.exact }) (sym e) ∙ ap (λ v. record { words = v; exact = s.exact }) (sym n)
 
 pub delta_more : (q : FixedPoint) (f : Format) (d : ℤ) (old rs new es : List ℤ) (i : ℕ) (before w : ℤ) (s : Sum) → f ≡ q.format → d ≡ q.delta → i < length old
@@ -35,7 +35,7 @@ transposed_more q f x y bs cs old rest rs new es i b a s p hb hc eb ec r g n =
     let same : s ≡ t = g ∙ ap (λ v. line v es (transposed_line b a x y rest)) p ∙ ap (λ v. line q.format es (transposed_line b a x y v)) (r ∙ tail) in
     let start : Chain = record { words = rs; exact = es } in
     ap (transposed_chain q x y (drop (i + 1) bs) (drop (i + 1) cs) (drop (i + 1) old)) (sym (added rs new s t n same))
-    ∙ ap (λ v. transposed_chain q x y (drop (i + 1) bs) (drop (i + 1) cs) v (chained start t)) tail
+    ∙ ap (λ v. transposed_chain q x y (drop (i + 1) bs) (drop (i + 1) cs) v (chain_with start t)) tail
     ∙ ap (λ v. transposed_chain q x y v (a ∷ drop (i + 1) cs) (drop i old) start) (from_place bs i b hb eb)
     ∙ ap (λ v. transposed_chain q x y (drop i bs) v (drop i old) start) (from_place cs i a hc ec)
 

@@ -9,8 +9,8 @@ use Rattle.dsv_system.specs.declared.rows.Row.{Row}
 use Rattle.dsv_meaning.specs.Lines.{Summand, Times, Alone, Sum, summands, line}
 use Rattle.dsv_system.specs.Runs.{Sampled, SampleRow, row_at, rows_from}
 use Rattle.dsv_system.specs.RowViews.{row_of}
-use Rattle.dsv_meaning.specs.Equations.{Past, order, feedback, ago, latest, Chain, chained, forward_summands, feedback_summands, delta_line, delta_chain, no_words, sample_as, sample, start_as, registers_as, registers_of}
-use Rattle.dsv_meaning.specs.Stepping.{stepped}
+use Rattle.dsv_meaning.specs.Equations.{Past, order, feedback, ago, latest, Chain, chain_with, forward_summands, feedback_summands, delta_line, delta_chain, no_words, sample_as, sample, start_as, registers_as, registers_of}
+use Rattle.dsv_meaning.specs.Stepping.{step_as}
 
 -- ---- what a sample reads
 -- summands read the first words alone
@@ -140,7 +140,7 @@ delta_chain-length : (q : FixedPoint) (before : ℤ) (ws : List ℤ) (c : Chain)
 delta_chain-length q before [] c = omega arith
 delta_chain-length q before (w ∷ ws) c =
     let s = line q.format c.exact (delta_line q w before) in
-    omega (arith, delta_chain-length q w ws (chained c s), length_push c.words s.value)
+    omega (arith, delta_chain-length q w ws (chain_with c s), length_push c.words s.value)
 
 two_lines : (n : ℕ) (us vs : List ℤ) → n ≤ length us
     → Alike n (record { signal = us; outputs = vs; chain = []; output_chain = [] }) (start_as Dfi n (take n us ++ take n vs))
@@ -177,9 +177,9 @@ begun_anew Tddfii q r x h = record { signal = refl; outputs = refl; chain = refl
 
 -- the rows over registers, one sample more
 next_rows : (k : Realisation) (q : FixedPoint) (r new : List ℤ) (x : ℤ) (xs : List ℤ) (row : SampleRow) → length q.b ≡ order q + 1 → length r ≡ registers_of k (order q)
-    → row ≡ row_at (stepped k q r x) x → new ≡ (stepped k q r x).past
+    → row ≡ row_at (step_as k q r x) x → new ≡ (step_as k q r x).past
     → row ∷ rows_from (sample_as k q) (start_as k (order q) new) xs ≡ rows_from (sample_as k q) (start_as k (order q) r) (x ∷ xs)
-unfolding stepped
+unfolding step_as
 next_rows k q r new x xs row m h e g =
     let t = sample_as k q (start_as k (order q) r) x in
     ap (λ (s : SampleRow). s ∷ rows_from (sample_as k q) (start_as k (order q) new) xs) e
@@ -189,7 +189,7 @@ next_rows k q r new x xs row m h e g =
 
 pub run_more : (q : FixedPoint) (r new : List ℤ) (x : ℤ) (inputs : List ℤ) (i : ℕ) (shown longer : List Row) (row : Row) → length q.b ≡ order q + 1
     → length r ≡ registers_of q.realisation (order q) → i < length inputs → x ≡ get_or inputs i (pos 0)
-    → row_of row ≡ row_at (stepped q.realisation q r x) x → new ≡ (stepped q.realisation q r x).past → longer ≡ shown ++ row ∷ []
+    → row_of row ≡ row_at (step_as q.realisation q r x) x → new ≡ (step_as q.realisation q r x).past → longer ≡ shown ++ row ∷ []
     → map row_of longer ++ rows_from (sample q) (start_as q.realisation (order q) new) (drop (i + 1) inputs)
     ≡ map row_of shown ++ rows_from (sample q) (start_as q.realisation (order q) r) (drop i inputs)
 run_more q r new x inputs i shown longer row m h l is e g more =

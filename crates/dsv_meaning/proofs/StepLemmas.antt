@@ -6,16 +6,16 @@ use Rattle.dsv_word.specs.declared.format.Format.{Format}
 use Rattle.dsv_names.specs.declared.realisation.Realisation.TheVariants.{Dfi, Dfii, Tdfii, Ddfi, Ddfii, Tddfii}
 use Rattle.dsv_quantiser.specs.FixedPoint.{FixedPoint}
 use Rattle.dsv_meaning.specs.Lines.{Summand, Alone, Sum, summands, next_summand, next_summands, line}
-use Rattle.dsv_meaning.specs.Equations.{order, feedback, ago, Chain, chained, no_words, forward_summands, feedback_summands, transposed_output, delta_line, delta_chain, transposed_chain, transposed_delta_chain}
+use Rattle.dsv_meaning.specs.Equations.{order, feedback, ago, Chain, chain_with, no_words, forward_summands, feedback_summands, transposed_output, delta_line, delta_chain, transposed_chain, transposed_delta_chain}
 use Rattle.dsv_system.specs.Runs.{Sampled}
-use Rattle.dsv_meaning.specs.Stepping.{stepped, delayed}
+use Rattle.dsv_meaning.specs.Stepping.{step_as, delay_line}
 
 -- ---- delay lines
-pub delayed_is : (done : List ℤ) (x : ℤ) (ws : List ℤ) → delayed done x ws ≡ done ++ take (length ws) (x ∷ ws)
+pub delayed_is : (done : List ℤ) (x : ℤ) (ws : List ℤ) → delay_line done x ws ≡ done ++ take (length ws) (x ∷ ws)
 delayed_is done x [] = sym (append-nil done)
 delayed_is done x (w ∷ ws) = delayed_is (done ++ x ∷ []) w ws ∙ append_assoc done (x ∷ []) (take (length ws) (w ∷ ws))
 
-delayed_take : (done : List ℤ) (n : ℕ) (x : ℤ) (ws : List ℤ) → length ws ≡ n → delayed done x ws ≡ done ++ take n (x ∷ ws)
+delayed_take : (done : List ℤ) (n : ℕ) (x : ℤ) (ws : List ℤ) → length ws ≡ n → delay_line done x ws ≡ done ++ take n (x ∷ ws)
 delayed_take done n x ws e = delayed_is done x ws ∙ ap (λ m. done ++ take m (x ∷ ws)) e
 
 -- ---- direct forms
@@ -34,7 +34,7 @@ some_forward q w h = some q.b h
     some [] h = h
     some (c ∷ cs) h = omega arith
 
--- a line of products taken away behind one of products added
+-- a line of products taken away after one of products added
 pub direct_line : (q : FixedPoint) (old u v : List ℤ) (x : ℤ) (s t : Sum) → 1 ≤ length q.b → s ≡ line q.format old (forward_summands q (ago (x ∷ u)))
     → t ≡ line q.format s.exact (Alone s.value ∷ feedback_summands q (ago v) 0) → t ≡ line q.format old (forward_summands q (ago (x ∷ u)) ++ feedback_summands q (ago v) 0)
 direct_line q old u v x s t h e g =
@@ -42,9 +42,9 @@ direct_line q old u v x s t h e g =
     ∙ output_and q.format old (forward_summands q (ago (x ∷ u))) (feedback_summands q (ago v) 0) (some_forward q (ago (x ∷ u)) h)
 
 pub dfi_sample : (q : FixedPoint) (r u v first new : List ℤ) (x : ℤ) (y : Sum) → u ≡ take (order q) r → v ≡ drop (order q) r → length u ≡ order q → length v ≡ order q
-    → y ≡ line q.format [] (forward_summands q (ago (x ∷ u)) ++ feedback_summands q (ago v) 0) → first ≡ delayed [] x u → new ≡ delayed first y.value v
-    → record { y = y.value; exact = y.exact; past = new } ≡ stepped Dfi q r x
-unfolding stepped
+    → y ≡ line q.format [] (forward_summands q (ago (x ∷ u)) ++ feedback_summands q (ago v) 0) → first ≡ delay_line [] x u → new ≡ delay_line first y.value v
+    → record { y = y.value; exact = y.exact; past = new } ≡ step_as Dfi q r x
+unfolding step_as
 dfi_sample q r u v first new x y a b m n e g h =
     let z = line q.format [] (forward_summands q (ago (x ∷ take (order q) r)) ++ feedback_summands q (ago (drop (order q) r)) 0) in
     let same : y ≡ z = e ∙ ap (λ w. line q.format [] (forward_summands q (ago (x ∷ w)) ++ feedback_summands q (ago v) 0)) a
@@ -56,9 +56,9 @@ dfi_sample q r u v first new x y a b m n e g h =
     ∙ ap (λ (t : Sum). record { y = t.value; exact = t.exact; past = take (order q) (x ∷ take (order q) r) ++ take (order q) (t.value ∷ drop (order q) r) }) same
 
 pub dfii_sample : (q : FixedPoint) (r new : List ℤ) (x : ℤ) (w y : Sum) → length r ≡ order q → w ≡ line q.format [] (Alone x ∷ feedback_summands q (ago r) 0)
-    → y ≡ line q.format w.exact (forward_summands q (ago (w.value ∷ r))) → new ≡ delayed [] w.value r
-    → record { y = y.value; exact = y.exact; past = new } ≡ stepped Dfii q r x
-unfolding stepped
+    → y ≡ line q.format w.exact (forward_summands q (ago (w.value ∷ r))) → new ≡ delay_line [] w.value r
+    → record { y = y.value; exact = y.exact; past = new } ≡ step_as Dfii q r x
+unfolding step_as
 dfii_sample q r new x w y m e g h =
     ap (λ s. record { y = y.value; exact = y.exact; past = s }) (h ∙ delayed_take [] (order q) w.value r m)
     ∙ ap (λ (t : Sum). record { y = t.value; exact = t.exact; past = take (order q) (w.value ∷ r) }) g
@@ -67,35 +67,35 @@ dfii_sample q r new x w y m e g h =
 
 pub tdfii_sample : (q : FixedPoint) (r : List ℤ) (x : ℤ) (y : Sum) (c : Chain) → y ≡ line q.format [] (transposed_output q x r)
     → c ≡ transposed_chain q x y.value (drop 1 q.b) (feedback q) r (no_words y.exact)
-    → record { y = y.value; exact = c.exact; past = c.words } ≡ stepped Tdfii q r x
-unfolding stepped
+    → record { y = y.value; exact = c.exact; past = c.words } ≡ step_as Tdfii q r x
+unfolding step_as
 tdfii_sample q r x y c e g =
     ap (λ (d : Chain). record { y = y.value; exact = d.exact; past = d.words }) g
     ∙ ap (λ (t : Sum). let d = transposed_chain q x t.value (drop 1 q.b) (feedback q) r (no_words t.exact) in record { y = t.value; exact = d.exact; past = d.words }) e
 
 -- ---- delta forms
--- the chain behind other words
-abbrev behind : List ℤ → Chain → Chain
-behind front c = record { words = front ++ c.words; exact = c.exact }
+-- the chain after other words
+abbrev chain_after : List ℤ → Chain → Chain
+chain_after front c = record { words = front ++ c.words; exact = c.exact }
 
-chain_behind : (q : FixedPoint) (before : ℤ) (ws front : List ℤ) (c : Chain) → delta_chain q before ws (behind front c) ≡ behind front (delta_chain q before ws c)
-chain_behind q before [] front c = refl
-chain_behind q before (w ∷ ws) front c =
+delta_chain_after : (q : FixedPoint) (before : ℤ) (ws front : List ℤ) (c : Chain) → delta_chain q before ws (chain_after front c) ≡ chain_after front (delta_chain q before ws c)
+delta_chain_after q before [] front c = refl
+delta_chain_after q before (w ∷ ws) front c =
     let s = line q.format c.exact (delta_line q w before) in
-    ap (λ v. delta_chain q w ws (record { words = v; exact = s.exact })) (append_assoc front c.words (s.value ∷ [])) ∙ chain_behind q w ws front (chained c s)
+    ap (λ v. delta_chain q w ws (record { words = v; exact = s.exact })) (append_assoc front c.words (s.value ∷ [])) ∙ delta_chain_after q w ws front (chain_with c s)
 
 pub ddfi_sample : (q : FixedPoint) (r u v : List ℤ) (x : ℤ) (y : Sum) (c d : Chain) → u ≡ take (order q) r → v ≡ drop (order q) r
     → y ≡ line q.format [] (forward_summands q (ago (x ∷ u)) ++ feedback_summands q (ago v) 0) → c ≡ delta_chain q x u (no_words y.exact) → d ≡ delta_chain q y.value v c
-    → record { y = y.value; exact = d.exact; past = d.words } ≡ stepped Ddfi q r x
-unfolding stepped
+    → record { y = y.value; exact = d.exact; past = d.words } ≡ step_as Ddfi q r x
+unfolding step_as
 ddfi_sample q r u v x y c d a b e g h =
     let with_both : List ℤ → List ℤ → Sampled (List ℤ) = λ (s t : List ℤ).
     let z = line q.format [] (forward_summands q (ago (x ∷ s)) ++ feedback_summands q (ago t) 0) in
     let j = delta_chain q x s (no_words z.exact) in
     let k = delta_chain q z.value t (no_words j.exact) in
     record { y = z.value; exact = k.exact; past = j.words ++ k.words } in
-    let apart : d ≡ behind c.words (delta_chain q y.value v (no_words c.exact)) =
-    h ∙ ap (λ w. delta_chain q y.value v (record { words = w; exact = c.exact })) (sym (append-nil c.words)) ∙ chain_behind q y.value v c.words (no_words c.exact) in
+    let apart : d ≡ chain_after c.words (delta_chain q y.value v (no_words c.exact)) =
+    h ∙ ap (λ w. delta_chain q y.value v (record { words = w; exact = c.exact })) (sym (append-nil c.words)) ∙ delta_chain_after q y.value v c.words (no_words c.exact) in
     ap (λ (j : Chain). record { y = y.value; exact = j.exact; past = j.words }) apart
     ∙ ap (λ (j : Chain). let k = delta_chain q y.value v (no_words j.exact) in record { y = y.value; exact = k.exact; past = j.words ++ k.words }) g
     ∙ ap (λ (z : Sum). let j = delta_chain q x u (no_words z.exact) in let k = delta_chain q z.value v (no_words j.exact) in
@@ -104,8 +104,8 @@ ddfi_sample q r u v x y c d a b e g h =
 
 pub ddfii_sample : (q : FixedPoint) (r : List ℤ) (x : ℤ) (w y : Sum) (c : Chain) → w ≡ line q.format [] (Alone x ∷ feedback_summands q (ago r) 0)
     → y ≡ line q.format w.exact (forward_summands q (ago (w.value ∷ r))) → c ≡ delta_chain q w.value r (no_words y.exact)
-    → record { y = y.value; exact = c.exact; past = c.words } ≡ stepped Ddfii q r x
-unfolding stepped
+    → record { y = y.value; exact = c.exact; past = c.words } ≡ step_as Ddfii q r x
+unfolding step_as
 ddfii_sample q r x w y c e g h =
     ap (λ (d : Chain). record { y = y.value; exact = d.exact; past = d.words }) h
     ∙ ap (λ (t : Sum). let d = delta_chain q w.value r (no_words t.exact) in record { y = t.value; exact = d.exact; past = d.words }) g
@@ -114,8 +114,8 @@ ddfii_sample q r x w y c e g h =
 
 pub tddfii_sample : (q : FixedPoint) (r : List ℤ) (x : ℤ) (y : Sum) (c : Chain) → y ≡ line q.format [] (transposed_output q x r)
     → c ≡ transposed_delta_chain q x y.value (drop 1 q.b) (feedback q) r (no_words y.exact)
-    → record { y = y.value; exact = c.exact; past = c.words } ≡ stepped Tddfii q r x
-unfolding stepped
+    → record { y = y.value; exact = c.exact; past = c.words } ≡ step_as Tddfii q r x
+unfolding step_as
 tddfii_sample q r x y c e g =
     ap (λ (d : Chain). record { y = y.value; exact = d.exact; past = d.words }) g
     ∙ ap (λ (t : Sum). let d = transposed_delta_chain q x t.value (drop 1 q.b) (feedback q) r (no_words t.exact) in record { y = t.value; exact = d.exact; past = d.words }) e

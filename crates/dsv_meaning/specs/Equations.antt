@@ -64,25 +64,25 @@ pub record Chain : Type 0 where
 abbrev pub no_words : List ℤ → Chain
 no_words exact = record { words = []; exact = exact }
 
-abbrev pub chained : Chain → Sum → Chain
-chained c s = record { words = c.words ++ s.value ∷ []; exact = s.exact }
+abbrev pub chain_with : Chain → Sum → Chain
+chain_with c s = record { words = c.words ++ s.value ∷ []; exact = s.exact }
 
 -- new w_j = old w_j + delta old w_(j-1), where `before` is old w_(j-1)
 abbrev pub delta_chain : FixedPoint → ℤ → List ℤ → Chain → Chain
 delta_chain q before [] c = c
-delta_chain q before (w ∷ ws) c = delta_chain q w ws (chained c (line q.format c.exact (delta_line q w before)))
+delta_chain q before (w ∷ ws) c = delta_chain q w ws (chain_with c (line q.format c.exact (delta_line q w before)))
 
--- new s_i = b_i x - a_i y + old s_(i+1), where `s` is old s_i and those behind it
+-- new s_i = b_i x - a_i y + old s_(i+1), where `s` is old s_i and those after it
 abbrev pub transposed_chain : FixedPoint → ℤ → ℤ → List ℤ → List ℤ → List ℤ → Chain → Chain
 transposed_chain q x y (b ∷ bs) (a ∷ cs) s c =
-    transposed_chain q x y bs cs (drop 1 s) (chained c (line q.format c.exact (transposed_line b a x y (drop 1 s))))
+    transposed_chain q x y bs cs (drop 1 s) (chain_with c (line q.format c.exact (transposed_line b a x y (drop 1 s))))
 transposed_chain q x y _ _ s c = c
 
 -- new s_i = old s_i + delta (b_i x - a_i y + old s_(i+1))
 abbrev pub transposed_delta_chain : FixedPoint → ℤ → ℤ → List ℤ → List ℤ → List ℤ → Chain → Chain
 transposed_delta_chain q x y (b ∷ bs) (a ∷ cs) (s ∷ ss) c =
     let t = line q.format c.exact (transposed_line b a x y ss) in
-    transposed_delta_chain q x y bs cs ss (chained c (line q.format t.exact (delta_line q s t.value)))
+    transposed_delta_chain q x y bs cs ss (chain_with c (line q.format t.exact (delta_line q s t.value)))
 transposed_delta_chain q x y _ _ _ c = c
 
 -- ---- one sample

@@ -21,16 +21,16 @@ pub record Sum : Type 0 where
   pub exact : List ℤ
 
 -- one operation more, whose exact value is e: its value is the word that e becomes
-abbrev pub fitted : Format → List ℤ → ℤ → Sum
-fitted f old e = record { value = fit f.overflow (width f) e; exact = old ++ e ∷ [] }
+abbrev pub fitted_value : Format → List ℤ → ℤ → Sum
+fitted_value f old e = record { value = fit f.overflow (width f) e; exact = old ++ e ∷ [] }
 
 -- prod(c, w): the product over 2^frac_bits made whole, and fitted
 abbrev pub product : Format → List ℤ → ℤ → ℤ → Sum
-product f old c w = fitted f old (shifted f.rounding f.frac_bits (c *ℤ w))
+product f old c w = fitted_value f old (shifted f.rounding f.frac_bits (c *ℤ w))
 
 -- plus(v, s) or minus(v, s)
-abbrev pub joined : Format → Bool → ℤ → Sum → Sum
-joined f away v s = fitted f s.exact (if away then v -ℤ s.value else v +ℤ s.value)
+abbrev pub joined_value : Format → Bool → ℤ → Sum → Sum
+joined_value f away v s = fitted_value f s.exact (if away then v -ℤ s.value else v +ℤ s.value)
 
 -- a line starts with its first summand, which is never taken away; a word alone is no operation
 abbrev pub first_summand : Format → List ℤ → Summand ℤ → Sum
@@ -38,14 +38,14 @@ first_summand f old (Times away c w) = product f old c w
 first_summand f old (Alone w) = record { value = w; exact = old }
 
 abbrev pub next_summand : Format → Sum → Summand ℤ → Sum
-next_summand f s (Times away c w) = joined f away s.value (product f s.exact c w)
-next_summand f s (Alone w) = fitted f s.exact (s.value +ℤ w)
+next_summand f s (Times away c w) = joined_value f away s.value (product f s.exact c w)
+next_summand f s (Alone w) = fitted_value f s.exact (s.value +ℤ w)
 
 abbrev pub next_summands : Format → Sum → List (Summand ℤ) → Sum
 next_summands f s [] = s
 next_summands f s (t ∷ ts) = next_summands f (next_summand f s t) ts
 
--- a line from left to right, behind the exact values of the lines before it
+-- a line from left to right, after the exact values of the lines before it
 abbrev pub line : Format → List ℤ → List (Summand ℤ) → Sum
 line f old [] = record { value = pos 0; exact = old }
 line f old (t ∷ ts) = next_summands f (first_summand f old t) ts

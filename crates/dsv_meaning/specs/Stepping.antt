@@ -6,12 +6,12 @@ use Rattle.dsv_system.specs.Runs.{Sampled}
 use Rattle.dsv_meaning.specs.Equations.{order, sample_as, start_as, registers_as}
 
 -- one sample of the realisation from these words in the registers, whose past is the registers after it
-unfoldable pub stepped : Realisation → FixedPoint → List ℤ → ℤ → Sampled (List ℤ)
-stepped k q r x =
+unfoldable pub step_as : Realisation → FixedPoint → List ℤ → ℤ → Sampled (List ℤ)
+step_as k q r x =
     let s = sample_as k q (start_as k (order q) r) x in
     record { y = s.y; exact = s.exact; past = registers_as k (order q) s.past }
 
 -- a delay line's new words after those so far: the newest word, and the old ones but for the oldest
-abbrev pub delayed : List ℤ → ℤ → List ℤ → List ℤ
-delayed done newest [] = done
-delayed done newest (w ∷ ws) = delayed (done ++ newest ∷ []) w ws
+abbrev pub delay_line : List ℤ → ℤ → List ℤ → List ℤ
+delay_line done newest [] = done
+delay_line done newest (w ∷ ws) = delay_line (done ++ newest ∷ []) w ws

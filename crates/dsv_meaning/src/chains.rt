@@ -6,7 +6,7 @@ ghost use Rattle.std.specs.Prelude.{◌≡◌, ◌+◌, ◌*◌, ◌≤◌, leng
 ghost use Rattle.std.specs.List.{All};
 ghost use Rattle.dsv_meaning.specs.Lines.{line};
 ghost use Rattle.dsv_meaning.specs.Equations.{order, feedback, transposed_line, delta_chain, transposed_chain, transposed_delta_chain};
-ghost use Rattle.dsv_meaning.specs.Stepping.{delayed};
+ghost use Rattle.dsv_meaning.specs.Stepping.{delay_line};
 ghost use Rattle.dsv_meaning.specs.declared.chains.TheConstants.{MOST_REGISTERS};
 ghost use Rattle.dsv_system.specs.declared.exact_list.TheConstants.{MOST_EXACT};
 
@@ -22,8 +22,8 @@ pub(crate) const MOST_REGISTERS: usize = 16;
 /// The words in the registers.
 pub(crate) type Registers = ArrayVec<i64, MOST_REGISTERS>;
 
-/// The words behind the first so many.
-pub(crate) fn behind(words: &[i64], count: usize) -> &[i64]
+/// The words after the first so many.
+pub(crate) fn rest_after(words: &[i64], count: usize) -> &[i64]
     requires { count ≤ length words.now }
     ensures { result.now ≡ drop count words.now }
 {
@@ -36,7 +36,7 @@ pub(crate) fn feedback(q: &Quantised) -> &[i64]
     ensures many { length result.now ≡ order q.now }
     ensures words { All (IsWord q.now.format) result.now }
 {
-    behind(q.a(), 1)
+    rest_after(q.a(), 1)
 }
 
 /// The coefficients b_1, b_2, .. of the controller.
@@ -45,7 +45,7 @@ pub(crate) fn feed_forward(q: &Quantised) -> &[i64]
     ensures many { length result.now ≡ order q.now }
     ensures words { All (IsWord q.now.format) result.now }
 {
-    behind(q.b(), 1)
+    rest_after(q.b(), 1)
 }
 
 /// Delta's word.
@@ -59,7 +59,7 @@ fn delta_word(q: &Quantised) -> i64
 /// Adds the new words of a delay line: the newest word, and the old ones but for the oldest.
 pub(crate) fn delay(newest: &i64, old: &[i64], registers: &mut Registers)
     requires { length registers.old.items + length old.now ≤ MOST_REGISTERS }
-    ensures value { registers.new.items ≡ delayed registers.old.items newest.now old.now }
+    ensures value { registers.new.items ≡ delay_line registers.old.items newest.now old.now }
     ensures count { length registers.new.items ≡ length registers.old.items + length old.now }
 {
     let mut before = *newest;
@@ -138,7 +138,7 @@ pub(crate) fn transposed_chain(
     let a = feedback(q);
     let b = feed_forward(q);
     for (i, coeff) in b.iter().enumerate() {
-        let next = transposed_line(&format, coeff, &a[i], x, y, behind(old, i + 1), exact);
+        let next = transposed_line(&format, coeff, &a[i], x, y, rest_after(old, i + 1), exact);
         registers.push(next);
     }
 }
@@ -166,7 +166,7 @@ pub(crate) fn transposed_delta_chain(
     let a = feedback(q);
     let b = feed_forward(q);
     for (i, coeff) in b.iter().enumerate() {
-        let change = transposed_line(&format, coeff, &a[i], x, y, behind(old, i + 1), exact);
+        let change = transposed_line(&format, coeff, &a[i], x, y, rest_after(old, i + 1), exact);
         let next = next_product(&format, false, &old[i], &delta, &change, exact);
         registers.push(next);
     }

@@ -5,7 +5,7 @@ ghost use Rattle.dsv_word.specs.Words.{IsWord};
 ghost use Rattle.std.specs.Prelude.{◌≡◌, ◌+◌, ◌*◌, ◌^◌, ◌<◌, ◌≤◌, false, length, ◌∷◌, ◌+ℤ◌, ◌-ℤ◌, ◌*ℤ◌};
 ghost use Rattle.std.specs.Int.RustNames.{unsigned_abs};
 ghost use Rattle.std.specs.List.{All};
-ghost use Rattle.dsv_meaning.specs.Lines.{Times, summands, fitted, product, next_summand, next_summands, line};
+ghost use Rattle.dsv_meaning.specs.Lines.{Times, summands, fitted_value, product, next_summand, next_summands, line};
 ghost use Rattle.dsv_meaning.specs.Equations.{ago, first_alone};
 ghost use Rattle.dsv_system.specs.declared.exact_list.TheConstants.{MOST_EXACT};
 
@@ -13,9 +13,9 @@ use dsv_system::ExactList;
 use dsv_word::Format;
 
 /// The word that the exact value of an operation becomes.
-fn fitted(format: &Format, value: &i128, exact: &mut ExactList) -> i64
+fn fitted_value(format: &Format, value: &i128, exact: &mut ExactList) -> i64
     requires { length exact.old.items < MOST_EXACT }
-    ensures value { record { value = result; exact = exact.new.items } ≡ fitted format.now exact.old.items value.now }
+    ensures value { record { value = result; exact = exact.new.items } ≡ fitted_value format.now exact.old.items value.now }
     ensures count { length exact.new.items ≡ length exact.old.items + 1 }
 {
     exact.push(*value);
@@ -40,27 +40,27 @@ pub(crate) fn product(format: &Format, coeff: &i64, word: &i64, exact: &mut Exac
     ensures count { length exact.new.items ≡ length exact.old.items + 1 }
 {
     let value = format.round_shift(times(coeff, word));
-    fitted(format, &value, exact)
+    fitted_value(format, &value, exact)
 }
 
 /// A word added to a line.
 fn plus(format: &Format, sum: &i64, word: &i64, exact: &mut ExactList) -> i64
     requires { length exact.old.items < MOST_EXACT }
-    ensures value { record { value = result; exact = exact.new.items } ≡ fitted format.now exact.old.items (sum.now +ℤ word.now) }
+    ensures value { record { value = result; exact = exact.new.items } ≡ fitted_value format.now exact.old.items (sum.now +ℤ word.now) }
     ensures count { length exact.new.items ≡ length exact.old.items + 1 }
 {
     let value = i128::from(*sum) + i128::from(*word);
-    fitted(format, &value, exact)
+    fitted_value(format, &value, exact)
 }
 
 /// A word taken away from a line.
 fn minus(format: &Format, sum: &i64, word: &i64, exact: &mut ExactList) -> i64
     requires { length exact.old.items < MOST_EXACT }
-    ensures value { record { value = result; exact = exact.new.items } ≡ fitted format.now exact.old.items (sum.now -ℤ word.now) }
+    ensures value { record { value = result; exact = exact.new.items } ≡ fitted_value format.now exact.old.items (sum.now -ℤ word.now) }
     ensures count { length exact.new.items ≡ length exact.old.items + 1 }
 {
     let value = i128::from(*sum) - i128::from(*word);
-    fitted(format, &value, exact)
+    fitted_value(format, &value, exact)
 }
 
 /// A product more in a line.

@@ -6,7 +6,7 @@ ghost use Rattle.std.specs.Prelude.{◌≡◌, ◌+◌, length, IfOk};
 ghost use Rattle.std.specs.List.{All};
 ghost use Rattle.dsv_meaning.specs.Equations.{order, registers_of};
 ghost use Rattle.dsv_system.specs.RowViews.{row_of};
-ghost use Rattle.dsv_meaning.specs.Stepping.{stepped};
+ghost use Rattle.dsv_meaning.specs.Stepping.{step_as};
 ghost use Rattle.dsv_meaning.specs.Systems.{equations_of};
 ghost use Rattle.dsv_system.specs.Runs.{row_at};
 ghost use Rattle.dsv_system.specs.Systems.{rows};
@@ -19,7 +19,7 @@ use dsv_system::{ExactList, Row, Rows};
 use std::alloc::Global;
 
 /// The registers with these words.
-fn loaded(q: &Quantised, start: &[i64]) -> Registers
+fn loaded_registers(q: &Quantised, start: &[i64]) -> Registers
     requires { length start.now ≡ registers_of q.now.realisation (order q.now) }
     ensures words { result.items ≡ start.now }
     ensures numerator { length q.now.b ≡ order q.now + 1 }
@@ -35,8 +35,8 @@ fn loaded(q: &Quantised, start: &[i64]) -> Registers
 /// The row of one sample, after which the registers have their new words.
 fn next_row(q: &Quantised, x: &i64, registers: &mut Registers) -> Row
     requires { length registers.old.items ≡ registers_of q.now.realisation (order q.now) }
-    ensures row { row_of result ≡ row_at (stepped q.now.realisation q.now registers.old.items x.now) x.now }
-    ensures registers { registers.new.items ≡ (stepped q.now.realisation q.now registers.old.items x.now).past }
+    ensures row { row_of result ≡ row_at (step_as q.now.realisation q.now registers.old.items x.now) x.now }
+    ensures registers { registers.new.items ≡ (step_as q.now.realisation q.now registers.old.items x.now).past }
     ensures many { length registers.new.items ≡ length registers.old.items }
 {
     let mut exact = ExactList::new();
@@ -57,7 +57,7 @@ pub fn simulate(
     requires inputs { All (IsWord q.now.format) inputs.now }
     ensures { IfOk result (λ found. found ≡ rows (equations_of q.now) start.now inputs.now) }
 {
-    let mut registers = loaded(q, start);
+    let mut registers = loaded_registers(q, start);
     let mut rows = Vec::new(alloc);
     for x in inputs {
         let row = next_row(q, x, &mut registers);
@@ -65,6 +65,3 @@ pub fn simulate(
     }
     Ok(Rows::from(rows))
 }
-
-#[cfg(test)]
-mod tests;

@@ -5,7 +5,7 @@ ghost use Rattle.std.specs.Prelude.{◌≡◌, ◌+◌, ◌*◌, ◌≤◌, [], 
 ghost use Rattle.dsv_names.specs.declared.realisation.Realisation.TheVariants.{Dfi, Dfii, Tdfii, Ddfi, Ddfii, Tddfii};
 ghost use Rattle.dsv_meaning.specs.Lines.{Alone, line};
 ghost use Rattle.dsv_meaning.specs.Equations.{ago, order, forward_summands, feedback_summands, transposed_output, registers_of};
-ghost use Rattle.dsv_meaning.specs.Stepping.{stepped};
+ghost use Rattle.dsv_meaning.specs.Stepping.{step_as};
 ghost use Rattle.dsv_system.specs.declared.exact_list.TheConstants.{MOST_EXACT};
 
 use crate::chains::{
@@ -17,7 +17,7 @@ use dsv_quantiser::Quantised;
 use dsv_system::ExactList;
 
 /// The line b_0 w_0 + b_1 w_1 + .., where w_0 is the newest word.
-fn fed_forward(q: &Quantised, newest: &i64, older: &[i64], exact: &mut ExactList) -> i64
+fn forward_sum(q: &Quantised, newest: &i64, older: &[i64], exact: &mut ExactList) -> i64
     requires older { length older.now ≡ order q.now }
     requires room { length exact.old.items + 2 * order q.now + 2 ≤ MOST_EXACT }
     ensures value { record { value = result; exact = exact.new.items } ≡
@@ -30,7 +30,7 @@ fn fed_forward(q: &Quantised, newest: &i64, older: &[i64], exact: &mut ExactList
 }
 
 /// The line x - a_1 w_1 - a_2 w_2 - ..
-fn fed_back(q: &Quantised, x: &i64, words: &[i64], exact: &mut ExactList) -> i64
+fn feedback_sum(q: &Quantised, x: &i64, words: &[i64], exact: &mut ExactList) -> i64
     requires words { length words.now ≡ order q.now }
     requires room { length exact.old.items + 2 * order q.now ≤ MOST_EXACT }
     ensures value { record { value = result; exact = exact.new.items } ≡
@@ -50,8 +50,8 @@ fn direct_output(q: &Quantised, x: &i64, u: &[i64], v: &[i64], exact: &mut Exact
         line q.now.format exact.old.items (forward_summands q.now (ago (x.now ∷ u.now)) ++ feedback_summands q.now (ago v.now) 0) }
     ensures count { length exact.new.items ≡ length exact.old.items + 4 * order q.now + 1 }
 {
-    let sum = fed_forward(q, x, u, exact);
-    fed_back(q, &sum, v, exact)
+    let sum = forward_sum(q, x, u, exact);
+    feedback_sum(q, &sum, v, exact)
 }
 
 /// The line b_0 x + s_1, where s_1 is the first of the words, if there is one.
@@ -71,7 +71,7 @@ fn dfi(q: &Quantised, x: &i64, registers: &mut Registers, exact: &mut ExactList)
     requires many { length registers.old.items ≡ registers_of Dfi (order q.now) }
     requires empty { exact.old.items ≡ [] }
     ensures sample { record { y = result; exact = exact.new.items; past = registers.new.items } ≡
-        stepped Dfi q.now registers.old.items x.now }
+        step_as Dfi q.now registers.old.items x.now }
     ensures many { length registers.new.items ≡ length registers.old.items }
 {
     let (signal, outputs) = registers.as_slice().split_at(q.order());
@@ -88,12 +88,12 @@ fn dfii(q: &Quantised, x: &i64, registers: &mut Registers, exact: &mut ExactList
     requires many { length registers.old.items ≡ registers_of Dfii (order q.now) }
     requires empty { exact.old.items ≡ [] }
     ensures sample { record { y = result; exact = exact.new.items; past = registers.new.items } ≡
-        stepped Dfii q.now registers.old.items x.now }
+        step_as Dfii q.now registers.old.items x.now }
     ensures many { length registers.new.items ≡ length registers.old.items }
 {
     let old = registers.as_slice();
-    let w = fed_back(q, x, old, exact);
-    let y = fed_forward(q, &w, old, exact);
+    let w = feedback_sum(q, x, old, exact);
+    let y = forward_sum(q, &w, old, exact);
     let mut next = Registers::new();
     delay(&w, old, &mut next);
     *registers = next;
@@ -105,7 +105,7 @@ fn tdfii(q: &Quantised, x: &i64, registers: &mut Registers, exact: &mut ExactLis
     requires many { length registers.old.items ≡ registers_of Tdfii (order q.now) }
     requires empty { exact.old.items ≡ [] }
     ensures sample { record { y = result; exact = exact.new.items; past = registers.new.items } ≡
-        stepped Tdfii q.now registers.old.items x.now }
+        step_as Tdfii q.now registers.old.items x.now }
     ensures many { length registers.new.items ≡ length registers.old.items }
 {
     let old = registers.as_slice();
@@ -121,7 +121,7 @@ fn ddfi(q: &Quantised, x: &i64, registers: &mut Registers, exact: &mut ExactList
     requires many { length registers.old.items ≡ registers_of Ddfi (order q.now) }
     requires empty { exact.old.items ≡ [] }
     ensures sample { record { y = result; exact = exact.new.items; past = registers.new.items } ≡
-        stepped Ddfi q.now registers.old.items x.now }
+        step_as Ddfi q.now registers.old.items x.now }
     ensures many { length registers.new.items ≡ length registers.old.items }
 {
     let (u, v) = registers.as_slice().split_at(q.order());
@@ -138,12 +138,12 @@ fn ddfii(q: &Quantised, x: &i64, registers: &mut Registers, exact: &mut ExactLis
     requires many { length registers.old.items ≡ registers_of Ddfii (order q.now) }
     requires empty { exact.old.items ≡ [] }
     ensures sample { record { y = result; exact = exact.new.items; past = registers.new.items } ≡
-        stepped Ddfii q.now registers.old.items x.now }
+        step_as Ddfii q.now registers.old.items x.now }
     ensures many { length registers.new.items ≡ length registers.old.items }
 {
     let old = registers.as_slice();
-    let w = fed_back(q, x, old, exact);
-    let y = fed_forward(q, &w, old, exact);
+    let w = feedback_sum(q, x, old, exact);
+    let y = forward_sum(q, &w, old, exact);
     let mut next = Registers::new();
     delta_chain(q, &w, old, exact, &mut next);
     *registers = next;
@@ -155,7 +155,7 @@ fn tddfii(q: &Quantised, x: &i64, registers: &mut Registers, exact: &mut ExactLi
     requires many { length registers.old.items ≡ registers_of Tddfii (order q.now) }
     requires empty { exact.old.items ≡ [] }
     ensures sample { record { y = result; exact = exact.new.items; past = registers.new.items } ≡
-        stepped Tddfii q.now registers.old.items x.now }
+        step_as Tddfii q.now registers.old.items x.now }
     ensures many { length registers.new.items ≡ length registers.old.items }
 {
     let old = registers.as_slice();
@@ -171,7 +171,7 @@ pub(crate) fn step(q: &Quantised, x: &i64, registers: &mut Registers, exact: &mu
     requires many { length registers.old.items ≡ registers_of q.now.realisation (order q.now) }
     requires empty { exact.old.items ≡ [] }
     ensures sample { record { y = result; exact = exact.new.items; past = registers.new.items } ≡
-        stepped q.now.realisation q.now registers.old.items x.now }
+        step_as q.now.realisation q.now registers.old.items x.now }
     ensures many { length registers.new.items ≡ length registers.old.items }
 {
     match q.realisation() {

@@ -19,17 +19,3 @@ pub names_word-below : (nodes : List Node) (k : ℕ) → names_word nodes k ≡ 
 names_word-below [] k h = absurd cc
 names_word-below (node ∷ nodes) zero h = omega arith
 names_word-below (node ∷ nodes) (suc k) h = omega (arith, names_word-below nodes k h)
-
--- the i-th node and those behind it
-pub record NamesBackAt (nodes : List Node) (i : ℕ) : Type 0 where
-  pub here : NamesBelow i (get_or nodes i Input)
-  pub behind : AllNameBack (i + 1) (drop (i + 1) nodes)
-
-pub name_back_at : (nodes : List Node) (i : ℕ) → i < length nodes → AllNameBack i (drop i nodes) → NamesBackAt nodes i
-name_back_at nodes i l h =
-    let both = subst (λ (ns : List Node). AllNameBack i ns) (drop_more nodes i Input l) h in
-    record { here = both.0; behind = both.1 }
-
-pub name_back_from : (nodes : List Node) (i : ℕ) → i < length nodes → NamesBackAt nodes i → AllNameBack i (drop i nodes)
-name_back_from nodes i l h =
-    subst (λ (ns : List Node). AllNameBack i ns) (sym (drop_more nodes i Input l)) (h.here, h.behind)

@@ -65,7 +65,7 @@ node_exact-length vs (Fit i) = refl
 count_fits : (n : Node) (ns : List Node) → count_by is_fit (n ∷ ns) ≡ cond (is_fit n) 1 0 + count_by is_fit ns
 count_fits n ns = sum_by-cons (λ (m : Node). cond (is_fit m) 1 0) n ns
 
--- what is known of nodes behind a sample that has come so far
+-- what is known of nodes after a sample that has come so far
 pub record Behind (f : Format) (rs : List ℤ) (ns : List Node) (bs : List ℕ) (s : Sample) : Type 0 where
   pub within : AreWithin bs s.values
   pub backwards : AllNameBack (length s.values) ns

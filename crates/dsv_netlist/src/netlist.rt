@@ -181,6 +181,3 @@ impl Netlist {
         narrow(&self.format, &done[self.output as usize])
     }
 }
-
-#[cfg(test)]
-mod tests;

@@ -12,7 +12,7 @@ pub enum Node {
     Reg(u32),
     /// The product of a coefficient and a node.
     MulConst { coeff: i64, of: u32 },
-    /// A node divided by 2 to the number of bits behind the point, made whole by the format's rounding.
+    /// A node divided by 2 to the number of bits after the point, made whole by the format's rounding.
     Round(u32),
     /// The sum of two nodes.
     Add(u32, u32),

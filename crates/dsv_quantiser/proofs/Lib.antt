@@ -1,3 +1,4 @@
 pub mod Converted
+pub mod Leading
 pub mod Listing
 pub mod Ranges

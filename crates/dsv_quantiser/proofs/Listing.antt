@@ -16,7 +16,8 @@ use Rattle.dsv_quantiser.specs.declared.words.TheConstants.{MOST_COEFFICIENTS}
 use Rattle.dsv_quantiser.specs.FixedPoint.{IsFixedPoint, IsDeltaWord, unit}
 use Rattle.dsv_text.specs.Stages.{◌>>=◌}
 use Rattle.dsv_quantiser.specs.Quantising.{word_at, words_from}
-use Rattle.dsv_quantiser.specs.Meaning.{IsWordOf, AreWordsOf, IsRangeOf, IsInWords}
+use Rattle.dsv_quantiser.specs.Meaning.{IsWordOf, IsRangeOf, IsInWords}
+use Rattle.dsv_quantiser.specs.Parts.{AreWordsOf}
 
 -- one fraction more
 pub words_step : (f : Format) (name : ListName) (qs : List Ratio) (i n : ℕ) (q : Ratio) (out : List ℤ) (w : ℤ) (o : Result ℤ QuantRefusal) → i < length qs

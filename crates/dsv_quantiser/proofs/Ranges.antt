@@ -15,7 +15,8 @@ use Rattle.dsv_quantiser.specs.declared.range.Range.{Range}
 use Rattle.dsv_quantiser.specs.declared.refusal.QuantRefusal.{QuantRefusal}
 use Rattle.dsv_quantiser.specs.declared.refusal.QuantRefusal.TheVariants as refusal
 use Rattle.dsv_quantiser.specs.Quantising.{clamped}
-use Rattle.dsv_quantiser.specs.Meaning.{IsClamped, IsRangeOf}
+use Rattle.dsv_quantiser.specs.Meaning.{IsRangeOf}
+use Rattle.dsv_quantiser.specs.Parts.{IsClamped}
 
 pub empty_range : (f : Format) (low high x y : ℤ) → x ≡ int_max low (lo (width f)) → y ≡ int_min high (hi (width f)) → int_lt y x ≡ true
     → Err (refusal.RangeEmpty x y) ≡ clamped f low high

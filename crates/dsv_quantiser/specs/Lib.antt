@@ -1,3 +1,5 @@
 pub mod FixedPoint
+pub mod Leading
 pub mod Meaning
+pub mod Parts
 pub mod Quantising

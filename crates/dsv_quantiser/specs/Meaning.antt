@@ -16,12 +16,6 @@ pub record IsWordOf (format : Format) (q : Ratio) (w : ℤ) : Type 0 where
   pub word : IsWord format w
   pub rounded : IsRounded format.rounding (q.num *ℤ pos (2 ^ format.frac_bits)) q.den w
 
--- the words of the fractions after those of a prefix
-pub record AreWordsOf (format : Format) (qs : List Ratio) (prefix words : List ℤ) : Type 0 where
-  pub places : length words ≡ length prefix + length qs
-  pub same : (k : ℕ) → k < length prefix → slice_index_or words k (pos 0) ≡ slice_index_or prefix k (pos 0)
-  pub each : (k : ℕ) → k < length qs → IsWordOf format (slice_index_or qs k zero) (slice_index_or words (length prefix + k) (pos 0))
-
 -- q ≤ w / 2^f
 abbrev pub IsFrom : Format → Ratio → ℤ → Type 0
 IsFrom format q w = (q.num *ℤ pos (2 ^ format.frac_bits)) ≤ℤ (w *ℤ pos q.den)
@@ -29,13 +23,6 @@ IsFrom format q w = (q.num *ℤ pos (2 ^ format.frac_bits)) ≤ℤ (w *ℤ pos q
 -- w / 2^f ≤ q
 abbrev pub IsTo : Format → Ratio → ℤ → Type 0
 IsTo format q w = (w *ℤ pos q.den) ≤ℤ (q.num *ℤ pos (2 ^ format.frac_bits))
-
--- the range is not empty, and it has the words from low to high, and no others
-pub record IsClamped (format : Format) (low high : ℤ) (r : Range) : Type 0 where
-  pub low_end : lo (width format) ≤ℤ r.lo
-  pub order : r.lo ≤ℤ r.hi
-  pub high_end : r.hi ≤ℤ hi (width format)
-  pub inputs : (w : ℤ) → IsWord format w → (r.lo ≤ℤ w) × (w ≤ℤ r.hi) ↔ (low ≤ℤ w) × (w ≤ℤ high)
 
 -- the range is not empty, and it has the words that stand for a number from min to max, and no others
 pub record IsRangeOf (format : Format) (min max : Ratio) (r : Range) : Type 0 where

@@ -1,12 +1,14 @@
 //! Controllers in fixed-point words.
 #![tactic(auto)]
 
+mod law;
 mod quantised;
 mod quantising;
 mod range;
 mod refusal;
 mod words;
 
+pub use law::converted_leading_is_one;
 pub use quantised::Quantised;
 pub use quantising::quantise;
 pub use refusal::QuantRefusal;

@@ -3,7 +3,8 @@
 
 ghost use Rattle.std.specs.Prelude.{◌≡◌, IfOk};
 ghost use Rattle.dsv_quantiser.specs.Quantising.{range_of, clamped};
-ghost use Rattle.dsv_quantiser.specs.Meaning.{IsClamped, IsRangeOf};
+ghost use Rattle.dsv_quantiser.specs.Meaning.{IsRangeOf};
+ghost use Rattle.dsv_quantiser.specs.Parts.{IsClamped};
 
 use crate::refusal::QuantRefusal;
 use crate::words::or_wide;

@@ -5,7 +5,8 @@ ghost use Rattle.dsv_word.specs.Words.{IsWord};
 ghost use Rattle.std.specs.Prelude.{◌≡◌, ◌+◌, ◌≤◌, ◌<◌, ◌^◌, length, drop, [], ◌∷◌, MatchResult, Ok, Err, IfOk};
 ghost use Rattle.dsv_quantiser.specs.declared.words.TheConstants.{MOST_COEFFICIENTS};
 ghost use Rattle.dsv_quantiser.specs.FixedPoint.{unit};
-ghost use Rattle.dsv_quantiser.specs.Meaning.{IsWordOf, AreWordsOf};
+ghost use Rattle.dsv_quantiser.specs.Meaning.{IsWordOf};
+ghost use Rattle.dsv_quantiser.specs.Parts.{AreWordsOf};
 ghost use Rattle.dsv_quantiser.specs.Quantising.{or_wide, fitting, word_at, words_from, a_words, b_words};
 
 use crate::refusal::QuantRefusal;

@@ -6,7 +6,7 @@ use Rattle.dsv_word.specs.declared.format.Format.{Format}
 use Rattle.dsv_netlist.specs.Nodes.{at}
 use Rattle.dsv_quantiser.specs.FixedPoint.{FixedPoint}
 use Rattle.dsv_meaning.specs.Lines.{Summand, Times, Sum, summands, line}
-use Rattle.dsv_meaning.specs.Equations.{order, first_alone, transposed_line, transposed_output, Chain, chained, transposed_chain}
+use Rattle.dsv_meaning.specs.Equations.{order, first_alone, transposed_line, transposed_output, Chain, chain_with, transposed_chain}
 use Rattle.dsv_realise.specs.Making.{Made, with_line, Chained, with_place, with_transposed}
 use Rattle.dsv_realise.specs.Netlists.{count, sources, transposed_form}
 use Rattle.dsv_realise.proofs.Samples.{IsAt, Gives, Keeps, keeps_both}
@@ -37,7 +37,7 @@ pub record GivesChain (f : Format) (rs : List ℤ) (x : ℤ) (vs : List ℤ) (m 
   pub below : AreBelow (length now) m.places
   pub words : map (at now) m.places ≡ c.words
 
-pub chain_more : (f : Format) (rs : List ℤ) (x : ℤ) (vs : List ℤ) (m : Chained) (c : Chain) (g : GivesChain f rs x vs m c) (n : Made) (s : Sum) → Gives f rs x g.now n s → GivesChain f rs x vs (with_place m n) (chained c s)
+pub chain_more : (f : Format) (rs : List ℤ) (x : ℤ) (vs : List ℤ) (m : Chained) (c : Chain) (g : GivesChain f rs x vs m c) (n : Made) (s : Sum) → Gives f rs x g.now n s → GivesChain f rs x vs (with_place m n) (chain_with c s)
 chain_more f rs x vs m c g n s h =
     record {
       now = h.now;
@@ -65,15 +65,15 @@ transposed_gives q rs x vs xid yid (b ∷ bs) (a ∷ cs) s m c g p r h =
     let d = below_drop (length vs) s h in
     let made = transposed_line_gives f rs x vs xid yid b a (drop 1 s) m c g p r d in
     let next = chain_more f rs x vs m c g (with_line m.nodes (transposed_line b a xid yid (drop 1 s))) (line f c.exact (transposed_line b a (at vs xid) (at vs yid) (map (at vs) (drop 1 s)))) made in
-    let rest = transposed_gives q rs x vs xid yid bs cs (drop 1 s) (with_place m (with_line m.nodes (transposed_line b a xid yid (drop 1 s)))) (chained c (line f c.exact (transposed_line b a (at vs xid) (at vs yid) (map (at vs) (drop 1 s))))) next p r d in
-    subst (λ (w : List ℤ). GivesChain f rs x vs (with_transposed xid yid (b ∷ bs) (a ∷ cs) s m) (transposed_chain q (at vs xid) (at vs yid) bs cs w (chained c (line f c.exact (transposed_line b a (at vs xid) (at vs yid) w))))) (dropped_words vs s) rest
+    let rest = transposed_gives q rs x vs xid yid bs cs (drop 1 s) (with_place m (with_line m.nodes (transposed_line b a xid yid (drop 1 s)))) (chain_with c (line f c.exact (transposed_line b a (at vs xid) (at vs yid) (map (at vs) (drop 1 s))))) next p r d in
+    subst (λ (w : List ℤ). GivesChain f rs x vs (with_transposed xid yid (b ∷ bs) (a ∷ cs) s m) (transposed_chain q (at vs xid) (at vs yid) bs cs w (chain_with c (line f c.exact (transposed_line b a (at vs xid) (at vs yid) w))))) (dropped_words vs s) rest
 transposed_gives q rs x vs xid yid [] cs s m c g p r h = g
 transposed_gives q rs x vs xid yid (b ∷ bs) [] s m c g p r h = g
 
 pub transposed_chain-length : (q : FixedPoint) (x y : ℤ) (bs cs s : List ℤ) (c : Chain) → length bs ≡ length cs → length (transposed_chain q x y bs cs s c).words ≡ length c.words + length cs
 transposed_chain-length q x y (b ∷ bs) (a ∷ cs) s c e =
     let l = line q.format c.exact (transposed_line b a x y (drop 1 s)) in
-    omega (arith, transposed_chain-length q x y bs cs (drop 1 s) (chained c l) (omega arith), length_push c.words l.value)
+    omega (arith, transposed_chain-length q x y bs cs (drop 1 s) (chain_with c l) (omega arith), length_push c.words l.value)
 transposed_chain-length q x y [] [] s c e = omega arith
 transposed_chain-length q x y (b ∷ bs) [] s c e = absurd (omega arith)
 transposed_chain-length q x y [] (a ∷ cs) s c e = absurd (omega arith)

@@ -7,7 +7,7 @@ use Rattle.dsv_netlist.specs.declared.node.Node.{Node}
 use Rattle.dsv_netlist.specs.Nodes.{at}
 use Rattle.dsv_quantiser.specs.FixedPoint.{FixedPoint}
 use Rattle.dsv_meaning.specs.Lines.{Summand, Times, Alone, line}
-use Rattle.dsv_meaning.specs.Equations.{transposed_line, delta_line, Chain, no_words, chained, delta_chain, transposed_delta_chain}
+use Rattle.dsv_meaning.specs.Equations.{transposed_line, delta_line, Chain, no_words, chain_with, delta_chain, transposed_delta_chain}
 use Rattle.dsv_realise.specs.Making.{with_line, Chained, no_places, with_place, with_delta, with_transposed_delta}
 use Rattle.dsv_realise.proofs.Samples.{IsAt, Gives, keeps_self, keeps_both}
 use Rattle.dsv_realise.proofs.LineNodes.{in_words, line_gives}
@@ -34,13 +34,13 @@ delta_gives q rs x vs before (w ∷ ws) m c g l h =
     let f = q.format in
     let made = delta_line_gives q rs x m.nodes g.now c.exact w before (at vs w) (at vs before) g.stands (omega (arith, h.0, g.keeps.longer)) (omega (arith, l, g.keeps.longer)) (g.keeps.old w h.0) (g.keeps.old before l) in
     let next = chain_more f rs x vs m c g (with_line m.nodes (delta_line q w before)) (line f c.exact (delta_line q (at vs w) (at vs before))) made in
-    delta_gives q rs x vs w ws (with_place m (with_line m.nodes (delta_line q w before))) (chained c (line f c.exact (delta_line q (at vs w) (at vs before)))) next h.0 h.1
+    delta_gives q rs x vs w ws (with_place m (with_line m.nodes (delta_line q w before))) (chain_with c (line f c.exact (delta_line q (at vs w) (at vs before)))) next h.0 h.1
 
 pub delta_chain-length : (q : FixedPoint) (before : ℤ) (ws : List ℤ) (c : Chain) → length (delta_chain q before ws c).words ≡ length c.words + length ws
 delta_chain-length q before [] c = omega arith
 delta_chain-length q before (w ∷ ws) c =
     let l = line q.format c.exact (delta_line q w before) in
-    omega (arith, delta_chain-length q w ws (chained c l), length_push c.words l.value)
+    omega (arith, delta_chain-length q w ws (chain_with c l), length_push c.words l.value)
 
 pub transposed_delta_gives : (q : FixedPoint) (rs : List ℤ) (x : ℤ) (vs : List ℤ) (xid yid : ℕ) (bs cs : List ℤ) (s : List ℕ) (m : Chained) (c : Chain)
     → GivesChain q.format rs x vs m c → xid < length vs → yid < length vs → AreBelow (length vs) s
@@ -55,7 +55,7 @@ transposed_delta_gives q rs x vs xid yid (b ∷ bs) (a ∷ cs) (s ∷ ss) m c g 
     let d = with_line n.nodes (delta_line q s n.place) in
     let u = line f t.exact (delta_line q (at vs s) t.value) in
     let both : Gives f rs x g.now d u = record { now = made.now; stands = made.stands; keeps = keeps_both g.now gt.now made.now gt.keeps made.keeps; within = made.within; value = made.value } in
-    transposed_delta_gives q rs x vs xid yid bs cs ss (with_place m d) (chained c u) (chain_more f rs x vs m c g d u both) p r h.1
+    transposed_delta_gives q rs x vs xid yid bs cs ss (with_place m d) (chain_with c u) (chain_more f rs x vs m c g d u both) p r h.1
 transposed_delta_gives q rs x vs xid yid [] cs s m c g p r h = g
 transposed_delta_gives q rs x vs xid yid (b ∷ bs) [] s m c g p r h = g
 transposed_delta_gives q rs x vs xid yid (b ∷ bs) (a ∷ cs) [] m c g p r h = g
@@ -64,7 +64,7 @@ pub transposed_delta_chain-length : (q : FixedPoint) (x y : ℤ) (bs cs s : List
 transposed_delta_chain-length q x y (b ∷ bs) (a ∷ cs) (s ∷ ss) c e d =
     let t = line q.format c.exact (transposed_line b a x y ss) in
     let u = line q.format t.exact (delta_line q s t.value) in
-    omega (arith, transposed_delta_chain-length q x y bs cs ss (chained c u) (omega arith) (omega arith), length_push c.words u.value)
+    omega (arith, transposed_delta_chain-length q x y bs cs ss (chain_with c u) (omega arith) (omega arith), length_push c.words u.value)
 transposed_delta_chain-length q x y [] [] s c e d = omega arith
 transposed_delta_chain-length q x y (b ∷ bs) [] s c e d = absurd (omega arith)
 transposed_delta_chain-length q x y [] (a ∷ cs) s c e d = absurd (omega arith)

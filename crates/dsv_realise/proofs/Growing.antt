@@ -66,7 +66,7 @@ pub record AreSound (f : Format) (r : ℕ) (ns : List Node) : Type 0 where
   pub bounded : All (λ bound. bound < BOUND_LIMIT) (bounds_of f ns)
   pub words : (k : ℕ) → names_word ns k ≡ true → slice_index (bounds_of f ns) k ≡ word_bound f
 
--- a node that may stand behind them
+-- a node that may stand after them
 pub record MayFollow (f : Format) (r : ℕ) (ns : List Node) (n : Node) : Type 0 where
   pub backwards : NamesBelow (length ns) n
   pub reads : ReadsBelow r n
@@ -87,7 +87,7 @@ sound_more f r ns n s h =
     }
 
 -- ---- how many
--- so many products and sums, behind the input and r registers
+-- so many products and sums, after the input and r registers
 pub record HasCounts (r : ℕ) (ns : List Node) (p s : ℕ) : Type 0 where
   pub products : count_by is_product ns ≡ p
   pub sums : count_by is_sum ns ≡ s

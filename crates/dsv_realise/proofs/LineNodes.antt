@@ -4,7 +4,7 @@ use Rattle.std.proofs.Math.IntN.{ℤ, ◌+ℤ◌}
 use Rattle.dsv_word.specs.declared.format.Format.{Format}
 use Rattle.dsv_netlist.specs.declared.node.Node.{Node}
 use Rattle.dsv_netlist.specs.Nodes.{at}
-use Rattle.dsv_meaning.specs.Lines.{Summand, Times, Alone, summands, Sum, fitted, product, joined, first_summand, next_summand, next_summands, line}
+use Rattle.dsv_meaning.specs.Lines.{Summand, Times, Alone, summands, Sum, fitted_value, product, joined_value, first_summand, next_summand, next_summands, line}
 use Rattle.dsv_realise.specs.Making.{Made, with_product, with_sum, with_first, with_next, with_summands, with_line}
 use Rattle.dsv_realise.proofs.Samples.{IsAt, Gives, Keeps, keeps_self, keeps_both, product_gives, sum_gives}
 
@@ -34,10 +34,10 @@ next_gives f rs x vs m s (Times away c i) g o =
     let q : Gives f rs x g.now p (product f s.exact c (at vs i)) = product_gives f rs x m.nodes g.now s.exact c i (at vs i) g.stands (g.keeps.old i o) in
     let e : at q.now m.place ≡ s.value = q.keeps.old m.place g.within ∙ g.value in
     let r = sum_gives f rs x p.nodes q.now away m.place p.place s.value (product f s.exact c (at vs i)) q.stands e q.value in
-    after f rs x vs q.now (with_sum away p.nodes m.place p.place) (joined f away s.value (product f s.exact c (at vs i))) (keeps_both vs g.now q.now g.keeps q.keeps) r
+    after f rs x vs q.now (with_sum away p.nodes m.place p.place) (joined_value f away s.value (product f s.exact c (at vs i))) (keeps_both vs g.now q.now g.keeps q.keeps) r
 next_gives f rs x vs m s (Alone i) g o =
     let r = sum_gives f rs x m.nodes g.now false m.place i s.value (record { value = at vs i; exact = s.exact }) g.stands g.value (g.keeps.old i o) in
-    after f rs x vs g.now (with_sum false m.nodes m.place i) (fitted f s.exact (s.value +ℤ at vs i)) g.keeps r
+    after f rs x vs g.now (with_sum false m.nodes m.place i) (fitted_value f s.exact (s.value +ℤ at vs i)) g.keeps r
 
 summands_give : (f : Format) (rs : List ℤ) (x : ℤ) (vs : List ℤ) (m : Made) (s : Sum) (ts : List (Summand ℕ)) → Gives f rs x vs m s → AreOver (length vs) ts → Gives f rs x vs (with_summands m ts) (next_summands f s (map (in_words vs) ts))
 summands_give f rs x vs m s [] g o = g

@@ -10,7 +10,7 @@ use Rattle.dsv_meaning.specs.Lines.{Summand, Times, summands}
 use Rattle.dsv_meaning.specs.Equations.{order, feedback, first_alone, transposed_line, forward_summands, feedback_summands}
 use Rattle.dsv_realise.specs.Making.{Made, with_product, with_sum, with_first, with_next, with_summands, with_line, Chained, no_places, with_place, with_transposed, with_delta, with_transposed_delta}
 use Rattle.dsv_realise.specs.Netlists.{sources, count, newest_at, first_form, transposed_form, delta_inputs, delta_outputs, net_with, net_as}
-use Rattle.dsv_realise.specs.Parts.{behind_of}
+use Rattle.dsv_realise.specs.Parts.{successor_of}
 use Rattle.dsv_realise.proofs.LineNodes.{same_summands, length-summands}
 
 abbrev pub itself : ℕ → ℕ
@@ -85,10 +85,10 @@ output_summed q n0 n1 n2 b first place n h eb en es e z f =
 count_first : (i n : ℕ) → i < n → count i (n - i) ≡ i ∷ count (i + 1) (n - (i + 1))
 count_first i n h = let e : n - i ≡ suc (n - (i + 1)) = omega arith in ap (count i) e
 
-pub behind_some : (i n : ℕ) → i + 1 < n → first_alone (behind_of (Some (i + 1))) ≡ first_alone (count (i + 1) (n - (i + 1)))
+pub behind_some : (i n : ℕ) → i + 1 < n → first_alone (successor_of (Some (i + 1))) ≡ first_alone (count (i + 1) (n - (i + 1)))
 behind_some i n h = let e : suc (n - (i + 1) - 1) ≡ n - (i + 1) = omega arith in ap (λ (k : ℕ). first_alone (count (i + 1) k)) e
 
-pub behind_none : (i n : ℕ) → n ≤ i + 1 → first_alone (behind_of None) ≡ first_alone (count (i + 1) (n - (i + 1)))
+pub behind_none : (i n : ℕ) → n ≤ i + 1 → first_alone (successor_of None) ≡ first_alone (count (i + 1) (n - (i + 1)))
 behind_none i n h = let e : 0 ≡ n - (i + 1) = omega arith in ap (λ (k : ℕ). first_alone (count (i + 1) k)) e
 
 -- one new word of a transposed chain more
@@ -122,7 +122,7 @@ delta_more q older node end d ns ms ps qs p all h ed m e before =
     ap (λ (js : List ℕ). record { nodes = ms; places = js }) e ∙ ap (with_place (record { nodes = ns; places = ps })) line in
     ap (with_delta q node rest) same ∙ sym step ∙ before
 
--- a chain behind another
+-- a chain after another
 pub delta_behind : (q : FixedPoint) (before : ℕ) (ks : List ℕ) (ns : List Node) (ps qs : List ℕ)
     → with_delta q before ks (record { nodes = ns; places = ps ++ qs }) ≡ record { nodes = (with_delta q before ks (record { nodes = ns; places = qs })).nodes; places = ps ++ (with_delta q before ks (record { nodes = ns; places = qs })).places }
 delta_behind q before [] ns ps qs = refl

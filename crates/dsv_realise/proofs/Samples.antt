@@ -9,7 +9,7 @@ use Rattle.dsv_word.specs.Quotients.{shifted}
 use Rattle.dsv_netlist.specs.declared.node.Node.{Node}
 use Rattle.dsv_netlist.specs.declared.node.Node.TheVariants.{MulConst, Round, Fit}
 use Rattle.dsv_netlist.specs.Nodes.{at, Sample, node_value, node_exact, after_node, sample_from, sample_of}
-use Rattle.dsv_meaning.specs.Lines.{Sum, product, joined}
+use Rattle.dsv_meaning.specs.Lines.{Sum, product, joined_value}
 use Rattle.dsv_realise.specs.Making.{Made, put, with_product, joining, with_sum}
 
 abbrev pub fit_in : Format → ℤ → ℤ
@@ -115,7 +115,7 @@ pub joining_exact : (vs : List ℤ) (away : Bool) (i j : ℕ) → node_exact vs 
 joining_exact vs true i j = refl
 joining_exact vs false i j = refl
 
-pub sum_gives : (f : Format) (rs : List ℤ) (x : ℤ) (ns : List Node) (vs : List ℤ) (away : Bool) (i j : ℕ) (v : ℤ) (s : Sum) → IsAt f rs x ns vs s.exact → at vs i ≡ v → at vs j ≡ s.value → Gives f rs x vs (with_sum away ns i j) (joined f away v s)
+pub sum_gives : (f : Format) (rs : List ℤ) (x : ℤ) (ns : List Node) (vs : List ℤ) (away : Bool) (i j : ℕ) (v : ℤ) (s : Sum) → IsAt f rs x ns vs s.exact → at vs i ≡ v → at vs j ≡ s.value → Gives f rs x vs (with_sum away ns i j) (joined_value f away v s)
 sum_gives f rs x ns vs away i j v s h e g =
     let t = joint away v s.value in
     let a = put ns (joining away i j) in

@@ -43,7 +43,7 @@ counted g k (suc n) (w ∷ ws) h e =
 pub counted_all : (g : ℕ → ℤ) (k n : ℕ) (l : List ℤ) → length l ≡ n → ((i : ℕ) → i < n → g (k + i) ≡ ago l i) → map g (count k n) ≡ l
 counted_all g k n l h e = counted g k n l (omega arith) e ∙ take_all n l (omega arith)
 
--- a new word in front, then the words from node k on
+-- a new word first, then the words from node k on
 pub shifted_words : (n : ℕ) (g : ℕ → ℤ) (i : ℕ) (y : ℤ) (k : ℕ) (ys : List ℤ) → g i ≡ y → n ≤ length ys → ((j : ℕ) → j < n → g (k + j) ≡ ago ys j) → map g (shift i k n) ≡ take n (y ∷ ys)
 shifted_words zero g i y k ys e h f = refl
 shifted_words (suc n) g i y k ys e h f =

@@ -72,7 +72,7 @@ dfii_follows q p x s h =
       good = omega (arith, h);
     }
 
--- a sample whose output is that of a transposed form, with these nodes and this chain behind it
+-- a sample whose output is that of a transposed form, with these nodes and this chain after it
 record StepsAs (q : FixedPoint) (s : List ℤ) (x : ℤ) (m : Chained) (c : Chain) : Type 0 where
   y : at (sample_of q.format s x m.nodes).values (transposed_form q).place ≡ (line q.format [] (transposed_output q x s)).value
   exact : (sample_of q.format s x m.nodes).exact ≡ c.exact

@@ -11,6 +11,9 @@ pub record Made : Type 0 where
   pub nodes : List Node
   pub place : ℕ
 
+abbrev pub made_at : List Node → ℕ → Made
+made_at nodes place = record { nodes = nodes; place = place }
+
 abbrev pub put : List Node → Node → List Node
 put nodes node = nodes ++ node ∷ []
 
@@ -55,13 +58,16 @@ pub record Chained : Type 0 where
   pub nodes : List Node
   pub places : List ℕ
 
+abbrev pub chained_at : List Node → List ℕ → Chained
+chained_at nodes places = record { nodes = nodes; places = places }
+
 abbrev pub no_places : List Node → Chained
 no_places nodes = record { nodes = nodes; places = [] }
 
 abbrev pub with_place : Chained → Made → Chained
 with_place c m = record { nodes = m.nodes; places = c.places ++ m.place ∷ [] }
 
--- new s_i = b_i x - a_i y + old s_(i+1), where `s` are the nodes of old s_i and those behind it
+-- new s_i = b_i x - a_i y + old s_(i+1), where `s` are the nodes of old s_i and those after it
 abbrev pub with_transposed : ℕ → ℕ → List ℤ → List ℤ → List ℕ → Chained → Chained
 with_transposed x y (b ∷ bs) (a ∷ cs) s c =
     with_transposed x y bs cs (drop 1 s) (with_place c (with_line c.nodes (transposed_line b a x y (drop 1 s))))

@@ -44,7 +44,7 @@ first_form q = with_line (sources (order q + order q)) (forward_summands q (λ i
 abbrev pub second_form_state : FixedPoint → Made
 second_form_state q = with_line (sources (order q)) (Alone 0 ∷ feedback_summands q (λ i. i) 1)
 
--- y = b_0 w_0 + .. + b_N w_N behind it
+-- y = b_0 w_0 + .. + b_N w_N after it
 abbrev pub second_form : FixedPoint → Made
 second_form q = with_line (second_form_state q).nodes (forward_summands q (newest_at (second_form_state q).place))
 
@@ -52,7 +52,7 @@ second_form q = with_line (second_form_state q).nodes (forward_summands q (newes
 abbrev pub transposed_form : FixedPoint → Made
 transposed_form q = with_line (sources (order q)) (transposed_output q 0 (count 1 (order q)))
 
--- ---- what stands behind them: the nodes of all new words of the registers
+-- ---- what stands after them: the nodes of all new words of the registers
 abbrev pub transposed_nodes : FixedPoint → Chained
 transposed_nodes q =
     let y = transposed_form q in with_transposed 0 y.place (drop 1 q.b) (feedback q) (count 1 (order q)) (no_places y.nodes)

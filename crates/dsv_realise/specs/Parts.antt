@@ -8,13 +8,27 @@ use Rattle.dsv_realise.specs.declared.parts.Parts.{Parts}
 use Rattle.dsv_realise.specs.Making.{Made}
 use Rattle.dsv_realise.specs.Netlists.{net_with}
 
+-- the most nodes after a netlist's first line, after its second, and before the new words of its registers; and the most
+-- nodes that the input and the registers take
+abbrev pub most_line_nodes : ℕ
+most_line_nodes = 200
+
+abbrev pub most_second_line_nodes : ℕ
+most_second_line_nodes = 300
+
+abbrev pub most_state_nodes : ℕ
+most_state_nodes = 400
+
+abbrev pub most_source_nodes : ℕ
+most_source_nodes = 100
+
 abbrev pub line_made : BuiltLine → Made
 line_made form = record { nodes = form.nodes.items; place = form.place }
 
 abbrev pub parts_as : Realisation → FixedPoint → Parts → Net
 parts_as realisation q p = net_with q realisation p.nodes.items p.next.items p.output
 
--- the node of the word behind a word of a chain, if there is one
-abbrev pub behind_of : Option ℕ → List ℕ
-behind_of None = []
-behind_of (Some k) = k ∷ []
+-- the node of the word after a word of a chain, if there is one
+abbrev pub successor_of : Option ℕ → List ℕ
+successor_of None = []
+successor_of (Some k) = k ∷ []

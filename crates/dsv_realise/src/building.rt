@@ -4,9 +4,9 @@ ghost use Rattle.dsv_quantiser.specs.declared.words.TheConstants.{MOST_COEFFICIE
 ghost use Rattle.dsv_meaning.specs.declared.counts.TheConstants.{MOST_ORDER};
 ghost use Rattle.dsv_meaning.specs.Lines.{Times, summands};
 ghost use Rattle.dsv_meaning.specs.Equations.{transposed_line};
-ghost use Rattle.dsv_realise.specs.Making.{put, with_product, with_sum, with_next, with_summands, with_line};
+ghost use Rattle.dsv_realise.specs.Making.{made_at, put, with_product, with_sum, with_next, with_summands, with_line};
 ghost use Rattle.dsv_realise.specs.Netlists.{sources, shift, newest_at};
-ghost use Rattle.dsv_realise.specs.Parts.{behind_of};
+ghost use Rattle.dsv_realise.specs.Parts.{successor_of, most_source_nodes};
 
 use dsv_base::NoMemory;
 use dsv_netlist::Node;
@@ -26,7 +26,7 @@ fn put(nodes: &mut Vec<Node>, node: Node) -> Result<u32, NoMemory>
 /// The nodes of a product.
 pub(crate) fn product(nodes: &mut Vec<Node>, coeff: &i64, of: u32) -> Result<u32, NoMemory>
     requires { length nodes.old.items < 2 ^ 19 }
-    ensures made { IfOk result (λ place. record { nodes = nodes.new.items; place = place } ≡ with_product nodes.old.items coeff.now of) }
+    ensures made { IfOk result (λ place. made_at nodes.new.items place ≡ with_product nodes.old.items coeff.now of) }
     ensures few { IfOk result (λ place. length nodes.new.items ≡ length nodes.old.items + 3) }
 {
     let multiplied = put(nodes, Node::MulConst { coeff: *coeff, of })?;
@@ -37,7 +37,7 @@ pub(crate) fn product(nodes: &mut Vec<Node>, coeff: &i64, of: u32) -> Result<u32
 /// The nodes of a sum, or of a difference.
 pub(crate) fn sum(nodes: &mut Vec<Node>, away: bool, left: u32, right: u32) -> Result<u32, NoMemory>
     requires { length nodes.old.items < 2 ^ 19 }
-    ensures made { IfOk result (λ place. record { nodes = nodes.new.items; place = place } ≡ with_sum away nodes.old.items left right) }
+    ensures made { IfOk result (λ place. made_at nodes.new.items place ≡ with_sum away nodes.old.items left right) }
     ensures few { IfOk result (λ place. length nodes.new.items ≡ length nodes.old.items + 2) }
 {
     let summed = if away {
@@ -57,7 +57,8 @@ pub(crate) fn next_product(
     of: u32,
 ) -> Result<u32, NoMemory>
     requires { length nodes.old.items < 2 ^ 18 }
-    ensures made { IfOk result (λ place. record { nodes = nodes.new.items; place = place } ≡ with_next (record { nodes = nodes.old.items; place = line }) (Times away coeff.now of)) }
+    ensures made { IfOk result (λ place. made_at nodes.new.items place ≡
+        with_next (made_at nodes.old.items line) (Times away coeff.now of)) }
     ensures few { IfOk result (λ place. length nodes.new.items ≡ length nodes.old.items + 5) }
 {
     let factor = product(nodes, coeff, of)?;
@@ -74,8 +75,9 @@ pub(crate) fn next_products(
 ) -> Result<u32, NoMemory>
     requires few { length nodes.old.items < 2 ^ 16 }
     requires short { length coeffs.now ≤ MOST_COEFFICIENTS }
-    requires low { from ≤ 100 }
-    ensures made { IfOk result (λ place. record { nodes = nodes.new.items; place = place } ≡ with_summands (record { nodes = nodes.old.items; place = line }) (summands away coeffs.now (λ i. i) from)) }
+    requires low { from ≤ most_source_nodes }
+    ensures made { IfOk result (λ place. made_at nodes.new.items place ≡
+        with_summands (made_at nodes.old.items line) (summands away coeffs.now (λ i. i) from)) }
     ensures few { IfOk result (λ place. length nodes.new.items ≤ length nodes.old.items + 45) }
 {
     let mut place = line;
@@ -93,28 +95,30 @@ pub(crate) fn forward_line(nodes: &mut Vec<Node>, b: &[i64], newest: u32) -> Res
     requires few { length nodes.old.items < 2 ^ 15 }
     requires some { 1 ≤ length b.now }
     requires short { length b.now ≤ MOST_COEFFICIENTS }
-    ensures made { IfOk result (λ place. record { nodes = nodes.new.items; place = place } ≡ with_line nodes.old.items (summands false b.now (newest_at newest) 0)) }
+    ensures made { IfOk result (λ place. made_at nodes.new.items place ≡
+        with_line nodes.old.items (summands false b.now (newest_at newest) 0)) }
     ensures few { IfOk result (λ place. length nodes.new.items ≤ length nodes.old.items + 48) }
 {
     let first = product(nodes, &b[0], newest)?;
     next_products(nodes, first, false, &b[1..], 1)
 }
 
-/// The line of one new word of a transposed form, where `behind` is the node of the old word behind it, if there is one.
+/// The line of one new word of a transposed form, where `successor` is the node of the old word after it, if there is one.
 pub(crate) fn transposed_line(
     nodes: &mut Vec<Node>,
     b: &i64,
     a: &i64,
     output: u32,
-    behind: Option<u32>,
+    successor: Option<u32>,
 ) -> Result<u32, NoMemory>
     requires { length nodes.old.items < 2 ^ 15 }
-    ensures made { IfOk result (λ place. record { nodes = nodes.new.items; place = place } ≡ with_line nodes.old.items (transposed_line b.now a.now 0 output (behind_of behind))) }
+    ensures made { IfOk result (λ place. made_at nodes.new.items place ≡
+        with_line nodes.old.items (transposed_line b.now a.now 0 output (successor_of successor))) }
     ensures few { IfOk result (λ place. length nodes.new.items ≤ length nodes.old.items + 10) }
 {
     let forward = product(nodes, b, 0)?;
     let line = next_product(nodes, forward, true, a, output)?;
-    match behind {
+    match successor {
         Some(of) => sum(nodes, false, line, of),
         None => Ok(line),
     }
@@ -136,7 +140,7 @@ pub(crate) fn sources(alloc: Global, registers: u32) -> Result<Vec<Node>, NoMemo
 
 /// Registers that shift: one node goes into the first, and those from `rest` on into the others.
 pub(crate) fn shift(next: &mut Vec<u32>, first: u32, rest: u32, places: u32) -> Result<(), NoMemory>
-    requires low { rest ≤ 100 }
+    requires low { rest ≤ most_source_nodes }
     requires few { places ≤ MOST_ORDER }
     ensures { IfOk result (λ u. next.new.items ≡ next.old.items ++ shift first rest places) }
 {

@@ -1,7 +1,8 @@
 // The lines that two realisations share.
 ghost use Rattle.std.specs.Prelude.{◌≡◌, ◌≤◌, length, IfOk};
+ghost use Rattle.dsv_realise.specs.Making.{made_at};
 ghost use Rattle.dsv_realise.specs.Netlists.{first_form, second_form_state, second_form, transposed_form};
-ghost use Rattle.dsv_realise.specs.Parts.{line_made};
+ghost use Rattle.dsv_realise.specs.Parts.{line_made, most_line_nodes, most_second_line_nodes};
 
 use crate::building::{forward_line, next_products, product, sources, sum};
 use crate::parts::BuiltLine;
@@ -13,7 +14,7 @@ use std::alloc::Global;
 /// The output's line of both first forms.
 pub(crate) fn first_form(alloc: Global, q: &Quantised) -> Result<BuiltLine, NoMemory>
     ensures made { IfOk result (λ form. line_made form ≡ first_form q.now) }
-    ensures few { IfOk result (λ form. length form.nodes.items ≤ 200) }
+    ensures few { IfOk result (λ form. length form.nodes.items ≤ most_line_nodes) }
 {
     let a = q.a();
     let order = (a.len() - 1) as u32;
@@ -26,7 +27,7 @@ pub(crate) fn first_form(alloc: Global, q: &Quantised) -> Result<BuiltLine, NoMe
 /// The first line of both second forms.
 pub(crate) fn second_form_state(alloc: Global, q: &Quantised) -> Result<BuiltLine, NoMemory>
     ensures made { IfOk result (λ form. line_made form ≡ second_form_state q.now) }
-    ensures few { IfOk result (λ form. length form.nodes.items ≤ 200) }
+    ensures few { IfOk result (λ form. length form.nodes.items ≤ most_line_nodes) }
 {
     let a = q.a();
     let mut nodes = sources(alloc, (a.len() - 1) as u32)?;
@@ -34,12 +35,12 @@ pub(crate) fn second_form_state(alloc: Global, q: &Quantised) -> Result<BuiltLin
     Ok(BuiltLine { nodes, place })
 }
 
-/// The output's line of both second forms, behind the first line.
+/// The output's line of both second forms, after the first line.
 pub(crate) fn second_form(nodes: &mut Vec<Node>, q: &Quantised, state: u32) -> Result<u32, NoMemory>
-    requires begun { record { nodes = nodes.old.items; place = state } ≡ second_form_state q.now }
-    requires few { length nodes.old.items ≤ 200 }
-    ensures made { IfOk result (λ place. record { nodes = nodes.new.items; place = place } ≡ second_form q.now) }
-    ensures few { IfOk result (λ place. length nodes.new.items ≤ 300) }
+    requires begun { made_at nodes.old.items state ≡ second_form_state q.now }
+    requires few { length nodes.old.items ≤ most_line_nodes }
+    ensures made { IfOk result (λ place. made_at nodes.new.items place ≡ second_form q.now) }
+    ensures few { IfOk result (λ place. length nodes.new.items ≤ most_second_line_nodes) }
 {
     forward_line(nodes, q.b(), state)
 }
@@ -47,7 +48,7 @@ pub(crate) fn second_form(nodes: &mut Vec<Node>, q: &Quantised, state: u32) -> R
 /// The output's line of both transposed forms.
 pub(crate) fn transposed_form(alloc: Global, q: &Quantised) -> Result<BuiltLine, NoMemory>
     ensures made { IfOk result (λ form. line_made form ≡ transposed_form q.now) }
-    ensures few { IfOk result (λ form. length form.nodes.items ≤ 200) }
+    ensures few { IfOk result (λ form. length form.nodes.items ≤ most_line_nodes) }
 {
     let order = q.order() as u32;
     let mut nodes = sources(alloc, order)?;

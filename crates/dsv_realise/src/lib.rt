@@ -3,11 +3,8 @@
 
 mod building;
 mod forms;
-mod kinds;
 mod parts;
+mod realisations;
 mod realising;
 
 pub use realising::realise;
-
-#[cfg(test)]
-mod tests;

@@ -9,11 +9,11 @@ ghost use Rattle.dsv_realise.specs.Netlists.{net_of};
 ghost use Rattle.dsv_realise.specs.Running.{counts_as};
 ghost use Rattle.dsv_realise.specs.Parts.{parts_as};
 
-use crate::kinds::{
+use crate::parts::Parts;
+use crate::realisations::{
     delta_form_one, delta_form_two, direct_form_one, direct_form_two, transposed_delta_form_two,
     transposed_form_two,
 };
-use crate::parts::Parts;
 use dsv_base::NoMemory;
 use dsv_meaning::forward_registers;
 use dsv_names::Realisation;

@@ -12,12 +12,12 @@ loop-i-preserved c =
     let next : SFits w64 c.next_product-next.result = search rules in
     record {
       same =
-          transposed_delta_more c.args.q.now c.format-format.result c.delta_word-delta.result c.args.x.now c.args.y.now c.feed_forward-b.result.now c.feedback-a.result.now c.args.old.now c.behind.result.now
+          transposed_delta_more c.args.q.now c.format-format.result c.delta_word-delta.result c.args.x.now c.args.y.now c.feed_forward-b.result.now c.feedback-a.result.now c.args.old.now c.rest_after.result.now
           c.loop-i.registers.items c.push.new.self.items c.loop-i.exact.items c.loop-i.i
           (slice_index_or c.feed_forward-b.result.now c.loop-i.i (pos 0)) (slice_index_or c.feedback-a.result.now c.loop-i.i (pos 0)) (slice_index_or c.args.old.now c.loop-i.i (pos 0))
           (record { value = c.transposed_line-change.result; exact = c.transposed_line-change.new.exact.items })
           (record { value = c.next_product-next.result; exact = c.next_product-next.new.exact.items })
-          c.format-format.ensures.same c.delta_word-delta.ensures.same (omega arith) (omega arith) (omega arith) refl refl refl c.behind.ensures c.transposed_line-change.ensures.value
+          c.format-format.ensures.same c.delta_word-delta.ensures.same (omega arith) (omega arith) (omega arith) refl refl refl c.rest_after.ensures c.transposed_line-change.ensures.value
           (simp to_z-of_z at c.next_product-next.ensures.value) (simp to_z-of_z at c.push.ensures.items) ∙ c.loop-i.invariant.same;
       count = omega arith;
       room = omega arith;

@@ -7,12 +7,12 @@ use Rattle.dsv_meaning.proofs.stepping.ddfii.Goals as goal
 
 pub returns-clause-sample : goal.returns-clause-sample
 returns-clause-sample c =
-    let result : SFits w64 c.fed_forward-y.result = search rules in
-    let w : SFits w64 c.fed_back-w.result = search rules in
+    let result : SFits w64 c.forward_sum-y.result = search rules in
+    let w : SFits w64 c.feedback_sum-w.result = search rules in
     simp to_z-of_z
     (ddfii_sample c.args.q.now c.args.registers.now.items c.args.x.now
-    (record { value = c.fed_back-w.result; exact = c.fed_back-w.new.exact.items }) (record { value = c.fed_forward-y.result; exact = c.fed_forward-y.new.exact.items })
+    (record { value = c.feedback_sum-w.result; exact = c.feedback_sum-w.new.exact.items }) (record { value = c.forward_sum-y.result; exact = c.forward_sum-y.new.exact.items })
     (record { words = c.delta_chain.new.registers.items; exact = c.delta_chain.new.exact.items })
-    (rw (c.requires.empty, c.as_slice-old.ensures.value) at c.fed_back-w.ensures.value)
-    (simp (to_z-of_z, c.as_slice-old.ensures.value) at c.fed_forward-y.ensures.value)
+    (rw (c.requires.empty, c.as_slice-old.ensures.value) at c.feedback_sum-w.ensures.value)
+    (simp (to_z-of_z, c.as_slice-old.ensures.value) at c.forward_sum-y.ensures.value)
     (simp (to_z-of_z, c.new-next.ensures, c.as_slice-old.ensures.value) at c.delta_chain.ensures.value))

@@ -1,6 +1,6 @@
 use Rattle.std.proofs.Common.{◌≡◌, ◌+◌, length, take, drop}
 use Rattle.dsv_quantiser.specs.Quantising.{words_from}
-use Rattle.dsv_quantiser.specs.Meaning.{AreWordsOf}
+use Rattle.dsv_quantiser.specs.Parts.{AreWordsOf}
 use Rattle.dsv_quantiser.proofs.words.words_from.Given as goal
 
 abbrev pub invariant-loop-fraction : goal.invariant-loop-fraction

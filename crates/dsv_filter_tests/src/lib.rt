@@ -1,0 +1,14 @@
+//! Tests of controllers in words, of their written equations and of their netlists, by public calls. Expected values are
+//! worked out by hand from the definitions, or are those of published worked examples.
+#![tactic(auto)]
+
+#[cfg(test)]
+mod netlists;
+#[cfg(test)]
+mod quantising;
+#[cfg(test)]
+mod running;
+#[cfg(test)]
+mod sizes;
+#[cfg(test)]
+mod stepping;

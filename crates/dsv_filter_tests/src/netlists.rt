@@ -1,0 +1,363 @@
+// Netlists of nodes: which nodes make one, and what its readers and its step give.
+use crate::stepping::stepped;
+use dsv_names::{OverflowMode, Rounding};
+use dsv_netlist::{Netlist, Node, OpCounts};
+use dsv_word::Format;
+use std::alloc::Global;
+use std::test::Fail;
+
+/// The netlist of these nodes.
+fn netlist(
+    alloc: Global,
+    nodes: &[Node],
+    next: &[u32],
+    output: u32,
+    feed_forward: u32,
+    format: Format,
+) -> Option<Netlist> {
+    let nodes = Vec::from_slice(alloc, nodes).ok()?;
+    let next = Vec::from_slice(alloc, next).ok()?;
+    Netlist::new(nodes, next, output, feed_forward, format)
+}
+
+/// Whether these nodes make a netlist in words of four bits, two of them after the point: -8 to 7.
+fn is_netlist(alloc: Global, nodes: &[Node], next: &[u32], output: u32, feed_forward: u32) -> bool {
+    match Format::new(2, 2, Rounding::Floor, OverflowMode::Wrap) {
+        Ok(format) => netlist(alloc, nodes, next, output, feed_forward, format).is_some(),
+        Err(_) => false,
+    }
+}
+
+/// Nodes, and whether they make a netlist.
+struct Offer {
+    nodes: &'static [Node],
+    next: &'static [u32],
+    output: u32,
+    feed_forward: u32,
+    is_netlist: bool,
+}
+
+/// A product of the input, of 66 bits.
+const WIDE: Node = Node::MulConst {
+    coeff: 1 << 62,
+    of: 0,
+};
+
+const LINE: &[Node] = &[Node::Input, WIDE, Node::Round(1), Node::Fit(2)];
+
+const OFFERS: [Offer; 13] = [
+    Offer {
+        nodes: LINE,
+        next: &[0, 3],
+        output: 3,
+        feed_forward: 2,
+        is_netlist: true,
+    },
+    // A register that isn't there, a node that refers to itself, and one that refers to a later one.
+    Offer {
+        nodes: &[Node::Reg(0)],
+        next: &[],
+        output: 0,
+        feed_forward: 0,
+        is_netlist: false,
+    },
+    Offer {
+        nodes: &[Node::Input, Node::Fit(1)],
+        next: &[],
+        output: 1,
+        feed_forward: 0,
+        is_netlist: false,
+    },
+    Offer {
+        nodes: &[Node::Add(0, 1), Node::Input],
+        next: &[],
+        output: 1,
+        feed_forward: 0,
+        is_netlist: false,
+    },
+    // An entry of `next` and an output that are no nodes, or not words.
+    Offer {
+        nodes: LINE,
+        next: &[4],
+        output: 3,
+        feed_forward: 0,
+        is_netlist: false,
+    },
+    Offer {
+        nodes: LINE,
+        next: &[],
+        output: 4,
+        feed_forward: 0,
+        is_netlist: false,
+    },
+    Offer {
+        nodes: LINE,
+        next: &[2],
+        output: 3,
+        feed_forward: 0,
+        is_netlist: false,
+    },
+    Offer {
+        nodes: LINE,
+        next: &[],
+        output: 1,
+        feed_forward: 0,
+        is_netlist: false,
+    },
+    // More feed-forward registers than registers.
+    Offer {
+        nodes: LINE,
+        next: &[0],
+        output: 3,
+        feed_forward: 2,
+        is_netlist: false,
+    },
+    // As many nodes and registers as may be, and one more.
+    Offer {
+        nodes: &[Node::Input; 512],
+        next: &[],
+        output: 511,
+        feed_forward: 0,
+        is_netlist: true,
+    },
+    Offer {
+        nodes: &[Node::Input; 513],
+        next: &[],
+        output: 511,
+        feed_forward: 0,
+        is_netlist: false,
+    },
+    Offer {
+        nodes: &[Node::Input],
+        next: &[0; 512],
+        output: 0,
+        feed_forward: 512,
+        is_netlist: true,
+    },
+    Offer {
+        nodes: &[Node::Input],
+        next: &[0; 513],
+        output: 0,
+        feed_forward: 0,
+        is_netlist: false,
+    },
+];
+
+/// Whether the offer makes a netlist exactly where it should.
+fn is_judged(alloc: Global, offer: &Offer) -> bool {
+    let made = is_netlist(
+        alloc,
+        offer.nodes,
+        offer.next,
+        offer.output,
+        offer.feed_forward,
+    );
+    made == offer.is_netlist
+}
+
+#[test]
+fn nodes_that_make_a_netlist(rt: HostRuntime) -> Result<(), Fail> {
+    let alloc = rt.alloc();
+    let mut met = true;
+    for offer in &OFFERS {
+        met = met && is_judged(alloc, offer);
+    }
+    assert!(rt; met);
+    Ok(())
+}
+
+#[test]
+fn one_fitted_value_too_many(rt: HostRuntime) -> Result<(), Fail> {
+    let alloc = rt.alloc();
+    let mut fits = [Node::Fit(0); 162];
+    fits[0] = Node::Input;
+    let most = is_netlist(alloc, &fits[..161], &[], 160, 0);
+    let more = is_netlist(alloc, &fits, &[], 160, 0);
+    assert!(rt; most && !more);
+    Ok(())
+}
+
+/// A product of `WIDE`, which is node 1.
+const fn product_of_wide(coeff: i64) -> Node {
+    Node::MulConst { coeff, of: 1 }
+}
+
+#[test]
+fn bounds_stay_below_the_limit(rt: HostRuntime) -> Result<(), Fail> {
+    let alloc = rt.alloc();
+    // A word's bound is 2^3, and the limit is 2^78.
+    let at = [Node::Input, WIDE, product_of_wide(-(1 << 13))];
+    assert!(rt; !is_netlist(alloc, &at, &[], 0, 0));
+    Ok(())
+}
+
+#[test]
+fn bounds_are_told(rt: HostRuntime) -> Result<(), Fail> {
+    let below = [Node::Input, WIDE, product_of_wide(1 - (1 << 13))];
+    let format = Format::new(2, 2, Rounding::Floor, OverflowMode::Wrap)?;
+    let Some(net) = netlist(rt.alloc(), &below, &[], 0, 0, format) else {
+        return Err(Fail::from("no netlist"));
+    };
+    let bound = if net.len() == 3 { net.bound(2) } else { 0 };
+    assert_eq!(rt; bound, ((1 << 13) - 1) << 65);
+    Ok(())
+}
+
+/// One sample of a netlist whose one register is loaded from the input.
+struct Sample {
+    nodes: &'static [Node],
+    rounding: Rounding,
+    overflow: OverflowMode,
+    output: u32,
+    start: i64,
+    x: i64,
+    y: i64,
+    exact: i128,
+}
+
+/// 3 x, divided by 4.
+const QUOTIENT: &[Node] = &[
+    Node::Input,
+    Node::MulConst { coeff: 3, of: 0 },
+    Node::Round(1),
+    Node::Fit(2),
+];
+
+/// x + x.
+const TWICE: &[Node] = &[Node::Input, Node::Add(0, 0), Node::Fit(1)];
+
+/// x less the register, which is the output.
+const DELAY: &[Node] = &[Node::Input, Node::Reg(0), Node::Sub(0, 1), Node::Fit(2)];
+
+const SAMPLES: [Sample; 6] = [
+    Sample {
+        nodes: QUOTIENT,
+        rounding: Rounding::Floor,
+        overflow: OverflowMode::Wrap,
+        output: 3,
+        start: 0,
+        x: -3,
+        y: -3,
+        exact: -3,
+    },
+    Sample {
+        nodes: QUOTIENT,
+        rounding: Rounding::Ceil,
+        overflow: OverflowMode::Wrap,
+        output: 3,
+        start: 0,
+        x: -3,
+        y: -2,
+        exact: -2,
+    },
+    Sample {
+        nodes: QUOTIENT,
+        rounding: Rounding::Nearest,
+        overflow: OverflowMode::Wrap,
+        output: 3,
+        start: 0,
+        x: -3,
+        y: -2,
+        exact: -2,
+    },
+    Sample {
+        nodes: TWICE,
+        rounding: Rounding::Floor,
+        overflow: OverflowMode::Wrap,
+        output: 2,
+        start: 0,
+        x: 4,
+        y: -8,
+        exact: 8,
+    },
+    Sample {
+        nodes: TWICE,
+        rounding: Rounding::Floor,
+        overflow: OverflowMode::Saturate,
+        output: 2,
+        start: 0,
+        x: 4,
+        y: 7,
+        exact: 8,
+    },
+    // The register is read before it is loaded.
+    Sample {
+        nodes: DELAY,
+        rounding: Rounding::Floor,
+        overflow: OverflowMode::Wrap,
+        output: 1,
+        start: 5,
+        x: 2,
+        y: 5,
+        exact: -3,
+    },
+];
+
+/// Whether the netlist gives the sample, and loads its register.
+fn is_sample(alloc: Global, sample: &Sample) -> bool {
+    let Ok(format) = Format::new(2, 2, sample.rounding, sample.overflow) else {
+        return false;
+    };
+    let Some(net) = netlist(alloc, sample.nodes, &[0], sample.output, 0, format) else {
+        return false;
+    };
+    let mut registers = [sample.start];
+    match stepped(&net, &mut registers, sample.x) {
+        Some(given) => {
+            given.y == sample.y
+                && given.exact.as_slice() == [sample.exact].as_slice()
+                && registers == [sample.x]
+        }
+        None => false,
+    }
+}
+
+#[test]
+fn samples_by_hand(rt: HostRuntime) -> Result<(), Fail> {
+    let alloc = rt.alloc();
+    let mut met = true;
+    for sample in &SAMPLES {
+        met = met && is_sample(alloc, sample);
+    }
+    assert!(rt; met);
+    Ok(())
+}
+
+/// Whether the readers tell what the netlist was made of: a product, a sum, a difference, and registers that are loaded
+/// from nodes 0, 5 and 5.
+fn is_told(net: &Netlist) -> bool {
+    let counts = OpCounts {
+        products: 1,
+        sums: 2,
+        moves: 3,
+    };
+    if net.len() != 6 || net.registers() != 3 {
+        return false;
+    }
+    net.counts() == counts
+        && net.output() == 5
+        && net.feed_forward() == 1
+        && net.format().width() == 4
+        && net.next(0) == 0
+        && net.next(1) == 5
+        && net.node(4) == Node::Sub(3, 0)
+}
+
+#[test]
+fn readers_tell_what_a_netlist_is_made_of(rt: HostRuntime) -> Result<(), Fail> {
+    let product = Node::MulConst { coeff: 3, of: 0 };
+    let nodes = [
+        Node::Input,
+        product,
+        Node::Round(1),
+        Node::Add(0, 2),
+        Node::Sub(3, 0),
+        Node::Fit(4),
+    ];
+    let format = Format::new(2, 2, Rounding::Floor, OverflowMode::Wrap)?;
+    let Some(net) = netlist(rt.alloc(), &nodes, &[0, 5, 5], 5, 1, format) else {
+        return Err(Fail::from("no netlist"));
+    };
+    assert!(rt; is_told(&net));
+    Ok(())
+}

@@ -1,0 +1,42 @@
+// Files made words, and one step of a netlist.
+use dsv_names::Realisation;
+use dsv_netlist::Netlist;
+use dsv_quantiser::{Quantised, quantise};
+use dsv_reader::read;
+use dsv_system::ExactList;
+use dsv_word::Format;
+use std::alloc::Global;
+
+/// What a step gives.
+#[derive(Drop)]
+pub(crate) struct StepOutcome {
+    /// The output.
+    pub(crate) y: i64,
+    /// The exact values, in the order of the operations.
+    pub(crate) exact: ExactList,
+}
+
+/// The controller of a file in words of a format, where it is a controller's file and has them.
+pub(crate) fn words_of(
+    alloc: Global,
+    file: &str,
+    format: Format,
+    realisation: Realisation,
+) -> Option<Quantised> {
+    let controller = read(alloc, file.as_bytes()).ok()?;
+    quantise(&controller, format, realisation).ok()
+}
+
+/// One step, where there are as many registers as the netlist has and all are words.
+pub(crate) fn stepped(net: &Netlist, registers: &mut [i64], x: i64) -> Option<StepOutcome> {
+    let format = net.format();
+    if registers.len() != net.registers() as usize
+        || !registers.iter().all(|word| format.fits((*word).into()))
+        || !format.fits(x.into())
+    {
+        return None;
+    }
+    let mut exact = ExactList::new();
+    let y = net.step(registers, x, &mut exact);
+    Some(StepOutcome { y, exact })
+}
