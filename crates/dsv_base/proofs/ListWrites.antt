@@ -1,5 +1,5 @@
 -- A list is written, one element after another.
-use Rattle.std.proofs.Common.{List, ◌++◌, ◌+◌, ◌<◌, length, get_or, ℕ, take, drop, append_assoc, Option}
+use Rattle.std.proofs.Common.{List, ◌++◌, ◌+◌, ◌<◌, length, get_or, ℕ, take, drop, append_assoc}
 use Rattle.std.specs.List.{flat_map}
 use Rattle.dsv_base.specs.Seen.{SinkSeen}
 use Rattle.dsv_base.specs.Taking.{Wrote, CutShort}

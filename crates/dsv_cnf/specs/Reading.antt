@@ -1,5 +1,5 @@
 -- DIMACS text as a formula.
-use Rattle.std.specs.Prelude.{◌≡◌, ℕ, ◌+◌, ◌-◌, ◌*◌, ◌^◌, Bool, true, false, not, ◌||◌, ◌&&◌, ◌==◌, ◌⊎◌, nat_le, nat_lt, List, [], ◌∷◌, ◌++◌, length, drop, codes, cond, Option, Some, None, Result, Ok, Err, ◌<◌}
+use Rattle.std.specs.Prelude.{◌≡◌, ℕ, ◌+◌, ◌-◌, ◌*◌, ◌^◌, Bool, true, false, not, ◌&&◌, ◌==◌, ◌⊎◌, nat_lt, List, [], ◌∷◌, ◌++◌, length, drop, codes, cond, Option, Some, None, Result, Ok, Err, ◌<◌}
 use Rattle.dsv_text.specs.Bytes.{is_blank, is_digit}
 use Rattle.dsv_text.specs.Stages.{and_then}
 use Rattle.dsv_cnf.specs.Literal.{Literal}
