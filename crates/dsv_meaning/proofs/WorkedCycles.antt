@@ -1,6 +1,6 @@
 -- A limit cycle worked by hand: 1 / (1 - 0.5 z^-1) in words of 2.2 holds the output 1 for ever, since -2 times 1 over 4,
 -- rounded down, is -1.
-use Rattle.std.proofs.Common.{◌≡◌, ℕ, ◌<◌, List, [], ◌∷◌, refl, arith}
+use Rattle.std.proofs.Common.{◌≡◌, List, [], ◌∷◌, refl, arith}
 use Rattle.std.proofs.Math.IntN.{ℤ, pos, negsuc}
 use Rattle.std.proofs.lemmas.Int.{ints}
 use Rattle.std.proofs.lemmas.List.Elements.{All-nil, All-cons}

@@ -5,7 +5,7 @@ use Rattle.std.proofs.Math.IntN.{pos, negsuc}
 use Rattle.dsv_names.specs.declared.realisation.Realisation.TheVariants.{Dfi, Dfii, Tdfii, Ddfi, Ddfii, Tddfii}
 use Rattle.dsv_system.specs.Systems.{rows, registers_after}
 use Rattle.dsv_meaning.specs.Systems.{equations_of}
-use Rattle.dsv_meaning.proofs.WorkedControllers.{exact_of, outputs_of, format_2_2, format_3_4, format_4_1, slow_pole, second_order, delta_order_one}
+use Rattle.dsv_meaning.proofs.WorkedControllers.{exact_of, outputs_of, slow_pole, second_order, delta_order_one}
 
 -- ---- two samples, of which the second wraps: 4; 0; 4; 0; y = 4. Then 4; 0; 4; -4; y = 8, which is the word -8.
 slow_pole_exact : exact_of (rows (equations_of slow_pole) (pos 0 ∷ pos 0 ∷ []) (pos 4 ∷ pos 4 ∷ []))

@@ -1,9 +1,7 @@
 -- Which nodes are named.
-use Rattle.std.proofs.Common.{◌≡◌, ℕ, zero, suc, ◌+◌, ◌<◌, ◌≤◌, true, false, List, [], ◌∷◌, length, get_or, drop, refl, sym, subst, arith}
-use Rattle.std.proofs.lemmas.List.{drop_more}
+use Rattle.std.proofs.Common.{◌≡◌, ℕ, zero, suc, ◌<◌, ◌≤◌, true, false, List, [], ◌∷◌, length, get_or, refl, arith}
 use Rattle.dsv_netlist.specs.declared.node.Node.{Node}
-use Rattle.dsv_netlist.specs.declared.node.Node.TheVariants.{Input}
-use Rattle.dsv_netlist.specs.Conditions.{NamesBelow, AllNameBack, gives_word, names_word}
+use Rattle.dsv_netlist.specs.Conditions.{gives_word, names_word}
 
 pub names_word-get_or : (nodes : List Node) (k : ℕ) (d : Node) → k < length nodes → names_word nodes k ≡ gives_word (get_or nodes k d)
 names_word-get_or [] k d h = absurd (omega arith)

@@ -1,9 +1,8 @@
 -- A list that begins with 1 does so in the delta operator.
-use Rattle.std.proofs.Common.{◌≡◌, ℕ, zero, suc, ◌+◌, ◌-◌, ◌*◌, ◌/◌, ◌^◌, ◌<◌, ◌≤◌, Bool, true, false, List, [], ◌∷◌, ◌++◌, length, get_or, refl, sym, ap, ◌∙◌, arith, length-append, Result, Ok, Err}
+use Rattle.std.proofs.Common.{◌≡◌, ℕ, zero, suc, ◌-◌, ◌*◌, ◌^◌, ◌<◌, ◌≤◌, Bool, true, false, List, [], ◌∷◌, ◌++◌, length, get_or, refl, sym, ap, ◌∙◌, arith, length-append, Result, Ok, Err}
 use Rattle.std.specs.Prelude.{◌&&◌, nat_lt, if◌then◌else◌}
 use Rattle.std.specs.List.{All}
-use Rattle.std.specs.Int.RustNames.{unsigned_abs}
-use Rattle.std.proofs.Math.IntN.{ℤ, pos, ◌*ℤ◌, ◌+ℤ◌}
+use Rattle.std.proofs.Math.IntN.{ℤ, pos, ◌*ℤ◌}
 use Rattle.std.proofs.lemmas.Int.{ints}
 use Rattle.std.proofs.lemmas.List.{get_or_append_left}
 use Rattle.std.proofs.lemmas.List.Elements.{All-head, All-tail}
@@ -17,7 +16,7 @@ use Rattle.dsv_fraction.proofs.Powers.{lowest_same}
 use Rattle.dsv_names.specs.declared.list_name.ListName.{ListName}
 use Rattle.dsv_names.specs.declared.list_name.ListName.TheVariants as list
 use Rattle.dsv_delta.specs.Binomials.{choose, binomial_sum, weight}
-use Rattle.dsv_delta.specs.Deltas.{Lists, lcm, common, common_from, numerators, over_power, divided, or_wide, coefficients_from, delta_list, delta_lists}
+use Rattle.dsv_delta.specs.Deltas.{Lists, lcm, common, common_from, numerators, over_power, divided, or_wide, coefficients_from, delta_list}
 use Rattle.dsv_delta.specs.declared.refusal.DeltaWide.{DeltaWide}
 use Rattle.dsv_delta.proofs.Multiples.{lcm_grows}
 use Rattle.dsv_quantiser.specs.Leading.{ConvertedLeadingIsOne}

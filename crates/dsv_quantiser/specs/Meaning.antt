@@ -1,5 +1,5 @@
 -- What the words of a controller mean.
-use Rattle.std.specs.Prelude.{◌≡◌, ℕ, ◌+◌, ◌^◌, ◌<◌, ◌≤◌, ◌↔◌, List, length, ℤ, pos, ◌*ℤ◌, ◌≤ℤ◌, slice_index_or, MatchBool, Some, Ok, ◌<ℤ◌}
+use Rattle.std.specs.Prelude.{◌≡◌, ℕ, ◌^◌, ◌<◌, ◌≤◌, ◌↔◌, List, length, ℤ, pos, ◌*ℤ◌, ◌≤ℤ◌, slice_index_or, MatchBool, Some, Ok, ◌<ℤ◌}
 use Rattle.dsv_fraction.specs.Ratio.{Ratio, zero}
 use Rattle.dsv_word.specs.declared.format.Format.{Format}
 use Rattle.dsv_word.specs.Quotients.{IsRounded}

@@ -7,9 +7,9 @@ use Rattle.std.proofs.lemmas.List.{length-replicate}
 use Rattle.dsv_word.specs.declared.format.Format.{Format}
 use Rattle.dsv_word.specs.Words.{IsWord}
 use Rattle.dsv_system.specs.Runs.{SampleRow}
-use Rattle.dsv_system.specs.Systems.{System, RunAlike, rows, registers_after, zeros}
+use Rattle.dsv_system.specs.Systems.{System, RunAlike, rows, zeros}
 use Rattle.dsv_system.specs.Breaks.{IsOutside, Breaks, IsFirstBreak, Replays}
-use Rattle.dsv_system.specs.Cycles.{Returns, IsLeastPeriod, IsSounding, Cycles}
+use Rattle.dsv_system.specs.Cycles.{Returns, IsLeastPeriod, Cycles}
 
 -- the rows from registers of zeros
 zero_rows : (P Q : Type 0) (m : System P) (n : System Q) (xs : List ℤ) → RunAlike P Q m n → rows m (zeros m.many) xs ≡ rows n (zeros n.many) xs
