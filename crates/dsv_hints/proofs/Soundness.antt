@@ -5,15 +5,13 @@ use Rattle.dsv_cnf.specs.Formula.{clause_value, Satisfies}
 use Rattle.dsv_cnf.specs.FormulaView.{FormulaView}
 use Rattle.dsv_cnf.proofs.LiteralLemmas.{and_left, and_right, or_cases, same_literal, literal_eq-same, value-negation}
 use Rattle.dsv_hints.specs.LiteralSet.{none, with, with_all, outside, only, is_over, is_tautology}
-use Rattle.dsv_hints.specs.Derivation.{Entry, Carried, live_clause, without, without_all, is_after, move_of, after_move, after_clause, hints_answer, refused_if, step_answer, is_empty, after, entries_from, start_of}
+use Rattle.dsv_hints.specs.Derivation.{Entry, Carried, live_clause, without, without_all, is_after, move_of, after_move, after_clause, hints_answer, refused_if, is_empty, entries_from, start_of}
 use Rattle.dsv_hints.specs.Follows.{clauses_of, Follows}
 use Rattle.dsv_hints.specs.Taken.{clause_answer_of, after_add, after_delete}
 use Rattle.dsv_hints.specs.CheckerView.{CheckerView}
 use Rattle.dsv_hints.specs.declared.hints.Move.TheVariants.{Makes, Stuck}
-use Rattle.dsv_hints.specs.declared.step.Step.{Step}
-use Rattle.dsv_hints.specs.declared.step.Step.TheVariants.{Add, Delete}
 use Rattle.dsv_hints.specs.declared.step.StepRefusal.{StepRefusal}
-use Rattle.dsv_hints.specs.declared.step.StepRefusal.TheVariants.{IdOrder, Tautology, NotEmpty, Literal as OtherVariable}
+use Rattle.dsv_hints.specs.declared.step.StepRefusal.TheVariants.{IdOrder, Tautology, Literal as OtherVariable}
 
 -- ---- false literals
 
