@@ -1,8 +1,8 @@
 // What the command answers.
 use dsv_forms::{Falls, Form, KeptAway, Poly};
-use dsv_system::Rows;
 use dsv_quantiser::QuantRefusal;
 use dsv_reader::FileRefusal;
+use dsv_system::Rows;
 
 /// A file that the command reads.
 #[derive(Clone, Copy, Debug, PartialEq, Eq)]

@@ -17,8 +17,8 @@ use crate::refusals::{put_file_refusal, put_input_range, put_quant_refusal};
 use dsv_base::{Failed, Sink, put_all, put_line, put_spaced};
 use dsv_command::{Job, Task};
 use dsv_forms::{Form, KeptAway, Poly};
-use dsv_system::{Row, Rows};
 use dsv_names::{Named, Realisation};
+use dsv_system::{Row, Rows};
 use itoa::Integer;
 
 const SUCCESSFUL: &[u8] = b"VERIFICATION SUCCESSFUL\n";
