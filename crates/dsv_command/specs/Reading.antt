@@ -32,7 +32,7 @@ abbrev pub meet_plain : Option (List ℕ) → List ℕ → Reading → Option Re
 meet_plain None argument r = gives (file argument) r
 meet_plain (Some name) argument r = gives (choice name argument) r
 
--- an option of which is known whether it takes a value, and the value behind =
+-- an option of which is known whether it takes a value, and the value after =
 abbrev pub meet_known : Option Bool → List ℕ → Option (List ℕ) → Reading → Option Reading
 meet_known (Some true) name (Some value) r = gives (choice name value) r
 meet_known (Some true) name None r = awaits name r
