@@ -1,7 +1,7 @@
 -- What a run answers: a table, one row for each answer.
-use Rattle.std.specs.Prelude.{◌≡◌, ◌⊎◌, Bool, true, false, ℕ, ◌+◌, ◌-◌, ◌<◌, ◌≤◌, List, length, Option, Some, None, IfSome, Result, Ok, Err, ℤ, ◌<ℤ◌, pos}
+use Rattle.std.specs.Prelude.{◌≡◌, ◌⊎◌, Bool, true, false, ℕ, ◌+◌, ◌-◌, ◌<◌, ◌≤◌, List, length, Option, Some, None, IfSome, Result, Ok, Err, ℤ}
 use Rattle.dsv_algebra.specs.Vectors.{vector_of, matrix_of, form_at}
-use Rattle.dsv_algebra.specs.Companion.{StrictlyFalls, IsKeptAway}
+use Rattle.dsv_algebra.specs.Companion.{StrictlyFallsAlong, IsKeptAwayAlong}
 use Rattle.dsv_base.specs.Counts.{Rose}
 use Rattle.dsv_base.specs.Seen.{FilesSeen, SinkSeen}
 use Rattle.dsv_base.specs.Taking.{Wrote, CutShort}
@@ -81,7 +81,7 @@ pub record IsRun (job : Asked) (bytes : List ℕ) (inputs : List ℤ) (words : F
 -- The form is positive and strictly falls along every nonzero trajectory of the polynomial; it is the closed form's, its
 -- check accepts it, and `fall` is what it loses in a step.
 pub record ShowsFall (poly : List ℤ) (offer : Falls) (fall : Form) : Type 0 where
-  pub falls : StrictlyFalls (degree poly) (vector_of poly) (matrix_of offer.form.rows)
+  pub falls : StrictlyFallsAlong (degree poly) (vector_of poly) (matrix_of offer.form.rows)
   pub closed_form : offered.Falls offer ≡ closed_form_of poly
   pub accepted : falls_refusal poly offer ≡ None
   pub fall_form : IsFallForm (degree poly) (vector_of poly) offer.form fall
@@ -89,7 +89,7 @@ pub record ShowsFall (poly : List ℤ) (offer : Falls) (fall : Form) : Type 0 wh
 -- The form is negative at the start, where it has this value, and rises in no step, so that the trajectory from the
 -- start is kept away from 0; it is the closed form's, its check accepts it, and `fall` is what it loses in a step.
 pub record ShowsKeptAway (poly : List ℤ) (offer : KeptAway) (fall : Form) (value : ℤ) : Type 0 where
-  pub kept_away : IsKeptAway (degree poly) (vector_of poly) (matrix_of offer.form.rows) (vector_of offer.start)
+  pub kept_away : IsKeptAwayAlong (degree poly) (vector_of poly) (matrix_of offer.form.rows) (vector_of offer.start)
   pub closed_form : offered.KeptAway offer ≡ closed_form_of poly
   pub accepted : kept_away_refusal poly offer ≡ None
   pub fall_form : IsFallForm (degree poly) (vector_of poly) offer.form fall

@@ -16,11 +16,11 @@ ghost use Rattle.dsv_cli.specs.Causes.{IsOfRun};
 ghost use Rattle.dsv_cli.specs.Simulating.{IsFirstOutside};
 
 use dsv_base::NoMemory;
-use dsv_system::{ExactList, Row, Rows};
 use dsv_netlist::Netlist;
 use dsv_quantiser::Quantised;
 use dsv_realise::realise;
 use dsv_report::Answer;
+use dsv_system::{ExactList, Row, Rows};
 use dsv_word::Format;
 use std::alloc::Global;
 
