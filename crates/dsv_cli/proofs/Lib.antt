@@ -1,2 +1,5 @@
 pub mod Causes
+pub mod OneAnswerLemmas
+pub mod OneAnswerStages
+pub mod OneAnswerTasks
 pub mod RunLines

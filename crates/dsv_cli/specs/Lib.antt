@@ -1,3 +1,4 @@
 pub mod Causes
 pub mod Headline
+pub mod OneAnswer
 pub mod Simulating

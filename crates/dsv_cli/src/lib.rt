@@ -2,10 +2,12 @@
 #![tactic(auto)]
 
 mod deciding;
+mod law;
 mod outside;
 mod running;
 mod simulating;
 
 pub use dsv_report::{Answer, WhichFile};
+pub use law::told_files_have_one_answer;
 pub use outside::{OsFiles, OsOut};
 pub use running::{Done, run};

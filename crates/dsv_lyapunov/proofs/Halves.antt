@@ -16,7 +16,7 @@ pub record IsMultiple (xs ys : List ℤ) : Type 0 where
   pub power : ℕ
   pub same : xs ≡ map (λ y. pos (2 ^ power) *ℤ y) ys
 
-one_times : (ys : List ℤ) → ys ≡ map (λ y. pos (2 ^ 0) *ℤ y) ys
+pub one_times : (ys : List ℤ) → ys ≡ map (λ y. pos (2 ^ 0) *ℤ y) ys
 one_times [] = refl
 one_times (y ∷ ys) =
     let first : pos (2 ^ 0) *ℤ y ≡ y = ring (env (y ∷ [])) (times (num (pos 1)) (var 0)) (var 0) refl in

@@ -3,4 +3,5 @@ pub mod Choosing
 pub mod FallsAccepted
 pub mod Halves
 pub mod KeptAwayAccepted
+pub mod Reductions
 pub mod SmallSquares

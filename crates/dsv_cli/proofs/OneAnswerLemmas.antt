@@ -1,0 +1,69 @@
+-- A file whose bytes are told has one answer.
+use Rattle.std.proofs.Common.{◌≡◌, subst, refl, ℕ, List}
+use Rattle.std.specs.Prelude.{Some}
+use Rattle.dsv_base.specs.Seen.{FilesSeen}
+use Rattle.dsv_command.specs.Jobs.{Task, Asked}
+use Rattle.dsv_report.specs.declared.answers.Answer.{Answer}
+use Rattle.dsv_report.specs.declared.answers.Answer.TheVariants as answer
+use Rattle.dsv_cli.specs.Headline.{IsRow}
+use Rattle.dsv_cli.specs.Causes.{IsOfTask}
+use Rattle.dsv_cli.specs.OneAnswer.{SameAnswer, IsSettled, HaveOneAnswer}
+use Rattle.dsv_cli.proofs.OneAnswerStages.{Stage, long, faulty, refused, in_words, IsStage, one_stage}
+use Rattle.dsv_cli.proofs.OneAnswerTasks.{one_task}
+
+-- the answer that a stage gives to a task
+abbrev IsOfStage : Task → Stage → Answer → Type 0
+IsOfStage task long found = found ≡ answer.FileTooLong
+IsOfStage task (faulty r) found = found ≡ answer.FileRefused r
+IsOfStage task (refused r) found = found ≡ answer.QuantRefused r
+IsOfStage task (in_words words) found = IsOfTask task words found
+
+record Reaches (job : Asked) (bytes : List ℕ) (found : Answer) : Type 0 where
+  stage : Stage
+  reached : IsStage job.design bytes stage
+  gives : IsOfStage job.task stage found
+
+-- a settled answer comes from a stage of the file
+reached_by : (bytes : List ℕ) (old new : FilesSeen) (job : Asked) (found : Answer) → IsSettled found → IsRow (Some bytes) old new job found → Reaches job bytes found
+reached_by bytes old new job (answer.Falls poly offer fall) s h =
+    let t = h.comes_from in
+    record {
+      stage = in_words t.words;
+      reached = t.accepted;
+      gives = rw h.belongs_to (record { direct = t.direct; low = t.low; reduced = t.reduced }, t.decided, h.shows);
+    }
+reached_by bytes old new job (answer.KeptAway poly offer fall value) s h =
+    let t = h.comes_from in
+    record {
+      stage = in_words t.words;
+      reached = t.accepted;
+      gives = rw h.belongs_to (record { direct = t.direct; low = t.low; reduced = t.reduced }, t.decided, h.shows);
+    }
+reached_by bytes old new job answer.NotYet s h =
+    let t = h.comes_from in
+    record { stage = in_words t.words; reached = t.accepted; gives = rw h.belongs_to t.open_case }
+reached_by bytes old new job (answer.Simulated found) s h =
+    let t = h.comes_from in
+    record { stage = in_words t.1; reached = t.2.accepted; gives = rw t.2.task t.3 }
+reached_by bytes old new job (answer.InputRange index value) s h =
+    let t = h.comes_from in
+    record { stage = in_words t.1; reached = t.2.accepted; gives = rw t.2.task t.3 }
+reached_by bytes old new job (answer.QuantRefused r) s h = record { stage = refused r; reached = h.comes_from; gives = refl }
+reached_by bytes old new job (answer.FileRefused r) s h = record { stage = faulty r; reached = h.comes_from; gives = refl }
+reached_by bytes old new job answer.FileTooLong s h = record { stage = long; reached = h.comes_from; gives = refl }
+reached_by bytes old new job answer.Usage s h = absurd h
+reached_by bytes old new job found s h = absurd s
+
+-- one stage gives one answer
+one_of_stage : (task : Task) (stage : Stage) (a b : Answer) → IsSettled a → IsSettled b → IsOfStage task stage a → IsOfStage task stage b → SameAnswer a b
+one_of_stage task long a b x y h k = rw (h, k) refl
+one_of_stage task (faulty r) a b x y h k = rw (h, k) refl
+one_of_stage task (refused r) a b x y h k = rw (h, k) refl
+one_of_stage task (in_words words) a b x y h k = one_task task words a b x y h k
+
+pub one_answer : HaveOneAnswer
+one_answer bytes old new then_old then_new job a b x y h k =
+    let r = reached_by bytes old new job a x h in
+    let s = reached_by bytes then_old then_new job b y k in
+    one_of_stage job.task r.stage a b x y r.gives
+    (subst (λ stage. IsOfStage job.task stage b) (one_stage job.design bytes s.stage r.stage s.reached r.reached) s.gives)

@@ -1,0 +1,91 @@
+-- A file comes to one stage of a run.
+use Rattle.std.proofs.Common.{◌≡◌, ◌∙◌, sym, ap, subst, refl, ℕ, ◌<◌, ◌≤◌, List, length, arith}
+use Rattle.std.specs.Prelude.{Result, Ok, Err}
+use Rattle.std.proofs.Math.Bridge.{le_prop}
+use Rattle.dsv_names.specs.declared.overflow_mode.OverflowMode.{OverflowMode}
+use Rattle.dsv_names.specs.declared.rounding.Rounding.{Rounding}
+use Rattle.dsv_token.specs.declared.refusal.FileRefusal.{FileRefusal}
+use Rattle.dsv_word.specs.Width.{IsLawful}
+use Rattle.dsv_word.specs.declared.format.Format.{Format}
+use Rattle.dsv_reader.specs.Controllers.{ControllerView}
+use Rattle.dsv_reader.specs.Texts.{IsFaultOf}
+use Rattle.dsv_reader.proofs.TextLaws.{answers_apart, one_design}
+use Rattle.dsv_quantiser.specs.FixedPoint.{FixedPoint}
+use Rattle.dsv_quantiser.specs.Quantising.{quantised}
+use Rattle.dsv_quantiser.specs.declared.refusal.QuantRefusal.{QuantRefusal}
+use Rattle.dsv_command.specs.declared.job.Design.{Design}
+use Rattle.dsv_cli.specs.Headline.{longest_file, IsAccepted}
+
+-- ---- formats
+abbrev made : (int_bits frac_bits : ℕ) (rounding : Rounding) (overflow : OverflowMode) → IsLawful int_bits frac_bits → Format
+made i f r o lawful = record { int_bits = i; frac_bits = f; rounding = r; overflow = o; lawful = lawful }
+
+made_again : (i f : ℕ) (r : Rounding) (o : OverflowMode) (l m : IsLawful i f) → made i f r o l ≡ made i f r o m
+made_again i f r o l m = let p : IsProp (IsLawful i f) = hlevel le_prop in ap (made i f r o) (p l m)
+
+made_once : (i j f g : ℕ) (r s : Rounding) (o p : OverflowMode) → i ≡ j → f ≡ g → r ≡ s → o ≡ p → (l : IsLawful i f) (m : IsLawful j g)
+    → made i f r o l ≡ made j g s p m
+made_once i j f g r s o p ei ef er eo l =
+    subst (λ p. (m : IsLawful j g) → made i f r o l ≡ made j g s p m) eo
+    (subst (λ s. (m : IsLawful j g) → made i f r o l ≡ made j g s o m) er
+    (subst (λ g. (m : IsLawful j g) → made i f r o l ≡ made j g r o m) ef
+    (subst (λ j. (m : IsLawful j f) → made i f r o l ≡ made j f r o m) ei
+    (made_again i f r o l))))
+
+one_format : (x y : Format) → x.int_bits ≡ y.int_bits → x.frac_bits ≡ y.frac_bits → x.rounding ≡ y.rounding → x.overflow ≡ y.overflow → x ≡ y
+one_format x y i f r o =
+    made_once x.int_bits y.int_bits x.frac_bits y.frac_bits x.rounding y.rounding x.overflow y.overflow i f r o x.lawful y.lawful
+
+-- ---- stages
+one_outcome : (design : Design) (bytes : List ℕ) (o p : Result FixedPoint QuantRefusal) → IsAccepted design bytes o → IsAccepted design bytes p → o ≡ p
+one_outcome design bytes o p h k =
+    let c = one_design bytes h.controller k.controller h.text k.text in
+    let f = one_format h.format k.format
+    (h.modes.int_bits ∙ ap (λ (x : ControllerView). x.int_bits) c ∙ sym k.modes.int_bits)
+    (h.modes.frac_bits ∙ ap (λ (x : ControllerView). x.frac_bits) c ∙ sym k.modes.frac_bits)
+    (h.modes.rounding ∙ sym k.modes.rounding)
+    (h.modes.overflow ∙ sym k.modes.overflow) in
+    sym h.quantised
+    ∙ ap (λ (x : ControllerView). quantised x h.format design.realisation) c
+    ∙ ap (λ (x : Format). quantised k.controller x design.realisation) f
+    ∙ k.quantised
+
+-- how far a file comes: over the limit, no controller's, one that is refused in words, or one in words
+pub data Stage : Type 0 where
+  long : Stage
+  faulty : FileRefusal → Stage
+  refused : QuantRefusal → Stage
+  in_words : FixedPoint → Stage
+
+abbrev pub IsStage : Design → List ℕ → Stage → Type 0
+IsStage design bytes long = longest_file < length bytes
+IsStage design bytes (faulty r) = (length bytes ≤ longest_file) × IsFaultOf bytes r
+IsStage design bytes (refused r) = IsAccepted design bytes (Err r)
+IsStage design bytes (in_words words) = IsAccepted design bytes (Ok words)
+
+too_long : (bytes : List ℕ) → longest_file < length bytes → length bytes ≤ longest_file → ⊥
+too_long bytes h k = omega arith
+
+no_fault : (design : Design) (bytes : List ℕ) (o : Result FixedPoint QuantRefusal) (r : FileRefusal) → IsAccepted design bytes o → IsFaultOf bytes r → ⊥
+no_fault design bytes o r h f = answers_apart bytes h.controller r h.text f
+
+one_fault : (bytes : List ℕ) (r s : FileRefusal) → IsFaultOf bytes r → IsFaultOf bytes s → faulty r ≡ faulty s
+one_fault bytes r s h k = cc
+
+pub one_stage : (design : Design) (bytes : List ℕ) (s t : Stage) → IsStage design bytes s → IsStage design bytes t → s ≡ t
+one_stage design bytes long long h k = refl
+one_stage design bytes long (faulty r) h k = absurd (too_long bytes h k.0)
+one_stage design bytes long (refused r) h k = absurd (too_long bytes h k.short)
+one_stage design bytes long (in_words w) h k = absurd (too_long bytes h k.short)
+one_stage design bytes (faulty r) long h k = absurd (too_long bytes k h.0)
+one_stage design bytes (faulty r) (faulty s) h k = one_fault bytes r s h.1 k.1
+one_stage design bytes (faulty r) (refused s) h k = absurd (no_fault design bytes (Err s) r k h.1)
+one_stage design bytes (faulty r) (in_words w) h k = absurd (no_fault design bytes (Ok w) r k h.1)
+one_stage design bytes (refused r) long h k = absurd (too_long bytes k h.short)
+one_stage design bytes (refused r) (faulty s) h k = absurd (no_fault design bytes (Err r) s h k.1)
+one_stage design bytes (refused r) (refused s) h k = let e = one_outcome design bytes (Err r) (Err s) h k in cc
+one_stage design bytes (refused r) (in_words w) h k = let e = one_outcome design bytes (Err r) (Ok w) h k in cc
+one_stage design bytes (in_words v) long h k = absurd (too_long bytes k h.short)
+one_stage design bytes (in_words v) (faulty s) h k = absurd (no_fault design bytes (Ok v) s h k.1)
+one_stage design bytes (in_words v) (refused s) h k = let e = one_outcome design bytes (Ok v) (Err s) h k in cc
+one_stage design bytes (in_words v) (in_words w) h k = let e = one_outcome design bytes (Ok v) (Ok w) h k in cc
