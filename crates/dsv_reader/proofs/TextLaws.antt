@@ -16,13 +16,13 @@ use Rattle.dsv_syntax.proofs.TakenLemmas.{file_taken}
 use Rattle.dsv_reader.specs.declared.fields.Values.{Values}
 use Rattle.dsv_reader.specs.Controllers.{ControllerView}
 use Rattle.dsv_reader.specs.Fields.{values_of}
-use Rattle.dsv_reader.specs.Reading.{blocks_of, design_of, reading}
+use Rattle.dsv_reader.specs.Reading.{blocks_of, controller_from, reading}
 use Rattle.dsv_reader.specs.Texts.{IsTextOf, IsFaultOf}
 use Rattle.dsv_reader.proofs.ValueLaws.{values_taken, values_read}
 
 -- what the passes after a pass say
 abbrev from_values : Syntax → Values → Result ControllerView FileRefusal
-from_values x v = blocks_of x v >>= λ b. design_of b
+from_values x v = blocks_of x v >>= λ b. controller_from b
 
 abbrev from_syntax : List ℕ → Syntax → Result ControllerView FileRefusal
 from_syntax bytes x = values_of bytes x.entries >>= λ v. from_values x v
@@ -40,7 +40,7 @@ text_taken bytes c e =
     let l = unbind (tokens_of bytes) (from_tokens bytes) c t.second in
     let p = unbind (parsed (length bytes) l.value) (from_syntax bytes) c l.second in
     let v = unbind (values_of bytes p.value.entries) (from_values p.value) c p.second in
-    let b = unbind (blocks_of p.value v.value) design_of c v.second in
+    let b = unbind (blocks_of p.value v.value) controller_from c v.second in
     record {
       text = t.first;
       tokens = l.value;
@@ -61,7 +61,7 @@ text_read bytes c h =
     ∙ ap (λ r. r >>= from_tokens bytes) ((cut_law bytes h.tokens).1 h.cut)
     ∙ ap (λ r. r >>= from_syntax bytes) (file_read (length bytes) h.tokens h.syntax h.grammar)
     ∙ ap (λ r. r >>= from_values h.syntax) (values_read bytes h.syntax.entries h.values h.table)
-    ∙ ap (λ r. r >>= design_of) h.whole
+    ∙ ap (λ r. r >>= controller_from) h.whole
     ∙ h.made
 
 either : (bytes : List ℕ) (r : Result ControllerView FileRefusal) → reading bytes ≡ r → ((c : ControllerView) × IsTextOf bytes c) ⊎ ((f : FileRefusal) × IsFaultOf bytes f)

@@ -109,8 +109,8 @@ costs_of h = record {
 }
 
 -- the sample time is 1 and the clock 16 MHz where the file doesn't say else
-abbrev pub design_with : Blocks → List Ratio → List Ratio → ControllerView
-design_with x b a = let n = max (length b) (length a) in record {
+abbrev pub controller_with : Blocks → List Ratio → List Ratio → ControllerView
+controller_with x b a = let n = max (length b) (length a) in record {
   b = padded n b;
   a = padded n a;
   sample_time = unwrap_or x.system.sample_time one;
@@ -123,15 +123,15 @@ design_with x b a = let n = max (length b) (length a) in record {
   costs = costs_of x.hardware;
 }
 
-abbrev pub design_of : Blocks → Result ControllerView FileRefusal
-design_of x =
+abbrev pub controller_from : Blocks → Result ControllerView FileRefusal
+controller_from x =
     sized x.system.b_size x.system.b >>= λ u.
     sized x.system.a_size x.system.a >>= λ u.
     leading x.system.a >>= λ a0.
     divided a0 x.system.b >>= λ b.
     divided a0 x.system.a >>= λ a.
     lawful x.implementation.int_bits x.implementation.frac_bits >>= λ u.
-    Ok (design_with x b a)
+    Ok (controller_with x b a)
 
 -- what the bytes of a file say, or the first refusal
 abbrev pub reading : List ℕ → Result ControllerView FileRefusal
@@ -141,4 +141,4 @@ reading bytes =
     parsed (length bytes) ts >>= λ x.
     values_of bytes x.entries >>= λ v.
     blocks_of x v >>= λ b.
-    design_of b
+    controller_from b

@@ -11,7 +11,7 @@ use Rattle.dsv_reader.specs.declared.fields.Values.{Values}
 use Rattle.dsv_reader.specs.declared.blocks.Blocks.{Blocks}
 use Rattle.dsv_reader.specs.Controllers.{ControllerView}
 use Rattle.dsv_reader.specs.Values.{AreValuesOf}
-use Rattle.dsv_reader.specs.Reading.{blocks_of, design_of, reading}
+use Rattle.dsv_reader.specs.Reading.{blocks_of, controller_from, reading}
 
 -- The bytes are the text of this controller.
 pub record IsTextOf (bytes : List ℕ) (c : ControllerView) : Type 0 where
@@ -30,7 +30,7 @@ pub record IsTextOf (bytes : List ℕ) (c : ControllerView) : Type 0 where
   pub blocks : Blocks
   pub whole : blocks_of syntax values ≡ Ok blocks
   -- of which the controller is made
-  pub made : design_of blocks ≡ Ok c
+  pub made : controller_from blocks ≡ Ok c
 
 -- The refusal is the first fault of the bytes.
 abbrev pub IsFaultOf : List ℕ → FileRefusal → Type 0

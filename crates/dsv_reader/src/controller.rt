@@ -68,7 +68,7 @@ impl Controller {
     ghost use Rattle.dsv_fraction.specs.Ratio.{zero, one};
     ghost use Rattle.dsv_reader.specs.Controllers.{IsController};
     ghost use Rattle.dsv_reader.specs.Limits.{most_coefficients};
-    ghost use Rattle.dsv_reader.specs.Reading.{design_with, is_lawful};
+    ghost use Rattle.dsv_reader.specs.Reading.{controller_with, is_lawful};
 
     /// The controller of these blocks, for both lists divided by the leading coefficient.
     pub(crate) fn assemble(blocks: &Blocks, b: FracList, a: FracList) -> Controller
@@ -77,7 +77,7 @@ impl Controller {
         requires some { 1 ≤ length a.items }
         requires leading { slice_index_or a.items 0 zero ≡ one }
         requires lawful { is_lawful blocks.now.implementation.int_bits.value blocks.now.implementation.frac_bits.value ≡ true }
-        ensures { result ≡ design_with blocks.now b.items a.items }
+        ensures { result ≡ controller_with blocks.now b.items a.items }
     {
         let count = b.len().max(a.len());
         let implementation = &blocks.implementation;

@@ -1,7 +1,7 @@
 // A whole file.
 ghost use Rattle.std.specs.Prelude.{◌≡◌, IfOk};
 ghost use Rattle.dsv_token.specs.Memory.{Gives};
-ghost use Rattle.dsv_reader.specs.Reading.{lawful, is_lawful, design_of, reading};
+ghost use Rattle.dsv_reader.specs.Reading.{lawful, is_lawful, controller_from, reading};
 ghost use Rattle.dsv_reader.specs.Texts.{IsTextOf};
 
 use crate::blocks::{Blocks, blocks_of};
@@ -53,7 +53,7 @@ fn lawful(int_bits: SpelledNumber, frac_bits: SpelledNumber) -> Result<(), FileR
 #[tactic(auto, using(crate::proofs::FirstQuotients::divided_first))]
 /// The controller that is made of these blocks, or the first test over the whole that refuses it.
 fn controller_of(blocks: &Blocks) -> Result<Controller, FileRefusal>
-    ensures { result ≡ design_of blocks.now }
+    ensures { result ≡ controller_from blocks.now }
 {
     let system = &blocks.system;
     sized(system.b_size, &system.b)?;
