@@ -1,0 +1,3 @@
+pub mod Factors
+pub mod Rows
+pub mod Verdicts

@@ -1,0 +1,2 @@
+pub mod CommonFactor
+pub mod Jury
