@@ -30,7 +30,7 @@ length-values : (f : ℕ → ℤ) (d : ℕ) → length (map f (places d)) ≡ d
 length-values f d = length-map (places d) f ∙ length-places d
 
 -- an entry of the values of f at the first d places
-values_at : (f : ℕ → ℤ) (d i : ℕ) → i < d → vector_of (map f (places d)) i ≡ f i
+pub values_at : (f : ℕ → ℤ) (d i : ℕ) → i < d → vector_of (map f (places d)) i ≡ f i
 values_at f zero i h = absurd (omega arith)
 values_at f (suc d) i h =
     let split = ap (λ xs. vector_of xs i) (map-append f (places d) (d ∷ [])) in
@@ -79,14 +79,14 @@ wide_row d row xs g i x e f p a w =
     let same : row_after d row ≡ map q xs = rw (← e, ← f) refl in
     rw same wide
 
-not_inside_step : (d n : ℕ) (row : List ℤ) → last_leads (suc d) (vector_of row) ≡ true → verdict_from (suc d) n row ≡ verdict.NotInside n
+pub not_inside_step : (d n : ℕ) (row : List ℤ) → last_leads (suc d) (vector_of row) ≡ true → verdict_from (suc d) n row ≡ verdict.NotInside n
 not_inside_step d n row h = rw h refl
 
-wide_step : (d n : ℕ) (row : List ℤ) → last_leads (suc d) (vector_of row) ≡ false → is_wide (row_after (suc d) row) ≡ true
+pub wide_step : (d n : ℕ) (row : List ℤ) → last_leads (suc d) (vector_of row) ≡ false → is_wide (row_after (suc d) row) ≡ true
     → verdict_from (suc d) n row ≡ verdict.Wide (n + 1)
 wide_step d n row h w = rw (h, w) refl
 
-next_step : (d n : ℕ) (row : List ℤ) → last_leads (suc d) (vector_of row) ≡ false → is_wide (row_after (suc d) row) ≡ false
+pub next_step : (d n : ℕ) (row : List ℤ) → last_leads (suc d) (vector_of row) ≡ false → is_wide (row_after (suc d) row) ≡ false
     → verdict_from (suc d) n row ≡ verdict_from d (n + 1) (row_after (suc d) row)
 next_step d n row h w = rw (h, w) refl
 

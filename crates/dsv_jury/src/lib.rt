@@ -2,10 +2,12 @@
 #![tactic(auto)]
 
 mod factor;
+mod law;
 mod recursion;
 #[cfg(test)]
 mod tests;
 mod verdict;
 
+pub use law::one_verdict;
 pub use recursion::jury;
 pub use verdict::Jury;
