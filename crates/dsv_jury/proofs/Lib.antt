@@ -1,0 +1,4 @@
+pub mod Factors
+pub mod Meaning
+pub mod Rows
+pub mod Verdicts

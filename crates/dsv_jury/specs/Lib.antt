@@ -1,0 +1,3 @@
+pub mod CommonFactor
+pub mod Jury
+pub mod Rows
