@@ -8,7 +8,8 @@ use dsv_cnf::Lit;
 use std::alloc::Global;
 use std::marker::Model;
 
-/// A literal that is true, its level, and the number of the clause that implied it, from 0 on. A decision has no clause.
+/// A literal that is true, its level, and the number of the clause that implied it, from 0 on. A decision has no
+/// clause.
 #[derive(Clone, Copy)]
 pub struct Mark {
     pub literal: Lit,
@@ -65,7 +66,8 @@ impl MarkList {
     pub fn len(&self) -> u32
         ensures value { result ≡ length self.now.marks }
         ensures whole { AreMarks self.now.vars self.now.marks }
-        ensures room { (v : ℕ) → v < self.now.vars → IsOpen self.now.marks v → length self.now.marks < self.now.vars }
+        ensures room { (v : ℕ) → v < self.now.vars → IsOpen self.now.marks v →
+            length self.now.marks < self.now.vars }
     {
         self.marks.len() as u32
     }
@@ -100,7 +102,9 @@ impl MarkList {
     pub fn push(&mut self, literal: Lit, level: u32, reason: Option<u32>)
         requires over { literal.var < self.old.vars }
         requires free { IsOpen self.old.marks literal.var }
-        ensures state { self.new ≡ record self.old { marks = self.old.marks ++ record { literal = literal; level = level; reason = reason } ∷ [] } }
+        ensures state { self.new ≡ record self.old {
+          marks = self.old.marks ++ record { literal = literal; level = level; reason = reason } ∷ [];
+        } }
         ensures few { length self.new.marks ≤ self.new.vars }
     {
         let place = self.marks.len() as u32;

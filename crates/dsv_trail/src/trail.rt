@@ -115,7 +115,8 @@ impl Trail {
         requires over { lit.var < self.old.vars }
         requires free { IsOpen self.old.marks lit.var }
         ensures state { self.new ≡ after_decide self.old lit }
-        ensures justified { (clauses : List (List Literal)) → IsJustified self.old clauses → IsJustified self.new clauses }
+        ensures justified { (clauses : List (List Literal)) →
+            IsJustified self.old clauses → IsJustified self.new clauses }
     {
         let place = self.marks.len();
         self.limits.push_reserved(place);
@@ -141,7 +142,8 @@ impl Trail {
     pub fn back_to(&mut self, level: u32)
         requires { level ≤ length self.old.limits }
         ensures state { self.new ≡ after_back self.old level }
-        ensures justified { (clauses : List (List Literal)) → IsJustified self.old clauses → IsJustified self.new clauses }
+        ensures justified { (clauses : List (List Literal)) →
+            IsJustified self.old clauses → IsJustified self.new clauses }
     {
         let level = level as usize;
         if level < self.limits.len() {
