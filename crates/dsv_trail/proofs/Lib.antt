@@ -1,0 +1,4 @@
+pub mod Elements
+pub mod Justifications
+pub mod LevelLemmas
+pub mod MarkLemmas

@@ -1,0 +1,8 @@
+pub mod Justification
+pub mod Levels
+pub mod MarkListInside
+pub mod MarkListView
+pub mod Marks
+pub mod TrailInside
+pub mod TrailView
+pub mod Worked

@@ -1,0 +1,59 @@
+// A trail that is worked out by hand.
+ghost use Rattle.std.specs.Prelude.{◌≡◌, IfOk};
+ghost use Rattle.dsv_trail.specs.Worked.{worked};
+
+use crate::Trail;
+use dsv_base::NoMemory;
+use dsv_cnf::{Formula, Lit};
+use std::alloc::Global;
+use std::rt::HostRuntime;
+
+/// Over three variables with the one clause "not 0, or 1": decides 2, then 0, which implies 1.
+fn worked_trail(alloc: Global) -> Result<Trail, NoMemory>
+    ensures { IfOk result (λ t. t ≡ worked) }
+{
+    let mut formula = Formula::new(alloc, 3)?;
+    formula.push_clause(&[Lit::new(0, false), Lit::new(1, true)])?;
+    let mut trail = Trail::new(alloc, 3)?;
+    trail.decide(Lit::new(2, true));
+    trail.decide(Lit::new(0, true));
+    trail.imply(Lit::new(1, true), 0, &formula);
+    Ok(trail)
+}
+
+#[test]
+fn a_clause_implies_a_literal(rt: HostRuntime) -> Result<(), NoMemory> {
+    let trail = worked_trail(rt.alloc())?;
+    assert!(rt; trail.value(Lit::new(1, false)) == Some(false));
+    Ok(())
+}
+
+#[test]
+fn an_implied_literal_has_its_reason(rt: HostRuntime) -> Result<(), NoMemory> {
+    let trail = worked_trail(rt.alloc())?;
+    assert!(rt; trail.reason(1) == Some(0));
+    Ok(())
+}
+
+#[test]
+fn an_implied_literal_has_the_present_level(rt: HostRuntime) -> Result<(), NoMemory> {
+    let trail = worked_trail(rt.alloc())?;
+    assert!(rt; trail.level_of(1) == 2);
+    Ok(())
+}
+
+#[test]
+fn a_lower_level_keeps_its_literals(rt: HostRuntime) -> Result<(), NoMemory> {
+    let mut trail = worked_trail(rt.alloc())?;
+    trail.back_to(1);
+    assert!(rt; trail.len() == 1);
+    Ok(())
+}
+
+#[test]
+fn a_literal_that_was_taken_away_is_open(rt: HostRuntime) -> Result<(), NoMemory> {
+    let mut trail = worked_trail(rt.alloc())?;
+    trail.back_to(1);
+    assert!(rt; trail.value(Lit::new(0, true)).is_none());
+    Ok(())
+}
