@@ -1,5 +1,5 @@
-//! `dsv`: verifies a digital controller in fixed-point words. `main` makes the real files and the real output, and calls
-//! [`dsv_cli::run`].
+//! `dsv`: verifies a digital controller in fixed-point words. `main` makes the real files and the
+//! real output, and calls [`dsv_cli::run`].
 #![tactic(auto)]
 
 use dsv_cli::{OsFiles, OsOut, run};

@@ -4,6 +4,7 @@ pub mod Congruence
 pub mod Definite
 pub mod Falling
 pub mod Floors
+pub mod Gcds
 pub mod KeptAway
 pub mod Normaliser
 pub mod Ring

@@ -1,9 +1,12 @@
 -- The companion matrix of a polynomial, and forms along the trajectories of polynomials.
 --
--- A linear recursion c_0 y(n) + c_1 y(n-1) + .. + c_d y(n-d) = 0 takes the vector of its last d values to the next
--- one by its companion matrix. Times c_0, so that all entries are whole, this matrix has the first row -c_1, .., -c_d
--- and c_0 below the diagonal. So a polynomial is the system with this matrix and the scale c_0.
-use Rattle.std.specs.Prelude.{Bool, true, false, ◌&&◌, List, [], ◌∷◌, ◌++◌, neg_ℤ, ℕ, zero, suc, ◌==◌, nat_lt, if◌then◌else◌, ℤ, pos, ◌+ℤ◌, ◌-ℤ◌, ◌*ℤ◌}
+-- A linear recursion c_0 y(n) + c_1 y(n-1) + .. + c_d y(n-d) = 0 takes the vector of its last d
+-- values to the next one by its companion matrix. Times c_0, so that all entries are whole, this
+-- matrix has the first row -c_1, .., -c_d and c_0 below the diagonal. So a polynomial is the system
+-- with this matrix and the scale c_0.
+use Rattle.std.specs.Prelude.{Bool, true, false, ◌&&◌, List, [], ◌∷◌}
+use Rattle.std.specs.Prelude.{◌++◌, neg_ℤ, ℕ, zero, suc, ◌==◌, nat_lt}
+use Rattle.std.specs.Prelude.{if◌then◌else◌, ℤ, pos, ◌+ℤ◌, ◌-ℤ◌, ◌*ℤ◌}
 use Rattle.dsv_algebra.specs.Vectors.{Vector, Matrix}
 use Rattle.dsv_algebra.specs.Falling.{StrictlyFalls, IsKeptAway, fall_form}
 
@@ -29,8 +32,9 @@ abbrev pub only : Bool → ℤ × ℤ → List (ℤ × ℤ)
 only true term = term ∷ []
 only false term = []
 
--- The terms of an entry of the fall form of a polynomial in the entries of P alone: a product of two of the c, and the entry that it is
--- multiplied with. Entries outside the first d places are absent.
+-- The terms of an entry of the fall form of a polynomial in the entries of P alone: a product of
+-- two of the c, and the entry that it is multiplied with. Entries outside the first d places are
+-- absent.
 abbrev pub fall_terms : ℕ → Vector → Matrix → ℕ → ℕ → List (ℤ × ℤ)
 fall_terms d c P i j =
     let below = nat_lt (suc i) d in

@@ -8,5 +8,5 @@ pub record IsFloor (v : ℤ) (d : ℕ) (w : ℤ) : Type 0 where
   pub above : v <ℤ ((w +ℤ pos 1) *ℤ pos d)
 
 -- the greatest whole number that is at most v / d
-abbrev pub floored : ℤ → ℕ → ℤ
-floored v d = int_div_euclid v (pos d)
+abbrev pub floor_of : ℤ → ℕ → ℤ
+floor_of v d = int_div_euclid v (pos d)

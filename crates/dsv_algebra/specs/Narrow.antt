@@ -11,5 +11,5 @@ abbrev pub is_narrow : ℤ → Bool
 is_narrow z = nat_lt (unsigned_abs z) narrow_limit
 
 -- the number, where it is less than 2^126 in size
-abbrev pub narrowed : ℤ → Option ℤ
-narrowed z = if is_narrow z then Some z else None
+abbrev pub narrow_of : ℤ → Option ℤ
+narrow_of z = if is_narrow z then Some z else None

@@ -1,6 +1,7 @@
--- Integer vectors, matrices and quadratic forms of any dimension d. A vector is the function from a place to its
--- entry there; places count from 0, and the first d are read.
-use Rattle.std.specs.Prelude.{◌≢◌, ℕ, zero, suc, ◌<◌, List, [], ℤ, pos, ◌+ℤ◌, ◌*ℤ◌, slice_index_or}
+-- Integer vectors, matrices and quadratic forms of any dimension d. A vector is the function from a
+-- place to its entry there; places count from 0, and the first d are read.
+use Rattle.std.specs.Prelude.{◌≢◌, ℕ, zero, suc, ◌<◌, List, []}
+use Rattle.std.specs.Prelude.{ℤ, pos, ◌+ℤ◌, ◌*ℤ◌, slice_index_or}
 
 abbrev pub Vector : Type 0
 Vector = ℕ → ℤ

@@ -1,13 +1,14 @@
 // Whole numbers of a bounded size, with exact arithmetic.
 ghost use Rattle.std.specs.Prelude.{◌≡◌, ◌+ℤ◌, ◌-ℤ◌, ◌*ℤ◌};
-ghost use Rattle.dsv_algebra.specs.Narrow.{narrowed};
+ghost use Rattle.dsv_algebra.specs.Narrow.{narrow_of};
 
 use std::marker::Model;
 
 /// The least size that an exact result may not have.
 const NARROW_LIMIT: u128 = 1 << 126;
 
-/// A whole number of 128 bits. Its arithmetic is exact, and an operation whose result passes 2^126 answers `None`.
+/// A whole number of 128 bits. Its arithmetic is exact, and an operation whose result passes 2^126
+/// answers `None`.
 #[derive(Clone, Copy, Debug, PartialEq, Eq)]
 pub struct NarrowInteger {
     value: i128,
@@ -51,7 +52,7 @@ impl NarrowInteger {
 
     /// The number, where it doesn't pass 2^126.
     pub fn narrow(self) -> Option<NarrowInteger>
-        ensures { result ≡ narrowed self }
+        ensures { result ≡ narrow_of self }
     {
         if self.value.unsigned_abs() < NARROW_LIMIT {
             Some(self)
@@ -62,7 +63,7 @@ impl NarrowInteger {
 
     /// The product, where it doesn't pass 2^126.
     pub fn checked_mul(self, other: NarrowInteger) -> Option<NarrowInteger>
-        ensures { result ≡ narrowed (self *ℤ other) }
+        ensures { result ≡ narrow_of (self *ℤ other) }
     {
         let value = self.value.checked_mul(other.value)?;
         NarrowInteger { value }.narrow()
@@ -70,7 +71,7 @@ impl NarrowInteger {
 
     /// The sum, where it doesn't pass 2^126.
     pub fn checked_add(self, other: NarrowInteger) -> Option<NarrowInteger>
-        ensures { result ≡ narrowed (self +ℤ other) }
+        ensures { result ≡ narrow_of (self +ℤ other) }
     {
         let value = self.value.checked_add(other.value)?;
         NarrowInteger { value }.narrow()
@@ -78,7 +79,7 @@ impl NarrowInteger {
 
     /// The difference, where it doesn't pass 2^126.
     pub fn checked_sub(self, other: NarrowInteger) -> Option<NarrowInteger>
-        ensures { result ≡ narrowed (self -ℤ other) }
+        ensures { result ≡ narrow_of (self -ℤ other) }
     {
         let value = self.value.checked_sub(other.value)?;
         NarrowInteger { value }.narrow()

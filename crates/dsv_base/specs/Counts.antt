@@ -6,8 +6,8 @@ abbrev pub last_count : ℕ
 last_count = 2 ^ 64 - 1
 
 -- the count after n more
-abbrev pub counted : ℕ → ℕ → ℕ
-counted before n = min (before + n) last_count
+abbrev pub count_after : ℕ → ℕ → ℕ
+count_after before n = min (before + n) last_count
 
 -- The count went up, or it stands at its last number.
 abbrev pub Rose : ℕ → ℕ → Type 0

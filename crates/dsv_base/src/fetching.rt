@@ -1,5 +1,6 @@
 // Files that are read in pieces.
-ghost use Rattle.std.specs.Prelude.{◌≡◌, ◌+◌, ◌^◌, ◌<◌, ◌≤◌, ◌⊎◌, length, IfOk, OnOk, IfSome, IsErrOf};
+ghost use Rattle.std.specs.Prelude.{◌≡◌, ◌+◌, ◌^◌, ◌<◌, ◌≤◌, ◌⊎◌};
+ghost use Rattle.std.specs.Prelude.{length, IfOk, OnOk, IfSome, IsErrOf};
 ghost use Rattle.dsv_base.specs.Counts.{Rose, RoseBy};
 ghost use Rattle.dsv_base.specs.Reading.{IsChunk};
 ghost use Rattle.dsv_base.specs.Seen.{FilesSeen};
@@ -21,25 +22,28 @@ pub enum FetchEnd {
 
 /// Files that are read in pieces, each under a name. A missing file is a fault.
 pub trait Files {
-    /// What they tell: the bytes of each name, how many fetches failed and which name the last of these had, and how
-    /// many bytes came.
+    /// What they tell: the bytes of each name, how many fetches failed and which name the last of
+    /// these had, and how many bytes came.
     ghost seen: { Self → FilesSeen };
 
-    /// Reads into `room` what comes first of the file's bytes from the offset `at` on, and answers how many
-    /// bytes came; none come only at the file's end or behind it.
+    /// Reads into `room` what comes first of the file's bytes from the offset `at` on, and answers
+    /// how many bytes came; none come only at the file's end or after it.
     fn fetch(&mut self, name: &str, at: u64, room: &mut [u8]) -> Result<usize, FetchEnd>
         requires has_room { 0 < length room.old }
         requires at { at ≤ 2 ^ 26 }
         ensures held { (seen self.new).held ≡ (seen self.old).held }
         ensures count { IfOk result (λ c. c ≤ length room.old) }
-        ensures piece { IfOk result (λ c. IfSome ((seen self.old).held name.now) (λ file. IsChunk file at c room.new)) }
+        ensures piece { IfOk result
+            (λ c. IfSome ((seen self.old).held name.now) (λ file. IsChunk file at c room.new)) }
         ensures came { RoseBy (count_of result) (seen self.old).came (seen self.new).came }
 
         ensures faults { (seen self.old).faults ≤ (seen self.new).faults }
-        ensures failed { IsErrOf result FetchEnd.Failed → Rose (seen self.old).faults (seen self.new).faults }
+        ensures failed { IsErrOf result FetchEnd.Failed
+            → Rose (seen self.old).faults (seen self.new).faults }
         ensures blamed { IsErrOf result FetchEnd.Failed → (seen self.new).blamed ≡ Some name.now }
         ensures blamed_on_ok { OnOk result ((seen self.new).blamed ≡ (seen self.old).blamed) }
-        ensures blamed_on_no_memory { IsErrOf result FetchEnd.NoMemory → (seen self.new).blamed ≡ (seen self.old).blamed };
+        ensures blamed_on_no_memory { IsErrOf result FetchEnd.NoMemory
+            → (seen self.new).blamed ≡ (seen self.old).blamed };
 }
 
 /// How reading a file ended without it.
@@ -86,19 +90,27 @@ pub fn read_all<F: Files>(
 ) -> Result<Bytes, ReadEnd>
     requires { limit ≤ 2 ^ 26 }
     ensures held { (F.seen files.new).held ≡ (F.seen files.old).held }
-    ensures whole { IfOk result (λ bytes. IfSome ((F.seen files.old).held name.now) (λ file. bytes ≡ file)) }
+    ensures whole { IfOk result
+        (λ bytes. IfSome ((F.seen files.old).held name.now) (λ file. bytes ≡ file)) }
     ensures fits { IfOk result (λ bytes. length bytes ≤ limit) }
-    ensures all { IfOk result (λ bytes. RoseBy (length bytes) (F.seen files.old).came (F.seen files.new).came) }
+    ensures all { IfOk result
+        (λ bytes. RoseBy (length bytes) (F.seen files.old).came (F.seen files.new).came) }
 
-    // More than `limit` bytes came, also where the file's bytes aren't told; and else at most as many.
-    ensures too_long { IsErrOf result ReadEnd.TooLong → IfSome ((F.seen files.old).held name.now) (λ file. limit < length file) }
-    ensures too_many { IsErrOf result ReadEnd.TooLong → Rose ((F.seen files.old).came + limit) (F.seen files.new).came }
-    ensures not_too_many { IsErrOf result ReadEnd.TooLong ⊎ ((F.seen files.new).came ≤ (F.seen files.old).came + limit) }
+    // More than `limit` bytes came, also where the file's bytes aren't told; and else at most as
+    // many.
+    ensures too_long { IsErrOf result ReadEnd.TooLong
+        → IfSome ((F.seen files.old).held name.now) (λ file. limit < length file) }
+    ensures too_many { IsErrOf result ReadEnd.TooLong
+        → Rose ((F.seen files.old).came + limit) (F.seen files.new).came }
+    ensures not_too_many { IsErrOf result ReadEnd.TooLong
+        ⊎ ((F.seen files.new).came ≤ (F.seen files.old).came + limit) }
 
     ensures faults { (F.seen files.old).faults ≤ (F.seen files.new).faults }
-    ensures failed { IsErrOf result ReadEnd.Failed → Rose (F.seen files.old).faults (F.seen files.new).faults }
+    ensures failed { IsErrOf result ReadEnd.Failed
+        → Rose (F.seen files.old).faults (F.seen files.new).faults }
     ensures blamed { IsErrOf result ReadEnd.Failed → (F.seen files.new).blamed ≡ Some name.now }
-    ensures blamed_else { IsErrOf result ReadEnd.Failed ⊎ ((F.seen files.new).blamed ≡ (F.seen files.old).blamed) }
+    ensures blamed_else { IsErrOf result ReadEnd.Failed
+        ⊎ ((F.seen files.new).blamed ≡ (F.seen files.old).blamed) }
 {
     let mut bytes = Bytes::new(alloc);
     let mut got = 0;

@@ -1,5 +1,6 @@
-//! The outside of the verifier, seen through two traits: files that are read in pieces, and a sink that takes bytes.
-//! Beside them stand their forms in memory, the small lists that other crates hand on, and the writers of text.
+//! The outside of the verifier, seen through two traits: files that are read in pieces, and a sink
+//! that takes bytes. Beside them stand their forms in memory, the small lists that other crates
+//! hand on, and the writers of text.
 #![tactic(auto)]
 
 mod fetching;

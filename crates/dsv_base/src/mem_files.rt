@@ -4,8 +4,9 @@ use crate::{FetchEnd, Files, NoMemory};
 use std::alloc::Global;
 use std::collections::BTreeMap;
 
-/// Files in memory, each under its name. Fetches are numbered from 0; those that it was told of fail, and so does
-/// a fetch of a name that isn't held. It tells the bytes of the files that it holds.
+/// Files in memory, each under its name. Fetches are numbered from 0; those that it was told of
+/// fail, and so does a fetch of a name that isn't held. It tells the bytes of the files that it
+/// holds.
 #[derive(Drop)]
 pub struct MemFiles {
     alloc: Global,
@@ -39,8 +40,10 @@ impl MemFiles {
 
     /// Holds a file of this name, in place of one that was held under it before.
     pub fn hold(&mut self, name: &str, bytes: &[u8]) -> Result<(), NoMemory>
-        ensures ok { OnOk result (HoldsToo (state_of self.old).held (state_of self.new).held name.now bytes.now) }
-        ensures rest { state_of self.new ≡ record (state_of self.old) { held = (state_of self.new).held } }
+        ensures ok { OnOk result (HoldsToo (state_of self.old).held (state_of self.new).held
+            name.now bytes.now) }
+        ensures rest { state_of self.new
+            ≡ record (state_of self.old) { held = (state_of self.new).held } }
         ensures err { OnErr result (state_of self.new ≡ state_of self.old) }
     {
         let key = String::from_str(self.alloc, name)?;
@@ -51,7 +54,8 @@ impl MemFiles {
 
     /// Makes the fetch of this number fail.
     pub fn fail_at(&mut self, call: u64) -> Result<(), NoMemory>
-        ensures ok { OnOk result (state_of self.new ≡ record (state_of self.old) { failing = (state_of self.old).failing ++ call ∷ [] }) }
+        ensures ok { OnOk result (state_of self.new
+            ≡ record (state_of self.old) { failing = (state_of self.old).failing ++ call ∷ [] }) }
         ensures err { OnErr result (state_of self.new ≡ state_of self.old) }
     {
         self.failing.push(call)?;
@@ -60,7 +64,8 @@ impl MemFiles {
 }
 
 impl Files for MemFiles {
-    ghost use Rattle.std.specs.Prelude.{◌≡◌, ◌<◌, ◌≤◌, ◌^◌, not, is_ok, length, IfOk, OnOk, IfSome, IsErrOf, Some};
+    ghost use Rattle.std.specs.Prelude.{◌≡◌, ◌<◌, ◌≤◌, ◌^◌, not, is_ok, length};
+    ghost use Rattle.std.specs.Prelude.{IfOk, OnOk, IfSome, IsErrOf, Some};
     ghost use Rattle.dsv_base.specs.Counts.{Rose, RoseBy};
     ghost use Rattle.dsv_base.specs.Reading.{IsChunk};
     ghost use Rattle.dsv_base.specs.FetchEnds.{count_of};
@@ -76,10 +81,12 @@ impl Files for MemFiles {
         ensures answers { is_ok result ≡ not (fetch_fails (state_of self.old) name.now) }
         ensures state { state_of self.new ≡ after_fetch (state_of self.old) name.now result }
         ensures count { IfOk result (λ c. c ≤ length room.old) }
-        ensures piece { IfOk result (λ c. IfSome ((state_of self.old).held name.now) (λ file. IsChunk file at c room.new)) }
+        ensures piece { IfOk result
+            (λ c. IfSome ((state_of self.old).held name.now) (λ file. IsChunk file at c room.new)) }
         ensures came { RoseBy (count_of result) (state_of self.old).came (state_of self.new).came }
         ensures faults { (state_of self.old).faults ≤ (state_of self.new).faults }
-        ensures failed { IsErrOf result FetchEnd.Failed → Rose (state_of self.old).faults (state_of self.new).faults }
+        ensures failed { IsErrOf result FetchEnd.Failed
+            → Rose (state_of self.old).faults (state_of self.new).faults }
     {
         let call = self.calls;
         self.calls = self.calls.saturating_add(1);
@@ -106,10 +113,12 @@ impl MemFiles {
     /// Counts a fault and blames the name, or finds no memory for it.
     fn fail(&mut self, name: &str) -> Result<usize, FetchEnd>
         ensures err { IsErr result }
-        ensures state { IfErr result (λ end. state_of self.new ≡ failed_fetch (state_of self.old) name.now end) }
+        ensures state { IfErr result (λ end. state_of self.new
+            ≡ failed_fetch (state_of self.old) name.now end) }
         ensures came { (state_of self.new).came ≡ (state_of self.old).came }
         ensures faults { (state_of self.old).faults ≤ (state_of self.new).faults }
-        ensures failed { IsErrOf result FetchEnd.Failed → Rose (state_of self.old).faults (state_of self.new).faults }
+        ensures failed { IsErrOf result FetchEnd.Failed
+            → Rose (state_of self.old).faults (state_of self.new).faults }
     {
         match String::from_str(self.alloc, name) {
             Ok(blamed) => {

@@ -3,8 +3,8 @@ use crate::{Failed, NoMemory, Sink};
 use std::alloc::Global;
 use std::marker::Model;
 
-/// A sink in memory with a fixed room. Puts are numbered from 0; those that it was told of fail, and so does a put
-/// that finds no room left. It tells the bytes that it took.
+/// A sink in memory with a fixed room. Puts are numbered from 0; those that it was told of fail,
+/// and so does a put that finds no room left. It tells the bytes that it took.
 #[derive(Drop)]
 pub struct MemSink {
     taken: Vec<u8>,
@@ -20,7 +20,13 @@ impl Model for MemSink {
 
     ghost Value = { SinkState };
 
-    ghost view = { λ s. record { taken = s.taken.items; room = s.room; failing = s.failing.items; calls = s.calls; faults = s.faults } };
+    ghost view = { λ s. record {
+      taken = s.taken.items;
+      room = s.room;
+      failing = s.failing.items;
+      calls = s.calls;
+      faults = s.faults;
+    } };
 
     ghost invariant = { λ s. (vec_len s.taken ≤ s.room) × (s.room ≤ vec_capacity s.taken) };
 }
@@ -44,7 +50,8 @@ impl MemSink {
 
     /// Makes the put of this number fail.
     pub fn fail_at(&mut self, call: u64) -> Result<(), NoMemory>
-        ensures ok { OnOk result (self.new ≡ record self.old { failing = self.old.failing ++ call ∷ [] }) }
+        ensures ok { OnOk result (self.new
+            ≡ record self.old { failing = self.old.failing ++ call ∷ [] }) }
         ensures err { OnErr result (self.new ≡ self.old) }
     {
         self.failing.push(call)?;

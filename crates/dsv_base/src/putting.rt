@@ -20,7 +20,8 @@ pub trait Sink {
     fn put(&mut self, piece: &[u8]) -> Result<usize, Failed>
         requires { 0 < length piece.now }
         ensures some { IfOk result (λ c. (1 ≤ c) × (c ≤ length piece.now)) }
-        ensures taken { IfOk result (λ c. Grew (seen self.old).taken (seen self.new).taken (take c piece.now)) }
+        ensures taken { IfOk result
+            (λ c. Grew (seen self.old).taken (seen self.new).taken (take c piece.now)) }
         ensures kept { OnErr result ((seen self.new).taken ≡ (seen self.old).taken) }
         ensures faults { (seen self.old).faults ≤ (seen self.new).faults }
         ensures failed { OnErr result (Rose (seen self.old).faults (seen self.new).faults) };

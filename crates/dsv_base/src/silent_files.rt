@@ -34,12 +34,18 @@ impl SilentFiles {
 }
 
 impl Files for SilentFiles {
-    ghost use Rattle.std.specs.Prelude.{◌≡◌, ◌<◌, ◌≤◌, ◌^◌, length, IsOk, IfOk, Some, None};
-    ghost use Rattle.dsv_base.specs.Counts.{RoseBy, counted};
+    ghost use Rattle.std.specs.Prelude.{◌≡◌, ◌<◌, ◌≤◌, ◌^◌, length};
+    ghost use Rattle.std.specs.Prelude.{IsOk, IfOk, Some, None};
+    ghost use Rattle.dsv_base.specs.Counts.{RoseBy, count_after};
     ghost use Rattle.dsv_base.specs.Reading.{IsChunk};
     ghost use Rattle.dsv_base.specs.FetchEnds.{count_of};
 
-    ghost seen = { λ s. record { held = λ name. Some s.bytes; faults = 0; blamed = None; came = s.came } };
+    ghost seen = { λ s. record {
+      held = λ name. Some s.bytes;
+      faults = 0;
+      blamed = None;
+      came = s.came;
+    } };
 
     fn fetch(&mut self, _name: &str, at: u64, room: &mut [u8]) -> Result<usize, FetchEnd>
         requires has_room { 0 < length room.old }
@@ -47,7 +53,9 @@ impl Files for SilentFiles {
         ensures never_fails { IsOk result }
         ensures count { IfOk result (λ c. c ≤ length room.old) }
         ensures piece { IfOk result (λ c. IsChunk self.old.bytes at c room.new) }
-        ensures state { self.new ≡ record self.old { came = counted self.old.came (count_of result) } }
+        ensures state { self.new ≡ record self.old {
+          came = count_after self.old.came (count_of result);
+        } }
         ensures came { RoseBy (count_of result) self.old.came self.new.came }
     {
         let count = copy_from(&self.bytes, at as usize, room);

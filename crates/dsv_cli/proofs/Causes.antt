@@ -36,7 +36,7 @@ told_by P bytes (Some f) e h = subst P e h
 accepted_by : (design : Design) (bytes : List ℕ) (c : ControllerView) (outcome : Result FixedPoint QuantRefusal) → length bytes ≤ longest_file → IsTextOf bytes c
     → BecomesWords c design outcome → IsAccepted design bytes outcome
 accepted_by design bytes c outcome short text b =
-    record { short = short; controller = c; text = text; format = b.format; modes = b.modes; quantised = b.quantised }
+    record { short = short; controller = c; text = text; format = b.format; modes = b.modes; becomes = b.becomes }
 
 -- ---- from the words on
 row_of_words : (job : Asked) (bytes : List ℕ) (words : FixedPoint) (task : Task) → job.task ≡ task → (found : Answer)

@@ -11,7 +11,7 @@ use Rattle.dsv_reader.specs.Controllers.{ControllerView}
 use Rattle.dsv_reader.specs.Texts.{IsFaultOf}
 use Rattle.dsv_reader.proofs.TextLaws.{answers_apart, one_design}
 use Rattle.dsv_quantiser.specs.FixedPoint.{FixedPoint}
-use Rattle.dsv_quantiser.specs.Quantising.{quantised}
+use Rattle.dsv_quantiser.specs.Quantising.{fixed_point_of}
 use Rattle.dsv_quantiser.specs.declared.refusal.QuantRefusal.{QuantRefusal}
 use Rattle.dsv_command.specs.declared.job.Design.{Design}
 use Rattle.dsv_cli.specs.Headline.{longest_file, IsAccepted}
@@ -45,10 +45,10 @@ one_outcome design bytes o p h k =
     (h.modes.frac_bits ∙ ap (λ (x : ControllerView). x.frac_bits) c ∙ sym k.modes.frac_bits)
     (h.modes.rounding ∙ sym k.modes.rounding)
     (h.modes.overflow ∙ sym k.modes.overflow) in
-    sym h.quantised
-    ∙ ap (λ (x : ControllerView). quantised x h.format design.realisation) c
-    ∙ ap (λ (x : Format). quantised k.controller x design.realisation) f
-    ∙ k.quantised
+    sym h.becomes
+    ∙ ap (λ (x : ControllerView). fixed_point_of x h.format design.realisation) c
+    ∙ ap (λ (x : Format). fixed_point_of k.controller x design.realisation) f
+    ∙ k.becomes
 
 -- how far a file comes: over the limit, no controller's, one that is refused in words, or one in words
 pub data Stage : Type 0 where

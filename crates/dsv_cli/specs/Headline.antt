@@ -1,5 +1,6 @@
 -- What a run answers: a table, one row for each answer.
-use Rattle.std.specs.Prelude.{◌≡◌, ◌⊎◌, Bool, true, false, ℕ, ◌+◌, ◌-◌, ◌<◌, ◌≤◌, List, length, Option, Some, None, IfSome, Result, Ok, Err, ℤ}
+use Rattle.std.specs.Prelude.{◌≡◌, ◌⊎◌, Bool, true, false, ℕ, ◌+◌, ◌-◌, ◌<◌}
+use Rattle.std.specs.Prelude.{◌≤◌, List, length, Option, Some, None, IfSome, Result, Ok, Err, ℤ}
 use Rattle.dsv_algebra.specs.Vectors.{vector_of, matrix_of, form_at}
 use Rattle.dsv_algebra.specs.Companion.{StrictlyFallsAlong, IsKeptAwayAlong}
 use Rattle.dsv_base.specs.Counts.{Rose}
@@ -11,7 +12,7 @@ use Rattle.dsv_word.specs.declared.format.Format.{Format}
 use Rattle.dsv_reader.specs.Controllers.{ControllerView}
 use Rattle.dsv_reader.specs.Texts.{IsTextOf, IsFaultOf}
 use Rattle.dsv_quantiser.specs.FixedPoint.{FixedPoint}
-use Rattle.dsv_quantiser.specs.Quantising.{quantised}
+use Rattle.dsv_quantiser.specs.Quantising.{fixed_point_of}
 use Rattle.dsv_quantiser.specs.declared.refusal.QuantRefusal.{QuantRefusal}
 use Rattle.dsv_forms.specs.declared.offers.Form.{Form}
 use Rattle.dsv_forms.specs.declared.offers.Falls.{Falls}
@@ -40,17 +41,20 @@ pub record IsFormatOf (c : ControllerView) (design : Design) (format : Format) :
   pub rounding : format.rounding ≡ design.rounding
   pub overflow : format.overflow ≡ design.overflow
 
--- The bytes are the text of a controller, which in the job's realisation and modes becomes these words, or is refused so.
-pub record IsAccepted (design : Design) (bytes : List ℕ) (outcome : Result FixedPoint QuantRefusal) : Type 0 where
+-- The bytes are the text of a controller, which in the job's realisation and modes becomes these
+-- words, or is refused so.
+pub record IsAccepted (design : Design) (bytes : List ℕ)
+    (outcome : Result FixedPoint QuantRefusal) : Type 0 where
   pub short : length bytes ≤ longest_file
   pub controller : ControllerView
   pub text : IsTextOf bytes controller
   pub format : Format
   pub modes : IsFormatOf controller design format
-  pub quantised : quantised controller format design.realisation ≡ outcome
+  pub becomes : fixed_point_of controller format design.realisation ≡ outcome
 
--- The polynomial is the quantised denominator of a direct form, of order 0 or 1, with its greatest common power of two
--- taken out. Whether its leading coefficient is greater than the size of the other one decides.
+-- The polynomial is the quantised denominator of a direct form, of order 0 or 1, with its greatest
+-- common power of two taken out. Whether its leading coefficient is greater than the size of the
+-- other one decides.
 pub record IsTested (design : Design) (bytes : List ℕ) (poly : List ℤ) (leads : Bool) : Type 0 where
   pub words : FixedPoint
   pub accepted : IsAccepted design bytes (Ok words)
@@ -73,65 +77,76 @@ abbrev pub Simulates : Task → List ℤ → Type 0
 Simulates task inputs = task ≡ simulates inputs
 
 -- These are the rows of the job's run.
-pub record IsRun (job : Asked) (bytes : List ℕ) (inputs : List ℤ) (words : FixedPoint) : Type 0 where
+pub record IsRun (job : Asked) (bytes : List ℕ) (inputs : List ℤ) (words : FixedPoint) :
+    Type 0 where
   pub task : Simulates job.task inputs
   pub accepted : IsAccepted job.design bytes (Ok words)
 
 -- ---- what answers show of a polynomial, whatever the file
--- The form is positive and strictly falls along every nonzero trajectory of the polynomial; it is the closed form's, its
--- check accepts it, and `fall` is what it loses in a step.
+-- The form is positive and strictly falls along every nonzero trajectory of the polynomial; it is
+-- the closed form's, its check accepts it, and `fall` is what it loses in a step.
 pub record ShowsFall (poly : List ℤ) (offer : Falls) (fall : Form) : Type 0 where
   pub falls : StrictlyFallsAlong (degree poly) (vector_of poly) (matrix_of offer.form.rows)
   pub closed_form : offered.Falls offer ≡ closed_form_of poly
   pub accepted : falls_refusal poly offer ≡ None
   pub fall_form : IsFallForm (degree poly) (vector_of poly) offer.form fall
 
--- The form is negative at the start, where it has this value, and rises in no step, so that the trajectory from the
--- start is kept away from 0; it is the closed form's, its check accepts it, and `fall` is what it loses in a step.
+-- The form is negative at the start, where it has this value, and rises in no step, so that the
+-- trajectory from the start is kept away from 0; it is the closed form's, its check accepts it, and
+-- `fall` is what it loses in a step.
 pub record ShowsKeptAway (poly : List ℤ) (offer : KeptAway) (fall : Form) (value : ℤ) : Type 0 where
-  pub kept_away : IsKeptAwayAlong (degree poly) (vector_of poly) (matrix_of offer.form.rows) (vector_of offer.start)
+  pub kept_away : IsKeptAwayAlong (degree poly) (vector_of poly) (matrix_of offer.form.rows)
+      (vector_of offer.start)
   pub closed_form : offered.KeptAway offer ≡ closed_form_of poly
   pub accepted : kept_away_refusal poly offer ≡ None
   pub fall_form : IsFallForm (degree poly) (vector_of poly) offer.form fall
   pub value_at : value ≡ form_at (degree poly) (matrix_of offer.form.rows) (vector_of offer.start)
 
 -- ---- the table
--- A row of the table, for a file whose bytes are told or not: the jobs that the answer belongs to; its cause in the
--- bytes; and what it says whatever the file.
-pub record Row (told : Option (List ℕ)) (belongs : Type 0) (cause : List ℕ → Type 0) (says : Type 0) : Type 0 where
+-- A row of the table, for a file whose bytes are told or not: the jobs that the answer belongs to;
+-- its cause in the bytes; and what it says whatever the file.
+pub record Row (told : Option (List ℕ)) (belongs : Type 0) (cause : List ℕ
+    → Type 0) (says : Type 0) : Type 0 where
   pub belongs_to : belongs
   pub comes_from : IfSome told cause
   pub shows : says
 
--- The row of each answer to a job on a file with these bytes, where they are told; the files were `old` and are `new`.
+-- The row of each answer to a job on a file with these bytes, where they are told; the files were
+-- `old` and are `new`.
 abbrev pub IsRow : Option (List ℕ) → FilesSeen → FilesSeen → Asked → Answer → Type 0
 IsRow told old new job (answer.Falls poly offer fall) =
-    Row told (job.task ≡ decides Stability) (λ bytes. IsTested job.design bytes poly true) (ShowsFall poly offer fall)
+    Row told (job.task ≡ decides Stability) (λ bytes. IsTested job.design bytes poly true)
+    (ShowsFall poly offer fall)
 IsRow told old new job (answer.KeptAway poly offer fall value) =
-    Row told (job.task ≡ decides Stability) (λ bytes. IsTested job.design bytes poly false) (ShowsKeptAway poly offer fall value)
+    Row told (job.task ≡ decides Stability) (λ bytes. IsTested job.design bytes poly false)
+    (ShowsKeptAway poly offer fall value)
 IsRow told old new job answer.NotYet =
     Row told (job.task ≡ decides Stability) (λ bytes. IsNotYet job.design bytes) (Unit {0})
 IsRow told old new job (answer.Simulated found) =
     Row told ((inputs : List ℤ) × Simulates job.task inputs)
-    (λ bytes. (inputs : List ℤ) × (words : FixedPoint) × IsRun job bytes inputs words × IsRunOver words inputs found)
+    (λ bytes. (inputs : List ℤ) × (words : FixedPoint) × IsRun job bytes inputs words
+    × IsRunOver words inputs found)
     (Unit {0})
 IsRow told old new job (answer.InputRange index value) =
     Row told ((inputs : List ℤ) × Simulates job.task inputs)
-    (λ bytes. (inputs : List ℤ) × (words : FixedPoint) × IsRun job bytes inputs words × IsFirstOutside words.format inputs index value)
+    (λ bytes. (inputs : List ℤ) × (words : FixedPoint) × IsRun job bytes inputs words
+    × IsFirstOutside words.format inputs index value)
     (Unit {0})
 IsRow told old new job (answer.QuantRefused r) =
     Row told (Unit {0}) (λ bytes. IsAccepted job.design bytes (Err r)) (Unit {0})
 IsRow told old new job (answer.FileRefused r) =
     Row told (Unit {0}) (λ bytes. (length bytes ≤ longest_file) × IsFaultOf bytes r) (Unit {0})
 IsRow told old new job answer.FileTooLong =
-    Row told (Unit {0}) (λ bytes. longest_file < length bytes) (Rose (old.came + longest_file) new.came)
+    Row told (Unit {0}) (λ bytes. longest_file < length bytes)
+    (Rose (old.came + longest_file) new.came)
 IsRow told old new job (answer.ReadFault file.Controller) =
-    Row told (Unit {0}) (λ bytes. Unit {0}) (Rose old.faults new.faults × (new.blamed ≡ Some job.file))
+    Row told (Unit {0}) (λ bytes. Unit {0}) (Rose old.faults new.faults
+    × (new.blamed ≡ Some job.file))
 IsRow told old new job answer.Usage = ⊥
 IsRow told old new job answer.NoMemory = Unit {0}
 
--- Arguments that ask for no job are answered by Usage with the files untouched, and a job by an answer with its row.
--- Only NoMemory has no stated cause.
+-- Arguments that ask for no job are answered by Usage with the files untouched, and a job by an
+-- answer with its row. Only NoMemory has no stated cause.
 abbrev pub IsExplained : FilesSeen → FilesSeen → Option Asked → Answer → Type 0
 IsExplained old new None found = (found ≡ answer.NoMemory) ⊎ ((found ≡ answer.Usage) × (new ≡ old))
 IsExplained old new (Some job) found = IsRow (old.held job.file) old new job found
@@ -142,7 +157,8 @@ pub record AreKept (old new : FilesSeen) : Type 0 where
   pub held : new.held ≡ old.held
   pub faults : old.faults ≤ new.faults
 
--- The whole text was written and the status is the answer's, or the status is 4 and a prefix of the text was written
--- before the sink failed.
+-- The whole text was written and the status is the answer's, or the status is 4 and a prefix of the
+-- text was written before the sink failed.
 abbrev pub IsWritten : SinkSeen → SinkSeen → ℕ → ℕ → List ℕ → Type 0
-IsWritten old new status wanted text = ((status ≡ wanted) × Wrote old new text) ⊎ ((status ≡ 4) × CutShort old new text)
+IsWritten old new status wanted text = ((status ≡ wanted) × Wrote old new text)
+    ⊎ ((status ≡ 4) × CutShort old new text)

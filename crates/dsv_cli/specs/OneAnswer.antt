@@ -13,10 +13,12 @@ pub record SameForm (f g : Form) : Type 0 where
   pub places : f.d ≡ g.d
   pub entries : (i j : ℕ) → matrix_of f.rows i j ≡ matrix_of g.rows i j
 
--- The answers are equal, where rows of a form that is lost in a step count as the matrix that they spell.
+-- The answers are equal, where rows of a form that is lost in a step count as the matrix that they
+-- spell.
 abbrev pub SameAnswer : Answer → Answer → Type 0
 SameAnswer (answer.Falls p o f) (answer.Falls q u g) = (p ≡ q) × (o ≡ u) × SameForm f g
-SameAnswer (answer.KeptAway p o f v) (answer.KeptAway q u g w) = (p ≡ q) × (o ≡ u) × SameForm f g × (v ≡ w)
+SameAnswer (answer.KeptAway p o f v) (answer.KeptAway q u g w) = (p ≡ q) × (o ≡ u) × SameForm f g
+    × (v ≡ w)
 SameAnswer a b = a ≡ b
 
 -- The answer is settled by the bytes: it is neither want of memory nor a fault of a read.
@@ -33,7 +35,8 @@ IsSettled answer.NotYet = Unit {0}
 IsSettled (answer.ReadFault file) = ⊥
 IsSettled answer.NoMemory = ⊥
 
--- Whatever else was read before, two settled answers to one job on a file of these bytes are the same.
+-- Whatever else was read before, two settled answers to one job on a file of these bytes are the
+-- same.
 abbrev pub HaveOneAnswer : Type 0
 HaveOneAnswer =
     (bytes : List ℕ) (old new then_old then_new : FilesSeen) (job : Asked) (a b : Answer)

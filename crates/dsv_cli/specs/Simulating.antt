@@ -9,11 +9,12 @@ use Rattle.dsv_meaning.specs.Equations.{order, registers_of}
 use Rattle.dsv_meaning.specs.Systems.{equations_of}
 use Rattle.dsv_system.specs.Systems.{rows, zeros}
 
--- All inputs are words of the format, and these are the rows of the controller's written equations over them, from
--- registers of zeros.
+-- All inputs are words of the format, and these are the rows of the controller's written equations
+-- over them, from registers of zeros.
 pub record IsRunOver (words : FixedPoint) (inputs : List ℤ) (found : List SampleRow) : Type 0 where
   pub inputs_are_words : All (IsWord words.format) inputs
-  pub rows : found ≡ rows (equations_of words) (zeros (registers_of words.realisation (order words))) inputs
+  pub rows : found ≡ rows (equations_of words)
+      (zeros (registers_of words.realisation (order words))) inputs
 
 -- The first input that is no word of the format has this number, counted from 0, and is this.
 pub record IsFirstOutside (format : Format) (inputs : List ℤ) (index : ℕ) (value : ℤ) : Type 0 where

@@ -7,7 +7,7 @@ ghost use Rattle.dsv_cli.specs.Causes.{IsDecision, IsOfTask, IsOfController, IsO
 
 use crate::simulating::simulated_answer;
 use dsv_command::{Design, Job, Task};
-use dsv_lyapunov::{FormAnswer, decide, reduced};
+use dsv_lyapunov::{FormAnswer, decide, reduced_polynomial};
 use dsv_names::Property;
 use dsv_quantiser::{Quantised, quantise};
 use dsv_reader::{Controller, FileRefusal, read};
@@ -43,7 +43,7 @@ fn decision(words: &Quantised) -> Answer
     if words.realisation().is_delta() || denominator.len() > MOST_COEFFICIENTS {
         return Answer::NotYet;
     }
-    let poly = reduced(denominator);
+    let poly = reduced_polynomial(denominator);
     match decide(&poly) {
         FormAnswer::Falls { offer, fall } => Answer::Falls { poly, offer, fall },
         FormAnswer::KeptAway { offer, fall, value } => Answer::KeptAway {

@@ -1,4 +1,5 @@
-//! The command `dsv`: from its arguments, its files and its output to an answer and the answer's text.
+//! The command `dsv`: from its arguments, its files and its output to an answer and the answer's
+//! text.
 #![tactic(auto)]
 
 mod deciding;

@@ -1,4 +1,5 @@
-// The real files and the real output. They tell nothing of content: no clause says what a file holds or an output took.
+// The real files and the real output. They tell nothing of content: no clause says what a file
+// holds or an output took.
 ghost use Rattle.std.specs.Prelude.{◌≡◌, ◌≤◌, length, None, IfOk, string_bytes};
 ghost use Rattle.std.specs.Option.{option_map};
 ghost use Rattle.dsv_base.specs.Counts.{RoseBy};
@@ -9,7 +10,8 @@ use std::fs::File;
 use std::io;
 use std::io::{ErrorKind, Read, Seek, SeekFrom, Write};
 
-/// The files of the system. They count faults and the bytes that came, and keep the name of the last fetch that failed.
+/// The files of the system. They count faults and the bytes that came, and keep the name of the
+/// last fetch that failed.
 #[derive(Drop)]
 pub struct OsFiles {
     rt: HostRuntime,
@@ -22,7 +24,8 @@ pub struct OsFiles {
 impl OsFiles {
     /// The files of the system, of which nothing was read.
     pub fn new(rt: HostRuntime, alloc: Global) -> Self
-        ensures { ⟦<OsFiles as Files>⟧.seen result ≡ record { held = λ _. None; faults = 0; blamed = None; came = 0 } }
+        ensures { ⟦<OsFiles as Files>⟧.seen result
+            ≡ record { held = λ _. None; faults = 0; blamed = None; came = 0 } }
     {
         OsFiles {
             rt,
@@ -52,7 +55,12 @@ impl OsFiles {
 }
 
 impl Files for OsFiles {
-    ghost seen = { λ s. record { held = λ _. None; faults = s.faults; blamed = option_map string_bytes s.blamed; came = s.came } };
+    ghost seen = { λ s. record {
+      held = λ _. None;
+      faults = s.faults;
+      blamed = option_map string_bytes s.blamed;
+      came = s.came;
+    } };
 
     fn fetch(&mut self, name: &str, at: u64, room: &mut [u8]) -> Result<usize, FetchEnd> {
         match self.read_piece(name, at, room) {

@@ -18,7 +18,8 @@ const LONGEST_FILE: u64 = 65_536;
 /// The status of a run whose sink failed.
 const WRITE_FAULT: u8 = 4;
 
-/// The status and the answer of a run. The status is 4 where the answer couldn't be written, and else the answer's.
+/// The status and the answer of a run. The status is 4 where the answer couldn't be written, and
+/// else the answer's.
 #[derive(Drop)]
 pub struct Done {
     pub status: u8,
@@ -27,7 +28,8 @@ pub struct Done {
 
 /// The answer to a job.
 fn answer_of<F: Files>(alloc: Global, job: &Job, files: &mut F) -> Answer
-    ensures row { IsRow ((F.seen files.old).held (asked_of job.now).file) (F.seen files.old) (F.seen files.new) (asked_of job.now) result }
+    ensures row { IsRow ((F.seen files.old).held (asked_of job.now).file) (F.seen files.old)
+        (F.seen files.new) (asked_of job.now) result }
     ensures kept { AreKept (F.seen files.old) (F.seen files.new) }
     ensures places { HasPlaces result }
 {
@@ -42,7 +44,8 @@ fn answer_of<F: Files>(alloc: Global, job: &Job, files: &mut F) -> Answer
 /// Writes an answer; the status is the answer's where the whole text was written, and else 4.
 fn written_status<K: Sink>(sink: &mut K, job: Option<&Job>, answer: &Answer) -> u8
     requires { HasPlaces answer.now }
-    ensures { IsWritten (K.seen sink.old) (K.seen sink.new) result (status_of answer.now) (text_of (asked_in job.entry) answer.now) }
+    ensures { IsWritten (K.seen sink.old) (K.seen sink.new) result (status_of answer.now)
+        (text_of (asked_in job.entry) answer.now) }
 {
     match put_answer(sink, job, answer) {
         Ok(()) => status_of(answer),
@@ -50,8 +53,9 @@ fn written_status<K: Sink>(sink: &mut K, job: Option<&Job>, answer: &Answer) -> 
     }
 }
 
-/// Runs the command: finds the answer for the arguments after the program's name, and writes its text to the sink. The
-/// writing takes no memory; where the sink fails, a prefix of the text was written and the status is 4.
+/// Runs the command: finds the answer for the arguments after the program's name, and writes its
+/// text to the sink. The writing takes no memory; where the sink fails, a prefix of the text was
+/// written and the status is 4.
 pub fn run<F: Files, K: Sink>(
     alloc: Global,
     arguments: &[String],
@@ -59,11 +63,14 @@ pub fn run<F: Files, K: Sink>(
     sink: &mut K,
 ) -> Done
     // The answer's row in the table of answers holds.
-    ensures explained { IsExplained (F.seen files.old) (F.seen files.new) (job_of (map string_bytes arguments.now)) result.answer }
+    ensures explained { IsExplained (F.seen files.old) (F.seen files.new)
+        (job_of (map string_bytes arguments.now)) result.answer }
     // What the files hold is as before.
     ensures kept { AreKept (F.seen files.old) (F.seen files.new) }
-    // The answer's text was written and the status is the answer's, or the status is 4 and the sink failed.
-    ensures written { IsWritten (K.seen sink.old) (K.seen sink.new) result.status (status_of result.answer)
+    // The answer's text was written and the status is the answer's, or the status is 4 and the sink
+    // failed.
+    ensures written { IsWritten (K.seen sink.old) (K.seen sink.new) result.status
+        (status_of result.answer)
         (text_of (job_of (map string_bytes arguments.now)) result.answer) }
 {
     match read_job(alloc, arguments) {

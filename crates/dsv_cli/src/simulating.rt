@@ -85,7 +85,9 @@ fn run_netlist(
 /// The rows of the controller over these inputs, from registers of zeros.
 fn rows_over(alloc: Global, words: &Quantised, inputs: &[i64]) -> Result<Rows, NoMemory>
     requires { All (IsWord words.now.format) inputs.now }
-    ensures { IfOk result (λ found. found ≡ rows (equations_of words.now) (zeros (registers_of words.now.realisation (order words.now))) inputs.now) }
+    ensures { IfOk result (λ found. found
+        ≡ rows (equations_of words.now)
+        (zeros (registers_of words.now.realisation (order words.now))) inputs.now) }
 {
     let _order = words.order();
     let net = realise(alloc, words)?;

@@ -1,4 +1,4 @@
--- Lists that lie one behind another in one list.
+-- Lists that lie one after another in one list.
 use Rattle.std.proofs.Common.{◌≡◌, ℕ, ◌+◌, ◌-◌, ◌<◌, ◌≤◌, List, [], ◌∷◌, ◌++◌, length, get_or, Some, zero, suc, refl, ap, drop, arith, slice_get, length-append, add-one}
 use Rattle.std.specs.List.{slice_range}
 use Rattle.std.proofs.lemmas.Grind.{common_steps}

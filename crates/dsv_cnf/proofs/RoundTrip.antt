@@ -36,7 +36,7 @@ digits-push : (ds : List ℕ) (d : ℕ) → AreDigits ds → 48 ≤ d → d ≤ 
 digits-push [] d h lo hi = (lo, hi, tt)
 digits-push (b ∷ bs) d h lo hi = (h.0, h.1, digits-push bs d h.2 lo hi)
 
--- what the digits write behind a value
+-- what the digits write after a value
 abbrev pub value_after : ℕ → List ℕ → ℕ
 value_after value [] = value
 value_after value (b ∷ bs) = value_after (10 * value + (b - 48)) bs

@@ -1,5 +1,6 @@
 -- Clauses, assignments and formulas.
-use Rattle.std.specs.Prelude.{◌≡◌, ℕ, ◌<◌, Bool, true, false, ◌||◌, List, [], ◌∷◌, slice_index_or}
+use Rattle.std.specs.Prelude.{◌≡◌, ℕ, ◌<◌, Bool, true, false}
+use Rattle.std.specs.Prelude.{◌||◌, List, [], ◌∷◌, slice_index_or}
 use Rattle.std.specs.List.{All}
 use Rattle.dsv_cnf.specs.Literal.{Literal, literal_value}
 

@@ -1,4 +1,4 @@
--- Lists that lie one behind another in one list.
+-- Lists that lie one after another in one list.
 use Rattle.std.specs.Prelude.{◌≡◌, ℕ, ◌≤◌, List, [], ◌∷◌, slice_range}
 
 -- the piece from `start` to the first end, and each next piece up to its end

@@ -5,7 +5,13 @@ use Rattle.dsv_cnf.specs.ReadingView.{ReadingView}
 use Rattle.dsv_cnf.specs.declared.reading.Reading.TheInside.{Inside}
 
 abbrev pub view_of : Inside → ReadingView
-view_of r = record { vars = r.formula.vars; wanted = r.wanted; clauses = r.formula.clauses; open_clause = r.«open».items; over = r.over }
+view_of r = record {
+  vars = r.formula.vars;
+  wanted = r.wanted;
+  clauses = r.formula.clauses;
+  open_clause = r.«open».items;
+  over = r.over;
+}
 
 pub record IsReading (r : Inside) : Type 0 where
   pub over_vars : IsOver r.formula.vars r.«open».items

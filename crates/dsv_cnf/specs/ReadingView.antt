@@ -2,8 +2,8 @@
 use Rattle.std.specs.Prelude.{ℕ, List, Bool}
 use Rattle.dsv_cnf.specs.Literal.{Literal}
 
--- the header's numbers, the clauses so far, the literals of the clause that has no 0 yet, and whether more clauses
--- came than the header says
+-- the header's numbers, the clauses so far, the literals of the clause that has no 0 yet, and
+-- whether more clauses came than the header says
 pub record ReadingView : Type 0 where
   pub vars : ℕ
   pub wanted : ℕ

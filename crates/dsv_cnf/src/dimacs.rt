@@ -7,8 +7,8 @@ ghost use Rattle.dsv_cnf.specs.Reading.{reading};
 use crate::{Formula, Lit};
 use dsv_base::{Failed, Sink, put_all, put_line, put_number};
 
-/// Writes `p cnf V C` and then a line per clause: its literals, numbered from 1, and a final 0. It takes no memory.
-/// The whole text reads back as the formula.
+/// Writes `p cnf V C` and then a line per clause: its literals, numbered from 1, and a final 0. It
+/// takes no memory. The whole text reads back as the formula.
 pub fn write_dimacs<K: Sink>(formula: &Formula, sink: &mut K) -> Result<(), Failed>
     ensures writes { Writes (K.seen sink.old) (K.seen sink.new) result (dimacs_text formula.now) }
     ensures reads_back { reading (dimacs_text formula.now) ≡ Ok formula.now }
@@ -29,7 +29,7 @@ fn put_clause<K: Sink>(sink: &mut K, clause: &[Lit]) -> Result<(), Failed>
     put_all(sink, b"0\n")
 }
 
-/// Writes a literal and the space behind it.
+/// Writes a literal and the space after it.
 fn put_literal<K: Sink>(sink: &mut K, literal: Lit) -> Result<(), Failed>
     ensures { Writes (K.seen sink.old) (K.seen sink.new) result (literal_text literal) }
 {

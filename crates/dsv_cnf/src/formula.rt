@@ -1,5 +1,6 @@
-// Formulas: clauses that lie one behind another in one list.
-ghost use Rattle.std.specs.Prelude.{◌≡◌, ◌+◌, ◌-◌, ◌^◌, ◌<◌, ◌≤◌, [], ◌∷◌, ◌++◌, length, slice_get, slice_range, IfOk, OnOk, OnErr};
+// Formulas: clauses that lie one after another in one list.
+ghost use Rattle.std.specs.Prelude.{◌≡◌, ◌+◌, ◌-◌, ◌^◌, ◌<◌, ◌≤◌, [], ◌∷◌};
+ghost use Rattle.std.specs.Prelude.{◌++◌, length, slice_get, slice_range, IfOk, OnOk, OnErr};
 ghost use Rattle.dsv_cnf.specs.Formula.{AreOver, IsOver};
 
 use crate::Lit;
@@ -7,8 +8,8 @@ use dsv_base::NoMemory;
 use std::alloc::Global;
 use std::marker::Model;
 
-/// Clauses over numbered variables. The literals of all clauses lie in one list, clause behind clause. Beside it
-/// stands where the first clause begins and where each clause ends.
+/// Clauses over numbered variables. The literals of all clauses lie in one list, clause after
+/// clause. Beside it stands where the first clause begins and where each clause ends.
 #[derive(Drop)]
 pub struct Formula {
     vars: u32,
@@ -45,7 +46,8 @@ impl Formula {
     pub fn push_clause(&mut self, lits: &[Lit]) -> Result<(), NoMemory>
         requires over { IsOver self.old.vars lits.now }
         requires room { length self.old.clauses < 2 ^ 32 - 1 }
-        ensures ok { OnOk result (self.new ≡ record self.old { clauses = self.old.clauses ++ lits.now ∷ [] }) }
+        ensures ok { OnOk result (self.new
+            ≡ record self.old { clauses = self.old.clauses ++ lits.now ∷ [] }) }
         ensures err { OnErr result (self.new ≡ self.old) }
     {
         self.bounds.reserve(1)?;

@@ -1,4 +1,5 @@
-//! Formulas in conjunctive normal form: literals, clauses in one list, truth assignments, and the DIMACS text.
+//! Formulas in conjunctive normal form: literals, clauses in one list, truth assignments, and the
+//! DIMACS text.
 #![tactic(auto)]
 
 mod assignment;

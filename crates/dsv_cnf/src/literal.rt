@@ -1,7 +1,8 @@
 // Literals.
 use std::marker::Model;
 
-/// A variable or its negation. It is kept as twice the variable's number, and one more for a negation.
+/// A variable or its negation. It is kept as twice the variable's number, and one more for a
+/// negation.
 #[derive(Clone, Copy, Debug, Default)]
 pub struct Lit(u32);
 

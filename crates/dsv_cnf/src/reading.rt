@@ -1,6 +1,10 @@
 // Reading a formula from DIMACS text.
-ghost use Rattle.std.specs.Prelude.{◌≡◌, ◌+◌, ◌^◌, ◌<◌, ◌≤◌, ◌⊎◌, [], Ok, Err, Some, false, length, drop, slice_range, IfOk, IfErr, IfSome, OnOk, OnErr};
-ghost use Rattle.dsv_cnf.specs.Reading.{clauses_from, comments_end, header_of, number_end, number_of, part_of, part_of_number, reading, end_clause, take_part, word_end, IsPartOver, IsRefusal, finish};
+ghost use Rattle.std.specs.Prelude.{◌≡◌, ◌+◌, ◌^◌, ◌<◌, ◌≤◌, ◌⊎◌, [], Ok, Err};
+ghost use Rattle.std.specs.Prelude.{Some, false, length, drop, slice_range};
+ghost use Rattle.std.specs.Prelude.{IfOk, IfErr, IfSome, OnOk, OnErr};
+ghost use Rattle.dsv_cnf.specs.Reading.{clauses_from, comments_end, header_of, number_end};
+ghost use Rattle.dsv_cnf.specs.Reading.{number_of, part_of, part_of_number, reading, end_clause};
+ghost use Rattle.dsv_cnf.specs.Reading.{take_part, word_end, IsPartOver, IsRefusal, finish};
 
 use crate::{Formula, Lit};
 use dsv_base::NoMemory;
@@ -15,7 +19,8 @@ pub enum CnfRefusal {
     /// The first byte that breaks the header line, or the header's number that is too large.
     #[error("the header is broken at byte {at}")]
     Header { at: u64 },
-    /// The first piece that is neither a literal nor 0, or whose variable is over the header's number.
+    /// The first piece that is neither a literal nor 0, or whose variable is over the header's
+    /// number.
     #[error("no literal at byte {at}")]
     Literal { at: u64 },
     /// The end, where the number of clauses isn't the header's or the last clause has no 0.
@@ -47,8 +52,8 @@ impl<T: Drop> From<AllocFailed<T>> for CnfRefusal {
     }
 }
 
-/// Reads DIMACS text: comment lines, the header `p cnf V C`, and C clauses over V variables, each ended by 0.
-/// It takes time in proportion to the text.
+/// Reads DIMACS text: comment lines, the header `p cnf V C`, and C clauses over V variables, each
+/// ended by 0. It takes time in proportion to the text.
 pub fn read_dimacs(alloc: Global, bytes: &[u8]) -> Result<Formula, CnfRefusal>
     ensures ok { IfOk result (λ f. reading bytes.now ≡ Ok f) }
     ensures refused { IfErr result (IsRefusal (reading bytes.now)) }
@@ -227,7 +232,8 @@ fn part_of_number(number: u32, positive: bool) -> Part
     }
 }
 
-/// The clauses that were read, at most as many as are wanted, and the literals of the clause that has no 0 yet.
+/// The clauses that were read, at most as many as are wanted, and the literals of the clause that
+/// has no 0 yet.
 #[derive(Drop)]
 struct Reading {
     formula: Formula,
@@ -287,8 +293,10 @@ impl Reading {
 
 fn read_clauses(reading: &mut Reading, bytes: &[u8], from: usize) -> Result<(), CnfRefusal>
     requires { from ≤ length bytes.now }
-    ensures ok { OnOk result (clauses_from (drop from bytes.now) [] from reading.old ≡ Ok reading.new) }
-    ensures refused { IfErr result (IsRefusal (clauses_from (drop from bytes.now) [] from reading.old)) }
+    ensures ok { OnOk result (clauses_from (drop from bytes.now) [] from reading.old
+        ≡ Ok reading.new) }
+    ensures refused { IfErr result
+        (IsRefusal (clauses_from (drop from bytes.now) [] from reading.old)) }
 {
     let mut start = from;
     for i in from..bytes.len() {

@@ -6,7 +6,7 @@ use Rattle.std.proofs.lemmas.Bool.{leb-true, le-leb}
 use Rattle.std.proofs.lemmas.Bool.Decides.{nat_tests}
 use Rattle.dsv_text.specs.Bytes.{has_byte, is_digit}
 use Rattle.dsv_text.specs.Digits.{digits_len, digits_value, short_number}
-use Rattle.dsv_fraction.specs.Arithmetic.{signed}
+use Rattle.dsv_fraction.specs.Arithmetic.{with_sign}
 use Rattle.dsv_command.specs.Inputs.{most_inputs, most_digits, comma, minus, is_comma, onto_first, pieces, after_minus, input_of, all_inputs, inputs_of}
 use Rattle.dsv_command.specs.Rules.{IsInput, AreNumbers, AreInputs}
 
@@ -55,7 +55,7 @@ no_comma [] h = refl
 no_comma (b ∷ bs) h = let d = digit_first b bs h in no_or (is_comma b) (list_any is_comma bs) (no_comma_first b d.first) (no_comma bs d.others)
 
 -- ---- one input
-input_by : (b : Bool) (text : List ℕ) (n : ℕ) → has_byte minus text ≡ b → short_number most_digits (drop (if b then 1 else 0) text) ≡ Some n → input_of text ≡ Some (signed b n)
+input_by : (b : Bool) (text : List ℕ) (n : ℕ) → has_byte minus text ≡ b → short_number most_digits (drop (if b then 1 else 0) text) ≡ Some n → input_of text ≡ Some (with_sign b n)
 input_by b text n e h = rw (e, h) refl
 
 input_read : (text : List ℕ) (n : ℤ) → IsInput text n → input_of text ≡ Some n
@@ -65,12 +65,12 @@ input_read text n (IsInput.negative t digits m e h) = ap input_of e ∙ input_by
 same_byte : (a b : ℕ) → (a == b) ≡ true → a ≡ b
 same_byte a b h = grind (arith, nat_tests)
 
-found_by : (text : List ℕ) (n : ℤ) (b : Bool) (found : Option ℕ) → short_number most_digits (drop (if b then 1 else 0) text) ≡ found → has_byte minus text ≡ b → option_map (signed b) found ≡ Some n → IsInput text n
+found_by : (text : List ℕ) (n : ℤ) (b : Bool) (found : Option ℕ) → short_number most_digits (drop (if b then 1 else 0) text) ≡ found → has_byte minus text ≡ b → option_map (with_sign b) found ≡ Some n → IsInput text n
 found_by text n b None e f h = absurd (cc)
 found_by text n false (Some m) e f h = let same : pos m ≡ n = cc in subst (IsInput text) same (IsInput.positive text m e)
 found_by [] n true (Some m) e f h = absurd (cc)
 found_by (c ∷ cs) n true (Some m) e f h =
-    let same : signed true m ≡ n = cc in
+    let same : with_sign true m ≡ n = cc in
     subst (IsInput (c ∷ cs)) same (IsInput.negative (c ∷ cs) cs m (ap (λ x. x ∷ cs) (same_byte c minus f)) e)
 
 input_found : (text : List ℕ) (n : ℤ) → input_of text ≡ Some n → IsInput text n

@@ -1,38 +1,11 @@
 -- The inputs of a simulation, piece after piece.
-use Rattle.std.proofs.Common.{◌≡◌, ◌∙◌, sym, ap, ℕ, suc, ◌+◌, ◌*◌, ◌^◌, ◌<◌, ◌≤◌, Bool, true, false, not, cond, ◌&&◌, List, [], ◌∷◌, ◌++◌, length, take, drop, Option, Some, None, ℤ, refl, arith, length-append}
+use Rattle.std.proofs.Common.{◌≡◌, ◌∙◌, sym, ap, ℕ, suc, ◌+◌, ◌<◌, ◌≤◌, Bool, true, false, not, cond, List, [], ◌∷◌, ◌++◌, length, take, drop, Option, Some, None, ℤ, refl, arith, length-append}
 use native.Mathlib.Numerals.{unary_clauses}
-use Rattle.std.proofs.Math.Nat.{pow-le-pow_right}
-use Rattle.std.proofs.Math.Seq.{take-length}
-use Rattle.std.proofs.lemmas.Bool.{leb-true, lt-leb, le-leb}
+use Rattle.std.proofs.lemmas.Bool.{lt-leb, le-leb}
 use Rattle.std.proofs.lemmas.List.{append_assoc, append-nil}
-use Rattle.std.specs.Prelude.{◌==◌, nat_le, if◌then◌else◌, option_map}
+use Rattle.std.specs.Prelude.{nat_le, if◌then◌else◌, option_map}
 use Rattle.std.specs.List.{position_or_len, before_first, after_first}
-use Rattle.dsv_text.specs.Digits.{digits_len, digits_value, front_digits, short_number}
-use Rattle.dsv_text.proofs.DigitLemmas.{value_below}
 use Rattle.dsv_command.specs.Inputs.{is_comma, onto_first, pieces, input_of, all_inputs, most_inputs}
-
--- ---- numbers
-few_small : (most : ℕ) (text : List ℕ) → front_digits text ≡ text → length text ≤ most → digits_value 0 text < 10 ^ most
-few_small most text e h =
-    let below : digits_value 0 text + 1 ≤ (0 + 1) * 10 ^ length text = rw e at (value_below 0 text) in
-    let top : 10 ^ length text ≤ 10 ^ most = pow-le-pow_right (omega arith) h in
-    omega arith
-
-whole_front : (text : List ℕ) → digits_len text ≡ length text → front_digits text ≡ text
-whole_front text e = rw e (take-length text)
-
-short_by : (most : ℕ) (text : List ℕ) (n : ℕ) (a b c : Bool) → not (length text == 0) ≡ a → (digits_len text == length text) ≡ b → nat_le (length text) most ≡ c →
-    (if a && b && c then Some (digits_value 0 text) else None) ≡ Some n → n < 10 ^ most
-short_by most text n true true true e f g h =
-    let same : digits_value 0 text ≡ n = cc in
-    rw (← same) (few_small most text (whole_front text (grind (f, arith))) (leb-true (length text) most g))
-short_by most text n false b c e f g h = absurd (cc)
-short_by most text n true false c e f g h = absurd (cc)
-short_by most text n true true false e f g h = absurd (cc)
-
--- so many digits spell less than that power of 10
-pub short_below_power : (most : ℕ) (text : List ℕ) (n : ℕ) → short_number most text ≡ Some n → n < 10 ^ most
-short_below_power most text n h = short_by most text n (not (length text == 0)) (digits_len text == length text) (nat_le (length text) most) refl refl refl h
 
 -- ---- pieces
 cut_at : (byte : ℕ) (bs : List ℕ) (p n : ℕ) → n ≡ suc p
@@ -68,8 +41,8 @@ uncut [] h = refl
 uncut (b ∷ bs) h = whole_step b bs (is_comma b) (uncut bs) h
 
 -- ---- what is read, and what is left of the text
-abbrev pub with_front : List ℤ → List (List ℕ) → Option (List ℤ)
-with_front front ps = if nat_le (length front + length ps) most_inputs then option_map (λ others. front ++ others) (all_inputs ps) else None
+abbrev pub with_prefix : List ℤ → List (List ℕ) → Option (List ℤ)
+with_prefix front ps = if nat_le (length front + length ps) most_inputs then option_map (λ others. front ++ others) (all_inputs ps) else None
 
 abbrev nothing : Option (List ℤ)
 nothing = None
@@ -78,7 +51,7 @@ neither : (b : Bool) → (if b then nothing else nothing) ≡ nothing
 neither true = refl
 neither false = refl
 
-pub no_input : (front : List ℤ) (p : List ℕ) (ps : List (List ℕ)) → input_of p ≡ None → with_front front (p ∷ ps) ≡ None
+pub no_input : (front : List ℤ) (p : List ℕ) (ps : List (List ℕ)) → input_of p ≡ None → with_prefix front (p ∷ ps) ≡ None
 no_input front p ps e = rw e (neither (nat_le (length front + suc (length ps)) most_inputs))
 
 joined : (front : List ℤ) (n : ℤ) (others : Option (List ℤ))
@@ -87,17 +60,17 @@ joined front n None = refl
 joined front n (Some o) = ap Some (sym (append_assoc front (n ∷ []) o))
 
 pub one_more : (front : List ℤ) (p : List ℕ) (ps : List (List ℕ)) (n : ℤ) → input_of p ≡ Some n
-    → with_front front (p ∷ ps) ≡ with_front (front ++ n ∷ []) ps
+    → with_prefix front (p ∷ ps) ≡ with_prefix (front ++ n ∷ []) ps
 one_more front p ps n e =
     let long : length front + suc (length ps) ≡ length (front ++ n ∷ []) + length ps = omega (arith, length-append front (n ∷ [])) in
     rw e (rw long (rw (joined front n (all_inputs ps)) refl))
 
-pub too_many : (front : List ℤ) (p : List ℕ) (ps : List (List ℕ)) → 64 ≤ length front → with_front front (p ∷ ps) ≡ None
+pub too_many : (front : List ℤ) (p : List ℕ) (ps : List (List ℕ)) → 64 ≤ length front → with_prefix front (p ∷ ps) ≡ None
 too_many front p ps h = rw (lt-leb (length front + suc (length ps)) most_inputs (omega arith)) refl
 
-ended : (front : List ℤ) → length front ≤ 64 → with_front front [] ≡ Some front
+ended : (front : List ℤ) → length front ≤ 64 → with_prefix front [] ≡ Some front
 ended front h = rw (le-leb (length front + 0) most_inputs (omega arith)) (ap Some (append-nil front))
 
 pub last_one : (front : List ℤ) (p : List ℕ) (n : ℤ) → input_of p ≡ Some n → length front < 64
-    → with_front front (p ∷ []) ≡ Some (front ++ n ∷ [])
+    → with_prefix front (p ∷ []) ≡ Some (front ++ n ∷ [])
 last_one front p n e h = one_more front p [] n e ∙ ended (front ++ n ∷ []) (omega (arith, length-append front (n ∷ [])))

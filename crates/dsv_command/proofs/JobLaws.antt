@@ -4,7 +4,7 @@ use Rattle.std.specs.Prelude.{codes, if◌then◌else◌}
 use Rattle.dsv_names.specs.declared.realisation.Realisation.TheVariants.{Dfi}
 use Rattle.dsv_names.specs.declared.rounding.Rounding.TheVariants.{Floor}
 use Rattle.dsv_names.specs.declared.overflow_mode.OverflowMode.TheVariants.{Wrap}
-use Rattle.dsv_names.specs.Names.{named, AreNames}
+use Rattle.dsv_names.specs.Names.{value_named, AreNames}
 use Rattle.dsv_names.specs.OverflowModes.{overflow_mode_name, overflow_modes}
 use Rattle.dsv_names.specs.Properties.{property_name, properties}
 use Rattle.dsv_names.specs.Realisations.{realisation_name, realisations}
@@ -12,7 +12,7 @@ use Rattle.dsv_names.specs.Roundings.{rounding_name, roundings}
 use Rattle.dsv_names.proofs.NameLaws.{are_names-realisations, are_names-roundings, are_names-overflow_modes, are_names-properties}
 use Rattle.dsv_command.specs.declared.job.Design.{Design}
 use Rattle.dsv_command.specs.Inputs.{inputs_of}
-use Rattle.dsv_command.specs.Jobs.{Task, decides, simulates, Asked, ◌>>=◌, chosen, design_of, task_of, job_of_parts, job_of}
+use Rattle.dsv_command.specs.Jobs.{Task, decides, simulates, Asked, ◌>>=◌, choice_or, design_of, task_of, job_of_parts, job_of}
 use Rattle.dsv_command.specs.Options.{command_options}
 use Rattle.dsv_command.specs.Parts.{PartView, file_of, value_of, has_empty}
 use Rattle.dsv_command.specs.Reading.{parts_of}
@@ -31,9 +31,9 @@ unbind (Some x) f y e = record { value = x; first = refl; second = e }
 unbind None f y e = absurd (cc)
 
 -- ---- from the rules to the job
-chosen_read : {A : Type 0} (name : A → List ℕ) (values : List A) (default : A) (x : Option (List ℕ)) (v : A) → AreNames name values → IsChosen name default x v → chosen (named name values) default x ≡ Some v
+chosen_read : {A : Type 0} (name : A → List ℕ) (values : List A) (default : A) (x : Option (List ℕ)) (v : A) → AreNames name values → IsChosen name default x v → choice_or (value_named name values) default x ≡ Some v
 chosen_read name values default None v names h = ap Some (sym h)
-chosen_read name values default (Some text) v names h = ap (named name values) h ∙ names.found v
+chosen_read name values default (Some text) v names h = ap (value_named name values) h ∙ names.found v
 
 design_read : (parts : List PartView) (d : Design) → IsDesign parts d → design_of parts ≡ Some d
 design_read parts d h =
@@ -53,15 +53,15 @@ unfolding job_of
 rules_ask arguments asked h = rw (given_is_read command_options arguments h.parts h.give) (parts_ask h.parts asked h.job)
 
 -- ---- from the job to the rules
-chosen_found : {A : Type 0} (name : A → List ℕ) (values : List A) (default : A) (x : Option (List ℕ)) (v : A) → AreNames name values → chosen (named name values) default x ≡ Some v → IsChosen name default x v
+chosen_found : {A : Type 0} (name : A → List ℕ) (values : List A) (default : A) (x : Option (List ℕ)) (v : A) → AreNames name values → choice_or (value_named name values) default x ≡ Some v → IsChosen name default x v
 chosen_found name values default None v names e = cc
 chosen_found name values default (Some text) v names e = names.only text v e
 
 design_found : (parts : List PartView) (d : Design) → design_of parts ≡ Some d → IsDesign parts d
 design_found parts d e =
-    let a = unbind (chosen (named realisation_name realisations) Dfi (value_of (codes "realization") parts)) _ d e in
-    let b = unbind (chosen (named rounding_name roundings) Floor (value_of (codes "rounding") parts)) _ d a.second in
-    let c = unbind (chosen (named overflow_mode_name overflow_modes) Wrap (value_of (codes "overflow-mode") parts)) _ d b.second in
+    let a = unbind (choice_or (value_named realisation_name realisations) Dfi (value_of (codes "realization") parts)) _ d e in
+    let b = unbind (choice_or (value_named rounding_name roundings) Floor (value_of (codes "rounding") parts)) _ d a.second in
+    let c = unbind (choice_or (value_named overflow_mode_name overflow_modes) Wrap (value_of (codes "overflow-mode") parts)) _ d b.second in
     let same : record { realisation = a.value; rounding = b.value; overflow = c.value } ≡ d = let s = c.second in cc in
     subst (IsDesign parts) same (record {
       realisation = chosen_found realisation_name realisations Dfi (value_of (codes "realization") parts) a.value are_names-realisations a.first;
@@ -71,7 +71,7 @@ design_found parts d e =
 
 task_by : (parts : List PartView) (t : Task) (x y : Option (List ℕ)) → value_of (codes "property") parts ≡ x → value_of (codes "simulate") parts ≡ y → task_of x y ≡ Some t → IsTask parts t
 task_by parts t (Some name) None e f h =
-    let b = unbind (named property_name properties name) (λ property. Some (decides property)) t h in
+    let b = unbind (value_named property_name properties name) (λ property. Some (decides property)) t h in
     let same : decides b.value ≡ t = let s = b.second in cc in
     subst (IsTask parts) same (IsTask.property parts b.value (e ∙ ap Some (are_names-properties.only name b.value b.first)) f)
 task_by parts t None (Some text) e f h =

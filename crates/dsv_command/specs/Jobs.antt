@@ -5,7 +5,7 @@ use Rattle.dsv_names.specs.declared.rounding.Rounding.TheVariants.{Floor}
 use Rattle.dsv_names.specs.declared.overflow_mode.OverflowMode.TheVariants.{Wrap}
 use Rattle.dsv_names.specs.declared.property.Property.{Property}
 use Rattle.dsv_command.specs.declared.job.Design.{Design}
-use Rattle.dsv_names.specs.Names.{named}
+use Rattle.dsv_names.specs.Names.{value_named}
 use Rattle.dsv_names.specs.OverflowModes.{overflow_mode_name, overflow_modes}
 use Rattle.dsv_names.specs.Properties.{property_name, properties}
 use Rattle.dsv_names.specs.Realisations.{realisation_name, realisations}
@@ -34,21 +34,25 @@ abbrev pub ◌>>=◌ : {A B : Type 0} → Option A → (A → Option B) → Opti
 found >>= next = option_and_then next found
 
 -- what is chosen by its name, or the default where none is given
-abbrev pub chosen : {A : Type 0} → (List ℕ → Option A) → A → Option (List ℕ) → Option A
-chosen named default None = Some default
-chosen named default (Some name) = named name
+abbrev pub choice_or : {A : Type 0} → (List ℕ → Option A) → A → Option (List ℕ) → Option A
+choice_or value_named default None = Some default
+choice_or value_named default (Some name) = value_named name
 
 -- DFI, FLOOR and WRAPAROUND are the defaults
 abbrev pub design_of : List PartView → Option Design
 design_of parts =
-    chosen (named realisation_name realisations) Dfi (value_of (codes "realization") parts) >>= λ realisation.
-    chosen (named rounding_name roundings) Floor (value_of (codes "rounding") parts) >>= λ rounding.
-    chosen (named overflow_mode_name overflow_modes) Wrap (value_of (codes "overflow-mode") parts) >>= λ overflow.
+    choice_or (value_named realisation_name realisations) Dfi (value_of (codes "realization") parts)
+    >>= λ realisation.
+    choice_or (value_named rounding_name roundings) Floor (value_of (codes "rounding") parts)
+    >>= λ rounding.
+    choice_or (value_named overflow_mode_name overflow_modes) Wrap
+    (value_of (codes "overflow-mode") parts) >>= λ overflow.
     Some (record { realisation = realisation; rounding = rounding; overflow = overflow })
 
 -- exactly one of a property and inputs is given
 abbrev pub task_of : Option (List ℕ) → Option (List ℕ) → Option Task
-task_of (Some name) None = named property_name properties name >>= λ property. Some (decides property)
+task_of (Some name) None = value_named property_name properties name
+    >>= λ property. Some (decides property)
 task_of None (Some list) = inputs_of list >>= λ inputs. Some (simulates inputs)
 task_of _ _ = None
 

@@ -1,6 +1,7 @@
--- Scaffolding: reading arguments one by one, by a table of options. What arguments are allowed to be, and what they give, is
--- said apart from this in `Rules`.
-use Rattle.std.specs.Prelude.{ℕ, List, [], ◌∷◌, ◌++◌, Bool, true, false, Option, Some, None, if◌then◌else◌, option_and_then}
+-- Scaffolding: reading arguments one by one, by a table of options. What arguments are allowed to
+-- be, and what they give, is said apart from this in `Rules`.
+use Rattle.std.specs.Prelude.{ℕ, List, [], ◌∷◌, ◌++◌, Bool, true, false, Option}
+use Rattle.std.specs.Prelude.{Some, None, if◌then◌else◌, option_and_then}
 use Rattle.std.specs.Map.{lookup}
 use Rattle.std.specs.Str.{bytes_eq}
 use Rattle.dsv_command.specs.Parts.{PartView, file, flag, choice, Key, for_option, key_of, has_key}
@@ -40,11 +41,13 @@ meet_known (Some false) name None r = gives (flag name) r
 meet_known _ name value r = None
 
 -- an option that the table has
-abbrev pub meet_option : List (List ℕ × Bool) → List ℕ → Option (List ℕ) → Reading → Option Reading
+abbrev pub meet_option : List (List ℕ × Bool) → List ℕ → Option (List ℕ) → Reading
+    → Option Reading
 meet_option options name value r = meet_known (lookup (bytes_eq name) options) name value r
 
 -- an argument of this shape; only a plain one may be the value that is waited for
-abbrev pub meet_shape : List (List ℕ × Bool) → ShapeView → Option (List ℕ) → List ℕ → Reading → Option Reading
+abbrev pub meet_shape : List (List ℕ × Bool) → ShapeView → Option (List ℕ) → List ℕ → Reading
+    → Option Reading
 meet_shape options plain waits argument r = meet_plain waits argument r
 meet_shape options stop None argument r = Some (record r { ended = true })
 meet_shape options (long name value) None argument r = meet_option options name value r
@@ -52,7 +55,8 @@ meet_shape options _ _ argument r = None
 
 -- the next argument; after `--` it is FILE
 abbrev pub meet : List (List ℕ × Bool) → Reading → List ℕ → Option Reading
-meet options r argument = if r.ended then gives (file argument) r else meet_shape options (shape_of argument) r.waits argument r
+meet options r argument = if r.ended then gives (file argument) r
+    else meet_shape options (shape_of argument) r.waits argument r
 
 -- no option may wait at the end
 abbrev pub finish : Option (List ℕ) → Reading → Option (List PartView)
@@ -62,7 +66,8 @@ finish (Some name) r = None
 -- what was given once these arguments are met too
 abbrev pub read_from : List (List ℕ × Bool) → Reading → List (List ℕ) → Option (List PartView)
 read_from options r [] = finish r.waits r
-read_from options r (argument ∷ arguments) = option_and_then (λ next. read_from options next arguments) (meet options r argument)
+read_from options r (argument ∷ arguments) =
+    option_and_then (λ next. read_from options next arguments) (meet options r argument)
 
 -- before the first argument
 abbrev pub start : Reading

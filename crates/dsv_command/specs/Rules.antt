@@ -1,11 +1,12 @@
 -- The rules of the command, on whole lists of arguments, apart from how they are read.
-use Rattle.std.specs.Prelude.{◌≡◌, ◌⊎◌, ℕ, Bool, true, false, List, [], ◌∷◌, ◌++◌, length, Option, Some, None, map, codes, ◌≤◌, ℤ, pos}
+use Rattle.std.specs.Prelude.{◌≡◌, ◌⊎◌, ℕ, Bool, true, false, List, [], ◌∷◌, ◌++◌}
+use Rattle.std.specs.Prelude.{length, Option, Some, None, map, codes, ◌≤◌, ℤ, pos}
 use Rattle.std.specs.List.{list_any}
 use Rattle.std.specs.Map.{lookup}
 use Rattle.std.specs.Str.{bytes_eq}
 use Rattle.dsv_text.specs.Bytes.{has_byte}
 use Rattle.dsv_text.specs.Digits.{short_number}
-use Rattle.dsv_fraction.specs.Arithmetic.{signed}
+use Rattle.dsv_fraction.specs.Arithmetic.{with_sign}
 use Rattle.dsv_names.specs.declared.realisation.Realisation.TheVariants.{Dfi}
 use Rattle.dsv_names.specs.declared.rounding.Rounding.TheVariants.{Floor}
 use Rattle.dsv_names.specs.declared.overflow_mode.OverflowMode.TheVariants.{Wrap}
@@ -18,7 +19,8 @@ use Rattle.dsv_command.specs.declared.job.Design.{Design}
 use Rattle.dsv_command.specs.Inputs.{most_inputs, most_digits}
 use Rattle.dsv_command.specs.Jobs.{Task, decides, simulates, Asked}
 use Rattle.dsv_command.specs.Options.{command_options}
-use Rattle.dsv_command.specs.Parts.{PartView, file, flag, choice, key_of, has_key, file_of, value_of, has_empty}
+use Rattle.dsv_command.specs.Parts.{PartView, file, flag, choice, key_of}
+use Rattle.dsv_command.specs.Parts.{has_key, file_of, value_of, has_empty}
 use Rattle.dsv_command.specs.Shapes.{dash, is_equals}
 
 -- ---- arguments and the parts that they give
@@ -46,29 +48,42 @@ pub record IsOptionWithValue (argument name value : List ℕ) : Type 0 where
 abbrev pub HasOption : List (List ℕ × Bool) → List ℕ → Bool → Type 0
 HasOption options name takes_value = lookup (bytes_eq name) options ≡ Some takes_value
 
--- Arguments give these parts in their order: options of the table with a value after `=` or as the next argument, options
--- without a value, and other arguments as FILE; after `--` each argument is FILE.
+-- Arguments give these parts in their order: options of the table with a value after `=` or as the
+-- next argument, options without a value, and other arguments as FILE; after `--` each argument is
+-- FILE.
 pub data AreParts : List (List ℕ × Bool) → List (List ℕ) → List PartView → Type 0 where
   none : (options : List (List ℕ × Bool)) → AreParts options [] []
-  joined : (options : List (List ℕ × Bool)) (argument name value : List ℕ) (rest : List (List ℕ)) (parts : List PartView) →
-      IsOptionWithValue argument name value → HasOption options name true → AreParts options rest parts → AreParts options (argument ∷ rest) (choice name value ∷ parts)
-  apart : (options : List (List ℕ × Bool)) (argument name value : List ℕ) (rest : List (List ℕ)) (parts : List PartView) →
-      IsOption argument name → HasOption options name true → IsPlain value → AreParts options rest parts → AreParts options (argument ∷ value ∷ rest) (choice name value ∷ parts)
-  alone : (options : List (List ℕ × Bool)) (argument name : List ℕ) (rest : List (List ℕ)) (parts : List PartView) →
-      IsOption argument name → HasOption options name false → AreParts options rest parts → AreParts options (argument ∷ rest) (flag name ∷ parts)
-  plain : (options : List (List ℕ × Bool)) (argument : List ℕ) (rest : List (List ℕ)) (parts : List PartView) →
-      IsPlain argument → AreParts options rest parts → AreParts options (argument ∷ rest) (file argument ∷ parts)
-  stop : (options : List (List ℕ × Bool)) (argument : List ℕ) (rest : List (List ℕ)) → IsStop argument → AreParts options (argument ∷ rest) (map file rest)
+  joined : (options : List (List ℕ × Bool)) (argument name value : List ℕ) (rest : List (List ℕ))
+      (parts : List PartView) →
+      IsOptionWithValue argument name value → HasOption options name true
+      → AreParts options rest parts → AreParts options (argument ∷ rest) (choice name value ∷ parts)
+  apart : (options : List (List ℕ × Bool)) (argument name value : List ℕ) (rest : List (List ℕ))
+      (parts : List PartView) →
+      IsOption argument name → HasOption options name true → IsPlain value
+      → AreParts options rest parts
+      → AreParts options (argument ∷ value ∷ rest) (choice name value ∷ parts)
+  alone : (options : List (List ℕ × Bool)) (argument name : List ℕ) (rest : List (List ℕ))
+      (parts : List PartView) →
+      IsOption argument name → HasOption options name false → AreParts options rest parts
+      → AreParts options (argument ∷ rest) (flag name ∷ parts)
+  plain : (options : List (List ℕ × Bool)) (argument : List ℕ) (rest : List (List ℕ))
+      (parts : List PartView) →
+      IsPlain argument → AreParts options rest parts
+      → AreParts options (argument ∷ rest) (file argument ∷ parts)
+  stop : (options : List (List ℕ × Bool)) (argument : List ℕ) (rest : List (List ℕ))
+      → IsStop argument → AreParts options (argument ∷ rest) (map file rest)
 
 -- ---- what parts may stand together
 
--- each of the parts is new, after others and after those before it: FILE and each option are given at most once
+-- each of the parts is new, after others and after those before it: FILE and each option are given
+-- at most once
 abbrev pub AreNew : List PartView → List PartView → Type 0
 AreNew before [] = Unit {0}
 AreNew before (p ∷ ps) = (has_key (key_of p) before ≡ false) × AreNew (before ++ p ∷ []) ps
 
 -- the parts that arguments give, each at most once
-pub record Give (options : List (List ℕ × Bool)) (arguments : List (List ℕ)) (parts : List PartView) : Type 0 where
+pub record Give (options : List (List ℕ × Bool)) (arguments : List (List ℕ))
+    (parts : List PartView) : Type 0 where
   pub given : AreParts options arguments parts
   pub once : AreNew [] parts
 
@@ -77,12 +92,14 @@ pub record Give (options : List (List ℕ × Bool)) (arguments : List (List ℕ)
 -- a number of 1 to 12 digits, which may stand after `-`
 pub data IsInput : List ℕ → ℤ → Type 0 where
   positive : (text : List ℕ) (n : ℕ) → short_number most_digits text ≡ Some n → IsInput text (pos n)
-  negative : (text digits : List ℕ) (n : ℕ) → text ≡ codes "-" ++ digits → short_number most_digits digits ≡ Some n → IsInput text (signed true n)
+  negative : (text digits : List ℕ) (n : ℕ) → text ≡ codes "-" ++ digits
+      → short_number most_digits digits ≡ Some n → IsInput text (with_sign true n)
 
 -- numbers joined by commas
 pub data AreNumbers : List ℕ → List ℤ → Type 0 where
   last : (text : List ℕ) (n : ℤ) → IsInput text n → AreNumbers text (n ∷ [])
-  more : (text first rest : List ℕ) (n : ℤ) (ns : List ℤ) → text ≡ first ++ (codes "," ++ rest) → IsInput first n → AreNumbers rest ns → AreNumbers text (n ∷ ns)
+  more : (text first rest : List ℕ) (n : ℤ) (ns : List ℤ) → text ≡ first ++ (codes "," ++ rest)
+      → IsInput first n → AreNumbers rest ns → AreNumbers text (n ∷ ns)
 
 -- 1 to 64 numbers joined by commas
 pub record AreInputs (text : List ℕ) (inputs : List ℤ) : Type 0 where
@@ -91,9 +108,12 @@ pub record AreInputs (text : List ℕ) (inputs : List ℤ) : Type 0 where
 
 -- exactly one of a property and inputs is given
 pub data IsTask : List PartView → Task → Type 0 where
-  property : (parts : List PartView) (p : Property) → value_of (codes "property") parts ≡ Some (property_name p) → value_of (codes "simulate") parts ≡ None →
+  property : (parts : List PartView) (p : Property)
+      → value_of (codes "property") parts ≡ Some (property_name p)
+      → value_of (codes "simulate") parts ≡ None →
       IsTask parts (decides p)
-  simulation : (parts : List PartView) (text : List ℕ) (inputs : List ℤ) → value_of (codes "simulate") parts ≡ Some text → AreInputs text inputs →
+  simulation : (parts : List PartView) (text : List ℕ) (inputs : List ℤ)
+      → value_of (codes "simulate") parts ≡ Some text → AreInputs text inputs →
       value_of (codes "property") parts ≡ None → IsTask parts (simulates inputs)
 
 -- the value is the chosen one's name, or none is given and the default is chosen
@@ -103,9 +123,11 @@ IsChosen name default (Some value) chosen = value ≡ name chosen
 
 -- DFI, FLOOR and WRAPAROUND are the defaults
 pub record IsDesign (parts : List PartView) (design : Design) : Type 0 where
-  pub realisation : IsChosen realisation_name Dfi (value_of (codes "realization") parts) design.realisation
+  pub realisation : IsChosen realisation_name Dfi (value_of (codes "realization") parts)
+      design.realisation
   pub rounding : IsChosen rounding_name Floor (value_of (codes "rounding") parts) design.rounding
-  pub overflow : IsChosen overflow_mode_name Wrap (value_of (codes "overflow-mode") parts) design.overflow
+  pub overflow : IsChosen overflow_mode_name Wrap (value_of (codes "overflow-mode") parts)
+      design.overflow
 
 -- the job of these parts: FILE is one of them, and no text is empty
 pub record IsJobOf (parts : List PartView) (asked : Asked) : Type 0 where

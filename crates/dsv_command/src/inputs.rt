@@ -1,6 +1,6 @@
 // The inputs of a simulation.
 ghost use Rattle.std.specs.Prelude.{◌≡◌, ◌<◌, ◌^◌, option_map};
-ghost use Rattle.dsv_fraction.specs.Arithmetic.{signed};
+ghost use Rattle.dsv_fraction.specs.Arithmetic.{with_sign};
 ghost use Rattle.dsv_command.specs.Inputs.{input_of, inputs_of};
 
 use arrayvec::ArrayVec;
@@ -12,20 +12,21 @@ pub const MOST_INPUTS: usize = 64;
 /// The most digits of an input.
 const MOST_DIGITS: usize = 12;
 
-/// The inputs of a simulation, from the first sample on: words of the controller's format, or numbers that are none.
+/// The inputs of a simulation, from the first sample on: words of the controller's format, or
+/// numbers that are none.
 pub type Inputs = ArrayVec<i64, MOST_INPUTS>;
 
 /// The number of this size, negative or not.
 fn with_sign(negative: bool, size: u64) -> i64
     requires { size < 2 ^ 62 }
-    ensures { result ≡ signed negative size }
+    ensures { result ≡ with_sign negative size }
 {
     let value = size as i64;
     if negative { -value } else { value }
 }
 
 /// The number of an optional `-` before 1 to 12 digits; `None` for any other text.
-#[tactic(auto, using(crate::proofs::InputLemmas::short_below_power))]
+#[tactic(auto, using(dsv_text::proofs::DigitLemmas::short_below_power))]
 fn find_input(text: &str) -> Option<i64>
     ensures { result ≡ input_of text.now }
 {

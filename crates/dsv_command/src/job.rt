@@ -65,7 +65,8 @@ fn find_design(parts: &[Part]) -> Option<Design>
 /// What is to be done.
 fn find_task(parts: &[Part]) -> Option<Task>
     ensures { option_map asked_task result
-        ≡ task_of (value_of (codes "property") (parts_view parts.now)) (value_of (codes "simulate") (parts_view parts.now)) }
+        ≡ task_of (value_of (codes "property") (parts_view parts.now))
+        (value_of (codes "simulate") (parts_view parts.now)) }
 {
     match (find_value(parts, "property"), find_value(parts, "simulate")) {
         (Some(name), None) => Some(Task::Decide(find_named(name.as_bytes())?)),
@@ -90,7 +91,8 @@ fn find_job<'a>(parts: &[Part<'a>]) -> Option<Job<'a>>
 /// The job that the arguments after the program's name ask for; `None` where they are no job.
 #[tactic(auto, unfolding(crate::specs::Jobs::job_of))]
 pub fn read_job<'a>(alloc: Global, arguments: &'a [String]) -> Result<Option<Job<'a>>, NoMemory>
-    ensures { IfOk result (λ job. option_map asked_of job ≡ job_of (map string_bytes arguments.entry.now)) }
+    ensures { IfOk result (λ job. option_map asked_of job
+        ≡ job_of (map string_bytes arguments.entry.now)) }
 {
     let Some(parts) = read_parts(alloc, command_options(), arguments)? else {
         return Ok(None);

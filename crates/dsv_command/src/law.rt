@@ -5,17 +5,21 @@ ghost use Rattle.dsv_command.specs.Parts.{PartView};
 ghost use Rattle.dsv_command.specs.Reading.{parts_of};
 ghost use Rattle.dsv_command.specs.Rules.{Give, IsJobLine};
 
-/// The rules of arguments on whole lists, and their reading one by one, allow the same arguments and find the same parts
-/// in them, whatever the options.
+/// The rules of arguments on whole lists, and their reading one by one, allow the same arguments
+/// and find the same parts in them, whatever the options.
 pub fn parts_are_read()
-    ensures read { (options : List (List ℕ × Bool)) (arguments : List (List ℕ)) (parts : List PartView) →
+    ensures read { (options : List (List ℕ × Bool)) (arguments : List (List ℕ))
+        (parts : List PartView) →
         Give options arguments parts → parts_of options arguments ≡ Some parts }
-    ensures given { (options : List (List ℕ × Bool)) (arguments : List (List ℕ)) (parts : List PartView) →
+    ensures given { (options : List (List ℕ × Bool)) (arguments : List (List ℕ))
+        (parts : List PartView) →
         parts_of options arguments ≡ Some parts → Give options arguments parts }
 {}
 
 /// A list of arguments asks for a job exactly where the rules of the command say so.
 pub fn jobs_are_read()
-    ensures read { (arguments : List (List ℕ)) (asked : Asked) → IsJobLine arguments asked → job_of arguments ≡ Some asked }
-    ensures ruled { (arguments : List (List ℕ)) (asked : Asked) → job_of arguments ≡ Some asked → IsJobLine arguments asked }
+    ensures read { (arguments : List (List ℕ)) (asked : Asked) → IsJobLine arguments asked
+        → job_of arguments ≡ Some asked }
+    ensures ruled { (arguments : List (List ℕ)) (asked : Asked) → job_of arguments ≡ Some asked
+        → IsJobLine arguments asked }
 {}

@@ -12,7 +12,8 @@ pub struct CommandOption {
     pub takes_value: bool,
 }
 
-/// The options that the command has. One more stands here and in `specs/Options.antt`; what it asks for, in the job.
+/// The options that the command has. One more stands here and in `specs/Options.antt`; what it asks
+/// for, in the job.
 const OPTIONS: [CommandOption; 5] = [
     CommandOption {
         name: "property",

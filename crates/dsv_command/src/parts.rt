@@ -1,6 +1,7 @@
 // The parts of a command.
 ghost use Rattle.std.specs.Prelude.{◌≡◌, option_map};
-ghost use Rattle.dsv_command.specs.Parts.{key_of, is_same_key, has_key, file_of, value_of, is_empty_part, has_empty};
+ghost use Rattle.dsv_command.specs.Parts.{key_of, is_same_key, has_key, file_of};
+ghost use Rattle.dsv_command.specs.Parts.{value_of, is_empty_part, has_empty};
 ghost use Rattle.dsv_command.specs.Views.{part_view, parts_view, key_view};
 
 /// What an argument gives, or an option with the argument after it.

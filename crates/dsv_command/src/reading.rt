@@ -50,7 +50,8 @@ impl<'a> Reader<'a> {
 
     /// Keeps a part; false where one is given for the same.
     fn give(&mut self, part: Part<'a>) -> Result<bool, NoMemory>
-        ensures { IfOk result (λ taken. IsTaken (gives (part_view part.entry) self.old) taken self.new) }
+        ensures { IfOk result (λ taken. IsTaken (gives (part_view part.entry) self.old) taken
+            self.new) }
     {
         if has_key(self.parts.as_slice(), part.key()) {
             return Ok(false);
@@ -68,7 +69,8 @@ impl<'a> Reader<'a> {
         value: Option<&'a str>,
     ) -> Result<bool, NoMemory>
         ensures { IfOk result (λ taken.
-            IsTaken (meet_option (options_view options.now) name.now (option_text value.entry) self.old) taken self.new) }
+            IsTaken (meet_option (options_view options.now) name.now (option_text value.entry)
+            self.old) taken self.new) }
     {
         match (takes_value(options, name), value) {
             (None, _) => Ok(false),
@@ -87,7 +89,8 @@ impl<'a> Reader<'a> {
 
     /// Takes the next argument; false where it isn't allowed.
     fn meet(&mut self, options: &[CommandOption], argument: &'a str) -> Result<bool, NoMemory>
-        ensures { IfOk result (λ taken. IsTaken (meet (options_view options.now) self.old argument.now) taken self.new) }
+        ensures { IfOk result (λ taken. IsTaken
+            (meet (options_view options.now) self.old argument.now) taken self.new) }
     {
         if self.ended {
             return self.give(Part::File(argument));
@@ -105,7 +108,8 @@ impl<'a> Reader<'a> {
     }
 }
 
-/// The parts that arguments give, in their order, by a table of options; `None` where they aren't allowed.
+/// The parts that arguments give, in their order, by a table of options; `None` where they aren't
+/// allowed.
 #[tactic(auto, unfolding(crate::specs::Reading::parts_of))]
 pub fn read_parts<'a>(
     alloc: Global,

@@ -10,7 +10,7 @@ use Rattle.std.proofs.Math.ListN.{get_or-append}
 use Rattle.std.proofs.Math.Seq.{take-length}
 use Rattle.std.proofs.lemmas.List.{length-take-le, length-append, length-drop, take-append-le, get_or-take, get_or-drop, get_or-append_right}
 use Rattle.dsv_delta.specs.Binomials.{choose, binomial_sum, weight}
-use Rattle.dsv_delta.specs.Running.{running}
+use Rattle.dsv_delta.specs.Running.{running_sums}
 use Rattle.dsv_delta.proofs.Weights.{length-running, lighter}
 
 -- the numbers after so many divisions
@@ -60,11 +60,11 @@ pascal n k j =
     let f : Vector = λ i. n i *ℤ pos (choose (suc j - i + suc k) (suc k)) in
     let g : Vector = λ i. n i *ℤ pos (choose (j - i + suc k) (suc k)) in
     let h : Vector = λ i. n i *ℤ pos (choose (suc j - i + k) k) in
-    let fronts : sum_to (suc j) f ≡ sum_to (suc j) g +ℤ sum_to (suc j) h =
+    let prefixes : sum_to (suc j) f ≡ sum_to (suc j) g +ℤ sum_to (suc j) h =
     sum_same (suc j) f (λ i. g i +ℤ h i) (λ i less. spread (n i) _ _ _ (rule i j k (omega arith))) ∙ sum_add (suc j) g h in
     let a = last_one (n (suc j)) (suc j) (suc k) in
     let b = last_one (n (suc j)) (suc j) k in
-    omega (arith, ints, fronts, a, b)
+    omega (arith, ints, prefixes, a, b)
 
 next_column : (n : Vector) (k j : ℕ) → sum_to (suc j) (column n k) ≡ column n (suc k) j
 next_column n k zero = let a = last_one (n 0) 0 k in let b = last_one (n 0) 0 (suc k) in omega (arith, ints, a, b)
@@ -82,7 +82,7 @@ sums_are n total j h =
     (λ i less. let same : j - i + (total - 1 - j) ≡ total - 1 - i = omega arith in ap (λ m. n i *ℤ pos (choose m (total - 1 - j))) same)
 
 -- ---- one division
-pub running_at : (carry : ℤ) (ns : List ℤ) (j : ℕ) → j < length ns → get_or (running carry ns) j (pos 0) ≡ carry +ℤ sum_to (suc j) (vector_of ns)
+pub running_at : (carry : ℤ) (ns : List ℤ) (j : ℕ) → j < length ns → get_or (running_sums carry ns) j (pos 0) ≡ carry +ℤ sum_to (suc j) (vector_of ns)
 running_at carry [] j h = absurd (omega arith)
 running_at carry (n ∷ ns) zero h = omega (arith, ints)
 running_at carry (n ∷ ns) (suc j) h =
@@ -90,7 +90,7 @@ running_at carry (n ∷ ns) (suc j) h =
     let parted = sum_first (suc j) (vector_of (n ∷ ns)) in
     omega (arith, ints, rest, parted)
 
--- so many numbers in front are left to divide, and those behind them are done
+-- so many numbers in front are left to divide, and those after them are done
 pub record AreDivided (ns : List ℤ) (len : ℕ) (now : List ℤ) : Type 0 where
   pub places : length now ≡ length ns
   pub left : len ≤ length ns
@@ -108,43 +108,43 @@ not_yet ns len e small = record {
 }
 
 -- a number in front after one division more
-divided_front : (ns now : List ℤ) (len j : ℕ) → AreDivided ns len now → j < len
-    → get_or (running (pos 0) (take len now) ++ drop len now) j (pos 0) ≡ table (vector_of ns) (suc (length ns - len)) j
-divided_front ns now len j is h =
+divided_prefix : (ns now : List ℤ) (len j : ℕ) → AreDivided ns len now → j < len
+    → get_or (running_sums (pos 0) (take len now) ++ drop len now) j (pos 0) ≡ table (vector_of ns) (suc (length ns - len)) j
+divided_prefix ns now len j is h =
     let long : length (take len now) ≡ len = length-take-le len now (omega (arith, is.places, is.left)) in
-    let less : j < length (running (pos 0) (take len now)) = omega (arith, length-running (pos 0) (take len now)) in
-    get_or-append (running (pos 0) (take len now)) (drop len now) (pos 0) j less
+    let less : j < length (running_sums (pos 0) (take len now)) = omega (arith, length-running (pos 0) (take len now)) in
+    get_or-append (running_sums (pos 0) (take len now)) (drop len now) (pos 0) j less
     ∙ running_at (pos 0) (take len now) j (omega arith)
     ∙ +ℤ_idl (sum_to (suc j) (vector_of (take len now)))
     ∙ sum_same (suc j) (vector_of (take len now)) (table (vector_of ns) (length ns - len)) (λ i k. get_or-take len now i (pos 0) (omega arith) ∙ is.front i (omega arith))
 
-last_or_behind : (j len : ℕ) → len - 1 ≤ j → (j < len) ⊎ (len ≤ j)
-last_or_behind j len h = grind arith
+last_or_after : (j len : ℕ) → len - 1 ≤ j → (j < len) ⊎ (len ≤ j)
+last_or_after j len h = grind arith
 
-pub one_more : (ns now : List ℤ) (len : ℕ) → AreDivided ns len now → 0 < len → AreDivided ns (len - 1) (running (pos 0) (take len now) ++ drop len now)
+pub one_more : (ns now : List ℤ) (len : ℕ) → AreDivided ns len now → 0 < len → AreDivided ns (len - 1) (running_sums (pos 0) (take len now) ++ drop len now)
 one_more ns now len is some =
     let long : length (take len now) ≡ len = length-take-le len now (omega (arith, is.places, is.left)) in
-    let made : length (running (pos 0) (take len now)) ≡ len = length-running (pos 0) (take len now) ∙ long in
+    let made : length (running_sums (pos 0) (take len now)) ≡ len = length-running (pos 0) (take len now) ∙ long in
     record {
-      places = omega (arith, length-append (running (pos 0) (take len now)) (drop len now), length-drop len now, is.places, is.left);
+      places = omega (arith, length-append (running_sums (pos 0) (take len now)) (drop len now), length-drop len now, is.places, is.left);
       left = omega (arith, is.left);
       small =
-          let less : len - 1 ≤ length (running (pos 0) (take len now)) = omega arith in
-          let e = take-append-le (len - 1) (running (pos 0) (take len now)) (drop len now) less in
-          let f = ap (λ k. weight (take (k - 1) (running (pos 0) (take len now)))) long in
+          let less : len - 1 ≤ length (running_sums (pos 0) (take len now)) = omega arith in
+          let e = take-append-le (len - 1) (running_sums (pos 0) (take len now)) (drop len now) less in
+          let f = ap (λ k. weight (take (k - 1) (running_sums (pos 0) (take len now)))) long in
           omega (arith, is.small, lighter (take len now), ap weight e, f);
       front = λ j h.
           let one : length ns - (len - 1) ≡ suc (length ns - len) = omega (arith, is.left) in
-          divided_front ns now len j is (omega arith) ∙ ap (λ k. table (vector_of ns) k j) (sym one);
+          divided_prefix ns now len j is (omega arith) ∙ ap (λ k. table (vector_of ns) k j) (sym one);
       back = λ j h k.
-          elim (last_or_behind j len h) [
+          elim (last_or_after j len h) [
             | inl last ↦
                 let one : suc (length ns - len) ≡ length ns - j = omega arith in
-                divided_front ns now len j is last ∙ ap (λ k. table (vector_of ns) k j) one
-            | inr behind ↦
+                divided_prefix ns now len j is last ∙ ap (λ k. table (vector_of ns) k j) one
+            | inr after ↦
                 let at : len + (j - len) ≡ j = omega arith in
-                get_or-append_right (running (pos 0) (take len now)) (drop len now) len j (pos 0) made behind
-                ∙ get_or-drop len now (j - len) (pos 0) ∙ ap (λ m. get_or now m (pos 0)) at ∙ is.back j behind k
+                get_or-append_right (running_sums (pos 0) (take len now)) (drop len now) len j (pos 0) made after
+                ∙ get_or-drop len now (j - len) (pos 0) ∙ ap (λ m. get_or now m (pos 0)) at ∙ is.back j after k
           ];
     }
 

@@ -5,7 +5,7 @@ use Rattle.std.proofs.Math.Seq.{take-length}
 use Rattle.std.proofs.lemmas.List.{take-append-le}
 use Rattle.std.specs.List.{refill}
 use Rattle.std.specs.Int.RustNames.{unsigned_abs}
-use Rattle.dsv_algebra.specs.Narrow.{narrowed}
+use Rattle.dsv_algebra.specs.Narrow.{narrow_of}
 use Rattle.dsv_algebra.specs.Vectors.{vector_of}
 use Rattle.dsv_fraction.specs.Ratio.{Ratio}
 use Rattle.dsv_names.specs.declared.list_name.ListName.{ListName}
@@ -18,7 +18,7 @@ use Rattle.dsv_delta.proofs.Overs.{same_coefficients}
 both_below : (m n k : ℕ) → m < k → n < k → (nat_lt m k && nat_lt n k) ≡ true
 both_below m n k p q = grind arith
 
-pub list_given : (name : ListName) (delta : Ratio) (qs : List Ratio) (l : ℤ) (ns sums : List ℤ) → Some l ≡ narrowed (pos (common qs))
+pub list_given : (name : ListName) (delta : Ratio) (qs : List Ratio) (l : ℤ) (ns sums : List ℤ) → Some l ≡ narrow_of (pos (common qs))
     → ns ≡ numerators (unsigned_abs l) qs → weight ns < 2 ^ 126 → length sums ≡ length ns
     → ((j : ℕ) → j < length ns → get_or sums j (pos 0) ≡ binomial_sum (length ns - 1) (vector_of ns) j)
     → coefficients_from name delta (unsigned_abs l) (vector_of sums) (length sums) [] ≡ delta_list name delta qs

@@ -1,7 +1,7 @@
--- Sums of the fronts of a list.
+-- Sums of the prefixes of a list.
 use Rattle.std.specs.Prelude.{List, [], ◌∷◌, ℤ, ◌+ℤ◌}
 
 -- what a carry and the numbers up to each place add up to
-abbrev pub running : ℤ → List ℤ → List ℤ
-running carry [] = []
-running carry (n ∷ ns) = (carry +ℤ n) ∷ running (carry +ℤ n) ns
+abbrev pub running_sums : ℤ → List ℤ → List ℤ
+running_sums carry [] = []
+running_sums carry (n ∷ ns) = (carry +ℤ n) ∷ running_sums (carry +ℤ n) ns

@@ -1,5 +1,6 @@
 // Transfer functions in the delta operator.
-ghost use Rattle.std.specs.Prelude.{◌≡◌, ◌≤◌, length, pos, ◌<ℤ◌, slice_index_or, MatchResult, Ok, Err, IfOk};
+ghost use Rattle.std.specs.Prelude.{◌≡◌, ◌≤◌, length, pos, ◌<ℤ◌};
+ghost use Rattle.std.specs.Prelude.{slice_index_or, MatchResult, Ok, Err, IfOk};
 ghost use Rattle.dsv_fraction.specs.Ratio.{zero, one, most_coefficients};
 ghost use Rattle.dsv_delta.specs.Deltas.{delta_list, delta_lists};
 
@@ -35,18 +36,21 @@ fn delta_list(list: ListName, fractions: &[Frac], delta: &Frac) -> Result<FracLi
     coefficients(list, sums.as_slice(), common, delta)
 }
 
-/// The coefficients of the transfer function (b_0 + b_1 z^-1 + ..) / (a_0 + a_1 z^-1 + ..) of order N in the operator
-/// (z - 1) / delta: number j is the sum of a_i C(N - i, N - j) over i up to j, divided by delta^j; or the first list
-/// and the least index at which one is too wide. Takes no memory.
+/// The coefficients of the transfer function (b_0 + b_1 z^-1 + ..) / (a_0 + a_1 z^-1 + ..) of order
+/// N in the operator (z - 1) / delta: number j is the sum of a_i C(N - i, N - j) over i up to j,
+/// divided by delta^j; or the first list and the least index at which one is too wide. Takes no
+/// memory.
 pub fn to_delta(b: &[Frac], a: &[Frac], delta: &Frac) -> Result<DeltaPair, DeltaWide>
     requires one_length { length b.now ≡ length a.now }
     requires some { 1 ≤ length a.now }
     requires few { length a.now ≤ most_coefficients }
     requires leading { slice_index_or a.now 0 zero ≡ one }
     requires delta { pos 0 <ℤ delta.now.num }
-    ensures places { IfOk result (λ pair. (length pair.b.items ≡ length b.now) × (length pair.a.items ≡ length a.now)) }
+    ensures places { IfOk result (λ pair. (length pair.b.items ≡ length b.now)
+        × (length pair.a.items ≡ length a.now)) }
     ensures exact { let meant = delta_lists b.now a.now delta.now in
-        MatchResult result (λ pair. meant ≡ Ok (record { b = pair.b.items; a = pair.a.items })) (λ refusal. meant ≡ Err refusal) }
+        MatchResult result (λ pair. meant ≡ Ok (record { b = pair.b.items; a = pair.a.items }))
+        (λ refusal. meant ≡ Err refusal) }
 {
     let b = delta_list(ListName::B, b, delta)?;
     let a = delta_list(ListName::A, a, delta)?;

@@ -1,9 +1,10 @@
 // Fractions over one denominator.
 #![tactic(auto, using(dsv_algebra::proofs::Casts::casts))]
 
-ghost use Rattle.std.specs.Prelude.{◌≡◌, ℕ, ◌<◌, ◌≤◌, ◌*ℤ◌, ◌/◌, length, pos, ◌≤ℤ◌, MatchOption};
+ghost use Rattle.std.specs.Prelude.{◌≡◌, ℕ, ◌<◌, ◌≤◌, ◌*ℤ◌, ◌/◌};
+ghost use Rattle.std.specs.Prelude.{length, pos, ◌≤ℤ◌, MatchOption};
 ghost use Rattle.std.specs.Int.RustNames.{unsigned_abs};
-ghost use Rattle.dsv_algebra.specs.Narrow.{narrow_limit, narrowed};
+ghost use Rattle.dsv_algebra.specs.Narrow.{narrow_limit, narrow_of};
 ghost use Rattle.dsv_fraction.specs.Ratio.{most_coefficients};
 ghost use Rattle.dsv_delta.specs.Binomials.{weight};
 ghost use Rattle.dsv_delta.specs.Deltas.{lcm, common, numerators};
@@ -18,10 +19,12 @@ pub(crate) type Numerators = ArrayVec<i128, MOST_COEFFICIENTS>;
 /// The least weight that is too great.
 const WEIGHT_LIMIT: u128 = 1 << 126;
 
-/// The least common multiple of the number and the fraction's denominator, where neither passes 2^126.
+/// The least common multiple of the number and the fraction's denominator, where neither passes
+/// 2^126.
 fn multiple(common: Option<NarrowInteger>, fraction: &Frac) -> Option<NarrowInteger>
     ensures positive { 0 < fraction.now.den }
-    ensures value { (n : ℕ) → 0 < n → common ≡ narrowed (pos n) → result ≡ narrowed (pos (lcm n fraction.now.den)) }
+    ensures value { (n : ℕ) → 0 < n → common ≡ narrow_of (pos n)
+        → result ≡ narrow_of (pos (lcm n fraction.now.den)) }
 {
     let (_, den) = fraction.to_parts();
     let common = common?;
@@ -33,7 +36,7 @@ fn multiple(common: Option<NarrowInteger>, fraction: &Frac) -> Option<NarrowInte
 
 /// The least common multiple of the denominators, where it doesn't pass 2^126.
 pub(crate) fn common_denominator(fractions: &[Frac]) -> Option<NarrowInteger>
-    ensures value { result ≡ narrowed (pos (common fractions.now)) }
+    ensures value { result ≡ narrow_of (pos (common fractions.now)) }
     ensures positive { 0 < common fractions.now }
 {
     let mut common = Some(NarrowInteger::from(1i64));
@@ -46,7 +49,8 @@ pub(crate) fn common_denominator(fractions: &[Frac]) -> Option<NarrowInteger>
 /// The fraction's numerator over a multiple of its denominator, where it doesn't pass 2^126.
 fn numerator(common: NarrowInteger, fraction: &Frac) -> Option<NarrowInteger>
     requires { pos 0 ≤ℤ common }
-    ensures { result ≡ narrowed (fraction.now.num *ℤ pos (unsigned_abs common / fraction.now.den)) }
+    ensures { result ≡ narrow_of
+        (fraction.now.num *ℤ pos (unsigned_abs common / fraction.now.den)) }
 {
     let (num, den) = fraction.to_parts();
     let factor = common.get().div_euclid(den);
@@ -58,7 +62,8 @@ pub(crate) fn numerators(common: NarrowInteger, fractions: &[Frac]) -> Option<Nu
     requires positive { pos 0 ≤ℤ common }
     requires few { length fractions.now ≤ most_coefficients }
     ensures { let meant = numerators (unsigned_abs common) fractions.now in
-        MatchOption result (narrow_limit ≤ weight meant) (λ found. (found.items ≡ meant) × (weight meant < narrow_limit)) }
+        MatchOption result (narrow_limit ≤ weight meant) (λ found. (found.items ≡ meant)
+        × (weight meant < narrow_limit)) }
 {
     let mut out = Numerators::new();
     let mut weight: u128 = 0;

@@ -2,8 +2,8 @@
 use dsv_names::ListName;
 use thiserror::Error;
 
-/// A coefficient of the converted list is too wide, or, at the index 0, the list has no common denominator that is
-/// narrow enough.
+/// A coefficient of the converted list is too wide, or, at the index 0, the list has no common
+/// denominator that is narrow enough.
 #[derive(Clone, Copy, Debug, PartialEq, Eq, Error)]
 #[error("the coefficient {index} of {list:?} in the delta operator is too wide")]
 pub struct DeltaWide {

@@ -1,17 +1,18 @@
 // Synthetic division by z - 1.
 #![tactic(auto, using(dsv_algebra::proofs::Casts::casts))]
 
-ghost use Rattle.std.specs.Prelude.{◌≡◌, ℕ, ◌-◌, ◌<◌, ◌≤◌, length, take, pos, slice_index_or};
+ghost use Rattle.std.specs.Prelude.{◌≡◌, ℕ, ◌-◌, ◌<◌, ◌≤◌, length};
+ghost use Rattle.std.specs.Prelude.{take, pos, slice_index_or};
 ghost use Rattle.dsv_algebra.specs.Narrow.{narrow_limit};
 ghost use Rattle.dsv_algebra.specs.Vectors.{vector_of};
 ghost use Rattle.dsv_delta.specs.Binomials.{binomial_sum, weight};
-ghost use Rattle.dsv_delta.specs.Running.{running};
+ghost use Rattle.dsv_delta.specs.Running.{running_sums};
 
-/// Divides the polynomial of these coefficients by z - 1: the coefficients of the quotient stand in front, and the
-/// rest is last.
+/// Divides the polynomial of these coefficients by z - 1: the coefficients of the quotient stand in
+/// front, and the rest is last.
 fn divide(coefficients: &mut [i128])
     requires { weight coefficients.old < narrow_limit }
-    ensures { coefficients.new ≡ running (pos 0) coefficients.old }
+    ensures { coefficients.new ≡ running_sums (pos 0) coefficients.old }
 {
     let mut carry = 0;
     for coefficient in coefficients.iter_mut() {
@@ -20,13 +21,14 @@ fn divide(coefficients: &mut [i128])
     }
 }
 
-/// Makes the coefficients of powers of z those of powers of z - 1, the highest first: what is left of a division by
-/// z - 1, and then what is left of a division of each quotient.
+/// Makes the coefficients of powers of z those of powers of z - 1, the highest first: what is left
+/// of a division by z - 1, and then what is left of a division of each quotient.
 pub(crate) fn expand(coefficients: &mut [i128])
     requires { weight coefficients.old < narrow_limit }
     ensures places { length coefficients.new ≡ length coefficients.old }
     ensures sums { (j : ℕ) → j < length coefficients.old →
-        slice_index_or coefficients.new j (pos 0) ≡ binomial_sum (length coefficients.old - 1) (vector_of coefficients.old) j }
+        slice_index_or coefficients.new j (pos 0)
+        ≡ binomial_sum (length coefficients.old - 1) (vector_of coefficients.old) j }
 {
     let mut len = coefficients.len();
     while len > 0 {

@@ -1,5 +1,5 @@
-//! Runs the command on the cases of a list, and writes before each case its arguments and after it its status. So the
-//! stored output is what the examples answer.
+//! Runs the command on the cases of a list, and writes before each case its arguments and after it
+//! its status. So the stored output is what the examples answer.
 #![tactic(auto)]
 
 use anyhow::Result;
@@ -8,8 +8,8 @@ use dsv_cli::{OsFiles, OsOut, run};
 use std::alloc::Global;
 use std::fs;
 
-/// The list of the cases: the arguments of each in a line of their own, with spaces between them. A line that is empty or
-/// begins with `#` is none.
+/// The list of the cases: the arguments of each in a line of their own, with spaces between them. A
+/// line that is empty or begins with `#` is none.
 const CASES: &str = "cases.txt";
 
 /// The arguments of a case.

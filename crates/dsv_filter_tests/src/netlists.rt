@@ -1,5 +1,5 @@
 // Netlists of nodes: which nodes make one, and what its readers and its step give.
-use crate::stepping::stepped;
+use crate::stepping::step_outcome;
 use dsv_names::{OverflowMode, Rounding};
 use dsv_netlist::{Netlist, Node, OpCounts};
 use dsv_word::Format;
@@ -53,7 +53,8 @@ const OFFERS: [Offer; 13] = [
         feed_forward: 2,
         is_netlist: true,
     },
-    // A register that isn't there, a node that refers to itself, and one that refers to a later one.
+    // A register that isn't there, a node that refers to itself, and one that refers to a later
+    // one.
     Offer {
         nodes: &[Node::Reg(0)],
         next: &[],
@@ -302,7 +303,7 @@ fn is_sample(alloc: Global, sample: &Sample) -> bool {
         return false;
     };
     let mut registers = [sample.start];
-    match stepped(&net, &mut registers, sample.x) {
+    match step_outcome(&net, &mut registers, sample.x) {
         Some(given) => {
             given.y == sample.y
                 && given.exact.as_slice() == [sample.exact].as_slice()
@@ -323,8 +324,8 @@ fn samples_by_hand(rt: HostRuntime) -> Result<(), Fail> {
     Ok(())
 }
 
-/// Whether the readers tell what the netlist was made of: a product, a sum, a difference, and registers that are loaded
-/// from nodes 0, 5 and 5.
+/// Whether the readers tell what the netlist was made of: a product, a sum, a difference, and
+/// registers that are loaded from nodes 0, 5 and 5.
 fn is_told(net: &Netlist) -> bool {
     let counts = OpCounts {
         products: 1,

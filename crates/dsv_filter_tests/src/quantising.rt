@@ -1,6 +1,6 @@
-// Files made words: the coefficients of both lists, delta's word and the inputs, or the first refusal. A coefficient q has the
-// word q 2^f made whole by the rounding, and the inputs go from the ceiling of min 2^f to the floor of max 2^f, where those
-// are words.
+// Files made words: the coefficients of both lists, delta's word and the inputs, or the first
+// refusal. A coefficient q has the word q 2^f made whole by the rounding, and the inputs go from
+// the ceiling of min 2^f to the floor of max 2^f, where those are words.
 use crate::stepping::words_of;
 use dsv_names::{ListName, OverflowMode, Realisation, Rounding};
 use dsv_quantiser::{QuantRefusal, quantise};

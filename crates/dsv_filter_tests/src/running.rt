@@ -5,7 +5,7 @@ ghost use Rattle.dsv_word.specs.Words.{IsWord};
 ghost use Rattle.std.specs.Prelude.{IsTrue};
 ghost use Rattle.std.specs.List.{All};
 
-use crate::stepping::{StepOutcome, stepped, words_of};
+use crate::stepping::{StepOutcome, step_outcome, words_of};
 use dsv_meaning::{registers, simulate};
 use dsv_names::{OverflowMode, Realisation, Rounding};
 use dsv_netlist::Netlist;
@@ -29,7 +29,8 @@ const SECOND: &str =
     "digital_system d = { .b = {1.0, 0.5, -1.0}, .b_size = 3, .a = {1.0, 0.5, -0.5}, .a_size = 3 };
 implementation r = { .int_bits = 4, .frac_bits = 1, .max = 1.0, .min = -1.0 };";
 
-/// (1 + 0.5 z^-1 + 0.25 z^-2) / (1 - 0.5 z^-1 + 0.25 z^-2), whose words in 3.4 are 16, 8, 4 and 16, -8, 4.
+/// (1 + 0.5 z^-1 + 0.25 z^-2) / (1 - 0.5 z^-1 + 0.25 z^-2), whose words in 3.4 are 16, 8, 4 and 16,
+/// -8, 4.
 const RESONANT: &str =
     "digital_system d = { .b = {1.0, 0.5, 0.25}, .b_size = 3, .a = {1.0, -0.5, 0.25}, .a_size = 3, .sample_time = 0.001 };
 implementation r = { .int_bits = 3, .frac_bits = 4, .max = 1.0, .min = -1.0 };";
@@ -356,7 +357,8 @@ fn words_of_run(alloc: Global, run: &Run) -> Option<Quantised> {
     words_of(alloc, run.file, format, run.realisation)
 }
 
-/// The rows of a run by the written equations, where its registers are as many as the realisation has and all are words.
+/// The rows of a run by the written equations, where its registers are as many as the realisation
+/// has and all are words.
 fn rows_of(alloc: Global, run: &Run) -> Option<Rows> {
     let q = words_of_run(alloc, run)?;
     let format = q.format();
@@ -388,7 +390,7 @@ fn is_simulated(alloc: Global, run: &Run) -> bool {
 fn last_step(net: &Netlist, registers: &mut [i64], inputs: &[i64]) -> Option<StepOutcome> {
     let mut last = None;
     for x in inputs {
-        last = stepped(net, registers, *x);
+        last = step_outcome(net, registers, *x);
     }
     last
 }

@@ -28,7 +28,7 @@ pub(crate) fn words_of(
 }
 
 /// One step, where there are as many registers as the netlist has and all are words.
-pub(crate) fn stepped(net: &Netlist, registers: &mut [i64], x: i64) -> Option<StepOutcome> {
+pub(crate) fn step_outcome(net: &Netlist, registers: &mut [i64], x: i64) -> Option<StepOutcome> {
     let format = net.format();
     if registers.len() != net.registers() as usize
         || !registers.iter().all(|word| format.fits((*word).into()))

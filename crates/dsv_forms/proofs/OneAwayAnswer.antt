@@ -5,7 +5,7 @@ use Rattle.std.proofs.lemmas.Bool.Decides.{nat_tests}
 use Rattle.std.proofs.lemmas.Int.{ints}
 use lib.Signed.{◌<ℤ◌, ◌≤ℤ◌}
 use Rattle.std.specs.Option.{option_and_then, option_map}
-use Rattle.dsv_algebra.specs.Narrow.{is_narrow, narrowed}
+use Rattle.dsv_algebra.specs.Narrow.{is_narrow, narrow_of}
 use Rattle.dsv_algebra.specs.Vectors.{Matrix, sum_to, form_at, vector_of, matrix_of}
 use Rattle.dsv_algebra.specs.Companion.{companion, companion_fall_form, fall_entry, IsKeptAwayAlong}
 use Rattle.dsv_algebra.specs.Squares.{squares, beside}
@@ -39,7 +39,7 @@ bare_shown : (p : Part) (s : Squares) (x : ℤ) → sides_refusal p s (bare_side
 bare_shown p s x h =
     let rest = rest_of s 0 0 in
     narrow_both (is_narrow rest) (s.m *ℤ x) rest p s
-    (narrow_open (is_narrow (s.m *ℤ x)) (s.m *ℤ x) (λ left. option_map (λ right. (left, right)) (narrowed rest)) p s h)
+    (narrow_open (is_narrow (s.m *ℤ x)) (s.m *ℤ x) (λ left. option_map (λ right. (left, right)) (narrow_of rest)) p s h)
 
 -- the identity and the rest
 some_shown : (n : ℕ) (p : Part) (s : Squares) (x : ℤ) → s.count ≡ n → n ≤ 1 → sides_refusal p s (some_sides_of s x) ≡ None
@@ -112,7 +112,7 @@ value_last false z h = cc
 
 value_shown : (x v : ℤ) → value_refusal (value_of x v) ≡ None → (x *ℤ v *ℤ v) <ℤ pos 0
 value_shown x v h =
-    value_last (is_narrow (x *ℤ v *ℤ v)) (x *ℤ v *ℤ v) (value_open (is_narrow (x *ℤ v)) (x *ℤ v) (λ a. narrowed (a *ℤ v)) h)
+    value_last (is_narrow (x *ℤ v *ℤ v)) (x *ℤ v *ℤ v) (value_open (is_narrow (x *ℤ v)) (x *ℤ v) (λ a. narrow_of (a *ℤ v)) h)
 
 positive_apart : (z : ℤ) → pos 0 <ℤ z → z ≢ pos 0
 positive_apart z h e = omega (arith, ints, h, e)
@@ -143,7 +143,7 @@ had_last false z x h = cc
 
 had_value : (entry v x : ℤ) → value_of entry v ≡ Some x → x ≡ entry *ℤ v *ℤ v
 had_value entry v x h =
-    had_last (is_narrow (entry *ℤ v *ℤ v)) (entry *ℤ v *ℤ v) x (had_open (is_narrow (entry *ℤ v)) (entry *ℤ v) x (λ a. narrowed (a *ℤ v)) h)
+    had_last (is_narrow (entry *ℤ v *ℤ v)) (entry *ℤ v *ℤ v) x (had_open (is_narrow (entry *ℤ v)) (entry *ℤ v) x (λ a. narrow_of (a *ℤ v)) h)
 
 -- ---- the same of the answer
 pub answer_refusal : (cs : List ℤ) (c0 c1 : ℤ) (offer : KeptAway) (r : Result (Form × ℤ) FormRefusal) → cs ≡ c0 ∷ c1 ∷ []

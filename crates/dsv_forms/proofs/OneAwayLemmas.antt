@@ -4,7 +4,7 @@ use Rattle.std.proofs.Math.IntN.{ℤ, pos, ◌+ℤ◌, ◌*ℤ◌, +ℤ_idl}
 use Rattle.std.proofs.lemmas.Bool.{lt-ltb}
 use Rattle.std.specs.Ordering.{int_eq}
 use Rattle.std.specs.Option.{option_and_then, option_map}
-use Rattle.dsv_algebra.specs.Narrow.{is_narrow, narrowed}
+use Rattle.dsv_algebra.specs.Narrow.{is_narrow, narrow_of}
 use Rattle.dsv_algebra.specs.Vectors.{Vector, Matrix, form_at, vector_of, matrix_of}
 use Rattle.dsv_algebra.specs.Companion.{fall_entry}
 use Rattle.dsv_forms.specs.declared.offers.Squares.{Squares}
@@ -31,7 +31,7 @@ bare p s x numbers =
     let last = not (is_narrow (pos 0 +ℤ rest)) || false in
     let tests = (not (int_eq (s.m *ℤ x) (right_side 0 s 0 0)), refusal.Identity p 0 0) ∷ (not_dominant 1 s 0, refusal.Dominance p 0) ∷ [] in
     sides_by (any_wide numbers) p s x (bare_sides_of s) (any_wide (numbers ++ side_numbers 0 s x 0 0)) (any_wide (side_numbers 0 s x 0 0)) tests (any_wide-append numbers (side_numbers 0 s x 0 0))
-    (narrow_first (is_narrow (s.m *ℤ x)) (s.m *ℤ x) (λ left. option_map (λ right. (left, right)) (narrowed rest))
+    (narrow_first (is_narrow (s.m *ℤ x)) (s.m *ℤ x) (λ left. option_map (λ right. (left, right)) (narrow_of rest))
     p s (any_wide (side_numbers 0 s x 0 0)) last tests refl (λ _.
     narrow_last (is_narrow rest) (s.m *ℤ x) rest p s last tests (rw (+ℤ_idl rest) refl) (rw (+ℤ_idl rest, dominance s) refl)))
 
@@ -107,7 +107,7 @@ start P v =
     let q = a *ℤ v 0 in
     let tests = (not (int_lt (form_at 1 P v) (pos 0)), refusal.StartNotNegative (form_at 1 P v)) ∷ [] in
     let last = not (is_narrow q) || (not (is_narrow (pos 0 +ℤ q)) || false) in
-    value_first (is_narrow a) a (λ a. narrowed (a *ℤ v 0)) (any_wide (value_numbers 1 P v)) last tests refl (λ _.
+    value_first (is_narrow a) a (λ a. narrow_of (a *ℤ v 0)) (any_wide (value_numbers 1 P v)) last tests refl (λ _.
     value_last (is_narrow q) q last tests (rw (+ℤ_idl q) (twice (not (is_narrow q)))) (rw (value_is P v) refl))
 
 -- the tests of an offer of one place

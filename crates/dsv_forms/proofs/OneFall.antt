@@ -3,7 +3,7 @@ use Rattle.std.proofs.Common.{◌≡◌, zero, suc, Bool, true, false, not, ◌|
 use Rattle.std.proofs.Math.IntN.{ℤ, pos, negsuc, ◌+ℤ◌, ◌-ℤ◌, ◌*ℤ◌, neg_ℤ, +ℤ_idl}
 use Rattle.std.specs.Option.{option_and_then}
 use Rattle.std.proofs.lemmas.Bool.Decides.{nat_tests, Decides-int_eq}
-use Rattle.dsv_algebra.specs.Narrow.{is_narrow, narrowed}
+use Rattle.dsv_algebra.specs.Narrow.{is_narrow, narrow_of}
 use Rattle.dsv_algebra.specs.Vectors.{Vector, Matrix, vector_of, matrix_of}
 use Rattle.dsv_algebra.specs.Companion.{fall_entry}
 use Rattle.dsv_algebra.proofs.Normaliser.{ring, env, var, num, plus, times, minus}
@@ -51,13 +51,13 @@ fall_same c P =
     let fourth = not (is_narrow (neg_ℤ b *ℤ x)) || last in
     let third = not (is_narrow (a *ℤ x)) || fourth in
     let second = not (is_narrow (neg_ℤ b)) || third in
-    narrow_step (is_narrow a) a (λ a. option_and_then (λ b. option_and_then (λ kept. option_and_then (λ left. narrowed (kept -ℤ left)) (narrowed (b *ℤ x))) (narrowed (a *ℤ x))) (narrowed b))
+    narrow_step (is_narrow a) a (λ a. option_and_then (λ b. option_and_then (λ kept. option_and_then (λ left. narrow_of (kept -ℤ left)) (narrow_of (b *ℤ x))) (narrow_of (a *ℤ x))) (narrow_of b))
     (not (is_narrow a) || second) second t refl (λ _.
-    narrow_step (is_narrow b) b (λ b. option_and_then (λ kept. option_and_then (λ left. narrowed (kept -ℤ left)) (narrowed (b *ℤ x))) (narrowed (a *ℤ x)))
+    narrow_step (is_narrow b) b (λ b. option_and_then (λ kept. option_and_then (λ left. narrow_of (kept -ℤ left)) (narrow_of (b *ℤ x))) (narrow_of (a *ℤ x)))
     second third t (ap (λ n. not n || third) (is_narrow-neg b)) (λ _.
-    narrow_step (is_narrow (a *ℤ x)) (a *ℤ x) (λ kept. option_and_then (λ left. narrowed (kept -ℤ left)) (narrowed (b *ℤ x)))
+    narrow_step (is_narrow (a *ℤ x)) (a *ℤ x) (λ kept. option_and_then (λ left. narrow_of (kept -ℤ left)) (narrow_of (b *ℤ x)))
     third fourth t refl (λ n.
-    narrow_step (is_narrow (b *ℤ x)) (b *ℤ x) (λ left. narrowed (a *ℤ x -ℤ left))
+    narrow_step (is_narrow (b *ℤ x)) (b *ℤ x) (λ left. narrow_of (a *ℤ x -ℤ left))
     fourth last t (ap (λ n. not n || last) (ap is_narrow (neg-times b x) ∙ is_narrow-neg (b *ℤ x))) (λ _.
     narrow_end (is_narrow (a *ℤ x -ℤ b *ℤ x)) (a *ℤ x -ℤ b *ℤ x) t last (ending a b x n) (difference a b x)))))
 

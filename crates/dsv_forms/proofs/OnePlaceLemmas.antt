@@ -2,7 +2,7 @@
 use Rattle.std.proofs.Common.{◌≡◌, ℕ, Bool, true, false, not, ◌||◌, ◌==◌, if◌then◌else◌, int_lt, List, [], ◌∷◌, ◌++◌, Option, Some, None, refl, ap, ◌∙◌, arith}
 use Rattle.std.proofs.Math.IntN.{ℤ, pos, ◌+ℤ◌, ◌*ℤ◌, +ℤ_idl}
 use Rattle.std.specs.Ordering.{int_eq}
-use Rattle.dsv_algebra.specs.Narrow.{is_narrow, narrowed}
+use Rattle.dsv_algebra.specs.Narrow.{is_narrow, narrow_of}
 use Rattle.dsv_algebra.specs.Vectors.{Matrix}
 use Rattle.dsv_forms.specs.declared.offers.Squares.{Squares}
 use Rattle.dsv_forms.specs.declared.refusal.Part.{Part}
@@ -30,7 +30,7 @@ pub any_wide-append : (xs ys : List ℤ) → any_wide (xs ++ ys) ≡ (any_wide x
 any_wide-append [] ys = refl
 any_wide-append (x ∷ xs) ys = grind (arith, nat_tests, any_wide-append xs ys)
 
--- the test of a number among those of the numbers behind it
+-- the test of a number among those of the numbers after it
 pub narrow_first : (n : Bool) (z : ℤ) (k : ℤ → Option (ℤ × ℤ)) (p : Part) (s : Squares) (wide others : Bool) (tests : List Test)
     → wide ≡ (not n || others)
     → (n ≡ true → first_of ((others, refusal.Wide p 0 0) ∷ tests) ≡ sides_refusal p s (k z))
@@ -72,13 +72,13 @@ sides p s x numbers =
     let tests = (not (int_eq (s.m *ℤ x) (right_side 1 s 0 0)), refusal.Identity p 0 0) ∷ (not_dominant 1 s 0, refusal.Dominance p 0) ∷ [] in
     sides_by (any_wide numbers) p s x (sides_of s) (any_wide (numbers ++ side_numbers 1 s x 0 0)) (any_wide (side_numbers 1 s x 0 0)) tests (any_wide-append numbers (side_numbers 1 s x 0 0))
     (narrow_first (is_narrow (s.m *ℤ x)) (s.m *ℤ x)
-    (λ left. option_and_then (λ a. option_and_then (λ b. option_map (λ right. (left, right)) (narrowed (b +ℤ rest))) (narrowed (a *ℤ r))) (narrowed (w *ℤ r)))
+    (λ left. option_and_then (λ a. option_and_then (λ b. option_map (λ right. (left, right)) (narrow_of (b +ℤ rest))) (narrow_of (a *ℤ r))) (narrow_of (w *ℤ r)))
     p s (any_wide (side_numbers 1 s x 0 0)) (not (is_narrow (w *ℤ r)) || (not (is_narrow (w *ℤ r *ℤ r)) || (not (is_narrow (pos 0 +ℤ w *ℤ r *ℤ r)) || (not (is_narrow (right_side 1 s 0 0)) || false)))) tests refl (λ _.
     narrow_first (is_narrow (w *ℤ r)) (w *ℤ r)
-    (λ a. option_and_then (λ b. option_map (λ right. (s.m *ℤ x, right)) (narrowed (b +ℤ rest))) (narrowed (a *ℤ r)))
+    (λ a. option_and_then (λ b. option_map (λ right. (s.m *ℤ x, right)) (narrow_of (b +ℤ rest))) (narrow_of (a *ℤ r)))
     p s (not (is_narrow (w *ℤ r)) || (not (is_narrow (w *ℤ r *ℤ r)) || (not (is_narrow (pos 0 +ℤ w *ℤ r *ℤ r)) || (not (is_narrow (right_side 1 s 0 0)) || false)))) (not (is_narrow (w *ℤ r *ℤ r)) || (not (is_narrow (pos 0 +ℤ w *ℤ r *ℤ r)) || (not (is_narrow (right_side 1 s 0 0)) || false))) tests refl (λ _.
     narrow_first (is_narrow (w *ℤ r *ℤ r)) (w *ℤ r *ℤ r)
-    (λ b. option_map (λ right. (s.m *ℤ x, right)) (narrowed (b +ℤ rest)))
+    (λ b. option_map (λ right. (s.m *ℤ x, right)) (narrow_of (b +ℤ rest)))
     p s (not (is_narrow (w *ℤ r *ℤ r)) || (not (is_narrow (pos 0 +ℤ w *ℤ r *ℤ r)) || (not (is_narrow (right_side 1 s 0 0)) || false))) (not (is_narrow (pos 0 +ℤ w *ℤ r *ℤ r)) || (not (is_narrow (right_side 1 s 0 0)) || false)) tests refl (λ n.
     narrow_last (is_narrow (w *ℤ r *ℤ r +ℤ rest)) (s.m *ℤ x) (w *ℤ r *ℤ r +ℤ rest) p s (not (is_narrow (pos 0 +ℤ w *ℤ r *ℤ r)) || (not (is_narrow (right_side 1 s 0 0)) || false)) tests
     (again (is_narrow (w *ℤ r *ℤ r)) (w *ℤ r *ℤ r) rest refl n)

@@ -6,7 +6,7 @@ use lib.Signed.{◌<ℤ◌, ◌≤ℤ◌}
 use Rattle.std.specs.Ordering.{int_eq}
 use Rattle.std.specs.Option.{option_and_then, option_map}
 use Rattle.std.proofs.lemmas.Bool.Decides.{Decides-int_eq}
-use Rattle.dsv_algebra.specs.Narrow.{is_narrow, narrowed}
+use Rattle.dsv_algebra.specs.Narrow.{is_narrow, narrow_of}
 use Rattle.dsv_algebra.specs.Vectors.{Matrix, sum_to}
 use Rattle.dsv_algebra.specs.Squares.{squares, beside}
 use Rattle.dsv_algebra.proofs.Falling.{ShowPositive}
@@ -69,10 +69,10 @@ both_shown p s x h =
     let r = rows_of s 0 0 in
     let rest = rest_of s 0 0 in
     narrow_both (is_narrow (w *ℤ r *ℤ r +ℤ rest)) (s.m *ℤ x) (w *ℤ r *ℤ r +ℤ rest) p s
-    (narrow_open (is_narrow (w *ℤ r *ℤ r)) (w *ℤ r *ℤ r) (λ b. option_map (λ right. (s.m *ℤ x, right)) (narrowed (b +ℤ rest))) p s
-    (narrow_open (is_narrow (w *ℤ r)) (w *ℤ r) (λ a. option_and_then (λ b. option_map (λ right. (s.m *ℤ x, right)) (narrowed (b +ℤ rest))) (narrowed (a *ℤ r))) p s
+    (narrow_open (is_narrow (w *ℤ r *ℤ r)) (w *ℤ r *ℤ r) (λ b. option_map (λ right. (s.m *ℤ x, right)) (narrow_of (b +ℤ rest))) p s
+    (narrow_open (is_narrow (w *ℤ r)) (w *ℤ r) (λ a. option_and_then (λ b. option_map (λ right. (s.m *ℤ x, right)) (narrow_of (b +ℤ rest))) (narrow_of (a *ℤ r))) p s
     (narrow_open (is_narrow (s.m *ℤ x)) (s.m *ℤ x)
-    (λ left. option_and_then (λ a. option_and_then (λ b. option_map (λ right. (left, right)) (narrowed (b +ℤ rest))) (narrowed (a *ℤ r))) (narrowed (w *ℤ r))) p s h)))
+    (λ left. option_and_then (λ a. option_and_then (λ b. option_map (λ right. (left, right)) (narrow_of (b +ℤ rest))) (narrow_of (a *ℤ r))) (narrow_of (w *ℤ r))) p s h)))
 
 -- both sides and a rest without a refusal
 pub sides_shown : (p : Part) (s : Squares) (left right : ℤ) → sides_refusal p s (Some (left, right)) ≡ None → (left ≡ right) × (pos 0 ≤ℤ rest_of s 0 0)

@@ -1,8 +1,9 @@
 -- For private contracts: the check of a part with one place, in the order in which the code works.
-use Rattle.std.specs.Prelude.{◌≡◌, ◌≤◌, ◌⊎◌, List, ℕ, not, ◌||◌, ◌==◌, int_lt, [], ◌∷◌, Option, Some, None, ℤ, pos, ◌+ℤ◌, ◌-ℤ◌, ◌*ℤ◌}
+use Rattle.std.specs.Prelude.{◌≡◌, ◌≤◌, ◌⊎◌, List, ℕ, not, ◌||◌, ◌==◌, int_lt, []}
+use Rattle.std.specs.Prelude.{◌∷◌, Option, Some, None, ℤ, pos, ◌+ℤ◌, ◌-ℤ◌, ◌*ℤ◌}
 use Rattle.std.specs.Option.{option_and_then, option_map}
 use Rattle.std.specs.Ordering.{int_eq}
-use Rattle.dsv_algebra.specs.Narrow.{is_narrow, narrowed}
+use Rattle.dsv_algebra.specs.Narrow.{is_narrow, narrow_of}
 use Rattle.dsv_algebra.specs.Vectors.{matrix_of}
 use Rattle.dsv_forms.specs.declared.offers.Form.{Form}
 use Rattle.dsv_forms.specs.declared.offers.Squares.{Squares}
@@ -21,7 +22,8 @@ sides_of s x =
     option_and_then (λ left.
     option_and_then (λ p.
     option_and_then (λ q.
-    option_map (λ right. (left, right)) (narrowed (q +ℤ rest_of s 0 0))) (narrowed (p *ℤ r))) (narrowed (w *ℤ r))) (narrowed (s.m *ℤ x))
+    option_map (λ right. (left, right)) (narrow_of (q +ℤ rest_of s 0 0))) (narrow_of
+    (p *ℤ r))) (narrow_of (w *ℤ r))) (narrow_of (s.m *ℤ x))
 
 abbrev pub or_else : Option FormRefusal → Option FormRefusal → Option FormRefusal
 or_else (Some r) other = Some r
@@ -44,7 +46,8 @@ early_refusal p s = first_of (
 
 -- why squares don't show that the entry, where there is one, is positive
 abbrev pub one_place_refusal : Part → Squares → Option ℤ → Option FormRefusal
-one_place_refusal p s entry = or_else (early_refusal p s) (sides_refusal p s (option_and_then (sides_of s) entry))
+one_place_refusal p s entry =
+    or_else (early_refusal p s) (sides_refusal p s (option_and_then (sides_of s) entry))
 
 -- what a form of one place loses in a step, where nothing on the way passes 2^126
 abbrev pub fall_of : ℤ → ℤ → ℤ → Option ℤ
@@ -52,7 +55,8 @@ fall_of c0 c1 x =
     option_and_then (λ a.
     option_and_then (λ b.
     option_and_then (λ kept.
-    option_and_then (λ left. narrowed (kept -ℤ left)) (narrowed (b *ℤ x))) (narrowed (a *ℤ x))) (narrowed (c1 *ℤ c1))) (narrowed (c0 *ℤ c0))
+    option_and_then (λ left. narrow_of (kept -ℤ left)) (narrow_of (b *ℤ x))) (narrow_of
+    (a *ℤ x))) (narrow_of (c1 *ℤ c1))) (narrow_of (c0 *ℤ c0))
 
 -- why a form hasn't this number of places
 abbrev pub place_refusal : ℕ → Form → Option FormRefusal
@@ -63,7 +67,8 @@ abbrev pub one_place_falls : ℤ → ℤ → Falls → Option FormRefusal
 one_place_falls c0 c1 offer =
     let x = matrix_of offer.form.rows 0 0 in
     or_else (place_refusal 1 offer.form)
-    (or_else (one_place_refusal part.Positive offer.positive (Some x)) (one_place_refusal part.Fall offer.fall (fall_of c0 c1 x)))
+    (or_else (one_place_refusal part.Positive offer.positive (Some x))
+    (one_place_refusal part.Fall offer.fall (fall_of c0 c1 x)))
 
 -- why squares without a place don't show what they should
 abbrev pub no_squares_refusal : Part → Squares → Option FormRefusal
@@ -73,7 +78,8 @@ no_squares_refusal p s = first_of ((int_lt s.m (pos 1) || not (s.count == 0), re
 abbrev pub no_place_falls : Falls → Option FormRefusal
 no_place_falls offer =
     or_else (place_refusal 0 offer.form)
-    (or_else (no_squares_refusal part.Positive offer.positive) (no_squares_refusal part.Fall offer.fall))
+    (or_else (no_squares_refusal part.Positive offer.positive)
+    (no_squares_refusal part.Fall offer.fall))
 
 -- The rows have this entry in their first place, and 0 elsewhere.
 pub record HasOneEntry (rows : List (List ℤ)) (x : ℤ) : Type 0 where

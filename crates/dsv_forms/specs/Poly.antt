@@ -1,5 +1,6 @@
 -- Polynomials with whole coefficients, the leading one first.
-use Rattle.std.specs.Prelude.{ℕ, ◌<◌, ◌≤◌, ◌^◌, List, length, All, ℤ, pos, ◌<ℤ◌, slice_index_or}
+use Rattle.std.specs.Prelude.{ℕ, ◌<◌, ◌≤◌, ◌^◌, List, length}
+use Rattle.std.specs.Prelude.{All, ℤ, pos, ◌<ℤ◌, slice_index_or}
 use Rattle.std.specs.Int.RustNames.{unsigned_abs}
 
 -- the most coefficients of a polynomial

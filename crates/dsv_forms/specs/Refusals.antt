@@ -1,5 +1,7 @@
 -- Why an offer isn't accepted: the tests of the check in their order, for any number of places.
-use Rattle.std.specs.Prelude.{ℕ, zero, suc, ◌-◌, Bool, true, false, not, ◌||◌, ◌==◌, nat_le, nat_lt, int_lt, List, [], ◌∷◌, ◌++◌, length, map, filter, Option, Some, None, Result, Ok, Err, ℤ, pos, ◌+ℤ◌, ◌*ℤ◌}
+use Rattle.std.specs.Prelude.{ℕ, zero, suc, ◌-◌, Bool, true, false, not, ◌||◌, ◌==◌, nat_le}
+use Rattle.std.specs.Prelude.{nat_lt, int_lt, List, [], ◌∷◌, ◌++◌, length, map, filter}
+use Rattle.std.specs.Prelude.{Option, Some, None, Result, Ok, Err, ℤ, pos, ◌+ℤ◌, ◌*ℤ◌}
 use Rattle.std.specs.List.{list_any, list_all, flat_map}
 use Rattle.std.specs.Ordering.{int_eq}
 use Rattle.dsv_algebra.specs.Narrow.{is_narrow}
@@ -41,7 +43,7 @@ places_from i d = filter (λ j. nat_le i j) (places d)
 abbrev pub any_wide : List ℤ → Bool
 any_wide = list_any (λ z. not (is_narrow z))
 
--- the sums of the first number, the first two and so on, behind a number
+-- the sums of the first number, the first two and so on, after a number
 abbrev pub partial_sums : ℤ → List ℤ → List ℤ
 partial_sums sum [] = []
 partial_sums sum (x ∷ xs) = (sum +ℤ x) ∷ partial_sums (sum +ℤ x) xs
@@ -80,13 +82,15 @@ side_numbers n s x i j =
     ++ partial_sums (pos 0) (square_terms n s i j)
     ++ right_side n s i j ∷ []
 
--- The tests of both sides, place by place, with n squares for the form T of d places, whose entry at i, j has these
--- numbers on its own way.
-abbrev pub side_tests : Part → ℕ → ℕ → Squares → Matrix → (ℕ → ℕ → List ℤ) → List Test
+-- The tests of both sides, place by place, with n squares for the form T of d places, whose entry
+-- at i, j has these numbers on its own way.
+abbrev pub side_tests : Part → ℕ → ℕ → Squares → Matrix → (ℕ → ℕ → List ℤ)
+    → List Test
 side_tests p d n s T numbers =
     flat_map (λ i. flat_map (λ j.
     (any_wide (numbers i j ++ side_numbers n s (T i j) i j), refusal.Wide p i j)
-    ∷ (not (int_eq (s.m *ℤ T i j) (right_side n s i j)), refusal.Identity p i j) ∷ []) (places_from i d)) (places d)
+    ∷ (not (int_eq (s.m *ℤ T i j) (right_side n s i j)), refusal.Identity p i j)
+    ∷ []) (places_from i d)) (places d)
 
 -- the sizes beside the diagonal in a row of the rest
 abbrev pub sizes_beside : ℕ → Squares → ℕ → List ℤ
@@ -109,7 +113,8 @@ abbrev pub bad_weight : Squares → ℕ → Bool
 bad_weight s k = not (int_lt (pos 0) (weights_of s k))
 
 abbrev pub bad_row : Squares → ℕ → Bool
-bad_row s k = list_any (λ j. not (int_eq (rows_of s k j) (pos 0))) (places k) || int_eq (rows_of s k k) (pos 0)
+bad_row s k = list_any (λ j. not (int_eq (rows_of s k j) (pos 0))) (places k)
+    || int_eq (rows_of s k k) (pos 0)
 
 -- the tests of squares that show the form T to be positive
 abbrev pub definite_tests : Part → ℕ → Squares → Matrix → (ℕ → ℕ → List ℤ) → List Test
@@ -128,7 +133,8 @@ abbrev pub negative_weight : Squares → ℕ → Bool
 negative_weight s k = int_lt (weights_of s k) (pos 0)
 
 -- the tests of squares that show the form T to be nowhere negative
-abbrev pub semidefinite_tests : Part → ℕ → Squares → Matrix → (ℕ → ℕ → List ℤ) → List Test
+abbrev pub semidefinite_tests : Part → ℕ → Squares → Matrix → (ℕ → ℕ → List ℤ)
+    → List Test
 semidefinite_tests p d s T numbers =
     (too_many_rows d s, refusal.Shape p)
     ∷ map (λ k. (negative_weight s k, refusal.Weight p k)) (places s.count)
@@ -143,7 +149,8 @@ bad_form d form = not (form.d == d) || not (is_symmetric d (matrix_of form.rows)
 abbrev pub fall_numbers : ℕ → Vector → Matrix → ℕ → ℕ → List ℤ
 fall_numbers d c P i j =
     let terms = fall_terms d c P i j in
-    map (λ t. t.0) terms ++ map (λ t. t.0 *ℤ t.1) terms ++ partial_sums (pos 0) (map (λ t. t.0 *ℤ t.1) terms)
+    map (λ t. t.0) terms ++ map (λ t. t.0 *ℤ t.1) terms
+    ++ partial_sums (pos 0) (map (λ t. t.0 *ℤ t.1) terms)
 
 abbrev pub falls_tests : ℕ → Vector → Falls → List Test
 falls_tests d c offer =
@@ -180,6 +187,7 @@ kept_away_tests d c offer =
     ∷ semidefinite_tests part.Fall d offer.fall (fall_entry d c P) (fall_numbers d c P)
     ++ start_tests d P (vector_of offer.start)
 
--- why an offer of a form that is kept away isn't accepted for the polynomial with these coefficients
+-- why an offer of a form that is kept away isn't accepted for the polynomial with these
+-- coefficients
 abbrev pub kept_away_refusal : List ℤ → KeptAway → Option FormRefusal
 kept_away_refusal c offer = first_of (kept_away_tests (length c - 1) (vector_of c) offer)

@@ -4,20 +4,24 @@ ghost use Rattle.dsv_algebra.specs.Vectors.{vector_of, matrix_of};
 ghost use Rattle.dsv_algebra.specs.Companion.{StrictlyFallsAlong};
 ghost use Rattle.dsv_forms.specs.FallForm.{IsFallForm};
 ghost use Rattle.dsv_forms.specs.Refusals.{refusal_of, falls_refusal};
-ghost use Rattle.dsv_forms.specs.OnePlace.{no_squares_refusal, no_place_falls, one_place_falls, fall_of, HasOneEntry};
+ghost use Rattle.dsv_forms.specs.OnePlace.{no_squares_refusal, no_place_falls};
+ghost use Rattle.dsv_forms.specs.OnePlace.{one_place_falls, fall_of, HasOneEntry};
 
 use crate::one_place::{check_one_place, fall_entry};
 use crate::{Falls, Form, FormRefusal, GREATEST_ORDER, Part, Poly, Squares};
 use dsv_algebra::NarrowInteger;
 
-/// Checks that the offer shows a form which strictly falls along each trajectory of the polynomial, and gives what the
-/// form loses in a step. It takes no memory.
+/// Checks that the offer shows a form which strictly falls along each trajectory of the polynomial,
+/// and gives what the form loses in a step. It takes no memory.
 pub fn check_falls(poly: &Poly, offer: &Falls) -> Result<Form, FormRefusal>
     requires { length poly.now ≤ 2 }
     // The first test that refuses, in their order; the offer is accepted exactly where none does.
     ensures refusal { refusal_of result ≡ falls_refusal poly.now offer.now }
-    ensures falls { IfOk result (λ _. StrictlyFallsAlong (length poly.now - 1) (vector_of poly.now) (matrix_of offer.now.form.rows)) }
-    ensures fall { IfOk result (λ fall. IsFallForm (length poly.now - 1) (vector_of poly.now) offer.now.form fall) }
+    ensures falls { IfOk result
+        (λ _. StrictlyFallsAlong (length poly.now - 1) (vector_of poly.now)
+        (matrix_of offer.now.form.rows)) }
+    ensures fall { IfOk result
+        (λ fall. IsFallForm (length poly.now - 1) (vector_of poly.now) offer.now.form fall) }
     ensures places { OnOk result (offer.now.form.d + 1 ≡ length poly.now) }
 {
     match poly.coefficients() {
@@ -58,7 +62,8 @@ pub(crate) fn check_no_squares(part: Part, squares: &Squares) -> Result<(), Form
 fn check_place(c0: NarrowInteger, c1: NarrowInteger, offer: &Falls) -> Result<Form, FormRefusal>
     ensures refusal { refusal_of result ≡ one_place_falls c0 c1 offer.now }
     ensures places { IfOk result (λ fall. (offer.now.form.d ≡ 1) × (fall.d ≡ 1)) }
-    ensures fall { IfOk result (λ fall. fall_of c0 c1 (matrix_of offer.now.form.rows 0 0) ≡ Some (matrix_of fall.rows 0 0)) }
+    ensures fall { IfOk result (λ fall. fall_of c0 c1 (matrix_of offer.now.form.rows 0 0)
+        ≡ Some (matrix_of fall.rows 0 0)) }
     ensures rows { IfOk result (λ fall. HasOneEntry fall.rows (matrix_of fall.rows 0 0)) }
 {
     if offer.form.d != 1 {

@@ -5,22 +5,29 @@ ghost use Rattle.dsv_algebra.specs.Companion.{IsKeptAwayAlong};
 ghost use Rattle.dsv_forms.specs.FallForm.{IsFallForm};
 ghost use Rattle.dsv_forms.specs.Refusals.{refusal_of, kept_away_refusal};
 ghost use Rattle.dsv_forms.specs.OnePlace.{fall_of, HasOneEntry};
-ghost use Rattle.dsv_forms.specs.OneAway.{value_of, value_refusal, one_place_kept_away, no_place_kept_away};
+ghost use Rattle.dsv_forms.specs.OneAway.{value_of, value_refusal};
+ghost use Rattle.dsv_forms.specs.OneAway.{one_place_kept_away, no_place_kept_away};
 
 use crate::checking::{check_no_squares, one_entry};
 use crate::one_place::{check_weak_place, fall_entry};
 use crate::{Form, FormRefusal, KeptAway, Part, Poly};
 use dsv_algebra::NarrowInteger;
 
-/// Checks that the offer shows a form which is negative at the start and rises along no trajectory of the
-/// polynomial. It gives what the form loses in a step and its value at the start, and takes no memory.
+/// Checks that the offer shows a form which is negative at the start and rises along no trajectory
+/// of the polynomial. It gives what the form loses in a step and its value at the start, and takes
+/// no memory.
 pub fn check_kept_away(poly: &Poly, offer: &KeptAway) -> Result<(Form, i128), FormRefusal>
     requires { length poly.now ≤ 2 }
     // The first test that refuses, in their order; the offer is accepted exactly where none does.
     ensures refusal { refusal_of result ≡ kept_away_refusal poly.now offer.now }
-    ensures away { IfOk result (λ x. IsKeptAwayAlong (length poly.now - 1) (vector_of poly.now) (matrix_of offer.now.form.rows) (vector_of offer.now.start)) }
-    ensures fall { IfOk result (λ x. IsFallForm (length poly.now - 1) (vector_of poly.now) offer.now.form x.0) }
-    ensures value { IfOk result (λ x. x.1 ≡ form_at (length poly.now - 1) (matrix_of offer.now.form.rows) (vector_of offer.now.start)) }
+    ensures away { IfOk result
+        (λ x. IsKeptAwayAlong (length poly.now - 1) (vector_of poly.now)
+        (matrix_of offer.now.form.rows) (vector_of offer.now.start)) }
+    ensures fall { IfOk result
+        (λ x. IsFallForm (length poly.now - 1) (vector_of poly.now) offer.now.form x.0) }
+    ensures value { IfOk result (λ x. x.1
+        ≡ form_at (length poly.now - 1) (matrix_of offer.now.form.rows)
+        (vector_of offer.now.start)) }
     ensures places { OnOk result (offer.now.form.d + 1 ≡ length poly.now) }
 {
     match poly.coefficients() {
@@ -51,9 +58,12 @@ fn check_place(
 ) -> Result<(Form, i128), FormRefusal>
     ensures refusal { refusal_of result ≡ one_place_kept_away c0 c1 offer.now }
     ensures places { IfOk result (λ x. (offer.now.form.d ≡ 1) × (x.0.d ≡ 1)) }
-    ensures fall { IfOk result (λ x. fall_of c0 c1 (matrix_of offer.now.form.rows 0 0) ≡ Some (matrix_of x.0.rows 0 0)) }
+    ensures fall { IfOk result (λ x. fall_of c0 c1 (matrix_of offer.now.form.rows 0 0)
+        ≡ Some (matrix_of x.0.rows 0 0)) }
     ensures rows { IfOk result (λ x. HasOneEntry x.0.rows (matrix_of x.0.rows 0 0)) }
-    ensures value { IfOk result (λ x. value_of (matrix_of offer.now.form.rows 0 0) (vector_of offer.now.start 0) ≡ Some x.1) }
+    ensures value { IfOk result
+        (λ x. value_of (matrix_of offer.now.form.rows 0 0) (vector_of offer.now.start 0)
+        ≡ Some x.1) }
 {
     if offer.form.d != 1 {
         return Err(FormRefusal::Shape { part: Part::Form });

@@ -1,4 +1,5 @@
-//! Quadratic forms that show whether the trajectories of a polynomial fall, and the check of what is offered for that.
+//! Quadratic forms that show whether the trajectories of a polynomial fall, and the check of what
+//! is offered for that.
 #![tactic(auto)]
 
 mod checking;

@@ -8,8 +8,8 @@ ghost use Rattle.dsv_forms.specs.OneAway.{bare_sides_of, some_sides_of, weak_pla
 use crate::{FormRefusal, Part, Squares};
 use dsv_algebra::NarrowInteger;
 
-/// Checks that the squares show the one entry of a form to be positive, and gives the entry. One that was too wide
-/// to be had is refused where the others would be as too wide.
+/// Checks that the squares show the one entry of a form to be positive, and gives the entry. One
+/// that was too wide to be had is refused where the others would be as too wide.
 pub(crate) fn check_one_place(
     part: Part,
     squares: &Squares,
@@ -33,8 +33,8 @@ pub(crate) fn check_one_place(
     check_sides(part, squares, entry, sides)
 }
 
-/// Checks that at most one square shows the one entry of a form to be 0 or more, and gives the entry. One that was too
-/// wide to be had is refused where the others would be as too wide.
+/// Checks that at most one square shows the one entry of a form to be 0 or more, and gives the
+/// entry. One that was too wide to be had is refused where the others would be as too wide.
 pub(crate) fn check_weak_place(
     part: Part,
     squares: &Squares,
@@ -101,7 +101,8 @@ fn check_sides(
     entry: NarrowInteger,
     sides: Sides,
 ) -> Result<NarrowInteger, FormRefusal>
-    ensures refusal { refusal_of result ≡ sides_refusal part squares.now (Some (sides.left, sides.right)) }
+    ensures refusal { refusal_of result
+        ≡ sides_refusal part squares.now (Some (sides.left, sides.right)) }
     ensures entry { IfOk result (λ x. x ≡ entry) }
 {
     if sides.left.get() != sides.right.get() {

@@ -24,6 +24,7 @@ pub enum FormRefusal {
     Wide { part: Part, i: u32, j: u32 },
     /// The form isn't negative at the start.
     StartNotNegative { value: i128 },
-    /// The number of places or of squares isn't the one that is wanted, or a matrix isn't symmetric.
+    /// The number of places or of squares isn't the one that is wanted, or a matrix isn't
+    /// symmetric.
     Shape { part: Part },
 }

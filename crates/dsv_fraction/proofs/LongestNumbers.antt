@@ -10,7 +10,7 @@ use Rattle.dsv_text.specs.Digits.{digits_len}
 use Rattle.dsv_text.proofs.DigitLemmas.{digits_append}
 use Rattle.dsv_fraction.specs.Number.{sign_len, point_len, suffix_len, whole_len, has_mark, exponent_len, number_len, is_number}
 use Rattle.dsv_fraction.specs.NumberText.{AreDigits, IsSign, IsBody, IsMark, IsExponent, IsSuffix, IsNumberText, IsLongestNumber}
-use Rattle.dsv_fraction.proofs.NumberFronts.{number_front, number_within}
+use Rattle.dsv_fraction.proofs.NumberFronts.{number_prefix, number_within}
 
 not_none : (n : ℕ) → 0 < n → (n == 0) ≡ false
 not_none n h = ne_eqb n 0 (λ e. omega (arith, h, e))
@@ -101,17 +101,17 @@ power_by text rest k len (suc d) h i e = omega (arith, i)
 power_long : (mark sign ds suffix rest : List ℕ) → IsMark mark → IsSign sign → AreDigits ds → 0 < length ds → IsSuffix suffix →
     length (mark ++ (sign ++ ds)) + length suffix ≤ tail_len ((mark ++ (sign ++ ds)) ++ (suffix ++ rest))
 power_long mark sign ds suffix rest m s h k x =
-    let behind = suffix ++ rest in
+    let others = suffix ++ rest in
     let power = mark ++ (sign ++ ds) in
-    let text = power ++ behind in
-    let d = digits_len behind in
+    let text = power ++ others in
+    let d = digits_len others in
     let l : length power ≡ 1 + length sign + length ds =
     omega (arith, (mark_is mark [] m).1, length-append mark (sign ++ ds), length-append sign ds) in
-    let split : text ≡ mark ++ (sign ++ (ds ++ behind)) = append_assoc mark (sign ++ ds) behind ∙ ap (λ t. mark ++ t) (append_assoc sign ds behind) in
+    let split : text ≡ mark ++ (sign ++ (ds ++ others)) = append_assoc mark (sign ++ ds) others ∙ ap (λ t. mark ++ t) (append_assoc sign ds others) in
     let long : 1 + length sign + (length ds + d) ≡ length power + d = omega (arith, l) in
-    let e : exponent_len text ≡ length power + d = ap exponent_len split ∙ power_is mark sign ds behind m s h k ∙ long in
+    let e : exponent_len text ≡ length power + d = ap exponent_len split ∙ power_is mark sign ds others m s h k ∙ long in
     let by : length power + length suffix ≤ (length power + d) + suffix_len (drop (length power + d) text) =
-    power_by text behind (length suffix) (length power) d (suffix_long suffix rest x) (suffix_short suffix x) (drop-append_seam power behind) in
+    power_by text others (length suffix) (length power) d (suffix_long suffix rest x) (suffix_short suffix x) (drop-append_seam power others) in
     subst (λ n. length power + length suffix ≤ n + suffix_len (drop n text)) (sym e) by
 
 tail_long : (exponent suffix rest : List ℕ) → IsExponent exponent → IsSuffix suffix → length exponent + length suffix ≤ tail_len (exponent ++ (suffix ++ rest))
@@ -209,14 +209,14 @@ body_long : (body exponent suffix rest : List ℕ) → IsBody body → IsExponen
     let text = body ++ (exponent ++ (suffix ++ rest)) in
     length body + (length exponent + length suffix) ≤ whole_len text + tail_len (drop (whole_len text) text)
 body_long body exponent suffix rest b e x =
-    let behind = exponent ++ (suffix ++ rest) in
-    let text = body ++ behind in
-    let spans = body_spans body behind b in
+    let others = exponent ++ (suffix ++ rest) in
+    let text = body ++ others in
+    let spans = body_spans body others b in
     elim (tail_ends exponent suffix rest e x) [
       | inl z ↦ omega (arith, z, spans.least)
       | inr ends ↦
-          let long : length exponent + length suffix ≤ tail_len behind = tail_long exponent suffix rest e x in
-          let d : drop (length body) text ≡ behind = drop-append_seam body behind in
+          let long : length exponent + length suffix ≤ tail_len others = tail_long exponent suffix rest e x in
+          let d : drop (length body) text ≡ others = drop-append_seam body others in
           let at : length body + (length exponent + length suffix) ≤ length body + tail_len (drop (length body) text) = rw d (omega (arith, long)) in
           subst (λ n. length body + (length exponent + length suffix) ≤ n + tail_len (drop n text)) (sym (spans.same ends)) at
     ]
@@ -250,12 +250,12 @@ parts_text s b e f rest =
 parts_long : (s b e f rest : List ℕ) → IsSign s → IsBody b → IsExponent e → IsSuffix f →
     length s + (length b + (length e + length f)) ≤ number_len (s ++ (b ++ (e ++ (f ++ rest))))
 parts_long s b e f rest is_s is_b is_e is_f =
-    let behind = b ++ (e ++ (f ++ rest)) in
-    let text = s ++ behind in
-    let i : sign_len text ≡ length s = sign_again s behind is_s (body_no_sign b (e ++ (f ++ rest)) is_b) in
-    let least : length b ≤ whole_len behind = (body_spans b (e ++ (f ++ rest)) is_b).least in
-    let some : 0 < whole_len behind = omega (arith, least, body_some b is_b) in
-    let n = number_is text behind (length s) i (drop-append_seam s behind) some in
+    let others = b ++ (e ++ (f ++ rest)) in
+    let text = s ++ others in
+    let i : sign_len text ≡ length s = sign_again s others is_s (body_no_sign b (e ++ (f ++ rest)) is_b) in
+    let least : length b ≤ whole_len others = (body_spans b (e ++ (f ++ rest)) is_b).least in
+    let some : 0 < whole_len others = omega (arith, least, body_some b is_b) in
+    let n = number_is text others (length s) i (drop-append_seam s others) some in
     let long = body_long b e f rest is_b is_e is_f in
     omega (arith, n, long)
 
@@ -280,14 +280,14 @@ longest text m h t =
     omega (arith, l, long)
 
 pub longest_law : (text : List ℕ) → IsLongestNumber text (number_len text)
-longest_law text = record { within = number_within text; is = number_front text; longest = longest text }
+longest_law text = record { within = number_within text; is = number_prefix text; longest = longest text }
 
 whole_number : (text : List ℕ) → is_number text ≡ true → IsNumberText text
 whole_number text h =
     let p = and_parts (not (length text == 0)) (number_len text == length text) h in
     let e : number_len text ≡ length text = eqb-true (number_len text) (length text) p.1 in
     let some : 0 < number_len text = grind (arith, p.0, e) in
-    subst IsNumberText (ap (λ n. take n text) e ∙ take-length text) (number_front text some)
+    subst IsNumberText (ap (λ n. take n text) e ∙ take-length text) (number_prefix text some)
 
 number_whole : (text : List ℕ) → IsNumberText text → is_number text ≡ true
 number_whole text t =

@@ -6,11 +6,12 @@ use Rattle.std.proofs.Math.IntN.{ℤ, pos}
 use Rattle.std.proofs.Math.Nat.{dvd-mul_left}
 use Rattle.std.proofs.lemmas.Int.{ints}
 use lib.Signed.{◌<ℤ◌, lt_z}
-use Rattle.dsv_fraction.specs.Gcd.{gcd}
-use Rattle.dsv_fraction.specs.Arithmetic.{signed, is_negative, lowest}
+use Rattle.dsv_algebra.specs.Gcd.{gcd}
+use Rattle.dsv_fraction.specs.Arithmetic.{with_sign, is_negative, in_lowest_terms}
 use Rattle.dsv_fraction.specs.Parts.{AreCoprime, Cancels, ArePartsOf}
 use Rattle.dsv_fraction.specs.Ratio.{Ratio, IsLowest}
-use Rattle.dsv_fraction.proofs.Gcds.{gcd-is, divided, lowest_only, cancel_left}
+use Rattle.dsv_algebra.proofs.Gcds.{gcd-is}
+use Rattle.dsv_fraction.proofs.Gcds.{divided, lowest_only, cancel_left}
 use Rattle.dsv_fraction.proofs.Signed.{size_signed, signed_abs, negative_is}
 
 crossed : (g a b n d x y : ℕ) → g * a ≡ n → g * b ≡ d → x * d ≡ n * y → g * (x * b) ≡ g * (a * y)
@@ -34,7 +35,7 @@ no_part (suc x) zero p e = omega arith
 no_part (suc x) (suc d) p e = omega arith
 
 pub is_lowest : (negative : Bool) (n d x y : ℕ) → 0 < d → IsGcd x y 1 → x * d ≡ n * y
-    → lowest (signed negative n) d ≡ record { num = signed negative x; den = y }
+    → in_lowest_terms (with_sign negative n) d ≡ record { num = with_sign negative x; den = y }
 is_lowest false n d x y p g e =
     let m = lowest_parts n d x y p g e in
     rw (m.0, m.1) refl
@@ -47,7 +48,7 @@ is_lowest true (suc n) d x y p g e =
     rw (m.0, m.1) refl
 
 -- the fields of a fraction of these sizes
-pub kept : (negative : Bool) (n d : ℕ) (z e : ℤ) → AreCoprime n d → n < 2 ^ 127 → d < 2 ^ 127 → z ≡ signed negative n → e ≡ pos d
+pub kept : (negative : Bool) (n d : ℕ) (z e : ℤ) → AreCoprime n d → n < 2 ^ 127 → d < 2 ^ 127 → z ≡ with_sign negative n → e ≡ pos d
     → (pos 0 <ℤ e) × IsLowest (record { num = z; den = unsigned_abs e })
 kept negative n d z e h q r x y =
     let p = h.positive in

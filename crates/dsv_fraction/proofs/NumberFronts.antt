@@ -6,7 +6,7 @@ use Rattle.std.proofs.Math.Seq.{take-add}
 use Rattle.std.specs.Prelude.{codes}
 use Rattle.dsv_text.specs.Bytes.{has_byte}
 use Rattle.dsv_text.specs.Digits.{digits_len}
-use Rattle.dsv_text.proofs.DigitLemmas.{digits_within, front_is_digits}
+use Rattle.dsv_text.proofs.DigitLemmas.{digits_within, leading_are_digits}
 use Rattle.dsv_fraction.specs.Number.{sign_len, suffix_len, whole_len, has_mark, exponent_len, number_len}
 use Rattle.dsv_fraction.specs.NumberText.{AreDigits, IsSign, IsBody, IsMark, IsExponent, IsSuffix, IsNumberText}
 
@@ -18,17 +18,17 @@ pub record Begins (P : List ℕ → Type 0) (n : ℕ) (text : List ℕ) : Type 0
 both_within : (n m : ℕ) (text : List ℕ) → n ≤ length text → m ≤ length (drop n text) → n + m ≤ length text
 both_within n m text h k = let e : length (drop n text) ≡ length text - n = length-drop n text in omega (arith, h, k, e)
 
-pub digits_front : (text : List ℕ) → Begins AreDigits (digits_len text) text
-digits_front text = record { is = front_is_digits text; within = digits_within text }
+pub digits_prefix : (text : List ℕ) → Begins AreDigits (digits_len text) text
+digits_prefix text = record { is = leading_are_digits text; within = digits_within text }
 
 sign_at : (b : ℕ) (bs : List ℕ) (p q : Bool) → (b == 43) ≡ p → (b == 45) ≡ q → Begins IsSign (cond (p || q) 1 0) (b ∷ bs)
 sign_at b bs true q h k = record { is = subst (λ x. IsSign (x ∷ [])) (sym (eqb-true b 43 h)) IsSign.plus; within = omega arith }
 sign_at b bs false true h k = record { is = subst (λ x. IsSign (x ∷ [])) (sym (eqb-true b 45 k)) IsSign.minus; within = omega arith }
 sign_at b bs false false h k = record { is = IsSign.none; within = omega arith }
 
-pub sign_front : (text : List ℕ) → Begins IsSign (sign_len text) text
-sign_front [] = record { is = IsSign.none; within = omega arith }
-sign_front (b ∷ bs) = sign_at b bs (b == 43) (b == 45) refl refl
+pub sign_prefix : (text : List ℕ) → Begins IsSign (sign_len text) text
+sign_prefix [] = record { is = IsSign.none; within = omega arith }
+sign_prefix (b ∷ bs) = sign_at b bs (b == 43) (b == 45) refl refl
 
 suffix_at : (b : ℕ) (bs : List ℕ) (p q r s : Bool) → (b == 102) ≡ p → (b == 70) ≡ q → (b == 108) ≡ r → (b == 76) ≡ s →
     Begins IsSuffix (cond (p || q || r || s) 1 0) (b ∷ bs)
@@ -38,9 +38,9 @@ suffix_at b bs false false true s h i j k = record { is = subst (λ x. IsSuffix 
 suffix_at b bs false false false true h i j k = record { is = subst (λ x. IsSuffix (x ∷ [])) (sym (eqb-true b 76 k)) IsSuffix.large_l; within = omega arith }
 suffix_at b bs false false false false h i j k = record { is = IsSuffix.none; within = omega arith }
 
-pub suffix_front : (text : List ℕ) → Begins IsSuffix (suffix_len text) text
-suffix_front [] = record { is = IsSuffix.none; within = omega arith }
-suffix_front (b ∷ bs) = suffix_at b bs (b == 102) (b == 70) (b == 108) (b == 76) refl refl refl refl
+pub suffix_prefix : (text : List ℕ) → Begins IsSuffix (suffix_len text) text
+suffix_prefix [] = record { is = IsSuffix.none; within = omega arith }
+suffix_prefix (b ∷ bs) = suffix_at b bs (b == 102) (b == 70) (b == 108) (b == 76) refl refl refl refl
 
 -- ---- the body
 
@@ -62,7 +62,7 @@ plain_body text =
     (λ e h.
     let z : n ≡ n + 0 + 0 = omega arith in
     let l : length (take n text) ≡ n = length-take-le n text (digits_within text) in
-    subst (λ k. Begins IsBody k text) z (record { is = IsBody.whole (take n text) (front_is_digits text) (omega (arith, l, h)); within = digits_within text }))
+    subst (λ k. Begins IsBody k text) z (record { is = IsBody.whole (take n text) (leading_are_digits text) (omega (arith, l, h)); within = digits_within text }))
 
 pointed_text : (text : List ℕ) (n m : ℕ) → take 1 (drop n text) ≡ codes "." → take (n + 1 + m) text ≡ take n text ++ (codes "." ++ take m (drop (n + 1) text))
 pointed_text text n m p =
@@ -83,7 +83,7 @@ pointed_body text b =
     let lm : length (take m rest) ≡ m = length-take-le m rest (digits_within rest) in
     let w : n + 1 ≤ length text = both_within n 1 text (digits_within text) p.1 in
     record {
-      is = subst IsBody (sym (pointed_text text n m p.0)) (IsBody.pointed (take n text) (take m rest) (front_is_digits text) (front_is_digits rest) (omega (arith, some, ln, lm)));
+      is = subst IsBody (sym (pointed_text text n m p.0)) (IsBody.pointed (take n text) (take m rest) (leading_are_digits text) (leading_are_digits rest) (omega (arith, some, ln, lm)));
       within = both_within (n + 1) m text w (digits_within rest);
     })
 
@@ -92,8 +92,8 @@ body_at : (text : List ℕ) (t : Bool) → has_byte 46 (drop (digits_len text) t
 body_at text true b h = pointed_body text b h
 body_at text false b h = plain_body text h
 
-pub body_front : (text : List ℕ) → 0 < whole_len text → Begins IsBody (whole_len text) text
-body_front text h = body_at text (has_byte 46 (drop (digits_len text) text)) refl h
+pub body_prefix : (text : List ℕ) → 0 < whole_len text → Begins IsBody (whole_len text) text
+body_prefix text h = body_at text (has_byte 46 (drop (digits_len text) text)) refl h
 
 -- ---- the exponent
 
@@ -107,15 +107,15 @@ power_text text s n =
     take-add (1 + s) n text ∙ ap (λ t. t ++ take n (drop (1 + s) text)) (take-add 1 s text)
     ∙ append_assoc (take 1 text) (take s (drop 1 text)) (take n (drop (1 + s) text))
 
-pub exponent_front : (text : List ℕ) → Begins IsExponent (exponent_len text) text
-exponent_front [] = record { is = IsExponent.none; within = omega arith }
-exponent_front (b ∷ bs) =
+pub exponent_prefix : (text : List ℕ) → Begins IsExponent (exponent_len text) text
+exponent_prefix [] = record { is = IsExponent.none; within = omega arith }
+exponent_prefix (b ∷ bs) =
     let text : List ℕ = b ∷ bs in
     let s = sign_len (drop 1 text) in
     let rest = drop (1 + s) text in
     let n = digits_len rest in
-    let sign = sign_front (drop 1 text) in
-    let digits = digits_front rest in
+    let sign = sign_prefix (drop 1 text) in
+    let digits = digits_prefix rest in
     cond_both (has_mark text && not (n == 0)) (1 + s + n) 0 (λ k. Begins IsExponent k text)
     (λ e.
     let p = and_parts (has_mark text) (not (n == 0)) e in
@@ -149,14 +149,14 @@ number_measured text =
     let n = whole_len (drop s text) in
     let e = exponent_len (drop (s + n) text) in
     let f = suffix_len (drop (s + n + e) text) in
-    let sign = sign_front text in
-    let exponent = exponent_front (drop (s + n) text) in
-    let suffix = suffix_front (drop (s + n + e) text) in
+    let sign = sign_prefix text in
+    let exponent = exponent_prefix (drop (s + n) text) in
+    let suffix = suffix_prefix (drop (s + n + e) text) in
     cond_both (n == 0) 0 (s + n + e + f) (Measured text)
     (λ z. (λ h. absurd (omega (arith, h)), omega arith))
     (λ z.
     let some : 0 < n = grind (arith, z) in
-    let body = body_front (drop s text) some in
+    let body = body_prefix (drop s text) some in
     let w : s + n ≤ length text = both_within s n text sign.within body.within in
     let x : s + n + e ≤ length text = both_within (s + n) e text w exponent.within in (
       λ h. record {
@@ -173,8 +173,8 @@ number_measured text =
       both_within (s + n + e) f text x suffix.within,
     ))
 
-pub number_front : (text : List ℕ) → 0 < number_len text → IsNumberText (take (number_len text) text)
-number_front text = (number_measured text).0
+pub number_prefix : (text : List ℕ) → 0 < number_len text → IsNumberText (take (number_len text) text)
+number_prefix text = (number_measured text).0
 
 pub number_within : (text : List ℕ) → number_len text ≤ length text
 number_within text = (number_measured text).1

@@ -12,5 +12,7 @@ pub positive_is : (d : ℤ) → pos 0 <ℤ d → pos (unsigned_abs d) ≡ d
 positive_is (pos n) h = refl
 positive_is (negsuc n) h = absurd h.lt
 
-pub same_inside : (a : Inside) → pos 0 <ℤ a.den → inside_of (record { num = a.num; den = unsigned_abs a.den }) ≡ a
-same_inside a h = ap (λ (d : ℤ). let r : Inside = record { num = a.num; den = d } in r) (positive_is a.den h)
+pub same_inside : (a : Inside) → pos 0 <ℤ a.den
+    → inside_of (record { num = a.num; den = unsigned_abs a.den }) ≡ a
+same_inside a h = ap (λ (d : ℤ). let r : Inside = record { num = a.num; den = d } in
+    r) (positive_is a.den h)

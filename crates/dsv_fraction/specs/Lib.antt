@@ -1,6 +1,5 @@
 pub mod Arithmetic
 pub mod Decimal
-pub mod Gcd
 pub mod Inside
 pub mod Number
 pub mod NumberText

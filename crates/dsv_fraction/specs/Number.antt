@@ -1,7 +1,8 @@
--- The text of a number: an optional sign; digits with an optional point and any digits behind it, or a point and
--- at least one digit; optionally `e` or `E` with an optional sign and digits; optionally one of `f F l L`.
--- Each part is taken as long as it goes.
-use Rattle.std.specs.Prelude.{ℕ, ◌+◌, Bool, ◌&&◌, ◌||◌, ◌==◌, not, if◌then◌else◌, List, length, drop}
+-- The text of a number: an optional sign; digits with an optional point and any digits after it, or
+-- a point and at least one digit; optionally `e` or `E` with an optional sign and digits;
+-- optionally one of `f F l L`. Each part is taken as long as it goes.
+use Rattle.std.specs.Prelude.{ℕ, ◌+◌, Bool, ◌&&◌, ◌||◌, ◌==◌, not}
+use Rattle.std.specs.Prelude.{if◌then◌else◌, List, length, drop}
 use Rattle.dsv_text.specs.Bytes.{has_byte}
 use Rattle.dsv_text.specs.Digits.{digits_len}
 
@@ -15,9 +16,11 @@ point_len text = if has_byte 46 text then 1 else 0
 
 -- of a suffix, one of `f F l L`
 abbrev pub suffix_len : List ℕ → ℕ
-suffix_len text = if has_byte 102 text || has_byte 70 text || has_byte 108 text || has_byte 76 text then 1 else 0
+suffix_len text = if has_byte 102 text || has_byte 70 text || has_byte 108 text || has_byte 76 text
+    then 1 else 0
 
--- of digits with an optional point and digits, or of a point and digits; 0 where no digit stands there
+-- of digits with an optional point and digits, or of a point and digits; 0 where no digit stands
+-- there
 abbrev pub whole_len : List ℕ → ℕ
 whole_len text =
     let n = digits_len text in
@@ -49,9 +52,9 @@ number_len text =
 abbrev pub is_number : List ℕ → Bool
 is_number text = not (length text == 0) && number_len text == length text
 
--- of the longest front that some number begins with
-abbrev pub front_len : List ℕ → ℕ
-front_len text =
+-- of the longest prefix that some number begins with
+abbrev pub prefix_len : List ℕ → ℕ
+prefix_len text =
     let s = sign_len text in
     let n = whole_len (drop s text) in
     let tail = drop (s + n) text in

@@ -1,6 +1,7 @@
--- The text of a number by its parts, apart from how they are found: a sign or none, a body, an exponent or none, a suffix
--- or none.
-use Rattle.std.specs.Prelude.{◌≡◌, ℕ, ◌+◌, ◌<◌, ◌≤◌, true, List, [], ◌++◌, length, take, codes}
+-- The text of a number by its parts, apart from how they are found: a sign or none, a body, an
+-- exponent or none, a suffix or none.
+use Rattle.std.specs.Prelude.{◌≡◌, ℕ, ◌+◌, ◌<◌, ◌≤◌, true, List}
+use Rattle.std.specs.Prelude.{[], ◌++◌, length, take, codes}
 use Rattle.std.specs.List.{list_all}
 use Rattle.dsv_text.specs.Bytes.{is_digit}
 
@@ -16,7 +17,8 @@ pub data IsSign : List ℕ → Type 0 where
 -- `12`, `1.5`, `1.` and `.5`, but no point alone
 pub data IsBody : List ℕ → Type 0 where
   whole : (digits : List ℕ) → AreDigits digits → 0 < length digits → IsBody digits
-  pointed : (before after : List ℕ) → AreDigits before → AreDigits after → 0 < length before + length after → IsBody (before ++ (codes "." ++ after))
+  pointed : (before after : List ℕ) → AreDigits before → AreDigits after
+      → 0 < length before + length after → IsBody (before ++ (codes "." ++ after))
 
 pub data IsMark : List ℕ → Type 0 where
   small : IsMark (codes "e")
@@ -24,7 +26,8 @@ pub data IsMark : List ℕ → Type 0 where
 
 pub data IsExponent : List ℕ → Type 0 where
   none : IsExponent []
-  power : (mark sign digits : List ℕ) → IsMark mark → IsSign sign → AreDigits digits → 0 < length digits → IsExponent (mark ++ (sign ++ digits))
+  power : (mark sign digits : List ℕ) → IsMark mark → IsSign sign → AreDigits digits
+      → 0 < length digits → IsExponent (mark ++ (sign ++ digits))
 
 pub data IsSuffix : List ℕ → Type 0 where
   none : IsSuffix []

@@ -3,7 +3,7 @@ use Rattle.std.specs.Prelude.{◌≡◌, ℕ, ◌*◌, ◌<◌, Bool, not}
 use Rattle.std.specs.Int.{IsGcd, ◌∣◌}
 use mathlib.Core.Bool.{beq}
 use Rattle.dsv_fraction.specs.Ratio.{Ratio, part_limit}
-use Rattle.dsv_fraction.specs.Arithmetic.{signed, is_negative}
+use Rattle.dsv_fraction.specs.Arithmetic.{with_sign, is_negative}
 
 -- n / d is a fraction in lowest terms
 pub record AreCoprime (n d : ℕ) : Type 0 where
@@ -20,7 +20,7 @@ pub record Cancels (n d x y : ℕ) : Type 0 where
 
 -- the sign and the sizes of a fraction in lowest terms
 pub record ArePartsOf (r : Ratio) (negative : Bool) (n d : ℕ) : Type 0 where
-  pub same_num : r.num ≡ signed negative n
+  pub same_num : r.num ≡ with_sign negative n
   pub same_den : r.den ≡ d
   pub sign : negative ≡ is_negative r.num
   pub lowest : AreCoprime n d

@@ -4,8 +4,8 @@ ghost use Rattle.std.specs.Ordering.{nat_cmp};
 
 use std::cmp::Ordering;
 
-/// How `a / b` stands to `c / d`, by continued division: where the whole quotients are equal, the rests are
-/// compared the other way up.
+/// How `a / b` stands to `c / d`, by continued division: where the whole quotients are equal, the
+/// rests are compared the other way up.
 pub(crate) fn compare_ratios(a: u128, b: u128, c: u128, d: u128) -> Ordering
     requires first { 0 < b }
     requires second { 0 < d }

@@ -1,28 +1,32 @@
 // Decimal numbers.
 #![tactic(auto, using(dsv_algebra::proofs::Casts::casts))]
 
-ghost use Rattle.std.specs.Prelude.{◌≡◌, ◌^◌, ◌<◌, ◌≤◌, ◌++◌, nat_lt, if◌then◌else◌, Some, None, IfSome, length, pos, ◌-ℤ◌};
+ghost use Rattle.std.specs.Prelude.{◌≡◌, ◌^◌, ◌<◌, ◌≤◌, ◌++◌, nat_lt};
+ghost use Rattle.std.specs.Prelude.{if◌then◌else◌, Some, None, IfSome, length, pos, ◌-ℤ◌};
 ghost use Rattle.std.specs.Int.RustNames.{unsigned_abs};
-ghost use Rattle.dsv_fraction.specs.Arithmetic.{times, bounded};
-ghost use Rattle.dsv_text.specs.Digits.{digits_value, front_digits};
+ghost use Rattle.dsv_fraction.specs.Arithmetic.{times, bounded_ratio};
+ghost use Rattle.dsv_text.specs.Digits.{digits_value, leading_digits};
 ghost use Rattle.dsv_fraction.specs.Ratio.{part_limit};
-ghost use Rattle.dsv_fraction.specs.Decimal.{most_digits, greatest_exponent, behind_point, exponent_of, ten_to, tenth_to, power_of_ten, decimal_value, IsWhole};
+ghost use Rattle.dsv_fraction.specs.Decimal.{most_digits, greatest_exponent};
+ghost use Rattle.dsv_fraction.specs.Decimal.{digits_after_point, exponent_of, ten_to};
+ghost use Rattle.dsv_fraction.specs.Decimal.{tenth_to, power_of_ten, decimal_value, IsWhole};
 
 use crate::fraction::{Frac, TooWide};
-use crate::number::{exponent_len, front_len, is_number, rest, sign_len, whole_len};
-use dsv_text::{digits_len, digits_value, front_digits, has_byte};
+use crate::number::{exponent_len, is_number, prefix_len, rest, sign_len, whole_len};
+use dsv_text::{digits_len, digits_value, has_byte, leading_digits, value_at_most};
 use thiserror::Error;
 
 /// The most digits that a decimal has before its exponent.
 const MOST_DIGITS: usize = 18;
 
 /// The greatest size of a decimal's exponent.
-const GREATEST_EXPONENT: u32 = 30;
+const GREATEST_EXPONENT: u64 = 30;
 
 /// Why a text isn't read as a decimal; the first that applies.
 #[derive(Clone, Copy, Debug, PartialEq, Eq, Error)]
 pub enum DecimalRefusal {
-    /// At this offset, in bytes, the text stops being the front of a number; the length where it ends too early.
+    /// At this offset, in bytes, the text stops being a prefix of a number; the length where it
+    /// ends too early.
     #[error("no decimal number at {at}")]
     NotDecimal { at: u64 },
     /// More than 18 digits stand before the exponent.
@@ -47,28 +51,13 @@ impl From<TooWide> for DecimalRefusal {
     }
 }
 
-/// The number that digits spell, where it is at most the greatest exponent.
-#[tactic(auto, using(dsv_text::proofs::DigitLemmas::value_grows))]
-fn small_value(digits: &[u8]) -> Option<u32>
-    ensures { let n = digits_value 0 digits.now in result ≡ (if nat_lt greatest_exponent n then None else Some n) }
-{
-    let mut value = 0;
-    for byte in digits {
-        value = value * 10 + u32::from(byte.saturating_sub(b'0'));
-        if value > GREATEST_EXPONENT {
-            return None;
-        }
-    }
-    Some(value)
-}
-
-/// The digits behind the point.
-fn behind_point(body: &[u8]) -> &[u8]
-    ensures { result.now ≡ behind_point body.now }
+/// The digits after the point.
+fn digits_after_point(body: &[u8]) -> &[u8]
+    ensures { result.now ≡ digits_after_point body.now }
 {
     let tail = rest(body, digits_len(body));
     if has_byte(b'.', tail) {
-        front_digits(rest(tail, 1))
+        leading_digits(rest(tail, 1))
     } else {
         rest(tail, tail.len())
     }
@@ -84,14 +73,17 @@ fn exponent_of(tail: &[u8]) -> Option<i32>
         return Some(0);
     }
     let signed = rest(tail, 1);
-    let size = small_value(front_digits(rest(signed, sign_len(signed))))? as i32;
+    let size = value_at_most(
+        GREATEST_EXPONENT,
+        leading_digits(rest(signed, sign_len(signed))),
+    )? as i32;
     Some(if has_byte(b'-', signed) { -size } else { size })
 }
 
 /// A whole number times `10^count`.
 fn times_ten_to(number: &Frac, count: u32) -> Result<Frac, TooWide>
     requires { IsWhole number.now }
-    ensures { result ≡ bounded (times number.now (ten_to count)) }
+    ensures { result ≡ bounded_ratio (times number.now (ten_to count)) }
 {
     if count == 0 {
         return Ok(*number);
@@ -102,7 +94,7 @@ fn times_ten_to(number: &Frac, count: u32) -> Result<Frac, TooWide>
 /// A whole number over `10^count`, in lowest terms.
 fn over_ten_to(number: &Frac, count: u32) -> Result<Frac, TooWide>
     requires { IsWhole number.now }
-    ensures { result ≡ bounded (times number.now (tenth_to count)) }
+    ensures { result ≡ bounded_ratio (times number.now (tenth_to count)) }
 {
     if count == 0 {
         return Ok(*number);
@@ -120,9 +112,9 @@ fn shift_of(exponent: i32, places: usize) -> i32
 }
 
 /// A whole number times `10^shift`, in lowest terms.
-fn scaled(number: &Frac, shift: i32) -> Result<Frac, TooWide>
+fn times_power_of_ten(number: &Frac, shift: i32) -> Result<Frac, TooWide>
     requires { IsWhole number.now }
-    ensures { result ≡ bounded (times number.now (power_of_ten shift)) }
+    ensures { result ≡ bounded_ratio (times number.now (power_of_ten shift)) }
 {
     let count = shift.unsigned_abs();
     if shift < 0 {
@@ -132,44 +124,50 @@ fn scaled(number: &Frac, shift: i32) -> Result<Frac, TooWide>
     }
 }
 
-/// The number that the digits before and behind the point spell.
+/// The number that the digits before and after the point spell.
 fn digits_of(body: &[u8]) -> u64
-    requires { length (front_digits body.now ++ behind_point body.now) ≤ most_digits }
-    ensures value { result ≡ digits_value 0 (front_digits body.now ++ behind_point body.now) }
+    requires { length (leading_digits body.now ++ digits_after_point body.now) ≤ most_digits }
+    ensures value { result ≡ digits_value 0
+        (leading_digits body.now ++ digits_after_point body.now) }
     ensures narrow { result < part_limit }
 {
-    digits_value(digits_value(0, front_digits(body)), behind_point(body))
+    digits_value(
+        digits_value(0, leading_digits(body)),
+        digits_after_point(body),
+    )
 }
 
 /// The value of a decimal whose digits and point stand at the front of `body`.
 fn value_of(negative: bool, body: &[u8], exponent: i32) -> Result<Frac, TooWide>
-    requires digits { length (front_digits body.now ++ behind_point body.now) ≤ most_digits }
+    requires digits { length (leading_digits body.now ++ digits_after_point body.now)
+        ≤ most_digits }
     requires exponent { unsigned_abs exponent ≤ greatest_exponent }
-    ensures { let digits = digits_value 0 (front_digits body.now ++ behind_point body.now) in
-        let places = length (behind_point body.now) in
-        result ≡ bounded (decimal_value negative digits (exponent -ℤ pos places)) }
+    ensures { let digits = digits_value 0
+        (leading_digits body.now ++ digits_after_point body.now) in
+        let places = length (digits_after_point body.now) in
+        result ≡ bounded_ratio (decimal_value negative digits (exponent -ℤ pos places)) }
 {
     let number = Frac::whole(negative, u128::from(digits_of(body)));
-    let places = behind_point(body).len();
-    scaled(&number, shift_of(exponent, places))
+    let places = digits_after_point(body).len();
+    times_power_of_ten(&number, shift_of(exponent, places))
 }
 
 impl Frac {
     ghost use Rattle.std.specs.Prelude.{◌≡◌};
     ghost use Rattle.dsv_fraction.specs.Decimal.{decimal_of};
 
-    /// The decimal number that the text spells. Digits alone with a leading 0 are a decimal too, and a suffix has
-    /// no effect on the value.
+    /// The decimal number that the text spells. Digits alone with a leading 0 are a decimal too,
+    /// and a suffix has no effect on the value.
     pub fn of_decimal(text: &[u8]) -> Result<Frac, DecimalRefusal>
         ensures { result ≡ decimal_of text.now }
     {
         if !is_number(text) {
             return Err(DecimalRefusal::NotDecimal {
-                at: front_len(text) as u64,
+                at: prefix_len(text) as u64,
             });
         }
         let body = rest(text, sign_len(text));
-        if front_digits(body).len() + behind_point(body).len() > MOST_DIGITS {
+        if leading_digits(body).len() + digits_after_point(body).len() > MOST_DIGITS {
             return Err(DecimalRefusal::Digits);
         }
         let Some(exponent) = exponent_of(rest(body, whole_len(body))) else {

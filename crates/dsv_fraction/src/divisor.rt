@@ -1,30 +1,16 @@
-// The greatest common divisor.
+// Sizes with their sign, and without a common factor.
 ghost use Rattle.std.specs.Prelude.{◌≡◌, ◌<◌, ◌≤◌, ◌^◌, ◌/◌};
-ghost use Rattle.std.specs.Int.{IsGcd};
 ghost use Rattle.dsv_fraction.specs.Ratio.{part_limit};
-ghost use Rattle.dsv_fraction.specs.Gcd.{gcd};
-ghost use Rattle.dsv_fraction.specs.Arithmetic.{signed};
+ghost use Rattle.dsv_algebra.specs.Gcd.{gcd};
+ghost use Rattle.dsv_fraction.specs.Arithmetic.{with_sign};
 ghost use Rattle.dsv_fraction.specs.Parts.{Cancels};
 
-/// The greatest number that divides both, and 0 for two zeros.
-fn common_divisor(a: u128, b: u128) -> u128
-    ensures value { result ≡ gcd a b }
-    ensures divides { IsGcd a b result }
-{
-    let mut x = a;
-    let mut y = b;
-    while y != 0 {
-        let rest = x % y;
-        x = y;
-        y = rest;
-    }
-    x
-}
+use dsv_algebra::common_divisor;
 
 /// The number of that size, negative or not.
 pub(crate) fn with_sign(negative: bool, size: u128) -> i128
     requires { size < part_limit }
-    ensures { result ≡ signed negative size }
+    ensures { result ≡ with_sign negative size }
 {
     if negative {
         -(size as i128)

@@ -15,7 +15,8 @@ pub(crate) const PART_LIMIT: u128 = 1 << 127;
 #[error("a part of the exact result has a size of 2^127 or more")]
 pub struct TooWide;
 
-/// An exact fraction in lowest terms. Its denominator is positive, and both parts are below 2^127 in size.
+/// An exact fraction in lowest terms. Its denominator is positive, and both parts are below 2^127
+/// in size.
 #[derive(Clone, Copy, Debug, PartialEq, Eq)]
 pub struct Frac {
     num: i128,
@@ -39,7 +40,8 @@ impl Model for Frac {
 
     ghost view = { λ f. record { num = f.num; den = unsigned_abs f.den } };
 
-    ghost invariant = { λ f. (pos 0 <ℤ f.den) × IsLowest (record { num = f.num; den = unsigned_abs f.den }) };
+    ghost invariant = { λ f. (pos 0 <ℤ f.den)
+        × IsLowest (record { num = f.num; den = unsigned_abs f.den }) };
 
     ghost inverse = { λ r. inside_of r };
 
@@ -79,20 +81,23 @@ struct Parts {
 }
 
 impl Frac {
-    ghost use Rattle.std.specs.Prelude.{◌≡◌, ◌≢◌, ◌<◌, ◌^◌, ◌*◌, ℤ, pos, ◌*ℤ◌, ◌+ℤ◌, ◌-ℤ◌, neg_ℤ, IfOk};
+    ghost use Rattle.std.specs.Prelude.{◌≡◌, ◌≢◌, ◌<◌, ◌^◌, ◌*◌, ℤ, pos};
+    ghost use Rattle.std.specs.Prelude.{◌*ℤ◌, ◌+ℤ◌, ◌-ℤ◌, neg_ℤ, IfOk};
     ghost use Rattle.std.specs.Int.RustNames.{unsigned_abs};
     ghost use Rattle.dsv_fraction.specs.Ratio.{IsLowest, part_limit};
-    ghost use Rattle.dsv_fraction.specs.Arithmetic.{signed, lowest, over, times, quotient, negated, compared};
-    ghost use Rattle.dsv_fraction.specs.Arithmetic.{bounded, sum_of, difference_of};
+    ghost use Rattle.dsv_fraction.specs.Arithmetic.{with_sign, in_lowest_terms, over, times};
+    ghost use Rattle.dsv_fraction.specs.Arithmetic.{quotient, opposite, order_between};
+    ghost use Rattle.dsv_fraction.specs.Arithmetic.{bounded_ratio, sum_of, difference_of};
     ghost use Rattle.dsv_fraction.specs.Parts.{ArePartsOf, AreCoprime, differ};
 
-    /// The fraction `num / den` in lowest terms, or TooWide where a part of it has a size of 2^127 or more.
+    /// The fraction `num / den` in lowest terms, or TooWide where a part of it has a size of 2^127
+    /// or more.
     pub fn new(num: i128, den: i128) -> Result<Frac, TooWide>
         requires { den ≢ pos 0 }
-        ensures exact { result ≡ bounded (over num den) }
+        ensures exact { result ≡ bounded_ratio (over num den) }
         ensures value { IfOk result (λ r. r.num *ℤ den ≡ num *ℤ pos r.den) }
     {
-        Frac::reduced(
+        Frac::bounded_fraction(
             (num < 0) != (den < 0),
             num.unsigned_abs(),
             den.unsigned_abs(),
@@ -124,19 +129,21 @@ impl Frac {
 
     /// The product.
     pub fn mul(&self, other: &Frac) -> Result<Frac, TooWide>
-        ensures exact { result ≡ bounded (times self.now other.now) }
+        ensures exact { result ≡ bounded_ratio (times self.now other.now) }
         ensures value { IfOk result (λ r.
-            r.num *ℤ pos (self.now.den * other.now.den) ≡ self.now.num *ℤ other.now.num *ℤ pos r.den) }
+            r.num *ℤ pos (self.now.den * other.now.den)
+            ≡ self.now.num *ℤ other.now.num *ℤ pos r.den) }
     {
-        Frac::multiplied(self.parts(), other.parts())
+        Frac::product_of(self.parts(), other.parts())
     }
 
     /// The quotient.
     pub fn div(&self, other: &Frac) -> Result<Frac, TooWide>
         requires { other.now.num ≢ pos 0 }
-        ensures exact { result ≡ bounded (quotient self.now other.now) }
+        ensures exact { result ≡ bounded_ratio (quotient self.now other.now) }
         ensures value { IfOk result (λ r.
-            r.num *ℤ (pos self.now.den *ℤ other.now.num) ≡ self.now.num *ℤ pos other.now.den *ℤ pos r.den) }
+            r.num *ℤ (pos self.now.den *ℤ other.now.num)
+            ≡ self.now.num *ℤ pos other.now.den *ℤ pos r.den) }
     {
         let divisor = other.parts();
         let inverse = Parts {
@@ -144,13 +151,14 @@ impl Frac {
             num: divisor.den,
             den: divisor.num,
         };
-        Frac::multiplied(self.parts(), inverse)
+        Frac::product_of(self.parts(), inverse)
     }
 
     /// The sum, by way of the least common denominator.
     pub fn add(&self, other: &Frac) -> Result<Frac, TooWide>
         ensures exact { result ≡ sum_of self.now other.now }
-        ensures value { let total = self.now.num *ℤ pos other.now.den +ℤ other.now.num *ℤ pos self.now.den in
+        ensures value { let total =
+            self.now.num *ℤ pos other.now.den +ℤ other.now.num *ℤ pos self.now.den in
             IfOk result (λ r. r.num *ℤ pos (self.now.den * other.now.den) ≡ total *ℤ pos r.den) }
     {
         let scale = cancel(self.den_size(), other.den_size());
@@ -163,7 +171,8 @@ impl Frac {
     /// The difference.
     pub fn sub(&self, other: &Frac) -> Result<Frac, TooWide>
         ensures exact { result ≡ difference_of self.now other.now }
-        ensures value { let total = self.now.num *ℤ pos other.now.den -ℤ other.now.num *ℤ pos self.now.den in
+        ensures value { let total =
+            self.now.num *ℤ pos other.now.den -ℤ other.now.num *ℤ pos self.now.den in
             IfOk result (λ r. r.num *ℤ pos (self.now.den * other.now.den) ≡ total *ℤ pos r.den) }
     {
         self.add(&other.neg())
@@ -171,7 +180,7 @@ impl Frac {
 
     /// How the fractions stand to one another.
     pub fn cmp(&self, other: &Frac) -> Ordering
-        ensures { result ≡ compared self.now other.now }
+        ensures { result ≡ order_between self.now other.now }
     {
         let own = self.parts();
         let its = other.parts();
@@ -185,7 +194,7 @@ impl Frac {
 
     /// The fraction of the other sign.
     fn neg(&self) -> Frac
-        ensures { result ≡ negated self.now }
+        ensures { result ≡ opposite self.now }
     {
         let parts = self.parts();
         Frac::of_sizes(!parts.negative, parts.num, parts.den)
@@ -194,7 +203,7 @@ impl Frac {
     /// The whole number of that size, negative or not.
     pub(crate) fn whole(negative: bool, size: u128) -> Frac
         requires { size < part_limit }
-        ensures { result ≡ record { num = signed negative size; den = 1 } }
+        ensures { result ≡ record { num = with_sign negative size; den = 1 } }
     {
         Frac::of_sizes(negative, size, 1)
     }
@@ -224,13 +233,13 @@ impl Frac {
         }
     }
 
-    /// The product of two fractions. What they have in common crosswise goes before the multiplication, so a
-    /// product that doesn't fit here doesn't fit in lowest terms.
-    fn multiplied(own: Parts, its: Parts) -> Result<Frac, TooWide>
+    /// The product of two fractions. What they have in common crosswise goes before the
+    /// multiplication, so a product that doesn't fit here doesn't fit in lowest terms.
+    fn product_of(own: Parts, its: Parts) -> Result<Frac, TooWide>
         requires own { AreCoprime own.num own.den }
         requires its { AreCoprime its.num its.den }
-        ensures { let num = signed (differ own.negative its.negative) (own.num * its.num) in
-            result ≡ bounded (lowest num (own.den * its.den)) }
+        ensures { let num = with_sign (differ own.negative its.negative) (own.num * its.num) in
+            result ≡ bounded_ratio (in_lowest_terms num (own.den * its.den)) }
     {
         let first = cancel(own.num, its.den);
         let second = cancel(its.num, own.den);
@@ -244,9 +253,9 @@ impl Frac {
     }
 
     /// The fraction of these sizes in lowest terms, negative or not.
-    fn reduced(negative: bool, num: u128, den: u128) -> Result<Frac, TooWide>
+    fn bounded_fraction(negative: bool, num: u128, den: u128) -> Result<Frac, TooWide>
         requires { 0 < den }
-        ensures { result ≡ bounded (lowest (signed negative num) den) }
+        ensures { result ≡ bounded_ratio (in_lowest_terms (with_sign negative num) den) }
     {
         let parts = cancel(num, den);
         Frac::exact(negative, parts.num, parts.den)
@@ -257,7 +266,7 @@ impl Frac {
         requires positive { 0 < den }
         requires narrow_num { unsigned_abs num < part_limit }
         requires narrow_den { den < part_limit }
-        ensures { result ≡ lowest num den }
+        ensures { result ≡ in_lowest_terms num den }
     {
         let parts = cancel(num.unsigned_abs(), den);
         Frac::of_sizes(num < 0, parts.num, parts.den)
@@ -266,7 +275,7 @@ impl Frac {
     /// The fraction of these sizes, which have no common factor, negative or not.
     fn exact(negative: bool, num: u128, den: u128) -> Result<Frac, TooWide>
         requires { AreCoprime num den }
-        ensures { result ≡ bounded (record { num = signed negative num; den = den }) }
+        ensures { result ≡ bounded_ratio (record { num = with_sign negative num; den = den }) }
     {
         if num >= PART_LIMIT || den >= PART_LIMIT {
             return Err(TooWide);
@@ -279,7 +288,7 @@ impl Frac {
         requires coprime { AreCoprime num den }
         requires narrow_num { num < part_limit }
         requires narrow_den { den < part_limit }
-        ensures { result ≡ record { num = signed negative num; den = den } }
+        ensures { result ≡ record { num = with_sign negative num; den = den } }
     {
         Frac {
             num: with_sign(negative, num),

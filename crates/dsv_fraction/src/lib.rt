@@ -1,4 +1,5 @@
-//! Exact fractions in lowest terms, whose parts have 128 bits, and the decimal numbers that spell them.
+//! Exact fractions in lowest terms, whose parts have 128 bits, and the decimal numbers that spell
+//! them.
 #![tactic(auto)]
 
 mod compare;

@@ -1,9 +1,10 @@
-//! The lengths of the parts of a number's text, each in bytes from the front of a text. Each part is taken as long as
-//! it goes, and its length is 0 where the text doesn't begin with it.
+//! The lengths of the parts of a number's text, each in bytes from the front of a text. Each part
+//! is taken as long as it goes, and its length is 0 where the text doesn't begin with it.
 ghost use Rattle.std.specs.Prelude.{◌≡◌, ◌≤◌, length, drop};
 ghost use Rattle.dsv_text.specs.Bytes.{has_byte, is_digit};
-ghost use Rattle.dsv_text.specs.Digits.{digits_len, front_digits};
-ghost use Rattle.dsv_fraction.specs.Number.{sign_len, point_len, suffix_len, whole_len, has_mark, exponent_len, number_len, is_number, front_len};
+ghost use Rattle.dsv_text.specs.Digits.{digits_len, leading_digits};
+ghost use Rattle.dsv_fraction.specs.Number.{sign_len, point_len, suffix_len, whole_len, has_mark};
+ghost use Rattle.dsv_fraction.specs.Number.{exponent_len, number_len, is_number, prefix_len};
 
 use dsv_text::{digits_len, has_byte};
 
@@ -43,22 +44,23 @@ pub fn suffix_len(text: &[u8]) -> usize
     }
 }
 
-/// The length of digits with an optional point and digits behind it, or of a point and at least one digit.
+/// The length of digits with an optional point and digits after it, or of a point and at least one
+/// digit.
 pub fn whole_len(text: &[u8]) -> usize
     ensures value { result ≡ whole_len text.now }
     ensures within { result ≤ length text.now }
 {
     let before = digits_len(text);
     let point = point_len(&text[before..]);
-    let behind = if point == 0 {
+    let after = if point == 0 {
         0
     } else {
         digits_len(&text[before + point..])
     };
-    if before + behind == 0 {
+    if before + after == 0 {
         0
     } else {
-        before + point + behind
+        before + point + after
     }
 }
 
@@ -104,9 +106,9 @@ pub fn is_number(text: &[u8]) -> bool
     !text.is_empty() && number_len(text) == text.len()
 }
 
-/// The length of the longest front of the text that some number begins with.
-pub fn front_len(text: &[u8]) -> usize
-    ensures value { result ≡ front_len text.now }
+/// The length of the longest prefix of the text that some number begins with.
+pub fn prefix_len(text: &[u8]) -> usize
+    ensures value { result ≡ prefix_len text.now }
     ensures within { result ≤ length text.now }
 {
     let sign = sign_len(text);
@@ -122,7 +124,7 @@ pub fn front_len(text: &[u8]) -> usize
     sign + whole + exponent + suffix_len(&tail[exponent..])
 }
 
-/// The text behind its first `count` bytes.
+/// The text after its first `count` bytes.
 pub fn rest(text: &[u8], count: usize) -> &[u8]
     requires { count ≤ length text.now }
     ensures { result.now ≡ drop count text.now }

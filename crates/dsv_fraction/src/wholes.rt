@@ -9,7 +9,7 @@ ghost use Rattle.dsv_fraction.specs.Arithmetic.{bounded_whole, bounded_size};
 use crate::fraction::{PART_LIMIT, TooWide};
 
 /// The number itself, unless it is the one of size 2^127.
-fn tested(number: i128) -> Result<i128, TooWide>
+fn number_in_bounds(number: i128) -> Result<i128, TooWide>
     ensures value { result ≡ bounded_whole number }
     ensures narrow { IfOk result (λ z. unsigned_abs z < part_limit) }
 {
@@ -25,7 +25,7 @@ pub(crate) fn product(a: i128, b: i128) -> Result<i128, TooWide>
     ensures narrow { IfOk result (λ z. unsigned_abs z < part_limit) }
 {
     match a.checked_mul(b) {
-        Some(number) => tested(number),
+        Some(number) => number_in_bounds(number),
         None => Err(TooWide),
     }
 }
@@ -35,7 +35,7 @@ pub(crate) fn sum(a: i128, b: i128) -> Result<i128, TooWide>
     ensures narrow { IfOk result (λ z. unsigned_abs z < part_limit) }
 {
     match a.checked_add(b) {
-        Some(number) => tested(number),
+        Some(number) => number_in_bounds(number),
         None => Err(TooWide),
     }
 }

@@ -116,7 +116,7 @@ is_added literals more slots s live start end within =
     ∙ ap (λ es. es ++ entry_of (literals ++ more) s ∷ []) (live-append literals more slots within)
     ∙ ap (λ c. live_of literals slots ++ record { id = s.id; clause = c } ∷ []) (rw (start, end) (range-last literals more))
 
--- one more live clause behind all others
+-- one more live clause after all others
 pub live-added : (literals more new : List Literal) (slots newer : List Slot) (s : Slot) → new ≡ literals ++ more → newer ≡ slots ++ s ∷ []
     → s.live ≡ true → s.start ≡ length literals → s.end ≡ length new → All (IsWithin (length literals)) slots
     → live_of new newer ≡ live_of literals slots ++ record { id = s.id; clause = more } ∷ []

@@ -6,7 +6,12 @@ use Rattle.dsv_hints.specs.declared.checker.Checker.TheInside.{Inside}
 
 abbrev pub view_of : Inside → CheckerView
 view_of c = record {
-  carried = record { vars = c.store.vars; last = c.store.last; live = c.store.live; ended = c.ended };
+  carried = record {
+    vars = c.store.vars;
+    last = c.store.last;
+    live = c.store.live;
+    ended = c.ended;
+  };
   spare_steps = c.store.spare_clauses;
   spare_literals = c.store.spare_literals;
 }

@@ -1,5 +1,7 @@
 -- Derivations of clauses by hints, as in LRAT without its negative hints.
-use Rattle.std.specs.Prelude.{ℕ, ◌+◌, Bool, true, false, not, ◌&&◌, List, [], ◌∷◌, ◌++◌, cond, nat_lt, Option, Some, None, Result, Ok, Err, is_some, ◌==◌, length}
+use Rattle.std.specs.Prelude.{ℕ, ◌+◌, Bool, true, false, not, ◌&&◌, List}
+use Rattle.std.specs.Prelude.{[], ◌∷◌, ◌++◌, cond, nat_lt, Option, Some}
+use Rattle.std.specs.Prelude.{None, Result, Ok, Err, is_some, ◌==◌, length}
 use Rattle.std.specs.List.{filter}
 use Rattle.dsv_cnf.specs.Literal.{Literal, negation}
 use Rattle.dsv_cnf.specs.FormulaView.{FormulaView}
@@ -7,7 +9,9 @@ use Rattle.dsv_hints.specs.LiteralSet.{none, with, with_all, outside, only, is_t
 use Rattle.dsv_hints.specs.declared.step.Step.{Step}
 use Rattle.dsv_hints.specs.declared.step.Step.TheVariants.{Add, Delete}
 use Rattle.dsv_hints.specs.declared.step.StepRefusal.{StepRefusal}
-use Rattle.dsv_hints.specs.declared.step.StepRefusal.TheVariants.{UnknownId, NotUnit, NoConflict, NotEmpty, IdOrder, Tautology, Literal as OtherVariable}
+use Rattle.dsv_hints.specs.declared.step.StepRefusal.TheVariants.{UnknownId, NotUnit, NoConflict}
+use Rattle.dsv_hints.specs.declared.step.StepRefusal.TheVariants.{NotEmpty, IdOrder, Tautology}
+use Rattle.dsv_hints.specs.declared.step.StepRefusal.TheVariants.{Literal as OtherVariable}
 use Rattle.dsv_hints.specs.declared.hints.Move.{Move}
 use Rattle.dsv_hints.specs.declared.hints.Move.TheVariants.{Ends, Makes, Stuck}
 use Rattle.dsv_hints.specs.declared.step.Verdict.{Verdict}
@@ -20,8 +24,8 @@ pub record Entry : Type 0 where
   pub id : ℕ
   pub clause : List Literal
 
--- how many variables there are, the greatest id of a clause so far, the live clauses in the order of their ids, and
--- whether the empty clause was added
+-- how many variables there are, the greatest id of a clause so far, the live clauses in the order
+-- of their ids, and whether the empty clause was added
 pub record Carried : Type 0 where
   pub vars : ℕ
   pub last : Option ℕ
@@ -55,36 +59,42 @@ is_after (Some last) id = nat_lt last id
 
 -- ---- hints
 
--- What a hinted clause does, given its literals that are not false: with none it ends the step. With one, open as its
--- negation is not false, it makes that one true.
+-- What a hinted clause does, given its literals that are not false: with none it ends the step.
+-- With one, open as its negation is not false, it makes that one true.
 abbrev pub move_of : (Literal → Bool) → List Literal → Move
 move_of set [] = Ends
 move_of set (l ∷ ls) = cond (only l ls && not (set (negation l))) (Makes l) Stuck
 
--- the answer after such a clause, given the hints behind it and the answer with one more literal true
-abbrev pub after_move : Move → List ℕ → (Literal → Result (Unit {0}) StepRefusal) → Result (Unit {0}) StepRefusal
+-- the answer after such a clause, given the hints after it and the answer with one more literal
+-- true
+abbrev pub after_move : Move → List ℕ → (Literal → Result (Unit {0}) StepRefusal)
+    → Result (Unit {0}) StepRefusal
 after_move Ends [] next = Ok tt
 after_move Ends (h ∷ hs) next = Err NotUnit
 after_move (Makes l) hs next = next l
 after_move Stuck hs next = Err NotUnit
 
-abbrev pub after_clause : (Literal → Bool) → Option (List Literal) → List ℕ → (Literal → Result (Unit {0}) StepRefusal) → Result (Unit {0}) StepRefusal
+abbrev pub after_clause : (Literal → Bool) → Option (List Literal) → List ℕ
+    → (Literal → Result (Unit {0}) StepRefusal) → Result (Unit {0}) StepRefusal
 after_clause set None hs next = Err UnknownId
 after_clause set (Some c) hs next = after_move (move_of set (outside set c)) hs next
 
 -- the answer to hints, where the literals of the set are false
 abbrev pub hints_answer : List Entry → List ℕ → (Literal → Bool) → Result (Unit {0}) StepRefusal
 hints_answer live [] set = Err NoConflict
-hints_answer live (h ∷ hs) set = after_clause set (live_clause live h) hs (λ l. hints_answer live hs (with (negation l) set))
+hints_answer live (h ∷ hs) set =
+    after_clause set (live_clause live h) hs (λ l. hints_answer live hs (with (negation l) set))
 
 -- ---- steps
 
 -- refused for this reason where the test says so
-abbrev pub refused_if : Bool → StepRefusal → Result (Unit {0}) StepRefusal → Result (Unit {0}) StepRefusal
+abbrev pub refused_if : Bool → StepRefusal → Result (Unit {0}) StepRefusal
+    → Result (Unit {0}) StepRefusal
 refused_if b why rest = cond b (Err why) rest
 
--- the answer to an added clause behind the test for the end
-abbrev pub clause_answer : ℕ → Option ℕ → List Entry → ℕ → List Literal → List ℕ → Result (Unit {0}) StepRefusal
+-- the answer to an added clause after the test for the end
+abbrev pub clause_answer : ℕ → Option ℕ → List Entry → ℕ → List Literal → List ℕ
+    → Result (Unit {0}) StepRefusal
 clause_answer vars last live id c hints =
     refused_if (not (is_after last id)) IdOrder
     (refused_if (not (is_over vars c)) OtherVariable
@@ -93,16 +103,24 @@ clause_answer vars last live id c hints =
 
 -- the answer to a step: its first refusal, or none
 abbrev pub step_answer : Carried → Step → Result (Unit {0}) StepRefusal
-step_answer s (Add id c hints) = refused_if s.ended NotEmpty (clause_answer s.vars s.last s.live id c hints)
-step_answer s (Delete id ids) = refused_if s.ended NotEmpty (refused_if (not (all_live s.live ids)) UnknownId (Ok tt))
+step_answer s (Add id c hints) =
+    refused_if s.ended NotEmpty (clause_answer s.vars s.last s.live id c hints)
+step_answer s (Delete id ids) =
+    refused_if s.ended NotEmpty (refused_if (not (all_live s.live ids)) UnknownId (Ok tt))
 
 abbrev pub is_empty : List Literal → Bool
 is_empty [] = true
 is_empty (l ∷ ls) = false
 
--- what is carried on behind a step that was taken
+-- what is carried on after a step that was taken
 abbrev pub after : Carried → Step → Carried
-after s (Add id c hints) = record { vars = s.vars; last = Some id; live = s.live ++ record { id = id; clause = c } ∷ []; ended = is_empty c }
+after s (Add id c hints) =
+    record {
+      vars = s.vars;
+      last = Some id;
+      live = s.live ++ record { id = id; clause = c } ∷ [];
+      ended = is_empty c;
+    }
 after s (Delete id ids) = record s { live = without_all s.live ids }
 
 -- how many literals a step adds
@@ -123,7 +141,12 @@ last_of n = cond (n == 0) None (Some n)
 
 -- what a log begins with: the formula's clauses, numbered from 1
 abbrev pub start_of : FormulaView → Carried
-start_of f = record { vars = f.vars; last = last_of (length f.clauses); live = entries_from f.clauses 1; ended = false }
+start_of f = record {
+  vars = f.vars;
+  last = last_of (length f.clauses);
+  live = entries_from f.clauses 1;
+  ended = false;
+}
 
 abbrev pub verdict_by : Result (Unit {0}) StepRefusal → ℕ → Verdict → Verdict
 verdict_by (Ok taken) i rest = rest
@@ -132,7 +155,8 @@ verdict_by (Err why) i rest = Refused i why
 -- the verdict on the steps that are left, the first of them with the number i
 abbrev pub verdict_from : List Step → Carried → ℕ → Verdict
 verdict_from [] s i = cond s.ended Accepted (Refused i NotEmpty)
-verdict_from (step ∷ steps) s i = verdict_by (step_answer s step) i (verdict_from steps (after s step) (i + 1))
+verdict_from (step ∷ steps) s i =
+    verdict_by (step_answer s step) i (verdict_from steps (after s step) (i + 1))
 
 -- the verdict on a log
 abbrev pub verdict_of : FormulaView → List Step → Verdict

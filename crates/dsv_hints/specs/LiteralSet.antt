@@ -1,5 +1,6 @@
 -- Sets of literals.
-use Rattle.std.specs.Prelude.{ℕ, Bool, true, false, ◌||◌, ◌&&◌, List, [], ◌∷◌, cond, nat_lt, ◌*◌, replicate, slice_index_or}
+use Rattle.std.specs.Prelude.{ℕ, Bool, true, false, ◌||◌, ◌&&◌, List, [], ◌∷◌}
+use Rattle.std.specs.Prelude.{cond, nat_lt, ◌*◌, replicate, slice_index_or}
 use Rattle.dsv_cnf.specs.Literal.{Literal, code_of, literal_eq, negation}
 
 -- A set of literals is a test. The set that has none:
@@ -39,7 +40,8 @@ abbrev pub is_over : ℕ → List Literal → Bool
 is_over vars [] = true
 is_over vars (l ∷ ls) = nat_lt l.var vars && is_over vars ls
 
--- What contracts see of a set in memory: over how many variables it is, and a mark for each literal's number.
+-- What contracts see of a set in memory: over how many variables it is, and a mark for each
+-- literal's number.
 pub record SetView : Type 0 where
   pub vars : ℕ
   pub marks : List Bool

@@ -1,5 +1,7 @@
--- How the clauses of a derivation are kept: slots in the order of the ids, and one list of literals.
-use Rattle.std.specs.Prelude.{◌≡◌, ◌≢◌, ℕ, ◌<◌, ◌≤◌, List, [], ◌∷◌, Option, Some, None, length, cond, slice_index_or, slice_range}
+-- How the clauses of a derivation are kept: slots in the order of the ids, and one list of
+-- literals.
+use Rattle.std.specs.Prelude.{◌≡◌, ◌≢◌, ℕ, ◌<◌, ◌≤◌, List, [], ◌∷◌, Option}
+use Rattle.std.specs.Prelude.{Some, None, length, cond, slice_index_or, slice_range}
 use Rattle.std.specs.List.{All, AllPairs}
 use Rattle.dsv_cnf.specs.Literal.{Literal}
 use Rattle.dsv_hints.specs.Derivation.{Entry}
@@ -11,7 +13,8 @@ entry_of literals s = record { id = s.id; clause = slice_range literals s.start 
 -- the live clauses
 abbrev pub live_of : List Literal → List Slot → List Entry
 live_of literals [] = []
-live_of literals (s ∷ ss) = cond s.live (entry_of literals s ∷ live_of literals ss) (live_of literals ss)
+live_of literals (s ∷ ss) =
+    cond s.live (entry_of literals s ∷ live_of literals ss) (live_of literals ss)
 
 -- the ids rise
 abbrev pub IsRising : List Slot → Type 0

@@ -1,10 +1,13 @@
 // The checker: logs, and one step after another.
-ghost use Rattle.std.specs.Prelude.{◌≡◌, ◌+◌, ◌-◌, ◌^◌, ◌<◌, ◌≤◌, List, length, max, IfOk, OnOk, OnErr};
+ghost use Rattle.std.specs.Prelude.{◌≡◌, ◌+◌, ◌-◌, ◌^◌, ◌<◌, ◌≤◌, List};
+ghost use Rattle.std.specs.Prelude.{length, max, IfOk, OnOk, OnErr};
 ghost use Rattle.dsv_cnf.specs.Formula.{IsUnsatisfiable};
 ghost use Rattle.dsv_cnf.specs.Literal.{Literal};
-ghost use Rattle.dsv_hints.specs.Derivation.{added_literals, after, all_live, start_of, step_answer, verdict_of, without_all};
+ghost use Rattle.dsv_hints.specs.Derivation.{added_literals, after, all_live, start_of};
+ghost use Rattle.dsv_hints.specs.Derivation.{step_answer, verdict_of, without_all};
 ghost use Rattle.dsv_hints.specs.Follows.{Follows};
-ghost use Rattle.dsv_hints.specs.Taken.{after_add, after_delete, clause_answer_of, delete_answer_of, start_store};
+ghost use Rattle.dsv_hints.specs.Taken.{after_add, after_delete, clause_answer_of};
+ghost use Rattle.dsv_hints.specs.Taken.{delete_answer_of, start_store};
 
 use crate::hints::test_clause;
 use crate::literal_set::LiteralSet;
@@ -38,7 +41,8 @@ impl Model for Checker {
 impl Checker {
     /// The clauses of the formula, with the ids from 1 on, and no room for steps.
     pub fn new(alloc: Global, formula: &Formula) -> Result<Self, NoMemory>
-        ensures start { IfOk result (λ c. c ≡ record { carried = start_of formula.now; spare_steps = 0; spare_literals = 0 }) }
+        ensures start { IfOk result (λ c. c
+            ≡ record { carried = start_of formula.now; spare_steps = 0; spare_literals = 0 }) }
         ensures sound { IfOk result (λ c. Follows formula.now.clauses c.carried) }
     {
         Ok(Checker {
@@ -48,7 +52,8 @@ impl Checker {
         })
     }
 
-    /// Makes room for so many steps, and so many literals that they add; after `NoMemory` the checker is unchanged.
+    /// Makes room for so many steps, and so many literals that they add; after `NoMemory` the
+    /// checker is unchanged.
     pub fn reserve(&mut self, steps: u32, lits: u64) -> Result<(), NoMemory>
         ensures ok { OnOk result (self.new ≡ record self.old {
           spare_steps = max self.old.spare_steps steps;
@@ -67,9 +72,11 @@ impl Checker {
         ensures taken { OnOk result (self.new.carried ≡ after self.old.carried step.now) }
         ensures refused { OnErr result (self.new ≡ self.old) }
         ensures steps { self.old.spare_steps ≤ self.new.spare_steps + 1 }
-        ensures literals { self.old.spare_literals ≤ self.new.spare_literals + added_literals step.now }
+        ensures literals { self.old.spare_literals
+            ≤ self.new.spare_literals + added_literals step.now }
         ensures sound { OnOk result (
-            (cs : List (List Literal)) → Follows cs self.old.carried → Follows cs self.new.carried) }
+            (cs : List (List Literal)) → Follows cs self.old.carried
+            → Follows cs self.new.carried) }
     {
         if self.ended {
             return Err(StepRefusal::NotEmpty);

@@ -2,7 +2,8 @@
 ghost use Rattle.std.specs.Prelude.{◌≡◌, ◌<◌, OnOk};
 ghost use Rattle.dsv_cnf.specs.Formula.{IsOver};
 ghost use Rattle.dsv_hints.specs.Derivation.{clause_answer, hints_answer, move_of};
-ghost use Rattle.dsv_hints.specs.LiteralSet.{has_negation, is_over, none, outside, set_of, with_all};
+ghost use Rattle.dsv_hints.specs.LiteralSet.{has_negation, is_over, none};
+ghost use Rattle.dsv_hints.specs.LiteralSet.{outside, set_of, with_all};
 ghost use Rattle.dsv_hints.specs.MoveOver.{IsMoveOver};
 
 use crate::literal_set::LiteralSet;
@@ -86,7 +87,8 @@ pub(crate) fn test_clause(
 ) -> Result<(), StepRefusal>
     requires vars { set.old.vars ≡ store.now.vars }
     requires empty { set_of set.old ≡ none }
-    ensures answer { result ≡ clause_answer store.now.vars store.now.last store.now.live id clause.now hints.now }
+    ensures answer { result ≡ clause_answer store.now.vars store.now.last store.now.live id
+        clause.now hints.now }
     ensures over { OnOk result (IsOver store.now.vars clause.now) }
     ensures vars { set.new.vars ≡ set.old.vars }
 {

@@ -1,5 +1,5 @@
-//! A checker of refutations that are written as steps with hints, as LRAT proofs are: each step adds a clause that
-//! follows from the named clauses by unit propagation, or deletes clauses.
+//! A checker of refutations that are written as steps with hints, as LRAT proofs are: each step
+//! adds a clause that follows from the named clauses by unit propagation, or deletes clauses.
 #![tactic(auto)]
 
 mod checker;

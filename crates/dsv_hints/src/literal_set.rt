@@ -7,7 +7,8 @@ use dsv_cnf::Lit;
 use std::alloc::Global;
 use std::marker::Model;
 
-/// A set of literals: those whose mark is the number of the current round. A new round empties the set.
+/// A set of literals: those whose mark is the number of the current round. A new round empties the
+/// set.
 #[derive(Drop)]
 pub(crate) struct LiteralSet {
     vars: u32,

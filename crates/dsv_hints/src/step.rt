@@ -88,8 +88,8 @@ impl From<Vec<u64>> for HintList {
 /// A step of a log. Formula clauses have the ids 1 to the number of clauses.
 #[derive(Drop)]
 pub enum Step {
-    /// Adds a clause under an id, by hints: the ids of clauses, the last of which is false where all literals of the
-    /// added clause are false and each other hint made one more literal true.
+    /// Adds a clause under an id, by hints: the ids of clauses, the last of which is false where
+    /// all literals of the added clause are false and each other hint made one more literal true.
     Add {
         id: u64,
         lits: LitList,
@@ -124,11 +124,12 @@ pub type Log = Items<Step>;
 pub enum StepRefusal {
     /// A hint or a deletion names an id that isn't live.
     UnknownId,
-    /// A hinted clause has two open literals or a true one, or a hint follows the clause that is false.
+    /// A hinted clause has two open literals or a true one, or a hint follows the clause that is
+    /// false.
     NotUnit,
     /// The hints run out before a clause is false.
     NoConflict,
-    /// A step stands behind the empty clause, or the log ends without it.
+    /// A step stands after the empty clause, or the log ends without it.
     NotEmpty,
     /// The id isn't greater than the ids of all clauses before it.
     IdOrder,

@@ -1,5 +1,7 @@
 // The clauses of a derivation, live and deleted.
-ghost use Rattle.std.specs.Prelude.{◌≡◌, ◌<◌, ◌≤◌, ◌-◌, ◌^◌, [], ◌∷◌, ◌++◌, None, Some, length, max, option_copied, slice_range, IsTrue, IfOk, OnOk, OnErr, IfNone, IfSome};
+ghost use Rattle.std.specs.Prelude.{◌≡◌, ◌<◌, ◌≤◌, ◌-◌, ◌^◌, [], ◌∷◌, ◌++◌};
+ghost use Rattle.std.specs.Prelude.{None, Some, length, max, option_copied, slice_range};
+ghost use Rattle.std.specs.Prelude.{IsTrue, IfOk, OnOk, OnErr, IfNone, IfSome};
 ghost use Rattle.dsv_cnf.specs.Formula.{IsOver};
 ghost use Rattle.dsv_hints.specs.Derivation.{is_after, is_live, live_clause, without};
 ghost use Rattle.dsv_hints.specs.Slots.{AllOther, HasId, IsRising};
@@ -18,7 +20,8 @@ struct Slot {
     live: bool,
 }
 
-/// Clauses in the order of their ids. The literals of all of them lie in one list; a deleted clause keeps its place.
+/// Clauses in the order of their ids. The literals of all of them lie in one list; a deleted clause
+/// keeps its place.
 #[derive(Drop)]
 pub(crate) struct Store {
     vars: u32,
@@ -44,7 +47,13 @@ impl Model for Store {
 impl Store {
     pub fn new(alloc: Global, vars: u32) -> Self
         requires { vars ≤ 2 ^ 31 }
-        ensures { result ≡ record { vars = vars; last = None; live = []; spare_clauses = 0; spare_literals = 0 } }
+        ensures { result ≡ record {
+          vars = vars;
+          last = None;
+          live = [];
+          spare_clauses = 0;
+          spare_literals = 0;
+        } }
     {
         Store {
             vars,
@@ -107,7 +116,7 @@ impl Store {
         self.clause(id).is_some()
     }
 
-    /// Adds a clause behind all others. There is room for it.
+    /// Adds a clause after all others. There is room for it.
     pub fn push(&mut self, id: u64, lits: &[Lit])
         requires after { IsTrue (is_after self.old.last id) }
         requires over { IsOver self.old.vars lits.now }
@@ -143,7 +152,8 @@ impl Store {
     }
 }
 
-/// Where the slot of this id is. Ids that have no gap from 1 on are at their place; others are searched.
+/// Where the slot of this id is. Ids that have no gap from 1 on are at their place; others are
+/// searched.
 fn find(slots: &[Slot], id: u64) -> Option<usize>
     requires { IsRising slots.now }
     ensures some { IfSome result (HasId slots.now id) }

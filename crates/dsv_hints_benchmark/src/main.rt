@@ -14,7 +14,8 @@ const LENGTH: u32 = 1_000_000;
 /// Room for its text.
 const TEXT_ROOM: usize = 32_000_000;
 
-/// The text of a chain: the first variable is true, each one implies the next, and the last is false.
+/// The text of a chain: the first variable is true, each one implies the next, and the last is
+/// false.
 fn put_chain(sink: &mut MemSink, length: u32) -> Result<(), Failed>
     requires { length < 2 ^ 30 }
 {

@@ -1,5 +1,5 @@
-// The rules of the command, by lists of arguments with what is wanted of each. A text is the list of what stands between
-// its bars.
+// The rules of the command, by lists of arguments with what is wanted of each. A text is the list
+// of what stands between its bars.
 use dsv_base::NoMemory;
 use dsv_command::{CommandOption, Design, Task, read_job, read_parts};
 use dsv_names::{OverflowMode, Property, Realisation, Rounding};

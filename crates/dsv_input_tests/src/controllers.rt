@@ -179,7 +179,8 @@ const ORDERS: [Order; 4] = [
     },
 ];
 
-/// The file of two blocks in whose names other blocks' names stand, and of `hardware` in this order.
+/// The file of two blocks in whose names other blocks' names stand, and of `hardware` in this
+/// order.
 fn ordered_file(alloc: Global, order: &Order) -> Result<String, NoMemory> {
     let before = order.before;
     let between = order.between;

@@ -48,8 +48,8 @@ pub enum Fault {
     Width,
 }
 
-/// The fields of the blocks `digital_system`, `implementation` and `hardware` of a file. The mark `^` in one of them stands
-/// where the file is refused.
+/// The fields of the blocks `digital_system`, `implementation` and `hardware` of a file. The mark
+/// `^` in one of them stands where the file is refused.
 #[derive(Clone, Copy)]
 pub struct Blocks(pub &'static str, pub &'static str, pub &'static str);
 

@@ -1,5 +1,5 @@
-//! Tests of the input: what controller files and arguments are read as. Expected values are worked by hand from the format
-//! of controller files and the rules of the command.
+//! Tests of the input: what controller files and arguments are read as. Expected values are worked
+//! by hand from the format of controller files and the rules of the command.
 #![tactic(auto)]
 
 #[cfg(test)]

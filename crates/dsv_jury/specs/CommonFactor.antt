@@ -1,15 +1,7 @@
 -- The greatest common factor of whole numbers.
-use Rattle.std.specs.Prelude.{ℕ, zero, suc, ◌%◌, true, false, ◌==◌, List, [], ◌∷◌, map, ℤ, pos}
+use Rattle.std.specs.Prelude.{ℕ, List, [], ◌∷◌, map, ℤ, pos}
 use Rattle.std.specs.Int.RustNames.{unsigned_abs, int_div}
-
--- Euclid's algorithm, at most so many turns
-abbrev pub gcd_in : ℕ → ℕ → ℕ → ℕ
-gcd_in zero a b = a
-gcd_in (suc turns) a b = elim (b == 0) [ true ↦ a | false ↦ gcd_in turns b (a % b) ]
-
--- the greatest number that divides both, and 0 for two zeros
-unfoldable pub gcd : ℕ → ℕ → ℕ
-gcd a b = gcd_in b a b
+use Rattle.dsv_algebra.specs.Gcd.{gcd}
 
 -- the greatest common factor of a number and of the numbers' sizes
 abbrev pub factor_with : ℕ → List ℤ → ℕ

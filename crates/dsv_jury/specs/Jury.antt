@@ -1,5 +1,7 @@
--- Jury's recursion, which is that of Schur and Cohn: whether a polynomial's roots are all inside the unit circle.
-use Rattle.std.specs.Prelude.{ℕ, zero, suc, ◌+◌, ◌-◌, ◌^◌, Bool, nat_le, if◌then◌else◌, List, length, map, ℤ, ◌-ℤ◌, ◌*ℤ◌}
+-- Jury's recursion, which is that of Schur and Cohn: whether a polynomial's roots are all inside
+-- the unit circle.
+use Rattle.std.specs.Prelude.{ℕ, zero, suc, ◌+◌, ◌-◌, ◌^◌, Bool, nat_le}
+use Rattle.std.specs.Prelude.{if◌then◌else◌, List, length, map, ℤ, ◌-ℤ◌, ◌*ℤ◌}
 use Rattle.std.specs.List.{list_any}
 use Rattle.std.specs.Int.RustNames.{unsigned_abs}
 use Rattle.dsv_algebra.specs.Vectors.{Vector, vector_of}

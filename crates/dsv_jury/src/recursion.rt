@@ -1,11 +1,13 @@
 // Jury's recursion, row by row.
 #![tactic(auto, using(dsv_algebra::proofs::Casts::casts))]
 
-ghost use Rattle.std.specs.Prelude.{◌≡◌, ◌<◌, ◌≤◌, ◌-◌, length, true, false, pos, MatchOption, ◌-ℤ◌, ◌*ℤ◌};
+ghost use Rattle.std.specs.Prelude.{◌≡◌, ◌<◌, ◌≤◌, ◌-◌, length, true};
+ghost use Rattle.std.specs.Prelude.{false, pos, MatchOption, ◌-ℤ◌, ◌*ℤ◌};
 ghost use Rattle.std.specs.Int.RustNames.{unsigned_abs, int_div};
 ghost use Rattle.dsv_algebra.specs.Vectors.{vector_of};
 ghost use Rattle.dsv_forms.specs.Poly.{IsPoly, most_coefficients};
-ghost use Rattle.dsv_jury.specs.Jury.{last_leads, cross_differences, row_after, is_wide_entry, is_wide, jury_of};
+ghost use Rattle.dsv_jury.specs.Jury.{last_leads, cross_differences, row_after};
+ghost use Rattle.dsv_jury.specs.Jury.{is_wide_entry, is_wide, jury_of};
 
 use crate::factor::common_factor;
 use crate::verdict::Jury;
@@ -51,7 +53,8 @@ fn cross_differences(row: &[i64]) -> ArrayVec<i128, MOST_COEFFICIENTS>
 fn narrow_quotient(number: &i128, factor: u128) -> Option<i64>
     requires { 0 < factor }
     ensures { let meant = int_div number.now (pos factor) in
-        MatchOption result (is_wide_entry meant ≡ true) (λ found. (found ≡ meant) × (is_wide_entry meant ≡ false)) }
+        MatchOption result (is_wide_entry meant ≡ true) (λ found. (found ≡ meant)
+        × (is_wide_entry meant ≡ false)) }
 {
     let size = number.unsigned_abs() / factor;
     if size >= ROW_LIMIT {
@@ -67,7 +70,8 @@ fn row_after(row: &[i64]) -> Option<Row>
     requires few { length row.now ≤ most_coefficients }
     requires apart { last_leads (length row.now - 1) (vector_of row.now) ≡ false }
     ensures { let meant = row_after (length row.now - 1) row.now in
-        MatchOption result (is_wide meant ≡ true) (λ found. (found.items ≡ meant) × (is_wide meant ≡ false)) }
+        MatchOption result (is_wide meant ≡ true) (λ found. (found.items ≡ meant)
+        × (is_wide meant ≡ false)) }
 {
     let differences = cross_differences(row);
     let factor = common_factor(differences.as_slice());
@@ -90,8 +94,8 @@ fn first_row(poly: &Poly) -> Row
     row
 }
 
-/// Jury's verdict on a polynomial of any order, by rows of exact numbers, each less than 2^62 in size, whose common
-/// factors are taken out. It takes no memory.
+/// Jury's verdict on a polynomial of any order, by rows of exact numbers, each less than 2^62 in
+/// size, whose common factors are taken out. It takes no memory.
 pub fn jury(poly: &Poly) -> Jury
     ensures exact { result ≡ jury_of poly.now }
 {

@@ -153,7 +153,8 @@ fn logs_are_judged(rt: HostRuntime) {
     }
 }
 
-/// The answer of a checker of the formula of three clauses to the step that refutes it, after clause 2 was deleted.
+/// The answer of a checker of the formula of three clauses to the step that refutes it, after
+/// clause 2 was deleted.
 fn answer_after_deletion(alloc: Global) -> Option<StepRefusal> {
     let formula = read_dimacs(alloc, THREE.as_bytes()).ok()?;
     let mut checker = Checker::new(alloc, &formula).ok()?;

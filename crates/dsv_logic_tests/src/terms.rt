@@ -1,4 +1,5 @@
-// What terms stand for. The expected values were computed on lists of bits, by SMT-LIB's own definitions.
+// What terms stand for. The expected values were computed on lists of bits, by SMT-LIB's own
+// definitions.
 ghost use Rattle.std.specs.Prelude.{◌≡◌, ◌<◌, length, IfOk};
 ghost use Rattle.dsv_term.specs.Terms.{width_of};
 ghost use Rattle.dsv_term.specs.Word.{IsWidth};
@@ -124,7 +125,8 @@ fn try_small(rt: &impl Abort, alloc: Global, rows: &str) -> Result<(), NoMemory>
     Ok(())
 }
 
-/// A character for each pair of ends, the first input's going first: the place of the value among the marks.
+/// A character for each pair of ends, the first input's going first: the place of the value among
+/// the marks.
 fn try_ends(rt: &impl Abort, alloc: Global, rows: &str) -> Result<(), NoMemory> {
     for row in rows.lines() {
         let mut words = row.split(' ');
@@ -306,7 +308,6 @@ fn has_single_values(rt: HostRuntime) -> Result<(), NoMemory> {
         rt.alloc(),
         "\
 bvneg 1 0 0 0 1 0 0 1\n\
-bvneg 1 0 0 0 1 0 0 1\n\
 bvnot 1 0 0 0 0 0 0 1\n\
 bvnot 1 0 0 0 1 0 0 0\n\
 bvmul 1 -1 0 0 1 0 0 1\n\
@@ -315,7 +316,6 @@ bvmul 1 9223372036854775807 0 0 1 0 0 1\n\
 bvmul 1 -3 0 0 0 0 0 0\n\
 sign_extend 1 0 80 0 0 0 0 0\n\
 sign_extend 1 0 80 0 1 0 0 1208925819614629174706175\n\
-extract 1 0 0 0 1 0 0 1\n\
 extract 1 0 0 0 1 0 0 1\n\
 extract 1 0 0 0 0 0 0 0\n\
 ite 1 0 0 0 1 1 0 1\n\

@@ -10,17 +10,21 @@ use Rattle.dsv_forms.specs.Poly.{most_coefficients}
 use Rattle.dsv_lyapunov.specs.declared.deciding.FormAnswer.{FormAnswer}
 use Rattle.dsv_lyapunov.specs.declared.deciding.FormAnswer.TheVariants as answer
 
--- The form strictly falls along each trajectory of the polynomial, and loses the fall form in a step.
+-- The form strictly falls along each trajectory of the polynomial, and loses the fall form in a
+-- step.
 pub record IsStable (poly : List ℤ) (form fall : Form) : Type 0 where
   pub falls : StrictlyFallsAlong (length poly - 1) (vector_of poly) (matrix_of form.rows)
   pub places : form.d ≡ length poly - 1
   pub fall_form : IsFallForm (length poly - 1) (vector_of poly) form fall
   pub few : length poly ≤ most_coefficients
 
--- The form has this value, a negative one, at the start, and rises in no step of a trajectory of the polynomial; in a step
--- it loses the fall form. So the trajectory from the start is kept away from 0.
-pub record IsKeptAwayFrom (poly : List ℤ) (form : Form) (start : List ℤ) (fall : Form) (value : ℤ) : Type 0 where
-  pub away : IsKeptAwayAlong (length poly - 1) (vector_of poly) (matrix_of form.rows) (vector_of start)
+-- The form has this value, a negative one, at the start, and rises in no step of a trajectory of
+-- the polynomial; in a step it loses the fall form. So the trajectory from the start is kept away
+-- from 0.
+pub record IsKeptAwayFrom (poly : List ℤ) (form : Form) (start : List ℤ) (fall : Form) (value : ℤ) :
+    Type 0 where
+  pub away : IsKeptAwayAlong (length poly - 1) (vector_of poly) (matrix_of form.rows)
+      (vector_of start)
   pub value_at : value ≡ form_at (length poly - 1) (matrix_of form.rows) (vector_of start)
   pub places : form.d ≡ length poly - 1
   pub fall_form : IsFallForm (length poly - 1) (vector_of poly) form fall
@@ -29,7 +33,8 @@ pub record IsKeptAwayFrom (poly : List ℤ) (form : Form) (start : List ℤ) (fa
 -- what an answer shows of the polynomial
 abbrev pub IsShown : List ℤ → FormAnswer → Type 0
 IsShown poly (answer.Falls offer fall) = IsStable poly offer.form fall
-IsShown poly (answer.KeptAway offer fall value) = IsKeptAwayFrom poly offer.form offer.start fall value
+IsShown poly (answer.KeptAway offer fall value) =
+    IsKeptAwayFrom poly offer.form offer.start fall value
 
 -- the offer of an answer
 abbrev pub offer_of : FormAnswer → FormOffer

@@ -1,5 +1,7 @@
 -- The closed forms: what is offered for a polynomial, in terms of its coefficients.
-use Rattle.std.specs.Prelude.{◌≡◌, Bool, true, List, [], ◌∷◌, ◌++◌, length, map, take, replicate, int_lt, if◌then◌else◌, None, ℤ, pos, negsuc, ◌-ℤ◌, ◌*ℤ◌}
+use Rattle.std.specs.Prelude.{◌≡◌, Bool, true, List, [], ◌∷◌, ◌++◌, length}
+use Rattle.std.specs.Prelude.{map, take, replicate, int_lt, if◌then◌else◌}
+use Rattle.std.specs.Prelude.{None, ℤ, pos, negsuc, ◌-ℤ◌, ◌*ℤ◌}
 use Rattle.dsv_algebra.specs.Squares.{size}
 use Rattle.dsv_forms.specs.declared.offers.Form.{Form}
 use Rattle.dsv_forms.specs.declared.offers.Squares.{Squares}
@@ -25,11 +27,21 @@ form_with rows = record { d = length rows; rows = matrix_with rows }
 -- m times a form as squares of these weights and rows, and this rest
 abbrev pub squares_with : ℤ → List ℤ → List (List ℤ) → List (List ℤ) → Squares
 squares_with m weights rows rest =
-    record { m = m; count = length weights; weights = row_of weights; rows = matrix_with rows; rest = matrix_with rest }
+    record {
+      m = m;
+      count = length weights;
+      weights = row_of weights;
+      rows = matrix_with rows;
+      rest = matrix_with rest;
+    }
 
 -- the offer for a polynomial of order 0, which has no vectors
 abbrev pub without_place : Falls
-without_place = record { form = form_with []; positive = squares_with (pos 1) [] [] []; fall = squares_with (pos 1) [] [] [] }
+without_place = record {
+  form = form_with [];
+  positive = squares_with (pos 1) [] [] [];
+  fall = squares_with (pos 1) [] [] [];
+}
 
 -- the form 1, shown positive by its own square, which loses w times that square in a step
 abbrev pub form_that_falls : ℤ → Falls
@@ -58,7 +70,8 @@ abbrev pub closed_form_of : List ℤ → FormOffer
 closed_form_of [] = offered.Falls without_place
 closed_form_of (c0 ∷ []) = offered.Falls without_place
 closed_form_of (c0 ∷ c1 ∷ cs) =
-    if int_lt (size c1) c0 then offered.Falls (form_that_falls (c0 *ℤ c0 -ℤ c1 *ℤ c1)) else offered.KeptAway (form_that_never_rises (c1 *ℤ c1 -ℤ c0 *ℤ c0))
+    if int_lt (size c1) c0 then offered.Falls (form_that_falls (c0 *ℤ c0 -ℤ c1 *ℤ c1))
+    else offered.KeptAway (form_that_never_rises (c1 *ℤ c1 -ℤ c0 *ℤ c0))
 
 -- the check of the offer accepts it for the polynomial
 abbrev pub IsAccepted : List ℤ → FormOffer → Type 0

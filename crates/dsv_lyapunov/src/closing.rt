@@ -1,7 +1,11 @@
-// The closed form of a polynomial: a form that shows whether its trajectories fall, in terms of its coefficients.
-ghost use Rattle.std.specs.Prelude.{◌≡◌, ◌≤◌, ◌*◌, ◌-◌, nat_lt, if◌then◌else◌, [], ◌∷◌, length, pos, negsuc};
+// The closed form of a polynomial: a form that shows whether its trajectories fall, in terms of its
+// coefficients.
+ghost use Rattle.std.specs.Prelude.{◌≡◌, ◌≤◌, ◌*◌, ◌-◌, nat_lt, if◌then◌else◌};
+ghost use Rattle.std.specs.Prelude.{[], ◌∷◌, length, pos, negsuc};
 ghost use Rattle.dsv_forms.specs.Poly.{greatest_coefficient};
-ghost use Rattle.dsv_lyapunov.specs.ClosedForm.{row_of, matrix_with, form_with, squares_with, without_place, form_that_falls, form_that_never_rises, closed_form_of, IsAccepted};
+ghost use Rattle.dsv_lyapunov.specs.ClosedForm.{row_of, matrix_with, form_with, squares_with};
+ghost use Rattle.dsv_lyapunov.specs.ClosedForm.{without_place, form_that_falls};
+ghost use Rattle.dsv_lyapunov.specs.ClosedForm.{form_that_never_rises, closed_form_of, IsAccepted};
 
 use dsv_forms::{Falls, Form, FormOffer, GREATEST_ORDER, KeptAway, Poly, Squares};
 

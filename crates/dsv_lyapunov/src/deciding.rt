@@ -15,8 +15,8 @@ pub enum FormAnswer {
         offer: Falls,
         fall: Form,
     },
-    /// The offer's form has this negative value at the offer's start, rises along no trajectory, and loses `fall`
-    /// in a step.
+    /// The offer's form has this negative value at the offer's start, rises along no trajectory,
+    /// and loses `fall` in a step.
     KeptAway {
         offer: KeptAway,
         fall: Form,

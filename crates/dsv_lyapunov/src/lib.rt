@@ -9,4 +9,4 @@ mod tests;
 
 pub use closing::closed_form;
 pub use deciding::{FormAnswer, decide};
-pub use reducing::reduced;
+pub use reducing::reduced_polynomial;

@@ -8,15 +8,15 @@ ghost use Rattle.dsv_lyapunov.specs.Reduced.{IsOdd, IsReduced};
 use arrayvec::ArrayVec;
 use dsv_forms::{MOST_COEFFICIENTS, Poly};
 
-/// The polynomial of these words, with the greatest power of two that divides all of them taken out. It takes no
-/// memory.
-pub fn reduced(words: &[i64]) -> Poly
+/// The polynomial of these words, with the greatest power of two that divides all of them taken
+/// out. It takes no memory.
+pub fn reduced_polynomial(words: &[i64]) -> Poly
     requires { IsPoly words.now }
     ensures reduced { IsReduced words.now result }
     ensures length { length result ≡ length words.now }
 {
     let mut poly = polynomial(words);
-    'halving: while let Some(half) = halved(&poly) {
+    'halving: while let Some(half) = half_of(&poly) {
         poly = half;
     }
     poly
@@ -34,7 +34,7 @@ fn polynomial(words: &[i64]) -> Poly
 }
 
 /// The polynomial with the halves of the coefficients, where all of them are even.
-fn halved(poly: &Poly) -> Option<Poly>
+fn half_of(poly: &Poly) -> Option<Poly>
     ensures even { IfSome result (λ halves. poly.now ≡ map (λ z. pos 2 *ℤ z) halves) }
     ensures odd { IfNone result (Any IsOdd poly.now) }
 {

@@ -1,5 +1,5 @@
 // Worked polynomials, and offers that are refused.
-use crate::{FormAnswer, decide, reduced};
+use crate::{FormAnswer, decide, reduced_polynomial};
 use dsv_forms::{
     Form, FormRefusal, GREATEST_ORDER, KeptAway, Part, Poly, Squares, check_kept_away,
 };
@@ -41,7 +41,7 @@ const REDUCTIONS: [Reduction; 3] = [
 
 fn is_reduced(row: &Reduction) -> bool {
     match Poly::new(&row.words) {
-        Ok(_) => reduced(&row.words).coefficients() == row.wanted.as_slice(),
+        Ok(_) => reduced_polynomial(&row.words).coefficients() == row.wanted.as_slice(),
         Err(_) => false,
     }
 }
@@ -87,7 +87,8 @@ fn polynomials_are_kept_away(rt: HostRuntime) {
     assert!(rt; is_kept_away(&[1, -1], 0) && is_kept_away(&[1, -2], 3));
 }
 
-/// An offer for a polynomial: a form of one place with a start, and a rest without squares; and why it is refused.
+/// An offer for a polynomial: a form of one place with a start, and a rest without squares; and why
+/// it is refused.
 struct Offered {
     c: [i64; 2],
     entry: i128,
@@ -96,7 +97,8 @@ struct Offered {
     refusal: FormRefusal,
 }
 
-// The form 1 loses -3 in a step of 1 -2, and 3 in one of 2 -1; the form -2^100 loses nothing in one of 1 -1.
+// The form 1 loses -3 in a step of 1 -2, and 3 in one of 2 -1; the form -2^100 loses nothing in one
+// of 1 -1.
 const OFFERED: [Offered; 5] = [
     Offered {
         c: [1, -2],

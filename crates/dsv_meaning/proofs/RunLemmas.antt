@@ -26,9 +26,9 @@ same_summands away cs vs ws e =
     sym (summands_take away cs vs 0 (length cs) (omega arith)) ∙ ap (λ l. summands away cs (ago l) 0) e ∙ summands_take away cs ws 0 (length cs) (omega arith)
 
 -- the same word before words that begin alike
-front_same : (n : ℕ) (w : ℤ) (us vs : List ℤ) → take n us ≡ take n vs → take n (w ∷ us) ≡ take n (w ∷ vs)
-front_same zero w us vs e = refl
-front_same (suc n) w us vs e =
+prefix_same : (n : ℕ) (w : ℤ) (us vs : List ℤ) → take n us ≡ take n vs → take n (w ∷ us) ≡ take n (w ∷ vs)
+prefix_same zero w us vs e = refl
+prefix_same (suc n) w us vs e =
     ap (λ l. w ∷ l) (sym (take-take n (suc n) us (omega arith)) ∙ ap (take n) e ∙ take-take n (suc n) vs (omega arith))
 
 same_forward : (q : FixedPoint) (w : ℤ) (us vs : List ℤ) → length q.b ≡ order q + 1 → take (order q) us ≡ take (order q) vs
@@ -71,8 +71,8 @@ alike_samples Dfi q p s x m h =
       y = ap (λ (t : Sum). t.value) e;
       exact = ap (λ (t : Sum). t.exact) e;
       past = record {
-        signal = front_same n x p.signal s.signal h.signal;
-        outputs = ap (λ (t : Sum). take n (t.value ∷ p.outputs)) e ∙ front_same n (of (forward_summands q (ago (x ∷ s.signal))) (feedback_summands q (ago s.outputs) 0)).value p.outputs s.outputs h.outputs;
+        signal = prefix_same n x p.signal s.signal h.signal;
+        outputs = ap (λ (t : Sum). take n (t.value ∷ p.outputs)) e ∙ prefix_same n (of (forward_summands q (ago (x ∷ s.signal))) (feedback_summands q (ago s.outputs) 0)).value p.outputs s.outputs h.outputs;
         chain = h.chain;
         output_chain = h.output_chain;
       };
@@ -90,7 +90,7 @@ alike_samples Dfii q p s x m h =
       y = ap (λ (t : Sum). t.value) g;
       exact = ap (λ (t : Sum). t.exact) g;
       past = record {
-        signal = ap (λ (t : Sum). take n (t.value ∷ p.signal)) e ∙ front_same n w.value p.signal s.signal h.signal;
+        signal = ap (λ (t : Sum). take n (t.value ∷ p.signal)) e ∙ prefix_same n w.value p.signal s.signal h.signal;
         outputs = h.outputs;
         chain = h.chain;
         output_chain = h.output_chain;

@@ -1,7 +1,9 @@
 -- The written equations of the six realisations. N is the order, x(n) the input, y(n) the output.
-use Rattle.std.specs.Prelude.{ℕ, ◌+◌, ◌-◌, ◌*◌, true, false, List, [], ◌∷◌, ◌++◌, length, take, drop, ℤ, pos, slice_index_or}
+use Rattle.std.specs.Prelude.{ℕ, ◌+◌, ◌-◌, ◌*◌, true, false, List, [], ◌∷◌}
+use Rattle.std.specs.Prelude.{◌++◌, length, take, drop, ℤ, pos, slice_index_or}
 use Rattle.dsv_names.specs.declared.realisation.Realisation.{Realisation}
-use Rattle.dsv_names.specs.declared.realisation.Realisation.TheVariants.{Dfi, Dfii, Tdfii, Ddfi, Ddfii, Tddfii}
+use Rattle.dsv_names.specs.declared.realisation.Realisation.TheVariants.{Dfi, Dfii, Tdfii}
+use Rattle.dsv_names.specs.declared.realisation.Realisation.TheVariants.{Ddfi, Ddfii, Tddfii}
 use Rattle.dsv_quantiser.specs.FixedPoint.{FixedPoint}
 use Rattle.dsv_meaning.specs.Lines.{Summand, Times, Alone, Sum, summands, line}
 use Rattle.dsv_system.specs.Runs.{Sampled}
@@ -17,9 +19,10 @@ feedback q = drop 1 q.a
 abbrev pub ago : List ℤ → ℕ → ℤ
 ago signal i = slice_index_or signal i (pos 0)
 
--- A run's past: whole signals, newest sample first, which go on before sample 0 into the start. `signal` is x of DFI and
--- w of DFII, `outputs` is y of DFI. The chains are the registers after each sample, newest sample first: s of TDFII
--- and TDDFII, w of DDFII, u of DDFI; `output_chain` is v of DDFI.
+-- A run's past: whole signals, newest sample first, which go on before sample 0 into the start.
+-- `signal` is x of DFI and w of DFII, `outputs` is y of DFI. The chains are the registers after
+-- each sample, newest sample first: s of TDFII and TDDFII, w of DDFII, u of DDFI; `output_chain` is
+-- v of DDFI.
 pub record Past : Type 0 where
   pub signal : List ℤ
   pub outputs : List ℤ
@@ -70,19 +73,24 @@ chain_with c s = record { words = c.words ++ s.value ∷ []; exact = s.exact }
 -- new w_j = old w_j + delta old w_(j-1), where `before` is old w_(j-1)
 abbrev pub delta_chain : FixedPoint → ℤ → List ℤ → Chain → Chain
 delta_chain q before [] c = c
-delta_chain q before (w ∷ ws) c = delta_chain q w ws (chain_with c (line q.format c.exact (delta_line q w before)))
+delta_chain q before (w ∷ ws) c =
+    delta_chain q w ws (chain_with c (line q.format c.exact (delta_line q w before)))
 
 -- new s_i = b_i x - a_i y + old s_(i+1), where `s` is old s_i and those after it
-abbrev pub transposed_chain : FixedPoint → ℤ → ℤ → List ℤ → List ℤ → List ℤ → Chain → Chain
+abbrev pub transposed_chain : FixedPoint → ℤ → ℤ → List ℤ → List ℤ → List ℤ → Chain
+    → Chain
 transposed_chain q x y (b ∷ bs) (a ∷ cs) s c =
-    transposed_chain q x y bs cs (drop 1 s) (chain_with c (line q.format c.exact (transposed_line b a x y (drop 1 s))))
+    transposed_chain q x y bs cs (drop 1 s)
+    (chain_with c (line q.format c.exact (transposed_line b a x y (drop 1 s))))
 transposed_chain q x y _ _ s c = c
 
 -- new s_i = old s_i + delta (b_i x - a_i y + old s_(i+1))
-abbrev pub transposed_delta_chain : FixedPoint → ℤ → ℤ → List ℤ → List ℤ → List ℤ → Chain → Chain
+abbrev pub transposed_delta_chain : FixedPoint → ℤ → ℤ → List ℤ → List ℤ → List ℤ
+    → Chain → Chain
 transposed_delta_chain q x y (b ∷ bs) (a ∷ cs) (s ∷ ss) c =
     let t = line q.format c.exact (transposed_line b a x y ss) in
-    transposed_delta_chain q x y bs cs ss (chain_with c (line q.format t.exact (delta_line q s t.value)))
+    transposed_delta_chain q x y bs cs ss
+    (chain_with c (line q.format t.exact (delta_line q s t.value)))
 transposed_delta_chain q x y _ _ _ c = c
 
 -- ---- one sample
@@ -90,8 +98,13 @@ abbrev pub sample_as : Realisation → FixedPoint → Past → ℤ → Sampled P
 -- y(n) = b_0 x(n) + .. + b_N x(n-N) - a_1 y(n-1) - .. - a_N y(n-N)
 sample_as Dfi q p x =
     let xs = x ∷ p.signal in
-    let y = line q.format [] (forward_summands q (ago xs) ++ feedback_summands q (ago p.outputs) 0) in
-    record { y = y.value; exact = y.exact; past = record p { signal = xs; outputs = y.value ∷ p.outputs } }
+    let y = line q.format [] (forward_summands q (ago xs)
+    ++ feedback_summands q (ago p.outputs) 0) in
+    record {
+      y = y.value;
+      exact = y.exact;
+      past = record p { signal = xs; outputs = y.value ∷ p.outputs };
+    }
 -- w(n) = x(n) - a_1 w(n-1) - .. - a_N w(n-N); y(n) = b_0 w(n) + .. + b_N w(n-N)
 sample_as Dfii q p x =
     let w = line q.format [] (Alone x ∷ feedback_summands q (ago p.signal) 0) in
@@ -104,14 +117,19 @@ sample_as Tdfii q p x =
     let y = line q.format [] (transposed_output q x s) in
     let c = transposed_chain q x y.value (drop 1 q.b) (feedback q) s (no_words y.exact) in
     record { y = y.value; exact = c.exact; past = record p { chain = c.words ∷ p.chain } }
--- y(n) = b_0 x(n) + b_1 u_1 + .. + b_N u_N - a_1 v_1 - .. - a_N v_N; then the new u_j and the new v_j
+-- y(n) = b_0 x(n) + b_1 u_1 + .. + b_N u_N - a_1 v_1 - .. - a_N v_N; then the new u_j and the new
+-- v_j
 sample_as Ddfi q p x =
     let u = latest p.chain in
     let v = latest p.output_chain in
     let y = line q.format [] (forward_summands q (ago (x ∷ u)) ++ feedback_summands q (ago v) 0) in
     let c = delta_chain q x u (no_words y.exact) in
     let d = delta_chain q y.value v (no_words c.exact) in
-    record { y = y.value; exact = d.exact; past = record p { chain = c.words ∷ p.chain; output_chain = d.words ∷ p.output_chain } }
+    record {
+      y = y.value;
+      exact = d.exact;
+      past = record p { chain = c.words ∷ p.chain; output_chain = d.words ∷ p.output_chain };
+    }
 -- w_0 = x(n) - a_1 w_1 - .. - a_N w_N; y(n) = b_0 w_0 + .. + b_N w_N; then the new w_j
 sample_as Ddfii q p x =
     let w = latest p.chain in
@@ -141,12 +159,23 @@ registers_as Tddfii n p = latest p.chain
 
 -- the past before sample 0, for these words in the registers
 abbrev pub start_as : Realisation → ℕ → List ℤ → Past
-start_as Dfi n start = record { signal = take n start; outputs = drop n start; chain = []; output_chain = [] }
+start_as Dfi n start = record {
+  signal = take n start;
+  outputs = drop n start;
+  chain = [];
+  output_chain = [];
+}
 start_as Dfii n start = record { signal = start; outputs = []; chain = []; output_chain = [] }
-start_as Ddfi n start = record { signal = []; outputs = []; chain = take n start ∷ []; output_chain = drop n start ∷ [] }
+start_as Ddfi n start = record {
+  signal = [];
+  outputs = [];
+  chain = take n start ∷ [];
+  output_chain = drop n start ∷ [];
+}
 start_as Tdfii n start = record { signal = []; outputs = []; chain = start ∷ []; output_chain = [] }
 start_as Ddfii n start = record { signal = []; outputs = []; chain = start ∷ []; output_chain = [] }
-start_as Tddfii n start = record { signal = []; outputs = []; chain = start ∷ []; output_chain = [] }
+start_as Tddfii n start =
+    record { signal = []; outputs = []; chain = start ∷ []; output_chain = [] }
 
 -- ---- the table of counts
 -- how many registers a realisation has

@@ -1,11 +1,13 @@
 -- Lines of written equations: sums of products of coefficients and words, in fixed point.
-use Rattle.std.specs.Prelude.{ℕ, ◌+◌, Bool, List, [], ◌∷◌, ◌++◌, if◌then◌else◌, ℤ, pos, ◌+ℤ◌, ◌-ℤ◌, ◌*ℤ◌}
+use Rattle.std.specs.Prelude.{ℕ, ◌+◌, Bool, List, [], ◌∷◌, ◌++◌}
+use Rattle.std.specs.Prelude.{if◌then◌else◌, ℤ, pos, ◌+ℤ◌, ◌-ℤ◌, ◌*ℤ◌}
 use Rattle.dsv_word.specs.declared.format.Format.{Format}
 use Rattle.dsv_word.specs.Words.{width, fit}
-use Rattle.dsv_word.specs.Quotients.{shifted}
+use Rattle.dsv_word.specs.Quotients.{whole_shift}
 
--- A line is a list of summands: a product of a coefficient and a word, added or taken away, or a word alone, added.
--- A is the type of the words: whole numbers in an equation, numbers of nodes in a netlist.
+-- A line is a list of summands: a product of a coefficient and a word, added or taken away, or a
+-- word alone, added. A is the type of the words: whole numbers in an equation, numbers of nodes in
+-- a netlist.
 pub data Summand (A : Type 0) : Type 0 where
   Times : (away : Bool) (coeff : ℤ) (word : A) → Summand A
   Alone : (word : A) → Summand A
@@ -15,7 +17,8 @@ abbrev pub summands : {A : Type 0} → Bool → List ℤ → (ℕ → A) → ℕ
 summands away [] w k = []
 summands away (c ∷ cs) w k = Times away c (w k) ∷ summands away cs w (k + 1)
 
--- how far a line has come: its value, and the exact values of the operations so far, each before it was fitted
+-- how far a line has come: its value, and the exact values of the operations so far, each before it
+-- was fitted
 pub record Sum : Type 0 where
   pub value : ℤ
   pub exact : List ℤ
@@ -26,7 +29,7 @@ fitted_value f old e = record { value = fit f.overflow (width f) e; exact = old 
 
 -- prod(c, w): the product over 2^frac_bits made whole, and fitted
 abbrev pub product : Format → List ℤ → ℤ → ℤ → Sum
-product f old c w = fitted_value f old (shifted f.rounding f.frac_bits (c *ℤ w))
+product f old c w = fitted_value f old (whole_shift f.rounding f.frac_bits (c *ℤ w))
 
 -- plus(v, s) or minus(v, s)
 abbrev pub joined_value : Format → Bool → ℤ → Sum → Sum

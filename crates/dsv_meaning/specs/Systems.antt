@@ -1,7 +1,8 @@
 -- The written equations of a controller as a system that runs in words.
 use Rattle.dsv_quantiser.specs.FixedPoint.{FixedPoint}
 use Rattle.dsv_system.specs.Systems.{System}
-use Rattle.dsv_meaning.specs.Equations.{Past, order, sample, registers_as, start_as, registers_of, forward_registers_of}
+use Rattle.dsv_meaning.specs.Equations.{Past, order, sample, registers_as, start_as}
+use Rattle.dsv_meaning.specs.Equations.{registers_of, forward_registers_of}
 
 -- the written equations of a controller in words
 abbrev pub equations_of : FixedPoint → System Past

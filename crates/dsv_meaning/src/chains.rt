@@ -5,7 +5,8 @@ ghost use Rattle.dsv_word.specs.Words.{IsWord};
 ghost use Rattle.std.specs.Prelude.{◌≡◌, ◌+◌, ◌*◌, ◌≤◌, length, drop};
 ghost use Rattle.std.specs.List.{All};
 ghost use Rattle.dsv_meaning.specs.Lines.{line};
-ghost use Rattle.dsv_meaning.specs.Equations.{order, feedback, transposed_line, delta_chain, transposed_chain, transposed_delta_chain};
+ghost use Rattle.dsv_meaning.specs.Equations.{order, feedback, transposed_line, delta_chain};
+ghost use Rattle.dsv_meaning.specs.Equations.{transposed_chain, transposed_delta_chain};
 ghost use Rattle.dsv_meaning.specs.Stepping.{delay_line};
 ghost use Rattle.dsv_meaning.specs.declared.chains.TheConstants.{MOST_REGISTERS};
 ghost use Rattle.dsv_system.specs.declared.exact_list.TheConstants.{MOST_EXACT};
@@ -69,7 +70,8 @@ pub(crate) fn delay(newest: &i64, old: &[i64], registers: &mut Registers)
     }
 }
 
-/// Adds the new words of a chain of the delta forms: to each old word delta times the old one before it.
+/// Adds the new words of a chain of the delta forms: to each old word delta times the old one
+/// before it.
 pub(crate) fn delta_chain(
     q: &Quantised,
     newest: &i64,
@@ -80,7 +82,8 @@ pub(crate) fn delta_chain(
     requires room { length exact.old.items + 2 * length old.now ≤ MOST_EXACT }
     requires many { length registers.old.items + length old.now ≤ MOST_REGISTERS }
     ensures value { record { words = registers.new.items; exact = exact.new.items } ≡
-        delta_chain q.now newest.now old.now (record { words = registers.old.items; exact = exact.old.items }) }
+        delta_chain q.now newest.now old.now
+        (record { words = registers.old.items; exact = exact.old.items }) }
     ensures count { length registers.new.items ≡ length registers.old.items + length old.now }
     ensures room { length exact.new.items ≡ length exact.old.items + 2 * length old.now }
 {

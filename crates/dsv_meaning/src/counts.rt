@@ -1,7 +1,8 @@
 // How many registers and operations a realisation has.
 ghost use Rattle.std.specs.Prelude.{◌≡◌, ◌≤◌};
 ghost use Rattle.dsv_meaning.specs.declared.counts.TheConstants.{MOST_ORDER};
-ghost use Rattle.dsv_meaning.specs.Equations.{registers_of, forward_registers_of, products_of, sums_of};
+ghost use Rattle.dsv_meaning.specs.Equations.{registers_of, forward_registers_of};
+ghost use Rattle.dsv_meaning.specs.Equations.{products_of, sums_of};
 
 use dsv_names::Realisation;
 

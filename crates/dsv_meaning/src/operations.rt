@@ -2,10 +2,12 @@
 #![tactic(auto, using(dsv_algebra::proofs::Casts::casts))]
 
 ghost use Rattle.dsv_word.specs.Words.{IsWord};
-ghost use Rattle.std.specs.Prelude.{◌≡◌, ◌+◌, ◌*◌, ◌^◌, ◌<◌, ◌≤◌, false, length, ◌∷◌, ◌+ℤ◌, ◌-ℤ◌, ◌*ℤ◌};
+ghost use Rattle.std.specs.Prelude.{◌≡◌, ◌+◌, ◌*◌, ◌^◌, ◌<◌, ◌≤◌, false};
+ghost use Rattle.std.specs.Prelude.{length, ◌∷◌, ◌+ℤ◌, ◌-ℤ◌, ◌*ℤ◌};
 ghost use Rattle.std.specs.Int.RustNames.{unsigned_abs};
 ghost use Rattle.std.specs.List.{All};
-ghost use Rattle.dsv_meaning.specs.Lines.{Times, summands, fitted_value, product, next_summand, next_summands, line};
+ghost use Rattle.dsv_meaning.specs.Lines.{Times, summands, fitted_value, product};
+ghost use Rattle.dsv_meaning.specs.Lines.{next_summand, next_summands, line};
 ghost use Rattle.dsv_meaning.specs.Equations.{ago, first_alone};
 ghost use Rattle.dsv_system.specs.declared.exact_list.TheConstants.{MOST_EXACT};
 
@@ -15,7 +17,8 @@ use dsv_word::Format;
 /// The word that the exact value of an operation becomes.
 fn fitted_value(format: &Format, value: &i128, exact: &mut ExactList) -> i64
     requires { length exact.old.items < MOST_EXACT }
-    ensures value { record { value = result; exact = exact.new.items } ≡ fitted_value format.now exact.old.items value.now }
+    ensures value { record { value = result; exact = exact.new.items }
+        ≡ fitted_value format.now exact.old.items value.now }
     ensures count { length exact.new.items ≡ length exact.old.items + 1 }
 {
     exact.push(*value);
@@ -36,7 +39,8 @@ fn times(coeff: &i64, word: &i64) -> i128
 pub(crate) fn product(format: &Format, coeff: &i64, word: &i64, exact: &mut ExactList) -> i64
     requires coeff { IsWord format.now coeff.now }
     requires room { length exact.old.items < MOST_EXACT }
-    ensures value { record { value = result; exact = exact.new.items } ≡ product format.now exact.old.items coeff.now word.now }
+    ensures value { record { value = result; exact = exact.new.items }
+        ≡ product format.now exact.old.items coeff.now word.now }
     ensures count { length exact.new.items ≡ length exact.old.items + 1 }
 {
     let value = format.round_shift(times(coeff, word));
@@ -46,7 +50,8 @@ pub(crate) fn product(format: &Format, coeff: &i64, word: &i64, exact: &mut Exac
 /// A word added to a line.
 fn plus(format: &Format, sum: &i64, word: &i64, exact: &mut ExactList) -> i64
     requires { length exact.old.items < MOST_EXACT }
-    ensures value { record { value = result; exact = exact.new.items } ≡ fitted_value format.now exact.old.items (sum.now +ℤ word.now) }
+    ensures value { record { value = result; exact = exact.new.items }
+        ≡ fitted_value format.now exact.old.items (sum.now +ℤ word.now) }
     ensures count { length exact.new.items ≡ length exact.old.items + 1 }
 {
     let value = i128::from(*sum) + i128::from(*word);
@@ -56,7 +61,8 @@ fn plus(format: &Format, sum: &i64, word: &i64, exact: &mut ExactList) -> i64
 /// A word taken away from a line.
 fn minus(format: &Format, sum: &i64, word: &i64, exact: &mut ExactList) -> i64
     requires { length exact.old.items < MOST_EXACT }
-    ensures value { record { value = result; exact = exact.new.items } ≡ fitted_value format.now exact.old.items (sum.now -ℤ word.now) }
+    ensures value { record { value = result; exact = exact.new.items }
+        ≡ fitted_value format.now exact.old.items (sum.now -ℤ word.now) }
     ensures count { length exact.new.items ≡ length exact.old.items + 1 }
 {
     let value = i128::from(*sum) - i128::from(*word);
@@ -75,7 +81,8 @@ pub(crate) fn next_product(
     requires coeff { IsWord format.now coeff.now }
     requires room { length exact.old.items + 2 ≤ MOST_EXACT }
     ensures value { record { value = result; exact = exact.new.items } ≡
-        next_summand format.now (record { value = sum.now; exact = exact.old.items }) (Times away coeff.now word.now) }
+        next_summand format.now (record { value = sum.now; exact = exact.old.items })
+        (Times away coeff.now word.now) }
     ensures count { length exact.new.items ≡ length exact.old.items + 2 }
 {
     let term = product(format, coeff, word, exact);
@@ -99,7 +106,8 @@ pub(crate) fn next_products(
     requires words { length coeffs.now ≤ length words.now }
     requires room { length exact.old.items + 2 * length coeffs.now ≤ MOST_EXACT }
     ensures value { record { value = result; exact = exact.new.items } ≡
-        next_summands format.now (record { value = sum.now; exact = exact.old.items }) (summands away coeffs.now (ago words.now) 0) }
+        next_summands format.now (record { value = sum.now; exact = exact.old.items })
+        (summands away coeffs.now (ago words.now) 0) }
     ensures count { length exact.new.items ≡ length exact.old.items + 2 * length coeffs.now }
 {
     let mut value = *sum;
@@ -113,7 +121,8 @@ pub(crate) fn next_products(
 pub(crate) fn plus_first(format: &Format, sum: &i64, words: &[i64], exact: &mut ExactList) -> i64
     requires { length exact.old.items < MOST_EXACT }
     ensures value { record { value = result; exact = exact.new.items } ≡
-        next_summands format.now (record { value = sum.now; exact = exact.old.items }) (first_alone words.now) }
+        next_summands format.now (record { value = sum.now; exact = exact.old.items })
+        (first_alone words.now) }
     ensures count { length exact.new.items ≤ length exact.old.items + 1 }
 {
     match words.first() {
@@ -135,7 +144,8 @@ pub(crate) fn forward(
     requires words { length coeffs.now ≤ length older.now + 1 }
     requires room { length exact.old.items + 2 * length coeffs.now ≤ MOST_EXACT }
     ensures value { record { value = result; exact = exact.new.items } ≡
-        line format.now exact.old.items (summands false coeffs.now (ago (newest.now ∷ older.now)) 0) }
+        line format.now exact.old.items
+        (summands false coeffs.now (ago (newest.now ∷ older.now)) 0) }
     ensures count { length exact.new.items + 1 ≡ length exact.old.items + 2 * length coeffs.now }
 {
     let (first, rest) = coeffs.split_at(1);

@@ -35,8 +35,10 @@ fn loaded_registers(q: &Quantised, start: &[i64]) -> Registers
 /// The row of one sample, after which the registers have their new words.
 fn next_row(q: &Quantised, x: &i64, registers: &mut Registers) -> Row
     requires { length registers.old.items ≡ registers_of q.now.realisation (order q.now) }
-    ensures row { row_of result ≡ row_at (step_as q.now.realisation q.now registers.old.items x.now) x.now }
-    ensures registers { registers.new.items ≡ (step_as q.now.realisation q.now registers.old.items x.now).past }
+    ensures row { row_of result
+        ≡ row_at (step_as q.now.realisation q.now registers.old.items x.now) x.now }
+    ensures registers { registers.new.items
+        ≡ (step_as q.now.realisation q.now registers.old.items x.now).past }
     ensures many { length registers.new.items ≡ length registers.old.items }
 {
     let mut exact = ExactList::new();
@@ -44,8 +46,8 @@ fn next_row(q: &Quantised, x: &i64, registers: &mut Registers) -> Row
     Row { x: *x, y, exact }
 }
 
-/// The rows of a run from these words in the registers over these inputs: each row is what the realisation's written
-/// equations give at its sample. Takes memory for the rows alone.
+/// The rows of a run from these words in the registers over these inputs: each row is what the
+/// realisation's written equations give at its sample. Takes memory for the rows alone.
 pub fn simulate(
     alloc: Global,
     q: &Quantised,

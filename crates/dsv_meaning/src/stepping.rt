@@ -2,9 +2,11 @@
 #![tactic(auto, using(dsv_algebra::proofs::Casts::casts))]
 
 ghost use Rattle.std.specs.Prelude.{◌≡◌, ◌+◌, ◌*◌, ◌≤◌, [], ◌∷◌, ◌++◌, length};
-ghost use Rattle.dsv_names.specs.declared.realisation.Realisation.TheVariants.{Dfi, Dfii, Tdfii, Ddfi, Ddfii, Tddfii};
+ghost use Rattle.dsv_names.specs.declared.realisation.Realisation.TheVariants.{Dfi, Dfii, Tdfii};
+ghost use Rattle.dsv_names.specs.declared.realisation.Realisation.TheVariants.{Ddfi, Ddfii, Tddfii};
 ghost use Rattle.dsv_meaning.specs.Lines.{Alone, line};
-ghost use Rattle.dsv_meaning.specs.Equations.{ago, order, forward_summands, feedback_summands, transposed_output, registers_of};
+ghost use Rattle.dsv_meaning.specs.Equations.{ago, order, forward_summands, feedback_summands};
+ghost use Rattle.dsv_meaning.specs.Equations.{transposed_output, registers_of};
 ghost use Rattle.dsv_meaning.specs.Stepping.{step_as};
 ghost use Rattle.dsv_system.specs.declared.exact_list.TheConstants.{MOST_EXACT};
 
@@ -34,7 +36,8 @@ fn feedback_sum(q: &Quantised, x: &i64, words: &[i64], exact: &mut ExactList) ->
     requires words { length words.now ≡ order q.now }
     requires room { length exact.old.items + 2 * order q.now ≤ MOST_EXACT }
     ensures value { record { value = result; exact = exact.new.items } ≡
-        line q.now.format exact.old.items (Alone x.now ∷ feedback_summands q.now (ago words.now) 0) }
+        line q.now.format exact.old.items
+        (Alone x.now ∷ feedback_summands q.now (ago words.now) 0) }
     ensures count { length exact.new.items ≡ length exact.old.items + 2 * order q.now }
 {
     let format = q.format();
@@ -47,7 +50,8 @@ fn direct_output(q: &Quantised, x: &i64, u: &[i64], v: &[i64], exact: &mut Exact
     requires v { length v.now ≡ order q.now }
     requires room { length exact.old.items + 4 * order q.now + 2 ≤ MOST_EXACT }
     ensures value { record { value = result; exact = exact.new.items } ≡
-        line q.now.format exact.old.items (forward_summands q.now (ago (x.now ∷ u.now)) ++ feedback_summands q.now (ago v.now) 0) }
+        line q.now.format exact.old.items
+        (forward_summands q.now (ago (x.now ∷ u.now)) ++ feedback_summands q.now (ago v.now) 0) }
     ensures count { length exact.new.items ≡ length exact.old.items + 4 * order q.now + 1 }
 {
     let sum = forward_sum(q, x, u, exact);
@@ -166,7 +170,8 @@ fn tddfii(q: &Quantised, x: &i64, registers: &mut Registers, exact: &mut ExactLi
     y
 }
 
-/// One sample: answers the output, loads the registers with their new words, and gives the exact values.
+/// One sample: answers the output, loads the registers with their new words, and gives the exact
+/// values.
 pub(crate) fn step(q: &Quantised, x: &i64, registers: &mut Registers, exact: &mut ExactList) -> i64
     requires many { length registers.old.items ≡ registers_of q.now.realisation (order q.now) }
     requires empty { exact.old.items ≡ [] }

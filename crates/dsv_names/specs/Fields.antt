@@ -16,4 +16,5 @@ field_name field.Min = codes "min"
 field_name field.Delta = codes "delta"
 
 abbrev pub fields : List Field
-fields = field.B ∷ field.A ∷ field.BSize ∷ field.ASize ∷ field.SampleTime ∷ field.IntBits ∷ field.FracBits ∷ field.Max ∷ field.Min ∷ field.Delta ∷ []
+fields = field.B ∷ field.A ∷ field.BSize ∷ field.ASize ∷ field.SampleTime ∷ field.IntBits
+    ∷ field.FracBits ∷ field.Max ∷ field.Min ∷ field.Delta ∷ []

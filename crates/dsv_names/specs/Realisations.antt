@@ -12,7 +12,8 @@ realisation_name realisation.Ddfii = codes "DDFII"
 realisation_name realisation.Tddfii = codes "TDDFII"
 
 abbrev pub realisations : List Realisation
-realisations = realisation.Dfi ∷ realisation.Dfii ∷ realisation.Tdfii ∷ realisation.Ddfi ∷ realisation.Ddfii ∷ realisation.Tddfii ∷ []
+realisations = realisation.Dfi ∷ realisation.Dfii ∷ realisation.Tdfii ∷ realisation.Ddfi
+    ∷ realisation.Ddfii ∷ realisation.Tddfii ∷ []
 
 -- the realisation is a delta form
 abbrev pub is_delta : Realisation → Bool

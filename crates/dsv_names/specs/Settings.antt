@@ -1,4 +1,5 @@
--- Names: The fields of the block `hardware` that are read: the clock and what the parts of a sample cost.
+-- Names: The fields of the block `hardware` that are read: the clock and what the parts of a sample
+-- cost.
 use Rattle.std.specs.Prelude.{ℕ, List, [], ◌∷◌, codes}
 use Rattle.dsv_names.specs.declared.setting.Setting.{Setting}
 use Rattle.dsv_names.specs.declared.setting.Setting.TheVariants as setting
@@ -13,4 +14,5 @@ setting_name setting.CostFit = codes "cost_fit"
 setting_name setting.CostMoves = codes "cost_moves"
 
 abbrev pub settings : List Setting
-settings = setting.Clock ∷ setting.CostSample ∷ setting.CostMul ∷ setting.CostAdd ∷ setting.CostRound ∷ setting.CostFit ∷ setting.CostMoves ∷ []
+settings = setting.Clock ∷ setting.CostSample ∷ setting.CostMul ∷ setting.CostAdd
+    ∷ setting.CostRound ∷ setting.CostFit ∷ setting.CostMoves ∷ []

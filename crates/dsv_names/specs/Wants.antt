@@ -18,4 +18,6 @@ wanted_name wanted.Close = codes "CLOSE"
 wanted_name wanted.Semicolon = codes "SEMICOLON"
 
 abbrev pub wants : List Wanted
-wants = wanted.Declaration ∷ wanted.Name ∷ wanted.Equals ∷ wanted.Open ∷ wanted.FieldOrClose ∷ wanted.FieldName ∷ wanted.Number ∷ wanted.NumberOrClose ∷ wanted.CommaOrClose ∷ wanted.Value ∷ wanted.Close ∷ wanted.Semicolon ∷ []
+wants = wanted.Declaration ∷ wanted.Name ∷ wanted.Equals ∷ wanted.Open ∷ wanted.FieldOrClose
+    ∷ wanted.FieldName ∷ wanted.Number ∷ wanted.NumberOrClose ∷ wanted.CommaOrClose ∷ wanted.Value
+    ∷ wanted.Close ∷ wanted.Semicolon ∷ []

@@ -16,7 +16,7 @@ pub enum Field {
     SampleTime,
     /// The bits of a word before the point, the sign among them.
     IntBits,
-    /// The bits of a word behind the point.
+    /// The bits of a word after the point.
     FracBits,
     /// The greatest input.
     Max,

@@ -10,8 +10,8 @@ ghost use Rattle.dsv_names.specs.Roundings.{rounding_name, roundings};
 ghost use Rattle.dsv_names.specs.Settings.{setting_name, settings};
 ghost use Rattle.dsv_names.specs.Wants.{wanted_name, wants};
 
-/// The law of names: each value is found by its name, and a text that finds a value is its name. So no two values of a
-/// type have one name.
+/// The law of names: each value is found by its name, and a text that finds a value is its name. So
+/// no two values of a type have one name.
 #[tactic(auto, using(crate::proofs::NameLaws::name_laws))]
 pub fn names_are_inverse()
     ensures realisations { AreNames realisation_name realisations }

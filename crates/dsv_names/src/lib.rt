@@ -1,4 +1,5 @@
-//! The words that stand in commands, files and reports: enums whose values have names, one table each.
+//! The words that stand in commands, files and reports: enums whose values have names, one table
+//! each.
 #![tactic(auto)]
 
 mod block;

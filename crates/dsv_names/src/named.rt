@@ -1,6 +1,6 @@
 // Values with names.
 ghost use Rattle.std.specs.Prelude.{◌≡◌, ℕ, List};
-ghost use Rattle.dsv_names.specs.Names.{named};
+ghost use Rattle.dsv_names.specs.Names.{value_named};
 
 /// A type whose values have names.
 pub trait Named: Copy + 'static {
@@ -21,7 +21,7 @@ pub trait Named: Copy + 'static {
 
 /// The value of this name, where there is one.
 pub fn find_named<N: Named>(text: &[u8]) -> Option<N>
-    ensures { result ≡ named N.name_of N.all_values text.now }
+    ensures { result ≡ value_named N.name_of N.all_values text.now }
 {
     for value in N::all() {
         if value.name().as_bytes() == text {

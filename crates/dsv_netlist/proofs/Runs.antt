@@ -66,7 +66,7 @@ count_fits : (n : Node) (ns : List Node) → count_by is_fit (n ∷ ns) ≡ cond
 count_fits n ns = sum_by-cons (λ (m : Node). cond (is_fit m) 1 0) n ns
 
 -- what is known of nodes after a sample that has come so far
-pub record Behind (f : Format) (rs : List ℤ) (ns : List Node) (bs : List ℕ) (s : Sample) : Type 0 where
+pub record After (f : Format) (rs : List ℤ) (ns : List Node) (bs : List ℕ) (s : Sample) : Type 0 where
   pub within : AreWithin bs s.values
   pub backwards : AllNameBack (length s.values) ns
   pub reads : All (ReadsBelow (length rs)) ns
@@ -74,13 +74,13 @@ pub record Behind (f : Format) (rs : List ℤ) (ns : List Node) (bs : List ℕ) 
   pub room : length s.exact + count_by is_fit ns ≤ MOST_EXACT
 
 -- the first of these nodes: its value is within its bound
-first_size : (f : Format) (rs : List ℤ) (x : ℤ) (n : Node) (ns : List Node) (bs : List ℕ) (s : Sample) → Words f rs x → Behind f rs (n ∷ ns) bs s
+first_size : (f : Format) (rs : List ℤ) (x : ℤ) (n : Node) (ns : List Node) (bs : List ℕ) (s : Sample) → Words f rs x → After f rs (n ∷ ns) bs s
     → unsigned_abs (node_value f rs x s.values n) ≤ node_bound (word_bound f) bs n
 first_size f rs x n ns bs s w h = value_size f rs x bs s.values n w h.within h.backwards.0 (All-head (ReadsBelow (length rs)) n ns h.reads)
 
-behind_more : (f : Format) (rs : List ℤ) (x : ℤ) (n : Node) (ns : List Node) (bs : List ℕ) (s : Sample) → Words f rs x → Behind f rs (n ∷ ns) bs s
-    → Behind f rs ns (bs ++ node_bound (word_bound f) bs n ∷ []) (after_node f rs x s n)
-behind_more f rs x n ns bs s w h =
+after_more : (f : Format) (rs : List ℤ) (x : ℤ) (n : Node) (ns : List Node) (bs : List ℕ) (s : Sample) → Words f rs x → After f rs (n ∷ ns) bs s
+    → After f rs ns (bs ++ node_bound (word_bound f) bs n ∷ []) (after_node f rs x s n)
+after_more f rs x n ns bs s w h =
     let v = node_value f rs x s.values n in
     let b = node_bound (word_bound f) bs n in
     let e = node_exact-length s.values n in
@@ -92,7 +92,7 @@ behind_more f rs x n ns bs s w h =
       room = omega (arith, h.room, count_fits n ns, length-append s.exact (node_exact s.values n));
     }
 
-first_safe : (f : Format) (rs : List ℤ) (x : ℤ) (n : Node) (ns : List Node) (bs : List ℕ) (s : Sample) → Words f rs x → Behind f rs (n ∷ ns) bs s → IsSafe f rs x s n
+first_safe : (f : Format) (rs : List ℤ) (x : ℤ) (n : Node) (ns : List Node) (bs : List ℕ) (s : Sample) → Words f rs x → After f rs (n ∷ ns) bs s → IsSafe f rs x s n
 first_safe f rs x n ns bs s w h =
     let e = node_exact-length s.values n in
     record {
@@ -103,17 +103,17 @@ first_safe f rs x n ns bs s w h =
     }
 
 -- the nodes of a netlist can be computed one after another
-safe_from : (f : Format) (rs : List ℤ) (x : ℤ) (ns : List Node) (bs : List ℕ) (s : Sample) → Words f rs x → Behind f rs ns bs s → AreSafe f rs x ns s
+safe_from : (f : Format) (rs : List ℤ) (x : ℤ) (ns : List Node) (bs : List ℕ) (s : Sample) → Words f rs x → After f rs ns bs s → AreSafe f rs x ns s
 safe_from f rs x [] bs s w h = tt
 safe_from f rs x (n ∷ ns) bs s w h =
-    (first_safe f rs x n ns bs s w h, safe_from f rs x ns (bs ++ node_bound (word_bound f) bs n ∷ []) (after_node f rs x s n) w (behind_more f rs x n ns bs s w h))
+    (first_safe f rs x n ns bs s w h, safe_from f rs x ns (bs ++ node_bound (word_bound f) bs n ∷ []) (after_node f rs x s n) w (after_more f rs x n ns bs s w h))
 
 -- all values of a sample are within the bounds
-within_from : (f : Format) (rs : List ℤ) (x : ℤ) (ns : List Node) (bs : List ℕ) (s : Sample) → Words f rs x → Behind f rs ns bs s
+within_from : (f : Format) (rs : List ℤ) (x : ℤ) (ns : List Node) (bs : List ℕ) (s : Sample) → Words f rs x → After f rs ns bs s
     → AreWithin (bounds_from (word_bound f) ns bs) (sample_from f rs x ns s).values
 within_from f rs x [] bs s w h = h.within
 within_from f rs x (n ∷ ns) bs s w h =
-    within_from f rs x ns (bs ++ node_bound (word_bound f) bs n ∷ []) (after_node f rs x s n) w (behind_more f rs x n ns bs s w h)
+    within_from f rs x ns (bs ++ node_bound (word_bound f) bs n ∷ []) (after_node f rs x s n) w (after_more f rs x n ns bs s w h)
 
 -- ---- which values are words
 node_word : (f : Format) (rs : List ℤ) (x : ℤ) (vs : List ℤ) (n : Node) → Words f rs x → ReadsBelow (length rs) n → gives_word n ≡ true → IsWord f (node_value f rs x vs n)
@@ -153,8 +153,8 @@ named_word f rs x (n ∷ ns) s (suc k) w r h =
 words_of : (net : Net) (rs : List ℤ) (x : ℤ) → AreWords net rs x → Words net.format rs x
 words_of net rs x w = record { each = λ k p. All-get_or (IsWord net.format) rs k (pos 0) p w.words; input = w.input }
 
-start_behind : (net : Net) (rs : List ℤ) (x : ℤ) → IsNetlist net → AreWords net rs x → Behind net.format rs net.nodes [] (record { values = []; exact = [] })
-start_behind net rs x n w =
+start_after : (net : Net) (rs : List ℤ) (x : ℤ) → IsNetlist net → AreWords net rs x → After net.format rs net.nodes [] (record { values = []; exact = [] })
+start_after net rs x n w =
     record {
       within = record { long = refl; each = λ i p. absurd (omega arith) };
       backwards = n.backwards;
@@ -164,11 +164,11 @@ start_behind net rs x n w =
     }
 
 pub net_safe : (net : Net) (rs : List ℤ) (x : ℤ) → IsNetlist net → AreWords net rs x → AreSafe net.format rs x net.nodes (record { values = []; exact = [] })
-net_safe net rs x n w = safe_from net.format rs x net.nodes [] (record { values = []; exact = [] }) (words_of net rs x w) (start_behind net rs x n w)
+net_safe net rs x n w = safe_from net.format rs x net.nodes [] (record { values = []; exact = [] }) (words_of net rs x w) (start_after net rs x n w)
 
 pub values_bounded : ValuesAreBounded
 values_bounded net rs x n w i h =
-    (within_from net.format rs x net.nodes [] (record { values = []; exact = [] }) (words_of net rs x w) (start_behind net rs x n w)).each i
+    (within_from net.format rs x net.nodes [] (record { values = []; exact = [] }) (words_of net rs x w) (start_after net rs x n w)).each i
     (omega (arith, from-length net.format rs x net.nodes (record { values = []; exact = [] })))
 
 pub net_word : (net : Net) (rs : List ℤ) (x : ℤ) (k : ℕ) → IsNetlist net → AreWords net rs x → IsTrue (names_word net.nodes k) → IsWord net.format (at (sample_of net.format rs x net.nodes).values k)

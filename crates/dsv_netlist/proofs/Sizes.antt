@@ -8,7 +8,7 @@ use Rattle.std.proofs.lemmas.Int.{ints, unsigned_abs-mul}
 use Rattle.std.proofs.lemmas.Nat.{pow_pos, mul-le}
 use Rattle.std.proofs.lemmas.Bool.{cases_lt}
 use lib.Signed.{◌<ℤ◌, ◌≤ℤ◌}
-use Rattle.dsv_algebra.specs.Floor.{IsFloor, floored}
+use Rattle.dsv_algebra.specs.Floor.{IsFloor, floor_of}
 use Rattle.dsv_algebra.proofs.Floors.{step_up, floored_is}
 use Rattle.dsv_word.specs.declared.format.Format.{Format}
 use Rattle.dsv_names.specs.declared.rounding.Rounding.{Rounding}
@@ -16,7 +16,7 @@ use Rattle.dsv_names.specs.declared.rounding.Rounding.TheVariants as rounding
 use Rattle.dsv_names.specs.declared.overflow_mode.OverflowMode.{OverflowMode}
 use Rattle.dsv_names.specs.declared.overflow_mode.OverflowMode.TheVariants as overflow_mode
 use Rattle.dsv_word.specs.Words.{width, lo, hi, fit, IsWord}
-use Rattle.dsv_word.specs.Quotients.{shifted}
+use Rattle.dsv_word.specs.Quotients.{whole_shift}
 use Rattle.dsv_word.proofs.Meanings.{wrapped_is, saturated_is}
 use Rattle.dsv_netlist.specs.Bounds.{word_bound}
 
@@ -68,12 +68,12 @@ scaled : (b d : ℕ) → 0 < d → b ≤ b * d
 scaled b (suc d) h = omega arith
 scaled b zero h = absurd (omega arith)
 
-floored_size : (v : ℤ) (d b : ℕ) → 0 < d → unsigned_abs v ≤ b → unsigned_abs (floored v d) ≤ b
+floored_size : (v : ℤ) (d b : ℕ) → 0 < d → unsigned_abs v ≤ b → unsigned_abs (floor_of v d) ≤ b
 floored_size v d b p h =
     let w = size_within b v h in
     let s = scaled b d p in
     let t = scaled (b + 1) d p in
-    floor_size v d b (floored v d) (floored_is v d p) (omega (arith, ints, w.low)) (omega (arith, ints, w.high))
+    floor_size v d b (floor_of v d) (floored_is v d p) (omega (arith, ints, w.low)) (omega (arith, ints, w.high))
 
 negative_size : (v : ℤ) → unsigned_abs (neg_ℤ v) ≡ unsigned_abs v
 negative_size (pos zero) = refl
@@ -84,22 +84,22 @@ halves : (f : ℕ) → (f == 0) ≡ false → 2 ^ f ≡ 2 * 2 ^ (f - 1)
 halves zero h = absurd cc
 halves (suc f) h = let e : suc f - 1 ≡ f = omega arith in rw (pow-suc 2 f, e) (omega arith)
 
-nearest_size : (v : ℤ) (h d b : ℕ) → d ≡ 2 * h → 0 < h → unsigned_abs v ≤ b → unsigned_abs (floored (v +ℤ pos h) d) ≤ b
+nearest_size : (v : ℤ) (h d b : ℕ) → d ≡ 2 * h → 0 < h → unsigned_abs v ≤ b → unsigned_abs (floor_of (v +ℤ pos h) d) ≤ b
 nearest_size v h d b e p l =
     let w = size_within b v l in
     let q : 0 < d = omega arith in
     let s = scaled b d q in
     let t : (b + 1) * d ≡ b * d + d = omega arith in
-    floor_size (v +ℤ pos h) d b (floored (v +ℤ pos h) d) (floored_is (v +ℤ pos h) d q) (omega (arith, ints, w.low)) (omega (arith, ints, w.high))
+    floor_size (v +ℤ pos h) d b (floor_of (v +ℤ pos h) d) (floored_is (v +ℤ pos h) d q) (omega (arith, ints, w.low)) (omega (arith, ints, w.high))
 
 -- rounding makes no number greater in size
-pub shifted_size : (r : Rounding) (f : ℕ) (v : ℤ) (b : ℕ) → unsigned_abs v ≤ b → unsigned_abs (shifted r f v) ≤ b
+pub shifted_size : (r : Rounding) (f : ℕ) (v : ℤ) (b : ℕ) → unsigned_abs v ≤ b → unsigned_abs (whole_shift r f v) ≤ b
 shifted_size rounding.Floor f v b h = floored_size v (2 ^ f) b (pow_pos f) h
 shifted_size rounding.Ceil f v b h =
-    rw (negative_size (floored (neg_ℤ v) (2 ^ f))) (floored_size (neg_ℤ v) (2 ^ f) b (pow_pos f) (rw (negative_size v) h))
+    rw (negative_size (floor_of (neg_ℤ v) (2 ^ f))) (floored_size (neg_ℤ v) (2 ^ f) b (pow_pos f) (rw (negative_size v) h))
 shifted_size rounding.Nearest f v b h = by_places (f == 0) refl
   where
-    by_places : (none : Bool) → (f == 0) ≡ none → unsigned_abs (if f == 0 then v else floored (v +ℤ pos (2 ^ (f - 1))) (2 ^ f)) ≤ b
+    by_places : (none : Bool) → (f == 0) ≡ none → unsigned_abs (if f == 0 then v else floor_of (v +ℤ pos (2 ^ (f - 1))) (2 ^ f)) ≤ b
     by_places true e = rw e h
     by_places false e = rw e (nearest_size v (2 ^ (f - 1)) (2 ^ f) b (halves f e) (pow_pos (f - 1)) h)
 

@@ -1,10 +1,12 @@
 -- Bounds on the sizes of the nodes' values, for registers and an input that are words.
-use Rattle.std.specs.Prelude.{ℕ, ◌+◌, ◌-◌, ◌*◌, ◌^◌, List, [], ◌∷◌, ◌++◌, slice_index}
+use Rattle.std.specs.Prelude.{ℕ, ◌+◌, ◌-◌, ◌*◌, ◌^◌, List}
+use Rattle.std.specs.Prelude.{[], ◌∷◌, ◌++◌, slice_index}
 use Rattle.std.specs.Int.RustNames.{unsigned_abs}
 use Rattle.dsv_word.specs.declared.format.Format.{Format}
 use Rattle.dsv_word.specs.Words.{width}
 use Rattle.dsv_netlist.specs.declared.node.Node.{Node}
-use Rattle.dsv_netlist.specs.declared.node.Node.TheVariants.{Input, Reg, MulConst, Round, Add, Sub, Fit}
+use Rattle.dsv_netlist.specs.declared.node.Node.TheVariants.{Input, Reg, MulConst}
+use Rattle.dsv_netlist.specs.declared.node.Node.TheVariants.{Round, Add, Sub, Fit}
 
 -- the greatest size of a word
 abbrev pub word_bound : Format → ℕ
@@ -22,7 +24,8 @@ node_bound word bounds (Fit of) = word
 
 abbrev pub bounds_from : ℕ → List Node → List ℕ → List ℕ
 bounds_from word [] bounds = bounds
-bounds_from word (node ∷ nodes) bounds = bounds_from word nodes (bounds ++ node_bound word bounds node ∷ [])
+bounds_from word (node ∷ nodes) bounds =
+    bounds_from word nodes (bounds ++ node_bound word bounds node ∷ [])
 
 -- the bounds of all nodes
 abbrev pub bounds_of : Format → List Node → List ℕ

@@ -1,8 +1,10 @@
 -- What makes nodes a netlist.
-use Rattle.std.specs.Prelude.{ℕ, zero, suc, ◌+◌, ◌<◌, ◌≤◌, Bool, true, false, IsTrue, List, [], ◌∷◌, length, count_by}
+use Rattle.std.specs.Prelude.{ℕ, zero, suc, ◌+◌, ◌<◌, ◌≤◌, Bool, true, false}
+use Rattle.std.specs.Prelude.{IsTrue, List, [], ◌∷◌, length, count_by}
 use Rattle.std.specs.List.{All}
 use Rattle.dsv_netlist.specs.declared.node.Node.{Node}
-use Rattle.dsv_netlist.specs.declared.node.Node.TheVariants.{Input, Reg, MulConst, Round, Add, Sub, Fit}
+use Rattle.dsv_netlist.specs.declared.node.Node.TheVariants.{Input, Reg, MulConst}
+use Rattle.dsv_netlist.specs.declared.node.Node.TheVariants.{Round, Add, Sub, Fit}
 use Rattle.dsv_system.specs.declared.exact_list.TheConstants.{MOST_EXACT}
 use Rattle.dsv_netlist.specs.declared.TheConstants.{MOST_NODES, MOST_REGISTERS, BOUND_LIMIT}
 use Rattle.dsv_netlist.specs.Nodes.{Net}
@@ -25,15 +27,23 @@ AllNameBack n (node ∷ nodes) = NamesBelow n node × AllNameBack (n + 1) nodes
 
 -- a register that this node reads is one of n
 abbrev pub ReadsBelow : ℕ → Node → Type 0
+ReadsBelow n Input = Unit {0}
 ReadsBelow n (Reg register) = register < n
-ReadsBelow n _ = Unit {0}
+ReadsBelow n (MulConst coeff of) = Unit {0}
+ReadsBelow n (Round of) = Unit {0}
+ReadsBelow n (Add left right) = Unit {0}
+ReadsBelow n (Sub left right) = Unit {0}
+ReadsBelow n (Fit of) = Unit {0}
 
 -- the node's value is a word
 abbrev pub gives_word : Node → Bool
 gives_word Input = true
 gives_word (Reg register) = true
+gives_word (MulConst coeff of) = false
+gives_word (Round of) = false
+gives_word (Add left right) = false
+gives_word (Sub left right) = false
 gives_word (Fit of) = true
-gives_word _ = false
 
 -- there is a node of this number, and its value is a word
 abbrev pub names_word : List Node → ℕ → Bool
@@ -42,11 +52,17 @@ names_word (node ∷ nodes) zero = gives_word node
 names_word (node ∷ nodes) (suc k) = names_word nodes k
 
 abbrev pub is_fit : Node → Bool
+is_fit Input = false
+is_fit (Reg register) = false
+is_fit (MulConst coeff of) = false
+is_fit (Round of) = false
+is_fit (Add left right) = false
+is_fit (Sub left right) = false
 is_fit (Fit of) = true
-is_fit _ = false
 
--- What Netlist::new accepts: few enough nodes, registers and exact values; past inputs are registers; nodes name nodes
--- before them and registers that are there; the output and what loads a register are words; no bound reaches the limit.
+-- What Netlist::new accepts: few enough nodes, registers and exact values; past inputs are
+-- registers; nodes name nodes before them and registers that are there; the output and what loads a
+-- register are words; no bound reaches the limit.
 pub record IsNetlist (net : Net) : Type 0 where
   pub few_nodes : length net.nodes ≤ MOST_NODES
   pub few_registers : length net.next ≤ MOST_REGISTERS

@@ -16,4 +16,8 @@ is_sum (Sub left right) = true
 is_sum _ = false
 
 abbrev pub counts_of : Net → OpCounts
-counts_of net = record { products = count_by is_product net.nodes; sums = count_by is_sum net.nodes; moves = length net.next }
+counts_of net = record {
+  products = count_by is_product net.nodes;
+  sums = count_by is_sum net.nodes;
+  moves = length net.next;
+}

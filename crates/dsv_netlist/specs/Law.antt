@@ -15,5 +15,8 @@ pub record AreWords (net : Net) (registers : List ℤ) (x : ℤ) : Type 0 where
 
 -- in every sample of every netlist, from words, no node's value is greater in size than its bound
 abbrev pub ValuesAreBounded : Type 0
-ValuesAreBounded = (net : Net) (registers : List ℤ) (x : ℤ) → IsNetlist net → AreWords net registers x
-    → (i : ℕ) → i < length net.nodes → unsigned_abs (at (sample_of net.format registers x net.nodes).values i) ≤ slice_index (bounds_of net.format net.nodes) i
+ValuesAreBounded = (net : Net) (registers : List ℤ) (x : ℤ) → IsNetlist net
+    → AreWords net registers x
+    → (i : ℕ) → i < length net.nodes
+    → unsigned_abs (at (sample_of net.format registers x net.nodes).values i)
+    ≤ slice_index (bounds_of net.format net.nodes) i

@@ -1,11 +1,13 @@
 -- Netlists, and what their nodes give in one sample.
-use Rattle.std.specs.Prelude.{ℕ, List, [], ◌∷◌, ◌++◌, map, slice_index_or, ℤ, pos, ◌+ℤ◌, ◌-ℤ◌, ◌*ℤ◌}
+use Rattle.std.specs.Prelude.{ℕ, List, [], ◌∷◌, ◌++◌, map}
+use Rattle.std.specs.Prelude.{slice_index_or, ℤ, pos, ◌+ℤ◌, ◌-ℤ◌, ◌*ℤ◌}
 use Rattle.dsv_word.specs.declared.format.Format.{Format}
 use Rattle.dsv_word.specs.Words.{width, fit}
-use Rattle.dsv_word.specs.Quotients.{shifted}
+use Rattle.dsv_word.specs.Quotients.{whole_shift}
 use Rattle.dsv_system.specs.Runs.{Sampled}
 use Rattle.dsv_netlist.specs.declared.node.Node.{Node}
-use Rattle.dsv_netlist.specs.declared.node.Node.TheVariants.{Input, Reg, MulConst, Round, Add, Sub, Fit}
+use Rattle.dsv_netlist.specs.declared.node.Node.TheVariants.{Input, Reg, MulConst}
+use Rattle.dsv_netlist.specs.declared.node.Node.TheVariants.{Round, Add, Sub, Fit}
 
 -- what contracts see of a netlist: register k is loaded from the node that `next` has at place k
 pub record Net : Type 0 where
@@ -16,9 +18,17 @@ pub record Net : Type 0 where
   pub format : Format
 
 abbrev pub net_from : List Node → List ℕ → ℕ → ℕ → Format → Net
-net_from nodes next output feed_forward format = record { nodes = nodes; next = next; output = output; feed_forward = feed_forward; format = format }
+net_from nodes next output feed_forward format =
+    record {
+      nodes = nodes;
+      next = next;
+      output = output;
+      feed_forward = feed_forward;
+      format = format;
+    }
 
--- how far a sample has come: the values of the nodes so far, and those that were fitted, as they were before
+-- how far a sample has come: the values of the nodes so far, and those that were fitted, as they
+-- were before
 pub record Sample : Type 0 where
   pub values : List ℤ
   pub exact : List ℤ
@@ -31,7 +41,8 @@ abbrev pub node_value : Format → List ℤ → ℤ → List ℤ → Node → �
 node_value format registers x values Input = x
 node_value format registers x values (Reg register) = at registers register
 node_value format registers x values (MulConst coeff of) = coeff *ℤ at values of
-node_value format registers x values (Round of) = shifted format.rounding format.frac_bits (at values of)
+node_value format registers x values (Round of) =
+    whole_shift format.rounding format.frac_bits (at values of)
 node_value format registers x values (Add left right) = at values left +ℤ at values right
 node_value format registers x values (Sub left right) = at values left -ℤ at values right
 node_value format registers x values (Fit of) = fit format.overflow (width format) (at values of)
@@ -49,14 +60,20 @@ after_node format registers x sample node = record {
 
 abbrev pub sample_from : Format → List ℤ → ℤ → List Node → Sample → Sample
 sample_from format registers x [] sample = sample
-sample_from format registers x (node ∷ nodes) sample = sample_from format registers x nodes (after_node format registers x sample node)
+sample_from format registers x (node ∷ nodes) sample =
+    sample_from format registers x nodes (after_node format registers x sample node)
 
 abbrev pub sample_of : Format → List ℤ → ℤ → List Node → Sample
-sample_of format registers x nodes = sample_from format registers x nodes (record { values = []; exact = [] })
+sample_of format registers x nodes =
+    sample_from format registers x nodes (record { values = []; exact = [] })
 
 -- what a sample gives, whose past is the registers after it
 abbrev pub step_from : Net → Sample → Sampled (List ℤ)
-step_from net sample = record { y = at sample.values net.output; exact = sample.exact; past = map (at sample.values) net.next }
+step_from net sample = record {
+  y = at sample.values net.output;
+  exact = sample.exact;
+  past = map (at sample.values) net.next;
+}
 
 -- one step of a netlist: every register is read before any is loaded
 abbrev pub step_of : Net → List ℤ → ℤ → Sampled (List ℤ)

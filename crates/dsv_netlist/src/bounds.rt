@@ -8,7 +8,8 @@ use crate::node::Node;
 use crate::{BOUND_LIMIT, MOST_NODES};
 use dsv_word::Format;
 
-/// The bound of a node, where it is below the limit. `word` is that of a word, and `bounds` those of the nodes before.
+/// The bound of a node, where it is below the limit. `word` is that of a word, and `bounds` those
+/// of the nodes before.
 fn bound_of(node: &Node, word: u128, bounds: &[u128]) -> Option<u128>
     requires backwards { NamesBelow (length bounds.now) node.now }
     requires bounded { All (λ bound. bound < BOUND_LIMIT) bounds.now }
@@ -43,8 +44,10 @@ fn word_bound(format: &Format) -> u128
 pub(crate) fn bounds_of(format: &Format, nodes: &[Node]) -> Option<[u128; MOST_NODES]>
     requires few { length nodes.now ≤ MOST_NODES }
     requires backwards { AllNameBack 0 nodes.now }
-    ensures exact { IsSome result ↔ All (λ bound. bound < BOUND_LIMIT) (bounds_of format.now nodes.now) }
-    ensures value { IfSome result (λ bounds. take (length nodes.now) bounds ≡ bounds_of format.now nodes.now) }
+    ensures exact { IsSome result
+        ↔ All (λ bound. bound < BOUND_LIMIT) (bounds_of format.now nodes.now) }
+    ensures value { IfSome result (λ bounds. take (length nodes.now) bounds
+        ≡ bounds_of format.now nodes.now) }
 {
     let word = word_bound(format);
     let mut bounds = [0; MOST_NODES];

@@ -1,4 +1,5 @@
-//! Netlists: nodes that refer backwards, an output, and a next node for each register; their steps, sample by sample.
+//! Netlists: nodes that refer backwards, an output, and a next node for each register; their steps,
+//! sample by sample.
 #![tactic(auto, using(dsv_algebra::proofs::Casts::casts))]
 
 mod bounds;

@@ -1,6 +1,7 @@
 // Netlists and their steps.
 ghost use Rattle.dsv_word.specs.Words.{IsWord};
-ghost use Rattle.std.specs.Prelude.{◌≡◌, ◌<◌, ◌≤◌, ◌↔◌, [], length, pos, slice_get, slice_index, Some, IsSome, IfSome, ◌<ℤ◌};
+ghost use Rattle.std.specs.Prelude.{◌≡◌, ◌<◌, ◌≤◌, ◌↔◌, [], length, pos, slice_get};
+ghost use Rattle.std.specs.Prelude.{slice_index, Some, IsSome, IfSome, ◌<ℤ◌};
 ghost use Rattle.std.specs.List.{All};
 ghost use Rattle.dsv_netlist.specs.Nodes.{net_from, step_of};
 ghost use Rattle.dsv_netlist.specs.Bounds.{bounds_of};
@@ -17,7 +18,8 @@ use dsv_system::{ExactList, MOST_EXACT};
 use dsv_word::Format;
 use std::marker::Model;
 
-/// How many operations a sample takes: products by a coefficient, sums and differences, and registers loaded.
+/// How many operations a sample takes: products by a coefficient, sums and differences, and
+/// registers loaded.
 #[derive(Clone, Copy, Debug, PartialEq, Eq)]
 pub struct OpCounts {
     pub products: u32,
@@ -25,8 +27,9 @@ pub struct OpCounts {
     pub moves: u32,
 }
 
-/// Nodes that refer backwards, a node whose value is the output, and for each register the node that it is loaded
-/// from. The first `feed_forward` registers hold inputs of samples before. Beside them stand the nodes' bounds.
+/// Nodes that refer backwards, a node whose value is the output, and for each register the node
+/// that it is loaded from. The first `feed_forward` registers hold inputs of samples before. Beside
+/// them stand the nodes' bounds.
 #[derive(Drop)]
 pub struct Netlist {
     nodes: Vec<Node>,
@@ -58,8 +61,10 @@ impl Netlist {
         feed_forward: u32,
         format: Format,
     ) -> Option<Netlist>
-        ensures exact { IsSome result ↔ IsNetlist (net_from nodes.items next.items output feed_forward format) }
-        ensures same { IfSome result (λ net. net ≡ net_from nodes.items next.items output feed_forward format) }
+        ensures exact { IsSome result
+            ↔ IsNetlist (net_from nodes.items next.items output feed_forward format) }
+        ensures same { IfSome result (λ net. net
+            ≡ net_from nodes.items next.items output feed_forward format) }
     {
         if nodes.len() > MOST_NODES
             || next.len() > MOST_REGISTERS
@@ -137,8 +142,8 @@ impl Netlist {
         self.format
     }
 
-    /// The bound of the node of this number: from registers and an input that are words its value isn't greater in
-    /// size.
+    /// The bound of the node of this number: from registers and an input that are words its value
+    /// isn't greater in size.
     pub fn bound(&self, i: u32) -> i128
         requires { i < length self.now.nodes }
         ensures value { result ≡ pos (slice_index (bounds_of self.now.format self.now.nodes) i) }
@@ -159,8 +164,9 @@ impl Netlist {
         }
     }
 
-    /// One sample: answers the output, loads the registers, and appends the exact values, one for each Fit node in the
-    /// order of the nodes: the value before it is fitted. Registers and input are words. It takes no memory.
+    /// One sample: answers the output, loads the registers, and appends the exact values, one for
+    /// each Fit node in the order of the nodes: the value before it is fitted. Registers and input
+    /// are words. It takes no memory.
     pub fn step(&self, regs: &mut [i64], x: i64, exact: &mut ExactList) -> i64
         requires registers { length regs.old ≡ length self.now.next }
         requires words { All (IsWord self.now.format) regs.old }

@@ -3,7 +3,8 @@ ghost use Rattle.std.specs.Prelude.{◌≡◌, ◌↔◌, IsTrue};
 ghost use Rattle.dsv_netlist.specs.Conditions.{NamesBelow, ReadsBelow, gives_word, is_fit};
 ghost use Rattle.dsv_netlist.specs.Counts.{is_product, is_sum};
 
-/// A node of a netlist. Others are named by their numbers, which count from 0 and are smaller than the node's own.
+/// A node of a netlist. Others are named by their numbers, which count from 0 and are smaller than
+/// the node's own.
 #[derive(Clone, Copy, Debug, PartialEq, Eq)]
 pub enum Node {
     /// The sample's input.
@@ -12,7 +13,8 @@ pub enum Node {
     Reg(u32),
     /// The product of a coefficient and a node.
     MulConst { coeff: i64, of: u32 },
-    /// A node divided by 2 to the number of bits after the point, made whole by the format's rounding.
+    /// A node divided by 2 to the number of bits after the point, made whole by the format's
+    /// rounding.
     Round(u32),
     /// The sum of two nodes.
     Add(u32, u32),

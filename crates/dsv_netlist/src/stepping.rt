@@ -18,7 +18,8 @@ fn value_of(format: &Format, node: &Node, registers: &[i64], x: &i64, values: &[
     requires backwards { NamesBelow (length values.now) node.now }
     requires reads { ReadsBelow (length registers.now) node.now }
     requires bounded { All (λ v. unsigned_abs v < BOUND_LIMIT) values.now }
-    requires small { unsigned_abs (node_value format.now registers.now x.now values.now node.now) < BOUND_LIMIT }
+    requires small { unsigned_abs (node_value format.now registers.now x.now values.now node.now)
+        < BOUND_LIMIT }
     ensures { result ≡ node_value format.now registers.now x.now values.now node.now }
 {
     match node {
@@ -55,10 +56,12 @@ pub(crate) fn run_nodes(
     values: &mut [i128],
     exact: &mut ExactList,
 )
-    requires safe { AreSafe format.now registers.now x.now nodes.now (record { values = []; exact = [] }) }
+    requires safe { AreSafe format.now registers.now x.now nodes.now
+        (record { values = []; exact = [] }) }
     requires room { length nodes.now ≤ length values.old }
     requires empty { exact.old.items ≡ [] }
-    ensures values { take (length nodes.now) values.new ≡ (sample_of format.now registers.now x.now nodes.now).values }
+    ensures values { take (length nodes.now) values.new
+        ≡ (sample_of format.now registers.now x.now nodes.now).values }
     ensures exact { exact.new.items ≡ (sample_of format.now registers.now x.now nodes.now).exact }
 {
     for (i, node) in nodes.iter().enumerate() {

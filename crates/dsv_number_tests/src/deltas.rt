@@ -1,4 +1,5 @@
-// Coefficients in the delta operator; expected values are worked out by hand from the binomial sums.
+// Coefficients in the delta operator; expected values are worked out by hand from the binomial
+// sums.
 
 use dsv_delta::{DeltaWide, to_delta};
 use dsv_fraction::Frac;

@@ -1,5 +1,5 @@
-//! Tests of the crates of numbers, by their public calls: digits and classes of bytes, fractions, decimals, words and
-//! coefficients in the delta operator.
+//! Tests of the crates of numbers, by their public calls: digits and classes of bytes, fractions,
+//! decimals, words and coefficients in the delta operator.
 #![tactic(auto)]
 
 #[cfg(test)]

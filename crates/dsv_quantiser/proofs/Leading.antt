@@ -10,13 +10,13 @@ use native.Mathlib.Numerals.{unary_clauses}
 use Rattle.dsv_text.specs.Stages.{◌>>=◌}
 use Rattle.dsv_algebra.specs.Vectors.{Vector, vector_of}
 use Rattle.dsv_fraction.specs.Ratio.{Ratio, zero as nought, one}
-use Rattle.dsv_fraction.specs.Gcd.{gcd}
-use Rattle.dsv_fraction.specs.Arithmetic.{lowest, bounded}
+use Rattle.dsv_algebra.specs.Gcd.{gcd}
+use Rattle.dsv_fraction.specs.Arithmetic.{in_lowest_terms, bounded_ratio}
 use Rattle.dsv_fraction.proofs.Powers.{lowest_same}
 use Rattle.dsv_names.specs.declared.list_name.ListName.{ListName}
 use Rattle.dsv_names.specs.declared.list_name.ListName.TheVariants as list
 use Rattle.dsv_delta.specs.Binomials.{choose, binomial_sum, weight}
-use Rattle.dsv_delta.specs.Deltas.{Lists, lcm, common, common_from, numerators, over_power, divided, or_wide, coefficients_from, delta_list}
+use Rattle.dsv_delta.specs.Deltas.{Lists, lcm, common, common_from, numerators, over_power, bounded_over_power, or_wide, coefficients_from, delta_list}
 use Rattle.dsv_delta.specs.declared.refusal.DeltaWide.{DeltaWide}
 use Rattle.dsv_delta.proofs.Multiples.{lcm_grows}
 use Rattle.dsv_quantiser.specs.Leading.{ConvertedLeadingIsOne}
@@ -34,7 +34,7 @@ begins : (name : ListName) (delta : Ratio) (l : ℕ) (sums : Vector) (count : �
     → get_or rs 0 nought ≡ get_or out 0 nought
 begins name delta l sums zero out rs some e = ap (λ xs. get_or xs 0 nought) (sym (ap items_of e))
 begins name delta l sums (suc n) out rs some e =
-    next (or_wide name (length out) (divided delta (sums (length out)) l (length out)))
+    next (or_wide name (length out) (bounded_over_power delta (sums (length out)) l (length out)))
     (λ r h. begins name delta l sums n (out ++ r ∷ []) rs (omega (arith, length-append out (r ∷ []))) h ∙ get_or_append_left out (r ∷ []) nought 0 some) e
   where
     next : (o : Result Ratio DeltaWide) → ((r : Ratio) → coefficients_from name delta l sums n (out ++ r ∷ []) ≡ Ok rs → get_or rs 0 nought ≡ get_or out 0 nought)
@@ -52,7 +52,7 @@ choose_all : (n : ℕ) → choose n n ≡ 1
 choose_all zero = refl
 choose_all (suc n) = omega (arith, choose_all n, choose_over n (suc n) (omega arith))
 
-one_reduced : lowest (pos 1) 1 ≡ one
+one_reduced : in_lowest_terms (pos 1) 1 ≡ one
 unfolding gcd
 one_reduced = refl
 
@@ -82,8 +82,8 @@ list_begins name delta (q ∷ qs) rs all some is e =
     sums : Vector
     sums = binomial_sum (length (q ∷ qs) - 1) (vector_of (numerators l (q ∷ qs)))
 
-    made : or_wide name 0 (divided delta (sums 0) l 0) ≡ Ok one
-    made = ap (λ r. or_wide name 0 (bounded r)) (over_itself delta (sums 0) l (common_positive 1 (q ∷ qs) (omega arith) all) (first_sum (length (q ∷ qs) - 1) l q qs is))
+    made : or_wide name 0 (bounded_over_power delta (sums 0) l 0) ≡ Ok one
+    made = ap (λ r. or_wide name 0 (bounded_ratio r)) (over_itself delta (sums 0) l (common_positive 1 (q ∷ qs) (omega arith) all) (first_sum (length (q ∷ qs) - 1) l q qs is))
 
     by_test : (t : Bool) → (if t then coefficients_from name delta l sums (length (q ∷ qs)) [] else Err (record { list = name; index = 0 })) ≡ Ok rs → get_or rs 0 nought ≡ one
     by_test true e = begins name delta l sums (length qs) (one ∷ []) rs (omega arith) (sym (ap (λ o. o >>= λ r. coefficients_from name delta l sums (length qs) (r ∷ [])) made) ∙ e)

@@ -14,19 +14,19 @@ use Rattle.dsv_word.specs.Words.{width, lo, hi}
 use Rattle.dsv_quantiser.specs.declared.range.Range.{Range}
 use Rattle.dsv_quantiser.specs.declared.refusal.QuantRefusal.{QuantRefusal}
 use Rattle.dsv_quantiser.specs.declared.refusal.QuantRefusal.TheVariants as refusal
-use Rattle.dsv_quantiser.specs.Quantising.{clamped}
+use Rattle.dsv_quantiser.specs.Quantising.{clamped_range}
 use Rattle.dsv_quantiser.specs.Meaning.{IsRangeOf}
 use Rattle.dsv_quantiser.specs.Parts.{IsClamped}
 
 pub empty_range : (f : Format) (low high x y : ℤ) → x ≡ int_max low (lo (width f)) → y ≡ int_min high (hi (width f)) → int_lt y x ≡ true
-    → Err (refusal.RangeEmpty x y) ≡ clamped f low high
+    → Err (refusal.RangeEmpty x y) ≡ clamped_range f low high
 empty_range f low high x y e g h =
     sym (ap (λ z. if int_lt (int_min high (hi (width f))) z then Err (refusal.RangeEmpty z (int_min high (hi (width f)))) else Ok (record { lo = z; hi = int_min high (hi (width f)) })) (sym e)
     ∙ ap (λ z. if int_lt z x then Err (refusal.RangeEmpty x z) else Ok (record { lo = x; hi = z })) (sym g)
     ∙ ap (λ t. if t then Err (refusal.RangeEmpty x y) else Ok (record { lo = x; hi = y })) h)
 
 pub some_range : (f : Format) (low high x y : ℤ) → x ≡ int_max low (lo (width f)) → y ≡ int_min high (hi (width f)) → int_lt y x ≡ false
-    → Ok (record { lo = x; hi = y }) ≡ clamped f low high
+    → Ok (record { lo = x; hi = y }) ≡ clamped_range f low high
 some_range f low high x y e g h =
     sym (ap (λ z. if int_lt (int_min high (hi (width f))) z then Err (refusal.RangeEmpty z (int_min high (hi (width f)))) else Ok (record { lo = z; hi = int_min high (hi (width f)) })) (sym e)
     ∙ ap (λ z. if int_lt z x then Err (refusal.RangeEmpty x z) else Ok (record { lo = x; hi = z })) (sym g)

@@ -1,5 +1,6 @@
 -- Controllers in words as contracts see them.
-use Rattle.std.specs.Prelude.{◌≡◌, ◌≤◌, ◌^◌, List, length, drop, All, MatchBool, ℤ, pos, ◌≤ℤ◌, slice_index_or}
+use Rattle.std.specs.Prelude.{◌≡◌, ◌≤◌, ◌^◌, List, length, drop, All}
+use Rattle.std.specs.Prelude.{MatchBool, ℤ, pos, ◌≤ℤ◌, slice_index_or}
 use Rattle.dsv_word.specs.declared.format.Format.{Format}
 use Rattle.dsv_word.specs.Words.{width, lo, hi, IsWord}
 use Rattle.dsv_names.specs.declared.realisation.Realisation.{Realisation}
@@ -22,7 +23,8 @@ unit format = pos (2 ^ format.frac_bits)
 
 -- a positive word for the delta forms, and 0 for the direct ones
 abbrev pub IsDeltaWord : Format → Realisation → ℤ → Type 0
-IsDeltaWord format realisation w = MatchBool (is_delta realisation) ((pos 1 ≤ℤ w) × (w ≤ℤ hi (width format))) (w ≡ pos 0)
+IsDeltaWord format realisation w =
+    MatchBool (is_delta realisation) ((pos 1 ≤ℤ w) × (w ≤ℤ hi (width format))) (w ≡ pos 0)
 
 -- what is true of each controller in words
 pub record IsFixedPoint (q : FixedPoint) : Type 0 where

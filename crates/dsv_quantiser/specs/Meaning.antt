@@ -1,5 +1,6 @@
 -- What the words of a controller mean.
-use Rattle.std.specs.Prelude.{◌≡◌, ℕ, ◌^◌, ◌<◌, ◌≤◌, ◌↔◌, List, length, ℤ, pos, ◌*ℤ◌, ◌≤ℤ◌, slice_index_or, MatchBool, Some, Ok, ◌<ℤ◌}
+use Rattle.std.specs.Prelude.{◌≡◌, ℕ, ◌^◌, ◌<◌, ◌≤◌, ◌↔◌, List, length, ℤ, pos}
+use Rattle.std.specs.Prelude.{◌*ℤ◌, ◌≤ℤ◌, slice_index_or, MatchBool, Some, Ok, ◌<ℤ◌}
 use Rattle.dsv_fraction.specs.Ratio.{Ratio, zero}
 use Rattle.dsv_word.specs.declared.format.Format.{Format}
 use Rattle.dsv_word.specs.Quotients.{IsRounded}
@@ -24,27 +25,34 @@ IsFrom format q w = (q.num *ℤ pos (2 ^ format.frac_bits)) ≤ℤ (w *ℤ pos q
 abbrev pub IsTo : Format → Ratio → ℤ → Type 0
 IsTo format q w = (w *ℤ pos q.den) ≤ℤ (q.num *ℤ pos (2 ^ format.frac_bits))
 
--- the range is not empty, and it has the words that stand for a number from min to max, and no others
+-- the range is not empty, and it has the words that stand for a number from min to max, and no
+-- others
 pub record IsRangeOf (format : Format) (min max : Ratio) (r : Range) : Type 0 where
   pub low : lo (width format) ≤ℤ r.lo
   pub order : r.lo ≤ℤ r.hi
   pub high : r.hi ≤ℤ hi (width format)
-  pub inputs : (w : ℤ) → IsWord format w → (r.lo ≤ℤ w) × (w ≤ℤ r.hi) ↔ IsFrom format min w × IsTo format max w
+  pub inputs : (w : ℤ) → IsWord format w → (r.lo ≤ℤ w) × (w ≤ℤ r.hi)
+      ↔ IsFrom format min w × IsTo format max w
 
 -- the controller in words whose coefficients are made of b and a, with that word for delta
-pub record IsInWords (c : ControllerView) (format : Format) (realisation : Realisation) (b a : List Ratio) (delta : ℤ) (q : FixedPoint) : Type 0 where
+pub record IsInWords (c : ControllerView) (format : Format) (realisation : Realisation)
+    (b a : List Ratio) (delta : ℤ) (q : FixedPoint) : Type 0 where
   pub same_format : q.format ≡ format
   pub same_realisation : q.realisation ≡ realisation
   pub same_delta : q.delta ≡ delta
   pub leading : slice_index_or q.a 0 (pos 0) ≡ unit format
   pub b_places : length q.b ≡ length b
   pub a_places : length q.a ≡ length a
-  pub b_words : (i : ℕ) → i < length b → IsWordOf format (slice_index_or b i zero) (slice_index_or q.b i (pos 0))
-  pub a_words : (i : ℕ) → 1 ≤ i → i < length a → IsWordOf format (slice_index_or a i zero) (slice_index_or q.a i (pos 0))
+  pub b_words : (i : ℕ) → i < length b
+      → IsWordOf format (slice_index_or b i zero) (slice_index_or q.b i (pos 0))
+  pub a_words : (i : ℕ) → 1 ≤ i → i < length a
+      → IsWordOf format (slice_index_or a i zero) (slice_index_or q.a i (pos 0))
   pub range : IsRangeOf format c.min c.max (record { lo = q.xlo; hi = q.xhi })
 
--- the coefficients are those in the delta operator with the exact delta, which is positive, and its word is too
-pub record IsOfDelta (c : ControllerView) (format : Format) (realisation : Realisation) (q : FixedPoint) : Type 0 where
+-- the coefficients are those in the delta operator with the exact delta, which is positive, and its
+-- word is too
+pub record IsOfDelta (c : ControllerView) (format : Format) (realisation : Realisation)
+    (q : FixedPoint) : Type 0 where
   pub delta : Ratio
   pub exact : c.delta ≡ Some delta
   pub positive : pos 0 <ℤ delta.num
@@ -56,4 +64,6 @@ pub record IsOfDelta (c : ControllerView) (format : Format) (realisation : Reali
 
 -- the controller in words of the format, as the realisation computes it
 abbrev pub IsQuantised : ControllerView → Format → Realisation → FixedPoint → Type 0
-IsQuantised c format realisation q = MatchBool (is_delta realisation) (IsOfDelta c format realisation q) (IsInWords c format realisation c.b c.a (pos 0) q)
+IsQuantised c format realisation q =
+    MatchBool (is_delta realisation) (IsOfDelta c format realisation q)
+    (IsInWords c format realisation c.b c.a (pos 0) q)

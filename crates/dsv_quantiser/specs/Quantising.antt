@@ -1,12 +1,14 @@
 -- How a controller becomes words, and the first reason for which it can't.
-use Rattle.std.specs.Prelude.{ℕ, List, [], ◌∷◌, ◌++◌, length, drop, Bool, ◌&&◌, if◌then◌else◌, Result, Ok, Err, Option, Some, None, ℤ, pos, int_lt, int_le}
+use Rattle.std.specs.Prelude.{ℕ, List, [], ◌∷◌, ◌++◌, length, drop, Bool}
+use Rattle.std.specs.Prelude.{◌&&◌, if◌then◌else◌, Result, Ok, Err}
+use Rattle.std.specs.Prelude.{Option, Some, None, ℤ, pos, int_lt, int_le}
 use Rattle.std.specs.Int.{int_max, int_min}
 use Rattle.dsv_text.specs.Stages.{◌>>=◌}
-use Rattle.dsv_algebra.specs.Floor.{floored}
+use Rattle.dsv_algebra.specs.Floor.{floor_of}
 use Rattle.dsv_fraction.specs.Ratio.{Ratio}
 use Rattle.dsv_fraction.specs.declared.fraction.TooWide.{TooWide}
 use Rattle.dsv_word.specs.declared.format.Format.{Format}
-use Rattle.dsv_word.specs.Quotients.{ceiled, rounded, word_of}
+use Rattle.dsv_word.specs.Quotients.{ceiling_of, rounded_quotient, word_of}
 use Rattle.dsv_word.specs.Words.{width, lo, hi}
 use Rattle.dsv_delta.specs.declared.refusal.DeltaWide.{DeltaWide}
 use Rattle.dsv_delta.specs.Deltas.{Lists, delta_lists}
@@ -29,18 +31,22 @@ or_wide name i (Err e) = Err (refusal.FractionWide name i)
 abbrev pub is_word : Format → ℤ → Bool
 is_word format w = int_le (lo (width format)) w && int_le w (hi (width format))
 
-abbrev pub fitting : Format → ListName → ℕ → ℤ → Result ℤ QuantRefusal
-fitting format name i w = if is_word format w then Ok w else Err (refusal.CoefficientRange name i w)
+abbrev pub fitting_word : Format → ListName → ℕ → ℤ → Result ℤ QuantRefusal
+fitting_word format name i w = if is_word format w then Ok w
+    else Err (refusal.CoefficientRange name i w)
 
 -- the word of the fraction, which is number i of its list
 abbrev pub word_at : Format → ListName → ℕ → Ratio → Result ℤ QuantRefusal
-word_at format name i q = or_wide name i (word_of (rounded format.rounding) format.frac_bits q) >>= λ w. fitting format name i w
+word_at format name i q =
+    or_wide name i (word_of (rounded_quotient format.rounding) format.frac_bits q)
+    >>= λ w. fitting_word format name i w
 
 -- ---- lists
 -- the words of the fractions after those that the list has so far
 abbrev pub words_from : Format → ListName → List Ratio → List ℤ → Result (List ℤ) QuantRefusal
 words_from format name [] out = Ok out
-words_from format name (q ∷ qs) out = word_at format name (length out) q >>= λ w. words_from format name qs (out ++ w ∷ [])
+words_from format name (q ∷ qs) out = word_at format name (length out) q
+    >>= λ w. words_from format name qs (out ++ w ∷ [])
 
 -- the words of the numerator
 abbrev pub b_words : Format → List Ratio → Result (List ℤ) QuantRefusal
@@ -52,8 +58,8 @@ a_words format a = words_from format list.A (drop 1 a) (unit format ∷ [])
 
 -- ---- the inputs
 -- the words from the one end to the other, each end moved to the words of the format
-abbrev pub clamped : Format → ℤ → ℤ → Result Range QuantRefusal
-clamped format low high =
+abbrev pub clamped_range : Format → ℤ → ℤ → Result Range QuantRefusal
+clamped_range format low high =
     let xlo = int_max low (lo (width format)) in
     let xhi = int_min high (hi (width format)) in
     if int_lt xhi xlo then Err (refusal.RangeEmpty xlo xhi) else Ok (record { lo = xlo; hi = xhi })
@@ -61,39 +67,54 @@ clamped format low high =
 -- the words from min to max
 abbrev pub range_of : Format → Ratio → Ratio → Result Range QuantRefusal
 range_of format min max =
-    or_wide list.Min 0 (word_of ceiled format.frac_bits min) >>= λ low.
-    or_wide list.Max 0 (word_of floored format.frac_bits max) >>= λ high. clamped format low high
+    or_wide list.Min 0 (word_of ceiling_of format.frac_bits min) >>= λ low.
+    or_wide list.Max 0 (word_of floor_of format.frac_bits max)
+    >>= λ high. clamped_range format low high
 
 -- ---- all of it
 -- the controller whose coefficients are these
-abbrev pub in_words : ControllerView → Format → Realisation → List Ratio → List Ratio → ℤ → Result FixedPoint QuantRefusal
+abbrev pub in_words : ControllerView → Format → Realisation → List Ratio → List Ratio → ℤ
+    → Result FixedPoint QuantRefusal
 in_words c format realisation b a delta =
     b_words format b >>= λ num.
     a_words format a >>= λ den.
     range_of format c.min c.max >>= λ range.
-    Ok (record { b = num; a = den; delta = delta; xlo = range.lo; xhi = range.hi; format = format; realisation = realisation })
+    Ok (record {
+      b = num;
+      a = den;
+      delta = delta;
+      xlo = range.lo;
+      xhi = range.hi;
+      format = format;
+      realisation = realisation;
+    })
 
 -- ---- delta
 -- delta's word, which is positive
 abbrev pub positive_word : Format → ℤ → Result ℤ QuantRefusal
-positive_word format w = if int_le w (pos 0) then Err (refusal.DeltaNotPositive w) else fitting format list.Delta 0 w
+positive_word format w = if int_le w (pos 0) then Err (refusal.DeltaNotPositive w)
+    else fitting_word format list.Delta 0 w
 
 abbrev pub delta_word : Format → Ratio → Result ℤ QuantRefusal
-delta_word format delta = or_wide list.Delta 0 (word_of (rounded format.rounding) format.frac_bits delta) >>= λ w. positive_word format w
+delta_word format delta =
+    or_wide list.Delta 0 (word_of (rounded_quotient format.rounding) format.frac_bits delta)
+    >>= λ w. positive_word format w
 
 -- the lists in the delta operator, where none of their parts is too wide
-abbrev pub converted : Result Lists DeltaWide → Result Lists QuantRefusal
-converted (Ok lists) = Ok lists
-converted (Err e) = Err (refusal.FractionWide e.list e.index)
+abbrev pub converted_lists : Result Lists DeltaWide → Result Lists QuantRefusal
+converted_lists (Ok lists) = Ok lists
+converted_lists (Err e) = Err (refusal.FractionWide e.list e.index)
 
 -- the controller of a delta form, by the exact delta
-abbrev pub with_delta : ControllerView → Format → Realisation → Option Ratio → Result FixedPoint QuantRefusal
+abbrev pub with_delta : ControllerView → Format → Realisation → Option Ratio
+    → Result FixedPoint QuantRefusal
 with_delta c format realisation None = Err (refusal.DeltaNotPositive (pos 0))
 with_delta c format realisation (Some delta) =
     delta_word format delta >>= λ word.
-    converted (delta_lists c.b c.a delta) >>= λ lists.
+    converted_lists (delta_lists c.b c.a delta) >>= λ lists.
     in_words c format realisation lists.b lists.a word
 
 -- the controller in words, or the first refusal
-abbrev pub quantised : ControllerView → Format → Realisation → Result FixedPoint QuantRefusal
-quantised c format realisation = if is_delta realisation then with_delta c format realisation c.delta else in_words c format realisation c.b c.a (pos 0)
+abbrev pub fixed_point_of : ControllerView → Format → Realisation → Result FixedPoint QuantRefusal
+fixed_point_of c format realisation = if is_delta realisation
+    then with_delta c format realisation c.delta else in_words c format realisation c.b c.a (pos 0)

@@ -10,13 +10,14 @@ use dsv_reader::Controller;
 use dsv_word::Format;
 use std::marker::Model;
 
-/// A controller in words of a format, as one realisation computes it. Both lists of coefficients have one length, from 1
-/// to `MOST_COEFFICIENTS`.
+/// A controller in words of a format, as one realisation computes it. Both lists of coefficients
+/// have one length, from 1 to `MOST_COEFFICIENTS`.
 #[derive(Drop)]
 pub struct Quantised {
     /// The numerator, words of the format.
     b: Coeffs,
-    /// The denominator: the first is two to the format's `frac_bits`, and the others are words of the format.
+    /// The denominator: the first is two to the format's `frac_bits`, and the others are words of
+    /// the format.
     a: Coeffs,
     /// 0 in the direct forms, a positive word in the delta forms.
     delta: i64,
@@ -77,7 +78,8 @@ impl Quantised {
         requires few { length a.now ≤ MOST_COEFFICIENTS }
         requires delta { IsDeltaWord format realisation delta }
         ensures value { result ≡ in_words controller.now format realisation b.now a.now delta }
-        ensures meaning { IfOk result (IsInWords controller.now format realisation b.now a.now delta) }
+        ensures meaning { IfOk result
+            (IsInWords controller.now format realisation b.now a.now delta) }
     {
         let b = b_words(format, b)?;
         let a = a_words(format, a)?;

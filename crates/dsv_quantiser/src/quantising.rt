@@ -4,12 +4,12 @@
 ghost use Rattle.std.specs.Prelude.{◌≡◌, ◌≤ℤ◌, ◌<ℤ◌, pos, IfOk, true};
 ghost use Rattle.dsv_word.specs.Words.{width, hi};
 ghost use Rattle.dsv_names.specs.Realisations.{is_delta};
-ghost use Rattle.dsv_quantiser.specs.Quantising.{delta_word, with_delta, quantised};
+ghost use Rattle.dsv_quantiser.specs.Quantising.{delta_word, with_delta, fixed_point_of};
 ghost use Rattle.dsv_quantiser.specs.Meaning.{IsWordOf, IsOfDelta, IsQuantised};
 
 use crate::quantised::Quantised;
 use crate::refusal::QuantRefusal;
-use crate::words::{fitting, or_wide};
+use crate::words::{fitting_word, or_wide};
 use dsv_delta::to_delta;
 use dsv_fraction::Frac;
 use dsv_names::{ListName, Realisation};
@@ -29,11 +29,11 @@ fn delta_word(format: Format, delta: &Frac) -> Result<i64, QuantRefusal>
     if wanted <= 0 {
         return Err(QuantRefusal::DeltaNotPositive { wanted });
     }
-    fitting(format, ListName::Delta, 0, wanted)
+    fitting_word(format, ListName::Delta, 0, wanted)
 }
 
-/// The controller in words as that delta form computes it: its coefficients in the delta operator with the exact
-/// delta, and then all as words.
+/// The controller in words as that delta form computes it: its coefficients in the delta operator
+/// with the exact delta, and then all as words.
 fn with_delta(
     controller: &Controller,
     format: Format,
@@ -58,16 +58,17 @@ fn with_delta(
     )
 }
 
-/// The controller in words of the format, as that realisation computes it; or the first refusal. For a delta form
-/// alone delta's word comes first, and then the coefficients in the delta operator, the numerator's before the
-/// denominator's. The words of the numerator come next by their index, then those of the denominator, and at last the
-/// least input, the greatest one and their range.
+/// The controller in words of the format, as that realisation computes it; or the first refusal.
+/// For a delta form alone delta's word comes first, and then the coefficients in the delta
+/// operator, the numerator's before the denominator's. The words of the numerator come next by
+/// their index, then those of the denominator, and at last the least input, the greatest one and
+/// their range.
 pub fn quantise(
     controller: &Controller,
     format: Format,
     realisation: Realisation,
 ) -> Result<Quantised, QuantRefusal>
-    ensures exact { result ≡ quantised controller.now format realisation }
+    ensures exact { result ≡ fixed_point_of controller.now format realisation }
     ensures meaning { IfOk result (IsQuantised controller.now format realisation) }
 {
     if realisation.is_delta() {

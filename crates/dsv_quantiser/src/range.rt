@@ -2,7 +2,7 @@
 #![tactic(auto, using(dsv_algebra::proofs::Casts::casts))]
 
 ghost use Rattle.std.specs.Prelude.{◌≡◌, IfOk};
-ghost use Rattle.dsv_quantiser.specs.Quantising.{range_of, clamped};
+ghost use Rattle.dsv_quantiser.specs.Quantising.{range_of, clamped_range};
 ghost use Rattle.dsv_quantiser.specs.Meaning.{IsRangeOf};
 ghost use Rattle.dsv_quantiser.specs.Parts.{IsClamped};
 
@@ -20,8 +20,8 @@ pub(crate) struct Range {
 }
 
 /// The words from the one end to the other, each end moved to the words of the format.
-fn clamped(format: Format, low: i128, high: i128) -> Result<Range, QuantRefusal>
-    ensures value { result ≡ clamped format low high }
+fn clamped_range(format: Format, low: i128, high: i128) -> Result<Range, QuantRefusal>
+    ensures value { result ≡ clamped_range format low high }
     ensures meaning { IfOk result (IsClamped format low high) }
 {
     let lo = low.max(i128::from(format.lo()));
@@ -42,5 +42,5 @@ pub(crate) fn range_of(format: Format, min: &Frac, max: &Frac) -> Result<Range, 
 {
     let low = or_wide(ListName::Min, 0, format.ceil_frac(min))?;
     let high = or_wide(ListName::Max, 0, format.floor_frac(max))?;
-    clamped(format, low, high)
+    clamped_range(format, low, high)
 }

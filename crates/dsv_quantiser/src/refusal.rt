@@ -3,8 +3,8 @@ use dsv_delta::DeltaWide;
 use dsv_names::ListName;
 use thiserror::Error;
 
-/// The first reason for which a controller has no words in a format. The index is a coefficient's place in its list,
-/// and 0 for a number that stands alone.
+/// The first reason for which a controller has no words in a format. The index is a coefficient's
+/// place in its list, and 0 for a number that stands alone.
 #[derive(Clone, Copy, Debug, PartialEq, Eq, Error)]
 pub enum QuantRefusal {
     /// The number's word lies outside the words of the format.
@@ -19,7 +19,8 @@ pub enum QuantRefusal {
     DeltaNotPositive {
         wanted: i128,
     },
-    /// No word lies in the range of the inputs, whose ends are given, each moved to the words of the format.
+    /// No word lies in the range of the inputs, whose ends are given, each moved to the words of
+    /// the format.
     #[error("no input lies in {lo} to {hi}")]
     RangeEmpty {
         lo: i128,

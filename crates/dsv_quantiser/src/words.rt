@@ -2,12 +2,14 @@
 #![tactic(auto, using(dsv_algebra::proofs::Casts::casts))]
 
 ghost use Rattle.dsv_word.specs.Words.{IsWord};
-ghost use Rattle.std.specs.Prelude.{◌≡◌, ◌+◌, ◌≤◌, ◌<◌, ◌^◌, length, drop, [], ◌∷◌, MatchResult, Ok, Err, IfOk};
+ghost use Rattle.std.specs.Prelude.{◌≡◌, ◌+◌, ◌≤◌, ◌<◌, ◌^◌, length, drop};
+ghost use Rattle.std.specs.Prelude.{[], ◌∷◌, MatchResult, Ok, Err, IfOk};
 ghost use Rattle.dsv_quantiser.specs.declared.words.TheConstants.{MOST_COEFFICIENTS};
 ghost use Rattle.dsv_quantiser.specs.FixedPoint.{unit};
 ghost use Rattle.dsv_quantiser.specs.Meaning.{IsWordOf};
 ghost use Rattle.dsv_quantiser.specs.Parts.{AreWordsOf};
-ghost use Rattle.dsv_quantiser.specs.Quantising.{or_wide, fitting, word_at, words_from, a_words, b_words};
+ghost use Rattle.dsv_quantiser.specs.Quantising.{or_wide, fitting_word, word_at};
+ghost use Rattle.dsv_quantiser.specs.Quantising.{words_from, a_words, b_words};
 
 use crate::refusal::QuantRefusal;
 use arrayvec::ArrayVec;
@@ -45,13 +47,13 @@ fn unit(format: Format) -> i64
 }
 
 /// The number as a word of the format, where it is one.
-pub(crate) fn fitting(
+pub(crate) fn fitting_word(
     format: Format,
     list: ListName,
     index: u32,
     wanted: i128,
 ) -> Result<i64, QuantRefusal>
-    ensures value { result ≡ fitting format list index wanted }
+    ensures value { result ≡ fitting_word format list index wanted }
     ensures meaning { IfOk result (λ word. (word ≡ wanted) × IsWord format word) }
 {
     if format.fits(wanted) {
@@ -72,7 +74,7 @@ fn word_at(format: Format, list: ListName, index: u32, fraction: &Frac) -> Resul
 {
     let made = format.round_frac(fraction);
     let wanted = or_wide(list, index, made)?;
-    fitting(format, list, index, wanted)
+    fitting_word(format, list, index, wanted)
 }
 
 /// The words of the fractions after those of `prefix`.
@@ -85,7 +87,8 @@ fn words_from(
     requires { length prefix.items + length fractions.now ≤ MOST_COEFFICIENTS }
     ensures value { let meant = words_from format list fractions.now prefix.items in
         MatchResult result (λ words. meant ≡ Ok words.items) (λ refusal. meant ≡ Err refusal) }
-    ensures meaning { IfOk result (λ words. AreWordsOf format fractions.now prefix.items words.items) }
+    ensures meaning { IfOk result
+        (λ words. AreWordsOf format fractions.now prefix.items words.items) }
 {
     let mut out = prefix;
     for fraction in fractions {
@@ -111,7 +114,8 @@ pub(crate) fn a_words(format: Format, a: &[Frac]) -> Result<Coeffs, QuantRefusal
     requires few { length a.now ≤ MOST_COEFFICIENTS }
     ensures value { let meant = a_words format a.now in
         MatchResult result (λ words. meant ≡ Ok words.items) (λ refusal. meant ≡ Err refusal) }
-    ensures meaning { IfOk result (λ words. AreWordsOf format (drop 1 a.now) (unit format ∷ []) words.items) }
+    ensures meaning { IfOk result
+        (λ words. AreWordsOf format (drop 1 a.now) (unit format ∷ []) words.items) }
 {
     let mut prefix = Coeffs::new();
     prefix.push(unit(format));

@@ -6,21 +6,21 @@ use Rattle.std.specs.Int.RustNames.{unsigned_abs}
 use Rattle.std.specs.Prelude.{Result, Ok, Err, slice_index_or}
 use Rattle.std.specs.Int.{IsGcd}
 use Rattle.dsv_fraction.specs.Ratio.{Ratio, one}
-use Rattle.dsv_fraction.specs.Gcd.{gcd}
-use Rattle.dsv_fraction.specs.Arithmetic.{lowest, over, quotient, bounded}
-use Rattle.dsv_fraction.proofs.Gcds.{gcd-is}
+use Rattle.dsv_algebra.specs.Gcd.{gcd}
+use Rattle.dsv_fraction.specs.Arithmetic.{in_lowest_terms, over, quotient, bounded_ratio}
+use Rattle.dsv_algebra.proofs.Gcds.{gcd-is}
 use Rattle.dsv_fraction.proofs.Lowest.{lowest_parts}
 use Rattle.dsv_token.specs.declared.refusal.FileRefusal.{FileRefusal}
 use Rattle.dsv_text.specs.Stages.{◌>>=◌}
 use Rattle.dsv_reader.specs.declared.numbers.Coefficient.{Coefficient}
 use Rattle.dsv_fraction.specs.Ratio as ratio
-use Rattle.dsv_reader.specs.Reading.{BeginsWith, by_quotient, divided_from, divided}
+use Rattle.dsv_reader.specs.Reading.{BeginsWith, by_quotient, divided_from, divided_list}
 
 one_gcd : IsGcd 1 1 1
 unfolding gcd
 one_gcd = gcd-is 1 1
 
-self_lowest : (n : ℕ) → lowest (pos (suc n)) (suc n) ≡ one
+self_lowest : (n : ℕ) → in_lowest_terms (pos (suc n)) (suc n) ≡ one
 self_lowest n =
     let p = lowest_parts (suc n) (suc n) 1 1 (omega arith) one_gcd (omega arith) in
     rw (p.0) refl
@@ -48,10 +48,10 @@ kept_by a0 cs q out qs (Err f) ih e = absurd (cc)
 
 first_kept : (a0 : Ratio) (cs : List Coefficient) (q : Ratio) (out qs : List Ratio) → divided_from a0 cs (q ∷ out) ≡ Ok qs → slice_index_or qs 0 ratio.zero ≡ q
 first_kept a0 [] q out qs e = let f : qs ≡ q ∷ out = cc in ap (λ xs. slice_index_or xs 0 ratio.zero) f
-first_kept a0 (c ∷ cs) q out qs e = kept_by a0 cs q out qs (by_quotient c.at (bounded (quotient c.value a0))) (λ o. first_kept a0 cs q o qs) e
+first_kept a0 (c ∷ cs) q out qs e = kept_by a0 cs q out qs (by_quotient c.at (bounded_ratio (quotient c.value a0))) (λ o. first_kept a0 cs q o qs) e
 
-pub divided_first : (a0 : Ratio) (cs : List Coefficient) (qs : List Ratio) → a0.num ≢ pos 0 → 0 < a0.den → BeginsWith a0 cs → divided a0 cs ≡ Ok qs → slice_index_or qs 0 ratio.zero ≡ one
+pub divided_first : (a0 : Ratio) (cs : List Coefficient) (qs : List Ratio) → a0.num ≢ pos 0 → 0 < a0.den → BeginsWith a0 cs → divided_list a0 cs ≡ Ok qs → slice_index_or qs 0 ratio.zero ≡ one
 divided_first a0 [] qs h p b e = absurd b
 divided_first a0 (c ∷ cs) qs h p b e =
     let f : quotient c.value a0 ≡ one = ap (λ v. quotient v a0) b ∙ self_quotient a0 h p in
-    first_kept a0 cs one [] qs (sym (ap (λ x. by_quotient c.at (bounded x) >>= λ q. divided_from a0 cs (q ∷ [])) f) ∙ e)
+    first_kept a0 cs one [] qs (sym (ap (λ x. by_quotient c.at (bounded_ratio x) >>= λ q. divided_from a0 cs (q ∷ [])) f) ∙ e)

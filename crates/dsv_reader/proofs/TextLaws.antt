@@ -8,7 +8,7 @@ use Rattle.dsv_token.specs.declared.refusal.FileRefusal.{FileRefusal}
 use Rattle.dsv_token.specs.declared.token.Token.{Token}
 use Rattle.dsv_token.proofs.CutLaws.{cut_law}
 use Rattle.dsv_text.specs.Stages.{◌>>=◌}
-use Rattle.dsv_syntax.specs.Parsing.{parsed}
+use Rattle.dsv_syntax.specs.Parsing.{syntax_of}
 use Rattle.dsv_syntax.specs.declared.parsing.Syntax.{Syntax}
 use Rattle.dsv_syntax.proofs.Binds.{unbind}
 use Rattle.dsv_syntax.proofs.ReadLemmas.{file_read}
@@ -28,7 +28,7 @@ abbrev from_syntax : List ℕ → Syntax → Result ControllerView FileRefusal
 from_syntax bytes x = values_of bytes x.entries >>= λ v. from_values x v
 
 abbrev from_tokens : List ℕ → List Token → Result ControllerView FileRefusal
-from_tokens bytes ts = parsed (length bytes) ts >>= λ x. from_syntax bytes x
+from_tokens bytes ts = syntax_of (length bytes) ts >>= λ x. from_syntax bytes x
 
 abbrev from_text : List ℕ → Unit {0} → Result ControllerView FileRefusal
 from_text bytes u = tokens_of bytes >>= λ ts. from_tokens bytes ts
@@ -38,7 +38,7 @@ pub text_taken : (bytes : List ℕ) (c : ControllerView) → reading bytes ≡ O
 text_taken bytes c e =
     let t = unbind (utf8_test bytes) (from_text bytes) c e in
     let l = unbind (tokens_of bytes) (from_tokens bytes) c t.second in
-    let p = unbind (parsed (length bytes) l.value) (from_syntax bytes) c l.second in
+    let p = unbind (syntax_of (length bytes) l.value) (from_syntax bytes) c l.second in
     let v = unbind (values_of bytes p.value.entries) (from_values p.value) c p.second in
     let b = unbind (blocks_of p.value v.value) controller_from c v.second in
     record {

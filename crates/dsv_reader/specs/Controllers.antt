@@ -1,5 +1,6 @@
 -- Controllers as contracts see them.
-use Rattle.std.specs.Prelude.{◌≡◌, ℕ, ◌<◌, ◌≤◌, List, length, Option, pos, ◌<ℤ◌, slice_index_or}
+use Rattle.std.specs.Prelude.{◌≡◌, ℕ, ◌<◌, ◌≤◌, List, length}
+use Rattle.std.specs.Prelude.{Option, pos, ◌<ℤ◌, slice_index_or}
 use Rattle.std.specs.Int.RustNames.{unsigned_abs}
 use Rattle.dsv_fraction.specs.Ratio.{Ratio, zero, one}
 use Rattle.dsv_word.specs.Width.{IsLawful}

@@ -1,5 +1,6 @@
 -- The fields of a file and their values, in the order of the file.
-use Rattle.std.specs.Prelude.{ℕ, Bool, true, false, List, [], ◌∷◌, Some, None, is_some, Result, Ok, Err}
+use Rattle.std.specs.Prelude.{ℕ, Bool, true, false, List, [], ◌∷◌}
+use Rattle.std.specs.Prelude.{Some, None, is_some, Result, Ok, Err}
 use Rattle.dsv_token.specs.declared.refusal.FileRefusal.{FileRefusal}
 use Rattle.dsv_token.specs.declared.refusal.FileRefusal.TheVariants as refusal
 use Rattle.dsv_names.specs.declared.field.Field.{Field}
@@ -15,13 +16,28 @@ use Rattle.dsv_reader.specs.declared.fields.ImplementationFields.{Implementation
 use Rattle.dsv_reader.specs.declared.fields.HardwareFields.{HardwareFields}
 use Rattle.dsv_reader.specs.declared.fields.Values.{Values}
 use Rattle.dsv_reader.specs.Limits.{greatest_clock, greatest_cost}
-use Rattle.dsv_reader.specs.Numbers.{only_of, whole_number_at, bounded_at, decimal_at, time_at, coefficients_of, passed_over}
+use Rattle.dsv_reader.specs.Numbers.{only_of, whole_number_at, bounded_at, decimal_at}
+use Rattle.dsv_reader.specs.Numbers.{time_at, coefficients_of, passed_over}
 
 abbrev pub no_values : Values
 no_values = record {
   system = record { b = None; a = None; b_size = None; a_size = None; sample_time = None };
-  implementation = record { int_bits = None; frac_bits = None; max = None; min = None; delta = None };
-  hardware = record { clock = None; sample = None; mul = None; add = None; round = None; fit = None; moves = None };
+  implementation = record {
+    int_bits = None;
+    frac_bits = None;
+    max = None;
+    min = None;
+    delta = None;
+  };
+  hardware = record {
+    clock = None;
+    sample = None;
+    mul = None;
+    add = None;
+    round = None;
+    fit = None;
+    moves = None;
+  };
 }
 
 -- the field has its value already
@@ -48,19 +64,30 @@ has_setting setting.CostMoves v = is_some v.hardware.moves
 
 -- the table of fields: what each field's value is, and where it goes
 abbrev pub system_field : Field → List ℕ → Entry → SystemFields → Result SystemFields FileRefusal
-system_field field.B bytes e s = coefficients_of bytes e.place e.numbers >>= λ xs. Ok (record s { b = Some xs })
-system_field field.A bytes e s = coefficients_of bytes e.place e.numbers >>= λ xs. Ok (record s { a = Some xs })
-system_field field.BSize bytes e s = only_of e.place e.numbers >>= λ t. whole_number_at bytes t >>= λ w. Ok (record s { b_size = Some w })
-system_field field.ASize bytes e s = only_of e.place e.numbers >>= λ t. whole_number_at bytes t >>= λ w. Ok (record s { a_size = Some w })
-system_field field.SampleTime bytes e s = only_of e.place e.numbers >>= λ t. time_at bytes t >>= λ q. Ok (record s { sample_time = Some q })
+system_field field.B bytes e s = coefficients_of bytes e.place e.numbers
+    >>= λ xs. Ok (record s { b = Some xs })
+system_field field.A bytes e s = coefficients_of bytes e.place e.numbers
+    >>= λ xs. Ok (record s { a = Some xs })
+system_field field.BSize bytes e s = only_of e.place e.numbers >>= λ t. whole_number_at bytes t
+    >>= λ w. Ok (record s { b_size = Some w })
+system_field field.ASize bytes e s = only_of e.place e.numbers >>= λ t. whole_number_at bytes t
+    >>= λ w. Ok (record s { a_size = Some w })
+system_field field.SampleTime bytes e s = only_of e.place e.numbers >>= λ t. time_at bytes t
+    >>= λ q. Ok (record s { sample_time = Some q })
 system_field f bytes e s = Ok s
 
-abbrev pub implementation_field : Field → List ℕ → Entry → ImplementationFields → Result ImplementationFields FileRefusal
-implementation_field field.IntBits bytes e i = only_of e.place e.numbers >>= λ t. whole_number_at bytes t >>= λ w. Ok (record i { int_bits = Some w })
-implementation_field field.FracBits bytes e i = only_of e.place e.numbers >>= λ t. whole_number_at bytes t >>= λ w. Ok (record i { frac_bits = Some w })
-implementation_field field.Max bytes e i = only_of e.place e.numbers >>= λ t. decimal_at bytes t >>= λ c. Ok (record i { max = Some c.value })
-implementation_field field.Min bytes e i = only_of e.place e.numbers >>= λ t. decimal_at bytes t >>= λ c. Ok (record i { min = Some c.value })
-implementation_field field.Delta bytes e i = only_of e.place e.numbers >>= λ t. decimal_at bytes t >>= λ c. Ok (record i { delta = Some c.value })
+abbrev pub implementation_field : Field → List ℕ → Entry → ImplementationFields
+    → Result ImplementationFields FileRefusal
+implementation_field field.IntBits bytes e i = only_of e.place e.numbers
+    >>= λ t. whole_number_at bytes t >>= λ w. Ok (record i { int_bits = Some w })
+implementation_field field.FracBits bytes e i = only_of e.place e.numbers
+    >>= λ t. whole_number_at bytes t >>= λ w. Ok (record i { frac_bits = Some w })
+implementation_field field.Max bytes e i = only_of e.place e.numbers >>= λ t. decimal_at bytes t
+    >>= λ c. Ok (record i { max = Some c.value })
+implementation_field field.Min bytes e i = only_of e.place e.numbers >>= λ t. decimal_at bytes t
+    >>= λ c. Ok (record i { min = Some c.value })
+implementation_field field.Delta bytes e i = only_of e.place e.numbers >>= λ t. decimal_at bytes t
+    >>= λ c. Ok (record i { delta = Some c.value })
 implementation_field f bytes e i = Ok i
 
 abbrev pub is_cost : Setting → Bool
@@ -69,7 +96,8 @@ is_cost s = true
 
 -- a clock is 1 to 10^12, a cost 0 to 10000
 abbrev pub setting_value : Setting → List ℕ → Entry → Result ℕ FileRefusal
-setting_value setting.Clock bytes e = only_of e.place e.numbers >>= λ t. bounded_at 1 greatest_clock bytes t
+setting_value setting.Clock bytes e = only_of e.place e.numbers
+    >>= λ t. bounded_at 1 greatest_clock bytes t
 setting_value s bytes e = only_of e.place e.numbers >>= λ t. bounded_at 0 greatest_cost bytes t
 
 abbrev pub with_setting : Setting → ℕ → HardwareFields → HardwareFields
@@ -81,7 +109,8 @@ with_setting setting.CostRound n h = record h { round = Some n }
 with_setting setting.CostFit n h = record h { fit = Some n }
 with_setting setting.CostMoves n h = record h { moves = Some n }
 
-abbrev pub hardware_field : Setting → List ℕ → Entry → HardwareFields → Result HardwareFields FileRefusal
+abbrev pub hardware_field : Setting → List ℕ → Entry → HardwareFields
+    → Result HardwareFields FileRefusal
 hardware_field s bytes e h = setting_value s bytes e >>= λ n. Ok (with_setting s n h)
 
 -- a field that stands a second time is refused at its dot, before its value is looked at
@@ -91,10 +120,13 @@ once false dot r = r
 
 abbrev pub field_read : Field → List ℕ → Entry → Values → Result Values FileRefusal
 field_read f bytes e v = once (has_field f v) e.dot (
-    system_field f bytes e v.system >>= λ s. implementation_field f bytes e v.implementation >>= λ i. Ok (record v { system = s; implementation = i }))
+    system_field f bytes e v.system >>= λ s. implementation_field f bytes e v.implementation
+    >>= λ i. Ok (record v { system = s; implementation = i }))
 
 abbrev pub setting_read : Setting → List ℕ → Entry → Values → Result Values FileRefusal
-setting_read s bytes e v = once (has_setting s v) e.dot (hardware_field s bytes e v.hardware >>= λ h. Ok (record v { hardware = h }))
+setting_read s bytes e v =
+    once (has_setting s v) e.dot (hardware_field s bytes e v.hardware
+    >>= λ h. Ok (record v { hardware = h }))
 
 abbrev pub entry_read : Label → List ℕ → Entry → Values → Result Values FileRefusal
 entry_read (label.Field f) bytes e v = field_read f bytes e v

@@ -1,8 +1,10 @@
 -- What a file says, pass by pass over the whole file; the first pass that refuses gives the answer.
-use Rattle.std.specs.Prelude.{◌≡◌, ℕ, ◌+◌, ◌-◌, Bool, true, false, ◌&&◌, ◌==◌, nat_lt, nat_le, max, if◌then◌else◌, List, [], ◌∷◌, ◌++◌, length, replicate, Option, Some, None, Result, Ok, Err, pos, unwrap_or}
+use Rattle.std.specs.Prelude.{◌≡◌, ℕ, ◌+◌, ◌-◌, Bool, true, false, ◌&&◌, ◌==◌, nat_lt}
+use Rattle.std.specs.Prelude.{nat_le, max, if◌then◌else◌, List, [], ◌∷◌, ◌++◌, length}
+use Rattle.std.specs.Prelude.{replicate, Option, Some, None, Result, Ok, Err, pos, unwrap_or}
 use Rattle.std.specs.Ordering.{int_eq}
 use Rattle.dsv_fraction.specs.Ratio.{Ratio, zero, one}
-use Rattle.dsv_fraction.specs.Arithmetic.{quotient, bounded}
+use Rattle.dsv_fraction.specs.Arithmetic.{quotient, bounded_ratio}
 use Rattle.dsv_fraction.specs.declared.fraction.TooWide.{TooWide}
 use Rattle.dsv_word.specs.Width.{widest_word}
 use Rattle.dsv_token.specs.Lexing.{tokens_of}
@@ -12,7 +14,7 @@ use Rattle.dsv_token.specs.declared.refusal.FileRefusal.TheVariants as refusal
 use Rattle.dsv_names.specs.declared.field.Field.{Field}
 use Rattle.dsv_names.specs.declared.field.Field.TheVariants as field
 use Rattle.dsv_text.specs.Stages.{◌>>=◌}
-use Rattle.dsv_syntax.specs.Parsing.{parsed}
+use Rattle.dsv_syntax.specs.Parsing.{syntax_of}
 use Rattle.dsv_syntax.specs.declared.parsing.Syntax.{Syntax}
 use Rattle.dsv_reader.specs.declared.costs.Costs.{Costs}
 use Rattle.dsv_reader.specs.declared.numbers.SpelledNumber.{SpelledNumber}
@@ -29,31 +31,39 @@ use Rattle.dsv_reader.specs.Fields.{values_of}
 
 -- ---- fields that are missing
 -- the field's value, or a refusal at the closing brace of its block
-abbrev pub wanted : {A : Type 0} → ℕ → Field → Option A → Result A FileRefusal
-wanted close f (Some x) = Ok x
-wanted close f None = Err (refusal.FieldMissing close f)
+abbrev pub required_value : {A : Type 0} → ℕ → Field → Option A → Result A FileRefusal
+required_value close f (Some x) = Ok x
+required_value close f None = Err (refusal.FieldMissing close f)
 
 abbrev pub system_of : ℕ → SystemFields → Result System FileRefusal
 system_of close s =
-    wanted close field.B s.b >>= λ b.
-    wanted close field.A s.a >>= λ a.
-    wanted close field.BSize s.b_size >>= λ b_size.
-    wanted close field.ASize s.a_size >>= λ a_size.
+    required_value close field.B s.b >>= λ b.
+    required_value close field.A s.a >>= λ a.
+    required_value close field.BSize s.b_size >>= λ b_size.
+    required_value close field.ASize s.a_size >>= λ a_size.
     Ok (record { b = b; a = a; b_size = b_size; a_size = a_size; sample_time = s.sample_time })
 
 abbrev pub implementation_of : ℕ → ImplementationFields → Result Implementation FileRefusal
 implementation_of close i =
-    wanted close field.IntBits i.int_bits >>= λ int_bits.
-    wanted close field.FracBits i.frac_bits >>= λ frac_bits.
-    wanted close field.Max i.max >>= λ max.
-    wanted close field.Min i.min >>= λ min.
-    Ok (record { int_bits = int_bits; frac_bits = frac_bits; max = max; min = min; delta = i.delta })
+    required_value close field.IntBits i.int_bits >>= λ int_bits.
+    required_value close field.FracBits i.frac_bits >>= λ frac_bits.
+    required_value close field.Max i.max >>= λ max.
+    required_value close field.Min i.min >>= λ min.
+    Ok (record {
+      int_bits = int_bits;
+      frac_bits = frac_bits;
+      max = max;
+      min = min;
+      delta = i.delta;
+    })
 
 -- the block that is closed first is tested first
 abbrev pub blocks_in_order : Bool → Syntax → Values → Result Blocks FileRefusal
-blocks_in_order true x v = system_of x.system v.system >>= λ s. implementation_of x.implementation v.implementation >>= λ i.
+blocks_in_order true x v = system_of x.system v.system
+    >>= λ s. implementation_of x.implementation v.implementation >>= λ i.
     Ok (record { system = s; implementation = i; hardware = v.hardware })
-blocks_in_order false x v = implementation_of x.implementation v.implementation >>= λ i. system_of x.system v.system >>= λ s.
+blocks_in_order false x v = implementation_of x.implementation v.implementation
+    >>= λ i. system_of x.system v.system >>= λ s.
     Ok (record { system = s; implementation = i; hardware = v.hardware })
 
 abbrev pub blocks_of : Syntax → Values → Result Blocks FileRefusal
@@ -61,13 +71,14 @@ blocks_of x v = blocks_in_order (nat_lt x.system x.implementation) x v
 
 -- ---- tests over the whole
 -- a size is its list's length
-abbrev pub sized : SpelledNumber → List Coefficient → Result (Unit {0}) FileRefusal
-sized w xs = if w.value == length xs then Ok tt else Err (refusal.SizeMismatch w.at)
+abbrev pub size_test : SpelledNumber → List Coefficient → Result (Unit {0}) FileRefusal
+size_test w xs = if w.value == length xs then Ok tt else Err (refusal.SizeMismatch w.at)
 
 -- the leading coefficient, which isn't 0; a list has one at least
-abbrev pub leading : List Coefficient → Result Ratio FileRefusal
-leading [] = Err (refusal.LeadingZero 0)
-leading (c ∷ cs) = if int_eq c.value.num (pos 0) then Err (refusal.LeadingZero c.at) else Ok c.value
+abbrev pub leading_coefficient : List Coefficient → Result Ratio FileRefusal
+leading_coefficient [] = Err (refusal.LeadingZero 0)
+leading_coefficient (c ∷ cs) = if int_eq c.value.num (pos 0) then Err (refusal.LeadingZero c.at)
+    else Ok c.value
 
 -- the first coefficient has this value
 abbrev pub BeginsWith : Ratio → List Coefficient → Type 0
@@ -81,23 +92,27 @@ by_quotient at (Err e) = Err (refusal.FractionWide at)
 -- the coefficients divided by the leading one, after those that are
 abbrev pub divided_from : Ratio → List Coefficient → List Ratio → Result (List Ratio) FileRefusal
 divided_from a0 [] out = Ok out
-divided_from a0 (c ∷ cs) out = by_quotient c.at (bounded (quotient c.value a0)) >>= λ q. divided_from a0 cs (out ++ q ∷ [])
+divided_from a0 (c ∷ cs) out = by_quotient c.at (bounded_ratio (quotient c.value a0))
+    >>= λ q. divided_from a0 cs (out ++ q ∷ [])
 
-abbrev pub divided : Ratio → List Coefficient → Result (List Ratio) FileRefusal
-divided a0 cs = divided_from a0 cs []
+abbrev pub divided_list : Ratio → List Coefficient → Result (List Ratio) FileRefusal
+divided_list a0 cs = divided_from a0 cs []
 
 -- at least one bit before the point, and 2 to the greatest width in all
 abbrev pub is_lawful : ℕ → ℕ → Bool
-is_lawful int_bits frac_bits = nat_le 1 int_bits && nat_le 2 (int_bits + frac_bits) && nat_le (int_bits + frac_bits) widest_word
+is_lawful int_bits frac_bits = nat_le 1 int_bits && nat_le 2 (int_bits + frac_bits)
+    && nat_le (int_bits + frac_bits) widest_word
 
-abbrev pub lawful : SpelledNumber → SpelledNumber → Result (Unit {0}) FileRefusal
-lawful int_bits frac_bits = if is_lawful int_bits.value frac_bits.value then Ok tt else Err (refusal.Width int_bits.at)
+abbrev pub width_test : SpelledNumber → SpelledNumber → Result (Unit {0}) FileRefusal
+width_test int_bits frac_bits = if is_lawful int_bits.value frac_bits.value then Ok tt
+    else Err (refusal.Width int_bits.at)
 
 -- zeros after a list up to so many entries
-abbrev pub padded : ℕ → List Ratio → List Ratio
-padded n xs = xs ++ replicate (n - length xs) zero
+abbrev pub padded_list : ℕ → List Ratio → List Ratio
+padded_list n xs = xs ++ replicate (n - length xs) zero
 
--- a sample costs 10, a product 4, a sum, a rounding and a fitting 1, and a move 2, where the file doesn't say else
+-- a sample costs 10, a product 4, a sum, a rounding and a fitting 1, and a move 2, where the file
+-- doesn't say else
 abbrev pub costs_of : HardwareFields → Costs
 costs_of h = record {
   sample = unwrap_or h.sample 10;
@@ -111,8 +126,8 @@ costs_of h = record {
 -- the sample time is 1 and the clock 16 MHz where the file doesn't say else
 abbrev pub controller_with : Blocks → List Ratio → List Ratio → ControllerView
 controller_with x b a = let n = max (length b) (length a) in record {
-  b = padded n b;
-  a = padded n a;
+  b = padded_list n b;
+  a = padded_list n a;
   sample_time = unwrap_or x.system.sample_time one;
   int_bits = x.implementation.int_bits.value;
   frac_bits = x.implementation.frac_bits.value;
@@ -125,12 +140,12 @@ controller_with x b a = let n = max (length b) (length a) in record {
 
 abbrev pub controller_from : Blocks → Result ControllerView FileRefusal
 controller_from x =
-    sized x.system.b_size x.system.b >>= λ u.
-    sized x.system.a_size x.system.a >>= λ u.
-    leading x.system.a >>= λ a0.
-    divided a0 x.system.b >>= λ b.
-    divided a0 x.system.a >>= λ a.
-    lawful x.implementation.int_bits x.implementation.frac_bits >>= λ u.
+    size_test x.system.b_size x.system.b >>= λ u.
+    size_test x.system.a_size x.system.a >>= λ u.
+    leading_coefficient x.system.a >>= λ a0.
+    divided_list a0 x.system.b >>= λ b.
+    divided_list a0 x.system.a >>= λ a.
+    width_test x.implementation.int_bits x.implementation.frac_bits >>= λ u.
     Ok (controller_with x b a)
 
 -- what the bytes of a file say, or the first refusal
@@ -138,7 +153,7 @@ abbrev pub reading : List ℕ → Result ControllerView FileRefusal
 reading bytes =
     utf8_test bytes >>= λ u.
     tokens_of bytes >>= λ ts.
-    parsed (length bytes) ts >>= λ x.
+    syntax_of (length bytes) ts >>= λ x.
     values_of bytes x.entries >>= λ v.
     blocks_of x v >>= λ b.
     controller_from b

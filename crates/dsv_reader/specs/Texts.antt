@@ -1,5 +1,6 @@
--- What a controller file is, apart from how it is read: a text, cut into gaps and tokens, whose tokens are in the
--- grammar; where no field that is read stands twice, with the values of these fields.
+-- What a controller file is, apart from how it is read: a text, cut into gaps and tokens, whose
+-- tokens are in the grammar; where no field that is read stands twice, with the values of these
+-- fields.
 use Rattle.std.specs.Prelude.{◌≡◌, ℕ, List, true, Ok, Err}
 use Rattle.dsv_token.specs.Pieces.{IsCut}
 use Rattle.dsv_token.specs.Text.{utf8_test}

@@ -1,5 +1,7 @@
--- The table of fields: what the values of a file's fields are, apart from the order in which they are read.
-use Rattle.std.specs.Prelude.{◌≡◌, ◌≢◌, ◌⊎◌, ℕ, false, List, [], ◌∷◌, Option, Some, None, Result, Ok}
+-- The table of fields: what the values of a file's fields are, apart from the order in which they
+-- are read.
+use Rattle.std.specs.Prelude.{◌≡◌, ◌≢◌, ◌⊎◌, ℕ, false, List, []}
+use Rattle.std.specs.Prelude.{◌∷◌, Option, Some, None, Result, Ok}
 use Rattle.dsv_fraction.specs.Ratio.{Ratio}
 use Rattle.dsv_token.specs.declared.refusal.FileRefusal.{FileRefusal}
 use Rattle.dsv_names.specs.declared.field.Field.TheVariants as field
@@ -13,7 +15,8 @@ use Rattle.dsv_reader.specs.declared.numbers.SpelledNumber.{SpelledNumber}
 use Rattle.dsv_reader.specs.declared.numbers.Coefficient.{Coefficient}
 use Rattle.dsv_reader.specs.declared.fields.Values.{Values}
 use Rattle.dsv_reader.specs.Limits.{greatest_clock, greatest_cost}
-use Rattle.dsv_reader.specs.Numbers.{text_at, is_octal, only_of, whole_number_at, bounded_at, decimal_at, time_at, coefficients_of}
+use Rattle.dsv_reader.specs.Numbers.{text_at, is_octal, only_of, whole_number_at}
+use Rattle.dsv_reader.specs.Numbers.{bounded_at, decimal_at, time_at, coefficients_of}
 
 -- ---- kinds of values
 -- one to nine decimals
@@ -24,7 +27,8 @@ abbrev pub whole_number_in : List ℕ → Entry → Result SpelledNumber FileRef
 whole_number_in bytes e = only_of e.place e.numbers >>= λ t. whole_number_at bytes t
 
 abbrev pub bounded_in : ℕ → ℕ → List ℕ → Entry → Result ℕ FileRefusal
-bounded_in least greatest bytes e = only_of e.place e.numbers >>= λ t. bounded_at least greatest bytes t
+bounded_in least greatest bytes e = only_of e.place e.numbers
+    >>= λ t. bounded_at least greatest bytes t
 
 abbrev pub time_in : List ℕ → Entry → Result Ratio FileRefusal
 time_in bytes e = only_of e.place e.numbers >>= λ t. time_at bytes t
@@ -43,8 +47,10 @@ abbrev pub IsOnly : Label → Entry → List Entry → Type 0
 IsOnly l e [] = ⊥
 IsOnly l e (f ∷ fs) = ((f ≡ e) × (f.label ≡ l) × IsAbsent l fs) ⊎ ((f.label ≢ l) × IsOnly l e fs)
 
--- the value is what is read of the only field with the label, and there is none where no field has the label
-abbrev pub IsValueOf : {A : Type 0} → Label → (Entry → Result A FileRefusal) → List Entry → Option A → Type 0
+-- the value is what is read of the only field with the label, and there is none where no field has
+-- the label
+abbrev pub IsValueOf : {A : Type 0} → Label → (Entry → Result A FileRefusal) → List Entry → Option A
+    → Type 0
 IsValueOf l read es None = IsAbsent l es
 IsValueOf l read es (Some x) = (e : Entry) × IsOnly l e es × (read e ≡ Ok x)
 
@@ -66,16 +72,25 @@ pub record AreValuesOf (bytes : List ℕ) (es : List Entry) (v : Values) : Type 
   pub b_size : IsValueOf (label.Field field.BSize) (whole_number_in bytes) es v.system.b_size
   pub a_size : IsValueOf (label.Field field.ASize) (whole_number_in bytes) es v.system.a_size
   pub sample_time : IsValueOf (label.Field field.SampleTime) (time_in bytes) es v.system.sample_time
-  pub int_bits : IsValueOf (label.Field field.IntBits) (whole_number_in bytes) es v.implementation.int_bits
-  pub frac_bits : IsValueOf (label.Field field.FracBits) (whole_number_in bytes) es v.implementation.frac_bits
+  pub int_bits : IsValueOf (label.Field field.IntBits) (whole_number_in bytes) es
+      v.implementation.int_bits
+  pub frac_bits : IsValueOf (label.Field field.FracBits) (whole_number_in bytes) es
+      v.implementation.frac_bits
   pub max : IsValueOf (label.Field field.Max) (decimal_in bytes) es v.implementation.max
   pub min : IsValueOf (label.Field field.Min) (decimal_in bytes) es v.implementation.min
   pub delta : IsValueOf (label.Field field.Delta) (decimal_in bytes) es v.implementation.delta
-  pub clock : IsValueOf (label.Setting setting.Clock) (bounded_in 1 greatest_clock bytes) es v.hardware.clock
-  pub cost_sample : IsValueOf (label.Setting setting.CostSample) (bounded_in 0 greatest_cost bytes) es v.hardware.sample
-  pub cost_mul : IsValueOf (label.Setting setting.CostMul) (bounded_in 0 greatest_cost bytes) es v.hardware.mul
-  pub cost_add : IsValueOf (label.Setting setting.CostAdd) (bounded_in 0 greatest_cost bytes) es v.hardware.add
-  pub cost_round : IsValueOf (label.Setting setting.CostRound) (bounded_in 0 greatest_cost bytes) es v.hardware.round
-  pub cost_fit : IsValueOf (label.Setting setting.CostFit) (bounded_in 0 greatest_cost bytes) es v.hardware.fit
-  pub cost_moves : IsValueOf (label.Setting setting.CostMoves) (bounded_in 0 greatest_cost bytes) es v.hardware.moves
+  pub clock : IsValueOf (label.Setting setting.Clock) (bounded_in 1 greatest_clock bytes) es
+      v.hardware.clock
+  pub cost_sample : IsValueOf (label.Setting setting.CostSample) (bounded_in 0 greatest_cost bytes)
+      es v.hardware.sample
+  pub cost_mul : IsValueOf (label.Setting setting.CostMul) (bounded_in 0 greatest_cost bytes) es
+      v.hardware.mul
+  pub cost_add : IsValueOf (label.Setting setting.CostAdd) (bounded_in 0 greatest_cost bytes) es
+      v.hardware.add
+  pub cost_round : IsValueOf (label.Setting setting.CostRound) (bounded_in 0 greatest_cost bytes) es
+      v.hardware.round
+  pub cost_fit : IsValueOf (label.Setting setting.CostFit) (bounded_in 0 greatest_cost bytes) es
+      v.hardware.fit
+  pub cost_moves : IsValueOf (label.Setting setting.CostMoves) (bounded_in 0 greatest_cost bytes) es
+      v.hardware.moves
   pub passed : PassedOver bytes es

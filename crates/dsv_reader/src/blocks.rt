@@ -1,6 +1,6 @@
 // The two blocks that each file has, with their fields.
 ghost use Rattle.std.specs.Prelude.{◌≡◌};
-ghost use Rattle.dsv_reader.specs.Reading.{wanted, system_of, implementation_of, blocks_of};
+ghost use Rattle.dsv_reader.specs.Reading.{required_value, system_of, implementation_of, blocks_of};
 
 use crate::fields::{HardwareFields, ImplementationFields, SystemFields, Values};
 use crate::lists::Coefficients;
@@ -40,8 +40,8 @@ pub(crate) struct Blocks {
 }
 
 /// The field's value, or the refusal of a block that lacks it and is closed here.
-fn wanted<T: Drop>(close: usize, field: Field, value: Option<T>) -> Result<T, FileRefusal>
-    ensures { result ≡ wanted close field value }
+fn required_value<T: Drop>(close: usize, field: Field, value: Option<T>) -> Result<T, FileRefusal>
+    ensures { result ≡ required_value close field value }
 {
     match value {
         Some(value) => Ok(value),
@@ -57,10 +57,10 @@ fn system_of(close: usize, fields: SystemFields) -> Result<System, FileRefusal>
     ensures { result ≡ system_of close fields }
 {
     Ok(System {
-        b: wanted(close, Field::B, fields.b)?,
-        a: wanted(close, Field::A, fields.a)?,
-        b_size: wanted(close, Field::BSize, fields.b_size)?,
-        a_size: wanted(close, Field::ASize, fields.a_size)?,
+        b: required_value(close, Field::B, fields.b)?,
+        a: required_value(close, Field::A, fields.a)?,
+        b_size: required_value(close, Field::BSize, fields.b_size)?,
+        a_size: required_value(close, Field::ASize, fields.a_size)?,
         sample_time: fields.sample_time,
     })
 }
@@ -73,15 +73,16 @@ fn implementation_of(
     ensures { result ≡ implementation_of close fields }
 {
     Ok(Implementation {
-        int_bits: wanted(close, Field::IntBits, fields.int_bits)?,
-        frac_bits: wanted(close, Field::FracBits, fields.frac_bits)?,
-        max: wanted(close, Field::Max, fields.max)?,
-        min: wanted(close, Field::Min, fields.min)?,
+        int_bits: required_value(close, Field::IntBits, fields.int_bits)?,
+        frac_bits: required_value(close, Field::FracBits, fields.frac_bits)?,
+        max: required_value(close, Field::Max, fields.max)?,
+        min: required_value(close, Field::Min, fields.min)?,
         delta: fields.delta,
     })
 }
 
-/// The blocks of a file, or the first field that is missing: the block that is closed first is tested first.
+/// The blocks of a file, or the first field that is missing: the block that is closed first is
+/// tested first.
 pub(crate) fn blocks_of(syntax: &Syntax, values: Values) -> Result<Blocks, FileRefusal>
     ensures { result ≡ blocks_of syntax.now values }
 {

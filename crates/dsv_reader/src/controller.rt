@@ -6,17 +6,18 @@ ghost use Rattle.dsv_reader.specs.Controllers.{IsTime, IsClock};
 use crate::blocks::Blocks;
 use crate::costing::costs_of;
 use crate::costs::Costs;
-use crate::dividing::padded;
+use crate::dividing::padded_list;
 use crate::settings::{Clock, SampleTime};
 use dsv_fraction::{Frac, FracList};
 use std::marker::Model;
 
-/// A controller as its file gives it: the transfer function (b_0 + b_1 z^-1 + ..) / (a_0 + a_1 z^-1 + ..), divided by
-/// its leading denominator coefficient, with both lists padded by zeros to one length; the words that it is to run in
-/// and the range of its inputs; and the sample time, the clock and the costs of the hardware.
+/// A controller as its file gives it: the transfer function (b_0 + b_1 z^-1 + ..) / (a_0 + a_1 z^-1
+/// + ..), divided by its leading denominator coefficient, with both lists padded by zeros to one
+/// length; the words that it is to run in and the range of its inputs; and the sample time, the
+/// clock and the costs of the hardware.
 ///
-/// Both lists have one length from 1 to 9, and a_0 is 1. The sample time is positive, and its parts are below 2^62.
-/// The words have a lawful width. The clock is 1 to 10^12.
+/// Both lists have one length from 1 to 9, and a_0 is 1. The sample time is positive, and its parts
+/// are below 2^62. The words have a lawful width. The clock is 1 to 10^12.
 #[derive(Drop)]
 pub struct Controller {
     b: FracList,
@@ -76,14 +77,15 @@ impl Controller {
         requires a_few { length a.items ≤ most_coefficients }
         requires some { 1 ≤ length a.items }
         requires leading { slice_index_or a.items 0 zero ≡ one }
-        requires lawful { is_lawful blocks.now.implementation.int_bits.value blocks.now.implementation.frac_bits.value ≡ true }
+        requires lawful { is_lawful blocks.now.implementation.int_bits.value
+            blocks.now.implementation.frac_bits.value ≡ true }
         ensures { result ≡ controller_with blocks.now b.items a.items }
     {
         let count = b.len().max(a.len());
         let implementation = &blocks.implementation;
         Controller {
-            b: padded(b, count),
-            a: padded(a, count),
+            b: padded_list(b, count),
+            a: padded_list(a, count),
             sample_time: sample_time_of(&blocks.system.sample_time),
             int_bits: implementation.int_bits.value as u32,
             frac_bits: implementation.frac_bits.value as u32,

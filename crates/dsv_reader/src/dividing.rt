@@ -1,8 +1,10 @@
 // Coefficients divided by the leading one.
-ghost use Rattle.std.specs.Prelude.{◌≡◌, ◌≢◌, ◌<◌, ◌≤◌, length, pos, IfOk, Ok, Err, MatchResult};
-ghost use Rattle.dsv_fraction.specs.Arithmetic.{bounded, quotient};
+ghost use Rattle.std.specs.Prelude.{◌≡◌, ◌≢◌, ◌<◌, ◌≤◌, length, pos};
+ghost use Rattle.std.specs.Prelude.{IfOk, Ok, Err, MatchResult};
+ghost use Rattle.dsv_fraction.specs.Arithmetic.{bounded_ratio, quotient};
 ghost use Rattle.dsv_reader.specs.Limits.{most_coefficients};
-ghost use Rattle.dsv_reader.specs.Reading.{sized, BeginsWith, leading, by_quotient, divided, padded};
+ghost use Rattle.dsv_reader.specs.Reading.{size_test, BeginsWith, leading_coefficient};
+ghost use Rattle.dsv_reader.specs.Reading.{by_quotient, divided_list, padded_list};
 
 use crate::lists::Coefficients;
 use crate::numbers::{Coefficient, SpelledNumber};
@@ -10,8 +12,8 @@ use dsv_fraction::{Frac, FracList};
 use dsv_token::FileRefusal;
 
 /// Tests that the size is the list's length.
-pub(crate) fn sized(size: SpelledNumber, list: &Coefficients) -> Result<(), FileRefusal>
-    ensures { result ≡ sized size list.now }
+pub(crate) fn size_test(size: SpelledNumber, list: &Coefficients) -> Result<(), FileRefusal>
+    ensures { result ≡ size_test size list.now }
 {
     if size.value == list.as_slice().len() as u64 {
         Ok(())
@@ -21,8 +23,8 @@ pub(crate) fn sized(size: SpelledNumber, list: &Coefficients) -> Result<(), File
 }
 
 /// The leading coefficient, which isn't 0.
-pub(crate) fn leading(list: &Coefficients) -> Result<Frac, FileRefusal>
-    ensures value { result ≡ leading list.now }
+pub(crate) fn leading_coefficient(list: &Coefficients) -> Result<Frac, FileRefusal>
+    ensures value { result ≡ leading_coefficient list.now }
     ensures apart { IfOk result (λ q. q.num ≢ pos 0) }
     ensures positive { IfOk result (λ q. 0 < q.den) }
     ensures some { IfOk result (λ _. 1 ≤ length list.now) }
@@ -43,7 +45,8 @@ pub(crate) fn leading(list: &Coefficients) -> Result<Frac, FileRefusal>
 /// A coefficient divided by the leading one.
 fn quotient(coefficient: &Coefficient, divisor: &Frac) -> Result<Frac, FileRefusal>
     requires { divisor.now.num ≢ pos 0 }
-    ensures { result ≡ by_quotient coefficient.now.at (bounded (quotient coefficient.now.value divisor.now)) }
+    ensures { result ≡ by_quotient coefficient.now.at
+        (bounded_ratio (quotient coefficient.now.value divisor.now)) }
 {
     match coefficient.value.div(divisor) {
         Ok(quotient) => Ok(quotient),
@@ -54,9 +57,10 @@ fn quotient(coefficient: &Coefficient, divisor: &Frac) -> Result<Frac, FileRefus
 }
 
 /// The coefficients divided by the leading one.
-pub(crate) fn divided(divisor: &Frac, list: &Coefficients) -> Result<FracList, FileRefusal>
+pub(crate) fn divided_list(divisor: &Frac, list: &Coefficients) -> Result<FracList, FileRefusal>
     requires { divisor.now.num ≢ pos 0 }
-    ensures value { MatchResult result (λ v. divided divisor.now list.now ≡ Ok v.items) (λ r. divided divisor.now list.now ≡ Err r) }
+    ensures value { MatchResult result (λ v. divided_list divisor.now list.now ≡ Ok v.items)
+        (λ r. divided_list divisor.now list.now ≡ Err r) }
     ensures places { IfOk result (λ v. length v.items ≡ length list.now) }
     ensures few { length list.now ≤ most_coefficients }
 {
@@ -71,10 +75,10 @@ pub(crate) fn divided(divisor: &Frac, list: &Coefficients) -> Result<FracList, F
 }
 
 /// The list with zeros after it up to `count` entries.
-pub(crate) fn padded(list: FracList, count: usize) -> FracList
+pub(crate) fn padded_list(list: FracList, count: usize) -> FracList
     requires room { length list.items ≤ count }
     requires few { count ≤ most_coefficients }
-    ensures value { result.items ≡ padded count list.items }
+    ensures value { result.items ≡ padded_list count list.items }
     ensures places { length result.items ≡ count }
 {
     let mut list = list;

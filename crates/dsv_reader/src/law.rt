@@ -9,13 +9,20 @@ ghost use Rattle.dsv_reader.specs.Values.{AreValuesOf};
 ghost use Rattle.dsv_reader.specs.declared.fields.Values.{Values};
 ghost use Rattle.dsv_syntax.specs.declared.entry.Entry.{Entry};
 
-/// The law of [`read`](crate::read), for proofs: each list of bytes is the text of one controller or has one first
-/// fault, and never both; and the values of its fields are those of the table of fields. The call does nothing.
+/// The law of [`read`](crate::read), for proofs: each list of bytes is the text of one controller
+/// or has one first fault, and never both; and the values of its fields are those of the table of
+/// fields. The call does nothing.
 pub fn one_answer()
-    ensures some { (bytes : List ℕ) → ((c : ControllerView) × IsTextOf bytes c) ⊎ ((r : FileRefusal) × IsFaultOf bytes r) }
-    ensures apart { (bytes : List ℕ) (c : ControllerView) (r : FileRefusal) → IsTextOf bytes c → IsFaultOf bytes r → ⊥ }
-    ensures one { (bytes : List ℕ) (c d : ControllerView) → IsTextOf bytes c → IsTextOf bytes d → c ≡ d }
-    ensures first { (bytes : List ℕ) (r s : FileRefusal) → IsFaultOf bytes r → IsFaultOf bytes s → r ≡ s }
-    ensures read { (bytes : List ℕ) (c : ControllerView) → (reading bytes ≡ Ok c) ↔ IsTextOf bytes c }
-    ensures table { (bytes : List ℕ) (fields : List Entry) (v : Values) → (values_of bytes fields ≡ Ok v) ↔ AreValuesOf bytes fields v }
+    ensures some { (bytes : List ℕ) → ((c : ControllerView) × IsTextOf bytes c)
+        ⊎ ((r : FileRefusal) × IsFaultOf bytes r) }
+    ensures apart { (bytes : List ℕ) (c : ControllerView) (r : FileRefusal) → IsTextOf bytes c
+        → IsFaultOf bytes r → ⊥ }
+    ensures one { (bytes : List ℕ) (c d : ControllerView) → IsTextOf bytes c → IsTextOf bytes d
+        → c ≡ d }
+    ensures first { (bytes : List ℕ) (r s : FileRefusal) → IsFaultOf bytes r → IsFaultOf bytes s
+        → r ≡ s }
+    ensures read { (bytes : List ℕ) (c : ControllerView) → (reading bytes ≡ Ok c)
+        ↔ IsTextOf bytes c }
+    ensures table { (bytes : List ℕ) (fields : List Entry) (v : Values)
+        → (values_of bytes fields ≡ Ok v) ↔ AreValuesOf bytes fields v }
 {}

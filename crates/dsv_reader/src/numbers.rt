@@ -4,7 +4,10 @@ ghost use Rattle.dsv_token.specs.declared.refusal.FileRefusal.TheVariants.{Numbe
 ghost use Rattle.std.specs.Bool.{OnTrue};
 ghost use Rattle.dsv_reader.specs.Controllers.{IsTime};
 ghost use Rattle.dsv_reader.specs.Limits.{most_coefficients};
-ghost use Rattle.dsv_reader.specs.Numbers.{text_at, is_octal, no_number, whole_number_at, bounded_at, by_decimal, decimal_at, is_time, by_time, time_at, only_of, coefficients_from, coefficients_of, passed_over};
+ghost use Rattle.dsv_reader.specs.Numbers.{text_at, is_octal, no_number, whole_number_at};
+ghost use Rattle.dsv_reader.specs.Numbers.{bounded_at, by_decimal, decimal_at, is_time};
+ghost use Rattle.dsv_reader.specs.Numbers.{by_time, time_at, only_of, coefficients_from};
+ghost use Rattle.dsv_reader.specs.Numbers.{coefficients_of, passed_over};
 
 use crate::lists::{Coefficients, MOST_COEFFICIENTS};
 use dsv_fraction::number::sign_len;
@@ -130,7 +133,8 @@ fn is_time(value: &Frac) -> bool
     0 < num && num < TIME_LIMIT && den < TIME_LIMIT
 }
 
-/// The sample time that the token spells. A number that is too wide breaks its rule like any other that is too large.
+/// The sample time that the token spells. A number that is too wide breaks its rule like any other
+/// that is too large.
 pub(crate) fn time_at(bytes: &[u8], token: Token) -> Result<Frac, FileRefusal>
     ensures value { result ≡ time_at bytes.now token }
     ensures time { IfOk result IsTime }

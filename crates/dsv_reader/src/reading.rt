@@ -1,12 +1,12 @@
 // A whole file.
 ghost use Rattle.std.specs.Prelude.{◌≡◌, IfOk};
 ghost use Rattle.dsv_token.specs.Memory.{Gives};
-ghost use Rattle.dsv_reader.specs.Reading.{lawful, is_lawful, controller_from, reading};
+ghost use Rattle.dsv_reader.specs.Reading.{width_test, is_lawful, controller_from, reading};
 ghost use Rattle.dsv_reader.specs.Texts.{IsTextOf};
 
 use crate::blocks::{Blocks, blocks_of};
 use crate::controller::Controller;
-use crate::dividing::{divided, leading, sized};
+use crate::dividing::{divided_list, leading_coefficient, size_test};
 use crate::fields::values_of;
 use crate::numbers::SpelledNumber;
 use dsv_syntax::parse;
@@ -14,12 +14,12 @@ use dsv_token::{FileRefusal, check_text, lex};
 use dsv_word::WIDEST_WORD;
 use std::alloc::Global;
 
-/// The controller that a file's bytes spell; or the file's first fault, pass by pass over the whole file: its text, its
-/// tokens, its grammar, its numbers field by field, fields that are missing, and what its values are to each other. It
-/// takes time in proportion to the file.
+/// The controller that a file's bytes spell; or the file's first fault, pass by pass over the whole
+/// file: its text, its tokens, its grammar, its numbers field by field, fields that are missing,
+/// and what its values are to each other. It takes time in proportion to the file.
 pub fn read(alloc: Global, bytes: &[u8]) -> Result<Controller, FileRefusal>
-    // The controller exactly where the bytes are its text, and a refusal exactly where it is their first fault, but for
-    // want of memory.
+    // The controller exactly where the bytes are its text, and a refusal exactly where it is their
+    // first fault, but for want of memory.
     ensures value { Gives (λ c. c) result (reading bytes.now) }
     ensures text { IfOk result (IsTextOf bytes.now) }
 {
@@ -38,8 +38,8 @@ fn read_passes(alloc: Global, bytes: &[u8]) -> Result<Controller, FileRefusal>
 }
 
 /// Tests that words of these widths can be had.
-fn lawful(int_bits: SpelledNumber, frac_bits: SpelledNumber) -> Result<(), FileRefusal>
-    ensures { result ≡ lawful int_bits frac_bits }
+fn width_test(int_bits: SpelledNumber, frac_bits: SpelledNumber) -> Result<(), FileRefusal>
+    ensures { result ≡ width_test int_bits frac_bits }
 {
     let greatest = u64::from(WIDEST_WORD);
     match int_bits.value.checked_add(frac_bits.value) {
@@ -56,12 +56,12 @@ fn controller_of(blocks: &Blocks) -> Result<Controller, FileRefusal>
     ensures { result ≡ controller_from blocks.now }
 {
     let system = &blocks.system;
-    sized(system.b_size, &system.b)?;
-    sized(system.a_size, &system.a)?;
-    let first = leading(&system.a)?;
-    let b = divided(&first, &system.b)?;
-    let a = divided(&first, &system.a)?;
-    lawful(
+    size_test(system.b_size, &system.b)?;
+    size_test(system.a_size, &system.a)?;
+    let first = leading_coefficient(&system.a)?;
+    let b = divided_list(&first, &system.b)?;
+    let a = divided_list(&first, &system.a)?;
+    width_test(
         blocks.implementation.int_bits,
         blocks.implementation.frac_bits,
     )?;

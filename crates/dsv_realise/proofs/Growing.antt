@@ -20,7 +20,7 @@ use Rattle.dsv_netlist.specs.Conditions.{NamesBelow, AllNameBack, ReadsBelow, gi
 use Rattle.dsv_netlist.specs.Counts.{is_product, is_sum}
 use Rattle.dsv_netlist.proofs.BoundLemmas.{from-length}
 use Rattle.dsv_netlist.proofs.Naming.{names_word-below}
-use Rattle.dsv_realise.specs.Making.{Made, put, with_product, joining, with_sum}
+use Rattle.dsv_realise.specs.Making.{Made, put, with_product, sum_node, with_sum}
 
 -- ---- which nodes are words
 pub named_old : (ns ms : List Node) (k : ℕ) → names_word ns k ≡ true → names_word (ns ++ ms) k ≡ true
@@ -143,31 +143,31 @@ product_grows f r ns p s c i h t small w =
       place = named_last b n3;
     }
 
-joining-bound : (f : Format) (ns : List Node) (away : Bool) (i j : ℕ) (u v : ℕ) → slice_index (bounds_of f ns) i ≡ u → slice_index (bounds_of f ns) j ≡ v → node_bound (word_bound f) (bounds_of f ns) (joining away i j) ≡ u + v
+joining-bound : (f : Format) (ns : List Node) (away : Bool) (i j : ℕ) (u v : ℕ) → slice_index (bounds_of f ns) i ≡ u → slice_index (bounds_of f ns) j ≡ v → node_bound (word_bound f) (bounds_of f ns) (sum_node away i j) ≡ u + v
 joining-bound f ns true i j u v e g = rw (e, g) refl
 joining-bound f ns false i j u v e g = rw (e, g) refl
 
-joining_below : (n : ℕ) (away : Bool) (i j : ℕ) → i < n → j < n → NamesBelow n (joining away i j)
+joining_below : (n : ℕ) (away : Bool) (i j : ℕ) → i < n → j < n → NamesBelow n (sum_node away i j)
 joining_below n true i j h k = (h, k)
 joining_below n false i j h k = (h, k)
 
-joining_reads : (r : ℕ) (away : Bool) (i j : ℕ) → ReadsBelow r (joining away i j)
+joining_reads : (r : ℕ) (away : Bool) (i j : ℕ) → ReadsBelow r (sum_node away i j)
 joining_reads r true i j = tt
 joining_reads r false i j = tt
 
-joining-word : (away : Bool) (i j : ℕ) → gives_word (joining away i j) ≡ false
+joining-word : (away : Bool) (i j : ℕ) → gives_word (sum_node away i j) ≡ false
 joining-word true i j = refl
 joining-word false i j = refl
 
-joining-product : (away : Bool) (i j : ℕ) → one_if (is_product (joining away i j)) ≡ 0
+joining-product : (away : Bool) (i j : ℕ) → one_if (is_product (sum_node away i j)) ≡ 0
 joining-product true i j = refl
 joining-product false i j = refl
 
-joining-sum : (away : Bool) (i j : ℕ) → one_if (is_sum (joining away i j)) ≡ 1
+joining-sum : (away : Bool) (i j : ℕ) → one_if (is_sum (sum_node away i j)) ≡ 1
 joining-sum true i j = refl
 joining-sum false i j = refl
 
-joining-fit : (away : Bool) (i j : ℕ) → one_if (is_fit (joining away i j)) ≡ 0
+joining-fit : (away : Bool) (i j : ℕ) → one_if (is_fit (sum_node away i j)) ≡ 0
 joining-fit true i j = refl
 joining-fit false i j = refl
 
@@ -177,7 +177,7 @@ not_word false e g h k = absurd cc
 
 pub sum_grows : (f : Format) (r : ℕ) (ns : List Node) (p s : ℕ) (away : Bool) (i j : ℕ) → AreSound f r ns → HasCounts r ns p s → names_word ns i ≡ true → names_word ns j ≡ true → Grown f r ns (with_sum away ns i j) p (s + 1)
 sum_grows f r ns p s away i j h t v w =
-    let n1 = joining away i j in
+    let n1 = sum_node away i j in
     let a = put ns n1 in
     let n2 = Fit (length ns) in
     let la = length_push ns n1 in

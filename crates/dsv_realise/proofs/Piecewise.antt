@@ -85,11 +85,11 @@ output_summed q n0 n1 n2 b first place n h eb en es e z f =
 count_first : (i n : ℕ) → i < n → count i (n - i) ≡ i ∷ count (i + 1) (n - (i + 1))
 count_first i n h = let e : n - i ≡ suc (n - (i + 1)) = omega arith in ap (count i) e
 
-pub behind_some : (i n : ℕ) → i + 1 < n → first_alone (successor_of (Some (i + 1))) ≡ first_alone (count (i + 1) (n - (i + 1)))
-behind_some i n h = let e : suc (n - (i + 1) - 1) ≡ n - (i + 1) = omega arith in ap (λ (k : ℕ). first_alone (count (i + 1) k)) e
+pub after_some : (i n : ℕ) → i + 1 < n → first_alone (successor_of (Some (i + 1))) ≡ first_alone (count (i + 1) (n - (i + 1)))
+after_some i n h = let e : suc (n - (i + 1) - 1) ≡ n - (i + 1) = omega arith in ap (λ (k : ℕ). first_alone (count (i + 1) k)) e
 
-pub behind_none : (i n : ℕ) → n ≤ i + 1 → first_alone (successor_of None) ≡ first_alone (count (i + 1) (n - (i + 1)))
-behind_none i n h = let e : 0 ≡ n - (i + 1) = omega arith in ap (λ (k : ℕ). first_alone (count (i + 1) k)) e
+pub after_none : (i n : ℕ) → n ≤ i + 1 → first_alone (successor_of None) ≡ first_alone (count (i + 1) (n - (i + 1)))
+after_none i n h = let e : 0 ≡ n - (i + 1) = omega arith in ap (λ (k : ℕ). first_alone (count (i + 1) k)) e
 
 -- one new word of a transposed chain more
 pub transposed_more : (y i : ℕ) (b a : List ℤ) (ns ms : List Node) (ps qs ks : List ℕ) (p : ℕ) (all : Chained) → i < length a → length b ≡ length a
@@ -123,12 +123,12 @@ delta_more q older node end d ns ms ps qs p all h ed m e before =
     ap (with_delta q node rest) same ∙ sym step ∙ before
 
 -- a chain after another
-pub delta_behind : (q : FixedPoint) (before : ℕ) (ks : List ℕ) (ns : List Node) (ps qs : List ℕ)
+pub delta_after : (q : FixedPoint) (before : ℕ) (ks : List ℕ) (ns : List Node) (ps qs : List ℕ)
     → with_delta q before ks (record { nodes = ns; places = ps ++ qs }) ≡ record { nodes = (with_delta q before ks (record { nodes = ns; places = qs })).nodes; places = ps ++ (with_delta q before ks (record { nodes = ns; places = qs })).places }
-delta_behind q before [] ns ps qs = refl
-delta_behind q before (k ∷ ks) ns ps qs =
+delta_after q before [] ns ps qs = refl
+delta_after q before (k ∷ ks) ns ps qs =
     let m = with_next (record { nodes = ns; place = k }) (Times false q.delta before) in
-    ap (λ (js : List ℕ). with_delta q k ks (record { nodes = m.nodes; places = js })) (append_assoc ps qs (m.place ∷ [])) ∙ delta_behind q k ks m.nodes ps (qs ++ m.place ∷ [])
+    ap (λ (js : List ℕ). with_delta q k ks (record { nodes = m.nodes; places = js })) (append_assoc ps qs (m.place ∷ [])) ∙ delta_after q k ks m.nodes ps (qs ++ m.place ∷ [])
 
 pub delta_pair : (q : FixedPoint) (ns n1 n2 : List Node) (y n : ℕ) (p0 p1 p2 : List ℕ) → record { nodes = ns; place = y } ≡ first_form q → p0 ≡ [] → n ≡ order q
     → record { nodes = n1; places = p1 } ≡ with_delta q 0 (count 1 (order q)) (record { nodes = ns; places = p0 })
@@ -141,7 +141,7 @@ delta_pair q ns n1 n2 y n p0 p1 p2 f z e one two =
     let ks = count (order q + 1) (order q) in
     let second : record { nodes = n2; places = p2 } ≡ record { nodes = (delta_outputs q).nodes; places = c.places ++ (delta_outputs q).places } =
     two ∙ ap (λ (j : ℕ). with_delta q y (count (j + 1) (order q)) (record { nodes = n1; places = p1 })) e ∙ ap (λ (m : Chained). with_delta q y ks m) first ∙ ap (λ (j : ℕ). with_delta q j ks c) place
-    ∙ ap (λ (js : List ℕ). with_delta q (first_form q).place ks (record { nodes = c.nodes; places = js })) (sym (append-nil c.places)) ∙ delta_behind q (first_form q).place ks c.nodes c.places [] in
+    ∙ ap (λ (js : List ℕ). with_delta q (first_form q).place ks (record { nodes = c.nodes; places = js })) (sym (append-nil c.places)) ∙ delta_after q (first_form q).place ks c.nodes c.places [] in
     ap (λ (m : Chained). net_with q Ddfi m.nodes m.places y) second ∙ ap (net_with q Ddfi (delta_outputs q).nodes (c.places ++ (delta_outputs q).places)) place
 
 -- one new word of a transposed delta chain more

@@ -5,18 +5,18 @@ use Rattle.std.proofs.Math.IntN.{ℤ, pos, ◌+ℤ◌, ◌-ℤ◌, ◌*ℤ◌}
 use Rattle.std.proofs.lemmas.List.{get_or_append_left, get_or_push, length_push, append-nil}
 use Rattle.dsv_word.specs.declared.format.Format.{Format}
 use Rattle.dsv_word.specs.Words.{width, fit}
-use Rattle.dsv_word.specs.Quotients.{shifted}
+use Rattle.dsv_word.specs.Quotients.{whole_shift}
 use Rattle.dsv_netlist.specs.declared.node.Node.{Node}
 use Rattle.dsv_netlist.specs.declared.node.Node.TheVariants.{MulConst, Round, Fit}
 use Rattle.dsv_netlist.specs.Nodes.{at, Sample, node_value, node_exact, after_node, sample_from, sample_of}
 use Rattle.dsv_meaning.specs.Lines.{Sum, product, joined_value}
-use Rattle.dsv_realise.specs.Making.{Made, put, with_product, joining, with_sum}
+use Rattle.dsv_realise.specs.Making.{Made, put, with_product, sum_node, with_sum}
 
 abbrev pub fit_in : Format → ℤ → ℤ
 fit_in f v = fit f.overflow (width f) v
 
 abbrev pub round_in : Format → ℤ → ℤ
-round_in f v = shifted f.rounding f.frac_bits v
+round_in f v = whole_shift f.rounding f.frac_bits v
 
 pub from_push : (f : Format) (rs : List ℤ) (x : ℤ) (ns : List Node) (n : Node) (s : Sample) → sample_from f rs x (put ns n) s ≡ after_node f rs x (sample_from f rs x ns s) n
 from_push f rs x [] n s = refl
@@ -107,20 +107,20 @@ product_gives f rs x ns vs es c i w h e =
 abbrev pub joint : Bool → ℤ → ℤ → ℤ
 joint away v u = if away then v -ℤ u else v +ℤ u
 
-pub joining_value : (f : Format) (rs : List ℤ) (x : ℤ) (vs : List ℤ) (away : Bool) (i j : ℕ) (v u : ℤ) → at vs i ≡ v → at vs j ≡ u → node_value f rs x vs (joining away i j) ≡ joint away v u
+pub joining_value : (f : Format) (rs : List ℤ) (x : ℤ) (vs : List ℤ) (away : Bool) (i j : ℕ) (v u : ℤ) → at vs i ≡ v → at vs j ≡ u → node_value f rs x vs (sum_node away i j) ≡ joint away v u
 joining_value f rs x vs true i j v u e g = rw (e, g) refl
 joining_value f rs x vs false i j v u e g = rw (e, g) refl
 
-pub joining_exact : (vs : List ℤ) (away : Bool) (i j : ℕ) → node_exact vs (joining away i j) ≡ []
+pub joining_exact : (vs : List ℤ) (away : Bool) (i j : ℕ) → node_exact vs (sum_node away i j) ≡ []
 joining_exact vs true i j = refl
 joining_exact vs false i j = refl
 
 pub sum_gives : (f : Format) (rs : List ℤ) (x : ℤ) (ns : List Node) (vs : List ℤ) (away : Bool) (i j : ℕ) (v : ℤ) (s : Sum) → IsAt f rs x ns vs s.exact → at vs i ≡ v → at vs j ≡ s.value → Gives f rs x vs (with_sum away ns i j) (joined_value f away v s)
 sum_gives f rs x ns vs away i j v s h e g =
     let t = joint away v s.value in
-    let a = put ns (joining away i j) in
+    let a = put ns (sum_node away i j) in
     let vs1 = vs ++ t ∷ [] in
-    let h1 : IsAt f rs x a vs1 s.exact = plain f rs x ns (joining away i j) vs s.exact t h (joining_exact vs away i j) (joining_value f rs x vs away i j v s.value e g) in
+    let h1 : IsAt f rs x a vs1 s.exact = plain f rs x ns (sum_node away i j) vs s.exact t h (joining_exact vs away i j) (joining_value f rs x vs away i j v s.value e g) in
     let h2 : IsAt f rs x (put a (Fit (length ns))) (vs1 ++ fit_in f t ∷ []) (s.exact ++ t ∷ []) = fits f rs x a (length ns) vs1 s.exact t h1 (at_last vs t (length ns) (at-length f rs x ns vs s.exact h)) in
     let l : length vs1 ≡ length a = at-length f rs x a vs1 s.exact h1 in
     record {

@@ -1,5 +1,6 @@
 -- Nodes made one after another: products, sums, lines and chains of lines.
-use Rattle.std.specs.Prelude.{ℕ, Bool, false, if◌then◌else◌, List, [], ◌∷◌, ◌++◌, length, drop, ℤ}
+use Rattle.std.specs.Prelude.{ℕ, Bool, false, if◌then◌else◌, List}
+use Rattle.std.specs.Prelude.{[], ◌∷◌, ◌++◌, length, drop, ℤ}
 use Rattle.dsv_netlist.specs.declared.node.Node.{Node}
 use Rattle.dsv_netlist.specs.declared.node.Node.TheVariants.{MulConst, Round, Add, Sub, Fit}
 use Rattle.dsv_quantiser.specs.FixedPoint.{FixedPoint}
@@ -24,13 +25,13 @@ with_product nodes coeff of =
     let rounded = put multiplied (Round (length nodes)) in
     record { nodes = put rounded (Fit (length multiplied)); place = length rounded }
 
-abbrev pub joining : Bool → ℕ → ℕ → Node
-joining away left right = if away then Sub left right else Add left right
+abbrev pub sum_node : Bool → ℕ → ℕ → Node
+sum_node away left right = if away then Sub left right else Add left right
 
 -- the nodes of a sum or a difference: it is fitted
 abbrev pub with_sum : Bool → List Node → ℕ → ℕ → Made
 with_sum away nodes left right =
-    let summed = put nodes (joining away left right) in
+    let summed = put nodes (sum_node away left right) in
     record { nodes = put summed (Fit (length nodes)); place = length summed }
 
 -- ---- lines
@@ -40,7 +41,8 @@ with_first nodes (Times away coeff of) = with_product nodes coeff of
 with_first nodes (Alone of) = record { nodes = nodes; place = of }
 
 abbrev pub with_next : Made → Summand ℕ → Made
-with_next m (Times away coeff of) = let factor = with_product m.nodes coeff of in with_sum away factor.nodes m.place factor.place
+with_next m (Times away coeff of) = let factor = with_product m.nodes coeff of in
+    with_sum away factor.nodes m.place factor.place
 with_next m (Alone of) = with_sum false m.nodes m.place of
 
 abbrev pub with_summands : Made → List (Summand ℕ) → Made
@@ -70,16 +72,19 @@ with_place c m = record { nodes = m.nodes; places = c.places ++ m.place ∷ [] }
 -- new s_i = b_i x - a_i y + old s_(i+1), where `s` are the nodes of old s_i and those after it
 abbrev pub with_transposed : ℕ → ℕ → List ℤ → List ℤ → List ℕ → Chained → Chained
 with_transposed x y (b ∷ bs) (a ∷ cs) s c =
-    with_transposed x y bs cs (drop 1 s) (with_place c (with_line c.nodes (transposed_line b a x y (drop 1 s))))
+    with_transposed x y bs cs (drop 1 s)
+    (with_place c (with_line c.nodes (transposed_line b a x y (drop 1 s))))
 with_transposed x y _ _ s c = c
 
 -- new w_j = old w_j + delta old w_(j-1), where `before` is the node of old w_(j-1)
 abbrev pub with_delta : FixedPoint → ℕ → List ℕ → Chained → Chained
 with_delta q before [] c = c
-with_delta q before (w ∷ ws) c = with_delta q w ws (with_place c (with_line c.nodes (delta_line q w before)))
+with_delta q before (w ∷ ws) c =
+    with_delta q w ws (with_place c (with_line c.nodes (delta_line q w before)))
 
 -- new s_i = old s_i + delta (b_i x - a_i y + old s_(i+1))
-abbrev pub with_transposed_delta : FixedPoint → ℕ → ℕ → List ℤ → List ℤ → List ℕ → Chained → Chained
+abbrev pub with_transposed_delta : FixedPoint → ℕ → ℕ → List ℤ → List ℤ → List ℕ
+    → Chained → Chained
 with_transposed_delta q x y (b ∷ bs) (a ∷ cs) (s ∷ ss) c =
     let t = with_line c.nodes (transposed_line b a x y ss) in
     with_transposed_delta q x y bs cs ss (with_place c (with_line t.nodes (delta_line q s t.place)))

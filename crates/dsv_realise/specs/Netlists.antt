@@ -1,14 +1,17 @@
 -- The netlists of the six realisations. N is the order.
 use Rattle.std.specs.Prelude.{ℕ, zero, suc, ◌+◌, List, [], ◌∷◌, ◌++◌, drop}
 use Rattle.dsv_names.specs.declared.realisation.Realisation.{Realisation}
-use Rattle.dsv_names.specs.declared.realisation.Realisation.TheVariants.{Dfi, Dfii, Tdfii, Ddfi, Ddfii, Tddfii}
+use Rattle.dsv_names.specs.declared.realisation.Realisation.TheVariants.{Dfi, Dfii, Tdfii}
+use Rattle.dsv_names.specs.declared.realisation.Realisation.TheVariants.{Ddfi, Ddfii, Tddfii}
 use Rattle.dsv_quantiser.specs.FixedPoint.{FixedPoint}
 use Rattle.dsv_netlist.specs.declared.node.Node.{Node}
 use Rattle.dsv_netlist.specs.declared.node.Node.TheVariants.{Input, Reg}
 use Rattle.dsv_netlist.specs.Nodes.{Net}
 use Rattle.dsv_meaning.specs.Lines.{Alone}
-use Rattle.dsv_meaning.specs.Equations.{order, feedback, forward_summands, feedback_summands, transposed_output, forward_registers_of}
-use Rattle.dsv_realise.specs.Making.{Made, with_line, Chained, no_places, with_transposed, with_delta, with_transposed_delta}
+use Rattle.dsv_meaning.specs.Equations.{order, feedback, forward_summands, feedback_summands}
+use Rattle.dsv_meaning.specs.Equations.{transposed_output, forward_registers_of}
+use Rattle.dsv_realise.specs.Making.{Made, with_line, Chained, no_places}
+use Rattle.dsv_realise.specs.Making.{with_transposed, with_delta, with_transposed_delta}
 
 -- ---- the nodes that every netlist begins with
 abbrev pub registers_from : ℕ → ℕ → List Node
@@ -30,15 +33,18 @@ abbrev pub shift : ℕ → ℕ → ℕ → List ℕ
 shift i k zero = []
 shift i k (suc n) = i ∷ count k n
 
--- the nodes of w(n), w(n-1), .., where w(n) is the word of node p and the others are in registers from the first on
+-- the nodes of w(n), w(n-1), .., where w(n) is the word of node p and the others are in registers
+-- from the first on
 abbrev pub newest_at : ℕ → ℕ → ℕ
 newest_at p zero = p
 newest_at p (suc i) = suc i
 
 -- ---- lines that two realisations share
--- y = b_0 x + .. + b_N x_N - a_1 y_1 - .. - a_N y_N, with x_1 to x_N in the first registers and then y_1 to y_N
+-- y = b_0 x + .. + b_N x_N - a_1 y_1 - .. - a_N y_N, with x_1 to x_N in the first registers and
+-- then y_1 to y_N
 abbrev pub first_form : FixedPoint → Made
-first_form q = with_line (sources (order q + order q)) (forward_summands q (λ i. i) ++ feedback_summands q (λ i. i) (order q + 1))
+first_form q = with_line (sources (order q + order q))
+    (forward_summands q (λ i. i) ++ feedback_summands q (λ i. i) (order q + 1))
 
 -- w_0 = x - a_1 w_1 - .. - a_N w_N, with w_1 to w_N in the registers
 abbrev pub second_form_state : FixedPoint → Made
@@ -46,7 +52,8 @@ second_form_state q = with_line (sources (order q)) (Alone 0 ∷ feedback_summan
 
 -- y = b_0 w_0 + .. + b_N w_N after it
 abbrev pub second_form : FixedPoint → Made
-second_form q = with_line (second_form_state q).nodes (forward_summands q (newest_at (second_form_state q).place))
+second_form q = with_line (second_form_state q).nodes
+    (forward_summands q (newest_at (second_form_state q).place))
 
 -- y = b_0 x + s_1, with s_1 to s_N in the registers
 abbrev pub transposed_form : FixedPoint → Made
@@ -55,7 +62,8 @@ transposed_form q = with_line (sources (order q)) (transposed_output q 0 (count 
 -- ---- what stands after them: the nodes of all new words of the registers
 abbrev pub transposed_nodes : FixedPoint → Chained
 transposed_nodes q =
-    let y = transposed_form q in with_transposed 0 y.place (drop 1 q.b) (feedback q) (count 1 (order q)) (no_places y.nodes)
+    let y = transposed_form q in
+    with_transposed 0 y.place (drop 1 q.b) (feedback q) (count 1 (order q)) (no_places y.nodes)
 
 -- the new words of x_1 to x_N, each with delta times the one before it
 abbrev pub delta_inputs : FixedPoint → Chained
@@ -63,28 +71,44 @@ delta_inputs q = with_delta q 0 (count 1 (order q)) (no_places (first_form q).no
 
 -- and those of y_1 to y_N
 abbrev pub delta_outputs : FixedPoint → Chained
-delta_outputs q = with_delta q (first_form q).place (count (order q + 1) (order q)) (no_places (delta_inputs q).nodes)
+delta_outputs q = with_delta q (first_form q).place (count (order q + 1) (order q))
+    (no_places (delta_inputs q).nodes)
 
 abbrev pub delta_states : FixedPoint → Chained
-delta_states q = with_delta q (second_form_state q).place (count 1 (order q)) (no_places (second_form q).nodes)
+delta_states q = with_delta q (second_form_state q).place (count 1 (order q))
+    (no_places (second_form q).nodes)
 
 abbrev pub transposed_delta_nodes : FixedPoint → Chained
 transposed_delta_nodes q =
-    let y = transposed_form q in with_transposed_delta q 0 y.place (drop 1 q.b) (feedback q) (count 1 (order q)) (no_places y.nodes)
+    let y = transposed_form q in
+    with_transposed_delta q 0 y.place (drop 1 q.b) (feedback q) (count 1 (order q))
+    (no_places y.nodes)
 
 -- ---- netlists
 abbrev pub net_with : FixedPoint → Realisation → List Node → List ℕ → ℕ → Net
 net_with q realisation nodes next output =
-    record { nodes = nodes; next = next; output = output; feed_forward = forward_registers_of realisation (order q); format = q.format }
+    record {
+      nodes = nodes;
+      next = next;
+      output = output;
+      feed_forward = forward_registers_of realisation (order q);
+      format = q.format;
+    }
 
 -- what the registers are loaded from, and the output
 abbrev pub net_as : Realisation → FixedPoint → Net
-net_as Dfi q = net_with q Dfi (first_form q).nodes (shift 0 1 (order q) ++ shift (first_form q).place (order q + 1) (order q)) (first_form q).place
-net_as Dfii q = net_with q Dfii (second_form q).nodes (shift (second_form_state q).place 1 (order q)) (second_form q).place
-net_as Tdfii q = net_with q Tdfii (transposed_nodes q).nodes (transposed_nodes q).places (transposed_form q).place
-net_as Ddfi q = net_with q Ddfi (delta_outputs q).nodes ((delta_inputs q).places ++ (delta_outputs q).places) (first_form q).place
-net_as Ddfii q = net_with q Ddfii (delta_states q).nodes (delta_states q).places (second_form q).place
-net_as Tddfii q = net_with q Tddfii (transposed_delta_nodes q).nodes (transposed_delta_nodes q).places (transposed_form q).place
+net_as Dfi q = net_with q Dfi (first_form q).nodes
+    (shift 0 1 (order q) ++ shift (first_form q).place (order q + 1) (order q)) (first_form q).place
+net_as Dfii q = net_with q Dfii (second_form q).nodes
+    (shift (second_form_state q).place 1 (order q)) (second_form q).place
+net_as Tdfii q = net_with q Tdfii (transposed_nodes q).nodes (transposed_nodes q).places
+    (transposed_form q).place
+net_as Ddfi q = net_with q Ddfi (delta_outputs q).nodes
+    ((delta_inputs q).places ++ (delta_outputs q).places) (first_form q).place
+net_as Ddfii q = net_with q Ddfii (delta_states q).nodes (delta_states q).places
+    (second_form q).place
+net_as Tddfii q = net_with q Tddfii (transposed_delta_nodes q).nodes
+    (transposed_delta_nodes q).places (transposed_form q).place
 
 -- the netlist of a controller in words
 abbrev pub net_of : FixedPoint → Net

@@ -8,8 +8,8 @@ use Rattle.dsv_realise.specs.declared.parts.Parts.{Parts}
 use Rattle.dsv_realise.specs.Making.{Made}
 use Rattle.dsv_realise.specs.Netlists.{net_with}
 
--- the most nodes after a netlist's first line, after its second, and before the new words of its registers; and the most
--- nodes that the input and the registers take
+-- the most nodes after a netlist's first line, after its second, and before the new words of its
+-- registers; and the most nodes that the input and the registers take
 abbrev pub most_line_nodes : ℕ
 most_line_nodes = 200
 

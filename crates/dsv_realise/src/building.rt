@@ -1,10 +1,12 @@
 // Nodes made one after another.
-ghost use Rattle.std.specs.Prelude.{◌≡◌, ◌<◌, ◌≤◌, ◌+◌, ◌*◌, ◌^◌, ◌++◌, length, IfOk, false};
+ghost use Rattle.std.specs.Prelude.{◌≡◌, ◌<◌, ◌≤◌, ◌+◌, ◌*◌, ◌^◌};
+ghost use Rattle.std.specs.Prelude.{◌++◌, length, IfOk, false};
 ghost use Rattle.dsv_quantiser.specs.declared.words.TheConstants.{MOST_COEFFICIENTS};
 ghost use Rattle.dsv_meaning.specs.declared.counts.TheConstants.{MOST_ORDER};
 ghost use Rattle.dsv_meaning.specs.Lines.{Times, summands};
 ghost use Rattle.dsv_meaning.specs.Equations.{transposed_line};
-ghost use Rattle.dsv_realise.specs.Making.{made_at, put, with_product, with_sum, with_next, with_summands, with_line};
+ghost use Rattle.dsv_realise.specs.Making.{made_at, put, with_product, with_sum};
+ghost use Rattle.dsv_realise.specs.Making.{with_next, with_summands, with_line};
 ghost use Rattle.dsv_realise.specs.Netlists.{sources, shift, newest_at};
 ghost use Rattle.dsv_realise.specs.Parts.{successor_of, most_source_nodes};
 
@@ -26,7 +28,8 @@ fn put(nodes: &mut Vec<Node>, node: Node) -> Result<u32, NoMemory>
 /// The nodes of a product.
 pub(crate) fn product(nodes: &mut Vec<Node>, coeff: &i64, of: u32) -> Result<u32, NoMemory>
     requires { length nodes.old.items < 2 ^ 19 }
-    ensures made { IfOk result (λ place. made_at nodes.new.items place ≡ with_product nodes.old.items coeff.now of) }
+    ensures made { IfOk result (λ place. made_at nodes.new.items place
+        ≡ with_product nodes.old.items coeff.now of) }
     ensures few { IfOk result (λ place. length nodes.new.items ≡ length nodes.old.items + 3) }
 {
     let multiplied = put(nodes, Node::MulConst { coeff: *coeff, of })?;
@@ -37,7 +40,8 @@ pub(crate) fn product(nodes: &mut Vec<Node>, coeff: &i64, of: u32) -> Result<u32
 /// The nodes of a sum, or of a difference.
 pub(crate) fn sum(nodes: &mut Vec<Node>, away: bool, left: u32, right: u32) -> Result<u32, NoMemory>
     requires { length nodes.old.items < 2 ^ 19 }
-    ensures made { IfOk result (λ place. made_at nodes.new.items place ≡ with_sum away nodes.old.items left right) }
+    ensures made { IfOk result (λ place. made_at nodes.new.items place
+        ≡ with_sum away nodes.old.items left right) }
     ensures few { IfOk result (λ place. length nodes.new.items ≡ length nodes.old.items + 2) }
 {
     let summed = if away {
@@ -89,8 +93,8 @@ pub(crate) fn next_products(
     Ok(place)
 }
 
-/// The line of the numerator: its first word is that of the node `newest`, and the others are those of the nodes from
-/// 1 on.
+/// The line of the numerator: its first word is that of the node `newest`, and the others are those
+/// of the nodes from 1 on.
 pub(crate) fn forward_line(nodes: &mut Vec<Node>, b: &[i64], newest: u32) -> Result<u32, NoMemory>
     requires few { length nodes.old.items < 2 ^ 15 }
     requires some { 1 ≤ length b.now }
@@ -103,7 +107,8 @@ pub(crate) fn forward_line(nodes: &mut Vec<Node>, b: &[i64], newest: u32) -> Res
     next_products(nodes, first, false, &b[1..], 1)
 }
 
-/// The line of one new word of a transposed form, where `successor` is the node of the old word after it, if there is one.
+/// The line of one new word of a transposed form, where `successor` is the node of the old word
+/// after it, if there is one.
 pub(crate) fn transposed_line(
     nodes: &mut Vec<Node>,
     b: &i64,

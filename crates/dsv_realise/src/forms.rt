@@ -1,7 +1,8 @@
 // The lines that two realisations share.
 ghost use Rattle.std.specs.Prelude.{◌≡◌, ◌≤◌, length, IfOk};
 ghost use Rattle.dsv_realise.specs.Making.{made_at};
-ghost use Rattle.dsv_realise.specs.Netlists.{first_form, second_form_state, second_form, transposed_form};
+ghost use Rattle.dsv_realise.specs.Netlists.{first_form, second_form_state};
+ghost use Rattle.dsv_realise.specs.Netlists.{second_form, transposed_form};
 ghost use Rattle.dsv_realise.specs.Parts.{line_made, most_line_nodes, most_second_line_nodes};
 
 use crate::building::{forward_line, next_products, product, sources, sum};

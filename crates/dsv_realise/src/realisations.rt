@@ -1,10 +1,13 @@
 // The netlist of each realisation, in its parts.
-ghost use Rattle.std.specs.Prelude.{◌≡◌, ◌≤◌, ◌+◌, length, IfOk};
-ghost use Rattle.dsv_names.specs.declared.realisation.Realisation.TheVariants.{Dfi, Dfii, Tdfii, Ddfi, Ddfii, Tddfii};
-ghost use Rattle.dsv_realise.specs.Netlists.{net_as, count, transposed_form, transposed_nodes, transposed_delta_nodes};
-ghost use Rattle.dsv_meaning.specs.Equations.{order};
+ghost use Rattle.std.specs.Prelude.{◌≡◌, ◌<◌, ◌≤◌, ◌+◌, ◌-◌, length, IfOk};
+ghost use Rattle.dsv_names.specs.declared.realisation.Realisation.TheVariants.{Dfi, Dfii, Tdfii};
+ghost use Rattle.dsv_names.specs.declared.realisation.Realisation.TheVariants.{Ddfi, Ddfii, Tddfii};
+ghost use Rattle.dsv_realise.specs.Netlists.{net_as, count, transposed_form};
+ghost use Rattle.dsv_realise.specs.Netlists.{transposed_nodes, transposed_delta_nodes};
+ghost use Rattle.dsv_meaning.specs.Equations.{order, first_alone};
 ghost use Rattle.dsv_realise.specs.Making.{made_at, chained_at, with_delta};
-ghost use Rattle.dsv_realise.specs.Parts.{parts_as, most_line_nodes, most_state_nodes, most_source_nodes};
+ghost use Rattle.dsv_realise.specs.Parts.{parts_as, successor_of, most_line_nodes};
+ghost use Rattle.dsv_realise.specs.Parts.{most_state_nodes, most_source_nodes};
 
 use crate::building::{next_product, shift, transposed_line};
 use crate::forms::{first_form, second_form, second_form_state, transposed_form};
@@ -46,6 +49,21 @@ pub(crate) fn direct_form_two(alloc: Global, q: &Quantised) -> Result<Parts, NoM
     })
 }
 
+/// The state that state `i` of a transposed form is made of too: the one after it, where the form
+/// has one more before place `end`.
+#[tactic(auto, using(crate::proofs::Piecewise::after_some, crate::proofs::Piecewise::after_none))]
+fn successor_at(i: usize, end: usize) -> Option<u32>
+    requires inside { i < end }
+    requires few { end ≤ most_source_nodes }
+    ensures { first_alone (successor_of result) ≡ first_alone (count (i + 1) (end - (i + 1))) }
+{
+    if i + 1 < end {
+        Some(i as u32 + 1)
+    } else {
+        None
+    }
+}
+
 /// The new words of the transposed direct form, after its output.
 fn transposed_states(
     alloc: Global,
@@ -61,11 +79,7 @@ fn transposed_states(
     let a = q.a();
     let mut next = Vec::new(alloc);
     for i in 1..a.len() {
-        let successor = if i + 1 < a.len() {
-            Some(i as u32 + 1)
-        } else {
-            None
-        };
+        let successor = successor_at(i, a.len());
         let place = transposed_line(nodes, &b[i], &a[i], output, successor)?;
         next.push(place)?;
     }
@@ -86,8 +100,9 @@ pub(crate) fn transposed_form_two(alloc: Global, q: &Quantised) -> Result<Parts,
     })
 }
 
-/// New words of a chain of a delta form, each with delta times the old word before it: `before` is the node of the word
-/// before the first one, and the old words are those of the nodes from `first` on.
+/// New words of a chain of a delta form, each with delta times the old word before it: `before` is
+/// the node of the word before the first one, and the old words are those of the nodes from `first`
+/// on.
 fn delta_states(
     nodes: &mut Vec<Node>,
     next: &mut Vec<u32>,
@@ -98,7 +113,8 @@ fn delta_states(
     requires few { length nodes.old.items ≤ most_state_nodes }
     requires low { first ≤ most_source_nodes }
     ensures made { IfOk result (λ u. chained_at nodes.new.items next.new.items ≡
-        with_delta q.now before (count first (order q.now)) (chained_at nodes.old.items next.old.items)) }
+        with_delta q.now before (count first (order q.now))
+        (chained_at nodes.old.items next.old.items)) }
     ensures few { IfOk result (λ u. length nodes.new.items ≤ length nodes.old.items + 40) }
 {
     let delta = q.delta();
@@ -153,18 +169,15 @@ fn transposed_delta_states(
 ) -> Result<Vec<u32>, NoMemory>
     requires begun { made_at nodes.old.items output ≡ transposed_form q.now }
     requires few { length nodes.old.items ≤ most_line_nodes }
-    ensures { IfOk result (λ next. chained_at nodes.new.items next.items ≡ transposed_delta_nodes q.now) }
+    ensures { IfOk result (λ next. chained_at nodes.new.items next.items
+        ≡ transposed_delta_nodes q.now) }
 {
     let b = q.b();
     let a = q.a();
     let delta = q.delta();
     let mut next = Vec::new(alloc);
     for i in 1..a.len() {
-        let successor = if i + 1 < a.len() {
-            Some(i as u32 + 1)
-        } else {
-            None
-        };
+        let successor = successor_at(i, a.len());
         let line = transposed_line(nodes, &b[i], &a[i], output, successor)?;
         let place = next_product(nodes, i as u32, false, &delta, line)?;
         next.push(place)?;
@@ -172,7 +185,8 @@ fn transposed_delta_states(
     Ok(next)
 }
 
-/// Transposed delta direct form II: each state with delta times a line that is made of the one after it.
+/// Transposed delta direct form II: each state with delta times a line that is made of the one
+/// after it.
 pub(crate) fn transposed_delta_form_two(alloc: Global, q: &Quantised) -> Result<Parts, NoMemory>
     ensures { IfOk result (λ parts. parts_as Tddfii q.now parts ≡ net_as Tddfii q.now) }
 {

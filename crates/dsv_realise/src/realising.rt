@@ -35,14 +35,17 @@ fn parts(alloc: Global, q: &Quantised) -> Result<Parts, NoMemory>
     }
 }
 
-/// The netlist of a controller in words: node 0 is the input, node k + 1 register k, and then come the operations of
-/// its lines, in their order. From every start its steps give the outputs, the exact values and the registers of the
-/// written equations.
+/// The netlist of a controller in words: node 0 is the input, node k + 1 register k, and then come
+/// the operations of its lines, in their order. From every start its steps give the outputs, the
+/// exact values and the registers of the written equations.
 pub fn realise(alloc: Global, q: &Quantised) -> Result<Netlist, NoMemory>
     ensures net { IfOk result (λ net. net ≡ net_of q.now) }
-    ensures runs { IfOk result (λ net. RunAlike (List ℤ) Past (system_of net) (equations_of q.now)) }
-    ensures counts { IfOk result (λ net. counts_of net ≡ counts_as q.now.realisation (order q.now)) }
-    ensures forward { IfOk result (λ net. net.feed_forward ≡ forward_registers_of q.now.realisation (order q.now)) }
+    ensures runs { IfOk result
+        (λ net. RunAlike (List ℤ) Past (system_of net) (equations_of q.now)) }
+    ensures counts { IfOk result (λ net. counts_of net
+        ≡ counts_as q.now.realisation (order q.now)) }
+    ensures forward { IfOk result (λ net. net.feed_forward
+        ≡ forward_registers_of q.now.realisation (order q.now)) }
 {
     let parts = parts(alloc, q)?;
     let feed_forward = forward_registers(q.realisation(), q.order() as u32);

@@ -10,6 +10,6 @@ fragment_text (fragment.Bytes bytes) = bytes.now
 fragment_text (fragment.Number n) = signed_decimal n
 
 -- texts one after another
-abbrev pub joined : List (List ℕ) → List ℕ
-joined [] = []
-joined (t ∷ ts) = t ++ joined ts
+abbrev pub concatenation : List (List ℕ) → List ℕ
+concatenation [] = []
+concatenation (t ∷ ts) = t ++ concatenation ts

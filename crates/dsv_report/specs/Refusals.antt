@@ -6,7 +6,7 @@ use Rattle.dsv_token.specs.declared.refusal.FileRefusal.TheVariants as refusal
 use Rattle.dsv_names.specs.Fields.{field_name}
 use Rattle.dsv_names.specs.ListNames.{list_name}
 use Rattle.dsv_names.specs.Wants.{wanted_name}
-use Rattle.dsv_report.specs.Fragments.{joined}
+use Rattle.dsv_report.specs.Fragments.{concatenation}
 use Rattle.dsv_quantiser.specs.declared.refusal.QuantRefusal.{QuantRefusal}
 use Rattle.dsv_quantiser.specs.declared.refusal.QuantRefusal.TheVariants as quant
 
@@ -51,7 +51,9 @@ detail_name (refusal.FieldMissing at f) = field_name f
 detail_name r = []
 
 abbrev pub file_text : FileRefusal → List ℕ
-file_text r = joined (code_of r ∷ signed_decimal (pos (place_of r)) ∷ detail_head r ∷ detail_name r ∷ codes "\n" ∷ [])
+file_text r = concatenation
+    (code_of r ∷ signed_decimal (pos (place_of r)) ∷ detail_head r ∷ detail_name r ∷ codes "\n"
+    ∷ [])
 
 -- the code and the name of a refusal
 unfoldable pub quant_code : QuantRefusal → List ℕ
@@ -62,10 +64,14 @@ quant_code (quant.FractionWide name i) = codes "FILE REFUSED 24 FRACTION_WIDE "
 
 abbrev pub quant_text_after : List ℕ → QuantRefusal → List ℕ
 quant_text_after code (quant.CoefficientRange name i w) =
-    joined (code ∷ list_name name ∷ codes " " ∷ signed_decimal (pos i) ∷ codes " wanted " ∷ signed_decimal w ∷ codes "\n" ∷ [])
-quant_text_after code (quant.DeltaNotPositive w) = joined (code ∷ signed_decimal w ∷ codes "\n" ∷ [])
-quant_text_after code (quant.RangeEmpty lo hi) = joined (code ∷ signed_decimal lo ∷ codes " " ∷ signed_decimal hi ∷ codes "\n" ∷ [])
-quant_text_after code (quant.FractionWide name i) = joined (code ∷ list_name name ∷ codes " " ∷ signed_decimal (pos i) ∷ codes "\n" ∷ [])
+    concatenation (code ∷ list_name name ∷ codes " " ∷ signed_decimal (pos i) ∷ codes " wanted "
+    ∷ signed_decimal w ∷ codes "\n" ∷ [])
+quant_text_after code (quant.DeltaNotPositive w) =
+    concatenation (code ∷ signed_decimal w ∷ codes "\n" ∷ [])
+quant_text_after code (quant.RangeEmpty lo hi) =
+    concatenation (code ∷ signed_decimal lo ∷ codes " " ∷ signed_decimal hi ∷ codes "\n" ∷ [])
+quant_text_after code (quant.FractionWide name i) =
+    concatenation (code ∷ list_name name ∷ codes " " ∷ signed_decimal (pos i) ∷ codes "\n" ∷ [])
 
 abbrev pub quant_text : QuantRefusal → List ℕ
 quant_text r = quant_text_after (quant_code r) r
@@ -75,4 +81,5 @@ unfoldable pub input_code : List ℕ
 input_code = codes "FILE REFUSED 25 INPUT_RANGE "
 
 abbrev pub input_text : ℕ → ℤ → List ℕ
-input_text index value = joined (input_code ∷ signed_decimal (pos index) ∷ codes " " ∷ signed_decimal value ∷ codes "\n" ∷ [])
+input_text index value = concatenation
+    (input_code ∷ signed_decimal (pos index) ∷ codes " " ∷ signed_decimal value ∷ codes "\n" ∷ [])

@@ -1,15 +1,16 @@
 -- The text of an answer to a job, and its status.
-use Rattle.std.specs.Prelude.{ℕ, ◌+◌, pos, List, [], ◌∷◌, ◌++◌, take, codes, Option, Some, None, ℤ}
+use Rattle.std.specs.Prelude.{ℕ, ◌+◌, pos, List, [], ◌∷◌, ◌++◌}
+use Rattle.std.specs.Prelude.{take, codes, Option, Some, None, ℤ}
 use Rattle.std.specs.List.{flat_map}
 use Rattle.std.specs.Fmt.{signed_decimal}
 use Rattle.dsv_names.specs.Properties.{property_name}
 use Rattle.dsv_names.specs.Realisations.{realisation_name}
 use Rattle.dsv_names.specs.declared.realisation.Realisation.{Realisation}
-use Rattle.dsv_base.specs.Text.{spaced, line_of}
+use Rattle.dsv_base.specs.Text.{spaced_text, line_of}
 use Rattle.dsv_forms.specs.declared.offers.Form.{Form}
 use Rattle.dsv_system.specs.Runs.{SampleRow}
 use Rattle.dsv_command.specs.Jobs.{Task, decides, simulates, Asked}
-use Rattle.dsv_report.specs.Fragments.{joined}
+use Rattle.dsv_report.specs.Fragments.{concatenation}
 use Rattle.dsv_report.specs.Refusals.{file_text, quant_text, input_text}
 use Rattle.dsv_report.specs.declared.answers.Answer.{Answer}
 use Rattle.dsv_report.specs.declared.answers.Answer.TheVariants as answer
@@ -31,12 +32,14 @@ task_text (decides property) = codes "property " ++ property_name property ++ co
 task_text (simulates inputs) = []
 
 abbrev pub realisation_text : Realisation → List ℕ
-realisation_text realisation = joined (codes "realization " ∷ realisation_name realisation ∷ codes "\n" ∷ [])
+realisation_text realisation =
+    concatenation (codes "realization " ∷ realisation_name realisation ∷ codes "\n" ∷ [])
 
 -- the verdict and what the job asked for; without a job there is none
 abbrev pub heading : List ℕ → Option Asked → List ℕ
 heading verdict None = []
-heading verdict (Some job) = verdict ++ (task_text job.task ++ realisation_text job.design.realisation)
+heading verdict (Some job) =
+    verdict ++ (task_text job.task ++ realisation_text job.design.realisation)
 
 -- ---- verdicts by a form
 -- a word and numbers after it, up to the end of the line
@@ -55,17 +58,19 @@ form_text poly form fall =
     ++ rows_text (codes "fall") fall
 
 abbrev pub value_text : ℤ → List ℕ
-value_text value = joined (codes " value " ∷ signed_decimal value ∷ codes "\n" ∷ [])
+value_text value = concatenation (codes " value " ∷ signed_decimal value ∷ codes "\n" ∷ [])
 
 -- where a form is negative, and its value there
 abbrev pub start_text : List ℤ → ℤ → List ℕ
-start_text start value = codes "start" ++ flat_map (spaced signed_decimal) start ++ value_text value
+start_text start value = codes "start" ++ flat_map (spaced_text signed_decimal) start
+    ++ value_text value
 
 -- ---- simulations
 -- the number, the input and the output of a sample
 abbrev pub sample_head : ℕ → ℤ → ℤ → List ℕ
 sample_head number x y =
-    joined (codes "sample " ∷ signed_decimal (pos number) ∷ codes " input " ∷ signed_decimal x ∷ codes " output " ∷ signed_decimal y ∷ [])
+    concatenation (codes "sample " ∷ signed_decimal (pos number) ∷ codes " input "
+    ∷ signed_decimal x ∷ codes " output " ∷ signed_decimal y ∷ [])
 
 -- and after them its exact values, up to the end of the line
 abbrev pub sample_text : ℕ → SampleRow → List ℕ
@@ -79,9 +84,11 @@ samples_text number (row ∷ rows) = sample_text number row ++ samples_text (num
 -- ---- answers
 -- the text of an answer to a job, or where the arguments ask for none
 abbrev pub text_of : Option Asked → Answer → List ℕ
-text_of job (answer.Falls poly offer fall) = heading successful job ++ form_text poly offer.form fall
+text_of job (answer.Falls poly offer fall) =
+    heading successful job ++ form_text poly offer.form fall
 text_of job (answer.KeptAway poly offer fall value) =
-    heading failed job ++ form_text poly offer.form fall ++ start_text (take offer.form.d offer.start) value
+    heading failed job ++ form_text poly offer.form fall
+    ++ start_text (take offer.form.d offer.start) value
 text_of job (answer.Simulated rows) = heading simulation job ++ samples_text 0 rows
 text_of job answer.Usage = codes "USAGE\n"
 text_of job (answer.FileRefused r) = file_text r

@@ -13,14 +13,15 @@ pub enum WhichFile {
 /// What the command found.
 #[derive(Drop)]
 pub enum Answer {
-    /// The form of the offer strictly falls along each trajectory of the polynomial, by the form `fall` in a step.
+    /// The form of the offer strictly falls along each trajectory of the polynomial, by the form
+    /// `fall` in a step.
     Falls {
         poly: Poly,
         offer: Falls,
         fall: Form,
     },
-    /// The form of the offer has the negative `value` at its start, and rises back along no trajectory of the
-    /// polynomial; in a step it loses the form `fall`.
+    /// The form of the offer has the negative `value` at its start, and rises back along no
+    /// trajectory of the polynomial; in a step it loses the form `fall`.
     KeptAway {
         poly: Poly,
         offer: KeptAway,
@@ -35,14 +36,16 @@ pub enum Answer {
     FileRefused(FileRefusal),
     /// The controller file has over 65,536 bytes.
     FileTooLong,
-    /// The first number of the controller that is no word, or the range of its inputs, where it is empty.
+    /// The first number of the controller that is no word, or the range of its inputs, where it is
+    /// empty.
     QuantRefused(QuantRefusal),
     /// The first input of the job that is no word of the format, and its number from 0 on.
     InputRange {
         index: u32,
         value: i128,
     },
-    /// The controller isn't decided yet: its order is 2 or more, or the realisation is a delta form.
+    /// The controller isn't decided yet: its order is 2 or more, or the realisation is a delta
+    /// form.
     NotYet,
     /// The file couldn't be read.
     ReadFault(WhichFile),

@@ -25,7 +25,8 @@ fn put_fragment<K: Sink>(sink: &mut K, fragment: &Fragment) -> Result<(), Failed
 
 /// Writes fragments one after another.
 pub fn put_fragments<K: Sink>(sink: &mut K, fragments: &[Fragment]) -> Result<(), Failed>
-    ensures { Writes (K.seen sink.old) (K.seen sink.new) result (flat_map fragment_text fragments.now) }
+    ensures { Writes (K.seen sink.old) (K.seen sink.new) result
+        (flat_map fragment_text fragments.now) }
 {
     for fragment in fragments {
         put_fragment(sink, fragment)?;

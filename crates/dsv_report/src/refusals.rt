@@ -1,7 +1,9 @@
 // Writes why a controller file is refused, with no memory.
 ghost use Rattle.std.specs.Prelude.{◌≡◌};
 ghost use Rattle.dsv_base.specs.Taking.{Writes};
-ghost use Rattle.dsv_report.specs.Refusals.{code_of, place_of, detail_head, detail_name, file_text, quant_code, quant_text, quant_text_after, input_code, input_text};
+ghost use Rattle.dsv_report.specs.Refusals.{code_of, place_of, detail_head, detail_name};
+ghost use Rattle.dsv_report.specs.Refusals.{file_text, quant_code, quant_text};
+ghost use Rattle.dsv_report.specs.Refusals.{quant_text_after, input_code, input_text};
 
 use crate::fragments::{Fragment, put_fragments};
 use dsv_base::{Failed, Sink};
@@ -113,7 +115,8 @@ fn put_quant_refusal_after<K: Sink>(
     code: &[u8],
     refusal: QuantRefusal,
 ) -> Result<(), Failed>
-    ensures { Writes (K.seen sink.old) (K.seen sink.new) result (quant_text_after code.now refusal) }
+    ensures { Writes (K.seen sink.old) (K.seen sink.new) result
+        (quant_text_after code.now refusal) }
 {
     let code = Fragment::Bytes(code);
     let space = Fragment::Bytes(b" ");

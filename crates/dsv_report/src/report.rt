@@ -5,7 +5,7 @@ ghost use Rattle.std.specs.Prelude.{◌≡◌, ◌≤◌, ◌++◌, take, map, S
 ghost use Rattle.std.specs.Fmt.{signed_decimal};
 ghost use Rattle.std.specs.List.{flat_map};
 ghost use Rattle.dsv_base.specs.Taking.{Writes};
-ghost use Rattle.dsv_base.specs.Text.{spaced};
+ghost use Rattle.dsv_base.specs.Text.{spaced_text};
 ghost use Rattle.dsv_system.specs.RowViews.{row_of};
 ghost use Rattle.dsv_command.specs.Asking.{asked_of, asked_task};
 ghost use Rattle.dsv_report.specs.Printing.{HasPlaces, asked_in};
@@ -29,7 +29,8 @@ const SIMULATION: &[u8] = b"SIMULATION\n";
 
 /// Writes what is asked of the controller.
 fn put_task<K: Sink>(sink: &mut K, task: &Task) -> Result<(), Failed>
-    ensures { Writes (K.seen sink.old) (K.seen sink.new) result (report.task_text (asked_task task.now)) }
+    ensures { Writes (K.seen sink.old) (K.seen sink.new) result
+        (report.task_text (asked_task task.now)) }
 {
     match task {
         Task::Decide(property) => put_fragments(
@@ -46,7 +47,8 @@ fn put_task<K: Sink>(sink: &mut K, task: &Task) -> Result<(), Failed>
 
 /// Writes the realisation, up to the end of the line.
 fn put_realisation<K: Sink>(sink: &mut K, realisation: Realisation) -> Result<(), Failed>
-    ensures { Writes (K.seen sink.old) (K.seen sink.new) result (report.realisation_text realisation) }
+    ensures { Writes (K.seen sink.old) (K.seen sink.new) result
+        (report.realisation_text realisation) }
 {
     put_fragments(
         sink,
@@ -60,7 +62,8 @@ fn put_realisation<K: Sink>(sink: &mut K, realisation: Realisation) -> Result<()
 
 /// Writes the verdict and what the job asked for.
 fn put_job_heading<K: Sink>(sink: &mut K, verdict: &[u8], job: &Job) -> Result<(), Failed>
-    ensures { Writes (K.seen sink.old) (K.seen sink.new) result (report.heading verdict.now (Some (asked_of job.now))) }
+    ensures { Writes (K.seen sink.old) (K.seen sink.new) result
+        (report.heading verdict.now (Some (asked_of job.now))) }
 {
     put_all(sink, verdict)?;
     put_task(sink, &job.task)?;
@@ -69,7 +72,8 @@ fn put_job_heading<K: Sink>(sink: &mut K, verdict: &[u8], job: &Job) -> Result<(
 
 /// Writes the heading of a verdict on a job; nothing without a job.
 fn put_heading<K: Sink>(sink: &mut K, verdict: &[u8], job: Option<&Job>) -> Result<(), Failed>
-    ensures { Writes (K.seen sink.old) (K.seen sink.new) result (report.heading verdict.now (asked_in job.entry)) }
+    ensures { Writes (K.seen sink.old) (K.seen sink.new) result
+        (report.heading verdict.now (asked_in job.entry)) }
 {
     match job {
         Some(job) => put_job_heading(sink, verdict, job),
@@ -80,7 +84,8 @@ fn put_heading<K: Sink>(sink: &mut K, verdict: &[u8], job: Option<&Job>) -> Resu
 /// Writes a line for each row of a form.
 fn put_rows<K: Sink>(sink: &mut K, word: &[u8], form: &Form) -> Result<(), Failed>
     requires { form.now.d ≤ 8 }
-    ensures { Writes (K.seen sink.old) (K.seen sink.new) result (report.rows_text word.now form.now) }
+    ensures { Writes (K.seen sink.old) (K.seen sink.new) result
+        (report.rows_text word.now form.now) }
 {
     let d = form.d as usize;
     for row in &form.rows[..d] {
@@ -93,16 +98,18 @@ fn put_rows<K: Sink>(sink: &mut K, word: &[u8], form: &Form) -> Result<(), Faile
 fn put_form<K: Sink>(sink: &mut K, poly: &Poly, form: &Form, fall: &Form) -> Result<(), Failed>
     requires form { form.now.d ≤ 8 }
     requires fall { fall.now.d ≤ 8 }
-    ensures { Writes (K.seen sink.old) (K.seen sink.new) result (report.form_text poly.now form.now fall.now) }
+    ensures { Writes (K.seen sink.old) (K.seen sink.new) result
+        (report.form_text poly.now form.now fall.now) }
 {
     put_line(sink, b"polynomial", poly.coefficients())?;
     put_rows(sink, b"form", form)?;
     put_rows(sink, b"fall", fall)
 }
 
-/// Writes numbers, each behind a space.
+/// Writes numbers, each after a space.
 fn put_numbers<K: Sink, I: Integer>(sink: &mut K, numbers: &[I]) -> Result<(), Failed>
-    ensures { Writes (K.seen sink.old) (K.seen sink.new) result (flat_map (spaced I.text) numbers.now) }
+    ensures { Writes (K.seen sink.old) (K.seen sink.new) result
+        (flat_map (spaced_text I.text) numbers.now) }
 {
     for number in numbers {
         put_spaced(sink, *number)?;
@@ -112,7 +119,8 @@ fn put_numbers<K: Sink, I: Integer>(sink: &mut K, numbers: &[I]) -> Result<(), F
 
 /// Writes where a form is negative, and its value there.
 fn put_start<K: Sink>(sink: &mut K, start: &[i64], value: &i128) -> Result<(), Failed>
-    ensures { Writes (K.seen sink.old) (K.seen sink.new) result (report.start_text start.now value.now) }
+    ensures { Writes (K.seen sink.old) (K.seen sink.new) result
+        (report.start_text start.now value.now) }
 {
     put_all(sink, b"start")?;
     put_numbers(sink, start)?;
@@ -143,7 +151,9 @@ fn put_falls<K: Sink>(
 ) -> Result<(), Failed>
     requires form { form.now.d ≤ 8 }
     requires fall { fall.now.d ≤ 8 }
-    ensures { Writes (K.seen sink.old) (K.seen sink.new) result (report.heading report.successful (asked_in job.entry) ++ report.form_text poly.now form.now fall.now) }
+    ensures { Writes (K.seen sink.old) (K.seen sink.new) result
+        (report.heading report.successful (asked_in job.entry)
+        ++ report.form_text poly.now form.now fall.now) }
 {
     put_heading(sink, SUCCESSFUL, job)?;
     put_form(sink, poly, form, fall)
@@ -162,7 +172,9 @@ fn put_kept_away<K: Sink>(
     requires form { offer.now.form.d ≤ 8 }
     requires fall { fall.now.d ≤ 8 }
     ensures { Writes (K.seen sink.old) (K.seen sink.new) result
-        (report.heading report.failed (asked_in job.entry) ++ report.form_text poly.now offer.now.form fall.now ++ report.start_text (take offer.now.form.d offer.now.start) value.now) }
+        (report.heading report.failed (asked_in job.entry)
+        ++ report.form_text poly.now offer.now.form fall.now
+        ++ report.start_text (take offer.now.form.d offer.now.start) value.now) }
 {
     put_heading(sink, FAILED, job)?;
     put_form(sink, poly, &offer.form, fall)?;
@@ -171,7 +183,8 @@ fn put_kept_away<K: Sink>(
 
 /// Writes a sample's number, its input and its output.
 fn put_sample_head<K: Sink>(sink: &mut K, number: u64, x: &i64, y: &i64) -> Result<(), Failed>
-    ensures { Writes (K.seen sink.old) (K.seen sink.new) result (report.sample_head number x.now y.now) }
+    ensures { Writes (K.seen sink.old) (K.seen sink.new) result
+        (report.sample_head number x.now y.now) }
 {
     put_fragments(
         sink,
@@ -188,7 +201,8 @@ fn put_sample_head<K: Sink>(sink: &mut K, number: u64, x: &i64, y: &i64) -> Resu
 
 /// Writes a line for a sample.
 fn put_sample<K: Sink>(sink: &mut K, number: u64, row: &Row) -> Result<(), Failed>
-    ensures { Writes (K.seen sink.old) (K.seen sink.new) result (report.sample_text number (row_of row.now)) }
+    ensures { Writes (K.seen sink.old) (K.seen sink.new) result
+        (report.sample_text number (row_of row.now)) }
 {
     put_sample_head(sink, number, &row.x, &row.y)?;
     put_line(sink, b" exact", row.exact.as_slice())
@@ -196,7 +210,8 @@ fn put_sample<K: Sink>(sink: &mut K, number: u64, row: &Row) -> Result<(), Faile
 
 /// Writes a line for each sample.
 fn put_samples<K: Sink>(sink: &mut K, rows: &[Row]) -> Result<(), Failed>
-    ensures { Writes (K.seen sink.old) (K.seen sink.new) result (report.samples_text 0 (map row_of rows.now)) }
+    ensures { Writes (K.seen sink.old) (K.seen sink.new) result
+        (report.samples_text 0 (map row_of rows.now)) }
 {
     for (number, row) in rows.iter().enumerate() {
         put_sample(sink, number as u64, row)?;
@@ -207,7 +222,8 @@ fn put_samples<K: Sink>(sink: &mut K, rows: &[Row]) -> Result<(), Failed>
 /// Writes the text of a simulation.
 #[tactic(auto, unfolding(crate::specs::Report::simulation))]
 fn put_simulation<K: Sink>(sink: &mut K, job: Option<&Job>, rows: &Rows) -> Result<(), Failed>
-    ensures { Writes (K.seen sink.old) (K.seen sink.new) result (report.heading report.simulation (asked_in job.entry) ++ report.samples_text 0 rows.now) }
+    ensures { Writes (K.seen sink.old) (K.seen sink.new) result
+        (report.heading report.simulation (asked_in job.entry) ++ report.samples_text 0 rows.now) }
 {
     put_heading(sink, SIMULATION, job)?;
     put_samples(sink, rows.as_slice())
@@ -234,7 +250,8 @@ pub fn status_of(answer: &Answer) -> u8
 /// Writes the text of an answer to a job, or to arguments that ask for none. It takes no memory.
 pub fn put_answer<K: Sink>(sink: &mut K, job: Option<&Job>, answer: &Answer) -> Result<(), Failed>
     requires { HasPlaces answer.now }
-    ensures { Writes (K.seen sink.old) (K.seen sink.new) result (report.text_of (asked_in job.entry) answer.now) }
+    ensures { Writes (K.seen sink.old) (K.seen sink.new) result
+        (report.text_of (asked_in job.entry) answer.now) }
 {
     match answer {
         Answer::Falls { poly, offer, fall } => put_falls(sink, job, poly, &offer.form, fall),

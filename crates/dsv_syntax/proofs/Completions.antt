@@ -16,7 +16,7 @@ use Rattle.dsv_syntax.specs.declared.parser.Place.TheVariants as place
 use Rattle.dsv_syntax.specs.declared.parser.Closed.{Closed}
 use Rattle.dsv_syntax.specs.declared.parser.Parser.{Parser}
 use Rattle.dsv_syntax.specs.declared.parsing.Syntax.{Syntax}
-use Rattle.dsv_syntax.specs.Parsing.{is_closed, with_close, declared, value_place, field_done, blank, begun, step_at, parsed_from}
+use Rattle.dsv_syntax.specs.Parsing.{is_closed, with_close, declaration_start, value_place, field_done, blank_entry, entry_with, step_at, parsed_from}
 use Rattle.dsv_syntax.proofs.States.{within, goes}
 use Rattle.dsv_syntax.proofs.ReadLemmas.{group_left}
 use Rattle.dsv_syntax.proofs.Steps.{CanGoOn}
@@ -44,7 +44,7 @@ by_block : (d b : Block) (c : Closed) (es : List Entry) (e : Entry) (k : ℕ) �
     IsCompleted (within place.Declaration d (with_close d 0 c) es e k) → IsCompleted (within place.Declaration b c es e k)
 by_block d b c es e k free h =
     let first = within place.Declaration b c es e k in
-    by_token (kind.Name (word.Block d)) first (within place.BlockName d c es e k) (ap (λ x. declared x d (mark (kind.Name (word.Block d))) first) free) (
+    by_token (kind.Name (word.Block d)) first (within place.BlockName d c es e k) (ap (λ x. declaration_start x d (mark (kind.Name (word.Block d))) first) free) (
     by_token (kind.Name word.Other) (within place.BlockName d c es e k) (within place.BlockEquals d c es e k) refl (
     by_token kind.Equals (within place.BlockEquals d c es e k) (within place.BlockOpen d c es e k) refl (
     by_token kind.Open (within place.BlockOpen d c es e k) (within place.FieldDot d c es e k) refl (
@@ -95,7 +95,7 @@ any_field_comma b c es e k =
 
 -- after the value of the open field
 after_value : (p : Parser) → IsCompleted (field_done p)
-after_value p = any_field_comma p.block p.closed (p.entries ++ p.entry ∷ []) blank 0
+after_value p = any_field_comma p.block p.closed (p.entries ++ p.entry ∷ []) blank_entry 0
 
 any_list_comma : AreCompleted place.ListComma
 any_list_comma b c es e k =
@@ -107,18 +107,18 @@ any_list_number b c es e k =
 
 any_list_open : AreCompleted place.ListOpen
 any_list_open b c es e k =
-    by_token kind.Open (within place.ListOpen b c es e k) (within place.ListNumber b c es (begun 0 [] e) k) refl (any_list_number b c es (begun 0 [] e) k)
+    by_token kind.Open (within place.ListOpen b c es e k) (within place.ListNumber b c es (entry_with 0 [] e) k) refl (any_list_number b c es (entry_with 0 [] e) k)
 
 any_number : AreCompleted place.Number
 any_number b c es e k =
     let t = mark kind.Number in
-    let q = within place.Number b c es (begun 0 (t ∷ []) e) k in
+    let q = within place.Number b c es (entry_with 0 (t ∷ []) e) k in
     by_token kind.Number (within place.Number b c es e k) (field_done q) refl (after_value q)
 
 any_value : AreCompleted place.Value
 any_value b c es e k =
     let t = mark kind.Number in
-    let q = within place.Value b c es (begun 0 (t ∷ []) e) k in
+    let q = within place.Value b c es (entry_with 0 (t ∷ []) e) k in
     by_token kind.Number (within place.Value b c es e k) (field_done q) refl (after_value q)
 
 -- each open brace is closed

@@ -15,7 +15,7 @@ use Rattle.dsv_syntax.specs.declared.parser.Place.TheVariants as place
 use Rattle.dsv_syntax.specs.declared.parser.Closed.{Closed}
 use Rattle.dsv_syntax.specs.declared.parser.Parser.{Parser}
 use Rattle.dsv_syntax.specs.declared.parsing.Syntax.{Syntax}
-use Rattle.dsv_syntax.specs.Parsing.{is_list, is_alone, is_mark, is_closed, with_close, value_place, declared, labelled, group, group_closed, parsed_from, parsed, whole_of}
+use Rattle.dsv_syntax.specs.Parsing.{is_list, is_alone, is_mark, is_closed, with_close, value_place, declaration_start, field_label, group, group_closed, parsed_from, syntax_of, whole_of}
 use Rattle.dsv_syntax.specs.Grammar.{Numbers, Group, Value, IsField, Fields, IsBlock, Blocks, IsFile}
 use Rattle.dsv_syntax.proofs.States.{entry, between, within, after_field, goes}
 
@@ -103,7 +103,7 @@ pub field_read : (b : Block) (ts : List Token) (f : Entry) (rest : List Token) �
 field_read b ts f rest (IsField.field b' l d n e at us ns r h i j v) end c es =
     let named = within place.FieldName b' c es (entry label.Passed d.at 0 []) 0 in
     goes end (between place.FieldDot b' c es) named d (n ∷ e ∷ us) kind.Dot h refl
-    ∙ goes end named (within place.FieldEquals b' c es (entry l d.at 0 []) 0) n (e ∷ us) n.kind refl (ap (λ x. labelled x n named) i)
+    ∙ goes end named (within place.FieldEquals b' c es (entry l d.at 0 []) 0) n (e ∷ us) n.kind refl (ap (λ x. field_label x n named) i)
     ∙ goes end (within place.FieldEquals b' c es (entry l d.at 0 []) 0) (within (value_place l) b' c es (entry l d.at 0 []) 0) e us kind.Equals j refl
     ∙ value_read l us at ns r v end b' c es d.at
 
@@ -125,7 +125,7 @@ pub block_read : (b : Block) (ts : List Token) (fs : List Entry) (at : ℕ) (res
     parsed_from end (between place.Declaration a c es) ts ≡ parsed_from end (between place.Declaration b (with_close b at c) (es ++ fs)) rest
 block_read b ts fs at rest (IsBlock.block b' w k n e o s us r gs at' h i j m v u) end a c es free =
     let first = between place.Declaration a c es in
-    goes end first (between place.BlockName b' c es) k (n ∷ e ∷ o ∷ us) (kind.Name (word.Block b')) h (ap (λ x. declared x b' k first) free)
+    goes end first (between place.BlockName b' c es) k (n ∷ e ∷ o ∷ us) (kind.Name (word.Block b')) h (ap (λ x. declaration_start x b' k first) free)
     ∙ goes end (between place.BlockName b' c es) (between place.BlockEquals b' c es) n (e ∷ o ∷ us) (kind.Name w) i refl
     ∙ goes end (between place.BlockEquals b' c es) (between place.BlockOpen b' c es) e (o ∷ us) kind.Equals j refl
     ∙ goes end (between place.BlockOpen b' c es) (between place.FieldDot b' c es) o us kind.Open m refl
@@ -140,7 +140,7 @@ blocks_read c ts fs d (Blocks.more b c' d' us rest gs hs at free h i) end a es =
     ∙ blocks_read (with_close b at c') rest hs d' i end b (es ++ gs)
     ∙ ap (whole_of end d'.system d'.implementation) (append_assoc es gs hs)
 
-pub file_read : (end : ℕ) (ts : List Token) (s : Syntax) → IsFile ts s → parsed end ts ≡ Ok s
+pub file_read : (end : ℕ) (ts : List Token) (s : Syntax) → IsFile ts s → syntax_of end ts ≡ Ok s
 file_read end ts s h =
     blocks_read _ ts s.entries h.closed h.blocks end _ []
     ∙ ap (λ x. whole_of end x h.closed.implementation s.entries) h.system

@@ -11,14 +11,14 @@ use Rattle.dsv_syntax.specs.declared.parser.Place.TheVariants as place
 use Rattle.dsv_syntax.specs.declared.parser.Closed.{Closed}
 use Rattle.dsv_syntax.specs.declared.parser.Parser.{Parser}
 use Rattle.dsv_text.specs.Stages.{◌>>=◌}
-use Rattle.dsv_syntax.specs.Parsing.{blank, step_at, parsed_from}
+use Rattle.dsv_syntax.specs.Parsing.{blank_entry, step_at, parsed_from}
 
 abbrev pub entry : Label → ℕ → ℕ → List Token → Entry
 entry l dot at ns = record { label = l; dot = dot; place = at; numbers = ns }
 
 -- no field is open
 abbrev pub between : Place → Block → Closed → List Entry → Parser
-between pl b c es = record { place = pl; block = b; closed = c; entry = blank; depth = 0; entries = es }
+between pl b c es = record { place = pl; block = b; closed = c; entry = blank_entry; depth = 0; entries = es }
 
 -- a field is open, and so many groups are
 abbrev pub within : Place → Block → Closed → List Entry → Entry → ℕ → Parser

@@ -17,7 +17,7 @@ use Rattle.dsv_syntax.specs.declared.entry.Label.TheVariants as label
 use Rattle.dsv_syntax.specs.declared.parser.Place.{Place}
 use Rattle.dsv_syntax.specs.declared.parser.Place.TheVariants as place
 use Rattle.dsv_syntax.specs.declared.parser.Parser.{Parser}
-use Rattle.dsv_syntax.specs.Parsing.{is_closed, value_place, label_of, declared, labelled, group_closed, step_at}
+use Rattle.dsv_syntax.specs.Parsing.{is_closed, value_place, label_of, declaration_start, field_label, group_closed, step_at}
 
 -- in a group a brace is open
 abbrev pub CanGoOn : Place → ℕ → Type 0
@@ -37,7 +37,7 @@ less_deep : (q : Place) (depth : ℕ) → (depth == 1) ≡ false → CanGoOn q d
 less_deep place.Group depth e h = grind (arith, nat_tests)
 less_deep q depth e h = tt
 
-declared_steps : (x : Bool) (b : Block) (t : Token) (p : Parser) → IsStep t (declared x b t p)
+declared_steps : (x : Bool) (b : Block) (t : Token) (p : Parser) → IsStep t (declaration_start x b t p)
 declared_steps true b t p = (wanted.Declaration, refl)
 declared_steps false b t p = tt
 
@@ -45,7 +45,7 @@ declaration_steps : (k : TokenKind) (t : Token) (p : Parser) → IsStep t (step_
 declaration_steps (kind.Name (word.Block b)) t p = declared_steps (is_closed b p.closed) b t p
 declaration_steps k t p = (wanted.Declaration, refl)
 
-name_steps : (found : Option Label) (t : Token) (p : Parser) → IsStep t (labelled found t p)
+name_steps : (found : Option Label) (t : Token) (p : Parser) → IsStep t (field_label found t p)
 name_steps (Some l) t p = tt
 name_steps None t p = (wanted.FieldName, refl)
 

@@ -19,7 +19,7 @@ use Rattle.dsv_syntax.specs.declared.parser.Closed.{Closed}
 use Rattle.dsv_syntax.specs.declared.parser.Parser.{Parser}
 use Rattle.dsv_syntax.specs.declared.parsing.Syntax.{Syntax}
 use Rattle.dsv_text.specs.Stages.{◌>>=◌}
-use Rattle.dsv_syntax.specs.Parsing.{is_list, is_alone, is_mark, is_closed, with_close, none_closed, value_place, declared, declaration, block_name, block_equals, block_open, labelled, label_of, field_dot, field_equals, field_comma, list_open, list_number, list_comma, number, value, group, group_closed, semicolon, parsed_from, parsed, whole_of}
+use Rattle.dsv_syntax.specs.Parsing.{is_list, is_alone, is_mark, is_closed, with_close, none_closed, value_place, declaration_start, declaration, block_name, block_equals, block_open, field_label, label_of, field_dot, field_equals, field_comma, list_open, list_number, list_comma, number, value, group, group_closed, semicolon, parsed_from, syntax_of, whole_of}
 use Rattle.dsv_syntax.specs.Grammar.{Numbers, Group, Value, IsField, Fields, IsBlock, Blocks, IsFile}
 use Rattle.dsv_syntax.proofs.States.{entry, between, within, after_field}
 use Rattle.dsv_syntax.proofs.ReadLemmas.{group_left}
@@ -281,7 +281,7 @@ after_name end b c es l d n [] out i j h = absurd (cc)
 after_name end b c es l d n (e ∷ r) out i j h = equals_by end b c es l d n e r out i j e.kind refl h
 
 named_by : (end : ℕ) (b : Block) (c : Closed) (es : List Entry) (d n : Token) (r : List Token) (out : Syntax) → d.kind ≡ kind.Dot → (o : Option Label) → label_of b n.kind ≡ o →
-    (labelled o n (within place.FieldName b c es (entry label.Passed d.at 0 []) 0) >>= next end r) ≡ Ok out → FieldTaken end b c es (d ∷ n ∷ r) out
+    (field_label o n (within place.FieldName b c es (entry label.Passed d.at 0 []) 0) >>= next end r) ≡ Ok out → FieldTaken end b c es (d ∷ n ∷ r) out
 named_by end b c es d n r out i (Some l) j h = after_name end b c es l d n r out i j h
 named_by end b c es d n r out i None j h = absurd (cc)
 
@@ -409,7 +409,7 @@ after_keyword end b c es k [] out free h f = absurd (cc)
 after_keyword end b c es k (n ∷ r) out free h f = block_name_by end b c es k n r out free h n.kind refl f
 
 declared_by : (end : ℕ) (a b : Block) (c : Closed) (es : List Entry) (k : Token) (r : List Token) (out : Syntax) → k.kind ≡ kind.Name (word.Block b) → (x : Bool) → is_closed b c ≡ x →
-    (declared x b k (between place.Declaration a c es) >>= next end r) ≡ Ok out → BlockTaken end c es (k ∷ r) out
+    (declaration_start x b k (between place.Declaration a c es) >>= next end r) ≡ Ok out → BlockTaken end c es (k ∷ r) out
 declared_by end a b c es k r out h true i f = absurd (cc)
 declared_by end a b c es k r out h false i f = after_keyword end b c es k r out i h f
 
@@ -462,7 +462,7 @@ blocks_taken (suc fuel) end a c es (t ∷ r) out few h =
     let less : length b.rest < length (t ∷ r) = b.shorter in
     more_blocks end c es (t ∷ r) out b (blocks_taken fuel end b.b (with_close b.b b.at c) (es ++ b.fs) b.rest out (omega arith) b.goes_on)
 
-pub file_taken : (end : ℕ) (ts : List Token) (s : Syntax) → parsed end ts ≡ Ok s → IsFile ts s
+pub file_taken : (end : ℕ) (ts : List Token) (s : Syntax) → syntax_of end ts ≡ Ok s → IsFile ts s
 file_taken end ts s h =
     let b = blocks_taken (length ts) end block.System none_closed [] ts s (omega arith) h in
     record {

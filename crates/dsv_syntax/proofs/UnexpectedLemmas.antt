@@ -12,7 +12,7 @@ use Rattle.dsv_syntax.specs.declared.parser.Place.TheVariants as place
 use Rattle.dsv_syntax.specs.declared.parser.Parser.{Parser}
 use Rattle.dsv_syntax.specs.declared.parsing.Syntax.{Syntax}
 use Rattle.dsv_text.specs.Stages.{◌>>=◌}
-use Rattle.dsv_syntax.specs.Parsing.{step_at, wanted_at, whole_of, finish_at, parsed_from, parsed, start}
+use Rattle.dsv_syntax.specs.Parsing.{step_at, wanted_at, whole_of, finish_at, parsed_from, syntax_of, start}
 use Rattle.dsv_syntax.specs.Grammar.{IsFile}
 use Rattle.dsv_syntax.specs.Beginnings.{Begins, StopsAt, EndsEarly, IsUnexpectedAt}
 use Rattle.dsv_syntax.proofs.ReadLemmas.{file_read}
@@ -49,9 +49,9 @@ begins ts q h =
 -- a token that is refused begins none
 begins_none : (ts : List Token) (q : Parser) (t : Token) (r : FileRefusal) → Leads start ts q → step_at q.place t.kind t q ≡ Err r → Begins (ts ++ t ∷ []) → ⊥
 begins_none ts q t r h e b =
-    let whole : parsed 0 ((ts ++ t ∷ []) ++ b.others) ≡ Ok b.syntax = file_read 0 ((ts ++ t ∷ []) ++ b.others) b.syntax b.file in
+    let whole : syntax_of 0 ((ts ++ t ∷ []) ++ b.others) ≡ Ok b.syntax = file_read 0 ((ts ++ t ∷ []) ++ b.others) b.syntax b.file in
     let split : (ts ++ t ∷ []) ++ b.others ≡ ts ++ t ∷ b.others = append_assoc ts (t ∷ []) b.others in
-    let left : parsed_from 0 q (t ∷ b.others) ≡ Ok b.syntax = sym (reads_on 0 start ts q (t ∷ b.others) h) ∙ ap (parsed 0) (sym split) ∙ whole in
+    let left : parsed_from 0 q (t ∷ b.others) ≡ Ok b.syntax = sym (reads_on 0 start ts q (t ∷ b.others) h) ∙ ap (syntax_of 0) (sym split) ∙ whole in
     let refused : parsed_from 0 q (t ∷ b.others) ≡ Err r = ap (λ x. x >>= next 0 b.others) e in
     cc
 
@@ -89,36 +89,36 @@ end_refuses place.Declaration end p r e = whole_refuses end p.closed.system p.cl
 end_refuses pl end p r e = (wanted_at pl, cc)
 
 -- after all tokens the end decides
-all_read : (end : ℕ) (ts : List Token) (q : Parser) → Leads start ts q → parsed end ts ≡ finish_at q.place end q
-all_read end ts q h = ap (parsed end) (sym (append-nil ts)) ∙ reads_on end start ts q [] h
+all_read : (end : ℕ) (ts : List Token) (q : Parser) → Leads start ts q → syntax_of end ts ≡ finish_at q.place end q
+all_read end ts q h = ap (syntax_of end) (sym (append-nil ts)) ∙ reads_on end start ts q [] h
 
 stops_read : (end : ℕ) (ts before : List Token) (q : Parser) (t : Token) (after : List Token) (w : Wanted) →
-    ts ≡ before ++ t ∷ after → Leads start before q → step_at q.place t.kind t q ≡ Err (refusal.Unexpected t.at w) → parsed end ts ≡ Err (refusal.Unexpected t.at w)
-stops_read end ts before q t after w e h i = ap (parsed end) e ∙ reads_on end start before q (t ∷ after) h ∙ ap (λ x. x >>= next end after) i
+    ts ≡ before ++ t ∷ after → Leads start before q → step_at q.place t.kind t q ≡ Err (refusal.Unexpected t.at w) → syntax_of end ts ≡ Err (refusal.Unexpected t.at w)
+stops_read end ts before q t after w e h i = ap (syntax_of end) e ∙ reads_on end start before q (t ∷ after) h ∙ ap (λ x. x >>= next end after) i
 
 -- ---- the law
 
-refusal_kind : (end : ℕ) (ts : List Token) (r : FileRefusal) → Ends start ts → parsed end ts ≡ Err r → (at : ℕ) × (w : Wanted) × (r ≡ refusal.Unexpected at w)
+refusal_kind : (end : ℕ) (ts : List Token) (r : FileRefusal) → Ends start ts → syntax_of end ts ≡ Err r → (at : ℕ) × (w : Wanted) × (r ≡ refusal.Unexpected at w)
 refusal_kind end ts r (Ends.all p ts' q h) e =
     let why = end_refuses q.place end q r (sym (all_read end ts q h) ∙ e) in (end, why.0, why.1)
 refusal_kind end ts r (Ends.refuses p ts' before q t after w f h i) e =
-    let read : parsed end ts ≡ Err (refusal.Unexpected t.at w) = stops_read end ts before q t after w f h i in
+    let read : syntax_of end ts ≡ Err (refusal.Unexpected t.at w) = stops_read end ts before q t after w f h i in
     (t.at, w, cc)
 
-pub each_refusal : (end : ℕ) (ts : List Token) (r : FileRefusal) → parsed end ts ≡ Err r → (at : ℕ) × (w : Wanted) × (r ≡ refusal.Unexpected at w)
+pub each_refusal : (end : ℕ) (ts : List Token) (r : FileRefusal) → syntax_of end ts ≡ Err r → (at : ℕ) × (w : Wanted) × (r ≡ refusal.Unexpected at w)
 each_refusal end ts r e = refusal_kind end ts r (ends ts start tt) e
 
-refused_by : (end : ℕ) (ts : List Token) (at : ℕ) (w : Wanted) → Ends start ts → parsed end ts ≡ Err (refusal.Unexpected at w) → IsUnexpectedAt end ts at
+refused_by : (end : ℕ) (ts : List Token) (at : ℕ) (w : Wanted) → Ends start ts → syntax_of end ts ≡ Err (refusal.Unexpected at w) → IsUnexpectedAt end ts at
 refused_by end ts at w (Ends.all p ts' q h) e =
     let why = end_refuses q.place end q (refusal.Unexpected at w) (sym (all_read end ts q h) ∙ e) in
     let same : refusal.Unexpected at w ≡ refusal.Unexpected end why.0 = why.1 in
     IsUnexpectedAt.early end ts at (record {
       place = cc;
       begins = begins ts q h;
-      no_file = λ s f. let read : parsed end ts ≡ Ok s = file_read end ts s f in cc;
+      no_file = λ s f. let read : syntax_of end ts ≡ Ok s = file_read end ts s f in cc;
     })
 refused_by end ts at w (Ends.refuses p ts' before q t after v f h i) e =
-    let read : parsed end ts ≡ Err (refusal.Unexpected t.at v) = stops_read end ts before q t after v f h i in
+    let read : syntax_of end ts ≡ Err (refusal.Unexpected t.at v) = stops_read end ts before q t after v f h i in
     IsUnexpectedAt.token end ts at (record {
       before = before;
       token = t;
@@ -129,7 +129,7 @@ refused_by end ts at w (Ends.refuses p ts' before q t after v f h i) e =
       none = begins_none before q t (refusal.Unexpected t.at v) h i;
     })
 
-pub refused_where_it_stops : (end : ℕ) (ts : List Token) (at : ℕ) (w : Wanted) → parsed end ts ≡ Err (refusal.Unexpected at w) → IsUnexpectedAt end ts at
+pub refused_where_it_stops : (end : ℕ) (ts : List Token) (at : ℕ) (w : Wanted) → syntax_of end ts ≡ Err (refusal.Unexpected at w) → IsUnexpectedAt end ts at
 refused_where_it_stops end ts at w e = refused_by end ts at w (ends ts start tt) e
 
 -- ---- the law's other direction
@@ -157,22 +157,22 @@ one_longer p ts q t m (Leads.here p' h) e g = Leads.step p m m t [] e (Leads.her
 one_longer p ts q t m (Leads.step p' n q' u rest f h) e g = Leads.step p n m u (rest ++ t ∷ []) f (one_longer n rest q t m h e g)
 
 stopped_by : (end : ℕ) (ts : List Token) (at : ℕ) (s : StopsAt ts at) (q : Parser) → Leads start s.before q → (x : Result Parser FileRefusal) →
-    step_at q.place s.token.kind s.token q ≡ x → IsStep s.token x → (w : Wanted) × (parsed end ts ≡ Err (refusal.Unexpected at w))
+    step_at q.place s.token.kind s.token q ≡ x → IsStep s.token x → (w : Wanted) × (syntax_of end ts ≡ Err (refusal.Unexpected at w))
 stopped_by end ts at s q h (Ok m) e g = absurd (s.none (begins (s.before ++ s.token ∷ []) m (one_longer start s.before q s.token m h e g)))
 stopped_by end ts at s q h (Err r) e g =
     (g.0, stops_read end ts s.before q s.token s.after g.0 s.whole h (e ∙ ap Err g.1) ∙ ap (λ x. Err (refusal.Unexpected x g.0)) s.place)
 
 early_by : (end : ℕ) (ts : List Token) (at : ℕ) → EndsEarly end ts at → (q : Parser) → Leads start ts q → (x : Result Syntax FileRefusal) →
-    parsed end ts ≡ x → (w : Wanted) × (parsed end ts ≡ Err (refusal.Unexpected at w))
+    syntax_of end ts ≡ x → (w : Wanted) × (syntax_of end ts ≡ Err (refusal.Unexpected at w))
 early_by end ts at s q h (Ok f) e = absurd (s.no_file f (file_taken end ts f e))
 early_by end ts at s q h (Err r) e =
     let why = end_refuses q.place end q r (sym (all_read end ts q h) ∙ e) in
     (why.0, e ∙ ap Err (why.1) ∙ ap (λ x. Err (refusal.Unexpected x why.0)) s.place)
 
-pub stops_where_refused : (end : ℕ) (ts : List Token) (at : ℕ) → IsUnexpectedAt end ts at → (w : Wanted) × (parsed end ts ≡ Err (refusal.Unexpected at w))
+pub stops_where_refused : (end : ℕ) (ts : List Token) (at : ℕ) → IsUnexpectedAt end ts at → (w : Wanted) × (syntax_of end ts ≡ Err (refusal.Unexpected at w))
 stops_where_refused end ts at (IsUnexpectedAt.token end' ts' at' s) =
     let l = leads_by s.before (ends s.before start tt) s.begins in
     let q = l.to in
     stopped_by end ts at s q l.leads (step_at q.place s.token.kind s.token q) refl (step_leads q.place s.token.kind s.token q (goes_on start s.before q l.leads))
 stops_where_refused end ts at (IsUnexpectedAt.early end' ts' at' s) =
-    let l = leads_by ts (ends ts start tt) s.begins in early_by end ts at s l.to l.leads (parsed end ts) refl
+    let l = leads_by ts (ends ts start tt) s.begins in early_by end ts at s l.to l.leads (syntax_of end ts) refl

@@ -1,5 +1,6 @@
 -- Reading a file's tokens one by one: what is wanted next, and the first token that can't go on.
-use Rattle.std.specs.Prelude.{ℕ, ◌+◌, ◌-◌, ◌==◌, Bool, true, false, List, [], ◌∷◌, ◌++◌, Result, Ok, Err, Option, Some, None, is_some, if◌then◌else◌}
+use Rattle.std.specs.Prelude.{ℕ, ◌+◌, ◌-◌, ◌==◌, Bool, true, false, List, [], ◌∷◌}
+use Rattle.std.specs.Prelude.{◌++◌, Result, Ok, Err, Option, Some, None, is_some, if◌then◌else◌}
 use Rattle.dsv_token.specs.declared.refusal.FileRefusal.{FileRefusal}
 use Rattle.dsv_token.specs.declared.refusal.FileRefusal.TheVariants as refusal
 use Rattle.dsv_names.specs.declared.field.Field.{Field}
@@ -36,7 +37,8 @@ is_of_system f = false
 -- which field a word names in a block; in the block hardware each other name is passed over
 abbrev pub label_named : Block → Word → Option Label
 label_named block.System (word.Field f) = if is_of_system f then Some (label.Field f) else None
-label_named block.Implementation (word.Field f) = if is_of_system f then None else Some (label.Field f)
+label_named block.Implementation (word.Field f) = if is_of_system f then None
+    else Some (label.Field f)
 label_named block.Hardware (word.Setting s) = Some (label.Setting s)
 label_named block.Hardware w = Some label.Passed
 label_named b w = None
@@ -81,20 +83,25 @@ with_close block.Implementation at c = record c { implementation = Some at }
 with_close block.Hardware at c = record c { hardware = Some at }
 
 -- ---- a token, where something is wanted
-abbrev pub unexpected : Token → Wanted → Result Parser FileRefusal
-unexpected t w = Err (refusal.Unexpected t.at w)
+abbrev pub unexpected_token : Token → Wanted → Result Parser FileRefusal
+unexpected_token t w = Err (refusal.Unexpected t.at w)
 
 -- the entry of no field
-abbrev pub blank : Entry
-blank = record { label = label.Passed; dot = 0; place = 0; numbers = [] }
+abbrev pub blank_entry : Entry
+blank_entry = record { label = label.Passed; dot = 0; place = 0; numbers = [] }
 
 -- the open field has all of its value
 abbrev pub field_done : Parser → Parser
-field_done p = record p { place = place.FieldComma; entry = blank; depth = 0; entries = p.entries ++ p.entry ∷ [] }
+field_done p = record p {
+  place = place.FieldComma;
+  entry = blank_entry;
+  depth = 0;
+  entries = p.entries ++ p.entry ∷ [];
+}
 
 -- the value of the open field begins here
-abbrev pub begun : ℕ → List Token → Entry → Entry
-begun at ns e = record e { place = at; numbers = ns }
+abbrev pub entry_with : ℕ → List Token → Entry → Entry
+entry_with at ns e = record e { place = at; numbers = ns }
 
 -- the open field has one more number
 abbrev pub with_number : Token → Entry → Entry
@@ -104,37 +111,39 @@ with_number n e = record e { numbers = e.numbers ++ n ∷ [] }
 abbrev pub block_done : Token → Parser → Parser
 block_done t p = record p { place = place.Semicolon; closed = with_close p.block t.at p.closed }
 
-abbrev pub declared : Bool → Block → Token → Parser → Result Parser FileRefusal
-declared true b t p = unexpected t wanted.Declaration
-declared false b t p = Ok (record p { place = place.BlockName; block = b })
+abbrev pub declaration_start : Bool → Block → Token → Parser → Result Parser FileRefusal
+declaration_start true b t p = unexpected_token t wanted.Declaration
+declaration_start false b t p = Ok (record p { place = place.BlockName; block = b })
 
 abbrev pub declaration : TokenKind → Token → Parser → Result Parser FileRefusal
-declaration (kind.Name (word.Block b)) t p = declared (is_closed b p.closed) b t p
-declaration k t p = unexpected t wanted.Declaration
+declaration (kind.Name (word.Block b)) t p = declaration_start (is_closed b p.closed) b t p
+declaration k t p = unexpected_token t wanted.Declaration
 
 abbrev pub block_name : TokenKind → Token → Parser → Result Parser FileRefusal
 block_name (kind.Name w) t p = Ok (record p { place = place.BlockEquals })
-block_name k t p = unexpected t wanted.Name
+block_name k t p = unexpected_token t wanted.Name
 
 abbrev pub block_equals : TokenKind → Token → Parser → Result Parser FileRefusal
 block_equals kind.Equals t p = Ok (record p { place = place.BlockOpen })
-block_equals k t p = unexpected t wanted.Equals
+block_equals k t p = unexpected_token t wanted.Equals
 
 abbrev pub block_open : TokenKind → Token → Parser → Result Parser FileRefusal
 block_open kind.Open t p = Ok (record p { place = place.FieldDot })
-block_open k t p = unexpected t wanted.Open
+block_open k t p = unexpected_token t wanted.Open
 
 abbrev pub field_dot : TokenKind → Token → Parser → Result Parser FileRefusal
-field_dot kind.Dot t p = Ok (record p { place = place.FieldName; entry = record p.entry { dot = t.at } })
+field_dot kind.Dot t p = Ok
+    (record p { place = place.FieldName; entry = record p.entry { dot = t.at } })
 field_dot kind.Close t p = Ok (block_done t p)
-field_dot k t p = unexpected t wanted.FieldOrClose
+field_dot k t p = unexpected_token t wanted.FieldOrClose
 
-abbrev pub labelled : Option Label → Token → Parser → Result Parser FileRefusal
-labelled (Some l) t p = Ok (record p { place = place.FieldEquals; entry = record p.entry { label = l } })
-labelled None t p = unexpected t wanted.FieldName
+abbrev pub field_label : Option Label → Token → Parser → Result Parser FileRefusal
+field_label (Some l) t p =
+    Ok (record p { place = place.FieldEquals; entry = record p.entry { label = l } })
+field_label None t p = unexpected_token t wanted.FieldName
 
 abbrev pub field_name : TokenKind → Token → Parser → Result Parser FileRefusal
-field_name k t p = labelled (label_of p.block k) t p
+field_name k t p = field_label (label_of p.block k) t p
 
 -- where the value of a field begins
 abbrev pub value_place : Label → Place
@@ -145,31 +154,37 @@ value_place l = place.Number
 
 abbrev pub field_equals : TokenKind → Token → Parser → Result Parser FileRefusal
 field_equals kind.Equals t p = Ok (record p { place = value_place p.entry.label })
-field_equals k t p = unexpected t wanted.Equals
+field_equals k t p = unexpected_token t wanted.Equals
 
 abbrev pub list_open : TokenKind → Token → Parser → Result Parser FileRefusal
-list_open kind.Open t p = Ok (record p { place = place.ListNumber; entry = begun t.at [] p.entry })
-list_open k t p = unexpected t wanted.Open
+list_open kind.Open t p =
+    Ok (record p { place = place.ListNumber; entry = entry_with t.at [] p.entry })
+list_open k t p = unexpected_token t wanted.Open
 
 abbrev pub list_number : TokenKind → Token → Parser → Result Parser FileRefusal
-list_number kind.Number t p = Ok (record p { place = place.ListComma; entry = with_number t p.entry })
+list_number kind.Number t p =
+    Ok (record p { place = place.ListComma; entry = with_number t p.entry })
 list_number kind.Close t p = Ok (field_done p)
-list_number k t p = unexpected t wanted.NumberOrClose
+list_number k t p = unexpected_token t wanted.NumberOrClose
 
 abbrev pub list_comma : TokenKind → Token → Parser → Result Parser FileRefusal
 list_comma kind.Comma t p = Ok (record p { place = place.ListNumber })
 list_comma kind.Close t p = Ok (field_done p)
-list_comma k t p = unexpected t wanted.CommaOrClose
+list_comma k t p = unexpected_token t wanted.CommaOrClose
 
 abbrev pub number : TokenKind → Token → Parser → Result Parser FileRefusal
-number kind.Number t p = Ok (field_done (record p { entry = begun t.at (t ∷ []) p.entry }))
-number k t p = unexpected t wanted.Number
+number kind.Number t p = Ok (field_done (record p { entry = entry_with t.at (t ∷ []) p.entry }))
+number k t p = unexpected_token t wanted.Number
 
 abbrev pub value : TokenKind → Token → Parser → Result Parser FileRefusal
-value kind.Number t p = Ok (field_done (record p { entry = begun t.at (t ∷ []) p.entry }))
-value (kind.Name w) t p = Ok (field_done (record p { entry = begun t.at [] p.entry }))
-value kind.Open t p = Ok (record p { place = place.Group; depth = 1; entry = begun t.at [] p.entry })
-value k t p = unexpected t wanted.Value
+value kind.Number t p = Ok (field_done (record p { entry = entry_with t.at (t ∷ []) p.entry }))
+value (kind.Name w) t p = Ok (field_done (record p { entry = entry_with t.at [] p.entry }))
+value kind.Open t p = Ok (record p {
+  place = place.Group;
+  depth = 1;
+  entry = entry_with t.at [] p.entry;
+})
+value k t p = unexpected_token t wanted.Value
 
 -- a closing brace in a group: the group's own, or that of one inside it
 abbrev pub group_closed : Bool → Parser → Parser
@@ -185,11 +200,11 @@ group k t p = Ok p
 abbrev pub field_comma : TokenKind → Token → Parser → Result Parser FileRefusal
 field_comma kind.Comma t p = Ok (record p { place = place.FieldDot })
 field_comma kind.Close t p = Ok (block_done t p)
-field_comma k t p = unexpected t wanted.CommaOrClose
+field_comma k t p = unexpected_token t wanted.CommaOrClose
 
 abbrev pub semicolon : TokenKind → Token → Parser → Result Parser FileRefusal
 semicolon kind.Semicolon t p = Ok (record p { place = place.Declaration })
-semicolon k t p = unexpected t wanted.Semicolon
+semicolon k t p = unexpected_token t wanted.Semicolon
 
 abbrev pub step_at : Place → TokenKind → Token → Parser → Result Parser FileRefusal
 step_at place.Declaration k t p = declaration k t p
@@ -228,7 +243,8 @@ wanted_at place.Semicolon = wanted.Semicolon
 
 -- both blocks that a file wants stood there
 abbrev pub whole_of : ℕ → Option ℕ → Option ℕ → List Entry → Result Syntax FileRefusal
-whole_of end (Some system) (Some implementation) es = Ok (record { entries = es; system = system; implementation = implementation })
+whole_of end (Some system) (Some implementation) es =
+    Ok (record { entries = es; system = system; implementation = implementation })
 whole_of end s i es = Err (refusal.Unexpected end wanted.Declaration)
 
 abbrev pub finish_at : Place → ℕ → Parser → Result Syntax FileRefusal
@@ -241,8 +257,15 @@ parsed_from end p [] = finish_at p.place end p
 parsed_from end p (t ∷ ts) = step_at p.place t.kind t p >>= λ q. parsed_from end q ts
 
 abbrev pub start : Parser
-start = record { place = place.Declaration; block = block.System; closed = none_closed; entry = blank; depth = 0; entries = [] }
+start = record {
+  place = place.Declaration;
+  block = block.System;
+  closed = none_closed;
+  entry = blank_entry;
+  depth = 0;
+  entries = [];
+}
 
 -- what stands in a file with these tokens, or the first of them that can't go on
-abbrev pub parsed : ℕ → List Token → Result Syntax FileRefusal
-parsed end ts = parsed_from end start ts
+abbrev pub syntax_of : ℕ → List Token → Result Syntax FileRefusal
+syntax_of end ts = parsed_from end start ts

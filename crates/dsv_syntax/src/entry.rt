@@ -13,8 +13,8 @@ pub enum Label {
     Passed,
 }
 
-/// A field of a file: which one, the offsets of its dot and of its value's first byte, and the numbers of its value in
-/// their order.
+/// A field of a file: which one, the offsets of its dot and of its value's first byte, and the
+/// numbers of its value in their order.
 #[derive(Drop)]
 pub struct Entry {
     pub label: Label,
@@ -25,11 +25,11 @@ pub struct Entry {
 
 impl Entry {
     ghost use Rattle.std.specs.Prelude.{◌≡◌};
-    ghost use Rattle.dsv_syntax.specs.Parsing.{blank};
+    ghost use Rattle.dsv_syntax.specs.Parsing.{blank_entry};
 
     /// The entry of no field.
     pub(crate) fn blank(alloc: Global) -> Self
-        ensures { result ≡ blank }
+        ensures { result ≡ blank_entry }
     {
         Entry {
             label: Label::Passed,

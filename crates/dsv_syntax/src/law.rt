@@ -5,25 +5,28 @@ ghost use Rattle.dsv_token.specs.declared.refusal.FileRefusal.{FileRefusal};
 ghost use Rattle.dsv_token.specs.declared.refusal.FileRefusal.TheVariants.{Unexpected};
 ghost use Rattle.dsv_token.specs.declared.token.Token.{Token};
 ghost use Rattle.dsv_syntax.specs.declared.parsing.Syntax.{Syntax};
-ghost use Rattle.dsv_syntax.specs.Parsing.{parsed};
+ghost use Rattle.dsv_syntax.specs.Parsing.{syntax_of};
 ghost use Rattle.dsv_syntax.specs.Grammar.{IsFile};
 ghost use Rattle.dsv_syntax.specs.Beginnings.{IsUnexpectedAt};
 
-/// The grammar on whole lists of tokens, and their reading one by one, take the same files and find the same in them,
-/// wherever the file ends.
+/// The grammar on whole lists of tokens, and their reading one by one, take the same files and find
+/// the same in them, wherever the file ends.
 pub fn grammar_is_read()
-    ensures read { (end : ℕ) (ts : List Token) (s : Syntax) → IsFile ts s → parsed end ts ≡ Ok s }
-    ensures taken { (end : ℕ) (ts : List Token) (s : Syntax) → parsed end ts ≡ Ok s → IsFile ts s }
+    ensures read { (end : ℕ) (ts : List Token) (s : Syntax) → IsFile ts s
+        → syntax_of end ts ≡ Ok s }
+    ensures taken { (end : ℕ) (ts : List Token) (s : Syntax) → syntax_of end ts ≡ Ok s
+        → IsFile ts s }
 {}
 
-/// The law of the first unexpected token. Each refusal names a place: the tokens before it begin some file of the
-/// grammar, and those through it begin none; or it is the end, and all tokens begin a file and are none. And tokens
-/// that stop so at a place are refused there.
+/// The law of the first unexpected token. Each refusal names a place: the tokens before it begin
+/// some file of the grammar, and those through it begin none; or it is the end, and all tokens
+/// begin a file and are none. And tokens that stop so at a place are refused there.
 pub fn first_unexpected_is_refused()
-    ensures kind { (end : ℕ) (ts : List Token) (r : FileRefusal) → parsed end ts ≡ Err r →
+    ensures kind { (end : ℕ) (ts : List Token) (r : FileRefusal) → syntax_of end ts ≡ Err r →
         (at : ℕ) × (w : Wanted) × (r ≡ Unexpected at w) }
-    ensures refused { (end : ℕ) (ts : List Token) (at : ℕ) (w : Wanted) → parsed end ts ≡ Err (Unexpected at w) →
+    ensures refused { (end : ℕ) (ts : List Token) (at : ℕ) (w : Wanted)
+        → syntax_of end ts ≡ Err (Unexpected at w) →
         IsUnexpectedAt end ts at }
     ensures found { (end : ℕ) (ts : List Token) (at : ℕ) → IsUnexpectedAt end ts at →
-        (w : Wanted) × (parsed end ts ≡ Err (Unexpected at w)) }
+        (w : Wanted) × (syntax_of end ts ≡ Err (Unexpected at w)) }
 {}

@@ -2,7 +2,13 @@
 ghost use Rattle.std.specs.Prelude.{◌≡◌, [], Ok};
 ghost use Rattle.dsv_token.specs.Memory.{Gives};
 ghost use Rattle.dsv_token.specs.declared.refusal.FileRefusal.TheVariants.{Unexpected};
-ghost use Rattle.dsv_syntax.specs.Parsing.{is_of_system, label_named, label_of, value_place, wanted_at, none_closed, is_closed, with_close, start, begun, with_number, field_done, block_done, declaration, block_name, block_equals, block_open, field_dot, field_name, field_equals, list_open, list_number, list_comma, number, value, group, field_comma, semicolon, step_at, finish_at};
+ghost use Rattle.dsv_syntax.specs.Parsing.{is_of_system, label_named, label_of, value_place};
+ghost use Rattle.dsv_syntax.specs.Parsing.{wanted_at, none_closed, is_closed, with_close};
+ghost use Rattle.dsv_syntax.specs.Parsing.{start, entry_with, with_number, field_done};
+ghost use Rattle.dsv_syntax.specs.Parsing.{block_done, declaration, block_name, block_equals};
+ghost use Rattle.dsv_syntax.specs.Parsing.{block_open, field_dot, field_name, field_equals};
+ghost use Rattle.dsv_syntax.specs.Parsing.{list_open, list_number, list_comma, number, value};
+ghost use Rattle.dsv_syntax.specs.Parsing.{group, field_comma, semicolon, step_at, finish_at};
 
 use crate::entry::{Entries, Entry, Label};
 use crate::parsing::Syntax;
@@ -19,21 +25,21 @@ pub(crate) enum Place {
     BlockName,
     BlockEquals,
     BlockOpen,
-    /// Behind the opening brace or a comma of a block.
+    /// After the opening brace or a comma of a block.
     FieldDot,
     FieldName,
     FieldEquals,
     ListOpen,
-    /// Behind the opening brace or a comma of a list.
+    /// After the opening brace or a comma of a list.
     ListNumber,
-    /// Behind a number of a list.
+    /// After a number of a list.
     ListComma,
     Number,
     /// Before the value of a field that is passed over.
     Value,
     /// In a group of tokens that is passed over.
     Group,
-    /// Behind a field.
+    /// After a field.
     FieldComma,
     Semicolon,
 }
@@ -77,8 +83,8 @@ impl Closed {
     }
 }
 
-/// What was read of a file: the fields that are whole, the block and the field that are open, how many groups are, and
-/// what is wanted next.
+/// What was read of a file: the fields that are whole, the block and the field that are open, how
+/// many groups are, and what is wanted next.
 #[derive(Drop)]
 pub(crate) struct Parser {
     pub(crate) place: Place,
@@ -89,7 +95,7 @@ pub(crate) struct Parser {
     pub(crate) entries: Entries,
 }
 
-fn unexpected(token: Token, wanted: Wanted) -> FileRefusal
+fn unexpected_token(token: Token, wanted: Wanted) -> FileRefusal
     ensures { result ≡ Unexpected token.at wanted }
 {
     FileRefusal::Unexpected {
@@ -253,7 +259,7 @@ impl Parser {
 
     /// The value of the open field begins here.
     fn begin(mut self, alloc: Global, token: Token) -> Self
-        ensures { result ≡ record self { entry = begun token.at [] self.entry } }
+        ensures { result ≡ record self { entry = entry_with token.at [] self.entry } }
     {
         self.entry.place = token.at;
         self.entry.numbers = Tokens::new(alloc);
@@ -262,7 +268,8 @@ impl Parser {
 
     /// The open field has one more number.
     fn with_number(mut self, token: Token) -> Result<Self, FileRefusal>
-        ensures { Gives (λ p. p) result (Ok (record self { entry = with_number token self.entry })) }
+        ensures { Gives (λ p. p) result
+            (Ok (record self { entry = with_number token self.entry })) }
     {
         self.entry.numbers.push(token)?;
         Ok(self)
@@ -292,7 +299,7 @@ impl Parser {
                 block,
                 ..self
             }),
-            _ => Err(unexpected(token, Wanted::Declaration)),
+            _ => Err(unexpected_token(token, Wanted::Declaration)),
         }
     }
 
@@ -301,7 +308,7 @@ impl Parser {
     {
         match token.kind {
             TokenKind::Name(_) => Ok(self.at(Place::BlockEquals)),
-            _ => Err(unexpected(token, Wanted::Name)),
+            _ => Err(unexpected_token(token, Wanted::Name)),
         }
     }
 
@@ -310,7 +317,7 @@ impl Parser {
     {
         match token.kind {
             TokenKind::Equals => Ok(self.at(Place::BlockOpen)),
-            _ => Err(unexpected(token, Wanted::Equals)),
+            _ => Err(unexpected_token(token, Wanted::Equals)),
         }
     }
 
@@ -319,7 +326,7 @@ impl Parser {
     {
         match token.kind {
             TokenKind::Open => Ok(self.at(Place::FieldDot)),
-            _ => Err(unexpected(token, Wanted::Open)),
+            _ => Err(unexpected_token(token, Wanted::Open)),
         }
     }
 
@@ -328,7 +335,7 @@ impl Parser {
     {
         match token.kind {
             TokenKind::Semicolon => Ok(self.at(Place::Declaration)),
-            _ => Err(unexpected(token, Wanted::Semicolon)),
+            _ => Err(unexpected_token(token, Wanted::Semicolon)),
         }
     }
 
@@ -347,7 +354,7 @@ impl Parser {
                 ..self
             }),
             TokenKind::Close => Ok(self.block_done(token)),
-            _ => Err(unexpected(token, Wanted::FieldOrClose)),
+            _ => Err(unexpected_token(token, Wanted::FieldOrClose)),
         }
     }
 
@@ -363,7 +370,7 @@ impl Parser {
                 },
                 ..self
             }),
-            None => Err(unexpected(token, Wanted::FieldName)),
+            None => Err(unexpected_token(token, Wanted::FieldName)),
         }
     }
 
@@ -373,7 +380,7 @@ impl Parser {
         let place = value_place(self.entry.label);
         match token.kind {
             TokenKind::Equals => Ok(self.at(place)),
-            _ => Err(unexpected(token, Wanted::Equals)),
+            _ => Err(unexpected_token(token, Wanted::Equals)),
         }
     }
 
@@ -383,7 +390,7 @@ impl Parser {
         match token.kind {
             TokenKind::Comma => Ok(self.at(Place::FieldDot)),
             TokenKind::Close => Ok(self.block_done(token)),
-            _ => Err(unexpected(token, Wanted::CommaOrClose)),
+            _ => Err(unexpected_token(token, Wanted::CommaOrClose)),
         }
     }
 
@@ -394,7 +401,7 @@ impl Parser {
     {
         match token.kind {
             TokenKind::Open => Ok(self.begin(alloc, token).at(Place::ListNumber)),
-            _ => Err(unexpected(token, Wanted::Open)),
+            _ => Err(unexpected_token(token, Wanted::Open)),
         }
     }
 
@@ -404,7 +411,7 @@ impl Parser {
         match token.kind {
             TokenKind::Number => Ok(self.with_number(token)?.at(Place::ListComma)),
             TokenKind::Close => self.field_done(alloc),
-            _ => Err(unexpected(token, Wanted::NumberOrClose)),
+            _ => Err(unexpected_token(token, Wanted::NumberOrClose)),
         }
     }
 
@@ -414,7 +421,7 @@ impl Parser {
         match token.kind {
             TokenKind::Comma => Ok(self.at(Place::ListNumber)),
             TokenKind::Close => self.field_done(alloc),
-            _ => Err(unexpected(token, Wanted::CommaOrClose)),
+            _ => Err(unexpected_token(token, Wanted::CommaOrClose)),
         }
     }
 
@@ -426,7 +433,7 @@ impl Parser {
                 .begin(alloc, token)
                 .with_number(token)?
                 .field_done(alloc),
-            _ => Err(unexpected(token, Wanted::Number)),
+            _ => Err(unexpected_token(token, Wanted::Number)),
         }
     }
 
@@ -443,7 +450,7 @@ impl Parser {
                 depth: 1,
                 ..self.begin(alloc, token).at(Place::Group)
             }),
-            _ => Err(unexpected(token, Wanted::Value)),
+            _ => Err(unexpected_token(token, Wanted::Value)),
         }
     }
 

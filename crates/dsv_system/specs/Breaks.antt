@@ -14,14 +14,17 @@ IsOutside f r = (e : ℤ) × Contains r.exact e × (IsWord f e → ⊥)
 abbrev pub IsInside : Format → SampleRow → Type 0
 IsInside f r = All (IsWord f) r.exact
 
--- Overflow: these inputs are in range, and from registers of zeros some sample has an exact value that is no word.
+-- Overflow: these inputs are in range, and from registers of zeros some sample has an exact value
+-- that is no word.
 pub record Breaks (P : Type 0) (m : System P) (low high : ℤ) (xs : List ℤ) : Type 0 where
   pub in_range : AreInRange low high xs
   pub broken : (r : SampleRow) × Contains (rows m (zeros m.many) xs) r × IsOutside m.format r
 
--- The first break in these rows: no earlier sample than this one has an exact value that is no word, and in this sample
--- the first such value has the number `value` and is `exact`. Samples and values count from 0.
-pub record IsFirstBreak (format : Format) (rows : List SampleRow) (sample value : ℕ) (exact : ℤ) : Type 0 where
+-- The first break in these rows: no earlier sample than this one has an exact value that is no
+-- word, and in this sample the first such value has the number `value` and is `exact`. Samples and
+-- values count from 0.
+pub record IsFirstBreak (format : Format) (rows : List SampleRow) (sample value : ℕ) (exact : ℤ) :
+    Type 0 where
   pub before : All (IsInside format) (take sample rows)
   pub row : SampleRow
   pub here : slice_get rows sample ≡ Some row
@@ -29,9 +32,10 @@ pub record IsFirstBreak (format : Format) (rows : List SampleRow) (sample value 
   pub first : slice_get row.exact value ≡ Some exact
   pub outside : IsWord format exact → ⊥
 
--- Replayed trace: the inputs are in range and one more than the number of the sample; these are the outputs from registers
--- of zeros, and this is their first break.
-pub record Replays (P : Type 0) (m : System P) (low high : ℤ) (inputs outputs : List ℤ) (sample value : ℕ) (exact : ℤ) : Type 0 where
+-- Replayed trace: the inputs are in range and one more than the number of the sample; these are the
+-- outputs from registers of zeros, and this is their first break.
+pub record Replays (P : Type 0) (m : System P) (low high : ℤ) (inputs outputs : List ℤ)
+    (sample value : ℕ) (exact : ℤ) : Type 0 where
   pub in_range : AreInRange low high inputs
   pub many : length inputs ≡ sample + 1
   pub gives : map (λ (r : SampleRow). r.y) (rows m (zeros m.many) inputs) ≡ outputs

@@ -19,8 +19,8 @@ pub record IsLeastPeriod (P : Type 0) (m : System P) (start : List ℤ) (p : ℕ
 abbrev pub IsSounding : (P : Type 0) → System P → List ℤ → ℕ → Type 0
 IsSounding P m start p = (r : SampleRow) × Contains (rows m start (zeros p)) r × (r.y ≢ pos 0)
 
--- Limit cycle: the start has 0 in the feed-forward registers and words in the others; p inputs 0 bring it back, and one of
--- these p outputs isn't 0.
+-- Limit cycle: the start has 0 in the feed-forward registers and words in the others; p inputs 0
+-- bring it back, and one of these p outputs isn't 0.
 pub record Cycles (P : Type 0) (m : System P) (start : List ℤ) (p : ℕ) : Type 0 where
   pub many : length start ≡ m.many
   pub quiet : All (λ w. w ≡ pos 0) (take m.forward start)

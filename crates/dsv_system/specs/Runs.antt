@@ -1,9 +1,9 @@
 -- Runs of a system over inputs, sample after sample.
 use Rattle.std.specs.Prelude.{List, [], ◌∷◌, ℤ}
 
--- What a sample gives: its output, its exact values (each is that of an operation, before it is fitted into a word), and
--- the past with this sample in it. P is the type of pasts; where a system keeps its registers alone, the past is their
--- words.
+-- What a sample gives: its output, its exact values (each is that of an operation, before it is
+-- fitted into a word), and the past with this sample in it. P is the type of pasts; where a system
+-- keeps its registers alone, the past is their words.
 pub record Sampled (P : Type 0) : Type 0 where
   pub y : ℤ
   pub exact : List ℤ

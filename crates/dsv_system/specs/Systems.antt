@@ -4,8 +4,8 @@ use Rattle.std.specs.List.{All}
 use Rattle.dsv_word.specs.declared.format.Format.{Format}
 use Rattle.dsv_system.specs.Runs.{Sampled, SampleRow, rows_from, past_after}
 
--- how a system starts from words in its registers, one sample, the registers in a past, how many there are and how many
--- of the first ones are feed-forward, and the format
+-- how a system starts from words in its registers, one sample, the registers in a past, how many
+-- there are and how many of the first ones are feed-forward, and the format
 pub record System (P : Type 0) : Type 0 where
   pub start : List ℤ → P
   pub sample : P → ℤ → Sampled P
@@ -28,11 +28,13 @@ zeros n = replicate n (pos 0)
 abbrev pub AreInRange : ℤ → ℤ → List ℤ → Type 0
 AreInRange low high xs = All (λ x. (low ≤ℤ x) × (x ≤ℤ high)) xs
 
--- Two systems that nothing tells apart: they have as many registers, as many of them are feed-forward, the format is the
--- same, and from every start with so many words and over all inputs their rows and their registers are the same.
+-- Two systems that nothing tells apart: they have as many registers, as many of them are
+-- feed-forward, the format is the same, and from every start with so many words and over all inputs
+-- their rows and their registers are the same.
 pub record RunAlike (P Q : Type 0) (m : System P) (n : System Q) : Type 0 where
   pub many : m.many ≡ n.many
   pub forward : m.forward ≡ n.forward
   pub format : m.format ≡ n.format
   pub rows : (start xs : List ℤ) → length start ≡ n.many → rows m start xs ≡ rows n start xs
-  pub registers : (start xs : List ℤ) → length start ≡ n.many → registers_after m start xs ≡ registers_after n start xs
+  pub registers : (start xs : List ℤ) → length start ≡ n.many
+      → registers_after m start xs ≡ registers_after n start xs

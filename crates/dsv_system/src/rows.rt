@@ -16,7 +16,8 @@ pub struct Row {
     pub exact: ExactList,
 }
 
-/// The rows of a run, one for each sample. It is made from a `Vec` and gives it back with no memory taken.
+/// The rows of a run, one for each sample. It is made from a `Vec` and gives it back with no memory
+/// taken.
 #[derive(Debug, Drop)]
 pub struct Rows {
     rows: Vec<Row>,

@@ -12,17 +12,17 @@ pub AreLawful-push : (inputs : List ℕ) (ns : List TermNode) (n : TermNode) (ws
 AreLawful-push inputs [] n ws h k = (k, tt)
 AreLawful-push inputs (m ∷ ms) n ws h k = (h.0, AreLawful-push inputs ms n (ws ++ node_width inputs ws m ∷ []) h.1 k)
 
-pub AreLawful-front : (inputs : List ℕ) (before after : List TermNode) (ws : List ℕ) → AreLawful inputs (before ++ after) ws → AreLawful inputs before ws
-AreLawful-front inputs [] after ws h = tt
-AreLawful-front inputs (m ∷ ms) after ws h = (h.0, AreLawful-front inputs ms after (ws ++ node_width inputs ws m ∷ []) h.1)
+pub AreLawful-prefix : (inputs : List ℕ) (before after : List TermNode) (ws : List ℕ) → AreLawful inputs (before ++ after) ws → AreLawful inputs before ws
+AreLawful-prefix inputs [] after ws h = tt
+AreLawful-prefix inputs (m ∷ ms) after ws h = (h.0, AreLawful-prefix inputs ms after (ws ++ node_width inputs ws m ∷ []) h.1)
 
--- a node is lawful behind those before it
+-- a node is lawful after those before it
 pub AreLawful-at : (inputs : List ℕ) (before after : List TermNode) (n : TermNode) (ws : List ℕ) → AreLawful inputs (before ++ n ∷ after) ws → IsLawful inputs (widths_from inputs before ws) n
 AreLawful-at inputs [] after n ws h = h.0
 AreLawful-at inputs (m ∷ ms) after n ws h = AreLawful-at inputs ms after n (ws ++ node_width inputs ws m ∷ []) h.1
 
 pub AreLawful-take : (inputs : List ℕ) (k : ℕ) (ns : List TermNode) → AreLawful inputs ns [] → AreLawful inputs (take k ns) []
-AreLawful-take inputs k ns h = AreLawful-front inputs (take k ns) (drop k ns) [] (rw (take-append-drop k ns) h)
+AreLawful-take inputs k ns h = AreLawful-prefix inputs (take k ns) (drop k ns) [] (rw (take-append-drop k ns) h)
 
 -- ---- the entry of a node stands at its place
 entry-at : {X : Type 0} (entry : List X → TermNode → X) (before after : List TermNode) (n : TermNode) (d : X) → get_or (entries_from entry (before ++ n ∷ after) []) (length before) d ≡ entry (entries_from entry before []) n
@@ -34,15 +34,15 @@ entry-at entry before after n d =
     ∙ get_or_push es (entry es n) d (length before) (omega arith))
 
 -- entries of a front stay
-pub front-keeps : {X : Type 0} (entry : List X → TermNode → X) (before after : List TermNode) (k : ℕ) (d : X) → k < length before → get_or (entries_from entry (before ++ after) []) k d ≡ get_or (entries_from entry before []) k d
-front-keeps entry before after k d h =
+pub prefix-keeps : {X : Type 0} (entry : List X → TermNode → X) (before after : List TermNode) (k : ℕ) (d : X) → k < length before → get_or (entries_from entry (before ++ after) []) k d ≡ get_or (entries_from entry before []) k d
+prefix-keeps entry before after k d h =
     let es = entries_from entry before [] in
     let l = length-entries entry before [] in
     rw (entries-append entry before after []) (entries-keep entry after es k d (omega arith))
 
 pub entry-take : {X : Type 0} (entry : List X → TermNode → X) (n : ℕ) (ns : List TermNode) (k : ℕ) (d : X) → k < n → k < length ns → get_or (entries_from entry ns []) k d ≡ get_or (entries_from entry (take n ns) []) k d
 entry-take entry n ns k d h l =
-    let e = front-keeps entry (take n ns) (drop n ns) k d (omega (arith, length-take n ns)) in
+    let e = prefix-keeps entry (take n ns) (drop n ns) k d (omega (arith, length-take n ns)) in
     rw (take-append-drop n ns) at e
 
 -- a node's word is made of all words
@@ -55,7 +55,7 @@ word-at inputs values before after n id h e =
     let l = length-entries (node_width inputs) before [] in
     let same : node_word inputs values all n ≡ node_word inputs values es n =
     node_word-same inputs inputs values widths all es n (AreLawful-at inputs before after n [] h) (λ k p. refl)
-    (λ a p. front-keeps (node_word inputs values) before (n ∷ after) a.0 (record { width = 0; number = 0 }) (omega arith)) in
+    (λ a p. prefix-keeps (node_word inputs values) before (n ∷ after) a.0 (record { width = 0; number = 0 }) (omega arith)) in
     rw e (entry-at (node_word inputs values) before after n (record { width = 0; number = 0 }) ∙ sym same)
 
 pub width-at : (inputs : List ℕ) (before after : List TermNode) (n : TermNode) (id : TermId) → AreLawful inputs (before ++ n ∷ after) [] → id.0 ≡ length before
@@ -66,7 +66,7 @@ width-at inputs before after n id h e =
     let l = length-entries (node_width inputs) before [] in
     let same : node_width inputs all n ≡ node_width inputs es n =
     node_width-same inputs inputs es all n (AreLawful-at inputs before after n [] h) (λ k p. refl)
-    (λ a p. front-keeps (node_width inputs) before (n ∷ after) a.0 0 (omega arith)) in
+    (λ a p. prefix-keeps (node_width inputs) before (n ∷ after) a.0 0 (omega arith)) in
     rw e (entry-at (node_width inputs) before after n 0 ∙ sym same)
 
 -- ---- more inputs

@@ -17,7 +17,7 @@ use Rattle.dsv_term.specs.TermNode.{word_at, node_word, words_from, node_width, 
 use Rattle.dsv_term.specs.Terms.{widths_of, AreTerms, KeepsTerms, Makes, words_of, word_of}
 use Rattle.dsv_term.specs.TermsView.{TermsView}
 use Rattle.dsv_term.proofs.Entries.{length-entries}
-use Rattle.dsv_term.proofs.Lawful.{AreLawful-push, front-keeps, word-at, width-at}
+use Rattle.dsv_term.proofs.Lawful.{AreLawful-push, prefix-keeps, word-at, width-at}
 use Rattle.dsv_term.proofs.Nodes.{node_word-same, node_width-same}
 use Rattle.dsv_term.proofs.Same.{eq-is_same, same-node, same_self}
 
@@ -75,13 +75,13 @@ node-kept nodes rest k d h =
     slice_get-get_or (nodes ++ rest) k d (omega (arith, length-append nodes rest))
     ∙ (ap Some (get_or_append_left nodes rest d k h) ∙ sym (slice_get-get_or nodes k d h))
 
-pub front-kept : (t : TermsView) (rest : List TermNode) → KeepsTerms t (record t { nodes = t.nodes ++ rest })
-front-kept t rest =
+pub prefix-kept : (t : TermsView) (rest : List TermNode) → KeepsTerms t (record t { nodes = t.nodes ++ rest })
+prefix-kept t rest =
     record {
       longer = λ id p. omega (arith, length-append t.nodes rest);
       nodes = λ id p. node-kept t.nodes rest id.0 (Input 0) p;
-      widths = λ id p. front-keeps (node_width t.inputs) t.nodes rest id.0 0 p;
-      words = λ values id p. front-keeps (node_word t.inputs values) t.nodes rest id.0 (record { width = 0; number = 0 }) p;
+      widths = λ id p. prefix-keeps (node_width t.inputs) t.nodes rest id.0 0 p;
+      words = λ values id p. prefix-keeps (node_word t.inputs values) t.nodes rest id.0 (record { width = 0; number = 0 }) p;
     }
 
 pub KeepsTerms-both : (t u v : TermsView) → KeepsTerms t u → KeepsTerms u v → KeepsTerms t v
@@ -122,7 +122,7 @@ pub record IsMade (t u : TermsView) (node : TermNode) (id : TermId) : Type 0 whe
 made_keeps : (t : TermsView) (made : List TermNode) (node : TermNode) (id : ℕ) → IsPlaced t.nodes made node id → KeepsTerms t (record t { nodes = made })
 made_keeps t made node id p =
     let P : List TermNode → Type 0 = λ ns. KeepsTerms t (record t { nodes = ns }) in
-    subst P (sym p.longer) (front-kept t p.rest)
+    subst P (sym p.longer) (prefix-kept t p.rest)
 
 made_stands : (nodes made : List TermNode) (node : TermNode) (id : ℕ) → IsPlaced nodes made node id → id < length made
 made_stands nodes made node id p = omega (arith, p.place, ap length p.split, length-append p.before (node ∷ p.after))

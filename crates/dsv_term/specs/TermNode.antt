@@ -1,13 +1,18 @@
 -- Terms as a list of nodes: which are lawful, how wide they are, and the words that they stand for.
-use Rattle.std.specs.Prelude.{◌≡◌, ℕ, ◌+◌, ◌-◌, ◌^◌, ◌<◌, ◌≤◌, List, [], ◌∷◌, ◌++◌, length, map, slice_index, slice_index_or}
+use Rattle.std.specs.Prelude.{◌≡◌, ℕ, ◌+◌, ◌-◌, ◌^◌, ◌<◌, ◌≤◌, List, []}
+use Rattle.std.specs.Prelude.{◌∷◌, ◌++◌, length, map, slice_index, slice_index_or}
 use Rattle.dsv_term.specs.declared.node.TheConstants.{MAX_WIDTH}
 use Rattle.dsv_term.specs.declared.node.TermId.{TermId}
 use Rattle.dsv_term.specs.declared.node.TermNode.{TermNode}
-use Rattle.dsv_term.specs.declared.node.TermNode.TheVariants.{Input, Constant, Add, Sub, Slt, Sle, Ult, Eq, And, Or, Concat, Neg, Not, MulConst, Sext, Extract, Ite}
+use Rattle.dsv_term.specs.declared.node.TermNode.TheVariants.{Input, Constant, Add, Sub, Slt}
+use Rattle.dsv_term.specs.declared.node.TermNode.TheVariants.{Sle, Ult, Eq, And, Or, Concat, Neg}
+use Rattle.dsv_term.specs.declared.node.TermNode.TheVariants.{Not, MulConst, Sext, Extract, Ite}
 use Rattle.dsv_term.specs.declared.word.Word.{Word}
-use Rattle.dsv_term.specs.Word.{IsWidth, sum_of, difference_of, negation_of, product_of, signed_less_of, signed_at_most_of, less_of, same_of, and_of, or_of, complement_of, joined_of, extended_of, extract_of, choice_of}
+use Rattle.dsv_term.specs.Word.{IsWidth, sum_of, difference_of, negation_of, product_of}
+use Rattle.dsv_term.specs.Word.{signed_less_of, signed_at_most_of, less_of, same_of, and_of, or_of}
+use Rattle.dsv_term.specs.Word.{complement_of, joined_of, extended_of, extract_of, choice_of}
 
--- the entries of all nodes, behind those of earlier nodes: each is made of the ones before it
+-- the entries of all nodes, after those of earlier nodes: each is made of the ones before it
 abbrev pub entries_from : {X : Type 0} → (List X → TermNode → X) → List TermNode → List X → List X
 entries_from entry [] xs = xs
 entries_from entry (n ∷ ns) xs = entries_from entry ns (xs ++ entry xs n ∷ [])
@@ -19,9 +24,11 @@ word_at ws id = slice_index_or ws id.0 (record { width = 0; number = 0 })
 abbrev pub word_widths : List Word → List ℕ
 word_widths ws = map (λ (w : Word). w.width) ws
 
--- what a node stands for, where the inputs have these widths and values and the earlier nodes stand for these words
+-- what a node stands for, where the inputs have these widths and values and the earlier nodes stand
+-- for these words
 abbrev pub node_word : List ℕ → List ℕ → List Word → TermNode → Word
-node_word inputs values ws (Input k) = record { width = slice_index inputs k; number = slice_index values k }
+node_word inputs values ws (Input k) =
+    record { width = slice_index inputs k; number = slice_index values k }
 node_word inputs values ws (Constant width value) = record { width = width; number = value }
 node_word inputs values ws (Add a b) = sum_of (word_at ws a) (word_at ws b)
 node_word inputs values ws (Sub a b) = difference_of (word_at ws a) (word_at ws b)
@@ -39,7 +46,7 @@ node_word inputs values ws (Sext a width) = extended_of width (word_at ws a)
 node_word inputs values ws (Extract a high low) = extract_of high low (word_at ws a)
 node_word inputs values ws (Ite c a b) = choice_of (word_at ws c) (word_at ws a) (word_at ws b)
 
--- the words of these nodes, behind those of earlier ones
+-- the words of these nodes, after those of earlier ones
 abbrev pub words_from : List ℕ → List ℕ → List TermNode → List Word → List Word
 words_from inputs values nodes ws = entries_from (node_word inputs values) nodes ws
 
@@ -63,7 +70,7 @@ node_width inputs ws (Sext a width) = width
 node_width inputs ws (Extract a high low) = high + 1 - low
 node_width inputs ws (Ite c a b) = slice_index ws a.0
 
--- the widths of these nodes, behind those of earlier ones
+-- the widths of these nodes, after those of earlier ones
 abbrev pub widths_from : List ℕ → List TermNode → List ℕ → List ℕ
 widths_from inputs nodes ws = entries_from (node_width inputs) nodes ws
 
@@ -122,7 +129,8 @@ IsLawful inputs ws (Sext a width) = IsExtension ws a width
 IsLawful inputs ws (Extract a high low) = IsExtract ws a high low
 IsLawful inputs ws (Ite c a b) = IsChoice ws c a b
 
--- All nodes are lawful, behind earlier ones of these widths.
+-- All nodes are lawful, after earlier ones of these widths.
 abbrev pub AreLawful : List ℕ → List TermNode → List ℕ → Type 0
 AreLawful inputs [] ws = Unit {0}
-AreLawful inputs (n ∷ ns) ws = IsLawful inputs ws n × AreLawful inputs ns (ws ++ node_width inputs ws n ∷ [])
+AreLawful inputs (n ∷ ns) ws = IsLawful inputs ws n
+    × AreLawful inputs ns (ws ++ node_width inputs ws n ∷ [])

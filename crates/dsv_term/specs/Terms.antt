@@ -1,5 +1,6 @@
 -- What contracts say of terms.
-use Rattle.std.specs.Prelude.{◌≡◌, ◌≢◌, ℕ, ◌^◌, ◌<◌, List, [], ◌∷◌, ◌++◌, length, slice_index, slice_get, All, AllPairs}
+use Rattle.std.specs.Prelude.{◌≡◌, ◌≢◌, ℕ, ◌^◌, ◌<◌, List, [], ◌∷◌, ◌++◌}
+use Rattle.std.specs.Prelude.{length, slice_index, slice_get, All, AllPairs}
 use Rattle.dsv_term.specs.declared.node.TermId.{TermId}
 use Rattle.dsv_term.specs.declared.node.TermNode.{TermNode}
 use Rattle.dsv_term.specs.declared.node.TermNode.TheVariants.{Input}
@@ -38,9 +39,11 @@ pub record AreValues (inputs values : List ℕ) : Type 0 where
 -- Earlier terms keep their nodes, widths and words.
 pub record KeepsTerms (old new : TermsView) : Type 0 where
   pub longer : (id : TermId) → id.0 < length old.nodes → id.0 < length new.nodes
-  pub nodes : (id : TermId) → id.0 < length old.nodes → slice_get new.nodes id.0 ≡ slice_get old.nodes id.0
+  pub nodes : (id : TermId) → id.0 < length old.nodes
+      → slice_get new.nodes id.0 ≡ slice_get old.nodes id.0
   pub widths : (id : TermId) → id.0 < length old.nodes → width_of new id ≡ width_of old id
-  pub words : (values : List ℕ) (id : TermId) → id.0 < length old.nodes → word_of new values id ≡ word_of old values id
+  pub words : (values : List ℕ) (id : TermId) → id.0 < length old.nodes
+      → word_of new values id ≡ word_of old values id
 
 -- The node stands at this number now: where it stood it is found there, and else it was put last.
 pub record Makes (old new : TermsView) (node : TermNode) (made : TermId) : Type 0 where
@@ -50,9 +53,12 @@ pub record Makes (old new : TermsView) (node : TermNode) (made : TermId) : Type 
   pub width : width_of new made ≡ node_width old.inputs (widths_of old) node
   pub kept : KeepsTerms old new
 
--- One more input of this width, and its term, stand behind the earlier ones.
+-- One more input of this width, and its term, stand after the earlier ones.
 pub record MakesInput (old new : TermsView) (bits : ℕ) (made : TermId) : Type 0 where
-  pub terms : new ≡ record { inputs = old.inputs ++ bits ∷ []; nodes = old.nodes ++ Input (length old.inputs) ∷ [] }
+  pub terms : new ≡ record {
+    inputs = old.inputs ++ bits ∷ [];
+    nodes = old.nodes ++ Input (length old.inputs) ∷ [];
+  }
   pub id : made.0 ≡ length old.nodes
   pub width : width_of new made ≡ bits
   pub kept : KeepsTerms old new

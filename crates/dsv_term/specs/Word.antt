@@ -1,5 +1,8 @@
--- What the functions of SMT-LIB's theory FixedSizeBitVectors and its logic QF_BV make of words, in whole numbers.
-use Rattle.std.specs.Prelude.{ℕ, ◌+◌, ◌-◌, ◌*◌, ◌/◌, ◌%◌, ◌^◌, ◌<◌, ◌≤◌, ◌==◌, nat_lt, Bool, if◌then◌else◌, ℤ, pos, negsuc, neg_ℤ, ◌-ℤ◌, ◌*ℤ◌, int_lt, int_le, unsigned_abs, bit_and, bit_or}
+-- What the functions of SMT-LIB's theory FixedSizeBitVectors and its logic QF_BV make of words, in
+-- whole numbers.
+use Rattle.std.specs.Prelude.{ℕ, ◌+◌, ◌-◌, ◌*◌, ◌/◌, ◌%◌, ◌^◌, ◌<◌, ◌≤◌}
+use Rattle.std.specs.Prelude.{◌==◌, nat_lt, Bool, if◌then◌else◌, ℤ, pos, negsuc, neg_ℤ}
+use Rattle.std.specs.Prelude.{◌-ℤ◌, ◌*ℤ◌, int_lt, int_le, unsigned_abs, bit_and, bit_or}
 use Rattle.std.specs.Int.{int_rem_euclid}
 use Rattle.dsv_term.specs.declared.node.TheConstants.{MAX_WIDTH}
 use Rattle.dsv_term.specs.declared.word.Word.{Word}
@@ -20,7 +23,8 @@ residue width z = unsigned_abs (int_rem_euclid z (pos (2 ^ width)))
 
 -- the number in two's complement
 abbrev pub signed_of : Word → ℤ
-signed_of a = if nat_lt a.number (2 ^ (a.width - 1)) then pos a.number else negsuc (2 ^ a.width - 1 - a.number)
+signed_of a = if nat_lt a.number (2 ^ (a.width - 1)) then pos a.number
+    else negsuc (2 ^ a.width - 1 - a.number)
 
 -- one bit that says a truth
 abbrev pub bit_of : Bool → Word
@@ -32,7 +36,10 @@ sum_of a b = record { width = a.width; number = (a.number + b.number) % 2 ^ a.wi
 
 -- bvsub
 abbrev pub difference_of : Word → Word → Word
-difference_of a b = record { width = a.width; number = residue a.width (pos a.number -ℤ pos b.number) }
+difference_of a b = record {
+  width = a.width;
+  number = residue a.width (pos a.number -ℤ pos b.number);
+}
 
 -- bvneg
 abbrev pub negation_of : Word → Word
@@ -80,7 +87,10 @@ extended_of width a = record { width = width; number = residue width (signed_of 
 
 -- extract from the bit `high` down to the bit `low`
 abbrev pub extract_of : ℕ → ℕ → Word → Word
-extract_of high low a = record { width = high + 1 - low; number = a.number / 2 ^ low % 2 ^ (high + 1 - low) }
+extract_of high low a = record {
+  width = high + 1 - low;
+  number = a.number / 2 ^ low % 2 ^ (high + 1 - low);
+}
 
 -- ite
 abbrev pub choice_of : Word → Word → Word → Word

@@ -1,6 +1,8 @@
 // The values of terms.
-ghost use Rattle.std.specs.Prelude.{◌≡◌, ◌↔◌, ◌<◌, ◌≤◌, ◌^◌, ℕ, [], length, slice_index, vec_capacity, All, IsTrue, IfOk};
-ghost use Rattle.dsv_term.specs.TermNode.{IsLawful, AreLawful, word_at, word_widths, node_word, words_from};
+ghost use Rattle.std.specs.Prelude.{◌≡◌, ◌↔◌, ◌<◌, ◌≤◌, ◌^◌, ℕ, [], length};
+ghost use Rattle.std.specs.Prelude.{slice_index, vec_capacity, All, IsTrue, IfOk};
+ghost use Rattle.dsv_term.specs.TermNode.{IsLawful, AreLawful, word_at};
+ghost use Rattle.dsv_term.specs.TermNode.{word_widths, node_word, words_from};
 ghost use Rattle.dsv_term.specs.Terms.{AreValues, word_of, width_of};
 ghost use Rattle.dsv_term.specs.Word.{IsWidth, IsWord};
 
@@ -59,11 +61,11 @@ fn node_word(node: TermNode, inputs: &[u32], values: &[u128], words: &[Word]) ->
         TermNode::Eq(a, b) => word_at(words, a).same(word_at(words, b)),
         TermNode::And(a, b) => word_at(words, a).and(word_at(words, b)),
         TermNode::Or(a, b) => word_at(words, a).or(word_at(words, b)),
-        TermNode::Concat(a, b) => word_at(words, a).joined(word_at(words, b)),
+        TermNode::Concat(a, b) => word_at(words, a).concatenation(word_at(words, b)),
         TermNode::Neg(a) => word_at(words, a).negation(),
         TermNode::Not(a) => word_at(words, a).complement(),
         TermNode::MulConst { of, coeff } => word_at(words, of).product(coeff),
-        TermNode::Sext { of, width } => word_at(words, of).extended(width),
+        TermNode::Sext { of, width } => word_at(words, of).sign_extension(width),
         TermNode::Extract { of, high, low } => word_at(words, of).extract(high, low),
         TermNode::Ite(c, a, b) => word_at(words, c).choice(word_at(words, a), word_at(words, b)),
     }
@@ -111,7 +113,8 @@ impl Terms {
         true
     }
 
-    /// The value of a term where the inputs have these values: a number below 2 to its width. It takes no memory.
+    /// The value of a term where the inputs have these values: a number below 2 to its width. It
+    /// takes no memory.
     pub fn eval(&self, id: TermId, inputs: &[u128], scratch: &mut Scratch) -> u128
         requires stands { id.0 < length self.now.nodes }
         requires values { AreValues self.now.inputs inputs.now }

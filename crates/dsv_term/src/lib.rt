@@ -1,4 +1,5 @@
-//! Bit-vector terms that share what is equal, with the meaning of SMT-LIB's theory FixedSizeBitVectors.
+//! Bit-vector terms that share what is equal, with the meaning of SMT-LIB's theory
+//! FixedSizeBitVectors.
 #![tactic(auto)]
 
 mod eval;

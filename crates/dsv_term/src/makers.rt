@@ -1,8 +1,11 @@
 // The makers of terms. Each answers the term that stands already where there is one.
-ghost use Rattle.std.specs.Prelude.{◌≡◌, ℕ, ◌+◌, ◌^◌, ◌<◌, ◌≤◌, List, [], ◌∷◌, ◌++◌, length, slice_index, OnOk, OnErr, IfOk};
+ghost use Rattle.std.specs.Prelude.{◌≡◌, ℕ, ◌+◌, ◌^◌, ◌<◌, ◌≤◌, List, []};
+ghost use Rattle.std.specs.Prelude.{◌∷◌, ◌++◌, length, slice_index, OnOk, OnErr, IfOk};
 ghost use Rattle.dsv_term.specs.Terms.{Makes, KeepsTerms, width_of, word_of};
-ghost use Rattle.dsv_term.specs.Word.{IsWidth, sum_of, difference_of, negation_of, product_of, and_of, or_of, complement_of};
-ghost use Rattle.dsv_term.specs.Word.{signed_less_of, signed_at_most_of, less_of, same_of, joined_of, extended_of, extract_of, choice_of};
+ghost use Rattle.dsv_term.specs.Word.{IsWidth, sum_of, difference_of, negation_of};
+ghost use Rattle.dsv_term.specs.Word.{product_of, and_of, or_of, complement_of};
+ghost use Rattle.dsv_term.specs.Word.{signed_less_of, signed_at_most_of, less_of, same_of};
+ghost use Rattle.dsv_term.specs.Word.{joined_of, extended_of, extract_of, choice_of};
 
 use crate::node::{MAX_WIDTH, TermId, TermNode};
 use crate::terms::Terms;
@@ -13,7 +16,8 @@ impl Terms {
     pub fn constant(&mut self, width: u32, value: u128) -> Result<TermId, NoMemory>
         requires width { IsWidth width }
         requires fits { value < 2 ^ width }
-        ensures made { IfOk result (λ id. Makes self.old self.new (TermNode.Constant width value) id) }
+        ensures made { IfOk result
+            (λ id. Makes self.old self.new (TermNode.Constant width value) id) }
         ensures value { IfOk result (λ id. (values : List ℕ) →
             word_of self.new values id
             ≡ record { width = width; number = value }) }
@@ -216,7 +220,8 @@ impl Terms {
         requires stands { a.0 < length self.old.nodes }
         requires order { low ≤ high }
         requires inside { high < width_of self.old a }
-        ensures made { IfOk result (λ id. Makes self.old self.new (TermNode.Extract a high low) id) }
+        ensures made { IfOk result
+            (λ id. Makes self.old self.new (TermNode.Extract a high low) id) }
         ensures value { IfOk result (λ id. (values : List ℕ) →
             word_of self.new values id
             ≡ extract_of high low (word_of self.old values a)) }
@@ -237,7 +242,8 @@ impl Terms {
         ensures made { IfOk result (λ id. Makes self.old self.new (TermNode.Ite c a b) id) }
         ensures value { IfOk result (λ id. (values : List ℕ) →
             word_of self.new values id
-            ≡ choice_of (word_of self.old values c) (word_of self.old values a) (word_of self.old values b)) }
+            ≡ choice_of (word_of self.old values c) (word_of self.old values a)
+            (word_of self.old values b)) }
         ensures err { OnErr result (self.new ≡ self.old) }
     {
         let width = self.width(a);

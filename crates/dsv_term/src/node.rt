@@ -7,8 +7,8 @@ pub const MAX_WIDTH: u32 = 80;
 #[derive(Clone, Copy, Debug, PartialEq, Eq, Hash)]
 pub struct TermId(pub u32);
 
-/// A term over earlier terms. The names are those of SMT-LIB's functions on bit vectors, without their `bv`.
-/// A comparison has one bit, which is 1 where it holds.
+/// A term over earlier terms. The names are those of SMT-LIB's functions on bit vectors, without
+/// their `bv`. A comparison has one bit, which is 1 where it holds.
 #[derive(Clone, Copy, Debug, PartialEq, Eq, Hash)]
 pub enum TermNode {
     /// The input of this number.

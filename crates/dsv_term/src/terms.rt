@@ -29,11 +29,13 @@ impl Model for Terms {
 }
 
 impl Terms {
-    ghost use Rattle.std.specs.Prelude.{◌≡◌, ◌<◌, ◌↔◌, List, ℕ, [], length, slice_index, slice_get, Some, All, OnErr, IfOk, IsTrue};
+    ghost use Rattle.std.specs.Prelude.{◌≡◌, ◌<◌, ◌↔◌, List, ℕ, [], length, slice_index};
+    ghost use Rattle.std.specs.Prelude.{slice_get, Some, All, OnErr, IfOk, IsTrue};
     ghost use Rattle.dsv_term.specs.Making.{made_id};
     ghost use Rattle.dsv_term.specs.Word.{IsWidth};
     ghost use Rattle.dsv_term.specs.TermNode.{IsLawful, node_width, node_word};
-    ghost use Rattle.dsv_term.specs.Terms.{AreTerms, Makes, MakesInput, widths_of, width_of, words_of, word_of};
+    ghost use Rattle.dsv_term.specs.Terms.{AreTerms, Makes, MakesInput, widths_of};
+    ghost use Rattle.dsv_term.specs.Terms.{width_of, words_of, word_of};
 
     /// No terms.
     pub fn new(alloc: Global) -> Terms

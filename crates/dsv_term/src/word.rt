@@ -39,8 +39,10 @@ fn bit(truth: bool) -> Word
 
 // The names of SMT-LIB's functions stand in the definitions that the clauses cite.
 impl Word {
-    ghost use Rattle.dsv_term.specs.Word.{sum_of, difference_of, negation_of, product_of, and_of, or_of, complement_of};
-    ghost use Rattle.dsv_term.specs.Word.{signed_of, signed_less_of, signed_at_most_of, less_of, same_of, choice_of};
+    ghost use Rattle.dsv_term.specs.Word.{sum_of, difference_of, negation_of};
+    ghost use Rattle.dsv_term.specs.Word.{product_of, and_of, or_of, complement_of};
+    ghost use Rattle.dsv_term.specs.Word.{signed_of, signed_less_of, signed_at_most_of};
+    ghost use Rattle.dsv_term.specs.Word.{less_of, same_of, choice_of};
     ghost use Rattle.dsv_term.specs.Word.{IsWidth, IsWord, joined_of, extended_of, extract_of};
 
     /// The sum, modulo 2 to the width.
@@ -91,7 +93,7 @@ impl Word {
     }
 
     /// The number in two's complement.
-    pub fn signed(self) -> i128
+    pub fn signed_value(self) -> i128
         requires { IsWord self }
         ensures { result ≡ signed_of self }
     {
@@ -109,7 +111,7 @@ impl Word {
         requires second { IsWord other }
         ensures { result ≡ signed_less_of self other }
     {
-        bit(self.signed() < other.signed())
+        bit(self.signed_value() < other.signed_value())
     }
 
     /// Whether the number is at most the other, in two's complement.
@@ -118,7 +120,7 @@ impl Word {
         requires second { IsWord other }
         ensures { result ≡ signed_at_most_of self other }
     {
-        bit(self.signed() <= other.signed())
+        bit(self.signed_value() <= other.signed_value())
     }
 
     /// Whether the number is less, without signs.
@@ -167,7 +169,7 @@ impl Word {
     }
 
     /// The bits above those of another word.
-    pub fn joined(self, other: Word) -> Word
+    pub fn concatenation(self, other: Word) -> Word
         requires first { IsWord self }
         requires second { IsWord other }
         requires narrow { self.width + other.width ≤ MAX_WIDTH }
@@ -180,14 +182,14 @@ impl Word {
     }
 
     /// The same number in two's complement, in so many bits.
-    pub fn extended(self, width: u32) -> Word
+    pub fn sign_extension(self, width: u32) -> Word
         requires word { IsWord self }
         requires width { IsWidth width }
         ensures { result ≡ extended_of width self }
     {
         Word {
             width,
-            number: low(self.signed().cast_unsigned(), width),
+            number: low(self.signed_value().cast_unsigned(), width),
         }
     }
 

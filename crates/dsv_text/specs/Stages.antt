@@ -1,7 +1,7 @@
--- Stages that may refuse, one behind another: the first refusal is the answer.
+-- Stages that may refuse, one after another: the first refusal is the answer.
 use Rattle.std.specs.Prelude.{Result, Ok, Err}
 
--- the first stage, and behind what it gives the second
+-- the first stage, and after what it gives the second
 abbrev pub and_then : {A B E : Type 0} → Result A E → (A → Result B E) → Result B E
 and_then (Ok x) f = f x
 and_then (Err e) f = Err e

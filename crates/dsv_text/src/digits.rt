@@ -1,6 +1,7 @@
 // Digits and the numbers that they spell.
 ghost use Rattle.std.specs.Prelude.{◌≡◌, ◌<◌, ◌≤◌, ◌^◌, length};
-ghost use Rattle.dsv_text.specs.Digits.{digits_len, front_digits, is_digits, digits_value, short_number};
+ghost use Rattle.dsv_text.specs.Digits.{digits_len, leading_digits, is_digits};
+ghost use Rattle.dsv_text.specs.Digits.{digits_value, short_number, value_at_most};
 
 use crate::bytes::is_digit;
 
@@ -20,8 +21,8 @@ pub fn digits_len(text: &[u8]) -> usize
 }
 
 /// The digits at the front of the text.
-pub fn front_digits(text: &[u8]) -> &[u8]
-    ensures { result.now ≡ front_digits text.now }
+pub fn leading_digits(text: &[u8]) -> &[u8]
+    ensures { result.now ≡ leading_digits text.now }
 {
     &text[..digits_len(text)]
 }
@@ -33,7 +34,7 @@ pub fn is_digits(text: &[u8]) -> bool
     !text.is_empty() && digits_len(text) == text.len()
 }
 
-/// The number that digits spell behind `start`.
+/// The number that digits spell after `start`.
 #[tactic(auto, using(crate::proofs::DigitLemmas::value_grows))]
 pub fn digits_value(start: u64, digits: &[u8]) -> u64
     requires { digits_value start digits.now < 2 ^ 64 }
@@ -57,4 +58,20 @@ pub fn short_number(most: usize, text: &[u8]) -> Option<u64>
     } else {
         None
     }
+}
+
+/// The number that digits spell, where it is at most `limit`.
+#[tactic(auto, using(crate::proofs::DigitLemmas::value_grows))]
+pub fn value_at_most(limit: u64, digits: &[u8]) -> Option<u64>
+    requires { limit < 2 ^ 60 }
+    ensures { result ≡ value_at_most limit digits.now }
+{
+    let mut value = 0;
+    for byte in digits {
+        value = value * 10 + u64::from(byte.saturating_sub(b'0'));
+        if value > limit {
+            return None;
+        }
+    }
+    Some(value)
 }

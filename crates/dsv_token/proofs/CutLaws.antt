@@ -8,11 +8,11 @@ use Rattle.dsv_token.specs.declared.token.TokenKind.{TokenKind}
 use Rattle.dsv_token.specs.declared.token.Token.{Token}
 use Rattle.dsv_token.specs.declared.lexemes.Lexeme.{Lexeme}
 use Rattle.dsv_token.specs.declared.lexemes.Lexeme.TheVariants as lexeme
-use Rattle.dsv_token.specs.Lexing.{piece_of, by_piece, lexed, tokens_of}
+use Rattle.dsv_token.specs.Lexing.{piece_of, by_piece, tokens_from, tokens_of}
 use Rattle.dsv_token.specs.Pieces.{IsGap, IsToken, IsCut, IsStuck, StopsAt}
-use Rattle.dsv_token.proofs.Skips.{front_gap, front_found}
+use Rattle.dsv_token.proofs.Skips.{prefix_gap, prefix_found}
 use Rattle.dsv_token.proofs.PieceLaws.{gap_again, token_again}
-use Rattle.dsv_token.proofs.FrontLaws.{Stands, front_stands}
+use Rattle.dsv_token.proofs.FrontLaws.{Stands, prefix_stands}
 
 -- ---- what is cut is read
 
@@ -29,23 +29,23 @@ token_some k token rest (IsToken.name b bs r h all p) = omega arith
 token_some k token rest (IsToken.number t r some e h) = omega (arith, some)
 
 after_gap : (fresh next : Bool) (at : ℕ) (gap rest : List ℕ) (out : List Token) → IsGap fresh gap rest next →
-    lexed (gap ++ rest) at 0 fresh out ≡ lexed rest (at + length gap) 0 next out
+    tokens_from (gap ++ rest) at 0 fresh out ≡ tokens_from rest (at + length gap) 0 next out
 after_gap fresh next at gap rest out g =
     let some : 1 ≤ length gap = gap_some fresh next gap rest g in
     let n : length (gap ++ rest) ≡ length gap + length rest = length-append gap rest in
-    sym (front_gap (gap ++ rest) at (length gap) fresh next out (omega (arith, some, n)) some (gap_again fresh next gap rest g))
-    ∙ ap (λ t. lexed t (at + length gap) 0 next out) (drop-append_seam gap rest)
+    sym (prefix_gap (gap ++ rest) at (length gap) fresh next out (omega (arith, some, n)) some (gap_again fresh next gap rest g))
+    ∙ ap (λ t. tokens_from t (at + length gap) 0 next out) (drop-append_seam gap rest)
 
 after_token : (fresh : Bool) (at : ℕ) (k : TokenKind) (token rest : List ℕ) (out : List Token) → IsToken k token rest →
-    lexed (token ++ rest) at 0 fresh out ≡ lexed rest (at + length token) 0 false (out ++ record { kind = k; at = at; len = length token } ∷ [])
+    tokens_from (token ++ rest) at 0 fresh out ≡ tokens_from rest (at + length token) 0 false (out ++ record { kind = k; at = at; len = length token } ∷ [])
 after_token fresh at k token rest out g =
     let some : 1 ≤ length token = token_some k token rest g in
     let n : length (token ++ rest) ≡ length token + length rest = length-append token rest in
     let new : List Token = out ++ record { kind = k; at = at; len = length token } ∷ [] in
-    sym (front_found (token ++ rest) at (length token) fresh k out (omega (arith, some, n)) some (token_again fresh k token rest g))
-    ∙ ap (λ t. lexed t (at + length token) 0 false new) (drop-append_seam token rest)
+    sym (prefix_found (token ++ rest) at (length token) fresh k out (omega (arith, some, n)) some (token_again fresh k token rest g))
+    ∙ ap (λ t. tokens_from t (at + length token) 0 false new) (drop-append_seam token rest)
 
-pub cut_again : (fresh : Bool) (at : ℕ) (text : List ℕ) (ts : List Token) → IsCut fresh at text ts → (out : List Token) → lexed text at 0 fresh out ≡ Ok (out ++ ts)
+pub cut_again : (fresh : Bool) (at : ℕ) (text : List ℕ) (ts : List Token) → IsCut fresh at text ts → (out : List Token) → tokens_from text at 0 fresh out ≡ Ok (out ++ ts)
 cut_again fresh at text ts (IsCut.none f a) out = rw (append-nil out) refl
 cut_again fresh at text ts (IsCut.gap f next a gap rest us g h) out =
     after_gap fresh next at gap rest out g ∙ cut_again next (at + length gap) rest ts h out
@@ -58,12 +58,12 @@ bad_where_stuck fresh text (lexeme.Gap len next) s h = absurd (h.no_gap s.gap s.
 bad_where_stuck fresh text (lexeme.Found k len) s h = absurd (h.no_token k s.token s.rest s.split s.is_token)
 bad_where_stuck fresh text lexeme.Bad s h = refl
 
-stuck_again : (fresh : Bool) (at : ℕ) (text : List ℕ) → IsStuck fresh text → (out : List Token) → lexed text at 0 fresh out ≡ Err (refusal.Token at)
+stuck_again : (fresh : Bool) (at : ℕ) (text : List ℕ) → IsStuck fresh text → (out : List Token) → tokens_from text at 0 fresh out ≡ Err (refusal.Token at)
 stuck_again fresh at [] h out = let some = h.some_byte in absurd (omega (arith, some))
 stuck_again fresh at (b ∷ bs) h out =
-    ap (by_piece at out (λ n f o. lexed bs (at + 1) (n - 1) f o)) (bad_where_stuck fresh (b ∷ bs) (piece_of fresh (b ∷ bs)) (front_stands fresh b bs) h)
+    ap (by_piece at out (λ n f o. tokens_from bs (at + 1) (n - 1) f o)) (bad_where_stuck fresh (b ∷ bs) (piece_of fresh (b ∷ bs)) (prefix_stands fresh b bs) h)
 
-pub stops_again : (fresh : Bool) (at : ℕ) (text : List ℕ) (place : ℕ) → StopsAt fresh at text place → (out : List Token) → lexed text at 0 fresh out ≡ Err (refusal.Token place)
+pub stops_again : (fresh : Bool) (at : ℕ) (text : List ℕ) (place : ℕ) → StopsAt fresh at text place → (out : List Token) → tokens_from text at 0 fresh out ≡ Err (refusal.Token place)
 stops_again fresh at text place (StopsAt.here f a t h) out = stuck_again fresh at text h out
 stops_again fresh at text place (StopsAt.gap f next a gap rest p g h) out =
     after_gap fresh next at gap rest out g ∙ stops_again next (at + length gap) rest place h out
@@ -130,16 +130,16 @@ said_piece fresh at b bs out next said (lexeme.Found k len) s e =
     subst (λ t. Said fresh at t out r) (sym s.split) (said_token fresh at k s.token s.rest out r s.is_token there)
 said_piece fresh at b bs out next said lexeme.Bad s e = (at, refl, StopsAt.here fresh at (b ∷ bs) (stuck_at fresh b bs e))
 
-pub said : (text : List ℕ) (at skip : ℕ) (fresh : Bool) (out : List Token) → Said fresh (at + skip) (drop skip text) out (lexed text at skip fresh out)
+pub said : (text : List ℕ) (at skip : ℕ) (fresh : Bool) (out : List Token) → Said fresh (at + skip) (drop skip text) out (tokens_from text at skip fresh out)
 said [] at zero fresh out = ([], sym (append-nil out), IsCut.none fresh (at + 0))
 said [] at (suc n) fresh out = ([], sym (append-nil out), IsCut.none fresh (at + suc n))
 said (b ∷ bs) at (suc n) fresh out =
     let e : at + 1 + n ≡ at + suc n = omega arith in
-    subst (λ k. Said fresh k (drop n bs) out (lexed bs (at + 1) n fresh out)) e (said bs (at + 1) n fresh out)
+    subst (λ k. Said fresh k (drop n bs) out (tokens_from bs (at + 1) n fresh out)) e (said bs (at + 1) n fresh out)
 said (b ∷ bs) at zero fresh out =
     let e : at ≡ at + 0 = omega arith in
-    subst (λ k. Said fresh k (b ∷ bs) out (lexed (b ∷ bs) at 0 fresh out)) e
-    (said_piece fresh at b bs out (λ n f o. lexed bs (at + 1) (n - 1) f o) (λ n f o. said bs (at + 1) (n - 1) f o) (piece_of fresh (b ∷ bs)) (front_stands fresh b bs) refl)
+    subst (λ k. Said fresh k (b ∷ bs) out (tokens_from (b ∷ bs) at 0 fresh out)) e
+    (said_piece fresh at b bs out (λ n f o. tokens_from bs (at + 1) (n - 1) f o) (λ n f o. said bs (at + 1) (n - 1) f o) (piece_of fresh (b ∷ bs)) (prefix_stands fresh b bs) refl)
 
 -- ---- the law
 

@@ -10,10 +10,11 @@ use Rattle.dsv_token.specs.declared.token.TokenKind.TheVariants as kind
 use Rattle.dsv_token.specs.declared.lexemes.Lexeme.{Lexeme}
 use Rattle.dsv_token.specs.declared.lexemes.Lexeme.TheVariants as lexeme
 use Rattle.dsv_token.specs.Names.{word_of}
-use Rattle.dsv_token.specs.Lexing.{is_name_byte, in_line, mark_of, mark_or, run_len, line_len, close_len, closed, comment_of, is_joined, number_of, name_of, piece_of}
+use Rattle.dsv_token.specs.Lexing.{is_name_byte, in_line, mark_of, mark_or, run_len, line_len, close_len, comment_gap, comment_of, is_joined, number_of, name_of, piece_of}
 use Rattle.dsv_token.specs.Pieces.{IsGap, IsToken}
 use Rattle.dsv_token.proofs.Runs.{either, run_all, run_ends, run_within, Closes, closes}
-use Rattle.dsv_token.proofs.Numbers.{number_within, point_number}
+use Rattle.dsv_fraction.proofs.NumberFronts.{number_within}
+use Rattle.dsv_token.proofs.Numbers.{point_number}
 
 -- a gap of this length is at the beginning
 pub record FrontGap (fresh : Bool) (text : List ℕ) (len : ℕ) (next : Bool) : Type 0 where
@@ -77,7 +78,7 @@ block_closes fresh bs n (Closes.later inside rest f g h) =
       is_gap = IsGap.block fresh inside rest f;
     }
 
-block_stands : (fresh : Bool) (bs : List ℕ) (o : Option ℕ) → close_len 2 false bs ≡ o → Stands fresh (47 ∷ 42 ∷ bs) (closed o)
+block_stands : (fresh : Bool) (bs : List ℕ) (o : Option ℕ) → close_len 2 false bs ≡ o → Stands fresh (47 ∷ 42 ∷ bs) (comment_gap o)
 block_stands fresh bs None e = tt
 block_stands fresh bs (Some n) e = block_closes fresh bs n (closes bs 2 false n e)
 
@@ -87,7 +88,7 @@ comment_stands fresh (b ∷ bs) =
     let P : Lexeme → Type 0 = λ p. Stands fresh (47 ∷ b ∷ bs) p in
     cond_both (b == 47) (lexeme.Gap (1 + line_len (b ∷ bs)) false) _ P
     (λ e. let f : b ≡ 47 = eqb-true b 47 e in rw f (line_stands fresh bs))
-    (λ e. cond_both (b == 42) (closed (close_len 2 false bs)) lexeme.Bad P
+    (λ e. cond_both (b == 42) (comment_gap (close_len 2 false bs)) lexeme.Bad P
     (λ e. let f : b ≡ 42 = eqb-true b 42 e in rw f (block_stands fresh bs (close_len 2 false bs) refl))
     (λ e. tt))
 
@@ -148,8 +149,8 @@ mark_stands fresh b bs (Some k) e =
     record { token = b ∷ []; rest = bs; split = refl; count = refl; some_byte = omega arith; is_token = IsToken.mark k b bs e }
 
 -- the piece at the beginning stands there
-pub front_stands : (fresh : Bool) (b : ℕ) (bs : List ℕ) → Stands fresh (b ∷ bs) (piece_of fresh (b ∷ bs))
-front_stands fresh b bs =
+pub prefix_stands : (fresh : Bool) (b : ℕ) (bs : List ℕ) → Stands fresh (b ∷ bs) (piece_of fresh (b ∷ bs))
+prefix_stands fresh b bs =
     let P : Lexeme → Type 0 = λ p. Stands fresh (b ∷ bs) p in
     cond_both (is_blank b) (lexeme.Gap 1 (fresh || b == 10)) _ P
     (λ e. record { gap = b ∷ []; rest = bs; split = refl; count = refl; some_byte = omega arith; is_gap = IsGap.blank fresh b bs e })

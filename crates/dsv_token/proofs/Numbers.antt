@@ -1,77 +1,11 @@
--- The bytes that a number begins with, and how many it has.
-use Rattle.std.proofs.Common.{◌≡◌, ℕ, suc, ◌+◌, ◌-◌, ◌<◌, ◌≤◌, Bool, true, false, not, ◌&&◌, ◌||◌, ◌==◌, nat_le, cond, inl, inr, List, [], ◌∷◌, length, drop, refl, ap, ◌∙◌, arith, length-drop}
+-- The bytes that a number begins with.
+use Rattle.std.proofs.Common.{◌≡◌, ℕ, suc, ◌+◌, ◌<◌, ◌≤◌, Bool, true, false, ◌&&◌, ◌||◌, ◌==◌, nat_le, cond, inl, inr, List, [], ◌∷◌, drop, refl, ap, ◌∙◌, arith}
 use Rattle.std.proofs.lemmas.Bool.{cond_both, cases_Bool, both_ways, and_parts, or_cases, ne_eqb, eqb-true, leb-true}
 use Rattle.dsv_text.specs.Bytes.{is_digit, is_letter}
 use Rattle.dsv_text.specs.Digits.{digits_len}
-use Rattle.dsv_fraction.specs.Number.{sign_len, point_len, suffix_len, whole_len, has_mark, exponent_len, number_len}
+use Rattle.dsv_fraction.specs.Number.{sign_len, point_len, suffix_len, whole_len, exponent_len, number_len}
 use Rattle.dsv_token.specs.Pieces.{BeginsOther}
 use Rattle.dsv_token.proofs.Runs.{either}
-
--- ---- no part is longer than its text
-
-digits_within : (text : List ℕ) → digits_len text ≤ length text
-digits_within [] = omega arith
-digits_within (b ∷ bs) =
-    let i : digits_len bs ≤ length bs = digits_within bs in
-    either (is_digit b) (suc (digits_len bs)) 0 (λ n. n ≤ suc (length bs)) (λ e. omega (arith, i)) (λ e. omega arith)
-
--- one or none: at most as many as there are where the empty text has none
-one_within : (test : Bool) (text : List ℕ) → (test ≡ true → 1 ≤ length text) → cond test 1 0 ≤ length text
-one_within true text h = h refl
-one_within false text h = omega arith
-
-sign_within : (text : List ℕ) → sign_len text ≤ length text
-sign_within [] = omega arith
-sign_within (b ∷ bs) = one_within (b == 43 || b == 45) (b ∷ bs) (λ e. omega arith)
-
-point_within : (text : List ℕ) → point_len text ≤ length text
-point_within [] = omega arith
-point_within (b ∷ bs) = one_within (b == 46) (b ∷ bs) (λ e. omega arith)
-
-suffix_within : (text : List ℕ) → suffix_len text ≤ length text
-suffix_within [] = omega arith
-suffix_within (b ∷ bs) = one_within (b == 102 || b == 70 || b == 108 || b == 76) (b ∷ bs) (λ e. omega arith)
-
-whole_within : (text : List ℕ) → whole_len text ≤ length text
-whole_within text =
-    let n = digits_len text in
-    let p = point_len (drop n text) in
-    let m = digits_len (drop (n + p) text) in
-    let hn : n ≤ length text = digits_within text in
-    let hp : p ≤ length (drop n text) = point_within (drop n text) in
-    let hm : m ≤ length (drop (n + p) text) = digits_within (drop (n + p) text) in
-    let d : length (drop n text) ≡ length text - n = length-drop n text in
-    let e : length (drop (n + p) text) ≡ length text - (n + p) = length-drop (n + p) text in
-    let k = cond (p == 0) 0 m in
-    let hk : k ≤ m = cond_both (p == 0) 0 m (λ x. x ≤ m) (λ h. omega arith) (λ h. omega arith) in
-    cond_both (n + k == 0) 0 (n + p + k) (λ x. x ≤ length text) (λ h. omega arith) (λ h. omega (arith, hn, hp, hm, d, e, hk))
-
-exponent_within : (text : List ℕ) → exponent_len text ≤ length text
-exponent_within [] = omega arith
-exponent_within (b ∷ bs) =
-    let text : List ℕ = b ∷ bs in
-    let s = sign_len (drop 1 text) in
-    let n = digits_len (drop (1 + s) text) in
-    let hs : s ≤ length (drop 1 text) = sign_within (drop 1 text) in
-    let hn : n ≤ length (drop (1 + s) text) = digits_within (drop (1 + s) text) in
-    let d : length (drop 1 text) ≡ length text - 1 = length-drop 1 text in
-    let e : length (drop (1 + s) text) ≡ length text - (1 + s) = length-drop (1 + s) text in
-    cond_both (has_mark text && not (n == 0)) (1 + s + n) 0 (λ x. x ≤ length text) (λ h. omega (arith, hs, hn, d, e)) (λ h. omega arith)
-
-pub number_within : (text : List ℕ) → number_len text ≤ length text
-number_within text =
-    let s = sign_len text in
-    let n = whole_len (drop s text) in
-    let e = exponent_len (drop (s + n) text) in
-    let f = suffix_len (drop (s + n + e) text) in
-    let hs : s ≤ length text = sign_within text in
-    let hn : n ≤ length (drop s text) = whole_within (drop s text) in
-    let he : e ≤ length (drop (s + n) text) = exponent_within (drop (s + n) text) in
-    let hf : f ≤ length (drop (s + n + e) text) = suffix_within (drop (s + n + e) text) in
-    let ds : length (drop s text) ≡ length text - s = length-drop s text in
-    let dn : length (drop (s + n) text) ≡ length text - (s + n) = length-drop (s + n) text in
-    let de : length (drop (s + n + e) text) ≡ length text - (s + n + e) = length-drop (s + n + e) text in
-    cond_both (n == 0) 0 (s + n + e + f) (λ x. x ≤ length text) (λ h. omega arith) (λ h. omega (arith, hs, hn, he, hf, ds, dn, de))
 
 -- ---- the first byte
 

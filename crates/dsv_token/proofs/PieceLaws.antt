@@ -10,7 +10,7 @@ use Rattle.dsv_token.specs.declared.token.TokenKind.TheVariants as kind
 use Rattle.dsv_token.specs.declared.lexemes.Lexeme.TheVariants as lexeme
 use Rattle.dsv_token.specs.Names.{word_of}
 use Rattle.dsv_text.specs.Bytes.{is_blank, is_letter}
-use Rattle.dsv_token.specs.Lexing.{is_name_byte, in_line, mark_of, name_len, closed, is_joined, number_of, name_of, piece_of}
+use Rattle.dsv_token.specs.Lexing.{is_name_byte, in_line, mark_of, name_len, comment_gap, is_joined, number_of, name_of, piece_of}
 use Rattle.dsv_token.specs.Pieces.{IsGap, IsToken}
 use Rattle.dsv_token.proofs.Runs.{run_again, close_again}
 use Rattle.dsv_token.proofs.Numbers.{point_alone, apart, letter_no_number, no_start}
@@ -26,7 +26,7 @@ gap_again fresh next gap rest (IsGap.line f line r h k) =
 gap_again fresh next gap rest (IsGap.block f inside r h) =
     let n = length (inside ++ (42 ∷ 47 ∷ [])) in
     let e : 2 + n ≡ suc (suc n) = omega arith in
-    ap closed (close_again inside rest 2 false h) ∙ ap (λ n. lexeme.Gap n false) e
+    ap comment_gap (close_again inside rest 2 false h) ∙ ap (λ n. lexeme.Gap n false) e
 
 mark_piece : (fresh : Bool) (b : ℕ) (k : TokenKind) (rest : List ℕ) → mark_of b ≡ Some k → piece_of fresh (b ∷ rest) ≡ lexeme.Found k 1
 mark_piece fresh b k rest =

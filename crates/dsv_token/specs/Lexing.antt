@@ -1,5 +1,7 @@
 -- A text as tokens. Between them stand blanks, comments and lines that begin with `#`.
-use Rattle.std.specs.Prelude.{ℕ, zero, suc, ◌+◌, ◌-◌, ◌≤◌, Bool, true, false, not, ◌&&◌, ◌||◌, ◌==◌, if◌then◌else◌, List, [], ◌∷◌, ◌++◌, take, drop, Option, Some, None, Result, Ok, Err}
+use Rattle.std.specs.Prelude.{ℕ, zero, suc, ◌+◌, ◌-◌, ◌≤◌, Bool, true, false, not}
+use Rattle.std.specs.Prelude.{◌&&◌, ◌||◌, ◌==◌, if◌then◌else◌, List, [], ◌∷◌}
+use Rattle.std.specs.Prelude.{◌++◌, take, drop, Option, Some, None, Result, Ok, Err}
 use Rattle.dsv_text.specs.Bytes.{has_byte, is_blank, is_digit, is_letter}
 use Rattle.dsv_fraction.specs.Number.{number_len}
 use Rattle.dsv_token.specs.Names.{word_of}
@@ -73,22 +75,25 @@ line_len text = run_len in_line text
 abbrev pub name_len : List ℕ → ℕ
 name_len text = run_len is_name_byte text
 
--- of a comment to the end of its `*/`: so many bytes stand before the text, the last of them a star or not
+-- of a comment to the end of its `*/`: so many bytes stand before the text, the last of them a star
+-- or not
 abbrev pub close_len : ℕ → Bool → List ℕ → Option ℕ
 close_len before star [] = None
-close_len before star (b ∷ bs) = elim (star && b == slash) [ true ↦ Some (before + 1) | false ↦ close_len (before + 1) (b == star_mark) bs ]
+close_len before star (b ∷ bs) =
+    elim (star && b == slash)
+    [ true ↦ Some (before + 1) | false ↦ close_len (before + 1) (b == star_mark) bs ]
 
 -- ---- the piece that a text begins with
 
-abbrev pub closed : Option ℕ → Lexeme
-closed None = lexeme.Bad
-closed (Some n) = lexeme.Gap n false
+abbrev pub comment_gap : Option ℕ → Lexeme
+comment_gap None = lexeme.Bad
+comment_gap (Some n) = lexeme.Gap n false
 
 -- after a `/`: a comment to the line's end, or to the next `*/`
 abbrev pub comment_of : List ℕ → Lexeme
 comment_of text =
     if has_byte slash text then lexeme.Gap (1 + line_len text) false else
-    if has_byte star_mark text then closed (close_len 2 false (drop 1 text)) else lexeme.Bad
+    if has_byte star_mark text then comment_gap (close_len 2 false (drop 1 text)) else lexeme.Bad
 
 -- a letter, a digit, `_` or `.` begins the text, so that no number may end before it
 abbrev pub is_joined : List ℕ → Bool
@@ -124,20 +129,23 @@ piece_of fresh (b ∷ bs) =
 -- ---- the whole text
 
 -- what a piece at this offset, after these tokens, leads to
-abbrev pub by_piece : ℕ → List Token → (ℕ → Bool → List Token → Result (List Token) FileRefusal) → Lexeme → Result (List Token) FileRefusal
+abbrev pub by_piece : ℕ → List Token → (ℕ → Bool → List Token → Result (List Token) FileRefusal)
+    → Lexeme → Result (List Token) FileRefusal
 by_piece at out next (lexeme.Gap len fresh) = next len fresh out
-by_piece at out next (lexeme.Found k len) = next len false (out ++ record { kind = k; at = at; len = len } ∷ [])
+by_piece at out next (lexeme.Found k len) =
+    next len false (out ++ record { kind = k; at = at; len = len } ∷ [])
 by_piece at out next lexeme.Bad = Err (refusal.Token at)
 
 -- the text from this offset on, its first `skip` bytes in a piece before
-abbrev pub lexed : List ℕ → ℕ → ℕ → Bool → List Token → Result (List Token) FileRefusal
-lexed [] at skip fresh out = Ok out
-lexed (b ∷ bs) at (suc skip) fresh out = lexed bs (at + 1) skip fresh out
-lexed (b ∷ bs) at zero fresh out = by_piece at out (λ n f o. lexed bs (at + 1) (n - 1) f o) (piece_of fresh (b ∷ bs))
+abbrev pub tokens_from : List ℕ → ℕ → ℕ → Bool → List Token → Result (List Token) FileRefusal
+tokens_from [] at skip fresh out = Ok out
+tokens_from (b ∷ bs) at (suc skip) fresh out = tokens_from bs (at + 1) skip fresh out
+tokens_from (b ∷ bs) at zero fresh out =
+    by_piece at out (λ n f o. tokens_from bs (at + 1) (n - 1) f o) (piece_of fresh (b ∷ bs))
 
 -- the tokens, or the offset of the first piece that is none
 abbrev pub tokens_of : List ℕ → Result (List Token) FileRefusal
-tokens_of text = lexed text 0 0 true []
+tokens_of text = tokens_from text 0 0 true []
 
 -- ---- places
 

@@ -1,6 +1,6 @@
 -- The names that the grammar knows.
 use Rattle.std.specs.Prelude.{ℕ, List, Option, Some, None}
-use Rattle.dsv_names.specs.Names.{named}
+use Rattle.dsv_names.specs.Names.{value_named}
 use Rattle.dsv_names.specs.Blocks.{block_name, blocks}
 use Rattle.dsv_names.specs.Fields.{field_name, fields}
 use Rattle.dsv_names.specs.Settings.{setting_name, settings}
@@ -18,4 +18,5 @@ first_word None None (Some s) = word.Setting s
 first_word None None None = word.Other
 
 abbrev pub word_of : List ℕ → Word
-word_of name = first_word (named block_name blocks name) (named field_name fields name) (named setting_name settings name)
+word_of name = first_word (value_named block_name blocks name) (value_named field_name fields name)
+    (value_named setting_name settings name)

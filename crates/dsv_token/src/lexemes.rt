@@ -1,7 +1,9 @@
 // The pieces that a text is made of.
 ghost use Rattle.std.specs.Prelude.{◌≡◌, ◌≤◌, ◌+◌, false, length, IfSome};
 ghost use Rattle.dsv_text.specs.Bytes.{is_blank, is_letter};
-ghost use Rattle.dsv_token.specs.Lexing.{is_name_byte, mark_of, line_len, name_len, close_len, comment_of, is_joined, number_of, name_of, piece_of, LexemeFits};
+ghost use Rattle.dsv_token.specs.Lexing.{is_name_byte, mark_of, line_len, name_len};
+ghost use Rattle.dsv_token.specs.Lexing.{close_len, comment_of, is_joined};
+ghost use Rattle.dsv_token.specs.Lexing.{number_of, name_of, piece_of, LexemeFits};
 
 use crate::token::TokenKind;
 use crate::words::word_of;
@@ -11,7 +13,8 @@ use dsv_text::{has_byte, is_blank, is_digit, is_letter};
 /// One piece at the beginning of a text.
 #[derive(Clone, Copy)]
 pub enum Lexeme {
-    /// Blanks, a comment or a `#` line. Behind it the line is fresh where nothing but blanks stood on it.
+    /// Blanks, a comment or a `#` line. After it the line is fresh where nothing but blanks stood
+    /// on it.
     Gap { len: usize, fresh: bool },
     /// A token.
     Found { kind: TokenKind, len: usize },
@@ -142,7 +145,8 @@ fn number_of(text: &[u8]) -> Lexeme
     }
 }
 
-/// What stands at the beginning of a text. `fresh` says that nothing but blanks stands before it on its line.
+/// What stands at the beginning of a text. `fresh` says that nothing but blanks stands before it on
+/// its line.
 pub fn piece_of(fresh: bool, text: &[u8]) -> Lexeme
     ensures value { result ≡ piece_of fresh text.now }
     ensures within { LexemeFits (length text.now) result }

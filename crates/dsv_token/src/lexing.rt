@@ -9,8 +9,8 @@ use crate::token::{Token, Tokens};
 use dsv_fraction::number::rest;
 use std::alloc::Global;
 
-/// The tokens of a text, without blanks, comments and `#` lines; or the first piece that is no token. It takes time
-/// in proportion to the text.
+/// The tokens of a text, without blanks, comments and `#` lines; or the first piece that is no
+/// token. It takes time in proportion to the text.
 pub fn lex(alloc: Global, text: &[u8]) -> Result<Tokens, FileRefusal>
     ensures value { Gives (λ t. t) result (tokens_of text.now) }
     ensures places { IfOk result (λ ts. AreInOrder 0 (length text.now) ts) }

@@ -3,8 +3,8 @@ use dsv_base::NoMemory;
 use dsv_names::{Field, Wanted};
 use thiserror::Error;
 
-/// Why a controller file is refused: its first fault, pass by pass over the whole file. Each offset counts the file's
-/// bytes from 0.
+/// Why a controller file is refused: its first fault, pass by pass over the whole file. Each offset
+/// counts the file's bytes from 0.
 #[derive(Clone, Copy, Debug, PartialEq, Eq, Error)]
 pub enum FileRefusal {
     /// From this byte on the file isn't UTF-8.
@@ -34,7 +34,8 @@ pub enum FileRefusal {
     /// The leading coefficient of the denominator, where it is 0.
     #[error("the leading coefficient at byte {at} is 0")]
     LeadingZero { at: u64 },
-    /// A number whose value, or whose quotient by the leading coefficient, has a part of 2^127 or more.
+    /// A number whose value, or whose quotient by the leading coefficient, has a part of 2^127 or
+    /// more.
     #[error("the number at byte {at} has parts that are too large")]
     FractionWide { at: u64 },
     /// The number of bits before the point, where the words have no lawful width.

@@ -4,7 +4,8 @@ ghost use Rattle.dsv_token.specs.Text.{utf8_test};
 
 use crate::refusal::FileRefusal;
 
-/// Tests that the bytes are UTF-8. Where they aren't, the refusal has the end of the longest prefix that is.
+/// Tests that the bytes are UTF-8. Where they aren't, the refusal has the end of the longest prefix
+/// that is.
 #[tactic(auto, using(crate::proofs::Texts::text_ok))]
 pub fn check_text(bytes: &[u8]) -> Result<(), FileRefusal>
     ensures { result ≡ utf8_test bytes.now }

@@ -157,7 +157,7 @@ mark-at [] i d lt = absurd (omega (arith, lt))
 mark-at (m ∷ ms) zero d lt = record { mark = m; at = refl; is = refl }
 mark-at (m ∷ ms) (suc i) d lt = let r = mark-at ms i d (omega (arith, lt)) in record { mark = r.mark; at = r.at; is = r.is }
 
--- the variables of the marks behind an open one are all different
+-- the variables of the marks after an open one are all different
 apart : (ms : List Mark) (n v i j d : ℕ) → AreMarks n ms → IsOpen ms v → i < j → j < length (v ∷ map var_of ms) → get_or (v ∷ map var_of ms) i d ≢ get_or (v ∷ map var_of ms) j d
 apart ms n v i zero d a o lt within s = omega (arith, lt)
 apart ms n v zero (suc j) d a o lt within s =

@@ -1,5 +1,6 @@
 -- How marks are kept, with their room.
-use Rattle.std.specs.Prelude.{◌≡◌, ℕ, ◌<◌, ◌≤◌, ◌^◌, length, slice_get, slice_index_or, Some, None, vec_capacity}
+use Rattle.std.specs.Prelude.{◌≡◌, ℕ, ◌<◌, ◌≤◌, ◌^◌, length, slice_get}
+use Rattle.std.specs.Prelude.{slice_index_or, Some, None, vec_capacity}
 use Rattle.dsv_trail.specs.MarkListView.{MarkListView}
 use Rattle.dsv_trail.specs.Marks.{mark_of, sign_of}
 use Rattle.dsv_trail.specs.declared.marks.Mark.{Mark}
@@ -15,5 +16,7 @@ pub record IsMarkList (l : Inside) : Type 0 where
   pub over : (i : ℕ) (m : Mark) → slice_get l.marks.items i ≡ Some m → m.literal.var < l.vars
   pub signs : length l.signs.items ≡ l.vars
   pub places : length l.places.items ≡ l.vars
-  pub signed : (v : ℕ) → v < l.vars → slice_index_or l.signs.items v None ≡ sign_of (mark_of l.marks.items v)
-  pub placed : (i : ℕ) (m : Mark) → slice_get l.marks.items i ≡ Some m → slice_index_or l.places.items m.literal.var 0 ≡ i
+  pub signed : (v : ℕ) → v < l.vars
+      → slice_index_or l.signs.items v None ≡ sign_of (mark_of l.marks.items v)
+  pub placed : (i : ℕ) (m : Mark) → slice_get l.marks.items i ≡ Some m
+      → slice_index_or l.places.items m.literal.var 0 ≡ i

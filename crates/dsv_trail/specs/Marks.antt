@@ -1,5 +1,6 @@
 -- Marks: literals that are true, with their levels and reasons.
-use Rattle.std.specs.Prelude.{◌≡◌, ℕ, ◌<◌, ◌≤◌, ◌==◌, Bool, cond, List, [], ◌∷◌, length, slice_get, Option, Some, None, IsSome}
+use Rattle.std.specs.Prelude.{◌≡◌, ℕ, ◌<◌, ◌≤◌, ◌==◌, Bool, cond, List, [], ◌∷◌}
+use Rattle.std.specs.Prelude.{length, slice_get, Option, Some, None, IsSome}
 use Rattle.dsv_cnf.specs.Literal.{Literal, bool_eq}
 use Rattle.dsv_trail.specs.declared.marks.Mark.{Mark}
 
@@ -59,4 +60,5 @@ literal_at marks i = literal_in (slice_get marks i)
 pub record AreMarks (vars : ℕ) (marks : List Mark) : Type 0 where
   pub few : length marks ≤ vars
   pub over : (i : ℕ) (m : Mark) → slice_get marks i ≡ Some m → m.literal.var < vars
-  pub distinct : (i j : ℕ) (m n : Mark) → slice_get marks i ≡ Some m → slice_get marks j ≡ Some n → m.literal.var ≡ n.literal.var → i ≡ j
+  pub distinct : (i j : ℕ) (m n : Mark) → slice_get marks i ≡ Some m → slice_get marks j ≡ Some n
+      → m.literal.var ≡ n.literal.var → i ≡ j

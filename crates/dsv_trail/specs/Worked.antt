@@ -6,8 +6,7 @@ use Rattle.dsv_trail.specs.TrailView.{TrailView}
 abbrev pub worked : TrailView
 worked = record {
   vars = 3;
-  marks =
-      record { literal = record { var = 2; positive = true }; level = 1; reason = None }
+  marks = record { literal = record { var = 2; positive = true }; level = 1; reason = None }
       ∷ record { literal = record { var = 0; positive = true }; level = 2; reason = None }
       ∷ record { literal = record { var = 1; positive = true }; level = 2; reason = Some 0 }
       ∷ [];

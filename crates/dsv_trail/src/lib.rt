@@ -1,5 +1,5 @@
-//! The trail of a clause-learning solver: the literals that are true, in the order in which they became so, each with
-//! its level and, where a clause implied it, the number of that clause.
+//! The trail of a clause-learning solver: the literals that are true, in the order in which they
+//! became so, each with its level and, where a clause implied it, the number of that clause.
 #![tactic(auto)]
 
 mod law;

@@ -1,5 +1,6 @@
 // The literals of a trail, and where each variable stands among them.
-ghost use Rattle.std.specs.Prelude.{◌≡◌, ℕ, ◌-◌, ◌<◌, ◌≤◌, [], ◌∷◌, ◌++◌, None, Some, length, slice_get, take, IfOk};
+ghost use Rattle.std.specs.Prelude.{◌≡◌, ℕ, ◌-◌, ◌<◌, ◌≤◌, [], ◌∷◌, ◌++◌};
+ghost use Rattle.std.specs.Prelude.{None, Some, length, slice_get, take, IfOk};
 ghost use Rattle.dsv_trail.specs.declared.marks.Mark.{Mark};
 ghost use Rattle.dsv_trail.specs.Marks.{mark_of, sign_of, AreMarks, IsOpen, IsSet};
 
@@ -8,8 +9,8 @@ use dsv_cnf::Lit;
 use std::alloc::Global;
 use std::marker::Model;
 
-/// A literal that is true, its level, and the number of the clause that implied it, from 0 on. A decision has no
-/// clause.
+/// A literal that is true, its level, and the number of the clause that implied it, from 0 on. A
+/// decision has no clause.
 #[derive(Clone, Copy)]
 pub struct Mark {
     pub literal: Lit,
@@ -17,12 +18,14 @@ pub struct Mark {
     pub reason: Option<u32>,
 }
 
-/// Literals of different variables, in the order in which they came. All their room is taken at the beginning.
+/// Literals of different variables, in the order in which they came. All their room is taken at the
+/// beginning.
 #[derive(Drop)]
 pub(crate) struct MarkList {
     /// How many variables there are.
     vars: u32,
-    /// By variable: whether its literal here is the variable itself or the negation; none where there is no literal.
+    /// By variable: whether its literal here is the variable itself or the negation; none where
+    /// there is no literal.
     signs: Vec<Option<bool>>,
     /// By variable: where its literal is, if there is one.
     places: Vec<u32>,
@@ -103,7 +106,8 @@ impl MarkList {
         requires over { literal.var < self.old.vars }
         requires free { IsOpen self.old.marks literal.var }
         ensures state { self.new ≡ record self.old {
-          marks = self.old.marks ++ record { literal = literal; level = level; reason = reason } ∷ [];
+          marks = self.old.marks ++ record { literal = literal; level = level; reason = reason }
+              ∷ [];
         } }
         ensures few { length self.new.marks ≤ self.new.vars }
     {
@@ -121,7 +125,9 @@ impl MarkList {
     /// Takes the last literal away.
     fn pop(&mut self)
         requires { 0 < length self.old.marks }
-        ensures { self.new ≡ record self.old { marks = take (length self.old.marks - 1) self.old.marks } }
+        ensures { self.new ≡ record self.old {
+          marks = take (length self.old.marks - 1) self.old.marks;
+        } }
     {
         if let Some(mark) = self.marks.pop() {
             self.signs[mark.literal.var() as usize] = None;

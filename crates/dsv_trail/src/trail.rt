@@ -1,5 +1,6 @@
 // The trail: marks and the levels that decisions begin.
-ghost use Rattle.std.specs.Prelude.{◌≡◌, ℕ, ◌<◌, ◌≤◌, [], length, List, None, Some, IfOk, IsSome};
+ghost use Rattle.std.specs.Prelude.{◌≡◌, ℕ, ◌<◌, ◌≤◌, [], length};
+ghost use Rattle.std.specs.Prelude.{List, None, Some, IfOk, IsSome};
 ghost use Rattle.dsv_cnf.specs.Literal.{Literal};
 ghost use Rattle.dsv_trail.specs.Marks.{level_of, literal_at, reason_of, value_of, IsOpen, IsSet};
 ghost use Rattle.dsv_trail.specs.Levels.{after_back, after_decide, after_imply, IsTrail};
@@ -11,9 +12,9 @@ use dsv_cnf::{Formula, Lit};
 use std::alloc::Global;
 use std::marker::Model;
 
-/// The literals that are true, in the order in which they became so. A literal is decided, which begins a level, or is
-/// implied by a clause at the present level; its variable has no other literal here. Levels are counted from 0, which
-/// no decision begins.
+/// The literals that are true, in the order in which they became so. A literal is decided, which
+/// begins a level, or is implied by a clause at the present level; its variable has no other
+/// literal here. Levels are counted from 0, which no decision begins.
 #[derive(Drop)]
 pub struct Trail {
     /// The literals with their levels and reasons.
@@ -35,8 +36,8 @@ impl Model for Trail {
 }
 
 impl Trail {
-    /// An empty trail at level 0, for variables that are numbered from 0 and are below `vars`. It takes all the memory
-    /// that the trail will ever need.
+    /// An empty trail at level 0, for variables that are numbered from 0 and are below `vars`. It
+    /// takes all the memory that the trail will ever need.
     pub fn new(alloc: Global, vars: u32) -> Result<Trail, NoMemory>
         ensures { IfOk result (λ t. t ≡ record { vars = vars; marks = []; limits = [] }) }
     {
@@ -90,8 +91,8 @@ impl Trail {
         }
     }
 
-    /// The number of the clause that implied the variable's literal, or none where it was decided. The variable isn't
-    /// open.
+    /// The number of the clause that implied the variable's literal, or none where it was decided.
+    /// The variable isn't open.
     pub fn reason(&self, var: u32) -> Option<u32>
         requires over { var < self.now.vars }
         requires set { IsSet self.now.marks var }
@@ -100,7 +101,8 @@ impl Trail {
         self.marks.mark(var).reason
     }
 
-    /// The level at which the variable got its literal, at most the present one. The variable isn't open.
+    /// The level at which the variable got its literal, at most the present one. The variable isn't
+    /// open.
     pub fn level_of(&self, var: u32) -> u32
         requires over { var < self.now.vars }
         requires set { IsSet self.now.marks var }
@@ -124,21 +126,22 @@ impl Trail {
         self.marks.push(lit, level, None);
     }
 
-    /// Appends an open literal at the present level. The clause of the number `reason`, from 0 on, has the literal, and
-    /// its others are false. It takes no memory.
+    /// Appends an open literal at the present level. The clause of the number `reason`, from 0 on,
+    /// has the literal, and its others are false. It takes no memory.
     pub fn imply(&mut self, lit: Lit, reason: u32, clauses: &Formula)
         requires over { lit.var < self.old.vars }
         requires free { IsOpen self.old.marks lit.var }
         requires reason { IsReason clauses.now.clauses reason self.old.marks lit }
         ensures state { self.new ≡ after_imply self.old lit reason }
-        ensures justified { IsJustified self.old clauses.now.clauses → IsJustified self.new clauses.now.clauses }
+        ensures justified { IsJustified self.old clauses.now.clauses
+            → IsJustified self.new clauses.now.clauses }
     {
         let level = self.level();
         self.marks.push(lit, level, Some(reason));
     }
 
-    /// Takes away the literals of all levels above this one, which is at most the present one, in time that is linear
-    /// in how many go.
+    /// Takes away the literals of all levels above this one, which is at most the present one, in
+    /// time that is linear in how many go.
     pub fn back_to(&mut self, level: u32)
         requires { level ≤ length self.old.limits }
         ensures state { self.new ≡ after_back self.old level }

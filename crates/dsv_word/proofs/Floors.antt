@@ -8,9 +8,9 @@ use Rattle.std.proofs.lemmas.Nat.{div-add-mod', mod_below}
 use lib.Signed.{◌<ℤ◌, ◌≤ℤ◌}
 use Rattle.dsv_algebra.proofs.Normaliser.{ring, env, var, num, plus, times, minus}
 use Rattle.dsv_algebra.proofs.Signs.{mul_positive, mul_not_negative, positive_factor}
-use Rattle.dsv_algebra.specs.Floor.{IsFloor, floored}
+use Rattle.dsv_algebra.specs.Floor.{IsFloor, floor_of}
 use Rattle.dsv_algebra.proofs.Floors.{step_up, floored_is}
-use Rattle.dsv_word.specs.Quotients.{ceiled}
+use Rattle.dsv_word.specs.Quotients.{ceiling_of}
 
 -- ---- there is one floor
 gap : (a b v d : ℤ) → (a *ℤ d) ≤ℤ v → v <ℤ ((b +ℤ pos 1) *ℤ d) → pos 0 <ℤ (d *ℤ (b +ℤ pos 1 -ℤ a))
@@ -30,8 +30,8 @@ floor_only v d a b h f g =
     let y = not_above b a v d h g.below f.above in
     omega (arith, ints)
 
-pub is_floored : (v : ℤ) (d : ℕ) (w : ℤ) → 0 < d → IsFloor v d w → floored v d ≡ w
-is_floored v d w h f = floor_only v d (floored v d) w h (floored_is v d h) f
+pub is_floored : (v : ℤ) (d : ℕ) (w : ℤ) → 0 < d → IsFloor v d w → floor_of v d ≡ w
+is_floored v d w h f = floor_only v d (floor_of v d) w h (floored_is v d h) f
 
 -- ---- equal quotients have equal floors
 positive_or_none : (m t : ℤ) → pos 0 <ℤ m → pos 0 ≤ℤ (m *ℤ t) → pos 0 ≤ℤ t
@@ -63,15 +63,15 @@ not_under n m w d e p q h k =
     turned : (x y z : ℤ) → x *ℤ (y -ℤ z) ≡ neg_ℤ (x *ℤ (z -ℤ y))
     turned x y z = ring (env (x ∷ y ∷ z ∷ [])) (times (var 0) (plus (var 1) (minus (var 2)))) (minus (times (var 0) (plus (var 2) (minus (var 1))))) refl
 
-pub floored_same : (n m : ℤ) (d e : ℕ) → 0 < d → 0 < e → n *ℤ pos e ≡ m *ℤ pos d → floored n d ≡ floored m e
+pub floored_same : (n m : ℤ) (d e : ℕ) → 0 < d → 0 < e → n *ℤ pos e ≡ m *ℤ pos d → floor_of n d ≡ floor_of m e
 floored_same n m d e p q h =
     let f = floored_is m e q in
-    is_floored n d (floored m e) p (record {
-      below = not_over n m (floored m e) d e p q h f.below;
-      above = not_under n m (floored m e +ℤ pos 1) d e p q h f.above;
+    is_floored n d (floor_of m e) p (record {
+      below = not_over n m (floor_of m e) d e p q h f.below;
+      above = not_under n m (floor_of m e +ℤ pos 1) d e p q h f.above;
     })
 
-pub ceiled_same : (n m : ℤ) (d e : ℕ) → 0 < d → 0 < e → n *ℤ pos e ≡ m *ℤ pos d → ceiled n d ≡ ceiled m e
+pub ceiled_same : (n m : ℤ) (d e : ℕ) → 0 < d → 0 < e → n *ℤ pos e ≡ m *ℤ pos d → ceiling_of n d ≡ ceiling_of m e
 ceiled_same n m d e p q h = ap neg_ℤ (floored_same (neg_ℤ n) (neg_ℤ m) d e p q (negative n (pos e) ∙ ap neg_ℤ h ∙ sym (negative m (pos d))))
   where
     negative : (x y : ℤ) → neg_ℤ x *ℤ y ≡ neg_ℤ (x *ℤ y)
@@ -79,7 +79,7 @@ ceiled_same n m d e p q h = ap neg_ℤ (floored_same (neg_ℤ n) (neg_ℤ m) d e
 
 -- n / d + 1/2 over the common denominator
 pub nearest_same : (n m : ℤ) (d e : ℕ) → 0 < d → 0 < e → n *ℤ pos e ≡ m *ℤ pos d
-    → floored (pos 2 *ℤ n +ℤ pos d) (2 * d) ≡ floored (pos 2 *ℤ m +ℤ pos e) (2 * e)
+    → floor_of (pos 2 *ℤ n +ℤ pos d) (2 * d) ≡ floor_of (pos 2 *ℤ m +ℤ pos e) (2 * e)
 nearest_same n m d e p q h =
     floored_same (pos 2 *ℤ n +ℤ pos d) (pos 2 *ℤ m +ℤ pos e) (2 * d) (2 * e) (omega arith) (omega arith) (
     ring (env (n ∷ pos d ∷ pos e ∷ [])) (times (plus (times (num (pos 2)) (var 0)) (var 1)) (times (num (pos 2)) (var 2)))
@@ -89,7 +89,7 @@ nearest_same n m d e p q h =
     (times (plus (times (num (pos 2)) (var 0)) (var 2)) (times (num (pos 2)) (var 1))) refl)
 
 -- ---- floors and rests
-pub parted : (v : ℤ) (d : ℕ) → 0 < d → v ≡ floored v d *ℤ pos d +ℤ int_rem_euclid v (pos d)
+pub parted : (v : ℤ) (d : ℕ) → 0 < d → v ≡ floor_of v d *ℤ pos d +ℤ int_rem_euclid v (pos d)
 parted (pos n) d p = let e = div-add-mod' n d in omega (arith, ints)
 parted (negsuc n) d p =
     let e = div-add-mod' n d in
@@ -106,7 +106,7 @@ doubled q r d k = ring (env (q ∷ r ∷ d ∷ k ∷ []))
 
 -- the floor of n / d + 1/2 by the floor of n / d and its rest
 near : (n q r : ℤ) (d : ℕ) (k : ℤ) → 0 < d → n ≡ q *ℤ pos d +ℤ r → pos 0 ≤ℤ (pos 2 *ℤ r +ℤ pos d -ℤ pos 2 *ℤ k *ℤ pos d)
-    → (pos 2 *ℤ r +ℤ pos d -ℤ pos 2 *ℤ (k +ℤ pos 1) *ℤ pos d) <ℤ pos 0 → floored (pos 2 *ℤ n +ℤ pos d) (2 * d) ≡ q +ℤ k
+    → (pos 2 *ℤ r +ℤ pos d -ℤ pos 2 *ℤ (k +ℤ pos 1) *ℤ pos d) <ℤ pos 0 → floor_of (pos 2 *ℤ n +ℤ pos d) (2 * d) ≡ q +ℤ k
 near n q r d k p e x y =
     let a : pos 2 *ℤ n +ℤ pos d -ℤ (q +ℤ k) *ℤ (pos 2 *ℤ pos d) ≡ pos 2 *ℤ r +ℤ pos d -ℤ pos 2 *ℤ k *ℤ pos d =
     ap (λ t. pos 2 *ℤ t +ℤ pos d -ℤ (q +ℤ k) *ℤ (pos 2 *ℤ pos d)) e ∙ doubled q r (pos d) k in
@@ -117,10 +117,10 @@ near n q r d k p e x y =
     let h : (q +ℤ (k +ℤ pos 1)) ≡ (q +ℤ k) +ℤ pos 1 = omega (arith, ints) in
     is_floored (pos 2 *ℤ n +ℤ pos d) (2 * d) (q +ℤ k) (omega arith) (record { below = omega (arith, ints); above = omega (arith, ints, rw h at g) })
 
-pub near_above : (n q r : ℤ) (d : ℕ) → 0 < d → n ≡ q *ℤ pos d +ℤ r → r <ℤ pos d → (pos d -ℤ r) ≤ℤ r → floored (pos 2 *ℤ n +ℤ pos d) (2 * d) ≡ q +ℤ pos 1
+pub near_above : (n q r : ℤ) (d : ℕ) → 0 < d → n ≡ q *ℤ pos d +ℤ r → r <ℤ pos d → (pos d -ℤ r) ≤ℤ r → floor_of (pos 2 *ℤ n +ℤ pos d) (2 * d) ≡ q +ℤ pos 1
 near_above n q r d p e x y = near n q r d (pos 1) p e (omega (arith, ints)) (omega (arith, ints))
 
-pub near_below : (n q r : ℤ) (d : ℕ) → 0 < d → n ≡ q *ℤ pos d +ℤ r → pos 0 ≤ℤ r → r <ℤ (pos d -ℤ r) → floored (pos 2 *ℤ n +ℤ pos d) (2 * d) ≡ q
+pub near_below : (n q r : ℤ) (d : ℕ) → 0 < d → n ≡ q *ℤ pos d +ℤ r → pos 0 ≤ℤ r → r <ℤ (pos d -ℤ r) → floor_of (pos 2 *ℤ n +ℤ pos d) (2 * d) ≡ q
 near_below n q r d p e x y = near n q r d (pos 0) p e (omega (arith, ints)) (omega (arith, ints)) ∙ +ℤ_idr q
 
 pub rest_within : (v : ℤ) (d : ℕ) → 0 < d → (m : ℕ) × (int_rem_euclid v (pos d) ≡ pos m) × (m < d)
@@ -129,23 +129,23 @@ rest_within (negsuc n) d p = let r : n % d < d = mod_below n d p in (d - 1 - n %
 
 -- the same by the sizes of the rest and of the divisor
 pub near_less : (n num den q r : ℤ) (d s t : ℕ) → num ≡ n → den ≡ pos d → 0 < d → q ≡ int_div_euclid num den → r ≡ int_rem_euclid num den
-    → s ≡ unsigned_abs r → t ≡ unsigned_abs den → s < t - s → q ≡ floored (pos 2 *ℤ n +ℤ pos d) (2 * d)
+    → s ≡ unsigned_abs r → t ≡ unsigned_abs den → s < t - s → q ≡ floor_of (pos 2 *ℤ n +ℤ pos d) (2 * d)
 near_less n y x q r d s t a b p e f g h k =
     let w = rest_within n d p in
-    let fact : q ≡ floored n d = e ∙ rw (a, b) refl in
+    let fact : q ≡ floor_of n d = e ∙ rw (a, b) refl in
     let rest : r ≡ pos w.0 = f ∙ rw (a, b) w.1 in
     let small : s ≡ w.0 = g ∙ ap unsigned_abs rest in
     let big : t ≡ d = h ∙ ap unsigned_abs b in
-    fact ∙ sym (near_below n (floored n d) (pos w.0) d p (parted n d p ∙ ap (λ z. floored n d *ℤ pos d +ℤ z) w.1) (omega (arith, ints)) (omega (arith, ints)))
+    fact ∙ sym (near_below n (floor_of n d) (pos w.0) d p (parted n d p ∙ ap (λ z. floor_of n d *ℤ pos d +ℤ z) w.1) (omega (arith, ints)) (omega (arith, ints)))
 
 pub near_more : (n num den q r : ℤ) (d s t : ℕ) → num ≡ n → den ≡ pos d → 0 < d → q ≡ int_div_euclid num den → r ≡ int_rem_euclid num den
-    → s ≡ unsigned_abs r → t ≡ unsigned_abs den → t - s ≤ s → q +ℤ pos 1 ≡ floored (pos 2 *ℤ n +ℤ pos d) (2 * d)
+    → s ≡ unsigned_abs r → t ≡ unsigned_abs den → t - s ≤ s → q +ℤ pos 1 ≡ floor_of (pos 2 *ℤ n +ℤ pos d) (2 * d)
 near_more n y x q r d s t a b p e f g h k =
     let w = rest_within n d p in
-    let fact : q ≡ floored n d = e ∙ rw (a, b) refl in
+    let fact : q ≡ floor_of n d = e ∙ rw (a, b) refl in
     let rest : r ≡ pos w.0 = f ∙ rw (a, b) w.1 in
     let small : s ≡ w.0 = g ∙ ap unsigned_abs rest in
     let big : t ≡ d = h ∙ ap unsigned_abs b in
     let below : w.0 < d = w.2 in
     ap (λ z. z +ℤ pos 1) fact
-    ∙ sym (near_above n (floored n d) (pos w.0) d p (parted n d p ∙ ap (λ z. floored n d *ℤ pos d +ℤ z) w.1) (omega (arith, ints)) (omega (arith, ints)))
+    ∙ sym (near_above n (floor_of n d) (pos w.0) d p (parted n d p ∙ ap (λ z. floor_of n d *ℤ pos d +ℤ z) w.1) (omega (arith, ints)) (omega (arith, ints)))

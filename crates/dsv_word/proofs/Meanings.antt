@@ -10,7 +10,7 @@ use lib.Signed.{◌<ℤ◌, ◌≤ℤ◌}
 use Rattle.dsv_algebra.proofs.Normaliser.{ring, env, var, num, plus, times as product}
 use Rattle.dsv_fraction.specs.Ratio.{Ratio}
 use Rattle.dsv_text.specs.Stages.{and_then}
-use Rattle.dsv_fraction.specs.Arithmetic.{times, bounded}
+use Rattle.dsv_fraction.specs.Arithmetic.{times, bounded_ratio}
 use Rattle.dsv_fraction.specs.declared.fraction.TooWide.{TooWide}
 use Rattle.dsv_fraction.proofs.Values.{lowest_exact, narrowed_only}
 use Rattle.dsv_fraction.proofs.Powers.{lowest_positive}
@@ -18,9 +18,9 @@ use Rattle.dsv_names.specs.declared.rounding.Rounding.{Rounding}
 use Rattle.dsv_names.specs.declared.rounding.Rounding.TheVariants as rounding
 use Rattle.dsv_names.specs.declared.overflow_mode.OverflowMode.{OverflowMode}
 use Rattle.dsv_names.specs.declared.overflow_mode.OverflowMode.TheVariants as overflow_mode
-use Rattle.dsv_word.specs.Words.{lo, hi, wrapped, saturated, IsWrapped, IsNearest, IsFitted}
-use Rattle.dsv_algebra.specs.Floor.{floored, IsFloor}
-use Rattle.dsv_word.specs.Quotients.{ceiled, shifted, rounded, word_of, IsCeiling, IsShifted, IsRounded}
+use Rattle.dsv_word.specs.Words.{lo, hi, wrapped_word, saturated_word, IsWrapped, IsNearest, IsFitted}
+use Rattle.dsv_algebra.specs.Floor.{floor_of, IsFloor}
+use Rattle.dsv_word.specs.Quotients.{ceiling_of, whole_shift, rounded_quotient, word_of, IsCeiling, IsShifted, IsRounded}
 use Rattle.dsv_algebra.proofs.Floors.{floored_is}
 use Rattle.dsv_word.proofs.Floors.{parted, rest_within}
 
@@ -28,18 +28,18 @@ use Rattle.dsv_word.proofs.Floors.{parted, rest_within}
 double_negative : (z : ℤ) → neg_ℤ (neg_ℤ z) ≡ z
 double_negative z = omega (arith, ints)
 
-pub ceiled_is : (v : ℤ) (d : ℕ) → 0 < d → IsCeiling v d (ceiled v d)
-ceiled_is v d p = rw (double_negative (floored (neg_ℤ v) d)) (floored_is (neg_ℤ v) d p)
+pub ceiled_is : (v : ℤ) (d : ℕ) → 0 < d → IsCeiling v d (ceiling_of v d)
+ceiled_is v d p = rw (double_negative (floor_of (neg_ℤ v) d)) (floored_is (neg_ℤ v) d p)
 
-pub shifted_is : (r : Rounding) (f : ℕ) (v : ℤ) → IsShifted r f v (shifted r f v)
+pub shifted_is : (r : Rounding) (f : ℕ) (v : ℤ) → IsShifted r f v (whole_shift r f v)
 shifted_is rounding.Floor f v = floored_is v (2 ^ f) (pow_pos f)
 shifted_is rounding.Ceil f v = ceiled_is v (2 ^ f) (pow_pos f)
 shifted_is rounding.Nearest f v =
-    let w = floored (v +ℤ pos (2 ^ (f - 1))) (2 ^ f) in
+    let w = floor_of (v +ℤ pos (2 ^ (f - 1))) (2 ^ f) in
     elim (f == 0) as (λ b. let x = if b then v else w in MatchBool b (x ≡ v) (IsFloor (v +ℤ pos (2 ^ (f - 1))) (2 ^ f) x))
     [ true ↦ refl | false ↦ floored_is (v +ℤ pos (2 ^ (f - 1))) (2 ^ f) (pow_pos f) ]
 
-rounded_is : (r : Rounding) (n : ℤ) (d : ℕ) → 0 < d → IsRounded r n d (rounded r n d)
+rounded_is : (r : Rounding) (n : ℤ) (d : ℕ) → 0 < d → IsRounded r n d (rounded_quotient r n d)
 rounded_is rounding.Floor n d p = floored_is n d p
 rounded_is rounding.Ceil n d p = ceiled_is n d p
 rounded_is rounding.Nearest n d p = floored_is (pos 2 *ℤ n +ℤ pos d) (2 * d) (omega arith)
@@ -50,7 +50,7 @@ abbrev pub IsOfValue : (ℤ → ℕ → ℤ) → Type 0
 IsOfValue whole = (n m : ℤ) (d e : ℕ) → 0 < d → 0 < e → n *ℤ pos e ≡ m *ℤ pos d → whole n d ≡ whole m e
 
 pub word_is : (whole : ℤ → ℕ → ℤ) (f : ℕ) (q r : Ratio) (w : ℤ) → IsOfValue whole → 0 < q.den
-    → Ok r ≡ bounded (times q (record { num = pos (2 ^ f); den = 1 })) → w ≡ whole r.num r.den → Ok w ≡ word_of whole f q
+    → Ok r ≡ bounded_ratio (times q (record { num = pos (2 ^ f); den = 1 })) → w ≡ whole r.num r.den → Ok w ≡ word_of whole f q
 word_is whole f q r w h p e g =
     let n = q.num *ℤ pos (2 ^ f) in
     let t = times q (record { num = pos (2 ^ f); den = 1 }) in
@@ -68,17 +68,17 @@ within_narrow (Err e) z P p = tt
 within_word : (whole : ℤ → ℕ → ℤ) (f : ℕ) (q : Ratio) (P : ℤ → Type 0) (o : Result ℤ TooWide)
     → P (whole (q.num *ℤ pos (2 ^ f)) q.den) → o ≡ word_of whole f q → IfOk o P
 within_word whole f q P o p e =
-    rw e (within_narrow (bounded (times q (record { num = pos (2 ^ f); den = 1 }))) (whole (q.num *ℤ pos (2 ^ f)) q.den) P p)
+    rw e (within_narrow (bounded_ratio (times q (record { num = pos (2 ^ f); den = 1 }))) (whole (q.num *ℤ pos (2 ^ f)) q.den) P p)
 
-pub floor_meant : (f : ℕ) (q : Ratio) (o : Result ℤ TooWide) → 0 < q.den → o ≡ word_of floored f q → IfOk o (IsFloor (q.num *ℤ pos (2 ^ f)) q.den)
-floor_meant f q o p = within_word floored f q (IsFloor (q.num *ℤ pos (2 ^ f)) q.den) o (floored_is (q.num *ℤ pos (2 ^ f)) q.den p)
+pub floor_meant : (f : ℕ) (q : Ratio) (o : Result ℤ TooWide) → 0 < q.den → o ≡ word_of floor_of f q → IfOk o (IsFloor (q.num *ℤ pos (2 ^ f)) q.den)
+floor_meant f q o p = within_word floor_of f q (IsFloor (q.num *ℤ pos (2 ^ f)) q.den) o (floored_is (q.num *ℤ pos (2 ^ f)) q.den p)
 
-pub ceiling_meant : (f : ℕ) (q : Ratio) (o : Result ℤ TooWide) → 0 < q.den → o ≡ word_of ceiled f q → IfOk o (IsCeiling (q.num *ℤ pos (2 ^ f)) q.den)
-ceiling_meant f q o p = within_word ceiled f q (IsCeiling (q.num *ℤ pos (2 ^ f)) q.den) o (ceiled_is (q.num *ℤ pos (2 ^ f)) q.den p)
+pub ceiling_meant : (f : ℕ) (q : Ratio) (o : Result ℤ TooWide) → 0 < q.den → o ≡ word_of ceiling_of f q → IfOk o (IsCeiling (q.num *ℤ pos (2 ^ f)) q.den)
+ceiling_meant f q o p = within_word ceiling_of f q (IsCeiling (q.num *ℤ pos (2 ^ f)) q.den) o (ceiled_is (q.num *ℤ pos (2 ^ f)) q.den p)
 
-pub rounded_meant : (r : Rounding) (f : ℕ) (q : Ratio) (o : Result ℤ TooWide) → 0 < q.den → o ≡ word_of (rounded r) f q
+pub rounded_meant : (r : Rounding) (f : ℕ) (q : Ratio) (o : Result ℤ TooWide) → 0 < q.den → o ≡ word_of (rounded_quotient r) f q
     → IfOk o (IsRounded r (q.num *ℤ pos (2 ^ f)) q.den)
-rounded_meant r f q o p = within_word (rounded r) f q (IsRounded r (q.num *ℤ pos (2 ^ f)) q.den) o (rounded_is r (q.num *ℤ pos (2 ^ f)) q.den p)
+rounded_meant r f q o p = within_word (rounded_quotient r) f q (IsRounded r (q.num *ℤ pos (2 ^ f)) q.den) o (rounded_is r (q.num *ℤ pos (2 ^ f)) q.den p)
 
 -- ---- wrapping
 halves : (n : ℕ) → 1 ≤ n → 2 ^ n ≡ 2 * 2 ^ (n - 1)
@@ -102,12 +102,12 @@ either n m v k p e h = elim (cases_lt m (2 ^ (n - 1))) [
   | inr more ↦ (let t : int_lt (pos m) (pos (2 ^ (n - 1))) ≡ false = grind (arith, ints) in rw t (lowered n m v k p e h more))
 ]
 
-pub wrapped_is : (n : ℕ) (v : ℤ) → 1 ≤ n → IsWrapped n v (wrapped n v)
+pub wrapped_is : (n : ℕ) (v : ℤ) → 1 ≤ n → IsWrapped n v (wrapped_word n v)
 wrapped_is n v p =
     let r = rest_within v (2 ^ n) (pow_pos n) in
-    rw r.1 (either n r.0 v (floored v (2 ^ n)) p (rw r.1 at (parted v (2 ^ n) (pow_pos n))) r.2)
+    rw r.1 (either n r.0 v (floor_of v (2 ^ n)) p (rw r.1 at (parted v (2 ^ n) (pow_pos n))) r.2)
 
-pub wrapped_meant : (o : OverflowMode) (n m : ℕ) (v w : ℤ) → o ≡ overflow_mode.Wrap → m ≡ n → 2 ≤ m → w ≡ wrapped m v → IsFitted o n v w
+pub wrapped_meant : (o : OverflowMode) (n m : ℕ) (v w : ℤ) → o ≡ overflow_mode.Wrap → m ≡ n → 2 ≤ m → w ≡ wrapped_word m v → IsFitted o n v w
 wrapped_meant o n m v w e f h g = rw (e, ← f, g) (wrapped_is m v (omega arith))
 
 -- ---- saturating
@@ -135,12 +135,12 @@ is_less a b h = grind (arith, ints)
 not_less : (a b : ℤ) → b ≤ℤ a → int_lt a b ≡ false
 not_less a b h = grind (arith, ints)
 
-pub saturated_is : (n : ℕ) (v : ℤ) → IsNearest n v (saturated n v)
+pub saturated_is : (n : ℕ) (v : ℤ) → IsNearest n v (saturated_word n v)
 saturated_is n v = by_lt_z v (lo n)
-    (λ less. held_low n v (saturated n v) less (rw (is_less v (lo n) less) refl))
+    (λ less. held_low n v (saturated_word n v) less (rw (is_less v (lo n) less) refl))
     (λ not_low. by_lt_z (hi n) v
-    (λ more. held_high n v (saturated n v) more (rw (not_less v (lo n) not_low, is_less (hi n) v more) refl))
-    (λ not_high. held_inside n v (saturated n v) not_low not_high (rw (not_less v (lo n) not_low, not_less (hi n) v not_high) refl)))
+    (λ more. held_high n v (saturated_word n v) more (rw (not_less v (lo n) not_low, is_less (hi n) v more) refl))
+    (λ not_high. held_inside n v (saturated_word n v) not_low not_high (rw (not_less v (lo n) not_low, not_less (hi n) v not_high) refl)))
 
 pub saturated_meant : (o : OverflowMode) (n m : ℕ) (v w a b : ℤ) → o ≡ overflow_mode.Saturate → m ≡ n → a ≡ lo m → b ≡ hi m
     → w ≡ (if int_lt v a then a else if int_lt b v then b else v) → IsFitted o n v w

@@ -7,4 +7,5 @@ widest_word = 32
 
 -- A word has at least one bit before the point, its sign, and 2 to `widest_word` bits in all.
 abbrev pub IsLawful : ℕ → ℕ → Type 0
-IsLawful int_bits frac_bits = (1 ≤ int_bits) × (2 ≤ int_bits + frac_bits) × (int_bits + frac_bits ≤ widest_word)
+IsLawful int_bits frac_bits = (1 ≤ int_bits) × (2 ≤ int_bits + frac_bits)
+    × (int_bits + frac_bits ≤ widest_word)

@@ -1,5 +1,6 @@
 -- Words of n bits in two's complement.
-use Rattle.std.specs.Prelude.{◌≡◌, ℕ, ◌+◌, ◌-◌, ◌^◌, if◌then◌else◌, ℤ, pos, neg_ℤ, ◌+ℤ◌, ◌-ℤ◌, ◌*ℤ◌, ◌≤ℤ◌, ◌<ℤ◌, int_lt}
+use Rattle.std.specs.Prelude.{◌≡◌, ℕ, ◌+◌, ◌-◌, ◌^◌, if◌then◌else◌, ℤ, pos}
+use Rattle.std.specs.Prelude.{neg_ℤ, ◌+ℤ◌, ◌-ℤ◌, ◌*ℤ◌, ◌≤ℤ◌, ◌<ℤ◌, int_lt}
 use Rattle.std.specs.Int.{int_rem_euclid}
 use Rattle.dsv_word.specs.declared.format.Format.{Format}
 use Rattle.dsv_names.specs.declared.overflow_mode.OverflowMode.{OverflowMode}
@@ -21,15 +22,16 @@ pub record IsWord (format : Format) (v : ℤ) : Type 0 where
   pub high : v ≤ℤ hi (width format)
 
 -- v as a word: by the rest of the division by 2^n, less 2^n where that is above the greatest word
-abbrev pub wrapped : ℕ → ℤ → ℤ
-wrapped n v = let rest = int_rem_euclid v (pos (2 ^ n)) in if int_lt rest (pos (2 ^ (n - 1))) then rest else rest -ℤ pos (2 ^ n)
+abbrev pub wrapped_word : ℕ → ℤ → ℤ
+wrapped_word n v = let rest = int_rem_euclid v (pos (2 ^ n)) in
+    if int_lt rest (pos (2 ^ (n - 1))) then rest else rest -ℤ pos (2 ^ n)
 
-abbrev pub saturated : ℕ → ℤ → ℤ
-saturated n v = if int_lt v (lo n) then lo n else if int_lt (hi n) v then hi n else v
+abbrev pub saturated_word : ℕ → ℤ → ℤ
+saturated_word n v = if int_lt v (lo n) then lo n else if int_lt (hi n) v then hi n else v
 
 abbrev pub fit : OverflowMode → ℕ → ℤ → ℤ
-fit overflow_mode.Wrap n v = wrapped n v
-fit overflow_mode.Saturate n v = saturated n v
+fit overflow_mode.Wrap n v = wrapped_word n v
+fit overflow_mode.Saturate n v = saturated_word n v
 
 -- ---- what these mean
 -- w is the word that differs from v by a multiple of 2^n
@@ -38,7 +40,7 @@ pub record IsWrapped (n : ℕ) (v w : ℤ) : Type 0 where
   pub high : w ≤ℤ hi n
   pub turns : (k : ℤ) × (v ≡ w +ℤ k *ℤ pos (2 ^ n))
 
--- w is the word nearest to v: v itself, or the end that it lies behind
+-- w is the word nearest to v: v itself, or the end that it lies after
 pub record IsNearest (n : ℕ) (v w : ℤ) : Type 0 where
   pub low : lo n ≤ℤ w
   pub high : w ≤ℤ hi n

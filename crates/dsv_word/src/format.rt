@@ -17,8 +17,9 @@ pub const WIDEST_WORD: u32 = 32;
 #[error("a word has at least one bit before the point, and 2 to {WIDEST_WORD} bits in all")]
 pub struct BadWidth;
 
-/// The format of words in two's complement: `int_bits` bits before the point, the sign among them, and `frac_bits`
-/// behind it, together 2 to `WIDEST_WORD`. The word `w` stands for `w / 2^frac_bits`.
+/// The format of words in two's complement: `int_bits` bits before the point, the sign among them,
+/// and `frac_bits` after it, together 2 to `WIDEST_WORD`. The word `w` stands for `w /
+/// 2^frac_bits`.
 #[derive(Clone, Copy, Debug, PartialEq, Eq)]
 pub struct Format {
     pub int_bits: u32,
@@ -29,14 +30,15 @@ pub struct Format {
 }
 
 impl Format {
-    ghost use Rattle.std.specs.Prelude.{◌≡◌, ◌≤◌, ◌<◌, ◌^◌, ◌↔◌, IsOk, IfOk, IsTrue, ◌≤ℤ◌, ◌*ℤ◌, pos};
+    ghost use Rattle.std.specs.Prelude.{◌≡◌, ◌≤◌, ◌<◌, ◌^◌, ◌↔◌, IsOk};
+    ghost use Rattle.std.specs.Prelude.{IfOk, IsTrue, ◌≤ℤ◌, ◌*ℤ◌, pos};
     ghost use Rattle.std.specs.Int.RustNames.{unsigned_abs};
-    ghost use Rattle.dsv_fraction.specs.Arithmetic.{times, bounded};
+    ghost use Rattle.dsv_fraction.specs.Arithmetic.{times, bounded_ratio};
     ghost use Rattle.dsv_word.specs.Width.{IsLawful, widest_word};
     ghost use Rattle.dsv_word.specs.Words.{width, lo, hi, fit, IsFitted};
-    ghost use Rattle.dsv_algebra.specs.Floor.{IsFloor, floored};
+    ghost use Rattle.dsv_algebra.specs.Floor.{IsFloor, floor_of};
     ghost use Rattle.dsv_algebra.specs.Narrow.{narrow_limit};
-    ghost use Rattle.dsv_word.specs.Quotients.{ceiled, shifted, rounded, word_of};
+    ghost use Rattle.dsv_word.specs.Quotients.{ceiling_of, whole_shift, rounded_quotient, word_of};
     ghost use Rattle.dsv_word.specs.Quotients.{IsCeiling, IsShifted, IsRounded};
 
     /// The format of these widths, in bits, and modes.
@@ -105,44 +107,50 @@ impl Format {
     /// `v / 2^frac_bits` made whole.
     pub fn round_shift(&self, v: i128) -> i128
         requires { unsigned_abs v < narrow_limit }
-        ensures value { result ≡ shifted self.now.rounding self.now.frac_bits v }
+        ensures value { result ≡ whole_shift self.now.rounding self.now.frac_bits v }
         ensures meaning { IsShifted self.now.rounding self.now.frac_bits v result }
     {
         shift(v, self.frac_bits, self.rounding)
     }
 
-    /// `q * 2^frac_bits` made whole, or TooWide where a part of it in lowest terms has a size of 2^127 or more.
+    /// `q * 2^frac_bits` made whole, or TooWide where a part of it in lowest terms has a size of
+    /// 2^127 or more.
     pub fn round_frac(&self, q: &Frac) -> Result<i128, TooWide>
-        ensures value { result ≡ word_of (rounded self.now.rounding) self.now.frac_bits q.now }
-        ensures meaning { IfOk result (IsRounded self.now.rounding (q.now.num *ℤ pos (2 ^ self.now.frac_bits)) q.now.den) }
+        ensures value { result ≡ word_of (rounded_quotient self.now.rounding) self.now.frac_bits
+            q.now }
+        ensures meaning { IfOk result
+            (IsRounded self.now.rounding (q.now.num *ℤ pos (2 ^ self.now.frac_bits)) q.now.den) }
     {
         match self.rounding {
             Rounding::Floor => self.floor_frac(q),
             Rounding::Ceil => self.ceil_frac(q),
-            Rounding::Nearest => Ok(nearest_to(&self.scaled(q)?)),
+            Rounding::Nearest => Ok(nearest_to(&self.in_units(q)?)),
         }
     }
 
     /// The greatest whole number that isn't above `q * 2^frac_bits`.
     pub fn floor_frac(&self, q: &Frac) -> Result<i128, TooWide>
-        ensures value { result ≡ word_of floored self.now.frac_bits q.now }
-        ensures meaning { IfOk result (IsFloor (q.now.num *ℤ pos (2 ^ self.now.frac_bits)) q.now.den) }
+        ensures value { result ≡ word_of floor_of self.now.frac_bits q.now }
+        ensures meaning { IfOk result
+            (IsFloor (q.now.num *ℤ pos (2 ^ self.now.frac_bits)) q.now.den) }
     {
-        Ok(floor_of(&self.scaled(q)?))
+        Ok(floor_of(&self.in_units(q)?))
     }
 
     /// The least whole number that isn't below `q * 2^frac_bits`.
     pub fn ceil_frac(&self, q: &Frac) -> Result<i128, TooWide>
-        ensures value { result ≡ word_of ceiled self.now.frac_bits q.now }
-        ensures meaning { IfOk result (IsCeiling (q.now.num *ℤ pos (2 ^ self.now.frac_bits)) q.now.den) }
+        ensures value { result ≡ word_of ceiling_of self.now.frac_bits q.now }
+        ensures meaning { IfOk result
+            (IsCeiling (q.now.num *ℤ pos (2 ^ self.now.frac_bits)) q.now.den) }
     {
-        Ok(ceiling_of(&self.scaled(q)?))
+        Ok(ceiling_of(&self.in_units(q)?))
     }
 
     /// `q * 2^frac_bits` in lowest terms.
-    fn scaled(&self, q: &Frac) -> Result<Frac, TooWide>
+    fn in_units(&self, q: &Frac) -> Result<Frac, TooWide>
         ensures positive { 0 < q.now.den }
-        ensures value { result ≡ bounded (times q.now (record { num = pos (2 ^ self.now.frac_bits); den = 1 })) }
+        ensures value { result ≡ bounded_ratio
+            (times q.now (record { num = pos (2 ^ self.now.frac_bits); den = 1 })) }
     {
         let _parts = q.to_parts();
         q.mul(&Frac::from(power(self.frac_bits)))

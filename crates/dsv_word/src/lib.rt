@@ -1,5 +1,5 @@
-//! Fixed-point words: numbers of a few bits in two's complement, and the roundings by which exact numbers become
-//! words.
+//! Fixed-point words: numbers of a few bits in two's complement, and the roundings by which exact
+//! numbers become words.
 #![tactic(auto)]
 
 mod format;

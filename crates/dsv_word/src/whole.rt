@@ -1,10 +1,11 @@
 // Fractions made whole.
 #![tactic(auto, using(dsv_algebra::proofs::Casts::casts))]
 
-ghost use Rattle.std.specs.Prelude.{◌≡◌, ◌≤◌, ◌<◌, ◌*◌, ◌^◌, pos, ◌+ℤ◌, ◌*ℤ◌};
-ghost use Rattle.dsv_algebra.specs.Floor.{floored};
+ghost use Rattle.std.specs.Prelude.{◌≡◌, ◌≤◌, ◌<◌, ◌*◌};
+ghost use Rattle.std.specs.Prelude.{◌^◌, pos, ◌+ℤ◌, ◌*ℤ◌};
+ghost use Rattle.dsv_algebra.specs.Floor.{floor_of};
 ghost use Rattle.dsv_algebra.specs.Narrow.{narrow_limit};
-ghost use Rattle.dsv_word.specs.Quotients.{ceiled, shifted};
+ghost use Rattle.dsv_word.specs.Quotients.{ceiling_of, whole_shift};
 ghost use Rattle.std.specs.Int.RustNames.{unsigned_abs};
 ghost use Rattle.dsv_word.specs.Width.{widest_word};
 
@@ -17,7 +18,7 @@ use dsv_names::Rounding;
 pub(crate) fn shift(v: i128, bits: u32, rounding: Rounding) -> i128
     requires size { unsigned_abs v < narrow_limit }
     requires bits { bits ≤ widest_word }
-    ensures { result ≡ shifted rounding bits v }
+    ensures { result ≡ whole_shift rounding bits v }
 {
     let size = i128::from(power(bits));
     match rounding {
@@ -35,7 +36,7 @@ pub(crate) fn shift(v: i128, bits: u32, rounding: Rounding) -> i128
 
 /// The greatest whole number that isn't above the fraction.
 pub(crate) fn floor_of(q: &Frac) -> i128
-    ensures { result ≡ floored q.now.num q.now.den }
+    ensures { result ≡ floor_of q.now.num q.now.den }
 {
     let (num, den) = q.to_parts();
     num.div_euclid(den)
@@ -43,7 +44,7 @@ pub(crate) fn floor_of(q: &Frac) -> i128
 
 /// The least whole number that isn't below the fraction.
 pub(crate) fn ceiling_of(q: &Frac) -> i128
-    ensures { result ≡ ceiled q.now.num q.now.den }
+    ensures { result ≡ ceiling_of q.now.num q.now.den }
 {
     let (num, den) = q.to_parts();
     -((-num).div_euclid(den))
@@ -51,7 +52,7 @@ pub(crate) fn ceiling_of(q: &Frac) -> i128
 
 /// The whole number nearest to the fraction, the upper one of two that are as near.
 pub(crate) fn nearest_to(q: &Frac) -> i128
-    ensures { result ≡ floored (pos 2 *ℤ q.now.num +ℤ pos q.now.den) (2 * q.now.den) }
+    ensures { result ≡ floor_of (pos 2 *ℤ q.now.num +ℤ pos q.now.den) (2 * q.now.den) }
 {
     let (num, den) = q.to_parts();
     let floor = num.div_euclid(den);

@@ -1,9 +1,10 @@
 // Words of a given number of bits.
 #![tactic(auto, using(dsv_algebra::proofs::Casts::casts))]
 
-ghost use Rattle.std.specs.Prelude.{◌≡◌, ◌≤◌, ◌^◌, ◌≤ℤ◌, if◌then◌else◌, int_lt, pos};
+ghost use Rattle.std.specs.Prelude.{◌≡◌, ◌≤◌, ◌^◌, ◌≤ℤ◌};
+ghost use Rattle.std.specs.Prelude.{if◌then◌else◌, int_lt, pos};
 ghost use Rattle.dsv_word.specs.Width.{widest_word};
-ghost use Rattle.dsv_word.specs.Words.{wrapped};
+ghost use Rattle.dsv_word.specs.Words.{wrapped_word};
 
 use crate::format::WIDEST_WORD;
 
@@ -21,7 +22,7 @@ pub(crate) fn power(bits: u32) -> i64
 pub(crate) fn wrap(v: i128, bits: u32) -> i64
     requires least { 1 ≤ bits }
     requires greatest { bits ≤ widest_word }
-    ensures { result ≡ wrapped bits v }
+    ensures { result ≡ wrapped_word bits v }
 {
     let size = power(bits);
     let rest = v.rem_euclid(i128::from(size)) as i64;
@@ -32,7 +33,7 @@ pub(crate) fn wrap(v: i128, bits: u32) -> i64
     }
 }
 
-/// The number, or the end that it lies behind.
+/// The number, or the end that it lies after.
 pub(crate) fn saturate(v: i128, low: i64, high: i64) -> i64
     ensures { result ≡ (if int_lt v low then low else if int_lt high v then high else v) }
 {

@@ -6,8 +6,8 @@ use Rattle.dsv_cli.proofs.deciding.controller_answer.Goals as goal
 pub returns-in-Ok-clause-controller : goal.returns-in-Ok-clause-controller
 returns-in-Ok-clause-controller c =
     of_words c.args.controller.now c.args.design (asked_task c.args.task.now) c.in-Ok.words c.task_answer.result
-    (record { format = c.format_of-format.result; modes = c.format_of-format.ensures; quantised = sym c.in-Ok.ensures.exact })
+    (record { format = c.format_of-format.result; modes = c.format_of-format.ensures; becomes = sym c.in-Ok.ensures.exact })
     c.task_answer.ensures.task
 
 pub returns-in-Err-clause-controller : goal.returns-in-Err-clause-controller
-returns-in-Err-clause-controller c = record { format = c.format_of-format.result; modes = c.format_of-format.ensures; quantised = sym c.in-Err.ensures.exact }
+returns-in-Err-clause-controller c = record { format = c.format_of-format.result; modes = c.format_of-format.ensures; becomes = sym c.in-Err.ensures.exact }

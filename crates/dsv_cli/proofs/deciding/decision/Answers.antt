@@ -11,7 +11,7 @@ returns-in-Falls-clause-decision c =
       record {
         direct = rw (← c.realisation.ensures.same) (sym c.is_delta.ensures ∙ c.if-is_delta.false);
         low = grind (arith, c.a-denominator.ensures.same);
-        reduced = rw (← c.a-denominator.ensures.same) c.reduced-poly.ensures.reduced;
+        reduced = rw (← c.a-denominator.ensures.same) c.reduced_polynomial-poly.ensures.reduced;
       },
       sym e.which,
       record { falls = e.shown.falls; closed_form = e.offer; accepted = e.accepted; fall_form = e.shown.fall_form },
@@ -25,9 +25,9 @@ returns-in-KeptAway-clause-decision c =
       record {
         direct = rw (← c.realisation.ensures.same) (sym c.is_delta.ensures ∙ c.if-is_delta.false);
         low = grind (arith, c.a-denominator.ensures.same);
-        reduced = rw (← c.a-denominator.ensures.same) c.reduced-poly.ensures.reduced;
+        reduced = rw (← c.a-denominator.ensures.same) c.reduced_polynomial-poly.ensures.reduced;
       },
       sym e.which,
-      shown_with c.reduced-poly.result c.in-KeptAway.offer c.in-KeptAway.fall (to_z w128 (of_z w128 value)) value (to_z-of_z w128 value fits)
+      shown_with c.reduced_polynomial-poly.result c.in-KeptAway.offer c.in-KeptAway.fall (to_z w128 (of_z w128 value)) value (to_z-of_z w128 value fits)
           (record { kept_away = e.shown.away; closed_form = e.offer; accepted = e.accepted; fall_form = e.shown.fall_form; value_at = e.shown.value_at }),
     )

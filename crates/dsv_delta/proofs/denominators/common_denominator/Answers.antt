@@ -1,5 +1,5 @@
 use Rattle.std.proofs.Common.{◌∙◌, ap, arith, sym, rules, pos, ℕ, take}
-use Rattle.dsv_algebra.specs.Narrow.{narrowed}
+use Rattle.dsv_algebra.specs.Narrow.{narrow_of}
 use Rattle.dsv_delta.proofs.Multiples.{common_next, lcm_grows}
 use Rattle.dsv_delta.specs.Deltas.{common}
 use Rattle.dsv_delta.proofs.denominators.common_denominator.Goals as goal
@@ -10,5 +10,5 @@ loop-fraction-preserved c =
     let old : ℕ = common (take c.loop-fraction.fraction-index c.args.fractions.now) in
     record {
       positive = omega (arith, next, lcm_grows old c.fraction-item.result.den c.loop-fraction.invariant.positive c.multiple-common.ensures.positive, c.loop-fraction.invariant.positive);
-      same = c.multiple-common.ensures.value old c.loop-fraction.invariant.positive c.loop-fraction.invariant.same ∙ ap (λ n. narrowed (pos n)) (sym next);
+      same = c.multiple-common.ensures.value old c.loop-fraction.invariant.positive c.loop-fraction.invariant.same ∙ ap (λ n. narrow_of (pos n)) (sym next);
     }

@@ -13,7 +13,7 @@ returns-in-Err-clause-value c =
     let at : c.loop-sum.sum-index ≡ c.len-index.result = omega arith in
     sym c.loop-sum.invariant.same
     ∙ wide_coefficient c.args.list c.args.delta.now (unsigned_abs c.args.common) (vector_of c.args.sums.now) (length c.args.sums.now - c.loop-sum.sum-index) (length c.args.sums.now - (c.loop-sum.sum-index + 1))
-    c.len-index.result c.loop-sum.out.items c.from.result c.in-Err.field-0 (omega arith) c.len-index.ensures.value (from ∙ ap (vector_of c.args.sums.now) at) (sym c.divided.ensures ∙ c.in-Err.is)
+    c.len-index.result c.loop-sum.out.items c.from.result c.in-Err.field-0 (omega arith) c.len-index.ensures.value (from ∙ ap (vector_of c.args.sums.now) at) (sym c.bounded_over_power.ensures ∙ c.in-Err.is)
 
 pub loop-sum-preserved : goal.loop-sum-preserved
 loop-sum-preserved c = record {
@@ -24,6 +24,6 @@ loop-sum-preserved c = record {
       let at : c.loop-sum.sum-index ≡ c.len-index.result = omega arith in
       rw c.push.ensures.items
       (next_coefficient c.args.list c.args.delta.now (unsigned_abs c.args.common) (vector_of c.args.sums.now) (length c.args.sums.now - c.loop-sum.sum-index) (length c.args.sums.now - (c.loop-sum.sum-index + 1))
-      c.len-index.result c.loop-sum.out.items c.from.result c.in-Ok.coefficient (omega arith) c.len-index.ensures.value (from ∙ ap (vector_of c.args.sums.now) at) (sym c.divided.ensures ∙ c.in-Ok.is)
+      c.len-index.result c.loop-sum.out.items c.from.result c.in-Ok.coefficient (omega arith) c.len-index.ensures.value (from ∙ ap (vector_of c.args.sums.now) at) (sym c.bounded_over_power.ensures ∙ c.in-Ok.is)
       ∙ c.loop-sum.invariant.same);
 }

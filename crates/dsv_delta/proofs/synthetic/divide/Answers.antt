@@ -4,7 +4,7 @@ use Rattle.std.proofs.lemmas.List.{drop-set-lt}
 use mir.Syntax.{w128}
 use mir.Val.{SFits, to_z}
 use Rattle.dsv_delta.specs.Binomials.{weight}
-use Rattle.dsv_delta.specs.Running.{running}
+use Rattle.dsv_delta.specs.Running.{running_sums}
 use Rattle.dsv_delta.proofs.Weights.{carry_small, running_step}
 use Rattle.dsv_delta.proofs.synthetic.divide.Goals as goal
 
@@ -25,5 +25,5 @@ loop-coefficient-preserved c =
     rw (to_z-of_z w128 n fits, to_z-of_z w128 (carry +ℤ n) total)
     (record {
       small = omega (arith, small, ap weight (drop-set-lt (c.loop-coefficient.coefficient-index + 1) c.loop-coefficient.coefficients c.loop-coefficient.coefficient-index (carry +ℤ n) (omega arith)));
-      same = running_step c.loop-coefficient.coefficients c.loop-coefficient.coefficient-index carry (running (pos 0) c.args.coefficients.now) (search rules) c.loop-coefficient.invariant.same;
+      same = running_step c.loop-coefficient.coefficients c.loop-coefficient.coefficient-index carry (running_sums (pos 0) c.args.coefficients.now) (search rules) c.loop-coefficient.invariant.same;
     })

@@ -1,13 +1,13 @@
 use Rattle.std.specs.List.{flat_map}
 use Rattle.std.specs.Fmt.{signed_decimal}
-use Rattle.dsv_base.specs.Text.{spaced}
+use Rattle.dsv_base.specs.Text.{spaced_text}
 use Rattle.dsv_base.proofs.TakingLemmas.{writes_after, writes_err, cut_later, cut_more, wrote_more}
 use Rattle.dsv_report.specs.Report.{value_text}
 use Rattle.dsv_report.proofs.report.put_start.Goals as goal
 
 pub returns-in_err-put_all : goal.returns-in_err-put_all
 returns-in_err-put_all g c =
-    writes_err c.from_residual.ensures.0 (cut_more (value_text c.args.value.now) (cut_more (flat_map (spaced signed_decimal) c.args.start.now) c.in_err-put_all.ensures.cut))
+    writes_err c.from_residual.ensures.0 (cut_more (value_text c.args.value.now) (cut_more (flat_map (spaced_text signed_decimal) c.args.start.now) c.in_err-put_all.ensures.cut))
 
 pub returns-in_err-put_numbers : goal.returns-in_err-put_numbers
 returns-in_err-put_numbers g c =

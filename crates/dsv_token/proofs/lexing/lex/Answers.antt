@@ -9,7 +9,7 @@ pieces-preserved-in-Gap c =
     let piece = rw c.rest.ensures at c.in-Gap.ensures.value in
     record {
       within = omega (arith, fits.1, length-drop c.pieces.at c.args.text.now);
-      lexed = gap_step c.args.text.now c.pieces.at c.in-Gap.len c.pieces.fresh c.in-Gap.next c.pieces.tokens c.pieces-test.true fits.0 piece ∙ c.pieces.invariant.lexed;
+      same = gap_step c.args.text.now c.pieces.at c.in-Gap.len c.pieces.fresh c.in-Gap.next c.pieces.tokens c.pieces-test.true fits.0 piece ∙ c.pieces.invariant.same;
       placed = in_order_later c.pieces.tokens 0 c.pieces.at (c.pieces.at + c.in-Gap.len) (omega arith) c.pieces.invariant.placed;
     }
 
@@ -19,6 +19,6 @@ pieces-preserved c =
     let piece = rw c.rest.ensures at c.in-Found.ensures.value in
     record {
       within = omega (arith, fits.1, length-drop c.pieces.at c.args.text.now);
-      lexed = found_step c.args.text.now c.pieces.at c.in-Found.len c.pieces.fresh c.in-Found.kind c.pieces.tokens c.push.new.self c.pieces-test.true fits.0 piece c.in_ok-push-in-Found.ensures.ok ∙ c.pieces.invariant.lexed;
+      same = found_step c.args.text.now c.pieces.at c.in-Found.len c.pieces.fresh c.in-Found.kind c.pieces.tokens c.push.new.self c.pieces-test.true fits.0 piece c.in_ok-push-in-Found.ensures.ok ∙ c.pieces.invariant.same;
       placed = rw c.in_ok-push-in-Found.ensures.ok (in_order_push c.pieces.tokens (record { kind = c.in-Found.kind; at = c.pieces.at; len = c.in-Found.len }) 0 (c.pieces.at + c.in-Found.len) (omega arith) fits.0 (omega arith) c.pieces.invariant.placed);
     }

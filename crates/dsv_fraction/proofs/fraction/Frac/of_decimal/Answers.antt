@@ -11,16 +11,16 @@ returns-in_err-value_of c =
     let fits : SFits w32 c.in-Some.exponent = search rules in
     err_is c.from_residual.result c.from_residual.ensures.1
     ∙ ap or_too_wide c.in_err-value_of.ensures
-    ∙ read_is c.args.text.now c.rest-body.result.now c.rest.result.now c.front_digits.result.now c.behind_point.result.now c.has_byte.result c.in-Some.exponent _
+    ∙ read_is c.args.text.now c.rest-body.result.now c.rest.result.now c.leading_digits.result.now c.digits_after_point.result.now c.has_byte.result c.in-Some.exponent _
     c.if-not-is_number.ensures (body_is _ _ _ _ c.sign_len.ensures.value c.rest-body.ensures) (body_is _ _ _ _ c.whole_len.ensures.value c.rest.ensures)
-    c.front_digits.ensures c.behind_point.ensures c.if-front_digits-behind_point-gt-MOST_DIGITS.false c.in-Some.ensures.value
+    c.leading_digits.ensures c.digits_after_point.ensures c.if-leading_digits-digits_after_point-gt-MOST_DIGITS.false c.in-Some.ensures.value
     (to_z-of_z w32 c.in-Some.exponent fits) c.has_byte.ensures
 
 pub returns : goal.returns
 returns c =
     let fits : SFits w32 c.in-Some.exponent = search rules in
     ap or_too_wide c.in_ok-value_of.ensures
-    ∙ read_is c.args.text.now c.rest-body.result.now c.rest.result.now c.front_digits.result.now c.behind_point.result.now c.has_byte.result c.in-Some.exponent _
+    ∙ read_is c.args.text.now c.rest-body.result.now c.rest.result.now c.leading_digits.result.now c.digits_after_point.result.now c.has_byte.result c.in-Some.exponent _
     c.if-not-is_number.ensures (body_is _ _ _ _ c.sign_len.ensures.value c.rest-body.ensures) (body_is _ _ _ _ c.whole_len.ensures.value c.rest.ensures)
-    c.front_digits.ensures c.behind_point.ensures c.if-front_digits-behind_point-gt-MOST_DIGITS.false c.in-Some.ensures.value
+    c.leading_digits.ensures c.digits_after_point.ensures c.if-leading_digits-digits_after_point-gt-MOST_DIGITS.false c.in-Some.ensures.value
     (to_z-of_z w32 c.in-Some.exponent fits) c.has_byte.ensures

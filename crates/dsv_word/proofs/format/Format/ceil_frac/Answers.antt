@@ -2,7 +2,7 @@ use Rattle.std.proofs.Common.{rules}
 use Rattle.std.proofs.lemmas.Int.{to_z-of_z}
 use mir.Syntax.{w128}
 use mir.Val.{SFits}
-use Rattle.dsv_word.specs.Quotients.{ceiled}
+use Rattle.dsv_word.specs.Quotients.{ceiling_of}
 use Rattle.dsv_word.proofs.Floors.{ceiled_same}
 use Rattle.dsv_word.proofs.Meanings.{word_is, ceiling_meant}
 use Rattle.dsv_word.proofs.format.Format.ceil_frac.Goals as goal
@@ -11,7 +11,7 @@ pub returns-clause-value : goal.returns-clause-value
 returns-clause-value c =
     let fits : SFits w128 c.ceiling_of.result = search rules in
     rw (to_z-of_z w128 c.ceiling_of.result fits)
-    (word_is ceiled c.args.self.now.frac_bits c.args.q.now c.in_ok-scaled.field-0 _ ceiled_same c.in_ok-scaled.ensures.positive c.in_ok-scaled.ensures.value c.ceiling_of.ensures)
+    (word_is ceiling_of c.args.self.now.frac_bits c.args.q.now c.in_ok-in_units.field-0 _ ceiled_same c.in_ok-in_units.ensures.positive c.in_ok-in_units.ensures.value c.ceiling_of.ensures)
 
 pub returns-clause-meaning : goal.returns-clause-meaning
-returns-clause-meaning c = ceiling_meant c.args.self.now.frac_bits c.args.q.now _ c.in_ok-scaled.ensures.positive (returns-clause-value c)
+returns-clause-meaning c = ceiling_meant c.args.self.now.frac_bits c.args.q.now _ c.in_ok-in_units.ensures.positive (returns-clause-value c)

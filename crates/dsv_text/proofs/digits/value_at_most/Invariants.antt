@@ -1,0 +1,6 @@
+use Rattle.std.proofs.Common.{◌≡◌, ◌≤◌, drop}
+use Rattle.dsv_text.specs.Digits.{digits_value}
+use Rattle.dsv_text.proofs.digits.value_at_most.Given as goal
+
+abbrev pub invariant-loop-byte : goal.invariant-loop-byte
+invariant-loop-byte l = (l.value ≤ l.limit) × (digits_value l.value (drop l.byte-index l.digits) ≡ digits_value 0 l.digits)
