@@ -1,5 +1,5 @@
 -- A form at the image of a vector under a matrix.
-use Rattle.std.proofs.Common.{◌≡◌, ℕ, zero, suc, [], ◌∷◌, refl, sym, ◌∙◌}
+use Rattle.std.proofs.Common.{◌≡◌, ℕ, zero, suc, ◌<◌, [], ◌∷◌, refl, sym, ap, ◌∙◌}
 use Rattle.std.proofs.Math.IntN.{ℤ, ◌*ℤ◌}
 use Rattle.dsv_algebra.proofs.Normaliser.{ring, env, var, times}
 use Rattle.dsv_algebra.specs.Vectors.{Vector, Matrix, sum_to, form_at, dot, congruence}
@@ -38,3 +38,12 @@ form_congruence d P C v =
     (λ i p. sum_same d (λ j. P i j *ℤ dot d (C i) v *ℤ dot d (C j) v) (λ j. form_at d (λ k l. P i j *ℤ C i k *ℤ C j l) v) (λ j q. entry_out d (P i j) (C i) (C j) v)
     ∙ form_sum d d (λ j k l. P i j *ℤ C i k *ℤ C j l) v)
     ∙ form_sum d d (λ i k l. sum_to d (λ j. P i j *ℤ C i k *ℤ C j l)) v
+
+-- the matrix C^T P C of a symmetric form is symmetric
+pub congruence-turned : (d : ℕ) (P C : Matrix) (k l : ℕ) → ((i j : ℕ) → i < d → j < d → P i j ≡ P j i) → congruence d P C k l ≡ congruence d P C l k
+congruence-turned d P C k l h =
+    sum_swap d d (λ i j. P i j *ℤ C i k *ℤ C j l)
+    ∙ sum_same d (λ j. sum_to d (λ i. P i j *ℤ C i k *ℤ C j l)) (λ j. sum_to d (λ i. P j i *ℤ C j l *ℤ C i k))
+    (λ j b. sum_same d (λ i. P i j *ℤ C i k *ℤ C j l) (λ i. P j i *ℤ C j l *ℤ C i k)
+    (λ i a. ap (λ p. p *ℤ C i k *ℤ C j l) (h i j a b)
+    ∙ ring (env (P j i ∷ C i k ∷ C j l ∷ [])) (times (times (var 0) (var 1)) (var 2)) (times (times (var 0) (var 2)) (var 1)) refl))

@@ -1,5 +1,5 @@
 -- A task for a controller in words has one answer.
-use Rattle.std.proofs.Common.{◌≡◌, ◌∙◌, ◌⊎◌, inl, inr, sym, ap, subst, refl, ℕ, ◌<◌, ◌≤◌, List, length, take, arith}
+use Rattle.std.proofs.Common.{◌≡◌, ◌∙◌, ◌⊎◌, inl, inr, sym, ap, subst, refl, ℕ, ◌<◌, ◌≤◌, List, Some, length, take, arith}
 use Rattle.std.specs.Prelude.{true, false, Some, slice_get}
 use Rattle.std.specs.List.{All}
 use Rattle.std.proofs.Math.IntN.{ℤ}
@@ -52,15 +52,15 @@ one_fall : (p q : List ℤ) (P R F G : Form) → p ≡ q → P ≡ R → Loses p
 one_fall p q P R F G e f h k =
     one_fall_form (degree p) (vector_of p) P F G h (subst (λ poly. Loses poly P G) (sym e) (subst (λ form. Loses q form G) (sym f) k))
 
-offer_falls : (o u : Falls) → offered.Falls o ≡ offered.Falls u → o ≡ u
+offer_falls : (o u : Falls) → Some (offered.Falls o) ≡ Some (offered.Falls u) → o ≡ u
 offer_falls o u e = cc
 
-offer_kept_away : (o u : KeptAway) → offered.KeptAway o ≡ offered.KeptAway u → o ≡ u
+offer_kept_away : (o u : KeptAway) → Some (offered.KeptAway o) ≡ Some (offered.KeptAway u) → o ≡ u
 offer_kept_away o u e = cc
 
 falls_once : (p q : List ℤ) (o u : Falls) (f g : Form) → p ≡ q → ShowsFall p o f → ShowsFall q u g → SameAnswer (answer.Falls p o f) (answer.Falls q u g)
 falls_once p q o u f g e h k =
-    let offers = offer_falls o u (h.closed_form ∙ ap closed_form_of e ∙ sym k.closed_form) in
+    let offers = offer_falls o u (sym h.closed_form ∙ ap closed_form_of e ∙ k.closed_form) in
     (e, offers, one_fall p q o.form u.form f g e (ap (λ (x : Falls). x.form) offers) h.fall_form k.fall_form)
 
 abbrev value_of : List ℤ → KeptAway → ℤ
@@ -69,7 +69,7 @@ value_of poly offer = form_at (degree poly) (matrix_of offer.form.rows) (vector_
 kept_away_once : (p q : List ℤ) (o u : KeptAway) (f g : Form) (v w : ℤ) → p ≡ q → ShowsKeptAway p o f v → ShowsKeptAway q u g w
     → SameAnswer (answer.KeptAway p o f v) (answer.KeptAway q u g w)
 kept_away_once p q o u f g v w e h k =
-    let offers = offer_kept_away o u (h.closed_form ∙ ap closed_form_of e ∙ sym k.closed_form) in (
+    let offers = offer_kept_away o u (sym h.closed_form ∙ ap closed_form_of e ∙ k.closed_form) in (
       e,
       offers,
       one_fall p q o.form u.form f g e (ap (λ (x : KeptAway). x.form) offers) h.fall_form k.fall_form,

@@ -87,7 +87,7 @@ pub record IsRun (job : Asked) (bytes : List ℕ) (inputs : List ℤ) (words : F
 -- the closed form's, its check accepts it, and `fall` is what it loses in a step.
 pub record ShowsFall (poly : List ℤ) (offer : Falls) (fall : Form) : Type 0 where
   pub falls : StrictlyFallsAlong (degree poly) (vector_of poly) (matrix_of offer.form.rows)
-  pub closed_form : offered.Falls offer ≡ closed_form_of poly
+  pub closed_form : closed_form_of poly ≡ Some (offered.Falls offer)
   pub accepted : falls_refusal poly offer ≡ None
   pub fall_form : IsFallForm (degree poly) (vector_of poly) offer.form fall
 
@@ -97,7 +97,7 @@ pub record ShowsFall (poly : List ℤ) (offer : Falls) (fall : Form) : Type 0 wh
 pub record ShowsKeptAway (poly : List ℤ) (offer : KeptAway) (fall : Form) (value : ℤ) : Type 0 where
   pub kept_away : IsKeptAwayAlong (degree poly) (vector_of poly) (matrix_of offer.form.rows)
       (vector_of offer.start)
-  pub closed_form : offered.KeptAway offer ≡ closed_form_of poly
+  pub closed_form : closed_form_of poly ≡ Some (offered.KeptAway offer)
   pub accepted : kept_away_refusal poly offer ≡ None
   pub fall_form : IsFallForm (degree poly) (vector_of poly) offer.form fall
   pub value_at : value ≡ form_at (degree poly) (matrix_of offer.form.rows) (vector_of offer.start)

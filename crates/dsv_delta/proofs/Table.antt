@@ -25,11 +25,11 @@ column n k j = sum_to (suc j) (λ i. n i *ℤ pos (choose (j - i + k) k))
 times_one : (n : ℤ) → n *ℤ pos 1 ≡ n
 times_one n = ring (env (n ∷ [])) (times (var 0) (num (pos 1))) (var 0) refl
 
-choose_none : (n : ℕ) → choose n 0 ≡ 1
+pub choose_none : (n : ℕ) → choose n 0 ≡ 1
 choose_none zero = refl
 choose_none (suc n) = refl
 
-choose_over : (n k : ℕ) → n < k → choose n k ≡ 0
+pub choose_over : (n k : ℕ) → n < k → choose n k ≡ 0
 choose_over n zero h = absurd (omega arith)
 choose_over zero (suc k) h = refl
 choose_over (suc n) (suc k) h = omega (arith, choose_over n k (omega arith), choose_over n (suc k) (omega arith))

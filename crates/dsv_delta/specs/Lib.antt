@@ -1,3 +1,5 @@
 pub mod Binomials
 pub mod Deltas
+pub mod Differences
 pub mod Running
+pub mod ZCoefficients

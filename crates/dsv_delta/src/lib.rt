@@ -4,8 +4,10 @@
 mod converting;
 mod denominators;
 mod powers;
+mod powers_of_z;
 mod refusal;
 mod synthetic;
 
 pub use converting::{DeltaPair, to_delta};
-pub use refusal::DeltaWide;
+pub use powers_of_z::{ZCoeffs, z_poly};
+pub use refusal::{DeltaWide, PolyWide};

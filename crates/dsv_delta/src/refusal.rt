@@ -10,3 +10,10 @@ pub struct DeltaWide {
     pub list: ListName,
     pub index: u32,
 }
+
+/// A coefficient of the list is too wide once the powers of delta's denominator are taken out.
+#[derive(Clone, Copy, Debug, PartialEq, Eq, Error)]
+#[error("the coefficient {index} is too wide for a polynomial in z")]
+pub struct PolyWide {
+    pub index: u32,
+}

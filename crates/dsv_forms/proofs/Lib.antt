@@ -1,6 +1,10 @@
-pub mod OneAnswer
-pub mod OneAwayAnswer
-pub mod OneAwayLemmas
-pub mod OneFall
-pub mod OnePlaceLemmas
-pub mod OneSound
+pub mod Dominance
+pub mod FallLemmas
+pub mod OfferLemmas
+pub mod Passing
+pub mod PassingOffers
+pub mod Places
+pub mod Shown
+pub mod Sides
+pub mod SumLemmas
+pub mod Values

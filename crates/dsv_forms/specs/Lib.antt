@@ -1,5 +1,4 @@
 pub mod FallForm
-pub mod OneAway
-pub mod OnePlace
 pub mod Poly
 pub mod Refusals
+pub mod Sums

@@ -82,15 +82,25 @@ side_numbers n s x i j =
     ++ partial_sums (pos 0) (square_terms n s i j)
     ++ right_side n s i j ∷ []
 
+-- the tests of both sides at a place where the form has the entry x, with these numbers on its own
+-- way
+abbrev pub place_tests : Part → ℕ → Squares → ℤ → List ℤ → ℕ → ℕ → List Test
+place_tests p n s x numbers i j =
+    (any_wide (numbers ++ side_numbers n s x i j), refusal.Wide p i j)
+    ∷ (not (int_eq (s.m *ℤ x) (right_side n s i j)), refusal.Identity p i j)
+    ∷ []
+
+-- those of row i, from the diagonal on
+abbrev pub row_tests : Part → ℕ → ℕ → Squares → Matrix → (ℕ → ℕ → List ℤ) → ℕ
+    → List Test
+row_tests p d n s T numbers i =
+    flat_map (λ j. place_tests p n s (T i j) (numbers i j) i j) (places_from i d)
+
 -- The tests of both sides, place by place, with n squares for the form T of d places, whose entry
 -- at i, j has these numbers on its own way.
 abbrev pub side_tests : Part → ℕ → ℕ → Squares → Matrix → (ℕ → ℕ → List ℤ)
     → List Test
-side_tests p d n s T numbers =
-    flat_map (λ i. flat_map (λ j.
-    (any_wide (numbers i j ++ side_numbers n s (T i j) i j), refusal.Wide p i j)
-    ∷ (not (int_eq (s.m *ℤ T i j) (right_side n s i j)), refusal.Identity p i j)
-    ∷ []) (places_from i d)) (places d)
+side_tests p d n s T numbers = flat_map (row_tests p d n s T numbers) (places d)
 
 -- the sizes beside the diagonal in a row of the rest
 abbrev pub sizes_beside : ℕ → Squares → ℕ → List ℤ
@@ -116,12 +126,18 @@ abbrev pub bad_row : Squares → ℕ → Bool
 bad_row s k = list_any (λ j. not (int_eq (rows_of s k j) (pos 0))) (places k)
     || int_eq (rows_of s k k) (pos 0)
 
+abbrev pub positive_weight_tests : Part → ℕ → Squares → List Test
+positive_weight_tests p d s = map (λ k. (bad_weight s k, refusal.Weight p k)) (places d)
+
+abbrev pub triangle_tests : Part → ℕ → Squares → List Test
+triangle_tests p d s = map (λ k. (bad_row s k, refusal.Triangle p k)) (places d)
+
 -- the tests of squares that show the form T to be positive
 abbrev pub definite_tests : Part → ℕ → Squares → Matrix → (ℕ → ℕ → List ℤ) → List Test
 definite_tests p d s T numbers =
     (bad_shape d s, refusal.Shape p)
-    ∷ map (λ k. (bad_weight s k, refusal.Weight p k)) (places d)
-    ++ map (λ k. (bad_row s k, refusal.Triangle p k)) (places d)
+    ∷ positive_weight_tests p d s
+    ++ triangle_tests p d s
     ++ side_tests p d d s T numbers
     ++ dominance_tests p d s
 
@@ -132,18 +148,24 @@ too_many_rows d s = bad_rest d s || nat_lt d s.count
 abbrev pub negative_weight : Squares → ℕ → Bool
 negative_weight s k = int_lt (weights_of s k) (pos 0)
 
+abbrev pub weak_weight_tests : Part → Squares → List Test
+weak_weight_tests p s = map (λ k. (negative_weight s k, refusal.Weight p k)) (places s.count)
+
 -- the tests of squares that show the form T to be nowhere negative
 abbrev pub semidefinite_tests : Part → ℕ → Squares → Matrix → (ℕ → ℕ → List ℤ)
     → List Test
 semidefinite_tests p d s T numbers =
     (too_many_rows d s, refusal.Shape p)
-    ∷ map (λ k. (negative_weight s k, refusal.Weight p k)) (places s.count)
+    ∷ weak_weight_tests p s
     ++ side_tests p d s.count s T numbers
     ++ dominance_tests p d s
 
 -- ---- offers
 abbrev pub bad_form : ℕ → Form → Bool
 bad_form d form = not (form.d == d) || not (is_symmetric d (matrix_of form.rows))
+
+abbrev pub form_tests : ℕ → Form → List Test
+form_tests d form = (bad_form d form, refusal.Shape part.Form) ∷ []
 
 -- the numbers on the way to an entry of the fall form
 abbrev pub fall_numbers : ℕ → Vector → Matrix → ℕ → ℕ → List ℤ

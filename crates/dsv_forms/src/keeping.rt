@@ -1,94 +1,83 @@
 // The check of an offer of a form that is kept away.
-ghost use Rattle.std.specs.Prelude.{◌≡◌, ◌≤◌, ◌+◌, ◌-◌, length, Some, IfOk, OnOk};
+ghost use Rattle.std.specs.Prelude.{◌≡◌, ◌<◌, ◌≤◌, ◌+◌, ◌-◌};
+ghost use Rattle.std.specs.Prelude.{length, pos, Some, IfOk, OnOk};
 ghost use Rattle.dsv_algebra.specs.Vectors.{form_at, vector_of, matrix_of};
 ghost use Rattle.dsv_algebra.specs.Companion.{IsKeptAwayAlong};
 ghost use Rattle.dsv_forms.specs.FallForm.{IsFallForm};
+ghost use Rattle.dsv_forms.specs.Poly.{greatest_order};
 ghost use Rattle.dsv_forms.specs.Refusals.{refusal_of, kept_away_refusal};
-ghost use Rattle.dsv_forms.specs.OnePlace.{fall_of, HasOneEntry};
-ghost use Rattle.dsv_forms.specs.OneAway.{value_of, value_refusal};
-ghost use Rattle.dsv_forms.specs.OneAway.{one_place_kept_away, no_place_kept_away};
+ghost use Rattle.dsv_forms.specs.Sums.{sum_with, sum_from, product};
+ghost use Rattle.dsv_forms.specs.Sums.{row_summands, value_summands, value_refusal};
 
-use crate::checking::{check_no_squares, one_entry};
-use crate::one_place::{check_weak_place, fall_entry};
-use crate::{Form, FormRefusal, KeptAway, Part, Poly};
+use crate::checking::check_form;
+use crate::fall::fall_form;
+use crate::matrix::entry;
+use crate::squares::check_semidefinite;
+use crate::sums::sum_with_product;
+use crate::{Form, FormRefusal, GREATEST_ORDER, KeptAway, Part, Poly};
 use dsv_algebra::NarrowInteger;
 
-/// Checks that the offer shows a form which is negative at the start and rises along no trajectory
-/// of the polynomial. It gives what the form loses in a step and its value at the start, and takes
-/// no memory.
-pub fn check_kept_away(poly: &Poly, offer: &KeptAway) -> Result<(Form, i128), FormRefusal>
-    requires { length poly.now ≤ 2 }
-    // The first test that refuses, in their order; the offer is accepted exactly where none does.
-    ensures refusal { refusal_of result ≡ kept_away_refusal poly.now offer.now }
-    ensures away { IfOk result
-        (λ x. IsKeptAwayAlong (length poly.now - 1) (vector_of poly.now)
-        (matrix_of offer.now.form.rows) (vector_of offer.now.start)) }
-    ensures fall { IfOk result
-        (λ x. IsFallForm (length poly.now - 1) (vector_of poly.now) offer.now.form x.0) }
-    ensures value { IfOk result (λ x. x.1
-        ≡ form_at (length poly.now - 1) (matrix_of offer.now.form.rows)
-        (vector_of offer.now.start)) }
-    ensures places { OnOk result (offer.now.form.d + 1 ≡ length poly.now) }
+/// A vector of up to eight places.
+type Start = [i64; GREATEST_ORDER];
+
+/// The entry of a vector.
+fn place(start: &Start, i: usize) -> NarrowInteger
+    requires { i < greatest_order }
+    ensures { result ≡ vector_of start.now i }
 {
-    match poly.coefficients() {
-        [_] => Err(refusal_without_place(offer)),
-        [c0, c1] => check_place(NarrowInteger::from(*c0), NarrowInteger::from(*c1), offer),
-        _ => unreachable!(),
-    }
+    NarrowInteger::from(start[i])
 }
 
-/// Why an offer isn't accepted for a polynomial of order 0, where a form is 0 at each start.
-fn refusal_without_place(offer: &KeptAway) -> FormRefusal
-    ensures { result ≡ no_place_kept_away offer.now }
+/// The sum with a product of an entry and two places more, where no number on the way is too wide.
+fn sum_with_entry(
+    sum: NarrowInteger,
+    form: &Form,
+    start: &Start,
+    i: usize,
+    j: usize,
+) -> Option<NarrowInteger>
+    requires row { i < greatest_order }
+    requires column { j < greatest_order }
+    ensures { result ≡ sum_with sum (product (matrix_of form.now.rows i j) (vector_of start.now i)
+        (vector_of start.now j)) }
 {
-    if offer.form.d != 0 {
-        return FormRefusal::Shape { part: Part::Form };
-    }
-    match check_no_squares(Part::Fall, &offer.fall) {
-        Err(refusal) => refusal,
-        Ok(()) => FormRefusal::StartNotNegative { value: 0 },
-    }
+    sum_with_product(
+        sum,
+        entry(&form.rows, i, j),
+        place(start, i),
+        place(start, j),
+    )
 }
 
-/// Checks an offer for the polynomial c0, c1.
-fn check_place(
-    c0: NarrowInteger,
-    c1: NarrowInteger,
-    offer: &KeptAway,
-) -> Result<(Form, i128), FormRefusal>
-    ensures refusal { refusal_of result ≡ one_place_kept_away c0 c1 offer.now }
-    ensures places { IfOk result (λ x. (offer.now.form.d ≡ 1) × (x.0.d ≡ 1)) }
-    ensures fall { IfOk result (λ x. fall_of c0 c1 (matrix_of offer.now.form.rows 0 0)
-        ≡ Some (matrix_of x.0.rows 0 0)) }
-    ensures rows { IfOk result (λ x. HasOneEntry x.0.rows (matrix_of x.0.rows 0 0)) }
-    ensures value { IfOk result
-        (λ x. value_of (matrix_of offer.now.form.rows 0 0) (vector_of offer.now.start 0)
-        ≡ Some x.1) }
+/// The sum with a row of the form's value at the start more, where no number on the way is too
+/// wide.
+fn sum_with_row(sum: NarrowInteger, form: &Form, start: &Start, i: usize) -> Option<NarrowInteger>
+    requires few { form.now.d ≤ greatest_order }
+    requires row { i < greatest_order }
+    ensures { result ≡ sum_from sum
+        (row_summands form.now.d (matrix_of form.now.rows) (vector_of start.now) i) }
 {
-    if offer.form.d != 1 {
-        return Err(FormRefusal::Shape { part: Part::Form });
+    let mut sum = sum;
+    for j in 0..form.d as usize {
+        sum = sum_with_entry(sum, form, start, i, j)?;
     }
-    let entry = NarrowInteger::from(offer.form.rows[0][0]);
-    let fall = check_weak_place(Part::Fall, &offer.fall, fall_entry(c0, c1, entry))?;
-    let value = check_value(value_at_start(offer))?;
-    let form = Form {
-        d: 1,
-        rows: one_entry(fall.get()),
-    };
-    Ok((form, value.get()))
+    Some(sum)
 }
 
-/// The value of a form of one place at the start, where nothing on the way is too wide.
-fn value_at_start(offer: &KeptAway) -> Option<NarrowInteger>
-    ensures { result ≡ value_of (matrix_of offer.now.form.rows 0 0) (vector_of offer.now.start 0) }
+/// The form's value at the start, where no number on the way is too wide.
+fn value_at(form: &Form, start: &Start) -> Option<NarrowInteger>
+    requires { form.now.d ≤ greatest_order }
+    ensures { result ≡ sum_from (pos 0)
+        (value_summands form.now.d (matrix_of form.now.rows) (vector_of start.now)) }
 {
-    let entry = NarrowInteger::from(offer.form.rows[0][0]);
-    let start = NarrowInteger::from(offer.start[0]);
-    let product = entry.checked_mul(start)?;
-    product.checked_mul(start)
+    let mut sum = NarrowInteger::from(0i64);
+    for i in 0..form.d as usize {
+        sum = sum_with_row(sum, form, start, i)?;
+    }
+    Some(sum)
 }
 
-/// Checks that a form's value at the start is negative, and gives it.
+/// Checks that a value at the start, where there is one, is negative, and gives it.
 fn check_value(value: Option<NarrowInteger>) -> Result<NarrowInteger, FormRefusal>
     ensures refusal { refusal_of result ≡ value_refusal value }
     ensures value { IfOk result (λ x. value ≡ Some x) }
@@ -103,4 +92,27 @@ fn check_value(value: Option<NarrowInteger>) -> Result<NarrowInteger, FormRefusa
         return Err(FormRefusal::StartNotNegative { value: value.get() });
     }
     Ok(value)
+}
+
+/// Checks that the offer shows a form which is negative at the start and rises along no trajectory
+/// of the polynomial. It gives what the form loses in a step and its value at the start, and takes
+/// no memory.
+pub fn check_kept_away(poly: &Poly, offer: &KeptAway) -> Result<(Form, i128), FormRefusal>
+    // The first test that refuses, in their order; the offer is accepted exactly where none does.
+    ensures refusal { refusal_of result ≡ kept_away_refusal poly.now offer.now }
+    ensures away { IfOk result
+        (λ x. IsKeptAwayAlong (length poly.now - 1) (vector_of poly.now)
+        (matrix_of offer.now.form.rows) (vector_of offer.now.start)) }
+    ensures fall { IfOk result
+        (λ x. IsFallForm (length poly.now - 1) (vector_of poly.now) offer.now.form x.0) }
+    ensures value { IfOk result (λ x. x.1
+        ≡ form_at (length poly.now - 1) (matrix_of offer.now.form.rows)
+        (vector_of offer.now.start)) }
+    ensures places { OnOk result (offer.now.form.d + 1 ≡ length poly.now) }
+{
+    check_form(poly, &offer.form)?;
+    let fall = fall_form(poly.coefficients(), &offer.form);
+    check_semidefinite(&fall, &offer.fall, Part::Fall)?;
+    let value = check_value(value_at(&offer.form, &offer.start))?;
+    Ok((fall, value.get()))
 }

@@ -3,14 +3,18 @@
 #![tactic(auto)]
 
 mod checking;
+mod fall;
 mod keeping;
+mod matrix;
 mod offers;
-mod one_place;
 mod poly;
 mod refusal;
+mod squares;
+mod sums;
 
 pub use checking::check_falls;
 pub use keeping::check_kept_away;
 pub use offers::{Falls, Form, FormOffer, GREATEST_ORDER, KeptAway, Squares};
 pub use poly::{BadPoly, GREATEST_COEFFICIENT, MOST_COEFFICIENTS, Poly};
 pub use refusal::{FormRefusal, Part};
+pub use squares::{check_definite, check_semidefinite};

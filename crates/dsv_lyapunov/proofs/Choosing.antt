@@ -1,5 +1,5 @@
 -- The closed form of order 1 by the sizes of the coefficients.
-use Rattle.std.proofs.Common.{◌≡◌, ℕ, ◌-◌, ◌*◌, ◌≤◌, Bool, true, false, int_lt, nat_lt, if◌then◌else◌, List, [], ◌∷◌, length, get_or, refl, sym, ap, ◌∙◌, arith}
+use Rattle.std.proofs.Common.{◌≡◌, ℕ, ◌-◌, ◌*◌, ◌≤◌, Bool, true, false, int_lt, nat_lt, if◌then◌else◌, List, [], ◌∷◌, length, get_or, Some, refl, sym, ap, ◌∙◌, arith}
 use Rattle.std.proofs.Math.IntN.{ℤ, pos, negsuc, ◌-ℤ◌, ◌*ℤ◌}
 use Rattle.std.specs.Int.RustNames.{unsigned_abs}
 use Rattle.std.proofs.lemmas.Int.{ints}
@@ -11,8 +11,13 @@ use Rattle.dsv_forms.specs.declared.offers.FormOffer.{FormOffer}
 use Rattle.dsv_forms.specs.declared.offers.FormOffer.TheVariants as offer
 use Rattle.dsv_forms.specs.Poly.{IsPoly}
 use Rattle.dsv_lyapunov.proofs.SmallSquares.{square_of, difference}
-use Rattle.dsv_forms.proofs.OneAnswer.{two}
-use Rattle.dsv_lyapunov.specs.ClosedForm.{form_that_falls, form_that_never_rises, closed_form_of}
+use Rattle.dsv_lyapunov.specs.ClosedForm.{form_that_falls, form_that_never_rises, first_order, closed_form_of}
+
+two : (xs : List ℤ) (d : ℤ) → length xs ≡ 2 → xs ≡ get_or xs 0 d ∷ get_or xs 1 d ∷ []
+two [] d h = cc
+two (x ∷ []) d h = absurd (omega arith)
+two (x ∷ y ∷ []) d h = refl
+two (x ∷ y ∷ z ∷ zs) d h = absurd (omega arith)
 
 -- the test by sizes, since the first coefficient is positive
 by_sizes : (c0 c1 : ℤ) → pos 0 <ℤ c0 → nat_lt (unsigned_abs c1) (unsigned_abs c0) ≡ int_lt (size c1) c0
@@ -44,7 +49,7 @@ pair : (c0 c1 : ℤ) → pos 0 <ℤ c0
     → (if nat_lt (unsigned_abs c1) (unsigned_abs c0)
     then offer.Falls (form_that_falls (pos (unsigned_abs c0 * unsigned_abs c0 - unsigned_abs c1 * unsigned_abs c1)))
     else offer.KeptAway (form_that_never_rises (pos (unsigned_abs c1 * unsigned_abs c1 - unsigned_abs c0 * unsigned_abs c0))))
-    ≡ closed_form_of (c0 ∷ c1 ∷ [])
+    ≡ first_order c0 c1
 pair c0 c1 first =
     chosen (nat_lt (unsigned_abs c1) (unsigned_abs c0)) c0 c1 refl
     ∙ ap (λ t. if t then offer.Falls (form_that_falls (c0 *ℤ c0 -ℤ c1 *ℤ c1)) else offer.KeptAway (form_that_never_rises (c1 *ℤ c1 -ℤ c0 *ℤ c0))) (by_sizes c0 c1 first)
@@ -52,6 +57,8 @@ pair c0 c1 first =
 pub first_order_is : (cs : List ℤ) (a b : ℕ) (r : FormOffer) → length cs ≡ 2 → IsPoly cs
     → a ≡ unsigned_abs (get_or cs 0 (pos 0)) → b ≡ unsigned_abs (get_or cs 1 (pos 0))
     → r ≡ (if nat_lt b a then offer.Falls (form_that_falls (pos (a * a - b * b))) else offer.KeptAway (form_that_never_rises (pos (b * b - a * a))))
-    → r ≡ closed_form_of cs
-first_order_is cs a b r order poly e f h =
-    (rw (e, f) at h) ∙ pair (get_or cs 0 (pos 0)) (get_or cs 1 (pos 0)) poly.first ∙ ap closed_form_of (sym (two cs (pos 0) order))
+    → closed_form_of cs ≡ Some r
+first_order_is [] a b r order poly e f h = absurd (omega arith)
+first_order_is (x ∷ []) a b r order poly e f h = absurd (omega arith)
+first_order_is (x ∷ y ∷ []) a b r order poly e f h = ap Some (sym ((rw (e, f) at h) ∙ pair x y poly.first))
+first_order_is (x ∷ y ∷ z ∷ cs) a b r order poly e f h = absurd (omega arith)

@@ -1,7 +1,13 @@
 pub mod Accepted
 pub mod Choosing
-pub mod FallsAccepted
+pub mod Entries
+pub mod FirstAccepted
 pub mod Halves
-pub mod KeptAwayAccepted
 pub mod Reductions
+pub mod RootAccepted
+pub mod SecondAway
+pub mod SecondChoice
+pub mod SecondFalls
+pub mod SecondForm
+pub mod SecondStarts
 pub mod SmallSquares

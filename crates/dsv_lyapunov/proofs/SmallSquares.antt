@@ -1,6 +1,6 @@
 -- Products with 1, and squares of coefficients.
-use Rattle.std.proofs.Common.{◌≡◌, ℕ, ◌-◌, ◌*◌, ◌^◌, ◌≤◌, true, [], ◌∷◌, refl, arith}
-use Rattle.std.proofs.Math.IntN.{ℤ, pos, negsuc, ◌-ℤ◌, ◌*ℤ◌}
+use Rattle.std.proofs.Common.{◌≡◌, ℕ, zero, suc, ◌-◌, ◌*◌, ◌^◌, ◌≤◌, true, [], ◌∷◌, refl, arith}
+use Rattle.std.proofs.Math.IntN.{ℤ, pos, negsuc, ◌-ℤ◌, ◌*ℤ◌, neg_ℤ}
 use Rattle.std.specs.Int.RustNames.{unsigned_abs}
 use Rattle.std.proofs.lemmas.Int.{ints}
 use Rattle.std.proofs.lemmas.Nat.{mul-le}
@@ -31,3 +31,8 @@ narrow_nat n h = lt-ltb n (2 ^ 126) (omega arith)
 
 pub difference : (a b : ℕ) → b ≤ a → pos a -ℤ pos b ≡ pos (a - b)
 difference a b h = omega (arith, ints)
+
+pub is_narrow-neg : (x : ℤ) → is_narrow (neg_ℤ x) ≡ is_narrow x
+is_narrow-neg (pos zero) = refl
+is_narrow-neg (pos (suc n)) = refl
+is_narrow-neg (negsuc n) = refl

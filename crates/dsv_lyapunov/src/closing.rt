@@ -1,7 +1,7 @@
 // The closed form of a polynomial: a form that shows whether its trajectories fall, in terms of its
 // coefficients.
 ghost use Rattle.std.specs.Prelude.{◌≡◌, ◌≤◌, ◌*◌, ◌-◌, nat_lt, if◌then◌else◌};
-ghost use Rattle.std.specs.Prelude.{[], ◌∷◌, length, pos, negsuc};
+ghost use Rattle.std.specs.Prelude.{[], ◌∷◌, length, Some, pos, negsuc};
 ghost use Rattle.dsv_forms.specs.Poly.{greatest_coefficient};
 ghost use Rattle.dsv_lyapunov.specs.ClosedForm.{row_of, matrix_with, form_with, squares_with};
 ghost use Rattle.dsv_lyapunov.specs.ClosedForm.{without_place, form_that_falls};
@@ -12,7 +12,7 @@ use dsv_forms::{Falls, Form, FormOffer, GREATEST_ORDER, KeptAway, Poly, Squares}
 /// The offer that the closed form of the polynomial gives. It takes no memory.
 pub fn closed_form(poly: &Poly) -> FormOffer
     requires { length poly.now ≤ 2 }
-    ensures exact { result ≡ closed_form_of poly.now }
+    ensures exact { closed_form_of poly.now ≡ Some result }
     ensures accepted { IsAccepted poly.now result }
 {
     match poly.coefficients() {

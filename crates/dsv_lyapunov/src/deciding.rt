@@ -1,5 +1,5 @@
 // Decides a polynomial by a form that is checked.
-ghost use Rattle.std.specs.Prelude.{◌≡◌, ◌≤◌, length, None};
+ghost use Rattle.std.specs.Prelude.{◌≡◌, ◌≤◌, length, Some, None};
 ghost use Rattle.dsv_forms.specs.Refusals.{falls_refusal, kept_away_refusal};
 ghost use Rattle.dsv_lyapunov.specs.ClosedForm.{first_leads, closed_form_of, IsAccepted};
 ghost use Rattle.dsv_lyapunov.specs.Answers.{offer_of, is_falls, IsShown};
@@ -28,7 +28,7 @@ pub enum FormAnswer {
 pub fn decide(poly: &Poly) -> FormAnswer
     requires { length poly.now ≤ 2 }
     // The offer in the answer is the closed form's, and its check accepts it.
-    ensures offer { offer_of result ≡ closed_form_of poly.now }
+    ensures offer { closed_form_of poly.now ≡ Some (offer_of result) }
     ensures accepted { IsAccepted poly.now (offer_of result) }
     ensures which { is_falls result ≡ first_leads poly.now }
     ensures shown { IsShown poly.now result }

@@ -3,10 +3,12 @@
 
 mod closing;
 mod deciding;
+mod law;
 mod reducing;
 #[cfg(test)]
 mod tests;
 
 pub use closing::closed_form;
 pub use deciding::{FormAnswer, decide};
+pub use law::closed_forms_are_accepted;
 pub use reducing::reduced_polynomial;

@@ -1,11 +1,13 @@
 //! Tests of the crates of numbers, by their public calls: digits and classes of bytes, fractions,
-//! decimals, words and coefficients in the delta operator.
+//! decimals, words, coefficients in the delta operator and forms with squares.
 #![tactic(auto)]
 
 #[cfg(test)]
 mod decimals;
 #[cfg(test)]
 mod deltas;
+#[cfg(test)]
+mod forms;
 #[cfg(test)]
 mod fractions;
 #[cfg(test)]

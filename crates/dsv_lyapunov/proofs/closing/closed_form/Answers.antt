@@ -1,4 +1,4 @@
-use Rattle.std.proofs.Common.{◌≡◌, length, get_or, arith, rules}
+use Rattle.std.proofs.Common.{◌≡◌, Some, length, get_or, arith, rules}
 use Rattle.std.proofs.Math.IntN.{pos}
 use Rattle.std.specs.Int.RustNames.{unsigned_abs}
 use Rattle.std.proofs.lemmas.Int.{to_z-of_z}
@@ -9,7 +9,7 @@ use Rattle.dsv_lyapunov.proofs.Accepted.{closed_form_accepted}
 use Rattle.dsv_lyapunov.proofs.Choosing.{first_order_is}
 use Rattle.dsv_lyapunov.proofs.closing.closed_form.Goals as goal
 
-exact : (c : goal.After-first_order) → c.first_order.result ≡ closed_form_of c.args.poly.now
+exact : (c : goal.After-first_order) → closed_form_of c.args.poly.now ≡ Some c.first_order.result
 exact c =
     let cs = c.coefficients.result.now in
     let same = c.coefficients.ensures.same in
@@ -25,4 +25,4 @@ returns-in-len2-clause-exact c = exact c
 
 pub returns-in-len2-clause-accepted : goal.returns-in-len2-clause-accepted
 returns-in-len2-clause-accepted c =
-    closed_form_accepted c.args.poly.now c.first_order.result (rw c.coefficients.ensures.same at c.coefficients.ensures.poly) (omega arith) (exact c)
+    closed_form_accepted c.args.poly.now c.first_order.result (rw c.coefficients.ensures.same at c.coefficients.ensures.poly) (exact c)

@@ -1,0 +1,6 @@
+use Rattle.std.proofs.Common.{◌≡◌, ℕ, ◌<◌, false}
+use Rattle.dsv_forms.specs.Refusals.{bad_weight}
+use Rattle.dsv_forms.proofs.squares.check_positive_weights.Given as goal
+
+abbrev pub invariant-loop-k : goal.invariant-loop-k
+invariant-loop-k l = (q : ℕ) → q < l.k → bad_weight l.squares q ≡ false

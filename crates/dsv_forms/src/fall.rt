@@ -1,0 +1,138 @@
+// What a form loses in a step of a polynomial.
+#![tactic(auto, using(dsv_algebra::proofs::Casts::casts))]
+
+ghost use Rattle.std.specs.Prelude.{◌≡◌, ◌<◌, ◌≤◌, ◌+◌, ◌-◌, ℕ};
+ghost use Rattle.std.specs.Prelude.{length, Bool, true, pos};
+ghost use Rattle.std.specs.Prelude.{neg_ℤ, slice_index_or, min, max, ◌⊎◌};
+ghost use Rattle.dsv_algebra.specs.Vectors.{vector_of, matrix_of};
+ghost use Rattle.dsv_forms.specs.Poly.{greatest_order, most_coefficients};
+ghost use Rattle.dsv_forms.specs.Sums.{sum_from, summand_where, product, fall_sum};
+ghost use Rattle.dsv_forms.specs.Sums.{or_too_wide, IsFallOrWide};
+
+use crate::matrix::entry_or_zero;
+use crate::sums::sum_with_product;
+use crate::{Form, GREATEST_ORDER};
+use dsv_algebra::NarrowInteger;
+
+/// A number that is too wide, in place of one that can't be had.
+const TOO_WIDE: i128 = 1 << 126;
+
+/// A product of two coefficients and an entry.
+#[derive(Clone, Copy)]
+struct Term {
+    a: NarrowInteger,
+    b: NarrowInteger,
+    entry: NarrowInteger,
+}
+
+/// The sum with a term more, where the test holds.
+fn sum_where(holds: bool, sum: NarrowInteger, term: Term) -> Option<NarrowInteger>
+    ensures { result ≡ sum_from sum (summand_where holds (product term.a term.b term.entry)) }
+{
+    if holds {
+        sum_with_product(sum, term.a, term.b, term.entry)
+    } else {
+        Some(sum)
+    }
+}
+
+/// The number with the other sign.
+fn negative(number: &i64) -> NarrowInteger
+    ensures { result ≡ neg_ℤ number.now }
+{
+    NarrowInteger::from(-i128::from(*number))
+}
+
+/// The number itself.
+fn positive(number: &i64) -> NarrowInteger
+    ensures { result ≡ number.now }
+{
+    NarrowInteger::from(*number)
+}
+
+/// An entry of what the form loses in a step, where no number on the way is too wide.
+fn fall_entry(c: &[i64], form: &Form, i: usize, j: usize) -> Option<NarrowInteger>
+    requires some { i + 1 < length c.now }
+    requires others { j + 1 < length c.now }
+    requires few { length c.now ≤ most_coefficients }
+    ensures { result
+        ≡ fall_sum (length c.now - 1) (vector_of c.now) (matrix_of form.now.rows) i j }
+{
+    let d = c.len() - 1;
+    let (below, after) = (i + 1 < d, j + 1 < d);
+    let lead = positive(&c[0]);
+    let (row, column) = (positive(&c[i + 1]), positive(&c[j + 1]));
+    let zero = NarrowInteger::from(0i64);
+    let p = &form.rows;
+    let sum = sum_with_product(zero, lead, lead, entry_or_zero(p, i, j))?;
+    let sum = sum_with_product(sum, negative(&c[i + 1]), column, entry_or_zero(p, 0, 0))?;
+    let first_row = Term {
+        a: row,
+        b: lead,
+        entry: entry_or_zero(p, 0, j + 1),
+    };
+    let sum = sum_where(after, sum, first_row)?;
+    let first_column = Term {
+        a: lead,
+        b: column,
+        entry: entry_or_zero(p, i + 1, 0),
+    };
+    let sum = sum_where(below, sum, first_column)?;
+    let diagonal = Term {
+        a: negative(&c[0]),
+        b: lead,
+        entry: entry_or_zero(p, i + 1, j + 1),
+    };
+    if below {
+        sum_where(after, sum, diagonal)
+    } else {
+        Some(sum)
+    }
+}
+
+/// An entry of what the form loses in a step, or a number that is too wide where one on the way is.
+fn entry_or_too_wide(c: &[i64], form: &Form, i: usize, j: usize) -> i128
+    requires some { i + 1 < length c.now }
+    requires others { j + 1 < length c.now }
+    requires few { length c.now ≤ most_coefficients }
+    ensures { result ≡ or_too_wide
+        (fall_sum (length c.now - 1) (vector_of c.now) (matrix_of form.now.rows) i j) }
+{
+    match fall_entry(c, form, i, j) {
+        Some(found) => found.get(),
+        None => TOO_WIDE,
+    }
+}
+
+/// A row of what the form loses in a step.
+fn fall_row(c: &[i64], form: &Form, i: usize) -> [i128; GREATEST_ORDER]
+    requires some { i + 1 < length c.now }
+    requires few { length c.now ≤ most_coefficients }
+    ensures length { length result ≡ greatest_order }
+    ensures entries { (j : ℕ) → j + 1 < length c.now → slice_index_or result j (pos 0)
+        ≡ or_too_wide (fall_sum (length c.now - 1) (vector_of c.now)
+        (matrix_of form.now.rows) (min i j) (max i j)) }
+    ensures after { (j : ℕ) → length c.now ≤ j + 1 → slice_index_or result j (pos 0) ≡ pos 0 }
+{
+    let mut row = [0; GREATEST_ORDER];
+    for j in 0..c.len() - 1 {
+        row[j] = entry_or_too_wide(c, form, i.min(j), i.max(j));
+    }
+    row
+}
+
+/// What the form loses in a step of the polynomial with these coefficients. An entry with a number
+/// on the way that is too wide is given as one that is too wide.
+pub(crate) fn fall_form(c: &[i64], form: &Form) -> Form
+    requires some { 0 < length c.now }
+    requires few { length c.now ≤ most_coefficients }
+    ensures places { result.d + 1 ≡ length c.now }
+    ensures fall { IsFallOrWide (length c.now - 1) (vector_of c.now) form.now result }
+{
+    let d = c.len() - 1;
+    let mut rows = [[0; GREATEST_ORDER]; GREATEST_ORDER];
+    for i in 0..d {
+        rows[i] = fall_row(c, form, i);
+    }
+    Form { d: d as u32, rows }
+}
