@@ -7,6 +7,7 @@ use Rattle.std.proofs.lemmas.List.Elements.{All-push}
 use Rattle.dsv_term.specs.declared.node.TermId.{TermId}
 use Rattle.dsv_term.specs.declared.node.TermNode.{TermNode}
 use Rattle.dsv_term.specs.declared.node.TermNode.TheVariants.{Input}
+use Rattle.dsv_term.specs.Building.{built_of, with_new_input}
 use Rattle.dsv_term.specs.Making.{same_node, made_nodes}
 use Rattle.dsv_term.specs.TermNode.{word_at, node_width, IsLawful, AreLawful}
 use Rattle.dsv_term.specs.Terms.{widths_of, AreTerms, KeepsTerms, Makes, MakesInput}
@@ -52,13 +53,23 @@ takes_input t bits h w =
       };
     }
 
+input_built : (t u : TermsView) (bits : ℕ) (id : TermId) → u ≡ record { inputs = t.inputs ++ bits ∷ []; nodes = t.nodes ++ Input (length t.inputs) ∷ [] } → id.0 ≡ length t.nodes → built_of u id ≡ with_new_input t bits
+unfolding with_new_input
+input_built t u bits id e at =
+    ap (λ (v : TermsView). built_of v id) e
+    ∙ ap (λ (k : ℕ). let j : TermId = record { 0 = k } in built_of (record { inputs = t.inputs ++ bits ∷ []; nodes = t.nodes ++ Input (length t.inputs) ∷ [] }) j) at
+
 pub makes_input : (t u : TermsView) (bits : ℕ) (id : TermId) → AreTerms t → IsWidth bits → Makes (with_input t bits) u (Input (length t.inputs)) id → MakesInput t u bits id
 makes_input t u bits id h w m =
     let none : list_any (same_node (Input (length t.inputs))) t.nodes ≡ false = no_inputs t.inputs t.nodes [] (length t.inputs) h.lawful (omega arith) in
     let last : made_nodes t.nodes (Input (length t.inputs)) ≡ t.nodes ++ Input (length t.inputs) ∷ [] = rw none refl in
+    let terms : u ≡ record { inputs = t.inputs ++ bits ∷ []; nodes = t.nodes ++ Input (length t.inputs) ∷ [] } =
+    m.nodes ∙ ap (λ ns. record { inputs = t.inputs ++ bits ∷ []; nodes = ns }) last in
+    let place = m.id ∙ absent (same_node (Input (length t.inputs))) t.nodes none in
     record {
-      terms = m.nodes ∙ ap (λ ns. record { inputs = t.inputs ++ bits ∷ []; nodes = ns }) last;
-      id = m.id ∙ absent (same_node (Input (length t.inputs))) t.nodes none;
+      built = input_built t u bits id terms place;
+      terms = terms;
+      id = place;
       width = m.width ∙ get_or_push t.inputs bits 0 (length t.inputs) refl;
       kept = KeepsTerms-both t (with_input t bits) u (takes_input t bits h w).kept m.kept;
     }

@@ -1,3 +1,5 @@
+pub mod Building
+pub mod Complement
 pub mod Entries
 pub mod Inputs
 pub mod Lawful

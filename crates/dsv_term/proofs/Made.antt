@@ -12,6 +12,7 @@ use Rattle.dsv_term.specs.declared.node.TermId.{TermId}
 use Rattle.dsv_term.specs.declared.node.TermNode.{TermNode}
 use Rattle.dsv_term.specs.declared.node.TermNode.TheVariants.{Input}
 use Rattle.dsv_term.specs.contracts.node.TermNodePartialEq.TheImpl.{eq-value}
+use Rattle.dsv_term.specs.Building.{built_of, with_node}
 use Rattle.dsv_term.specs.Making.{same_node, made_nodes, made_id}
 use Rattle.dsv_term.specs.TermNode.{word_at, node_word, words_from, node_width, widths_from, IsLawful, AreLawful}
 use Rattle.dsv_term.specs.Terms.{widths_of, AreTerms, KeepsTerms, Makes, words_of, word_of}
@@ -50,7 +51,7 @@ absent p [] h = refl
 absent p (n ∷ ns) h = absent_by p n ns (p n) refl h (absent p ns)
 
 -- ---- where a made node stands
-record IsPlaced (nodes made : List TermNode) (node : TermNode) (id : ℕ) : Type 0 where
+pub record IsPlaced (nodes made : List TermNode) (node : TermNode) (id : ℕ) : Type 0 where
   before : List TermNode
   after : List TermNode
   rest : List TermNode
@@ -66,7 +67,7 @@ placed_by nodes node true e =
 placed_by nodes node false e =
     record { before = nodes; after = []; rest = node ∷ []; split = refl; place = absent (same_node node) nodes e; longer = refl }
 
-placed : (nodes : List TermNode) (node : TermNode) → IsPlaced nodes (made_nodes nodes node) node (made_id nodes node)
+pub placed : (nodes : List TermNode) (node : TermNode) → IsPlaced nodes (made_nodes nodes node) node (made_id nodes node)
 placed nodes node = placed_by nodes node (list_any (same_node node) nodes) refl
 
 -- ---- earlier terms
@@ -107,11 +108,11 @@ AreTerms-push t node h l none few =
       apart = all_pairs_push (λ a b. a ≢ b) t.nodes node h.apart (λ k d p. not_there t.nodes node k d none p);
     }
 
-made_lawful_by : (t : TermsView) (node : TermNode) (b : Bool) → list_any (same_node node) t.nodes ≡ b → AreTerms t → IsLawful t.inputs (widths_of t) node → AreLawful t.inputs (cond b t.nodes (t.nodes ++ node ∷ [])) []
-made_lawful_by t node true e h l = h.lawful
-made_lawful_by t node false e h l = AreLawful-push t.inputs t.nodes node [] h.lawful l
+made_lawful_by : (t : TermsView) (node : TermNode) (b : Bool) → list_any (same_node node) t.nodes ≡ b → AreLawful t.inputs t.nodes [] → IsLawful t.inputs (widths_of t) node → AreLawful t.inputs (cond b t.nodes (t.nodes ++ node ∷ [])) []
+made_lawful_by t node true e h l = h
+made_lawful_by t node false e h l = AreLawful-push t.inputs t.nodes node [] h l
 
-made_lawful : (t : TermsView) (node : TermNode) → AreTerms t → IsLawful t.inputs (widths_of t) node → AreLawful t.inputs (made_nodes t.nodes node) []
+pub made_lawful : (t : TermsView) (node : TermNode) → AreLawful t.inputs t.nodes [] → IsLawful t.inputs (widths_of t) node → AreLawful t.inputs (made_nodes t.nodes node) []
 made_lawful t node h l = made_lawful_by t node (list_any (same_node node) t.nodes) refl h l
 
 -- ---- what a maker says
@@ -119,27 +120,33 @@ pub record IsMade (t u : TermsView) (node : TermNode) (id : TermId) : Type 0 whe
   pub makes : Makes t u node id
   pub word : (values : List ℕ) → word_of u values id ≡ node_word t.inputs values (words_of t values) node
 
-made_keeps : (t : TermsView) (made : List TermNode) (node : TermNode) (id : ℕ) → IsPlaced t.nodes made node id → KeepsTerms t (record t { nodes = made })
+pub made_keeps : (t : TermsView) (made : List TermNode) (node : TermNode) (id : ℕ) → IsPlaced t.nodes made node id → KeepsTerms t (record t { nodes = made })
 made_keeps t made node id p =
     let P : List TermNode → Type 0 = λ ns. KeepsTerms t (record t { nodes = ns }) in
     subst P (sym p.longer) (prefix-kept t p.rest)
 
-made_stands : (nodes made : List TermNode) (node : TermNode) (id : ℕ) → IsPlaced nodes made node id → id < length made
+pub made_stands : (nodes made : List TermNode) (node : TermNode) (id : ℕ) → IsPlaced nodes made node id → id < length made
 made_stands nodes made node id p = omega (arith, p.place, ap length p.split, length-append p.before (node ∷ p.after))
 
-made_width : (t : TermsView) (made : List TermNode) (node : TermNode) (id : TermId) → IsPlaced t.nodes made node id.0 → IsLawful t.inputs (widths_of t) node → AreLawful t.inputs made [] → slice_index (widths_from t.inputs made []) id.0 ≡ node_width t.inputs (widths_of t) node
+pub made_width : (t : TermsView) (made : List TermNode) (node : TermNode) (id : TermId) → IsPlaced t.nodes made node id.0 → IsLawful t.inputs (widths_of t) node → AreLawful t.inputs made [] → slice_index (widths_from t.inputs made []) id.0 ≡ node_width t.inputs (widths_of t) node
 made_width t made node id p l h =
     let k = made_keeps t made node id.0 p in
     let n = length-entries (node_width t.inputs) t.nodes [] in
     let w = width-at t.inputs p.before p.after node id (rw p.split at h) p.place in
     (rw (← p.split) at w) ∙ node_width-same t.inputs t.inputs (widths_of t) (widths_from t.inputs made []) node l (λ i q. refl) (λ a q. k.widths a (omega arith))
 
-made_word : (t : TermsView) (made : List TermNode) (node : TermNode) (id : TermId) → IsPlaced t.nodes made node id.0 → IsLawful t.inputs (widths_of t) node → AreLawful t.inputs made [] → (values : List ℕ) → word_at (words_from t.inputs values made []) id ≡ node_word t.inputs values (words_of t values) node
+pub made_word : (t : TermsView) (made : List TermNode) (node : TermNode) (id : TermId) → IsPlaced t.nodes made node id.0 → IsLawful t.inputs (widths_of t) node → AreLawful t.inputs made [] → (values : List ℕ) → word_at (words_from t.inputs values made []) id ≡ node_word t.inputs values (words_of t values) node
 made_word t made node id p l h values =
     let k = made_keeps t made node id.0 p in
     let n = length-entries (node_width t.inputs) t.nodes [] in
     let w = word-at t.inputs values p.before p.after node id (rw p.split at h) p.place in
     (rw (← p.split) at w) ∙ node_word-same t.inputs t.inputs values (widths_of t) (words_from t.inputs values made []) (words_of t values) node l (λ i q. refl) (λ a q. k.words values a (omega arith))
+
+built_by : (t : TermsView) (keys : List TermNode) (node : TermNode) (id : TermId) → keys ≡ made_nodes t.nodes node → id.0 ≡ made_id t.nodes node → built_of (record t { nodes = keys }) id ≡ with_node t node
+unfolding with_node
+built_by t keys node id all at =
+    ap (λ (ns : List TermNode). built_of (record { inputs = t.inputs; nodes = ns }) id) all
+    ∙ ap (λ (k : ℕ). let j : TermId = record { 0 = k } in built_of (record { inputs = t.inputs; nodes = made_nodes t.nodes node }) j) at
 
 -- in the words of the derived test, which the set of nodes has
 pub made : (t : TermsView) (keys : List TermNode) (node : TermNode) (id : TermId) → AreTerms t → IsLawful t.inputs (widths_of t) node
@@ -148,9 +155,10 @@ made t keys node id h l e i =
     let all : keys ≡ made_nodes t.nodes node = e ∙ ap (λ (q : TermNode → TermNode → Bool). insert_key q t.nodes node) eq-is_same in
     let at : id.0 ≡ made_id t.nodes node = i ∙ ap (λ (q : TermNode → TermNode → Bool). position_or_len (q node) t.nodes) eq-is_same in
     let p : IsPlaced t.nodes keys node id.0 = rw (all, at) (placed t.nodes node) in
-    let lawful : AreLawful t.inputs keys [] = rw all (made_lawful t node h l) in
+    let lawful : AreLawful t.inputs keys [] = rw all (made_lawful t node h.lawful l) in
     record {
       makes = record {
+        built = built_by t keys node id all at;
         nodes = ap (λ ns. record { inputs = t.inputs; nodes = ns }) all;
         id = at;
         stands = made_stands t.nodes keys node id.0 p;

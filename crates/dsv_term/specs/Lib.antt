@@ -1,3 +1,5 @@
+pub mod Building
+pub mod Growth
 pub mod Making
 pub mod TermNode
 pub mod Terms

@@ -5,6 +5,7 @@ use Rattle.dsv_term.specs.declared.node.TermId.{TermId}
 use Rattle.dsv_term.specs.declared.node.TermNode.{TermNode}
 use Rattle.dsv_term.specs.declared.node.TermNode.TheVariants.{Input}
 use Rattle.dsv_term.specs.declared.word.Word.{Word}
+use Rattle.dsv_term.specs.Building.{built_of, with_node, with_new_input}
 use Rattle.dsv_term.specs.Making.{made_nodes, made_id}
 use Rattle.dsv_term.specs.TermNode.{word_at, words_from, widths_from, node_width, AreLawful}
 use Rattle.dsv_term.specs.TermsView.{TermsView}
@@ -47,6 +48,7 @@ pub record KeepsTerms (old new : TermsView) : Type 0 where
 
 -- The node stands at this number now: where it stood it is found there, and else it was put last.
 pub record Makes (old new : TermsView) (node : TermNode) (made : TermId) : Type 0 where
+  pub built : built_of new made ≡ with_node old node
   pub nodes : new ≡ record old { nodes = made_nodes old.nodes node }
   pub id : made.0 ≡ made_id old.nodes node
   pub stands : made.0 < length new.nodes
@@ -55,6 +57,7 @@ pub record Makes (old new : TermsView) (node : TermNode) (made : TermId) : Type 
 
 -- One more input of this width, and its term, stand after the earlier ones.
 pub record MakesInput (old new : TermsView) (bits : ℕ) (made : TermId) : Type 0 where
+  pub built : built_of new made ≡ with_new_input old bits
   pub terms : new ≡ record {
     inputs = old.inputs ++ bits ∷ [];
     nodes = old.nodes ++ Input (length old.inputs) ∷ [];

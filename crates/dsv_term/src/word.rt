@@ -39,11 +39,23 @@ fn bit(truth: bool) -> Word
 
 // The names of SMT-LIB's functions stand in the definitions that the clauses cite.
 impl Word {
-    ghost use Rattle.dsv_term.specs.Word.{sum_of, difference_of, negation_of};
+    ghost use Rattle.std.specs.Prelude.{ℤ};
+    ghost use Rattle.dsv_term.specs.Word.{residue, sum_of, difference_of, negation_of};
     ghost use Rattle.dsv_term.specs.Word.{product_of, and_of, or_of, complement_of};
     ghost use Rattle.dsv_term.specs.Word.{signed_of, signed_less_of, signed_at_most_of};
     ghost use Rattle.dsv_term.specs.Word.{less_of, same_of, choice_of};
     ghost use Rattle.dsv_term.specs.Word.{IsWidth, IsWord, joined_of, extended_of, extract_of};
+
+    /// The word of so many bits that differs from a number by a multiple of 2 to the width.
+    pub fn of_signed(width: u32, z: i128) -> Word
+        requires { IsWidth width }
+        ensures { result ≡ record { width = width; number = residue width z } }
+    {
+        Word {
+            width,
+            number: low(z.cast_unsigned(), width),
+        }
+    }
 
     /// The sum, modulo 2 to the width.
     pub fn sum(self, other: Word) -> Word

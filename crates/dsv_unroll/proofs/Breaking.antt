@@ -1,0 +1,338 @@
+-- The root of the overflow goal is 1 exactly where the inputs break.
+use Rattle.std.proofs.Common.{◌≡◌, ℕ, zero, suc, ◌+◌, ◌-◌, ◌^◌, ◌<◌, Bool, true, false, ◌&&◌, ◌||◌, List, [], ◌∷◌, refl, arith, ap, sym, subst, ◌∙◌, length, replicate}
+use Rattle.std.specs.Prelude.{int_le, slice_index, slice_index_or, ◌≤ℤ◌}
+use Rattle.std.specs.List.{Contains}
+use Rattle.std.proofs.Math.IntN.{ℤ, pos}
+use Rattle.std.proofs.lemmas.Int.{ints}
+use Rattle.std.proofs.lemmas.Nat.{pow_pos}
+use Rattle.std.proofs.lemmas.List.{length-replicate, get_or-replicate}
+use Rattle.std.proofs.lemmas.List.Elements.{All-replicate, All-nil, All-cons, All-head, All-tail, All-from_get_or}
+use Rattle.dsv_word.specs.declared.format.Format.{Format}
+use Rattle.dsv_word.specs.Words.{width, lo, hi, IsWord}
+use Rattle.dsv_system.specs.Runs.{SampleRow, rows_from, row_at}
+use Rattle.dsv_system.specs.Systems.{zeros, AreInRange}
+use Rattle.dsv_system.specs.Breaks.{Breaks, IsOutside}
+use Rattle.dsv_netlist.specs.Nodes.{Net, at, step_of}
+use Rattle.dsv_netlist.specs.Conditions.{IsNetlist}
+use Rattle.dsv_netlist.specs.Systems.{system_of}
+use Rattle.dsv_term.specs.declared.node.TermId.{TermId}
+use Rattle.dsv_term.specs.declared.node.TermNode.TheVariants.{Constant}
+use Rattle.dsv_term.specs.declared.word.Word.{Word}
+use Rattle.dsv_term.specs.Building.{Built, built_of, with_node}
+use Rattle.dsv_term.specs.Growth.{AreSound}
+use Rattle.dsv_term.specs.Terms.{AreValues, word_of}
+use Rattle.dsv_term.specs.TermsView.{TermsView}
+use Rattle.dsv_term.specs.Word.{IsWidth, bit_of}
+use Rattle.dsv_term.proofs.Building.{constant_gives}
+use Rattle.dsv_term.proofs.Complement.{IsSpelled}
+use Rattle.dsv_unroll.specs.Goals.{InputTerms, inputs_from, RunTerms, run_from, no_terms, overflow_of}
+use Rattle.dsv_unroll.specs.Ready.{IsValue, HasBits, AreBits, AreRunReady}
+use Rattle.dsv_unroll.specs.Rules.{term_at}
+use Rattle.dsv_unroll.specs.Words.{spelled_word, spelled_words, Tells}
+use Rattle.dsv_unroll.proofs.RuleTerms.{Spells, spells_later}
+use Rattle.dsv_unroll.proofs.FitTerms.{is_outside, inside_spelled, spelled_inside}
+use Rattle.dsv_unroll.proofs.Follows.{Means}
+use Rattle.dsv_unroll.proofs.NodeTerms.{width_some, width_small}
+use Rattle.dsv_unroll.proofs.Runs.{any_outside, breaks_from, RegistersMean, InputsMean, run_follows}
+use Rattle.dsv_unroll.proofs.SampleSteps.{bits_later}
+use Rattle.dsv_unroll.proofs.InputTests.{TestsMean, tests_later, joined-split, InputsStand, inputs_stand, words_at, range_flag, all_in_range, conjunction_joins, bits_kept}
+
+-- ---- a break
+outside_no_word : (f : Format) (e : ℤ) → is_outside (width f) e ≡ true → IsWord f e → ⊥
+outside_no_word f e h w =
+    let l = w.low in
+    let k = w.high in
+    let i = spelled_inside (width f) e (record { low = l; high = omega (arith, ints) }) in
+    let c : true ≡ false = sym h ∙ i in
+    cc
+
+no_word_outside : (f : Format) (e : ℤ) → (IsWord f e → ⊥) → is_outside (width f) e ≡ true
+no_word_outside f e h = by (is_outside (width f) e) refl
+  where
+    by : (q : Bool) → is_outside (width f) e ≡ q → q ≡ true
+    by true g = refl
+    by false g = absurd (h (let s = inside_spelled (width f) e g in let l = s.low in let k = s.high in record { low = l; high = omega (arith, ints) }))
+
+some_by : (f : Format) (e : ℤ) (es : List ℤ) (q : Bool) → is_outside (width f) e ≡ q → any_outside f (e ∷ es) ≡ true → (any_outside f es ≡ true → (d : ℤ) × Contains es d × (IsWord f d → ⊥)) → (d : ℤ) × Contains (e ∷ es) d × (IsWord f d → ⊥)
+some_by f e es true g h rest = (e, (0, omega arith, refl), outside_no_word f e g)
+some_by f e es false g h rest =
+    let r = rest (rw g at h) in
+    let c = r.1 in
+    (r.0, (suc c.0, (let l = c.1 in omega arith), c.2), r.2)
+
+some_outside : (f : Format) (es : List ℤ) → any_outside f es ≡ true → (e : ℤ) × Contains es e × (IsWord f e → ⊥)
+some_outside f [] h = absurd cc
+some_outside f (e ∷ es) h = some_by f e es (is_outside (width f) e) refl h (some_outside f es)
+
+or_right : (a : Bool) → (a || true) ≡ true
+or_right true = refl
+or_right false = refl
+
+outside_by : (f : Format) (d : ℤ) (ds : List ℤ) (e : ℤ) (k : ℕ) → k < length (d ∷ ds) → slice_index_or (d ∷ ds) k e ≡ e → (IsWord f e → ⊥) → (Contains ds e → any_outside f ds ≡ true) → any_outside f (d ∷ ds) ≡ true
+outside_by f d ds e zero l g h rest = rw (no_word_outside f d (λ w. h (subst (IsWord f) g w))) refl
+outside_by f d ds e (suc k) l g h rest = rw (rest (k, omega arith, g)) (or_right (is_outside (width f) d))
+
+outside_some : (f : Format) (es : List ℤ) (e : ℤ) → Contains es e → (IsWord f e → ⊥) → any_outside f es ≡ true
+outside_some f [] e c h = absurd (let l = c.1 in omega arith)
+outside_some f (d ∷ ds) e c h = outside_by f d ds e c.0 c.1 c.2 h (λ k. outside_some f ds e k h)
+
+-- a row with a break
+abbrev pub BrokenRow : Format → List SampleRow → Type 0
+BrokenRow f rs = (r : SampleRow) × Contains rs r × IsOutside f r
+
+broken_here : (f : Format) (r : SampleRow) (rs : List SampleRow) → IsOutside f r → BrokenRow f (r ∷ rs)
+broken_here f r rs o = (r, (0, omega arith, refl), o)
+
+broken_later : (f : Format) (r : SampleRow) (rs : List SampleRow) → BrokenRow f rs → BrokenRow f (r ∷ rs)
+broken_later f r rs b = let c = b.1 in (b.0, (suc c.0, (let l = c.1 in omega arith), c.2), b.2)
+
+breaks_stay : (net : Net) (rs zs : List ℤ) → breaks_from net true rs zs ≡ true
+breaks_stay net rs [] = refl
+breaks_stay net rs (z ∷ zs) = breaks_stay net (step_of net rs z).past zs
+
+breaks_row_by : (net : Net) (rs : List ℤ) (z : ℤ) (zs : List ℤ) (q : Bool) → any_outside net.format (step_of net rs z).exact ≡ q → breaks_from net q (step_of net rs z).past zs ≡ true
+    → (breaks_from net false (step_of net rs z).past zs ≡ true → BrokenRow net.format (rows_from (step_of net) (step_of net rs z).past zs)) → BrokenRow net.format (rows_from (step_of net) rs (z ∷ zs))
+breaks_row_by net rs z zs true g h rest = broken_here net.format (row_at (step_of net rs z) z) (rows_from (step_of net) (step_of net rs z).past zs) (some_outside net.format (step_of net rs z).exact g)
+breaks_row_by net rs z zs false g h rest = broken_later net.format (row_at (step_of net rs z) z) (rows_from (step_of net) (step_of net rs z).past zs) (rest h)
+
+breaks_row : (net : Net) (rs zs : List ℤ) → breaks_from net false rs zs ≡ true → BrokenRow net.format (rows_from (step_of net) rs zs)
+breaks_row net rs [] h = absurd cc
+breaks_row net rs (z ∷ zs) h = breaks_row_by net rs z zs (any_outside net.format (step_of net rs z).exact) refl h (breaks_row net (step_of net rs z).past zs)
+
+breaks_more : (net : Net) (rs zs : List ℤ) (q : Bool) → breaks_from net false rs zs ≡ true → breaks_from net q rs zs ≡ true
+breaks_more net rs zs true h = breaks_stay net rs zs
+breaks_more net rs zs false h = h
+
+row_breaks_by : (net : Net) (rs : List ℤ) (z : ℤ) (zs : List ℤ) (r : SampleRow) (k : ℕ) → k < length (rows_from (step_of net) rs (z ∷ zs)) → slice_index_or (rows_from (step_of net) rs (z ∷ zs)) k r ≡ r → IsOutside net.format r
+    → (BrokenRow net.format (rows_from (step_of net) (step_of net rs z).past zs) → breaks_from net false (step_of net rs z).past zs ≡ true) → breaks_from net false rs (z ∷ zs) ≡ true
+row_breaks_by net rs z zs r zero l g o rest =
+    let p = subst (IsOutside net.format) (sym g) o in
+    rw (outside_some net.format (step_of net rs z).exact p.0 p.1 p.2) (breaks_stay net (step_of net rs z).past zs)
+row_breaks_by net rs z zs r (suc k) l g o rest = breaks_more net (step_of net rs z).past zs (any_outside net.format (step_of net rs z).exact) (rest (r, (k, omega arith, g), o))
+
+row_breaks : (net : Net) (rs zs : List ℤ) → BrokenRow net.format (rows_from (step_of net) rs zs) → breaks_from net false rs zs ≡ true
+row_breaks net rs [] b = absurd (let l = b.1.1 in omega arith)
+row_breaks net rs (z ∷ zs) b = row_breaks_by net rs z zs b.0 b.1.0 b.1.1 b.1.2 b.2 (row_breaks net (step_of net rs z).past zs)
+
+-- ---- the range
+range_one : (low high z : ℤ) → (low ≤ℤ z) × (z ≤ℤ high) → range_flag low high true z ≡ true
+range_one low high z h =
+    let a : int_le low z ≡ true = (let l = h.0 in grind (arith, ints)) in
+    let b : int_le z high ≡ true = (let k = h.1 in grind (arith, ints)) in
+    rw (a, b) refl
+
+range_from : (low high z : ℤ) (q : Bool) → range_flag low high q z ≡ true → (q ≡ true) × (low ≤ℤ z) × (z ≤ℤ high)
+range_from low high z true h = by (int_le low z) (int_le z high) refl refl h
+  where
+    by : (a b : Bool) → int_le low z ≡ a → int_le z high ≡ b → ((true && a) && b) ≡ true → (true ≡ true) × (low ≤ℤ z) × (z ≤ℤ high)
+    by true true e g k = (refl, grind (arith, ints), grind (arith, ints))
+    by true false e g k = absurd cc
+    by false b e g k = absurd cc
+range_from low high z false h = absurd cc
+
+all_flag : (low high : ℤ) (q : Bool) (zs : List ℤ) → all_in_range low high q zs ≡ true → q ≡ true
+all_flag low high q [] h = h
+all_flag low high q (z ∷ zs) h = (range_from low high z q (all_flag low high (range_flag low high q z) zs h)).0
+
+all_range : (low high : ℤ) (q : Bool) (zs : List ℤ) → all_in_range low high q zs ≡ true → AreInRange low high zs
+all_range low high q [] h = All-nil (λ x. (low ≤ℤ x) × (x ≤ℤ high))
+all_range low high q (z ∷ zs) h =
+    let r = range_from low high z q (all_flag low high (range_flag low high q z) zs h) in
+    All-cons (λ x. (low ≤ℤ x) × (x ≤ℤ high)) z zs (r.1, r.2) (all_range low high (range_flag low high q z) zs h)
+
+range_all : (low high : ℤ) (zs : List ℤ) → AreInRange low high zs → all_in_range low high true zs ≡ true
+range_all low high [] h = refl
+range_all low high (z ∷ zs) h = rw (range_one low high z (All-head (λ x. (low ≤ℤ x) × (x ≤ℤ high)) z zs h)) (range_all low high zs (All-tail (λ x. (low ≤ℤ x) × (x ≤ℤ high)) z zs h))
+
+-- ---- what the root says
+both_true : (a b : Bool) → (a && b) ≡ true → (a ≡ true) × (b ≡ true)
+both_true true true h = (refl, refl)
+both_true true false h = absurd cc
+both_true false b h = absurd cc
+
+bit_number : (q : Bool) → bit_of q ≡ bit_of true → q ≡ true
+bit_number true h = refl
+bit_number false h = absurd (let e = ap (λ (w : Word). w.number) h in cc)
+
+pub tells_by : (w : Word) (P : Type 0) (q : Bool) → w ≡ bit_of q → (q ≡ true → P) → (P → q ≡ true) → Tells w P
+tells_by w P true e f g = record { one = λ p. e; nought = λ n. absurd (n (f refl)); only = λ k. f refl }
+tells_by w P false e f g = record { one = λ p. e ∙ ap bit_of (g p); nought = λ n. e; only = λ k. f (bit_number false (sym e ∙ k)) }
+
+breaks_flag : (net : Net) (low high : ℤ) (zs : List ℤ) → (breaks_from net false (zeros (length net.next)) zs && all_in_range low high true zs) ≡ true → Breaks (List ℤ) (system_of net) low high zs
+breaks_flag net low high zs h =
+    let b = both_true (breaks_from net false (zeros (length net.next)) zs) (all_in_range low high true zs) h in
+    record { in_range = all_range low high true zs b.1; broken = breaks_row net (zeros (length net.next)) zs b.0 }
+
+flag_breaks : (net : Net) (low high : ℤ) (zs : List ℤ) → Breaks (List ℤ) (system_of net) low high zs → (breaks_from net false (zeros (length net.next)) zs && all_in_range low high true zs) ≡ true
+flag_breaks net low high zs h = rw (row_breaks net (zeros (length net.next)) zs h.broken, range_all low high zs h.in_range) refl
+
+-- ---- the goal
+pub words_map : (f : Format) (values all : List ℕ) (j : ℕ) → ((i : ℕ) → i < length values → slice_index values i ≡ slice_index all (j + i)) → words_at (width f) all j (length values) ≡ spelled_words f values
+words_map f [] all j h = refl
+words_map f (v ∷ values) all j h =
+    let z : j + 0 ≡ j = omega arith in
+    let e : slice_index all j ≡ v = sym (h 0 (omega arith) ∙ ap (slice_index all) z) in
+    rw e (ap (λ (zs : List ℤ). spelled_word f v ∷ zs) (words_map f values all (j + 1) (λ i p. h (suc i) (omega arith) ∙ ap (slice_index all) (let k : j + suc i ≡ j + 1 + i = omega arith in k))))
+
+pub word_spelled : (f : Format) (z : ℤ) → IsSpelled (width f) z → IsWord f z
+word_spelled f z s = let l = s.low in let k = s.high in record { low = l; high = omega (arith, ints) }
+
+pub nought_spelled : IsSpelled 1 (pos 0)
+nought_spelled = record { low = omega (arith, ints); high = omega (arith, ints) }
+
+pub word_width : (f : Format) → IsWidth (width f)
+word_width f = record { some = width_some f; narrow = let h = width_small f in omega arith }
+
+-- what stands after the inputs, and after the zero
+pub record Starts (net : Net) (values : List ℕ) (low high : ℤ) (samples : ℕ) (i : InputTerms) (t : TermsView) (nought : TermId) : Type 0 where
+  pub ready : AreRunReady net (replicate (length net.next) nought) i.ids t nought
+  pub bits : AreBits t i.tests
+  pub flag : word_of t values nought ≡ bit_of false
+  pub registers : RegistersMean t values (replicate (length net.next) nought) (zeros (length net.next))
+  pub inputs : InputsMean net.format t values i.ids (words_at (width net.format) values 0 samples)
+  pub tests : TestsMean t values i.tests (all_in_range low high true (words_at (width net.format) values 0 samples))
+  pub sound : AreSound t
+  pub count : length t.inputs ≡ samples
+  pub widths : (j : ℕ) → j < length t.inputs → slice_index t.inputs j ≡ width net.format
+
+none_stand : (n : ℕ) (values : List ℕ) → InputsStand n values (record { terms = no_terms; ids = []; tests = [] }) [] true
+none_stand n values =
+    record {
+      sound = record { inputs = λ k d p. absurd (omega arith); lawful = tt };
+      count = refl;
+      words = refl;
+      widths = λ k p. absurd (omega arith);
+      stand = λ k p. absurd (omega arith);
+      spell = λ k p. absurd (omega arith);
+      bits = record { stand = λ k p. absurd (omega arith) };
+      tests = record { truths = []; count = refl; each = λ k p. absurd (omega arith); all = refl };
+    }
+
+pub words_at-length : (n : ℕ) (values : List ℕ) (j k : ℕ) → length (words_at n values j k) ≡ k
+words_at-length n values j zero = refl
+words_at-length n values j (suc k) = omega (arith, words_at-length n values (j + 1) k)
+
+pub starts_by : (net : Net) (values : List ℕ) (low high : ℤ) (samples : ℕ) (i : InputTerms) → InputsStand (width net.format) values i (words_at (width net.format) values 0 samples) (all_in_range low high true (words_at (width net.format) values 0 samples))
+    → Starts net values low high samples i (with_node i.terms (Constant 1 0)).terms (with_node i.terms (Constant 1 0)).id
+starts_by net values low high samples i s =
+    let f = net.format in
+    let n = width f in
+    let zs = words_at n values 0 samples in
+    let m = length net.next in
+    let u = with_node i.terms (Constant 1 0) in
+    let g = constant_gives i.terms 1 0 s.sound (record { some = omega arith; narrow = omega arith }) (omega arith) in
+    let k = g.adds.kept in
+    let small = width_small f in
+    let value : IsValue u.terms u.id = record { stands = g.adds.stands; narrow = let e = g.adds.width in omega (arith, e) } in
+    let nought : Means u.terms values u.id (pos 0) = record { spells = subst (λ (w : ℕ). Spells u.terms values u.id w (pos 0)) (sym g.adds.width) (record { word = g.word values; fits = nought_spelled }) } in
+    let at_k : (j : ℕ) → j < length (replicate m u.id) → term_at (replicate m u.id) j ≡ u.id = λ j p. get_or-replicate m j u.id (record { 0 = 0 }) (omega (arith, length-replicate m u.id)) in
+    let zero_k : (j : ℕ) → j < length (replicate m u.id) → at (zeros m) j ≡ pos 0 = λ j p. get_or-replicate m j (pos 0) (pos 0) (omega (arith, length-replicate m u.id)) in
+    record {
+      ready = record {
+        sound = g.adds.sound;
+        count = length-replicate m u.id;
+        registers_stand = λ j p. subst (IsValue u.terms) (sym (at_k j p)) value;
+        inputs_stand = λ j p. let h = bits_kept i.terms u.terms (term_at i.ids j) n k (s.stand j p) in record { stands = h.stands; narrow = let e = h.width in omega arith };
+        flag_stands = g.adds.stands;
+        flag_bit = g.adds.width;
+      };
+      bits = bits_later i.terms u.terms i.tests k s.bits;
+      flag = g.word values;
+      registers = record { each = λ j p. rw (at_k j p, zero_k j p) nought };
+      inputs = record {
+        count = sym s.words;
+        each = λ j p. let h = bits_kept i.terms u.terms (term_at i.ids j) n k (s.stand j p) in
+            record { spells = subst (λ (w : ℕ). Spells u.terms values (term_at i.ids j) w (at zs j)) (sym h.width) (spells_later i.terms u.terms values (term_at i.ids j) n (at zs j) k (s.stand j p).stands (s.spell j p)) };
+        words = All-from_get_or (IsWord f) zs (pos 0) (λ j p. word_spelled f (at zs j) (s.spell j (let e = s.words in omega arith)).fits);
+      };
+      tests = tests_later i.terms u.terms values i.tests (all_in_range low high true zs) k s.bits s.tests;
+      sound = g.adds.sound;
+      count = ap length g.adds.inputs ∙ (sym s.count ∙ (sym s.words ∙ words_at-length n values 0 samples));
+      widths = λ j p. ap (λ (is : List ℕ). slice_index is j) g.adds.inputs ∙ s.widths j (let e = ap length g.adds.inputs in omega arith);
+    }
+
+pub inputs_of : (net : Net) (values : List ℕ) (low high : ℤ) (samples : ℕ) → low ≤ℤ hi (width net.format) → lo (width net.format) ≤ℤ high → ((j : ℕ) → j < samples → slice_index values j < 2 ^ width net.format)
+    → InputsStand (width net.format) values (inputs_from (width net.format) low high samples (record { terms = no_terms; ids = []; tests = [] })) (words_at (width net.format) values 0 samples) (all_in_range low high true (words_at (width net.format) values 0 samples))
+inputs_of net values low high samples l h f =
+    inputs_stand (width net.format) low high values samples (record { terms = no_terms; ids = []; tests = [] }) [] true (word_width net.format) l h (λ j p. f j (omega arith)) (none_stand (width net.format) values)
+
+pub record GoalStands (net : Net) (low high : ℤ) (samples : ℕ) (values : List ℕ) (g : Built) : Type 0 where
+  pub bit : HasBits g.terms g.id 1
+  pub word : word_of g.terms values g.id ≡ bit_of (breaks_from net false (zeros (length net.next)) (words_at (width net.format) values 0 samples) && all_in_range low high true (words_at (width net.format) values 0 samples))
+  pub count : length g.terms.inputs ≡ samples
+  pub widths : (j : ℕ) → j < length g.terms.inputs → slice_index g.terms.inputs j ≡ width net.format
+
+pub goal_stands : (net : Net) (low high : ℤ) (samples : ℕ) (values : List ℕ) → IsNetlist net → low ≤ℤ hi (width net.format) → lo (width net.format) ≤ℤ high → ((j : ℕ) → j < samples → slice_index values j < 2 ^ width net.format)
+    → GoalStands net low high samples values (overflow_of net low high samples)
+unfolding overflow_of
+goal_stands net low high samples values net_ l h f =
+    let zs = words_at (width net.format) values 0 samples in
+    let m = length net.next in
+    let i = inputs_from (width net.format) low high samples (record { terms = no_terms; ids = []; tests = [] }) in
+    let s = starts_by net values low high samples i (inputs_of net values low high samples l h f) in
+    let u = with_node i.terms (Constant 1 0) in
+    let start : RunTerms = record { terms = u.terms; registers = replicate m u.id; broken = u.id } in
+    let zero_word : IsWord net.format (pos 0) = nought_word net.format in
+    let r = run_follows net values i.ids zs start (zeros m) false net_ (length-replicate m (pos 0)) (All-replicate (IsWord net.format) m (pos 0) zero_word) s.ready s.flag (λ e. s.registers) s.inputs in
+    let run = run_from net i.ids start in
+    let b = breaks_from net false (zeros m) zs in
+    let t = tests_later u.terms run.terms values i.tests (all_in_range low high true zs) r.kept s.bits s.tests in
+    let j = conjunction_joins values run.terms run.broken i.tests t.truths b r.ready.sound (record { stands = r.stands; width = r.bit }) r.flag (bits_later u.terms run.terms i.tests r.kept s.bits) t.count t.each in
+    let same = j.inputs ∙ r.inputs in
+    record {
+      bit = j.bit;
+      word = j.word ∙ ap bit_of (joined-split b t.truths ∙ ap (λ (q : Bool). b && q) t.all);
+      count = ap length same ∙ s.count;
+      widths = λ k p. ap (λ (is : List ℕ). slice_index is k) same ∙ s.widths k (let e = ap length same in omega arith);
+    }
+  where
+    nought_word : (f : Format) → IsWord f (pos 0)
+    nought_word f = let p = pow_pos (width f - 1) in record { low = omega (arith, ints); high = omega (arith, ints) }
+
+pub overflow_tells : (net : Net) (low high : ℤ) (samples : ℕ) (values : List ℕ) → IsNetlist net → low ≤ℤ hi (width net.format) → lo (width net.format) ≤ℤ high → AreValues (overflow_of net low high samples).terms.inputs values
+    → Tells (word_of (overflow_of net low high samples).terms values (overflow_of net low high samples).id) (Breaks (List ℤ) (system_of net) low high (spelled_words net.format values))
+overflow_tells net low high samples values net_ l h v =
+    let none = goal_stands net low high samples [] net_ l h (λ j p. pow_pos (width net.format)) in
+    let c : length values ≡ samples = v.count ∙ none.count in
+    let f : (j : ℕ) → j < samples → slice_index values j < 2 ^ width net.format = λ j p. (let q : j < length (overflow_of net low high samples).terms.inputs = omega (arith, none.count) in subst (λ (w : ℕ). slice_index values j < 2 ^ w) (none.widths j q) (v.fit j q)) in
+    let g = goal_stands net low high samples values net_ l h f in
+    let e : words_at (width net.format) values 0 samples ≡ spelled_words net.format values = ap (words_at (width net.format) values 0) (sym c) ∙ words_map net.format values values 0 (λ i p. ap (slice_index values) (let z : i ≡ 0 + i = omega arith in z)) in
+    let zs = words_at (width net.format) values 0 samples in
+    subst (λ (ys : List ℤ). Tells (word_of (overflow_of net low high samples).terms values (overflow_of net low high samples).id) (Breaks (List ℤ) (system_of net) low high ys)) e
+    (tells_by (word_of (overflow_of net low high samples).terms values (overflow_of net low high samples).id) (Breaks (List ℤ) (system_of net) low high zs) (breaks_from net false (zeros (length net.next)) zs && all_in_range low high true zs) g.word (breaks_flag net low high zs) (flag_breaks net low high zs))
+
+-- a list of one number is known by its length
+pub same_items : (n : ℕ) (xs : List ℕ) (k : ℕ) → length xs ≡ k → ((j : ℕ) → j < length xs → slice_index xs j ≡ n) → xs ≡ replicate k n
+same_items n [] zero e h = refl
+same_items n [] (suc k) e h = absurd (omega arith)
+same_items n (x ∷ xs) zero e h = absurd (omega arith)
+same_items n (x ∷ xs) (suc k) e h = ap (λ (ys : List ℕ). x ∷ ys) (same_items n xs k (omega arith) (λ j p. h (suc j) (omega arith))) ∙ ap (λ (y : ℕ). y ∷ replicate k n) (h 0 (omega arith))
+
+pub overflow_inputs : (net : Net) (low high : ℤ) (samples : ℕ) → IsNetlist net → low ≤ℤ hi (width net.format) → lo (width net.format) ≤ℤ high → (overflow_of net low high samples).terms.inputs ≡ replicate samples (width net.format)
+overflow_inputs net low high samples net_ l h =
+    let none = goal_stands net low high samples [] net_ l h (λ j p. pow_pos (width net.format)) in
+    same_items (width net.format) (overflow_of net low high samples).terms.inputs samples none.count none.widths
+
+-- ---- as the code has it
+pub record AreStarted (net : Net) (registers : List TermId) (i : InputTerms) (t : TermsView) (nought : TermId) : Type 0 where
+  pub ready : AreRunReady net registers i.ids t nought
+  pub bits : AreBits t i.tests
+
+pub started : (net : Net) (low high : ℤ) (samples : ℕ) (registers : List TermId) (i : InputTerms) (t : TermsView) (nought : TermId) → low ≤ℤ hi (width net.format) → lo (width net.format) ≤ℤ high
+    → i ≡ inputs_from (width net.format) low high samples (record { terms = no_terms; ids = []; tests = [] }) → built_of t nought ≡ with_node i.terms (Constant 1 0) → registers ≡ replicate (length net.next) nought → AreStarted net registers i t nought
+started net low high samples registers i t nought l h e b r =
+    let first = inputs_from (width net.format) low high samples (record { terms = no_terms; ids = []; tests = [] }) in
+    let s = starts_by net [] low high samples first (inputs_of net [] low high samples l h (λ j p. pow_pos (width net.format))) in
+    let one : AreStarted net (replicate (length net.next) (with_node first.terms (Constant 1 0)).id) first (with_node first.terms (Constant 1 0)).terms (with_node first.terms (Constant 1 0)).id = record { ready = s.ready; bits = s.bits } in
+    let two = subst (λ (j : InputTerms). AreStarted net (replicate (length net.next) (with_node j.terms (Constant 1 0)).id) j (with_node j.terms (Constant 1 0)).terms (with_node j.terms (Constant 1 0)).id) (sym e) one in
+    let three = subst (λ (u : Built). AreStarted net (replicate (length net.next) u.id) i u.terms u.id) (sym b) two in
+    subst (λ (ids : List TermId). AreStarted net ids i t nought) (sym r) three
+
+pub made_tells : (net : Net) (low high : ℤ) (samples : ℕ) (t : TermsView) (root : TermId) (values : List ℕ) → built_of t root ≡ overflow_of net low high samples → IsNetlist net → low ≤ℤ hi (width net.format) → lo (width net.format) ≤ℤ high → AreValues t.inputs values
+    → Tells (word_of t values root) (Breaks (List ℤ) (system_of net) low high (spelled_words net.format values))
+made_tells net low high samples t root values e n l h v =
+    let w = subst (λ (g : Built). AreValues g.terms.inputs values) e v in
+    subst (λ (g : Built). Tells (word_of g.terms values g.id) (Breaks (List ℤ) (system_of net) low high (spelled_words net.format values))) (sym e) (overflow_tells net low high samples values n l h w)
+
+pub made_inputs : (net : Net) (low high : ℤ) (samples : ℕ) (t : TermsView) (root : TermId) → built_of t root ≡ overflow_of net low high samples → IsNetlist net → low ≤ℤ hi (width net.format) → lo (width net.format) ≤ℤ high → t.inputs ≡ replicate samples (width net.format)
+made_inputs net low high samples t root e n l h = ap (λ (g : Built). g.terms.inputs) e ∙ overflow_inputs net low high samples n l h

@@ -1,0 +1,17 @@
+pub mod Breaking
+pub mod CycleGoal
+pub mod CycleRuns
+pub mod CycleSteps
+pub mod CycleTerms
+pub mod Cycling
+pub mod FaithfulTerms
+pub mod FitTerms
+pub mod Follows
+pub mod InputTests
+pub mod NodeTerms
+pub mod RoundTerms
+pub mod Rounding
+pub mod RuleTerms
+pub mod Runs
+pub mod SampleSteps
+pub mod Samples

@@ -1,0 +1,162 @@
+-- What the term of a node adds.
+use Rattle.std.proofs.Common.{◌≡◌, ℕ, zero, suc, ◌+◌, ◌-◌, ◌^◌, ◌<◌, ◌≤◌, Bool, true, false, inl, inr, List, [], ◌∷◌, ◌++◌, refl, arith, subst, ◌∙◌, length}
+use Rattle.std.specs.Prelude.{◌==◌, nat_lt, max, if◌then◌else◌, Some, slice_get, slice_index_or}
+use Rattle.std.specs.List.{All}
+use Rattle.std.proofs.Math.Nat.{pow-le-pow_right}
+use Rattle.std.proofs.lemmas.Bool.{cases_lt}
+use Rattle.std.proofs.lemmas.Bool.Decides.{nat_tests}
+use Rattle.std.proofs.lemmas.List.{get_or_append_left, get_or_push, length_push}
+use Rattle.std.proofs.lemmas.List.Elements.{All-get_or, All-head, All-tail}
+use Rattle.std.proofs.lemmas.Nat.{pow_pos}
+use Rattle.dsv_names.specs.declared.rounding.Rounding.{Rounding}
+use Rattle.dsv_names.specs.declared.rounding.Rounding.TheVariants as rounding
+use Rattle.dsv_word.specs.declared.format.Format.{Format}
+use Rattle.dsv_word.specs.Words.{width}
+use Rattle.dsv_netlist.specs.declared.node.Node.{Node}
+use Rattle.dsv_netlist.specs.declared.node.Node.TheVariants as node
+use Rattle.dsv_netlist.specs.declared.TheConstants.{BOUND_LIMIT}
+use Rattle.dsv_netlist.specs.Nodes.{Net}
+use Rattle.dsv_netlist.specs.Bounds.{word_bound, bounds_of}
+use Rattle.dsv_netlist.specs.Conditions.{IsNetlist, NamesBelow, AllNameBack, ReadsBelow}
+use Rattle.dsv_netlist.proofs.BoundLemmas.{from-length}
+use Rattle.dsv_term.specs.declared.node.TermId.{TermId}
+use Rattle.dsv_term.specs.Building.{Built, built_of}
+use Rattle.dsv_term.specs.Growth.{AreSound, Adds}
+use Rattle.dsv_term.specs.Terms.{KeepsTerms, width_of}
+use Rattle.dsv_term.specs.TermsView.{TermsView}
+use Rattle.dsv_term.proofs.Building.{Adds-none, later}
+use Rattle.dsv_unroll.specs.declared.rules.FitRule.{FitRule}
+use Rattle.dsv_unroll.specs.declared.rules.FitRule.TheVariants as fit_rule
+use Rattle.dsv_unroll.specs.Ready.{IsValue, AreReady}
+use Rattle.dsv_unroll.specs.Rules.{Unrolled, unrolled_of, width_for, product_term, sum_width, shifted_term, addend_of, is_whole, addend_at, fitted_term, word_term, term_at, bound_at, node_term}
+use Rattle.dsv_unroll.proofs.RuleTerms.{value_later, width_for-least, max_narrow, product_made, sum_made, difference_made, sum_narrow}
+use Rattle.dsv_unroll.proofs.RoundTerms.{shift_width, shift_width-narrow, shifted}
+use Rattle.dsv_unroll.proofs.FitTerms.{tested_fits}
+use Rattle.dsv_unroll.proofs.FaithfulTerms.{word_fits}
+
+-- ---- numbers of a netlist
+pub bound_small : (net : Net) (i : ℕ) → IsNetlist net → i < length net.nodes → bound_at net i < 2 ^ 78
+bound_small net i n h =
+    All-get_or (λ (b : ℕ). b < BOUND_LIMIT) (bounds_of net.format net.nodes) i 0 (omega (arith, from-length (word_bound net.format) net.nodes [], h)) n.bounded
+
+pub point_small : (f : Format) → f.frac_bits ≤ 32
+point_small f = let l = f.lawful in omega (arith, l.0, l.1, l.2)
+
+pub width_some : (f : Format) → 1 ≤ width f
+width_some f = let l = f.lawful in omega (arith, l.0, l.1)
+
+pub width_small : (f : Format) → width f ≤ 32
+width_small f = let l = f.lawful in omega (arith, l.2)
+
+addend_of-small : (r : Rounding) (f : ℕ) → f ≤ 32 → addend_of r f < 2 ^ 78
+addend_of-small rounding.Floor f h = pow_pos 78
+addend_of-small rounding.Ceil f h = let p : 2 ^ f ≤ 2 ^ 32 = pow-le-pow_right (omega arith) h in omega arith
+addend_of-small rounding.Nearest f h = let q : f - 1 ≤ 32 = omega arith in let p : 2 ^ (f - 1) ≤ 2 ^ 32 = pow-le-pow_right (omega arith) q in omega arith
+
+if_small : (q : Bool) (a : ℕ) → a < 2 ^ 78 → (if q then 0 else a) < 2 ^ 78
+if_small true a h = pow_pos 78
+if_small false a h = h
+
+pub addend_small : (net : Net) (of : ℕ) → addend_at net of < 2 ^ 78
+addend_small net of =
+    if_small (is_whole net.format.frac_bits (slice_index_or net.nodes of node.Input)) (addend_of net.format.rounding net.format.frac_bits)
+    (addend_of-small net.format.rounding net.format.frac_bits (point_small net.format))
+
+-- a node names those before it
+pub names-at : (m : ℕ) (nodes : List Node) (i : ℕ) (n : Node) → AllNameBack m nodes → slice_get nodes i ≡ Some n → NamesBelow (m + i) n
+names-at m [] i n h e = absurd cc
+names-at m (d ∷ ds) zero n h e = let k : d ≡ n = cc in let z : m + 0 ≡ m = omega arith in rw z (subst (NamesBelow m) k h.0)
+names-at m (d ∷ ds) (suc i) n h e = let z : m + 1 + i ≡ m + suc i = omega arith in subst (λ (j : ℕ). NamesBelow j n) z (names-at (m + 1) ds i n h.1 e)
+
+pub reads-at : (m : ℕ) (nodes : List Node) (i : ℕ) (n : Node) → All (ReadsBelow m) nodes → slice_get nodes i ≡ Some n → ReadsBelow m n
+reads-at m [] i n h e = absurd cc
+reads-at m (d ∷ ds) zero n h e = let k : d ≡ n = cc in subst (ReadsBelow m) k (All-head (ReadsBelow m) d ds h)
+reads-at m (d ∷ ds) (suc i) n h e = reads-at m ds i n (All-tail (ReadsBelow m) d ds h) e
+
+-- ---- what is added
+pub record NodeAdds (t : TermsView) (u : Unrolled) : Type 0 where
+  pub sound : AreSound u.terms
+  pub inputs : u.terms.inputs ≡ t.inputs
+  pub kept : KeepsTerms t u.terms
+  pub value : IsValue u.terms u.id
+  pub flag_stands : u.broken.0 < length u.terms.nodes
+  pub flag_bit : width_of u.terms u.broken ≡ 1
+
+-- a term that is added and no flag
+plain : (t : TermsView) (b : Built) (bits : ℕ) (broken : TermId) → Adds t b.terms b.id bits → bits ≤ 79 → broken.0 < length t.nodes → width_of t broken ≡ 1 → NodeAdds t (unrolled_of b broken)
+plain t b bits broken a n s w =
+    let l = later t b.terms broken a.kept s in
+    record { sound = a.sound; inputs = a.inputs; kept = a.kept; value = record { stands = a.stands; narrow = omega (arith, a.width, n) }; flag_stands = l.stands; flag_bit = l.width ∙ w }
+
+standing : (t : TermsView) (id broken : TermId) → AreSound t → IsValue t id → broken.0 < length t.nodes → width_of t broken ≡ 1 → NodeAdds t (unrolled_of (built_of t id) broken)
+standing t id broken s v k w = plain t (built_of t id) (width_of t id) broken (Adds-none t id (width_of t id) s v.stands refl) v.narrow k w
+
+rounded_by : (t : TermsView) (bound addend f : ℕ) (of broken : TermId) (q : Bool) → AreSound t → IsValue t of → bound < 2 ^ 78 → addend < 2 ^ 78 → f ≤ 32 → (f == 0) ≡ q → broken.0 < length t.nodes → width_of t broken ≡ 1
+    → NodeAdds t (unrolled_of (if q then built_of t of else shifted_term t bound addend f of) broken)
+rounded_by t bound addend f of broken true s v l m k e bs bw = standing t of broken s v bs bw
+rounded_by t bound addend f of broken false s v l m k e bs bw =
+    let h = shifted t of bound addend f s v l m k in
+    let p : 1 ≤ f = grind (arith, nat_tests) in
+    plain t (shifted_term t bound addend f of) (shift_width t bound addend f of - f) broken h.adds (omega (arith, shift_width-narrow t of bound addend f v l m k)) bs bw
+
+faithful_by : (t : TermsView) (f : Format) (of broken : TermId) (q : Bool) → nat_lt (width f) (width_of t of) ≡ q → AreSound t → IsValue t of → broken.0 < length t.nodes → width_of t broken ≡ 1
+    → NodeAdds t (if q then unrolled_of (word_term f.overflow t (width f) of) broken else unrolled_of (built_of t of) broken)
+faithful_by t f of broken true e s v bs bw =
+    let l : width f < width_of t of = grind (arith, nat_tests) in
+    let h = word_fits f.overflow t of (width f) s v.stands (width_some f) (omega arith) in
+    let b = word_term f.overflow t (width f) of in
+    plain t b (width_of b.terms b.id) broken h.adds (omega (arith, h.narrow, width_small f)) bs bw
+faithful_by t f of broken false e s v bs bw = standing t of broken s v bs bw
+
+fitted_adds : (rule : FitRule) (t : TermsView) (f : Format) (of broken : TermId) → AreSound t → IsValue t of → broken.0 < length t.nodes → width_of t broken ≡ 1 → NodeAdds t (fitted_term rule f t of broken)
+fitted_adds fit_rule.Tested t f of broken s v bs bw =
+    let h = tested_fits t of (width f) broken s v (width_some f) bs bw in
+    record { sound = h.adds.sound; inputs = h.adds.inputs; kept = h.adds.kept; value = record { stands = h.adds.stands; narrow = h.narrow }; flag_stands = h.flag_stands; flag_bit = h.flag_bit }
+fitted_adds fit_rule.Faithful t f of broken s v bs bw = faithful_by t f of broken (nat_lt (width f) (width_of t of)) refl s v bs bw
+
+pub node_adds : (rule : FitRule) (net : Net) (registers : List TermId) (x : TermId) (t : TermsView) (ids : List TermId) (broken : TermId) (n : Node) → IsNetlist net → AreReady net registers x t ids broken
+    → length ids < length net.nodes → NamesBelow (length ids) n → ReadsBelow (length registers) n → NodeAdds t (node_term rule net registers x t ids broken n)
+node_adds rule net registers x t ids broken node.Input net_ r l b d = standing t x broken r.sound r.input r.flag_stands r.flag_bit
+node_adds rule net registers x t ids broken (node.Reg k) net_ r l b d = standing t (term_at registers k) broken r.sound (r.registers_stand k d) r.flag_stands r.flag_bit
+node_adds rule net registers x t ids broken (node.MulConst c of) net_ r l b d =
+    let bound = bound_at net (length ids) in
+    let small = bound_small net (length ids) net_ l in
+    let v = r.nodes of b in
+    let h = product_made t bound c (term_at ids of) r.sound v small in
+    plain t (product_term t bound c (term_at ids of)) (max (width_of t (term_at ids of)) (width_for bound)) broken h.adds (max_narrow (width_of t (term_at ids of)) (width_for bound) 79 v.narrow (width_for-least bound 78 (omega arith) small)) r.flag_stands r.flag_bit
+node_adds rule net registers x t ids broken (node.Round of) net_ r l b d =
+    rounded_by t (bound_at net of) (addend_at net of) net.format.frac_bits (term_at ids of) broken (net.format.frac_bits == 0) r.sound (r.nodes of b) (bound_small net of net_ (omega arith)) (addend_small net of) (point_small net.format) refl r.flag_stands r.flag_bit
+node_adds rule net registers x t ids broken (node.Add i j) net_ r l b d =
+    let bound = bound_at net (length ids) in
+    let small = bound_small net (length ids) net_ l in
+    let h = sum_made t bound (term_at ids i) (term_at ids j) r.sound (r.nodes i b.0) (r.nodes j b.1) small in
+    plain t _ (sum_width t bound (term_at ids i) (term_at ids j)) broken h.adds (sum_narrow t bound (term_at ids i) (term_at ids j) (r.nodes i b.0) (r.nodes j b.1) small) r.flag_stands r.flag_bit
+node_adds rule net registers x t ids broken (node.Sub i j) net_ r l b d =
+    let bound = bound_at net (length ids) in
+    let small = bound_small net (length ids) net_ l in
+    let h = difference_made t bound (term_at ids i) (term_at ids j) r.sound (r.nodes i b.0) (r.nodes j b.1) small in
+    plain t _ (sum_width t bound (term_at ids i) (term_at ids j)) broken h.adds (sum_narrow t bound (term_at ids i) (term_at ids j) (r.nodes i b.0) (r.nodes j b.1) small) r.flag_stands r.flag_bit
+node_adds rule net registers x t ids broken (node.Fit of) net_ r l b d = fitted_adds rule t net.format (term_at ids of) broken r.sound (r.nodes of b) r.flag_stands r.flag_bit
+
+-- ---- ready after a node
+default : TermId
+default = record { 0 = 0 }
+
+-- a fact of all terms so far and of one more
+pub all_more : (P : TermId → Type 0) (ids : List TermId) (id : TermId) → ((i : ℕ) → i < length ids → P (term_at ids i)) → P id → (i : ℕ) → i < length (ids ++ id ∷ []) → P (term_at (ids ++ id ∷ []) i)
+all_more P ids id h p i l = elim (cases_lt i (length ids)) [
+  | inl less ↦ rw (get_or_append_left ids (id ∷ []) (record { 0 = 0 }) i less) (h i less)
+  | inr more ↦ (let e : length ids ≡ i = omega (arith, length_push ids id) in rw (get_or_push ids id (record { 0 = 0 }) i e) p)
+]
+
+pub ready_with : (net : Net) (registers : List TermId) (x : TermId) (t : TermsView) (ids : List TermId) (broken : TermId) (u : Unrolled) → AreReady net registers x t ids broken → NodeAdds t u → AreReady net registers x u.terms (ids ++ u.id ∷ []) u.broken
+ready_with net registers x t ids broken u r a =
+    record {
+      sound = a.sound;
+      nodes = all_more (IsValue u.terms) ids u.id (λ i p. value_later t u.terms (term_at ids i) a.kept (r.nodes i p)) a.value;
+      count = r.count;
+      registers_stand = λ k p. value_later t u.terms (term_at registers k) a.kept (r.registers_stand k p);
+      input = value_later t u.terms x a.kept r.input;
+      flag_stands = a.flag_stands;
+      flag_bit = a.flag_bit;
+    }

@@ -1,0 +1,134 @@
+-- Whole samples: their terms spell their values, and the flag says whether a value was no word.
+use Rattle.std.proofs.Common.{◌≡◌, ℕ, zero, suc, ◌+◌, ◌<◌, ◌≤◌, Bool, false, ◌||◌, inl, inr, List, [], ◌∷◌, ◌++◌, refl, arith, ap, sym, subst, ◌∙◌, length}
+use Rattle.std.specs.Prelude.{slice_index_or}
+use Rattle.std.specs.List.{All, list_any}
+use Rattle.std.specs.Int.RustNames.{unsigned_abs}
+use Rattle.std.proofs.Math.IntN.{ℤ, pos, ◌*ℤ◌}
+use Rattle.std.proofs.lemmas.List.{get_or_append_left, get_or_push, length_push}
+use Rattle.std.proofs.lemmas.List.Elements.{All-head, All-tail}
+use Rattle.std.proofs.lemmas.Bool.{cases_lt}
+use Rattle.dsv_word.specs.declared.format.Format.{Format}
+use Rattle.dsv_word.specs.Words.{width}
+use Rattle.dsv_netlist.specs.declared.node.Node.{Node}
+use Rattle.dsv_netlist.specs.declared.node.Node.TheVariants as node
+use Rattle.dsv_netlist.specs.Nodes.{Net, Sample, at, node_value, after_node, sample_from, sample_of}
+use Rattle.dsv_netlist.specs.Conditions.{IsNetlist, NamesBelow, AllNameBack, ReadsBelow}
+use Rattle.dsv_netlist.specs.Law.{AreWords}
+use Rattle.dsv_netlist.proofs.Runs.{from_keeps, values_bounded}
+use Rattle.dsv_term.specs.declared.node.TermId.{TermId}
+use Rattle.dsv_term.specs.Terms.{KeepsTerms, word_of}
+use Rattle.dsv_term.specs.TermsView.{TermsView}
+use Rattle.dsv_term.specs.Word.{bit_of}
+use Rattle.dsv_term.proofs.Made.{KeepsTerms-both}
+use Rattle.dsv_term.proofs.Building.{KeepsTerms-self}
+use Rattle.dsv_unroll.specs.declared.rules.FitRule.{FitRule}
+use Rattle.dsv_unroll.specs.Goals.{SampleTerms, with_node_term, nodes_from, sample_terms}
+use Rattle.dsv_unroll.specs.Ready.{AreReady}
+use Rattle.dsv_unroll.specs.Rules.{Unrolled, term_at, bound_at, node_term}
+use Rattle.dsv_unroll.proofs.FitTerms.{is_outside}
+use Rattle.dsv_unroll.proofs.NodeTerms.{NodeAdds, node_adds, ready_with}
+use Rattle.dsv_unroll.proofs.Follows.{Means, means_later, Follows, NodeMeans, NodeKnown, node_flag, node_means}
+
+-- ---- what is known of a sample's values
+-- a product stands in a sample as one
+product_at : (f : Format) (rs : List ℤ) (x : ℤ) (ns : List Node) (s : Sample) (i : ℕ) (c : ℤ) (of : ℕ) → slice_index_or ns i node.Input ≡ node.MulConst c of → of < length s.values + i
+    → at (sample_from f rs x ns s).values (length s.values + i) ≡ c *ℤ at (sample_from f rs x ns s).values of
+product_at f rs x [] s i c of e h = absurd cc
+product_at f rs x (n ∷ ns) s zero c of e h =
+    let v = node_value f rs x s.values n in
+    let l : length s.values ≡ length s.values + 0 = omega arith in
+    let a : at (sample_from f rs x (n ∷ ns) s).values (length s.values + 0) ≡ v = from_keeps f rs x ns (after_node f rs x s n) (length s.values + 0) (omega (arith, length_push s.values v)) ∙ get_or_push s.values v (pos 0) (length s.values + 0) l in
+    let b : at (sample_from f rs x (n ∷ ns) s).values of ≡ at s.values of = from_keeps f rs x (n ∷ ns) s of (omega arith) in
+    a ∙ (ap (node_value f rs x s.values) e ∙ ap (λ (z : ℤ). c *ℤ z) (sym b))
+product_at f rs x (n ∷ ns) s (suc i) c of e h =
+    let v = node_value f rs x s.values n in
+    let l : length (s.values ++ v ∷ []) + i ≡ length s.values + suc i = omega (arith, length_push s.values v) in
+    subst (λ (j : ℕ). at (sample_from f rs x (n ∷ ns) s).values j ≡ c *ℤ at (sample_from f rs x (n ∷ ns) s).values of) l (product_at f rs x ns (after_node f rs x s n) i c of e (omega (arith, length_push s.values v)))
+
+names_or : (m : ℕ) (nodes : List Node) (i : ℕ) (c : ℤ) (of : ℕ) → AllNameBack m nodes → slice_index_or nodes i node.Input ≡ node.MulConst c of → of < m + i
+names_or m [] i c of h e = absurd cc
+names_or m (d ∷ ds) zero c of h e = let k = subst (NamesBelow m) e h.0 in omega (arith, k)
+names_or m (d ∷ ds) (suc i) c of h e = let k = names_or (m + 1) ds i c of h.1 e in omega (arith, k)
+
+-- the values so far are those of the whole sample
+sample_known : (net : Net) (rs : List ℤ) (x : ℤ) (n : Node) (ns : List Node) (s : Sample) → IsNetlist net → AreWords net rs x → sample_from net.format rs x (n ∷ ns) s ≡ sample_of net.format rs x net.nodes → length s.values < length net.nodes
+    → NodeKnown net s.values (node_value net.format rs x s.values n) n
+sample_known net rs x n ns s h w e l =
+    let f = net.format in
+    let v = node_value f rs x s.values n in
+    let all = sample_of f rs x net.nodes in
+    let here : at all.values (length s.values) ≡ v = ap (λ (q : Sample). at q.values (length s.values)) (sym e) ∙ (from_keeps f rs x ns (after_node f rs x s n) (length s.values) (omega (arith, length_push s.values v)) ∙ get_or_push s.values v (pos 0) (length s.values) refl) in
+    let old : (i : ℕ) → i < length s.values → at all.values i ≡ at s.values i = λ i p. ap (λ (q : Sample). at q.values i) (sym e) ∙ from_keeps f rs x (n ∷ ns) s i p in
+    record {
+      size = subst (λ (z : ℤ). unsigned_abs z ≤ bound_at net (length s.values)) here (values_bounded net rs x h w (length s.values) l);
+      sizes = λ i p. subst (λ (z : ℤ). unsigned_abs z ≤ bound_at net i) (old i p) (values_bounded net rs x h w i (omega arith));
+      products = λ i c of p q.
+          let b : of < 0 + i = names_or 0 net.nodes i c of h.backwards q in
+          let z : 0 + i ≡ i = omega arith in
+          let m = product_at f rs x net.nodes (record { values = []; exact = [] }) i c of q b in
+          (at all.values of, sym (old i p) ∙ (ap (at all.values) (sym z) ∙ m));
+    }
+
+-- ---- node after node
+-- the flag after these nodes
+abbrev pub flag_from : FitRule → Format → List ℤ → ℤ → Bool → List Node → Sample → Bool
+flag_from rule f rs x b [] s = b
+flag_from rule f rs x b (n ∷ ns) s = flag_from rule f rs x (b || node_flag rule (width f) s.values n) ns (after_node f rs x s n)
+
+pub record SampleFollows (rule : FitRule) (values : List ℕ) (net : Net) (rs : List ℤ) (x : ℤ) (registers : List TermId) (input : TermId) (t : TermsView) (s : SampleTerms) (vals : List ℤ) (b : Bool) : Type 0 where
+  pub ready : AreReady net registers input s.terms s.ids s.broken
+  pub follows : Follows values rs x registers input s.terms s.ids s.broken vals b
+  pub kept : KeepsTerms t s.terms
+  pub inputs : s.terms.inputs ≡ t.inputs
+
+follows_with : (values : List ℕ) (net : Net) (rs : List ℤ) (x : ℤ) (registers : List TermId) (input : TermId) (t : TermsView) (ids : List TermId) (broken : TermId) (u : Unrolled) (vals : List ℤ) (v : ℤ) (b now : Bool) → AreReady net registers input t ids broken
+    → Follows values rs x registers input t ids broken vals b → NodeAdds t u → NodeMeans values u v b now → Follows values rs x registers input u.terms (ids ++ u.id ∷ []) u.broken (vals ++ v ∷ []) now
+follows_with values net rs x registers input t ids broken u vals v b now r f a m =
+    record {
+      count = length_push ids u.id ∙ (ap (λ (k : ℕ). k + 1) f.count ∙ sym (length_push vals v));
+      flag = m.flag;
+      nodes = λ e i p. elim (cases_lt i (length ids)) [
+        | inl less ↦ (let c = f.count in rw (get_or_append_left ids (u.id ∷ []) (record { 0 = 0 }) i less, get_or_append_left vals (v ∷ []) (pos 0) i (omega arith)) (means_later t u.terms values (term_at ids i) (at vals i) a.kept (r.nodes i less).stands (f.nodes (m.before e) i less)))
+        | inr more ↦ (let k : length ids ≡ i = omega (arith, length_push ids u.id) in let c = f.count in rw (get_or_push ids u.id (record { 0 = 0 }) i k, get_or_push vals v (pos 0) i (sym c ∙ k)) (m.value e))
+      ];
+      registers_mean = λ e k p. means_later t u.terms values (term_at registers k) (at rs k) a.kept (r.registers_stand k p).stands (f.registers_mean (m.before e) k p);
+      input_means = means_later t u.terms values input x a.kept r.input.stands f.input_means;
+    }
+
+pub nodes_follow : (rule : FitRule) (values : List ℕ) (net : Net) (rs : List ℤ) (x : ℤ) (registers : List TermId) (input : TermId) (ns : List Node) (s : SampleTerms) (q : Sample) (b : Bool) → IsNetlist net → AreWords net rs x
+    → sample_from net.format rs x ns q ≡ sample_of net.format rs x net.nodes → length s.ids + length ns ≡ length net.nodes → AllNameBack (length s.ids) ns → All (ReadsBelow (length registers)) ns
+    → AreReady net registers input s.terms s.ids s.broken → Follows values rs x registers input s.terms s.ids s.broken q.values b
+    → SampleFollows rule values net rs x registers input s.terms (nodes_from rule net registers input ns s) (sample_from net.format rs x ns q).values (flag_from rule net.format rs x b ns q)
+nodes_follow rule values net rs x registers input [] s q b h w e l bk rd r f = record { ready = r; follows = f; kept = KeepsTerms-self s.terms; inputs = refl }
+nodes_follow rule values net rs x registers input (n ∷ ns) s q b h w e l bk rd r f =
+    let u = node_term rule net registers input s.terms s.ids s.broken n in
+    let v = node_value net.format rs x q.values n in
+    let c = f.count in
+    let here : length s.ids < length net.nodes = omega arith in
+    let reads = All-head (ReadsBelow (length registers)) n ns rd in
+    let a = node_adds rule net registers input s.terms s.ids s.broken n h r here bk.0 reads in
+    let k = sample_known net rs x n ns q h w e (omega arith) in
+    let m = node_means rule values net rs x registers input s.terms s.ids s.broken q.values b n h r f here bk.0 reads k in
+    let now = b || node_flag rule (width net.format) q.values n in
+    let more : length (s.ids ++ u.id ∷ []) ≡ length s.ids + 1 = length_push s.ids u.id in
+    let rest = nodes_follow rule values net rs x registers input ns (with_node_term rule net registers input s n) (after_node net.format rs x q n) now h w e (omega arith)
+    (subst (λ (j : ℕ). AllNameBack j ns) (sym more) bk.1) (All-tail (ReadsBelow (length registers)) n ns rd)
+    (ready_with net registers input s.terms s.ids s.broken u r a) (follows_with values net rs x registers input s.terms s.ids s.broken u q.values v b now r f a m) in
+    record { ready = rest.ready; follows = rest.follows; kept = KeepsTerms-both s.terms u.terms _ a.kept rest.kept; inputs = rest.inputs ∙ a.inputs }
+
+-- ---- a whole sample
+empty_follows : (values : List ℕ) (rs : List ℤ) (x : ℤ) (registers : List TermId) (input : TermId) (t : TermsView) (broken : TermId) (b : Bool) → word_of t values broken ≡ bit_of b
+    → (b ≡ false → (k : ℕ) → k < length registers → Means t values (term_at registers k) (at rs k)) → Means t values input x → Follows values rs x registers input t [] broken [] b
+empty_follows values rs x registers input t broken b w m i = record { count = refl; flag = w; nodes = λ e i p. absurd (omega arith); registers_mean = m; input_means = i }
+
+pub sample_follows : (rule : FitRule) (values : List ℕ) (net : Net) (rs : List ℤ) (x : ℤ) (registers : List TermId) (input : TermId) (t : TermsView) (broken : TermId) (b : Bool) → IsNetlist net → AreWords net rs x
+    → AreReady net registers input t [] broken → word_of t values broken ≡ bit_of b → (b ≡ false → (k : ℕ) → k < length registers → Means t values (term_at registers k) (at rs k)) → Means t values input x
+    → SampleFollows rule values net rs x registers input t (sample_terms rule net registers input t broken) (sample_of net.format rs x net.nodes).values (flag_from rule net.format rs x b net.nodes (record { values = []; exact = [] }))
+unfolding sample_terms
+sample_follows rule values net rs x registers input t broken b h w r g m i =
+    nodes_follow rule values net rs x registers input net.nodes (record { terms = t; ids = []; broken = broken }) (record { values = []; exact = [] }) b h w refl (omega arith) h.backwards (rw r.count h.registers) r
+    (empty_follows values rs x registers input t broken b g m i)
+
+-- ---- the flag of a sample
+any_outside : Format → List ℤ → Bool
+any_outside f es = list_any (is_outside (width f)) es

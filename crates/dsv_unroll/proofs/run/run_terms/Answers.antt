@@ -1,0 +1,33 @@
+use Rattle.std.proofs.Common.{rules, refl, ap, length, ◌∙◌}
+use Rattle.dsv_term.proofs.Made.{KeepsTerms-both}
+use Rattle.dsv_term.proofs.Building.{KeepsTerms-self}
+use Rattle.dsv_unroll.specs.Goals.{RunTerms, SampleTerms, run_from}
+use Rattle.dsv_unroll.specs.Rules.{term_at}
+use Rattle.dsv_unroll.proofs.SampleSteps.{run_step, run_ready, next_below}
+use Rattle.dsv_unroll.proofs.run.run_terms.Goals as goal
+
+pub sample_terms-requires-clause-ready : goal.sample_terms-requires-clause-ready
+sample_terms-requires-clause-ready c =
+    let l = c.loop-x in
+    let net = c.args.net.now in
+    let start : RunTerms = run_from net c.args.inputs.now (record { terms = c.args.terms.now; registers = c.args.start.items; broken = c.args.broken }) in
+    run_ready net c.args.inputs.now l.x-index (term_at c.args.inputs.now l.x-index) l.terms l.registers.items c.deref.result.now l.flag start c.loop-x-test.true refl
+    (record { ready = l.invariant.ready; same = l.invariant.same }) c.deref.ensures.value
+
+pub next_terms-requires : goal.next_terms-requires
+next_terms-requires c =
+    next_below c.args.net.now (length c.deref-in-loop-x.result.now) c.requires.netlist (ap length c.deref-in-loop-x.ensures.value ∙ c.in_ok-sample.ensures.count)
+
+pub loop-x-preserved : goal.loop-x-preserved
+loop-x-preserved c =
+    let l = c.loop-x in
+    let net = c.args.net.now in
+    let start : RunTerms = run_from net c.args.inputs.now (record { terms = c.args.terms.now; registers = c.args.start.items; broken = c.args.broken }) in
+    let s : SampleTerms = record { terms = c.sample_terms.new.terms; ids = c.in_ok-sample.sample.ids.items; broken = c.in_ok-sample.sample.broken } in
+    let e = c.in_ok-sample.ensures in
+    let r = run_step net c.args.inputs.now l.x-index (term_at c.args.inputs.now l.x-index) l.terms l.registers.items c.deref.result.now l.flag start s c.deref-in-loop-x.result.now c.in_ok-registers.registers.items
+    c.requires.netlist c.loop-x-test.true refl (record { ready = l.invariant.ready; same = l.invariant.same }) c.deref.ensures.value e.built e.kept e.ready e.count c.deref-in-loop-x.ensures.value c.in_ok-registers.ensures in
+    record { ready = r.ready; kept = KeepsTerms-both c.args.terms.now l.terms c.sample_terms.new.terms l.invariant.kept e.kept; same = r.same }
+
+pub loop-x-init : goal.loop-x-init
+loop-x-init c = record { ready = search rules; kept = KeepsTerms-self c.args.terms.now; same = search rules }

@@ -1,0 +1,33 @@
+use Rattle.std.proofs.Common.{[], arith, rules, length, sym, subst, List}
+use Rattle.dsv_netlist.specs.Conditions.{NamesBelow}
+use Rattle.dsv_term.specs.declared.node.TermId.{TermId}
+use Rattle.dsv_term.proofs.Building.{KeepsTerms-self}
+use Rattle.dsv_unroll.specs.Goals.{SampleTerms, nodes_from}
+use Rattle.dsv_unroll.specs.Rules.{Unrolled}
+use Rattle.dsv_unroll.proofs.SampleSteps.{named, node_step}
+use Rattle.dsv_unroll.proofs.sample.sample_terms.Goals as goal
+
+pub node_term-requires-clause-backwards : goal.node_term-requires-clause-backwards
+node_term-requires-clause-backwards c =
+    let i = c.loop-i.invariant in
+    let n = named c.args.net.now c.args.registers.now c.loop-i.ids.items c.loop-i.i c.node-node.result c.requires.netlist i.count i.ready.count c.node-node.ensures in
+    subst (λ (ids : List TermId). NamesBelow (length ids) c.node-node.result) (sym c.deref.ensures.value) n.backwards
+
+pub node_term-requires-clause-reads : goal.node_term-requires-clause-reads
+node_term-requires-clause-reads c =
+    let i = c.loop-i.invariant in
+    (named c.args.net.now c.args.registers.now c.loop-i.ids.items c.loop-i.i c.node-node.result c.requires.netlist i.count i.ready.count c.node-node.ensures).reads
+
+pub loop-i-preserved : goal.loop-i-preserved
+loop-i-preserved c =
+    let l = c.loop-i in
+    let i = l.invariant in
+    let net = c.args.net.now in
+    let start : SampleTerms = nodes_from c.args.rule net c.args.registers.now c.args.x net.nodes (record { terms = c.args.terms.now; ids = []; broken = c.args.broken }) in
+    let u : Unrolled = record { terms = c.node_term.new.terms; id = c.in_ok-made.made.id; broken = c.in_ok-made.made.broken } in
+    let s = node_step c.args.rule net c.args.registers.now c.args.x c.args.terms.now l.i l.terms l.ids.items l.flag start c.node-node.result u c.deref.result.now c.push.new.self.items
+    c.requires.netlist (omega arith) c.node-node.ensures (record { count = i.count; ready = i.ready; kept = i.kept; same = i.same }) c.deref.ensures.value c.in_ok-made.ensures c.in_ok-push.ensures.items in
+    record { count = s.count; ready = s.ready; kept = s.kept; same = s.same }
+
+pub loop-i-init : goal.loop-i-init
+loop-i-init c = record { count = search rules; ready = search rules; kept = KeepsTerms-self c.args.terms.now; same = search rules }

@@ -1,0 +1,128 @@
+-- The terms of runs, sample after sample, and the goals over them.
+use Rattle.std.specs.Prelude.{ℕ, zero, suc, ◌*◌, ◌^◌}
+use Rattle.std.specs.Prelude.{if◌then◌else◌, List, [], ◌∷◌, ◌++◌, length, map, replicate}
+use Rattle.std.specs.Prelude.{ℤ, int_lt}
+use Rattle.dsv_word.specs.Words.{width, lo, hi}
+use Rattle.dsv_netlist.specs.declared.node.Node.{Node}
+use Rattle.dsv_netlist.specs.Nodes.{Net}
+use Rattle.dsv_netlist.specs.Counts.{counts_of}
+use Rattle.dsv_term.specs.declared.node.TermId.{TermId}
+use Rattle.dsv_term.specs.declared.node.TermNode.TheVariants.{Constant, Sle, And}
+use Rattle.dsv_term.specs.Building.{Built, built_of, with_node, with_new_input}
+use Rattle.dsv_term.specs.TermsView.{TermsView}
+use Rattle.dsv_term.specs.Word.{residue}
+use Rattle.dsv_unroll.specs.declared.rules.FitRule.{FitRule}
+use Rattle.dsv_unroll.specs.declared.rules.FitRule.TheVariants.{Tested}
+use Rattle.dsv_unroll.specs.Rules.{node_term, term_at}
+
+-- the greatest job that is unrolled
+abbrev pub most_size : ℕ
+most_size = 250000
+
+-- how great a job is that unrolls so many samples
+abbrev pub size_of : Net → ℕ → ℕ
+size_of net samples = samples * (counts_of net).products * width net.format ^ 2
+
+-- ---- samples
+-- a sample so far: terms, those of its nodes, and the one that is 1 where a value so far was no
+-- word
+pub record SampleTerms : Type 0 where
+  pub terms : TermsView
+  pub ids : List TermId
+  pub broken : TermId
+
+abbrev pub with_node_term : FitRule → Net → List TermId → TermId → SampleTerms → Node
+    → SampleTerms
+with_node_term rule net registers x s node =
+    let u = node_term rule net registers x s.terms s.ids s.broken node in
+    record { terms = u.terms; ids = s.ids ++ u.id ∷ []; broken = u.broken }
+
+abbrev pub nodes_from : FitRule → Net → List TermId → TermId → List Node → SampleTerms
+    → SampleTerms
+nodes_from rule net registers x [] s = s
+nodes_from rule net registers x (node ∷ nodes) s =
+    nodes_from rule net registers x nodes (with_node_term rule net registers x s node)
+
+-- the terms of one sample
+unfoldable pub sample_terms : FitRule → Net → List TermId → TermId → TermsView → TermId
+    → SampleTerms
+sample_terms rule net registers x t broken =
+    nodes_from rule net registers x net.nodes (record { terms = t; ids = []; broken = broken })
+
+-- a run so far: terms, those of the registers, and the one that is 1 where a value was no word
+pub record RunTerms : Type 0 where
+  pub terms : TermsView
+  pub registers : List TermId
+  pub broken : TermId
+
+-- one sample more; the registers are loaded from their nodes
+abbrev pub with_sample : Net → RunTerms → TermId → RunTerms
+with_sample net r x =
+    let s = sample_terms Tested net r.registers x r.terms r.broken in
+    record { terms = s.terms; registers = map (term_at s.ids) net.next; broken = s.broken }
+
+abbrev pub run_from : Net → List TermId → RunTerms → RunTerms
+run_from net [] r = r
+run_from net (x ∷ xs) r = run_from net xs (with_sample net r x)
+
+-- ---- inputs
+-- terms, and the tests so far, each of one bit
+pub record TestTerms : Type 0 where
+  pub terms : TermsView
+  pub tests : List TermId
+
+-- an end of the range is tested where it excludes a word
+abbrev pub with_low_test : TermsView → ℕ → ℤ → TermId → List TermId → TestTerms
+with_low_test t n low x tests =
+    if int_lt (lo n) low then (let least = with_node t (Constant n (residue n low)) in
+    let test = with_node least.terms (Sle least.id x) in
+    record { terms = test.terms; tests = tests ++ test.id ∷ [] })
+    else record { terms = t; tests = tests }
+
+abbrev pub with_high_test : TermsView → ℕ → ℤ → TermId → List TermId → TestTerms
+with_high_test t n high x tests =
+    if int_lt high (hi n) then (let greatest = with_node t (Constant n (residue n high)) in
+    let test = with_node greatest.terms (Sle x greatest.id) in
+    record { terms = test.terms; tests = tests ++ test.id ∷ [] })
+    else record { terms = t; tests = tests }
+
+-- inputs so far, and the tests that they are in range
+pub record InputTerms : Type 0 where
+  pub terms : TermsView
+  pub ids : List TermId
+  pub tests : List TermId
+
+abbrev pub with_input : ℕ → ℤ → ℤ → InputTerms → InputTerms
+with_input n low high s =
+    let x = with_new_input s.terms n in
+    let a = with_low_test x.terms n low x.id s.tests in
+    let b = with_high_test a.terms n high x.id a.tests in
+    record { terms = b.terms; ids = s.ids ++ x.id ∷ []; tests = b.tests }
+
+abbrev pub inputs_from : ℕ → ℤ → ℤ → ℕ → InputTerms → InputTerms
+inputs_from n low high zero s = s
+inputs_from n low high (suc k) s = inputs_from n low high k (with_input n low high s)
+
+-- ---- goals
+-- a bit and these
+abbrev pub conjunction_from : Built → List TermId → Built
+conjunction_from b [] = b
+conjunction_from b (test ∷ tests) = conjunction_from (with_node b.terms (And b.id test)) tests
+
+abbrev pub no_terms : TermsView
+no_terms = record { inputs = []; nodes = [] }
+
+-- The goal of an overflow: inputs of n bits, the run from registers of zeros, and the root, which
+-- is 1 where a value was no word and each test holds. The zero in one bit says at first that no
+-- value was outside, too.
+unfoldable pub overflow_of : Net → ℤ → ℤ → ℕ → Built
+overflow_of net low high samples =
+    let inputs = inputs_from (width net.format) low high samples
+    (record { terms = no_terms; ids = []; tests = [] }) in
+    let nought = with_node inputs.terms (Constant 1 0) in
+    let run = run_from net inputs.ids (record {
+      terms = nought.terms;
+      registers = replicate (length net.next) nought.id;
+      broken = nought.id;
+    }) in
+    conjunction_from (built_of run.terms run.broken) inputs.tests

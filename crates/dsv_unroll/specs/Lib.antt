@@ -1,0 +1,5 @@
+pub mod CycleGoals
+pub mod Goals
+pub mod Ready
+pub mod Rules
+pub mod Words

@@ -1,0 +1,72 @@
+-- Serves private contracts: terms that are ready for the rules.
+use Rattle.std.specs.Prelude.{◌≡◌, ℕ, ◌<◌, ◌≤◌, List, length}
+use Rattle.dsv_netlist.specs.Nodes.{Net}
+use Rattle.dsv_term.specs.declared.node.TermId.{TermId}
+use Rattle.dsv_term.specs.Growth.{AreSound}
+use Rattle.dsv_term.specs.Terms.{width_of}
+use Rattle.dsv_term.specs.TermsView.{TermsView}
+use Rattle.dsv_unroll.specs.Rules.{EndTerms, term_at}
+
+-- a term that stands and is not too wide for a node's value
+pub record IsValue (t : TermsView) (id : TermId) : Type 0 where
+  pub stands : id.0 < length t.nodes
+  pub narrow : width_of t id ≤ 79
+
+-- a term that stands and has so many bits
+pub record HasBits (t : TermsView) (id : TermId) (bits : ℕ) : Type 0 where
+  pub stands : id.0 < length t.nodes
+  pub width : width_of t id ≡ bits
+
+abbrev pub ends_of : TermsView → TermId → TermId → TermId → TermId → EndTerms
+ends_of t least greatest below above = record {
+  terms = t;
+  least = least;
+  greatest = greatest;
+  below = below;
+  above = above;
+}
+
+-- the terms of the registers, the input and the nodes so far, and the bit that says a break
+pub record AreReady (net : Net) (registers : List TermId) (x : TermId) (t : TermsView)
+    (ids : List TermId) (broken : TermId) : Type 0 where
+  pub sound : AreSound t
+  pub nodes : (i : ℕ) → i < length ids → IsValue t (term_at ids i)
+  pub count : length registers ≡ length net.next
+  pub registers_stand : (k : ℕ) → k < length registers → IsValue t (term_at registers k)
+  pub input : IsValue t x
+  pub flag_stands : broken.0 < length t.nodes
+  pub flag_bit : width_of t broken ≡ 1
+
+-- the terms of the registers and of the inputs to come, and the bit that says a break
+pub record AreRunReady (net : Net) (registers inputs : List TermId) (t : TermsView)
+    (broken : TermId) : Type 0 where
+  pub sound : AreSound t
+  pub count : length registers ≡ length net.next
+  pub registers_stand : (k : ℕ) → k < length registers → IsValue t (term_at registers k)
+  pub inputs_stand : (i : ℕ) → i < length inputs → IsValue t (term_at inputs i)
+  pub flag_stands : broken.0 < length t.nodes
+  pub flag_bit : width_of t broken ≡ 1
+
+-- inputs of n bits and the tests of them so far
+pub record AreInputsReady (n : ℕ) (t : TermsView) (ids tests : List TermId) : Type 0 where
+  pub sound : AreSound t
+  pub ids_stand : (i : ℕ) → i < length ids → HasBits t (term_at ids i) n
+  pub tests_stand : (i : ℕ) → i < length tests → HasBits t (term_at tests i) 1
+
+-- bits that are joined
+pub record AreBits (t : TermsView) (bits : List TermId) : Type 0 where
+  pub stand : (i : ℕ) → i < length bits → HasBits t (term_at bits i) 1
+
+-- terms that are not too wide for values
+pub record AreAllValues (t : TermsView) (ids : List TermId) : Type 0 where
+  pub stand : (i : ℕ) → i < length ids → IsValue t (term_at ids i)
+
+-- a run without input so far
+pub record AreCycleReady (net : Net) (t : TermsView) (nought : TermId) (registers : List TermId)
+    (sounding found : TermId) : Type 0 where
+  pub sound : AreSound t
+  pub registers_stand : AreAllValues t registers
+  pub count : length registers ≡ length net.next
+  pub nought_bit : HasBits t nought 1
+  pub sounding_bit : HasBits t sounding 1
+  pub found_bit : HasBits t found 1

@@ -1,0 +1,33 @@
+-- What the values of a goal's inputs mean, and what its root says.
+use Rattle.std.specs.Prelude.{◌≡◌, ℕ, ◌≤◌, true, false, List, ◌++◌, map, ℤ}
+use Rattle.dsv_word.specs.declared.format.Format.{Format}
+use Rattle.dsv_word.specs.Words.{width}
+use Rattle.dsv_system.specs.Systems.{zeros}
+use Rattle.dsv_system.specs.Cycles.{Cycles}
+use Rattle.dsv_netlist.specs.Nodes.{Net}
+use Rattle.dsv_netlist.specs.Systems.{system_of}
+use Rattle.dsv_term.specs.declared.word.Word.{Word}
+use Rattle.dsv_term.specs.Word.{signed_of, bit_of}
+
+-- the number of a format's word that this value spells in two's complement
+abbrev pub spelled_word : Format → ℕ → ℤ
+spelled_word format value = signed_of (record { width = width format; number = value })
+
+-- the words that the values spell
+abbrev pub spelled_words : Format → List ℕ → List ℤ
+spelled_words format values = map (spelled_word format) values
+
+-- the start words: 0 in the feed-forward registers, and the words that the values spell
+abbrev pub cycle_start : Net → List ℕ → List ℤ
+cycle_start net values = zeros net.feed_forward ++ spelled_words net.format values
+
+-- the start has a cycle of a period up to this one
+abbrev pub HasCycle : Net → List ℤ → ℕ → Type 0
+HasCycle net start periods = (p : ℕ) × (1 ≤ p) × (p ≤ periods)
+    × Cycles (List ℤ) (system_of net) start p
+
+-- The bit is 1 exactly where this holds, and else 0.
+pub record Tells (bit : Word) (holds : Type 0) : Type 0 where
+  pub one : holds → bit ≡ bit_of true
+  pub nought : (holds → ⊥) → bit ≡ bit_of false
+  pub only : bit ≡ bit_of true → holds

@@ -1,0 +1,128 @@
+// The inputs of a goal, and the tests that they are in range.
+ghost use Rattle.dsv_word.specs.Words.{width, lo, hi};
+ghost use Rattle.std.specs.Prelude.{◌≡◌, ◌<◌, ◌++◌, ◌∷◌, []};
+ghost use Rattle.std.specs.Prelude.{List, length, IfOk, ◌≤ℤ◌};
+ghost use Rattle.dsv_term.specs.Building.{built_of};
+ghost use Rattle.dsv_term.specs.Growth.{AreSound};
+ghost use Rattle.dsv_unroll.specs.Goals.{with_low_test, with_high_test, with_input, inputs_from};
+ghost use Rattle.dsv_unroll.specs.Goals.{conjunction_from};
+ghost use Rattle.dsv_unroll.specs.Ready.{HasBits, AreInputsReady, AreBits};
+
+use dsv_base::NoMemory;
+use dsv_term::{TermId, Terms, Word};
+use dsv_word::Format;
+use std::alloc::Global;
+
+/// Adds the test of the range's lower end, where that excludes a word.
+fn put_low_test(
+    terms: &mut Terms,
+    format: &Format,
+    low: i64,
+    x: TermId,
+    tests: &mut Vec<TermId>,
+) -> Result<(), NoMemory>
+    requires { HasBits terms.old x (width format.now) }
+    ensures built { IfOk result (λ u. record { terms = terms.new; tests = tests.new.items }
+        ≡ with_low_test terms.old (width format.now) low x tests.old.items) }
+    ensures x { IfOk result (λ u. HasBits terms.new x (width format.now)) }
+{
+    if format.lo() < low {
+        let bits = format.width();
+        let word = Word::of_signed(bits, low.into());
+        let least = terms.constant(bits, word.number)?;
+        let test = terms.sle(least, x)?;
+        tests.push(test)?;
+    }
+    Ok(())
+}
+
+/// Adds the test of the range's upper end, where that excludes a word.
+fn put_high_test(
+    terms: &mut Terms,
+    format: &Format,
+    high: i64,
+    x: TermId,
+    tests: &mut Vec<TermId>,
+) -> Result<(), NoMemory>
+    requires { HasBits terms.old x (width format.now) }
+    ensures built { IfOk result (λ u. record { terms = terms.new; tests = tests.new.items }
+        ≡ with_high_test terms.old (width format.now) high x tests.old.items) }
+{
+    if high < format.hi() {
+        let bits = format.width();
+        let word = Word::of_signed(bits, high.into());
+        let greatest = terms.constant(bits, word.number)?;
+        let test = terms.sle(x, greatest)?;
+        tests.push(test)?;
+    }
+    Ok(())
+}
+
+/// Adds an input and the tests that it is in range.
+fn put_input(
+    terms: &mut Terms,
+    format: &Format,
+    low: &i64,
+    high: &i64,
+    ids: &mut Vec<TermId>,
+    tests: &mut Vec<TermId>,
+) -> Result<(), NoMemory>
+    ensures { IfOk result (λ u.
+        record { terms = terms.new; ids = ids.new.items; tests = tests.new.items }
+        ≡ with_input (width format.now) low.now high.now
+        (record { terms = terms.old; ids = ids.old.items; tests = tests.old.items })) }
+{
+    let x = terms.input(format.width())?;
+    put_low_test(terms, format, *low, x, tests)?;
+    put_high_test(terms, format, *high, x, tests)?;
+    ids.push(x)?;
+    Ok(())
+}
+
+/// The inputs, and the tests that they are in range.
+#[derive(Drop)]
+pub(crate) struct InputTerms {
+    pub ids: Vec<TermId>,
+    pub tests: Vec<TermId>,
+}
+
+/// So many inputs, and the tests that they are in range.
+pub(crate) fn input_terms(
+    alloc: Global,
+    terms: &mut Terms,
+    format: &Format,
+    low: &i64,
+    high: &i64,
+    samples: u32,
+) -> Result<InputTerms, NoMemory>
+    ensures built { IfOk result (λ made.
+        record { terms = terms.new; ids = made.ids.items; tests = made.tests.items }
+        ≡ inputs_from (width format.now) low.now high.now samples
+        (record { terms = terms.old; ids = []; tests = [] })) }
+{
+    let mut ids = Vec::new(alloc);
+    let mut tests = Vec::new(alloc);
+    for i in 0..samples {
+        put_input(terms, format, low, high, &mut ids, &mut tests)?;
+    }
+    Ok(InputTerms { ids, tests })
+}
+
+/// A bit and these.
+pub(crate) fn conjunction(
+    terms: &mut Terms,
+    first: TermId,
+    tests: &[TermId],
+) -> Result<TermId, NoMemory>
+    requires first { HasBits terms.old first 1 }
+    requires tests { AreBits terms.old tests.now }
+    ensures built { IfOk result (λ all.
+        built_of terms.new all ≡ conjunction_from (built_of terms.old first) tests.now) }
+    ensures bit { IfOk result (λ all. HasBits terms.new all 1) }
+{
+    let mut all = first;
+    for test in tests {
+        all = terms.and(all, *test)?;
+    }
+    Ok(all)
+}

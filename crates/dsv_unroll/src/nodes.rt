@@ -1,0 +1,120 @@
+// The term of each node of a sample.
+ghost use Rattle.dsv_word.specs.Words.{width};
+ghost use Rattle.std.specs.Prelude.{◌≡◌, ◌<◌, ◌≤◌, ◌^◌, length, IfOk, Some, slice_get};
+ghost use Rattle.dsv_netlist.specs.Conditions.{IsNetlist, NamesBelow, ReadsBelow};
+ghost use Rattle.dsv_unroll.specs.Rules.{addend_of, is_whole, addend_at, bound_at, node_term};
+ghost use Rattle.dsv_unroll.specs.Ready.{AreReady};
+
+use crate::fitting::{NodeTerm, fitted_term};
+use crate::rules::{FitRule, difference_term, product_term, rounded_term, sum_term};
+use dsv_base::NoMemory;
+use dsv_names::Rounding;
+use dsv_netlist::{Netlist, Node};
+use dsv_term::{TermId, Terms};
+use dsv_word::Format;
+
+/// What is added before the bits below the point are cut off.
+fn addend_of(format: &Format) -> u128
+    ensures value { result ≡ addend_of format.now.rounding format.now.frac_bits }
+    ensures small { result < 2 ^ 78 }
+{
+    let one: u128 = 1;
+    match format.rounding {
+        Rounding::Floor => 0,
+        Rounding::Ceil => (one << format.frac_bits) - 1,
+        Rounding::Nearest => one << format.frac_bits.saturating_sub(1),
+    }
+}
+
+/// Whether the node is a product by a multiple of 2 to the number of bits after the point.
+fn is_whole(node: &Node, frac_bits: u32) -> bool
+    requires { frac_bits ≤ 32 }
+    ensures { result ≡ is_whole frac_bits node.now }
+{
+    match node {
+        Node::MulConst { coeff, .. } => {
+            let one: u64 = 1;
+            coeff.unsigned_abs() % (one << frac_bits) == 0
+        }
+        _ => false,
+    }
+}
+
+/// What is added to the node of this number before it is cut.
+fn addend_at(net: &Netlist, of: u32) -> u128
+    requires { of < length net.now.nodes }
+    ensures value { result ≡ addend_at net.now of }
+    ensures small { result < 2 ^ 78 }
+{
+    let format = net.format();
+    let node = net.node(of);
+    if is_whole(&node, format.frac_bits) {
+        return 0;
+    }
+    addend_of(&format)
+}
+
+/// The bound of the node of this number.
+fn bound_at(net: &Netlist, i: u32) -> u128
+    requires { i < length net.now.nodes }
+    ensures value { result ≡ bound_at net.now i }
+    ensures small { result < 2 ^ 78 }
+{
+    net.bound(i) as u128
+}
+
+/// The term of the node of this number, where these are the terms of the registers, of the input
+/// and of the nodes before it, and of one bit that is 1 where a value so far was no word.
+pub(crate) fn node_term(
+    terms: &mut Terms,
+    net: &Netlist,
+    rule: FitRule,
+    i: u32,
+    registers: &[TermId],
+    x: TermId,
+    ids: &[TermId],
+    broken: TermId,
+    node: Node,
+) -> Result<NodeTerm, NoMemory>
+    requires ready { AreReady net.now registers.now x terms.old ids.now broken }
+    requires place { i ≡ length ids.now }
+    requires below { i < length net.now.nodes }
+    requires backwards { NamesBelow (length ids.now) node }
+    requires reads { ReadsBelow (length registers.now) node }
+    ensures { IfOk result (λ made.
+        record { terms = terms.new; id = made.id; broken = made.broken }
+        ≡ node_term rule net.now registers.now x terms.old ids.now broken node) }
+{
+    let id = match node {
+        Node::Input => x,
+        Node::Reg(register) => registers[register as usize],
+        Node::MulConst { coeff, of } => {
+            let bound = bound_at(net, i);
+            product_term(terms, bound, coeff, ids[of as usize])?
+        }
+        Node::Round(of) => {
+            let bound = bound_at(net, of);
+            let frac_bits = net.format().frac_bits;
+            rounded_term(
+                terms,
+                bound,
+                addend_at(net, of),
+                frac_bits,
+                ids[of as usize],
+            )?
+        }
+        Node::Add(left, right) => {
+            let bound = bound_at(net, i);
+            sum_term(terms, bound, ids[left as usize], ids[right as usize])?
+        }
+        Node::Sub(left, right) => {
+            let bound = bound_at(net, i);
+            difference_term(terms, bound, ids[left as usize], ids[right as usize])?
+        }
+        Node::Fit(of) => {
+            let format = net.format();
+            return fitted_term(terms, rule, &format, ids[of as usize], broken);
+        }
+    };
+    Ok(NodeTerm { id, broken })
+}

@@ -1,0 +1,183 @@
+// How each kind of node becomes a term.
+ghost use Rattle.std.specs.Prelude.{◌≡◌, ◌<◌, ◌≤◌, ◌-◌, ◌^◌, length, IfOk};
+ghost use Rattle.dsv_term.specs.declared.node.TheConstants.{MAX_WIDTH};
+ghost use Rattle.dsv_term.specs.Building.{built_of};
+ghost use Rattle.dsv_term.specs.Growth.{AreSound, Adds};
+ghost use Rattle.dsv_term.specs.Terms.{width_of};
+ghost use Rattle.dsv_term.specs.Word.{IsWidth};
+ghost use Rattle.dsv_unroll.specs.Rules.{width_for, widened_term, product_term, sum_width};
+ghost use Rattle.dsv_unroll.specs.Rules.{sum_term, difference_term, with_addend, shifted_term};
+ghost use Rattle.dsv_unroll.specs.Rules.{rounded_term};
+ghost use Rattle.dsv_unroll.specs.Ready.{IsValue};
+
+use dsv_base::NoMemory;
+use dsv_term::{TermId, Terms};
+
+/// How a goal takes the node that fits a value into a word.
+#[derive(Clone, Copy, Debug, PartialEq, Eq)]
+pub enum FitRule {
+    /// A value that is no word is a break, and what comes after it doesn't matter.
+    Tested,
+    /// As the format's overflow has it.
+    Faithful,
+}
+
+/// The least width in which all numbers of at most this size are spelled.
+pub(crate) fn width_for(bound: u128) -> u32
+    ensures { result ≡ width_for bound }
+{
+    129 - bound.leading_zeros()
+}
+
+/// The same number in so many bits.
+pub(crate) fn widened_term(terms: &mut Terms, id: TermId, bits: u32) -> Result<TermId, NoMemory>
+    requires sound { AreSound terms.old }
+    requires stands { id.0 < length terms.old.nodes }
+    requires wider { width_of terms.old id ≤ bits }
+    requires narrow { bits ≤ MAX_WIDTH }
+    ensures built { IfOk result
+        (λ made. built_of terms.new made ≡ widened_term terms.old id bits) }
+    ensures adds { IfOk result (λ made. Adds terms.old terms.new made bits) }
+{
+    if terms.width(id) == bits {
+        return Ok(id);
+    }
+    let made = terms.sext(id, bits)?;
+    Ok(made)
+}
+
+/// A product by a constant, where this is its bound.
+pub(crate) fn product_term(
+    terms: &mut Terms,
+    bound: u128,
+    coeff: i64,
+    of: TermId,
+) -> Result<TermId, NoMemory>
+    requires sound { AreSound terms.old }
+    requires value { IsValue terms.old of }
+    requires small { bound < 2 ^ 78 }
+    ensures { IfOk result (λ made. built_of terms.new made
+        ≡ product_term terms.old bound coeff of) }
+{
+    let bits = terms.width(of).max(width_for(bound));
+    let wide = widened_term(terms, of, bits)?;
+    terms.mul_const(wide, coeff)
+}
+
+/// The width of a sum or a difference, where this is its bound.
+fn sum_width(terms: &Terms, bound: u128, left: TermId, right: TermId) -> u32
+    requires left { left.0 < length terms.now.nodes }
+    requires right { right.0 < length terms.now.nodes }
+    ensures { result ≡ sum_width terms.now bound left right }
+{
+    terms
+        .width(left)
+        .max(terms.width(right))
+        .max(width_for(bound))
+}
+
+/// A sum, where this is its bound.
+pub(crate) fn sum_term(
+    terms: &mut Terms,
+    bound: u128,
+    left: TermId,
+    right: TermId,
+) -> Result<TermId, NoMemory>
+    requires sound { AreSound terms.old }
+    requires left { IsValue terms.old left }
+    requires right { IsValue terms.old right }
+    requires small { bound < 2 ^ 78 }
+    ensures { IfOk result (λ made. built_of terms.new made
+        ≡ sum_term terms.old bound left right) }
+{
+    let bits = sum_width(terms, bound, left, right);
+    let first = widened_term(terms, left, bits)?;
+    let second = widened_term(terms, right, bits)?;
+    terms.add(first, second)
+}
+
+/// A difference, where this is its bound.
+pub(crate) fn difference_term(
+    terms: &mut Terms,
+    bound: u128,
+    left: TermId,
+    right: TermId,
+) -> Result<TermId, NoMemory>
+    requires sound { AreSound terms.old }
+    requires left { IsValue terms.old left }
+    requires right { IsValue terms.old right }
+    requires small { bound < 2 ^ 78 }
+    ensures { IfOk result (λ made. built_of terms.new made
+        ≡ difference_term terms.old bound left right) }
+{
+    let bits = sum_width(terms, bound, left, right);
+    let first = widened_term(terms, left, bits)?;
+    let second = widened_term(terms, right, bits)?;
+    terms.sub(first, second)
+}
+
+/// A term with a number added in the same bits.
+fn with_addend(terms: &mut Terms, bits: u32, addend: u128, id: TermId) -> Result<TermId, NoMemory>
+    requires sound { AreSound terms.old }
+    requires stands { id.0 < length terms.old.nodes }
+    requires same { width_of terms.old id ≡ bits }
+    requires width { IsWidth bits }
+    requires small { addend < 2 ^ bits }
+    ensures built { IfOk result (λ made. built_of terms.new made
+        ≡ with_addend terms.old bits addend id) }
+    ensures adds { IfOk result (λ made. Adds terms.old terms.new made bits) }
+{
+    if addend == 0 {
+        return Ok(id);
+    }
+    let constant = terms.constant(bits, addend)?;
+    let made = terms.add(id, constant)?;
+    Ok(made)
+}
+
+/// The bits from the point up, with the addend, where this is the bound of what is rounded.
+fn shifted_term(
+    terms: &mut Terms,
+    bound: u128,
+    addend: u128,
+    frac_bits: u32,
+    of: TermId,
+) -> Result<TermId, NoMemory>
+    requires sound { AreSound terms.old }
+    requires value { IsValue terms.old of }
+    requires small { bound < 2 ^ 78 }
+    requires addend { addend < 2 ^ 78 }
+    requires point { frac_bits ≤ 32 }
+    ensures { IfOk result (λ made. built_of terms.new made
+        ≡ shifted_term terms.old bound addend frac_bits of) }
+{
+    let bits = terms
+        .width(of)
+        .max(width_for(bound + addend))
+        .max(frac_bits + 1);
+    let wide = widened_term(terms, of, bits)?;
+    let sum = with_addend(terms, bits, addend, wide)?;
+    terms.extract(sum, bits - 1, frac_bits)
+}
+
+/// A number divided by 2 to the number of bits after the point, made whole.
+pub(crate) fn rounded_term(
+    terms: &mut Terms,
+    bound: u128,
+    addend: u128,
+    frac_bits: u32,
+    of: TermId,
+) -> Result<TermId, NoMemory>
+    requires sound { AreSound terms.old }
+    requires value { IsValue terms.old of }
+    requires small { bound < 2 ^ 78 }
+    requires addend { addend < 2 ^ 78 }
+    requires point { frac_bits ≤ 32 }
+    ensures { IfOk result (λ made. built_of terms.new made
+        ≡ rounded_term terms.old bound addend frac_bits of) }
+{
+    if frac_bits == 0 {
+        return Ok(of);
+    }
+    shifted_term(terms, bound, addend, frac_bits, of)
+}
