@@ -1,3 +1,4 @@
+pub mod ClauseLemmas
 pub mod LiteralLemmas
 pub mod PieceLemmas
 pub mod ReadingLemmas

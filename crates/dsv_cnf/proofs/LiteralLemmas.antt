@@ -2,7 +2,7 @@
 use Rattle.std.proofs.Common.{◌≡◌, ℕ, ◌+◌, ◌*◌, ◌<◌, Bool, true, false, not, ◌||◌, ◌&&◌, ◌==◌, ◌⊎◌, cond, refl, arith, ap, sym, ◌∙◌, inl, inr}
 use Rattle.std.proofs.lemmas.Bool.{eqb-true, eq-eqb}
 use Rattle.dsv_cnf.specs.Literal.{Literal, literal_eq, literal_value, bool_eq, code_of, negation}
-use Rattle.dsv_cnf.specs.LiteralCode.{literal_of, literal-code_of}
+use Rattle.dsv_cnf.specs.LiteralCode.{literal_of, code-literal_of, literal-code_of}
 
 pub and_left : (a b : Bool) → (a && b) ≡ true → a ≡ true
 and_left true b h = refl
@@ -16,7 +16,7 @@ pub or_cases : (a b : Bool) → (a || b) ≡ true → (a ≡ true) ⊎ (b ≡ tr
 or_cases true b h = inl refl
 or_cases false b h = inr h
 
-same_bool : (a b : Bool) → (a ≡ true → b ≡ true) → (b ≡ true → a ≡ true) → a ≡ b
+pub same_bool : (a b : Bool) → (a ≡ true → b ≡ true) → (b ≡ true → a ≡ true) → a ≡ b
 same_bool true b f g = sym (f refl)
 same_bool false true f g = g refl
 same_bool false false f g = refl
@@ -64,3 +64,10 @@ not_value v x false h = not_true (v x) h
 -- a true literal's negation is false
 pub value-negation : (v : ℕ → Bool) (l : Literal) → literal_value v l ≡ true → literal_value v (negation l) ≡ false
 value-negation v l h = not_value v l.var l.positive h
+
+pub negation-twice : (l : Literal) → negation (negation l) ≡ l
+negation-twice l = elim l.positive as (λ b. negation (negation (record { var = l.var; positive = b })) ≡ record { var = l.var; positive = b }) [ true ↦ refl | false ↦ refl ]
+
+-- a literal is the one of a number where it has that number
+pub eq-literal_of : (l : Literal) (k : ℕ) → literal_eq l (literal_of k) ≡ (code_of l == k)
+eq-literal_of l k = literal_eq-code l (literal_of k) ∙ ap (λ n. code_of l == n) (code-literal_of k)

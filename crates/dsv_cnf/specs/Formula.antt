@@ -1,8 +1,14 @@
 -- Clauses, assignments and formulas.
 use Rattle.std.specs.Prelude.{◌≡◌, ℕ, ◌<◌, Bool, true, false}
-use Rattle.std.specs.Prelude.{◌||◌, List, [], ◌∷◌, slice_index_or}
+use Rattle.std.specs.Prelude.{◌||◌, List, [], ◌∷◌, length, slice_index_or}
 use Rattle.std.specs.List.{All}
-use Rattle.dsv_cnf.specs.Literal.{Literal, literal_value}
+use Rattle.dsv_cnf.specs.FormulaView.{FormulaView}
+use Rattle.dsv_cnf.specs.Literal.{Literal, literal_eq, literal_value}
+
+-- the literal stands in the clause
+abbrev pub contains : List Literal → Literal → Bool
+contains [] l = false
+contains (m ∷ ms) l = literal_eq m l || contains ms l
 
 -- some literal of the clause is true
 abbrev pub clause_value : (ℕ → Bool) → List Literal → Bool
@@ -33,3 +39,8 @@ AreOver vars (c ∷ cs) = IsOver vars c × AreOver vars cs
 -- the values of a list, and false past its end
 abbrev pub assignment_of : List Bool → ℕ → Bool
 assignment_of values var = slice_index_or values var false
+
+-- these values, one a variable, satisfy each clause of the formula
+pub record IsModel (f : FormulaView) (values : List Bool) : Type 0 where
+  pub count : length values ≡ f.vars
+  pub satisfies : Satisfies (assignment_of values) f.clauses

@@ -1,3 +1,5 @@
+pub mod LessonLemmas
+pub mod MoveLemmas
 pub mod Moves
 pub mod SetLemmas
 pub mod SlotLemmas

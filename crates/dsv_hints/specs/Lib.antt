@@ -2,7 +2,9 @@ pub mod CheckerInside
 pub mod CheckerView
 pub mod Derivation
 pub mod Follows
+pub mod Lessons
 pub mod LiteralSet
+pub mod Local
 pub mod MoveOver
 pub mod SetInside
 pub mod Slots

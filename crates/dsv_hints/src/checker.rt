@@ -64,6 +64,13 @@ impl Checker {
         self.store.reserve(steps as usize, lits as usize)
     }
 
+    /// Whether the empty clause was added.
+    pub fn is_ended(&self) -> bool
+        ensures { result ≡ self.now.carried.ended }
+    {
+        self.ended
+    }
+
     /// Takes a step, or says why not and is unchanged. It takes no memory.
     pub fn take(&mut self, step: &Step) -> Result<(), StepRefusal>
         requires steps { 1 ≤ self.old.spare_steps }

@@ -13,7 +13,7 @@ use dsv_cnf::Lit;
 
 /// What a hinted clause does, where some literals are false.
 #[derive(Clone, Copy)]
-enum Move {
+pub enum Move {
     /// All its literals are false.
     Ends,
     /// All but this open one are false, so it is true.

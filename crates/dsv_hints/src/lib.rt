@@ -9,4 +9,5 @@ mod step;
 mod store;
 
 pub use checker::{Checker, check};
+pub use hints::Move;
 pub use step::{HintList, LitList, Log, Step, StepRefusal, Verdict};

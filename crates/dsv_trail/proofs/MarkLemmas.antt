@@ -101,7 +101,7 @@ over-pushed vars old new m e lt h i x g = elim (push-cases old m i x (rw e at g)
 
 -- ---- the last mark is taken away
 
-option-cases : {X : Type 0} (o : Option X) → (o ≡ None) ⊎ ((x : X) × (o ≡ Some x))
+pub option-cases : {X : Type 0} (o : Option X) → (o ≡ None) ⊎ ((x : X) × (o ≡ Some x))
 option-cases None = inl refl
 option-cases (Some x) = inr (x, refl)
 
@@ -186,11 +186,11 @@ marks-inside l h =
       distinct = λ i j m n f g e. sym (h.placed i m f) ∙ (ap (λ v. slice_index_or l.places.items v 0) e ∙ h.placed j n g);
     }
 
-some-of : {X : Type 0} (o : Option X) → IsSome o → (x : X) × (o ≡ Some x)
+pub some-of : {X : Type 0} (o : Option X) → IsSome o → (x : X) × (o ≡ Some x)
 some-of None h = absurd cc
 some-of (Some x) h = (x, refl)
 
-any-default : (xs : List ℕ) (i c d : ℕ) → i < length xs → get_or xs i c ≡ get_or xs i d
+pub any-default : (xs : List ℕ) (i c d : ℕ) → i < length xs → get_or xs i c ≡ get_or xs i d
 any-default xs i c d lt = some-inside (get_or xs i c) (get_or xs i d) (sym (slice_get-get_or xs i c lt) ∙ slice_get-get_or xs i d lt)
 
 -- the mark of a variable stands at its place
@@ -246,7 +246,7 @@ negation-stands ms l None e h = absurd cc
 negation-stands ms l (Some m) e h = let f = found ms l.var m e in literal-place ms l.var m (negation l) f (same_literal m l.var (not l.positive) f.is (other_sign m.literal.positive l.positive h))
 
 -- the mark at a place is its variable's
-mark_of-at : (n : ℕ) (ms : List Mark) (i : ℕ) (m : Mark) → AreMarks n ms → slice_get ms i ≡ Some m → mark_of ms m.literal.var ≡ Some m
+pub mark_of-at : (n : ℕ) (ms : List Mark) (i : ℕ) (m : Mark) → AreMarks n ms → slice_get ms i ≡ Some m → mark_of ms m.literal.var ≡ Some m
 mark_of-at n ms i m a at =
     elim (option-cases (mark_of ms m.literal.var)) [
       | inl o ↦ absurd (not-open ms i m.literal.var m at refl o)

@@ -9,4 +9,5 @@ mod tests;
 mod trail;
 
 pub use law::{more_clauses_keep_reasons, values_are_of_the_trail};
+pub use marks::Mark;
 pub use trail::Trail;

@@ -1,8 +1,9 @@
 // The literals of a trail, and where each variable stands among them.
 ghost use Rattle.std.specs.Prelude.{◌≡◌, ℕ, ◌-◌, ◌<◌, ◌≤◌, [], ◌∷◌, ◌++◌};
-ghost use Rattle.std.specs.Prelude.{None, Some, length, slice_get, take, IfOk};
+ghost use Rattle.std.specs.Prelude.{None, Some, length, slice_get, take, true, IfOk};
 ghost use Rattle.dsv_trail.specs.declared.marks.Mark.{Mark};
 ghost use Rattle.dsv_trail.specs.Marks.{mark_of, sign_of, AreMarks, IsOpen, IsSet};
+ghost use Rattle.dsv_trail.specs.Places.{falsifies, place_of};
 
 use dsv_base::NoMemory;
 use dsv_cnf::Lit;
@@ -75,13 +76,22 @@ impl MarkList {
         self.marks.len() as u32
     }
 
-    /// The literal at this place, from 0 on.
-    pub fn literal(&self, i: u32) -> Lit
+    /// The mark at this place, from 0 on.
+    pub fn at(&self, i: u32) -> Mark
         requires { i < length self.now.marks }
-        ensures at { (m : Mark) → slice_get self.now.marks i ≡ Some m → result ≡ m.literal }
-        ensures over { result.var < self.now.vars }
+        ensures at { slice_get self.now.marks i ≡ Some result }
+        ensures over { result.literal.var < self.now.vars }
     {
-        self.marks[i as usize].literal
+        self.marks[i as usize]
+    }
+
+    /// Where the negation of a false literal is.
+    pub fn place_of(&self, literal: Lit) -> u32
+        requires over { literal.var < self.now.vars }
+        requires is_false { falsifies self.now.marks literal ≡ true }
+        ensures { result ≡ place_of self.now.marks literal }
+    {
+        self.places[literal.var() as usize]
     }
 
     /// Whether the variable's literal is the variable itself.

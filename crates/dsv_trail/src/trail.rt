@@ -1,12 +1,13 @@
 // The trail: marks and the levels that decisions begin.
 ghost use Rattle.std.specs.Prelude.{◌≡◌, ℕ, ◌<◌, ◌≤◌, [], length};
-ghost use Rattle.std.specs.Prelude.{List, None, Some, IfOk, IsSome};
+ghost use Rattle.std.specs.Prelude.{List, None, Some, slice_get, true, IfOk, IsSome};
 ghost use Rattle.dsv_cnf.specs.Literal.{Literal};
 ghost use Rattle.dsv_trail.specs.Marks.{level_of, literal_at, reason_of, value_of, IsOpen, IsSet};
+ghost use Rattle.dsv_trail.specs.Places.{falsifies, place_of};
 ghost use Rattle.dsv_trail.specs.Levels.{after_back, after_decide, after_imply, IsTrail};
 ghost use Rattle.dsv_trail.specs.Justification.{IsJustified, IsReason};
 
-use crate::marks::MarkList;
+use crate::marks::{Mark, MarkList};
 use dsv_base::NoMemory;
 use dsv_cnf::{Formula, Lit};
 use std::alloc::Global;
@@ -75,7 +76,35 @@ impl Trail {
         ensures at { literal_at self.now.marks i ≡ Some result }
         ensures over { result.var < self.now.vars }
     {
-        self.marks.literal(i)
+        self.marks.at(i).literal
+    }
+
+    /// The literal at this place with its level and its reason. Places are counted from 0 and are
+    /// below `len`.
+    pub fn mark(&self, i: u32) -> Mark
+        requires { i < length self.now.marks }
+        ensures at { slice_get self.now.marks i ≡ Some result }
+        ensures over { result.literal.var < self.now.vars }
+    {
+        self.marks.at(i)
+    }
+
+    /// How many literals there were before the decision that began the level `level + 1`, which is
+    /// at most the present one.
+    pub fn limit(&self, level: u32) -> u32
+        requires { level < length self.now.limits }
+        ensures { slice_get self.now.limits level ≡ Some result }
+    {
+        self.limits[level as usize]
+    }
+
+    /// The place at which a false literal became false.
+    pub fn place_of(&self, lit: Lit) -> u32
+        requires over { lit.var < self.now.vars }
+        requires is_false { falsifies self.now.marks lit ≡ true }
+        ensures { result ≡ place_of self.now.marks lit }
+    {
+        self.marks.place_of(lit)
     }
 
     /// Whether the literal is true, or none while its variable is open.
@@ -88,6 +117,18 @@ impl Trail {
         match self.marks.sign(lit.var()) {
             None => None,
             Some(sign) => Some(sign == lit.positive()),
+        }
+    }
+
+    /// Whether the literal is false.
+    pub fn is_false(&self, lit: Lit) -> bool
+        requires { lit.var < self.now.vars }
+        ensures { result ≡ falsifies self.now.marks lit }
+    {
+        let _count = self.len();
+        match self.value(lit) {
+            None => false,
+            Some(value) => !value,
         }
     }
 

@@ -1,0 +1,10 @@
+use Rattle.std.proofs.Common.{◌≡◌, ◌++◌, drop}
+use Rattle.dsv_solver.specs.Analysis.{AllFalse, low_literals}
+use Rattle.dsv_solver.proofs.analyse.push_lows.Given as goal
+
+abbrev pub invariant-loop-literal : goal.invariant-loop-literal
+invariant-loop-literal l =
+    record {
+      are_false : AllFalse l.trail (drop l.literal-index l.met);
+      rest : l.clause ++ low_literals l.trail l.zero_end l.high (drop l.literal-index l.met) ≡ l.fn.clause ++ low_literals l.trail l.zero_end l.high l.met;
+    }

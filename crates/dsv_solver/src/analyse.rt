@@ -1,0 +1,427 @@
+// What a false clause teaches: the first unique implication point's clause with its hints, and the
+// refutation at level 0.
+ghost use Rattle.std.specs.Prelude.{◌≡◌, ◌≢◌, List, ◌<◌, ◌≤◌, ◌+◌};
+ghost use Rattle.std.specs.Prelude.{◌⊎◌, ◌∷◌, ◌++◌, [], ℕ, true};
+ghost use Rattle.std.specs.Prelude.{false, OnOk, OnErr, IfOk, IsSome, MatchOption, take, length};
+ghost use Rattle.std.specs.Prelude.{slice_get, Some, Ok};
+ghost use Rattle.dsv_cnf.specs.Literal.{Literal, negation};
+ghost use Rattle.dsv_cnf.specs.Formula.{IsOver};
+ghost use Rattle.dsv_cnf.specs.Formula.{contains};
+ghost use Rattle.dsv_trail.specs.Places.{falsifies, place_of};
+ghost use Rattle.dsv_solver.specs.Analysis.{IsMarked, IsLowest, AllFalse, low_literals};
+ghost use Rattle.dsv_solver.specs.Propagation.{IsJustified};
+ghost use Rattle.dsv_solver.specs.Walking.{IsWalking, IsEnding, IsLearnable, Fines, live_of};
+ghost use Rattle.dsv_solver.specs.Search.{IsRefuting};
+ghost use Rattle.dsv_hints.specs.LiteralSet.{none};
+ghost use Rattle.dsv_hints.specs.Derivation.{hints_answer};
+ghost use Rattle.dsv_trail.specs.declared.marks.Mark.{Mark};
+
+use crate::seen::Seen;
+use dsv_base::NoMemory;
+use dsv_cnf::{Formula, Lit};
+use dsv_hints::HintList;
+use dsv_trail::Trail;
+use std::alloc::Global;
+use std::marker::Model;
+
+/// The lesser place, where the first is of the present level.
+fn lesser(high: u32, place: u32, least: u32) -> u32
+    ensures most { result ≤ least }
+    ensures counts { high ≤ place → result ≤ place }
+    ensures one { (result ≡ least) ⊎ ((result ≡ place) × (high ≤ place)) }
+{
+    if high <= place && place < least {
+        place
+    } else {
+        least
+    }
+}
+
+/// Puts one literal into the set, unless it is skipped.
+fn mark(
+    trail: &Trail,
+    set: &mut Seen,
+    literal: Lit,
+    skipped: Lit,
+    high: u32,
+    least: u32,
+) -> Result<u32, NoMemory>
+    requires vars { set.old.vars ≡ trail.now.vars }
+    requires over { literal.var < trail.now.vars }
+    requires is_false { literal ≢ skipped → falsifies trail.now.marks literal ≡ true }
+    requires lowest { IsLowest trail.now high set.old.literals least }
+    ensures vars { set.new.vars ≡ set.old.vars }
+    ensures marked { OnOk result (IsMarked set.old.literals set.new.literals
+        (literal ∷ []) skipped) }
+    ensures lowest { IfOk result (λ r. IsLowest trail.now high set.new.literals r) }
+{
+    if literal.is(&skipped) {
+        return Ok(least);
+    }
+    if set.contains(literal) {
+        return Ok(least);
+    }
+    let place = trail.place_of(literal);
+    set.insert(literal)?;
+    Ok(lesser(high, place, least))
+}
+
+/// Puts the literals of a clause but one into the set, and answers the least place of the present
+/// level that was met.
+fn mark_others(
+    trail: &Trail,
+    set: &mut Seen,
+    clause: &[Lit],
+    skipped: Lit,
+    high: u32,
+    lowest: u32,
+) -> Result<u32, NoMemory>
+    requires vars { set.old.vars ≡ trail.now.vars }
+    requires over { IsOver trail.now.vars clause.now }
+    requires are_false { (q : Literal) → contains clause.now q ≡ true → q ≢ skipped
+        → falsifies trail.now.marks q ≡ true }
+    requires lowest { IsLowest trail.now high set.old.literals lowest }
+    ensures vars { set.new.vars ≡ set.old.vars }
+    ensures marked { OnOk result (IsMarked set.old.literals set.new.literals clause.now skipped) }
+    ensures lowest { IfOk result (λ r. IsLowest trail.now high set.new.literals r) }
+{
+    let mut least = lowest;
+    for literal in clause {
+        least = mark(trail, set, *literal, skipped, high, least)?;
+    }
+    Ok(least)
+}
+
+/// The numbers of clauses that a step hints, the last on the trail first.
+#[derive(Drop)]
+pub struct HintStack {
+    numbers: Vec<u64>,
+}
+
+impl Model for HintStack {
+    ghost use Rattle.std.specs.Prelude.{List, ℕ, reverse};
+
+    ghost Value = { List ℕ };
+
+    ghost view = { λ h. reverse h.numbers.items };
+}
+
+impl HintStack {
+    fn new(alloc: Global) -> HintStack
+        ensures { result ≡ [] }
+    {
+        HintStack {
+            numbers: Vec::new(alloc),
+        }
+    }
+
+    fn push(&mut self, number: u64) -> Result<(), NoMemory>
+        ensures ok { OnOk result (self.new ≡ number ∷ self.old) }
+        ensures err { OnErr result (self.new ≡ self.old) }
+    {
+        self.numbers.push(number)?;
+        Ok(())
+    }
+
+    /// The hints in their order.
+    pub fn finish(self) -> HintList
+        ensures { result ≡ self }
+    {
+        let mut numbers = self.numbers;
+        numbers.reverse();
+        HintList::from(numbers)
+    }
+}
+
+/// Resolves back to the first unique implication point, and answers its place.
+fn resolve_high(
+    clauses: &Formula,
+    trail: &Trail,
+    set: &mut Seen,
+    hints: &mut HintStack,
+    zero_end: u32,
+    high: u32,
+    least: u32,
+) -> Result<u32, NoMemory>
+    requires vars { set.old.vars ≡ trail.now.vars }
+    requires formula_vars { clauses.now.vars ≡ trail.now.vars }
+    requires justified { IsJustified clauses.now.clauses trail.now }
+    requires fine { Fines clauses.now (falsifies (take high trail.now.marks)) }
+    requires implied { (k : ℕ) (m : Mark) → slice_get trail.now.marks k ≡ Some m → high < k
+        → IsSome m.reason }
+    requires walking { IsWalking clauses.now trail.now zero_end high
+        (length trail.now.marks) least set.old.literals hints.old }
+    ensures vars { set.new.vars ≡ set.old.vars }
+    ensures walking { IfOk result (λ r. IsWalking clauses.now trail.now zero_end high
+        (r + 1) r set.new.literals hints.new) }
+{
+    let mut i = trail.len();
+    let mut lowest = least;
+    while i > lowest + 1 {
+        i -= 1;
+        let mark = trail.mark(i);
+        if set.contains(mark.literal.negation()) {
+            match mark.reason {
+                Some(reason) => {
+                    lowest = mark_others(
+                        trail,
+                        set,
+                        clauses.clause(reason),
+                        mark.literal,
+                        high,
+                        lowest,
+                    )?;
+                    hints.push(u64::from(reason) + 1)?;
+                }
+                None => unreachable!(),
+            }
+        }
+    }
+    Ok(lowest)
+}
+
+/// Resolves the literals of level 0 that were met.
+fn resolve_zero(
+    clauses: &Formula,
+    trail: &Trail,
+    set: &mut Seen,
+    hints: &mut HintStack,
+    zero_end: u32,
+    high: u32,
+    first: Lit,
+) -> Result<(), NoMemory>
+    requires vars { set.old.vars ≡ trail.now.vars }
+    requires formula_vars { clauses.now.vars ≡ trail.now.vars }
+    requires justified { IsJustified clauses.now.clauses trail.now }
+    requires implied { (k : ℕ) (m : Mark) → slice_get trail.now.marks k ≡ Some m → k < zero_end
+        → IsSome m.reason }
+    requires inside { zero_end ≤ length trail.now.marks }
+    requires order { zero_end ≤ high }
+    requires lowest { IsLowest trail.now (length trail.now.marks) set.old.literals
+        (length trail.now.marks) }
+    requires ending { IsEnding clauses.now trail.now zero_end high zero_end first set.old.literals
+        hints.old }
+    ensures vars { set.new.vars ≡ set.old.vars }
+    ensures ending { OnOk result
+        (IsEnding clauses.now trail.now zero_end high 0 first set.new.literals hints.new) }
+{
+    let end = trail.len();
+    let mut i = zero_end;
+    let mut least = end;
+    while i > 0 {
+        i -= 1;
+        let mark = trail.mark(i);
+        if set.contains(mark.literal.negation()) {
+            match mark.reason {
+                Some(reason) => {
+                    least = mark_others(
+                        trail,
+                        set,
+                        clauses.clause(reason),
+                        mark.literal,
+                        end,
+                        least,
+                    )?;
+                    hints.push(u64::from(reason) + 1)?;
+                }
+                None => unreachable!(),
+            }
+        }
+    }
+    Ok(())
+}
+
+/// Appends the literals that became false between level 0 and the present level.
+fn push_lows(
+    trail: &Trail,
+    met: &[Lit],
+    clause: &mut LitStack,
+    zero_end: u32,
+    high: u32,
+) -> Result<(), NoMemory>
+    requires { AllFalse trail.now met.now }
+    ensures { OnOk result (clause.new
+        ≡ clause.old ++ low_literals trail.now zero_end high met.now) }
+{
+    for literal in met {
+        let place = trail.place_of(*literal);
+        if zero_end <= place && place < high {
+            clause.push(*literal)?;
+        }
+    }
+    Ok(())
+}
+
+/// A clause in the making.
+#[derive(Drop)]
+pub struct LitStack {
+    literals: Vec<Lit>,
+}
+
+impl Model for LitStack {
+    ghost use Rattle.std.specs.Prelude.{List};
+    ghost use Rattle.dsv_cnf.specs.Literal.{Literal};
+
+    ghost Value = { List Literal };
+
+    ghost view = { λ l. l.literals.items };
+}
+
+impl LitStack {
+    fn new(alloc: Global) -> LitStack
+        ensures { result ≡ [] }
+    {
+        LitStack {
+            literals: Vec::new(alloc),
+        }
+    }
+
+    pub fn as_slice(&self) -> &[Lit]
+        ensures { result.now ≡ self.now }
+    {
+        self.literals.as_slice()
+    }
+
+    fn push(&mut self, literal: Lit) -> Result<(), NoMemory>
+        ensures ok { OnOk result (self.new ≡ self.old ++ literal ∷ []) }
+        ensures err { OnErr result (self.new ≡ self.old) }
+    {
+        self.literals.push(literal)?;
+        Ok(())
+    }
+}
+
+/// Resolves all literals that were met, where each literal of the trail has a reason.
+fn resolve_all(
+    clauses: &Formula,
+    trail: &Trail,
+    set: &mut Seen,
+    hints: &mut HintStack,
+) -> Result<(), NoMemory>
+    requires vars { set.old.vars ≡ trail.now.vars }
+    requires formula_vars { clauses.now.vars ≡ trail.now.vars }
+    requires justified { IsJustified clauses.now.clauses trail.now }
+    requires implied { (k : ℕ) (m : Mark) → slice_get trail.now.marks k ≡ Some m → IsSome m.reason }
+    requires lowest { IsLowest trail.now (length trail.now.marks) set.old.literals
+        (length trail.now.marks) }
+    requires refuting { IsRefuting clauses.now trail.now
+        (length trail.now.marks) set.old.literals hints.old }
+    ensures refuting { OnOk result (IsRefuting clauses.now trail.now 0 set.new.literals hints.new) }
+{
+    let end = trail.len();
+    let mut i = end;
+    let mut least = end;
+    while i > 0 {
+        i -= 1;
+        let mark = trail.mark(i);
+        if set.contains(mark.literal.negation()) {
+            match mark.reason {
+                Some(reason) => {
+                    least = mark_others(
+                        trail,
+                        set,
+                        clauses.clause(reason),
+                        mark.literal,
+                        end,
+                        least,
+                    )?;
+                    hints.push(u64::from(reason) + 1)?;
+                }
+                None => unreachable!(),
+            }
+        }
+    }
+    Ok(())
+}
+
+/// The first literal of a clause.
+#[tactic(auto, using(crate::proofs::Searching::first_stands, crate::proofs::Searching::first_none))]
+pub(crate) fn first_literal(clause: &[Lit]) -> Option<Lit>
+    ensures { MatchOption result (clause.now ≡ []) (λ l. contains clause.now l ≡ true) }
+{
+    if clause.is_empty() {
+        return None;
+    }
+    Some(clause[0])
+}
+
+/// The hints that refute, where a clause is false at level 0.
+pub fn refute(
+    alloc: Global,
+    clauses: &Formula,
+    trail: &Trail,
+    set: &mut Seen,
+    conflict: u32,
+) -> Result<HintStack, NoMemory>
+    requires vars { set.old.vars ≡ trail.now.vars }
+    requires empty { set.old.literals ≡ [] }
+    requires formula_vars { clauses.now.vars ≡ trail.now.vars }
+    requires justified { IsJustified clauses.now.clauses trail.now }
+    requires implied { (k : ℕ) (m : Mark) → slice_get trail.now.marks k ≡ Some m → IsSome m.reason }
+    requires known { conflict < length clauses.now.clauses }
+    requires conflict { (c : List Literal) → slice_get clauses.now.clauses conflict ≡ Some c
+        → (q : Literal) → contains c q ≡ true → falsifies trail.now.marks q ≡ true }
+    ensures { IfOk result (λ h. hints_answer (live_of clauses.now) h none ≡ Ok tt) }
+{
+    let clause = clauses.clause(conflict);
+    let mut hints = HintStack::new(alloc);
+    hints.push(u64::from(conflict) + 1)?;
+    let Some(first) = first_literal(clause) else {
+        return Ok(hints);
+    };
+    let end = trail.len();
+    let _least = mark_others(trail, set, clause, first.negation(), end, end)?;
+    resolve_all(clauses, trail, set, &mut hints)?;
+    Ok(hints)
+}
+
+/// What was learned from a clause that is false.
+#[derive(Drop)]
+pub struct Learned {
+    pub clause: LitStack,
+    pub hints: HintStack,
+}
+
+/// Learns from a clause that is false: the first unique implication point's clause, and its hints.
+pub fn analyse(
+    alloc: Global,
+    clauses: &Formula,
+    trail: &Trail,
+    set: &mut Seen,
+    conflict: u32,
+    zero_end: u32,
+    high: u32,
+) -> Result<Learned, NoMemory>
+    requires vars { set.old.vars ≡ trail.now.vars }
+    requires empty { set.old.literals ≡ [] }
+    requires formula_vars { clauses.now.vars ≡ trail.now.vars }
+    requires justified { IsJustified clauses.now.clauses trail.now }
+    requires fine { Fines clauses.now (falsifies (take high trail.now.marks)) }
+    requires zeroes { (k : ℕ) (m : Mark) → slice_get trail.now.marks k ≡ Some m → k < zero_end
+        → IsSome m.reason }
+    requires implied { (k : ℕ) (m : Mark) → slice_get trail.now.marks k ≡ Some m → high < k
+        → IsSome m.reason }
+    requires order { zero_end ≤ high }
+    requires inside { high < length trail.now.marks }
+    requires known { conflict < length clauses.now.clauses }
+    requires conflict { (c : List Literal) → slice_get clauses.now.clauses conflict ≡ Some c
+        → (q : Literal) → contains c q ≡ true → falsifies trail.now.marks q ≡ true }
+    ensures vars { set.new.vars ≡ set.old.vars }
+    ensures lesson { IfOk result (λ r. IsLearnable clauses.now trail.now high r.clause r.hints) }
+{
+    let clause = clauses.clause(conflict);
+    let mut hints = HintStack::new(alloc);
+    hints.push(u64::from(conflict) + 1)?;
+    let decision = trail.mark(high).literal;
+    let least = mark_others(trail, set, clause, decision, high, trail.len())?;
+    let lowest = resolve_high(clauses, trail, set, &mut hints, zero_end, high, least)?;
+    let first = trail.mark(lowest).literal.negation();
+    resolve_zero(clauses, trail, set, &mut hints, zero_end, high, first)?;
+    let mut literals = LitStack::new(alloc);
+    literals.push(first)?;
+    push_lows(trail, set.as_slice(), &mut literals, zero_end, high)?;
+    Ok(Learned {
+        clause: literals,
+        hints,
+    })
+}

@@ -1,0 +1,15 @@
+//! A clause-learning solver with watched literals, which writes a log of what it learned.
+#![tactic(auto)]
+
+mod analyse;
+mod learn;
+mod loading;
+mod luby;
+mod order;
+mod propagate;
+mod search;
+mod seen;
+mod solver;
+mod watches;
+
+pub use solver::{Solved, solve};

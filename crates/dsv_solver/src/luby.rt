@@ -1,0 +1,41 @@
+// When the search begins anew at level 0.
+
+/// How many conflicts a Luby number stands for.
+const UNIT: u64 = 32;
+
+/// Counts conflicts in runs of 32 times the Luby numbers 1, 1, 2, 1, 1, 2, 4 and so on.
+#[derive(Clone, Copy)]
+pub(crate) struct Luby {
+    /// How many numbers ended with the greatest so far; its last bit that is set is where it ends.
+    number: u64,
+    /// The present Luby number.
+    power: u64,
+    /// How many conflicts are left of the present run.
+    left: u64,
+}
+
+impl Luby {
+    pub fn new() -> Luby {
+        Luby {
+            number: 1,
+            power: 1,
+            left: UNIT,
+        }
+    }
+
+    /// Counts one conflict more, and says whether a run ends with it.
+    pub fn is_due(&mut self) -> bool {
+        if self.left > 1 {
+            self.left -= 1;
+            return false;
+        }
+        if self.number & self.number.wrapping_neg() == self.power {
+            self.number = self.number.wrapping_add(1);
+            self.power = 1;
+        } else {
+            self.power = self.power.wrapping_mul(2);
+        }
+        self.left = self.power.wrapping_mul(UNIT);
+        true
+    }
+}
