@@ -6,7 +6,8 @@ use std::test::Fail;
 
 /// The pole at 0.5.
 const FILE: &[u8] =
-    b"digital_system d = { .b = {1.0}, .b_size = 1, .a = {1.0, -0.5}, .a_size = 2 }; implementation r = { .int_bits = 2, .frac_bits = 14, .max = 1.0, .min = -1.0 };";
+    b"digital_system d = { .b = {1.0}, .b_size = 1, .a = {1.0, -0.5}, .a_size = 2 }; \
+      implementation r = { .int_bits = 2, .frac_bits = 14, .max = 1.0, .min = -1.0 };";
 
 /// What the command writes on it.
 const TEXT: &[u8] =

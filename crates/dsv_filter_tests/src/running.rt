@@ -32,7 +32,8 @@ implementation r = { .int_bits = 4, .frac_bits = 1, .max = 1.0, .min = -1.0 };";
 /// (1 + 0.5 z^-1 + 0.25 z^-2) / (1 - 0.5 z^-1 + 0.25 z^-2), whose words in 3.4 are 16, 8, 4 and 16,
 /// -8, 4.
 const RESONANT: &str =
-    "digital_system d = { .b = {1.0, 0.5, 0.25}, .b_size = 3, .a = {1.0, -0.5, 0.25}, .a_size = 3, .sample_time = 0.001 };
+    "digital_system d = { .b = {1.0, 0.5, 0.25}, .b_size = 3, .a = {1.0, -0.5, 0.25}, .a_size = 3,
+.sample_time = 0.001 };
 implementation r = { .int_bits = 3, .frac_bits = 4, .max = 1.0, .min = -1.0 };";
 
 /// z^-1 / (1 - 0.5 z^-1) with delta 0.5, whose words in 3.4 are 0, 32 and 16, 16, and 8 of delta.

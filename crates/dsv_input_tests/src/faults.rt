@@ -199,19 +199,28 @@ const KNOWN: [Known; 6] = [
         },
     },
     Known {
-        text: "digital_system d = { .b = {1.0}, .b_size = 1, .a = {0.0, 1.0}, .a_size = 2, .sample_time = 0.001 }; implementation r = { .int_bits = 2, .frac_bits = 14, .max = 1.0, .min = -1.0 };\n",
+        text: "digital_system d = { .b = {1.0}, .b_size = 1, .a = {0.0, 1.0}, .a_size = 2, \
+        .sample_time = 0.001 }; \
+        implementation r = { .int_bits = 2, .frac_bits = 14, .max = 1.0, .min = -1.0 };\n",
         refusal: FileRefusal::LeadingZero { at: 52 },
     },
     Known {
-        text: "digital_system d = { .b = {1.0}, .b = {1.0}, .b_size = 1, .a = {1.0, -0.5}, .a_size = 2, .sample_time = 0.001 }; implementation r = { .int_bits = 2, .frac_bits = 14, .max = 1.0, .min = -1.0 };\n",
+        text: "digital_system d = { .b = {1.0}, .b = {1.0}, .b_size = 1, .a = {1.0, -0.5}, .a_size = 2, \
+        .sample_time = 0.001 }; \
+        implementation r = { .int_bits = 2, .frac_bits = 14, .max = 1.0, .min = -1.0 };\n",
         refusal: FileRefusal::FieldTwice { at: 33 },
     },
     Known {
-        text: "digital_system d = { .b = {1.000000000000000000}, .b_size = 1, .a = {1.0}, .a_size = 1, .sample_time = 0.001 }; implementation r = { .int_bits = 2, .frac_bits = 14, .max = 1.0, .min = -1.0 };\n",
+        text: "digital_system d = { .b = {1.000000000000000000}, .b_size = 1, .a = {1.0}, .a_size = 1, \
+        .sample_time = 0.001 }; \
+        implementation r = { .int_bits = 2, .frac_bits = 14, .max = 1.0, .min = -1.0 };\n",
         refusal: FileRefusal::Number { at: 27 },
     },
     Known {
-        text: "digital_system d = { .b = {1, 2, 3, 4, 5, 6, 7, 8, 9, 10}, .b_size = 10, .a = {1.0}, .a_size = 1, .sample_time = 0.001 }; implementation r = { .int_bits = 2, .frac_bits = 14, .max = 1.0, .min = -1.0 };\n",
+        text: "digital_system d = { .b = {1, 2, 3, 4, 5, 6, 7, 8, 9, 10}, .b_size = 10, \
+        .a = {1.0}, .a_size = 1, \
+        .sample_time = 0.001 }; \
+        implementation r = { .int_bits = 2, .frac_bits = 14, .max = 1.0, .min = -1.0 };\n",
         refusal: FileRefusal::Length { at: 26 },
     },
 ];
