@@ -1,13 +1,13 @@
-//! `dsv`: verifies a digital controller in fixed-point words. `main` makes the real files and the
-//! real output, and calls [`dsv_cli::run`].
+//! `dsv`: verifies a digital controller in fixed-point words. `main` makes the real files, the real
+//! output and the built-in proposer, and calls [`dsv_cli::run`].
 #![tactic(auto)]
 
-use dsv_cli::{OsFiles, OsOut, run};
+use dsv_cli::{FormProposer, OsFiles, OsOut, SumProposer, run};
 use std::io;
 use std::io::ErrorKind;
 use std::process::ExitCode;
 
-/// There is no memory for the command's arguments.
+/// There is no memory for the command's arguments or for the proposer.
 const NO_MEMORY: u8 = 5;
 
 /// The command's arguments can't be had, as where one isn't UTF-8.
@@ -32,7 +32,14 @@ fn main(rt: HostRuntime) -> ExitCode {
     let Ok(out) = rt.clone() else {
         return ExitCode::from(NO_MEMORY);
     };
+    let Ok(sums) = Box::new(alloc, SumProposer::new()) else {
+        return ExitCode::from(NO_MEMORY);
+    };
+    let mut forms: Vec<Box<dyn FormProposer>> = Vec::new(alloc);
+    if forms.push(sums).is_err() {
+        return ExitCode::from(NO_MEMORY);
+    }
     let mut files = OsFiles::new(rt, alloc);
     let mut sink = OsOut::new(out);
-    ExitCode::from(run(alloc, &arguments, &mut files, &mut sink).status)
+    ExitCode::from(run(alloc, &arguments, &mut files, &mut sink, &mut forms).status)
 }

@@ -6,17 +6,16 @@ use Rattle.dsv_command.specs.Jobs.{Task, Asked}
 use Rattle.dsv_report.specs.declared.answers.Answer.{Answer}
 use Rattle.dsv_report.specs.declared.answers.Answer.TheVariants as answer
 use Rattle.dsv_cli.specs.Headline.{IsRow}
-use Rattle.dsv_cli.specs.Causes.{IsOfTask}
 use Rattle.dsv_cli.specs.OneAnswer.{SameAnswer, IsSettled, HaveOneAnswer}
 use Rattle.dsv_cli.proofs.OneAnswerStages.{Stage, long, faulty, refused, in_words, IsStage, one_stage}
-use Rattle.dsv_cli.proofs.OneAnswerTasks.{one_task}
+use Rattle.dsv_cli.proofs.OneAnswerTasks.{IsAnswerTo, one_task}
 
 -- the answer that a stage gives to a task
 abbrev IsOfStage : Task → Stage → Answer → Type 0
 IsOfStage task long found = found ≡ answer.FileTooLong
 IsOfStage task (faulty r) found = found ≡ answer.FileRefused r
 IsOfStage task (refused r) found = found ≡ answer.QuantRefused r
-IsOfStage task (in_words words) found = IsOfTask task words found
+IsOfStage task (in_words words) found = IsAnswerTo task words found
 
 record Reaches (job : Asked) (bytes : List ℕ) (found : Answer) : Type 0 where
   stage : Stage
@@ -27,21 +26,16 @@ record Reaches (job : Asked) (bytes : List ℕ) (found : Answer) : Type 0 where
 reached_by : (bytes : List ℕ) (old new : FilesSeen) (job : Asked) (found : Answer) → IsSettled found → IsRow (Some bytes) old new job found → Reaches job bytes found
 reached_by bytes old new job (answer.Falls poly offer fall) s h =
     let t = h.comes_from in
-    record {
-      stage = in_words t.words;
-      reached = t.accepted;
-      gives = rw h.belongs_to (record { direct = t.direct; low = t.low; reduced = t.reduced }, t.decided, h.shows);
-    }
+    record { stage = in_words t.words; reached = t.accepted; gives = rw t.task (t.tested, h.shows) }
 reached_by bytes old new job (answer.KeptAway poly offer fall value) s h =
     let t = h.comes_from in
-    record {
-      stage = in_words t.words;
-      reached = t.accepted;
-      gives = rw h.belongs_to (record { direct = t.direct; low = t.low; reduced = t.reduced }, t.decided, h.shows);
-    }
-reached_by bytes old new job answer.NotYet s h =
+    record { stage = in_words t.words; reached = t.accepted; gives = rw t.task (t.tested, h.shows) }
+reached_by bytes old new job answer.NoZeros s h =
     let t = h.comes_from in
-    record { stage = in_words t.words; reached = t.accepted; gives = rw h.belongs_to t.open_case }
+    record { stage = in_words t.words; reached = t.accepted; gives = rw t.task t.tested }
+reached_by bytes old new job (answer.Wide index) s h =
+    let t = h.comes_from in
+    record { stage = in_words t.words; reached = t.accepted; gives = rw t.task t.tested }
 reached_by bytes old new job (answer.Simulated found) s h =
     let t = h.comes_from in
     record { stage = in_words t.1; reached = t.2.accepted; gives = rw t.2.task t.3 }

@@ -1,14 +1,12 @@
 -- A task for a controller in words has one answer.
 use Rattle.std.proofs.Common.{◌≡◌, ◌∙◌, ◌⊎◌, inl, inr, sym, ap, subst, refl, ℕ, ◌<◌, ◌≤◌, List, Some, length, take, arith}
-use Rattle.std.specs.Prelude.{true, false, Some, slice_get}
+use Rattle.std.specs.Prelude.{IfSome, Result, Ok, Err, Some, slice_get}
 use Rattle.std.specs.List.{All}
 use Rattle.std.proofs.Math.IntN.{ℤ}
-use Rattle.std.proofs.lemmas.Bool.{cases_lt, cases_order, true≢false}
+use Rattle.std.proofs.lemmas.Bool.{cases_lt, cases_order}
 use Rattle.std.proofs.lemmas.List.{get_or-take, length-take}
 use Rattle.std.proofs.lemmas.Option.{get_or_from_slice_get, slice_get_within}
 use Rattle.dsv_algebra.specs.Vectors.{Vector, vector_of, matrix_of, form_at}
-use Rattle.dsv_names.specs.Realisations.{is_delta}
-use Rattle.dsv_names.specs.declared.property.Property.TheVariants.{Stability}
 use Rattle.dsv_word.specs.declared.format.Format.{Format}
 use Rattle.dsv_word.specs.Words.{IsWord}
 use Rattle.dsv_quantiser.specs.FixedPoint.{FixedPoint}
@@ -17,14 +15,19 @@ use Rattle.dsv_forms.specs.declared.offers.Falls.{Falls}
 use Rattle.dsv_forms.specs.declared.offers.KeptAway.{KeptAway}
 use Rattle.dsv_forms.specs.declared.offers.FormOffer.TheVariants as offered
 use Rattle.dsv_forms.specs.FallForm.{IsFallForm}
-use Rattle.dsv_lyapunov.specs.ClosedForm.{first_leads, closed_form_of}
-use Rattle.dsv_lyapunov.proofs.Reductions.{one_reduced}
+use Rattle.dsv_forms.specs.declared.offers.FormOffer.{FormOffer}
+use Rattle.dsv_closed_forms.specs.ClosedForm.{closed_form_of}
+use Rattle.dsv_delta.specs.declared.refusal.PolyWide.{PolyWide}
+use Rattle.dsv_tested.specs.Tested.{tested_of}
+use Rattle.dsv_tested.specs.declared.side.Tested.{Tested}
+use Rattle.dsv_tested.specs.declared.side.Tested.TheVariants as tested
 use Rattle.dsv_command.specs.Jobs.{Task, decides, simulates}
 use Rattle.dsv_report.specs.declared.answers.Answer.{Answer}
 use Rattle.dsv_report.specs.declared.answers.Answer.TheVariants as answer
-use Rattle.dsv_cli.specs.Headline.{degree, ShowsFall, ShowsKeptAway}
+use Rattle.dsv_cli.specs.Headline.{degree, side_of, ShowsFall, ShowsKeptAway}
+use Rattle.dsv_cli.specs.Proposers.{HasClosedForm}
 use Rattle.dsv_cli.specs.Simulating.{IsFirstOutside}
-use Rattle.dsv_cli.specs.Causes.{IsReducedFrom, IsDecision, IsOfRun, IsOfTask}
+use Rattle.dsv_cli.specs.Causes.{IsOfRun}
 use Rattle.dsv_cli.specs.OneAnswer.{SameForm, SameAnswer, IsSettled}
 
 -- ---- forms
@@ -52,55 +55,91 @@ one_fall : (p q : List ℤ) (P R F G : Form) → p ≡ q → P ≡ R → Loses p
 one_fall p q P R F G e f h k =
     one_fall_form (degree p) (vector_of p) P F G h (subst (λ poly. Loses poly P G) (sym e) (subst (λ form. Loses q form G) (sym f) k))
 
-offer_falls : (o u : Falls) → Some (offered.Falls o) ≡ Some (offered.Falls u) → o ≡ u
+-- two forms that are the closed form are one
+one_closed : (p q : List ℤ) (a b : FormOffer) → p ≡ q → HasClosedForm p → IfSome (closed_form_of p) (λ closed. a ≡ closed) → IfSome (closed_form_of q) (λ closed. b ≡ closed) → a ≡ b
+one_closed p q a b e c h k =
+    let left : a ≡ c.0 = rw c.1 at h in
+    let right : b ≡ c.0 = rw (← e, c.1) at k in
+    left ∙ sym right
+
+offer_falls : (o u : Falls) → offered.Falls o ≡ offered.Falls u → o ≡ u
 offer_falls o u e = cc
 
-offer_kept_away : (o u : KeptAway) → Some (offered.KeptAway o) ≡ Some (offered.KeptAway u) → o ≡ u
+offer_kept_away : (o u : KeptAway) → offered.KeptAway o ≡ offered.KeptAway u → o ≡ u
 offer_kept_away o u e = cc
 
-falls_once : (p q : List ℤ) (o u : Falls) (f g : Form) → p ≡ q → ShowsFall p o f → ShowsFall q u g → SameAnswer (answer.Falls p o f) (answer.Falls q u g)
-falls_once p q o u f g e h k =
-    let offers = offer_falls o u (sym h.closed_form ∙ ap closed_form_of e ∙ k.closed_form) in
+kinds_apart : (o : Falls) (u : KeptAway) → offered.Falls o ≡ offered.KeptAway u → ⊥
+kinds_apart o u e = cc
+
+falls_once : (p q : List ℤ) (o u : Falls) (f g : Form) → HasClosedForm p → p ≡ q → ShowsFall p o f → ShowsFall q u g → SameAnswer (answer.Falls p o f) (answer.Falls q u g)
+falls_once p q o u f g c e h k =
+    let offers = offer_falls o u (one_closed p q (offered.Falls o) (offered.Falls u) e c h.closed_form k.closed_form) in
     (e, offers, one_fall p q o.form u.form f g e (ap (λ (x : Falls). x.form) offers) h.fall_form k.fall_form)
 
 abbrev value_of : List ℤ → KeptAway → ℤ
 value_of poly offer = form_at (degree poly) (matrix_of offer.form.rows) (vector_of offer.start)
 
-kept_away_once : (p q : List ℤ) (o u : KeptAway) (f g : Form) (v w : ℤ) → p ≡ q → ShowsKeptAway p o f v → ShowsKeptAway q u g w
+kept_away_once : (p q : List ℤ) (o u : KeptAway) (f g : Form) (v w : ℤ) → HasClosedForm p → p ≡ q → ShowsKeptAway p o f v → ShowsKeptAway q u g w
     → SameAnswer (answer.KeptAway p o f v) (answer.KeptAway q u g w)
-kept_away_once p q o u f g v w e h k =
-    let offers = offer_kept_away o u (sym h.closed_form ∙ ap closed_form_of e ∙ k.closed_form) in (
+kept_away_once p q o u f g v w c e h k =
+    let offers = offer_kept_away o u (one_closed p q (offered.KeptAway o) (offered.KeptAway u) e c h.closed_form k.closed_form) in (
       e,
       offers,
       one_fall p q o.form u.form f g e (ap (λ (x : KeptAway). x.form) offers) h.fall_form k.fall_form,
       h.value_at ∙ ap (λ poly. value_of poly o) e ∙ ap (value_of q) offers ∙ sym k.value_at,
     )
 
-leads_or_not : (p q : List ℤ) → p ≡ q → first_leads p ≡ true → first_leads q ≡ false → ⊥
-leads_or_not p q e h k =
-    let same = sym h ∙ ap first_leads e ∙ k in
-    true≢false same
+falls_or_not : (p q : List ℤ) (o : Falls) (u : KeptAway) (f g : Form) (w : ℤ) → HasClosedForm p → p ≡ q → ShowsFall p o f → ShowsKeptAway q u g w → ⊥
+falls_or_not p q o u f g w c e h k = kinds_apart o u (one_closed p q (offered.Falls o) (offered.KeptAway u) e c h.closed_form k.closed_form)
 
--- a denominator that is reduced is of a controller that is decided
-decided_yet : (words : FixedPoint) (poly : List ℤ) → IsReducedFrom words poly → (is_delta words.realisation ≡ true) ⊎ (3 ≤ length words.a) → ⊥
-decided_yet words poly h (inl delta) = true≢false (sym delta ∙ h.direct)
-decided_yet words poly h (inr high) = omega (arith, h.low)
+-- what a property's tested polynomial leads to
+abbrev Leads : Result Tested PolyWide → Answer → Type 0
+Leads outcome (answer.Falls p o f) = (outcome ≡ Ok (tested.Poly p)) × ShowsFall p o f
+Leads outcome (answer.KeptAway p o f v) = (outcome ≡ Ok (tested.Poly p)) × ShowsKeptAway p o f v
+Leads outcome answer.NoZeros = outcome ≡ Ok tested.NoZeros
+Leads outcome (answer.Wide index) = outcome ≡ Err (record { index = index })
+Leads outcome other = ⊥
 
-one_decision : (words : FixedPoint) (a b : Answer) → IsDecision words a → IsDecision words b → SameAnswer a b
-one_decision words (answer.Falls p o f) (answer.Falls q u g) h k = falls_once p q o u f g (one_reduced words.a p q h.0.reduced k.0.reduced) h.2 k.2
-one_decision words (answer.Falls p o f) (answer.KeptAway q u g w) h k = absurd (leads_or_not p q (one_reduced words.a p q h.0.reduced k.0.reduced) h.1 k.1)
-one_decision words (answer.Falls p o f) answer.NotYet h k = absurd (decided_yet words p h.0 k)
-one_decision words (answer.Falls p o f) b h k = absurd k
-one_decision words (answer.KeptAway p o f v) (answer.KeptAway q u g w) h k =
-    kept_away_once p q o u f g v w (one_reduced words.a p q h.0.reduced k.0.reduced) h.2 k.2
-one_decision words (answer.KeptAway p o f v) (answer.Falls q u g) h k = absurd (leads_or_not q p (one_reduced words.a q p k.0.reduced h.0.reduced) k.1 h.1)
-one_decision words (answer.KeptAway p o f v) answer.NotYet h k = absurd (decided_yet words p h.0 k)
-one_decision words (answer.KeptAway p o f v) b h k = absurd k
-one_decision words answer.NotYet answer.NotYet h k = refl
-one_decision words answer.NotYet (answer.Falls q u g) h k = absurd (decided_yet words q k.0 h)
-one_decision words answer.NotYet (answer.KeptAway q u g w) h k = absurd (decided_yet words q k.0 h)
-one_decision words answer.NotYet b h k = absurd k
-one_decision words a b h k = absurd h
+one_poly : (r : Result Tested PolyWide) (p q : List ℤ) → r ≡ Ok (tested.Poly p) → r ≡ Ok (tested.Poly q) → p ≡ q
+one_poly r p q h k = cc
+
+poly_or_none : (r : Result Tested PolyWide) (p : List ℤ) → r ≡ Ok (tested.Poly p) → r ≡ Ok tested.NoZeros → ⊥
+poly_or_none r p h k = cc
+
+poly_or_wide : (r : Result Tested PolyWide) (p : List ℤ) (w : PolyWide) → r ≡ Ok (tested.Poly p) → r ≡ Err w → ⊥
+poly_or_wide r p w h k = cc
+
+none_or_wide : (r : Result Tested PolyWide) (w : PolyWide) → r ≡ Ok tested.NoZeros → r ≡ Err w → ⊥
+none_or_wide r w h k = cc
+
+one_refusal : (r : Result Tested PolyWide) (v w : PolyWide) → r ≡ Err v → r ≡ Err w → v ≡ w
+one_refusal r v w h k = cc
+
+one_wide : (r : Result Tested PolyWide) (i j : ℕ) → r ≡ Err (record { index = i }) → r ≡ Err (record { index = j }) → answer.Wide i ≡ answer.Wide j
+one_wide r i j h k = ap (λ (w : PolyWide). answer.Wide w.index) (one_refusal r (record { index = i }) (record { index = j }) h k)
+
+one_decision : (r : Result Tested PolyWide) (a b : Answer) → IsSettled a → IsSettled b → Leads r a → Leads r b → SameAnswer a b
+one_decision r (answer.Falls p o f) (answer.Falls q u g) x y h k = falls_once p q o u f g x (one_poly r p q h.0 k.0) h.1 k.1
+one_decision r (answer.Falls p o f) (answer.KeptAway q u g w) x y h k = absurd (falls_or_not p q o u f g w x (one_poly r p q h.0 k.0) h.1 k.1)
+one_decision r (answer.Falls p o f) answer.NoZeros x y h k = absurd (poly_or_none r p h.0 k)
+one_decision r (answer.Falls p o f) (answer.Wide j) x y h k = absurd (poly_or_wide r p (record { index = j }) h.0 k)
+one_decision r (answer.Falls p o f) b x y h k = absurd k
+one_decision r (answer.KeptAway p o f v) (answer.KeptAway q u g w) x y h k = kept_away_once p q o u f g v w x (one_poly r p q h.0 k.0) h.1 k.1
+one_decision r (answer.KeptAway p o f v) (answer.Falls q u g) x y h k = absurd (falls_or_not q p u o g f v y (one_poly r q p k.0 h.0) k.1 h.1)
+one_decision r (answer.KeptAway p o f v) answer.NoZeros x y h k = absurd (poly_or_none r p h.0 k)
+one_decision r (answer.KeptAway p o f v) (answer.Wide j) x y h k = absurd (poly_or_wide r p (record { index = j }) h.0 k)
+one_decision r (answer.KeptAway p o f v) b x y h k = absurd k
+one_decision r answer.NoZeros answer.NoZeros x y h k = refl
+one_decision r answer.NoZeros (answer.Falls q u g) x y h k = absurd (poly_or_none r q k.0 h)
+one_decision r answer.NoZeros (answer.KeptAway q u g w) x y h k = absurd (poly_or_none r q k.0 h)
+one_decision r answer.NoZeros (answer.Wide j) x y h k = absurd (none_or_wide r (record { index = j }) h k)
+one_decision r answer.NoZeros b x y h k = absurd k
+one_decision r (answer.Wide i) (answer.Wide j) x y h k = one_wide r i j h k
+one_decision r (answer.Wide i) (answer.Falls q u g) x y h k = absurd (poly_or_wide r q (record { index = i }) k.0 h)
+one_decision r (answer.Wide i) (answer.KeptAway q u g w) x y h k = absurd (poly_or_wide r q (record { index = i }) k.0 h)
+one_decision r (answer.Wide i) answer.NoZeros x y h k = absurd (none_or_wide r (record { index = i }) k h)
+one_decision r (answer.Wide i) b x y h k = absurd k
+one_decision r a b x y h k = absurd h
 
 -- ---- runs
 -- what holds of each number of a list, or of each before a place, holds of the one at a place, or before it
@@ -135,6 +174,11 @@ one_run words inputs (answer.InputRange i v) b x y h k = absurd k
 one_run words inputs answer.NoMemory b x y h k = absurd x
 one_run words inputs a b x y h k = absurd h
 
-pub one_task : (task : Task) (words : FixedPoint) (a b : Answer) → IsSettled a → IsSettled b → IsOfTask task words a → IsOfTask task words b → SameAnswer a b
-one_task (decides Stability) words a b x y h k = one_decision words a b h k
+-- what a task leads to for a controller in words
+abbrev pub IsAnswerTo : Task → FixedPoint → Answer → Type 0
+IsAnswerTo (decides p) words found = Leads (tested_of words (side_of p)) found
+IsAnswerTo (simulates inputs) words found = IsOfRun words inputs found
+
+pub one_task : (task : Task) (words : FixedPoint) (a b : Answer) → IsSettled a → IsSettled b → IsAnswerTo task words a → IsAnswerTo task words b → SameAnswer a b
+one_task (decides p) words a b x y h k = one_decision (tested_of words (side_of p)) a b x y h k
 one_task (simulates inputs) words a b x y h k = one_run words inputs a b x y h k

@@ -1,39 +1,47 @@
 -- The stages of a run and what each gives; private contracts alone cite it. `Headline` has the
 -- table that they lead to.
-use Rattle.std.specs.Prelude.{◌≡◌, ◌⊎◌, true, false, ℕ, ◌≤◌, List}
-use Rattle.std.specs.Prelude.{length, Option, IfSome, Result, Ok, Err, ℤ}
+use Rattle.std.specs.Prelude.{◌≡◌, ℕ, List, Option, IfSome, Result, Ok, Err, ℤ}
 use Rattle.dsv_base.specs.Seen.{FilesSeen}
-use Rattle.dsv_names.specs.Realisations.{is_delta}
-use Rattle.dsv_names.specs.declared.property.Property.TheVariants.{Stability}
+use Rattle.dsv_names.specs.declared.property.Property.{Property}
+use Rattle.dsv_names.specs.declared.property.Property.TheVariants as property
 use Rattle.dsv_word.specs.declared.format.Format.{Format}
 use Rattle.dsv_reader.specs.Controllers.{ControllerView}
 use Rattle.dsv_reader.specs.Texts.{IsTextOf, IsFaultOf}
 use Rattle.dsv_quantiser.specs.FixedPoint.{FixedPoint}
 use Rattle.dsv_quantiser.specs.Quantising.{fixed_point_of}
 use Rattle.dsv_quantiser.specs.declared.refusal.QuantRefusal.{QuantRefusal}
-use Rattle.dsv_lyapunov.specs.ClosedForm.{first_leads}
-use Rattle.dsv_lyapunov.specs.Reduced.{IsReduced}
+use Rattle.dsv_tested.specs.Tested.{tested_of}
+use Rattle.dsv_tested.specs.declared.side.Tested.TheVariants as tested
 use Rattle.dsv_command.specs.Jobs.{Task, decides, simulates, Asked}
 use Rattle.dsv_command.specs.declared.job.Design.{Design}
 use Rattle.dsv_report.specs.declared.answers.Answer.{Answer}
 use Rattle.dsv_report.specs.declared.answers.Answer.TheVariants as answer
-use Rattle.dsv_cli.specs.Headline.{IsFormatOf, IsRow, ShowsFall, ShowsKeptAway}
+use Rattle.dsv_cli.specs.declared.outcome.Outcome.{Outcome}
+use Rattle.dsv_cli.specs.declared.outcome.Outcome.TheVariants as outcome
+use Rattle.dsv_cli.specs.Headline.{IsFormatOf, IsTested, Decides, IsRow, side_of}
+use Rattle.dsv_cli.specs.Headline.{ShowsFall, ShowsKeptAway, ShowsNoForm}
 use Rattle.dsv_cli.specs.Simulating.{IsRunOver, IsFirstOutside}
 
--- of a direct form, of order 0 or 1, the denominator reduced is the polynomial
-pub record IsReducedFrom (words : FixedPoint) (poly : List ℤ) : Type 0 where
-  pub direct : is_delta words.realisation ≡ false
-  pub low : length words.a ≤ 2
-  pub reduced : IsReduced words.a poly
+-- the answer that decides a polynomial
+abbrev pub IsDecision : List ℤ → Answer → Type 0
+IsDecision poly (answer.Falls found offer fall) = (found ≡ poly) × ShowsFall found offer fall
+IsDecision poly (answer.KeptAway found offer fall value) =
+    (found ≡ poly) × ShowsKeptAway found offer fall value
+IsDecision poly (answer.NoForm found kept verdict) =
+    (found ≡ poly) × ShowsNoForm found kept verdict
+IsDecision poly answer.NoMemory = Unit {0}
+IsDecision poly other = ⊥
 
--- the answer that decides the controller in these words
-abbrev pub IsDecision : FixedPoint → Answer → Type 0
-IsDecision words answer.NotYet = (is_delta words.realisation ≡ true) ⊎ (3 ≤ length words.a)
-IsDecision words (answer.Falls poly offer fall) = IsReducedFrom words poly
-    × (first_leads poly ≡ true) × ShowsFall poly offer fall
-IsDecision words (answer.KeptAway poly offer fall value) =
-    IsReducedFrom words poly × (first_leads poly ≡ false) × ShowsKeptAway poly offer fall value
-IsDecision words other = ⊥
+-- the polynomial that a property tests, or the answer where there is none
+abbrev pub IsOfProperty : Property → FixedPoint → Outcome → Type 0
+IsOfProperty of_property words (outcome.Undecided poly) =
+    tested_of words (side_of of_property) ≡ Ok (tested.Poly poly)
+IsOfProperty of_property words (outcome.Answered answer.NoZeros) =
+    (of_property ≡ property.MinimumPhase)
+    × (tested_of words (side_of of_property) ≡ Ok tested.NoZeros)
+IsOfProperty of_property words (outcome.Answered (answer.Wide index)) =
+    tested_of words (side_of of_property) ≡ Err (record { index = index })
+IsOfProperty of_property words other = ⊥
 
 -- the controller's run over these inputs, or the first of them that is no word
 abbrev pub IsOfRun : FixedPoint → List ℤ → Answer → Type 0
@@ -43,10 +51,11 @@ IsOfRun words inputs (answer.InputRange index value) =
 IsOfRun words inputs answer.NoMemory = Unit {0}
 IsOfRun words inputs other = ⊥
 
--- the answer to a task for a controller in these words
-abbrev pub IsOfTask : Task → FixedPoint → Answer → Type 0
-IsOfTask (decides Stability) words found = IsDecision words found
-IsOfTask (simulates inputs) words found = IsOfRun words inputs found
+-- what a task comes to for a controller in these words
+abbrev pub IsOfTask : Task → FixedPoint → Outcome → Type 0
+IsOfTask (decides of_property) words found = IsOfProperty of_property words found
+IsOfTask (simulates inputs) words (outcome.Answered found) = IsOfRun words inputs found
+IsOfTask (simulates inputs) words (outcome.Undecided poly) = ⊥
 
 -- in the words of its format, by the job's modes and realisation, the controller is this, or
 -- refused so
@@ -56,28 +65,56 @@ pub record BecomesWords (c : ControllerView) (design : Design)
   pub modes : IsFormatOf c design format
   pub becomes : fixed_point_of c format design.realisation ≡ outcome
 
-pub record IsOfWords (c : ControllerView) (design : Design) (task : Task) (found : Answer) :
+pub record IsOfWords (c : ControllerView) (design : Design) (task : Task) (found : Outcome) :
     Type 0 where
   pub words : FixedPoint
   pub becomes : BecomesWords c design (Ok words)
   pub answer : IsOfTask task words found
 
-abbrev pub IsOfController : ControllerView → Design → Task → Answer → Type 0
-IsOfController c design task (answer.QuantRefused r) = BecomesWords c design (Err r)
+abbrev pub IsOfController : ControllerView → Design → Task → Outcome → Type 0
+IsOfController c design task (outcome.Answered (answer.QuantRefused r)) =
+    BecomesWords c design (Err r)
 IsOfController c design task found = IsOfWords c design task found
 
-pub record IsOfText (job : Asked) (bytes : List ℕ) (found : Answer) : Type 0 where
+pub record IsOfText (job : Asked) (bytes : List ℕ) (found : Outcome) : Type 0 where
   pub controller : ControllerView
   pub text : IsTextOf bytes controller
-  pub answer : IsOfController controller job.design job.task found
+  pub outcome : IsOfController controller job.design job.task found
 
--- the answer to a job on a file of these bytes
-abbrev pub IsOfBytes : Asked → List ℕ → Answer → Type 0
-IsOfBytes job bytes (answer.FileRefused r) = IsFaultOf bytes r
-IsOfBytes job bytes answer.NoMemory = Unit {0}
+-- what a job on a file of these bytes comes to
+abbrev pub IsOfBytes : Asked → List ℕ → Outcome → Type 0
+IsOfBytes job bytes (outcome.Answered (answer.FileRefused r)) = IsFaultOf bytes r
+IsOfBytes job bytes (outcome.Answered answer.NoMemory) = Unit {0}
 IsOfBytes job bytes found = IsOfText job bytes found
 
--- the answer has its row for every file that holds these bytes, where they are told
-abbrev pub HasRow : Asked → List ℕ → Answer → Type 0
-HasRow job bytes found = (told : Option (List ℕ)) (old new : FilesSeen)
-    → IfSome told (λ file. bytes ≡ file) → IsRow told old new job found
+-- The answer has its row, or the polynomial is the one that the job tests, where the file's bytes
+-- are told.
+abbrev pub HasRow : Option (List ℕ) → FilesSeen → FilesSeen → Asked → Outcome → Type 0
+HasRow told old new job (outcome.Answered found) = IsRow told old new job found
+HasRow told old new job (outcome.Undecided poly) =
+    Decides job.task × IfSome told (λ bytes. IsTested job bytes (Ok (tested.Poly poly)))
+
+-- and so for every file that holds these bytes
+abbrev pub HasRowOf : Asked → List ℕ → Outcome → Type 0
+HasRowOf job bytes found = (told : Option (List ℕ)) (old new : FilesSeen)
+    → IfSome told (λ file. bytes ≡ file) → HasRow told old new job found
+
+-- the answer says nothing of a polynomial
+abbrev pub IsPlain : Answer → Type 0
+IsPlain (answer.Falls poly offer fall) = ⊥
+IsPlain (answer.KeptAway poly offer fall value) = ⊥
+IsPlain answer.NoZeros = Unit {0}
+IsPlain (answer.NoForm poly kept verdict) = ⊥
+IsPlain (answer.Wide index) = Unit {0}
+IsPlain (answer.Simulated found) = Unit {0}
+IsPlain answer.Usage = Unit {0}
+IsPlain (answer.FileRefused r) = Unit {0}
+IsPlain answer.FileTooLong = Unit {0}
+IsPlain (answer.QuantRefused r) = Unit {0}
+IsPlain (answer.InputRange index value) = Unit {0}
+IsPlain (answer.ReadFault file) = Unit {0}
+IsPlain answer.NoMemory = Unit {0}
+
+abbrev pub AnswersPlainly : Outcome → Type 0
+AnswersPlainly (outcome.Answered found) = IsPlain found
+AnswersPlainly (outcome.Undecided poly) = Unit {0}

@@ -1,13 +1,13 @@
 -- What a run answers: a table, one row for each answer.
-use Rattle.std.specs.Prelude.{◌≡◌, ◌⊎◌, Bool, true, false, ℕ, ◌+◌, ◌-◌, ◌<◌}
+use Rattle.std.specs.Prelude.{◌≡◌, ◌⊎◌, ℕ, ◌+◌, ◌-◌, ◌<◌}
 use Rattle.std.specs.Prelude.{◌≤◌, List, length, Option, Some, None, IfSome, Result, Ok, Err, ℤ}
 use Rattle.dsv_algebra.specs.Vectors.{vector_of, matrix_of, form_at}
 use Rattle.dsv_algebra.specs.Companion.{StrictlyFallsAlong, IsKeptAwayAlong}
 use Rattle.dsv_base.specs.Counts.{Rose}
 use Rattle.dsv_base.specs.Seen.{FilesSeen, SinkSeen}
 use Rattle.dsv_base.specs.Taking.{Wrote, CutShort}
-use Rattle.dsv_names.specs.Realisations.{is_delta}
-use Rattle.dsv_names.specs.declared.property.Property.TheVariants.{Stability}
+use Rattle.dsv_names.specs.declared.property.Property.{Property}
+use Rattle.dsv_names.specs.declared.property.Property.TheVariants as property
 use Rattle.dsv_word.specs.declared.format.Format.{Format}
 use Rattle.dsv_reader.specs.Controllers.{ControllerView}
 use Rattle.dsv_reader.specs.Texts.{IsTextOf, IsFaultOf}
@@ -20,8 +20,17 @@ use Rattle.dsv_forms.specs.declared.offers.KeptAway.{KeptAway}
 use Rattle.dsv_forms.specs.declared.offers.FormOffer.TheVariants as offered
 use Rattle.dsv_forms.specs.FallForm.{IsFallForm}
 use Rattle.dsv_forms.specs.Refusals.{falls_refusal, kept_away_refusal}
-use Rattle.dsv_lyapunov.specs.ClosedForm.{first_leads, closed_form_of}
-use Rattle.dsv_lyapunov.specs.Reduced.{IsReduced}
+use Rattle.dsv_delta.specs.declared.refusal.PolyWide.{PolyWide}
+use Rattle.dsv_tested.specs.Tested.{tested_of}
+use Rattle.dsv_tested.specs.declared.side.Side.{Side}
+use Rattle.dsv_tested.specs.declared.side.Side.TheVariants as side
+use Rattle.dsv_tested.specs.declared.side.Tested.{Tested}
+use Rattle.dsv_tested.specs.declared.side.Tested.TheVariants as tested
+use Rattle.dsv_closed_forms.specs.ClosedForm.{closed_form_of}
+use Rattle.dsv_jury.specs.Jury.{jury_of}
+use Rattle.dsv_jury.specs.declared.verdict.Jury.{Jury}
+use Rattle.dsv_lyapunov.specs.Kept.{AreRefused}
+use Rattle.dsv_lyapunov.specs.declared.kept.KeptForm.{KeptForm}
 use Rattle.dsv_command.specs.Jobs.{Task, decides, simulates, Asked}
 use Rattle.dsv_command.specs.declared.job.Design.{Design}
 use Rattle.dsv_report.specs.declared.answers.Answer.{Answer}
@@ -52,22 +61,23 @@ pub record IsAccepted (design : Design) (bytes : List ℕ)
   pub modes : IsFormatOf controller design format
   pub becomes : fixed_point_of controller format design.realisation ≡ outcome
 
--- The polynomial is the quantised denominator of a direct form, of order 0 or 1, with its greatest
--- common power of two taken out. Whether its leading coefficient is greater than the size of the
--- other one decides.
-pub record IsTested (design : Design) (bytes : List ℕ) (poly : List ℤ) (leads : Bool) : Type 0 where
-  pub words : FixedPoint
-  pub accepted : IsAccepted design bytes (Ok words)
-  pub direct : is_delta words.realisation ≡ false
-  pub low : length words.a ≤ 2
-  pub reduced : IsReduced words.a poly
-  pub decided : first_leads poly ≡ leads
+-- the side of the controller that a property tests: stability its denominator, minimum phase its
+-- numerator
+abbrev pub side_of : Property → Side
+side_of property.Stability = side.Denominator
+side_of property.MinimumPhase = side.Numerator
 
--- The words are of a delta form, or of order 2 or more.
-pub record IsNotYet (design : Design) (bytes : List ℕ) : Type 0 where
+-- the task decides a property
+abbrev pub Decides : Task → Type 0
+Decides task = (property : Property) × (task ≡ decides property)
+
+-- The polynomial of the side that the job's property tests, or why there is none.
+pub record IsTested (job : Asked) (bytes : List ℕ) (outcome : Result Tested PolyWide) : Type 0 where
+  pub property : Property
+  pub task : job.task ≡ decides property
   pub words : FixedPoint
-  pub accepted : IsAccepted design bytes (Ok words)
-  pub open_case : (is_delta words.realisation ≡ true) ⊎ (3 ≤ length words.a)
+  pub accepted : IsAccepted job.design bytes (Ok words)
+  pub tested : tested_of words (side_of property) ≡ outcome
 
 abbrev pub degree : List ℤ → ℕ
 degree poly = length poly - 1
@@ -84,23 +94,31 @@ pub record IsRun (job : Asked) (bytes : List ℕ) (inputs : List ℤ) (words : F
 
 -- ---- what answers show of a polynomial, whatever the file
 -- The form is positive and strictly falls along every nonzero trajectory of the polynomial; it is
--- the closed form's, its check accepts it, and `fall` is what it loses in a step.
+-- the closed form's, where there is one, its check accepts it, and `fall` is what it loses in a
+-- step.
 pub record ShowsFall (poly : List ℤ) (offer : Falls) (fall : Form) : Type 0 where
   pub falls : StrictlyFallsAlong (degree poly) (vector_of poly) (matrix_of offer.form.rows)
-  pub closed_form : closed_form_of poly ≡ Some (offered.Falls offer)
+  pub closed_form : IfSome (closed_form_of poly) (λ closed. offered.Falls offer ≡ closed)
   pub accepted : falls_refusal poly offer ≡ None
   pub fall_form : IsFallForm (degree poly) (vector_of poly) offer.form fall
 
 -- The form is negative at the start, where it has this value, and rises in no step, so that the
--- trajectory from the start is kept away from 0; it is the closed form's, its check accepts it, and
--- `fall` is what it loses in a step.
+-- trajectory from the start is kept away from 0; it is the closed form's, where there is one, its
+-- check accepts it, and `fall` is what it loses in a step.
 pub record ShowsKeptAway (poly : List ℤ) (offer : KeptAway) (fall : Form) (value : ℤ) : Type 0 where
   pub kept_away : IsKeptAwayAlong (degree poly) (vector_of poly) (matrix_of offer.form.rows)
       (vector_of offer.start)
-  pub closed_form : closed_form_of poly ≡ Some (offered.KeptAway offer)
+  pub closed_form : IfSome (closed_form_of poly) (λ closed. offered.KeptAway offer ≡ closed)
   pub accepted : kept_away_refusal poly offer ≡ None
   pub fall_form : IsFallForm (degree poly) (vector_of poly) offer.form fall
   pub value_at : value ≡ form_at (degree poly) (matrix_of offer.form.rows) (vector_of offer.start)
+
+-- The polynomial has no closed form, each offer that was kept is refused for its reason, and the
+-- verdict is that of Jury's recursion.
+pub record ShowsNoForm (poly : List ℤ) (kept : List KeptForm) (verdict : Jury) : Type 0 where
+  pub no_closed_form : closed_form_of poly ≡ None
+  pub refused : AreRefused poly kept
+  pub jury : verdict ≡ jury_of poly
 
 -- ---- the table
 -- A row of the table, for a file whose bytes are told or not: the jobs that the answer belongs to;
@@ -115,13 +133,20 @@ pub record Row (told : Option (List ℕ)) (belongs : Type 0) (cause : List ℕ
 -- `old` and are `new`.
 abbrev pub IsRow : Option (List ℕ) → FilesSeen → FilesSeen → Asked → Answer → Type 0
 IsRow told old new job (answer.Falls poly offer fall) =
-    Row told (job.task ≡ decides Stability) (λ bytes. IsTested job.design bytes poly true)
+    Row told (Decides job.task) (λ bytes. IsTested job bytes (Ok (tested.Poly poly)))
     (ShowsFall poly offer fall)
 IsRow told old new job (answer.KeptAway poly offer fall value) =
-    Row told (job.task ≡ decides Stability) (λ bytes. IsTested job.design bytes poly false)
+    Row told (Decides job.task) (λ bytes. IsTested job bytes (Ok (tested.Poly poly)))
     (ShowsKeptAway poly offer fall value)
-IsRow told old new job answer.NotYet =
-    Row told (job.task ≡ decides Stability) (λ bytes. IsNotYet job.design bytes) (Unit {0})
+IsRow told old new job answer.NoZeros =
+    Row told (job.task ≡ decides property.MinimumPhase)
+    (λ bytes. IsTested job bytes (Ok tested.NoZeros)) (Unit {0})
+IsRow told old new job (answer.NoForm poly kept verdict) =
+    Row told (Decides job.task) (λ bytes. IsTested job bytes (Ok (tested.Poly poly)))
+    (ShowsNoForm poly kept verdict)
+IsRow told old new job (answer.Wide index) =
+    Row told (Decides job.task) (λ bytes. IsTested job bytes (Err (record { index = index })))
+    (Unit {0})
 IsRow told old new job (answer.Simulated found) =
     Row told ((inputs : List ℤ) × Simulates job.task inputs)
     (λ bytes. (inputs : List ℤ) × (words : FixedPoint) × IsRun job bytes inputs words

@@ -1,4 +1,5 @@
--- A file whose bytes are told has one answer, but for want of memory and read faults.
+-- A file whose bytes are told has one answer, but for want of memory, read faults and what is left
+-- to proposers.
 use Rattle.std.specs.Prelude.{◌≡◌, ℕ, List, Some}
 use Rattle.dsv_algebra.specs.Vectors.{matrix_of}
 use Rattle.dsv_base.specs.Seen.{FilesSeen}
@@ -7,6 +8,7 @@ use Rattle.dsv_command.specs.Jobs.{Asked}
 use Rattle.dsv_report.specs.declared.answers.Answer.{Answer}
 use Rattle.dsv_report.specs.declared.answers.Answer.TheVariants as answer
 use Rattle.dsv_cli.specs.Headline.{IsRow}
+use Rattle.dsv_cli.specs.Proposers.{HasClosedForm}
 
 -- The forms have the same places and the same entries.
 pub record SameForm (f g : Form) : Type 0 where
@@ -21,17 +23,20 @@ SameAnswer (answer.KeptAway p o f v) (answer.KeptAway q u g w) = (p ≡ q) × (o
     × (v ≡ w)
 SameAnswer a b = a ≡ b
 
--- The answer is settled by the bytes: it is neither want of memory nor a fault of a read.
+-- The answer is settled by the bytes: it is neither want of memory nor a fault of a read, and
+-- proposers had no part in it.
 abbrev pub IsSettled : Answer → Type 0
-IsSettled (answer.Falls poly offer fall) = Unit {0}
-IsSettled (answer.KeptAway poly offer fall value) = Unit {0}
+IsSettled (answer.Falls poly offer fall) = HasClosedForm poly
+IsSettled (answer.KeptAway poly offer fall value) = HasClosedForm poly
+IsSettled answer.NoZeros = Unit {0}
+IsSettled (answer.NoForm poly kept verdict) = ⊥
+IsSettled (answer.Wide index) = Unit {0}
 IsSettled (answer.Simulated found) = Unit {0}
 IsSettled answer.Usage = Unit {0}
 IsSettled (answer.FileRefused r) = Unit {0}
 IsSettled answer.FileTooLong = Unit {0}
 IsSettled (answer.QuantRefused r) = Unit {0}
 IsSettled (answer.InputRange index value) = Unit {0}
-IsSettled answer.NotYet = Unit {0}
 IsSettled (answer.ReadFault file) = ⊥
 IsSettled answer.NoMemory = ⊥
 

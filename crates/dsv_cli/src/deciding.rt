@@ -1,101 +1,148 @@
-// Answers a job on the bytes of a controller file.
-ghost use Rattle.std.specs.Prelude.{◌≤◌, length};
-ghost use Rattle.dsv_command.specs.Asking.{asked_task, asked_of};
+// Decides a polynomial by a form that is checked.
+ghost use Rattle.std.specs.Prelude.{◌≡◌, ◌≤◌, ◌*◌, [], length, Some, None, IfOk, IfSome};
+ghost use Rattle.dsv_closed_forms.specs.ClosedForm.{closed_form_of, IsAccepted};
+ghost use Rattle.dsv_jury.specs.Jury.{jury_of};
+ghost use Rattle.dsv_lyapunov.specs.Answers.{offer_in, IsShown};
+ghost use Rattle.dsv_cli.specs.Asking.{IfChecked, IfNoForm, IsChecked};
+ghost use Rattle.dsv_lyapunov.specs.Kept.{AreRefused};
 ghost use Rattle.dsv_report.specs.Printing.{HasPlaces};
-ghost use Rattle.dsv_cli.specs.Headline.{longest_file, IsFormatOf};
-ghost use Rattle.dsv_cli.specs.Causes.{IsDecision, IsOfTask, IsOfController, IsOfBytes, HasRow};
+ghost use Rattle.dsv_cli.specs.Causes.{IsDecision};
+ghost use Rattle.dsv_cli.specs.Proposers.{IsAsked};
+ghost use Rattle.dsv_cli.specs.Suffixes.{IsSuffix, IfFirst, HoldsOfNone};
 
-use crate::simulating::simulated_answer;
-use dsv_command::{Design, Job, Task};
-use dsv_lyapunov::{FormAnswer, decide, reduced_polynomial};
-use dsv_names::Property;
-use dsv_quantiser::{Quantised, quantise};
-use dsv_reader::{Controller, FileRefusal, read};
+use crate::asking::{Asked, ask};
+use dsv_base::NoMemory;
+use dsv_closed_forms::closed_form;
+use dsv_forms::{FormOffer, Poly};
+use dsv_jury::{Jury, jury};
+use dsv_lyapunov::{CheckedForm, FormProposer, KeptForms, check_offer};
 use dsv_report::Answer;
-use dsv_word::Format;
 use std::alloc::Global;
 
-/// The most coefficients of a polynomial that is decided.
-const MOST_COEFFICIENTS: usize = 2;
+/// The most offers of one proposer that are refused.
+const MOST_OFFERS: u32 = 32;
 
-/// The format of a controller's words in a design.
-fn format_of(controller: &Controller, design: Design) -> Format
-    ensures { IsFormatOf controller.now design result }
+/// What was found of a polynomial.
+#[derive(Drop)]
+pub enum FormAnswer {
+    /// A form shows whether its trajectories fall.
+    Checked(CheckedForm),
+    /// It has no closed form, and no proposer offered a form that is accepted: all offers with
+    /// their refusals, and what Jury's recursion says.
+    NoForm { kept: KeptForms, jury: Jury },
+}
+
+/// The checked form of an offer that is accepted.
+fn accepted_form(poly: &Poly, offer: &FormOffer) -> CheckedForm
+    requires { IsAccepted poly.now offer.now }
+    ensures same { offer_in result ≡ offer.now }
+    ensures shown { IsShown poly.now result }
 {
-    let format = Format::new(
-        controller.int_bits(),
-        controller.frac_bits(),
-        design.rounding,
-        design.overflow,
-    );
-    match format {
-        Ok(format) => format,
+    match check_offer(poly, offer) {
+        Ok(found) => found,
         Err(_) => unreachable!(),
     }
 }
 
-/// The answer that decides a controller in words.
-fn decision(words: &Quantised) -> Answer
-    ensures decision { IsDecision words.now result }
-    ensures places { HasPlaces result }
+/// Asks the proposers in their order until a form is accepted. One that offers nothing, or whose
+/// 32nd offer was refused, is dropped; one whose offer is accepted stays in front.
+fn asked_answer(
+    alloc: Global,
+    poly: &Poly,
+    forms: &mut Vec<Box<dyn FormProposer>>,
+) -> Result<FormAnswer, NoMemory>
+    ensures suffix { IsSuffix (λ b. b.ptr) forms.old.items forms.new.items }
+    ensures shown { IfOk result (λ a. IfChecked a (λ found. IsShown poly.now found)) }
+    ensures accepted { IfOk result (λ a. IfChecked a (λ found. IsAccepted poly.now (offer_in found))) }
+    ensures last { IfOk result (λ a. IfChecked a (λ found.
+        IfFirst forms.new.items (λ b. last b ≡ Some (offer_in found)))) }
+    ensures none_left { IfOk result (λ a. IfNoForm a (λ kept verdict. forms.new.items ≡ [])) }
+    ensures causes { IfOk result (λ a. IfNoForm a (λ kept verdict. AreRefused poly.now kept)) }
+    ensures at_most { IfOk result (λ a. IfNoForm a (λ kept verdict.
+        length kept ≤ 32 * length forms.old.items)) }
+    ensures sure { IfOk result (λ a. IfNoForm a (λ kept verdict.
+        HoldsOfNone (λ b. sure b poly.now) forms.old.items)) }
+    ensures jury { IfOk result (λ a. IfNoForm a (λ kept verdict. verdict ≡ jury_of poly.now)) }
 {
-    let denominator = words.a();
-    if words.realisation().is_delta() || denominator.len() > MOST_COEFFICIENTS {
-        return Answer::NotYet;
+    let mut kept = KeptForms::new(alloc);
+    let mut asked = 0;
+    'asking: while !forms.is_empty() {
+        match ask(poly, &mut forms[0]) {
+            Asked::Nothing => {
+                forms.remove(0);
+                asked = 0;
+            }
+            Asked::Accepted(found) => return Ok(FormAnswer::Checked(found)),
+            Asked::Refused(form) => {
+                kept.push(form)?;
+                asked += 1;
+                if asked == MOST_OFFERS {
+                    forms.remove(0);
+                    asked = 0;
+                }
+            }
+        }
     }
-    let poly = reduced_polynomial(denominator);
-    match decide(&poly) {
-        FormAnswer::Falls { offer, fall } => Answer::Falls { poly, offer, fall },
-        FormAnswer::KeptAway { offer, fall, value } => Answer::KeptAway {
+    Ok(FormAnswer::NoForm {
+        kept,
+        jury: jury(poly),
+    })
+}
+
+/// Decides a polynomial by a form that is checked: its closed form, where it has one, and else what
+/// the proposers offer, who are asked in their order. One that offers nothing, or whose 32nd offer
+/// was refused, is dropped; one whose offer is accepted stays in front.
+fn decide(
+    alloc: Global,
+    poly: &Poly,
+    forms: &mut Vec<Box<dyn FormProposer>>,
+) -> Result<FormAnswer, NoMemory>
+    // Where there is a closed form, the answer is that offer; no memory is taken and nobody asked.
+    ensures closed { IfSome (closed_form_of poly.now) (λ offer. IsChecked result offer) }
+    ensures unasked { IfSome (closed_form_of poly.now) (λ offer. forms.new.items ≡ forms.old.items) }
+    // What is left of the proposers: the last of them, and only the first was asked.
+    ensures suffix { IsSuffix (λ b. b.ptr) forms.old.items forms.new.items }
+    // A form is accepted by its check and shows what it says.
+    ensures accepted { IfOk result (λ a. IfChecked a (λ found. IsAccepted poly.now (offer_in found))) }
+    ensures shown { IfOk result (λ a. IfChecked a (λ found. IsShown poly.now found)) }
+    // Where it is no closed form, the first proposer that is left gave it last.
+    ensures last { closed_form_of poly.now ≡ None → IfOk result (λ a. IfChecked a (λ found.
+        IfFirst forms.new.items (λ b. last b ≡ Some (offer_in found)))) }
+    // No form: there is no closed form, no proposer was sure and none is left, each kept offer has
+    // its refusal, and of each proposer there are at most 32.
+    ensures no_form { IfOk result (λ a. IfNoForm a (λ kept verdict. closed_form_of poly.now ≡ None)) }
+    ensures none_left { IfOk result (λ a. IfNoForm a (λ kept verdict. forms.new.items ≡ [])) }
+    ensures causes { IfOk result (λ a. IfNoForm a (λ kept verdict. AreRefused poly.now kept)) }
+    ensures at_most { IfOk result (λ a. IfNoForm a (λ kept verdict.
+        length kept ≤ 32 * length forms.old.items)) }
+    ensures sure { IfOk result (λ a. IfNoForm a (λ kept verdict.
+        HoldsOfNone (λ b. sure b poly.now) forms.old.items)) }
+    ensures jury { IfOk result (λ a. IfNoForm a (λ kept verdict. verdict ≡ jury_of poly.now)) }
+{
+    match closed_form(poly) {
+        Some(offer) => Ok(FormAnswer::Checked(accepted_form(poly, &offer))),
+        None => asked_answer(alloc, poly, forms),
+    }
+}
+
+/// The answer that decides a polynomial, by its closed form or by what the proposers offer.
+pub fn decided_answer(alloc: Global, poly: Poly, forms: &mut Vec<Box<dyn FormProposer>>) -> Answer
+    ensures decision { IsDecision poly result }
+    ensures places { HasPlaces result }
+    ensures proposers { IsAsked (λ b. b.ptr) (λ b. last b) (λ b cs. sure b cs)
+        forms.old.items forms.new.items result }
+{
+    match decide(alloc, &poly, forms) {
+        Ok(FormAnswer::Checked(CheckedForm::Falls { offer, fall })) => {
+            Answer::Falls { poly, offer, fall }
+        }
+        Ok(FormAnswer::Checked(CheckedForm::KeptAway { offer, fall, value })) => Answer::KeptAway {
             poly,
             offer,
             fall,
             value,
         },
+        Ok(FormAnswer::NoForm { kept, jury }) => Answer::NoForm { poly, kept, jury },
+        Err(_) => Answer::NoMemory,
     }
-}
-
-/// The answer to a task for a controller in words.
-fn task_answer(alloc: Global, words: &Quantised, task: &Task) -> Answer
-    ensures task { IsOfTask (asked_task task.now) words.now result }
-    ensures places { HasPlaces result }
-{
-    match task {
-        Task::Decide(Property::Stability) => decision(words),
-        Task::Simulate(inputs) => simulated_answer(alloc, words, inputs.as_slice()),
-    }
-}
-
-/// The answer for a controller.
-fn controller_answer(alloc: Global, controller: &Controller, design: Design, task: &Task) -> Answer
-    ensures controller { IsOfController controller.now design (asked_task task.now) result }
-    ensures places { HasPlaces result }
-{
-    let format = format_of(controller, design);
-    match quantise(controller, format, design.realisation) {
-        Ok(words) => task_answer(alloc, &words, task),
-        Err(refusal) => Answer::QuantRefused(refusal),
-    }
-}
-
-/// The answer to a job on a file of these bytes.
-fn bytes_answer(alloc: Global, bytes: &[u8], job: &Job) -> Answer
-    requires { length bytes.now ≤ longest_file }
-    ensures bytes { IsOfBytes (asked_of job.now) bytes.now result }
-    ensures places { HasPlaces result }
-{
-    match read(alloc, bytes) {
-        Ok(controller) => controller_answer(alloc, &controller, job.design, &job.task),
-        Err(FileRefusal::NoMemory) => Answer::NoMemory,
-        Err(refusal) => Answer::FileRefused(refusal),
-    }
-}
-
-/// The answer to a job on a file of these bytes, with its row.
-pub fn answer_for(alloc: Global, bytes: &[u8], job: &Job) -> Answer
-    requires { length bytes.now ≤ longest_file }
-    ensures row { HasRow (asked_of job.now) bytes.now result }
-    ensures places { HasPlaces result }
-{
-    bytes_answer(alloc, bytes, job)
 }

@@ -2,12 +2,15 @@
 //! text.
 #![tactic(auto)]
 
+mod asking;
 mod deciding;
 mod law;
+mod outcome;
 mod outside;
 mod running;
 mod simulating;
 
+pub use dsv_lyapunov::{FormProposer, SumProposer};
 pub use dsv_report::{Answer, WhichFile};
 pub use law::told_files_have_one_answer;
 pub use outside::{OsFiles, OsOut};

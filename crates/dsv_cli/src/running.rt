@@ -1,14 +1,18 @@
 // The command.
-ghost use Rattle.std.specs.Prelude.{◌≡◌, map, string_bytes};
+ghost use Rattle.std.specs.Prelude.{◌≡◌, false, map, string_bytes};
 ghost use Rattle.dsv_command.specs.Jobs.{job_of};
 ghost use Rattle.dsv_command.specs.Asking.{asked_of};
 ghost use Rattle.dsv_report.specs.Printing.{HasPlaces, asked_in};
 ghost use Rattle.dsv_report.specs.Report.{text_of, status_of};
 ghost use Rattle.dsv_cli.specs.Headline.{IsRow, IsExplained, AreKept, IsWritten};
+ghost use Rattle.dsv_cli.specs.Causes.{HasRow, AnswersPlainly};
+ghost use Rattle.dsv_cli.specs.Proposers.{IsAsked, IfNoForm, is_low};
 
-use crate::deciding::answer_for;
+use crate::deciding::decided_answer;
+use crate::outcome::{Outcome, outcome_of};
 use dsv_base::{Files, ReadEnd, Sink, read_all};
 use dsv_command::{Job, read_job};
+use dsv_lyapunov::FormProposer;
 use dsv_report::{Answer, WhichFile, put_answer, status_of};
 use std::alloc::Global;
 
@@ -26,18 +30,38 @@ pub struct Done {
     pub answer: Answer,
 }
 
+/// What a job comes to.
+fn job_outcome<F: Files>(alloc: Global, job: &Job, files: &mut F) -> Outcome
+    ensures row { HasRow ((F.seen files.old).held (asked_of job.now).file) (F.seen files.old)
+        (F.seen files.new) (asked_of job.now) result }
+    ensures kept { AreKept (F.seen files.old) (F.seen files.new) }
+    ensures plain { AnswersPlainly result }
+{
+    match read_all(alloc, files, job.file, LONGEST_FILE) {
+        Ok(bytes) => outcome_of(alloc, bytes.as_slice(), job),
+        Err(ReadEnd::Failed) => Outcome::Answered(Answer::ReadFault(WhichFile::Controller)),
+        Err(ReadEnd::TooLong) => Outcome::Answered(Answer::FileTooLong),
+        Err(ReadEnd::NoMemory) => Outcome::Answered(Answer::NoMemory),
+    }
+}
+
 /// The answer to a job.
-fn answer_of<F: Files>(alloc: Global, job: &Job, files: &mut F) -> Answer
+fn job_answer<F: Files>(
+    alloc: Global,
+    job: &Job,
+    files: &mut F,
+    forms: &mut Vec<Box<dyn FormProposer>>,
+) -> Answer
     ensures row { IsRow ((F.seen files.old).held (asked_of job.now).file) (F.seen files.old)
         (F.seen files.new) (asked_of job.now) result }
     ensures kept { AreKept (F.seen files.old) (F.seen files.new) }
     ensures places { HasPlaces result }
+    ensures proposers { IsAsked (λ b. b.ptr) (λ b. last b) (λ b cs. sure b cs)
+        forms.old.items forms.new.items result }
 {
-    match read_all(alloc, files, job.file, LONGEST_FILE) {
-        Ok(bytes) => answer_for(alloc, bytes.as_slice(), job),
-        Err(ReadEnd::Failed) => Answer::ReadFault(WhichFile::Controller),
-        Err(ReadEnd::TooLong) => Answer::FileTooLong,
-        Err(ReadEnd::NoMemory) => Answer::NoMemory,
+    match job_outcome(alloc, job, files) {
+        Outcome::Answered(answer) => answer,
+        Outcome::Undecided(poly) => decided_answer(alloc, poly, forms),
     }
 }
 
@@ -55,16 +79,23 @@ fn written_status<K: Sink>(sink: &mut K, job: Option<&Job>, answer: &Answer) -> 
 
 /// Runs the command: finds the answer for the arguments after the program's name, and writes its
 /// text to the sink. The writing takes no memory; where the sink fails, a prefix of the text was
-/// written and the status is 4.
+/// written and the status is 4. A polynomial without a closed form is decided by what the proposers
+/// offer, who are asked in their order and need no trust.
 pub fn run<F: Files, K: Sink>(
     alloc: Global,
     arguments: &[String],
     files: &mut F,
     sink: &mut K,
+    forms: &mut Vec<Box<dyn FormProposer>>,
 ) -> Done
     // The answer's row in the table of answers holds.
     ensures explained { IsExplained (F.seen files.old) (F.seen files.new)
         (job_of (map string_bytes arguments.now)) result.answer }
+    // What becomes of the proposers: a list that isn't needed stays as it was.
+    ensures proposers { IsAsked (λ b. b.ptr) (λ b. last b) (λ b cs. sure b cs)
+        forms.old.items forms.new.items result.answer }
+    // A polynomial of order 0 or 1, or 2 with small coefficients, is always decided.
+    ensures low_orders { IfNoForm result.answer (λ poly kept. is_low poly ≡ false) }
     // What the files hold is as before.
     ensures kept { AreKept (F.seen files.old) (F.seen files.new) }
     // The answer's text was written and the status is the answer's, or the status is 4 and the sink
@@ -75,7 +106,7 @@ pub fn run<F: Files, K: Sink>(
 {
     match read_job(alloc, arguments) {
         Ok(Some(job)) => {
-            let answer = answer_of(alloc, &job, files);
+            let answer = job_answer(alloc, &job, files, forms);
             let status = written_status(sink, Some(&job), &answer);
             Done { status, answer }
         }

@@ -11,8 +11,7 @@ ghost use Rattle.dsv_system.specs.RowViews.{row_of};
 ghost use Rattle.dsv_system.specs.Runs.{row_at};
 ghost use Rattle.dsv_netlist.specs.Nodes.{step_of};
 ghost use Rattle.dsv_netlist.specs.Systems.{system_of};
-ghost use Rattle.dsv_report.specs.Printing.{HasPlaces};
-ghost use Rattle.dsv_cli.specs.Causes.{IsOfRun};
+ghost use Rattle.dsv_cli.specs.Causes.{IsOfRun, IsPlain};
 ghost use Rattle.dsv_cli.specs.Simulating.{IsFirstOutside};
 
 use dsv_base::NoMemory;
@@ -99,7 +98,7 @@ fn rows_over(alloc: Global, words: &Quantised, inputs: &[i64]) -> Result<Rows, N
 pub fn simulated_answer(alloc: Global, words: &Quantised, inputs: &[i64]) -> Answer
     requires { length inputs.now ≤ 64 }
     ensures run { IsOfRun words.now inputs.now result }
-    ensures places { HasPlaces result }
+    ensures plain { IsPlain result }
 {
     if let Some(Numbered { index, value }) = find_outside(&words.format(), inputs) {
         return Answer::InputRange {

@@ -9,3 +9,5 @@ mod faults;
 mod lists;
 #[cfg(test)]
 mod outside;
+#[cfg(test)]
+mod proposers;

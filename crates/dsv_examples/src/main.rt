@@ -4,7 +4,7 @@
 
 use anyhow::Result;
 use dsv_base::{put_all, put_number};
-use dsv_cli::{OsFiles, OsOut, run};
+use dsv_cli::{FormProposer, OsFiles, OsOut, SumProposer, run};
 use std::alloc::Global;
 use std::fs;
 
@@ -27,7 +27,9 @@ fn run_case(alloc: Global, line: &str, files: &mut OsFiles, out: &mut OsOut) -> 
     put_all(out, line.as_bytes())?;
     put_all(out, b"\n")?;
     let arguments = arguments_of(alloc, line)?;
-    let done = run(alloc, &arguments, files, out);
+    let mut forms: Vec<Box<dyn FormProposer>> = Vec::new(alloc);
+    forms.push(Box::new(alloc, SumProposer::new())?)?;
+    let done = run(alloc, &arguments, files, out, &mut forms);
     put_all(out, b"status ")?;
     put_number(out, done.status)?;
     put_all(out, b"\n")?;

@@ -1,5 +1,5 @@
 -- The fall form with wide entries in place of those that can't be had.
-use Rattle.std.proofs.Common.{◌≡◌, ℕ, suc, ◌+◌, ◌<◌, ◌≤◌, Bool, true, false, not, ◌&&◌, ◌||◌, nat_lt, int_lt, if◌then◌else◌, List, [], ◌∷◌, ◌++◌, map, min, max, Option, Some, None, refl, sym, ap, ◌∙◌, arith, add-one, append_assoc}
+use Rattle.std.proofs.Common.{◌≡◌, ℕ, suc, ◌+◌, ◌<◌, ◌≤◌, Bool, true, false, not, ◌&&◌, ◌||◌, nat_lt, int_lt, if◌then◌else◌, List, [], ◌∷◌, ◌++◌, map, drop, min, max, Option, Some, None, refl, sym, ap, ◌∙◌, arith, add-one, append_assoc}
 use Rattle.std.proofs.Math.IntN.{ℤ, pos, negsuc, ◌+ℤ◌, ◌*ℤ◌, neg_ℤ}
 use Rattle.std.proofs.lemmas.Bool.Decides.{nat_tests, Decides-int_eq}
 use Rattle.std.specs.List.{flat_map, list_all}
@@ -15,7 +15,7 @@ use Rattle.dsv_forms.specs.declared.refusal.Part.{Part}
 use Rattle.dsv_forms.specs.declared.refusal.FormRefusal.{FormRefusal}
 use Rattle.dsv_forms.specs.declared.refusal.FormRefusal.TheVariants as refusal
 use Rattle.dsv_forms.specs.Refusals.{Test, first_of, places, is_symmetric, any_wide, partial_sums, weights_of, rows_of, square_terms, fall_numbers, right_side, side_numbers, place_tests, row_tests, side_tests}
-use Rattle.dsv_forms.specs.Sums.{Summand, sum_from, sum_with, product, summand_where, fall_sum, or_too_wide, IsFallOrWide}
+use Rattle.dsv_forms.specs.Sums.{Summand, sum_from, sum_with, product, summand_where, image_sum, fall_sum, or_too_wide, IsFallOrWide}
 use Rattle.dsv_forms.proofs.Places.{first_same, from_same, all_true}
 use Rattle.dsv_forms.proofs.SumLemmas.{unless, any_wide-append, sum_from-is, numbers, values, total, term, numbers-terms, values-single}
 
@@ -104,11 +104,10 @@ last_where : (below after : Bool) (s : ℤ) (t : Summand) → (if below then sum
 last_where true after s t = refl
 last_where false after s t = refl
 
-fall_sum-staged : (d : ℕ) (c : Vector) (P : Matrix) (i j : ℕ) → fall_sum d c P i j ≡ sum_from (pos 0) (fall_summands d c P i j)
-fall_sum-staged d c P i j =
+image_sum-staged : (d : ℕ) (c : Vector) (P : Matrix) (i j : ℕ) (sum : ℤ) → image_sum d c P i j sum ≡ sum_from sum (drop 1 (fall_summands d c P i j))
+image_sum-staged d c P i j sum =
     let below = nat_lt (i + 1) d in
     let after = nat_lt (j + 1) d in
-    let p = product (c 0) (c 0) (P i j) in
     let q = product (neg_ℤ (c (i + 1))) (c (j + 1)) (P 0 0) in
     let r = product (c (i + 1)) (c 0) (P 0 (j + 1)) in
     let t = product (c 0) (c (j + 1)) (P (i + 1) 0) in
@@ -121,8 +120,18 @@ fall_sum-staged d c P i j =
     let rs = summand_where after r ++ ts in
     let h : (s : ℤ) → g s ≡ sum_from s rs =
     λ s. where_then after s r ts f (λ s. where_then below s t us e (λ s. last_where below after s u)) in
-    with_then (sum_with (pos 0) p) p (q ∷ rs) (λ s. option_and_then g (sum_with s q)) (λ s. with_then (sum_with s q) q rs g h)
-    ∙ ap (λ ts. sum_from (pos 0) (p ∷ q ∷ ts)) (sym (append_assoc (summand_where after r) (summand_where below t) us))
+    with_then (sum_with sum q) q rs g h
+    ∙ ap (λ ts. sum_from sum (q ∷ ts)) (sym (append_assoc (summand_where after r) (summand_where below t) us))
+
+-- an entry of C^T P C with the other sign
+pub image_sum-is : (d : ℕ) (c : Vector) (P : Matrix) (i j : ℕ) → (let ts = drop 1 (fall_terms d c P i j) in image_sum d c P i j (pos 0)
+    ≡ unless (any_wide (map (λ t. t.0) ts ++ map (λ t. t.0 *ℤ t.1) ts ++ partial_sums (pos 0) (map (λ t. t.0 *ℤ t.1) ts))) (total_from (pos 0) ts))
+image_sum-is d c P i j = image_sum-staged d c P i j (pos 0) ∙ ap (λ ts. sum_from (pos 0) (drop 1 ts)) (fall_summands-are d c P i j) ∙ terms_sum (drop 1 (fall_terms d c P i j))
+
+fall_sum-staged : (d : ℕ) (c : Vector) (P : Matrix) (i j : ℕ) → fall_sum d c P i j ≡ sum_from (pos 0) (fall_summands d c P i j)
+fall_sum-staged d c P i j =
+    let p = product (c 0) (c 0) (P i j) in
+    with_then (sum_with (pos 0) p) p (drop 1 (fall_summands d c P i j)) (image_sum d c P i j) (image_sum-staged d c P i j)
 
 pub fall_sum-is : (d : ℕ) (c : Vector) (P : Matrix) (i j : ℕ) → fall_sum d c P i j ≡ unless (any_wide (fall_numbers d c P i j)) (fall_entry d c P i j)
 fall_sum-is d c P i j = fall_sum-staged d c P i j ∙ ap (sum_from (pos 0)) (fall_summands-are d c P i j) ∙ terms_sum (fall_terms d c P i j)

@@ -1,6 +1,7 @@
 pub mod Dominance
 pub mod FallLemmas
 pub mod OfferLemmas
+pub mod Padded
 pub mod Passing
 pub mod PassingOffers
 pub mod Places

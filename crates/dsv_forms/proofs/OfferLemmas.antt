@@ -71,7 +71,7 @@ semidefinite_same p d s c P F w =
     ∙ sym (semidefinite_parts p d s T numbers)
 
 -- ---- the fall form of an accepted offer
-fall_form-turned : (d : ℕ) (c : Vector) (P : Matrix) → is_symmetric d P ≡ true → (i j : ℕ) → i < d → j < d → companion_fall_form d c P i j ≡ companion_fall_form d c P j i
+pub fall_form-turned : (d : ℕ) (c : Vector) (P : Matrix) → is_symmetric d P ≡ true → (i j : ℕ) → i < d → j < d → companion_fall_form d c P i j ≡ companion_fall_form d c P j i
 fall_form-turned d c P h i j a b =
     rw (symmetric_at d P h i j a b, congruence-turned d P (companion c) i j (symmetric_at d P h)) refl
 
@@ -82,7 +82,7 @@ entry_had true m x t h e n = absurd (apart (wide_left m h) (ap (λ z. is_narrow 
     apart h k = cc
 entry_had false m x t h e n = e
 
-companion_at : (d : ℕ) (c : Vector) (P : Matrix) (i j : ℕ) → i < d → companion_fall_form d c P i j ≡ fall_entry d c P i j
+pub companion_at : (d : ℕ) (c : Vector) (P : Matrix) (i j : ℕ) → i < d → companion_fall_form d c P i j ≡ fall_entry d c P i j
 companion_at zero c P i j h = absurd (omega arith)
 companion_at (suc d) c P i j h = companion_fall_form-is d c P i j
 

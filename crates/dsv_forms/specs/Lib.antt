@@ -1,4 +1,5 @@
 pub mod FallForm
+pub mod Padded
 pub mod Poly
 pub mod Refusals
 pub mod Sums

@@ -1,4 +1,4 @@
--- For private contracts: sums that are given up where a number on the way passes 2^126.
+-- Sums that are given up where a number on the way passes 2^126.
 use Rattle.std.specs.Prelude.{◌≡◌, ◌<◌, ◌≤◌, ◌⊎◌, min, max, ℕ}
 use Rattle.std.specs.Prelude.{List, [], ◌∷◌, if◌then◌else◌}
 use Rattle.std.specs.Prelude.{Option, Some, None, ℤ, pos}
@@ -57,12 +57,11 @@ abbrev pub summand_where : Bool → Summand → List Summand
 summand_where true t = t ∷ []
 summand_where false t = []
 
--- an entry of the fall form, term by term
-abbrev pub fall_sum : ℕ → Vector → Matrix → ℕ → ℕ → Option ℤ
-fall_sum d c P i j =
+-- the sum less an entry of C^T P C, term by term
+abbrev pub image_sum : ℕ → Vector → Matrix → ℕ → ℕ → ℤ → Option ℤ
+image_sum d c P i j sum =
     let below = nat_lt (i + 1) d in
     let after = nat_lt (j + 1) d in
-    option_and_then (λ s.
     option_and_then (λ s.
     option_and_then (λ s.
     option_and_then (λ s.
@@ -71,8 +70,12 @@ fall_sum d c P i j =
     else Some s)
     (sum_from s (summand_where below (product (c 0) (c (j + 1)) (P (i + 1) 0)))))
     (sum_from s (summand_where after (product (c (i + 1)) (c 0) (P 0 (j + 1))))))
-    (sum_with s (product (neg_ℤ (c (i + 1))) (c (j + 1)) (P 0 0))))
-    (sum_with (pos 0) (product (c 0) (c 0) (P i j)))
+    (sum_with sum (product (neg_ℤ (c (i + 1))) (c (j + 1)) (P 0 0)))
+
+-- an entry of the fall form, term by term
+abbrev pub fall_sum : ℕ → Vector → Matrix → ℕ → ℕ → Option ℤ
+fall_sum d c P i j =
+    option_and_then (λ s. image_sum d c P i j s) (sum_with (pos 0) (product (c 0) (c 0) (P i j)))
 
 -- the number, or one that is too wide
 abbrev pub or_too_wide : Option ℤ → ℤ

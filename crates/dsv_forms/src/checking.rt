@@ -37,6 +37,7 @@ pub fn check_falls(poly: &Poly, offer: &Falls) -> Result<Form, FormRefusal>
     ensures fall { IfOk result
         (λ fall. IsFallForm (length poly.now - 1) (vector_of poly.now) offer.now.form fall) }
     ensures places { OnOk result (offer.now.form.d + 1 ≡ length poly.now) }
+    ensures few { OnOk result (offer.now.form.d ≤ greatest_order) }
 {
     check_form(poly, &offer.form)?;
     check_definite(&offer.form, &offer.positive, Part::Positive)?;

@@ -6,7 +6,7 @@ ghost use Rattle.std.specs.Prelude.{length, Bool, true, pos};
 ghost use Rattle.std.specs.Prelude.{neg_ℤ, slice_index_or, min, max, ◌⊎◌};
 ghost use Rattle.dsv_algebra.specs.Vectors.{vector_of, matrix_of};
 ghost use Rattle.dsv_forms.specs.Poly.{greatest_order, most_coefficients};
-ghost use Rattle.dsv_forms.specs.Sums.{sum_from, summand_where, product, fall_sum};
+ghost use Rattle.dsv_forms.specs.Sums.{sum_from, summand_where, product, image_sum, fall_sum};
 ghost use Rattle.dsv_forms.specs.Sums.{or_too_wide, IsFallOrWide};
 
 use crate::matrix::entry_or_zero;
@@ -50,21 +50,25 @@ fn positive(number: &i64) -> NarrowInteger
     NarrowInteger::from(*number)
 }
 
-/// An entry of what the form loses in a step, where no number on the way is too wide.
-fn fall_entry(c: &[i64], form: &Form, i: usize, j: usize) -> Option<NarrowInteger>
+/// The sum less an entry of the form after a step, where no number on the way is too wide.
+fn sum_less_image(
+    sum: NarrowInteger,
+    c: &[i64],
+    form: &Form,
+    i: usize,
+    j: usize,
+) -> Option<NarrowInteger>
     requires some { i + 1 < length c.now }
     requires others { j + 1 < length c.now }
     requires few { length c.now ≤ most_coefficients }
     ensures { result
-        ≡ fall_sum (length c.now - 1) (vector_of c.now) (matrix_of form.now.rows) i j }
+        ≡ image_sum (length c.now - 1) (vector_of c.now) (matrix_of form.now.rows) i j sum }
 {
     let d = c.len() - 1;
     let (below, after) = (i + 1 < d, j + 1 < d);
     let lead = positive(&c[0]);
     let (row, column) = (positive(&c[i + 1]), positive(&c[j + 1]));
-    let zero = NarrowInteger::from(0i64);
     let p = &form.rows;
-    let sum = sum_with_product(zero, lead, lead, entry_or_zero(p, i, j))?;
     let sum = sum_with_product(sum, negative(&c[i + 1]), column, entry_or_zero(p, 0, 0))?;
     let first_row = Term {
         a: row,
@@ -88,6 +92,33 @@ fn fall_entry(c: &[i64], form: &Form, i: usize, j: usize) -> Option<NarrowIntege
     } else {
         Some(sum)
     }
+}
+
+/// The number that has the size of an entry of C^T P C and the other sign, where C is the companion
+/// matrix of the polynomial with these coefficients and P the form: `None` where a number on the
+/// way passes 2^126. The place is one of the form's.
+pub fn negative_image_entry(c: &[i64], form: &Form, i: usize, j: usize) -> Option<NarrowInteger>
+    requires some { i + 1 < length c.now }
+    requires others { j + 1 < length c.now }
+    requires few { length c.now ≤ most_coefficients }
+    ensures { result
+        ≡ image_sum (length c.now - 1) (vector_of c.now) (matrix_of form.now.rows) i j (pos 0) }
+{
+    sum_less_image(NarrowInteger::from(0i64), c, form, i, j)
+}
+
+/// An entry of what the form loses in a step, where no number on the way is too wide.
+fn fall_entry(c: &[i64], form: &Form, i: usize, j: usize) -> Option<NarrowInteger>
+    requires some { i + 1 < length c.now }
+    requires others { j + 1 < length c.now }
+    requires few { length c.now ≤ most_coefficients }
+    ensures { result
+        ≡ fall_sum (length c.now - 1) (vector_of c.now) (matrix_of form.now.rows) i j }
+{
+    let lead = positive(&c[0]);
+    let zero = NarrowInteger::from(0i64);
+    let sum = sum_with_product(zero, lead, lead, entry_or_zero(&form.rows, i, j))?;
+    sum_less_image(sum, c, form, i, j)
 }
 
 /// An entry of what the form loses in a step, or a number that is too wide where one on the way is.
@@ -121,9 +152,10 @@ fn fall_row(c: &[i64], form: &Form, i: usize) -> [i128; GREATEST_ORDER]
     row
 }
 
-/// What the form loses in a step of the polynomial with these coefficients. An entry with a number
-/// on the way that is too wide is given as one that is too wide.
-pub(crate) fn fall_form(c: &[i64], form: &Form) -> Form
+/// What the form loses in a step of the polynomial with these coefficients, of which there are one
+/// to nine. It has as many places as the polynomial's order, and is 0 elsewhere. An entry with a
+/// number on the way that passes 2^126 is given as 2^126.
+pub fn fall_form(c: &[i64], form: &Form) -> Form
     requires some { 0 < length c.now }
     requires few { length c.now ≤ most_coefficients }
     ensures places { result.d + 1 ≡ length c.now }

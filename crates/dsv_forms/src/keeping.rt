@@ -109,6 +109,7 @@ pub fn check_kept_away(poly: &Poly, offer: &KeptAway) -> Result<(Form, i128), Fo
         ≡ form_at (length poly.now - 1) (matrix_of offer.now.form.rows)
         (vector_of offer.now.start)) }
     ensures places { OnOk result (offer.now.form.d + 1 ≡ length poly.now) }
+    ensures few { OnOk result (offer.now.form.d ≤ greatest_order) }
 {
     check_form(poly, &offer.form)?;
     let fall = fall_form(poly.coefficients(), &offer.form);

@@ -13,8 +13,9 @@ mod squares;
 mod sums;
 
 pub use checking::check_falls;
+pub use fall::{fall_form, negative_image_entry};
 pub use keeping::check_kept_away;
 pub use offers::{Falls, Form, FormOffer, GREATEST_ORDER, KeptAway, Squares};
 pub use poly::{BadPoly, GREATEST_COEFFICIENT, MOST_COEFFICIENTS, Poly};
 pub use refusal::{FormRefusal, Part};
-pub use squares::{check_definite, check_semidefinite};
+pub use squares::{check_definite, check_semidefinite, sum_of_squares};

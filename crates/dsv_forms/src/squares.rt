@@ -118,8 +118,9 @@ fn sum_with_square(
     sum_with_product(sum, weight, entry(rows, k, i), entry(rows, k, j))
 }
 
-/// The sum of the first n squares at a place, where no number on the way is too wide.
-fn sum_of_squares(squares: &Squares, n: usize, i: usize, j: usize) -> Option<NarrowInteger>
+/// The sum of the first n squares at a place, n at most eight: `None` where a number on the way
+/// passes 2^126.
+pub fn sum_of_squares(squares: &Squares, n: usize, i: usize, j: usize) -> Option<NarrowInteger>
     requires few { n ≤ greatest_order }
     requires row { i < greatest_order }
     requires column { j < greatest_order }

@@ -1,14 +1,17 @@
 -- What an answer says of a polynomial.
-use Rattle.std.specs.Prelude.{◌≡◌, ◌-◌, ◌≤◌, Bool, true, false, List, length, ℤ}
+use Rattle.std.specs.Prelude.{◌≡◌, ◌-◌, ◌≤◌, List, length, Option, Some, None, ℤ}
 use Rattle.dsv_algebra.specs.Vectors.{form_at, vector_of, matrix_of}
 use Rattle.dsv_algebra.specs.Companion.{StrictlyFallsAlong, IsKeptAwayAlong}
 use Rattle.dsv_forms.specs.declared.offers.Form.{Form}
 use Rattle.dsv_forms.specs.declared.offers.FormOffer.{FormOffer}
 use Rattle.dsv_forms.specs.declared.offers.FormOffer.TheVariants as offered
+use Rattle.dsv_forms.specs.declared.refusal.FormRefusal.{FormRefusal}
 use Rattle.dsv_forms.specs.FallForm.{IsFallForm}
 use Rattle.dsv_forms.specs.Poly.{most_coefficients}
-use Rattle.dsv_lyapunov.specs.declared.deciding.FormAnswer.{FormAnswer}
-use Rattle.dsv_lyapunov.specs.declared.deciding.FormAnswer.TheVariants as answer
+use Rattle.dsv_forms.specs.Refusals.{falls_refusal, kept_away_refusal}
+use Rattle.dsv_closed_forms.specs.ClosedForm.{IsAccepted}
+use Rattle.dsv_lyapunov.specs.declared.checked_form.CheckedForm.{CheckedForm}
+use Rattle.dsv_lyapunov.specs.declared.checked_form.CheckedForm.TheVariants as form
 
 -- The form strictly falls along each trajectory of the polynomial, and loses the fall form in a
 -- step.
@@ -30,18 +33,28 @@ pub record IsKeptAwayFrom (poly : List ℤ) (form : Form) (start : List ℤ) (fa
   pub fall_form : IsFallForm (length poly - 1) (vector_of poly) form fall
   pub few : length poly ≤ most_coefficients
 
--- what an answer shows of the polynomial
-abbrev pub IsShown : List ℤ → FormAnswer → Type 0
-IsShown poly (answer.Falls offer fall) = IsStable poly offer.form fall
-IsShown poly (answer.KeptAway offer fall value) =
+-- what a checked form shows of the polynomial
+abbrev pub IsShown : List ℤ → CheckedForm → Type 0
+IsShown poly (form.Falls offer fall) = IsStable poly offer.form fall
+IsShown poly (form.KeptAway offer fall value) =
     IsKeptAwayFrom poly offer.form offer.start fall value
 
--- the offer of an answer
-abbrev pub offer_of : FormAnswer → FormOffer
-offer_of (answer.Falls falls fall) = offered.Falls falls
-offer_of (answer.KeptAway away fall value) = offered.KeptAway away
+-- the offer of a checked form
+abbrev pub offer_in : CheckedForm → FormOffer
+offer_in (form.Falls falls fall) = offered.Falls falls
+offer_in (form.KeptAway away fall value) = offered.KeptAway away
 
--- whether the answer is that the form falls
-abbrev pub is_falls : FormAnswer → Bool
-is_falls (answer.Falls offer fall) = true
-is_falls (answer.KeptAway offer fall value) = false
+-- why an offer isn't accepted for a polynomial
+abbrev pub offer_refusal : List ℤ → FormOffer → Option FormRefusal
+offer_refusal poly (offered.Falls falls) = falls_refusal poly falls
+offer_refusal poly (offered.KeptAway away) = kept_away_refusal poly away
+
+-- an offer came, and its check accepts it
+abbrev pub GivesAccepted : List ℤ → Option FormOffer → Type 0
+GivesAccepted poly None = ⊥
+GivesAccepted poly (Some offer) = IsAccepted poly offer
+
+-- there is one
+abbrev pub IsThere : {A : Type 0} → Option A → Type 0
+IsThere None = ⊥
+IsThere (Some x) = Unit {0}

@@ -1,3 +1,2 @@
 pub mod Answers
-pub mod ClosedForm
-pub mod Reduced
+pub mod Kept

@@ -1,14 +1,13 @@
-//! Decides whether the trajectories of a polynomial fall, by forms that are checked.
+//! Forms that show whether the trajectories of a polynomial fall: objects that offer them and need
+//! no trust, the one that is built in, and what a checked offer shows.
 #![tactic(auto)]
 
-mod closing;
-mod deciding;
-mod law;
-mod reducing;
-#[cfg(test)]
-mod tests;
+mod checked_form;
+mod kept;
+mod proposer;
+mod sum_proposer;
 
-pub use closing::closed_form;
-pub use deciding::{FormAnswer, decide};
-pub use law::closed_forms_are_accepted;
-pub use reducing::reduced_polynomial;
+pub use checked_form::{CheckedForm, check_offer};
+pub use kept::{KeptForm, KeptForms};
+pub use proposer::FormProposer;
+pub use sum_proposer::SumProposer;

@@ -71,6 +71,7 @@ are_names-overflow_modes = record { found = named-overflow_mode_name; only = nam
 
 named-property_name : (v : Property) → value_named property_name properties (property_name v) ≡ Some v
 named-property_name property.Stability = refl
+named-property_name property.MinimumPhase = refl
 
 pub are_names-properties : AreNames property_name properties
 are_names-properties = record { found = named-property_name; only = name-named property_name properties }

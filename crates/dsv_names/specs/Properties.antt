@@ -5,6 +5,7 @@ use Rattle.dsv_names.specs.declared.property.Property.TheVariants as property
 
 abbrev pub property_name : Property → List ℕ
 property_name property.Stability = codes "STABILITY"
+property_name property.MinimumPhase = codes "MINIMUM_PHASE"
 
 abbrev pub properties : List Property
-properties = property.Stability ∷ []
+properties = property.Stability ∷ property.MinimumPhase ∷ []

@@ -6,6 +6,8 @@ use crate::Named;
 pub enum Property {
     /// All poles of the controller are inside the unit circle.
     Stability,
+    /// All zeros of the controller are inside the unit circle.
+    MinimumPhase,
 }
 
 impl Named for Property {
@@ -18,10 +20,11 @@ impl Named for Property {
     fn name(self) -> &'static str {
         match self {
             Property::Stability => "STABILITY",
+            Property::MinimumPhase => "MINIMUM_PHASE",
         }
     }
 
     fn all() -> &'static [Property] {
-        &[Property::Stability]
+        &[Property::Stability, Property::MinimumPhase]
     }
 }

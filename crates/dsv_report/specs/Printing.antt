@@ -11,13 +11,15 @@ use Rattle.dsv_report.specs.declared.answers.Answer.TheVariants as answer
 abbrev pub HasPlaces : Answer → Type 0
 HasPlaces (answer.Falls poly offer fall) = (offer.form.d ≤ 8) × (fall.d ≤ 8)
 HasPlaces (answer.KeptAway poly offer fall value) = (offer.form.d ≤ 8) × (fall.d ≤ 8)
+HasPlaces answer.NoZeros = Unit {0}
+HasPlaces (answer.NoForm poly kept verdict) = Unit {0}
+HasPlaces (answer.Wide index) = Unit {0}
 HasPlaces (answer.Simulated found) = Unit {0}
 HasPlaces answer.Usage = Unit {0}
 HasPlaces (answer.FileRefused refusal) = Unit {0}
 HasPlaces answer.FileTooLong = Unit {0}
 HasPlaces (answer.QuantRefused refusal) = Unit {0}
 HasPlaces (answer.InputRange index value) = Unit {0}
-HasPlaces answer.NotYet = Unit {0}
 HasPlaces (answer.ReadFault file) = Unit {0}
 HasPlaces answer.NoMemory = Unit {0}
 

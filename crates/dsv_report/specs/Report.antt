@@ -1,6 +1,6 @@
 -- The text of an answer to a job, and its status.
 use Rattle.std.specs.Prelude.{ℕ, ◌+◌, pos, List, [], ◌∷◌, ◌++◌}
-use Rattle.std.specs.Prelude.{take, codes, Option, Some, None, ℤ}
+use Rattle.std.specs.Prelude.{length, take, codes, Option, Some, None, ℤ}
 use Rattle.std.specs.List.{flat_map}
 use Rattle.std.specs.Fmt.{signed_decimal}
 use Rattle.dsv_names.specs.Properties.{property_name}
@@ -8,6 +8,8 @@ use Rattle.dsv_names.specs.Realisations.{realisation_name}
 use Rattle.dsv_names.specs.declared.realisation.Realisation.{Realisation}
 use Rattle.dsv_base.specs.Text.{spaced_text, line_of}
 use Rattle.dsv_forms.specs.declared.offers.Form.{Form}
+use Rattle.dsv_jury.specs.declared.verdict.Jury.{Jury}
+use Rattle.dsv_jury.specs.declared.verdict.Jury.TheVariants as jury
 use Rattle.dsv_system.specs.Runs.{SampleRow}
 use Rattle.dsv_command.specs.Jobs.{Task, decides, simulates, Asked}
 use Rattle.dsv_report.specs.Fragments.{concatenation}
@@ -22,6 +24,9 @@ successful = codes "VERIFICATION SUCCESSFUL\n"
 
 unfoldable pub failed : List ℕ
 failed = codes "VERIFICATION FAILED\n"
+
+unfoldable pub inconclusive : List ℕ
+inconclusive = codes "VERIFICATION INCONCLUSIVE\n"
 
 unfoldable pub simulation : List ℕ
 simulation = codes "SIMULATION\n"
@@ -65,6 +70,31 @@ abbrev pub start_text : List ℤ → ℤ → List ℕ
 start_text start value = codes "start" ++ flat_map (spaced_text signed_decimal) start
     ++ value_text value
 
+-- ---- polynomials that no form decides
+abbrev pub no_zeros_text : List ℕ
+no_zeros_text = codes "no zeros to test\n"
+
+-- a word and a number after it, up to the end of the line
+abbrev pub number_line : List ℕ → ℕ → List ℕ
+number_line word number =
+    concatenation (word ∷ signed_decimal (pos number) ∷ codes "\n" ∷ [])
+
+abbrev pub jury_text : Jury → List ℕ
+jury_text jury.Inside = codes "jury inside\n"
+jury_text (jury.NotInside row) = number_line (codes "jury not-inside ") row
+jury_text (jury.Wide row) = number_line (codes "jury wide ") row
+
+abbrev pub offers_text : ℕ → List ℕ
+offers_text offers = number_line (codes "cause NO_FORM offers ") offers
+
+-- the polynomial, how many offers for it were refused, and what Jury's recursion says
+abbrev pub no_form_text : List ℤ → ℕ → Jury → List ℕ
+no_form_text poly offers verdict =
+    numbers_line (codes "polynomial") poly ++ (offers_text offers ++ jury_text verdict)
+
+abbrev pub wide_text : ℕ → List ℕ
+wide_text index = number_line (codes "cause WIDE index ") index
+
 -- ---- simulations
 -- the number, the input and the output of a sample
 abbrev pub sample_head : ℕ → ℤ → ℤ → List ℕ
@@ -89,25 +119,30 @@ text_of job (answer.Falls poly offer fall) =
 text_of job (answer.KeptAway poly offer fall value) =
     heading failed job ++ form_text poly offer.form fall
     ++ start_text (take offer.form.d offer.start) value
+text_of job answer.NoZeros = heading failed job ++ no_zeros_text
+text_of job (answer.NoForm poly kept verdict) =
+    heading inconclusive job ++ no_form_text poly (length kept) verdict
+text_of job (answer.Wide index) = heading inconclusive job ++ wide_text index
 text_of job (answer.Simulated rows) = heading simulation job ++ samples_text 0 rows
 text_of job answer.Usage = codes "USAGE\n"
 text_of job (answer.FileRefused r) = file_text r
 text_of job answer.FileTooLong = codes "FILE REFUSED 12 TOO_LONG at 65536\n"
 text_of job (answer.QuantRefused r) = quant_text r
 text_of job (answer.InputRange index value) = input_text index value
-text_of job answer.NotYet = codes "FILE REFUSED 13 NOT_YET\n"
 text_of job (answer.ReadFault file.Controller) = codes "READ FAULT CONTROLLER\n"
 text_of job answer.NoMemory = codes "NO MEMORY\n"
 
 abbrev pub status_of : Answer → ℕ
 status_of (answer.Falls poly offer fall) = 0
 status_of (answer.KeptAway poly offer fall value) = 10
+status_of answer.NoZeros = 10
+status_of (answer.NoForm poly kept verdict) = 20
+status_of (answer.Wide index) = 20
 status_of (answer.Simulated rows) = 0
 status_of answer.Usage = 1
 status_of (answer.FileRefused r) = 2
 status_of answer.FileTooLong = 2
 status_of (answer.QuantRefused r) = 2
 status_of (answer.InputRange index value) = 2
-status_of answer.NotYet = 2
 status_of (answer.ReadFault file.Controller) = 3
 status_of answer.NoMemory = 5

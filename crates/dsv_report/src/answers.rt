@@ -1,5 +1,7 @@
 // What the command answers.
 use dsv_forms::{Falls, Form, KeptAway, Poly};
+use dsv_jury::Jury;
+use dsv_lyapunov::KeptForms;
 use dsv_quantiser::QuantRefusal;
 use dsv_reader::FileRefusal;
 use dsv_system::Rows;
@@ -28,6 +30,19 @@ pub enum Answer {
         fall: Form,
         value: i128,
     },
+    /// All coefficients of the numerator are 0, so that there are no zeros to test.
+    NoZeros,
+    /// The polynomial has no closed form, and no proposer offered a form that its check accepts:
+    /// all offers with their refusals, and what Jury's recursion says.
+    NoForm {
+        poly: Poly,
+        kept: KeptForms,
+        jury: Jury,
+    },
+    /// The number with this index, or one on the way to it, is too wide for a polynomial.
+    Wide {
+        index: u32,
+    },
     /// The rows of the controller over the inputs of the job, from registers of zeros.
     Simulated(Rows),
     /// The command line is not valid: its arguments ask for no job.
@@ -44,9 +59,6 @@ pub enum Answer {
         index: u32,
         value: i128,
     },
-    /// The controller isn't decided yet: its order is 2 or more, or the realisation is a delta
-    /// form.
-    NotYet,
     /// The file couldn't be read.
     ReadFault(WhichFile),
     NoMemory,

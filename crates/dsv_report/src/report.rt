@@ -17,6 +17,7 @@ use crate::refusals::{put_file_refusal, put_input_range, put_quant_refusal};
 use dsv_base::{Failed, Sink, put_all, put_line, put_spaced};
 use dsv_command::{Job, Task};
 use dsv_forms::{Form, KeptAway, Poly};
+use dsv_jury::Jury;
 use dsv_names::{Named, Realisation};
 use dsv_system::{Row, Rows};
 use itoa::Integer;
@@ -24,6 +25,8 @@ use itoa::Integer;
 const SUCCESSFUL: &[u8] = b"VERIFICATION SUCCESSFUL\n";
 
 const FAILED: &[u8] = b"VERIFICATION FAILED\n";
+
+const INCONCLUSIVE: &[u8] = b"VERIFICATION INCONCLUSIVE\n";
 
 const SIMULATION: &[u8] = b"SIMULATION\n";
 
@@ -181,6 +184,79 @@ fn put_kept_away<K: Sink>(
     put_start(sink, &offer.start[..offer.form.d as usize], value)
 }
 
+/// Writes that a numerator has no zeros.
+#[tactic(auto, unfolding(crate::specs::Report::failed))]
+fn put_no_zeros<K: Sink>(sink: &mut K, job: Option<&Job>) -> Result<(), Failed>
+    ensures { Writes (K.seen sink.old) (K.seen sink.new) result
+        (report.heading report.failed (asked_in job.entry) ++ report.no_zeros_text) }
+{
+    put_heading(sink, FAILED, job)?;
+    put_all(sink, b"no zeros to test\n")
+}
+
+/// Writes a word and a number after it, up to the end of the line.
+fn put_number_line<K: Sink>(sink: &mut K, word: &[u8], number: u64) -> Result<(), Failed>
+    ensures { Writes (K.seen sink.old) (K.seen sink.new) result
+        (report.number_line word.now number) }
+{
+    put_fragments(
+        sink,
+        &[
+            Fragment::Bytes(word),
+            Fragment::Number(number.into()),
+            Fragment::Bytes(b"\n"),
+        ],
+    )
+}
+
+/// Writes what Jury's recursion says.
+fn put_jury<K: Sink>(sink: &mut K, jury: Jury) -> Result<(), Failed>
+    ensures { Writes (K.seen sink.old) (K.seen sink.new) result (report.jury_text jury) }
+{
+    match jury {
+        Jury::Inside => put_all(sink, b"jury inside\n"),
+        Jury::NotInside { row } => put_number_line(sink, b"jury not-inside ", row.into()),
+        Jury::Wide { row } => put_number_line(sink, b"jury wide ", row.into()),
+    }
+}
+
+/// Writes the polynomial, how many offers for it were refused, and what Jury's recursion says.
+fn put_cause<K: Sink>(sink: &mut K, poly: &Poly, offers: u64, jury: Jury) -> Result<(), Failed>
+    ensures { Writes (K.seen sink.old) (K.seen sink.new) result
+        (report.no_form_text poly.now offers jury) }
+{
+    put_line(sink, b"polynomial", poly.coefficients())?;
+    put_number_line(sink, b"cause NO_FORM offers ", offers)?;
+    put_jury(sink, jury)
+}
+
+/// Writes the text of a polynomial for which no form was found.
+#[tactic(auto, unfolding(crate::specs::Report::inconclusive))]
+fn put_no_form<K: Sink>(
+    sink: &mut K,
+    job: Option<&Job>,
+    poly: &Poly,
+    offers: u64,
+    jury: Jury,
+) -> Result<(), Failed>
+    ensures { Writes (K.seen sink.old) (K.seen sink.new) result
+        (report.heading report.inconclusive (asked_in job.entry)
+        ++ report.no_form_text poly.now offers jury) }
+{
+    put_heading(sink, INCONCLUSIVE, job)?;
+    put_cause(sink, poly, offers, jury)
+}
+
+/// Writes that a number is too wide for a polynomial.
+#[tactic(auto, unfolding(crate::specs::Report::inconclusive))]
+fn put_wide<K: Sink>(sink: &mut K, job: Option<&Job>, index: u64) -> Result<(), Failed>
+    ensures { Writes (K.seen sink.old) (K.seen sink.new) result
+        (report.heading report.inconclusive (asked_in job.entry) ++ report.wide_text index) }
+{
+    put_heading(sink, INCONCLUSIVE, job)?;
+    put_number_line(sink, b"cause WIDE index ", index)
+}
+
 /// Writes a sample's number, its input and its output.
 fn put_sample_head<K: Sink>(sink: &mut K, number: u64, x: &i64, y: &i64) -> Result<(), Failed>
     ensures { Writes (K.seen sink.old) (K.seen sink.new) result
@@ -235,13 +311,13 @@ pub fn status_of(answer: &Answer) -> u8
 {
     match answer {
         Answer::Falls { .. } | Answer::Simulated(_) => 0,
-        Answer::KeptAway { .. } => 10,
+        Answer::KeptAway { .. } | Answer::NoZeros => 10,
+        Answer::NoForm { .. } | Answer::Wide { .. } => 20,
         Answer::Usage => 1,
         Answer::FileRefused(_)
         | Answer::FileTooLong
         | Answer::QuantRefused(_)
-        | Answer::InputRange { .. }
-        | Answer::NotYet => 2,
+        | Answer::InputRange { .. } => 2,
         Answer::ReadFault(WhichFile::Controller) => 3,
         Answer::NoMemory => 5,
     }
@@ -261,13 +337,17 @@ pub fn put_answer<K: Sink>(sink: &mut K, job: Option<&Job>, answer: &Answer) -> 
             fall,
             value,
         } => put_kept_away(sink, job, poly, offer, fall, value),
+        Answer::NoZeros => put_no_zeros(sink, job),
+        Answer::NoForm { poly, kept, jury } => {
+            put_no_form(sink, job, poly, kept.len() as u64, *jury)
+        }
+        Answer::Wide { index } => put_wide(sink, job, u64::from(*index)),
         Answer::Simulated(rows) => put_simulation(sink, job, rows),
         Answer::Usage => put_all(sink, b"USAGE\n"),
         Answer::FileRefused(refusal) => put_file_refusal(sink, *refusal),
         Answer::FileTooLong => put_all(sink, b"FILE REFUSED 12 TOO_LONG at 65536\n"),
         Answer::QuantRefused(refusal) => put_quant_refusal(sink, *refusal),
         Answer::InputRange { index, value } => put_input_range(sink, *index, value),
-        Answer::NotYet => put_all(sink, b"FILE REFUSED 13 NOT_YET\n"),
         Answer::ReadFault(WhichFile::Controller) => put_all(sink, b"READ FAULT CONTROLLER\n"),
         Answer::NoMemory => put_all(sink, b"NO MEMORY\n"),
     }

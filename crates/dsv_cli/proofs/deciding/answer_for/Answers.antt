@@ -1,6 +1,0 @@
-use Rattle.dsv_command.specs.Asking.{asked_of}
-use Rattle.dsv_cli.proofs.Causes.{row_of}
-use Rattle.dsv_cli.proofs.deciding.answer_for.Goals as goal
-
-pub returns-clause-row : goal.returns-clause-row
-returns-clause-row c = row_of (asked_of c.args.job.now) c.args.bytes.now c.bytes_answer.result c.requires c.bytes_answer.ensures.bytes

@@ -1,0 +1,20 @@
+use Rattle.std.proofs.Common.{◌≡◌, ◌≤◌, ◌*◌, ℕ, ◌+◌, ◌-◌, ◌<◌, length, drop}
+use Rattle.dsv_lyapunov.specs.Kept.{AreRefused}
+use Rattle.dsv_cli.specs.Suffixes.{IsSuffix, HoldsOfNone}
+use Rattle.dsv_cli.proofs.deciding.asked_answer.Given as goal
+
+abbrev pub invariant-asking : goal.invariant-asking
+invariant-asking g l = record {
+  room : l.asked < 32;
+  suffix : IsSuffix (λ b. b.ptr) l.fn.forms.items l.forms.items;
+  causes : AreRefused l.poly l.kept;
+  live : l.asked ≤ 31 * length l.forms.items;
+  few : length l.kept + 32 * length l.forms.items ≤ 32 * length l.fn.forms.items + l.asked;
+  unasked : l.asked ≡ 0 → HoldsOfNone (λ b. (goal.FormProposer-dyn g (b.vtable, b.value)).sure b.value l.poly) l.forms.items
+      → HoldsOfNone (λ b. (goal.FormProposer-dyn g (b.vtable, b.value)).sure b.value l.poly) l.fn.forms.items;
+  asked : 0 < l.asked → HoldsOfNone (λ b. (goal.FormProposer-dyn g (b.vtable, b.value)).sure b.value l.poly) (drop 1 l.forms.items)
+      → HoldsOfNone (λ b. (goal.FormProposer-dyn g (b.vtable, b.value)).sure b.value l.poly) l.fn.forms.items;
+}
+
+abbrev pub decreases-asking : goal.decreases-asking
+decreases-asking g l = 33 * length l.forms.items - l.asked

@@ -1,0 +1,45 @@
+-- For private contracts: what comes of asking proposers.
+use Rattle.std.specs.Prelude.{◌≡◌, List, Result, Ok, Err, ℤ}
+use Rattle.dsv_base.specs.declared.memory.NoMemory.{NoMemory}
+use Rattle.dsv_forms.specs.declared.offers.FormOffer.{FormOffer}
+use Rattle.dsv_closed_forms.specs.ClosedForm.{IsAccepted}
+use Rattle.dsv_jury.specs.declared.verdict.Jury.{Jury}
+use Rattle.dsv_lyapunov.specs.declared.kept.KeptForm.{KeptForm}
+use Rattle.dsv_lyapunov.specs.declared.checked_form.CheckedForm.{CheckedForm}
+use Rattle.dsv_lyapunov.specs.Answers.{offer_in, IsShown}
+use Rattle.dsv_lyapunov.specs.Kept.{IsRefused}
+use Rattle.dsv_cli.specs.declared.asking.Asked.{Asked}
+use Rattle.dsv_cli.specs.declared.asking.Asked.TheVariants as asked
+use Rattle.dsv_cli.specs.declared.deciding.FormAnswer.{FormAnswer}
+use Rattle.dsv_cli.specs.declared.deciding.FormAnswer.TheVariants as answer
+
+-- ---- asking once
+abbrev pub IsJudged : List ℤ → Asked → Type 0
+IsJudged poly asked.Nothing = Unit {0}
+IsJudged poly (asked.Accepted found) = IsAccepted poly (offer_in found) × IsShown poly found
+IsJudged poly (asked.Refused kept) = IsRefused poly kept
+
+abbrev pub IfAccepted : Asked → (CheckedForm → Type 0) → Type 0
+IfAccepted asked.Nothing P = Unit {0}
+IfAccepted (asked.Accepted found) P = P found
+IfAccepted (asked.Refused kept) P = Unit {0}
+
+abbrev pub IsNotAccepted : Asked → Type 0
+IsNotAccepted asked.Nothing = Unit {0}
+IsNotAccepted (asked.Accepted found) = ⊥
+IsNotAccepted (asked.Refused kept) = Unit {0}
+
+-- ---- asking all
+abbrev pub IfChecked : FormAnswer → (CheckedForm → Type 0) → Type 0
+IfChecked (answer.Checked found) P = P found
+IfChecked (answer.NoForm kept jury) P = Unit {0}
+
+abbrev pub IfNoForm : FormAnswer → (List KeptForm → Jury → Type 0) → Type 0
+IfNoForm (answer.Checked found) P = Unit {0}
+IfNoForm (answer.NoForm kept jury) P = P kept jury
+
+-- the answer is this offer, checked
+abbrev pub IsChecked : Result FormAnswer NoMemory → FormOffer → Type 0
+IsChecked (Ok (answer.Checked found)) offer = offer_in found ≡ offer
+IsChecked (Ok (answer.NoForm kept jury)) offer = ⊥
+IsChecked (Err e) offer = ⊥

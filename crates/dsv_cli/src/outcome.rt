@@ -1,0 +1,117 @@
+// Finds what a job comes to on the bytes of a controller file.
+ghost use Rattle.std.specs.Prelude.{◌≡◌, ◌≤◌, length};
+ghost use Rattle.dsv_command.specs.Asking.{asked_task, asked_of};
+ghost use Rattle.dsv_cli.specs.Headline.{longest_file, IsFormatOf, side_of};
+ghost use Rattle.dsv_cli.specs.Causes.{IsOfProperty, IsOfTask, IsOfController};
+ghost use Rattle.dsv_cli.specs.Causes.{IsOfBytes, HasRowOf, AnswersPlainly};
+
+use crate::simulating::simulated_answer;
+use dsv_command::{Design, Job, Task};
+use dsv_delta::PolyWide;
+use dsv_forms::Poly;
+use dsv_names::Property;
+use dsv_quantiser::{Quantised, quantise};
+use dsv_reader::{Controller, FileRefusal, read};
+use dsv_report::Answer;
+use dsv_tested::{Side, Tested, tested};
+use dsv_word::Format;
+use std::alloc::Global;
+
+/// What a job on a file comes to.
+#[derive(Drop)]
+pub enum Outcome {
+    /// This answer.
+    Answered(Answer),
+    /// The answer on this polynomial, which has to be decided.
+    Undecided(Poly),
+}
+
+/// The format of a controller's words in a design.
+fn format_of(controller: &Controller, design: Design) -> Format
+    ensures { IsFormatOf controller.now design result }
+{
+    let format = Format::new(
+        controller.int_bits(),
+        controller.frac_bits(),
+        design.rounding,
+        design.overflow,
+    );
+    match format {
+        Ok(format) => format,
+        Err(_) => unreachable!(),
+    }
+}
+
+/// The side of a controller that a property tests.
+fn side_of(property: Property) -> Side
+    ensures { result ≡ side_of property }
+{
+    match property {
+        Property::Stability => Side::Denominator,
+        Property::MinimumPhase => Side::Numerator,
+    }
+}
+
+/// What a property of a controller in words comes to.
+fn property_outcome(words: &Quantised, property: Property) -> Outcome
+    ensures property { IsOfProperty property words.now result }
+    ensures plain { AnswersPlainly result }
+{
+    match tested(words, side_of(property)) {
+        Ok(Tested::Poly(poly)) => Outcome::Undecided(poly),
+        Ok(Tested::NoZeros) => Outcome::Answered(Answer::NoZeros),
+        Err(PolyWide { index }) => Outcome::Answered(Answer::Wide { index }),
+    }
+}
+
+/// What a task for a controller in words comes to.
+fn task_outcome(alloc: Global, words: &Quantised, task: &Task) -> Outcome
+    ensures task { IsOfTask (asked_task task.now) words.now result }
+    ensures plain { AnswersPlainly result }
+{
+    match task {
+        Task::Decide(property) => property_outcome(words, *property),
+        Task::Simulate(inputs) => {
+            Outcome::Answered(simulated_answer(alloc, words, inputs.as_slice()))
+        }
+    }
+}
+
+/// What a task for a controller comes to.
+fn controller_outcome(
+    alloc: Global,
+    controller: &Controller,
+    design: Design,
+    task: &Task,
+) -> Outcome
+    ensures controller { IsOfController controller.now design (asked_task task.now) result }
+    ensures plain { AnswersPlainly result }
+{
+    let format = format_of(controller, design);
+    match quantise(controller, format, design.realisation) {
+        Ok(words) => task_outcome(alloc, &words, task),
+        Err(refusal) => Outcome::Answered(Answer::QuantRefused(refusal)),
+    }
+}
+
+/// What a job on a file of these bytes comes to.
+fn bytes_outcome(alloc: Global, bytes: &[u8], job: &Job) -> Outcome
+    requires { length bytes.now ≤ longest_file }
+    ensures bytes { IsOfBytes (asked_of job.now) bytes.now result }
+    ensures plain { AnswersPlainly result }
+{
+    match read(alloc, bytes) {
+        Ok(controller) => controller_outcome(alloc, &controller, job.design, &job.task),
+        Err(FileRefusal::NoMemory) => Outcome::Answered(Answer::NoMemory),
+        Err(refusal) => Outcome::Answered(Answer::FileRefused(refusal)),
+    }
+}
+
+/// What a job on a file of these bytes comes to, with its row.
+pub fn outcome_of(alloc: Global, bytes: &[u8], job: &Job) -> Outcome
+    requires { length bytes.now ≤ longest_file }
+    ensures row { HasRowOf (asked_of job.now) bytes.now result }
+    ensures plain { AnswersPlainly result }
+{
+    bytes_outcome(alloc, bytes, job)
+}

@@ -1,0 +1,151 @@
+// Proposers that need no trust: the command asks them, drops them, and stays right.
+ghost use Rattle.std.specs.Prelude.{nat_eq};
+
+use dsv_base::{MemSink, SilentFiles};
+use dsv_cli::{FormProposer, SumProposer, run};
+use dsv_forms::{Falls, Form, FormOffer, FormRefusal, GREATEST_ORDER, KeptAway, Poly, Squares};
+use std::alloc::Global;
+use std::cell::Cell;
+use std::rc::Rc;
+use std::test::Fail;
+
+/// The roots of z^3 = -2, which are outside the unit circle.
+const NO_FORM: &[u8] = b"digital_system d = { .b = {1.0}, .b_size = 1, \
+      .a = {1.0, 0.0, 0.0, 2.0}, .a_size = 4 }; \
+      implementation r = { .int_bits = 3, .frac_bits = 13, .max = 1.0, .min = -1.0 };";
+
+/// The roots of 2 z^3 = 1.
+const THIRD_ROOT: &[u8] = b"digital_system d = { .b = {1.0}, .b_size = 1, \
+      .a = {1.0, 0.0, 0.0, -0.5}, .a_size = 4 }; \
+      implementation r = { .int_bits = 2, .frac_bits = 14, .max = 1.0, .min = -1.0 };";
+
+const NO_FORM_TEXT: &[u8] = b"VERIFICATION INCONCLUSIVE\nproperty STABILITY realization DFI\n\
+      polynomial 1 0 0 2\ncause NO_FORM offers 32\njury not-inside 0\n";
+
+const THIRD_ROOT_TEXT: &[u8] = b"VERIFICATION SUCCESSFUL\nproperty STABILITY realization DFI\n\
+      polynomial 2 0 0 -1\n\
+      form 3145728 0 0\nform 0 2359296 0\nform 0 0 1572864\n\
+      fall 3145728 0 0\nfall 0 3145728 0\nfall 0 0 3145728\n";
+
+const SQUARES: Squares = Squares {
+    m: 1,
+    count: 0,
+    weights: [0; GREATEST_ORDER],
+    rows: [[0; GREATEST_ORDER]; GREATEST_ORDER],
+    rest: [[0; GREATEST_ORDER]; GREATEST_ORDER],
+};
+
+/// A form of three places whose entries are all this number.
+fn form_of(entry: i128) -> Form {
+    Form {
+        d: 3,
+        rows: [[entry; GREATEST_ORDER]; GREATEST_ORDER],
+    }
+}
+
+/// An offer of a form of three places whose entries are all this number.
+fn kept_away(entry: i128) -> FormOffer {
+    FormOffer::KeptAway(KeptAway {
+        form: form_of(entry),
+        start: [1; GREATEST_ORDER],
+        fall: SQUARES,
+    })
+}
+
+/// An offer of such a form that is to fall.
+fn falls(entry: i128) -> FormOffer {
+    FormOffer::Falls(Falls {
+        form: form_of(entry),
+        positive: SQUARES,
+        fall: SQUARES,
+    })
+}
+
+/// Offers a form a number of times, and counts the refusals that it hears.
+#[derive(Drop)]
+struct Stubborn {
+    offer: FormOffer,
+    left: u32,
+    last: Option<FormOffer>,
+    heard: Rc<Cell<u32>>,
+}
+
+impl FormProposer for Stubborn {
+    ghost last = { λ s. s.last };
+
+    ghost dry = { λ s. nat_eq s.left 0 };
+
+    ghost sure = { λ _ _. ⊥ };
+
+    fn propose(&mut self, _poly: &Poly) -> Option<FormOffer> {
+        if self.left == 0 {
+            return None;
+        }
+        self.left -= 1;
+        self.last = Some(self.offer);
+        self.last
+    }
+
+    fn tell(&mut self, _refusal: &FormRefusal) {
+        self.heard.set(self.heard.get().wrapping_add(1));
+    }
+}
+
+/// `f --property STABILITY`
+fn arguments(alloc: Global) -> Result<Vec<String>, Fail> {
+    let mut arguments = Vec::new(alloc);
+    for argument in ["f", "--property", "STABILITY"] {
+        arguments.push(String::from_str(alloc, argument)?)?;
+    }
+    Ok(arguments)
+}
+
+#[test]
+fn the_zero_form_is_refused_32_times(rt: HostRuntime) -> Result<(), Fail> {
+    let alloc = rt.alloc();
+    let heard = Rc::new(alloc, Cell::new(0))?;
+    let mut forms: Vec<Box<dyn FormProposer>> = Vec::new(alloc);
+    forms.push(Box::new(
+        alloc,
+        Stubborn {
+            offer: falls(0),
+            left: 1000,
+            last: None,
+            heard: heard.clone()?,
+        },
+    )?)?;
+    forms.push(Box::new(alloc, SumProposer::new())?)?;
+    let mut files = SilentFiles::new(alloc, NO_FORM)?;
+    let mut sink = MemSink::new(alloc, 1000)?;
+    let done = run(alloc, &arguments(alloc)?, &mut files, &mut sink, &mut forms);
+    assert_eq!(rt; done.status, 20);
+    assert_eq!(rt; sink.bytes(), NO_FORM_TEXT);
+    assert_eq!(rt; heard.get(), 32);
+    assert!(rt; forms.is_empty());
+    Ok(())
+}
+
+#[test]
+fn a_form_of_least_numbers_is_refused(rt: HostRuntime) -> Result<(), Fail> {
+    let alloc = rt.alloc();
+    let heard = Rc::new(alloc, Cell::new(0))?;
+    let mut forms: Vec<Box<dyn FormProposer>> = Vec::new(alloc);
+    forms.push(Box::new(
+        alloc,
+        Stubborn {
+            offer: kept_away(i128::MIN),
+            left: 1,
+            last: None,
+            heard: heard.clone()?,
+        },
+    )?)?;
+    forms.push(Box::new(alloc, SumProposer::new())?)?;
+    let mut files = SilentFiles::new(alloc, THIRD_ROOT)?;
+    let mut sink = MemSink::new(alloc, 1000)?;
+    let done = run(alloc, &arguments(alloc)?, &mut files, &mut sink, &mut forms);
+    assert_eq!(rt; done.status, 0);
+    assert_eq!(rt; sink.bytes(), THIRD_ROOT_TEXT);
+    assert_eq!(rt; heard.get(), 1);
+    assert_eq!(rt; forms.len(), 1);
+    Ok(())
+}

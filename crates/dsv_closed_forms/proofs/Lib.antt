@@ -1,0 +1,10 @@
+pub mod Accepted
+pub mod Choices
+pub mod Division
+pub mod Filling
+pub mod FirstAccepted
+pub mod RootAccepted
+pub mod SecondAway
+pub mod SecondFalls
+pub mod SecondForm
+pub mod SecondStarts

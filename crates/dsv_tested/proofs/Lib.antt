@@ -1,0 +1,5 @@
+pub mod Evens
+pub mod CommonTwos
+pub mod Signs
+pub mod ListPolynomials
+pub mod Denominators

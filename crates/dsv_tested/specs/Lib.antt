@@ -1,0 +1,3 @@
+pub mod Lead
+pub mod Reduced
+pub mod Tested

@@ -1,0 +1,14 @@
+//! The polynomial that a property of a quantised controller tests.
+#![tactic(auto)]
+
+mod halving;
+mod law;
+mod list;
+mod side;
+mod testing;
+#[cfg(test)]
+mod tests;
+
+pub use law::common_twos_are_taken_out;
+pub use side::{Side, Tested};
+pub use testing::tested;
