@@ -7,4 +7,6 @@ mod cycle;
 #[cfg(test)]
 mod overflow;
 #[cfg(test)]
+mod ranges;
+#[cfg(test)]
 mod realisations;

@@ -95,6 +95,22 @@ fn is_one(alloc: Global, goal: &Goal, values: &[u128]) -> Option<bool> {
     Some(goal.terms.eval(goal.root, values, &mut room) == 1)
 }
 
+/// Whether this list breaks, where the overflow goal is right there: its values spell the inputs.
+pub(crate) fn does_break(
+    alloc: Global,
+    q: &Quantised,
+    goal: &Goal,
+    values: &[u128],
+    inputs: &[i64],
+) -> Option<bool> {
+    let breaks = do_break(alloc, q, inputs)?;
+    if is_one(alloc, goal, values)? == breaks {
+        Some(breaks)
+    } else {
+        None
+    }
+}
+
 /// Whether the list of this number breaks, where the overflow goal is right there.
 fn breaks_at(alloc: Global, q: &Quantised, goal: &Goal, number: u32) -> Option<bool> {
     let first = number % WORDS;
@@ -102,15 +118,10 @@ fn breaks_at(alloc: Global, q: &Quantised, goal: &Goal, number: u32) -> Option<b
     let third = number / PAIRS % WORDS;
     let values = [u128::from(first), u128::from(second), u128::from(third)];
     let inputs = [word(first), word(second), word(third)];
-    let breaks = do_break(alloc, q, &inputs)?;
-    if is_one(alloc, goal, &values)? == breaks {
-        Some(breaks)
-    } else {
-        None
-    }
+    does_break(alloc, q, goal, &values, &inputs)
 }
 
-fn overflow_of(alloc: Global, q: &Quantised) -> Option<Goal> {
+pub(crate) fn overflow_of(alloc: Global, q: &Quantised, samples: u32) -> Option<Goal> {
     let net = realise(alloc, q).ok()?;
     let format = net.format();
     let low = q.xlo();
@@ -118,13 +129,13 @@ fn overflow_of(alloc: Global, q: &Quantised) -> Option<Goal> {
     if format.hi() < low || high < format.lo() {
         return None;
     }
-    overflow_goal(alloc, &net, low, high, 3).ok()
+    overflow_goal(alloc, &net, low, high, samples).ok()
 }
 
 /// How many lists break, where the overflow goal over three samples is right at all of them.
 fn breaks_of(alloc: Global, format: Format, realisation: Realisation) -> Option<u32> {
     let q = words_of(alloc, format, realisation)?;
-    let goal = overflow_of(alloc, &q)?;
+    let goal = overflow_of(alloc, &q, 3)?;
     let mut breaks: u32 = 0;
     for number in 0..TRIPLES {
         breaks = breaks.saturating_add(u32::from(breaks_at(alloc, &q, &goal, number)?));

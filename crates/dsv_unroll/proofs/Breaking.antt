@@ -1,11 +1,11 @@
 -- The root of the overflow goal is 1 exactly where the inputs break.
-use Rattle.std.proofs.Common.{◌≡◌, ℕ, zero, suc, ◌+◌, ◌-◌, ◌^◌, ◌<◌, Bool, true, false, ◌&&◌, ◌||◌, List, [], ◌∷◌, refl, arith, ap, sym, subst, ◌∙◌, length, replicate}
+use Rattle.std.proofs.Common.{◌≡◌, ℕ, zero, suc, ◌+◌, ◌-◌, ◌^◌, ◌<◌, ◌≤◌, Bool, true, false, ◌&&◌, ◌||◌, List, [], ◌∷◌, refl, arith, ap, sym, subst, ◌∙◌, length, map, replicate}
 use Rattle.std.specs.Prelude.{int_le, slice_index, slice_index_or, ◌≤ℤ◌}
 use Rattle.std.specs.List.{Contains}
 use Rattle.std.proofs.Math.IntN.{ℤ, pos}
 use Rattle.std.proofs.lemmas.Int.{ints}
 use Rattle.std.proofs.lemmas.Nat.{pow_pos}
-use Rattle.std.proofs.lemmas.List.{length-replicate, get_or-replicate}
+use Rattle.std.proofs.lemmas.List.{length-map, length-replicate, get_or-map, get_or-replicate}
 use Rattle.std.proofs.lemmas.List.Elements.{All-replicate, All-nil, All-cons, All-head, All-tail, All-from_get_or}
 use Rattle.dsv_word.specs.declared.format.Format.{Format}
 use Rattle.dsv_word.specs.Words.{width, lo, hi, IsWord}
@@ -20,22 +20,23 @@ use Rattle.dsv_term.specs.declared.node.TermNode.TheVariants.{Constant}
 use Rattle.dsv_term.specs.declared.word.Word.{Word}
 use Rattle.dsv_term.specs.Building.{Built, built_of, with_node}
 use Rattle.dsv_term.specs.Growth.{AreSound}
-use Rattle.dsv_term.specs.Terms.{AreValues, word_of}
+use Rattle.dsv_term.specs.Terms.{AreValues, width_of, word_of}
 use Rattle.dsv_term.specs.TermsView.{TermsView}
 use Rattle.dsv_term.specs.Word.{IsWidth, bit_of}
 use Rattle.dsv_term.proofs.Building.{constant_gives}
-use Rattle.dsv_term.proofs.Complement.{IsSpelled}
+use Rattle.dsv_term.proofs.Complement.{IsSpelled, wider_spelled}
 use Rattle.dsv_unroll.specs.Goals.{InputTerms, inputs_from, RunTerms, run_from, no_terms, overflow_of}
 use Rattle.dsv_unroll.specs.Ready.{IsValue, HasBits, AreBits, AreRunReady}
 use Rattle.dsv_unroll.specs.Rules.{term_at}
 use Rattle.dsv_unroll.specs.Words.{spelled_word, spelled_words, Tells}
-use Rattle.dsv_unroll.proofs.RuleTerms.{Spells, spells_later}
+use Rattle.dsv_unroll.proofs.RuleTerms.{Spells}
 use Rattle.dsv_unroll.proofs.FitTerms.{is_outside, inside_spelled, spelled_inside}
-use Rattle.dsv_unroll.proofs.Follows.{Means}
+use Rattle.dsv_unroll.proofs.Follows.{Means, means_later}
 use Rattle.dsv_unroll.proofs.NodeTerms.{width_some, width_small}
 use Rattle.dsv_unroll.proofs.Runs.{any_outside, breaks_from, RegistersMean, InputsMean, run_follows}
 use Rattle.dsv_unroll.proofs.SampleSteps.{bits_later}
-use Rattle.dsv_unroll.proofs.InputTests.{TestsMean, tests_later, joined-split, InputsStand, inputs_stand, words_at, range_flag, all_in_range, conjunction_joins, bits_kept}
+use Rattle.dsv_unroll.proofs.InputTests.{TestsMean, tests_later, joined-split, InputsStand, inputs_stand, words_at, range_flag, all_in_range, conjunction_joins}
+use Rattle.dsv_unroll.proofs.ValueTerms.{value_of, value_right}
 
 -- ---- a break
 outside_no_word : (f : Format) (e : ℤ) → is_outside (width f) e ≡ true → IsWord f e → ⊥
@@ -144,6 +145,28 @@ range_all : (low high : ℤ) (zs : List ℤ) → AreInRange low high zs → all_
 range_all low high [] h = refl
 range_all low high (z ∷ zs) h = rw (range_one low high z (All-head (λ x. (low ≤ℤ x) × (x ≤ℤ high)) z zs h)) (range_all low high zs (All-tail (λ x. (low ≤ℤ x) × (x ≤ℤ high)) z zs h))
 
+-- ---- the values
+-- words in range are their values
+values_right : (n : ℕ) (low high : ℤ) (q : Bool) (zs : List ℤ) → n ≤ 128 → all_in_range low high q zs ≡ true → map (value_of n low high) zs ≡ zs
+values_right n low high q [] s h = refl
+values_right n low high q (z ∷ zs) s h =
+    let r = range_from low high z q (all_flag low high (range_flag low high q z) zs h) in
+    rw (value_right n low high z s r.1 r.2) (ap (λ (ys : List ℤ). z ∷ ys) (values_right n low high (range_flag low high q z) zs s h))
+
+no_more : (a b : Bool) → (a && false) ≡ (b && false)
+no_more true true = refl
+no_more true false = refl
+no_more false true = refl
+no_more false false = refl
+
+-- so the run over the values breaks as that over the words, where these are in range
+values_break : (net : Net) (low high : ℤ) (rs zs : List ℤ) → (breaks_from net false rs (map (value_of (width net.format) low high) zs) && all_in_range low high true zs) ≡ (breaks_from net false rs zs && all_in_range low high true zs)
+values_break net low high rs zs = by (all_in_range low high true zs) refl
+  where
+    by : (q : Bool) → all_in_range low high true zs ≡ q → (breaks_from net false rs (map (value_of (width net.format) low high) zs) && q) ≡ (breaks_from net false rs zs && q)
+    by true e = ap (λ (ys : List ℤ). breaks_from net false rs ys && true) (values_right (width net.format) low high true zs (let s = width_small net.format in omega arith) e)
+    by false e = no_more (breaks_from net false rs (map (value_of (width net.format) low high) zs)) (breaks_from net false rs zs)
+
 -- ---- what the root says
 both_true : (a b : Bool) → (a && b) ≡ true → (a ≡ true) × (b ≡ true)
 both_true true true h = (refl, refl)
@@ -189,21 +212,21 @@ pub record Starts (net : Net) (values : List ℕ) (low high : ℤ) (samples : �
   pub bits : AreBits t i.tests
   pub flag : word_of t values nought ≡ bit_of false
   pub registers : RegistersMean t values (replicate (length net.next) nought) (zeros (length net.next))
-  pub inputs : InputsMean net.format t values i.ids (words_at (width net.format) values 0 samples)
+  pub inputs : InputsMean net.format t values i.ids (map (value_of (width net.format) low high) (words_at (width net.format) values 0 samples))
   pub tests : TestsMean t values i.tests (all_in_range low high true (words_at (width net.format) values 0 samples))
   pub sound : AreSound t
   pub count : length t.inputs ≡ samples
   pub widths : (j : ℕ) → j < length t.inputs → slice_index t.inputs j ≡ width net.format
 
-none_stand : (n : ℕ) (values : List ℕ) → InputsStand n values (record { terms = no_terms; ids = []; tests = [] }) [] true
-none_stand n values =
+none_stand : (n : ℕ) (low high : ℤ) (values : List ℕ) → InputsStand n low high values (record { terms = no_terms; ids = []; tests = [] }) [] true
+none_stand n low high values =
     record {
       sound = record { inputs = λ k d p. absurd (omega arith); lawful = tt };
       count = refl;
       words = refl;
       widths = λ k p. absurd (omega arith);
       stand = λ k p. absurd (omega arith);
-      spell = λ k p. absurd (omega arith);
+      mean = λ k p. absurd (omega arith);
       bits = record { stand = λ k p. absurd (omega arith) };
       tests = record { truths = []; count = refl; each = λ k p. absurd (omega arith); all = refl };
     }
@@ -212,12 +235,14 @@ pub words_at-length : (n : ℕ) (values : List ℕ) (j k : ℕ) → length (word
 words_at-length n values j zero = refl
 words_at-length n values j (suc k) = omega (arith, words_at-length n values (j + 1) k)
 
-pub starts_by : (net : Net) (values : List ℕ) (low high : ℤ) (samples : ℕ) (i : InputTerms) → InputsStand (width net.format) values i (words_at (width net.format) values 0 samples) (all_in_range low high true (words_at (width net.format) values 0 samples))
+pub starts_by : (net : Net) (values : List ℕ) (low high : ℤ) (samples : ℕ) (i : InputTerms) → InputsStand (width net.format) low high values i (words_at (width net.format) values 0 samples) (all_in_range low high true (words_at (width net.format) values 0 samples))
     → Starts net values low high samples i (with_node i.terms (Constant 1 0)).terms (with_node i.terms (Constant 1 0)).id
 starts_by net values low high samples i s =
     let f = net.format in
     let n = width f in
     let zs = words_at n values 0 samples in
+    let v : ℤ → ℤ = value_of n low high in
+    let at_v : (j : ℕ) → j < length zs → at (map v zs) j ≡ v (at zs j) = λ j p. get_or-map v zs j (pos 0) (pos 0) p in
     let m = length net.next in
     let u = with_node i.terms (Constant 1 0) in
     let g = constant_gives i.terms 1 0 s.sound (record { some = omega arith; narrow = omega arith }) (omega arith) in
@@ -232,7 +257,7 @@ starts_by net values low high samples i s =
         sound = g.adds.sound;
         count = length-replicate m u.id;
         registers_stand = λ j p. subst (IsValue u.terms) (sym (at_k j p)) value;
-        inputs_stand = λ j p. let h = bits_kept i.terms u.terms (term_at i.ids j) n k (s.stand j p) in record { stands = h.stands; narrow = let e = h.width in omega arith };
+        inputs_stand = λ j p. let h = s.stand j p in let e = k.widths (term_at i.ids j) h.stands in record { stands = k.longer (term_at i.ids j) h.stands; narrow = omega (arith, h.narrow) };
         flag_stands = g.adds.stands;
         flag_bit = g.adds.width;
       };
@@ -240,10 +265,13 @@ starts_by net values low high samples i s =
       flag = g.word values;
       registers = record { each = λ j p. rw (at_k j p, zero_k j p) nought };
       inputs = record {
-        count = sym s.words;
-        each = λ j p. let h = bits_kept i.terms u.terms (term_at i.ids j) n k (s.stand j p) in
-            record { spells = subst (λ (w : ℕ). Spells u.terms values (term_at i.ids j) w (at zs j)) (sym h.width) (spells_later i.terms u.terms values (term_at i.ids j) n (at zs j) k (s.stand j p).stands (s.spell j p)) };
-        words = All-from_get_or (IsWord f) zs (pos 0) (λ j p. word_spelled f (at zs j) (s.spell j (let e = s.words in omega arith)).fits);
+        count = sym s.words ∙ sym (length-map zs v);
+        each = λ j p. let q : j < length zs = (let e = s.words in omega arith) in
+            subst (Means u.terms values (term_at i.ids j)) (sym (at_v j q)) (means_later i.terms u.terms values (term_at i.ids j) (v (at zs j)) k (s.stand j p).stands (s.mean j p));
+        words = All-from_get_or (IsWord f) (map v zs) (pos 0) (λ j p.
+            let q : j < length zs = omega (arith, length-map zs v) in
+            let o : j < length i.ids = (let e = s.words in omega arith) in
+            subst (IsWord f) (sym (at_v j q)) (word_spelled f (v (at zs j)) (wider_spelled (width_of i.terms (term_at i.ids j)) n (v (at zs j)) (s.stand j o).narrow (s.mean j o).spells.fits)));
       };
       tests = tests_later i.terms u.terms values i.tests (all_in_range low high true zs) k s.bits s.tests;
       sound = g.adds.sound;
@@ -252,9 +280,9 @@ starts_by net values low high samples i s =
     }
 
 pub inputs_of : (net : Net) (values : List ℕ) (low high : ℤ) (samples : ℕ) → low ≤ℤ hi (width net.format) → lo (width net.format) ≤ℤ high → ((j : ℕ) → j < samples → slice_index values j < 2 ^ width net.format)
-    → InputsStand (width net.format) values (inputs_from (width net.format) low high samples (record { terms = no_terms; ids = []; tests = [] })) (words_at (width net.format) values 0 samples) (all_in_range low high true (words_at (width net.format) values 0 samples))
+    → InputsStand (width net.format) low high values (inputs_from (width net.format) low high samples (record { terms = no_terms; ids = []; tests = [] })) (words_at (width net.format) values 0 samples) (all_in_range low high true (words_at (width net.format) values 0 samples))
 inputs_of net values low high samples l h f =
-    inputs_stand (width net.format) low high values samples (record { terms = no_terms; ids = []; tests = [] }) [] true (word_width net.format) l h (λ j p. f j (omega arith)) (none_stand (width net.format) values)
+    inputs_stand (width net.format) low high values samples (record { terms = no_terms; ids = []; tests = [] }) [] true (word_width net.format) l h (λ j p. f j (omega arith)) (none_stand (width net.format) low high values)
 
 pub record GoalStands (net : Net) (low high : ℤ) (samples : ℕ) (values : List ℕ) (g : Built) : Type 0 where
   pub bit : HasBits g.terms g.id 1
@@ -273,15 +301,16 @@ goal_stands net low high samples values net_ l h f =
     let u = with_node i.terms (Constant 1 0) in
     let start : RunTerms = record { terms = u.terms; registers = replicate m u.id; broken = u.id } in
     let zero_word : IsWord net.format (pos 0) = nought_word net.format in
-    let r = run_follows net values i.ids zs start (zeros m) false net_ (length-replicate m (pos 0)) (All-replicate (IsWord net.format) m (pos 0) zero_word) s.ready s.flag (λ e. s.registers) s.inputs in
+    let vs = map (value_of (width net.format) low high) zs in
+    let r = run_follows net values i.ids vs start (zeros m) false net_ (length-replicate m (pos 0)) (All-replicate (IsWord net.format) m (pos 0) zero_word) s.ready s.flag (λ e. s.registers) s.inputs in
     let run = run_from net i.ids start in
-    let b = breaks_from net false (zeros m) zs in
+    let b = breaks_from net false (zeros m) vs in
     let t = tests_later u.terms run.terms values i.tests (all_in_range low high true zs) r.kept s.bits s.tests in
     let j = conjunction_joins values run.terms run.broken i.tests t.truths b r.ready.sound (record { stands = r.stands; width = r.bit }) r.flag (bits_later u.terms run.terms i.tests r.kept s.bits) t.count t.each in
     let same = j.inputs ∙ r.inputs in
     record {
       bit = j.bit;
-      word = j.word ∙ ap bit_of (joined-split b t.truths ∙ ap (λ (q : Bool). b && q) t.all);
+      word = j.word ∙ ap bit_of (joined-split b t.truths ∙ (ap (λ (q : Bool). b && q) t.all ∙ values_break net low high (zeros m) zs));
       count = ap length same ∙ s.count;
       widths = λ k p. ap (λ (is : List ℕ). slice_index is k) same ∙ s.widths k (let e = ap length same in omega arith);
     }

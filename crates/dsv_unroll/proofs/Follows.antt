@@ -47,7 +47,7 @@ means_later t u values id z k h m =
     record { spells = subst (λ (w : ℕ). Spells u values id w z) (sym (k.widths id h)) s }
 
 -- a term that was added in so many bits
-means_added : (t : TermsView) (values : List ℕ) (id : TermId) (bits : ℕ) (z : ℤ) → width_of t id ≡ bits → Spells t values id bits z → Means t values id z
+pub means_added : (t : TermsView) (values : List ℕ) (id : TermId) (bits : ℕ) (z : ℤ) → width_of t id ≡ bits → Spells t values id bits z → Means t values id z
 means_added t values id bits z e s = record { spells = subst (λ (w : ℕ). Spells t values id w z) (sym e) s }
 
 -- ---- a sample so far

@@ -1,5 +1,5 @@
 -- The inputs of a goal spell words, and the tests say whether these are in range.
-use Rattle.std.proofs.Common.{◌≡◌, ℕ, zero, suc, ◌+◌, ◌^◌, ◌<◌, Bool, true, false, ◌&&◌, inl, inr, List, [], ◌∷◌, ◌++◌, refl, arith, ap, sym, subst, ◌∙◌, length, get_or}
+use Rattle.std.proofs.Common.{◌≡◌, ℕ, zero, suc, ◌+◌, ◌^◌, ◌<◌, ◌≤◌, Bool, true, false, ◌&&◌, inl, inr, List, [], ◌∷◌, ◌++◌, refl, arith, ap, sym, subst, ◌∙◌, length, get_or}
 use Rattle.std.specs.Prelude.{int_lt, int_le, if◌then◌else◌, slice_index, ◌<ℤ◌, ◌≤ℤ◌}
 use Rattle.std.proofs.Math.IntN.{ℤ, pos}
 use Rattle.std.proofs.lemmas.Int.{ints}
@@ -12,19 +12,20 @@ use Rattle.dsv_term.specs.declared.node.TermNode.TheVariants.{Constant, Sle, And
 use Rattle.dsv_term.specs.declared.word.Word.{Word}
 use Rattle.dsv_term.specs.Building.{Built, built_of, with_node, with_new_input}
 use Rattle.dsv_term.specs.Growth.{AreSound}
-use Rattle.dsv_term.specs.Terms.{KeepsTerms, word_of}
+use Rattle.dsv_term.specs.Terms.{KeepsTerms, width_of, word_of}
 use Rattle.dsv_term.specs.TermsView.{TermsView}
 use Rattle.dsv_term.specs.Word.{IsWidth, residue, signed_of, bit_of, signed_at_most_of, and_of}
 use Rattle.dsv_term.proofs.Words.{residue_fits}
 use Rattle.dsv_term.proofs.Made.{KeepsTerms-both}
 use Rattle.dsv_term.proofs.Building.{KeepsTerms-self, later, new_input_gives, constant_gives, signed_at_most_gives, and_gives}
 use Rattle.dsv_term.proofs.Complement.{IsSpelled, spelled, signed_reads, signed_at_most-spelled, and-bits}
-use Rattle.dsv_unroll.specs.Goals.{TestTerms, with_low_test, with_high_test, InputTerms, with_input, inputs_from, conjunction_from}
+use Rattle.dsv_unroll.specs.Goals.{TestTerms, with_low_test, with_high_test, value_term, InputTerms, with_input, inputs_from, conjunction_from}
 use Rattle.dsv_unroll.specs.Ready.{HasBits, AreBits}
 use Rattle.dsv_unroll.specs.Rules.{term_at}
-use Rattle.dsv_unroll.proofs.RuleTerms.{Spells, spells_later}
+use Rattle.dsv_unroll.proofs.Follows.{Means, means_later}
 use Rattle.dsv_unroll.proofs.NodeTerms.{all_more}
 use Rattle.dsv_unroll.proofs.SampleSteps.{bits_later}
+use Rattle.dsv_unroll.proofs.ValueTerms.{value_of, value_stands}
 
 pub bits_kept : (t u : TermsView) (id : TermId) (bits : ℕ) → KeepsTerms t u → HasBits t id bits → HasBits u id bits
 bits_kept t u id bits k h = record { stands = k.longer id h.stands; width = k.widths id h.stands ∙ h.width }
@@ -144,14 +145,22 @@ high_by values t n high z x tests q true e l w s h v f b m =
     }
 
 -- ---- inputs
--- the inputs so far spell these words, and q says whether all are in range
-pub record InputsStand (n : ℕ) (values : List ℕ) (s : InputTerms) (zs : List ℤ) (q : Bool) : Type 0 where
+-- a term of at most n bits
+pub record IsInput (n : ℕ) (t : TermsView) (id : TermId) : Type 0 where
+  pub stands : id.0 < length t.nodes
+  pub narrow : width_of t id ≤ n
+
+input_kept : (n : ℕ) (t u : TermsView) (id : TermId) → KeepsTerms t u → IsInput n t id → IsInput n u id
+input_kept n t u id k h = record { stands = k.longer id h.stands; narrow = let e = k.widths id h.stands in omega (arith, h.narrow) }
+
+-- the terms so far spell the values of these words, and q says whether all are in range
+pub record InputsStand (n : ℕ) (low high : ℤ) (values : List ℕ) (s : InputTerms) (zs : List ℤ) (q : Bool) : Type 0 where
   pub sound : AreSound s.terms
   pub count : length s.ids ≡ length s.terms.inputs
   pub words : length zs ≡ length s.ids
   pub widths : (i : ℕ) → i < length s.terms.inputs → slice_index s.terms.inputs i ≡ n
-  pub stand : (i : ℕ) → i < length s.ids → HasBits s.terms (term_at s.ids i) n
-  pub spell : (i : ℕ) → i < length s.ids → Spells s.terms values (term_at s.ids i) n (at zs i)
+  pub stand : (i : ℕ) → i < length s.ids → IsInput n s.terms (term_at s.ids i)
+  pub mean : (i : ℕ) → i < length s.ids → Means s.terms values (term_at s.ids i) (value_of n low high (at zs i))
   pub bits : AreBits s.terms s.tests
   pub tests : TestsMean s.terms values s.tests q
 
@@ -162,8 +171,8 @@ word_at n values j = signed_of (record { width = n; number = slice_index values 
 abbrev pub range_flag : ℤ → ℤ → Bool → ℤ → Bool
 range_flag low high q z = (q && int_le low z) && int_le z high
 
-pub input_stands : (n : ℕ) (low high : ℤ) (values : List ℕ) (s : InputTerms) (zs : List ℤ) (q : Bool) → IsWidth n → low ≤ℤ hi n → lo n ≤ℤ high → slice_index values (length s.ids) < 2 ^ n → InputsStand n values s zs q
-    → InputsStand n values (with_input n low high s) (zs ++ word_at n values (length s.ids) ∷ []) (range_flag low high q (word_at n values (length s.ids)))
+pub input_stands : (n : ℕ) (low high : ℤ) (values : List ℕ) (s : InputTerms) (zs : List ℤ) (q : Bool) → IsWidth n → low ≤ℤ hi n → lo n ≤ℤ high → slice_index values (length s.ids) < 2 ^ n → InputsStand n low high values s zs q
+    → InputsStand n low high values (with_input n low high s) (zs ++ word_at n values (length s.ids) ∷ []) (range_flag low high q (word_at n values (length s.ids)))
 input_stands n low high values s zs q w l h f i =
     let z = word_at n values (length s.ids) in
     let r = signed_reads n (slice_index values (length s.ids)) w.some f in
@@ -179,24 +188,28 @@ input_stands n low high values s zs q w l h f i =
     let ha : HasBits a.terms x.id n = record { stands = xa.stands; width = xa.width ∙ hx.width } in
     let b = with_high_test a.terms n high x.id a.tests in
     let tb = high_by values a.terms n high z x.id a.tests (q && int_le low z) (int_lt high (hi n)) refl h w ta.sound ha (xa.word values ∙ xw) r.fits ta.bits ta.mean in
-    let kx = KeepsTerms-both x.terms a.terms b.terms ta.kept tb.kept in
-    let k = KeepsTerms-both s.terms x.terms b.terms gx.kept kx in
-    let inputs : b.terms.inputs ≡ s.terms.inputs ++ n ∷ [] = tb.same ∙ (ta.same ∙ gx.inputs) in
+    let xb = later a.terms b.terms x.id tb.kept ha.stands in
+    let hb : HasBits b.terms x.id n = record { stands = xb.stands; width = xb.width ∙ ha.width } in
+    let d = value_term b.terms n low high x.id in
+    let td = value_stands values b.terms n low high z x.id l h w tb.sound hb (xb.word values ∙ (xa.word values ∙ xw)) r.fits in
+    let kb = KeepsTerms-both s.terms x.terms b.terms gx.kept (KeepsTerms-both x.terms a.terms b.terms ta.kept tb.kept) in
+    let k = KeepsTerms-both s.terms b.terms d.terms kb td.kept in
+    let inputs : d.terms.inputs ≡ s.terms.inputs ++ n ∷ [] = td.inputs ∙ (tb.same ∙ (ta.same ∙ gx.inputs)) in
     record {
-      sound = tb.sound;
-      count = length_push s.ids x.id ∙ (ap (λ (m : ℕ). m + 1) c ∙ (sym (length_push s.terms.inputs n) ∙ ap length (sym inputs)));
-      words = length_push zs z ∙ (ap (λ (m : ℕ). m + 1) i.words ∙ sym (length_push s.ids x.id));
+      sound = td.sound;
+      count = length_push s.ids d.id ∙ (ap (λ (m : ℕ). m + 1) c ∙ (sym (length_push s.terms.inputs n) ∙ ap length (sym inputs)));
+      words = length_push zs z ∙ (ap (λ (m : ℕ). m + 1) i.words ∙ sym (length_push s.ids d.id));
       widths = λ j p. ap (λ (is : List ℕ). slice_index is j) inputs ∙ elim (cases_lt j (length s.terms.inputs)) [
         | inl less ↦ get_or_append_left s.terms.inputs (n ∷ []) 0 j less ∙ i.widths j less
         | inr more ↦ get_or_push s.terms.inputs n 0 j (omega (arith, ap length inputs, length_push s.terms.inputs n))
       ];
-      stand = all_more (λ (j : TermId). HasBits b.terms j n) s.ids x.id (λ j p. bits_kept s.terms b.terms (term_at s.ids j) n k (i.stand j p)) (bits_kept x.terms b.terms x.id n kx hx);
-      spell = λ j p. elim (cases_lt j (length s.ids)) [
-        | inl less ↦ (let m = i.words in rw (get_or_append_left s.ids (x.id ∷ []) (record { 0 = 0 }) j less, get_or_append_left zs (z ∷ []) (pos 0) j (omega arith)) (spells_later s.terms b.terms values (term_at s.ids j) n (at zs j) k (i.stand j less).stands (i.spell j less)))
-        | inr more ↦ (let e : length s.ids ≡ j = omega (arith, length_push s.ids x.id) in rw (get_or_push s.ids x.id (record { 0 = 0 }) j e, get_or_push zs z (pos 0) j (i.words ∙ e)) (spells_later x.terms b.terms values x.id n z kx hx.stands (record { word = xw; fits = r.fits })))
+      stand = all_more (IsInput n d.terms) s.ids d.id (λ j p. input_kept n s.terms d.terms (term_at s.ids j) k (i.stand j p)) (record { stands = td.stands; narrow = td.narrow });
+      mean = λ j p. elim (cases_lt j (length s.ids)) [
+        | inl less ↦ (let m = i.words in rw (get_or_append_left s.ids (d.id ∷ []) (record { 0 = 0 }) j less, get_or_append_left zs (z ∷ []) (pos 0) j (omega arith)) (means_later s.terms d.terms values (term_at s.ids j) (value_of n low high (at zs j)) k (i.stand j less).stands (i.mean j less)))
+        | inr more ↦ (let e : length s.ids ≡ j = omega (arith, length_push s.ids d.id) in rw (get_or_push s.ids d.id (record { 0 = 0 }) j e, get_or_push zs z (pos 0) j (i.words ∙ e)) td.means)
       ];
-      bits = tb.bits;
-      tests = tb.mean;
+      bits = bits_later b.terms d.terms b.tests td.kept tb.bits;
+      tests = tests_later b.terms d.terms values b.tests (range_flag low high q z) td.kept tb.bits tb.mean;
     }
 
 -- the words of so many values, from one on
@@ -209,19 +222,27 @@ abbrev pub all_in_range : ℤ → ℤ → Bool → List ℤ → Bool
 all_in_range low high q [] = q
 all_in_range low high q (z ∷ zs) = all_in_range low high (range_flag low high q z) zs
 
-pub inputs_stand : (n : ℕ) (low high : ℤ) (values : List ℕ) (k : ℕ) (s : InputTerms) (zs : List ℤ) (q : Bool) → IsWidth n → low ≤ℤ hi n → lo n ≤ℤ high → ((j : ℕ) → j < length s.ids + k → slice_index values j < 2 ^ n) → InputsStand n values s zs q
-    → InputsStand n values (inputs_from n low high k s) (zs ++ words_at n values (length s.ids) k) (all_in_range low high q (words_at n values (length s.ids) k))
-inputs_stand n low high values zero s zs q w l h f i = subst (λ (ys : List ℤ). InputsStand n values s ys q) (sym (append-nil zs)) i
+-- the term of the next input's value
+abbrev value_id : ℕ → ℤ → ℤ → InputTerms → TermId
+value_id n low high s =
+    let x = with_new_input s.terms n in
+    let a = with_low_test x.terms n low x.id s.tests in
+    let b = with_high_test a.terms n high x.id a.tests in
+    (value_term b.terms n low high x.id).id
+
+pub inputs_stand : (n : ℕ) (low high : ℤ) (values : List ℕ) (k : ℕ) (s : InputTerms) (zs : List ℤ) (q : Bool) → IsWidth n → low ≤ℤ hi n → lo n ≤ℤ high → ((j : ℕ) → j < length s.ids + k → slice_index values j < 2 ^ n) → InputsStand n low high values s zs q
+    → InputsStand n low high values (inputs_from n low high k s) (zs ++ words_at n values (length s.ids) k) (all_in_range low high q (words_at n values (length s.ids) k))
+inputs_stand n low high values zero s zs q w l h f i = subst (λ (ys : List ℤ). InputsStand n low high values s ys q) (sym (append-nil zs)) i
 inputs_stand n low high values (suc k) s zs q w l h f i =
     let j = length s.ids in
     let z = word_at n values j in
     let next = with_input n low high s in
-    let c : length next.ids ≡ j + 1 = length_push s.ids (with_new_input s.terms n).id in
+    let c : length next.ids ≡ j + 1 = length_push s.ids (value_id n low high s) in
     let one = input_stands n low high values s zs q w l h (f j (omega arith)) i in
     let rest = inputs_stand n low high values k next (zs ++ z ∷ []) (range_flag low high q z) w l h (λ m p. f m (omega arith)) one in
     let e : (zs ++ z ∷ []) ++ words_at n values (j + 1) k ≡ zs ++ (z ∷ words_at n values (j + 1) k) = append_assoc zs (z ∷ []) (words_at n values (j + 1) k) in
-    subst (λ (ys : List ℤ). InputsStand n values (inputs_from n low high k next) ys (all_in_range low high (range_flag low high q z) (words_at n values (j + 1) k))) e
-    (subst (λ (m : ℕ). InputsStand n values (inputs_from n low high k next) ((zs ++ z ∷ []) ++ words_at n values m k) (all_in_range low high (range_flag low high q z) (words_at n values m k))) c rest)
+    subst (λ (ys : List ℤ). InputsStand n low high values (inputs_from n low high k next) ys (all_in_range low high (range_flag low high q z) (words_at n values (j + 1) k))) e
+    (subst (λ (m : ℕ). InputsStand n low high values (inputs_from n low high k next) ((zs ++ z ∷ []) ++ words_at n values m k) (all_in_range low high (range_flag low high q z) (words_at n values m k))) c rest)
 
 -- ---- the root
 pub record Joins (values : List ℕ) (t : TermsView) (b : Built) (q : Bool) : Type 0 where

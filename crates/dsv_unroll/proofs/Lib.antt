@@ -15,3 +15,4 @@ pub mod RuleTerms
 pub mod Runs
 pub mod SampleSteps
 pub mod Samples
+pub mod ValueTerms

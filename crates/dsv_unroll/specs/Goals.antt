@@ -1,19 +1,19 @@
 -- The terms of runs, sample after sample, and the goals over them.
-use Rattle.std.specs.Prelude.{ℕ, zero, suc, ◌*◌, ◌^◌}
+use Rattle.std.specs.Prelude.{ℕ, zero, suc, ◌-◌, ◌*◌, ◌^◌, max, nat_lt}
 use Rattle.std.specs.Prelude.{if◌then◌else◌, List, [], ◌∷◌, ◌++◌, length, map, replicate}
-use Rattle.std.specs.Prelude.{ℤ, int_lt}
+use Rattle.std.specs.Prelude.{ℤ, pos, negsuc, int_lt}
 use Rattle.dsv_word.specs.Words.{width, lo, hi}
 use Rattle.dsv_netlist.specs.declared.node.Node.{Node}
 use Rattle.dsv_netlist.specs.Nodes.{Net}
 use Rattle.dsv_netlist.specs.Counts.{counts_of}
 use Rattle.dsv_term.specs.declared.node.TermId.{TermId}
-use Rattle.dsv_term.specs.declared.node.TermNode.TheVariants.{Constant, Sle, And}
+use Rattle.dsv_term.specs.declared.node.TermNode.TheVariants.{Constant, Sle, And, Extract}
 use Rattle.dsv_term.specs.Building.{Built, built_of, with_node, with_new_input}
 use Rattle.dsv_term.specs.TermsView.{TermsView}
 use Rattle.dsv_term.specs.Word.{residue}
 use Rattle.dsv_unroll.specs.declared.rules.FitRule.{FitRule}
 use Rattle.dsv_unroll.specs.declared.rules.FitRule.TheVariants.{Tested}
-use Rattle.dsv_unroll.specs.Rules.{node_term, term_at}
+use Rattle.dsv_unroll.specs.Rules.{width_for, node_term, term_at}
 
 -- the greatest job that is unrolled
 abbrev pub most_size : ℕ
@@ -86,7 +86,25 @@ with_high_test t n high x tests =
     record { terms = test.terms; tests = tests ++ test.id ∷ [] })
     else record { terms = t; tests = tests }
 
--- inputs so far, and the tests that they are in range
+-- a number, or its complement where it is negative: both take as many bits in two's complement
+abbrev pub magnitude : ℤ → ℕ
+magnitude (pos m) = m
+magnitude (negsuc m) = m
+
+-- the least width in which all numbers from one end to the other are spelled
+abbrev pub range_width : ℤ → ℤ → ℕ
+range_width low high = width_for (max (magnitude low) (magnitude high))
+
+-- The term of an input's value, where the value is in range: as many of its low bits as spell the
+-- range, where a word has more, and the constant of a range of one number.
+abbrev pub value_term : TermsView → ℕ → ℤ → ℤ → TermId → Built
+value_term t n low high x =
+    let bits = range_width low high in
+    if int_lt low high
+    then (if nat_lt bits n then with_node t (Extract x (bits - 1) 0) else built_of t x)
+    else with_node t (Constant bits (residue bits low))
+
+-- the terms of the values of the inputs so far, and the tests that these are in range
 pub record InputTerms : Type 0 where
   pub terms : TermsView
   pub ids : List TermId
@@ -97,7 +115,8 @@ with_input n low high s =
     let x = with_new_input s.terms n in
     let a = with_low_test x.terms n low x.id s.tests in
     let b = with_high_test a.terms n high x.id a.tests in
-    record { terms = b.terms; ids = s.ids ++ x.id ∷ []; tests = b.tests }
+    let value = value_term b.terms n low high x.id in
+    record { terms = value.terms; ids = s.ids ++ value.id ∷ []; tests = b.tests }
 
 abbrev pub inputs_from : ℕ → ℤ → ℤ → ℕ → InputTerms → InputTerms
 inputs_from n low high zero s = s

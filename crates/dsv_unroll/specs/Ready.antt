@@ -1,5 +1,6 @@
 -- Serves private contracts: terms that are ready for the rules.
-use Rattle.std.specs.Prelude.{◌≡◌, ℕ, ◌<◌, ◌≤◌, List, length}
+use Rattle.std.specs.Prelude.{◌≡◌, ℕ, ◌<◌, ◌≤◌, List, length, ℤ, ◌≤ℤ◌}
+use Rattle.dsv_word.specs.Words.{lo, hi}
 use Rattle.dsv_netlist.specs.Nodes.{Net}
 use Rattle.dsv_term.specs.declared.node.TermId.{TermId}
 use Rattle.dsv_term.specs.Growth.{AreSound}
@@ -47,11 +48,11 @@ pub record AreRunReady (net : Net) (registers inputs : List TermId) (t : TermsVi
   pub flag_stands : broken.0 < length t.nodes
   pub flag_bit : width_of t broken ≡ 1
 
--- inputs of n bits and the tests of them so far
-pub record AreInputsReady (n : ℕ) (t : TermsView) (ids tests : List TermId) : Type 0 where
-  pub sound : AreSound t
-  pub ids_stand : (i : ℕ) → i < length ids → HasBits t (term_at ids i) n
-  pub tests_stand : (i : ℕ) → i < length tests → HasBits t (term_at tests i) 1
+-- the least number of bits in which all numbers from one end to the other are words
+pub record IsLeastWidth (bits : ℕ) (low high : ℤ) : Type 0 where
+  pub least : lo bits ≤ℤ low
+  pub greatest : high ≤ℤ hi bits
+  pub no_less : (n : ℕ) → 1 ≤ n → lo n ≤ℤ low → high ≤ℤ hi n → bits ≤ n
 
 -- bits that are joined
 pub record AreBits (t : TermsView) (bits : List TermId) : Type 0 where

@@ -4,10 +4,12 @@ ghost use Rattle.std.specs.Prelude.{◌≡◌, ◌<◌, ◌++◌, ◌∷◌, []}
 ghost use Rattle.std.specs.Prelude.{List, length, IfOk, ◌≤ℤ◌};
 ghost use Rattle.dsv_term.specs.Building.{built_of};
 ghost use Rattle.dsv_term.specs.Growth.{AreSound};
+ghost use Rattle.dsv_term.specs.Word.{IsWidth};
 ghost use Rattle.dsv_unroll.specs.Goals.{with_low_test, with_high_test, with_input, inputs_from};
-ghost use Rattle.dsv_unroll.specs.Goals.{conjunction_from};
-ghost use Rattle.dsv_unroll.specs.Ready.{HasBits, AreInputsReady, AreBits};
+ghost use Rattle.dsv_unroll.specs.Goals.{magnitude, range_width, value_term, conjunction_from};
+ghost use Rattle.dsv_unroll.specs.Ready.{HasBits, IsLeastWidth, AreBits};
 
+use crate::rules::width_for;
 use dsv_base::NoMemory;
 use dsv_term::{TermId, Terms, Word};
 use dsv_word::Format;
@@ -47,6 +49,7 @@ fn put_high_test(
     requires { HasBits terms.old x (width format.now) }
     ensures built { IfOk result (λ u. record { terms = terms.new; tests = tests.new.items }
         ≡ with_high_test terms.old (width format.now) high x tests.old.items) }
+    ensures x { IfOk result (λ u. HasBits terms.new x (width format.now)) }
 {
     if high < format.hi() {
         let bits = format.width();
@@ -58,7 +61,53 @@ fn put_high_test(
     Ok(())
 }
 
-/// Adds an input and the tests that it is in range.
+/// A number, or its complement where it is negative.
+fn magnitude(number: i64) -> u64
+    ensures { result ≡ magnitude number }
+{
+    if number < 0 {
+        (number + 1).unsigned_abs()
+    } else {
+        number.unsigned_abs()
+    }
+}
+
+/// The least width in which all numbers from one end to the other are spelled.
+fn range_width(low: i64, high: i64) -> u32
+    ensures value { result ≡ range_width low high }
+    ensures width { IsWidth result }
+    ensures least { low ≤ℤ high → IsLeastWidth result low high }
+{
+    let greatest = magnitude(low).max(magnitude(high));
+    width_for(greatest.into())
+}
+
+/// The term of an input's value where that is in range: its low bits, or a constant.
+fn value_term(
+    terms: &mut Terms,
+    format: &Format,
+    low: i64,
+    high: i64,
+    x: TermId,
+) -> Result<TermId, NoMemory>
+    requires { HasBits terms.old x (width format.now) }
+    ensures { IfOk result (λ value. built_of terms.new value
+        ≡ value_term terms.old (width format.now) low high x) }
+{
+    let bits = range_width(low, high);
+    if low < high {
+        if bits < format.width() {
+            terms.extract(x, bits - 1, 0)
+        } else {
+            Ok(x)
+        }
+    } else {
+        let word = Word::of_signed(bits, low.into());
+        terms.constant(bits, word.number)
+    }
+}
+
+/// Adds an input, the tests that it is in range, and the term of its value.
 fn put_input(
     terms: &mut Terms,
     format: &Format,
@@ -75,11 +124,12 @@ fn put_input(
     let x = terms.input(format.width())?;
     put_low_test(terms, format, *low, x, tests)?;
     put_high_test(terms, format, *high, x, tests)?;
-    ids.push(x)?;
+    let value = value_term(terms, format, *low, *high, x)?;
+    ids.push(value)?;
     Ok(())
 }
 
-/// The inputs, and the tests that they are in range.
+/// The terms of the inputs' values, and the tests that these are in range.
 #[derive(Drop)]
 pub(crate) struct InputTerms {
     pub ids: Vec<TermId>,
