@@ -11,7 +11,7 @@ use Rattle.std.proofs.lemmas.Bool.Decides.{nat_tests}
 use Rattle.dsv_cnf.specs.Literal.{Literal}
 use Rattle.dsv_cnf.proofs.PieceLemmas.{range-append, range-last}
 use Rattle.dsv_hints.specs.Derivation.{Entry, live_clause, without}
-use Rattle.dsv_hints.specs.Slots.{entry_of, live_of, IsRising, HasId, AllOther, IsWithin}
+use Rattle.dsv_hints.specs.Slots.{is_kept, entry_of, live_of, IsRising, HasId, AllOther, IsWithin}
 use Rattle.dsv_hints.specs.declared.store.Slot.{Slot}
 use Rattle.dsv_hints.proofs.SetLemmas.{eqb-other}
 
@@ -34,7 +34,7 @@ absent_cond e es id false n h = h
 pub live-absent : (literals : List Literal) (slots : List Slot) (id : ℕ) → AllOther slots id → live_clause (live_of literals slots) id ≡ None
 live-absent literals [] id n = refl
 live-absent literals (s ∷ ss) id n =
-    absent_cond (entry_of literals s) (live_of literals ss) id s.live (λ e. n 0 s (omega arith) e)
+    absent_cond (entry_of literals s) (live_of literals ss) id (is_kept s) (λ e. n 0 s (omega arith) e)
     (live-absent literals ss id (λ k d h. n (suc k) d (omega arith)))
 
 found_here : (e : Entry) (es : List Entry) (id : ℕ) (b : Bool) → e.id ≡ id → live_clause es id ≡ None → live_clause (cond b (e ∷ es) es) id ≡ cond b (Some e.clause) None
@@ -47,20 +47,20 @@ found_later e es id false o n h = h
 
 -- the live clause of an id is the one of its slot
 pub live-found : (literals : List Literal) (slots : List Slot) (id at : ℕ) (x : Slot) → IsRising slots → at < length slots → x ≡ get_or slots at x → x.id ≡ id
-    → live_clause (live_of literals slots) id ≡ cond x.live (Some (slice_range literals x.start x.end)) None
+    → live_clause (live_of literals slots) id ≡ cond (is_kept x) (Some (slice_range literals x.start x.end)) None
 live-found literals [] id at x p lt e h = absurd (omega arith)
 live-found literals (s ∷ ss) id zero x p lt e h =
     let same : s ≡ x = sym e in
-    rw (← same) (found_here (entry_of literals s) (live_of literals ss) id s.live (rw same h) (live-absent literals ss id (other-head s ss id p (rw same h))))
+    rw (← same) (found_here (entry_of literals s) (live_of literals ss) id (is_kept s) (rw same h) (live-absent literals ss id (other-head s ss id p (rw same h))))
 live-found literals (s ∷ ss) id (suc at) x p lt e h =
     let below : s.id < (get_or ss at x).id = rising-head s ss p at x (omega arith) in
     let there : (get_or ss at x).id ≡ id = rw (← e) h in
-    found_later (entry_of literals s) (live_of literals ss) id s.live (cond x.live (Some (slice_range literals x.start x.end)) None)
+    found_later (entry_of literals s) (live_of literals ss) id (is_kept s) (cond (is_kept x) (Some (slice_range literals x.start x.end)) None)
     (λ same. omega (arith, below, there, same)) (live-found literals ss id at x (rising-tail s ss p) (omega arith) e h)
 
 -- the same by what a search says of the slot
 pub live-at : (literals : List Literal) (slots : List Slot) (id at : ℕ) (x : Slot) → IsRising slots → HasId slots id at → x ≡ get_or slots at x
-    → live_clause (live_of literals slots) id ≡ cond x.live (Some (slice_range literals x.start x.end)) None
+    → live_clause (live_of literals slots) id ≡ cond (is_kept x) (Some (slice_range literals x.start x.end)) None
 live-at literals slots id at x p h e = live-found literals slots id at x p h.in_range e (rw (← e) at (h.same x))
 
 -- ---- deleting
@@ -72,7 +72,7 @@ absent_keep e es id false n h = h
 pub without-absent : (literals : List Literal) (slots : List Slot) (id : ℕ) → AllOther slots id → without (live_of literals slots) id ≡ live_of literals slots
 without-absent literals [] id n = refl
 without-absent literals (s ∷ ss) id n =
-    absent_keep (entry_of literals s) (live_of literals ss) id s.live (λ e. n 0 s (omega arith) e)
+    absent_keep (entry_of literals s) (live_of literals ss) id (is_kept s) (λ e. n 0 s (omega arith) e)
     (without-absent literals ss id (λ k d h. n (suc k) d (omega arith)))
 
 delete_here : (e : Entry) (es : List Entry) (id : ℕ) (b : Bool) → e.id ≡ id → without es id ≡ es → es ≡ without (cond b (e ∷ es) es) id
@@ -83,33 +83,41 @@ delete_later : (e : Entry) (es fewer : List Entry) (id : ℕ) (b : Bool) → (e.
 delete_later e es fewer id true n h = rw (eqb-other e.id id n, h) refl
 delete_later e es fewer id false n h = h
 
-pub live-deleted : (literals : List Literal) (slots : List Slot) (id at : ℕ) (x y : Slot) → IsRising slots → at < length slots → x ≡ get_or slots at x → x.id ≡ id → y.live ≡ false
+pub live-deleted : (literals : List Literal) (slots : List Slot) (id at : ℕ) (x y : Slot) → IsRising slots → at < length slots → x ≡ get_or slots at x → x.id ≡ id → is_kept y ≡ false
     → live_of literals (set slots at y) ≡ without (live_of literals slots) id
 live-deleted literals [] id at x y p lt e h d = absurd (omega arith)
 live-deleted literals (s ∷ ss) id zero x y p lt e h d =
     let same : s ≡ x = sym e in
     let at : s.id ≡ id = rw same h in
-    rw d (delete_here (entry_of literals s) (live_of literals ss) id s.live at (without-absent literals ss id (other-head s ss id p at)))
+    rw d (delete_here (entry_of literals s) (live_of literals ss) id (is_kept s) at (without-absent literals ss id (other-head s ss id p at)))
 live-deleted literals (s ∷ ss) id (suc at) x y p lt e h d =
     let below : s.id < (get_or ss at x).id = rising-head s ss p at x (omega arith) in
     let there : (get_or ss at x).id ≡ id = rw (← e) h in
-    delete_later (entry_of literals s) (live_of literals ss) (live_of literals (set ss at y)) id s.live
+    delete_later (entry_of literals s) (live_of literals ss) (live_of literals (set ss at y)) id (is_kept s)
     (λ same. omega (arith, below, there, same)) (live-deleted literals ss id at x y (rising-tail s ss p) (omega arith) e h d)
 
 -- ---- adding
+
+append_cond : (b : Bool) (e f : Entry) (es fs : List Entry) → (b ≡ true → e ≡ f) → es ≡ fs → cond b (e ∷ es) es ≡ cond b (f ∷ fs) fs
+append_cond true e f es fs h k = rw (h refl, k) refl
+append_cond false e f es fs h k = k
+
+kept_order : (s : Slot) → is_kept s ≡ true → s.start ≤ s.end
+kept_order s h = grind (arith, nat_tests)
 
 live-append : (literals more : List Literal) (slots : List Slot) → All (IsWithin (length literals)) slots → live_of (literals ++ more) slots ≡ live_of literals slots
 live-append literals more [] w = refl
 live-append literals more (s ∷ ss) w =
     let here = All-head (IsWithin (length literals)) s ss w in
-    rw (range-append literals more s.start s.end here.order here.inside, live-append literals more ss (All-tail (IsWithin (length literals)) s ss w)) refl
+    append_cond (is_kept s) (entry_of (literals ++ more) s) (entry_of literals s) (live_of (literals ++ more) ss) (live_of literals ss)
+    (λ h. rw (range-append literals more s.start s.end (kept_order s h) here.inside) refl) (live-append literals more ss (All-tail (IsWithin (length literals)) s ss w))
 
-live-push : (literals : List Literal) (slots : List Slot) (s : Slot) → s.live ≡ true → live_of literals (slots ++ s ∷ []) ≡ live_of literals slots ++ entry_of literals s ∷ []
+live-push : (literals : List Literal) (slots : List Slot) (s : Slot) → is_kept s ≡ true → live_of literals (slots ++ s ∷ []) ≡ live_of literals slots ++ entry_of literals s ∷ []
 live-push literals [] s h = rw h refl
-live-push literals (t ∷ ts) s h = elim t.live as (λ b. cond b (entry_of literals t ∷ live_of literals (ts ++ s ∷ [])) (live_of literals (ts ++ s ∷ [])) ≡ cond b (entry_of literals t ∷ live_of literals ts) (live_of literals ts) ++ entry_of literals s ∷ [])
+live-push literals (t ∷ ts) s h = elim (is_kept t) as (λ b. cond b (entry_of literals t ∷ live_of literals (ts ++ s ∷ [])) (live_of literals (ts ++ s ∷ [])) ≡ cond b (entry_of literals t ∷ live_of literals ts) (live_of literals ts) ++ entry_of literals s ∷ [])
     [ true ↦ ap (λ es. entry_of literals t ∷ es) (live-push literals ts s h) | false ↦ live-push literals ts s h ]
 
-is_added : (literals more : List Literal) (slots : List Slot) (s : Slot) → s.live ≡ true → s.start ≡ length literals → s.end ≡ length (literals ++ more) → All (IsWithin (length literals)) slots
+is_added : (literals more : List Literal) (slots : List Slot) (s : Slot) → is_kept s ≡ true → s.start ≡ length literals → s.end ≡ length (literals ++ more) → All (IsWithin (length literals)) slots
     → live_of (literals ++ more) (slots ++ s ∷ []) ≡ live_of literals slots ++ record { id = s.id; clause = more } ∷ []
 is_added literals more slots s live start end within =
     live-push (literals ++ more) slots s live
@@ -118,7 +126,7 @@ is_added literals more slots s live start end within =
 
 -- one more live clause after all others
 pub live-added : (literals more new : List Literal) (slots newer : List Slot) (s : Slot) → new ≡ literals ++ more → newer ≡ slots ++ s ∷ []
-    → s.live ≡ true → s.start ≡ length literals → s.end ≡ length new → All (IsWithin (length literals)) slots
+    → is_kept s ≡ true → s.start ≡ length literals → s.end ≡ length new → All (IsWithin (length literals)) slots
     → live_of new newer ≡ live_of literals slots ++ record { id = s.id; clause = more } ∷ []
 live-added literals more new slots newer s e f live start end within = rw (e, f) (is_added literals more slots s live start (rw e at end) within)
 

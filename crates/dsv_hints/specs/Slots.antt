@@ -1,7 +1,7 @@
 -- How the clauses of a derivation are kept: slots in the order of the ids, and one list of
 -- literals.
 use Rattle.std.specs.Prelude.{◌≡◌, ◌≢◌, ℕ, ◌<◌, ◌≤◌, List, [], ◌∷◌, Option}
-use Rattle.std.specs.Prelude.{Some, None, length, cond, slice_index_or, slice_range}
+use Rattle.std.specs.Prelude.{Bool, Some, None, length, cond, nat_le, slice_index_or, slice_range}
 use Rattle.std.specs.List.{All, AllPairs}
 use Rattle.dsv_cnf.specs.Literal.{Literal}
 use Rattle.dsv_hints.specs.Derivation.{Entry}
@@ -10,11 +10,15 @@ use Rattle.dsv_hints.specs.declared.store.Slot.{Slot}
 abbrev pub entry_of : List Literal → Slot → Entry
 entry_of literals s = record { id = s.id; clause = slice_range literals s.start s.end }
 
+-- A slot that ends before it starts is of a deleted clause.
+abbrev pub is_kept : Slot → Bool
+is_kept s = nat_le s.start s.end
+
 -- the live clauses
 abbrev pub live_of : List Literal → List Slot → List Entry
 live_of literals [] = []
 live_of literals (s ∷ ss) =
-    cond s.live (entry_of literals s ∷ live_of literals ss) (live_of literals ss)
+    cond (is_kept s) (entry_of literals s ∷ live_of literals ss) (live_of literals ss)
 
 -- the ids rise
 abbrev pub IsRising : List Slot → Type 0
@@ -29,9 +33,8 @@ pub record HasId (slots : List Slot) (id at : ℕ) : Type 0 where
 abbrev pub AllOther : List Slot → ℕ → Type 0
 AllOther slots id = All (λ s. s.id ≢ id) slots
 
--- The slot's literals lie among so many.
+-- The slot ends among so many literals.
 pub record IsWithin (count : ℕ) (s : Slot) : Type 0 where
-  pub order : s.start ≤ s.end
   pub inside : s.end ≤ count
 
 -- the id isn't greater than the last

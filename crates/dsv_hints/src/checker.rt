@@ -39,7 +39,8 @@ impl Model for Checker {
 }
 
 impl Checker {
-    /// The clauses of the formula, with the ids from 1 on, and no room for steps.
+    /// The clauses of the formula, with the ids from 1 on, and no room for steps. `NoMemory` is
+    /// answered where there is none, and where the formula has 2^32 literals or more.
     pub fn new(alloc: Global, formula: &Formula) -> Result<Self, NoMemory>
         ensures start { IfOk result (λ c. c
             ≡ record { carried = start_of formula.now; spare_steps = 0; spare_literals = 0 }) }
@@ -52,8 +53,9 @@ impl Checker {
         })
     }
 
-    /// Makes room for so many steps, and so many literals that they add; after `NoMemory` the
-    /// checker is unchanged.
+    /// Makes room for so many steps, and so many literals that they add. `NoMemory` is answered
+    /// where there is none, and where there would be 2^32 literals or more, the formula's and those
+    /// of deleted clauses among them; after it the checker is unchanged.
     pub fn reserve(&mut self, steps: u32, lits: u64) -> Result<(), NoMemory>
         ensures ok { OnOk result (self.new ≡ record self.old {
           spare_steps = max self.old.spare_steps steps;
@@ -122,7 +124,8 @@ impl Checker {
     }
 }
 
-/// Checks a log against a formula: the first step that is refused, or none.
+/// Checks a log against a formula: the first step that is refused, or none. `NoMemory` is answered
+/// where there is none, and where formula and log have 2^32 literals or more.
 pub fn check(alloc: Global, formula: &Formula, log: &Log) -> Result<Verdict, NoMemory>
     requires { length log.now < 2 ^ 32 - 1 }
     ensures exact { IfOk result (λ v. v ≡ verdict_of formula.now log.now) }

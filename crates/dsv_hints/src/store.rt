@@ -1,6 +1,6 @@
 // The clauses of a derivation, live and deleted.
 ghost use Rattle.std.specs.Prelude.{◌≡◌, ◌<◌, ◌≤◌, ◌-◌, ◌^◌, [], ◌∷◌, ◌++◌};
-ghost use Rattle.std.specs.Prelude.{None, Some, length, max, option_copied, slice_range};
+ghost use Rattle.std.specs.Prelude.{None, Some, length, max, nat_le, option_copied, slice_range};
 ghost use Rattle.std.specs.Prelude.{IsTrue, IfOk, OnOk, OnErr, IfNone, IfSome};
 ghost use Rattle.dsv_cnf.specs.Formula.{IsOver};
 ghost use Rattle.dsv_hints.specs.Derivation.{is_after, is_live, live_clause, without};
@@ -11,17 +11,24 @@ use dsv_cnf::Lit;
 use std::alloc::Global;
 use std::marker::Model;
 
-/// Where a clause's literals lie, and whether the clause is live.
+/// Where a clause's literals lie. The slot of a deleted clause ends before it starts.
 #[derive(Clone, Copy)]
 struct Slot {
     id: u64,
-    start: usize,
-    end: usize,
-    live: bool,
+    start: u32,
+    end: u32,
 }
 
-/// Clauses in the order of their ids. The literals of all of them lie in one list; a deleted clause
-/// keeps its place.
+impl Slot {
+    fn is_live(&self) -> bool
+        ensures { result ≡ nat_le self.now.start self.now.end }
+    {
+        self.start <= self.end
+    }
+}
+
+/// Clauses in the order of their ids. The literals of all of them, below 2^32, lie in one list; a
+/// deleted clause keeps its place.
 #[derive(Drop)]
 pub(crate) struct Store {
     vars: u32,
@@ -65,7 +72,8 @@ impl Store {
         }
     }
 
-    /// Makes room for so many more clauses, and so many literals in them.
+    /// Makes room for so many more clauses, and so many literals in them. `NoMemory` also says that
+    /// there would be 2^32 literals or more.
     pub fn reserve(&mut self, clauses: usize, literals: usize) -> Result<(), NoMemory>
         ensures ok { OnOk result (self.new ≡ record self.old {
           spare_clauses = max self.old.spare_clauses clauses;
@@ -75,6 +83,9 @@ impl Store {
     {
         let clauses = self.spare_clauses.max(clauses);
         let literals = self.spare_literals.max(literals);
+        if literals > u32::MAX as usize - self.literals.len() {
+            return Err(NoMemory);
+        }
         self.slots.reserve(clauses)?;
         self.literals.reserve(literals)?;
         self.spare_clauses = clauses;
@@ -104,10 +115,14 @@ impl Store {
         ensures over { IfSome result (λ c. IsOver self.now.vars c.now) }
     {
         let slot = self.slots[find(self.slots.as_slice(), id)?];
-        if !slot.live {
+        if !slot.is_live() {
             return None;
         }
-        Some(piece(self.literals.as_slice(), slot.start, slot.end))
+        Some(piece(
+            self.literals.as_slice(),
+            slot.start as usize,
+            slot.end as usize,
+        ))
     }
 
     pub fn is_live(&self, id: u64) -> bool
@@ -133,9 +148,8 @@ impl Store {
         self.literals.extend_from_slice(lits).unwrap();
         self.slots.push_reserved(Slot {
             id,
-            start,
-            end: self.literals.len(),
-            live: true,
+            start: start as u32,
+            end: self.literals.len() as u32,
         });
         self.last = Some(id);
         self.spare_clauses -= 1;
@@ -147,7 +161,9 @@ impl Store {
         ensures { self.new ≡ record self.old { live = without self.old.live id } }
     {
         if let Some(k) = find(self.slots.as_slice(), id) {
-            self.slots[k].live = false;
+            let slot = &mut self.slots[k];
+            slot.start = 1;
+            slot.end = 0;
         }
     }
 }

@@ -20,7 +20,7 @@ use Rattle.dsv_solver.specs.Propagation.{IsReady, IsConflict}
 use Rattle.dsv_solver.specs.Search.{IsComplete}
 use Rattle.dsv_solver.specs.Learning.{HasGrown}
 use Rattle.dsv_solver.specs.Ending.{AreValuesOf, IsRestarted, minus}
-use Rattle.dsv_solver.specs.Solving.{first_clauses, IsBegun, IsStuck, IsSearching}
+use Rattle.dsv_solver.specs.Solving.{IsRefuted, first_clauses, IsBegun, IsStuck, IsSearching}
 use Rattle.dsv_solver.proofs.LogSteps.{begun, learned, ended}
 use Rattle.dsv_solver.proofs.Finals.{all-fine, spent-holds}
 use Rattle.dsv_solver.proofs.Levels.{fines-now}
@@ -39,14 +39,14 @@ lesson-parts f log h = (
 no-lesson : (s : Carried) (id : ℕ) (hints : List ℕ) → IsLocalStep s (Add id [] hints)
 no-lesson s id hints e = absurd cc
 
-pub refutation : (f g : FormulaView) (conflicts : ℕ) (log new : List Step) (hints : List ℕ) → IsLogged f g.clauses log → length log ≤ conflicts → hints_answer (live_of g) hints none ≡ Ok tt → new ≡ log ++ Add (length g.clauses + 1) [] hints ∷ [] → IsRefutation f conflicts new
-refutation f g conflicts log new hints l few h e =
+pub refutation : (f g : FormulaView) (conflicts : ℕ) (log new : List Step) → IsLogged f g.clauses log → length log ≤ conflicts → IsRefuted g log new → IsRefutation f conflicts new
+refutation f g conflicts log new l few r =
     let p = lesson-parts f log l.lessons in
-    let last : Step = Add (length g.clauses + 1) [] hints in
-    rw e (record {
-      accepted = ended f g.clauses log hints l h;
+    let last : Step = Add (length g.clauses + 1) [] r.hints in
+    rw r.log_is (record {
+      accepted = ended f g.clauses log r.hints l r.derived;
       additions = AllSteps-push IsAddition (start_of f) log last p.0 tt;
-      are_local = AllSteps-push IsLocalStep (start_of f) log last p.2 (no-lesson (after_all (start_of f) log) (length g.clauses + 1) hints);
+      are_local = AllSteps-push IsLocalStep (start_of f) log last p.2 (no-lesson (after_all (start_of f) log) (length g.clauses + 1) r.hints);
       few = omega (arith, few, length-append log (last ∷ []));
     })
 

@@ -9,6 +9,7 @@ pub mod Literals
 pub mod Loads
 pub mod LogSteps
 pub mod Marking
+pub mod Others
 pub mod Passes
 pub mod Resolution
 pub mod Searching

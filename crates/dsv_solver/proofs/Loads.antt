@@ -1,10 +1,9 @@
 -- Clauses are watched at level 0, one after another.
-use Rattle.std.proofs.Common.{◌≡◌, ℕ, ◌+◌, ◌<◌, Bool, true, false, not, List, [], ◌∷◌, ◌++◌, refl, arith, ap, sym, ◌∙◌, inl, inr, length, length-append, take, slice_get, get_or, Some, None, Option, IfSome}
+use Rattle.std.proofs.Common.{◌≡◌, ℕ, ◌+◌, Bool, true, false, not, List, [], ◌∷◌, ◌++◌, refl, arith, ap, sym, ◌∙◌, inl, inr, length, length-append, take, slice_get, Some, None, Option, IfSome}
 use Rattle.std.proofs.lemmas.List.{take_more, length-take-le}
 use Rattle.std.proofs.lemmas.Option.{slice_get_within, get_or_from_slice_get}
-use Rattle.dsv_cnf.specs.Literal.{Literal, literal_eq, negation}
+use Rattle.dsv_cnf.specs.Literal.{Literal, negation}
 use Rattle.dsv_cnf.specs.FormulaView.{FormulaView}
-use Rattle.dsv_cnf.proofs.LiteralLemmas.{literal_eq-same, same_literal}
 use Rattle.dsv_cnf.specs.Formula.{contains}
 use Rattle.dsv_trail.specs.TrailView.{TrailView}
 use Rattle.dsv_trail.specs.Places.{falsifies}
@@ -14,24 +13,10 @@ use Rattle.dsv_solver.specs.Propagation.{HasReason, IsPlaced, IsJustified, IsLon
 use Rattle.dsv_solver.specs.Solving.{first_clauses, IsBegun, IsStuck, IsOther, AreAllOne}
 use Rattle.dsv_trail.specs.declared.marks.Mark.{Mark}
 use Rattle.dsv_solver.specs.declared.watches.Pair.{Pair}
-use Rattle.dsv_cnf.proofs.ClauseLemmas.{contains-head, contains-tail, contains-cases, no_both, contains-at}
 use Rattle.dsv_solver.proofs.Steps.{cared-longer, longer-put, justified-put}
 use Rattle.dsv_trail.proofs.PlaceLemmas.{falsifies-new}
 use Rattle.dsv_solver.proofs.Backs.{push-cases, prefix-get, justified-more}
 use Rattle.dsv_trail.proofs.Elements.{push-new}
-
--- ---- literals other than the first
-pub others_none : (first : Literal) → AreAllOne [] first
-others_none first = record { same = λ q i. absurd cc }
-
-pub others_more : (c : List Literal) (l first : Literal) → literal_eq l first ≡ true → AreAllOne c first → AreAllOne (c ++ l ∷ []) first
-others_more [] l first e h = record { same = λ q i. elim (contains-cases l [] q i) [ inl s ↦ s ∙ same_literal l first e | inr n ↦ absurd cc ] }
-others_more (m ∷ ms) l first e h =
-    let rest = others_more ms l first e (record { same = λ q i. h.same q (contains-tail m ms q i) }) in
-    record { same = λ q i. elim (contains-cases m (ms ++ l ∷ []) q i) [ inl s ↦ h.same q (rw s (contains-head m ms)) | inr n ↦ rest.same q n ] }
-
-pub other_at : (c : List Literal) (i : ℕ) (l first : Literal) → i < length c → l ≡ get_or c i l → literal_eq l first ≡ false → IsOther c first l
-other_at c i l first lt at e = record { stands = contains-at c i l lt at; apart = λ s. no_both (literal_eq l first) (rw s (literal_eq-same first)) e }
 
 -- ---- one clause more
 pub take_next : {X : Type 0} (xs : List X) (i : ℕ) (x : X) → slice_get xs i ≡ Some x → take (i + 1) xs ≡ take i xs ++ x ∷ []

@@ -1,25 +1,23 @@
 // Learning: the way back, a clause more, and its step in the log.
-ghost use Rattle.std.specs.Prelude.{◌≡◌, ◌≢◌, ◌<◌, ◌≤◌, ◌+◌, ◌-◌};
-ghost use Rattle.std.specs.Prelude.{◌^◌, ◌∷◌, ◌++◌, ℕ, List, true};
-ghost use Rattle.std.specs.Prelude.{false, ◌⊎◌, [], OnOk, OnErr, IfOk, MatchOption, IfSome, length};
-ghost use Rattle.std.specs.Prelude.{slice_get, Some};
-ghost use Rattle.dsv_cnf.specs.Literal.{Literal};
+ghost use Rattle.std.specs.Prelude.{◌≡◌, ◌<◌, ◌+◌, ◌-◌, ◌^◌, ◌∷◌, ◌++◌, true, [], OnOk, IfOk};
+ghost use Rattle.std.specs.Prelude.{MatchOption, IfSome, length, Some};
 ghost use Rattle.dsv_hints.specs.declared.step.Step.TheVariants.{Add};
 ghost use Rattle.dsv_trail.specs.Levels.{IsLevelOf};
 ghost use Rattle.dsv_trail.specs.Places.{falsifies, place_of};
 ghost use Rattle.dsv_solver.specs.Analysis.{AllFalse};
 ghost use Rattle.dsv_cnf.specs.Formula.{IsOver};
-ghost use Rattle.dsv_cnf.specs.Formula.{contains};
 ghost use Rattle.dsv_solver.specs.Propagation.{IsReady, IsConflict};
 ghost use Rattle.dsv_solver.specs.Search.{IsLast, IsLater};
 ghost use Rattle.dsv_solver.specs.Learning.{HasLesson, HasGrown, IsPlan, WillLearn};
 
 use crate::analyse::{HintStack, Learned, analyse};
 use crate::order::Order;
+use crate::search::put_back;
 use crate::seen::Seen;
-use crate::watches::{Pair, Watches};
+use crate::state::{Search, State};
+use crate::watches::Pair;
 use dsv_base::NoMemory;
-use dsv_cnf::{Formula, Lit};
+use dsv_cnf::Lit;
 use dsv_hints::{LitList, Log, Step};
 use dsv_trail::Trail;
 use std::alloc::Global;
@@ -75,31 +73,6 @@ pub(crate) fn write_step(
     })
 }
 
-/// What a clause that is false at a level above 0 teaches.
-fn lesson(
-    alloc: Global,
-    clauses: &Formula,
-    trail: &Trail,
-    watches: &Watches,
-    head: u32,
-    seen: &mut Seen,
-    conflict: u32,
-) -> Result<Learned, NoMemory>
-    requires ready { IsReady clauses.now trail.now watches.now head }
-    requires decided { 0 < length trail.now.limits }
-    requires seen { seen.old.vars ≡ trail.now.vars }
-    requires conflict { IsConflict clauses.now trail.now conflict }
-    ensures lesson { IfOk result (λ r. HasLesson clauses.now trail.now r.clause r.hints) }
-    ensures seen { seen.new.vars ≡ seen.old.vars }
-{
-    seen.clear();
-    let _count = trail.len();
-    let high = trail.limit(trail.level() - 1);
-    let zero_end = trail.limit(0);
-    let learned = analyse(alloc, clauses, trail, seen, conflict, zero_end, high)?;
-    Ok(learned)
-}
-
 /// The level at which a false literal became false.
 fn level_of(trail: &Trail, literal: Lit) -> u32
     requires over { literal.var < trail.now.vars }
@@ -141,13 +114,6 @@ fn make_plan(trail: &Trail, clause: &[Lit]) -> Plan
     }
 }
 
-/// Puts the variables of the literals from this place on back into the order.
-pub(crate) fn put_back(order: &mut Order, trail: &Trail, from: u32) {
-    for i in from..trail.len() {
-        order.put_back(trail.at(i));
-    }
-}
-
 /// Lets the variables that were met in a conflict come earlier.
 fn bump_all(order: &mut Order, seen: &Seen) {
     for literal in seen.as_slice() {
@@ -156,78 +122,87 @@ fn bump_all(order: &mut Order, seen: &Seen) {
     order.decay();
 }
 
-/// Goes back, adds a learned clause and implies its first literal.
-fn add_learned(
-    clauses: &mut Formula,
-    trail: &mut Trail,
-    watches: &mut Watches,
-    head: &mut u32,
-    order: &mut Order,
-    clause: &[Lit],
-    pair: Pair,
-    level: u32,
-) -> Result<(), NoMemory>
-    requires ready { IsReady clauses.old trail.old watches.old head.old }
-    requires level { level < length trail.old.limits }
-    requires learned { WillLearn trail.old clause.now pair level }
-    requires over { IsOver clauses.old.vars clause.now }
-    requires few { length clauses.old.clauses < 2 ^ 32 - 1 }
-    ensures ready { OnOk result (IsReady clauses.new trail.new watches.new head.new) }
-    ensures clauses { OnOk result (clauses.new
-        ≡ record clauses.old { clauses = clauses.old.clauses ++ clause.now ∷ [] }) }
-    ensures vars { OnOk result (trail.new.vars ≡ trail.old.vars) }
-{
-    let limit = trail.limit(level);
-    put_back(order, trail, limit);
-    trail.back_to(level);
-    *head = trail.len();
-    let number = clauses.len();
-    let literal = pair.one;
-    watches.add(pair)?;
-    clauses.push_clause(clause)?;
-    let _count = trail.len();
-    trail.imply(literal, number, clauses);
-    Ok(())
+impl State {
+    /// What a clause that is false at a level above 0 teaches.
+    fn lesson(&self, alloc: Global, seen: &mut Seen, conflict: u32) -> Result<Learned, NoMemory>
+        requires ready { IsReady self.now.clauses self.now.trail self.now.watches self.now.head }
+        requires decided { 0 < length self.now.trail.limits }
+        requires seen { seen.old.vars ≡ self.now.trail.vars }
+        requires conflict { IsConflict self.now.clauses self.now.trail conflict }
+        ensures lesson { IfOk result (λ r. HasLesson self.now.clauses self.now.trail r.clause
+            r.hints) }
+        ensures seen { seen.new.vars ≡ seen.old.vars }
+    {
+        seen.clear();
+        let _count = self.trail.len();
+        let high = self.trail.limit(self.trail.level() - 1);
+        let zero_end = self.trail.limit(0);
+        let learned = analyse(
+            alloc,
+            &self.clauses,
+            &self.trail,
+            seen,
+            conflict,
+            zero_end,
+            high,
+        )?;
+        Ok(learned)
+    }
+
+    /// Goes back, adds a learned clause and implies its first literal.
+    fn add_learned(&mut self, order: &mut Order, clause: &[Lit], plan: Plan) -> Result<(), NoMemory>
+        requires ready { IsReady self.old.clauses self.old.trail self.old.watches self.old.head }
+        requires level { plan.level < length self.old.trail.limits }
+        requires learned { WillLearn self.old.trail clause.now plan.pair plan.level }
+        requires over { IsOver self.old.clauses.vars clause.now }
+        requires few { length self.old.clauses.clauses < 2 ^ 32 - 1 }
+        ensures ready { OnOk result (IsReady self.new.clauses self.new.trail self.new.watches
+            self.new.head) }
+        ensures clauses { OnOk result (self.new.clauses ≡ record self.old.clauses {
+          clauses = self.old.clauses.clauses ++ clause.now ∷ [];
+        }) }
+        ensures vars { OnOk result (self.new.trail.vars ≡ self.old.trail.vars) }
+    {
+        let Plan { pair, level } = plan;
+        let limit = self.trail.limit(level);
+        put_back(order, &self.trail, limit);
+        self.trail.back_to(level);
+        self.head = self.trail.len();
+        let number = self.clauses.len();
+        let literal = pair.one;
+        self.watches.add(pair)?;
+        self.clauses.push_clause(clause)?;
+        let _count = self.trail.len();
+        self.trail.imply(literal, number, &self.clauses);
+        Ok(())
+    }
 }
 
-/// Learns from a clause that is false at a level above 0: goes back, adds a clause, implies its
-/// first literal, and
-/// writes its step.
-pub fn learn(
-    alloc: Global,
-    clauses: &mut Formula,
-    trail: &mut Trail,
-    watches: &mut Watches,
-    head: &mut u32,
-    order: &mut Order,
-    seen: &mut Seen,
-    log: &mut Log,
-    conflict: u32,
-) -> Result<(), NoMemory>
-    requires ready { IsReady clauses.old trail.old watches.old head.old }
-    requires decided { 0 < length trail.old.limits }
-    requires seen { seen.old.vars ≡ trail.old.vars }
-    requires conflict { IsConflict clauses.old trail.old conflict }
-    requires few { length clauses.old.clauses < 2 ^ 32 - 1 }
-    ensures ready { OnOk result (IsReady clauses.new trail.new watches.new head.new) }
-    ensures grown { OnOk result (HasGrown clauses.old clauses.new log.old log.new) }
-    ensures seen { OnOk result (seen.new.vars ≡ trail.new.vars) }
-{
-    let learned = lesson(alloc, clauses, trail, watches, *head, seen, conflict)?;
-    bump_all(order, seen);
-    let Learned { clause, hints } = learned;
-    let plan = make_plan(trail, clause.as_slice());
-    let _count = trail.len();
-    write_step(alloc, log, clauses.len(), clause.as_slice(), hints)?;
-    add_learned(
-        clauses,
-        trail,
-        watches,
-        head,
-        order,
-        clause.as_slice(),
-        plan.pair,
-        plan.level,
-    )?;
-    Ok(())
+impl Search {
+    /// Learns from a clause that is false at a level above 0: goes back, adds a clause, implies its
+    /// first literal, and writes its step.
+    pub fn learn(&mut self, alloc: Global, conflict: u32) -> Result<(), NoMemory>
+        requires ready { IsReady self.old.state.clauses self.old.state.trail
+            self.old.state.watches self.old.state.head }
+        requires decided { 0 < length self.old.state.trail.limits }
+        requires seen { self.old.seen.vars ≡ self.old.state.trail.vars }
+        requires conflict { IsConflict self.old.state.clauses self.old.state.trail conflict }
+        requires few { length self.old.state.clauses.clauses < 2 ^ 32 - 1 }
+        ensures ready { OnOk result (IsReady self.new.state.clauses self.new.state.trail
+            self.new.state.watches self.new.state.head) }
+        ensures grown { OnOk result (HasGrown self.old.state.clauses self.new.state.clauses
+            self.old.log self.new.log) }
+        ensures seen { OnOk result (self.new.seen.vars ≡ self.new.state.trail.vars) }
+    {
+        let learned = self.state.lesson(alloc, &mut self.seen, conflict)?;
+        bump_all(&mut self.order, &self.seen);
+        let Learned { clause, hints } = learned;
+        let plan = make_plan(&self.state.trail, clause.as_slice());
+        let _count = self.state.trail.len();
+        let number = self.state.clauses.len();
+        write_step(alloc, &mut self.log, number, clause.as_slice(), hints)?;
+        self.state
+            .add_learned(&mut self.order, clause.as_slice(), plan)?;
+        Ok(())
+    }
 }

@@ -10,6 +10,7 @@ mod propagate;
 mod search;
 mod seen;
 mod solver;
+mod state;
 mod watches;
 
 pub use solver::{Solved, solve};

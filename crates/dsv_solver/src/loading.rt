@@ -13,7 +13,7 @@ use dsv_cnf::{Formula, Lit};
 use dsv_trail::Trail;
 
 /// A literal of the clause that is another one.
-#[tactic(auto, using(crate::proofs::Loads::others_none, crate::proofs::Loads::other_at, crate::proofs::Loads::others_more))]
+#[tactic(auto, using(crate::proofs::Others::none, crate::proofs::Others::at, crate::proofs::Others::more))]
 fn other_than(clause: &[Lit], first: Lit) -> Option<Lit>
     ensures { MatchOption result (AreAllOne clause.now first) (IsOther clause.now first) }
 {

@@ -1,17 +1,15 @@
 // Unit propagation over watched literals.
-ghost use Rattle.std.specs.Prelude.{◌≡◌, ◌≢◌, ◌<◌, ◌≤◌, ◌+◌, ℕ};
-ghost use Rattle.std.specs.Prelude.{true, false, ◌⊎◌, slice_set};
-ghost use Rattle.std.specs.Prelude.{slice_index, OnOk, OnErr, IfOk, IfSome, MatchOption, length};
-ghost use Rattle.std.specs.Prelude.{slice_get, Some};
-ghost use Rattle.dsv_cnf.specs.Literal.{negation};
+ghost use Rattle.std.specs.Prelude.{◌≡◌, ◌≢◌, ◌<◌, ◌+◌, ℕ, true, slice_set, slice_index, OnOk};
+ghost use Rattle.std.specs.Prelude.{IfOk, IfSome, MatchOption, length, slice_get, Some};
 ghost use Rattle.dsv_cnf.specs.Formula.{IsOver};
 ghost use Rattle.dsv_trail.specs.Places.{falsifies};
-ghost use Rattle.dsv_solver.specs.Watched.{IsWatched, list_of};
+ghost use Rattle.dsv_solver.specs.Watched.{list_of};
 ghost use Rattle.dsv_solver.specs.Propagation.{open_of, IsReady, IsLonger, AreSettled, IsConflict};
 ghost use Rattle.dsv_solver.specs.Propagation.{IsPartner, HasNoPartner, IsNext};
 ghost use Rattle.dsv_solver.specs.declared.watches.Pair.{Pair};
 ghost use Rattle.dsv_solver.specs.Outcomes.{IsOutcome};
 
+use crate::state::State;
 use crate::watches::{Pair, Watches};
 use dsv_base::NoMemory;
 use dsv_cnf::{Formula, Lit};
@@ -133,96 +131,94 @@ enum Outcome {
     Conflict,
 }
 
-/// Looks at a clause whose watched literal is false.
-fn tend(
-    clauses: &Formula,
-    trail: &mut Trail,
-    watches: &mut Watches,
-    head: u32,
-    literal: Lit,
-    j: usize,
-    i: u32,
-) -> Result<Outcome, NoMemory>
-    requires ready { IsReady clauses.now trail.old watches.old head }
-    requires over { literal.var < trail.old.vars }
-    requires is_false { falsifies trail.old.marks literal ≡ true }
-    requires inside { j < length (list_of watches.old.lists literal) }
-    requires at { slice_index (list_of watches.old.lists literal) j ≡ i }
-    requires known { i < length watches.old.pairs }
-    ensures ready { IfOk result (λ r. IsReady clauses.now trail.new watches.new head) }
-    ensures longer { IfOk result (λ r. IsLonger trail.old trail.new) }
-    ensures answer { IfOk result
-        (IsOutcome clauses.now trail.old trail.new watches.old watches.new literal j i) }
-{
-    let Some(other) = partner(watches.pair(i), literal) else {
-        return Ok(Outcome::Kept);
-    };
-    if trail.is_false(other.negation()) {
-        return Ok(Outcome::Kept);
-    }
-    match find_next(clauses.clause(i), other, trail, watches.start(i)) {
-        Some(next) => {
-            replace(watches, literal, j, i, next, other)?;
-            Ok(Outcome::Moved)
+impl State {
+    /// Looks at a clause whose watched literal is false.
+    fn tend(&mut self, literal: Lit, j: usize, i: u32) -> Result<Outcome, NoMemory>
+        requires ready { IsReady self.old.clauses self.old.trail self.old.watches self.old.head }
+        requires over { literal.var < self.old.trail.vars }
+        requires is_false { falsifies self.old.trail.marks literal ≡ true }
+        requires inside { j < length (list_of self.old.watches.lists literal) }
+        requires at { slice_index (list_of self.old.watches.lists literal) j ≡ i }
+        requires known { i < length self.old.watches.pairs }
+        ensures clauses { self.new.clauses ≡ self.old.clauses }
+        ensures head { self.new.head ≡ self.old.head }
+        ensures ready { IfOk result (λ r. IsReady self.new.clauses self.new.trail self.new.watches
+            self.new.head) }
+        ensures longer { IfOk result (λ r. IsLonger self.old.trail self.new.trail) }
+        ensures answer { IfOk result (IsOutcome self.new.clauses self.old.trail self.new.trail
+            self.old.watches self.new.watches literal j i) }
+    {
+        let Some(other) = partner(self.watches.pair(i), literal) else {
+            return Ok(Outcome::Kept);
+        };
+        if self.trail.is_false(other.negation()) {
+            return Ok(Outcome::Kept);
         }
-        None => {
-            if trail.is_false(other) {
-                return Ok(Outcome::Conflict);
+        match find_next(
+            self.clauses.clause(i),
+            other,
+            &self.trail,
+            self.watches.start(i),
+        ) {
+            Some(next) => {
+                replace(&mut self.watches, literal, j, i, next, other)?;
+                Ok(Outcome::Moved)
             }
-            let _count = trail.len();
-            trail.imply(other, i, clauses);
-            Ok(Outcome::Kept)
+            None => {
+                if self.trail.is_false(other) {
+                    return Ok(Outcome::Conflict);
+                }
+                let _count = self.trail.len();
+                self.trail.imply(other, i, &self.clauses);
+                Ok(Outcome::Kept)
+            }
         }
     }
-}
 
-/// Goes through the clauses that watch a literal which is false now, up to a clause that is false.
-fn visit(
-    clauses: &Formula,
-    trail: &mut Trail,
-    watches: &mut Watches,
-    head: u32,
-    literal: Lit,
-) -> Result<Option<u32>, NoMemory>
-    requires ready { IsReady clauses.now trail.old watches.old head }
-    requires over { literal.var < trail.old.vars }
-    requires is_false { falsifies trail.old.marks literal ≡ true }
-    ensures ready { IfOk result (λ r. IsReady clauses.now trail.new watches.new head) }
-    ensures longer { IfOk result (λ r. IsLonger trail.old trail.new) }
-    ensures answer { IfOk result (λ r. MatchOption r
-        (AreSettled clauses.now trail.new watches.new literal) (IsConflict clauses.now trail.new)) }
-{
-    let mut j = 0;
-    while j < watches.count(literal) {
-        let i = watches.entry(literal, j);
-        match tend(clauses, trail, watches, head, literal, j, i)? {
-            Outcome::Kept => j += 1,
-            Outcome::Moved => {}
-            Outcome::Conflict => return Ok(Some(i)),
+    /// Goes through the clauses that watch a literal which is false now, up to one that is false.
+    fn visit(&mut self, literal: Lit) -> Result<Option<u32>, NoMemory>
+        requires ready { IsReady self.old.clauses self.old.trail self.old.watches self.old.head }
+        requires over { literal.var < self.old.trail.vars }
+        requires is_false { falsifies self.old.trail.marks literal ≡ true }
+        ensures clauses { self.new.clauses ≡ self.old.clauses }
+        ensures head { self.new.head ≡ self.old.head }
+        ensures ready { IfOk result (λ r. IsReady self.new.clauses self.new.trail self.new.watches
+            self.new.head) }
+        ensures longer { IfOk result (λ r. IsLonger self.old.trail self.new.trail) }
+        ensures answer { IfOk result (λ r. MatchOption r
+            (AreSettled self.new.clauses self.new.trail self.new.watches literal)
+            (IsConflict self.new.clauses self.new.trail)) }
+    {
+        let mut j = 0;
+        while j < self.watches.count(literal) {
+            let i = self.watches.entry(literal, j);
+            match self.tend(literal, j, i)? {
+                Outcome::Kept => j += 1,
+                Outcome::Moved => {}
+                Outcome::Conflict => return Ok(Some(i)),
+            }
         }
+        Ok(None)
     }
-    Ok(None)
-}
 
-/// Goes on until every clause with all literals but one false has that one true, or one is false.
-pub fn propagate(
-    clauses: &Formula,
-    trail: &mut Trail,
-    watches: &mut Watches,
-    head: &mut u32,
-) -> Result<Option<u32>, NoMemory>
-    requires ready { IsReady clauses.now trail.old watches.old head.old }
-    ensures ready { IfOk result (λ r. IsReady clauses.now trail.new watches.new head.new) }
-    ensures longer { IfOk result (λ r. IsLonger trail.old trail.new) }
-    ensures answer { IfOk result (λ r. MatchOption r (head.new
-        ≡ length trail.new.marks) (IsConflict clauses.now trail.new)) }
-{
-    while *head < trail.len() {
-        let literal = trail.mark(*head).literal.negation();
-        if let Some(i) = visit(clauses, trail, watches, *head, literal)? {
-            return Ok(Some(i));
+    /// Goes on until every clause with all literals but one false has that one true, or the number
+    /// of a clause that is false.
+    pub fn propagate(&mut self) -> Result<Option<u32>, NoMemory>
+        requires ready { IsReady self.old.clauses self.old.trail self.old.watches self.old.head }
+        ensures clauses { self.new.clauses ≡ self.old.clauses }
+        ensures ready { IfOk result (λ r. IsReady self.new.clauses self.new.trail self.new.watches
+            self.new.head) }
+        ensures longer { IfOk result (λ r. IsLonger self.old.trail self.new.trail) }
+        ensures answer { IfOk result (λ r. MatchOption r (self.new.head
+            ≡ length self.new.trail.marks) (IsConflict self.new.clauses self.new.trail)) }
+    {
+        while self.head < self.trail.len() {
+            let literal = self.trail.mark(self.head).literal.negation();
+            if let Some(i) = self.visit(literal)? {
+                return Ok(Some(i));
+            }
+            self.head += 1;
         }
-        *head += 1;
+        Ok(None)
     }
-    Ok(None)
 }

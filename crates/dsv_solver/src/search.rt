@@ -1,15 +1,13 @@
 // Decisions, until a clause is false or every variable has a value.
-ghost use Rattle.std.specs.Prelude.{◌≡◌, ◌<◌, ◌≤◌, ◌+◌, ◌-◌, ◌^◌};
-ghost use Rattle.std.specs.Prelude.{ℕ, true, false, ◌⊎◌, [], OnOk};
-ghost use Rattle.std.specs.Prelude.{OnErr, IfOk, IfSome, MatchOption, length, slice_get, Some};
+ghost use Rattle.std.specs.Prelude.{◌≡◌, ◌≤◌, ◌^◌, false, IfOk, IfSome, MatchOption, Some};
 ghost use Rattle.dsv_solver.specs.Propagation.{IsReady, IsConflict};
 ghost use Rattle.dsv_solver.specs.Search.{IsFull, IsOpenAt, IsComplete};
+ghost use Rattle.dsv_solver.specs.Ending.{IsRestarted};
 
 use crate::order::Order;
-use crate::propagate::propagate;
-use crate::watches::Watches;
+use crate::state::State;
 use dsv_base::NoMemory;
-use dsv_cnf::{Formula, Lit};
+use dsv_cnf::Lit;
 use dsv_trail::Trail;
 
 /// The literal that is decided next in the order, if its variable is open.
@@ -56,28 +54,48 @@ fn choose(trail: &Trail, order: &mut Order) -> Option<Lit>
     first_open(trail)
 }
 
-/// Decides and propagates until a clause is false, or every variable has a value.
-pub fn advance(
-    clauses: &Formula,
-    trail: &mut Trail,
-    watches: &mut Watches,
-    head: &mut u32,
-    order: &mut Order,
-) -> Result<Option<u32>, NoMemory>
-    requires ready { IsReady clauses.now trail.old watches.old head.old }
-    ensures ready { IfOk result (λ r. IsReady clauses.now trail.new watches.new head.new) }
-    ensures answer { IfOk result (λ r. MatchOption r (IsComplete trail.new head.new)
-        (IsConflict clauses.now trail.new)) }
-{
-    let mut found = propagate(clauses, trail, watches, head)?;
-    while found.is_none() {
-        let _count = trail.len();
-        let _vars = clauses.vars();
-        let Some(literal) = choose(trail, order) else {
-            return Ok(None);
-        };
-        trail.decide(literal);
-        found = propagate(clauses, trail, watches, head)?;
+/// Puts the variables of the literals from this place on back into the order.
+pub(crate) fn put_back(order: &mut Order, trail: &Trail, from: u32) {
+    for i in from..trail.len() {
+        order.put_back(trail.at(i));
     }
-    Ok(found)
+}
+
+impl State {
+    /// Decides and propagates until every variable has a value, or the number of a clause that is
+    /// false.
+    pub fn advance(&mut self, order: &mut Order) -> Result<Option<u32>, NoMemory>
+        requires ready { IsReady self.old.clauses self.old.trail self.old.watches self.old.head }
+        ensures clauses { self.new.clauses ≡ self.old.clauses }
+        ensures ready { IfOk result (λ r. IsReady self.new.clauses self.new.trail self.new.watches
+            self.new.head) }
+        ensures answer { IfOk result (λ r. MatchOption r (IsComplete self.new.trail self.new.head)
+            (IsConflict self.new.clauses self.new.trail)) }
+    {
+        let mut found = self.propagate()?;
+        while found.is_none() {
+            let _count = self.trail.len();
+            let _vars = self.clauses.vars();
+            let Some(literal) = choose(&self.trail, order) else {
+                return Ok(None);
+            };
+            self.trail.decide(literal);
+            found = self.propagate()?;
+        }
+        Ok(found)
+    }
+
+    /// Goes back to level 0.
+    pub fn restart(&mut self, order: &mut Order)
+        ensures clauses { self.new.clauses ≡ self.old.clauses }
+        ensures watches { self.new.watches ≡ self.old.watches }
+        ensures trail { IsRestarted self.old.trail self.new.trail self.old.head self.new.head }
+    {
+        if self.trail.level() > 0 {
+            let limit = self.trail.limit(0);
+            put_back(order, &self.trail, limit);
+            self.trail.back_to(0);
+            self.head = self.trail.len();
+        }
+    }
 }

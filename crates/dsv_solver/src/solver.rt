@@ -1,28 +1,27 @@
 // The solver: search, lessons, restarts, and the answers.
-ghost use Rattle.std.specs.Prelude.{◌≡◌, ◌<◌, ◌≤◌, ◌+◌, ◌-◌, ◌^◌};
-ghost use Rattle.std.specs.Prelude.{ℕ, List, true, [], OnOk, IfOk};
-ghost use Rattle.std.specs.Prelude.{MatchOption, length, slice_get, Some};
-ghost use Rattle.dsv_solver.specs.Logged.{IsLogged};
-ghost use Rattle.dsv_solver.specs.Ending.{AreValuesOf, IsRestarted};
+ghost use Rattle.std.specs.Prelude.{◌≡◌, ◌<◌, ◌≤◌, ◌+◌, ◌-◌, ◌^◌, [], IfOk, length, Some};
+ghost use Rattle.dsv_solver.specs.Ending.{AreValuesOf};
 ghost use Rattle.dsv_cnf.specs.Formula.{IsModel};
 ghost use Rattle.dsv_hints.specs.Lessons.{IsRefutation, IsSpent};
 ghost use Rattle.dsv_solver.specs.Solved.{IfSat, IfSpent, IfUnsat};
-ghost use Rattle.dsv_solver.specs.Solving.{IsStuck};
+ghost use Rattle.dsv_solver.specs.Solving.{IsStuck, IsNewSearch, IsRefuted};
 
 use crate::analyse::refute;
-use crate::learn::{learn, put_back, write_step};
+use crate::learn::write_step;
 use crate::loading::load;
 use crate::luby::Luby;
 use crate::order::Order;
-use crate::propagate::propagate;
-use crate::search::advance;
 use crate::seen::Seen;
+use crate::state::{Search, State};
 use crate::watches::Watches;
 use dsv_base::NoMemory;
 use dsv_cnf::{Assignment, Formula, Lit};
 use dsv_hints::Log;
 use dsv_trail::Trail;
 use std::alloc::Global;
+
+/// 2^32 - 2: so many clauses, the learned ones among them, are too many to be numbered.
+const TOO_MANY_CLAUSES: u64 = 0xffff_fffe;
 
 /// What a search found.
 #[derive(Drop)]
@@ -52,43 +51,6 @@ fn model(alloc: Global, trail: &Trail) -> Result<Assignment, NoMemory>
     Ok(values)
 }
 
-/// Ends a log where a clause is false at level 0.
-fn refuted(
-    alloc: Global,
-    formula: &Formula,
-    clauses: &Formula,
-    trail: &Trail,
-    seen: &mut Seen,
-    log: Log,
-    conflict: u32,
-    conflicts: u32,
-) -> Result<Log, NoMemory>
-    requires logged { IsLogged formula.now clauses.now.clauses log }
-    requires few { length log ≤ conflicts }
-    requires seen { seen.old.vars ≡ trail.now.vars }
-    requires stuck { IsStuck clauses.now trail.now conflict }
-    ensures { IfOk result (IsRefutation formula.now conflicts) }
-{
-    seen.clear();
-    let _count = trail.len();
-    let hints = refute(alloc, clauses, trail, seen, conflict)?;
-    let mut log = log;
-    write_step(alloc, &mut log, clauses.len(), &[], hints)?;
-    Ok(log)
-}
-
-/// Goes back to level 0.
-fn restart(trail: &mut Trail, head: &mut u32, order: &mut Order)
-    ensures { IsRestarted trail.old trail.new head.old head.new }
-{
-    if trail.level() > 0 {
-        let limit = trail.limit(0);
-        put_back(order, trail, limit);
-        trail.back_to(0);
-        *head = trail.len();
-    }
-}
-
 /// The formula's clauses, for more after them.
 fn copy(alloc: Global, formula: &Formula) -> Result<Formula, NoMemory>
     requires { length formula.now.clauses < 2 ^ 32 - 1 }
@@ -99,6 +61,47 @@ fn copy(alloc: Global, formula: &Formula) -> Result<Formula, NoMemory>
         clauses.push_clause(formula.clause(i))?;
     }
     Ok(clauses)
+}
+
+impl Search {
+    /// The formula's clauses, and no variable set.
+    fn new(alloc: Global, formula: &Formula) -> Result<Search, NoMemory>
+        requires { length formula.now.clauses < 2 ^ 32 - 1 }
+        ensures { IfOk result (λ s. IsNewSearch formula.now s.state s.seen s.log) }
+    {
+        let vars = formula.vars();
+        let state = State {
+            clauses: copy(alloc, formula)?,
+            trail: Trail::new(alloc, vars)?,
+            watches: Watches::new(alloc, vars)?,
+            head: 0,
+        };
+        Ok(Search {
+            state,
+            order: Order::new(alloc, vars)?,
+            seen: Seen::new(alloc, vars)?,
+            log: Log::new(alloc),
+        })
+    }
+
+    /// The log of a refutation, where a clause is false at level 0.
+    fn refutation(self, alloc: Global, conflict: u32) -> Result<Log, NoMemory>
+        requires seen { self.seen.vars ≡ self.state.trail.vars }
+        requires stuck { IsStuck self.state.clauses self.state.trail conflict }
+        ensures { IfOk result (IsRefuted self.state.clauses self.log) }
+    {
+        let Search {
+            state,
+            mut seen,
+            mut log,
+            ..
+        } = self;
+        seen.clear();
+        let _count = state.trail.len();
+        let hints = refute(alloc, &state.clauses, &state.trail, &mut seen, conflict)?;
+        write_step(alloc, &mut log, state.clauses.len(), &[], hints)?;
+        Ok(log)
+    }
 }
 
 /// Searches for values that satisfy the formula, until `conflicts` clauses were learned, 1 to 2^30.
@@ -115,52 +118,34 @@ pub fn solve(alloc: Global, formula: &Formula, conflicts: u32) -> Result<Solved,
     ensures refuted { IfOk result (IfUnsat (IsRefutation formula.now conflicts)) }
     ensures spent { IfOk result (IfSpent (IsSpent formula.now conflicts)) }
 {
-    if u64::from(formula.len()) + u64::from(conflicts) >= 0xffff_fffe {
+    if u64::from(formula.len()) + u64::from(conflicts) >= TOO_MANY_CLAUSES {
         return Err(NoMemory);
     }
-    let mut clauses = copy(alloc, formula)?;
-    let mut trail = Trail::new(alloc, formula.vars())?;
-    let mut watches = Watches::new(alloc, formula.vars())?;
-    let mut seen = Seen::new(alloc, formula.vars())?;
-    let mut log = Log::new(alloc);
-    if let Some(i) = load(&clauses, &mut trail, &mut watches)? {
-        return Ok(Solved::Unsat(refuted(
-            alloc, formula, &clauses, &trail, &mut seen, log, i, conflicts,
-        )?));
+    let mut search = Search::new(alloc, formula)?;
+    if let Some(i) = load(
+        &search.state.clauses,
+        &mut search.state.trail,
+        &mut search.state.watches,
+    )? {
+        return Ok(Solved::Unsat(search.refutation(alloc, i)?));
     }
-    let mut head = 0;
-    let mut order = Order::new(alloc, formula.vars())?;
     let mut luby = Luby::new();
     for _ in 0..conflicts {
-        let Some(i) = advance(&clauses, &mut trail, &mut watches, &mut head, &mut order)? else {
-            let _over = clauses.vars();
-            return Ok(Solved::Sat(model(alloc, &trail)?));
+        let Some(i) = search.state.advance(&mut search.order)? else {
+            let _over = search.state.clauses.vars();
+            return Ok(Solved::Sat(model(alloc, &search.state.trail)?));
         };
-        if trail.level() == 0 {
-            return Ok(Solved::Unsat(refuted(
-                alloc, formula, &clauses, &trail, &mut seen, log, i, conflicts,
-            )?));
+        if search.state.trail.level() == 0 {
+            return Ok(Solved::Unsat(search.refutation(alloc, i)?));
         }
-        learn(
-            alloc,
-            &mut clauses,
-            &mut trail,
-            &mut watches,
-            &mut head,
-            &mut order,
-            &mut seen,
-            &mut log,
-            i,
-        )?;
+        search.learn(alloc, i)?;
         if luby.is_due() {
-            restart(&mut trail, &mut head, &mut order);
+            search.state.restart(&mut search.order);
         }
     }
-    restart(&mut trail, &mut head, &mut order);
-    match propagate(&clauses, &mut trail, &mut watches, &mut head)? {
-        None => Ok(Solved::Spent(log)),
-        Some(i) => Ok(Solved::Unsat(refuted(
-            alloc, formula, &clauses, &trail, &mut seen, log, i, conflicts,
-        )?)),
+    search.state.restart(&mut search.order);
+    match search.state.propagate()? {
+        None => Ok(Solved::Spent(search.log)),
+        Some(i) => Ok(Solved::Unsat(search.refutation(alloc, i)?)),
     }
 }

@@ -1,6 +1,8 @@
-//! Tests of the solver: small formulas, and random ones against enumeration.
+//! Tests of the solver: small formulas, a multiplier, and random ones against enumeration.
 #![tactic(auto)]
 
+#[cfg(test)]
+mod multiplier;
 #[cfg(test)]
 mod random;
 #[cfg(test)]

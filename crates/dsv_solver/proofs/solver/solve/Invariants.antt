@@ -5,7 +5,7 @@ use Rattle.dsv_solver.proofs.solver.solve.Given as goal
 abbrev pub invariant-loop : goal.invariant-loop
 invariant-loop l =
     record {
-      searching : IsSearching l.formula l.clauses l.trail l.watches l.head l.log;
-      count : length l.log ≡ l.counter;
-      seen : l.seen.vars ≡ l.trail.vars;
+      searching : IsSearching l.formula l.search.state.clauses l.search.state.trail l.search.state.watches l.search.state.head l.search.log;
+      count : length l.search.log ≡ l.counter;
+      seen : l.search.seen.vars ≡ l.search.state.trail.vars;
     }

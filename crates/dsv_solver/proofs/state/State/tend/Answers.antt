@@ -7,43 +7,43 @@ use Rattle.dsv_solver.specs.Propagation.{IsPartner, IsNext}
 use Rattle.dsv_cnf.proofs.ClauseLemmas.{no_both, IsOver-member}
 use Rattle.dsv_solver.proofs.Steps.{open-none, ready-moved, ready-put, no-partner-settled, true-settled, some-same, partner-other}
 use Rattle.dsv_trail.proofs.PlaceLemmas.{falsifies-new, open-of, reason-of}
-use Rattle.dsv_solver.proofs.propagate.tend.Goals as goal
+use Rattle.dsv_solver.proofs.state.State.tend.Goals as goal
 
 pub returns-in_default-clause-answer : goal.returns-in_default-clause-answer
 returns-in_default-clause-answer c =
     record {
       same = refl;
-      settled = λ d p e f. no-partner-settled c.args.trail.now c.args.head d p c.args.literal (rw (some-same _ _ _ f c.pair.ensures.at) c.in_default.ensures) (c.requires.ready.watched.each c.args.i d p e f);
+      settled = λ d p e f. no-partner-settled c.args.self.now.trail c.args.self.now.head d p c.args.literal (rw (some-same _ _ _ f c.pair.ensures.at) c.in_default.ensures) (c.requires.ready.watched.each c.args.i d p e f);
     }
 
 pub replace-requires-clause-next_over : goal.replace-requires-clause-next_over
 replace-requires-clause-next_over c =
-    let o : IsNext c.args.trail.now.marks c.in-Some.other c.clause.result.now c.in-Some-find_next.next.literal = c.in-Some-find_next.ensures in
-    rw c.requires.ready.watch_vars (IsOver-member c.args.clauses.now.vars c.clause.result.now c.in-Some-find_next.next.literal c.clause.ensures.over o.stands)
+    let o : IsNext c.args.self.now.trail.marks c.in-Some.other c.clause.result.now c.in-Some-find_next.next.literal = c.in-Some-find_next.ensures in
+    rw c.requires.ready.watch_vars (IsOver-member c.args.self.now.clauses.vars c.clause.result.now c.in-Some-find_next.next.literal c.clause.ensures.over o.stands)
 
 pub replace-requires-clause-moves : goal.replace-requires-clause-moves
 replace-requires-clause-moves c e =
-    let o : IsNext c.args.trail.now.marks c.in-Some.other c.clause.result.now c.in-Some-find_next.next.literal = c.in-Some-find_next.ensures in
-    no_both (falsifies c.args.trail.now.marks c.args.literal) c.requires.is_false (ap (falsifies c.args.trail.now.marks) (sym e) ∙ o.not_false)
+    let o : IsNext c.args.self.now.trail.marks c.in-Some.other c.clause.result.now c.in-Some-find_next.next.literal = c.in-Some-find_next.ensures in
+    no_both (falsifies c.args.self.now.trail.marks c.args.literal) c.requires.is_false (ap (falsifies c.args.self.now.trail.marks) (sym e) ∙ o.not_false)
 
 pub returns-then-is_false-2-clause-answer : goal.returns-then-is_false-2-clause-answer
 returns-then-is_false-2-clause-answer c =
     record {
       clause = c.clause.result.now;
       at = c.clause.ensures.at;
-      all = λ q i. elim (open-none c.args.trail.now.marks c.in-Some.other c.clause.result.now c.in-None.ensures q i) [ inl e ↦ rw e (sym c.is_false-in-None.ensures ∙ c.if-is_false-2.true) | inr h ↦ h ];
+      all = λ q i. elim (open-none c.args.self.now.trail.marks c.in-Some.other c.clause.result.now c.in-None.ensures q i) [ inl e ↦ rw e (sym c.is_false-in-None.ensures ∙ c.if-is_false-2.true) | inr h ↦ h ];
     }
 
 pub returns-in_ok-replace-in-Some-find_next-clause-ready :
     goal.returns-in_ok-replace-in-Some-find_next-clause-ready
 returns-in_ok-replace-in-Some-find_next-clause-ready c =
-    let o : IsNext c.args.trail.now.marks c.in-Some.other c.clause.result.now c.in-Some-find_next.next.literal = c.in-Some-find_next.ensures in
-    ready-moved c.args.clauses.now c.args.trail.now c.args.watches.now c.replace.new.watches c.args.head c.args.i c.clause.result.now c.pair.result c.args.literal c.in-Some.other c.in-Some-find_next.next.literal c.requires.ready c.clause.ensures.at c.pair.ensures.at c.requires.is_false o c.in-Some.ensures c.in_ok-replace-in-Some-find_next.ensures.pairs c.replace.ensures.vars
+    let o : IsNext c.args.self.now.trail.marks c.in-Some.other c.clause.result.now c.in-Some-find_next.next.literal = c.in-Some-find_next.ensures in
+    ready-moved c.args.self.now.clauses c.args.self.now.trail c.args.self.now.watches c.replace.new.watches c.args.self.now.head c.args.i c.clause.result.now c.pair.result c.args.literal c.in-Some.other c.in-Some-find_next.next.literal c.requires.ready c.clause.ensures.at c.pair.ensures.at c.requires.is_false o c.in-Some.ensures c.in_ok-replace-in-Some-find_next.ensures.pairs c.replace.ensures.vars
 
 pub returns-in_ok-replace-in-Some-find_next-clause-answer :
     goal.returns-in_ok-replace-in-Some-find_next-clause-answer
 returns-in_ok-replace-in-Some-find_next-clause-answer c =
-    let o : IsNext c.args.trail.now.marks c.in-Some.other c.clause.result.now c.in-Some-find_next.next.literal = c.in-Some-find_next.ensures in
+    let o : IsNext c.args.self.now.trail.marks c.in-Some.other c.clause.result.now c.in-Some-find_next.next.literal = c.in-Some-find_next.ensures in
     let n : IsPartner c.pair.result c.args.literal c.in-Some.other = c.in-Some.ensures in
     record {
       next = c.in-Some-find_next.next.literal;
@@ -60,29 +60,29 @@ returns-in_ok-replace-in-Some-find_next-clause-answer c =
 
 pub imply-requires-clause-free : goal.imply-requires-clause-free
 imply-requires-clause-free c =
-    open-of c.args.trail.now.marks c.in-Some.other (sym c.is_false-in-None.ensures ∙ c.if-is_false-2.false)
-    (ap (falsifies c.args.trail.now.marks) (sym c.negation.ensures) ∙ (sym c.is_false.ensures ∙ c.if-is_false.false))
+    open-of c.args.self.now.trail.marks c.in-Some.other (sym c.is_false-in-None.ensures ∙ c.if-is_false-2.false)
+    (ap (falsifies c.args.self.now.trail.marks) (sym c.negation.ensures) ∙ (sym c.is_false.ensures ∙ c.if-is_false.false))
 
 pub imply-requires-clause-reason : goal.imply-requires-clause-reason
 imply-requires-clause-reason c =
     let n : IsPartner c.pair.result c.args.literal c.in-Some.other = c.in-Some.ensures in
-    reason-of c.args.trail.now.vars c.args.clauses.now.clauses c.args.i c.args.trail.now.marks c.clause.result.now c.in-Some.other c.len-count.ensures.whole.marks c.clause.ensures.at
+    reason-of c.args.self.now.trail.vars c.args.self.now.clauses.clauses c.args.i c.args.self.now.trail.marks c.clause.result.now c.in-Some.other c.len-count.ensures.whole.marks c.clause.ensures.at
     (partner-other c.clause.result.now c.pair.result c.args.literal c.in-Some.other n (c.requires.ready.watched.each c.args.i c.clause.result.now c.pair.result c.clause.ensures.at c.pair.ensures.at).0)
-    (open-none c.args.trail.now.marks c.in-Some.other c.clause.result.now c.in-None.ensures)
+    (open-none c.args.self.now.trail.marks c.in-Some.other c.clause.result.now c.in-None.ensures)
 
 pub returns-else-is_false-2-clause-ready : goal.returns-else-is_false-2-clause-ready
 returns-else-is_false-2-clause-ready c =
     let n : IsPartner c.pair.result c.args.literal c.in-Some.other = c.in-Some.ensures in
-    let m : Mark = record { literal = c.in-Some.other; level = length c.args.trail.now.limits; reason = Some c.args.i } in
-    ready-put c.args.clauses.now c.args.trail.now c.imply.new.self c.args.watches.now c.args.head m c.requires.ready
+    let m : Mark = record { literal = c.in-Some.other; level = length c.args.self.now.trail.limits; reason = Some c.args.i } in
+    ready-put c.args.self.now.clauses c.args.self.now.trail c.imply.new.self c.args.self.now.watches c.args.self.now.head m c.requires.ready
     (record {
       open_literal = sym c.is_false-in-None.ensures ∙ c.if-is_false-2.false;
-      open_negation = ap (falsifies c.args.trail.now.marks) (sym c.negation.ensures) ∙ (sym c.is_false.ensures ∙ c.if-is_false.false);
+      open_negation = ap (falsifies c.args.self.now.trail.marks) (sym c.negation.ensures) ∙ (sym c.is_false.ensures ∙ c.if-is_false.false);
       reason = record {
         clause = c.clause.result.now;
         at = c.clause.ensures.at;
         has = partner-other c.clause.result.now c.pair.result c.args.literal c.in-Some.other n (c.requires.ready.watched.each c.args.i c.clause.result.now c.pair.result c.clause.ensures.at c.pair.ensures.at).0;
-        others = open-none c.args.trail.now.marks c.in-Some.other c.clause.result.now c.in-None.ensures;
+        others = open-none c.args.self.now.trail.marks c.in-Some.other c.clause.result.now c.in-None.ensures;
       };
     })
     c.imply.ensures.state
@@ -90,11 +90,11 @@ returns-else-is_false-2-clause-ready c =
 pub returns-else-is_false-2-clause-answer : goal.returns-else-is_false-2-clause-answer
 returns-else-is_false-2-clause-answer c =
     let n : IsPartner c.pair.result c.args.literal c.in-Some.other = c.in-Some.ensures in
-    let m : Mark = record { literal = c.in-Some.other; level = length c.args.trail.now.limits; reason = Some c.args.i } in
-    let ms : c.imply.new.self.marks ≡ c.args.trail.now.marks ++ m ∷ [] = ap (λ (t : TrailView). t.marks) c.imply.ensures.state in
+    let m : Mark = record { literal = c.in-Some.other; level = length c.args.self.now.trail.limits; reason = Some c.args.i } in
+    let ms : c.imply.new.self.marks ≡ c.args.self.now.trail.marks ++ m ∷ [] = ap (λ (t : TrailView). t.marks) c.imply.ensures.state in
     record {
       same = refl;
       settled = λ d p e f.
           true-settled c.imply.new.self d p c.args.literal c.in-Some.other (rw (some-same _ _ _ f c.pair.ensures.at) n)
-          (ap (λ x. falsifies x (negation c.in-Some.other)) ms ∙ falsifies-new c.args.trail.now.marks m);
+          (ap (λ x. falsifies x (negation c.in-Some.other)) ms ∙ falsifies-new c.args.self.now.trail.marks m);
     }
