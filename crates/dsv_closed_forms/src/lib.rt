@@ -11,8 +11,6 @@ mod padded;
 mod root;
 mod second;
 mod starts;
-#[cfg(test)]
-mod tests;
 
 pub use closing::closed_form;
 pub use law::closed_forms_are_accepted;

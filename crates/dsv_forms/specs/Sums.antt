@@ -1,4 +1,4 @@
--- Sums that are given up where a number on the way passes 2^126.
+-- Sums that are given up where a number on the way passes 2^126, as the code has them.
 use Rattle.std.specs.Prelude.{◌≡◌, ◌<◌, ◌≤◌, ◌⊎◌, min, max, ℕ}
 use Rattle.std.specs.Prelude.{List, [], ◌∷◌, if◌then◌else◌}
 use Rattle.std.specs.Prelude.{Option, Some, None, ℤ, pos}

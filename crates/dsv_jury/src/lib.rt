@@ -4,8 +4,6 @@
 mod factor;
 mod law;
 mod recursion;
-#[cfg(test)]
-mod tests;
 mod verdict;
 
 pub use law::one_verdict;

@@ -6,7 +6,5 @@ mod elimination;
 mod quotient;
 mod search;
 mod stepping;
-#[cfg(test)]
-mod tests;
 
 pub use search::{MOST_LOOKS, SumOffer, first_offer};

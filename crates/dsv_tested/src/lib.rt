@@ -6,8 +6,6 @@ mod law;
 mod list;
 mod side;
 mod testing;
-#[cfg(test)]
-mod tests;
 
 pub use law::common_twos_are_taken_out;
 pub use side::{Side, Tested};

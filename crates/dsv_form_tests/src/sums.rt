@@ -1,6 +1,6 @@
 // Worked polynomials.
-use crate::{MOST_LOOKS, first_offer};
 use dsv_forms::{GREATEST_ORDER, Poly};
+use dsv_sums::{MOST_LOOKS, first_offer};
 
 struct Row<'a> {
     c: &'a [i64],

@@ -1,6 +1,6 @@
 // Polynomials worked by hand.
-use crate::{Jury, jury};
 use dsv_forms::Poly;
+use dsv_jury::{Jury, jury};
 
 fn verdict_of(coefficients: &[i64]) -> Option<Jury> {
     match Poly::new(coefficients) {

@@ -1,5 +1,5 @@
 // Closed forms worked by hand, and polynomials that have none.
-use crate::closed_form;
+use dsv_closed_forms::closed_form;
 use dsv_forms::{FormOffer, GREATEST_ORDER, KeptAway, Poly, Squares};
 
 type Matrix = [[i128; GREATEST_ORDER]; GREATEST_ORDER];
