@@ -17,8 +17,9 @@ ghost use Rattle.dsv_hints.specs.Derivation.{hints_answer};
 ghost use Rattle.dsv_trail.specs.declared.marks.Mark.{Mark};
 
 use crate::seen::Seen;
+use crate::state::State;
 use dsv_base::NoMemory;
-use dsv_cnf::{Formula, Lit};
+use dsv_cnf::Lit;
 use dsv_hints::HintList;
 use dsv_trail::Trail;
 use std::alloc::Global;
@@ -133,42 +134,49 @@ impl HintStack {
     }
 }
 
+/// Where the levels of an analysis lie on the trail.
+#[derive(Clone, Copy)]
+pub struct Bounds {
+    /// How many literals are of level 0.
+    pub zero_end: u32,
+    /// The place of the present level's decision.
+    pub high: u32,
+}
+
 /// Resolves back to the first unique implication point, and answers its place.
 fn resolve_high(
-    clauses: &Formula,
-    trail: &Trail,
+    state: &State,
     set: &mut Seen,
     hints: &mut HintStack,
-    zero_end: u32,
-    high: u32,
+    bounds: Bounds,
     least: u32,
 ) -> Result<u32, NoMemory>
-    requires vars { set.old.vars ≡ trail.now.vars }
-    requires formula_vars { clauses.now.vars ≡ trail.now.vars }
-    requires justified { IsJustified clauses.now.clauses trail.now }
-    requires fine { Fines clauses.now (falsifies (take high trail.now.marks)) }
-    requires implied { (k : ℕ) (m : Mark) → slice_get trail.now.marks k ≡ Some m → high < k
-        → IsSome m.reason }
-    requires walking { IsWalking clauses.now trail.now zero_end high
-        (length trail.now.marks) least set.old.literals hints.old }
+    requires vars { set.old.vars ≡ state.now.trail.vars }
+    requires formula_vars { state.now.clauses.vars ≡ state.now.trail.vars }
+    requires justified { IsJustified state.now.clauses.clauses state.now.trail }
+    requires fine { Fines state.now.clauses (falsifies (take bounds.high state.now.trail.marks)) }
+    requires implied { (k : ℕ) (m : Mark) → slice_get state.now.trail.marks k ≡ Some m
+        → bounds.high < k → IsSome m.reason }
+    requires walking { IsWalking state.now.clauses state.now.trail bounds.zero_end bounds.high
+        (length state.now.trail.marks) least set.old.literals hints.old }
     ensures vars { set.new.vars ≡ set.old.vars }
-    ensures walking { IfOk result (λ r. IsWalking clauses.now trail.now zero_end high
-        (r + 1) r set.new.literals hints.new) }
+    ensures walking { IfOk result (λ r. IsWalking state.now.clauses state.now.trail
+        bounds.zero_end bounds.high (r + 1) r set.new.literals hints.new) }
 {
-    let mut i = trail.len();
+    let mut i = state.trail.len();
     let mut lowest = least;
     while i > lowest + 1 {
         i -= 1;
-        let mark = trail.mark(i);
+        let mark = state.trail.mark(i);
         if set.contains(mark.literal.negation()) {
             match mark.reason {
                 Some(reason) => {
                     lowest = mark_others(
-                        trail,
+                        &state.trail,
                         set,
-                        clauses.clause(reason),
+                        state.clauses.clause(reason),
                         mark.literal,
-                        high,
+                        bounds.high,
                         lowest,
                     )?;
                     hints.push(u64::from(reason) + 1)?;
@@ -182,42 +190,41 @@ fn resolve_high(
 
 /// Resolves the literals of level 0 that were met.
 fn resolve_zero(
-    clauses: &Formula,
-    trail: &Trail,
+    state: &State,
     set: &mut Seen,
     hints: &mut HintStack,
-    zero_end: u32,
-    high: u32,
+    bounds: Bounds,
     first: Lit,
 ) -> Result<(), NoMemory>
-    requires vars { set.old.vars ≡ trail.now.vars }
-    requires formula_vars { clauses.now.vars ≡ trail.now.vars }
-    requires justified { IsJustified clauses.now.clauses trail.now }
-    requires implied { (k : ℕ) (m : Mark) → slice_get trail.now.marks k ≡ Some m → k < zero_end
-        → IsSome m.reason }
-    requires inside { zero_end ≤ length trail.now.marks }
-    requires order { zero_end ≤ high }
-    requires lowest { IsLowest trail.now (length trail.now.marks) set.old.literals
-        (length trail.now.marks) }
-    requires ending { IsEnding clauses.now trail.now zero_end high zero_end first set.old.literals
-        hints.old }
+    requires vars { set.old.vars ≡ state.now.trail.vars }
+    requires formula_vars { state.now.clauses.vars ≡ state.now.trail.vars }
+    requires justified { IsJustified state.now.clauses.clauses state.now.trail }
+    requires implied { (k : ℕ) (m : Mark) → slice_get state.now.trail.marks k ≡ Some m
+        → k < bounds.zero_end → IsSome m.reason }
+    requires inside { bounds.zero_end ≤ length state.now.trail.marks }
+    requires order { bounds.zero_end ≤ bounds.high }
+    requires lowest { IsLowest state.now.trail (length state.now.trail.marks) set.old.literals
+        (length state.now.trail.marks) }
+    requires ending { IsEnding state.now.clauses state.now.trail bounds.zero_end bounds.high
+        bounds.zero_end first set.old.literals hints.old }
     ensures vars { set.new.vars ≡ set.old.vars }
     ensures ending { OnOk result
-        (IsEnding clauses.now trail.now zero_end high 0 first set.new.literals hints.new) }
+        (IsEnding state.now.clauses state.now.trail bounds.zero_end bounds.high 0 first
+        set.new.literals hints.new) }
 {
-    let end = trail.len();
-    let mut i = zero_end;
+    let end = state.trail.len();
+    let mut i = bounds.zero_end;
     let mut least = end;
     while i > 0 {
         i -= 1;
-        let mark = trail.mark(i);
+        let mark = state.trail.mark(i);
         if set.contains(mark.literal.negation()) {
             match mark.reason {
                 Some(reason) => {
                     least = mark_others(
-                        trail,
+                        &state.trail,
                         set,
-                        clauses.clause(reason),
+                        state.clauses.clause(reason),
                         mark.literal,
                         end,
                         least,
@@ -292,35 +299,32 @@ impl LitStack {
 }
 
 /// Resolves all literals that were met, where each literal of the trail has a reason.
-fn resolve_all(
-    clauses: &Formula,
-    trail: &Trail,
-    set: &mut Seen,
-    hints: &mut HintStack,
-) -> Result<(), NoMemory>
-    requires vars { set.old.vars ≡ trail.now.vars }
-    requires formula_vars { clauses.now.vars ≡ trail.now.vars }
-    requires justified { IsJustified clauses.now.clauses trail.now }
-    requires implied { (k : ℕ) (m : Mark) → slice_get trail.now.marks k ≡ Some m → IsSome m.reason }
-    requires lowest { IsLowest trail.now (length trail.now.marks) set.old.literals
-        (length trail.now.marks) }
-    requires refuting { IsRefuting clauses.now trail.now
-        (length trail.now.marks) set.old.literals hints.old }
-    ensures refuting { OnOk result (IsRefuting clauses.now trail.now 0 set.new.literals hints.new) }
+fn resolve_all(state: &State, set: &mut Seen, hints: &mut HintStack) -> Result<(), NoMemory>
+    requires vars { set.old.vars ≡ state.now.trail.vars }
+    requires formula_vars { state.now.clauses.vars ≡ state.now.trail.vars }
+    requires justified { IsJustified state.now.clauses.clauses state.now.trail }
+    requires implied { (k : ℕ) (m : Mark) → slice_get state.now.trail.marks k ≡ Some m
+        → IsSome m.reason }
+    requires lowest { IsLowest state.now.trail (length state.now.trail.marks) set.old.literals
+        (length state.now.trail.marks) }
+    requires refuting { IsRefuting state.now.clauses state.now.trail
+        (length state.now.trail.marks) set.old.literals hints.old }
+    ensures refuting { OnOk result (IsRefuting state.now.clauses state.now.trail 0
+        set.new.literals hints.new) }
 {
-    let end = trail.len();
+    let end = state.trail.len();
     let mut i = end;
     let mut least = end;
     while i > 0 {
         i -= 1;
-        let mark = trail.mark(i);
+        let mark = state.trail.mark(i);
         if set.contains(mark.literal.negation()) {
             match mark.reason {
                 Some(reason) => {
                     least = mark_others(
-                        trail,
+                        &state.trail,
                         set,
-                        clauses.clause(reason),
+                        state.clauses.clause(reason),
                         mark.literal,
                         end,
                         least,
@@ -348,30 +352,30 @@ pub(crate) fn first_literal(clause: &[Lit]) -> Option<Lit>
 /// The hints that refute, where a clause is false at level 0.
 pub fn refute(
     alloc: Global,
-    clauses: &Formula,
-    trail: &Trail,
+    state: &State,
     set: &mut Seen,
     conflict: u32,
 ) -> Result<HintStack, NoMemory>
-    requires vars { set.old.vars ≡ trail.now.vars }
+    requires vars { set.old.vars ≡ state.now.trail.vars }
     requires empty { set.old.literals ≡ [] }
-    requires formula_vars { clauses.now.vars ≡ trail.now.vars }
-    requires justified { IsJustified clauses.now.clauses trail.now }
-    requires implied { (k : ℕ) (m : Mark) → slice_get trail.now.marks k ≡ Some m → IsSome m.reason }
-    requires known { conflict < length clauses.now.clauses }
-    requires conflict { (c : List Literal) → slice_get clauses.now.clauses conflict ≡ Some c
-        → (q : Literal) → contains c q ≡ true → falsifies trail.now.marks q ≡ true }
-    ensures { IfOk result (λ h. hints_answer (live_of clauses.now) h none ≡ Ok tt) }
+    requires formula_vars { state.now.clauses.vars ≡ state.now.trail.vars }
+    requires justified { IsJustified state.now.clauses.clauses state.now.trail }
+    requires implied { (k : ℕ) (m : Mark) → slice_get state.now.trail.marks k ≡ Some m
+        → IsSome m.reason }
+    requires known { conflict < length state.now.clauses.clauses }
+    requires conflict { (c : List Literal) → slice_get state.now.clauses.clauses conflict ≡ Some c
+        → (q : Literal) → contains c q ≡ true → falsifies state.now.trail.marks q ≡ true }
+    ensures { IfOk result (λ h. hints_answer (live_of state.now.clauses) h none ≡ Ok tt) }
 {
-    let clause = clauses.clause(conflict);
+    let clause = state.clauses.clause(conflict);
     let mut hints = HintStack::new(alloc);
     hints.push(u64::from(conflict) + 1)?;
     let Some(first) = first_literal(clause) else {
         return Ok(hints);
     };
-    let end = trail.len();
-    let _least = mark_others(trail, set, clause, first.negation(), end, end)?;
-    resolve_all(clauses, trail, set, &mut hints)?;
+    let end = state.trail.len();
+    let _least = mark_others(&state.trail, set, clause, first.negation(), end, end)?;
+    resolve_all(state, set, &mut hints)?;
     Ok(hints)
 }
 
@@ -385,41 +389,53 @@ pub struct Learned {
 /// Learns from a clause that is false: the first unique implication point's clause, and its hints.
 pub fn analyse(
     alloc: Global,
-    clauses: &Formula,
-    trail: &Trail,
+    state: &State,
     set: &mut Seen,
     conflict: u32,
-    zero_end: u32,
-    high: u32,
+    bounds: Bounds,
 ) -> Result<Learned, NoMemory>
-    requires vars { set.old.vars ≡ trail.now.vars }
+    requires vars { set.old.vars ≡ state.now.trail.vars }
     requires empty { set.old.literals ≡ [] }
-    requires formula_vars { clauses.now.vars ≡ trail.now.vars }
-    requires justified { IsJustified clauses.now.clauses trail.now }
-    requires fine { Fines clauses.now (falsifies (take high trail.now.marks)) }
-    requires zeroes { (k : ℕ) (m : Mark) → slice_get trail.now.marks k ≡ Some m → k < zero_end
-        → IsSome m.reason }
-    requires implied { (k : ℕ) (m : Mark) → slice_get trail.now.marks k ≡ Some m → high < k
-        → IsSome m.reason }
-    requires order { zero_end ≤ high }
-    requires inside { high < length trail.now.marks }
-    requires known { conflict < length clauses.now.clauses }
-    requires conflict { (c : List Literal) → slice_get clauses.now.clauses conflict ≡ Some c
-        → (q : Literal) → contains c q ≡ true → falsifies trail.now.marks q ≡ true }
+    requires formula_vars { state.now.clauses.vars ≡ state.now.trail.vars }
+    requires justified { IsJustified state.now.clauses.clauses state.now.trail }
+    requires fine { Fines state.now.clauses (falsifies (take bounds.high state.now.trail.marks)) }
+    requires zeroes { (k : ℕ) (m : Mark) → slice_get state.now.trail.marks k ≡ Some m
+        → k < bounds.zero_end → IsSome m.reason }
+    requires implied { (k : ℕ) (m : Mark) → slice_get state.now.trail.marks k ≡ Some m
+        → bounds.high < k → IsSome m.reason }
+    requires order { bounds.zero_end ≤ bounds.high }
+    requires inside { bounds.high < length state.now.trail.marks }
+    requires known { conflict < length state.now.clauses.clauses }
+    requires conflict { (c : List Literal) → slice_get state.now.clauses.clauses conflict ≡ Some c
+        → (q : Literal) → contains c q ≡ true → falsifies state.now.trail.marks q ≡ true }
     ensures vars { set.new.vars ≡ set.old.vars }
-    ensures lesson { IfOk result (λ r. IsLearnable clauses.now trail.now high r.clause r.hints) }
+    ensures lesson { IfOk result (λ r. IsLearnable state.now.clauses state.now.trail bounds.high
+        r.clause r.hints) }
 {
-    let clause = clauses.clause(conflict);
+    let clause = state.clauses.clause(conflict);
     let mut hints = HintStack::new(alloc);
     hints.push(u64::from(conflict) + 1)?;
-    let decision = trail.mark(high).literal;
-    let least = mark_others(trail, set, clause, decision, high, trail.len())?;
-    let lowest = resolve_high(clauses, trail, set, &mut hints, zero_end, high, least)?;
-    let first = trail.mark(lowest).literal.negation();
-    resolve_zero(clauses, trail, set, &mut hints, zero_end, high, first)?;
+    let decision = state.trail.mark(bounds.high).literal;
+    let least = mark_others(
+        &state.trail,
+        set,
+        clause,
+        decision,
+        bounds.high,
+        state.trail.len(),
+    )?;
+    let lowest = resolve_high(state, set, &mut hints, bounds, least)?;
+    let first = state.trail.mark(lowest).literal.negation();
+    resolve_zero(state, set, &mut hints, bounds, first)?;
     let mut literals = LitStack::new(alloc);
     literals.push(first)?;
-    push_lows(trail, set.as_slice(), &mut literals, zero_end, high)?;
+    push_lows(
+        &state.trail,
+        set.as_slice(),
+        &mut literals,
+        bounds.zero_end,
+        bounds.high,
+    )?;
     Ok(Learned {
         clause: literals,
         hints,

@@ -10,7 +10,7 @@ ghost use Rattle.dsv_solver.specs.Propagation.{IsReady, IsConflict};
 ghost use Rattle.dsv_solver.specs.Search.{IsLast, IsLater};
 ghost use Rattle.dsv_solver.specs.Learning.{HasLesson, HasGrown, IsPlan, WillLearn};
 
-use crate::analyse::{HintStack, Learned, analyse};
+use crate::analyse::{Bounds, HintStack, Learned, analyse};
 use crate::order::Order;
 use crate::search::put_back;
 use crate::seen::Seen;
@@ -137,15 +137,8 @@ impl State {
         let _count = self.trail.len();
         let high = self.trail.limit(self.trail.level() - 1);
         let zero_end = self.trail.limit(0);
-        let learned = analyse(
-            alloc,
-            &self.clauses,
-            &self.trail,
-            seen,
-            conflict,
-            zero_end,
-            high,
-        )?;
+        let bounds = Bounds { zero_end, high };
+        let learned = analyse(alloc, self, seen, conflict, bounds)?;
         Ok(learned)
     }
 

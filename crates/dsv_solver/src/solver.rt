@@ -98,7 +98,7 @@ impl Search {
         } = self;
         seen.clear();
         let _count = state.trail.len();
-        let hints = refute(alloc, &state.clauses, &state.trail, &mut seen, conflict)?;
+        let hints = refute(alloc, &state, &mut seen, conflict)?;
         write_step(alloc, &mut log, state.clauses.len(), &[], hints)?;
         Ok(log)
     }

@@ -8,17 +8,17 @@ use Rattle.dsv_solver.proofs.Searching.{refuting-resolved, refuting-passed}
 use Rattle.dsv_solver.proofs.analyse.resolve_all.Goals as goal
 
 pub clause-requires : goal.clause-requires
-clause-requires c = reason-within c.args.clauses.now c.args.trail.now (c.loop-i.i - 1) c.in-Some.reason c.mark-mark.result c.requires.justified c.mark-mark.ensures.at c.in-Some.is
+clause-requires c = reason-within c.args.state.now.clauses c.args.state.now.trail (c.loop-i.i - 1) c.in-Some.reason c.mark-mark.result c.requires.justified c.mark-mark.ensures.at c.in-Some.is
 
 pub mark_others-requires-clause-are_false : goal.mark_others-requires-clause-are_false
 mark_others-requires-clause-are_false c =
-    let s = step-of c.args.clauses.now c.args.trail.now (c.loop-i.i - 1) c.in-Some.reason c.mark-mark.result c.clause.result.now c.requires.justified c.mark-mark.ensures.at c.in-Some.is c.clause.ensures.at in
-    λ q n d. elim (s.others q n) [ inl e ↦ absurd (d e) | inr g ↦ falsifies-take c.args.trail.now.marks (c.loop-i.i - 1) q g ]
+    let s = step-of c.args.state.now.clauses c.args.state.now.trail (c.loop-i.i - 1) c.in-Some.reason c.mark-mark.result c.clause.result.now c.requires.justified c.mark-mark.ensures.at c.in-Some.is c.clause.ensures.at in
+    λ q n d. elim (s.others q n) [ inl e ↦ absurd (d e) | inr g ↦ falsifies-take c.args.state.now.trail.marks (c.loop-i.i - 1) q g ]
 
 pub loop-i-preserved-in-Continue-branch-2 : goal.loop-i-preserved-in-Continue-branch-2
 loop-i-preserved-in-Continue-branch-2 c =
     let i = c.loop-i.invariant in
-    let s = step-of c.args.clauses.now c.args.trail.now (c.loop-i.i - 1) c.in-Some.reason c.mark-mark.result c.clause.result.now c.requires.justified c.mark-mark.ensures.at c.in-Some.is c.clause.ensures.at in
+    let s = step-of c.args.state.now.clauses c.args.state.now.trail (c.loop-i.i - 1) c.in-Some.reason c.mark-mark.result c.clause.result.now c.requires.justified c.mark-mark.ensures.at c.in-Some.is c.clause.ensures.at in
     let seen : contains c.loop-i.set.literals (negation c.mark-mark.result.literal) ≡ true = ap (contains c.loop-i.set.literals) (sym c.negation.ensures) ∙ (sym c.contains.ensures ∙ c.if-contains.true) in
     let pushed : c.push.new.self ≡ (c.in-Some.reason + 1) ∷ c.loop-i.hints = c.in_ok-push-in-Some.ensures.ok ∙ ap (λ x. (x + 1) ∷ c.loop-i.hints) c.from.ensures in
     record {
@@ -26,7 +26,7 @@ loop-i-preserved-in-Continue-branch-2 c =
       end_is = i.end_is;
       lowest = c.in_ok-least-in-Some.ensures.lowest;
       refuting = rw pushed
-          (refuting-resolved c.args.clauses.now c.args.trail.now c.loop-i.i (c.loop-i.i - 1) c.in-Some.reason c.loop-i.set.literals c.mark_others.new.set.literals c.clause.result.now c.loop-i.hints c.mark-mark.result c.requires.justified (omega (arith, c.loop-i-test.true)) s c.in_ok-least-in-Some.ensures.marked seen i.refuting);
+          (refuting-resolved c.args.state.now.clauses c.args.state.now.trail c.loop-i.i (c.loop-i.i - 1) c.in-Some.reason c.loop-i.set.literals c.mark_others.new.set.literals c.clause.result.now c.loop-i.hints c.mark-mark.result c.requires.justified (omega (arith, c.loop-i-test.true)) s c.in_ok-least-in-Some.ensures.marked seen i.refuting);
     }
 
 pub unreachable-requires : goal.unreachable-requires
@@ -43,5 +43,5 @@ loop-i-preserved c =
       vars = i.vars;
       end_is = i.end_is;
       lowest = i.lowest;
-      refuting = refuting-passed c.args.clauses.now c.args.trail.now c.loop-i.i (c.loop-i.i - 1) c.loop-i.set.literals c.loop-i.hints c.mark-mark.result (omega (arith, c.loop-i-test.true)) c.mark-mark.ensures.at unseen i.refuting;
+      refuting = refuting-passed c.args.state.now.clauses c.args.state.now.trail c.loop-i.i (c.loop-i.i - 1) c.loop-i.set.literals c.loop-i.hints c.mark-mark.result (omega (arith, c.loop-i-test.true)) c.mark-mark.ensures.at unseen i.refuting;
     }

@@ -7,9 +7,9 @@ abbrev pub invariant-loop-i : goal.invariant-loop-i
 invariant-loop-i l =
     record {
       vars : l.set.vars ≡ l.fn.set.vars;
-      end_is : l.end ≡ length l.trail.marks;
-      lowest : IsLowest l.trail l.end l.set.literals l.least;
-      refuting : IsRefuting l.clauses l.trail l.i l.set.literals l.hints;
+      end_is : l.end ≡ length l.state.trail.marks;
+      lowest : IsLowest l.state.trail l.end l.set.literals l.least;
+      refuting : IsRefuting l.state.clauses l.state.trail l.i l.set.literals l.hints;
     }
 
 abbrev pub decreases-loop-i : goal.decreases-loop-i

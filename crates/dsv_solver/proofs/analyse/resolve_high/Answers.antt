@@ -7,23 +7,23 @@ use Rattle.dsv_solver.proofs.Walkings.{walking-resolved, walking-passed, reason-
 use Rattle.dsv_solver.proofs.analyse.resolve_high.Goals as goal
 
 pub clause-requires : goal.clause-requires
-clause-requires c = reason-within c.args.clauses.now c.args.trail.now (c.loop-lowest.i - 1) c.in-Some.reason c.mark-mark.result c.requires.justified c.mark-mark.ensures.at c.in-Some.is
+clause-requires c = reason-within c.args.state.now.clauses c.args.state.now.trail (c.loop-lowest.i - 1) c.in-Some.reason c.mark-mark.result c.requires.justified c.mark-mark.ensures.at c.in-Some.is
 
 pub mark_others-requires-clause-are_false : goal.mark_others-requires-clause-are_false
 mark_others-requires-clause-are_false c =
-    let s = step-of c.args.clauses.now c.args.trail.now (c.loop-lowest.i - 1) c.in-Some.reason c.mark-mark.result c.clause.result.now c.requires.justified c.mark-mark.ensures.at c.in-Some.is c.clause.ensures.at in
-    λ q n d. elim (s.others q n) [ inl e ↦ absurd (d e) | inr g ↦ falsifies-take c.args.trail.now.marks (c.loop-lowest.i - 1) q g ]
+    let s = step-of c.args.state.now.clauses c.args.state.now.trail (c.loop-lowest.i - 1) c.in-Some.reason c.mark-mark.result c.clause.result.now c.requires.justified c.mark-mark.ensures.at c.in-Some.is c.clause.ensures.at in
+    λ q n d. elim (s.others q n) [ inl e ↦ absurd (d e) | inr g ↦ falsifies-take c.args.state.now.trail.marks (c.loop-lowest.i - 1) q g ]
 
 pub loop-lowest-preserved-in-Continue-branch-2 : goal.loop-lowest-preserved-in-Continue-branch-2
 loop-lowest-preserved-in-Continue-branch-2 c =
     let i = c.loop-lowest.invariant in
-    let s = step-of c.args.clauses.now c.args.trail.now (c.loop-lowest.i - 1) c.in-Some.reason c.mark-mark.result c.clause.result.now c.requires.justified c.mark-mark.ensures.at c.in-Some.is c.clause.ensures.at in
+    let s = step-of c.args.state.now.clauses c.args.state.now.trail (c.loop-lowest.i - 1) c.in-Some.reason c.mark-mark.result c.clause.result.now c.requires.justified c.mark-mark.ensures.at c.in-Some.is c.clause.ensures.at in
     let seen : contains c.loop-lowest.set.literals (negation c.mark-mark.result.literal) ≡ true = ap (contains c.loop-lowest.set.literals) (sym c.negation.ensures) ∙ (sym c.contains.ensures ∙ c.if-contains.true) in
     let pushed : c.push.new.self ≡ (c.in-Some.reason + 1) ∷ c.loop-lowest.hints = c.in_ok-push-in-Some.ensures.ok ∙ ap (λ x. (x + 1) ∷ c.loop-lowest.hints) c.from.ensures in
     record {
       vars = c.mark_others.ensures.vars ∙ i.vars;
       walking = rw pushed
-          (walking-resolved c.args.clauses.now c.args.trail.now c.args.zero_end c.args.high c.loop-lowest.i (c.loop-lowest.i - 1) c.loop-lowest.lowest c.in_ok-lowest-in-Some.lowest c.in-Some.reason c.loop-lowest.set.literals c.mark_others.new.set.literals c.clause.result.now c.loop-lowest.hints c.mark-mark.result c.requires.justified c.requires.fine (omega (arith, c.loop-lowest-test.true)) c.loop-lowest-test.true s c.in_ok-lowest-in-Some.ensures.marked seen c.in_ok-lowest-in-Some.ensures.lowest i.walking);
+          (walking-resolved c.args.state.now.clauses c.args.state.now.trail c.args.bounds.zero_end c.args.bounds.high c.loop-lowest.i (c.loop-lowest.i - 1) c.loop-lowest.lowest c.in_ok-lowest-in-Some.lowest c.in-Some.reason c.loop-lowest.set.literals c.mark_others.new.set.literals c.clause.result.now c.loop-lowest.hints c.mark-mark.result c.requires.justified c.requires.fine (omega (arith, c.loop-lowest-test.true)) c.loop-lowest-test.true s c.in_ok-lowest-in-Some.ensures.marked seen c.in_ok-lowest-in-Some.ensures.lowest i.walking);
     }
 
 pub unreachable-requires : goal.unreachable-requires
@@ -38,5 +38,5 @@ loop-lowest-preserved c =
     let unseen : contains c.loop-lowest.set.literals (negation c.mark-mark.result.literal) ≡ false = ap (contains c.loop-lowest.set.literals) (sym c.negation.ensures) ∙ (sym c.contains.ensures ∙ c.if-contains.false) in
     record {
       vars = i.vars;
-      walking = walking-passed c.args.clauses.now c.args.trail.now c.args.zero_end c.args.high c.loop-lowest.i (c.loop-lowest.i - 1) c.loop-lowest.lowest c.loop-lowest.set.literals c.loop-lowest.hints c.mark-mark.result (omega (arith, c.loop-lowest-test.true)) c.loop-lowest-test.true c.mark-mark.ensures.at unseen i.walking;
+      walking = walking-passed c.args.state.now.clauses c.args.state.now.trail c.args.bounds.zero_end c.args.bounds.high c.loop-lowest.i (c.loop-lowest.i - 1) c.loop-lowest.lowest c.loop-lowest.set.literals c.loop-lowest.hints c.mark-mark.result (omega (arith, c.loop-lowest-test.true)) c.loop-lowest-test.true c.mark-mark.ensures.at unseen i.walking;
     }

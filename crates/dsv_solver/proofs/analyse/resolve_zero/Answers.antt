@@ -7,17 +7,17 @@ use Rattle.dsv_solver.proofs.Walkings.{ending-resolved, ending-passed, reason-wi
 use Rattle.dsv_solver.proofs.analyse.resolve_zero.Goals as goal
 
 pub clause-requires : goal.clause-requires
-clause-requires c = reason-within c.args.clauses.now c.args.trail.now (c.loop-i.i - 1) c.in-Some.reason c.mark-mark.result c.requires.justified c.mark-mark.ensures.at c.in-Some.is
+clause-requires c = reason-within c.args.state.now.clauses c.args.state.now.trail (c.loop-i.i - 1) c.in-Some.reason c.mark-mark.result c.requires.justified c.mark-mark.ensures.at c.in-Some.is
 
 pub mark_others-requires-clause-are_false : goal.mark_others-requires-clause-are_false
 mark_others-requires-clause-are_false c =
-    let s = step-of c.args.clauses.now c.args.trail.now (c.loop-i.i - 1) c.in-Some.reason c.mark-mark.result c.clause.result.now c.requires.justified c.mark-mark.ensures.at c.in-Some.is c.clause.ensures.at in
-    λ q n d. elim (s.others q n) [ inl e ↦ absurd (d e) | inr g ↦ falsifies-take c.args.trail.now.marks (c.loop-i.i - 1) q g ]
+    let s = step-of c.args.state.now.clauses c.args.state.now.trail (c.loop-i.i - 1) c.in-Some.reason c.mark-mark.result c.clause.result.now c.requires.justified c.mark-mark.ensures.at c.in-Some.is c.clause.ensures.at in
+    λ q n d. elim (s.others q n) [ inl e ↦ absurd (d e) | inr g ↦ falsifies-take c.args.state.now.trail.marks (c.loop-i.i - 1) q g ]
 
 pub loop-i-preserved-in-Continue-branch-2 : goal.loop-i-preserved-in-Continue-branch-2
 loop-i-preserved-in-Continue-branch-2 c =
     let i = c.loop-i.invariant in
-    let s = step-of c.args.clauses.now c.args.trail.now (c.loop-i.i - 1) c.in-Some.reason c.mark-mark.result c.clause.result.now c.requires.justified c.mark-mark.ensures.at c.in-Some.is c.clause.ensures.at in
+    let s = step-of c.args.state.now.clauses c.args.state.now.trail (c.loop-i.i - 1) c.in-Some.reason c.mark-mark.result c.clause.result.now c.requires.justified c.mark-mark.ensures.at c.in-Some.is c.clause.ensures.at in
     let seen : contains c.loop-i.set.literals (negation c.mark-mark.result.literal) ≡ true = ap (contains c.loop-i.set.literals) (sym c.negation.ensures) ∙ (sym c.contains.ensures ∙ c.if-contains.true) in
     let pushed : c.push.new.self ≡ (c.in-Some.reason + 1) ∷ c.loop-i.hints = c.in_ok-push-in-Some.ensures.ok ∙ ap (λ x. (x + 1) ∷ c.loop-i.hints) c.from.ensures in
     record {
@@ -26,7 +26,7 @@ loop-i-preserved-in-Continue-branch-2 c =
       in_zero = omega (arith, i.in_zero);
       lowest = c.in_ok-least-in-Some.ensures.lowest;
       ending = rw pushed
-          (ending-resolved c.args.clauses.now c.args.trail.now c.args.zero_end c.args.high c.loop-i.i (c.loop-i.i - 1) c.in-Some.reason c.args.first c.loop-i.set.literals c.mark_others.new.set.literals c.clause.result.now c.loop-i.hints c.mark-mark.result c.requires.justified c.requires.order (omega (arith, c.loop-i-test.true)) s c.in_ok-least-in-Some.ensures.marked seen i.ending);
+          (ending-resolved c.args.state.now.clauses c.args.state.now.trail c.args.bounds.zero_end c.args.bounds.high c.loop-i.i (c.loop-i.i - 1) c.in-Some.reason c.args.first c.loop-i.set.literals c.mark_others.new.set.literals c.clause.result.now c.loop-i.hints c.mark-mark.result c.requires.justified c.requires.order (omega (arith, c.loop-i-test.true)) s c.in_ok-least-in-Some.ensures.marked seen i.ending);
     }
 
 pub unreachable-requires : goal.unreachable-requires
@@ -44,5 +44,5 @@ loop-i-preserved c =
       end_is = i.end_is;
       in_zero = omega (arith, i.in_zero);
       lowest = i.lowest;
-      ending = ending-passed c.args.clauses.now c.args.trail.now c.args.zero_end c.args.high c.loop-i.i (c.loop-i.i - 1) c.args.first c.loop-i.set.literals c.loop-i.hints c.mark-mark.result (omega (arith, c.loop-i-test.true)) c.mark-mark.ensures.at unseen i.ending;
+      ending = ending-passed c.args.state.now.clauses c.args.state.now.trail c.args.bounds.zero_end c.args.bounds.high c.loop-i.i (c.loop-i.i - 1) c.args.first c.loop-i.set.literals c.loop-i.hints c.mark-mark.result (omega (arith, c.loop-i-test.true)) c.mark-mark.ensures.at unseen i.ending;
     }
