@@ -8,7 +8,7 @@ use Rattle.dsv_command.specs.Jobs.{Asked}
 use Rattle.dsv_report.specs.declared.answers.Answer.{Answer}
 use Rattle.dsv_report.specs.declared.answers.Answer.TheVariants as answer
 use Rattle.dsv_cli.specs.Headline.{IsRow}
-use Rattle.dsv_cli.specs.Proposers.{HasClosedForm}
+use Rattle.dsv_cli.specs.Proposers.{NeedsNone}
 
 -- The forms have the same places and the same entries.
 pub record SameForm (f g : Form) : Type 0 where
@@ -26,19 +26,8 @@ SameAnswer a b = a ≡ b
 -- The answer is settled by the bytes: it is neither want of memory nor a fault of a read, and
 -- proposers had no part in it.
 abbrev pub IsSettled : Answer → Type 0
-IsSettled (answer.Falls poly offer fall) = HasClosedForm poly
-IsSettled (answer.KeptAway poly offer fall value) = HasClosedForm poly
-IsSettled answer.NoZeros = Unit {0}
-IsSettled (answer.NoForm poly kept verdict) = ⊥
-IsSettled (answer.Wide index) = Unit {0}
-IsSettled (answer.Simulated found) = Unit {0}
-IsSettled answer.Usage = Unit {0}
-IsSettled (answer.FileRefused r) = Unit {0}
-IsSettled answer.FileTooLong = Unit {0}
-IsSettled (answer.QuantRefused r) = Unit {0}
-IsSettled (answer.InputRange index value) = Unit {0}
 IsSettled (answer.ReadFault file) = ⊥
-IsSettled answer.NoMemory = ⊥
+IsSettled found = NeedsNone found
 
 -- Whatever else was read before, two settled answers to one job on a file of these bytes are the
 -- same.

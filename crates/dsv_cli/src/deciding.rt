@@ -53,7 +53,8 @@ fn asked_answer(
 ) -> Result<FormAnswer, NoMemory>
     ensures suffix { IsSuffix (λ b. b.ptr) forms.old.items forms.new.items }
     ensures shown { IfOk result (λ a. IfChecked a (λ found. IsShown poly.now found)) }
-    ensures accepted { IfOk result (λ a. IfChecked a (λ found. IsAccepted poly.now (offer_in found))) }
+    ensures accepted { IfOk result (λ a. IfChecked a (λ found.
+        IsAccepted poly.now (offer_in found))) }
     ensures last { IfOk result (λ a. IfChecked a (λ found.
         IfFirst forms.new.items (λ b. last b ≡ Some (offer_in found)))) }
     ensures none_left { IfOk result (λ a. IfNoForm a (λ kept verdict. forms.new.items ≡ [])) }
@@ -99,18 +100,21 @@ fn decide(
 ) -> Result<FormAnswer, NoMemory>
     // Where there is a closed form, the answer is that offer; no memory is taken and nobody asked.
     ensures closed { IfSome (closed_form_of poly.now) (λ offer. IsChecked result offer) }
-    ensures unasked { IfSome (closed_form_of poly.now) (λ offer. forms.new.items ≡ forms.old.items) }
+    ensures unasked { IfSome (closed_form_of poly.now)
+        (λ offer. forms.new.items ≡ forms.old.items) }
     // What is left of the proposers: the last of them, and only the first was asked.
     ensures suffix { IsSuffix (λ b. b.ptr) forms.old.items forms.new.items }
     // A form is accepted by its check and shows what it says.
-    ensures accepted { IfOk result (λ a. IfChecked a (λ found. IsAccepted poly.now (offer_in found))) }
+    ensures accepted { IfOk result (λ a. IfChecked a (λ found.
+        IsAccepted poly.now (offer_in found))) }
     ensures shown { IfOk result (λ a. IfChecked a (λ found. IsShown poly.now found)) }
     // Where it is no closed form, the first proposer that is left gave it last.
     ensures last { closed_form_of poly.now ≡ None → IfOk result (λ a. IfChecked a (λ found.
         IfFirst forms.new.items (λ b. last b ≡ Some (offer_in found)))) }
     // No form: there is no closed form, no proposer was sure and none is left, each kept offer has
     // its refusal, and of each proposer there are at most 32.
-    ensures no_form { IfOk result (λ a. IfNoForm a (λ kept verdict. closed_form_of poly.now ≡ None)) }
+    ensures no_form { IfOk result (λ a. IfNoForm a (λ kept verdict.
+        closed_form_of poly.now ≡ None)) }
     ensures none_left { IfOk result (λ a. IfNoForm a (λ kept verdict. forms.new.items ≡ [])) }
     ensures causes { IfOk result (λ a. IfNoForm a (λ kept verdict. AreRefused poly.now kept)) }
     ensures at_most { IfOk result (λ a. IfNoForm a (λ kept verdict.

@@ -1,5 +1,6 @@
-//! Tests of the crates of forms, by their public calls: closed forms, sums of steps, Jury's recursion
-//! and offers that are refused. The tested polynomial is tested by the cases of `dsv_examples`.
+//! Tests of the crates of forms, by their public calls: closed forms, sums of steps, Jury's
+//! recursion and offers that are refused. The tested polynomial is tested by the cases of
+//! `dsv_examples`.
 #![tactic(auto)]
 
 #[cfg(test)]
