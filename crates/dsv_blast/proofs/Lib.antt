@@ -1,0 +1,15 @@
+pub mod Truths
+pub mod Growth
+pub mod Folds
+pub mod GateValues
+pub mod Bits
+pub mod Signs
+pub mod WordValues
+pub mod Copies
+pub mod NodeValues
+pub mod Nodes
+pub mod Inputs
+pub mod Exactness
+pub mod CodeSteps
+pub mod Wiring
+pub mod ModelSteps

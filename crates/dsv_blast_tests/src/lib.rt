@@ -1,0 +1,5 @@
+//! Tests of the formulas of goals.
+#![tactic(auto)]
+
+#[cfg(test)]
+mod nodes;
