@@ -1,0 +1,12 @@
+pub mod Extracts
+pub mod Folding
+pub mod Laws
+pub mod PairRules
+pub mod PartRules
+pub mod PartSteps
+pub mod Standing
+pub mod Starts
+pub mod CopyRules
+pub mod MultipleRules
+pub mod PassRules
+pub mod SignedDigits
