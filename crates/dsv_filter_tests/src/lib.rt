@@ -8,6 +8,8 @@ mod netlists;
 #[cfg(test)]
 mod quantising;
 #[cfg(test)]
+mod replaying;
+#[cfg(test)]
 mod running;
 #[cfg(test)]
 mod sizes;

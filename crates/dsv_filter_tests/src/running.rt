@@ -346,7 +346,8 @@ const RUNS: [Run; 21] = [
     },
 ];
 
-fn are_words(format: &Format, words: &[i64]) -> bool
+/// Whether all of these are words.
+pub(crate) fn are_words(format: &Format, words: &[i64]) -> bool
     ensures { IsTrue result → All (IsWord format.now) words.now }
 {
     words.iter().all(|word| format.fits(i128::from(*word)))

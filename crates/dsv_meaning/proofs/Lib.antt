@@ -1,5 +1,6 @@
 pub mod ChainLemmas
 pub mod LineLemmas
+pub mod ReplayLemmas
 pub mod RunLemmas
 pub mod Sizes
 pub mod StepLemmas

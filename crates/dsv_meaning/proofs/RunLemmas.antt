@@ -1,13 +1,13 @@
 -- Runs read no more of the past than the registers hold.
 use Rattle.std.proofs.Common.{◌≡◌, ℕ, zero, suc, ◌+◌, ◌<◌, ◌≤◌, Bool, true, false, List, [], ◌∷◌, ◌++◌, length, take, drop, map, get_or, refl, sym, ap, ◌∙◌, arith, add-one, append_assoc}
 use Rattle.std.proofs.Math.IntN.{ℤ, pos}
-use Rattle.std.proofs.lemmas.List.{drop_more, get_or-take, take-take, take_at, drop_at, length-take-le, length-drop, length_push, map_push}
+use Rattle.std.proofs.lemmas.List.{drop_more, get_or-take, take-take, take_all, take_at, drop_at, take-append-drop, length-take-le, length-drop, length_push, map_push}
 use Rattle.dsv_names.specs.declared.realisation.Realisation.{Realisation}
 use Rattle.dsv_names.specs.declared.realisation.Realisation.TheVariants.{Dfi, Dfii, Tdfii, Ddfi, Ddfii, Tddfii}
 use Rattle.dsv_quantiser.specs.FixedPoint.{FixedPoint}
 use Rattle.dsv_system.specs.declared.rows.Row.{Row}
 use Rattle.dsv_meaning.specs.Lines.{Summand, Times, Alone, Sum, summands, line}
-use Rattle.dsv_system.specs.Runs.{Sampled, SampleRow, row_at, rows_from}
+use Rattle.dsv_system.specs.Runs.{Sampled, SampleRow, row_at, rows_from, past_after}
 use Rattle.dsv_system.specs.RowViews.{row_of}
 use Rattle.dsv_meaning.specs.Equations.{Past, order, feedback, ago, latest, Chain, chain_with, forward_summands, feedback_summands, delta_line, delta_chain, no_words, sample_as, sample, start_as, registers_as, registers_of}
 use Rattle.dsv_meaning.specs.Stepping.{step_as}
@@ -135,6 +135,20 @@ alike_rows k q p s (x ∷ xs) m h =
     ∙ ap (λ (rs : List SampleRow). record { x = x; y = (sample_as k q s x).y; exact = (sample_as k q s x).exact } ∷ rs)
     (alike_rows k q (sample_as k q p x).past (sample_as k q s x).past xs m a.past)
 
+-- such pasts have the same registers
+registers_alike : (k : Realisation) (n : ℕ) (p s : Past) → Alike n p s → registers_as k n p ≡ registers_as k n s
+registers_alike Dfi n p s h = ap (λ l. l ++ take n p.outputs) h.signal ∙ ap (λ l. take n s.signal ++ l) h.outputs
+registers_alike Dfii n p s h = h.signal
+registers_alike Tdfii n p s h = h.chain
+registers_alike Ddfi n p s h = ap (λ l. l ++ latest p.output_chain) h.chain ∙ ap (λ l. latest s.chain ++ l) h.output_chain
+registers_alike Ddfii n p s h = h.chain
+registers_alike Tddfii n p s h = h.chain
+
+alike_registers : (k : Realisation) (q : FixedPoint) (p s : Past) (xs : List ℤ) → length q.b ≡ order q + 1 → Alike (order q) p s
+    → registers_as k (order q) (past_after (sample_as k q) p xs) ≡ registers_as k (order q) (past_after (sample_as k q) s xs)
+alike_registers k q p s [] m h = registers_alike k (order q) p s h
+alike_registers k q p s (x ∷ xs) m h = alike_registers k q (sample_as k q p x).past (sample_as k q s x).past xs m (alike_samples k q p s x m h).past
+
 -- ---- a past begun anew from its registers
 delta_chain-length : (q : FixedPoint) (before : ℤ) (ws : List ℤ) (c : Chain) → length (delta_chain q before ws c).words ≡ length c.words + length ws
 delta_chain-length q before [] c = omega arith
@@ -175,8 +189,29 @@ begun_anew Ddfi q r x h =
 begun_anew Ddfii q r x h = record { signal = refl; outputs = refl; chain = refl; output_chain = refl }
 begun_anew Tddfii q r x h = record { signal = refl; outputs = refl; chain = refl; output_chain = refl }
 
+-- a start has its words in the registers
+pub start_registers : (k : Realisation) (n : ℕ) (start : List ℤ) → length start ≡ registers_of k n → registers_as k n (start_as k n start) ≡ start
+start_registers Dfi n start l =
+    ap (λ h. h ++ take n (drop n start)) (take-take n n start (omega arith))
+    ∙ ap (λ h. take n start ++ h) (take_all n (drop n start) (omega (arith, length-drop n start)))
+    ∙ take-append-drop n start
+start_registers Dfii n start l = take_all n start (omega arith)
+start_registers Tdfii n start l = refl
+start_registers Ddfi n start l = take-append-drop n start
+start_registers Ddfii n start l = refl
+start_registers Tddfii n start l = refl
+
+-- the registers at the end of a run, one sample more
+pub next_registers : (k : Realisation) (q : FixedPoint) (r new : List ℤ) (x : ℤ) (xs : List ℤ) → length q.b ≡ order q + 1 → length r ≡ registers_of k (order q) → new ≡ (step_as k q r x).past
+    → registers_as k (order q) (past_after (sample_as k q) (start_as k (order q) r) (x ∷ xs)) ≡ registers_as k (order q) (past_after (sample_as k q) (start_as k (order q) new) xs)
+unfolding step_as
+next_registers k q r new x xs m h g =
+    let p = (sample_as k q (start_as k (order q) r) x).past in
+    alike_registers k q p (start_as k (order q) (registers_as k (order q) p)) xs m (begun_anew k q r x h)
+    ∙ ap (λ l. registers_as k (order q) (past_after (sample_as k q) (start_as k (order q) l) xs)) (sym g)
+
 -- the rows over registers, one sample more
-next_rows : (k : Realisation) (q : FixedPoint) (r new : List ℤ) (x : ℤ) (xs : List ℤ) (row : SampleRow) → length q.b ≡ order q + 1 → length r ≡ registers_of k (order q)
+pub next_rows : (k : Realisation) (q : FixedPoint) (r new : List ℤ) (x : ℤ) (xs : List ℤ) (row : SampleRow) → length q.b ≡ order q + 1 → length r ≡ registers_of k (order q)
     → row ≡ row_at (step_as k q r x) x → new ≡ (step_as k q r x).past
     → row ∷ rows_from (sample_as k q) (start_as k (order q) new) xs ≡ rows_from (sample_as k q) (start_as k (order q) r) (x ∷ xs)
 unfolding step_as

@@ -1,4 +1,6 @@
 pub mod Equations
 pub mod Lines
+pub mod ReplayParts
+pub mod Replays
 pub mod Stepping
 pub mod Systems

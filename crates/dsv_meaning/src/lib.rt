@@ -4,8 +4,10 @@
 mod chains;
 mod counts;
 mod operations;
+mod replays;
 mod simulating;
 mod stepping;
 
 pub use counts::{MOST_ORDER, forward_registers, products, registers, sums};
+pub use replays::{Cycle, CycleReplay, OverflowReplay, Trace, replay_cycle, replay_overflow};
 pub use simulating::simulate;

@@ -19,7 +19,7 @@ use dsv_system::{ExactList, Row, Rows};
 use std::alloc::Global;
 
 /// The registers with these words.
-fn loaded_registers(q: &Quantised, start: &[i64]) -> Registers
+pub(crate) fn loaded_registers(q: &Quantised, start: &[i64]) -> Registers
     requires { length start.now ≡ registers_of q.now.realisation (order q.now) }
     ensures words { result.items ≡ start.now }
     ensures numerator { length q.now.b ≡ order q.now + 1 }
@@ -33,7 +33,7 @@ fn loaded_registers(q: &Quantised, start: &[i64]) -> Registers
 }
 
 /// The row of one sample, after which the registers have their new words.
-fn next_row(q: &Quantised, x: &i64, registers: &mut Registers) -> Row
+pub(crate) fn next_row(q: &Quantised, x: &i64, registers: &mut Registers) -> Row
     requires { length registers.old.items ≡ registers_of q.now.realisation (order q.now) }
     ensures row { row_of result
         ≡ row_at (step_as q.now.realisation q.now registers.old.items x.now) x.now }

@@ -1,0 +1,172 @@
+// Runs that are replayed to find what breaks in them.
+#![tactic(auto, using(dsv_algebra::proofs::Casts::casts))]
+
+ghost use Rattle.std.specs.Prelude.{◌≡◌, ◌+◌, ◌<◌, ◌≤◌, ◌^◌, ℕ, true, length};
+ghost use Rattle.std.specs.Prelude.{List, [], ◌∷◌, ◌++◌, IfSome, IfNone};
+ghost use Rattle.std.specs.List.{All};
+ghost use Rattle.dsv_word.specs.Words.{IsWord};
+ghost use Rattle.dsv_system.specs.Breaks.{IsInside, IsFirstBreak};
+ghost use Rattle.dsv_system.specs.Cycles.{Returns, IsLeastPeriod, IsSounding};
+ghost use Rattle.dsv_system.specs.Systems.{rows, zeros};
+ghost use Rattle.dsv_meaning.specs.Equations.{Past, order, registers_of};
+ghost use Rattle.dsv_meaning.specs.Systems.{equations_of};
+ghost use Rattle.dsv_meaning.specs.Replays.{IfBreaks, IfUnbroken, IfReturns, IfGone};
+ghost use Rattle.dsv_meaning.specs.ReplayParts.{IsFirstOutside, Hears};
+ghost use Rattle.dsv_system.specs.RowViews.{row_of};
+ghost use Rattle.dsv_system.specs.Runs.{SampleRow};
+ghost use Rattle.dsv_system.specs.declared.exact_list.TheConstants.{MOST_EXACT};
+
+use crate::chains::Registers;
+use crate::counts::registers;
+use crate::simulating::{loaded_registers, next_row};
+use dsv_base::WordList;
+use dsv_quantiser::Quantised;
+use dsv_system::Row;
+use dsv_word::Format;
+
+/// An overflow that replays: the inputs up to the first sample that has an exact value which is no
+/// word, the outputs of that run, the number of that sample, and the first such value in it with
+/// its number. Samples and values count from 0.
+#[derive(Debug, Drop)]
+pub struct Trace {
+    pub inputs: WordList,
+    pub outputs: WordList,
+    pub sample: u32,
+    pub value: u32,
+    pub exact: i128,
+}
+
+/// A limit cycle that replays: the words of the registers at its start, its least period, and the
+/// outputs of one period.
+#[derive(Debug, Drop)]
+pub struct Cycle {
+    pub start: WordList,
+    pub period: u32,
+    pub outputs: WordList,
+}
+
+/// What breaks first in a run.
+#[derive(Clone, Copy, Debug, PartialEq, Eq)]
+pub enum OverflowReplay {
+    /// In this sample the exact value of this number is the first that is no word.
+    Breaks {
+        sample: u32,
+        value: u32,
+        exact: i128,
+    },
+    /// All exact values are words.
+    Clean,
+}
+
+/// Whether a start comes back without input.
+#[derive(Clone, Copy, Debug, PartialEq, Eq)]
+pub enum CycleReplay {
+    /// It comes back after so many samples and no earlier, and whether an output until then isn't
+    /// 0.
+    Returns { period: u32, sounding: bool },
+    /// It doesn't come back up to the limit.
+    Clean,
+}
+
+/// An exact value that is no word, with its number in its sample.
+#[derive(Clone, Copy)]
+struct OutsideValue {
+    value: u32,
+    exact: i128,
+}
+
+/// The first of a sample's exact values that is no word.
+fn first_outside(format: &Format, exact: &[i128]) -> Option<OutsideValue>
+    requires few { length exact.now ≤ MOST_EXACT }
+    ensures first { IfSome result (λ found.
+        IsFirstOutside format.now exact.now found.value found.exact) }
+    ensures none { IfNone result (All (IsWord format.now) exact.now) }
+{
+    for (i, v) in exact.iter().enumerate() {
+        if !format.fits(*v) {
+            return Some(OutsideValue {
+                value: i as u32,
+                exact: *v,
+            });
+        }
+    }
+    None
+}
+
+/// Whether an output isn't 0: one so far, or that of this row.
+fn is_heard(sounding: bool, row: &Row) -> bool
+    ensures { (rows : List SampleRow) → Hears rows sounding →
+        Hears (rows ++ row_of row.now ∷ []) result }
+{
+    sounding || row.y != 0
+}
+
+/// The registers with a zero in each.
+fn zero_registers(q: &Quantised) -> Registers
+    ensures zeros { result.items ≡ zeros (equations_of q.now).many }
+    ensures numerator { length q.now.b ≡ order q.now + 1 }
+{
+    let many = registers(q.realisation(), q.order() as u32);
+    let mut loaded = Registers::new();
+    'loading: for _ in 0..many {
+        loaded.push(0);
+    }
+    loaded
+}
+
+/// The first exact value that is no word, in the run of the written equations from registers of
+/// zeros over these inputs. It takes no memory.
+pub fn replay_overflow(q: &Quantised, inputs: &[i64]) -> OverflowReplay
+    requires words { All (IsWord q.now.format) inputs.now }
+    requires few { length inputs.now < 2 ^ 32 }
+    ensures first { IfBreaks result (IsFirstBreak q.now.format
+        (rows (equations_of q.now) (zeros (equations_of q.now).many) inputs.now)) }
+    ensures none { IfUnbroken result (All (IsInside q.now.format)
+        (rows (equations_of q.now) (zeros (equations_of q.now).many) inputs.now)) }
+{
+    let format = q.format();
+    let mut registers = zero_registers(q);
+    for (i, x) in inputs.iter().enumerate() {
+        let row = next_row(q, x, &mut registers);
+        if let Some(found) = first_outside(&format, row.exact.as_slice()) {
+            return OverflowReplay::Breaks {
+                sample: i as u32,
+                value: found.value,
+                exact: found.exact,
+            };
+        }
+    }
+    OverflowReplay::Clean
+}
+
+/// The least number of samples with input 0, up to a limit, after which the written equations have
+/// brought these words back into the registers, and whether an output on the way isn't 0. It takes
+/// no memory.
+pub fn replay_cycle(q: &Quantised, start: &[i64], limit: u32) -> CycleReplay
+    requires many { length start.now ≡ registers_of q.now.realisation (order q.now) }
+    requires words { All (IsWord q.now.format) start.now }
+    ensures least { IfReturns result (λ period sounding.
+        IsLeastPeriod Past (equations_of q.now) start.now period) }
+    ensures few { IfReturns result (λ period sounding. period ≤ limit) }
+    ensures sounding { IfReturns result (λ period sounding. sounding ≡ true →
+        IsSounding Past (equations_of q.now) start.now period) }
+    // An output that isn't 0 at any later time is heard in the first period already.
+    ensures lasting { IfReturns result (λ period sounding. (n : ℕ) →
+        IsSounding Past (equations_of q.now) start.now n → sounding ≡ true) }
+    ensures gone { IfGone result ((p : ℕ) → p ≤ limit →
+        Returns Past (equations_of q.now) start.now p → ⊥) }
+{
+    let mut registers = loaded_registers(q, start);
+    let mut sounding = false;
+    for done in 0..limit {
+        let row = next_row(q, &0, &mut registers);
+        sounding = is_heard(sounding, &row);
+        if registers.as_slice() == start {
+            return CycleReplay::Returns {
+                period: done + 1,
+                sounding,
+            };
+        }
+    }
+    CycleReplay::Clean
+}
