@@ -49,8 +49,13 @@ node_value format registers x values (Fit of) = fit format.overflow (width forma
 
 -- what a node adds to the exact values
 abbrev pub node_exact : List ℤ → Node → List ℤ
+node_exact values Input = []
+node_exact values (Reg register) = []
+node_exact values (MulConst coeff of) = []
+node_exact values (Round of) = []
+node_exact values (Add left right) = []
+node_exact values (Sub left right) = []
 node_exact values (Fit of) = at values of ∷ []
-node_exact values _ = []
 
 abbrev pub after_node : Format → List ℤ → ℤ → Sample → Node → Sample
 after_node format registers x sample node = record {

@@ -29,10 +29,10 @@ use Rattle.dsv_term.proofs.Complement.{IsSpelled, only_spelled, wider_spelled}
 use Rattle.dsv_unroll.specs.declared.rules.FitRule.{FitRule}
 use Rattle.dsv_unroll.specs.declared.rules.FitRule.TheVariants as fit_rule
 use Rattle.dsv_unroll.specs.Ready.{IsValue, AreReady}
-use Rattle.dsv_unroll.specs.Rules.{Unrolled, unrolled_of, product_term, rounded_term, shifted_term, sum_term, difference_term, addend_of, is_whole, addend_at, fitted_term, word_term, term_at, bound_at, node_term}
+use Rattle.dsv_unroll.specs.Rules.{Unrolled, unrolled_of, product_term, rounded_term, shift_width, shifted_term, sum_term, difference_term, addend_of, is_whole, addend_at, fitted_term, word_term, term_at, bound_at, node_term}
 use Rattle.dsv_unroll.proofs.RuleTerms.{Spells, spells_later, product_made, sum_made, difference_made}
 use Rattle.dsv_unroll.proofs.Rounding.{shift_none, shift_floor, shift_product}
-use Rattle.dsv_unroll.proofs.RoundTerms.{shift_width, shifted}
+use Rattle.dsv_unroll.proofs.RoundTerms.{shifted}
 use Rattle.dsv_unroll.proofs.FitTerms.{is_outside, inside_spelled, tested_fits}
 use Rattle.dsv_unroll.proofs.FaithfulTerms.{word_fits, wrapped_residue, wrapped_spelled}
 use Rattle.dsv_unroll.proofs.NodeTerms.{bound_small, addend_small, point_small, width_some}

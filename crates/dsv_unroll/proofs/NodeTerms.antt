@@ -1,6 +1,6 @@
 -- What the term of a node adds.
 use Rattle.std.proofs.Common.{◌≡◌, ℕ, zero, suc, ◌+◌, ◌-◌, ◌^◌, ◌<◌, ◌≤◌, Bool, true, false, inl, inr, List, [], ◌∷◌, ◌++◌, refl, arith, subst, ◌∙◌, length}
-use Rattle.std.specs.Prelude.{◌==◌, nat_lt, max, if◌then◌else◌, Some, slice_get, slice_index_or}
+use Rattle.std.specs.Prelude.{◌==◌, nat_lt, if◌then◌else◌, Some, slice_get, slice_index_or}
 use Rattle.std.specs.List.{All}
 use Rattle.std.proofs.Math.Nat.{pow-le-pow_right}
 use Rattle.std.proofs.lemmas.Bool.{cases_lt}
@@ -28,9 +28,9 @@ use Rattle.dsv_term.proofs.Building.{Adds-none, later}
 use Rattle.dsv_unroll.specs.declared.rules.FitRule.{FitRule}
 use Rattle.dsv_unroll.specs.declared.rules.FitRule.TheVariants as fit_rule
 use Rattle.dsv_unroll.specs.Ready.{IsValue, AreReady}
-use Rattle.dsv_unroll.specs.Rules.{Unrolled, unrolled_of, width_for, product_term, sum_width, shifted_term, addend_of, is_whole, addend_at, fitted_term, word_term, term_at, bound_at, node_term}
-use Rattle.dsv_unroll.proofs.RuleTerms.{value_later, width_for-least, max_narrow, product_made, sum_made, difference_made, sum_narrow}
-use Rattle.dsv_unroll.proofs.RoundTerms.{shift_width, shift_width-narrow, shifted}
+use Rattle.dsv_unroll.specs.Rules.{Unrolled, unrolled_of, product_width, product_term, sum_width, shift_width, shifted_term, addend_of, is_whole, addend_at, fitted_term, word_term, term_at, bound_at, node_term}
+use Rattle.dsv_unroll.proofs.RuleTerms.{value_later, product_made, product_narrow, sum_made, difference_made, sum_narrow}
+use Rattle.dsv_unroll.proofs.RoundTerms.{shift_width-narrow, shifted}
 use Rattle.dsv_unroll.proofs.FitTerms.{tested_fits}
 use Rattle.dsv_unroll.proofs.FaithfulTerms.{word_fits}
 
@@ -48,19 +48,19 @@ width_some f = let l = f.lawful in omega (arith, l.0, l.1)
 pub width_small : (f : Format) → width f ≤ 32
 width_small f = let l = f.lawful in omega (arith, l.2)
 
-addend_of-small : (r : Rounding) (f : ℕ) → f ≤ 32 → addend_of r f < 2 ^ 78
-addend_of-small rounding.Floor f h = pow_pos 78
-addend_of-small rounding.Ceil f h = let p : 2 ^ f ≤ 2 ^ 32 = pow-le-pow_right (omega arith) h in omega arith
-addend_of-small rounding.Nearest f h = let q : f - 1 ≤ 32 = omega arith in let p : 2 ^ (f - 1) ≤ 2 ^ 32 = pow-le-pow_right (omega arith) q in omega arith
+addend_is_small : (r : Rounding) (f : ℕ) → addend_of r f ≤ 2 ^ f
+addend_is_small rounding.Floor f = omega (arith, pow_pos f)
+addend_is_small rounding.Ceil f = omega arith
+addend_is_small rounding.Nearest f = pow-le-pow_right (omega arith) (omega arith)
 
-if_small : (q : Bool) (a : ℕ) → a < 2 ^ 78 → (if q then 0 else a) < 2 ^ 78
-if_small true a h = pow_pos 78
-if_small false a h = h
+if_small : (q : Bool) (a k : ℕ) → a ≤ k → (if q then 0 else a) ≤ k
+if_small true a k h = omega arith
+if_small false a k h = h
 
-pub addend_small : (net : Net) (of : ℕ) → addend_at net of < 2 ^ 78
+pub addend_small : (net : Net) (of : ℕ) → addend_at net of ≤ 2 ^ net.format.frac_bits
 addend_small net of =
-    if_small (is_whole net.format.frac_bits (slice_index_or net.nodes of node.Input)) (addend_of net.format.rounding net.format.frac_bits)
-    (addend_of-small net.format.rounding net.format.frac_bits (point_small net.format))
+    if_small (is_whole net.format.frac_bits (slice_index_or net.nodes of node.Input)) (addend_of net.format.rounding net.format.frac_bits) (2 ^ net.format.frac_bits)
+    (addend_is_small net.format.rounding net.format.frac_bits)
 
 -- a node names those before it
 pub names-at : (m : ℕ) (nodes : List Node) (i : ℕ) (n : Node) → AllNameBack m nodes → slice_get nodes i ≡ Some n → NamesBelow (m + i) n
@@ -91,7 +91,7 @@ plain t b bits broken a n s w =
 standing : (t : TermsView) (id broken : TermId) → AreSound t → IsValue t id → broken.0 < length t.nodes → width_of t broken ≡ 1 → NodeAdds t (unrolled_of (built_of t id) broken)
 standing t id broken s v k w = plain t (built_of t id) (width_of t id) broken (Adds-none t id (width_of t id) s v.stands refl) v.narrow k w
 
-rounded_by : (t : TermsView) (bound addend f : ℕ) (of broken : TermId) (q : Bool) → AreSound t → IsValue t of → bound < 2 ^ 78 → addend < 2 ^ 78 → f ≤ 32 → (f == 0) ≡ q → broken.0 < length t.nodes → width_of t broken ≡ 1
+rounded_by : (t : TermsView) (bound addend f : ℕ) (of broken : TermId) (q : Bool) → AreSound t → IsValue t of → bound < 2 ^ 78 → addend ≤ 2 ^ f → f ≤ 32 → (f == 0) ≡ q → broken.0 < length t.nodes → width_of t broken ≡ 1
     → NodeAdds t (unrolled_of (if q then built_of t of else shifted_term t bound addend f of) broken)
 rounded_by t bound addend f of broken true s v l m k e bs bw = standing t of broken s v bs bw
 rounded_by t bound addend f of broken false s v l m k e bs bw =
@@ -123,7 +123,7 @@ node_adds rule net registers x t ids broken (node.MulConst c of) net_ r l b d =
     let small = bound_small net (length ids) net_ l in
     let v = r.nodes of b in
     let h = product_made t bound c (term_at ids of) r.sound v small in
-    plain t (product_term t bound c (term_at ids of)) (max (width_of t (term_at ids of)) (width_for bound)) broken h.adds (max_narrow (width_of t (term_at ids of)) (width_for bound) 79 v.narrow (width_for-least bound 78 (omega arith) small)) r.flag_stands r.flag_bit
+    plain t (product_term t bound c (term_at ids of)) (product_width t bound c (term_at ids of)) broken h.adds (product_narrow t bound c (term_at ids of) v small) r.flag_stands r.flag_bit
 node_adds rule net registers x t ids broken (node.Round of) net_ r l b d =
     rounded_by t (bound_at net of) (addend_at net of) net.format.frac_bits (term_at ids of) broken (net.format.frac_bits == 0) r.sound (r.nodes of b) (bound_small net of net_ (omega arith)) (addend_small net of) (point_small net.format) refl r.flag_stands r.flag_bit
 node_adds rule net registers x t ids broken (node.Add i j) net_ r l b d =

@@ -1,14 +1,14 @@
 -- What each rule adds, and which number its term spells.
-use Rattle.std.proofs.Common.{◌≡◌, ℕ, ◌+◌, ◌-◌, ◌*◌, ◌^◌, ◌<◌, ◌≤◌, Bool, true, false, List, inl, inr, refl, arith, ap, sym, subst, ◌∙◌, length}
-use Rattle.std.specs.Prelude.{◌==◌, max, if◌then◌else◌}
+use Rattle.std.proofs.Common.{◌≡◌, ℕ, zero, suc, ◌+◌, ◌-◌, ◌*◌, ◌^◌, ◌<◌, ◌≤◌, Bool, true, false, List, inl, inr, refl, arith, ap, sym, subst, ◌∙◌, length}
+use Rattle.std.specs.Prelude.{◌==◌, max, min, if◌then◌else◌}
 use Rattle.std.specs.Int.Count.{count_leading_zeros}
 use Rattle.std.specs.Int.RustNames.{unsigned_abs}
 use Rattle.std.proofs.Math.IntN.{ℤ, ◌+ℤ◌, ◌-ℤ◌, ◌*ℤ◌}
 use Rattle.std.proofs.Math.Nat.{le-max_left, le-max_right, pow-le-pow_right}
-use Rattle.std.proofs.lemmas.Int.{ints}
-use Rattle.std.proofs.lemmas.Nat.{pow-add, leading_length}
+use Rattle.std.proofs.lemmas.Int.{ints, unsigned_abs-mul}
+use Rattle.std.proofs.lemmas.Nat.{pow-add, pow_pos, mul-le, leading_length}
 use Rattle.std.proofs.lemmas.Bool.{eqb-true, cases_lt}
-use Rattle.dsv_netlist.proofs.Sizes.{size_within}
+use Rattle.dsv_netlist.proofs.Sizes.{size_within, within_size}
 use Rattle.dsv_term.specs.declared.node.TheConstants.{MAX_WIDTH}
 use Rattle.dsv_term.specs.declared.node.TermId.{TermId}
 use Rattle.dsv_term.specs.declared.node.TermNode.TheVariants.{Add, Sub, MulConst, Sext}
@@ -21,7 +21,7 @@ use Rattle.dsv_term.specs.Word.{sum_of, difference_of, product_of, extended_of}
 use Rattle.dsv_term.proofs.Building.{Adds-both, Adds-none, Adds-width, later, stands-width, sum_gives, difference_gives, product_gives, extension_gives}
 use Rattle.dsv_term.proofs.Complement.{IsSpelled, spelled, wider_spelled, extended-spelled, sum-spelled, difference-spelled, product-spelled}
 use Rattle.dsv_unroll.specs.Ready.{IsValue}
-use Rattle.dsv_unroll.specs.Rules.{width_for, widened_term, product_term, sum_width, sum_term, difference_term}
+use Rattle.dsv_unroll.specs.Rules.{width_for, widened_term, product_width, product_term, sum_width, sum_term, difference_term}
 
 -- the term spells the number in so many bits
 pub record Spells (t : TermsView) (values : List ℕ) (id : TermId) (bits : ℕ) (z : ℤ) : Type 0 where
@@ -102,11 +102,60 @@ max_narrow a b k h l = omega arith
 bound_large : (bound k : ℕ) → k ≤ 128 → bound < 2 ^ k → bound < 2 ^ 128
 bound_large bound k s h = let p : 2 ^ k ≤ 2 ^ 128 = pow-le-pow_right (omega arith) s in omega arith
 
+-- a number that fits in so many bits, and has this bound, fits in the lesser width of both
+abbrev pub lesser_width : ℕ → ℕ → ℕ → ℕ
+lesser_width bits more w = max bits (min more w)
+
+lesser_narrow : (bits more w k : ℕ) → bits ≤ k → w ≤ k → lesser_width bits more w ≤ k
+lesser_narrow bits more w k h l = omega arith
+
+pub lesser_fits : (bits more bound : ℕ) (x : ℤ) → bits ≤ more → bound < 2 ^ 128 → IsSpelled more x → unsigned_abs x ≤ bound → IsSpelled (lesser_width bits more (width_for bound)) x
+lesser_fits bits more bound x b l h k = elim (cases_lt (width_for bound) more) [
+  | inl less ↦ fits_size bound (lesser_width bits more (width_for bound)) x (room_wider bound (lesser_width bits more (width_for bound)) l (omega arith)) k
+  | inr wide ↦ let e : more ≡ lesser_width bits more (width_for bound) = omega arith in subst (λ (w : ℕ). IsSpelled w x) e h
+]
+
+-- a product has at most as many bits more as the constant has
+scaled_size : (c m s p : ℕ) → c < m → s ≤ p → 1 ≤ p → c * s < m * p
+scaled_size c m s p h k l =
+    let a : c * s ≤ c * p = mul-le c s c p (omega arith) k in
+    let b : (c + 1) * p ≤ m * p = mul-le (c + 1) p m p (omega arith) (omega arith) in
+    let d : (c + 1) * p ≡ c * p + p = mul_suc c p in
+    omega (arith, a, b, d)
+  where
+    mul_suc : (n q : ℕ) → (n + 1) * q ≡ n * q + q
+    mul_suc n q = grind (arith)
+
+product_spelled : (w bound : ℕ) (coeff z : ℤ) → 1 ≤ w → bound < 2 ^ 128 → unsigned_abs (coeff *ℤ z) ≤ bound → IsSpelled w z
+    → IsSpelled (w + width_for (min (unsigned_abs coeff) bound) - 1) (coeff *ℤ z)
+product_spelled w bound coeff z s l h k =
+    let c = unsigned_abs coeff in
+    let d = min c bound in
+    let r = width_for-room d (omega arith) in
+    let bits = w + width_for d - 1 in
+    let e : bits - 1 ≡ (width_for d - 1) + (w - 1) = omega (arith, r.some) in
+    let p : 2 ^ (bits - 1) ≡ 2 ^ (width_for d - 1) * 2 ^ (w - 1) = ap (λ (i : ℕ). 2 ^ i) e ∙ pow-add 2 (width_for d - 1) (w - 1) in
+    let m = unsigned_abs-mul coeff z in
+    let one : 1 ≤ 2 ^ (w - 1) = pow_pos (w - 1) in
+    let small : unsigned_abs z ≤ 2 ^ (w - 1) = within_size (2 ^ (w - 1)) z (record { low = k.low; high = omega (arith, ints, k.high) }) in
+    elim (cases_lt bound c) [
+      | inl large ↦ fits_size 0 bits (coeff *ℤ z) (pow_pos (bits - 1)) (no_size c (unsigned_abs z) (unsigned_abs (coeff *ℤ z)) bound m h large)
+      | inr within ↦
+          let same : d ≡ c = omega arith in
+          let q = scaled_size c (2 ^ (width_for d - 1)) (unsigned_abs z) (2 ^ (w - 1)) (subst (λ (n : ℕ). n < 2 ^ (width_for d - 1)) same r.enough) small one in
+          fits_size (unsigned_abs (coeff *ℤ z)) bits (coeff *ℤ z) (omega (arith, p, m, q)) (omega arith)
+    ]
+  where
+    no_size : (c s x bound : ℕ) → x ≡ c * s → x ≤ bound → bound < c → x ≤ 0
+    no_size c zero x bound e h l = omega (arith, e)
+    no_size c (suc s) x bound e h l = absurd (let f : c * suc s ≡ c * s + c = grind (arith) in omega (arith, e, f))
+
 pub record Multiplies (t : TermsView) (bound : ℕ) (coeff : ℤ) (of : TermId) (bits : ℕ) (b : Built) : Type 0 where
   pub adds : Adds t b.terms b.id bits
   pub spells : (values : List ℕ) (z : ℤ) → Spells t values of (width_of t of) z → unsigned_abs (coeff *ℤ z) ≤ bound → Spells b.terms values b.id bits (coeff *ℤ z)
 
-multiplied : (t : TermsView) (bound : ℕ) (coeff : ℤ) (of : TermId) (bits : ℕ) → AreSound t → IsValue t of → width_of t of ≤ bits → bits ≤ MAX_WIDTH → bound < 2 ^ (bits - 1)
+multiplied : (t : TermsView) (bound : ℕ) (coeff : ℤ) (of : TermId) (bits : ℕ) → AreSound t → IsValue t of → width_of t of ≤ bits → bits ≤ MAX_WIDTH
+    → ((z : ℤ) → IsSpelled (width_of t of) z → unsigned_abs (coeff *ℤ z) ≤ bound → IsSpelled bits (coeff *ℤ z))
     → Multiplies t bound coeff of bits (let a = widened_term t of bits in with_node a.terms (MulConst a.id coeff))
 multiplied t bound coeff of bits s v w n r =
     let a = widened_term t of bits in
@@ -117,16 +166,27 @@ multiplied t bound coeff of bits s v w n r =
       adds = Adds-width t b.terms b.id (width_of a.terms a.id) bits (Adds-both t a.terms b.terms a.id b.id bits (width_of a.terms a.id) wd.adds g.adds) wd.adds.width;
       spells = λ values z m k. record {
         word = g.word values ∙ (ap (product_of coeff) (wd.spells values z m).word ∙ product-spelled bits coeff z);
-        fits = fits_size bound bits (coeff *ℤ z) r k;
+        fits = r z m.fits k;
       };
     }
 
+pub product_narrow : (t : TermsView) (bound : ℕ) (coeff : ℤ) (of : TermId) → IsValue t of → bound < 2 ^ 78 → product_width t bound coeff of ≤ 79
+product_narrow t bound coeff of v l =
+    let w = width_of t of in
+    lesser_narrow w (w + width_for (min (unsigned_abs coeff) bound) - 1) (width_for bound) 79 v.narrow (width_for-least bound 78 (omega arith) l)
+
 pub product_made : (t : TermsView) (bound : ℕ) (coeff : ℤ) (of : TermId) → AreSound t → IsValue t of → bound < 2 ^ 78
-    → Multiplies t bound coeff of (max (width_of t of) (width_for bound)) (product_term t bound coeff of)
+    → Multiplies t bound coeff of (product_width t bound coeff of) (product_term t bound coeff of)
 product_made t bound coeff of s v l =
-    let bits = max (width_of t of) (width_for bound) in
-    let m = max_narrow (width_of t of) (width_for bound) 79 v.narrow (width_for-least bound 78 (omega arith) l) in
-    multiplied t bound coeff of bits s v (le-max_left (width_of t of) (width_for bound)) (omega arith) (room_wider bound bits (bound_large bound 78 (omega arith) l) (le-max_right (width_of t of) (width_for bound)))
+    let w = width_of t of in
+    let some = (stands-width t of s v.stands).some in
+    let d = min (unsigned_abs coeff) bound in
+    let more = w + width_for d - 1 in
+    let m = product_narrow t bound coeff of v l in
+    let large = bound_large bound 78 (omega arith) l in
+    let r = width_for-room d (omega arith) in
+    multiplied t bound coeff of (product_width t bound coeff of) s v (le-max_left w (min more (width_for bound))) (omega arith)
+    (λ z h k. lesser_fits w more bound (coeff *ℤ z) (omega (arith, r.some)) large (product_spelled w bound coeff z some large k h) k)
 
 -- two terms in so many bits
 pub record WidensBoth (t : TermsView) (left right : TermId) (bits : ℕ) (a b : Built) : Type 0 where
@@ -156,7 +216,8 @@ pub record Combines (t : TermsView) (bound : ℕ) (left right : TermId) (bits : 
   pub adds : Adds t b.terms b.id bits
   pub spells : (values : List ℕ) (y z : ℤ) → Spells t values left (width_of t left) y → Spells t values right (width_of t right) z → unsigned_abs (op y z) ≤ bound → Spells b.terms values b.id bits (op y z)
 
-added : (t : TermsView) (bound : ℕ) (left right : TermId) (bits : ℕ) → AreSound t → IsValue t left → IsValue t right → width_of t left ≤ bits → width_of t right ≤ bits → bits ≤ MAX_WIDTH → bound < 2 ^ (bits - 1)
+added : (t : TermsView) (bound : ℕ) (left right : TermId) (bits : ℕ) → AreSound t → IsValue t left → IsValue t right → width_of t left ≤ bits → width_of t right ≤ bits → bits ≤ MAX_WIDTH
+    → ((y z : ℤ) → IsSpelled (width_of t left) y → IsSpelled (width_of t right) z → unsigned_abs (y +ℤ z) ≤ bound → IsSpelled bits (y +ℤ z))
     → Combines t bound left right bits (λ y z. y +ℤ z) (let a = widened_term t left bits in let b = widened_term a.terms right bits in with_node b.terms (Add a.id b.id))
 added t bound left right bits s v u w x n r =
     let a = widened_term t left bits in
@@ -169,11 +230,12 @@ added t bound left right bits s v u w x n r =
       spells = λ values y z p q k. record {
         word = g.word values ∙ (ap (λ (i : Word). sum_of i (word_of b.terms values b.id)) (m.left_spells values y p).word
             ∙ (ap (sum_of (spelled bits y)) (m.right_spells values z q).word ∙ sum-spelled bits y z));
-        fits = fits_size bound bits (y +ℤ z) r k;
+        fits = r y z p.fits q.fits k;
       };
     }
 
-subtracted : (t : TermsView) (bound : ℕ) (left right : TermId) (bits : ℕ) → AreSound t → IsValue t left → IsValue t right → width_of t left ≤ bits → width_of t right ≤ bits → bits ≤ MAX_WIDTH → bound < 2 ^ (bits - 1)
+subtracted : (t : TermsView) (bound : ℕ) (left right : TermId) (bits : ℕ) → AreSound t → IsValue t left → IsValue t right → width_of t left ≤ bits → width_of t right ≤ bits → bits ≤ MAX_WIDTH
+    → ((y z : ℤ) → IsSpelled (width_of t left) y → IsSpelled (width_of t right) z → unsigned_abs (y -ℤ z) ≤ bound → IsSpelled bits (y -ℤ z))
     → Combines t bound left right bits (λ y z. y -ℤ z) (let a = widened_term t left bits in let b = widened_term a.terms right bits in with_node b.terms (Sub a.id b.id))
 subtracted t bound left right bits s v u w x n r =
     let a = widened_term t left bits in
@@ -186,30 +248,55 @@ subtracted t bound left right bits s v u w x n r =
       spells = λ values y z p q k. record {
         word = g.word values ∙ (ap (λ (i : Word). difference_of i (word_of b.terms values b.id)) (m.left_spells values y p).word
             ∙ (ap (difference_of (spelled bits y)) (m.right_spells values z q).word ∙ difference-spelled bits y z));
-        fits = fits_size bound bits (y -ℤ z) r k;
+        fits = r y z p.fits q.fits k;
       };
     }
 
+-- one bit more than two numbers have suffices for their sum and their difference
+one_more : (m : ℕ) → 1 ≤ m → 2 ^ (m + 1 - 1) ≡ 2 ^ (m - 1) + 2 ^ (m - 1)
+one_more m h =
+    let e : m + 1 - 1 ≡ 1 + (m - 1) = omega arith in
+    let d : 2 ^ (m + 1 - 1) ≡ 2 * 2 ^ (m - 1) = ap (λ (i : ℕ). 2 ^ i) e ∙ pow-add 2 1 (m - 1) in
+    omega (arith, d)
+
+sum_spelled : (m : ℕ) (y z : ℤ) → 1 ≤ m → IsSpelled m y → IsSpelled m z → IsSpelled (m + 1) (y +ℤ z)
+sum_spelled m y z s h k = let p = one_more m s in record { low = omega (arith, ints, p, h.low, k.low); high = omega (arith, ints, p, h.high, k.high) }
+
+difference_spelled : (m : ℕ) (y z : ℤ) → 1 ≤ m → IsSpelled m y → IsSpelled m z → IsSpelled (m + 1) (y -ℤ z)
+difference_spelled m y z s h k =
+    let p = one_more m s in record { low = omega (arith, ints, p, h.low, h.high, k.low, k.high); high = omega (arith, ints, p, h.low, h.high, k.low, k.high) }
+
 pub sum_narrow : (t : TermsView) (bound : ℕ) (left right : TermId) → IsValue t left → IsValue t right → bound < 2 ^ 78 → sum_width t bound left right ≤ 79
 sum_narrow t bound left right v u l =
-    max_narrow (max (width_of t left) (width_of t right)) (width_for bound) 79 (max_narrow (width_of t left) (width_of t right) 79 v.narrow u.narrow) (width_for-least bound 78 (omega arith) l)
+    let w = width_for-least bound 78 (omega arith) l in
+    let m = max_narrow (width_of t left) (width_of t right) 79 v.narrow u.narrow in
+    let bits = max (width_of t left) (width_of t right) in
+    lesser_narrow bits (bits + 1) (width_for bound) 79 m w
 
-left_within : (a b c : ℕ) → a ≤ max (max a b) c
+left_within : (a b c : ℕ) → a ≤ lesser_width (max a b) (max a b + 1) c
 left_within a b c = omega arith
 
-right_within : (a b c : ℕ) → b ≤ max (max a b) c
+right_within : (a b c : ℕ) → b ≤ lesser_width (max a b) (max a b + 1) c
 right_within a b c = omega arith
 
 pub sum_made : (t : TermsView) (bound : ℕ) (left right : TermId) → AreSound t → IsValue t left → IsValue t right → bound < 2 ^ 78
     → Combines t bound left right (sum_width t bound left right) (λ y z. y +ℤ z) (sum_term t bound left right)
 sum_made t bound left right s v u l =
+    let a = width_of t left in
+    let b = width_of t right in
+    let some = (stands-width t left s v.stands).some in
     let m = sum_narrow t bound left right v u l in
-    added t bound left right (sum_width t bound left right) s v u (left_within (width_of t left) (width_of t right) (width_for bound)) (right_within (width_of t left) (width_of t right) (width_for bound)) (omega arith)
-    (room_wider bound (sum_width t bound left right) (bound_large bound 78 (omega arith) l) (le-max_right (max (width_of t left) (width_of t right)) (width_for bound)))
+    added t bound left right (sum_width t bound left right) s v u (left_within a b (width_for bound)) (right_within a b (width_for bound)) (omega arith)
+    (λ y z h k. lesser_fits (max a b) (max a b + 1) bound (y +ℤ z) (omega arith) (bound_large bound 78 (omega arith) l)
+    (sum_spelled (max a b) y z (omega arith) (wider_spelled a (max a b) y (le-max_left a b) h) (wider_spelled b (max a b) z (le-max_right a b) k)))
 
 pub difference_made : (t : TermsView) (bound : ℕ) (left right : TermId) → AreSound t → IsValue t left → IsValue t right → bound < 2 ^ 78
     → Combines t bound left right (sum_width t bound left right) (λ y z. y -ℤ z) (difference_term t bound left right)
 difference_made t bound left right s v u l =
+    let a = width_of t left in
+    let b = width_of t right in
+    let some = (stands-width t left s v.stands).some in
     let m = sum_narrow t bound left right v u l in
-    subtracted t bound left right (sum_width t bound left right) s v u (left_within (width_of t left) (width_of t right) (width_for bound)) (right_within (width_of t left) (width_of t right) (width_for bound)) (omega arith)
-    (room_wider bound (sum_width t bound left right) (bound_large bound 78 (omega arith) l) (le-max_right (max (width_of t left) (width_of t right)) (width_for bound)))
+    subtracted t bound left right (sum_width t bound left right) s v u (left_within a b (width_for bound)) (right_within a b (width_for bound)) (omega arith)
+    (λ y z h k. lesser_fits (max a b) (max a b + 1) bound (y -ℤ z) (omega arith) (bound_large bound 78 (omega arith) l)
+    (difference_spelled (max a b) y z (omega arith) (wider_spelled a (max a b) y (le-max_left a b) h) (wider_spelled b (max a b) z (le-max_right a b) k)))

@@ -1,7 +1,7 @@
 -- How each node of a netlist becomes a term. A term has the least width that holds its node's
 -- bound, or that of a wider operand.
 use Rattle.std.specs.Prelude.{ℕ, ◌+◌, ◌-◌, ◌%◌, ◌^◌, ◌==◌}
-use Rattle.std.specs.Prelude.{nat_lt, max, Bool, false}
+use Rattle.std.specs.Prelude.{nat_lt, max, min, Bool, false}
 use Rattle.std.specs.Prelude.{if◌then◌else◌, List, length, slice_index, slice_index_or, ℤ}
 use Rattle.std.specs.Int.Count.{count_leading_zeros}
 use Rattle.std.specs.Int.RustNames.{unsigned_abs}
@@ -35,16 +35,24 @@ abbrev pub widened_term : TermsView → TermId → ℕ → Built
 widened_term t id bits =
     if width_of t id == bits then built_of t id else with_node t (Sext id bits)
 
+-- the width of a product by a constant: as many bits more than the term's as the constant has
+-- always suffice
+abbrev pub product_width : TermsView → ℕ → ℤ → TermId → ℕ
+product_width t bound coeff of =
+    let bits = width_of t of in
+    max bits (min (bits + width_for (min (unsigned_abs coeff) bound) - 1) (width_for bound))
+
 -- a product by a constant, where this is its bound
 abbrev pub product_term : TermsView → ℕ → ℤ → TermId → Built
 product_term t bound coeff of =
-    let a = widened_term t of (max (width_of t of) (width_for bound)) in
+    let a = widened_term t of (product_width t bound coeff of) in
     with_node a.terms (MulConst a.id coeff)
 
--- the width of a sum or a difference of two terms
+-- the width of a sum or a difference of two terms: one bit more than theirs always suffices
 abbrev pub sum_width : TermsView → ℕ → TermId → TermId → ℕ
 sum_width t bound left right =
-    max (max (width_of t left) (width_of t right)) (width_for bound)
+    let bits = max (width_of t left) (width_of t right) in
+    max bits (min (bits + 1) (width_for bound))
 
 abbrev pub sum_term : TermsView → ℕ → TermId → TermId → Built
 sum_term t bound left right =
@@ -69,8 +77,13 @@ addend_of rounding.Nearest f = 2 ^ (f - 1)
 
 -- the node is a product by a multiple of 2^f
 abbrev pub is_whole : ℕ → Node → Bool
+is_whole f node.Input = false
+is_whole f (node.Reg register) = false
 is_whole f (node.MulConst coeff of) = unsigned_abs coeff % 2 ^ f == 0
-is_whole f _ = false
+is_whole f (node.Round of) = false
+is_whole f (node.Add left right) = false
+is_whole f (node.Sub left right) = false
+is_whole f (node.Fit of) = false
 
 -- what is added to the node of this number: nothing to a multiple of 2^f
 abbrev pub addend_at : Net → ℕ → ℕ
@@ -83,10 +96,17 @@ with_addend t bits addend id =
     if addend == 0 then built_of t id
     else let c = with_node t (Constant bits addend) in with_node c.terms (Add id c.id)
 
+-- the width of a term with an addend below 2^f: none more where nothing is added, and one more
+-- always suffices
+abbrev pub shift_width : TermsView → ℕ → ℕ → ℕ → TermId → ℕ
+shift_width t bound addend f of =
+    let bits = max (width_of t of) (f + 1) in
+    if addend == 0 then bits else max bits (min (bits + 1) (width_for (bound + addend)))
+
 -- the term with the addend, in bits from f up, where this is the bound of what is rounded
 abbrev pub shifted_term : TermsView → ℕ → ℕ → ℕ → TermId → Built
 shifted_term t bound addend f of =
-    let bits = max (max (width_of t of) (width_for (bound + addend))) (f + 1) in
+    let bits = shift_width t bound addend f of in
     let a = widened_term t of bits in
     let b = with_addend a.terms bits addend a.id in
     with_node b.terms (Extract b.id (bits - 1) f)

@@ -16,7 +16,7 @@ use dsv_word::Format;
 /// What is added before the bits below the point are cut off.
 fn addend_of(format: &Format) -> u128
     ensures value { result ≡ addend_of format.now.rounding format.now.frac_bits }
-    ensures small { result < 2 ^ 78 }
+    ensures small { result ≤ 2 ^ format.now.frac_bits }
 {
     let one: u128 = 1;
     match format.rounding {
@@ -44,7 +44,7 @@ fn is_whole(node: &Node, frac_bits: u32) -> bool
 fn addend_at(net: &Netlist, of: u32) -> u128
     requires { of < length net.now.nodes }
     ensures value { result ≡ addend_at net.now of }
-    ensures small { result < 2 ^ 78 }
+    ensures small { result ≤ 2 ^ net.now.format.frac_bits }
 {
     let format = net.format();
     let node = net.node(of);

@@ -5,7 +5,8 @@ ghost use Rattle.dsv_term.specs.Building.{built_of};
 ghost use Rattle.dsv_term.specs.Growth.{AreSound, Adds};
 ghost use Rattle.dsv_term.specs.Terms.{width_of};
 ghost use Rattle.dsv_term.specs.Word.{IsWidth};
-ghost use Rattle.dsv_unroll.specs.Rules.{width_for, widened_term, product_term, sum_width};
+ghost use Rattle.dsv_unroll.specs.Rules.{width_for, widened_term, product_width};
+ghost use Rattle.dsv_unroll.specs.Rules.{product_term, sum_width, shift_width};
 ghost use Rattle.dsv_unroll.specs.Rules.{sum_term, difference_term, with_addend, shifted_term};
 ghost use Rattle.dsv_unroll.specs.Rules.{rounded_term};
 ghost use Rattle.dsv_unroll.specs.Ready.{IsValue};
@@ -46,6 +47,17 @@ pub(crate) fn widened_term(terms: &mut Terms, id: TermId, bits: u32) -> Result<T
     Ok(made)
 }
 
+/// The width of a product by a constant, where this is its bound.
+fn product_width(terms: &Terms, bound: u128, coeff: i64, of: TermId) -> u32
+    requires stands { of.0 < length terms.now.nodes }
+    requires small { bound < 2 ^ 78 }
+    ensures { result ≡ product_width terms.now bound coeff of }
+{
+    let bits = terms.width(of);
+    let size = u128::from(coeff.unsigned_abs()).min(bound);
+    bits.max((bits + width_for(size) - 1).min(width_for(bound)))
+}
+
 /// A product by a constant, where this is its bound.
 pub(crate) fn product_term(
     terms: &mut Terms,
@@ -59,7 +71,7 @@ pub(crate) fn product_term(
     ensures { IfOk result (λ made. built_of terms.new made
         ≡ product_term terms.old bound coeff of) }
 {
-    let bits = terms.width(of).max(width_for(bound));
+    let bits = product_width(terms, bound, coeff, of);
     let wide = widened_term(terms, of, bits)?;
     terms.mul_const(wide, coeff)
 }
@@ -70,10 +82,8 @@ fn sum_width(terms: &Terms, bound: u128, left: TermId, right: TermId) -> u32
     requires right { right.0 < length terms.now.nodes }
     ensures { result ≡ sum_width terms.now bound left right }
 {
-    terms
-        .width(left)
-        .max(terms.width(right))
-        .max(width_for(bound))
+    let bits = terms.width(left).max(terms.width(right));
+    bits.max((bits + 1).min(width_for(bound)))
 }
 
 /// A sum, where this is its bound.
@@ -135,6 +145,21 @@ fn with_addend(terms: &mut Terms, bits: u32, addend: u128, id: TermId) -> Result
     Ok(made)
 }
 
+/// The width of a term with an addend, where this is the bound of what is rounded.
+fn shift_width(terms: &Terms, bound: u128, addend: u128, frac_bits: u32, of: TermId) -> u32
+    requires stands { of.0 < length terms.now.nodes }
+    requires small { bound < 2 ^ 78 }
+    requires addend { addend ≤ 2 ^ frac_bits }
+    requires point { frac_bits ≤ 32 }
+    ensures { result ≡ shift_width terms.now bound addend frac_bits of }
+{
+    let bits = terms.width(of).max(frac_bits + 1);
+    if addend == 0 {
+        return bits;
+    }
+    bits.max((bits + 1).min(width_for(bound + addend)))
+}
+
 /// The bits from the point up, with the addend, where this is the bound of what is rounded.
 fn shifted_term(
     terms: &mut Terms,
@@ -146,15 +171,12 @@ fn shifted_term(
     requires sound { AreSound terms.old }
     requires value { IsValue terms.old of }
     requires small { bound < 2 ^ 78 }
-    requires addend { addend < 2 ^ 78 }
+    requires addend { addend ≤ 2 ^ frac_bits }
     requires point { frac_bits ≤ 32 }
     ensures { IfOk result (λ made. built_of terms.new made
         ≡ shifted_term terms.old bound addend frac_bits of) }
 {
-    let bits = terms
-        .width(of)
-        .max(width_for(bound + addend))
-        .max(frac_bits + 1);
+    let bits = shift_width(terms, bound, addend, frac_bits, of);
     let wide = widened_term(terms, of, bits)?;
     let sum = with_addend(terms, bits, addend, wide)?;
     terms.extract(sum, bits - 1, frac_bits)
@@ -171,7 +193,7 @@ pub(crate) fn rounded_term(
     requires sound { AreSound terms.old }
     requires value { IsValue terms.old of }
     requires small { bound < 2 ^ 78 }
-    requires addend { addend < 2 ^ 78 }
+    requires addend { addend ≤ 2 ^ frac_bits }
     requires point { frac_bits ≤ 32 }
     ensures { IfOk result (λ made. built_of terms.new made
         ≡ rounded_term terms.old bound addend frac_bits of) }
