@@ -1,0 +1,8 @@
+use Rattle.std.proofs.Common.{◌≡◌, [], ◌∷◌, ◌++◌, arith}
+use Rattle.dsv_linear.proofs.RunLemmas.{taken_more}
+use Rattle.dsv_linear.proofs.run.next_of.Goals as goal
+
+pub loop-i-preserved : goal.loop-i-preserved
+loop-i-preserved c =
+    let pushed : c.push.new.self.items ≡ c.loop-i.next.items ++ c.next-id.result ∷ [] = grind arith in
+    taken_more c.args.net.now.next c.loop-i.next.items c.push.new.self.items c.loop-i.i c.next-id.result (omega arith) c.loop-i.invariant c.next-id.ensures pushed

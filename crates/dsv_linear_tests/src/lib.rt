@@ -1,0 +1,8 @@
+//! Tests of the facts of linear forms, by public calls: beside enumerated runs, and beside ends that
+//! are worked out by hand.
+#![tactic(auto)]
+
+#[cfg(test)]
+mod ends;
+#[cfg(test)]
+mod runs;
