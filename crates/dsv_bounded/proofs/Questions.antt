@@ -1,0 +1,178 @@
+-- Goals ask what their makers say of the values, and what values have is so of inputs and starts.
+use Rattle.std.proofs.Common.{◌≡◌, ℕ, ◌-◌, ◌<◌, ◌≤◌, true, List, [], ◌∷◌, ◌++◌, refl, arith, ap, sym, subst, ◌∙◌, length, replicate, take, drop}
+use Rattle.std.specs.Prelude.{◌≢◌, ◌↔◌, ◌≤ℤ◌, slice_index}
+use Rattle.std.specs.List.{All}
+use Rattle.std.proofs.Math.IntN.{ℤ, pos}
+use Rattle.std.proofs.lemmas.Int.{ints}
+use Rattle.std.proofs.lemmas.List.{length-map, length-drop, length-take, take-append-drop}
+use Rattle.std.proofs.lemmas.List.Elements.{All-weaker, All-drop, All-head, All-tail}
+use Rattle.dsv_names.specs.declared.realisation.Realisation.{Realisation}
+use Rattle.dsv_names.specs.declared.realisation.Realisation.TheVariants.{Dfi, Dfii, Tdfii, Ddfi, Ddfii, Tddfii}
+use Rattle.dsv_word.specs.Words.{width, IsWord}
+use Rattle.dsv_meaning.specs.Equations.{Past, order, registers_of, forward_registers_of}
+use Rattle.dsv_meaning.specs.Systems.{equations_of}
+use Rattle.dsv_quantiser.specs.FixedPoint.{FixedPoint, IsFixedPoint}
+use Rattle.dsv_system.specs.Breaks.{Breaks}
+use Rattle.dsv_system.specs.Cycles.{Cycles}
+use Rattle.dsv_system.specs.Systems.{RunAlike, zeros, AreInRange}
+use Rattle.dsv_netlist.specs.Nodes.{Net}
+use Rattle.dsv_netlist.specs.Systems.{system_of}
+use Rattle.dsv_term.specs.declared.node.TermId.{TermId}
+use Rattle.dsv_term.specs.declared.word.Word.{Word}
+use Rattle.dsv_term.specs.Terms.{AreTerms, AreValues, word_of, words_of, width_of}
+use Rattle.dsv_term.specs.TermsView.{TermsView}
+use Rattle.dsv_term.specs.TermNode.{node_word}
+use Rattle.dsv_term.specs.Word.{bit_of}
+use Rattle.dsv_term.proofs.Entries.{length-entries}
+use Rattle.dsv_term.proofs.Words.{words_of_nodes, known}
+use Rattle.dsv_unroll.specs.Words.{spelled_words, cycle_start, HasCycle, Tells}
+use Rattle.dsv_bounded.specs.Questions.{Asks, word_widths, DoBreak, free_registers, start_of_values, DoCycle}
+use Rattle.dsv_bounded.specs.Verdicts.{BreaksWithin, CyclesWithin}
+use Rattle.dsv_bounded.proofs.Alike.{alike_back, breaks_alike, cycles_alike}
+use Rattle.dsv_bounded.proofs.WordValues.{values_for, words_of_values, values_fit, count_of_words}
+
+-- ---- goals
+-- a term's word is as wide as the term
+word-width : (t : TermsView) (values : List ℕ) (id : TermId) → AreTerms t → AreValues t.inputs values → id.0 < length t.nodes → (word_of t values id).width ≡ width_of t id
+word-width t values id h v l =
+    let all = words_of_nodes t.inputs values t.nodes [] h.inputs v (λ k d p. absurd (omega arith)) h.lawful in
+    let n = length-entries (node_word t.inputs values) t.nodes [] in
+    let k = known (words_of t values) id all.words (omega (arith, length-map (words_of t values) (λ (w : Word). w.width))) in
+    k.width ∙ ap (λ (ws : List ℕ). slice_index ws id.0) all.widths
+
+word_with : ℕ → ℕ → Word
+word_with width number = record { width = width; number = number }
+
+one_bit : (w : Word) → w.width ≡ 1 → w.number ≡ 1 → w ≡ bit_of true
+unfolding word_with
+one_bit w p q = ap (λ (k : ℕ). word_with k w.number) p ∙ ap (λ (k : ℕ). word_with 1 k) q
+
+pub asks_from : (t : TermsView) (root : TermId) (widths : List ℕ) (R P : List ℕ → Type 0) → AreTerms t → root.0 < length t.nodes → width_of t root ≡ 1 → t.inputs ≡ widths
+    → ((values : List ℕ) → AreValues t.inputs values → Tells (word_of t values root) (R values)) → ((values : List ℕ) → R values → P values) → ((values : List ℕ) → P values → R values) → Asks t root widths P
+asks_from t root widths R P terms stands one e tells f g = record {
+  inputs = e;
+  holds = λ values a n.
+      let b = subst (λ (is : List ℕ). AreValues is values) (sym e) a in
+      f values ((tells values b).only (one_bit (word_of t values root) (word-width t values root terms b stands ∙ one) n));
+  shows = λ values a p.
+      let b = subst (λ (is : List ℕ). AreValues is values) (sym e) a in
+      ap (λ (w : Word). w.number) ((tells values b).one (g values p));
+}
+
+-- What values of these widths have is so of something, and the other way round.
+pub record Means (widths : List ℕ) (P : List ℕ → Type 0) (W : Type 0) : Type 0 where
+  pub given : (values : List ℕ) → AreValues widths values → P values → W
+  pub found : W → (values : List ℕ) × AreValues widths values × P values
+
+pub told_by : (S W : Type 0) (t : TermsView) (root : TermId) (widths : List ℕ) (P : List ℕ → Type 0) → Asks t root widths P → Means widths P W
+    → (S ↔ ((values : List ℕ) × AreValues t.inputs values × ((word_of t values root).number ≡ 1))) → (S ↔ W)
+told_by S W t root widths P a m s = (
+  (λ x.
+      let h = s.0 x in
+      let b = subst (λ (is : List ℕ). AreValues is h.0) a.inputs h.1 in
+      m.given h.0 b (a.holds h.0 b h.2)),
+  (λ w.
+      let h = m.found w in
+      s.1 (h.0, subst (λ (is : List ℕ). AreValues is h.0) (sym a.inputs) h.1, a.shows h.0 h.1 h.2)),
+)
+
+pub never_by : (W : Type 0) (t : TermsView) (root : TermId) (widths : List ℕ) (P : List ℕ → Type 0) → Asks t root widths P → Means widths P W
+    → ((values : List ℕ) → AreValues t.inputs values → (word_of t values root).number ≢ 1) → W → ⊥
+never_by W t root widths P a m n w =
+    let h = m.found w in
+    n h.0 (subst (λ (is : List ℕ). AreValues is h.0) (sym a.inputs) h.1) (a.shows h.0 h.1 h.2)
+
+-- ---- overflow
+pub words_in_range : (q : FixedPoint) (zs : List ℤ) → IsFixedPoint q → AreInRange q.xlo q.xhi zs → All (IsWord q.format) zs
+words_in_range q zs f h =
+    let l = f.low in
+    let k = f.high in
+    All-weaker (λ (x : ℤ). (q.xlo ≤ℤ x) × (x ≤ℤ q.xhi)) (IsWord q.format)
+    (λ x b. let low = b.0 in let high = b.1 in record { low = omega (arith, ints); high = omega (arith, ints) }) zs h
+
+pub breaks_mean : (q : FixedPoint) (samples : ℕ) → IsFixedPoint q → Means (word_widths q samples) (DoBreak q) (BreaksWithin q samples)
+breaks_mean q samples f = record {
+  given = λ values a b. (spelled_words q.format values, count_of_words q.format values samples a, b);
+  found = λ h.
+      let zs = h.0 in
+      let b = h.2 in
+      let e = words_of_values q.format zs (words_in_range q zs f b.in_range) in
+      (values_for q.format zs, values_fit q.format zs samples h.1, subst (λ (xs : List ℤ). Breaks Past (equations_of q) q.xlo q.xhi xs) (sym e) b);
+}
+
+pub asks_overflow : (q : FixedPoint) (net : Net) (samples : ℕ) (t : TermsView) (root : TermId) → RunAlike (List ℤ) Past (system_of net) (equations_of q) → AreTerms t → root.0 < length t.nodes → width_of t root ≡ 1
+    → t.inputs ≡ replicate samples (width net.format) → ((values : List ℕ) → AreValues t.inputs values → Tells (word_of t values root) (Breaks (List ℤ) (system_of net) q.xlo q.xhi (spelled_words net.format values)))
+    → Asks t root (word_widths q samples) (DoBreak q)
+asks_overflow q net samples t root run terms stands one inputs tells =
+    asks_from t root (word_widths q samples) (λ values. Breaks (List ℤ) (system_of net) q.xlo q.xhi (spelled_words net.format values)) (DoBreak q) terms stands one
+    (inputs ∙ ap (λ f. replicate samples (width f)) run.format) tells
+    (λ values b. subst (λ f. Breaks Past (equations_of q) q.xlo q.xhi (spelled_words f values)) run.format
+    (breaks_alike (List ℤ) Past (system_of net) (equations_of q) q.xlo q.xhi (spelled_words net.format values) run b))
+    (λ values b. breaks_alike Past (List ℤ) (equations_of q) (system_of net) q.xlo q.xhi (spelled_words net.format values) (alike_back (List ℤ) Past (system_of net) (equations_of q) run)
+    (subst (λ f. Breaks Past (equations_of q) q.xlo q.xhi (spelled_words f values)) (sym run.format) b))
+
+-- ---- cycles
+all_zeros : (zs : List ℤ) → All (λ (w : ℤ). w ≡ pos 0) zs → zs ≡ zeros (length zs)
+all_zeros [] h = refl
+all_zeros (z ∷ zs) h =
+    ap (λ (y : ℤ). y ∷ zs) (All-head (λ (w : ℤ). w ≡ pos 0) z zs h) ∙ ap (λ (ys : List ℤ). pos 0 ∷ ys) (all_zeros zs (All-tail (λ (w : ℤ). w ≡ pos 0) z zs h))
+
+forward_below : (r : Realisation) (n : ℕ) → forward_registers_of r n ≤ registers_of r n
+forward_below Dfi n = omega arith
+forward_below Dfii n = omega arith
+forward_below Tdfii n = omega arith
+forward_below Ddfi n = omega arith
+forward_below Ddfii n = omega arith
+forward_below Tddfii n = omega arith
+
+-- a start begins with zeros
+start-split : (k : ℕ) (zs : List ℤ) → k ≤ length zs → All (λ (w : ℤ). w ≡ pos 0) (take k zs) → zeros k ++ drop k zs ≡ zs
+start-split k zs l h =
+    let e : length (take k zs) ≡ k = omega (arith, length-take k zs) in
+    let z : take k zs ≡ zeros k = all_zeros (take k zs) h ∙ ap zeros e in
+    ap (λ (ys : List ℤ). ys ++ drop k zs) (sym z) ∙ take-append-drop k zs
+
+pub cycles_mean : (q : FixedPoint) (periods : ℕ) → Means (word_widths q (free_registers q)) (DoCycle q periods) (CyclesWithin q periods)
+cycles_mean q periods = record {
+  given = λ values a h. (start_of_values q values, h.0, h.1, h.2, h.3);
+  found = λ h.
+      let zs = h.0 in
+      let c = h.4 in
+      let k = forward_registers_of q.realisation (order q) in
+      let below = forward_below q.realisation (order q) in
+      let l : k ≤ length zs = omega (arith, c.many, below) in
+      let free = drop k zs in
+      let words : All (IsWord q.format) free = All-drop (IsWord q.format) k zs c.words in
+      let e : start_of_values q (values_for q.format free) ≡ zs = ap (λ (ys : List ℤ). zeros k ++ ys) (words_of_values q.format free words) ∙ start-split k zs l c.quiet in (
+        values_for q.format free,
+        values_fit q.format free (free_registers q) (omega (arith, length-drop k zs, c.many)),
+        (h.1, h.2, h.3, subst (λ (ys : List ℤ). Cycles Past (equations_of q) ys h.1) (sym e) c),
+      );
+}
+
+start-same : (q : FixedPoint) (net : Net) (values : List ℕ) → RunAlike (List ℤ) Past (system_of net) (equations_of q) → cycle_start net values ≡ start_of_values q values
+start-same q net values run =
+    ap (λ (k : ℕ). zeros k ++ spelled_words net.format values) run.forward
+    ∙ ap (λ f. zeros (forward_registers_of q.realisation (order q)) ++ spelled_words f values) run.format
+
+pub asks_cycle : (q : FixedPoint) (net : Net) (periods : ℕ) (t : TermsView) (root : TermId) → RunAlike (List ℤ) Past (system_of net) (equations_of q) → AreTerms t → root.0 < length t.nodes → width_of t root ≡ 1
+    → t.inputs ≡ replicate (length net.next - net.feed_forward) (width net.format) → ((values : List ℕ) → AreValues t.inputs values → Tells (word_of t values root) (HasCycle net (cycle_start net values) periods))
+    → Asks t root (word_widths q (free_registers q)) (DoCycle q periods)
+asks_cycle q net periods t root run terms stands one inputs tells =
+    asks_from t root (word_widths q (free_registers q)) (λ values. HasCycle net (cycle_start net values) periods) (DoCycle q periods) terms stands one
+    (inputs ∙ (ap (λ (k : ℕ). replicate (k - net.feed_forward) (width net.format)) run.many ∙ (ap (λ (k : ℕ). replicate (registers_of q.realisation (order q) - k) (width net.format)) run.forward
+    ∙ ap (λ f. replicate (free_registers q) (width f)) run.format))) tells
+    (λ values h. (
+      h.0,
+      h.1,
+      h.2,
+      subst (λ (ys : List ℤ). Cycles Past (equations_of q) ys h.0) (start-same q net values run)
+          (cycles_alike (List ℤ) Past (system_of net) (equations_of q) (cycle_start net values) h.0 run h.3),
+    ))
+    (λ values h. (
+      h.0,
+      h.1,
+      h.2,
+      cycles_alike Past (List ℤ) (equations_of q) (system_of net) (cycle_start net values) h.0 (alike_back (List ℤ) Past (system_of net) (equations_of q) run)
+          (subst (λ (ys : List ℤ). Cycles Past (equations_of q) ys h.0) (sym (start-same q net values run)) h.3),
+    ))

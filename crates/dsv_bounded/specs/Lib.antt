@@ -1,0 +1,4 @@
+pub mod Answers
+pub mod Formulas
+pub mod Questions
+pub mod Verdicts

@@ -1,0 +1,45 @@
+-- Serves private contracts: what a goal asks of the values of its inputs.
+use Rattle.std.specs.Prelude.{◌≡◌, ℕ, ◌≤◌, ◌-◌, List, ℤ, replicate, ◌++◌}
+use Rattle.dsv_meaning.specs.Equations.{Past, registers_of, forward_registers_of, order}
+use Rattle.dsv_meaning.specs.Systems.{equations_of}
+use Rattle.dsv_quantiser.specs.FixedPoint.{FixedPoint}
+use Rattle.dsv_system.specs.Breaks.{Breaks}
+use Rattle.dsv_system.specs.Cycles.{Cycles}
+use Rattle.dsv_system.specs.Systems.{zeros}
+use Rattle.dsv_term.specs.declared.node.TermId.{TermId}
+use Rattle.dsv_term.specs.Terms.{AreValues, word_of}
+use Rattle.dsv_term.specs.TermsView.{TermsView}
+use Rattle.dsv_unroll.specs.Words.{spelled_words}
+use Rattle.dsv_word.specs.Words.{width}
+
+-- The inputs have these widths, and the root is 1 exactly at the values that have the fact.
+pub record Asks (t : TermsView) (root : TermId) (widths : List ℕ) (P : List ℕ → Type 0) : Type 0
+  where
+    pub inputs : t.inputs ≡ widths
+    pub holds : (values : List ℕ) → AreValues widths values
+        → (word_of t values root).number ≡ 1 → P values
+    pub shows : (values : List ℕ) → AreValues widths values → P values
+        → (word_of t values root).number ≡ 1
+
+-- so many words of the controller's format
+abbrev pub word_widths : FixedPoint → ℕ → List ℕ
+word_widths q n = replicate n (width q.format)
+
+-- the inputs that the values spell break the controller
+abbrev pub DoBreak : FixedPoint → List ℕ → Type 0
+DoBreak q values = Breaks Past (equations_of q) q.xlo q.xhi (spelled_words q.format values)
+
+-- how many registers of a controller aren't feed-forward
+abbrev pub free_registers : FixedPoint → ℕ
+free_registers q =
+    registers_of q.realisation (order q) - forward_registers_of q.realisation (order q)
+
+-- the words of a start: 0 in the feed-forward registers, and those that the values spell
+abbrev pub start_of_values : FixedPoint → List ℕ → List ℤ
+start_of_values q values =
+    zeros (forward_registers_of q.realisation (order q)) ++ spelled_words q.format values
+
+-- the start that the values spell has a cycle of a period up to this
+abbrev pub DoCycle : FixedPoint → ℕ → List ℕ → Type 0
+DoCycle q periods values = (p : ℕ) × (1 ≤ p) × (p ≤ periods)
+    × Cycles Past (equations_of q) (start_of_values q values) p

@@ -1,0 +1,33 @@
+// A small controller in every realisation, rounding and overflow mode.
+use dsv_names::{OverflowMode, Realisation, Rounding};
+use dsv_quantiser::{Quantised, quantise};
+use dsv_reader::read;
+use dsv_word::Format;
+use std::alloc::Global;
+
+/// (0.5 - 0.5 z^-2) / (1 - 0.5 z^-1 + 0.5 z^-2) with delta 1, in words of three bits; its inputs are
+/// the words from -2 to 2.
+const CONTROLLER: &str =
+    "digital_system d = { .b = {0.5, 0.0, -0.5}, .b_size = 3, .a = {1.0, -0.5, 0.5}, .a_size = 3 };
+implementation r = { .int_bits = 2, .frac_bits = 1, .max = 1.0, .min = -1.0, .delta = 1.0 };";
+
+pub(crate) const REALISATIONS: [Realisation; 6] = [
+    Realisation::Dfi,
+    Realisation::Dfii,
+    Realisation::Tdfii,
+    Realisation::Ddfi,
+    Realisation::Ddfii,
+    Realisation::Tddfii,
+];
+
+/// The controller in words.
+pub(crate) fn words_of(
+    alloc: Global,
+    realisation: Realisation,
+    rounding: Rounding,
+    overflow: OverflowMode,
+) -> Option<Quantised> {
+    let controller = read(alloc, CONTROLLER.as_bytes()).ok()?;
+    let format = Format::new(2, 1, rounding, overflow).ok()?;
+    quantise(&controller, format, realisation).ok()
+}
