@@ -1,31 +1,32 @@
 -- The stages of a run lead to the rows of the table.
-use Rattle.std.proofs.Common.{◌≡◌, ℕ, ◌≤◌, List, length, subst, refl, sym}
-use Rattle.std.specs.Prelude.{true, false, Result, Ok, Err, Option, Some, None, IfSome, ℤ}
-use Rattle.dsv_names.specs.declared.property.Property.{Property}
-use Rattle.dsv_names.specs.declared.property.Property.TheVariants as property
+use Rattle.std.proofs.Common.{◌≡◌, inl, inr, ℕ, ◌≤◌, List, length, subst, refl, sym}
+use Rattle.std.specs.Prelude.{Result, Ok, Err, Option, Some, None, IfSome, ℤ}
+use Rattle.dsv_names.specs.declared.property.RunProperty.{RunProperty}
+use Rattle.dsv_names.specs.declared.property.RunProperty.TheVariants as run
 use Rattle.dsv_reader.specs.Controllers.{ControllerView}
 use Rattle.dsv_reader.specs.Texts.{IsTextOf, IsFaultOf}
 use Rattle.dsv_quantiser.specs.FixedPoint.{FixedPoint}
 use Rattle.dsv_quantiser.specs.declared.refusal.QuantRefusal.{QuantRefusal}
-use Rattle.dsv_forms.specs.declared.offers.Form.{Form}
-use Rattle.dsv_forms.specs.declared.offers.KeptAway.{KeptAway}
-use Rattle.dsv_command.specs.Jobs.{Task, decides, simulates, Asked}
+use Rattle.dsv_command.specs.Jobs.{Task, decides, writes, searches, simulates, Asked}
 use Rattle.dsv_command.specs.declared.job.Design.{Design}
 use Rattle.dsv_report.specs.declared.answers.Answer.{Answer}
 use Rattle.dsv_report.specs.declared.answers.Answer.TheVariants as answer
-use Rattle.dsv_tested.specs.Tested.{tested_of}
 use Rattle.dsv_tested.specs.declared.side.Tested.TheVariants as tested
 use Rattle.dsv_base.specs.Seen.{FilesSeen}
 use Rattle.dsv_cli.specs.declared.outcome.Outcome.{Outcome}
 use Rattle.dsv_cli.specs.declared.outcome.Outcome.TheVariants as outcome
-use Rattle.dsv_cli.specs.Headline.{longest_file, IsAccepted, IsTested, Decides, IsRun, IsRow, side_of}
+use Rattle.dsv_cli.specs.Headline.{longest_file, IsAccepted, IsTested, IsSearch, IsWriting, AsksOver, IsRun, IsRow}
+use Rattle.dsv_bounded.specs.Verdicts.{IsTrace, IsCycle}
+use Rattle.dsv_cli.specs.Questions.{IsWithin, NeverHappens, GaveUp, IsFormulaOf, IsTooLarge}
 use Rattle.dsv_cli.specs.Simulating.{IsRunOver, IsFirstOutside}
-use Rattle.dsv_cli.specs.Causes.{BecomesWords, IsDecision, IsOfProperty, IsOfTask, IsOfController, IsOfBytes, HasRow, HasRowOf}
+use Rattle.dsv_cli.specs.Causes.{BecomesWords, IsDecision, IsOfTask, IsOfController, IsOfBytes, HasRow, HasRowOf}
 
 -- what a controller in words comes to is what the controller comes to
 pub of_words : (c : ControllerView) (design : Design) (task : Task) (words : FixedPoint) (found : Outcome) → BecomesWords c design (Ok words) → IsOfTask task words found
     → IsOfController c design task found
 of_words c design (decides p) words (outcome.Answered (answer.QuantRefused r)) b h = absurd h
+of_words c design (writes p samples) words (outcome.Answered (answer.QuantRefused r)) b h = absurd h
+of_words c design (searches p samples conflicts) words (outcome.Answered (answer.QuantRefused r)) b h = absurd h
 of_words c design (simulates inputs) words (outcome.Answered (answer.QuantRefused r)) b h = absurd h
 of_words c design task words found b h = record { words = words; becomes = b; answer = h }
 
@@ -58,6 +59,56 @@ row_of_words job bytes words (decides p) e (outcome.Answered (answer.Wide index)
   shows = tt;
 }
 row_of_words job bytes words (decides p) e (outcome.Answered found) a h = absurd h
+row_of_words job bytes words (writes p k) e (outcome.Answered (answer.FormulaText formula)) a h = λ told old new same. record {
+  belongs_to = (p, k, e);
+  comes_from = told_by (λ b. (q : RunProperty) × (n : ℕ) × (w : FixedPoint) × IsWriting job b q n w × IsFormulaOf q n w formula) bytes told same
+      (p, k, words, record { task = e; accepted = a }, h);
+  shows = tt;
+}
+row_of_words job bytes words (writes p k) e (outcome.Answered (answer.JobSize size)) a h = λ told old new same. record {
+  belongs_to = inr (p, k, e);
+  comes_from = told_by (λ b. (n : ℕ) × (w : FixedPoint) × AsksOver job b n w × IsTooLarge n w size) bytes told same
+      (k, words, inr (p, record { task = e; accepted = a }), h);
+  shows = tt;
+}
+row_of_words job bytes words (writes p k) e (outcome.Answered answer.NoMemory) a h = λ told old new same. tt
+row_of_words job bytes words (writes p k) e (outcome.Answered found) a h = absurd h
+row_of_words job bytes words (writes p k) e (outcome.Undecided poly) a h = absurd h
+row_of_words job bytes words (searches p k c) e (outcome.Answered (answer.Never log)) a h = λ told old new same. record {
+  belongs_to = (p, (k, c, e));
+  comes_from = told_by (λ b. (q : RunProperty) × (n : ℕ) × (d : ℕ) × (w : FixedPoint) × IsSearch job b q n d w × NeverHappens q n d w log) bytes told same
+      (p, k, c, words, record { task = e; accepted = a }, h);
+  shows = tt;
+}
+row_of_words job bytes words (searches p k c) e (outcome.Answered (answer.Overflow trace)) a h = λ told old new same.
+    let f = subst (λ q. job.task ≡ searches q k c) h.0 e in record {
+      belongs_to = (k, c, f);
+      comes_from = told_by (λ b. (n : ℕ) × (d : ℕ) × (w : FixedPoint) × IsSearch job b run.Overflow n d w × IsWithin w n × IsTrace w n trace) bytes told same
+          (k, c, words, record { task = f; accepted = a }, h.1, h.2);
+      shows = tt;
+    }
+row_of_words job bytes words (searches p k c) e (outcome.Answered (answer.Cycles cycle)) a h = λ told old new same.
+    let f = subst (λ q. job.task ≡ searches q k c) h.0 e in record {
+      belongs_to = (k, c, f);
+      comes_from = told_by (λ b. (n : ℕ) × (d : ℕ) × (w : FixedPoint) × IsSearch job b run.LimitCycle n d w × IsWithin w n × IsCycle w n cycle) bytes told same
+          (k, c, words, record { task = f; accepted = a }, h.1, h.2);
+      shows = tt;
+    }
+row_of_words job bytes words (searches p k c) e (outcome.Answered (answer.Spent log)) a h = λ told old new same. record {
+  belongs_to = (p, (k, c, e));
+  comes_from = told_by (λ b. (q : RunProperty) × (n : ℕ) × (d : ℕ) × (w : FixedPoint) × IsSearch job b q n d w × GaveUp q n d w log) bytes told same
+      (p, k, c, words, record { task = e; accepted = a }, h);
+  shows = tt;
+}
+row_of_words job bytes words (searches p k c) e (outcome.Answered (answer.JobSize size)) a h = λ told old new same. record {
+  belongs_to = inl (p, (k, c, e));
+  comes_from = told_by (λ b. (n : ℕ) × (w : FixedPoint) × AsksOver job b n w × IsTooLarge n w size) bytes told same
+      (k, words, inl (p, c, record { task = e; accepted = a }), h);
+  shows = tt;
+}
+row_of_words job bytes words (searches p k c) e (outcome.Answered answer.NoMemory) a h = λ told old new same. tt
+row_of_words job bytes words (searches p k c) e (outcome.Answered found) a h = absurd h
+row_of_words job bytes words (searches p k c) e (outcome.Undecided poly) a h = absurd h
 row_of_words job bytes words (simulates inputs) e (outcome.Answered (answer.Simulated rows)) a h = λ told old new same. record {
   belongs_to = (inputs, e);
   comes_from = told_by (λ b. (xs : List ℤ) × (w : FixedPoint) × IsRun job b xs w × IsRunOver w xs rows) bytes told same

@@ -1,3 +1,4 @@
+pub mod Answering
 pub mod Asked
 pub mod Causes
 pub mod OneAnswerLemmas
@@ -6,3 +7,4 @@ pub mod OneAnswerTasks
 pub mod Proposers
 pub mod RunLines
 pub mod Suffixes
+pub mod Verdicts

@@ -1,11 +1,13 @@
 -- A file whose bytes are told has one answer.
-use Rattle.std.proofs.Common.{◌≡◌, subst, refl, ℕ, List}
+use Rattle.std.proofs.Common.{◌≡◌, inl, inr, subst, refl, ℕ, List}
 use Rattle.std.specs.Prelude.{Some}
 use Rattle.dsv_base.specs.Seen.{FilesSeen}
 use Rattle.dsv_command.specs.Jobs.{Task, Asked}
 use Rattle.dsv_report.specs.declared.answers.Answer.{Answer}
 use Rattle.dsv_report.specs.declared.answers.Answer.TheVariants as answer
-use Rattle.dsv_cli.specs.Headline.{IsRow}
+use Rattle.dsv_quantiser.specs.FixedPoint.{FixedPoint}
+use Rattle.dsv_cli.specs.Headline.{IsRow, AsksOver}
+use Rattle.dsv_cli.specs.Questions.{IsTooLarge}
 use Rattle.dsv_cli.specs.OneAnswer.{SameAnswer, IsSettled, HaveOneAnswer}
 use Rattle.dsv_cli.proofs.OneAnswerStages.{Stage, long, faulty, refused, in_words, IsStage, one_stage}
 use Rattle.dsv_cli.proofs.OneAnswerTasks.{IsAnswerTo, one_task}
@@ -22,6 +24,14 @@ record Reaches (job : Asked) (bytes : List ℕ) (found : Answer) : Type 0 where
   reached : IsStage job.design bytes stage
   gives : IsOfStage job.task stage found
 
+-- so does a question that is too large, by a search or for its formula
+large_asked : (bytes : List ℕ) (job : Asked) (size k : ℕ) (words : FixedPoint) → AsksOver job bytes k words → IsTooLarge k words size → Reaches job bytes (answer.JobSize size)
+large_asked bytes job size k words (inl t) h = record { stage = in_words words; reached = t.2.accepted; gives = rw t.2.task h }
+large_asked bytes job size k words (inr t) h = record { stage = in_words words; reached = t.1.accepted; gives = rw t.1.task h }
+
+large_by : (bytes : List ℕ) (job : Asked) (size : ℕ) → ((n : ℕ) × (w : FixedPoint) × AsksOver job bytes n w × IsTooLarge n w size) → Reaches job bytes (answer.JobSize size)
+large_by bytes job size t = large_asked bytes job size t.0 t.1 t.2 t.3
+
 -- a settled answer comes from a stage of the file
 reached_by : (bytes : List ℕ) (old new : FilesSeen) (job : Asked) (found : Answer) → IsSettled found → IsRow (Some bytes) old new job found → Reaches job bytes found
 reached_by bytes old new job (answer.Falls poly offer fall) s h =
@@ -36,6 +46,19 @@ reached_by bytes old new job answer.NoZeros s h =
 reached_by bytes old new job (answer.Wide index) s h =
     let t = h.comes_from in
     record { stage = in_words t.words; reached = t.accepted; gives = rw t.task t.tested }
+reached_by bytes old new job (answer.Never log) s h =
+    let t = h.comes_from in
+    record { stage = in_words t.3; reached = t.4.accepted; gives = rw t.4.task t.5 }
+reached_by bytes old new job (answer.Overflow trace) s h =
+    let t = h.comes_from in
+    record { stage = in_words t.2; reached = t.3.accepted; gives = rw t.3.task (refl, t.4, t.5) }
+reached_by bytes old new job (answer.Cycles cycle) s h =
+    let t = h.comes_from in
+    record { stage = in_words t.2; reached = t.3.accepted; gives = rw t.3.task (refl, t.4, t.5) }
+reached_by bytes old new job (answer.FormulaText formula) s h =
+    let t = h.comes_from in
+    record { stage = in_words t.2; reached = t.3.accepted; gives = rw t.3.task t.4 }
+reached_by bytes old new job (answer.JobSize size) s h = large_by bytes job size h.comes_from
 reached_by bytes old new job (answer.Simulated found) s h =
     let t = h.comes_from in
     record { stage = in_words t.1; reached = t.2.accepted; gives = rw t.2.task t.3 }

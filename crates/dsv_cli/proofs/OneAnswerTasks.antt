@@ -1,5 +1,5 @@
 -- A task for a controller in words has one answer.
-use Rattle.std.proofs.Common.{◌≡◌, ◌∙◌, ◌⊎◌, inl, inr, sym, ap, subst, refl, ℕ, ◌<◌, ◌≤◌, List, Some, length, take, arith}
+use Rattle.std.proofs.Common.{◌≡◌, ◌∙◌, ◌⊎◌, inl, inr, sym, ap, subst, refl, ℕ, ◌<◌, ◌≤◌, List, Some, take, arith}
 use Rattle.std.specs.Prelude.{IfSome, Result, Ok, Err, Some, slice_get}
 use Rattle.std.specs.List.{All}
 use Rattle.std.proofs.Math.IntN.{ℤ}
@@ -21,13 +21,22 @@ use Rattle.dsv_delta.specs.declared.refusal.PolyWide.{PolyWide}
 use Rattle.dsv_tested.specs.Tested.{tested_of}
 use Rattle.dsv_tested.specs.declared.side.Tested.{Tested}
 use Rattle.dsv_tested.specs.declared.side.Tested.TheVariants as tested
-use Rattle.dsv_command.specs.Jobs.{Task, decides, simulates}
+use Rattle.dsv_command.specs.Jobs.{Task, decides, writes, searches, simulates}
 use Rattle.dsv_report.specs.declared.answers.Answer.{Answer}
 use Rattle.dsv_report.specs.declared.answers.Answer.TheVariants as answer
 use Rattle.dsv_cli.specs.Headline.{degree, side_of, ShowsFall, ShowsKeptAway}
 use Rattle.dsv_cli.specs.Proposers.{HasClosedForm}
 use Rattle.dsv_cli.specs.Simulating.{IsFirstOutside}
-use Rattle.dsv_cli.specs.Causes.{IsOfRun}
+use Rattle.dsv_names.specs.declared.property.RunProperty.{RunProperty}
+use Rattle.dsv_names.specs.declared.property.RunProperty.TheVariants as run
+use Rattle.dsv_meaning.specs.declared.replays.Cycle.{Cycle}
+use Rattle.dsv_meaning.specs.declared.replays.Trace.{Trace}
+use Rattle.dsv_unroll.specs.Goals.{most_size}
+use Rattle.dsv_bounded.specs.Formulas.{job_size_of}
+use Rattle.dsv_bounded.specs.Verdicts.{IsTrace, IsCycle}
+use Rattle.dsv_cli.specs.Questions.{Happens, IsTooLarge}
+use Rattle.dsv_cli.proofs.Verdicts.{trace_breaks, cycle_cycles}
+use Rattle.dsv_cli.specs.Causes.{IsOfRun, IsOfFormula, IsOfSearch}
 use Rattle.dsv_cli.specs.OneAnswer.{SameForm, SameAnswer, IsSettled}
 
 -- ---- forms
@@ -174,11 +183,77 @@ one_run words inputs (answer.InputRange i v) b x y h k = absurd k
 one_run words inputs answer.NoMemory b x y h k = absurd x
 one_run words inputs a b x y h k = absurd h
 
+-- ---- questions about runs
+within_or_large : (size given limit : ℕ) → size ≤ limit → given ≡ size → limit < given → ⊥
+within_or_large size given limit h e k = omega (arith, h, e, k)
+
+one_size : (samples : ℕ) (words : FixedPoint) (m n : ℕ) → IsTooLarge samples words m → IsTooLarge samples words n → answer.JobSize m ≡ answer.JobSize n
+one_size samples words m n h k = ap answer.JobSize (h.size_of ∙ sym k.size_of)
+
+one_formula : (p : RunProperty) (samples : ℕ) (words : FixedPoint) (a b : Answer) → IsSettled a → IsSettled b → IsOfFormula p samples words a → IsOfFormula p samples words b → SameAnswer a b
+one_formula p samples words (answer.FormulaText f) (answer.FormulaText g) x y h k = ap answer.FormulaText (h.formula_of ∙ sym k.formula_of)
+one_formula p samples words (answer.FormulaText f) (answer.JobSize n) x y h k = absurd (within_or_large (job_size_of words samples) n most_size h.within k.size_of k.large)
+one_formula p samples words (answer.FormulaText f) answer.NoMemory x y h k = absurd y
+one_formula p samples words (answer.FormulaText f) b x y h k = absurd k
+one_formula p samples words (answer.JobSize m) (answer.JobSize n) x y h k = one_size samples words m n h k
+one_formula p samples words (answer.JobSize m) (answer.FormulaText g) x y h k = absurd (within_or_large (job_size_of words samples) m most_size k.within h.size_of h.large)
+one_formula p samples words (answer.JobSize m) answer.NoMemory x y h k = absurd y
+one_formula p samples words (answer.JobSize m) b x y h k = absurd k
+one_formula p samples words answer.NoMemory b x y h k = absurd x
+one_formula p samples words a b x y h k = absurd h
+
+-- a trace or a cycle shows that it happens
+broken_by : (p : RunProperty) (samples : ℕ) (words : FixedPoint) (trace : Trace) → p ≡ run.Overflow → IsTrace words samples trace → (Happens p words samples → ⊥) → ⊥
+broken_by p samples words trace e h never = subst (λ q. (Happens q words samples → ⊥) → ⊥) (sym e) (λ n. n (trace_breaks words samples trace h)) never
+
+cycled_by : (p : RunProperty) (samples : ℕ) (words : FixedPoint) (cycle : Cycle) → p ≡ run.LimitCycle → IsCycle words samples cycle → (Happens p words samples → ⊥) → ⊥
+cycled_by p samples words cycle e h never = subst (λ q. (Happens q words samples → ⊥) → ⊥) (sym e) (λ n. n (cycle_cycles words samples cycle h)) never
+
+two_properties : (p : RunProperty) → p ≡ run.Overflow → p ≡ run.LimitCycle → ⊥
+two_properties p e f = cc
+
+one_search : (p : RunProperty) (samples conflicts : ℕ) (words : FixedPoint) (a b : Answer) → IsSettled a → IsSettled b → IsOfSearch p samples conflicts words a → IsOfSearch p samples conflicts words b → SameAnswer a b
+one_search p n c words (answer.Never l) (answer.Never m) x y h k = tt
+one_search p n c words (answer.Never l) (answer.Overflow t) x y h k = absurd (broken_by p n words t k.0 k.2 h.never)
+one_search p n c words (answer.Never l) (answer.Cycles z) x y h k = absurd (cycled_by p n words z k.0 k.2 h.never)
+one_search p n c words (answer.Never l) (answer.JobSize s) x y h k = absurd (within_or_large (job_size_of words n) s most_size h.within k.size_of k.large)
+one_search p n c words (answer.Never l) answer.NoMemory x y h k = absurd y
+one_search p n c words (answer.Never l) (answer.Spent m) x y h k = absurd y
+one_search p n c words (answer.Never l) b x y h k = absurd k
+one_search p n c words (answer.Overflow t) (answer.Overflow u) x y h k = tt
+one_search p n c words (answer.Overflow t) (answer.Never m) x y h k = absurd (broken_by p n words t h.0 h.2 k.never)
+one_search p n c words (answer.Overflow t) (answer.Cycles z) x y h k = absurd (two_properties p h.0 k.0)
+one_search p n c words (answer.Overflow t) (answer.JobSize s) x y h k = absurd (within_or_large (job_size_of words n) s most_size h.1 k.size_of k.large)
+one_search p n c words (answer.Overflow t) answer.NoMemory x y h k = absurd y
+one_search p n c words (answer.Overflow t) (answer.Spent m) x y h k = absurd y
+one_search p n c words (answer.Overflow t) b x y h k = absurd k
+one_search p n c words (answer.Cycles z) (answer.Cycles w) x y h k = tt
+one_search p n c words (answer.Cycles z) (answer.Never m) x y h k = absurd (cycled_by p n words z h.0 h.2 k.never)
+one_search p n c words (answer.Cycles z) (answer.Overflow t) x y h k = absurd (two_properties p k.0 h.0)
+one_search p n c words (answer.Cycles z) (answer.JobSize s) x y h k = absurd (within_or_large (job_size_of words n) s most_size h.1 k.size_of k.large)
+one_search p n c words (answer.Cycles z) answer.NoMemory x y h k = absurd y
+one_search p n c words (answer.Cycles z) (answer.Spent m) x y h k = absurd y
+one_search p n c words (answer.Cycles z) b x y h k = absurd k
+one_search p n c words (answer.JobSize s) (answer.JobSize t) x y h k = one_size n words s t h k
+one_search p n c words (answer.JobSize s) (answer.Never m) x y h k = absurd (within_or_large (job_size_of words n) s most_size k.within h.size_of h.large)
+one_search p n c words (answer.JobSize s) (answer.Overflow t) x y h k = absurd (within_or_large (job_size_of words n) s most_size k.1 h.size_of h.large)
+one_search p n c words (answer.JobSize s) (answer.Cycles z) x y h k = absurd (within_or_large (job_size_of words n) s most_size k.1 h.size_of h.large)
+one_search p n c words (answer.JobSize s) answer.NoMemory x y h k = absurd y
+one_search p n c words (answer.JobSize s) (answer.Spent m) x y h k = absurd y
+one_search p n c words (answer.JobSize s) b x y h k = absurd k
+one_search p n c words answer.NoMemory b x y h k = absurd x
+one_search p n c words (answer.Spent l) b x y h k = absurd x
+one_search p n c words a b x y h k = absurd h
+
 -- what a task leads to for a controller in words
 abbrev pub IsAnswerTo : Task → FixedPoint → Answer → Type 0
 IsAnswerTo (decides p) words found = Leads (tested_of words (side_of p)) found
+IsAnswerTo (writes p samples) words found = IsOfFormula p samples words found
+IsAnswerTo (searches p samples conflicts) words found = IsOfSearch p samples conflicts words found
 IsAnswerTo (simulates inputs) words found = IsOfRun words inputs found
 
 pub one_task : (task : Task) (words : FixedPoint) (a b : Answer) → IsSettled a → IsSettled b → IsAnswerTo task words a → IsAnswerTo task words b → SameAnswer a b
 one_task (decides p) words a b x y h k = one_decision (tested_of words (side_of p)) a b x y h k
+one_task (writes p samples) words a b x y h k = one_formula p samples words a b x y h k
+one_task (searches p samples conflicts) words a b x y h k = one_search p samples conflicts words a b x y h k
 one_task (simulates inputs) words a b x y h k = one_run words inputs a b x y h k

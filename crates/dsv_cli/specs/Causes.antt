@@ -2,8 +2,10 @@
 -- table that they lead to.
 use Rattle.std.specs.Prelude.{◌≡◌, ℕ, List, Option, IfSome, Result, Ok, Err, ℤ}
 use Rattle.dsv_base.specs.Seen.{FilesSeen}
-use Rattle.dsv_names.specs.declared.property.Property.{Property}
-use Rattle.dsv_names.specs.declared.property.Property.TheVariants as property
+use Rattle.dsv_names.specs.declared.property.RunProperty.{RunProperty}
+use Rattle.dsv_names.specs.declared.property.RunProperty.TheVariants as run
+use Rattle.dsv_names.specs.declared.property.RootProperty.{RootProperty}
+use Rattle.dsv_names.specs.declared.property.RootProperty.TheVariants as property
 use Rattle.dsv_word.specs.declared.format.Format.{Format}
 use Rattle.dsv_reader.specs.Controllers.{ControllerView}
 use Rattle.dsv_reader.specs.Texts.{IsTextOf, IsFaultOf}
@@ -12,7 +14,7 @@ use Rattle.dsv_quantiser.specs.Quantising.{fixed_point_of}
 use Rattle.dsv_quantiser.specs.declared.refusal.QuantRefusal.{QuantRefusal}
 use Rattle.dsv_tested.specs.Tested.{tested_of}
 use Rattle.dsv_tested.specs.declared.side.Tested.TheVariants as tested
-use Rattle.dsv_command.specs.Jobs.{Task, decides, simulates, Asked}
+use Rattle.dsv_command.specs.Jobs.{Task, decides, writes, searches, simulates, Asked}
 use Rattle.dsv_command.specs.declared.job.Design.{Design}
 use Rattle.dsv_report.specs.declared.answers.Answer.{Answer}
 use Rattle.dsv_report.specs.declared.answers.Answer.TheVariants as answer
@@ -20,6 +22,8 @@ use Rattle.dsv_cli.specs.declared.outcome.Outcome.{Outcome}
 use Rattle.dsv_cli.specs.declared.outcome.Outcome.TheVariants as outcome
 use Rattle.dsv_cli.specs.Headline.{IsFormatOf, IsTested, Decides, IsRow, side_of}
 use Rattle.dsv_cli.specs.Headline.{ShowsFall, ShowsKeptAway, ShowsNoForm}
+use Rattle.dsv_bounded.specs.Verdicts.{IsTrace, IsCycle}
+use Rattle.dsv_cli.specs.Questions.{IsWithin, NeverHappens, GaveUp, IsFormulaOf, IsTooLarge}
 use Rattle.dsv_cli.specs.Simulating.{IsRunOver, IsFirstOutside}
 
 -- the answer that decides a polynomial
@@ -33,7 +37,7 @@ IsDecision poly answer.NoMemory = Unit {0}
 IsDecision poly other = ⊥
 
 -- the polynomial that a property tests, or the answer where there is none
-abbrev pub IsOfProperty : Property → FixedPoint → Outcome → Type 0
+abbrev pub IsOfProperty : RootProperty → FixedPoint → Outcome → Type 0
 IsOfProperty of_property words (outcome.Undecided poly) =
     tested_of words (side_of of_property) ≡ Ok (tested.Poly poly)
 IsOfProperty of_property words (outcome.Answered answer.NoZeros) =
@@ -51,9 +55,38 @@ IsOfRun words inputs (answer.InputRange index value) =
 IsOfRun words inputs answer.NoMemory = Unit {0}
 IsOfRun words inputs other = ⊥
 
+-- the formula of a question about runs
+abbrev pub IsOfFormula : RunProperty → ℕ → FixedPoint → Answer → Type 0
+IsOfFormula of_property samples words (answer.FormulaText formula) =
+    IsFormulaOf of_property samples words formula
+IsOfFormula of_property samples words (answer.JobSize size) = IsTooLarge samples words size
+IsOfFormula of_property samples words answer.NoMemory = Unit {0}
+IsOfFormula of_property samples words other = ⊥
+
+-- the answer to a question about runs, by a search
+abbrev pub IsOfSearch : RunProperty → ℕ → ℕ → FixedPoint → Answer → Type 0
+IsOfSearch of_property samples conflicts words (answer.Never log) =
+    NeverHappens of_property samples conflicts words log
+IsOfSearch of_property samples conflicts words (answer.Overflow trace) =
+    (of_property ≡ run.Overflow) × IsWithin words samples × IsTrace words samples trace
+IsOfSearch of_property samples conflicts words (answer.Cycles cycle) =
+    (of_property ≡ run.LimitCycle) × IsWithin words samples × IsCycle words samples cycle
+IsOfSearch of_property samples conflicts words (answer.Spent log) =
+    GaveUp of_property samples conflicts words log
+IsOfSearch of_property samples conflicts words (answer.JobSize size) =
+    IsTooLarge samples words size
+IsOfSearch of_property samples conflicts words answer.NoMemory = Unit {0}
+IsOfSearch of_property samples conflicts words other = ⊥
+
 -- what a task comes to for a controller in these words
 abbrev pub IsOfTask : Task → FixedPoint → Outcome → Type 0
 IsOfTask (decides of_property) words found = IsOfProperty of_property words found
+IsOfTask (writes of_property samples) words (outcome.Answered found) =
+    IsOfFormula of_property samples words found
+IsOfTask (writes of_property samples) words (outcome.Undecided poly) = ⊥
+IsOfTask (searches of_property samples conflicts) words (outcome.Answered found) =
+    IsOfSearch of_property samples conflicts words found
+IsOfTask (searches of_property samples conflicts) words (outcome.Undecided poly) = ⊥
 IsOfTask (simulates inputs) words (outcome.Answered found) = IsOfRun words inputs found
 IsOfTask (simulates inputs) words (outcome.Undecided poly) = ⊥
 
@@ -106,6 +139,12 @@ IsPlain (answer.KeptAway poly offer fall value) = ⊥
 IsPlain answer.NoZeros = Unit {0}
 IsPlain (answer.NoForm poly kept verdict) = ⊥
 IsPlain (answer.Wide index) = Unit {0}
+IsPlain (answer.Never log) = Unit {0}
+IsPlain (answer.Overflow trace) = Unit {0}
+IsPlain (answer.Cycles cycle) = Unit {0}
+IsPlain (answer.Spent log) = Unit {0}
+IsPlain (answer.FormulaText formula) = Unit {0}
+IsPlain (answer.JobSize size) = Unit {0}
 IsPlain (answer.Simulated found) = Unit {0}
 IsPlain answer.Usage = Unit {0}
 IsPlain (answer.FileRefused r) = Unit {0}

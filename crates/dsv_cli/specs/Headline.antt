@@ -6,8 +6,10 @@ use Rattle.dsv_algebra.specs.Companion.{StrictlyFallsAlong, IsKeptAwayAlong}
 use Rattle.dsv_base.specs.Counts.{Rose}
 use Rattle.dsv_base.specs.Seen.{FilesSeen, SinkSeen}
 use Rattle.dsv_base.specs.Taking.{Wrote, CutShort}
-use Rattle.dsv_names.specs.declared.property.Property.{Property}
-use Rattle.dsv_names.specs.declared.property.Property.TheVariants as property
+use Rattle.dsv_names.specs.declared.property.RunProperty.{RunProperty}
+use Rattle.dsv_names.specs.declared.property.RunProperty.TheVariants as run
+use Rattle.dsv_names.specs.declared.property.RootProperty.{RootProperty}
+use Rattle.dsv_names.specs.declared.property.RootProperty.TheVariants as property
 use Rattle.dsv_word.specs.declared.format.Format.{Format}
 use Rattle.dsv_reader.specs.Controllers.{ControllerView}
 use Rattle.dsv_reader.specs.Texts.{IsTextOf, IsFaultOf}
@@ -31,11 +33,13 @@ use Rattle.dsv_jury.specs.Jury.{jury_of}
 use Rattle.dsv_jury.specs.declared.verdict.Jury.{Jury}
 use Rattle.dsv_lyapunov.specs.Kept.{AreRefused}
 use Rattle.dsv_lyapunov.specs.declared.kept.KeptForm.{KeptForm}
-use Rattle.dsv_command.specs.Jobs.{Task, decides, simulates, Asked}
+use Rattle.dsv_command.specs.Jobs.{Task, decides, writes, searches, simulates, Asked}
 use Rattle.dsv_command.specs.declared.job.Design.{Design}
 use Rattle.dsv_report.specs.declared.answers.Answer.{Answer}
 use Rattle.dsv_report.specs.declared.answers.Answer.TheVariants as answer
 use Rattle.dsv_report.specs.declared.answers.WhichFile.TheVariants as file
+use Rattle.dsv_bounded.specs.Verdicts.{IsTrace, IsCycle}
+use Rattle.dsv_cli.specs.Questions.{IsWithin, NeverHappens, GaveUp, IsFormulaOf, IsTooLarge}
 use Rattle.dsv_cli.specs.Simulating.{IsRunOver, IsFirstOutside}
 
 -- ---- the accepted job
@@ -63,17 +67,17 @@ pub record IsAccepted (design : Design) (bytes : List ℕ)
 
 -- the side of the controller that a property tests: stability its denominator, minimum phase its
 -- numerator
-abbrev pub side_of : Property → Side
+abbrev pub side_of : RootProperty → Side
 side_of property.Stability = side.Denominator
 side_of property.MinimumPhase = side.Numerator
 
--- the task decides a property
+-- the task decides a property of roots
 abbrev pub Decides : Task → Type 0
-Decides task = (property : Property) × (task ≡ decides property)
+Decides task = (property : RootProperty) × (task ≡ decides property)
 
 -- The polynomial of the side that the job's property tests, or why there is none.
 pub record IsTested (job : Asked) (bytes : List ℕ) (outcome : Result Tested PolyWide) : Type 0 where
-  pub property : Property
+  pub property : RootProperty
   pub task : job.task ≡ decides property
   pub words : FixedPoint
   pub accepted : IsAccepted job.design bytes (Ok words)
@@ -91,6 +95,39 @@ pub record IsRun (job : Asked) (bytes : List ℕ) (inputs : List ℤ) (words : F
     Type 0 where
   pub task : Simulates job.task inputs
   pub accepted : IsAccepted job.design bytes (Ok words)
+
+-- the task is a search whether this property of runs happens
+abbrev pub SearchesFor : Task → RunProperty → Type 0
+SearchesFor task property =
+    (samples : ℕ) × (conflicts : ℕ) × (task ≡ searches property samples conflicts)
+
+-- the task is a search whether a property of runs happens
+abbrev pub Searches : Task → Type 0
+Searches task = (property : RunProperty) × SearchesFor task property
+
+-- the task writes the formula of a question about runs
+abbrev pub Writes : Task → Type 0
+Writes task = (property : RunProperty) × (samples : ℕ) × (task ≡ writes property samples)
+
+-- The job searches whether the property happens within so many samples, with at most so many
+-- conflicts, and the file's controller in words is this.
+pub record IsSearch (job : Asked) (bytes : List ℕ) (property : RunProperty)
+    (samples conflicts : ℕ) (words : FixedPoint) : Type 0 where
+  pub task : job.task ≡ searches property samples conflicts
+  pub accepted : IsAccepted job.design bytes (Ok words)
+
+-- The job writes the formula of this question, and the file's controller in words is this.
+pub record IsWriting (job : Asked) (bytes : List ℕ) (property : RunProperty) (samples : ℕ)
+    (words : FixedPoint) : Type 0 where
+  pub task : job.task ≡ writes property samples
+  pub accepted : IsAccepted job.design bytes (Ok words)
+
+-- The job asks a question about runs over so many samples, by a search or for its formula.
+abbrev pub AsksOver : Asked → List ℕ → ℕ → FixedPoint → Type 0
+AsksOver job bytes samples words =
+    ((property : RunProperty) × (conflicts : ℕ)
+    × IsSearch job bytes property samples conflicts words)
+    ⊎ ((property : RunProperty) × IsWriting job bytes property samples words)
 
 -- ---- what answers show of a polynomial, whatever the file
 -- The form is positive and strictly falls along every nonzero trajectory of the polynomial; it is
@@ -146,6 +183,41 @@ IsRow told old new job (answer.NoForm poly kept verdict) =
     (ShowsNoForm poly kept verdict)
 IsRow told old new job (answer.Wide index) =
     Row told (Decides job.task) (λ bytes. IsTested job bytes (Err (record { index = index })))
+    (Unit {0})
+IsRow told old new job (answer.Never log) =
+    Row told (Searches job.task)
+    (λ bytes. (property : RunProperty) × (samples : ℕ) × (conflicts : ℕ) × (words : FixedPoint)
+    × IsSearch job bytes property samples conflicts words
+    × NeverHappens property samples conflicts words log)
+    (Unit {0})
+IsRow told old new job (answer.Overflow trace) =
+    Row told (SearchesFor job.task run.Overflow)
+    (λ bytes. (samples : ℕ) × (conflicts : ℕ) × (words : FixedPoint)
+    × IsSearch job bytes run.Overflow samples conflicts words
+    × IsWithin words samples × IsTrace words samples trace)
+    (Unit {0})
+IsRow told old new job (answer.Cycles cycle) =
+    Row told (SearchesFor job.task run.LimitCycle)
+    (λ bytes. (samples : ℕ) × (conflicts : ℕ) × (words : FixedPoint)
+    × IsSearch job bytes run.LimitCycle samples conflicts words
+    × IsWithin words samples × IsCycle words samples cycle)
+    (Unit {0})
+IsRow told old new job (answer.Spent log) =
+    Row told (Searches job.task)
+    (λ bytes. (property : RunProperty) × (samples : ℕ) × (conflicts : ℕ) × (words : FixedPoint)
+    × IsSearch job bytes property samples conflicts words
+    × GaveUp property samples conflicts words log)
+    (Unit {0})
+IsRow told old new job (answer.FormulaText formula) =
+    Row told (Writes job.task)
+    (λ bytes. (property : RunProperty) × (samples : ℕ) × (words : FixedPoint)
+    × IsWriting job bytes property samples words
+    × IsFormulaOf property samples words formula)
+    (Unit {0})
+IsRow told old new job (answer.JobSize size) =
+    Row told (Searches job.task ⊎ Writes job.task)
+    (λ bytes. (samples : ℕ) × (words : FixedPoint) × AsksOver job bytes samples words
+    × IsTooLarge samples words size)
     (Unit {0})
 IsRow told old new job (answer.Simulated found) =
     Row told ((inputs : List ℤ) × Simulates job.task inputs)

@@ -1,7 +1,9 @@
+pub mod Answering
 pub mod Asking
 pub mod Causes
 pub mod Headline
 pub mod OneAnswer
 pub mod Proposers
+pub mod Questions
 pub mod Simulating
 pub mod Suffixes

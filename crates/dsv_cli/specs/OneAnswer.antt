@@ -16,17 +16,21 @@ pub record SameForm (f g : Form) : Type 0 where
   pub entries : (i j : ℕ) → matrix_of f.rows i j ≡ matrix_of g.rows i j
 
 -- The answers are equal, where rows of a form that is lost in a step count as the matrix that they
--- spell.
+-- spell, and logs, traces and cycles, of which there may be many, aren't compared.
 abbrev pub SameAnswer : Answer → Answer → Type 0
 SameAnswer (answer.Falls p o f) (answer.Falls q u g) = (p ≡ q) × (o ≡ u) × SameForm f g
 SameAnswer (answer.KeptAway p o f v) (answer.KeptAway q u g w) = (p ≡ q) × (o ≡ u) × SameForm f g
     × (v ≡ w)
+SameAnswer (answer.Never log) (answer.Never other) = Unit {0}
+SameAnswer (answer.Overflow trace) (answer.Overflow other) = Unit {0}
+SameAnswer (answer.Cycles cycle) (answer.Cycles other) = Unit {0}
 SameAnswer a b = a ≡ b
 
--- The answer is settled by the bytes: it is neither want of memory nor a fault of a read, and
--- proposers had no part in it.
+-- The answer is settled by the bytes: it is neither want of memory nor a fault of a read, proposers
+-- had no part in it, and no search gave up.
 abbrev pub IsSettled : Answer → Type 0
 IsSettled (answer.ReadFault file) = ⊥
+IsSettled (answer.Spent log) = ⊥
 IsSettled found = NeedsNone found
 
 -- Whatever else was read before, two settled answers to one job on a file of these bytes are the

@@ -7,6 +7,7 @@ mod deciding;
 mod law;
 mod outcome;
 mod outside;
+mod questions;
 mod running;
 mod simulating;
 

@@ -5,11 +5,12 @@ ghost use Rattle.dsv_cli.specs.Headline.{longest_file, IsFormatOf, side_of};
 ghost use Rattle.dsv_cli.specs.Causes.{IsOfProperty, IsOfTask, IsOfController};
 ghost use Rattle.dsv_cli.specs.Causes.{IsOfBytes, HasRowOf, AnswersPlainly};
 
+use crate::questions::{formula_answer, search_answer};
 use crate::simulating::simulated_answer;
 use dsv_command::{Design, Job, Task};
 use dsv_delta::PolyWide;
 use dsv_forms::Poly;
-use dsv_names::Property;
+use dsv_names::RootProperty;
 use dsv_quantiser::{Quantised, quantise};
 use dsv_reader::{Controller, FileRefusal, read};
 use dsv_report::Answer;
@@ -43,17 +44,17 @@ fn format_of(controller: &Controller, design: Design) -> Format
 }
 
 /// The side of a controller that a property tests.
-fn side_of(property: Property) -> Side
+fn side_of(property: RootProperty) -> Side
     ensures { result ≡ side_of property }
 {
     match property {
-        Property::Stability => Side::Denominator,
-        Property::MinimumPhase => Side::Numerator,
+        RootProperty::Stability => Side::Denominator,
+        RootProperty::MinimumPhase => Side::Numerator,
     }
 }
 
 /// What a property of a controller in words comes to.
-fn property_outcome(words: &Quantised, property: Property) -> Outcome
+fn property_outcome(words: &Quantised, property: RootProperty) -> Outcome
     ensures property { IsOfProperty property words.now result }
     ensures plain { AnswersPlainly result }
 {
@@ -71,6 +72,12 @@ fn task_outcome(alloc: Global, words: &Quantised, task: &Task) -> Outcome
 {
     match task {
         Task::Decide(property) => property_outcome(words, *property),
+        Task::WriteFormula(question) => {
+            Outcome::Answered(formula_answer(alloc, words, question))
+        }
+        Task::Search(question, budget) => {
+            Outcome::Answered(search_answer(alloc, words, question, budget))
+        }
         Task::Simulate(inputs) => {
             Outcome::Answered(simulated_answer(alloc, words, inputs.as_slice()))
         }

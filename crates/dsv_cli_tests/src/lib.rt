@@ -6,6 +6,8 @@
 #[cfg(test)]
 mod faults;
 #[cfg(test)]
+mod formulas;
+#[cfg(test)]
 mod lists;
 #[cfg(test)]
 mod outside;

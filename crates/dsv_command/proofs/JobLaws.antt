@@ -1,6 +1,7 @@
 -- The job of parts, by the rules and as it is found.
-use Rattle.std.proofs.Common.{◌≡◌, ℕ, Bool, true, false, List, Option, Some, None, refl, sym, ap, subst, ◌∙◌}
-use Rattle.std.specs.Prelude.{codes, if◌then◌else◌}
+use Rattle.std.proofs.Common.{◌≡◌, ℕ, ◌≤◌, Bool, true, false, List, Option, Some, None, refl, sym, ap, subst, ◌∙◌}
+use Rattle.std.proofs.lemmas.Bool.{leb-true, le-leb}
+use Rattle.std.specs.Prelude.{codes, if◌then◌else◌, ◌&&◌, nat_le}
 use Rattle.dsv_names.specs.declared.realisation.Realisation.TheVariants.{Dfi}
 use Rattle.dsv_names.specs.declared.rounding.Rounding.TheVariants.{Floor}
 use Rattle.dsv_names.specs.declared.overflow_mode.OverflowMode.TheVariants.{Wrap}
@@ -10,13 +11,19 @@ use Rattle.dsv_names.specs.Properties.{property_name, properties}
 use Rattle.dsv_names.specs.Realisations.{realisation_name, realisations}
 use Rattle.dsv_names.specs.Roundings.{rounding_name, roundings}
 use Rattle.dsv_names.proofs.NameLaws.{are_names-realisations, are_names-roundings, are_names-overflow_modes, are_names-properties}
+use Rattle.dsv_names.specs.declared.property.RunProperty.{RunProperty}
+use Rattle.dsv_names.specs.declared.property.RootProperty.{RootProperty}
+use Rattle.dsv_names.specs.declared.property.Property.{Property}
+use Rattle.dsv_names.specs.declared.property.Property.TheVariants.{OfRuns, OfRoots}
 use Rattle.dsv_command.specs.declared.job.Design.{Design}
+use Rattle.dsv_command.specs.declared.limits.TheConstants.{MOST_NUMBER_DIGITS, MOST_SAMPLES, DEFAULT_SAMPLES, MOST_CONFLICTS, DEFAULT_CONFLICTS}
+use Rattle.dsv_text.specs.Digits.{short_number}
 use Rattle.dsv_command.specs.Inputs.{inputs_of}
-use Rattle.dsv_command.specs.Jobs.{Task, decides, simulates, Asked, ◌>>=◌, choice_or, design_of, task_of, job_of_parts, job_of}
+use Rattle.dsv_command.specs.Jobs.{Task, decides, writes, searches, simulates, Asked, ◌>>=◌, choice_or, design_of, is_given, has_run_option, number_up_to, samples_of, conflicts_of, run_task, property_task, task_by, task_of, job_of_parts, job_of}
 use Rattle.dsv_command.specs.Options.{command_options}
 use Rattle.dsv_command.specs.Parts.{PartView, file_of, value_of, has_empty}
 use Rattle.dsv_command.specs.Reading.{parts_of}
-use Rattle.dsv_command.specs.Rules.{IsTask, IsChosen, IsDesign, IsJobOf, IsJobLine}
+use Rattle.dsv_command.specs.Rules.{IsTask, GivesProperty, HasNoRunOption, IsNumberUpTo, IsNumber, IsChosen, IsDesign, IsJobOf, IsJobLine}
 use Rattle.dsv_command.proofs.InputLaws.{inputs_read, inputs_found}
 use Rattle.dsv_command.proofs.PartLaws.{given_is_read, read_is_given}
 
@@ -41,9 +48,33 @@ design_read parts d h =
     (rw (chosen_read rounding_name roundings Floor (value_of (codes "rounding") parts) d.rounding are_names-roundings h.rounding)
     (rw (chosen_read overflow_mode_name overflow_modes Wrap (value_of (codes "overflow-mode") parts) d.overflow are_names-overflow_modes h.overflow) refl))
 
-task_read : (parts : List PartView) (t : Task) → IsTask parts t → task_of (value_of (codes "property") parts) (value_of (codes "simulate") parts) ≡ Some t
-task_read parts t (IsTask.property ps p e f) = rw (e, f) (ap (λ x. x >>= λ property. Some (decides property)) (are_names-properties.found p))
-task_read parts t (IsTask.simulation ps text inputs e h f) = rw (f, e) (ap (λ x. x >>= λ found. Some (simulates found)) (inputs_read text inputs h))
+-- no option of properties of runs is there, one after another
+none_given : (parts : List PartView) → HasNoRunOption parts → has_run_option parts ≡ false
+none_given parts h = rw (h.samples, h.conflicts, h.formula) refl
+
+-- a number within the limit
+within_read : (n limit : ℕ) → 1 ≤ n → n ≤ limit → (if nat_le 1 n && nat_le n limit then Some n else None) ≡ Some n
+within_read n limit some few = rw (le-leb 1 n some, le-leb n limit few) refl
+
+number_read : (limit default n : ℕ) (text : Option (List ℕ)) → IsNumber limit default text n → choice_or (number_up_to limit) default text ≡ Some n
+number_read limit default n None h = ap Some (sym h)
+number_read limit default n (Some text) h = ap (λ x. x >>= λ m. (if nat_le 1 m && nat_le m limit then Some m else None)) h.number ∙ within_read n limit h.some h.few
+
+-- the task of a property that is given
+property_read : (parts : List PartView) (p : Property) (t : Task) → GivesProperty parts p → property_task parts p ≡ Some t → task_of parts ≡ Some t
+property_read parts p t g e = rw (g.name, g.no_inputs) (ap (λ x. x >>= property_task parts) (are_names-properties.found p) ∙ e)
+
+task_read : (parts : List PartView) (t : Task) → IsTask parts t → task_of parts ≡ Some t
+task_read parts t (IsTask.roots ps p g none) = property_read ps (OfRoots p) (decides p) g (rw (none_given ps none) refl)
+task_read parts t (IsTask.formula ps p samples g n f c) =
+    property_read ps (OfRuns p) (writes p samples) g
+    (ap (λ x. x >>= run_task ps p) (number_read MOST_SAMPLES DEFAULT_SAMPLES samples (value_of (codes "x-size") ps) n) ∙ rw (f, c) refl)
+task_read parts t (IsTask.search ps p samples conflicts g n m f) =
+    property_read ps (OfRuns p) (searches p samples conflicts) g
+    (ap (λ x. x >>= run_task ps p) (number_read MOST_SAMPLES DEFAULT_SAMPLES samples (value_of (codes "x-size") ps) n)
+    ∙ rw f (ap (λ x. x >>= λ found. Some (searches p samples found)) (number_read MOST_CONFLICTS DEFAULT_CONFLICTS conflicts (value_of (codes "conflicts") ps) m)))
+task_read parts t (IsTask.simulation ps text inputs e h f none) =
+    rw (f, e) (rw (none_given ps none) (ap (λ x. x >>= λ found. Some (simulates found)) (inputs_read text inputs h)))
 
 parts_ask : (parts : List PartView) (asked : Asked) → IsJobOf parts asked → job_of_parts parts ≡ Some asked
 parts_ask parts asked h = rw (h.filled, h.file) (rw (task_read parts asked.task h.task) (rw (design_read parts asked.design h.design) refl))
@@ -69,35 +100,93 @@ design_found parts d e =
       overflow = chosen_found overflow_mode_name overflow_modes Wrap (value_of (codes "overflow-mode") parts) c.value are_names-overflow_modes c.first;
     })
 
-task_by : (parts : List PartView) (t : Task) (x y : Option (List ℕ)) → value_of (codes "property") parts ≡ x → value_of (codes "simulate") parts ≡ y → task_of x y ≡ Some t → IsTask parts t
-task_by parts t (Some name) None e f h =
-    let b = unbind (value_named property_name properties name) (λ property. Some (decides property)) t h in
-    let same : decides b.value ≡ t = let s = b.second in cc in
-    subst (IsTask parts) same (IsTask.property parts b.value (e ∙ ap Some (are_names-properties.only name b.value b.first)) f)
-task_by parts t None (Some text) e f h =
+-- a number that was chosen is within the limit
+within_by : (limit n m : ℕ) (some few : Bool) → nat_le 1 m ≡ some → nat_le m limit ≡ few → (text : List ℕ) → short_number MOST_NUMBER_DIGITS text ≡ Some m →
+    (if some && few then Some m else None) ≡ Some n → IsNumberUpTo limit text n
+within_by limit n m true true e f text h k =
+    let same : m ≡ n = cc in
+    subst (IsNumberUpTo limit text) same (record { number = h; some = leb-true 1 m e; few = leb-true m limit f })
+within_by limit n m true false e f text h k = absurd (cc)
+within_by limit n m false few e f text h k = absurd (cc)
+
+number_found : (limit default n : ℕ) (text : Option (List ℕ)) → choice_or (number_up_to limit) default text ≡ Some n → IsNumber limit default text n
+number_found limit default n None h = cc
+number_found limit default n (Some text) h =
+    let b = unbind (short_number MOST_NUMBER_DIGITS text) (λ m. (if nat_le 1 m && nat_le m limit then Some m else None)) n h in
+    within_by limit n b.value (nat_le 1 b.value) (nat_le b.value limit) refl refl text b.first b.second
+
+-- none of three is given where one of them isn't
+none_by : (parts : List PartView) (s c f : Bool) → is_given parts (codes "x-size") ≡ s → is_given parts (codes "conflicts") ≡ c → is_given parts (codes "formula") ≡ f → has_run_option parts ≡ false → HasNoRunOption parts
+none_by parts false false false s c f h = record { samples = s; conflicts = c; formula = f }
+none_by parts true c f s d e h = absurd (let k : true ≡ false = sym (rw s refl) ∙ h in cc)
+none_by parts false true f s d e h = absurd (let k : true ≡ false = sym (rw (s, d) refl) ∙ h in cc)
+none_by parts false false true s d e h = absurd (let k : true ≡ false = sym (rw (s, d, e) refl) ∙ h in cc)
+
+none_found : (parts : List PartView) → has_run_option parts ≡ false → HasNoRunOption parts
+none_found parts = none_by parts (is_given parts (codes "x-size")) (is_given parts (codes "conflicts")) (is_given parts (codes "formula")) refl refl refl
+
+-- the task of a question
+question_by : (parts : List PartView) (p : RunProperty) (samples : ℕ) (t : Task) (f c : Bool) → GivesProperty parts (OfRuns p) →
+    samples_of parts ≡ Some samples → is_given parts (codes "formula") ≡ f → is_given parts (codes "conflicts") ≡ c →
+    (if f then (if c then None else Some (writes p samples)) else (conflicts_of parts >>= λ conflicts. Some (searches p samples conflicts))) ≡ Some t → IsTask parts t
+question_by parts p samples t true true g n e d h = absurd (cc)
+question_by parts p samples t true false g n e d h =
+    let same : writes p samples ≡ t = cc in
+    subst (IsTask parts) same (IsTask.formula parts p samples g (number_found MOST_SAMPLES DEFAULT_SAMPLES samples (value_of (codes "x-size") parts) n) e d)
+question_by parts p samples t false c g n e d h =
+    let b = unbind (conflicts_of parts) (λ conflicts. Some (searches p samples conflicts)) t h in
+    let same : searches p samples b.value ≡ t = let s = b.second in cc in
+    subst (IsTask parts) same (IsTask.search parts p samples b.value g
+    (number_found MOST_SAMPLES DEFAULT_SAMPLES samples (value_of (codes "x-size") parts) n)
+    (number_found MOST_CONFLICTS DEFAULT_CONFLICTS b.value (value_of (codes "conflicts") parts) b.first) e)
+
+roots_by : (parts : List PartView) (p : RootProperty) (t : Task) (b : Bool) → GivesProperty parts (OfRoots p) → has_run_option parts ≡ b →
+    (if b then None else Some (decides p)) ≡ Some t → IsTask parts t
+roots_by parts p t true g e h = absurd (cc)
+roots_by parts p t false g e h =
+    let same : decides p ≡ t = cc in
+    subst (IsTask parts) same (IsTask.roots parts p g (none_found parts e))
+
+property_found : (parts : List PartView) (p : Property) (t : Task) → GivesProperty parts p → property_task parts p ≡ Some t → IsTask parts t
+property_found parts (OfRuns p) t g h =
+    let b = unbind (samples_of parts) (run_task parts p) t h in
+    question_by parts p b.value t (is_given parts (codes "formula")) (is_given parts (codes "conflicts")) g b.first refl refl b.second
+property_found parts (OfRoots p) t g h = roots_by parts p t (has_run_option parts) g refl h
+
+simulation_by : (parts : List PartView) (text : List ℕ) (t : Task) (b : Bool) → value_of (codes "simulate") parts ≡ Some text →
+    value_of (codes "property") parts ≡ None → has_run_option parts ≡ b →
+    (if b then None else (inputs_of text >>= λ inputs. Some (simulates inputs))) ≡ Some t → IsTask parts t
+simulation_by parts text t true f e n h = absurd (cc)
+simulation_by parts text t false f e n h =
     let b = unbind (inputs_of text) (λ inputs. Some (simulates inputs)) t h in
     let same : simulates b.value ≡ t = let s = b.second in cc in
-    subst (IsTask parts) same (IsTask.simulation parts text b.value f (inputs_found text b.value b.first) e)
-task_by parts t None None e f h = absurd (cc)
-task_by parts t (Some name) (Some text) e f h = absurd (cc)
+    subst (IsTask parts) same (IsTask.simulation parts text b.value f (inputs_found text b.value b.first) e (none_found parts n))
+
+task_found : (parts : List PartView) (t : Task) (x y : Option (List ℕ)) → value_of (codes "property") parts ≡ x → value_of (codes "simulate") parts ≡ y → task_by parts x y ≡ Some t → IsTask parts t
+task_found parts t (Some name) None e f h =
+    let b = unbind (value_named property_name properties name) (property_task parts) t h in
+    property_found parts b.value t (record { name = e ∙ ap Some (are_names-properties.only name b.value b.first); no_inputs = f }) b.second
+task_found parts t None (Some text) e f h = simulation_by parts text t (has_run_option parts) f e refl h
+task_found parts t None None e f h = absurd (cc)
+task_found parts t (Some name) (Some text) e f h = absurd (cc)
 
 -- the job of parts that have no empty text
 job_by : (parts : List PartView) (asked : Asked) (empty : Bool) → has_empty parts ≡ empty →
     (if empty then None else
     (file_of parts >>= λ file.
-    task_of (value_of (codes "property") parts) (value_of (codes "simulate") parts) >>= λ task.
+    task_of parts >>= λ task.
     design_of parts >>= λ design.
     Some (record { file = file; task = task; design = design }))) ≡ Some asked → IsJobOf parts asked
 job_by parts asked true e h = absurd (cc)
 job_by parts asked false e h =
     let a = unbind (file_of parts) _ asked h in
-    let b = unbind (task_of (value_of (codes "property") parts) (value_of (codes "simulate") parts)) _ asked a.second in
+    let b = unbind (task_of parts) _ asked a.second in
     let c = unbind (design_of parts) _ asked b.second in
     let same : record { file = a.value; task = b.value; design = c.value } ≡ asked = let s = c.second in cc in
     subst (IsJobOf parts) same (record {
       file = a.first;
       filled = e;
-      task = task_by parts b.value (value_of (codes "property") parts) (value_of (codes "simulate") parts) refl refl b.first;
+      task = task_found parts b.value (value_of (codes "property") parts) (value_of (codes "simulate") parts) refl refl b.first;
       design = design_found parts c.value c.first;
     })
 

@@ -1,10 +1,19 @@
 -- The job that the arguments ask for.
-use Rattle.std.specs.Prelude.{ℕ, List, Option, Some, None, codes, if◌then◌else◌, option_and_then, ℤ}
+use Rattle.std.specs.Prelude.{ℕ, ◌&&◌, nat_le, Bool, List, [], ◌∷◌, Option, Some, None, codes}
+use Rattle.std.specs.Prelude.{if◌then◌else◌, option_and_then, ℤ}
+use Rattle.std.specs.List.{list_any}
+use Rattle.dsv_text.specs.Digits.{short_number}
 use Rattle.dsv_names.specs.declared.realisation.Realisation.TheVariants.{Dfi}
 use Rattle.dsv_names.specs.declared.rounding.Rounding.TheVariants.{Floor}
 use Rattle.dsv_names.specs.declared.overflow_mode.OverflowMode.TheVariants.{Wrap}
+use Rattle.dsv_names.specs.declared.property.RunProperty.{RunProperty}
+use Rattle.dsv_names.specs.declared.property.RootProperty.{RootProperty}
 use Rattle.dsv_names.specs.declared.property.Property.{Property}
+use Rattle.dsv_names.specs.declared.property.Property.TheVariants.{OfRuns, OfRoots}
 use Rattle.dsv_command.specs.declared.job.Design.{Design}
+use Rattle.dsv_command.specs.declared.limits.TheConstants.{MOST_NUMBER_DIGITS, MOST_SAMPLES}
+use Rattle.dsv_command.specs.declared.limits.TheConstants.{DEFAULT_SAMPLES, MOST_CONFLICTS}
+use Rattle.dsv_command.specs.declared.limits.TheConstants.{DEFAULT_CONFLICTS}
 use Rattle.dsv_names.specs.Names.{value_named}
 use Rattle.dsv_names.specs.OverflowModes.{overflow_mode_name, overflow_modes}
 use Rattle.dsv_names.specs.Properties.{property_name, properties}
@@ -12,13 +21,17 @@ use Rattle.dsv_names.specs.Realisations.{realisation_name, realisations}
 use Rattle.dsv_names.specs.Roundings.{rounding_name, roundings}
 use Rattle.dsv_command.specs.Inputs.{inputs_of}
 use Rattle.dsv_command.specs.Options.{command_options}
-use Rattle.dsv_command.specs.Parts.{PartView, file_of, value_of, has_empty}
+use Rattle.dsv_command.specs.Parts.{PartView, for_option, has_key, file_of, value_of, has_empty}
 use Rattle.dsv_command.specs.Reading.{parts_of}
 
 -- what is to be done with a controller
 pub data Task : Type 0 where
-  -- its property is decided
-  decides : Property → Task
+  -- a property of its roots is decided
+  decides : RootProperty → Task
+  -- the formula of a property of its runs over so many samples is written
+  writes : RunProperty → ℕ → Task
+  -- a property of its runs over so many samples is decided, by a search with so many conflicts
+  searches : RunProperty → ℕ → ℕ → Task
   -- it is run over these inputs
   simulates : List ℤ → Task
 
@@ -49,18 +62,64 @@ design_of parts =
     (value_of (codes "overflow-mode") parts) >>= λ overflow.
     Some (record { realisation = realisation; rounding = rounding; overflow = overflow })
 
+-- an option of this name is given
+abbrev pub is_given : List PartView → List ℕ → Bool
+is_given parts name = has_key (for_option name) parts
+
+-- the options of properties of runs
+abbrev pub run_options : List (List ℕ)
+run_options = codes "x-size" ∷ codes "conflicts" ∷ codes "formula" ∷ []
+
+abbrev pub has_run_option : List PartView → Bool
+has_run_option parts = list_any (is_given parts) run_options
+
+-- a number of 1 to 10 digits from 1 to a limit
+abbrev pub number_up_to : ℕ → List ℕ → Option ℕ
+number_up_to limit text = short_number MOST_NUMBER_DIGITS text >>= λ n.
+    (if nat_le 1 n && nat_le n limit then Some n else None)
+
+-- the samples and the conflicts that are asked for, or how many there are by default
+abbrev pub samples_of : List PartView → Option ℕ
+samples_of parts = choice_or (number_up_to MOST_SAMPLES) DEFAULT_SAMPLES
+    (value_of (codes "x-size") parts)
+
+abbrev pub conflicts_of : List PartView → Option ℕ
+conflicts_of parts = choice_or (number_up_to MOST_CONFLICTS) DEFAULT_CONFLICTS
+    (value_of (codes "conflicts") parts)
+
+-- a formula is written without a search
+abbrev pub run_task : List PartView → RunProperty → ℕ → Option Task
+run_task parts property samples = if is_given parts (codes "formula")
+    then (if is_given parts (codes "conflicts") then None else Some (writes property samples))
+    else (conflicts_of parts >>= λ conflicts. Some (searches property samples conflicts))
+
+-- the task of a property
+abbrev pub property_task : List PartView → Property → Option Task
+property_task parts (OfRuns property) = samples_of parts >>= run_task parts property
+property_task parts (OfRoots property) =
+    if has_run_option parts then None else Some (decides property)
+
+-- the task of a run over inputs
+abbrev pub simulation_task : List PartView → List ℕ → Option Task
+simulation_task parts list = if has_run_option parts then None
+    else (inputs_of list >>= λ inputs. Some (simulates inputs))
+
 -- exactly one of a property and inputs is given
-abbrev pub task_of : Option (List ℕ) → Option (List ℕ) → Option Task
-task_of (Some name) None = value_named property_name properties name
-    >>= λ property. Some (decides property)
-task_of None (Some list) = inputs_of list >>= λ inputs. Some (simulates inputs)
-task_of _ _ = None
+abbrev pub task_by : List PartView → Option (List ℕ) → Option (List ℕ) → Option Task
+task_by parts (Some name) None = value_named property_name properties name >>= property_task parts
+task_by parts None (Some list) = simulation_task parts list
+task_by parts (Some name) (Some list) = None
+task_by parts None None = None
+
+abbrev pub task_of : List PartView → Option Task
+task_of parts =
+    task_by parts (value_of (codes "property") parts) (value_of (codes "simulate") parts)
 
 -- no text is empty, and FILE and a task are given
 abbrev pub job_of_parts : List PartView → Option Asked
 job_of_parts parts = if has_empty parts then None else
     (file_of parts >>= λ file.
-    task_of (value_of (codes "property") parts) (value_of (codes "simulate") parts) >>= λ task.
+    task_of parts >>= λ task.
     design_of parts >>= λ design.
     Some (record { file = file; task = task; design = design }))
 

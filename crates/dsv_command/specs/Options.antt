@@ -1,10 +1,13 @@
 -- The options of the command.
-use Rattle.std.specs.Prelude.{ℕ, List, [], ◌∷◌, Bool, true, codes}
+use Rattle.std.specs.Prelude.{ℕ, List, [], ◌∷◌, Bool, true, false, codes}
 
 -- the name of each, and whether it takes a value
 abbrev pub command_options : List (List ℕ × Bool)
 command_options =
     (codes "property", true) ∷
+    (codes "x-size", true) ∷
+    (codes "conflicts", true) ∷
+    (codes "formula", false) ∷
     (codes "simulate", true) ∷
     (codes "realization", true) ∷
     (codes "rounding", true) ∷

@@ -25,8 +25,9 @@ key_of (choice name value) = for_option name
 
 abbrev pub is_same_key : Key → Key → Bool
 is_same_key for_file for_file = true
+is_same_key for_file (for_option b) = false
+is_same_key (for_option a) for_file = false
 is_same_key (for_option a) (for_option b) = bytes_eq a b
-is_same_key _ _ = false
 
 -- a part is given for this key
 abbrev pub has_key : Key → List PartView → Bool

@@ -10,14 +10,21 @@ use Rattle.dsv_fraction.specs.Arithmetic.{with_sign}
 use Rattle.dsv_names.specs.declared.realisation.Realisation.TheVariants.{Dfi}
 use Rattle.dsv_names.specs.declared.rounding.Rounding.TheVariants.{Floor}
 use Rattle.dsv_names.specs.declared.overflow_mode.OverflowMode.TheVariants.{Wrap}
+use Rattle.dsv_names.specs.declared.property.RunProperty.{RunProperty}
+use Rattle.dsv_names.specs.declared.property.RootProperty.{RootProperty}
 use Rattle.dsv_names.specs.declared.property.Property.{Property}
+use Rattle.dsv_names.specs.declared.property.Property.TheVariants.{OfRuns, OfRoots}
 use Rattle.dsv_names.specs.OverflowModes.{overflow_mode_name}
 use Rattle.dsv_names.specs.Properties.{property_name}
 use Rattle.dsv_names.specs.Realisations.{realisation_name}
 use Rattle.dsv_names.specs.Roundings.{rounding_name}
 use Rattle.dsv_command.specs.declared.job.Design.{Design}
 use Rattle.dsv_command.specs.Inputs.{most_inputs, most_digits}
-use Rattle.dsv_command.specs.Jobs.{Task, decides, simulates, Asked}
+use Rattle.dsv_command.specs.Jobs.{Task, decides, writes, searches, simulates, Asked}
+use Rattle.dsv_command.specs.Jobs.{is_given}
+use Rattle.dsv_command.specs.declared.limits.TheConstants.{MOST_NUMBER_DIGITS, MOST_SAMPLES}
+use Rattle.dsv_command.specs.declared.limits.TheConstants.{DEFAULT_SAMPLES, MOST_CONFLICTS}
+use Rattle.dsv_command.specs.declared.limits.TheConstants.{DEFAULT_CONFLICTS}
 use Rattle.dsv_command.specs.Options.{command_options}
 use Rattle.dsv_command.specs.Parts.{PartView, file, flag, choice, key_of}
 use Rattle.dsv_command.specs.Parts.{has_key, file_of, value_of, has_empty}
@@ -106,15 +113,52 @@ pub record AreInputs (text : List ℕ) (inputs : List ℤ) : Type 0 where
   pub numbers : AreNumbers text inputs
   pub few : length inputs ≤ most_inputs
 
--- exactly one of a property and inputs is given
+-- a property is given, and no inputs
+pub record GivesProperty (parts : List PartView) (property : Property) : Type 0 where
+  pub name : value_of (codes "property") parts ≡ Some (property_name property)
+  pub no_inputs : value_of (codes "simulate") parts ≡ None
+
+-- none of the options of properties of runs is given
+pub record HasNoRunOption (parts : List PartView) : Type 0 where
+  pub samples : is_given parts (codes "x-size") ≡ false
+  pub conflicts : is_given parts (codes "conflicts") ≡ false
+  pub formula : is_given parts (codes "formula") ≡ false
+
+-- a number of 1 to 10 digits from 1 to a limit
+pub record IsNumberUpTo (limit : ℕ) (text : List ℕ) (n : ℕ) : Type 0 where
+  pub number : short_number MOST_NUMBER_DIGITS text ≡ Some n
+  pub some : 1 ≤ n
+  pub few : n ≤ limit
+
+-- the number that is given, or the default where none is
+abbrev pub IsNumber : ℕ → ℕ → Option (List ℕ) → ℕ → Type 0
+IsNumber limit default None n = n ≡ default
+IsNumber limit default (Some text) n = IsNumberUpTo limit text n
+
+-- the numbers of samples, 1 to 64 or 10 by default, and of conflicts, 1 to 200000 or 50000
+abbrev pub AreSamples : List PartView → ℕ → Type 0
+AreSamples parts n = IsNumber MOST_SAMPLES DEFAULT_SAMPLES (value_of (codes "x-size") parts) n
+
+abbrev pub AreConflicts : List PartView → ℕ → Type 0
+AreConflicts parts n =
+    IsNumber MOST_CONFLICTS DEFAULT_CONFLICTS (value_of (codes "conflicts") parts) n
+
+-- Exactly one of a property and inputs is given, and other options with a property of runs alone:
+-- samples; and either conflicts, or that the formula is written.
 pub data IsTask : List PartView → Task → Type 0 where
-  property : (parts : List PartView) (p : Property)
-      → value_of (codes "property") parts ≡ Some (property_name p)
-      → value_of (codes "simulate") parts ≡ None →
-      IsTask parts (decides p)
+  roots : (parts : List PartView) (p : RootProperty) → GivesProperty parts (OfRoots p)
+      → HasNoRunOption parts → IsTask parts (decides p)
+  formula : (parts : List PartView) (p : RunProperty) (samples : ℕ)
+      → GivesProperty parts (OfRuns p) → AreSamples parts samples
+      → is_given parts (codes "formula") ≡ true → is_given parts (codes "conflicts") ≡ false
+      → IsTask parts (writes p samples)
+  search : (parts : List PartView) (p : RunProperty) (samples conflicts : ℕ)
+      → GivesProperty parts (OfRuns p) → AreSamples parts samples → AreConflicts parts conflicts
+      → is_given parts (codes "formula") ≡ false → IsTask parts (searches p samples conflicts)
   simulation : (parts : List PartView) (text : List ℕ) (inputs : List ℤ)
       → value_of (codes "simulate") parts ≡ Some text → AreInputs text inputs →
-      value_of (codes "property") parts ≡ None → IsTask parts (simulates inputs)
+      value_of (codes "property") parts ≡ None → HasNoRunOption parts
+      → IsTask parts (simulates inputs)
 
 -- the value is the chosen one's name, or none is given and the default is chosen
 abbrev pub IsChosen : {A : Type 0} → (A → List ℕ) → A → Option (List ℕ) → A → Type 0

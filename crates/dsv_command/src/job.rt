@@ -1,16 +1,15 @@
 // The job that the arguments ask for.
-ghost use Rattle.std.specs.Prelude.{◌≡◌, codes, map, string_bytes, option_map, IfOk};
-ghost use Rattle.dsv_command.specs.Jobs.{job_of, job_of_parts, task_of, design_of};
-ghost use Rattle.dsv_command.specs.Parts.{value_of};
+ghost use Rattle.std.specs.Prelude.{◌≡◌, map, string_bytes, option_map, IfOk};
+ghost use Rattle.dsv_command.specs.Jobs.{job_of, job_of_parts, design_of};
 ghost use Rattle.dsv_command.specs.Views.{parts_view};
-ghost use Rattle.dsv_command.specs.Asking.{asked_task, asked_of};
+ghost use Rattle.dsv_command.specs.Asking.{asked_of};
 
-use crate::inputs::{Inputs, find_inputs};
 use crate::options::command_options;
 use crate::parts::{Part, find_file, find_value, has_empty};
 use crate::reading::read_parts;
+use crate::task::{Task, find_task};
 use dsv_base::NoMemory;
-use dsv_names::{OverflowMode, Property, Realisation, Rounding, find_named};
+use dsv_names::{OverflowMode, Realisation, Rounding, find_named};
 use std::alloc::Global;
 
 /// How a controller is realised: the structure of its realisation, and how its sums become words.
@@ -19,15 +18,6 @@ pub struct Design {
     pub realisation: Realisation,
     pub rounding: Rounding,
     pub overflow: OverflowMode,
-}
-
-/// What is to be done with a controller.
-#[derive(Drop)]
-pub enum Task {
-    /// It is decided whether the controller has the property.
-    Decide(Property),
-    /// The controller is run over these inputs, from registers that are 0.
-    Simulate(Inputs),
 }
 
 /// A job of the command: a task for the controller in a file, realised by this design.
@@ -60,19 +50,6 @@ fn find_design(parts: &[Part]) -> Option<Design>
         rounding,
         overflow,
     })
-}
-
-/// What is to be done.
-fn find_task(parts: &[Part]) -> Option<Task>
-    ensures { option_map asked_task result
-        ≡ task_of (value_of (codes "property") (parts_view parts.now))
-        (value_of (codes "simulate") (parts_view parts.now)) }
-{
-    match (find_value(parts, "property"), find_value(parts, "simulate")) {
-        (Some(name), None) => Some(Task::Decide(find_named(name.as_bytes())?)),
-        (None, Some(list)) => Some(Task::Simulate(find_inputs(list)?)),
-        _ => None,
-    }
 }
 
 /// The job of the parts that are given.

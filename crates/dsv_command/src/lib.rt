@@ -4,14 +4,20 @@
 mod inputs;
 mod job;
 mod law;
+mod limits;
 mod options;
 mod parts;
+mod question;
 mod reading;
 mod shape;
+mod task;
 
 pub use inputs::{Inputs, MOST_INPUTS};
-pub use job::{Design, Job, Task, read_job};
+pub use job::{Design, Job, read_job};
 pub use law::{jobs_are_read, parts_are_read};
+pub use limits::{MOST_CONFLICTS, MOST_SAMPLES};
 pub use options::CommandOption;
 pub use parts::{Part, PartKey};
+pub use question::{Budget, RunQuestion};
 pub use reading::read_parts;
+pub use task::Task;

@@ -14,10 +14,22 @@ pub struct CommandOption {
 
 /// The options that the command has. One more stands here and in `specs/Options.antt`; what it asks
 /// for, in the job.
-const OPTIONS: [CommandOption; 5] = [
+const OPTIONS: [CommandOption; 8] = [
     CommandOption {
         name: "property",
         takes_value: true,
+    },
+    CommandOption {
+        name: "x-size",
+        takes_value: true,
+    },
+    CommandOption {
+        name: "conflicts",
+        takes_value: true,
+    },
+    CommandOption {
+        name: "formula",
+        takes_value: false,
     },
     CommandOption {
         name: "simulate",

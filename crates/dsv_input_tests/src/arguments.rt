@@ -2,7 +2,7 @@
 // of what stands between its bars.
 use dsv_base::NoMemory;
 use dsv_command::{CommandOption, Design, Task, read_job, read_parts};
-use dsv_names::{OverflowMode, Property, Realisation, Rounding};
+use dsv_names::{OverflowMode, Realisation, RootProperty, Rounding, RunProperty};
 use std::alloc::Global;
 use std::test::Fail;
 
@@ -74,7 +74,7 @@ fn asks_for_decision(alloc: Global, row: &Decision) -> Result<bool, NoMemory> {
     Ok(match read_job(alloc, &arguments)? {
         Some(job) => {
             job.file == *file
-                && matches!(job.task, Task::Decide(Property::Stability))
+                && matches!(job.task, Task::Decide(RootProperty::Stability))
                 && job.design == *design
         }
         None => false,
@@ -123,7 +123,7 @@ fn asks_for_simulation(alloc: Global, row: &Simulation) -> Result<bool, NoMemory
     Ok(match read_job(alloc, &arguments)? {
         Some(job) => match &job.task {
             Task::Simulate(found) => found.as_slice() == row.inputs,
-            Task::Decide(_) => false,
+            _ => false,
         },
         None => false,
     })
@@ -133,6 +133,117 @@ fn asks_for_simulation(alloc: Global, row: &Simulation) -> Result<bool, NoMemory
 fn inputs_are_numbers_joined_by_commas(rt: HostRuntime) {
     for row in &SIMULATIONS {
         assert!(rt; asks_for_simulation(rt.alloc(), row).unwrap_or(false));
+    }
+}
+
+/// Arguments that ask a question about runs over so many samples, and how many conflicts the search
+/// for its answer may have; none where its formula is asked for.
+#[derive(Clone, Copy)]
+struct Question(&'static str, RunProperty, u32, Option<u32>);
+
+const QUESTIONS: [Question; 12] = [
+    Question(
+        "f|--property|OVERFLOW",
+        RunProperty::Overflow,
+        10,
+        Some(50_000),
+    ),
+    Question(
+        "f|--property|LIMIT_CYCLE",
+        RunProperty::LimitCycle,
+        10,
+        Some(50_000),
+    ),
+    Question(
+        "f|--property|OVERFLOW|--x-size|1",
+        RunProperty::Overflow,
+        1,
+        Some(50_000),
+    ),
+    Question(
+        "f|--property|OVERFLOW|--x-size=64",
+        RunProperty::Overflow,
+        64,
+        Some(50_000),
+    ),
+    Question(
+        "--x-size|0000000007|f|--property=OVERFLOW",
+        RunProperty::Overflow,
+        7,
+        Some(50_000),
+    ),
+    Question(
+        "f|--conflicts|1|--property|LIMIT_CYCLE",
+        RunProperty::LimitCycle,
+        10,
+        Some(1),
+    ),
+    Question(
+        "f|--conflicts=200000|--property=OVERFLOW",
+        RunProperty::Overflow,
+        10,
+        Some(200_000),
+    ),
+    Question(
+        "f|--property|OVERFLOW|--conflicts|9|--x-size|8",
+        RunProperty::Overflow,
+        8,
+        Some(9),
+    ),
+    Question(
+        "f|--property|OVERFLOW|--formula",
+        RunProperty::Overflow,
+        10,
+        None,
+    ),
+    Question(
+        "--formula|f|--property|LIMIT_CYCLE",
+        RunProperty::LimitCycle,
+        10,
+        None,
+    ),
+    Question(
+        "--formula|--x-size=3|--property|LIMIT_CYCLE|f",
+        RunProperty::LimitCycle,
+        3,
+        None,
+    ),
+    Question(
+        "f|--property|OVERFLOW|--realization|DFII|--formula",
+        RunProperty::Overflow,
+        10,
+        None,
+    ),
+];
+
+/// Whether the task asks what is wanted.
+fn asks_what(task: &Task, wanted: &Question) -> bool {
+    let Question(_, property, samples, conflicts) = wanted;
+    match task {
+        Task::WriteFormula(found) => {
+            found.property == *property && found.samples == *samples && conflicts.is_none()
+        }
+        Task::Search(found, budget) => {
+            found.property == *property
+                && found.samples == *samples
+                && *conflicts == Some(budget.conflicts)
+        }
+        _ => false,
+    }
+}
+
+fn asks_question(alloc: Global, row: &Question) -> Result<bool, NoMemory> {
+    let arguments = arguments_of(alloc, row.0)?;
+    Ok(match read_job(alloc, &arguments)? {
+        Some(job) => asks_what(&job.task, row),
+        None => false,
+    })
+}
+
+#[test]
+fn questions_have_samples_and_conflicts(rt: HostRuntime) {
+    for row in &QUESTIONS {
+        assert!(rt; asks_question(rt.alloc(), row).unwrap_or(false));
     }
 }
 
@@ -164,7 +275,7 @@ fn no_arguments_are_no_job(rt: HostRuntime) -> Result<(), Fail> {
     Ok(())
 }
 
-const NO_JOBS: [&str; 51] = [
+const NO_JOBS: [&str; 66] = [
     "f|--simulate|",
     "f|--simulate=,",
     "f|--simulate=1,",
@@ -195,7 +306,22 @@ const NO_JOBS: [&str; 51] = [
     "--property=--x|f",
     "--property=STABILITY=|f",
     "f|--property|stability",
-    "f|--property|OVERFLOW",
+    "f|--property|OVERFLOW|--x-size|0",
+    "f|--property|OVERFLOW|--x-size|65",
+    "f|--property|OVERFLOW|--x-size|00000000001",
+    "f|--property|OVERFLOW|--x-size|+1",
+    "f|--property|OVERFLOW|--x-size=",
+    "f|--property|OVERFLOW|--x-size|1|--x-size|1",
+    "f|--property|LIMIT_CYCLE|--conflicts|0",
+    "f|--property|LIMIT_CYCLE|--conflicts|200001",
+    "f|--property|OVERFLOW|--formula|--conflicts|1",
+    "f|--property|OVERFLOW|--formula|--formula",
+    "f|--property|OVERFLOW|--formula=1",
+    "f|--property|STABILITY|--x-size|1",
+    "f|--property|MINIMUM_PHASE|--conflicts|1",
+    "f|--property|STABILITY|--formula",
+    "f|--simulate=1|--x-size|1",
+    "f|--simulate=1|--formula",
     "f|--property|STABILITY|--property|STABILITY",
     "f|--property=STABILITY|--property=STABILITY",
     "f|g|--property|STABILITY",

@@ -16,6 +16,8 @@ use Rattle.dsv_names.specs.OverflowModes.{overflow_mode_name, overflow_modes}
 use Rattle.dsv_names.specs.declared.overflow_mode.OverflowMode.{OverflowMode}
 use Rattle.dsv_names.specs.declared.overflow_mode.OverflowMode.TheVariants as overflow_mode
 use Rattle.dsv_names.specs.Properties.{property_name, properties}
+use Rattle.dsv_names.specs.declared.property.RunProperty.TheVariants as run
+use Rattle.dsv_names.specs.declared.property.RootProperty.TheVariants as root
 use Rattle.dsv_names.specs.declared.property.Property.{Property}
 use Rattle.dsv_names.specs.declared.property.Property.TheVariants as property
 use Rattle.dsv_names.specs.Realisations.{realisation_name, realisations}
@@ -70,8 +72,10 @@ pub are_names-overflow_modes : AreNames overflow_mode_name overflow_modes
 are_names-overflow_modes = record { found = named-overflow_mode_name; only = name-named overflow_mode_name overflow_modes }
 
 named-property_name : (v : Property) → value_named property_name properties (property_name v) ≡ Some v
-named-property_name property.Stability = refl
-named-property_name property.MinimumPhase = refl
+named-property_name (property.OfRuns run.Overflow) = refl
+named-property_name (property.OfRuns run.LimitCycle) = refl
+named-property_name (property.OfRoots root.Stability) = refl
+named-property_name (property.OfRoots root.MinimumPhase) = refl
 
 pub are_names-properties : AreNames property_name properties
 are_names-properties = record { found = named-property_name; only = name-named property_name properties }

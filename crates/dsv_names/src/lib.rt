@@ -20,7 +20,7 @@ pub use law::names_are_inverse;
 pub use list_name::ListName;
 pub use named::{Named, find_named};
 pub use overflow_mode::OverflowMode;
-pub use property::Property;
+pub use property::{Property, RootProperty, RunProperty};
 pub use realisation::Realisation;
 pub use rounding::Rounding;
 pub use setting::Setting;

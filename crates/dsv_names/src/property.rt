@@ -1,13 +1,29 @@
 // The properties.
 use crate::Named;
 
-/// A property of controllers.
+/// A property of a controller's runs in words.
 #[derive(Clone, Copy, Debug, PartialEq, Eq)]
-pub enum Property {
+pub enum RunProperty {
+    /// An operation's exact value is no word.
+    Overflow,
+    /// Without input the registers come back, and the outputs on the way aren't all 0.
+    LimitCycle,
+}
+
+/// A property of a controller's roots.
+#[derive(Clone, Copy, Debug, PartialEq, Eq)]
+pub enum RootProperty {
     /// All poles of the controller are inside the unit circle.
     Stability,
     /// All zeros of the controller are inside the unit circle.
     MinimumPhase,
+}
+
+/// A property of controllers.
+#[derive(Clone, Copy, Debug, PartialEq, Eq)]
+pub enum Property {
+    OfRuns(RunProperty),
+    OfRoots(RootProperty),
 }
 
 impl Named for Property {
@@ -19,12 +35,19 @@ impl Named for Property {
 
     fn name(self) -> &'static str {
         match self {
-            Property::Stability => "STABILITY",
-            Property::MinimumPhase => "MINIMUM_PHASE",
+            Property::OfRuns(RunProperty::Overflow) => "OVERFLOW",
+            Property::OfRuns(RunProperty::LimitCycle) => "LIMIT_CYCLE",
+            Property::OfRoots(RootProperty::Stability) => "STABILITY",
+            Property::OfRoots(RootProperty::MinimumPhase) => "MINIMUM_PHASE",
         }
     }
 
     fn all() -> &'static [Property] {
-        &[Property::Stability, Property::MinimumPhase]
+        &[
+            Property::OfRuns(RunProperty::Overflow),
+            Property::OfRuns(RunProperty::LimitCycle),
+            Property::OfRoots(RootProperty::Stability),
+            Property::OfRoots(RootProperty::MinimumPhase),
+        ]
     }
 }

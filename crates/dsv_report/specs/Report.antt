@@ -4,6 +4,8 @@ use Rattle.std.specs.Prelude.{length, take, codes, Option, Some, None, ℤ}
 use Rattle.std.specs.List.{flat_map}
 use Rattle.std.specs.Fmt.{signed_decimal}
 use Rattle.dsv_names.specs.Properties.{property_name}
+use Rattle.dsv_names.specs.declared.property.Property.{Property}
+use Rattle.dsv_names.specs.declared.property.Property.TheVariants.{OfRuns, OfRoots}
 use Rattle.dsv_names.specs.Realisations.{realisation_name}
 use Rattle.dsv_names.specs.declared.realisation.Realisation.{Realisation}
 use Rattle.dsv_base.specs.Text.{spaced_text, line_of}
@@ -11,7 +13,10 @@ use Rattle.dsv_forms.specs.declared.offers.Form.{Form}
 use Rattle.dsv_jury.specs.declared.verdict.Jury.{Jury}
 use Rattle.dsv_jury.specs.declared.verdict.Jury.TheVariants as jury
 use Rattle.dsv_system.specs.Runs.{SampleRow}
-use Rattle.dsv_command.specs.Jobs.{Task, decides, simulates, Asked}
+use Rattle.dsv_cnf.specs.Dimacs.{dimacs_text}
+use Rattle.dsv_meaning.specs.declared.replays.Cycle.{Cycle}
+use Rattle.dsv_meaning.specs.declared.replays.Trace.{Trace}
+use Rattle.dsv_command.specs.Jobs.{Task, decides, writes, searches, simulates, Asked}
 use Rattle.dsv_report.specs.Fragments.{concatenation}
 use Rattle.dsv_report.specs.Refusals.{file_text, quant_text, input_text}
 use Rattle.dsv_report.specs.declared.answers.Answer.{Answer}
@@ -31,20 +36,38 @@ inconclusive = codes "VERIFICATION INCONCLUSIVE\n"
 unfoldable pub simulation : List ℕ
 simulation = codes "SIMULATION\n"
 
--- what is asked of the controller, before the realisation in the same line
+-- a property, before the realisation in the same line
+abbrev pub property_text : Property → List ℕ
+property_text property = concatenation (codes "property " ∷ property_name property ∷ codes " " ∷ [])
+
+-- what is asked of the controller, before the realisation
 abbrev pub task_text : Task → List ℕ
-task_text (decides property) = codes "property " ++ property_name property ++ codes " "
+task_text (decides property) = property_text (OfRoots property)
+task_text (writes property samples) = property_text (OfRuns property)
+task_text (searches property samples conflicts) = property_text (OfRuns property)
 task_text (simulates inputs) = []
 
 abbrev pub realisation_text : Realisation → List ℕ
 realisation_text realisation =
-    concatenation (codes "realization " ∷ realisation_name realisation ∷ codes "\n" ∷ [])
+    concatenation (codes "realization " ∷ realisation_name realisation ∷ [])
+
+-- a word and a number after it, up to the end of the line
+abbrev pub number_line : List ℕ → ℕ → List ℕ
+number_line word number =
+    concatenation (word ∷ signed_decimal (pos number) ∷ codes "\n" ∷ [])
+
+-- how many samples are asked for, up to the end of the line
+abbrev pub extent_text : Task → List ℕ
+extent_text (decides property) = codes "\n"
+extent_text (writes property samples) = number_line (codes " samples ") samples
+extent_text (searches property samples conflicts) = number_line (codes " samples ") samples
+extent_text (simulates inputs) = codes "\n"
 
 -- the verdict and what the job asked for; without a job there is none
 abbrev pub heading : List ℕ → Option Asked → List ℕ
 heading verdict None = []
-heading verdict (Some job) =
-    verdict ++ (task_text job.task ++ realisation_text job.design.realisation)
+heading verdict (Some job) = verdict
+    ++ (task_text job.task ++ (realisation_text job.design.realisation ++ extent_text job.task))
 
 -- ---- verdicts by a form
 -- a word and numbers after it, up to the end of the line
@@ -74,11 +97,6 @@ start_text start value = codes "start" ++ flat_map (spaced_text signed_decimal) 
 abbrev pub no_zeros_text : List ℕ
 no_zeros_text = codes "no zeros to test\n"
 
--- a word and a number after it, up to the end of the line
-abbrev pub number_line : List ℕ → ℕ → List ℕ
-number_line word number =
-    concatenation (word ∷ signed_decimal (pos number) ∷ codes "\n" ∷ [])
-
 abbrev pub jury_text : Jury → List ℕ
 jury_text jury.Inside = codes "jury inside\n"
 jury_text (jury.NotInside row) = number_line (codes "jury not-inside ") row
@@ -94,6 +112,34 @@ no_form_text poly offers verdict =
 
 abbrev pub wide_text : ℕ → List ℕ
 wide_text index = number_line (codes "cause WIDE index ") index
+
+-- ---- verdicts on runs
+-- a word and a number after it
+abbrev pub numbered : List ℕ → ℕ → List ℕ
+numbered word number = concatenation (word ∷ signed_decimal (pos number) ∷ [])
+
+-- the sample and the number of the first exact value that is no word, and that value
+abbrev pub break_text : ℕ → ℕ → ℤ → List ℕ
+break_text sample value exact = numbered (codes "overflow sample ") sample
+    ++ (numbered (codes " value ") value ++ numbers_line (codes " exact") (exact ∷ []))
+
+abbrev pub trace_text : Trace → List ℕ
+trace_text trace =
+    numbers_line (codes "inputs") trace.inputs
+    ++ (numbers_line (codes "outputs") trace.outputs
+    ++ break_text trace.sample trace.value trace.exact)
+
+abbrev pub cycle_text : Cycle → List ℕ
+cycle_text cycle =
+    numbers_line (codes "start") cycle.start
+    ++ (number_line (codes "period ") cycle.period ++ numbers_line (codes "outputs") cycle.outputs)
+
+-- how many clauses were learned, one each conflict
+abbrev pub spent_text : ℕ → List ℕ
+spent_text conflicts = number_line (codes "cause SPENT conflicts ") conflicts
+
+abbrev pub size_text : ℕ → List ℕ
+size_text size = number_line (codes "JOB SIZE ") size
 
 -- ---- simulations
 -- the number, the input and the output of a sample
@@ -123,6 +169,12 @@ text_of job answer.NoZeros = heading failed job ++ no_zeros_text
 text_of job (answer.NoForm poly kept verdict) =
     heading inconclusive job ++ no_form_text poly (length kept) verdict
 text_of job (answer.Wide index) = heading inconclusive job ++ wide_text index
+text_of job (answer.Never log) = heading successful job
+text_of job (answer.Overflow trace) = heading failed job ++ trace_text trace
+text_of job (answer.Cycles cycle) = heading failed job ++ cycle_text cycle
+text_of job (answer.Spent log) = heading inconclusive job ++ spent_text (length log)
+text_of job (answer.FormulaText formula) = dimacs_text formula
+text_of job (answer.JobSize size) = size_text size
 text_of job (answer.Simulated rows) = heading simulation job ++ samples_text 0 rows
 text_of job answer.Usage = codes "USAGE\n"
 text_of job (answer.FileRefused r) = file_text r
@@ -138,6 +190,12 @@ status_of (answer.KeptAway poly offer fall value) = 10
 status_of answer.NoZeros = 10
 status_of (answer.NoForm poly kept verdict) = 20
 status_of (answer.Wide index) = 20
+status_of (answer.Never log) = 0
+status_of (answer.Overflow trace) = 10
+status_of (answer.Cycles cycle) = 10
+status_of (answer.Spent log) = 20
+status_of (answer.FormulaText formula) = 0
+status_of (answer.JobSize size) = 6
 status_of (answer.Simulated rows) = 0
 status_of answer.Usage = 1
 status_of (answer.FileRefused r) = 2

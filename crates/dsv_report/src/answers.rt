@@ -1,7 +1,10 @@
 // What the command answers.
+use dsv_cnf::Formula;
 use dsv_forms::{Falls, Form, KeptAway, Poly};
+use dsv_hints::Log;
 use dsv_jury::Jury;
 use dsv_lyapunov::KeptForms;
+use dsv_meaning::{Cycle, Trace};
 use dsv_quantiser::QuantRefusal;
 use dsv_reader::FileRefusal;
 use dsv_system::Rows;
@@ -42,6 +45,25 @@ pub enum Answer {
     /// The number with this index, or one on the way to it, is too wide for a polynomial.
     Wide {
         index: u32,
+    },
+    /// What the job asks of runs never happens: the log derives the empty clause from the job's
+    /// formula.
+    Never {
+        log: Log,
+    },
+    /// An overflow, which replays in the written equations.
+    Overflow(Trace),
+    /// A limit cycle, which replays in the written equations.
+    Cycles(Cycle),
+    /// The search gave up after as many conflicts as the job allows: the clauses that it learned.
+    Spent {
+        log: Log,
+    },
+    /// The job's formula.
+    FormulaText(Formula),
+    /// The job is too large: samples times products times the square of a word's bits.
+    JobSize {
+        size: u64,
     },
     /// The rows of the controller over the inputs of the job, from registers of zeros.
     Simulated(Rows),

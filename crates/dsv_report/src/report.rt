@@ -15,12 +15,15 @@ use crate::answers::{Answer, WhichFile};
 use crate::fragments::{Fragment, put_fragments};
 use crate::refusals::{put_file_refusal, put_input_range, put_quant_refusal};
 use dsv_base::{Failed, Sink, put_all, put_line, put_spaced};
+use dsv_cnf::write_dimacs;
 use dsv_command::{Job, Task};
 use dsv_forms::{Form, KeptAway, Poly};
 use dsv_jury::Jury;
-use dsv_names::{Named, Realisation};
+use dsv_meaning::{Cycle, Trace};
+use dsv_names::{Named, Property, Realisation};
 use dsv_system::{Row, Rows};
 use itoa::Integer;
+use std::slice;
 
 const SUCCESSFUL: &[u8] = b"VERIFICATION SUCCESSFUL\n";
 
@@ -30,25 +33,35 @@ const INCONCLUSIVE: &[u8] = b"VERIFICATION INCONCLUSIVE\n";
 
 const SIMULATION: &[u8] = b"SIMULATION\n";
 
+/// Writes a property, before the realisation in the same line.
+fn put_property<K: Sink>(sink: &mut K, property: Property) -> Result<(), Failed>
+    ensures { Writes (K.seen sink.old) (K.seen sink.new) result (report.property_text property) }
+{
+    put_fragments(
+        sink,
+        &[
+            Fragment::Bytes(b"property "),
+            Fragment::Bytes(property.name().as_bytes()),
+            Fragment::Bytes(b" "),
+        ],
+    )
+}
+
 /// Writes what is asked of the controller.
 fn put_task<K: Sink>(sink: &mut K, task: &Task) -> Result<(), Failed>
     ensures { Writes (K.seen sink.old) (K.seen sink.new) result
         (report.task_text (asked_task task.now)) }
 {
     match task {
-        Task::Decide(property) => put_fragments(
-            sink,
-            &[
-                Fragment::Bytes(b"property "),
-                Fragment::Bytes(property.name().as_bytes()),
-                Fragment::Bytes(b" "),
-            ],
-        ),
+        Task::Decide(property) => put_property(sink, Property::OfRoots(*property)),
+        Task::WriteFormula(question) | Task::Search(question, _) => {
+            put_property(sink, Property::OfRuns(question.property))
+        }
         Task::Simulate(_) => put_all(sink, b""),
     }
 }
 
-/// Writes the realisation, up to the end of the line.
+/// Writes the realisation.
 fn put_realisation<K: Sink>(sink: &mut K, realisation: Realisation) -> Result<(), Failed>
     ensures { Writes (K.seen sink.old) (K.seen sink.new) result
         (report.realisation_text realisation) }
@@ -58,9 +71,21 @@ fn put_realisation<K: Sink>(sink: &mut K, realisation: Realisation) -> Result<()
         &[
             Fragment::Bytes(b"realization "),
             Fragment::Bytes(realisation.name().as_bytes()),
-            Fragment::Bytes(b"\n"),
         ],
     )
+}
+
+/// Writes how many samples are asked for, up to the end of the line.
+fn put_extent<K: Sink>(sink: &mut K, task: &Task) -> Result<(), Failed>
+    ensures { Writes (K.seen sink.old) (K.seen sink.new) result
+        (report.extent_text (asked_task task.now)) }
+{
+    match task {
+        Task::WriteFormula(question) | Task::Search(question, _) => {
+            put_number_line(sink, b" samples ", question.samples.into())
+        }
+        Task::Decide(_) | Task::Simulate(_) => put_all(sink, b"\n"),
+    }
 }
 
 /// Writes the verdict and what the job asked for.
@@ -70,7 +95,8 @@ fn put_job_heading<K: Sink>(sink: &mut K, verdict: &[u8], job: &Job) -> Result<(
 {
     put_all(sink, verdict)?;
     put_task(sink, &job.task)?;
-    put_realisation(sink, job.design.realisation)
+    put_realisation(sink, job.design.realisation)?;
+    put_extent(sink, &job.task)
 }
 
 /// Writes the heading of a verdict on a job; nothing without a job.
@@ -257,6 +283,84 @@ fn put_wide<K: Sink>(sink: &mut K, job: Option<&Job>, index: u64) -> Result<(), 
     put_number_line(sink, b"cause WIDE index ", index)
 }
 
+/// Writes a word and a number after it.
+fn put_numbered<K: Sink>(sink: &mut K, word: &[u8], number: u64) -> Result<(), Failed>
+    ensures { Writes (K.seen sink.old) (K.seen sink.new) result (report.numbered word.now number) }
+{
+    put_fragments(
+        sink,
+        &[Fragment::Bytes(word), Fragment::Number(number.into())],
+    )
+}
+
+/// Writes where a value is no word.
+fn put_break<K: Sink>(sink: &mut K, sample: u64, value: u64, exact: &i128) -> Result<(), Failed>
+    ensures { Writes (K.seen sink.old) (K.seen sink.new) result
+        (report.break_text sample value exact.now) }
+{
+    put_numbered(sink, b"overflow sample ", sample)?;
+    put_numbered(sink, b" value ", value)?;
+    put_line(sink, b" exact", slice::from_ref(exact))
+}
+
+/// Writes that nothing happens in any run.
+#[tactic(auto, unfolding(crate::specs::Report::successful))]
+fn put_never<K: Sink>(sink: &mut K, job: Option<&Job>) -> Result<(), Failed>
+    ensures { Writes (K.seen sink.old) (K.seen sink.new) result
+        (report.heading report.successful (asked_in job.entry)) }
+{
+    put_heading(sink, SUCCESSFUL, job)
+}
+
+/// Writes the text of a trace.
+fn put_trace<K: Sink>(sink: &mut K, trace: &Trace) -> Result<(), Failed>
+    ensures { Writes (K.seen sink.old) (K.seen sink.new) result (report.trace_text trace.now) }
+{
+    put_line(sink, b"inputs", trace.inputs.as_slice())?;
+    put_line(sink, b"outputs", trace.outputs.as_slice())?;
+    put_break(sink, trace.sample.into(), trace.value.into(), &trace.exact)
+}
+
+/// Writes the text of an overflow.
+#[tactic(auto, unfolding(crate::specs::Report::failed))]
+fn put_overflow<K: Sink>(sink: &mut K, job: Option<&Job>, trace: &Trace) -> Result<(), Failed>
+    ensures { Writes (K.seen sink.old) (K.seen sink.new) result
+        (report.heading report.failed (asked_in job.entry) ++ report.trace_text trace.now) }
+{
+    put_heading(sink, FAILED, job)?;
+    put_trace(sink, trace)
+}
+
+/// Writes the text of a start with its period.
+fn put_cycle<K: Sink>(sink: &mut K, cycle: &Cycle) -> Result<(), Failed>
+    ensures { Writes (K.seen sink.old) (K.seen sink.new) result (report.cycle_text cycle.now) }
+{
+    put_line(sink, b"start", cycle.start.as_slice())?;
+    put_number_line(sink, b"period ", cycle.period.into())?;
+    put_line(sink, b"outputs", cycle.outputs.as_slice())
+}
+
+/// Writes the text of a limit cycle.
+#[tactic(auto, unfolding(crate::specs::Report::failed))]
+fn put_limit_cycle<K: Sink>(sink: &mut K, job: Option<&Job>, cycle: &Cycle) -> Result<(), Failed>
+    ensures { Writes (K.seen sink.old) (K.seen sink.new) result
+        (report.heading report.failed (asked_in job.entry) ++ report.cycle_text cycle.now) }
+{
+    put_heading(sink, FAILED, job)?;
+    put_cycle(sink, cycle)
+}
+
+/// Writes that a search gave up.
+#[tactic(auto, unfolding(crate::specs::Report::inconclusive))]
+fn put_spent<K: Sink>(sink: &mut K, job: Option<&Job>, conflicts: u64) -> Result<(), Failed>
+    ensures { Writes (K.seen sink.old) (K.seen sink.new) result
+        (report.heading report.inconclusive (asked_in job.entry)
+        ++ report.spent_text conflicts) }
+{
+    put_heading(sink, INCONCLUSIVE, job)?;
+    put_number_line(sink, b"cause SPENT conflicts ", conflicts)
+}
+
 /// Writes a sample's number, its input and its output.
 fn put_sample_head<K: Sink>(sink: &mut K, number: u64, x: &i64, y: &i64) -> Result<(), Failed>
     ensures { Writes (K.seen sink.old) (K.seen sink.new) result
@@ -310,9 +414,12 @@ pub fn status_of(answer: &Answer) -> u8
     ensures { result ≡ report.status_of answer.now }
 {
     match answer {
-        Answer::Falls { .. } | Answer::Simulated(_) => 0,
-        Answer::KeptAway { .. } | Answer::NoZeros => 10,
-        Answer::NoForm { .. } | Answer::Wide { .. } => 20,
+        Answer::Falls { .. }
+        | Answer::Never { .. }
+        | Answer::FormulaText(_)
+        | Answer::Simulated(_) => 0,
+        Answer::KeptAway { .. } | Answer::NoZeros | Answer::Overflow(_) | Answer::Cycles(_) => 10,
+        Answer::NoForm { .. } | Answer::Wide { .. } | Answer::Spent { .. } => 20,
         Answer::Usage => 1,
         Answer::FileRefused(_)
         | Answer::FileTooLong
@@ -320,6 +427,7 @@ pub fn status_of(answer: &Answer) -> u8
         | Answer::InputRange { .. } => 2,
         Answer::ReadFault(WhichFile::Controller) => 3,
         Answer::NoMemory => 5,
+        Answer::JobSize { .. } => 6,
     }
 }
 
@@ -342,6 +450,12 @@ pub fn put_answer<K: Sink>(sink: &mut K, job: Option<&Job>, answer: &Answer) -> 
             put_no_form(sink, job, poly, kept.len() as u64, *jury)
         }
         Answer::Wide { index } => put_wide(sink, job, u64::from(*index)),
+        Answer::Never { .. } => put_never(sink, job),
+        Answer::Overflow(trace) => put_overflow(sink, job, trace),
+        Answer::Cycles(cycle) => put_limit_cycle(sink, job, cycle),
+        Answer::Spent { log } => put_spent(sink, job, log.len() as u64),
+        Answer::FormulaText(formula) => write_dimacs(formula, sink),
+        Answer::JobSize { size } => put_number_line(sink, b"JOB SIZE ", *size),
         Answer::Simulated(rows) => put_simulation(sink, job, rows),
         Answer::Usage => put_all(sink, b"USAGE\n"),
         Answer::FileRefused(refusal) => put_file_refusal(sink, *refusal),

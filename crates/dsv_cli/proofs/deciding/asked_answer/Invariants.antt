@@ -1,4 +1,4 @@
-use Rattle.std.proofs.Common.{◌≡◌, ◌≤◌, ◌*◌, ℕ, ◌+◌, ◌-◌, ◌<◌, length, drop}
+use Rattle.std.proofs.Common.{◌≡◌, ◌≤◌, ◌*◌, ◌+◌, ◌-◌, ◌<◌, length, drop}
 use Rattle.dsv_lyapunov.specs.Kept.{AreRefused}
 use Rattle.dsv_cli.specs.Suffixes.{IsSuffix, HoldsOfNone}
 use Rattle.dsv_cli.proofs.deciding.asked_answer.Given as goal

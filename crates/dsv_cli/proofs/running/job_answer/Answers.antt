@@ -1,4 +1,3 @@
-use Rattle.dsv_cli.proofs.Causes.{row_of_decision}
 use Rattle.dsv_cli.proofs.Proposers.{unasked}
 use Rattle.dsv_cli.proofs.running.job_answer.Goals as goal
 

@@ -1,0 +1,22 @@
+// Questions about runs, and how long a search for their answer may take.
+ghost use Rattle.std.specs.Prelude.{◌≤◌};
+ghost use Rattle.dsv_command.specs.declared.limits.TheConstants.{MOST_SAMPLES, MOST_CONFLICTS};
+
+use dsv_names::RunProperty;
+
+/// A question about a controller's runs over 1 to 64 samples.
+#[derive(Drop)]
+pub struct RunQuestion {
+    pub property: RunProperty,
+    pub samples: u32,
+    ghost some: { 1 ≤ samples },
+    ghost few: { samples ≤ MOST_SAMPLES },
+}
+
+/// How many conflicts a search may have: 1 to 200,000.
+#[derive(Drop)]
+pub struct Budget {
+    pub conflicts: u32,
+    ghost some: { 1 ≤ conflicts },
+    ghost few: { conflicts ≤ MOST_CONFLICTS },
+}
