@@ -15,12 +15,20 @@ pub(crate) enum Gap {
 }
 
 impl From<AllocError> for Gap {
+    ghost use Rattle.dsv_linear.specs.declared.arithmetic.Gap.TheVariants as gap;
+
+    ghost from_gives = { λ _ result. result ≡ gap.NoMemory };
+
     fn from(_: AllocError) -> Self {
         Gap::NoMemory
     }
 }
 
 impl<T: Drop> From<AllocFailed<T>> for Gap {
+    ghost use Rattle.dsv_linear.specs.declared.arithmetic.Gap.TheVariants as gap;
+
+    ghost from_gives = { λ _ result. result ≡ gap.NoMemory };
+
     fn from(_: AllocFailed<T>) -> Self {
         Gap::NoMemory
     }
