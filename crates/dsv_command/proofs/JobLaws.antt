@@ -14,7 +14,7 @@ use Rattle.dsv_names.proofs.NameLaws.{are_names-realisations, are_names-rounding
 use Rattle.dsv_names.specs.declared.property.RunProperty.{RunProperty}
 use Rattle.dsv_names.specs.declared.property.RootProperty.{RootProperty}
 use Rattle.dsv_names.specs.declared.property.Property.{Property}
-use Rattle.dsv_names.specs.declared.property.Property.TheVariants.{OfRuns, OfRoots}
+use Rattle.dsv_names.specs.declared.property.Property.TheVariants.{OfRuns, OfRoots, Timing}
 use Rattle.dsv_command.specs.declared.job.Design.{Design}
 use Rattle.dsv_command.specs.declared.limits.TheConstants.{MOST_NUMBER_DIGITS, MOST_SAMPLES, DEFAULT_SAMPLES, MOST_CONFLICTS, DEFAULT_CONFLICTS}
 use Rattle.dsv_text.specs.Digits.{short_number}
@@ -152,6 +152,7 @@ property_found parts (OfRuns p) t g h =
     let b = unbind (samples_of parts) (run_task parts p) t h in
     question_by parts p b.value t (is_given parts (codes "formula")) (is_given parts (codes "conflicts")) g b.first refl refl b.second
 property_found parts (OfRoots p) t g h = roots_by parts p t (has_run_option parts) g refl h
+property_found parts Timing t g h = absurd (cc)
 
 simulation_by : (parts : List PartView) (text : List ℕ) (t : Task) (b : Bool) → value_of (codes "simulate") parts ≡ Some text →
     value_of (codes "property") parts ≡ None → has_run_option parts ≡ b →

@@ -9,7 +9,7 @@ use Rattle.dsv_names.specs.declared.overflow_mode.OverflowMode.TheVariants.{Wrap
 use Rattle.dsv_names.specs.declared.property.RunProperty.{RunProperty}
 use Rattle.dsv_names.specs.declared.property.RootProperty.{RootProperty}
 use Rattle.dsv_names.specs.declared.property.Property.{Property}
-use Rattle.dsv_names.specs.declared.property.Property.TheVariants.{OfRuns, OfRoots}
+use Rattle.dsv_names.specs.declared.property.Property.TheVariants.{OfRuns, OfRoots, Timing}
 use Rattle.dsv_command.specs.declared.job.Design.{Design}
 use Rattle.dsv_command.specs.declared.limits.TheConstants.{MOST_NUMBER_DIGITS, MOST_SAMPLES}
 use Rattle.dsv_command.specs.declared.limits.TheConstants.{DEFAULT_SAMPLES, MOST_CONFLICTS}
@@ -98,6 +98,7 @@ abbrev pub property_task : List PartView → Property → Option Task
 property_task parts (OfRuns property) = samples_of parts >>= run_task parts property
 property_task parts (OfRoots property) =
     if has_run_option parts then None else Some (decides property)
+property_task parts Timing = None
 
 -- the task of a run over inputs
 abbrev pub simulation_task : List PartView → List ℕ → Option Task

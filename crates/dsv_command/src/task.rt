@@ -103,6 +103,7 @@ fn property_task(parts: &[Part], property: Property) -> Option<Task>
         }
         Property::OfRoots(_) if has_run_option(parts) => None,
         Property::OfRoots(property) => Some(Task::Decide(property)),
+        Property::Timing => None,
     }
 }
 

@@ -76,6 +76,7 @@ named-property_name (property.OfRuns run.Overflow) = refl
 named-property_name (property.OfRuns run.LimitCycle) = refl
 named-property_name (property.OfRoots root.Stability) = refl
 named-property_name (property.OfRoots root.MinimumPhase) = refl
+named-property_name property.Timing = refl
 
 pub are_names-properties : AreNames property_name properties
 are_names-properties = record { found = named-property_name; only = name-named property_name properties }

@@ -10,10 +10,12 @@ property_name (property.OfRuns run.Overflow) = codes "OVERFLOW"
 property_name (property.OfRuns run.LimitCycle) = codes "LIMIT_CYCLE"
 property_name (property.OfRoots root.Stability) = codes "STABILITY"
 property_name (property.OfRoots root.MinimumPhase) = codes "MINIMUM_PHASE"
+property_name property.Timing = codes "TIMING"
 
 abbrev pub properties : List Property
 properties =
     property.OfRuns run.Overflow ∷
     property.OfRuns run.LimitCycle ∷
     property.OfRoots root.Stability ∷
-    property.OfRoots root.MinimumPhase ∷ []
+    property.OfRoots root.MinimumPhase ∷
+    property.Timing ∷ []

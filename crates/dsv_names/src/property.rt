@@ -24,6 +24,8 @@ pub enum RootProperty {
 pub enum Property {
     OfRuns(RunProperty),
     OfRoots(RootProperty),
+    /// What a sample takes is done before the next one comes.
+    Timing,
 }
 
 impl Named for Property {
@@ -39,6 +41,7 @@ impl Named for Property {
             Property::OfRuns(RunProperty::LimitCycle) => "LIMIT_CYCLE",
             Property::OfRoots(RootProperty::Stability) => "STABILITY",
             Property::OfRoots(RootProperty::MinimumPhase) => "MINIMUM_PHASE",
+            Property::Timing => "TIMING",
         }
     }
 
@@ -48,6 +51,7 @@ impl Named for Property {
             Property::OfRuns(RunProperty::LimitCycle),
             Property::OfRoots(RootProperty::Stability),
             Property::OfRoots(RootProperty::MinimumPhase),
+            Property::Timing,
         ]
     }
 }
