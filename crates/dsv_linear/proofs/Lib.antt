@@ -1,6 +1,9 @@
-pub mod Powers
-pub mod Nearness
-pub mod FormLemmas
-pub mod PassLemmas
-pub mod SampleLemmas
-pub mod RunLemmas
+pub mod Entries
+pub mod Scales
+pub mod Passes
+pub mod Numbers
+pub mod Meanings
+pub mod Roundings
+pub mod Words
+pub mod Points
+pub mod Runs

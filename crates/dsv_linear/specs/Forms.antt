@@ -1,70 +1,151 @@
--- Serves private contracts: linear forms of symbols in whole numbers, at a fixed scale, and what
--- they mean.
-use Rattle.std.specs.Prelude.{◌≡◌, ℕ, ◌<◌, ◌≤◌, ◌^◌, List, [], ◌∷◌, ◌++◌, length, ℤ}
-use Rattle.std.specs.Prelude.{pos, ◌+ℤ◌, ◌-ℤ◌, ◌*ℤ◌, ◌≤ℤ◌}
-use Rattle.dsv_algebra.specs.Vectors.{sum_to}
+-- Linear forms of symbols, and their arithmetic.
+--
+-- A form is a list of coefficients, one for each symbol, 0 after the list's end: the scale times
+-- its value is the sum of the coefficients, each times its symbol. A symbol is an input or the
+-- error of a product that was rounded, and lies in a range whose ends are the range scale times
+-- the symbol's least and greatest value. All arithmetic is given up, to None, where a number isn't
+-- narrow.
+use Rattle.std.specs.Prelude.{ℕ, zero, suc, ◌*◌, ◌/◌, ◌^◌, nat_lt, if◌then◌else◌, List, []}
+use Rattle.std.specs.Prelude.{◌∷◌, ◌++◌, length, slice_index_or, Option, Some, None}
+use Rattle.std.specs.Prelude.{ℤ, pos, ◌+ℤ◌, ◌-ℤ◌, ◌*ℤ◌, int_lt}
+use Rattle.std.specs.Int.{int_rem_euclid}
+use Rattle.dsv_algebra.specs.Floor.{floor_of}
+use Rattle.dsv_algebra.specs.Narrow.{narrow_of}
+use Rattle.dsv_system.specs.Systems.{zeros}
 use Rattle.dsv_netlist.specs.Nodes.{at}
-use Rattle.dsv_linear.specs.Facts.{Between}
+use Rattle.dsv_linear.specs.declared.range.Range.{Range}
+use Rattle.dsv_linear.specs.declared.point.Entry.{Entry}
 
--- a coefficient for each symbol, 0 for those after the list's end, and how far the form may be off
-pub record Linear : Type 0 where
-  pub coefficients : List ℤ
-  pub radius : ℤ
+infixl 10 ◌>>=◌
+-- the second stage, after what the first gives
+abbrev pub ◌>>=◌ : {A B : Type 0} → Option A → (A → Option B) → Option B
+None >>= f = None
+(Some x) >>= f = f x
 
--- forms are numbers of this size
-unfoldable pub scale : ℤ
-scale = pos (2 ^ 40)
+-- what coefficients are multiplied by
+unfoldable pub scale : ℕ
+scale = 2 ^ 40
 
--- a is at most r away from b
-pub record Near (a b r : ℤ) : Type 0 where
-  pub least : (b -ℤ r) ≤ℤ a
-  pub most : a ≤ℤ (b +ℤ r)
+-- what the ends of symbols' ranges are multiplied by
+unfoldable pub range_scale : ℕ
+range_scale = 2 ^ 20
 
--- the sum of the first n coefficients, each times its symbol's value
-abbrev pub sum_at : ℕ → List ℤ → List ℤ → ℤ
-sum_at n coefficients us = sum_to n (λ j. at coefficients j *ℤ at us j)
+-- ---- lists and sums of numbers that are narrow
+-- the numbers f 0 to f (n - 1)
+abbrev pub entries : ℕ → (ℕ → ℤ) → Option (List ℤ)
+entries zero f = Some []
+entries (suc n) f = entries n f >>= λ list. narrow_of (f n) >>= λ entry. Some (list ++ entry ∷ [])
 
--- where the symbols have the values us, v is the form's, up to its radius
-pub record Means (form : Linear) (us : List ℤ) (v : ℤ) : Type 0 where
-  pub short : length form.coefficients ≤ length us
-  pub near : Near (scale *ℤ v) (sum_at (length us) form.coefficients us) form.radius
+-- their sum; the sums on the way are narrow too
+abbrev pub total : ℕ → (ℕ → ℤ) → Option ℤ
+total zero f = Some (pos 0)
+total (suc n) f = total n f >>= λ sum. narrow_of (f n) >>= λ term. narrow_of (sum +ℤ term)
 
--- each symbol's value is within its range
-pub record AreWithin (lows highs us : List ℤ) : Type 0 where
-  pub many_lows : length lows ≡ length us
-  pub many_highs : length highs ≡ length us
-  pub each : (j : ℕ) → j < length us → Between (at lows j) (at highs j) (at us j)
+-- the quotient, rounded down
+abbrev pub lower : ℤ → ℕ → Option ℤ
+lower v d = narrow_of (floor_of v d)
 
--- ---- what the operations do
--- h is a form of the sum
-abbrev pub Adds : Linear → Linear → Linear → Type 0
-Adds left right h = (us : List ℤ) (v w : ℤ) → Means left us v → Means right us w
-    → Means h us (v +ℤ w)
+-- the quotient, rounded up
+abbrev pub upper : ℤ → ℕ → Option ℤ
+upper v d = narrow_of (v +ℤ (pos d -ℤ pos 1)) >>= λ sum. narrow_of (floor_of sum d)
 
-abbrev pub Subtracts : Linear → Linear → Linear → Type 0
-Subtracts left right h = (us : List ℤ) (v w : ℤ) → Means left us v → Means right us w
-    → Means h us (v -ℤ w)
+-- ---- ranges
+abbrev pub range : ℤ → ℤ → Range
+range low high = record { low = low; high = high }
 
-abbrev pub Scales : ℤ → Linear → Linear → Type 0
-Scales c form h = (us : List ℤ) (v : ℤ) → Means form us v → Means h us (c *ℤ v)
+abbrev pub range_at : List Range → ℕ → Range
+range_at ranges j = slice_index_or ranges j (range (pos 0) (pos 0))
 
--- h is a form of a new symbol, after n others
-abbrev pub Enters : ℕ → Linear → Type 0
-Enters n h = (us : List ℤ) (x : ℤ) → length us ≡ n → Means h (us ++ x ∷ []) x
+-- both ends, where there are both
+abbrev pub both : Option ℤ → Option ℤ → Option Range
+both low high = low >>= λ l. high >>= λ h. Some (range l h)
 
--- what 2^f w is more than v
-abbrev pub error : ℕ → ℤ → ℤ → ℤ
-error f v w = pos (2 ^ f) *ℤ w -ℤ v
+-- what a number is multiplied by for the least product, and for the greatest
+abbrev pub least_factor : ℤ → Range → ℤ
+least_factor c r = if int_lt c (pos 0) then r.high else r.low
 
--- h is a form of a quotient by 2^f that was made whole, with its error as a new symbol
-abbrev pub Rounds : ℕ → List ℤ → List ℤ → Linear → Linear → Type 0
-Rounds f lows highs form h = (us : List ℤ) (v w : ℤ) → AreWithin lows highs us → Means form us v
-    → Means h (us ++ error f v w ∷ []) w
+abbrev pub greatest_factor : ℤ → Range → ℤ
+greatest_factor c r = if int_lt c (pos 0) then r.low else r.high
 
--- the value lies in the range
-abbrev pub Bounds : List ℤ → List ℤ → Linear → ℤ → ℤ → Type 0
-Bounds lows highs form low high = (us : List ℤ) (v : ℤ) → AreWithin lows highs us
-    → Means form us v → Between low high v
+-- the range of products with a number in the range
+abbrev pub products_range : ℤ → Range → Option Range
+products_range c r = both (narrow_of (c *ℤ least_factor c r)) (narrow_of (c *ℤ greatest_factor c r))
 
-abbrev pub linear : List ℤ → ℤ → Linear
-linear coefficients radius = record { coefficients = coefficients; radius = radius }
+abbrev pub sums_range : Range → Range → Option Range
+sums_range r s = both (narrow_of (r.low +ℤ s.low)) (narrow_of (r.high +ℤ s.high))
+
+abbrev pub differences_range : Range → Range → Option Range
+differences_range r s = both (narrow_of (r.low -ℤ s.high)) (narrow_of (r.high -ℤ s.low))
+
+-- ---- forms
+abbrev pub longer : ℕ → ℕ → ℕ
+longer m n = if nat_lt m n then n else m
+
+abbrev pub sums : List ℤ → List ℤ → Option (List ℤ)
+sums left right = entries (longer (length left) (length right)) (λ j. at left j +ℤ at right j)
+
+abbrev pub differences : List ℤ → List ℤ → Option (List ℤ)
+differences left right =
+    entries (longer (length left) (length right)) (λ j. at left j -ℤ at right j)
+
+abbrev pub products : ℤ → List ℤ → Option (List ℤ)
+products c form = entries (length form) (λ j. c *ℤ at form j)
+
+-- the form of a new symbol, after n others
+abbrev pub unit : ℕ → List ℤ
+unit n = zeros n ++ pos scale ∷ []
+
+-- the quotients of a form's first n coefficients, rounded down
+abbrev pub quotients : ℕ → ℕ → List ℤ → Option (List ℤ)
+quotients n d form = entries n (λ j. floor_of (at form j) d)
+
+-- and what is left of them
+abbrev pub rests : ℕ → ℕ → List ℤ → Option (List ℤ)
+rests n d form = entries n (λ j. int_rem_euclid (at form j) (pos d))
+
+-- the least product of a form's coefficient with a number in its symbol's range
+abbrev pub least_term : List Range → List ℤ → ℕ → ℤ
+least_term ranges form j = at form j *ℤ least_factor (at form j) (range_at ranges j)
+
+abbrev pub greatest_term : List Range → List ℤ → ℕ → ℤ
+greatest_term ranges form j = at form j *ℤ greatest_factor (at form j) (range_at ranges j)
+
+-- the least sum of a form's coefficients, each times a number in its symbol's range
+abbrev pub least : List Range → List ℤ → Option ℤ
+least ranges form = total (length ranges) (least_term ranges form)
+
+abbrev pub greatest : List Range → List ℤ → Option ℤ
+greatest ranges form = total (length ranges) (greatest_term ranges form)
+
+-- the range of a form's value, which is whole
+abbrev pub form_range : List Range → List ℤ → Option Range
+form_range ranges form = least ranges form >>= λ low. greatest ranges form >>= λ high.
+    both (upper low (scale * range_scale)) (lower high (scale * range_scale))
+
+-- ---- a value whose form is known, and the range of the symbol that it brings, if it brings one
+abbrev pub without_symbol : Option (List ℤ) → Option Entry
+without_symbol form = form >>= λ f. Some (record { form = f; symbol = None })
+
+abbrev pub with_symbol : List ℤ → Range → Option Entry
+with_symbol form symbol = Some (record { form = form; symbol = Some symbol })
+
+-- ---- rounding
+abbrev pub scaled_range : Range → Option Range
+scaled_range r = both (narrow_of (pos range_scale *ℤ r.low)) (narrow_of (pos range_scale *ℤ r.high))
+
+-- the range of what the coefficients lose when they are divided and these are left
+abbrev pub loss_range : List Range → List ℤ → Option Range
+loss_range ranges rests = least ranges rests >>= λ low. greatest ranges rests >>= λ high.
+    both (lower low scale) (upper high scale)
+
+-- the range of a rounding's symbol: its error, and what the coefficients lose
+abbrev pub symbol_range : Range → List Range → List ℤ → Option Range
+symbol_range errors ranges rests = loss_range ranges rests >>= λ loss.
+    scaled_range errors >>= λ error. sums_range error loss
+
+-- a quotient by d that is made whole, with an error between these
+abbrev pub rounded : ℕ → Range → List Range → List ℤ → Option Entry
+rounded d errors ranges form =
+    quotients (length ranges) d form >>= λ quotients. rests (length ranges) d form >>= λ rests.
+    symbol_range errors ranges rests >>= λ symbol.
+    with_symbol (quotients ++ pos (scale / d) ∷ []) symbol

@@ -1,4 +1,4 @@
-pub mod Forms
-pub mod Parts
-pub mod Passes
 pub mod Facts
+pub mod Forms
+pub mod Known
+pub mod Meaning

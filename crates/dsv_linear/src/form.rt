@@ -1,125 +1,149 @@
-// Linear forms: operations that give a new form.
-ghost use Rattle.std.specs.Prelude.{◌≡◌, ◌<◌, ◌≤◌, length, [], pos, negsuc, IfOk};
-ghost use Rattle.dsv_linear.specs.Forms.{Adds, Subtracts, Scales, Enters, Rounds, Bounds, linear};
+// Linear forms, whose numbers are given up where they aren't narrow.
+ghost use Rattle.std.specs.Prelude.{◌≡◌, ◌<◌, length, IfOk};
+ghost use Rattle.dsv_netlist.specs.Nodes.{at};
+ghost use Rattle.dsv_linear.specs.Forms.{scale, sums, differences, products, unit, longer};
+ghost use Rattle.dsv_algebra.specs.Narrow.{narrow_of};
+ghost use Rattle.dsv_linear.specs.Forms.{least, greatest, least_term, greatest_term, form_range};
 
-use crate::arithmetic::{Gap, difference, power, product, size_of, sum};
-use crate::coefficients::{Ends, copy_of, divide_all, ends_of, products, sums, unit};
-use crate::{SCALE, SCALE_BITS};
+use crate::range::{Range, greatest_factor, least_factor, lower, upper};
+use crate::{RANGE_SCALE, SCALE};
+use dsv_algebra::NarrowInteger;
+use dsv_base::{Items, NoMemory};
 use std::alloc::Global;
-use std::marker::Model;
 
-/// A linear form of symbols: a coefficient for each, at the scale, and how far the form may be off
-/// at the scale. An operation whose numbers pass 128 bits answers `Gap::Unknown`.
-#[derive(Drop)]
-pub(crate) struct Form {
-    coefficients: Vec<i128>,
-    radius: i128,
-}
+/// A coefficient for each symbol, 0 for those after the list's end: the scale times a value is the
+/// sum of its form's coefficients, each times its symbol.
+pub(crate) type Form = Items<NarrowInteger>;
 
-impl Model for Form {
-    ghost use Rattle.dsv_linear.specs.Forms.{Linear, linear};
-
-    ghost Value = { Linear };
-
-    ghost view = { λ form. linear form.coefficients.items form.radius };
-}
-
-/// The form of these numbers.
-fn made(coefficients: Vec<i128>, radius: &i128) -> Form
-    ensures { result ≡ linear coefficients.items radius.now }
+/// The coefficient of a symbol.
+pub(crate) fn coefficient(form: &Form, j: usize) -> NarrowInteger
+    ensures { result ≡ at form.now j }
 {
-    Form {
-        coefficients,
-        radius: *radius,
+    let list = form.as_slice();
+    if j < list.len() {
+        list[j]
+    } else {
+        NarrowInteger::from(0i64)
     }
 }
 
-impl Form {
-    /// The form of a new symbol, after `count` others.
-    pub(crate) fn symbol(alloc: Global, count: usize) -> Result<Form, Gap>
-        ensures { IfOk result (Enters count) }
-    {
-        let coefficients = unit(alloc, count)?;
-        Ok(made(coefficients, &0))
+/// How many coefficients the longer of two forms has.
+fn longer(left: &Form, right: &Form) -> usize
+    ensures { result ≡ longer (length left.now) (length right.now) }
+{
+    if left.len() < right.len() {
+        right.len()
+    } else {
+        left.len()
     }
+}
 
-    /// The form of 0.
-    pub(crate) fn zero(alloc: Global) -> Form
-        ensures { result ≡ linear [] (pos 0) }
-    {
-        made(Vec::new(alloc), &0)
+/// The form of a sum, where its numbers are narrow.
+pub(crate) fn sum(alloc: Global, left: &Form, right: &Form) -> Result<Option<Form>, NoMemory>
+    ensures { IfOk result (λ form. form ≡ sums left.now right.now) }
+{
+    let mut form = Form::new(alloc);
+    for j in 0..longer(left, right) {
+        let Some(entry) = coefficient(left, j).checked_add(coefficient(right, j)) else {
+            return Ok(None);
+        };
+        form.push(entry)?;
     }
+    Ok(Some(form))
+}
 
-    /// The same form.
-    pub(crate) fn copy(&self, alloc: Global) -> Result<Form, Gap>
-        ensures { IfOk result (λ h. h ≡ self.now) }
-    {
-        let coefficients = copy_of(alloc, &self.coefficients)?;
-        Ok(made(coefficients, &self.radius))
+/// The form of a difference, where its numbers are narrow.
+pub(crate) fn difference(alloc: Global, left: &Form, right: &Form) -> Result<Option<Form>, NoMemory>
+    ensures { IfOk result (λ form. form ≡ differences left.now right.now) }
+{
+    let mut form = Form::new(alloc);
+    for j in 0..longer(left, right) {
+        let Some(entry) = coefficient(left, j).checked_sub(coefficient(right, j)) else {
+            return Ok(None);
+        };
+        form.push(entry)?;
     }
+    Ok(Some(form))
+}
 
-    /// The form of a sum.
-    pub(crate) fn add(&self, alloc: Global, other: &Form) -> Result<Form, Gap>
-        ensures { IfOk result (Adds self.now other.now) }
-    {
-        let radius = sum(&self.radius, &other.radius)?;
-        let coefficients = sums(alloc, &self.coefficients, &other.coefficients)?;
-        Ok(made(coefficients, &radius))
+/// The form of a product with a number, where its numbers are narrow.
+pub(crate) fn product(alloc: Global, c: NarrowInteger, of: &Form) -> Result<Option<Form>, NoMemory>
+    ensures { IfOk result (λ form. form ≡ products c of.now) }
+{
+    let mut form = Form::new(alloc);
+    for j in 0..of.len() {
+        let Some(entry) = c.checked_mul(coefficient(of, j)) else {
+            return Ok(None);
+        };
+        form.push(entry)?;
     }
+    Ok(Some(form))
+}
 
-    /// The form of a product with a number.
-    pub(crate) fn scale(&self, alloc: Global, c: &i128) -> Result<Form, Gap>
-        ensures { IfOk result (Scales c.now self.now) }
-    {
-        let size = size_of(c)?;
-        let radius = product(&size, &self.radius)?;
-        let coefficients = products(alloc, c, &self.coefficients)?;
-        Ok(made(coefficients, &radius))
+/// The form of a new symbol, after so many others.
+#[tactic(auto, using(crate::proofs::Entries::zeros_more, crate::proofs::Scales::scales))]
+pub(crate) fn unit(alloc: Global, count: usize) -> Result<Form, NoMemory>
+    ensures { IfOk result (λ form. form ≡ unit count) }
+{
+    let mut form = Form::new(alloc);
+    for _ in 0..count {
+        form.push(NarrowInteger::from(0i64))?;
     }
+    form.push(NarrowInteger::from(SCALE as i64))?;
+    Ok(form)
+}
 
-    /// The form of a difference.
-    pub(crate) fn sub(&self, alloc: Global, other: &Form) -> Result<Form, Gap>
-        ensures { IfOk result (Subtracts self.now other.now) }
-    {
-        let turned = other.scale(alloc, &-1)?;
-        self.add(alloc, &turned)
-    }
+/// The least product of a form's coefficient with a number in its symbol's range.
+fn least_term(ranges: &[Range], form: &Form, j: usize) -> Option<NarrowInteger>
+    requires { j < length ranges.now }
+    ensures { result ≡ narrow_of (least_term ranges.now form.now j) }
+{
+    let c = coefficient(form, j);
+    c.checked_mul(least_factor(c, &ranges[j]))
+}
 
-    /// The form of a quotient by 2^bits that is made whole, with its error as a new symbol.
-    pub(crate) fn round(
-        &self,
-        alloc: Global,
-        bits: u32,
-        lows: &[i128],
-        highs: &[i128],
-    ) -> Result<Form, Gap>
-        requires bits { bits ≤ 40 }
-        requires many { length lows.now ≡ length highs.now }
-        ensures { IfOk result (Rounds bits lows.now highs.now self.now) }
-    {
-        let d = power(bits);
-        let step = power(SCALE_BITS - bits);
-        let quotients = divide_all(alloc, &d, lows, highs, &self.coefficients)?;
-        let total = sum(&self.radius, &quotients.loss)?;
-        let more = sum(&total, &(d - 1))?;
-        let radius = more.div_euclid(d);
-        let mut coefficients = quotients.list;
-        coefficients.push(step)?;
-        Ok(made(coefficients, &radius))
+/// The least sum of a form's coefficients, each times a number in its symbol's range.
+pub(crate) fn least(ranges: &[Range], form: &Form) -> Option<NarrowInteger>
+    ensures { result ≡ least ranges.now form.now }
+{
+    let mut sum = NarrowInteger::from(0i64);
+    for j in 0..ranges.len() {
+        let term = least_term(ranges, form, j)?;
+        sum = sum.checked_add(term)?;
     }
+    Some(sum)
+}
 
-    /// The least and the greatest value of the form, where the symbols are within these ranges.
-    pub(crate) fn ends(&self, lows: &[i128], highs: &[i128]) -> Result<Ends, Gap>
-        requires many { length lows.now ≡ length highs.now }
-        ensures { IfOk result (λ ends. Bounds lows.now highs.now self.now ends.low ends.high) }
-    {
-        let ends = ends_of(lows, highs, &self.coefficients)?;
-        let under = difference(&ends.low, &self.radius)?;
-        let low = sum(&under, &(SCALE - 1))?;
-        let high = sum(&ends.high, &self.radius)?;
-        Ok(Ends {
-            low: low.div_euclid(SCALE),
-            high: high.div_euclid(SCALE),
-        })
+/// The greatest product of a form's coefficient with a number in its symbol's range.
+fn greatest_term(ranges: &[Range], form: &Form, j: usize) -> Option<NarrowInteger>
+    requires { j < length ranges.now }
+    ensures { result ≡ narrow_of (greatest_term ranges.now form.now j) }
+{
+    let c = coefficient(form, j);
+    c.checked_mul(greatest_factor(c, &ranges[j]))
+}
+
+/// The greatest sum of a form's coefficients, each times a number in its symbol's range.
+pub(crate) fn greatest(ranges: &[Range], form: &Form) -> Option<NarrowInteger>
+    ensures { result ≡ greatest ranges.now form.now }
+{
+    let mut sum = NarrowInteger::from(0i64);
+    for j in 0..ranges.len() {
+        let term = greatest_term(ranges, form, j)?;
+        sum = sum.checked_add(term)?;
     }
+    Some(sum)
+}
+
+/// The range of a form's value, which is whole.
+#[tactic(auto, using(crate::proofs::Scales::scales))]
+pub(crate) fn form_range(ranges: &[Range], form: &Form) -> Option<Range>
+    ensures { result ≡ form_range ranges.now form.now }
+{
+    let low = least(ranges, form)?;
+    let high = greatest(ranges, form)?;
+    Some(Range {
+        low: upper(low, SCALE * RANGE_SCALE)?,
+        high: lower(high, SCALE * RANGE_SCALE)?,
+    })
 }

@@ -3,18 +3,20 @@
 //! sum of worst cases.
 #![tactic(auto, using(dsv_algebra::proofs::Casts::casts))]
 
-mod arithmetic;
-mod coefficients;
+mod fact;
 mod form;
+mod intervals;
 mod nodes;
+mod point;
+mod range;
+mod rounding;
 mod run;
-mod sample;
 
-pub use coefficients::Ends;
+pub use fact::Fact;
 pub use run::{Facts, facts_of};
 
-/// The sums of a form's coefficients and symbols are this many times the values.
-pub(crate) const SCALE: i128 = 1 << 40;
+/// What coefficients are multiplied by.
+pub(crate) const SCALE: u64 = 1 << 40;
 
-/// Two to this is the scale.
-pub(crate) const SCALE_BITS: u32 = 40;
+/// What the ends of symbols' ranges are multiplied by.
+pub(crate) const RANGE_SCALE: u64 = 1 << 20;

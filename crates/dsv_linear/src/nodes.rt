@@ -1,199 +1,188 @@
-// The forms of the nodes of one sample.
-ghost use Rattle.std.specs.Prelude.{◌≡◌, ◌<◌, ◌≤◌, ◌++◌, [], ◌∷◌, length, pos, IfSome, IfOk, Some};
-ghost use Rattle.std.specs.Prelude.{None, slice_index_or};
-ghost use Rattle.dsv_netlist.specs.Conditions.{NamesBelow, ReadsBelow};
-ghost use Rattle.dsv_linear.specs.Passes.{Gives, Ranges, Errors, Bounded, KnownEnds};
+// What a node adds to what is known.
+ghost use Rattle.std.specs.Prelude.{◌≡◌, ◌++◌, length, IfOk};
+ghost use Rattle.std.specs.Prelude.{option_to_list};
+ghost use Rattle.dsv_linear.specs.Forms.{without_symbol};
+ghost use Rattle.dsv_linear.specs.Known.{form_at, product_at, sum_at, difference_at, rounded_at};
+ghost use Rattle.dsv_linear.specs.Known.{input_entry, form_of, symbol_of};
+ghost use Rattle.dsv_linear.specs.Known.{node_entry, after_node, advanced};
 
-use crate::arithmetic::{Gap, power};
-use crate::coefficients::Ends;
-use crate::form::Form;
-use dsv_base::NoMemory;
-use dsv_names::Rounding;
+use crate::fact::Fact;
+use crate::form::{Form, difference, product, sum, unit};
+use crate::intervals::{node_fact, node_interval};
+use crate::point::{Entry, Estimate, Point, Start, form_at};
+use crate::range::Range;
+use crate::rounding::rounded;
+use dsv_algebra::NarrowInteger;
+use dsv_base::{Items, NoMemory};
 use dsv_netlist::Node;
-use dsv_word::Format;
 use std::alloc::Global;
 
-/// The form at a place.
-pub(crate) fn known(forms: &[Option<Form>], i: usize) -> Result<&Form, Gap>
-    ensures { IfOk result (λ form. slice_index_or forms.now i None ≡ Some form.now) }
+/// The form of the value of this number, copied.
+fn copy_at(alloc: Global, estimates: &Items<Estimate>, i: u32) -> Result<Option<Form>, NoMemory>
+    ensures { IfOk result (λ form. form ≡ form_at estimates.now i) }
 {
-    match forms.get(i) {
-        Some(Some(form)) => Ok(form),
-        _ => Err(Gap::Unknown),
+    match form_at(estimates, i) {
+        Some(form) => Ok(Some(Form::from_slice(alloc, form.as_slice())?)),
+        None => Ok(None),
     }
 }
 
-/// The form of what a node gives.
-#[tactic(auto, using(crate::proofs::PassLemmas::node_rules))]
-fn node_form(
+/// The form of a product with the value of this number.
+fn product_at(
     alloc: Global,
-    format: &Format,
-    node: &Node,
-    registers: &[Option<Form>],
-    forms: &[Option<Form>],
-    lows: &[i128],
-    highs: &[i128],
-) -> Result<Form, Gap>
-    requires many { length lows.now ≡ length highs.now }
-    ensures { IfOk result (Gives format.now node.now registers.now forms.now lows.now highs.now) }
-{
-    match node {
-        Node::Input => Form::symbol(alloc, lows.len()),
-        Node::Reg(register) => {
-            let form = known(registers, *register as usize)?;
-            form.copy(alloc)
-        }
-        Node::MulConst { coeff, of } => {
-            let form = known(forms, *of as usize)?;
-            let coeff: i128 = (*coeff).into();
-            form.scale(alloc, &coeff)
-        }
-        Node::Round(of) => {
-            let form = known(forms, *of as usize)?;
-            form.round(alloc, format.frac_bits, lows, highs)
-        }
-        Node::Add(left, right) => {
-            let first = known(forms, *left as usize)?;
-            let second = known(forms, *right as usize)?;
-            first.add(alloc, second)
-        }
-        Node::Sub(left, right) => {
-            let first = known(forms, *left as usize)?;
-            let second = known(forms, *right as usize)?;
-            first.sub(alloc, second)
-        }
-        Node::Fit(of) => {
-            let form = known(forms, *of as usize)?;
-            form.copy(alloc)
-        }
-    }
-}
-
-/// The form of what a node gives, where it is known.
-pub(crate) fn known_form(
-    alloc: Global,
-    format: &Format,
-    node: &Node,
-    registers: &[Option<Form>],
-    forms: &[Option<Form>],
-    lows: &[i128],
-    highs: &[i128],
+    c: NarrowInteger,
+    estimates: &Items<Estimate>,
+    i: u32,
 ) -> Result<Option<Form>, NoMemory>
-    requires many { length lows.now ≡ length highs.now }
-    ensures { IfOk result (λ form. IfSome form
-        (Gives format.now node.now registers.now forms.now lows.now highs.now)) }
+    ensures { IfOk result (λ form. form ≡ product_at c estimates.now i) }
 {
-    match node_form(alloc, format, node, registers, forms, lows, highs) {
-        Ok(form) => Ok(Some(form)),
-        Err(Gap::Unknown) => Ok(None),
-        Err(Gap::NoMemory) => Err(NoMemory),
+    match form_at(estimates, i) {
+        Some(form) => product(alloc, c, form),
+        None => Ok(None),
     }
 }
 
-/// Two ends.
-fn ends(low: &i128, high: &i128) -> Ends
-    ensures low { result.low ≡ low.now }
-    ensures high { result.high ≡ high.now }
+/// The form of the sum of the values of these numbers.
+fn sum_at(
+    alloc: Global,
+    estimates: &Items<Estimate>,
+    left: u32,
+    right: u32,
+) -> Result<Option<Form>, NoMemory>
+    ensures { IfOk result (λ form. form ≡ sum_at estimates.now left right) }
 {
-    Ends {
-        low: *low,
-        high: *high,
+    match (form_at(estimates, left), form_at(estimates, right)) {
+        (Some(first), Some(second)) => sum(alloc, first, second),
+        _ => Ok(None),
     }
 }
 
-/// The least and the greatest error of a rounding.
-#[tactic(auto, using(crate::proofs::PassLemmas::error_rules))]
-fn error_ends(format: &Format) -> Ends
-    ensures { Errors format.now.rounding format.now.frac_bits result.low result.high }
+/// The form of the difference of the values of these numbers.
+fn difference_at(
+    alloc: Global,
+    estimates: &Items<Estimate>,
+    left: u32,
+    right: u32,
+) -> Result<Option<Form>, NoMemory>
+    ensures { IfOk result (λ form. form ≡ difference_at estimates.now left right) }
 {
-    let d = power(format.frac_bits);
-    match format.rounding {
-        Rounding::Floor => ends(&(1 - d), &0),
-        Rounding::Ceil => ends(&0, &(d - 1)),
-        Rounding::Nearest => {
-            if format.frac_bits == 0 {
-                ends(&0, &0)
-            } else {
-                let half = power(format.frac_bits - 1);
-                ends(&(1 - half), &half)
-            }
-        }
+    match (form_at(estimates, left), form_at(estimates, right)) {
+        (Some(first), Some(second)) => difference(alloc, first, second),
+        _ => Ok(None),
     }
 }
 
-/// The ranges with one more.
-fn push_range(ends: &Ends, lows: &mut Vec<i128>, highs: &mut Vec<i128>) -> Result<(), NoMemory>
-    ensures lows { IfOk result (λ u. lows.new.items ≡ lows.old.items ++ ends.now.low ∷ []) }
-    ensures highs { IfOk result (λ u. highs.new.items ≡ highs.old.items ++ ends.now.high ∷ []) }
+/// The form of the value of this number, rounded, with its symbol.
+fn rounded_at(
+    alloc: Global,
+    start: &Start,
+    point: &Point,
+    i: u32,
+) -> Result<Option<Entry>, NoMemory>
+    ensures { IfOk result (λ entry. entry ≡ rounded_at start.now.format point.now i) }
 {
-    lows.push(ends.low)?;
-    highs.push(ends.high)?;
-    Ok(())
+    match form_at(&point.estimates, i) {
+        Some(form) => rounded(alloc, &start.format, point.ranges.as_slice(), form),
+        None => Ok(None),
+    }
 }
 
-/// The ranges with those of the symbols that a node brings.
-#[tactic(auto, using(crate::proofs::PassLemmas::node_rules))]
-pub(crate) fn add_ranges(
-    format: &Format,
+/// An input from this range, after so many symbols.
+fn input_entry(alloc: Global, input: &Range, count: usize) -> Result<Option<Entry>, NoMemory>
+    ensures { IfOk result (λ entry. entry ≡ input_entry input.now count) }
+{
+    let Some(symbol) = input.scaled() else {
+        return Ok(None);
+    };
+    Ok(Some(Entry {
+        form: unit(alloc, count)?,
+        symbol: Some(symbol),
+    }))
+}
+
+/// A form that brings no symbol.
+fn without_symbol(form: Option<Form>) -> Option<Entry>
+    ensures { result ≡ without_symbol form }
+{
+    Some(Entry {
+        form: form?,
+        symbol: None,
+    })
+}
+
+/// The form of what a node gives, and its symbol.
+fn node_entry(
+    alloc: Global,
+    start: &Start,
+    point: &Point,
     node: &Node,
-    input: &Ends,
-    lows: &mut Vec<i128>,
-    highs: &mut Vec<i128>,
-) -> Result<(), NoMemory>
-    ensures many { length lows.old.items ≡ length highs.old.items
-        → IfOk result (λ u. length lows.new.items ≡ length highs.new.items) }
-    ensures ranges { IfOk result (λ u. Ranges format.now node.now input.now.low input.now.high
-        lows.old.items highs.old.items lows.new.items highs.new.items) }
+) -> Result<Option<Entry>, NoMemory>
+    ensures { IfOk result (λ entry. entry ≡ node_entry start.now point.now node.now) }
 {
-    match node {
-        Node::Input => push_range(input, lows, highs),
-        Node::Round(_) => {
-            let error = error_ends(format);
-            push_range(&error, lows, highs)
+    let form = match node {
+        Node::Input => return input_entry(alloc, &start.input, point.ranges.len()),
+        Node::Round(of) => return rounded_at(alloc, start, point, *of),
+        Node::Reg(register) => copy_at(alloc, &start.registers, *register)?,
+        Node::MulConst { coeff, of } => {
+            let factor = NarrowInteger::from(*coeff);
+            product_at(alloc, factor, &point.estimates, *of)?
         }
-        _ => Ok(()),
+        Node::Add(left, right) => sum_at(alloc, &point.estimates, *left, *right)?,
+        Node::Sub(left, right) => difference_at(alloc, &point.estimates, *left, *right)?,
+        Node::Fit(of) => copy_at(alloc, &point.estimates, *of)?,
+    };
+    Ok(without_symbol(form))
+}
+
+/// What a node adds, where it is known.
+fn split_entry(entry: Option<Entry>) -> (Option<Form>, Option<Range>)
+    ensures form { result.0 ≡ form_of entry }
+    ensures symbol { result.1 ≡ symbol_of entry }
+{
+    match entry {
+        Some(entry) => (Some(entry.form), entry.symbol),
+        None => (None, None),
     }
 }
 
-/// The least and the greatest value of the form at a place.
-#[tactic(auto, using(crate::proofs::PassLemmas::node_rules))]
-fn ends_at(forms: &[Option<Form>], i: usize, lows: &[i128], highs: &[i128]) -> Result<Ends, Gap>
-    requires many { length lows.now ≡ length highs.now }
-    ensures { IfOk result (KnownEnds forms.now i lows.now highs.now) }
+/// The list with an item more, if there is one.
+fn push_some<T: Drop>(list: &mut Items<T>, item: Option<T>) -> Result<(), NoMemory>
+    ensures { IfOk result (λ u. list.new ≡ list.old ++ option_to_list item) }
 {
-    let form = known(forms, i)?;
-    form.ends(lows, highs)
-}
-
-/// The least and the greatest value of the form at a place, where they are known.
-fn known_ends(forms: &[Option<Form>], i: usize, lows: &[i128], highs: &[i128]) -> Option<Ends>
-    requires many { length lows.now ≡ length highs.now }
-    ensures { IfSome result (KnownEnds forms.now i lows.now highs.now) }
-{
-    match ends_at(forms, i, lows, highs) {
-        Ok(ends) => Some(ends),
-        Err(_) => None,
+    match item {
+        Some(item) => list.push(item),
+        None => Ok(()),
     }
 }
 
-/// The facts with that of the value that a node fits.
-pub(crate) fn add_fact(
+impl Point {
+    /// Adds what a node gives.
+    fn advance(
+        &mut self,
+        entry: Option<Entry>,
+        interval: Option<Range>,
+        fact: Option<Fact>,
+    ) -> Result<(), NoMemory>
+        ensures { IfOk result (λ u. self.new ≡ advanced self.old entry interval fact) }
+    {
+        let (form, symbol) = split_entry(entry);
+        self.estimates.push(Estimate { form, interval })?;
+        push_some(&mut self.ranges, symbol)?;
+        push_some(&mut self.facts, fact)
+    }
+}
+
+/// Adds what a node gives to what is known.
+pub(crate) fn add_node(
+    alloc: Global,
+    start: &Start,
+    point: &mut Point,
     node: &Node,
-    forms: &[Option<Form>],
-    lows: &[i128],
-    highs: &[i128],
-    facts: &mut Vec<Option<Ends>>,
 ) -> Result<(), NoMemory>
-    requires many { length lows.now ≡ length highs.now }
-    ensures { IfOk result (λ u. Bounded node.now forms.now lows.now highs.now facts.old.items
-        facts.new.items) }
+    ensures { IfOk result (λ u. point.new ≡ after_node start.now point.old node.now) }
 {
-    match node {
-        Node::Fit(of) => {
-            let fact = known_ends(forms, *of as usize, lows, highs);
-            facts.push(fact)?;
-            Ok(())
-        }
-        _ => Ok(()),
-    }
+    let entry = node_entry(alloc, start, point, node)?;
+    let interval = node_interval(start, point, node);
+    let fact = node_fact(&start.format, point, node);
+    point.advance(entry, interval, fact)
 }

@@ -1,64 +1,19 @@
 // The facts of so many samples.
-ghost use Rattle.std.specs.Prelude.{◌≡◌, ◌≤◌, length, IfSome, IfOk, Some, None, slice_index_or};
-ghost use Rattle.dsv_linear.specs.Passes.{Loads, AreFactsFrom, StartAtZero};
+ghost use Rattle.std.specs.Prelude.{◌≡◌, ◌≤◌, map, replicate, IfOk};
 ghost use Rattle.dsv_linear.specs.Facts.{AreFacts};
+ghost use Rattle.dsv_linear.specs.Forms.{range};
+ghost use Rattle.dsv_linear.specs.Known.{estimate_at, zero_estimate, zero_start, no_point, fresh};
+ghost use Rattle.dsv_linear.specs.Known.{point_from, loaded, facts_from, facts_of};
 
-use crate::arithmetic::Gap;
-use crate::coefficients::Ends;
+use crate::fact::Fact;
 use crate::form::Form;
-use crate::nodes::known;
-use crate::sample::sample_forms;
+use crate::nodes::add_node;
+use crate::point::{Estimate, Point, Start};
+use crate::range::Range;
+use dsv_algebra::NarrowInteger;
 use dsv_base::{Items, NoMemory};
 use dsv_netlist::{Netlist, Node};
 use std::alloc::Global;
-
-/// A form at a place, copied.
-fn copied(alloc: Global, forms: &[Option<Form>], i: usize) -> Result<Form, Gap>
-    ensures { IfOk result (λ form. slice_index_or forms.now i None ≡ Some form) }
-{
-    let form = known(forms, i)?;
-    form.copy(alloc)
-}
-
-/// A form at a place, copied, where it is known.
-fn known_copy(alloc: Global, forms: &[Option<Form>], i: usize) -> Result<Option<Form>, NoMemory>
-    ensures { IfOk result (λ form. IfSome form
-        (λ f. slice_index_or forms.now i None ≡ Some f)) }
-{
-    match copied(alloc, forms, i) {
-        Ok(form) => Ok(Some(form)),
-        Err(Gap::Unknown) => Ok(None),
-        Err(Gap::NoMemory) => Err(NoMemory),
-    }
-}
-
-/// The forms of the registers that are loaded from these nodes.
-fn load_forms(
-    alloc: Global,
-    next: &[u32],
-    forms: &[Option<Form>],
-) -> Result<Vec<Option<Form>>, NoMemory>
-    ensures { IfOk result (λ registers. Loads next.now forms.now registers.items) }
-{
-    let mut registers = Vec::with_capacity(alloc, next.len())?;
-    for id in next {
-        let form = known_copy(alloc, forms, *id as usize)?;
-        registers.push(form)?;
-    }
-    Ok(registers)
-}
-
-/// Forms of so many registers that start with 0.
-fn zero_forms(alloc: Global, count: usize) -> Result<Vec<Option<Form>>, NoMemory>
-    ensures { IfOk result (λ forms. StartAtZero count forms.items) }
-{
-    let mut forms = Vec::new(alloc);
-    for _ in 0..count {
-        let form = Form::zero(alloc);
-        forms.push(Some(form))?;
-    }
-    Ok(forms)
-}
 
 /// The nodes of a netlist.
 fn nodes_of(alloc: Global, net: &Netlist) -> Result<Vec<Node>, NoMemory>
@@ -86,51 +41,149 @@ fn next_of(alloc: Global, net: &Netlist) -> Result<Vec<u32>, NoMemory>
     Ok(next)
 }
 
-/// The facts of so many samples, where these are the forms of the words that the registers start
-/// with, and the inputs are within the range.
-fn facts_from(
-    alloc: Global,
-    net: &Netlist,
-    start: Vec<Option<Form>>,
-    input: &Ends,
-    count: usize,
-) -> Result<Vec<Option<Ends>>, NoMemory>
-    ensures { IfOk result (λ facts. AreFactsFrom net.now input.now.low input.now.high start.items
-        count facts.items) }
+/// What is known of a value, copied.
+fn copy_of(alloc: Global, estimate: &Estimate) -> Result<Estimate, NoMemory>
+    ensures { IfOk result (λ copy. copy ≡ estimate.now) }
 {
-    let nodes = nodes_of(alloc, net)?;
-    let next = next_of(alloc, net)?;
-    let format = net.format();
-    let mut lows = Vec::new(alloc);
-    let mut highs = Vec::new(alloc);
-    let mut facts = Vec::new(alloc);
-    let mut registers = start;
-    for _ in 0..count {
-        let forms = sample_forms(
-            alloc, &format, &nodes, &registers, input, &mut lows, &mut highs, &mut facts,
-        )?;
-        registers = load_forms(alloc, &next, &forms)?;
-    }
-    Ok(facts)
+    let form = match &estimate.form {
+        Some(form) => Some(Form::from_slice(alloc, form.as_slice())?),
+        None => None,
+    };
+    Ok(Estimate {
+        form,
+        interval: estimate.interval,
+    })
 }
 
-/// The range of the inputs.
-fn input_range(low: i64, high: i64) -> Ends
-    ensures low { result.low ≡ low }
-    ensures high { result.high ≡ high }
+/// What is known of the value of this number, copied.
+fn estimate_at(alloc: Global, estimates: &Items<Estimate>, i: u32) -> Result<Estimate, NoMemory>
+    ensures { IfOk result (λ estimate. estimate ≡ estimate_at estimates.now i) }
 {
-    Ends {
-        low: i128::from(low),
-        high: i128::from(high),
+    match estimates.as_slice().get(i as usize) {
+        Some(estimate) => copy_of(alloc, estimate),
+        None => Ok(Estimate {
+            form: None,
+            interval: None,
+        }),
+    }
+}
+
+/// What is known of the words in the registers that are loaded from these nodes.
+#[tactic(auto, using(crate::proofs::Passes::passes))]
+fn loaded_estimates(
+    alloc: Global,
+    next: &[u32],
+    estimates: &Items<Estimate>,
+) -> Result<Items<Estimate>, NoMemory>
+    ensures { IfOk result (λ registers. registers ≡ map (estimate_at estimates.now) next.now) }
+{
+    let mut registers = Items::new(alloc);
+    for id in next {
+        registers.push(estimate_at(alloc, estimates, *id)?)?;
+    }
+    Ok(registers)
+}
+
+/// Adds what the nodes give to what is known.
+fn add_nodes(
+    alloc: Global,
+    start: &Start,
+    nodes: &[Node],
+    point: &mut Point,
+) -> Result<(), NoMemory>
+    ensures { IfOk result (λ u. point.new ≡ point_from start.now nodes.now point.old) }
+{
+    for node in nodes {
+        add_node(alloc, start, point, node)?;
+    }
+    Ok(())
+}
+
+/// Adds what a sample gives to what is known, and loads the registers for the next.
+fn add_sample(
+    alloc: Global,
+    nodes: &[Node],
+    next: &[u32],
+    start: &mut Start,
+    point: &mut Point,
+) -> Result<(), NoMemory>
+    ensures point { IfOk result
+        (λ u. point.new ≡ point_from start.old nodes.now (fresh point.old)) }
+    ensures start { IfOk result (λ u. start.new ≡ loaded next.now start.old point.new) }
+{
+    point.estimates = Items::new(alloc);
+    add_nodes(alloc, start, nodes, point)?;
+    start.registers = loaded_estimates(alloc, next, &point.estimates)?;
+    Ok(())
+}
+
+/// What is known of so many registers that start with 0.
+#[tactic(auto, using(crate::proofs::Passes::passes))]
+fn zero_registers(alloc: Global, count: u32) -> Result<Items<Estimate>, NoMemory>
+    ensures { IfOk result (λ registers. registers ≡ replicate count zero_estimate) }
+{
+    let mut registers = Items::new(alloc);
+    for _ in 0..count {
+        registers.push(Estimate {
+            form: Some(Form::new(alloc)),
+            interval: Some(Range::between(&0, &0)),
+        })?;
+    }
+    Ok(registers)
+}
+
+/// What a run starts with whose registers are 0, over inputs from `low` to `high`.
+fn zero_start(alloc: Global, net: &Netlist, low: i64, high: i64) -> Result<Start, NoMemory>
+    ensures { IfOk result (λ start. start ≡ zero_start net.now low high) }
+{
+    Ok(Start {
+        format: net.format(),
+        input: Range {
+            low: NarrowInteger::from(low),
+            high: NarrowInteger::from(high),
+        },
+        registers: zero_registers(alloc, net.registers())?,
+    })
+}
+
+/// No symbol and no fact yet.
+fn no_point(alloc: Global) -> Point
+    ensures { result ≡ no_point }
+{
+    Point {
+        estimates: Items::new(alloc),
+        ranges: Items::new(alloc),
+        facts: Items::new(alloc),
     }
 }
 
 /// For each exact value of a run, in its order, what is known of it.
-pub type Facts = Items<Option<Ends>>;
+pub type Facts = Items<Fact>;
+
+/// The facts after so many samples, where this is known of the registers and so far.
+#[tactic(auto, using(crate::proofs::Passes::passes))]
+fn facts_from(
+    alloc: Global,
+    net: &Netlist,
+    samples: u32,
+    start: Start,
+    point: Point,
+) -> Result<Facts, NoMemory>
+    ensures { IfOk result (λ facts. facts ≡ facts_from net.now samples start point) }
+{
+    let nodes = nodes_of(alloc, net)?;
+    let next = next_of(alloc, net)?;
+    let mut start = start;
+    let mut point = point;
+    for _ in 0..samples {
+        add_sample(alloc, &nodes, &next, &mut start, &mut point)?;
+    }
+    Ok(point.facts)
+}
 
 /// The facts of a run of `samples` samples from registers of zeros, over inputs from `low` to
-/// `high`: for each exact value two ends that it lies between where all exact values before it are
-/// words, or `None` where a number on the way to these passes 128 bits. Want of memory is an error.
+/// `high`: for each exact value, in the order of a run, what is known of it if all exact values
+/// before it are words.
 pub fn facts_of(
     alloc: Global,
     net: &Netlist,
@@ -138,10 +191,9 @@ pub fn facts_of(
     high: i64,
     samples: u32,
 ) -> Result<Facts, NoMemory>
+    ensures made { IfOk result (λ facts. facts ≡ facts_of net.now low high samples) }
     ensures holds { IfOk result (AreFacts net.now low high samples) }
 {
-    let start = zero_forms(alloc, net.registers() as usize)?;
-    let input = input_range(low, high);
-    let facts = facts_from(alloc, net, start, &input, samples as usize)?;
-    Ok(Facts::from(facts))
+    let start = zero_start(alloc, net, low, high)?;
+    facts_from(alloc, net, samples, start, no_point(alloc))
 }

@@ -1,5 +1,5 @@
-// Facts whose ends are worked out by hand.
-use dsv_linear::{Ends, facts_of};
+// Facts that are worked out by hand.
+use dsv_linear::{Fact, facts_of};
 use dsv_names::{OverflowMode, Rounding};
 use dsv_netlist::{Netlist, Node};
 use dsv_word::Format;
@@ -29,7 +29,10 @@ const SCALES: &[Node] = &[
     Node::Fit(2),
 ];
 
-/// A netlist, its rounding, the range of its inputs, the samples, and the ends of each exact value.
+/// y(n) = 2 x(n) - x(n).
+const TWICE: &[Node] = &[Node::Input, Node::Add(0, 0), Node::Sub(1, 0), Node::Fit(2)];
+
+/// A netlist, its rounding, the range of its inputs, the samples, and the fact of each exact value.
 #[derive(Clone, Copy)]
 struct Row {
     nodes: &'static [Node],
@@ -39,22 +42,24 @@ struct Row {
     low: i64,
     high: i64,
     samples: u32,
-    ends: &'static [Ends],
+    facts: &'static [Fact],
 }
 
 // An error of the sum is a quarter of one from -3 to 0. The first output is x(0) + (e - f) / 4,
 // where e and f are the errors of its products; the next has those of its own as well.
-const SUM_ENDS: &[Ends] = &[
-    Ends { low: -2, high: 1 },
-    Ends { low: 0, high: 0 },
-    Ends { low: -2, high: 1 },
-    Ends { low: -2, high: 1 },
-    Ends { low: -2, high: 2 },
-    Ends { low: -5, high: 3 },
+const SUM_FACTS: &[Fact] = &[
+    Fact::Within { low: -2, high: 1 },
+    Fact::Within { low: 0, high: 0 },
+    Fact::Within { low: -2, high: 1 },
+    Fact::Within { low: -2, high: 1 },
+    Fact::Within { low: -2, high: 2 },
+    Fact::Within { low: -5, high: 3 },
 ];
 
-// 7 x and an error, over 4: from -56 and to 49.
-const ROWS: [Row; 4] = [
+// The words are -8 to 7. 7 x and an error, over 4, are made whole inwards: by FLOOR 5 gives 8.75 and
+// -5 gives -9.5 at least, by CEIL -5 gives -8.75 at least. Twice a number less the number is the
+// number, whose plain interval is three times as wide.
+const ROWS: [Row; 13] = [
     Row {
         nodes: SUMS,
         next: &[9],
@@ -63,37 +68,131 @@ const ROWS: [Row; 4] = [
         low: -2,
         high: 1,
         samples: 2,
-        ends: SUM_ENDS,
+        facts: SUM_FACTS,
+    },
+    Row {
+        nodes: SUMS,
+        next: &[9],
+        output: 9,
+        rounding: Rounding::Floor,
+        low: -2,
+        high: 1,
+        samples: 1,
+        facts: &[
+            Fact::Within { low: -2, high: 1 },
+            Fact::Within { low: 0, high: 0 },
+            Fact::Within { low: -2, high: 1 },
+        ],
     },
     Row {
         nodes: SCALES,
         next: &[],
         output: 3,
         rounding: Rounding::Floor,
-        low: -8,
-        high: 7,
+        low: -4,
+        high: 3,
         samples: 1,
-        ends: &[Ends { low: -14, high: 12 }],
+        facts: &[Fact::Within { low: -7, high: 5 }],
     },
     Row {
         nodes: SCALES,
         next: &[],
         output: 3,
         rounding: Rounding::Ceil,
-        low: -8,
-        high: 7,
+        low: -4,
+        high: 3,
         samples: 1,
-        ends: &[Ends { low: -14, high: 13 }],
+        facts: &[Fact::Within { low: -7, high: 6 }],
     },
     Row {
         nodes: SCALES,
         next: &[],
         output: 3,
         rounding: Rounding::Nearest,
+        low: -4,
+        high: 3,
+        samples: 1,
+        facts: &[Fact::Within { low: -7, high: 5 }],
+    },
+    Row {
+        nodes: SCALES,
+        next: &[],
+        output: 3,
+        rounding: Rounding::Floor,
+        low: -4,
+        high: 4,
+        samples: 1,
+        facts: &[Fact::Within { low: -7, high: 7 }],
+    },
+    Row {
+        nodes: SCALES,
+        next: &[],
+        output: 3,
+        rounding: Rounding::Ceil,
+        low: -5,
+        high: 4,
+        samples: 1,
+        facts: &[Fact::Within { low: -8, high: 7 }],
+    },
+    Row {
+        nodes: SCALES,
+        next: &[],
+        output: 3,
+        rounding: Rounding::Floor,
+        low: -5,
+        high: 4,
+        samples: 1,
+        facts: &[Fact::Open],
+    },
+    Row {
+        nodes: SCALES,
+        next: &[],
+        output: 3,
+        rounding: Rounding::Ceil,
+        low: -5,
+        high: 5,
+        samples: 1,
+        facts: &[Fact::Open],
+    },
+    Row {
+        nodes: TWICE,
+        next: &[],
+        output: 3,
+        rounding: Rounding::Floor,
+        low: -7,
+        high: 6,
+        samples: 1,
+        facts: &[Fact::Inside],
+    },
+    Row {
+        nodes: TWICE,
+        next: &[],
+        output: 3,
+        rounding: Rounding::Floor,
         low: -8,
         high: 7,
         samples: 1,
-        ends: &[Ends { low: -14, high: 12 }],
+        facts: &[Fact::Inside],
+    },
+    Row {
+        nodes: TWICE,
+        next: &[],
+        output: 3,
+        rounding: Rounding::Floor,
+        low: -8,
+        high: 8,
+        samples: 1,
+        facts: &[Fact::Open],
+    },
+    Row {
+        nodes: TWICE,
+        next: &[],
+        output: 3,
+        rounding: Rounding::Floor,
+        low: -9,
+        high: 7,
+        samples: 1,
+        facts: &[Fact::Open],
     },
 ];
 
@@ -110,15 +209,15 @@ fn are_right(alloc: Global, row: &Row) -> Option<bool> {
     let net = netlist(alloc, row)?;
     let facts = facts_of(alloc, &net, row.low, row.high, row.samples).ok()?;
     let list = facts.as_slice();
-    let mut met = list.len() == row.ends.len();
-    for (fact, ends) in list.iter().zip(row.ends) {
-        met = met && *fact == Some(*ends);
+    let mut met = list.len() == row.facts.len();
+    for (fact, wanted) in list.iter().zip(row.facts) {
+        met = met && *fact == *wanted;
     }
     Some(met)
 }
 
 #[test]
-fn facts_have_ends_by_hand(rt: HostRuntime) -> Result<(), Fail> {
+fn facts_are_those_by_hand(rt: HostRuntime) -> Result<(), Fail> {
     let alloc = rt.alloc();
     let mut met = true;
     for row in &ROWS {

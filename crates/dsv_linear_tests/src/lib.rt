@@ -1,4 +1,4 @@
-//! Tests of the facts of linear forms, by public calls: beside enumerated runs, and beside ends that
+//! Tests of the facts of linear forms, by public calls: beside enumerated runs, and beside facts that
 //! are worked out by hand.
 #![tactic(auto)]
 

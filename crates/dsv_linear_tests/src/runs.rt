@@ -6,7 +6,7 @@ ghost use Rattle.dsv_word.specs.Words.{IsWord};
 ghost use Rattle.std.specs.Prelude.{◌<◌, IsTrue};
 ghost use Rattle.std.specs.List.{All};
 
-use dsv_linear::{Ends, facts_of};
+use dsv_linear::{Fact, facts_of};
 use dsv_names::{OverflowMode, Realisation, Rounding};
 use dsv_netlist::Netlist;
 use dsv_quantiser::quantise;
@@ -95,43 +95,54 @@ fn value_at(net: &Netlist, inputs: &[i64], place: usize) -> Option<i128> {
     None
 }
 
-/// Whether the ends of the fact of this number are met, where no value leaves them.
-fn is_tight(net: &Netlist, place: usize, ends: &Ends) -> Option<bool> {
-    let mut low_met = false;
-    let mut high_met = false;
+/// Whether the fact is true of the value.
+fn is_true(format: &Format, fact: &Fact, value: i128) -> bool {
+    match fact {
+        Fact::Open => true,
+        Fact::Inside => format.fits(value),
+        Fact::Within { low, high } => i128::from(*low) <= value && value <= i128::from(*high),
+    }
+}
+
+/// Whether the value is an end of the fact.
+fn is_end(fact: &Fact, value: i128) -> bool {
+    match fact {
+        Fact::Open | Fact::Inside => false,
+        Fact::Within { low, high } => i128::from(*low) == value || i128::from(*high) == value,
+    }
+}
+
+/// How many values of this number are ends of its fact, where it is true of all of them.
+fn ends_met(net: &Netlist, place: usize, fact: &Fact) -> Option<u32> {
+    let format = net.format();
+    let mut met: u32 = 0;
     for number in 0..LISTS {
         if let Some(value) = value_at(net, &inputs_of(number), place) {
-            if value < ends.low || ends.high < value {
+            if !is_true(&format, fact, value) {
                 return None;
             }
-            low_met = low_met || value == ends.low;
-            high_met = high_met || value == ends.high;
+            met = met.saturating_add(u32::from(is_end(fact, value)));
         }
     }
-    Some(low_met && high_met)
+    Some(met)
 }
 
-/// How many facts are tight, where all are known and hold.
-fn tight_facts(alloc: Global, rounding: Rounding, realisation: Realisation) -> Option<u32> {
+/// How many values are ends of their facts, where all facts are true.
+fn all_ends_met(alloc: Global, rounding: Rounding, realisation: Realisation) -> Option<u32> {
     let net = netlist(alloc, rounding, realisation)?;
     let facts = facts_of(alloc, &net, LOW, HIGH, 3).ok()?;
-    let mut tight: u32 = 0;
+    let mut met: u32 = 0;
     for (place, fact) in facts.as_slice().iter().enumerate() {
-        match fact {
-            Some(ends) => {
-                tight = tight.saturating_add(u32::from(is_tight(&net, place, ends)?));
-            }
-            None => return None,
-        }
+        met = met.saturating_add(ends_met(&net, place, fact)?);
     }
-    Some(tight)
+    Some(met)
 }
 
-/// Whether the facts of all realisations hold, and some of each are tight.
+/// Whether the facts of all realisations hold, and some values of each are ends of their facts.
 fn hold(alloc: Global, rounding: Rounding) -> bool {
     let mut met = true;
     for realisation in &REALISATIONS {
-        met = met && matches!(tight_facts(alloc, rounding, *realisation), Some(1..));
+        met = met && matches!(all_ends_met(alloc, rounding, *realisation), Some(1..));
     }
     met
 }

@@ -1,5 +1,5 @@
 use Rattle.std.proofs.Common.{◌≡◌, [], ◌∷◌, ◌++◌, arith}
-use Rattle.dsv_linear.proofs.RunLemmas.{taken_more}
+use Rattle.dsv_linear.proofs.Passes.{taken_more}
 use Rattle.dsv_linear.proofs.run.nodes_of.Goals as goal
 
 pub loop-i-preserved : goal.loop-i-preserved

@@ -1,0 +1,54 @@
+-- Loops over nodes, registers and samples.
+use Rattle.std.proofs.Common.{◌≡◌, ℕ, zero, suc, ◌+◌, ◌-◌, ◌<◌, List, [], ◌∷◌, ◌++◌, length, get_or, take, map, replicate, refl, sym, ap, ◌∙◌, arith, add-one}
+use Rattle.std.specs.Prelude.{Some, slice_get}
+use Rattle.std.proofs.lemmas.List.{take_more, map-append}
+use Rattle.dsv_netlist.specs.declared.node.Node.{Node}
+use Rattle.dsv_netlist.specs.Nodes.{Net}
+use Rattle.dsv_linear.specs.declared.fact.Fact.{Fact}
+use Rattle.dsv_linear.specs.declared.point.Start.{Start}
+use Rattle.dsv_linear.specs.declared.point.Point.{Point}
+use Rattle.dsv_linear.specs.Known.{point_from, after_node, after_sample, loaded, facts_from}
+
+get_some : {X : Type 0} (xs : List X) (i : ℕ) (d x : X) → slice_get xs i ≡ Some x → get_or xs i d ≡ x
+get_some [] i d x e = absurd cc
+get_some (y ∷ ys) zero d x e = cc
+get_some (y ∷ ys) (suc i) d x e = get_some ys i d x e
+
+pub taken_more : {X : Type 0} (xs got now : List X) (i : ℕ) (x : X) → i < length xs → got ≡ take i xs → slice_get xs i ≡ Some x → now ≡ got ++ x ∷ [] → now ≡ take (i + 1) xs
+taken_more xs got now i x l g e p = p ∙ ap (λ ys. ys ++ x ∷ []) g ∙ ap (λ y. take i xs ++ y ∷ []) (sym (get_some xs i x x e)) ∙ sym (take_more xs i x l)
+
+-- one item more of a list that is mapped
+pub mapped_more : {X Y : Type 0} (f : X → Y) (xs : List X) (got now : List Y) (i : ℕ) (d : X) (y : Y) → i < length xs → got ≡ map f (take i xs)
+    → y ≡ f (get_or xs i d) → now ≡ got ++ y ∷ [] → now ≡ map f (take (i + 1) xs)
+mapped_more f xs got now i d y l g e p =
+    p ∙ rw (g, e) (sym (map-append f (take i xs) (get_or xs i d ∷ []))) ∙ ap (map f) (sym (take_more xs i d l))
+
+replicate_next : {X : Type 0} (n : ℕ) (x : X) → replicate (suc n) x ≡ replicate n x ++ x ∷ []
+replicate_next zero x = refl
+replicate_next (suc n) x = ap (λ xs. x ∷ xs) (replicate_next n x)
+
+pub replicate_more : {X : Type 0} (n : ℕ) (x : X) → replicate (n + 1) x ≡ replicate n x ++ x ∷ []
+replicate_more n x = ap (λ m. replicate m x) (add-one n) ∙ replicate_next n x
+
+point_from_more : (start : Start) (nodes : List Node) (node : Node) (point : Point) → point_from start (nodes ++ node ∷ []) point ≡ after_node start (point_from start nodes point) node
+point_from_more start [] node point = refl
+point_from_more start (n ∷ nodes) node point = point_from_more start nodes node (after_node start point n)
+
+-- one node more
+pub nodes_more : (start : Start) (nodes : List Node) (d : Node) (i : ℕ) (before point now : Point) → i < length nodes → point ≡ point_from start (take i nodes) before
+    → now ≡ after_node start point (get_or nodes i d) → now ≡ point_from start (take (i + 1) nodes) before
+nodes_more start nodes d i before point now l e p =
+    p ∙ ap (λ q. after_node start q (get_or nodes i d)) e ∙ sym (point_from_more start (take i nodes) (get_or nodes i d) before)
+    ∙ ap (λ ns. point_from start ns before) (sym (take_more nodes i d l))
+
+-- one sample more: what is left gives the same facts
+pub samples_more : (net : Net) (samples i : ℕ) (start now : Start) (point next : Point) (facts : List Fact) → i < samples
+    → facts_from net (samples - i) start point ≡ facts → next ≡ after_sample net start point → now ≡ loaded net.next start next
+    → facts_from net (samples - (i + 1)) now next ≡ facts
+samples_more net samples i start now point next facts l e p q =
+    let k : samples - i ≡ suc (samples - (i + 1)) = omega arith in
+    ap (λ s. facts_from net (samples - (i + 1)) s next) q
+    ∙ ap (λ (m : Point). facts_from net (samples - (i + 1)) (loaded net.next start m) m) p
+    ∙ ap (λ n. facts_from net n start point) (sym k) ∙ e
+
+pub ruleset passes = (mapped_more, replicate_more, samples_more)
