@@ -7,6 +7,8 @@ mod cycle;
 #[cfg(test)]
 mod overflow;
 #[cfg(test)]
+mod peaks;
+#[cfg(test)]
 mod ranges;
 #[cfg(test)]
 mod realisations;

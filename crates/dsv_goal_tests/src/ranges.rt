@@ -4,10 +4,8 @@
 
 ghost use Rattle.std.specs.Prelude.{◌<◌};
 
-use crate::realisations::{does_break, overflow_of};
+use crate::realisations::{does_break, overflow_of, words_of};
 use dsv_names::{OverflowMode, Realisation, Rounding};
-use dsv_quantiser::{Quantised, quantise};
-use dsv_reader::read;
 use dsv_word::Format;
 use std::alloc::Global;
 use std::test::Fail;
@@ -72,15 +70,10 @@ fn word(value: u32) -> i64
     }
 }
 
-fn words_of(alloc: Global, text: &str) -> Option<Quantised> {
-    let format = Format::new(3, 1, Rounding::Floor, OverflowMode::Wrap).ok()?;
-    let controller = read(alloc, text.as_bytes()).ok()?;
-    quantise(&controller, format, Realisation::Dfi).ok()
-}
-
 /// How many lists of one input or two break, where the goal is right at all of them.
 fn breaks_of(alloc: Global, row: &Row) -> Option<u32> {
-    let q = words_of(alloc, row.text)?;
+    let format = Format::new(3, 1, Rounding::Floor, OverflowMode::Wrap).ok()?;
+    let q = words_of(alloc, row.text, format, Realisation::Dfi)?;
     let goal = overflow_of(alloc, &q, row.samples)?;
     let count = row.samples as usize;
     let lists = if row.samples == 1 { WORDS } else { PAIRS };

@@ -44,8 +44,13 @@ const TRIPLES: u32 = 512;
 
 const PAIRS: u32 = 64;
 
-fn words_of(alloc: Global, format: Format, realisation: Realisation) -> Option<Quantised> {
-    let controller = read(alloc, SECOND.as_bytes()).ok()?;
+pub(crate) fn words_of(
+    alloc: Global,
+    text: &str,
+    format: Format,
+    realisation: Realisation,
+) -> Option<Quantised> {
+    let controller = read(alloc, text.as_bytes()).ok()?;
     quantise(&controller, format, realisation).ok()
 }
 
@@ -133,12 +138,11 @@ pub(crate) fn overflow_of(alloc: Global, q: &Quantised, samples: u32) -> Option<
 }
 
 /// How many lists break, where the overflow goal over three samples is right at all of them.
-fn breaks_of(alloc: Global, format: Format, realisation: Realisation) -> Option<u32> {
-    let q = words_of(alloc, format, realisation)?;
-    let goal = overflow_of(alloc, &q, 3)?;
+pub(crate) fn breaks_of(alloc: Global, q: &Quantised) -> Option<u32> {
+    let goal = overflow_of(alloc, q, 3)?;
     let mut breaks: u32 = 0;
     for number in 0..TRIPLES {
-        breaks = breaks.saturating_add(u32::from(breaks_at(alloc, &q, &goal, number)?));
+        breaks = breaks.saturating_add(u32::from(breaks_at(alloc, q, &goal, number)?));
     }
     Some(breaks)
 }
@@ -148,7 +152,8 @@ fn breaks_by(alloc: Global, rounding: Rounding, overflow: OverflowMode) -> Optio
     let format = Format::new(2, 1, rounding, overflow).ok()?;
     let mut breaks: u32 = 0;
     for realisation in &REALISATIONS {
-        breaks = breaks.saturating_add(breaks_of(alloc, format, *realisation)?);
+        let q = words_of(alloc, SECOND, format, *realisation)?;
+        breaks = breaks.saturating_add(breaks_of(alloc, &q)?);
     }
     Some(breaks)
 }
@@ -230,7 +235,7 @@ fn cycles_at(alloc: Global, net: &Netlist, goal: &Goal, number: u32) -> Option<b
 
 /// How many starts have a cycle, where the cycle goal is right at all of them.
 fn cycles_of(alloc: Global, format: Format, realisation: Realisation) -> Option<u32> {
-    let q = words_of(alloc, format, realisation)?;
+    let q = words_of(alloc, SECOND, format, realisation)?;
     let net = realise(alloc, &q).ok()?;
     let goal = cycle_goal(alloc, &net, 3).ok()?;
     let mut cycles: u32 = 0;

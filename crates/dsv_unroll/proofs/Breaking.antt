@@ -1,7 +1,7 @@
 -- The root of the overflow goal is 1 exactly where the inputs break.
-use Rattle.std.proofs.Common.{◌≡◌, ℕ, zero, suc, ◌+◌, ◌-◌, ◌^◌, ◌<◌, ◌≤◌, Bool, true, false, ◌&&◌, ◌||◌, List, [], ◌∷◌, refl, arith, ap, sym, subst, ◌∙◌, length, map, replicate}
+use Rattle.std.proofs.Common.{◌≡◌, ℕ, zero, suc, ◌+◌, ◌^◌, ◌<◌, ◌≤◌, Bool, true, false, ◌&&◌, ◌||◌, List, [], ◌∷◌, refl, arith, ap, sym, subst, ◌∙◌, length, map, replicate}
 use Rattle.std.specs.Prelude.{int_le, slice_index, slice_index_or, ◌≤ℤ◌}
-use Rattle.std.specs.List.{Contains}
+use Rattle.std.specs.List.{All, Contains}
 use Rattle.std.proofs.Math.IntN.{ℤ, pos}
 use Rattle.std.proofs.lemmas.Int.{ints}
 use Rattle.std.proofs.lemmas.Nat.{pow_pos}
@@ -12,6 +12,9 @@ use Rattle.dsv_word.specs.Words.{width, lo, hi, IsWord}
 use Rattle.dsv_system.specs.Runs.{SampleRow, rows_from, row_at}
 use Rattle.dsv_system.specs.Systems.{zeros, AreInRange}
 use Rattle.dsv_system.specs.Breaks.{Breaks, IsOutside}
+use Rattle.dsv_linear.specs.declared.fact.Fact.{Fact}
+use Rattle.dsv_linear.specs.Facts.{exact_values, Hold, AreFacts}
+use Rattle.dsv_linear.specs.Known.{facts_of}
 use Rattle.dsv_netlist.specs.Nodes.{Net, at, step_of}
 use Rattle.dsv_netlist.specs.Conditions.{IsNetlist}
 use Rattle.dsv_netlist.specs.Systems.{system_of}
@@ -20,39 +23,38 @@ use Rattle.dsv_term.specs.declared.node.TermNode.TheVariants.{Constant}
 use Rattle.dsv_term.specs.declared.word.Word.{Word}
 use Rattle.dsv_term.specs.Building.{Built, built_of, with_node}
 use Rattle.dsv_term.specs.Growth.{AreSound}
-use Rattle.dsv_term.specs.Terms.{AreValues, width_of, word_of}
+use Rattle.dsv_term.specs.Terms.{KeepsTerms, AreValues, width_of, word_of}
 use Rattle.dsv_term.specs.TermsView.{TermsView}
 use Rattle.dsv_term.specs.Word.{IsWidth, bit_of}
+use Rattle.dsv_term.proofs.Made.{KeepsTerms-both}
 use Rattle.dsv_term.proofs.Building.{constant_gives}
 use Rattle.dsv_term.proofs.Complement.{IsSpelled, wider_spelled}
-use Rattle.dsv_unroll.specs.Goals.{InputTerms, inputs_from, RunTerms, run_from, no_terms, overflow_of}
-use Rattle.dsv_unroll.specs.Ready.{IsValue, HasBits, AreBits, AreRunReady}
+use Rattle.dsv_unroll.specs.FactTests.{FactTerms, facts_from}
+use Rattle.dsv_unroll.specs.Goals.{InputTerms, inputs_from, RunTerms, run_from, run_tests, no_terms, conjunction_from, overflow_with, overflow_of}
+use Rattle.dsv_unroll.specs.Ready.{IsValue, HasBits, AreBits, AreRunReady, AreTested, AreKnown}
 use Rattle.dsv_unroll.specs.Rules.{term_at}
 use Rattle.dsv_unroll.specs.Words.{spelled_word, spelled_words, Tells}
 use Rattle.dsv_unroll.proofs.RuleTerms.{Spells}
-use Rattle.dsv_unroll.proofs.FitTerms.{is_outside, inside_spelled, spelled_inside}
+use Rattle.dsv_unroll.proofs.FitTerms.{is_outside}
 use Rattle.dsv_unroll.proofs.Follows.{Means, means_later}
 use Rattle.dsv_unroll.proofs.NodeTerms.{width_some, width_small}
-use Rattle.dsv_unroll.proofs.Runs.{any_outside, breaks_from, RegistersMean, InputsMean, run_follows}
+use Rattle.dsv_unroll.proofs.Runs.{any_outside, breaks_from, RegistersMean, InputsMean, RunFollows, run_follows}
+use Rattle.dsv_unroll.proofs.TestedTerms.{TestsHold, run_holds}
+use Rattle.dsv_unroll.proofs.FactTerms.{word_inside, inside_word, facts_hold, first_holds}
 use Rattle.dsv_unroll.proofs.SampleSteps.{bits_later}
-use Rattle.dsv_unroll.proofs.InputTests.{TestsMean, tests_later, joined-split, InputsStand, inputs_stand, words_at, range_flag, all_in_range, conjunction_joins}
+use Rattle.dsv_unroll.proofs.InputTests.{bits_kept, TestsMean, tests_later, joined-split, InputsStand, inputs_stand, words_at, range_flag, all_in_range, conjunction_joins, conjunction_keeps, conjunction_from-both}
 use Rattle.dsv_unroll.proofs.ValueTerms.{value_of, value_right}
 
 -- ---- a break
 outside_no_word : (f : Format) (e : ℤ) → is_outside (width f) e ≡ true → IsWord f e → ⊥
-outside_no_word f e h w =
-    let l = w.low in
-    let k = w.high in
-    let i = spelled_inside (width f) e (record { low = l; high = omega (arith, ints) }) in
-    let c : true ≡ false = sym h ∙ i in
-    cc
+outside_no_word f e h w = let i = word_inside f e w in let c : true ≡ false = sym h ∙ i in cc
 
 no_word_outside : (f : Format) (e : ℤ) → (IsWord f e → ⊥) → is_outside (width f) e ≡ true
 no_word_outside f e h = by (is_outside (width f) e) refl
   where
     by : (q : Bool) → is_outside (width f) e ≡ q → q ≡ true
     by true g = refl
-    by false g = absurd (h (let s = inside_spelled (width f) e g in let l = s.low in let k = s.high in record { low = l; high = omega (arith, ints) }))
+    by false g = absurd (h (inside_word f e g))
 
 some_by : (f : Format) (e : ℤ) (es : List ℤ) (q : Bool) → is_outside (width f) e ≡ q → any_outside f (e ∷ es) ≡ true → (any_outside f es ≡ true → (d : ℤ) × Contains es d × (IsWord f d → ⊥)) → (d : ℤ) × Contains (e ∷ es) d × (IsWord f d → ⊥)
 some_by f e es true g h rest = (e, (0, omega arith, refl), outside_no_word f e g)
@@ -210,7 +212,7 @@ word_width f = record { some = width_some f; narrow = let h = width_small f in o
 pub record Starts (net : Net) (values : List ℕ) (low high : ℤ) (samples : ℕ) (i : InputTerms) (t : TermsView) (nought : TermId) : Type 0 where
   pub ready : AreRunReady net (replicate (length net.next) nought) i.ids t nought
   pub bits : AreBits t i.tests
-  pub flag : word_of t values nought ≡ bit_of false
+  pub flag : (vs : List ℕ) → word_of t vs nought ≡ bit_of false
   pub registers : RegistersMean t values (replicate (length net.next) nought) (zeros (length net.next))
   pub inputs : InputsMean net.format t values i.ids (map (value_of (width net.format) low high) (words_at (width net.format) values 0 samples))
   pub tests : TestsMean t values i.tests (all_in_range low high true (words_at (width net.format) values 0 samples))
@@ -262,7 +264,7 @@ starts_by net values low high samples i s =
         flag_bit = g.adds.width;
       };
       bits = bits_later i.terms u.terms i.tests k s.bits;
-      flag = g.word values;
+      flag = g.word;
       registers = record { each = λ j p. rw (at_k j p, zero_k j p) nought };
       inputs = record {
         count = sym s.words ∙ sym (length-map zs v);
@@ -290,45 +292,96 @@ pub record GoalStands (net : Net) (low high : ℤ) (samples : ℕ) (values : Lis
   pub count : length g.terms.inputs ≡ samples
   pub widths : (j : ℕ) → j < length g.terms.inputs → slice_index g.terms.inputs j ≡ width net.format
 
-pub goal_stands : (net : Net) (low high : ℤ) (samples : ℕ) (values : List ℕ) → IsNetlist net → low ≤ℤ hi (width net.format) → lo (width net.format) ≤ℤ high → ((j : ℕ) → j < samples → slice_index values j < 2 ^ width net.format)
-    → GoalStands net low high samples values (overflow_of net low high samples)
-unfolding overflow_of
-goal_stands net low high samples values net_ l h f =
+zeros_words : (net : Net) → All (IsWord net.format) (zeros (length net.next))
+zeros_words net = All-replicate (IsWord net.format) (length net.next) (pos 0) (word_spelled net.format (pos 0) (wider_spelled 1 (width net.format) (pos 0) (width_some net.format) nought_spelled))
+
+-- before the first fact
+first_known : (net : Net) (i : InputTerms) (t : TermsView) (nought : TermId) (run : RunTerms) → AreRunReady net (replicate (length net.next) nought) i.ids t nought → ((vs : List ℕ) → word_of t vs nought ≡ bit_of false) → AreBits t i.tests → AreSound run.terms → KeepsTerms t run.terms
+    → AreKnown run.terms nought i.tests
+first_known net i t nought run r w b s k =
+    record {
+      sound = s;
+      bit = record { bit = bits_kept t run.terms nought 1 k (record { stands = r.flag_stands; width = r.flag_bit }); truth = λ vs. false; word = λ vs. k.words vs nought r.flag_stands ∙ w vs };
+      bits = bits_later t run.terms i.tests k b;
+    }
+
+-- the run over the inputs' values
+starts_holds : (net : Net) (values : List ℕ) (low high : ℤ) (samples : ℕ) (i : InputTerms) (t : TermsView) (nought : TermId) → IsNetlist net → Starts net values low high samples i t nought
+    → let start : RunTerms = record { terms = t; registers = replicate (length net.next) nought; broken = nought } in let vs = map (value_of (width net.format) low high) (words_at (width net.format) values 0 samples) in
+    TestsHold (run_from net i.ids start).terms values (width net.format) (run_tests net i.ids start) (exact_values (rows_from (step_of net) (zeros (length net.next)) vs)) false
+starts_holds net values low high samples i t nought h s =
+    let m = length net.next in
+    let vs = map (value_of (width net.format) low high) (words_at (width net.format) values 0 samples) in
+    run_holds net values i.ids vs (record { terms = t; registers = replicate m nought; broken = nought }) (zeros m) false h (length-replicate m (pos 0)) (zeros_words net) s.ready (s.flag values) (λ e. s.registers) s.inputs
+
+starts_follow : (net : Net) (values : List ℕ) (low high : ℤ) (samples : ℕ) (i : InputTerms) (t : TermsView) (nought : TermId) → IsNetlist net → Starts net values low high samples i t nought
+    → let start : RunTerms = record { terms = t; registers = replicate (length net.next) nought; broken = nought } in let vs = map (value_of (width net.format) low high) (words_at (width net.format) values 0 samples) in
+    RunFollows net values t (run_from net i.ids start) (breaks_from net false (zeros (length net.next)) vs)
+starts_follow net values low high samples i t nought h s =
+    let m = length net.next in
+    let vs = map (value_of (width net.format) low high) (words_at (width net.format) values 0 samples) in
+    run_follows net values i.ids vs (record { terms = t; registers = replicate m nought; broken = nought }) (zeros m) false h (length-replicate m (pos 0)) (zeros_words net) s.ready (s.flag values) (λ e. s.registers) s.inputs
+
+-- the facts of the run over values, where the words are in range
+facts_known : (net : Net) (low high : ℤ) (samples : ℕ) (facts : List Fact) (zs : List ℤ) → AreFacts net low high samples facts → length zs ≡ samples → all_in_range low high true zs ≡ true
+    → Hold net.format facts (exact_values (rows_from (step_of net) (zeros (length net.next)) (map (value_of (width net.format) low high) zs)))
+facts_known net low high samples facts zs a c q =
+    let e = values_right (width net.format) low high true zs (let s = width_small net.format in omega arith) q in
+    subst (λ (ys : List ℤ). Hold net.format facts (exact_values (rows_from (step_of net) (zeros (length net.next)) ys))) (sym e) (a zs c (all_range low high true zs q))
+
+pub goal_stands : (net : Net) (low high : ℤ) (samples : ℕ) (facts : List Fact) (values : List ℕ) → IsNetlist net → low ≤ℤ hi (width net.format) → lo (width net.format) ≤ℤ high → AreFacts net low high samples facts
+    → ((j : ℕ) → j < samples → slice_index values j < 2 ^ width net.format) → GoalStands net low high samples values (overflow_with net low high samples facts)
+unfolding first_known
+goal_stands net low high samples facts values net_ l h a f =
     let zs = words_at (width net.format) values 0 samples in
     let m = length net.next in
     let i = inputs_from (width net.format) low high samples (record { terms = no_terms; ids = []; tests = [] }) in
     let s = starts_by net values low high samples i (inputs_of net values low high samples l h f) in
     let u = with_node i.terms (Constant 1 0) in
     let start : RunTerms = record { terms = u.terms; registers = replicate m u.id; broken = u.id } in
-    let zero_word : IsWord net.format (pos 0) = nought_word net.format in
-    let vs = map (value_of (width net.format) low high) zs in
-    let r = run_follows net values i.ids vs start (zeros m) false net_ (length-replicate m (pos 0)) (All-replicate (IsWord net.format) m (pos 0) zero_word) s.ready s.flag (λ e. s.registers) s.inputs in
     let run = run_from net i.ids start in
+    let entries = run_tests net i.ids start in
+    let vs = map (value_of (width net.format) low high) zs in
+    let r = starts_follow net values low high samples i u.terms u.id net_ s in
     let b = breaks_from net false (zeros m) vs in
-    let t = tests_later u.terms run.terms values i.tests (all_in_range low high true zs) r.kept s.bits s.tests in
-    let j = conjunction_joins values run.terms run.broken i.tests t.truths b r.ready.sound (record { stands = r.stands; width = r.bit }) r.flag (bits_later u.terms run.terms i.tests r.kept s.bits) t.count t.each in
-    let same = j.inputs ∙ r.inputs in
-    record {
-      bit = j.bit;
-      word = j.word ∙ ap bit_of (joined-split b t.truths ∙ (ap (λ (q : Bool). b && q) t.all ∙ values_break net low high (zeros m) zs));
+    let q = all_in_range low high true zs in
+    let first : FactTerms = record { terms = run.terms; outside = u.id; tests = i.tests } in
+    let k = facts_from first facts entries in
+    let tests = starts_holds net values low high samples i u.terms u.id net_ s in
+    let e = facts_hold run.terms values net.format i.tests q facts entries (exact_values (rows_from (step_of net) (zeros m) vs)) (λ o. false) first
+    (first_holds run.terms values q u.id i.tests (first_known net i u.terms u.id run s.ready s.flag s.bits r.ready.sound r.kept)) tests.stand
+    (λ o p. (tests.say refl, facts_known net low high samples facts zs a (words_at-length (width net.format) values 0 samples) o)) in
+    let g = e.holds in
+    let kept = KeepsTerms-both u.terms run.terms k.terms r.kept g.kept in
+    let t = tests_later u.terms k.terms values i.tests q kept s.bits s.tests in
+    let broken = bits_kept run.terms k.terms run.broken 1 g.kept (record { stands = r.stands; width = r.bit }) in
+    let flag = g.kept.words values run.broken r.stands ∙ r.flag in
+    let j = conjunction_joins values k.terms run.broken i.tests t.truths b g.sound broken flag (bits_later u.terms k.terms i.tests kept s.bits) t.count t.each in
+    let one = conjunction_from (built_of k.terms run.broken) i.tests in
+    let word : word_of one.terms values one.id ≡ bit_of (b && q) = j.word ∙ ap bit_of (joined-split b t.truths ∙ ap (λ (c : Bool). b && c) t.all) in
+    let n = conjunction_keeps values one.terms one.id g.more (b && q) j.sound j.bit word (bits_later k.terms one.terms g.more j.kept g.bits)
+    (λ o d p. j.kept.words values (term_at g.more d) (g.bits.stand d p).stands ∙ g.ones (both_true b q o).1 d p) in
+    let end : conjunction_from (built_of k.terms run.broken) k.tests ≡ conjunction_from one g.more = ap (conjunction_from (built_of k.terms run.broken)) g.tests ∙ conjunction_from-both (built_of k.terms run.broken) i.tests g.more in
+    let same = n.inputs ∙ (j.inputs ∙ (g.inputs ∙ r.inputs)) in
+    subst (GoalStands net low high samples values) (sym end) (record {
+      bit = n.bit;
+      word = n.word ∙ ap bit_of (values_break net low high (zeros m) zs);
       count = ap length same ∙ s.count;
-      widths = λ k p. ap (λ (is : List ℕ). slice_index is k) same ∙ s.widths k (let e = ap length same in omega arith);
-    }
-  where
-    nought_word : (f : Format) → IsWord f (pos 0)
-    nought_word f = let p = pow_pos (width f - 1) in record { low = omega (arith, ints); high = omega (arith, ints) }
+      widths = λ d p. ap (λ (is : List ℕ). slice_index is d) same ∙ s.widths d (let c = ap length same in omega arith);
+    })
 
-pub overflow_tells : (net : Net) (low high : ℤ) (samples : ℕ) (values : List ℕ) → IsNetlist net → low ≤ℤ hi (width net.format) → lo (width net.format) ≤ℤ high → AreValues (overflow_of net low high samples).terms.inputs values
-    → Tells (word_of (overflow_of net low high samples).terms values (overflow_of net low high samples).id) (Breaks (List ℤ) (system_of net) low high (spelled_words net.format values))
-overflow_tells net low high samples values net_ l h v =
-    let none = goal_stands net low high samples [] net_ l h (λ j p. pow_pos (width net.format)) in
+pub overflow_tells : (net : Net) (low high : ℤ) (samples : ℕ) (facts : List Fact) (values : List ℕ) → IsNetlist net → low ≤ℤ hi (width net.format) → lo (width net.format) ≤ℤ high → AreFacts net low high samples facts
+    → let g = overflow_with net low high samples facts in AreValues g.terms.inputs values → Tells (word_of g.terms values g.id) (Breaks (List ℤ) (system_of net) low high (spelled_words net.format values))
+overflow_tells net low high samples facts values net_ l h a v =
+    let o = overflow_with net low high samples facts in
+    let none = goal_stands net low high samples facts [] net_ l h a (λ j p. pow_pos (width net.format)) in
     let c : length values ≡ samples = v.count ∙ none.count in
-    let f : (j : ℕ) → j < samples → slice_index values j < 2 ^ width net.format = λ j p. (let q : j < length (overflow_of net low high samples).terms.inputs = omega (arith, none.count) in subst (λ (w : ℕ). slice_index values j < 2 ^ w) (none.widths j q) (v.fit j q)) in
-    let g = goal_stands net low high samples values net_ l h f in
+    let f : (j : ℕ) → j < samples → slice_index values j < 2 ^ width net.format = λ j p. (let q : j < length o.terms.inputs = omega (arith, none.count) in subst (λ (w : ℕ). slice_index values j < 2 ^ w) (none.widths j q) (v.fit j q)) in
+    let g = goal_stands net low high samples facts values net_ l h a f in
     let e : words_at (width net.format) values 0 samples ≡ spelled_words net.format values = ap (words_at (width net.format) values 0) (sym c) ∙ words_map net.format values values 0 (λ i p. ap (slice_index values) (let z : i ≡ 0 + i = omega arith in z)) in
     let zs = words_at (width net.format) values 0 samples in
-    subst (λ (ys : List ℤ). Tells (word_of (overflow_of net low high samples).terms values (overflow_of net low high samples).id) (Breaks (List ℤ) (system_of net) low high ys)) e
-    (tells_by (word_of (overflow_of net low high samples).terms values (overflow_of net low high samples).id) (Breaks (List ℤ) (system_of net) low high zs) (breaks_from net false (zeros (length net.next)) zs && all_in_range low high true zs) g.word (breaks_flag net low high zs) (flag_breaks net low high zs))
+    subst (λ (ys : List ℤ). Tells (word_of o.terms values o.id) (Breaks (List ℤ) (system_of net) low high ys)) e
+    (tells_by (word_of o.terms values o.id) (Breaks (List ℤ) (system_of net) low high zs) (breaks_from net false (zeros (length net.next)) zs && all_in_range low high true zs) g.word (breaks_flag net low high zs) (flag_breaks net low high zs))
 
 -- a list of one number is known by its length
 pub same_items : (n : ℕ) (xs : List ℕ) (k : ℕ) → length xs ≡ k → ((j : ℕ) → j < length xs → slice_index xs j ≡ n) → xs ≡ replicate k n
@@ -337,31 +390,50 @@ same_items n [] (suc k) e h = absurd (omega arith)
 same_items n (x ∷ xs) zero e h = absurd (omega arith)
 same_items n (x ∷ xs) (suc k) e h = ap (λ (ys : List ℕ). x ∷ ys) (same_items n xs k (omega arith) (λ j p. h (suc j) (omega arith))) ∙ ap (λ (y : ℕ). y ∷ replicate k n) (h 0 (omega arith))
 
-pub overflow_inputs : (net : Net) (low high : ℤ) (samples : ℕ) → IsNetlist net → low ≤ℤ hi (width net.format) → lo (width net.format) ≤ℤ high → (overflow_of net low high samples).terms.inputs ≡ replicate samples (width net.format)
-overflow_inputs net low high samples net_ l h =
-    let none = goal_stands net low high samples [] net_ l h (λ j p. pow_pos (width net.format)) in
-    same_items (width net.format) (overflow_of net low high samples).terms.inputs samples none.count none.widths
+pub overflow_inputs : (net : Net) (low high : ℤ) (samples : ℕ) (facts : List Fact) → IsNetlist net → low ≤ℤ hi (width net.format) → lo (width net.format) ≤ℤ high → AreFacts net low high samples facts
+    → (overflow_with net low high samples facts).terms.inputs ≡ replicate samples (width net.format)
+overflow_inputs net low high samples facts net_ l h a =
+    let none = goal_stands net low high samples facts [] net_ l h a (λ j p. pow_pos (width net.format)) in
+    same_items (width net.format) (overflow_with net low high samples facts).terms.inputs samples none.count none.widths
 
 -- ---- as the code has it
 pub record AreStarted (net : Net) (registers : List TermId) (i : InputTerms) (t : TermsView) (nought : TermId) : Type 0 where
   pub ready : AreRunReady net registers i.ids t nought
-  pub bits : AreBits t i.tests
+  pub known : IsNetlist net → let start : RunTerms = record { terms = t; registers = registers; broken = nought } in AreKnown (run_from net i.ids start).terms nought i.tests
+  pub tested : IsNetlist net → let start : RunTerms = record { terms = t; registers = registers; broken = nought } in AreTested (run_from net i.ids start).terms (run_tests net i.ids start)
 
-pub started : (net : Net) (low high : ℤ) (samples : ℕ) (registers : List TermId) (i : InputTerms) (t : TermsView) (nought : TermId) → low ≤ℤ hi (width net.format) → lo (width net.format) ≤ℤ high
+started : (net : Net) (low high : ℤ) (samples : ℕ) (registers : List TermId) (i : InputTerms) (t : TermsView) (nought : TermId) → low ≤ℤ hi (width net.format) → lo (width net.format) ≤ℤ high
     → i ≡ inputs_from (width net.format) low high samples (record { terms = no_terms; ids = []; tests = [] }) → built_of t nought ≡ with_node i.terms (Constant 1 0) → registers ≡ replicate (length net.next) nought → AreStarted net registers i t nought
 started net low high samples registers i t nought l h e b r =
     let first = inputs_from (width net.format) low high samples (record { terms = no_terms; ids = []; tests = [] }) in
     let s = starts_by net [] low high samples first (inputs_of net [] low high samples l h (λ j p. pow_pos (width net.format))) in
-    let one : AreStarted net (replicate (length net.next) (with_node first.terms (Constant 1 0)).id) first (with_node first.terms (Constant 1 0)).terms (with_node first.terms (Constant 1 0)).id = record { ready = s.ready; bits = s.bits } in
+    let u = with_node first.terms (Constant 1 0) in
+    let start : RunTerms = record { terms = u.terms; registers = replicate (length net.next) u.id; broken = u.id } in
+    let one : AreStarted net (replicate (length net.next) u.id) first u.terms u.id = record {
+      ready = s.ready;
+      known = λ n. let f = starts_follow net [] low high samples first u.terms u.id n s in first_known net first u.terms u.id (run_from net first.ids start) s.ready s.flag s.bits f.ready.sound f.kept;
+      tested = λ n. record { stand = (starts_holds net [] low high samples first u.terms u.id n s).stand };
+    } in
     let two = subst (λ (j : InputTerms). AreStarted net (replicate (length net.next) (with_node j.terms (Constant 1 0)).id) j (with_node j.terms (Constant 1 0)).terms (with_node j.terms (Constant 1 0)).id) (sym e) one in
-    let three = subst (λ (u : Built). AreStarted net (replicate (length net.next) u.id) i u.terms u.id) (sym b) two in
+    let three = subst (λ (v : Built). AreStarted net (replicate (length net.next) v.id) i v.terms v.id) (sym b) two in
     subst (λ (ids : List TermId). AreStarted net ids i t nought) (sym r) three
 
-pub made_tells : (net : Net) (low high : ℤ) (samples : ℕ) (t : TermsView) (root : TermId) (values : List ℕ) → built_of t root ≡ overflow_of net low high samples → IsNetlist net → low ≤ℤ hi (width net.format) → lo (width net.format) ≤ℤ high → AreValues t.inputs values
-    → Tells (word_of t values root) (Breaks (List ℤ) (system_of net) low high (spelled_words net.format values))
-made_tells net low high samples t root values e n l h v =
-    let w = subst (λ (g : Built). AreValues g.terms.inputs values) e v in
-    subst (λ (g : Built). Tells (word_of g.terms values g.id) (Breaks (List ℤ) (system_of net) low high (spelled_words net.format values))) (sym e) (overflow_tells net low high samples values n l h w)
+-- from the equations that the code has
+pub started_from : (net : Net) (low high : ℤ) (samples k : ℕ) (f : Format) (none : TermsView) (registers : List TermId) (i : InputTerms) (t : TermsView) (nought : TermId) → low ≤ℤ hi (width net.format) → lo (width net.format) ≤ℤ high
+    → i ≡ inputs_from (width f) low high samples (record { terms = none; ids = []; tests = [] }) → none ≡ no_terms → f ≡ net.format → built_of t nought ≡ with_node i.terms (Constant 1 0) → registers ≡ replicate k nought → k ≡ length net.next
+    → AreStarted net registers i t nought
+started_from net low high samples k f none registers i t nought l h e z g b r c =
+    let from : TermsView → Format → InputTerms = λ n j. inputs_from (width j) low high samples (record { terms = n; ids = []; tests = [] }) in
+    started net low high samples registers i t nought l h (e ∙ (ap (λ (n : TermsView). from n f) z ∙ ap (from no_terms) g)) b (r ∙ ap (λ (j : ℕ). replicate j nought) c)
 
-pub made_inputs : (net : Net) (low high : ℤ) (samples : ℕ) (t : TermsView) (root : TermId) → built_of t root ≡ overflow_of net low high samples → IsNetlist net → low ≤ℤ hi (width net.format) → lo (width net.format) ≤ℤ high → t.inputs ≡ replicate samples (width net.format)
-made_inputs net low high samples t root e n l h = ap (λ (g : Built). g.terms.inputs) e ∙ overflow_inputs net low high samples n l h
+pub made_tells : (net : Net) (low high : ℤ) (samples : ℕ) (t : TermsView) (root : TermId) (values : List ℕ) → built_of t root ≡ overflow_of net low high samples → IsNetlist net → low ≤ℤ hi (width net.format) → lo (width net.format) ≤ℤ high
+    → AreFacts net low high samples (facts_of net low high samples) → AreValues t.inputs values → Tells (word_of t values root) (Breaks (List ℤ) (system_of net) low high (spelled_words net.format values))
+unfolding overflow_of
+made_tells net low high samples t root values e n l h a v =
+    let w = subst (λ (g : Built). AreValues g.terms.inputs values) e v in
+    subst (λ (g : Built). Tells (word_of g.terms values g.id) (Breaks (List ℤ) (system_of net) low high (spelled_words net.format values))) (sym e) (overflow_tells net low high samples (facts_of net low high samples) values n l h a w)
+
+pub made_inputs : (net : Net) (low high : ℤ) (samples : ℕ) (t : TermsView) (root : TermId) → built_of t root ≡ overflow_of net low high samples → IsNetlist net → low ≤ℤ hi (width net.format) → lo (width net.format) ≤ℤ high
+    → AreFacts net low high samples (facts_of net low high samples) → t.inputs ≡ replicate samples (width net.format)
+unfolding overflow_of
+made_inputs net low high samples t root e n l h a = ap (λ (g : Built). g.terms.inputs) e ∙ overflow_inputs net low high samples (facts_of net low high samples) n l h a

@@ -10,15 +10,15 @@ use Rattle.dsv_term.specs.declared.node.TermNode.TheVariants.{Eq, Or, Not, Sext,
 use Rattle.dsv_term.specs.declared.word.Word.{Word}
 use Rattle.dsv_term.specs.Building.{built_of, with_node}
 use Rattle.dsv_term.specs.Growth.{AreSound, Adds}
-use Rattle.dsv_term.specs.Terms.{width_of, word_of}
+use Rattle.dsv_term.specs.Terms.{KeepsTerms, width_of, word_of}
 use Rattle.dsv_term.specs.TermsView.{TermsView}
 use Rattle.dsv_term.specs.Word.{residue, signed_of, bit_of, same_of, or_of, complement_of, extended_of, extract_of}
 use Rattle.dsv_term.proofs.Words.{residue_fits}
 use Rattle.dsv_term.proofs.Made.{KeepsTerms-both}
 use Rattle.dsv_term.proofs.Building.{Adds-none, later, extension_gives, same_gives, complement_gives, or_gives, extract_gives}
 use Rattle.dsv_term.proofs.Complement.{IsSpelled, spelled, wider_spelled, signed-spelled, signed_reads, low-spelled, same-spelled, apart-spelled, or-bits, complement-bit}
-use Rattle.dsv_unroll.specs.Ready.{IsValue}
-use Rattle.dsv_unroll.specs.Rules.{Unrolled, unrolled_of, cut_term}
+use Rattle.dsv_unroll.specs.Ready.{IsValue, HasBits}
+use Rattle.dsv_unroll.specs.Rules.{CutTerms, cut_terms, Unrolled, unrolled_of, cut_term}
 use Rattle.dsv_unroll.proofs.RuleTerms.{Spells}
 
 -- z is no word of n bits
@@ -66,18 +66,23 @@ back_same n w z p l h = by (is_outside n z) refl
         (λ same. let s = spelled_inside n z (subst (IsSpelled n) same r.fits) in absurd (let c : true ≡ false = sym e ∙ s in cc))
 
 -- ---- a term that is cut
-pub record Fits (t : TermsView) (of : TermId) (n : ℕ) (broken : TermId) (u : Unrolled) : Type 0 where
-  pub adds : Adds t u.terms u.id (width_of u.terms u.id)
-  pub narrow : width_of u.terms u.id ≤ 79
-  pub flag_stands : u.broken.0 < length u.terms.nodes
-  pub flag_bit : width_of u.terms u.broken ≡ 1
-  pub value : (values : List ℕ) (z : ℤ) → Spells t values of (width_of t of) z → is_outside n z ≡ false → Spells u.terms values u.id (width_of u.terms u.id) z
-  pub flag : (values : List ℕ) (z : ℤ) (b : Bool) → Spells t values of (width_of t of) z → word_of t values broken ≡ bit_of b → word_of u.terms values u.broken ≡ bit_of (b || is_outside n z)
-  pub stays : (values : List ℕ) → word_of t values broken ≡ bit_of true → word_of u.terms values u.broken ≡ bit_of true
+-- what the low bits of a term and its test say
+pub record CutGives (t : TermsView) (of : TermId) (n : ℕ) (c : CutTerms) : Type 0 where
+  pub sound : AreSound c.terms
+  pub inputs : c.terms.inputs ≡ t.inputs
+  pub kept : KeepsTerms t c.terms
+  pub word_bits : HasBits c.terms c.word n
+  pub is_word_bit : HasBits c.terms c.tested.is_word 1
+  pub outside_bit : HasBits c.terms c.tested.outside 1
+  pub word : (values : List ℕ) (z : ℤ) → Spells t values of (width_of t of) z → word_of c.terms values c.word ≡ spelled n z
+  pub is_word : (values : List ℕ) (z : ℤ) → Spells t values of (width_of t of) z → word_of c.terms values c.tested.is_word ≡ bit_of (not (is_outside n z))
+  pub outside : (values : List ℕ) (z : ℤ) → Spells t values of (width_of t of) z → word_of c.terms values c.tested.outside ≡ bit_of (is_outside n z)
+  pub truth : List ℕ → Bool
+  pub is_word_truth : (values : List ℕ) → word_of c.terms values c.tested.is_word ≡ bit_of (truth values)
+  pub outside_truth : (values : List ℕ) → word_of c.terms values c.tested.outside ≡ bit_of (not (truth values))
 
-pub cut_fits : (t : TermsView) (of : TermId) (n : ℕ) (broken : TermId) → AreSound t → IsValue t of → 1 ≤ n → n < width_of t of → broken.0 < length t.nodes → width_of t broken ≡ 1
-    → Fits t of n broken (cut_term t n of broken)
-cut_fits t of n broken s v p l fs fb =
+pub cut_gives : (t : TermsView) (of : TermId) (n : ℕ) → AreSound t → IsValue t of → 1 ≤ n → n < width_of t of → CutGives t of n (cut_terms t n of)
+cut_gives t of n s v p l =
     let w = width_of t of in
     let m : n - 1 + 1 - 0 ≡ n = omega arith in
     let a = with_node t (Extract of (n - 1) 0) in
@@ -92,36 +97,59 @@ cut_fits t of n broken s v p l fs fb =
     let d = with_node c.terms (Not c.id) in
     let gd = complement_gives c.terms c.id gc.adds.sound gc.adds.stands in
     let kcd = KeepsTerms-both b.terms c.terms d.terms gc.adds.kept gd.adds.kept in
-    let kd = KeepsTerms-both t b.terms d.terms kb kcd in
-    let ld = later t d.terms broken kd fs in
-    let e = with_node d.terms (Or broken d.id) in
-    let ge = or_gives d.terms broken d.id gd.adds.sound ld.stands gd.adds.stands (ld.width ∙ (fb ∙ sym (gd.adds.width ∙ gc.adds.width))) in
-    let ke = KeepsTerms-both t d.terms e.terms kd ge.adds.kept in
-    let kae = KeepsTerms-both a.terms b.terms e.terms gb.adds.kept (KeepsTerms-both b.terms d.terms e.terms kcd ge.adds.kept) in
-    let la = later a.terms e.terms a.id kae ga.adds.stands in
-    let other : (values : List ℕ) → word_of d.terms values d.id ≡ complement_of (same_of (word_of b.terms values b.id) (word_of b.terms values of)) = λ values. gd.word values ∙ ap complement_of (gc.word values) in
+    let la = later a.terms d.terms a.id (KeepsTerms-both a.terms b.terms d.terms gb.adds.kept kcd) ga.adds.stands in
+    let lc = later c.terms d.terms c.id gd.adds.kept gc.adds.stands in
+    let low : (values : List ℕ) (z : ℤ) → Spells t values of w z → word_of a.terms values a.id ≡ spelled n z = λ values z q. ga.word values ∙ (ap (extract_of (n - 1) 0) q.word ∙ low-spelled n w z p (omega arith)) in
+    let same : (values : List ℕ) (z : ℤ) → Spells t values of w z → word_of c.terms values c.id ≡ bit_of (not (is_outside n z)) = λ values z q.
+    let back : word_of b.terms values b.id ≡ extended_of w (spelled n z) = gb.word values ∙ ap (extended_of w) (low values z q) in
+    let orig : word_of b.terms values of ≡ spelled w z = lb.word values ∙ q.word in
+    gc.word values ∙ (ap (λ (i : Word). same_of i (word_of b.terms values of)) back ∙ (ap (same_of (extended_of w (spelled n z))) orig ∙ back_same n w z p (omega arith) q.fits)) in
+    let r : List ℕ → Bool = λ values. (word_of b.terms values b.id).number == (word_of b.terms values of).number in
     record {
-      adds = record { sound = ge.adds.sound; inputs = ge.adds.inputs ∙ (gd.adds.inputs ∙ (gc.adds.inputs ∙ (gb.adds.inputs ∙ ga.adds.inputs))); kept = ke; stands = la.stands; width = refl };
-      narrow = omega (arith, la.width, v.narrow);
+      sound = gd.adds.sound;
+      inputs = gd.adds.inputs ∙ (gc.adds.inputs ∙ (gb.adds.inputs ∙ ga.adds.inputs));
+      kept = KeepsTerms-both t b.terms d.terms kb kcd;
+      word_bits = record { stands = la.stands; width = la.width ∙ wa };
+      is_word_bit = record { stands = lc.stands; width = lc.width ∙ gc.adds.width };
+      outside_bit = record { stands = gd.adds.stands; width = gd.adds.width ∙ gc.adds.width };
+      word = λ values z q. la.word values ∙ low values z q;
+      is_word = λ values z q. lc.word values ∙ same values z q;
+      outside = λ values z q. gd.word values ∙ (ap complement_of (same values z q) ∙ (complement-bit (not (is_outside n z)) ∙ ap bit_of (not_twice (is_outside n z))));
+      truth = r;
+      is_word_truth = λ values. lc.word values ∙ gc.word values;
+      outside_truth = λ values. gd.word values ∙ (ap complement_of (gc.word values) ∙ complement-bit (r values));
+    }
+
+pub record Fits (t : TermsView) (of : TermId) (n : ℕ) (broken : TermId) (u : Unrolled) : Type 0 where
+  pub adds : Adds t u.terms u.id (width_of u.terms u.id)
+  pub narrow : width_of u.terms u.id ≤ 79
+  pub flag_stands : u.broken.0 < length u.terms.nodes
+  pub flag_bit : width_of u.terms u.broken ≡ 1
+  pub value : (values : List ℕ) (z : ℤ) → Spells t values of (width_of t of) z → is_outside n z ≡ false → Spells u.terms values u.id (width_of u.terms u.id) z
+  pub flag : (values : List ℕ) (z : ℤ) (b : Bool) → Spells t values of (width_of t of) z → word_of t values broken ≡ bit_of b → word_of u.terms values u.broken ≡ bit_of (b || is_outside n z)
+  pub stays : (values : List ℕ) → word_of t values broken ≡ bit_of true → word_of u.terms values u.broken ≡ bit_of true
+
+pub cut_fits : (t : TermsView) (of : TermId) (n : ℕ) (broken : TermId) → AreSound t → IsValue t of → 1 ≤ n → n < width_of t of → broken.0 < length t.nodes → width_of t broken ≡ 1
+    → Fits t of n broken (cut_term t n of broken)
+cut_fits t of n broken s v p l fs fb =
+    let c = cut_terms t n of in
+    let g = cut_gives t of n s v p l in
+    let ld = later t c.terms broken g.kept fs in
+    let e = with_node c.terms (Or broken c.tested.outside) in
+    let ge = or_gives c.terms broken c.tested.outside g.sound ld.stands g.outside_bit.stands (ld.width ∙ (fb ∙ sym g.outside_bit.width)) in
+    let lw = later c.terms e.terms c.word ge.adds.kept g.word_bits.stands in
+    record {
+      adds = record { sound = ge.adds.sound; inputs = ge.adds.inputs ∙ g.inputs; kept = KeepsTerms-both t c.terms e.terms g.kept ge.adds.kept; stands = lw.stands; width = refl };
+      narrow = omega (arith, lw.width, g.word_bits.width, v.narrow);
       flag_stands = ge.adds.stands;
       flag_bit = ge.adds.width ∙ (ld.width ∙ fb);
       value = λ values z q i.
-          let f = inside_spelled n z i in
-          let ww : word_of e.terms values a.id ≡ spelled n z = la.word values ∙ (ga.word values ∙ (ap (extract_of (n - 1) 0) q.word ∙ low-spelled n w z p (omega arith))) in
-          let k : n ≡ width_of e.terms a.id = sym (la.width ∙ wa) in
-          subst (λ (i : ℕ). Spells e.terms values a.id i z) k (record { word = ww; fits = f });
-      flag = λ values z x q g.
-          let low : word_of a.terms values a.id ≡ spelled n z = ga.word values ∙ (ap (extract_of (n - 1) 0) q.word ∙ low-spelled n w z p (omega arith)) in
-          let back : word_of b.terms values b.id ≡ extended_of w (spelled n z) = gb.word values ∙ ap (extended_of w) low in
-          let orig : word_of b.terms values of ≡ spelled w z = lb.word values ∙ q.word in
-          let eq : same_of (word_of b.terms values b.id) (word_of b.terms values of) ≡ bit_of (not (is_outside n z)) =
-          ap (λ (i : Word). same_of i (word_of b.terms values of)) back ∙ (ap (same_of (extended_of w (spelled n z))) orig ∙ back_same n w z p (omega arith) q.fits) in
-          let od : word_of d.terms values d.id ≡ bit_of (is_outside n z) = other values ∙ (ap complement_of eq ∙ (complement-bit (not (is_outside n z)) ∙ ap bit_of (not_twice (is_outside n z)))) in
-          ge.word values ∙ (ap (λ (i : Word). or_of i (word_of d.terms values d.id)) (ld.word values ∙ g) ∙ (ap (or_of (bit_of x)) od ∙ or-bits x (is_outside n z)));
-      stays = λ values g.
-          let r : Bool = (word_of b.terms values b.id).number == (word_of b.terms values of).number in
-          let od : word_of d.terms values d.id ≡ bit_of (not r) = other values ∙ complement-bit r in
-          ge.word values ∙ (ap (λ (i : Word). or_of i (word_of d.terms values d.id)) (ld.word values ∙ g) ∙ (ap (or_of (bit_of true)) od ∙ or-bits true (not r)));
+          let k : n ≡ width_of e.terms c.word = sym (lw.width ∙ g.word_bits.width) in
+          subst (λ (j : ℕ). Spells e.terms values c.word j z) k (record { word = lw.word values ∙ g.word values z q; fits = inside_spelled n z i });
+      flag = λ values z x q f.
+          ge.word values ∙ (ap (λ (i : Word). or_of i (word_of c.terms values c.tested.outside)) (ld.word values ∙ f) ∙ (ap (or_of (bit_of x)) (g.outside values z q) ∙ or-bits x (is_outside n z)));
+      stays = λ values f.
+          ge.word values ∙ (ap (λ (i : Word). or_of i (word_of c.terms values c.tested.outside)) (ld.word values ∙ f) ∙ (ap (or_of (bit_of true)) (g.outside_truth values) ∙ or-bits true (not (g.truth values))));
     }
 
 -- ---- a term that is a word already

@@ -1,5 +1,6 @@
 -- The inputs of a goal spell words, and the tests say whether these are in range.
 use Rattle.std.proofs.Common.{◌≡◌, ℕ, zero, suc, ◌+◌, ◌^◌, ◌<◌, ◌≤◌, Bool, true, false, ◌&&◌, inl, inr, List, [], ◌∷◌, ◌++◌, refl, arith, ap, sym, subst, ◌∙◌, length, get_or}
+use Rattle.std.specs.Int.Bits.{and_zero_l}
 use Rattle.std.specs.Prelude.{int_lt, int_le, if◌then◌else◌, slice_index, ◌<ℤ◌, ◌≤ℤ◌}
 use Rattle.std.proofs.Math.IntN.{ℤ, pos}
 use Rattle.std.proofs.lemmas.Int.{ints}
@@ -86,10 +87,10 @@ untested : (values : List ℕ) (t : TermsView) (tests : List TermId) (q c : Bool
 untested values t tests q c s b m e =
     record { sound = s; same = refl; kept = KeepsTerms-self t; bits = b; mean = subst (TestsMean t values tests) (and_true q ∙ ap (λ (d : Bool). q && d) (sym e)) m }
 
-bits_push : (t : TermsView) (tests : List TermId) (id : TermId) → AreBits t tests → HasBits t id 1 → AreBits t (tests ++ id ∷ [])
+pub bits_push : (t : TermsView) (tests : List TermId) (id : TermId) → AreBits t tests → HasBits t id 1 → AreBits t (tests ++ id ∷ [])
 bits_push t tests id b h = record { stand = all_more (λ (j : TermId). HasBits t j 1) tests id b.stand h }
 
-at_most : (a b : ℤ) → a ≤ℤ b → int_le a b ≡ true
+pub at_most : (a b : ℤ) → a ≤ℤ b → int_le a b ≡ true
 at_most a b h = grind (arith, ints)
 
 not_less : (a b : ℤ) → int_lt a b ≡ false → b ≤ℤ a
@@ -249,10 +250,12 @@ pub record Joins (values : List ℕ) (t : TermsView) (b : Built) (q : Bool) : Ty
   pub bit : HasBits b.terms b.id 1
   pub word : word_of b.terms values b.id ≡ bit_of q
   pub inputs : b.terms.inputs ≡ t.inputs
+  pub sound : AreSound b.terms
+  pub kept : KeepsTerms t b.terms
 
 pub conjunction_joins : (values : List ℕ) (t : TermsView) (first : TermId) (tests : List TermId) (truths : List Bool) (b : Bool) → AreSound t → HasBits t first 1 → word_of t values first ≡ bit_of b → AreBits t tests → length truths ≡ length tests
     → ((i : ℕ) → i < length tests → word_of t values (term_at tests i) ≡ bit_of (get_or truths i false)) → Joins values t (conjunction_from (built_of t first) tests) (joined b truths)
-conjunction_joins values t first [] [] b s h w bs c e = record { bit = h; word = w; inputs = refl }
+conjunction_joins values t first [] [] b s h w bs c e = record { bit = h; word = w; inputs = refl; sound = s; kept = KeepsTerms-self t }
 conjunction_joins values t first [] (d ∷ ds) b s h w bs c e = absurd (omega arith)
 conjunction_joins values t first (i ∷ is) [] b s h w bs c e = absurd (omega arith)
 conjunction_joins values t first (i ∷ is) (d ∷ ds) b s h w bs c e =
@@ -264,4 +267,31 @@ conjunction_joins values t first (i ∷ is) (d ∷ ds) b s h w bs c e =
     let later_ = λ (k : ℕ) (p : k < length is). (bits_kept t u.terms (term_at is k) 1 g.adds.kept (bs.stand (suc k) (omega arith))) in
     let rest = conjunction_joins values u.terms u.id is ds (b && d) g.adds.sound (record { stands = g.adds.stands; width = g.adds.width ∙ h.width }) word (record { stand = later_ }) (omega arith)
     (λ k p. g.adds.kept.words values (term_at is k) (bs.stand (suc k) (omega arith)).stands ∙ e (suc k) (omega arith)) in
-    record { bit = rest.bit; word = rest.word; inputs = rest.inputs ∙ g.adds.inputs }
+    record { bit = rest.bit; word = rest.word; inputs = rest.inputs ∙ g.adds.inputs; sound = rest.sound; kept = KeepsTerms-both t u.terms _ g.adds.kept rest.kept }
+
+-- a bit that is 0 makes all of them 0
+no_bit : (w : Word) → and_of (bit_of false) w ≡ bit_of false
+no_bit w = ap (λ (m : ℕ). record { width = 1; number = m }) (and_zero_l w.number)
+
+kept_by : (b : Bool) (w : Word) → (b ≡ true → w ≡ bit_of true) → and_of (bit_of b) w ≡ bit_of b
+kept_by true w h = ap (and_of (bit_of true)) (h refl) ∙ and-bits true true
+kept_by false w h = no_bit w
+
+-- a bit stays the same with tests that are all 1 where it is
+pub conjunction_keeps : (values : List ℕ) (t : TermsView) (first : TermId) (tests : List TermId) (b : Bool) → AreSound t → HasBits t first 1 → word_of t values first ≡ bit_of b → AreBits t tests
+    → (b ≡ true → (i : ℕ) → i < length tests → word_of t values (term_at tests i) ≡ bit_of true) → Joins values t (conjunction_from (built_of t first) tests) b
+conjunction_keeps values t first [] b s h w bs e = record { bit = h; word = w; inputs = refl; sound = s; kept = KeepsTerms-self t }
+conjunction_keeps values t first (i ∷ is) b s h w bs e =
+    let hi_ = bs.stand 0 (omega arith) in
+    let g = and_gives t first i s h.stands hi_.stands (h.width ∙ sym hi_.width) in
+    let u = with_node t (And first i) in
+    let word : word_of u.terms values u.id ≡ bit_of b = g.word values ∙ (ap (λ (v : Word). and_of v (word_of t values i)) w ∙ kept_by b (word_of t values i) (λ q. e q 0 (omega arith))) in
+    let later_ = λ (k : ℕ) (p : k < length is). (bits_kept t u.terms (term_at is k) 1 g.adds.kept (bs.stand (suc k) (omega arith))) in
+    let rest = conjunction_keeps values u.terms u.id is b g.adds.sound (record { stands = g.adds.stands; width = g.adds.width ∙ h.width }) word (record { stand = later_ })
+    (λ q k p. g.adds.kept.words values (term_at is k) (bs.stand (suc k) (omega arith)).stands ∙ e q (suc k) (omega arith)) in
+    record { bit = rest.bit; word = rest.word; inputs = rest.inputs ∙ g.adds.inputs; sound = rest.sound; kept = KeepsTerms-both t u.terms _ g.adds.kept rest.kept }
+
+-- first some tests, and then others
+pub conjunction_from-both : (b : Built) (xs ys : List TermId) → conjunction_from b (xs ++ ys) ≡ conjunction_from (conjunction_from b xs) ys
+conjunction_from-both b [] ys = refl
+conjunction_from-both b (x ∷ xs) ys = conjunction_from-both (with_node b.terms (And b.id x)) xs ys

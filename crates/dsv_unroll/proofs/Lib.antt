@@ -4,6 +4,7 @@ pub mod CycleRuns
 pub mod CycleSteps
 pub mod CycleTerms
 pub mod Cycling
+pub mod FactTerms
 pub mod FaithfulTerms
 pub mod FitTerms
 pub mod Follows
@@ -15,4 +16,5 @@ pub mod RuleTerms
 pub mod Runs
 pub mod SampleSteps
 pub mod Samples
+pub mod TestedTerms
 pub mod ValueTerms

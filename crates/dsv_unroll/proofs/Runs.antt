@@ -41,7 +41,7 @@ or_none : (a : Bool) → (a || false) ≡ a
 or_none true = refl
 or_none false = refl
 
-flag_exact : (f : Format) (vals : List ℤ) (n : Node) → node_flag fit_rule.Tested (width f) vals n ≡ any_outside f (node_exact vals n)
+pub flag_exact : (f : Format) (vals : List ℤ) (n : Node) → node_flag fit_rule.Tested (width f) vals n ≡ any_outside f (node_exact vals n)
 flag_exact f vals node.Input = refl
 flag_exact f vals (node.Reg k) = refl
 flag_exact f vals (node.MulConst c i) = refl
@@ -119,15 +119,15 @@ pub record RunFollows (net : Net) (values : List ℕ) (t : TermsView) (r : RunTe
   pub ready : AreRunReady net r.registers [] r.terms r.broken
 
 -- what stands after one sample
-record AfterSample (net : Net) (values : List ℕ) (t : TermsView) (r : RunTerms) (xs : List TermId) (zs : List ℤ) (rs : List ℤ) (b : Bool) : Type 0 where
-  ready : AreRunReady net r.registers xs r.terms r.broken
-  flag : word_of r.terms values r.broken ≡ bit_of b
-  registers : b ≡ false → RegistersMean r.terms values r.registers rs
-  inputs : InputsMean net.format r.terms values xs zs
-  kept : KeepsTerms t r.terms
-  same : r.terms.inputs ≡ t.inputs
+pub record AfterSample (net : Net) (values : List ℕ) (t : TermsView) (r : RunTerms) (xs : List TermId) (zs : List ℤ) (rs : List ℤ) (b : Bool) : Type 0 where
+  pub ready : AreRunReady net r.registers xs r.terms r.broken
+  pub flag : word_of r.terms values r.broken ≡ bit_of b
+  pub registers : b ≡ false → RegistersMean r.terms values r.registers rs
+  pub inputs : InputsMean net.format r.terms values xs zs
+  pub kept : KeepsTerms t r.terms
+  pub same : r.terms.inputs ≡ t.inputs
 
-after_sample : (net : Net) (values : List ℕ) (r : RunTerms) (x : TermId) (xs : List TermId) (z : ℤ) (zs : List ℤ) (rs : List ℤ) (b : Bool) → IsNetlist net → AreWords net rs z → AreRunReady net r.registers (x ∷ xs) r.terms r.broken
+pub after_sample : (net : Net) (values : List ℕ) (r : RunTerms) (x : TermId) (xs : List TermId) (z : ℤ) (zs : List ℤ) (rs : List ℤ) (b : Bool) → IsNetlist net → AreWords net rs z → AreRunReady net r.registers (x ∷ xs) r.terms r.broken
     → word_of r.terms values r.broken ≡ bit_of b → (b ≡ false → RegistersMean r.terms values r.registers rs) → InputsMean net.format r.terms values (x ∷ xs) (z ∷ zs)
     → AfterSample net values r.terms (with_sample net r x) xs zs (step_of net rs z).past (b || any_outside net.format (step_of net rs z).exact)
 after_sample net values r x xs z zs rs b h w ready g m i =

@@ -1,9 +1,9 @@
 -- One node more of a sample, and one register more after it, as the loops have them.
-use Rattle.std.proofs.Common.{◌≡◌, ℕ, zero, suc, ◌+◌, ◌-◌, ◌<◌, List, [], ◌∷◌, ◌++◌, Some, arith, rules, ap, sym, subst, ◌∙◌, length, get_or, drop, take, map}
+use Rattle.std.proofs.Common.{◌≡◌, ℕ, zero, suc, ◌+◌, ◌-◌, ◌<◌, List, [], ◌∷◌, ◌++◌, Option, Some, arith, rules, ap, sym, subst, ◌∙◌, length, get_or, drop, take, map}
 use Rattle.std.specs.Prelude.{slice_get, slice_index, IsTrue}
 use Rattle.std.specs.List.{All}
 use Rattle.std.proofs.Math.IntN.{ℤ}
-use Rattle.std.proofs.lemmas.List.{drop_more, length_push, take_more, map_push, length-map, get_or-map}
+use Rattle.std.proofs.lemmas.List.{drop_more, length_push, take_more, map_push, length-map, get_or-map, append_assoc}
 use Rattle.std.proofs.lemmas.List.Elements.{All-weaker, All-get_or}
 use Rattle.dsv_netlist.specs.declared.node.Node.{Node}
 use Rattle.dsv_netlist.specs.declared.node.Node.TheVariants as node
@@ -14,14 +14,15 @@ use Rattle.dsv_term.specs.declared.node.TermId.{TermId}
 use Rattle.dsv_term.specs.Terms.{KeepsTerms}
 use Rattle.dsv_term.specs.TermsView.{TermsView}
 use Rattle.dsv_term.proofs.Made.{KeepsTerms-both}
+use Rattle.dsv_unroll.specs.declared.fitting.TestedTerm.{TestedTerm}
 use Rattle.dsv_unroll.specs.declared.rules.FitRule.{FitRule}
-use Rattle.dsv_unroll.specs.Goals.{SampleTerms, nodes_from, RunTerms, run_from, sample_terms, InputTerms, inputs_from, with_input, conjunction_from}
+use Rattle.dsv_unroll.specs.Goals.{SampleTerms, nodes_from, tests_from, RunTerms, run_from, run_tests, sample_terms, sample_tests, InputTerms, inputs_from, with_input, conjunction_from}
 use Rattle.dsv_term.specs.declared.node.TermNode.TheVariants.{And}
 use Rattle.dsv_term.specs.Building.{Built, built_of, with_node}
 use Rattle.dsv_unroll.specs.declared.rules.FitRule.TheVariants as fit_rule
-use Rattle.dsv_unroll.specs.Ready.{IsValue, AreReady, AreRunReady, AreBits}
+use Rattle.dsv_unroll.specs.Ready.{IsValue, AreReady, AreRunReady, AreBits, fit_tests}
 use Rattle.dsv_unroll.proofs.RuleTerms.{value_later}
-use Rattle.dsv_unroll.specs.Rules.{Unrolled, node_term, term_at}
+use Rattle.dsv_unroll.specs.Rules.{Unrolled, node_term, node_tests, term_at}
 use Rattle.dsv_unroll.proofs.NodeTerms.{names-at, reads-at, NodeAdds, node_adds, ready_with}
 
 pub got : {A : Type 0} (xs : List A) (i : ℕ) (d a : A) → slice_get xs i ≡ Some a → get_or xs i d ≡ a
@@ -148,3 +149,41 @@ pub joined_step : (tests : List TermId) (i : ℕ) (t u : TermsView) (all now : T
 joined_step tests i t u all now start l h b =
     let d = drop_more tests i (record { 0 = 0 }) l in
     ap (λ (q : Built). conjunction_from q (drop (i + 1) tests)) b ∙ (ap (conjunction_from (built_of t all)) (sym d) ∙ h)
+
+-- ---- tests of exact values
+pub entry_step : (rule : FitRule) (net : Net) (registers : List TermId) (x : TermId) (i : ℕ) (t : TermsView) (ids : List TermId) (broken : TermId) (start : List (Option TestedTerm)) (n : Node) (u : Unrolled) (seen now : List TermId)
+    (old new : List (Option TestedTerm)) (entry : Option TestedTerm) → i < length net.nodes → slice_get net.nodes i ≡ Some n → seen ≡ ids → u ≡ node_term rule net registers x t seen broken n → now ≡ ids ++ u.id ∷ []
+    → old ++ tests_from rule net registers x (drop i net.nodes) (record { terms = t; ids = ids; broken = broken }) ≡ start → fit_tests n entry ≡ node_tests rule net.format t seen n → new ≡ old ++ fit_tests n entry
+    → new ++ tests_from rule net registers x (drop (i + 1) net.nodes) (record { terms = u.terms; ids = now; broken = u.broken }) ≡ start
+entry_step rule net registers x i t ids broken start n u seen now old new entry l e g b p h m a =
+    let q : SampleTerms = record { terms = t; ids = ids; broken = broken } in
+    let tests : List TermId → List (Option TestedTerm) = λ js. node_tests rule net.format t js n in
+    let rest : List TermId → Unrolled → List (Option TestedTerm) = λ js v. tests_from rule net registers x (drop (i + 1) net.nodes) (record { terms = v.terms; ids = js; broken = v.broken }) in
+    let made = node_term rule net registers x t ids broken n in
+    let b2 : u ≡ made = b ∙ ap (λ (js : List TermId). node_term rule net registers x t js broken n) g in
+    let a2 : new ≡ old ++ tests ids = a ∙ ap (λ (ys : List (Option TestedTerm)). old ++ ys) (m ∙ ap tests g) in
+    let d : drop i net.nodes ≡ n ∷ drop (i + 1) net.nodes = drop_more net.nodes i node.Input l ∙ ap (λ (o : Node). o ∷ drop (i + 1) net.nodes) (got net.nodes i node.Input n e) in
+    ap (λ (js : List TermId). new ++ rest js u) p
+    ∙ (ap (λ (v : Unrolled). new ++ rest (ids ++ v.id ∷ []) v) b2
+    ∙ (ap (λ (ys : List (Option TestedTerm)). ys ++ rest (ids ++ made.id ∷ []) made) a2
+    ∙ (append_assoc old (tests ids) (rest (ids ++ made.id ∷ []) made)
+    ∙ (ap (λ (ns : List Node). old ++ tests_from rule net registers x ns q) (sym d) ∙ h))))
+
+pub tests_step : (net : Net) (xs : List TermId) (i : ℕ) (x : TermId) (t : TermsView) (registers seen : List TermId) (broken : TermId) (start : List (Option TestedTerm)) (s : SampleTerms) (shown next : List TermId) (old new more : List (Option TestedTerm))
+    → i < length xs → x ≡ term_at xs i → old ++ run_tests net (drop i xs) (record { terms = t; registers = registers; broken = broken }) ≡ start → seen ≡ registers → s ≡ sample_terms fit_rule.Tested net seen x t broken
+    → shown ≡ s.ids → next ≡ map (term_at shown) net.next → more ≡ sample_tests fit_rule.Tested net seen x t broken → new ≡ old ++ more
+    → new ++ run_tests net (drop (i + 1) xs) (record { terms = s.terms; registers = next; broken = s.broken }) ≡ start
+tests_step net xs i x t registers seen broken start s shown next old new more l e h g b v n m a =
+    let q : RunTerms = record { terms = t; registers = registers; broken = broken } in
+    let tests : List TermId → List (Option TestedTerm) = λ js. sample_tests fit_rule.Tested net js x t broken in
+    let rest : List TermId → SampleTerms → List (Option TestedTerm) = λ js w. run_tests net (drop (i + 1) xs) (record { terms = w.terms; registers = js; broken = w.broken }) in
+    let made = sample_terms fit_rule.Tested net registers x t broken in
+    let d : drop i xs ≡ x ∷ drop (i + 1) xs = drop_more xs i (record { 0 = 0 }) l ∙ ap (λ (y : TermId). y ∷ drop (i + 1) xs) (sym e) in
+    let n2 : next ≡ map (term_at s.ids) net.next = n ∙ ap (λ (js : List TermId). map (term_at js) net.next) v in
+    let b2 : s ≡ made = b ∙ ap (λ (js : List TermId). sample_terms fit_rule.Tested net js x t broken) g in
+    let a2 : new ≡ old ++ tests registers = a ∙ ap (λ (ys : List (Option TestedTerm)). old ++ ys) (m ∙ ap tests g) in
+    ap (λ (js : List TermId). new ++ rest js s) n2
+    ∙ (ap (λ (w : SampleTerms). new ++ rest (map (term_at w.ids) net.next) w) b2
+    ∙ (ap (λ (ys : List (Option TestedTerm)). ys ++ rest (map (term_at made.ids) net.next) made) a2
+    ∙ (append_assoc old (tests registers) (rest (map (term_at made.ids) net.next) made)
+    ∙ (ap (λ (ys : List TermId). old ++ run_tests net ys q) (sym d) ∙ h))))

@@ -1,7 +1,7 @@
 -- Whole samples: their terms spell their values, and the flag says whether a value was no word.
 use Rattle.std.proofs.Common.{◌≡◌, ℕ, zero, suc, ◌+◌, ◌<◌, ◌≤◌, Bool, false, ◌||◌, inl, inr, List, [], ◌∷◌, ◌++◌, refl, arith, ap, sym, subst, ◌∙◌, length}
 use Rattle.std.specs.Prelude.{slice_index_or}
-use Rattle.std.specs.List.{All, list_any}
+use Rattle.std.specs.List.{All}
 use Rattle.std.specs.Int.RustNames.{unsigned_abs}
 use Rattle.std.proofs.Math.IntN.{ℤ, pos, ◌*ℤ◌}
 use Rattle.std.proofs.lemmas.List.{get_or_append_left, get_or_push, length_push}
@@ -25,7 +25,6 @@ use Rattle.dsv_unroll.specs.declared.rules.FitRule.{FitRule}
 use Rattle.dsv_unroll.specs.Goals.{SampleTerms, with_node_term, nodes_from, sample_terms}
 use Rattle.dsv_unroll.specs.Ready.{AreReady}
 use Rattle.dsv_unroll.specs.Rules.{Unrolled, term_at, bound_at, node_term}
-use Rattle.dsv_unroll.proofs.FitTerms.{is_outside}
 use Rattle.dsv_unroll.proofs.NodeTerms.{NodeAdds, node_adds, ready_with}
 use Rattle.dsv_unroll.proofs.Follows.{Means, means_later, Follows, NodeMeans, NodeKnown, node_flag, node_means}
 
@@ -51,7 +50,7 @@ names_or m (d ∷ ds) zero c of h e = let k = subst (NamesBelow m) e h.0 in omeg
 names_or m (d ∷ ds) (suc i) c of h e = let k = names_or (m + 1) ds i c of h.1 e in omega (arith, k)
 
 -- the values so far are those of the whole sample
-sample_known : (net : Net) (rs : List ℤ) (x : ℤ) (n : Node) (ns : List Node) (s : Sample) → IsNetlist net → AreWords net rs x → sample_from net.format rs x (n ∷ ns) s ≡ sample_of net.format rs x net.nodes → length s.values < length net.nodes
+pub sample_known : (net : Net) (rs : List ℤ) (x : ℤ) (n : Node) (ns : List Node) (s : Sample) → IsNetlist net → AreWords net rs x → sample_from net.format rs x (n ∷ ns) s ≡ sample_of net.format rs x net.nodes → length s.values < length net.nodes
     → NodeKnown net s.values (node_value net.format rs x s.values n) n
 sample_known net rs x n ns s h w e l =
     let f = net.format in
@@ -81,7 +80,7 @@ pub record SampleFollows (rule : FitRule) (values : List ℕ) (net : Net) (rs : 
   pub kept : KeepsTerms t s.terms
   pub inputs : s.terms.inputs ≡ t.inputs
 
-follows_with : (values : List ℕ) (net : Net) (rs : List ℤ) (x : ℤ) (registers : List TermId) (input : TermId) (t : TermsView) (ids : List TermId) (broken : TermId) (u : Unrolled) (vals : List ℤ) (v : ℤ) (b now : Bool) → AreReady net registers input t ids broken
+pub follows_with : (values : List ℕ) (net : Net) (rs : List ℤ) (x : ℤ) (registers : List TermId) (input : TermId) (t : TermsView) (ids : List TermId) (broken : TermId) (u : Unrolled) (vals : List ℤ) (v : ℤ) (b now : Bool) → AreReady net registers input t ids broken
     → Follows values rs x registers input t ids broken vals b → NodeAdds t u → NodeMeans values u v b now → Follows values rs x registers input u.terms (ids ++ u.id ∷ []) u.broken (vals ++ v ∷ []) now
 follows_with values net rs x registers input t ids broken u vals v b now r f a m =
     record {
@@ -117,7 +116,7 @@ nodes_follow rule values net rs x registers input (n ∷ ns) s q b h w e l bk rd
     record { ready = rest.ready; follows = rest.follows; kept = KeepsTerms-both s.terms u.terms _ a.kept rest.kept; inputs = rest.inputs ∙ a.inputs }
 
 -- ---- a whole sample
-empty_follows : (values : List ℕ) (rs : List ℤ) (x : ℤ) (registers : List TermId) (input : TermId) (t : TermsView) (broken : TermId) (b : Bool) → word_of t values broken ≡ bit_of b
+pub empty_follows : (values : List ℕ) (rs : List ℤ) (x : ℤ) (registers : List TermId) (input : TermId) (t : TermsView) (broken : TermId) (b : Bool) → word_of t values broken ≡ bit_of b
     → (b ≡ false → (k : ℕ) → k < length registers → Means t values (term_at registers k) (at rs k)) → Means t values input x → Follows values rs x registers input t [] broken [] b
 empty_follows values rs x registers input t broken b w m i = record { count = refl; flag = w; nodes = λ e i p. absurd (omega arith); registers_mean = m; input_means = i }
 
@@ -128,7 +127,3 @@ unfolding sample_terms
 sample_follows rule values net rs x registers input t broken b h w r g m i =
     nodes_follow rule values net rs x registers input net.nodes (record { terms = t; ids = []; broken = broken }) (record { values = []; exact = [] }) b h w refl (omega arith) h.backwards (rw r.count h.registers) r
     (empty_follows values rs x registers input t broken b g m i)
-
--- ---- the flag of a sample
-any_outside : Format → List ℤ → Bool
-any_outside f es = list_any (is_outside (width f)) es

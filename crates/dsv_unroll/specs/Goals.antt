@@ -1,19 +1,23 @@
 -- The terms of runs, sample after sample, and the goals over them.
 use Rattle.std.specs.Prelude.{ℕ, zero, suc, ◌-◌, ◌*◌, ◌^◌, max, nat_lt}
 use Rattle.std.specs.Prelude.{if◌then◌else◌, List, [], ◌∷◌, ◌++◌, length, map, replicate}
-use Rattle.std.specs.Prelude.{ℤ, pos, negsuc, int_lt}
+use Rattle.std.specs.Prelude.{Option, ℤ, pos, negsuc, int_lt}
 use Rattle.dsv_word.specs.Words.{width, lo, hi}
 use Rattle.dsv_netlist.specs.declared.node.Node.{Node}
 use Rattle.dsv_netlist.specs.Nodes.{Net}
 use Rattle.dsv_netlist.specs.Counts.{counts_of}
+use Rattle.dsv_linear.specs.declared.fact.Fact.{Fact}
+use Rattle.dsv_linear.specs.Known.{facts_of}
 use Rattle.dsv_term.specs.declared.node.TermId.{TermId}
 use Rattle.dsv_term.specs.declared.node.TermNode.TheVariants.{Constant, Sle, And, Extract}
 use Rattle.dsv_term.specs.Building.{Built, built_of, with_node, with_new_input}
 use Rattle.dsv_term.specs.TermsView.{TermsView}
 use Rattle.dsv_term.specs.Word.{residue}
+use Rattle.dsv_unroll.specs.declared.fitting.TestedTerm.{TestedTerm}
 use Rattle.dsv_unroll.specs.declared.rules.FitRule.{FitRule}
 use Rattle.dsv_unroll.specs.declared.rules.FitRule.TheVariants.{Tested}
-use Rattle.dsv_unroll.specs.Rules.{width_for, node_term, term_at}
+use Rattle.dsv_unroll.specs.FactTests.{facts_from}
+use Rattle.dsv_unroll.specs.Rules.{width_for, node_term, node_tests, term_at}
 
 -- the greatest job that is unrolled
 abbrev pub most_size : ℕ
@@ -49,6 +53,20 @@ unfoldable pub sample_terms : FitRule → Net → List TermId → TermId → Ter
 sample_terms rule net registers x t broken =
     nodes_from rule net registers x net.nodes (record { terms = t; ids = []; broken = broken })
 
+-- the tests of the values that these nodes fit
+abbrev pub tests_from : FitRule → Net → List TermId → TermId → List Node → SampleTerms
+    → List (Option TestedTerm)
+tests_from rule net registers x [] s = []
+tests_from rule net registers x (node ∷ nodes) s =
+    node_tests rule net.format s.terms s.ids node
+    ++ tests_from rule net registers x nodes (with_node_term rule net registers x s node)
+
+-- the tests of one sample, in the order of its exact values
+unfoldable pub sample_tests : FitRule → Net → List TermId → TermId → TermsView → TermId
+    → List (Option TestedTerm)
+sample_tests rule net registers x t broken =
+    tests_from rule net registers x net.nodes (record { terms = t; ids = []; broken = broken })
+
 -- a run so far: terms, those of the registers, and the one that is 1 where a value was no word
 pub record RunTerms : Type 0 where
   pub terms : TermsView
@@ -64,6 +82,13 @@ with_sample net r x =
 abbrev pub run_from : Net → List TermId → RunTerms → RunTerms
 run_from net [] r = r
 run_from net (x ∷ xs) r = run_from net xs (with_sample net r x)
+
+-- the tests of a run, in the order of its exact values
+abbrev pub run_tests : Net → List TermId → RunTerms → List (Option TestedTerm)
+run_tests net [] r = []
+run_tests net (x ∷ xs) r =
+    sample_tests Tested net r.registers x r.terms r.broken
+    ++ run_tests net xs (with_sample net r x)
 
 -- ---- inputs
 -- terms, and the tests so far, each of one bit
@@ -131,17 +156,28 @@ conjunction_from b (test ∷ tests) = conjunction_from (with_node b.terms (And b
 abbrev pub no_terms : TermsView
 no_terms = record { inputs = []; nodes = [] }
 
--- The goal of an overflow: inputs of n bits, the run from registers of zeros, and the root, which
--- is 1 where a value was no word and each test holds. The zero in one bit says at first that no
--- value was outside, too.
-unfoldable pub overflow_of : Net → ℤ → ℤ → ℕ → Built
-overflow_of net low high samples =
+-- The goal of an overflow where these are the facts: inputs of n bits, the run from registers of
+-- zeros, and the root, which is 1 where a value was no word and each test holds. The zero in one
+-- bit says at first that no value was outside, too.
+abbrev pub overflow_with : Net → ℤ → ℤ → ℕ → List Fact → Built
+overflow_with net low high samples facts =
     let inputs = inputs_from (width net.format) low high samples
     (record { terms = no_terms; ids = []; tests = [] }) in
     let nought = with_node inputs.terms (Constant 1 0) in
-    let run = run_from net inputs.ids (record {
+    let start : RunTerms = record {
       terms = nought.terms;
       registers = replicate (length net.next) nought.id;
       broken = nought.id;
-    }) in
-    conjunction_from (built_of run.terms run.broken) inputs.tests
+    } in
+    let run = run_from net inputs.ids start in
+    let known = facts_from (record {
+      terms = run.terms;
+      outside = nought.id;
+      tests = inputs.tests;
+    }) facts (run_tests net inputs.ids start) in
+    conjunction_from (built_of known.terms run.broken) known.tests
+
+-- the goal of an overflow, with what is known of the run's values
+unfoldable pub overflow_of : Net → ℤ → ℤ → ℕ → Built
+overflow_of net low high samples =
+    overflow_with net low high samples (facts_of net low high samples)

@@ -1,4 +1,5 @@
 pub mod CycleGoals
+pub mod FactTests
 pub mod Goals
 pub mod Ready
 pub mod Rules

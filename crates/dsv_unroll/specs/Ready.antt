@@ -1,11 +1,17 @@
 -- Serves private contracts: terms that are ready for the rules.
-use Rattle.std.specs.Prelude.{◌≡◌, ℕ, ◌<◌, ◌≤◌, List, length, ℤ, ◌≤ℤ◌}
+use Rattle.std.specs.Prelude.{◌≡◌, ℕ, ◌<◌, ◌≤◌, List, [], ◌∷◌, length, ℤ, ◌≤ℤ◌}
+use Rattle.std.specs.Prelude.{Option, None, Some, Bool}
+use Rattle.std.specs.List.{All}
 use Rattle.dsv_word.specs.Words.{lo, hi}
+use Rattle.dsv_netlist.specs.declared.node.Node.{Node}
+use Rattle.dsv_netlist.specs.declared.node.Node.TheVariants as node
 use Rattle.dsv_netlist.specs.Nodes.{Net}
 use Rattle.dsv_term.specs.declared.node.TermId.{TermId}
 use Rattle.dsv_term.specs.Growth.{AreSound}
-use Rattle.dsv_term.specs.Terms.{width_of}
+use Rattle.dsv_term.specs.Terms.{width_of, word_of}
 use Rattle.dsv_term.specs.TermsView.{TermsView}
+use Rattle.dsv_term.specs.Word.{bit_of}
+use Rattle.dsv_unroll.specs.declared.fitting.TestedTerm.{TestedTerm}
 use Rattle.dsv_unroll.specs.Rules.{EndTerms, term_at}
 
 -- a term that stands and is not too wide for a node's value
@@ -71,3 +77,40 @@ pub record AreCycleReady (net : Net) (t : TermsView) (nought : TermId) (register
   pub nought_bit : HasBits t nought 1
   pub sounding_bit : HasBits t sounding 1
   pub found_bit : HasBits t found 1
+
+-- an entry, where the node fits a value
+abbrev pub fit_tests : Node → Option TestedTerm → List (Option TestedTerm)
+fit_tests node.Input entry = []
+fit_tests (node.Reg k) entry = []
+fit_tests (node.MulConst coeff of) entry = []
+fit_tests (node.Round of) entry = []
+fit_tests (node.Add left right) entry = []
+fit_tests (node.Sub left right) entry = []
+fit_tests (node.Fit of) entry = entry ∷ []
+
+-- a term of one bit whose word says a truth
+pub record IsTruth (t : TermsView) (id : TermId) : Type 0 where
+  pub bit : HasBits t id 1
+  pub truth : List ℕ → Bool
+  pub word : (values : List ℕ) → word_of t values id ≡ bit_of (truth values)
+
+-- a tested term and its bits
+pub record IsTest (t : TermsView) (tested : TestedTerm) : Type 0 where
+  pub value : IsValue t tested.value
+  pub is_word : IsTruth t tested.is_word
+  pub outside : IsTruth t tested.outside
+
+-- the same, where there is one
+abbrev pub IsEntry : TermsView → Option TestedTerm → Type 0
+IsEntry t None = Unit {0}
+IsEntry t (Some tested) = IsTest t tested
+
+-- tested terms that stand
+pub record AreTested (t : TermsView) (entries : List (Option TestedTerm)) : Type 0 where
+  pub stand : All (IsEntry t) entries
+
+-- the bit that is 1 where a value before that may be outside was, and the tests so far
+pub record AreKnown (t : TermsView) (outside : TermId) (tests : List TermId) : Type 0 where
+  pub sound : AreSound t
+  pub bit : IsTruth t outside
+  pub bits : AreBits t tests

@@ -2,7 +2,8 @@
 -- bound, or that of a wider operand.
 use Rattle.std.specs.Prelude.{ℕ, ◌+◌, ◌-◌, ◌%◌, ◌^◌, ◌==◌}
 use Rattle.std.specs.Prelude.{nat_lt, max, min, Bool, false}
-use Rattle.std.specs.Prelude.{if◌then◌else◌, List, length, slice_index, slice_index_or, ℤ}
+use Rattle.std.specs.Prelude.{if◌then◌else◌, List, [], ◌∷◌, length, slice_index, slice_index_or}
+use Rattle.std.specs.Prelude.{Option, None, Some, ℤ}
 use Rattle.std.specs.Int.Count.{count_leading_zeros}
 use Rattle.std.specs.Int.RustNames.{unsigned_abs}
 use Rattle.dsv_names.specs.declared.rounding.Rounding.{Rounding}
@@ -22,6 +23,7 @@ use Rattle.dsv_term.specs.Building.{Built, built_of, with_node}
 use Rattle.dsv_term.specs.Terms.{width_of}
 use Rattle.dsv_term.specs.TermsView.{TermsView}
 use Rattle.dsv_term.specs.Word.{residue}
+use Rattle.dsv_unroll.specs.declared.fitting.TestedTerm.{TestedTerm}
 use Rattle.dsv_unroll.specs.declared.rules.FitRule.{FitRule}
 use Rattle.dsv_unroll.specs.declared.rules.FitRule.TheVariants as fit_rule
 
@@ -125,16 +127,32 @@ pub record Unrolled : Type 0 where
 abbrev pub unrolled_of : Built → TermId → Unrolled
 unrolled_of b broken = record { terms = b.terms; id = b.id; broken = broken }
 
--- The low bits of a wider term, which isn't a word where these bits, extended again, aren't the
--- same. The word after a break doesn't matter: the flag is 1 then, whatever comes.
-abbrev pub cut_term : TermsView → ℕ → TermId → TermId → Unrolled
-cut_term t n of broken =
+-- terms, the low bits of a term, and the test whether it is a word
+pub record CutTerms : Type 0 where
+  pub terms : TermsView
+  pub word : TermId
+  pub tested : TestedTerm
+
+-- a wider term isn't a word where its low bits, extended again, aren't the same
+abbrev pub cut_terms : TermsView → ℕ → TermId → CutTerms
+cut_terms t n of =
     let word = with_node t (Extract of (n - 1) 0) in
     let back = with_node word.terms (Sext word.id (width_of t of)) in
     let same = with_node back.terms (Eq back.id of) in
     let other = with_node same.terms (Not same.id) in
-    let either = with_node other.terms (Or broken other.id) in
-    record { terms = either.terms; id = word.id; broken = either.id }
+    record {
+      terms = other.terms;
+      word = word.id;
+      tested = record { value = of; is_word = same.id; outside = other.id };
+    }
+
+-- The low bits of a wider term. The word after a break doesn't matter: the flag is 1 then, whatever
+-- comes.
+abbrev pub cut_term : TermsView → ℕ → TermId → TermId → Unrolled
+cut_term t n of broken =
+    let cut = cut_terms t n of in
+    let either = with_node cut.terms (Or broken cut.tested.outside) in
+    record { terms = either.terms; id = cut.word; broken = either.id }
 
 -- two numbers of so many bits, and whether a term lies below the one or above the other
 pub record EndTerms : Type 0 where
@@ -186,6 +204,13 @@ fitted_term fit_rule.Faithful format t of broken =
     then unrolled_of (word_term format.overflow t (width format) of) broken
     else unrolled_of (built_of t of) broken
 
+-- the test of a fitted value: none where a term is a word already, or where it isn't tested
+abbrev pub tested_term : FitRule → Format → TermsView → TermId → Option TestedTerm
+tested_term fit_rule.Tested format t of =
+    if nat_lt (width format) (width_of t of)
+    then (let cut = cut_terms t (width format) of in Some cut.tested) else None
+tested_term fit_rule.Faithful format t of = None
+
 -- ---- nodes
 -- the term at a place
 abbrev pub term_at : List TermId → ℕ → TermId
@@ -215,3 +240,14 @@ node_term rule net registers x t ids broken (node.Sub left right) =
     (term_at ids right)) broken
 node_term rule net registers x t ids broken (node.Fit of) =
     fitted_term rule net.format t (term_at ids of) broken
+
+-- the tests that a node adds: one where a value is fitted
+abbrev pub node_tests : FitRule → Format → TermsView → List TermId → Node
+    → List (Option TestedTerm)
+node_tests rule format t ids node.Input = []
+node_tests rule format t ids (node.Reg k) = []
+node_tests rule format t ids (node.MulConst coeff of) = []
+node_tests rule format t ids (node.Round of) = []
+node_tests rule format t ids (node.Add left right) = []
+node_tests rule format t ids (node.Sub left right) = []
+node_tests rule format t ids (node.Fit of) = tested_term rule format t (term_at ids of) ∷ []

@@ -1,11 +1,12 @@
 // How a value that is fitted into a word becomes a term.
-ghost use Rattle.std.specs.Prelude.{◌≡◌, ◌<◌, ◌≤◌, ◌-◌, ◌^◌, length, IfOk};
+ghost use Rattle.std.specs.Prelude.{◌≡◌, ◌<◌, ◌≤◌, ◌-◌, ◌^◌, length, IfOk, Some};
 ghost use Rattle.dsv_word.specs.Words.{width, lo, hi};
 ghost use Rattle.dsv_term.specs.Building.{built_of};
 ghost use Rattle.dsv_term.specs.Growth.{AreSound};
 ghost use Rattle.dsv_term.specs.Terms.{width_of};
 ghost use Rattle.dsv_term.specs.Word.{IsWidth, residue};
-ghost use Rattle.dsv_unroll.specs.Rules.{cut_term, saturated_term, word_term, fitted_term};
+ghost use Rattle.dsv_unroll.specs.Rules.{cut_terms, cut_term, saturated_term, word_term};
+ghost use Rattle.dsv_unroll.specs.Rules.{fitted_term, tested_term};
 ghost use Rattle.dsv_unroll.specs.Rules.{end_terms, clamped_term};
 ghost use Rattle.dsv_unroll.specs.Ready.{IsValue, HasBits, ends_of};
 
@@ -15,11 +16,21 @@ use dsv_names::OverflowMode;
 use dsv_term::{TermId, Terms, Word};
 use dsv_word::Format;
 
-/// The term of a node, and the one that is 1 where a value so far was no word.
+/// A term whose value is fitted, and the bits that are 1 where it is a word and where it isn't.
+#[derive(Clone, Copy, Debug)]
+pub(crate) struct TestedTerm {
+    pub value: TermId,
+    pub is_word: TermId,
+    pub outside: TermId,
+}
+
+/// The term of a node, the one that is 1 where a value so far was no word, and the test of a value
+/// that the node fits, where it has one.
 #[derive(Clone, Copy, Debug)]
 pub(crate) struct NodeTerm {
     pub id: TermId,
     pub broken: TermId,
+    pub tested: Option<TestedTerm>,
 }
 
 /// The low bits of a wider term, and whether it was no word.
@@ -29,17 +40,24 @@ fn cut_term(terms: &mut Terms, bits: u32, of: TermId, broken: TermId) -> Result<
     requires wider { bits < width_of terms.old of }
     requires flag { broken.0 < length terms.old.nodes }
     requires bit { width_of terms.old broken ≡ 1 }
-    ensures { IfOk result (λ made.
+    ensures built { IfOk result (λ made.
         record { terms = terms.new; id = made.id; broken = made.broken }
         ≡ cut_term terms.old bits of broken) }
+    ensures tested { IfOk result
+        (λ made. made.tested ≡ Some (cut_terms terms.old bits of).tested) }
 {
     let width = terms.width(of);
     let id = terms.extract(of, bits - 1, 0)?;
     let back = terms.sext(id, width)?;
-    let same = terms.eq(back, of)?;
-    let other = terms.not(same)?;
-    let broken = terms.or(broken, other)?;
-    Ok(NodeTerm { id, broken })
+    let is_word = terms.eq(back, of)?;
+    let outside = terms.not(is_word)?;
+    let broken = terms.or(broken, outside)?;
+    let tested = Some(TestedTerm {
+        value: of,
+        is_word,
+        outside,
+    });
+    Ok(NodeTerm { id, broken, tested })
 }
 
 /// Two numbers, and whether a term lies below the one or above the other.
@@ -139,7 +157,8 @@ fn word_term(terms: &mut Terms, format: &Format, of: TermId) -> Result<TermId, N
     }
 }
 
-/// The term of a value that is fitted, and the one that is 1 where a value so far was no word.
+/// The term of a value that is fitted, the one that is 1 where a value so far was no word, and the
+/// test of the value.
 pub(crate) fn fitted_term(
     terms: &mut Terms,
     rule: FitRule,
@@ -150,18 +169,28 @@ pub(crate) fn fitted_term(
     requires value { IsValue terms.old of }
     requires flag { broken.0 < length terms.old.nodes }
     requires bit { width_of terms.old broken ≡ 1 }
-    ensures { IfOk result (λ made.
+    ensures built { IfOk result (λ made.
         record { terms = terms.new; id = made.id; broken = made.broken }
         ≡ fitted_term rule format.now terms.old of broken) }
+    ensures tested { IfOk result
+        (λ made. made.tested ≡ tested_term rule format.now terms.old of) }
 {
     if terms.width(of) <= format.width() {
-        return Ok(NodeTerm { id: of, broken });
+        return Ok(NodeTerm {
+            id: of,
+            broken,
+            tested: None,
+        });
     }
     match rule {
         FitRule::Tested => cut_term(terms, format.width(), of, broken),
         FitRule::Faithful => {
             let id = word_term(terms, format, of)?;
-            Ok(NodeTerm { id, broken })
+            Ok(NodeTerm {
+                id,
+                broken,
+                tested: None,
+            })
         }
     }
 }

@@ -3,6 +3,7 @@
 #![tactic(auto, using(dsv_algebra::proofs::Casts::casts))]
 
 mod cycle;
+mod facts;
 mod fitting;
 mod inputs;
 mod nodes;

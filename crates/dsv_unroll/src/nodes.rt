@@ -1,11 +1,12 @@
 // The term of each node of a sample.
 ghost use Rattle.dsv_word.specs.Words.{width};
-ghost use Rattle.std.specs.Prelude.{◌≡◌, ◌<◌, ◌≤◌, ◌^◌, length, IfOk, Some, slice_get};
+ghost use Rattle.std.specs.Prelude.{◌≡◌, ◌<◌, ◌≤◌, ◌^◌, ◌++◌, length, IfOk, Some, slice_get};
 ghost use Rattle.dsv_netlist.specs.Conditions.{IsNetlist, NamesBelow, ReadsBelow};
 ghost use Rattle.dsv_unroll.specs.Rules.{addend_of, is_whole, addend_at, bound_at, node_term};
-ghost use Rattle.dsv_unroll.specs.Ready.{AreReady};
+ghost use Rattle.dsv_unroll.specs.Rules.{node_tests};
+ghost use Rattle.dsv_unroll.specs.Ready.{AreReady, fit_tests};
 
-use crate::fitting::{NodeTerm, fitted_term};
+use crate::fitting::{NodeTerm, TestedTerm, fitted_term};
 use crate::rules::{FitRule, difference_term, product_term, rounded_term, sum_term};
 use dsv_base::NoMemory;
 use dsv_names::Rounding;
@@ -81,9 +82,11 @@ pub(crate) fn node_term(
     requires below { i < length net.now.nodes }
     requires backwards { NamesBelow (length ids.now) node }
     requires reads { ReadsBelow (length registers.now) node }
-    ensures { IfOk result (λ made.
+    ensures built { IfOk result (λ made.
         record { terms = terms.new; id = made.id; broken = made.broken }
         ≡ node_term rule net.now registers.now x terms.old ids.now broken node) }
+    ensures tests { IfOk result (λ made. fit_tests node made.tested
+        ≡ node_tests rule net.now.format terms.old ids.now node) }
 {
     let id = match node {
         Node::Input => x,
@@ -116,5 +119,24 @@ pub(crate) fn node_term(
             return fitted_term(terms, rule, &format, ids[of as usize], broken);
         }
     };
-    Ok(NodeTerm { id, broken })
+    Ok(NodeTerm {
+        id,
+        broken,
+        tested: None,
+    })
+}
+
+/// Adds the test of a node that fits a value.
+pub(crate) fn put_tested(
+    tested: &mut Vec<Option<TestedTerm>>,
+    node: &Node,
+    entry: Option<TestedTerm>,
+) -> Result<(), NoMemory>
+    ensures { IfOk result
+        (λ u. tested.new.items ≡ tested.old.items ++ fit_tests node.now entry) }
+{
+    if let Node::Fit(_) = node {
+        tested.push(entry)?;
+    }
+    Ok(())
 }

@@ -4,14 +4,18 @@ ghost use Rattle.std.specs.Prelude.{◌≡◌, ◌≤ℤ◌, ℤ, ℕ, List, rep
 ghost use Rattle.dsv_netlist.specs.Conditions.{IsNetlist};
 ghost use Rattle.dsv_netlist.specs.Systems.{system_of};
 ghost use Rattle.dsv_system.specs.Breaks.{Breaks};
+ghost use Rattle.dsv_linear.specs.Facts.{AreFacts};
+ghost use Rattle.dsv_linear.specs.Known.{facts_of};
 ghost use Rattle.dsv_term.specs.Building.{built_of};
 ghost use Rattle.dsv_term.specs.Terms.{AreValues, word_of};
 ghost use Rattle.dsv_unroll.specs.Goals.{overflow_of};
 ghost use Rattle.dsv_unroll.specs.Words.{spelled_words, Tells};
 
+use crate::facts::fact_tests;
 use crate::inputs::{conjunction, input_terms};
 use crate::run::run_terms;
 use dsv_base::NoMemory;
+use dsv_linear::facts_of;
 use dsv_netlist::Netlist;
 use dsv_term::{Goal, TermId, Terms};
 use std::alloc::Global;
@@ -41,15 +45,25 @@ fn overflow_terms(
     ensures made { IfOk result (λ goal.
         built_of goal.terms goal.root ≡ overflow_of net.now low.now high.now samples) }
     ensures netlist { IfOk result (λ goal. IsNetlist net.now) }
+    ensures facts { IfOk result (λ goal. AreFacts net.now low.now high.now samples
+        (facts_of net.now low.now high.now samples)) }
 {
     let count = net.len();
     let format = net.format();
+    let facts = facts_of(alloc, net, *low, *high, samples)?;
     let mut terms = Terms::new(alloc);
     let inputs = input_terms(alloc, &mut terms, &format, low, high, samples)?;
     let nought = terms.constant(1, 0)?;
     let start = repeated_term(alloc, nought, net.registers())?;
     let run = run_terms(alloc, &mut terms, net, &inputs.ids, start, nought)?;
-    let root = conjunction(&mut terms, run.broken, &inputs.tests)?;
+    let tests = fact_tests(
+        &mut terms,
+        nought,
+        facts.as_slice(),
+        &run.tested,
+        inputs.tests,
+    )?;
+    let root = conjunction(&mut terms, run.broken, &tests)?;
     Goal::new(alloc, terms, root)
 }
 

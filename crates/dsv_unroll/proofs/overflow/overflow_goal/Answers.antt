@@ -8,11 +8,13 @@ returns-clause-inputs c =
     let g = c.in_ok-goal.goal in
     let e = c.in_ok-goal.ensures in
     let m = rw (to_z-of_z w64 c.args.low c.ranges.low, to_z-of_z w64 c.args.high c.ranges.high) at e.made in
-    made_inputs c.args.net.now c.args.low c.args.high c.args.samples g.terms g.root m e.netlist c.requires.low c.requires.high
+    let f = rw (to_z-of_z w64 c.args.low c.ranges.low, to_z-of_z w64 c.args.high c.ranges.high) at e.facts in
+    made_inputs c.args.net.now c.args.low c.args.high c.args.samples g.terms g.root m e.netlist c.requires.low c.requires.high f
 
 pub returns-clause-exact : goal.returns-clause-exact
 returns-clause-exact c = λ values v.
     let g = c.in_ok-goal.goal in
     let e = c.in_ok-goal.ensures in
     let m = rw (to_z-of_z w64 c.args.low c.ranges.low, to_z-of_z w64 c.args.high c.ranges.high) at e.made in
-    made_tells c.args.net.now c.args.low c.args.high c.args.samples g.terms g.root values m e.netlist c.requires.low c.requires.high v
+    let f = rw (to_z-of_z w64 c.args.low c.ranges.low, to_z-of_z w64 c.args.high c.ranges.high) at e.facts in
+    made_tells c.args.net.now c.args.low c.args.high c.args.samples g.terms g.root values m e.netlist c.requires.low c.requires.high f v

@@ -1,9 +1,10 @@
-use Rattle.std.proofs.Common.{rules, refl, ap, length, ◌∙◌}
+use Rattle.std.proofs.Common.{rules, refl, ap, length, ◌∙◌, List, Option}
 use Rattle.dsv_term.proofs.Made.{KeepsTerms-both}
 use Rattle.dsv_term.proofs.Building.{KeepsTerms-self}
-use Rattle.dsv_unroll.specs.Goals.{RunTerms, SampleTerms, run_from}
+use Rattle.dsv_unroll.specs.declared.fitting.TestedTerm.{TestedTerm}
+use Rattle.dsv_unroll.specs.Goals.{RunTerms, SampleTerms, run_from, run_tests}
 use Rattle.dsv_unroll.specs.Rules.{term_at}
-use Rattle.dsv_unroll.proofs.SampleSteps.{run_step, run_ready, next_below}
+use Rattle.dsv_unroll.proofs.SampleSteps.{run_step, run_ready, next_below, tests_step}
 use Rattle.dsv_unroll.proofs.run.run_terms.Goals as goal
 
 pub sample_terms-requires-clause-ready : goal.sample_terms-requires-clause-ready
@@ -27,7 +28,10 @@ loop-x-preserved c =
     let e = c.in_ok-sample.ensures in
     let r = run_step net c.args.inputs.now l.x-index (term_at c.args.inputs.now l.x-index) l.terms l.registers.items c.deref.result.now l.flag start s c.deref-in-loop-x.result.now c.in_ok-registers.registers.items
     c.requires.netlist c.loop-x-test.true refl (record { ready = l.invariant.ready; same = l.invariant.same }) c.deref.ensures.value e.built e.kept e.ready e.count c.deref-in-loop-x.ensures.value c.in_ok-registers.ensures in
-    record { ready = r.ready; kept = KeepsTerms-both c.args.terms.now l.terms c.sample_terms.new.terms l.invariant.kept e.kept; same = r.same }
+    let tests : List (Option TestedTerm) = run_tests net c.args.inputs.now (record { terms = c.args.terms.now; registers = c.args.start.items; broken = c.args.broken }) in
+    let t = tests_step net c.args.inputs.now l.x-index (term_at c.args.inputs.now l.x-index) l.terms l.registers.items c.deref.result.now l.flag tests s c.deref-in-loop-x.result.now c.in_ok-registers.registers.items
+    l.tested.items c.extend_from_slice.new.self.items c.in_ok-sample.sample.tested.items c.loop-x-test.true refl l.invariant.tests c.deref.ensures.value e.built c.deref-in-loop-x.ensures.value c.in_ok-registers.ensures e.tests (search rules) in
+    record { ready = r.ready; kept = KeepsTerms-both c.args.terms.now l.terms c.sample_terms.new.terms l.invariant.kept e.kept; same = r.same; tests = t }
 
 pub loop-x-init : goal.loop-x-init
-loop-x-init c = record { ready = search rules; kept = KeepsTerms-self c.args.terms.now; same = search rules }
+loop-x-init c = record { ready = search rules; kept = KeepsTerms-self c.args.terms.now; same = search rules; tests = search rules }

@@ -1,10 +1,11 @@
-use Rattle.std.proofs.Common.{[], arith, rules, length, sym, subst, List}
+use Rattle.std.proofs.Common.{[], arith, rules, length, sym, subst, List, Option}
 use Rattle.dsv_netlist.specs.Conditions.{NamesBelow}
 use Rattle.dsv_term.specs.declared.node.TermId.{TermId}
 use Rattle.dsv_term.proofs.Building.{KeepsTerms-self}
-use Rattle.dsv_unroll.specs.Goals.{SampleTerms, nodes_from}
+use Rattle.dsv_unroll.specs.declared.fitting.TestedTerm.{TestedTerm}
+use Rattle.dsv_unroll.specs.Goals.{SampleTerms, nodes_from, tests_from}
 use Rattle.dsv_unroll.specs.Rules.{Unrolled}
-use Rattle.dsv_unroll.proofs.SampleSteps.{named, node_step}
+use Rattle.dsv_unroll.proofs.SampleSteps.{named, node_step, entry_step}
 use Rattle.dsv_unroll.proofs.sample.sample_terms.Goals as goal
 
 pub node_term-requires-clause-backwards : goal.node_term-requires-clause-backwards
@@ -26,8 +27,11 @@ loop-i-preserved c =
     let start : SampleTerms = nodes_from c.args.rule net c.args.registers.now c.args.x net.nodes (record { terms = c.args.terms.now; ids = []; broken = c.args.broken }) in
     let u : Unrolled = record { terms = c.node_term.new.terms; id = c.in_ok-made.made.id; broken = c.in_ok-made.made.broken } in
     let s = node_step c.args.rule net c.args.registers.now c.args.x c.args.terms.now l.i l.terms l.ids.items l.flag start c.node-node.result u c.deref.result.now c.push.new.self.items
-    c.requires.netlist (omega arith) c.node-node.ensures (record { count = i.count; ready = i.ready; kept = i.kept; same = i.same }) c.deref.ensures.value c.in_ok-made.ensures c.in_ok-push.ensures.items in
-    record { count = s.count; ready = s.ready; kept = s.kept; same = s.same }
+    c.requires.netlist (omega arith) c.node-node.ensures (record { count = i.count; ready = i.ready; kept = i.kept; same = i.same }) c.deref.ensures.value c.in_ok-made.ensures.built c.in_ok-push.ensures.items in
+    let tests : List (Option TestedTerm) = tests_from c.args.rule net c.args.registers.now c.args.x net.nodes (record { terms = c.args.terms.now; ids = []; broken = c.args.broken }) in
+    let e = entry_step c.args.rule net c.args.registers.now c.args.x l.i l.terms l.ids.items l.flag tests c.node-node.result u c.deref.result.now c.push.new.self.items l.tested.items c.put_tested.new.tested.items c.in_ok-made.made.tested
+    (omega arith) c.node-node.ensures c.deref.ensures.value c.in_ok-made.ensures.built c.in_ok-push.ensures.items i.tests c.in_ok-made.ensures.tests c.in_ok-put_tested.ensures in
+    record { count = s.count; ready = s.ready; kept = s.kept; same = s.same; tests = e }
 
 pub loop-i-init : goal.loop-i-init
-loop-i-init c = record { count = search rules; ready = search rules; kept = KeepsTerms-self c.args.terms.now; same = search rules }
+loop-i-init c = record { count = search rules; ready = search rules; kept = KeepsTerms-self c.args.terms.now; same = search rules; tests = search rules }

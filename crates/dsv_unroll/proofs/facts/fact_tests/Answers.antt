@@ -1,0 +1,19 @@
+use Rattle.std.proofs.Common.{arith, refl, None}
+use Rattle.std.specs.Prelude.{slice_index_or}
+use Rattle.dsv_unroll.specs.FactTests.{FactTerms, facts_from}
+use Rattle.dsv_unroll.proofs.FactTerms.{fact_step}
+use Rattle.dsv_unroll.proofs.facts.fact_tests.Goals as goal
+
+pub loop-i-preserved : goal.loop-i-preserved
+loop-i-preserved c =
+    let l = c.loop-i in
+    let i = l.invariant in
+    let first = c.args.terms.now in
+    let facts = c.args.facts.now in
+    let entries = c.args.tested.now in
+    let k : FactTerms = record { terms = l.terms; outside = l.outside; tests = l.tests.items } in
+    let now : FactTerms = record { terms = c.put_entry.new.terms; outside = c.in_ok-outside.outside; tests = c.put_entry.new.tests.items } in
+    let end : FactTerms = facts_from (record { terms = first; outside = c.args.nought; tests = c.args.before.items }) facts entries in
+    let s = fact_step first l.i facts entries k now end c.fact_at-fact.result (slice_index_or entries l.i None) (omega arith) c.fact_at-fact.ensures refl c.in_ok-outside.ensures.built
+    (record { known = i.known; tested = i.tested; kept = i.kept; same = i.same }) in
+    record { known = s.known; tested = s.tested; kept = s.kept; same = s.same }
