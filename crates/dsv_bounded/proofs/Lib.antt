@@ -3,5 +3,7 @@ pub mod Alike
 pub mod Deciding
 pub mod OutputRows
 pub mod Questions
+pub mod StartLemmas
 pub mod Traces
+pub mod Verdicts
 pub mod WordValues

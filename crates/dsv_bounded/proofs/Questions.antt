@@ -6,8 +6,6 @@ use Rattle.std.proofs.Math.IntN.{ℤ, pos}
 use Rattle.std.proofs.lemmas.Int.{ints}
 use Rattle.std.proofs.lemmas.List.{length-map, length-drop, length-take, take-append-drop}
 use Rattle.std.proofs.lemmas.List.Elements.{All-weaker, All-drop, All-head, All-tail}
-use Rattle.dsv_names.specs.declared.realisation.Realisation.{Realisation}
-use Rattle.dsv_names.specs.declared.realisation.Realisation.TheVariants.{Dfi, Dfii, Tdfii, Ddfi, Ddfii, Tddfii}
 use Rattle.dsv_word.specs.Words.{width, IsWord}
 use Rattle.dsv_meaning.specs.Equations.{Past, order, registers_of, forward_registers_of}
 use Rattle.dsv_meaning.specs.Systems.{equations_of}
@@ -28,6 +26,7 @@ use Rattle.dsv_term.proofs.Words.{words_of_nodes, known}
 use Rattle.dsv_unroll.specs.Words.{spelled_words, cycle_start, HasCycle, Tells}
 use Rattle.dsv_bounded.specs.Questions.{Asks, word_widths, DoBreak, free_registers, start_of_values, DoCycle}
 use Rattle.dsv_bounded.specs.Verdicts.{BreaksWithin, CyclesWithin}
+use Rattle.dsv_bounded.proofs.StartLemmas.{forward_below}
 use Rattle.dsv_bounded.proofs.Alike.{alike_back, breaks_alike, cycles_alike}
 use Rattle.dsv_bounded.proofs.WordValues.{values_for, words_of_values, values_fit, count_of_words}
 
@@ -116,14 +115,6 @@ all_zeros : (zs : List ℤ) → All (λ (w : ℤ). w ≡ pos 0) zs → zs ≡ ze
 all_zeros [] h = refl
 all_zeros (z ∷ zs) h =
     ap (λ (y : ℤ). y ∷ zs) (All-head (λ (w : ℤ). w ≡ pos 0) z zs h) ∙ ap (λ (ys : List ℤ). pos 0 ∷ ys) (all_zeros zs (All-tail (λ (w : ℤ). w ≡ pos 0) z zs h))
-
-forward_below : (r : Realisation) (n : ℕ) → forward_registers_of r n ≤ registers_of r n
-forward_below Dfi n = omega arith
-forward_below Dfii n = omega arith
-forward_below Tdfii n = omega arith
-forward_below Ddfi n = omega arith
-forward_below Ddfii n = omega arith
-forward_below Tddfii n = omega arith
 
 -- a start begins with zeros
 start-split : (k : ℕ) (zs : List ℤ) → k ≤ length zs → All (λ (w : ℤ). w ≡ pos 0) (take k zs) → zeros k ++ drop k zs ≡ zs

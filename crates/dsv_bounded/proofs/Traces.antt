@@ -15,6 +15,7 @@ use Rattle.dsv_system.specs.Breaks.{Breaks, IsInside, IsFirstBreak}
 use Rattle.dsv_system.specs.Cycles.{Cycles, IsLeastPeriod, IsSounding}
 use Rattle.dsv_system.specs.Runs.{Sampled, SampleRow, rows_from}
 use Rattle.dsv_system.specs.Systems.{System, rows, zeros, AreInRange}
+use Rattle.dsv_bounded.specs.Questions.{IsStart}
 use Rattle.dsv_bounded.specs.Verdicts.{IsTrace, IsCycle}
 
 -- ---- rows
@@ -83,11 +84,14 @@ break_not_clean P m low high xs b h =
     o.2 (All-contains (IsWord m.format) r.0.exact o.0 (All-contains (IsInside m.format) (rows m (zeros m.many) xs) r.0 h r.1) o.1)
 
 -- ---- a cycle
-pub cycle_stands : (q : FixedPoint) (start ys : List ℤ) (p period periods : ℕ) → Cycles Past (equations_of q) start p → IsLeastPeriod Past (equations_of q) start period → period ≤ periods → IsSounding Past (equations_of q) start period
-    → ys ≡ map (λ (r : SampleRow). r.y) (rows (equations_of q) start (zeros period)) → IsCycle q periods (record { start = start; period = period; outputs = ys })
-cycle_stands q start ys p period periods c l k s e = record {
-  cycles = record { many = c.many; quiet = c.quiet; words = c.words; returns = l.returns; sounding = s };
+pub cycle_stands : (q : FixedPoint) (start ys : List ℤ) (period : ℕ) → IsStart q start → IsLeastPeriod Past (equations_of q) start period → IsSounding Past (equations_of q) start period
+    → ys ≡ map (λ (r : SampleRow). r.y) (rows (equations_of q) start (zeros period)) → IsCycle q period (record { start = start; period = period; outputs = ys })
+cycle_stands q start ys period i l s e = record {
+  cycles = record { many = i.many; quiet = i.quiet; words = i.words; returns = l.returns; sounding = s };
   least = l;
-  within = k;
+  within = omega arith;
   gives = sym e;
 }
+
+pub is_start : (q : FixedPoint) (start : List ℤ) (p : ℕ) → Cycles Past (equations_of q) start p → IsStart q start
+is_start q start p c = record { many = c.many; quiet = c.quiet; words = c.words }

@@ -1,7 +1,9 @@
--- Serves private contracts: what a goal asks of the values of its inputs.
-use Rattle.std.specs.Prelude.{◌≡◌, ℕ, ◌≤◌, ◌-◌, List, ℤ, replicate, ◌++◌}
+-- Serves private contracts: what a goal asks of the values of its inputs, and starts.
+use Rattle.std.specs.Prelude.{◌≡◌, ℕ, ◌≤◌, ◌-◌, List, ℤ, pos, replicate, ◌++◌, length, take}
+use Rattle.std.specs.List.{All}
 use Rattle.dsv_meaning.specs.Equations.{Past, registers_of, forward_registers_of, order}
 use Rattle.dsv_meaning.specs.Systems.{equations_of}
+use Rattle.dsv_netlist.specs.Nodes.{Net}
 use Rattle.dsv_quantiser.specs.FixedPoint.{FixedPoint}
 use Rattle.dsv_system.specs.Breaks.{Breaks}
 use Rattle.dsv_system.specs.Cycles.{Cycles}
@@ -10,7 +12,7 @@ use Rattle.dsv_term.specs.declared.node.TermId.{TermId}
 use Rattle.dsv_term.specs.Terms.{AreValues, word_of}
 use Rattle.dsv_term.specs.TermsView.{TermsView}
 use Rattle.dsv_unroll.specs.Words.{spelled_words}
-use Rattle.dsv_word.specs.Words.{width}
+use Rattle.dsv_word.specs.Words.{width, IsWord}
 
 -- The inputs have these widths, and the root is 1 exactly at the values that have the fact.
 pub record Asks (t : TermsView) (root : TermId) (widths : List ℕ) (P : List ℕ → Type 0) : Type 0
@@ -33,6 +35,18 @@ DoBreak q values = Breaks Past (equations_of q) q.xlo q.xhi (spelled_words q.for
 abbrev pub free_registers : FixedPoint → ℕ
 free_registers q =
     registers_of q.realisation (order q) - forward_registers_of q.realisation (order q)
+
+-- The registers of a netlist hold words.
+pub record AreRegisters (net : Net) (registers : List ℤ) : Type 0 where
+  pub many : length registers ≡ length net.next
+  pub words : All (IsWord net.format) registers
+
+-- A controller can start so: 0 in the feed-forward registers, and words in the others.
+pub record IsStart (q : FixedPoint) (start : List ℤ) : Type 0 where
+  pub many : length start ≡ registers_of q.realisation (order q)
+  pub quiet : All (λ w. w ≡ pos 0)
+      (take (forward_registers_of q.realisation (order q)) start)
+  pub words : All (IsWord q.format) start
 
 -- the words of a start: 0 in the feed-forward registers, and those that the values spell
 abbrev pub start_of_values : FixedPoint → List ℕ → List ℤ

@@ -14,10 +14,12 @@ ghost use Rattle.dsv_bounded.specs.Verdicts.{CyclesWithin, IsCycle};
 use crate::answers::{BoundedAnswer, BoundedRefusal, accept};
 use crate::decision::{Decision, decide};
 use crate::goal_clauses::goal_formula;
-use crate::words::{outputs, words_after, zero_words};
+use crate::replayed_cycles::replayed_cycle;
+use crate::starts::offered_cycle;
+use crate::words::{words_after, zero_words};
 use dsv_base::NoMemory;
 use dsv_cnf::Formula;
-use dsv_meaning::{Cycle, CycleReplay, forward_registers, replay_cycle};
+use dsv_meaning::{Cycle, forward_registers};
 use dsv_quantiser::Quantised;
 use dsv_realise::realise;
 use dsv_term::Goal;
@@ -67,22 +69,14 @@ fn cycle_from(
 {
     let quiet = zero_words(alloc, forward_registers(q.realisation(), q.order() as u32))?;
     let start = words_after(quiet, &q.format(), values)?;
-    match replay_cycle(q, start.as_slice(), periods) {
-        CycleReplay::Returns { period, .. } => {
-            let silence = zero_words(alloc, period)?;
-            let ys = outputs(alloc, q, start.as_slice(), silence.as_slice())?;
-            Ok(Cycle {
-                start,
-                period,
-                outputs: ys,
-            })
-        }
-        CycleReplay::Clean => unreachable!(),
+    match replayed_cycle(alloc, q, start, periods)? {
+        Some(cycle) => Ok(cycle),
+        None => unreachable!(),
     }
 }
 
-/// Whether a start has a limit cycle of a period from 1 to `periods`, which is 1 to 64, by a search
-/// that learns at most so many clauses.
+/// Whether a start has a limit cycle of a period from 1 to `periods`, which is 1 to 64: first some
+/// starts are tried, and then there is a search that learns at most so many clauses.
 #[tactic(auto, unfolding(crate::specs::Formulas::cycle_formula_of))]
 pub fn limit_cycle(
     alloc: Global,
@@ -106,6 +100,9 @@ pub fn limit_cycle(
         (IfSpent (IsSpent (cycle_formula_of q.now periods) conflicts)) }
 {
     accept(q, periods)?;
+    if let Some(cycle) = offered_cycle(alloc, q, periods)? {
+        return Ok(BoundedAnswer::Cycles(cycle));
+    }
     let goal = cycle_question(alloc, q, periods)?;
     match decide(alloc, goal, conflicts)? {
         Decision::Never(log) => Ok(BoundedAnswer::Never(log)),

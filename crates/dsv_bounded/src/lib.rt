@@ -1,12 +1,19 @@
 //! Bounded verdicts on controllers in words: overflow over all lists of so many inputs, and limit
-//! cycles of all periods up to so many samples, from all starts.
+//! cycles of all periods up to so many samples, from all starts. Lists and starts that are offered
+//! by fixed rules are tried first, and then a search decides.
 #![tactic(auto)]
 
 mod answers;
 mod cycle_job;
 mod decision;
+mod end_list;
 mod goal_clauses;
+mod offers;
 mod overflow_job;
+mod replayed_cycles;
+mod replayed_traces;
+mod responses;
+mod starts;
 mod words;
 
 pub use answers::{BoundedAnswer, BoundedRefusal, MOST_SIZE};

@@ -1,12 +1,9 @@
 // Overflow over all lists of so many inputs.
-ghost use Rattle.std.specs.Prelude.{◌≡◌, ◌≤◌, ◌↔◌, ◌^◌, length, IfOk};
+ghost use Rattle.std.specs.Prelude.{◌≡◌, ◌≤◌, ◌↔◌, ◌^◌, IfOk};
 ghost use Rattle.dsv_cnf.specs.Formula.{IsSatisfiable};
 ghost use Rattle.dsv_hints.specs.Lessons.{IsRefutation, IsSpent};
-ghost use Rattle.dsv_meaning.specs.Systems.{equations_of};
 ghost use Rattle.dsv_quantiser.specs.FixedPoint.{IsFixedPoint};
 ghost use Rattle.dsv_realise.specs.Netlists.{net_of};
-ghost use Rattle.dsv_system.specs.Breaks.{IsFirstBreak};
-ghost use Rattle.dsv_system.specs.Systems.{rows, zeros, AreInRange};
 ghost use Rattle.dsv_term.specs.Building.{built_of};
 ghost use Rattle.dsv_term.specs.Terms.{AreValues};
 ghost use Rattle.dsv_unroll.specs.Goals.{overflow_of};
@@ -18,10 +15,12 @@ ghost use Rattle.dsv_bounded.specs.Verdicts.{BreaksWithin, IsTrace};
 use crate::answers::{BoundedAnswer, BoundedRefusal, accept};
 use crate::decision::{Decision, decide};
 use crate::goal_clauses::goal_formula;
-use crate::words::{outputs, words_after, zero_words};
+use crate::offers::offered_trace;
+use crate::replayed_traces::replayed_trace;
+use crate::words::words_after;
 use dsv_base::{NoMemory, WordList};
 use dsv_cnf::Formula;
-use dsv_meaning::{OverflowReplay, Trace, registers, replay_overflow};
+use dsv_meaning::Trace;
 use dsv_quantiser::Quantised;
 use dsv_realise::realise;
 use dsv_term::Goal;
@@ -63,52 +62,22 @@ pub fn overflow_formula(
     Ok(blasted.formula)
 }
 
-/// The trace of the first break in the run over these inputs.
-fn trace_until(
-    alloc: Global,
-    q: &Quantised,
-    inputs: &[i64],
-    sample: u32,
-    value: u32,
-    exact: i128,
-) -> Result<Trace, NoMemory>
-    requires range { AreInRange q.now.xlo q.now.xhi inputs.now }
-    requires first { IsFirstBreak q.now.format
-        (rows (equations_of q.now) (zeros (equations_of q.now).many) inputs.now)
-        sample value exact }
-    ensures { IfOk result (IsTrace q.now (length inputs.now)) }
-{
-    let until = WordList::from_slice(alloc, &inputs[..sample as usize + 1])?;
-    let start = zero_words(alloc, registers(q.realisation(), q.order() as u32))?;
-    let ys = outputs(alloc, q, start.as_slice(), until.as_slice())?;
-    Ok(Trace {
-        inputs: until,
-        outputs: ys,
-        sample,
-        value,
-        exact,
-    })
-}
-
 /// The trace of the inputs that these values spell, which break the controller.
 fn trace_of(alloc: Global, q: &Quantised, values: &[u128], samples: u32) -> Result<Trace, NoMemory>
+    requires few { samples ≤ 64 }
     requires fit { AreValues (word_widths q.now samples) values.now }
     requires breaks { DoBreak q.now values.now }
     ensures { IfOk result (IsTrace q.now samples) }
 {
     let words = words_after(WordList::new(alloc), &q.format(), values)?;
-    match replay_overflow(q, words.as_slice()) {
-        OverflowReplay::Breaks {
-            sample,
-            value,
-            exact,
-        } => trace_until(alloc, q, words.as_slice(), sample, value, exact),
-        OverflowReplay::Clean => unreachable!(),
+    match replayed_trace(alloc, q, words.as_slice())? {
+        Some(trace) => Ok(trace),
+        None => unreachable!(),
     }
 }
 
-/// Whether a list of 1 to 64 inputs in range breaks the controller from registers of zeros, by a
-/// search that learns at most so many clauses.
+/// Whether a list of 1 to 64 inputs in range breaks the controller from registers of zeros: first
+/// some lists are tried, and then there is a search that learns at most so many clauses.
 #[tactic(auto, unfolding(crate::specs::Formulas::overflow_formula_of))]
 pub fn overflow(
     alloc: Global,
@@ -132,6 +101,9 @@ pub fn overflow(
         (IfSpent (IsSpent (overflow_formula_of q.now samples) conflicts)) }
 {
     accept(q, samples)?;
+    if let Some(trace) = offered_trace(alloc, q, samples)? {
+        return Ok(BoundedAnswer::Overflow(trace));
+    }
     let goal = overflow_question(alloc, q, samples)?;
     match decide(alloc, goal, conflicts)? {
         Decision::Never(log) => Ok(BoundedAnswer::Never(log)),

@@ -1,11 +1,13 @@
 //! Tests of bounded verdicts and of the formulas of their questions, by public calls. Expected
 //! values were found by going through all lists of inputs and all starts in a model of the written
-//! equations.
+//! equations, or by hand.
 #![tactic(auto)]
 
 #[cfg(test)]
 mod designs;
 #[cfg(test)]
 mod formulas;
+#[cfg(test)]
+mod offered;
 #[cfg(test)]
 mod verdicts;

@@ -14,7 +14,7 @@ use Rattle.std.proofs.Common.{List, map}
 use Rattle.dsv_bounded.proofs.Questions.{words_in_range}
 use Rattle.dsv_bounded.proofs.Traces.{break_within, trace_stands}
 use Rattle.dsv_bounded.proofs.WordValues.{zeros_are_words}
-use Rattle.dsv_bounded.proofs.overflow_job.trace_until.Goals as goal
+use Rattle.dsv_bounded.proofs.replayed_traces.trace_until.Goals as goal
 
 pub slice_bounds-from_slice-end : goal.slice_bounds-from_slice-end
 slice_bounds-from_slice-end c =
