@@ -1,0 +1,3 @@
+mod BoxLemmas
+mod KeptSets
+mod Lengths

@@ -1,0 +1,59 @@
+-- Kept sets: what makes a candidate good for a system.
+use Rattle.std.specs.Prelude.{◌≡◌, ℕ, ◌<◌, ◌≤◌, List, [], ◌∷◌, ◌++◌, length, take, ℤ, ◌≤ℤ◌}
+use Rattle.std.specs.List.{All}
+use Rattle.dsv_word.specs.Words.{IsWord}
+use Rattle.dsv_system.specs.Breaks.{IsInside, Breaks}
+use Rattle.dsv_system.specs.Systems.{System, rows, registers_after, zeros, AreInRange}
+use Rattle.dsv_template.specs.declared.candidate.Candidate.{Candidate}
+use Rattle.dsv_template.specs.Candidates.{IsInSet}
+
+-- a word in each register
+pub record IsState (P : Type 0) (m : System P) (registers : List ℤ) : Type 0 where
+  pub many : length registers ≡ m.many
+  pub words : All (IsWord m.format) registers
+
+-- From registers of zeros, after fewer samples than the depth with inputs in range, the registers
+-- are in the set.
+abbrev pub Begins : (P : Type 0) → System P → ℤ → ℤ → Candidate → Type 0
+Begins P m low high candidate = (xs : List ℤ) → length xs < candidate.depth
+    → AreInRange low high xs → IsInSet candidate (registers_after m (zeros m.many) xs)
+
+-- Where as many states in a row as the depth are in the set, each after the first got from the one
+-- before by an input in range, the next state is in the set for every input in range.
+abbrev pub Stays : (P : Type 0) → System P → ℤ → ℤ → Candidate → Type 0
+Stays P m low high candidate = (start xs : List ℤ) → IsState P m start
+    → length xs ≡ candidate.depth → AreInRange low high xs
+    → ((n : ℕ) → n < candidate.depth → IsInSet candidate (registers_after m start (take n xs)))
+    → IsInSet candidate (registers_after m start xs)
+
+-- From a state in the set no input in range gives a sample with an exact value that is no word.
+abbrev pub IsSafe : (P : Type 0) → System P → ℤ → ℤ → Candidate → Type 0
+IsSafe P m low high candidate = (start : List ℤ) (x : ℤ) → IsState P m start
+    → IsInSet candidate start → (low ≤ℤ x) → (x ≤ℤ high)
+    → All (IsInside m.format) (rows m start (x ∷ []))
+
+-- the system, over inputs in range, keeps to the candidate's set
+pub record IsKept (P : Type 0) (m : System P) (low high : ℤ) (candidate : Candidate) : Type 0
+  where
+    pub deep : 1 ≤ candidate.depth
+    pub begins : Begins P m low high candidate
+    pub stays : Stays P m low high candidate
+    pub safe : IsSafe P m low high candidate
+
+-- ---- what a kept set means
+-- A run goes on from its registers alone: words in the registers and inputs in range give words in
+-- the registers, and what comes later is decided by these.
+pub record IsStepwise (P : Type 0) (m : System P) (low high : ℤ) : Type 0 where
+  pub begins : IsState P m (zeros m.many)
+  pub states : (start xs : List ℤ) → IsState P m start → AreInRange low high xs
+      → IsState P m (registers_after m start xs)
+  pub registers : (start xs ys : List ℤ) → IsState P m start → AreInRange low high xs
+      → registers_after m start (xs ++ ys) ≡ registers_after m (registers_after m start xs) ys
+  pub rows : (start xs ys : List ℤ) → IsState P m start → AreInRange low high xs
+      → rows m start (xs ++ ys) ≡ rows m start xs ++ rows m (registers_after m start xs) ys
+
+-- no list of inputs, of any length, breaks a system that keeps to a candidate's set
+abbrev pub KeptNeverBreaks : Type 0 → Type 0
+KeptNeverBreaks P = (m : System P) (low high : ℤ) (candidate : Candidate)
+    → IsStepwise P m low high → IsKept P m low high candidate
+    → (xs : List ℤ) → Breaks P m low high xs → ⊥

@@ -1,0 +1,4 @@
+pub mod Boxes
+pub mod Candidates
+pub mod Kept
+pub mod Shapes

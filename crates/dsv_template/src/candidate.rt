@@ -1,0 +1,110 @@
+// Sets of registers that are offered.
+ghost use Rattle.std.specs.Prelude.{◌≡◌, ◌≤◌, ◌*◌, length};
+ghost use Rattle.std.specs.List.{list_all};
+ghost use Rattle.dsv_template.specs.Candidates.{is_small, bit_length, bit_lengths};
+ghost use Rattle.dsv_template.specs.Candidates.{all_bit_lengths, is_fit_for, is_shaped};
+ghost use Rattle.dsv_template.specs.declared.limits.TheConstants.{MOST_REGISTERS, MOST_INEQUALITIES};
+
+use crate::limits::{
+    MOST_BIT_LENGTHS, MOST_BOUND, MOST_COEFFICIENT, MOST_DEPTH, MOST_INEQUALITIES, MOST_REGISTERS,
+};
+use arrayvec::ArrayVec;
+
+/// A coefficient for each register, in their order.
+pub type CoefficientList = ArrayVec<i64, MOST_REGISTERS>;
+
+/// An inequality over the registers: the sum of each coefficient times its register's word is at
+/// most the bound.
+#[derive(Debug, Default, Drop)]
+pub struct Inequality {
+    pub coefficients: CoefficientList,
+    pub bound: i64,
+}
+
+/// The inequalities of a candidate.
+pub type InequalityList = ArrayVec<Inequality, MOST_INEQUALITIES>;
+
+/// A set of registers, all those that fulfil the inequalities, with a depth: how many states in a
+/// row are in the set before the next one has to be.
+#[derive(Debug, Drop)]
+pub struct Candidate {
+    pub inequalities: InequalityList,
+    pub depth: u32,
+}
+
+/// How many bits the size of a number takes.
+pub(crate) fn bit_length(c: &i64) -> u32
+    ensures value { result ≡ bit_length c.now }
+    ensures few { result ≤ 64 }
+{
+    64 - c.unsigned_abs().leading_zeros()
+}
+
+/// How many bits the sizes of these numbers take together.
+#[tactic(auto, using(crate::proofs::Lengths::lengths))]
+fn bit_lengths(coefficients: &[i64]) -> u32
+    requires { length coefficients.now ≤ MOST_REGISTERS }
+    ensures value { result ≡ bit_lengths coefficients.now }
+    ensures few { result ≤ 64 * MOST_REGISTERS }
+{
+    let mut total = 0;
+    for c in coefficients {
+        total += bit_length(c);
+    }
+    total
+}
+
+/// How many bits the sizes of all coefficients take together.
+#[tactic(auto, using(crate::proofs::Lengths::lengths))]
+fn all_bit_lengths(inequalities: &[Inequality]) -> u32
+    requires { length inequalities.now ≤ MOST_INEQUALITIES }
+    ensures { result ≡ all_bit_lengths inequalities.now }
+{
+    let mut total = 0;
+    for inequality in inequalities {
+        total += bit_lengths(&inequality.coefficients);
+    }
+    total
+}
+
+/// Whether no number is too great for a coefficient.
+fn are_small(coefficients: &[i64]) -> bool
+    ensures { result ≡ list_all is_small coefficients.now }
+{
+    coefficients
+        .iter()
+        .all(|c| c.unsigned_abs() <= MOST_COEFFICIENT)
+}
+
+/// Whether the inequality has a coefficient for each of so many registers, and no number of it is
+/// too great.
+fn is_fit_for(registers: u32, inequality: &Inequality) -> bool
+    ensures { result ≡ is_fit_for registers inequality.now }
+{
+    inequality.coefficients.len() == registers as usize
+        && are_small(&inequality.coefficients)
+        && inequality.bound.unsigned_abs() <= MOST_BOUND
+}
+
+/// Whether all inequalities are fit for so many registers.
+fn are_fit_for(registers: u32, inequalities: &[Inequality]) -> bool
+    ensures { result ≡ list_all (is_fit_for registers) inequalities.now }
+{
+    inequalities
+        .iter()
+        .all(|inequality| is_fit_for(registers, inequality))
+}
+
+impl Candidate {
+    /// Whether the candidate's numbers are as they have to be for so many registers: each inequality
+    /// has as many coefficients, none over 2^24 in size, the sizes of all coefficients take at most
+    /// 1,024 bits, no bound is over 2^60 in size, and the depth is 1 to 8.
+    pub fn is_shaped(&self, registers: u32) -> bool
+        ensures { result ≡ is_shaped registers self.now }
+    {
+        are_fit_for(registers, &self.inequalities)
+            && all_bit_lengths(&self.inequalities) <= MOST_BIT_LENGTHS
+            && 1 <= self.depth
+            && self.depth <= MOST_DEPTH
+    }
+}
