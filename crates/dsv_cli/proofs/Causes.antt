@@ -7,7 +7,7 @@ use Rattle.dsv_reader.specs.Controllers.{ControllerView}
 use Rattle.dsv_reader.specs.Texts.{IsTextOf, IsFaultOf}
 use Rattle.dsv_quantiser.specs.FixedPoint.{FixedPoint}
 use Rattle.dsv_quantiser.specs.declared.refusal.QuantRefusal.{QuantRefusal}
-use Rattle.dsv_command.specs.Jobs.{Task, decides, writes, searches, simulates, Asked}
+use Rattle.dsv_command.specs.Jobs.{Task, decides, checks_time, writes, searches, simulates, Asked}
 use Rattle.dsv_command.specs.declared.job.Design.{Design}
 use Rattle.dsv_report.specs.declared.answers.Answer.{Answer}
 use Rattle.dsv_report.specs.declared.answers.Answer.TheVariants as answer
@@ -15,16 +15,17 @@ use Rattle.dsv_tested.specs.declared.side.Tested.TheVariants as tested
 use Rattle.dsv_base.specs.Seen.{FilesSeen}
 use Rattle.dsv_cli.specs.declared.outcome.Outcome.{Outcome}
 use Rattle.dsv_cli.specs.declared.outcome.Outcome.TheVariants as outcome
-use Rattle.dsv_cli.specs.Headline.{longest_file, IsAccepted, IsTested, IsSearch, IsWriting, AsksOver, IsRun, IsRow}
+use Rattle.dsv_cli.specs.Headline.{longest_file, IsAccepted, IsTested, IsTimed, IsSearch, IsWriting, AsksOver, IsRun, IsRow}
 use Rattle.dsv_bounded.specs.Verdicts.{IsTrace, IsCycle}
 use Rattle.dsv_cli.specs.Questions.{IsWithin, NeverHappens, GaveUp, IsFormulaOf, IsTooLarge}
 use Rattle.dsv_cli.specs.Simulating.{IsRunOver, IsFirstOutside}
 use Rattle.dsv_cli.specs.Causes.{BecomesWords, IsDecision, IsOfTask, IsOfController, IsOfBytes, HasRow, HasRowOf}
 
 -- what a controller in words comes to is what the controller comes to
-pub of_words : (c : ControllerView) (design : Design) (task : Task) (words : FixedPoint) (found : Outcome) → BecomesWords c design (Ok words) → IsOfTask task words found
+pub of_words : (c : ControllerView) (design : Design) (task : Task) (words : FixedPoint) (found : Outcome) → BecomesWords c design (Ok words) → IsOfTask c task words found
     → IsOfController c design task found
 of_words c design (decides p) words (outcome.Answered (answer.QuantRefused r)) b h = absurd h
+of_words c design checks_time words (outcome.Answered (answer.QuantRefused r)) b h = absurd h
 of_words c design (writes p samples) words (outcome.Answered (answer.QuantRefused r)) b h = absurd h
 of_words c design (searches p samples conflicts) words (outcome.Answered (answer.QuantRefused r)) b h = absurd h
 of_words c design (simulates inputs) words (outcome.Answered (answer.QuantRefused r)) b h = absurd h
@@ -35,14 +36,14 @@ told_by : (P : List ℕ → Type 0) (bytes : List ℕ) (file : Option (List ℕ)
 told_by P bytes None e h = tt
 told_by P bytes (Some f) e h = subst P e h
 
-accepted_by : (design : Design) (bytes : List ℕ) (c : ControllerView) (outcome : Result FixedPoint QuantRefusal) → length bytes ≤ longest_file → IsTextOf bytes c
+abbrev accepted_by : (design : Design) (bytes : List ℕ) (c : ControllerView) (outcome : Result FixedPoint QuantRefusal) → length bytes ≤ longest_file → IsTextOf bytes c
     → BecomesWords c design outcome → IsAccepted design bytes outcome
 accepted_by design bytes c outcome short text b =
     record { short = short; controller = c; text = text; format = b.format; modes = b.modes; becomes = b.becomes }
 
 -- ---- from the words on
 row_of_words : (job : Asked) (bytes : List ℕ) (words : FixedPoint) (task : Task) → job.task ≡ task → (found : Outcome)
-    → IsAccepted job.design bytes (Ok words) → IsOfTask task words found → HasRowOf job bytes found
+    → (a : IsAccepted job.design bytes (Ok words)) → IsOfTask a.controller task words found → HasRowOf job bytes found
 row_of_words job bytes words (decides p) e (outcome.Undecided poly) a h = λ told old new same. (
   (p, e),
   told_by (λ b. IsTested job b (Ok (tested.Poly poly))) bytes told same (record { property = p; task = e; words = words; accepted = a; tested = h }),
@@ -59,6 +60,19 @@ row_of_words job bytes words (decides p) e (outcome.Answered (answer.Wide index)
   shows = tt;
 }
 row_of_words job bytes words (decides p) e (outcome.Answered found) a h = absurd h
+row_of_words job bytes words checks_time e (outcome.Answered (answer.OnTime report)) a h = λ told old new same. record {
+  belongs_to = e;
+  comes_from = told_by (λ b. IsTimed job b report) bytes told same (record { task = e; words = words; accepted = a; timing = h.0 });
+  shows = h.1;
+}
+row_of_words job bytes words checks_time e (outcome.Answered (answer.Late report)) a h = λ told old new same. record {
+  belongs_to = e;
+  comes_from = told_by (λ b. IsTimed job b report) bytes told same (record { task = e; words = words; accepted = a; timing = h.0 });
+  shows = h.1;
+}
+row_of_words job bytes words checks_time e (outcome.Answered answer.NoMemory) a h = λ told old new same. tt
+row_of_words job bytes words checks_time e (outcome.Answered found) a h = absurd h
+row_of_words job bytes words checks_time e (outcome.Undecided poly) a h = absurd h
 row_of_words job bytes words (writes p k) e (outcome.Answered (answer.FormulaText formula)) a h = λ told old new same. record {
   belongs_to = (p, k, e);
   comes_from = told_by (λ b. (q : RunProperty) × (n : ℕ) × (w : FixedPoint) × IsWriting job b q n w × IsFormulaOf q n w formula) bytes told same

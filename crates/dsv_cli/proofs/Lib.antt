@@ -7,4 +7,3 @@ pub mod OneAnswerTasks
 pub mod Proposers
 pub mod RunLines
 pub mod Suffixes
-pub mod Verdicts

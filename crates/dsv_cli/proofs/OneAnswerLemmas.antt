@@ -17,7 +17,7 @@ abbrev IsOfStage : Task → Stage → Answer → Type 0
 IsOfStage task long found = found ≡ answer.FileTooLong
 IsOfStage task (faulty r) found = found ≡ answer.FileRefused r
 IsOfStage task (refused r) found = found ≡ answer.QuantRefused r
-IsOfStage task (in_words words) found = IsAnswerTo task words found
+IsOfStage task (in_words c words) found = IsAnswerTo c task words found
 
 record Reaches (job : Asked) (bytes : List ℕ) (found : Answer) : Type 0 where
   stage : Stage
@@ -26,8 +26,8 @@ record Reaches (job : Asked) (bytes : List ℕ) (found : Answer) : Type 0 where
 
 -- so does a question that is too large, by a search or for its formula
 large_asked : (bytes : List ℕ) (job : Asked) (size k : ℕ) (words : FixedPoint) → AsksOver job bytes k words → IsTooLarge k words size → Reaches job bytes (answer.JobSize size)
-large_asked bytes job size k words (inl t) h = record { stage = in_words words; reached = t.2.accepted; gives = rw t.2.task h }
-large_asked bytes job size k words (inr t) h = record { stage = in_words words; reached = t.1.accepted; gives = rw t.1.task h }
+large_asked bytes job size k words (inl t) h = record { stage = in_words t.2.accepted.controller words; reached = (t.2.accepted, refl); gives = rw t.2.task h }
+large_asked bytes job size k words (inr t) h = record { stage = in_words t.1.accepted.controller words; reached = (t.1.accepted, refl); gives = rw t.1.task h }
 
 large_by : (bytes : List ℕ) (job : Asked) (size : ℕ) → ((n : ℕ) × (w : FixedPoint) × AsksOver job bytes n w × IsTooLarge n w size) → Reaches job bytes (answer.JobSize size)
 large_by bytes job size t = large_asked bytes job size t.0 t.1 t.2 t.3
@@ -36,35 +36,41 @@ large_by bytes job size t = large_asked bytes job size t.0 t.1 t.2 t.3
 reached_by : (bytes : List ℕ) (old new : FilesSeen) (job : Asked) (found : Answer) → IsSettled found → IsRow (Some bytes) old new job found → Reaches job bytes found
 reached_by bytes old new job (answer.Falls poly offer fall) s h =
     let t = h.comes_from in
-    record { stage = in_words t.words; reached = t.accepted; gives = rw t.task (t.tested, h.shows) }
+    record { stage = in_words t.accepted.controller t.words; reached = (t.accepted, refl); gives = rw t.task (t.tested, h.shows) }
 reached_by bytes old new job (answer.KeptAway poly offer fall value) s h =
     let t = h.comes_from in
-    record { stage = in_words t.words; reached = t.accepted; gives = rw t.task (t.tested, h.shows) }
+    record { stage = in_words t.accepted.controller t.words; reached = (t.accepted, refl); gives = rw t.task (t.tested, h.shows) }
 reached_by bytes old new job answer.NoZeros s h =
     let t = h.comes_from in
-    record { stage = in_words t.words; reached = t.accepted; gives = rw t.task t.tested }
+    record { stage = in_words t.accepted.controller t.words; reached = (t.accepted, refl); gives = rw t.task t.tested }
 reached_by bytes old new job (answer.Wide index) s h =
     let t = h.comes_from in
-    record { stage = in_words t.words; reached = t.accepted; gives = rw t.task t.tested }
+    record { stage = in_words t.accepted.controller t.words; reached = (t.accepted, refl); gives = rw t.task t.tested }
+reached_by bytes old new job (answer.OnTime report) s h =
+    let t = h.comes_from in
+    record { stage = in_words t.accepted.controller t.words; reached = (t.accepted, refl); gives = rw t.task (t.timing, h.shows) }
+reached_by bytes old new job (answer.Late report) s h =
+    let t = h.comes_from in
+    record { stage = in_words t.accepted.controller t.words; reached = (t.accepted, refl); gives = rw t.task (t.timing, h.shows) }
 reached_by bytes old new job (answer.Never log) s h =
     let t = h.comes_from in
-    record { stage = in_words t.3; reached = t.4.accepted; gives = rw t.4.task t.5 }
+    record { stage = in_words t.4.accepted.controller t.3; reached = (t.4.accepted, refl); gives = rw t.4.task t.5 }
 reached_by bytes old new job (answer.Overflow trace) s h =
     let t = h.comes_from in
-    record { stage = in_words t.2; reached = t.3.accepted; gives = rw t.3.task (refl, t.4, t.5) }
+    record { stage = in_words t.3.accepted.controller t.2; reached = (t.3.accepted, refl); gives = rw t.3.task (refl, t.4, t.5) }
 reached_by bytes old new job (answer.Cycles cycle) s h =
     let t = h.comes_from in
-    record { stage = in_words t.2; reached = t.3.accepted; gives = rw t.3.task (refl, t.4, t.5) }
+    record { stage = in_words t.3.accepted.controller t.2; reached = (t.3.accepted, refl); gives = rw t.3.task (refl, t.4, t.5) }
 reached_by bytes old new job (answer.FormulaText formula) s h =
     let t = h.comes_from in
-    record { stage = in_words t.2; reached = t.3.accepted; gives = rw t.3.task t.4 }
+    record { stage = in_words t.3.accepted.controller t.2; reached = (t.3.accepted, refl); gives = rw t.3.task t.4 }
 reached_by bytes old new job (answer.JobSize size) s h = large_by bytes job size h.comes_from
 reached_by bytes old new job (answer.Simulated found) s h =
     let t = h.comes_from in
-    record { stage = in_words t.1; reached = t.2.accepted; gives = rw t.2.task t.3 }
+    record { stage = in_words t.2.accepted.controller t.1; reached = (t.2.accepted, refl); gives = rw t.2.task t.3 }
 reached_by bytes old new job (answer.InputRange index value) s h =
     let t = h.comes_from in
-    record { stage = in_words t.1; reached = t.2.accepted; gives = rw t.2.task t.3 }
+    record { stage = in_words t.2.accepted.controller t.1; reached = (t.2.accepted, refl); gives = rw t.2.task t.3 }
 reached_by bytes old new job (answer.QuantRefused r) s h = record { stage = refused r; reached = h.comes_from; gives = refl }
 reached_by bytes old new job (answer.FileRefused r) s h = record { stage = faulty r; reached = h.comes_from; gives = refl }
 reached_by bytes old new job answer.FileTooLong s h = record { stage = long; reached = h.comes_from; gives = refl }
@@ -76,7 +82,7 @@ one_of_stage : (task : Task) (stage : Stage) (a b : Answer) → IsSettled a → 
 one_of_stage task long a b x y h k = rw (h, k) refl
 one_of_stage task (faulty r) a b x y h k = rw (h, k) refl
 one_of_stage task (refused r) a b x y h k = rw (h, k) refl
-one_of_stage task (in_words words) a b x y h k = one_task task words a b x y h k
+one_of_stage task (in_words c words) a b x y h k = one_task c task words a b x y h k
 
 pub one_answer : HaveOneAnswer
 one_answer bytes old new then_old then_new job a b x y h k =

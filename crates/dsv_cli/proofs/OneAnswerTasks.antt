@@ -21,7 +21,7 @@ use Rattle.dsv_delta.specs.declared.refusal.PolyWide.{PolyWide}
 use Rattle.dsv_tested.specs.Tested.{tested_of}
 use Rattle.dsv_tested.specs.declared.side.Tested.{Tested}
 use Rattle.dsv_tested.specs.declared.side.Tested.TheVariants as tested
-use Rattle.dsv_command.specs.Jobs.{Task, decides, writes, searches, simulates}
+use Rattle.dsv_command.specs.Jobs.{Task, decides, checks_time, writes, searches, simulates}
 use Rattle.dsv_report.specs.declared.answers.Answer.{Answer}
 use Rattle.dsv_report.specs.declared.answers.Answer.TheVariants as answer
 use Rattle.dsv_cli.specs.Headline.{degree, side_of, ShowsFall, ShowsKeptAway}
@@ -35,8 +35,14 @@ use Rattle.dsv_unroll.specs.Goals.{most_size}
 use Rattle.dsv_bounded.specs.Formulas.{job_size_of}
 use Rattle.dsv_bounded.specs.Verdicts.{IsTrace, IsCycle}
 use Rattle.dsv_cli.specs.Questions.{Happens, IsTooLarge}
-use Rattle.dsv_cli.proofs.Verdicts.{trace_breaks, cycle_cycles}
-use Rattle.dsv_cli.specs.Causes.{IsOfRun, IsOfFormula, IsOfSearch}
+use Rattle.dsv_bounded.proofs.Verdicts.{trace_breaks, cycle_cycles}
+use Rattle.dsv_cli.specs.Causes.{IsOfRun, IsOfTiming, IsOfFormula, IsOfSearch}
+use Rattle.dsv_cli.specs.Timing.{IsTimingOf, IsOnTime}
+use Rattle.dsv_reader.specs.Controllers.{ControllerView}
+use Rattle.dsv_timing.specs.Cycles.{cycles_of}
+use Rattle.dsv_timing.specs.declared.work.TimingReport.{TimingReport}
+use Rattle.dsv_netlist.specs.declared.netlist.OpCounts.{OpCounts}
+use Rattle.dsv_fraction.specs.Ratio.{Ratio}
 use Rattle.dsv_cli.specs.OneAnswer.{SameForm, SameAnswer, IsSettled}
 
 -- ---- forms
@@ -245,15 +251,47 @@ one_search p n c words answer.NoMemory b x y h k = absurd x
 one_search p n c words (answer.Spent l) b x y h k = absurd x
 one_search p n c words a b x y h k = absurd h
 
--- what a task leads to for a controller in words
-abbrev pub IsAnswerTo : Task → FixedPoint → Answer → Type 0
-IsAnswerTo (decides p) words found = Leads (tested_of words (side_of p)) found
-IsAnswerTo (writes p samples) words found = IsOfFormula p samples words found
-IsAnswerTo (searches p samples conflicts) words found = IsOfSearch p samples conflicts words found
-IsAnswerTo (simulates inputs) words found = IsOfRun words inputs found
+-- ---- timing
+abbrev made : OpCounts → ℕ → ℕ → Ratio → TimingReport
+made counts cycles clock time = record { counts = counts; cycles = cycles; clock = clock; sample_time = time }
 
-pub one_task : (task : Task) (words : FixedPoint) (a b : Answer) → IsSettled a → IsSettled b → IsAnswerTo task words a → IsAnswerTo task words b → SameAnswer a b
-one_task (decides p) words a b x y h k = one_decision (tested_of words (side_of p)) a b x y h k
-one_task (writes p samples) words a b x y h k = one_formula p samples words a b x y h k
-one_task (searches p samples conflicts) words a b x y h k = one_search p samples conflicts words a b x y h k
-one_task (simulates inputs) words a b x y h k = one_run words inputs a b x y h k
+one_timing : (c : ControllerView) (words : FixedPoint) (r s : TimingReport) → IsTimingOf c words r → IsTimingOf c words s → r ≡ s
+one_timing c words r s h k =
+    let counts : r.counts ≡ s.counts = h.counts ∙ sym k.counts in
+    let cycles : r.cycles ≡ s.cycles = h.cycles ∙ ap (λ (n : OpCounts). cycles_of n c.costs) counts ∙ sym k.cycles in
+    let clock : r.clock ≡ s.clock = h.clock ∙ sym k.clock in
+    let time : r.sample_time ≡ s.sample_time = h.sample_time ∙ sym k.sample_time in
+    ap (λ (n : OpCounts). made n r.cycles r.clock r.sample_time) counts
+    ∙ ap (λ (n : ℕ). made s.counts n r.clock r.sample_time) cycles
+    ∙ ap (λ (n : ℕ). made s.counts s.cycles n r.sample_time) clock
+    ∙ ap (λ (t : Ratio). made s.counts s.cycles s.clock t) time
+
+on_time_or_late : (c : ControllerView) (words : FixedPoint) (r s : TimingReport) → IsTimingOf c words r → IsTimingOf c words s → IsOnTime r → (IsOnTime s → ⊥) → ⊥
+on_time_or_late c words r s h k on late = late (subst IsOnTime (one_timing c words r s h k) on)
+
+one_time : (c : ControllerView) (words : FixedPoint) (a b : Answer) → IsSettled a → IsSettled b → IsOfTiming c words a → IsOfTiming c words b → SameAnswer a b
+one_time c words (answer.OnTime r) (answer.OnTime s) x y h k = ap answer.OnTime (one_timing c words r s h.0 k.0)
+one_time c words (answer.OnTime r) (answer.Late s) x y h k = absurd (on_time_or_late c words r s h.0 k.0 h.1 k.1)
+one_time c words (answer.OnTime r) answer.NoMemory x y h k = absurd y
+one_time c words (answer.OnTime r) b x y h k = absurd k
+one_time c words (answer.Late r) (answer.Late s) x y h k = ap answer.Late (one_timing c words r s h.0 k.0)
+one_time c words (answer.Late r) (answer.OnTime s) x y h k = absurd (on_time_or_late c words s r k.0 h.0 k.1 h.1)
+one_time c words (answer.Late r) answer.NoMemory x y h k = absurd y
+one_time c words (answer.Late r) b x y h k = absurd k
+one_time c words answer.NoMemory b x y h k = absurd x
+one_time c words a b x y h k = absurd h
+
+-- what a task leads to for a controller in words
+abbrev pub IsAnswerTo : ControllerView → Task → FixedPoint → Answer → Type 0
+IsAnswerTo c (decides p) words found = Leads (tested_of words (side_of p)) found
+IsAnswerTo c checks_time words found = IsOfTiming c words found
+IsAnswerTo c (writes p samples) words found = IsOfFormula p samples words found
+IsAnswerTo c (searches p samples conflicts) words found = IsOfSearch p samples conflicts words found
+IsAnswerTo c (simulates inputs) words found = IsOfRun words inputs found
+
+pub one_task : (c : ControllerView) (task : Task) (words : FixedPoint) (a b : Answer) → IsSettled a → IsSettled b → IsAnswerTo c task words a → IsAnswerTo c task words b → SameAnswer a b
+one_task e (decides p) words a b x y h k = one_decision (tested_of words (side_of p)) a b x y h k
+one_task e checks_time words a b x y h k = one_time e words a b x y h k
+one_task e (writes p samples) words a b x y h k = one_formula p samples words a b x y h k
+one_task e (searches p samples conflicts) words a b x y h k = one_search p samples conflicts words a b x y h k
+one_task e (simulates inputs) words a b x y h k = one_run words inputs a b x y h k

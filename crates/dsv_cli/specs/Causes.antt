@@ -14,7 +14,8 @@ use Rattle.dsv_quantiser.specs.Quantising.{fixed_point_of}
 use Rattle.dsv_quantiser.specs.declared.refusal.QuantRefusal.{QuantRefusal}
 use Rattle.dsv_tested.specs.Tested.{tested_of}
 use Rattle.dsv_tested.specs.declared.side.Tested.TheVariants as tested
-use Rattle.dsv_command.specs.Jobs.{Task, decides, writes, searches, simulates, Asked}
+use Rattle.dsv_command.specs.Jobs.{Task, decides, checks_time, writes, searches}
+use Rattle.dsv_command.specs.Jobs.{simulates, Asked}
 use Rattle.dsv_command.specs.declared.job.Design.{Design}
 use Rattle.dsv_report.specs.declared.answers.Answer.{Answer}
 use Rattle.dsv_report.specs.declared.answers.Answer.TheVariants as answer
@@ -25,6 +26,7 @@ use Rattle.dsv_cli.specs.Headline.{ShowsFall, ShowsKeptAway, ShowsNoForm}
 use Rattle.dsv_bounded.specs.Verdicts.{IsTrace, IsCycle}
 use Rattle.dsv_cli.specs.Questions.{IsWithin, NeverHappens, GaveUp, IsFormulaOf, IsTooLarge}
 use Rattle.dsv_cli.specs.Simulating.{IsRunOver, IsFirstOutside}
+use Rattle.dsv_cli.specs.Timing.{IsTimingOf, IsOnTime}
 
 -- the answer that decides a polynomial
 abbrev pub IsDecision : List ℤ → Answer → Type 0
@@ -78,17 +80,26 @@ IsOfSearch of_property samples conflicts words (answer.JobSize size) =
 IsOfSearch of_property samples conflicts words answer.NoMemory = Unit {0}
 IsOfSearch of_property samples conflicts words other = ⊥
 
--- what a task comes to for a controller in these words
-abbrev pub IsOfTask : Task → FixedPoint → Outcome → Type 0
-IsOfTask (decides of_property) words found = IsOfProperty of_property words found
-IsOfTask (writes of_property samples) words (outcome.Answered found) =
+-- what a sample takes, in time or not
+abbrev pub IsOfTiming : ControllerView → FixedPoint → Answer → Type 0
+IsOfTiming c words (answer.OnTime report) = IsTimingOf c words report × IsOnTime report
+IsOfTiming c words (answer.Late report) = IsTimingOf c words report × (IsOnTime report → ⊥)
+IsOfTiming c words answer.NoMemory = Unit {0}
+IsOfTiming c words other = ⊥
+
+-- what a task comes to for a controller that becomes these words
+abbrev pub IsOfTask : ControllerView → Task → FixedPoint → Outcome → Type 0
+IsOfTask c (decides of_property) words found = IsOfProperty of_property words found
+IsOfTask c checks_time words (outcome.Answered found) = IsOfTiming c words found
+IsOfTask c checks_time words (outcome.Undecided poly) = ⊥
+IsOfTask c (writes of_property samples) words (outcome.Answered found) =
     IsOfFormula of_property samples words found
-IsOfTask (writes of_property samples) words (outcome.Undecided poly) = ⊥
-IsOfTask (searches of_property samples conflicts) words (outcome.Answered found) =
+IsOfTask c (writes of_property samples) words (outcome.Undecided poly) = ⊥
+IsOfTask c (searches of_property samples conflicts) words (outcome.Answered found) =
     IsOfSearch of_property samples conflicts words found
-IsOfTask (searches of_property samples conflicts) words (outcome.Undecided poly) = ⊥
-IsOfTask (simulates inputs) words (outcome.Answered found) = IsOfRun words inputs found
-IsOfTask (simulates inputs) words (outcome.Undecided poly) = ⊥
+IsOfTask c (searches of_property samples conflicts) words (outcome.Undecided poly) = ⊥
+IsOfTask c (simulates inputs) words (outcome.Answered found) = IsOfRun words inputs found
+IsOfTask c (simulates inputs) words (outcome.Undecided poly) = ⊥
 
 -- in the words of its format, by the job's modes and realisation, the controller is this, or
 -- refused so
@@ -102,7 +113,7 @@ pub record IsOfWords (c : ControllerView) (design : Design) (task : Task) (found
     Type 0 where
   pub words : FixedPoint
   pub becomes : BecomesWords c design (Ok words)
-  pub answer : IsOfTask task words found
+  pub answer : IsOfTask c task words found
 
 abbrev pub IsOfController : ControllerView → Design → Task → Outcome → Type 0
 IsOfController c design task (outcome.Answered (answer.QuantRefused r)) =
@@ -139,6 +150,8 @@ IsPlain (answer.KeptAway poly offer fall value) = ⊥
 IsPlain answer.NoZeros = Unit {0}
 IsPlain (answer.NoForm poly kept verdict) = ⊥
 IsPlain (answer.Wide index) = Unit {0}
+IsPlain (answer.OnTime report) = Unit {0}
+IsPlain (answer.Late report) = Unit {0}
 IsPlain (answer.Never log) = Unit {0}
 IsPlain (answer.Overflow trace) = Unit {0}
 IsPlain (answer.Cycles cycle) = Unit {0}

@@ -33,7 +33,8 @@ use Rattle.dsv_jury.specs.Jury.{jury_of}
 use Rattle.dsv_jury.specs.declared.verdict.Jury.{Jury}
 use Rattle.dsv_lyapunov.specs.Kept.{AreRefused}
 use Rattle.dsv_lyapunov.specs.declared.kept.KeptForm.{KeptForm}
-use Rattle.dsv_command.specs.Jobs.{Task, decides, writes, searches, simulates, Asked}
+use Rattle.dsv_command.specs.Jobs.{Task, decides, checks_time, writes, searches}
+use Rattle.dsv_command.specs.Jobs.{simulates, Asked}
 use Rattle.dsv_command.specs.declared.job.Design.{Design}
 use Rattle.dsv_report.specs.declared.answers.Answer.{Answer}
 use Rattle.dsv_report.specs.declared.answers.Answer.TheVariants as answer
@@ -41,6 +42,8 @@ use Rattle.dsv_report.specs.declared.answers.WhichFile.TheVariants as file
 use Rattle.dsv_bounded.specs.Verdicts.{IsTrace, IsCycle}
 use Rattle.dsv_cli.specs.Questions.{IsWithin, NeverHappens, GaveUp, IsFormulaOf, IsTooLarge}
 use Rattle.dsv_cli.specs.Simulating.{IsRunOver, IsFirstOutside}
+use Rattle.dsv_cli.specs.Timing.{IsTimingOf, IsOnTime}
+use Rattle.dsv_timing.specs.declared.work.TimingReport.{TimingReport}
 
 -- ---- the accepted job
 -- the most bytes that a controller file has
@@ -82,6 +85,13 @@ pub record IsTested (job : Asked) (bytes : List ℕ) (outcome : Result Tested Po
   pub words : FixedPoint
   pub accepted : IsAccepted job.design bytes (Ok words)
   pub tested : tested_of words (side_of property) ≡ outcome
+
+-- The report says what a sample of the file's controller takes, and the time that it has.
+pub record IsTimed (job : Asked) (bytes : List ℕ) (report : TimingReport) : Type 0 where
+  pub task : job.task ≡ checks_time
+  pub words : FixedPoint
+  pub accepted : IsAccepted job.design bytes (Ok words)
+  pub timing : IsTimingOf accepted.controller words report
 
 abbrev pub degree : List ℤ → ℕ
 degree poly = length poly - 1
@@ -184,6 +194,10 @@ IsRow told old new job (answer.NoForm poly kept verdict) =
 IsRow told old new job (answer.Wide index) =
     Row told (Decides job.task) (λ bytes. IsTested job bytes (Err (record { index = index })))
     (Unit {0})
+IsRow told old new job (answer.OnTime report) =
+    Row told (job.task ≡ checks_time) (λ bytes. IsTimed job bytes report) (IsOnTime report)
+IsRow told old new job (answer.Late report) =
+    Row told (job.task ≡ checks_time) (λ bytes. IsTimed job bytes report) (IsOnTime report → ⊥)
 IsRow told old new job (answer.Never log) =
     Row told (Searches job.task)
     (λ bytes. (property : RunProperty) × (samples : ℕ) × (conflicts : ℕ) × (words : FixedPoint)

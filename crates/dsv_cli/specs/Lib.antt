@@ -7,3 +7,4 @@ pub mod Proposers
 pub mod Questions
 pub mod Simulating
 pub mod Suffixes
+pub mod Timing

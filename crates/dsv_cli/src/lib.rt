@@ -10,6 +10,7 @@ mod outside;
 mod questions;
 mod running;
 mod simulating;
+mod timing;
 
 pub use dsv_lyapunov::{FormProposer, SumProposer};
 pub use dsv_report::{Answer, WhichFile};

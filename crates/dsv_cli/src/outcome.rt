@@ -7,6 +7,7 @@ ghost use Rattle.dsv_cli.specs.Causes.{IsOfBytes, HasRowOf, AnswersPlainly};
 
 use crate::questions::{formula_answer, search_answer};
 use crate::simulating::simulated_answer;
+use crate::timing::timing_answer;
 use dsv_command::{Design, Job, Task};
 use dsv_delta::PolyWide;
 use dsv_forms::Poly;
@@ -65,13 +66,14 @@ fn property_outcome(words: &Quantised, property: RootProperty) -> Outcome
     }
 }
 
-/// What a task for a controller in words comes to.
-fn task_outcome(alloc: Global, words: &Quantised, task: &Task) -> Outcome
-    ensures task { IsOfTask (asked_task task.now) words.now result }
+/// What a task for a controller that becomes these words comes to.
+fn task_outcome(alloc: Global, controller: &Controller, words: &Quantised, task: &Task) -> Outcome
+    ensures task { IsOfTask controller.now (asked_task task.now) words.now result }
     ensures plain { AnswersPlainly result }
 {
     match task {
         Task::Decide(property) => property_outcome(words, *property),
+        Task::CheckTime => Outcome::Answered(timing_answer(alloc, controller, words)),
         Task::WriteFormula(question) => {
             Outcome::Answered(formula_answer(alloc, words, question))
         }
@@ -96,7 +98,7 @@ fn controller_outcome(
 {
     let format = format_of(controller, design);
     match quantise(controller, format, design.realisation) {
-        Ok(words) => task_outcome(alloc, &words, task),
+        Ok(words) => task_outcome(alloc, controller, &words, task),
         Err(refusal) => Outcome::Answered(Answer::QuantRefused(refusal)),
     }
 }

@@ -19,7 +19,7 @@ use Rattle.dsv_command.specs.declared.job.Design.{Design}
 use Rattle.dsv_command.specs.declared.limits.TheConstants.{MOST_NUMBER_DIGITS, MOST_SAMPLES, DEFAULT_SAMPLES, MOST_CONFLICTS, DEFAULT_CONFLICTS}
 use Rattle.dsv_text.specs.Digits.{short_number}
 use Rattle.dsv_command.specs.Inputs.{inputs_of}
-use Rattle.dsv_command.specs.Jobs.{Task, decides, writes, searches, simulates, Asked, ◌>>=◌, choice_or, design_of, is_given, has_run_option, number_up_to, samples_of, conflicts_of, run_task, property_task, task_by, task_of, job_of_parts, job_of}
+use Rattle.dsv_command.specs.Jobs.{Task, decides, checks_time, writes, searches, simulates, Asked, ◌>>=◌, choice_or, design_of, is_given, has_run_option, number_up_to, samples_of, conflicts_of, run_task, property_task, task_by, task_of, job_of_parts, job_of}
 use Rattle.dsv_command.specs.Options.{command_options}
 use Rattle.dsv_command.specs.Parts.{PartView, file_of, value_of, has_empty}
 use Rattle.dsv_command.specs.Reading.{parts_of}
@@ -66,6 +66,7 @@ property_read parts p t g e = rw (g.name, g.no_inputs) (ap (λ x. x >>= property
 
 task_read : (parts : List PartView) (t : Task) → IsTask parts t → task_of parts ≡ Some t
 task_read parts t (IsTask.roots ps p g none) = property_read ps (OfRoots p) (decides p) g (rw (none_given ps none) refl)
+task_read parts t (IsTask.timing ps g none) = property_read ps Timing checks_time g (rw (none_given ps none) refl)
 task_read parts t (IsTask.formula ps p samples g n f c) =
     property_read ps (OfRuns p) (writes p samples) g
     (ap (λ x. x >>= run_task ps p) (number_read MOST_SAMPLES DEFAULT_SAMPLES samples (value_of (codes "x-size") ps) n) ∙ rw (f, c) refl)
@@ -147,12 +148,19 @@ roots_by parts p t false g e h =
     let same : decides p ≡ t = cc in
     subst (IsTask parts) same (IsTask.roots parts p g (none_found parts e))
 
+timing_by : (parts : List PartView) (t : Task) (b : Bool) → GivesProperty parts Timing → has_run_option parts ≡ b →
+    (if b then None else Some checks_time) ≡ Some t → IsTask parts t
+timing_by parts t true g e h = absurd (cc)
+timing_by parts t false g e h =
+    let same : checks_time ≡ t = cc in
+    subst (IsTask parts) same (IsTask.timing parts g (none_found parts e))
+
 property_found : (parts : List PartView) (p : Property) (t : Task) → GivesProperty parts p → property_task parts p ≡ Some t → IsTask parts t
 property_found parts (OfRuns p) t g h =
     let b = unbind (samples_of parts) (run_task parts p) t h in
     question_by parts p b.value t (is_given parts (codes "formula")) (is_given parts (codes "conflicts")) g b.first refl refl b.second
 property_found parts (OfRoots p) t g h = roots_by parts p t (has_run_option parts) g refl h
-property_found parts Timing t g h = absurd (cc)
+property_found parts Timing t g h = timing_by parts t (has_run_option parts) g refl h
 
 simulation_by : (parts : List PartView) (text : List ℕ) (t : Task) (b : Bool) → value_of (codes "simulate") parts ≡ Some text →
     value_of (codes "property") parts ≡ None → has_run_option parts ≡ b →

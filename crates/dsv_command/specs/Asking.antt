@@ -1,12 +1,14 @@
 -- What contracts see of a job.
-use Rattle.dsv_command.specs.Jobs.{Asked, decides, writes, searches, simulates}
+use Rattle.dsv_command.specs.Jobs.{Asked, decides, checks_time, writes, searches, simulates}
 use Rattle.dsv_command.specs.Jobs as jobs
 use Rattle.dsv_command.specs.declared.job.Job.{Job}
 use Rattle.dsv_command.specs.declared.task.Task.{Task}
-use Rattle.dsv_command.specs.declared.task.Task.TheVariants.{Decide, WriteFormula, Search, Simulate}
+use Rattle.dsv_command.specs.declared.task.Task.TheVariants.{Decide, CheckTime}
+use Rattle.dsv_command.specs.declared.task.Task.TheVariants.{WriteFormula, Search, Simulate}
 
 abbrev pub asked_task : Task → jobs.Task
 asked_task (Decide property) = decides property
+asked_task CheckTime = checks_time
 asked_task (WriteFormula question) = writes question.property question.samples
 asked_task (Search question budget) =
     searches question.property question.samples budget.conflicts

@@ -28,6 +28,8 @@ use Rattle.dsv_command.specs.Reading.{parts_of}
 pub data Task : Type 0 where
   -- a property of its roots is decided
   decides : RootProperty → Task
+  -- it is decided whether the work of a sample is done in time
+  checks_time : Task
   -- the formula of a property of its runs over so many samples is written
   writes : RunProperty → ℕ → Task
   -- a property of its runs over so many samples is decided, by a search with so many conflicts
@@ -98,7 +100,7 @@ abbrev pub property_task : List PartView → Property → Option Task
 property_task parts (OfRuns property) = samples_of parts >>= run_task parts property
 property_task parts (OfRoots property) =
     if has_run_option parts then None else Some (decides property)
-property_task parts Timing = None
+property_task parts Timing = if has_run_option parts then None else Some checks_time
 
 -- the task of a run over inputs
 abbrev pub simulation_task : List PartView → List ℕ → Option Task

@@ -13,14 +13,15 @@ use Rattle.dsv_names.specs.declared.overflow_mode.OverflowMode.TheVariants.{Wrap
 use Rattle.dsv_names.specs.declared.property.RunProperty.{RunProperty}
 use Rattle.dsv_names.specs.declared.property.RootProperty.{RootProperty}
 use Rattle.dsv_names.specs.declared.property.Property.{Property}
-use Rattle.dsv_names.specs.declared.property.Property.TheVariants.{OfRuns, OfRoots}
+use Rattle.dsv_names.specs.declared.property.Property.TheVariants.{OfRuns, OfRoots, Timing}
 use Rattle.dsv_names.specs.OverflowModes.{overflow_mode_name}
 use Rattle.dsv_names.specs.Properties.{property_name}
 use Rattle.dsv_names.specs.Realisations.{realisation_name}
 use Rattle.dsv_names.specs.Roundings.{rounding_name}
 use Rattle.dsv_command.specs.declared.job.Design.{Design}
 use Rattle.dsv_command.specs.Inputs.{most_inputs, most_digits}
-use Rattle.dsv_command.specs.Jobs.{Task, decides, writes, searches, simulates, Asked}
+use Rattle.dsv_command.specs.Jobs.{Task, decides, checks_time, writes, searches, simulates}
+use Rattle.dsv_command.specs.Jobs.{Asked}
 use Rattle.dsv_command.specs.Jobs.{is_given}
 use Rattle.dsv_command.specs.declared.limits.TheConstants.{MOST_NUMBER_DIGITS, MOST_SAMPLES}
 use Rattle.dsv_command.specs.declared.limits.TheConstants.{DEFAULT_SAMPLES, MOST_CONFLICTS}
@@ -148,6 +149,8 @@ AreConflicts parts n =
 pub data IsTask : List PartView → Task → Type 0 where
   roots : (parts : List PartView) (p : RootProperty) → GivesProperty parts (OfRoots p)
       → HasNoRunOption parts → IsTask parts (decides p)
+  timing : (parts : List PartView) → GivesProperty parts Timing → HasNoRunOption parts
+      → IsTask parts checks_time
   formula : (parts : List PartView) (p : RunProperty) (samples : ℕ)
       → GivesProperty parts (OfRuns p) → AreSamples parts samples
       → is_given parts (codes "formula") ≡ true → is_given parts (codes "conflicts") ≡ false

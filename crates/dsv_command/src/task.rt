@@ -21,6 +21,8 @@ use dsv_text::short_number;
 pub enum Task {
     /// It is decided whether the controller has a property of its roots.
     Decide(RootProperty),
+    /// It is decided whether the work of a sample is done in time.
+    CheckTime,
     /// The formula of a question is written.
     WriteFormula(RunQuestion),
     /// A question is decided by a search.
@@ -101,9 +103,9 @@ fn property_task(parts: &[Part], property: Property) -> Option<Task>
             let samples = find_samples(parts)?;
             question_task(parts, RunQuestion { property, samples })
         }
-        Property::OfRoots(_) if has_run_option(parts) => None,
+        Property::OfRoots(_) | Property::Timing if has_run_option(parts) => None,
         Property::OfRoots(property) => Some(Task::Decide(property)),
-        Property::Timing => None,
+        Property::Timing => Some(Task::CheckTime),
     }
 }
 

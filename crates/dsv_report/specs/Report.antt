@@ -5,7 +5,7 @@ use Rattle.std.specs.List.{flat_map}
 use Rattle.std.specs.Fmt.{signed_decimal}
 use Rattle.dsv_names.specs.Properties.{property_name}
 use Rattle.dsv_names.specs.declared.property.Property.{Property}
-use Rattle.dsv_names.specs.declared.property.Property.TheVariants.{OfRuns, OfRoots}
+use Rattle.dsv_names.specs.declared.property.Property.TheVariants.{OfRuns, OfRoots, Timing}
 use Rattle.dsv_names.specs.Realisations.{realisation_name}
 use Rattle.dsv_names.specs.declared.realisation.Realisation.{Realisation}
 use Rattle.dsv_base.specs.Text.{spaced_text, line_of}
@@ -16,7 +16,9 @@ use Rattle.dsv_system.specs.Runs.{SampleRow}
 use Rattle.dsv_cnf.specs.Dimacs.{dimacs_text}
 use Rattle.dsv_meaning.specs.declared.replays.Cycle.{Cycle}
 use Rattle.dsv_meaning.specs.declared.replays.Trace.{Trace}
-use Rattle.dsv_command.specs.Jobs.{Task, decides, writes, searches, simulates, Asked}
+use Rattle.dsv_timing.specs.declared.work.TimingReport.{TimingReport}
+use Rattle.dsv_fraction.specs.Ratio.{Ratio}
+use Rattle.dsv_command.specs.Jobs.{Task, decides, checks_time, writes, searches, simulates, Asked}
 use Rattle.dsv_report.specs.Fragments.{concatenation}
 use Rattle.dsv_report.specs.Refusals.{file_text, quant_text, input_text}
 use Rattle.dsv_report.specs.declared.answers.Answer.{Answer}
@@ -43,6 +45,7 @@ property_text property = concatenation (codes "property " ∷ property_name prop
 -- what is asked of the controller, before the realisation
 abbrev pub task_text : Task → List ℕ
 task_text (decides property) = property_text (OfRoots property)
+task_text checks_time = property_text Timing
 task_text (writes property samples) = property_text (OfRuns property)
 task_text (searches property samples conflicts) = property_text (OfRuns property)
 task_text (simulates inputs) = []
@@ -59,6 +62,7 @@ number_line word number =
 -- how many samples are asked for, up to the end of the line
 abbrev pub extent_text : Task → List ℕ
 extent_text (decides property) = codes "\n"
+extent_text checks_time = codes "\n"
 extent_text (writes property samples) = number_line (codes " samples ") samples
 extent_text (searches property samples conflicts) = number_line (codes " samples ") samples
 extent_text (simulates inputs) = codes "\n"
@@ -141,6 +145,24 @@ spent_text conflicts = number_line (codes "cause SPENT conflicts ") conflicts
 abbrev pub size_text : ℕ → List ℕ
 size_text size = number_line (codes "JOB SIZE ") size
 
+-- ---- timing
+-- how many products, sums and loaded registers a sample takes
+abbrev pub counts_text : ℕ → ℕ → ℕ → List ℕ
+counts_text products sums moves = numbered (codes "products ") products
+    ++ (numbered (codes " sums ") sums ++ number_line (codes " moves ") moves)
+
+-- the time between two samples as a fraction, up to the end of the line
+abbrev pub time_text : Ratio → List ℕ
+time_text time = concatenation (codes " sample-time " ∷ signed_decimal time.num ∷ codes "/"
+    ∷ signed_decimal (pos time.den) ∷ codes "\n" ∷ [])
+
+-- what a sample takes, and the time that it has
+abbrev pub timing_text : TimingReport → List ℕ
+timing_text report =
+    counts_text report.counts.products report.counts.sums report.counts.moves
+    ++ (number_line (codes "cycles ") report.cycles
+    ++ (numbered (codes "clock ") report.clock ++ time_text report.sample_time))
+
 -- ---- simulations
 -- the number, the input and the output of a sample
 abbrev pub sample_head : ℕ → ℤ → ℤ → List ℕ
@@ -169,6 +191,8 @@ text_of job answer.NoZeros = heading failed job ++ no_zeros_text
 text_of job (answer.NoForm poly kept verdict) =
     heading inconclusive job ++ no_form_text poly (length kept) verdict
 text_of job (answer.Wide index) = heading inconclusive job ++ wide_text index
+text_of job (answer.OnTime report) = heading successful job ++ timing_text report
+text_of job (answer.Late report) = heading failed job ++ timing_text report
 text_of job (answer.Never log) = heading successful job
 text_of job (answer.Overflow trace) = heading failed job ++ trace_text trace
 text_of job (answer.Cycles cycle) = heading failed job ++ cycle_text cycle
@@ -190,6 +214,8 @@ status_of (answer.KeptAway poly offer fall value) = 10
 status_of answer.NoZeros = 10
 status_of (answer.NoForm poly kept verdict) = 20
 status_of (answer.Wide index) = 20
+status_of (answer.OnTime report) = 0
+status_of (answer.Late report) = 10
 status_of (answer.Never log) = 0
 status_of (answer.Overflow trace) = 10
 status_of (answer.Cycles cycle) = 10

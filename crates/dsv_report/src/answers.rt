@@ -8,6 +8,7 @@ use dsv_meaning::{Cycle, Trace};
 use dsv_quantiser::QuantRefusal;
 use dsv_reader::FileRefusal;
 use dsv_system::Rows;
+use dsv_timing::TimingReport;
 
 /// A file that the command reads.
 #[derive(Clone, Copy, Debug, PartialEq, Eq)]
@@ -46,6 +47,10 @@ pub enum Answer {
     Wide {
         index: u32,
     },
+    /// The work of a sample is done in time.
+    OnTime(TimingReport),
+    /// The work of a sample isn't done in time.
+    Late(TimingReport),
     /// What the job asks of runs never happens: the log derives the empty clause from the job's
     /// formula.
     Never {

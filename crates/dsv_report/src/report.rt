@@ -18,10 +18,12 @@ use dsv_base::{Failed, Sink, put_all, put_line, put_spaced};
 use dsv_cnf::write_dimacs;
 use dsv_command::{Job, Task};
 use dsv_forms::{Form, KeptAway, Poly};
+use dsv_fraction::Frac;
 use dsv_jury::Jury;
 use dsv_meaning::{Cycle, Trace};
 use dsv_names::{Named, Property, Realisation};
 use dsv_system::{Row, Rows};
+use dsv_timing::TimingReport;
 use itoa::Integer;
 use std::slice;
 
@@ -54,6 +56,7 @@ fn put_task<K: Sink>(sink: &mut K, task: &Task) -> Result<(), Failed>
 {
     match task {
         Task::Decide(property) => put_property(sink, Property::OfRoots(*property)),
+        Task::CheckTime => put_property(sink, Property::Timing),
         Task::WriteFormula(question) | Task::Search(question, _) => {
             put_property(sink, Property::OfRuns(question.property))
         }
@@ -84,7 +87,7 @@ fn put_extent<K: Sink>(sink: &mut K, task: &Task) -> Result<(), Failed>
         Task::WriteFormula(question) | Task::Search(question, _) => {
             put_number_line(sink, b" samples ", question.samples.into())
         }
-        Task::Decide(_) | Task::Simulate(_) => put_all(sink, b"\n"),
+        Task::Decide(_) | Task::CheckTime | Task::Simulate(_) => put_all(sink, b"\n"),
     }
 }
 
@@ -303,6 +306,68 @@ fn put_break<K: Sink>(sink: &mut K, sample: u64, value: u64, exact: &i128) -> Re
     put_line(sink, b" exact", slice::from_ref(exact))
 }
 
+/// Writes how many operations a sample takes, and how many registers it loads.
+fn put_counts<K: Sink>(sink: &mut K, products: u64, sums: u64, moves: u64) -> Result<(), Failed>
+    ensures { Writes (K.seen sink.old) (K.seen sink.new) result
+        (report.counts_text products sums moves) }
+{
+    put_numbered(sink, b"products ", products)?;
+    put_numbered(sink, b" sums ", sums)?;
+    put_number_line(sink, b" moves ", moves)
+}
+
+/// Writes the time between two samples.
+fn put_time<K: Sink>(sink: &mut K, time: &Frac) -> Result<(), Failed>
+    ensures { Writes (K.seen sink.old) (K.seen sink.new) result (report.time_text time.now) }
+{
+    put_fragments(
+        sink,
+        &[
+            Fragment::Bytes(b" sample-time "),
+            Fragment::Number(time.num()),
+            Fragment::Bytes(b"/"),
+            Fragment::Number(time.den()),
+            Fragment::Bytes(b"\n"),
+        ],
+    )
+}
+
+/// Writes what a sample takes, and the time that it has.
+fn put_timing<K: Sink>(sink: &mut K, found: &TimingReport) -> Result<(), Failed>
+    ensures { Writes (K.seen sink.old) (K.seen sink.new) result (report.timing_text found.now) }
+{
+    let counts = &found.counts;
+    put_counts(
+        sink,
+        counts.products.into(),
+        counts.sums.into(),
+        counts.moves.into(),
+    )?;
+    put_number_line(sink, b"cycles ", found.cycles)?;
+    put_numbered(sink, b"clock ", found.clock)?;
+    put_time(sink, &found.sample_time)
+}
+
+/// Writes that a sample is done in time.
+#[tactic(auto, unfolding(crate::specs::Report::successful))]
+fn put_on_time<K: Sink>(sink: &mut K, job: Option<&Job>, found: &TimingReport) -> Result<(), Failed>
+    ensures { Writes (K.seen sink.old) (K.seen sink.new) result
+        (report.heading report.successful (asked_in job.entry) ++ report.timing_text found.now) }
+{
+    put_heading(sink, SUCCESSFUL, job)?;
+    put_timing(sink, found)
+}
+
+/// Writes that a sample isn't done in time.
+#[tactic(auto, unfolding(crate::specs::Report::failed))]
+fn put_late<K: Sink>(sink: &mut K, job: Option<&Job>, found: &TimingReport) -> Result<(), Failed>
+    ensures { Writes (K.seen sink.old) (K.seen sink.new) result
+        (report.heading report.failed (asked_in job.entry) ++ report.timing_text found.now) }
+{
+    put_heading(sink, FAILED, job)?;
+    put_timing(sink, found)
+}
+
 /// Writes that nothing happens in any run.
 #[tactic(auto, unfolding(crate::specs::Report::successful))]
 fn put_never<K: Sink>(sink: &mut K, job: Option<&Job>) -> Result<(), Failed>
@@ -415,10 +480,15 @@ pub fn status_of(answer: &Answer) -> u8
 {
     match answer {
         Answer::Falls { .. }
+        | Answer::OnTime(_)
         | Answer::Never { .. }
         | Answer::FormulaText(_)
         | Answer::Simulated(_) => 0,
-        Answer::KeptAway { .. } | Answer::NoZeros | Answer::Overflow(_) | Answer::Cycles(_) => 10,
+        Answer::KeptAway { .. }
+        | Answer::NoZeros
+        | Answer::Late(_)
+        | Answer::Overflow(_)
+        | Answer::Cycles(_) => 10,
         Answer::NoForm { .. } | Answer::Wide { .. } | Answer::Spent { .. } => 20,
         Answer::Usage => 1,
         Answer::FileRefused(_)
@@ -450,6 +520,8 @@ pub fn put_answer<K: Sink>(sink: &mut K, job: Option<&Job>, answer: &Answer) -> 
             put_no_form(sink, job, poly, kept.len() as u64, *jury)
         }
         Answer::Wide { index } => put_wide(sink, job, u64::from(*index)),
+        Answer::OnTime(found) => put_on_time(sink, job, found),
+        Answer::Late(found) => put_late(sink, job, found),
         Answer::Never { .. } => put_never(sink, job),
         Answer::Overflow(trace) => put_overflow(sink, job, trace),
         Answer::Cycles(cycle) => put_limit_cycle(sink, job, cycle),
