@@ -12,3 +12,5 @@ mod peaks;
 mod ranges;
 #[cfg(test)]
 mod realisations;
+#[cfg(test)]
+mod set_goal;

@@ -22,7 +22,7 @@ use std::test::Fail;
 
 /// (0.5 - 0.5 z^-2) / (1 - 0.5 z^-1 + 0.5 z^-2) with delta 1, whose words in 2.1 are 1, 0, -1 and
 /// 2, -1, 1, and in the delta operator 1, 2, 0 and 2, 3, 2; its inputs are the words from -2 to 2.
-const SECOND: &str =
+pub(crate) const SECOND: &str =
     "digital_system d = { .b = {0.5, 0.0, -0.5}, .b_size = 3, .a = {1.0, -0.5, 0.5}, .a_size = 3 };
 implementation r = { .int_bits = 2, .frac_bits = 1, .max = 1.0, .min = -1.0, .delta = 1.0 };";
 
@@ -65,7 +65,7 @@ fn word(value: u32) -> i64
     }
 }
 
-fn are_words(format: &Format, words: &[i64]) -> bool
+pub(crate) fn are_words(format: &Format, words: &[i64]) -> bool
     ensures { IsTrue result → All (IsWord format.now) words.now }
 {
     words.iter().all(|word| format.fits(i128::from(*word)))
@@ -92,7 +92,7 @@ fn do_break(alloc: Global, q: &Quantised, inputs: &[i64]) -> Option<bool> {
 }
 
 /// Whether the root is 1 at these values.
-fn is_one(alloc: Global, goal: &Goal, values: &[u128]) -> Option<bool> {
+pub(crate) fn is_one(alloc: Global, goal: &Goal, values: &[u128]) -> Option<bool> {
     if !goal.terms.are_values(values) {
         return None;
     }

@@ -1,3 +1,4 @@
 mod BoxLemmas
-mod KeptSets
+pub mod KeptSets
 mod Lengths
+pub mod Membership

@@ -1,9 +1,11 @@
 -- Candidates: sets of registers that fulfil inequalities.
-use Rattle.std.specs.Prelude.{ℕ, ◌+◌, ◌-◌, ◌&&◌, ◌==◌, nat_le, Bool}
+use Rattle.std.specs.Prelude.{ℕ, ◌+◌, ◌-◌, ◌*◌, ◌^◌, ◌&&◌, ◌==◌, nat_le, Bool}
 use Rattle.std.specs.Prelude.{List, [], ◌∷◌, length, ℤ, pos, ◌+ℤ◌, ◌*ℤ◌, ◌≤ℤ◌}
 use Rattle.std.specs.List.{All, list_all}
 use Rattle.std.specs.Int.Count.{count_leading_zeros}
 use Rattle.std.specs.Int.RustNames.{unsigned_abs}
+use Rattle.dsv_word.specs.Words.{lo, hi}
+use Rattle.dsv_word.specs.declared.format.TheConstants.{WIDEST_WORD}
 use Rattle.dsv_template.specs.declared.candidate.Inequality.{Inequality}
 use Rattle.dsv_template.specs.declared.candidate.Candidate.{Candidate}
 use Rattle.dsv_template.specs.declared.limits.TheConstants.{MOST_COEFFICIENT, MOST_BOUND}
@@ -22,6 +24,11 @@ Fulfils registers i = combination i.coefficients.items registers ≤ℤ i.bound
 -- the registers fulfil all inequalities
 abbrev pub IsInSet : Candidate → List ℤ → Type 0
 IsInSet candidate registers = All (Fulfils registers) candidate.inequalities.items
+
+-- a word of some format: it has at most as many bits as the widest word
+pub record IsSomeWord (v : ℤ) : Type 0 where
+  pub low : lo WIDEST_WORD ≤ℤ v
+  pub high : v ≤ℤ hi WIDEST_WORD
 
 -- ---- what is asked of a candidate's numbers
 -- how many bits the size of a number takes
@@ -50,3 +57,7 @@ abbrev pub is_shaped : ℕ → Candidate → Bool
 is_shaped registers candidate = list_all (is_fit_for registers) candidate.inequalities.items
     && nat_le (all_bit_lengths candidate.inequalities.items) MOST_BIT_LENGTHS
     && nat_le 1 candidate.depth && nat_le candidate.depth MOST_DEPTH
+
+-- the greatest size of a coefficient times a register
+abbrev pub most_entry : ℕ
+most_entry = MOST_COEFFICIENT * 2 ^ (WIDEST_WORD - 1)

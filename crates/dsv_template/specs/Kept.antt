@@ -1,8 +1,9 @@
 -- Kept sets: what makes a candidate good for a system.
 use Rattle.std.specs.Prelude.{◌≡◌, ℕ, ◌<◌, ◌≤◌, List, [], ◌∷◌, ◌++◌, length, take, ℤ, ◌≤ℤ◌}
-use Rattle.std.specs.List.{All}
+use Rattle.std.specs.List.{All, Contains}
 use Rattle.dsv_word.specs.Words.{IsWord}
-use Rattle.dsv_system.specs.Breaks.{IsInside, Breaks}
+use Rattle.dsv_system.specs.Breaks.{IsInside, IsOutside, Breaks}
+use Rattle.dsv_system.specs.Runs.{SampleRow}
 use Rattle.dsv_system.specs.Systems.{System, rows, registers_after, zeros, AreInRange}
 use Rattle.dsv_template.specs.declared.candidate.Candidate.{Candidate}
 use Rattle.dsv_template.specs.Candidates.{IsInSet}
@@ -39,6 +40,35 @@ pub record IsKept (P : Type 0) (m : System P) (low high : ℤ) (candidate : Cand
     pub begins : Begins P m low high candidate
     pub stays : Stays P m low high candidate
     pub safe : IsSafe P m low high candidate
+
+-- ---- how the sentences are broken
+-- After these inputs, all in range and fewer than the depth, from registers of zeros the registers
+-- aren't in the set.
+pub record LeavesEarly (P : Type 0) (m : System P) (low high : ℤ) (candidate : Candidate)
+    (inputs : List ℤ) : Type 0 where
+  pub in_range : AreInRange low high inputs
+  pub few : length inputs < candidate.depth
+  pub outside : IsInSet candidate (registers_after m (zeros m.many) inputs) → ⊥
+
+-- From this start, over these inputs, all in range, as many states as the depth are in the set, and
+-- the next one isn't.
+pub record LeavesLater (P : Type 0) (m : System P) (low high : ℤ) (candidate : Candidate)
+    (start inputs : List ℤ) : Type 0 where
+  pub state : IsState P m start
+  pub in_range : AreInRange low high inputs
+  pub many : length inputs ≡ candidate.depth
+  pub inside : (n : ℕ) → n < candidate.depth
+      → IsInSet candidate (registers_after m start (take n inputs))
+  pub outside : IsInSet candidate (registers_after m start inputs) → ⊥
+
+-- The start is in the set, and at this input in range some exact value is no word.
+pub record BreaksFrom (P : Type 0) (m : System P) (low high : ℤ) (candidate : Candidate)
+    (start : List ℤ) (input : ℤ) : Type 0 where
+  pub state : IsState P m start
+  pub inside : IsInSet candidate start
+  pub at_least : low ≤ℤ input
+  pub at_most : input ≤ℤ high
+  pub broken : (r : SampleRow) × Contains (rows m start (input ∷ [])) r × IsOutside m.format r
 
 -- ---- what a kept set means
 -- A run goes on from its registers alone: words in the registers and inputs in range give words in

@@ -1,8 +1,11 @@
 // Sets of registers that are offered.
-ghost use Rattle.std.specs.Prelude.{◌≡◌, ◌≤◌, ◌*◌, length};
-ghost use Rattle.std.specs.List.{list_all};
+ghost use Rattle.std.specs.Prelude.{◌≡◌, ◌≤◌, ◌*◌, ◌↔◌, true, false, length, pos, neg_ℤ};
+ghost use Rattle.std.specs.Prelude.{◌*ℤ◌, ◌≤ℤ◌, IsTrue};
+ghost use Rattle.std.specs.List.{All, list_all};
 ghost use Rattle.dsv_template.specs.Candidates.{is_small, bit_length, bit_lengths};
 ghost use Rattle.dsv_template.specs.Candidates.{all_bit_lengths, is_fit_for, is_shaped};
+ghost use Rattle.dsv_template.specs.Candidates.{IsSomeWord, most_entry, combination, Fulfils};
+ghost use Rattle.dsv_template.specs.Candidates.{IsInSet};
 ghost use Rattle.dsv_template.specs.declared.limits.TheConstants.{MOST_REGISTERS, MOST_INEQUALITIES};
 
 use crate::limits::{
@@ -95,6 +98,55 @@ fn are_fit_for(registers: u32, inequalities: &[Inequality]) -> bool
         .all(|inequality| is_fit_for(registers, inequality))
 }
 
+/// A coefficient times a register.
+fn entry(coefficient: &i64, register: &i64) -> i64
+    requires small { is_small coefficient.now ≡ true }
+    requires word { IsSomeWord register.now }
+    ensures value { result ≡ coefficient.now *ℤ register.now }
+    ensures least { neg_ℤ (pos most_entry) ≤ℤ result }
+    ensures greatest { result ≤ℤ pos most_entry }
+{
+    *coefficient * *register
+}
+
+/// The sum of each coefficient times its register.
+fn combination(coefficients: &[i64], registers: &[i64]) -> i64
+    requires many { length coefficients.now ≡ length registers.now }
+    requires few { length coefficients.now ≤ MOST_REGISTERS }
+    requires small { list_all is_small coefficients.now ≡ true }
+    requires words { All IsSomeWord registers.now }
+    ensures { result ≡ combination coefficients.now registers.now }
+{
+    let mut total = 0;
+    for (i, coefficient) in coefficients.iter().enumerate() {
+        total += entry(coefficient, &registers[i]);
+    }
+    total
+}
+
+/// Whether the registers fulfil an inequality.
+fn fulfils(inequality: &Inequality, registers: &[i64]) -> bool
+    requires fit { is_fit_for (length registers.now) inequality.now ≡ true }
+    requires words { All IsSomeWord registers.now }
+    ensures { IsTrue result ↔ Fulfils registers.now inequality.now }
+{
+    combination(&inequality.coefficients, registers) <= inequality.bound
+}
+
+/// Whether the registers fulfil all of these inequalities.
+fn are_fulfilled(inequalities: &[Inequality], registers: &[i64]) -> bool
+    requires fit { list_all (is_fit_for (length registers.now)) inequalities.now ≡ true }
+    requires words { All IsSomeWord registers.now }
+    ensures { IsTrue result ↔ All (Fulfils registers.now) inequalities.now }
+{
+    for inequality in inequalities {
+        if !fulfils(inequality, registers) {
+            return false;
+        }
+    }
+    true
+}
+
 impl Candidate {
     /// Whether the candidate's numbers are as they have to be for so many registers: each inequality
     /// has as many coefficients, none over 2^24 in size, the sizes of all coefficients take at most
@@ -106,5 +158,16 @@ impl Candidate {
             && all_bit_lengths(&self.inequalities) <= MOST_BIT_LENGTHS
             && 1 <= self.depth
             && self.depth <= MOST_DEPTH
+    }
+
+    /// Whether these registers are in the set: whether they fulfil all inequalities. Each of them
+    /// holds a word of at most 32 bits.
+    pub fn contains(&self, registers: &[i64]) -> bool
+        requires shaped { is_shaped (length registers.now) self.now ≡ true }
+        requires words { All IsSomeWord registers.now }
+        ensures inside { result ≡ true → IsInSet self.now registers.now }
+        ensures outside { result ≡ false → IsInSet self.now registers.now → ⊥ }
+    {
+        are_fulfilled(&self.inequalities, registers)
     }
 }

@@ -4,6 +4,7 @@
 
 mod box_proposer;
 mod candidate;
+mod kept;
 mod law;
 mod limits;
 mod proposer;
@@ -12,6 +13,7 @@ mod verdict;
 
 pub use box_proposer::BoxProposer;
 pub use candidate::{Candidate, CoefficientList, Inequality, InequalityList};
+pub use kept::{KeptSet, KeptSets};
 pub use law::kept_sets_never_break;
 pub use limits::{
     MOST_BIT_LENGTHS, MOST_BOUND, MOST_COEFFICIENT, MOST_DEPTH, MOST_INEQUALITIES, MOST_REGISTERS,

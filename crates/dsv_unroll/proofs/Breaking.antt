@@ -27,7 +27,7 @@ use Rattle.dsv_term.specs.Terms.{KeepsTerms, AreValues, width_of, word_of}
 use Rattle.dsv_term.specs.TermsView.{TermsView}
 use Rattle.dsv_term.specs.Word.{IsWidth, bit_of}
 use Rattle.dsv_term.proofs.Made.{KeepsTerms-both}
-use Rattle.dsv_term.proofs.Building.{constant_gives}
+use Rattle.dsv_term.proofs.Building.{KeepsTerms-self, constant_gives}
 use Rattle.dsv_term.proofs.Complement.{IsSpelled, wider_spelled}
 use Rattle.dsv_unroll.specs.FactTests.{FactTerms, facts_from}
 use Rattle.dsv_unroll.specs.Goals.{InputTerms, inputs_from, RunTerms, run_from, run_tests, no_terms, conjunction_from, overflow_with, overflow_of}
@@ -42,7 +42,7 @@ use Rattle.dsv_unroll.proofs.Runs.{any_outside, breaks_from, RegistersMean, Inpu
 use Rattle.dsv_unroll.proofs.TestedTerms.{TestsHold, run_holds}
 use Rattle.dsv_unroll.proofs.FactTerms.{word_inside, inside_word, facts_hold, first_holds}
 use Rattle.dsv_unroll.proofs.SampleSteps.{bits_later}
-use Rattle.dsv_unroll.proofs.InputTests.{bits_kept, TestsMean, tests_later, joined-split, InputsStand, inputs_stand, words_at, range_flag, all_in_range, conjunction_joins, conjunction_keeps, conjunction_from-both}
+use Rattle.dsv_unroll.proofs.InputTests.{bits_kept, bit_added, no_bits_mean, TestsMean, tests_later, joined-split, InputsStand, inputs_stand, words_at, range_flag, all_in_range, conjunction_joins, conjunction_keeps, conjunction_from-both}
 use Rattle.dsv_unroll.proofs.ValueTerms.{value_of, value_right}
 
 -- ---- a break
@@ -98,7 +98,7 @@ breaks_row_by : (net : Net) (rs : List ℤ) (z : ℤ) (zs : List ℤ) (q : Bool)
 breaks_row_by net rs z zs true g h rest = broken_here net.format (row_at (step_of net rs z) z) (rows_from (step_of net) (step_of net rs z).past zs) (some_outside net.format (step_of net rs z).exact g)
 breaks_row_by net rs z zs false g h rest = broken_later net.format (row_at (step_of net rs z) z) (rows_from (step_of net) (step_of net rs z).past zs) (rest h)
 
-breaks_row : (net : Net) (rs zs : List ℤ) → breaks_from net false rs zs ≡ true → BrokenRow net.format (rows_from (step_of net) rs zs)
+pub breaks_row : (net : Net) (rs zs : List ℤ) → breaks_from net false rs zs ≡ true → BrokenRow net.format (rows_from (step_of net) rs zs)
 breaks_row net rs [] h = absurd cc
 breaks_row net rs (z ∷ zs) h = breaks_row_by net rs z zs (any_outside net.format (step_of net rs z).exact) refl h (breaks_row net (step_of net rs z).past zs)
 
@@ -113,7 +113,7 @@ row_breaks_by net rs z zs r zero l g o rest =
     rw (outside_some net.format (step_of net rs z).exact p.0 p.1 p.2) (breaks_stay net (step_of net rs z).past zs)
 row_breaks_by net rs z zs r (suc k) l g o rest = breaks_more net (step_of net rs z).past zs (any_outside net.format (step_of net rs z).exact) (rest (r, (k, omega arith, g), o))
 
-row_breaks : (net : Net) (rs zs : List ℤ) → BrokenRow net.format (rows_from (step_of net) rs zs) → breaks_from net false rs zs ≡ true
+pub row_breaks : (net : Net) (rs zs : List ℤ) → BrokenRow net.format (rows_from (step_of net) rs zs) → breaks_from net false rs zs ≡ true
 row_breaks net rs [] b = absurd (let l = b.1.1 in omega arith)
 row_breaks net rs (z ∷ zs) b = row_breaks_by net rs z zs b.0 b.1.0 b.1.1 b.1.2 b.2 (row_breaks net (step_of net rs z).past zs)
 
@@ -137,13 +137,13 @@ all_flag : (low high : ℤ) (q : Bool) (zs : List ℤ) → all_in_range low high
 all_flag low high q [] h = h
 all_flag low high q (z ∷ zs) h = (range_from low high z q (all_flag low high (range_flag low high q z) zs h)).0
 
-all_range : (low high : ℤ) (q : Bool) (zs : List ℤ) → all_in_range low high q zs ≡ true → AreInRange low high zs
+pub all_range : (low high : ℤ) (q : Bool) (zs : List ℤ) → all_in_range low high q zs ≡ true → AreInRange low high zs
 all_range low high q [] h = All-nil (λ x. (low ≤ℤ x) × (x ≤ℤ high))
 all_range low high q (z ∷ zs) h =
     let r = range_from low high z q (all_flag low high (range_flag low high q z) zs h) in
     All-cons (λ x. (low ≤ℤ x) × (x ≤ℤ high)) z zs (r.1, r.2) (all_range low high (range_flag low high q z) zs h)
 
-range_all : (low high : ℤ) (zs : List ℤ) → AreInRange low high zs → all_in_range low high true zs ≡ true
+pub range_all : (low high : ℤ) (zs : List ℤ) → AreInRange low high zs → all_in_range low high true zs ≡ true
 range_all low high [] h = refl
 range_all low high (z ∷ zs) h = rw (range_one low high z (All-head (λ x. (low ≤ℤ x) × (x ≤ℤ high)) z zs h)) (range_all low high zs (All-tail (λ x. (low ≤ℤ x) × (x ≤ℤ high)) z zs h))
 
@@ -161,16 +161,16 @@ no_more true false = refl
 no_more false true = refl
 no_more false false = refl
 
--- so the run over the values breaks as that over the words, where these are in range
-values_break : (net : Net) (low high : ℤ) (rs zs : List ℤ) → (breaks_from net false rs (map (value_of (width net.format) low high) zs) && all_in_range low high true zs) ≡ (breaks_from net false rs zs && all_in_range low high true zs)
-values_break net low high rs zs = by (all_in_range low high true zs) refl
+-- so what is said of the values is said of the words, where these are in range
+pub values_say : (f : Format) (low high : ℤ) (said : List ℤ → Bool) (zs : List ℤ) → (said (map (value_of (width f) low high) zs) && all_in_range low high true zs) ≡ (said zs && all_in_range low high true zs)
+values_say f low high said zs = by (all_in_range low high true zs) refl
   where
-    by : (q : Bool) → all_in_range low high true zs ≡ q → (breaks_from net false rs (map (value_of (width net.format) low high) zs) && q) ≡ (breaks_from net false rs zs && q)
-    by true e = ap (λ (ys : List ℤ). breaks_from net false rs ys && true) (values_right (width net.format) low high true zs (let s = width_small net.format in omega arith) e)
-    by false e = no_more (breaks_from net false rs (map (value_of (width net.format) low high) zs)) (breaks_from net false rs zs)
+    by : (q : Bool) → all_in_range low high true zs ≡ q → (said (map (value_of (width f) low high) zs) && q) ≡ (said zs && q)
+    by true e = ap (λ (ys : List ℤ). said ys && true) (values_right (width f) low high true zs (let s = width_small f in omega arith) e)
+    by false e = no_more (said (map (value_of (width f) low high) zs)) (said zs)
 
 -- ---- what the root says
-both_true : (a b : Bool) → (a && b) ≡ true → (a ≡ true) × (b ≡ true)
+pub both_true : (a b : Bool) → (a && b) ≡ true → (a ≡ true) × (b ≡ true)
 both_true true true h = (refl, refl)
 both_true true false h = absurd cc
 both_true false b h = absurd cc
@@ -220,36 +220,56 @@ pub record Starts (net : Net) (values : List ℕ) (low high : ℤ) (samples : �
   pub count : length t.inputs ≡ samples
   pub widths : (j : ℕ) → j < length t.inputs → slice_index t.inputs j ≡ width net.format
 
-none_stand : (n : ℕ) (low high : ℤ) (values : List ℕ) → InputsStand n low high values (record { terms = no_terms; ids = []; tests = [] }) [] true
-none_stand n low high values =
+-- before the first input, after terms whose inputs have n bits
+pub none_stand : (n : ℕ) (low high : ℤ) (values : List ℕ) (base : TermsView) → AreSound base → ((i : ℕ) → i < length base.inputs → slice_index base.inputs i ≡ n) → InputsStand n low high values base (record { terms = base; ids = []; tests = [] }) [] true
+none_stand n low high values base s w =
     record {
-      sound = record { inputs = λ k d p. absurd (omega arith); lawful = tt };
-      count = refl;
+      sound = s;
+      kept = KeepsTerms-self base;
+      count = omega arith;
       words = refl;
-      widths = λ k p. absurd (omega arith);
+      widths = w;
       stand = λ k p. absurd (omega arith);
       mean = λ k p. absurd (omega arith);
       bits = record { stand = λ k p. absurd (omega arith) };
-      tests = record { truths = []; count = refl; each = λ k p. absurd (omega arith); all = refl };
+      tests = record { truths = []; mean = no_bits_mean base values; all = refl };
     }
 
 pub words_at-length : (n : ℕ) (values : List ℕ) (j k : ℕ) → length (words_at n values j k) ≡ k
 words_at-length n values j zero = refl
 words_at-length n values j (suc k) = omega (arith, words_at-length n values (j + 1) k)
 
-pub starts_by : (net : Net) (values : List ℕ) (low high : ℤ) (samples : ℕ) (i : InputTerms) → InputsStand (width net.format) low high values i (words_at (width net.format) values 0 samples) (all_in_range low high true (words_at (width net.format) values 0 samples))
+-- terms with no node
+pub none_sound : AreSound no_terms
+none_sound = record { inputs = λ k d p. absurd (omega arith); lawful = tt }
+
+-- the inputs' terms spell values that are words
+pub inputs_mean : (f : Format) (values : List ℕ) (low high : ℤ) (base : TermsView) (i : InputTerms) (zs : List ℤ) (q : Bool) → InputsStand (width f) low high values base i zs q → InputsMean f i.terms values i.ids (map (value_of (width f) low high) zs)
+inputs_mean f values low high base i zs q s =
+    let v : ℤ → ℤ = value_of (width f) low high in
+    let at_v : (j : ℕ) → j < length zs → at (map v zs) j ≡ v (at zs j) = λ j p. get_or-map v zs j (pos 0) (pos 0) p in
+    record {
+      count = sym s.words ∙ sym (length-map zs v);
+      each = λ j p. let h : j < length zs = (let e = s.words in omega arith) in subst (Means i.terms values (term_at i.ids j)) (sym (at_v j h)) (s.mean j p);
+      words = All-from_get_or (IsWord f) (map v zs) (pos 0) (λ j p.
+          let h : j < length zs = omega (arith, length-map zs v) in
+          let o : j < length i.ids = (let e = s.words in omega arith) in
+          subst (IsWord f) (sym (at_v j h)) (word_spelled f (v (at zs j)) (wider_spelled (width_of i.terms (term_at i.ids j)) (width f) (v (at zs j)) (s.stand j o).narrow (s.mean j o).spells.fits)));
+    }
+
+pub inputs_mean_later : (f : Format) (t u : TermsView) (values : List ℕ) (inputs : List TermId) (xs : List ℤ) → KeepsTerms t u → ((i : ℕ) → i < length inputs → (term_at inputs i).0 < length t.nodes) → InputsMean f t values inputs xs → InputsMean f u values inputs xs
+inputs_mean_later f t u values inputs xs k h m = record { count = m.count; each = λ j p. means_later t u values (term_at inputs j) (at xs j) k (h j p) (m.each j p); words = m.words }
+
+pub starts_by : (net : Net) (values : List ℕ) (low high : ℤ) (samples : ℕ) (i : InputTerms) → InputsStand (width net.format) low high values no_terms i (words_at (width net.format) values 0 samples) (all_in_range low high true (words_at (width net.format) values 0 samples))
     → Starts net values low high samples i (with_node i.terms (Constant 1 0)).terms (with_node i.terms (Constant 1 0)).id
 starts_by net values low high samples i s =
-    let f = net.format in
-    let n = width f in
+    let n = width net.format in
     let zs = words_at n values 0 samples in
-    let v : ℤ → ℤ = value_of n low high in
-    let at_v : (j : ℕ) → j < length zs → at (map v zs) j ≡ v (at zs j) = λ j p. get_or-map v zs j (pos 0) (pos 0) p in
     let m = length net.next in
     let u = with_node i.terms (Constant 1 0) in
     let g = constant_gives i.terms 1 0 s.sound (record { some = omega arith; narrow = omega arith }) (omega arith) in
     let k = g.adds.kept in
-    let small = width_small f in
+    let small = width_small net.format in
     let value : IsValue u.terms u.id = record { stands = g.adds.stands; narrow = let e = g.adds.width in omega (arith, e) } in
     let nought : Means u.terms values u.id (pos 0) = record { spells = subst (λ (w : ℕ). Spells u.terms values u.id w (pos 0)) (sym g.adds.width) (record { word = g.word values; fits = nought_spelled }) } in
     let at_k : (j : ℕ) → j < length (replicate m u.id) → term_at (replicate m u.id) j ≡ u.id = λ j p. get_or-replicate m j u.id (record { 0 = 0 }) (omega (arith, length-replicate m u.id)) in
@@ -266,25 +286,17 @@ starts_by net values low high samples i s =
       bits = bits_later i.terms u.terms i.tests k s.bits;
       flag = g.word;
       registers = record { each = λ j p. rw (at_k j p, zero_k j p) nought };
-      inputs = record {
-        count = sym s.words ∙ sym (length-map zs v);
-        each = λ j p. let q : j < length zs = (let e = s.words in omega arith) in
-            subst (Means u.terms values (term_at i.ids j)) (sym (at_v j q)) (means_later i.terms u.terms values (term_at i.ids j) (v (at zs j)) k (s.stand j p).stands (s.mean j p));
-        words = All-from_get_or (IsWord f) (map v zs) (pos 0) (λ j p.
-            let q : j < length zs = omega (arith, length-map zs v) in
-            let o : j < length i.ids = (let e = s.words in omega arith) in
-            subst (IsWord f) (sym (at_v j q)) (word_spelled f (v (at zs j)) (wider_spelled (width_of i.terms (term_at i.ids j)) n (v (at zs j)) (s.stand j o).narrow (s.mean j o).spells.fits)));
-      };
+      inputs = inputs_mean_later net.format i.terms u.terms values i.ids (map (value_of n low high) zs) k (λ j p. (s.stand j p).stands) (inputs_mean net.format values low high no_terms i zs (all_in_range low high true zs) s);
       tests = tests_later i.terms u.terms values i.tests (all_in_range low high true zs) k s.bits s.tests;
       sound = g.adds.sound;
-      count = ap length g.adds.inputs ∙ (sym s.count ∙ (sym s.words ∙ words_at-length n values 0 samples));
+      count = (let e = s.count in let w = s.words in omega (arith, ap length g.adds.inputs, words_at-length n values 0 samples));
       widths = λ j p. ap (λ (is : List ℕ). slice_index is j) g.adds.inputs ∙ s.widths j (let e = ap length g.adds.inputs in omega arith);
     }
 
 pub inputs_of : (net : Net) (values : List ℕ) (low high : ℤ) (samples : ℕ) → low ≤ℤ hi (width net.format) → lo (width net.format) ≤ℤ high → ((j : ℕ) → j < samples → slice_index values j < 2 ^ width net.format)
-    → InputsStand (width net.format) low high values (inputs_from (width net.format) low high samples (record { terms = no_terms; ids = []; tests = [] })) (words_at (width net.format) values 0 samples) (all_in_range low high true (words_at (width net.format) values 0 samples))
+    → InputsStand (width net.format) low high values no_terms (inputs_from (width net.format) low high samples (record { terms = no_terms; ids = []; tests = [] })) (words_at (width net.format) values 0 samples) (all_in_range low high true (words_at (width net.format) values 0 samples))
 inputs_of net values low high samples l h f =
-    inputs_stand (width net.format) low high values samples (record { terms = no_terms; ids = []; tests = [] }) [] true (word_width net.format) l h (λ j p. f j (omega arith)) (none_stand (width net.format) low high values)
+    inputs_stand (width net.format) low high values no_terms samples (record { terms = no_terms; ids = []; tests = [] }) [] true (word_width net.format) l h (λ j p. f j (omega arith)) (none_stand (width net.format) low high values no_terms none_sound (λ j p. absurd (omega arith)))
 
 pub record GoalStands (net : Net) (low high : ℤ) (samples : ℕ) (values : List ℕ) (g : Built) : Type 0 where
   pub bit : HasBits g.terms g.id 1
@@ -356,16 +368,16 @@ goal_stands net low high samples facts values net_ l h a f =
     let t = tests_later u.terms k.terms values i.tests q kept s.bits s.tests in
     let broken = bits_kept run.terms k.terms run.broken 1 g.kept (record { stands = r.stands; width = r.bit }) in
     let flag = g.kept.words values run.broken r.stands ∙ r.flag in
-    let j = conjunction_joins values k.terms run.broken i.tests t.truths b g.sound broken flag (bits_later u.terms k.terms i.tests kept s.bits) t.count t.each in
+    let j = conjunction_joins values k.terms run.broken i.tests t.truths b g.sound broken flag (bits_later u.terms k.terms i.tests kept s.bits) t.mean in
     let one = conjunction_from (built_of k.terms run.broken) i.tests in
     let word : word_of one.terms values one.id ≡ bit_of (b && q) = j.word ∙ ap bit_of (joined-split b t.truths ∙ ap (λ (c : Bool). b && c) t.all) in
-    let n = conjunction_keeps values one.terms one.id g.more (b && q) j.sound j.bit word (bits_later k.terms one.terms g.more j.kept g.bits)
-    (λ o d p. j.kept.words values (term_at g.more d) (g.bits.stand d p).stands ∙ g.ones (both_true b q o).1 d p) in
+    let n = conjunction_keeps values one.terms one.id g.more (b && q) j.adds.sound (bit_added k.terms one.terms one.id j.adds) word (bits_later k.terms one.terms g.more j.adds.kept g.bits)
+    (λ o d p. j.adds.kept.words values (term_at g.more d) (g.bits.stand d p).stands ∙ g.ones (both_true b q o).1 d p) in
     let end : conjunction_from (built_of k.terms run.broken) k.tests ≡ conjunction_from one g.more = ap (conjunction_from (built_of k.terms run.broken)) g.tests ∙ conjunction_from-both (built_of k.terms run.broken) i.tests g.more in
-    let same = n.inputs ∙ (j.inputs ∙ (g.inputs ∙ r.inputs)) in
+    let same = n.adds.inputs ∙ (j.adds.inputs ∙ (g.inputs ∙ r.inputs)) in
     subst (GoalStands net low high samples values) (sym end) (record {
-      bit = n.bit;
-      word = n.word ∙ ap bit_of (values_break net low high (zeros m) zs);
+      bit = (let a = n.adds in record { stands = a.stands; width = a.width });
+      word = n.word ∙ ap bit_of (values_say net.format low high (breaks_from net false (zeros m)) zs);
       count = ap length same ∙ s.count;
       widths = λ d p. ap (λ (is : List ℕ). slice_index is d) same ∙ s.widths d (let c = ap length same in omega arith);
     })

@@ -34,7 +34,7 @@ use Rattle.dsv_unroll.proofs.RuleTerms.{Spells, value_later}
 use Rattle.dsv_unroll.proofs.Follows.{Means, means_later}
 use Rattle.dsv_unroll.proofs.NodeTerms.{width_small, all_more}
 use Rattle.dsv_unroll.proofs.InputTests.{bits_kept, word_at, words_at}
-use Rattle.dsv_unroll.proofs.Breaking.{word_width, word_spelled, words_map, words_at-length, nought_spelled, tells_by, same_items}
+use Rattle.dsv_unroll.proofs.Breaking.{none_sound, word_width, word_spelled, words_map, words_at-length, nought_spelled, tells_by, same_items}
 use Rattle.dsv_unroll.proofs.CycleTerms.{AllMean, mean_later, equal_true, equal_from}
 use Rattle.dsv_unroll.proofs.Cycling.{finds_from, is_sound, IsFound, found_is, is_found}
 use Rattle.dsv_unroll.proofs.CycleRuns.{CycleStands, cycles_stand, zero_word}
@@ -87,7 +87,7 @@ pub record StartsDone (f : Format) (values : List ℕ) (first : TermsView) (s : 
   pub stands : StartsStand f values first s zs
   pub inputs : length s.terms.inputs ≡ count
 
-starts_stand : (f : Format) (values : List ℕ) (first : TermsView) (k : ℕ) (s : StartTerms) (zs : List ℤ) → ((j : ℕ) → j < length s.terms.inputs + k → slice_index values j < 2 ^ width f) → StartsStand f values first s zs
+pub starts_stand : (f : Format) (values : List ℕ) (first : TermsView) (k : ℕ) (s : StartTerms) (zs : List ℤ) → ((j : ℕ) → j < length s.terms.inputs + k → slice_index values j < 2 ^ width f) → StartsStand f values first s zs
     → StartsDone f values first (starts_from (width f) k s) (zs ++ words_at (width f) values (length s.terms.inputs) k) (length s.terms.inputs + k)
 starts_stand f values first zero s zs l h = record { stands = subst (StartsStand f values first s) (sym (append-nil zs)) h; inputs = omega arith }
 starts_stand f values first (suc k) s zs l h =
@@ -147,10 +147,10 @@ pub record CycleGoalStands (net : Net) (periods : ℕ) (values : List ℕ) (g : 
   pub words : All (IsWord net.format) (start_words net values)
   pub inputs : g.terms.inputs ≡ replicate (length net.next - net.feed_forward) (width net.format)
 
-nought_starts : (f : Format) (values : List ℕ) (forward : ℕ) → let u = with_node no_terms (Constant 1 0) in StartsStand f values u.terms (record { terms = u.terms; ids = replicate forward u.id }) (zeros forward)
+pub nought_starts : (f : Format) (values : List ℕ) (forward : ℕ) → let u = with_node no_terms (Constant 1 0) in StartsStand f values u.terms (record { terms = u.terms; ids = replicate forward u.id }) (zeros forward)
 nought_starts f values forward =
     let u = with_node no_terms (Constant 1 0) in
-    let g = constant_gives no_terms 1 0 none (record { some = omega arith; narrow = omega arith }) (omega arith) in
+    let g = constant_gives no_terms 1 0 none_sound (record { some = omega arith; narrow = omega arith }) (omega arith) in
     let value : IsValue u.terms u.id = record { stands = g.adds.stands; narrow = let e = g.adds.width in omega (arith, e) } in
     let nought : Means u.terms values u.id (pos 0) = record { spells = subst (λ (w : ℕ). Spells u.terms values u.id w (pos 0)) (sym g.adds.width) (record { word = g.word values; fits = nought_spelled }) } in
     let at_k : (j : ℕ) → j < length (replicate forward u.id) → term_at (replicate forward u.id) j ≡ u.id = λ j p. get_or-replicate forward j u.id (record { 0 = 0 }) (omega (arith, length-replicate forward u.id)) in
@@ -163,9 +163,6 @@ nought_starts f values forward =
       words = All-replicate (IsWord f) forward (pos 0) (zero_word f);
       widths = λ j p. absurd (let e = ap length g.adds.inputs in omega arith);
     }
-  where
-    none : AreSound no_terms
-    none = record { inputs = λ k d p. absurd (omega arith); lawful = tt }
 
 -- the run at its start
 pub record CycleStarts (net : Net) (values : List ℕ) (u : Built) (s : StartTerms) : Type 0 where
@@ -179,8 +176,7 @@ cycle_starts net values h l =
     let n = width f in
     let m = length net.next - net.feed_forward in
     let u = with_node no_terms (Constant 1 0) in
-    let none : AreSound no_terms = record { inputs = λ k d p. absurd (omega arith); lawful = tt } in
-    let g = constant_gives no_terms 1 0 none (record { some = omega arith; narrow = omega arith }) (omega arith) in
+    let g = constant_gives no_terms 1 0 none_sound (record { some = omega arith; narrow = omega arith }) (omega arith) in
     let zero : length u.terms.inputs ≡ 0 = ap length g.adds.inputs in
     let s0 : StartTerms = record { terms = u.terms; ids = replicate net.feed_forward u.id } in
     let first = starts_stand f values u.terms m s0 (zeros net.feed_forward) (λ j p. l j (omega arith)) (nought_starts f values net.feed_forward) in

@@ -1,28 +1,23 @@
 -- The terms of runs without input spell the registers, and the root says whether a cycle was found.
-use Rattle.std.proofs.Common.{◌≡◌, ℕ, zero, suc, ◌+◌, ◌-◌, ◌*◌, ◌<◌, Bool, true, false, not, ◌||◌, List, [], ◌∷◌, refl, arith, rules, ap, sym, ◌∙◌, length, map}
+use Rattle.std.proofs.Common.{◌≡◌, ℕ, zero, suc, ◌+◌, ◌-◌, ◌*◌, ◌<◌, Bool, true, false, not, ◌||◌, List, arith, rules, ap, sym, ◌∙◌, length, map}
 use Rattle.std.specs.Prelude.{nat_lt, if◌then◌else◌}
 use Rattle.std.specs.List.{All}
 use Rattle.std.specs.Ordering.{int_eq}
 use Rattle.std.proofs.Math.IntN.{ℤ, pos}
 use Rattle.std.proofs.lemmas.Int.{ints}
 use Rattle.std.proofs.lemmas.Nat.{pow_pos}
-use Rattle.std.proofs.lemmas.List.{length-map}
 use Rattle.dsv_word.specs.declared.format.Format.{Format}
 use Rattle.dsv_word.specs.Words.{width, IsWord}
-use Rattle.dsv_netlist.specs.declared.node.Node.{Node}
-use Rattle.dsv_netlist.specs.declared.node.Node.TheVariants as node
-use Rattle.dsv_netlist.specs.Nodes.{Net, Sample, at, after_node, sample_of, step_of}
+use Rattle.dsv_netlist.specs.Nodes.{Net, step_of}
 use Rattle.dsv_netlist.specs.Conditions.{IsNetlist}
 use Rattle.dsv_netlist.specs.Law.{AreWords}
 use Rattle.dsv_netlist.proofs.Naming.{names_word-below}
-use Rattle.dsv_netlist.proofs.Runs.{from-length}
 use Rattle.dsv_term.specs.declared.node.TermId.{TermId}
 use Rattle.dsv_term.specs.declared.node.TermNode.TheVariants.{Or}
 use Rattle.dsv_term.specs.declared.word.Word.{Word}
 use Rattle.dsv_term.specs.Building.{built_of, with_node}
 use Rattle.dsv_term.specs.Growth.{AreSound}
 use Rattle.dsv_term.specs.Terms.{word_of}
-use Rattle.dsv_term.specs.TermsView.{TermsView}
 use Rattle.dsv_term.specs.Word.{bit_of, or_of}
 use Rattle.dsv_term.proofs.Made.{KeepsTerms-both}
 use Rattle.dsv_term.proofs.Building.{or_gives}
@@ -30,28 +25,13 @@ use Rattle.dsv_term.proofs.Complement.{or-bits}
 use Rattle.dsv_unroll.specs.declared.rules.FitRule.TheVariants as fit_rule
 use Rattle.dsv_unroll.specs.Goals.{sample_terms}
 use Rattle.dsv_unroll.specs.CycleGoals.{CycleTerms, returned_from, sounding_term, with_found, with_quiet_sample, cycles_from}
-use Rattle.dsv_unroll.specs.Ready.{IsValue, HasBits, AreReady, AreAllValues}
+use Rattle.dsv_unroll.specs.Ready.{HasBits, AreAllValues}
 use Rattle.dsv_unroll.specs.Rules.{term_at}
-use Rattle.dsv_unroll.proofs.Follows.{Means, means_later, node_flag}
-use Rattle.dsv_unroll.proofs.Samples.{flag_from, sample_follows}
-use Rattle.dsv_unroll.proofs.Runs.{registers_words, loaded_mean, loaded_stand}
-use Rattle.dsv_unroll.proofs.InputTests.{bits_kept}
+use Rattle.dsv_unroll.proofs.Follows.{Means, means_later}
+use Rattle.dsv_unroll.proofs.InputTests.{bits_kept, bit_value}
+use Rattle.dsv_unroll.proofs.FaithfulSamples.{faithful_sample}
 use Rattle.dsv_unroll.proofs.CycleTerms.{sounded, matches, all_later, AllMean, mean_later, returned_adds, returned_means}
 use Rattle.dsv_unroll.proofs.Cycling.{finds_from}
-
--- ---- no flag is shown where every value is fitted as the format has it
-no_node_flag : (n : ℕ) (vals : List ℤ) (d : Node) (b : Bool) → (b || node_flag fit_rule.Faithful n vals d) ≡ b
-no_node_flag n vals node.Input b = right b
-  where
-    right : (b : Bool) → (b || false) ≡ b
-    right true = refl
-    right false = refl
-no_node_flag n vals d true = refl
-no_node_flag n vals d false = refl
-
-no_flag : (f : Format) (rs : List ℤ) (x : ℤ) (b : Bool) (ns : List Node) (s : Sample) → flag_from fit_rule.Faithful f rs x b ns s ≡ b
-no_flag f rs x b [] s = refl
-no_flag f rs x b (n ∷ ns) s = ap (λ (c : Bool). flag_from fit_rule.Faithful f rs x c ns (after_node f rs x s n)) (no_node_flag (width f) s.values n b) ∙ no_flag f rs x b ns (after_node f rs x s n)
 
 -- ---- a run without input so far
 pub record CycleStands (base : List ℕ) (net : Net) (values : List ℕ) (starts : List TermId) (ss : List ℤ) (nought : TermId) (r : CycleTerms) (rs : List ℤ) (loud f : Bool) : Type 0 where
@@ -71,9 +51,6 @@ pub record CycleStands (base : List ℕ) (net : Net) (values : List ℕ) (starts
   pub count : length rs ≡ length net.next
   pub words : All (IsWord net.format) rs
 
-pub bit_value : (t : TermsView) (id : TermId) → HasBits t id 1 → IsValue t id
-bit_value t id h = record { stands = h.stands; narrow = let e = h.width in omega arith }
-
 pub zero_word : (f : Format) → IsWord f (pos 0)
 zero_word f = let p = pow_pos (width f - 1) in record { low = omega (arith, ints); high = omega (arith, ints) }
 
@@ -81,49 +58,34 @@ pub quiet_stands : (base : List ℕ) (net : Net) (values : List ℕ) (starts : L
     → CycleStands base net values starts ss nought (with_quiet_sample net nought r) (step_of net rs (pos 0)).past (loud || not (int_eq (step_of net rs (pos 0)).y (pos 0))) f
 quiet_stands base net values starts ss nought r rs loud f h c =
     let words : AreWords net rs (pos 0) = record { many = c.count; words = c.words; input = zero_word net.format } in
-    let ready : AreReady net r.registers nought r.terms [] nought = record {
-      sound = c.sound;
-      nodes = λ i p. absurd (omega arith);
-      count = c.registers_mean.count ∙ c.count;
-      registers_stand = c.registers_stand.stand;
-      input = bit_value r.terms nought c.nought_bit;
-      flag_stands = c.nought_bit.stands;
-      flag_bit = c.nought_bit.width;
-    } in
-    let m = sample_follows fit_rule.Faithful values net rs (pos 0) r.registers nought r.terms nought false h words ready c.nought_word (λ e. c.registers_mean.each) c.nought_means in
+    let m = faithful_sample net values r.terms r.registers nought nought rs (pos 0) h words c.sound c.nought_bit c.nought_word c.registers_stand c.registers_mean (bit_value r.terms nought c.nought_bit) c.nought_means in
     let s = sample_terms fit_rule.Faithful net r.registers nought r.terms nought in
-    let vals = (sample_of net.format rs (pos 0) net.nodes).values in
-    let quiet = no_flag net.format rs (pos 0) false net.nodes (record { values = []; exact = [] }) in
-    let all = m.follows.nodes quiet in
-    let zero_add : 0 + length net.nodes ≡ length net.nodes = omega arith in
-    let n : length s.ids ≡ length net.nodes = m.follows.count ∙ (from-length net.format rs (pos 0) net.nodes (record { values = []; exact = [] }) ∙ zero_add) in
-    let o : net.output < length s.ids = (let b = names_word-below net.nodes net.output (let t = h.output in search rules) in omega arith) in
+    let next = map (term_at s.ids) net.next in
+    let past = (step_of net rs (pos 0)).past in
+    let o : net.output < length s.ids = (let b = names_word-below net.nodes net.output (let t = h.output in search rules) in let n = m.count in omega arith) in
     let output = term_at s.ids net.output in
     let nb = bits_kept r.terms s.terms nought 1 m.kept c.nought_bit in
     let sb = bits_kept r.terms s.terms r.sounding 1 m.kept c.sounding_bit in
     let nm = means_later r.terms s.terms values nought (pos 0) m.kept c.nought_bit.stands c.nought_means in
     let u = sounding_term s.terms output nought r.sounding in
-    let d = sounded s.terms output nought r.sounding m.ready.sound (m.ready.nodes net.output o) (bit_value s.terms nought nb) sb in
+    let d = sounded s.terms output nought r.sounding m.sound (m.nodes_stand.stand net.output o) (bit_value s.terms nought nb) sb in
     let k = KeepsTerms-both r.terms s.terms u.terms m.kept d.adds.kept in
-    let loaded = loaded_mean net s.terms values s.ids vals h n all in
-    let stand : AreAllValues s.terms (map (term_at s.ids) net.next) = loaded_stand net s.terms s.ids h n m.ready.nodes in
-    let mean : AllMean s.terms values (map (term_at s.ids) net.next) (map (at vals) net.next) = record { count = length-map net.next (term_at s.ids) ∙ sym (length-map net.next (at vals)); each = loaded.each } in
     record {
       inputs = d.adds.inputs ∙ (m.inputs ∙ c.inputs);
       sound = d.adds.sound;
-      registers_stand = all_later s.terms u.terms (map (term_at s.ids) net.next) d.adds.kept stand;
+      registers_stand = all_later s.terms u.terms next d.adds.kept m.registers_stand;
       starts_stand = all_later r.terms u.terms starts k c.starts_stand;
       nought_bit = bits_kept r.terms u.terms nought 1 k c.nought_bit;
       sounding_bit = record { stands = d.adds.stands; width = d.adds.width };
       found_bit = bits_kept r.terms u.terms r.found 1 k c.found_bit;
-      registers_mean = mean_later s.terms u.terms values (map (term_at s.ids) net.next) (map (at vals) net.next) d.adds.kept stand mean;
+      registers_mean = mean_later s.terms u.terms values next past d.adds.kept m.registers_stand m.registers_mean;
       starts_mean = mean_later r.terms u.terms values starts ss k c.starts_stand c.starts_mean;
       nought_word = k.words values nought c.nought_bit.stands ∙ c.nought_word;
       nought_means = means_later r.terms u.terms values nought (pos 0) k c.nought_bit.stands c.nought_means;
-      sounding_word = d.word values (at vals net.output) loud (all net.output o) nm (m.kept.words values r.sounding c.sounding_bit.stands ∙ c.sounding_word);
+      sounding_word = d.word values (step_of net rs (pos 0)).y loud (m.nodes_mean net.output o) nm (m.kept.words values r.sounding c.sounding_bit.stands ∙ c.sounding_word);
       found_word = k.words values r.found c.found_bit.stands ∙ c.found_word;
-      count = length-map net.next (at vals);
-      words = registers_words net rs (pos 0) h words;
+      count = m.many;
+      words = m.words;
     }
 
 pub found_stands : (base : List ℕ) (net : Net) (values : List ℕ) (starts : List TermId) (ss : List ℤ) (nought : TermId) (r : CycleTerms) (rs : List ℤ) (loud f : Bool) → CycleStands base net values starts ss nought r rs loud f

@@ -19,19 +19,6 @@ use Rattle.dsv_unroll.specs.Rules.{term_at}
 use Rattle.dsv_unroll.proofs.Runs.{loaded_stand}
 use Rattle.dsv_unroll.proofs.InputTests.{bits_kept}
 use Rattle.dsv_unroll.proofs.CycleTerms.{all_later}
-use Rattle.dsv_unroll.proofs.CycleRuns.{bit_value}
-
-pub cycle_ready : (net : Net) (t : TermsView) (nought : TermId) (registers seen : List TermId) (sounding found : TermId) → AreCycleReady net t nought registers sounding found → seen ≡ registers → AreReady net seen nought t [] nought
-cycle_ready net t nought registers seen sounding found r e =
-    subst (λ (ids : List TermId). AreReady net ids nought t [] nought) (sym e) (record {
-      sound = r.sound;
-      nodes = λ i p. absurd (omega arith);
-      count = r.count;
-      registers_stand = r.registers_stand.stand;
-      input = bit_value t nought r.nought_bit;
-      flag_stands = r.nought_bit.stands;
-      flag_bit = r.nought_bit.width;
-    })
 
 pub output_below : (net : Net) (m : ℕ) → IsNetlist net → m ≡ length net.nodes → net.output < m
 output_below net m h e = let b = names_word-below net.nodes net.output (let t = h.output in search rules) in omega arith

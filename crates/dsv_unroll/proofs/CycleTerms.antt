@@ -96,10 +96,10 @@ pub record AllMean (t : TermsView) (values : List ℕ) (ids : List TermId) (zs :
 pub mean_later : (t u : TermsView) (values : List ℕ) (ids : List TermId) (zs : List ℤ) → KeepsTerms t u → AreAllValues t ids → AllMean t values ids zs → AllMean u values ids zs
 mean_later t u values ids zs k h m = record { count = m.count; each = λ i p. means_later t u values (term_at ids i) (at zs i) k (h.stand i p).stands (m.each i p) }
 
-tail_values : (t : TermsView) (id : TermId) (ids : List TermId) → AreAllValues t (id ∷ ids) → AreAllValues t ids
+pub tail_values : (t : TermsView) (id : TermId) (ids : List TermId) → AreAllValues t (id ∷ ids) → AreAllValues t ids
 tail_values t id ids h = record { stand = λ i p. h.stand (suc i) (omega arith) }
 
-tail_mean : (t : TermsView) (values : List ℕ) (id : TermId) (ids : List TermId) (z : ℤ) (zs : List ℤ) → AllMean t values (id ∷ ids) (z ∷ zs) → AllMean t values ids zs
+pub tail_mean : (t : TermsView) (values : List ℕ) (id : TermId) (ids : List TermId) (z : ℤ) (zs : List ℤ) → AllMean t values (id ∷ ids) (z ∷ zs) → AllMean t values ids zs
 tail_mean t values id ids z zs h = record { count = let c = h.count in omega arith; each = λ i p. h.each (suc i) (omega arith) }
 
 pub record Returned (t : TermsView) (b : Built) (u : Built) : Type 0 where

@@ -1,5 +1,5 @@
 -- Which starts cycle, as a run of bits; and that a period has its multiples.
-use Rattle.std.proofs.Common.{◌≡◌, ℕ, zero, suc, ◌+◌, ◌*◌, ◌<◌, ◌≤◌, Bool, true, false, not, ◌&&◌, ◌||◌, ◌⊎◌, inl, inr, List, [], ◌∷◌, ◌++◌, refl, arith, ap, sym, ◌∙◌, length}
+use Rattle.std.proofs.Common.{◌≡◌, ℕ, zero, suc, ◌+◌, ◌*◌, ◌<◌, ◌≤◌, Bool, true, false, not, ◌||◌, ◌⊎◌, inl, inr, List, [], ◌∷◌, ◌++◌, refl, arith, ap, sym, ◌∙◌, length}
 use Rattle.std.specs.Prelude.{nat_lt, if◌then◌else◌}
 use Rattle.std.specs.List.{list_any}
 use Rattle.std.specs.Ordering.{int_eq}
@@ -49,10 +49,6 @@ sound_more net ss p =
     ∙ or_last (has_sound net ss p) (not (int_eq (step_of net (quiet_past net ss p) (pos 0)).y (pos 0)))))
 
 -- ---- the registers hold the start
-and_false : (b : Bool) → (b && false) ≡ false
-and_false true = refl
-and_false false = refl
-
 matches_false : (rs ss : List ℤ) → matches false rs ss ≡ false
 matches_false [] ss = refl
 matches_false (r ∷ rs) [] = refl

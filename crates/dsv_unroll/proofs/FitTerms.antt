@@ -1,6 +1,6 @@
 -- What the term of a fitted value adds, which number it spells, and what its flag says.
 use Rattle.std.proofs.Common.{◌≡◌, ℕ, ◌+◌, ◌-◌, ◌<◌, ◌≤◌, Bool, true, false, not, ◌||◌, List, refl, arith, ap, sym, subst, ◌∙◌, length}
-use Rattle.std.specs.Prelude.{◌==◌, nat_lt, int_lt, if◌then◌else◌, ◌<ℤ◌, ◌≤ℤ◌}
+use Rattle.std.specs.Prelude.{◌==◌, nat_lt, int_lt, if◌then◌else◌, ◌≤ℤ◌}
 use Rattle.std.proofs.Math.IntN.{ℤ}
 use Rattle.std.proofs.lemmas.Int.{ints}
 use Rattle.std.proofs.lemmas.Bool.Decides.{nat_tests}
@@ -31,9 +31,6 @@ or_false false b e = (refl, e)
 
 not_less : (a b : ℤ) → int_lt a b ≡ false → b ≤ℤ a
 not_less a b e = grind (arith, ints)
-
-is_less : (a b : ℤ) → a <ℤ b → int_lt a b ≡ true
-is_less a b h = grind (arith, ints)
 
 at_least : (a b : ℤ) → b ≤ℤ a → int_lt a b ≡ false
 at_least a b h = grind (arith, ints)

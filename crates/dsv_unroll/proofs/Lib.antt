@@ -5,6 +5,7 @@ pub mod CycleSteps
 pub mod CycleTerms
 pub mod Cycling
 pub mod FactTerms
+pub mod FaithfulSamples
 pub mod FaithfulTerms
 pub mod FitTerms
 pub mod Follows
@@ -16,5 +17,12 @@ pub mod RuleTerms
 pub mod Runs
 pub mod SampleSteps
 pub mod Samples
+pub mod SetBreaks
+pub mod SetGoal
+pub mod SetStarts
+pub mod SetStates
+pub mod SetSums
+pub mod SetTerms
+pub mod SetWords
 pub mod TestedTerms
 pub mod ValueTerms

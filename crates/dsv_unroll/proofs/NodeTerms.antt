@@ -139,9 +139,6 @@ node_adds rule net registers x t ids broken (node.Sub i j) net_ r l b d =
 node_adds rule net registers x t ids broken (node.Fit of) net_ r l b d = fitted_adds rule t net.format (term_at ids of) broken r.sound (r.nodes of b) r.flag_stands r.flag_bit
 
 -- ---- ready after a node
-default : TermId
-default = record { 0 = 0 }
-
 -- a fact of all terms so far and of one more
 pub all_more : (P : TermId → Type 0) (ids : List TermId) (id : TermId) → ((i : ℕ) → i < length ids → P (term_at ids i)) → P id → (i : ℕ) → i < length (ids ++ id ∷ []) → P (term_at (ids ++ id ∷ []) i)
 all_more P ids id h p i l = elim (cases_lt i (length ids)) [

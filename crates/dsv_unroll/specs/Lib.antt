@@ -3,4 +3,5 @@ pub mod FactTests
 pub mod Goals
 pub mod Ready
 pub mod Rules
+pub mod SetGoals
 pub mod Words

@@ -5,6 +5,7 @@ use Rattle.std.specs.List.{All}
 use Rattle.dsv_word.specs.Words.{lo, hi}
 use Rattle.dsv_netlist.specs.declared.node.Node.{Node}
 use Rattle.dsv_netlist.specs.declared.node.Node.TheVariants as node
+use Rattle.dsv_netlist.specs.declared.TheConstants.{MOST_REGISTERS}
 use Rattle.dsv_netlist.specs.Nodes.{Net}
 use Rattle.dsv_term.specs.declared.node.TermId.{TermId}
 use Rattle.dsv_term.specs.Growth.{AreSound}
@@ -12,7 +13,9 @@ use Rattle.dsv_term.specs.Terms.{width_of, word_of}
 use Rattle.dsv_term.specs.TermsView.{TermsView}
 use Rattle.dsv_term.specs.Word.{bit_of}
 use Rattle.dsv_unroll.specs.declared.fitting.TestedTerm.{TestedTerm}
+use Rattle.dsv_unroll.specs.declared.set_goals.Start.{Start}
 use Rattle.dsv_unroll.specs.Rules.{EndTerms, term_at}
+use Rattle.dsv_unroll.specs.SetGoals.{SetStart}
 
 -- a term that stands and is not too wide for a node's value
 pub record IsValue (t : TermsView) (id : TermId) : Type 0 where
@@ -114,3 +117,37 @@ pub record AreKnown (t : TermsView) (outside : TermId) (tests : List TermId) : T
   pub sound : AreSound t
   pub bit : IsTruth t outside
   pub bits : AreBits t tests
+
+-- ---- sets
+-- what the test of a set stands on: a zero in one bit, and the terms of few registers
+pub record IsSetReady (t : TermsView) (nought : TermId) (registers : List TermId) : Type 0 where
+  pub sound : AreSound t
+  pub nought_bit : HasBits t nought 1
+  pub registers_stand : AreAllValues t registers
+  pub few : length registers ≤ MOST_REGISTERS
+
+-- the states of a run so far: a zero in one bit, the terms of the registers, and a bit for each
+-- state
+pub record AreStatesReady (net : Net) (t : TermsView) (nought : TermId)
+    (registers inside : List TermId) : Type 0 where
+  pub sound : AreSound t
+  pub nought_bit : HasBits t nought 1
+  pub registers_stand : AreAllValues t registers
+  pub count : length registers ≡ length net.next
+  pub inside_bits : AreBits t inside
+
+-- what the code of a set's goal begins with, beside these terms
+abbrev pub start_with : TermsView → Start → SetStart
+start_with t start = record {
+  terms = t;
+  nought = start.nought;
+  registers = start.registers.items;
+  inputs = start.inputs.items;
+  tests = start.tests.items;
+}
+
+-- before the first state of a set's goal
+pub record IsStartReady (net : Net) (s : SetStart) : Type 0 where
+  pub states : AreStatesReady net s.terms s.nought s.registers []
+  pub inputs_stand : AreAllValues s.terms s.inputs
+  pub tests_bits : AreBits s.terms s.tests

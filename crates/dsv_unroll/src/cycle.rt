@@ -13,6 +13,7 @@ ghost use Rattle.dsv_unroll.specs.CycleGoals.{starts_from, found_of, cycle_of};
 ghost use Rattle.dsv_unroll.specs.Words.{cycle_start, HasCycle, Tells};
 ghost use Rattle.dsv_unroll.specs.Ready.{IsValue, HasBits, AreAllValues, AreCycleReady};
 
+use crate::inputs::start_inputs;
 use crate::overflow::repeated_term;
 use crate::rules::{FitRule, widened_term};
 use crate::sample::{next_terms, sample_terms};
@@ -238,14 +239,10 @@ fn start_terms(
         ≡ starts_from (width net.now.format) (length net.now.next - net.now.feed_forward)
         (record { terms = terms.old; ids = replicate net.now.feed_forward nought })) }
 {
-    let bits = net.format().width();
+    let format = net.format();
     let forward = net.feed_forward();
-    let mut ids = repeated_term(alloc, nought, forward)?;
-    for k in 0..net.registers() - forward {
-        let x = terms.input(bits)?;
-        ids.push(x)?;
-    }
-    Ok(ids)
+    let ids = repeated_term(alloc, nought, forward)?;
+    start_inputs(terms, &format, ids, net.registers() - forward)
 }
 
 /// The terms of the goal of a cycle, and its root.

@@ -7,6 +7,7 @@ ghost use Rattle.dsv_term.specs.Growth.{AreSound};
 ghost use Rattle.dsv_term.specs.Word.{IsWidth};
 ghost use Rattle.dsv_unroll.specs.Goals.{with_low_test, with_high_test, with_input, inputs_from};
 ghost use Rattle.dsv_unroll.specs.Goals.{magnitude, range_width, value_term, conjunction_from};
+ghost use Rattle.dsv_unroll.specs.CycleGoals.{starts_from};
 ghost use Rattle.dsv_unroll.specs.Ready.{HasBits, IsLeastWidth, AreBits};
 
 use crate::rules::width_for;
@@ -156,6 +157,26 @@ pub(crate) fn input_terms(
         put_input(terms, format, low, high, &mut ids, &mut tests)?;
     }
     Ok(InputTerms { ids, tests })
+}
+
+/// So many inputs more after these terms, each in as many bits as words have.
+pub(crate) fn start_inputs(
+    terms: &mut Terms,
+    format: &Format,
+    before: Vec<TermId>,
+    count: u32,
+) -> Result<Vec<TermId>, NoMemory>
+    ensures { IfOk result (λ ids. record { terms = terms.new; ids = ids.items }
+        ≡ starts_from (width format.now) count
+        (record { terms = terms.old; ids = before.items })) }
+{
+    let bits = format.width();
+    let mut ids = before;
+    for k in 0..count {
+        let x = terms.input(bits)?;
+        ids.push(x)?;
+    }
+    Ok(ids)
 }
 
 /// A bit and these.

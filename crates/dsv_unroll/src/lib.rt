@@ -1,5 +1,6 @@
 //! Runs of a netlist over so many samples as bit-vector terms: goals that are 1 exactly for the
-//! inputs that break, or for the start words of a cycle.
+//! inputs that break, for the start words of a cycle, or for what breaks a sentence of a candidate
+//! set.
 #![tactic(auto, using(dsv_algebra::proofs::Casts::casts))]
 
 mod cycle;
@@ -11,8 +12,12 @@ mod overflow;
 mod rules;
 mod run;
 mod sample;
+mod set_goals;
+mod sets;
+mod states;
 
 pub use cycle::cycle_goal;
 pub use overflow::overflow_goal;
 pub use rules::FitRule;
 pub use run::size;
+pub use set_goals::set_goal;
