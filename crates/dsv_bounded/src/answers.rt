@@ -55,7 +55,7 @@ pub(crate) fn job_size(q: &Quantised, samples: u32) -> u64
 }
 
 /// Refuses a job over so many samples that is too large.
-pub(crate) fn accept(q: &Quantised, samples: u32) -> Result<(), BoundedRefusal>
+pub fn accept(q: &Quantised, samples: u32) -> Result<(), BoundedRefusal>
     requires { samples ≤ 64 }
     ensures { IsSized (job_size_of q.now samples) result }
 {

@@ -16,8 +16,9 @@ mod responses;
 mod starts;
 mod words;
 
-pub use answers::{BoundedAnswer, BoundedRefusal, MOST_SIZE};
+pub use answers::{BoundedAnswer, BoundedRefusal, MOST_SIZE, accept};
 pub use cycle_job::{cycle_formula, limit_cycle};
 pub use decision::{Decision, decide};
 pub use goal_clauses::goal_formula;
 pub use overflow_job::{overflow, overflow_formula};
+pub use words::{words_after, zero_words};

@@ -16,7 +16,7 @@ use dsv_word::Format;
 use std::alloc::Global;
 
 /// So many words 0.
-pub(crate) fn zero_words(alloc: Global, count: u32) -> Result<WordList, NoMemory>
+pub fn zero_words(alloc: Global, count: u32) -> Result<WordList, NoMemory>
     ensures { IfOk result (λ words. words ≡ zeros count) }
 {
     let mut words = WordList::new(alloc);
@@ -40,11 +40,7 @@ fn word(format: &Format, value: &u128) -> i64
 }
 
 /// The words, and then those that the values spell.
-pub(crate) fn words_after(
-    words: WordList,
-    format: &Format,
-    values: &[u128],
-) -> Result<WordList, NoMemory>
+pub fn words_after(words: WordList, format: &Format, values: &[u128]) -> Result<WordList, NoMemory>
     requires { All (λ value. value < 2 ^ width format.now) values.now }
     ensures { IfOk result (λ all. all ≡ words ++ spelled_words format.now values.now) }
 {

@@ -1,0 +1,5 @@
+pub mod Alike
+pub mod BrokenRuns
+pub mod Causes
+pub mod Sentences
+pub mod Stepwise

@@ -1,0 +1,15 @@
+//! Overflow over runs of any length: whether a controller in words keeps to a candidate's set, by a
+//! search for what breaks each of its sentences.
+#![tactic(auto)]
+
+mod breaks;
+mod checking;
+mod leaving;
+mod outside;
+mod parts;
+mod shape;
+mod size;
+
+pub use checking::check_candidate;
+pub use shape::shape_of;
+pub use size::{UNBOUNDED_SAMPLES, accept_unbounded};
