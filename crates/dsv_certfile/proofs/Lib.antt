@@ -1,0 +1,9 @@
+pub mod BodyLemmas
+pub mod Cuts
+pub mod Filling
+pub mod HeadingLemmas
+pub mod LineTexts
+pub mod PlaceLemmas
+pub mod RangeLemmas
+pub mod SquareLines
+pub mod StepLemmas

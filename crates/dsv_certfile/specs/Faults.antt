@@ -1,0 +1,11 @@
+-- The numbers of faults in reports.
+use Rattle.std.specs.Prelude.{ℕ}
+use Rattle.dsv_certfile.specs.declared.fault.TextFault.{TextFault}
+use Rattle.dsv_certfile.specs.declared.fault.TextFault.TheVariants as fault
+
+abbrev pub code_of : TextFault → ℕ
+code_of fault.Version = 1
+code_of fault.Kind = 2
+code_of fault.Number = 3
+code_of fault.Line = 4
+code_of fault.End = 5

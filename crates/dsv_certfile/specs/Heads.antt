@@ -1,0 +1,11 @@
+-- Scaffolding, which private contracts alone cite: the numbers of a kind line.
+use Rattle.std.specs.Prelude.{◌≤◌}
+use Rattle.dsv_certfile.specs.Limits.{most_inequalities, most_places}
+use Rattle.dsv_certfile.specs.declared.kind.KindHead.{KindHead}
+use Rattle.dsv_certfile.specs.declared.kind.KindHead.TheVariants as head
+
+-- the numbers are within their ranges
+abbrev pub IsHead : KindHead → Type 0
+IsHead head.Hints = Unit {0}
+IsHead (head.Invariant depth count) = count ≤ most_inequalities
+IsHead (head.Falls d) = d ≤ most_places

@@ -1,0 +1,34 @@
+-- The words that lines begin with, and their texts.
+use Rattle.std.specs.Prelude.{ℕ, List, codes}
+use Rattle.dsv_certfile.specs.declared.keyword.Keyword.{Keyword}
+use Rattle.dsv_certfile.specs.declared.keyword.Keyword.TheVariants as keyword
+
+abbrev pub keyword_text : Keyword → List ℕ
+keyword_text keyword.Job = codes "job"
+keyword_text keyword.Kind = codes "kind"
+keyword_text keyword.Inequality = codes "ineq"
+keyword_text keyword.Base = codes "base"
+keyword_text keyword.Step = codes "step"
+keyword_text keyword.Safe = codes "safe"
+keyword_text keyword.Form = codes "form"
+keyword_text keyword.Positive = codes "positive"
+keyword_text keyword.Square = codes "square"
+keyword_text keyword.Rest = codes "rest"
+keyword_text keyword.Fall = codes "fall"
+keyword_text keyword.End = codes "end"
+
+-- the first line of each certificate
+abbrev pub version_text : List ℕ
+version_text = codes "dsv-certificate 1"
+
+-- the job line's last word, where there is no bound on the samples
+abbrev pub unbounded_text : List ℕ
+unbounded_text = codes "unbounded"
+
+-- the word of a deletion, after its id
+abbrev pub deletion_text : List ℕ
+deletion_text = codes "d"
+
+-- what ends a list of a step
+abbrev pub zero_text : List ℕ
+zero_text = codes "0"

@@ -1,0 +1,41 @@
+-- The limits of the numbers of a certificate's text.
+use Rattle.std.specs.Prelude.{ℕ, ◌-◌, ◌^◌}
+
+-- the greatest size of a number, where no other limit is said
+abbrev pub greatest_whole : ℕ
+greatest_whole = 2 ^ 127 - 1
+
+-- the greatest size of a number of an inequality
+abbrev pub greatest_entry : ℕ
+greatest_entry = 2 ^ 63 - 1
+
+-- the greatest id of a clause; the least is 1
+abbrev pub greatest_id : ℕ
+greatest_id = 2 ^ 64 - 1
+
+-- the greatest size of a literal
+abbrev pub greatest_literal : ℕ
+greatest_literal = 2 ^ 31
+
+abbrev pub greatest_depth : ℕ
+greatest_depth = 2 ^ 32 - 1
+
+-- the most samples of a job; it has one at least
+abbrev pub most_samples : ℕ
+most_samples = 64
+
+-- the most places of a form
+abbrev pub most_places : ℕ
+most_places = 8
+
+-- the most squares of a form
+abbrev pub most_squares : ℕ
+most_squares = 8
+
+-- the most inequalities of a candidate
+abbrev pub most_inequalities : ℕ
+most_inequalities = 32
+
+-- the most numbers of an inequality: its coefficients, and its bound
+abbrev pub most_inequality_numbers : ℕ
+most_inequality_numbers = 17

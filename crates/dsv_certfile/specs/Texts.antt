@@ -1,0 +1,154 @@
+-- The text of a certificate: lines, each of pieces joined by one space and ended by a line feed.
+use Rattle.std.specs.Prelude.{ℕ, ◌+◌, List, [], ◌∷◌, ◌++◌, length, map, take, codes, decimal, ℤ}
+use Rattle.std.specs.List.{flat_map}
+use Rattle.std.specs.Fmt.{signed_decimal}
+use Rattle.dsv_base.specs.Text.{line_of}
+use Rattle.dsv_names.specs.Properties.{property_name}
+use Rattle.dsv_names.specs.Realisations.{realisation_name}
+use Rattle.dsv_names.specs.Roundings.{rounding_name}
+use Rattle.dsv_names.specs.OverflowModes.{overflow_mode_name}
+use Rattle.dsv_cnf.specs.Literal.{Literal}
+use Rattle.dsv_cnf.specs.Dimacs.{sign_text}
+use Rattle.dsv_hints.specs.declared.step.Step.{Step}
+use Rattle.dsv_hints.specs.declared.step.Step.TheVariants.{Add, Delete}
+use Rattle.dsv_forms.specs.declared.offers.Squares.{Squares}
+use Rattle.dsv_forms.specs.declared.offers.Falls.{Falls}
+use Rattle.dsv_template.specs.declared.candidate.Inequality.{Inequality}
+use Rattle.dsv_template.specs.declared.candidate.Candidate.{Candidate}
+use Rattle.dsv_template.specs.declared.verdict.ThreeLogs.{ThreeLogs}
+use Rattle.dsv_certfile.specs.Keywords.{keyword_text, unbounded_text, deletion_text, zero_text}
+use Rattle.dsv_certfile.specs.Kinds.{kind_name}
+use Rattle.dsv_certfile.specs.declared.certificate.Certificate.{Certificate}
+use Rattle.dsv_certfile.specs.declared.certificate.Certificate.TheVariants as certificate
+use Rattle.dsv_certfile.specs.declared.job.Job.{Job}
+use Rattle.dsv_certfile.specs.declared.job.Size.{Size}
+use Rattle.dsv_certfile.specs.declared.job.Size.TheVariants as size
+use Rattle.dsv_certfile.specs.declared.keyword.Keyword.{Keyword}
+use Rattle.dsv_certfile.specs.declared.keyword.Keyword.TheVariants as keyword
+use Rattle.dsv_certfile.specs.declared.kind.Kind.{Kind}
+use Rattle.dsv_certfile.specs.declared.kind.Kind.TheVariants as kind
+
+-- ---- lines
+-- a line as its pieces, of which there is one at least
+abbrev pub Line : Type 0
+Line = List (List ℕ)
+
+-- a piece is written as it is
+abbrev pub piece_text : List ℕ → List ℕ
+piece_text piece = piece
+
+-- the bytes of a line
+abbrev pub line_text : Line → List ℕ
+line_text [] = line_of piece_text [] []
+line_text (piece ∷ pieces) = line_of piece_text piece pieces
+
+-- a word alone
+abbrev pub word_line : Keyword → Line
+word_line w = keyword_text w ∷ []
+
+-- a word and numbers
+abbrev pub numbers_line : Keyword → List ℤ → Line
+numbers_line w numbers = keyword_text w ∷ map signed_decimal numbers
+
+-- ---- headings
+abbrev pub version_line : Line
+version_line = codes "dsv-certificate" ∷ codes "1" ∷ []
+
+abbrev pub size_pieces : Size → Line
+size_pieces size.NoSize = []
+size_pieces (size.Samples k) = decimal k ∷ []
+size_pieces size.Unbounded = unbounded_text ∷ []
+
+abbrev pub job_line : Job → Line
+job_line job = keyword_text keyword.Job ∷ property_name job.property
+    ∷ realisation_name job.realisation ∷ rounding_name job.rounding
+    ∷ overflow_mode_name job.overflow ∷ size_pieces job.size
+
+-- a kind and numbers
+abbrev pub kind_line : Kind → List ℕ → Line
+kind_line k numbers = keyword_text keyword.Kind ∷ kind_name k ∷ map decimal numbers
+
+-- ---- logs
+-- a variable, numbered from 1, after `-` where it is negated
+abbrev pub literal_piece : Literal → List ℕ
+literal_piece l = sign_text l ++ decimal (l.var + 1)
+
+-- the entries of a list of a step, and the 0 that ends it
+abbrev pub list_pieces : {X : Type 0} → (X → List ℕ) → List X → Line
+list_pieces text xs = map text xs ++ zero_text ∷ []
+
+abbrev pub step_line : Step → Line
+step_line (Add id lits hints) =
+    decimal id ∷ (list_pieces literal_piece lits ++ list_pieces decimal hints)
+step_line (Delete id ids) = decimal id ∷ deletion_text ∷ list_pieces decimal ids
+
+abbrev pub log_lines : List Step → List Line
+log_lines = map step_line
+
+-- ---- an invariant
+abbrev pub inequality_line : Inequality → Line
+inequality_line i = numbers_line keyword.Inequality (i.coefficients.items ++ i.bound ∷ [])
+
+-- each log after the word of its sentence
+abbrev pub logs_lines : ThreeLogs → List Line
+logs_lines logs =
+    word_line keyword.Base ∷ log_lines logs.base
+    ++ word_line keyword.Step ∷ log_lines logs.step
+    ++ word_line keyword.Safe ∷ log_lines logs.safe
+
+-- ---- falls
+-- a line for each of the first d rows, of its first d places
+abbrev pub rows_lines : Keyword → ℕ → List (List ℤ) → List Line
+rows_lines w d rows = map (λ row. numbers_line w (take d row)) (take d rows)
+
+-- a square: its weight, and the first d places of its row
+abbrev pub square_lines : ℕ → List ℤ → List (List ℤ) → List Line
+square_lines d (weight ∷ weights) (row ∷ rows) =
+    numbers_line keyword.Square (weight ∷ take d row) ∷ square_lines d weights rows
+square_lines d weights rows = []
+
+-- the line that squares begin with: the factor, and how many there are
+abbrev pub squares_head : Keyword → Squares → Line
+squares_head w s = keyword_text w ∷ signed_decimal s.m ∷ decimal s.count ∷ []
+
+-- the squares of a form of d places and the rest
+abbrev pub squares_lines : Keyword → ℕ → Squares → List Line
+squares_lines w d s = squares_head w s
+    ∷ square_lines d (take s.count s.weights) s.rows
+    ++ rows_lines keyword.Rest d s.rest
+
+abbrev pub falls_lines : Falls → List Line
+falls_lines offer = rows_lines keyword.Form offer.form.d offer.form.rows
+    ++ squares_lines keyword.Positive offer.form.d offer.positive
+    ++ squares_lines keyword.Fall offer.form.d offer.fall
+
+-- ---- certificates
+abbrev pub job_of : Certificate → Job
+job_of (certificate.Hints job log) = job
+job_of (certificate.Invariant job candidate logs) = job
+job_of (certificate.Falls job offer) = job
+
+-- the numbers of an invariant's kind line: the depth, and how many inequalities there are
+abbrev pub candidate_counts : Candidate → List ℕ
+candidate_counts candidate = candidate.depth ∷ length candidate.inequalities.items ∷ []
+
+abbrev pub kind_line_of : Certificate → Line
+kind_line_of (certificate.Hints job log) = kind_line kind.Hints []
+kind_line_of (certificate.Invariant job candidate logs) =
+    kind_line kind.Invariant (candidate_counts candidate)
+kind_line_of (certificate.Falls job offer) = kind_line kind.Falls (offer.form.d ∷ [])
+
+-- the lines between the kind line and the line `end`
+abbrev pub body_lines : Certificate → List Line
+body_lines (certificate.Hints job log) = log_lines log
+body_lines (certificate.Invariant job candidate logs) =
+    map inequality_line candidate.inequalities.items ++ logs_lines logs
+body_lines (certificate.Falls job offer) = falls_lines offer
+
+abbrev pub certificate_lines : Certificate → List Line
+certificate_lines c = version_line ∷ job_line (job_of c) ∷ kind_line_of c
+    ∷ (body_lines c ++ word_line keyword.End ∷ [])
+
+-- the whole text
+abbrev pub certificate_text : Certificate → List ℕ
+certificate_text c = flat_map line_text (certificate_lines c)

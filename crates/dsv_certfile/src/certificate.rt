@@ -1,0 +1,43 @@
+// Certificates.
+ghost use Rattle.std.specs.Prelude.{◌≡◌};
+ghost use Rattle.dsv_certfile.specs.Texts.{job_of};
+
+use crate::job::Job;
+use dsv_forms::Falls;
+use dsv_hints::Log;
+use dsv_template::{Candidate, ThreeLogs};
+
+/// What is claimed of a controller, and what shows it.
+#[derive(Drop)]
+pub enum Certificate {
+    /// A log that refutes the formula that some run breaks the property.
+    Hints {
+        job: Job,
+        log: Log,
+    },
+    /// A set of registers that no run leaves, and the logs that refute that a sentence of it is
+    /// broken.
+    Invariant {
+        job: Job,
+        candidate: Candidate,
+        logs: ThreeLogs,
+    },
+    /// A form that falls along each trajectory of the polynomial.
+    Falls {
+        job: Job,
+        offer: Falls,
+    },
+}
+
+impl Certificate {
+    /// What the certificate is about.
+    pub fn job(&self) -> &Job
+        ensures { result.now ≡ job_of self.now }
+    {
+        match self {
+            Certificate::Hints { job, .. } => job,
+            Certificate::Invariant { job, .. } => job,
+            Certificate::Falls { job, .. } => job,
+        }
+    }
+}

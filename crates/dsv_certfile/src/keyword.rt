@@ -1,0 +1,78 @@
+// The words of lines.
+ghost use Rattle.std.specs.Prelude.{◌≡◌};
+ghost use Rattle.std.specs.Str.{bytes_eq};
+ghost use Rattle.dsv_certfile.specs.Keywords.{keyword_text, version_text, unbounded_text};
+ghost use Rattle.dsv_certfile.specs.Keywords.{deletion_text, zero_text};
+
+/// A word that lines begin with.
+#[derive(Clone, Copy, Debug, PartialEq, Eq)]
+pub(crate) enum Keyword {
+    Job,
+    Kind,
+    Inequality,
+    Base,
+    Step,
+    Safe,
+    Form,
+    Positive,
+    Square,
+    Rest,
+    Fall,
+    End,
+}
+
+impl Keyword {
+    fn name(self) -> &'static str
+        ensures { result.now ≡ keyword_text self }
+    {
+        match self {
+            Keyword::Job => "job",
+            Keyword::Kind => "kind",
+            Keyword::Inequality => "ineq",
+            Keyword::Base => "base",
+            Keyword::Step => "step",
+            Keyword::Safe => "safe",
+            Keyword::Form => "form",
+            Keyword::Positive => "positive",
+            Keyword::Square => "square",
+            Keyword::Rest => "rest",
+            Keyword::Fall => "fall",
+            Keyword::End => "end",
+        }
+    }
+
+    /// The word as it stands in a text.
+    pub(crate) fn text(self) -> &'static [u8]
+        ensures { result.now ≡ keyword_text self }
+    {
+        self.name().as_bytes()
+    }
+}
+
+/// Whether the line is the first one of each certificate.
+pub(crate) fn is_version(line: &[u8]) -> bool
+    ensures { result ≡ bytes_eq line.now version_text }
+{
+    line == "dsv-certificate 1".as_bytes()
+}
+
+/// Whether the piece says that there is no bound on the samples.
+pub(crate) fn is_unbounded(piece: &[u8]) -> bool
+    ensures { result ≡ bytes_eq piece.now unbounded_text }
+{
+    piece == "unbounded".as_bytes()
+}
+
+/// Whether the piece says that a step is a deletion.
+pub(crate) fn is_deletion(piece: &[u8]) -> bool
+    ensures { result ≡ bytes_eq piece.now deletion_text }
+{
+    piece == "d".as_bytes()
+}
+
+/// Whether the piece ends a list of a step.
+pub(crate) fn is_list_end(piece: &[u8]) -> bool
+    ensures { result ≡ bytes_eq piece.now zero_text }
+{
+    piece == "0".as_bytes()
+}

@@ -1,0 +1,121 @@
+// The kinds of certificates, and their line.
+ghost use Rattle.std.specs.Prelude.{◌≡◌, IfOk};
+ghost use Rattle.dsv_certfile.specs.Headings.{kind_in, head_in, of_job};
+ghost use Rattle.dsv_certfile.specs.Heads.{IsHead};
+ghost use Rattle.dsv_certfile.specs.Kinds.{is_kind_of};
+ghost use Rattle.dsv_certfile.specs.Pieces.{pieces_of};
+
+use crate::fault::TextFault;
+use crate::job::{Job, Size};
+use crate::keyword::Keyword;
+use crate::numbers::Range;
+use crate::pieces::Pieces;
+use crate::places::{Place, read_numbers};
+use dsv_forms::GREATEST_ORDER;
+use dsv_names::{Named, Property, RunProperty};
+use dsv_template::MOST_INEQUALITIES;
+
+/// What shows the property of a job.
+#[derive(Clone, Copy, Debug, PartialEq, Eq)]
+pub(crate) enum Kind {
+    /// A log that refutes the formula that some run breaks.
+    Hints,
+    /// A set of registers that no run leaves, with a log for each of its sentences.
+    Invariant,
+    /// A form that falls.
+    Falls,
+}
+
+impl Named for Kind {
+    ghost use Rattle.dsv_certfile.specs.Kinds.{kind_name, kinds};
+
+    ghost name_of = { kind_name };
+
+    ghost all_values = { kinds };
+
+    fn name(self) -> &'static str {
+        match self {
+            Kind::Hints => "hints",
+            Kind::Invariant => "invariant",
+            Kind::Falls => "falls",
+        }
+    }
+
+    fn all() -> &'static [Kind] {
+        &[Kind::Hints, Kind::Invariant, Kind::Falls]
+    }
+}
+
+impl Kind {
+    /// Whether certificates of this kind show such a job.
+    pub(crate) fn is_of(self, job: &Job) -> bool
+        ensures { result ≡ is_kind_of job.now self }
+    {
+        match (job.property, job.size, self) {
+            (Property::OfRuns(_), Size::Samples(_), Kind::Hints) => true,
+            (Property::OfRuns(RunProperty::Overflow), Size::Unbounded, Kind::Invariant) => true,
+            (Property::OfRoots(_), Size::NoSize, Kind::Falls) => true,
+            (_, _, _) => false,
+        }
+    }
+}
+
+/// The kind of a certificate, with the numbers of its line.
+#[derive(Clone, Copy, Debug, PartialEq, Eq)]
+pub(crate) enum KindHead {
+    Hints,
+    Invariant { depth: u32, count: u32 },
+    Falls { places: u32 },
+}
+
+/// The kind, where it belongs to the job.
+fn of_job(job: &Job, kind: Kind) -> Result<Kind, TextFault>
+    ensures { result ≡ of_job job.now kind }
+{
+    if kind.is_of(job) {
+        Ok(kind)
+    } else {
+        Err(TextFault::Kind)
+    }
+}
+
+/// Reads the numbers after a kind's name.
+fn read_head(kind: Kind, pieces: Pieces) -> Result<KindHead, TextFault>
+    ensures answer { result ≡ head_in kind pieces.entry }
+    ensures within { IfOk result IsHead }
+{
+    match kind {
+        Kind::Hints => {
+            read_numbers(&[], pieces)?;
+            Ok(KindHead::Hints)
+        }
+        Kind::Invariant => {
+            let depth = Place::Number(Range::UpTo(u32::MAX));
+            let count = Place::Number(Range::UpTo(MOST_INEQUALITIES as u32));
+            let numbers = read_numbers(&[depth, count], pieces)?;
+            Ok(KindHead::Invariant {
+                depth: numbers.count_at(0),
+                count: numbers.count_at(1),
+            })
+        }
+        Kind::Falls => {
+            let places = Place::Number(Range::UpTo(GREATEST_ORDER as u32));
+            let numbers = read_numbers(&[places], pieces)?;
+            Ok(KindHead::Falls {
+                places: numbers.count_at(0),
+            })
+        }
+    }
+}
+
+/// Reads the kind line of a certificate for the job.
+pub(crate) fn read_kind(job: &Job, line: &[u8]) -> Result<KindHead, TextFault>
+    ensures answer { result ≡ kind_in job.now (pieces_of line.now) }
+    ensures within { IfOk result IsHead }
+{
+    let mut pieces = Pieces::new(line);
+    pieces.begin(Keyword::Kind)?;
+    let kind: Kind = pieces.next_named()?;
+    let kind = of_job(job, kind)?;
+    read_head(kind, pieces)
+}

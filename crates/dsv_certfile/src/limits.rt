@@ -1,0 +1,22 @@
+// Limits of the numbers of a certificate's text.
+/// The most samples of a job.
+pub const MOST_JOB_SAMPLES: u32 = 64;
+
+/// The most squares of a form.
+pub const MOST_SQUARES: usize = 8;
+
+/// The most numbers of an inequality: a coefficient for each register, and the bound.
+pub(crate) const MOST_INEQUALITY_NUMBERS: usize = 17;
+
+/// The most places of a line whose number of pieces is fixed: a word, and the numbers of an
+/// inequality.
+pub(crate) const MOST_PLACES: usize = 18;
+
+/// The greatest size of a literal.
+pub(crate) const GREATEST_LITERAL: u32 = 1 << 31;
+
+/// The greatest size of a number of an inequality.
+pub(crate) const GREATEST_ENTRY: u128 = (1 << 63) - 1;
+
+/// The greatest size of a number.
+pub(crate) const GREATEST_WHOLE: u128 = (1 << 127) - 1;

@@ -1,0 +1,74 @@
+// Reading a certificate from its text.
+ghost use Rattle.std.specs.Prelude.{IfOk};
+ghost use Rattle.dsv_certfile.specs.Answers.{Gives, Reads};
+ghost use Rattle.dsv_certfile.specs.Heads.{IsHead};
+ghost use Rattle.dsv_certfile.specs.Reading.{body_in, certificate_in, heading_in};
+
+use crate::certificate::Certificate;
+use crate::falls::read_falls;
+use crate::fault::{CertRefusal, at_line};
+use crate::invariant::read_invariant;
+use crate::job::{Job, read_job, read_version};
+use crate::keyword::Keyword;
+use crate::kind::{KindHead, read_kind};
+use crate::lines::Lines;
+use crate::steps::read_log;
+use std::alloc::Global;
+
+/// What the three first lines say.
+#[derive(Clone, Copy)]
+struct Heading {
+    job: Job,
+    kind: KindHead,
+}
+
+fn read_heading(lines: &mut Lines) -> Result<Heading, CertRefusal>
+    ensures answer { Reads result lines.new (heading_in lines.old) }
+    ensures within { IfOk result (λ heading. IsHead heading.kind) }
+{
+    let version = lines.next_line()?;
+    at_line(version.number, read_version(version.text))?;
+    let line = lines.next_line()?;
+    let job = at_line(line.number, read_job(line.text))?;
+    let line = lines.next_line()?;
+    let kind = at_line(line.number, read_kind(&job, line.text))?;
+    Ok(Heading { job, kind })
+}
+
+/// Reads what follows the kind line, the last line among it.
+fn read_body(alloc: Global, lines: &mut Lines, heading: Heading) -> Result<Certificate, CertRefusal>
+    requires { IsHead heading.kind }
+    ensures { Reads result lines.new (body_in heading.job heading.kind lines.old) }
+{
+    let job = heading.job;
+    match heading.kind {
+        KindHead::Hints => Ok(Certificate::Hints {
+            job,
+            log: read_log(alloc, lines, Keyword::End)?,
+        }),
+        KindHead::Invariant { depth, count } => {
+            let proof = read_invariant(alloc, lines, depth, count)?;
+            Ok(Certificate::Invariant {
+                job,
+                candidate: proof.candidate,
+                logs: proof.logs,
+            })
+        }
+        KindHead::Falls { places } => Ok(Certificate::Falls {
+            job,
+            offer: read_falls(lines, places)?,
+        }),
+    }
+}
+
+/// Reads the text of a certificate, or answers its first fault. It takes time in proportion to the
+/// text, and memory in proportion to what it keeps.
+pub fn read(alloc: Global, bytes: &[u8]) -> Result<Certificate, CertRefusal>
+    ensures { Gives result (certificate_in bytes.now) }
+{
+    let mut lines = Lines::new(bytes);
+    let heading = read_heading(&mut lines)?;
+    let certificate = read_body(alloc, &mut lines, heading)?;
+    lines.end()?;
+    Ok(certificate)
+}

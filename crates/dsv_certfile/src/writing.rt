@@ -1,0 +1,235 @@
+// Writing the text of a certificate.
+ghost use Rattle.std.specs.Prelude.{◌++◌, ◌∷◌, map, take};
+ghost use Rattle.std.specs.List.{flat_map};
+ghost use Rattle.dsv_base.specs.Taking.{Writes};
+ghost use Rattle.dsv_base.specs.Text.{spaced_text};
+ghost use Rattle.dsv_certfile.specs.Texts.{line_text, size_pieces, job_line, inequality_line};
+ghost use Rattle.dsv_certfile.specs.Texts.{logs_lines, squares_lines, square_lines, falls_lines};
+ghost use Rattle.dsv_certfile.specs.Texts.{certificate_text, kind_line_of, body_lines};
+ghost use Rattle.dsv_certfile.specs.Texts.{numbers_line, piece_text};
+ghost use Rattle.dsv_names.specs.Properties.{property_name};
+ghost use Rattle.dsv_names.specs.Realisations.{realisation_name};
+ghost use Rattle.dsv_names.specs.Roundings.{rounding_name};
+ghost use Rattle.dsv_names.specs.OverflowModes.{overflow_mode_name};
+ghost use Rattle.dsv_certfile.specs.Texts.{kind_line, candidate_counts, squares_head};
+ghost use Rattle.dsv_certfile.specs.declared.kind.Kind.TheVariants as kind;
+ghost use Rattle.dsv_certfile.specs.declared.keyword.Keyword.TheVariants as keyword;
+
+use crate::certificate::Certificate;
+use crate::job::{Job, Size};
+use crate::keyword::Keyword;
+use crate::putting::{Row, put_entries, put_entry, put_log, put_name, put_rows, put_word};
+use dsv_base::{Failed, Sink, put_all, put_line, put_spaced};
+use dsv_forms::{Falls, GREATEST_ORDER, Squares};
+use dsv_template::{Candidate, Inequality, ThreeLogs};
+
+// ---- the first lines
+
+/// Writes the size after a space, where a job has one.
+fn put_size<K: Sink>(sink: &mut K, size: Size) -> Result<(), Failed>
+    ensures { Writes (K.seen sink.old) (K.seen sink.new) result
+        (flat_map (spaced_text piece_text) (size_pieces size)) }
+{
+    match size {
+        Size::NoSize => put_all(sink, b""),
+        Size::Samples(samples) => put_spaced(sink, samples),
+        Size::Unbounded => put_all(sink, b" unbounded"),
+    }
+}
+
+/// Writes a space before the names of the property and the realisation.
+fn put_names<K: Sink>(sink: &mut K, job: &Job) -> Result<(), Failed>
+    ensures { Writes (K.seen sink.old) (K.seen sink.new) result
+        (spaced_text piece_text (property_name job.now.property)
+        ++ spaced_text piece_text (realisation_name job.now.realisation)) }
+{
+    put_name(sink, job.property)?;
+    put_name(sink, job.realisation)
+}
+
+/// Writes a space before the names of the rounding and the overflow mode.
+fn put_modes<K: Sink>(sink: &mut K, job: &Job) -> Result<(), Failed>
+    ensures { Writes (K.seen sink.old) (K.seen sink.new) result
+        (spaced_text piece_text (rounding_name job.now.rounding)
+        ++ spaced_text piece_text (overflow_mode_name job.now.overflow)) }
+{
+    put_name(sink, job.rounding)?;
+    put_name(sink, job.overflow)
+}
+
+/// Writes the job line.
+fn put_job<K: Sink>(sink: &mut K, job: &Job) -> Result<(), Failed>
+    ensures { Writes (K.seen sink.old) (K.seen sink.new) result (line_text (job_line job.now)) }
+{
+    put_all(sink, b"job")?;
+    put_names(sink, job)?;
+    put_modes(sink, job)?;
+    put_size(sink, job.size)?;
+    put_all(sink, b"\n")
+}
+
+/// Writes the kind line of an invariant.
+fn put_candidate_kind<K: Sink>(sink: &mut K, candidate: &Candidate) -> Result<(), Failed>
+    ensures { Writes (K.seen sink.old) (K.seen sink.new) result (line_text
+        (kind_line kind.Invariant (candidate_counts candidate.now))) }
+{
+    let count = candidate.inequalities.len() as u64;
+    put_line(
+        sink,
+        b"kind invariant",
+        &[u64::from(candidate.depth), count],
+    )
+}
+
+fn put_kind<K: Sink>(sink: &mut K, certificate: &Certificate) -> Result<(), Failed>
+    ensures { Writes (K.seen sink.old) (K.seen sink.new) result
+        (line_text (kind_line_of certificate.now)) }
+{
+    match certificate {
+        Certificate::Hints { .. } => put_all(sink, b"kind hints\n"),
+        Certificate::Invariant { candidate, .. } => put_candidate_kind(sink, candidate),
+        Certificate::Falls { offer, .. } => put_line(sink, b"kind falls", &[offer.form.d]),
+    }
+}
+
+// ---- what follows them
+
+/// Writes the line of an inequality.
+fn put_inequality<K: Sink>(sink: &mut K, inequality: &Inequality) -> Result<(), Failed>
+    ensures { Writes (K.seen sink.old) (K.seen sink.new) result
+        (line_text (inequality_line inequality.now)) }
+{
+    put_all(sink, Keyword::Inequality.text())?;
+    put_entries(sink, inequality.coefficients.as_slice())?;
+    put_entry(sink, &inequality.bound)?;
+    put_all(sink, b"\n")
+}
+
+/// Writes the lines of inequalities.
+fn put_each_inequality<K: Sink>(sink: &mut K, inequalities: &[Inequality]) -> Result<(), Failed>
+    ensures { Writes (K.seen sink.old) (K.seen sink.new) result
+        (flat_map (λ i. line_text (inequality_line i)) inequalities.now) }
+{
+    for inequality in inequalities {
+        put_inequality(sink, inequality)?;
+    }
+    Ok(())
+}
+
+fn put_inequalities<K: Sink>(sink: &mut K, candidate: &Candidate) -> Result<(), Failed>
+    ensures { Writes (K.seen sink.old) (K.seen sink.new) result
+        (flat_map line_text (map inequality_line candidate.now.inequalities.items)) }
+{
+    put_each_inequality(sink, candidate.inequalities.as_slice())
+}
+
+/// Writes each log after the word of its sentence.
+fn put_logs<K: Sink>(sink: &mut K, logs: &ThreeLogs) -> Result<(), Failed>
+    ensures { Writes (K.seen sink.old) (K.seen sink.new) result
+        (flat_map line_text (logs_lines logs.now)) }
+{
+    put_word(sink, Keyword::Base)?;
+    put_log(sink, &logs.base)?;
+    put_word(sink, Keyword::Step)?;
+    put_log(sink, &logs.step)?;
+    put_word(sink, Keyword::Safe)?;
+    put_log(sink, &logs.safe)
+}
+
+/// Writes the line of a square: its weight, and the first d places of its row.
+fn put_square<K: Sink>(sink: &mut K, d: u32, weight: &i128, row: &Row) -> Result<(), Failed>
+    ensures { Writes (K.seen sink.old) (K.seen sink.new) result
+        (line_text (numbers_line keyword.Square (weight.now ∷ take d row.now))) }
+{
+    put_all(sink, Keyword::Square.text())?;
+    put_entry(sink, weight)?;
+    put_entries(sink, &row[..GREATEST_ORDER.min(d as usize)])?;
+    put_all(sink, b"\n")
+}
+
+fn put_all_squares<K: Sink>(sink: &mut K, d: u32, squares: &Squares) -> Result<(), Failed>
+    ensures { Writes (K.seen sink.old) (K.seen sink.new) result
+        (flat_map line_text (square_lines d
+        (take squares.now.count squares.now.weights) squares.now.rows)) }
+{
+    for i in 0..GREATEST_ORDER.min(squares.count as usize) {
+        put_square(sink, d, &squares.weights[i], &squares.rows[i])?;
+    }
+    Ok(())
+}
+
+/// Writes the line that the squares of a form begin with.
+fn put_squares_head<K: Sink>(sink: &mut K, word: Keyword, s: &Squares) -> Result<(), Failed>
+    ensures { Writes (K.seen sink.old) (K.seen sink.new) result
+        (line_text (squares_head word s.now)) }
+{
+    put_all(sink, word.text())?;
+    put_entry(sink, &s.m)?;
+    put_spaced(sink, s.count)?;
+    put_all(sink, b"\n")
+}
+
+/// Writes the squares of a form of d places, and the rest.
+fn put_squares<K: Sink>(
+    sink: &mut K,
+    word: Keyword,
+    d: u32,
+    squares: &Squares,
+) -> Result<(), Failed>
+    ensures { Writes (K.seen sink.old) (K.seen sink.new) result
+        (flat_map line_text (squares_lines word d squares.now)) }
+{
+    put_squares_head(sink, word, squares)?;
+    put_all_squares(sink, d, squares)?;
+    put_rows(sink, Keyword::Rest, d, &squares.rest)
+}
+
+fn put_falls<K: Sink>(sink: &mut K, offer: &Falls) -> Result<(), Failed>
+    ensures { Writes (K.seen sink.old) (K.seen sink.new) result
+        (flat_map line_text (falls_lines offer.now)) }
+{
+    let d = offer.form.d;
+    put_rows(sink, Keyword::Form, d, &offer.form.rows)?;
+    put_squares(sink, Keyword::Positive, d, &offer.positive)?;
+    put_squares(sink, Keyword::Fall, d, &offer.fall)
+}
+
+/// Writes an invariant: its inequalities, and its logs.
+fn put_invariant<K: Sink>(
+    sink: &mut K,
+    candidate: &Candidate,
+    logs: &ThreeLogs,
+) -> Result<(), Failed>
+    ensures { Writes (K.seen sink.old) (K.seen sink.new) result (flat_map line_text
+        (map inequality_line candidate.now.inequalities.items ++ logs_lines logs.now)) }
+{
+    put_inequalities(sink, candidate)?;
+    put_logs(sink, logs)
+}
+
+fn put_body<K: Sink>(sink: &mut K, certificate: &Certificate) -> Result<(), Failed>
+    ensures { Writes (K.seen sink.old) (K.seen sink.new) result
+        (flat_map line_text (body_lines certificate.now)) }
+{
+    match certificate {
+        Certificate::Hints { log, .. } => put_log(sink, log),
+        Certificate::Invariant {
+            candidate,
+            logs,
+            ..
+        } => put_invariant(sink, candidate, logs),
+        Certificate::Falls { offer, .. } => put_falls(sink, offer),
+    }
+}
+
+/// Writes the text of the certificate. It takes no memory; where the sink fails, it took a prefix.
+pub fn write<K: Sink>(certificate: &Certificate, sink: &mut K) -> Result<(), Failed>
+    ensures { Writes (K.seen sink.old) (K.seen sink.new) result
+        (certificate_text certificate.now) }
+{
+    put_all(sink, b"dsv-certificate 1\n")?;
+    put_job(sink, certificate.job())?;
+    put_kind(sink, certificate)?;
+    put_body(sink, certificate)?;
+    put_word(sink, Keyword::End)
+}
