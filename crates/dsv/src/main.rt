@@ -1,13 +1,13 @@
 //! `dsv`: verifies a digital controller in fixed-point words. `main` makes the real files, the real
-//! output and the built-in proposer, and calls [`dsv_cli::run`].
+//! output and the built-in proposers, and calls [`dsv_cli::run`].
 #![tactic(auto)]
 
-use dsv_cli::{FormProposer, OsFiles, OsOut, SumProposer, run};
+use dsv_cli::{BoxProposer, FormProposer, InvariantProposer, OsFiles, OsOut, SumProposer, run};
 use std::io;
 use std::io::ErrorKind;
 use std::process::ExitCode;
 
-/// There is no memory for the command's arguments or for the proposer.
+/// There is no memory for the command's arguments or for the proposers.
 const NO_MEMORY: u8 = 5;
 
 /// The command's arguments can't be had, as where one isn't UTF-8.
@@ -32,6 +32,13 @@ fn main(rt: HostRuntime) -> ExitCode {
     let Ok(out) = rt.clone() else {
         return ExitCode::from(NO_MEMORY);
     };
+    let Ok(boxes) = Box::new(alloc, BoxProposer::new()) else {
+        return ExitCode::from(NO_MEMORY);
+    };
+    let mut sets: Vec<Box<dyn InvariantProposer>> = Vec::new(alloc);
+    if sets.push(boxes).is_err() {
+        return ExitCode::from(NO_MEMORY);
+    }
     let Ok(sums) = Box::new(alloc, SumProposer::new()) else {
         return ExitCode::from(NO_MEMORY);
     };
@@ -41,5 +48,8 @@ fn main(rt: HostRuntime) -> ExitCode {
     }
     let mut files = OsFiles::new(rt, alloc);
     let mut sink = OsOut::new(out);
-    ExitCode::from(run(alloc, &arguments, &mut files, &mut sink, &mut forms).status)
+    let done = run(
+        alloc, &arguments, &mut files, &mut sink, &mut sets, &mut forms,
+    );
+    ExitCode::from(done.status)
 }

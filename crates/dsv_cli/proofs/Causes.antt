@@ -1,5 +1,5 @@
 -- The stages of a run lead to the rows of the table.
-use Rattle.std.proofs.Common.{◌≡◌, inl, inr, ℕ, ◌≤◌, List, length, subst, refl, sym}
+use Rattle.std.proofs.Common.{◌≡◌, inl, inr, ℕ, ◌≤◌, List, length, subst, refl, sym, ap, ◌∙◌}
 use Rattle.std.specs.Prelude.{Result, Ok, Err, Option, Some, None, IfSome, ℤ}
 use Rattle.dsv_names.specs.declared.property.RunProperty.{RunProperty}
 use Rattle.dsv_names.specs.declared.property.RunProperty.TheVariants as run
@@ -7,19 +7,22 @@ use Rattle.dsv_reader.specs.Controllers.{ControllerView}
 use Rattle.dsv_reader.specs.Texts.{IsTextOf, IsFaultOf}
 use Rattle.dsv_quantiser.specs.FixedPoint.{FixedPoint}
 use Rattle.dsv_quantiser.specs.declared.refusal.QuantRefusal.{QuantRefusal}
-use Rattle.dsv_command.specs.Jobs.{Task, decides, checks_time, writes, searches, simulates, Asked}
+use Rattle.dsv_command.specs.Jobs.{Task, decides, checks_time, writes, searches, seeks_set, simulates, Asked}
 use Rattle.dsv_command.specs.declared.job.Design.{Design}
+use Rattle.dsv_command.specs.declared.question.Budget.{Budget}
+use Rattle.dsv_invariant.specs.declared.size.TheConstants.{UNBOUNDED_SAMPLES}
 use Rattle.dsv_report.specs.declared.answers.Answer.{Answer}
 use Rattle.dsv_report.specs.declared.answers.Answer.TheVariants as answer
 use Rattle.dsv_tested.specs.declared.side.Tested.TheVariants as tested
 use Rattle.dsv_base.specs.Seen.{FilesSeen}
 use Rattle.dsv_cli.specs.declared.outcome.Outcome.{Outcome}
 use Rattle.dsv_cli.specs.declared.outcome.Outcome.TheVariants as outcome
-use Rattle.dsv_cli.specs.Headline.{longest_file, IsAccepted, IsTested, IsTimed, IsSearch, IsWriting, AsksOver, IsRun, IsRow}
+use Rattle.dsv_cli.specs.Headline.{longest_file, IsAccepted, IsTested, IsTimed, IsSearch, IsWriting, IsSeeking, AsksOver, IsRun, IsRow, FileBecomes}
 use Rattle.dsv_bounded.specs.Verdicts.{IsTrace, IsCycle}
 use Rattle.dsv_cli.specs.Questions.{IsWithin, NeverHappens, GaveUp, IsFormulaOf, IsTooLarge}
 use Rattle.dsv_cli.specs.Simulating.{IsRunOver, IsFirstOutside}
-use Rattle.dsv_cli.specs.Causes.{BecomesWords, IsDecision, IsOfTask, IsOfController, IsOfBytes, HasRow, HasRowOf}
+use Rattle.dsv_cli.specs.Sets.{KeepsTo, NoneIsGood}
+use Rattle.dsv_cli.specs.Causes.{BecomesWords, IsDecision, IsOfSets, IsOfTask, IsOfController, IsOfBytes, HasRow, HasRowOf}
 
 -- what a controller in words comes to is what the controller comes to
 pub of_words : (c : ControllerView) (design : Design) (task : Task) (words : FixedPoint) (found : Outcome) → BecomesWords c design (Ok words) → IsOfTask c task words found
@@ -28,6 +31,7 @@ of_words c design (decides p) words (outcome.Answered (answer.QuantRefused r)) b
 of_words c design checks_time words (outcome.Answered (answer.QuantRefused r)) b h = absurd h
 of_words c design (writes p samples) words (outcome.Answered (answer.QuantRefused r)) b h = absurd h
 of_words c design (searches p samples conflicts) words (outcome.Answered (answer.QuantRefused r)) b h = absurd h
+of_words c design (seeks_set conflicts) words (outcome.Answered (answer.QuantRefused r)) b h = absurd h
 of_words c design (simulates inputs) words (outcome.Answered (answer.QuantRefused r)) b h = absurd h
 of_words c design task words found b h = record { words = words; becomes = b; answer = h }
 
@@ -60,6 +64,7 @@ row_of_words job bytes words (decides p) e (outcome.Answered (answer.Wide index)
   shows = tt;
 }
 row_of_words job bytes words (decides p) e (outcome.Answered found) a h = absurd h
+row_of_words job bytes words (decides p) e (outcome.Unbounded w b) a h = absurd h
 row_of_words job bytes words checks_time e (outcome.Answered (answer.OnTime report)) a h = λ told old new same. record {
   belongs_to = e;
   comes_from = told_by (λ b. IsTimed job b report) bytes told same (record { task = e; words = words; accepted = a; timing = h.0 });
@@ -73,6 +78,7 @@ row_of_words job bytes words checks_time e (outcome.Answered (answer.Late report
 row_of_words job bytes words checks_time e (outcome.Answered answer.NoMemory) a h = λ told old new same. tt
 row_of_words job bytes words checks_time e (outcome.Answered found) a h = absurd h
 row_of_words job bytes words checks_time e (outcome.Undecided poly) a h = absurd h
+row_of_words job bytes words checks_time e (outcome.Unbounded w b) a h = absurd h
 row_of_words job bytes words (writes p k) e (outcome.Answered (answer.FormulaText formula)) a h = λ told old new same. record {
   belongs_to = (p, k, e);
   comes_from = told_by (λ b. (q : RunProperty) × (n : ℕ) × (w : FixedPoint) × IsWriting job b q n w × IsFormulaOf q n w formula) bytes told same
@@ -80,14 +86,15 @@ row_of_words job bytes words (writes p k) e (outcome.Answered (answer.FormulaTex
   shows = tt;
 }
 row_of_words job bytes words (writes p k) e (outcome.Answered (answer.JobSize size)) a h = λ told old new same. record {
-  belongs_to = inr (p, k, e);
+  belongs_to = inr (inl (p, k, e));
   comes_from = told_by (λ b. (n : ℕ) × (w : FixedPoint) × AsksOver job b n w × IsTooLarge n w size) bytes told same
-      (k, words, inr (p, record { task = e; accepted = a }), h);
+      (k, words, inr (inl (p, record { task = e; accepted = a })), h);
   shows = tt;
 }
 row_of_words job bytes words (writes p k) e (outcome.Answered answer.NoMemory) a h = λ told old new same. tt
 row_of_words job bytes words (writes p k) e (outcome.Answered found) a h = absurd h
 row_of_words job bytes words (writes p k) e (outcome.Undecided poly) a h = absurd h
+row_of_words job bytes words (writes p k) e (outcome.Unbounded w b) a h = absurd h
 row_of_words job bytes words (searches p k c) e (outcome.Answered (answer.Never log)) a h = λ told old new same. record {
   belongs_to = (p, (k, c, e));
   comes_from = told_by (λ b. (q : RunProperty) × (n : ℕ) × (d : ℕ) × (w : FixedPoint) × IsSearch job b q n d w × NeverHappens q n d w log) bytes told same
@@ -123,6 +130,13 @@ row_of_words job bytes words (searches p k c) e (outcome.Answered (answer.JobSiz
 row_of_words job bytes words (searches p k c) e (outcome.Answered answer.NoMemory) a h = λ told old new same. tt
 row_of_words job bytes words (searches p k c) e (outcome.Answered found) a h = absurd h
 row_of_words job bytes words (searches p k c) e (outcome.Undecided poly) a h = absurd h
+row_of_words job bytes words (searches p k c) e (outcome.Unbounded w b) a h = absurd h
+row_of_words job bytes words (seeks_set c) e (outcome.Unbounded w b) a h = λ told old new same. (
+  e ∙ ap seeks_set (sym h.1),
+  told_by (λ bs. IsAccepted job.design bs (Ok w)) bytes told same (subst (λ v. IsAccepted job.design bytes (Ok v)) (sym h.0) a),
+)
+row_of_words job bytes words (seeks_set c) e (outcome.Answered found) a h = absurd h
+row_of_words job bytes words (seeks_set c) e (outcome.Undecided poly) a h = absurd h
 row_of_words job bytes words (simulates inputs) e (outcome.Answered (answer.Simulated rows)) a h = λ told old new same. record {
   belongs_to = (inputs, e);
   comes_from = told_by (λ b. (xs : List ℤ) × (w : FixedPoint) × IsRun job b xs w × IsRunOver w xs rows) bytes told same
@@ -138,6 +152,7 @@ row_of_words job bytes words (simulates inputs) e (outcome.Answered (answer.Inpu
 row_of_words job bytes words (simulates inputs) e (outcome.Answered answer.NoMemory) a h = λ told old new same. tt
 row_of_words job bytes words (simulates inputs) e (outcome.Answered found) a h = absurd h
 row_of_words job bytes words (simulates inputs) e (outcome.Undecided poly) a h = absurd h
+row_of_words job bytes words (simulates inputs) e (outcome.Unbounded w b) a h = absurd h
 
 -- ---- from the controller on
 row_of_controller : (job : Asked) (bytes : List ℕ) (c : ControllerView) → length bytes ≤ longest_file → IsTextOf bytes c → (found : Outcome)
@@ -174,3 +189,33 @@ row_of_decision told old new job poly (answer.KeptAway q offer fall value) h d =
 row_of_decision told old new job poly (answer.NoForm q kept verdict) h d = record { belongs_to = h.0; comes_from = renamed told job poly q d.0 h.1; shows = d.1 }
 row_of_decision told old new job poly answer.NoMemory h d = tt
 row_of_decision told old new job poly found h d = absurd d
+
+-- ---- from the words on, by what proposers of sets offer
+seeking : (told : Option (List ℕ)) (job : Asked) (words : FixedPoint) (c : ℕ) (P : (List ℕ) → Type 0)
+    → ((bytes : List ℕ) → IsSeeking job bytes c words → P bytes) → job.task ≡ seeks_set c → IfSome told (λ bytes. IsAccepted job.design bytes (Ok words)) → IfSome told P
+seeking None job words c P f e h = tt
+seeking (Some bytes) job words c P f e h = f bytes (record { task = e; accepted = h })
+
+-- the answer on runs of any length has its row
+pub row_of_sets : (told : Option (List ℕ)) (old new : FilesSeen) (job : Asked) (words : FixedPoint) (budget : Budget) (found : Answer) → HasRow told old new job (outcome.Unbounded words budget)
+    → IsOfSets budget.conflicts words found → IsRow told old new job found
+row_of_sets told old new job words budget (answer.Always candidate logs) h d = record {
+  belongs_to = (budget.conflicts, h.0);
+  comes_from = seeking told job words budget.conflicts (λ b. (c : ℕ) × (w : FixedPoint) × IsSeeking job b c w × KeepsTo w c candidate logs)
+      (λ bytes s. (budget.conflicts, words, s, d)) h.0 h.1;
+  shows = tt;
+}
+row_of_sets told old new job words budget (answer.NoInvariant kept) h d = record {
+  belongs_to = (budget.conflicts, h.0);
+  comes_from = seeking told job words budget.conflicts (λ b. (c : ℕ) × (w : FixedPoint) × IsSeeking job b c w × NoneIsGood w c kept)
+      (λ bytes s. (budget.conflicts, words, s, d)) h.0 h.1;
+  shows = tt;
+}
+row_of_sets told old new job words budget (answer.JobSize size) h d = record {
+  belongs_to = inr (inr (budget.conflicts, h.0));
+  comes_from = seeking told job words budget.conflicts (λ b. (n : ℕ) × (w : FixedPoint) × AsksOver job b n w × IsTooLarge n w size)
+      (λ bytes s. (UNBOUNDED_SAMPLES, words, inr (inr (budget.conflicts, s, refl)), d)) h.0 h.1;
+  shows = tt;
+}
+row_of_sets told old new job words budget answer.NoMemory h d = tt
+row_of_sets told old new job words budget found h d = absurd d

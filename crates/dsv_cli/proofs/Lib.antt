@@ -1,9 +1,11 @@
 pub mod Answering
 pub mod Asked
+pub mod Blocks
 pub mod Causes
 pub mod OneAnswerLemmas
 pub mod OneAnswerStages
 pub mod OneAnswerTasks
 pub mod Proposers
 pub mod RunLines
+pub mod Sets
 pub mod Suffixes

@@ -27,7 +27,8 @@ record Reaches (job : Asked) (bytes : List ℕ) (found : Answer) : Type 0 where
 -- so does a question that is too large, by a search or for its formula
 large_asked : (bytes : List ℕ) (job : Asked) (size k : ℕ) (words : FixedPoint) → AsksOver job bytes k words → IsTooLarge k words size → Reaches job bytes (answer.JobSize size)
 large_asked bytes job size k words (inl t) h = record { stage = in_words t.2.accepted.controller words; reached = (t.2.accepted, refl); gives = rw t.2.task h }
-large_asked bytes job size k words (inr t) h = record { stage = in_words t.1.accepted.controller words; reached = (t.1.accepted, refl); gives = rw t.1.task h }
+large_asked bytes job size k words (inr (inr t)) h = record { stage = in_words t.1.accepted.controller words; reached = (t.1.accepted, refl); gives = rw t.1.task (subst (λ n. IsTooLarge n words size) t.2 h) }
+large_asked bytes job size k words (inr (inl t)) h = record { stage = in_words t.1.accepted.controller words; reached = (t.1.accepted, refl); gives = rw t.1.task h }
 
 large_by : (bytes : List ℕ) (job : Asked) (size : ℕ) → ((n : ℕ) × (w : FixedPoint) × AsksOver job bytes n w × IsTooLarge n w size) → Reaches job bytes (answer.JobSize size)
 large_by bytes job size t = large_asked bytes job size t.0 t.1 t.2 t.3

@@ -21,7 +21,7 @@ use Rattle.dsv_delta.specs.declared.refusal.PolyWide.{PolyWide}
 use Rattle.dsv_tested.specs.Tested.{tested_of}
 use Rattle.dsv_tested.specs.declared.side.Tested.{Tested}
 use Rattle.dsv_tested.specs.declared.side.Tested.TheVariants as tested
-use Rattle.dsv_command.specs.Jobs.{Task, decides, checks_time, writes, searches, simulates}
+use Rattle.dsv_command.specs.Jobs.{Task, decides, checks_time, writes, searches, seeks_set, simulates}
 use Rattle.dsv_report.specs.declared.answers.Answer.{Answer}
 use Rattle.dsv_report.specs.declared.answers.Answer.TheVariants as answer
 use Rattle.dsv_cli.specs.Headline.{degree, side_of, ShowsFall, ShowsKeptAway}
@@ -36,7 +36,8 @@ use Rattle.dsv_bounded.specs.Formulas.{job_size_of}
 use Rattle.dsv_bounded.specs.Verdicts.{IsTrace, IsCycle}
 use Rattle.dsv_cli.specs.Questions.{Happens, IsTooLarge}
 use Rattle.dsv_bounded.proofs.Verdicts.{trace_breaks, cycle_cycles}
-use Rattle.dsv_cli.specs.Causes.{IsOfRun, IsOfTiming, IsOfFormula, IsOfSearch}
+use Rattle.dsv_invariant.specs.declared.size.TheConstants.{UNBOUNDED_SAMPLES}
+use Rattle.dsv_cli.specs.Causes.{IsOfRun, IsOfTiming, IsOfFormula, IsOfSearch, IsOfSets}
 use Rattle.dsv_cli.specs.Timing.{IsTimingOf, IsOnTime}
 use Rattle.dsv_reader.specs.Controllers.{ControllerView}
 use Rattle.dsv_timing.specs.Cycles.{cycles_of}
@@ -281,12 +282,25 @@ one_time c words (answer.Late r) b x y h k = absurd k
 one_time c words answer.NoMemory b x y h k = absurd x
 one_time c words a b x y h k = absurd h
 
+-- ---- runs of any length
+one_set : (conflicts : ℕ) (words : FixedPoint) (a b : Answer) → IsSettled a → IsSettled b → IsOfSets conflicts words a → IsOfSets conflicts words b → SameAnswer a b
+one_set c words (answer.JobSize s) (answer.JobSize t) x y h k = one_size UNBOUNDED_SAMPLES words s t h k
+one_set c words (answer.JobSize s) (answer.Always candidate logs) x y h k = absurd y
+one_set c words (answer.JobSize s) (answer.NoInvariant kept) x y h k = absurd y
+one_set c words (answer.JobSize s) answer.NoMemory x y h k = absurd y
+one_set c words (answer.JobSize s) b x y h k = absurd k
+one_set c words (answer.Always candidate logs) b x y h k = absurd x
+one_set c words (answer.NoInvariant kept) b x y h k = absurd x
+one_set c words answer.NoMemory b x y h k = absurd x
+one_set c words a b x y h k = absurd h
+
 -- what a task leads to for a controller in words
 abbrev pub IsAnswerTo : ControllerView → Task → FixedPoint → Answer → Type 0
 IsAnswerTo c (decides p) words found = Leads (tested_of words (side_of p)) found
 IsAnswerTo c checks_time words found = IsOfTiming c words found
 IsAnswerTo c (writes p samples) words found = IsOfFormula p samples words found
 IsAnswerTo c (searches p samples conflicts) words found = IsOfSearch p samples conflicts words found
+IsAnswerTo c (seeks_set conflicts) words found = IsOfSets conflicts words found
 IsAnswerTo c (simulates inputs) words found = IsOfRun words inputs found
 
 pub one_task : (c : ControllerView) (task : Task) (words : FixedPoint) (a b : Answer) → IsSettled a → IsSettled b → IsAnswerTo c task words a → IsAnswerTo c task words b → SameAnswer a b
@@ -294,4 +308,5 @@ one_task e (decides p) words a b x y h k = one_decision (tested_of words (side_o
 one_task e checks_time words a b x y h k = one_time e words a b x y h k
 one_task e (writes p samples) words a b x y h k = one_formula p samples words a b x y h k
 one_task e (searches p samples conflicts) words a b x y h k = one_search p samples conflicts words a b x y h k
+one_task e (seeks_set conflicts) words a b x y h k = one_set conflicts words a b x y h k
 one_task e (simulates inputs) words a b x y h k = one_run words inputs a b x y h k

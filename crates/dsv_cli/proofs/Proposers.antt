@@ -10,9 +10,13 @@ use Rattle.dsv_command.specs.Jobs.{Asked}
 use Rattle.dsv_report.specs.Printing.{HasPlaces}
 use Rattle.dsv_report.specs.declared.answers.Answer.{Answer}
 use Rattle.dsv_report.specs.declared.answers.Answer.TheVariants as answer
-use Rattle.dsv_cli.specs.Causes.{IsPlain}
+use Rattle.dsv_quantiser.specs.FixedPoint.{FixedPoint}
+use Rattle.dsv_template.specs.declared.candidate.Candidate.{Candidate}
+use Rattle.dsv_template.specs.declared.kept.KeptSet.{KeptSet}
+use Rattle.dsv_template.specs.declared.shape.Shape.{Shape}
+use Rattle.dsv_cli.specs.Causes.{IsPlain, IsDecision, IsOfSets}
 use Rattle.dsv_cli.specs.Headline.{IsRow}
-use Rattle.dsv_cli.specs.Proposers.{IsAsked, IfOffered, IfNoForm, is_low}
+use Rattle.dsv_cli.specs.Proposers.{IsAsked, IfOffered, IfNoForm, AreSetsAsked, IfAlways, IfNoInvariant, is_low}
 
 -- ---- nobody is asked
 none : (n : ℕ) → n - n ≡ 0
@@ -28,49 +32,13 @@ same_list place xs = record {
 none_offered : (found : Answer) (P : List ℤ → FormOffer → Type 0) → IsPlain found → IfOffered found P
 none_offered (answer.Falls poly offer fall) P h = absurd h
 none_offered (answer.KeptAway poly offer fall value) P h = absurd h
-none_offered answer.NoZeros P h = tt
-none_offered (answer.NoForm poly kept verdict) P h = absurd h
-none_offered (answer.Wide index) P h = tt
-none_offered (answer.OnTime report) P h = tt
-none_offered (answer.Late report) P h = tt
-none_offered (answer.Never log) P h = tt
-none_offered (answer.Overflow trace) P h = tt
-none_offered (answer.Cycles cycle) P h = tt
-none_offered (answer.Spent log) P h = tt
-none_offered (answer.FormulaText formula) P h = tt
-none_offered (answer.JobSize size) P h = tt
-none_offered (answer.Simulated rows) P h = tt
-none_offered answer.Usage P h = tt
-none_offered (answer.FileRefused r) P h = tt
-none_offered answer.FileTooLong P h = tt
-none_offered (answer.QuantRefused r) P h = tt
-none_offered (answer.InputRange index value) P h = tt
-none_offered (answer.ReadFault file) P h = tt
-none_offered answer.NoMemory P h = tt
+none_offered found P h = tt
 
 some_form : (found : Answer) (P : List ℤ → List KeptForm → Type 0) → IsPlain found → IfNoForm found P
-some_form (answer.Falls poly offer fall) P h = absurd h
-some_form (answer.KeptAway poly offer fall value) P h = absurd h
-some_form answer.NoZeros P h = tt
 some_form (answer.NoForm poly kept verdict) P h = absurd h
-some_form (answer.Wide index) P h = tt
-some_form (answer.OnTime report) P h = tt
-some_form (answer.Late report) P h = tt
-some_form (answer.Never log) P h = tt
-some_form (answer.Overflow trace) P h = tt
-some_form (answer.Cycles cycle) P h = tt
-some_form (answer.Spent log) P h = tt
-some_form (answer.FormulaText formula) P h = tt
-some_form (answer.JobSize size) P h = tt
-some_form (answer.Simulated rows) P h = tt
-some_form answer.Usage P h = tt
-some_form (answer.FileRefused r) P h = tt
-some_form answer.FileTooLong P h = tt
-some_form (answer.QuantRefused r) P h = tt
-some_form (answer.InputRange index value) P h = tt
-some_form (answer.ReadFault file) P h = tt
-some_form answer.NoMemory P h = tt
+some_form found P h = tt
 
+-- no proposer of forms is asked
 pub unasked : {B P : Type 0} (place : B → P) (last : B → Option FormOffer) (sure : B → List ℤ → Type 0) (xs : List B) (found : Answer) → IsPlain found
     → IsAsked place last sure xs xs found
 unasked place last sure xs found h = record {
@@ -82,28 +50,71 @@ unasked place last sure xs found h = record {
   at_most = some_form found _ h;
 }
 
+pub unasked_for_sets : {B P : Type 0} (place : B → P) (last : B → Option FormOffer) (sure : B → List ℤ → Type 0) (xs : List B) (conflicts : ℕ) (words : FixedPoint) (found : Answer)
+    → IsOfSets conflicts words found → IsAsked place last sure xs xs found
+unasked_for_sets place last sure xs conflicts words (answer.Always candidate logs) h =
+    record { suffix = same_list place xs; unasked = λ n. refl; offered = tt; none_sure = tt; none_left = tt; at_most = tt }
+unasked_for_sets place last sure xs conflicts words (answer.NoInvariant kept) h =
+    record { suffix = same_list place xs; unasked = λ n. refl; offered = tt; none_sure = tt; none_left = tt; at_most = tt }
+unasked_for_sets place last sure xs conflicts words (answer.JobSize size) h = unasked place last sure xs (answer.JobSize size) tt
+unasked_for_sets place last sure xs conflicts words answer.NoMemory h = unasked place last sure xs answer.NoMemory tt
+unasked_for_sets place last sure xs conflicts words found h = absurd h
+
+-- no proposer of sets is asked
+same_sets : {B P : Type 0} (place : B → P) (last : B → Option Candidate) (to_come : B → Shape → Option (List Candidate)) (becomes : FixedPoint → Type 0) (xs : List B) (found : Answer)
+    → ((P : Candidate → Type 0) → IfAlways found P) → ((P : List KeptSet → Type 0) → IfNoInvariant found P) → AreSetsAsked place last to_come becomes xs xs found
+same_sets place last to_come becomes xs found none_kept none_left = record {
+  suffix = same_list place xs;
+  unasked = λ n. refl;
+  offered = none_kept _;
+  none_left = none_left _;
+  asked = none_left _;
+}
+
+pub sets_unasked : {B P : Type 0} (place : B → P) (last : B → Option Candidate) (to_come : B → Shape → Option (List Candidate)) (becomes : FixedPoint → Type 0) (xs : List B) (found : Answer)
+    → IsPlain found → AreSetsAsked place last to_come becomes xs xs found
+sets_unasked place last to_come becomes xs found h = same_sets place last to_come becomes xs found (λ P. none_kept found P h) (λ P. none_left found P h)
+  where
+    none_kept : (found : Answer) (P : Candidate → Type 0) → IsPlain found → IfAlways found P
+    none_kept (answer.Always candidate logs) P h = absurd h
+    none_kept found P h = tt
+
+    none_left : (found : Answer) (P : List KeptSet → Type 0) → IsPlain found → IfNoInvariant found P
+    none_left (answer.NoInvariant kept) P h = absurd h
+    none_left found P h = tt
+
+pub sets_unasked_for_forms : {B P : Type 0} (place : B → P) (last : B → Option Candidate) (to_come : B → Shape → Option (List Candidate)) (becomes : FixedPoint → Type 0) (xs : List B) (poly : List ℤ) (found : Answer)
+    → IsDecision poly found → AreSetsAsked place last to_come becomes xs xs found
+sets_unasked_for_forms place last to_come becomes xs poly found h = same_sets place last to_come becomes xs found (λ P. none_kept found P h) (λ P. none_left found P h)
+  where
+    none_kept : (found : Answer) (P : Candidate → Type 0) → IsDecision poly found → IfAlways found P
+    none_kept (answer.Always candidate logs) P h = absurd h
+    none_kept found P h = tt
+
+    none_left : (found : Answer) (P : List KeptSet → Type 0) → IsDecision poly found → IfNoInvariant found P
+    none_left (answer.NoInvariant kept) P h = absurd h
+    none_left found P h = tt
+
+-- the words are those that the job's file becomes
+pub sets_asked_for : {B P : Type 0} (place : B → P) (last : B → Option Candidate) (to_come : B → Shape → Option (List Candidate)) (R S : FixedPoint → Type 0) (before after : List B) (found : Answer)
+    → ((w : FixedPoint) → R w → S w) → AreSetsAsked place last to_come R before after found → AreSetsAsked place last to_come S before after found
+sets_asked_for place last to_come R S before after found f h = record {
+  suffix = h.suffix;
+  unasked = h.unasked;
+  offered = h.offered;
+  none_left = h.none_left;
+  asked = weaker found (λ kept t. (t.0, f t.0 t.1, t.2)) h.asked;
+}
+  where
+    weaker : {P Q : List KeptSet → Type 0} (found : Answer) → ((kept : List KeptSet) → P kept → Q kept) → IfNoInvariant found P → IfNoInvariant found Q
+    weaker (answer.NoInvariant kept) f h = f kept h
+    weaker found f h = tt
+
+-- no form is in what needs no proposer, and in what sets decide
 pub plain_places : (found : Answer) → IsPlain found → HasPlaces found
 plain_places (answer.Falls poly offer fall) h = absurd h
 plain_places (answer.KeptAway poly offer fall value) h = absurd h
-plain_places answer.NoZeros h = tt
-plain_places (answer.NoForm poly kept verdict) h = absurd h
-plain_places (answer.Wide index) h = tt
-plain_places (answer.OnTime report) h = tt
-plain_places (answer.Late report) h = tt
-plain_places (answer.Never log) h = tt
-plain_places (answer.Overflow trace) h = tt
-plain_places (answer.Cycles cycle) h = tt
-plain_places (answer.Spent log) h = tt
-plain_places (answer.FormulaText formula) h = tt
-plain_places (answer.JobSize size) h = tt
-plain_places (answer.Simulated rows) h = tt
-plain_places answer.Usage h = tt
-plain_places (answer.FileRefused r) h = tt
-plain_places answer.FileTooLong h = tt
-plain_places (answer.QuantRefused r) h = tt
-plain_places (answer.InputRange index value) h = tt
-plain_places (answer.ReadFault file) h = tt
-plain_places answer.NoMemory h = tt
+plain_places found h = tt
 
 -- ---- low orders
 without : (b : Bool) (offer : FormOffer) → (if b then Some offer else None) ≡ None → b ≡ false
@@ -118,24 +129,5 @@ no_low (c0 ∷ c1 ∷ c2 ∷ []) h = without (are_within second_limit (c0 ∷ c1
 no_low (c0 ∷ c1 ∷ c2 ∷ c3 ∷ cs) h = refl
 
 pub low_is_decided : (told : Option (List ℕ)) (old new : FilesSeen) (job : Asked) (found : Answer) → IsRow told old new job found → IfNoForm found (λ poly kept. is_low poly ≡ false)
-low_is_decided told old new job (answer.Falls poly offer fall) h = tt
-low_is_decided told old new job (answer.KeptAway poly offer fall value) h = tt
-low_is_decided told old new job answer.NoZeros h = tt
 low_is_decided told old new job (answer.NoForm poly kept verdict) h = no_low poly h.shows.no_closed_form
-low_is_decided told old new job (answer.Wide index) h = tt
-low_is_decided told old new job (answer.OnTime report) h = tt
-low_is_decided told old new job (answer.Late report) h = tt
-low_is_decided told old new job (answer.Never log) h = tt
-low_is_decided told old new job (answer.Overflow trace) h = tt
-low_is_decided told old new job (answer.Cycles cycle) h = tt
-low_is_decided told old new job (answer.Spent log) h = tt
-low_is_decided told old new job (answer.FormulaText formula) h = tt
-low_is_decided told old new job (answer.JobSize size) h = tt
-low_is_decided told old new job (answer.Simulated rows) h = tt
-low_is_decided told old new job answer.Usage h = tt
-low_is_decided told old new job (answer.FileRefused r) h = tt
-low_is_decided told old new job answer.FileTooLong h = tt
-low_is_decided told old new job (answer.QuantRefused r) h = tt
-low_is_decided told old new job (answer.InputRange index value) h = tt
-low_is_decided told old new job (answer.ReadFault file) h = tt
-low_is_decided told old new job answer.NoMemory h = tt
+low_is_decided told old new job found h = tt

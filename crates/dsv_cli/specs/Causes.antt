@@ -15,16 +15,18 @@ use Rattle.dsv_quantiser.specs.declared.refusal.QuantRefusal.{QuantRefusal}
 use Rattle.dsv_tested.specs.Tested.{tested_of}
 use Rattle.dsv_tested.specs.declared.side.Tested.TheVariants as tested
 use Rattle.dsv_command.specs.Jobs.{Task, decides, checks_time, writes, searches}
-use Rattle.dsv_command.specs.Jobs.{simulates, Asked}
+use Rattle.dsv_command.specs.Jobs.{seeks_set, simulates, Asked}
 use Rattle.dsv_command.specs.declared.job.Design.{Design}
 use Rattle.dsv_report.specs.declared.answers.Answer.{Answer}
 use Rattle.dsv_report.specs.declared.answers.Answer.TheVariants as answer
 use Rattle.dsv_cli.specs.declared.outcome.Outcome.{Outcome}
 use Rattle.dsv_cli.specs.declared.outcome.Outcome.TheVariants as outcome
 use Rattle.dsv_cli.specs.Headline.{IsFormatOf, IsTested, Decides, IsRow, side_of}
-use Rattle.dsv_cli.specs.Headline.{ShowsFall, ShowsKeptAway, ShowsNoForm}
+use Rattle.dsv_cli.specs.Headline.{ShowsFall, ShowsKeptAway, ShowsNoForm, IsAccepted}
 use Rattle.dsv_bounded.specs.Verdicts.{IsTrace, IsCycle}
 use Rattle.dsv_cli.specs.Questions.{IsWithin, NeverHappens, GaveUp, IsFormulaOf, IsTooLarge}
+use Rattle.dsv_invariant.specs.declared.size.TheConstants.{UNBOUNDED_SAMPLES}
+use Rattle.dsv_cli.specs.Sets.{KeepsTo, NoneIsGood}
 use Rattle.dsv_cli.specs.Simulating.{IsRunOver, IsFirstOutside}
 use Rattle.dsv_cli.specs.Timing.{IsTimingOf, IsOnTime}
 
@@ -80,6 +82,14 @@ IsOfSearch of_property samples conflicts words (answer.JobSize size) =
 IsOfSearch of_property samples conflicts words answer.NoMemory = Unit {0}
 IsOfSearch of_property samples conflicts words other = ⊥
 
+-- the answer on runs of any length, by what proposers offer
+abbrev pub IsOfSets : ℕ → FixedPoint → Answer → Type 0
+IsOfSets conflicts words (answer.Always candidate logs) = KeepsTo words conflicts candidate logs
+IsOfSets conflicts words (answer.NoInvariant kept) = NoneIsGood words conflicts kept
+IsOfSets conflicts words (answer.JobSize size) = IsTooLarge UNBOUNDED_SAMPLES words size
+IsOfSets conflicts words answer.NoMemory = Unit {0}
+IsOfSets conflicts words other = ⊥
+
 -- what a sample takes, in time or not
 abbrev pub IsOfTiming : ControllerView → FixedPoint → Answer → Type 0
 IsOfTiming c words (answer.OnTime report) = IsTimingOf c words report × IsOnTime report
@@ -91,15 +101,18 @@ IsOfTiming c words other = ⊥
 abbrev pub IsOfTask : ControllerView → Task → FixedPoint → Outcome → Type 0
 IsOfTask c (decides of_property) words found = IsOfProperty of_property words found
 IsOfTask c checks_time words (outcome.Answered found) = IsOfTiming c words found
-IsOfTask c checks_time words (outcome.Undecided poly) = ⊥
+IsOfTask c checks_time words other = ⊥
 IsOfTask c (writes of_property samples) words (outcome.Answered found) =
     IsOfFormula of_property samples words found
-IsOfTask c (writes of_property samples) words (outcome.Undecided poly) = ⊥
+IsOfTask c (writes of_property samples) words other = ⊥
 IsOfTask c (searches of_property samples conflicts) words (outcome.Answered found) =
     IsOfSearch of_property samples conflicts words found
-IsOfTask c (searches of_property samples conflicts) words (outcome.Undecided poly) = ⊥
+IsOfTask c (searches of_property samples conflicts) words other = ⊥
+IsOfTask c (seeks_set conflicts) words (outcome.Unbounded of_words budget) =
+    (of_words ≡ words) × (budget.conflicts ≡ conflicts)
+IsOfTask c (seeks_set conflicts) words other = ⊥
 IsOfTask c (simulates inputs) words (outcome.Answered found) = IsOfRun words inputs found
-IsOfTask c (simulates inputs) words (outcome.Undecided poly) = ⊥
+IsOfTask c (simulates inputs) words other = ⊥
 
 -- in the words of its format, by the job's modes and realisation, the controller is this, or
 -- refused so
@@ -131,42 +144,29 @@ IsOfBytes job bytes (outcome.Answered (answer.FileRefused r)) = IsFaultOf bytes 
 IsOfBytes job bytes (outcome.Answered answer.NoMemory) = Unit {0}
 IsOfBytes job bytes found = IsOfText job bytes found
 
--- The answer has its row, or the polynomial is the one that the job tests, where the file's bytes
--- are told.
+-- The answer has its row, or the polynomial is the one that the job tests, or the words are those
+-- that the job's controller becomes, where the file's bytes are told.
 abbrev pub HasRow : Option (List ℕ) → FilesSeen → FilesSeen → Asked → Outcome → Type 0
 HasRow told old new job (outcome.Answered found) = IsRow told old new job found
 HasRow told old new job (outcome.Undecided poly) =
     Decides job.task × IfSome told (λ bytes. IsTested job bytes (Ok (tested.Poly poly)))
+HasRow told old new job (outcome.Unbounded words budget) = (job.task ≡ seeks_set budget.conflicts)
+    × IfSome told (λ bytes. IsAccepted job.design bytes (Ok words))
 
 -- and so for every file that holds these bytes
 abbrev pub HasRowOf : Asked → List ℕ → Outcome → Type 0
 HasRowOf job bytes found = (told : Option (List ℕ)) (old new : FilesSeen)
     → IfSome told (λ file. bytes ≡ file) → HasRow told old new job found
 
--- the answer says nothing of a polynomial
+-- the answer needs no proposer
 abbrev pub IsPlain : Answer → Type 0
 IsPlain (answer.Falls poly offer fall) = ⊥
 IsPlain (answer.KeptAway poly offer fall value) = ⊥
-IsPlain answer.NoZeros = Unit {0}
 IsPlain (answer.NoForm poly kept verdict) = ⊥
-IsPlain (answer.Wide index) = Unit {0}
-IsPlain (answer.OnTime report) = Unit {0}
-IsPlain (answer.Late report) = Unit {0}
-IsPlain (answer.Never log) = Unit {0}
-IsPlain (answer.Overflow trace) = Unit {0}
-IsPlain (answer.Cycles cycle) = Unit {0}
-IsPlain (answer.Spent log) = Unit {0}
-IsPlain (answer.FormulaText formula) = Unit {0}
-IsPlain (answer.JobSize size) = Unit {0}
-IsPlain (answer.Simulated found) = Unit {0}
-IsPlain answer.Usage = Unit {0}
-IsPlain (answer.FileRefused r) = Unit {0}
-IsPlain answer.FileTooLong = Unit {0}
-IsPlain (answer.QuantRefused r) = Unit {0}
-IsPlain (answer.InputRange index value) = Unit {0}
-IsPlain (answer.ReadFault file) = Unit {0}
-IsPlain answer.NoMemory = Unit {0}
+IsPlain (answer.Always candidate logs) = ⊥
+IsPlain (answer.NoInvariant kept) = ⊥
+IsPlain other = Unit {0}
 
 abbrev pub AnswersPlainly : Outcome → Type 0
 AnswersPlainly (outcome.Answered found) = IsPlain found
-AnswersPlainly (outcome.Undecided poly) = Unit {0}
+AnswersPlainly other = Unit {0}

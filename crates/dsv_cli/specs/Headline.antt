@@ -34,15 +34,17 @@ use Rattle.dsv_jury.specs.declared.verdict.Jury.{Jury}
 use Rattle.dsv_lyapunov.specs.Kept.{AreRefused}
 use Rattle.dsv_lyapunov.specs.declared.kept.KeptForm.{KeptForm}
 use Rattle.dsv_command.specs.Jobs.{Task, decides, checks_time, writes, searches}
-use Rattle.dsv_command.specs.Jobs.{simulates, Asked}
+use Rattle.dsv_command.specs.Jobs.{seeks_set, simulates, Asked}
 use Rattle.dsv_command.specs.declared.job.Design.{Design}
 use Rattle.dsv_report.specs.declared.answers.Answer.{Answer}
 use Rattle.dsv_report.specs.declared.answers.Answer.TheVariants as answer
 use Rattle.dsv_report.specs.declared.answers.WhichFile.TheVariants as file
 use Rattle.dsv_bounded.specs.Verdicts.{IsTrace, IsCycle}
 use Rattle.dsv_cli.specs.Questions.{IsWithin, NeverHappens, GaveUp, IsFormulaOf, IsTooLarge}
+use Rattle.dsv_cli.specs.Sets.{KeepsTo, NoneIsGood}
 use Rattle.dsv_cli.specs.Simulating.{IsRunOver, IsFirstOutside}
 use Rattle.dsv_cli.specs.Timing.{IsTimingOf, IsOnTime}
+use Rattle.dsv_invariant.specs.declared.size.TheConstants.{UNBOUNDED_SAMPLES}
 use Rattle.dsv_timing.specs.declared.work.TimingReport.{TimingReport}
 
 -- ---- the accepted job
@@ -132,12 +134,25 @@ pub record IsWriting (job : Asked) (bytes : List ℕ) (property : RunProperty) (
   pub task : job.task ≡ writes property samples
   pub accepted : IsAccepted job.design bytes (Ok words)
 
--- The job asks a question about runs over so many samples, by a search or for its formula.
+-- the task seeks a set that is never left
+abbrev pub Seeks : Task → Type 0
+Seeks task = (conflicts : ℕ) × (task ≡ seeks_set conflicts)
+
+-- The job seeks a set that is never left, by searches with at most so many conflicts, and the
+-- file's controller in words is this.
+pub record IsSeeking (job : Asked) (bytes : List ℕ) (conflicts : ℕ) (words : FixedPoint) : Type 0
+  where
+    pub task : job.task ≡ seeks_set conflicts
+    pub accepted : IsAccepted job.design bytes (Ok words)
+
+-- The job asks a question about runs over so many samples, by a search or for its formula, or seeks
+-- a set, which counts as a question over nine samples.
 abbrev pub AsksOver : Asked → List ℕ → ℕ → FixedPoint → Type 0
 AsksOver job bytes samples words =
     ((property : RunProperty) × (conflicts : ℕ)
     × IsSearch job bytes property samples conflicts words)
-    ⊎ ((property : RunProperty) × IsWriting job bytes property samples words)
+    ⊎ (((property : RunProperty) × IsWriting job bytes property samples words)
+    ⊎ ((conflicts : ℕ) × IsSeeking job bytes conflicts words × (samples ≡ UNBOUNDED_SAMPLES)))
 
 -- ---- what answers show of a polynomial, whatever the file
 -- The form is positive and strictly falls along every nonzero trajectory of the polynomial; it is
@@ -204,6 +219,16 @@ IsRow told old new job (answer.Never log) =
     × IsSearch job bytes property samples conflicts words
     × NeverHappens property samples conflicts words log)
     (Unit {0})
+IsRow told old new job (answer.Always candidate logs) =
+    Row told (Seeks job.task)
+    (λ bytes. (conflicts : ℕ) × (words : FixedPoint) × IsSeeking job bytes conflicts words
+    × KeepsTo words conflicts candidate logs)
+    (Unit {0})
+IsRow told old new job (answer.NoInvariant kept) =
+    Row told (Seeks job.task)
+    (λ bytes. (conflicts : ℕ) × (words : FixedPoint) × IsSeeking job bytes conflicts words
+    × NoneIsGood words conflicts kept)
+    (Unit {0})
 IsRow told old new job (answer.Overflow trace) =
     Row told (SearchesFor job.task run.Overflow)
     (λ bytes. (samples : ℕ) × (conflicts : ℕ) × (words : FixedPoint)
@@ -229,7 +254,7 @@ IsRow told old new job (answer.FormulaText formula) =
     × IsFormulaOf property samples words formula)
     (Unit {0})
 IsRow told old new job (answer.JobSize size) =
-    Row told (Searches job.task ⊎ Writes job.task)
+    Row told (Searches job.task ⊎ (Writes job.task ⊎ Seeks job.task))
     (λ bytes. (samples : ℕ) × (words : FixedPoint) × AsksOver job bytes samples words
     × IsTooLarge samples words size)
     (Unit {0})
@@ -261,6 +286,12 @@ IsRow told old new job answer.NoMemory = Unit {0}
 abbrev pub IsExplained : FilesSeen → FilesSeen → Option Asked → Answer → Type 0
 IsExplained old new None found = (found ≡ answer.NoMemory) ⊎ ((found ≡ answer.Usage) × (new ≡ old))
 IsExplained old new (Some job) found = IsRow (old.held job.file) old new job found
+
+-- these are the words that the job's controller becomes, where the file's bytes are told
+abbrev pub FileBecomes : FilesSeen → Option Asked → FixedPoint → Type 0
+FileBecomes old None words = ⊥
+FileBecomes old (Some job) words =
+    IfSome (old.held job.file) (λ bytes. IsAccepted job.design bytes (Ok words))
 
 -- ---- what stays, and what is written
 -- What the files hold is as before, and the count of faults didn't fall.

@@ -1,10 +1,13 @@
 pub mod Answering
 pub mod Asking
+pub mod Blocks
 pub mod Causes
 pub mod Headline
 pub mod OneAnswer
 pub mod Proposers
 pub mod Questions
+pub mod SetAsking
+pub mod Sets
 pub mod Simulating
 pub mod Suffixes
 pub mod Timing

@@ -31,6 +31,8 @@ SameAnswer a b = a ≡ b
 abbrev pub IsSettled : Answer → Type 0
 IsSettled (answer.ReadFault file) = ⊥
 IsSettled (answer.Spent log) = ⊥
+IsSettled (answer.Always candidate logs) = ⊥
+IsSettled (answer.NoInvariant kept) = ⊥
 IsSettled found = NeedsNone found
 
 -- Whatever else was read before, two settled answers to one job on a file of these bytes are the

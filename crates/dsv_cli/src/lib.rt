@@ -9,11 +9,14 @@ mod outcome;
 mod outside;
 mod questions;
 mod running;
+mod set_asking;
+mod set_deciding;
 mod simulating;
 mod timing;
 
 pub use dsv_lyapunov::{FormProposer, SumProposer};
 pub use dsv_report::{Answer, WhichFile};
+pub use dsv_template::{BoxProposer, InvariantProposer};
 pub use law::told_files_have_one_answer;
 pub use outside::{OsFiles, OsOut};
 pub use running::{Done, run};

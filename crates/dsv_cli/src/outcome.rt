@@ -8,7 +8,7 @@ ghost use Rattle.dsv_cli.specs.Causes.{IsOfBytes, HasRowOf, AnswersPlainly};
 use crate::questions::{formula_answer, search_answer};
 use crate::simulating::simulated_answer;
 use crate::timing::timing_answer;
-use dsv_command::{Design, Job, Task};
+use dsv_command::{Budget, Design, Job, Task};
 use dsv_delta::PolyWide;
 use dsv_forms::Poly;
 use dsv_names::RootProperty;
@@ -26,6 +26,9 @@ pub enum Outcome {
     Answered(Answer),
     /// The answer on this polynomial, which has to be decided.
     Undecided(Poly),
+    /// The answer on runs of any length of the controller in these words, which has to be sought
+    /// with this budget.
+    Unbounded(Quantised, Budget),
 }
 
 /// The format of a controller's words in a design.
@@ -67,21 +70,22 @@ fn property_outcome(words: &Quantised, property: RootProperty) -> Outcome
 }
 
 /// What a task for a controller that becomes these words comes to.
-fn task_outcome(alloc: Global, controller: &Controller, words: &Quantised, task: &Task) -> Outcome
-    ensures task { IsOfTask controller.now (asked_task task.now) words.now result }
+fn task_outcome(alloc: Global, controller: &Controller, words: Quantised, task: &Task) -> Outcome
+    ensures task { IsOfTask controller.now (asked_task task.now) words result }
     ensures plain { AnswersPlainly result }
 {
     match task {
-        Task::Decide(property) => property_outcome(words, *property),
-        Task::CheckTime => Outcome::Answered(timing_answer(alloc, controller, words)),
+        Task::Decide(property) => property_outcome(&words, *property),
+        Task::CheckTime => Outcome::Answered(timing_answer(alloc, controller, &words)),
         Task::WriteFormula(question) => {
-            Outcome::Answered(formula_answer(alloc, words, question))
+            Outcome::Answered(formula_answer(alloc, &words, question))
         }
         Task::Search(question, budget) => {
-            Outcome::Answered(search_answer(alloc, words, question, budget))
+            Outcome::Answered(search_answer(alloc, &words, question, budget))
         }
+        Task::SeekSet(budget) => Outcome::Unbounded(words, *budget),
         Task::Simulate(inputs) => {
-            Outcome::Answered(simulated_answer(alloc, words, inputs.as_slice()))
+            Outcome::Answered(simulated_answer(alloc, &words, inputs.as_slice()))
         }
     }
 }
@@ -98,7 +102,7 @@ fn controller_outcome(
 {
     let format = format_of(controller, design);
     match quantise(controller, format, design.realisation) {
-        Ok(words) => task_outcome(alloc, controller, &words, task),
+        Ok(words) => task_outcome(alloc, controller, words, task),
         Err(refusal) => Outcome::Answered(Answer::QuantRefused(refusal)),
     }
 }

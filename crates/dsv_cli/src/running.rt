@@ -1,19 +1,21 @@
 // The command.
-ghost use Rattle.std.specs.Prelude.{◌≡◌, false, map, string_bytes};
+ghost use Rattle.std.specs.Prelude.{◌≡◌, false, Some, map, string_bytes};
 ghost use Rattle.dsv_command.specs.Jobs.{job_of};
 ghost use Rattle.dsv_command.specs.Asking.{asked_of};
 ghost use Rattle.dsv_report.specs.Printing.{HasPlaces, asked_in};
 ghost use Rattle.dsv_report.specs.Report.{text_of, status_of};
-ghost use Rattle.dsv_cli.specs.Headline.{IsRow, IsExplained, AreKept, IsWritten};
+ghost use Rattle.dsv_cli.specs.Headline.{IsRow, IsExplained, FileBecomes, AreKept, IsWritten};
 ghost use Rattle.dsv_cli.specs.Causes.{HasRow, AnswersPlainly};
-ghost use Rattle.dsv_cli.specs.Proposers.{IsAsked, IfNoForm, is_low};
+ghost use Rattle.dsv_cli.specs.Proposers.{IsAsked, AreSetsAsked, IfNoForm, is_low};
 
 use crate::deciding::decided_answer;
 use crate::outcome::{Outcome, outcome_of};
+use crate::set_deciding::unbounded_answer;
 use dsv_base::{Files, ReadEnd, Sink, read_all};
 use dsv_command::{Job, read_job};
 use dsv_lyapunov::FormProposer;
 use dsv_report::{Answer, WhichFile, put_answer, status_of};
+use dsv_template::InvariantProposer;
 use std::alloc::Global;
 
 /// The most bytes that a controller file may have.
@@ -50,18 +52,26 @@ fn job_answer<F: Files>(
     alloc: Global,
     job: &Job,
     files: &mut F,
+    sets: &mut Vec<Box<dyn InvariantProposer>>,
     forms: &mut Vec<Box<dyn FormProposer>>,
 ) -> Answer
     ensures row { IsRow ((F.seen files.old).held (asked_of job.now).file) (F.seen files.old)
         (F.seen files.new) (asked_of job.now) result }
     ensures kept { AreKept (F.seen files.old) (F.seen files.new) }
     ensures places { HasPlaces result }
-    ensures proposers { IsAsked (λ b. b.ptr) (λ b. last b) (λ b cs. sure b cs)
-        forms.old.items forms.new.items result }
+    ensures sets { AreSetsAsked (λ b. b.ptr)
+        (λ b. (⟦<dyn InvariantProposer as InvariantProposer>⟧ b.vtable).last b.value)
+        (λ b shape. to_come b shape)
+        (FileBecomes (F.seen files.old) (Some (asked_of job.now)))
+        sets.old.items sets.new.items result }
+    ensures forms { IsAsked (λ b. b.ptr)
+        (λ b. (⟦<dyn FormProposer as FormProposer>⟧ b.vtable).last b.value)
+        (λ b cs. sure b cs) forms.old.items forms.new.items result }
 {
     match job_outcome(alloc, job, files) {
         Outcome::Answered(answer) => answer,
         Outcome::Undecided(poly) => decided_answer(alloc, poly, forms),
+        Outcome::Unbounded(words, budget) => unbounded_answer(alloc, &words, &budget, sets),
     }
 }
 
@@ -80,20 +90,28 @@ fn written_status<K: Sink>(sink: &mut K, job: Option<&Job>, answer: &Answer) -> 
 /// Runs the command: finds the answer for the arguments after the program's name, and writes its
 /// text to the sink. The writing takes no memory; where the sink fails, a prefix of the text was
 /// written and the status is 4. A polynomial without a closed form is decided by what the proposers
-/// offer, who are asked in their order and need no trust.
+/// of forms offer, and runs of any length by what those of sets offer; they are asked in their
+/// order and need no trust.
 pub fn run<F: Files, K: Sink>(
     alloc: Global,
     arguments: &[String],
     files: &mut F,
     sink: &mut K,
+    sets: &mut Vec<Box<dyn InvariantProposer>>,
     forms: &mut Vec<Box<dyn FormProposer>>,
 ) -> Done
     // The answer's row in the table of answers holds.
     ensures explained { IsExplained (F.seen files.old) (F.seen files.new)
         (job_of (map string_bytes arguments.now)) result.answer }
     // What becomes of the proposers: a list that isn't needed stays as it was.
-    ensures proposers { IsAsked (λ b. b.ptr) (λ b. last b) (λ b cs. sure b cs)
-        forms.old.items forms.new.items result.answer }
+    ensures sets { AreSetsAsked (λ b. b.ptr)
+        (λ b. (⟦<dyn InvariantProposer as InvariantProposer>⟧ b.vtable).last b.value)
+        (λ b shape. to_come b shape)
+        (FileBecomes (F.seen files.old) (job_of (map string_bytes arguments.now)))
+        sets.old.items sets.new.items result.answer }
+    ensures forms { IsAsked (λ b. b.ptr)
+        (λ b. (⟦<dyn FormProposer as FormProposer>⟧ b.vtable).last b.value)
+        (λ b cs. sure b cs) forms.old.items forms.new.items result.answer }
     // A polynomial of order 0 or 1, or 2 with small coefficients, is always decided.
     ensures low_orders { IfNoForm result.answer (λ poly kept. is_low poly ≡ false) }
     // What the files hold is as before.
@@ -106,7 +124,7 @@ pub fn run<F: Files, K: Sink>(
 {
     match read_job(alloc, arguments) {
         Ok(Some(job)) => {
-            let answer = job_answer(alloc, &job, files, forms);
+            let answer = job_answer(alloc, &job, files, sets, forms);
             let status = written_status(sink, Some(&job), &answer);
             Done { status, answer }
         }

@@ -1,6 +1,6 @@
 // Faults of files and of the sink, which the command names.
 use dsv_base::{MemFiles, MemSink, SilentFiles};
-use dsv_cli::{Done, FormProposer, run};
+use dsv_cli::{Done, FormProposer, InvariantProposer, run};
 use std::alloc::Global;
 use std::test::Fail;
 
@@ -36,8 +36,11 @@ fn names_read_fault(alloc: Global, fault: &FileFault) -> Result<bool, Fail> {
     files.hold(fault.name, FILE)?;
     files.fail_at(fault.fetch)?;
     let mut sink = MemSink::new(alloc, 1000)?;
+    let mut sets: Vec<Box<dyn InvariantProposer>> = Vec::new(alloc);
     let mut forms: Vec<Box<dyn FormProposer>> = Vec::new(alloc);
-    let Done { status, answer: _ } = run(alloc, &arguments, &mut files, &mut sink, &mut forms);
+    let Done { status, answer: _ } = run(
+        alloc, &arguments, &mut files, &mut sink, &mut sets, &mut forms,
+    );
     Ok(status == 3 && sink.bytes() == b"READ FAULT CONTROLLER\n".as_slice())
 }
 
@@ -55,8 +58,11 @@ fn ends_with(alloc: Global, fault: &SinkFault, wanted: u8) -> Result<bool, Fail>
     let mut files = SilentFiles::new(alloc, FILE)?;
     let mut sink = MemSink::new(alloc, fault.room)?;
     sink.fail_at(fault.put)?;
+    let mut sets: Vec<Box<dyn InvariantProposer>> = Vec::new(alloc);
     let mut forms: Vec<Box<dyn FormProposer>> = Vec::new(alloc);
-    let Done { status, answer: _ } = run(alloc, &arguments, &mut files, &mut sink, &mut forms);
+    let Done { status, answer: _ } = run(
+        alloc, &arguments, &mut files, &mut sink, &mut sets, &mut forms,
+    );
     Ok(status == wanted && Some(sink.bytes()) == TEXT.get(..fault.taken))
 }
 

@@ -1,6 +1,6 @@
 // The formula of a question, which is written and read back.
 use dsv_base::{MemSink, SilentFiles};
-use dsv_cli::{Answer, FormProposer, run};
+use dsv_cli::{Answer, FormProposer, InvariantProposer, run};
 use dsv_cnf::{Formula, Lit, read_dimacs};
 use std::alloc::Global;
 use std::test::Fail;
@@ -50,8 +50,12 @@ fn a_formula_reads_back(rt: HostRuntime) -> Result<(), Fail> {
     let alloc = rt.alloc();
     let mut files = SilentFiles::new(alloc, FILE)?;
     let mut sink = MemSink::new(alloc, 1_000_000)?;
+    let mut sets: Vec<Box<dyn InvariantProposer>> = Vec::new(alloc);
     let mut forms: Vec<Box<dyn FormProposer>> = Vec::new(alloc);
-    let done = run(alloc, &arguments(alloc)?, &mut files, &mut sink, &mut forms);
+    let arguments = arguments(alloc)?;
+    let done = run(
+        alloc, &arguments, &mut files, &mut sink, &mut sets, &mut forms,
+    );
     assert_eq!(rt; done.status, 0);
     assert!(rt; reads_back(alloc, &done.answer, sink.bytes()));
     Ok(())

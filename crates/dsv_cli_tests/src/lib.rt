@@ -13,3 +13,5 @@ mod lists;
 mod outside;
 #[cfg(test)]
 mod proposers;
+#[cfg(test)]
+mod sets;

@@ -2,7 +2,7 @@
 ghost use Rattle.std.specs.Prelude.{nat_eq};
 
 use dsv_base::{MemSink, SilentFiles};
-use dsv_cli::{FormProposer, SumProposer, run};
+use dsv_cli::{FormProposer, InvariantProposer, SumProposer, run};
 use dsv_forms::{Falls, Form, FormOffer, FormRefusal, GREATEST_ORDER, KeptAway, Poly, Squares};
 use std::alloc::Global;
 use std::cell::Cell;
@@ -104,6 +104,7 @@ fn arguments(alloc: Global) -> Result<Vec<String>, Fail> {
 fn the_zero_form_is_refused_32_times(rt: HostRuntime) -> Result<(), Fail> {
     let alloc = rt.alloc();
     let heard = Rc::new(alloc, Cell::new(0))?;
+    let mut sets: Vec<Box<dyn InvariantProposer>> = Vec::new(alloc);
     let mut forms: Vec<Box<dyn FormProposer>> = Vec::new(alloc);
     forms.push(Box::new(
         alloc,
@@ -117,7 +118,10 @@ fn the_zero_form_is_refused_32_times(rt: HostRuntime) -> Result<(), Fail> {
     forms.push(Box::new(alloc, SumProposer::new())?)?;
     let mut files = SilentFiles::new(alloc, NO_FORM)?;
     let mut sink = MemSink::new(alloc, 1000)?;
-    let done = run(alloc, &arguments(alloc)?, &mut files, &mut sink, &mut forms);
+    let arguments = arguments(alloc)?;
+    let done = run(
+        alloc, &arguments, &mut files, &mut sink, &mut sets, &mut forms,
+    );
     assert_eq!(rt; done.status, 20);
     assert_eq!(rt; sink.bytes(), NO_FORM_TEXT);
     assert_eq!(rt; heard.get(), 32);
@@ -129,6 +133,7 @@ fn the_zero_form_is_refused_32_times(rt: HostRuntime) -> Result<(), Fail> {
 fn a_form_of_least_numbers_is_refused(rt: HostRuntime) -> Result<(), Fail> {
     let alloc = rt.alloc();
     let heard = Rc::new(alloc, Cell::new(0))?;
+    let mut sets: Vec<Box<dyn InvariantProposer>> = Vec::new(alloc);
     let mut forms: Vec<Box<dyn FormProposer>> = Vec::new(alloc);
     forms.push(Box::new(
         alloc,
@@ -142,7 +147,10 @@ fn a_form_of_least_numbers_is_refused(rt: HostRuntime) -> Result<(), Fail> {
     forms.push(Box::new(alloc, SumProposer::new())?)?;
     let mut files = SilentFiles::new(alloc, THIRD_ROOT)?;
     let mut sink = MemSink::new(alloc, 1000)?;
-    let done = run(alloc, &arguments(alloc)?, &mut files, &mut sink, &mut forms);
+    let arguments = arguments(alloc)?;
+    let done = run(
+        alloc, &arguments, &mut files, &mut sink, &mut sets, &mut forms,
+    );
     assert_eq!(rt; done.status, 0);
     assert_eq!(rt; sink.bytes(), THIRD_ROOT_TEXT);
     assert_eq!(rt; heard.get(), 1);

@@ -12,6 +12,7 @@ use Rattle.dsv_names.specs.Realisations.{realisation_name, realisations}
 use Rattle.dsv_names.specs.Roundings.{rounding_name, roundings}
 use Rattle.dsv_names.proofs.NameLaws.{are_names-realisations, are_names-roundings, are_names-overflow_modes, are_names-properties}
 use Rattle.dsv_names.specs.declared.property.RunProperty.{RunProperty}
+use Rattle.dsv_names.specs.declared.property.RunProperty.TheVariants.{Overflow, LimitCycle}
 use Rattle.dsv_names.specs.declared.property.RootProperty.{RootProperty}
 use Rattle.dsv_names.specs.declared.property.Property.{Property}
 use Rattle.dsv_names.specs.declared.property.Property.TheVariants.{OfRuns, OfRoots, Timing}
@@ -19,7 +20,7 @@ use Rattle.dsv_command.specs.declared.job.Design.{Design}
 use Rattle.dsv_command.specs.declared.limits.TheConstants.{MOST_NUMBER_DIGITS, MOST_SAMPLES, DEFAULT_SAMPLES, MOST_CONFLICTS, DEFAULT_CONFLICTS}
 use Rattle.dsv_text.specs.Digits.{short_number}
 use Rattle.dsv_command.specs.Inputs.{inputs_of}
-use Rattle.dsv_command.specs.Jobs.{Task, decides, checks_time, writes, searches, simulates, Asked, ◌>>=◌, choice_or, design_of, is_given, has_run_option, number_up_to, samples_of, conflicts_of, run_task, property_task, task_by, task_of, job_of_parts, job_of}
+use Rattle.dsv_command.specs.Jobs.{Task, decides, checks_time, writes, searches, seeks_set, simulates, Asked, ◌>>=◌, choice_or, design_of, is_given, has_run_option, number_up_to, samples_of, conflicts_of, run_task, unbounded_task, property_task, task_by, task_of, job_of_parts, job_of}
 use Rattle.dsv_command.specs.Options.{command_options}
 use Rattle.dsv_command.specs.Parts.{PartView, file_of, value_of, has_empty}
 use Rattle.dsv_command.specs.Reading.{parts_of}
@@ -50,7 +51,7 @@ design_read parts d h =
 
 -- no option of properties of runs is there, one after another
 none_given : (parts : List PartView) → HasNoRunOption parts → has_run_option parts ≡ false
-none_given parts h = rw (h.samples, h.conflicts, h.formula) refl
+none_given parts h = rw (h.samples, h.unbounded, h.conflicts, h.formula) refl
 
 -- a number within the limit
 within_read : (n limit : ℕ) → 1 ≤ n → n ≤ limit → (if nat_le 1 n && nat_le n limit then Some n else None) ≡ Some n
@@ -67,13 +68,16 @@ property_read parts p t g e = rw (g.name, g.no_inputs) (ap (λ x. x >>= property
 task_read : (parts : List PartView) (t : Task) → IsTask parts t → task_of parts ≡ Some t
 task_read parts t (IsTask.roots ps p g none) = property_read ps (OfRoots p) (decides p) g (rw (none_given ps none) refl)
 task_read parts t (IsTask.timing ps g none) = property_read ps Timing checks_time g (rw (none_given ps none) refl)
-task_read parts t (IsTask.formula ps p samples g n f c) =
+task_read parts t (IsTask.formula ps p samples g b n f c) =
     property_read ps (OfRuns p) (writes p samples) g
-    (ap (λ x. x >>= run_task ps p) (number_read MOST_SAMPLES DEFAULT_SAMPLES samples (value_of (codes "x-size") ps) n) ∙ rw (f, c) refl)
-task_read parts t (IsTask.search ps p samples conflicts g n m f) =
+    (rw b (ap (λ x. x >>= run_task ps p) (number_read MOST_SAMPLES DEFAULT_SAMPLES samples (value_of (codes "x-size") ps) n) ∙ rw (f, c) refl))
+task_read parts t (IsTask.search ps p samples conflicts g b n m f) =
     property_read ps (OfRuns p) (searches p samples conflicts) g
-    (ap (λ x. x >>= run_task ps p) (number_read MOST_SAMPLES DEFAULT_SAMPLES samples (value_of (codes "x-size") ps) n)
-    ∙ rw f (ap (λ x. x >>= λ found. Some (searches p samples found)) (number_read MOST_CONFLICTS DEFAULT_CONFLICTS conflicts (value_of (codes "conflicts") ps) m)))
+    (rw b (ap (λ x. x >>= run_task ps p) (number_read MOST_SAMPLES DEFAULT_SAMPLES samples (value_of (codes "x-size") ps) n)
+    ∙ rw f (ap (λ x. x >>= λ found. Some (searches p samples found)) (number_read MOST_CONFLICTS DEFAULT_CONFLICTS conflicts (value_of (codes "conflicts") ps) m))))
+task_read parts t (IsTask.unbounded ps conflicts g b s f m) =
+    property_read ps (OfRuns Overflow) (seeks_set conflicts) g
+    (rw (b, s, f) (ap (λ x. x >>= λ found. Some (seeks_set found)) (number_read MOST_CONFLICTS DEFAULT_CONFLICTS conflicts (value_of (codes "conflicts") ps) m)))
 task_read parts t (IsTask.simulation ps text inputs e h f none) =
     rw (f, e) (rw (none_given ps none) (ap (λ x. x >>= λ found. Some (simulates found)) (inputs_read text inputs h)))
 
@@ -116,30 +120,52 @@ number_found limit default n (Some text) h =
     let b = unbind (short_number MOST_NUMBER_DIGITS text) (λ m. (if nat_le 1 m && nat_le m limit then Some m else None)) n h in
     within_by limit n b.value (nat_le 1 b.value) (nat_le b.value limit) refl refl text b.first b.second
 
--- none of three is given where one of them isn't
-none_by : (parts : List PartView) (s c f : Bool) → is_given parts (codes "x-size") ≡ s → is_given parts (codes "conflicts") ≡ c → is_given parts (codes "formula") ≡ f → has_run_option parts ≡ false → HasNoRunOption parts
-none_by parts false false false s c f h = record { samples = s; conflicts = c; formula = f }
-none_by parts true c f s d e h = absurd (let k : true ≡ false = sym (rw s refl) ∙ h in cc)
-none_by parts false true f s d e h = absurd (let k : true ≡ false = sym (rw (s, d) refl) ∙ h in cc)
-none_by parts false false true s d e h = absurd (let k : true ≡ false = sym (rw (s, d, e) refl) ∙ h in cc)
+-- none of four is given where one of them isn't
+none_by : (parts : List PartView) (s u c f : Bool) → is_given parts (codes "x-size") ≡ s → is_given parts (codes "unbounded") ≡ u → is_given parts (codes "conflicts") ≡ c → is_given parts (codes "formula") ≡ f
+    → has_run_option parts ≡ false → HasNoRunOption parts
+none_by parts false false false false s u c f h = record { samples = s; unbounded = u; conflicts = c; formula = f }
+none_by parts true u c f s b d e h = absurd (let k : true ≡ false = sym (rw s refl) ∙ h in cc)
+none_by parts false true c f s b d e h = absurd (let k : true ≡ false = sym (rw (s, b) refl) ∙ h in cc)
+none_by parts false false true f s b d e h = absurd (let k : true ≡ false = sym (rw (s, b, d) refl) ∙ h in cc)
+none_by parts false false false true s b d e h = absurd (let k : true ≡ false = sym (rw (s, b, d, e) refl) ∙ h in cc)
 
 none_found : (parts : List PartView) → has_run_option parts ≡ false → HasNoRunOption parts
-none_found parts = none_by parts (is_given parts (codes "x-size")) (is_given parts (codes "conflicts")) (is_given parts (codes "formula")) refl refl refl
+none_found parts = none_by parts (is_given parts (codes "x-size")) (is_given parts (codes "unbounded")) (is_given parts (codes "conflicts")) (is_given parts (codes "formula")) refl refl refl refl
 
 -- the task of a question
-question_by : (parts : List PartView) (p : RunProperty) (samples : ℕ) (t : Task) (f c : Bool) → GivesProperty parts (OfRuns p) →
+question_by : (parts : List PartView) (p : RunProperty) (samples : ℕ) (t : Task) (f c : Bool) → GivesProperty parts (OfRuns p) → is_given parts (codes "unbounded") ≡ false →
     samples_of parts ≡ Some samples → is_given parts (codes "formula") ≡ f → is_given parts (codes "conflicts") ≡ c →
     (if f then (if c then None else Some (writes p samples)) else (conflicts_of parts >>= λ conflicts. Some (searches p samples conflicts))) ≡ Some t → IsTask parts t
-question_by parts p samples t true true g n e d h = absurd (cc)
-question_by parts p samples t true false g n e d h =
+question_by parts p samples t true true g u n e d h = absurd (cc)
+question_by parts p samples t true false g u n e d h =
     let same : writes p samples ≡ t = cc in
-    subst (IsTask parts) same (IsTask.formula parts p samples g (number_found MOST_SAMPLES DEFAULT_SAMPLES samples (value_of (codes "x-size") parts) n) e d)
-question_by parts p samples t false c g n e d h =
+    subst (IsTask parts) same (IsTask.formula parts p samples g u (number_found MOST_SAMPLES DEFAULT_SAMPLES samples (value_of (codes "x-size") parts) n) e d)
+question_by parts p samples t false c g u n e d h =
     let b = unbind (conflicts_of parts) (λ conflicts. Some (searches p samples conflicts)) t h in
     let same : searches p samples b.value ≡ t = let s = b.second in cc in
-    subst (IsTask parts) same (IsTask.search parts p samples b.value g
+    subst (IsTask parts) same (IsTask.search parts p samples b.value g u
     (number_found MOST_SAMPLES DEFAULT_SAMPLES samples (value_of (codes "x-size") parts) n)
     (number_found MOST_CONFLICTS DEFAULT_CONFLICTS b.value (value_of (codes "conflicts") parts) b.first) e)
+
+-- the task over runs of any length
+unbounded_by : (parts : List PartView) (p : RunProperty) (t : Task) (s f : Bool) → GivesProperty parts (OfRuns p) → is_given parts (codes "unbounded") ≡ true →
+    is_given parts (codes "x-size") ≡ s → is_given parts (codes "formula") ≡ f → unbounded_task parts p ≡ Some t → IsTask parts t
+unbounded_by parts LimitCycle t s f g u a e h = absurd (cc)
+unbounded_by parts Overflow t true f g u a e h = absurd (let k : None ≡ Some t = sym (rw a refl) ∙ h in cc)
+unbounded_by parts Overflow t false true g u a e h = absurd (let k : None ≡ Some t = sym (rw (a, e) refl) ∙ h in cc)
+unbounded_by parts Overflow t false false g u a e h =
+    let k : (conflicts_of parts >>= λ conflicts. Some (seeks_set conflicts)) ≡ Some t = sym (rw (a, e) refl) ∙ h in
+    let b = unbind (conflicts_of parts) (λ conflicts. Some (seeks_set conflicts)) t k in
+    let same : seeks_set b.value ≡ t = let s = b.second in cc in
+    subst (IsTask parts) same (IsTask.unbounded parts b.value g u a e (number_found MOST_CONFLICTS DEFAULT_CONFLICTS b.value (value_of (codes "conflicts") parts) b.first))
+
+-- the task of a property of runs
+runs_by : (parts : List PartView) (p : RunProperty) (t : Task) (u : Bool) → GivesProperty parts (OfRuns p) → is_given parts (codes "unbounded") ≡ u →
+    (if u then unbounded_task parts p else samples_of parts >>= run_task parts p) ≡ Some t → IsTask parts t
+runs_by parts p t true g u h = unbounded_by parts p t (is_given parts (codes "x-size")) (is_given parts (codes "formula")) g u refl refl h
+runs_by parts p t false g u h =
+    let b = unbind (samples_of parts) (run_task parts p) t h in
+    question_by parts p b.value t (is_given parts (codes "formula")) (is_given parts (codes "conflicts")) g u b.first refl refl b.second
 
 roots_by : (parts : List PartView) (p : RootProperty) (t : Task) (b : Bool) → GivesProperty parts (OfRoots p) → has_run_option parts ≡ b →
     (if b then None else Some (decides p)) ≡ Some t → IsTask parts t
@@ -156,9 +182,7 @@ timing_by parts t false g e h =
     subst (IsTask parts) same (IsTask.timing parts g (none_found parts e))
 
 property_found : (parts : List PartView) (p : Property) (t : Task) → GivesProperty parts p → property_task parts p ≡ Some t → IsTask parts t
-property_found parts (OfRuns p) t g h =
-    let b = unbind (samples_of parts) (run_task parts p) t h in
-    question_by parts p b.value t (is_given parts (codes "formula")) (is_given parts (codes "conflicts")) g b.first refl refl b.second
+property_found parts (OfRuns p) t g h = runs_by parts p t (is_given parts (codes "unbounded")) g refl h
 property_found parts (OfRoots p) t g h = roots_by parts p t (has_run_option parts) g refl h
 property_found parts Timing t g h = timing_by parts t (has_run_option parts) g refl h
 

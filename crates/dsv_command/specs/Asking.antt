@@ -1,10 +1,12 @@
 -- What contracts see of a job.
-use Rattle.dsv_command.specs.Jobs.{Asked, decides, checks_time, writes, searches, simulates}
+use Rattle.dsv_command.specs.Jobs.{Asked, decides, checks_time, writes, searches, seeks_set}
+use Rattle.dsv_command.specs.Jobs.{simulates}
 use Rattle.dsv_command.specs.Jobs as jobs
 use Rattle.dsv_command.specs.declared.job.Job.{Job}
 use Rattle.dsv_command.specs.declared.task.Task.{Task}
 use Rattle.dsv_command.specs.declared.task.Task.TheVariants.{Decide, CheckTime}
-use Rattle.dsv_command.specs.declared.task.Task.TheVariants.{WriteFormula, Search, Simulate}
+use Rattle.dsv_command.specs.declared.task.Task.TheVariants.{WriteFormula, Search, SeekSet}
+use Rattle.dsv_command.specs.declared.task.Task.TheVariants.{Simulate}
 
 abbrev pub asked_task : Task → jobs.Task
 asked_task (Decide property) = decides property
@@ -12,6 +14,7 @@ asked_task CheckTime = checks_time
 asked_task (WriteFormula question) = writes question.property question.samples
 asked_task (Search question budget) =
     searches question.property question.samples budget.conflicts
+asked_task (SeekSet budget) = seeks_set budget.conflicts
 asked_task (Simulate inputs) = simulates inputs.items
 
 abbrev pub asked_of : Job → Asked

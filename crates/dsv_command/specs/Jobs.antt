@@ -7,6 +7,7 @@ use Rattle.dsv_names.specs.declared.realisation.Realisation.TheVariants.{Dfi}
 use Rattle.dsv_names.specs.declared.rounding.Rounding.TheVariants.{Floor}
 use Rattle.dsv_names.specs.declared.overflow_mode.OverflowMode.TheVariants.{Wrap}
 use Rattle.dsv_names.specs.declared.property.RunProperty.{RunProperty}
+use Rattle.dsv_names.specs.declared.property.RunProperty.TheVariants.{Overflow, LimitCycle}
 use Rattle.dsv_names.specs.declared.property.RootProperty.{RootProperty}
 use Rattle.dsv_names.specs.declared.property.Property.{Property}
 use Rattle.dsv_names.specs.declared.property.Property.TheVariants.{OfRuns, OfRoots, Timing}
@@ -34,6 +35,9 @@ pub data Task : Type 0 where
   writes : RunProperty → ℕ → Task
   -- a property of its runs over so many samples is decided, by a search with so many conflicts
   searches : RunProperty → ℕ → ℕ → Task
+  -- it is decided that no list of inputs of any length overflows, by a set that its registers never
+  -- leave; each search for what is wrong with a set that is offered has so many conflicts
+  seeks_set : ℕ → Task
   -- it is run over these inputs
   simulates : List ℤ → Task
 
@@ -70,7 +74,7 @@ is_given parts name = has_key (for_option name) parts
 
 -- the options of properties of runs
 abbrev pub run_options : List (List ℕ)
-run_options = codes "x-size" ∷ codes "conflicts" ∷ codes "formula" ∷ []
+run_options = codes "x-size" ∷ codes "unbounded" ∷ codes "conflicts" ∷ codes "formula" ∷ []
 
 abbrev pub has_run_option : List PartView → Bool
 has_run_option parts = list_any (is_given parts) run_options
@@ -95,9 +99,18 @@ run_task parts property samples = if is_given parts (codes "formula")
     then (if is_given parts (codes "conflicts") then None else Some (writes property samples))
     else (conflicts_of parts >>= λ conflicts. Some (searches property samples conflicts))
 
+-- the task of a property over runs of any length, which is overflow alone: it has no number of
+-- samples and no formula
+abbrev pub unbounded_task : List PartView → RunProperty → Option Task
+unbounded_task parts Overflow = if is_given parts (codes "x-size") then None
+    else if is_given parts (codes "formula") then None
+    else (conflicts_of parts >>= λ conflicts. Some (seeks_set conflicts))
+unbounded_task parts LimitCycle = None
+
 -- the task of a property
 abbrev pub property_task : List PartView → Property → Option Task
-property_task parts (OfRuns property) = samples_of parts >>= run_task parts property
+property_task parts (OfRuns property) = if is_given parts (codes "unbounded")
+    then unbounded_task parts property else samples_of parts >>= run_task parts property
 property_task parts (OfRoots property) =
     if has_run_option parts then None else Some (decides property)
 property_task parts Timing = if has_run_option parts then None else Some checks_time

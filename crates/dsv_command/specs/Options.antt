@@ -6,6 +6,7 @@ abbrev pub command_options : List (List ℕ × Bool)
 command_options =
     (codes "property", true) ∷
     (codes "x-size", true) ∷
+    (codes "unbounded", false) ∷
     (codes "conflicts", true) ∷
     (codes "formula", false) ∷
     (codes "simulate", true) ∷

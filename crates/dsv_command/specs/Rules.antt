@@ -11,6 +11,7 @@ use Rattle.dsv_names.specs.declared.realisation.Realisation.TheVariants.{Dfi}
 use Rattle.dsv_names.specs.declared.rounding.Rounding.TheVariants.{Floor}
 use Rattle.dsv_names.specs.declared.overflow_mode.OverflowMode.TheVariants.{Wrap}
 use Rattle.dsv_names.specs.declared.property.RunProperty.{RunProperty}
+use Rattle.dsv_names.specs.declared.property.RunProperty.TheVariants.{Overflow}
 use Rattle.dsv_names.specs.declared.property.RootProperty.{RootProperty}
 use Rattle.dsv_names.specs.declared.property.Property.{Property}
 use Rattle.dsv_names.specs.declared.property.Property.TheVariants.{OfRuns, OfRoots, Timing}
@@ -21,8 +22,7 @@ use Rattle.dsv_names.specs.Roundings.{rounding_name}
 use Rattle.dsv_command.specs.declared.job.Design.{Design}
 use Rattle.dsv_command.specs.Inputs.{most_inputs, most_digits}
 use Rattle.dsv_command.specs.Jobs.{Task, decides, checks_time, writes, searches, simulates}
-use Rattle.dsv_command.specs.Jobs.{Asked}
-use Rattle.dsv_command.specs.Jobs.{is_given}
+use Rattle.dsv_command.specs.Jobs.{seeks_set, Asked, is_given}
 use Rattle.dsv_command.specs.declared.limits.TheConstants.{MOST_NUMBER_DIGITS, MOST_SAMPLES}
 use Rattle.dsv_command.specs.declared.limits.TheConstants.{DEFAULT_SAMPLES, MOST_CONFLICTS}
 use Rattle.dsv_command.specs.declared.limits.TheConstants.{DEFAULT_CONFLICTS}
@@ -122,6 +122,7 @@ pub record GivesProperty (parts : List PartView) (property : Property) : Type 0 
 -- none of the options of properties of runs is given
 pub record HasNoRunOption (parts : List PartView) : Type 0 where
   pub samples : is_given parts (codes "x-size") ≡ false
+  pub unbounded : is_given parts (codes "unbounded") ≡ false
   pub conflicts : is_given parts (codes "conflicts") ≡ false
   pub formula : is_given parts (codes "formula") ≡ false
 
@@ -145,19 +146,26 @@ AreConflicts parts n =
     IsNumber MOST_CONFLICTS DEFAULT_CONFLICTS (value_of (codes "conflicts") parts) n
 
 -- Exactly one of a property and inputs is given, and other options with a property of runs alone:
--- samples; and either conflicts, or that the formula is written.
+-- samples; and either conflicts, or that the formula is written. Overflow over runs of any length
+-- has no samples and no formula.
 pub data IsTask : List PartView → Task → Type 0 where
   roots : (parts : List PartView) (p : RootProperty) → GivesProperty parts (OfRoots p)
       → HasNoRunOption parts → IsTask parts (decides p)
   timing : (parts : List PartView) → GivesProperty parts Timing → HasNoRunOption parts
       → IsTask parts checks_time
   formula : (parts : List PartView) (p : RunProperty) (samples : ℕ)
-      → GivesProperty parts (OfRuns p) → AreSamples parts samples
+      → GivesProperty parts (OfRuns p) → is_given parts (codes "unbounded") ≡ false
+      → AreSamples parts samples
       → is_given parts (codes "formula") ≡ true → is_given parts (codes "conflicts") ≡ false
       → IsTask parts (writes p samples)
   search : (parts : List PartView) (p : RunProperty) (samples conflicts : ℕ)
-      → GivesProperty parts (OfRuns p) → AreSamples parts samples → AreConflicts parts conflicts
+      → GivesProperty parts (OfRuns p) → is_given parts (codes "unbounded") ≡ false
+      → AreSamples parts samples → AreConflicts parts conflicts
       → is_given parts (codes "formula") ≡ false → IsTask parts (searches p samples conflicts)
+  unbounded : (parts : List PartView) (conflicts : ℕ)
+      → GivesProperty parts (OfRuns Overflow) → is_given parts (codes "unbounded") ≡ true
+      → is_given parts (codes "x-size") ≡ false → is_given parts (codes "formula") ≡ false
+      → AreConflicts parts conflicts → IsTask parts (seeks_set conflicts)
   simulation : (parts : List PartView) (text : List ℕ) (inputs : List ℤ)
       → value_of (codes "simulate") parts ≡ Some text → AreInputs text inputs →
       value_of (codes "property") parts ≡ None → HasNoRunOption parts

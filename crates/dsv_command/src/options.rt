@@ -14,7 +14,7 @@ pub struct CommandOption {
 
 /// The options that the command has. One more stands here and in `specs/Options.antt`; what it asks
 /// for, in the job.
-const OPTIONS: [CommandOption; 8] = [
+const OPTIONS: [CommandOption; 9] = [
     CommandOption {
         name: "property",
         takes_value: true,
@@ -22,6 +22,10 @@ const OPTIONS: [CommandOption; 8] = [
     CommandOption {
         name: "x-size",
         takes_value: true,
+    },
+    CommandOption {
+        name: "unbounded",
+        takes_value: false,
     },
     CommandOption {
         name: "conflicts",

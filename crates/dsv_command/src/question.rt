@@ -14,7 +14,7 @@ pub struct RunQuestion {
 }
 
 /// How many conflicts a search may have: 1 to 200,000.
-#[derive(Drop)]
+#[derive(Clone, Copy)]
 pub struct Budget {
     pub conflicts: u32,
     ghost some: { 1 ≤ conflicts },

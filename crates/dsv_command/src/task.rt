@@ -1,9 +1,9 @@
 // The task that the parts of a command ask for.
-ghost use Rattle.std.specs.Prelude.{◌≡◌, ◌≤◌, option_map, IfSome};
+ghost use Rattle.std.specs.Prelude.{◌≡◌, ◌≤◌, option_map, option_and_then, IfSome};
 ghost use Rattle.dsv_command.specs.declared.limits.TheConstants.{MOST_SAMPLES};
 ghost use Rattle.dsv_command.specs.Asking.{asked_task};
 ghost use Rattle.dsv_command.specs.Jobs.{is_given, has_run_option, number_up_to, samples_of};
-ghost use Rattle.dsv_command.specs.Jobs.{conflicts_of, run_task, property_task};
+ghost use Rattle.dsv_command.specs.Jobs.{conflicts_of, run_task, unbounded_task, property_task};
 ghost use Rattle.dsv_command.specs.Jobs.{simulation_task, task_of};
 ghost use Rattle.dsv_command.specs.Views.{parts_view};
 
@@ -13,7 +13,7 @@ use crate::limits::{
 };
 use crate::parts::{Part, PartKey, find_value, has_key};
 use crate::question::{Budget, RunQuestion};
-use dsv_names::{Property, RootProperty, find_named};
+use dsv_names::{Property, RootProperty, RunProperty, find_named};
 use dsv_text::short_number;
 
 /// What is to be done with a controller.
@@ -27,6 +27,9 @@ pub enum Task {
     WriteFormula(RunQuestion),
     /// A question is decided by a search.
     Search(RunQuestion, Budget),
+    /// A set that the controller's registers never leave, and from which nothing overflows, is
+    /// sought among those that are offered; this is the budget of each search.
+    SeekSet(Budget),
     /// The controller is run over these inputs, from registers that are 0.
     Simulate(Inputs),
 }
@@ -42,7 +45,10 @@ fn is_given(parts: &[Part], name: &str) -> bool
 fn has_run_option(parts: &[Part]) -> bool
     ensures { result ≡ has_run_option (parts_view parts.now) }
 {
-    is_given(parts, "x-size") || is_given(parts, "conflicts") || is_given(parts, "formula")
+    is_given(parts, "x-size")
+        || is_given(parts, "unbounded")
+        || is_given(parts, "conflicts")
+        || is_given(parts, "formula")
 }
 
 /// The number of a text of 1 to 10 digits, where it is from 1 to a limit.
@@ -94,15 +100,37 @@ fn question_task(parts: &[Part], question: RunQuestion) -> Option<Task>
     Some(Task::WriteFormula(question))
 }
 
+/// The task of a property over runs of any length, which is overflow alone.
+fn unbounded_task(parts: &[Part], property: RunProperty) -> Option<Task>
+    ensures { option_map asked_task result ≡ unbounded_task (parts_view parts.now) property }
+{
+    match property {
+        RunProperty::Overflow if is_given(parts, "x-size") => None,
+        RunProperty::Overflow if is_given(parts, "formula") => None,
+        RunProperty::Overflow => Some(Task::SeekSet(find_budget(parts)?)),
+        RunProperty::LimitCycle => None,
+    }
+}
+
+/// The task of a property over so many samples as are asked for.
+fn bounded_task(parts: &[Part], property: RunProperty) -> Option<Task>
+    ensures { option_map asked_task result
+        ≡ option_and_then (run_task (parts_view parts.now) property)
+        (samples_of (parts_view parts.now)) }
+{
+    let samples = find_samples(parts)?;
+    question_task(parts, RunQuestion { property, samples })
+}
+
 /// The task of a property.
 fn property_task(parts: &[Part], property: Property) -> Option<Task>
     ensures { option_map asked_task result ≡ property_task (parts_view parts.now) property }
 {
     match property {
-        Property::OfRuns(property) => {
-            let samples = find_samples(parts)?;
-            question_task(parts, RunQuestion { property, samples })
+        Property::OfRuns(property) if is_given(parts, "unbounded") => {
+            unbounded_task(parts, property)
         }
+        Property::OfRuns(property) => bounded_task(parts, property),
         Property::OfRoots(_) | Property::Timing if has_run_option(parts) => None,
         Property::OfRoots(property) => Some(Task::Decide(property)),
         Property::Timing => Some(Task::CheckTime),

@@ -4,7 +4,7 @@
 
 use anyhow::Result;
 use dsv_base::{put_all, put_number};
-use dsv_cli::{FormProposer, OsFiles, OsOut, SumProposer, run};
+use dsv_cli::{BoxProposer, FormProposer, InvariantProposer, OsFiles, OsOut, SumProposer, run};
 use std::alloc::Global;
 use std::fs;
 
@@ -27,9 +27,11 @@ fn run_case(alloc: Global, line: &str, files: &mut OsFiles, out: &mut OsOut) -> 
     put_all(out, line.as_bytes())?;
     put_all(out, b"\n")?;
     let arguments = arguments_of(alloc, line)?;
+    let mut sets: Vec<Box<dyn InvariantProposer>> = Vec::new(alloc);
+    sets.push(Box::new(alloc, BoxProposer::new())?)?;
     let mut forms: Vec<Box<dyn FormProposer>> = Vec::new(alloc);
     forms.push(Box::new(alloc, SumProposer::new())?)?;
-    let done = run(alloc, &arguments, files, out, &mut forms);
+    let done = run(alloc, &arguments, files, out, &mut sets, &mut forms);
     put_all(out, b"status ")?;
     put_number(out, done.status)?;
     put_all(out, b"\n")?;

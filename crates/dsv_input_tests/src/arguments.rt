@@ -247,6 +247,38 @@ fn questions_have_samples_and_conflicts(rt: HostRuntime) {
     }
 }
 
+/// Arguments that seek a set for runs of any length, and how many conflicts each search may have.
+#[derive(Clone, Copy)]
+struct Unbounded(&'static str, u32);
+
+const UNBOUNDED: [Unbounded; 4] = [
+    Unbounded("f|--property|OVERFLOW|--unbounded", 50_000),
+    Unbounded("--unbounded|--property=OVERFLOW|--conflicts|3|f", 3),
+    Unbounded(
+        "--unbounded|--realization|TDDFII|--rounding=CEIL|--property=OVERFLOW|f",
+        50_000,
+    ),
+    Unbounded(
+        "--conflicts=200000|--unbounded|--property|OVERFLOW|--|--unbounded",
+        200_000,
+    ),
+];
+
+fn seeks_set(alloc: Global, row: &Unbounded) -> Result<bool, NoMemory> {
+    let arguments = arguments_of(alloc, row.0)?;
+    Ok(match read_job(alloc, &arguments)? {
+        Some(job) => matches!(&job.task, Task::SeekSet(budget) if budget.conflicts == row.1),
+        None => false,
+    })
+}
+
+#[test]
+fn sets_are_sought_with_conflicts(rt: HostRuntime) {
+    for row in &UNBOUNDED {
+        assert!(rt; seeks_set(rt.alloc(), row).unwrap_or(false));
+    }
+}
+
 fn is_job(alloc: Global, text: &str) -> Result<bool, NoMemory> {
     let arguments = arguments_of(alloc, text)?;
     Ok(read_job(alloc, &arguments)?.is_some())
@@ -275,7 +307,7 @@ fn no_arguments_are_no_job(rt: HostRuntime) -> Result<(), Fail> {
     Ok(())
 }
 
-const NO_JOBS: [&str; 66] = [
+const NO_JOBS: [&str; 75] = [
     "f|--simulate|",
     "f|--simulate=,",
     "f|--simulate=1,",
@@ -329,6 +361,15 @@ const NO_JOBS: [&str; 66] = [
     "-f|--property|STABILITY",
     "|--property|STABILITY",
     "f|--property|STABILITY|--unbounded",
+    "f|--property|LIMIT_CYCLE|--unbounded",
+    "f|--property|MINIMUM_PHASE|--unbounded",
+    "f|--property|TIMING|--unbounded",
+    "f|--property|OVERFLOW|--unbounded|--x-size|10",
+    "f|--property|OVERFLOW|--unbounded|--formula",
+    "f|--property|OVERFLOW|--unbounded=1",
+    "f|--property|OVERFLOW|--unbounded=",
+    "f|--property|OVERFLOW|--unbounded|--unbounded",
+    "f|--simulate=1|--unbounded",
     "f|--prop|STABILITY",
     "f|-property|STABILITY",
     "--|--property",

@@ -1,11 +1,13 @@
 -- The text of an answer to a job, and its status.
 use Rattle.std.specs.Prelude.{ℕ, ◌+◌, pos, List, [], ◌∷◌, ◌++◌}
-use Rattle.std.specs.Prelude.{length, take, codes, Option, Some, None, ℤ}
+use Rattle.std.specs.Prelude.{length, take, filter, codes, Option, Some, None, ℤ}
+use Rattle.std.specs.Prelude.{Bool, true, false}
 use Rattle.std.specs.List.{flat_map}
 use Rattle.std.specs.Fmt.{signed_decimal}
 use Rattle.dsv_names.specs.Properties.{property_name}
 use Rattle.dsv_names.specs.declared.property.Property.{Property}
 use Rattle.dsv_names.specs.declared.property.Property.TheVariants.{OfRuns, OfRoots, Timing}
+use Rattle.dsv_names.specs.declared.property.RunProperty.TheVariants.{Overflow}
 use Rattle.dsv_names.specs.Realisations.{realisation_name}
 use Rattle.dsv_names.specs.declared.realisation.Realisation.{Realisation}
 use Rattle.dsv_base.specs.Text.{spaced_text, line_of}
@@ -18,7 +20,13 @@ use Rattle.dsv_meaning.specs.declared.replays.Cycle.{Cycle}
 use Rattle.dsv_meaning.specs.declared.replays.Trace.{Trace}
 use Rattle.dsv_timing.specs.declared.work.TimingReport.{TimingReport}
 use Rattle.dsv_fraction.specs.Ratio.{Ratio}
-use Rattle.dsv_command.specs.Jobs.{Task, decides, checks_time, writes, searches, simulates, Asked}
+use Rattle.dsv_template.specs.declared.candidate.Candidate.{Candidate}
+use Rattle.dsv_template.specs.declared.candidate.Inequality.{Inequality}
+use Rattle.dsv_template.specs.declared.kept.KeptSet.{KeptSet}
+use Rattle.dsv_template.specs.declared.verdict.Why.{Why}
+use Rattle.dsv_template.specs.declared.verdict.Why.TheVariants as why
+use Rattle.dsv_command.specs.Jobs.{Task, decides, checks_time, writes, searches, seeks_set}
+use Rattle.dsv_command.specs.Jobs.{simulates, Asked}
 use Rattle.dsv_report.specs.Fragments.{concatenation}
 use Rattle.dsv_report.specs.Refusals.{file_text, quant_text, input_text}
 use Rattle.dsv_report.specs.declared.answers.Answer.{Answer}
@@ -48,6 +56,7 @@ task_text (decides property) = property_text (OfRoots property)
 task_text checks_time = property_text Timing
 task_text (writes property samples) = property_text (OfRuns property)
 task_text (searches property samples conflicts) = property_text (OfRuns property)
+task_text (seeks_set conflicts) = property_text (OfRuns Overflow)
 task_text (simulates inputs) = []
 
 abbrev pub realisation_text : Realisation → List ℕ
@@ -59,12 +68,13 @@ abbrev pub number_line : List ℕ → ℕ → List ℕ
 number_line word number =
     concatenation (word ∷ signed_decimal (pos number) ∷ codes "\n" ∷ [])
 
--- how many samples are asked for, up to the end of the line
+-- how many samples are asked for, or that there is no end to them, up to the end of the line
 abbrev pub extent_text : Task → List ℕ
 extent_text (decides property) = codes "\n"
 extent_text checks_time = codes "\n"
 extent_text (writes property samples) = number_line (codes " samples ") samples
 extent_text (searches property samples conflicts) = number_line (codes " samples ") samples
+extent_text (seeks_set conflicts) = codes " unbounded\n"
 extent_text (simulates inputs) = codes "\n"
 
 -- the verdict and what the job asked for; without a job there is none
@@ -145,6 +155,40 @@ spent_text conflicts = number_line (codes "cause SPENT conflicts ") conflicts
 abbrev pub size_text : ℕ → List ℕ
 size_text size = number_line (codes "JOB SIZE ") size
 
+-- ---- verdicts on runs of any length
+abbrev pub bound_text : ℤ → List ℕ
+bound_text bound = concatenation (codes " <= " ∷ signed_decimal bound ∷ codes "\n" ∷ [])
+
+-- the coefficients of the registers, and the bound
+abbrev pub inequality_text : Inequality → List ℕ
+inequality_text i = codes "inequality"
+    ++ (flat_map (spaced_text signed_decimal) i.coefficients.items ++ bound_text i.bound)
+
+abbrev pub inequalities_text : List Inequality → List ℕ
+inequalities_text inequalities = flat_map inequality_text inequalities
+
+-- how many states in a row are looked at, and the set's inequalities
+abbrev pub candidate_text : Candidate → List ℕ
+candidate_text candidate = number_line (codes "depth ") candidate.depth
+    ++ inequalities_text candidate.inequalities.items
+
+-- a search for what is wrong with a set gave up
+abbrev pub gave_up : Why → Bool
+gave_up (why.Good logs) = false
+gave_up (why.Base inputs) = false
+gave_up (why.Leaves start inputs) = false
+gave_up (why.Unsafe start input value exact) = false
+gave_up (why.Spent part log) = true
+gave_up why.BadShape = false
+
+abbrev pub is_spent : KeptSet → Bool
+is_spent kept = gave_up kept.why
+
+-- how many sets were offered, and for how many of them a search gave up
+abbrev pub no_invariant_text : ℕ → ℕ → List ℕ
+no_invariant_text offers spent =
+    numbered (codes "cause NO_INVARIANT offers ") offers ++ number_line (codes " spent ") spent
+
 -- ---- timing
 -- how many products, sums and loaded registers a sample takes
 abbrev pub counts_text : ℕ → ℕ → ℕ → List ℕ
@@ -194,6 +238,9 @@ text_of job (answer.Wide index) = heading inconclusive job ++ wide_text index
 text_of job (answer.OnTime report) = heading successful job ++ timing_text report
 text_of job (answer.Late report) = heading failed job ++ timing_text report
 text_of job (answer.Never log) = heading successful job
+text_of job (answer.Always candidate logs) = heading successful job ++ candidate_text candidate
+text_of job (answer.NoInvariant kept) =
+    heading inconclusive job ++ no_invariant_text (length kept) (length (filter is_spent kept))
 text_of job (answer.Overflow trace) = heading failed job ++ trace_text trace
 text_of job (answer.Cycles cycle) = heading failed job ++ cycle_text cycle
 text_of job (answer.Spent log) = heading inconclusive job ++ spent_text (length log)
@@ -217,6 +264,8 @@ status_of (answer.Wide index) = 20
 status_of (answer.OnTime report) = 0
 status_of (answer.Late report) = 10
 status_of (answer.Never log) = 0
+status_of (answer.Always candidate logs) = 0
+status_of (answer.NoInvariant kept) = 20
 status_of (answer.Overflow trace) = 10
 status_of (answer.Cycles cycle) = 10
 status_of (answer.Spent log) = 20

@@ -8,6 +8,7 @@ use dsv_meaning::{Cycle, Trace};
 use dsv_quantiser::QuantRefusal;
 use dsv_reader::FileRefusal;
 use dsv_system::Rows;
+use dsv_template::{Candidate, KeptSets, ThreeLogs};
 use dsv_timing::TimingReport;
 
 /// A file that the command reads.
@@ -55,6 +56,17 @@ pub enum Answer {
     /// formula.
     Never {
         log: Log,
+    },
+    /// No list of inputs of any length overflows: the controller never leaves the candidate's set,
+    /// and each log derives the empty clause from the formula that its sentence is broken.
+    Always {
+        candidate: Candidate,
+        logs: ThreeLogs,
+    },
+    /// No set that was offered is known to be one that the controller never leaves: all offers with
+    /// what was found of each.
+    NoInvariant {
+        kept: KeptSets,
     },
     /// An overflow, which replays in the written equations.
     Overflow(Trace),

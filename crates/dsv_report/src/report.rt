@@ -1,7 +1,7 @@
 // Writes the text of an answer, with no memory.
 #![tactic(auto, using(dsv_algebra::proofs::Casts::casts))]
 
-ghost use Rattle.std.specs.Prelude.{◌≡◌, ◌≤◌, ◌++◌, take, map, Some};
+ghost use Rattle.std.specs.Prelude.{◌≡◌, ◌≤◌, ◌++◌, cond, length, take, map, filter, Some};
 ghost use Rattle.std.specs.Fmt.{signed_decimal};
 ghost use Rattle.std.specs.List.{flat_map};
 ghost use Rattle.dsv_base.specs.Taking.{Writes};
@@ -21,8 +21,9 @@ use dsv_forms::{Form, KeptAway, Poly};
 use dsv_fraction::Frac;
 use dsv_jury::Jury;
 use dsv_meaning::{Cycle, Trace};
-use dsv_names::{Named, Property, Realisation};
+use dsv_names::{Named, Property, Realisation, RunProperty};
 use dsv_system::{Row, Rows};
+use dsv_template::{Candidate, Inequality, KeptSet, Why};
 use dsv_timing::TimingReport;
 use itoa::Integer;
 use std::slice;
@@ -60,6 +61,7 @@ fn put_task<K: Sink>(sink: &mut K, task: &Task) -> Result<(), Failed>
         Task::WriteFormula(question) | Task::Search(question, _) => {
             put_property(sink, Property::OfRuns(question.property))
         }
+        Task::SeekSet(_) => put_property(sink, Property::OfRuns(RunProperty::Overflow)),
         Task::Simulate(_) => put_all(sink, b""),
     }
 }
@@ -78,7 +80,8 @@ fn put_realisation<K: Sink>(sink: &mut K, realisation: Realisation) -> Result<()
     )
 }
 
-/// Writes how many samples are asked for, up to the end of the line.
+/// Writes how many samples are asked for, or that there is no end to them, up to the end of the
+/// line.
 fn put_extent<K: Sink>(sink: &mut K, task: &Task) -> Result<(), Failed>
     ensures { Writes (K.seen sink.old) (K.seen sink.new) result
         (report.extent_text (asked_task task.now)) }
@@ -87,6 +90,7 @@ fn put_extent<K: Sink>(sink: &mut K, task: &Task) -> Result<(), Failed>
         Task::WriteFormula(question) | Task::Search(question, _) => {
             put_number_line(sink, b" samples ", question.samples.into())
         }
+        Task::SeekSet(_) => put_all(sink, b" unbounded\n"),
         Task::Decide(_) | Task::CheckTime | Task::Simulate(_) => put_all(sink, b"\n"),
     }
 }
@@ -426,6 +430,107 @@ fn put_spent<K: Sink>(sink: &mut K, job: Option<&Job>, conflicts: u64) -> Result
     put_number_line(sink, b"cause SPENT conflicts ", conflicts)
 }
 
+/// Writes the bound of an inequality.
+fn put_bound<K: Sink>(sink: &mut K, bound: &i64) -> Result<(), Failed>
+    ensures { Writes (K.seen sink.old) (K.seen sink.new) result (report.bound_text bound.now) }
+{
+    put_fragments(
+        sink,
+        &[
+            Fragment::Bytes(b" <= "),
+            Fragment::Number((*bound).into()),
+            Fragment::Bytes(b"\n"),
+        ],
+    )
+}
+
+/// Writes an inequality over the registers.
+fn put_inequality<K: Sink>(sink: &mut K, inequality: &Inequality) -> Result<(), Failed>
+    ensures { Writes (K.seen sink.old) (K.seen sink.new) result
+        (report.inequality_text inequality.now) }
+{
+    put_all(sink, b"inequality")?;
+    put_numbers(sink, &inequality.coefficients)?;
+    put_bound(sink, &inequality.bound)
+}
+
+/// Writes a line for each inequality.
+fn put_inequalities<K: Sink>(sink: &mut K, inequalities: &[Inequality]) -> Result<(), Failed>
+    ensures { Writes (K.seen sink.old) (K.seen sink.new) result
+        (report.inequalities_text inequalities.now) }
+{
+    for inequality in inequalities {
+        put_inequality(sink, inequality)?;
+    }
+    Ok(())
+}
+
+/// Writes a candidate's depth and its inequalities.
+fn put_candidate<K: Sink>(sink: &mut K, candidate: &Candidate) -> Result<(), Failed>
+    ensures { Writes (K.seen sink.old) (K.seen sink.new) result
+        (report.candidate_text candidate.now) }
+{
+    put_number_line(sink, b"depth ", candidate.depth.into())?;
+    put_inequalities(sink, &candidate.inequalities)
+}
+
+/// Writes that nothing overflows in runs of any length, by the candidate's set.
+#[tactic(auto, unfolding(crate::specs::Report::successful))]
+fn put_always<K: Sink>(sink: &mut K, job: Option<&Job>, candidate: &Candidate) -> Result<(), Failed>
+    ensures { Writes (K.seen sink.old) (K.seen sink.new) result
+        (report.heading report.successful (asked_in job.entry)
+        ++ report.candidate_text candidate.now) }
+{
+    put_heading(sink, SUCCESSFUL, job)?;
+    put_candidate(sink, candidate)
+}
+
+/// Counts a set for which a search for what is wrong with it gave up.
+fn spent_of(set: &KeptSet) -> u64
+    ensures { result ≡ cond (report.is_spent set.now) 1 0 }
+{
+    match set.why {
+        Why::Spent { .. } => 1,
+        _ => 0,
+    }
+}
+
+/// For how many of the sets a search for what is wrong with it gave up.
+fn spent_in(kept: &[KeptSet]) -> u64
+    ensures { result ≡ length (filter report.is_spent kept.now) }
+{
+    let mut spent = 0;
+    for set in kept {
+        spent += spent_of(set);
+    }
+    spent
+}
+
+/// Writes how many sets were offered, and for how many of them a search gave up.
+fn put_offered_sets<K: Sink>(sink: &mut K, offers: u64, spent: u64) -> Result<(), Failed>
+    ensures { Writes (K.seen sink.old) (K.seen sink.new) result
+        (report.no_invariant_text offers spent) }
+{
+    put_numbered(sink, b"cause NO_INVARIANT offers ", offers)?;
+    put_number_line(sink, b" spent ", spent)
+}
+
+/// Writes that no set was found that the controller never leaves.
+#[tactic(auto, unfolding(crate::specs::Report::inconclusive))]
+fn put_no_invariant<K: Sink>(
+    sink: &mut K,
+    job: Option<&Job>,
+    offers: u64,
+    spent: u64,
+) -> Result<(), Failed>
+    ensures { Writes (K.seen sink.old) (K.seen sink.new) result
+        (report.heading report.inconclusive (asked_in job.entry)
+        ++ report.no_invariant_text offers spent) }
+{
+    put_heading(sink, INCONCLUSIVE, job)?;
+    put_offered_sets(sink, offers, spent)
+}
+
 /// Writes a sample's number, its input and its output.
 fn put_sample_head<K: Sink>(sink: &mut K, number: u64, x: &i64, y: &i64) -> Result<(), Failed>
     ensures { Writes (K.seen sink.old) (K.seen sink.new) result
@@ -482,6 +587,7 @@ pub fn status_of(answer: &Answer) -> u8
         Answer::Falls { .. }
         | Answer::OnTime(_)
         | Answer::Never { .. }
+        | Answer::Always { .. }
         | Answer::FormulaText(_)
         | Answer::Simulated(_) => 0,
         Answer::KeptAway { .. }
@@ -489,7 +595,10 @@ pub fn status_of(answer: &Answer) -> u8
         | Answer::Late(_)
         | Answer::Overflow(_)
         | Answer::Cycles(_) => 10,
-        Answer::NoForm { .. } | Answer::Wide { .. } | Answer::Spent { .. } => 20,
+        Answer::NoForm { .. }
+        | Answer::Wide { .. }
+        | Answer::Spent { .. }
+        | Answer::NoInvariant { .. } => 20,
         Answer::Usage => 1,
         Answer::FileRefused(_)
         | Answer::FileTooLong
@@ -523,6 +632,11 @@ pub fn put_answer<K: Sink>(sink: &mut K, job: Option<&Job>, answer: &Answer) -> 
         Answer::OnTime(found) => put_on_time(sink, job, found),
         Answer::Late(found) => put_late(sink, job, found),
         Answer::Never { .. } => put_never(sink, job),
+        Answer::Always { candidate, .. } => put_always(sink, job, candidate),
+        Answer::NoInvariant { kept } => {
+            let sets = kept.as_slice();
+            put_no_invariant(sink, job, sets.len() as u64, spent_in(sets))
+        }
         Answer::Overflow(trace) => put_overflow(sink, job, trace),
         Answer::Cycles(cycle) => put_limit_cycle(sink, job, cycle),
         Answer::Spent { log } => put_spent(sink, job, log.len() as u64),
