@@ -100,8 +100,7 @@ fn a_box_of_all_outputs_is_good(rt: HostRuntime) {
 fn is_no_box_good(alloc: Global, q: &Quantised) -> Option<bool> {
     let shape = shape_of(q);
     let mut proposer = BoxProposer::new();
-    let mut offers: u32 = 0;
-    while offers < 40 {
+    for offers in 0..40 {
         match proposer.propose(alloc, &shape).ok()? {
             Some(candidate) => {
                 let why = check_candidate(alloc, q, &candidate, CONFLICTS).ok()?;
@@ -112,7 +111,6 @@ fn is_no_box_good(alloc: Global, q: &Quantised) -> Option<bool> {
                     return Some(false);
                 }
                 proposer.tell(&why);
-                offers += 1;
             }
             None => return Some(offers == 16),
         }
