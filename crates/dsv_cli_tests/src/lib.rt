@@ -13,5 +13,3 @@ mod lists;
 mod outside;
 #[cfg(test)]
 mod proposers;
-#[cfg(test)]
-mod sets;
