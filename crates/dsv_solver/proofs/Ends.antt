@@ -63,15 +63,15 @@ lesson f t z high u M met H j e w =
       all = λ q n l. lows-has t z high met q (contains-reverse met q (rw e at n)) l;
     } in
     record {
-      accepted = (end-accepts t (live_of f) M (low_literals t z high met) H z high u k w.met w.derives).0;
-      is_local = end-local t (live_of f) M (low_literals t z high met) H z high u k w.met w.derives w.passes;
+      accepted = (end-accepts t (live_of f) M (low_literals t z high met) H z high u k w.way.met w.way.derives).0;
+      is_local = end-local t (live_of f) M (low_literals t z high met) H z high u k w.way.met w.way.derives w.passes;
       first = u;
       rest = low_literals t z high met;
       is = refl;
       high_first = w.high_first;
-      are_false = λ q n. elim (contains-cases u (low_literals t z high met) q n) [ inl x ↦ w.met.are_false q (rw x w.has) | inr y ↦ w.met.are_false q (k.low q y).0 ];
+      are_false = λ q n. elim (contains-cases u (low_literals t z high met) q n) [ inl x ↦ w.way.met.are_false q (rw x w.has) | inr y ↦ w.way.met.are_false q (k.low q y).0 ];
       lower = λ q n. (k.low q n).1.1;
-      learned = end-learned t (live_of f) M (low_literals t z high met) H z high u j.consistent k w.met;
+      learned = end-learned t (live_of f) M (low_literals t z high met) H z high u j.consistent k w.way.met;
     }
 
 pub all-false : (t : TrailView) (xs : List Literal) → IsOver t.vars xs → ((q : Literal) → contains xs q ≡ true → falsifies t.marks q ≡ true) → AllFalse t xs

@@ -1,10 +1,12 @@
-use Rattle.std.proofs.Common.{◌≡◌, ◌≢◌, ℕ, ◌+◌, ◌<◌, ◌≤◌, true, List, [], ◌∷◌, ◌++◌, arith, ap, sym, ◌∙◌, inl, inr, ◌⊎◌, length, take, drop, get_or, drop-cons, suc, add-one}
+use Rattle.std.proofs.Common.{◌≡◌, ◌≢◌, ℕ, ◌+◌, ◌<◌, ◌≤◌, true, List, [], ◌∷◌, ◌++◌, refl, arith, ap, sym, ◌∙◌, inl, inr, ◌⊎◌, length, take, drop, get_or, drop-cons, suc, add-one}
 use Rattle.std.proofs.lemmas.List.{take_more}
+use Rattle.std.proofs.lemmas.Option.{slice_get_within}
 use Rattle.dsv_cnf.specs.Literal.{Literal}
 use Rattle.dsv_cnf.specs.Formula.{contains}
 use Rattle.dsv_trail.specs.TrailView.{TrailView}
-use Rattle.dsv_trail.specs.Places.{place_of}
+use Rattle.dsv_trail.specs.Places.{falsifies, place_of}
 use Rattle.dsv_solver.specs.Analysis.{IsMarked, IsReached, IsLowest}
+use Rattle.dsv_trail.proofs.PlaceLemmas.{place-is}
 use Rattle.dsv_cnf.proofs.ClauseLemmas.{contains-head, contains-tail, contains-cases, contains-push, contains-push_left, contains-push_new}
 
 pub marked-none : (M : List Literal) (l : Literal) → IsMarked M M [] l
@@ -52,6 +54,14 @@ lowest-one t high least r M l h o le f =
         | inl e ↦ rw e (reached-more t high least M (l ∷ M) (λ q n. contains-tail l M q n) h.reached)
         | inr e ↦ inl (record { literal = l; met = contains-head l M; at = sym e.0; up = omega (arith, e.0, e.1) })
       ];
+    }
+
+-- every place of the trail is before its end
+pub lowest-none : (t : TrailView) (M : List Literal) → ((q : Literal) → contains M q ≡ true → falsifies t.marks q ≡ true) → IsLowest t (length t.marks) M (length t.marks)
+lowest-none t M all =
+    record {
+      least = λ q n up. absurd (let p = place-is t.marks q (all q n) in omega (arith, up, slice_get_within t.marks (place_of t.marks q) p.mark p.at));
+      reached = inr refl;
     }
 
 pub prefix-more : (xs : List Literal) (i : ℕ) (x : Literal) → i < length xs → x ≡ get_or xs i x → take (i + 1) xs ≡ take i xs ++ x ∷ []

@@ -1,5 +1,5 @@
 -- What the search keeps beside IsReady, and what ends it.
-use Rattle.std.proofs.Common.{◌≡◌, ℕ, ◌+◌, ◌-◌, ◌<◌, ◌≤◌, Bool, true, false, not, List, [], ◌∷◌, ◌++◌, refl, arith, ap, sym, ◌∙◌, inl, inr, ◌⊎◌, length, take, slice_get, get_or, Some, None, Option, IsSome, Ok}
+use Rattle.std.proofs.Common.{◌≡◌, ℕ, ◌+◌, ◌-◌, ◌<◌, ◌≤◌, Bool, true, not, List, [], ◌∷◌, ◌++◌, refl, arith, ap, sym, ◌∙◌, inl, inr, ◌⊎◌, length, take, slice_get, get_or, Some, None, Option, IsSome, Ok}
 use Rattle.std.specs.Prelude.{MatchOption, IfSome, is_some}
 use Rattle.dsv_solver.specs.WatchView.{WatchView}
 use Rattle.std.proofs.lemmas.Bool.{cases_eq, cases_lt}
@@ -18,7 +18,7 @@ use Rattle.dsv_solver.specs.Fine.{IsFine, AreFine}
 use Rattle.dsv_trail.specs.TrailView.{TrailView}
 use Rattle.dsv_trail.specs.Places.{falsifies, place_of}
 use Rattle.dsv_solver.specs.Walk.{Counts}
-use Rattle.dsv_solver.specs.Walking.{Derives, live_of, IsLearnable}
+use Rattle.dsv_solver.specs.Walking.{live_of, IsLearnable}
 use Rattle.dsv_solver.specs.Analysis.{IsMarked}
 use Rattle.dsv_solver.specs.Propagation.{IsJustified, IsReady, IsConflict}
 use Rattle.dsv_solver.specs.Back.{back, IsLearned}
@@ -31,8 +31,8 @@ use Rattle.dsv_cnf.proofs.ClauseLemmas.{contains-head, contains-tail, contains-c
 use Rattle.dsv_trail.proofs.PlaceLemmas.{falsifies-take, falsifies-first, place-is, open-not_false, reason-or-limit}
 use Rattle.dsv_trail.proofs.Elements.{some-inside}
 use Rattle.dsv_solver.proofs.Backs.{prefix-get, ready-decide, ready-back, ready-learned}
-use Rattle.dsv_solver.proofs.Resolution.{derives-start, derives-recount, met-start}
-use Rattle.dsv_solver.proofs.Walks.{IsStep, met-step, walk-derives, same-place, below-false}
+use Rattle.dsv_solver.proofs.Resolution.{derives-start, met-start}
+use Rattle.dsv_solver.proofs.Walks.{below-false}
 use Rattle.dsv_solver.proofs.Walkings.{live-of}
 
 some-apart : (limits : List ℕ) (a b : ℕ) → Some a ≡ Some b → a < b → ⊥
@@ -69,33 +69,8 @@ refuting-start f t M c r at all in_c in_m =
     let stands = (live-of f).each r c at in
     record {
       met = met-start (live_of f) (falsifies t.marks) (contains M) c (r + 1) stands (λ q n. (all q (in_c q n), in_c q n));
-      derives = derives-start (live_of f) (falsifies t.marks) (Counts t 0 0 (length t.marks)) (contains M) c (r + 1) stands (λ q n. (in_m q n, inl (let w = place-is t.marks q (all q n) in slice_get_within t.marks (place_of t.marks q) w.mark w.at)));
+      derives = derives-start (live_of f) (falsifies t.marks) (Counts t (λ q. ⊥) (length t.marks)) (contains M) c (r + 1) stands (λ q n. (in_m q n, inl (let w = place-is t.marks q (all q n) in slice_get_within t.marks (place_of t.marks q) w.mark w.at)));
       inside = omega arith;
-    }
-
-pub refuting-resolved : (f : FormulaView) (t : TrailView) (i n r : ℕ) (M N c : List Literal) (H : List ℕ) (m : Mark) → IsJustified f.clauses t → n + 1 ≡ i → IsStep f t n r m c → IsMarked M N c m.literal → contains M (negation m.literal) ≡ true → IsRefuting f t i M H → IsRefuting f t n N ((r + 1) ∷ H)
-refuting-resolved f t i n r M N c H m j e s k seen w =
-    let d : Derives (live_of f) (falsifies t.marks) (Counts t 0 0 (n + 1)) (contains M) H = rw e w.derives in
-    record {
-      met = met-step f t (live_of f) M N c H n r m (live-of f) s k w.met;
-      derives = walk-derives f t (live_of f) M N c H 0 0 n r m j (live-of f) s k (omega arith) seen w.met d;
-      inside = omega (arith, e, w.inside);
-    }
-
-pub refuting-passed : (f : FormulaView) (t : TrailView) (i n : ℕ) (M : List Literal) (H : List ℕ) (m : Mark) → n + 1 ≡ i → slice_get t.marks n ≡ Some m → contains M (negation m.literal) ≡ false → IsRefuting f t i M H → IsRefuting f t n M H
-refuting-passed f t i n M H m e at unseen w =
-    record {
-      met = w.met;
-      derives = derives-recount (live_of f) (falsifies t.marks) (Counts t 0 0 i) (Counts t 0 0 n) (contains M) H w.derives
-          (λ q h g. elim g [ inl a ↦ inl (omega (arith, e, a)) | inr b ↦ inr b ])
-          (λ q x g. elim g [
-            | inl a ↦ elim (cases_eq (place_of t.marks q) n) [
-              | inl s ↦ absurd (no_both (contains M (negation m.literal)) (ap (contains M) (sym (same-place t n m q at (w.met.are_false q x) s)) ∙ x) unseen)
-              | inr o ↦ inl (omega (arith, e, a, o))
-            ]
-            | inr b ↦ inr b
-          ]);
-      inside = omega (arith, e, w.inside);
     }
 
 -- at the prefix of the trail the hints refute
@@ -104,7 +79,7 @@ refuting-end f t M H w =
     w.derives.derives none (record {
       are_false = λ a i. absurd cc;
       count = λ a i. absurd cc;
-      covers = λ q x g. absurd (elim g [ inl a ↦ omega (arith, a) | inr b ↦ omega (arith, b.1) ]);
+      covers = λ q x g. absurd (elim g [ inl a ↦ omega (arith, a) | inr b ↦ b ]);
     })
 
 -- ---- from a lesson to the clause that is added behind the way back

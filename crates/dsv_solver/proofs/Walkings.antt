@@ -8,17 +8,18 @@ use Rattle.dsv_cnf.specs.Formula.{contains}
 use Rattle.dsv_hints.specs.Derivation.{live_clause, entries_from}
 use Rattle.dsv_trail.specs.TrailView.{TrailView}
 use Rattle.dsv_trail.specs.Places.{falsifies, place_of}
-use Rattle.dsv_solver.specs.Walk.{IsLow, Counts, CountsAfter, Below}
+use Rattle.dsv_solver.specs.Walk.{IsLow, IsOfLesson, Counts, Below}
 use Rattle.dsv_solver.specs.Analysis.{IsMarked, IsReached, IsLowest}
-use Rattle.dsv_solver.specs.Walking.{Derives, Passes, Fines, IsLive, live_of, IsWalking, IsEnding}
+use Rattle.dsv_solver.specs.Walking.{Derives, Met, Passes, Fines, IsLive, live_of, IsWay, IsWalking, IsEnding}
+use Rattle.dsv_solver.specs.Step.{IsPassed, IsResolved, IsStep}
 use Rattle.dsv_solver.specs.Propagation.{IsJustified, HasReason}
 use Rattle.dsv_solver.specs.Fine.{HasTwo}
 use Rattle.dsv_trail.specs.declared.marks.Mark.{Mark}
 use Rattle.dsv_cnf.proofs.ClauseLemmas.{no_both, not_true}
 use Rattle.dsv_solver.proofs.Resolution.{derives-recount, derives-start, met-start}
 use Rattle.dsv_solver.proofs.Passes.{passes-recount, passes-start, fine-two}
-use Rattle.dsv_trail.proofs.PlaceLemmas.{place-is, place-at, falsifies-first, falsifies-at, falsifies-take}
-use Rattle.dsv_solver.proofs.Walks.{IsStep, met-step, walk-derives, walk-passes, same-place, walk-turns, zero-derives, zero-passes}
+use Rattle.dsv_trail.proofs.PlaceLemmas.{place-is, falsifies-first, falsifies-take}
+use Rattle.dsv_solver.proofs.Walks.{met-step, walk-derives, walk-passes, same-place, mark-place, walk-turns, zero-passes}
 
 live-at : (cs : List (List Literal)) (b r : ℕ) (c : List Literal) → slice_get cs r ≡ Some c → live_clause (entries_from cs b) (r + b) ≡ Some c
 live-at [] b r c e = cc
@@ -37,38 +38,85 @@ lowest-found t high lowest least M N more old lt new =
     let le : least ≤ lowest = omega (arith, new.least r.literal (more r.literal r.met) (omega (arith, r.at, r.up)), r.at) in
     (elim new.reached [ inl x ↦ x.up | inr e ↦ absurd (omega (arith, e, le, lt)) ], le)
 
-pub walking-resolved : (f : FormulaView) (t : TrailView) (zero_end high i n lowest least r : ℕ) (M N c : List Literal) (H : List ℕ) (m : Mark) → IsJustified f.clauses t → Fines f (falsifies (take high t.marks)) → n + 1 ≡ i → lowest + 1 < i → IsStep f t n r m c → IsMarked M N c m.literal → contains M (negation m.literal) ≡ true → IsLowest t high N least → IsWalking f t zero_end high i lowest M H → IsWalking f t zero_end high n least N ((r + 1) ∷ H)
-walking-resolved f t zero_end high i n lowest least r M N c H m j fine e lt s k seen new w =
-    let found = lowest-found t high lowest least M N k.more w.least (omega (arith, w.in_front, w.inside)) new in
-    let d : Derives (live_of f) (falsifies t.marks) (Counts t zero_end high (n + 1)) (contains M) H = rw e w.derives in
+-- ---- a step back
+-- what was met before the place of a literal that was not
+passed-below : (t : TrailView) (i n : ℕ) (M N : List Literal) (H K : List ℕ) (q : Literal) → n + 1 ≡ i → IsPassed t n M N H K → falsifies t.marks q ≡ true → contains M q ≡ true → place_of t.marks q < i → place_of t.marks q < n
+passed-below t i n M N H K q e p is_false x a =
+    elim (cases_eq (place_of t.marks q) n) [
+      | inl s ↦ absurd (no_both (contains M (negation p.mark.literal)) (ap (contains M) (sym (same-place t n p.mark q p.at is_false s)) ∙ x) p.unmet)
+      | inr o ↦ omega (arith, a, e, o)
+    ]
+
+way-passed : (f : FormulaView) (t : TrailView) (Stays : Literal → Type 0) (i n : ℕ) (M N : List Literal) (H K : List ℕ) → n + 1 ≡ i → IsPassed t n M N H K → IsWay f t Stays i M H → IsWay f t Stays n N K
+way-passed f t Stays i n M N H K e p w =
+    rw (p.same, p.hints)
+    (record {
+      met = w.met;
+      derives = derives-recount (live_of f) (falsifies t.marks) (Counts t Stays i) (Counts t Stays n) (contains M) H w.derives
+          (λ q h g. elim g [ inl a ↦ inl (omega (arith, a, e)) | inr b ↦ inr b ])
+          (λ q x g. elim g [ inl a ↦ inl (passed-below t i n M N H K q e p (w.met.are_false q x) x a) | inr b ↦ inr b ]);
+      inside = omega (arith, w.inside, e);
+    })
+
+way-resolved : (f : FormulaView) (t : TrailView) (Stays : Literal → Type 0) (i n : ℕ) (M N : List Literal) (H K : List ℕ) → IsJustified f.clauses t → n + 1 ≡ i → ((q : Literal) → place_of t.marks q ≡ n → Stays q → ⊥) → IsResolved f t n M N H K → IsWay f t Stays i M H → IsWay f t Stays n N K
+way-resolved f t Stays i n M N H K j e goes r w =
+    let d : Derives (live_of f) (falsifies t.marks) (Counts t Stays (n + 1)) (contains M) H = rw e w.derives in
+    rw r.hints
+    (record {
+      met = met-step f t (live_of f) M N r.clause H n r.reason r.mark (live-of f) r.implied r.marked w.met;
+      derives = walk-derives f t (live_of f) Stays M N r.clause H n r.reason r.mark j (live-of f) r.implied r.marked goes r.met w.met d;
+      inside = omega (arith, w.inside, e);
+    })
+
+-- a step keeps the way, where no literal of its place stays
+pub way-step : (f : FormulaView) (t : TrailView) (Stays : Literal → Type 0) (i n : ℕ) (M N : List Literal) (H K : List ℕ) → IsJustified f.clauses t → n + 1 ≡ i → ((q : Literal) → place_of t.marks q ≡ n → Stays q → ⊥) → IsStep f t n M N H K → IsWay f t Stays i M H → IsWay f t Stays n N K
+way-step f t Stays i n M N H K j e goes (inl p) w = way-passed f t Stays i n M N H K e p w
+way-step f t Stays i n M N H K j e goes (inr r) w = way-resolved f t Stays i n M N H K j e goes r w
+
+step-more : (f : FormulaView) (t : TrailView) (n : ℕ) (M N : List Literal) (H K : List ℕ) → IsStep f t n M N H K → (q : Literal) → contains M q ≡ true → contains N q ≡ true
+step-more f t n M N H K (inl p) q h = rw p.same h
+step-more f t n M N H K (inr r) q h = r.marked.more q h
+
+walking-passes : (f : FormulaView) (t : TrailView) (zero_end high n : ℕ) (M N : List Literal) (H K : List ℕ) → IsJustified f.clauses t → Fines f (falsifies (take high t.marks)) → high ≤ n → IsStep f t n M N H K → Passes (live_of f) (Below t zero_end) (IsLow t zero_end high) (falsifies (take high t.marks)) (contains M) H → Passes (live_of f) (Below t zero_end) (IsLow t zero_end high) (falsifies (take high t.marks)) (contains N) K
+walking-passes f t zero_end high n M N H K j fine up (inl p) w = rw (p.same, p.hints) w
+walking-passes f t zero_end high n M N H K j fine up (inr r) w =
+    rw r.hints (walk-passes f t (live_of f) M N r.clause H zero_end high n r.reason r.mark j (live-of f) fine r.implied r.marked up w)
+
+-- a step at the present level
+pub walking-step : (f : FormulaView) (t : TrailView) (zero_end high i n lowest least : ℕ) (M N : List Literal) (H K : List ℕ) → IsJustified f.clauses t → Fines f (falsifies (take high t.marks)) → n + 1 ≡ i → lowest + 1 < i → IsStep f t n M N H K → IsLowest t high N least → IsWalking f t zero_end high i lowest M H → IsWalking f t zero_end high n least N K
+walking-step f t zero_end high i n lowest least M N H K j fine e lt s new w =
+    let found = lowest-found t high lowest least M N (step-more f t n M N H K s) w.least (omega (arith, w.in_front, w.way.inside)) new in
     let up : high ≤ n = omega (arith, w.up, e, lt) in
     record {
-      met = met-step f t (live_of f) M N c H n r m (live-of f) s k w.met;
-      derives = walk-derives f t (live_of f) M N c H zero_end high n r m j (live-of f) s k up seen w.met d;
-      passes = walk-passes f t (live_of f) M N c H zero_end high n r m j (live-of f) fine s k up w.passes;
+      way = way-step f t (IsLow t zero_end high) i n M N H K j e (λ q at low. omega (arith, at, low.1, up)) s w.way;
+      passes = walking-passes f t zero_end high n M N H K j fine up s w.passes;
       least = new;
       up = found.0;
       in_front = omega (arith, found.1, lt, e);
-      inside = omega (arith, w.inside, e);
     }
 
-pub walking-passed : (f : FormulaView) (t : TrailView) (zero_end high i n lowest : ℕ) (M : List Literal) (H : List ℕ) (m : Mark) → n + 1 ≡ i → lowest + 1 < i → slice_get t.marks n ≡ Some m → contains M (negation m.literal) ≡ false → IsWalking f t zero_end high i lowest M H → IsWalking f t zero_end high n lowest M H
-walking-passed f t zero_end high i n lowest M H m e lt at unseen w =
+ending-passes : (f : FormulaView) (t : TrailView) (zero_end high i n : ℕ) (M N : List Literal) (H K : List ℕ) → IsJustified f.clauses t → zero_end ≤ high → n + 1 ≡ i → n < zero_end → IsStep f t n M N H K → Met (live_of f) (falsifies t.marks) (contains M) H → Passes (live_of f) (Below t i) (IsLow t zero_end high) (falsifies (take high t.marks)) (contains M) H → Passes (live_of f) (Below t n) (IsLow t zero_end high) (falsifies (take high t.marks)) (contains N) K
+ending-passes f t zero_end high i n M N H K j zh e lt (inl p) met w =
+    rw (p.same, p.hints)
+    (passes-recount (live_of f) (Below t i) (Below t n) (IsLow t zero_end high) (falsifies (take high t.marks)) (contains M) H w
+    (λ q h a. inl (omega (arith, a, e)))
+    (λ q x a. passed-below t i n M N H K q e p (met.are_false q x) x a))
+ending-passes f t zero_end high i n M N H K j zh e lt (inr r) met w =
+    let p : Passes (live_of f) (Below t (n + 1)) (IsLow t zero_end high) (falsifies (take high t.marks)) (contains M) H = rw e w in
+    rw r.hints (zero-passes f t (live_of f) M N r.clause H zero_end high n r.reason r.mark j (live-of f) r.implied r.marked lt zh met p)
+
+-- a step at level 0
+pub ending-step : (f : FormulaView) (t : TrailView) (zero_end high i n : ℕ) (u : Literal) (M N : List Literal) (H K : List ℕ) → IsJustified f.clauses t → zero_end ≤ high → n + 1 ≡ i → IsStep f t n M N H K → IsEnding f t zero_end high i u M H → IsEnding f t zero_end high n u N K
+ending-step f t zero_end high i n u M N H K j zh e s w =
+    let lt : n < zero_end = omega (arith, e, w.inside) in
     record {
-      met = w.met;
-      derives = derives-recount (live_of f) (falsifies t.marks) (Counts t zero_end high i) (Counts t zero_end high n) (contains M) H w.derives
-          (λ q h g. elim g [ inl a ↦ inl (omega (arith, a, e)) | inr b ↦ inr b ])
-          (λ q x g. elim g [
-            | inl a ↦ elim (cases_eq (place_of t.marks q) n) [
-              | inl s ↦ absurd (no_both (contains M (negation m.literal)) (ap (contains M) (sym (same-place t n m q at (w.met.are_false q x) s)) ∙ x) unseen)
-              | inr o ↦ inl (omega (arith, a, e, o))
-            ]
-            | inr b ↦ inr b
-          ]);
-      passes = w.passes;
-      least = w.least;
-      up = w.up;
-      in_front = omega (arith, lt, e);
+      way = way-step f t (IsOfLesson t zero_end high u) i n M N H K j e
+          (λ q at o. elim o [ inl x ↦ omega (arith, lt, w.above, at, ap (place_of t.marks) x) | inr low ↦ omega (arith, lt, at, low.0) ])
+          s w.way;
+      passes = ending-passes f t zero_end high i n M N H K j zh e lt s w.way.met w.passes;
+      above = w.above;
+      high_first = w.high_first;
+      has = step-more f t n M N H K s u w.has;
       inside = omega (arith, w.inside, e);
     }
 
@@ -89,63 +137,33 @@ walking-start f t zero_end high least r M c l j fine at all l_true k low zh =
     let up_one : high ≤ place_of t.marks two.one = elim (cases_lt (place_of t.marks two.one) high) [ inl a ↦ absurd (no_both (falsifies (take high t.marks) two.one) (falsifies-first t.marks high two.one (all two.one two.one_stands) a) two.one_not) | inr b ↦ b ] in
     let le : least ≤ place_of t.marks two.one = low.least two.one (in_m two.one two.one_stands) up_one in
     record {
-      met = met-start (live_of f) (falsifies t.marks) (contains M) c (r + 1) stands (λ q n. (all q (in_c q n), in_c q n));
-      derives = derives-start (live_of f) (falsifies t.marks) (Counts t zero_end high (length t.marks)) (contains M) c (r + 1) stands (λ q n. (in_m q n, inl (let w = place-is t.marks q (all q n) in slice_get_within t.marks (place_of t.marks q) w.mark w.at)));
+      way = record {
+        met = met-start (live_of f) (falsifies t.marks) (contains M) c (r + 1) stands (λ q n. (all q (in_c q n), in_c q n));
+        derives = derives-start (live_of f) (falsifies t.marks) (Counts t (IsLow t zero_end high) (length t.marks)) (contains M) c (r + 1) stands (λ q n. (in_m q n, inl (let w = place-is t.marks q (all q n) in slice_get_within t.marks (place_of t.marks q) w.mark w.at)));
+        inside = omega arith;
+      };
       passes = passes-start (live_of f) (Below t zero_end) (IsLow t zero_end high) (falsifies (take high t.marks)) (contains M) c (r + 1) stands two;
       least = low;
       up = elim low.reached [ inl x ↦ x.up | inr e ↦ absurd (omega (arith, e, le, lt)) ];
       in_front = omega (arith, le, lt);
-      inside = omega arith;
     }
 
 -- at the unique implication point
 pub walking-turned : (f : FormulaView) (t : TrailView) (zero_end high lowest : ℕ) (M : List Literal) (H : List ℕ) (m : Mark) → IsJustified f.clauses t → slice_get t.marks lowest ≡ Some m → zero_end ≤ high → IsWalking f t zero_end high (lowest + 1) lowest M H → IsEnding f t zero_end high zero_end (negation m.literal) M H
 walking-turned f t zero_end high lowest M H m j at zh w =
-    let pl : place_of t.marks (negation m.literal) ≡ lowest = place-at t.marks lowest m at (j.placed lowest m at).open_negation (falsifies-at t.marks lowest m at) in
+    let pl : place_of t.marks (negation m.literal) ≡ lowest = mark-place f t lowest m j at in
     record {
-      met = w.met;
-      derives = walk-turns f t (live_of f) M H zero_end high lowest m at pl zh w.up w.met (λ q n lt. elim (cases_lt (place_of t.marks q) high) [ inl a ↦ a | inr b ↦ absurd (omega (arith, w.least.least q n b, lt)) ]) w.derives;
+      way = record {
+        met = w.way.met;
+        derives = walk-turns f t (live_of f) M H zero_end high lowest m at pl zh w.up w.way.met (λ q n lt. elim (cases_lt (place_of t.marks q) high) [ inl a ↦ a | inr b ↦ absurd (omega (arith, w.least.least q n b, lt)) ]) w.way.derives;
+        inside = omega (arith, zh, w.up, w.way.inside);
+      };
       passes = w.passes;
       above = omega (arith, pl, zh, w.up);
       high_first = omega (arith, pl, w.up);
       has = elim w.least.reached [
-        | inl r ↦ rw (← same-place t lowest m r.literal at (w.met.are_false r.literal r.met) r.at) r.met
-        | inr e ↦ absurd (omega (arith, e, w.inside))
+        | inl r ↦ rw (← same-place t lowest m r.literal at (w.way.met.are_false r.literal r.met) r.at) r.met
+        | inr e ↦ absurd (omega (arith, e, w.way.inside))
       ];
       inside = omega arith;
-    }
-
-pub ending-resolved : (f : FormulaView) (t : TrailView) (zero_end high i n r : ℕ) (u : Literal) (M N c : List Literal) (H : List ℕ) (m : Mark) → IsJustified f.clauses t → zero_end ≤ high → n + 1 ≡ i → IsStep f t n r m c → IsMarked M N c m.literal → contains M (negation m.literal) ≡ true → IsEnding f t zero_end high i u M H → IsEnding f t zero_end high n u N ((r + 1) ∷ H)
-ending-resolved f t zero_end high i n r u M N c H m j zh e s k seen w =
-    let d : Derives (live_of f) (falsifies t.marks) (CountsAfter t zero_end high u (n + 1)) (contains M) H = rw e w.derives in
-    let p : Passes (live_of f) (Below t (n + 1)) (IsLow t zero_end high) (falsifies (take high t.marks)) (contains M) H = rw e w.passes in
-    let lt : n < zero_end = omega (arith, e, w.inside) in
-    record {
-      met = met-step f t (live_of f) M N c H n r m (live-of f) s k w.met;
-      derives = zero-derives f t (live_of f) M N c H zero_end high n r u m j (live-of f) s k lt w.above seen w.met d;
-      passes = zero-passes f t (live_of f) M N c H zero_end high n r m j (live-of f) s k lt zh w.met p;
-      above = w.above;
-      high_first = w.high_first;
-      has = k.more u w.has;
-      inside = omega (arith, w.inside, e);
-    }
-
-pub ending-passed : (f : FormulaView) (t : TrailView) (zero_end high i n : ℕ) (u : Literal) (M : List Literal) (H : List ℕ) (m : Mark) → n + 1 ≡ i → slice_get t.marks n ≡ Some m → contains M (negation m.literal) ≡ false → IsEnding f t zero_end high i u M H → IsEnding f t zero_end high n u M H
-ending-passed f t zero_end high i n u M H m e at unseen w =
-    let not_here : (q : Literal) → contains M q ≡ true → place_of t.marks q < i → place_of t.marks q < n = λ q x a. elim (cases_eq (place_of t.marks q) n) [
-      | inl s ↦ absurd (no_both (contains M (negation m.literal)) (ap (contains M) (sym (same-place t n m q at (w.met.are_false q x) s)) ∙ x) unseen)
-      | inr o ↦ omega (arith, a, e, o)
-    ] in
-    record {
-      met = w.met;
-      derives = derives-recount (live_of f) (falsifies t.marks) (CountsAfter t zero_end high u i) (CountsAfter t zero_end high u n) (contains M) H w.derives
-          (λ q h g. elim g [ inl a ↦ inl a | inr o ↦ inr (elim o [ inl a ↦ inl (omega (arith, a, e)) | inr b ↦ inr b ]) ])
-          (λ q x g. elim g [ inl a ↦ inl a | inr o ↦ inr (elim o [ inl a ↦ inl (not_here q x a) | inr b ↦ inr b ]) ]);
-      passes = passes-recount (live_of f) (Below t i) (Below t n) (IsLow t zero_end high) (falsifies (take high t.marks)) (contains M) H w.passes
-          (λ q h a. inl (omega (arith, a, e)))
-          (λ q x a. not_here q x a);
-      above = w.above;
-      high_first = w.high_first;
-      has = w.has;
-      inside = omega (arith, w.inside, e);
     }

@@ -12,6 +12,7 @@ pub mod SeenInside
 pub mod SeenView
 pub mod Solved
 pub mod Solving
+pub mod Step
 pub mod Walk
 pub mod Walking
 pub mod WatchInside

@@ -8,8 +8,7 @@ use Rattle.dsv_cnf.specs.Formula.{contains}
 use Rattle.dsv_trail.specs.TrailView.{TrailView}
 use Rattle.dsv_trail.specs.Marks.{IsOpen}
 use Rattle.dsv_trail.specs.Places.{falsifies, place_of}
-use Rattle.dsv_solver.specs.Walk.{Counts}
-use Rattle.dsv_solver.specs.Walking.{Derives, Met, live_of}
+use Rattle.dsv_solver.specs.Walking.{IsWay}
 use Rattle.dsv_trail.specs.declared.marks.Mark.{Mark}
 
 -- a decision more
@@ -21,12 +20,9 @@ with_decision s m = record {
       ++ length s.marks ∷ [];
 }
 
--- the walk back over level 0 from a false clause, at place i
-pub record IsRefuting (f : FormulaView) (t : TrailView) (i : ℕ) (M : List Literal)
-    (H : List ℕ) : Type 0 where
-  pub met : Met (live_of f) (falsifies t.marks) (contains M) H
-  pub derives : Derives (live_of f) (falsifies t.marks) (Counts t 0 0 i) (contains M) H
-  pub inside : i ≤ length t.marks
+-- the walk back over level 0 from a false clause, at place i: no literal stays
+abbrev pub IsRefuting : FormulaView → TrailView → ℕ → List Literal → List ℕ → Type 0
+IsRefuting f t i M H = IsWay f t (λ q. ⊥) i M H
 
 -- the literal of a clause that became false last
 pub record IsLast (t : TrailView) (rest : List Literal) (other : Literal) : Type 0 where

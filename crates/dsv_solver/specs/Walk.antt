@@ -8,13 +8,14 @@ use Rattle.dsv_trail.specs.Places.{place_of}
 abbrev pub IsLow : TrailView → ℕ → ℕ → Literal → Type 0
 IsLow t zero_end high q = (zero_end ≤ place_of t.marks q) × (place_of t.marks q < high)
 
--- what still counts at place i of the trail
-abbrev pub Counts : TrailView → ℕ → ℕ → ℕ → Literal → Type 0
-Counts t zero_end high i q = (place_of t.marks q < i) ⊎ IsLow t zero_end high q
+-- a literal of the learned clause: that of the first unique implication point, which became false
+-- as `u`, or a low one
+abbrev pub IsOfLesson : TrailView → ℕ → ℕ → Literal → Literal → Type 0
+IsOfLesson t zero_end high u q = (q ≡ u) ⊎ IsLow t zero_end high q
 
--- after the first unique implication point, which became false as `u`
-abbrev pub CountsAfter : TrailView → ℕ → ℕ → Literal → ℕ → Literal → Type 0
-CountsAfter t zero_end high u i q = (q ≡ u) ⊎ Counts t zero_end high i q
+-- what still counts at place i of the trail: what became false before it, and what stays
+abbrev pub Counts : TrailView → (Literal → Type 0) → ℕ → Literal → Type 0
+Counts t Stays i q = (place_of t.marks q < i) ⊎ Stays q
 
 abbrev pub Below : TrailView → ℕ → Literal → Type 0
 Below t i q = place_of t.marks q < i

@@ -11,7 +11,7 @@ use Rattle.dsv_trail.specs.Places.{falsifies, place_of}
 use Rattle.dsv_hints.specs.Local.{hinted_contains, AreUsedLater, pass_literals, IsLocal}
 use Rattle.dsv_cnf.specs.Formula.{contains}
 use Rattle.dsv_solver.specs.Fine.{IsFine}
-use Rattle.dsv_solver.specs.Walk.{IsLow, Counts, CountsAfter, Below}
+use Rattle.dsv_solver.specs.Walk.{IsLow, IsOfLesson, Counts, Below}
 use Rattle.dsv_solver.specs.Analysis.{IsLowest}
 
 -- a set that the hints may start from: false literals, of those that still count, and all of these
@@ -57,24 +57,27 @@ pub record IsLive (live : List Entry) (f : FormulaView) : Type 0 where
 abbrev pub live_of : FormulaView → List Entry
 live_of f = entries_from f.clauses 1
 
+-- the walk back over the trail, at place i, where some literals stay
+pub record IsWay (f : FormulaView) (t : TrailView) (Stays : Literal → Type 0) (i : ℕ)
+    (M : List Literal) (H : List ℕ) : Type 0 where
+  pub met : Met (live_of f) (falsifies t.marks) (contains M) H
+  pub derives : Derives (live_of f) (falsifies t.marks) (Counts t Stays i) (contains M) H
+  pub inside : i ≤ length t.marks
+
 -- the walk back over the present level, at place i
 pub record IsWalking (f : FormulaView) (t : TrailView) (zero_end high i lowest : ℕ)
     (M : List Literal) (H : List ℕ) : Type 0 where
-  pub met : Met (live_of f) (falsifies t.marks) (contains M) H
-  pub derives : Derives (live_of f) (falsifies t.marks) (Counts t zero_end high i) (contains M) H
+  pub way : IsWay f t (IsLow t zero_end high) i M H
   pub passes : Passes (live_of f) (Below t zero_end) (IsLow t zero_end high) (falsifies
       (take high t.marks)) (contains M) H
   pub least : IsLowest t high M lowest
   pub up : high ≤ lowest
   pub in_front : lowest < i
-  pub inside : i ≤ length t.marks
 
 -- the walk back over level 0, after the unique implication point
 pub record IsEnding (f : FormulaView) (t : TrailView) (zero_end high i : ℕ) (u : Literal)
     (M : List Literal) (H : List ℕ) : Type 0 where
-  pub met : Met (live_of f) (falsifies t.marks) (contains M) H
-  pub derives : Derives (live_of f) (falsifies t.marks) (CountsAfter t zero_end high u i)
-      (contains M) H
+  pub way : IsWay f t (IsOfLesson t zero_end high u) i M H
   pub passes : Passes (live_of f) (Below t i) (IsLow t zero_end high) (falsifies
       (take high t.marks)) (contains M) H
   pub above : zero_end ≤ place_of t.marks u

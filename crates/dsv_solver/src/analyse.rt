@@ -10,6 +10,7 @@ ghost use Rattle.dsv_cnf.specs.Formula.{contains};
 ghost use Rattle.dsv_trail.specs.Places.{falsifies, place_of};
 ghost use Rattle.dsv_solver.specs.Analysis.{IsMarked, IsLowest, AllFalse, low_literals};
 ghost use Rattle.dsv_solver.specs.Propagation.{IsJustified};
+ghost use Rattle.dsv_solver.specs.Step.{IsStep};
 ghost use Rattle.dsv_solver.specs.Walking.{IsWalking, IsEnding, IsLearnable, Fines, live_of};
 ghost use Rattle.dsv_solver.specs.Search.{IsRefuting};
 ghost use Rattle.dsv_hints.specs.LiteralSet.{none};
@@ -25,46 +26,69 @@ use dsv_trail::Trail;
 use std::alloc::Global;
 use std::marker::Model;
 
-/// The lesser place, where the first is of the present level.
-fn lesser(high: u32, place: u32, least: u32) -> u32
-    ensures most { result ≤ least }
-    ensures counts { high ≤ place → result ≤ place }
-    ensures one { (result ≡ least) ⊎ ((result ≡ place) × (high ≤ place)) }
-{
-    if high <= place && place < least {
-        place
-    } else {
-        least
+/// How far back an analysis reached at the present level.
+#[derive(Clone, Copy)]
+struct Reach {
+    /// The place at which the level begins.
+    high: u32,
+    /// The least place from there on of a literal that was met; how many literals the trail has,
+    /// where none was.
+    lowest: u32,
+}
+
+impl Reach {
+    /// None, on a trail of so many literals: no place of theirs counts.
+    fn none(len: u32) -> Reach
+        ensures high { result.high ≡ len }
+        ensures lowest { result.lowest ≡ len }
+    {
+        Reach {
+            high: len,
+            lowest: len,
+        }
+    }
+
+    /// The lowest with one place more, which counts where it is of the present level.
+    fn lowest_with(self, place: u32) -> u32
+        ensures most { result ≤ self.lowest }
+        ensures counts { self.high ≤ place → result ≤ place }
+        ensures one { (result ≡ self.lowest) ⊎ ((result ≡ place) × (self.high ≤ place)) }
+    {
+        if self.high <= place && place < self.lowest {
+            place
+        } else {
+            self.lowest
+        }
     }
 }
 
-/// Puts one literal into the set, unless it is skipped.
+/// Puts one literal into the set, unless it is skipped, and answers the least place of the present
+/// level that was met.
 fn mark(
     trail: &Trail,
     set: &mut Seen,
     literal: Lit,
     skipped: Lit,
-    high: u32,
-    least: u32,
+    reach: Reach,
 ) -> Result<u32, NoMemory>
     requires vars { set.old.vars ≡ trail.now.vars }
     requires over { literal.var < trail.now.vars }
     requires is_false { literal ≢ skipped → falsifies trail.now.marks literal ≡ true }
-    requires lowest { IsLowest trail.now high set.old.literals least }
+    requires lowest { IsLowest trail.now reach.high set.old.literals reach.lowest }
     ensures vars { set.new.vars ≡ set.old.vars }
     ensures marked { OnOk result (IsMarked set.old.literals set.new.literals
         (literal ∷ []) skipped) }
-    ensures lowest { IfOk result (λ r. IsLowest trail.now high set.new.literals r) }
+    ensures lowest { IfOk result (λ r. IsLowest trail.now reach.high set.new.literals r) }
 {
     if literal.is(&skipped) {
-        return Ok(least);
+        return Ok(reach.lowest);
     }
     if set.contains(literal) {
-        return Ok(least);
+        return Ok(reach.lowest);
     }
     let place = trail.place_of(literal);
     set.insert(literal)?;
-    Ok(lesser(high, place, least))
+    Ok(reach.lowest_with(place))
 }
 
 /// Puts the literals of a clause but one into the set, and answers the least place of the present
@@ -74,23 +98,26 @@ fn mark_others(
     set: &mut Seen,
     clause: &[Lit],
     skipped: Lit,
-    high: u32,
-    lowest: u32,
+    reach: Reach,
 ) -> Result<u32, NoMemory>
     requires vars { set.old.vars ≡ trail.now.vars }
     requires over { IsOver trail.now.vars clause.now }
     requires are_false { (q : Literal) → contains clause.now q ≡ true → q ≢ skipped
         → falsifies trail.now.marks q ≡ true }
-    requires lowest { IsLowest trail.now high set.old.literals lowest }
+    requires lowest { IsLowest trail.now reach.high set.old.literals reach.lowest }
     ensures vars { set.new.vars ≡ set.old.vars }
     ensures marked { OnOk result (IsMarked set.old.literals set.new.literals clause.now skipped) }
-    ensures lowest { IfOk result (λ r. IsLowest trail.now high set.new.literals r) }
+    ensures lowest { IfOk result (λ r. IsLowest trail.now reach.high set.new.literals r) }
 {
-    let mut least = lowest;
+    let mut lowest = reach.lowest;
     for literal in clause {
-        least = mark(trail, set, *literal, skipped, high, least)?;
+        let reach = Reach {
+            high: reach.high,
+            lowest,
+        };
+        lowest = mark(trail, set, *literal, skipped, reach)?;
     }
-    Ok(least)
+    Ok(lowest)
 }
 
 /// The numbers of clauses that a step hints, the last on the trail first.
@@ -134,6 +161,48 @@ impl HintStack {
     }
 }
 
+/// Resolves with the reason of the literal at this place, if its negation was met, and answers the
+/// least place of the present level that was met.
+#[inline(always)]
+fn resolve_at(
+    state: &State,
+    set: &mut Seen,
+    hints: &mut HintStack,
+    place: u32,
+    reach: Reach,
+) -> Result<u32, NoMemory>
+    requires vars { set.old.vars ≡ state.now.trail.vars }
+    requires formula_vars { state.now.clauses.vars ≡ state.now.trail.vars }
+    requires justified { IsJustified state.now.clauses.clauses state.now.trail }
+    requires inside { place < length state.now.trail.marks }
+    requires implied { (m : Mark) → slice_get state.now.trail.marks place ≡ Some m
+        → IsSome m.reason }
+    requires lowest { IsLowest state.now.trail reach.high set.old.literals reach.lowest }
+    ensures vars { set.new.vars ≡ set.old.vars }
+    ensures step { OnOk result (IsStep state.now.clauses state.now.trail place set.old.literals
+        set.new.literals hints.old hints.new) }
+    ensures lowest { IfOk result (λ r. IsLowest state.now.trail reach.high set.new.literals r) }
+{
+    let mark = state.trail.mark(place);
+    if !set.contains(mark.literal.negation()) {
+        return Ok(reach.lowest);
+    }
+    match mark.reason {
+        Some(reason) => {
+            let lowest = mark_others(
+                &state.trail,
+                set,
+                state.clauses.clause(reason),
+                mark.literal,
+                reach,
+            )?;
+            hints.push(u64::from(reason) + 1)?;
+            Ok(lowest)
+        }
+        None => unreachable!(),
+    }
+}
+
 /// Where the levels of an analysis lie on the trail.
 #[derive(Clone, Copy)]
 pub struct Bounds {
@@ -167,23 +236,11 @@ fn resolve_high(
     let mut lowest = least;
     while i > lowest + 1 {
         i -= 1;
-        let mark = state.trail.mark(i);
-        if set.contains(mark.literal.negation()) {
-            match mark.reason {
-                Some(reason) => {
-                    lowest = mark_others(
-                        &state.trail,
-                        set,
-                        state.clauses.clause(reason),
-                        mark.literal,
-                        bounds.high,
-                        lowest,
-                    )?;
-                    hints.push(u64::from(reason) + 1)?;
-                }
-                None => unreachable!(),
-            }
-        }
+        let reach = Reach {
+            high: bounds.high,
+            lowest,
+        };
+        lowest = resolve_at(state, set, hints, i, reach)?;
     }
     Ok(lowest)
 }
@@ -201,10 +258,7 @@ fn resolve_zero(
     requires justified { IsJustified state.now.clauses.clauses state.now.trail }
     requires implied { (k : ℕ) (m : Mark) → slice_get state.now.trail.marks k ≡ Some m
         → k < bounds.zero_end → IsSome m.reason }
-    requires inside { bounds.zero_end ≤ length state.now.trail.marks }
     requires order { bounds.zero_end ≤ bounds.high }
-    requires lowest { IsLowest state.now.trail (length state.now.trail.marks) set.old.literals
-        (length state.now.trail.marks) }
     requires ending { IsEnding state.now.clauses state.now.trail bounds.zero_end bounds.high
         bounds.zero_end first set.old.literals hints.old }
     ensures vars { set.new.vars ≡ set.old.vars }
@@ -214,26 +268,9 @@ fn resolve_zero(
 {
     let end = state.trail.len();
     let mut i = bounds.zero_end;
-    let mut least = end;
     while i > 0 {
         i -= 1;
-        let mark = state.trail.mark(i);
-        if set.contains(mark.literal.negation()) {
-            match mark.reason {
-                Some(reason) => {
-                    least = mark_others(
-                        &state.trail,
-                        set,
-                        state.clauses.clause(reason),
-                        mark.literal,
-                        end,
-                        least,
-                    )?;
-                    hints.push(u64::from(reason) + 1)?;
-                }
-                None => unreachable!(),
-            }
-        }
+        let _end = resolve_at(state, set, hints, i, Reach::none(end))?;
     }
     Ok(())
 }
@@ -243,16 +280,15 @@ fn push_lows(
     trail: &Trail,
     met: &[Lit],
     clause: &mut LitStack,
-    zero_end: u32,
-    high: u32,
+    bounds: Bounds,
 ) -> Result<(), NoMemory>
     requires { AllFalse trail.now met.now }
     ensures { OnOk result (clause.new
-        ≡ clause.old ++ low_literals trail.now zero_end high met.now) }
+        ≡ clause.old ++ low_literals trail.now bounds.zero_end bounds.high met.now) }
 {
     for literal in met {
         let place = trail.place_of(*literal);
-        if zero_end <= place && place < high {
+        if bounds.zero_end <= place && place < bounds.high {
             clause.push(*literal)?;
         }
     }
@@ -305,8 +341,6 @@ fn resolve_all(state: &State, set: &mut Seen, hints: &mut HintStack) -> Result<(
     requires justified { IsJustified state.now.clauses.clauses state.now.trail }
     requires implied { (k : ℕ) (m : Mark) → slice_get state.now.trail.marks k ≡ Some m
         → IsSome m.reason }
-    requires lowest { IsLowest state.now.trail (length state.now.trail.marks) set.old.literals
-        (length state.now.trail.marks) }
     requires refuting { IsRefuting state.now.clauses state.now.trail
         (length state.now.trail.marks) set.old.literals hints.old }
     ensures refuting { OnOk result (IsRefuting state.now.clauses state.now.trail 0
@@ -314,26 +348,9 @@ fn resolve_all(state: &State, set: &mut Seen, hints: &mut HintStack) -> Result<(
 {
     let end = state.trail.len();
     let mut i = end;
-    let mut least = end;
     while i > 0 {
         i -= 1;
-        let mark = state.trail.mark(i);
-        if set.contains(mark.literal.negation()) {
-            match mark.reason {
-                Some(reason) => {
-                    least = mark_others(
-                        &state.trail,
-                        set,
-                        state.clauses.clause(reason),
-                        mark.literal,
-                        end,
-                        least,
-                    )?;
-                    hints.push(u64::from(reason) + 1)?;
-                }
-                None => unreachable!(),
-            }
-        }
+        let _end = resolve_at(state, set, hints, i, Reach::none(end))?;
     }
     Ok(())
 }
@@ -373,8 +390,8 @@ pub fn refute(
     let Some(first) = first_literal(clause) else {
         return Ok(hints);
     };
-    let end = state.trail.len();
-    let _least = mark_others(&state.trail, set, clause, first.negation(), end, end)?;
+    let none = Reach::none(state.trail.len());
+    let _end = mark_others(&state.trail, set, clause, first.negation(), none)?;
     resolve_all(state, set, &mut hints)?;
     Ok(hints)
 }
@@ -416,26 +433,17 @@ pub fn analyse(
     let mut hints = HintStack::new(alloc);
     hints.push(u64::from(conflict) + 1)?;
     let decision = state.trail.mark(bounds.high).literal;
-    let least = mark_others(
-        &state.trail,
-        set,
-        clause,
-        decision,
-        bounds.high,
-        state.trail.len(),
-    )?;
+    let reach = Reach {
+        high: bounds.high,
+        lowest: state.trail.len(),
+    };
+    let least = mark_others(&state.trail, set, clause, decision, reach)?;
     let lowest = resolve_high(state, set, &mut hints, bounds, least)?;
     let first = state.trail.mark(lowest).literal.negation();
     resolve_zero(state, set, &mut hints, bounds, first)?;
     let mut literals = LitStack::new(alloc);
     literals.push(first)?;
-    push_lows(
-        &state.trail,
-        set.as_slice(),
-        &mut literals,
-        bounds.zero_end,
-        bounds.high,
-    )?;
+    push_lows(&state.trail, set.as_slice(), &mut literals, bounds)?;
     Ok(Learned {
         clause: literals,
         hints,

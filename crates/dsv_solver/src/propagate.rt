@@ -10,7 +10,7 @@ ghost use Rattle.dsv_solver.specs.declared.watches.Pair.{Pair};
 ghost use Rattle.dsv_solver.specs.Outcomes.{IsOutcome};
 
 use crate::state::State;
-use crate::watches::{Pair, Watches};
+use crate::watches::{Pair, Watch, Watches};
 use dsv_base::NoMemory;
 use dsv_cnf::{Formula, Lit};
 use dsv_trail::Trail;
@@ -81,44 +81,32 @@ fn partner(pair: Pair, literal: Lit) -> Option<Lit>
 }
 
 /// Watches an open literal in place of a false one.
-fn replace(
-    watches: &mut Watches,
-    literal: Lit,
-    j: usize,
-    i: u32,
-    next: Next,
-    other: Lit,
-) -> Result<(), NoMemory>
-    requires over { literal.var < watches.old.vars }
+fn replace(watches: &mut Watches, watch: Watch, next: Next, other: Lit) -> Result<(), NoMemory>
+    requires over { watch.literal.var < watches.old.vars }
     requires next_over { next.literal.var < watches.old.vars }
     requires other_over { other.var < watches.old.vars }
-    requires inside { j < length (list_of watches.old.lists literal) }
-    requires at { slice_index (list_of watches.old.lists literal) j ≡ i }
-    requires known { i < length watches.old.pairs }
-    requires partner { (old : Pair) → slice_get watches.old.pairs i ≡ Some old
-        → IsPartner old literal other }
-    requires moves { next.literal ≢ literal }
-    ensures pairs { OnOk result (watches.new.pairs
-        ≡ slice_set watches.old.pairs i (record { one = next.literal; other = other })) }
+    requires inside { watch.place < length (list_of watches.old.lists watch.literal) }
+    requires at { slice_index (list_of watches.old.lists watch.literal) watch.place
+        ≡ watch.clause }
+    requires known { watch.clause < length watches.old.pairs }
+    requires partner { (old : Pair) → slice_get watches.old.pairs watch.clause ≡ Some old
+        → IsPartner old watch.literal other }
+    requires moves { next.literal ≢ watch.literal }
+    ensures pairs { OnOk result (watches.new.pairs ≡ slice_set watches.old.pairs watch.clause
+        (record { one = next.literal; other = other })) }
     ensures vars { watches.new.vars ≡ watches.old.vars }
-    ensures len { OnOk result (length (list_of watches.new.lists literal) + 1
-        ≡ length (list_of watches.old.lists literal)) }
-    ensures prefix { OnOk result ((k : ℕ) → k < j
-        → slice_index (list_of watches.new.lists literal) k
-        ≡ slice_index (list_of watches.old.lists literal) k) }
+    ensures len { OnOk result (length (list_of watches.new.lists watch.literal) + 1
+        ≡ length (list_of watches.old.lists watch.literal)) }
+    ensures prefix { OnOk result ((k : ℕ) → k < watch.place
+        → slice_index (list_of watches.new.lists watch.literal) k
+        ≡ slice_index (list_of watches.old.lists watch.literal) k) }
 {
-    let old = watches.pair(i);
-    watches.rewatch(
-        literal,
-        j,
-        i,
-        old,
-        Pair {
-            one: next.literal,
-            other,
-        },
-        next.start,
-    )
+    let old = watches.pair(watch.clause);
+    let pair = Pair {
+        one: next.literal,
+        other,
+    };
+    watches.rewatch(watch, old, pair, next.start)
 }
 
 /// What became of a clause whose watched literal is false.
@@ -133,35 +121,36 @@ enum Outcome {
 
 impl State {
     /// Looks at a clause whose watched literal is false.
-    fn tend(&mut self, literal: Lit, j: usize, i: u32) -> Result<Outcome, NoMemory>
+    fn tend(&mut self, watch: Watch) -> Result<Outcome, NoMemory>
         requires ready { IsReady self.old.clauses self.old.trail self.old.watches self.old.head }
-        requires over { literal.var < self.old.trail.vars }
-        requires is_false { falsifies self.old.trail.marks literal ≡ true }
-        requires inside { j < length (list_of self.old.watches.lists literal) }
-        requires at { slice_index (list_of self.old.watches.lists literal) j ≡ i }
-        requires known { i < length self.old.watches.pairs }
+        requires over { watch.literal.var < self.old.trail.vars }
+        requires is_false { falsifies self.old.trail.marks watch.literal ≡ true }
+        requires inside { watch.place < length (list_of self.old.watches.lists watch.literal) }
+        requires at { slice_index (list_of self.old.watches.lists watch.literal) watch.place
+            ≡ watch.clause }
+        requires known { watch.clause < length self.old.watches.pairs }
         ensures clauses { self.new.clauses ≡ self.old.clauses }
         ensures head { self.new.head ≡ self.old.head }
         ensures ready { IfOk result (λ r. IsReady self.new.clauses self.new.trail self.new.watches
             self.new.head) }
         ensures longer { IfOk result (λ r. IsLonger self.old.trail self.new.trail) }
         ensures answer { IfOk result (IsOutcome self.new.clauses self.old.trail self.new.trail
-            self.old.watches self.new.watches literal j i) }
+            self.old.watches self.new.watches watch.literal watch.place watch.clause) }
     {
-        let Some(other) = partner(self.watches.pair(i), literal) else {
+        let Some(other) = partner(self.watches.pair(watch.clause), watch.literal) else {
             return Ok(Outcome::Kept);
         };
         if self.trail.is_false(other.negation()) {
             return Ok(Outcome::Kept);
         }
         match find_next(
-            self.clauses.clause(i),
+            self.clauses.clause(watch.clause),
             other,
             &self.trail,
-            self.watches.start(i),
+            self.watches.start(watch.clause),
         ) {
             Some(next) => {
-                replace(&mut self.watches, literal, j, i, next, other)?;
+                replace(&mut self.watches, watch, next, other)?;
                 Ok(Outcome::Moved)
             }
             None => {
@@ -169,7 +158,7 @@ impl State {
                     return Ok(Outcome::Conflict);
                 }
                 let _count = self.trail.len();
-                self.trail.imply(other, i, &self.clauses);
+                self.trail.imply(other, watch.clause, &self.clauses);
                 Ok(Outcome::Kept)
             }
         }
@@ -192,7 +181,11 @@ impl State {
         let mut j = 0;
         while j < self.watches.count(literal) {
             let i = self.watches.entry(literal, j);
-            match self.tend(literal, j, i)? {
+            match self.tend(Watch {
+                literal,
+                place: j,
+                clause: i,
+            })? {
                 Outcome::Kept => j += 1,
                 Outcome::Moved => {}
                 Outcome::Conflict => return Ok(Some(i)),

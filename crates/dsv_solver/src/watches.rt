@@ -18,6 +18,16 @@ pub struct Pair {
     pub other: Lit,
 }
 
+/// Where a clause stands among those that watch a literal.
+#[derive(Clone, Copy)]
+pub struct Watch {
+    pub literal: Lit,
+    /// The place in the literal's list, from 0 on.
+    pub place: usize,
+    /// The number of the clause that stands there.
+    pub clause: u32,
+}
+
 /// The clauses that watch a literal.
 #[derive(Drop)]
 struct WatchList {
@@ -242,33 +252,38 @@ impl Watches {
     /// Watches another literal in place of one.
     pub fn rewatch(
         &mut self,
-        literal: Lit,
-        j: usize,
-        i: u32,
+        watch: Watch,
         old: Pair,
         pair: Pair,
         start: usize,
     ) -> Result<(), NoMemory>
-        requires over { literal.var < self.old.vars }
+        requires over { watch.literal.var < self.old.vars }
         requires pair_over { IsPairOver self.old.vars pair }
-        requires inside { j < length (list_of self.old.lists literal) }
-        requires at { slice_index (list_of self.old.lists literal) j ≡ i }
-        requires was { slice_get self.old.pairs i ≡ Some old }
+        requires inside { watch.place < length (list_of self.old.lists watch.literal) }
+        requires at { slice_index (list_of self.old.lists watch.literal) watch.place
+            ≡ watch.clause }
+        requires was { slice_get self.old.pairs watch.clause ≡ Some old }
         requires stays { (pair.other ≡ old.one) ⊎ (pair.other ≡ old.other) }
-        requires one_moves { pair.one ≢ literal }
-        requires other_stays { pair.other ≢ literal }
-        ensures pairs { OnOk result (self.new.pairs ≡ slice_set self.old.pairs i pair) }
+        requires one_moves { pair.one ≢ watch.literal }
+        requires other_stays { pair.other ≢ watch.literal }
+        ensures pairs { OnOk result (self.new.pairs
+            ≡ slice_set self.old.pairs watch.clause pair) }
         ensures vars { self.new.vars ≡ self.old.vars }
-        ensures len { OnOk result (length (list_of self.new.lists literal) + 1
-            ≡ length (list_of self.old.lists literal)) }
-        ensures prefix { OnOk result ((k : ℕ) → k < j
-            → slice_index (list_of self.new.lists literal) k
-            ≡ slice_index (list_of self.old.lists literal) k) }
+        ensures len { OnOk result (length (list_of self.new.lists watch.literal) + 1
+            ≡ length (list_of self.old.lists watch.literal)) }
+        ensures prefix { OnOk result ((k : ℕ) → k < watch.place
+            → slice_index (list_of self.new.lists watch.literal) k
+            ≡ slice_index (list_of self.old.lists watch.literal) k) }
     {
-        self.lists[pair.one.code() as usize].push(i)?;
-        self.lists[literal.code() as usize].swap_remove(j);
-        self.pairs[i as usize] = pair;
-        set_start(&mut self.starts, i, start);
+        let Watch {
+            literal,
+            place,
+            clause,
+        } = watch;
+        self.lists[pair.one.code() as usize].push(clause)?;
+        self.lists[literal.code() as usize].swap_remove(place);
+        self.pairs[clause as usize] = pair;
+        set_start(&mut self.starts, clause, start);
         Ok(())
     }
 }

@@ -26,7 +26,7 @@ pub push_lows-requires : goal.push_lows-requires
 push_lows-requires c =
     let e : IsEnding c.args.state.now.clauses c.args.state.now.trail c.args.bounds.zero_end c.args.bounds.high 0 c.negation-first.result c.resolve_zero.new.set.literals c.resolve_zero.new.hints = c.in_ok-resolve_zero.ensures.ending in
     let vars : c.resolve_zero.new.set.vars ≡ c.args.state.now.trail.vars = c.resolve_zero.ensures.vars ∙ (c.resolve_high.ensures.vars ∙ (c.mark_others.ensures.vars ∙ c.requires.vars)) in
-    all-false c.args.state.now.trail c.as_slice.result.now (rw vars at c.as_slice.ensures.over) (λ q n. e.met.are_false q (rw c.as_slice.ensures.items (reverse-contains c.as_slice.result.now q n)))
+    all-false c.args.state.now.trail c.as_slice.result.now (rw vars at c.as_slice.ensures.over) (λ q n. e.way.met.are_false q (rw c.as_slice.ensures.items (reverse-contains c.as_slice.result.now q n)))
 
 pub returns-clause-lesson : goal.returns-clause-lesson
 returns-clause-lesson c =

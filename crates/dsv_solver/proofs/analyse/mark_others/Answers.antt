@@ -13,6 +13,6 @@ loop-literal-preserved c =
       vars = c.mark.ensures.vars ∙ i.vars;
       over = IsOver-tail c.args.trail.now.vars item (drop (c.loop-literal.literal-index + 1) c.args.clause.now) (rw rest at i.over);
       are_false = λ q n d. i.are_false q (rw rest (contains-tail item (drop (c.loop-literal.literal-index + 1) c.args.clause.now) q n)) d;
-      marked = rw prefix (marked-push c.args.set.now.literals c.loop-literal.set.literals c.mark.new.set.literals (take c.loop-literal.literal-index c.args.clause.now) item c.args.skipped i.marked c.in_ok-least.ensures.marked);
-      lowest = c.in_ok-least.ensures.lowest;
+      marked = rw prefix (marked-push c.args.set.now.literals c.loop-literal.set.literals c.mark.new.set.literals (take c.loop-literal.literal-index c.args.clause.now) item c.args.skipped i.marked c.in_ok-lowest.ensures.marked);
+      lowest = c.in_ok-lowest.ensures.lowest;
     }

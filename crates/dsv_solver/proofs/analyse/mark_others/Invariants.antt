@@ -12,5 +12,5 @@ invariant-loop-literal l =
       over : IsOver l.trail.vars (drop l.literal-index l.clause);
       are_false : (q : Literal) → contains (drop l.literal-index l.clause) q ≡ true → q ≢ l.skipped → falsifies l.trail.marks q ≡ true;
       marked : IsMarked l.fn.set.literals l.set.literals (take l.literal-index l.clause) l.skipped;
-      lowest : IsLowest l.trail l.high l.set.literals l.least;
+      lowest : IsLowest l.trail l.fn.reach.high l.set.literals l.lowest;
     }

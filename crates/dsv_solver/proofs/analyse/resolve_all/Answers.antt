@@ -1,47 +1,17 @@
-use Rattle.std.proofs.Common.{◌≡◌, ◌∙◌, ◌+◌, ◌-◌, ap, sym, true, false, arith, ◌∷◌, inl, inr}
-use Rattle.dsv_cnf.specs.Literal.{negation}
-use Rattle.dsv_cnf.specs.Formula.{contains}
-use Rattle.dsv_trail.proofs.PlaceLemmas.{falsifies-take}
-use Rattle.dsv_solver.proofs.Walks.{step-of}
-use Rattle.dsv_solver.proofs.Walkings.{reason-within}
-use Rattle.dsv_solver.proofs.Searching.{refuting-resolved, refuting-passed}
+use Rattle.std.proofs.Common.{◌∙◌, ◌-◌, arith}
+use Rattle.dsv_solver.proofs.Marking.{lowest-none}
+use Rattle.dsv_solver.proofs.Walkings.{way-step}
 use Rattle.dsv_solver.proofs.analyse.resolve_all.Goals as goal
 
-pub clause-requires : goal.clause-requires
-clause-requires c = reason-within c.args.state.now.clauses c.args.state.now.trail (c.loop-i.i - 1) c.in-Some.reason c.mark-mark.result c.requires.justified c.mark-mark.ensures.at c.in-Some.is
-
-pub mark_others-requires-clause-are_false : goal.mark_others-requires-clause-are_false
-mark_others-requires-clause-are_false c =
-    let s = step-of c.args.state.now.clauses c.args.state.now.trail (c.loop-i.i - 1) c.in-Some.reason c.mark-mark.result c.clause.result.now c.requires.justified c.mark-mark.ensures.at c.in-Some.is c.clause.ensures.at in
-    λ q n d. elim (s.others q n) [ inl e ↦ absurd (d e) | inr g ↦ falsifies-take c.args.state.now.trail.marks (c.loop-i.i - 1) q g ]
-
-pub loop-i-preserved-in-Continue-branch-2 : goal.loop-i-preserved-in-Continue-branch-2
-loop-i-preserved-in-Continue-branch-2 c =
-    let i = c.loop-i.invariant in
-    let s = step-of c.args.state.now.clauses c.args.state.now.trail (c.loop-i.i - 1) c.in-Some.reason c.mark-mark.result c.clause.result.now c.requires.justified c.mark-mark.ensures.at c.in-Some.is c.clause.ensures.at in
-    let seen : contains c.loop-i.set.literals (negation c.mark-mark.result.literal) ≡ true = ap (contains c.loop-i.set.literals) (sym c.negation.ensures) ∙ (sym c.contains.ensures ∙ c.if-contains.true) in
-    let pushed : c.push.new.self ≡ (c.in-Some.reason + 1) ∷ c.loop-i.hints = c.in_ok-push-in-Some.ensures.ok ∙ ap (λ x. (x + 1) ∷ c.loop-i.hints) c.from.ensures in
-    record {
-      vars = c.mark_others.ensures.vars ∙ i.vars;
-      end_is = i.end_is;
-      lowest = c.in_ok-least-in-Some.ensures.lowest;
-      refuting = rw pushed
-          (refuting-resolved c.args.state.now.clauses c.args.state.now.trail c.loop-i.i (c.loop-i.i - 1) c.in-Some.reason c.loop-i.set.literals c.mark_others.new.set.literals c.clause.result.now c.loop-i.hints c.mark-mark.result c.requires.justified (omega (arith, c.loop-i-test.true)) s c.in_ok-least-in-Some.ensures.marked seen i.refuting);
-    }
-
-pub unreachable-requires : goal.unreachable-requires
-unreachable-requires c =
-    let s = c.requires.implied (c.loop-i.i - 1) c.mark-mark.result c.mark-mark.ensures.at in
-    let e = rw c.in-None.is at s in
-    cc
+pub resolve_at-requires-clause-lowest : goal.resolve_at-requires-clause-lowest
+resolve_at-requires-clause-lowest c =
+    rw (c.none.ensures.high, c.none.ensures.lowest, c.len-end.ensures.value)
+    (lowest-none c.args.state.now.trail c.loop-i.set.literals c.loop-i.invariant.refuting.met.are_false)
 
 pub loop-i-preserved : goal.loop-i-preserved
 loop-i-preserved c =
     let i = c.loop-i.invariant in
-    let unseen : contains c.loop-i.set.literals (negation c.mark-mark.result.literal) ≡ false = ap (contains c.loop-i.set.literals) (sym c.negation.ensures) ∙ (sym c.contains.ensures ∙ c.if-contains.false) in
     record {
-      vars = i.vars;
-      end_is = i.end_is;
-      lowest = i.lowest;
-      refuting = refuting-passed c.args.state.now.clauses c.args.state.now.trail c.loop-i.i (c.loop-i.i - 1) c.loop-i.set.literals c.loop-i.hints c.mark-mark.result (omega (arith, c.loop-i-test.true)) c.mark-mark.ensures.at unseen i.refuting;
+      vars = c.resolve_at.ensures.vars ∙ i.vars;
+      refuting = way-step c.args.state.now.clauses c.args.state.now.trail (λ q. ⊥) c.loop-i.i (c.loop-i.i - 1) c.loop-i.set.literals c.resolve_at.new.set.literals c.loop-i.hints c.resolve_at.new.hints c.requires.justified (omega (arith, c.loop-i-test.true)) (λ q at b. b) c.in_ok-_end.ensures.step i.refuting;
     }
