@@ -1,4 +1,5 @@
 pub mod Answers
 pub mod Formulas
 pub mod Questions
+pub mod RunQuestions
 pub mod Verdicts

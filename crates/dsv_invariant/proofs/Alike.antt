@@ -1,5 +1,5 @@
 -- What breaks a candidate's sentences breaks them in each system that runs alike.
-use Rattle.std.proofs.Common.{◌≡◌, ℕ, ◌<◌, List, [], ◌∷◌, ◌∙◌, ap, sym, subst, length, take, drop}
+use Rattle.std.proofs.Common.{◌≡◌, ℕ, List, [], ◌∷◌, ◌∙◌, ap, sym, subst, length, take, drop}
 use Rattle.std.proofs.Math.IntN.{ℤ, pos}
 use Rattle.std.specs.List.{All, Contains}
 use Rattle.std.proofs.lemmas.List.{length-replicate}
@@ -9,7 +9,7 @@ use Rattle.dsv_netlist.specs.Nodes.{Net}
 use Rattle.dsv_netlist.specs.Systems.{system_of}
 use Rattle.dsv_system.specs.Breaks.{IsOutside}
 use Rattle.dsv_system.specs.Runs.{SampleRow}
-use Rattle.dsv_system.specs.Systems.{System, RunAlike, rows, registers_after, zeros}
+use Rattle.dsv_system.specs.Systems.{System, RunAlike, registers_after, zeros}
 use Rattle.dsv_template.specs.declared.candidate.Candidate.{Candidate}
 use Rattle.dsv_template.specs.declared.verdict.SetPart.{SetPart}
 use Rattle.dsv_template.specs.declared.verdict.SetPart.TheVariants as part

@@ -1,15 +1,13 @@
 -- Runs out of a candidate's set, and starts whose sample breaks.
-use Rattle.std.proofs.Common.{◌≡◌, ℕ, ◌+◌, ◌-◌, ◌^◌, ◌<◌, ◌≤◌, inl, inr, List, [], ◌∷◌, ◌++◌, ◌∙◌, refl, ap, sym, subst, length, take, drop, get_or, min, arith, below_more}
+use Rattle.std.proofs.Common.{◌≡◌, ℕ, ◌+◌, ◌<◌, ◌≤◌, inl, inr, List, [], ◌∷◌, ◌++◌, ◌∙◌, refl, ap, sym, subst, length, take, drop, get_or, min, arith, below_more}
 use Rattle.std.specs.Prelude.{◌≤ℤ◌, slice_get}
 use Rattle.std.specs.List.{All}
 use Rattle.std.proofs.Math.IntN.{ℤ, pos}
-use Rattle.std.proofs.Math.Nat.{pow-le-pow_right}
-use Rattle.std.proofs.lemmas.Int.{ints}
 use Rattle.std.proofs.lemmas.Bool.{cases_lt}
 use Rattle.std.proofs.lemmas.List.{length-map, length-replicate, length-take, take_more, take_min, get_or-drop}
-use Rattle.std.proofs.lemmas.List.Elements.{All-nil, All-cons, All-head, All-take, All-weaker}
+use Rattle.std.proofs.lemmas.List.Elements.{All-nil, All-cons, All-head, All-take}
 use Rattle.dsv_word.specs.declared.format.Format.{Format}
-use Rattle.dsv_word.specs.Words.{width, IsWord}
+use Rattle.dsv_word.specs.Words.{IsWord}
 use Rattle.dsv_bounded.specs.Questions.{AreRegisters}
 use Rattle.dsv_bounded.proofs.Questions.{words_in_range}
 use Rattle.dsv_bounded.proofs.WordValues.{zeros_are_words}
@@ -19,7 +17,7 @@ use Rattle.dsv_meaning.specs.Systems.{equations_of}
 use Rattle.dsv_netlist.specs.Nodes.{Net, at, sample_of, step_of}
 use Rattle.dsv_netlist.specs.Systems.{system_of}
 use Rattle.dsv_quantiser.specs.FixedPoint.{FixedPoint, IsFixedPoint}
-use Rattle.dsv_system.specs.Breaks.{IsInside, IsFirstBreak}
+use Rattle.dsv_system.specs.Breaks.{IsInside}
 use Rattle.dsv_system.specs.Runs.{SampleRow, row_at}
 use Rattle.dsv_system.specs.Systems.{RunAlike, rows, registers_after, zeros, AreInRange}
 use Rattle.dsv_system.proofs.Words.{no_break}
@@ -27,9 +25,8 @@ use Rattle.dsv_template.specs.declared.candidate.Candidate.{Candidate}
 use Rattle.dsv_template.specs.declared.verdict.SetPart.TheVariants as part
 use Rattle.dsv_template.specs.declared.verdict.Why.{Why}
 use Rattle.dsv_template.specs.declared.verdict.Why.TheVariants as why
-use Rattle.dsv_template.specs.Candidates.{IsInSet, IsSomeWord}
-use Rattle.dsv_template.specs.Kept.{LeavesEarly, LeavesLater, BreaksFrom}
-use Rattle.dsv_unroll.proofs.NodeTerms.{width_small}
+use Rattle.dsv_template.specs.Candidates.{IsInSet}
+use Rattle.dsv_template.specs.Kept.{LeavesEarly, BreaksFrom}
 use Rattle.dsv_invariant.specs.Breaking.{DoLeave, DoBreak, IsUnsafeSample, IsFoundAt}
 use Rattle.dsv_invariant.specs.Causes.{IsUnsafe}
 use Rattle.dsv_invariant.proofs.Alike.{zero_registers}

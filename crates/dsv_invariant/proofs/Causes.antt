@@ -1,5 +1,5 @@
 -- What is found of a candidate: three sentences that hold make it good, and a finding is a cause.
-use Rattle.std.proofs.Common.{◌≡◌, ℕ, true, List, sym, subst}
+use Rattle.std.proofs.Common.{ℕ, List, sym, subst}
 use Rattle.std.specs.Prelude.{◌≤ℤ◌}
 use Rattle.std.proofs.Math.IntN.{ℤ}
 use Rattle.dsv_bounded.proofs.Alike.{alike_back}
@@ -7,11 +7,12 @@ use Rattle.dsv_hints.specs.declared.step.Step.{Step}
 use Rattle.dsv_hints.specs.Lessons.{IsRefutation}
 use Rattle.dsv_meaning.specs.Equations.{Past, order, registers_of}
 use Rattle.dsv_meaning.specs.Systems.{equations_of}
-use Rattle.dsv_netlist.specs.Conditions.{IsNetlist}
-use Rattle.dsv_netlist.specs.Nodes.{Net}
 use Rattle.dsv_netlist.specs.Systems.{system_of}
 use Rattle.dsv_quantiser.specs.FixedPoint.{FixedPoint, IsFixedPoint}
-use Rattle.dsv_system.specs.Systems.{RunAlike}
+use Rattle.dsv_realise.specs.Netlists.{net_of}
+use Rattle.dsv_realise.proofs.Conditions.{net_realised}
+use Rattle.dsv_realise.proofs.Runs.{runs_alike}
+use Rattle.dsv_system.specs.Breaks.{Breaks}
 use Rattle.dsv_template.specs.declared.candidate.Candidate.{Candidate}
 use Rattle.dsv_template.specs.declared.verdict.SetPart.TheVariants as part
 use Rattle.dsv_template.specs.declared.verdict.Why.{Why}
@@ -26,23 +27,32 @@ use Rattle.dsv_invariant.specs.Formulas.{set_formula_of}
 use Rattle.dsv_invariant.proofs.Stepwise.{net_stepwise, stepwise_alike}
 
 -- the written equations go on from their registers alone
-equations_stepwise : (q : FixedPoint) (net : Net) → IsFixedPoint q → IsNetlist net → RunAlike (List ℤ) Past (system_of net) (equations_of q) → IsStepwise Past (equations_of q) q.xlo q.xhi
-equations_stepwise q net f n run =
+equations_stepwise : (q : FixedPoint) → IsFixedPoint q → IsStepwise Past (equations_of q) q.xlo q.xhi
+equations_stepwise q f =
+    let net = net_of q in
     let m = system_of net in
     let e = equations_of q in
+    let run = runs_alike q f in
     let low = subst (λ (h : Format). lo (width h) ≤ℤ q.xlo) (sym run.format) f.low in
     let high = subst (λ (h : Format). q.xhi ≤ℤ hi (width h)) (sym run.format) f.high in
-    stepwise_alike (List ℤ) Past m e q.xlo q.xhi run (alike_back (List ℤ) Past m e run) (net_stepwise net q.xlo q.xhi n low high)
+    stepwise_alike (List ℤ) Past m e q.xlo q.xhi run (alike_back (List ℤ) Past m e run) (net_stepwise net q.xlo q.xhi (net_realised q f).netlist low high)
 
-pub good_by : (q : FixedPoint) (net : Net) (conflicts : ℕ) (c : Candidate) (base step safe : List Step) → IsFixedPoint q → IsNetlist net → RunAlike (List ℤ) Past (system_of net) (equations_of q) → IsShaped q c
-    → Holds q c part.Base → Holds q c part.Step → Holds q c part.Safe → IsRefutation (set_formula_of q c part.Base) conflicts base → IsRefutation (set_formula_of q c part.Step) conflicts step
-    → IsRefutation (set_formula_of q c part.Safe) conflicts safe → IsGood q conflicts c (record { base = base; step = step; safe = safe })
-good_by q net conflicts c base step safe f n run shaped begins stays safely b s t =
-    let e = equations_of q in
-    let kept : IsKept Past e q.xlo q.xhi c = record { deep = (shaped_parts (registers_of q.realisation (order q)) c shaped).deep; begins = begins; stays = stays; safe = safely } in
+kept_by : (q : FixedPoint) (c : Candidate) → IsShaped q c → Holds q c part.Base → Holds q c part.Step → Holds q c part.Safe → IsKept Past (equations_of q) q.xlo q.xhi c
+kept_by q c shaped begins stays safely = record { deep = (shaped_parts (registers_of q.realisation (order q)) c shaped).deep; begins = begins; stays = stays; safe = safely }
+
+-- where the three sentences hold, no list of inputs breaks the controller
+pub never_breaks : (q : FixedPoint) (c : Candidate) → IsFixedPoint q → IsShaped q c → Holds q c part.Base → Holds q c part.Step → Holds q c part.Safe
+    → (inputs : List ℤ) → Breaks Past (equations_of q) q.xlo q.xhi inputs → ⊥
+never_breaks q c f shaped begins stays safely =
+    kept_never_breaks Past (equations_of q) q.xlo q.xhi c (equations_stepwise q f) (kept_by q c shaped begins stays safely)
+
+pub good_by : (q : FixedPoint) (conflicts : ℕ) (c : Candidate) (base step safe : List Step) → IsFixedPoint q → IsShaped q c → Holds q c part.Base → Holds q c part.Step → Holds q c part.Safe
+    → IsRefutation (set_formula_of q c part.Base) conflicts base → IsRefutation (set_formula_of q c part.Step) conflicts step → IsRefutation (set_formula_of q c part.Safe) conflicts safe
+    → IsGood q conflicts c (record { base = base; step = step; safe = safe })
+good_by q conflicts c base step safe f shaped begins stays safely b s t =
     record {
-      kept = kept;
-      never = kept_never_breaks Past e q.xlo q.xhi c (equations_stepwise q net f n run) kept;
+      kept = kept_by q c shaped begins stays safely;
+      never = never_breaks q c f shaped begins stays safely;
       base = b;
       step = s;
       safe = t;

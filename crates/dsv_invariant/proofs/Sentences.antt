@@ -1,5 +1,5 @@
 -- A sentence that no words break holds.
-use Rattle.std.proofs.Common.{◌≡◌, ℕ, suc, ◌+◌, ◌-◌, ◌<◌, ◌≤◌, ◌⊎◌, true, inl, inr, List, [], ◌∷◌, ◌++◌, ◌∙◌, refl, ap, sym, subst, length, take, drop, replicate, arith}
+use Rattle.std.proofs.Common.{◌≡◌, ℕ, ◌+◌, ◌-◌, ◌<◌, ◌⊎◌, inl, inr, List, [], ◌∷◌, ◌++◌, ◌∙◌, refl, ap, sym, subst, length, take, drop, replicate, arith}
 use Rattle.std.specs.Prelude.{◌≢◌, ◌≤ℤ◌}
 use Rattle.std.specs.List.{All, Contains}
 use Rattle.std.proofs.Math.IntN.{ℤ}
@@ -18,20 +18,19 @@ use Rattle.dsv_netlist.specs.Nodes.{Net}
 use Rattle.dsv_netlist.specs.Systems.{system_of}
 use Rattle.dsv_quantiser.specs.FixedPoint.{FixedPoint, IsFixedPoint}
 use Rattle.dsv_system.specs.Breaks.{IsInside}
-use Rattle.dsv_system.specs.Runs.{SampleRow, row_at}
-use Rattle.dsv_system.specs.Systems.{System, RunAlike, rows, registers_after, zeros, AreInRange}
+use Rattle.dsv_system.specs.Runs.{row_at}
+use Rattle.dsv_system.specs.Systems.{RunAlike, registers_after, zeros, AreInRange}
 use Rattle.dsv_template.specs.declared.candidate.Candidate.{Candidate}
 use Rattle.dsv_template.specs.declared.verdict.SetPart.{SetPart}
 use Rattle.dsv_template.specs.declared.verdict.SetPart.TheVariants as part
-use Rattle.dsv_template.specs.Candidates.{IsInSet}
-use Rattle.dsv_template.specs.Kept.{IsState, Begins, Stays, IsSafe, LeavesEarly, LeavesLater, BreaksFrom}
+use Rattle.dsv_template.specs.Kept.{Begins, Stays, IsSafe, LeavesEarly, LeavesLater, BreaksFrom}
 use Rattle.dsv_template.proofs.Membership.{inside_cases}
 use Rattle.dsv_term.specs.declared.node.TermId.{TermId}
 use Rattle.dsv_term.specs.Terms.{AreTerms, AreValues, word_of, width_of}
 use Rattle.dsv_term.specs.TermsView.{TermsView}
 use Rattle.dsv_unroll.specs.SetGoals.{set_inputs}
 use Rattle.dsv_unroll.specs.Words.{spelled_words, BreaksPart, Tells}
-use Rattle.dsv_invariant.specs.Breaking.{Realises, BreakIn, DoBreak}
+use Rattle.dsv_invariant.specs.Breaking.{DoBreak}
 use Rattle.dsv_invariant.specs.Causes.{Holds}
 use Rattle.dsv_invariant.proofs.Alike.{break_alike, given_break, wanted_break}
 

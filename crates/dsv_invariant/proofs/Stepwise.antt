@@ -1,7 +1,6 @@
 -- Runs of netlists go on from their registers alone, and so do those of systems that run alike.
 use Rattle.std.proofs.Common.{◌≡◌, ℕ, List, [], ◌∷◌, ◌++◌, ◌∙◌, refl, ap, sym, subst, length, arith}
 use Rattle.std.specs.Prelude.{◌≤ℤ◌}
-use Rattle.std.specs.List.{All}
 use Rattle.std.proofs.Math.IntN.{ℤ, pos}
 use Rattle.std.proofs.lemmas.Int.{ints}
 use Rattle.std.proofs.lemmas.List.{length-map, length-replicate}
@@ -9,7 +8,6 @@ use Rattle.std.proofs.lemmas.List.Elements.{All-head, All-tail}
 use Rattle.dsv_word.specs.Words.{width, lo, hi, IsWord}
 use Rattle.dsv_bounded.proofs.WordValues.{zeros_are_words}
 use Rattle.dsv_netlist.specs.Conditions.{IsNetlist}
-use Rattle.dsv_netlist.specs.Law.{AreWords}
 use Rattle.dsv_netlist.specs.Nodes.{Net, at, sample_of, step_of}
 use Rattle.dsv_netlist.specs.Systems.{system_of}
 use Rattle.dsv_system.specs.Runs.{Sampled, SampleRow, rows_from, past_after, row_at}

@@ -32,7 +32,6 @@ fn three_logs(
     ensures good { IfOk result (IsGood q.now conflicts candidate.now) }
     ensures found { IfErr result (IfFound (IsFinding q.now conflicts candidate.now)) }
 {
-    let _nodes = net.len();
     let base = part_log(alloc, q, net, candidate, SetPart::Base, conflicts)?;
     let step = part_log(alloc, q, net, candidate, SetPart::Step, conflicts)?;
     let safe = part_log(alloc, q, net, candidate, SetPart::Safe, conflicts)?;

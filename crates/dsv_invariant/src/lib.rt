@@ -4,6 +4,7 @@
 
 mod breaks;
 mod checking;
+mod formulas;
 mod leaving;
 mod outside;
 mod parts;
@@ -11,5 +12,6 @@ mod shape;
 mod size;
 
 pub use checking::check_candidate;
+pub use formulas::set_formula;
 pub use shape::shape_of;
 pub use size::{UNBOUNDED_SAMPLES, accept_unbounded};

@@ -43,7 +43,7 @@ impl From<NoMemory> for Obstacle {
 }
 
 /// The goal that a sentence of the candidate is broken.
-fn part_goal(
+pub(crate) fn part_goal(
     alloc: Global,
     q: &Quantised,
     net: &Netlist,

@@ -1,9 +1,8 @@
-use Rattle.std.proofs.Common.{◌≡◌, ◌∙◌, ◌-◌, ◌<◌, ℕ, ap, sym, subst, length, take, get_or, arith}
-use Rattle.std.proofs.Math.IntN.{ℤ, pos}
+use Rattle.std.proofs.Common.{◌≡◌, ◌∙◌, ◌-◌, ap, sym, subst, length, take, get_or, arith}
+use Rattle.std.proofs.Math.IntN.{pos}
 use Rattle.std.proofs.lemmas.Result.{IfOk-weaker}
 use Rattle.dsv_meaning.specs.Equations.{order, registers_of}
 use Rattle.dsv_template.specs.declared.verdict.SetPart.{SetPart}
-use Rattle.dsv_template.specs.declared.verdict.SetPart.TheVariants as part
 use Rattle.dsv_template.proofs.Membership.{shaped_parts}
 use Rattle.dsv_unroll.specs.SetGoals.{set_inputs}
 use Rattle.dsv_invariant.specs.Breaking.{DoBreak, IsFoundAt, IsBreakOf, IsUnsafeSample}

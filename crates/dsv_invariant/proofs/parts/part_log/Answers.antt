@@ -1,5 +1,3 @@
-use Rattle.std.proofs.Common.{ℕ, List, subst}
-use Rattle.dsv_term.specs.Terms.{AreValues}
 use Rattle.dsv_invariant.proofs.Sentences.{never_holds}
 use Rattle.dsv_invariant.proofs.parts.part_log.Goals as goal
 
