@@ -23,6 +23,7 @@ use Rattle.dsv_certfile.specs.declared.keyword.Keyword.{Keyword}
 use Rattle.dsv_certfile.specs.declared.numbers.Range.{Range}
 use Rattle.dsv_certfile.specs.declared.numbers.Range.TheVariants as range
 use Rattle.dsv_certfile.specs.declared.places.Place.TheVariants as place
+use Rattle.dsv_certfile.proofs.RangeLemmas.{row_has}
 
 -- a refusal of a part is that of the whole, where the whole is refused as the part is
 pub refuses_more : {X Y : Type 0} (why : CertRefusal) (part : Result X CertRefusal) (whole : Result Y CertRefusal)
@@ -48,12 +49,6 @@ pub places_taken : (w : Keyword) (r : Range) (n m : ℕ) → n ≤ m
     → take (n + 1) (place.Word w ∷ replicate m (place.Number r)) ≡ place.Word w ∷ replicate n (place.Number r)
 places_taken w r n m h = rw add-one (ap (λ ps. place.Word w ∷ ps) (take-replicate n m (place.Number r) h))
 
-how_many : (n : ℕ) (zs : List ℤ) → AreOf (replicate n (place.Number range.Entry)) zs → length zs ≡ n
-how_many zero [] h = refl
-how_many zero (z ∷ zs) h = absurd h
-how_many (suc n) [] h = absurd h
-how_many (suc n) (z ∷ zs) h = omega (arith, how_many n zs h.1)
-
 are_entries : (n : ℕ) (zs : List ℤ) → AreOf (replicate n (place.Number range.Entry)) zs
     → (k : ℕ) → unsigned_abs (get_or zs k (pos 0)) ≤ greatest_entry
 are_entries zero [] h k = omega arith
@@ -66,11 +61,11 @@ abbrev AreEntriesOf : Keyword → ℕ → List ℤ → Type 0
 AreEntriesOf w n zs = AreOf (place.Word w ∷ replicate n (place.Number range.Entry)) zs
 
 pub some_entries : (w : Keyword) (n : ℕ) (r : Result (List ℤ) TextFault) → 1 ≤ n → IfOk r (λ zs. AreEntriesOf w n zs) → IfOk r (λ zs. 0 < length zs)
-some_entries w n (Ok zs) h k = omega (arith, h, how_many n zs k)
+some_entries w n (Ok zs) h k = omega (arith, h, (row_has range.Entry n zs k).0)
 some_entries w n (Err why) h k = tt
 
 pub few_entries : (w : Keyword) (n : ℕ) (r : Result (List ℤ) TextFault) → n ≤ 17 → IfOk r (λ zs. AreEntriesOf w n zs) → IfOk r (λ zs. length zs ≤ 17)
-few_entries w n (Ok zs) h k = omega (arith, h, how_many n zs k)
+few_entries w n (Ok zs) h k = omega (arith, h, (row_has range.Entry n zs k).0)
 few_entries w n (Err why) h k = tt
 
 pub small_entries : (w : Keyword) (n : ℕ) (r : Result (List ℤ) TextFault) → IfOk r (λ zs. AreEntriesOf w n zs) → IfOk r (λ zs. AreEntries zs)

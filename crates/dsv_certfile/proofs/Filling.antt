@@ -44,12 +44,14 @@ padded [] n i z = repeated n i z
 padded (x ∷ xs) n zero z = refl
 padded (x ∷ xs) n (suc i) z = padded xs n i z
 
+pub length-filled : {A : Type 0} (n : ℕ) (xs : List A) (z : A) → length (take n (xs ++ replicate n z)) ≡ n
+length-filled n xs z = omega (arith, length-take n (xs ++ replicate n z), length-append xs (replicate n z), length-replicate n z)
+
 pub row_by_entries : (row xs : List ℤ) → length row ≡ greatest_order → ((k : ℕ) → k < greatest_order → get_or row k (pos 0) ≡ get_or xs k (pos 0)) → row ≡ row_of xs
 row_by_entries row xs long same =
     let filled = xs ++ replicate greatest_order (pos 0) in
-    let whole : length (row_of xs) ≡ greatest_order = omega (arith, length-take greatest_order filled, length-append xs (replicate greatest_order (pos 0)), length-replicate greatest_order (pos 0)) in
     fill_by_all (λ k. get_or xs k (pos 0)) row greatest_order (pos 0) long same
-    ∙ sym (fill_by_all (λ k. get_or xs k (pos 0)) (row_of xs) greatest_order (pos 0) whole
+    ∙ sym (fill_by_all (λ k. get_or xs k (pos 0)) (row_of xs) greatest_order (pos 0) (length-filled greatest_order xs (pos 0))
     (λ k h. get_or-take greatest_order filled k (pos 0) h ∙ padded xs greatest_order k (pos 0)))
 
 -- the entries from a place on

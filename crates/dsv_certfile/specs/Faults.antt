@@ -1,5 +1,7 @@
 -- The numbers of faults in reports.
 use Rattle.std.specs.Prelude.{ℕ}
+use Rattle.dsv_certfile.specs.declared.fault.CheckFault.{CheckFault}
+use Rattle.dsv_certfile.specs.declared.fault.CheckFault.TheVariants as check
 use Rattle.dsv_certfile.specs.declared.fault.TextFault.{TextFault}
 use Rattle.dsv_certfile.specs.declared.fault.TextFault.TheVariants as fault
 
@@ -9,3 +11,8 @@ code_of fault.Kind = 2
 code_of fault.Number = 3
 code_of fault.Line = 4
 code_of fault.End = 5
+
+abbrev pub check_code_of : CheckFault → ℕ
+check_code_of check.Step = 6
+check_code_of check.Form = 7
+check_code_of check.Shape = 8

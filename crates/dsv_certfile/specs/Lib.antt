@@ -3,9 +3,10 @@ pub mod Bodies
 pub mod Candidates
 pub mod Faults
 pub mod Headings
-pub mod Keywords
 pub mod Heads
+pub mod Keywords
 pub mod Kinds
+pub mod Lawful
 pub mod Limits
 pub mod Listing
 pub mod NextLine
@@ -17,5 +18,5 @@ pub mod PlacesRead
 pub mod Ranges
 pub mod Reading
 pub mod Steps
-pub mod Texts
 pub mod TextCode
+pub mod Texts

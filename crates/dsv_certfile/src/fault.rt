@@ -1,7 +1,7 @@
 // Why a text is no certificate.
 ghost use Rattle.std.specs.Prelude.{◌≡◌};
 ghost use Rattle.dsv_certfile.specs.Answers.{at_line};
-ghost use Rattle.dsv_certfile.specs.Faults.{code_of};
+ghost use Rattle.dsv_certfile.specs.Faults.{code_of, check_code_of};
 
 use dsv_base::NoMemory;
 use std::alloc::AllocFailed;
@@ -39,6 +39,34 @@ impl TextFault {
             TextFault::Number => 3,
             TextFault::Line => 4,
             TextFault::End => 5,
+        }
+    }
+}
+
+/// What is wrong with the claim of a line that reads well: it isn't so.
+#[derive(Clone, Copy, Debug, PartialEq, Eq, Error)]
+pub enum CheckFault {
+    /// A step that doesn't follow, or the end of a log that hasn't added the empty clause.
+    #[error("a step that doesn't follow, or an end too early")]
+    Step,
+    /// A form or its squares don't show what they have to.
+    #[error("a form that doesn't show what it has to")]
+    Form,
+    /// A candidate's numbers aren't as they have to be for the controller, a form hasn't the order
+    /// of the polynomial, or there is none, or the kind belongs to no such job.
+    #[error("a certificate of another shape than the controller's")]
+    Shape,
+}
+
+impl CheckFault {
+    /// The number of the fault in reports.
+    pub fn code(self) -> u8
+        ensures { result ≡ check_code_of self }
+    {
+        match self {
+            CheckFault::Step => 6,
+            CheckFault::Form => 7,
+            CheckFault::Shape => 8,
         }
     }
 }

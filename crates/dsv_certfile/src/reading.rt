@@ -2,6 +2,7 @@
 ghost use Rattle.std.specs.Prelude.{IfOk};
 ghost use Rattle.dsv_certfile.specs.Answers.{Gives, Reads};
 ghost use Rattle.dsv_certfile.specs.Heads.{IsHead};
+ghost use Rattle.dsv_certfile.specs.Lawful.{IsLawful};
 ghost use Rattle.dsv_certfile.specs.Reading.{body_in, certificate_in, heading_in};
 
 use crate::certificate::Certificate;
@@ -61,10 +62,12 @@ fn read_body(alloc: Global, lines: &mut Lines, heading: Heading) -> Result<Certi
     }
 }
 
-/// Reads the text of a certificate, or answers its first fault. It takes time in proportion to the
-/// text, and memory in proportion to what it keeps.
+/// Reads the text of a certificate, or answers its first fault. All numbers of a certificate that
+/// was read are in the ranges of the text. It takes time in proportion to the text, and memory in
+/// proportion to what it keeps.
 pub fn read(alloc: Global, bytes: &[u8]) -> Result<Certificate, CertRefusal>
-    ensures { Gives result (certificate_in bytes.now) }
+    ensures answer { Gives result (certificate_in bytes.now) }
+    ensures lawful { IfOk result IsLawful }
 {
     let mut lines = Lines::new(bytes);
     let heading = read_heading(&mut lines)?;

@@ -1,17 +1,18 @@
 // Writing the text of a certificate.
-ghost use Rattle.std.specs.Prelude.{◌++◌, ◌∷◌, map, take};
+ghost use Rattle.std.specs.Prelude.{◌++◌, ◌∷◌, [], map, take};
 ghost use Rattle.std.specs.List.{flat_map};
 ghost use Rattle.dsv_base.specs.Taking.{Writes};
 ghost use Rattle.dsv_base.specs.Text.{spaced_text};
 ghost use Rattle.dsv_certfile.specs.Texts.{line_text, size_pieces, job_line, inequality_line};
 ghost use Rattle.dsv_certfile.specs.Texts.{logs_lines, squares_lines, square_lines, falls_lines};
-ghost use Rattle.dsv_certfile.specs.Texts.{certificate_text, kind_line_of, body_lines};
-ghost use Rattle.dsv_certfile.specs.Texts.{numbers_line, piece_text};
+ghost use Rattle.dsv_certfile.specs.Texts.{certificate_text, version_line, numbers_line};
+ghost use Rattle.dsv_certfile.specs.Texts.{piece_text};
 ghost use Rattle.dsv_names.specs.Properties.{property_name};
 ghost use Rattle.dsv_names.specs.Realisations.{realisation_name};
 ghost use Rattle.dsv_names.specs.Roundings.{rounding_name};
 ghost use Rattle.dsv_names.specs.OverflowModes.{overflow_mode_name};
 ghost use Rattle.dsv_certfile.specs.Texts.{kind_line, candidate_counts, squares_head};
+ghost use Rattle.dsv_certfile.specs.declared.certificate.Certificate.TheVariants as certificate;
 ghost use Rattle.dsv_certfile.specs.declared.kind.Kind.TheVariants as kind;
 ghost use Rattle.dsv_certfile.specs.declared.keyword.Keyword.TheVariants as keyword;
 
@@ -21,6 +22,7 @@ use crate::keyword::Keyword;
 use crate::putting::{Row, put_entries, put_entry, put_log, put_name, put_rows, put_word};
 use dsv_base::{Failed, Sink, put_all, put_line, put_spaced};
 use dsv_forms::{Falls, GREATEST_ORDER, Squares};
+use dsv_hints::Log;
 use dsv_template::{Candidate, Inequality, ThreeLogs};
 
 // ---- the first lines
@@ -81,15 +83,29 @@ fn put_candidate_kind<K: Sink>(sink: &mut K, candidate: &Candidate) -> Result<()
     )
 }
 
-fn put_kind<K: Sink>(sink: &mut K, certificate: &Certificate) -> Result<(), Failed>
+/// Writes the lines of the version and the job.
+fn put_head<K: Sink>(sink: &mut K, job: &Job) -> Result<(), Failed>
     ensures { Writes (K.seen sink.old) (K.seen sink.new) result
-        (line_text (kind_line_of certificate.now)) }
+        (line_text version_line ++ line_text (job_line job.now)) }
 {
-    match certificate {
-        Certificate::Hints { .. } => put_all(sink, b"kind hints\n"),
-        Certificate::Invariant { candidate, .. } => put_candidate_kind(sink, candidate),
-        Certificate::Falls { offer, .. } => put_line(sink, b"kind falls", &[offer.form.d]),
-    }
+    put_all(sink, b"dsv-certificate 1\n")?;
+    put_job(sink, job)
+}
+
+/// Writes the kind line of hints.
+fn put_log_kind<K: Sink>(sink: &mut K) -> Result<(), Failed>
+    ensures { Writes (K.seen sink.old) (K.seen sink.new) result
+        (line_text (kind_line kind.Hints [])) }
+{
+    put_all(sink, b"kind hints\n")
+}
+
+/// Writes the kind line of a form that falls.
+fn put_form_kind<K: Sink>(sink: &mut K, offer: &Falls) -> Result<(), Failed>
+    ensures { Writes (K.seen sink.old) (K.seen sink.new) result
+        (line_text (kind_line kind.Falls (offer.now.form.d ∷ []))) }
+{
+    put_line(sink, b"kind falls", &[offer.form.d])
 }
 
 // ---- what follows them
@@ -207,29 +223,59 @@ fn put_invariant<K: Sink>(
     put_logs(sink, logs)
 }
 
-fn put_body<K: Sink>(sink: &mut K, certificate: &Certificate) -> Result<(), Failed>
+// ---- certificates
+
+/// Writes the text of a certificate whose log refutes the formula of its job. It takes no memory;
+/// where the sink fails, it took a prefix.
+pub fn write_hints<K: Sink>(sink: &mut K, job: &Job, log: &Log) -> Result<(), Failed>
     ensures { Writes (K.seen sink.old) (K.seen sink.new) result
-        (flat_map line_text (body_lines certificate.now)) }
+        (certificate_text (certificate.Hints job.now log.now)) }
 {
-    match certificate {
-        Certificate::Hints { log, .. } => put_log(sink, log),
-        Certificate::Invariant {
-            candidate,
-            logs,
-            ..
-        } => put_invariant(sink, candidate, logs),
-        Certificate::Falls { offer, .. } => put_falls(sink, offer),
-    }
+    put_head(sink, job)?;
+    put_log_kind(sink)?;
+    put_log(sink, log)?;
+    put_word(sink, Keyword::End)
 }
 
-/// Writes the text of the certificate. It takes no memory; where the sink fails, it took a prefix.
+/// Writes the text of a certificate of a set that is never left, as `write_hints` does.
+pub fn write_invariant<K: Sink>(
+    sink: &mut K,
+    job: &Job,
+    candidate: &Candidate,
+    logs: &ThreeLogs,
+) -> Result<(), Failed>
+    ensures { Writes (K.seen sink.old) (K.seen sink.new) result
+        (certificate_text (certificate.Invariant job.now candidate.now logs.now)) }
+{
+    put_head(sink, job)?;
+    put_candidate_kind(sink, candidate)?;
+    put_invariant(sink, candidate, logs)?;
+    put_word(sink, Keyword::End)
+}
+
+/// Writes the text of a certificate of a form that falls, as `write_hints` does.
+pub fn write_falls<K: Sink>(sink: &mut K, job: &Job, offer: &Falls) -> Result<(), Failed>
+    ensures { Writes (K.seen sink.old) (K.seen sink.new) result
+        (certificate_text (certificate.Falls job.now offer.now)) }
+{
+    put_head(sink, job)?;
+    put_form_kind(sink, offer)?;
+    put_falls(sink, offer)?;
+    put_word(sink, Keyword::End)
+}
+
+/// Writes the text of the certificate, as `write_hints` does.
 pub fn write<K: Sink>(certificate: &Certificate, sink: &mut K) -> Result<(), Failed>
     ensures { Writes (K.seen sink.old) (K.seen sink.new) result
         (certificate_text certificate.now) }
 {
-    put_all(sink, b"dsv-certificate 1\n")?;
-    put_job(sink, certificate.job())?;
-    put_kind(sink, certificate)?;
-    put_body(sink, certificate)?;
-    put_word(sink, Keyword::End)
+    match certificate {
+        Certificate::Hints { job, log } => write_hints(sink, job, log),
+        Certificate::Invariant {
+            job,
+            candidate,
+            logs,
+        } => write_invariant(sink, job, candidate, logs),
+        Certificate::Falls { job, offer } => write_falls(sink, job, offer),
+    }
 }

@@ -1,0 +1,48 @@
+-- A certificate that was read is one that texts spell.
+use Rattle.std.proofs.Common.{◌≡◌, ℕ, List, [], ◌∷◌, Ok, IfOk}
+use Rattle.std.proofs.lemmas.Result.{IfOk-at_ok}
+use Rattle.dsv_text.specs.Stages.{◌>>=◌}
+use Rattle.dsv_certfile.specs.Answers.{Reading}
+use Rattle.dsv_certfile.specs.Bodies.{whole_text, invariant_in, falls_in}
+use Rattle.dsv_certfile.specs.Lawful.{IsSize, IsLog, IsOffer, IsLawful}
+use Rattle.dsv_certfile.specs.Pieces.{TextLines, unended, line, all_lines}
+use Rattle.dsv_certfile.specs.Reading.{heading_in, body_in, certificate_in}
+use Rattle.dsv_certfile.specs.Steps.{log_in}
+use Rattle.dsv_certfile.specs.declared.certificate.Certificate.{Certificate}
+use Rattle.dsv_certfile.specs.declared.certificate.Certificate.TheVariants as certificate
+use Rattle.dsv_certfile.specs.declared.job.Job.{Job}
+use Rattle.dsv_certfile.specs.declared.keyword.Keyword.TheVariants as keyword
+use Rattle.dsv_certfile.specs.declared.kind.KindHead.{KindHead}
+use Rattle.dsv_certfile.specs.declared.kind.KindHead.TheVariants as head
+use Rattle.dsv_certfile.specs.declared.reading.Heading.{Heading}
+use Rattle.dsv_certfile.proofs.LawfulBodies.{IsProof, yields_invariant}
+use Rattle.dsv_certfile.proofs.LawfulFalls.{yields_falls}
+use Rattle.dsv_certfile.proofs.LawfulHeadings.{IsHeadFor, IsHeading, yields_heading}
+use Rattle.dsv_certfile.proofs.LawfulParts.{then_has, Yields, yields_made}
+use Rattle.dsv_certfile.proofs.LawfulSteps.{yields_log}
+
+yields_body : (job : Job) (h : KindHead) → IsSize job.size → IsHeadFor job h → Yields (body_in job h) IsLawful
+yields_body job head.Hints s e =
+    yields_made (log_in keyword.End) (certificate.Hints job) IsLog IsLawful (yields_log keyword.End) (λ log l. (record { size = s; belongs = e }, l))
+yields_body job (head.Invariant depth count) s e =
+    yields_made (invariant_in depth count) (λ i. certificate.Invariant job i.candidate i.logs) IsProof IsLawful (yields_invariant depth count e.1 e.2)
+    (λ i p. (record { size = s; belongs = e.0 }, p.0, p.1))
+yields_body job (head.Falls d) s e =
+    yields_made (falls_in d) (certificate.Falls job) IsOffer IsLawful (yields_falls d e.1) (λ offer o. (record { size = s; belongs = e.0 }, o))
+
+whole_text_has : (c : Certificate) (n : ℕ) (ls : TextLines) → IsLawful c → IfOk (whole_text c n ls) IsLawful
+whole_text_has c n (unended []) h = h
+whole_text_has c n (unended (b ∷ bs)) h = tt
+whole_text_has c n (line bytes more) h = tt
+
+certificate_has : (bytes : List ℕ) → IfOk (certificate_in bytes) IsLawful
+certificate_has bytes =
+    then_has (heading_in (all_lines bytes))
+    (λ (h : Reading Heading). body_in h.value.job h.value.kind h.left >>= λ body. whole_text body.value body.left.number body.left.lines)
+    (λ h. IsHeading h.value) IsLawful (yields_heading (all_lines bytes))
+    (λ h k. then_has (body_in h.value.job h.value.kind h.left) (λ (b : Reading Certificate). whole_text b.value b.left.number b.left.lines)
+    (λ b. IsLawful b.value) IsLawful (yields_body h.value.job h.value.kind k.size k.kind h.left)
+    (λ b l. whole_text_has b.value b.left.number b.left.lines l))
+
+pub read_is_lawful : (bytes : List ℕ) (c : Certificate) → certificate_in bytes ≡ Ok c → IsLawful c
+read_is_lawful bytes c e = IfOk-at_ok IsLawful e (certificate_has bytes)

@@ -1,0 +1,131 @@
+-- A certificate is read back from its text.
+use Rattle.std.proofs.Common.{◌≡◌, ◌∙◌, sym, ap, ℕ, ◌^◌, ◌<◌, [], ◌∷◌, ◌++◌, length, map, codes, decimal, Result, Ok, pos, refl, arith, append_assoc}
+use Rattle.std.specs.List.{All}
+use Rattle.std.proofs.lemmas.List.Elements.{All-cons, All-nil, All-append}
+use Rattle.dsv_text.specs.Stages.{◌>>=◌}
+use Rattle.dsv_certfile.specs.Answers.{Reading}
+use Rattle.dsv_certfile.specs.Bodies.{line_in, whole_text, invariant_in, falls_in}
+use Rattle.dsv_certfile.specs.Headings.{version_in, line_job, line_kind}
+use Rattle.dsv_certfile.specs.Lawful.{IsSize, IsLawful}
+use Rattle.dsv_certfile.specs.Limits.{greatest_depth, most_inequalities, most_places}
+use Rattle.dsv_certfile.specs.Pieces.{unended}
+use Rattle.dsv_certfile.specs.Reading.{heading_in, body_in, certificate_in}
+use Rattle.dsv_certfile.specs.Steps.{log_in}
+use Rattle.dsv_certfile.specs.Texts.{Line, log_lines, falls_lines, version_line, job_line, word_line, job_of, kind_line_of, body_lines, candidate_counts, certificate_lines, certificate_text, inequality_line, logs_lines}
+use Rattle.dsv_certfile.specs.declared.certificate.Certificate.{Certificate}
+use Rattle.dsv_certfile.specs.declared.certificate.Certificate.TheVariants as certificate
+use Rattle.dsv_certfile.specs.declared.fault.CertRefusal.{CertRefusal}
+use Rattle.dsv_certfile.specs.declared.invariant.SetProof.{SetProof}
+use Rattle.dsv_certfile.specs.declared.job.Job.{Job}
+use Rattle.dsv_certfile.specs.declared.keyword.Keyword.TheVariants as keyword
+use Rattle.dsv_certfile.specs.declared.kind.Kind.TheVariants as kind
+use Rattle.dsv_certfile.specs.declared.kind.KindHead.{KindHead}
+use Rattle.dsv_certfile.specs.declared.kind.KindHead.TheVariants as head
+use Rattle.dsv_certfile.specs.declared.reading.Heading.{Heading}
+use Rattle.dsv_certfile.proofs.WrittenBodies.{word_plain, takes_invariant, invariant_plain}
+use Rattle.dsv_certfile.proofs.WrittenFalls.{takes_falls, falls_plain}
+use Rattle.dsv_certfile.proofs.WrittenHeadings.{job_back, job_line-plain, kind_back, kind_line-plain}
+use Rattle.dsv_certfile.proofs.WrittenLines.{IsPlain, ArePlain, IsLine, line_bytes, onto_lines, lines-written}
+use Rattle.dsv_certfile.proofs.WrittenNumbers.{count_read, decimal_plain}
+use Rattle.dsv_certfile.proofs.WrittenParts.{Reader, Takes, and_read, takes_as, takes_both, takes_made, takes_line, left_at}
+use Rattle.dsv_certfile.proofs.WrittenSteps.{takes_log, log_plain}
+
+-- ---- the three first lines
+abbrev pub job_after : Job → Reader Heading
+job_after job ls = line_in (line_kind job) ls >>= λ kind. Ok (record { value = record { job = job; kind = kind.value }; left = kind.left })
+
+abbrev pub version_after : Unit {0} → Reader Heading
+version_after version = and_read (line_in line_job) job_after
+
+takes_heading : (job : Job) (h : KindHead) (line : Line) → IsSize job.size → line_kind job (line_bytes line) ≡ Ok h
+    → Takes heading_in (record { job = job; kind = h }) (version_line ∷ job_line job ∷ line ∷ [])
+takes_heading job h line s e =
+    let whole : Heading = record { job = job; kind = h } in
+    takes_both (line_in version_in) version_after tt whole (version_line ∷ []) (job_line job ∷ line ∷ []) (takes_line version_in version_line tt refl)
+    (takes_both (line_in line_job) job_after job whole (job_line job ∷ []) (line ∷ []) (takes_line line_job (job_line job) job (job_back job s))
+    (takes_made (line_in (line_kind job)) (λ kind. record { job = job; kind = kind }) h (line ∷ []) (takes_line (line_kind job) line h e)))
+
+-- ---- certificates
+-- The kind line says this, and what follows is read back.
+record IsReadBack (c : Certificate) (h : KindHead) : Type 0 where
+  size : IsSize (job_of c).size
+  kind : line_kind (job_of c) (line_bytes (kind_line_of c)) ≡ Ok h
+  kind_plain : IsLine (kind_line_of c)
+  body : Takes (body_in (job_of c) h) c (body_lines c ++ word_line keyword.End ∷ [])
+  body_plain : All IsLine (body_lines c)
+
+one_plain : (n : ℕ) → n < 10 ^ 64 → ArePlain (map decimal (n ∷ []))
+one_plain n h = All-cons IsPlain (decimal n) [] (decimal_plain n h) (All-nil IsPlain)
+
+abbrev head_of : Certificate → KindHead
+head_of (certificate.Hints job log) = head.Hints
+head_of (certificate.Invariant job candidate logs) = head.Invariant candidate.depth (length candidate.inequalities.items)
+head_of (certificate.Falls job offer) = head.Falls offer.form.d
+
+is_read_back : (c : Certificate) → IsLawful c → IsReadBack c (head_of c)
+is_read_back (certificate.Hints job log) h = record {
+  size = h.0.size;
+  kind = kind_back job kind.Hints [] [] h.0.belongs (All-nil IsPlain) tt;
+  kind_plain = kind_line-plain kind.Hints [] (All-nil IsPlain);
+  body = takes_made (log_in keyword.End) (certificate.Hints job) log (log_lines log ++ word_line keyword.End ∷ []) (takes_log keyword.End log h.1);
+  body_plain = log_plain log h.1;
+}
+is_read_back (certificate.Invariant job candidate logs) h =
+    let counts = candidate_counts candidate in
+    let few = length candidate.inequalities.items in
+    let depth = h.1.depth in
+    let many = h.1.few in
+    let inequalities = map inequality_line candidate.inequalities.items in
+    let end = word_line keyword.End ∷ [] in
+    let lines = inequalities ++ (logs_lines logs ++ end) in
+    let proof : SetProof = record { candidate = candidate; logs = logs } in
+    let whole = certificate.Invariant job candidate logs in
+    let plain : ArePlain (map decimal counts) =
+    All-cons IsPlain (decimal candidate.depth) (decimal few ∷ []) (decimal_plain candidate.depth (omega (arith, depth))) (one_plain few (omega (arith, many))) in
+    record {
+      size = h.0.size;
+      kind = kind_back job kind.Invariant counts (pos candidate.depth ∷ pos few ∷ []) h.0.belongs plain
+          (count_read greatest_depth candidate.depth (omega arith) depth, (count_read most_inequalities few (omega arith) many, tt));
+      kind_plain = kind_line-plain kind.Invariant counts plain;
+      body = takes_as (body_in job (head.Invariant candidate.depth few)) whole lines ((inequalities ++ logs_lines logs) ++ end)
+          (sym (append_assoc inequalities (logs_lines logs) end))
+          (takes_made (invariant_in candidate.depth few) (λ i. certificate.Invariant job i.candidate i.logs) proof lines (takes_invariant candidate logs h.1 h.2));
+      body_plain = invariant_plain candidate logs h.1 h.2;
+    }
+is_read_back (certificate.Falls job offer) h =
+    let few = h.1.form.few in
+    let plain = one_plain offer.form.d (omega (arith, few)) in
+    record {
+      size = h.0.size;
+      kind = kind_back job kind.Falls (offer.form.d ∷ []) (pos offer.form.d ∷ []) h.0.belongs plain (count_read most_places offer.form.d (omega arith) few, tt);
+      kind_plain = kind_line-plain kind.Falls (offer.form.d ∷ []) plain;
+      body = takes_made (falls_in offer.form.d) (certificate.Falls job) offer (falls_lines offer ++ word_line keyword.End ∷ []) (takes_falls offer h.1);
+      body_plain = falls_plain offer h.1;
+    }
+
+version_plain : IsLine version_line
+version_plain = All-cons IsPlain (codes "dsv-certificate") (codes "1" ∷ []) refl (All-cons IsPlain (codes "1") [] refl (All-nil IsPlain))
+
+lines_plain : (c : Certificate) (h : KindHead) → IsReadBack c h → All IsLine (certificate_lines c)
+lines_plain c h b =
+    let end = word_line keyword.End ∷ [] in
+    let body = body_lines c ++ end in
+    All-cons IsLine version_line (job_line (job_of c) ∷ kind_line_of c ∷ body) version_plain
+    (All-cons IsLine (job_line (job_of c)) (kind_line_of c ∷ body) (job_line-plain (job_of c) b.size)
+    (All-cons IsLine (kind_line_of c) body b.kind_plain
+    (All-append IsLine (body_lines c) end b.body_plain (All-cons IsLine (word_line keyword.End) [] (word_plain keyword.End) (All-nil IsLine)))))
+
+back_by : (c : Certificate) (h : KindHead) → IsReadBack c h → certificate_in (certificate_text c) ≡ Ok c
+back_by c h b =
+    let body = body_lines c ++ word_line keyword.End ∷ [] in
+    let rest = onto_lines body (unended []) in
+    let first = takes_heading (job_of c) h (kind_line_of c) b.size b.kind rest 1 in
+    let last = b.body (unended []) first.0 in
+    ap (λ ls. heading_in (left_at ls 1) >>= λ heading. body_in heading.value.job heading.value.kind heading.left
+    >>= λ body. whole_text body.value body.left.number body.left.lines) (lines-written (certificate_lines c) (lines_plain c h b))
+    ∙ ap (λ (r : Result (Reading Heading) CertRefusal). r >>= λ heading. body_in heading.value.job heading.value.kind heading.left
+    >>= λ body. whole_text body.value body.left.number body.left.lines) first.1
+    ∙ ap (λ (r : Result (Reading Certificate) CertRefusal). r >>= λ body. whole_text body.value body.left.number body.left.lines) last.1
+
+pub written_is_read : (c : Certificate) → IsLawful c → certificate_in (certificate_text c) ≡ Ok c
+written_is_read c h = back_by c (head_of c) (is_read_back c h)

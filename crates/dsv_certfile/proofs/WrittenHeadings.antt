@@ -1,0 +1,129 @@
+-- The three first lines of a certificate are read back.
+use Rattle.std.proofs.Common.{◌≡◌, ◌∙◌, ap, ℕ, true, false, List, [], ◌∷◌, map, decimal, Option, Some, Result, Ok, ℤ, refl, arith}
+use Rattle.std.specs.Str.{bytes_eq}
+use Rattle.std.proofs.lemmas.List.Elements.{All-cons, All-nil}
+use Rattle.dsv_text.specs.Stages.{◌>>=◌}
+use Rattle.dsv_names.proofs.NameLaws.{are_names-properties, are_names-realisations, are_names-roundings, are_names-overflow_modes}
+use Rattle.dsv_names.specs.Names.{value_named}
+use Rattle.dsv_names.specs.Properties.{property_name, properties}
+use Rattle.dsv_names.specs.Realisations.{realisation_name, realisations}
+use Rattle.dsv_names.specs.Roundings.{rounding_name, roundings}
+use Rattle.dsv_names.specs.OverflowModes.{overflow_mode_name, overflow_modes}
+use Rattle.dsv_names.specs.declared.overflow_mode.OverflowMode.{OverflowMode}
+use Rattle.dsv_names.specs.declared.overflow_mode.OverflowMode.TheVariants as overflow_mode
+use Rattle.dsv_names.specs.declared.property.RunProperty.TheVariants as run
+use Rattle.dsv_names.specs.declared.property.RootProperty.TheVariants as root
+use Rattle.dsv_names.specs.declared.property.Property.{Property}
+use Rattle.dsv_names.specs.declared.property.Property.TheVariants as property
+use Rattle.dsv_names.specs.declared.realisation.Realisation.{Realisation}
+use Rattle.dsv_names.specs.declared.realisation.Realisation.TheVariants as realisation
+use Rattle.dsv_names.specs.declared.rounding.Rounding.{Rounding}
+use Rattle.dsv_names.specs.declared.rounding.Rounding.TheVariants as rounding
+use Rattle.dsv_certfile.specs.Headings.{or_kind, beginning, name_in, size_in, job_in, line_job, of_job, head_in, head_with, kind_in, line_kind, kind_places}
+use Rattle.dsv_certfile.specs.Keywords.{keyword_text, unbounded_text}
+use Rattle.dsv_certfile.specs.Kinds.{kind_name, kinds, is_kind_of}
+use Rattle.dsv_certfile.specs.Lawful.{IsSize}
+use Rattle.dsv_certfile.specs.Texts.{size_pieces, job_line, kind_line}
+use Rattle.dsv_certfile.specs.declared.fault.TextFault.{TextFault}
+use Rattle.dsv_certfile.specs.declared.job.Job.{Job}
+use Rattle.dsv_certfile.specs.declared.job.Size.{Size}
+use Rattle.dsv_certfile.specs.declared.job.Size.TheVariants as size
+use Rattle.dsv_certfile.specs.declared.keyword.Keyword.TheVariants as keyword
+use Rattle.dsv_certfile.specs.declared.kind.Kind.{Kind}
+use Rattle.dsv_certfile.specs.declared.kind.Kind.TheVariants as kind
+use Rattle.dsv_certfile.proofs.HeadingLemmas.{whole_job}
+use Rattle.dsv_certfile.proofs.WrittenLines.{IsPlain, ArePlain, IsLine, line_bytes, pieces_of-line_bytes}
+use Rattle.dsv_certfile.proofs.WrittenNumbers.{samples_read, decimal_begins, decimal_plain, other_text}
+use Rattle.dsv_certfile.proofs.WrittenPlaces.{AreWritten, line_numbers-written}
+
+-- ---- names are plain
+property_plain : (p : Property) → IsPlain (property_name p)
+property_plain (property.OfRuns run.Overflow) = refl
+property_plain (property.OfRuns run.LimitCycle) = refl
+property_plain (property.OfRoots root.Stability) = refl
+property_plain (property.OfRoots root.MinimumPhase) = refl
+property_plain property.Timing = refl
+
+realisation_plain : (r : Realisation) → IsPlain (realisation_name r)
+realisation_plain realisation.Dfi = refl
+realisation_plain realisation.Dfii = refl
+realisation_plain realisation.Tdfii = refl
+realisation_plain realisation.Ddfi = refl
+realisation_plain realisation.Ddfii = refl
+realisation_plain realisation.Tddfii = refl
+
+rounding_plain : (r : Rounding) → IsPlain (rounding_name r)
+rounding_plain rounding.Floor = refl
+rounding_plain rounding.Ceil = refl
+rounding_plain rounding.Nearest = refl
+
+overflow_mode_plain : (m : OverflowMode) → IsPlain (overflow_mode_name m)
+overflow_mode_plain overflow_mode.Wrap = refl
+overflow_mode_plain overflow_mode.Saturate = refl
+
+kind_plain : (k : Kind) → IsPlain (kind_name k)
+kind_plain kind.Hints = refl
+kind_plain kind.Invariant = refl
+kind_plain kind.Falls = refl
+
+-- ---- the job line
+size_plain : (s : Size) → IsSize s → ArePlain (size_pieces s)
+size_plain size.NoSize h = All-nil IsPlain
+size_plain (size.Samples k) h = All-cons IsPlain (decimal k) [] (decimal_plain k (omega (arith, h.1))) (All-nil IsPlain)
+size_plain size.Unbounded h = All-cons IsPlain unbounded_text [] refl (All-nil IsPlain)
+
+pub job_line-plain : (job : Job) → IsSize job.size → IsLine (job_line job)
+job_line-plain job h =
+    let sizes = size_pieces job.size in
+    let modes = overflow_mode_name job.overflow ∷ sizes in
+    let roundings = rounding_name job.rounding ∷ modes in
+    let realisations = realisation_name job.realisation ∷ roundings in
+    All-cons IsPlain (keyword_text keyword.Job) (property_name job.property ∷ realisations) refl
+    (All-cons IsPlain (property_name job.property) realisations (property_plain job.property)
+    (All-cons IsPlain (realisation_name job.realisation) roundings (realisation_plain job.realisation)
+    (All-cons IsPlain (rounding_name job.rounding) modes (rounding_plain job.rounding)
+    (All-cons IsPlain (overflow_mode_name job.overflow) sizes (overflow_mode_plain job.overflow) (size_plain job.size h)))))
+
+size_written : (s : Size) → IsSize s → size_in (size_pieces s) ≡ Ok s
+size_written size.NoSize h = refl
+size_written (size.Samples k) h =
+    let other : bytes_eq (decimal k) unbounded_text ≡ false = other_text 117 _ (decimal k) (decimal_begins 117 k refl (omega (arith, h.1))) in
+    rw (other, samples_read k h.0 h.1) refl
+size_written size.Unbounded h = refl
+
+job_written : (job : Job) → IsSize job.size → job_in (job_line job) ≡ Ok job
+job_written job h =
+    let line = job_line job in
+    whole_job (beginning (keyword_text keyword.Job) line) (name_in property_name properties line 1) (name_in realisation_name realisations line 2)
+    (name_in rounding_name roundings line 3) (name_in overflow_mode_name overflow_modes line 4) (size_in (size_pieces job.size))
+    job.property job.realisation job.rounding job.overflow job.size
+    refl (ap or_kind (are_names-properties.found job.property)) (ap or_kind (are_names-realisations.found job.realisation))
+    (ap or_kind (are_names-roundings.found job.rounding)) (ap or_kind (are_names-overflow_modes.found job.overflow)) (size_written job.size h)
+
+pub job_back : (job : Job) → IsSize job.size → line_job (line_bytes (job_line job)) ≡ Ok job
+job_back job h = ap job_in (pieces_of-line_bytes (job_line job) (job_line-plain job h)) ∙ job_written job h
+
+-- ---- the kind line
+kind_found : (k : Kind) → value_named kind_name kinds (kind_name k) ≡ Some k
+kind_found kind.Hints = refl
+kind_found kind.Invariant = refl
+kind_found kind.Falls = refl
+
+pub kind_line-plain : (k : Kind) (numbers : List ℕ) → ArePlain (map decimal numbers) → IsLine (kind_line k numbers)
+kind_line-plain k numbers h =
+    All-cons IsPlain (keyword_text keyword.Kind) (kind_name k ∷ map decimal numbers) refl (All-cons IsPlain (kind_name k) (map decimal numbers) (kind_plain k) h)
+
+kind_written : (job : Job) (k : Kind) (numbers : List ℕ) (zs : List ℤ) → is_kind_of job k ≡ true → AreWritten (kind_places k) (map decimal numbers) zs
+    → kind_in job (kind_line k numbers) ≡ Ok (head_with k zs)
+kind_written job k numbers zs belongs h =
+    let pieces = map decimal numbers in
+    let of : of_job job k ≡ Ok k = rw belongs refl in
+    ap (λ (o : Option Kind). or_kind o >>= λ l. of_job job l >>= λ l. head_in l pieces) (kind_found k)
+    ∙ ap (λ (r : Result Kind TextFault). r >>= λ l. head_in l pieces) of
+    ∙ ap (λ (r : Result (List ℤ) TextFault). r >>= λ ns. Ok (head_with k ns)) (line_numbers-written (kind_places k) pieces zs h)
+
+pub kind_back : (job : Job) (k : Kind) (numbers : List ℕ) (zs : List ℤ) → is_kind_of job k ≡ true → ArePlain (map decimal numbers)
+    → AreWritten (kind_places k) (map decimal numbers) zs → line_kind job (line_bytes (kind_line k numbers)) ≡ Ok (head_with k zs)
+kind_back job k numbers zs belongs plain h =
+    ap (kind_in job) (pieces_of-line_bytes (kind_line k numbers) (kind_line-plain k numbers plain))
+    ∙ kind_written job k numbers zs belongs h
