@@ -1,7 +1,9 @@
-//! Tests of certificates as text.
+//! Tests of certificates: their text, and their check.
 #![tactic(auto)]
 
 #[cfg(test)]
 mod certificates;
+#[cfg(test)]
+mod checks;
 #[cfg(test)]
 mod refusals;

@@ -1,0 +1,4 @@
+pub mod CheckLemmas
+pub mod Passing
+pub mod TestedCoefficients
+pub mod WordsFound

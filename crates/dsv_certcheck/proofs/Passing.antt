@@ -1,0 +1,93 @@
+-- A claim that is so passes its check.
+use Rattle.std.proofs.Common.{◌≡◌, ◌∙◌, ap, sym, ℕ, ◌+◌, ◌-◌, ◌<◌, ◌==◌, nat_le, true, not, List, [], length, None, Result, Ok, Err, if◌then◌else◌, arith}
+use Rattle.std.proofs.Math.IntN.{ℤ}
+use Rattle.std.proofs.lemmas.Bool.{and_from, le-leb, le-ltb, eq-eqb, eqb-true, not-false}
+use Rattle.dsv_algebra.specs.Vectors.{vector_of, matrix_of}
+use Rattle.dsv_algebra.specs.Companion.{fall_entry}
+use Rattle.dsv_text.specs.Stages.{◌>>=◌}
+use Rattle.dsv_names.specs.declared.property.Property.TheVariants as property
+use Rattle.dsv_names.specs.declared.property.RunProperty.{RunProperty}
+use Rattle.dsv_names.specs.declared.property.RunProperty.TheVariants as run
+use Rattle.dsv_names.specs.declared.property.RootProperty.{RootProperty}
+use Rattle.dsv_quantiser.specs.FixedPoint.{FixedPoint}
+use Rattle.dsv_cnf.specs.FormulaView.{FormulaView}
+use Rattle.dsv_hints.specs.Derivation.{verdict_of}
+use Rattle.dsv_hints.specs.declared.step.Step.{Step}
+use Rattle.dsv_hints.specs.declared.step.Verdict.TheVariants as verdict
+use Rattle.dsv_unroll.specs.Goals.{most_size}
+use Rattle.dsv_bounded.specs.Formulas.{job_size_of}
+use Rattle.dsv_bounded.specs.RunQuestions.{question_formula, IsWithin}
+use Rattle.dsv_forms.specs.Refusals.{first_of, is_symmetric, bad_form, form_tests, fall_numbers, definite_tests, falls_refusal}
+use Rattle.dsv_forms.specs.declared.offers.Falls.{Falls}
+use Rattle.dsv_forms.specs.declared.refusal.FormRefusal.TheVariants as form_refusal
+use Rattle.dsv_forms.specs.declared.refusal.Part.TheVariants as form_part
+use Rattle.dsv_forms.proofs.OfferLemmas.{falls_parts}
+use Rattle.dsv_forms.proofs.Places.{or_else, neither, neither_test, passes}
+use Rattle.dsv_tested.specs.Tested.{tested_of}
+use Rattle.dsv_tested.specs.declared.side.Tested.{Tested}
+use Rattle.dsv_tested.specs.declared.side.Tested.TheVariants as tested
+use Rattle.dsv_delta.specs.declared.refusal.PolyWide.{PolyWide}
+use Rattle.dsv_template.specs.declared.candidate.Candidate.{Candidate}
+use Rattle.dsv_template.specs.declared.verdict.SetPart.TheVariants as part
+use Rattle.dsv_template.specs.declared.verdict.ThreeLogs.{ThreeLogs}
+use Rattle.dsv_invariant.specs.Causes.{IsShaped, IsGood}
+use Rattle.dsv_invariant.specs.Formulas.{set_formula_of}
+use Rattle.dsv_invariant.specs.declared.size.TheConstants.{UNBOUNDED_SAMPLES}
+use Rattle.dsv_certfile.specs.Lawful.{IsSize}
+use Rattle.dsv_certfile.specs.Limits.{most_samples}
+use Rattle.dsv_certfile.specs.declared.job.Size.TheVariants as size
+use Rattle.dsv_certcheck.specs.Checks.{Checked, misfit, size_check, verdict_at, log_check, run_check, is_some_samples, hints_check, sentences_check, shape_check, invariant_check, refusal_check, offer_check, tested_check, side_of, falls_check}
+use Rattle.dsv_certcheck.specs.LineNumbers.{body_line, log_line}
+use Rattle.dsv_certcheck.specs.declared.check_refusal.CheckRefusal.TheVariants as refusal
+use Rattle.dsv_certcheck.proofs.TestedCoefficients.{some_coefficients}
+
+-- a question that is no larger than what is asked of formulas
+size_passes : (q : FixedPoint) (samples : ℕ) → IsWithin q samples → size_check q samples ≡ Ok tt
+size_passes q samples w =
+    ap (λ b. if b then Err (refusal.JobSize (job_size_of q samples)) else Ok tt) (le-ltb most_size (job_size_of q samples) w)
+
+-- ---- logs
+log_passes : (formula : FormulaView) (line : ℕ) (log : List Step) → verdict_of formula log ≡ verdict.Accepted → log_check formula line log ≡ Ok tt
+log_passes formula line log e = ap (verdict_at line) e
+
+some_samples : (k : ℕ) → IsSize (size.Samples k) → is_some_samples k ≡ true
+some_samples k s = and_from (nat_le 1 k) (nat_le k most_samples) (le-leb 1 k s.0) (le-leb k most_samples s.1)
+
+pub hints_pass : (q : FixedPoint) (p : RunProperty) (k : ℕ) (log : List Step) → IsSize (size.Samples k) → IsWithin q k → verdict_of (question_formula p q k) log ≡ verdict.Accepted
+    → hints_check q (property.OfRuns p) (size.Samples k) log ≡ Ok tt
+hints_pass q p k log s w e =
+    ap (λ b. if b then run_check q p k log else misfit) (some_samples k s)
+    ∙ ap (λ (r : Checked). r >>= λ x. log_check (question_formula p q k) body_line log) (size_passes q k w)
+    ∙ log_passes (question_formula p q k) body_line log e
+
+-- ---- an invariant
+pub invariant_passes : (q : FixedPoint) (conflicts : ℕ) (candidate : Candidate) (logs : ThreeLogs) → IsWithin q UNBOUNDED_SAMPLES → IsShaped q candidate → IsGood q conflicts candidate logs
+    → invariant_check q (property.OfRuns run.Overflow) size.Unbounded candidate logs ≡ Ok tt
+invariant_passes q conflicts candidate logs w shaped good =
+    let safe = log_check (set_formula_of q candidate part.Safe) (log_line part.Safe candidate logs) logs.safe in
+    let step = log_check (set_formula_of q candidate part.Step) (log_line part.Step candidate logs) logs.step in
+    ap (λ (r : Checked). r >>= λ x. shape_check q candidate >>= λ y. sentences_check q candidate logs) (size_passes q UNBOUNDED_SAMPLES w)
+    ∙ ap (λ (r : Checked). r >>= λ x. sentences_check q candidate logs) (ap (λ b. if b then Ok tt else misfit) shaped)
+    ∙ ap (λ (r : Checked). r >>= λ x. step >>= λ y. safe) (log_passes (set_formula_of q candidate part.Base) (log_line part.Base candidate logs) logs.base good.base.accepted)
+    ∙ ap (λ (r : Checked). r >>= λ x. safe) (log_passes (set_formula_of q candidate part.Step) (log_line part.Step candidate logs) logs.step good.step.accepted)
+    ∙ log_passes (set_formula_of q candidate part.Safe) (log_line part.Safe candidate logs) logs.safe good.safe.accepted
+
+-- ---- a form that falls
+-- an offer that is accepted has the polynomial's order
+same_order : (c : List ℤ) (offer : Falls) → falls_refusal c offer ≡ None → offer.form.d ≡ length c - 1
+same_order c offer e =
+    let d = length c - 1 in
+    let P = matrix_of offer.form.rows in
+    let after = or_else (first_of (definite_tests form_part.Positive d offer.positive P (λ i j. []))) (first_of (definite_tests form_part.Fall d offer.fall (fall_entry d (vector_of c) P) (fall_numbers d (vector_of c) P))) in
+    let none = neither (first_of (form_tests d offer.form)) after (sym (falls_parts d (vector_of c) offer) ∙ e) in
+    let right = neither_test (not (offer.form.d == d)) (not (is_symmetric d P)) (passes (bad_form d offer.form) (form_refusal.Shape form_part.Form) none.0) in
+    eqb-true offer.form.d d (not-false (offer.form.d == d) right.0)
+
+offer_passes : (c : List ℤ) (offer : Falls) → 0 < length c → falls_refusal c offer ≡ None → offer_check c offer ≡ Ok tt
+offer_passes c offer some e =
+    ap (λ b. if b then refusal_check offer (falls_refusal c offer) else misfit) (eq-eqb (offer.form.d + 1) (length c) (let o = same_order c offer e in omega (arith, some, o)))
+    ∙ ap (refusal_check offer) e
+
+pub falls_pass : (q : FixedPoint) (p : RootProperty) (c : List ℤ) (offer : Falls) → tested_of q (side_of p) ≡ Ok (tested.Poly c) → falls_refusal c offer ≡ None
+    → falls_check q (property.OfRoots p) size.NoSize offer ≡ Ok tt
+falls_pass q p c offer t e = ap (λ (r : Result Tested PolyWide). tested_check r offer) t ∙ offer_passes c offer (some_coefficients q (side_of p) c t) e

@@ -1,0 +1,98 @@
+-- What is found of words isn't that there are none.
+use Rattle.std.proofs.Common.{ℕ, Bool, true, false, List, Option, Some, None, Result, Ok, Err}
+use Rattle.std.specs.Prelude.{if◌then◌else◌, nat_lt, ◌+◌, ◌==◌, length}
+use Rattle.std.proofs.Math.IntN.{ℤ}
+use Rattle.dsv_text.specs.Stages.{◌>>=◌}
+use Rattle.dsv_names.specs.declared.property.Property.{Property}
+use Rattle.dsv_names.specs.declared.property.Property.TheVariants as property
+use Rattle.dsv_names.specs.declared.property.RunProperty.TheVariants as run
+use Rattle.dsv_quantiser.specs.FixedPoint.{FixedPoint}
+use Rattle.dsv_meaning.specs.Equations.{order, registers_of}
+use Rattle.dsv_cnf.specs.FormulaView.{FormulaView}
+use Rattle.dsv_hints.specs.Derivation.{verdict_of}
+use Rattle.dsv_hints.specs.declared.step.Step.{Step}
+use Rattle.dsv_hints.specs.declared.step.Verdict.{Verdict}
+use Rattle.dsv_hints.specs.declared.step.Verdict.TheVariants as verdict
+use Rattle.dsv_unroll.specs.Goals.{most_size}
+use Rattle.dsv_bounded.specs.Formulas.{job_size_of}
+use Rattle.dsv_delta.specs.declared.refusal.PolyWide.{PolyWide}
+use Rattle.dsv_forms.specs.Refusals.{falls_refusal}
+use Rattle.dsv_forms.specs.declared.offers.Falls.{Falls}
+use Rattle.dsv_forms.specs.declared.refusal.FormRefusal.{FormRefusal}
+use Rattle.dsv_tested.specs.Tested.{tested_of}
+use Rattle.dsv_tested.specs.declared.side.Tested.{Tested}
+use Rattle.dsv_tested.specs.declared.side.Tested.TheVariants as tested
+use Rattle.dsv_template.specs.Candidates.{is_shaped}
+use Rattle.dsv_template.specs.declared.candidate.Candidate.{Candidate}
+use Rattle.dsv_template.specs.declared.verdict.ThreeLogs.{ThreeLogs}
+use Rattle.dsv_certfile.specs.declared.certificate.Certificate.{Certificate}
+use Rattle.dsv_certfile.specs.declared.certificate.Certificate.TheVariants as certificate
+use Rattle.dsv_certfile.specs.declared.job.Size.{Size}
+use Rattle.dsv_certfile.specs.declared.job.Size.TheVariants as size
+use Rattle.dsv_certcheck.specs.Checks.{Checked, misfit, size_check, verdict_at, log_check, run_check, is_some_samples, hints_check, sentences_check, shape_check, set_check, invariant_check, refusal_check, offer_check, tested_check, side_of, falls_check, words_check}
+use Rattle.dsv_certcheck.specs.declared.check_refusal.CheckRefusal.TheVariants as refusal
+
+-- it isn't found that there are no words
+abbrev pub HasWords : Checked → Type 0
+HasWords (Ok x) = Unit {0}
+HasWords (Err (refusal.Quant why)) = ⊥
+HasWords (Err other) = Unit {0}
+
+-- ---- stages
+has_then : (r : Checked) (f : Unit {0} → Checked) → HasWords r → ((x : Unit {0}) → HasWords (f x)) → HasWords (r >>= f)
+has_then (Ok x) f h g = g x
+has_then (Err e) f h g = h
+
+has_either : (b : Bool) (x y : Checked) → HasWords x → HasWords y → HasWords (if b then x else y)
+has_either true x y h k = h
+has_either false x y h k = k
+
+has_size : (q : FixedPoint) (samples : ℕ) → HasWords (size_check q samples)
+has_size q samples = has_either (nat_lt most_size (job_size_of q samples)) (Err (refusal.JobSize (job_size_of q samples))) (Ok tt) tt tt
+
+has_verdict : (line : ℕ) (v : Verdict) → HasWords (verdict_at line v)
+has_verdict line verdict.Accepted = tt
+has_verdict line (verdict.Refused step why) = tt
+
+has_log : (f : FormulaView) (line : ℕ) (log : List Step) → HasWords (log_check f line log)
+has_log f line log = has_verdict line (verdict_of f log)
+
+-- ---- kinds
+has_hints : (q : FixedPoint) (p : Property) (s : Size) (log : List Step) → HasWords (hints_check q p s log)
+has_hints q (property.OfRuns p) (size.Samples k) log =
+    has_either (is_some_samples k) (run_check q p k log) misfit (has_then (size_check q k) _ (has_size q k) (λ x. has_log _ _ log)) tt
+has_hints q p s log = tt
+
+has_sentences : (q : FixedPoint) (c : Candidate) (logs : ThreeLogs) → HasWords (sentences_check q c logs)
+has_sentences q c logs = has_then _ _ (has_log _ _ logs.base) (λ x. has_then _ _ (has_log _ _ logs.step) (λ y. has_log _ _ logs.safe))
+
+has_set : (q : FixedPoint) (c : Candidate) (logs : ThreeLogs) → HasWords (set_check q c logs)
+has_set q c logs =
+    has_then _ _ (has_size q _) (λ x. has_then (shape_check q c) _
+    (has_either (is_shaped (registers_of q.realisation (order q)) c) (Ok tt) misfit tt tt) (λ y. has_sentences q c logs))
+
+has_invariant : (q : FixedPoint) (p : Property) (s : Size) (c : Candidate) (logs : ThreeLogs) → HasWords (invariant_check q p s c logs)
+has_invariant q (property.OfRuns run.Overflow) size.Unbounded c logs = has_set q c logs
+has_invariant q p s c logs = tt
+
+has_refusal : (offer : Falls) (r : Option FormRefusal) → HasWords (refusal_check offer r)
+has_refusal offer None = tt
+has_refusal offer (Some why) = tt
+
+has_offer : (c : List ℤ) (offer : Falls) → HasWords (offer_check c offer)
+has_offer c offer = has_either (offer.form.d + 1 == length c) (refusal_check offer (falls_refusal c offer)) misfit (has_refusal offer (falls_refusal c offer)) tt
+
+has_tested : (r : Result Tested PolyWide) (offer : Falls) → HasWords (tested_check r offer)
+has_tested (Ok (tested.Poly c)) offer = has_offer c offer
+has_tested (Ok tested.NoZeros) offer = tt
+has_tested (Err wide) offer = tt
+
+has_falls : (q : FixedPoint) (p : Property) (s : Size) (offer : Falls) → HasWords (falls_check q p s offer)
+has_falls q (property.OfRoots p) size.NoSize offer = has_tested (tested_of q (side_of p)) offer
+has_falls q p s offer = tt
+
+-- ---- certificates
+pub has_words : (q : FixedPoint) (c : Certificate) → HasWords (words_check q c)
+has_words q (certificate.Hints job log) = has_hints q job.property job.size log
+has_words q (certificate.Invariant job candidate logs) = has_invariant q job.property job.size candidate logs
+has_words q (certificate.Falls job offer) = has_falls q job.property job.size offer

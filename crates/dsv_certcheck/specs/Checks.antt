@@ -1,0 +1,189 @@
+-- What the check of a certificate finds for a controller in words: nothing, or the first line whose
+-- claim isn't so, or why there is nothing to check it against.
+use Rattle.std.specs.Prelude.{◌≡◌, ℕ, ◌+◌, ◌==◌, ◌&&◌, nat_le, nat_lt, Bool, List, length}
+use Rattle.std.specs.Prelude.{Option, Some, None, Result, Ok, Err, if◌then◌else◌, ℤ}
+use Rattle.dsv_text.specs.Stages.{◌>>=◌}
+use Rattle.dsv_names.specs.declared.property.Property.{Property}
+use Rattle.dsv_names.specs.declared.property.Property.TheVariants as property
+use Rattle.dsv_names.specs.declared.property.RunProperty.{RunProperty}
+use Rattle.dsv_names.specs.declared.property.RunProperty.TheVariants as run
+use Rattle.dsv_names.specs.declared.property.RootProperty.{RootProperty}
+use Rattle.dsv_names.specs.declared.property.RootProperty.TheVariants as root
+use Rattle.dsv_word.specs.declared.format.Format.{Format}
+use Rattle.dsv_reader.specs.Controllers.{ControllerView}
+use Rattle.dsv_quantiser.specs.FixedPoint.{FixedPoint}
+use Rattle.dsv_quantiser.specs.Quantising.{fixed_point_of}
+use Rattle.dsv_quantiser.specs.declared.refusal.QuantRefusal.{QuantRefusal}
+use Rattle.dsv_meaning.specs.Equations.{order, registers_of}
+use Rattle.dsv_cnf.specs.FormulaView.{FormulaView}
+use Rattle.dsv_hints.specs.Derivation.{verdict_of}
+use Rattle.dsv_hints.specs.declared.step.Step.{Step}
+use Rattle.dsv_hints.specs.declared.step.Verdict.{Verdict}
+use Rattle.dsv_hints.specs.declared.step.Verdict.TheVariants as verdict
+use Rattle.dsv_unroll.specs.Goals.{most_size}
+use Rattle.dsv_bounded.specs.Formulas.{job_size_of}
+use Rattle.dsv_bounded.specs.RunQuestions.{question_formula}
+use Rattle.dsv_delta.specs.declared.refusal.PolyWide.{PolyWide}
+use Rattle.dsv_forms.specs.Refusals.{falls_refusal}
+use Rattle.dsv_forms.specs.declared.offers.Falls.{Falls}
+use Rattle.dsv_forms.specs.declared.refusal.FormRefusal.{FormRefusal}
+use Rattle.dsv_tested.specs.Tested.{tested_of}
+use Rattle.dsv_tested.specs.declared.side.Side.{Side}
+use Rattle.dsv_tested.specs.declared.side.Side.TheVariants as side
+use Rattle.dsv_tested.specs.declared.side.Tested.{Tested}
+use Rattle.dsv_tested.specs.declared.side.Tested.TheVariants as tested
+use Rattle.dsv_template.specs.Candidates.{is_shaped}
+use Rattle.dsv_template.specs.declared.candidate.Candidate.{Candidate}
+use Rattle.dsv_template.specs.declared.verdict.SetPart.TheVariants as part
+use Rattle.dsv_template.specs.declared.verdict.ThreeLogs.{ThreeLogs}
+use Rattle.dsv_invariant.specs.Formulas.{set_formula_of}
+use Rattle.dsv_invariant.specs.declared.size.TheConstants.{UNBOUNDED_SAMPLES}
+use Rattle.dsv_certcheck.specs.FormLines.{form_line}
+use Rattle.dsv_certcheck.specs.LineNumbers.{kind_line, body_line, log_line}
+use Rattle.dsv_certfile.specs.Limits.{most_samples}
+use Rattle.dsv_certfile.specs.Texts.{job_of}
+use Rattle.dsv_certfile.specs.declared.certificate.Certificate.{Certificate}
+use Rattle.dsv_certfile.specs.declared.certificate.Certificate.TheVariants as certificate
+use Rattle.dsv_certfile.specs.declared.fault.CheckFault.{CheckFault}
+use Rattle.dsv_certfile.specs.declared.fault.CheckFault.TheVariants as fault
+use Rattle.dsv_certcheck.specs.declared.check_refusal.CheckRefusal.{CheckRefusal}
+use Rattle.dsv_certcheck.specs.declared.check_refusal.CheckRefusal.TheVariants as refusal
+use Rattle.dsv_certfile.specs.declared.job.Job.{Job}
+use Rattle.dsv_certfile.specs.declared.job.Size.{Size}
+use Rattle.dsv_certfile.specs.declared.job.Size.TheVariants as size
+
+-- nothing, or a refusal
+abbrev pub Checked : Type 0
+Checked = Result (Unit {0}) CheckRefusal
+
+-- the line's claim isn't so
+abbrev pub refused : ℕ → CheckFault → Checked
+refused line why = Err (refusal.Line line why)
+
+-- the kind belongs to no such job
+abbrev pub misfit : Checked
+misfit = refused kind_line fault.Shape
+
+-- a question about runs over so many samples is larger than what is asked of formulas
+abbrev pub size_check : FixedPoint → ℕ → Checked
+size_check q samples = if nat_lt most_size (job_size_of q samples)
+    then Err (refusal.JobSize (job_size_of q samples)) else Ok tt
+
+-- ---- logs
+-- what the verdict on a log says of its lines, the first of which has this number
+abbrev pub verdict_at : ℕ → Verdict → Checked
+verdict_at line verdict.Accepted = Ok tt
+verdict_at line (verdict.Refused step why) = refused (line + step) fault.Step
+
+-- the log derives the empty clause from the formula; or its first step that doesn't follow, or the
+-- line after it where it ends too early
+abbrev pub log_check : FormulaView → ℕ → List Step → Checked
+log_check formula line log = verdict_at line (verdict_of formula log)
+
+-- ---- hints
+-- the log refutes that a property of runs happens within so many samples
+abbrev pub run_check : FixedPoint → RunProperty → ℕ → List Step → Checked
+run_check q p samples log = size_check q samples >>= λ _.
+    log_check (question_formula p q samples) body_line log
+
+abbrev pub is_some_samples : ℕ → Bool
+is_some_samples samples = nat_le 1 samples && nat_le samples most_samples
+
+abbrev pub hints_check : FixedPoint → Property → Size → List Step → Checked
+hints_check q (property.OfRuns p) (size.Samples k) log =
+    if is_some_samples k then run_check q p k log else misfit
+hints_check q p s log = misfit
+
+-- ---- an invariant
+-- each log refutes that its sentence of the candidate is broken
+abbrev pub sentences_check : FixedPoint → Candidate → ThreeLogs → Checked
+sentences_check q candidate logs =
+    log_check (set_formula_of q candidate part.Base)
+    (log_line part.Base candidate logs) logs.base >>= λ _.
+    log_check (set_formula_of q candidate part.Step)
+    (log_line part.Step candidate logs) logs.step >>= λ _.
+    log_check (set_formula_of q candidate part.Safe)
+    (log_line part.Safe candidate logs) logs.safe
+
+-- the candidate's numbers are as they have to be for the controller's registers
+abbrev pub shape_check : FixedPoint → Candidate → Checked
+shape_check q candidate = if is_shaped (registers_of q.realisation (order q)) candidate
+    then Ok tt else misfit
+
+abbrev pub set_check : FixedPoint → Candidate → ThreeLogs → Checked
+set_check q candidate logs =
+    size_check q UNBOUNDED_SAMPLES >>= λ _.
+    shape_check q candidate >>= λ _.
+    sentences_check q candidate logs
+
+abbrev pub invariant_check : FixedPoint → Property → Size → Candidate → ThreeLogs → Checked
+invariant_check q (property.OfRuns run.Overflow) size.Unbounded candidate logs =
+    set_check q candidate logs
+invariant_check q p s candidate logs = misfit
+
+-- ---- falls
+-- the line at which a form is refused, where it is
+abbrev pub refusal_check : Falls → Option FormRefusal → Checked
+refusal_check offer None = Ok tt
+refusal_check offer (Some why) = refused (form_line offer why) fault.Form
+
+-- the form has the polynomial's order, and falls along its trajectories
+abbrev pub offer_check : List ℤ → Falls → Checked
+offer_check c offer = if offer.form.d + 1 == length c
+    then refusal_check offer (falls_refusal c offer) else misfit
+
+-- the same for what is tested of a controller
+abbrev pub tested_check : Result Tested PolyWide → Falls → Checked
+tested_check (Ok (tested.Poly c)) offer = offer_check c offer
+tested_check (Ok tested.NoZeros) offer = Err refusal.NoZeros
+tested_check (Err wide) offer = Err (refusal.Wide wide.index)
+
+-- the side of the controller that a property tests: stability its denominator, minimum phase its
+-- numerator
+abbrev pub side_of : RootProperty → Side
+side_of root.Stability = side.Denominator
+side_of root.MinimumPhase = side.Numerator
+
+abbrev pub falls_check : FixedPoint → Property → Size → Falls → Checked
+falls_check q (property.OfRoots p) size.NoSize offer =
+    tested_check (tested_of q (side_of p)) offer
+falls_check q p s offer = misfit
+
+-- ---- certificates
+-- for a controller in words
+abbrev pub words_check : FixedPoint → Certificate → Checked
+words_check q (certificate.Hints job log) = hints_check q job.property job.size log
+words_check q (certificate.Invariant job candidate logs) =
+    invariant_check q job.property job.size candidate logs
+words_check q (certificate.Falls job offer) = falls_check q job.property job.size offer
+
+-- The format has the widths of the controller and the modes of the job.
+pub record IsFormatFor (c : ControllerView) (job : Job) (format : Format) : Type 0 where
+  pub int_bits : format.int_bits ≡ c.int_bits
+  pub frac_bits : format.frac_bits ≡ c.frac_bits
+  pub rounding : format.rounding ≡ job.rounding
+  pub overflow : format.overflow ≡ job.overflow
+
+-- In the job's modes and realisation the controller becomes these words, or is refused so.
+pub record BecomesWords (c : ControllerView) (job : Job)
+    (outcome : Result FixedPoint QuantRefusal) : Type 0 where
+  pub format : Format
+  pub modes : IsFormatFor c job format
+  pub becomes : fixed_point_of c format job.realisation ≡ outcome
+
+-- This is found of the words that the controller becomes.
+pub record IsFoundOf (c : ControllerView) (cert : Certificate) (found : Checked) : Type 0 where
+  pub words : FixedPoint
+  pub becomes : BecomesWords c (job_of cert) (Ok words)
+  pub checked : words_check words cert ≡ found
+
+-- the result is what is found, or there was no memory
+abbrev pub Finds : Checked → Checked → Type 0
+Finds (Err refusal.NoMemory) meant = Unit {0}
+Finds found meant = meant ≡ found
+
+-- what is found for a controller
+abbrev pub IsChecked : ControllerView → Certificate → Checked → Type 0
+IsChecked c cert (Err refusal.NoMemory) = Unit {0}
+IsChecked c cert (Err (refusal.Quant why)) = BecomesWords c (job_of cert) (Err why)
+IsChecked c cert found = IsFoundOf c cert found

@@ -1,0 +1,5 @@
+pub mod Checks
+pub mod FormLines
+pub mod LineNumbers
+pub mod Refusals
+pub mod Shown

@@ -1,0 +1,135 @@
+// Logs that are checked against formulas.
+ghost use Rattle.std.specs.Prelude.{◌≡◌, ◌≤◌, ◌<◌, ◌^◌, ◌-◌, length, OnOk};
+ghost use Rattle.dsv_cnf.specs.Formula.{IsUnsatisfiable};
+ghost use Rattle.dsv_bounded.specs.RunQuestions.{Happens};
+ghost use Rattle.dsv_invariant.specs.Causes.{Holds, IsShaped};
+ghost use Rattle.dsv_invariant.specs.Formulas.{set_formula_of};
+ghost use Rattle.dsv_template.specs.declared.verdict.SetPart.TheVariants as part;
+ghost use Rattle.dsv_certcheck.specs.Checks.{Finds, log_check, run_check, sentences_check};
+ghost use Rattle.dsv_certcheck.specs.Checks.{set_check};
+ghost use Rattle.dsv_certcheck.specs.LineNumbers.{log_line};
+ghost use Rattle.dsv_certcheck.specs.Shown.{NeverBreaks};
+
+use crate::check_refusal::CheckRefusal;
+use crate::line_numbers::{BODY_LINE, KIND_LINE, log_line};
+use dsv_base::NoMemory;
+use dsv_bounded::question_formula;
+use dsv_certfile::CheckFault;
+use dsv_cnf::Formula;
+use dsv_hints::{Log, Verdict, check};
+use dsv_invariant::{accept_unbounded, set_formula};
+use dsv_meaning::registers;
+use dsv_names::RunProperty;
+use dsv_quantiser::Quantised;
+use dsv_template::{Candidate, SetPart, ThreeLogs};
+use std::alloc::Global;
+
+/// Refuses a log whose steps have no numbers of 32 bits.
+fn accept_length(log: &Log) -> Result<(), NoMemory>
+    ensures { OnOk result (length log.now < 2 ^ 32 - 1) }
+{
+    if log.as_slice().len() >= u32::MAX as usize {
+        return Err(NoMemory);
+    }
+    Ok(())
+}
+
+/// Checks a log, whose first step stands on this line, against a formula.
+fn check_log(alloc: Global, formula: &Formula, line: u64, log: &Log) -> Result<(), CheckRefusal>
+    requires low { line < 2 ^ 40 }
+    requires short { length log.now < 2 ^ 32 - 1 }
+    ensures found { Finds result (log_check formula.now line log.now) }
+    ensures shows { OnOk result (IsUnsatisfiable formula.now.clauses) }
+{
+    match check(alloc, formula, log)? {
+        Verdict::Accepted => Ok(()),
+        Verdict::Refused { step, .. } => Err(CheckRefusal::Line {
+            line: line + u64::from(step),
+            fault: CheckFault::Step,
+        }),
+    }
+}
+
+/// Checks that a log refutes that the property happens within 1 to 64 samples.
+pub(crate) fn check_run(
+    alloc: Global,
+    q: &Quantised,
+    property: RunProperty,
+    samples: u32,
+    log: &Log,
+) -> Result<(), CheckRefusal>
+    requires some { 1 ≤ samples }
+    requires few { samples ≤ 64 }
+    ensures found { Finds result (run_check q.now property samples log.now) }
+    ensures shows { OnOk result (Happens property q.now samples → ⊥) }
+{
+    let formula = question_formula(alloc, q, property, samples)?;
+    accept_length(log)?;
+    check_log(alloc, &formula, BODY_LINE, log)
+}
+
+/// Checks that a log, whose first step stands on this line, refutes that the sentence of a
+/// candidate is broken.
+fn check_sentence(
+    alloc: Global,
+    q: &Quantised,
+    candidate: &Candidate,
+    part: SetPart,
+    line: u64,
+    log: &Log,
+) -> Result<(), CheckRefusal>
+    requires shaped { IsShaped q.now candidate.now }
+    requires low { line < 2 ^ 40 }
+    requires short { length log.now < 2 ^ 32 - 1 }
+    ensures found { Finds result
+        (log_check (set_formula_of q.now candidate.now part) line log.now) }
+    ensures shows { OnOk result (Holds q.now candidate.now part) }
+{
+    let formula = set_formula(alloc, q, candidate, part)?;
+    check_log(alloc, &formula, line, log)
+}
+
+/// Checks the logs of a candidate's sentences.
+fn check_sentences(
+    alloc: Global,
+    q: &Quantised,
+    candidate: &Candidate,
+    logs: &ThreeLogs,
+) -> Result<(), CheckRefusal>
+    requires shaped { IsShaped q.now candidate.now }
+    ensures found { Finds result (sentences_check q.now candidate.now logs.now) }
+    ensures base { OnOk result (Holds q.now candidate.now part.Base) }
+    ensures step { OnOk result (Holds q.now candidate.now part.Step) }
+    ensures safe { OnOk result (Holds q.now candidate.now part.Safe) }
+{
+    accept_length(&logs.base)?;
+    accept_length(&logs.step)?;
+    accept_length(&logs.safe)?;
+    let base = log_line(SetPart::Base, candidate, logs);
+    check_sentence(alloc, q, candidate, SetPart::Base, base, &logs.base)?;
+    let step = log_line(SetPart::Step, candidate, logs);
+    check_sentence(alloc, q, candidate, SetPart::Step, step, &logs.step)?;
+    let safe = log_line(SetPart::Safe, candidate, logs);
+    check_sentence(alloc, q, candidate, SetPart::Safe, safe, &logs.safe)
+}
+
+/// Checks that a controller never leaves a candidate's set and never overflows in it.
+pub(crate) fn check_set(
+    alloc: Global,
+    q: &Quantised,
+    candidate: &Candidate,
+    logs: &ThreeLogs,
+) -> Result<(), CheckRefusal>
+    ensures found { Finds result (set_check q.now candidate.now logs.now) }
+    ensures shows { OnOk result (NeverBreaks q.now) }
+{
+    accept_unbounded(q)?;
+    let registers = registers(q.realisation(), q.order() as u32);
+    if !candidate.is_shaped(registers) {
+        return Err(CheckRefusal::Line {
+            line: KIND_LINE,
+            fault: CheckFault::Shape,
+        });
+    }
+    check_sentences(alloc, q, candidate, logs)
+}

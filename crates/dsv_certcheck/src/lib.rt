@@ -1,0 +1,11 @@
+//! The check of certificates: what a certificate claims of a controller is made anew from the
+//! controller's file, and nothing else that the certificate says is believed.
+#![tactic(auto)]
+
+mod check_refusal;
+mod checked_logs;
+mod checking;
+mod line_numbers;
+
+pub use check_refusal::CheckRefusal;
+pub use checking::check;

@@ -1,0 +1,120 @@
+// The numbers of a certificate's lines, which count from 1.
+ghost use Rattle.std.specs.Prelude.{◌≡◌, ◌<◌, ◌^◌, length};
+ghost use Rattle.dsv_certcheck.specs.FormLines.{positive_line, fall_line, part_line, square_count};
+ghost use Rattle.dsv_certcheck.specs.FormLines.{square_line, rest_line, form_line};
+ghost use Rattle.dsv_certcheck.specs.LineNumbers.{log_line};
+ghost use Rattle.dsv_template.specs.declared.verdict.SetPart.TheVariants as part;
+
+use dsv_forms::{Falls, FormRefusal, Part};
+use dsv_hints::Log;
+use dsv_template::{Candidate, SetPart, ThreeLogs};
+
+/// The line of the kind.
+pub(crate) const KIND_LINE: u64 = 3;
+
+/// The first line after that of the kind.
+pub(crate) const BODY_LINE: u64 = 4;
+
+// ---- logs
+
+/// The first line of the log of a sentence.
+pub(crate) fn log_line(part: SetPart, candidate: &Candidate, logs: &ThreeLogs) -> u64
+    requires base { length logs.now.base < 2 ^ 32 }
+    requires step { length logs.now.step < 2 ^ 32 }
+    ensures value { result ≡ log_line part candidate.now logs.now }
+    ensures low { result < 2 ^ 40 }
+{
+    let base = BODY_LINE + candidate.inequalities.len() as u64 + 1;
+    match part {
+        SetPart::Base => base,
+        SetPart::Step => base + logs.base.as_slice().len() as u64 + 1,
+        SetPart::Safe => {
+            base + logs.base.as_slice().len() as u64 + 1 + logs.step.as_slice().len() as u64 + 1
+        }
+    }
+}
+
+// ---- forms
+
+/// How many places the form has.
+fn places(offer: &Falls) -> u64
+    ensures value { result ≡ offer.now.form.d }
+    ensures low { result < 2 ^ 32 }
+{
+    u64::from(offer.form.d)
+}
+
+/// How many squares a part has.
+fn square_count(offer: &Falls, part: Part) -> u64
+    ensures value { result ≡ square_count offer.now part }
+    ensures low { result < 2 ^ 32 }
+{
+    match part {
+        Part::Positive => u64::from(offer.positive.count),
+        Part::Fall | Part::Form | Part::Start => u64::from(offer.fall.count),
+    }
+}
+
+/// The line `positive`.
+fn positive_line(offer: &Falls) -> u64
+    ensures value { result ≡ positive_line offer.now }
+    ensures low { result < 2 ^ 33 }
+{
+    BODY_LINE + places(offer)
+}
+
+/// The line `fall`.
+fn fall_line(offer: &Falls) -> u64
+    ensures value { result ≡ fall_line offer.now }
+    ensures low { result < 2 ^ 35 }
+{
+    positive_line(offer) + 1 + square_count(offer, Part::Positive) + places(offer)
+}
+
+/// The line that a part begins with.
+fn part_line(offer: &Falls, part: Part) -> u64
+    ensures value { result ≡ part_line offer.now part }
+    ensures low { result < 2 ^ 35 }
+{
+    match part {
+        Part::Positive => positive_line(offer),
+        Part::Fall => fall_line(offer),
+        Part::Form | Part::Start => {
+            if offer.form.d == 0 {
+                KIND_LINE
+            } else {
+                BODY_LINE
+            }
+        }
+    }
+}
+
+/// The line of a part's square.
+fn square_line(offer: &Falls, part: Part, i: u32) -> u64
+    ensures { result ≡ square_line offer.now part i }
+{
+    part_line(offer, part) + 1 + u64::from(i)
+}
+
+/// The line of a row of a part's rest.
+fn rest_line(offer: &Falls, part: Part, i: u32) -> u64
+    ensures { result ≡ rest_line offer.now part i }
+{
+    part_line(offer, part) + 1 + square_count(offer, part) + u64::from(i)
+}
+
+/// The line at which what is wrong with an offer stands.
+pub(crate) fn form_line(offer: &Falls, refusal: FormRefusal) -> u64
+    ensures { result ≡ form_line offer.now refusal }
+{
+    match refusal {
+        FormRefusal::Identity { part, i, .. }
+        | FormRefusal::Wide { part, i, .. }
+        | FormRefusal::Dominance { part, i } => rest_line(offer, part, i),
+        FormRefusal::Weight { part, i } | FormRefusal::Triangle { part, i } => {
+            square_line(offer, part, i)
+        }
+        FormRefusal::StartNotNegative { .. } => KIND_LINE,
+        FormRefusal::Shape { part } => part_line(offer, part),
+    }
+}
