@@ -20,11 +20,11 @@ use Rattle.dsv_command.specs.declared.job.Design.{Design}
 use Rattle.dsv_command.specs.declared.limits.TheConstants.{MOST_NUMBER_DIGITS, MOST_SAMPLES, DEFAULT_SAMPLES, MOST_CONFLICTS, DEFAULT_CONFLICTS}
 use Rattle.dsv_text.specs.Digits.{short_number}
 use Rattle.dsv_command.specs.Inputs.{inputs_of}
-use Rattle.dsv_command.specs.Jobs.{Task, decides, checks_time, writes, searches, seeks_set, simulates, Asked, ◌>>=◌, choice_or, design_of, is_given, has_run_option, number_up_to, samples_of, conflicts_of, run_task, unbounded_task, property_task, task_by, task_of, job_of_parts, job_of}
+use Rattle.dsv_command.specs.Jobs.{Task, decides, checks_time, writes, searches, seeks_set, simulates, checks, Asked, ◌>>=◌, choice_or, design_of, is_given, has_run_option, is_certified, has_verdict_option, has_design_option, number_up_to, samples_of, conflicts_of, formula_task, run_task, unbounded_task, property_task, named_task, check_task, task_by, task_of, job_of_parts, job_of}
 use Rattle.dsv_command.specs.Options.{command_options}
 use Rattle.dsv_command.specs.Parts.{PartView, file_of, value_of, has_empty}
 use Rattle.dsv_command.specs.Reading.{parts_of}
-use Rattle.dsv_command.specs.Rules.{IsTask, GivesProperty, HasNoRunOption, IsNumberUpTo, IsNumber, IsChosen, IsDesign, IsJobOf, IsJobLine}
+use Rattle.dsv_command.specs.Rules.{IsTask, GivesProperty, HasNoRunOption, HasNoVerdictOption, HasNoDesignOption, IsNumberUpTo, IsNumber, IsChosen, IsDesign, IsJobOf, IsJobLine}
 use Rattle.dsv_command.proofs.InputLaws.{inputs_read, inputs_found}
 use Rattle.dsv_command.proofs.PartLaws.{given_is_read, read_is_given}
 
@@ -53,6 +53,12 @@ design_read parts d h =
 none_given : (parts : List PartView) → HasNoRunOption parts → has_run_option parts ≡ false
 none_given parts h = rw (h.samples, h.unbounded, h.conflicts, h.formula) refl
 
+no_verdict_given : (parts : List PartView) → HasNoVerdictOption parts → has_verdict_option parts ≡ false
+no_verdict_given parts h = rw (none_given parts h.runs, h.certificate) refl
+
+no_design_given : (parts : List PartView) → HasNoDesignOption parts → has_design_option parts ≡ false
+no_design_given parts h = rw (h.realisation, h.rounding, h.overflow) refl
+
 -- a number within the limit
 within_read : (n limit : ℕ) → 1 ≤ n → n ≤ limit → (if nat_le 1 n && nat_le n limit then Some n else None) ≡ Some n
 within_read n limit some few = rw (le-leb 1 n some, le-leb n limit few) refl
@@ -63,14 +69,14 @@ number_read limit default n (Some text) h = ap (λ x. x >>= λ m. (if nat_le 1 m
 
 -- the task of a property that is given
 property_read : (parts : List PartView) (p : Property) (t : Task) → GivesProperty parts p → property_task parts p ≡ Some t → task_of parts ≡ Some t
-property_read parts p t g e = rw (g.name, g.no_inputs) (ap (λ x. x >>= property_task parts) (are_names-properties.found p) ∙ e)
+property_read parts p t g e = rw (g.name, g.no_inputs, g.no_check) (ap (λ x. x >>= property_task parts) (are_names-properties.found p) ∙ e)
 
 task_read : (parts : List PartView) (t : Task) → IsTask parts t → task_of parts ≡ Some t
 task_read parts t (IsTask.roots ps p g none) = property_read ps (OfRoots p) (decides p) g (rw (none_given ps none) refl)
-task_read parts t (IsTask.timing ps g none) = property_read ps Timing checks_time g (rw (none_given ps none) refl)
-task_read parts t (IsTask.formula ps p samples g b n f c) =
+task_read parts t (IsTask.timing ps g none) = property_read ps Timing checks_time g (rw (no_verdict_given ps none) refl)
+task_read parts t (IsTask.formula ps p samples g b n f c d) =
     property_read ps (OfRuns p) (writes p samples) g
-    (rw b (ap (λ x. x >>= run_task ps p) (number_read MOST_SAMPLES DEFAULT_SAMPLES samples (value_of (codes "x-size") ps) n) ∙ rw (f, c) refl))
+    (rw b (ap (λ x. x >>= run_task ps p) (number_read MOST_SAMPLES DEFAULT_SAMPLES samples (value_of (codes "x-size") ps) n) ∙ rw (f, c, d) refl))
 task_read parts t (IsTask.search ps p samples conflicts g b n m f) =
     property_read ps (OfRuns p) (searches p samples conflicts) g
     (rw b (ap (λ x. x >>= run_task ps p) (number_read MOST_SAMPLES DEFAULT_SAMPLES samples (value_of (codes "x-size") ps) n)
@@ -78,11 +84,12 @@ task_read parts t (IsTask.search ps p samples conflicts g b n m f) =
 task_read parts t (IsTask.unbounded ps conflicts g b s f m) =
     property_read ps (OfRuns Overflow) (seeks_set conflicts) g
     (rw (b, s, f) (ap (λ x. x >>= λ found. Some (seeks_set found)) (number_read MOST_CONFLICTS DEFAULT_CONFLICTS conflicts (value_of (codes "conflicts") ps) m)))
-task_read parts t (IsTask.simulation ps text inputs e h f none) =
-    rw (f, e) (rw (none_given ps none) (ap (λ x. x >>= λ found. Some (simulates found)) (inputs_read text inputs h)))
+task_read parts t (IsTask.simulation ps text inputs e h f d none) =
+    rw (f, e, d) (rw (no_verdict_given ps none) (ap (λ x. x >>= λ found. Some (simulates found)) (inputs_read text inputs h)))
+task_read parts t (IsTask.check ps name e f d none plain) = rw (f, d, e) (rw (no_verdict_given ps none, no_design_given ps plain) refl)
 
 parts_ask : (parts : List PartView) (asked : Asked) → IsJobOf parts asked → job_of_parts parts ≡ Some asked
-parts_ask parts asked h = rw (h.filled, h.file) (rw (task_read parts asked.task h.task) (rw (design_read parts asked.design h.design) refl))
+parts_ask parts asked h = rw (h.filled, h.file) (rw (task_read parts asked.task h.task) (rw (design_read parts asked.design h.design) (rw (sym h.certified) refl)))
 
 pub rules_ask : (arguments : List (List ℕ)) (asked : Asked) → IsJobLine arguments asked → job_of arguments ≡ Some asked
 unfolding job_of
@@ -132,15 +139,34 @@ none_by parts false false false true s b d e h = absurd (let k : true ≡ false 
 none_found : (parts : List PartView) → has_run_option parts ≡ false → HasNoRunOption parts
 none_found parts = none_by parts (is_given parts (codes "x-size")) (is_given parts (codes "unbounded")) (is_given parts (codes "conflicts")) (is_given parts (codes "formula")) refl refl refl refl
 
+-- neither of two options of properties is given where one of them isn't
+no_verdict_by : (parts : List PartView) (r c : Bool) → has_run_option parts ≡ r → is_certified parts ≡ c → has_verdict_option parts ≡ false → HasNoVerdictOption parts
+no_verdict_by parts false false r c h = record { runs = none_found parts r; certificate = c }
+no_verdict_by parts true c r e h = absurd (let k : true ≡ false = sym (rw r refl) ∙ h in cc)
+no_verdict_by parts false true r c h = absurd (let k : true ≡ false = sym (rw (r, c) refl) ∙ h in cc)
+
+no_verdict_found : (parts : List PartView) → has_verdict_option parts ≡ false → HasNoVerdictOption parts
+no_verdict_found parts = no_verdict_by parts (has_run_option parts) (is_certified parts) refl refl
+
+no_design_by : (parts : List PartView) (r o m : Bool) → is_given parts (codes "realization") ≡ r → is_given parts (codes "rounding") ≡ o → is_given parts (codes "overflow-mode") ≡ m → has_design_option parts ≡ false → HasNoDesignOption parts
+no_design_by parts false false false r o m h = record { realisation = r; rounding = o; overflow = m }
+no_design_by parts true o m r d e h = absurd (let k : true ≡ false = sym (rw r refl) ∙ h in cc)
+no_design_by parts false true m r d e h = absurd (let k : true ≡ false = sym (rw (r, d) refl) ∙ h in cc)
+no_design_by parts false false true r d e h = absurd (let k : true ≡ false = sym (rw (r, d, e) refl) ∙ h in cc)
+
+no_design_found : (parts : List PartView) → has_design_option parts ≡ false → HasNoDesignOption parts
+no_design_found parts = no_design_by parts (is_given parts (codes "realization")) (is_given parts (codes "rounding")) (is_given parts (codes "overflow-mode")) refl refl refl
+
 -- the task of a question
-question_by : (parts : List PartView) (p : RunProperty) (samples : ℕ) (t : Task) (f c : Bool) → GivesProperty parts (OfRuns p) → is_given parts (codes "unbounded") ≡ false →
-    samples_of parts ≡ Some samples → is_given parts (codes "formula") ≡ f → is_given parts (codes "conflicts") ≡ c →
-    (if f then (if c then None else Some (writes p samples)) else (conflicts_of parts >>= λ conflicts. Some (searches p samples conflicts))) ≡ Some t → IsTask parts t
-question_by parts p samples t true true g u n e d h = absurd (cc)
-question_by parts p samples t true false g u n e d h =
+question_by : (parts : List PartView) (p : RunProperty) (samples : ℕ) (t : Task) (f c w : Bool) → GivesProperty parts (OfRuns p) → is_given parts (codes "unbounded") ≡ false →
+    samples_of parts ≡ Some samples → is_given parts (codes "formula") ≡ f → is_given parts (codes "conflicts") ≡ c → is_certified parts ≡ w →
+    (if f then (if c then None else if w then None else Some (writes p samples)) else (conflicts_of parts >>= λ conflicts. Some (searches p samples conflicts))) ≡ Some t → IsTask parts t
+question_by parts p samples t true true w g u n e d k h = absurd (cc)
+question_by parts p samples t true false true g u n e d k h = absurd (cc)
+question_by parts p samples t true false false g u n e d k h =
     let same : writes p samples ≡ t = cc in
-    subst (IsTask parts) same (IsTask.formula parts p samples g u (number_found MOST_SAMPLES DEFAULT_SAMPLES samples (value_of (codes "x-size") parts) n) e d)
-question_by parts p samples t false c g u n e d h =
+    subst (IsTask parts) same (IsTask.formula parts p samples g u (number_found MOST_SAMPLES DEFAULT_SAMPLES samples (value_of (codes "x-size") parts) n) e d k)
+question_by parts p samples t false c w g u n e d k h =
     let b = unbind (conflicts_of parts) (λ conflicts. Some (searches p samples conflicts)) t h in
     let same : searches p samples b.value ≡ t = let s = b.second in cc in
     subst (IsTask parts) same (IsTask.search parts p samples b.value g u
@@ -165,7 +191,7 @@ runs_by : (parts : List PartView) (p : RunProperty) (t : Task) (u : Bool) → Gi
 runs_by parts p t true g u h = unbounded_by parts p t (is_given parts (codes "x-size")) (is_given parts (codes "formula")) g u refl refl h
 runs_by parts p t false g u h =
     let b = unbind (samples_of parts) (run_task parts p) t h in
-    question_by parts p b.value t (is_given parts (codes "formula")) (is_given parts (codes "conflicts")) g u b.first refl refl b.second
+    question_by parts p b.value t (is_given parts (codes "formula")) (is_given parts (codes "conflicts")) (is_certified parts) g u b.first refl refl refl b.second
 
 roots_by : (parts : List PartView) (p : RootProperty) (t : Task) (b : Bool) → GivesProperty parts (OfRoots p) → has_run_option parts ≡ b →
     (if b then None else Some (decides p)) ≡ Some t → IsTask parts t
@@ -174,34 +200,46 @@ roots_by parts p t false g e h =
     let same : decides p ≡ t = cc in
     subst (IsTask parts) same (IsTask.roots parts p g (none_found parts e))
 
-timing_by : (parts : List PartView) (t : Task) (b : Bool) → GivesProperty parts Timing → has_run_option parts ≡ b →
+timing_by : (parts : List PartView) (t : Task) (b : Bool) → GivesProperty parts Timing → has_verdict_option parts ≡ b →
     (if b then None else Some checks_time) ≡ Some t → IsTask parts t
 timing_by parts t true g e h = absurd (cc)
 timing_by parts t false g e h =
     let same : checks_time ≡ t = cc in
-    subst (IsTask parts) same (IsTask.timing parts g (none_found parts e))
+    subst (IsTask parts) same (IsTask.timing parts g (no_verdict_found parts e))
 
 property_found : (parts : List PartView) (p : Property) (t : Task) → GivesProperty parts p → property_task parts p ≡ Some t → IsTask parts t
 property_found parts (OfRuns p) t g h = runs_by parts p t (is_given parts (codes "unbounded")) g refl h
 property_found parts (OfRoots p) t g h = roots_by parts p t (has_run_option parts) g refl h
-property_found parts Timing t g h = timing_by parts t (has_run_option parts) g refl h
+property_found parts Timing t g h = timing_by parts t (has_verdict_option parts) g refl h
 
 simulation_by : (parts : List PartView) (text : List ℕ) (t : Task) (b : Bool) → value_of (codes "simulate") parts ≡ Some text →
-    value_of (codes "property") parts ≡ None → has_run_option parts ≡ b →
+    value_of (codes "property") parts ≡ None → value_of (codes "check") parts ≡ None → has_verdict_option parts ≡ b →
     (if b then None else (inputs_of text >>= λ inputs. Some (simulates inputs))) ≡ Some t → IsTask parts t
-simulation_by parts text t true f e n h = absurd (cc)
-simulation_by parts text t false f e n h =
+simulation_by parts text t true f e d n h = absurd (cc)
+simulation_by parts text t false f e d n h =
     let b = unbind (inputs_of text) (λ inputs. Some (simulates inputs)) t h in
     let same : simulates b.value ≡ t = let s = b.second in cc in
-    subst (IsTask parts) same (IsTask.simulation parts text b.value f (inputs_found text b.value b.first) e (none_found parts n))
+    subst (IsTask parts) same (IsTask.simulation parts text b.value f (inputs_found text b.value b.first) e d (no_verdict_found parts n))
 
-task_found : (parts : List PartView) (t : Task) (x y : Option (List ℕ)) → value_of (codes "property") parts ≡ x → value_of (codes "simulate") parts ≡ y → task_by parts x y ≡ Some t → IsTask parts t
-task_found parts t (Some name) None e f h =
+check_by : (parts : List PartView) (name : List ℕ) (t : Task) (v d : Bool) → value_of (codes "check") parts ≡ Some name → value_of (codes "property") parts ≡ None →
+    value_of (codes "simulate") parts ≡ None → has_verdict_option parts ≡ v → has_design_option parts ≡ d → (if v then None else if d then None else Some (checks name)) ≡ Some t → IsTask parts t
+check_by parts name t true d f e s v g h = absurd (cc)
+check_by parts name t false true f e s v g h = absurd (cc)
+check_by parts name t false false f e s v g h =
+    let same : checks name ≡ t = cc in
+    subst (IsTask parts) same (IsTask.check parts name f e s (no_verdict_found parts v) (no_design_found parts g))
+
+task_found : (parts : List PartView) (t : Task) (x y z : Option (List ℕ)) → value_of (codes "property") parts ≡ x → value_of (codes "simulate") parts ≡ y → value_of (codes "check") parts ≡ z →
+    task_by parts x y z ≡ Some t → IsTask parts t
+task_found parts t (Some name) None None e f d h =
     let b = unbind (value_named property_name properties name) (property_task parts) t h in
-    property_found parts b.value t (record { name = e ∙ ap Some (are_names-properties.only name b.value b.first); no_inputs = f }) b.second
-task_found parts t None (Some text) e f h = simulation_by parts text t (has_run_option parts) f e refl h
-task_found parts t None None e f h = absurd (cc)
-task_found parts t (Some name) (Some text) e f h = absurd (cc)
+    property_found parts b.value t (record { name = e ∙ ap Some (are_names-properties.only name b.value b.first); no_inputs = f; no_check = d }) b.second
+task_found parts t None (Some text) None e f d h = simulation_by parts text t (has_verdict_option parts) f e d refl h
+task_found parts t None None (Some name) e f d h = check_by parts name t (has_verdict_option parts) (has_design_option parts) d e f refl refl h
+task_found parts t None None None e f d h = absurd (cc)
+task_found parts t (Some name) (Some text) z e f d h = absurd (cc)
+task_found parts t (Some name) None (Some other) e f d h = absurd (cc)
+task_found parts t None (Some text) (Some other) e f d h = absurd (cc)
 
 -- the job of parts that have no empty text
 job_by : (parts : List PartView) (asked : Asked) (empty : Bool) → has_empty parts ≡ empty →
@@ -209,18 +247,19 @@ job_by : (parts : List PartView) (asked : Asked) (empty : Bool) → has_empty pa
     (file_of parts >>= λ file.
     task_of parts >>= λ task.
     design_of parts >>= λ design.
-    Some (record { file = file; task = task; design = design }))) ≡ Some asked → IsJobOf parts asked
+    Some (record { file = file; task = task; design = design; certified = is_certified parts }))) ≡ Some asked → IsJobOf parts asked
 job_by parts asked true e h = absurd (cc)
 job_by parts asked false e h =
     let a = unbind (file_of parts) _ asked h in
     let b = unbind (task_of parts) _ asked a.second in
     let c = unbind (design_of parts) _ asked b.second in
-    let same : record { file = a.value; task = b.value; design = c.value } ≡ asked = let s = c.second in cc in
+    let same : record { file = a.value; task = b.value; design = c.value; certified = is_certified parts } ≡ asked = let s = c.second in cc in
     subst (IsJobOf parts) same (record {
       file = a.first;
       filled = e;
-      task = task_found parts b.value (value_of (codes "property") parts) (value_of (codes "simulate") parts) refl refl b.first;
+      task = task_found parts b.value (value_of (codes "property") parts) (value_of (codes "simulate") parts) (value_of (codes "check") parts) refl refl refl b.first;
       design = design_found parts c.value c.first;
+      certified = refl;
     })
 
 line_by : (arguments : List (List ℕ)) (asked : Asked) → Bound (parts_of command_options arguments) job_of_parts asked → IsJobLine arguments asked

@@ -1,6 +1,13 @@
+pub mod ClapAgreement
+pub mod ClapFound
+pub mod ClapMatches
+pub mod ClapRules
+pub mod ClapTurns
+pub mod ClapUses
+pub mod ClapWalk
+pub mod CommandLemmas
 pub mod InputLaws
 pub mod InputLemmas
 pub mod JobLaws
 pub mod PartLaws
 pub mod ShapeLaws
-pub mod ShapeLemmas

@@ -1,12 +1,12 @@
 -- What contracts see of a job.
 use Rattle.dsv_command.specs.Jobs.{Asked, decides, checks_time, writes, searches, seeks_set}
-use Rattle.dsv_command.specs.Jobs.{simulates}
+use Rattle.dsv_command.specs.Jobs.{simulates, checks}
 use Rattle.dsv_command.specs.Jobs as jobs
 use Rattle.dsv_command.specs.declared.job.Job.{Job}
 use Rattle.dsv_command.specs.declared.task.Task.{Task}
 use Rattle.dsv_command.specs.declared.task.Task.TheVariants.{Decide, CheckTime}
 use Rattle.dsv_command.specs.declared.task.Task.TheVariants.{WriteFormula, Search, SeekSet}
-use Rattle.dsv_command.specs.declared.task.Task.TheVariants.{Simulate}
+use Rattle.dsv_command.specs.declared.task.Task.TheVariants.{Simulate, Check}
 
 abbrev pub asked_task : Task → jobs.Task
 asked_task (Decide property) = decides property
@@ -16,6 +16,12 @@ asked_task (Search question budget) =
     searches question.property question.samples budget.conflicts
 asked_task (SeekSet budget) = seeks_set budget.conflicts
 asked_task (Simulate inputs) = simulates inputs.items
+asked_task (Check name) = checks name.now
 
 abbrev pub asked_of : Job → Asked
-asked_of job = record { file = job.file.now; task = asked_task job.task; design = job.design }
+asked_of job = record {
+  file = job.file.now;
+  task = asked_task job.task;
+  design = job.design;
+  certified = job.certified;
+}

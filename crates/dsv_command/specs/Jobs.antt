@@ -1,5 +1,5 @@
 -- The job that the arguments ask for.
-use Rattle.std.specs.Prelude.{ℕ, ◌&&◌, nat_le, Bool, List, [], ◌∷◌, Option, Some, None, codes}
+use Rattle.std.specs.Prelude.{ℕ, ◌&&◌, ◌||◌, nat_le, Bool, List, [], ◌∷◌, Option, Some, None, codes}
 use Rattle.std.specs.Prelude.{if◌then◌else◌, option_and_then, ℤ}
 use Rattle.std.specs.List.{list_any}
 use Rattle.dsv_text.specs.Digits.{short_number}
@@ -40,12 +40,16 @@ pub data Task : Type 0 where
   seeks_set : ℕ → Task
   -- it is run over these inputs
   simulates : List ℤ → Task
+  -- the certificate in the file of this name is checked
+  checks : List ℕ → Task
 
--- what is asked: a task for the controller in a file, realised by a design
+-- what is asked: a task for the controller in a file, realised by a design, and whether a
+-- certificate is to be written in place of the report of a yes-answer
 pub record Asked : Type 0 where
   pub file : List ℕ
   pub task : Task
   pub design : Design
+  pub certified : Bool
 
 -- the next, where there is the first
 infixl 10 ◌>>=◌
@@ -79,6 +83,21 @@ run_options = codes "x-size" ∷ codes "unbounded" ∷ codes "conflicts" ∷ cod
 abbrev pub has_run_option : List PartView → Bool
 has_run_option parts = list_any (is_given parts) run_options
 
+-- a certificate is to be written
+abbrev pub is_certified : List PartView → Bool
+is_certified parts = is_given parts (codes "certificate")
+
+-- an option of properties other than timing
+abbrev pub has_verdict_option : List PartView → Bool
+has_verdict_option parts = has_run_option parts || is_certified parts
+
+-- the options of how a controller is realised
+abbrev pub design_options : List (List ℕ)
+design_options = codes "realization" ∷ codes "rounding" ∷ codes "overflow-mode" ∷ []
+
+abbrev pub has_design_option : List PartView → Bool
+has_design_option parts = list_any (is_given parts) design_options
+
 -- a number of 1 to 10 digits from 1 to a limit
 abbrev pub number_up_to : ℕ → List ℕ → Option ℕ
 number_up_to limit text = short_number MOST_NUMBER_DIGITS text >>= λ n.
@@ -94,9 +113,14 @@ conflicts_of parts = choice_or (number_up_to MOST_CONFLICTS) DEFAULT_CONFLICTS
     (value_of (codes "conflicts") parts)
 
 -- a formula is written without a search
+abbrev pub formula_task : List PartView → RunProperty → ℕ → Option Task
+formula_task parts property samples = if is_given parts (codes "conflicts") then None
+    else if is_certified parts then None else Some (writes property samples)
+
+-- the task of a question: its formula, or a search
 abbrev pub run_task : List PartView → RunProperty → ℕ → Option Task
 run_task parts property samples = if is_given parts (codes "formula")
-    then (if is_given parts (codes "conflicts") then None else Some (writes property samples))
+    then formula_task parts property samples
     else (conflicts_of parts >>= λ conflicts. Some (searches property samples conflicts))
 
 -- the task of a property over runs of any length, which is overflow alone: it has no number of
@@ -113,23 +137,33 @@ property_task parts (OfRuns property) = if is_given parts (codes "unbounded")
     then unbounded_task parts property else samples_of parts >>= run_task parts property
 property_task parts (OfRoots property) =
     if has_run_option parts then None else Some (decides property)
-property_task parts Timing = if has_run_option parts then None else Some checks_time
+property_task parts Timing = if has_verdict_option parts then None else Some checks_time
 
 -- the task of a run over inputs
 abbrev pub simulation_task : List PartView → List ℕ → Option Task
-simulation_task parts list = if has_run_option parts then None
+simulation_task parts list = if has_verdict_option parts then None
     else (inputs_of list >>= λ inputs. Some (simulates inputs))
 
--- exactly one of a property and inputs is given
-abbrev pub task_by : List PartView → Option (List ℕ) → Option (List ℕ) → Option Task
-task_by parts (Some name) None = value_named property_name properties name >>= property_task parts
-task_by parts None (Some list) = simulation_task parts list
-task_by parts (Some name) (Some list) = None
-task_by parts None None = None
+-- the check of a certificate goes with no other option
+abbrev pub check_task : List PartView → List ℕ → Option Task
+check_task parts name = if has_verdict_option parts then None
+    else if has_design_option parts then None else Some (checks name)
+
+-- the task of a property that is given by its name
+abbrev pub named_task : List PartView → List ℕ → Option Task
+named_task parts name = value_named property_name properties name >>= property_task parts
+
+-- exactly one of a property, inputs and a certificate is given
+abbrev pub task_by : List PartView → Option (List ℕ) → Option (List ℕ) → Option (List ℕ)
+    → Option Task
+task_by parts (Some name) None None = named_task parts name
+task_by parts None (Some list) None = simulation_task parts list
+task_by parts None None (Some name) = check_task parts name
+task_by parts property inputs certificate = None
 
 abbrev pub task_of : List PartView → Option Task
-task_of parts =
-    task_by parts (value_of (codes "property") parts) (value_of (codes "simulate") parts)
+task_of parts = task_by parts (value_of (codes "property") parts)
+    (value_of (codes "simulate") parts) (value_of (codes "check") parts)
 
 -- no text is empty, and FILE and a task are given
 abbrev pub job_of_parts : List PartView → Option Asked
@@ -137,7 +171,7 @@ job_of_parts parts = if has_empty parts then None else
     (file_of parts >>= λ file.
     task_of parts >>= λ task.
     design_of parts >>= λ design.
-    Some (record { file = file; task = task; design = design }))
+    Some (record { file = file; task = task; design = design; certified = is_certified parts }))
 
 -- the job of a list of arguments, or none
 unfoldable pub job_of : List (List ℕ) → Option Asked

@@ -1,4 +1,6 @@
 pub mod Asking
+pub mod ClapCommand
+pub mod ClapRows
 pub mod Inputs
 pub mod Jobs
 pub mod Options
@@ -6,5 +8,4 @@ pub mod Parts
 pub mod Reading
 pub mod Rules
 pub mod Shapes
-pub mod Taken
 pub mod Views

@@ -9,6 +9,8 @@ command_options =
     (codes "unbounded", false) ∷
     (codes "conflicts", true) ∷
     (codes "formula", false) ∷
+    (codes "certificate", false) ∷
+    (codes "check", true) ∷
     (codes "simulate", true) ∷
     (codes "realization", true) ∷
     (codes "rounding", true) ∷

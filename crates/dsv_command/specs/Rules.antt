@@ -22,7 +22,7 @@ use Rattle.dsv_names.specs.Roundings.{rounding_name}
 use Rattle.dsv_command.specs.declared.job.Design.{Design}
 use Rattle.dsv_command.specs.Inputs.{most_inputs, most_digits}
 use Rattle.dsv_command.specs.Jobs.{Task, decides, checks_time, writes, searches, simulates}
-use Rattle.dsv_command.specs.Jobs.{seeks_set, Asked, is_given}
+use Rattle.dsv_command.specs.Jobs.{seeks_set, checks, Asked, is_given}
 use Rattle.dsv_command.specs.declared.limits.TheConstants.{MOST_NUMBER_DIGITS, MOST_SAMPLES}
 use Rattle.dsv_command.specs.declared.limits.TheConstants.{DEFAULT_SAMPLES, MOST_CONFLICTS}
 use Rattle.dsv_command.specs.declared.limits.TheConstants.{DEFAULT_CONFLICTS}
@@ -114,10 +114,11 @@ pub record AreInputs (text : List ℕ) (inputs : List ℤ) : Type 0 where
   pub numbers : AreNumbers text inputs
   pub few : length inputs ≤ most_inputs
 
--- a property is given, and no inputs
+-- a property is given, and neither inputs nor a certificate to check
 pub record GivesProperty (parts : List PartView) (property : Property) : Type 0 where
   pub name : value_of (codes "property") parts ≡ Some (property_name property)
   pub no_inputs : value_of (codes "simulate") parts ≡ None
+  pub no_check : value_of (codes "check") parts ≡ None
 
 -- none of the options of properties of runs is given
 pub record HasNoRunOption (parts : List PartView) : Type 0 where
@@ -125,6 +126,17 @@ pub record HasNoRunOption (parts : List PartView) : Type 0 where
   pub unbounded : is_given parts (codes "unbounded") ≡ false
   pub conflicts : is_given parts (codes "conflicts") ≡ false
   pub formula : is_given parts (codes "formula") ≡ false
+
+-- nor is it asked that a certificate is written
+pub record HasNoVerdictOption (parts : List PartView) : Type 0 where
+  pub runs : HasNoRunOption parts
+  pub certificate : is_given parts (codes "certificate") ≡ false
+
+-- none of the options of how a controller is realised is given
+pub record HasNoDesignOption (parts : List PartView) : Type 0 where
+  pub realisation : is_given parts (codes "realization") ≡ false
+  pub rounding : is_given parts (codes "rounding") ≡ false
+  pub overflow : is_given parts (codes "overflow-mode") ≡ false
 
 -- a number of 1 to 10 digits from 1 to a limit
 pub record IsNumberUpTo (limit : ℕ) (text : List ℕ) (n : ℕ) : Type 0 where
@@ -145,19 +157,20 @@ abbrev pub AreConflicts : List PartView → ℕ → Type 0
 AreConflicts parts n =
     IsNumber MOST_CONFLICTS DEFAULT_CONFLICTS (value_of (codes "conflicts") parts) n
 
--- Exactly one of a property and inputs is given, and other options with a property of runs alone:
--- samples; and either conflicts, or that the formula is written. Overflow over runs of any length
--- has no samples and no formula.
+-- Exactly one of a property, inputs and a certificate to check is given. With a property of runs
+-- alone there are samples; and either conflicts, or that the formula is written. Overflow over runs
+-- of any length has no samples and no formula. That a certificate is written goes with no timing,
+-- no inputs and no formula, and with a certificate that is checked no other option goes.
 pub data IsTask : List PartView → Task → Type 0 where
   roots : (parts : List PartView) (p : RootProperty) → GivesProperty parts (OfRoots p)
       → HasNoRunOption parts → IsTask parts (decides p)
-  timing : (parts : List PartView) → GivesProperty parts Timing → HasNoRunOption parts
+  timing : (parts : List PartView) → GivesProperty parts Timing → HasNoVerdictOption parts
       → IsTask parts checks_time
   formula : (parts : List PartView) (p : RunProperty) (samples : ℕ)
       → GivesProperty parts (OfRuns p) → is_given parts (codes "unbounded") ≡ false
       → AreSamples parts samples
       → is_given parts (codes "formula") ≡ true → is_given parts (codes "conflicts") ≡ false
-      → IsTask parts (writes p samples)
+      → is_given parts (codes "certificate") ≡ false → IsTask parts (writes p samples)
   search : (parts : List PartView) (p : RunProperty) (samples conflicts : ℕ)
       → GivesProperty parts (OfRuns p) → is_given parts (codes "unbounded") ≡ false
       → AreSamples parts samples → AreConflicts parts conflicts
@@ -168,8 +181,12 @@ pub data IsTask : List PartView → Task → Type 0 where
       → AreConflicts parts conflicts → IsTask parts (seeks_set conflicts)
   simulation : (parts : List PartView) (text : List ℕ) (inputs : List ℤ)
       → value_of (codes "simulate") parts ≡ Some text → AreInputs text inputs →
-      value_of (codes "property") parts ≡ None → HasNoRunOption parts
-      → IsTask parts (simulates inputs)
+      value_of (codes "property") parts ≡ None → value_of (codes "check") parts ≡ None
+      → HasNoVerdictOption parts → IsTask parts (simulates inputs)
+  check : (parts : List PartView) (name : List ℕ)
+      → value_of (codes "check") parts ≡ Some name → value_of (codes "property") parts ≡ None
+      → value_of (codes "simulate") parts ≡ None → HasNoVerdictOption parts
+      → HasNoDesignOption parts → IsTask parts (checks name)
 
 -- the value is the chosen one's name, or none is given and the default is chosen
 abbrev pub IsChosen : {A : Type 0} → (A → List ℕ) → A → Option (List ℕ) → A → Type 0
@@ -190,6 +207,7 @@ pub record IsJobOf (parts : List PartView) (asked : Asked) : Type 0 where
   pub filled : has_empty parts ≡ false
   pub task : IsTask parts asked.task
   pub design : IsDesign parts asked.design
+  pub certified : asked.certified ≡ is_given parts (codes "certificate")
 
 -- the job that a command line asks for
 pub record IsJobLine (arguments : List (List ℕ)) (asked : Asked) : Type 0 where

@@ -1,13 +1,10 @@
 // The job that the arguments ask for.
 ghost use Rattle.std.specs.Prelude.{◌≡◌, map, string_bytes, option_map, IfOk};
 ghost use Rattle.dsv_command.specs.Jobs.{job_of, job_of_parts, design_of};
-ghost use Rattle.dsv_command.specs.Views.{parts_view};
 ghost use Rattle.dsv_command.specs.Asking.{asked_of};
 
-use crate::options::command_options;
-use crate::parts::{Part, find_file, find_value, has_empty};
-use crate::reading::read_parts;
-use crate::task::{Task, find_task};
+use crate::reading::{Arguments, read_arguments};
+use crate::task::{Task, find_task, is_certified};
 use dsv_base::NoMemory;
 use dsv_names::{OverflowMode, Realisation, Rounding, find_named};
 use std::alloc::Global;
@@ -25,23 +22,25 @@ pub struct Design {
 pub struct Job<'a> {
     /// The name of the file.
     pub file: &'a str,
-    pub task: Task,
+    pub task: Task<'a>,
     pub design: Design,
+    /// Whether a certificate is to be written in place of the report of a yes-answer.
+    pub certified: bool,
 }
 
 /// How the controller is to be realised.
-fn find_design(parts: &[Part]) -> Option<Design>
-    ensures { result ≡ design_of (parts_view parts.now) }
+fn find_design(arguments: &Arguments) -> Option<Design>
+    ensures { result ≡ design_of arguments.now }
 {
-    let realisation = match find_value(parts, "realization") {
+    let realisation = match arguments.value("realization") {
         Some(name) => find_named(name.as_bytes())?,
         None => Realisation::Dfi,
     };
-    let rounding = match find_value(parts, "rounding") {
+    let rounding = match arguments.value("rounding") {
         Some(name) => find_named(name.as_bytes())?,
         None => Rounding::Floor,
     };
-    let overflow = match find_value(parts, "overflow-mode") {
+    let overflow = match arguments.value("overflow-mode") {
         Some(name) => find_named(name.as_bytes())?,
         None => OverflowMode::Wrap,
     };
@@ -52,17 +51,19 @@ fn find_design(parts: &[Part]) -> Option<Design>
     })
 }
 
-/// The job of the parts that are given.
-fn find_job<'a>(parts: &[Part<'a>]) -> Option<Job<'a>>
-    ensures { option_map asked_of result ≡ job_of_parts (parts_view parts.now) }
+/// The job of what is given.
+fn find_job<'a>(arguments: &Arguments<'a>) -> Option<Job<'a>>
+    ensures { option_map asked_of result ≡ job_of_parts arguments.now }
 {
-    if has_empty(parts) {
-        return None;
-    }
-    let file = find_file(parts)?;
-    let task = find_task(parts)?;
-    let design = find_design(parts)?;
-    Some(Job { file, task, design })
+    let file = arguments.file()?;
+    let task = find_task(arguments)?;
+    let design = find_design(arguments)?;
+    Some(Job {
+        file,
+        task,
+        design,
+        certified: is_certified(arguments),
+    })
 }
 
 /// The job that the arguments after the program's name ask for; `None` where they are no job.
@@ -71,8 +72,8 @@ pub fn read_job<'a>(alloc: Global, arguments: &'a [String]) -> Result<Option<Job
     ensures { IfOk result (λ job. option_map asked_of job
         ≡ job_of (map string_bytes arguments.entry.now)) }
 {
-    let Some(parts) = read_parts(alloc, command_options(), arguments)? else {
+    let Some(arguments) = read_arguments(alloc, arguments)? else {
         return Ok(None);
     };
-    Ok(find_job(parts.as_slice()))
+    Ok(find_job(&arguments))
 }

@@ -1,4 +1,4 @@
-//! The command line: from the arguments to the parts that they give, and from there to the job.
+//! The command line: the arguments are read by clap, and what they give is the job.
 #![tactic(auto)]
 
 mod inputs;
@@ -6,18 +6,13 @@ mod job;
 mod law;
 mod limits;
 mod options;
-mod parts;
 mod question;
 mod reading;
-mod shape;
 mod task;
 
 pub use inputs::{Inputs, MOST_INPUTS};
 pub use job::{Design, Job, read_job};
 pub use law::{jobs_are_read, parts_are_read};
 pub use limits::{MOST_CONFLICTS, MOST_SAMPLES};
-pub use options::CommandOption;
-pub use parts::{Part, PartKey};
 pub use question::{Budget, RunQuestion};
-pub use reading::read_parts;
 pub use task::Task;

@@ -14,7 +14,7 @@ pub struct CommandOption {
 
 /// The options that the command has. One more stands here and in `specs/Options.antt`; what it asks
 /// for, in the job.
-const OPTIONS: [CommandOption; 9] = [
+const OPTIONS: [CommandOption; 11] = [
     CommandOption {
         name: "property",
         takes_value: true,
@@ -34,6 +34,14 @@ const OPTIONS: [CommandOption; 9] = [
     CommandOption {
         name: "formula",
         takes_value: false,
+    },
+    CommandOption {
+        name: "certificate",
+        takes_value: false,
+    },
+    CommandOption {
+        name: "check",
+        takes_value: true,
     },
     CommandOption {
         name: "simulate",

@@ -1,137 +1,120 @@
-// Reading argument after argument.
-ghost use Rattle.std.specs.Prelude.{◌≡◌, map, string_bytes, option_map, IfOk};
-ghost use Rattle.dsv_command.specs.Reading.{parts_of, start, gives, meet, meet_option};
-ghost use Rattle.dsv_command.specs.Views.{options_view, part_view, parts_view, option_text};
-ghost use Rattle.dsv_command.specs.Taken.{IsTaken};
+// The arguments, read by clap.
+ghost use Rattle.std.specs.Prelude.{◌≡◌, false, map, string_bytes, option_map, IfOk};
+ghost use Rattle.clap.specs.Words.{app_of, rule_of};
+ghost use Rattle.dsv_command.specs.ClapCommand.{command_app, file_rule, option_rule};
+ghost use Rattle.dsv_command.specs.ClapCommand.{filled_parts_of};
+ghost use Rattle.dsv_command.specs.Options.{command_options};
+ghost use Rattle.dsv_command.specs.Parts.{for_option, file_of, has_empty, has_key, value_of};
+ghost use Rattle.dsv_command.specs.Views.{option_view};
 
-use crate::options::{CommandOption, takes_value};
-use crate::parts::{Part, PartKey, has_key};
-use crate::shape::{Shape, shape_of};
+use crate::options::{CommandOption, command_options, takes_value};
+use clap::builder::ValueParser;
+use clap::error::ErrorKind;
+use clap::parser::ValueSource;
+use clap::{Arg, ArgAction, ArgMatches, Command};
 use dsv_base::NoMemory;
 use std::alloc::Global;
 use std::marker::Model;
 
-/// What was read so far.
-#[derive(Drop)]
-pub struct Reader<'a> {
-    /// What was given, in its order.
-    parts: Vec<Part<'a>>,
-    /// The option that waits for its value.
-    waits: Option<&'a str>,
-    /// Whether the argument `--` was met.
-    ended: bool,
-}
+/// The id of FILE; no option has this name.
+const FILE: &str = "FILE";
 
-impl<'a> Model for Reader<'a> {
-    ghost use Rattle.dsv_command.specs.Reading.{Reading};
-
-    ghost Value = { Reading };
-
-    ghost use Rattle.dsv_command.specs.Views.{parts_view, option_text};
-
-    ghost view = { λ r. record {
-      parts = parts_view r.parts.items;
-      waits = option_text r.waits;
-      ended = r.ended;
-    } };
-}
-
-impl<'a> Reader<'a> {
-    /// The reader before the first argument.
-    fn new(alloc: Global) -> Reader<'a>
-        ensures { result ≡ start }
-    {
-        Reader {
-            parts: Vec::new(alloc),
-            waits: None,
-            ended: false,
-        }
-    }
-
-    /// Keeps a part; false where one is given for the same.
-    fn give(&mut self, part: Part<'a>) -> Result<bool, NoMemory>
-        ensures { IfOk result (λ taken. IsTaken (gives (part_view part.entry) self.old) taken
-            self.new) }
-    {
-        if has_key(self.parts.as_slice(), part.key()) {
-            return Ok(false);
-        }
-        self.parts.push(part)?;
-        self.waits = None;
-        Ok(true)
-    }
-
-    /// Takes an option, with the value that follows `=` in its argument.
-    fn meet_option(
-        &mut self,
-        options: &[CommandOption],
-        name: &'a str,
-        value: Option<&'a str>,
-    ) -> Result<bool, NoMemory>
-        ensures { IfOk result (λ taken.
-            IsTaken (meet_option (options_view options.now) name.now (option_text value.entry)
-            self.old) taken self.new) }
-    {
-        match (takes_value(options, name), value) {
-            (None, _) => Ok(false),
-            (Some(true), Some(value)) => self.give(Part::Choice(name, value)),
-            (Some(true), None) => {
-                if has_key(self.parts.as_slice(), PartKey::Named(name)) {
-                    return Ok(false);
-                }
-                self.waits = Some(name);
-                Ok(true)
-            }
-            (Some(false), Some(_)) => Ok(false),
-            (Some(false), None) => self.give(Part::Flag(name)),
-        }
-    }
-
-    /// Takes the next argument; false where it isn't allowed.
-    fn meet(&mut self, options: &[CommandOption], argument: &'a str) -> Result<bool, NoMemory>
-        ensures { IfOk result (λ taken. IsTaken
-            (meet (options_view options.now) self.old argument.now) taken self.new) }
-    {
-        if self.ended {
-            return self.give(Part::File(argument));
-        }
-        match (shape_of(argument), self.waits) {
-            (Shape::Plain, None) => self.give(Part::File(argument)),
-            (Shape::Plain, Some(name)) => self.give(Part::Choice(name, argument)),
-            (Shape::Stop, None) => {
-                self.ended = true;
-                Ok(true)
-            }
-            (Shape::Long(name, value), None) => self.meet_option(options, name, value),
-            (_, _) => Ok(false),
-        }
-    }
-}
-
-/// The parts that arguments give, in their order, by a table of options; `None` where they aren't
-/// allowed.
-#[tactic(auto, unfolding(crate::specs::Reading::parts_of))]
-pub fn read_parts<'a>(
-    alloc: Global,
-    options: &[CommandOption],
-    arguments: &'a [String],
-) -> Result<Option<Vec<Part<'a>>>, NoMemory>
-    ensures { IfOk result (λ found. option_map (λ parts. parts_view parts.items) found
-        ≡ parts_of (options_view options.now) (map string_bytes arguments.entry.now)) }
+/// The argument that belongs to no option.
+fn file_argument<'a>(alloc: Global) -> Arg<'a>
+    ensures rule { rule_of result ≡ file_rule }
+    ensures local { result.global ≡ false }
 {
-    let mut reader = Reader::new(alloc);
-    for argument in arguments {
-        if !reader.meet(options, argument.as_str())? {
-            return Ok(None);
+    Arg::new(alloc, FILE).value_parser(ValueParser::NonEmptyString)
+}
+
+/// The argument of an option.
+fn option_argument<'a>(alloc: Global, option: CommandOption) -> Arg<'a>
+    ensures rule { rule_of result ≡ option_rule (option_view option) }
+    ensures local { result.global ≡ false }
+{
+    let argument = Arg::new(alloc, option.name).long(option.name);
+    if option.takes_value {
+        argument.value_parser(ValueParser::NonEmptyString)
+    } else {
+        argument.action(ArgAction::SetTrue)
+    }
+}
+
+/// The command: FILE and the options, and no help or version of clap's own.
+fn command<'a>(alloc: Global) -> Result<Command<'a>, NoMemory>
+    ensures { IfOk result (λ command. app_of command ≡ command_app command_options) }
+{
+    let mut command = Command::new(alloc, "dsv")
+        .no_binary_name(true)
+        .disable_help_flag(true)
+        .disable_version_flag(true)
+        .arg(file_argument(alloc))?;
+    let options = command_options();
+    for option in options {
+        command = command.arg(option_argument(alloc, *option))?;
+    }
+    Ok(command)
+}
+
+/// What arguments give, in their order: the matches that clap made of them.
+#[derive(Drop)]
+pub struct Arguments<'a> {
+    matches: ArgMatches<'a>,
+}
+
+impl<'a> Model for Arguments<'a> {
+    ghost use Rattle.std.specs.Prelude.{List};
+    ghost use Rattle.clap.specs.Words.{found_of, rows_of};
+    ghost use Rattle.dsv_command.specs.ClapRows.{TellParts, parts_in};
+    ghost use Rattle.dsv_command.specs.Options.{command_options};
+    ghost use Rattle.dsv_command.specs.Parts.{PartView};
+
+    ghost Value = { List PartView };
+
+    ghost view = { λ a. parts_in command_options (rows_of (found_of a.matches)) };
+
+    ghost invariant = { λ a. TellParts command_options (rows_of (found_of a.matches)) };
+}
+
+impl<'a> Arguments<'a> {
+    /// What is given as FILE. No text among the arguments is empty.
+    pub fn file(&self) -> Option<&'a str>
+        ensures value { option_map (λ text. text.now) result ≡ file_of self.now }
+        ensures filled { has_empty self.now ≡ false }
+    {
+        self.matches.get_str(FILE)
+    }
+
+    /// The value that is given for the option of this name.
+    pub fn value(&self, name: &str) -> Option<&'a str>
+        ensures { option_map (λ value. value.now) result ≡ value_of name.now self.now }
+    {
+        match takes_value(command_options(), name) {
+            Some(true) => self.matches.get_str(name),
+            _ => None,
         }
     }
-    if reader.waits.is_some() {
-        return Ok(None);
+
+    /// Whether the option of this name is given.
+    pub fn is_given(&self, name: &str) -> bool
+        ensures { result ≡ has_key (for_option name.now) self.now }
+    {
+        takes_value(command_options(), name).is_some()
+            && self.matches.value_source(name) == Some(ValueSource::CommandLine)
     }
-    let Reader {
-        parts,
-        waits: _,
-        ended: _,
-    } = reader;
-    Ok(Some(parts))
+}
+
+/// What arguments give, where they are allowed and no text in them is empty.
+pub fn read_arguments<'a>(
+    alloc: Global,
+    arguments: &'a [String],
+) -> Result<Option<Arguments<'a>>, NoMemory>
+    ensures { IfOk result (λ found. found
+        ≡ filled_parts_of command_options (map string_bytes arguments.entry.now)) }
+{
+    match command(alloc)?.try_get_matches_from(arguments) {
+        Ok(matches) => Ok(Some(Arguments { matches })),
+        Err(error) if error.kind() == ErrorKind::OutOfMemory => Err(NoMemory),
+        Err(_) => Ok(None),
+    }
 }

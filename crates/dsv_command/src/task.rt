@@ -1,24 +1,24 @@
-// The task that the parts of a command ask for.
+// The task that the arguments ask for.
 ghost use Rattle.std.specs.Prelude.{◌≡◌, ◌≤◌, option_map, option_and_then, IfSome};
 ghost use Rattle.dsv_command.specs.declared.limits.TheConstants.{MOST_SAMPLES};
 ghost use Rattle.dsv_command.specs.Asking.{asked_task};
-ghost use Rattle.dsv_command.specs.Jobs.{is_given, has_run_option, number_up_to, samples_of};
+ghost use Rattle.dsv_command.specs.Jobs.{has_run_option, number_up_to, samples_of};
 ghost use Rattle.dsv_command.specs.Jobs.{conflicts_of, run_task, unbounded_task, property_task};
-ghost use Rattle.dsv_command.specs.Jobs.{simulation_task, task_of};
-ghost use Rattle.dsv_command.specs.Views.{parts_view};
+ghost use Rattle.dsv_command.specs.Jobs.{simulation_task, check_task, task_of, is_certified};
+ghost use Rattle.dsv_command.specs.Jobs.{has_verdict_option, has_design_option};
 
 use crate::inputs::{Inputs, find_inputs};
 use crate::limits::{
     DEFAULT_CONFLICTS, DEFAULT_SAMPLES, MOST_CONFLICTS, MOST_NUMBER_DIGITS, MOST_SAMPLES,
 };
-use crate::parts::{Part, PartKey, find_value, has_key};
 use crate::question::{Budget, RunQuestion};
+use crate::reading::Arguments;
 use dsv_names::{Property, RootProperty, RunProperty, find_named};
 use dsv_text::short_number;
 
 /// What is to be done with a controller.
 #[derive(Drop)]
-pub enum Task {
+pub enum Task<'a> {
     /// It is decided whether the controller has a property of its roots.
     Decide(RootProperty),
     /// It is decided whether the work of a sample is done in time.
@@ -32,23 +32,41 @@ pub enum Task {
     SeekSet(Budget),
     /// The controller is run over these inputs, from registers that are 0.
     Simulate(Inputs),
-}
-
-/// Whether the option of this name is given.
-fn is_given(parts: &[Part], name: &str) -> bool
-    ensures { result ≡ is_given (parts_view parts.now) name.now }
-{
-    has_key(parts, PartKey::Named(name))
+    /// The certificate in the file of this name is checked against the controller.
+    Check(&'a str),
 }
 
 /// Whether an option of properties of runs is given.
-fn has_run_option(parts: &[Part]) -> bool
-    ensures { result ≡ has_run_option (parts_view parts.now) }
+fn has_run_option(arguments: &Arguments) -> bool
+    ensures { result ≡ has_run_option arguments.now }
 {
-    is_given(parts, "x-size")
-        || is_given(parts, "unbounded")
-        || is_given(parts, "conflicts")
-        || is_given(parts, "formula")
+    arguments.is_given("x-size")
+        || arguments.is_given("unbounded")
+        || arguments.is_given("conflicts")
+        || arguments.is_given("formula")
+}
+
+/// Whether a certificate is to be written.
+pub(crate) fn is_certified(arguments: &Arguments) -> bool
+    ensures { result ≡ is_certified arguments.now }
+{
+    arguments.is_given("certificate")
+}
+
+/// Whether an option of properties other than timing is given.
+fn has_verdict_option(arguments: &Arguments) -> bool
+    ensures { result ≡ has_verdict_option arguments.now }
+{
+    has_run_option(arguments) || is_certified(arguments)
+}
+
+/// Whether an option of how a controller is realised is given.
+fn has_design_option(arguments: &Arguments) -> bool
+    ensures { result ≡ has_design_option arguments.now }
+{
+    arguments.is_given("realization")
+        || arguments.is_given("rounding")
+        || arguments.is_given("overflow-mode")
 }
 
 /// The number of a text of 1 to 10 digits, where it is from 1 to a limit.
@@ -65,21 +83,21 @@ fn number_up_to(limit: u32, text: &str) -> Option<u32>
 }
 
 /// How many samples are asked for.
-fn find_samples(parts: &[Part]) -> Option<u32>
-    ensures number { result ≡ samples_of (parts_view parts.now) }
+fn find_samples(arguments: &Arguments) -> Option<u32>
+    ensures number { result ≡ samples_of arguments.now }
     ensures within { IfSome result (λ n. (1 ≤ n) × (n ≤ MOST_SAMPLES)) }
 {
-    match find_value(parts, "x-size") {
+    match arguments.value("x-size") {
         Some(text) => number_up_to(MOST_SAMPLES, text),
         None => Some(DEFAULT_SAMPLES),
     }
 }
 
 /// How many conflicts a search may have.
-fn find_budget(parts: &[Part]) -> Option<Budget>
-    ensures { option_map (λ budget. budget.conflicts) result ≡ conflicts_of (parts_view parts.now) }
+fn find_budget(arguments: &Arguments) -> Option<Budget>
+    ensures { option_map (λ budget. budget.conflicts) result ≡ conflicts_of arguments.now }
 {
-    let conflicts = match find_value(parts, "conflicts") {
+    let conflicts = match arguments.value("conflicts") {
         Some(text) => number_up_to(MOST_CONFLICTS, text)?,
         None => DEFAULT_CONFLICTS,
     };
@@ -87,73 +105,86 @@ fn find_budget(parts: &[Part]) -> Option<Budget>
 }
 
 /// The task of a question: its formula is written without a search.
-fn question_task(parts: &[Part], question: RunQuestion) -> Option<Task>
+fn question_task<'a>(arguments: &Arguments, question: RunQuestion) -> Option<Task<'a>>
     ensures { option_map asked_task result
-        ≡ run_task (parts_view parts.now) question.property question.samples }
+        ≡ run_task arguments.now question.property question.samples }
 {
-    if !is_given(parts, "formula") {
-        return Some(Task::Search(question, find_budget(parts)?));
+    if !arguments.is_given("formula") {
+        return Some(Task::Search(question, find_budget(arguments)?));
     }
-    if is_given(parts, "conflicts") {
+    if arguments.is_given("conflicts") || is_certified(arguments) {
         return None;
     }
     Some(Task::WriteFormula(question))
 }
 
 /// The task of a property over runs of any length, which is overflow alone.
-fn unbounded_task(parts: &[Part], property: RunProperty) -> Option<Task>
-    ensures { option_map asked_task result ≡ unbounded_task (parts_view parts.now) property }
+fn unbounded_task<'a>(arguments: &Arguments, property: RunProperty) -> Option<Task<'a>>
+    ensures { option_map asked_task result ≡ unbounded_task arguments.now property }
 {
     match property {
-        RunProperty::Overflow if is_given(parts, "x-size") => None,
-        RunProperty::Overflow if is_given(parts, "formula") => None,
-        RunProperty::Overflow => Some(Task::SeekSet(find_budget(parts)?)),
+        RunProperty::Overflow if arguments.is_given("x-size") => None,
+        RunProperty::Overflow if arguments.is_given("formula") => None,
+        RunProperty::Overflow => Some(Task::SeekSet(find_budget(arguments)?)),
         RunProperty::LimitCycle => None,
     }
 }
 
 /// The task of a property over so many samples as are asked for.
-fn bounded_task(parts: &[Part], property: RunProperty) -> Option<Task>
+fn bounded_task<'a>(arguments: &Arguments, property: RunProperty) -> Option<Task<'a>>
     ensures { option_map asked_task result
-        ≡ option_and_then (run_task (parts_view parts.now) property)
-        (samples_of (parts_view parts.now)) }
+        ≡ option_and_then (run_task arguments.now property) (samples_of arguments.now) }
 {
-    let samples = find_samples(parts)?;
-    question_task(parts, RunQuestion { property, samples })
+    let samples = find_samples(arguments)?;
+    question_task(arguments, RunQuestion { property, samples })
 }
 
 /// The task of a property.
-fn property_task(parts: &[Part], property: Property) -> Option<Task>
-    ensures { option_map asked_task result ≡ property_task (parts_view parts.now) property }
+fn property_task<'a>(arguments: &Arguments, property: Property) -> Option<Task<'a>>
+    ensures { option_map asked_task result ≡ property_task arguments.now property }
 {
     match property {
-        Property::OfRuns(property) if is_given(parts, "unbounded") => {
-            unbounded_task(parts, property)
+        Property::OfRuns(property) if arguments.is_given("unbounded") => {
+            unbounded_task(arguments, property)
         }
-        Property::OfRuns(property) => bounded_task(parts, property),
-        Property::OfRoots(_) | Property::Timing if has_run_option(parts) => None,
+        Property::OfRuns(property) => bounded_task(arguments, property),
+        Property::OfRoots(_) if has_run_option(arguments) => None,
         Property::OfRoots(property) => Some(Task::Decide(property)),
+        Property::Timing if has_verdict_option(arguments) => None,
         Property::Timing => Some(Task::CheckTime),
     }
 }
 
 /// The task of a run over inputs.
-fn simulation_task(parts: &[Part], list: &str) -> Option<Task>
-    ensures { option_map asked_task result ≡ simulation_task (parts_view parts.now) list.now }
+fn simulation_task<'a>(arguments: &Arguments, list: &str) -> Option<Task<'a>>
+    ensures { option_map asked_task result ≡ simulation_task arguments.now list.now }
 {
-    if has_run_option(parts) {
+    if has_verdict_option(arguments) {
         return None;
     }
     Some(Task::Simulate(find_inputs(list)?))
 }
 
-/// What is to be done.
-pub fn find_task(parts: &[Part]) -> Option<Task>
-    ensures { option_map asked_task result ≡ task_of (parts_view parts.now) }
+/// The task of the check of a certificate, which no other option goes with.
+fn check_task<'a>(arguments: &Arguments, name: &'a str) -> Option<Task<'a>>
+    ensures { option_map asked_task result ≡ check_task arguments.now name.now }
 {
-    match (find_value(parts, "property"), find_value(parts, "simulate")) {
-        (Some(name), None) => property_task(parts, find_named(name.as_bytes())?),
-        (None, Some(list)) => simulation_task(parts, list),
+    if has_verdict_option(arguments) || has_design_option(arguments) {
+        return None;
+    }
+    Some(Task::Check(name))
+}
+
+/// What is to be done.
+pub fn find_task<'a>(arguments: &Arguments<'a>) -> Option<Task<'a>>
+    ensures { option_map asked_task result ≡ task_of arguments.now }
+{
+    let inputs = arguments.value("simulate");
+    let certificate = arguments.value("check");
+    match (arguments.value("property"), inputs, certificate) {
+        (Some(name), None, None) => property_task(arguments, find_named(name.as_bytes())?),
+        (None, Some(list), None) => simulation_task(arguments, list),
+        (None, None, Some(name)) => check_task(arguments, name),
         _ => None,
     }
 }

@@ -1,7 +1,7 @@
 // The rules of the command, by lists of arguments with what is wanted of each. A text is the list
 // of what stands between its bars.
 use dsv_base::NoMemory;
-use dsv_command::{CommandOption, Design, Task, read_job, read_parts};
+use dsv_command::{Design, Task, read_job};
 use dsv_names::{OverflowMode, Realisation, RootProperty, Rounding, RunProperty};
 use std::alloc::Global;
 use std::test::Fail;
@@ -279,6 +279,82 @@ fn sets_are_sought_with_conflicts(rt: HostRuntime) {
     }
 }
 
+/// Arguments that ask for the check of a certificate, and the name of its file.
+#[derive(Clone, Copy)]
+struct Check(&'static str, &'static str);
+
+const CHECKS: [Check; 4] = [
+    Check("f|--check|c", "c"),
+    Check("--check=--x|f", "--x"),
+    Check("--check|-|f", "-"),
+    Check("--check=c|--|--check", "c"),
+];
+
+fn asks_for_check(alloc: Global, row: &Check) -> Result<bool, NoMemory> {
+    let arguments = arguments_of(alloc, row.0)?;
+    Ok(match read_job(alloc, &arguments)? {
+        Some(job) => matches!(job.task, Task::Check(name) if name == row.1),
+        None => false,
+    })
+}
+
+#[test]
+fn a_certificate_is_checked_by_its_name(rt: HostRuntime) {
+    for row in &CHECKS {
+        assert!(rt; asks_for_check(rt.alloc(), row).unwrap_or(false));
+    }
+}
+
+fn is_certified(alloc: Global, text: &str) -> Result<bool, NoMemory> {
+    let arguments = arguments_of(alloc, text)?;
+    Ok(read_job(alloc, &arguments)?.is_some_and(|job| job.certified))
+}
+
+/// Jobs that want a certificate.
+const CERTIFIED: [&str; 5] = [
+    "f|--property|STABILITY|--certificate",
+    "--certificate|f|--property=MINIMUM_PHASE|--realization|DFII",
+    "f|--property|OVERFLOW|--certificate|--x-size|3|--conflicts|4",
+    "f|--property|LIMIT_CYCLE|--certificate",
+    "f|--property|OVERFLOW|--unbounded|--certificate",
+];
+
+#[test]
+fn a_certificate_is_wanted(rt: HostRuntime) {
+    for text in &CERTIFIED {
+        assert!(rt; is_certified(rt.alloc(), text).unwrap_or(false));
+    }
+}
+
+/// Arguments of certificates that are no job.
+const UNCERTIFIED: [&str; 18] = [
+    "f|--certificate",
+    "--certificate|--property|STABILITY",
+    "f|--property|STABILITY|--certificate|--certificate",
+    "f|--property|STABILITY|--certificate=",
+    "f|--property|STABILITY|--certificate=c",
+    "f|--property|STABILITY|--certificate|c",
+    "f|--property|TIMING|--certificate",
+    "f|--simulate=1|--certificate",
+    "f|--property|OVERFLOW|--formula|--certificate",
+    "f|--check",
+    "f|--check=",
+    "f|--check|--x",
+    "--check|c",
+    "f|--check|c|--check|c",
+    "f|--check|c|--property|STABILITY",
+    "f|--check|c|--simulate=1",
+    "f|--check|c|--rounding|CEIL",
+    "f|--check|c|--certificate",
+];
+
+#[test]
+fn a_check_goes_with_a_file_alone(rt: HostRuntime) {
+    for text in &UNCERTIFIED {
+        assert!(rt; !is_job(rt.alloc(), text).unwrap_or(true));
+    }
+}
+
 fn is_job(alloc: Global, text: &str) -> Result<bool, NoMemory> {
     let arguments = arguments_of(alloc, text)?;
     Ok(read_job(alloc, &arguments)?.is_some())
@@ -392,41 +468,66 @@ fn other_arguments_are_no_job(rt: HostRuntime) {
     }
 }
 
-const OPTIONS: [CommandOption; 2] = [
-    CommandOption {
-        name: "flag",
-        takes_value: false,
-    },
-    CommandOption {
-        name: "name",
-        takes_value: true,
-    },
-];
-
-/// Arguments, and whether the table with one flag and one name allows them.
+/// Arguments, and whether they are a job.
 #[derive(Clone, Copy)]
-struct Flags(&'static str, bool);
+struct Line(&'static str, bool);
 
-const FLAGS: [Flags; 9] = [
-    Flags("--flag", true),
-    Flags("--flag|f", true),
-    Flags("f|--flag|--name|-", true),
-    Flags("--flag|--|--flag", true),
-    Flags("--name=a=b", true),
-    Flags("--flag=", false),
-    Flags("--flag=1", false),
-    Flags("--flag|--flag", false),
-    Flags("--name|--flag", false),
+/// Options without a value.
+const FLAGS: [Line; 9] = [
+    Line("--formula|f|--property|OVERFLOW", true),
+    Line("f|--property|OVERFLOW|--formula", true),
+    Line("--formula|--property=OVERFLOW|-", true),
+    Line("--formula|--property=OVERFLOW|--|--formula", true),
+    Line("f|--property=OVERFLOW|--formula=", false),
+    Line("f|--property=OVERFLOW|--formula=1", false),
+    Line("f|--property=OVERFLOW|--formula|1", false),
+    Line("--formula|f|--formula|--property=OVERFLOW", false),
+    Line("f|--property=OVERFLOW|--x-size|--formula", false),
 ];
-
-fn is_allowed(alloc: Global, text: &str) -> Result<bool, NoMemory> {
-    let arguments = arguments_of(alloc, text)?;
-    Ok(read_parts(alloc, &OPTIONS, &arguments)?.is_some())
-}
 
 #[test]
 fn an_option_may_take_no_value(rt: HostRuntime) {
-    for Flags(text, allowed) in &FLAGS {
-        assert!(rt; is_allowed(rt.alloc(), text).unwrap_or(!*allowed) == *allowed);
+    for Line(text, wanted) in &FLAGS {
+        assert!(rt; is_job(rt.alloc(), text).unwrap_or(!*wanted) == *wanted);
+    }
+}
+
+/// Jobs, and the same with one argument more or another one.
+const LOOKS: [Line; 29] = [
+    Line("f|--property|STABILITY", true),
+    Line("f|--property|STABILITY|--help", false),
+    Line("f|--property|STABILITY|-h", false),
+    Line("f|--property|STABILITY|--version", false),
+    Line("f|--property|STABILITY|-V", false),
+    Line("f|--property|STABILITY|help", false),
+    Line("f|--property|STABILITY|---", false),
+    Line("f|--property|STABILITY|--=x", false),
+    Line("f|--property|STABILITY|-", false),
+    Line("f|--property|STABILITY|", false),
+    Line("f|--property|STABILITY|--", true),
+    Line("--property|STABILITY|--|f", true),
+    Line("--property|STABILITY|--|", false),
+    Line("--property|STABILITY|--|f|g", false),
+    Line("--property|STABILITY|--FILE=f", false),
+    Line("--property|STABILITY|--FILE|f", false),
+    Line("-1|--property|STABILITY", false),
+    Line("--property|STABILITY|--|-1", true),
+    Line("--property|-STABILITY|f", false),
+    Line("f|--propert|STABILITY", false),
+    Line("f|--Property|STABILITY", false),
+    Line("f|--propertyy|STABILITY", false),
+    Line("f|--property|OVERFLOW|--x=5", false),
+    Line("f|--property|OVERFLOW|--x-size=5", true),
+    Line("f|--property|OVERFLOW|--x-size=5=", false),
+    Line("f|--property|OVERFLOW|--x-size|5|--x-size=5", false),
+    Line("f|--property|OVERFLOW|--x-size|5|--x-size", false),
+    Line("f|--simulate=-1", true),
+    Line("f|--simulate=--x", false),
+];
+
+#[test]
+fn one_argument_makes_the_difference(rt: HostRuntime) {
+    for Line(text, wanted) in &LOOKS {
+        assert!(rt; is_job(rt.alloc(), text).unwrap_or(!*wanted) == *wanted);
     }
 }
