@@ -1,4 +1,7 @@
+pub mod Certificates
 pub mod Fragments
+pub mod Lines
+pub mod Output
 pub mod Printing
 pub mod Refusals
 pub mod Report

@@ -4,12 +4,8 @@ use Rattle.std.specs.Prelude.{length, take, filter, codes, Option, Some, None, �
 use Rattle.std.specs.Prelude.{Bool, true, false}
 use Rattle.std.specs.List.{flat_map}
 use Rattle.std.specs.Fmt.{signed_decimal}
-use Rattle.dsv_names.specs.Properties.{property_name}
-use Rattle.dsv_names.specs.declared.property.Property.{Property}
 use Rattle.dsv_names.specs.declared.property.Property.TheVariants.{OfRuns, OfRoots, Timing}
 use Rattle.dsv_names.specs.declared.property.RunProperty.TheVariants.{Overflow}
-use Rattle.dsv_names.specs.Realisations.{realisation_name}
-use Rattle.dsv_names.specs.declared.realisation.Realisation.{Realisation}
 use Rattle.dsv_base.specs.Text.{spaced_text, line_of}
 use Rattle.dsv_forms.specs.declared.offers.Form.{Form}
 use Rattle.dsv_jury.specs.declared.verdict.Jury.{Jury}
@@ -26,8 +22,10 @@ use Rattle.dsv_template.specs.declared.kept.KeptSet.{KeptSet}
 use Rattle.dsv_template.specs.declared.verdict.Why.{Why}
 use Rattle.dsv_template.specs.declared.verdict.Why.TheVariants as why
 use Rattle.dsv_command.specs.Jobs.{Task, decides, checks_time, writes, searches, seeks_set}
-use Rattle.dsv_command.specs.Jobs.{simulates, Asked}
+use Rattle.dsv_command.specs.Jobs.{simulates, checks, Asked}
+use Rattle.dsv_report.specs.Certificates.{checked_text, certificate_text}
 use Rattle.dsv_report.specs.Fragments.{concatenation}
+use Rattle.dsv_report.specs.Lines.{property_text, realisation_text, number_line}
 use Rattle.dsv_report.specs.Refusals.{file_text, quant_text, input_text}
 use Rattle.dsv_report.specs.declared.answers.Answer.{Answer}
 use Rattle.dsv_report.specs.declared.answers.Answer.TheVariants as answer
@@ -46,10 +44,6 @@ inconclusive = codes "VERIFICATION INCONCLUSIVE\n"
 unfoldable pub simulation : List ℕ
 simulation = codes "SIMULATION\n"
 
--- a property, before the realisation in the same line
-abbrev pub property_text : Property → List ℕ
-property_text property = concatenation (codes "property " ∷ property_name property ∷ codes " " ∷ [])
-
 -- what is asked of the controller, before the realisation
 abbrev pub task_text : Task → List ℕ
 task_text (decides property) = property_text (OfRoots property)
@@ -58,15 +52,7 @@ task_text (writes property samples) = property_text (OfRuns property)
 task_text (searches property samples conflicts) = property_text (OfRuns property)
 task_text (seeks_set conflicts) = property_text (OfRuns Overflow)
 task_text (simulates inputs) = []
-
-abbrev pub realisation_text : Realisation → List ℕ
-realisation_text realisation =
-    concatenation (codes "realization " ∷ realisation_name realisation ∷ [])
-
--- a word and a number after it, up to the end of the line
-abbrev pub number_line : List ℕ → ℕ → List ℕ
-number_line word number =
-    concatenation (word ∷ signed_decimal (pos number) ∷ codes "\n" ∷ [])
+task_text (checks name) = []
 
 -- how many samples are asked for, or that there is no end to them, up to the end of the line
 abbrev pub extent_text : Task → List ℕ
@@ -76,6 +62,7 @@ extent_text (writes property samples) = number_line (codes " samples ") samples
 extent_text (searches property samples conflicts) = number_line (codes " samples ") samples
 extent_text (seeks_set conflicts) = codes " unbounded\n"
 extent_text (simulates inputs) = codes "\n"
+extent_text (checks name) = codes "\n"
 
 -- the verdict and what the job asked for; without a job there is none
 abbrev pub heading : List ℕ → Option Asked → List ℕ
@@ -247,12 +234,15 @@ text_of job (answer.Spent log) = heading inconclusive job ++ spent_text (length 
 text_of job (answer.FormulaText formula) = dimacs_text formula
 text_of job (answer.JobSize size) = size_text size
 text_of job (answer.Simulated rows) = heading simulation job ++ samples_text 0 rows
+text_of job (answer.Checked certified) = checked_text certified
+text_of job (answer.CertificateRefused line fault) = certificate_text line fault
 text_of job answer.Usage = codes "USAGE\n"
 text_of job (answer.FileRefused r) = file_text r
 text_of job answer.FileTooLong = codes "FILE REFUSED 12 TOO_LONG at 65536\n"
 text_of job (answer.QuantRefused r) = quant_text r
 text_of job (answer.InputRange index value) = input_text index value
 text_of job (answer.ReadFault file.Controller) = codes "READ FAULT CONTROLLER\n"
+text_of job (answer.ReadFault file.Certificate) = codes "READ FAULT CERTIFICATE\n"
 text_of job answer.NoMemory = codes "NO MEMORY\n"
 
 abbrev pub status_of : Answer → ℕ
@@ -272,10 +262,12 @@ status_of (answer.Spent log) = 20
 status_of (answer.FormulaText formula) = 0
 status_of (answer.JobSize size) = 6
 status_of (answer.Simulated rows) = 0
+status_of (answer.Checked certified) = 0
+status_of (answer.CertificateRefused line fault) = 7
 status_of answer.Usage = 1
 status_of (answer.FileRefused r) = 2
 status_of answer.FileTooLong = 2
 status_of (answer.QuantRefused r) = 2
 status_of (answer.InputRange index value) = 2
-status_of (answer.ReadFault file.Controller) = 3
+status_of (answer.ReadFault file) = 3
 status_of answer.NoMemory = 5

@@ -1,4 +1,5 @@
 // What the command answers.
+use dsv_certfile::{CheckFault, Job, TextFault};
 use dsv_cnf::Formula;
 use dsv_forms::{Falls, Form, KeptAway, Poly};
 use dsv_hints::Log;
@@ -15,6 +16,18 @@ use dsv_timing::TimingReport;
 #[derive(Clone, Copy, Debug, PartialEq, Eq)]
 pub enum WhichFile {
     Controller,
+    Certificate,
+}
+
+/// What is wrong with a certificate.
+#[derive(Clone, Copy, Debug, PartialEq, Eq)]
+pub enum CertificateFault {
+    /// The line isn't one of the text of a certificate.
+    Text(TextFault),
+    /// The line's claim isn't so.
+    Check(CheckFault),
+    /// The file has over 64 MiB.
+    TooLong,
 }
 
 /// What the command found.
@@ -84,6 +97,13 @@ pub enum Answer {
     },
     /// The rows of the controller over the inputs of the job, from registers of zeros.
     Simulated(Rows),
+    /// The certificate shows its property of the controller.
+    Checked(Job),
+    /// The first line of the certificate that is wrong, counted from 1, and 0 for the whole file.
+    CertificateRefused {
+        line: u64,
+        fault: CertificateFault,
+    },
     /// The command line is not valid: its arguments ask for no job.
     Usage,
     /// The first fault of the controller file.

@@ -2,9 +2,13 @@
 #![tactic(auto)]
 
 mod answers;
+mod certificates;
 mod fragments;
+mod lines;
+mod output;
 mod refusals;
 mod report;
 
-pub use answers::{Answer, WhichFile};
-pub use report::{put_answer, status_of};
+pub use answers::{Answer, CertificateFault, WhichFile};
+pub use output::put_output;
+pub use report::status_of;

@@ -12,7 +12,9 @@ ghost use Rattle.dsv_report.specs.Printing.{HasPlaces, asked_in};
 ghost use Rattle.dsv_report.specs.Report as report;
 
 use crate::answers::{Answer, WhichFile};
+use crate::certificates::{put_certificate_refusal, put_checked};
 use crate::fragments::{Fragment, put_fragments};
+use crate::lines::{put_number_line, put_property, put_realisation};
 use crate::refusals::{put_file_refusal, put_input_range, put_quant_refusal};
 use dsv_base::{Failed, Sink, put_all, put_line, put_spaced};
 use dsv_cnf::write_dimacs;
@@ -21,7 +23,7 @@ use dsv_forms::{Form, KeptAway, Poly};
 use dsv_fraction::Frac;
 use dsv_jury::Jury;
 use dsv_meaning::{Cycle, Trace};
-use dsv_names::{Named, Property, Realisation, RunProperty};
+use dsv_names::{Property, RunProperty};
 use dsv_system::{Row, Rows};
 use dsv_template::{Candidate, Inequality, KeptSet, Why};
 use dsv_timing::TimingReport;
@@ -36,20 +38,6 @@ const INCONCLUSIVE: &[u8] = b"VERIFICATION INCONCLUSIVE\n";
 
 const SIMULATION: &[u8] = b"SIMULATION\n";
 
-/// Writes a property, before the realisation in the same line.
-fn put_property<K: Sink>(sink: &mut K, property: Property) -> Result<(), Failed>
-    ensures { Writes (K.seen sink.old) (K.seen sink.new) result (report.property_text property) }
-{
-    put_fragments(
-        sink,
-        &[
-            Fragment::Bytes(b"property "),
-            Fragment::Bytes(property.name().as_bytes()),
-            Fragment::Bytes(b" "),
-        ],
-    )
-}
-
 /// Writes what is asked of the controller.
 fn put_task<K: Sink>(sink: &mut K, task: &Task) -> Result<(), Failed>
     ensures { Writes (K.seen sink.old) (K.seen sink.new) result
@@ -62,22 +50,8 @@ fn put_task<K: Sink>(sink: &mut K, task: &Task) -> Result<(), Failed>
             put_property(sink, Property::OfRuns(question.property))
         }
         Task::SeekSet(_) => put_property(sink, Property::OfRuns(RunProperty::Overflow)),
-        Task::Simulate(_) => put_all(sink, b""),
+        Task::Simulate(_) | Task::Check(_) => put_all(sink, b""),
     }
-}
-
-/// Writes the realisation.
-fn put_realisation<K: Sink>(sink: &mut K, realisation: Realisation) -> Result<(), Failed>
-    ensures { Writes (K.seen sink.old) (K.seen sink.new) result
-        (report.realisation_text realisation) }
-{
-    put_fragments(
-        sink,
-        &[
-            Fragment::Bytes(b"realization "),
-            Fragment::Bytes(realisation.name().as_bytes()),
-        ],
-    )
 }
 
 /// Writes how many samples are asked for, or that there is no end to them, up to the end of the
@@ -91,7 +65,9 @@ fn put_extent<K: Sink>(sink: &mut K, task: &Task) -> Result<(), Failed>
             put_number_line(sink, b" samples ", question.samples.into())
         }
         Task::SeekSet(_) => put_all(sink, b" unbounded\n"),
-        Task::Decide(_) | Task::CheckTime | Task::Simulate(_) => put_all(sink, b"\n"),
+        Task::Decide(_) | Task::CheckTime | Task::Simulate(_) | Task::Check(_) => {
+            put_all(sink, b"\n")
+        }
     }
 }
 
@@ -225,21 +201,6 @@ fn put_no_zeros<K: Sink>(sink: &mut K, job: Option<&Job>) -> Result<(), Failed>
 {
     put_heading(sink, FAILED, job)?;
     put_all(sink, b"no zeros to test\n")
-}
-
-/// Writes a word and a number after it, up to the end of the line.
-fn put_number_line<K: Sink>(sink: &mut K, word: &[u8], number: u64) -> Result<(), Failed>
-    ensures { Writes (K.seen sink.old) (K.seen sink.new) result
-        (report.number_line word.now number) }
-{
-    put_fragments(
-        sink,
-        &[
-            Fragment::Bytes(word),
-            Fragment::Number(number.into()),
-            Fragment::Bytes(b"\n"),
-        ],
-    )
 }
 
 /// Writes what Jury's recursion says.
@@ -589,7 +550,8 @@ pub fn status_of(answer: &Answer) -> u8
         | Answer::Never { .. }
         | Answer::Always { .. }
         | Answer::FormulaText(_)
-        | Answer::Simulated(_) => 0,
+        | Answer::Simulated(_)
+        | Answer::Checked(_) => 0,
         Answer::KeptAway { .. }
         | Answer::NoZeros
         | Answer::Late(_)
@@ -604,14 +566,19 @@ pub fn status_of(answer: &Answer) -> u8
         | Answer::FileTooLong
         | Answer::QuantRefused(_)
         | Answer::InputRange { .. } => 2,
-        Answer::ReadFault(WhichFile::Controller) => 3,
+        Answer::ReadFault(_) => 3,
         Answer::NoMemory => 5,
         Answer::JobSize { .. } => 6,
+        Answer::CertificateRefused { .. } => 7,
     }
 }
 
 /// Writes the text of an answer to a job, or to arguments that ask for none. It takes no memory.
-pub fn put_answer<K: Sink>(sink: &mut K, job: Option<&Job>, answer: &Answer) -> Result<(), Failed>
+pub(crate) fn put_answer<K: Sink>(
+    sink: &mut K,
+    job: Option<&Job>,
+    answer: &Answer,
+) -> Result<(), Failed>
     requires { HasPlaces answer.now }
     ensures { Writes (K.seen sink.old) (K.seen sink.new) result
         (report.text_of (asked_in job.entry) answer.now) }
@@ -643,12 +610,15 @@ pub fn put_answer<K: Sink>(sink: &mut K, job: Option<&Job>, answer: &Answer) -> 
         Answer::FormulaText(formula) => write_dimacs(formula, sink),
         Answer::JobSize { size } => put_number_line(sink, b"JOB SIZE ", *size),
         Answer::Simulated(rows) => put_simulation(sink, job, rows),
+        Answer::Checked(certified) => put_checked(sink, certified),
+        Answer::CertificateRefused { line, fault } => put_certificate_refusal(sink, *line, *fault),
         Answer::Usage => put_all(sink, b"USAGE\n"),
         Answer::FileRefused(refusal) => put_file_refusal(sink, *refusal),
         Answer::FileTooLong => put_all(sink, b"FILE REFUSED 12 TOO_LONG at 65536\n"),
         Answer::QuantRefused(refusal) => put_quant_refusal(sink, *refusal),
         Answer::InputRange { index, value } => put_input_range(sink, *index, value),
         Answer::ReadFault(WhichFile::Controller) => put_all(sink, b"READ FAULT CONTROLLER\n"),
+        Answer::ReadFault(WhichFile::Certificate) => put_all(sink, b"READ FAULT CERTIFICATE\n"),
         Answer::NoMemory => put_all(sink, b"NO MEMORY\n"),
     }
 }

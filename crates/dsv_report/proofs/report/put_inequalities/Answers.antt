@@ -1,6 +1,6 @@
 use Rattle.std.proofs.Common.{[], arith}
 use Rattle.dsv_base.proofs.TakingLemmas.{writes_cut, append_nil}
-use Rattle.dsv_base.proofs.ListWrites.{wrote_item, cut_item}
+use Rattle.dsv_base.proofs.ListWrites.{cut_item}
 use Rattle.dsv_report.specs.Report.{inequality_text, inequalities_text}
 use Rattle.dsv_report.proofs.report.put_inequalities.Goals as goal
 

@@ -1,7 +1,8 @@
 use Rattle.std.proofs.Common.{◌++◌}
 use Rattle.dsv_base.proofs.TakingLemmas.{writes_after, writes_cut}
 use Rattle.dsv_command.specs.Asking.{asked_task}
-use Rattle.dsv_report.specs.Report.{extent_text, realisation_text, task_text}
+use Rattle.dsv_report.specs.Lines.{realisation_text}
+use Rattle.dsv_report.specs.Report.{extent_text, task_text}
 use Rattle.dsv_report.proofs.report.put_job_heading.Goals as goal
 
 pub returns-in_err-put_all : goal.returns-in_err-put_all

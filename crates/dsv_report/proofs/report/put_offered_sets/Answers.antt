@@ -1,6 +1,6 @@
 use Rattle.std.proofs.Common.{codes}
 use Rattle.dsv_base.proofs.TakingLemmas.{writes_after, writes_cut}
-use Rattle.dsv_report.specs.Report.{number_line}
+use Rattle.dsv_report.specs.Lines.{number_line}
 use Rattle.dsv_report.proofs.report.put_offered_sets.Goals as goal
 
 pub returns-in_err-put_numbered : goal.returns-in_err-put_numbered

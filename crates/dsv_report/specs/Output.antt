@@ -1,0 +1,67 @@
+-- What is written for an answer: its certificate, where the job wants one and there is one, and
+-- else its report.
+use Rattle.std.specs.Prelude.{ℕ, List, Option, Some, None, if◌then◌else◌}
+use Rattle.dsv_names.specs.declared.property.Property.{Property}
+use Rattle.dsv_names.specs.declared.property.Property.TheVariants.{OfRuns, OfRoots}
+use Rattle.dsv_names.specs.declared.property.RunProperty.TheVariants.{Overflow}
+use Rattle.dsv_certfile.specs.Texts as certified
+use Rattle.dsv_certfile.specs.declared.certificate.Certificate.{Certificate}
+use Rattle.dsv_certfile.specs.declared.certificate.Certificate.TheVariants as certificate
+use Rattle.dsv_certfile.specs.declared.job.Job.{Job}
+use Rattle.dsv_certfile.specs.declared.job.Size.{Size}
+use Rattle.dsv_certfile.specs.declared.job.Size.TheVariants as size
+use Rattle.dsv_command.specs.Jobs.{Task, decides, searches, seeks_set, Asked}
+use Rattle.dsv_command.specs.declared.job.Design.{Design}
+use Rattle.dsv_report.specs.Report.{text_of}
+use Rattle.dsv_report.specs.declared.answers.Answer.{Answer}
+use Rattle.dsv_report.specs.declared.answers.Answer.TheVariants as answer
+
+-- the job of a certificate for a controller that is realised by a design
+abbrev pub job_with : Design → Property → Size → Job
+job_with design p s = record {
+  property = p;
+  realisation = design.realisation;
+  rounding = design.rounding;
+  overflow = design.overflow;
+  size = s;
+}
+
+-- the certificate that a property of bounded runs never happens
+abbrev pub hints_of : Job → Answer → Option Certificate
+hints_of job (answer.Never log) = Some (certificate.Hints job log)
+hints_of job other = None
+
+-- the certificate of a set that is never left
+abbrev pub invariant_of : Job → Answer → Option Certificate
+invariant_of job (answer.Always candidate logs) =
+    Some (certificate.Invariant job candidate logs)
+invariant_of job other = None
+
+-- the certificate of a form that falls
+abbrev pub falls_of : Job → Answer → Option Certificate
+falls_of job (answer.Falls poly offer fall) = Some (certificate.Falls job offer)
+falls_of job other = None
+
+-- the certificate of an answer to a task, where it has one
+abbrev pub certificate_for : Design → Task → Answer → Option Certificate
+certificate_for design (searches p samples conflicts) =
+    hints_of (job_with design (OfRuns p) (size.Samples samples))
+certificate_for design (seeks_set conflicts) =
+    invariant_of (job_with design (OfRuns Overflow) size.Unbounded)
+certificate_for design (decides p) = falls_of (job_with design (OfRoots p) size.NoSize)
+certificate_for design other = λ _. None
+
+-- the certificate of an answer to a job, where the job wants one
+abbrev pub certificate_of : Asked → Answer → Option Certificate
+certificate_of job found =
+    if job.certified then certificate_for job.design job.task found else None
+
+-- the certificate's text, or else this
+abbrev pub text_or : Option Certificate → List ℕ → List ℕ
+text_or (Some c) text = certified.certificate_text c
+text_or None text = text
+
+-- what is written for an answer to a job, or where the arguments ask for none
+abbrev pub output_of : Option Asked → Answer → List ℕ
+output_of None found = text_of None found
+output_of (Some job) found = text_or (certificate_of job found) (text_of (Some job) found)

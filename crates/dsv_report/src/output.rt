@@ -1,0 +1,123 @@
+// Writes what is asked for of an answer, with no memory.
+ghost use Rattle.std.specs.Prelude.{◌≡◌, Some};
+ghost use Rattle.dsv_base.specs.Taking.{Writes};
+ghost use Rattle.dsv_command.specs.Asking.{asked_of, asked_task};
+ghost use Rattle.dsv_report.specs.Output.{job_with, hints_of, invariant_of, falls_of};
+ghost use Rattle.dsv_report.specs.Output.{certificate_for, text_or, output_of};
+ghost use Rattle.dsv_report.specs.Printing.{HasPlaces, asked_in};
+ghost use Rattle.dsv_report.specs.Report.{text_of};
+ghost use Rattle.dsv_certfile.specs.declared.job.Size.TheVariants as size;
+ghost use Rattle.dsv_names.specs.declared.property.Property.TheVariants.{OfRuns, OfRoots};
+ghost use Rattle.dsv_names.specs.declared.property.RunProperty.TheVariants.{Overflow};
+
+use crate::answers::Answer;
+use crate::report::put_answer;
+use dsv_base::{Failed, Sink};
+use dsv_certfile::{Size, write_falls, write_hints, write_invariant};
+use dsv_command::{Design, Job, RunQuestion, Task};
+use dsv_names::{Property, RootProperty, RunProperty};
+
+/// The job of a certificate for a controller that is realised by a design.
+fn job_with(design: Design, property: Property, size: Size) -> dsv_certfile::Job
+    ensures { result ≡ job_with design property size }
+{
+    dsv_certfile::Job {
+        property,
+        realisation: design.realisation,
+        rounding: design.rounding,
+        overflow: design.overflow,
+        size,
+    }
+}
+
+/// Writes the certificate of an answer to a question of runs, or its report where it has none.
+fn put_hints<K: Sink>(
+    sink: &mut K,
+    job: &Job,
+    question: &RunQuestion,
+    answer: &Answer,
+) -> Result<(), Failed>
+    requires { HasPlaces answer.now }
+    ensures { Writes (K.seen sink.old) (K.seen sink.new) result
+        (text_or (hints_of (job_with job.now.design (OfRuns question.now.property)
+        (size.Samples question.now.samples)) answer.now)
+        (text_of (Some (asked_of job.now)) answer.now)) }
+{
+    match answer {
+        Answer::Never { log } => {
+            let size = Size::Samples(question.samples);
+            let certified = job_with(job.design, Property::OfRuns(question.property), size);
+            write_hints(sink, &certified, log)
+        }
+        _ => put_answer(sink, Some(job), answer),
+    }
+}
+
+/// Writes the certificate of an answer on runs of any length, or its report where it has none.
+fn put_invariant<K: Sink>(sink: &mut K, job: &Job, answer: &Answer) -> Result<(), Failed>
+    requires { HasPlaces answer.now }
+    ensures { Writes (K.seen sink.old) (K.seen sink.new) result
+        (text_or (invariant_of (job_with job.now.design (OfRuns Overflow) size.Unbounded)
+        answer.now) (text_of (Some (asked_of job.now)) answer.now)) }
+{
+    match answer {
+        Answer::Always { candidate, logs } => {
+            let property = Property::OfRuns(RunProperty::Overflow);
+            let certified = job_with(job.design, property, Size::Unbounded);
+            write_invariant(sink, &certified, candidate, logs)
+        }
+        _ => put_answer(sink, Some(job), answer),
+    }
+}
+
+/// Writes the certificate of an answer on roots, or its report where it has none.
+fn put_falls<K: Sink>(
+    sink: &mut K,
+    job: &Job,
+    property: RootProperty,
+    answer: &Answer,
+) -> Result<(), Failed>
+    requires { HasPlaces answer.now }
+    ensures { Writes (K.seen sink.old) (K.seen sink.new) result
+        (text_or (falls_of (job_with job.now.design (OfRoots property) size.NoSize) answer.now)
+        (text_of (Some (asked_of job.now)) answer.now)) }
+{
+    match answer {
+        Answer::Falls { offer, .. } => {
+            let certified = job_with(job.design, Property::OfRoots(property), Size::NoSize);
+            write_falls(sink, &certified, offer)
+        }
+        _ => put_answer(sink, Some(job), answer),
+    }
+}
+
+/// Writes the certificate of an answer, or its report where it has none.
+fn put_certificate<K: Sink>(sink: &mut K, job: &Job, answer: &Answer) -> Result<(), Failed>
+    requires { HasPlaces answer.now }
+    ensures { Writes (K.seen sink.old) (K.seen sink.new) result
+        (text_or (certificate_for job.now.design (asked_task job.now.task) answer.now)
+        (text_of (Some (asked_of job.now)) answer.now)) }
+{
+    match &job.task {
+        Task::Search(question, _) => put_hints(sink, job, question, answer),
+        Task::SeekSet(_) => put_invariant(sink, job, answer),
+        Task::Decide(property) => put_falls(sink, job, *property, answer),
+        Task::CheckTime | Task::WriteFormula(_) | Task::Simulate(_) | Task::Check(_) => {
+            put_answer(sink, Some(job), answer)
+        }
+    }
+}
+
+/// Writes what is asked for of an answer to a job, or to arguments that ask for none: a
+/// certificate, where the job wants one and the answer has one, and else the report. It takes no
+/// memory.
+pub fn put_output<K: Sink>(sink: &mut K, job: Option<&Job>, answer: &Answer) -> Result<(), Failed>
+    requires { HasPlaces answer.now }
+    ensures { Writes (K.seen sink.old) (K.seen sink.new) result
+        (output_of (asked_in job.entry) answer.now) }
+{
+    match job {
+        Some(job) if job.certified => put_certificate(sink, job, answer),
+        Some(_) | None => put_answer(sink, job, answer),
+    }
+}
