@@ -1,6 +1,7 @@
 -- Verdicts and formulas are the answers to their questions.
 use Rattle.std.proofs.Common.{◌≡◌, refl, ℕ}
 use Rattle.std.specs.Prelude.{◌↔◌, Result, Ok, Err, IfOk}
+use Rattle.dsv_names.specs.declared.property.RunProperty.{RunProperty}
 use Rattle.dsv_names.specs.declared.property.RunProperty.TheVariants as run
 use Rattle.dsv_quantiser.specs.FixedPoint.{FixedPoint}
 use Rattle.dsv_cnf.specs.Formula.{IsSatisfiable}
@@ -12,22 +13,17 @@ use Rattle.dsv_bounded.specs.declared.answers.BoundedRefusal.{BoundedRefusal}
 use Rattle.dsv_bounded.specs.declared.answers.BoundedRefusal.TheVariants as refusal
 use Rattle.dsv_bounded.specs.Answers.{IfNever, IfOverflow, IfCycles, IfSpent, IsSized}
 use Rattle.dsv_bounded.specs.Formulas.{overflow_formula_of, cycle_formula_of, job_size_of}
+use Rattle.dsv_bounded.specs.RunQuestions.{Happens, question_formula}
 use Rattle.dsv_bounded.specs.Verdicts.{BreaksWithin, CyclesWithin, IsTrace, IsCycle}
 use Rattle.dsv_cli.specs.Answering.{answer_of, formula_answer_of}
 use Rattle.dsv_cli.specs.Causes.{IsOfFormula, IsOfSearch, IsPlain}
 
 -- ---- formulas
-pub overflow_written : (k : ℕ) (q : FixedPoint) (found : Result FormulaView BoundedRefusal) → IsSized (job_size_of q k) found
-    → IfOk found (λ f. f ≡ overflow_formula_of q k) → IfOk found (λ f. IsSatisfiable f.clauses ↔ BreaksWithin q k) → IsOfFormula run.Overflow k q (formula_answer_of found)
-overflow_written k q (Ok f) s e t = record { within = s; formula_of = e; tells = t }
-overflow_written k q (Err (refusal.JobSize n)) s e t = record { size_of = s.0; large = rw s.0 s.1 }
-overflow_written k q (Err refusal.NoMemory) s e t = tt
-
-pub cycle_written : (k : ℕ) (q : FixedPoint) (found : Result FormulaView BoundedRefusal) → IsSized (job_size_of q k) found
-    → IfOk found (λ f. f ≡ cycle_formula_of q k) → IfOk found (λ f. IsSatisfiable f.clauses ↔ CyclesWithin q k) → IsOfFormula run.LimitCycle k q (formula_answer_of found)
-cycle_written k q (Ok f) s e t = record { within = s; formula_of = e; tells = t }
-cycle_written k q (Err (refusal.JobSize n)) s e t = record { size_of = s.0; large = rw s.0 s.1 }
-cycle_written k q (Err refusal.NoMemory) s e t = tt
+pub formula_written : (p : RunProperty) (k : ℕ) (q : FixedPoint) (found : Result FormulaView BoundedRefusal) → IsSized (job_size_of q k) found
+    → IfOk found (λ f. f ≡ question_formula p q k) → IfOk found (λ f. IsSatisfiable f.clauses ↔ Happens p q k) → IsOfFormula p k q (formula_answer_of found)
+formula_written p k q (Ok f) s e t = record { within = s; formula_of = e; tells = t }
+formula_written p k q (Err (refusal.JobSize n)) s e t = record { size_of = s.0; large = rw s.0 s.1 }
+formula_written p k q (Err refusal.NoMemory) s e t = tt
 
 pub formula_plain : (found : Result FormulaView BoundedRefusal) → IsPlain (formula_answer_of found)
 formula_plain (Ok f) = tt

@@ -1,5 +1,5 @@
 -- The stages of a run lead to the rows of the table.
-use Rattle.std.proofs.Common.{◌≡◌, inl, inr, ℕ, ◌≤◌, List, length, subst, refl, sym, ap, ◌∙◌}
+use Rattle.std.proofs.Common.{◌≡◌, ◌⊎◌, inl, inr, ℕ, ◌≤◌, List, length, subst, refl, sym, ap, ◌∙◌}
 use Rattle.std.specs.Prelude.{Result, Ok, Err, Option, Some, None, IfSome, ℤ}
 use Rattle.dsv_names.specs.declared.property.RunProperty.{RunProperty}
 use Rattle.dsv_names.specs.declared.property.RunProperty.TheVariants as run
@@ -7,7 +7,7 @@ use Rattle.dsv_reader.specs.Controllers.{ControllerView}
 use Rattle.dsv_reader.specs.Texts.{IsTextOf, IsFaultOf}
 use Rattle.dsv_quantiser.specs.FixedPoint.{FixedPoint}
 use Rattle.dsv_quantiser.specs.declared.refusal.QuantRefusal.{QuantRefusal}
-use Rattle.dsv_command.specs.Jobs.{Task, decides, checks_time, writes, searches, seeks_set, simulates, Asked}
+use Rattle.dsv_command.specs.Jobs.{Task, decides, checks_time, writes, searches, seeks_set, simulates, checks, Asked}
 use Rattle.dsv_command.specs.declared.job.Design.{Design}
 use Rattle.dsv_command.specs.declared.question.Budget.{Budget}
 use Rattle.dsv_invariant.specs.declared.size.TheConstants.{UNBOUNDED_SAMPLES}
@@ -15,11 +15,14 @@ use Rattle.dsv_report.specs.declared.answers.Answer.{Answer}
 use Rattle.dsv_report.specs.declared.answers.Answer.TheVariants as answer
 use Rattle.dsv_tested.specs.declared.side.Tested.TheVariants as tested
 use Rattle.dsv_base.specs.Seen.{FilesSeen}
+use Rattle.dsv_certcheck.specs.Checks.{IsChecked}
+use Rattle.dsv_certcheck.specs.declared.check_refusal.CheckRefusal.TheVariants as refusal
 use Rattle.dsv_cli.specs.declared.outcome.Outcome.{Outcome}
 use Rattle.dsv_cli.specs.declared.outcome.Outcome.TheVariants as outcome
-use Rattle.dsv_cli.specs.Headline.{longest_file, IsAccepted, IsTested, IsTimed, IsSearch, IsWriting, IsSeeking, AsksOver, IsRun, IsRow, FileBecomes}
+use Rattle.dsv_cli.specs.Headline.{longest_file, IsForWords, IsCheckOf, Spells, IsAccepted, IsTested, IsTimed, IsSearch, IsWriting, IsSeeking, AsksOver, IsRun, IsRow}
 use Rattle.dsv_bounded.specs.Verdicts.{IsTrace, IsCycle}
-use Rattle.dsv_cli.specs.Questions.{IsWithin, NeverHappens, GaveUp, IsFormulaOf, IsTooLarge}
+use Rattle.dsv_bounded.specs.RunQuestions.{IsWithin}
+use Rattle.dsv_cli.specs.Questions.{NeverHappens, GaveUp, IsFormulaOf, IsTooLarge}
 use Rattle.dsv_cli.specs.Simulating.{IsRunOver, IsFirstOutside}
 use Rattle.dsv_cli.specs.Sets.{KeepsTo, NoneIsGood}
 use Rattle.dsv_cli.specs.Causes.{BecomesWords, IsDecision, IsOfSets, IsOfTask, IsOfController, IsOfBytes, HasRow, HasRowOf}
@@ -33,6 +36,7 @@ of_words c design (writes p samples) words (outcome.Answered (answer.QuantRefuse
 of_words c design (searches p samples conflicts) words (outcome.Answered (answer.QuantRefused r)) b h = absurd h
 of_words c design (seeks_set conflicts) words (outcome.Answered (answer.QuantRefused r)) b h = absurd h
 of_words c design (simulates inputs) words (outcome.Answered (answer.QuantRefused r)) b h = absurd h
+of_words c design (checks name) words (outcome.Answered (answer.QuantRefused r)) b h = absurd h
 of_words c design task words found b h = record { words = words; becomes = b; answer = h }
 
 -- what holds of the bytes that were read holds of the file's, where these are told
@@ -44,6 +48,16 @@ abbrev accepted_by : (design : Design) (bytes : List ℕ) (c : ControllerView) (
     → BecomesWords c design outcome → IsAccepted design bytes outcome
 accepted_by design bytes c outcome short text b =
     record { short = short; controller = c; text = text; format = b.format; modes = b.modes; becomes = b.becomes }
+
+-- what the answer that a job is too large says of the bytes
+abbrev pub SizeCause : FilesSeen → Asked → ℕ → List ℕ → Type 0
+SizeCause old job size bytes = ((n : ℕ) × (w : FixedPoint) × AsksOver job bytes n w × IsTooLarge n w size)
+    ⊎ IsCheckOf old job bytes (λ controller. Spells (λ c. IsChecked controller c (Err (refusal.JobSize size))))
+
+-- and the answer that a controller has no words
+abbrev pub QuantCause : FilesSeen → Asked → QuantRefusal → List ℕ → Type 0
+QuantCause old job r bytes = (IsForWords job.task × IsAccepted job.design bytes (Err r))
+    ⊎ IsCheckOf old job bytes (λ controller. Spells (λ c. IsChecked controller c (Err (refusal.Quant r))))
 
 -- ---- from the words on
 row_of_words : (job : Asked) (bytes : List ℕ) (words : FixedPoint) (task : Task) → job.task ≡ task → (found : Outcome)
@@ -87,8 +101,7 @@ row_of_words job bytes words (writes p k) e (outcome.Answered (answer.FormulaTex
 }
 row_of_words job bytes words (writes p k) e (outcome.Answered (answer.JobSize size)) a h = λ told old new same. record {
   belongs_to = inr (inl (p, k, e));
-  comes_from = told_by (λ b. (n : ℕ) × (w : FixedPoint) × AsksOver job b n w × IsTooLarge n w size) bytes told same
-      (k, words, inr (inl (p, record { task = e; accepted = a })), h);
+  comes_from = told_by (SizeCause old job size) bytes told same (inl (k, words, inr (inl (p, record { task = e; accepted = a })), h));
   shows = tt;
 }
 row_of_words job bytes words (writes p k) e (outcome.Answered answer.NoMemory) a h = λ told old new same. tt
@@ -123,8 +136,7 @@ row_of_words job bytes words (searches p k c) e (outcome.Answered (answer.Spent 
 }
 row_of_words job bytes words (searches p k c) e (outcome.Answered (answer.JobSize size)) a h = λ told old new same. record {
   belongs_to = inl (p, (k, c, e));
-  comes_from = told_by (λ b. (n : ℕ) × (w : FixedPoint) × AsksOver job b n w × IsTooLarge n w size) bytes told same
-      (k, words, inl (p, c, record { task = e; accepted = a }), h);
+  comes_from = told_by (SizeCause old job size) bytes told same (inl (k, words, inl (p, c, record { task = e; accepted = a }), h));
   shows = tt;
 }
 row_of_words job bytes words (searches p k c) e (outcome.Answered answer.NoMemory) a h = λ told old new same. tt
@@ -153,27 +165,28 @@ row_of_words job bytes words (simulates inputs) e (outcome.Answered answer.NoMem
 row_of_words job bytes words (simulates inputs) e (outcome.Answered found) a h = absurd h
 row_of_words job bytes words (simulates inputs) e (outcome.Undecided poly) a h = absurd h
 row_of_words job bytes words (simulates inputs) e (outcome.Unbounded w b) a h = absurd h
+row_of_words job bytes words (checks name) e found a h = absurd h
 
 -- ---- from the controller on
-row_of_controller : (job : Asked) (bytes : List ℕ) (c : ControllerView) → length bytes ≤ longest_file → IsTextOf bytes c → (found : Outcome)
+row_of_controller : (job : Asked) (bytes : List ℕ) (c : ControllerView) → IsForWords job.task → length bytes ≤ longest_file → IsTextOf bytes c → (found : Outcome)
     → IsOfController c job.design job.task found → HasRowOf job bytes found
-row_of_controller job bytes c short text (outcome.Answered (answer.QuantRefused r)) h = λ told old new same. record {
+row_of_controller job bytes c for short text (outcome.Answered (answer.QuantRefused r)) h = λ told old new same. record {
   belongs_to = tt;
-  comes_from = told_by (λ b. IsAccepted job.design b (Err r)) bytes told same (accepted_by job.design bytes c (Err r) short text h);
+  comes_from = told_by (QuantCause old job r) bytes told same (inl (for, accepted_by job.design bytes c (Err r) short text h));
   shows = tt;
 }
-row_of_controller job bytes c short text found h =
+row_of_controller job bytes c for short text found h =
     row_of_words job bytes h.words job.task refl found (accepted_by job.design bytes c (Ok h.words) short text h.becomes) h.answer
 
 -- ---- from the bytes on
-pub row_of : (job : Asked) (bytes : List ℕ) (found : Outcome) → length bytes ≤ longest_file → IsOfBytes job bytes found → HasRowOf job bytes found
-row_of job bytes (outcome.Answered (answer.FileRefused r)) short h = λ told old new same. record {
+pub row_of : (job : Asked) (bytes : List ℕ) (found : Outcome) → IsForWords job.task → length bytes ≤ longest_file → IsOfBytes job bytes found → HasRowOf job bytes found
+row_of job bytes (outcome.Answered (answer.FileRefused r)) for short h = λ told old new same. record {
   belongs_to = tt;
   comes_from = told_by (λ b. (length b ≤ longest_file) × IsFaultOf b r) bytes told same (short, h);
   shows = tt;
 }
-row_of job bytes (outcome.Answered answer.NoMemory) short h = λ told old new same. tt
-row_of job bytes found short h = row_of_controller job bytes h.controller short h.text found h.outcome
+row_of job bytes (outcome.Answered answer.NoMemory) for short h = λ told old new same. tt
+row_of job bytes found for short h = row_of_controller job bytes h.controller for short h.text found h.outcome
 
 -- ---- from the polynomial on
 renamed : (told : Option (List ℕ)) (job : Asked) (p q : List ℤ) → q ≡ p → IfSome told (λ bytes. IsTested job bytes (Ok (tested.Poly p)))
@@ -212,9 +225,9 @@ row_of_sets told old new job words budget (answer.NoInvariant kept) h d = record
   shows = tt;
 }
 row_of_sets told old new job words budget (answer.JobSize size) h d = record {
-  belongs_to = inr (inr (budget.conflicts, h.0));
-  comes_from = seeking told job words budget.conflicts (λ b. (n : ℕ) × (w : FixedPoint) × AsksOver job b n w × IsTooLarge n w size)
-      (λ bytes s. (UNBOUNDED_SAMPLES, words, inr (inr (budget.conflicts, s, refl)), d)) h.0 h.1;
+  belongs_to = inr (inr (inl (budget.conflicts, h.0)));
+  comes_from = seeking told job words budget.conflicts (SizeCause old job size)
+      (λ bytes s. inl (UNBOUNDED_SAMPLES, words, inr (inr (budget.conflicts, s, refl)), d)) h.0 h.1;
   shows = tt;
 }
 row_of_sets told old new job words budget answer.NoMemory h d = tt

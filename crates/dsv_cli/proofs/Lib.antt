@@ -1,7 +1,11 @@
+pub mod AcceptedLemmas
 pub mod Answering
 pub mod Asked
 pub mod Blocks
 pub mod Causes
+pub mod CertifiedWords
+pub mod CheckRows
+pub mod CheckStages
 pub mod OneAnswerLemmas
 pub mod OneAnswerStages
 pub mod OneAnswerTasks

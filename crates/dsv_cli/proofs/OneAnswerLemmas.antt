@@ -2,11 +2,11 @@
 use Rattle.std.proofs.Common.{◌≡◌, inl, inr, subst, refl, ℕ, List}
 use Rattle.std.specs.Prelude.{Some}
 use Rattle.dsv_base.specs.Seen.{FilesSeen}
-use Rattle.dsv_command.specs.Jobs.{Task, Asked}
+use Rattle.dsv_command.specs.Jobs.{Task, checks, Asked}
 use Rattle.dsv_report.specs.declared.answers.Answer.{Answer}
 use Rattle.dsv_report.specs.declared.answers.Answer.TheVariants as answer
 use Rattle.dsv_quantiser.specs.FixedPoint.{FixedPoint}
-use Rattle.dsv_cli.specs.Headline.{IsRow, AsksOver}
+use Rattle.dsv_cli.specs.Headline.{IsRow, IsForWords, AsksOver}
 use Rattle.dsv_cli.specs.Questions.{IsTooLarge}
 use Rattle.dsv_cli.specs.OneAnswer.{SameAnswer, IsSettled, HaveOneAnswer}
 use Rattle.dsv_cli.proofs.OneAnswerStages.{Stage, long, faulty, refused, in_words, IsStage, one_stage}
@@ -33,50 +33,55 @@ large_asked bytes job size k words (inr (inl t)) h = record { stage = in_words t
 large_by : (bytes : List ℕ) (job : Asked) (size : ℕ) → ((n : ℕ) × (w : FixedPoint) × AsksOver job bytes n w × IsTooLarge n w size) → Reaches job bytes (answer.JobSize size)
 large_by bytes job size t = large_asked bytes job size t.0 t.1 t.2 t.3
 
+not_for_words : (task : Task) (name : List ℕ) → task ≡ checks name → IsForWords task → ⊥
+not_for_words task name e f = subst IsForWords e f
+
 -- a settled answer comes from a stage of the file
-reached_by : (bytes : List ℕ) (old new : FilesSeen) (job : Asked) (found : Answer) → IsSettled found → IsRow (Some bytes) old new job found → Reaches job bytes found
-reached_by bytes old new job (answer.Falls poly offer fall) s h =
+reached_by : (bytes : List ℕ) (old new : FilesSeen) (job : Asked) (found : Answer) → IsForWords job.task → IsSettled found → IsRow (Some bytes) old new job found → Reaches job bytes found
+reached_by bytes old new job (answer.Falls poly offer fall) f s h =
     let t = h.comes_from in
     record { stage = in_words t.accepted.controller t.words; reached = (t.accepted, refl); gives = rw t.task (t.tested, h.shows) }
-reached_by bytes old new job (answer.KeptAway poly offer fall value) s h =
+reached_by bytes old new job (answer.KeptAway poly offer fall value) f s h =
     let t = h.comes_from in
     record { stage = in_words t.accepted.controller t.words; reached = (t.accepted, refl); gives = rw t.task (t.tested, h.shows) }
-reached_by bytes old new job answer.NoZeros s h =
+reached_by bytes old new job answer.NoZeros f s h =
     let t = h.comes_from in
     record { stage = in_words t.accepted.controller t.words; reached = (t.accepted, refl); gives = rw t.task t.tested }
-reached_by bytes old new job (answer.Wide index) s h =
+reached_by bytes old new job (answer.Wide index) f s h =
     let t = h.comes_from in
     record { stage = in_words t.accepted.controller t.words; reached = (t.accepted, refl); gives = rw t.task t.tested }
-reached_by bytes old new job (answer.OnTime report) s h =
+reached_by bytes old new job (answer.OnTime report) f s h =
     let t = h.comes_from in
     record { stage = in_words t.accepted.controller t.words; reached = (t.accepted, refl); gives = rw t.task (t.timing, h.shows) }
-reached_by bytes old new job (answer.Late report) s h =
+reached_by bytes old new job (answer.Late report) f s h =
     let t = h.comes_from in
     record { stage = in_words t.accepted.controller t.words; reached = (t.accepted, refl); gives = rw t.task (t.timing, h.shows) }
-reached_by bytes old new job (answer.Never log) s h =
+reached_by bytes old new job (answer.Never log) f s h =
     let t = h.comes_from in
     record { stage = in_words t.4.accepted.controller t.3; reached = (t.4.accepted, refl); gives = rw t.4.task t.5 }
-reached_by bytes old new job (answer.Overflow trace) s h =
+reached_by bytes old new job (answer.Overflow trace) f s h =
     let t = h.comes_from in
     record { stage = in_words t.3.accepted.controller t.2; reached = (t.3.accepted, refl); gives = rw t.3.task (refl, t.4, t.5) }
-reached_by bytes old new job (answer.Cycles cycle) s h =
+reached_by bytes old new job (answer.Cycles cycle) f s h =
     let t = h.comes_from in
     record { stage = in_words t.3.accepted.controller t.2; reached = (t.3.accepted, refl); gives = rw t.3.task (refl, t.4, t.5) }
-reached_by bytes old new job (answer.FormulaText formula) s h =
+reached_by bytes old new job (answer.FormulaText formula) f s h =
     let t = h.comes_from in
     record { stage = in_words t.3.accepted.controller t.2; reached = (t.3.accepted, refl); gives = rw t.3.task t.4 }
-reached_by bytes old new job (answer.JobSize size) s h = large_by bytes job size h.comes_from
-reached_by bytes old new job (answer.Simulated found) s h =
+reached_by bytes old new job (answer.JobSize size) f s h = elim h.comes_from [ inl t ↦ large_by bytes job size t | inr t ↦ absurd (not_for_words job.task t.name t.task f) ]
+reached_by bytes old new job (answer.Simulated found) f s h =
     let t = h.comes_from in
     record { stage = in_words t.2.accepted.controller t.1; reached = (t.2.accepted, refl); gives = rw t.2.task t.3 }
-reached_by bytes old new job (answer.InputRange index value) s h =
+reached_by bytes old new job (answer.InputRange index value) f s h =
     let t = h.comes_from in
     record { stage = in_words t.2.accepted.controller t.1; reached = (t.2.accepted, refl); gives = rw t.2.task t.3 }
-reached_by bytes old new job (answer.QuantRefused r) s h = record { stage = refused r; reached = h.comes_from; gives = refl }
-reached_by bytes old new job (answer.FileRefused r) s h = record { stage = faulty r; reached = h.comes_from; gives = refl }
-reached_by bytes old new job answer.FileTooLong s h = record { stage = long; reached = h.comes_from; gives = refl }
-reached_by bytes old new job answer.Usage s h = absurd h
-reached_by bytes old new job found s h = absurd s
+reached_by bytes old new job (answer.QuantRefused r) f s h = elim h.comes_from [ inl t ↦ record { stage = refused r; reached = t.1; gives = refl } | inr t ↦ absurd (not_for_words job.task t.name t.task f) ]
+reached_by bytes old new job (answer.FileRefused r) f s h = record { stage = faulty r; reached = h.comes_from; gives = refl }
+reached_by bytes old new job answer.FileTooLong f s h = record { stage = long; reached = h.comes_from; gives = refl }
+reached_by bytes old new job (answer.Checked certified) f s h = absurd (not_for_words job.task h.belongs_to.0 h.belongs_to.1 f)
+reached_by bytes old new job (answer.CertificateRefused line why) f s h = absurd (not_for_words job.task h.belongs_to.0 h.belongs_to.1 f)
+reached_by bytes old new job answer.Usage f s h = absurd h
+reached_by bytes old new job found f s h = absurd s
 
 -- one stage gives one answer
 one_of_stage : (task : Task) (stage : Stage) (a b : Answer) → IsSettled a → IsSettled b → IsOfStage task stage a → IsOfStage task stage b → SameAnswer a b
@@ -86,8 +91,8 @@ one_of_stage task (refused r) a b x y h k = rw (h, k) refl
 one_of_stage task (in_words c words) a b x y h k = one_task c task words a b x y h k
 
 pub one_answer : HaveOneAnswer
-one_answer bytes old new then_old then_new job a b x y h k =
-    let r = reached_by bytes old new job a x h in
-    let s = reached_by bytes then_old then_new job b y k in
+one_answer bytes old new then_old then_new job a b f x y h k =
+    let r = reached_by bytes old new job a f x h in
+    let s = reached_by bytes then_old then_new job b f y k in
     one_of_stage job.task r.stage a b x y r.gives
     (subst (λ stage. IsOfStage job.task stage b) (one_stage job.design bytes s.stage r.stage s.reached r.reached) s.gives)

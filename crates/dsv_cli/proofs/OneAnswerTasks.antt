@@ -21,7 +21,7 @@ use Rattle.dsv_delta.specs.declared.refusal.PolyWide.{PolyWide}
 use Rattle.dsv_tested.specs.Tested.{tested_of}
 use Rattle.dsv_tested.specs.declared.side.Tested.{Tested}
 use Rattle.dsv_tested.specs.declared.side.Tested.TheVariants as tested
-use Rattle.dsv_command.specs.Jobs.{Task, decides, checks_time, writes, searches, seeks_set, simulates}
+use Rattle.dsv_command.specs.Jobs.{Task, decides, checks_time, writes, searches, seeks_set, simulates, checks}
 use Rattle.dsv_report.specs.declared.answers.Answer.{Answer}
 use Rattle.dsv_report.specs.declared.answers.Answer.TheVariants as answer
 use Rattle.dsv_cli.specs.Headline.{degree, side_of, ShowsFall, ShowsKeptAway}
@@ -34,7 +34,8 @@ use Rattle.dsv_meaning.specs.declared.replays.Trace.{Trace}
 use Rattle.dsv_unroll.specs.Goals.{most_size}
 use Rattle.dsv_bounded.specs.Formulas.{job_size_of}
 use Rattle.dsv_bounded.specs.Verdicts.{IsTrace, IsCycle}
-use Rattle.dsv_cli.specs.Questions.{Happens, IsTooLarge}
+use Rattle.dsv_bounded.specs.RunQuestions.{Happens}
+use Rattle.dsv_cli.specs.Questions.{IsTooLarge}
 use Rattle.dsv_bounded.proofs.Verdicts.{trace_breaks, cycle_cycles}
 use Rattle.dsv_invariant.specs.declared.size.TheConstants.{UNBOUNDED_SAMPLES}
 use Rattle.dsv_cli.specs.Causes.{IsOfRun, IsOfTiming, IsOfFormula, IsOfSearch, IsOfSets}
@@ -302,6 +303,7 @@ IsAnswerTo c (writes p samples) words found = IsOfFormula p samples words found
 IsAnswerTo c (searches p samples conflicts) words found = IsOfSearch p samples conflicts words found
 IsAnswerTo c (seeks_set conflicts) words found = IsOfSets conflicts words found
 IsAnswerTo c (simulates inputs) words found = IsOfRun words inputs found
+IsAnswerTo c (checks name) words found = ⊥
 
 pub one_task : (c : ControllerView) (task : Task) (words : FixedPoint) (a b : Answer) → IsSettled a → IsSettled b → IsAnswerTo c task words a → IsAnswerTo c task words b → SameAnswer a b
 one_task e (decides p) words a b x y h k = one_decision (tested_of words (side_of p)) a b x y h k
@@ -310,3 +312,4 @@ one_task e (writes p samples) words a b x y h k = one_formula p samples words a 
 one_task e (searches p samples conflicts) words a b x y h k = one_search p samples conflicts words a b x y h k
 one_task e (seeks_set conflicts) words a b x y h k = one_set conflicts words a b x y h k
 one_task e (simulates inputs) words a b x y h k = one_run words inputs a b x y h k
+one_task e (checks name) words a b x y h k = absurd h

@@ -1,8 +1,8 @@
 -- What is known of the sets that were offered, and of a good one among them.
-use Rattle.std.proofs.Common.{◌≡◌, ℕ, zero, suc, ◌+◌, ◌<◌, false, true, List, [], ◌∷◌, ◌++◌, Option, Some, map, take, length, slice_get, slice_index_or, refl, ap, sym, subst, ◌∙◌, length-append, arith}
+use Rattle.std.proofs.Common.{◌≡◌, ℕ, zero, suc, false, true, List, [], ◌∷◌, ◌++◌, Option, Some, take, slice_get, refl, ap, sym, subst, arith}
 use Rattle.std.specs.List.{All, Contains}
 use Rattle.std.proofs.Math.IntN.{ℤ}
-use Rattle.std.proofs.lemmas.List.Elements.{All-append, All-cons, All-nil, All-head}
+use Rattle.std.proofs.lemmas.List.Elements.{All-append, All-cons, All-nil}
 use Rattle.dsv_meaning.specs.Systems.{equations_of}
 use Rattle.dsv_quantiser.specs.FixedPoint.{FixedPoint}
 use Rattle.std.proofs.lemmas.Option.{get_or_from_slice_get, slice_get_within}
@@ -13,7 +13,7 @@ use Rattle.dsv_template.specs.declared.candidate.Candidate.{Candidate}
 use Rattle.dsv_template.specs.declared.kept.KeptSet.{KeptSet}
 use Rattle.dsv_template.specs.declared.verdict.Why.{Why}
 use Rattle.dsv_template.specs.declared.verdict.Why.TheVariants as why
-use Rattle.dsv_invariant.specs.Causes.{IsShaped, IsCause}
+use Rattle.dsv_invariant.specs.Causes.{IsCause}
 use Rattle.dsv_cli.specs.Sets.{IsGoodCause, IsNotGood, candidates, GaveUpOn, IsGoodSet, WereOffered}
 use Rattle.dsv_cli.specs.Blocks.{AreBlocks}
 use Rattle.dsv_cli.proofs.Blocks.{stands}

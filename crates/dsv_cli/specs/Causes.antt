@@ -15,7 +15,7 @@ use Rattle.dsv_quantiser.specs.declared.refusal.QuantRefusal.{QuantRefusal}
 use Rattle.dsv_tested.specs.Tested.{tested_of}
 use Rattle.dsv_tested.specs.declared.side.Tested.TheVariants as tested
 use Rattle.dsv_command.specs.Jobs.{Task, decides, checks_time, writes, searches}
-use Rattle.dsv_command.specs.Jobs.{seeks_set, simulates, Asked}
+use Rattle.dsv_command.specs.Jobs.{seeks_set, simulates, checks, Asked}
 use Rattle.dsv_command.specs.declared.job.Design.{Design}
 use Rattle.dsv_report.specs.declared.answers.Answer.{Answer}
 use Rattle.dsv_report.specs.declared.answers.Answer.TheVariants as answer
@@ -24,7 +24,8 @@ use Rattle.dsv_cli.specs.declared.outcome.Outcome.TheVariants as outcome
 use Rattle.dsv_cli.specs.Headline.{IsFormatOf, IsTested, Decides, IsRow, side_of}
 use Rattle.dsv_cli.specs.Headline.{ShowsFall, ShowsKeptAway, ShowsNoForm, IsAccepted}
 use Rattle.dsv_bounded.specs.Verdicts.{IsTrace, IsCycle}
-use Rattle.dsv_cli.specs.Questions.{IsWithin, NeverHappens, GaveUp, IsFormulaOf, IsTooLarge}
+use Rattle.dsv_bounded.specs.RunQuestions.{IsWithin}
+use Rattle.dsv_cli.specs.Questions.{NeverHappens, GaveUp, IsFormulaOf, IsTooLarge}
 use Rattle.dsv_invariant.specs.declared.size.TheConstants.{UNBOUNDED_SAMPLES}
 use Rattle.dsv_cli.specs.Sets.{KeepsTo, NoneIsGood}
 use Rattle.dsv_cli.specs.Simulating.{IsRunOver, IsFirstOutside}
@@ -113,6 +114,7 @@ IsOfTask c (seeks_set conflicts) words (outcome.Unbounded of_words budget) =
 IsOfTask c (seeks_set conflicts) words other = ⊥
 IsOfTask c (simulates inputs) words (outcome.Answered found) = IsOfRun words inputs found
 IsOfTask c (simulates inputs) words other = ⊥
+IsOfTask c (checks name) words found = ⊥
 
 -- in the words of its format, by the job's modes and realisation, the controller is this, or
 -- refused so

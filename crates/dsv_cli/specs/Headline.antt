@@ -1,5 +1,5 @@
 -- What a run answers: a table, one row for each answer.
-use Rattle.std.specs.Prelude.{◌≡◌, ◌⊎◌, ℕ, ◌+◌, ◌-◌, ◌<◌}
+use Rattle.std.specs.Prelude.{◌≡◌, ◌⊎◌, ℕ, ◌+◌, ◌-◌, ◌^◌, ◌<◌}
 use Rattle.std.specs.Prelude.{◌≤◌, List, length, Option, Some, None, IfSome, Result, Ok, Err, ℤ}
 use Rattle.dsv_algebra.specs.Vectors.{vector_of, matrix_of, form_at}
 use Rattle.dsv_algebra.specs.Companion.{StrictlyFallsAlong, IsKeptAwayAlong}
@@ -34,13 +34,28 @@ use Rattle.dsv_jury.specs.declared.verdict.Jury.{Jury}
 use Rattle.dsv_lyapunov.specs.Kept.{AreRefused}
 use Rattle.dsv_lyapunov.specs.declared.kept.KeptForm.{KeptForm}
 use Rattle.dsv_command.specs.Jobs.{Task, decides, checks_time, writes, searches}
-use Rattle.dsv_command.specs.Jobs.{seeks_set, simulates, Asked}
+use Rattle.dsv_command.specs.Jobs.{seeks_set, simulates, checks, Asked}
 use Rattle.dsv_command.specs.declared.job.Design.{Design}
 use Rattle.dsv_report.specs.declared.answers.Answer.{Answer}
 use Rattle.dsv_report.specs.declared.answers.Answer.TheVariants as answer
 use Rattle.dsv_report.specs.declared.answers.WhichFile.TheVariants as file
+use Rattle.dsv_report.specs.declared.answers.CertificateFault.{CertificateFault}
+use Rattle.dsv_report.specs.declared.answers.CertificateFault.TheVariants as fault
+use Rattle.dsv_certfile.specs.Reading.{certificate_in}
+use Rattle.dsv_certfile.specs.Texts.{job_of}
+use Rattle.dsv_certfile.specs.declared.certificate.Certificate.{Certificate}
+use Rattle.dsv_certfile.specs.declared.fault.CertRefusal.TheVariants as unread
+use Rattle.dsv_certfile.specs.declared.fault.CheckFault.{CheckFault}
+use Rattle.dsv_certfile.specs.declared.fault.CheckFault.TheVariants as claim
+use Rattle.dsv_certfile.specs.declared.fault.TextFault.{TextFault}
+use Rattle.dsv_certfile.specs.declared.job.Job.{Job}
+use Rattle.dsv_certcheck.specs.Checks.{IsChecked}
+use Rattle.dsv_certcheck.specs.Shown.{IsShownOf}
+use Rattle.dsv_certcheck.specs.LineNumbers.{job_line_number}
+use Rattle.dsv_certcheck.specs.declared.check_refusal.CheckRefusal.TheVariants as refusal
 use Rattle.dsv_bounded.specs.Verdicts.{IsTrace, IsCycle}
-use Rattle.dsv_cli.specs.Questions.{IsWithin, NeverHappens, GaveUp, IsFormulaOf, IsTooLarge}
+use Rattle.dsv_bounded.specs.RunQuestions.{IsWithin}
+use Rattle.dsv_cli.specs.Questions.{NeverHappens, GaveUp, IsFormulaOf, IsTooLarge}
 use Rattle.dsv_cli.specs.Sets.{KeepsTo, NoneIsGood}
 use Rattle.dsv_cli.specs.Simulating.{IsRunOver, IsFirstOutside}
 use Rattle.dsv_cli.specs.Timing.{IsTimingOf, IsOnTime}
@@ -51,6 +66,10 @@ use Rattle.dsv_timing.specs.declared.work.TimingReport.{TimingReport}
 -- the most bytes that a controller file has
 abbrev pub longest_file : ℕ
 longest_file = 65536
+
+-- the most bytes that a certificate's file has: 64 MiB
+abbrev pub longest_certificate : ℕ
+longest_certificate = 2 ^ 26
 
 -- The format has the widths of the controller and the modes of the job.
 pub record IsFormatOf (c : ControllerView) (design : Design) (format : Format) : Type 0 where
@@ -154,6 +173,71 @@ AsksOver job bytes samples words =
     ⊎ (((property : RunProperty) × IsWriting job bytes property samples words)
     ⊎ ((conflicts : ℕ) × IsSeeking job bytes conflicts words × (samples ≡ UNBOUNDED_SAMPLES)))
 
+-- ---- checks of certificates
+-- the task checks a certificate
+abbrev pub Checks : Task → Type 0
+Checks task = (name : List ℕ) × (task ≡ checks name)
+
+-- the task is one for the controller in the words of its own design
+abbrev pub IsForWords : Task → Type 0
+IsForWords (checks name) = ⊥
+IsForWords other = Unit {0}
+
+-- The bytes are the text of a controller.
+pub record IsController (bytes : List ℕ) (c : ControllerView) : Type 0 where
+  pub short : length bytes ≤ longest_file
+  pub text : IsTextOf bytes c
+
+-- The job checks a certificate against the controller whose text the bytes are, and of the bytes of
+-- the certificate's file, where they are told, this holds.
+pub record IsCheckOf (old : FilesSeen) (job : Asked) (bytes : List ℕ)
+    (P : ControllerView → List ℕ → Type 0) : Type 0 where
+  pub name : List ℕ
+  pub task : job.task ≡ checks name
+  pub controller : ControllerView
+  pub accepted : IsController bytes controller
+  pub certificate : IfSome (old.held name) (P controller)
+
+-- The bytes spell a certificate.
+pub record IsSpelled (written : List ℕ) (c : Certificate) : Type 0 where
+  pub short : length written ≤ longest_certificate
+  pub spelled : certificate_in written ≡ Ok c
+
+-- the bytes spell a certificate of which this holds
+abbrev pub Spells : (Certificate → Type 0) → List ℕ → Type 0
+Spells P written = (c : Certificate) × IsSpelled written c × P c
+
+-- The bytes are the text of a controller that has the property of a certificate's job.
+pub record HasShown (bytes : List ℕ) (certified : Job) : Type 0 where
+  pub controller : ControllerView
+  pub accepted : IsController bytes controller
+  pub shown : IsShownOf controller certified
+
+-- the certificate passes its check, and has this job
+abbrev pub Passes : Job → ControllerView → List ℕ → Type 0
+Passes certified controller =
+    Spells (λ c. (certified ≡ job_of c) × IsChecked controller c (Ok tt))
+
+-- the claim on a line of the certificate isn't so; that there is no polynomial to claim anything of
+-- counts as a fault of the job's line
+abbrev pub IsRefusedAt : ℕ → CheckFault → ControllerView → Certificate → Type 0
+IsRefusedAt line why controller c = IsChecked controller c (Err (refusal.Line line why))
+    ⊎ ((line ≡ job_line_number) × (why ≡ claim.Shape)
+    × (((index : ℕ) × IsChecked controller c (Err (refusal.Wide index)))
+    ⊎ IsChecked controller c (Err refusal.NoZeros)))
+
+-- the line isn't one of a certificate's text
+abbrev pub IsMisread : ℕ → TextFault → ControllerView → List ℕ → Type 0
+IsMisread line why controller written = (length written ≤ longest_certificate)
+    × (certificate_in written ≡ Err (unread.Text line why))
+
+-- what a fault of a certificate says of the bytes
+abbrev pub IsFaulty : ℕ → CertificateFault → ControllerView → List ℕ → Type 0
+IsFaulty line (fault.Text why) controller = IsMisread line why controller
+IsFaulty line (fault.Check why) controller = Spells (IsRefusedAt line why controller)
+IsFaulty line fault.TooLong controller =
+    λ written. (line ≡ 0) × (longest_certificate < length written)
+
 -- ---- what answers show of a polynomial, whatever the file
 -- The form is positive and strictly falls along every nonzero trajectory of the polynomial; it is
 -- the closed form's, where there is one, its check accepts it, and `fall` is what it loses in a
@@ -254,9 +338,11 @@ IsRow told old new job (answer.FormulaText formula) =
     × IsFormulaOf property samples words formula)
     (Unit {0})
 IsRow told old new job (answer.JobSize size) =
-    Row told (Searches job.task ⊎ (Writes job.task ⊎ Seeks job.task))
-    (λ bytes. (samples : ℕ) × (words : FixedPoint) × AsksOver job bytes samples words
+    Row told (Searches job.task ⊎ (Writes job.task ⊎ (Seeks job.task ⊎ Checks job.task)))
+    (λ bytes. ((samples : ℕ) × (words : FixedPoint) × AsksOver job bytes samples words
     × IsTooLarge samples words size)
+    ⊎ IsCheckOf old job bytes
+    (λ controller. Spells (λ c. IsChecked controller c (Err (refusal.JobSize size)))))
     (Unit {0})
 IsRow told old new job (answer.Simulated found) =
     Row told ((inputs : List ℤ) × Simulates job.task inputs)
@@ -269,7 +355,11 @@ IsRow told old new job (answer.InputRange index value) =
     × IsFirstOutside words.format inputs index value)
     (Unit {0})
 IsRow told old new job (answer.QuantRefused r) =
-    Row told (Unit {0}) (λ bytes. IsAccepted job.design bytes (Err r)) (Unit {0})
+    Row told (Unit {0})
+    (λ bytes. (IsForWords job.task × IsAccepted job.design bytes (Err r))
+    ⊎ IsCheckOf old job bytes
+    (λ controller. Spells (λ c. IsChecked controller c (Err (refusal.Quant r)))))
+    (Unit {0})
 IsRow told old new job (answer.FileRefused r) =
     Row told (Unit {0}) (λ bytes. (length bytes ≤ longest_file) × IsFaultOf bytes r) (Unit {0})
 IsRow told old new job answer.FileTooLong =
@@ -278,6 +368,15 @@ IsRow told old new job answer.FileTooLong =
 IsRow told old new job (answer.ReadFault file.Controller) =
     Row told (Unit {0}) (λ bytes. Unit {0}) (Rose old.faults new.faults
     × (new.blamed ≡ Some job.file))
+IsRow told old new job (answer.ReadFault file.Certificate) =
+    Row told (Checks job.task) (λ bytes. IsCheckOf old job bytes (λ controller written. Unit {0}))
+    (Rose old.faults new.faults
+    × ((name : List ℕ) × (job.task ≡ checks name) × (new.blamed ≡ Some name)))
+IsRow told old new job (answer.Checked certified) =
+    Row told (Checks job.task)
+    (λ bytes. HasShown bytes certified × IsCheckOf old job bytes (Passes certified)) (Unit {0})
+IsRow told old new job (answer.CertificateRefused line why) =
+    Row told (Checks job.task) (λ bytes. IsCheckOf old job bytes (IsFaulty line why)) (Unit {0})
 IsRow told old new job answer.Usage = ⊥
 IsRow told old new job answer.NoMemory = Unit {0}
 

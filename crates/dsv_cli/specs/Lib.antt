@@ -1,7 +1,9 @@
+pub mod Accepted
 pub mod Answering
 pub mod Asking
 pub mod Blocks
 pub mod Causes
+pub mod Checking
 pub mod Headline
 pub mod OneAnswer
 pub mod Proposers

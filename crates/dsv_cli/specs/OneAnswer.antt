@@ -7,7 +7,7 @@ use Rattle.dsv_forms.specs.declared.offers.Form.{Form}
 use Rattle.dsv_command.specs.Jobs.{Asked}
 use Rattle.dsv_report.specs.declared.answers.Answer.{Answer}
 use Rattle.dsv_report.specs.declared.answers.Answer.TheVariants as answer
-use Rattle.dsv_cli.specs.Headline.{IsRow}
+use Rattle.dsv_cli.specs.Headline.{IsRow, IsForWords}
 use Rattle.dsv_cli.specs.Proposers.{NeedsNone}
 
 -- The forms have the same places and the same entries.
@@ -36,9 +36,9 @@ IsSettled (answer.NoInvariant kept) = ⊥
 IsSettled found = NeedsNone found
 
 -- Whatever else was read before, two settled answers to one job on a file of these bytes are the
--- same.
+-- same, but for a job that reads a certificate too.
 abbrev pub HaveOneAnswer : Type 0
 HaveOneAnswer =
     (bytes : List ℕ) (old new then_old then_new : FilesSeen) (job : Asked) (a b : Answer)
-    → IsSettled a → IsSettled b
+    → IsForWords job.task → IsSettled a → IsSettled b
     → IsRow (Some bytes) old new job a → IsRow (Some bytes) then_old then_new job b → SameAnswer a b

@@ -1,30 +1,14 @@
 -- What the answers to questions about runs say of a controller in words.
-use Rattle.std.specs.Prelude.{◌≡◌, ◌↔◌, ℕ, ◌<◌, ◌≤◌, List}
+use Rattle.std.specs.Prelude.{◌≡◌, ◌↔◌, ℕ, ◌<◌, List}
 use Rattle.dsv_names.specs.declared.property.RunProperty.{RunProperty}
-use Rattle.dsv_names.specs.declared.property.RunProperty.TheVariants as run
 use Rattle.dsv_quantiser.specs.FixedPoint.{FixedPoint}
 use Rattle.dsv_cnf.specs.Formula.{IsSatisfiable}
 use Rattle.dsv_cnf.specs.FormulaView.{FormulaView}
 use Rattle.dsv_hints.specs.Lessons.{IsRefutation, IsSpent}
 use Rattle.dsv_hints.specs.declared.step.Step.{Step}
 use Rattle.dsv_unroll.specs.Goals.{most_size}
-use Rattle.dsv_bounded.specs.Formulas.{overflow_formula_of, cycle_formula_of, job_size_of}
-use Rattle.dsv_bounded.specs.Verdicts.{BreaksWithin, CyclesWithin}
-
--- The property happens within so many samples: some list of so many inputs in range overflows, or
--- some start has a limit cycle of a period up to that.
-abbrev pub Happens : RunProperty → FixedPoint → ℕ → Type 0
-Happens run.Overflow words samples = BreaksWithin words samples
-Happens run.LimitCycle words samples = CyclesWithin words samples
-
--- the formula of the question whether it happens
-abbrev pub question_formula : RunProperty → FixedPoint → ℕ → FormulaView
-question_formula run.Overflow words samples = overflow_formula_of words samples
-question_formula run.LimitCycle words samples = cycle_formula_of words samples
-
--- the question is no larger than what is asked of formulas
-abbrev pub IsWithin : FixedPoint → ℕ → Type 0
-IsWithin words samples = job_size_of words samples ≤ most_size
+use Rattle.dsv_bounded.specs.Formulas.{job_size_of}
+use Rattle.dsv_bounded.specs.RunQuestions.{Happens, question_formula, IsWithin}
 
 -- It never happens, and the log, of a search with at most so many conflicts, derives the empty
 -- clause from the question's formula.

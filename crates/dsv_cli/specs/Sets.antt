@@ -15,7 +15,7 @@ use Rattle.dsv_invariant.specs.Causes.{IsShaped, IsCause}
 use Rattle.dsv_invariant.specs.Shapes.{shape_of}
 use Rattle.dsv_invariant.specs.declared.size.TheConstants.{UNBOUNDED_SAMPLES}
 use Rattle.dsv_cli.specs.Blocks.{AreBlocks}
-use Rattle.dsv_cli.specs.Questions.{IsWithin}
+use Rattle.dsv_bounded.specs.RunQuestions.{IsWithin}
 
 -- The controller is no larger than what is asked of formulas, and the candidate is good for it,
 -- which three logs show, each of a search with at most so many conflicts.

@@ -1,4 +1,5 @@
-// What a controller file is answered by.
+// What a controller file is answered by, and what its certificate.
+ghost use Rattle.dsv_cli.specs.Accepted.{WrittenAreAccepted};
 ghost use Rattle.dsv_cli.specs.OneAnswer.{HaveOneAnswer};
 
 /// The law of [`run`](crate::run), for proofs: a job on a file whose bytes are told has one answer,
@@ -6,4 +7,11 @@ ghost use Rattle.dsv_cli.specs.OneAnswer.{HaveOneAnswer};
 /// the same. The call does nothing.
 pub fn told_files_have_one_answer()
     ensures { HaveOneAnswer }
+{}
+
+/// The law of certificates, for proofs: where the answer to a job on a file has a certificate,
+/// which is lawful and whose text has at most 64 MiB, each check of that text against a file of the
+/// same bytes accepts it, but for want of memory and faults of reads. The call does nothing.
+pub fn written_certificates_are_accepted()
+    ensures { WrittenAreAccepted }
 {}

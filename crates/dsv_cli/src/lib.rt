@@ -3,6 +3,7 @@
 #![tactic(auto)]
 
 mod asking;
+mod checking;
 mod deciding;
 mod law;
 mod outcome;
@@ -15,8 +16,8 @@ mod simulating;
 mod timing;
 
 pub use dsv_lyapunov::{FormProposer, SumProposer};
-pub use dsv_report::{Answer, WhichFile};
+pub use dsv_report::{Answer, CertificateFault, WhichFile};
 pub use dsv_template::{BoxProposer, InvariantProposer};
-pub use law::told_files_have_one_answer;
+pub use law::{told_files_have_one_answer, written_certificates_are_accepted};
 pub use outside::{OsFiles, OsOut};
 pub use running::{Done, run};

@@ -1,7 +1,7 @@
 // Finds what a job comes to on the bytes of a controller file.
 ghost use Rattle.std.specs.Prelude.{◌≡◌, ◌≤◌, length};
 ghost use Rattle.dsv_command.specs.Asking.{asked_task, asked_of};
-ghost use Rattle.dsv_cli.specs.Headline.{longest_file, IsFormatOf, side_of};
+ghost use Rattle.dsv_cli.specs.Headline.{longest_file, IsFormatOf, IsForWords, side_of};
 ghost use Rattle.dsv_cli.specs.Causes.{IsOfProperty, IsOfTask, IsOfController};
 ghost use Rattle.dsv_cli.specs.Causes.{IsOfBytes, HasRowOf, AnswersPlainly};
 
@@ -71,6 +71,7 @@ fn property_outcome(words: &Quantised, property: RootProperty) -> Outcome
 
 /// What a task for a controller that becomes these words comes to.
 fn task_outcome(alloc: Global, controller: &Controller, words: Quantised, task: &Task) -> Outcome
+    requires { IsForWords (asked_task task.now) }
     ensures task { IsOfTask controller.now (asked_task task.now) words result }
     ensures plain { AnswersPlainly result }
 {
@@ -87,6 +88,7 @@ fn task_outcome(alloc: Global, controller: &Controller, words: Quantised, task: 
         Task::Simulate(inputs) => {
             Outcome::Answered(simulated_answer(alloc, &words, inputs.as_slice()))
         }
+        Task::Check(_) => unreachable!(),
     }
 }
 
@@ -97,6 +99,7 @@ fn controller_outcome(
     design: Design,
     task: &Task,
 ) -> Outcome
+    requires { IsForWords (asked_task task.now) }
     ensures controller { IsOfController controller.now design (asked_task task.now) result }
     ensures plain { AnswersPlainly result }
 {
@@ -109,7 +112,8 @@ fn controller_outcome(
 
 /// What a job on a file of these bytes comes to.
 fn bytes_outcome(alloc: Global, bytes: &[u8], job: &Job) -> Outcome
-    requires { length bytes.now ≤ longest_file }
+    requires short { length bytes.now ≤ longest_file }
+    requires words { IsForWords (asked_task job.now.task) }
     ensures bytes { IsOfBytes (asked_of job.now) bytes.now result }
     ensures plain { AnswersPlainly result }
 {
@@ -122,7 +126,8 @@ fn bytes_outcome(alloc: Global, bytes: &[u8], job: &Job) -> Outcome
 
 /// What a job on a file of these bytes comes to, with its row.
 pub fn outcome_of(alloc: Global, bytes: &[u8], job: &Job) -> Outcome
-    requires { length bytes.now ≤ longest_file }
+    requires short { length bytes.now ≤ longest_file }
+    requires words { IsForWords (asked_task job.now.task) }
     ensures row { HasRowOf (asked_of job.now) bytes.now result }
     ensures plain { AnswersPlainly result }
 {

@@ -5,9 +5,7 @@ ghost use Rattle.dsv_names.specs.declared.property.RunProperty.TheVariants as ru
 ghost use Rattle.dsv_cli.specs.Answering.{answer_of, formula_answer_of};
 ghost use Rattle.dsv_cli.specs.Causes.{IsOfFormula, IsOfSearch, IsPlain};
 
-use dsv_bounded::{
-    BoundedAnswer, BoundedRefusal, cycle_formula, limit_cycle, overflow, overflow_formula,
-};
+use dsv_bounded::{BoundedAnswer, BoundedRefusal, limit_cycle, overflow, question_formula};
 use dsv_cnf::Formula;
 use dsv_command::{Budget, RunQuestion};
 use dsv_names::RunProperty;
@@ -40,26 +38,6 @@ fn verdict_found(found: Result<BoundedAnswer, BoundedRefusal>) -> Answer
     }
 }
 
-/// The formula of an overflow.
-fn overflow_text(alloc: Global, words: &Quantised, samples: u32) -> Answer
-    requires some { 1 ≤ samples }
-    requires few { samples ≤ MOST_SAMPLES }
-    ensures formula { IsOfFormula run.Overflow samples words.now result }
-    ensures plain { IsPlain result }
-{
-    formula_found(overflow_formula(alloc, words, samples))
-}
-
-/// The formula of a limit cycle.
-fn cycle_text(alloc: Global, words: &Quantised, samples: u32) -> Answer
-    requires some { 1 ≤ samples }
-    requires few { samples ≤ MOST_SAMPLES }
-    ensures formula { IsOfFormula run.LimitCycle samples words.now result }
-    ensures plain { IsPlain result }
-{
-    formula_found(cycle_formula(alloc, words, samples))
-}
-
 /// Whether an overflow happens.
 fn overflow_verdict(alloc: Global, words: &Quantised, samples: u32, budget: &Budget) -> Answer
     requires some { 1 ≤ samples }
@@ -85,10 +63,7 @@ pub fn formula_answer(alloc: Global, words: &Quantised, question: &RunQuestion) 
     ensures formula { IsOfFormula question.now.property question.now.samples words.now result }
     ensures plain { IsPlain result }
 {
-    match question.property {
-        RunProperty::Overflow => overflow_text(alloc, words, question.samples),
-        RunProperty::LimitCycle => cycle_text(alloc, words, question.samples),
-    }
+    formula_found(question_formula(alloc, words, question.property, question.samples))
 }
 
 /// The answer to a question, by a search.

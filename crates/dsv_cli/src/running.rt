@@ -3,23 +3,26 @@ ghost use Rattle.std.specs.Prelude.{◌≡◌, false, Some, map, string_bytes};
 ghost use Rattle.dsv_command.specs.Jobs.{job_of};
 ghost use Rattle.dsv_command.specs.Asking.{asked_of};
 ghost use Rattle.dsv_report.specs.Printing.{HasPlaces, asked_in};
-ghost use Rattle.dsv_report.specs.Report.{text_of, status_of};
-ghost use Rattle.dsv_cli.specs.Headline.{IsRow, IsExplained, FileBecomes, AreKept, IsWritten};
+ghost use Rattle.dsv_report.specs.Output.{output_of};
+ghost use Rattle.dsv_report.specs.Report.{status_of};
+ghost use Rattle.dsv_cli.specs.Headline.{IsRow, IsExplained, IsForWords, FileBecomes};
+ghost use Rattle.dsv_cli.specs.Headline.{AreKept, IsWritten};
 ghost use Rattle.dsv_cli.specs.Causes.{HasRow, AnswersPlainly};
 ghost use Rattle.dsv_cli.specs.Proposers.{IsAsked, AreSetsAsked, IfNoForm, is_low};
 
+use crate::checking::checked_answer;
 use crate::deciding::decided_answer;
 use crate::outcome::{Outcome, outcome_of};
 use crate::set_deciding::unbounded_answer;
 use dsv_base::{Files, ReadEnd, Sink, read_all};
-use dsv_command::{Job, read_job};
+use dsv_command::{Job, Task, read_job};
 use dsv_lyapunov::FormProposer;
-use dsv_report::{Answer, WhichFile, put_answer, status_of};
+use dsv_report::{Answer, WhichFile, put_output, status_of};
 use dsv_template::InvariantProposer;
 use std::alloc::Global;
 
 /// The most bytes that a controller file may have.
-const LONGEST_FILE: u64 = 65_536;
+pub(crate) const LONGEST_FILE: u64 = 65_536;
 
 /// The status of a run whose sink failed.
 const WRITE_FAULT: u8 = 4;
@@ -32,8 +35,9 @@ pub struct Done {
     pub answer: Answer,
 }
 
-/// What a job comes to.
+/// What a job for a controller in words comes to.
 fn job_outcome<F: Files>(alloc: Global, job: &Job, files: &mut F) -> Outcome
+    requires { IsForWords (asked_of job.now).task }
     ensures row { HasRow ((F.seen files.old).held (asked_of job.now).file) (F.seen files.old)
         (F.seen files.new) (asked_of job.now) result }
     ensures kept { AreKept (F.seen files.old) (F.seen files.new) }
@@ -44,6 +48,35 @@ fn job_outcome<F: Files>(alloc: Global, job: &Job, files: &mut F) -> Outcome
         Err(ReadEnd::Failed) => Outcome::Answered(Answer::ReadFault(WhichFile::Controller)),
         Err(ReadEnd::TooLong) => Outcome::Answered(Answer::FileTooLong),
         Err(ReadEnd::NoMemory) => Outcome::Answered(Answer::NoMemory),
+    }
+}
+
+/// The answer to a job for a controller in words.
+fn words_answer<F: Files>(
+    alloc: Global,
+    job: &Job,
+    files: &mut F,
+    sets: &mut Vec<Box<dyn InvariantProposer>>,
+    forms: &mut Vec<Box<dyn FormProposer>>,
+) -> Answer
+    requires { IsForWords (asked_of job.now).task }
+    ensures row { IsRow ((F.seen files.old).held (asked_of job.now).file) (F.seen files.old)
+        (F.seen files.new) (asked_of job.now) result }
+    ensures kept { AreKept (F.seen files.old) (F.seen files.new) }
+    ensures places { HasPlaces result }
+    ensures sets { AreSetsAsked (λ b. b.ptr)
+        (λ b. (⟦<dyn InvariantProposer as InvariantProposer>⟧ b.vtable).last b.value)
+        (λ b shape. to_come b shape)
+        (FileBecomes (F.seen files.old) (Some (asked_of job.now)))
+        sets.old.items sets.new.items result }
+    ensures forms { IsAsked (λ b. b.ptr)
+        (λ b. (⟦<dyn FormProposer as FormProposer>⟧ b.vtable).last b.value)
+        (λ b cs. sure b cs) forms.old.items forms.new.items result }
+{
+    match job_outcome(alloc, job, files) {
+        Outcome::Answered(answer) => answer,
+        Outcome::Undecided(poly) => decided_answer(alloc, poly, forms),
+        Outcome::Unbounded(words, budget) => unbounded_answer(alloc, &words, &budget, sets),
     }
 }
 
@@ -68,10 +101,9 @@ fn job_answer<F: Files>(
         (λ b. (⟦<dyn FormProposer as FormProposer>⟧ b.vtable).last b.value)
         (λ b cs. sure b cs) forms.old.items forms.new.items result }
 {
-    match job_outcome(alloc, job, files) {
-        Outcome::Answered(answer) => answer,
-        Outcome::Undecided(poly) => decided_answer(alloc, poly, forms),
-        Outcome::Unbounded(words, budget) => unbounded_answer(alloc, &words, &budget, sets),
+    match &job.task {
+        Task::Check(name) => checked_answer(alloc, job.file, name, files),
+        _ => words_answer(alloc, job, files, sets, forms),
     }
 }
 
@@ -79,9 +111,9 @@ fn job_answer<F: Files>(
 fn written_status<K: Sink>(sink: &mut K, job: Option<&Job>, answer: &Answer) -> u8
     requires { HasPlaces answer.now }
     ensures { IsWritten (K.seen sink.old) (K.seen sink.new) result (status_of answer.now)
-        (text_of (asked_in job.entry) answer.now) }
+        (output_of (asked_in job.entry) answer.now) }
 {
-    match put_answer(sink, job, answer) {
+    match put_output(sink, job, answer) {
         Ok(()) => status_of(answer),
         Err(_) => WRITE_FAULT,
     }
@@ -116,11 +148,11 @@ pub fn run<F: Files, K: Sink>(
     ensures low_orders { IfNoForm result.answer (λ poly kept. is_low poly ≡ false) }
     // What the files hold is as before.
     ensures kept { AreKept (F.seen files.old) (F.seen files.new) }
-    // The answer's text was written and the status is the answer's, or the status is 4 and the sink
-    // failed.
+    // The certificate that the job wants, or else the answer's text, was written and the status is
+    // the answer's, or the status is 4 and the sink failed.
     ensures written { IsWritten (K.seen sink.old) (K.seen sink.new) result.status
         (status_of result.answer)
-        (text_of (job_of (map string_bytes arguments.now)) result.answer) }
+        (output_of (job_of (map string_bytes arguments.now)) result.answer) }
 {
     match read_job(alloc, arguments) {
         Ok(Some(job)) => {

@@ -4,7 +4,7 @@ ghost use Rattle.dsv_template.specs.Shapes.{IsLawful};
 ghost use Rattle.dsv_invariant.specs.Causes.{IsCause};
 ghost use Rattle.dsv_invariant.specs.declared.size.TheConstants.{UNBOUNDED_SAMPLES};
 ghost use Rattle.dsv_cli.specs.Blocks.{IsTurn};
-ghost use Rattle.dsv_cli.specs.Questions.{IsWithin};
+ghost use Rattle.dsv_bounded.specs.RunQuestions.{IsWithin};
 ghost use Rattle.dsv_cli.specs.SetAsking.{asked_of, offer_of, IsJudgedSet};
 
 use dsv_base::NoMemory;

@@ -6,7 +6,7 @@ ghost use Rattle.dsv_invariant.specs.declared.size.TheConstants.{UNBOUNDED_SAMPL
 ghost use Rattle.dsv_cli.specs.Blocks.{AreBlocks};
 ghost use Rattle.dsv_cli.specs.Causes.{IsOfSets};
 ghost use Rattle.dsv_cli.specs.Proposers.{AreSetsAsked};
-ghost use Rattle.dsv_cli.specs.Questions.{IsWithin};
+ghost use Rattle.dsv_bounded.specs.RunQuestions.{IsWithin};
 ghost use Rattle.dsv_cli.specs.SetAsking.{IfKept, IfNoSet};
 ghost use Rattle.dsv_cli.specs.Sets.{KeepsTo, NoneIsGood, candidates, told_for};
 ghost use Rattle.dsv_cli.specs.Suffixes.{IsSuffix, IfFirst};

@@ -4,6 +4,8 @@
 #![tactic(auto)]
 
 #[cfg(test)]
+mod certificates;
+#[cfg(test)]
 mod faults;
 #[cfg(test)]
 mod formulas;
@@ -13,3 +15,5 @@ mod lists;
 mod outside;
 #[cfg(test)]
 mod proposers;
+#[cfg(test)]
+mod sets;

@@ -3,4 +3,4 @@ use Rattle.dsv_cli.proofs.Causes.{row_of}
 use Rattle.dsv_cli.proofs.outcome.outcome_of.Goals as goal
 
 pub returns-clause-row : goal.returns-clause-row
-returns-clause-row c = row_of (asked_of c.args.job.now) c.args.bytes.now c.bytes_outcome.result c.requires c.bytes_outcome.ensures.bytes
+returns-clause-row c = row_of (asked_of c.args.job.now) c.args.bytes.now c.bytes_outcome.result c.requires.words c.requires.short c.bytes_outcome.ensures.bytes

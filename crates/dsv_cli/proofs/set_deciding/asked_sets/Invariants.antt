@@ -1,7 +1,6 @@
 use Rattle.std.proofs.Common.{◌-◌, ◌*◌, ◌<◌, List, ◌++◌, length}
 use Rattle.std.specs.List.{All}
 use Rattle.dsv_template.specs.declared.candidate.Candidate.{Candidate}
-use Rattle.dsv_invariant.specs.Shapes.{shape_of}
 use Rattle.dsv_cli.specs.Blocks.{AreBlocks}
 use Rattle.dsv_cli.specs.Sets.{IsNotGood, candidates, told_for}
 use Rattle.dsv_cli.specs.Suffixes.{IsSuffix}

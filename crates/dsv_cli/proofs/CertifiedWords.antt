@@ -1,0 +1,136 @@
+-- The certificate of an answer passes its check for the words that the job's controller becomes.
+use Rattle.std.proofs.Common.{◌≡◌, ◌∙◌, sym, ap, subst, refl, ℕ, Bool, true, false, List, if◌then◌else◌}
+use Rattle.std.specs.Prelude.{Option, Some, None, Ok}
+use Rattle.std.proofs.Math.IntN.{ℤ}
+use Rattle.dsv_base.specs.Seen.{FilesSeen}
+use Rattle.dsv_names.specs.declared.property.Property.TheVariants.{OfRuns, OfRoots}
+use Rattle.dsv_names.specs.declared.property.RunProperty.{RunProperty}
+use Rattle.dsv_names.specs.declared.property.RunProperty.TheVariants.{Overflow}
+use Rattle.dsv_names.specs.declared.property.RootProperty.{RootProperty}
+use Rattle.dsv_names.specs.declared.property.RootProperty.TheVariants as property
+use Rattle.dsv_quantiser.specs.FixedPoint.{FixedPoint}
+use Rattle.dsv_forms.specs.declared.offers.Form.{Form}
+use Rattle.dsv_forms.specs.declared.offers.Falls.{Falls}
+use Rattle.dsv_hints.specs.declared.step.Step.{Step}
+use Rattle.dsv_template.specs.declared.candidate.Candidate.{Candidate}
+use Rattle.dsv_template.specs.declared.verdict.ThreeLogs.{ThreeLogs}
+use Rattle.dsv_tested.specs.Tested.{tested_of}
+use Rattle.dsv_tested.specs.declared.side.Tested.TheVariants as tested
+use Rattle.dsv_certfile.specs.Lawful.{IsLawful}
+use Rattle.dsv_certfile.specs.Texts.{job_of}
+use Rattle.dsv_certfile.specs.declared.certificate.Certificate.{Certificate}
+use Rattle.dsv_certfile.specs.declared.certificate.Certificate.TheVariants as certificate
+use Rattle.dsv_certfile.specs.declared.job.Job.{Job}
+use Rattle.dsv_certfile.specs.declared.job.Size.TheVariants as size
+use Rattle.dsv_certcheck.specs.Checks.{words_check, side_of as checked_side}
+use Rattle.dsv_certcheck.proofs.Passing.{hints_pass, invariant_passes, falls_pass}
+use Rattle.dsv_command.specs.Jobs.{Task, decides, searches, seeks_set, Asked}
+use Rattle.dsv_command.specs.declared.job.Design.{Design}
+use Rattle.dsv_report.specs.Output.{job_with, certificate_for, certificate_of}
+use Rattle.dsv_report.specs.declared.answers.Answer.{Answer}
+use Rattle.dsv_report.specs.declared.answers.Answer.TheVariants as answer
+use Rattle.dsv_cli.specs.Headline.{IsAccepted, side_of, IsTested, IsSearch, IsSeeking, ShowsFall, IsRow}
+use Rattle.dsv_cli.specs.Questions.{NeverHappens}
+use Rattle.dsv_cli.specs.Sets.{KeepsTo}
+
+-- the design of a certificate's job
+abbrev pub design_in : Job → Design
+design_in job = record { realisation = job.realisation; rounding = job.rounding; overflow = job.overflow }
+
+-- The bytes are the text of a controller, which in the realisation and modes of the certificate's job becomes words for which the certificate passes its check.
+pub record Fits (bytes : List ℕ) (c : Certificate) : Type 0 where
+  pub words : FixedPoint
+  pub accepted : IsAccepted (design_in (job_of c)) bytes (Ok words)
+  pub passes : words_check words c ≡ Ok tt
+
+-- ---- each kind
+abbrev hints_for : Design → RunProperty → ℕ → List Step → Certificate
+hints_for design p samples log = certificate.Hints (job_with design (OfRuns p) (size.Samples samples)) log
+
+hints_fit : (bytes : List ℕ) (job : Asked) (p : RunProperty) (samples conflicts : ℕ) (words : FixedPoint) (log : List Step) → IsSearch job bytes p samples conflicts words
+    → NeverHappens p samples conflicts words log → IsLawful (hints_for job.design p samples log) → Fits bytes (hints_for job.design p samples log)
+hints_fit bytes job p samples conflicts words log s n l = record {
+  words = words;
+  accepted = s.accepted;
+  passes = hints_pass words p samples log l.0.size n.within n.refuted.accepted;
+}
+
+abbrev invariant_for : Design → Candidate → ThreeLogs → Certificate
+invariant_for design candidate logs = certificate.Invariant (job_with design (OfRuns Overflow) size.Unbounded) candidate logs
+
+invariant_fits : (bytes : List ℕ) (job : Asked) (conflicts : ℕ) (words : FixedPoint) (candidate : Candidate) (logs : ThreeLogs) → IsSeeking job bytes conflicts words
+    → KeepsTo words conflicts candidate logs → Fits bytes (invariant_for job.design candidate logs)
+invariant_fits bytes job conflicts words candidate logs s k = record {
+  words = words;
+  accepted = s.accepted;
+  passes = invariant_passes words conflicts candidate logs k.within k.good.0 k.good.1;
+}
+
+one_side : (p : RootProperty) → checked_side p ≡ side_of p
+one_side property.Stability = refl
+one_side property.MinimumPhase = refl
+
+abbrev falls_for : Design → RootProperty → Falls → Certificate
+falls_for design p offer = certificate.Falls (job_with design (OfRoots p) size.NoSize) offer
+
+falls_fit : (bytes : List ℕ) (job : Asked) (poly : List ℤ) (offer : Falls) (fall : Form) (t : IsTested job bytes (Ok (tested.Poly poly))) → ShowsFall poly offer fall
+    → Fits bytes (falls_for job.design t.property offer)
+falls_fit bytes job poly offer fall t s = record {
+  words = t.words;
+  accepted = t.accepted;
+  passes = falls_pass t.words t.property poly offer (ap (tested_of t.words) (one_side t.property) ∙ t.tested) s.accepted;
+}
+
+-- ---- from an answer's row
+-- a job that wants no certificate has none
+some_if_wanted : (b : Bool) (o : Option Certificate) (c : Certificate) → (if b then o else None) ≡ Some c → o ≡ Some c
+some_if_wanted true o c e = e
+some_if_wanted false o c e = cc
+
+certificate_of_task : (job : Asked) (found : Answer) (c : Certificate) → certificate_of job found ≡ Some c → certificate_for job.design job.task found ≡ Some c
+certificate_of_task job found c e = some_if_wanted job.certified (certificate_for job.design job.task found) c e
+
+one_certificate : (o : Option Certificate) (c d : Certificate) → o ≡ Some c → o ≡ Some d → d ≡ c
+one_certificate o c d h k = cc
+
+-- the certificate is the one of the answer to this task
+of_task : (job : Asked) (task : Task) (found : Answer) (c d : Certificate) → job.task ≡ task → certificate_for job.design task found ≡ Some d → certificate_of job found ≡ Some c → d ≡ c
+of_task job task found c d t k e =
+    one_certificate (certificate_for job.design job.task found) c d (certificate_of_task job found c e) (ap (λ x. certificate_for job.design x found) t ∙ k)
+
+-- the answers that may have a certificate
+abbrev HasCertificate : Answer → Type 0
+HasCertificate (answer.Never log) = Unit {0}
+HasCertificate (answer.Always candidate logs) = Unit {0}
+HasCertificate (answer.Falls poly offer fall) = Unit {0}
+HasCertificate other = ⊥
+
+no_certificate : (c : Certificate) → None ≡ Some c → ⊥
+no_certificate c e = cc
+
+has_certificate : (design : Design) (task : Task) (found : Answer) (c : Certificate) → certificate_for design task found ≡ Some c → HasCertificate found
+has_certificate design task (answer.Never log) c e = tt
+has_certificate design task (answer.Always candidate logs) c e = tt
+has_certificate design task (answer.Falls poly offer fall) c e = tt
+has_certificate design (searches p samples conflicts) found c e = no_certificate c e
+has_certificate design (seeks_set conflicts) found c e = no_certificate c e
+has_certificate design (decides p) found c e = no_certificate c e
+has_certificate design task found c e = no_certificate c e
+
+pub certificate_fits : (bytes : List ℕ) (old new : FilesSeen) (job : Asked) (found : Answer) (c : Certificate) → IsRow (Some bytes) old new job found → certificate_of job found ≡ Some c → IsLawful c → Fits bytes c
+certificate_fits bytes old new job (answer.Never log) c row e l =
+    let t = row.comes_from in
+    let d = hints_for job.design t.0 t.1 log in
+    let is : d ≡ c = of_task job (searches t.0 t.1 t.2) (answer.Never log) c d t.4.task refl e in
+    subst (Fits bytes) is (hints_fit bytes job t.0 t.1 t.2 t.3 log t.4 t.5 (subst IsLawful (sym is) l))
+certificate_fits bytes old new job (answer.Always candidate logs) c row e l =
+    let t = row.comes_from in
+    let d = invariant_for job.design candidate logs in
+    let is : d ≡ c = of_task job (seeks_set t.0) (answer.Always candidate logs) c d t.2.task refl e in
+    subst (Fits bytes) is (invariant_fits bytes job t.0 t.1 candidate logs t.2 t.3)
+certificate_fits bytes old new job (answer.Falls poly offer fall) c row e l =
+    let t = row.comes_from in
+    let d = falls_for job.design t.property offer in
+    let is : d ≡ c = of_task job (decides t.property) (answer.Falls poly offer fall) c d t.task refl e in
+    subst (Fits bytes) is (falls_fit bytes job poly offer fall t row.shows)
+certificate_fits bytes old new job found c row e l = absurd (has_certificate job.design job.task found c (certificate_of_task job found c e))

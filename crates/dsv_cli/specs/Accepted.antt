@@ -1,0 +1,31 @@
+-- A certificate that a run wrote is accepted for the same file.
+use Rattle.std.specs.Prelude.{◌≡◌, ℕ, ◌≤◌, List, length, Some}
+use Rattle.dsv_base.specs.Seen.{FilesSeen}
+use Rattle.dsv_certfile.specs.Lawful.{IsLawful}
+use Rattle.dsv_certfile.specs.Texts.{job_of, certificate_text}
+use Rattle.dsv_certfile.specs.declared.certificate.Certificate.{Certificate}
+use Rattle.dsv_certfile.specs.declared.job.Job.{Job}
+use Rattle.dsv_command.specs.Jobs.{checks, Asked}
+use Rattle.dsv_report.specs.Output.{certificate_of}
+use Rattle.dsv_report.specs.declared.answers.Answer.{Answer}
+use Rattle.dsv_report.specs.declared.answers.Answer.TheVariants as answer
+use Rattle.dsv_cli.specs.Headline.{longest_certificate, IsRow}
+
+-- the answer is that a certificate with this job is accepted, unless a read failed or there was no
+-- memory
+abbrev pub IsAcceptance : Job → Answer → Type 0
+IsAcceptance certified (answer.Checked found) = found ≡ certified
+IsAcceptance certified (answer.ReadFault file) = Unit {0}
+IsAcceptance certified answer.NoMemory = Unit {0}
+IsAcceptance certified other = ⊥
+
+-- Where a job on a file of these bytes has a certificate, which is lawful and whose text has at
+-- most 64 MiB, each check of that text against a file of the same bytes accepts it.
+abbrev pub WrittenAreAccepted : Type 0
+WrittenAreAccepted =
+    (bytes : List ℕ) (old new : FilesSeen) (job : Asked) (found : Answer) (c : Certificate)
+    → IsRow (Some bytes) old new job found → certificate_of job found ≡ Some c → IsLawful c
+    → length (certificate_text c) ≤ longest_certificate
+    → (then_old then_new : FilesSeen) (check : Asked) (name : List ℕ) (answered : Answer)
+    → check.task ≡ checks name → then_old.held name ≡ Some (certificate_text c)
+    → IsRow (Some bytes) then_old then_new check answered → IsAcceptance (job_of c) answered

@@ -1,0 +1,273 @@
+// Proposers of sets that need no trust: the command asks them, drops them, and stays right.
+ghost use Rattle.std.specs.Prelude.{◌≡◌, None};
+ghost use Rattle.dsv_cli_tests.specs.Hostile.{too_deep, no_state};
+
+use arrayvec::ArrayVec;
+use dsv_base::{MemSink, NoMemory, SilentFiles};
+use dsv_cli::{Answer, FormProposer, InvariantProposer, run};
+use dsv_template::{
+    BoxProposer, Candidate, CoefficientList, Inequality, InequalityList, Shape, Why,
+};
+use std::alloc::Global;
+use std::cell::Cell;
+use std::rc::Rc;
+use std::test::Fail;
+
+/// y = x / 2 + y1 / 2, in words of four bits.
+const HALVES: &[u8] = b"digital_system d = { .b = {0.5}, .b_size = 1, .a = {1.0, -0.5}, \
+      .a_size = 2 }; implementation r = { .int_bits = 2, .frac_bits = 2, .max = 1.0, \
+      .min = -1.0 };";
+
+const HALVES_TEXT: &[u8] = b"VERIFICATION SUCCESSFUL\n\
+      property OVERFLOW realization DFI unbounded\ndepth 1\n\
+      inequality 1 0 <= 4\ninequality -1 0 <= 4\ninequality 0 1 <= 7\ninequality 0 -1 <= 8\n";
+
+/// y = x + y1, in words of four bits: the coefficient -0.9 becomes -1.
+const SUM: &[u8] = b"digital_system d = { .b = {1.0}, .b_size = 1, .a = {1.0, -0.9}, \
+      .a_size = 2 }; implementation r = { .int_bits = 2, .frac_bits = 2, .max = 1.0, \
+      .min = -1.0 };";
+
+/// What a proposer does each time that it is asked.
+#[derive(Clone, Copy, PartialEq, Eq)]
+enum Turn {
+    /// It offers a set of no states.
+    NoState,
+    /// It offers a set of a depth that is too great.
+    TooDeep,
+    /// It says that it has no more.
+    NoMore,
+    /// It finds no memory.
+    NoMemory,
+}
+
+/// Does the same for ever, and counts what it hears.
+#[derive(Drop)]
+struct Stubborn {
+    turn: Turn,
+    last: Option<Candidate>,
+    dry: bool,
+    heard: Rc<Cell<u32>>,
+}
+
+fn too_deep() -> Candidate
+    ensures { result ≡ too_deep }
+{
+    Candidate {
+        inequalities: InequalityList::new(),
+        depth: 9,
+    }
+}
+
+fn no_state() -> Candidate
+    ensures { result ≡ no_state }
+{
+    let mut coefficients = CoefficientList::new();
+    coefficients.push(0);
+    coefficients.push(0);
+    let mut inequalities = InequalityList::new();
+    inequalities.push(Inequality {
+        coefficients,
+        bound: -1,
+    });
+    Candidate {
+        inequalities,
+        depth: 1,
+    }
+}
+
+impl InvariantProposer for Stubborn {
+    ghost last = { λ s. s.last };
+
+    ghost dry = { λ s. s.dry };
+
+    ghost to_come = { λ _ _. None };
+
+    fn propose(&mut self, _alloc: Global, _shape: &Shape) -> Result<Option<Candidate>, NoMemory> {
+        match self.turn {
+            Turn::NoState => {
+                self.last = Some(no_state());
+                Ok(Some(no_state()))
+            }
+            Turn::TooDeep => {
+                self.last = Some(too_deep());
+                Ok(Some(too_deep()))
+            }
+            Turn::NoMore => {
+                self.dry = true;
+                Ok(None)
+            }
+            Turn::NoMemory => Err(NoMemory),
+        }
+    }
+
+    fn tell(&mut self, _verdict: &Why) {
+        self.heard.set(self.heard.get().wrapping_add(1));
+    }
+
+    ghost dry_is_empty = { λ x shape e. tt };
+}
+
+/// A run on a file by these proposers, with the boxes behind them or not, and what comes of it.
+#[derive(Clone, Copy)]
+struct Row {
+    file: &'static [u8],
+    turns: &'static [Turn],
+    boxes: bool,
+    status: u8,
+    text: &'static [u8],
+    /// How many proposers are left.
+    left: usize,
+    /// How many findings the first ones heard.
+    heard: u32,
+    /// Whether the first candidate that is told of was found unsafe.
+    is_first_unsafe: bool,
+}
+
+const ROWS: [Row; 8] = [
+    Row {
+        file: HALVES,
+        turns: &[Turn::NoState],
+        boxes: true,
+        status: 0,
+        text: HALVES_TEXT,
+        left: 1,
+        heard: 32,
+        is_first_unsafe: false,
+    },
+    Row {
+        file: HALVES,
+        turns: &[Turn::NoMore, Turn::TooDeep, Turn::NoMore],
+        boxes: true,
+        status: 0,
+        text: HALVES_TEXT,
+        left: 1,
+        heard: 32,
+        is_first_unsafe: false,
+    },
+    Row {
+        file: HALVES,
+        turns: &[Turn::NoMemory],
+        boxes: true,
+        status: 5,
+        text: b"NO MEMORY\n",
+        left: 2,
+        heard: 0,
+        is_first_unsafe: false,
+    },
+    Row {
+        file: HALVES,
+        turns: &[Turn::NoMore, Turn::NoMemory],
+        boxes: true,
+        status: 5,
+        text: b"NO MEMORY\n",
+        left: 2,
+        heard: 0,
+        is_first_unsafe: false,
+    },
+    Row {
+        file: HALVES,
+        turns: &[Turn::NoMore],
+        boxes: false,
+        status: 20,
+        text: b"VERIFICATION INCONCLUSIVE\nproperty OVERFLOW realization DFI unbounded\n\
+              cause NO_INVARIANT offers 0 spent 0\n",
+        left: 0,
+        heard: 0,
+        is_first_unsafe: false,
+    },
+    Row {
+        file: SUM,
+        turns: &[],
+        boxes: true,
+        status: 20,
+        text: b"VERIFICATION INCONCLUSIVE\nproperty OVERFLOW realization DFI unbounded\n\
+              cause NO_INVARIANT offers 16 spent 0\n",
+        left: 0,
+        heard: 0,
+        is_first_unsafe: true,
+    },
+    Row {
+        file: SUM,
+        turns: &[],
+        boxes: false,
+        status: 20,
+        text: b"VERIFICATION INCONCLUSIVE\nproperty OVERFLOW realization DFI unbounded\n\
+              cause NO_INVARIANT offers 0 spent 0\n",
+        left: 0,
+        heard: 0,
+        is_first_unsafe: false,
+    },
+    Row {
+        file: SUM,
+        turns: &[Turn::TooDeep],
+        boxes: true,
+        status: 20,
+        text: b"VERIFICATION INCONCLUSIVE\nproperty OVERFLOW realization DFI unbounded\n\
+              cause NO_INVARIANT offers 48 spent 0\n",
+        left: 0,
+        heard: 32,
+        is_first_unsafe: false,
+    },
+];
+
+/// `f --property OVERFLOW --unbounded`
+fn arguments(alloc: Global) -> Result<Vec<String>, Fail> {
+    let mut arguments = Vec::new(alloc);
+    for argument in ["f", "--property", "OVERFLOW", "--unbounded"] {
+        arguments.push(String::from_str(alloc, argument)?)?;
+    }
+    Ok(arguments)
+}
+
+/// Whether the answer tells of candidates, the first of which was found unsafe.
+fn is_first_unsafe(answer: &Answer) -> bool {
+    match answer {
+        Answer::NoInvariant { kept, .. } => match kept.as_slice().first() {
+            Some(first) => matches!(&first.why, Why::Unsafe { .. }),
+            None => false,
+        },
+        _ => false,
+    }
+}
+
+/// Whether the run of a row ends as it says.
+fn is_as_told(alloc: Global, row: &Row) -> Result<bool, Fail> {
+    let heard = Rc::new(alloc, Cell::new(0))?;
+    let mut sets: Vec<Box<dyn InvariantProposer>> = Vec::new(alloc);
+    for turn in row.turns {
+        sets.push(Box::new(
+            alloc,
+            Stubborn {
+                turn: *turn,
+                last: None,
+                dry: false,
+                heard: heard.clone()?,
+            },
+        )?)?;
+    }
+    if row.boxes {
+        sets.push(Box::new(alloc, BoxProposer::new())?)?;
+    }
+    let mut forms: Vec<Box<dyn FormProposer>> = Vec::new(alloc);
+    let arguments = arguments(alloc)?;
+    let mut files = SilentFiles::new(alloc, row.file)?;
+    let mut sink = MemSink::new(alloc, 1000)?;
+    let done = run(
+        alloc, &arguments, &mut files, &mut sink, &mut sets, &mut forms,
+    );
+    Ok(
+        done.status == row.status
+            && sink.bytes() == row.text
+            && sets.len() == row.left
+            && heard.get() == row.heard
+            && is_first_unsafe(&done.answer) == row.is_first_unsafe,
+    )
+}
+
+#[test]
+fn proposers_of_sets_need_no_trust(rt: HostRuntime) -> Result<(), Fail> {
+    for row in &ROWS {
+        assert!(rt; is_as_told(rt.alloc(), row)?);
+    }
+    Ok(())
+}
