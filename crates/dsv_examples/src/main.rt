@@ -2,15 +2,19 @@
 //! its status. So the stored output is what the examples answer.
 #![tactic(auto)]
 
-use anyhow::Result;
-use dsv_base::{put_all, put_number};
+use anyhow::{Context, Result};
+use dsv_base::{Files, MemFiles, MemSink, Sink, put_all, put_number};
 use dsv_cli::{BoxProposer, FormProposer, InvariantProposer, OsFiles, OsOut, SumProposer, run};
 use std::alloc::Global;
 use std::fs;
 
 /// The list of the cases: the arguments of each in a line of their own, with spaces between them. A
-/// line that is empty or begins with `#` is none.
+/// line that is empty or begins with `#` is none. A line that begins with `certify` is a job whose
+/// certificate is made, and checked against the same file: what is written is what the check says.
 const CASES: &str = "cases.txt";
+
+/// The most bytes of a certificate that is made.
+const LONGEST_CERTIFICATE: usize = 1 << 22;
 
 /// The arguments of a case.
 fn arguments_of(alloc: Global, line: &str) -> Result<Vec<String>> {
@@ -21,19 +25,56 @@ fn arguments_of(alloc: Global, line: &str) -> Result<Vec<String>> {
     Ok(arguments)
 }
 
-/// Runs the command on a case.
-fn run_case(alloc: Global, line: &str, files: &mut OsFiles, out: &mut OsOut) -> Result<()> {
-    put_all(out, b"== ")?;
-    put_all(out, line.as_bytes())?;
-    put_all(out, b"\n")?;
-    let arguments = arguments_of(alloc, line)?;
+/// Runs the command, and gives its status.
+fn status_of<F: Files, K: Sink>(
+    alloc: Global,
+    arguments: &[String],
+    files: &mut F,
+    sink: &mut K,
+) -> Result<u8> {
     let mut sets: Vec<Box<dyn InvariantProposer>> = Vec::new(alloc);
     sets.push(Box::new(alloc, BoxProposer::new())?)?;
     let mut forms: Vec<Box<dyn FormProposer>> = Vec::new(alloc);
     forms.push(Box::new(alloc, SumProposer::new())?)?;
-    let done = run(alloc, &arguments, files, out, &mut sets, &mut forms);
+    let done = run(alloc, arguments, files, sink, &mut sets, &mut forms);
+    Ok(done.status)
+}
+
+/// Makes the certificate of a job and checks it; the controller's file is the first argument.
+fn certified_status(rt: &HostRuntime, alloc: Global, line: &str, out: &mut OsOut) -> Result<u8> {
+    let mut arguments = arguments_of(alloc, line)?;
+    arguments.push(String::from_str(alloc, "--certificate")?)?;
+    let file = arguments.first().context("no file")?;
+    let controller = fs::read_to_string(rt, file)?;
+    let mut files = MemFiles::new(alloc);
+    files.hold(file, controller.as_bytes())?;
+    let mut certificate = MemSink::new(alloc, LONGEST_CERTIFICATE)?;
+    status_of(alloc, &arguments, &mut files, &mut certificate)?;
+    files.hold("certificate", certificate.bytes())?;
+    let mut check = Vec::new(alloc);
+    for argument in [file.as_str(), "--check", "certificate"] {
+        check.push(String::from_str(alloc, argument)?)?;
+    }
+    status_of(alloc, &check, &mut files, out)
+}
+
+/// Runs the command on a case.
+fn run_case(
+    rt: &HostRuntime,
+    alloc: Global,
+    line: &str,
+    files: &mut OsFiles,
+    out: &mut OsOut,
+) -> Result<()> {
+    put_all(out, b"== ")?;
+    put_all(out, line.as_bytes())?;
+    put_all(out, b"\n")?;
+    let status = match line.strip_prefix("certify ") {
+        Some(job) => certified_status(rt, alloc, job, out)?,
+        None => status_of(alloc, &arguments_of(alloc, line)?, files, out)?,
+    };
     put_all(out, b"status ")?;
-    put_number(out, done.status)?;
+    put_number(out, status)?;
     put_all(out, b"\n")?;
     Ok(())
 }
@@ -42,10 +83,10 @@ fn main(rt: HostRuntime) -> Result<()> {
     let alloc = rt.alloc();
     let cases = fs::read_to_string(&rt, CASES)?;
     let mut out = OsOut::new(rt.clone()?);
-    let mut files = OsFiles::new(rt, alloc);
+    let mut files = OsFiles::new(rt.clone()?, alloc);
     for line in cases.lines() {
         if !line.is_empty() && !line.starts_with('#') {
-            run_case(alloc, line, &mut files, &mut out)?;
+            run_case(&rt, alloc, line, &mut files, &mut out)?;
         }
     }
     Ok(())
