@@ -14,7 +14,8 @@ use Rattle.dsv_command.specs.Reading.{Reading, meet_known, meet_shape, read_from
 use Rattle.dsv_command.specs.Shapes.{ShapeView, plain, stop, long, dashed, shape_of}
 use Rattle.dsv_command.proofs.ClapRules.{Options, built_rules, built_shape, no_check_fault, no_defaults_fault}
 use Rattle.dsv_command.proofs.ClapUses.{AreKnown, CanSettle, HasNoFile, IsKnown, held_at, known_more, part_use_fault, parts_with, pending_of, row_of, rule_of, settle_fault_at, settle_ok, settled_at, use_kinds, used_part, values_of}
-use Rattle.dsv_command.proofs.ClapTurns.{AreTexts, IsPositional, IsText, Lexes, alone_turn, alone_walked, dashed_turn, file_turn, file_walked, flag_turn, flag_value, flag_walked, joined_turn, joined_walked, lex, not_none, plain_stray, stop_turn, stop_walked, stray_turn, unknown, walk_at, wanted_turn, wanted_walked}
+use Rattle.dsv_command.proofs.ClapLooks.{HaveCharacters, HasCharacters, Looks, looks}
+use Rattle.dsv_command.proofs.ClapTurns.{IsPositional, alone_turn, alone_walked, dashed_turn, file_turn, file_walked, flag_turn, flag_value, flag_walked, joined_turn, joined_walked, not_none, plain_stray, stop_turn, stop_walked, stray_turn, unknown, walk_at, wanted_turn, wanted_walked}
 use Rattle.dsv_command.proofs.ClapWalk.{Fails, doomed, doomed_late, end_rows, fails_next, filled_from, is_place, last_empty, never_filled, place, run_bad, run_fault, run_ok, wanting, wanting_again, wanting_bad, wanting_end}
 
 -- ---- keys among more parts
@@ -128,7 +129,7 @@ module _ (options : Options) (no_file : HasNoFile options) where
   file_at ps p argument ks c = ap (pushed file_id argument) (settled_at options ps p no_file ks c)
 
   -- an empty FILE
-  empty_file : (ended : Bool) (arguments : List Text) (ps : List PartView) (argument : Text) → AreTexts arguments → AreKnown options ps → has_key for_file ps ≡ false → is_empty_part (file argument) ≡ true
+  empty_file : (ended : Bool) (arguments : List Text) (ps : List PartView) (argument : Text) → HaveCharacters arguments → AreKnown options ps → has_key for_file ps ≡ false → is_empty_part (file argument) ≡ true
       → Fails options (walk_at (held_at ps (pending_of (Some (file argument)))) idle 2 ended) arguments
   empty_file true arguments ps argument t ks e g = doomed_late options no_file arguments (held_at ps (pending_of (Some (file argument)))) idle 2 (inr refl)
       (not_none (settle_fault_at options ps (file argument) no_file ks tt ∙ ap₂ use_kinds e g))
@@ -140,7 +141,7 @@ module _ (options : Options) (no_file : HasNoFile options) where
   stray false h argument l = plain_stray options h argument l
 
   file_by : (ended : Bool) (argument : Text) (arguments : List Text) (ps : List PartView) (p : Option PartView) (again empty : Bool) → has_key for_file (parts_with ps p) ≡ again
-      → is_empty_part (file argument) ≡ empty → IsPositional ended argument → AreTexts arguments → AreKnown options ps → has_empty ps ≡ false → CanSettle options ps p → Next arguments
+      → is_empty_part (file argument) ≡ empty → IsPositional ended argument → HaveCharacters arguments → AreKnown options ps → has_empty ps ≡ false → CanSettle options ps p → Next arguments
       → Agrees options (then_read options arguments (cond again None (Some (record { parts = parts_with ps p ++ file argument ∷ []; waits = None; ended = ended }))))
       (walk_at (held_at ps (pending_of p)) idle (cond again 2 1) ended) (argument ∷ arguments)
   file_by ended argument arguments ps p true empty e g l t ks f c next = run_bad options _ argument arguments (not_none (stray ended (held_at ps (pending_of p)) argument l))
@@ -164,7 +165,7 @@ module _ (options : Options) (no_file : HasNoFile options) where
   -- ---- an option whose value is the next argument
 
   waits_by : (argument name : Text) (arguments : List Text) (ps : List PartView) (p : Option PartView) (again : Bool) → has_key (for_option name) (parts_with ps p) ≡ again
-      → lookup (bytes_eq name) options ≡ Some true → Lexes (long name None) argument → AreTexts arguments → AreKnown options ps → has_empty ps ≡ false → CanSettle options ps p → Next arguments
+      → lookup (bytes_eq name) options ≡ Some true → Looks (long name None) argument → HaveCharacters arguments → AreKnown options ps → has_empty ps ≡ false → CanSettle options ps p → Next arguments
       → Agrees options (then_read options arguments (cond again None (Some (record { parts = parts_with ps p; waits = Some name; ended = false })))) (walk_of ps (rests p false)) (argument ∷ arguments)
   waits_by argument name arguments ps p again e k l t ks f c next = by_test again e
     where
@@ -184,7 +185,7 @@ module _ (options : Options) (no_file : HasNoFile options) where
 
   -- the value that is waited for
   value_by : (argument name : Text) (arguments : List Text) (ps : List PartView) (empty : Bool) → is_empty_part (choice name argument) ≡ empty → lookup (bytes_eq name) options ≡ Some true
-      → has_key (for_option name) ps ≡ false → Lexes plain argument → AreTexts arguments → AreKnown options ps → has_empty ps ≡ false → Next arguments
+      → has_key (for_option name) ps ≡ false → Looks plain argument → HaveCharacters arguments → AreKnown options ps → has_empty ps ≡ false → Next arguments
       → Agrees options (then_read options arguments (Some (record { parts = ps ++ choice name argument ∷ []; waits = None; ended = false }))) (walk_of ps (wants name)) (argument ∷ arguments)
   value_by argument name arguments ps true g k e l t ks f next =
       agree_none options _ _ (argument ∷ arguments)
@@ -202,7 +203,7 @@ module _ (options : Options) (no_file : HasNoFile options) where
   -- ---- any argument
 
   long_by : (argument name : Text) (value : Option Text) (arguments : List Text) (ps : List PartView) (p : Option PartView) (takes_value : Option Bool) → lookup (bytes_eq name) options ≡ takes_value
-      → Lexes (long name value) argument → AreTexts arguments → AreKnown options ps → has_empty ps ≡ false → CanSettle options ps p → Next arguments
+      → Looks (long name value) argument → HaveCharacters arguments → AreKnown options ps → has_empty ps ≡ false → CanSettle options ps p → Next arguments
       → Agrees options (then_read options arguments (meet_known takes_value name value (reading_of ps (rests p false)))) (walk_of ps (rests p false)) (argument ∷ arguments)
   long_by argument name value arguments ps p None k l t ks f c next =
       run_bad options _ argument arguments (not_none (unknown options (held_at ps (pending_of p)) idle (place (parts_with ps p)) argument name value k l))
@@ -219,7 +220,7 @@ module _ (options : Options) (no_file : HasNoFile options) where
       run_bad options _ argument arguments (not_none (flag_value options (held_at ps (pending_of p)) idle (place (parts_with ps p)) argument name value k l))
 
   -- nothing waits
-  rests_by : (argument : Text) (arguments : List Text) (ps : List PartView) (p : Option PartView) (shape : ShapeView) → IsText argument → Lexes shape argument → AreTexts arguments
+  rests_by : (argument : Text) (arguments : List Text) (ps : List PartView) (p : Option PartView) (shape : ShapeView) → HasCharacters argument → Looks shape argument → HaveCharacters arguments
       → AreKnown options ps → has_empty ps ≡ false → CanSettle options ps p → Next arguments
       → Agrees options (then_read options arguments (meet_shape options shape None argument (reading_of ps (rests p false)))) (walk_of ps (rests p false)) (argument ∷ arguments)
   rests_by argument arguments ps p plain x l t ks f c next = file_by false argument arguments ps p (has_key for_file (parts_with ps p)) (is_empty_part (file argument)) refl refl l t ks f c next
@@ -230,7 +231,7 @@ module _ (options : Options) (no_file : HasNoFile options) where
   rests_by argument arguments ps p dashed x l t ks f c next = run_bad options _ argument arguments (not_none (dashed_turn options ps (pending_of p) idle (place (parts_with ps p)) argument x l))
 
   -- an option waits
-  wants_by : (argument : Text) (arguments : List Text) (ps : List PartView) (name : Text) (shape : ShapeView) → IsText argument → Lexes shape argument → AreTexts arguments
+  wants_by : (argument : Text) (arguments : List Text) (ps : List PartView) (name : Text) (shape : ShapeView) → HasCharacters argument → Looks shape argument → HaveCharacters arguments
       → AreKnown options ps → has_empty ps ≡ false → lookup (bytes_eq name) options ≡ Some true → has_key (for_option name) ps ≡ false → Next arguments
       → Agrees options (then_read options arguments (meet_shape options shape (Some name) argument (reading_of ps (wants name)))) (walk_of ps (wants name)) (argument ∷ arguments)
   wants_by argument arguments ps name plain x l t ks f k e next = rw e (value_by argument name arguments ps (is_empty_part (choice name argument)) refl k e l t ks f next)
@@ -238,11 +239,11 @@ module _ (options : Options) (no_file : HasNoFile options) where
   wants_by argument arguments ps name (long other value) x l t ks f k e next = wanting_bad options no_file argument arguments ps name (place ps) (long other value) (λ z. cc) (is_place ps) k x l
   wants_by argument arguments ps name dashed x l t ks f k e next = wanting_bad options no_file argument arguments ps name (place ps) dashed (λ z. cc) (is_place ps) k x l
 
-  turn_by : (argument : Text) (arguments : List Text) (ps : List PartView) (s : Stand) → IsText argument → AreTexts arguments → AreKnown options ps → has_empty ps ≡ false → IsStand ps s → Next arguments
+  turn_by : (argument : Text) (arguments : List Text) (ps : List PartView) (s : Stand) → HasCharacters argument → HaveCharacters arguments → AreKnown options ps → has_empty ps ≡ false → IsStand ps s → Next arguments
       → Agrees options (filled_from options (reading_of ps s) (argument ∷ arguments)) (walk_of ps s) (argument ∷ arguments)
   turn_by argument arguments ps (rests p true) x t ks f i next = file_by true argument arguments ps p (has_key for_file (parts_with ps p)) (is_empty_part (file argument)) refl refl tt t ks f i next
-  turn_by argument arguments ps (rests p false) x t ks f i next = rests_by argument arguments ps p (shape_of argument) x (lex argument) t ks f i next
-  turn_by argument arguments ps (wants name) x t ks f i next = wants_by argument arguments ps name (shape_of argument) x (lex argument) t ks f i.0 i.1 next
+  turn_by argument arguments ps (rests p false) x t ks f i next = rests_by argument arguments ps p (shape_of argument) x (looks argument) t ks f i next
+  turn_by argument arguments ps (wants name) x t ks f i next = wants_by argument arguments ps name (shape_of argument) x (looks argument) t ks f i.0 i.1 next
 
   -- ---- the end
 
@@ -258,12 +259,12 @@ module _ (options : Options) (no_file : HasNoFile options) where
     filled = filled_with ps p f c;
   })
 
-  agree : (arguments : List Text) (ps : List PartView) (s : Stand) → AreTexts arguments → AreKnown options ps → has_empty ps ≡ false → IsStand ps s
+  agree : (arguments : List Text) (ps : List PartView) (s : Stand) → HaveCharacters arguments → AreKnown options ps → has_empty ps ≡ false → IsStand ps s
       → Agrees options (filled_from options (reading_of ps s) arguments) (walk_of ps s) arguments
   agree [] ps (rests p ended) t ks f i = rests_end ps p ended ks f i
   agree [] ps (wants name) t ks f i = wanting_end options no_file ps name (place ps) i.0
   agree (argument ∷ arguments) ps s t ks f i = turn_by argument arguments ps s t.0 t.1 ks f i (λ qs q kqs g j. agree arguments qs q t.1 kqs g j)
 
   -- the same from the start
-  pub agree_from_start : (arguments : List Text) → AreTexts arguments → Agrees options (filled_from options (record { parts = []; waits = None; ended = false }) arguments) (walk_at (held_at [] None) idle 1 false) arguments
+  pub agree_from_start : (arguments : List Text) → HaveCharacters arguments → Agrees options (filled_from options (record { parts = []; waits = None; ended = false }) arguments) (walk_at (held_at [] None) idle 1 false) arguments
   agree_from_start arguments t = agree arguments [] (rests None false) t tt refl tt

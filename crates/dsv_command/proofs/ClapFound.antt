@@ -15,8 +15,9 @@ use Rattle.dsv_command.specs.ClapRows.{AreRowsOf, TellParts, is_given_source, is
 use Rattle.dsv_command.specs.Parts.{PartView, file, flag, choice, for_option, has_key, has_empty, file_of, value_of}
 use Rattle.dsv_command.specs.Reading.{parts_of}
 use Rattle.dsv_command.proofs.ClapRules.{Options, built_file, built_option, built_rules, built_shape, command_built, either_way, same_text}
-use Rattle.dsv_command.proofs.ClapUses.{AreKnown, HasNoFile, IsKnown, held_at, id_of, neither, not_file, row_of}
-use Rattle.dsv_command.proofs.ClapTurns.{AreTexts, walk_at}
+use Rattle.dsv_command.proofs.ClapUses.{AreKnown, HasNoFile, IsKnown, held_at, id_of, not_file, row_of}
+use Rattle.dsv_command.proofs.ClapLooks.{HaveCharacters, neither}
+use Rattle.dsv_command.proofs.ClapTurns.{walk_at}
 use Rattle.dsv_command.proofs.ClapWalk.{run_fault, end_rows}
 use Rattle.dsv_command.proofs.ClapAgreement.{Agrees, agree_from_start}
 
@@ -75,13 +76,14 @@ flag_default options name rows false e k = record {
   defaults = ((refl, λ other f. apart options name other (Some false) (lookup (bytes_eq other) options) (λ z. f (sym z)) k refl), tt);
 }
 
-no_change : {A : Type 0} (b : Bool) (x : A) → cond b x x ≡ x
-no_change true x = refl
-no_change false x = refl
+-- both cases of a test alike
+either_case : {A : Type 0} (test : Bool) (x : A) → cond test x x ≡ x
+either_case true x = refl
+either_case false x = refl
 
 option_default : (options : Options) (name : Text) (takes_value : Bool) (rows : List Row) → (takes_value || is_flag (lookup (bytes_eq name) options)) ≡ true
     → Defaulted options rows (with_default rows (built_option (name, takes_value)))
-option_default options name true rows e = rw (no_change (has_row name rows) rows) (no_default options rows)
+option_default options name true rows e = rw (either_case (has_row name rows) rows) (no_default options rows)
 option_default options name false rows e = flag_default options name rows (has_row name rows) refl (flag_of (lookup (bytes_eq name) options) e)
   where
     flag_of : (x : Option Bool) → is_flag x ≡ true → x ≡ Some false
@@ -109,7 +111,7 @@ all_defaulted options (o ∷ os) rows e =
 
 -- the rows that clap gives, but for defaults
 rows_defaulted : (options : Options) (rows : List Row) → IsTable options → Defaulted options rows (fold with_default rows (built_rules options))
-rows_defaulted options rows table = default_then options rows (with_default rows built_file) _ (rw (no_change (has_row file_id rows) rows) (no_default options rows))
+rows_defaulted options rows table = default_then options rows (with_default rows built_file) _ (rw (either_case (has_row file_id rows) rows) (no_default options rows))
     (all_defaulted options options (with_default rows built_file) table.flags)
 
 -- ---- what defaults leave as it was
@@ -248,12 +250,12 @@ rows_run : (options : Options) (arguments : List Text) → command_rows options 
 unfolding command_rows
 rows_run options arguments = ap (λ (b : App). rows_after b.top.rules (names_of b) arguments) (command_built options)
 
-agreed : (options : Options) (arguments : List Text) → IsTable options → AreTexts arguments → Agrees options (filled_parts_of options arguments) from_start arguments
+agreed : (options : Options) (arguments : List Text) → IsTable options → HaveCharacters arguments → Agrees options (filled_parts_of options arguments) from_start arguments
 unfolding parts_of
 agreed options arguments table t = agree_from_start options table.no_file arguments t
 
 -- clap refuses what the rules don't allow
-pub refused : (options : Options) (arguments : List Text) → IsTable options → AreTexts arguments → (command_faults options arguments ≡ [] → ⊥) → filled_parts_of options arguments ≡ None
+pub refused : (options : Options) (arguments : List Text) → IsTable options → HaveCharacters arguments → (command_faults options arguments ≡ [] → ⊥) → filled_parts_of options arguments ≡ None
 refused options arguments table t bad = by_parts (filled_parts_of options arguments) (agreed options arguments table t)
   where
     by_parts : (r : Option (List PartView)) → Agrees options r from_start arguments → r ≡ None
@@ -266,7 +268,7 @@ pub record Tell (options : Options) (arguments : List Text) (rows : List Row) : 
   pub parts : Some (parts_in options rows) ≡ filled_parts_of options arguments
 
 -- and what clap takes are the parts
-pub taken : (options : Options) (arguments : List Text) → IsTable options → AreTexts arguments → command_faults options arguments ≡ [] → Tell options arguments (command_rows options arguments)
+pub taken : (options : Options) (arguments : List Text) → IsTable options → HaveCharacters arguments → command_faults options arguments ≡ [] → Tell options arguments (command_rows options arguments)
 taken options arguments table t free = by_parts (filled_parts_of options arguments) (agreed options arguments table t) refl
   where
     by_parts : (r : Option (List PartView)) → Agrees options r from_start arguments → filled_parts_of options arguments ≡ r → Tell options arguments (command_rows options arguments)

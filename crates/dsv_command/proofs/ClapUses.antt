@@ -12,6 +12,7 @@ use Rattle.clap.specs.declared.parser.matches.ValueSource.TheVariants.{CommandLi
 use Rattle.clap.specs.declared.error.kind.ErrorKind.TheVariants.{ArgumentConflict, InvalidValue}
 use Rattle.dsv_command.specs.ClapCommand.{file_id}
 use Rattle.dsv_command.specs.Parts.{PartView, file, flag, choice, Key, for_file, for_option, key_of, is_same_key, has_key, is_empty_part}
+use Rattle.dsv_command.proofs.ClapLooks.{neither}
 use Rattle.dsv_command.proofs.ClapRules.{Options, built_file, built_rules, rule_named, by_id, either_way, same_text}
 
 -- ---- parts as clap sees them
@@ -101,10 +102,6 @@ id_by_key (choice name value) = refl
 
 pub same_id : (options : Options) (p : PartView) (k : Key) → HasNoFile options → IsKnown options p → IsNamed k → bytes_eq (id_of p) (key_id k) ≡ is_same_key (key_of p) k
 same_id options p k n h i = ap (λ id. bytes_eq id (key_id k)) (id_by_key p) ∙ same_ids (key_of p) k (named options p n h) i
-
-pub neither : (a b : Bool) → (a || b) ≡ false → (a ≡ false) × (b ≡ false)
-neither true b e = cc
-neither false b e = (refl, e)
 
 -- where nothing is given for a key, a row of its id comes last
 absent : (options : Options) (k : Key) (ps : List PartView) (change : Row → List Row) (missing : List Row) → HasNoFile options → AreKnown options ps → IsNamed k → has_key k ps ≡ false

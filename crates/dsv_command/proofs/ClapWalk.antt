@@ -13,7 +13,8 @@ use Rattle.dsv_command.specs.Reading.{Reading, once, gives, meet, meet_known, me
 use Rattle.dsv_command.specs.Shapes.{ShapeView, plain, stop, long, dashed, shape_of}
 use Rattle.dsv_command.proofs.ClapRules.{Options, built_rules, built_shape}
 use Rattle.dsv_command.proofs.ClapUses.{AreKnown, HasNoFile, held_at, settle_fault_at, settle_wanting, use_kinds}
-use Rattle.dsv_command.proofs.ClapTurns.{AreTexts, Fault, IsText, Lexes, alone_turn, dashed_turn, file_turn, flag_turn, flag_value, is_first, joined_turn, late_turn, lex, not_none, plain_stray, stop_turn, stop_walked, stray_turn, unknown, walk_at, wanted_turn, wanted_walked}
+use Rattle.dsv_command.proofs.ClapLooks.{HaveCharacters, HasCharacters, Looks, looks}
+use Rattle.dsv_command.proofs.ClapTurns.{Fault, alone_turn, dashed_turn, file_turn, flag_turn, flag_value, first_none, joined_turn, late_turn, not_none, plain_stray, stop_turn, stop_walked, stray_turn, unknown, walk_at, wanted_turn, wanted_walked}
 
 -- ---- an empty text stays among the parts
 
@@ -96,7 +97,7 @@ end_rows options w arguments = (settled (built_rules options) (end_of options w 
 
 pub run_bad : (options : Options) (w : Walk) (argument : Text) (arguments : List Text) → Fault (turn_fault (built_shape options) [] w argument) → Fails options w (argument ∷ arguments)
 unfolding walk_fault
-run_bad options w argument arguments bad e = bad (is_first _ _ (is_first _ _ e))
+run_bad options w argument arguments bad e = bad (first_none _ _ (first_none _ _ e))
 
 pub run_ok : (options : Options) (w next : Walk) (argument : Text) (arguments : List Text) → turn_fault (built_shape options) [] w argument ≡ [] → walked (built_rules options) [] w argument ≡ next
     → run_fault options w (argument ∷ arguments) ≡ run_fault options next arguments
@@ -111,7 +112,7 @@ fails_next options w next argument arguments ok e bad = λ z. bad (sym (run_ok o
 
 fails_end : (options : Options) (w : Walk) → Fault (settle_fault (built_rules options) false w.held) → Fails options w []
 unfolding walk_fault
-fails_end options w bad = λ z. bad (is_first _ _ z)
+fails_end options w bad = λ z. bad (first_none _ _ z)
 
 -- ---- what is pending can't be used
 
@@ -131,12 +132,12 @@ module _ (options : Options) (no_file : HasNoFile options) where
 
   -- another option comes where what is pending can't be used
   pub long_refused : (h : Held) (w : Waiting) (n : ℕ) (argument name : Text) (value : Option Text) (takes_value : Option Bool) → lookup (bytes_eq name) options ≡ takes_value
-      → Fault (settle_fault rules false h) → Lexes (long name value) argument → Fault (turn_fault (built_shape options) [] (walk_at h w n false) argument)
+      → Fault (settle_fault rules false h) → Looks (long name value) argument → Fault (turn_fault (built_shape options) [] (walk_at h w n false) argument)
   long_refused h w n argument name value None k bad l = not_none (unknown options h w n argument name value k l)
-  long_refused h w n argument name (Some value) (Some true) k bad l = λ z. bad (is_first _ _ (sym (joined_turn options h w n argument name value k l) ∙ z))
+  long_refused h w n argument name (Some value) (Some true) k bad l = λ z. bad (first_none _ _ (sym (joined_turn options h w n argument name value k l) ∙ z))
   long_refused h w n argument name None (Some true) k bad l = λ z. bad (sym (alone_turn options h w n argument name k l) ∙ z)
   long_refused h w n argument name (Some value) (Some false) k bad l = not_none (flag_value options h w n argument name value k l)
-  long_refused h w n argument name None (Some false) k bad l = λ z. bad (is_first _ _ (sym (flag_turn options h w n argument name k l) ∙ z))
+  long_refused h w n argument name None (Some false) k bad l = λ z. bad (first_none _ _ (sym (flag_turn options h w n argument name k l) ∙ z))
 
   -- after `--`
   pub doomed_late : (arguments : List Text) (h : Held) (w : Waiting) (n : ℕ) → IsPlace n → Fault (settle_fault rules false h) → Fails options (walk_at h w n true) arguments
@@ -145,12 +146,12 @@ module _ (options : Options) (no_file : HasNoFile options) where
   doomed_late (argument ∷ arguments) h w n (inr i) bad = run_bad options _ argument arguments (subst (λ m. Fault (turn_fault (built_shape options) [] (walk_at h w m true) argument)) (sym i) (not_none (stray_turn options h argument w)))
 
   -- no option waits
-  pub doomed : (arguments : List Text) (ps : List PartView) (pending : Option (Text × List Text)) (n : ℕ) → AreTexts arguments → IsPlace n → Fault (settle_fault rules false (held_at ps pending))
+  pub doomed : (arguments : List Text) (ps : List PartView) (pending : Option (Text × List Text)) (n : ℕ) → HaveCharacters arguments → IsPlace n → Fault (settle_fault rules false (held_at ps pending))
       → Fails options (walk_at (held_at ps pending) idle n false) arguments
   doomed [] ps pending n t i bad = fails_end options (walk_at (held_at ps pending) idle n false) bad
-  doomed (argument ∷ arguments) ps pending n t i bad = by_shape (shape_of argument) (lex argument)
+  doomed (argument ∷ arguments) ps pending n t i bad = by_shape (shape_of argument) (looks argument)
     where
-      by_shape : (shape : ShapeView) → Lexes shape argument → Fails options (walk_at (held_at ps pending) idle n false) (argument ∷ arguments)
+      by_shape : (shape : ShapeView) → Looks shape argument → Fails options (walk_at (held_at ps pending) idle n false) (argument ∷ arguments)
       by_shape plain l = elim i [
         | inl e ↦ run_bad options _ argument arguments (subst (λ m. Fault (turn_fault (built_shape options) [] (walk_at (held_at ps pending) idle m false) argument)) (sym e) (λ z. bad (sym (file_turn options (held_at ps pending) argument false l) ∙ z)))
         | inr e ↦ run_bad options _ argument arguments (subst (λ m. Fault (turn_fault (built_shape options) [] (walk_at (held_at ps pending) idle m false) argument)) (sym e) (not_none (plain_stray options (held_at ps pending) argument l)))
@@ -166,7 +167,7 @@ module _ (options : Options) (no_file : HasNoFile options) where
 
   -- no value comes
   pub wanting_bad : (argument : Text) (arguments : List Text) (ps : List PartView) (name : Text) (n : ℕ) (shape : ShapeView) → (shape ≡ plain → ⊥) → IsPlace n → lookup (bytes_eq name) options ≡ Some true
-      → IsText argument → Lexes shape argument → Fails options (wanting ps name n) (argument ∷ arguments)
+      → HasCharacters argument → Looks shape argument → Fails options (wanting ps name n) (argument ∷ arguments)
   wanting_bad argument arguments ps name n plain other i k t l = absurd (other refl)
   wanting_bad argument arguments ps name n stop other i k t l =
       fails_next options _ _ argument arguments (stop_turn options (option name) n argument (held_at ps (Some (name, []))) l) (stop_walked options (option name) n argument (held_at ps (Some (name, []))) l)
@@ -179,12 +180,12 @@ module _ (options : Options) (no_file : HasNoFile options) where
   wanting_end ps name n k = fails_end options (wanting ps name n) (not_none (settle_wanting options ps name no_file k))
 
   -- the option that waits was given before
-  pub wanting_again : (arguments : List Text) (ps : List PartView) (name : Text) (n : ℕ) → AreTexts arguments → IsPlace n → AreKnown options ps → lookup (bytes_eq name) options ≡ Some true
+  pub wanting_again : (arguments : List Text) (ps : List PartView) (name : Text) (n : ℕ) → HaveCharacters arguments → IsPlace n → AreKnown options ps → lookup (bytes_eq name) options ≡ Some true
       → has_key (for_option name) ps ≡ true → Fails options (wanting ps name n) arguments
   wanting_again [] ps name n t i ks k e = wanting_end ps name n k
-  wanting_again (argument ∷ arguments) ps name n t i ks k e = by_shape (shape_of argument) (lex argument)
+  wanting_again (argument ∷ arguments) ps name n t i ks k e = by_shape (shape_of argument) (looks argument)
     where
-      by_shape : (shape : ShapeView) → Lexes shape argument → Fails options (wanting ps name n) (argument ∷ arguments)
+      by_shape : (shape : ShapeView) → Looks shape argument → Fails options (wanting ps name n) (argument ∷ arguments)
       by_shape plain l = fails_next options _ _ argument arguments (wanted_turn options ps n argument name no_file k l) (wanted_walked options ps n argument name no_file k l)
           (doomed arguments ps (Some (name, argument ∷ [])) n t.1 i
           (not_none (settle_fault_at options ps (choice name argument) no_file ks k ∙ ap (λ b. use_kinds b (is_empty_part (choice name argument))) e)))

@@ -1,7 +1,7 @@
 -- The command that is made option by option, and what clap says of it.
-use Rattle.std.proofs.Common.{None, String, Global, string_bytes, subst, inl, inr, refl, true, [], ◌∷◌, ◌≡◌, ◌∙◌, ◌<◌, ◌+◌, ℕ, List, drop, get_or, length, map, sym, ap}
+use Rattle.std.proofs.Common.{None, String, Global, string_bytes, subst, inl, inr, refl, true, [], ◌≡◌, ◌∙◌, ◌<◌, ◌+◌, ℕ, List, drop, get_or, length, map, sym, ap}
 use Rattle.std.proofs.lemmas.List.{drop_more}
-use Rattle.clap.specs.Words.{HasMatchesOf, found_of, rows_of, App, HasKind, Kinds, Rule, Text, fault_of, is_simple, is_simple_and_free, kind_of, matches_of, with_rule}
+use Rattle.clap.specs.Words.{HasMatchesOf, found_of, rows_of, App, HasKind, Rule, Text, fault_of, is_simple, is_simple_and_free, kind_of, matches_of, with_rule}
 use Rattle.clap.specs.declared.error.Error.{Error}
 use Rattle.clap.specs.declared.parser.matches.ArgMatches.{ArgMatches}
 use Rattle.clap.specs.declared.error.kind.ErrorKind.TheVariants.{OutOfMemory}
@@ -10,7 +10,7 @@ use Rattle.dsv_command.specs.Options.{command_options}
 use Rattle.dsv_command.specs.Views.{option_view, options_view}
 use Rattle.dsv_command.specs.declared.options.CommandOption.{CommandOption}
 use Rattle.dsv_command.proofs.ClapFound.{IsTable, Tell, refused, taken}
-use Rattle.dsv_command.proofs.ClapTurns.{texts_of_strings}
+use Rattle.dsv_command.proofs.ClapLooks.{strings_have_characters}
 use Rattle.dsv_command.proofs.ClapRules.{command_simple, command_simple_and_free, with_rules, with_rules_more}
 
 -- once one more option's argument is added, the options after it are left
@@ -26,10 +26,11 @@ command_table : IsTable command_options
 command_table = record { no_file = refl; flags = refl }
 
 -- where clap has no other reason, memory ran out
-only_memory : (kinds : Kinds) (e : Error) → kinds ≡ [] → HasKind kinds e → kind_of e ≡ OutOfMemory
-only_memory [] e z (inl h) = h
-only_memory [] e z (inr h) = absurd h
-only_memory (k ∷ ks) e z h = cc
+only_memory : (error : Error) → HasKind [] error → kind_of error ≡ OutOfMemory
+only_memory error has = elim has [
+  | inl memory ↦ memory
+  | inr none ↦ absurd none
+]
 
 -- ---- what clap's clauses say of the command that was made
 
@@ -53,8 +54,8 @@ module _ (app : App) (made : app ≡ command_app command_options) (strings : Lis
 
   -- matches tell the parts
   pub matches_tell : (matches : ArgMatches) → fault_of app arguments ≡ [] → HasMatchesOf app arguments matches → Tell command_options arguments (rows_of (found_of matches))
-  matches_tell matches free has = subst (Tell command_options arguments) (sym ((has simple).0 ∙ rows_are)) (taken command_options arguments command_table (texts_of_strings strings) (sym faults_are ∙ free))
+  matches_tell matches free has = subst (Tell command_options arguments) (sym ((has simple).0 ∙ rows_are)) (taken command_options arguments command_table (strings_have_characters strings) (sym faults_are ∙ free))
 
   -- clap's refusal, but for memory, is that of the rules
   pub refusal_is : (error : Error) → HasKind (fault_of app arguments) error → (kind_of error ≡ OutOfMemory → ⊥) → filled_parts_of command_options arguments ≡ None
-  refusal_is error has other = refused command_options arguments command_table (texts_of_strings strings) (λ free. other (only_memory (fault_of app arguments) error (faults_are ∙ free) has))
+  refusal_is error has other = refused command_options arguments command_table (strings_have_characters strings) (λ free. other (only_memory error (subst (λ kinds. HasKind kinds error) (faults_are ∙ free) has)))

@@ -1,5 +1,6 @@
 pub mod ClapAgreement
 pub mod ClapFound
+pub mod ClapLooks
 pub mod ClapMatches
 pub mod ClapRules
 pub mod ClapTurns
