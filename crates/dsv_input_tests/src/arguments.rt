@@ -307,7 +307,10 @@ fn a_certificate_is_checked_by_its_name(rt: HostRuntime) {
 
 fn is_certified(alloc: Global, text: &str) -> Result<bool, NoMemory> {
     let arguments = arguments_of(alloc, text)?;
-    Ok(read_job(alloc, &arguments)?.is_some_and(|job| job.certified))
+    Ok(match read_job(alloc, &arguments)? {
+        Some(job) => job.certified,
+        None => false,
+    })
 }
 
 /// Jobs that want a certificate.
