@@ -1,7 +1,7 @@
 -- Marks by variable, and how many there can be.
 use Rattle.std.proofs.Common.{◌≡◌, ◌≢◌, ℕ, ◌<◌, ◌==◌, Bool, true, false, not, cond, List, [], ◌∷◌, ◌++◌, ◌⊎◌, refl, arith, ap, sym, ◌∙◌, inl, inr, length, zero, suc, slice_get, slice_index_or, slice_set, get_or, set, get_or-set_other, get_or-set_same, map, eqb, Option, Some, None, IsSome}
 use Rattle.std.specs.List.{list_any}
-use Rattle.std.proofs.lemmas.Bool.{cases_eq, eqb-true, eq-eqb}
+use Rattle.std.proofs.lemmas.Bool.{eqb-true, eq-eqb}
 use Rattle.std.proofs.lemmas.Bool.Decides.{Decides-eqb}
 use Rattle.std.proofs.lemmas.List.{length-map}
 use Rattle.std.proofs.lemmas.Map.Made.{IsDistinct-from_AllPairs}
@@ -59,33 +59,7 @@ not-open (n ∷ ns) (suc i) v m at e o =
       | inr b ↦ not-open ns i v m at e (sym b.1 ∙ o)
     ]
 
--- one mark more, of an open variable
-pub push-same : (ms : List Mark) (m : Mark) → IsOpen ms m.literal.var → mark_of (ms ++ m ∷ []) m.literal.var ≡ Some m
-push-same [] m o = elim (mark-cases m [] m.literal.var) [ inl a ↦ a.1 | inr b ↦ absurd (b.0 refl) ]
-push-same (n ∷ ns) m o =
-    elim (mark-cases n ns m.literal.var) [
-      | inl a ↦ let f : Some n ≡ None = sym a.1 ∙ o in absurd cc
-      | inr b ↦ elim (mark-cases n (ns ++ m ∷ []) m.literal.var) [ inl a ↦ absurd (b.0 a.0) | inr c ↦ c.1 ∙ push-same ns m (sym b.1 ∙ o) ]
-    ]
-
-pub push-other : (ms : List Mark) (m : Mark) (v : ℕ) → v ≢ m.literal.var → mark_of (ms ++ m ∷ []) v ≡ mark_of ms v
-push-other [] m v n = elim (mark-cases m [] v) [ inl a ↦ absurd (n (sym a.0)) | inr b ↦ b.1 ]
-push-other (x ∷ xs) m v n =
-    elim (mark-cases x xs v) [
-      | inl a ↦ elim (mark-cases x (xs ++ m ∷ []) v) [ inl c ↦ c.1 ∙ sym a.1 | inr c ↦ absurd (c.0 a.0) ]
-      | inr b ↦ elim (mark-cases x (xs ++ m ∷ []) v) [ inl c ↦ absurd (b.0 c.0) | inr c ↦ c.1 ∙ (push-other xs m v n ∙ sym b.1) ]
-    ]
-
 -- ---- the lists by variable
-
-pub signed-pushed : (vars : ℕ) (signs : List (Option Bool)) (old new : List Mark) (m : Mark) (at : ℕ) (s : Option Bool) → length signs ≡ vars → m.literal.var < vars → at ≡ m.literal.var → s ≡ sign_of (Some m) → new ≡ old ++ m ∷ [] → IsOpen old m.literal.var
-    → ((v : ℕ) → v < vars → slice_index_or signs v None ≡ sign_of (mark_of old v)) → (v : ℕ) → v < vars → slice_index_or (slice_set signs at s) v None ≡ sign_of (mark_of new v)
-signed-pushed vars signs old new m at s len lt is se e o h v vl =
-    rw (e, is, se)
-    (elim (cases_eq v m.literal.var) [
-      | inl same ↦ rw same (get_or-set_same signs m.literal.var (sign_of (Some m)) None (omega (arith, len, lt)) ∙ sym (ap sign_of (push-same old m o)))
-      | inr other ↦ get_or-set_other signs m.literal.var v (sign_of (Some m)) None other ∙ (h v vl ∙ sym (ap sign_of (push-other old m v other)))
-    ])
 
 pub placed-pushed : (vars : ℕ) (places : List ℕ) (old new : List Mark) (m : Mark) (at place : ℕ) → length places ≡ vars → m.literal.var < vars → at ≡ m.literal.var → place ≡ length old → new ≡ old ++ m ∷ [] → IsOpen old m.literal.var
     → ((i : ℕ) (x : Mark) → slice_get old i ≡ Some x → slice_index_or places x.literal.var 0 ≡ i) → (i : ℕ) (x : Mark) → slice_get new i ≡ Some x → slice_index_or (slice_set places at place) x.literal.var 0 ≡ i
@@ -117,15 +91,6 @@ last-open places new m h =
           let e : f.place ≡ length new = sym p ∙ (ap (λ v. slice_index_or places v 0) f.is ∙ q) in
           absurd (omega (arith, e, slice_get_within new f.place s.0 f.at))
     ]
-
-pub signed-popped : (vars : ℕ) (signs : List (Option Bool)) (old new : List Mark) (m : Mark) (at : ℕ) → length signs ≡ vars → m.literal.var < vars → at ≡ m.literal.var → old ≡ new ++ m ∷ [] → IsOpen new m.literal.var
-    → ((v : ℕ) → v < vars → slice_index_or signs v None ≡ sign_of (mark_of old v)) → (v : ℕ) → v < vars → slice_index_or (slice_set signs at None) v None ≡ sign_of (mark_of new v)
-signed-popped vars signs old new m at len lt is e o h v vl =
-    rw is
-    (elim (cases_eq v m.literal.var) [
-      | inl same ↦ rw same (get_or-set_same signs m.literal.var None None (omega (arith, len, lt)) ∙ sym (ap sign_of o))
-      | inr other ↦ get_or-set_other signs m.literal.var v None None other ∙ (h v vl ∙ ap sign_of (ap (λ x. mark_of x v) e ∙ push-other new m v other))
-    ])
 
 -- ---- how many marks there are
 

@@ -1,16 +1,16 @@
 -- Literals that marks make false, and their places.
-use Rattle.std.proofs.Common.{◌≡◌, ℕ, ◌+◌, ◌<◌, Bool, true, false, not, ◌||◌, cond, List, [], ◌∷◌, ◌++◌, ◌⊎◌, refl, arith, ap, sym, ◌∙◌, inl, inr, length, take, zero, suc, add-one, slice_get, get_or, Option, Some, None, IsSome}
+use Rattle.std.proofs.Common.{◌≡◌, ◌≢◌, ℕ, ◌+◌, ◌*◌, ◌<◌, Bool, true, false, ◌||◌, cond, List, [], ◌∷◌, ◌++◌, ◌⊎◌, refl, arith, ap, sym, ◌∙◌, inl, inr, length, take, zero, suc, add-one, slice_get, get_or, set, get_or-set_other, get_or-set_same, Option, Some, None, IsSome}
 use Rattle.std.specs.List.{All, Contains}
-use Rattle.std.proofs.lemmas.Bool.{cases_eq, cases_lt}
+use Rattle.std.proofs.lemmas.Bool.{cases_eq, cases_lt, eq-eqb}
 use Rattle.std.proofs.lemmas.List.{take_more}
 use Rattle.std.proofs.lemmas.List.Elements.{All-cons, All-nil}
 use Rattle.std.proofs.lemmas.Option.{slice_get_within, get_or_from_slice_get}
-use Rattle.dsv_cnf.specs.Literal.{Literal, literal_eq, negation}
+use Rattle.dsv_cnf.specs.Literal.{Literal, code_of, literal_eq, negation}
 use Rattle.dsv_cnf.specs.Formula.{contains}
-use Rattle.dsv_cnf.proofs.LiteralLemmas.{or_cases, same_bool, same_literal, literal_eq-same, negation-twice}
+use Rattle.dsv_cnf.proofs.LiteralLemmas.{or_cases, same_literal, literal_eq-code, literal_eq-same, code-below, negation-twice}
 use Rattle.dsv_cnf.proofs.ClauseLemmas.{or_true, not_true, no_both, contains-head, contains-tail, contains-cases}
 use Rattle.dsv_trail.specs.TrailView.{TrailView}
-use Rattle.dsv_trail.specs.Marks.{level_in, level_of, literal_at, literal_in, mark_of, value_of, AreMarks, IsOpen, IsSet}
+use Rattle.dsv_trail.specs.Marks.{level_in, level_of, literal_at, literal_in, mark_of, sign_of, value_by, value_of, AreMarks, IsOpen, IsSet}
 use Rattle.dsv_trail.specs.Levels.{after_back, IsLimit, IsLevelOf, IsTrail}
 use Rattle.dsv_trail.specs.Justification.{IsReason}
 use Rattle.dsv_trail.specs.Places.{falsifies, place_of}
@@ -18,7 +18,7 @@ use Rattle.dsv_trail.specs.MarkListInside.{IsMarkList}
 use Rattle.dsv_trail.specs.declared.marks.Mark.{Mark}
 use Rattle.dsv_trail.specs.declared.marks.MarkList.TheInside.{Inside}
 use Rattle.dsv_trail.proofs.Elements.{some-inside}
-use Rattle.dsv_trail.proofs.MarkLemmas.{any-default, found, mark_of-at, negation-false, negation-stands, not-open, option-cases, some-of}
+use Rattle.dsv_trail.proofs.MarkLemmas.{any-default, found, literal-true, mark_of-at, negation-false, not-open, option-cases, some-of}
 
 -- ---- one mark more
 
@@ -29,6 +29,13 @@ or_assoc false b c = refl
 or_false : (a : Bool) → (a || false) ≡ a
 or_false true = refl
 or_false false = refl
+
+-- literals are compared by their numbers
+same_code : (n q : Literal) → code_of q ≡ code_of n → literal_eq n q ≡ true
+same_code n q e = literal_eq-code n q ∙ eq-eqb (code_of n) (code_of q) (sym e)
+
+other_code : (n q : Literal) → code_of q ≢ code_of n → literal_eq n q ≡ false
+other_code n q e = not_true (literal_eq n q) (λ h. e (ap code_of (sym (same_literal n q h))))
 
 pub falsifies-push : (ms : List Mark) (m : Mark) (l : Literal) → falsifies (ms ++ m ∷ []) l ≡ (falsifies ms l || literal_eq (negation m.literal) l)
 falsifies-push [] m l = or_false (literal_eq (negation m.literal) l)
@@ -140,33 +147,16 @@ false-value n ms l a h =
     let at : literal_at ms (place_of ms l) ≡ Some (negation l) = ap literal_in p.at ∙ ap Some same in
     ap (value_of ms) (sym back) ∙ negation-false n ms (place_of ms l) (negation l) a at
 
-in-literal : (o : Option Mark) (l : Literal) → literal_in o ≡ Some l → (m : Mark) × ((o ≡ Some m) × (m.literal ≡ l))
-in-literal None l h = absurd cc
-in-literal (Some m) l h = (m, (refl, (let e : m.literal ≡ l = cc in e)))
+-- and one whose negation is false has the value true
+pub true-value : (n : ℕ) (ms : List Mark) (l : Literal) → AreMarks n ms → falsifies ms (negation l) ≡ true → value_of ms l ≡ Some true
+true-value n ms l a h =
+    let p = place-is ms (negation l) h in
+    let same : p.mark.literal ≡ l = sym (negation-twice p.mark.literal) ∙ (ap negation p.is ∙ negation-twice l) in
+    literal-true n ms (place_of ms (negation l)) l a (ap literal_in p.at ∙ ap Some same)
 
--- and a literal with the value false is false
-pub value-false : (ms : List Mark) (l : Literal) → value_of ms l ≡ Some false → falsifies ms l ≡ true
-value-false ms l h =
-    let s = negation-stands ms l (mark_of ms l.var) refl h in
-    let m = in-literal (slice_get ms s.0) (negation l) s.1 in
-    let e : negation m.0.literal ≡ l = ap negation m.1.1 ∙ negation-twice l in
-    ap (falsifies ms) (sym e) ∙ falsifies-at ms s.0 m.0 m.1.0
-
--- whether a literal is false, by its value
-abbrev pub false_in : Option Bool → Bool
-false_in None = false
-false_in (Some b) = not b
-
-in_false : (o : Option Bool) → false_in o ≡ true → o ≡ Some false
-in_false None h = cc
-in_false (Some true) h = cc
-in_false (Some false) h = refl
-
-pub falsifies-value : (n : ℕ) (ms : List Mark) (l : Literal) → AreMarks n ms → falsifies ms l ≡ false_in (value_of ms l)
-falsifies-value n ms l a =
-    same_bool (falsifies ms l) (false_in (value_of ms l))
-    (λ h. ap false_in (false-value n ms l a h))
-    (λ h. value-false ms l (in_false (value_of ms l) h))
+-- an open variable's literals have no value
+pub open-value : (ms : List Mark) (l : Literal) → IsOpen ms l.var → value_of ms l ≡ None
+open-value ms l o = ap (λ m. value_by (sign_of m) l.positive) o
 
 -- an open variable's literals aren't false
 pub open-not_false : (ms : List Mark) (l : Literal) → IsOpen ms l.var → falsifies ms l ≡ false
@@ -245,7 +235,44 @@ reason-of n clauses r ms c l a at has others =
       others = all-from (λ q. (q ≡ l) ⊎ (value_of ms q ≡ Some false)) c (λ q i. elim (others q i) [ inl e ↦ inl e | inr f ↦ inr (false-value n ms q a f) ]);
     }
 
--- ---- places as they are kept
+-- ---- false literals and places as they are kept
+
+-- which literals are false, once a literal more is true
+pub false-pushed : (vars : ℕ) (falses : List Bool) (old new : List Mark) (m : Mark) (at : ℕ) → length falses ≡ 2 * vars → m.literal.var < vars → at ≡ code_of (negation m.literal) → new ≡ old ++ m ∷ []
+    → ((q : Literal) → q.var < vars → get_or falses (code_of q) false ≡ falsifies old q) → (q : Literal) → q.var < vars → get_or (set falses at true) (code_of q) false ≡ falsifies new q
+false-pushed vars falses old new m at len lt is e h q ql =
+    let n = negation m.literal in
+    rw (e, is)
+    (elim (cases_eq (code_of q) (code_of n)) [
+      | inl same ↦
+          ap (λ k. get_or (set falses (code_of n) true) k false) same
+          ∙ get_or-set_same falses (code_of n) true false (omega (arith, len, code-below n vars lt))
+          ∙ sym (falsifies-push old m q ∙ or_true (falsifies old q) (literal_eq n q) (inr (same_code n q same)))
+      | inr other ↦
+          get_or-set_other falses (code_of n) (code_of q) true false other
+          ∙ h q ql
+          ∙ sym (falsifies-push old m q ∙ ap (λ b. falsifies old q || b) (other_code n q other) ∙ or_false (falsifies old q))
+    ])
+
+-- and once the last literal is taken away
+pub false-popped : (vars : ℕ) (falses : List Bool) (old new : List Mark) (m : Mark) (at : ℕ) → length falses ≡ 2 * vars → m.literal.var < vars → at ≡ code_of (negation m.literal) → old ≡ new ++ m ∷ [] → IsOpen new m.literal.var
+    → ((q : Literal) → q.var < vars → get_or falses (code_of q) false ≡ falsifies old q) → (q : Literal) → q.var < vars → get_or (set falses at false) (code_of q) false ≡ falsifies new q
+false-popped vars falses old new m at len lt is e o h q ql =
+    let n = negation m.literal in
+    rw is
+    (elim (cases_eq (code_of q) (code_of n)) [
+      | inl same ↦
+          ap (λ k. get_or (set falses (code_of n) false) k false) same
+          ∙ get_or-set_same falses (code_of n) false false (omega (arith, len, code-below n vars lt))
+          ∙ sym (ap (falsifies new) (sym (same_literal n q (same_code n q same))) ∙ open-not_false new n o)
+      | inr other ↦
+          get_or-set_other falses (code_of n) (code_of q) false false other
+          ∙ h q ql
+          ∙ ap (λ ms. falsifies ms q) e
+          ∙ falsifies-push new m q
+          ∙ ap (λ b. falsifies new q || b) (other_code n q other)
+          ∙ or_false (falsifies new q)
+    ])
 
 pub place-kept : (l : Inside) (q : Literal) (place : ℕ) → IsMarkList l → falsifies l.marks.items q ≡ true → place ≡ get_or l.places.items q.var place → place ≡ place_of l.marks.items q
 place-kept l q place h f e =

@@ -1,8 +1,8 @@
-// The literals of a trail, and where each variable stands among them.
+// The literals of a trail, which literals they make false, and where each variable stands.
 ghost use Rattle.std.specs.Prelude.{◌≡◌, ℕ, ◌-◌, ◌<◌, ◌≤◌, [], ◌∷◌, ◌++◌};
 ghost use Rattle.std.specs.Prelude.{None, Some, length, slice_get, take, true, IfOk};
 ghost use Rattle.dsv_trail.specs.declared.marks.Mark.{Mark};
-ghost use Rattle.dsv_trail.specs.Marks.{mark_of, sign_of, AreMarks, IsOpen, IsSet};
+ghost use Rattle.dsv_trail.specs.Marks.{mark_of, AreMarks, IsOpen, IsSet};
 ghost use Rattle.dsv_trail.specs.Places.{falsifies, place_of};
 
 use dsv_base::NoMemory;
@@ -25,9 +25,8 @@ pub struct Mark {
 pub(crate) struct MarkList {
     /// How many variables there are.
     vars: u32,
-    /// By variable: whether its literal here is the variable itself or the negation; none where
-    /// there is no literal.
-    signs: Vec<Option<bool>>,
+    /// By literal: whether it is false, that is, its negation is here.
+    falses: Vec<bool>,
     /// By variable: where its literal is, if there is one.
     places: Vec<u32>,
     /// The literals in order.
@@ -53,7 +52,7 @@ impl MarkList {
     {
         Ok(MarkList {
             vars,
-            signs: vec![in alloc; None; vars as usize]?,
+            falses: vec![in alloc; false; 2 * vars as usize]?,
             places: vec![in alloc; 0; vars as usize]?,
             marks: Vec::with_capacity(alloc, vars as usize)?,
         })
@@ -94,12 +93,13 @@ impl MarkList {
         self.places[literal.var() as usize]
     }
 
-    /// Whether the variable's literal is the variable itself.
-    pub fn sign(&self, var: u32) -> Option<bool>
-        requires { var < self.now.vars }
-        ensures { result ≡ sign_of (mark_of self.now.marks var) }
+    /// Whether the literal is false.
+    pub fn is_false(&self, literal: Lit) -> bool
+        requires { literal.var < self.now.vars }
+        ensures value { result ≡ falsifies self.now.marks literal }
+        ensures whole { AreMarks self.now.vars self.now.marks }
     {
-        self.signs[var as usize]
+        self.falses[literal.code() as usize]
     }
 
     /// The mark of a variable that isn't open.
@@ -122,9 +122,8 @@ impl MarkList {
         ensures few { length self.new.marks ≤ self.new.vars }
     {
         let place = self.marks.len() as u32;
-        let var = literal.var() as usize;
-        self.signs[var] = Some(literal.positive());
-        self.places[var] = place;
+        self.falses[literal.negation().code() as usize] = true;
+        self.places[literal.var() as usize] = place;
         self.marks.push_reserved(Mark {
             literal,
             level,
@@ -140,7 +139,7 @@ impl MarkList {
         } }
     {
         if let Some(mark) = self.marks.pop() {
-            self.signs[mark.literal.var() as usize] = None;
+            self.falses[mark.literal.negation().code() as usize] = false;
         }
     }
 

@@ -114,9 +114,12 @@ impl Trail {
         ensures free { result ≡ None → IsOpen self.now.marks lit.var }
         ensures set { IsSome result → IsSet self.now.marks lit.var }
     {
-        match self.marks.sign(lit.var()) {
-            None => None,
-            Some(sign) => Some(sign == lit.positive()),
+        if self.marks.is_false(lit) {
+            Some(false)
+        } else if self.marks.is_false(lit.negation()) {
+            Some(true)
+        } else {
+            None
         }
     }
 
@@ -125,11 +128,7 @@ impl Trail {
         requires { lit.var < self.now.vars }
         ensures { result ≡ falsifies self.now.marks lit }
     {
-        let _count = self.len();
-        match self.value(lit) {
-            None => false,
-            Some(value) => !value,
-        }
+        self.marks.is_false(lit)
     }
 
     /// The number of the clause that implied the variable's literal, or none where it was decided.

@@ -1,8 +1,10 @@
-use Rattle.std.proofs.Common.{arith, ap, ◌≡◌, ◌<◌, ◌∙◌, length, length-set, Some}
+use Rattle.std.proofs.Common.{arith, ap, ◌≡◌, ◌<◌, ◌∙◌, length, length-set}
 use Rattle.std.proofs.lemmas.List.{length_push}
+use Rattle.dsv_cnf.specs.Literal.{code_of}
 use Rattle.dsv_trail.specs.Marks.{IsOpen}
 use Rattle.dsv_trail.specs.declared.marks.Mark.{Mark}
-use Rattle.dsv_trail.proofs.MarkLemmas.{few-open, marks-inside, over-pushed, placed-pushed, signed-pushed}
+use Rattle.dsv_trail.proofs.MarkLemmas.{few-open, marks-inside, over-pushed, placed-pushed}
+use Rattle.dsv_trail.proofs.PlaceLemmas.{false-pushed}
 use Rattle.dsv_trail.proofs.marks.MarkList.push.Goals as goal
 
 pub push_reserved-requires : goal.push_reserved-requires
@@ -24,10 +26,10 @@ invariant_of-self c =
       few = omega (arith, ap length e, length_push c.self.inside.marks.items m, few);
       room = omega (arith, c.push_reserved.ensures.capacity, i.room);
       over = over-pushed c.self.inside.vars c.self.inside.marks.items c.push_reserved.new.self.items m e lt i.over;
-      signs = length-set _ _ _ ∙ i.signs;
+      falses = length-set _ _ _ ∙ i.falses;
       places = length-set _ _ _ ∙ i.places;
-      signed = signed-pushed c.self.inside.vars c.self.inside.signs.items c.self.inside.marks.items c.push_reserved.new.self.items m c.var-var.result (Some c.positive.result) i.signs lt c.var-var.ensures.value (ap Some c.positive.ensures) e free i.signed;
-      placed = placed-pushed c.self.inside.vars c.self.inside.places.items c.self.inside.marks.items c.push_reserved.new.self.items m c.var-var.result c.len-place.result i.places lt c.var-var.ensures.value place e free i.placed;
+      are_false = false-pushed c.self.inside.vars c.self.inside.falses.items c.self.inside.marks.items c.push_reserved.new.self.items m c.code.result i.falses lt (c.code.ensures ∙ ap code_of c.negation.ensures) e i.are_false;
+      placed = placed-pushed c.self.inside.vars c.self.inside.places.items c.self.inside.marks.items c.push_reserved.new.self.items m c.var.result c.len-place.result i.places lt c.var.ensures.value place e free i.placed;
     }
 
 pub returns-clause-few : goal.returns-clause-few
