@@ -43,7 +43,11 @@ fn find_from(clause: &[Lit], other: Lit, trail: &Trail, start: u32) -> Option<Ne
     for i in start as usize..clause.len() {
         let literal = clause[i];
         if !literal.is(&other) && !trail.is_false(literal) {
-            return Some(Next { literal, start: i });
+            // It is watched until the next search, which would pass it over.
+            return Some(Next {
+                literal,
+                start: i + 1,
+            });
         }
     }
     None
@@ -70,14 +74,10 @@ fn partner(pair: Pair, literal: Lit) -> Option<Lit>
     ensures { MatchOption result (HasNoPartner pair literal) (IsPartner pair literal) }
 {
     let first = pair.one.is(&literal);
-    let second = pair.other.is(&literal);
-    if first && !second {
-        Some(pair.other)
-    } else if second && !first {
-        Some(pair.one)
-    } else {
-        None
+    if first == pair.other.is(&literal) {
+        return None;
     }
+    Some(if first { pair.other } else { pair.one })
 }
 
 /// Watches an open literal in place of a false one.
