@@ -1,3 +1,4 @@
+pub mod Alike
 pub mod Dominance
 pub mod FallLemmas
 pub mod OfferLemmas
@@ -7,5 +8,6 @@ pub mod PassingOffers
 pub mod Places
 pub mod Shown
 pub mod Sides
+pub mod SmallOffers
 pub mod SumLemmas
 pub mod Values

@@ -40,7 +40,7 @@ not_negative_where (Ok x) p d s T form h = λ v. shown_not_negative d T v (shows
 not_negative_where (Err e) p d s T form h = tt
 
 -- ---- the refusals of a fall form
-by_shape : (b : Bool) (r : FormRefusal) (x y : Option FormRefusal) → (b ≡ false → x ≡ y) → or_else (first_of ((b, r) ∷ [])) x ≡ or_else (first_of ((b, r) ∷ [])) y
+pub by_shape : (b : Bool) (r : FormRefusal) (x y : Option FormRefusal) → (b ≡ false → x ≡ y) → or_else (first_of ((b, r) ∷ [])) x ≡ or_else (first_of ((b, r) ∷ [])) y
 by_shape true r x y h = refl
 by_shape false r x y h = h refl
 
@@ -92,7 +92,7 @@ fall_form-from p d n s c P F places form w m h =
     let R = matrix_of F.rows in
     let T = fall_entry d c (matrix_of P.rows) in
     let own : (i j : ℕ) → i ≤ j → j < d → R i j ≡ companion_fall_form d c (matrix_of P.rows) i j =
-    λ i j q b. entry_had (any_wide (fall_numbers d c (matrix_of P.rows) i j)) s.m (R i j) (T i j) m (upper d c P F w i j q b) (sides_pass p d n s R h i j q b).narrow
+    λ i j q b. entry_had (any_wide (fall_numbers d c (matrix_of P.rows) i j)) s.m (R i j) (T i j) m (upper d c P F w i j q b) (sides_pass p d n s R (λ i j. []) h i j q b).narrow
     ∙ sym (companion_at d c (matrix_of P.rows) i j (omega arith)) in
     record {
       places = places;
@@ -170,7 +170,7 @@ kept_away_along d c P F s start first fall is h k =
 pub fall_form-definite : (p : Part) (d : ℕ) (s : Squares) (c : Vector) (P F : Form) → F.d ≡ d → is_symmetric d (matrix_of P.rows) ≡ true → IsFallOrWide d c P F
     → first_of (definite_tests p d s (matrix_of F.rows) (λ i j. [])) ≡ None → IsFallForm d c P F
 fall_form-definite p d s c P F places form w h =
-    let o = definite_passes p d s (matrix_of F.rows) h in
+    let o = definite_passes p d s (matrix_of F.rows) (λ i j. []) h in
     fall_form-from p d d s c P F places form w o.rest.multiple o.sides
 
 pub fall_form-semidefinite : (p : Part) (d : ℕ) (s : Squares) (c : Vector) (P F : Form) → F.d ≡ d → is_symmetric d (matrix_of P.rows) ≡ true → IsFallOrWide d c P F

@@ -3,7 +3,7 @@ use Rattle.std.proofs.Common.{◌≡◌, ℕ, zero, suc, ◌+◌, ◌<◌, ◌�
 use Rattle.std.specs.List.{list_all, list_any, flat_map, filter}
 use Rattle.std.proofs.lemmas.Bool.{cases_lt}
 use Rattle.std.proofs.lemmas.Bool.Decides.{nat_tests}
-use Rattle.std.proofs.lemmas.List.{append-nil}
+use Rattle.std.proofs.lemmas.List.{append-nil, map-append}
 use Rattle.std.proofs.lemmas.List.Concat.{flat_map-append, flat_map_single}
 use Rattle.std.proofs.lemmas.List.Folds.{list_all-append, list_any-append}
 use Rattle.dsv_forms.specs.declared.refusal.FormRefusal.{FormRefusal}
@@ -212,6 +212,20 @@ all_each p (suc d) h k q =
 pub any_false : (p : ℕ → Bool) (d : ℕ) → ((k : ℕ) → k < d → p k ≡ false) → list_any p (places d) ≡ false
 any_false p zero h = refl
 any_false p (suc d) h = last_any p d ∙ rw (any_false p d (λ k q. h k (omega arith)), h d (omega arith)) refl
+
+-- ---- the same at each place
+pub map_same : {A : Type 0} (f g : ℕ → A) (d : ℕ) → ((k : ℕ) → k < d → f k ≡ g k) → map f (places d) ≡ map g (places d)
+map_same f g zero h = refl
+map_same f g (suc d) h =
+    map-append f (places d) (d ∷ []) ∙ rw (map_same f g d (λ k q. h k (omega arith)), h d (omega arith)) refl ∙ sym (map-append g (places d) (d ∷ []))
+
+pub all_same : (p q : ℕ → Bool) (d : ℕ) → ((k : ℕ) → k < d → p k ≡ q k) → list_all p (places d) ≡ list_all q (places d)
+all_same p q zero h = refl
+all_same p q (suc d) h = last_all p d ∙ rw (all_same p q d (λ k l. h k (omega arith)), h d (omega arith)) refl ∙ sym (last_all q d)
+
+pub any_same : (p q : ℕ → Bool) (d : ℕ) → ((k : ℕ) → k < d → p k ≡ q k) → list_any p (places d) ≡ list_any q (places d)
+any_same p q zero h = refl
+any_same p q (suc d) h = last_any p d ∙ rw (any_same p q d (λ k l. h k (omega arith)), h d (omega arith)) refl ∙ sym (last_any q d)
 
 pub any_true : (p : ℕ → Bool) (d i : ℕ) → i < d → p i ≡ true → list_any p (places d) ≡ true
 any_true p zero i q e = absurd (omega arith)

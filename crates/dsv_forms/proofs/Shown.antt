@@ -1,5 +1,5 @@
 -- What squares show where none of their tests refuses.
-use Rattle.std.proofs.Common.{◌≡◌, ◌≢◌, ℕ, ◌<◌, ◌≤◌, Bool, true, false, not, ◌==◌, nat_lt, int_lt, List, [], ◌∷◌, ◌++◌, map, Option, None, inl, inr, refl, sym, ap, ◌∙◌, arith}
+use Rattle.std.proofs.Common.{◌≡◌, ◌≢◌, ℕ, ◌<◌, ◌≤◌, Bool, true, false, not, ◌||◌, ◌==◌, nat_lt, int_lt, List, [], ◌∷◌, ◌++◌, map, Option, None, inl, inr, refl, sym, ap, ◌∙◌, arith}
 use Rattle.std.proofs.Math.IntN.{ℤ, pos, ◌+ℤ◌, ◌*ℤ◌}
 use Rattle.std.proofs.lemmas.Int.{ints}
 use Rattle.std.proofs.lemmas.Bool.{cases_lt}
@@ -19,6 +19,7 @@ use Rattle.dsv_forms.specs.declared.refusal.Part.{Part}
 use Rattle.dsv_forms.specs.declared.refusal.FormRefusal.{FormRefusal}
 use Rattle.dsv_forms.specs.declared.refusal.FormRefusal.TheVariants as refusal
 use Rattle.dsv_forms.specs.Refusals.{first_of, places, any_wide, partial_sums, is_symmetric, weights_of, rows_of, rest_of, bad_rest, bad_shape, square_terms, right_side, side_numbers, place_tests, row_tests, side_tests, sizes_beside, not_dominant, dominance_tests, bad_weight, bad_row, positive_weight_tests, triangle_tests, definite_tests, too_many_rows, negative_weight, weak_weight_tests, semidefinite_tests}
+use Rattle.dsv_forms.proofs.SumLemmas.{any_wide-append}
 use Rattle.dsv_forms.proofs.Places.{or_else, neither, first_of-append, first_before, passes, neither_test, not_false, none_each, from_each, tests_each, all_each, any_each}
 
 -- ---- the parts of a check
@@ -71,29 +72,48 @@ semidefinite_after_shape p d s T h =
     (or_else (or_else (first_of (weak_weight_tests p s)) (first_of (side_tests p d s.count s T (λ i j. [])))) (first_of (dominance_tests p d s))) h
 
 -- ---- one place
-pub record Passes (p : Part) (n : ℕ) (s : Squares) (x : ℤ) (i j : ℕ) : Type 0 where
+pub record Passes (n : ℕ) (s : Squares) (x : ℤ) (i j : ℕ) : Type 0 where
   pub narrow : is_narrow (s.m *ℤ x) ≡ true
+  pub rows : (k : ℕ) → k < n → is_narrow (weights_of s k *ℤ rows_of s k i) ≡ true
   pub identity : s.m *ℤ x ≡ right_side n s i j
 
-pub place_passes : (p : Part) (n : ℕ) (s : Squares) (x : ℤ) (i j : ℕ) → first_of (place_tests p n s x [] i j) ≡ None → Passes p n s x i j
-place_passes p n s x i j h =
-    let wide = any_wide (side_numbers n s x i j) in
+-- none of the numbers at the places is wide
+any_wide-map : (f : ℕ → ℤ) (is : List ℕ) → any_wide (map f is) ≡ list_any (λ k. not (is_narrow (f k))) is
+any_wide-map f [] = refl
+any_wide-map f (i ∷ is) = ap (λ w. not (is_narrow (f i)) || w) (any_wide-map f is)
+
+pub each_narrow : (f : ℕ → ℤ) (n : ℕ) → any_wide (map f (places n)) ≡ false → (k : ℕ) → k < n → is_narrow (f k) ≡ true
+each_narrow f n h k p = not_false (is_narrow (f k)) (any_each (λ k. not (is_narrow (f k))) n (sym (any_wide-map f (places n)) ∙ h) k p)
+
+pub neither_wide : (xs ys : List ℤ) → any_wide (xs ++ ys) ≡ false → (any_wide xs ≡ false) × (any_wide ys ≡ false)
+neither_wide xs ys h = neither_test (any_wide xs) (any_wide ys) (sym (any_wide-append xs ys) ∙ h)
+
+pub place_passes : (p : Part) (n : ℕ) (s : Squares) (x : ℤ) (numbers : List ℤ) (i j : ℕ) → first_of (place_tests p n s x numbers i j) ≡ None → Passes n s x i j
+place_passes p n s x numbers i j h =
+    let wide = any_wide (numbers ++ side_numbers n s x i j) in
     let apart = not (int_eq (s.m *ℤ x) (right_side n s i j)) in
     let both = neither (first_of ((wide, refusal.Wide p i j) ∷ [])) (first_of ((apart, refusal.Identity p i j) ∷ []))
     (sym (first_before wide (refusal.Wide p i j) ((apart, refusal.Identity p i j) ∷ [])) ∙ h) in
-    let narrow = passes wide (refusal.Wide p i j) both.0 in
+    let narrow = (neither_wide numbers (side_numbers n s x i j) (passes wide (refusal.Wide p i j) both.0)).1 in
     let same = passes apart (refusal.Identity p i j) both.1 in
-    let others = any_wide (map (λ k. weights_of s k *ℤ rows_of s k i) (places n) ++ square_terms n s i j ++ partial_sums (pos 0) (square_terms n s i j) ++ right_side n s i j ∷ []) in
+    let rows = map (λ k. weights_of s k *ℤ rows_of s k i) (places n) in
+    let terms = square_terms n s i j in
+    let sums = partial_sums (pos 0) terms in
+    let last = right_side n s i j ∷ [] in
+    let parts = neither_test (not (is_narrow (s.m *ℤ x))) (any_wide (rows ++ terms ++ sums ++ last)) narrow in
     record {
-      narrow = not_false (is_narrow (s.m *ℤ x)) (neither_test (not (is_narrow (s.m *ℤ x))) others narrow).0;
+      narrow = not_false (is_narrow (s.m *ℤ x)) parts.0;
+      rows = each_narrow (λ k. weights_of s k *ℤ rows_of s k i) n
+          (neither_wide rows terms (neither_wide (rows ++ terms) sums (neither_wide (rows ++ terms ++ sums) last parts.1).0).0).0;
       identity = (Decides-int_eq (s.m *ℤ x) (right_side n s i j)).0 (not_false (int_eq (s.m *ℤ x) (right_side n s i j)) same);
     }
 
 -- each place from the diagonal on
-pub sides_pass : (p : Part) (d n : ℕ) (s : Squares) (T : Matrix) → first_of (side_tests p d n s T (λ i j. [])) ≡ None → (i j : ℕ) → i ≤ j → j < d → Passes p n s (T i j) i j
-sides_pass p d n s T h i j q b =
-    place_passes p n s (T i j) i j
-    (from_each (λ j. place_tests p n s (T i j) [] i j) i d (none_each (row_tests p d n s T (λ i j. [])) d h i (omega arith)) j q b)
+pub sides_pass : (p : Part) (d n : ℕ) (s : Squares) (T : Matrix) (numbers : ℕ → ℕ → List ℤ) → first_of (side_tests p d n s T numbers) ≡ None
+    → (i j : ℕ) → i ≤ j → j < d → Passes n s (T i j) i j
+sides_pass p d n s T numbers h i j q b =
+    place_passes p n s (T i j) (numbers i j) i j
+    (from_each (λ j. place_tests p n s (T i j) (numbers i j) i j) i d (none_each (row_tests p d n s T numbers) d h i (omega arith)) j q b)
 
 -- ---- symmetry
 pub symmetric_at : (d : ℕ) (R : Matrix) → is_symmetric d R ≡ true → (i j : ℕ) → i < d → j < d → R i j ≡ R j i
@@ -112,9 +132,9 @@ pub identity_at : (p : Part) (d n : ℕ) (s : Squares) (T : Matrix) → is_symme
     → (i j : ℕ) → i < d → j < d → s.m *ℤ T i j ≡ squares n (weights_of s) (rows_of s) i j +ℤ rest_of s i j
 identity_at p d n s T form rest h i j a b = elim (cases_lt j i) [
   | inl below ↦ ap (λ z. s.m *ℤ z) (symmetric_at d T form i j a b)
-      ∙ (sides_pass p d n s T h j i (omega arith) a).identity
+      ∙ (sides_pass p d n s T (λ i j. []) h j i (omega arith) a).identity
       ∙ rw (squares-turned n (weights_of s) (rows_of s) j i, symmetric_at d (rest_of s) rest j i b a) refl
-  | inr from ↦ (sides_pass p d n s T h i j from b).identity
+  | inr from ↦ (sides_pass p d n s T (λ i j. []) h i j from b).identity
 ]
 
 -- ---- the rest
@@ -149,26 +169,32 @@ pub positive_scale : (m : ℤ) → int_lt m (pos 1) ≡ false → pos 0 <ℤ m
 positive_scale m h = more_than_none m (less_not m (pos 1) h)
 
 -- ---- a definite part
-pub record DefinitePasses (p : Part) (d : ℕ) (s : Squares) (T : Matrix) : Type 0 where
+pub record DefinitePasses (p : Part) (d : ℕ) (s : Squares) (T : Matrix) (numbers : ℕ → ℕ → List ℤ) : Type 0 where
   pub rest : IsGoodRest d s
+  pub count : s.count ≡ d
   pub weights : first_of (positive_weight_tests p d s) ≡ None
   pub triangle : first_of (triangle_tests p d s) ≡ None
-  pub sides : first_of (side_tests p d d s T (λ i j. [])) ≡ None
+  pub sides : first_of (side_tests p d d s T numbers) ≡ None
   pub dominance : first_of (dominance_tests p d s) ≡ None
 
-pub definite_passes : (p : Part) (d : ℕ) (s : Squares) (T : Matrix) → first_of (definite_tests p d s T (λ i j. [])) ≡ None → DefinitePasses p d s T
-definite_passes p d s T h =
+pub same_count : (n d : ℕ) → (n == d) ≡ true → n ≡ d
+same_count n d h = grind (arith, nat_tests)
+
+pub definite_passes : (p : Part) (d : ℕ) (s : Squares) (T : Matrix) (numbers : ℕ → ℕ → List ℤ) → first_of (definite_tests p d s T numbers) ≡ None → DefinitePasses p d s T numbers
+definite_passes p d s T numbers h =
     let w = first_of (positive_weight_tests p d s) in
     let t = first_of (triangle_tests p d s) in
-    let i = first_of (side_tests p d d s T (λ i j. [])) in
+    let i = first_of (side_tests p d d s T numbers) in
     let m = first_of (dominance_tests p d s) in
     let shape = first_of ((bad_shape d s, refusal.Shape p) ∷ []) in
-    let a = neither shape (or_else (or_else (or_else w t) i) m) (sym (definite_parts p d s T (λ i j. [])) ∙ h) in
+    let a = neither shape (or_else (or_else (or_else w t) i) m) (sym (definite_parts p d s T numbers) ∙ h) in
     let b = neither (or_else (or_else w t) i) m a.1 in
     let c = neither (or_else w t) i b.0 in
     let e = neither w t c.0 in
+    let shaped = neither_test (bad_rest d s) (not (s.count == d)) (passes (bad_shape d s) (refusal.Shape p) a.0) in
     record {
-      rest = good_rest d s (neither_test (bad_rest d s) (not (s.count == d)) (passes (bad_shape d s) (refusal.Shape p) a.0)).0;
+      rest = good_rest d s shaped.0;
+      count = same_count s.count d (not_false (s.count == d) shaped.1);
       weights = e.0;
       triangle = e.1;
       sides = c.1;
@@ -189,7 +215,7 @@ own_apart s k h e =
 
 pub shows_positive : (p : Part) (d : ℕ) (s : Squares) (T : Matrix) → is_symmetric d T ≡ true → first_of (definite_tests p d s T (λ i j. [])) ≡ None → ShowPositive d T
 shows_positive p d s T form h =
-    let o = definite_passes p d s T h in
+    let o = definite_passes p d s T (λ i j. []) h in
     let row : (k : ℕ) → k < d → bad_row s k ≡ false = tests_each (bad_row s) (refusal.Triangle p) d o.triangle in
     record {
       scale = s.m;

@@ -1,4 +1,5 @@
 pub mod FallForm
+pub mod OfferLaws
 pub mod Padded
 pub mod Poly
 pub mod Refusals

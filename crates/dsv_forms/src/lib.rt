@@ -5,6 +5,7 @@
 mod checking;
 mod fall;
 mod keeping;
+mod law;
 mod matrix;
 mod offers;
 mod poly;
@@ -15,6 +16,7 @@ mod sums;
 pub use checking::check_falls;
 pub use fall::{fall_form, negative_image_entry};
 pub use keeping::check_kept_away;
+pub use law::offers_are_read_in_their_places;
 pub use offers::{Falls, Form, FormOffer, GREATEST_ORDER, KeptAway, Squares};
 pub use poly::{BadPoly, GREATEST_COEFFICIENT, MOST_COEFFICIENTS, Poly};
 pub use refusal::{FormRefusal, Part};

@@ -140,7 +140,7 @@ sides_refused : (d : ℕ) (T : Matrix) (i j : ℕ) → i ≤ j → j < d → sid
     → (p : Part) → first_of (definite_tests p d (squares_of d T) T (λ i j. [])) ≡ None → ⊥
 sides_refused d T i j q b h p k =
     let s = squares_of d T in
-    let o = definite_passes p d s T k in
+    let o = definite_passes p d s T (λ i j. []) k in
     let row : first_of (row_tests p d d s T (λ i j. []) i) ≡ None = none_each (row_tests p d d s T (λ i j. [])) d o.sides i (omega arith) in
     let place : first_of (place_tests p d s (T i j) [] i j) ≡ None = from_each (λ j. place_tests p d s (T i j) [] i j) i d row j q b in
     no_sides p i j (sides_of d s (T i j) i j) h (sym (place_tests-is p d s (T i j) i j) ∙ place)

@@ -1,0 +1,93 @@
+-- The numbers of an accepted offer are small.
+use Rattle.std.proofs.Common.{◌≡◌, ℕ, zero, suc, ◌-◌, ◌*◌, ◌<◌, ◌≤◌, true, not, ◌==◌, int_lt, List, [], ◌++◌, length, map, None, inl, inr, sym, ap, subst, ◌∙◌, arith}
+use Rattle.std.proofs.Math.IntN.{ℤ, pos, ◌*ℤ◌}
+use Rattle.std.specs.Int.RustNames.{unsigned_abs}
+use Rattle.std.proofs.lemmas.Bool.{cases_lt}
+use Rattle.std.proofs.lemmas.Bool.Decides.{nat_tests}
+use Rattle.std.proofs.lemmas.Int.{unsigned_abs-mul, ints}
+use lib.Signed.{◌<ℤ◌}
+use Rattle.dsv_algebra.specs.Narrow.{is_narrow}
+use Rattle.dsv_algebra.specs.Vectors.{Vector, Matrix, vector_of, matrix_of}
+use Rattle.dsv_algebra.specs.Companion.{fall_entry}
+use Rattle.dsv_forms.specs.OfferLaws.{AreNarrow, IsNarrow, AcceptedAreNarrow}
+use Rattle.dsv_forms.specs.Refusals.{first_of, places, any_wide, partial_sums, is_symmetric, weights_of, rows_of, rest_of, sizes_beside, not_dominant, dominance_tests, bad_weight, positive_weight_tests, definite_tests, bad_form, form_tests, fall_numbers, falls_tests}
+use Rattle.dsv_forms.specs.declared.offers.Squares.{Squares}
+use Rattle.dsv_forms.specs.declared.offers.Falls.{Falls}
+use Rattle.dsv_forms.specs.declared.refusal.Part.{Part}
+use Rattle.dsv_forms.specs.declared.refusal.Part.TheVariants as part
+use Rattle.dsv_forms.specs.declared.refusal.FormRefusal.TheVariants as refusal
+use Rattle.dsv_forms.proofs.OfferLemmas.{falls_parts}
+use Rattle.dsv_forms.proofs.Places.{or_else, neither, neither_test, not_false, passes, tests_each}
+use Rattle.dsv_forms.proofs.Shown.{definite_passes, sides_pass, each_narrow, neither_wide, same_count, positive_scale, symmetric_at, less}
+
+-- a factor of a narrow product beside a positive one is narrow
+more : (m n : ℕ) → 0 < m → n ≤ m * n
+more zero n h = absurd (omega arith)
+more (suc m) n h = omega arith
+
+some_size : (m : ℤ) → pos 0 <ℤ m → 0 < unsigned_abs m
+some_size m h = omega (arith, ints)
+
+narrow_factor : (m x : ℤ) → pos 0 <ℤ m → is_narrow (m *ℤ x) ≡ true → is_narrow x ≡ true
+narrow_factor m x h n =
+    let size = unsigned_abs-mul m x in
+    let least = more (unsigned_abs m) (unsigned_abs x) (some_size m h) in
+    grind (arith, nat_tests)
+
+-- ---- squares
+weight_positive : (p : Part) (d : ℕ) (s : Squares) → first_of (positive_weight_tests p d s) ≡ None → (k : ℕ) → k < d → pos 0 <ℤ weights_of s k
+weight_positive p d s h k q = less (pos 0) (weights_of s k) (not_false (int_lt (pos 0) (weights_of s k)) (tests_each (bad_weight s) (refusal.Weight p) d h k q))
+
+rest_narrow : (p : Part) (d : ℕ) (s : Squares) → first_of (dominance_tests p d s) ≡ None → (i j : ℕ) → i < d → j < d → is_narrow (rest_of s i j) ≡ true
+rest_narrow p d s h i j a b =
+    let row = map (λ j. rest_of s i j) (places d) in
+    let sums = partial_sums (pos 0) (sizes_beside d s i) in
+    let test = tests_each (not_dominant d s) (refusal.Dominance p) d h i a in
+    each_narrow (λ j. rest_of s i j) d (neither_wide row sums (neither_test (any_wide (row ++ sums)) _ test).0).0 j b
+
+squares_narrow : (p : Part) (d : ℕ) (s : Squares) (T : Matrix) (numbers : ℕ → ℕ → List ℤ) → first_of (definite_tests p d s T numbers) ≡ None → AreNarrow d s
+squares_narrow p d s T numbers h =
+    let o = definite_passes p d s T numbers h in
+    let weight = weight_positive p d s o.weights in
+    record {
+      factor = positive_scale s.m o.rest.multiple;
+      count = o.count;
+      weights = weight;
+      rows = λ k j a b. narrow_factor (weights_of s k) (rows_of s k j) (weight k a) ((sides_pass p d d s T numbers o.sides j j (omega arith) b).rows k a);
+      rest = rest_narrow p d s o.dominance;
+    }
+
+-- ---- the form
+upper_narrow : (p : Part) (d : ℕ) (s : Squares) (T : Matrix) → first_of (definite_tests p d s T (λ i j. [])) ≡ None → (i j : ℕ) → i ≤ j → j < d → is_narrow (T i j) ≡ true
+upper_narrow p d s T h i j q b =
+    let o = definite_passes p d s T (λ i j. []) h in
+    narrow_factor s.m (T i j) (positive_scale s.m o.rest.multiple) (sides_pass p d d s T (λ i j. []) o.sides i j q b).narrow
+
+form_narrow : (p : Part) (d : ℕ) (s : Squares) (T : Matrix) → is_symmetric d T ≡ true → first_of (definite_tests p d s T (λ i j. [])) ≡ None
+    → (i j : ℕ) → i < d → j < d → is_narrow (T i j) ≡ true
+form_narrow p d s T form h i j a b = elim (cases_lt j i) [
+  | inl below ↦ ap is_narrow (symmetric_at d T form i j a b) ∙ upper_narrow p d s T h j i (omega arith) a
+  | inr from ↦ upper_narrow p d s T h i j from b
+]
+
+-- ---- offers
+squares_at : (d e : ℕ) (s : Squares) → e ≡ d → AreNarrow d s → AreNarrow e s
+squares_at d e s same a = subst (λ n. AreNarrow n s) (sym same) a
+
+narrow_at : (d : ℕ) (c : Vector) (offer : Falls) → first_of (falls_tests d c offer) ≡ None → IsNarrow offer
+narrow_at d c offer h =
+    let P = matrix_of offer.form.rows in
+    let positive = first_of (definite_tests part.Positive d offer.positive P (λ i j. [])) in
+    let fall = first_of (definite_tests part.Fall d offer.fall (fall_entry d c P) (fall_numbers d c P)) in
+    let a = neither (first_of (form_tests d offer.form)) (or_else positive fall) (sym (falls_parts d c offer) ∙ h) in
+    let b = neither positive fall a.1 in
+    let shape = neither_test (not (offer.form.d == d)) (not (is_symmetric d P)) (passes (bad_form d offer.form) (refusal.Shape part.Form) a.0) in
+    let e = same_count offer.form.d d (not_false (offer.form.d == d) shape.0) in
+    record {
+      form = λ i j k l. form_narrow part.Positive d offer.positive P (not_false (is_symmetric d P) shape.1) b.0 i j (omega (arith, e, k)) (omega (arith, e, l));
+      positive = squares_at d offer.form.d offer.positive e (squares_narrow part.Positive d offer.positive P (λ i j. []) b.0);
+      fall = squares_at d offer.form.d offer.fall e (squares_narrow part.Fall d offer.fall (fall_entry d c P) (fall_numbers d c P) b.1);
+    }
+
+pub accepted_are_narrow : AcceptedAreNarrow
+accepted_are_narrow c offer h = narrow_at (length c - 1) (vector_of c) offer h
