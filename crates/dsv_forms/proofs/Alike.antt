@@ -217,7 +217,7 @@ falls_alike d c f g e a =
     ∙ sym (falls_parts d c g)
 
 -- ---- the offer with its places alone
-corner_row : (n d i : ℕ) (rows : List (List ℤ)) → get_or (corner n d rows) i [] ≡ take d (get_or (take n rows) i [])
+pub corner_row : (n d i : ℕ) (rows : List (List ℤ)) → get_or (corner n d rows) i [] ≡ take d (get_or (take n rows) i [])
 corner_row n d i rows = ap (get_or (corner n d rows) i) (sym (take-nil d)) ∙ get_or-map (take d) (take n rows) i []
 
 corner_short : (n d : ℕ) (rows : List (List ℤ)) (k : ℕ) → d ≤ greatest_order → length (get_or (corner n d rows) k []) ≤ greatest_order

@@ -157,7 +157,7 @@ not_negative_same d T U e o = record {
   dominant = o.dominant;
 }
 
-positive_apart : (z : ℤ) → pos 0 <ℤ z → z ≢ pos 0
+pub positive_apart : (z : ℤ) → pos 0 <ℤ z → z ≢ pos 0
 positive_apart z h e = omega (arith, ints, h, e)
 
 pub kept_away_along : (d : ℕ) (c : Vector) (P F : Form) (s : Squares) (start : Vector) → pos 0 <ℤ c 0 → is_symmetric d (matrix_of F.rows) ≡ true → IsFallForm d c P F

@@ -209,7 +209,7 @@ before_own s k j h b =
 apart : {b : Bool} → b ≡ false → b ≡ true → ⊥
 apart h k = cc
 
-own_apart : (s : Squares) (k : ℕ) → bad_row s k ≡ false → rows_of s k k ≢ pos 0
+pub own_apart : (s : Squares) (k : ℕ) → bad_row s k ≡ false → rows_of s k k ≢ pos 0
 own_apart s k h e =
     apart ((neither_test (list_any (λ j. not (int_eq (rows_of s k j) (pos 0))) (places k)) (int_eq (rows_of s k k) (pos 0)) h).1) ((Decides-int_eq (rows_of s k k) (pos 0)).1 e)
 

@@ -1,6 +1,6 @@
 -- The numbers of an accepted offer are small.
-use Rattle.std.proofs.Common.{◌≡◌, ℕ, zero, suc, ◌-◌, ◌*◌, ◌<◌, ◌≤◌, true, not, ◌==◌, int_lt, List, [], ◌++◌, length, map, None, inl, inr, sym, ap, subst, ◌∙◌, arith}
-use Rattle.std.proofs.Math.IntN.{ℤ, pos, ◌*ℤ◌}
+use Rattle.std.proofs.Common.{◌≡◌, ◌≢◌, ℕ, zero, suc, ◌-◌, ◌*◌, ◌<◌, ◌≤◌, true, not, ◌==◌, int_lt, List, [], ◌++◌, length, map, None, inl, inr, sym, ap, subst, ◌∙◌, arith}
+use Rattle.std.proofs.Math.IntN.{ℤ, pos, *ℤ_comm, ◌*ℤ◌}
 use Rattle.std.specs.Int.RustNames.{unsigned_abs}
 use Rattle.std.proofs.lemmas.Bool.{cases_lt}
 use Rattle.std.proofs.lemmas.Bool.Decides.{nat_tests}
@@ -10,28 +10,26 @@ use Rattle.dsv_algebra.specs.Narrow.{is_narrow}
 use Rattle.dsv_algebra.specs.Vectors.{Vector, Matrix, vector_of, matrix_of}
 use Rattle.dsv_algebra.specs.Companion.{fall_entry}
 use Rattle.dsv_forms.specs.OfferLaws.{AreNarrow, IsNarrow, AcceptedAreNarrow}
-use Rattle.dsv_forms.specs.Refusals.{first_of, places, any_wide, partial_sums, is_symmetric, weights_of, rows_of, rest_of, sizes_beside, not_dominant, dominance_tests, bad_weight, positive_weight_tests, definite_tests, bad_form, form_tests, fall_numbers, falls_tests}
+use Rattle.dsv_forms.specs.Refusals.{first_of, places, any_wide, partial_sums, is_symmetric, weights_of, rows_of, rest_of, sizes_beside, not_dominant, dominance_tests, bad_weight, bad_row, positive_weight_tests, definite_tests, bad_form, form_tests, fall_numbers, falls_tests}
 use Rattle.dsv_forms.specs.declared.offers.Squares.{Squares}
 use Rattle.dsv_forms.specs.declared.offers.Falls.{Falls}
 use Rattle.dsv_forms.specs.declared.refusal.Part.{Part}
 use Rattle.dsv_forms.specs.declared.refusal.Part.TheVariants as part
 use Rattle.dsv_forms.specs.declared.refusal.FormRefusal.TheVariants as refusal
-use Rattle.dsv_forms.proofs.OfferLemmas.{falls_parts}
+use Rattle.dsv_forms.proofs.OfferLemmas.{positive_apart, falls_parts}
 use Rattle.dsv_forms.proofs.Places.{or_else, neither, neither_test, not_false, passes, tests_each}
-use Rattle.dsv_forms.proofs.Shown.{definite_passes, sides_pass, each_narrow, neither_wide, same_count, positive_scale, symmetric_at, less}
+use Rattle.dsv_forms.proofs.Shown.{definite_passes, sides_pass, each_narrow, neither_wide, same_count, positive_scale, symmetric_at, less, own_apart}
 
 -- a factor of a narrow product beside a positive one is narrow
 more : (m n : ℕ) → 0 < m → n ≤ m * n
 more zero n h = absurd (omega arith)
 more (suc m) n h = omega arith
 
-some_size : (m : ℤ) → pos 0 <ℤ m → 0 < unsigned_abs m
-some_size m h = omega (arith, ints)
-
-narrow_factor : (m x : ℤ) → pos 0 <ℤ m → is_narrow (m *ℤ x) ≡ true → is_narrow x ≡ true
+narrow_factor : (m x : ℤ) → m ≢ pos 0 → is_narrow (m *ℤ x) ≡ true → is_narrow x ≡ true
 narrow_factor m x h n =
     let size = unsigned_abs-mul m x in
-    let least = more (unsigned_abs m) (unsigned_abs x) (some_size m h) in
+    let some : 0 < unsigned_abs m = omega (arith, ints, h) in
+    let least = more (unsigned_abs m) (unsigned_abs x) some in
     grind (arith, nat_tests)
 
 -- ---- squares
@@ -48,12 +46,14 @@ rest_narrow p d s h i j a b =
 squares_narrow : (p : Part) (d : ℕ) (s : Squares) (T : Matrix) (numbers : ℕ → ℕ → List ℤ) → first_of (definite_tests p d s T numbers) ≡ None → AreNarrow d s
 squares_narrow p d s T numbers h =
     let o = definite_passes p d s T numbers h in
-    let weight = weight_positive p d s o.weights in
+    let row : (k j : ℕ) → k < d → j < d → is_narrow (weights_of s k *ℤ rows_of s k j) ≡ true =
+    λ k j a b. (sides_pass p d d s T numbers o.sides j j (omega arith) b).rows k a in
     record {
       factor = positive_scale s.m o.rest.multiple;
       count = o.count;
-      weights = weight;
-      rows = λ k j a b. narrow_factor (weights_of s k) (rows_of s k j) (weight k a) ((sides_pass p d d s T numbers o.sides j j (omega arith) b).rows k a);
+      weights = λ k a. narrow_factor (rows_of s k k) (weights_of s k) (own_apart s k (tests_each (bad_row s) (refusal.Triangle p) d o.triangle k a))
+          (ap is_narrow (*ℤ_comm (rows_of s k k) (weights_of s k)) ∙ row k k a a);
+      rows = λ k j a b. narrow_factor (weights_of s k) (rows_of s k j) (positive_apart (weights_of s k) (weight_positive p d s o.weights k a)) (row k j a b);
       rest = rest_narrow p d s o.dominance;
     }
 
@@ -61,7 +61,7 @@ squares_narrow p d s T numbers h =
 upper_narrow : (p : Part) (d : ℕ) (s : Squares) (T : Matrix) → first_of (definite_tests p d s T (λ i j. [])) ≡ None → (i j : ℕ) → i ≤ j → j < d → is_narrow (T i j) ≡ true
 upper_narrow p d s T h i j q b =
     let o = definite_passes p d s T (λ i j. []) h in
-    narrow_factor s.m (T i j) (positive_scale s.m o.rest.multiple) (sides_pass p d d s T (λ i j. []) o.sides i j q b).narrow
+    narrow_factor s.m (T i j) (positive_apart s.m (positive_scale s.m o.rest.multiple)) (sides_pass p d d s T (λ i j. []) o.sides i j q b).narrow
 
 form_narrow : (p : Part) (d : ℕ) (s : Squares) (T : Matrix) → is_symmetric d T ≡ true → first_of (definite_tests p d s T (λ i j. [])) ≡ None
     → (i j : ℕ) → i < d → j < d → is_narrow (T i j) ≡ true

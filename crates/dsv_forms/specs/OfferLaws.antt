@@ -13,16 +13,16 @@ abbrev pub AreReadInPlaces : Type 0
 AreReadInPlaces = (c : List ℤ) (offer : Falls) → length c ≤ most_coefficients
     → falls_refusal c (offer_alone offer) ≡ falls_refusal c offer
 
--- The d squares of a form of d places have a positive factor and positive weights; the entries of
--- their rows and of the rest are less than 2^126 in size.
+-- The d squares of a form of d places have a positive factor; their weights, the entries of their
+-- rows and those of the rest are less than 2^126 in size.
 pub record AreNarrow (d : ℕ) (s : Squares) : Type 0 where
   pub factor : pos 0 <ℤ s.m
   pub count : s.count ≡ d
-  pub weights : (k : ℕ) → k < d → pos 0 <ℤ weights_of s k
+  pub weights : (k : ℕ) → k < d → is_narrow (weights_of s k) ≡ true
   pub rows : (k j : ℕ) → k < d → j < d → is_narrow (rows_of s k j) ≡ true
   pub rest : (i j : ℕ) → i < d → j < d → is_narrow (rest_of s i j) ≡ true
 
--- The numbers in an offer's places are less than 2^126 in size, or positive.
+-- The numbers in an offer's places are less than 2^126 in size, but for the factors.
 pub record IsNarrow (offer : Falls) : Type 0 where
   pub form : (i j : ℕ) → i < offer.form.d → j < offer.form.d
       → is_narrow (matrix_of offer.form.rows i j) ≡ true
