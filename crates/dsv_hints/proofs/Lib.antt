@@ -1,3 +1,4 @@
+pub mod AcceptedIds
 pub mod LessonLemmas
 pub mod MoveLemmas
 pub mod Moves

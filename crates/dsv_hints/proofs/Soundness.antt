@@ -90,7 +90,7 @@ true_or false h = absurd (h refl)
 
 -- ---- steps
 
-passed : (b : Bool) (why : StepRefusal) (rest : Result (Unit {0}) StepRefusal) → refused_if b why rest ≡ Ok tt → (b ≡ false) × (rest ≡ Ok tt)
+pub passed : (b : Bool) (why : StepRefusal) (rest : Result (Unit {0}) StepRefusal) → refused_if b why rest ≡ Ok tt → (b ≡ false) × (rest ≡ Ok tt)
 passed true why rest q = cc
 passed false why rest q = (refl, q)
 
