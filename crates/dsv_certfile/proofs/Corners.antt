@@ -4,8 +4,7 @@ use Rattle.std.specs.List.{All}
 use Rattle.std.proofs.lemmas.List.{length-map, length-take, take-take, take_at}
 use Rattle.std.proofs.lemmas.List.Elements.{All-head, All-tail, All-append, All-map, All-weaker, All-take, All-replicate}
 use Rattle.dsv_forms.specs.Poly.{greatest_order}
-use Rattle.dsv_forms.specs.Padded.{row_of, matrix_with}
-use Rattle.dsv_certfile.specs.Lawful.{corner}
+use Rattle.dsv_forms.specs.Padded.{row_of, matrix_with, corner}
 use Rattle.dsv_certfile.proofs.Filling.{length-filled}
 
 length-matrix_with : (rows : List (List ℤ)) → length (matrix_with rows) ≡ greatest_order
@@ -27,15 +26,20 @@ matrix_rows rows =
 abbrev pub HasPlaces : ℕ → List ℤ → Type 0
 HasPlaces d r = length r ≡ d
 
-pub corner_length : (n d : ℕ) (matrix rows : List (List ℤ)) → matrix ≡ matrix_with rows → n ≤ greatest_order → length (corner n d matrix) ≡ n
-corner_length n d matrix rows e h =
-    length-map (take n matrix) (take d) ∙ omega (arith, length-take n matrix, ap length e, length-matrix_with rows, h)
+pub corner_length : (n d : ℕ) (matrix : List (List ℤ)) → length matrix ≡ greatest_order → n ≤ greatest_order → length (corner n d matrix) ≡ n
+corner_length n d matrix e h = length-map (take n matrix) (take d) ∙ omega (arith, length-take n matrix, e, h)
 
-pub corner_rows : (n d : ℕ) (matrix rows : List (List ℤ)) → matrix ≡ matrix_with rows → d ≤ greatest_order → All (HasPlaces d) (corner n d matrix)
-corner_rows n d matrix rows e h =
+pub corner_rows : (n d : ℕ) (matrix : List (List ℤ)) → All IsRow (take n matrix) → d ≤ greatest_order → All (HasPlaces d) (corner n d matrix)
+corner_rows n d matrix long h =
     All-map (HasPlaces d) (take d) (take n matrix)
-    (All-weaker IsRow (λ r. HasPlaces d (take d r)) (λ r l. omega (arith, length-take d r, l, h)) (take n matrix)
-    (All-take IsRow n matrix (rw e (matrix_rows rows))))
+    (All-weaker IsRow (λ r. HasPlaces d (take d r)) (λ r l. omega (arith, length-take d r, l, h)) (take n matrix) long)
+
+-- of a matrix that was filled up
+pub filled_length : (n d : ℕ) (matrix rows : List (List ℤ)) → matrix ≡ matrix_with rows → n ≤ greatest_order → length (corner n d matrix) ≡ n
+filled_length n d matrix rows e h = corner_length n d matrix (ap length e ∙ length-matrix_with rows) h
+
+pub filled_rows : (n d : ℕ) (matrix rows : List (List ℤ)) → matrix ≡ matrix_with rows → d ≤ greatest_order → All (HasPlaces d) (corner n d matrix)
+filled_rows n d matrix rows e h = corner_rows n d matrix (All-take IsRow n matrix (rw e (matrix_rows rows))) h
 
 -- ---- what was filled up is the corner
 filled_front : {A : Type 0} (n m : ℕ) (xs : List A) (z : A) → length xs ≡ n → n ≤ m → take n (take m (xs ++ replicate m z)) ≡ xs

@@ -4,10 +4,10 @@ use Rattle.std.specs.List.{All}
 use Rattle.std.proofs.lemmas.List.{length-map, length-drop}
 use Rattle.std.proofs.lemmas.List.Elements.{All-nil, All-map, All-same, All-weaker, All-drop, All-get_or}
 use Rattle.std.proofs.lemmas.Result.{IfOk-weaker}
-use Rattle.dsv_forms.specs.Padded.{row_of, matrix_with, form_with, squares_with}
+use Rattle.dsv_forms.specs.Padded.{row_of, corner, matrix_with, form_with, squares_with}
 use Rattle.dsv_certfile.specs.Bodies.{numbers_of, numbers_in, rows_in, word_in, squares_in, falls_in}
 use Rattle.dsv_certfile.specs.Headings.{count_at}
-use Rattle.dsv_certfile.specs.Lawful.{IsWhole, AreWhole, corner, IsForm, AreSquares, IsOffer}
+use Rattle.dsv_certfile.specs.Lawful.{IsWhole, AreWhole, IsForm, AreSquares, IsOffer}
 use Rattle.dsv_certfile.specs.Limits.{most_places, most_squares}
 use Rattle.dsv_certfile.specs.Pieces.{pieces_of}
 use Rattle.dsv_certfile.specs.Places.{row_places, squares_places}
@@ -71,7 +71,7 @@ head_has : (w : Keyword) (bytes : List ℕ) → IfOk (numbers_of (squares_places
 head_has w bytes =
     IfOk-weaker (numbers_of (squares_places w) bytes) (AreOf (squares_places w)) IsHead (λ zs h. head_by w zs h) (line_numbers_have (squares_places w) (pieces_of bytes))
 
-same_squares : (m : ℤ) (a b : List ℤ) (p q r s : List (List ℤ)) → a ≡ b → p ≡ q → r ≡ s → squares_with m b q s ≡ squares_with m a p r
+pub same_squares : (m : ℤ) (a b : List ℤ) (p q r s : List (List ℤ)) → a ≡ b → p ≡ q → r ≡ s → squares_with m b q s ≡ squares_with m a p r
 same_squares m a b p q r s e f g = rw (e, f, g) refl
 
 squares_have : (d count : ℕ) (head : List ℤ) (squares rest : List (List ℤ)) → d ≤ most_places → count ≤ most_squares → IsWhole (get_or head 0 (pos 0))

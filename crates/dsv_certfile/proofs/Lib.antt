@@ -1,3 +1,4 @@
+pub mod AloneOffers
 pub mod BodyLemmas
 pub mod Corners
 pub mod Cuts

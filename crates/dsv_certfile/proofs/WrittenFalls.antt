@@ -5,7 +5,7 @@ use Rattle.std.specs.Fmt.{signed_decimal}
 use Rattle.std.proofs.lemmas.List.Elements.{All-head, All-tail, All-cons, All-nil, All-append, All-map, All-same, All-weaker}
 use Rattle.dsv_text.specs.Stages.{◌>>=◌}
 use Rattle.dsv_forms.specs.Poly.{greatest_order}
-use Rattle.dsv_forms.specs.Padded.{matrix_with, form_with, squares_with}
+use Rattle.dsv_forms.specs.Padded.{corner, matrix_with, form_with, squares_with}
 use Rattle.dsv_forms.specs.declared.offers.Form.{Form}
 use Rattle.dsv_forms.specs.declared.offers.Squares.{Squares}
 use Rattle.dsv_forms.specs.declared.offers.Falls.{Falls}
@@ -13,7 +13,7 @@ use Rattle.dsv_certfile.specs.Answers.{reading_of}
 use Rattle.dsv_certfile.specs.Bodies.{numbers_of, numbers_in, rows_in, word_in, squares_in, falls_in}
 use Rattle.dsv_certfile.specs.Headings.{count_at}
 use Rattle.dsv_certfile.specs.Keywords.{keyword_text}
-use Rattle.dsv_certfile.specs.Lawful.{IsWhole, AreWhole, corner, AreSquares, IsOffer}
+use Rattle.dsv_certfile.specs.Lawful.{IsWhole, AreWhole, AreSquares, IsOffer}
 use Rattle.dsv_certfile.specs.Limits.{most_squares}
 use Rattle.dsv_certfile.specs.Numerals.{number_in}
 use Rattle.dsv_certfile.specs.Places.{row_places, squares_places}
@@ -22,7 +22,7 @@ use Rattle.dsv_certfile.specs.declared.keyword.Keyword.{Keyword}
 use Rattle.dsv_certfile.specs.declared.keyword.Keyword.TheVariants as keyword
 use Rattle.dsv_certfile.specs.declared.numbers.Range.TheVariants as range
 use Rattle.dsv_certfile.specs.declared.places.Place.TheVariants as place
-use Rattle.dsv_certfile.proofs.Corners.{HasPlaces, corner_length, corner_rows}
+use Rattle.dsv_certfile.proofs.Corners.{HasPlaces, filled_length, filled_rows}
 use Rattle.dsv_certfile.proofs.WrittenBodies.{takes_word}
 use Rattle.dsv_certfile.proofs.WrittenLines.{IsPlain, IsLine, line_bytes}
 use Rattle.dsv_certfile.proofs.WrittenNumbers.{whole_read, whole_plain, count_read, decimal_plain}
@@ -51,17 +51,17 @@ map-take : (w : Keyword) (d : ℕ) (rows : List (List ℤ)) → map (λ row. num
 map-take w d [] = refl
 map-take w d (r ∷ rows) = ap (λ ls. numbers_line w (take d r) ∷ ls) (map-take w d rows)
 
-rows_as : (w : Keyword) (d : ℕ) (rows : List (List ℤ)) → rows_lines w d rows ≡ map (numbers_line w) (corner d d rows)
+pub rows_as : (w : Keyword) (d : ℕ) (rows : List (List ℤ)) → rows_lines w d rows ≡ map (numbers_line w) (corner d d rows)
 rows_as w d rows = map-take w d (take d rows)
 
 -- ---- squares
 -- a weight in front of each row
-abbrev weighted_rows : List ℤ → List (List ℤ) → List (List ℤ)
+abbrev pub weighted_rows : List ℤ → List (List ℤ) → List (List ℤ)
 weighted_rows [] rows = []
 weighted_rows (w ∷ ws) [] = []
 weighted_rows (w ∷ ws) (r ∷ rs) = (w ∷ r) ∷ weighted_rows ws rs
 
-squares_as : (n d : ℕ) (ws : List ℤ) (rows : List (List ℤ))
+pub squares_as : (n d : ℕ) (ws : List ℤ) (rows : List (List ℤ))
     → square_lines d (take n ws) rows ≡ map (numbers_line keyword.Square) (weighted_rows (take n ws) (corner n d rows))
 squares_as zero d ws rows = refl
 squares_as (suc n) d [] rows = refl
@@ -129,7 +129,7 @@ takes_squares w d s h a =
     let rows_filled : s.rows ≡ matrix_with rows = ap (λ (q : Squares). q.rows) a.filled in
     let rest_filled : s.rest ≡ matrix_with rest = ap (λ (q : Squares). q.rest) a.filled in
     let count : s.count ≡ length ws = ap (λ (q : Squares). q.count) a.filled in
-    let long : length rows ≡ s.count = corner_length s.count d s.rows rows rows_filled a.few in
+    let long : length rows ≡ s.count = filled_length s.count d s.rows rows rows_filled a.few in
     let same : length ws ≡ length rows = sym count ∙ sym long in
     let made : made_of head squares rest ≡ s = rw (firsts-weighted_rows ws rows same, others-weighted_rows ws rows same) (sym a.filled) in
     let square_lines_as = squares_as s.count d s.weights s.rows in
@@ -143,10 +143,10 @@ takes_squares w d s h a =
     (takes_both (rows_in (row_places keyword.Square (d + 1)) s.count) (rest_after d head) squares s
     (map (numbers_line keyword.Square) squares) (map (numbers_line keyword.Rest) rest)
     (takes_rows keyword.Square s.count (d + 1) squares (length-weighted_rows ws rows same ∙ sym count)
-    (places-weighted_rows d ws rows (corner_rows s.count d s.rows rows rows_filled h)) (whole-weighted_rows ws rows a.weights a.rows))
+    (places-weighted_rows d ws rows (filled_rows s.count d s.rows rows rows_filled h)) (whole-weighted_rows ws rows a.weights a.rows))
     (takes_value (rest_after d head squares) (made_of head squares rest) s (map (numbers_line keyword.Rest) rest) made
     (takes_made (rows_in (row_places keyword.Rest d) d) (made_of head squares) rest (map (numbers_line keyword.Rest) rest)
-    (takes_rows keyword.Rest d d rest (corner_length d d s.rest rest rest_filled h) (corner_rows d d s.rest rest rest_filled h) a.rest)))))
+    (takes_rows keyword.Rest d d rest (filled_length d d s.rest rest rest_filled h) (filled_rows d d s.rest rest rest_filled h) a.rest)))))
 
 squares_plain : (w : Keyword) (d : ℕ) (s : Squares) → AreSquares d s → All IsLine (squares_lines w d s)
 squares_plain w d s a =
@@ -187,7 +187,7 @@ takes_falls offer h =
     four_parts form_lines positive_lines fall_lines end ∙ ap (λ ls. ((ls ++ positive_lines) ++ fall_lines) ++ end) (sym (rows_as keyword.Form d offer.form.rows)) in
     takes_as (falls_in d) offer (form_lines ++ (positive_lines ++ (fall_lines ++ end))) (falls_lines offer ++ end) all
     (takes_both (rows_in (row_places keyword.Form d) d) (form_after d) rows offer form_lines (positive_lines ++ (fall_lines ++ end))
-    (takes_rows keyword.Form d d rows (corner_length d d offer.form.rows rows filled h.form.few) (corner_rows d d offer.form.rows rows filled h.form.few) h.form.rows)
+    (takes_rows keyword.Form d d rows (filled_length d d offer.form.rows rows filled h.form.few) (filled_rows d d offer.form.rows rows filled h.form.few) h.form.rows)
     (takes_both (squares_in keyword.Positive d) (positive_after d rows) offer.positive offer positive_lines (fall_lines ++ end)
     (takes_squares keyword.Positive d offer.positive h.form.few h.positive)
     (takes_both (squares_in keyword.Fall d) (fall_after rows offer.positive) offer.fall offer fall_lines end

@@ -1,12 +1,12 @@
 -- The certificates that texts spell: all numbers are in the ranges of the text, job and kind belong
 -- together, and the places that the text doesn't write hold 0.
-use Rattle.std.specs.Prelude.{◌≡◌, ℕ, ◌+◌, ◌≤◌, true, List, length, map, take, ℤ}
+use Rattle.std.specs.Prelude.{◌≡◌, ℕ, ◌+◌, ◌≤◌, true, List, length, take, ℤ}
 use Rattle.std.specs.Int.RustNames.{unsigned_abs}
 use Rattle.std.specs.List.{All}
 use Rattle.dsv_cnf.specs.Literal.{Literal}
 use Rattle.dsv_hints.specs.declared.step.Step.{Step}
 use Rattle.dsv_hints.specs.declared.step.Step.TheVariants.{Add, Delete}
-use Rattle.dsv_forms.specs.Padded.{form_with, squares_with}
+use Rattle.dsv_forms.specs.Padded.{corner, form_with, squares_with, offer_alone}
 use Rattle.dsv_forms.specs.declared.offers.Form.{Form}
 use Rattle.dsv_forms.specs.declared.offers.Squares.{Squares}
 use Rattle.dsv_forms.specs.declared.offers.Falls.{Falls}
@@ -76,10 +76,6 @@ IsWhole z = unsigned_abs z ≤ greatest_whole
 abbrev pub AreWhole : List (List ℤ) → Type 0
 AreWhole = All (All IsWhole)
 
--- the first d places of the first n rows
-abbrev pub corner : ℕ → ℕ → List (List ℤ) → List (List ℤ)
-corner n d rows = map (take d) (take n rows)
-
 pub record IsForm (f : Form) : Type 0 where
   pub few : f.d ≤ most_places
   pub filled : f ≡ form_with (corner f.d f.d f.rows)
@@ -106,3 +102,10 @@ IsLawful (certificate.Hints job log) = IsJobOf kind.Hints job × IsLog log
 IsLawful (certificate.Invariant job candidate logs) =
     IsJobOf kind.Invariant job × IsSet candidate × AreLogs logs
 IsLawful (certificate.Falls job offer) = IsJobOf kind.Falls job × IsOffer offer
+
+-- the certificate with the numbers of its form's places alone, as its text has it
+abbrev pub certificate_alone : Certificate → Certificate
+certificate_alone (certificate.Hints job log) = certificate.Hints job log
+certificate_alone (certificate.Invariant job candidate logs) =
+    certificate.Invariant job candidate logs
+certificate_alone (certificate.Falls job offer) = certificate.Falls job (offer_alone offer)

@@ -20,3 +20,4 @@ pub mod Reading
 pub mod Steps
 pub mod TextCode
 pub mod Texts
+pub mod Typed

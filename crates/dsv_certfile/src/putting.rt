@@ -1,11 +1,14 @@
 // Lines and their pieces, written to a sink with no memory.
-ghost use Rattle.std.specs.Prelude.{decimal, take};
+ghost use Rattle.std.specs.Prelude.{decimal, take, All, OnOk};
 ghost use Rattle.std.specs.List.{flat_map};
 ghost use Rattle.dsv_base.specs.Taking.{Writes};
 ghost use Rattle.dsv_base.specs.Text.{spaced_text};
 ghost use Rattle.dsv_certfile.specs.Texts.{line_text, piece_text, literal_piece, list_pieces};
 ghost use Rattle.dsv_certfile.specs.Texts.{numbers_line, word_line, step_line, log_lines};
 ghost use Rattle.dsv_certfile.specs.Texts.{rows_lines};
+ghost use Rattle.dsv_certfile.specs.Lawful.{IsLiteral};
+ghost use Rattle.dsv_certfile.specs.Typed.{IsShortId, IsTypedStep, IsTypedLog};
+ghost use Rattle.dsv_certfile.specs.Typed.{IsTypedRow, IsTypedMatrix};
 ghost use Rattle.dsv_cnf.specs.Dimacs.{sign_text};
 ghost use Rattle.dsv_hints.specs.declared.step.Step.TheVariants.{Add, Delete};
 
@@ -80,16 +83,18 @@ pub(crate) fn put_numbers<K: Sink>(
 
 /// Writes a line of the first d places of the row.
 fn put_row<K: Sink>(sink: &mut K, word: Keyword, d: u32, row: &Row) -> Result<(), Failed>
-    ensures { Writes (K.seen sink.old) (K.seen sink.new) result
+    ensures text { Writes (K.seen sink.old) (K.seen sink.new) result
         (line_text (numbers_line word (take d row.now))) }
+    ensures typed { IsTypedRow row.now }
 {
     put_numbers(sink, word, &row[..GREATEST_ORDER.min(d as usize)])
 }
 
 /// Writes a line for each row, of its first d places.
 fn put_each_row<K: Sink>(sink: &mut K, word: Keyword, d: u32, rows: &[Row]) -> Result<(), Failed>
-    ensures { Writes (K.seen sink.old) (K.seen sink.new) result
+    ensures text { Writes (K.seen sink.old) (K.seen sink.new) result
         (flat_map (λ row. line_text (numbers_line word (take d row))) rows.now) }
+    ensures typed { OnOk result (All IsTypedRow rows.now) }
 {
     for row in rows {
         put_row(sink, word, d, row)?;
@@ -104,8 +109,9 @@ pub(crate) fn put_rows<K: Sink>(
     d: u32,
     rows: &Matrix,
 ) -> Result<(), Failed>
-    ensures { Writes (K.seen sink.old) (K.seen sink.new) result
+    ensures text { Writes (K.seen sink.old) (K.seen sink.new) result
         (flat_map line_text (rows_lines word d rows.now)) }
+    ensures typed { OnOk result (IsTypedMatrix d rows.now) }
 {
     put_each_row(sink, word, d, &rows[..GREATEST_ORDER.min(d as usize)])
 }
@@ -124,8 +130,9 @@ fn put_sign<K: Sink>(sink: &mut K, literal: Lit) -> Result<(), Failed>
 
 /// Writes a space and a literal: its variable, numbered from 1, after `-` where it is negated.
 fn put_literal<K: Sink>(sink: &mut K, literal: Lit) -> Result<(), Failed>
-    ensures { Writes (K.seen sink.old) (K.seen sink.new) result
+    ensures text { Writes (K.seen sink.old) (K.seen sink.new) result
         (spaced_text literal_piece literal) }
+    ensures typed { OnOk result (IsLiteral literal) }
 {
     put_all(sink, b" ")?;
     put_sign(sink, literal)?;
@@ -134,8 +141,9 @@ fn put_literal<K: Sink>(sink: &mut K, literal: Lit) -> Result<(), Failed>
 
 /// Writes a space before each literal.
 fn put_clause<K: Sink>(sink: &mut K, literals: &[Lit]) -> Result<(), Failed>
-    ensures { Writes (K.seen sink.old) (K.seen sink.new) result
+    ensures text { Writes (K.seen sink.old) (K.seen sink.new) result
         (flat_map (spaced_text literal_piece) literals.now) }
+    ensures typed { OnOk result (All IsLiteral literals.now) }
 {
     for literal in literals {
         put_literal(sink, *literal)?;
@@ -145,8 +153,9 @@ fn put_clause<K: Sink>(sink: &mut K, literals: &[Lit]) -> Result<(), Failed>
 
 /// Writes the literals of a step, and the 0 that ends them.
 fn put_literals<K: Sink>(sink: &mut K, literals: &[Lit]) -> Result<(), Failed>
-    ensures { Writes (K.seen sink.old) (K.seen sink.new) result
+    ensures text { Writes (K.seen sink.old) (K.seen sink.new) result
         (flat_map (spaced_text piece_text) (list_pieces literal_piece literals.now)) }
+    ensures typed { OnOk result (All IsLiteral literals.now) }
 {
     put_clause(sink, literals)?;
     put_all(sink, b" 0")
@@ -154,8 +163,9 @@ fn put_literals<K: Sink>(sink: &mut K, literals: &[Lit]) -> Result<(), Failed>
 
 /// Writes ids of a step, and the 0 that ends them.
 fn put_ids<K: Sink>(sink: &mut K, ids: &[u64]) -> Result<(), Failed>
-    ensures { Writes (K.seen sink.old) (K.seen sink.new) result
+    ensures text { Writes (K.seen sink.old) (K.seen sink.new) result
         (flat_map (spaced_text piece_text) (list_pieces decimal ids.now)) }
+    ensures typed { All IsShortId ids.now }
 {
     put_entries(sink, ids)?;
     put_all(sink, b" 0")
@@ -168,8 +178,9 @@ fn put_addition<K: Sink>(
     literals: &[Lit],
     hints: &[u64],
 ) -> Result<(), Failed>
-    ensures { Writes (K.seen sink.old) (K.seen sink.new) result
+    ensures text { Writes (K.seen sink.old) (K.seen sink.new) result
         (line_text (step_line (Add id literals.now hints.now))) }
+    ensures typed { OnOk result (IsTypedStep (Add id literals.now hints.now)) }
 {
     put_number(sink, id)?;
     put_literals(sink, literals)?;
@@ -189,7 +200,8 @@ fn put_deletion<K: Sink>(sink: &mut K, id: u64, ids: &[u64]) -> Result<(), Faile
 }
 
 fn put_step<K: Sink>(sink: &mut K, step: &Step) -> Result<(), Failed>
-    ensures { Writes (K.seen sink.old) (K.seen sink.new) result (line_text (step_line step.now)) }
+    ensures text { Writes (K.seen sink.old) (K.seen sink.new) result (line_text (step_line step.now)) }
+    ensures typed { OnOk result (IsTypedStep step.now) }
 {
     match step {
         Step::Add { id, lits, hints } => {
@@ -201,8 +213,9 @@ fn put_step<K: Sink>(sink: &mut K, step: &Step) -> Result<(), Failed>
 
 /// Writes the lines of steps.
 fn put_steps<K: Sink>(sink: &mut K, steps: &[Step]) -> Result<(), Failed>
-    ensures { Writes (K.seen sink.old) (K.seen sink.new) result
+    ensures text { Writes (K.seen sink.old) (K.seen sink.new) result
         (flat_map (λ step. line_text (step_line step)) steps.now) }
+    ensures typed { OnOk result (IsTypedLog steps.now) }
 {
     for step in steps {
         put_step(sink, step)?;
@@ -212,8 +225,9 @@ fn put_steps<K: Sink>(sink: &mut K, steps: &[Step]) -> Result<(), Failed>
 
 /// Writes the lines of a log.
 pub(crate) fn put_log<K: Sink>(sink: &mut K, log: &Log) -> Result<(), Failed>
-    ensures { Writes (K.seen sink.old) (K.seen sink.new) result
+    ensures text { Writes (K.seen sink.old) (K.seen sink.new) result
         (flat_map line_text (log_lines log.now)) }
+    ensures typed { OnOk result (IsTypedLog log.now) }
 {
     put_steps(sink, log.as_slice())
 }

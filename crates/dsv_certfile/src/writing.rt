@@ -1,5 +1,6 @@
 // Writing the text of a certificate.
-ghost use Rattle.std.specs.Prelude.{◌++◌, ◌∷◌, [], map, take};
+ghost use Rattle.std.specs.Prelude.{◌++◌, ◌∷◌, [], map, take, All, OnOk};
+ghost use Rattle.std.specs.Fmt.{signed_decimal};
 ghost use Rattle.std.specs.List.{flat_map};
 ghost use Rattle.dsv_base.specs.Taking.{Writes};
 ghost use Rattle.dsv_base.specs.Text.{spaced_text};
@@ -7,6 +8,9 @@ ghost use Rattle.dsv_certfile.specs.Texts.{line_text, size_pieces, job_line, ine
 ghost use Rattle.dsv_certfile.specs.Texts.{logs_lines, squares_lines, square_lines, falls_lines};
 ghost use Rattle.dsv_certfile.specs.Texts.{certificate_text, version_line, numbers_line};
 ghost use Rattle.dsv_certfile.specs.Texts.{piece_text};
+ghost use Rattle.dsv_certfile.specs.Typed.{IsTypedInequality, IsTypedSet, AreTypedLogs};
+ghost use Rattle.dsv_certfile.specs.Typed.{IsTypedRow, IsTypedFactor, AreTypedRows};
+ghost use Rattle.dsv_certfile.specs.Typed.{AreTypedSquares, IsTypedOffer, IsTypedBody};
 ghost use Rattle.dsv_names.specs.Properties.{property_name};
 ghost use Rattle.dsv_names.specs.Realisations.{realisation_name};
 ghost use Rattle.dsv_names.specs.Roundings.{rounding_name};
@@ -112,8 +116,9 @@ fn put_form_kind<K: Sink>(sink: &mut K, offer: &Falls) -> Result<(), Failed>
 
 /// Writes the line of an inequality.
 fn put_inequality<K: Sink>(sink: &mut K, inequality: &Inequality) -> Result<(), Failed>
-    ensures { Writes (K.seen sink.old) (K.seen sink.new) result
+    ensures text { Writes (K.seen sink.old) (K.seen sink.new) result
         (line_text (inequality_line inequality.now)) }
+    ensures typed { OnOk result (IsTypedInequality inequality.now) }
 {
     put_all(sink, Keyword::Inequality.text())?;
     put_entries(sink, inequality.coefficients.as_slice())?;
@@ -123,8 +128,9 @@ fn put_inequality<K: Sink>(sink: &mut K, inequality: &Inequality) -> Result<(), 
 
 /// Writes the lines of inequalities.
 fn put_each_inequality<K: Sink>(sink: &mut K, inequalities: &[Inequality]) -> Result<(), Failed>
-    ensures { Writes (K.seen sink.old) (K.seen sink.new) result
+    ensures text { Writes (K.seen sink.old) (K.seen sink.new) result
         (flat_map (λ i. line_text (inequality_line i)) inequalities.now) }
+    ensures typed { OnOk result (All IsTypedInequality inequalities.now) }
 {
     for inequality in inequalities {
         put_inequality(sink, inequality)?;
@@ -133,16 +139,18 @@ fn put_each_inequality<K: Sink>(sink: &mut K, inequalities: &[Inequality]) -> Re
 }
 
 fn put_inequalities<K: Sink>(sink: &mut K, candidate: &Candidate) -> Result<(), Failed>
-    ensures { Writes (K.seen sink.old) (K.seen sink.new) result
+    ensures text { Writes (K.seen sink.old) (K.seen sink.new) result
         (flat_map line_text (map inequality_line candidate.now.inequalities.items)) }
+    ensures typed { OnOk result (IsTypedSet candidate.now) }
 {
     put_each_inequality(sink, candidate.inequalities.as_slice())
 }
 
 /// Writes each log after the word of its sentence.
 fn put_logs<K: Sink>(sink: &mut K, logs: &ThreeLogs) -> Result<(), Failed>
-    ensures { Writes (K.seen sink.old) (K.seen sink.new) result
+    ensures text { Writes (K.seen sink.old) (K.seen sink.new) result
         (flat_map line_text (logs_lines logs.now)) }
+    ensures typed { OnOk result (AreTypedLogs logs.now) }
 {
     put_word(sink, Keyword::Base)?;
     put_log(sink, &logs.base)?;
@@ -154,8 +162,9 @@ fn put_logs<K: Sink>(sink: &mut K, logs: &ThreeLogs) -> Result<(), Failed>
 
 /// Writes the line of a square: its weight, and the first d places of its row.
 fn put_square<K: Sink>(sink: &mut K, d: u32, weight: &i128, row: &Row) -> Result<(), Failed>
-    ensures { Writes (K.seen sink.old) (K.seen sink.new) result
+    ensures text { Writes (K.seen sink.old) (K.seen sink.new) result
         (line_text (numbers_line keyword.Square (weight.now ∷ take d row.now))) }
+    ensures typed { IsTypedRow row.now }
 {
     put_all(sink, Keyword::Square.text())?;
     put_entry(sink, weight)?;
@@ -164,9 +173,10 @@ fn put_square<K: Sink>(sink: &mut K, d: u32, weight: &i128, row: &Row) -> Result
 }
 
 fn put_all_squares<K: Sink>(sink: &mut K, d: u32, squares: &Squares) -> Result<(), Failed>
-    ensures { Writes (K.seen sink.old) (K.seen sink.new) result
+    ensures text { Writes (K.seen sink.old) (K.seen sink.new) result
         (flat_map line_text (square_lines d
         (take squares.now.count squares.now.weights) squares.now.rows)) }
+    ensures typed { OnOk result (AreTypedRows squares.now) }
 {
     for i in 0..GREATEST_ORDER.min(squares.count as usize) {
         put_square(sink, d, &squares.weights[i], &squares.rows[i])?;
@@ -174,13 +184,23 @@ fn put_all_squares<K: Sink>(sink: &mut K, d: u32, squares: &Squares) -> Result<(
     Ok(())
 }
 
+/// Writes a space and the factor of a form.
+fn put_factor<K: Sink>(sink: &mut K, factor: &i128) -> Result<(), Failed>
+    ensures text { Writes (K.seen sink.old) (K.seen sink.new) result
+        (spaced_text signed_decimal factor.now) }
+    ensures typed { IsTypedFactor factor.now }
+{
+    put_spaced(sink, *factor)
+}
+
 /// Writes the line that the squares of a form begin with.
 fn put_squares_head<K: Sink>(sink: &mut K, word: Keyword, s: &Squares) -> Result<(), Failed>
-    ensures { Writes (K.seen sink.old) (K.seen sink.new) result
+    ensures text { Writes (K.seen sink.old) (K.seen sink.new) result
         (line_text (squares_head word s.now)) }
+    ensures typed { OnOk result (IsTypedFactor s.now.m) }
 {
     put_all(sink, word.text())?;
-    put_entry(sink, &s.m)?;
+    put_factor(sink, &s.m)?;
     put_spaced(sink, s.count)?;
     put_all(sink, b"\n")
 }
@@ -192,8 +212,9 @@ fn put_squares<K: Sink>(
     d: u32,
     squares: &Squares,
 ) -> Result<(), Failed>
-    ensures { Writes (K.seen sink.old) (K.seen sink.new) result
+    ensures text { Writes (K.seen sink.old) (K.seen sink.new) result
         (flat_map line_text (squares_lines word d squares.now)) }
+    ensures typed { OnOk result (AreTypedSquares d squares.now) }
 {
     put_squares_head(sink, word, squares)?;
     put_all_squares(sink, d, squares)?;
@@ -201,8 +222,9 @@ fn put_squares<K: Sink>(
 }
 
 fn put_falls<K: Sink>(sink: &mut K, offer: &Falls) -> Result<(), Failed>
-    ensures { Writes (K.seen sink.old) (K.seen sink.new) result
+    ensures text { Writes (K.seen sink.old) (K.seen sink.new) result
         (flat_map line_text (falls_lines offer.now)) }
+    ensures typed { OnOk result (IsTypedOffer offer.now) }
 {
     let d = offer.form.d;
     put_rows(sink, Keyword::Form, d, &offer.form.rows)?;
@@ -216,8 +238,9 @@ fn put_invariant<K: Sink>(
     candidate: &Candidate,
     logs: &ThreeLogs,
 ) -> Result<(), Failed>
-    ensures { Writes (K.seen sink.old) (K.seen sink.new) result (flat_map line_text
+    ensures text { Writes (K.seen sink.old) (K.seen sink.new) result (flat_map line_text
         (map inequality_line candidate.now.inequalities.items ++ logs_lines logs.now)) }
+    ensures typed { OnOk result (IsTypedSet candidate.now × AreTypedLogs logs.now) }
 {
     put_inequalities(sink, candidate)?;
     put_logs(sink, logs)
@@ -228,8 +251,9 @@ fn put_invariant<K: Sink>(
 /// Writes the text of a certificate whose log refutes the formula of its job. It takes no memory;
 /// where the sink fails, it took a prefix.
 pub fn write_hints<K: Sink>(sink: &mut K, job: &Job, log: &Log) -> Result<(), Failed>
-    ensures { Writes (K.seen sink.old) (K.seen sink.new) result
+    ensures text { Writes (K.seen sink.old) (K.seen sink.new) result
         (certificate_text (certificate.Hints job.now log.now)) }
+    ensures typed { OnOk result (IsTypedBody (certificate.Hints job.now log.now)) }
 {
     put_head(sink, job)?;
     put_log_kind(sink)?;
@@ -244,8 +268,10 @@ pub fn write_invariant<K: Sink>(
     candidate: &Candidate,
     logs: &ThreeLogs,
 ) -> Result<(), Failed>
-    ensures { Writes (K.seen sink.old) (K.seen sink.new) result
+    ensures text { Writes (K.seen sink.old) (K.seen sink.new) result
         (certificate_text (certificate.Invariant job.now candidate.now logs.now)) }
+    ensures typed { OnOk result
+        (IsTypedBody (certificate.Invariant job.now candidate.now logs.now)) }
 {
     put_head(sink, job)?;
     put_candidate_kind(sink, candidate)?;
@@ -255,8 +281,9 @@ pub fn write_invariant<K: Sink>(
 
 /// Writes the text of a certificate of a form that falls, as `write_hints` does.
 pub fn write_falls<K: Sink>(sink: &mut K, job: &Job, offer: &Falls) -> Result<(), Failed>
-    ensures { Writes (K.seen sink.old) (K.seen sink.new) result
+    ensures text { Writes (K.seen sink.old) (K.seen sink.new) result
         (certificate_text (certificate.Falls job.now offer.now)) }
+    ensures typed { OnOk result (IsTypedBody (certificate.Falls job.now offer.now)) }
 {
     put_head(sink, job)?;
     put_form_kind(sink, offer)?;
@@ -266,8 +293,9 @@ pub fn write_falls<K: Sink>(sink: &mut K, job: &Job, offer: &Falls) -> Result<()
 
 /// Writes the text of the certificate, as `write_hints` does.
 pub fn write<K: Sink>(certificate: &Certificate, sink: &mut K) -> Result<(), Failed>
-    ensures { Writes (K.seen sink.old) (K.seen sink.new) result
+    ensures text { Writes (K.seen sink.old) (K.seen sink.new) result
         (certificate_text certificate.now) }
+    ensures typed { OnOk result (IsTypedBody certificate.now) }
 {
     match certificate {
         Certificate::Hints { job, log } => write_hints(sink, job, log),

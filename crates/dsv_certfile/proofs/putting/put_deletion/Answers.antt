@@ -24,11 +24,11 @@ returns-in_err-put_ids g c =
     let a = c.args in
     let ids = list_pieces decimal a.ids.now in
     writes_as (piece_list-text (decimal a.id) deletion_text ids) (writes_after c.in_ok-put_number.ensures.whole
-    (writes_after c.in_ok-put_all.ensures.whole (writes_cut (10 ∷ []) c.from_residual-in_err-put_ids.ensures.0 c.in_err-put_ids.ensures.cut)))
+    (writes_after c.in_ok-put_all.ensures.whole (writes_cut (10 ∷ []) c.from_residual-in_err-put_ids.ensures.0 c.in_err-put_ids.ensures.text.cut)))
 
 pub returns : goal.returns
 returns g c =
     let a = c.args in
     let ids = list_pieces decimal a.ids.now in
     writes_as (piece_list-text (decimal a.id) deletion_text ids) (writes_after c.in_ok-put_number.ensures.whole
-    (writes_after c.in_ok-put_all.ensures.whole (writes_after c.in_ok-put_ids.ensures.whole c.put_all-2.ensures)))
+    (writes_after c.in_ok-put_all.ensures.whole (writes_after c.in_ok-put_ids.ensures.text.whole c.put_all-2.ensures)))

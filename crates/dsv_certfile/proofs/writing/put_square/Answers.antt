@@ -6,22 +6,22 @@ use Rattle.dsv_base.proofs.TakingLemmas.{writes_after, writes_cut}
 use Rattle.dsv_certfile.proofs.LineTexts.{writes_as, first-text, take_least}
 use Rattle.dsv_certfile.proofs.writing.put_square.Goals as goal
 
-pub returns-in_err-put_all : goal.returns-in_err-put_all
-returns-in_err-put_all g c =
+pub returns-in_err-put_all-clause-text : goal.returns-in_err-put_all-clause-text
+returns-in_err-put_all-clause-text g c =
     let row = take c.args.d c.args.row.now in
     let w = c.args.weight.now in
     writes_as (first-text signed_decimal (codes "square") w row)
     (writes_cut (spaced_text signed_decimal w ++ (flat_map (spaced_text signed_decimal) row ++ 10 ∷ [])) c.from_residual.ensures.0 (rw c.text.ensures at c.in_err-put_all.ensures.cut))
 
-pub returns-in_err-put_entry : goal.returns-in_err-put_entry
-returns-in_err-put_entry g c =
+pub returns-in_err-put_entry-clause-text : goal.returns-in_err-put_entry-clause-text
+returns-in_err-put_entry-clause-text g c =
     let row = take c.args.d c.args.row.now in
     let w = c.args.weight.now in
     writes_as (first-text signed_decimal (codes "square") w row) (writes_after (rw c.text.ensures at c.in_ok-put_all.ensures.whole)
     (writes_cut (flat_map (spaced_text signed_decimal) row ++ 10 ∷ []) c.from_residual-in_err-put_entry.ensures.0 c.in_err-put_entry.ensures.cut))
 
-pub returns-in_err-put_entries : goal.returns-in_err-put_entries
-returns-in_err-put_entries g c =
+pub returns-in_err-put_entries-clause-text : goal.returns-in_err-put_entries-clause-text
+returns-in_err-put_entries-clause-text g c =
     let row = take c.args.d c.args.row.now in
     let w = c.args.weight.now in
     let e : take c.min.result c.args.row.now ≡ row = ap (λ n. take n c.args.row.now) c.min.ensures ∙ take_least 8 c.args.d c.args.row.now c.told-row in
@@ -29,8 +29,8 @@ returns-in_err-put_entries g c =
     writes_as (first-text signed_decimal (codes "square") w row) (writes_after (rw c.text.ensures at c.in_ok-put_all.ensures.whole)
     (writes_after c.in_ok-put_entry.ensures.whole (writes_cut (10 ∷ []) c.from_residual-in_err-put_entries.ensures.0 cut)))
 
-pub returns : goal.returns
-returns g c =
+pub returns-clause-text : goal.returns-clause-text
+returns-clause-text g c =
     let row = take c.args.d c.args.row.now in
     let w = c.args.weight.now in
     let e : take c.min.result c.args.row.now ≡ row = ap (λ n. take n c.args.row.now) c.min.ensures ∙ take_least 8 c.args.d c.args.row.now c.told-row in

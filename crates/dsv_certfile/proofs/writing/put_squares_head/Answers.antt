@@ -6,26 +6,26 @@ use Rattle.dsv_certfile.specs.Keywords.{keyword_text}
 use Rattle.dsv_certfile.proofs.LineTexts.{writes_as, two-text}
 use Rattle.dsv_certfile.proofs.writing.put_squares_head.Goals as goal
 
-pub returns-in_err-put_all : goal.returns-in_err-put_all
-returns-in_err-put_all g c =
+pub returns-in_err-put_all-clause-text : goal.returns-in_err-put_all-clause-text
+returns-in_err-put_all-clause-text g c =
     let s = c.args.s.now in
     writes_as (two-text (keyword_text c.args.word) (signed_decimal s.m) (decimal s.count))
     (writes_cut (spaced_text signed_decimal s.m ++ (spaced_text decimal s.count ++ 10 ∷ [])) c.from_residual.ensures.0 (rw c.text.ensures at c.in_err-put_all.ensures.cut))
 
-pub returns-in_err-put_entry : goal.returns-in_err-put_entry
-returns-in_err-put_entry g c =
+pub returns-in_err-put_factor-clause-text : goal.returns-in_err-put_factor-clause-text
+returns-in_err-put_factor-clause-text g c =
     let s = c.args.s.now in
     writes_as (two-text (keyword_text c.args.word) (signed_decimal s.m) (decimal s.count)) (writes_after (rw c.text.ensures at c.in_ok-put_all.ensures.whole)
-    (writes_cut (spaced_text decimal s.count ++ 10 ∷ []) c.from_residual-in_err-put_entry.ensures.0 c.in_err-put_entry.ensures.cut))
+    (writes_cut (spaced_text decimal s.count ++ 10 ∷ []) c.from_residual-in_err-put_factor.ensures.0 c.in_err-put_factor.ensures.text.cut))
 
-pub returns-in_err-put_spaced : goal.returns-in_err-put_spaced
-returns-in_err-put_spaced g c =
+pub returns-in_err-put_spaced-clause-text : goal.returns-in_err-put_spaced-clause-text
+returns-in_err-put_spaced-clause-text g c =
     let s = c.args.s.now in
     writes_as (two-text (keyword_text c.args.word) (signed_decimal s.m) (decimal s.count)) (writes_after (rw c.text.ensures at c.in_ok-put_all.ensures.whole)
-    (writes_after c.in_ok-put_entry.ensures.whole (writes_cut (10 ∷ []) c.from_residual-in_err-put_spaced.ensures.0 c.in_err-put_spaced.ensures.cut)))
+    (writes_after c.in_ok-put_factor.ensures.text.whole (writes_cut (10 ∷ []) c.from_residual-in_err-put_spaced.ensures.0 c.in_err-put_spaced.ensures.cut)))
 
-pub returns : goal.returns
-returns g c =
+pub returns-clause-text : goal.returns-clause-text
+returns-clause-text g c =
     let s = c.args.s.now in
     writes_as (two-text (keyword_text c.args.word) (signed_decimal s.m) (decimal s.count)) (writes_after (rw c.text.ensures at c.in_ok-put_all.ensures.whole)
-    (writes_after c.in_ok-put_entry.ensures.whole (writes_after c.in_ok-put_spaced.ensures.whole c.put_all-2.ensures)))
+    (writes_after c.in_ok-put_factor.ensures.text.whole (writes_after c.in_ok-put_spaced.ensures.whole c.put_all-2.ensures)))
