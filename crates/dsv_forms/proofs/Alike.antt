@@ -1,5 +1,5 @@
 -- The check of an offer reads the numbers of its places alone.
-use Rattle.std.proofs.Common.{◌≡◌, ℕ, suc, ◌-◌, ◌<◌, ◌≤◌, Bool, true, false, not, ◌&&◌, ◌||◌, ◌==◌, nat_lt, int_lt, List, [], ◌∷◌, ◌++◌, length, map, take, get_or, refl, sym, ap, ◌∙◌, arith}
+use Rattle.std.proofs.Common.{◌≡◌, ℕ, suc, ◌-◌, ◌<◌, ◌≤◌, Bool, true, false, not, ◌&&◌, ◌||◌, ◌==◌, nat_lt, int_lt, List, [], ◌∷◌, ◌++◌, length, map, take, get_or, None, refl, sym, ap, ◌∙◌, arith}
 use Rattle.std.proofs.Math.IntN.{ℤ, pos, neg_ℤ, ◌*ℤ◌}
 use Rattle.std.proofs.Math.ListN.{get_or-map}
 use Rattle.std.proofs.Math.Seq.{take-nil}
@@ -21,8 +21,8 @@ use Rattle.dsv_forms.specs.declared.refusal.FormRefusal.TheVariants as refusal
 use Rattle.dsv_forms.specs.OfferLaws.{AreReadInPlaces}
 use Rattle.dsv_forms.specs.Padded.{row_of, matrix_with, corner, squares_alone, offer_alone}
 use Rattle.dsv_forms.specs.Poly.{greatest_order}
-use Rattle.dsv_forms.specs.Refusals.{Test, first_of, places, any_wide, partial_sums, is_symmetric, weights_of, rows_of, rest_of, bad_rest, square_terms, right_side, side_numbers, place_tests, row_tests, side_tests, sizes_beside, not_dominant, dominance_tests, bad_shape, bad_weight, bad_row, positive_weight_tests, triangle_tests, definite_tests, bad_form, fall_numbers, falls_tests}
-use Rattle.dsv_forms.proofs.OfferLemmas.{by_shape, falls_parts}
+use Rattle.dsv_forms.specs.Refusals.{Test, first_of, places, any_wide, partial_sums, is_symmetric, weights_of, rows_of, rest_of, bad_rest, square_terms, right_side, side_numbers, place_tests, row_tests, side_tests, sizes_beside, not_dominant, dominance_tests, bad_shape, bad_weight, bad_row, positive_weight_tests, triangle_tests, definite_tests, bad_form, fall_numbers, falls_tests, falls_refusal}
+use Rattle.dsv_forms.proofs.OfferLemmas.{by_shape, falls_parts, falls_passes}
 use Rattle.dsv_forms.proofs.Padded.{row_entry, matrix_entry}
 use Rattle.dsv_forms.proofs.Places.{or_else, both_tests, first_same, from_same, map_same, all_same, any_same, neither_test, not_false}
 use Rattle.dsv_forms.proofs.Shown.{definite_parts, same_count}
@@ -255,3 +255,8 @@ offer_alone_alike d offer e few = record {
 pub offers_are_read_in_places : AreReadInPlaces
 offers_are_read_in_places c offer h =
     falls_alike (length c - 1) (vector_of c) (offer_alone offer) offer refl (λ e. offer_alone_alike (length c - 1) offer e (omega arith))
+
+pub accepted_alone : (c : List ℤ) (offer : Falls) → offer.form.d ≤ greatest_order → falls_refusal c offer ≡ None → falls_refusal c (offer_alone offer) ≡ None
+accepted_alone c offer few h =
+    let order = (falls_passes (length c - 1) (vector_of c) offer h).places in
+    offers_are_read_in_places c offer (omega (arith, order, few)) ∙ h

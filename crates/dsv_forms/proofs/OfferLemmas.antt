@@ -1,5 +1,5 @@
 -- What accepted offers show, and which offers are refused.
-use Rattle.std.proofs.Common.{◌≡◌, ◌≢◌, ℕ, zero, suc, ◌-◌, ◌<◌, ◌≤◌, length, Bool, true, false, int_lt, List, [], ◌∷◌, ◌++◌, Option, None, Result, Ok, Err, IfOk, inl, inr, refl, sym, ap, ◌∙◌, arith}
+use Rattle.std.proofs.Common.{◌≡◌, ◌≢◌, ℕ, zero, suc, ◌-◌, ◌<◌, ◌≤◌, length, Bool, true, false, not, ◌==◌, int_lt, List, [], ◌∷◌, ◌++◌, Option, None, Result, Ok, Err, IfOk, inl, inr, refl, sym, ap, ◌∙◌, arith}
 use Rattle.std.proofs.Math.IntN.{ℤ, pos, ◌*ℤ◌}
 use Rattle.std.proofs.lemmas.Int.{ints}
 use Rattle.std.proofs.lemmas.Bool.{cases_lt}
@@ -22,9 +22,9 @@ use Rattle.dsv_forms.specs.declared.refusal.FormRefusal.TheVariants as refusal
 use Rattle.dsv_forms.specs.FallForm.{IsFallForm}
 use Rattle.dsv_forms.specs.Refusals.{first_of, refusal_of, any_wide, is_symmetric, bad_rest, bad_shape, side_tests, positive_weight_tests, triangle_tests, dominance_tests, definite_tests, too_many_rows, weak_weight_tests, semidefinite_tests, bad_form, form_tests, fall_numbers, falls_tests, start_tests, kept_away_tests}
 use Rattle.dsv_forms.specs.Sums.{or_too_wide, IsFallOrWide}
-use Rattle.dsv_forms.proofs.Places.{or_else, neither_test, first_before, first_of-append}
+use Rattle.dsv_forms.proofs.Places.{or_else, neither, neither_test, not_false, passes, first_before, first_of-append}
 use Rattle.dsv_forms.proofs.SumLemmas.{unless}
-use Rattle.dsv_forms.proofs.Shown.{definite_parts, semidefinite_parts, good_rest, sides_pass, symmetric_at, definite_passes, semidefinite_passes, shows_positive, shows_not_negative}
+use Rattle.dsv_forms.proofs.Shown.{definite_parts, semidefinite_parts, good_rest, same_count, sides_pass, symmetric_at, definite_passes, semidefinite_passes, shows_positive, shows_not_negative}
 use Rattle.dsv_forms.proofs.FallLemmas.{wide_left, upper, turned, side_same}
 use Rattle.dsv_forms.proofs.Values.{value_negative}
 
@@ -113,6 +113,28 @@ falls_parts d c offer =
     let a = definite_tests part.Positive d offer.positive P (λ i j. []) in
     let b = definite_tests part.Fall d offer.fall (fall_entry d c P) (fall_numbers d c P) in
     first_before (bad_form d offer.form) (refusal.Shape part.Form) (a ++ b) ∙ ap (or_else (first_of (form_tests d offer.form))) (first_of-append a b)
+
+-- what passes in an accepted offer
+pub record FallsPass (d : ℕ) (c : Vector) (offer : Falls) : Type 0 where
+  pub places : offer.form.d ≡ d
+  pub symmetric : is_symmetric d (matrix_of offer.form.rows) ≡ true
+  pub positive : first_of (definite_tests part.Positive d offer.positive (matrix_of offer.form.rows) (λ i j. [])) ≡ None
+  pub fall : first_of (definite_tests part.Fall d offer.fall (fall_entry d c (matrix_of offer.form.rows)) (fall_numbers d c (matrix_of offer.form.rows))) ≡ None
+
+pub falls_passes : (d : ℕ) (c : Vector) (offer : Falls) → first_of (falls_tests d c offer) ≡ None → FallsPass d c offer
+falls_passes d c offer h =
+    let P = matrix_of offer.form.rows in
+    let positive = first_of (definite_tests part.Positive d offer.positive P (λ i j. [])) in
+    let fall = first_of (definite_tests part.Fall d offer.fall (fall_entry d c P) (fall_numbers d c P)) in
+    let a = neither (first_of (form_tests d offer.form)) (or_else positive fall) (sym (falls_parts d c offer) ∙ h) in
+    let b = neither positive fall a.1 in
+    let shape = neither_test (not (offer.form.d == d)) (not (is_symmetric d P)) (passes (bad_form d offer.form) (refusal.Shape part.Form) a.0) in
+    record {
+      places = same_count offer.form.d d (not_false (offer.form.d == d) shape.0);
+      symmetric = not_false (is_symmetric d P) shape.1;
+      positive = b.0;
+      fall = b.1;
+    }
 
 positive_same : (d : ℕ) (T U : Matrix) → ((i j : ℕ) → i < d → j < d → T i j ≡ U i j) → ShowPositive d T → ShowPositive d U
 positive_same d T U e o = record {

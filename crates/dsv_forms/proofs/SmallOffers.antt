@@ -1,5 +1,5 @@
 -- The numbers of an accepted offer are small.
-use Rattle.std.proofs.Common.{◌≡◌, ◌≢◌, ℕ, zero, suc, ◌-◌, ◌*◌, ◌<◌, ◌≤◌, true, not, ◌==◌, int_lt, List, [], ◌++◌, length, map, None, inl, inr, sym, ap, subst, ◌∙◌, arith}
+use Rattle.std.proofs.Common.{◌≡◌, ◌≢◌, ℕ, zero, suc, ◌-◌, ◌*◌, ◌<◌, ◌≤◌, true, int_lt, List, [], ◌++◌, length, map, None, inl, inr, sym, ap, subst, ◌∙◌, arith}
 use Rattle.std.proofs.Math.IntN.{ℤ, pos, *ℤ_comm, ◌*ℤ◌}
 use Rattle.std.specs.Int.RustNames.{unsigned_abs}
 use Rattle.std.proofs.lemmas.Bool.{cases_lt}
@@ -10,15 +10,15 @@ use Rattle.dsv_algebra.specs.Narrow.{is_narrow}
 use Rattle.dsv_algebra.specs.Vectors.{Vector, Matrix, vector_of, matrix_of}
 use Rattle.dsv_algebra.specs.Companion.{fall_entry}
 use Rattle.dsv_forms.specs.OfferLaws.{AreNarrow, IsNarrow, AcceptedAreNarrow}
-use Rattle.dsv_forms.specs.Refusals.{first_of, places, any_wide, partial_sums, is_symmetric, weights_of, rows_of, rest_of, sizes_beside, not_dominant, dominance_tests, bad_weight, bad_row, positive_weight_tests, definite_tests, bad_form, form_tests, fall_numbers, falls_tests}
+use Rattle.dsv_forms.specs.Refusals.{first_of, places, any_wide, partial_sums, is_symmetric, weights_of, rows_of, rest_of, sizes_beside, not_dominant, dominance_tests, bad_weight, bad_row, positive_weight_tests, definite_tests, fall_numbers}
 use Rattle.dsv_forms.specs.declared.offers.Squares.{Squares}
 use Rattle.dsv_forms.specs.declared.offers.Falls.{Falls}
 use Rattle.dsv_forms.specs.declared.refusal.Part.{Part}
 use Rattle.dsv_forms.specs.declared.refusal.Part.TheVariants as part
 use Rattle.dsv_forms.specs.declared.refusal.FormRefusal.TheVariants as refusal
-use Rattle.dsv_forms.proofs.OfferLemmas.{positive_apart, falls_parts}
-use Rattle.dsv_forms.proofs.Places.{or_else, neither, neither_test, not_false, passes, tests_each}
-use Rattle.dsv_forms.proofs.Shown.{definite_passes, sides_pass, each_narrow, neither_wide, same_count, positive_scale, symmetric_at, less, own_apart}
+use Rattle.dsv_forms.proofs.OfferLemmas.{positive_apart, FallsPass, falls_passes}
+use Rattle.dsv_forms.proofs.Places.{neither_test, not_false, tests_each}
+use Rattle.dsv_forms.proofs.Shown.{definite_passes, sides_pass, each_narrow, neither_wide, positive_scale, symmetric_at, less, own_apart}
 
 -- a factor of a narrow product beside a positive one is narrow
 more : (m n : ℕ) → 0 < m → n ≤ m * n
@@ -74,20 +74,14 @@ form_narrow p d s T form h i j a b = elim (cases_lt j i) [
 squares_at : (d e : ℕ) (s : Squares) → e ≡ d → AreNarrow d s → AreNarrow e s
 squares_at d e s same a = subst (λ n. AreNarrow n s) (sym same) a
 
-narrow_at : (d : ℕ) (c : Vector) (offer : Falls) → first_of (falls_tests d c offer) ≡ None → IsNarrow offer
-narrow_at d c offer h =
+narrow_at : (d : ℕ) (c : Vector) (offer : Falls) → FallsPass d c offer → IsNarrow offer
+narrow_at d c offer o =
     let P = matrix_of offer.form.rows in
-    let positive = first_of (definite_tests part.Positive d offer.positive P (λ i j. [])) in
-    let fall = first_of (definite_tests part.Fall d offer.fall (fall_entry d c P) (fall_numbers d c P)) in
-    let a = neither (first_of (form_tests d offer.form)) (or_else positive fall) (sym (falls_parts d c offer) ∙ h) in
-    let b = neither positive fall a.1 in
-    let shape = neither_test (not (offer.form.d == d)) (not (is_symmetric d P)) (passes (bad_form d offer.form) (refusal.Shape part.Form) a.0) in
-    let e = same_count offer.form.d d (not_false (offer.form.d == d) shape.0) in
     record {
-      form = λ i j k l. form_narrow part.Positive d offer.positive P (not_false (is_symmetric d P) shape.1) b.0 i j (omega (arith, e, k)) (omega (arith, e, l));
-      positive = squares_at d offer.form.d offer.positive e (squares_narrow part.Positive d offer.positive P (λ i j. []) b.0);
-      fall = squares_at d offer.form.d offer.fall e (squares_narrow part.Fall d offer.fall (fall_entry d c P) (fall_numbers d c P) b.1);
+      form = λ i j k l. form_narrow part.Positive d offer.positive P o.symmetric o.positive i j (omega (arith, o.places, k)) (omega (arith, o.places, l));
+      positive = squares_at d offer.form.d offer.positive o.places (squares_narrow part.Positive d offer.positive P (λ i j. []) o.positive);
+      fall = squares_at d offer.form.d offer.fall o.places (squares_narrow part.Fall d offer.fall (fall_entry d c P) (fall_numbers d c P) o.fall);
     }
 
 pub accepted_are_narrow : AcceptedAreNarrow
-accepted_are_narrow c offer h = narrow_at (length c - 1) (vector_of c) offer h
+accepted_are_narrow c offer h = narrow_at (length c - 1) (vector_of c) offer (falls_passes (length c - 1) (vector_of c) offer h)
