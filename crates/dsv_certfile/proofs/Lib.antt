@@ -10,11 +10,13 @@ pub mod LawfulFalls
 pub mod LawfulHeadings
 pub mod LawfulParts
 pub mod LawfulSteps
+pub mod LawfulWritten
 pub mod LineTexts
 pub mod PlaceLemmas
 pub mod RangeLemmas
 pub mod SquareLines
 pub mod StepLemmas
+pub mod TypedParts
 pub mod WrittenBodies
 pub mod WrittenCertificates
 pub mod WrittenFalls

@@ -200,7 +200,8 @@ fn put_deletion<K: Sink>(sink: &mut K, id: u64, ids: &[u64]) -> Result<(), Faile
 }
 
 fn put_step<K: Sink>(sink: &mut K, step: &Step) -> Result<(), Failed>
-    ensures text { Writes (K.seen sink.old) (K.seen sink.new) result (line_text (step_line step.now)) }
+    ensures text { Writes (K.seen sink.old) (K.seen sink.new) result
+        (line_text (step_line step.now)) }
     ensures typed { OnOk result (IsTypedStep step.now) }
 {
     match step {
