@@ -65,3 +65,8 @@ text_or None text = text
 abbrev pub output_of : Option Asked → Answer → List ℕ
 output_of None found = text_of None found
 output_of (Some job) found = text_or (certificate_of job found) (text_of (Some job) found)
+
+-- the certificate that is written for an answer to a job, or where the arguments ask for none
+abbrev pub certificate_written : Option Asked → Answer → Option Certificate
+certificate_written None found = None
+certificate_written (Some job) found = certificate_of job found

@@ -1,11 +1,13 @@
 // Writes what is asked for of an answer, with no memory.
-ghost use Rattle.std.specs.Prelude.{◌≡◌, Some};
+ghost use Rattle.std.specs.Prelude.{◌≡◌, Some, IfSome, OnOk};
 ghost use Rattle.dsv_base.specs.Taking.{Writes};
 ghost use Rattle.dsv_command.specs.Asking.{asked_of, asked_task};
 ghost use Rattle.dsv_report.specs.Output.{job_with, hints_of, invariant_of, falls_of};
 ghost use Rattle.dsv_report.specs.Output.{certificate_for, text_or, output_of};
+ghost use Rattle.dsv_report.specs.Output.{certificate_written};
 ghost use Rattle.dsv_report.specs.Printing.{HasPlaces, asked_in};
 ghost use Rattle.dsv_report.specs.Report.{text_of};
+ghost use Rattle.dsv_certfile.specs.Typed.{IsTyped};
 ghost use Rattle.dsv_certfile.specs.declared.job.Size.TheVariants as size;
 ghost use Rattle.dsv_names.specs.declared.property.Property.TheVariants.{OfRuns, OfRoots};
 ghost use Rattle.dsv_names.specs.declared.property.RunProperty.TheVariants.{Overflow};
@@ -38,10 +40,13 @@ fn put_hints<K: Sink>(
     answer: &Answer,
 ) -> Result<(), Failed>
     requires { HasPlaces answer.now }
-    ensures { Writes (K.seen sink.old) (K.seen sink.new) result
+    ensures text { Writes (K.seen sink.old) (K.seen sink.new) result
         (text_or (hints_of (job_with job.now.design (OfRuns question.now.property)
         (size.Samples question.now.samples)) answer.now)
         (text_of (Some (asked_of job.now)) answer.now)) }
+    ensures typed { OnOk result (IfSome
+        (hints_of (job_with job.now.design (OfRuns question.now.property)
+        (size.Samples question.now.samples)) answer.now) IsTyped) }
 {
     match answer {
         Answer::Never { log } => {
@@ -56,9 +61,12 @@ fn put_hints<K: Sink>(
 /// Writes the certificate of an answer on runs of any length, or its report where it has none.
 fn put_invariant<K: Sink>(sink: &mut K, job: &Job, answer: &Answer) -> Result<(), Failed>
     requires { HasPlaces answer.now }
-    ensures { Writes (K.seen sink.old) (K.seen sink.new) result
+    ensures text { Writes (K.seen sink.old) (K.seen sink.new) result
         (text_or (invariant_of (job_with job.now.design (OfRuns Overflow) size.Unbounded)
         answer.now) (text_of (Some (asked_of job.now)) answer.now)) }
+    ensures typed { OnOk result (IfSome
+        (invariant_of (job_with job.now.design (OfRuns Overflow) size.Unbounded) answer.now)
+        IsTyped) }
 {
     match answer {
         Answer::Always { candidate, logs } => {
@@ -78,9 +86,12 @@ fn put_falls<K: Sink>(
     answer: &Answer,
 ) -> Result<(), Failed>
     requires { HasPlaces answer.now }
-    ensures { Writes (K.seen sink.old) (K.seen sink.new) result
+    ensures text { Writes (K.seen sink.old) (K.seen sink.new) result
         (text_or (falls_of (job_with job.now.design (OfRoots property) size.NoSize) answer.now)
         (text_of (Some (asked_of job.now)) answer.now)) }
+    ensures typed { OnOk result (IfSome
+        (falls_of (job_with job.now.design (OfRoots property) size.NoSize) answer.now)
+        IsTyped) }
 {
     match answer {
         Answer::Falls { offer, .. } => {
@@ -94,9 +105,11 @@ fn put_falls<K: Sink>(
 /// Writes the certificate of an answer, or its report where it has none.
 fn put_certificate<K: Sink>(sink: &mut K, job: &Job, answer: &Answer) -> Result<(), Failed>
     requires { HasPlaces answer.now }
-    ensures { Writes (K.seen sink.old) (K.seen sink.new) result
+    ensures text { Writes (K.seen sink.old) (K.seen sink.new) result
         (text_or (certificate_for job.now.design (asked_task job.now.task) answer.now)
         (text_of (Some (asked_of job.now)) answer.now)) }
+    ensures typed { OnOk result (IfSome
+        (certificate_for job.now.design (asked_task job.now.task) answer.now) IsTyped) }
 {
     match &job.task {
         Task::Search(question, _) => put_hints(sink, job, question, answer),
@@ -113,8 +126,11 @@ fn put_certificate<K: Sink>(sink: &mut K, job: &Job, answer: &Answer) -> Result<
 /// memory.
 pub fn put_output<K: Sink>(sink: &mut K, job: Option<&Job>, answer: &Answer) -> Result<(), Failed>
     requires { HasPlaces answer.now }
-    ensures { Writes (K.seen sink.old) (K.seen sink.new) result
+    ensures text { Writes (K.seen sink.old) (K.seen sink.new) result
         (output_of (asked_in job.entry) answer.now) }
+    // Of a certificate that was written whole its types are known.
+    ensures typed { OnOk result
+        (IfSome (certificate_written (asked_in job.entry) answer.now) IsTyped) }
 {
     match job {
         Some(job) if job.certified => put_certificate(sink, job, answer),
