@@ -27,6 +27,7 @@ use Rattle.dsv_reader.specs.declared.blocks.System.{System}
 use Rattle.dsv_reader.specs.declared.blocks.Implementation.{Implementation}
 use Rattle.dsv_reader.specs.declared.blocks.Blocks.{Blocks}
 use Rattle.dsv_reader.specs.Controllers.{ControllerView}
+use Rattle.dsv_reader.specs.Defaults.{default_clock, default_costs}
 use Rattle.dsv_reader.specs.Fields.{values_of}
 
 -- ---- fields that are missing
@@ -111,19 +112,18 @@ width_test int_bits frac_bits = if is_lawful int_bits.value frac_bits.value then
 abbrev pub padded_list : ℕ → List Ratio → List Ratio
 padded_list n xs = xs ++ replicate (n - length xs) zero
 
--- a sample costs 10, a product 4, a sum, a rounding and a fitting 1, and a move 2, where the file
--- doesn't say else
+-- what the file says, and the default where it doesn't
 abbrev pub costs_of : HardwareFields → Costs
 costs_of h = record {
-  sample = unwrap_or h.sample 10;
-  mul = unwrap_or h.mul 4;
-  add = unwrap_or h.add 1;
-  round = unwrap_or h.round 1;
-  fit = unwrap_or h.fit 1;
-  moves = unwrap_or h.moves 2;
+  sample = unwrap_or h.sample default_costs.sample;
+  mul = unwrap_or h.mul default_costs.mul;
+  add = unwrap_or h.add default_costs.add;
+  round = unwrap_or h.round default_costs.round;
+  fit = unwrap_or h.fit default_costs.fit;
+  moves = unwrap_or h.moves default_costs.moves;
 }
 
--- the sample time is 1 and the clock 16 MHz where the file doesn't say else
+-- the sample time is 1 where the file doesn't say else
 abbrev pub controller_with : Blocks → List Ratio → List Ratio → ControllerView
 controller_with x b a = let n = max (length b) (length a) in record {
   b = padded_list n b;
@@ -134,7 +134,7 @@ controller_with x b a = let n = max (length b) (length a) in record {
   max = x.implementation.max;
   min = x.implementation.min;
   delta = x.implementation.delta;
-  clock = unwrap_or x.hardware.clock 16000000;
+  clock = unwrap_or x.hardware.clock default_clock;
   costs = costs_of x.hardware;
 }
 

@@ -2,14 +2,19 @@
 ghost use Rattle.std.specs.Prelude.{◌≡◌, unwrap_or};
 ghost use Rattle.dsv_fraction.specs.Ratio.{one};
 ghost use Rattle.dsv_reader.specs.Controllers.{IsTime, IsClock};
+ghost use Rattle.dsv_reader.specs.Defaults.{default_clock};
 
 use crate::blocks::Blocks;
 use crate::costing::costs_of;
-use crate::costs::Costs;
+use crate::costs::{Costs, default_costs};
 use crate::dividing::padded_list;
 use crate::settings::{Clock, SampleTime};
 use dsv_fraction::{Frac, FracList};
+use dsv_word::Format;
 use std::marker::Model;
+
+/// The clock in cycles a second where the file doesn't say it: 16 MHz.
+const DEFAULT_CLOCK: u64 = 16_000_000;
 
 /// A controller as its file gives it: the transfer function (b_0 + b_1 z^-1 + ..) / (a_0 + a_1 z^-1
 /// + ..), divided by its leading denominator coefficient, with both lists padded by zeros to one
@@ -68,6 +73,7 @@ impl Controller {
     ghost use Rattle.std.specs.Prelude.{◌≡◌, ◌≤◌, length, slice_index_or, true};
     ghost use Rattle.dsv_fraction.specs.Ratio.{zero, one};
     ghost use Rattle.dsv_reader.specs.Controllers.{IsController};
+    ghost use Rattle.dsv_reader.specs.Defaults.{default_controller};
     ghost use Rattle.dsv_reader.specs.Limits.{most_coefficients};
     ghost use Rattle.dsv_reader.specs.Reading.{controller_with, is_lawful};
 
@@ -94,6 +100,35 @@ impl Controller {
             delta: implementation.delta,
             clock: clock_of(&blocks.hardware.clock),
             costs: costs_of(&blocks.hardware),
+        }
+    }
+
+    /// A controller that no file gives: one with these coefficients, the widths of this format, and
+    /// inputs from `min` to `max`. The rest is as for a file that doesn't say it: no delta, a
+    /// sample time of 1 second, a clock of 16 MHz and the default costs.
+    pub fn of_coefficients(
+        b: FracList,
+        a: FracList,
+        format: Format,
+        min: Frac,
+        max: Frac,
+    ) -> Controller
+        requires one_length { length b.items ≡ length a.items }
+        requires some { 1 ≤ length a.items }
+        requires leading { slice_index_or a.items 0 zero ≡ one }
+        ensures { result ≡ default_controller b.items a.items format min max }
+    {
+        Controller {
+            b,
+            a,
+            sample_time: Frac::from(1),
+            int_bits: format.int_bits,
+            frac_bits: format.frac_bits,
+            max,
+            min,
+            delta: None,
+            clock: DEFAULT_CLOCK,
+            costs: default_costs(),
         }
     }
 
@@ -188,11 +223,11 @@ fn sample_time_of(sample_time: &Option<SampleTime>) -> Frac
 
 /// The clock, 16 MHz where the file doesn't say else.
 fn clock_of(clock: &Option<Clock>) -> u64
-    ensures value { result ≡ unwrap_or clock.now 16000000 }
+    ensures value { result ≡ unwrap_or clock.now default_clock }
     ensures clock { IsClock result }
 {
     match clock {
         Some(clock) => clock.get(),
-        None => 16_000_000,
+        None => DEFAULT_CLOCK,
     }
 }

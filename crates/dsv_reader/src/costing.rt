@@ -4,7 +4,7 @@ ghost use Rattle.dsv_reader.specs.Controllers.{AreCosts};
 ghost use Rattle.dsv_reader.specs.Limits.{greatest_cost};
 ghost use Rattle.dsv_reader.specs.Reading.{costs_of};
 
-use crate::costs::Costs;
+use crate::costs::{Costs, default_costs};
 use crate::fields::HardwareFields;
 use crate::settings::Cost;
 
@@ -20,17 +20,18 @@ fn cost_or(cost: &Option<Cost>, default: u32) -> u32
     }
 }
 
-/// The costs of the block `hardware`, and where it doesn't say them 10, 4, 1, 1, 1 and 2.
+/// The costs of the block `hardware`, and the default ones where it doesn't say them.
 pub(crate) fn costs_of(hardware: &HardwareFields) -> Costs
     ensures value { result ≡ costs_of hardware.now }
     ensures small { AreCosts result }
 {
+    let default = default_costs();
     Costs {
-        sample: cost_or(&hardware.sample, 10),
-        mul: cost_or(&hardware.mul, 4),
-        add: cost_or(&hardware.add, 1),
-        round: cost_or(&hardware.round, 1),
-        fit: cost_or(&hardware.fit, 1),
-        moves: cost_or(&hardware.moves, 2),
+        sample: cost_or(&hardware.sample, default.sample),
+        mul: cost_or(&hardware.mul, default.mul),
+        add: cost_or(&hardware.add, default.add),
+        round: cost_or(&hardware.round, default.round),
+        fit: cost_or(&hardware.fit, default.fit),
+        moves: cost_or(&hardware.moves, default.moves),
     }
 }
