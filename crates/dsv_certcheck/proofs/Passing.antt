@@ -1,9 +1,8 @@
 -- A claim that is so passes its check.
-use Rattle.std.proofs.Common.{◌≡◌, ◌∙◌, ap, sym, ℕ, ◌+◌, ◌-◌, ◌<◌, ◌==◌, nat_le, true, not, List, [], length, None, Result, Ok, Err, if◌then◌else◌, arith}
+use Rattle.std.proofs.Common.{◌≡◌, ◌∙◌, ap, ℕ, ◌+◌, ◌-◌, ◌<◌, nat_le, true, List, length, None, Result, Ok, Err, if◌then◌else◌, arith}
 use Rattle.std.proofs.Math.IntN.{ℤ}
-use Rattle.std.proofs.lemmas.Bool.{and_from, le-leb, le-ltb, eq-eqb, eqb-true, not-false}
-use Rattle.dsv_algebra.specs.Vectors.{vector_of, matrix_of}
-use Rattle.dsv_algebra.specs.Companion.{fall_entry}
+use Rattle.std.proofs.lemmas.Bool.{and_from, le-leb, le-ltb, eq-eqb}
+use Rattle.dsv_algebra.specs.Vectors.{vector_of}
 use Rattle.dsv_text.specs.Stages.{◌>>=◌}
 use Rattle.dsv_names.specs.declared.property.Property.TheVariants as property
 use Rattle.dsv_names.specs.declared.property.RunProperty.{RunProperty}
@@ -17,12 +16,9 @@ use Rattle.dsv_hints.specs.declared.step.Verdict.TheVariants as verdict
 use Rattle.dsv_unroll.specs.Goals.{most_size}
 use Rattle.dsv_bounded.specs.Formulas.{job_size_of}
 use Rattle.dsv_bounded.specs.RunQuestions.{question_formula, IsWithin}
-use Rattle.dsv_forms.specs.Refusals.{first_of, is_symmetric, bad_form, form_tests, fall_numbers, definite_tests, falls_refusal}
+use Rattle.dsv_forms.specs.Refusals.{falls_refusal}
 use Rattle.dsv_forms.specs.declared.offers.Falls.{Falls}
-use Rattle.dsv_forms.specs.declared.refusal.FormRefusal.TheVariants as form_refusal
-use Rattle.dsv_forms.specs.declared.refusal.Part.TheVariants as form_part
-use Rattle.dsv_forms.proofs.OfferLemmas.{falls_parts}
-use Rattle.dsv_forms.proofs.Places.{or_else, neither, neither_test, passes}
+use Rattle.dsv_forms.proofs.OfferLemmas.{falls_passes}
 use Rattle.dsv_tested.specs.Tested.{tested_of}
 use Rattle.dsv_tested.specs.declared.side.Tested.{Tested}
 use Rattle.dsv_tested.specs.declared.side.Tested.TheVariants as tested
@@ -73,19 +69,9 @@ invariant_passes q conflicts candidate logs w shaped good =
     ∙ log_passes (set_formula_of q candidate part.Safe) (log_line part.Safe candidate logs) logs.safe good.safe.accepted
 
 -- ---- a form that falls
--- an offer that is accepted has the polynomial's order
-same_order : (c : List ℤ) (offer : Falls) → falls_refusal c offer ≡ None → offer.form.d ≡ length c - 1
-same_order c offer e =
-    let d = length c - 1 in
-    let P = matrix_of offer.form.rows in
-    let after = or_else (first_of (definite_tests form_part.Positive d offer.positive P (λ i j. []))) (first_of (definite_tests form_part.Fall d offer.fall (fall_entry d (vector_of c) P) (fall_numbers d (vector_of c) P))) in
-    let none = neither (first_of (form_tests d offer.form)) after (sym (falls_parts d (vector_of c) offer) ∙ e) in
-    let right = neither_test (not (offer.form.d == d)) (not (is_symmetric d P)) (passes (bad_form d offer.form) (form_refusal.Shape form_part.Form) none.0) in
-    eqb-true offer.form.d d (not-false (offer.form.d == d) right.0)
-
 offer_passes : (c : List ℤ) (offer : Falls) → 0 < length c → falls_refusal c offer ≡ None → offer_check c offer ≡ Ok tt
 offer_passes c offer some e =
-    ap (λ b. if b then refusal_check offer (falls_refusal c offer) else misfit) (eq-eqb (offer.form.d + 1) (length c) (let o = same_order c offer e in omega (arith, some, o)))
+    ap (λ b. if b then refusal_check offer (falls_refusal c offer) else misfit) (eq-eqb (offer.form.d + 1) (length c) (let o = (falls_passes (length c - 1) (vector_of c) offer e).places in omega (arith, some, o)))
     ∙ ap (refusal_check offer) e
 
 pub falls_pass : (q : FixedPoint) (p : RootProperty) (c : List ℤ) (offer : Falls) → tested_of q (side_of p) ≡ Ok (tested.Poly c) → falls_refusal c offer ≡ None
