@@ -1,0 +1,5 @@
+pub mod Formats
+pub mod Words
+pub mod Polynomials
+pub mod Sums
+pub mod Turns

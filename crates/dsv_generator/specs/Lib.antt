@@ -1,0 +1,5 @@
+pub mod Draws
+pub mod Controllers
+pub mod Findings
+pub mod Small
+pub mod Tallies

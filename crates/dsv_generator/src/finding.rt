@@ -1,0 +1,132 @@
+// What is found of a generated controller.
+ghost use Rattle.std.specs.Prelude.{◌≡◌, IfOk};
+ghost use Rattle.dsv_tested.specs.declared.side.Tested.TheVariants as tested;
+ghost use Rattle.dsv_generator.specs.Findings.{ShowsRoots, IsOfRoots, IsOfRuns, IsFinding};
+ghost use Rattle.dsv_generator.specs.Small.{IsSmall, IsClosed};
+ghost use Rattle.dsv_generator.specs.Tallies.{does_fall, is_never, is_overflow, is_spent};
+
+use crate::generator::{CONFLICTS, SAMPLES};
+use dsv_base::NoMemory;
+use dsv_bounded::{BoundedAnswer, BoundedRefusal, overflow};
+use dsv_closed_forms::closed_form;
+use dsv_forms::Poly;
+use dsv_hints::Log;
+use dsv_lyapunov::{CheckedForm, check_offer};
+use dsv_meaning::Trace;
+use dsv_quantiser::Quantised;
+use dsv_tested::{Side, Tested, tested};
+use std::alloc::Global;
+
+/// What is found of the roots of a side.
+#[derive(Clone, Copy, Debug, PartialEq, Eq)]
+pub enum RootFinding {
+    /// The closed form falls along every trajectory.
+    Falls,
+    /// The closed form is kept away from 0.
+    KeptAway,
+    /// All coefficients of the side are 0.
+    NoZeros,
+}
+
+impl RootFinding {
+    pub(crate) fn does_fall(self) -> bool
+        ensures { result ≡ does_fall self }
+    {
+        match self {
+            RootFinding::Falls => true,
+            RootFinding::KeptAway | RootFinding::NoZeros => false,
+        }
+    }
+}
+
+/// What is found of the overflow of runs.
+#[derive(Drop)]
+pub enum RunFinding {
+    /// No inputs overflow: the log derives the empty clause from the formula.
+    Never(Log),
+    /// An overflow.
+    Overflow(Trace),
+    /// The search gave up: the clauses that it learned.
+    Spent(Log),
+}
+
+impl RunFinding {
+    pub(crate) fn is_never(&self) -> bool
+        ensures { result ≡ is_never self.now }
+    {
+        matches!(self, RunFinding::Never(_))
+    }
+
+    pub(crate) fn is_overflow(&self) -> bool
+        ensures { result ≡ is_overflow self.now }
+    {
+        matches!(self, RunFinding::Overflow(_))
+    }
+
+    pub(crate) fn is_spent(&self) -> bool
+        ensures { result ≡ is_spent self.now }
+    {
+        matches!(self, RunFinding::Spent(_))
+    }
+}
+
+/// What is found of a controller.
+#[derive(Drop)]
+pub struct Finding {
+    pub stability: RootFinding,
+    pub minimum_phase: RootFinding,
+    pub overflow: RunFinding,
+}
+
+/// What the closed form of a polynomial shows.
+fn form_finding(poly: &Poly) -> RootFinding
+    requires { IsClosed (tested.Poly poly.now) }
+    ensures { ShowsRoots poly.now result }
+{
+    let Some(offer) = closed_form(poly) else {
+        unreachable!()
+    };
+    match check_offer(poly, &offer) {
+        Ok(CheckedForm::Falls { .. }) => RootFinding::Falls,
+        Ok(CheckedForm::KeptAway { .. }) => RootFinding::KeptAway,
+        Err(_) => unreachable!(),
+    }
+}
+
+/// What is found of the roots of a side.
+fn root_finding(words: &Quantised, side: Side) -> RootFinding
+    requires { IsSmall words.now }
+    ensures { IsOfRoots words.now side result }
+{
+    match tested(words, side) {
+        Ok(Tested::Poly(poly)) => form_finding(&poly),
+        Ok(Tested::NoZeros) => RootFinding::NoZeros,
+        Err(_) => unreachable!(),
+    }
+}
+
+/// What is found of the overflow of runs over so many samples.
+fn run_finding(alloc: Global, words: &Quantised) -> Result<RunFinding, NoMemory>
+    requires { IsSmall words.now }
+    ensures { IfOk result (IsOfRuns words.now) }
+{
+    match overflow(alloc, words, SAMPLES, CONFLICTS) {
+        Ok(BoundedAnswer::Never(log)) => Ok(RunFinding::Never(log)),
+        Ok(BoundedAnswer::Overflow(trace)) => Ok(RunFinding::Overflow(trace)),
+        Ok(BoundedAnswer::Spent(log)) => Ok(RunFinding::Spent(log)),
+        Ok(BoundedAnswer::Cycles(_)) | Err(BoundedRefusal::JobSize { .. }) => unreachable!(),
+        Err(BoundedRefusal::NoMemory) => Err(NoMemory),
+    }
+}
+
+/// What is found of a controller in words.
+pub(crate) fn finding_of(alloc: Global, words: &Quantised) -> Result<Finding, NoMemory>
+    requires { IsSmall words.now }
+    ensures { IfOk result (IsFinding words.now) }
+{
+    Ok(Finding {
+        stability: root_finding(words, Side::Denominator),
+        minimum_phase: root_finding(words, Side::Numerator),
+        overflow: run_finding(alloc, words)?,
+    })
+}

@@ -1,0 +1,15 @@
+//! Generated controllers: second-order controllers with pseudo-random coefficients, what is found of
+//! each, and how many there are of each finding.
+#![tactic(auto, using(dsv_algebra::proofs::Casts::casts))]
+
+mod controllers;
+mod draws;
+mod finding;
+mod generator;
+mod tally;
+#[cfg(test)]
+mod tests;
+
+pub use finding::{Finding, RootFinding, RunFinding};
+pub use generator::{CONFLICTS, SAMPLES, generate};
+pub use tally::{Generated, SpentLog, SpentLogs, Tally};
