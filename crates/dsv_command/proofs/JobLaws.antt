@@ -20,21 +20,18 @@ use Rattle.dsv_command.specs.declared.job.Design.{Design}
 use Rattle.dsv_command.specs.declared.limits.TheConstants.{MOST_NUMBER_DIGITS, MOST_SAMPLES, DEFAULT_SAMPLES, MOST_CONFLICTS, DEFAULT_CONFLICTS}
 use Rattle.dsv_text.specs.Digits.{short_number}
 use Rattle.dsv_command.specs.Inputs.{inputs_of}
-use Rattle.dsv_command.specs.Jobs.{Task, decides, checks_time, writes, searches, seeks_set, simulates, checks, Asked, ◌>>=◌, choice_or, design_of, is_given, has_run_option, is_certified, has_verdict_option, has_design_option, number_up_to, samples_of, conflicts_of, formula_task, run_task, unbounded_task, property_task, named_task, check_task, task_by, task_of, job_of_parts, job_of}
-use Rattle.dsv_command.specs.Options.{command_options}
+use Rattle.dsv_command.specs.Jobs.{Task, decides, checks_time, writes, searches, seeks_set, simulates, checks, Asked, ◌>>=◌, choice_or, design_of, is_given, has_run_option, is_certified, has_verdict_option, has_design_option, number_up_to, samples_of, conflicts_of, run_task, unbounded_task, property_task, task_by, task_of, job_of_parts}
 use Rattle.dsv_command.specs.Parts.{PartView, file_of, value_of, has_empty}
-use Rattle.dsv_command.specs.Reading.{parts_of}
-use Rattle.dsv_command.specs.Rules.{IsTask, GivesProperty, HasNoRunOption, HasNoVerdictOption, HasNoDesignOption, IsNumberUpTo, IsNumber, IsChosen, IsDesign, IsJobOf, IsJobLine}
+use Rattle.dsv_command.specs.Rules.{IsTask, GivesProperty, HasNoRunOption, HasNoVerdictOption, HasNoDesignOption, IsNumberUpTo, IsNumber, IsChosen, IsDesign, IsJobOf}
 use Rattle.dsv_command.proofs.InputLaws.{inputs_read, inputs_found}
-use Rattle.dsv_command.proofs.PartLaws.{given_is_read, read_is_given}
 
-record Bound {A B : Type 0} (r : Option A) (f : A → Option B) (y : B) : Type 0 where
+pub record Bound {A B : Type 0} (r : Option A) (f : A → Option B) (y : B) : Type 0 where
   pub value : A
   pub first : r ≡ Some value
   pub second : f value ≡ Some y
 
 -- what came from two steps came from both
-unbind : {A B : Type 0} (r : Option A) (f : A → Option B) (y : B) → (r >>= f) ≡ Some y → Bound r f y
+pub unbind : {A B : Type 0} (r : Option A) (f : A → Option B) (y : B) → (r >>= f) ≡ Some y → Bound r f y
 unbind (Some x) f y e = record { value = x; first = refl; second = e }
 unbind None f y e = absurd (cc)
 
@@ -53,17 +50,17 @@ design_read parts d h =
 none_given : (parts : List PartView) → HasNoRunOption parts → has_run_option parts ≡ false
 none_given parts h = rw (h.samples, h.unbounded, h.conflicts, h.formula) refl
 
-no_verdict_given : (parts : List PartView) → HasNoVerdictOption parts → has_verdict_option parts ≡ false
+pub no_verdict_given : (parts : List PartView) → HasNoVerdictOption parts → has_verdict_option parts ≡ false
 no_verdict_given parts h = rw (none_given parts h.runs, h.certificate) refl
 
-no_design_given : (parts : List PartView) → HasNoDesignOption parts → has_design_option parts ≡ false
+pub no_design_given : (parts : List PartView) → HasNoDesignOption parts → has_design_option parts ≡ false
 no_design_given parts h = rw (h.realisation, h.rounding, h.overflow) refl
 
 -- a number within the limit
 within_read : (n limit : ℕ) → 1 ≤ n → n ≤ limit → (if nat_le 1 n && nat_le n limit then Some n else None) ≡ Some n
 within_read n limit some few = rw (le-leb 1 n some, le-leb n limit few) refl
 
-number_read : (limit default n : ℕ) (text : Option (List ℕ)) → IsNumber limit default text n → choice_or (number_up_to limit) default text ≡ Some n
+pub number_read : (limit default n : ℕ) (text : Option (List ℕ)) → IsNumber limit default text n → choice_or (number_up_to limit) default text ≡ Some n
 number_read limit default n None h = ap Some (sym h)
 number_read limit default n (Some text) h = ap (λ x. x >>= λ m. (if nat_le 1 m && nat_le m limit then Some m else None)) h.number ∙ within_read n limit h.some h.few
 
@@ -88,12 +85,8 @@ task_read parts t (IsTask.simulation ps text inputs e h f d none) =
     rw (f, e, d) (rw (no_verdict_given ps none) (ap (λ x. x >>= λ found. Some (simulates found)) (inputs_read text inputs h)))
 task_read parts t (IsTask.check ps name e f d none plain) = rw (f, d, e) (rw (no_verdict_given ps none, no_design_given ps plain) refl)
 
-parts_ask : (parts : List PartView) (asked : Asked) → IsJobOf parts asked → job_of_parts parts ≡ Some asked
+pub parts_ask : (parts : List PartView) (asked : Asked) → IsJobOf parts asked → job_of_parts parts ≡ Some asked
 parts_ask parts asked h = rw (h.filled, h.file) (rw (task_read parts asked.task h.task) (rw (design_read parts asked.design h.design) (rw (sym h.certified) refl)))
-
-pub rules_ask : (arguments : List (List ℕ)) (asked : Asked) → IsJobLine arguments asked → job_of arguments ≡ Some asked
-unfolding job_of
-rules_ask arguments asked h = rw (given_is_read command_options arguments h.parts h.give) (parts_ask h.parts asked h.job)
 
 -- ---- from the job to the rules
 chosen_found : {A : Type 0} (name : A → List ℕ) (values : List A) (default : A) (x : Option (List ℕ)) (v : A) → AreNames name values → choice_or (value_named name values) default x ≡ Some v → IsChosen name default x v
@@ -121,7 +114,7 @@ within_by limit n m true true e f text h k =
 within_by limit n m true false e f text h k = absurd (cc)
 within_by limit n m false few e f text h k = absurd (cc)
 
-number_found : (limit default n : ℕ) (text : Option (List ℕ)) → choice_or (number_up_to limit) default text ≡ Some n → IsNumber limit default text n
+pub number_found : (limit default n : ℕ) (text : Option (List ℕ)) → choice_or (number_up_to limit) default text ≡ Some n → IsNumber limit default text n
 number_found limit default n None h = cc
 number_found limit default n (Some text) h =
     let b = unbind (short_number MOST_NUMBER_DIGITS text) (λ m. (if nat_le 1 m && nat_le m limit then Some m else None)) n h in
@@ -145,7 +138,7 @@ no_verdict_by parts false false r c h = record { runs = none_found parts r; cert
 no_verdict_by parts true c r e h = absurd (let k : true ≡ false = sym (rw r refl) ∙ h in cc)
 no_verdict_by parts false true r c h = absurd (let k : true ≡ false = sym (rw (r, c) refl) ∙ h in cc)
 
-no_verdict_found : (parts : List PartView) → has_verdict_option parts ≡ false → HasNoVerdictOption parts
+pub no_verdict_found : (parts : List PartView) → has_verdict_option parts ≡ false → HasNoVerdictOption parts
 no_verdict_found parts = no_verdict_by parts (has_run_option parts) (is_certified parts) refl refl
 
 no_design_by : (parts : List PartView) (r o m : Bool) → is_given parts (codes "realization") ≡ r → is_given parts (codes "rounding") ≡ o → is_given parts (codes "overflow-mode") ≡ m → has_design_option parts ≡ false → HasNoDesignOption parts
@@ -154,7 +147,7 @@ no_design_by parts true o m r d e h = absurd (let k : true ≡ false = sym (rw r
 no_design_by parts false true m r d e h = absurd (let k : true ≡ false = sym (rw (r, d) refl) ∙ h in cc)
 no_design_by parts false false true r d e h = absurd (let k : true ≡ false = sym (rw (r, d, e) refl) ∙ h in cc)
 
-no_design_found : (parts : List PartView) → has_design_option parts ≡ false → HasNoDesignOption parts
+pub no_design_found : (parts : List PartView) → has_design_option parts ≡ false → HasNoDesignOption parts
 no_design_found parts = no_design_by parts (is_given parts (codes "realization")) (is_given parts (codes "rounding")) (is_given parts (codes "overflow-mode")) refl refl refl
 
 -- the task of a question
@@ -262,13 +255,5 @@ job_by parts asked false e h =
       certified = refl;
     })
 
-line_by : (arguments : List (List ℕ)) (asked : Asked) → Bound (parts_of command_options arguments) job_of_parts asked → IsJobLine arguments asked
-line_by arguments asked b = record {
-  parts = b.value;
-  give = read_is_given command_options arguments b.value b.first;
-  job = job_by b.value asked (has_empty b.value) refl b.second;
-}
-
-pub asked_by_rules : (arguments : List (List ℕ)) (asked : Asked) → job_of arguments ≡ Some asked → IsJobLine arguments asked
-unfolding job_of
-asked_by_rules arguments asked h = line_by arguments asked (unbind (parts_of command_options arguments) job_of_parts asked h)
+pub job_found : (parts : List PartView) (asked : Asked) → job_of_parts parts ≡ Some asked → IsJobOf parts asked
+job_found parts asked h = job_by parts asked (has_empty parts) refl h

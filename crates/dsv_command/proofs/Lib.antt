@@ -11,4 +11,5 @@ pub mod InputLaws
 pub mod InputLemmas
 pub mod JobLaws
 pub mod PartLaws
+pub mod RequestLaws
 pub mod ShapeLaws

@@ -1,8 +1,12 @@
--- What contracts see of a job.
+-- What contracts see of a job and of a request.
 use Rattle.dsv_command.specs.Jobs.{Asked, decides, checks_time, writes, searches, seeks_set}
 use Rattle.dsv_command.specs.Jobs.{simulates, checks}
 use Rattle.dsv_command.specs.Jobs as jobs
+use Rattle.dsv_command.specs.Requests as requests
+use Rattle.dsv_command.specs.Requests.{on_file, generates}
 use Rattle.dsv_command.specs.declared.job.Job.{Job}
+use Rattle.dsv_command.specs.declared.request.Request.{Request}
+use Rattle.dsv_command.specs.declared.request.Request.TheVariants.{OnFile, Generate}
 use Rattle.dsv_command.specs.declared.task.Task.{Task}
 use Rattle.dsv_command.specs.declared.task.Task.TheVariants.{Decide, CheckTime}
 use Rattle.dsv_command.specs.declared.task.Task.TheVariants.{WriteFormula, Search, SeekSet}
@@ -25,3 +29,7 @@ asked_of job = record {
   design = job.design;
   certified = job.certified;
 }
+
+abbrev pub requested_of : Request → requests.Request
+requested_of (OnFile job) = on_file (asked_of job)
+requested_of (Generate g) = generates g.seed g.count

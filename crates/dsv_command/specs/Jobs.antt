@@ -1,4 +1,4 @@
--- The job that the arguments ask for.
+-- The job for the controller in a file that parts ask for.
 use Rattle.std.specs.Prelude.{ℕ, ◌&&◌, ◌||◌, nat_le, Bool, List, [], ◌∷◌, Option, Some, None, codes}
 use Rattle.std.specs.Prelude.{if◌then◌else◌, option_and_then, ℤ}
 use Rattle.std.specs.List.{list_any}
@@ -21,9 +21,7 @@ use Rattle.dsv_names.specs.Properties.{property_name, properties}
 use Rattle.dsv_names.specs.Realisations.{realisation_name, realisations}
 use Rattle.dsv_names.specs.Roundings.{rounding_name, roundings}
 use Rattle.dsv_command.specs.Inputs.{inputs_of}
-use Rattle.dsv_command.specs.Options.{command_options}
 use Rattle.dsv_command.specs.Parts.{PartView, for_option, has_key, file_of, value_of, has_empty}
-use Rattle.dsv_command.specs.Reading.{parts_of}
 
 -- what is to be done with a controller
 pub data Task : Type 0 where
@@ -172,7 +170,3 @@ job_of_parts parts = if has_empty parts then None else
     task_of parts >>= λ task.
     design_of parts >>= λ design.
     Some (record { file = file; task = task; design = design; certified = is_certified parts }))
-
--- the job of a list of arguments, or none
-unfoldable pub job_of : List (List ℕ) → Option Asked
-job_of arguments = parts_of command_options arguments >>= job_of_parts

@@ -6,6 +6,7 @@ pub mod Jobs
 pub mod Options
 pub mod Parts
 pub mod Reading
+pub mod Requests
 pub mod Rules
 pub mod Shapes
 pub mod Views

@@ -14,4 +14,6 @@ command_options =
     (codes "simulate", true) ∷
     (codes "realization", true) ∷
     (codes "rounding", true) ∷
-    (codes "overflow-mode", true) ∷ []
+    (codes "overflow-mode", true) ∷
+    (codes "generate", true) ∷
+    (codes "count", true) ∷ []

@@ -1,6 +1,6 @@
 -- The rules of the command, on whole lists of arguments, apart from how they are read.
 use Rattle.std.specs.Prelude.{◌≡◌, ◌⊎◌, ℕ, Bool, true, false, List, [], ◌∷◌, ◌++◌}
-use Rattle.std.specs.Prelude.{length, Option, Some, None, map, codes, ◌≤◌, ℤ, pos}
+use Rattle.std.specs.Prelude.{length, Option, Some, None, map, codes, ◌≤◌, ◌<◌, ◌^◌, ℤ, pos}
 use Rattle.std.specs.List.{list_any}
 use Rattle.std.specs.Map.{lookup}
 use Rattle.std.specs.Str.{bytes_eq}
@@ -26,9 +26,11 @@ use Rattle.dsv_command.specs.Jobs.{seeks_set, checks, Asked, is_given}
 use Rattle.dsv_command.specs.declared.limits.TheConstants.{MOST_NUMBER_DIGITS, MOST_SAMPLES}
 use Rattle.dsv_command.specs.declared.limits.TheConstants.{DEFAULT_SAMPLES, MOST_CONFLICTS}
 use Rattle.dsv_command.specs.declared.limits.TheConstants.{DEFAULT_CONFLICTS}
+use Rattle.dsv_command.specs.declared.limits.TheConstants.{MOST_CONTROLLERS, DEFAULT_CONTROLLERS}
 use Rattle.dsv_command.specs.Options.{command_options}
 use Rattle.dsv_command.specs.Parts.{PartView, file, flag, choice, key_of}
 use Rattle.dsv_command.specs.Parts.{has_key, file_of, value_of, has_empty}
+use Rattle.dsv_command.specs.Requests.{Request, on_file, generates}
 use Rattle.dsv_command.specs.Shapes.{dash, is_equals}
 
 -- ---- arguments and the parts that they give
@@ -209,8 +211,50 @@ pub record IsJobOf (parts : List PartView) (asked : Asked) : Type 0 where
   pub design : IsDesign parts asked.design
   pub certified : asked.certified ≡ is_given parts (codes "certificate")
 
--- the job that a command line asks for
-pub record IsJobLine (arguments : List (List ℕ)) (asked : Asked) : Type 0 where
+-- ---- requests
+
+-- a seed of 1 to 10 digits, below 2^32
+pub record IsSeed (text : List ℕ) (seed : ℕ) : Type 0 where
+  pub number : short_number MOST_NUMBER_DIGITS text ≡ Some seed
+  pub small : seed < 2 ^ 32
+
+-- the number of controllers, 1 to 1000 or 40
+abbrev pub IsCount : List PartView → ℕ → Type 0
+IsCount parts n =
+    IsNumber MOST_CONTROLLERS DEFAULT_CONTROLLERS (value_of (codes "count") parts) n
+
+-- none of the options of jobs is given
+pub record HasNoJobOption (parts : List PartView) : Type 0 where
+  pub property : is_given parts (codes "property") ≡ false
+  pub inputs : is_given parts (codes "simulate") ≡ false
+  pub certificate : is_given parts (codes "check") ≡ false
+  pub verdict : HasNoVerdictOption parts
+  pub design : HasNoDesignOption parts
+
+-- A seed is given, and a number of controllers or none, and nothing else: no FILE, and no option of
+-- jobs.
+pub record IsGenerationOf (parts : List PartView) (seed count : ℕ) : Type 0 where
+  pub text : List ℕ
+  pub given : value_of (codes "generate") parts ≡ Some text
+  pub filled : has_empty parts ≡ false
+  pub is_seed : IsSeed text seed
+  pub is_count : IsCount parts count
+  pub no_file : file_of parts ≡ None
+  pub no_option : HasNoJobOption parts
+
+-- The job of these parts, with neither a seed nor a number of controllers.
+pub record IsJobAlone (parts : List PartView) (asked : Asked) : Type 0 where
+  pub job : IsJobOf parts asked
+  pub no_seed : value_of (codes "generate") parts ≡ None
+  pub no_count : value_of (codes "count") parts ≡ None
+
+-- what these parts ask for
+abbrev pub IsRequestOf : List PartView → Request → Type 0
+IsRequestOf parts (on_file asked) = IsJobAlone parts asked
+IsRequestOf parts (generates seed count) = IsGenerationOf parts seed count
+
+-- what a command line asks for
+pub record IsRequestLine (arguments : List (List ℕ)) (request : Request) : Type 0 where
   pub parts : List PartView
   pub give : Give command_options arguments parts
-  pub job : IsJobOf parts asked
+  pub request_of_parts : IsRequestOf parts request

@@ -1,13 +1,11 @@
-// The job that the arguments ask for.
-ghost use Rattle.std.specs.Prelude.{◌≡◌, map, string_bytes, option_map, IfOk};
-ghost use Rattle.dsv_command.specs.Jobs.{job_of, job_of_parts, design_of};
+// A job for the controller in a file.
+ghost use Rattle.std.specs.Prelude.{◌≡◌, option_map};
+ghost use Rattle.dsv_command.specs.Jobs.{job_of_parts, design_of};
 ghost use Rattle.dsv_command.specs.Asking.{asked_of};
 
-use crate::reading::{Arguments, read_arguments};
+use crate::reading::Arguments;
 use crate::task::{Task, find_task, is_certified};
-use dsv_base::NoMemory;
 use dsv_names::{OverflowMode, Realisation, Rounding, find_named};
-use std::alloc::Global;
 
 /// How a controller is realised: the structure of its realisation, and how its sums become words.
 #[derive(Clone, Copy, Debug, PartialEq, Eq)]
@@ -52,7 +50,7 @@ fn find_design(arguments: &Arguments) -> Option<Design>
 }
 
 /// The job of what is given.
-fn find_job<'a>(arguments: &Arguments<'a>) -> Option<Job<'a>>
+pub(crate) fn find_job<'a>(arguments: &Arguments<'a>) -> Option<Job<'a>>
     ensures { option_map asked_of result ≡ job_of_parts arguments.now }
 {
     let file = arguments.file()?;
@@ -64,16 +62,4 @@ fn find_job<'a>(arguments: &Arguments<'a>) -> Option<Job<'a>>
         design,
         certified: is_certified(arguments),
     })
-}
-
-/// The job that the arguments after the program's name ask for; `None` where they are no job.
-#[tactic(auto, unfolding(crate::specs::Jobs::job_of))]
-pub fn read_job<'a>(alloc: Global, arguments: &'a [String]) -> Result<Option<Job<'a>>, NoMemory>
-    ensures { IfOk result (λ job. option_map asked_of job
-        ≡ job_of (map string_bytes arguments.entry.now)) }
-{
-    let Some(arguments) = read_arguments(alloc, arguments)? else {
-        return Ok(None);
-    };
-    Ok(find_job(&arguments))
 }

@@ -1,6 +1,7 @@
-//! The command line: the arguments are read by clap, and what they give is the job.
+//! The command line: the arguments are read by clap, and what they give is the request.
 #![tactic(auto)]
 
+mod generation;
 mod inputs;
 mod job;
 mod law;
@@ -8,11 +9,14 @@ mod limits;
 mod options;
 mod question;
 mod reading;
+mod request;
 mod task;
 
+pub use generation::Generation;
 pub use inputs::{Inputs, MOST_INPUTS};
-pub use job::{Design, Job, read_job};
-pub use law::{jobs_are_read, parts_are_read};
-pub use limits::{MOST_CONFLICTS, MOST_SAMPLES};
+pub use job::{Design, Job};
+pub use law::{parts_are_read, requests_are_read};
+pub use limits::{MOST_CONFLICTS, MOST_CONTROLLERS, MOST_SAMPLES};
 pub use question::{Budget, RunQuestion};
+pub use request::{Request, read_request};
 pub use task::Task;

@@ -10,5 +10,10 @@ pub const MOST_CONFLICTS: u32 = 200_000;
 
 pub(crate) const DEFAULT_CONFLICTS: u32 = 50_000;
 
+/// The most controllers that are generated, and how many where no number is given.
+pub const MOST_CONTROLLERS: u32 = 1_000;
+
+pub(crate) const DEFAULT_CONTROLLERS: u32 = 40;
+
 /// The most digits of an option's number.
 pub(crate) const MOST_NUMBER_DIGITS: usize = 10;

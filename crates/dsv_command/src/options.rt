@@ -13,8 +13,8 @@ pub struct CommandOption {
 }
 
 /// The options that the command has. One more stands here and in `specs/Options.antt`; what it asks
-/// for, in the job.
-const OPTIONS: [CommandOption; 11] = [
+/// for, in the job or the request.
+const OPTIONS: [CommandOption; 13] = [
     CommandOption {
         name: "property",
         takes_value: true,
@@ -57,6 +57,14 @@ const OPTIONS: [CommandOption; 11] = [
     },
     CommandOption {
         name: "overflow-mode",
+        takes_value: true,
+    },
+    CommandOption {
+        name: "generate",
+        takes_value: true,
+    },
+    CommandOption {
+        name: "count",
         takes_value: true,
     },
 ];

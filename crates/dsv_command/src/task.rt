@@ -54,14 +54,14 @@ pub(crate) fn is_certified(arguments: &Arguments) -> bool
 }
 
 /// Whether an option of properties other than timing is given.
-fn has_verdict_option(arguments: &Arguments) -> bool
+pub(crate) fn has_verdict_option(arguments: &Arguments) -> bool
     ensures { result ≡ has_verdict_option arguments.now }
 {
     has_run_option(arguments) || is_certified(arguments)
 }
 
 /// Whether an option of how a controller is realised is given.
-fn has_design_option(arguments: &Arguments) -> bool
+pub(crate) fn has_design_option(arguments: &Arguments) -> bool
     ensures { result ≡ has_design_option arguments.now }
 {
     arguments.is_given("realization")
@@ -70,7 +70,7 @@ fn has_design_option(arguments: &Arguments) -> bool
 }
 
 /// The number of a text of 1 to 10 digits, where it is from 1 to a limit.
-fn number_up_to(limit: u32, text: &str) -> Option<u32>
+pub(crate) fn number_up_to(limit: u32, text: &str) -> Option<u32>
     ensures number { result ≡ number_up_to limit text.now }
     ensures within { IfSome result (λ n. (1 ≤ n) × (n ≤ limit)) }
 {

@@ -1,7 +1,7 @@
 // The rules of the command, by lists of arguments with what is wanted of each. A text is the list
 // of what stands between its bars.
 use dsv_base::NoMemory;
-use dsv_command::{Design, Task, read_job};
+use dsv_command::{Design, Request, Task, read_request};
 use dsv_names::{OverflowMode, Realisation, RootProperty, Rounding, RunProperty};
 use std::alloc::Global;
 use std::test::Fail;
@@ -71,13 +71,13 @@ const DECISIONS: [Decision; 11] = [
 fn asks_for_decision(alloc: Global, row: &Decision) -> Result<bool, NoMemory> {
     let Decision(text, file, design) = row;
     let arguments = arguments_of(alloc, text)?;
-    Ok(match read_job(alloc, &arguments)? {
-        Some(job) => {
+    Ok(match read_request(alloc, &arguments)? {
+        Some(Request::OnFile(job)) => {
             job.file == *file
                 && matches!(job.task, Task::Decide(RootProperty::Stability))
                 && job.design == *design
         }
-        None => false,
+        _ => false,
     })
 }
 
@@ -120,12 +120,12 @@ const SIMULATIONS: [Simulation; 5] = [
 
 fn asks_for_simulation(alloc: Global, row: &Simulation) -> Result<bool, NoMemory> {
     let arguments = arguments_of(alloc, row.text)?;
-    Ok(match read_job(alloc, &arguments)? {
-        Some(job) => match &job.task {
+    Ok(match read_request(alloc, &arguments)? {
+        Some(Request::OnFile(job)) => match &job.task {
             Task::Simulate(found) => found.as_slice() == row.inputs,
             _ => false,
         },
-        None => false,
+        _ => false,
     })
 }
 
@@ -234,9 +234,9 @@ fn asks_what(task: &Task, wanted: &Question) -> bool {
 
 fn asks_question(alloc: Global, row: &Question) -> Result<bool, NoMemory> {
     let arguments = arguments_of(alloc, row.0)?;
-    Ok(match read_job(alloc, &arguments)? {
-        Some(job) => asks_what(&job.task, row),
-        None => false,
+    Ok(match read_request(alloc, &arguments)? {
+        Some(Request::OnFile(job)) => asks_what(&job.task, row),
+        _ => false,
     })
 }
 
@@ -266,9 +266,10 @@ const UNBOUNDED: [Unbounded; 4] = [
 
 fn seeks_set(alloc: Global, row: &Unbounded) -> Result<bool, NoMemory> {
     let arguments = arguments_of(alloc, row.0)?;
-    Ok(match read_job(alloc, &arguments)? {
-        Some(job) => matches!(&job.task, Task::SeekSet(budget) if budget.conflicts == row.1),
-        None => false,
+    Ok(match read_request(alloc, &arguments)? {
+        Some(Request::OnFile(job)) =>
+            matches!(&job.task, Task::SeekSet(budget) if budget.conflicts == row.1),
+        _ => false,
     })
 }
 
@@ -292,9 +293,9 @@ const CHECKS: [Check; 4] = [
 
 fn asks_for_check(alloc: Global, row: &Check) -> Result<bool, NoMemory> {
     let arguments = arguments_of(alloc, row.0)?;
-    Ok(match read_job(alloc, &arguments)? {
-        Some(job) => matches!(job.task, Task::Check(name) if name == row.1),
-        None => false,
+    Ok(match read_request(alloc, &arguments)? {
+        Some(Request::OnFile(job)) => matches!(job.task, Task::Check(name) if name == row.1),
+        _ => false,
     })
 }
 
@@ -307,9 +308,9 @@ fn a_certificate_is_checked_by_its_name(rt: HostRuntime) {
 
 fn is_certified(alloc: Global, text: &str) -> Result<bool, NoMemory> {
     let arguments = arguments_of(alloc, text)?;
-    Ok(match read_job(alloc, &arguments)? {
-        Some(job) => job.certified,
-        None => false,
+    Ok(match read_request(alloc, &arguments)? {
+        Some(Request::OnFile(job)) => job.certified,
+        _ => false,
     })
 }
 
@@ -358,9 +359,111 @@ fn a_check_goes_with_a_file_alone(rt: HostRuntime) {
     }
 }
 
+/// Arguments that ask for generated controllers.
+#[derive(Clone, Copy)]
+struct Generated {
+    text: &'static str,
+    seed: u32,
+    count: u32,
+}
+
+const GENERATED: [Generated; 8] = [
+    Generated {
+        text: "--generate|1",
+        seed: 1,
+        count: 40,
+    },
+    Generated {
+        text: "--generate=0",
+        seed: 0,
+        count: 40,
+    },
+    Generated {
+        text: "--generate|4294967295|--count|1000",
+        seed: 4_294_967_295,
+        count: 1_000,
+    },
+    Generated {
+        text: "--count=1|--generate=7",
+        seed: 7,
+        count: 1,
+    },
+    Generated {
+        text: "--generate|0000000001",
+        seed: 1,
+        count: 40,
+    },
+    Generated {
+        text: "--generate|1|--count|0000000002",
+        seed: 1,
+        count: 2,
+    },
+    Generated {
+        text: "--generate|1|--",
+        seed: 1,
+        count: 40,
+    },
+    Generated {
+        text: "--count|40|--generate|2|--",
+        seed: 2,
+        count: 40,
+    },
+];
+
+fn asks_for_generation(alloc: Global, row: &Generated) -> Result<bool, NoMemory> {
+    let arguments = arguments_of(alloc, row.text)?;
+    Ok(match read_request(alloc, &arguments)? {
+        Some(Request::Generate(found)) => found.seed == row.seed && found.count == row.count,
+        _ => false,
+    })
+}
+
+#[test]
+fn controllers_are_generated_from_a_seed(rt: HostRuntime) {
+    for row in &GENERATED {
+        assert!(rt; asks_for_generation(rt.alloc(), row).unwrap_or(false));
+    }
+}
+
+/// Arguments of generated controllers that ask for nothing.
+const NOT_GENERATED: [&str; 25] = [
+    "--generate",
+    "--generate=",
+    "--generate|",
+    "--generate|-1",
+    "--generate|+1",
+    "--generate|1.0",
+    "--generate|x",
+    "--generate|4294967296",
+    "--generate|00000000001",
+    "--generate|1|--generate|1",
+    "--generate|1|--count",
+    "--generate|1|--count|0",
+    "--generate|1|--count|1001",
+    "--generate|1|--count|00000000001",
+    "--generate|1|--count|2|--count|2",
+    "--count|2",
+    "--count|2|f|--property|STABILITY",
+    "f|--generate|1",
+    "--generate|1|--|f",
+    "--generate|1|f|--property|STABILITY",
+    "--generate|1|--simulate=1",
+    "--generate|1|--check|c",
+    "--generate|1|--rounding|CEIL",
+    "--generate|1|--conflicts|2",
+    "--generate|1|--certificate",
+];
+
+#[test]
+fn generated_controllers_have_no_file(rt: HostRuntime) {
+    for text in &NOT_GENERATED {
+        assert!(rt; !is_job(rt.alloc(), text).unwrap_or(true));
+    }
+}
+
 fn is_job(alloc: Global, text: &str) -> Result<bool, NoMemory> {
     let arguments = arguments_of(alloc, text)?;
-    Ok(read_job(alloc, &arguments)?.is_some())
+    Ok(read_request(alloc, &arguments)?.is_some())
 }
 
 /// Whether so many inputs are a job.
@@ -382,7 +485,7 @@ fn at_most_64_inputs(rt: HostRuntime) {
 #[test]
 fn no_arguments_are_no_job(rt: HostRuntime) -> Result<(), Fail> {
     let none: Vec<String> = Vec::new(rt.alloc());
-    assert!(rt; read_job(rt.alloc(), &none)?.is_none());
+    assert!(rt; read_request(rt.alloc(), &none)?.is_none());
     Ok(())
 }
 

@@ -1,5 +1,5 @@
-use Rattle.dsv_command.proofs.JobLaws.{rules_ask, asked_by_rules}
-use Rattle.dsv_command.proofs.law.jobs_are_read.Goals as goal
+use Rattle.dsv_command.proofs.RequestLaws.{rules_ask, asked_by_rules}
+use Rattle.dsv_command.proofs.law.requests_are_read.Goals as goal
 
 pub returns-clause-read : goal.returns-clause-read
 returns-clause-read c = rules_ask

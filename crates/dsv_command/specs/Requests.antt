@@ -1,0 +1,63 @@
+-- What the arguments ask for.
+use Rattle.std.specs.Prelude.{ℕ, ◌||◌, nat_lt, ◌^◌, Bool, List, Option, Some, None}
+use Rattle.std.specs.Prelude.{is_some, option_map, codes, if◌then◌else◌}
+use Rattle.dsv_text.specs.Digits.{short_number}
+use Rattle.dsv_command.specs.declared.limits.TheConstants.{MOST_NUMBER_DIGITS, MOST_CONTROLLERS}
+use Rattle.dsv_command.specs.declared.limits.TheConstants.{DEFAULT_CONTROLLERS}
+use Rattle.dsv_command.specs.Jobs.{Asked, ◌>>=◌, choice_or, is_given, has_verdict_option}
+use Rattle.dsv_command.specs.Jobs.{has_design_option, number_up_to, job_of_parts}
+use Rattle.dsv_command.specs.Options.{command_options}
+use Rattle.dsv_command.specs.Parts.{PartView, file_of, value_of, has_empty}
+use Rattle.dsv_command.specs.Reading.{parts_of}
+
+-- what the command is asked for
+pub data Request : Type 0 where
+  -- a job for the controller in a file
+  on_file : Asked → Request
+  -- controllers of a seed are generated, so many, and what is found of them is counted
+  generates : ℕ → ℕ → Request
+
+-- the seed that a text of 1 to 10 digits is, below 2^32
+abbrev pub seed_of : List ℕ → Option ℕ
+seed_of text = short_number MOST_NUMBER_DIGITS text >>= λ n.
+    (if nat_lt n (2 ^ 32) then Some n else None)
+
+-- how many controllers are asked for
+abbrev pub controllers_of : List PartView → Option ℕ
+controllers_of parts = choice_or (number_up_to MOST_CONTROLLERS) DEFAULT_CONTROLLERS
+    (value_of (codes "count") parts)
+
+-- something is given that belongs to a job
+abbrev pub has_job_option : List PartView → Bool
+has_job_option parts = is_given parts (codes "property") || (is_given parts (codes "simulate")
+    || (is_given parts (codes "check") || (has_verdict_option parts || has_design_option parts)))
+
+-- what is generated, where this is the text of the seed and no text is empty
+abbrev pub generation_of : List PartView → List ℕ → Option Request
+generation_of parts text = if has_empty parts then None
+    else if is_some (file_of parts) || has_job_option parts then None
+    else (seed_of text >>= λ seed. controllers_of parts >>= λ count. Some (generates seed count))
+
+-- a seed makes it a generation, and else it is a job, which has no number of controllers
+abbrev pub request_by : List PartView → Option (List ℕ) → Option (List ℕ) → Option Request
+request_by parts (Some seed) count = generation_of parts seed
+request_by parts None None = option_map on_file (job_of_parts parts)
+request_by parts None (Some count) = None
+
+abbrev pub request_of_parts : List PartView → Option Request
+request_of_parts parts = request_by parts (value_of (codes "generate") parts)
+    (value_of (codes "count") parts)
+
+-- the request of a list of arguments, or none
+unfoldable pub request_of : List (List ℕ) → Option Request
+request_of arguments = parts_of command_options arguments >>= request_of_parts
+
+-- the job of a request, where it is one for a file
+abbrev pub job_in : Option Request → Option Asked
+job_in None = None
+job_in (Some (on_file job)) = Some job
+job_in (Some (generates seed count)) = None
+
+-- the job for a file that a list of arguments asks for
+abbrev pub job_of : List (List ℕ) → Option Asked
+job_of arguments = job_in (request_of arguments)

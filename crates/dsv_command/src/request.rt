@@ -1,0 +1,45 @@
+// What the arguments ask for.
+ghost use Rattle.std.specs.Prelude.{◌≡◌, map, string_bytes, option_map, IfOk};
+ghost use Rattle.dsv_command.specs.Asking.{requested_of};
+ghost use Rattle.dsv_command.specs.Requests.{request_of, request_of_parts};
+
+use crate::generation::{Generation, find_generation};
+use crate::job::{Job, find_job};
+use crate::reading::{Arguments, read_arguments};
+use dsv_base::NoMemory;
+use std::alloc::Global;
+
+/// What the command is asked for.
+#[derive(Drop)]
+pub enum Request<'a> {
+    /// A job for the controller in a file.
+    OnFile(Job<'a>),
+    /// Controllers are generated, and what is found of them is counted.
+    Generate(Generation),
+}
+
+/// The request of what is given.
+fn find_request<'a>(arguments: &Arguments<'a>) -> Option<Request<'a>>
+    ensures { option_map requested_of result ≡ request_of_parts arguments.now }
+{
+    match (arguments.value("generate"), arguments.value("count")) {
+        (Some(seed), _) => Some(Request::Generate(find_generation(arguments, seed)?)),
+        (None, None) => Some(Request::OnFile(find_job(arguments)?)),
+        (None, Some(_)) => None,
+    }
+}
+
+/// What the arguments after the program's name ask for; `None` where that is nothing.
+#[tactic(auto, unfolding(crate::specs::Requests::request_of))]
+pub fn read_request<'a>(
+    alloc: Global,
+    arguments: &'a [String],
+) -> Result<Option<Request<'a>>, NoMemory>
+    ensures { IfOk result (λ request. option_map requested_of request
+        ≡ request_of (map string_bytes arguments.entry.now)) }
+{
+    let Some(arguments) = read_arguments(alloc, arguments)? else {
+        return Ok(None);
+    };
+    Ok(find_request(&arguments))
+}
