@@ -7,6 +7,7 @@ use Rattle.dsv_quantiser.specs.FixedPoint.{FixedPoint}
 use Rattle.dsv_quantiser.specs.declared.refusal.QuantRefusal.{QuantRefusal}
 use Rattle.dsv_names.specs.declared.property.RootProperty.TheVariants as property
 use Rattle.dsv_names.specs.declared.property.RunProperty.TheVariants as run
+use Rattle.dsv_certfile.specs.Lawful.{certificate_alone}
 use Rattle.dsv_certfile.specs.Reading.{certificate_in}
 use Rattle.dsv_certfile.specs.Texts.{job_of, certificate_text}
 use Rattle.dsv_certfile.specs.declared.certificate.Certificate.{Certificate}
@@ -152,9 +153,13 @@ check_accepts bytes written c f s old new check (answer.NoInvariant kept) r row 
 check_accepts bytes written c f s old new check (answer.FormulaText formula) r row = let b = row.belongs_to in absurd (no_check check.task (writes b.0 b.1) r.name r.task b.2 tt)
 check_accepts bytes written c f s old new check (answer.Simulated found) r row = absurd (no_check check.task (simulates row.belongs_to.0) r.name r.task row.belongs_to.1 tt)
 check_accepts bytes written c f s old new check (answer.InputRange index value) r row = absurd (no_check check.task (simulates row.belongs_to.0) r.name r.task row.belongs_to.1 tt)
+check_accepts bytes written c f s old new check (answer.Generated found) r row = absurd row
 check_accepts bytes written c f s old new check answer.Usage r row = absurd row
 
 pub written_are_accepted : WrittenAreAccepted
-written_are_accepted bytes old new job found c row e l short then_old then_new check name answered t held then_row =
-    check_accepts bytes (certificate_text c) c (certificate_fits bytes old new job found c row e l) (record { short = short; spelled = written_is_read c l }) then_old then_new check answered
-    (record { name = name; task = t; held = held }) then_row
+written_are_accepted bytes old new job found c row e known short then_old then_new check name answered t held then_row =
+    let a = certificate_fits bytes old new job found c row e known in
+    let alone = certificate_alone c in
+    let spelled : certificate_in (certificate_text c) ≡ Ok alone = ap certificate_in (sym a.text) ∙ written_is_read alone a.lawful in
+    subst (λ certified. IsAcceptance certified answered) a.job
+    (check_accepts bytes (certificate_text c) alone a.fits (record { short = short; spelled = spelled }) then_old then_new check answered (record { name = name; task = t; held = held }) then_row)

@@ -22,7 +22,7 @@ use Rattle.dsv_cli.specs.declared.outcome.Outcome.TheVariants as outcome
 use Rattle.dsv_cli.specs.Headline.{longest_file, IsForWords, IsCheckOf, Spells, IsAccepted, IsTested, IsTimed, IsSearch, IsWriting, IsSeeking, AsksOver, IsRun, IsRow}
 use Rattle.dsv_bounded.specs.Verdicts.{IsTrace, IsCycle}
 use Rattle.dsv_bounded.specs.RunQuestions.{IsWithin}
-use Rattle.dsv_cli.specs.Questions.{NeverHappens, GaveUp, IsFormulaOf, IsTooLarge}
+use Rattle.dsv_bounded.specs.RunAnswers.{NeverHappens, GaveUp, IsFormulaOf, IsTooLarge}
 use Rattle.dsv_cli.specs.Simulating.{IsRunOver, IsFirstOutside}
 use Rattle.dsv_cli.specs.Sets.{KeepsTo, NoneIsGood}
 use Rattle.dsv_cli.specs.Causes.{BecomesWords, IsDecision, IsOfSets, IsOfTask, IsOfController, IsOfBytes, HasRow, HasRowOf}

@@ -16,12 +16,20 @@ use Rattle.dsv_template.specs.declared.candidate.Candidate.{Candidate}
 use Rattle.dsv_template.specs.declared.verdict.ThreeLogs.{ThreeLogs}
 use Rattle.dsv_tested.specs.Tested.{tested_of}
 use Rattle.dsv_tested.specs.declared.side.Tested.TheVariants as tested
-use Rattle.dsv_certfile.specs.Lawful.{IsLawful}
-use Rattle.dsv_certfile.specs.Texts.{job_of}
+use Rattle.dsv_bounded.specs.RunQuestions.{question_formula}
+use Rattle.dsv_forms.specs.Padded.{offer_alone}
+use Rattle.dsv_forms.proofs.Alike.{accepted_alone}
+use Rattle.dsv_meaning.specs.Equations.{order, registers_of}
+use Rattle.dsv_invariant.specs.Formulas.{set_formula_of}
+use Rattle.dsv_template.specs.declared.verdict.SetPart.TheVariants as part
+use Rattle.dsv_certfile.specs.Lawful.{IsLawful, certificate_alone}
+use Rattle.dsv_certfile.specs.Texts.{job_of, certificate_text}
+use Rattle.dsv_certfile.specs.Typed.{IsTyped}
 use Rattle.dsv_certfile.specs.declared.certificate.Certificate.{Certificate}
 use Rattle.dsv_certfile.specs.declared.certificate.Certificate.TheVariants as certificate
 use Rattle.dsv_certfile.specs.declared.job.Job.{Job}
 use Rattle.dsv_certfile.specs.declared.job.Size.TheVariants as size
+use Rattle.dsv_certfile.proofs.LawfulWritten.{hints_are_lawful, invariant_is_lawful, falls_are_lawful, falls_text}
 use Rattle.dsv_certcheck.specs.Checks.{words_check, side_of as checked_side}
 use Rattle.dsv_certcheck.proofs.Passing.{hints_pass, invariant_passes, falls_pass}
 use Rattle.dsv_command.specs.Jobs.{Task, decides, searches, seeks_set, Asked}
@@ -30,7 +38,7 @@ use Rattle.dsv_report.specs.Output.{job_with, certificate_for, certificate_of}
 use Rattle.dsv_report.specs.declared.answers.Answer.{Answer}
 use Rattle.dsv_report.specs.declared.answers.Answer.TheVariants as answer
 use Rattle.dsv_cli.specs.Headline.{IsAccepted, side_of, IsTested, IsSearch, IsSeeking, ShowsFall, IsRow}
-use Rattle.dsv_cli.specs.Questions.{NeverHappens}
+use Rattle.dsv_bounded.specs.RunAnswers.{NeverHappens}
 use Rattle.dsv_cli.specs.Sets.{KeepsTo}
 
 -- the design of a certificate's job
@@ -43,27 +51,37 @@ pub record Fits (bytes : List ℕ) (c : Certificate) : Type 0 where
   pub accepted : IsAccepted (design_in (job_of c)) bytes (Ok words)
   pub passes : words_check words c ≡ Ok tt
 
+-- With its places alone the certificate passes its check and is read back from its text.
+pub record IsAcceptable (bytes : List ℕ) (c : Certificate) : Type 0 where
+  pub fits : Fits bytes (certificate_alone c)
+  pub lawful : IsLawful (certificate_alone c)
+  pub text : certificate_text (certificate_alone c) ≡ certificate_text c
+  pub job : job_of (certificate_alone c) ≡ job_of c
+
 -- ---- each kind
 abbrev hints_for : Design → RunProperty → ℕ → List Step → Certificate
 hints_for design p samples log = certificate.Hints (job_with design (OfRuns p) (size.Samples samples)) log
 
 hints_fit : (bytes : List ℕ) (job : Asked) (p : RunProperty) (samples conflicts : ℕ) (words : FixedPoint) (log : List Step) → IsSearch job bytes p samples conflicts words
-    → NeverHappens p samples conflicts words log → IsLawful (hints_for job.design p samples log) → Fits bytes (hints_for job.design p samples log)
-hints_fit bytes job p samples conflicts words log s n l = record {
-  words = words;
-  accepted = s.accepted;
-  passes = hints_pass words p samples log l.0.size n.within n.refuted.accepted;
+    → NeverHappens p samples conflicts words log → IsTyped (hints_for job.design p samples log) → IsAcceptable bytes (hints_for job.design p samples log)
+hints_fit bytes job p samples conflicts words log s n t = record {
+  fits = record { words = words; accepted = s.accepted; passes = hints_pass words p samples log t.size n.within n.refuted.accepted };
+  lawful = hints_are_lawful (question_formula p words samples) conflicts (job_with job.design (OfRuns p) (size.Samples samples)) log refl t n.refuted;
+  text = refl;
+  job = refl;
 }
 
 abbrev invariant_for : Design → Candidate → ThreeLogs → Certificate
 invariant_for design candidate logs = certificate.Invariant (job_with design (OfRuns Overflow) size.Unbounded) candidate logs
 
 invariant_fits : (bytes : List ℕ) (job : Asked) (conflicts : ℕ) (words : FixedPoint) (candidate : Candidate) (logs : ThreeLogs) → IsSeeking job bytes conflicts words
-    → KeepsTo words conflicts candidate logs → Fits bytes (invariant_for job.design candidate logs)
-invariant_fits bytes job conflicts words candidate logs s k = record {
-  words = words;
-  accepted = s.accepted;
-  passes = invariant_passes words conflicts candidate logs k.within k.good.0 k.good.1;
+    → KeepsTo words conflicts candidate logs → IsTyped (invariant_for job.design candidate logs) → IsAcceptable bytes (invariant_for job.design candidate logs)
+invariant_fits bytes job conflicts words candidate logs s k t = record {
+  fits = record { words = words; accepted = s.accepted; passes = invariant_passes words conflicts candidate logs k.within k.good.0 k.good.1 };
+  lawful = invariant_is_lawful (registers_of words.realisation (order words)) conflicts (set_formula_of words candidate part.Base) (set_formula_of words candidate part.Step) (set_formula_of words candidate part.Safe)
+      (job_with job.design (OfRuns Overflow) size.Unbounded) candidate logs refl t k.good.0 (record { of_base = k.good.1.base; of_step = k.good.1.step; of_safe = k.good.1.safe });
+  text = refl;
+  job = refl;
 }
 
 one_side : (p : RootProperty) → checked_side p ≡ side_of p
@@ -74,12 +92,19 @@ abbrev falls_for : Design → RootProperty → Falls → Certificate
 falls_for design p offer = certificate.Falls (job_with design (OfRoots p) size.NoSize) offer
 
 falls_fit : (bytes : List ℕ) (job : Asked) (poly : List ℤ) (offer : Falls) (fall : Form) (t : IsTested job bytes (Ok (tested.Poly poly))) → ShowsFall poly offer fall
-    → Fits bytes (falls_for job.design t.property offer)
-falls_fit bytes job poly offer fall t s = record {
-  words = t.words;
-  accepted = t.accepted;
-  passes = falls_pass t.words t.property poly offer (ap (tested_of t.words) (one_side t.property) ∙ t.tested) s.accepted;
-}
+    → IsTyped (falls_for job.design t.property offer) → IsAcceptable bytes (falls_for job.design t.property offer)
+falls_fit bytes job poly offer fall t s known =
+    let certified = job_with job.design (OfRoots t.property) size.NoSize in
+    record {
+      fits = record {
+        words = t.words;
+        accepted = t.accepted;
+        passes = falls_pass t.words t.property poly (offer_alone offer) (ap (tested_of t.words) (one_side t.property) ∙ t.tested) (accepted_alone poly offer known.places s.accepted);
+      };
+      lawful = falls_are_lawful poly certified offer refl known s.accepted;
+      text = falls_text poly certified offer known s.accepted;
+      job = refl;
+    }
 
 -- ---- from an answer's row
 -- a job that wants no certificate has none
@@ -117,20 +142,21 @@ has_certificate design (seeks_set conflicts) found c e = no_certificate c e
 has_certificate design (decides p) found c e = no_certificate c e
 has_certificate design task found c e = no_certificate c e
 
-pub certificate_fits : (bytes : List ℕ) (old new : FilesSeen) (job : Asked) (found : Answer) (c : Certificate) → IsRow (Some bytes) old new job found → certificate_of job found ≡ Some c → IsLawful c → Fits bytes c
-certificate_fits bytes old new job (answer.Never log) c row e l =
+pub certificate_fits : (bytes : List ℕ) (old new : FilesSeen) (job : Asked) (found : Answer) (c : Certificate) → IsRow (Some bytes) old new job found → certificate_of job found ≡ Some c → IsTyped c
+    → IsAcceptable bytes c
+certificate_fits bytes old new job (answer.Never log) c row e known =
     let t = row.comes_from in
     let d = hints_for job.design t.0 t.1 log in
     let is : d ≡ c = of_task job (searches t.0 t.1 t.2) (answer.Never log) c d t.4.task refl e in
-    subst (Fits bytes) is (hints_fit bytes job t.0 t.1 t.2 t.3 log t.4 t.5 (subst IsLawful (sym is) l))
-certificate_fits bytes old new job (answer.Always candidate logs) c row e l =
+    subst (IsAcceptable bytes) is (hints_fit bytes job t.0 t.1 t.2 t.3 log t.4 t.5 (subst IsTyped (sym is) known))
+certificate_fits bytes old new job (answer.Always candidate logs) c row e known =
     let t = row.comes_from in
     let d = invariant_for job.design candidate logs in
     let is : d ≡ c = of_task job (seeks_set t.0) (answer.Always candidate logs) c d t.2.task refl e in
-    subst (Fits bytes) is (invariant_fits bytes job t.0 t.1 candidate logs t.2 t.3)
-certificate_fits bytes old new job (answer.Falls poly offer fall) c row e l =
+    subst (IsAcceptable bytes) is (invariant_fits bytes job t.0 t.1 candidate logs t.2 t.3 (subst IsTyped (sym is) known))
+certificate_fits bytes old new job (answer.Falls poly offer fall) c row e known =
     let t = row.comes_from in
     let d = falls_for job.design t.property offer in
     let is : d ≡ c = of_task job (decides t.property) (answer.Falls poly offer fall) c d t.task refl e in
-    subst (Fits bytes) is (falls_fit bytes job poly offer fall t row.shows)
-certificate_fits bytes old new job found c row e l = absurd (has_certificate job.design job.task found c (certificate_of_task job found c e))
+    subst (IsAcceptable bytes) is (falls_fit bytes job poly offer fall t row.shows (subst IsTyped (sym is) known))
+certificate_fits bytes old new job found c row e known = absurd (has_certificate job.design job.task found c (certificate_of_task job found c e))

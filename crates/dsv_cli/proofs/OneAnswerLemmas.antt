@@ -7,7 +7,7 @@ use Rattle.dsv_report.specs.declared.answers.Answer.{Answer}
 use Rattle.dsv_report.specs.declared.answers.Answer.TheVariants as answer
 use Rattle.dsv_quantiser.specs.FixedPoint.{FixedPoint}
 use Rattle.dsv_cli.specs.Headline.{IsRow, IsForWords, AsksOver}
-use Rattle.dsv_cli.specs.Questions.{IsTooLarge}
+use Rattle.dsv_bounded.specs.RunAnswers.{IsTooLarge}
 use Rattle.dsv_cli.specs.OneAnswer.{SameAnswer, IsSettled, HaveOneAnswer}
 use Rattle.dsv_cli.proofs.OneAnswerStages.{Stage, long, faulty, refused, in_words, IsStage, one_stage}
 use Rattle.dsv_cli.proofs.OneAnswerTasks.{IsAnswerTo, one_task}
@@ -80,6 +80,7 @@ reached_by bytes old new job (answer.FileRefused r) f s h = record { stage = fau
 reached_by bytes old new job answer.FileTooLong f s h = record { stage = long; reached = h.comes_from; gives = refl }
 reached_by bytes old new job (answer.Checked certified) f s h = absurd (not_for_words job.task h.belongs_to.0 h.belongs_to.1 f)
 reached_by bytes old new job (answer.CertificateRefused line why) f s h = absurd (not_for_words job.task h.belongs_to.0 h.belongs_to.1 f)
+reached_by bytes old new job (answer.Generated found) f s h = absurd h
 reached_by bytes old new job answer.Usage f s h = absurd h
 reached_by bytes old new job found f s h = absurd s
 

@@ -35,7 +35,7 @@ use Rattle.dsv_unroll.specs.Goals.{most_size}
 use Rattle.dsv_bounded.specs.Formulas.{job_size_of}
 use Rattle.dsv_bounded.specs.Verdicts.{IsTrace, IsCycle}
 use Rattle.dsv_bounded.specs.RunQuestions.{Happens}
-use Rattle.dsv_cli.specs.Questions.{IsTooLarge}
+use Rattle.dsv_bounded.specs.RunAnswers.{IsTooLarge}
 use Rattle.dsv_bounded.proofs.Verdicts.{trace_breaks, cycle_cycles}
 use Rattle.dsv_invariant.specs.declared.size.TheConstants.{UNBOUNDED_SAMPLES}
 use Rattle.dsv_cli.specs.Causes.{IsOfRun, IsOfTiming, IsOfFormula, IsOfSearch, IsOfSets}

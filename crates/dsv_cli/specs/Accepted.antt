@@ -1,8 +1,8 @@
 -- A certificate that a run wrote is accepted for the same file.
 use Rattle.std.specs.Prelude.{◌≡◌, ℕ, ◌≤◌, List, length, Some}
 use Rattle.dsv_base.specs.Seen.{FilesSeen}
-use Rattle.dsv_certfile.specs.Lawful.{IsLawful}
 use Rattle.dsv_certfile.specs.Texts.{job_of, certificate_text}
+use Rattle.dsv_certfile.specs.Typed.{IsTyped}
 use Rattle.dsv_certfile.specs.declared.certificate.Certificate.{Certificate}
 use Rattle.dsv_certfile.specs.declared.job.Job.{Job}
 use Rattle.dsv_command.specs.Jobs.{checks, Asked}
@@ -19,12 +19,13 @@ IsAcceptance certified (answer.ReadFault file) = Unit {0}
 IsAcceptance certified answer.NoMemory = Unit {0}
 IsAcceptance certified other = ⊥
 
--- Where a job on a file of these bytes has a certificate, which is lawful and whose text has at
--- most 64 MiB, each check of that text against a file of the same bytes accepts it.
+-- Where a job on a file of these bytes has a certificate, of which is known what is known of each
+-- that is written whole, and whose text has at most 64 MiB, each check of that text against a file
+-- of the same bytes accepts it.
 abbrev pub WrittenAreAccepted : Type 0
 WrittenAreAccepted =
     (bytes : List ℕ) (old new : FilesSeen) (job : Asked) (found : Answer) (c : Certificate)
-    → IsRow (Some bytes) old new job found → certificate_of job found ≡ Some c → IsLawful c
+    → IsRow (Some bytes) old new job found → certificate_of job found ≡ Some c → IsTyped c
     → length (certificate_text c) ≤ longest_certificate
     → (then_old then_new : FilesSeen) (check : Asked) (name : List ℕ) (answered : Answer)
     → check.task ≡ checks name → then_old.held name ≡ Some (certificate_text c)

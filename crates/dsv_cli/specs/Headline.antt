@@ -1,5 +1,5 @@
 -- What a run answers: a table, one row for each answer.
-use Rattle.std.specs.Prelude.{◌≡◌, ◌⊎◌, ℕ, ◌+◌, ◌-◌, ◌^◌, ◌<◌}
+use Rattle.std.specs.Prelude.{◌≡◌, ◌≢◌, ◌⊎◌, ℕ, ◌+◌, ◌-◌, ◌^◌, ◌<◌}
 use Rattle.std.specs.Prelude.{◌≤◌, List, length, Option, Some, None, IfSome, Result, Ok, Err, ℤ}
 use Rattle.dsv_algebra.specs.Vectors.{vector_of, matrix_of, form_at}
 use Rattle.dsv_algebra.specs.Companion.{StrictlyFallsAlong, IsKeptAwayAlong}
@@ -31,10 +31,12 @@ use Rattle.dsv_tested.specs.declared.side.Tested.TheVariants as tested
 use Rattle.dsv_closed_forms.specs.ClosedForm.{closed_form_of}
 use Rattle.dsv_jury.specs.Jury.{jury_of}
 use Rattle.dsv_jury.specs.declared.verdict.Jury.{Jury}
+use Rattle.dsv_generator.specs.Tallies.{IsGeneratedFrom}
 use Rattle.dsv_lyapunov.specs.Kept.{AreRefused}
 use Rattle.dsv_lyapunov.specs.declared.kept.KeptForm.{KeptForm}
 use Rattle.dsv_command.specs.Jobs.{Task, decides, checks_time, writes, searches}
 use Rattle.dsv_command.specs.Jobs.{seeks_set, simulates, checks, Asked}
+use Rattle.dsv_command.specs.Requests.{Request, on_file, generates}
 use Rattle.dsv_command.specs.declared.job.Design.{Design}
 use Rattle.dsv_report.specs.declared.answers.Answer.{Answer}
 use Rattle.dsv_report.specs.declared.answers.Answer.TheVariants as answer
@@ -55,7 +57,7 @@ use Rattle.dsv_certcheck.specs.LineNumbers.{job_line_number}
 use Rattle.dsv_certcheck.specs.declared.check_refusal.CheckRefusal.TheVariants as refusal
 use Rattle.dsv_bounded.specs.Verdicts.{IsTrace, IsCycle}
 use Rattle.dsv_bounded.specs.RunQuestions.{IsWithin}
-use Rattle.dsv_cli.specs.Questions.{NeverHappens, GaveUp, IsFormulaOf, IsTooLarge}
+use Rattle.dsv_bounded.specs.RunAnswers.{NeverHappens, GaveUp, IsFormulaOf, IsTooLarge}
 use Rattle.dsv_cli.specs.Sets.{KeepsTo, NoneIsGood}
 use Rattle.dsv_cli.specs.Simulating.{IsRunOver, IsFirstOutside}
 use Rattle.dsv_cli.specs.Timing.{IsTimingOf, IsOnTime}
@@ -377,14 +379,24 @@ IsRow told old new job (answer.Checked certified) =
     (λ bytes. HasShown bytes certified × IsCheckOf old job bytes (Passes certified)) (Unit {0})
 IsRow told old new job (answer.CertificateRefused line why) =
     Row told (Checks job.task) (λ bytes. IsCheckOf old job bytes (IsFaulty line why)) (Unit {0})
+IsRow told old new job (answer.Generated found) = ⊥
 IsRow told old new job answer.Usage = ⊥
 IsRow told old new job answer.NoMemory = Unit {0}
 
--- Arguments that ask for no job are answered by Usage with the files untouched, and a job by an
--- answer with its row. Only NoMemory has no stated cause.
-abbrev pub IsExplained : FilesSeen → FilesSeen → Option Asked → Answer → Type 0
+-- What is found of generated controllers: each is one of the seed's, and each finding is so.
+abbrev pub IsOfGeneration : ℕ → ℕ → Answer → Type 0
+IsOfGeneration seed count (answer.Generated found) = IsGeneratedFrom seed count found
+IsOfGeneration seed count answer.NoMemory = Unit {0}
+IsOfGeneration seed count other = ⊥
+
+-- Arguments that ask for nothing are answered by Usage, and a job by an answer with its row.
+-- Generated controllers are answered by their tally, with the files untouched. Only NoMemory has no
+-- stated cause.
+abbrev pub IsExplained : FilesSeen → FilesSeen → Option Request → Answer → Type 0
 IsExplained old new None found = (found ≡ answer.NoMemory) ⊎ ((found ≡ answer.Usage) × (new ≡ old))
-IsExplained old new (Some job) found = IsRow (old.held job.file) old new job found
+IsExplained old new (Some (on_file job)) found = IsRow (old.held job.file) old new job found
+IsExplained old new (Some (generates seed count)) found =
+    IsOfGeneration seed count found × (new ≡ old)
 
 -- these are the words that the job's controller becomes, where the file's bytes are told
 abbrev pub FileBecomes : FilesSeen → Option Asked → FixedPoint → Type 0
@@ -403,3 +415,7 @@ pub record AreKept (old new : FilesSeen) : Type 0 where
 abbrev pub IsWritten : SinkSeen → SinkSeen → ℕ → ℕ → List ℕ → Type 0
 IsWritten old new status wanted text = ((status ≡ wanted) × Wrote old new text)
     ⊎ ((status ≡ 4) × CutShort old new text)
+
+-- the fact, where the whole text was written
+abbrev pub IfWhole : ℕ → Type 0 → Type 0
+IfWhole status P = status ≢ 4 → P

@@ -7,7 +7,6 @@ pub mod Checking
 pub mod Headline
 pub mod OneAnswer
 pub mod Proposers
-pub mod Questions
 pub mod SetAsking
 pub mod Sets
 pub mod Simulating

@@ -9,9 +9,10 @@ pub fn told_files_have_one_answer()
     ensures { HaveOneAnswer }
 {}
 
-/// The law of certificates, for proofs: where the answer to a job on a file has a certificate,
-/// which is lawful and whose text has at most 64 MiB, each check of that text against a file of the
-/// same bytes accepts it, but for want of memory and faults of reads. The call does nothing.
+/// The law of certificates, for proofs: where the answer to a job on a file has a certificate, of
+/// which is known what [`run`](crate::run) says of each that it wrote whole, and whose text has at
+/// most 64 MiB, each check of that text against a file of the same bytes accepts it, but for want
+/// of memory and faults of reads. The call does nothing.
 pub fn written_certificates_are_accepted()
     ensures { WrittenAreAccepted }
 {}

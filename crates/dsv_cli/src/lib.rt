@@ -5,6 +5,7 @@
 mod asking;
 mod checking;
 mod deciding;
+mod generating;
 mod law;
 mod outcome;
 mod outside;

@@ -1,21 +1,23 @@
 // The command.
-ghost use Rattle.std.specs.Prelude.{◌≡◌, false, Some, map, string_bytes};
-ghost use Rattle.dsv_command.specs.Jobs.{job_of};
+ghost use Rattle.std.specs.Prelude.{◌≡◌, false, Some, IfSome, map, string_bytes};
+ghost use Rattle.dsv_certfile.specs.Typed.{IsTyped};
+ghost use Rattle.dsv_command.specs.Requests.{request_of, job_of};
 ghost use Rattle.dsv_command.specs.Asking.{asked_of};
 ghost use Rattle.dsv_report.specs.Printing.{HasPlaces, asked_in};
-ghost use Rattle.dsv_report.specs.Output.{output_of};
+ghost use Rattle.dsv_report.specs.Output.{output_of, certificate_written};
 ghost use Rattle.dsv_report.specs.Report.{status_of};
 ghost use Rattle.dsv_cli.specs.Headline.{IsRow, IsExplained, IsForWords, FileBecomes};
-ghost use Rattle.dsv_cli.specs.Headline.{AreKept, IsWritten};
+ghost use Rattle.dsv_cli.specs.Headline.{AreKept, IsWritten, IfWhole};
 ghost use Rattle.dsv_cli.specs.Causes.{HasRow, AnswersPlainly};
 ghost use Rattle.dsv_cli.specs.Proposers.{IsAsked, AreSetsAsked, IfNoForm, is_low};
 
 use crate::checking::checked_answer;
 use crate::deciding::decided_answer;
+use crate::generating::generated_answer;
 use crate::outcome::{Outcome, outcome_of};
 use crate::set_deciding::unbounded_answer;
 use dsv_base::{Files, ReadEnd, Sink, read_all};
-use dsv_command::{Job, Task, read_job};
+use dsv_command::{Job, Request, Task, read_request};
 use dsv_lyapunov::FormProposer;
 use dsv_report::{Answer, WhichFile, put_output, status_of};
 use dsv_template::InvariantProposer;
@@ -110,8 +112,10 @@ fn job_answer<F: Files>(
 /// Writes an answer; the status is the answer's where the whole text was written, and else 4.
 fn written_status<K: Sink>(sink: &mut K, job: Option<&Job>, answer: &Answer) -> u8
     requires { HasPlaces answer.now }
-    ensures { IsWritten (K.seen sink.old) (K.seen sink.new) result (status_of answer.now)
+    ensures written { IsWritten (K.seen sink.old) (K.seen sink.new) result (status_of answer.now)
         (output_of (asked_in job.entry) answer.now) }
+    ensures typed { IfWhole result
+        (IfSome (certificate_written (asked_in job.entry) answer.now) IsTyped) }
 {
     match put_output(sink, job, answer) {
         Ok(()) => status_of(answer),
@@ -134,7 +138,7 @@ pub fn run<F: Files, K: Sink>(
 ) -> Done
     // The answer's row in the table of answers holds.
     ensures explained { IsExplained (F.seen files.old) (F.seen files.new)
-        (job_of (map string_bytes arguments.now)) result.answer }
+        (request_of (map string_bytes arguments.now)) result.answer }
     // What becomes of the proposers: a list that isn't needed stays as it was.
     ensures sets { AreSetsAsked (λ b. b.ptr)
         (λ b. (⟦<dyn InvariantProposer as InvariantProposer>⟧ b.vtable).last b.value)
@@ -153,11 +157,19 @@ pub fn run<F: Files, K: Sink>(
     ensures written { IsWritten (K.seen sink.old) (K.seen sink.new) result.status
         (status_of result.answer)
         (output_of (job_of (map string_bytes arguments.now)) result.answer) }
+    // Of a certificate that was written whole its types are known.
+    ensures typed { IfWhole result.status (IfSome
+        (certificate_written (job_of (map string_bytes arguments.now)) result.answer) IsTyped) }
 {
-    match read_job(alloc, arguments) {
-        Ok(Some(job)) => {
+    match read_request(alloc, arguments) {
+        Ok(Some(Request::OnFile(job))) => {
             let answer = job_answer(alloc, &job, files, sets, forms);
             let status = written_status(sink, Some(&job), &answer);
+            Done { status, answer }
+        }
+        Ok(Some(Request::Generate(generation))) => {
+            let answer = generated_answer(alloc, generation);
+            let status = written_status(sink, None, &answer);
             Done { status, answer }
         }
         Ok(None) => {

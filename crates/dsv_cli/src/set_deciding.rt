@@ -1,6 +1,5 @@
 // Seeks a set that a controller never leaves among those that are offered.
 ghost use Rattle.std.specs.Prelude.{◌≡◌, [], Some, IfOk};
-ghost use Rattle.dsv_template.specs.Shapes.{IsLawful};
 ghost use Rattle.dsv_invariant.specs.Shapes.{shape_of};
 ghost use Rattle.dsv_invariant.specs.declared.size.TheConstants.{UNBOUNDED_SAMPLES};
 ghost use Rattle.dsv_cli.specs.Blocks.{AreBlocks};

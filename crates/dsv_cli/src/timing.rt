@@ -2,7 +2,7 @@
 ghost use Rattle.std.specs.Prelude.{◌≡◌, IfOk};
 ghost use Rattle.dsv_reader.specs.Controllers.{IsTime};
 ghost use Rattle.dsv_cli.specs.Causes.{IsOfTiming, IsPlain};
-ghost use Rattle.dsv_cli.specs.Timing.{IsTimingOf, IsOnTime};
+ghost use Rattle.dsv_cli.specs.Timing.{IsTimingOf};
 
 use dsv_base::NoMemory;
 use dsv_quantiser::Quantised;

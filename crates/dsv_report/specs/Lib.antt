@@ -5,3 +5,4 @@ pub mod Output
 pub mod Printing
 pub mod Refusals
 pub mod Report
+pub mod Tallies

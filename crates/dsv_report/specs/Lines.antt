@@ -15,7 +15,11 @@ abbrev pub realisation_text : Realisation → List ℕ
 realisation_text realisation =
     concatenation (codes "realization " ∷ realisation_name realisation ∷ [])
 
--- a word and a number after it, up to the end of the line
+-- a word and a number after it
+abbrev pub numbered : List ℕ → ℕ → List ℕ
+numbered word number = concatenation (word ∷ signed_decimal (pos number) ∷ [])
+
+-- the same, up to the end of the line
 abbrev pub number_line : List ℕ → ℕ → List ℕ
 number_line word number =
     concatenation (word ∷ signed_decimal (pos number) ∷ codes "\n" ∷ [])

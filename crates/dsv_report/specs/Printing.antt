@@ -25,6 +25,7 @@ HasPlaces (answer.Spent log) = Unit {0}
 HasPlaces (answer.FormulaText formula) = Unit {0}
 HasPlaces (answer.JobSize size) = Unit {0}
 HasPlaces (answer.Simulated found) = Unit {0}
+HasPlaces (answer.Generated found) = Unit {0}
 HasPlaces (answer.Checked job) = Unit {0}
 HasPlaces (answer.CertificateRefused line fault) = Unit {0}
 HasPlaces answer.Usage = Unit {0}

@@ -25,8 +25,9 @@ use Rattle.dsv_command.specs.Jobs.{Task, decides, checks_time, writes, searches,
 use Rattle.dsv_command.specs.Jobs.{simulates, checks, Asked}
 use Rattle.dsv_report.specs.Certificates.{checked_text, certificate_text}
 use Rattle.dsv_report.specs.Fragments.{concatenation}
-use Rattle.dsv_report.specs.Lines.{property_text, realisation_text, number_line}
+use Rattle.dsv_report.specs.Lines.{property_text, realisation_text, numbered, number_line}
 use Rattle.dsv_report.specs.Refusals.{file_text, quant_text, input_text}
+use Rattle.dsv_report.specs.Tallies.{tally_text}
 use Rattle.dsv_report.specs.declared.answers.Answer.{Answer}
 use Rattle.dsv_report.specs.declared.answers.Answer.TheVariants as answer
 use Rattle.dsv_report.specs.declared.answers.WhichFile.TheVariants as file
@@ -115,10 +116,6 @@ abbrev pub wide_text : ℕ → List ℕ
 wide_text index = number_line (codes "cause WIDE index ") index
 
 -- ---- verdicts on runs
--- a word and a number after it
-abbrev pub numbered : List ℕ → ℕ → List ℕ
-numbered word number = concatenation (word ∷ signed_decimal (pos number) ∷ [])
-
 -- the sample and the number of the first exact value that is no word, and that value
 abbrev pub break_text : ℕ → ℕ → ℤ → List ℕ
 break_text sample value exact = numbered (codes "overflow sample ") sample
@@ -234,6 +231,7 @@ text_of job (answer.Spent log) = heading inconclusive job ++ spent_text (length 
 text_of job (answer.FormulaText formula) = dimacs_text formula
 text_of job (answer.JobSize size) = size_text size
 text_of job (answer.Simulated rows) = heading simulation job ++ samples_text 0 rows
+text_of job (answer.Generated found) = tally_text found
 text_of job (answer.Checked certified) = checked_text certified
 text_of job (answer.CertificateRefused line fault) = certificate_text line fault
 text_of job answer.Usage = codes "USAGE\n"
@@ -262,6 +260,7 @@ status_of (answer.Spent log) = 20
 status_of (answer.FormulaText formula) = 0
 status_of (answer.JobSize size) = 6
 status_of (answer.Simulated rows) = 0
+status_of (answer.Generated found) = 0
 status_of (answer.Checked certified) = 0
 status_of (answer.CertificateRefused line fault) = 7
 status_of answer.Usage = 1

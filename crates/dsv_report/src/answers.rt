@@ -2,6 +2,7 @@
 use dsv_certfile::{CheckFault, Job, TextFault};
 use dsv_cnf::Formula;
 use dsv_forms::{Falls, Form, KeptAway, Poly};
+use dsv_generator::Generated;
 use dsv_hints::Log;
 use dsv_jury::Jury;
 use dsv_lyapunov::KeptForms;
@@ -97,6 +98,8 @@ pub enum Answer {
     },
     /// The rows of the controller over the inputs of the job, from registers of zeros.
     Simulated(Rows),
+    /// What is found of generated controllers.
+    Generated(Generated),
     /// The certificate shows its property of the controller.
     Checked(Job),
     /// The first line of the certificate that is wrong, counted from 1, and 0 for the whole file.

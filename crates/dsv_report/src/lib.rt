@@ -8,6 +8,7 @@ mod lines;
 mod output;
 mod refusals;
 mod report;
+mod tallies;
 
 pub use answers::{Answer, CertificateFault, WhichFile};
 pub use output::put_output;

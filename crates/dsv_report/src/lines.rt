@@ -34,6 +34,16 @@ pub(crate) fn put_realisation<K: Sink>(sink: &mut K, realisation: Realisation) -
     )
 }
 
+/// Writes a word and a number after it.
+pub(crate) fn put_numbered<K: Sink>(sink: &mut K, word: &[u8], number: u64) -> Result<(), Failed>
+    ensures { Writes (K.seen sink.old) (K.seen sink.new) result (lines.numbered word.now number) }
+{
+    put_fragments(
+        sink,
+        &[Fragment::Bytes(word), Fragment::Number(number.into())],
+    )
+}
+
 /// Writes a word and a number after it, up to the end of the line.
 pub(crate) fn put_number_line<K: Sink>(sink: &mut K, word: &[u8], number: u64) -> Result<(), Failed>
     ensures { Writes (K.seen sink.old) (K.seen sink.new) result

@@ -2,7 +2,6 @@
 #![tactic(auto, using(dsv_algebra::proofs::Casts::casts))]
 
 ghost use Rattle.std.specs.Prelude.{◌≡◌, ◌≤◌, ◌++◌, cond, length, take, map, filter, Some};
-ghost use Rattle.std.specs.Fmt.{signed_decimal};
 ghost use Rattle.std.specs.List.{flat_map};
 ghost use Rattle.dsv_base.specs.Taking.{Writes};
 ghost use Rattle.dsv_base.specs.Text.{spaced_text};
@@ -14,8 +13,9 @@ ghost use Rattle.dsv_report.specs.Report as report;
 use crate::answers::{Answer, WhichFile};
 use crate::certificates::{put_certificate_refusal, put_checked};
 use crate::fragments::{Fragment, put_fragments};
-use crate::lines::{put_number_line, put_property, put_realisation};
+use crate::lines::{put_number_line, put_numbered, put_property, put_realisation};
 use crate::refusals::{put_file_refusal, put_input_range, put_quant_refusal};
+use crate::tallies::put_tally;
 use dsv_base::{Failed, Sink, put_all, put_line, put_spaced};
 use dsv_cnf::write_dimacs;
 use dsv_command::{Job, Task};
@@ -249,16 +249,6 @@ fn put_wide<K: Sink>(sink: &mut K, job: Option<&Job>, index: u64) -> Result<(), 
 {
     put_heading(sink, INCONCLUSIVE, job)?;
     put_number_line(sink, b"cause WIDE index ", index)
-}
-
-/// Writes a word and a number after it.
-fn put_numbered<K: Sink>(sink: &mut K, word: &[u8], number: u64) -> Result<(), Failed>
-    ensures { Writes (K.seen sink.old) (K.seen sink.new) result (report.numbered word.now number) }
-{
-    put_fragments(
-        sink,
-        &[Fragment::Bytes(word), Fragment::Number(number.into())],
-    )
 }
 
 /// Writes where a value is no word.
@@ -551,6 +541,7 @@ pub fn status_of(answer: &Answer) -> u8
         | Answer::Always { .. }
         | Answer::FormulaText(_)
         | Answer::Simulated(_)
+        | Answer::Generated(_)
         | Answer::Checked(_) => 0,
         Answer::KeptAway { .. }
         | Answer::NoZeros
@@ -610,6 +601,7 @@ pub(crate) fn put_answer<K: Sink>(
         Answer::FormulaText(formula) => write_dimacs(formula, sink),
         Answer::JobSize { size } => put_number_line(sink, b"JOB SIZE ", *size),
         Answer::Simulated(rows) => put_simulation(sink, job, rows),
+        Answer::Generated(found) => put_tally(sink, found),
         Answer::Checked(certified) => put_checked(sink, certified),
         Answer::CertificateRefused { line, fault } => put_certificate_refusal(sink, *line, *fault),
         Answer::Usage => put_all(sink, b"USAGE\n"),

@@ -1,8 +1,8 @@
 use Rattle.std.proofs.Common.{◌++◌}
 use Rattle.std.specs.Prelude.{codes}
 use Rattle.dsv_base.proofs.TakingLemmas.{writes_after, writes_cut}
-use Rattle.dsv_report.specs.Lines.{number_line}
-use Rattle.dsv_report.specs.Report.{numbered, time_text}
+use Rattle.dsv_report.specs.Lines.{numbered, number_line}
+use Rattle.dsv_report.specs.Report.{time_text}
 use Rattle.dsv_report.proofs.report.put_timing.Goals as goal
 
 pub returns-in_err-put_counts : goal.returns-in_err-put_counts
