@@ -19,7 +19,7 @@ pub struct MemFiles {
 }
 
 impl MemFiles {
-    ghost use Rattle.std.specs.Prelude.{◌≡◌, ◌∷◌, [], ◌++◌, OnOk, OnErr, Result, Err, ℕ};
+    ghost use Rattle.std.specs.Prelude.{◌≡◌, ◌∷◌, [], ◌++◌, OnOk, OnErr, Result, Err};
     ghost use Rattle.dsv_base.specs.Held.{no_files, HoldsToo, after_fetch};
     ghost use Rattle.dsv_base.specs.FilesView.{state_of};
 

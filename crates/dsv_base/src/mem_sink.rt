@@ -67,9 +67,8 @@ impl MemSink {
 }
 
 impl Sink for MemSink {
-    ghost use Rattle.std.specs.Prelude.{◌≡◌, ◌<◌, ◌≤◌, length, take, IfOk, OnErr, Some};
+    ghost use Rattle.std.specs.Prelude.{◌≡◌, ◌<◌, ◌≤◌, length, IfOk, OnErr, Some};
     ghost use Rattle.dsv_base.specs.Counts.{Rose};
-    ghost use Rattle.dsv_base.specs.Taking.{Grew};
     ghost use Rattle.dsv_base.specs.SinkState.{put_answer, after_put};
 
     ghost seen = { λ s. record { taken = Some s.taken; faults = s.faults } };

@@ -30,7 +30,7 @@ impl Model for Circuit {
 }
 
 impl Circuit {
-    ghost use Rattle.std.specs.Prelude.{◌≡◌, ◌<◌, ◌≤◌, ◌^◌, ◌∷◌, [], OnOk, IfOk};
+    ghost use Rattle.std.specs.Prelude.{◌≡◌, ◌<◌, ◌^◌, ◌∷◌, [], OnOk, IfOk};
     ghost use Rattle.dsv_cnf.specs.Formula.{IsOver};
     ghost use Rattle.dsv_blast.specs.Gates.{positive, zero_of, and_clauses, exclusive_clauses};
     ghost use Rattle.dsv_blast.specs.Gates.{exclusive_unless, two_make, chosen_makes};

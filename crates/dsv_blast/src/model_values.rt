@@ -1,5 +1,5 @@
 // The values of the inputs that a model of the formula gives.
-ghost use Rattle.std.specs.Prelude.{◌≡◌, ◌<◌, ◌≤◌, ◌^◌, length, IfOk};
+ghost use Rattle.std.specs.Prelude.{◌≡◌, ◌<◌, ◌≤◌, length, IfOk};
 ghost use Rattle.dsv_cnf.specs.Formula.{IsOver, assignment_of};
 ghost use Rattle.dsv_cnf.specs.Literal.{literal_value};
 ghost use Rattle.dsv_term.specs.declared.node.TheConstants.{MAX_WIDTH};

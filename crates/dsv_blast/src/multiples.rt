@@ -1,10 +1,10 @@
 // Words that are made of constants.
-ghost use Rattle.std.specs.Prelude.{◌≡◌, ◌<◌, ◌≤◌, ◌^◌, ◌+◌};
-ghost use Rattle.std.specs.Prelude.{◌++◌, length, cond, OnOk, IfOk, IsTrue};
+ghost use Rattle.std.specs.Prelude.{◌≡◌, ◌<◌, ◌≤◌, ◌+◌};
+ghost use Rattle.std.specs.Prelude.{length, cond, OnOk, IfOk};
 ghost use Rattle.dsv_cnf.specs.Literal.{negation};
 ghost use Rattle.dsv_cnf.specs.Formula.{IsOver};
-ghost use Rattle.dsv_blast.specs.Words.{constant_bits, added_if, after_zeros, multiple_from};
-ghost use Rattle.dsv_blast.specs.Words.{multiple_built, shifted_copy};
+ghost use Rattle.dsv_blast.specs.Words.{constant_bits, added_if, after_zeros};
+ghost use Rattle.dsv_blast.specs.Words.{multiple_built};
 
 use crate::circuit::Circuit;
 use crate::words::{Bits, add, repeated};

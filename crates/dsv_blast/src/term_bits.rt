@@ -1,12 +1,12 @@
 // The bits of one node over those of earlier ones.
-ghost use Rattle.std.specs.Prelude.{◌≡◌, ◌<◌, ◌≤◌, ◌+◌, ◌++◌, ℕ};
-ghost use Rattle.std.specs.Prelude.{length, map, slice_index, slice_range, replicate, ◌∷◌, []};
+ghost use Rattle.std.specs.Prelude.{◌≡◌, ◌<◌, ◌≤◌, ◌+◌, ◌++◌};
+ghost use Rattle.std.specs.Prelude.{length, map, slice_index, replicate, ◌∷◌, []};
 ghost use Rattle.std.specs.Prelude.{slice_index_or, OnOk, IfOk};
 ghost use Rattle.dsv_cnf.specs.Formula.{IsOver};
 ghost use Rattle.dsv_term.specs.TermNode.{AreAlike, IsChoice, IsLawful};
 ghost use Rattle.dsv_term.specs.Word.{IsWidth, residue};
 ghost use Rattle.dsv_blast.specs.Gates.{zero_of};
-ghost use Rattle.dsv_blast.specs.Words.{built_bit, sign_turned, extended, at_least_wired};
+ghost use Rattle.dsv_blast.specs.Words.{sign_turned, extended, at_least_wired};
 ghost use Rattle.dsv_blast.specs.Words.{difference_built, multiple_built};
 ghost use Rattle.dsv_blast.specs.Blast.{bits_at, node_built};
 ghost use Rattle.dsv_blast.specs.Pushing.{AreEarlier};

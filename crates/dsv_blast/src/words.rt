@@ -1,11 +1,11 @@
 // Circuits of words. A word is a list of literals, lowest bit first.
-ghost use Rattle.std.specs.Prelude.{◌≡◌, ◌<◌, ◌≤◌, ◌^◌, ◌-◌, ◌++◌, ◌∷◌, [], length, replicate};
-ghost use Rattle.std.specs.Prelude.{cond, OnOk, IfOk};
+ghost use Rattle.std.specs.Prelude.{◌≡◌, ◌<◌, ◌≤◌, ◌-◌, [], length, replicate};
+ghost use Rattle.std.specs.Prelude.{OnOk, IfOk};
 ghost use Rattle.dsv_cnf.specs.Literal.{negation};
 ghost use Rattle.dsv_cnf.specs.Formula.{IsOver};
 ghost use Rattle.dsv_blast.specs.Gates.{and_wired, or_wired};
-ghost use Rattle.dsv_blast.specs.Words.{zip_from, constant_bits, negations, sign_turned, sign_of};
-ghost use Rattle.dsv_blast.specs.Words.{extended, add_from, carry_from, same_from, choice_from};
+ghost use Rattle.dsv_blast.specs.Words.{zip_from, negations, sign_turned};
+ghost use Rattle.dsv_blast.specs.Words.{add_from, carry_from, same_from, choice_from};
 ghost use Rattle.dsv_blast.specs.Words.{difference_built, at_least_wired};
 
 use crate::circuit::Circuit;

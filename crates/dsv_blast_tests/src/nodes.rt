@@ -1,6 +1,6 @@
 // The formula of each kind of node at one to three bits, against all values of its inputs. The
 // expected values were computed on lists of bits, by SMT-LIB's own definitions.
-ghost use Rattle.std.specs.Prelude.{◌≡◌, ◌<◌, length, IfOk, OnOk};
+ghost use Rattle.std.specs.Prelude.{◌≡◌, ◌<◌, length, IfOk};
 ghost use Rattle.dsv_term.specs.Terms.{width_of};
 ghost use Rattle.dsv_term.specs.Word.{IsWidth};
 

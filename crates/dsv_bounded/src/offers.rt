@@ -12,7 +12,7 @@ use crate::replayed_traces::replayed_trace;
 use crate::responses::driving_lists;
 use dsv_base::{NoMemory, WordList};
 use dsv_meaning::Trace;
-use dsv_netlist::{Netlist, Node};
+use dsv_netlist::Node;
 use dsv_quantiser::Quantised;
 use dsv_realise::realise;
 use std::alloc::Global;

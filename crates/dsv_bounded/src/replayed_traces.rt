@@ -1,5 +1,5 @@
 // Traces of inputs that are replayed.
-ghost use Rattle.std.specs.Prelude.{◌≡◌, ◌≤◌, length, IfOk, IfSome, IfNone};
+ghost use Rattle.std.specs.Prelude.{◌≤◌, length, IfOk, IfSome, IfNone};
 ghost use Rattle.std.specs.List.{All};
 ghost use Rattle.dsv_meaning.specs.Systems.{equations_of};
 ghost use Rattle.dsv_system.specs.Breaks.{IsInside, IsFirstBreak};

@@ -4,13 +4,11 @@ use Rattle.std.specs.Result.{IsErrAnd}
 use Rattle.dsv_names.specs.declared.property.Property.{Property}
 use Rattle.dsv_names.specs.declared.property.Property.TheVariants.{OfRoots}
 use Rattle.dsv_names.specs.declared.property.RootProperty.{RootProperty}
-use Rattle.dsv_word.specs.declared.format.Format.{Format}
 use Rattle.dsv_reader.specs.Controllers.{ControllerView}
 use Rattle.dsv_quantiser.specs.FixedPoint.{FixedPoint}
-use Rattle.dsv_quantiser.specs.Quantising.{fixed_point_of}
 use Rattle.dsv_quantiser.specs.declared.refusal.QuantRefusal.{QuantRefusal}
 use Rattle.dsv_forms.specs.declared.offers.Form.{Form}
-use Rattle.dsv_tested.specs.Tested.{tested_of}
+use Rattle.dsv_tested.specs.Tested.{side_of, tested_of}
 use Rattle.dsv_tested.specs.declared.side.Side.{Side}
 use Rattle.dsv_tested.specs.declared.side.Tested.{Tested}
 use Rattle.dsv_tested.specs.declared.side.Tested.TheVariants as tested
@@ -19,7 +17,7 @@ use Rattle.dsv_certfile.specs.declared.certificate.Certificate.{Certificate}
 use Rattle.dsv_certfile.specs.declared.job.Job.{Job}
 use Rattle.dsv_certfile.specs.declared.job.Size.{Size}
 use Rattle.dsv_certfile.specs.declared.job.Size.TheVariants as size
-use Rattle.dsv_certcheck.specs.Checks.{Checked, IsFormatFor, BecomesWords, IsChecked, Finds, words_check, side_of}
+use Rattle.dsv_certcheck.specs.Checks.{Checked, BecomesFor, IsChecked, Finds, words_check}
 use Rattle.dsv_certcheck.specs.Shown.{IsFalling, HasFalling, Has, IsShownOf}
 use Rattle.dsv_certcheck.specs.declared.check_refusal.CheckRefusal.TheVariants as refusal
 use Rattle.dsv_certcheck.proofs.WordsFound.{HasWords, has_words}
@@ -42,32 +40,27 @@ falling_has q p of_job s of_side found poly form e f g t u h =
     subst (λ x. Has q x s) (sym e) (subst (λ y. Has q (OfRoots p) y) (sym f) has)
 
 -- ---- the controller's words
-becomes_by : (c : ControllerView) (job of_certificate : Job) (format : Format) (outcome : Result FixedPoint QuantRefusal) → job ≡ of_certificate → IsFormatFor c job format
-    → outcome ≡ fixed_point_of c format job.realisation → BecomesWords c of_certificate outcome
-becomes_by c job of_certificate format outcome e modes becomes =
-    subst (λ j. BecomesWords c j outcome) e (record { format = format; modes = modes; becomes = sym becomes })
-
 found_err : (found : Checked) (why : QuantRefusal) → IsErrAnd found (λ r. r ≡ refusal.Quant why) → found ≡ Err (refusal.Quant why)
 found_err (Ok x) why h = absurd h
 found_err (Err r) why h = ap Err h
 
 -- the controller has no words
-pub refused_words : (c : ControllerView) (cert : Certificate) (job : Job) (format : Format) (why : QuantRefusal) (found : Checked) → job ≡ job_of cert → IsFormatFor c job format
-    → Err why ≡ fixed_point_of c format job.realisation → IsErrAnd found (λ r. r ≡ refusal.Quant why) → IsChecked c cert found
-refused_words c cert job format why found e modes becomes f =
-    subst (IsChecked c cert) (sym (found_err found why f)) (becomes_by c job (job_of cert) format (Err why) e modes becomes)
+pub refused_words : (c : ControllerView) (cert : Certificate) (job : Job) (why : QuantRefusal) (found : Checked) → job ≡ job_of cert → BecomesFor c job (Err why)
+    → IsErrAnd found (λ r. r ≡ refusal.Quant why) → IsChecked c cert found
+refused_words c cert job why found e b f =
+    subst (IsChecked c cert) (sym (found_err found why f)) (subst (λ j. BecomesFor c j (Err why)) e b)
 
 -- what is found of the words is found of the controller
-found_by : (c : ControllerView) (cert : Certificate) (q : FixedPoint) (found : Checked) → BecomesWords c (job_of cert) (Ok q) → Finds found (words_check q cert) → IsChecked c cert found
+found_by : (c : ControllerView) (cert : Certificate) (q : FixedPoint) (found : Checked) → BecomesFor c (job_of cert) (Ok q) → Finds found (words_check q cert) → IsChecked c cert found
 found_by c cert q (Err refusal.NoMemory) b h = tt
 found_by c cert q (Err (refusal.Quant why)) b h = absurd (subst HasWords h (has_words q cert))
 found_by c cert q found b h = record { words = q; becomes = b; checked = h }
 
-pub checked_words : (c : ControllerView) (cert : Certificate) (job : Job) (format : Format) (q : FixedPoint) (found : Checked) → job ≡ job_of cert → IsFormatFor c job format
-    → Ok q ≡ fixed_point_of c format job.realisation → Finds found (words_check q cert) → IsChecked c cert found
-checked_words c cert job format q found e modes becomes h = found_by c cert q found (becomes_by c job (job_of cert) format (Ok q) e modes becomes) h
+pub checked_words : (c : ControllerView) (cert : Certificate) (job : Job) (q : FixedPoint) (found : Checked) → job ≡ job_of cert → BecomesFor c job (Ok q)
+    → Finds found (words_check q cert) → IsChecked c cert found
+checked_words c cert job q found e b h = found_by c cert q found (subst (λ j. BecomesFor c j (Ok q)) e b) h
 
-pub shown_words : (c : ControllerView) (cert : Certificate) (job : Job) (format : Format) (q : FixedPoint) (found : Checked) → job ≡ job_of cert → IsFormatFor c job format
-    → Ok q ≡ fixed_point_of c format job.realisation → OnOk found (Has q (job_of cert).property (job_of cert).size) → OnOk found (IsShownOf c (job_of cert))
-shown_words c cert job format q found e modes becomes =
-    on_ok found (λ has. record { words = q; becomes = becomes_by c job (job_of cert) format (Ok q) e modes becomes; has = has })
+pub shown_words : (c : ControllerView) (cert : Certificate) (job : Job) (q : FixedPoint) (found : Checked) → job ≡ job_of cert → BecomesFor c job (Ok q)
+    → OnOk found (Has q (job_of cert).property (job_of cert).size) → OnOk found (IsShownOf c (job_of cert))
+shown_words c cert job q found e b =
+    on_ok found (λ has. record { words = q; becomes = subst (λ j. BecomesFor c j (Ok q)) e b; has = has })

@@ -1,4 +1,3 @@
 pub mod CheckLemmas
 pub mod Passing
-pub mod TestedCoefficients
 pub mod WordsFound

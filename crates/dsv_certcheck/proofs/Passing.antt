@@ -19,7 +19,7 @@ use Rattle.dsv_bounded.specs.RunQuestions.{question_formula, IsWithin}
 use Rattle.dsv_forms.specs.Refusals.{falls_refusal}
 use Rattle.dsv_forms.specs.declared.offers.Falls.{Falls}
 use Rattle.dsv_forms.proofs.OfferLemmas.{falls_passes}
-use Rattle.dsv_tested.specs.Tested.{tested_of}
+use Rattle.dsv_tested.specs.Tested.{side_of, tested_of}
 use Rattle.dsv_tested.specs.declared.side.Tested.{Tested}
 use Rattle.dsv_tested.specs.declared.side.Tested.TheVariants as tested
 use Rattle.dsv_delta.specs.declared.refusal.PolyWide.{PolyWide}
@@ -32,10 +32,10 @@ use Rattle.dsv_invariant.specs.declared.size.TheConstants.{UNBOUNDED_SAMPLES}
 use Rattle.dsv_certfile.specs.Lawful.{IsSize}
 use Rattle.dsv_certfile.specs.Limits.{most_samples}
 use Rattle.dsv_certfile.specs.declared.job.Size.TheVariants as size
-use Rattle.dsv_certcheck.specs.Checks.{Checked, misfit, size_check, verdict_at, log_check, run_check, is_some_samples, hints_check, sentences_check, shape_check, invariant_check, refusal_check, offer_check, tested_check, side_of, falls_check}
+use Rattle.dsv_certcheck.specs.Checks.{Checked, misfit, size_check, verdict_at, log_check, run_check, is_some_samples, hints_check, sentences_check, shape_check, invariant_check, refusal_check, offer_check, tested_check, falls_check}
 use Rattle.dsv_certcheck.specs.LineNumbers.{body_line, log_line}
 use Rattle.dsv_certcheck.specs.declared.check_refusal.CheckRefusal.TheVariants as refusal
-use Rattle.dsv_certcheck.proofs.TestedCoefficients.{some_coefficients}
+use Rattle.dsv_tested.proofs.TestedCoefficients.{some_coefficients}
 
 -- a question that is no larger than what is asked of formulas
 size_passes : (q : FixedPoint) (samples : ℕ) → IsWithin q samples → size_check q samples ≡ Ok tt

@@ -7,12 +7,9 @@ use Rattle.dsv_names.specs.declared.property.Property.{Property}
 use Rattle.dsv_names.specs.declared.property.Property.TheVariants as property
 use Rattle.dsv_names.specs.declared.property.RunProperty.{RunProperty}
 use Rattle.dsv_names.specs.declared.property.RunProperty.TheVariants as run
-use Rattle.dsv_names.specs.declared.property.RootProperty.{RootProperty}
-use Rattle.dsv_names.specs.declared.property.RootProperty.TheVariants as root
-use Rattle.dsv_word.specs.declared.format.Format.{Format}
 use Rattle.dsv_reader.specs.Controllers.{ControllerView}
 use Rattle.dsv_quantiser.specs.FixedPoint.{FixedPoint}
-use Rattle.dsv_quantiser.specs.Quantising.{fixed_point_of}
+use Rattle.dsv_quantiser.specs.Modes.{BecomesWords}
 use Rattle.dsv_quantiser.specs.declared.refusal.QuantRefusal.{QuantRefusal}
 use Rattle.dsv_meaning.specs.Equations.{order, registers_of}
 use Rattle.dsv_cnf.specs.FormulaView.{FormulaView}
@@ -27,9 +24,7 @@ use Rattle.dsv_delta.specs.declared.refusal.PolyWide.{PolyWide}
 use Rattle.dsv_forms.specs.Refusals.{falls_refusal}
 use Rattle.dsv_forms.specs.declared.offers.Falls.{Falls}
 use Rattle.dsv_forms.specs.declared.refusal.FormRefusal.{FormRefusal}
-use Rattle.dsv_tested.specs.Tested.{tested_of}
-use Rattle.dsv_tested.specs.declared.side.Side.{Side}
-use Rattle.dsv_tested.specs.declared.side.Side.TheVariants as side
+use Rattle.dsv_tested.specs.Tested.{side_of, tested_of}
 use Rattle.dsv_tested.specs.declared.side.Tested.{Tested}
 use Rattle.dsv_tested.specs.declared.side.Tested.TheVariants as tested
 use Rattle.dsv_template.specs.Candidates.{is_shaped}
@@ -138,12 +133,6 @@ tested_check (Ok (tested.Poly c)) offer = offer_check c offer
 tested_check (Ok tested.NoZeros) offer = Err refusal.NoZeros
 tested_check (Err wide) offer = Err (refusal.Wide wide.index)
 
--- the side of the controller that a property tests: stability its denominator, minimum phase its
--- numerator
-abbrev pub side_of : RootProperty → Side
-side_of root.Stability = side.Denominator
-side_of root.MinimumPhase = side.Numerator
-
 abbrev pub falls_check : FixedPoint → Property → Size → Falls → Checked
 falls_check q (property.OfRoots p) size.NoSize offer =
     tested_check (tested_of q (side_of p)) offer
@@ -157,24 +146,14 @@ words_check q (certificate.Invariant job candidate logs) =
     invariant_check q job.property job.size candidate logs
 words_check q (certificate.Falls job offer) = falls_check q job.property job.size offer
 
--- The format has the widths of the controller and the modes of the job.
-pub record IsFormatFor (c : ControllerView) (job : Job) (format : Format) : Type 0 where
-  pub int_bits : format.int_bits ≡ c.int_bits
-  pub frac_bits : format.frac_bits ≡ c.frac_bits
-  pub rounding : format.rounding ≡ job.rounding
-  pub overflow : format.overflow ≡ job.overflow
-
--- In the job's modes and realisation the controller becomes these words, or is refused so.
-pub record BecomesWords (c : ControllerView) (job : Job)
-    (outcome : Result FixedPoint QuantRefusal) : Type 0 where
-  pub format : Format
-  pub modes : IsFormatFor c job format
-  pub becomes : fixed_point_of c format job.realisation ≡ outcome
+-- in the job's realisation and modes the controller becomes these words, or is refused so
+abbrev pub BecomesFor : ControllerView → Job → Result FixedPoint QuantRefusal → Type 0
+BecomesFor c job outcome = BecomesWords c job.realisation job.rounding job.overflow outcome
 
 -- This is found of the words that the controller becomes.
 pub record IsFoundOf (c : ControllerView) (cert : Certificate) (found : Checked) : Type 0 where
   pub words : FixedPoint
-  pub becomes : BecomesWords c (job_of cert) (Ok words)
+  pub becomes : BecomesFor c (job_of cert) (Ok words)
   pub checked : words_check words cert ≡ found
 
 -- the result is what is found, or there was no memory
@@ -185,5 +164,5 @@ Finds found meant = meant ≡ found
 -- what is found for a controller
 abbrev pub IsChecked : ControllerView → Certificate → Checked → Type 0
 IsChecked c cert (Err refusal.NoMemory) = Unit {0}
-IsChecked c cert (Err (refusal.Quant why)) = BecomesWords c (job_of cert) (Err why)
+IsChecked c cert (Err (refusal.Quant why)) = BecomesFor c (job_of cert) (Err why)
 IsChecked c cert found = IsFoundOf c cert found

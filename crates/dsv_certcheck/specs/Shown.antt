@@ -13,9 +13,9 @@ use Rattle.dsv_meaning.specs.Systems.{equations_of}
 use Rattle.dsv_system.specs.Breaks.{Breaks}
 use Rattle.dsv_bounded.specs.RunQuestions.{Happens}
 use Rattle.dsv_forms.specs.declared.offers.Form.{Form}
-use Rattle.dsv_tested.specs.Tested.{tested_of}
+use Rattle.dsv_tested.specs.Tested.{side_of, tested_of}
 use Rattle.dsv_tested.specs.declared.side.Tested.TheVariants as tested
-use Rattle.dsv_certcheck.specs.Checks.{BecomesWords, side_of}
+use Rattle.dsv_certcheck.specs.Checks.{BecomesFor}
 use Rattle.dsv_certfile.specs.declared.job.Job.{Job}
 use Rattle.dsv_certfile.specs.declared.job.Size.{Size}
 use Rattle.dsv_certfile.specs.declared.job.Size.TheVariants as size
@@ -46,5 +46,5 @@ Has q p s = ⊥
 -- The words that the controller becomes have the job's property.
 pub record IsShownOf (c : ControllerView) (job : Job) : Type 0 where
   pub words : FixedPoint
-  pub becomes : BecomesWords c job (Ok words)
+  pub becomes : BecomesFor c job (Ok words)
   pub has : Has words job.property job.size

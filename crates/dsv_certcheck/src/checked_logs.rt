@@ -1,5 +1,5 @@
 // Logs that are checked against formulas.
-ghost use Rattle.std.specs.Prelude.{◌≡◌, ◌≤◌, ◌<◌, ◌^◌, ◌-◌, length, OnOk};
+ghost use Rattle.std.specs.Prelude.{◌≤◌, ◌<◌, ◌^◌, ◌-◌, length, OnOk};
 ghost use Rattle.dsv_cnf.specs.Formula.{IsUnsatisfiable};
 ghost use Rattle.dsv_bounded.specs.RunQuestions.{Happens};
 ghost use Rattle.dsv_invariant.specs.Causes.{Holds, IsShaped};

@@ -2,7 +2,6 @@
 ghost use Rattle.std.specs.Prelude.{◌≡◌, OnOk};
 ghost use Rattle.dsv_certcheck.specs.Checks.{Finds, IsChecked, words_check, hints_check};
 ghost use Rattle.dsv_certcheck.specs.Checks.{invariant_check, falls_check, offer_check};
-ghost use Rattle.dsv_certcheck.specs.Checks.{IsFormatFor, side_of};
 ghost use Rattle.dsv_certcheck.specs.Shown.{Has, IsShownOf, IsFalling};
 ghost use Rattle.dsv_certfile.specs.Texts.{job_of};
 
@@ -12,12 +11,11 @@ use crate::line_numbers::{KIND_LINE, form_line};
 use dsv_certfile::{Certificate, CheckFault, Job, MOST_JOB_SAMPLES, Size};
 use dsv_forms::{Falls, Poly, check_falls};
 use dsv_hints::Log;
-use dsv_names::{Property, RootProperty, RunProperty};
-use dsv_quantiser::{Quantised, quantise};
+use dsv_names::{Property, RunProperty};
+use dsv_quantiser::{Quantised, quantise_in};
 use dsv_reader::Controller;
 use dsv_template::{Candidate, ThreeLogs};
-use dsv_tested::{Side, Tested, tested};
-use dsv_word::Format;
+use dsv_tested::{Tested, side_of, tested};
 use std::alloc::Global;
 
 /// The kind belongs to no such job.
@@ -77,16 +75,6 @@ fn check_offer(poly: &Poly, offer: &Falls) -> Result<(), CheckRefusal>
     }
 }
 
-/// The side of a controller that a property tests.
-fn side_of(property: RootProperty) -> Side
-    ensures { result ≡ side_of property }
-{
-    match property {
-        RootProperty::Stability => Side::Denominator,
-        RootProperty::MinimumPhase => Side::Numerator,
-    }
-}
-
 /// Checks that a form shows the property of a job.
 fn check_form(q: &Quantised, job: &Job, offer: &Falls) -> Result<(), CheckRefusal>
     ensures found { result ≡ falls_check q.now job.now.property job.now.size offer.now }
@@ -118,22 +106,6 @@ fn check_words(alloc: Global, q: &Quantised, certificate: &Certificate) -> Resul
     }
 }
 
-/// The format of a controller's words in the modes of a job.
-fn format_of(controller: &Controller, job: &Job) -> Format
-    ensures { IsFormatFor controller.now job.now result }
-{
-    let format = Format::new(
-        controller.int_bits(),
-        controller.frac_bits(),
-        job.rounding,
-        job.overflow,
-    );
-    match format {
-        Ok(format) => format,
-        Err(_) => unreachable!(),
-    }
-}
-
 /// Checks a certificate against a controller: the controller's words in the certificate's modes,
 /// and from these the formulas of its job, or the polynomial, are made anew, and nothing else that
 /// the certificate says is believed. What passes has the certificate's property, whatever else is
@@ -147,6 +119,6 @@ pub fn check(
     ensures shows { OnOk result (IsShownOf controller.now (job_of certificate.now)) }
 {
     let job = certificate.job();
-    let q = quantise(controller, format_of(controller, job), job.realisation)?;
+    let q = quantise_in(controller, job.realisation, job.rounding, job.overflow)?;
     check_words(alloc, &q, certificate)
 }

@@ -6,7 +6,6 @@ ghost use Rattle.dsv_certcheck.specs.LineNumbers.{log_line};
 ghost use Rattle.dsv_template.specs.declared.verdict.SetPart.TheVariants as part;
 
 use dsv_forms::{Falls, FormRefusal, Part};
-use dsv_hints::Log;
 use dsv_template::{Candidate, SetPart, ThreeLogs};
 
 /// The line of the kind.

@@ -15,7 +15,7 @@ use Rattle.dsv_certfile.specs.declared.fault.CertRefusal.{CertRefusal}
 use Rattle.dsv_certfile.specs.declared.fault.CheckFault.{CheckFault}
 use Rattle.dsv_certfile.specs.declared.job.Job.{Job}
 use Rattle.dsv_certfile.proofs.WrittenCertificates.{written_is_read}
-use Rattle.dsv_certcheck.specs.Checks.{Checked, words_check, BecomesWords, IsFoundOf, IsChecked}
+use Rattle.dsv_certcheck.specs.Checks.{Checked, words_check, BecomesFor, IsFoundOf, IsChecked}
 use Rattle.dsv_certcheck.specs.declared.check_refusal.CheckRefusal.{CheckRefusal}
 use Rattle.dsv_certcheck.specs.declared.check_refusal.CheckRefusal.TheVariants as refusal
 use Rattle.dsv_command.specs.Jobs.{Task, decides, checks_time, writes, searches, seeks_set, simulates, checks, Asked}
@@ -28,16 +28,9 @@ use Rattle.dsv_cli.proofs.CertifiedWords.{design_in, Fits, certificate_fits}
 use Rattle.dsv_cli.proofs.OneAnswerStages.{Stage, long, faulty, refused, in_words, IsStage, one_stage}
 
 -- ---- the words of the certificate's job
-accepted_of : (bytes : List ℕ) (controller : ControllerView) (job : Job) (o : Result FixedPoint QuantRefusal) → IsController bytes controller → BecomesWords controller job o
+accepted_of : (bytes : List ℕ) (controller : ControllerView) (job : Job) (o : Result FixedPoint QuantRefusal) → IsController bytes controller → BecomesFor controller job o
     → IsAccepted (design_in job) bytes o
-accepted_of bytes controller job o a b = record {
-  short = a.short;
-  controller = controller;
-  text = a.text;
-  format = b.format;
-  modes = record { int_bits = b.modes.int_bits; frac_bits = b.modes.frac_bits; rounding = b.modes.rounding; overflow = b.modes.overflow };
-  becomes = b.becomes;
-}
+accepted_of bytes controller job o a b = record { short = a.short; controller = controller; text = a.text; becomes = b }
 
 same_words : (a b : ControllerView) (v w : FixedPoint) → in_words a v ≡ in_words b w → v ≡ w
 same_words a b v w e = cc

@@ -19,16 +19,16 @@ use Rattle.dsv_certcheck.specs.Checks.{IsChecked}
 use Rattle.dsv_certcheck.specs.declared.check_refusal.CheckRefusal.TheVariants as refusal
 use Rattle.dsv_cli.specs.declared.outcome.Outcome.{Outcome}
 use Rattle.dsv_cli.specs.declared.outcome.Outcome.TheVariants as outcome
-use Rattle.dsv_cli.specs.Headline.{longest_file, IsForWords, IsCheckOf, Spells, IsAccepted, IsTested, IsTimed, IsSearch, IsWriting, IsSeeking, AsksOver, IsRun, IsRow}
+use Rattle.dsv_cli.specs.Headline.{longest_file, BecomesIn, IsForWords, IsCheckOf, Spells, IsAccepted, IsTested, IsTimed, IsSearch, IsWriting, IsSeeking, AsksOver, IsRun, IsRow}
 use Rattle.dsv_bounded.specs.Verdicts.{IsTrace, IsCycle}
 use Rattle.dsv_bounded.specs.RunQuestions.{IsWithin}
 use Rattle.dsv_bounded.specs.RunAnswers.{NeverHappens, GaveUp, IsFormulaOf, IsTooLarge}
 use Rattle.dsv_cli.specs.Simulating.{IsRunOver, IsFirstOutside}
 use Rattle.dsv_cli.specs.Sets.{KeepsTo, NoneIsGood}
-use Rattle.dsv_cli.specs.Causes.{BecomesWords, IsDecision, IsOfSets, IsOfTask, IsOfController, IsOfBytes, HasRow, HasRowOf}
+use Rattle.dsv_cli.specs.Causes.{IsDecision, IsOfSets, IsOfTask, IsOfController, IsOfBytes, HasRow, HasRowOf}
 
 -- what a controller in words comes to is what the controller comes to
-pub of_words : (c : ControllerView) (design : Design) (task : Task) (words : FixedPoint) (found : Outcome) → BecomesWords c design (Ok words) → IsOfTask c task words found
+pub of_words : (c : ControllerView) (design : Design) (task : Task) (words : FixedPoint) (found : Outcome) → BecomesIn c design (Ok words) → IsOfTask c task words found
     → IsOfController c design task found
 of_words c design (decides p) words (outcome.Answered (answer.QuantRefused r)) b h = absurd h
 of_words c design checks_time words (outcome.Answered (answer.QuantRefused r)) b h = absurd h
@@ -45,9 +45,9 @@ told_by P bytes None e h = tt
 told_by P bytes (Some f) e h = subst P e h
 
 abbrev accepted_by : (design : Design) (bytes : List ℕ) (c : ControllerView) (outcome : Result FixedPoint QuantRefusal) → length bytes ≤ longest_file → IsTextOf bytes c
-    → BecomesWords c design outcome → IsAccepted design bytes outcome
+    → BecomesIn c design outcome → IsAccepted design bytes outcome
 accepted_by design bytes c outcome short text b =
-    record { short = short; controller = c; text = text; format = b.format; modes = b.modes; becomes = b.becomes }
+    record { short = short; controller = c; text = text; becomes = b }
 
 -- what the answer that a job is too large says of the bytes
 abbrev pub SizeCause : FilesSeen → Asked → ℕ → List ℕ → Type 0

@@ -7,14 +7,12 @@ use Rattle.dsv_names.specs.declared.property.Property.TheVariants.{OfRuns, OfRoo
 use Rattle.dsv_names.specs.declared.property.RunProperty.{RunProperty}
 use Rattle.dsv_names.specs.declared.property.RunProperty.TheVariants.{Overflow}
 use Rattle.dsv_names.specs.declared.property.RootProperty.{RootProperty}
-use Rattle.dsv_names.specs.declared.property.RootProperty.TheVariants as property
 use Rattle.dsv_quantiser.specs.FixedPoint.{FixedPoint}
 use Rattle.dsv_forms.specs.declared.offers.Form.{Form}
 use Rattle.dsv_forms.specs.declared.offers.Falls.{Falls}
 use Rattle.dsv_hints.specs.declared.step.Step.{Step}
 use Rattle.dsv_template.specs.declared.candidate.Candidate.{Candidate}
 use Rattle.dsv_template.specs.declared.verdict.ThreeLogs.{ThreeLogs}
-use Rattle.dsv_tested.specs.Tested.{tested_of}
 use Rattle.dsv_tested.specs.declared.side.Tested.TheVariants as tested
 use Rattle.dsv_bounded.specs.RunQuestions.{question_formula}
 use Rattle.dsv_forms.specs.Padded.{offer_alone}
@@ -30,14 +28,14 @@ use Rattle.dsv_certfile.specs.declared.certificate.Certificate.TheVariants as ce
 use Rattle.dsv_certfile.specs.declared.job.Job.{Job}
 use Rattle.dsv_certfile.specs.declared.job.Size.TheVariants as size
 use Rattle.dsv_certfile.proofs.LawfulWritten.{hints_are_lawful, invariant_is_lawful, falls_are_lawful, falls_text}
-use Rattle.dsv_certcheck.specs.Checks.{words_check, side_of as checked_side}
+use Rattle.dsv_certcheck.specs.Checks.{words_check}
 use Rattle.dsv_certcheck.proofs.Passing.{hints_pass, invariant_passes, falls_pass}
 use Rattle.dsv_command.specs.Jobs.{Task, decides, searches, seeks_set, Asked}
 use Rattle.dsv_command.specs.declared.job.Design.{Design}
 use Rattle.dsv_report.specs.Output.{job_with, certificate_for, certificate_of}
 use Rattle.dsv_report.specs.declared.answers.Answer.{Answer}
 use Rattle.dsv_report.specs.declared.answers.Answer.TheVariants as answer
-use Rattle.dsv_cli.specs.Headline.{IsAccepted, side_of, IsTested, IsSearch, IsSeeking, ShowsFall, IsRow}
+use Rattle.dsv_cli.specs.Headline.{IsAccepted, IsTested, IsSearch, IsSeeking, ShowsFall, IsRow}
 use Rattle.dsv_bounded.specs.RunAnswers.{NeverHappens}
 use Rattle.dsv_cli.specs.Sets.{KeepsTo}
 
@@ -84,10 +82,6 @@ invariant_fits bytes job conflicts words candidate logs s k t = record {
   job = refl;
 }
 
-one_side : (p : RootProperty) → checked_side p ≡ side_of p
-one_side property.Stability = refl
-one_side property.MinimumPhase = refl
-
 abbrev falls_for : Design → RootProperty → Falls → Certificate
 falls_for design p offer = certificate.Falls (job_with design (OfRoots p) size.NoSize) offer
 
@@ -99,7 +93,7 @@ falls_fit bytes job poly offer fall t s known =
       fits = record {
         words = t.words;
         accepted = t.accepted;
-        passes = falls_pass t.words t.property poly (offer_alone offer) (ap (tested_of t.words) (one_side t.property) ∙ t.tested) (accepted_alone poly offer known.places s.accepted);
+        passes = falls_pass t.words t.property poly (offer_alone offer) t.tested (accepted_alone poly offer known.places s.accepted);
       };
       lawful = falls_are_lawful poly certified offer refl known s.accepted;
       text = falls_text poly certified offer known s.accepted;

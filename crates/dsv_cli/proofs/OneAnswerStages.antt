@@ -2,14 +2,12 @@
 use Rattle.std.proofs.Common.{◌≡◌, ◌∙◌, sym, ap, refl, ℕ, ◌<◌, ◌≤◌, List, length, arith}
 use Rattle.std.specs.Prelude.{Result, Ok, Err}
 use Rattle.dsv_token.specs.declared.refusal.FileRefusal.{FileRefusal}
-use Rattle.dsv_word.specs.declared.format.Format.{Format}
 use Rattle.dsv_reader.specs.Controllers.{ControllerView}
 use Rattle.dsv_reader.specs.Texts.{IsFaultOf}
 use Rattle.dsv_reader.proofs.TextLaws.{answers_apart, one_design}
 use Rattle.dsv_quantiser.specs.FixedPoint.{FixedPoint}
-use Rattle.dsv_quantiser.specs.Quantising.{fixed_point_of}
 use Rattle.dsv_quantiser.specs.declared.refusal.QuantRefusal.{QuantRefusal}
-use Rattle.dsv_generator.proofs.Formats.{one_format}
+use Rattle.dsv_quantiser.proofs.Modes.{become_one}
 use Rattle.dsv_command.specs.declared.job.Design.{Design}
 use Rattle.dsv_cli.specs.Headline.{longest_file, IsAccepted}
 
@@ -17,15 +15,7 @@ use Rattle.dsv_cli.specs.Headline.{longest_file, IsAccepted}
 one_outcome : (design : Design) (bytes : List ℕ) (o p : Result FixedPoint QuantRefusal) → IsAccepted design bytes o → IsAccepted design bytes p → o ≡ p
 one_outcome design bytes o p h k =
     let c = one_design bytes h.controller k.controller h.text k.text in
-    let f = one_format h.format k.format
-    (h.modes.int_bits ∙ ap (λ (x : ControllerView). x.int_bits) c ∙ sym k.modes.int_bits)
-    (h.modes.frac_bits ∙ ap (λ (x : ControllerView). x.frac_bits) c ∙ sym k.modes.frac_bits)
-    (h.modes.rounding ∙ sym k.modes.rounding)
-    (h.modes.overflow ∙ sym k.modes.overflow) in
-    sym h.becomes
-    ∙ ap (λ (x : ControllerView). fixed_point_of x h.format design.realisation) c
-    ∙ ap (λ (x : Format). fixed_point_of k.controller x design.realisation) f
-    ∙ k.becomes
+    become_one h.controller k.controller design.realisation design.rounding design.overflow o p c h.becomes k.becomes
 
 -- how far a file comes: over the limit, no controller's, one that is refused in words, or a controller and its words
 pub data Stage : Type 0 where

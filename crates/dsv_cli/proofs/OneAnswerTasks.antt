@@ -18,13 +18,13 @@ use Rattle.dsv_forms.specs.FallForm.{IsFallForm}
 use Rattle.dsv_forms.specs.declared.offers.FormOffer.{FormOffer}
 use Rattle.dsv_closed_forms.specs.ClosedForm.{closed_form_of}
 use Rattle.dsv_delta.specs.declared.refusal.PolyWide.{PolyWide}
-use Rattle.dsv_tested.specs.Tested.{tested_of}
+use Rattle.dsv_tested.specs.Tested.{side_of, tested_of}
 use Rattle.dsv_tested.specs.declared.side.Tested.{Tested}
 use Rattle.dsv_tested.specs.declared.side.Tested.TheVariants as tested
 use Rattle.dsv_command.specs.Jobs.{Task, decides, checks_time, writes, searches, seeks_set, simulates, checks}
 use Rattle.dsv_report.specs.declared.answers.Answer.{Answer}
 use Rattle.dsv_report.specs.declared.answers.Answer.TheVariants as answer
-use Rattle.dsv_cli.specs.Headline.{degree, side_of, ShowsFall, ShowsKeptAway}
+use Rattle.dsv_cli.specs.Headline.{degree, ShowsFall, ShowsKeptAway}
 use Rattle.dsv_cli.specs.Proposers.{HasClosedForm}
 use Rattle.dsv_cli.specs.Simulating.{IsFirstOutside}
 use Rattle.dsv_names.specs.declared.property.RunProperty.{RunProperty}

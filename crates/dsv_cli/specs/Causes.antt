@@ -1,18 +1,15 @@
 -- The stages of a run and what each gives; private contracts alone cite it. `Headline` has the
 -- table that they lead to.
-use Rattle.std.specs.Prelude.{◌≡◌, ℕ, List, Option, IfSome, Result, Ok, Err, ℤ}
+use Rattle.std.specs.Prelude.{◌≡◌, ℕ, List, Option, IfSome, Ok, Err, ℤ}
 use Rattle.dsv_base.specs.Seen.{FilesSeen}
 use Rattle.dsv_names.specs.declared.property.RunProperty.{RunProperty}
 use Rattle.dsv_names.specs.declared.property.RunProperty.TheVariants as run
 use Rattle.dsv_names.specs.declared.property.RootProperty.{RootProperty}
 use Rattle.dsv_names.specs.declared.property.RootProperty.TheVariants as property
-use Rattle.dsv_word.specs.declared.format.Format.{Format}
 use Rattle.dsv_reader.specs.Controllers.{ControllerView}
 use Rattle.dsv_reader.specs.Texts.{IsTextOf, IsFaultOf}
 use Rattle.dsv_quantiser.specs.FixedPoint.{FixedPoint}
-use Rattle.dsv_quantiser.specs.Quantising.{fixed_point_of}
-use Rattle.dsv_quantiser.specs.declared.refusal.QuantRefusal.{QuantRefusal}
-use Rattle.dsv_tested.specs.Tested.{tested_of}
+use Rattle.dsv_tested.specs.Tested.{side_of, tested_of}
 use Rattle.dsv_tested.specs.declared.side.Tested.TheVariants as tested
 use Rattle.dsv_command.specs.Jobs.{Task, decides, checks_time, writes, searches}
 use Rattle.dsv_command.specs.Jobs.{seeks_set, simulates, checks, Asked}
@@ -21,7 +18,7 @@ use Rattle.dsv_report.specs.declared.answers.Answer.{Answer}
 use Rattle.dsv_report.specs.declared.answers.Answer.TheVariants as answer
 use Rattle.dsv_cli.specs.declared.outcome.Outcome.{Outcome}
 use Rattle.dsv_cli.specs.declared.outcome.Outcome.TheVariants as outcome
-use Rattle.dsv_cli.specs.Headline.{IsFormatOf, IsTested, Decides, IsRow, side_of}
+use Rattle.dsv_cli.specs.Headline.{BecomesIn, IsTested, Decides, IsRow}
 use Rattle.dsv_cli.specs.Headline.{ShowsFall, ShowsKeptAway, ShowsNoForm, IsAccepted}
 use Rattle.dsv_bounded.specs.Verdicts.{IsTrace, IsCycle}
 use Rattle.dsv_bounded.specs.RunQuestions.{IsWithin}
@@ -116,23 +113,15 @@ IsOfTask c (simulates inputs) words (outcome.Answered found) = IsOfRun words inp
 IsOfTask c (simulates inputs) words other = ⊥
 IsOfTask c (checks name) words found = ⊥
 
--- in the words of its format, by the job's modes and realisation, the controller is this, or
--- refused so
-pub record BecomesWords (c : ControllerView) (design : Design)
-    (outcome : Result FixedPoint QuantRefusal) : Type 0 where
-  pub format : Format
-  pub modes : IsFormatOf c design format
-  pub becomes : fixed_point_of c format design.realisation ≡ outcome
-
 pub record IsOfWords (c : ControllerView) (design : Design) (task : Task) (found : Outcome) :
     Type 0 where
   pub words : FixedPoint
-  pub becomes : BecomesWords c design (Ok words)
+  pub becomes : BecomesIn c design (Ok words)
   pub answer : IsOfTask c task words found
 
 abbrev pub IsOfController : ControllerView → Design → Task → Outcome → Type 0
 IsOfController c design task (outcome.Answered (answer.QuantRefused r)) =
-    BecomesWords c design (Err r)
+    BecomesIn c design (Err r)
 IsOfController c design task found = IsOfWords c design task found
 
 pub record IsOfText (job : Asked) (bytes : List ℕ) (found : Outcome) : Type 0 where

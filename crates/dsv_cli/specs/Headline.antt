@@ -10,11 +10,10 @@ use Rattle.dsv_names.specs.declared.property.RunProperty.{RunProperty}
 use Rattle.dsv_names.specs.declared.property.RunProperty.TheVariants as run
 use Rattle.dsv_names.specs.declared.property.RootProperty.{RootProperty}
 use Rattle.dsv_names.specs.declared.property.RootProperty.TheVariants as property
-use Rattle.dsv_word.specs.declared.format.Format.{Format}
 use Rattle.dsv_reader.specs.Controllers.{ControllerView}
 use Rattle.dsv_reader.specs.Texts.{IsTextOf, IsFaultOf}
 use Rattle.dsv_quantiser.specs.FixedPoint.{FixedPoint}
-use Rattle.dsv_quantiser.specs.Quantising.{fixed_point_of}
+use Rattle.dsv_quantiser.specs.Modes.{BecomesWords}
 use Rattle.dsv_quantiser.specs.declared.refusal.QuantRefusal.{QuantRefusal}
 use Rattle.dsv_forms.specs.declared.offers.Form.{Form}
 use Rattle.dsv_forms.specs.declared.offers.Falls.{Falls}
@@ -23,9 +22,7 @@ use Rattle.dsv_forms.specs.declared.offers.FormOffer.TheVariants as offered
 use Rattle.dsv_forms.specs.FallForm.{IsFallForm}
 use Rattle.dsv_forms.specs.Refusals.{falls_refusal, kept_away_refusal}
 use Rattle.dsv_delta.specs.declared.refusal.PolyWide.{PolyWide}
-use Rattle.dsv_tested.specs.Tested.{tested_of}
-use Rattle.dsv_tested.specs.declared.side.Side.{Side}
-use Rattle.dsv_tested.specs.declared.side.Side.TheVariants as side
+use Rattle.dsv_tested.specs.Tested.{side_of, tested_of}
 use Rattle.dsv_tested.specs.declared.side.Tested.{Tested}
 use Rattle.dsv_tested.specs.declared.side.Tested.TheVariants as tested
 use Rattle.dsv_closed_forms.specs.ClosedForm.{closed_form_of}
@@ -73,12 +70,10 @@ longest_file = 65536
 abbrev pub longest_certificate : ℕ
 longest_certificate = 2 ^ 26
 
--- The format has the widths of the controller and the modes of the job.
-pub record IsFormatOf (c : ControllerView) (design : Design) (format : Format) : Type 0 where
-  pub int_bits : format.int_bits ≡ c.int_bits
-  pub frac_bits : format.frac_bits ≡ c.frac_bits
-  pub rounding : format.rounding ≡ design.rounding
-  pub overflow : format.overflow ≡ design.overflow
+-- in the job's realisation and modes the controller becomes these words, or is refused so
+abbrev pub BecomesIn : ControllerView → Design → Result FixedPoint QuantRefusal → Type 0
+BecomesIn c design outcome =
+    BecomesWords c design.realisation design.rounding design.overflow outcome
 
 -- The bytes are the text of a controller, which in the job's realisation and modes becomes these
 -- words, or is refused so.
@@ -87,15 +82,7 @@ pub record IsAccepted (design : Design) (bytes : List ℕ)
   pub short : length bytes ≤ longest_file
   pub controller : ControllerView
   pub text : IsTextOf bytes controller
-  pub format : Format
-  pub modes : IsFormatOf controller design format
-  pub becomes : fixed_point_of controller format design.realisation ≡ outcome
-
--- the side of the controller that a property tests: stability its denominator, minimum phase its
--- numerator
-abbrev pub side_of : RootProperty → Side
-side_of property.Stability = side.Denominator
-side_of property.MinimumPhase = side.Numerator
+  pub becomes : BecomesIn controller design outcome
 
 -- the task decides a property of roots
 abbrev pub Decides : Task → Type 0

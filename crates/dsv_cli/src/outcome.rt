@@ -1,7 +1,7 @@
 // Finds what a job comes to on the bytes of a controller file.
-ghost use Rattle.std.specs.Prelude.{◌≡◌, ◌≤◌, length};
+ghost use Rattle.std.specs.Prelude.{◌≤◌, length};
 ghost use Rattle.dsv_command.specs.Asking.{asked_task, asked_of};
-ghost use Rattle.dsv_cli.specs.Headline.{longest_file, IsFormatOf, IsForWords, side_of};
+ghost use Rattle.dsv_cli.specs.Headline.{longest_file, IsForWords};
 ghost use Rattle.dsv_cli.specs.Causes.{IsOfProperty, IsOfTask, IsOfController};
 ghost use Rattle.dsv_cli.specs.Causes.{IsOfBytes, HasRowOf, AnswersPlainly};
 
@@ -12,11 +12,10 @@ use dsv_command::{Budget, Design, Job, Task};
 use dsv_delta::PolyWide;
 use dsv_forms::Poly;
 use dsv_names::RootProperty;
-use dsv_quantiser::{Quantised, quantise};
+use dsv_quantiser::{Quantised, quantise_in};
 use dsv_reader::{Controller, FileRefusal, read};
 use dsv_report::Answer;
-use dsv_tested::{Side, Tested, tested};
-use dsv_word::Format;
+use dsv_tested::{Tested, side_of, tested};
 use std::alloc::Global;
 
 /// What a job on a file comes to.
@@ -29,32 +28,6 @@ pub enum Outcome {
     /// The answer on runs of any length of the controller in these words, which has to be sought
     /// with this budget.
     Unbounded(Quantised, Budget),
-}
-
-/// The format of a controller's words in a design.
-fn format_of(controller: &Controller, design: Design) -> Format
-    ensures { IsFormatOf controller.now design result }
-{
-    let format = Format::new(
-        controller.int_bits(),
-        controller.frac_bits(),
-        design.rounding,
-        design.overflow,
-    );
-    match format {
-        Ok(format) => format,
-        Err(_) => unreachable!(),
-    }
-}
-
-/// The side of a controller that a property tests.
-fn side_of(property: RootProperty) -> Side
-    ensures { result ≡ side_of property }
-{
-    match property {
-        RootProperty::Stability => Side::Denominator,
-        RootProperty::MinimumPhase => Side::Numerator,
-    }
 }
 
 /// What a property of a controller in words comes to.
@@ -103,8 +76,12 @@ fn controller_outcome(
     ensures controller { IsOfController controller.now design (asked_task task.now) result }
     ensures plain { AnswersPlainly result }
 {
-    let format = format_of(controller, design);
-    match quantise(controller, format, design.realisation) {
+    match quantise_in(
+        controller,
+        design.realisation,
+        design.rounding,
+        design.overflow,
+    ) {
         Ok(words) => task_outcome(alloc, controller, words, task),
         Err(refusal) => Outcome::Answered(Answer::QuantRefused(refusal)),
     }

@@ -1,5 +1,5 @@
 // Checks whether the work of a sample is done in time.
-ghost use Rattle.std.specs.Prelude.{◌≡◌, IfOk};
+ghost use Rattle.std.specs.Prelude.{IfOk};
 ghost use Rattle.dsv_reader.specs.Controllers.{IsTime};
 ghost use Rattle.dsv_cli.specs.Causes.{IsOfTiming, IsPlain};
 ghost use Rattle.dsv_cli.specs.Timing.{IsTimingOf};

@@ -2,7 +2,6 @@
 ghost use Rattle.std.specs.Prelude.{◌≡◌, None};
 ghost use Rattle.dsv_cli_tests.specs.Hostile.{too_deep, no_state};
 
-use arrayvec::ArrayVec;
 use dsv_base::{MemSink, NoMemory, SilentFiles};
 use dsv_cli::{Answer, FormProposer, InvariantProposer, run};
 use dsv_template::{

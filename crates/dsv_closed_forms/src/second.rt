@@ -9,7 +9,7 @@ ghost use Rattle.dsv_closed_forms.specs.SmallCoefficients.{AreSmall};
 ghost use Rattle.dsv_closed_forms.specs.Entries.{rows_of, HasSmallEntries};
 
 use crate::coefficients::Coefficients;
-use crate::narrow::{are_equal, is_less, negative, product, sum};
+use crate::narrow::{are_equal, is_less, negative, product};
 use crate::padded::{
     Entries, diagonal_rest, form_of, matrix_of_two, no_squares, row_of_two, start_of, unit_squares,
     unit_start,

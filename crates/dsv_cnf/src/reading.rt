@@ -1,7 +1,7 @@
 // Reading a formula from DIMACS text.
-ghost use Rattle.std.specs.Prelude.{◌≡◌, ◌+◌, ◌^◌, ◌<◌, ◌≤◌, ◌⊎◌, [], Ok, Err};
-ghost use Rattle.std.specs.Prelude.{Some, false, length, drop, slice_range};
-ghost use Rattle.std.specs.Prelude.{IfOk, IfErr, IfSome, OnOk, OnErr};
+ghost use Rattle.std.specs.Prelude.{◌≡◌, ◌+◌, ◌^◌, ◌<◌, ◌≤◌, [], Ok, Err};
+ghost use Rattle.std.specs.Prelude.{Some, false, length, drop};
+ghost use Rattle.std.specs.Prelude.{IfOk, IfErr, IfSome, OnOk};
 ghost use Rattle.dsv_cnf.specs.Reading.{clauses_from, comments_end, header_of, number_end};
 ghost use Rattle.dsv_cnf.specs.Reading.{number_of, part_of, part_of_number, reading, end_clause};
 ghost use Rattle.dsv_cnf.specs.Reading.{take_part, word_end, IsPartOver, IsRefusal, finish};

@@ -1,8 +1,8 @@
 // Synthetic division by z - 1.
 #![tactic(auto, using(dsv_algebra::proofs::Casts::casts))]
 
-ghost use Rattle.std.specs.Prelude.{◌≡◌, ℕ, ◌-◌, ◌<◌, ◌≤◌, length};
-ghost use Rattle.std.specs.Prelude.{take, pos, slice_index_or};
+ghost use Rattle.std.specs.Prelude.{◌≡◌, ℕ, ◌-◌, ◌<◌, length};
+ghost use Rattle.std.specs.Prelude.{pos, slice_index_or};
 ghost use Rattle.dsv_algebra.specs.Narrow.{narrow_limit};
 ghost use Rattle.dsv_algebra.specs.Vectors.{vector_of};
 ghost use Rattle.dsv_delta.specs.Binomials.{binomial_sum, weight};

@@ -2,8 +2,8 @@
 #![tactic(auto, using(dsv_algebra::proofs::Casts::casts))]
 
 ghost use Rattle.std.specs.Prelude.{◌≡◌, ◌<◌, ◌≤◌, ◌+◌, ◌-◌, ℕ};
-ghost use Rattle.std.specs.Prelude.{length, Bool, true, pos};
-ghost use Rattle.std.specs.Prelude.{neg_ℤ, slice_index_or, min, max, ◌⊎◌};
+ghost use Rattle.std.specs.Prelude.{length, pos};
+ghost use Rattle.std.specs.Prelude.{neg_ℤ, slice_index_or, min, max};
 ghost use Rattle.dsv_algebra.specs.Vectors.{vector_of, matrix_of};
 ghost use Rattle.dsv_forms.specs.Poly.{greatest_order, most_coefficients};
 ghost use Rattle.dsv_forms.specs.Sums.{sum_from, summand_where, product, image_sum, fall_sum};

@@ -1,15 +1,14 @@
 // The check of squares, which show that a form is positive or that it is nowhere negative.
 ghost use Rattle.std.specs.Prelude.{◌≡◌, ◌<◌, ◌≤◌, not, int_lt};
-ghost use Rattle.std.specs.Prelude.{true, List, [], ◌∷◌, ℕ, pos};
-ghost use Rattle.std.specs.Prelude.{IfOk, Some, ◌<ℤ◌, ◌≤ℤ◌, ◌*ℤ◌, ◌+ℤ◌};
-ghost use Rattle.std.specs.Option.{option_and_then, option_map};
-ghost use Rattle.dsv_algebra.specs.Narrow.{narrow_of};
+ghost use Rattle.std.specs.Prelude.{true, [], ◌∷◌, pos};
+ghost use Rattle.std.specs.Prelude.{IfOk, Some, ◌<ℤ◌, ◌≤ℤ◌};
+ghost use Rattle.std.specs.Option.{option_map};
 ghost use Rattle.dsv_algebra.specs.Vectors.{Vector, form_at, matrix_of, IsNotZero};
 ghost use Rattle.dsv_forms.specs.Poly.{greatest_order};
-ghost use Rattle.dsv_forms.specs.Refusals.{refusal_of, first_of, is_symmetric, rest_of, bad_rest};
+ghost use Rattle.dsv_forms.specs.Refusals.{refusal_of, first_of, is_symmetric, bad_rest};
 ghost use Rattle.dsv_forms.specs.Refusals.{positive_weight_tests, weak_weight_tests, bad_row};
 ghost use Rattle.dsv_forms.specs.Refusals.{bad_weight, negative_weight};
-ghost use Rattle.dsv_forms.specs.Refusals.{triangle_tests, place_tests, row_tests, side_tests};
+ghost use Rattle.dsv_forms.specs.Refusals.{triangle_tests, row_tests, side_tests};
 ghost use Rattle.dsv_forms.specs.Refusals.{not_dominant, dominance_tests};
 ghost use Rattle.dsv_forms.specs.Refusals.{definite_tests, semidefinite_tests};
 ghost use Rattle.dsv_forms.specs.Refusals.{weights_of, rows_of};

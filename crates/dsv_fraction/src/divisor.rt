@@ -1,5 +1,5 @@
 // Sizes with their sign, and without a common factor.
-ghost use Rattle.std.specs.Prelude.{◌≡◌, ◌<◌, ◌≤◌, ◌^◌, ◌/◌};
+ghost use Rattle.std.specs.Prelude.{◌≡◌, ◌<◌, ◌≤◌, ◌/◌};
 ghost use Rattle.dsv_fraction.specs.Ratio.{part_limit};
 ghost use Rattle.dsv_algebra.specs.Gcd.{gcd};
 ghost use Rattle.dsv_fraction.specs.Arithmetic.{with_sign};

@@ -82,7 +82,7 @@ struct Parts {
 
 impl Frac {
     ghost use Rattle.std.specs.Prelude.{◌≡◌, ◌≢◌, ◌<◌, ◌^◌, ◌*◌, ℤ, pos};
-    ghost use Rattle.std.specs.Prelude.{◌*ℤ◌, ◌+ℤ◌, ◌-ℤ◌, neg_ℤ, IfOk};
+    ghost use Rattle.std.specs.Prelude.{◌*ℤ◌, ◌+ℤ◌, ◌-ℤ◌, IfOk};
     ghost use Rattle.std.specs.Int.RustNames.{unsigned_abs};
     ghost use Rattle.dsv_fraction.specs.Ratio.{IsLowest, part_limit};
     ghost use Rattle.dsv_fraction.specs.Arithmetic.{with_sign, in_lowest_terms, over, times};

@@ -1,8 +1,8 @@
 //! The lengths of the parts of a number's text, each in bytes from the front of a text. Each part
 //! is taken as long as it goes, and its length is 0 where the text doesn't begin with it.
 ghost use Rattle.std.specs.Prelude.{◌≡◌, ◌≤◌, length, drop};
-ghost use Rattle.dsv_text.specs.Bytes.{has_byte, is_digit};
-ghost use Rattle.dsv_text.specs.Digits.{digits_len, leading_digits};
+ghost use Rattle.dsv_text.specs.Bytes.{has_byte};
+ghost use Rattle.dsv_text.specs.Digits.{digits_len};
 ghost use Rattle.dsv_fraction.specs.Number.{sign_len, point_len, suffix_len, whole_len, has_mark};
 ghost use Rattle.dsv_fraction.specs.Number.{exponent_len, number_len, is_number, prefix_len};
 

@@ -26,7 +26,7 @@ use Rattle.dsv_quantiser.specs.declared.refusal.QuantRefusal.TheVariants as refu
 use Rattle.dsv_generator.specs.Controllers.{IsGeneratedFormat, number_with, controller_with}
 use Rattle.dsv_generator.specs.Draws.{number_of, word_of}
 use Rattle.dsv_generator.specs.Small.{IsSmall, greatest_size}
-use Rattle.dsv_generator.proofs.Formats.{one_format}
+use Rattle.dsv_quantiser.proofs.Formats.{one_format}
 
 -- words from -64 to 63
 abbrev format_3_4 : Format

@@ -1,6 +1,6 @@
 // Tallies that a model of the written rules gives, made apart from the code.
+use crate::generate;
 use crate::tally::Tally;
-use crate::{Generated, generate};
 use dsv_base::NoMemory;
 use std::rt::HostRuntime;
 

@@ -1,5 +1,4 @@
 // The overflow goal at all inputs, beside what the written equations say of these.
-use dsv_base::NoMemory;
 use dsv_names::{OverflowMode, Rounding};
 use dsv_netlist::{Netlist, Node};
 use dsv_term::Goal;

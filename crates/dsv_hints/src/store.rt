@@ -1,7 +1,7 @@
 // The clauses of a derivation, live and deleted.
 ghost use Rattle.std.specs.Prelude.{◌≡◌, ◌<◌, ◌≤◌, ◌-◌, ◌^◌, [], ◌∷◌, ◌++◌};
 ghost use Rattle.std.specs.Prelude.{None, Some, length, max, nat_le, option_copied, slice_range};
-ghost use Rattle.std.specs.Prelude.{IsTrue, IfOk, OnOk, OnErr, IfNone, IfSome};
+ghost use Rattle.std.specs.Prelude.{IsTrue, OnOk, OnErr, IfNone, IfSome};
 ghost use Rattle.dsv_cnf.specs.Formula.{IsOver};
 ghost use Rattle.dsv_hints.specs.Derivation.{is_after, is_live, live_clause, without};
 ghost use Rattle.dsv_hints.specs.Slots.{AllOther, HasId, IsRising};

@@ -1,5 +1,5 @@
 // What a node adds to what is known.
-ghost use Rattle.std.specs.Prelude.{◌≡◌, ◌++◌, length, IfOk};
+ghost use Rattle.std.specs.Prelude.{◌≡◌, ◌++◌, IfOk};
 ghost use Rattle.std.specs.Prelude.{option_to_list};
 ghost use Rattle.dsv_linear.specs.Forms.{without_symbol};
 ghost use Rattle.dsv_linear.specs.Known.{form_at, product_at, sum_at, difference_at, rounded_at};

@@ -1,6 +1,5 @@
 // Ranges of numbers.
-ghost use Rattle.std.specs.Prelude.{◌≡◌, ◌<◌, length, ◌*ℤ◌};
-ghost use Rattle.dsv_algebra.specs.Narrow.{narrow_of};
+ghost use Rattle.std.specs.Prelude.{◌≡◌, ◌<◌};
 ghost use Rattle.dsv_linear.specs.Forms.{lower, upper, both, least_factor, greatest_factor};
 ghost use Rattle.dsv_linear.specs.Forms.{range, scaled_range, products_range, sums_range};
 ghost use Rattle.dsv_linear.specs.Forms.{differences_range};

@@ -1,8 +1,7 @@
 // Forms of quotients that are made whole.
-ghost use Rattle.std.specs.Prelude.{◌≡◌, ◌<◌, ◌≤◌, ◌/◌, ◌^◌, pos, length, IfOk};
+ghost use Rattle.std.specs.Prelude.{◌≡◌, ◌<◌, ◌≤◌, ◌/◌, ◌^◌, pos, IfOk};
 ghost use Rattle.std.specs.Int.{int_rem_euclid};
 ghost use Rattle.dsv_algebra.specs.Narrow.{narrow_of};
-ghost use Rattle.dsv_netlist.specs.Nodes.{at};
 ghost use Rattle.dsv_linear.specs.Forms.{scale, quotients, rests, loss_range, symbol_range};
 ghost use Rattle.dsv_linear.specs.Known.{error_range, rounded_in};
 

@@ -1,7 +1,6 @@
 // The facts of so many samples.
-ghost use Rattle.std.specs.Prelude.{◌≡◌, ◌≤◌, map, replicate, IfOk};
+ghost use Rattle.std.specs.Prelude.{◌≡◌, map, replicate, IfOk};
 ghost use Rattle.dsv_linear.specs.Facts.{AreFacts};
-ghost use Rattle.dsv_linear.specs.Forms.{range};
 ghost use Rattle.dsv_linear.specs.Known.{estimate_at, zero_estimate, zero_start, no_point, fresh};
 ghost use Rattle.dsv_linear.specs.Known.{point_from, loaded, facts_from, facts_of};
 

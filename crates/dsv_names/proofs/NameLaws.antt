@@ -1,5 +1,5 @@
 -- What a name finds has the name, and each value is found by its own.
-use Rattle.std.proofs.Common.{◌≡◌, ℕ, List, [], ◌∷◌, Option, Some, Bool, true, false, if◌then◌else◌, refl, sym, ap, ◌∙◌, Decides}
+use Rattle.std.proofs.Common.{◌≡◌, ℕ, List, [], ◌∷◌, Some, Bool, true, false, if◌then◌else◌, refl, sym, ap, ◌∙◌, Decides}
 use Rattle.std.specs.Str.{bytes_eq}
 use Rattle.std.proofs.lemmas.Slice.Eq.{bytes_eq-Decides}
 use Rattle.dsv_names.specs.Names.{value_named, AreNames}

@@ -1,5 +1,5 @@
 // The conditions that make nodes a netlist, but for the bounds.
-ghost use Rattle.std.specs.Prelude.{◌≡◌, ◌≤◌, ◌↔◌, length, count_by, IsTrue};
+ghost use Rattle.std.specs.Prelude.{◌≡◌, ◌↔◌, count_by, IsTrue};
 ghost use Rattle.std.specs.List.{All};
 ghost use Rattle.dsv_netlist.specs.Conditions.{AllNameBack, ReadsBelow, names_word, is_fit};
 

@@ -1,6 +1,6 @@
 // Netlists and their steps.
 ghost use Rattle.dsv_word.specs.Words.{IsWord};
-ghost use Rattle.std.specs.Prelude.{◌≡◌, ◌<◌, ◌≤◌, ◌↔◌, [], length, pos, slice_get};
+ghost use Rattle.std.specs.Prelude.{◌≡◌, ◌<◌, ◌↔◌, [], length, pos, slice_get};
 ghost use Rattle.std.specs.Prelude.{slice_index, Some, IsSome, IfSome, ◌<ℤ◌};
 ghost use Rattle.std.specs.List.{All};
 ghost use Rattle.dsv_netlist.specs.Nodes.{net_from, step_of};

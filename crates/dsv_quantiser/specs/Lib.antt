@@ -1,5 +1,6 @@
 pub mod FixedPoint
 pub mod Leading
 pub mod Meaning
+pub mod Modes
 pub mod Parts
 pub mod Quantising

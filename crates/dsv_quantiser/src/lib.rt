@@ -10,6 +10,6 @@ mod words;
 
 pub use law::converted_leading_is_one;
 pub use quantised::Quantised;
-pub use quantising::quantise;
+pub use quantising::{quantise, quantise_in};
 pub use refusal::QuantRefusal;
 pub use words::{Coeffs, MOST_COEFFICIENTS};

@@ -6,13 +6,14 @@ ghost use Rattle.dsv_word.specs.Words.{width, hi};
 ghost use Rattle.dsv_names.specs.Realisations.{is_delta};
 ghost use Rattle.dsv_quantiser.specs.Quantising.{delta_word, with_delta, fixed_point_of};
 ghost use Rattle.dsv_quantiser.specs.Meaning.{IsWordOf, IsOfDelta, IsQuantised};
+ghost use Rattle.dsv_quantiser.specs.Modes.{BecomesWords};
 
 use crate::quantised::Quantised;
 use crate::refusal::QuantRefusal;
 use crate::words::{fitting_word, or_wide};
 use dsv_delta::to_delta;
 use dsv_fraction::Frac;
-use dsv_names::{ListName, Realisation};
+use dsv_names::{ListName, OverflowMode, Realisation, Rounding};
 use dsv_reader::Controller;
 use dsv_word::Format;
 
@@ -83,4 +84,39 @@ pub fn quantise(
             0,
         )
     }
+}
+
+/// The format of a controller's own widths in these modes.
+fn format_of(controller: &Controller, rounding: Rounding, overflow: OverflowMode) -> Format
+    ensures int_bits { result.int_bits ≡ controller.now.int_bits }
+    ensures frac_bits { result.frac_bits ≡ controller.now.frac_bits }
+    ensures rounding { result.rounding ≡ rounding }
+    ensures overflow { result.overflow ≡ overflow }
+{
+    match Format::new(
+        controller.int_bits(),
+        controller.frac_bits(),
+        rounding,
+        overflow,
+    ) {
+        Ok(format) => format,
+        Err(_) => unreachable!(),
+    }
+}
+
+/// The controller in words of its own widths, rounded and fitted in these modes, as that
+/// realisation computes it; or the first refusal, in the order of [`quantise`].
+pub fn quantise_in(
+    controller: &Controller,
+    realisation: Realisation,
+    rounding: Rounding,
+    overflow: OverflowMode,
+) -> Result<Quantised, QuantRefusal>
+    ensures { BecomesWords controller.now realisation rounding overflow result }
+{
+    quantise(
+        controller,
+        format_of(controller, rounding, overflow),
+        realisation,
+    )
 }

@@ -2,7 +2,7 @@
 #![tactic(auto, using(dsv_algebra::proofs::Casts::casts))]
 
 ghost use Rattle.dsv_word.specs.Words.{IsWord};
-ghost use Rattle.std.specs.Prelude.{◌≡◌, ◌+◌, ◌≤◌, ◌<◌, ◌^◌, length, drop};
+ghost use Rattle.std.specs.Prelude.{◌≡◌, ◌+◌, ◌≤◌, ◌<◌, length, drop};
 ghost use Rattle.std.specs.Prelude.{[], ◌∷◌, MatchResult, Ok, Err, IfOk};
 ghost use Rattle.dsv_quantiser.specs.declared.words.TheConstants.{MOST_COEFFICIENTS};
 ghost use Rattle.dsv_quantiser.specs.FixedPoint.{unit};

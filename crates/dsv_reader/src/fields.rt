@@ -3,7 +3,7 @@ ghost use Rattle.std.specs.Prelude.{◌≡◌, true};
 ghost use Rattle.dsv_token.specs.declared.refusal.FileRefusal.TheVariants.{FieldTwice};
 ghost use Rattle.dsv_reader.specs.Numbers.{only_of, coefficients_of};
 ghost use Rattle.dsv_reader.specs.Fields.{no_values, has_field, has_setting, system_field};
-ghost use Rattle.dsv_reader.specs.Fields.{implementation_field, is_cost, setting_value};
+ghost use Rattle.dsv_reader.specs.Fields.{implementation_field, is_cost};
 ghost use Rattle.dsv_reader.specs.Fields.{with_setting, hardware_field, field_read};
 ghost use Rattle.dsv_reader.specs.Fields.{setting_read, entry_read, values_of};
 

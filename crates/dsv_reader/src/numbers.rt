@@ -104,15 +104,14 @@ pub(crate) fn bounded_at(
     Ok(value)
 }
 
-/// The decimal that the token spells, where C doesn't read it as octal.
-pub(crate) fn decimal_at(bytes: &[u8], token: Token) -> Result<Coefficient, FileRefusal>
-    ensures { result ≡ decimal_at bytes.now token }
+/// The coefficient of a decimal, or the refusal of what is none.
+fn by_decimal(
+    token: Token,
+    spelled: Result<Frac, DecimalRefusal>,
+) -> Result<Coefficient, FileRefusal>
+    ensures { result ≡ by_decimal token spelled }
 {
-    let text = text_at(bytes, token);
-    if is_octal(text) {
-        return Err(no_number(token));
-    }
-    match Frac::of_decimal(text) {
+    match spelled {
         Ok(value) => Ok(Coefficient {
             value,
             at: token.at,
@@ -124,6 +123,17 @@ pub(crate) fn decimal_at(bytes: &[u8], token: Token) -> Result<Coefficient, File
     }
 }
 
+/// The decimal that the token spells, where C doesn't read it as octal.
+pub(crate) fn decimal_at(bytes: &[u8], token: Token) -> Result<Coefficient, FileRefusal>
+    ensures { result ≡ decimal_at bytes.now token }
+{
+    let text = text_at(bytes, token);
+    if is_octal(text) {
+        return Err(no_number(token));
+    }
+    by_decimal(token, Frac::of_decimal(text))
+}
+
 /// Whether the number is positive, with both parts below 2^62.
 fn is_time(value: &Frac) -> bool
     ensures value { result ≡ is_time value.now }
@@ -131,6 +141,17 @@ fn is_time(value: &Frac) -> bool
 {
     let (num, den) = value.to_parts();
     0 < num && num < TIME_LIMIT && den < TIME_LIMIT
+}
+
+/// The sample time of a decimal, or the refusal of what is none.
+fn by_time(token: Token, spelled: Result<Frac, DecimalRefusal>) -> Result<Frac, FileRefusal>
+    ensures value { result ≡ by_time token spelled }
+    ensures time { IfOk result IsTime }
+{
+    match spelled {
+        Ok(value) if is_time(&value) => Ok(value),
+        _ => Err(no_number(token)),
+    }
 }
 
 /// The sample time that the token spells. A number that is too wide breaks its rule like any other
@@ -143,16 +164,7 @@ pub(crate) fn time_at(bytes: &[u8], token: Token) -> Result<Frac, FileRefusal>
     if is_octal(text) {
         return Err(no_number(token));
     }
-    match Frac::of_decimal(text) {
-        Ok(value) => {
-            if is_time(&value) {
-                Ok(value)
-            } else {
-                Err(no_number(token))
-            }
-        }
-        Err(_) => Err(no_number(token)),
-    }
+    by_time(token, Frac::of_decimal(text))
 }
 
 /// The one number of a field that wants one.

@@ -1,7 +1,7 @@
 // A whole file.
 ghost use Rattle.std.specs.Prelude.{◌≡◌, IfOk};
 ghost use Rattle.dsv_token.specs.Memory.{Gives};
-ghost use Rattle.dsv_reader.specs.Reading.{width_test, is_lawful, controller_from, reading};
+ghost use Rattle.dsv_reader.specs.Reading.{width_test, controller_from, reading};
 ghost use Rattle.dsv_reader.specs.Texts.{IsTextOf};
 
 use crate::blocks::{Blocks, blocks_of};

@@ -1,5 +1,5 @@
 // Products by constants, by signed digits.
-ghost use Rattle.std.specs.Prelude.{◌≡◌, ◌<◌, ◌≤◌, ◌^◌, ◌*◌, length, pos, neg_ℤ, ◌≤ℤ◌, IfOk};
+ghost use Rattle.std.specs.Prelude.{◌≡◌, ◌<◌, ◌*◌, length, IfOk};
 ghost use Rattle.dsv_term.specs.Building.{built_of};
 ghost use Rattle.dsv_term.specs.Growth.{AreSound};
 ghost use Rattle.dsv_term.specs.Terms.{width_of};

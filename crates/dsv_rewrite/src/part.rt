@@ -1,5 +1,5 @@
 // Bits of terms, extended: what extracts and sign extensions are.
-ghost use Rattle.std.specs.Prelude.{◌≡◌, ◌<◌, ◌≤◌, ◌+◌, IfOk, IfSome};
+ghost use Rattle.std.specs.Prelude.{◌≡◌, ◌<◌, ◌≤◌, ◌+◌, IfOk};
 ghost use Rattle.dsv_term.specs.declared.node.TheConstants.{MAX_WIDTH};
 ghost use Rattle.dsv_term.specs.Building.{built_of};
 ghost use Rattle.dsv_term.specs.Growth.{AreSound};

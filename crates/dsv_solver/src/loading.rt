@@ -1,9 +1,7 @@
 // The formula's clauses are watched at level 0.
-ghost use Rattle.std.specs.Prelude.{◌≡◌, ◌<◌, ◌≤◌, ◌+◌, ◌-◌, ◌^◌};
-ghost use Rattle.std.specs.Prelude.{ℕ, List, true, [], OnOk, IfOk};
-ghost use Rattle.std.specs.Prelude.{MatchOption, length, slice_get, Some};
-ghost use Rattle.dsv_cnf.specs.Formula.{IsOver};
-ghost use Rattle.dsv_cnf.specs.Formula.{contains};
+ghost use Rattle.std.specs.Prelude.{◌<◌, ◌-◌, ◌^◌};
+ghost use Rattle.std.specs.Prelude.{true, IfOk};
+ghost use Rattle.std.specs.Prelude.{MatchOption, length, Some};
 ghost use Rattle.dsv_solver.specs.Solving.{IsBegun, IsStuck, IsSettling, IsOther, AreAllOne};
 
 use crate::analyse::first_literal;

@@ -12,7 +12,7 @@ ghost use Rattle.dsv_solver.specs.Outcomes.{IsOutcome};
 use crate::state::State;
 use crate::watches::{Pair, Watch, Watches};
 use dsv_base::NoMemory;
-use dsv_cnf::{Formula, Lit};
+use dsv_cnf::Lit;
 use dsv_trail::Trail;
 
 /// A literal of the clause that is not false, other than this one.

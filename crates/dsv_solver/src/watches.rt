@@ -3,7 +3,6 @@ ghost use Rattle.std.specs.Prelude.{◌≡◌, ◌≢◌, ◌<◌, ◌≤◌, �
 ghost use Rattle.std.specs.Prelude.{◌++◌, ◌-◌, ◌+◌, ℕ, [], take};
 ghost use Rattle.std.specs.Prelude.{OnOk, OnErr, IfOk, length, slice_get, slice_set, slice_index};
 ghost use Rattle.std.specs.Prelude.{slice_index_or, Some};
-ghost use Rattle.dsv_cnf.specs.Literal.{code_of};
 ghost use Rattle.dsv_solver.specs.Adding.{with_clause, without_last, with_both};
 
 use dsv_base::NoMemory;

@@ -3,7 +3,7 @@ ghost use Rattle.std.specs.Prelude.{◌≡◌, [], Ok};
 ghost use Rattle.dsv_token.specs.Memory.{Gives};
 ghost use Rattle.dsv_token.specs.declared.refusal.FileRefusal.TheVariants.{Unexpected};
 ghost use Rattle.dsv_syntax.specs.Parsing.{is_of_system, label_named, label_of, value_place};
-ghost use Rattle.dsv_syntax.specs.Parsing.{wanted_at, none_closed, is_closed, with_close};
+ghost use Rattle.dsv_syntax.specs.Parsing.{wanted_at, is_closed, with_close};
 ghost use Rattle.dsv_syntax.specs.Parsing.{start, entry_with, with_number, field_done};
 ghost use Rattle.dsv_syntax.specs.Parsing.{block_done, declaration, block_name, block_equals};
 ghost use Rattle.dsv_syntax.specs.Parsing.{block_open, field_dot, field_name, field_equals};

@@ -1,5 +1,4 @@
 // A whole file's tokens.
-ghost use Rattle.std.specs.Prelude.{◌≡◌};
 ghost use Rattle.dsv_token.specs.Memory.{Gives};
 ghost use Rattle.dsv_syntax.specs.Parsing.{syntax_of};
 

@@ -1,5 +1,5 @@
 // The proposer that is built in.
-ghost use Rattle.std.specs.Prelude.{◌≡◌, ◌<◌, ◌≤◌, ◌+◌, ◌*◌, ◌^◌, pos, neg_ℤ, true, false, Some, None, []};
+ghost use Rattle.std.specs.Prelude.{◌≡◌, ◌<◌, ◌≤◌, ◌+◌, ◌*◌, ◌^◌, neg_ℤ, true, false, Some, None, []};
 ghost use Rattle.std.proofs.Common.{rules};
 ghost use Rattle.dsv_template.specs.Boxes.{bits_of, sizes_of, or_less, or_more, upper_end};
 ghost use Rattle.dsv_template.specs.Boxes.{lower_end, unit, inequality, ends_of, box_at, boxes};
@@ -11,7 +11,6 @@ use crate::candidate::{Candidate, CoefficientList, Inequality, InequalityList, b
 use crate::proposer::InvariantProposer;
 use crate::shape::Shape;
 use crate::verdict::Why;
-use arrayvec::ArrayVec;
 use dsv_base::NoMemory;
 use std::alloc::Global;
 

@@ -1,7 +1,7 @@
 // The makers of terms. Each answers the term that stands already where there is one.
-ghost use Rattle.std.specs.Prelude.{◌≡◌, ℕ, ◌+◌, ◌^◌, ◌<◌, ◌≤◌, List, []};
-ghost use Rattle.std.specs.Prelude.{◌∷◌, ◌++◌, length, slice_index, OnOk, OnErr, IfOk};
-ghost use Rattle.dsv_term.specs.Terms.{Makes, KeepsTerms, width_of, word_of};
+ghost use Rattle.std.specs.Prelude.{◌≡◌, ℕ, ◌+◌, ◌^◌, ◌<◌, ◌≤◌, List};
+ghost use Rattle.std.specs.Prelude.{length, OnErr, IfOk};
+ghost use Rattle.dsv_term.specs.Terms.{Makes, width_of, word_of};
 ghost use Rattle.dsv_term.specs.Word.{IsWidth, sum_of, difference_of, negation_of};
 ghost use Rattle.dsv_term.specs.Word.{product_of, and_of, or_of, complement_of};
 ghost use Rattle.dsv_term.specs.Word.{signed_less_of, signed_at_most_of, less_of, same_of};

@@ -39,7 +39,6 @@ fn bit(truth: bool) -> Word
 
 // The names of SMT-LIB's functions stand in the definitions that the clauses cite.
 impl Word {
-    ghost use Rattle.std.specs.Prelude.{ℤ};
     ghost use Rattle.dsv_term.specs.Word.{residue, sum_of, difference_of, negation_of};
     ghost use Rattle.dsv_term.specs.Word.{product_of, and_of, or_of, complement_of};
     ghost use Rattle.dsv_term.specs.Word.{signed_of, signed_less_of, signed_at_most_of};

@@ -3,3 +3,4 @@ pub mod CommonTwos
 pub mod Signs
 pub mod ListPolynomials
 pub mod Denominators
+pub mod TestedCoefficients

@@ -8,6 +8,8 @@ use Rattle.std.specs.Int.{int_div_euclid}
 use Rattle.std.specs.Int.RustNames.{unsigned_abs}
 use Rattle.dsv_text.specs.Stages.{and_then}
 use Rattle.dsv_names.specs.Realisations.{is_delta}
+use Rattle.dsv_names.specs.declared.property.RootProperty.{RootProperty}
+use Rattle.dsv_names.specs.declared.property.RootProperty.TheVariants as property
 use Rattle.dsv_quantiser.specs.FixedPoint.{FixedPoint}
 use Rattle.dsv_delta.specs.ZCoefficients.{z_coefficients}
 use Rattle.dsv_delta.specs.declared.refusal.PolyWide.{PolyWide}
@@ -16,6 +18,12 @@ use Rattle.dsv_tested.specs.declared.side.Side.{Side}
 use Rattle.dsv_tested.specs.declared.side.Side.TheVariants as side
 use Rattle.dsv_tested.specs.declared.side.Tested.{Tested}
 use Rattle.dsv_tested.specs.declared.side.Tested.TheVariants as tested
+
+-- the side of a controller that a property tests: stability its denominator, minimum phase its
+-- numerator
+abbrev pub side_of : RootProperty → Side
+side_of property.Stability = side.Denominator
+side_of property.MinimumPhase = side.Numerator
 
 -- the words of a side
 abbrev pub words_of : FixedPoint → Side → List ℤ

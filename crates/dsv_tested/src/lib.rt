@@ -8,5 +8,5 @@ mod side;
 mod testing;
 
 pub use law::common_twos_are_taken_out;
-pub use side::{Side, Tested};
+pub use side::{Side, Tested, side_of};
 pub use testing::tested;

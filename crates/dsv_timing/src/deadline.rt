@@ -1,5 +1,5 @@
 // Deadlines.
-ghost use Rattle.std.specs.Prelude.{◌≡◌, ◌↔◌, IsTrue};
+ghost use Rattle.std.specs.Prelude.{◌↔◌, IsTrue};
 ghost use Rattle.dsv_reader.specs.Controllers.{IsTime};
 ghost use Rattle.dsv_timing.specs.Cycles.{IsInTime};
 

@@ -3,7 +3,7 @@ ghost use Rattle.std.specs.Prelude.{◌≡◌, ◌≤◌, ◌+◌, false, length
 ghost use Rattle.dsv_text.specs.Bytes.{is_blank, is_letter};
 ghost use Rattle.dsv_token.specs.Lexing.{is_name_byte, mark_of, line_len, name_len};
 ghost use Rattle.dsv_token.specs.Lexing.{close_len, comment_of, is_joined};
-ghost use Rattle.dsv_token.specs.Lexing.{number_of, name_of, piece_of, LexemeFits};
+ghost use Rattle.dsv_token.specs.Lexing.{number_of, piece_of, LexemeFits};
 
 use crate::token::TokenKind;
 use crate::words::word_of;

@@ -1,5 +1,5 @@
 // A text cut into tokens.
-ghost use Rattle.std.specs.Prelude.{◌≡◌, length, drop, IfOk};
+ghost use Rattle.std.specs.Prelude.{length, IfOk};
 ghost use Rattle.dsv_token.specs.Lexing.{tokens_of, AreInOrder};
 ghost use Rattle.dsv_token.specs.Memory.{Gives};
 

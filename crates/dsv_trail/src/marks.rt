@@ -1,6 +1,6 @@
 // The literals of a trail, which literals they make false, and where each variable stands.
 ghost use Rattle.std.specs.Prelude.{◌≡◌, ℕ, ◌-◌, ◌<◌, ◌≤◌, [], ◌∷◌, ◌++◌};
-ghost use Rattle.std.specs.Prelude.{None, Some, length, slice_get, take, true, IfOk};
+ghost use Rattle.std.specs.Prelude.{Some, length, slice_get, take, true, IfOk};
 ghost use Rattle.dsv_trail.specs.declared.marks.Mark.{Mark};
 ghost use Rattle.dsv_trail.specs.Marks.{mark_of, AreMarks, IsOpen, IsSet};
 ghost use Rattle.dsv_trail.specs.Places.{falsifies, place_of};

@@ -1,5 +1,5 @@
 // The trail: marks and the levels that decisions begin.
-ghost use Rattle.std.specs.Prelude.{◌≡◌, ℕ, ◌<◌, ◌≤◌, [], length};
+ghost use Rattle.std.specs.Prelude.{◌≡◌, ◌<◌, ◌≤◌, [], length};
 ghost use Rattle.std.specs.Prelude.{List, None, Some, slice_get, true, IfOk, IsSome};
 ghost use Rattle.dsv_cnf.specs.Literal.{Literal};
 ghost use Rattle.dsv_trail.specs.Marks.{level_of, literal_at, reason_of, value_of, IsOpen, IsSet};

@@ -1,7 +1,7 @@
 // The goal of a limit cycle.
 ghost use Rattle.dsv_word.specs.Words.{width};
-ghost use Rattle.std.specs.Prelude.{◌≡◌, ◌<◌, ◌++◌, ◌∷◌, ◌-◌};
-ghost use Rattle.std.specs.Prelude.{[], length, map, replicate};
+ghost use Rattle.std.specs.Prelude.{◌≡◌, ◌<◌, ◌-◌};
+ghost use Rattle.std.specs.Prelude.{length, replicate};
 ghost use Rattle.std.specs.Prelude.{IfOk, nat_lt, ◌*◌, ◌+◌, ℕ, List};
 ghost use Rattle.dsv_netlist.specs.Conditions.{IsNetlist};
 ghost use Rattle.dsv_term.specs.Building.{built_of};

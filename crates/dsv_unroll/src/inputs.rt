@@ -1,9 +1,8 @@
 // The inputs of a goal, and the tests that they are in range.
 ghost use Rattle.dsv_word.specs.Words.{width, lo, hi};
-ghost use Rattle.std.specs.Prelude.{◌≡◌, ◌<◌, ◌++◌, ◌∷◌, []};
-ghost use Rattle.std.specs.Prelude.{List, length, IfOk, ◌≤ℤ◌};
+ghost use Rattle.std.specs.Prelude.{◌≡◌, ◌<◌, []};
+ghost use Rattle.std.specs.Prelude.{IfOk, ◌≤ℤ◌};
 ghost use Rattle.dsv_term.specs.Building.{built_of};
-ghost use Rattle.dsv_term.specs.Growth.{AreSound};
 ghost use Rattle.dsv_term.specs.Word.{IsWidth};
 ghost use Rattle.dsv_unroll.specs.Goals.{with_low_test, with_high_test, with_input, inputs_from};
 ghost use Rattle.dsv_unroll.specs.Goals.{magnitude, range_width, value_term, conjunction_from};

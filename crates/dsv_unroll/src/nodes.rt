@@ -1,7 +1,6 @@
 // The term of each node of a sample.
-ghost use Rattle.dsv_word.specs.Words.{width};
-ghost use Rattle.std.specs.Prelude.{◌≡◌, ◌<◌, ◌≤◌, ◌^◌, ◌++◌, length, IfOk, Some, slice_get};
-ghost use Rattle.dsv_netlist.specs.Conditions.{IsNetlist, NamesBelow, ReadsBelow};
+ghost use Rattle.std.specs.Prelude.{◌≡◌, ◌<◌, ◌≤◌, ◌^◌, ◌++◌, length, IfOk};
+ghost use Rattle.dsv_netlist.specs.Conditions.{NamesBelow, ReadsBelow};
 ghost use Rattle.dsv_unroll.specs.Rules.{addend_of, is_whole, addend_at, bound_at, node_term};
 ghost use Rattle.dsv_unroll.specs.Rules.{node_tests};
 ghost use Rattle.dsv_unroll.specs.Ready.{AreReady, fit_tests};

@@ -1,6 +1,6 @@
 // The terms of a run, sample after sample.
-ghost use Rattle.std.specs.Prelude.{◌≡◌, ◌<◌, ◌≤◌, ◌+◌, ◌*◌};
-ghost use Rattle.std.specs.Prelude.{◌^◌, [], length, IfOk};
+ghost use Rattle.std.specs.Prelude.{◌≡◌, ◌<◌, ◌≤◌, ◌*◌};
+ghost use Rattle.std.specs.Prelude.{◌^◌, IfOk};
 ghost use Rattle.dsv_netlist.specs.Conditions.{IsNetlist};
 ghost use Rattle.dsv_unroll.specs.Goals.{run_from, run_tests, size_of};
 ghost use Rattle.dsv_term.specs.Terms.{KeepsTerms};

@@ -11,7 +11,7 @@ ghost use Rattle.dsv_term.specs.Terms.{KeepsTerms};
 ghost use Rattle.dsv_unroll.specs.SetGoals.{entry_bound, with_entry, combination_from};
 ghost use Rattle.dsv_unroll.specs.SetGoals.{at_most_term, inequality_term};
 ghost use Rattle.dsv_unroll.specs.SetGoals.{inequalities_from, set_term};
-ghost use Rattle.dsv_unroll.specs.Ready.{IsValue, HasBits, AreBits, IsSetReady};
+ghost use Rattle.dsv_unroll.specs.Ready.{IsValue, AreBits, IsSetReady};
 
 use crate::inputs::conjunction;
 use crate::rules::{product_term, sum_term, widened_term, width_for};

@@ -1,5 +1,4 @@
 // The states of a run, and whether each is in a set.
-ghost use Rattle.dsv_word.specs.Words.{width};
 ghost use Rattle.std.specs.Prelude.{◌≡◌, ◌+◌, true, [], length, IfOk};
 ghost use Rattle.dsv_netlist.specs.Conditions.{IsNetlist};
 ghost use Rattle.dsv_template.specs.Candidates.{is_shaped};

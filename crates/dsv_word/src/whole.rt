@@ -9,7 +9,6 @@ ghost use Rattle.dsv_word.specs.Quotients.{ceiling_of, whole_shift};
 ghost use Rattle.std.specs.Int.RustNames.{unsigned_abs};
 ghost use Rattle.dsv_word.specs.Width.{widest_word};
 
-use crate::format::WIDEST_WORD;
 use crate::word::power;
 use dsv_fraction::Frac;
 use dsv_names::Rounding;

@@ -6,8 +6,6 @@ ghost use Rattle.std.specs.Prelude.{if◌then◌else◌, int_lt, pos};
 ghost use Rattle.dsv_word.specs.Width.{widest_word};
 ghost use Rattle.dsv_word.specs.Words.{wrapped_word};
 
-use crate::format::WIDEST_WORD;
-
 /// Two to that power.
 #[tactic(auto, using(crate::proofs::Powers::power_small))]
 pub(crate) fn power(bits: u32) -> i64
