@@ -1,4 +1,5 @@
 // Certificates that the command writes, and certificates that it checks.
+use crate::arguments::arguments;
 use dsv_base::{Bytes, MemFiles, MemSink};
 use dsv_cli::{BoxProposer, FormProposer, InvariantProposer, SumProposer, run};
 use std::alloc::Global;
@@ -25,19 +26,19 @@ const AVERAGE: &[u8] = b"digital_system d = { .b = {0.25, 0.25, 0.25}, .b_size =
 #[derive(Clone, Copy)]
 struct Row {
     file: &'static [u8],
-    arguments: &'static [&'static str],
+    job: &'static [&'static str],
     accepted: &'static [u8],
 }
 
 const STABILITY: Row = Row {
     file: TWO_POLES,
-    arguments: &["f", "--property", "STABILITY", "--certificate"],
+    job: &["f", "--property", "STABILITY", "--certificate"],
     accepted: b"CERTIFICATE ACCEPTED\nproperty STABILITY realization DFI\n",
 };
 
 const UNBOUNDED: Row = Row {
     file: HALVES,
-    arguments: &[
+    job: &[
         "f",
         "--property",
         "OVERFLOW",
@@ -52,7 +53,7 @@ const ROWS: [Row; 4] = [
     UNBOUNDED,
     Row {
         file: SUM,
-        arguments: &[
+        job: &[
             "f",
             "--property",
             "OVERFLOW",
@@ -64,7 +65,7 @@ const ROWS: [Row; 4] = [
     },
     Row {
         file: AVERAGE,
-        arguments: &["f", "--property", "OVERFLOW", "--certificate"],
+        job: &["f", "--property", "OVERFLOW", "--certificate"],
         accepted: b"CERTIFICATE ACCEPTED\nproperty OVERFLOW realization DFI samples 10\n",
     },
 ];
@@ -77,11 +78,8 @@ struct Output {
 }
 
 /// What a run over these files writes.
-fn output_of(alloc: Global, files: &mut MemFiles, arguments: &[&str]) -> Result<Output, Fail> {
-    let mut words = Vec::new(alloc);
-    for argument in arguments {
-        words.push(String::from_str(alloc, argument)?)?;
-    }
+fn output_of(alloc: Global, files: &mut MemFiles, job: &[&str]) -> Result<Output, Fail> {
+    let words = arguments(alloc, job)?;
     let mut sets: Vec<Box<dyn InvariantProposer>> = Vec::new(alloc);
     sets.push(Box::new(alloc, BoxProposer::new())?)?;
     let mut forms: Vec<Box<dyn FormProposer>> = Vec::new(alloc);
@@ -100,7 +98,7 @@ fn output_of(alloc: Global, files: &mut MemFiles, arguments: &[&str]) -> Result<
 fn certificate_of(alloc: Global, row: &Row) -> Result<Bytes, Fail> {
     let mut files = MemFiles::new(alloc);
     files.hold("f", row.file)?;
-    Ok(output_of(alloc, &mut files, row.arguments)?.text)
+    Ok(output_of(alloc, &mut files, row.job)?.text)
 }
 
 /// What the check of a certificate against a controller's file writes.

@@ -1,4 +1,5 @@
 // Faults of files and of the sink, which the command names.
+use crate::arguments::arguments;
 use dsv_base::{MemFiles, MemSink, SilentFiles};
 use dsv_cli::{Done, FormProposer, InvariantProposer, run};
 use std::alloc::Global;
@@ -13,14 +14,7 @@ const FILE: &[u8] =
 const TEXT: &[u8] =
     b"VERIFICATION SUCCESSFUL\nproperty STABILITY realization DFI\npolynomial 2 -1\nform 1\nfall 3\n";
 
-/// `f --property STABILITY`
-fn arguments(alloc: Global) -> Result<Vec<String>, Fail> {
-    let mut arguments = Vec::new(alloc);
-    for argument in ["f", "--property", "STABILITY"] {
-        arguments.push(String::from_str(alloc, argument)?)?;
-    }
-    Ok(arguments)
-}
+const JOB: [&str; 3] = ["f", "--property", "STABILITY"];
 
 /// A file is held under a name, and a fetch fails.
 #[derive(Clone, Copy)]
@@ -29,9 +23,24 @@ struct FileFault {
     fetch: u64,
 }
 
+const FILE_FAULTS: [FileFault; 3] = [
+    FileFault {
+        name: "f",
+        fetch: 0,
+    },
+    FileFault {
+        name: "f",
+        fetch: 1,
+    },
+    FileFault {
+        name: "g",
+        fetch: 9,
+    },
+];
+
 /// Whether the run names the fault of the file.
 fn names_read_fault(alloc: Global, fault: &FileFault) -> Result<bool, Fail> {
-    let arguments = arguments(alloc)?;
+    let arguments = arguments(alloc, &JOB)?;
     let mut files = MemFiles::new(alloc);
     files.hold(fault.name, FILE)?;
     files.fail_at(fault.fetch)?;
@@ -44,17 +53,40 @@ fn names_read_fault(alloc: Global, fault: &FileFault) -> Result<bool, Fail> {
     Ok(status == 3 && sink.bytes() == b"READ FAULT CONTROLLER\n".as_slice())
 }
 
-/// A put fails, or the sink has this room; so many bytes of the text are taken.
+/// A put fails, or the sink has this room; so many bytes of the text are taken, and the run ends
+/// with this status.
 #[derive(Clone, Copy)]
 struct SinkFault {
     put: u64,
     room: usize,
     taken: usize,
+    status: u8,
 }
 
-/// Whether the run ends with this status and a prefix of the text.
-fn ends_with(alloc: Global, fault: &SinkFault, wanted: u8) -> Result<bool, Fail> {
-    let arguments = arguments(alloc)?;
+const SINK_FAULTS: [SinkFault; 3] = [
+    SinkFault {
+        put: 0,
+        room: 1000,
+        taken: 0,
+        status: 4,
+    },
+    SinkFault {
+        put: 99,
+        room: 10,
+        taken: 10,
+        status: 4,
+    },
+    SinkFault {
+        put: 99,
+        room: 89,
+        taken: 89,
+        status: 0,
+    },
+];
+
+/// Whether the run ends with the status, and the sink took the prefix of the text.
+fn ends_as_told(alloc: Global, fault: &SinkFault) -> Result<bool, Fail> {
+    let arguments = arguments(alloc, &JOB)?;
     let mut files = SilentFiles::new(alloc, FILE)?;
     let mut sink = MemSink::new(alloc, fault.room)?;
     sink.fail_at(fault.put)?;
@@ -63,68 +95,21 @@ fn ends_with(alloc: Global, fault: &SinkFault, wanted: u8) -> Result<bool, Fail>
     let Done { status, answer: _ } = run(
         alloc, &arguments, &mut files, &mut sink, &mut sets, &mut forms,
     );
-    Ok(status == wanted && Some(sink.bytes()) == TEXT.get(..fault.taken))
+    Ok(status == fault.status && Some(sink.bytes()) == TEXT.get(..fault.taken))
 }
 
 #[test]
-fn the_first_fetch_fails(rt: HostRuntime) -> Result<(), Fail> {
-    let fault = FileFault {
-        name: "f",
-        fetch: 0,
-    };
-    assert!(rt; names_read_fault(rt.alloc(), &fault)?);
+fn a_fault_of_the_file_is_named(rt: HostRuntime) -> Result<(), Fail> {
+    for fault in &FILE_FAULTS {
+        assert!(rt; names_read_fault(rt.alloc(), fault)?);
+    }
     Ok(())
 }
 
 #[test]
-fn the_second_fetch_fails(rt: HostRuntime) -> Result<(), Fail> {
-    let fault = FileFault {
-        name: "f",
-        fetch: 1,
-    };
-    assert!(rt; names_read_fault(rt.alloc(), &fault)?);
-    Ok(())
-}
-
-#[test]
-fn the_file_is_missing(rt: HostRuntime) -> Result<(), Fail> {
-    let fault = FileFault {
-        name: "g",
-        fetch: 9,
-    };
-    assert!(rt; names_read_fault(rt.alloc(), &fault)?);
-    Ok(())
-}
-
-#[test]
-fn the_first_put_fails(rt: HostRuntime) -> Result<(), Fail> {
-    let fault = SinkFault {
-        put: 0,
-        room: 1000,
-        taken: 0,
-    };
-    assert!(rt; ends_with(rt.alloc(), &fault, 4)?);
-    Ok(())
-}
-
-#[test]
-fn the_sink_is_full_after_ten_bytes(rt: HostRuntime) -> Result<(), Fail> {
-    let fault = SinkFault {
-        put: 99,
-        room: 10,
-        taken: 10,
-    };
-    assert!(rt; ends_with(rt.alloc(), &fault, 4)?);
-    Ok(())
-}
-
-#[test]
-fn the_sink_has_just_the_room(rt: HostRuntime) -> Result<(), Fail> {
-    let fault = SinkFault {
-        put: 99,
-        room: 89,
-        taken: 89,
-    };
-    assert!(rt; ends_with(rt.alloc(), &fault, 0)?);
+fn a_fault_of_the_sink_leaves_a_prefix(rt: HostRuntime) -> Result<(), Fail> {
+    for fault in &SINK_FAULTS {
+        assert!(rt; ends_as_told(rt.alloc(), fault)?);
+    }
     Ok(())
 }

@@ -1,4 +1,5 @@
 // The formula of a question, which is written and read back.
+use crate::arguments::arguments;
 use dsv_base::{MemSink, SilentFiles};
 use dsv_cli::{Answer, FormProposer, InvariantProposer, run};
 use dsv_cnf::{Formula, Lit, read_dimacs};
@@ -9,15 +10,6 @@ use std::test::Fail;
 const FILE: &[u8] =
     b"digital_system d = { .b = {0.25, 0.25, 0.25}, .b_size = 3, .a = {1.0}, .a_size = 1 }; \
       implementation r = { .int_bits = 2, .frac_bits = 14, .max = 2.0, .min = -2.0 };";
-
-/// `f --property OVERFLOW --formula`
-fn arguments(alloc: Global) -> Result<Vec<String>, Fail> {
-    let mut arguments = Vec::new(alloc);
-    for argument in ["f", "--property", "OVERFLOW", "--formula"] {
-        arguments.push(String::from_str(alloc, argument)?)?;
-    }
-    Ok(arguments)
-}
 
 fn are_same(left: &[Lit], right: &[Lit]) -> bool {
     left.len() == right.len()
@@ -52,7 +44,7 @@ fn a_formula_reads_back(rt: HostRuntime) -> Result<(), Fail> {
     let mut sink = MemSink::new(alloc, 1_000_000)?;
     let mut sets: Vec<Box<dyn InvariantProposer>> = Vec::new(alloc);
     let mut forms: Vec<Box<dyn FormProposer>> = Vec::new(alloc);
-    let arguments = arguments(alloc)?;
+    let arguments = arguments(alloc, &["f", "--property", "OVERFLOW", "--formula"])?;
     let done = run(
         alloc, &arguments, &mut files, &mut sink, &mut sets, &mut forms,
     );

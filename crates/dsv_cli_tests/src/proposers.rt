@@ -1,6 +1,7 @@
 // Proposers that need no trust: the command asks them, drops them, and stays right.
 ghost use Rattle.std.specs.Prelude.{nat_eq};
 
+use crate::arguments::arguments;
 use dsv_base::{MemSink, SilentFiles};
 use dsv_cli::{FormProposer, InvariantProposer, SumProposer, run};
 use dsv_forms::{Falls, Form, FormOffer, FormRefusal, GREATEST_ORDER, KeptAway, Poly, Squares};
@@ -91,69 +92,73 @@ impl FormProposer for Stubborn {
     }
 }
 
-/// `f --property STABILITY`
-fn arguments(alloc: Global) -> Result<Vec<String>, Fail> {
-    let mut arguments = Vec::new(alloc);
-    for argument in ["f", "--property", "STABILITY"] {
-        arguments.push(String::from_str(alloc, argument)?)?;
-    }
-    Ok(arguments)
+/// A run on a file by a proposer that offers a form so many times, before the one that is built in,
+/// and what comes of it.
+#[derive(Clone, Copy)]
+struct Row {
+    file: &'static [u8],
+    times: u32,
+    status: u8,
+    text: &'static [u8],
+    /// How many refusals it heard.
+    heard: u32,
+    /// How many proposers are left.
+    left: usize,
 }
 
-#[test]
-fn the_zero_form_is_refused_32_times(rt: HostRuntime) -> Result<(), Fail> {
-    let alloc = rt.alloc();
+/// Whether the run of a row ends as it says.
+fn is_as_told(alloc: Global, row: &Row, offer: FormOffer) -> Result<bool, Fail> {
     let heard = Rc::new(alloc, Cell::new(0))?;
     let mut sets: Vec<Box<dyn InvariantProposer>> = Vec::new(alloc);
     let mut forms: Vec<Box<dyn FormProposer>> = Vec::new(alloc);
     forms.push(Box::new(
         alloc,
         Stubborn {
-            offer: falls(0),
-            left: 1000,
+            offer,
+            left: row.times,
             last: None,
             heard: heard.clone()?,
         },
     )?)?;
     forms.push(Box::new(alloc, SumProposer::new())?)?;
-    let mut files = SilentFiles::new(alloc, NO_FORM)?;
+    let mut files = SilentFiles::new(alloc, row.file)?;
     let mut sink = MemSink::new(alloc, 1000)?;
-    let arguments = arguments(alloc)?;
+    let arguments = arguments(alloc, &["f", "--property", "STABILITY"])?;
     let done = run(
         alloc, &arguments, &mut files, &mut sink, &mut sets, &mut forms,
     );
-    assert_eq!(rt; done.status, 20);
-    assert_eq!(rt; sink.bytes(), NO_FORM_TEXT);
-    assert_eq!(rt; heard.get(), 32);
-    assert!(rt; forms.is_empty());
+    Ok(
+        done.status == row.status
+            && sink.bytes() == row.text
+            && heard.get() == row.heard
+            && forms.len() == row.left,
+    )
+}
+
+#[test]
+fn the_zero_form_is_refused_32_times(rt: HostRuntime) -> Result<(), Fail> {
+    let row = Row {
+        file: NO_FORM,
+        times: 1000,
+        status: 20,
+        text: NO_FORM_TEXT,
+        heard: 32,
+        left: 0,
+    };
+    assert!(rt; is_as_told(rt.alloc(), &row, falls(0))?);
     Ok(())
 }
 
 #[test]
 fn a_form_of_least_numbers_is_refused(rt: HostRuntime) -> Result<(), Fail> {
-    let alloc = rt.alloc();
-    let heard = Rc::new(alloc, Cell::new(0))?;
-    let mut sets: Vec<Box<dyn InvariantProposer>> = Vec::new(alloc);
-    let mut forms: Vec<Box<dyn FormProposer>> = Vec::new(alloc);
-    forms.push(Box::new(
-        alloc,
-        Stubborn {
-            offer: kept_away(i128::MIN),
-            left: 1,
-            last: None,
-            heard: heard.clone()?,
-        },
-    )?)?;
-    forms.push(Box::new(alloc, SumProposer::new())?)?;
-    let mut files = SilentFiles::new(alloc, THIRD_ROOT)?;
-    let mut sink = MemSink::new(alloc, 1000)?;
-    let arguments = arguments(alloc)?;
-    let done = run(
-        alloc, &arguments, &mut files, &mut sink, &mut sets, &mut forms,
-    );
-    assert_eq!(rt; done.status, 0);
-    assert_eq!(rt; sink.bytes(), THIRD_ROOT_TEXT);
-    assert_eq!(rt; heard.get(), 1);
-    assert_eq!(rt; forms.len(), 1);
+    let row = Row {
+        file: THIRD_ROOT,
+        times: 1,
+        status: 0,
+        text: THIRD_ROOT_TEXT,
+        heard: 1,
+        left: 1,
+    };
+    assert!(rt; is_as_told(rt.alloc(), &row, kept_away(i128::MIN))?);
     Ok(())
 }

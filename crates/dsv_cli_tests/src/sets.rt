@@ -2,6 +2,7 @@
 ghost use Rattle.std.specs.Prelude.{◌≡◌, None};
 ghost use Rattle.dsv_cli_tests.specs.Hostile.{too_deep, no_state};
 
+use crate::arguments::arguments;
 use dsv_base::{MemSink, NoMemory, SilentFiles};
 use dsv_cli::{Answer, FormProposer, InvariantProposer, run};
 use dsv_template::{
@@ -122,101 +123,78 @@ struct Row {
     is_first_unsafe: bool,
 }
 
+/// The boxes find their set, behind proposers of which one is heard to its end.
+const FOUND: Row = Row {
+    file: HALVES,
+    turns: &[],
+    boxes: true,
+    status: 0,
+    text: HALVES_TEXT,
+    left: 1,
+    heard: 32,
+    is_first_unsafe: false,
+};
+
+/// The boxes aren't asked, since a proposer before them finds no memory.
+const NO_MEMORY: Row = Row {
+    status: 5,
+    text: b"NO MEMORY\n",
+    left: 2,
+    heard: 0,
+    ..FOUND
+};
+
+/// Nobody offers a set.
+const NOT_FOUND: Row = Row {
+    file: SUM,
+    boxes: false,
+    status: 20,
+    text: b"VERIFICATION INCONCLUSIVE\nproperty OVERFLOW realization DFI unbounded\n\
+          cause NO_INVARIANT offers 0 spent 0\n",
+    left: 0,
+    heard: 0,
+    ..FOUND
+};
+
 const ROWS: [Row; 8] = [
     Row {
-        file: HALVES,
         turns: &[Turn::NoState],
-        boxes: true,
-        status: 0,
-        text: HALVES_TEXT,
-        left: 1,
-        heard: 32,
-        is_first_unsafe: false,
+        ..FOUND
     },
     Row {
-        file: HALVES,
         turns: &[Turn::NoMore, Turn::TooDeep, Turn::NoMore],
-        boxes: true,
-        status: 0,
-        text: HALVES_TEXT,
-        left: 1,
-        heard: 32,
-        is_first_unsafe: false,
+        ..FOUND
     },
     Row {
-        file: HALVES,
         turns: &[Turn::NoMemory],
-        boxes: true,
-        status: 5,
-        text: b"NO MEMORY\n",
-        left: 2,
-        heard: 0,
-        is_first_unsafe: false,
+        ..NO_MEMORY
     },
     Row {
-        file: HALVES,
         turns: &[Turn::NoMore, Turn::NoMemory],
-        boxes: true,
-        status: 5,
-        text: b"NO MEMORY\n",
-        left: 2,
-        heard: 0,
-        is_first_unsafe: false,
+        ..NO_MEMORY
     },
     Row {
         file: HALVES,
         turns: &[Turn::NoMore],
-        boxes: false,
-        status: 20,
-        text: b"VERIFICATION INCONCLUSIVE\nproperty OVERFLOW realization DFI unbounded\n\
-              cause NO_INVARIANT offers 0 spent 0\n",
-        left: 0,
-        heard: 0,
-        is_first_unsafe: false,
+        ..NOT_FOUND
     },
     Row {
-        file: SUM,
-        turns: &[],
         boxes: true,
-        status: 20,
         text: b"VERIFICATION INCONCLUSIVE\nproperty OVERFLOW realization DFI unbounded\n\
               cause NO_INVARIANT offers 16 spent 0\n",
-        left: 0,
-        heard: 0,
         is_first_unsafe: true,
+        ..NOT_FOUND
     },
+    NOT_FOUND,
     Row {
-        file: SUM,
-        turns: &[],
-        boxes: false,
-        status: 20,
-        text: b"VERIFICATION INCONCLUSIVE\nproperty OVERFLOW realization DFI unbounded\n\
-              cause NO_INVARIANT offers 0 spent 0\n",
-        left: 0,
-        heard: 0,
-        is_first_unsafe: false,
-    },
-    Row {
-        file: SUM,
         turns: &[Turn::TooDeep],
         boxes: true,
-        status: 20,
         text: b"VERIFICATION INCONCLUSIVE\nproperty OVERFLOW realization DFI unbounded\n\
               cause NO_INVARIANT offers 48 spent 0\n",
-        left: 0,
         heard: 32,
-        is_first_unsafe: false,
+        ..NOT_FOUND
     },
 ];
-
-/// `f --property OVERFLOW --unbounded`
-fn arguments(alloc: Global) -> Result<Vec<String>, Fail> {
-    let mut arguments = Vec::new(alloc);
-    for argument in ["f", "--property", "OVERFLOW", "--unbounded"] {
-        arguments.push(String::from_str(alloc, argument)?)?;
-    }
-    Ok(arguments)
-}
 
 /// Whether the answer tells of candidates, the first of which was found unsafe.
 fn is_first_unsafe(answer: &Answer) -> bool {
@@ -248,7 +226,7 @@ fn is_as_told(alloc: Global, row: &Row) -> Result<bool, Fail> {
         sets.push(Box::new(alloc, BoxProposer::new())?)?;
     }
     let mut forms: Vec<Box<dyn FormProposer>> = Vec::new(alloc);
-    let arguments = arguments(alloc)?;
+    let arguments = arguments(alloc, &["f", "--property", "OVERFLOW", "--unbounded"])?;
     let mut files = SilentFiles::new(alloc, row.file)?;
     let mut sink = MemSink::new(alloc, 1000)?;
     let done = run(

@@ -7,8 +7,6 @@ mod draws;
 mod finding;
 mod generator;
 mod tally;
-#[cfg(test)]
-mod tests;
 
 pub use finding::{Finding, RootFinding, RunFinding};
 pub use generator::{CONFLICTS, SAMPLES, generate};

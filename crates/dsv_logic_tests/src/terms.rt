@@ -7,7 +7,6 @@ ghost use Rattle.dsv_term.specs.Word.{IsWidth};
 use dsv_base::NoMemory;
 use dsv_term::{Goal, MAX_WIDTH, TermId, Terms, ValueList};
 use std::alloc::Global;
-use std::process::Abort;
 
 /// A constant, the highest bit or the wider width, and the lowest bit.
 #[derive(Clone, Copy)]
@@ -78,109 +77,159 @@ fn make(terms: &mut Terms, name: &str, width: u32, numbers: Numbers) -> Result<T
     of_two(terms, name, a, b)
 }
 
-/// The number of a word of a table.
-fn number(word: Option<&str>) -> i128 {
-    word.and_then(|w| w.parse().ok()).unwrap_or(0)
+/// What the words of a row say after the name and the width, and what its last word stands for.
+#[derive(Clone, Copy)]
+enum Table {
+    /// Numbers, and a character for each list of values, the first input's counting up first: 48
+    /// and the value.
+    Small,
+    /// A character for each pair of ends, the first input's going first: the place of the value
+    /// among the marks.
+    Ends,
+    /// Numbers, the values of three inputs, and the function's value.
+    Single,
+}
+
+/// A word of a row.
+fn word(row: &str, index: usize) -> &str {
+    row.split(' ').nth(index).unwrap_or("")
+}
+
+/// The number of a word of a row.
+fn number(row: &str, index: usize) -> i128 {
+    word(row, index).parse().unwrap_or(0)
+}
+
+/// The width of a row's inputs.
+fn row_width(row: &str) -> u32
+    ensures { IsWidth result }
+{
+    number(row, 1).clamp(1, MAX_WIDTH.into()) as u32
+}
+
+/// The numbers of a row's function.
+fn row_numbers(row: &str) -> Numbers {
+    Numbers {
+        coeff: i64::try_from(number(row, 2)).unwrap_or(0),
+        high: u32::try_from(number(row, 3)).unwrap_or(0),
+        low: u32::try_from(number(row, 4)).unwrap_or(0),
+    }
 }
 
 /// The value of a term where the inputs take their values from the front of this list.
-fn value(
-    rt: &impl Abort,
-    alloc: Global,
-    terms: &Terms,
-    id: TermId,
-    values: &[u128],
-) -> Result<u128, NoMemory>
+fn value(alloc: Global, terms: &Terms, id: TermId, values: &[u128]) -> Option<u128>
     requires { id.0 < length terms.now.nodes }
 {
-    let count = terms.inputs().len();
-    assert!(rt; count <= values.len());
-    assert!(rt; terms.are_values(&values[..count]));
-    let mut room = terms.reserve_eval(alloc)?;
-    Ok(terms.eval(id, &values[..count], &mut room))
+    let values = values.get(..terms.inputs().len())?;
+    if !terms.are_values(values) {
+        return None;
+    }
+    let mut room = terms.reserve_eval(alloc).ok()?;
+    Some(terms.eval(id, values, &mut room))
 }
 
-/// A character for each list of values, the first input's counting up first: 48 and the value.
-fn try_small(rt: &impl Abort, alloc: Global, rows: &str) -> Result<(), NoMemory> {
-    for row in rows.lines() {
-        let mut words = row.split(' ');
-        let name = words.next().unwrap_or("");
-        let width = number(words.next()).clamp(1, 3) as u32;
-        let coeff = number(words.next()).clamp(-9, 9) as i64;
-        let high = number(words.next()).clamp(0, 9) as u32;
-        let low = number(words.next()).clamp(0, 9) as u32;
-        let mut terms = Terms::new(alloc);
-        let id = make(&mut terms, name, width, Numbers { coeff, high, low })?;
-        for (n, code) in words.next().unwrap_or("").bytes().enumerate() {
-            let mut values = ValueList::new(alloc);
-            let mut left = n as u128;
-            for bits in terms.inputs() {
-                values.push(left % (1 << (bits % 8)))?;
-                left >>= bits % 8;
-            }
-            let found = value(rt, alloc, &terms, id, values.as_slice())?;
-            assert_eq!(rt; found, u128::from(code.wrapping_sub(48)), "{row} at {n}");
+/// The list of values of this number, the first input's counting up first.
+fn small_values(alloc: Global, terms: &Terms, n: usize) -> Option<ValueList> {
+    let mut values = ValueList::new(alloc);
+    let mut left = n as u128;
+    for bits in terms.inputs() {
+        values.push(left % (1 << (bits % 8))).ok()?;
+        left >>= bits % 8;
+    }
+    Some(values)
+}
+
+/// Whether a term has the value of a character at the list of values of this number.
+fn is_small_value(alloc: Global, terms: &Terms, id: TermId, n: usize, code: u8) -> bool
+    requires { id.0 < length terms.now.nodes }
+{
+    match small_values(alloc, terms, n) {
+        Some(values) => {
+            value(alloc, terms, id, values.as_slice()) == Some(u128::from(code.wrapping_sub(48)))
+        }
+        None => false,
+    }
+}
+
+/// Whether a row of characters for all values is right.
+fn is_small_row(alloc: Global, row: &str) -> Option<bool> {
+    let mut terms = Terms::new(alloc);
+    let id = make(&mut terms, word(row, 0), row_width(row), row_numbers(row)).ok()?;
+    for (n, code) in word(row, 5).bytes().enumerate() {
+        if !is_small_value(alloc, &terms, id, n, code) {
+            return Some(false);
         }
     }
-    Ok(())
+    Some(true)
 }
 
-/// A character for each pair of ends, the first input's going first: the place of the value among
-/// the marks.
-fn try_ends(rt: &impl Abort, alloc: Global, rows: &str) -> Result<(), NoMemory> {
+/// The ends of the numbers of a width: the least, the least but one, and those at the sign.
+fn ends_of(width: u32) -> [u128; 5]
+    requires { IsWidth width }
+{
+    let all = u128::MAX >> (128 - width);
+    let half = all / 2 + 1;
+    [0, 1, half - 1, half, all]
+}
+
+/// The value of a character among the marks.
+fn mark(width: u32, code: u8) -> u128
+    requires { IsWidth width }
+{
+    let all = u128::MAX >> (128 - width);
+    let half = all / 2 + 1;
+    let code_value = u128::from(code);
+    let mark = match code {
+        b'0'..=b'3' => code_value - 48,
+        b'4'..=b'9' => half.wrapping_add(code_value).wrapping_sub(55),
+        _ => all.wrapping_add(code_value).wrapping_sub(99),
+    };
+    mark & all
+}
+
+/// Whether a row of characters for pairs of ends is right.
+fn is_row_of_ends(alloc: Global, row: &str) -> Option<bool> {
+    let width = row_width(row);
+    let ends = ends_of(width);
+    let mut terms = Terms::new(alloc);
+    let id = make(&mut terms, word(row, 0), width, row_numbers("")).ok()?;
+    for (n, code) in word(row, 2).bytes().enumerate() {
+        let found = value(alloc, &terms, id, &[ends[n % 5], ends[n / 5 % 5]]);
+        if found != Some(mark(width, code)) {
+            return Some(false);
+        }
+    }
+    Some(true)
+}
+
+/// Whether a row of a single value is right.
+fn is_single_row(alloc: Global, row: &str) -> Option<bool> {
+    let values = [5, 6, 7].map(|index| number(row, index).unsigned_abs());
+    let mut terms = Terms::new(alloc);
+    let id = make(&mut terms, word(row, 0), row_width(row), row_numbers(row)).ok()?;
+    Some(value(alloc, &terms, id, &values) == Some(number(row, 8).unsigned_abs()))
+}
+
+/// The first row of a table that isn't right.
+fn first_wrong(alloc: Global, table: Table, rows: &str) -> Option<&str> {
     for row in rows.lines() {
-        let mut words = row.split(' ');
-        let name = words.next().unwrap_or("");
-        let width = number(words.next()).clamp(1, 80) as u32;
-        let all = u128::MAX >> (128 - width);
-        let half = all / 2 + 1;
-        let ends = [0, 1, half - 1, half, all];
-        let mut terms = Terms::new(alloc);
-        let numbers = Numbers {
-            coeff: 0,
-            high: 0,
-            low: 0,
+        let is_right = match table {
+            Table::Small => is_small_row(alloc, row),
+            Table::Ends => is_row_of_ends(alloc, row),
+            Table::Single => is_single_row(alloc, row),
         };
-        let id = make(&mut terms, name, width, numbers)?;
-        for (n, code) in words.next().unwrap_or("").bytes().enumerate() {
-            let found = value(rt, alloc, &terms, id, &[ends[n % 5], ends[n / 5 % 5]])?;
-            let mark = match code {
-                b'0'..=b'3' => u128::from(code) - 48,
-                b'4'..=b'9' => half.wrapping_add(u128::from(code)).wrapping_sub(55),
-                _ => all.wrapping_add(u128::from(code)).wrapping_sub(99),
-            };
-            assert_eq!(rt; found, mark & all, "{row} at {n}");
+        if is_right != Some(true) {
+            return Some(row);
         }
     }
-    Ok(())
-}
-
-/// The values of the inputs, and the function's value.
-fn try_single(rt: &impl Abort, alloc: Global, rows: &str) -> Result<(), NoMemory> {
-    for row in rows.lines() {
-        let mut words = row.split(' ');
-        let name = words.next().unwrap_or("");
-        let width = number(words.next()).clamp(1, 80) as u32;
-        let coeff = number(words.next()).clamp(i64::MIN.into(), i64::MAX.into()) as i64;
-        let high = number(words.next()).clamp(0, 80) as u32;
-        let low = number(words.next()).clamp(0, 80) as u32;
-        let mut values = ValueList::new(alloc);
-        for _ in 0..3 {
-            values.push(number(words.next()).unsigned_abs())?;
-        }
-        let mut terms = Terms::new(alloc);
-        let id = make(&mut terms, name, width, Numbers { coeff, high, low })?;
-        let found = value(rt, alloc, &terms, id, values.as_slice())?;
-        assert_eq!(rt; found, number(words.next()).unsigned_abs(), "{row}");
-    }
-    Ok(())
+    None
 }
 
 #[test]
-fn has_each_value_at_one_to_three_bits(rt: HostRuntime) -> Result<(), NoMemory> {
-    try_small(
-        &rt,
+fn has_each_value_at_one_to_three_bits(rt: HostRuntime) {
+    let wrong = first_wrong(
         rt.alloc(),
+        Table::Small,
         "\
 bvadd 1 0 0 0 0110\n\
 bvsub 1 0 0 0 0110\n\
@@ -250,14 +299,15 @@ extract 3 0 2 1 00112233\n\
 extract 3 0 2 2 00001111\n\
 ite 3 0 0 0 0001020304050607101112131415161720212223242526273031323334353637\
 4041424344454647505152535455565760616263646566677071727374757677",
-    )
+    );
+    assert!(rt; wrong.is_none(), "{}", wrong.unwrap_or(""));
 }
 
 #[test]
-fn has_the_values_at_the_ends(rt: HostRuntime) -> Result<(), NoMemory> {
-    try_ends(
-        &rt,
+fn has_the_values_at_the_ends(rt: HostRuntime) {
+    let wrong = first_wrong(
         rt.alloc(),
+        Table::Ends,
         "\
 bvadd 1 0101110100010111010010100\n\
 bvadd 8 0167c1278067bc578c06c056b\n\
@@ -299,14 +349,15 @@ bvor 8 0167c1168c666cc78c7cccccc\n\
 bvor 32 0167c1168c666cc78c7cccccc\n\
 bvor 64 0167c1168c666cc78c7cccccc\n\
 bvor 80 0167c1168c666cc78c7cccccc",
-    )
+    );
+    assert!(rt; wrong.is_none(), "{}", wrong.unwrap_or(""));
 }
 
 #[test]
-fn has_single_values(rt: HostRuntime) -> Result<(), NoMemory> {
-    try_single(
-        &rt,
+fn has_single_values(rt: HostRuntime) {
+    let wrong = first_wrong(
         rt.alloc(),
+        Table::Single,
         "\
 bvneg 1 0 0 0 1 0 0 1\n\
 bvnot 1 0 0 0 0 0 0 1\n\
@@ -389,7 +440,8 @@ concat 32 0 0 0 2147483648 2147483647 0 9223372039002259455\n\
 concat 32 0 0 0 2147483647 4294967295 0 9223372036854775807\n\
 concat 40 0 0 0 549755813888 549755813887 0 604462909807864343166975\n\
 concat 40 0 0 0 549755813887 1099511627775 0 604462909807314587353087",
-    )
+    );
+    assert!(rt; wrong.is_none(), "{}", wrong.unwrap_or(""));
 }
 
 #[test]
@@ -400,7 +452,7 @@ fn keeps_constants_and_makes_goals(rt: HostRuntime) -> Result<(), NoMemory> {
     let same = terms.eq(a, b)?;
     assert_eq!(rt; terms.len(), 2);
     let goal = Goal::new(rt.alloc(), terms, same)?;
-    assert_eq!(rt; value(&rt, rt.alloc(), &goal.terms, goal.root, &[])?, 1);
+    assert!(rt; value(rt.alloc(), &goal.terms, goal.root, &[]) == Some(1));
     assert!(rt; goal.inputs.is_empty());
     Ok(())
 }
