@@ -2,8 +2,8 @@
 use Rattle.std.proofs.Common.{◌≡◌, ℕ, zero, suc, ◌+◌, ◌<◌, Bool, true, false, not, List, [], ◌∷◌, ◌++◌, length, refl, ◌∙◌, arith, length-append}
 use Rattle.dsv_generator.specs.declared.finding.RunFinding.{RunFinding}
 use Rattle.dsv_generator.specs.declared.finding.RunFinding.TheVariants as found
-use Rattle.dsv_generator.specs.declared.tally.SpentLog.{SpentLog}
-use Rattle.dsv_generator.specs.declared.tally.Tally.{Tally}
+use Rattle.dsv_tally.specs.declared.tally.SpentLog.{SpentLog}
+use Rattle.dsv_tally.specs.declared.tally.Tally.{Tally}
 use Rattle.dsv_generator.specs.Tallies.{one_if, does_fall, is_never, is_overflow, is_spent, with_log, IsTally, none, more, AreRising, AddsUp, IsBelow}
 
 one_of_two : (b : Bool) → one_if b + one_if (not b) ≡ 1

@@ -5,8 +5,8 @@ use Rattle.dsv_generator.specs.Controllers.{controller_with, state_before, Becom
 use Rattle.dsv_generator.specs.Draws.{next_state, word_of}
 use Rattle.dsv_generator.specs.Findings.{IsFinding}
 use Rattle.dsv_generator.specs.declared.finding.Finding.{Finding}
-use Rattle.dsv_generator.specs.declared.tally.SpentLog.{SpentLog}
-use Rattle.dsv_generator.specs.declared.tally.Tally.{Tally}
+use Rattle.dsv_tally.specs.declared.tally.SpentLog.{SpentLog}
+use Rattle.dsv_tally.specs.declared.tally.Tally.{Tally}
 use Rattle.dsv_generator.specs.Tallies.{with_finding, with_log, IsTally, more}
 
 module _ (seed n state first second third fourth : ℕ) (before : state ≡ state_before seed n) (a : first ≡ next_state state) (b : second ≡ next_state first)

@@ -9,9 +9,9 @@ use Rattle.dsv_generator.specs.declared.finding.RootFinding.{RootFinding}
 use Rattle.dsv_generator.specs.declared.finding.RootFinding.TheVariants as root
 use Rattle.dsv_generator.specs.declared.finding.RunFinding.{RunFinding}
 use Rattle.dsv_generator.specs.declared.finding.RunFinding.TheVariants as found
-use Rattle.dsv_generator.specs.declared.tally.Generated.{Generated}
-use Rattle.dsv_generator.specs.declared.tally.SpentLog.{SpentLog}
-use Rattle.dsv_generator.specs.declared.tally.Tally.{Tally}
+use Rattle.dsv_tally.specs.declared.tally.Generated.{Generated}
+use Rattle.dsv_tally.specs.declared.tally.SpentLog.{SpentLog}
+use Rattle.dsv_tally.specs.declared.tally.Tally.{Tally}
 
 -- nothing is counted yet
 abbrev pub empty_tally : Tally

@@ -4,8 +4,9 @@ ghost use Rattle.dsv_generator.specs.Tallies.{IsGeneratedFrom};
 
 use crate::controllers::{states_after, words_of};
 use crate::finding::finding_of;
-use crate::tally::{Generated, SpentLogs, Tally, keep_log};
+use crate::tally::{empty_tally, keep_log, with_finding};
 use dsv_base::NoMemory;
+use dsv_tally::{Generated, SpentLogs};
 use std::alloc::Global;
 
 /// Over how many samples an overflow is sought.
@@ -20,13 +21,13 @@ pub fn generate(alloc: Global, seed: u32, count: u32) -> Result<Generated, NoMem
     ensures { IfOk result (IsGeneratedFrom seed count) }
 {
     let mut state = seed;
-    let mut tally = Tally::empty();
+    let mut tally = empty_tally();
     let mut spent = SpentLogs::new(alloc);
     for index in 0..count {
         let states = states_after(state);
         let words = words_of(states);
         let finding = finding_of(alloc, &words)?;
-        tally = tally.with_finding(&finding);
+        tally = with_finding(tally, &finding);
         keep_log(&mut spent, index, finding.overflow)?;
         state = states.fourth;
     }

@@ -10,4 +10,3 @@ mod tally;
 
 pub use finding::{Finding, RootFinding, RunFinding};
 pub use generator::{CONFLICTS, SAMPLES, generate};
-pub use tally::{Generated, SpentLog, SpentLogs, Tally};

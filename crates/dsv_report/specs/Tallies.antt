@@ -1,6 +1,6 @@
 -- The text of the counts of generated controllers.
 use Rattle.std.specs.Prelude.{ℕ, List, ◌++◌, codes}
-use Rattle.dsv_generator.specs.declared.tally.Generated.{Generated}
+use Rattle.dsv_tally.specs.declared.tally.Generated.{Generated}
 use Rattle.dsv_report.specs.Lines.{numbered, number_line}
 
 -- how many controllers there are, and the seed

@@ -2,7 +2,6 @@
 use dsv_certfile::{CheckFault, Job, TextFault};
 use dsv_cnf::Formula;
 use dsv_forms::{Falls, Form, KeptAway, Poly};
-use dsv_generator::Generated;
 use dsv_hints::Log;
 use dsv_jury::Jury;
 use dsv_lyapunov::KeptForms;
@@ -10,6 +9,7 @@ use dsv_meaning::{Cycle, Trace};
 use dsv_quantiser::QuantRefusal;
 use dsv_reader::FileRefusal;
 use dsv_system::Rows;
+use dsv_tally::Generated;
 use dsv_template::{Candidate, KeptSets, ThreeLogs};
 use dsv_timing::TimingReport;
 

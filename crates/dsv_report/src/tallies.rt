@@ -4,7 +4,7 @@ ghost use Rattle.dsv_report.specs.Tallies.{seed_line, decided_line, overflow_lin
 
 use crate::lines::{put_number_line, put_numbered};
 use dsv_base::{Failed, Sink};
-use dsv_generator::Generated;
+use dsv_tally::Generated;
 
 /// Writes how many controllers there are, and the seed.
 fn put_seed<K: Sink>(sink: &mut K, count: u64, seed: u64) -> Result<(), Failed>

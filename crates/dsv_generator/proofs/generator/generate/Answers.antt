@@ -1,6 +1,6 @@
 use Rattle.std.proofs.Common.{◌≡◌, ◌+◌, subst, sym, refl, rules, List}
-use Rattle.dsv_generator.specs.declared.tally.SpentLog.{SpentLog}
-use Rattle.dsv_generator.specs.declared.tally.Tally.{Tally}
+use Rattle.dsv_tally.specs.declared.tally.SpentLog.{SpentLog}
+use Rattle.dsv_tally.specs.declared.tally.Tally.{Tally}
 use Rattle.dsv_generator.specs.Tallies.{IsTally, none, with_finding}
 use Rattle.dsv_generator.proofs.Sums.{adds_up, tally_below}
 use Rattle.dsv_generator.proofs.Turns.{next_before, one_more}
@@ -8,7 +8,7 @@ use Rattle.dsv_generator.proofs.generator.generate.Goals as goal
 
 pub loop-index-init : goal.loop-index-init
 loop-index-init c =
-    record { state = refl; tally = rw (c.empty-tally.ensures, c.new-spent.ensures) none }
+    record { state = refl; tally = rw (c.empty_tally-tally.ensures, c.new-spent.ensures) none }
 
 pub with_finding-tally-requires : goal.with_finding-tally-requires
 with_finding-tally-requires c =
