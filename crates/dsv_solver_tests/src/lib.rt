@@ -1,4 +1,5 @@
-//! Tests of the solver: small formulas, a multiplier, and random ones against enumeration.
+//! Tests of the solver: small formulas, a multiplier, random ones against enumeration, and a
+//! worked trail.
 #![tactic(auto)]
 
 #[cfg(test)]
@@ -7,3 +8,5 @@ mod multiplier;
 mod random;
 #[cfg(test)]
 mod small;
+#[cfg(test)]
+mod trails;

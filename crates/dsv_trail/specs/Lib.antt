@@ -6,4 +6,3 @@ pub mod Marks
 pub mod Places
 pub mod TrailInside
 pub mod TrailView
-pub mod Worked

@@ -4,8 +4,6 @@
 
 mod law;
 mod marks;
-#[cfg(test)]
-mod tests;
 mod trail;
 
 pub use law::{more_clauses_keep_reasons, values_are_of_the_trail};

@@ -1,7 +1,7 @@
 use Rattle.std.proofs.Common.{◌≡◌, [], ◌∷◌, refl, Some, false}
 use Rattle.dsv_trail.specs.Marks.{value_of}
 use Rattle.dsv_trail.proofs.Justifications.{reason-second}
-use Rattle.dsv_trail.proofs.tests.worked_trail.Goals as goal
+use Rattle.dsv_solver_tests.proofs.trails.worked_trail.Goals as goal
 
 pub imply-requires-clause-reason : goal.imply-requires-clause-reason
 imply-requires-clause-reason c =
