@@ -1,5 +1,6 @@
 pub mod FirstQuotients
 pub mod Labels
+pub mod NumberLemmas
 pub mod Padding
 pub mod TextLaws
 pub mod ValueLaws
