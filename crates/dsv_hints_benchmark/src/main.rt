@@ -40,6 +40,19 @@ fn put_implication(sink: &mut MemSink, var: u32) -> Result<(), Failed>
     put_all(sink, b" 0\n")
 }
 
+/// Adds the step that derives these literals by these hints.
+fn push_step(
+    alloc: Global,
+    log: &mut Log,
+    id: u64,
+    lits: &[Lit],
+    hints: &[u64],
+) -> Result<(), NoMemory> {
+    let lits = LitList::from_slice(alloc, lits)?;
+    let hints = HintList::from_slice(alloc, hints)?;
+    log.push(Step::Add { id, lits, hints })
+}
+
 /// The derivation: each variable is true by the one before it, and then the last is both.
 fn chain_log(alloc: Global, length: u32) -> Result<Log, NoMemory>
     requires { length < 2 ^ 30 }
@@ -49,18 +62,17 @@ fn chain_log(alloc: Global, length: u32) -> Result<Log, NoMemory>
     for i in 0..length {
         let place = u64::from(i);
         let before = if i == 0 { 1 } else { clauses + place };
-        log.push(Step::Add {
-            id: clauses + 1 + place,
-            lits: LitList::from_slice(alloc, &[Lit::new(i + 1, true)])?,
-            hints: HintList::from_slice(alloc, &[before, place + 2])?,
-        })?;
+        let implied = [Lit::new(i + 1, true)];
+        push_step(
+            alloc,
+            &mut log,
+            clauses + 1 + place,
+            &implied,
+            &[before, place + 2],
+        )?;
     }
     let last = clauses + u64::from(length);
-    log.push(Step::Add {
-        id: last + 1,
-        lits: LitList::from_slice(alloc, &[])?,
-        hints: HintList::from_slice(alloc, &[last, clauses])?,
-    })?;
+    push_step(alloc, &mut log, last + 1, &[], &[last, clauses])?;
     Ok(log)
 }
 

@@ -63,15 +63,20 @@ fn judgement(rt: &HostRuntime, formula: &Formula, answer: &Solved) -> &'static s
     }
 }
 
-fn judge(rt: &HostRuntime, name: &str) -> io::Result<()> {
-    let text = bytes_of(rt, name)?;
-    let Ok(formula) = read_dimacs(rt.alloc(), &text) else {
-        return println!(rt; "no formula");
+/// What comes of a formula in this text.
+fn outcome(rt: &HostRuntime, text: &[u8]) -> &'static str {
+    let Ok(formula) = read_dimacs(rt.alloc(), text) else {
+        return "no formula";
     };
     match solve(rt.alloc(), &formula, CONFLICTS) {
-        Ok(answer) => println!(rt; "{name}: {}", judgement(rt, &formula, &answer)),
-        Err(_) => println!(rt; "no memory"),
+        Ok(answer) => judgement(rt, &formula, &answer),
+        Err(_) => "no memory",
     }
+}
+
+fn judge(rt: &HostRuntime, name: &str) -> io::Result<()> {
+    let text = bytes_of(rt, name)?;
+    println!(rt; "{name}: {}", outcome(rt, &text))
 }
 
 fn measure(rt: &HostRuntime, name: &str, conflicts: u32) -> io::Result<()> {
