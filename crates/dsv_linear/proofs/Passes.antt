@@ -50,5 +50,3 @@ samples_more net samples i start now point next facts l e p q =
     ap (λ s. facts_from net (samples - (i + 1)) s next) q
     ∙ ap (λ (m : Point). facts_from net (samples - (i + 1)) (loaded net.next start m) m) p
     ∙ ap (λ n. facts_from net n start point) (sym k) ∙ e
-
-pub ruleset passes = (mapped_more, replicate_more, samples_more)

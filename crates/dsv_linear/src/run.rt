@@ -9,7 +9,6 @@ use crate::form::Form;
 use crate::nodes::add_node;
 use crate::point::{Estimate, Point, Start};
 use crate::range::Range;
-use dsv_algebra::NarrowInteger;
 use dsv_base::{Items, NoMemory};
 use dsv_netlist::{Netlist, Node};
 use std::alloc::Global;
@@ -68,7 +67,7 @@ fn estimate_at(alloc: Global, estimates: &Items<Estimate>, i: u32) -> Result<Est
 }
 
 /// What is known of the words in the registers that are loaded from these nodes.
-#[tactic(auto, using(crate::proofs::Passes::passes))]
+#[tactic(auto, using(crate::proofs::Passes::mapped_more))]
 fn loaded_estimates(
     alloc: Global,
     next: &[u32],
@@ -116,17 +115,24 @@ fn add_sample(
     Ok(())
 }
 
+/// What is known of a register that starts with 0.
+fn zero_estimate(alloc: Global) -> Estimate
+    ensures { result ≡ zero_estimate }
+{
+    Estimate {
+        form: Some(Form::new(alloc)),
+        interval: Some(Range::between(&0, &0)),
+    }
+}
+
 /// What is known of so many registers that start with 0.
-#[tactic(auto, using(crate::proofs::Passes::passes))]
+#[tactic(auto, using(crate::proofs::Passes::replicate_more))]
 fn zero_registers(alloc: Global, count: u32) -> Result<Items<Estimate>, NoMemory>
     ensures { IfOk result (λ registers. registers ≡ replicate count zero_estimate) }
 {
     let mut registers = Items::new(alloc);
     for _ in 0..count {
-        registers.push(Estimate {
-            form: Some(Form::new(alloc)),
-            interval: Some(Range::between(&0, &0)),
-        })?;
+        registers.push(zero_estimate(alloc))?;
     }
     Ok(registers)
 }
@@ -135,13 +141,11 @@ fn zero_registers(alloc: Global, count: u32) -> Result<Items<Estimate>, NoMemory
 fn zero_start(alloc: Global, net: &Netlist, low: i64, high: i64) -> Result<Start, NoMemory>
     ensures { IfOk result (λ start. start ≡ zero_start net.now low high) }
 {
+    let registers = zero_registers(alloc, net.registers())?;
     Ok(Start {
         format: net.format(),
-        input: Range {
-            low: NarrowInteger::from(low),
-            high: NarrowInteger::from(high),
-        },
-        registers: zero_registers(alloc, net.registers())?,
+        input: Range::between(&low.into(), &high.into()),
+        registers,
     })
 }
 
@@ -159,8 +163,27 @@ fn no_point(alloc: Global) -> Point
 /// For each exact value of a run, in its order, what is known of it.
 pub type Facts = Items<Fact>;
 
+/// Adds what so many samples give to what is known.
+#[tactic(auto, using(crate::proofs::Passes::samples_more))]
+fn add_samples(
+    alloc: Global,
+    net: &Netlist,
+    samples: u32,
+    start: &mut Start,
+    point: &mut Point,
+) -> Result<(), NoMemory>
+    ensures { IfOk result
+        (λ u. point.new.facts ≡ facts_from net.now samples start.old point.old) }
+{
+    let nodes = nodes_of(alloc, net)?;
+    let next = next_of(alloc, net)?;
+    for _ in 0..samples {
+        add_sample(alloc, &nodes, &next, start, point)?;
+    }
+    Ok(())
+}
+
 /// The facts after so many samples, where this is known of the registers and so far.
-#[tactic(auto, using(crate::proofs::Passes::passes))]
 fn facts_from(
     alloc: Global,
     net: &Netlist,
@@ -170,13 +193,9 @@ fn facts_from(
 ) -> Result<Facts, NoMemory>
     ensures { IfOk result (λ facts. facts ≡ facts_from net.now samples start point) }
 {
-    let nodes = nodes_of(alloc, net)?;
-    let next = next_of(alloc, net)?;
     let mut start = start;
     let mut point = point;
-    for _ in 0..samples {
-        add_sample(alloc, &nodes, &next, &mut start, &mut point)?;
-    }
+    add_samples(alloc, net, samples, &mut start, &mut point)?;
     Ok(point.facts)
 }
 

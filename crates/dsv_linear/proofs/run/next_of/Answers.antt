@@ -1,4 +1,5 @@
-use Rattle.std.proofs.Common.{◌≡◌, [], ◌∷◌, ◌++◌, arith}
+use Rattle.std.proofs.Common.{◌≡◌, ◌∙◌, [], ◌∷◌, ◌++◌, arith}
+use Rattle.std.proofs.lemmas.List.{take_all}
 use Rattle.dsv_linear.proofs.Passes.{taken_more}
 use Rattle.dsv_linear.proofs.run.next_of.Goals as goal
 
@@ -6,3 +7,6 @@ pub loop-i-preserved : goal.loop-i-preserved
 loop-i-preserved c =
     let pushed : c.push.new.self.items ≡ c.loop-i.next.items ++ c.next-id.result ∷ [] = grind arith in
     taken_more c.args.net.now.next c.loop-i.next.items c.push.new.self.items c.loop-i.i c.next-id.result (omega arith) c.loop-i.invariant c.next-id.ensures pushed
+
+pub returns : goal.returns
+returns c = c.loop-i.invariant ∙ take_all c.loop-i.i c.args.net.now.next (omega arith)
