@@ -1,4 +1,5 @@
 pub mod Sizes
 pub mod Naming
 pub mod BoundLemmas
+pub mod RunTurns
 pub mod Runs
