@@ -1,4 +1,5 @@
 pub mod Breaking
+pub mod Chains
 pub mod CycleGoal
 pub mod CycleRuns
 pub mod CycleSteps
@@ -11,6 +12,7 @@ pub mod FitTerms
 pub mod Follows
 pub mod InputTests
 pub mod NodeTerms
+pub mod OverflowRoots
 pub mod RoundTerms
 pub mod Rounding
 pub mod RuleTerms

@@ -7,6 +7,7 @@ ghost use Rattle.dsv_netlist.specs.Conditions.{IsNetlist};
 ghost use Rattle.dsv_term.specs.Building.{built_of};
 ghost use Rattle.dsv_term.specs.Growth.{AreSound, Adds};
 ghost use Rattle.dsv_term.specs.Terms.{KeepsTerms, AreValues, word_of};
+ghost use Rattle.dsv_unroll.specs.Goals.{no_terms};
 ghost use Rattle.dsv_unroll.specs.CycleGoals.{same_term, sounding_term, returned_from};
 ghost use Rattle.dsv_unroll.specs.CycleGoals.{with_quiet_sample, with_asked, cycles_from};
 ghost use Rattle.dsv_unroll.specs.CycleGoals.{starts_from, found_of, cycle_of};
@@ -245,8 +246,31 @@ fn start_terms(
     start_inputs(terms, &format, ids, net.registers() - forward)
 }
 
-/// The terms of the goal of a cycle, and its root.
+/// The root of the goal of a cycle.
 #[tactic(auto, unfolding(crate::specs::CycleGoals::cycle_of))]
+fn cycle_root(
+    alloc: Global,
+    terms: &mut Terms,
+    net: &Netlist,
+    periods: u32,
+) -> Result<TermId, NoMemory>
+    requires empty { terms.old ≡ no_terms }
+    requires netlist { IsNetlist net.now }
+    ensures built { IfOk result (λ root. built_of terms.new root ≡ cycle_of net.now periods) }
+    ensures bit { IfOk result (λ root. HasBits terms.new root 1) }
+{
+    let nought = terms.constant(1, 0)?;
+    let starts = start_terms(alloc, terms, net, nought)?;
+    let state = CycleTerms {
+        registers: Vec::from_slice(alloc, &starts)?,
+        sounding: nought,
+        found: nought,
+    };
+    let found = found_term(alloc, terms, net, &starts, nought, state, periods)?;
+    Ok(found)
+}
+
+/// The terms of the goal of a cycle, and its root.
 fn cycle_terms(alloc: Global, net: &Netlist, periods: u32) -> Result<Goal, NoMemory>
     ensures made { IfOk result
         (λ goal. built_of goal.terms goal.root ≡ cycle_of net.now periods) }
@@ -254,15 +278,8 @@ fn cycle_terms(alloc: Global, net: &Netlist, periods: u32) -> Result<Goal, NoMem
 {
     let count = net.len();
     let mut terms = Terms::new(alloc);
-    let nought = terms.constant(1, 0)?;
-    let starts = start_terms(alloc, &mut terms, net, nought)?;
-    let state = CycleTerms {
-        registers: Vec::from_slice(alloc, &starts)?,
-        sounding: nought,
-        found: nought,
-    };
-    let found = found_term(alloc, &mut terms, net, &starts, nought, state, periods)?;
-    Goal::new(alloc, terms, found)
+    let root = cycle_root(alloc, &mut terms, net, periods)?;
+    Goal::new(alloc, terms, root)
 }
 
 /// The goal of a limit cycle of a period from 1 to `periods`: its inputs are the start words of the

@@ -28,13 +28,14 @@ fn put_low_test(
         ≡ with_low_test terms.old (width format.now) low x tests.old.items) }
     ensures x { IfOk result (λ u. HasBits terms.new x (width format.now)) }
 {
-    if format.lo() < low {
-        let bits = format.width();
-        let word = Word::of_signed(bits, low.into());
-        let least = terms.constant(bits, word.number)?;
-        let test = terms.sle(least, x)?;
-        tests.push(test)?;
+    if low <= format.lo() {
+        return Ok(());
     }
+    let bits = format.width();
+    let word = Word::of_signed(bits, low.into());
+    let least = terms.constant(bits, word.number)?;
+    let test = terms.sle(least, x)?;
+    tests.push(test)?;
     Ok(())
 }
 
@@ -51,13 +52,14 @@ fn put_high_test(
         ≡ with_high_test terms.old (width format.now) high x tests.old.items) }
     ensures x { IfOk result (λ u. HasBits terms.new x (width format.now)) }
 {
-    if high < format.hi() {
-        let bits = format.width();
-        let word = Word::of_signed(bits, high.into());
-        let greatest = terms.constant(bits, word.number)?;
-        let test = terms.sle(x, greatest)?;
-        tests.push(test)?;
+    if format.hi() <= high {
+        return Ok(());
     }
+    let bits = format.width();
+    let word = Word::of_signed(bits, high.into());
+    let greatest = terms.constant(bits, word.number)?;
+    let test = terms.sle(x, greatest)?;
+    tests.push(test)?;
     Ok(())
 }
 

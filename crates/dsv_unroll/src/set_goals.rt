@@ -9,7 +9,7 @@ ghost use Rattle.dsv_unroll.specs.Goals.{no_terms};
 ghost use Rattle.dsv_unroll.specs.SetGoals.{registers_of, set_start, states_of};
 ghost use Rattle.dsv_unroll.specs.SetGoals.{base_break, step_break};
 ghost use Rattle.dsv_unroll.specs.SetGoals.{safe_break, break_of, samples_of, set_inputs, set_of};
-ghost use Rattle.dsv_unroll.specs.Ready.{start_with, AreStatesReady, IsStartReady};
+ghost use Rattle.dsv_unroll.specs.Ready.{HasBits, start_with, AreStatesReady, IsStartReady};
 ghost use Rattle.dsv_unroll.specs.Words.{spelled_words, Tells, BreaksPart};
 
 use crate::inputs::{conjunction, input_terms, start_inputs};
@@ -209,8 +209,34 @@ fn break_of(
     }
 }
 
-/// The terms of the goal that a sentence is broken, and its root.
+/// The root of the goal that a sentence is broken.
 #[tactic(auto, unfolding(crate::specs::SetGoals::set_of))]
+fn set_root(
+    alloc: Global,
+    terms: &mut Terms,
+    net: &Netlist,
+    low: &i64,
+    high: &i64,
+    candidate: &Candidate,
+    part: SetPart,
+) -> Result<TermId, NoMemory>
+    requires empty { terms.old ≡ no_terms }
+    requires netlist { IsNetlist net.now }
+    requires low { low.now ≤ℤ hi (width net.now.format) }
+    requires high { lo (width net.now.format) ≤ℤ high.now }
+    requires shaped { is_shaped (length net.now.next) candidate.now ≡ true }
+    ensures built { IfOk result (λ root. built_of terms.new root
+        ≡ set_of net.now low.now high.now candidate.now part) }
+    ensures bit { IfOk result (λ root. HasBits terms.new root 1) }
+{
+    let samples = samples_of(candidate, part);
+    let start = set_start(alloc, terms, net, low, high, samples, part)?;
+    let broken = break_of(alloc, terms, net, candidate, part, &start)?;
+    let root = conjunction(terms, broken, &start.tests)?;
+    Ok(root)
+}
+
+/// The terms of the goal that a sentence is broken, and its root.
 fn set_terms(
     alloc: Global,
     net: &Netlist,
@@ -228,10 +254,7 @@ fn set_terms(
 {
     let count = net.len();
     let mut terms = Terms::new(alloc);
-    let samples = samples_of(candidate, part);
-    let start = set_start(alloc, &mut terms, net, low, high, samples, part)?;
-    let broken = break_of(alloc, &mut terms, net, candidate, part, &start)?;
-    let root = conjunction(&mut terms, broken, &start.tests)?;
+    let root = set_root(alloc, &mut terms, net, low, high, candidate, part)?;
     Goal::new(alloc, terms, root)
 }
 

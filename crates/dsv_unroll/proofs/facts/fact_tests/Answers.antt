@@ -1,6 +1,8 @@
 use Rattle.std.proofs.Common.{arith, refl, None}
 use Rattle.std.specs.Prelude.{slice_index_or}
+use Rattle.std.proofs.lemmas.List.Elements.{All-get_or}
 use Rattle.dsv_unroll.specs.FactTests.{FactTerms, facts_from}
+use Rattle.dsv_unroll.specs.Ready.{IsEntry}
 use Rattle.dsv_unroll.proofs.FactTerms.{fact_step}
 use Rattle.dsv_unroll.proofs.facts.fact_tests.Goals as goal
 
@@ -17,3 +19,9 @@ loop-i-preserved c =
     let s = fact_step first l.i facts entries k now end c.fact_at-fact.result (slice_index_or entries l.i None) (omega arith) c.fact_at-fact.ensures refl c.in_ok-outside.ensures.built
     (record { known = i.known; tested = i.tested; kept = i.kept; same = i.same }) in
     record { known = s.known; tested = s.tested; kept = s.kept; same = s.same }
+
+pub put_entry-requires-clause-known : goal.put_entry-requires-clause-known
+put_entry-requires-clause-known c = c.loop-i.invariant.known
+
+pub put_entry-requires-clause-entry : goal.put_entry-requires-clause-entry
+put_entry-requires-clause-entry c = All-get_or (IsEntry c.loop-i.terms) c.args.tested.now c.loop-i.i None (omega arith) c.loop-i.invariant.tested.stand

@@ -24,3 +24,12 @@ loop-i-preserved c =
     let d : drop l.i is ≡ this ∷ drop (l.i + 1) is = drop_more is l.i this (omega arith) ∙ ap (λ (x : Inequality). x ∷ drop (l.i + 1) is) (sym h) in
     let a = test_step f c.args.terms.now c.args.nought registers is l.i s end this c.inequality_term.new.terms c.in_ok-test.test c.push.new.self.items fit d before c.in_ok-test.ensures c.in_ok-push.ensures.items in
     record { ready = a.ready; bits = a.bits; kept = a.kept; same = a.same }
+
+pub inequality_term-requires-clause-fit : goal.inequality_term-requires-clause-fit
+inequality_term-requires-clause-fit c =
+    let registers = c.args.registers.now in
+    let this = c.index-inequalities-i.result in
+    subst (λ (x : Inequality). is_fit_for (length registers) x ≡ true) (sym c.index-inequalities-i.is) (passes_at (is_fit_for (length registers)) c.args.inequalities.now c.loop-i.i this c.requires.fit (omega arith))
+
+pub inequality_term-requires-clause-ready : goal.inequality_term-requires-clause-ready
+inequality_term-requires-clause-ready c = c.loop-i.invariant.ready

@@ -1,0 +1,56 @@
+use Rattle.std.proofs.Common.{◌∙◌, ap, sym, Some}
+use Rattle.dsv_term.specs.declared.node.TermId.{TermId}
+use Rattle.dsv_term.specs.declared.node.TermNode.TheVariants.{Or}
+use Rattle.dsv_term.specs.Building.{Built, with_node}
+use Rattle.dsv_unroll.specs.Rules.{CutTerms, Unrolled, cut_terms}
+use Rattle.dsv_unroll.proofs.Chains.{cut_made}
+use Rattle.dsv_unroll.proofs.fitting.cut_term.Goals as goal
+
+pub eq-requires-clause-first : goal.eq-requires-clause-first
+eq-requires-clause-first c = c.in_ok-back.ensures.made.stands
+
+pub eq-requires-clause-second : goal.eq-requires-clause-second
+eq-requires-clause-second c =
+    c.in_ok-back.ensures.made.kept.longer c.args.of (c.in_ok-id.ensures.made.kept.longer c.args.of c.requires.value.stands)
+
+pub eq-requires-clause-alike : goal.eq-requires-clause-alike
+eq-requires-clause-alike c =
+    let a = c.in_ok-id.ensures.made.kept in
+    let b = c.in_ok-back.ensures.made in
+    let of = c.args.of in
+    let stands = c.requires.value.stands in
+    b.width ∙ (c.width-width.ensures.width ∙ sym (b.kept.widths of (a.longer of stands) ∙ a.widths of stands))
+
+pub or-requires-clause-first : goal.or-requires-clause-first
+or-requires-clause-first c =
+    let flag = c.args.broken in
+    c.in_ok-outside.ensures.made.kept.longer flag (c.in_ok-is_word.ensures.made.kept.longer flag (c.in_ok-back.ensures.made.kept.longer flag (c.in_ok-id.ensures.made.kept.longer flag c.requires.flag)))
+
+pub or-requires-clause-second : goal.or-requires-clause-second
+or-requires-clause-second c = c.in_ok-outside.ensures.made.stands
+
+pub or-requires-clause-alike : goal.or-requires-clause-alike
+or-requires-clause-alike c =
+    let a = c.in_ok-id.ensures.made.kept in
+    let b = c.in_ok-back.ensures.made.kept in
+    let d = c.in_ok-is_word.ensures.made in
+    let e = c.in_ok-outside.ensures.made in
+    let flag = c.args.broken in
+    let h = a.longer flag c.requires.flag in
+    let i = b.longer flag h in
+    e.kept.widths flag (d.kept.longer flag i) ∙ (d.kept.widths flag i ∙ (b.widths flag h ∙ (a.widths flag c.requires.flag ∙ (c.requires.bit ∙ sym (e.width ∙ d.width)))))
+
+pub returns-clause-tested : goal.returns-clause-tested
+returns-clause-tested c =
+    ap (λ (k : CutTerms). Some k.tested) (cut_made c.args.terms.now c.extract.new.self c.sext.new.self c.eq.new.self c.not.new.self c.args.bits c.width-width.result c.args.of c.in_ok-id.id c.in_ok-back.back c.in_ok-is_word.is_word c.in_ok-outside.outside
+    c.width-width.ensures.width c.in_ok-id.ensures.made.built c.in_ok-back.ensures.made.built c.in_ok-is_word.ensures.made.built c.in_ok-outside.ensures.made.built)
+
+-- the bit that says a break, after the test of the value
+abbrev with_flag : TermId → CutTerms → Unrolled
+with_flag broken k = let either = with_node k.terms (Or broken k.tested.outside) in record { terms = either.terms; id = k.word; broken = either.id }
+
+pub returns-clause-built : goal.returns-clause-built
+returns-clause-built c =
+    let cut = cut_made c.args.terms.now c.extract.new.self c.sext.new.self c.eq.new.self c.not.new.self c.args.bits c.width-width.result c.args.of c.in_ok-id.id c.in_ok-back.back c.in_ok-is_word.is_word c.in_ok-outside.outside
+    c.width-width.ensures.width c.in_ok-id.ensures.made.built c.in_ok-back.ensures.made.built c.in_ok-is_word.ensures.made.built c.in_ok-outside.ensures.made.built in
+    ap (λ (v : Built). let u : Unrolled = record { terms = v.terms; id = c.in_ok-id.id; broken = v.id } in u) c.in_ok-broken.ensures.made.built ∙ ap (with_flag c.args.broken) cut
