@@ -110,16 +110,12 @@ model_of f g t w head log values s c v over =
     record { count = m.count ∙ s.vars; satisfies = satisfies_front (assignment_of values) f.clauses s.logged.more (rw s.logged.is at m.satisfies) }
 
 -- ---- back to level 0
-pub restarted : (f g : FormulaView) (s t : TrailView) (w : WatchView) (head now : ℕ) (log : List Step) → IsSearching f g s w head log → IsRestarted s t head now → IsSearching f g t w now log × (t.limits ≡ []) × (t.vars ≡ s.vars)
-restarted f g s t w head now log h r =
+pub ready_restarted : (g : FormulaView) (s t : TrailView) (w : WatchView) (head now : ℕ) → IsReady g s w head → IsRestarted s t head now → IsReady g t w now × (t.limits ≡ []) × (t.vars ≡ s.vars)
+ready_restarted g s t w head now h r =
     elim r.which [
       | inl u ↦ (rw (u.0, u.1) h, rw u.0 u.2, ap (λ (x : TrailView). x.vars) u.0)
       | inr b ↦ (
-        record {
-          ready = rw (b.through, b.is) (ready_back_all g s w head 0 b.place h.ready b.at);
-          logged = h.logged;
-          vars = h.vars;
-        },
+        rw (b.through, b.is) (ready_back_all g s w head 0 b.place h b.at),
         ap (λ (x : TrailView). x.limits) b.is,
         ap (λ (x : TrailView). x.vars) b.is,
       )

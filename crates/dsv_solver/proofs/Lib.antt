@@ -14,6 +14,7 @@ pub mod Passes
 pub mod Resolution
 pub mod Searching
 pub mod Steps
+pub mod Turning
 pub mod Visits
 pub mod Walkings
 pub mod Walks

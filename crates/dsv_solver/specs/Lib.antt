@@ -13,6 +13,7 @@ pub mod SeenView
 pub mod Solved
 pub mod Solving
 pub mod Step
+pub mod Turns
 pub mod Walk
 pub mod Walking
 pub mod WatchInside

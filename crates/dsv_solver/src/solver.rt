@@ -1,10 +1,12 @@
 // The solver: search, lessons, restarts, and the answers.
-ghost use Rattle.std.specs.Prelude.{◌≡◌, ◌<◌, ◌≤◌, ◌+◌, ◌-◌, ◌^◌, [], IfOk, length, Some};
+ghost use Rattle.std.specs.Prelude.{◌≡◌, ◌<◌, ◌≤◌, ◌+◌, ◌-◌, ◌^◌, [], IfOk, OnOk, length};
 ghost use Rattle.dsv_solver.specs.Ending.{AreValuesOf};
 ghost use Rattle.dsv_cnf.specs.Formula.{IsModel};
 ghost use Rattle.dsv_hints.specs.Lessons.{IsRefutation, IsSpent};
 ghost use Rattle.dsv_solver.specs.Solved.{IfSat, IfSpent, IfUnsat};
+ghost use Rattle.dsv_solver.specs.Propagation.{IsReady};
 ghost use Rattle.dsv_solver.specs.Solving.{IsStuck, IsNewSearch, IsRefuted};
+ghost use Rattle.dsv_solver.specs.Turns.{IsNewState, IsTurn, IsLastTurn, HasEnded};
 
 use crate::analyse::refute;
 use crate::learn::write_step;
@@ -19,6 +21,7 @@ use dsv_cnf::{Assignment, Formula, Lit};
 use dsv_hints::Log;
 use dsv_trail::Trail;
 use std::alloc::Global;
+use std::mem;
 
 /// 2^32 - 2: so many clauses, the learned ones among them, are too many to be numbered.
 const TOO_MANY_CLAUSES: u64 = 0xffff_fffe;
@@ -63,44 +66,149 @@ fn copy(alloc: Global, formula: &Formula) -> Result<Formula, NoMemory>
     Ok(clauses)
 }
 
-impl Search {
+impl State {
     /// The formula's clauses, and no variable set.
-    fn new(alloc: Global, formula: &Formula) -> Result<Search, NoMemory>
+    fn new(alloc: Global, formula: &Formula) -> Result<State, NoMemory>
         requires { length formula.now.clauses < 2 ^ 32 - 1 }
-        ensures { IfOk result (λ s. IsNewSearch formula.now s.state s.seen s.log) }
+        ensures { IfOk result (IsNewState formula.now) }
     {
         let vars = formula.vars();
-        let state = State {
+        Ok(State {
             clauses: copy(alloc, formula)?,
             trail: Trail::new(alloc, vars)?,
             watches: Watches::new(alloc, vars)?,
             head: 0,
-        };
+        })
+    }
+}
+
+impl Search {
+    /// The formula's clauses, no variable set, and nothing learned.
+    fn new(alloc: Global, formula: &Formula) -> Result<Search, NoMemory>
+        requires { length formula.now.clauses < 2 ^ 32 - 1 }
+        ensures { IfOk result (λ s. IsNewSearch formula.now s.state s.seen s.log) }
+    {
+        let order = Order::new(alloc, formula.vars())?;
+        let seen = Seen::new(alloc, formula.vars())?;
         Ok(Search {
-            state,
-            order: Order::new(alloc, vars)?,
-            seen: Seen::new(alloc, vars)?,
+            state: State::new(alloc, formula)?,
+            order,
+            seen,
             log: Log::new(alloc),
         })
     }
 
-    /// The log of a refutation, where a clause is false at level 0.
-    fn refutation(self, alloc: Global, conflict: u32) -> Result<Log, NoMemory>
-        requires seen { self.seen.vars ≡ self.state.trail.vars }
-        requires stuck { IsStuck self.state.clauses self.state.trail conflict }
-        ensures { IfOk result (IsRefuted self.state.clauses self.log) }
+    /// Appends a refutation to the log, where a clause is false at level 0.
+    fn refute(&mut self, alloc: Global, conflict: u32) -> Result<(), NoMemory>
+        requires seen { self.old.seen.vars ≡ self.old.state.trail.vars }
+        requires stuck { IsStuck self.old.state.clauses self.old.state.trail conflict }
+        ensures { OnOk result (IsRefuted self.old.state.clauses self.old.log self.new.log) }
     {
-        let Search {
-            state,
-            mut seen,
-            mut log,
-            ..
-        } = self;
-        seen.clear();
-        let _count = state.trail.len();
-        let hints = refute(alloc, &state, &mut seen, conflict)?;
-        write_step(alloc, &mut log, state.clauses.len(), &[], hints)?;
-        Ok(log)
+        self.seen.clear();
+        let _count = self.state.trail.len();
+        let hints = refute(alloc, &self.state, &mut self.seen, conflict)?;
+        let number = self.state.clauses.len();
+        write_step(alloc, &mut self.log, number, &[], hints)?;
+        Ok(())
+    }
+
+    /// The log; an empty one takes its place.
+    fn take_log(&mut self, alloc: Global) -> Log
+        ensures { result ≡ self.old.log }
+    {
+        mem::replace(&mut self.log, Log::new(alloc))
+    }
+}
+
+/// How a search ended.
+enum End {
+    /// Every variable has a value.
+    Full,
+    /// This clause is false at level 0.
+    Stuck(u32),
+}
+
+impl Search {
+    /// A turn: decides and propagates, and learns from the clause that is false then. It answers
+    /// how the search ended, if it did.
+    fn turn(&mut self, alloc: Global, luby: &mut Luby) -> Result<Option<End>, NoMemory>
+        requires ready { IsReady self.old.state.clauses self.old.state.trail
+            self.old.state.watches self.old.state.head }
+        requires seen { self.old.seen.vars ≡ self.old.state.trail.vars }
+        requires few { length self.old.state.clauses.clauses < 2 ^ 32 - 1 }
+        ensures { IfOk result (IsTurn self.old self.new) }
+    {
+        let Some(i) = self.state.advance(&mut self.order)? else {
+            return Ok(Some(End::Full));
+        };
+        if self.state.trail.level() == 0 {
+            return Ok(Some(End::Stuck(i)));
+        }
+        self.learn(alloc, i)?;
+        if luby.is_due() {
+            self.state.restart(&mut self.order);
+        }
+        Ok(None)
+    }
+
+    /// Propagates at level 0, after the last lesson. It answers which clause is false then.
+    fn last_turn(&mut self) -> Result<Option<u32>, NoMemory>
+        requires ready { IsReady self.old.state.clauses self.old.state.trail
+            self.old.state.watches self.old.state.head }
+        requires seen { self.old.seen.vars ≡ self.old.state.trail.vars }
+        ensures { IfOk result (IsLastTurn self.old self.new) }
+    {
+        self.state.restart(&mut self.order);
+        self.state.propagate()
+    }
+
+    /// Turns until the search ends, or until so many clauses were learned.
+    fn run(&mut self, alloc: Global, conflicts: u32) -> Result<Option<End>, NoMemory>
+        requires begun { IsNewSearch self.old.state.clauses self.old.state self.old.seen
+            self.old.log }
+        requires few { length self.old.state.clauses.clauses + conflicts < 2 ^ 32 - 2 }
+        ensures { IfOk result (HasEnded self.old.state.clauses conflicts self.new) }
+    {
+        if let Some(i) = load(
+            &self.state.clauses,
+            &mut self.state.trail,
+            &mut self.state.watches,
+        )? {
+            return Ok(Some(End::Stuck(i)));
+        }
+        let mut luby = Luby::new();
+        for _ in 0..conflicts {
+            if let Some(end) = self.turn(alloc, &mut luby)? {
+                return Ok(Some(end));
+            }
+        }
+        match self.last_turn()? {
+            None => Ok(None),
+            Some(i) => Ok(Some(End::Stuck(i))),
+        }
+    }
+
+    /// What the search finds.
+    fn answer(&mut self, alloc: Global, conflicts: u32) -> Result<Solved, NoMemory>
+        requires begun { IsNewSearch self.old.state.clauses self.old.state self.old.seen
+            self.old.log }
+        requires few { length self.old.state.clauses.clauses + conflicts < 2 ^ 32 - 2 }
+        ensures model { IfOk result (IfSat (IsModel self.old.state.clauses)) }
+        ensures refuted { IfOk result (IfUnsat
+            (IsRefutation self.old.state.clauses conflicts)) }
+        ensures spent { IfOk result (IfSpent (IsSpent self.old.state.clauses conflicts)) }
+    {
+        match self.run(alloc, conflicts)? {
+            None => Ok(Solved::Spent(self.take_log(alloc))),
+            Some(End::Full) => {
+                let _over = self.state.clauses.vars();
+                Ok(Solved::Sat(model(alloc, &self.state.trail)?))
+            }
+            Some(End::Stuck(i)) => {
+                self.refute(alloc, i)?;
+                Ok(Solved::Unsat(self.take_log(alloc)))
+            }
+        }
     }
 }
 
@@ -122,30 +230,5 @@ pub fn solve(alloc: Global, formula: &Formula, conflicts: u32) -> Result<Solved,
         return Err(NoMemory);
     }
     let mut search = Search::new(alloc, formula)?;
-    if let Some(i) = load(
-        &search.state.clauses,
-        &mut search.state.trail,
-        &mut search.state.watches,
-    )? {
-        return Ok(Solved::Unsat(search.refutation(alloc, i)?));
-    }
-    let mut luby = Luby::new();
-    for _ in 0..conflicts {
-        let Some(i) = search.state.advance(&mut search.order)? else {
-            let _over = search.state.clauses.vars();
-            return Ok(Solved::Sat(model(alloc, &search.state.trail)?));
-        };
-        if search.state.trail.level() == 0 {
-            return Ok(Solved::Unsat(search.refutation(alloc, i)?));
-        }
-        search.learn(alloc, i)?;
-        if luby.is_due() {
-            search.state.restart(&mut search.order);
-        }
-    }
-    search.state.restart(&mut search.order);
-    match search.state.propagate()? {
-        None => Ok(Solved::Spent(search.log)),
-        Some(i) => Ok(Solved::Unsat(search.refutation(alloc, i)?)),
-    }
+    search.answer(alloc, conflicts)
 }
