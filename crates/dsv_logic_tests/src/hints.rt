@@ -1,9 +1,8 @@
 // The checker of hints, on logs over two small formulas.
 use dsv_base::NoMemory;
 use dsv_cnf::{Lit, read_dimacs};
-use dsv_hints::{Checker, HintList, LitList, Log, Step, StepRefusal, Verdict, check};
+use dsv_hints::{HintList, LitList, Log, Step, StepRefusal, Verdict, check};
 use std::alloc::Global;
-use std::test::Fail;
 
 const TWO: &str = "p cnf 2 2\n1 -2 0\n2 0\n";
 
@@ -46,20 +45,20 @@ fn step_of(alloc: Global, row: Row) -> Result<Step, NoMemory> {
     }
 }
 
-/// A formula, a step before the one that refutes it, and the verdict.
+/// A formula, the steps of a log, and the verdict.
 struct Case {
     formula: &'static str,
-    row: Row,
+    rows: &'static [Row],
     verdict: Verdict,
 }
 
 /// The step that refutes the formula of three clauses.
 const END: Row = Row::Add(4, Clause::Empty, &[2, 1, 3]);
 
-const CASES: [Case; 9] = [
+const CASES: [Case; 11] = [
     Case {
         formula: TWO,
-        row: Row::Add(3, Clause::Empty, &[2, 1]),
+        rows: &[Row::Add(3, Clause::Empty, &[2, 1]), END],
         verdict: Verdict::Refused {
             step: 0,
             why: StepRefusal::NoConflict,
@@ -67,7 +66,7 @@ const CASES: [Case; 9] = [
     },
     Case {
         formula: THREE,
-        row: Row::Delete(9, &[2, 2]),
+        rows: &[Row::Delete(9, &[2, 2]), END],
         verdict: Verdict::Refused {
             step: 1,
             why: StepRefusal::UnknownId,
@@ -75,7 +74,7 @@ const CASES: [Case; 9] = [
     },
     Case {
         formula: THREE,
-        row: Row::Add(4, Clause::Empty, &[1]),
+        rows: &[Row::Add(4, Clause::Empty, &[1]), END],
         verdict: Verdict::Refused {
             step: 0,
             why: StepRefusal::NotUnit,
@@ -83,7 +82,7 @@ const CASES: [Case; 9] = [
     },
     Case {
         formula: THREE,
-        row: Row::Add(4, Clause::Empty, &[2, 1, 3, 9]),
+        rows: &[Row::Add(4, Clause::Empty, &[2, 1, 3, 9]), END],
         verdict: Verdict::Refused {
             step: 0,
             why: StepRefusal::NotUnit,
@@ -91,7 +90,7 @@ const CASES: [Case; 9] = [
     },
     Case {
         formula: THREE,
-        row: Row::Add(3, Clause::Empty, &[2, 1, 3]),
+        rows: &[Row::Add(3, Clause::Empty, &[2, 1, 3]), END],
         verdict: Verdict::Refused {
             step: 0,
             why: StepRefusal::IdOrder,
@@ -99,7 +98,7 @@ const CASES: [Case; 9] = [
     },
     Case {
         formula: THREE,
-        row: Row::Add(4, Clause::Tautology, &[2, 1, 3]),
+        rows: &[Row::Add(4, Clause::Tautology, &[2, 1, 3]), END],
         verdict: Verdict::Refused {
             step: 0,
             why: StepRefusal::Tautology,
@@ -107,7 +106,7 @@ const CASES: [Case; 9] = [
     },
     Case {
         formula: THREE,
-        row: Row::Add(4, Clause::Unknown, &[2, 1, 3]),
+        rows: &[Row::Add(4, Clause::Unknown, &[2, 1, 3]), END],
         verdict: Verdict::Refused {
             step: 0,
             why: StepRefusal::Literal,
@@ -115,7 +114,7 @@ const CASES: [Case; 9] = [
     },
     Case {
         formula: THREE,
-        row: END,
+        rows: &[END, END],
         verdict: Verdict::Refused {
             step: 1,
             why: StepRefusal::NotEmpty,
@@ -123,22 +122,45 @@ const CASES: [Case; 9] = [
     },
     Case {
         formula: THREE,
-        row: Row::Delete(9, &[]),
+        rows: &[Row::Delete(9, &[]), END],
         verdict: Verdict::Accepted,
+    },
+    // A clause that was deleted is no hint.
+    Case {
+        formula: THREE,
+        rows: &[Row::Delete(3, &[2]), END],
+        verdict: Verdict::Refused {
+            step: 1,
+            why: StepRefusal::UnknownId,
+        },
+    },
+    Case {
+        formula: THREE,
+        rows: &[],
+        verdict: Verdict::Refused {
+            step: 0,
+            why: StepRefusal::NotEmpty,
+        },
     },
 ];
 
-/// The verdict on a log of the case's step and the one that refutes.
+/// The log of these steps.
+fn log_of(alloc: Global, rows: &[Row]) -> Option<Log> {
+    let mut log = Log::new(alloc);
+    for row in rows {
+        log.push(step_of(alloc, *row).ok()?).ok()?;
+    }
+    Some(log)
+}
+
+/// The verdict on the log of a case.
 fn verdict_on(alloc: Global, case: &Case) -> Option<Verdict> {
     let formula = read_dimacs(alloc, case.formula.as_bytes()).ok()?;
-    let mut log = Log::new(alloc);
-    log.push(step_of(alloc, case.row).ok()?).ok()?;
-    log.push(step_of(alloc, END).ok()?).ok()?;
-    if log.len() == 2 {
-        check(alloc, &formula, &log).ok()
-    } else {
-        None
+    let log = log_of(alloc, case.rows)?;
+    if log.len() > 2 {
+        return None;
     }
+    check(alloc, &formula, &log).ok()
 }
 
 fn is_judged(alloc: Global, case: &Case) -> bool {
@@ -151,38 +173,4 @@ fn logs_are_judged(rt: HostRuntime) {
     for case in &CASES {
         assert!(rt; is_judged(alloc, case));
     }
-}
-
-/// The answer of a checker of the formula of three clauses to the step that refutes it, after
-/// clause 2 was deleted.
-fn answer_after_deletion(alloc: Global) -> Option<StepRefusal> {
-    let formula = read_dimacs(alloc, THREE.as_bytes()).ok()?;
-    let mut checker = Checker::new(alloc, &formula).ok()?;
-    let deletion = step_of(alloc, Row::Delete(3, &[2])).ok()?;
-    let refutation = step_of(alloc, END).ok()?;
-    checker.reserve(1, deletion.added_literals()).ok()?;
-    checker.take(&deletion).ok()?;
-    checker.reserve(1, refutation.added_literals()).ok()?;
-    checker.take(&refutation).err()
-}
-
-#[test]
-fn a_deleted_clause_is_no_hint(rt: HostRuntime) {
-    let answer = answer_after_deletion(rt.alloc());
-    assert!(rt; answer == Some(StepRefusal::UnknownId));
-}
-
-#[test]
-fn a_log_without_steps_refutes_nothing(rt: HostRuntime) -> Result<(), Fail> {
-    let alloc = rt.alloc();
-    let formula = read_dimacs(alloc, THREE.as_bytes())?;
-    let log = Log::new(alloc);
-    assert_eq!(rt;
-        check(alloc, &formula, &log)?,
-        Verdict::Refused {
-            step: 0,
-            why: StepRefusal::NotEmpty
-        }
-    );
-    Ok(())
 }

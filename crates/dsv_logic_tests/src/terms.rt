@@ -5,7 +5,7 @@ ghost use Rattle.dsv_term.specs.Terms.{width_of};
 ghost use Rattle.dsv_term.specs.Word.{IsWidth};
 
 use dsv_base::NoMemory;
-use dsv_term::{Goal, MAX_WIDTH, TermId, Terms, ValueList};
+use dsv_term::{Goal, MAX_WIDTH, TermId, Terms};
 use std::alloc::Global;
 
 /// A constant, the highest bit or the wider width, and the lowest bit.
@@ -55,29 +55,43 @@ fn of_two(terms: &mut Terms, name: &str, a: TermId, b: TermId) -> Result<TermId,
     }
 }
 
+/// The term of a choice between new inputs.
+fn make_choice(terms: &mut Terms, width: u32) -> Result<TermId, NoMemory>
+    requires { IsWidth width }
+    ensures { IfOk result (λ id. id.0 < length terms.new.nodes) }
+{
+    let c = terms.input(1)?;
+    let a = terms.input(width)?;
+    let b = terms.input(width)?;
+    terms.ite(c, a, b)
+}
+
+/// The term of a function of two new inputs.
+fn make_of_two(terms: &mut Terms, name: &str, width: u32) -> Result<TermId, NoMemory>
+    requires { IsWidth width }
+    ensures { IfOk result (λ id. id.0 < length terms.new.nodes) }
+{
+    let a = terms.input(width)?;
+    let b = terms.input(width)?;
+    of_two(terms, name, a, b)
+}
+
 /// The term of a function of new inputs of this width.
 fn make(terms: &mut Terms, name: &str, width: u32, numbers: Numbers) -> Result<TermId, NoMemory>
     requires { IsWidth width }
     ensures { IfOk result (λ id. id.0 < length terms.new.nodes) }
 {
-    if name == "ite" {
-        let c = terms.input(1)?;
-        let a = terms.input(width)?;
-        let b = terms.input(width)?;
-        return terms.ite(c, a, b);
+    match name {
+        "ite" => make_choice(terms, width),
+        "bvneg" | "bvnot" | "bvmul" | "sign_extend" | "extract" => {
+            let a = terms.input(width)?;
+            of_one(terms, name, a, numbers)
+        }
+        _ => make_of_two(terms, name, width),
     }
-    let a = terms.input(width)?;
-    if matches!(
-        name,
-        "bvneg" | "bvnot" | "bvmul" | "sign_extend" | "extract"
-    ) {
-        return of_one(terms, name, a, numbers);
-    }
-    let b = terms.input(width)?;
-    of_two(terms, name, a, b)
 }
 
-/// What the words of a row say after the name and the width, and what its last word stands for.
+/// What the words of a row of characters say after the name and the width.
 #[derive(Clone, Copy)]
 enum Table {
     /// Numbers, and a character for each list of values, the first input's counting up first: 48
@@ -86,8 +100,6 @@ enum Table {
     /// A character for each pair of ends, the first input's going first: the place of the value
     /// among the marks.
     Ends,
-    /// Numbers, the values of three inputs, and the function's value.
-    Single,
 }
 
 /// A word of a row.
@@ -128,48 +140,27 @@ fn value(alloc: Global, terms: &Terms, id: TermId, values: &[u128]) -> Option<u1
     Some(terms.eval(id, values, &mut room))
 }
 
-/// The list of values of this number, the first input's counting up first.
-fn small_values(alloc: Global, terms: &Terms, n: usize) -> Option<ValueList> {
-    let mut values = ValueList::new(alloc);
-    let mut left = n as u128;
-    for bits in terms.inputs() {
-        values.push(left % (1 << (bits % 8))).ok()?;
-        left >>= bits % 8;
-    }
-    Some(values)
-}
-
-/// Whether a term has the value of a character at the list of values of this number.
-fn is_small_value(alloc: Global, terms: &Terms, id: TermId, n: usize, code: u8) -> bool
-    requires { id.0 < length terms.now.nodes }
-{
-    match small_values(alloc, terms, n) {
-        Some(values) => {
-            value(alloc, terms, id, values.as_slice()) == Some(u128::from(code.wrapping_sub(48)))
-        }
-        None => false,
-    }
-}
-
-/// Whether a row of characters for all values is right.
-fn is_small_row(alloc: Global, row: &str) -> Option<bool> {
+/// The value of a row's term where its inputs take their values from the front of this list.
+fn row_value(alloc: Global, row: &str, values: &[u128]) -> Option<u128> {
     let mut terms = Terms::new(alloc);
     let id = make(&mut terms, word(row, 0), row_width(row), row_numbers(row)).ok()?;
-    for (n, code) in word(row, 5).bytes().enumerate() {
-        if !is_small_value(alloc, &terms, id, n, code) {
-            return Some(false);
-        }
-    }
-    Some(true)
+    value(alloc, &terms, id, values)
 }
 
-/// The ends of the numbers of a width: the least, the least but one, and those at the sign.
-fn ends_of(width: u32) -> [u128; 5]
-    requires { IsWidth width }
-{
-    let all = u128::MAX >> (128 - width);
+/// The list of values of this number, the first input's counting up first.
+fn small_values(row: &str, n: u128) -> [u128; 3] {
+    let size = 1 << (row_width(row) % 8);
+    let first = if word(row, 0) == "ite" { 2 } else { size };
+    let rest = n / first;
+    [n % first, rest % size, rest / size % size]
+}
+
+/// The pair of ends of this number: the least, the least but one, and those at the sign.
+fn end_values(row: &str, n: usize) -> [u128; 3] {
+    let all = u128::MAX >> (128 - row_width(row));
     let half = all / 2 + 1;
-    [0, 1, half - 1, half, all]
+    let ends = [0, 1, half - 1, half, all];
+    [ends[n % 5], ends[n / 5 % 5], 0]
 }
 
 /// The value of a character among the marks.
@@ -187,50 +178,42 @@ fn mark(width: u32, code: u8) -> u128
     mark & all
 }
 
-/// Whether a row of characters for pairs of ends is right.
-fn is_row_of_ends(alloc: Global, row: &str) -> Option<bool> {
-    let width = row_width(row);
-    let ends = ends_of(width);
-    let mut terms = Terms::new(alloc);
-    let id = make(&mut terms, word(row, 0), width, row_numbers("")).ok()?;
-    for (n, code) in word(row, 2).bytes().enumerate() {
-        let found = value(alloc, &terms, id, &[ends[n % 5], ends[n / 5 % 5]]);
-        if found != Some(mark(width, code)) {
-            return Some(false);
+/// Whether a row of characters is right at the list of values of this number.
+fn is_right_at(alloc: Global, table: Table, row: &str, n: usize, code: u8) -> bool {
+    match table {
+        Table::Small => {
+            let values = small_values(row, n as u128);
+            row_value(alloc, row, &values) == Some(u128::from(code.wrapping_sub(48)))
+        }
+        Table::Ends => {
+            let values = end_values(row, n);
+            row_value(alloc, row, &values) == Some(mark(row_width(row), code))
         }
     }
-    Some(true)
 }
 
-/// Whether a row of a single value is right.
-fn is_single_row(alloc: Global, row: &str) -> Option<bool> {
+/// Whether a row of characters is right at all its lists of values.
+fn is_right(alloc: Global, table: Table, row: &str) -> bool {
+    let codes = match table {
+        Table::Small => word(row, 5),
+        Table::Ends => word(row, 2),
+    };
+    for (n, code) in codes.bytes().enumerate() {
+        if !is_right_at(alloc, table, row, n, code) {
+            return false;
+        }
+    }
+    true
+}
+
+/// Whether a row of a single value is right: numbers, the values of three inputs, and the function's
+/// value.
+fn is_single_right(alloc: Global, row: &str) -> bool {
     let values = [5, 6, 7].map(|index| number(row, index).unsigned_abs());
-    let mut terms = Terms::new(alloc);
-    let id = make(&mut terms, word(row, 0), row_width(row), row_numbers(row)).ok()?;
-    Some(value(alloc, &terms, id, &values) == Some(number(row, 8).unsigned_abs()))
+    row_value(alloc, row, &values) == Some(number(row, 8).unsigned_abs())
 }
 
-/// The first row of a table that isn't right.
-fn first_wrong(alloc: Global, table: Table, rows: &str) -> Option<&str> {
-    for row in rows.lines() {
-        let is_right = match table {
-            Table::Small => is_small_row(alloc, row),
-            Table::Ends => is_row_of_ends(alloc, row),
-            Table::Single => is_single_row(alloc, row),
-        };
-        if is_right != Some(true) {
-            return Some(row);
-        }
-    }
-    None
-}
-
-#[test]
-fn has_each_value_at_one_to_three_bits(rt: HostRuntime) {
-    let wrong = first_wrong(
-        rt.alloc(),
-        Table::Small,
-        "\
+const SMALL: &str = "\
 bvadd 1 0 0 0 0110\n\
 bvsub 1 0 0 0 0110\n\
 bvslt 1 0 0 0 0100\n\
@@ -298,17 +281,16 @@ extract 3 0 2 0 01234567\n\
 extract 3 0 2 1 00112233\n\
 extract 3 0 2 2 00001111\n\
 ite 3 0 0 0 0001020304050607101112131415161720212223242526273031323334353637\
-4041424344454647505152535455565760616263646566677071727374757677",
-    );
-    assert!(rt; wrong.is_none(), "{}", wrong.unwrap_or(""));
-}
+4041424344454647505152535455565760616263646566677071727374757677";
 
 #[test]
-fn has_the_values_at_the_ends(rt: HostRuntime) {
-    let wrong = first_wrong(
-        rt.alloc(),
-        Table::Ends,
-        "\
+fn has_each_value_at_one_to_three_bits(rt: HostRuntime) {
+    for row in SMALL.lines() {
+        assert!(rt; is_right(rt.alloc(), Table::Small, row));
+    }
+}
+
+const ENDS: &str = "\
 bvadd 1 0101110100010111010010100\n\
 bvadd 8 0167c1278067bc578c06c056b\n\
 bvadd 32 0167c1278067bc578c06c056b\n\
@@ -348,17 +330,16 @@ bvor 1 0101111111010111111111111\n\
 bvor 8 0167c1168c666cc78c7cccccc\n\
 bvor 32 0167c1168c666cc78c7cccccc\n\
 bvor 64 0167c1168c666cc78c7cccccc\n\
-bvor 80 0167c1168c666cc78c7cccccc",
-    );
-    assert!(rt; wrong.is_none(), "{}", wrong.unwrap_or(""));
-}
+bvor 80 0167c1168c666cc78c7cccccc";
 
 #[test]
-fn has_single_values(rt: HostRuntime) {
-    let wrong = first_wrong(
-        rt.alloc(),
-        Table::Single,
-        "\
+fn has_the_values_at_the_ends(rt: HostRuntime) {
+    for row in ENDS.lines() {
+        assert!(rt; is_right(rt.alloc(), Table::Ends, row));
+    }
+}
+
+const SINGLE: &str = "\
 bvneg 1 0 0 0 1 0 0 1\n\
 bvnot 1 0 0 0 0 0 0 1\n\
 bvnot 1 0 0 0 1 0 0 0\n\
@@ -439,20 +420,39 @@ concat 8 0 0 0 127 255 0 32767\n\
 concat 32 0 0 0 2147483648 2147483647 0 9223372039002259455\n\
 concat 32 0 0 0 2147483647 4294967295 0 9223372036854775807\n\
 concat 40 0 0 0 549755813888 549755813887 0 604462909807864343166975\n\
-concat 40 0 0 0 549755813887 1099511627775 0 604462909807314587353087",
-    );
-    assert!(rt; wrong.is_none(), "{}", wrong.unwrap_or(""));
+concat 40 0 0 0 549755813887 1099511627775 0 604462909807314587353087";
+
+#[test]
+fn has_single_values(rt: HostRuntime) {
+    for row in SINGLE.lines() {
+        assert!(rt; is_single_right(rt.alloc(), row));
+    }
+}
+
+/// The greatest number of 80 bits.
+const GREATEST: u128 = 1_208_925_819_614_629_174_706_175;
+
+/// The goal that a constant that is made twice is the same.
+fn constant_goal(alloc: Global) -> Option<Goal> {
+    let mut terms = Terms::new(alloc);
+    let a = terms.constant(80, GREATEST).ok()?;
+    let b = terms.constant(80, GREATEST).ok()?;
+    let same = terms.eq(a, b).ok()?;
+    Goal::new(alloc, terms, same).ok()
+}
+
+/// Whether the goal has one constant and its root, which is 1, and no inputs.
+fn is_one(alloc: Global, goal: &Goal) -> bool {
+    goal.terms.len() == 2
+        && value(alloc, &goal.terms, goal.root, &[]) == Some(1)
+        && goal.inputs.is_empty()
 }
 
 #[test]
-fn keeps_constants_and_makes_goals(rt: HostRuntime) -> Result<(), NoMemory> {
-    let mut terms = Terms::new(rt.alloc());
-    let a = terms.constant(80, 1_208_925_819_614_629_174_706_175)?;
-    let b = terms.constant(80, 1_208_925_819_614_629_174_706_175)?;
-    let same = terms.eq(a, b)?;
-    assert_eq!(rt; terms.len(), 2);
-    let goal = Goal::new(rt.alloc(), terms, same)?;
-    assert!(rt; value(rt.alloc(), &goal.terms, goal.root, &[]) == Some(1));
-    assert!(rt; goal.inputs.is_empty());
-    Ok(())
+fn keeps_constants_and_makes_goals(rt: HostRuntime) {
+    let right = match constant_goal(rt.alloc()) {
+        Some(goal) => is_one(rt.alloc(), &goal),
+        None => false,
+    };
+    assert!(rt; right);
 }
