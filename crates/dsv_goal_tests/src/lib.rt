@@ -1,16 +1,13 @@
-//! Tests of the goals over netlists, by public calls: their roots at all values of the inputs.
-//! Expected values are worked out by hand from the written equations.
+//! Tests of the goals over netlists, by public calls: at how many values of the inputs their roots
+//! are 1, which is worked out by hand from the written equations. That a root is 1 exactly where the
+//! netlist breaks, cycles or leaves a set is a clause of each goal.
 #![tactic(auto)]
 
 #[cfg(test)]
-mod cycle;
+mod controllers;
 #[cfg(test)]
-mod overflow;
+mod goals;
 #[cfg(test)]
-mod peaks;
+mod netlists;
 #[cfg(test)]
-mod ranges;
-#[cfg(test)]
-mod realisations;
-#[cfg(test)]
-mod set_goal;
+mod sets;
