@@ -29,7 +29,7 @@ use Rattle.dsv_term.specs.Word.{IsWidth, bit_of}
 use Rattle.dsv_term.proofs.Made.{KeepsTerms-both}
 use Rattle.dsv_term.proofs.Building.{KeepsTerms-self, constant_gives}
 use Rattle.dsv_term.proofs.Complement.{IsSpelled, wider_spelled}
-use Rattle.dsv_unroll.specs.FactTests.{FactTerms, facts_from}
+use Rattle.dsv_unroll.specs.FactTests.{FactTerms, facts_from, is_long}
 use Rattle.dsv_unroll.specs.Goals.{InputTerms, inputs_from, RunTerms, run_from, run_tests, no_terms, conjunction_from, overflow_with, overflow_of}
 use Rattle.dsv_unroll.specs.Ready.{IsValue, HasBits, AreBits, AreRunReady, AreTested, AreKnown}
 use Rattle.dsv_unroll.specs.Rules.{term_at}
@@ -358,9 +358,10 @@ goal_stands net low high samples facts values net_ l h a f =
     let b = breaks_from net false (zeros m) vs in
     let q = all_in_range low high true zs in
     let first : FactTerms = record { terms = run.terms; outside = u.id; tests = i.tests } in
-    let k = facts_from first facts entries in
+    let long = is_long samples in
+    let k = facts_from long first facts entries in
     let tests = starts_holds net values low high samples i u.terms u.id net_ s in
-    let e = facts_hold run.terms values net.format i.tests q facts entries (exact_values (rows_from (step_of net) (zeros m) vs)) (λ o. false) first
+    let e = facts_hold long run.terms values net.format i.tests q facts entries (exact_values (rows_from (step_of net) (zeros m) vs)) (λ o. false) first
     (first_holds run.terms values q u.id i.tests (first_known net i u.terms u.id run s.ready s.flag s.bits r.ready.sound r.kept)) tests.stand
     (λ o p. (tests.say refl, facts_known net low high samples facts zs a (words_at-length (width net.format) values 0 samples) o)) in
     let g = e.holds in

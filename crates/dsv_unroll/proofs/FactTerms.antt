@@ -25,7 +25,7 @@ use Rattle.dsv_term.proofs.Made.{KeepsTerms-both}
 use Rattle.dsv_term.proofs.Building.{KeepsTerms-self, Adds-built, later, stands-width, constant_gives, signed_at_most_gives, and_gives, or_gives}
 use Rattle.dsv_term.proofs.Complement.{IsSpelled, spelled, wider_spelled, signed_at_most-spelled, and-bits, or-bits}
 use Rattle.dsv_unroll.specs.declared.fitting.TestedTerm.{TestedTerm}
-use Rattle.dsv_unroll.specs.FactTests.{FactTerms, within_test, with_test, with_fact, with_entry, facts_from}
+use Rattle.dsv_unroll.specs.FactTests.{FactTerms, within_test, with_test, with_word, with_fact, with_entry, facts_from}
 use Rattle.dsv_unroll.specs.Ready.{IsValue, HasBits, AreBits, IsTruth, IsTest, IsEntry, AreTested, AreKnown}
 use Rattle.dsv_unroll.specs.Rules.{term_at}
 use Rattle.dsv_unroll.proofs.FitTerms.{is_outside, inside_spelled, spelled_inside}
@@ -33,7 +33,7 @@ use Rattle.dsv_unroll.proofs.Follows.{Means}
 use Rattle.dsv_unroll.proofs.NodeTerms.{all_more}
 use Rattle.dsv_unroll.proofs.SampleSteps.{bits_later}
 use Rattle.dsv_unroll.proofs.InputTests.{bits_kept, bits_push, at_most}
-use Rattle.dsv_unroll.proofs.TestedTerms.{entries_later, EntrySays, EntriesSay, entries_say_later}
+use Rattle.dsv_unroll.proofs.TestedTerms.{truth_later, entry_later, entries_later, EntrySays, EntriesSay, entries_say_later}
 
 -- ---- words
 pub word_spells : (f : Format) (z : ℤ) → IsWord f z → IsSpelled (width f) z
@@ -190,15 +190,22 @@ neither false b h = (refl, h)
 abbrev FactSays : TermsView → List ℕ → Fact → TestedTerm → Bool → Type 0
 FactSays t values fact.Open x outside = word_of t values x.outside ≡ bit_of outside
 FactSays t values fact.Inside x outside = (word_of t values x.is_word ≡ bit_of true) × (outside ≡ false)
-FactSays t values (fact.Within low high) x outside = (let w = within_test t low high x.value in word_of w.terms values w.id ≡ bit_of true) × (outside ≡ false)
+FactSays t values (fact.Within low high) x outside = (let w = within_test t low high x.value in word_of w.terms values w.id ≡ bit_of true) × (word_of t values x.is_word ≡ bit_of true) × (outside ≡ false)
 
 abbrev EntryFact : TermsView → List ℕ → Fact → Option TestedTerm → Bool → Type 0
 EntryFact t values held None outside = outside ≡ false
 EntryFact t values held (Some x) outside = FactSays t values held x outside
 
-fact_holds : (t : TermsView) (values : List ℕ) (before : List TermId) (good : Bool) (g : List ℕ → Bool) (k : FactTerms) (held : Fact) (x : TestedTerm) (outside : Bool) → FactsHold t values before good g k → IsTest k.terms x
-    → (good ≡ true → g values ≡ false → FactSays k.terms values held x outside) → EntryHolds t values before good g k (with_fact k held x) outside
-fact_holds t values before good g k fact.Open x outside h s m =
+-- the test that a value is a word, where it is wanted
+word_holds : (wanted : Bool) (t : TermsView) (values : List ℕ) (before : List TermId) (good : Bool) (g : List ℕ → Bool) (k : FactTerms) (x : TestedTerm) → FactsHold t values before good g k → IsTruth k.terms x.is_word
+    → (good ≡ true → g values ≡ false → word_of k.terms values x.is_word ≡ bit_of true) → FactsHold t values before good g (with_word wanted k x) × KeepsTerms k.terms (with_word wanted k x).terms
+word_holds true t values before good g k x h b one =
+    (test_holds t values before good g k x.is_word h b one, (or_gives k.terms k.outside x.is_word h.sound h.bit.stands b.bit.stands (h.bit.width ∙ sym b.bit.width)).adds.kept)
+word_holds false t values before good g k x h b one = (h, KeepsTerms-self k.terms)
+
+fact_holds : (long : Bool) → (t : TermsView) (values : List ℕ) (before : List TermId) (good : Bool) (g : List ℕ → Bool) (k : FactTerms) (held : Fact) (x : TestedTerm) (outside : Bool) → FactsHold t values before good g k → IsTest k.terms x
+    → (good ≡ true → g values ≡ false → FactSays k.terms values held x outside) → EntryHolds t values before good g k (with_fact long k held x) outside
+fact_holds long t values before good g k fact.Open x outside h s m =
     record {
       flag = λ vs. g vs || s.outside.truth vs;
       holds = open_holds t values before good g k x.outside h s.outside;
@@ -207,30 +214,25 @@ fact_holds t values before good g k fact.Open x outside h s m =
           let n = neither (g values) (s.outside.truth values) o in
           (n.0, bit_same outside false (sym (m q n.0) ∙ (s.outside.word values ∙ ap bit_of n.1)));
     }
-fact_holds t values before good g k fact.Inside x outside h s m =
-    record {
-      flag = g;
-      holds = test_holds t values before good g k x.is_word h s.is_word (λ q o. (m q o).0);
-      step = (or_gives k.terms k.outside x.is_word h.sound h.bit.stands s.is_word.bit.stands (h.bit.width ∙ sym s.is_word.bit.width)).adds.kept;
-      word = λ q o. (o, (m q o).1);
-    }
-fact_holds t values before good g k (fact.Within low high) x outside h s m =
+fact_holds long t values before good g k fact.Inside x outside h s m =
+    let i = word_holds true t values before good g k x h s.is_word (λ q o. (m q o).0) in
+    record { flag = g; holds = i.0; step = i.1; word = λ q o. (o, (m q o).1) }
+fact_holds long t values before good g k (fact.Within low high) x outside h s m =
     let w = within_test k.terms low high x.value in
     let a = within_gives k.terms low high x.value h.sound s.value in
     let mid : FactTerms = record { terms = w.terms; outside = k.outside; tests = k.tests } in
     let l = hold_later t values before good g k w.terms a.adds.sound a.adds.inputs a.adds.kept h in
-    let u = with_node w.terms (Or k.outside w.id) in
-    record {
-      flag = g;
-      holds = test_holds t values before good g mid w.id l a.truth (λ q o. (m q o).0);
-      step = KeepsTerms-both k.terms w.terms u.terms a.adds.kept (or_gives w.terms k.outside w.id l.sound l.bit.stands a.truth.bit.stands (l.bit.width ∙ sym a.truth.bit.width)).adds.kept;
-      word = λ q o. (o, (m q o).1);
-    }
+    let ranged = with_test k w in
+    let first = test_holds t values before good g mid w.id l a.truth (λ q o. (m q o).0) in
+    let step = KeepsTerms-both k.terms w.terms ranged.terms a.adds.kept (or_gives w.terms k.outside w.id l.sound l.bit.stands a.truth.bit.stands (l.bit.width ∙ sym a.truth.bit.width)).adds.kept in
+    let i = word_holds long t values before good g ranged x first (truth_later k.terms ranged.terms x.is_word step s.is_word)
+    (λ q o. step.words values x.is_word s.is_word.bit.stands ∙ (m q o).1) in
+    record { flag = g; holds = i.0; step = KeepsTerms-both k.terms ranged.terms (with_word long ranged x).terms step i.1; word = λ q o. (o, (m q o).2) }
 
-entry_holds : (t : TermsView) (values : List ℕ) (before : List TermId) (good : Bool) (g : List ℕ → Bool) (k : FactTerms) (held : Fact) (x : Option TestedTerm) (outside : Bool) → FactsHold t values before good g k → IsEntry k.terms x
-    → (good ≡ true → g values ≡ false → EntryFact k.terms values held x outside) → EntryHolds t values before good g k (with_entry k held x) outside
-entry_holds t values before good g k held None outside h s m = record { flag = g; holds = h; step = KeepsTerms-self k.terms; word = λ q o. (o, m q o) }
-entry_holds t values before good g k held (Some x) outside h s m = fact_holds t values before good g k held x outside h s m
+entry_holds : (long : Bool) → (t : TermsView) (values : List ℕ) (before : List TermId) (good : Bool) (g : List ℕ → Bool) (k : FactTerms) (held : Fact) (x : Option TestedTerm) (outside : Bool) → FactsHold t values before good g k → IsEntry k.terms x
+    → (good ≡ true → g values ≡ false → EntryFact k.terms values held x outside) → EntryHolds t values before good g k (with_entry long k held x) outside
+entry_holds long t values before good g k held None outside h s m = record { flag = g; holds = h; step = KeepsTerms-self k.terms; word = λ q o. (o, m q o) }
+entry_holds long t values before good g k held (Some x) outside h s m = fact_holds long t values before good g k held x outside h s m
 
 -- a fact that is true says so
 between_word : (f : Format) (low high e : ℤ) → IsTrue f (fact.Within low high) e → IsWord f e
@@ -246,9 +248,11 @@ fact_says t values f fact.Open x e s i n h = n.outside
 fact_says t values f fact.Inside x e s i n h = (n.is_word ∙ ap (λ (o : Bool). bit_of (not o)) (word_inside f e h), word_inside f e h)
 fact_says t values f (fact.Within low high) x e s i n h =
     let v = width_of t x.value in
+    let inside = word_inside f e (between_word f low high e h) in
     let a = within_gives t low high x.value s i.value in (
       a.holds values e n.value (wider_spelled (width f) v low n.wide (word_spells f low h.low_word)) (wider_spelled (width f) v high n.wide (word_spells f high h.high_word)) h.between.least h.between.most,
-      word_inside f e (between_word f low high e h),
+      n.is_word ∙ ap (λ (o : Bool). bit_of (not o)) inside,
+      inside,
     )
 
 entry_says : (t : TermsView) (values : List ℕ) (f : Format) (held : Fact) (x : Option TestedTerm) (e : ℤ) → AreSound t → IsEntry t x → EntrySays t values (width f) x e → IsTrue f held e → EntryFact t values held x (is_outside (width f) e)
@@ -274,35 +278,35 @@ hold_rest : (f : Format) (held : Fact) (facts : List Fact) (e : ℤ) (es : List 
 hold_rest f held facts e es h w = λ m p a. h (suc m) (omega arith) (All-cons (IsWord f) e (take m es) w a)
 
 -- one entry more, where the others hold after it
-facts_step : (t : TermsView) (values : List ℕ) (f : Format) (before : List TermId) (good : Bool) (g : List ℕ → Bool) (k : FactTerms) (held : Fact) (facts : List Fact) (x : Option TestedTerm) (xs : List (Option TestedTerm)) (e : ℤ) (es : List ℤ) (end : FactTerms)
+facts_step : (long : Bool) → (t : TermsView) (values : List ℕ) (f : Format) (before : List TermId) (good : Bool) (g : List ℕ → Bool) (k : FactTerms) (held : Fact) (facts : List Fact) (x : Option TestedTerm) (xs : List (Option TestedTerm)) (e : ℤ) (es : List ℤ) (end : FactTerms)
     → FactsHold t values before good g k → All (IsEntry k.terms) (x ∷ xs) → (good ≡ true → g values ≡ false → EntriesSay k.terms values (width f) (x ∷ xs) (e ∷ es) × IsTrue f held e) → (good ≡ true → g values ≡ false → IsWord f e → Hold f facts es)
-    → ((now : List ℕ → Bool) → FactsHold t values before good now (with_entry k held x) → All (IsEntry (with_entry k held x).terms) xs → (good ≡ true → now values ≡ false → Known (with_entry k held x).terms values f facts xs es) → AllHold t values before good end)
+    → ((now : List ℕ → Bool) → FactsHold t values before good now (with_entry long k held x) → All (IsEntry (with_entry long k held x).terms) xs → (good ≡ true → now values ≡ false → Known (with_entry long k held x).terms values f facts xs es) → AllHold t values before good end)
     → AllHold t values before good end
-facts_step t values f before good g k held facts x xs e es end h s m r rest =
-    let n = with_entry k held x in
+facts_step long t values f before good g k held facts x xs e es end h s m r rest =
+    let n = with_entry long k held x in
     let first = All-head (IsEntry k.terms) x xs s in
-    let a = entry_holds t values before good g k held x (is_outside (width f) e) h first (λ q o. let i = m q o in entry_says k.terms values f held x e h.sound first i.0.0 i.1) in
+    let a = entry_holds long t values before good g k held x (is_outside (width f) e) h first (λ q o. let i = m q o in entry_says k.terms values f held x e h.sound first i.0.0 i.1) in
     let others = All-tail (IsEntry k.terms) x xs s in
     rest a.flag a.holds (entries_later k.terms n.terms xs a.step others) (λ q o.
     let b = a.word q o in
     (entries_say_later k.terms n.terms values (width f) a.step xs es others ((m q b.0).0.1 b.1), r q b.0 (inside_word f e b.1)))
 
-pub facts_hold : (t : TermsView) (values : List ℕ) (f : Format) (before : List TermId) (good : Bool) (facts : List Fact) (xs : List (Option TestedTerm)) (es : List ℤ) (g : List ℕ → Bool) (k : FactTerms)
-    → FactsHold t values before good g k → All (IsEntry k.terms) xs → (good ≡ true → g values ≡ false → Known k.terms values f facts xs es) → AllHold t values before good (facts_from k facts xs)
-facts_hold t values f before good facts [] es g k h s m = record { flag = g; holds = h }
-facts_hold t values f before good [] (x ∷ xs) [] g k h s m =
-    facts_step t values f before good g k fact.Open [] x xs (pos 0) [] (facts_from k [] (x ∷ xs)) h s (λ q o. absurd (m q o).0) (λ q o w. none_known f [])
-    (λ now a b c. facts_hold t values f before good [] xs [] now (with_entry k fact.Open x) a b c)
-facts_hold t values f before good [] (x ∷ xs) (e ∷ es) g k h s m =
-    facts_step t values f before good g k fact.Open [] x xs e es (facts_from k [] (x ∷ xs)) h s (λ q o. ((m q o).0, tt)) (λ q o w. none_known f es)
-    (λ now a b c. facts_hold t values f before good [] xs es now (with_entry k fact.Open x) a b c)
-facts_hold t values f before good (held ∷ facts) (x ∷ xs) [] g k h s m =
-    facts_step t values f before good g k held facts x xs (pos 0) [] (facts_from k (held ∷ facts) (x ∷ xs)) h s (λ q o. absurd (m q o).0) (λ q o w. absurd (m q o).0)
-    (λ now a b c. facts_hold t values f before good facts xs [] now (with_entry k held x) a b c)
-facts_hold t values f before good (held ∷ facts) (x ∷ xs) (e ∷ es) g k h s m =
-    facts_step t values f before good g k held facts x xs e es (facts_from k (held ∷ facts) (x ∷ xs)) h s
+pub facts_hold : (long : Bool) → (t : TermsView) (values : List ℕ) (f : Format) (before : List TermId) (good : Bool) (facts : List Fact) (xs : List (Option TestedTerm)) (es : List ℤ) (g : List ℕ → Bool) (k : FactTerms)
+    → FactsHold t values before good g k → All (IsEntry k.terms) xs → (good ≡ true → g values ≡ false → Known k.terms values f facts xs es) → AllHold t values before good (facts_from long k facts xs)
+facts_hold long t values f before good facts [] es g k h s m = record { flag = g; holds = h }
+facts_hold long t values f before good [] (x ∷ xs) [] g k h s m =
+    facts_step long t values f before good g k fact.Open [] x xs (pos 0) [] (facts_from long k [] (x ∷ xs)) h s (λ q o. absurd (m q o).0) (λ q o w. none_known f [])
+    (λ now a b c. facts_hold long t values f before good [] xs [] now (with_entry long k fact.Open x) a b c)
+facts_hold long t values f before good [] (x ∷ xs) (e ∷ es) g k h s m =
+    facts_step long t values f before good g k fact.Open [] x xs e es (facts_from long k [] (x ∷ xs)) h s (λ q o. ((m q o).0, tt)) (λ q o w. none_known f es)
+    (λ now a b c. facts_hold long t values f before good [] xs es now (with_entry long k fact.Open x) a b c)
+facts_hold long t values f before good (held ∷ facts) (x ∷ xs) [] g k h s m =
+    facts_step long t values f before good g k held facts x xs (pos 0) [] (facts_from long k (held ∷ facts) (x ∷ xs)) h s (λ q o. absurd (m q o).0) (λ q o w. absurd (m q o).0)
+    (λ now a b c. facts_hold long t values f before good facts xs [] now (with_entry long k held x) a b c)
+facts_hold long t values f before good (held ∷ facts) (x ∷ xs) (e ∷ es) g k h s m =
+    facts_step long t values f before good g k held facts x xs e es (facts_from long k (held ∷ facts) (x ∷ xs)) h s
     (λ q o. let n = m q o in (n.0, hold_first f held facts e es n.1)) (λ q o w. hold_rest f held facts e es (m q o).1 w)
-    (λ now a b c. facts_hold t values f before good facts xs es now (with_entry k held x) a b c)
+    (λ now a b c. facts_hold long t values f before good facts xs es now (with_entry long k held x) a b c)
 
 -- ---- as the code has it
 pub first_holds : (t : TermsView) (values : List ℕ) (good : Bool) (outside : TermId) (tests : List TermId) → (h : AreKnown t outside tests) → FactsHold t values tests good h.bit.truth (record { terms = t; outside = outside; tests = tests })
@@ -320,27 +324,35 @@ first_holds t values good outside tests h =
       ones = λ q i p. absurd (omega arith);
     }
 
-pub record IsFactStep (first : TermsView) (i : ℕ) (facts : List Fact) (entries : List (Option TestedTerm)) (k end : FactTerms) : Type 0 where
+-- after the tests of a value's range the terms stand as they did
+pub ranged_known : (k : FactTerms) (low high : ℤ) (x : TestedTerm) → AreKnown k.terms k.outside k.tests → IsTest k.terms x
+    → let r = with_test k (within_test k.terms low high x.value) in AreKnown r.terms r.outside r.tests × IsTest r.terms x
+ranged_known k low high x h s =
+    let r = with_fact false k (fact.Within low high) x in
+    let e = fact_holds false k.terms [] k.tests false h.bit.truth k (fact.Within low high) x false (first_holds k.terms [] false k.outside k.tests h) s (λ q o. absurd cc) in
+    (record { sound = e.holds.sound; bit = record { bit = e.holds.bit; truth = e.flag; word = e.holds.word }; bits = e.holds.all }, entry_later k.terms r.terms e.step (Some x) s)
+
+pub record IsFactStep (long : Bool) (first : TermsView) (i : ℕ) (facts : List Fact) (entries : List (Option TestedTerm)) (k end : FactTerms) : Type 0 where
   pub known : AreKnown k.terms k.outside k.tests
   pub tested : AreTested k.terms entries
   pub kept : KeepsTerms first k.terms
-  pub same : facts_from k (drop i facts) (drop i entries) ≡ end
+  pub same : facts_from long k (drop i facts) (drop i entries) ≡ end
 
-facts_from-drop : (facts : List Fact) (i : ℕ) (k : FactTerms) (x : Option TestedTerm) (xs : List (Option TestedTerm)) → facts_from k (drop i facts) (x ∷ xs) ≡ facts_from (with_entry k (slice_index_or facts i fact.Open) x) (drop (i + 1) facts) xs
-facts_from-drop [] i k x xs = rw (drop-nil {A = Fact} i, drop-nil {A = Fact} (i + 1)) refl
-facts_from-drop (held ∷ facts) zero k x xs = refl
-facts_from-drop (held ∷ facts) (suc i) k x xs = let e : suc i + 1 ≡ suc (i + 1) = omega arith in rw e (facts_from-drop facts i k x xs)
+facts_from-drop : (long : Bool) → (facts : List Fact) (i : ℕ) (k : FactTerms) (x : Option TestedTerm) (xs : List (Option TestedTerm)) → facts_from long k (drop i facts) (x ∷ xs) ≡ facts_from long (with_entry long k (slice_index_or facts i fact.Open) x) (drop (i + 1) facts) xs
+facts_from-drop long [] i k x xs = rw (drop-nil {A = Fact} i, drop-nil {A = Fact} (i + 1)) refl
+facts_from-drop long (held ∷ facts) zero k x xs = refl
+facts_from-drop long (held ∷ facts) (suc i) k x xs = let e : suc i + 1 ≡ suc (i + 1) = omega arith in rw e (facts_from-drop long facts i k x xs)
 
-pub fact_step : (first : TermsView) (i : ℕ) (facts : List Fact) (entries : List (Option TestedTerm)) (k now end : FactTerms) (held : Fact) (x : Option TestedTerm) → i < length entries → held ≡ slice_index_or facts i fact.Open → x ≡ slice_index_or entries i None
-    → now ≡ with_entry k held x → IsFactStep first i facts entries k end → IsFactStep first (i + 1) facts entries now end
-fact_step first i facts entries k now end held x l a b n s =
-    let u = with_entry k held x in
+pub fact_step : (long : Bool) → (first : TermsView) (i : ℕ) (facts : List Fact) (entries : List (Option TestedTerm)) (k now end : FactTerms) (held : Fact) (x : Option TestedTerm) → i < length entries → held ≡ slice_index_or facts i fact.Open → x ≡ slice_index_or entries i None
+    → now ≡ with_entry long k held x → IsFactStep long first i facts entries k end → IsFactStep long first (i + 1) facts entries now end
+fact_step long first i facts entries k now end held x l a b n s =
+    let u = with_entry long k held x in
     let here : IsEntry k.terms x = subst (IsEntry k.terms) (sym b) (All-get_or (IsEntry k.terms) entries i None l s.tested.stand) in
-    let h = entry_holds k.terms [] k.tests false s.known.bit.truth k held x false (first_holds k.terms [] false k.outside k.tests s.known) here (λ q o. absurd cc) in
+    let h = entry_holds long k.terms [] k.tests false s.known.bit.truth k held x false (first_holds k.terms [] false k.outside k.tests s.known) here (λ q o. absurd cc) in
     let known : AreKnown u.terms u.outside u.tests = record { sound = h.holds.sound; bit = record { bit = h.holds.bit; truth = h.flag; word = h.holds.word }; bits = h.holds.all } in
     let tested : AreTested u.terms entries = record { stand = entries_later k.terms u.terms entries h.step s.tested.stand } in
     let d : drop i entries ≡ x ∷ drop (i + 1) entries = drop_more entries i None l ∙ ap (λ (y : Option TestedTerm). y ∷ drop (i + 1) entries) (sym b) in
-    let same : facts_from u (drop (i + 1) facts) (drop (i + 1) entries) ≡ end =
-    ap (λ (j : Fact). facts_from (with_entry k j x) (drop (i + 1) facts) (drop (i + 1) entries)) a
-    ∙ (sym (facts_from-drop facts i k x (drop (i + 1) entries)) ∙ (ap (facts_from k (drop i facts)) (sym d) ∙ s.same)) in
-    subst (λ (j : FactTerms). IsFactStep first (i + 1) facts entries j end) (sym n) (record { known = known; tested = tested; kept = KeepsTerms-both first k.terms u.terms s.kept h.step; same = same })
+    let same : facts_from long u (drop (i + 1) facts) (drop (i + 1) entries) ≡ end =
+    ap (λ (j : Fact). facts_from long (with_entry long k j x) (drop (i + 1) facts) (drop (i + 1) entries)) a
+    ∙ (sym (facts_from-drop long facts i k x (drop (i + 1) entries)) ∙ (ap (facts_from long k (drop i facts)) (sym d) ∙ s.same)) in
+    subst (λ (j : FactTerms). IsFactStep long first (i + 1) facts entries j end) (sym n) (record { known = known; tested = tested; kept = KeepsTerms-both first k.terms u.terms s.kept h.step; same = same })

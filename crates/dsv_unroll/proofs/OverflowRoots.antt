@@ -1,5 +1,5 @@
 -- The start and the root of the goal of an overflow.
-use Rattle.std.proofs.Common.{◌≡◌, ◌∙◌, ℕ, List, [], Option, ap, subst, sym, length, replicate, refl}
+use Rattle.std.proofs.Common.{◌≡◌, ◌∙◌, ℕ, Bool, List, [], Option, ap, subst, sym, length, replicate, refl}
 use Rattle.std.specs.Prelude.{◌≤ℤ◌}
 use Rattle.std.proofs.Math.IntN.{ℤ}
 use Rattle.dsv_word.specs.Words.{width, lo, hi}
@@ -10,7 +10,7 @@ use Rattle.dsv_term.specs.declared.node.TermNode.TheVariants.{Constant}
 use Rattle.dsv_term.specs.Building.{Built, built_of, with_node}
 use Rattle.dsv_term.specs.TermsView.{TermsView}
 use Rattle.dsv_unroll.specs.declared.fitting.TestedTerm.{TestedTerm}
-use Rattle.dsv_unroll.specs.FactTests.{FactTerms, facts_from}
+use Rattle.dsv_unroll.specs.FactTests.{FactTerms, facts_from, is_long}
 use Rattle.dsv_unroll.specs.Goals.{InputTerms, RunTerms, run_from, run_tests, no_terms, conjunction_from, overflow_with}
 use Rattle.dsv_unroll.specs.OverflowStart.{first_inputs}
 use Rattle.dsv_unroll.proofs.Breaking.{AreStarted, started_from}
@@ -21,34 +21,35 @@ zero_started net low high samples none t nought registers z l h b r =
     started_from net low high samples (length net.next) net.format none registers (first_inputs net none low high samples) t nought l h refl z refl b r refl
 
 -- ---- the root, from parts of the goal on
-abbrev known_from : List Fact → List TermId → TermId → RunTerms → List (Option TestedTerm) → Built
-known_from facts tests nought run tested =
-    let known = facts_from (record { terms = run.terms; outside = nought; tests = tests }) facts tested in
+abbrev known_from : Bool → List Fact → List TermId → TermId → RunTerms → List (Option TestedTerm) → Built
+known_from long facts tests nought run tested =
+    let known = facts_from long (record { terms = run.terms; outside = nought; tests = tests }) facts tested in
     conjunction_from (built_of known.terms run.broken) known.tests
 
-abbrev root_from : Net → List Fact → List TermId → List TermId → List TermId → Built → Built
-root_from net facts ids tests registers nought =
+abbrev root_from : Bool → Net → List Fact → List TermId → List TermId → List TermId → Built → Built
+root_from long net facts ids tests registers nought =
     let start : RunTerms = record { terms = nought.terms; registers = registers; broken = nought.id } in
-    known_from facts tests nought.id (run_from net ids start) (run_tests net ids start)
+    known_from long facts tests nought.id (run_from net ids start) (run_tests net ids start)
 
 abbrev goal_from : Net → ℤ → ℤ → ℕ → List Fact → TermsView → Built
 goal_from net low high samples facts none =
     let first = first_inputs net none low high samples in
     let nought = with_node first.terms (Constant 1 0) in
-    root_from net facts first.ids first.tests (replicate (length net.next) nought.id) nought
+    root_from (is_long samples) net facts first.ids first.tests (replicate (length net.next) nought.id) nought
 
 pub root_made : (net : Net) (low high : ℤ) (samples : ℕ) (facts : List Fact) (none : TermsView) (ids tests registers : List TermId) (t : TermsView) (nought : TermId) (run : RunTerms) (tested : List (Option TestedTerm)) (u : TermsView) (made : List TermId)
     → none ≡ no_terms → built_of t nought ≡ with_node (first_inputs net none low high samples).terms (Constant 1 0) → ids ≡ (first_inputs net none low high samples).ids → tests ≡ (first_inputs net none low high samples).tests
     → registers ≡ replicate (length net.next) nought → run ≡ run_from net ids (record { terms = t; registers = registers; broken = nought }) → tested ≡ run_tests net ids (record { terms = t; registers = registers; broken = nought })
-    → u ≡ (facts_from (record { terms = run.terms; outside = nought; tests = tests }) facts tested).terms → made ≡ (facts_from (record { terms = run.terms; outside = nought; tests = tests }) facts tested).tests
+    → u ≡ (facts_from (is_long samples) (record { terms = run.terms; outside = nought; tests = tests }) facts tested).terms → made ≡ (facts_from (is_long samples) (record { terms = run.terms; outside = nought; tests = tests }) facts tested).tests
     → conjunction_from (built_of u run.broken) made ≡ overflow_with net low high samples facts
 root_made net low high samples facts none ids tests registers t nought run tested u made z b i k r e g p q =
     let first = first_inputs net none low high samples in
     let start : RunTerms = record { terms = t; registers = registers; broken = nought } in
-    let known : FactTerms = facts_from (record { terms = run.terms; outside = nought; tests = tests }) facts tested in
+    let long = is_long samples in
+    let known : FactTerms = facts_from long (record { terms = run.terms; outside = nought; tests = tests }) facts tested in
     let one = ap (λ (v : TermsView). conjunction_from (built_of v run.broken) made) p ∙ ap (λ (ns : List TermId). conjunction_from (built_of known.terms run.broken) ns) q in
-    let two = ap (λ (es : List (Option TestedTerm)). known_from facts tests nought run es) g ∙ ap (λ (v : RunTerms). known_from facts tests nought v (run_tests net ids start)) e in
-    let three = ap (λ (ns : List TermId). root_from net facts ids tests ns (built_of t nought)) r ∙ ap (λ (ns : List TermId). root_from net facts ns tests (replicate (length net.next) nought) (built_of t nought)) i in
-    let four = ap (λ (ns : List TermId). root_from net facts first.ids ns (replicate (length net.next) nought) (built_of t nought)) k
-    ∙ ap (λ (v : Built). root_from net facts first.ids first.tests (replicate (length net.next) v.id) v) b in
+    let two = ap (λ (es : List (Option TestedTerm)). known_from long facts tests nought run es) g ∙ ap (λ (v : RunTerms). known_from long facts tests nought v (run_tests net ids start)) e in
+    let three = ap (λ (ns : List TermId). root_from long net facts ids tests ns (built_of t nought)) r ∙ ap (λ (ns : List TermId). root_from long net facts ns tests (replicate (length net.next) nought) (built_of t nought)) i in
+    let four = ap (λ (ns : List TermId). root_from long net facts first.ids ns (replicate (length net.next) nought) (built_of t nought)) k
+    ∙ ap (λ (v : Built). root_from long net facts first.ids first.tests (replicate (length net.next) v.id) v) b in
     one ∙ (two ∙ (three ∙ (four ∙ ap (goal_from net low high samples facts) z)))

@@ -1,6 +1,6 @@
 -- What the facts of a run's exact values add to the root of its overflow goal. Each test holds at
 -- all inputs in range, so the root stays the same; it only makes the search for a break shorter.
-use Rattle.std.specs.Prelude.{List, [], ◌∷◌, ◌++◌, Option, None, Some, ℤ}
+use Rattle.std.specs.Prelude.{ℕ, nat_le, Bool, true, false, List, [], ◌∷◌, ◌++◌, Option, None, Some, ℤ}
 use Rattle.dsv_linear.specs.declared.fact.Fact.{Fact}
 use Rattle.dsv_linear.specs.declared.fact.Fact.TheVariants as fact
 use Rattle.dsv_term.specs.declared.node.TermId.{TermId}
@@ -33,25 +33,40 @@ with_test known test =
     let either = with_node test.terms (Or known.outside test.id) in
     record { terms = either.terms; outside = known.outside; tests = known.tests ++ either.id ∷ [] }
 
+-- over how many samples a goal is long
+abbrev pub long_run : ℕ
+long_run = 11
+
+-- whether a goal over so many samples is long
+abbrev pub is_long : ℕ → Bool
+is_long samples = nat_le long_run samples
+
+-- of a long goal the test that a value is a word, too
+abbrev pub with_word : Bool → FactTerms → TestedTerm → FactTerms
+with_word true known tested =
+    with_test known (record { terms = known.terms; id = tested.is_word })
+with_word false known tested = known
+
 -- A value of which nothing is known may be outside. One that is a word passes the test of its word,
--- and one that lies between two ends that of these.
-abbrev pub with_fact : FactTerms → Fact → TestedTerm → FactTerms
-with_fact known fact.Open tested =
+-- and one that lies between two ends that of these and, in a long goal, that of its word: then unit
+-- steps alone refute a goal of whose values all are known to be words.
+abbrev pub with_fact : Bool → FactTerms → Fact → TestedTerm → FactTerms
+with_fact long known fact.Open tested =
     let either = with_node known.terms (Or known.outside tested.outside) in
     record { terms = either.terms; outside = either.id; tests = known.tests }
-with_fact known fact.Inside tested =
-    with_test known (record { terms = known.terms; id = tested.is_word })
-with_fact known (fact.Within low high) tested =
-    with_test known (within_test known.terms low high tested.value)
+with_fact long known fact.Inside tested = with_word true known tested
+with_fact long known (fact.Within low high) tested =
+    with_word long (with_test known (within_test known.terms low high tested.value)) tested
 
 -- the same, and nothing for a value that isn't tested
-abbrev pub with_entry : FactTerms → Fact → Option TestedTerm → FactTerms
-with_entry known held None = known
-with_entry known held (Some tested) = with_fact known held tested
+abbrev pub with_entry : Bool → FactTerms → Fact → Option TestedTerm → FactTerms
+with_entry long known held None = known
+with_entry long known held (Some tested) = with_fact long known held tested
 
 -- value after value with its fact; nothing is known of those after the last fact
-abbrev pub facts_from : FactTerms → List Fact → List (Option TestedTerm) → FactTerms
-facts_from known facts [] = known
-facts_from known [] (entry ∷ entries) = facts_from (with_entry known fact.Open entry) [] entries
-facts_from known (held ∷ facts) (entry ∷ entries) =
-    facts_from (with_entry known held entry) facts entries
+abbrev pub facts_from : Bool → FactTerms → List Fact → List (Option TestedTerm) → FactTerms
+facts_from long known facts [] = known
+facts_from long known [] (entry ∷ entries) =
+    facts_from long (with_entry long known fact.Open entry) [] entries
+facts_from long known (held ∷ facts) (entry ∷ entries) =
+    facts_from long (with_entry long known held entry) facts entries

@@ -16,7 +16,7 @@ use Rattle.dsv_term.specs.Word.{residue}
 use Rattle.dsv_unroll.specs.declared.fitting.TestedTerm.{TestedTerm}
 use Rattle.dsv_unroll.specs.declared.rules.FitRule.{FitRule}
 use Rattle.dsv_unroll.specs.declared.rules.FitRule.TheVariants.{Tested}
-use Rattle.dsv_unroll.specs.FactTests.{facts_from}
+use Rattle.dsv_unroll.specs.FactTests.{facts_from, is_long}
 use Rattle.dsv_unroll.specs.Rules.{width_for, node_term, node_tests, term_at}
 
 -- the greatest job that is unrolled
@@ -170,7 +170,7 @@ overflow_with net low high samples facts =
       broken = nought.id;
     } in
     let run = run_from net inputs.ids start in
-    let known = facts_from (record {
+    let known = facts_from (is_long samples) (record {
       terms = run.terms;
       outside = nought.id;
       tests = inputs.tests;

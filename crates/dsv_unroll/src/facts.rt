@@ -3,8 +3,8 @@ ghost use Rattle.std.specs.Prelude.{◌≡◌, IfOk, slice_index_or};
 ghost use Rattle.dsv_linear.specs.declared.fact.Fact.TheVariants.{Open};
 ghost use Rattle.dsv_term.specs.Building.{built_of};
 ghost use Rattle.dsv_term.specs.Terms.{KeepsTerms};
-ghost use Rattle.dsv_unroll.specs.FactTests.{within_test, with_test, with_fact, with_entry};
-ghost use Rattle.dsv_unroll.specs.FactTests.{facts_from};
+ghost use Rattle.dsv_unroll.specs.FactTests.{within_test, with_test, with_word, with_fact};
+ghost use Rattle.dsv_unroll.specs.FactTests.{with_entry, facts_from};
 ghost use Rattle.dsv_unroll.specs.Ready.{IsValue, HasBits, AreBits, IsTest, IsEntry};
 ghost use Rattle.dsv_unroll.specs.Ready.{AreTested, AreKnown};
 
@@ -54,11 +54,68 @@ fn put_test(
     Ok(())
 }
 
-/// Adds the test of a value's fact, and gives the bit that is 1 where this value or one before may
-/// be outside and is.
+/// Adds the test that a value is a word, where it is wanted.
+fn put_word_test(
+    terms: &mut Terms,
+    outside: TermId,
+    wanted: bool,
+    tested: TestedTerm,
+    tests: &mut Vec<TermId>,
+) -> Result<(), NoMemory>
+    requires known { AreKnown terms.old outside tests.old.items }
+    requires tested { IsTest terms.old tested }
+    ensures built { IfOk result (λ u. record {
+      terms = terms.new;
+      outside = outside;
+      tests = tests.new.items;
+    }
+        ≡ with_word wanted (record {
+          terms = terms.old;
+          outside = outside;
+          tests = tests.old.items;
+        }) tested) }
+{
+    if wanted {
+        put_test(terms, outside, tested.is_word, tests)?;
+    }
+    Ok(())
+}
+
+/// Adds the test that a value lies from one number to another.
+fn put_range_test(
+    terms: &mut Terms,
+    outside: TermId,
+    low: i64,
+    high: i64,
+    tested: TestedTerm,
+    tests: &mut Vec<TermId>,
+) -> Result<(), NoMemory>
+    requires known { AreKnown terms.old outside tests.old.items }
+    requires tested { IsTest terms.old tested }
+    ensures built { IfOk result (λ u. record {
+      terms = terms.new;
+      outside = outside;
+      tests = tests.new.items;
+    }
+        ≡ with_test (record {
+          terms = terms.old;
+          outside = outside;
+          tests = tests.old.items;
+        }) (within_test terms.old low high tested.value)) }
+    ensures known { IfOk result (λ u. AreKnown terms.new outside tests.new.items) }
+    ensures tested { IfOk result (λ u. IsTest terms.new tested) }
+{
+    let test = within_test(terms, low, high, tested.value)?;
+    put_test(terms, outside, test, tests)?;
+    Ok(())
+}
+
+/// Adds the tests of a value's fact, in a goal that is long or not, and gives the bit that is 1
+/// where this value or one before may be outside and is.
 fn put_fact(
     terms: &mut Terms,
     outside: TermId,
+    is_long: bool,
     fact: Fact,
     tested: TestedTerm,
     tests: &mut Vec<TermId>,
@@ -70,7 +127,7 @@ fn put_fact(
       outside = now;
       tests = tests.new.items;
     }
-        ≡ with_fact (record {
+        ≡ with_fact is_long (record {
           terms = terms.old;
           outside = outside;
           tests = tests.old.items;
@@ -79,12 +136,12 @@ fn put_fact(
     match fact {
         Fact::Open => terms.or(outside, tested.outside),
         Fact::Inside => {
-            put_test(terms, outside, tested.is_word, tests)?;
+            put_word_test(terms, outside, true, tested, tests)?;
             Ok(outside)
         }
         Fact::Within { low, high } => {
-            let test = within_test(terms, low, high, tested.value)?;
-            put_test(terms, outside, test, tests)?;
+            put_range_test(terms, outside, low, high, tested, tests)?;
+            put_word_test(terms, outside, is_long, tested, tests)?;
             Ok(outside)
         }
     }
@@ -94,6 +151,7 @@ fn put_fact(
 fn put_entry(
     terms: &mut Terms,
     outside: TermId,
+    is_long: bool,
     fact: Fact,
     entry: Option<TestedTerm>,
     tests: &mut Vec<TermId>,
@@ -105,14 +163,14 @@ fn put_entry(
       outside = now;
       tests = tests.new.items;
     }
-        ≡ with_entry (record {
+        ≡ with_entry is_long (record {
           terms = terms.old;
           outside = outside;
           tests = tests.old.items;
         }) fact entry) }
 {
     match entry {
-        Some(tested) => put_fact(terms, outside, fact, tested, tests),
+        Some(tested) => put_fact(terms, outside, is_long, fact, tested, tests),
         None => Ok(outside),
     }
 }
@@ -127,22 +185,23 @@ fn fact_at(facts: &[Fact], number: usize) -> Fact
     }
 }
 
-/// The tests so far and those of the facts, where the bit is 0.
+/// The tests so far and those of the facts, in a goal that is long or not, where the bit is 0.
 pub(crate) fn fact_tests(
     terms: &mut Terms,
     nought: TermId,
+    is_long: bool,
     facts: &[Fact],
     tested: &[Option<TestedTerm>],
     before: Vec<TermId>,
 ) -> Result<Vec<TermId>, NoMemory>
     requires known { AreKnown terms.old nought before.items }
     requires tested { AreTested terms.old tested.now }
-    ensures terms { IfOk result (λ tests. terms.new ≡ (facts_from (record {
+    ensures terms { IfOk result (λ tests. terms.new ≡ (facts_from is_long (record {
       terms = terms.old;
       outside = nought;
       tests = before.items;
     }) facts.now tested.now).terms) }
-    ensures tests { IfOk result (λ tests. tests.items ≡ (facts_from (record {
+    ensures tests { IfOk result (λ tests. tests.items ≡ (facts_from is_long (record {
       terms = terms.old;
       outside = nought;
       tests = before.items;
@@ -154,7 +213,7 @@ pub(crate) fn fact_tests(
     let mut tests = before;
     for i in 0..tested.len() {
         let fact = fact_at(facts, i);
-        outside = put_entry(terms, outside, fact, tested[i], &mut tests)?;
+        outside = put_entry(terms, outside, is_long, fact, tested[i], &mut tests)?;
     }
     Ok(tests)
 }

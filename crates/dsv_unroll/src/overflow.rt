@@ -23,6 +23,10 @@ use dsv_netlist::Netlist;
 use dsv_term::{Goal, TermId, Terms};
 use std::alloc::Global;
 
+/// From so many samples on a goal is long: a value that is known to lie between two ends is tested
+/// for being a word, too. Below it a search takes some hundred conflicts at most.
+const LONG_RUN: u32 = 11;
+
 /// A term so many times.
 pub(crate) fn repeated_term(alloc: Global, id: TermId, count: u32) -> Result<Vec<TermId>, NoMemory>
     ensures { IfOk result (λ ids. ids.items ≡ replicate count id) }
@@ -97,7 +101,8 @@ fn overflow_root(
     let nought = start.nought;
     let registers = start.registers;
     let run = run_terms(alloc, terms, net, &start.inputs, registers, nought)?;
-    let tests = fact_tests(terms, nought, facts, &run.tested, start.tests)?;
+    let is_long = samples >= LONG_RUN;
+    let tests = fact_tests(terms, nought, is_long, facts, &run.tested, start.tests)?;
     conjunction(terms, run.broken, &tests)
 }
 

@@ -15,8 +15,8 @@ loop-i-preserved c =
     let entries = c.args.tested.now in
     let k : FactTerms = record { terms = l.terms; outside = l.outside; tests = l.tests.items } in
     let now : FactTerms = record { terms = c.put_entry.new.terms; outside = c.in_ok-outside.outside; tests = c.put_entry.new.tests.items } in
-    let end : FactTerms = facts_from (record { terms = first; outside = c.args.nought; tests = c.args.before.items }) facts entries in
-    let s = fact_step first l.i facts entries k now end c.fact_at-fact.result (slice_index_or entries l.i None) (omega arith) c.fact_at-fact.ensures refl c.in_ok-outside.ensures.built
+    let end : FactTerms = facts_from c.args.is_long (record { terms = first; outside = c.args.nought; tests = c.args.before.items }) facts entries in
+    let s = fact_step c.args.is_long first l.i facts entries k now end c.fact_at-fact.result (slice_index_or entries l.i None) (omega arith) c.fact_at-fact.ensures refl c.in_ok-outside.ensures.built
     (record { known = i.known; tested = i.tested; kept = i.kept; same = i.same }) in
     record { known = s.known; tested = s.tested; kept = s.kept; same = s.same }
 

@@ -9,6 +9,6 @@ invariant-loop-i l = record {
   known : AreKnown l.terms l.outside l.tests.items;
   tested : AreTested l.terms l.tested;
   kept : KeepsTerms l.fn.terms l.terms;
-  same : facts_from (record { terms = l.terms; outside = l.outside; tests = l.tests.items }) (drop l.i l.facts) (drop l.i l.tested)
-      ≡ facts_from (record { terms = l.fn.terms; outside = l.fn.nought; tests = l.fn.before.items }) l.facts l.tested;
+  same : facts_from l.is_long (record { terms = l.terms; outside = l.outside; tests = l.tests.items }) (drop l.i l.facts) (drop l.i l.tested)
+      ≡ facts_from l.is_long (record { terms = l.fn.terms; outside = l.fn.nought; tests = l.fn.before.items }) l.facts l.tested;
 }
