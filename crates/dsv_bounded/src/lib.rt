@@ -6,6 +6,7 @@
 mod answers;
 mod cycle_job;
 mod decision;
+mod drawn_starts;
 mod end_list;
 mod goal_clauses;
 mod offers;
@@ -14,6 +15,7 @@ mod question;
 mod replayed_cycles;
 mod replayed_traces;
 mod responses;
+mod settling;
 mod starts;
 mod words;
 

@@ -2,30 +2,26 @@
 // cycle, and is then replayed.
 #![tactic(auto, using(dsv_algebra::proofs::Casts::casts))]
 
-ghost use Rattle.std.specs.Prelude.{◌≡◌, ◌<◌, ℤ, List, length, IfOk, IfSome};
-ghost use Rattle.std.specs.List.{All};
-ghost use Rattle.dsv_meaning.specs.Equations.{Past, order, registers_of};
+ghost use Rattle.std.specs.Prelude.{◌<◌, ℤ, List, length, IfOk, IfSome};
+ghost use Rattle.dsv_meaning.specs.Equations.{Past};
 ghost use Rattle.dsv_meaning.specs.Systems.{equations_of};
 ghost use Rattle.dsv_netlist.specs.Systems.{system_of};
 ghost use Rattle.dsv_system.specs.Systems.{RunAlike};
-ghost use Rattle.dsv_word.specs.Words.{IsWord};
-ghost use Rattle.dsv_bounded.specs.Questions.{IsStart, AreRegisters};
 ghost use Rattle.dsv_bounded.specs.Verdicts.{IsCycle};
 ghost use Rattle.dsv_bounded.specs.declared.starts.TheConstants.{OFFERED_NUMBERS};
 
-use crate::replayed_cycles::replayed_cycle;
-use crate::words::zero_words;
-use dsv_base::{NoMemory, WordList};
-use dsv_meaning::{Cycle, forward_registers};
+use crate::drawn_starts::drawn_cycle;
+use crate::settling::{drive, level_registers, settled_cycle};
+use dsv_base::NoMemory;
+use dsv_meaning::Cycle;
 use dsv_netlist::Netlist;
 use dsv_quantiser::Quantised;
 use dsv_realise::realise;
-use dsv_system::ExactList;
 use dsv_word::Format;
 use std::alloc::Global;
 
 /// After so many samples each the registers are replayed.
-const SETTLING: [u32; 3] = [16, 48, 192];
+const SETTLING: &[u32] = &[16, 48, 192];
 
 /// An input that is held for long has so many samples.
 const LONG_INPUT: u32 = 32;
@@ -54,72 +50,6 @@ fn offered_number(format: &Format, i: u32) -> i64
     }
 }
 
-/// Loads the registers as so many samples with one input do.
-fn drive(net: &Netlist, registers: &mut [i64], x: i64, samples: u32)
-    requires registers { AreRegisters net.now registers.old }
-    requires input { IsWord net.now.format x }
-    ensures { AreRegisters net.now registers.new }
-{
-    for _ in 0..samples {
-        let mut exact = ExactList::new();
-        net.step(registers, x, &mut exact);
-    }
-}
-
-/// Whether all registers hold 0, which they do from then on.
-fn are_zero(registers: &[i64]) -> bool {
-    registers.iter().all(|word| *word == 0)
-}
-
-/// The words of registers, with 0 in the feed-forward ones.
-fn quiet_start(alloc: Global, q: &Quantised, registers: &[i64]) -> Result<WordList, NoMemory>
-    requires many { length registers.now ≡ registers_of q.now.realisation (order q.now) }
-    requires words { All (IsWord q.now.format) registers.now }
-    ensures { IfOk result (IsStart q.now) }
-{
-    let forward = forward_registers(q.realisation(), q.order() as u32);
-    let mut start = zero_words(alloc, forward)?;
-    start.extend_from_slice(registers.split_at(forward as usize).1)?;
-    Ok(start)
-}
-
-/// The limit cycle onto which registers settle, where they do so soon.
-fn settled_cycle(
-    alloc: Global,
-    q: &Quantised,
-    net: &Netlist,
-    registers: &mut [i64],
-    periods: u32,
-) -> Result<Option<Cycle>, NoMemory>
-    requires alike { RunAlike (List ℤ) Past (system_of net.now) (equations_of q.now) }
-    requires registers { AreRegisters net.now registers.old }
-    ensures { IfOk result (λ cycle. IfSome cycle (IsCycle q.now periods)) }
-{
-    for samples in &SETTLING {
-        drive(net, registers, 0, *samples);
-        if are_zero(registers) {
-            return Ok(None);
-        }
-        let start = quiet_start(alloc, q, registers)?;
-        if let Some(cycle) = replayed_cycle(alloc, q, start, periods)? {
-            return Ok(Some(cycle));
-        }
-    }
-    Ok(None)
-}
-
-/// Registers that all hold one word.
-fn level_registers(alloc: Global, net: &Netlist, word: i64) -> Result<Vec<i64>, NoMemory>
-    requires { IsWord net.now.format word }
-    ensures { IfOk result (λ registers. AreRegisters net.now registers.items) }
-{
-    let mut registers = Vec::new(alloc);
-    for i in 0..net.registers() {
-        registers.push(word)?;
-    }
-    Ok(registers)
-}
-
 /// The limit cycle that comes of a number in one register, where it is a word.
 fn number_cycle(
     alloc: Global,
@@ -138,7 +68,7 @@ fn number_cycle(
     }
     let mut registers = level_registers(alloc, net, 0)?;
     registers[place as usize] = number;
-    settled_cycle(alloc, q, net, registers.as_mut_slice(), periods)
+    settled_cycle(alloc, q, net, registers.as_mut_slice(), SETTLING, periods)
 }
 
 /// The first limit cycle that comes of a word in one register: a small one, or an end.
@@ -180,7 +110,7 @@ fn input_cycle(
     let mut level = level_registers(alloc, net, 0)?;
     let registers = level.as_mut_slice();
     drive(net, registers, x, samples);
-    settled_cycle(alloc, q, net, registers, periods)
+    settled_cycle(alloc, q, net, registers, SETTLING, periods)
 }
 
 /// The limit cycle that comes of a number in all registers, where it is a word.
@@ -198,7 +128,7 @@ fn level_cycle(
         return Ok(None);
     }
     let mut registers = level_registers(alloc, net, number)?;
-    settled_cycle(alloc, q, net, registers.as_mut_slice(), periods)
+    settled_cycle(alloc, q, net, registers.as_mut_slice(), SETTLING, periods)
 }
 
 /// The first limit cycle that comes of a number as the input, in one sample or for long, or in all
@@ -243,5 +173,5 @@ pub(crate) fn offered_cycle(
             return Ok(Some(cycle));
         }
     }
-    Ok(None)
+    drawn_cycle(alloc, q, &net, periods)
 }

@@ -1,7 +1,7 @@
 use Rattle.std.proofs.Common.{◌≡◌, length}
 use Rattle.std.specs.List.{All}
 use Rattle.dsv_word.specs.Words.{IsWord}
-use Rattle.dsv_bounded.proofs.starts.level_registers.Given as goal
+use Rattle.dsv_bounded.proofs.settling.level_registers.Given as goal
 
 abbrev pub invariant-loop-i : goal.invariant-loop-i
 invariant-loop-i l = record {

@@ -4,7 +4,7 @@ use Rattle.std.proofs.lemmas.Int.{to_z-of_z}
 use Rattle.std.proofs.lemmas.List.{length-append}
 use Rattle.std.proofs.lemmas.List.Elements.{All-push}
 use Rattle.dsv_word.specs.Words.{IsWord}
-use Rattle.dsv_bounded.proofs.starts.level_registers.Goals as goal
+use Rattle.dsv_bounded.proofs.settling.level_registers.Goals as goal
 
 pub loop-i-preserved : goal.loop-i-preserved
 loop-i-preserved c =

@@ -2,7 +2,7 @@ use Rattle.std.proofs.Common.{◌≡◌, ◌∙◌, ◌++◌, List, ap, drop, ru
 use Rattle.std.proofs.Math.IntN.{ℤ}
 use Rattle.dsv_meaning.specs.Equations.{order, forward_registers_of}
 use Rattle.dsv_bounded.proofs.StartLemmas.{start_stands}
-use Rattle.dsv_bounded.proofs.starts.quiet_start.Goals as goal
+use Rattle.dsv_bounded.proofs.settling.quiet_start.Goals as goal
 
 pub returns : goal.returns
 returns c =
