@@ -18,9 +18,8 @@ use Rattle.dsv_reader.specs.declared.fields.ImplementationFields.{Implementation
 use Rattle.dsv_reader.specs.declared.fields.HardwareFields.{HardwareFields}
 use Rattle.dsv_reader.specs.declared.fields.Values.{Values}
 use Rattle.dsv_reader.specs.Limits.{greatest_clock, greatest_cost}
-use Rattle.dsv_reader.specs.Numbers.{only_of, whole_number_at, decimal_at, time_at}
 use Rattle.dsv_reader.specs.Fields.{setting_value, with_setting, once, entry_read}
-use Rattle.dsv_reader.specs.Values.{list_in, whole_number_in, bounded_in, time_in, decimal_in}
+use Rattle.dsv_reader.specs.FieldValues.{list_in, whole_number_in, bounded_in, time_in, decimal_in}
 
 -- what a field's value is
 abbrev pub Value : Label → Type 0
@@ -249,16 +248,6 @@ bind1 : {A B C : Type 0} (r : Result A FileRefusal) (f : A → B) (g : B → Res
 bind1 (Ok x) f g = refl
 bind1 (Err e) f g = refl
 
-bind2 : {A B C D : Type 0} (r : Result A FileRefusal) (b : A → Result B FileRefusal) (f : B → C) (g : C → Result D FileRefusal) →
-    ((r >>= λ t. b t >>= λ x. Ok (f x)) >>= g) ≡ ((r >>= λ t. b t) >>= λ x. g (f x))
-bind2 (Ok t) b f g = bind1 (b t) f g
-bind2 (Err e) b f g = refl
-
-bind3 : {A B C D E : Type 0} (r : Result A FileRefusal) (b : A → Result B FileRefusal) (k : B → C) (f : C → D) (g : D → Result E FileRefusal) →
-    ((r >>= λ t. b t >>= λ x. Ok (f (k x))) >>= g) ≡ ((r >>= λ t. b t >>= λ x. Ok (k x)) >>= λ x. g (f x))
-bind3 (Ok t) b k f g = bind1 (b t) (λ x. f (k x)) g ∙ sym (bind1 (b t) k (λ x. g (f x)))
-bind3 (Err e) b k f g = refl
-
 -- a field that is read: it hasn't stood before, and its value goes where it belongs
 abbrev pub read_at : (l : Label) → List ℕ → Entry → Values → Result Values FileRefusal
 read_at l bytes e v = once (is_some (get l v)) e.dot (read l bytes e >>= λ x. Ok (set l x v))
@@ -276,14 +265,14 @@ after_hardware v h = Ok (record v { hardware = h })
 pub entry_law : (l : Label) (bytes : List ℕ) (e : Entry) (v : Values) → is_read l ≡ true → entry_read l bytes e v ≡ read_at l bytes e v
 entry_law (label.Field field.B) bytes e v h = ap (once (is_some v.system.b) e.dot) (bind1 (list_in bytes e) (λ x. record v.system { b = Some x }) (after_system v))
 entry_law (label.Field field.A) bytes e v h = ap (once (is_some v.system.a) e.dot) (bind1 (list_in bytes e) (λ x. record v.system { a = Some x }) (after_system v))
-entry_law (label.Field field.BSize) bytes e v h = ap (once (is_some v.system.b_size) e.dot) (bind2 (only_of e.place e.numbers) (whole_number_at bytes) (λ x. record v.system { b_size = Some x }) (after_system v))
-entry_law (label.Field field.ASize) bytes e v h = ap (once (is_some v.system.a_size) e.dot) (bind2 (only_of e.place e.numbers) (whole_number_at bytes) (λ x. record v.system { a_size = Some x }) (after_system v))
-entry_law (label.Field field.SampleTime) bytes e v h = ap (once (is_some v.system.sample_time) e.dot) (bind2 (only_of e.place e.numbers) (time_at bytes) (λ x. record v.system { sample_time = Some x }) (after_system v))
-entry_law (label.Field field.IntBits) bytes e v h = ap (once (is_some v.implementation.int_bits) e.dot) (bind2 (only_of e.place e.numbers) (whole_number_at bytes) (λ x. record v.implementation { int_bits = Some x }) (after_implementation v))
-entry_law (label.Field field.FracBits) bytes e v h = ap (once (is_some v.implementation.frac_bits) e.dot) (bind2 (only_of e.place e.numbers) (whole_number_at bytes) (λ x. record v.implementation { frac_bits = Some x }) (after_implementation v))
-entry_law (label.Field field.Max) bytes e v h = ap (once (is_some v.implementation.max) e.dot) (bind3 (only_of e.place e.numbers) (decimal_at bytes) (λ c. c.value) (λ x. record v.implementation { max = Some x }) (after_implementation v))
-entry_law (label.Field field.Min) bytes e v h = ap (once (is_some v.implementation.min) e.dot) (bind3 (only_of e.place e.numbers) (decimal_at bytes) (λ c. c.value) (λ x. record v.implementation { min = Some x }) (after_implementation v))
-entry_law (label.Field field.Delta) bytes e v h = ap (once (is_some v.implementation.delta) e.dot) (bind3 (only_of e.place e.numbers) (decimal_at bytes) (λ c. c.value) (λ x. record v.implementation { delta = Some x }) (after_implementation v))
+entry_law (label.Field field.BSize) bytes e v h = ap (once (is_some v.system.b_size) e.dot) (bind1 (whole_number_in bytes e) (λ x. record v.system { b_size = Some x }) (after_system v))
+entry_law (label.Field field.ASize) bytes e v h = ap (once (is_some v.system.a_size) e.dot) (bind1 (whole_number_in bytes e) (λ x. record v.system { a_size = Some x }) (after_system v))
+entry_law (label.Field field.SampleTime) bytes e v h = ap (once (is_some v.system.sample_time) e.dot) (bind1 (time_in bytes e) (λ x. record v.system { sample_time = Some x }) (after_system v))
+entry_law (label.Field field.IntBits) bytes e v h = ap (once (is_some v.implementation.int_bits) e.dot) (bind1 (whole_number_in bytes e) (λ x. record v.implementation { int_bits = Some x }) (after_implementation v))
+entry_law (label.Field field.FracBits) bytes e v h = ap (once (is_some v.implementation.frac_bits) e.dot) (bind1 (whole_number_in bytes e) (λ x. record v.implementation { frac_bits = Some x }) (after_implementation v))
+entry_law (label.Field field.Max) bytes e v h = ap (once (is_some v.implementation.max) e.dot) (bind1 (decimal_in bytes e) (λ x. record v.implementation { max = Some x }) (after_implementation v))
+entry_law (label.Field field.Min) bytes e v h = ap (once (is_some v.implementation.min) e.dot) (bind1 (decimal_in bytes e) (λ x. record v.implementation { min = Some x }) (after_implementation v))
+entry_law (label.Field field.Delta) bytes e v h = ap (once (is_some v.implementation.delta) e.dot) (bind1 (decimal_in bytes e) (λ x. record v.implementation { delta = Some x }) (after_implementation v))
 entry_law (label.Setting setting.Clock) bytes e v h = ap (once (is_some v.hardware.clock) e.dot) (bind1 (setting_value setting.Clock bytes e) (λ n. with_setting setting.Clock n v.hardware) (after_hardware v))
 entry_law (label.Setting setting.CostSample) bytes e v h = ap (once (is_some v.hardware.sample) e.dot) (bind1 (setting_value setting.CostSample bytes e) (λ n. with_setting setting.CostSample n v.hardware) (after_hardware v))
 entry_law (label.Setting setting.CostMul) bytes e v h = ap (once (is_some v.hardware.mul) e.dot) (bind1 (setting_value setting.CostMul bytes e) (λ n. with_setting setting.CostMul n v.hardware) (after_hardware v))

@@ -16,8 +16,8 @@ use Rattle.dsv_reader.specs.declared.fields.ImplementationFields.{Implementation
 use Rattle.dsv_reader.specs.declared.fields.HardwareFields.{HardwareFields}
 use Rattle.dsv_reader.specs.declared.fields.Values.{Values}
 use Rattle.dsv_reader.specs.Limits.{greatest_clock, greatest_cost}
-use Rattle.dsv_reader.specs.Numbers.{only_of, whole_number_at, bounded_at, decimal_at}
-use Rattle.dsv_reader.specs.Numbers.{time_at, coefficients_of, passed_over}
+use Rattle.dsv_reader.specs.Numbers.{passed_over}
+use Rattle.dsv_reader.specs.FieldValues.{list_in, whole_number_in, bounded_in, time_in, decimal_in}
 
 abbrev pub no_values : Values
 no_values = record {
@@ -64,30 +64,24 @@ has_setting setting.CostMoves v = is_some v.hardware.moves
 
 -- the table of fields: what each field's value is, and where it goes
 abbrev pub system_field : Field → List ℕ → Entry → SystemFields → Result SystemFields FileRefusal
-system_field field.B bytes e s = coefficients_of bytes e.place e.numbers
-    >>= λ xs. Ok (record s { b = Some xs })
-system_field field.A bytes e s = coefficients_of bytes e.place e.numbers
-    >>= λ xs. Ok (record s { a = Some xs })
-system_field field.BSize bytes e s = only_of e.place e.numbers >>= λ t. whole_number_at bytes t
-    >>= λ w. Ok (record s { b_size = Some w })
-system_field field.ASize bytes e s = only_of e.place e.numbers >>= λ t. whole_number_at bytes t
-    >>= λ w. Ok (record s { a_size = Some w })
-system_field field.SampleTime bytes e s = only_of e.place e.numbers >>= λ t. time_at bytes t
+system_field field.B bytes e s = list_in bytes e >>= λ xs. Ok (record s { b = Some xs })
+system_field field.A bytes e s = list_in bytes e >>= λ xs. Ok (record s { a = Some xs })
+system_field field.BSize bytes e s = whole_number_in bytes e >>= λ w. Ok (record s { b_size = Some w })
+system_field field.ASize bytes e s = whole_number_in bytes e >>= λ w. Ok (record s { a_size = Some w })
+system_field field.SampleTime bytes e s = time_in bytes e
     >>= λ q. Ok (record s { sample_time = Some q })
 system_field f bytes e s = Ok s
 
 abbrev pub implementation_field : Field → List ℕ → Entry → ImplementationFields
     → Result ImplementationFields FileRefusal
-implementation_field field.IntBits bytes e i = only_of e.place e.numbers
-    >>= λ t. whole_number_at bytes t >>= λ w. Ok (record i { int_bits = Some w })
-implementation_field field.FracBits bytes e i = only_of e.place e.numbers
-    >>= λ t. whole_number_at bytes t >>= λ w. Ok (record i { frac_bits = Some w })
-implementation_field field.Max bytes e i = only_of e.place e.numbers >>= λ t. decimal_at bytes t
-    >>= λ c. Ok (record i { max = Some c.value })
-implementation_field field.Min bytes e i = only_of e.place e.numbers >>= λ t. decimal_at bytes t
-    >>= λ c. Ok (record i { min = Some c.value })
-implementation_field field.Delta bytes e i = only_of e.place e.numbers >>= λ t. decimal_at bytes t
-    >>= λ c. Ok (record i { delta = Some c.value })
+implementation_field field.IntBits bytes e i = whole_number_in bytes e
+    >>= λ w. Ok (record i { int_bits = Some w })
+implementation_field field.FracBits bytes e i = whole_number_in bytes e
+    >>= λ w. Ok (record i { frac_bits = Some w })
+implementation_field field.Max bytes e i = decimal_in bytes e >>= λ q. Ok (record i { max = Some q })
+implementation_field field.Min bytes e i = decimal_in bytes e >>= λ q. Ok (record i { min = Some q })
+implementation_field field.Delta bytes e i = decimal_in bytes e
+    >>= λ q. Ok (record i { delta = Some q })
 implementation_field f bytes e i = Ok i
 
 abbrev pub is_cost : Setting → Bool
@@ -96,9 +90,8 @@ is_cost s = true
 
 -- a clock is 1 to 10^12, a cost 0 to 10000
 abbrev pub setting_value : Setting → List ℕ → Entry → Result ℕ FileRefusal
-setting_value setting.Clock bytes e = only_of e.place e.numbers
-    >>= λ t. bounded_at 1 greatest_clock bytes t
-setting_value s bytes e = only_of e.place e.numbers >>= λ t. bounded_at 0 greatest_cost bytes t
+setting_value setting.Clock bytes e = bounded_in 1 greatest_clock bytes e
+setting_value s bytes e = bounded_in 0 greatest_cost bytes e
 
 abbrev pub with_setting : Setting → ℕ → HardwareFields → HardwareFields
 with_setting setting.Clock n h = record h { clock = Some n }

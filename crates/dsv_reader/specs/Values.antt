@@ -2,7 +2,6 @@
 -- are read.
 use Rattle.std.specs.Prelude.{◌≡◌, ◌≢◌, ◌⊎◌, ℕ, false, List, []}
 use Rattle.std.specs.Prelude.{◌∷◌, Option, Some, None, Result, Ok}
-use Rattle.dsv_fraction.specs.Ratio.{Ratio}
 use Rattle.dsv_token.specs.declared.refusal.FileRefusal.{FileRefusal}
 use Rattle.dsv_names.specs.declared.field.Field.TheVariants as field
 use Rattle.dsv_names.specs.declared.setting.Setting.TheVariants as setting
@@ -10,31 +9,10 @@ use Rattle.dsv_token.specs.declared.token.Token.{Token}
 use Rattle.dsv_syntax.specs.declared.entry.Label.{Label}
 use Rattle.dsv_syntax.specs.declared.entry.Label.TheVariants as label
 use Rattle.dsv_syntax.specs.declared.entry.Entry.{Entry}
-use Rattle.dsv_text.specs.Stages.{◌>>=◌}
-use Rattle.dsv_reader.specs.declared.numbers.SpelledNumber.{SpelledNumber}
-use Rattle.dsv_reader.specs.declared.numbers.Coefficient.{Coefficient}
 use Rattle.dsv_reader.specs.declared.fields.Values.{Values}
 use Rattle.dsv_reader.specs.Limits.{greatest_clock, greatest_cost}
-use Rattle.dsv_reader.specs.Numbers.{text_at, is_octal, only_of, whole_number_at}
-use Rattle.dsv_reader.specs.Numbers.{bounded_at, decimal_at, time_at, coefficients_of}
-
--- ---- kinds of values
--- one to nine decimals
-abbrev pub list_in : List ℕ → Entry → Result (List Coefficient) FileRefusal
-list_in bytes e = coefficients_of bytes e.place e.numbers
-
-abbrev pub whole_number_in : List ℕ → Entry → Result SpelledNumber FileRefusal
-whole_number_in bytes e = only_of e.place e.numbers >>= λ t. whole_number_at bytes t
-
-abbrev pub bounded_in : ℕ → ℕ → List ℕ → Entry → Result ℕ FileRefusal
-bounded_in least greatest bytes e = only_of e.place e.numbers
-    >>= λ t. bounded_at least greatest bytes t
-
-abbrev pub time_in : List ℕ → Entry → Result Ratio FileRefusal
-time_in bytes e = only_of e.place e.numbers >>= λ t. time_at bytes t
-
-abbrev pub decimal_in : List ℕ → Entry → Result Ratio FileRefusal
-decimal_in bytes e = only_of e.place e.numbers >>= λ t. decimal_at bytes t >>= λ c. Ok c.value
+use Rattle.dsv_reader.specs.Numbers.{text_at, is_octal}
+use Rattle.dsv_reader.specs.FieldValues.{list_in, whole_number_in, bounded_in, time_in, decimal_in}
 
 -- ---- which value a field has
 -- no field here has the label

@@ -1,7 +1,9 @@
 // The fields of a file and their values.
-ghost use Rattle.std.specs.Prelude.{◌≡◌, true};
+ghost use Rattle.std.specs.Prelude.{◌≡◌, ◌≤◌, true, IfOk};
 ghost use Rattle.dsv_token.specs.declared.refusal.FileRefusal.TheVariants.{FieldTwice};
-ghost use Rattle.dsv_reader.specs.Numbers.{only_of, coefficients_of};
+ghost use Rattle.dsv_reader.specs.Numbers.{only_of};
+ghost use Rattle.dsv_reader.specs.FieldValues.{list_in, whole_number_in, bounded_in};
+ghost use Rattle.dsv_reader.specs.FieldValues.{decimal_in, time_in};
 ghost use Rattle.dsv_reader.specs.Fields.{no_values, has_field, has_setting, system_field};
 ghost use Rattle.dsv_reader.specs.Fields.{implementation_field, is_cost};
 ghost use Rattle.dsv_reader.specs.Fields.{with_setting, hardware_field, field_read};
@@ -70,13 +72,11 @@ impl SystemFields {
         ensures { result ≡ system_field field bytes.now entry.now self }
     {
         match field {
-            Field::B => self.b = Some(list_of(bytes, entry)?),
-            Field::A => self.a = Some(list_of(bytes, entry)?),
-            Field::BSize => self.b_size = Some(whole_number_at(bytes, number_of(entry)?)?),
-            Field::ASize => self.a_size = Some(whole_number_at(bytes, number_of(entry)?)?),
-            Field::SampleTime => {
-                self.sample_time = Some(SampleTime::new(time_at(bytes, number_of(entry)?)?));
-            }
+            Field::B => self.b = Some(list_in(bytes, entry)?),
+            Field::A => self.a = Some(list_in(bytes, entry)?),
+            Field::BSize => self.b_size = Some(whole_number_in(bytes, entry)?),
+            Field::ASize => self.a_size = Some(whole_number_in(bytes, entry)?),
+            Field::SampleTime => self.sample_time = Some(time_in(bytes, entry)?),
             _ => (),
         }
         Ok(self)
@@ -89,11 +89,11 @@ impl ImplementationFields {
         ensures { result ≡ implementation_field field bytes.now entry.now self }
     {
         match field {
-            Field::IntBits => self.int_bits = Some(whole_number_at(bytes, number_of(entry)?)?),
-            Field::FracBits => self.frac_bits = Some(whole_number_at(bytes, number_of(entry)?)?),
-            Field::Max => self.max = Some(decimal_at(bytes, number_of(entry)?)?.value),
-            Field::Min => self.min = Some(decimal_at(bytes, number_of(entry)?)?.value),
-            Field::Delta => self.delta = Some(decimal_at(bytes, number_of(entry)?)?.value),
+            Field::IntBits => self.int_bits = Some(whole_number_in(bytes, entry)?),
+            Field::FracBits => self.frac_bits = Some(whole_number_in(bytes, entry)?),
+            Field::Max => self.max = Some(decimal_in(bytes, entry)?),
+            Field::Min => self.min = Some(decimal_in(bytes, entry)?),
+            Field::Delta => self.delta = Some(decimal_in(bytes, entry)?),
             _ => (),
         }
         Ok(self)
@@ -106,13 +106,13 @@ impl HardwareFields {
         ensures { result ≡ hardware_field setting bytes.now entry.now self }
     {
         if setting == Setting::Clock {
-            let value = bounded_at(1, GREATEST_CLOCK, bytes, number_of(entry)?)?;
+            let value = bounded_in(1, GREATEST_CLOCK, bytes, entry)?;
             return Ok(HardwareFields {
                 clock: Some(Clock::new(value)),
                 ..self
             });
         }
-        let value = bounded_at(0, GREATEST_COST, bytes, number_of(entry)?)?;
+        let value = bounded_in(0, GREATEST_COST, bytes, entry)?;
         Ok(self.with_cost(setting, Cost::new(value as u32)))
     }
 
@@ -136,8 +136,8 @@ impl HardwareFields {
 }
 
 /// The numbers of a field whose value is a list.
-fn list_of(bytes: &[u8], entry: &Entry) -> Result<Coefficients, FileRefusal>
-    ensures { result ≡ coefficients_of bytes.now entry.now.place entry.now.numbers }
+fn list_in(bytes: &[u8], entry: &Entry) -> Result<Coefficients, FileRefusal>
+    ensures { result ≡ list_in bytes.now entry.now }
 {
     coefficients_of(bytes, entry.place, entry.numbers.as_slice())
 }
@@ -147,6 +147,36 @@ fn number_of(entry: &Entry) -> Result<Token, FileRefusal>
     ensures { result ≡ only_of entry.now.place entry.now.numbers }
 {
     only_of(entry.place, entry.numbers.as_slice())
+}
+
+/// The whole number of a field that wants one.
+fn whole_number_in(bytes: &[u8], entry: &Entry) -> Result<SpelledNumber, FileRefusal>
+    ensures { result ≡ whole_number_in bytes.now entry.now }
+{
+    whole_number_at(bytes, number_of(entry)?)
+}
+
+/// The number of a field that wants one from `least` to `greatest`.
+fn bounded_in(least: u64, greatest: u64, bytes: &[u8], entry: &Entry) -> Result<u64, FileRefusal>
+    ensures value { result ≡ bounded_in least greatest bytes.now entry.now }
+    ensures least { IfOk result (λ n. least ≤ n) }
+    ensures greatest { IfOk result (λ n. n ≤ greatest) }
+{
+    bounded_at(least, greatest, bytes, number_of(entry)?)
+}
+
+/// The decimal of a field that wants one.
+fn decimal_in(bytes: &[u8], entry: &Entry) -> Result<Frac, FileRefusal>
+    ensures { result ≡ decimal_in bytes.now entry.now }
+{
+    Ok(decimal_at(bytes, number_of(entry)?)?.value)
+}
+
+/// The sample time of a field that wants one.
+fn time_in(bytes: &[u8], entry: &Entry) -> Result<SampleTime, FileRefusal>
+    ensures { result ≡ time_in bytes.now entry.now }
+{
+    Ok(SampleTime::new(time_at(bytes, number_of(entry)?)?))
 }
 
 impl Values {
