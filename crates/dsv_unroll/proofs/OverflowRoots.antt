@@ -1,5 +1,5 @@
 -- The start and the root of the goal of an overflow.
-use Rattle.std.proofs.Common.{◌≡◌, ◌∙◌, ℕ, Bool, List, [], Option, ap, subst, sym, length, replicate, refl}
+use Rattle.std.proofs.Common.{◌≡◌, ◌∙◌, ℕ, Bool, List, Option, ap, length, replicate, refl}
 use Rattle.std.specs.Prelude.{◌≤ℤ◌}
 use Rattle.std.proofs.Math.IntN.{ℤ}
 use Rattle.dsv_word.specs.Words.{width, lo, hi}
@@ -11,7 +11,7 @@ use Rattle.dsv_term.specs.Building.{Built, built_of, with_node}
 use Rattle.dsv_term.specs.TermsView.{TermsView}
 use Rattle.dsv_unroll.specs.declared.fitting.TestedTerm.{TestedTerm}
 use Rattle.dsv_unroll.specs.FactTests.{FactTerms, facts_from, is_long}
-use Rattle.dsv_unroll.specs.Goals.{InputTerms, RunTerms, run_from, run_tests, no_terms, conjunction_from, overflow_with}
+use Rattle.dsv_unroll.specs.Goals.{RunTerms, run_from, run_tests, no_terms, conjunction_from, overflow_with}
 use Rattle.dsv_unroll.specs.OverflowStart.{first_inputs}
 use Rattle.dsv_unroll.proofs.Breaking.{AreStarted, started_from}
 

@@ -2,7 +2,7 @@ use Rattle.std.proofs.Common.{◌∙◌, ap, sym, Some}
 use Rattle.dsv_term.specs.declared.node.TermId.{TermId}
 use Rattle.dsv_term.specs.declared.node.TermNode.TheVariants.{Or}
 use Rattle.dsv_term.specs.Building.{Built, with_node}
-use Rattle.dsv_unroll.specs.Rules.{CutTerms, Unrolled, cut_terms}
+use Rattle.dsv_unroll.specs.Rules.{CutTerms, Unrolled}
 use Rattle.dsv_unroll.proofs.Chains.{cut_made}
 use Rattle.dsv_unroll.proofs.fitting.cut_term.Goals as goal
 

@@ -1,4 +1,6 @@
-use Rattle.std.proofs.Common.{rules, refl, ap, length, ◌∙◌, List, Option}
+use Rattle.std.proofs.Common.{◌≡◌, ◌∙◌, ◌++◌, [], List, Option, length, drop, rules, arith, refl, ap, sym}
+use Rattle.std.proofs.lemmas.List.{append-nil, drop_all}
+use Rattle.dsv_term.specs.declared.node.TermId.{TermId}
 use Rattle.dsv_term.proofs.Made.{KeepsTerms-both}
 use Rattle.dsv_term.proofs.Building.{KeepsTerms-self}
 use Rattle.dsv_unroll.specs.declared.fitting.TestedTerm.{TestedTerm}
@@ -35,3 +37,23 @@ loop-x-preserved c =
 
 pub loop-x-init : goal.loop-x-init
 loop-x-init c = record { ready = search rules; kept = KeepsTerms-self c.args.terms.now; same = search rules; tests = search rules }
+
+pub returns-clause-built : goal.returns-clause-built
+returns-clause-built c =
+    let l = c.loop-x in
+    let s : RunTerms = record { terms = l.terms; registers = l.registers.items; broken = l.flag } in
+    let none : drop l.x-index c.args.inputs.now ≡ [] = drop_all l.x-index c.args.inputs.now (omega arith) in
+    sym (ap (λ (xs : List TermId). run_from c.args.net.now xs s) none) ∙ l.invariant.same
+
+pub returns-clause-tests : goal.returns-clause-tests
+returns-clause-tests c =
+    let l = c.loop-x in
+    let s : RunTerms = record { terms = l.terms; registers = l.registers.items; broken = l.flag } in
+    let none : drop l.x-index c.args.inputs.now ≡ [] = drop_all l.x-index c.args.inputs.now (omega arith) in
+    sym (append-nil l.tested.items) ∙ (sym (ap (λ (xs : List TermId). l.tested.items ++ run_tests c.args.net.now xs s) none) ∙ l.invariant.tests)
+
+pub returns-clause-kept : goal.returns-clause-kept
+returns-clause-kept c = c.loop-x.invariant.kept
+
+pub returns-clause-flag : goal.returns-clause-flag
+returns-clause-flag c = let r = c.loop-x.invariant.ready in record { stands = r.flag_stands; width = r.flag_bit }

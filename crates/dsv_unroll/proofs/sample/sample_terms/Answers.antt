@@ -1,9 +1,11 @@
-use Rattle.std.proofs.Common.{[], arith, rules, length, sym, subst, List, Option}
+use Rattle.std.proofs.Common.{◌≡◌, ◌∙◌, ◌++◌, [], arith, rules, length, drop, ap, sym, subst, List, Option}
+use Rattle.std.proofs.lemmas.List.{append-nil, drop_all}
+use Rattle.dsv_netlist.specs.declared.node.Node.{Node}
 use Rattle.dsv_netlist.specs.Conditions.{NamesBelow}
 use Rattle.dsv_term.specs.declared.node.TermId.{TermId}
 use Rattle.dsv_term.proofs.Building.{KeepsTerms-self}
 use Rattle.dsv_unroll.specs.declared.fitting.TestedTerm.{TestedTerm}
-use Rattle.dsv_unroll.specs.Goals.{SampleTerms, nodes_from, tests_from}
+use Rattle.dsv_unroll.specs.Goals.{SampleTerms, nodes_from, tests_from, sample_terms, sample_tests}
 use Rattle.dsv_unroll.specs.Rules.{Unrolled}
 use Rattle.dsv_unroll.proofs.SampleSteps.{named, node_step, entry_step}
 use Rattle.dsv_unroll.proofs.sample.sample_terms.Goals as goal
@@ -35,3 +37,27 @@ loop-i-preserved c =
 
 pub loop-i-init : goal.loop-i-init
 loop-i-init c = record { count = search rules; ready = search rules; kept = KeepsTerms-self c.args.terms.now; same = search rules; tests = search rules }
+
+pub returns-clause-built : goal.returns-clause-built
+unfolding sample_terms
+returns-clause-built c =
+    let l = c.loop-i in
+    let net = c.args.net.now in
+    let s : SampleTerms = record { terms = l.terms; ids = l.ids.items; broken = l.flag } in
+    let none : drop l.i net.nodes ≡ [] = drop_all l.i net.nodes (omega arith) in
+    sym (ap (λ (ns : List Node). nodes_from c.args.rule net c.args.registers.now c.args.x ns s) none) ∙ l.invariant.same
+
+pub returns-clause-tests : goal.returns-clause-tests
+unfolding sample_tests
+returns-clause-tests c =
+    let l = c.loop-i in
+    let net = c.args.net.now in
+    let s : SampleTerms = record { terms = l.terms; ids = l.ids.items; broken = l.flag } in
+    let none : drop l.i net.nodes ≡ [] = drop_all l.i net.nodes (omega arith) in
+    sym (append-nil l.tested.items) ∙ (sym (ap (λ (ns : List Node). l.tested.items ++ tests_from c.args.rule net c.args.registers.now c.args.x ns s) none) ∙ l.invariant.tests)
+
+pub returns-clause-kept : goal.returns-clause-kept
+returns-clause-kept c = c.loop-i.invariant.kept
+
+pub returns-clause-ready : goal.returns-clause-ready
+returns-clause-ready c = c.loop-i.invariant.ready

@@ -1,4 +1,6 @@
-use Rattle.std.proofs.Common.{[], refl}
+use Rattle.std.proofs.Common.{◌≡◌, ◌∙◌, [], List, drop, refl, ap, sym, arith}
+use Rattle.std.proofs.lemmas.List.{drop_all}
+use Rattle.dsv_term.specs.declared.node.TermId.{TermId}
 use Rattle.dsv_term.proofs.Made.{KeepsTerms-both}
 use Rattle.dsv_unroll.specs.Rules.{term_at}
 use Rattle.dsv_unroll.specs.SetGoals.{StateTerms, states_from}
@@ -23,3 +25,13 @@ loop-x-preserved c =
 
 pub returns-clause-kept : goal.returns-clause-kept
 returns-clause-kept c = KeepsTerms-both c.args.terms.now c.loop-x.terms c.with_state-2.new.terms c.loop-x.invariant.kept c.in_ok-states.ensures.kept
+
+pub returns-clause-built : goal.returns-clause-built
+returns-clause-built c =
+    let l = c.loop-x in
+    let s : StateTerms = record { terms = l.terms; registers = l.state.registers.items; inside = l.state.inside.items } in
+    let none : drop l.x-index c.args.inputs.now ≡ [] = drop_all l.x-index c.args.inputs.now (omega arith) in
+    c.in_ok-states.ensures.built ∙ (sym (ap (λ (xs : List TermId). states_from c.args.net.now c.args.nought c.args.candidate.now s xs) none) ∙ l.invariant.same)
+
+pub returns-clause-ready : goal.returns-clause-ready
+returns-clause-ready c = c.in_ok-states.ensures.ready
