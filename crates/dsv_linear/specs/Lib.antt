@@ -1,4 +1,5 @@
 pub mod Facts
 pub mod Forms
 pub mod Known
+pub mod NodeIntervals
 pub mod Meaning

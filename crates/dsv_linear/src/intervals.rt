@@ -3,6 +3,7 @@ ghost use Rattle.std.specs.Prelude.{◌≡◌, if◌then◌else◌, int_lt, Some
 ghost use Rattle.dsv_linear.specs.Known.{interval_at, rounded_end, rounded_range, cut_range};
 ghost use Rattle.dsv_linear.specs.Known.{node_interval, is_word, are_words, fact_of};
 ghost use Rattle.dsv_linear.specs.Known.{ends_at, node_fact};
+ghost use Rattle.dsv_linear.specs.NodeIntervals.{sum_interval, difference_interval};
 
 use crate::fact::Fact;
 use crate::form::form_range;
@@ -61,6 +62,20 @@ fn cut_range(format: &Format, range: &Range) -> Range
     Range::between(&low, &high)
 }
 
+/// The plain interval of the sum of the values of these numbers.
+fn sum_interval(estimates: &Items<Estimate>, left: u32, right: u32) -> Option<Range>
+    ensures { result ≡ sum_interval estimates.now left right }
+{
+    interval_at(estimates, left)?.plus(&interval_at(estimates, right)?)
+}
+
+/// The plain interval of the difference of the values of these numbers.
+fn difference_interval(estimates: &Items<Estimate>, left: u32, right: u32) -> Option<Range>
+    ensures { result ≡ difference_interval estimates.now left right }
+{
+    interval_at(estimates, left)?.minus(&interval_at(estimates, right)?)
+}
+
 /// The plain interval of what a node gives.
 pub(crate) fn node_interval(start: &Start, point: &Point, node: &Node) -> Option<Range>
     ensures { result ≡ node_interval start.now point.now node.now }
@@ -73,12 +88,8 @@ pub(crate) fn node_interval(start: &Start, point: &Point, node: &Node) -> Option
             interval_at(estimates, *of)?.times(NarrowInteger::from(*coeff))
         }
         Node::Round(of) => rounded_range(&start.format, &interval_at(estimates, *of)?),
-        Node::Add(left, right) => {
-            interval_at(estimates, *left)?.plus(&interval_at(estimates, *right)?)
-        }
-        Node::Sub(left, right) => {
-            interval_at(estimates, *left)?.minus(&interval_at(estimates, *right)?)
-        }
+        Node::Add(left, right) => sum_interval(estimates, *left, *right),
+        Node::Sub(left, right) => difference_interval(estimates, *left, *right),
         Node::Fit(of) => Some(cut_range(&start.format, &interval_at(estimates, *of)?)),
     }
 }
