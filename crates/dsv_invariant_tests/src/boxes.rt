@@ -23,34 +23,6 @@ fn shape(alloc: Global, controller: &'static str, frac_bits: u32) -> Option<Shap
     Some(shape_of(&q))
 }
 
-/// How many boxes are offered, where there is none after the end either.
-fn count_of(alloc: Global, shape: &Shape) -> Option<u32>
-    requires { IsLawful shape.now }
-{
-    let mut proposer = BoxProposer::new();
-    for count in 0..40 {
-        if proposer.propose(alloc, shape).ok()?.is_none() {
-            let after = proposer.propose(alloc, shape).ok()?;
-            return if after.is_none() { Some(count) } else { None };
-        }
-    }
-    None
-}
-
-#[test]
-fn sixteen_boxes_for_four_bits_and_thirty_two_for_sixteen(rt: HostRuntime) {
-    let alloc = rt.alloc();
-    let few = match shape(alloc, HALVES, 2) {
-        Some(shape) => count_of(alloc, &shape),
-        None => None,
-    };
-    let many = match shape(alloc, HALVES, 14) {
-        Some(shape) => count_of(alloc, &shape),
-        None => None,
-    };
-    assert!(rt; few == Some(16) && many == Some(32));
-}
-
 /// The box after so many others.
 fn box_after(alloc: Global, shape: &Shape, others: u32) -> Option<Candidate>
     requires { IsLawful shape.now }
@@ -62,66 +34,63 @@ fn box_after(alloc: Global, shape: &Shape, others: u32) -> Option<Candidate>
     proposer.propose(alloc, shape).ok()?
 }
 
+/// Whether so many boxes are offered, and none after them.
+fn are_boxes(alloc: Global, controller: &'static str, frac_bits: u32, count: u32) -> bool {
+    match shape(alloc, controller, frac_bits) {
+        Some(shape) => {
+            count > 0
+                && box_after(alloc, &shape, count - 1).is_some()
+                && box_after(alloc, &shape, count).is_none()
+                && box_after(alloc, &shape, count.saturating_add(1)).is_none()
+        }
+        None => false,
+    }
+}
+
+#[test]
+fn sixteen_boxes_for_four_bits_and_thirty_two_for_sixteen(rt: HostRuntime) {
+    let alloc = rt.alloc();
+    assert!(rt; are_boxes(alloc, HALVES, 2, 16) && are_boxes(alloc, HALVES, 14, 32));
+}
+
 /// Whether an inequality is this one.
 fn is_bound(inequality: &Inequality, bound: &Bound) -> bool {
-    inequality.coefficients.as_slice() == bound.coefficients.as_slice()
-        && inequality.bound == bound.most
+    inequality.coefficients.as_slice() == bound.0 && inequality.bound == bound.1
 }
 
 /// Whether a candidate is this one.
 fn is_offer(candidate: &Candidate, offer: &Offer) -> bool {
-    if candidate.depth != offer.depth || candidate.inequalities.len() != offer.bounds.len() {
-        return false;
-    }
-    let inequalities = candidate.inequalities.as_slice();
-    for (i, bound) in offer.bounds.iter().enumerate() {
-        match inequalities.get(i) {
-            Some(inequality) if is_bound(inequality, bound) => {}
-            _ => return false,
-        }
-    }
-    true
+    candidate.depth == offer.1
+        && candidate.inequalities.len() == offer.0.len()
+        && candidate
+            .inequalities
+            .as_slice()
+            .iter()
+            .zip(offer.0)
+            .all(|(inequality, bound)| is_bound(inequality, bound))
 }
 
 /// All words as outputs, and earlier inputs from 0 to 1.
-const FIRST: &[Bound] = &[
-    Bound {
-        coefficients: [1, 0],
-        most: 4,
-    },
-    Bound {
-        coefficients: [-1, 0],
-        most: 0,
-    },
-    Bound {
-        coefficients: [0, 1],
-        most: 7,
-    },
-    Bound {
-        coefficients: [0, -1],
-        most: 8,
-    },
-];
+const FIRST: Offer = Offer(
+    &[
+        Bound(&[1, 0], 4),
+        Bound(&[-1, 0], 0),
+        Bound(&[0, 1], 7),
+        Bound(&[0, -1], 8),
+    ],
+    1,
+);
 
 /// The outputs -1 and 0, and earlier inputs from 0 to 1.
-const LAST: &[Bound] = &[
-    Bound {
-        coefficients: [1, 0],
-        most: 4,
-    },
-    Bound {
-        coefficients: [-1, 0],
-        most: 0,
-    },
-    Bound {
-        coefficients: [0, 1],
-        most: 0,
-    },
-    Bound {
-        coefficients: [0, -1],
-        most: 1,
-    },
-];
+const LAST: Offer = Offer(
+    &[
+        Bound(&[1, 0], 4),
+        Bound(&[-1, 0], 0),
+        Bound(&[0, 1], 0),
+        Bound(&[0, -1], 1),
+    ],
+    8,
+);
 
 /// Whether the box after so many others, for inputs from 0.25 to 1, is this one.
 fn is_box(alloc: Global, others: u32, offer: &Offer) -> Option<bool> {
@@ -131,22 +100,7 @@ fn is_box(alloc: Global, others: u32, offer: &Offer) -> Option<bool> {
 
 #[test]
 fn boxes_of_a_range_without_zero_have_zero(rt: HostRuntime) {
-    let alloc = rt.alloc();
-    let first = is_box(
-        alloc,
-        0,
-        &Offer {
-            bounds: FIRST,
-            depth: 1,
-        },
-    );
-    let last = is_box(
-        alloc,
-        15,
-        &Offer {
-            bounds: LAST,
-            depth: 8,
-        },
-    );
-    assert!(rt; first == Some(true) && last == Some(true));
+    let first = is_box(rt.alloc(), 0, &FIRST) == Some(true);
+    let last = is_box(rt.alloc(), 15, &LAST) == Some(true);
+    assert!(rt; first && last);
 }

@@ -44,39 +44,34 @@ pub(crate) fn words_of(alloc: Global, design: &Design) -> Option<Quantised> {
     quantise(&controller, format, design.realisation).ok()
 }
 
-/// The inequality that the sum of each coefficient times its register is at most `most`.
+/// The inequality that the sum of each coefficient times its register is at most a number.
 #[derive(Clone, Copy)]
-pub(crate) struct Bound {
-    pub coefficients: [i64; 2],
-    pub most: i64,
-}
+pub(crate) struct Bound(pub &'static [i64], pub i64);
 
-/// A candidate over two registers.
+/// A candidate: its inequalities, and its depth.
 #[derive(Clone, Copy)]
-pub(crate) struct Offer {
-    pub bounds: &'static [Bound],
-    pub depth: u32,
-}
+pub(crate) struct Offer(pub &'static [Bound], pub u32);
 
 /// The inequality of a bound.
 fn inequality(bound: &Bound) -> Option<Inequality> {
     let mut coefficients = CoefficientList::new();
-    coefficients.try_push(bound.coefficients[0]).ok()?;
-    coefficients.try_push(bound.coefficients[1]).ok()?;
+    for coefficient in bound.0 {
+        coefficients.try_push(*coefficient).ok()?;
+    }
     Some(Inequality {
         coefficients,
-        bound: bound.most,
+        bound: bound.1,
     })
 }
 
 /// The candidate of an offer.
 pub(crate) fn candidate_of(offer: &Offer) -> Option<Candidate> {
     let mut inequalities = InequalityList::new();
-    for bound in offer.bounds {
+    for bound in offer.0 {
         inequalities.try_push(inequality(bound)?).ok()?;
     }
     Some(Candidate {
         inequalities,
-        depth: offer.depth,
+        depth: offer.1,
     })
 }

@@ -1,20 +1,13 @@
 //! Tests of what is found of candidates, and of the boxes that are built in, by public calls. What is
 //! wanted comes of going through all states and all inputs of a model of the written equation, or is
-//! worked out by hand.
+//! worked out by hand. That each break replays, and that the logs of a good candidate are accepted,
+//! are clauses of `check_candidate`.
 #![tactic(auto)]
 
 #[cfg(test)]
 mod boxes;
 #[cfg(test)]
 mod designs;
-#[cfg(test)]
-mod findings;
-#[cfg(test)]
-mod logs;
-#[cfg(test)]
-mod models;
-#[cfg(test)]
-mod replays;
 #[cfg(test)]
 mod shapes;
 #[cfg(test)]

@@ -27,58 +27,48 @@ fn design(controller: &'static str, bits: u32, realisation: Realisation) -> Desi
     }
 }
 
-/// What proposers are told of a controller in words of four bits.
-fn told(alloc: Global, controller: &'static str, realisation: Realisation) -> Option<Shape> {
-    let q = words_of(alloc, &design(controller, 2, realisation))?;
-    Some(shape_of(&q))
-}
+/// A controller in words of four bits, and of how many registers and earlier inputs proposers are
+/// told.
+struct Told(&'static str, Realisation, u32, u32);
 
-/// The shape of a controller of order 1 in words of four bits, with inputs from -1 to 1.
-fn small_shape(registers: u32, past_inputs: u32) -> Shape {
-    Shape {
-        registers,
-        past_inputs,
+const TOLD: [Told; 3] = [
+    Told(HALVES, Realisation::Dfi, 2, 1),
+    Told(HALVES, Realisation::Tdfii, 1, 0),
+    Told(DELTA_HALVES, Realisation::Ddfi, 2, 0),
+];
+
+/// Whether proposers are told so, of words of four bits and inputs from -1 to 1.
+fn is_told(alloc: Global, row: &Told) -> Option<bool> {
+    let q = words_of(alloc, &design(row.0, 2, row.1))?;
+    let wanted = Shape {
+        registers: row.2,
+        past_inputs: row.3,
         lo: -8,
         hi: 7,
         xlo: -4,
         xhi: 4,
-    }
+    };
+    Some(shape_of(&q) == wanted)
 }
 
 #[test]
 fn earlier_inputs_are_told_of_the_direct_form_one_alone(rt: HostRuntime) {
-    let alloc = rt.alloc();
-    assert!(rt; told(alloc, HALVES, Realisation::Dfi) == Some(small_shape(2, 1)));
-    assert!(rt; told(alloc, HALVES, Realisation::Tdfii) == Some(small_shape(1, 0)));
-    assert!(rt; told(alloc, DELTA_HALVES, Realisation::Ddfi) == Some(small_shape(2, 0)));
+    for row in &TOLD {
+        assert!(rt; is_told(rt.alloc(), row) == Some(true));
+    }
 }
 
-/// Why a controller of order 8 with 33 products in words of 32 bits is refused: by the size alone,
-/// and with a candidate whose depth is 0.
-fn refusals(alloc: Global) -> Option<(BoundedRefusal, BoundedRefusal)> {
+/// Whether a controller of order 8 with 33 products in words of 32 bits is refused for the size
+/// 9 * 33 * 32^2, by the size alone and with a candidate whose depth is 0.
+fn is_refused(alloc: Global) -> Option<bool> {
     let q = words_of(alloc, &design(EIGHTH, 16, Realisation::Ddfi))?;
-    let candidate = candidate_of(&Offer {
-        bounds: &[],
-        depth: 0,
-    })?;
-    let first = accept_unbounded(&q).err()?;
-    let second = check_candidate(alloc, &q, &candidate, 1).err()?;
-    Some((first, second))
+    let candidate = candidate_of(&Offer(&[], 0))?;
+    let refusal = BoundedRefusal::JobSize { size: 304_128 };
+    let alone = accept_unbounded(&q) == Err(refusal);
+    Some(alone && check_candidate(alloc, &q, &candidate, 1).err() == Some(refusal))
 }
 
-// 9 * 33 * 32^2
 #[test]
 fn a_job_that_is_too_large_is_refused_before_the_shape(rt: HostRuntime) {
-    let size = BoundedRefusal::JobSize { size: 304_128 };
-    assert!(rt; refusals(rt.alloc()) == Some((size, size)));
-}
-
-#[test]
-fn a_small_job_is_accepted(rt: HostRuntime) {
-    let q = words_of(rt.alloc(), &design(HALVES, 2, Realisation::Dfi));
-    let accepted = match q {
-        Some(q) => accept_unbounded(&q).is_ok(),
-        None => false,
-    };
-    assert!(rt; accepted);
+    assert!(rt; is_refused(rt.alloc()) == Some(true));
 }

@@ -1,303 +1,189 @@
-// What is found of a table of candidates, beside all states and all inputs of the model.
+// What is found of candidates. What is broken first was found by going through all states and all
+// inputs of a model of the written equation.
+ghost use Rattle.std.specs.Prelude.{◌≤◌, ◌^◌};
+
 use crate::designs::{ALTERNATING, Bound, Design, HALVES, Offer, SUMS, candidate_of, words_of};
-use crate::models::{Broken, Model};
-use crate::replays::broken_by;
 use dsv_invariant::check_candidate;
 use dsv_names::{OverflowMode, Realisation};
+use dsv_quantiser::Quantised;
+use dsv_template::{SetPart, Why};
 use std::alloc::Global;
-
-const CONFLICTS: u32 = 50_000;
 
 /// Inputs and outputs from -1 to 1, in words with two bits after the point.
 const UNIT_BOX: &[Bound] = &[
-    Bound {
-        coefficients: [1, 0],
-        most: 4,
-    },
-    Bound {
-        coefficients: [-1, 0],
-        most: 4,
-    },
-    Bound {
-        coefficients: [0, 1],
-        most: 4,
-    },
-    Bound {
-        coefficients: [0, -1],
-        most: 4,
-    },
+    Bound(&[1, 0], 4),
+    Bound(&[-1, 0], 4),
+    Bound(&[0, 1], 4),
+    Bound(&[0, -1], 4),
 ];
 
 /// Inputs from -1 to 1, and every output.
 const WIDE_BOX: &[Bound] = &[
-    Bound {
-        coefficients: [1, 0],
-        most: 4,
-    },
-    Bound {
-        coefficients: [-1, 0],
-        most: 4,
-    },
-    Bound {
-        coefficients: [0, 1],
-        most: 7,
-    },
-    Bound {
-        coefficients: [0, -1],
-        most: 8,
-    },
+    Bound(&[1, 0], 4),
+    Bound(&[-1, 0], 4),
+    Bound(&[0, 1], 7),
+    Bound(&[0, -1], 8),
 ];
 
 /// A box that is too small.
 const NARROW_BOX: &[Bound] = &[
-    Bound {
-        coefficients: [1, 0],
-        most: 4,
-    },
-    Bound {
-        coefficients: [-1, 0],
-        most: 4,
-    },
-    Bound {
-        coefficients: [0, 1],
-        most: 1,
-    },
-    Bound {
-        coefficients: [0, -1],
-        most: 2,
-    },
+    Bound(&[1, 0], 4),
+    Bound(&[-1, 0], 4),
+    Bound(&[0, 1], 1),
+    Bound(&[0, -1], 2),
 ];
 
 /// A box without zero.
-const AWAY: &[Bound] = &[Bound {
-    coefficients: [0, -1],
-    most: -1,
-}];
+const AWAY: &[Bound] = &[Bound(&[0, -1], -1)];
 
 /// Between two slanted lines.
-const SLANTED: &[Bound] = &[
-    Bound {
-        coefficients: [3, -2],
-        most: 9,
-    },
-    Bound {
-        coefficients: [-3, 2],
-        most: 9,
-    },
-    Bound {
-        coefficients: [1, 1],
-        most: 8,
-    },
-];
+const SLANTED: &[Bound] = &[Bound(&[3, -2], 9), Bound(&[-3, 2], 9), Bound(&[1, 1], 8)];
 
 /// On one side of a line.
-const ONE_SIDE: &[Bound] = &[Bound {
-    coefficients: [1, 2],
-    most: 12,
-}];
+const ONE_SIDE: &[Bound] = &[Bound(&[1, 2], 12)];
 
 /// Coefficients 0 alone.
-const ALL: &[Bound] = &[Bound {
-    coefficients: [0, 0],
-    most: 0,
-}];
+const ALL: &[Bound] = &[Bound(&[0, 0], 0)];
 
-const NONE: &[Bound] = &[Bound {
-    coefficients: [0, 0],
-    most: -1,
-}];
+const NONE: &[Bound] = &[Bound(&[0, 0], -1)];
 
 const OFFERS: [Offer; 17] = [
-    Offer {
-        bounds: UNIT_BOX,
-        depth: 1,
-    },
-    Offer {
-        bounds: UNIT_BOX,
-        depth: 2,
-    },
-    Offer {
-        bounds: WIDE_BOX,
-        depth: 1,
-    },
-    Offer {
-        bounds: WIDE_BOX,
-        depth: 2,
-    },
-    Offer {
-        bounds: NARROW_BOX,
-        depth: 1,
-    },
-    Offer {
-        bounds: NARROW_BOX,
-        depth: 2,
-    },
-    Offer {
-        bounds: AWAY,
-        depth: 1,
-    },
-    Offer {
-        bounds: AWAY,
-        depth: 2,
-    },
-    Offer {
-        bounds: SLANTED,
-        depth: 1,
-    },
-    Offer {
-        bounds: SLANTED,
-        depth: 2,
-    },
-    Offer {
-        bounds: ONE_SIDE,
-        depth: 1,
-    },
-    Offer {
-        bounds: ONE_SIDE,
-        depth: 2,
-    },
-    Offer {
-        bounds: ALL,
-        depth: 1,
-    },
-    Offer {
-        bounds: ALL,
-        depth: 2,
-    },
-    Offer {
-        bounds: NONE,
-        depth: 1,
-    },
-    Offer {
-        bounds: &[],
-        depth: 1,
-    },
-    Offer {
-        bounds: &[],
-        depth: 2,
-    },
+    Offer(UNIT_BOX, 1),
+    Offer(UNIT_BOX, 2),
+    Offer(WIDE_BOX, 1),
+    Offer(WIDE_BOX, 2),
+    Offer(NARROW_BOX, 1),
+    Offer(NARROW_BOX, 2),
+    Offer(AWAY, 1),
+    Offer(AWAY, 2),
+    Offer(SLANTED, 1),
+    Offer(SLANTED, 2),
+    Offer(ONE_SIDE, 1),
+    Offer(ONE_SIDE, 2),
+    Offer(ALL, 1),
+    Offer(ALL, 2),
+    Offer(NONE, 1),
+    Offer(&[], 1),
+    Offer(&[], 2),
 ];
 
-/// A controller in words, and its model.
-#[derive(Clone, Copy)]
-struct Case {
-    design: Design,
-    model: Model,
-}
+/// A controller, the bits of its words after the point, whether they saturate, and what is found of
+/// each offer in its order: it is good, or the base, the step or the safe sentence is broken first.
+struct Case(&'static str, u32, OverflowMode, &'static [u8]);
 
-/// A controller in words of four bits.
-fn four_bits(controller: &'static str, b: [i64; 2], a: i64, least: i64, saturates: bool) -> Case {
-    Case {
-        design: Design {
-            controller,
-            int_bits: 2,
-            frac_bits: 2,
-            realisation: Realisation::Dfi,
-            overflow: if saturates {
-                OverflowMode::Saturate
-            } else {
-                OverflowMode::Wrap
-            },
-        },
-        model: Model {
-            b,
-            a,
-            frac_bits: 2,
-            count: 16,
-            lo: -8,
-            hi: 7,
-            saturates,
-            least,
-            greatest: 4,
-        },
+const CASES: [Case; 8] = [
+    Case(HALVES, 2, OverflowMode::Wrap, b"GGGGLBBBLLLLGGBGG"),
+    Case(HALVES, 2, OverflowMode::Saturate, b"GGGGLBBBLLLLGGBGG"),
+    Case(SUMS, 2, OverflowMode::Wrap, b"LLUULBBBLLLLUUBUU"),
+    Case(SUMS, 2, OverflowMode::Saturate, b"LLUULBBBLLLLUUBUU"),
+    Case(ALTERNATING, 2, OverflowMode::Wrap, b"LGGGLBBBLLLLGGBGG"),
+    Case(ALTERNATING, 2, OverflowMode::Saturate, b"LGGGLBBBLLLLGGBGG"),
+    Case(HALVES, 1, OverflowMode::Wrap, b"GGGGLLBBGGGGGGBGG"),
+    Case(HALVES, 1, OverflowMode::Saturate, b"GGGGLLBBGGGGGGBGG"),
+];
+
+/// A controller in words with two bits before the point, as the direct form I.
+fn design(controller: &'static str, frac_bits: u32, overflow: OverflowMode) -> Design {
+    Design {
+        controller,
+        int_bits: 2,
+        frac_bits,
+        realisation: Realisation::Dfi,
+        overflow,
     }
 }
 
-/// A controller in words of three bits.
-fn three_bits(controller: &'static str, b: [i64; 2], a: i64, saturates: bool) -> Case {
-    Case {
-        design: Design {
-            controller,
-            int_bits: 2,
-            frac_bits: 1,
-            realisation: Realisation::Dfi,
-            overflow: if saturates {
-                OverflowMode::Saturate
-            } else {
-                OverflowMode::Wrap
-            },
-        },
-        model: Model {
-            b,
-            a,
-            frac_bits: 1,
-            count: 8,
-            lo: -4,
-            hi: 3,
-            saturates,
-            least: -2,
-            greatest: 2,
-        },
-    }
-}
-
-/// What is broken of an offer, as it is found and replays.
-fn found_broken(alloc: Global, case: &Case, offer: &Offer) -> Option<Broken> {
-    let q = words_of(alloc, &case.design)?;
+/// What is found of an offer.
+fn finding(alloc: Global, q: &Quantised, offer: &Offer, conflicts: u32) -> Option<Why>
+    requires some { 1 ≤ conflicts }
+    requires few { conflicts ≤ 2 ^ 30 }
+{
     let candidate = candidate_of(offer)?;
-    let why = check_candidate(alloc, &q, &candidate, CONFLICTS).ok()?;
-    broken_by(&case.model, offer, &why)
+    check_candidate(alloc, q, &candidate, conflicts).ok()
 }
 
-/// Whether what is found of all offers is what the model says.
-fn are_right(alloc: Global, case: &Case) -> bool {
-    for offer in &OFFERS {
-        if found_broken(alloc, case, offer) != Some(case.model.broken(offer)) {
-            return false;
+/// The letter of what is found of an offer.
+fn letter(alloc: Global, q: &Quantised, offer: &Offer) -> u8 {
+    match finding(alloc, q, offer, 50_000) {
+        Some(Why::Good(_)) => b'G',
+        Some(Why::Base { .. }) => b'B',
+        Some(Why::Leaves { .. }) => b'L',
+        Some(Why::Unsafe { .. }) => b'U',
+        _ => b'?',
+    }
+}
+
+/// Whether these are the letters of all offers.
+fn are_letters(alloc: Global, q: &Quantised, letters: &[u8]) -> bool {
+    letters.len() == OFFERS.len()
+        && OFFERS
+            .iter()
+            .zip(letters)
+            .all(|(offer, wanted)| letter(alloc, q, offer) == *wanted)
+}
+
+fn is_right(alloc: Global, case: &Case) -> bool {
+    match words_of(alloc, &design(case.0, case.1, case.2)) {
+        Some(q) => are_letters(alloc, &q, case.3),
+        None => false,
+    }
+}
+
+#[test]
+fn candidates_are_judged_as_a_model_says(rt: HostRuntime) {
+    for case in &CASES {
+        assert!(rt; is_right(rt.alloc(), case));
+    }
+}
+
+/// Inputs and outputs from -1 to 1, in words with 14 bits after the point.
+const FINE_BOX: Offer = Offer(
+    &[
+        Bound(&[1, 0], 16384),
+        Bound(&[-1, 0], 16384),
+        Bound(&[0, 1], 16384),
+        Bound(&[0, -1], 16384),
+    ],
+    1,
+);
+
+/// Whether a search that may learn one clause gives up on the step or the safe sentence. The base
+/// asks of registers of zeros alone, and holds.
+fn is_spent(alloc: Global) -> Option<bool> {
+    let q = words_of(alloc, &design(HALVES, 14, OverflowMode::Wrap))?;
+    match finding(alloc, &q, &FINE_BOX, 1)? {
+        Why::Spent { part, log } => Some(part != SetPart::Base && log.len() == 1),
+        _ => Some(false),
+    }
+}
+
+#[test]
+fn a_search_gives_up_after_one_clause(rt: HostRuntime) {
+    assert!(rt; is_spent(rt.alloc()) == Some(true));
+}
+
+/// Depths, a coefficient and a bound that are out of range, and a coefficient for one of two
+/// registers alone.
+const BAD: [Offer; 5] = [
+    Offer(WIDE_BOX, 0),
+    Offer(WIDE_BOX, 9),
+    Offer(&[Bound(&[0, 16_777_217], 0)], 1),
+    Offer(&[Bound(&[0, 1], 1_152_921_504_606_846_977)], 1),
+    Offer(&[Bound(&[1], 0)], 1),
+];
+
+/// Whether the numbers of no such offer are as they have to be.
+fn are_bad(alloc: Global) -> Option<bool> {
+    let q = words_of(alloc, &design(HALVES, 2, OverflowMode::Wrap))?;
+    for offer in &BAD {
+        if !matches!(finding(alloc, &q, offer, 1), Some(Why::BadShape)) {
+            return Some(false);
         }
     }
-    true
-}
-
-/// Whether this is found of some offer.
-fn comes(alloc: Global, case: &Case, wanted: Broken) -> bool {
-    for offer in &OFFERS {
-        if found_broken(alloc, case, offer) == Some(wanted) {
-            return true;
-        }
-    }
-    false
+    Some(true)
 }
 
 #[test]
-fn each_verdict_comes(rt: HostRuntime) {
-    let alloc = rt.alloc();
-    let halves = four_bits(HALVES, [2, 0], -2, -4, false);
-    let sums = four_bits(SUMS, [4, 0], -4, -4, false);
-    assert!(rt; comes(alloc, &halves, Broken::Nothing) && comes(alloc, &halves, Broken::Base));
-    assert!(rt; comes(alloc, &halves, Broken::Step) && comes(alloc, &sums, Broken::Safe));
-}
-
-#[test]
-fn halves_are_judged_as_the_model_says(rt: HostRuntime) {
-    assert!(rt; are_right(rt.alloc(), &four_bits(HALVES, [2, 0], -2, -4, false)));
-    assert!(rt; are_right(rt.alloc(), &four_bits(HALVES, [2, 0], -2, -4, true)));
-}
-
-#[test]
-fn sums_are_judged_as_the_model_says(rt: HostRuntime) {
-    assert!(rt; are_right(rt.alloc(), &four_bits(SUMS, [4, 0], -4, -4, false)));
-    assert!(rt; are_right(rt.alloc(), &four_bits(SUMS, [4, 0], -4, -4, true)));
-}
-
-#[test]
-fn a_range_without_zero_is_judged_as_the_model_says(rt: HostRuntime) {
-    assert!(rt; are_right(rt.alloc(), &four_bits(ALTERNATING, [2, 1], 2, 1, false)));
-    assert!(rt; are_right(rt.alloc(), &four_bits(ALTERNATING, [2, 1], 2, 1, true)));
-}
-
-#[test]
-fn words_of_three_bits_are_judged_as_the_model_says(rt: HostRuntime) {
-    assert!(rt; are_right(rt.alloc(), &three_bits(HALVES, [1, 0], -1, false)));
-    assert!(rt; are_right(rt.alloc(), &three_bits(HALVES, [1, 0], -1, true)));
+fn a_bad_shape_is_told(rt: HostRuntime) {
+    assert!(rt; are_bad(rt.alloc()) == Some(true));
 }
