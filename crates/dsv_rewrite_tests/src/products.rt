@@ -1,9 +1,7 @@
 // Products by constants: sums of as many shifted copies as the constant has signed digits.
-use crate::rules::root_value;
 use dsv_rewrite::simplify;
 use dsv_term::{Goal, MAX_WIDTH, TermNode, Terms};
 use std::alloc::Global;
-use std::test::Fail;
 
 /// The greatest coefficient that is tried, and that of the least's size.
 const GREATEST: i64 = 512;
@@ -19,6 +17,12 @@ fn goal_of(alloc: Global, width: u32, coeff: i64) -> Option<Goal> {
     let product = terms.mul_const(x, coeff).ok()?;
     let root = terms.eq(product, answer).ok()?;
     Goal::new(alloc, terms, root).ok()
+}
+
+/// The goal made simpler.
+fn simple_of(alloc: Global, width: u32, coeff: i64) -> Option<Goal> {
+    let goal = goal_of(alloc, width, coeff)?;
+    simplify(alloc, &goal).ok()
 }
 
 /// How many copies are added or taken away after the first, where no product is left.
@@ -43,66 +47,45 @@ fn digits_of(width: u32, coeff: i64) -> u32 {
     below.count_ones()
 }
 
-/// Whether the root is 1 at this input and its product alone.
-fn is_right_at(alloc: Global, goal: &Goal, width: u32, coeff: i64, x: u32) -> bool {
-    let count = 1i64 << width.min(12);
-    let small = coeff.clamp(-1024, 1024);
-    let value = i64::from(x % 4096) % count;
-    let product = (small * value).rem_euclid(count).unsigned_abs();
-    let x = u128::from(value.unsigned_abs());
-    let met = root_value(alloc, goal, &[x, u128::from(product)]);
-    let missed = root_value(alloc, goal, &[x, u128::from(product ^ 1)]);
-    met == Some(1) && missed == Some(0)
+/// Whether the product has as many copies as the coefficient has digits.
+fn is_right(alloc: Global, width: u32, coeff: i64) -> bool {
+    let copies = digits_of(width, coeff).saturating_sub(1);
+    match simple_of(alloc, width, coeff) {
+        Some(goal) => count_of(&goal) == Some(copies),
+        None => false,
+    }
 }
 
-/// Whether the product is right at some inputs, and has so many copies.
-fn is_right(alloc: Global, width: u32, coeff: i64) -> Option<bool> {
-    let old = goal_of(alloc, width, coeff)?;
-    let new = simplify(alloc, &old).ok()?;
-    let copies = count_of(&new)?;
-    let right = [1, 5, 21, 4095]
-        .iter()
-        .all(|x| is_right_at(alloc, &new, width, coeff, *x));
-    Some(right && copies == digits_of(width, coeff).saturating_sub(1))
-}
-
-/// The first coefficient whose product isn't right.
-fn first_wrong(alloc: Global, width: u32) -> Option<i64> {
+/// Whether the products by all coefficients have as many copies.
+fn are_right(alloc: Global, width: u32) -> bool {
     for coeff in -GREATEST..=GREATEST {
-        if is_right(alloc, width, coeff) != Some(true) {
-            return Some(coeff);
+        if !is_right(alloc, width, coeff) {
+            return false;
         }
     }
-    None
+    true
 }
 
 #[test]
-fn products_at_six_bits(rt: HostRuntime) -> Result<(), Fail> {
-    let wrong = first_wrong(rt.alloc(), 6);
-    assert!(rt; wrong.is_none(), "{}", wrong.unwrap_or(0));
-    Ok(())
+fn products_at_six_and_at_twelve_bits(rt: HostRuntime) {
+    assert!(rt; are_right(rt.alloc(), 6) && are_right(rt.alloc(), 12));
 }
 
-#[test]
-fn products_at_twelve_bits(rt: HostRuntime) -> Result<(), Fail> {
-    let wrong = first_wrong(rt.alloc(), 12);
-    assert!(rt; wrong.is_none(), "{}", wrong.unwrap_or(0));
-    Ok(())
+/// Whether a goal has no copies, and the constant 0.
+fn has_nought(goal: &Goal, width: u32) -> bool {
+    let zero = TermNode::Constant { width, value: 0 };
+    count_of(goal) == Some(0) && goal.terms.nodes().contains(&zero)
 }
 
 /// Whether the product is the constant 0.
-fn is_nought(alloc: Global, width: u32, coeff: i64) -> Option<bool> {
-    let old = goal_of(alloc, width, coeff)?;
-    let new = simplify(alloc, &old).ok()?;
-    let zero = TermNode::Constant { width, value: 0 };
-    Some(count_of(&new)? == 0 && new.terms.nodes().contains(&zero))
+fn is_nought(alloc: Global, width: u32, coeff: i64) -> bool {
+    match simple_of(alloc, width, coeff) {
+        Some(goal) => has_nought(&goal, width),
+        None => false,
+    }
 }
 
 #[test]
-fn a_coefficient_without_low_bits_gives_nought(rt: HostRuntime) -> Result<(), Fail> {
-    let alloc = rt.alloc();
-    let six = is_nought(alloc, 6, -128) == Some(true);
-    let four = is_nought(alloc, 4, 48) == Some(true);
-    assert!(rt; six && four);
-    Ok(())
+fn a_coefficient_without_low_bits_gives_nought(rt: HostRuntime) {
+    assert!(rt; is_nought(rt.alloc(), 6, -128) && is_nought(rt.alloc(), 4, 48));
 }
