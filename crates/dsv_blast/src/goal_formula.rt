@@ -1,10 +1,10 @@
 // The formula of a goal, and the input values that a model of it gives.
-ghost use Rattle.std.specs.Prelude.{◌≡◌, ◌+◌, ◌<◌, ◌≤◌, ◌^◌, length, map, All, IfOk};
+ghost use Rattle.std.specs.Prelude.{◌≡◌, ◌+◌, ◌<◌, ◌≤◌, ◌^◌, [], length, map, All, IfOk, OnOk};
 ghost use Rattle.dsv_cnf.specs.Formula.{IsOver};
 ghost use Rattle.dsv_term.specs.Terms.{AreTerms};
 ghost use Rattle.dsv_term.specs.Word.{IsWidth};
 ghost use Rattle.dsv_blast.specs.Blast.{run_from, places_from, total, input_places, blast_of};
-ghost use Rattle.dsv_blast.specs.Blast.{cnf_of, IsExact, IsDecisive};
+ghost use Rattle.dsv_blast.specs.Blast.{first_circuit, cnf_of, IsExact, IsDecisive};
 
 use crate::circuit::{Circuit, MAX_VARIABLES};
 use crate::places::BitPlaces;
@@ -70,6 +70,28 @@ struct Wiring {
     bits: BitPlaces,
 }
 
+/// The gates of all terms, after those of none.
+fn wire_nodes(
+    alloc: Global,
+    terms: &Terms,
+    places: &BitPlaces,
+    circuit: &mut Circuit,
+    bits: &mut BitPlaces,
+) -> Result<(), NoMemory>
+    requires places { places.now ≡ input_places terms.now }
+    requires none { circuit.old ≡ first_circuit (total terms.now.inputs) }
+    requires no_bits { bits.old ≡ [] }
+    ensures circuit { OnOk result (circuit.new ≡ (blast_of terms.now).circuit) }
+    ensures bits { OnOk result (bits.new ≡ (blast_of terms.now).bits) }
+    ensures terms { OnOk result (AreTerms terms.now) }
+{
+    for node in terms.nodes() {
+        let word = node_bits(alloc, circuit, places, bits, *node)?;
+        bits.push(word.as_slice())?;
+    }
+    Ok(())
+}
+
 /// The gates of all terms.
 fn wire(alloc: Global, terms: &Terms) -> Result<Wiring, NoMemory>
     ensures circuit { IfOk result (λ w. w.circuit ≡ (blast_of terms.now).circuit) }
@@ -77,16 +99,13 @@ fn wire(alloc: Global, terms: &Terms) -> Result<Wiring, NoMemory>
     ensures places { IfOk result (λ w. w.places ≡ input_places terms.now) }
     ensures terms { IfOk result (λ _. AreTerms terms.now) }
 {
-    let placed = place_inputs(alloc, terms.inputs())?;
-    let mut circuit = Circuit::new(alloc, placed.vars)?;
+    let Placed { places, vars } = place_inputs(alloc, terms.inputs())?;
     let mut bits = BitPlaces::new(alloc)?;
-    for node in terms.nodes() {
-        let word = node_bits(alloc, &mut circuit, &placed.places, &bits, *node)?;
-        bits.push(word.as_slice())?;
-    }
+    let mut circuit = Circuit::new(alloc, vars)?;
+    wire_nodes(alloc, terms, &places, &mut circuit, &mut bits)?;
     Ok(Wiring {
         circuit,
-        places: placed.places,
+        places,
         bits,
     })
 }

@@ -1,22 +1,21 @@
-use Rattle.std.proofs.Common.{◌≡◌, ◌∙◌, [], length, ◌<◌}
+use Rattle.std.proofs.Common.{◌<◌, ◌∙◌, refl, length}
+use Rattle.dsv_blast.specs.Blast.{total}
 use Rattle.dsv_blast.proofs.Wiring.{next-start, blast-start, next-at, blast-at}
-use Rattle.dsv_blast.proofs.goal_formula.wire.Goals as goal
+use Rattle.dsv_blast.proofs.goal_formula.wire_nodes.Goals as goal
 
 pub loop-node-init : goal.loop-node-init
 loop-node-init c =
-    let placed = c.in_ok-placed.placed in
-    let places = rw c.inputs.ensures.inputs at c.in_ok-placed.ensures.places in
-    let vars = rw c.inputs.ensures.inputs at c.in_ok-placed.ensures.vars in
-    let none : c.in_ok-bits.bits ≡ [] = c.in_ok-bits.ensures in
+    let t = c.args.terms.now in
+    let r = c.requires in
     record {
-      known = next-start c.args.terms.now placed.places c.in_ok-bits.bits placed.vars c.in_ok-circuit.circuit c.nodes-node-items.ensures.terms places vars c.in_ok-circuit.ensures none;
-      rest = blast-start c.args.terms.now placed.places c.in_ok-bits.bits placed.vars c.in_ok-circuit.circuit places vars c.in_ok-circuit.ensures none;
+      known = next-start t c.args.places.now c.args.bits.now (total t.inputs) c.args.circuit.now c.nodes-node-items.ensures.terms r.places refl r.none r.no_bits;
+      rest = blast-start t c.args.places.now c.args.bits.now (total t.inputs) c.args.circuit.now r.places refl r.none r.no_bits;
     }
 
 pub loop-node-preserved : goal.loop-node-preserved
 loop-node-preserved c =
     let t = c.args.terms.now in
-    let places = c.in_ok-placed.placed.places in
+    let places = c.args.places.now in
     let i = c.loop-node.node-index in
     let inside : i < length t.nodes = rw c.nodes-node-items.ensures.nodes at c.loop-node-test.true in
     let circuit = rw c.nodes-node-items.ensures.nodes at c.in_ok-word.ensures.circuit in
