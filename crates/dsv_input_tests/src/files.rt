@@ -34,7 +34,7 @@ hardware board = {
 ";
 
 /// What a refusal says besides its offset.
-#[derive(Clone, Copy, Debug, PartialEq, Eq)]
+#[derive(Clone, Copy)]
 pub enum Fault {
     Token,
     Unexpected(Wanted),
@@ -96,14 +96,6 @@ pub fn is_refused(alloc: Global, text: &str, fault: Fault) -> bool {
 pub fn are_refused(alloc: Global, blocks: &Blocks, fault: Fault) -> bool {
     match file_of(alloc, blocks) {
         Ok(text) => is_refused(alloc, text.as_str(), fault),
-        Err(_) => false,
-    }
-}
-
-/// Whether the file of these blocks is read.
-pub fn are_read(alloc: Global, blocks: &Blocks) -> bool {
-    match file_of(alloc, blocks) {
-        Ok(text) => read(alloc, text.as_bytes()).is_ok(),
         Err(_) => false,
     }
 }

@@ -2,31 +2,30 @@
 use crate::files::{Blocks, Fault, IMPLEMENTATION, SYSTEM, are_refused};
 use std::alloc::Global;
 
-const SYSTEMS: [&str; 23] = [
-    ".b={^07}",
-    ".b={1,^00}",
-    ".a={^-07}",
-    ".a={^+0123}",
-    ".b={^1e31}",
-    ".b={^1e-31}",
-    ".b={^1e99999999999999999999}",
-    ".b={^1234567890123456789}",
-    ".b={^0000000000000000001.}",
-    ".b_size=^01",
-    ".b_size=^+1",
-    ".b_size=^-1",
-    ".b_size=^1.",
-    ".b_size=^1e0",
-    ".a_size=^1L",
-    ".a_size=^1000000000000000000",
-    ".sample_time=^0",
-    ".sample_time=^-1",
-    ".sample_time=^07",
-    ".sample_time=^1e31",
-    ".sample_time=^461168601842738791e1",
-    ".sample_time=^1e-19",
-    ".sample_time=^999999999999999999e30",
-];
+const SYSTEMS: &str = "\
+.b={^07}\n\
+.b={1,^00}\n\
+.a={^-07}\n\
+.a={^+0123}\n\
+.b={^1e31}\n\
+.b={^1e-31}\n\
+.b={^1e99999999999999999999}\n\
+.b={^1234567890123456789}\n\
+.b={^0000000000000000001.}\n\
+.b_size=^01\n\
+.b_size=^+1\n\
+.b_size=^-1\n\
+.b_size=^1.\n\
+.b_size=^1e0\n\
+.a_size=^1L\n\
+.a_size=^1000000000000000000\n\
+.sample_time=^0\n\
+.sample_time=^-1\n\
+.sample_time=^07\n\
+.sample_time=^1e31\n\
+.sample_time=^461168601842738791e1\n\
+.sample_time=^1e-19\n\
+.sample_time=^999999999999999999e30";
 
 fn is_wrong_number(alloc: Global, blocks: &Blocks) -> bool {
     are_refused(alloc, blocks, Fault::Number)
@@ -34,7 +33,7 @@ fn is_wrong_number(alloc: Global, blocks: &Blocks) -> bool {
 
 #[test]
 fn numbers_of_the_system(rt: HostRuntime) {
-    for text in &SYSTEMS {
+    for text in SYSTEMS.lines() {
         assert!(rt; is_wrong_number(rt.alloc(), &Blocks(text, IMPLEMENTATION, "")));
     }
 }

@@ -4,7 +4,6 @@ use dsv_names::{Block, Field, Setting};
 use dsv_syntax::parse;
 use dsv_token::{FileRefusal, Token, TokenKind, Word, check_text, lex};
 use std::alloc::Global;
-use std::test::Fail;
 
 /// Bytes, and the offset of the first that isn't UTF-8.
 #[derive(Clone, Copy)]
@@ -115,7 +114,7 @@ const MIXED: &str = "\r\t # 1 /*\n{.b=x.5,1+2;} //*\n..5/**/_d1";
 #[derive(Clone, Copy)]
 struct Piece(TokenKind, usize, usize);
 
-const MIXED_TOKENS: [Piece; 14] = [
+const MIXED_TOKENS: &[Piece] = &[
     Piece(TokenKind::Open, 10, 1),
     Piece(TokenKind::Dot, 11, 1),
     Piece(TokenKind::Name(Word::Field(Field::B)), 12, 1),
@@ -145,26 +144,29 @@ fn are_tokens(tokens: &[Token], pieces: &[Piece]) -> bool {
             .all(|(token, piece)| is_token(*token, piece))
 }
 
-#[test]
-fn tokens_and_what_stands_between(rt: HostRuntime) -> Result<(), Fail> {
-    let tokens = lex(rt.alloc(), MIXED.as_bytes())?;
-    assert!(rt; are_tokens(tokens.as_slice(), MIXED_TOKENS.as_slice()));
-    Ok(())
+/// Whether the tokens of a text are these pieces.
+fn has_tokens(alloc: Global, text: &str, pieces: &[Piece]) -> bool {
+    match lex(alloc, text.as_bytes()) {
+        Ok(tokens) => are_tokens(tokens.as_slice(), pieces),
+        Err(_) => false,
+    }
 }
 
 #[test]
-fn the_sample_has_107_tokens(rt: HostRuntime) -> Result<(), Fail> {
-    let tokens = lex(rt.alloc(), SAMPLE.as_bytes())?;
-    assert_eq!(rt; tokens.as_slice().len(), 107);
-    Ok(())
+fn tokens_and_what_stands_between(rt: HostRuntime) {
+    assert!(rt; has_tokens(rt.alloc(), MIXED, MIXED_TOKENS));
+}
+
+/// Whether the sample has 107 tokens and 12 fields.
+fn is_counted(alloc: Global) -> Option<bool> {
+    let tokens = lex(alloc, SAMPLE.as_bytes()).ok()?;
+    let syntax = parse(alloc, SAMPLE.len(), tokens.as_slice()).ok()?;
+    Some(tokens.as_slice().len() == 107 && syntax.entries.as_slice().len() == 12)
 }
 
 #[test]
-fn the_sample_has_12_fields(rt: HostRuntime) -> Result<(), Fail> {
-    let tokens = lex(rt.alloc(), SAMPLE.as_bytes())?;
-    let syntax = parse(rt.alloc(), SAMPLE.len(), tokens.as_slice())?;
-    assert_eq!(rt; syntax.entries.as_slice().len(), 12);
-    Ok(())
+fn the_sample_has_107_tokens_and_12_fields(rt: HostRuntime) {
+    assert!(rt; is_counted(rt.alloc()) == Some(true));
 }
 
 /// A name, and the word that it is.
@@ -200,10 +202,7 @@ const NAMES: [Name; 22] = [
 fn is_word(alloc: Global, row: &Name) -> bool {
     let Name(name, word) = *row;
     let piece = Piece(TokenKind::Name(word), 0, name.len());
-    match lex(alloc, name.as_bytes()) {
-        Ok(tokens) => are_tokens(tokens.as_slice(), &[piece]),
-        Err(_) => false,
-    }
+    has_tokens(alloc, name, &[piece])
 }
 
 #[test]
