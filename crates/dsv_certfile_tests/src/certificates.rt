@@ -4,7 +4,6 @@ use dsv_certfile::{Certificate, read, write};
 use dsv_cnf::Lit;
 use dsv_hints::Step;
 use std::alloc::Global;
-use std::test::Fail;
 
 /// A form of two places that falls, with its squares.
 const FALLING_FORM: &str = "dsv-certificate 1\n\
@@ -24,7 +23,7 @@ const FALLING_FORM: &str = "dsv-certificate 1\n\
     rest 0 0\n\
     end\n";
 
-const TEXTS: [&str; 10] = [
+const TEXTS: &[&str] = &[
     FALLING_FORM,
     "dsv-certificate 1\n\
     job STABILITY DFI FLOOR WRAPAROUND\n\
@@ -82,19 +81,18 @@ const TEXTS: [&str; 10] = [
 ];
 
 /// Whether the text is that of a certificate, and what is written of that is the text.
-fn is_written_back(alloc: Global, text: &str) -> Result<bool, Fail> {
-    let certificate = read(alloc, text.as_bytes())?;
-    let mut sink = MemSink::new(alloc, 1024)?;
-    write(&certificate, &mut sink)?;
-    Ok(sink.bytes() == text.as_bytes())
+fn is_written_back(alloc: Global, text: &str) -> Option<bool> {
+    let mut sink = MemSink::new(alloc, 1024).ok()?;
+    let certificate = read(alloc, text.as_bytes()).ok()?;
+    write(&certificate, &mut sink).ok()?;
+    Some(sink.bytes() == text.as_bytes())
 }
 
 #[test]
-fn texts_are_written_as_they_were_read(rt: HostRuntime) -> Result<(), Fail> {
-    for text in &TEXTS {
-        assert!(rt; is_written_back(rt.alloc(), text)?);
+fn texts_are_written_as_they_were_read(rt: HostRuntime) {
+    for text in TEXTS {
+        assert!(rt; is_written_back(rt.alloc(), text) == Some(true));
     }
-    Ok(())
 }
 
 const LOG: &str = "dsv-certificate 1\n\
@@ -144,8 +142,14 @@ fn is_that_log(certificate: &Certificate) -> bool {
     }
 }
 
+fn is_log_read(alloc: Global) -> bool {
+    match read(alloc, LOG.as_bytes()) {
+        Ok(certificate) => is_that_log(&certificate),
+        Err(_) => false,
+    }
+}
+
 #[test]
-fn steps_are_read(rt: HostRuntime) -> Result<(), Fail> {
-    assert!(rt; is_that_log(&read(rt.alloc(), LOG.as_bytes())?));
-    Ok(())
+fn steps_are_read(rt: HostRuntime) {
+    assert!(rt; is_log_read(rt.alloc()));
 }

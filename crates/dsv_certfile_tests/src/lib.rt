@@ -1,4 +1,5 @@
-//! Tests of certificates: their text, and their check.
+//! Tests of certificates: their text, and their check. Certificates that the command writes are
+//! checked in `dsv_cli_tests`.
 #![tactic(auto)]
 
 #[cfg(test)]

@@ -48,393 +48,178 @@ const ONE_SET: &str = "dsv-certificate 1\n\
     job OVERFLOW DFI FLOOR WRAPAROUND unbounded\n\
     kind invariant 1 1\n";
 
-/// A text in two parts, and its refusal.
-struct Refused {
-    head: &'static str,
-    rest: &'static str,
-    line: u64,
-    fault: TextFault,
-}
+/// A text in two parts, and its refusal: the line, and the fault.
+struct Refused(&'static str, &'static str, u64, TextFault);
 
-const HEADINGS: [Refused; 17] = [
-    Refused {
-        head: NOTHING,
-        rest: "",
-        line: 1,
-        fault: TextFault::End,
-    },
-    Refused {
-        head: NOTHING,
-        rest: "dsv-certificate 1",
-        line: 1,
-        fault: TextFault::End,
-    },
-    Refused {
-        head: NOTHING,
-        rest: "dsv-certificate 2\n",
-        line: 1,
-        fault: TextFault::Version,
-    },
-    Refused {
-        head: NOTHING,
-        rest: "dsv-certificate 1 \n",
-        line: 1,
-        fault: TextFault::Version,
-    },
-    Refused {
-        head: NOTHING,
-        rest: "\n",
-        line: 1,
-        fault: TextFault::Version,
-    },
-    Refused {
-        head: VERSION,
-        rest: "",
-        line: 2,
-        fault: TextFault::End,
-    },
-    Refused {
-        head: VERSION,
-        rest: "jobs STABILITY DFI FLOOR WRAPAROUND\n",
-        line: 2,
-        fault: TextFault::Kind,
-    },
-    Refused {
-        head: VERSION,
-        rest: "job STABILITY DFI FLOOR\n",
-        line: 2,
-        fault: TextFault::Kind,
-    },
-    Refused {
-        head: VERSION,
-        rest: "job STABILITY DFX FLOOR WRAPAROUND x y\n",
-        line: 2,
-        fault: TextFault::Kind,
-    },
-    Refused {
-        head: VERSION,
-        rest: "job STABILITY DFI FLOOR WRAPAROUND x\n",
-        line: 2,
-        fault: TextFault::Number,
-    },
-    Refused {
-        head: VERSION,
-        rest: "job OVERFLOW DFI FLOOR WRAPAROUND 0\n",
-        line: 2,
-        fault: TextFault::Number,
-    },
-    Refused {
-        head: VERSION,
-        rest: "job OVERFLOW DFI FLOOR WRAPAROUND 65\n",
-        line: 2,
-        fault: TextFault::Number,
-    },
-    Refused {
-        head: VERSION,
-        rest: "job OVERFLOW DFI FLOOR WRAPAROUND 064\n",
-        line: 2,
-        fault: TextFault::Number,
-    },
-    Refused {
-        head: VERSION,
-        rest: "job OVERFLOW DFI FLOOR WRAPAROUND \n",
-        line: 2,
-        fault: TextFault::Number,
-    },
-    Refused {
-        head: VERSION,
-        rest: "job OVERFLOW DFI FLOOR WRAPAROUND 1 1\n",
-        line: 2,
-        fault: TextFault::Line,
-    },
-    Refused {
-        head: VERSION,
-        rest: "job OVERFLOW DFI FLOOR WRAPAROUND unbounded 1\n",
-        line: 2,
-        fault: TextFault::Line,
-    },
-    Refused {
-        head: VERSION,
-        rest: "job TIMING DFI FLOOR WRAPAROUND\nkind hints\n",
-        line: 3,
-        fault: TextFault::Kind,
-    },
+const HEADINGS: &[Refused] = &[
+    Refused(NOTHING, "", 1, TextFault::End),
+    Refused(NOTHING, "dsv-certificate 1", 1, TextFault::End),
+    Refused(NOTHING, "dsv-certificate 2\n", 1, TextFault::Version),
+    Refused(NOTHING, "dsv-certificate 1 \n", 1, TextFault::Version),
+    Refused(NOTHING, "\n", 1, TextFault::Version),
+    Refused(VERSION, "", 2, TextFault::End),
+    Refused(
+        VERSION,
+        "jobs STABILITY DFI FLOOR WRAPAROUND\n",
+        2,
+        TextFault::Kind,
+    ),
+    Refused(VERSION, "job STABILITY DFI FLOOR\n", 2, TextFault::Kind),
+    Refused(
+        VERSION,
+        "job STABILITY DFX FLOOR WRAPAROUND x y\n",
+        2,
+        TextFault::Kind,
+    ),
+    Refused(
+        VERSION,
+        "job STABILITY DFI FLOOR WRAPAROUND x\n",
+        2,
+        TextFault::Number,
+    ),
+    Refused(
+        VERSION,
+        "job OVERFLOW DFI FLOOR WRAPAROUND 0\n",
+        2,
+        TextFault::Number,
+    ),
+    Refused(
+        VERSION,
+        "job OVERFLOW DFI FLOOR WRAPAROUND 65\n",
+        2,
+        TextFault::Number,
+    ),
+    Refused(
+        VERSION,
+        "job OVERFLOW DFI FLOOR WRAPAROUND 064\n",
+        2,
+        TextFault::Number,
+    ),
+    Refused(
+        VERSION,
+        "job OVERFLOW DFI FLOOR WRAPAROUND \n",
+        2,
+        TextFault::Number,
+    ),
+    Refused(
+        VERSION,
+        "job OVERFLOW DFI FLOOR WRAPAROUND 1 1\n",
+        2,
+        TextFault::Line,
+    ),
+    Refused(
+        VERSION,
+        "job OVERFLOW DFI FLOOR WRAPAROUND unbounded 1\n",
+        2,
+        TextFault::Line,
+    ),
+    Refused(
+        VERSION,
+        "job TIMING DFI FLOOR WRAPAROUND\nkind hints\n",
+        3,
+        TextFault::Kind,
+    ),
 ];
 
-const KINDS: [Refused; 13] = [
-    Refused {
-        head: STABILITY,
-        rest: "",
-        line: 3,
-        fault: TextFault::End,
-    },
-    Refused {
-        head: STABILITY,
-        rest: "kind\n",
-        line: 3,
-        fault: TextFault::Kind,
-    },
-    Refused {
-        head: STABILITY,
-        rest: "kind forms 1\n",
-        line: 3,
-        fault: TextFault::Kind,
-    },
-    Refused {
-        head: STABILITY,
-        rest: "kind hints\n",
-        line: 3,
-        fault: TextFault::Kind,
-    },
-    Refused {
-        head: STABILITY,
-        rest: "kind hints x\n",
-        line: 3,
-        fault: TextFault::Kind,
-    },
-    Refused {
-        head: STABILITY,
-        rest: "kind falls 9\n",
-        line: 3,
-        fault: TextFault::Number,
-    },
-    Refused {
-        head: STABILITY,
-        rest: "kind falls -0\n",
-        line: 3,
-        fault: TextFault::Number,
-    },
-    Refused {
-        head: STABILITY,
-        rest: "kind falls\n",
-        line: 3,
-        fault: TextFault::Line,
-    },
-    Refused {
-        head: STABILITY,
-        rest: "kind falls 2 2\n",
-        line: 3,
-        fault: TextFault::Line,
-    },
-    Refused {
-        head: UNBOUNDED,
-        rest: "kind hints\n",
-        line: 3,
-        fault: TextFault::Kind,
-    },
-    Refused {
-        head: OVERFLOW,
-        rest: "kind invariant 1 0\n",
-        line: 3,
-        fault: TextFault::Kind,
-    },
-    Refused {
-        head: UNBOUNDED,
-        rest: "kind invariant 4294967296 0\n",
-        line: 3,
-        fault: TextFault::Number,
-    },
-    Refused {
-        head: UNBOUNDED,
-        rest: "kind invariant 4294967295 33\n",
-        line: 3,
-        fault: TextFault::Number,
-    },
+const KINDS: &[Refused] = &[
+    Refused(STABILITY, "", 3, TextFault::End),
+    Refused(STABILITY, "kind\n", 3, TextFault::Kind),
+    Refused(STABILITY, "kind forms 1\n", 3, TextFault::Kind),
+    Refused(STABILITY, "kind hints\n", 3, TextFault::Kind),
+    Refused(STABILITY, "kind hints x\n", 3, TextFault::Kind),
+    Refused(STABILITY, "kind falls 9\n", 3, TextFault::Number),
+    Refused(STABILITY, "kind falls -0\n", 3, TextFault::Number),
+    Refused(STABILITY, "kind falls\n", 3, TextFault::Line),
+    Refused(STABILITY, "kind falls 2 2\n", 3, TextFault::Line),
+    Refused(UNBOUNDED, "kind hints\n", 3, TextFault::Kind),
+    Refused(OVERFLOW, "kind invariant 1 0\n", 3, TextFault::Kind),
+    Refused(
+        UNBOUNDED,
+        "kind invariant 4294967296 0\n",
+        3,
+        TextFault::Number,
+    ),
+    Refused(
+        UNBOUNDED,
+        "kind invariant 4294967295 33\n",
+        3,
+        TextFault::Number,
+    ),
 ];
 
-const FORMS: [Refused; 9] = [
-    Refused {
-        head: FALLS_2,
-        rest: "kind falls 2\n",
-        line: 4,
-        fault: TextFault::Number,
-    },
-    Refused {
-        head: FALLS_2,
-        rest: "end\n",
-        line: 4,
-        fault: TextFault::Line,
-    },
-    Refused {
-        head: FALLS_2,
-        rest: "form 1\n",
-        line: 4,
-        fault: TextFault::Line,
-    },
-    Refused {
-        head: FALLS_2,
-        rest: "forms 1 x\n",
-        line: 4,
-        fault: TextFault::Number,
-    },
-    Refused {
-        head: FALLS_2,
-        rest: "form 1 2 x\n",
-        line: 4,
-        fault: TextFault::Line,
-    },
-    Refused {
-        head: FALLS_1,
-        rest: "form 170141183460469231731687303715884105728\n",
-        line: 4,
-        fault: TextFault::Number,
-    },
-    Refused {
-        head: FALLS_1,
-        rest: "form -170141183460469231731687303715884105728\n",
-        line: 4,
-        fault: TextFault::Number,
-    },
-    Refused {
-        head: FALLS_1,
-        rest: "form 170141183460469231731687303715884105727\n",
-        line: 5,
-        fault: TextFault::End,
-    },
-    Refused {
-        head: FALLS_0,
-        rest: "positive 1 9\n",
-        line: 4,
-        fault: TextFault::Number,
-    },
+const FORMS: &[Refused] = &[
+    Refused(FALLS_2, "kind falls 2\n", 4, TextFault::Number),
+    Refused(FALLS_2, "end\n", 4, TextFault::Line),
+    Refused(FALLS_2, "form 1\n", 4, TextFault::Line),
+    Refused(FALLS_2, "forms 1 x\n", 4, TextFault::Number),
+    Refused(FALLS_2, "form 1 2 x\n", 4, TextFault::Line),
+    Refused(
+        FALLS_1,
+        "form 170141183460469231731687303715884105728\n",
+        4,
+        TextFault::Number,
+    ),
+    Refused(
+        FALLS_1,
+        "form -170141183460469231731687303715884105728\n",
+        4,
+        TextFault::Number,
+    ),
+    Refused(
+        FALLS_1,
+        "form 170141183460469231731687303715884105727\n",
+        5,
+        TextFault::End,
+    ),
+    Refused(FALLS_0, "positive 1 9\n", 4, TextFault::Number),
 ];
 
-const LOGS: [Refused; 14] = [
-    Refused {
-        head: HINTS,
-        rest: "end\nx",
-        line: 5,
-        fault: TextFault::End,
-    },
-    Refused {
-        head: HINTS,
-        rest: "5\n",
-        line: 4,
-        fault: TextFault::Line,
-    },
-    Refused {
-        head: HINTS,
-        rest: "5 1 0 3\n",
-        line: 4,
-        fault: TextFault::Line,
-    },
-    Refused {
-        head: HINTS,
-        rest: "5 1 0 3 0 x\n",
-        line: 4,
-        fault: TextFault::Line,
-    },
-    Refused {
-        head: HINTS,
-        rest: "5 -0 0 0\n",
-        line: 4,
-        fault: TextFault::Number,
-    },
-    Refused {
-        head: HINTS,
-        rest: "5 +1 0 0\n",
-        line: 4,
-        fault: TextFault::Number,
-    },
-    Refused {
-        head: HINTS,
-        rest: "5 2147483649 0 0\n",
-        line: 4,
-        fault: TextFault::Number,
-    },
-    Refused {
-        head: HINTS,
-        rest: "5 0 -3 0\n",
-        line: 4,
-        fault: TextFault::Number,
-    },
-    Refused {
-        head: HINTS,
-        rest: "5 d -3 0\n",
-        line: 4,
-        fault: TextFault::Number,
-    },
-    Refused {
-        head: HINTS,
-        rest: "0 0 0\n",
-        line: 4,
-        fault: TextFault::Number,
-    },
-    Refused {
-        head: HINTS,
-        rest: "18446744073709551616 0 0\n",
-        line: 4,
-        fault: TextFault::Number,
-    },
-    Refused {
-        head: HINTS,
-        rest: "\n",
-        line: 4,
-        fault: TextFault::Number,
-    },
-    Refused {
-        head: HINTS,
-        rest: "end \n",
-        line: 4,
-        fault: TextFault::Number,
-    },
-    Refused {
-        head: HINTS,
-        rest: "1 0 0\n",
-        line: 5,
-        fault: TextFault::End,
-    },
+const LOGS: &[Refused] = &[
+    Refused(HINTS, "end\nx", 5, TextFault::End),
+    Refused(HINTS, "5\n", 4, TextFault::Line),
+    Refused(HINTS, "5 1 0 3\n", 4, TextFault::Line),
+    Refused(HINTS, "5 1 0 3 0 x\n", 4, TextFault::Line),
+    Refused(HINTS, "5 -0 0 0\n", 4, TextFault::Number),
+    Refused(HINTS, "5 +1 0 0\n", 4, TextFault::Number),
+    Refused(HINTS, "5 2147483649 0 0\n", 4, TextFault::Number),
+    Refused(HINTS, "5 0 -3 0\n", 4, TextFault::Number),
+    Refused(HINTS, "5 d -3 0\n", 4, TextFault::Number),
+    Refused(HINTS, "0 0 0\n", 4, TextFault::Number),
+    Refused(HINTS, "18446744073709551616 0 0\n", 4, TextFault::Number),
+    Refused(HINTS, "\n", 4, TextFault::Number),
+    Refused(HINTS, "end \n", 4, TextFault::Number),
+    Refused(HINTS, "1 0 0\n", 5, TextFault::End),
 ];
 
-const SETS: [Refused; 7] = [
-    Refused {
-        head: EMPTY_SET,
-        rest: "base\nend\n",
-        line: 5,
-        fault: TextFault::Number,
-    },
-    Refused {
-        head: EMPTY_SET,
-        rest: "step\n",
-        line: 4,
-        fault: TextFault::Line,
-    },
-    Refused {
-        head: ONE_SET,
-        rest: "ineq\n",
-        line: 4,
-        fault: TextFault::Line,
-    },
-    Refused {
-        head: ONE_SET,
-        rest: "ineq 9223372036854775808\n",
-        line: 4,
-        fault: TextFault::Number,
-    },
-    Refused {
-        head: ONE_SET,
-        rest: "ineq 1 1 1 1 1 1 1 1 1 1 1 1 1 1 1 1 1 1\n",
-        line: 4,
-        fault: TextFault::Line,
-    },
-    Refused {
-        head: ONE_SET,
-        rest: "ineq 1 1 1 1 1 1 1 1 1 1 1 1 1 1 1 1 1 x\n",
-        line: 4,
-        fault: TextFault::Line,
-    },
-    Refused {
-        head: ONE_SET,
-        rest: "x 1 1 1 1 1 1 1 1 1 1 1 1 1 1 1 1 x\n",
-        line: 4,
-        fault: TextFault::Number,
-    },
+const SETS: &[Refused] = &[
+    Refused(EMPTY_SET, "base\nend\n", 5, TextFault::Number),
+    Refused(EMPTY_SET, "step\n", 4, TextFault::Line),
+    Refused(ONE_SET, "ineq\n", 4, TextFault::Line),
+    Refused(ONE_SET, "ineq 9223372036854775808\n", 4, TextFault::Number),
+    Refused(
+        ONE_SET,
+        "ineq 1 1 1 1 1 1 1 1 1 1 1 1 1 1 1 1 1 1\n",
+        4,
+        TextFault::Line,
+    ),
+    Refused(
+        ONE_SET,
+        "ineq 1 1 1 1 1 1 1 1 1 1 1 1 1 1 1 1 1 x\n",
+        4,
+        TextFault::Line,
+    ),
+    Refused(
+        ONE_SET,
+        "x 1 1 1 1 1 1 1 1 1 1 1 1 1 1 1 1 x\n",
+        4,
+        TextFault::Number,
+    ),
 ];
 
 fn text_of(alloc: Global, row: &Refused) -> Result<String, AllocError> {
     let mut text = String::new(alloc);
-    text.push_str(row.head)?;
-    text.push_str(row.rest)?;
+    text.push_str(row.0)?;
+    text.push_str(row.1)?;
     Ok(text)
 }
 
@@ -443,50 +228,27 @@ fn is_refused(alloc: Global, row: &Refused) -> bool {
         return false;
     };
     let refusal = CertRefusal::Text {
-        line: row.line,
-        fault: row.fault,
+        line: row.2,
+        fault: row.3,
     };
     read(alloc, text.as_bytes()).err() == Some(refusal)
 }
 
-#[test]
-fn headings_are_refused(rt: HostRuntime) {
-    let alloc = rt.alloc();
-    for row in &HEADINGS {
-        assert!(rt; is_refused(alloc, row));
-    }
+fn are_refused(alloc: Global, rows: &[Refused]) -> bool {
+    rows.iter().all(|row| is_refused(alloc, row))
 }
 
 #[test]
-fn kinds_are_refused(rt: HostRuntime) {
-    let alloc = rt.alloc();
-    for row in &KINDS {
-        assert!(rt; is_refused(alloc, row));
-    }
+fn headings_and_kinds_are_refused(rt: HostRuntime) {
+    assert!(rt; are_refused(rt.alloc(), HEADINGS) && are_refused(rt.alloc(), KINDS));
 }
 
 #[test]
-fn forms_are_refused(rt: HostRuntime) {
-    let alloc = rt.alloc();
-    for row in &FORMS {
-        assert!(rt; is_refused(alloc, row));
-    }
-}
-
-#[test]
-fn logs_are_refused(rt: HostRuntime) {
-    let alloc = rt.alloc();
-    for row in &LOGS {
-        assert!(rt; is_refused(alloc, row));
-    }
-}
-
-#[test]
-fn sets_are_refused(rt: HostRuntime) {
-    let alloc = rt.alloc();
-    for row in &SETS {
-        assert!(rt; is_refused(alloc, row));
-    }
+fn forms_logs_and_sets_are_refused(rt: HostRuntime) {
+    let forms = are_refused(rt.alloc(), FORMS);
+    let logs = are_refused(rt.alloc(), LOGS);
+    let sets = are_refused(rt.alloc(), SETS);
+    assert!(rt; forms && logs && sets);
 }
 
 #[test]
