@@ -1,9 +1,7 @@
 // Certificates that the command writes, and certificates that it checks.
-use crate::arguments::arguments;
-use dsv_base::{Bytes, MemFiles, MemSink};
-use dsv_cli::{BoxProposer, FormProposer, InvariantProposer, SumProposer, run};
+use crate::runs::{files_of, status_of};
+use dsv_base::{MemFiles, MemSink};
 use std::alloc::Global;
-use std::test::Fail;
 
 /// Poles at 0.5 + 0.5i and 0.5 - 0.5i.
 const TWO_POLES: &[u8] = b"digital_system d = { .b = {1.0}, .b_size = 1, .a = {1.0, -1.0, 0.5}, \
@@ -74,132 +72,154 @@ const ROWS: [Row; 4] = [
 #[derive(Drop)]
 struct Output {
     status: u8,
-    text: Bytes,
+    sink: MemSink,
 }
 
 /// What a run over these files writes.
-fn output_of(alloc: Global, files: &mut MemFiles, job: &[&str]) -> Result<Output, Fail> {
-    let words = arguments(alloc, job)?;
-    let mut sets: Vec<Box<dyn InvariantProposer>> = Vec::new(alloc);
-    sets.push(Box::new(alloc, BoxProposer::new())?)?;
-    let mut forms: Vec<Box<dyn FormProposer>> = Vec::new(alloc);
-    forms.push(Box::new(alloc, SumProposer::new())?)?;
-    let mut sink = MemSink::new(alloc, 20_000)?;
-    let done = run(alloc, &words, files, &mut sink, &mut sets, &mut forms);
-    let mut text = Bytes::new(alloc);
-    text.extend_from_slice(sink.bytes())?;
-    Ok(Output {
-        status: done.status,
-        text,
-    })
+fn output_of(alloc: Global, files: &mut MemFiles, job: &[&str]) -> Option<Output> {
+    let mut sink = MemSink::new(alloc, 20_000).ok()?;
+    let status = status_of(alloc, job, files, &mut sink)?;
+    Some(Output { status, sink })
 }
 
-/// The certificate that a row's run writes.
-fn certificate_of(alloc: Global, row: &Row) -> Result<Bytes, Fail> {
-    let mut files = MemFiles::new(alloc);
-    files.hold("f", row.file)?;
-    Ok(output_of(alloc, &mut files, row.job)?.text)
+/// What a row's run writes: a certificate.
+fn certificate_of(alloc: Global, row: &Row) -> Option<Output> {
+    let mut files = files_of(alloc, "f", row.file)?;
+    output_of(alloc, &mut files, row.job)
 }
 
 /// What the check of a certificate against a controller's file writes.
-fn checked(alloc: Global, file: &[u8], certificate: &[u8]) -> Result<Output, Fail> {
-    let mut files = MemFiles::new(alloc);
-    files.hold("f", file)?;
-    files.hold("c", certificate)?;
+fn checked(alloc: Global, file: &[u8], certificate: &[u8]) -> Option<Output> {
+    let mut files = files_of(alloc, "f", file)?;
+    files.hold("c", certificate).ok()?;
     output_of(alloc, &mut files, &["f", "--check", "c"])
 }
 
-/// Whether a certificate is accepted for its own file.
-fn is_accepted(alloc: Global, row: &Row) -> Result<bool, Fail> {
-    let certificate = certificate_of(alloc, row)?;
-    let output = checked(alloc, row.file, certificate.as_slice())?;
-    Ok(output.status == 0 && output.text.as_slice() == row.accepted)
-}
-
-#[test]
-fn what_is_written_is_accepted(rt: HostRuntime) -> Result<(), Fail> {
-    for row in &ROWS {
-        assert!(rt; is_accepted(rt.alloc(), row)?);
+/// Whether the check ends with this status, and what it writes with these bytes.
+fn ends_with(alloc: Global, file: &[u8], certificate: &[u8], status: u8, end: &[u8]) -> bool {
+    match checked(alloc, file, certificate) {
+        Some(output) => output.status == status && output.sink.bytes().ends_with(end),
+        None => false,
     }
-    Ok(())
+}
+
+/// Whether a certificate is accepted for its own file.
+fn is_accepted(alloc: Global, row: &Row) -> bool {
+    match certificate_of(alloc, row) {
+        Some(written) => ends_with(alloc, row.file, written.sink.bytes(), 0, row.accepted),
+        None => false,
+    }
 }
 
 #[test]
-fn a_set_of_another_controller_is_refused(rt: HostRuntime) -> Result<(), Fail> {
-    let certificate = certificate_of(rt.alloc(), &UNBOUNDED)?;
-    let output = checked(rt.alloc(), SUM, certificate.as_slice())?;
-    assert!(rt; output.status == 7 && output.text.as_slice().ends_with(b" code 6 STEP\n"));
-    Ok(())
+fn what_is_written_is_accepted(rt: HostRuntime) {
+    for row in &ROWS {
+        assert!(rt; is_accepted(rt.alloc(), row));
+    }
+}
+
+/// Whether the set of the halves is refused for the sum.
+fn is_set_refused(alloc: Global) -> bool {
+    match certificate_of(alloc, &UNBOUNDED) {
+        Some(written) => ends_with(alloc, SUM, written.sink.bytes(), 7, b" code 6 STEP\n"),
+        None => false,
+    }
+}
+
+#[test]
+fn a_set_of_another_controller_is_refused(rt: HostRuntime) {
+    assert!(rt; is_set_refused(rt.alloc()));
 }
 
 /// Whether each shorter text of the certificate ends too early.
-fn are_cut(alloc: Global, certificate: &[u8]) -> Result<bool, Fail> {
+fn are_cut(alloc: Global, certificate: &[u8]) -> bool {
     for length in 0..certificate.len() {
-        let output = checked(alloc, TWO_POLES, &certificate[..length])?;
-        if output.status != 7 || !output.text.as_slice().ends_with(b" code 5 END\n") {
-            return Ok(false);
+        if !ends_with(
+            alloc,
+            TWO_POLES,
+            &certificate[..length],
+            7,
+            b" code 5 END\n",
+        ) {
+            return false;
         }
     }
-    Ok(true)
+    true
 }
 
-#[test]
-fn a_certificate_that_is_cut_has_no_end(rt: HostRuntime) -> Result<(), Fail> {
-    let certificate = certificate_of(rt.alloc(), &STABILITY)?;
-    assert!(rt; are_cut(rt.alloc(), certificate.as_slice())?);
-    Ok(())
+/// Whether the certificate with `x` in this place is refused.
+fn is_refused_at(alloc: Global, certificate: &[u8], place: usize) -> Option<bool> {
+    let mut changed = Vec::from_slice(alloc, certificate).ok()?;
+    *changed.get_mut(place)? = b'x';
+    Some(ends_with(alloc, TWO_POLES, changed.as_slice(), 7, b""))
 }
 
 /// Whether the certificate with any of its bytes replaced by `x` is refused.
-fn are_refused(alloc: Global, certificate: &[u8]) -> Result<bool, Fail> {
+fn are_refused(alloc: Global, certificate: &[u8]) -> bool {
     for place in 0..certificate.len() {
-        let mut changed = Vec::from_slice(alloc, certificate)?;
-        changed[place] = b'x';
-        if checked(alloc, TWO_POLES, changed.as_slice())?.status != 7 {
-            return Ok(false);
+        if is_refused_at(alloc, certificate, place) != Some(true) {
+            return false;
         }
     }
-    Ok(true)
+    true
 }
 
-#[test]
-fn a_certificate_with_another_byte_is_refused(rt: HostRuntime) -> Result<(), Fail> {
-    let certificate = certificate_of(rt.alloc(), &STABILITY)?;
-    assert!(rt; are_refused(rt.alloc(), certificate.as_slice())?);
-    Ok(())
-}
+/// A fetch that fails, and what the check of a certificate says then.
+struct Blamed(u64, &'static [u8]);
 
-/// Whether the check names the file whose read fails first, at this fetch.
-fn is_blamed(alloc: Global, certificate: &[u8], fetch: u64, text: &[u8]) -> Result<bool, Fail> {
-    let mut files = MemFiles::new(alloc);
-    files.hold("f", TWO_POLES)?;
-    files.hold("c", certificate)?;
-    files.fail_at(fetch)?;
+const BLAMED: [Blamed; 4] = [
+    Blamed(0, b"READ FAULT CONTROLLER\n"),
+    Blamed(1, b"READ FAULT CONTROLLER\n"),
+    Blamed(2, b"READ FAULT CERTIFICATE\n"),
+    Blamed(3, b"READ FAULT CERTIFICATE\n"),
+];
+
+/// Whether the check names the file whose read fails first.
+fn is_blamed(alloc: Global, certificate: &[u8], row: &Blamed) -> Option<bool> {
+    let mut files = files_of(alloc, "f", TWO_POLES)?;
+    files.hold("c", certificate).ok()?;
+    files.fail_at(row.0).ok()?;
     let output = output_of(alloc, &mut files, &["f", "--check", "c"])?;
-    Ok(output.status == 3 && output.text.as_slice() == text)
+    Some(output.status == 3 && output.sink.bytes() == row.1)
+}
+
+/// Whether the check names the file at each of these fetches.
+fn are_blamed(alloc: Global, certificate: &[u8]) -> bool {
+    BLAMED
+        .iter()
+        .all(|row| is_blamed(alloc, certificate, row) == Some(true))
+}
+
+/// Whether a certificate that is cut has no end, one with another byte is refused, and the file
+/// whose read fails is named.
+fn are_faults_found(alloc: Global) -> bool {
+    match certificate_of(alloc, &STABILITY) {
+        Some(written) => {
+            let certificate = written.sink.bytes();
+            certificate.len() > 0
+                && are_cut(alloc, certificate)
+                && are_refused(alloc, certificate)
+                && are_blamed(alloc, certificate)
+        }
+        None => false,
+    }
 }
 
 #[test]
-fn the_file_whose_read_fails_is_named(rt: HostRuntime) -> Result<(), Fail> {
-    let certificate = certificate_of(rt.alloc(), &STABILITY)?;
-    for fetch in 0..2 {
-        let text = b"READ FAULT CONTROLLER\n";
-        assert!(rt; is_blamed(rt.alloc(), certificate.as_slice(), fetch, text)?);
-    }
-    for fetch in 2..4 {
-        let text = b"READ FAULT CERTIFICATE\n";
-        assert!(rt; is_blamed(rt.alloc(), certificate.as_slice(), fetch, text)?);
-    }
-    Ok(())
+fn faults_of_a_certificate_are_found(rt: HostRuntime) {
+    assert!(rt; are_faults_found(rt.alloc()));
+}
+
+const TOO_LONG: &[u8] = b"CERTIFICATE REFUSED line 0 code 9 TOO_LONG\n";
+
+/// Whether a certificate over 64 mebibytes is too long.
+fn is_too_long(alloc: Global) -> Option<bool> {
+    let mut long = Vec::new(alloc);
+    long.resize((1 << 26) + 1, b'x').ok()?;
+    Some(ends_with(alloc, TWO_POLES, long.as_slice(), 7, TOO_LONG))
 }
 
 #[test]
-fn a_certificate_over_64_mebibytes_is_too_long(rt: HostRuntime) -> Result<(), Fail> {
-    let mut long = Vec::new(rt.alloc());
-    long.resize((1 << 26) + 1, b'x')?;
-    let output = checked(rt.alloc(), TWO_POLES, long.as_slice())?;
-    assert!(rt; output.status == 7);
-    let refused = b"CERTIFICATE REFUSED line 0 code 9 TOO_LONG\n".as_slice();
-    assert!(rt; output.text.as_slice() == refused);
-    Ok(())
+fn a_certificate_over_64_mebibytes_is_too_long(rt: HostRuntime) {
+    assert!(rt; is_too_long(rt.alloc()) == Some(true));
 }

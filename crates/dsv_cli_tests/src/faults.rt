@@ -1,9 +1,7 @@
 // Faults of files and of the sink, which the command names.
-use crate::arguments::arguments;
-use dsv_base::{MemFiles, MemSink, SilentFiles};
-use dsv_cli::{Done, FormProposer, InvariantProposer, run};
+use crate::runs::{files_of, status_of};
+use dsv_base::MemSink;
 use std::alloc::Global;
-use std::test::Fail;
 
 /// The pole at 0.5.
 const FILE: &[u8] =
@@ -39,18 +37,12 @@ const FILE_FAULTS: [FileFault; 3] = [
 ];
 
 /// Whether the run names the fault of the file.
-fn names_read_fault(alloc: Global, fault: &FileFault) -> Result<bool, Fail> {
-    let arguments = arguments(alloc, &JOB)?;
-    let mut files = MemFiles::new(alloc);
-    files.hold(fault.name, FILE)?;
-    files.fail_at(fault.fetch)?;
-    let mut sink = MemSink::new(alloc, 1000)?;
-    let mut sets: Vec<Box<dyn InvariantProposer>> = Vec::new(alloc);
-    let mut forms: Vec<Box<dyn FormProposer>> = Vec::new(alloc);
-    let Done { status, answer: _ } = run(
-        alloc, &arguments, &mut files, &mut sink, &mut sets, &mut forms,
-    );
-    Ok(status == 3 && sink.bytes() == b"READ FAULT CONTROLLER\n".as_slice())
+fn names_read_fault(alloc: Global, fault: &FileFault) -> Option<bool> {
+    let mut files = files_of(alloc, fault.name, FILE)?;
+    files.fail_at(fault.fetch).ok()?;
+    let mut sink = MemSink::new(alloc, 1000).ok()?;
+    let status = status_of(alloc, &JOB, &mut files, &mut sink)?;
+    Some(status == 3 && sink.bytes() == b"READ FAULT CONTROLLER\n".as_slice())
 }
 
 /// A put fails, or the sink has this room; so many bytes of the text are taken, and the run ends
@@ -85,31 +77,24 @@ const SINK_FAULTS: [SinkFault; 3] = [
 ];
 
 /// Whether the run ends with the status, and the sink took the prefix of the text.
-fn ends_as_told(alloc: Global, fault: &SinkFault) -> Result<bool, Fail> {
-    let arguments = arguments(alloc, &JOB)?;
-    let mut files = SilentFiles::new(alloc, FILE)?;
-    let mut sink = MemSink::new(alloc, fault.room)?;
-    sink.fail_at(fault.put)?;
-    let mut sets: Vec<Box<dyn InvariantProposer>> = Vec::new(alloc);
-    let mut forms: Vec<Box<dyn FormProposer>> = Vec::new(alloc);
-    let Done { status, answer: _ } = run(
-        alloc, &arguments, &mut files, &mut sink, &mut sets, &mut forms,
-    );
-    Ok(status == fault.status && Some(sink.bytes()) == TEXT.get(..fault.taken))
+fn ends_as_told(alloc: Global, fault: &SinkFault) -> Option<bool> {
+    let mut files = files_of(alloc, "f", FILE)?;
+    let mut sink = MemSink::new(alloc, fault.room).ok()?;
+    sink.fail_at(fault.put).ok()?;
+    let status = status_of(alloc, &JOB, &mut files, &mut sink)?;
+    Some(status == fault.status && Some(sink.bytes()) == TEXT.get(..fault.taken))
 }
 
 #[test]
-fn a_fault_of_the_file_is_named(rt: HostRuntime) -> Result<(), Fail> {
+fn a_fault_of_the_file_is_named(rt: HostRuntime) {
     for fault in &FILE_FAULTS {
-        assert!(rt; names_read_fault(rt.alloc(), fault)?);
+        assert!(rt; names_read_fault(rt.alloc(), fault) == Some(true));
     }
-    Ok(())
 }
 
 #[test]
-fn a_fault_of_the_sink_leaves_a_prefix(rt: HostRuntime) -> Result<(), Fail> {
+fn a_fault_of_the_sink_leaves_a_prefix(rt: HostRuntime) {
     for fault in &SINK_FAULTS {
-        assert!(rt; ends_as_told(rt.alloc(), fault)?);
+        assert!(rt; ends_as_told(rt.alloc(), fault) == Some(true));
     }
-    Ok(())
 }

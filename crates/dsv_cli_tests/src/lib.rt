@@ -4,8 +4,6 @@
 #![tactic(auto)]
 
 #[cfg(test)]
-mod arguments;
-#[cfg(test)]
 mod certificates;
 #[cfg(test)]
 mod faults;
@@ -17,5 +15,7 @@ mod lists;
 mod outside;
 #[cfg(test)]
 mod proposers;
+#[cfg(test)]
+mod runs;
 #[cfg(test)]
 mod sets;

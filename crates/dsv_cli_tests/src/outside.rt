@@ -12,18 +12,28 @@ fn temporary_name(rt: &HostRuntime) -> Result<String, Fail> {
     Ok(format!(in rt.alloc(); "{folder}/dsv-{process}.dsv")?)
 }
 
+/// Whether a fetch of four bytes gives this.
+fn gives(files: &mut OsFiles, name: &str, at: u8, wanted: Result<usize, FetchEnd>) -> bool {
+    let mut room = [0; 4];
+    files.fetch(name, u64::from(at), &mut room) == wanted
+}
+
+/// Whether the first four bytes are these.
+fn begins_with(files: &mut OsFiles, name: &str, bytes: &[u8]) -> bool {
+    let mut room = [0; 4];
+    files.fetch(name, 0, &mut room) == Ok(4) && room.as_slice() == bytes
+}
+
 #[test]
 fn real_files_are_read(rt: HostRuntime) -> Result<(), Fail> {
     let name = temporary_name(&rt)?;
-    fs::write(&rt, &name, b"controller")?;
     let mut files = OsFiles::new(rt.clone()?, rt.alloc());
-    let mut room = [0; 4];
-    assert_eq!(rt; files.fetch(&name, 0, &mut room), Ok(4));
-    assert_eq!(rt; room.as_slice(), b"cont".as_slice());
-    assert_eq!(rt; files.fetch(&name, 8, &mut room), Ok(2));
-    assert_eq!(rt; files.fetch(&name, 10, &mut room), Ok(0));
+    fs::write(&rt, &name, b"controller")?;
+    let begins = begins_with(&mut files, &name, b"cont");
+    let ends = gives(&mut files, &name, 8, Ok(2)) && gives(&mut files, &name, 10, Ok(0));
     fs::remove_file(&rt, &name)?;
-    assert_eq!(rt; files.fetch(&name, 0, &mut room), Err(FetchEnd::Failed));
+    let gone = gives(&mut files, &name, 0, Err(FetchEnd::Failed));
+    assert!(rt; begins && ends && gone);
     Ok(())
 }
 

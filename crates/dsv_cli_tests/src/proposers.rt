@@ -1,14 +1,13 @@
 // Proposers that need no trust: the command asks them, drops them, and stays right.
 ghost use Rattle.std.specs.Prelude.{nat_eq};
 
-use crate::arguments::arguments;
-use dsv_base::{MemSink, SilentFiles};
-use dsv_cli::{FormProposer, InvariantProposer, SumProposer, run};
+use crate::runs::{files_of, run_with};
+use dsv_base::MemSink;
+use dsv_cli::{FormProposer, InvariantProposer, SumProposer};
 use dsv_forms::{Falls, Form, FormOffer, FormRefusal, GREATEST_ORDER, KeptAway, Poly, Squares};
 use std::alloc::Global;
 use std::cell::Cell;
 use std::rc::Rc;
-use std::test::Fail;
 
 /// The roots of z^3 = -2, which are outside the unit circle.
 const NO_FORM: &[u8] = b"digital_system d = { .b = {1.0}, .b_size = 1, \
@@ -106,59 +105,67 @@ struct Row {
     left: usize,
 }
 
-/// Whether the run of a row ends as it says.
-fn is_as_told(alloc: Global, row: &Row, offer: FormOffer) -> Result<bool, Fail> {
-    let heard = Rc::new(alloc, Cell::new(0))?;
-    let mut sets: Vec<Box<dyn InvariantProposer>> = Vec::new(alloc);
+/// A proposer that offers a form as often as a row says, and the one that is built in.
+fn proposers_of(
+    alloc: Global,
+    row: &Row,
+    offer: FormOffer,
+    heard: Rc<Cell<u32>>,
+) -> Option<Vec<Box<dyn FormProposer>>> {
+    let stubborn = Stubborn {
+        offer,
+        left: row.times,
+        last: None,
+        heard,
+    };
     let mut forms: Vec<Box<dyn FormProposer>> = Vec::new(alloc);
-    forms.push(Box::new(
-        alloc,
-        Stubborn {
-            offer,
-            left: row.times,
-            last: None,
-            heard: heard.clone()?,
-        },
-    )?)?;
-    forms.push(Box::new(alloc, SumProposer::new())?)?;
-    let mut files = SilentFiles::new(alloc, row.file)?;
-    let mut sink = MemSink::new(alloc, 1000)?;
-    let arguments = arguments(alloc, &["f", "--property", "STABILITY"])?;
-    let done = run(
-        alloc, &arguments, &mut files, &mut sink, &mut sets, &mut forms,
-    );
-    Ok(
-        done.status == row.status
-            && sink.bytes() == row.text
-            && heard.get() == row.heard
-            && forms.len() == row.left,
-    )
+    forms.push(Box::new(alloc, stubborn).ok()?).ok()?;
+    forms.push(Box::new(alloc, SumProposer::new()).ok()?).ok()?;
+    Some(forms)
 }
 
-#[test]
-fn the_zero_form_is_refused_32_times(rt: HostRuntime) -> Result<(), Fail> {
-    let row = Row {
-        file: NO_FORM,
-        times: 1000,
-        status: 20,
-        text: NO_FORM_TEXT,
-        heard: 32,
-        left: 0,
-    };
-    assert!(rt; is_as_told(rt.alloc(), &row, falls(0))?);
-    Ok(())
+/// Whether the run of a row with these proposers ends as it says.
+fn ends(alloc: Global, row: &Row, forms: &mut Vec<Box<dyn FormProposer>>) -> Option<bool> {
+    let mut files = files_of(alloc, "f", row.file)?;
+    let mut sink = MemSink::new(alloc, 1000).ok()?;
+    let mut sets: Vec<Box<dyn InvariantProposer>> = Vec::new(alloc);
+    let words = ["f", "--property", "STABILITY"];
+    let done = run_with(alloc, &words, &mut files, &mut sink, &mut sets, forms)?;
+    Some(done.status == row.status && sink.bytes() == row.text)
 }
 
+/// Whether the run of a row ends as it says, and the proposer heard as much.
+fn is_as_told(alloc: Global, row: &Row, offer: FormOffer) -> Option<bool> {
+    let heard = Rc::new(alloc, Cell::new(0)).ok()?;
+    let mut forms = proposers_of(alloc, row, offer, heard.clone().ok()?)?;
+    let ended = ends(alloc, row, &mut forms)?;
+    Some(ended && heard.get() == row.heard && forms.len() == row.left)
+}
+
+const ZERO: Row = Row {
+    file: NO_FORM,
+    times: 1000,
+    status: 20,
+    text: NO_FORM_TEXT,
+    heard: 32,
+    left: 0,
+};
+
 #[test]
-fn a_form_of_least_numbers_is_refused(rt: HostRuntime) -> Result<(), Fail> {
-    let row = Row {
-        file: THIRD_ROOT,
-        times: 1,
-        status: 0,
-        text: THIRD_ROOT_TEXT,
-        heard: 1,
-        left: 1,
-    };
-    assert!(rt; is_as_told(rt.alloc(), &row, kept_away(i128::MIN))?);
-    Ok(())
+fn the_zero_form_is_refused_32_times(rt: HostRuntime) {
+    assert!(rt; is_as_told(rt.alloc(), &ZERO, falls(0)) == Some(true));
+}
+
+const LEAST: Row = Row {
+    file: THIRD_ROOT,
+    times: 1,
+    status: 0,
+    text: THIRD_ROOT_TEXT,
+    heard: 1,
+    left: 1,
+};
+
+#[test]
+fn a_form_of_least_numbers_is_refused(rt: HostRuntime) {
+    assert!(rt; is_as_told(rt.alloc(), &LEAST, kept_away(i128::MIN)) == Some(true));
 }
