@@ -136,7 +136,7 @@ const ONE_AND_ZEROS: &[Parts] = &[
 ];
 
 /// Files that are read, and what they say.
-const ROWS: [Row; 17] = [
+const ROWS: &[Row] = &[
     Row(Blocks(SYSTEM, IMPLEMENTATION, ""), &[]),
     Row(
         Blocks(
@@ -280,7 +280,7 @@ const ROWS: [Row; 17] = [
 
 #[test]
 fn files_that_are_read(rt: HostRuntime) {
-    for row in &ROWS {
+    for row in ROWS {
         assert!(rt; is_right(rt.alloc(), row));
     }
 }
@@ -296,7 +296,7 @@ const ORDERED: &[Fact] = &[
 /// Such a file, and its clock.
 struct Order(&'static str, &'static [Fact]);
 
-const ORDERS: [Order; 4] = [
+const ORDERS: &[Order] = &[
     Order(
         "implementation digital_system={.int_bits=4,.frac_bits=0,.min=-2,.max=-0.5};\
         digital_system hardware={.b={.5},.b_size=1,.a={1},.a_size=1};",
@@ -328,7 +328,7 @@ fn is_ordered(alloc: Global, order: &Order) -> bool {
 
 #[test]
 fn blocks_stand_in_any_order(rt: HostRuntime) {
-    for order in &ORDERS {
+    for order in ORDERS {
         assert!(rt; is_ordered(rt.alloc(), order));
     }
 }

@@ -7,7 +7,7 @@ use dsv_reader::{FileRefusal, read};
 #[derive(Clone, Copy)]
 struct Unexpected(&'static str, Wanted);
 
-const UNEXPECTED: [Unexpected; 28] = [
+const UNEXPECTED: &[Unexpected] = &[
     Unexpected("^", Wanted::Declaration),
     Unexpected(" ^wheel", Wanted::Declaration),
     Unexpected("digital_system d={};^digital_system", Wanted::Declaration),
@@ -40,7 +40,7 @@ const UNEXPECTED: [Unexpected; 28] = [
 
 #[test]
 fn what_is_wanted(rt: HostRuntime) {
-    for Unexpected(text, wanted) in &UNEXPECTED {
+    for Unexpected(text, wanted) in UNEXPECTED {
         assert!(rt; is_refused(rt.alloc(), text, Fault::Unexpected(*wanted)));
     }
 }
@@ -49,7 +49,7 @@ fn what_is_wanted(rt: HostRuntime) {
 #[derive(Clone, Copy)]
 struct Missing(&'static str, Field);
 
-const MISSING: [Missing; 8] = [
+const MISSING: &[Missing] = &[
     Missing("digital_system d={^};implementation i={};", Field::B),
     Missing("implementation i={^};digital_system d={};", Field::IntBits),
     Missing(
@@ -80,12 +80,12 @@ const MISSING: [Missing; 8] = [
 
 #[test]
 fn fields_that_are_missing(rt: HostRuntime) {
-    for Missing(text, field) in &MISSING {
+    for Missing(text, field) in MISSING {
         assert!(rt; is_refused(rt.alloc(), text, Fault::Missing(*field)));
     }
 }
 
-const TWICE: [Blocks; 17] = [
+const TWICE: &[Blocks] = &[
     Blocks(".b={1},^.b={1}", "", ""),
     Blocks(".a={1},.b={1},^.a={1}", "", ""),
     Blocks(".b_size=1,^.b_size=1", "", ""),
@@ -107,7 +107,7 @@ const TWICE: [Blocks; 17] = [
 
 #[test]
 fn fields_that_stand_twice(rt: HostRuntime) {
-    for blocks in &TWICE {
+    for blocks in TWICE {
         assert!(rt; are_refused(rt.alloc(), blocks, Fault::Twice));
     }
 }
@@ -116,7 +116,7 @@ fn fields_that_stand_twice(rt: HostRuntime) {
 #[derive(Clone, Copy)]
 struct File(Blocks, Fault);
 
-const PASSES: [File; 6] = [
+const PASSES: &[File] = &[
     File(Blocks(",", IMPLEMENTATION, "^@"), Fault::Token),
     File(
         Blocks(".b_size=07 ^x", IMPLEMENTATION, ""),
@@ -140,7 +140,7 @@ const PASSES: [File; 6] = [
 
 #[test]
 fn the_first_pass_that_refuses(rt: HostRuntime) {
-    for File(blocks, fault) in &PASSES {
+    for File(blocks, fault) in PASSES {
         assert!(rt; are_refused(rt.alloc(), blocks, *fault));
     }
 }
@@ -151,7 +151,7 @@ struct System(&'static str, Fault);
 
 const IMPOSSIBLE: &str = ".int_bits=0,.frac_bits=14,.max=1,.min=-1";
 
-const TESTS: [System; 12] = [
+const TESTS: &[System] = &[
     System(".b={1},^.b={}", Fault::Twice),
     System(".b=^{}", Fault::Length),
     System(".a=^{07,1,1,1,1,1,1,1,1,1}", Fault::Length),
@@ -171,7 +171,7 @@ const TESTS: [System; 12] = [
 
 #[test]
 fn the_first_test_that_refuses(rt: HostRuntime) {
-    for System(system, fault) in &TESTS {
+    for System(system, fault) in TESTS {
         assert!(rt; are_refused(rt.alloc(), &Blocks(system, IMPOSSIBLE, ""), *fault));
     }
 }
@@ -183,7 +183,7 @@ struct Known {
     refusal: FileRefusal,
 }
 
-const KNOWN: [Known; 6] = [
+const KNOWN: &[Known] = &[
     Known {
         text: "",
         refusal: FileRefusal::Unexpected {
@@ -227,7 +227,7 @@ const KNOWN: [Known; 6] = [
 
 #[test]
 fn refusals_at_known_offsets(rt: HostRuntime) {
-    for row in &KNOWN {
+    for row in KNOWN {
         assert!(rt; read(rt.alloc(), row.text.as_bytes()).err() == Some(row.refusal));
     }
 }

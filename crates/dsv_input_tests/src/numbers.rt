@@ -38,7 +38,7 @@ fn numbers_of_the_system(rt: HostRuntime) {
     }
 }
 
-const OTHERS: [Blocks; 17] = [
+const OTHERS: &[Blocks] = &[
     Blocks(SYSTEM, ".int_bits=^02", ""),
     Blocks(SYSTEM, ".int_bits=^2.0", ""),
     Blocks(SYSTEM, ".frac_bits=^-14", ""),
@@ -64,12 +64,12 @@ const OTHERS: [Blocks; 17] = [
 
 #[test]
 fn numbers_of_the_other_blocks(rt: HostRuntime) {
-    for blocks in &OTHERS {
+    for blocks in OTHERS {
         assert!(rt; is_wrong_number(rt.alloc(), blocks));
     }
 }
 
-const WIDE: [Blocks; 3] = [
+const WIDE: &[Blocks] = &[
     Blocks(SYSTEM, ".max=^170141183460469232e21", ""),
     Blocks(
         SYSTEM,
@@ -81,12 +81,12 @@ const WIDE: [Blocks; 3] = [
 
 #[test]
 fn decimals_that_are_too_wide(rt: HostRuntime) {
-    for blocks in &WIDE {
+    for blocks in WIDE {
         assert!(rt; are_refused(rt.alloc(), blocks, Fault::Wide));
     }
 }
 
-const UNLAWFUL: [Blocks; 4] = [
+const UNLAWFUL: &[Blocks] = &[
     Blocks(SYSTEM, ".int_bits=^0,.frac_bits=2,.max=1,.min=-1", ""),
     Blocks(SYSTEM, ".frac_bits=0,.min=1,.int_bits=^1,.max=1", ""),
     Blocks(SYSTEM, ".int_bits=^32,.frac_bits=1,.max=1,.min=-1", ""),
@@ -99,7 +99,7 @@ const UNLAWFUL: [Blocks; 4] = [
 
 #[test]
 fn widths_that_are_unlawful(rt: HostRuntime) {
-    for blocks in &UNLAWFUL {
+    for blocks in UNLAWFUL {
         assert!(rt; are_refused(rt.alloc(), blocks, Fault::Width));
     }
 }

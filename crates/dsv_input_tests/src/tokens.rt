@@ -12,7 +12,7 @@ struct Bad {
     at: u64,
 }
 
-const NO_UTF8: [Bad; 4] = [
+const NO_UTF8: &[Bad] = &[
     Bad {
         bytes: b"a\xff",
         at: 1,
@@ -33,7 +33,7 @@ const NO_UTF8: [Bad; 4] = [
 
 #[test]
 fn bytes_that_are_no_text(rt: HostRuntime) {
-    for row in &NO_UTF8 {
+    for row in NO_UTF8 {
         assert!(rt; check_text(row.bytes) == Err(FileRefusal::Utf8 { at: row.at }));
     }
 }
@@ -50,7 +50,7 @@ struct Stuck {
     at: u64,
 }
 
-const NO_TOKENS: [Stuck; 16] = [
+const NO_TOKENS: &[Stuck] = &[
     Stuck {
         text: "a .5x",
         at: 2,
@@ -101,7 +101,7 @@ const NO_TOKENS: [Stuck; 16] = [
 
 #[test]
 fn pieces_that_are_no_tokens(rt: HostRuntime) {
-    for row in &NO_TOKENS {
+    for row in NO_TOKENS {
         assert!(rt;
             lex(rt.alloc(), row.text.as_bytes()).err() == Some(FileRefusal::Token { at: row.at })
         );
@@ -173,7 +173,7 @@ fn the_sample_has_107_tokens_and_12_fields(rt: HostRuntime) {
 #[derive(Clone, Copy)]
 struct Name(&'static str, Word);
 
-const NAMES: [Name; 22] = [
+const NAMES: &[Name] = &[
     Name("digital_system", Word::Block(Block::System)),
     Name("implementation", Word::Block(Block::Implementation)),
     Name("hardware", Word::Block(Block::Hardware)),
@@ -207,7 +207,7 @@ fn is_word(alloc: Global, row: &Name) -> bool {
 
 #[test]
 fn names_and_their_words(rt: HostRuntime) {
-    for row in &NAMES {
+    for row in NAMES {
         assert!(rt; is_word(rt.alloc(), row));
     }
 }
