@@ -53,7 +53,7 @@ literal_eq-code a b =
 pub code-below : (l : Literal) (vars : ℕ) → l.var < vars → code_of l < 2 * vars
 code-below l vars h = elim l.positive as (λ b. 2 * l.var + cond b 0 1 < 2 * vars) [ true ↦ omega arith | false ↦ omega arith ]
 
-not_true : (b : Bool) → not b ≡ true → b ≡ false
+pub not_true : (b : Bool) → not b ≡ true → b ≡ false
 not_true true h = cc
 not_true false h = refl
 

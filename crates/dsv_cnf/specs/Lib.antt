@@ -9,3 +9,5 @@ pub mod Pieces
 pub mod Reading
 pub mod ReadingInside
 pub mod ReadingView
+pub mod TextFaults
+pub mod Texts

@@ -1,4 +1,5 @@
--- DIMACS text as a formula.
+-- DIMACS text as a formula, byte by byte as it is read. Which texts are of a formula stands in
+-- `Texts`, and why the others are of none in `TextFaults`.
 use Rattle.std.specs.Prelude.{◌≡◌, ℕ, ◌+◌, ◌-◌, ◌*◌, ◌^◌, Bool, true, false, not}
 use Rattle.std.specs.Prelude.{◌&&◌, ◌==◌, ◌⊎◌, nat_lt, List, [], ◌∷◌, ◌++◌, length}
 use Rattle.std.specs.Prelude.{drop, codes, cond, Option, Some, None, Result, Ok, Err, ◌<◌}

@@ -5,11 +5,13 @@
 mod assignment;
 mod dimacs;
 mod formula;
+mod law;
 mod literal;
 mod reading;
 
 pub use assignment::{Assignment, holds};
 pub use dimacs::write_dimacs;
 pub use formula::Formula;
+pub use law::texts_are_read;
 pub use literal::Lit;
 pub use reading::{CnfRefusal, read_dimacs};

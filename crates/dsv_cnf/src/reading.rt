@@ -5,6 +5,8 @@ ghost use Rattle.std.specs.Prelude.{IfOk, IfErr, IfSome, OnOk};
 ghost use Rattle.dsv_cnf.specs.Reading.{clauses_from, comments_end, header_of, number_end};
 ghost use Rattle.dsv_cnf.specs.Reading.{number_of, part_of, part_of_number, reading, end_clause};
 ghost use Rattle.dsv_cnf.specs.Reading.{take_part, word_end, IsPartOver, IsRefusal, finish};
+ghost use Rattle.dsv_cnf.specs.TextFaults.{IsRefusalOf};
+ghost use Rattle.dsv_cnf.specs.Texts.{IsTextOf};
 
 use crate::{Formula, Lit};
 use dsv_base::NoMemory;
@@ -54,9 +56,16 @@ impl<T: Drop> From<AllocFailed<T>> for CnfRefusal {
 
 /// Reads DIMACS text: comment lines, the header `p cnf V C`, and C clauses over V variables, each
 /// ended by 0. It takes time in proportion to the text.
+///
+/// A text of a formula is comment lines, its header line and, between blanks, the literals of each
+/// clause with a 0 after them; exactly these texts are read, each to its one formula
+/// ([`texts_are_read`](crate::texts_are_read)). An `Err` names the one fault of a text that is of no
+/// formula, or there was no memory.
 pub fn read_dimacs(alloc: Global, bytes: &[u8]) -> Result<Formula, CnfRefusal>
     ensures ok { IfOk result (λ f. reading bytes.now ≡ Ok f) }
+    ensures text { IfOk result (λ f. IsTextOf f bytes.now) }
     ensures refused { IfErr result (IsRefusal (reading bytes.now)) }
+    ensures fault { IfErr result (IsRefusalOf bytes.now) }
 {
     let header = read_header(bytes, comments_end(bytes))?;
     let mut reading = Reading {
