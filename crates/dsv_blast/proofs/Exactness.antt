@@ -11,10 +11,10 @@ use Rattle.dsv_term.specs.Terms.{AreTerms, AreValues, width_of, word_of}
 use Rattle.dsv_term.specs.TermsView.{TermsView}
 use Rattle.dsv_blast.specs.Gates.{positive}
 use Rattle.dsv_blast.specs.Words.{bits_value, bit, number_of}
-use Rattle.dsv_blast.specs.Blast.{total, bits_at, first_circuit, input_places, blast_of, cnf_of, input_values, RunsGates, Agree, IsExact}
+use Rattle.dsv_blast.specs.Blast.{total, bits_at, bits_word, first_circuit, input_places, blast_of, cnf_of, input_values, RunsGates, Agree, IsExact}
 use Rattle.dsv_blast.proofs.Truths.{satisfies-left, satisfies-right, satisfies-both}
 use Rattle.dsv_blast.proofs.Growth.{IsCircuit}
-use Rattle.dsv_blast.proofs.NodeValues.{spelled, word-at, width-at}
+use Rattle.dsv_blast.proofs.NodeValues.{word-at, width-at}
 use Rattle.dsv_blast.proofs.Nodes.{IsNext, AreBuilt, nodes-built}
 use Rattle.dsv_blast.proofs.Inputs.{over-places, like-places, values-fit, assigned, assigned-last, places-spell}
 
@@ -59,8 +59,9 @@ pub record HasRoot (t : TermsView) (root : TermId) : Type 0 where
 root-wide : (t : TermsView) (root : TermId) → HasRoot t root → length (bits_at (blast_of t).bits root.0) ≡ 1
 root-wide t root h = sym (width-at (blast_of t).bits root.0) ∙ (ap (λ ws. slice_index ws root.0) (built t h.terms).widths ∙ h.one_bit)
 
-root-word : (t : TermsView) (root : TermId) (v : ℕ → Bool) → HasRoot t root → RunsGates t v → word_of t (input_values (input_places t) v) root ≡ spelled v (bits_at (blast_of t).bits root.0)
-root-word t root v h r = ap (λ (ws : List Word). get_or ws root.0 (record { width = 0; number = 0 })) ((built t h.terms).says v r) ∙ word-at v (blast_of t).bits root.0
+-- the word of a node is what its bits spell
+node-word : (t : TermsView) (id : TermId) (v : ℕ → Bool) → AreTerms t → RunsGates t v → word_of t (input_values (input_places t) v) id ≡ bits_word v (bits_at (blast_of t).bits id.0)
+node-word t id v h r = ap (λ (ws : List Word). get_or ws id.0 (record { width = 0; number = 0 })) ((built t h).says v r) ∙ word-at v (blast_of t).bits id.0
 
 true_one : (b : Bool) → (b || false) ≡ true → bit b + 2 * 0 ≡ 1
 true_one true h = refl
@@ -100,11 +101,11 @@ exact t root h =
     let bits = bits_at (blast_of t).bits root.0 in
     record {
       values = values-fit t.inputs;
-      runs = λ v s. satisfies-left v gates (bits ∷ []) s;
+      nodes = λ v r i less. sym (node-word t (record { 0 = i }) v h.terms r);
       makes = λ v s.
           let r = satisfies-left v gates (bits ∷ []) s in
-          ap (λ (w : Word). w.number) (root-word t root v h r) ∙ clause-number v bits wide (satisfies-right v gates (bits ∷ []) s).0;
-      satisfies = λ v r m. satisfies-both v gates (bits ∷ []) r (number-clause v bits wide (sym (ap (λ (w : Word). w.number) (root-word t root v h r)) ∙ m), tt);
+          ap (λ (w : Word). w.number) (node-word t root v h.terms r) ∙ clause-number v bits wide (satisfies-right v gates (bits ∷ []) s).0;
+      satisfies = λ v r m. satisfies-both v gates (bits ∷ []) r (number-clause v bits wide (sym (ap (λ (w : Word). w.number) (node-word t root v h.terms r)) ∙ m), tt);
       every = λ values a. all_runs t values h.terms a;
       only = λ v w r s a.
           let n = total t.inputs in

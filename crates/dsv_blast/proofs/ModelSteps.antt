@@ -3,7 +3,7 @@ use Rattle.std.proofs.Common.{◌≡◌, ℕ, suc, ◌+◌, ◌-◌, ◌*◌, �
 use mir.Val.{bool_byte}
 use Rattle.std.specs.Prelude.{All, slice_index}
 use Rattle.std.proofs.lemmas.List.{length-map}
-use Rattle.dsv_term.specs.declared.node.TheConstants.{MAX_WIDTH}
+use Rattle.dsv_term.specs.Limits.{max_width}
 use Rattle.dsv_term.specs.Word.{IsWidth}
 use Rattle.dsv_blast.proofs.NodeValues.{width-at}
 use Rattle.std.proofs.Math.Nat.{pow-le-pow_right}
@@ -32,11 +32,11 @@ number-narrow v ls k h =
 pub values-step : (v : ℕ → Bool) (places : List (List Literal)) (i : ℕ) → i < length places → input_values (drop i places) v ≡ number_of (bits_value v (bits_at places i)) ∷ input_values (drop (i + 1) places) v
 values-step v places i h = let e : suc i ≡ i + 1 = omega arith in ap (λ ps. input_values ps v) (drop-cons places i [] h) ∙ ap (λ k. number_of (bits_value v (bits_at places i)) ∷ input_values (drop k places) v) e
 
-pub place-narrow : (places : List (List Literal)) (i : ℕ) → i < length places → All IsWidth (map length places) → length (bits_at places i) ≤ MAX_WIDTH
+pub place-narrow : (places : List (List Literal)) (i : ℕ) → i < length places → All IsWidth (map length places) → length (bits_at places i) ≤ max_width
 place-narrow places i h w =
     let k : i < length (map length places) = omega (arith, length-map places length) in
     let s = w i 0 k in
-    let n : slice_index (map length places) i ≤ MAX_WIDTH = s.narrow in
+    let n : slice_index (map length places) i ≤ max_width = s.narrow in
     rw (← width-at places i) n
 
 pub number-next : (v : ℕ → Bool) (ls : List Literal) (i m number : ℕ) (t : Bool) (l : Literal) → i < length ls → l ≡ get_or ls (length ls - 1 - i) l → t ≡ literal_value v l → m ≡ bit t

@@ -16,7 +16,7 @@ use Rattle.dsv_term.proofs.Words.{residue_fits}
 use Rattle.dsv_blast.specs.CircuitView.{CircuitView, Wired, Built}
 use Rattle.dsv_blast.specs.Gates.{zero_of, negated, and_wired, or_wired}
 use Rattle.dsv_blast.specs.Words.{bits_value, bit, number_of, built, built_bit, zip_from, constant_bits, negations, sign_turned, sign_of, extended, same_from, difference_built, at_least_wired, multiple_built, choice_from}
-use Rattle.dsv_blast.specs.Blast.{bits_at, node_built, input_values}
+use Rattle.dsv_blast.specs.Blast.{bits_at, bits_word, node_built, input_values}
 use Rattle.dsv_blast.proofs.Growth.{IsCircuit, Grows, grows-same, GivesBit, value-zero}
 use Rattle.dsv_blast.proofs.GateValues.{and-gives, or-gives, negated-gives}
 use Rattle.dsv_blast.proofs.Bits.{add_bits, carry_bits, carry-less, same-number, choice-bits, number-and, number-or, number-not, number-append, number-take, number-drop, number-zeros}
@@ -24,16 +24,12 @@ use Rattle.dsv_blast.proofs.Signs.{number-subtract, number-negate, number-extend
 use Rattle.dsv_blast.proofs.WordValues.{GivesNumber, zip-gives, choice_from-gives, add-gives, carry-gives, same-gives, number-constant, length-constant, bits-append, bits-negations, bits-replicate, over-append, over-replicate, over-negations, over-constant}
 use Rattle.dsv_blast.proofs.Copies.{length-bits, sum-gives, multiple-gives}
 
--- the word that literals spell
-abbrev pub spelled : (ℕ → Bool) → List Literal → Word
-spelled v ls = record { width = length ls; number = number_of (bits_value v ls) }
-
 -- Literals over a circuit that spell this word.
 pub record GivesWord (c : CircuitView) (r : Built) (w : ℕ) (word : (ℕ → Bool) → Word) : Type 0 where
   pub grows : Grows c r.circuit
   pub over : IsOver r.circuit.formula.vars r.bits
   pub wide : length r.bits ≡ w
-  pub says : (v : ℕ → Bool) → Satisfies v r.circuit.formula.clauses → spelled v r.bits ≡ word v
+  pub says : (v : ℕ → Bool) → Satisfies v r.circuit.formula.clauses → bits_word v r.bits ≡ word v
 
 word-is : (w m n k : ℕ) → w ≡ m → n ≡ k → let a : Word = record { width = w; number = n } in let b : Word = record { width = m; number = k } in a ≡ b
 word-is w m n k e f = rw (e, f)
@@ -162,11 +158,11 @@ turned_like v la lb e h = ap_at (length lb - 1) (length la - 1) (omega arith) (t
     ap_at : (m n : ℕ) → m ≡ n → IsTurned m (number_of (bits_value v lb)) (number_of (bits_value v (sign_turned lb))) → IsTurned n (number_of (bits_value v lb)) (number_of (bits_value v (sign_turned lb)))
     ap_at m n e t = subst (λ (k : ℕ). IsTurned k (number_of (bits_value v lb)) (number_of (bits_value v (sign_turned lb)))) e t
 
-signed-is : (v : ℕ → Bool) (ls : List Literal) (w : ℕ) → length ls ≡ w → 1 ≤ w → signed_of (spelled v ls) ≡ signed_of (record { width = w - 1 + 1; number = number_of (bits_value v ls) })
+signed-is : (v : ℕ → Bool) (ls : List Literal) (w : ℕ) → length ls ≡ w → 1 ≤ w → signed_of (bits_word v ls) ≡ signed_of (record { width = w - 1 + 1; number = number_of (bits_value v ls) })
 signed-is v ls w e h = let f : length ls ≡ w - 1 + 1 = omega arith in ap (λ k. signed_of (record { width = k; number = number_of (bits_value v ls) })) f
 
 slt-gives : (c : CircuitView) (la lb : List Literal) → length lb ≡ length la → 1 ≤ length la → IsCircuit c → IsOver c.formula.vars la → IsOver c.formula.vars lb
-    → GivesNumber c (built_bit (negated (at_least_wired c (sign_turned la) (sign_turned lb)))) 1 (λ v. cond (int_lt (signed_of (spelled v la)) (signed_of (spelled v lb))) 1 0)
+    → GivesNumber c (built_bit (negated (at_least_wired c (sign_turned la) (sign_turned lb)))) 1 (λ v. cond (int_lt (signed_of (bits_word v la)) (signed_of (bits_word v lb))) 1 0)
 slt-gives c la lb e m s p q =
     let g = less-gives c (sign_turned la) (sign_turned lb) (length-turned lb ∙ (e ∙ sym (length-turned la))) s (over-turned c.formula.vars la p) (over-turned c.formula.vars lb q) in
     record {
@@ -178,7 +174,7 @@ slt-gives c la lb e m s p q =
     }
 
 sle-gives : (c : CircuitView) (la lb : List Literal) → length lb ≡ length la → 1 ≤ length la → IsCircuit c → IsOver c.formula.vars la → IsOver c.formula.vars lb
-    → GivesNumber c (built_bit (at_least_wired c (sign_turned lb) (sign_turned la))) 1 (λ v. cond (int_le (signed_of (spelled v la)) (signed_of (spelled v lb))) 1 0)
+    → GivesNumber c (built_bit (at_least_wired c (sign_turned lb) (sign_turned la))) 1 (λ v. cond (int_le (signed_of (bits_word v la)) (signed_of (bits_word v lb))) 1 0)
 sle-gives c la lb e m s p q =
     let g = not_less-gives c (sign_turned lb) (sign_turned la) (length-turned la ∙ (sym e ∙ sym (length-turned lb))) s (over-turned c.formula.vars lb q) (over-turned c.formula.vars la p) in
     record {
@@ -229,7 +225,7 @@ concat-gives c la lb s p q = no_gates c (lb ++ la) (length la + length lb) _ s (
     (λ v o. ap number_of (bits-append v lb la) ∙ (number-append (bits_value v lb) (bits_value v la) ∙ rw (length-bits v lb) (omega arith)))
 
 sext-gives : (c : CircuitView) (la : List Literal) (w : ℕ) → 1 ≤ length la → length la ≤ w → IsCircuit c → IsOver c.formula.vars la
-    → GivesNumber c (built c (extended (zero_of c) w la)) w (λ v. residue w (signed_of (spelled v la)))
+    → GivesNumber c (built c (extended (zero_of c) w la)) w (λ v. residue w (signed_of (bits_word v la)))
 sext-gives c la w m le s p =
     let n = length la - 1 in
     let top = sign_of (zero_of c) la in
@@ -290,13 +286,13 @@ ite-gives c lk la lb one e s r p q =
           ∙ (number-choice (literal_value v k) (bits_value v la) (bits_value v lb) ∙ ap (λ b. cond b (number_of (bits_value v la)) (number_of (bits_value v lb))) (sym (truth_of v lk (zero_of c) one)));
     }
 
-choice_is : (b : Bool) (v : ℕ → Bool) (la lb : List Literal) → length lb ≡ length la → let w : Word = record { width = length la; number = cond b (number_of (bits_value v la)) (number_of (bits_value v lb)) } in cond b (spelled v la) (spelled v lb) ≡ w
+choice_is : (b : Bool) (v : ℕ → Bool) (la lb : List Literal) → length lb ≡ length la → let w : Word = record { width = length la; number = cond b (number_of (bits_value v la)) (number_of (bits_value v lb)) } in cond b (bits_word v la) (bits_word v lb) ≡ w
 choice_is true v la lb e = refl
 choice_is false v la lb e = word-is (length lb) (length la) (number_of (bits_value v lb)) (number_of (bits_value v lb)) e refl
 
 -- ---- all kinds
 
-pub word-at : (v : ℕ → Bool) (bits : List (List Literal)) (i : ℕ) → get_or (map (spelled v) bits) i (record { width = 0; number = 0 }) ≡ spelled v (bits_at bits i)
+pub word-at : (v : ℕ → Bool) (bits : List (List Literal)) (i : ℕ) → get_or (map (bits_word v) bits) i (record { width = 0; number = 0 }) ≡ bits_word v (bits_at bits i)
 word-at v [] i = refl
 word-at v (b ∷ bs) zero = refl
 word-at v (b ∷ bs) (suc i) = word-at v bs i
@@ -331,10 +327,10 @@ some_bits : (bits : List (List Literal)) (i : ℕ) → All IsWidth (map length b
 some_bits bits i h lt = let w = h i 0 lt in let e = width-at bits i in omega (arith, w.some)
 
 abbrev words : List (List Literal) → (ℕ → Bool) → List Word
-words bits v = map (spelled v) bits
+words bits v = map (bits_word v) bits
 
 pub node-gives : (inputs : List ℕ) (places bits : List (List Literal)) (c : CircuitView) (n : TermNode) → AreBits inputs places bits c → IsLawful inputs (map length bits) n
-    → GivesWord c (node_built places bits c n) (node_width inputs (map length bits) n) (λ v. node_word inputs (input_values places v) (map (spelled v) bits) n)
+    → GivesWord c (node_built places bits c n) (node_width inputs (map length bits) n) (λ v. node_word inputs (input_values places v) (map (bits_word v) bits) n)
 node-gives inputs places bits c (Input k) h f =
     let la = bits_at places k in
     let e : slice_index inputs k ≡ length la = ap (λ ws. slice_index ws k) (sym h.like) ∙ width-at places k in

@@ -9,9 +9,9 @@ use Rattle.dsv_term.specs.Word.{IsWidth}
 use Rattle.dsv_term.specs.TermNode.{node_word, node_width, words_from, widths_from, AreLawful}
 use Rattle.dsv_term.proofs.Words.{AreWidths}
 use Rattle.dsv_blast.specs.CircuitView.{CircuitView}
-use Rattle.dsv_blast.specs.Blast.{node_built, Blast, blast_from, input_values}
+use Rattle.dsv_blast.specs.Blast.{bits_word, node_built, Blast, blast_from, input_values}
 use Rattle.dsv_blast.proofs.Growth.{Grows, grows-same, grows-both, are_over-more, are_over-append}
-use Rattle.dsv_blast.proofs.NodeValues.{spelled, AreBits, node-gives}
+use Rattle.dsv_blast.proofs.NodeValues.{AreBits, node-gives}
 
 -- what is known after one node more
 pub record IsNext (inputs : List ℕ) (places bits : List (List Literal)) (ns : List TermNode) (c : CircuitView) : Type 0 where
@@ -44,7 +44,7 @@ pub record AreBuilt (inputs : List ℕ) (places bits : List (List Literal)) (ns 
   pub grows : Grows c r.circuit
   pub over : AreOver r.circuit.formula.vars r.bits
   pub widths : map length r.bits ≡ widths_from inputs ns (map length bits)
-  pub says : (v : ℕ → Bool) → Satisfies v r.circuit.formula.clauses → words_from inputs (input_values places v) ns (map (spelled v) bits) ≡ map (spelled v) r.bits
+  pub says : (v : ℕ → Bool) → Satisfies v r.circuit.formula.clauses → words_from inputs (input_values places v) ns (map (bits_word v) bits) ≡ map (bits_word v) r.bits
 
 pub nodes-built : (inputs : List ℕ) (places bits : List (List Literal)) (ns : List TermNode) (c : CircuitView) → All IsWidth inputs → IsNext inputs places bits ns c → AreBuilt inputs places bits ns c (blast_from places ns c bits)
 nodes-built inputs places bits [] c i h = record { grows = grows-same c h.bits_of.sound; over = h.bits_of.over; widths = refl; says = λ v k. refl }
@@ -57,6 +57,6 @@ nodes-built inputs places bits (n ∷ ns) c i h =
       over = ih.over;
       widths = ih.widths ∙ ap (widths_from inputs ns) (pushed_widths inputs bits r.bits n g.wide);
       says = λ v k.
-          let e : spelled v r.bits ≡ node_word inputs (input_values places v) (map (spelled v) bits) n = g.says v (ih.grows.less v k) in
-          ap (words_from inputs (input_values places v) ns) (ap (λ w. map (spelled v) bits ++ w ∷ []) (sym e) ∙ sym (map_push (spelled v) bits r.bits)) ∙ ih.says v k;
+          let e : bits_word v r.bits ≡ node_word inputs (input_values places v) (map (bits_word v) bits) n = g.says v (ih.grows.less v k) in
+          ap (words_from inputs (input_values places v) ns) (ap (λ w. map (bits_word v) bits ++ w ∷ []) (sym e) ∙ sym (map_push (bits_word v) bits r.bits)) ∙ ih.says v k;
     }

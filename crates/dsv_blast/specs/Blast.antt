@@ -9,6 +9,7 @@ use Rattle.dsv_term.specs.declared.node.TermNode.{TermNode}
 use Rattle.dsv_term.specs.declared.node.TermNode.TheVariants.{Input, Constant, Add, Sub, Slt}
 use Rattle.dsv_term.specs.declared.node.TermNode.TheVariants.{Sle, Ult, Eq, And, Or, Concat, Neg}
 use Rattle.dsv_term.specs.declared.node.TermNode.TheVariants.{Not, MulConst, Sext, Extract, Ite}
+use Rattle.dsv_term.specs.declared.word.Word.{Word}
 use Rattle.dsv_term.specs.Terms.{AreValues, word_of}
 use Rattle.dsv_term.specs.TermsView.{TermsView}
 use Rattle.dsv_term.specs.Word.{residue}
@@ -107,9 +108,19 @@ cnf_of t root = record {
 abbrev pub input_values : List (List Literal) → (ℕ → Bool) → List ℕ
 input_values places v = map (λ ls. number_of (bits_value v ls)) places
 
--- The assignment gives every gate's variable the value of its gate.
+-- the word that literals spell
+abbrev pub bits_word : (ℕ → Bool) → List Literal → Word
+bits_word v ls = record { width = length ls; number = number_of (bits_value v ls) }
+
+-- The assignment satisfies the clauses of the gates.
 abbrev pub RunsGates : TermsView → (ℕ → Bool) → Type 0
 RunsGates t v = Satisfies v (blast_of t).circuit.formula.clauses
+
+-- The bits of each node spell the word that the node has at the values of the inputs.
+abbrev pub SpellsNodes : TermsView → (ℕ → Bool) → Type 0
+SpellsNodes t v = (i : ℕ) → i < length t.nodes
+    → bits_word v (bits_at (blast_of t).bits i)
+    ≡ word_of t (input_values (input_places t) v) (record { 0 = i })
 
 -- The root is 1 at the values that the assignment gives the inputs.
 abbrev pub MakesRoot : TermsView → TermId → (ℕ → Bool) → Type 0
@@ -119,11 +130,13 @@ MakesRoot t root v = (word_of t (input_values (input_places t) v) root).number �
 abbrev pub Agree : ℕ → (ℕ → Bool) → (ℕ → Bool) → Type 0
 Agree n v w = (k : ℕ) → k < n → v k ≡ w k
 
--- An assignment satisfies the formula exactly where its gates have their values and the root is 1;
--- and all values of the inputs have one assignment of the gates.
+-- An assignment gives the inputs values. Where it satisfies the clauses of the gates, the bits of
+-- each node spell the node's word at these values, and it satisfies the formula, whose clauses are
+-- these and the root's bit, exactly where the root is 1. All values of the inputs have one
+-- assignment of the gates.
 pub record IsExact (t : TermsView) (root : TermId) (f : FormulaView) : Type 0 where
   pub values : (v : ℕ → Bool) → AreValues t.inputs (input_values (input_places t) v)
-  pub runs : (v : ℕ → Bool) → Satisfies v f.clauses → RunsGates t v
+  pub nodes : (v : ℕ → Bool) → RunsGates t v → SpellsNodes t v
   pub makes : (v : ℕ → Bool) → Satisfies v f.clauses → MakesRoot t root v
   pub satisfies : (v : ℕ → Bool) → RunsGates t v → MakesRoot t root v → Satisfies v f.clauses
   pub every : (values : List ℕ) → AreValues t.inputs values

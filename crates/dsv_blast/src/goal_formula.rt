@@ -110,8 +110,8 @@ fn wire(alloc: Global, terms: &Terms) -> Result<Wiring, NoMemory>
     })
 }
 
-/// The formula of a goal: an assignment satisfies it exactly where each gate has its value and the
-/// root is 1. Too large a formula is want of memory.
+/// The formula of a goal: an assignment satisfies it exactly where each gate has its value, so that
+/// the bits of each term spell its word, and the root is 1. Too large a formula is want of memory.
 pub fn blast(alloc: Global, goal: &Goal) -> Result<Blasted, NoMemory>
     ensures formula { IfOk result (λ b. b.formula ≡ cnf_of goal.now.terms goal.now.root) }
     ensures exact { IfOk result (λ b. IsExact goal.now.terms goal.now.root b.formula) }

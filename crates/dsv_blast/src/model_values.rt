@@ -2,7 +2,7 @@
 ghost use Rattle.std.specs.Prelude.{◌≡◌, ◌<◌, ◌≤◌, length, IfOk};
 ghost use Rattle.dsv_cnf.specs.Formula.{IsOver, assignment_of};
 ghost use Rattle.dsv_cnf.specs.Literal.{literal_value};
-ghost use Rattle.dsv_term.specs.declared.node.TheConstants.{MAX_WIDTH};
+ghost use Rattle.dsv_term.specs.Limits.{max_width};
 ghost use Rattle.dsv_blast.specs.Words.{bits_value, number_of};
 ghost use Rattle.dsv_blast.specs.Blast.{input_values};
 
@@ -23,7 +23,7 @@ fn is_true(literal: Lit, model: &Assignment) -> bool
 /// The number that literals spell.
 fn number(bits: &[Lit], model: &Assignment) -> u128
     requires over { IsOver (length model.now) bits.now }
-    requires narrow { length bits.now ≤ MAX_WIDTH }
+    requires narrow { length bits.now ≤ max_width }
     ensures { result ≡ number_of (bits_value (assignment_of model.now) bits.now) }
 {
     let mut number: u128 = 0;
