@@ -7,7 +7,8 @@ use Rattle.std.proofs.lemmas.List.Elements.{All-nil, All-take, All-get_or}
 use Rattle.std.proofs.lemmas.Result.{IfOk-weaker}
 use Rattle.dsv_certfile.specs.Bodies.{lines_from, word_in, numbers_of, inequality_with, inequality_numbers, inequality_in, logs_in, invariant_in}
 use Rattle.dsv_certfile.specs.Lawful.{IsEntry, IsInequality, IsSet, AreLogs, IsLog}
-use Rattle.dsv_certfile.specs.Limits.{greatest_depth, most_inequalities}
+use Rattle.dsv_certfile.specs.Limits.{greatest_depth}
+use Rattle.dsv_template.specs.Limits.{most_inequalities}
 use Rattle.dsv_certfile.specs.Pieces.{pieces_of}
 use Rattle.dsv_certfile.specs.Places.{word_places, inequality_places}
 use Rattle.dsv_certfile.specs.Ranges.{AreOf}

@@ -16,7 +16,8 @@ use Rattle.dsv_certfile.specs.Bodies.{line_in}
 use Rattle.dsv_certfile.specs.Keywords.{keyword_text, unbounded_text}
 use Rattle.dsv_certfile.specs.Kinds.{kind_name, kinds, is_kind_of}
 use Rattle.dsv_certfile.specs.Lawful.{IsSize}
-use Rattle.dsv_certfile.specs.Limits.{most_samples, greatest_depth, most_inequalities, most_places}
+use Rattle.dsv_certfile.specs.Limits.{most_samples, greatest_depth, most_places}
+use Rattle.dsv_template.specs.Limits.{most_inequalities}
 use Rattle.dsv_certfile.specs.Numerals.{samples_of}
 use Rattle.dsv_certfile.specs.Pieces.{pieces_of}
 use Rattle.dsv_certfile.specs.Places.{line_numbers}

@@ -12,7 +12,7 @@ use Rattle.dsv_hints.proofs.AcceptedIds.{IsPositive, HasPositiveIds}
 use Rattle.dsv_template.specs.Candidates.{is_small, all_bit_lengths, is_fit_for, is_shaped}
 use Rattle.dsv_template.specs.declared.candidate.Candidate.{Candidate}
 use Rattle.dsv_template.specs.declared.candidate.Inequality.{Inequality}
-use Rattle.dsv_template.specs.declared.limits.TheConstants.{MOST_BOUND, MOST_COEFFICIENT, MOST_BIT_LENGTHS, MOST_DEPTH}
+use Rattle.dsv_template.specs.Limits.{most_bound, most_coefficient, most_bit_lengths, most_depth}
 use Rattle.dsv_certfile.specs.Lawful.{IsId, IsStep, IsLog, IsEntry, IsInequality, IsSet}
 use Rattle.dsv_certfile.specs.Typed.{IsShortId, IsTypedStep, IsTypedLog, IsTypedInequality, IsTypedSet}
 
@@ -32,15 +32,15 @@ at_most : (n m : ℕ) → nat_le n m ≡ true → n ≤ m
 at_most n m h = grind (arith, nat_tests)
 
 small_entry : (z : ℤ) → is_small z ≡ true → IsEntry z
-small_entry z h = let l = at_most (unsigned_abs z) MOST_COEFFICIENT h in omega arith
+small_entry z h = let l = at_most (unsigned_abs z) most_coefficient h in omega arith
 
-bound_entry : (z : ℤ) → nat_le (unsigned_abs z) MOST_BOUND ≡ true → IsEntry z
-bound_entry z h = let l = at_most (unsigned_abs z) MOST_BOUND h in omega arith
+bound_entry : (z : ℤ) → nat_le (unsigned_abs z) most_bound ≡ true → IsEntry z
+bound_entry z h = let l = at_most (unsigned_abs z) most_bound h in omega arith
 
 inequality_is : (registers : ℕ) (i : Inequality) → IsTypedInequality i → is_fit_for registers i ≡ true → IsInequality i
 inequality_is registers i t h =
     let small = list_all is_small i.coefficients.items in
-    let a = both_tests ((length i.coefficients.items == registers) && small) (nat_le (unsigned_abs i.bound) MOST_BOUND) h in
+    let a = both_tests ((length i.coefficients.items == registers) && small) (nat_le (unsigned_abs i.bound) most_bound) h in
     let b = both_tests (length i.coefficients.items == registers) small a.0 in
     record {
       few = t;
@@ -52,11 +52,11 @@ pub set_is_lawful : (registers : ℕ) (candidate : Candidate) → IsTypedSet can
 set_is_lawful registers candidate t h =
     let items = candidate.inequalities.items in
     let fit = list_all (is_fit_for registers) items in
-    let room = nat_le (all_bit_lengths items) MOST_BIT_LENGTHS in
-    let a = both_tests (fit && room && nat_le 1 candidate.depth) (nat_le candidate.depth MOST_DEPTH) h in
+    let room = nat_le (all_bit_lengths items) most_bit_lengths in
+    let a = both_tests (fit && room && nat_le 1 candidate.depth) (nat_le candidate.depth most_depth) h in
     let b = both_tests (fit && room) (nat_le 1 candidate.depth) a.0 in
     let each = AllPass-from_list_all (is_fit_for registers) items (both_tests fit room b.0).0 in
-    let shallow = at_most candidate.depth MOST_DEPTH a.1 in
+    let shallow = at_most candidate.depth most_depth a.1 in
     record {
       depth = omega arith;
       few = t.few;

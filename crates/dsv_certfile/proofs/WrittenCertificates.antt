@@ -7,7 +7,8 @@ use Rattle.dsv_certfile.specs.Answers.{Reading}
 use Rattle.dsv_certfile.specs.Bodies.{line_in, whole_text, invariant_in, falls_in}
 use Rattle.dsv_certfile.specs.Headings.{version_in, line_job, line_kind}
 use Rattle.dsv_certfile.specs.Lawful.{IsSize, IsLawful}
-use Rattle.dsv_certfile.specs.Limits.{greatest_depth, most_inequalities, most_places}
+use Rattle.dsv_certfile.specs.Limits.{greatest_depth, most_places}
+use Rattle.dsv_template.specs.Limits.{most_inequalities}
 use Rattle.dsv_certfile.specs.Pieces.{unended}
 use Rattle.dsv_certfile.specs.Reading.{heading_in, body_in, certificate_in}
 use Rattle.dsv_certfile.specs.Steps.{log_in}

@@ -11,7 +11,8 @@ use Rattle.dsv_names.specs.Roundings.{rounding_name, roundings}
 use Rattle.dsv_names.specs.OverflowModes.{overflow_mode_name, overflow_modes}
 use Rattle.dsv_certfile.specs.Keywords.{keyword_text, version_text, unbounded_text}
 use Rattle.dsv_certfile.specs.Kinds.{kind_name, kinds, is_kind_of}
-use Rattle.dsv_certfile.specs.Limits.{greatest_depth, most_inequalities, most_places}
+use Rattle.dsv_certfile.specs.Limits.{greatest_depth, most_places}
+use Rattle.dsv_template.specs.Limits.{most_inequalities}
 use Rattle.dsv_certfile.specs.Numerals.{samples_of}
 use Rattle.dsv_certfile.specs.Pieces.{pieces_of}
 use Rattle.dsv_certfile.specs.Places.{line_numbers}

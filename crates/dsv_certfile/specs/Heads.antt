@@ -1,6 +1,7 @@
 -- Scaffolding, which private contracts alone cite: the numbers of a kind line.
 use Rattle.std.specs.Prelude.{◌≤◌}
-use Rattle.dsv_certfile.specs.Limits.{most_inequalities, most_places}
+use Rattle.dsv_certfile.specs.Limits.{most_places}
+use Rattle.dsv_template.specs.Limits.{most_inequalities}
 use Rattle.dsv_certfile.specs.declared.kind.KindHead.{KindHead}
 use Rattle.dsv_certfile.specs.declared.kind.KindHead.TheVariants as head
 

@@ -16,7 +16,8 @@ use Rattle.dsv_template.specs.declared.verdict.ThreeLogs.{ThreeLogs}
 use Rattle.dsv_certfile.specs.Kinds.{is_kind_of}
 use Rattle.dsv_certfile.specs.Limits.{greatest_whole, greatest_entry, greatest_id, greatest_literal}
 use Rattle.dsv_certfile.specs.Limits.{greatest_depth, most_samples, most_places, most_squares}
-use Rattle.dsv_certfile.specs.Limits.{most_inequalities, most_inequality_numbers}
+use Rattle.dsv_certfile.specs.Limits.{most_inequality_numbers}
+use Rattle.dsv_template.specs.Limits.{most_inequalities}
 use Rattle.dsv_certfile.specs.declared.certificate.Certificate.{Certificate}
 use Rattle.dsv_certfile.specs.declared.certificate.Certificate.TheVariants as certificate
 use Rattle.dsv_certfile.specs.declared.job.Job.{Job}

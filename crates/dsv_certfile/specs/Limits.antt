@@ -32,10 +32,6 @@ most_places = 8
 abbrev pub most_squares : ℕ
 most_squares = 8
 
--- the most inequalities of a candidate
-abbrev pub most_inequalities : ℕ
-most_inequalities = 32
-
 -- the most numbers of an inequality: its coefficients, and its bound
 abbrev pub most_inequality_numbers : ℕ
 most_inequality_numbers = 17

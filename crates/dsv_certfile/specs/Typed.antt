@@ -10,7 +10,8 @@ use Rattle.dsv_template.specs.declared.candidate.Inequality.{Inequality}
 use Rattle.dsv_template.specs.declared.verdict.ThreeLogs.{ThreeLogs}
 use Rattle.dsv_certfile.specs.Lawful.{IsSize, IsLiteral}
 use Rattle.dsv_certfile.specs.Limits.{greatest_whole, greatest_id, most_places, most_squares}
-use Rattle.dsv_certfile.specs.Limits.{most_inequalities, most_inequality_numbers}
+use Rattle.dsv_certfile.specs.Limits.{most_inequality_numbers}
+use Rattle.dsv_template.specs.Limits.{most_inequalities}
 use Rattle.dsv_certfile.specs.Texts.{job_of}
 use Rattle.dsv_certfile.specs.declared.certificate.Certificate.{Certificate}
 use Rattle.dsv_certfile.specs.declared.certificate.Certificate.TheVariants as certificate

@@ -4,7 +4,8 @@ ghost use Rattle.dsv_certfile.specs.Answers.{Reads};
 ghost use Rattle.dsv_certfile.specs.Bodies.{inequality_in, inequality_numbers, inequality_with};
 ghost use Rattle.dsv_certfile.specs.Bodies.{line_in, logs_in, invariant_in};
 ghost use Rattle.dsv_certfile.specs.Candidates.{ReadsInequalities, AreEntries};
-ghost use Rattle.dsv_certfile.specs.Limits.{most_inequalities, most_inequality_numbers};
+ghost use Rattle.dsv_certfile.specs.Limits.{most_inequality_numbers};
+ghost use Rattle.dsv_template.specs.Limits.{most_inequalities};
 
 use crate::fault::{CertRefusal, TextFault, at_line};
 use crate::keyword::Keyword;

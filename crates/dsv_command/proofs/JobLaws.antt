@@ -17,7 +17,7 @@ use Rattle.dsv_names.specs.declared.property.RootProperty.{RootProperty}
 use Rattle.dsv_names.specs.declared.property.Property.{Property}
 use Rattle.dsv_names.specs.declared.property.Property.TheVariants.{OfRuns, OfRoots, Timing}
 use Rattle.dsv_command.specs.declared.job.Design.{Design}
-use Rattle.dsv_command.specs.declared.limits.TheConstants.{MOST_NUMBER_DIGITS, MOST_SAMPLES, DEFAULT_SAMPLES, MOST_CONFLICTS, DEFAULT_CONFLICTS}
+use Rattle.dsv_command.specs.Limits.{most_number_digits, most_samples, default_samples, most_conflicts, default_conflicts}
 use Rattle.dsv_text.specs.Digits.{short_number}
 use Rattle.dsv_command.specs.Inputs.{inputs_of}
 use Rattle.dsv_command.specs.Jobs.{Task, decides, checks_time, writes, searches, seeks_set, simulates, checks, Asked, ◌>>=◌, choice_or, design_of, is_given, has_run_option, is_certified, has_verdict_option, has_design_option, number_up_to, samples_of, conflicts_of, run_task, unbounded_task, property_task, task_by, task_of, job_of_parts}
@@ -73,14 +73,14 @@ task_read parts t (IsTask.roots ps p g none) = property_read ps (OfRoots p) (dec
 task_read parts t (IsTask.timing ps g none) = property_read ps Timing checks_time g (rw (no_verdict_given ps none) refl)
 task_read parts t (IsTask.formula ps p samples g b n f c d) =
     property_read ps (OfRuns p) (writes p samples) g
-    (rw b (ap (λ x. x >>= run_task ps p) (number_read MOST_SAMPLES DEFAULT_SAMPLES samples (value_of (codes "x-size") ps) n) ∙ rw (f, c, d) refl))
+    (rw b (ap (λ x. x >>= run_task ps p) (number_read most_samples default_samples samples (value_of (codes "x-size") ps) n) ∙ rw (f, c, d) refl))
 task_read parts t (IsTask.search ps p samples conflicts g b n m f) =
     property_read ps (OfRuns p) (searches p samples conflicts) g
-    (rw b (ap (λ x. x >>= run_task ps p) (number_read MOST_SAMPLES DEFAULT_SAMPLES samples (value_of (codes "x-size") ps) n)
-    ∙ rw f (ap (λ x. x >>= λ found. Some (searches p samples found)) (number_read MOST_CONFLICTS DEFAULT_CONFLICTS conflicts (value_of (codes "conflicts") ps) m))))
+    (rw b (ap (λ x. x >>= run_task ps p) (number_read most_samples default_samples samples (value_of (codes "x-size") ps) n)
+    ∙ rw f (ap (λ x. x >>= λ found. Some (searches p samples found)) (number_read most_conflicts default_conflicts conflicts (value_of (codes "conflicts") ps) m))))
 task_read parts t (IsTask.unbounded ps conflicts g b s f m) =
     property_read ps (OfRuns Overflow) (seeks_set conflicts) g
-    (rw (b, s, f) (ap (λ x. x >>= λ found. Some (seeks_set found)) (number_read MOST_CONFLICTS DEFAULT_CONFLICTS conflicts (value_of (codes "conflicts") ps) m)))
+    (rw (b, s, f) (ap (λ x. x >>= λ found. Some (seeks_set found)) (number_read most_conflicts default_conflicts conflicts (value_of (codes "conflicts") ps) m)))
 task_read parts t (IsTask.simulation ps text inputs e h f d none) =
     rw (f, e, d) (rw (no_verdict_given ps none) (ap (λ x. x >>= λ found. Some (simulates found)) (inputs_read text inputs h)))
 task_read parts t (IsTask.check ps name e f d none plain) = rw (f, d, e) (rw (no_verdict_given ps none, no_design_given ps plain) refl)
@@ -106,7 +106,7 @@ design_found parts d e =
     })
 
 -- a number that was chosen is within the limit
-within_by : (limit n m : ℕ) (some few : Bool) → nat_le 1 m ≡ some → nat_le m limit ≡ few → (text : List ℕ) → short_number MOST_NUMBER_DIGITS text ≡ Some m →
+within_by : (limit n m : ℕ) (some few : Bool) → nat_le 1 m ≡ some → nat_le m limit ≡ few → (text : List ℕ) → short_number most_number_digits text ≡ Some m →
     (if some && few then Some m else None) ≡ Some n → IsNumberUpTo limit text n
 within_by limit n m true true e f text h k =
     let same : m ≡ n = cc in
@@ -117,7 +117,7 @@ within_by limit n m false few e f text h k = absurd (cc)
 pub number_found : (limit default n : ℕ) (text : Option (List ℕ)) → choice_or (number_up_to limit) default text ≡ Some n → IsNumber limit default text n
 number_found limit default n None h = cc
 number_found limit default n (Some text) h =
-    let b = unbind (short_number MOST_NUMBER_DIGITS text) (λ m. (if nat_le 1 m && nat_le m limit then Some m else None)) n h in
+    let b = unbind (short_number most_number_digits text) (λ m. (if nat_le 1 m && nat_le m limit then Some m else None)) n h in
     within_by limit n b.value (nat_le 1 b.value) (nat_le b.value limit) refl refl text b.first b.second
 
 -- none of four is given where one of them isn't
@@ -158,13 +158,13 @@ question_by parts p samples t true true w g u n e d k h = absurd (cc)
 question_by parts p samples t true false true g u n e d k h = absurd (cc)
 question_by parts p samples t true false false g u n e d k h =
     let same : writes p samples ≡ t = cc in
-    subst (IsTask parts) same (IsTask.formula parts p samples g u (number_found MOST_SAMPLES DEFAULT_SAMPLES samples (value_of (codes "x-size") parts) n) e d k)
+    subst (IsTask parts) same (IsTask.formula parts p samples g u (number_found most_samples default_samples samples (value_of (codes "x-size") parts) n) e d k)
 question_by parts p samples t false c w g u n e d k h =
     let b = unbind (conflicts_of parts) (λ conflicts. Some (searches p samples conflicts)) t h in
     let same : searches p samples b.value ≡ t = let s = b.second in cc in
     subst (IsTask parts) same (IsTask.search parts p samples b.value g u
-    (number_found MOST_SAMPLES DEFAULT_SAMPLES samples (value_of (codes "x-size") parts) n)
-    (number_found MOST_CONFLICTS DEFAULT_CONFLICTS b.value (value_of (codes "conflicts") parts) b.first) e)
+    (number_found most_samples default_samples samples (value_of (codes "x-size") parts) n)
+    (number_found most_conflicts default_conflicts b.value (value_of (codes "conflicts") parts) b.first) e)
 
 -- the task over runs of any length
 unbounded_by : (parts : List PartView) (p : RunProperty) (t : Task) (s f : Bool) → GivesProperty parts (OfRuns p) → is_given parts (codes "unbounded") ≡ true →
@@ -176,7 +176,7 @@ unbounded_by parts Overflow t false false g u a e h =
     let k : (conflicts_of parts >>= λ conflicts. Some (seeks_set conflicts)) ≡ Some t = sym (rw (a, e) refl) ∙ h in
     let b = unbind (conflicts_of parts) (λ conflicts. Some (seeks_set conflicts)) t k in
     let same : seeks_set b.value ≡ t = let s = b.second in cc in
-    subst (IsTask parts) same (IsTask.unbounded parts b.value g u a e (number_found MOST_CONFLICTS DEFAULT_CONFLICTS b.value (value_of (codes "conflicts") parts) b.first))
+    subst (IsTask parts) same (IsTask.unbounded parts b.value g u a e (number_found most_conflicts default_conflicts b.value (value_of (codes "conflicts") parts) b.first))
 
 -- the task of a property of runs
 runs_by : (parts : List PartView) (p : RunProperty) (t : Task) (u : Bool) → GivesProperty parts (OfRuns p) → is_given parts (codes "unbounded") ≡ u →

@@ -3,7 +3,7 @@ use Rattle.std.proofs.Common.{◌≡◌, ℕ, ◌^◌, Bool, true, false, List, 
 use Rattle.std.specs.Prelude.{codes, if◌then◌else◌, ◌||◌, nat_lt, is_some, option_map}
 use Rattle.std.proofs.lemmas.Bool.Decides.{nat_tests}
 use Rattle.dsv_text.specs.Digits.{short_number}
-use Rattle.dsv_command.specs.declared.limits.TheConstants.{MOST_NUMBER_DIGITS, MOST_CONTROLLERS, DEFAULT_CONTROLLERS}
+use Rattle.dsv_command.specs.Limits.{most_number_digits, most_controllers, default_controllers}
 use Rattle.dsv_command.specs.Jobs.{Asked, ◌>>=◌, is_given, has_verdict_option, has_design_option, job_of_parts}
 use Rattle.dsv_command.specs.Options.{command_options}
 use Rattle.dsv_command.specs.Parts.{PartView, file_of, value_of, has_empty}
@@ -25,7 +25,7 @@ seed_read text seed h =
 generation_read : (parts : List PartView) (seed count : ℕ) (h : IsGenerationOf parts seed count) → generation_of parts h.text ≡ Some (generates seed count)
 generation_read parts seed count h =
     rw (h.filled, h.no_file, no_job_given parts h.no_option)
-    (rw (seed_read h.text seed h.is_seed) (rw (number_read MOST_CONTROLLERS DEFAULT_CONTROLLERS count (value_of (codes "count") parts) h.is_count) refl))
+    (rw (seed_read h.text seed h.is_seed) (rw (number_read most_controllers default_controllers count (value_of (codes "count") parts) h.is_count) refl))
 
 parts_request : (parts : List PartView) (request : Request) → IsRequestOf parts request → request_of_parts parts ≡ Some request
 parts_request parts (on_file asked) h = rw (h.no_seed, h.no_count) (ap (option_map on_file) (parts_ask parts asked h.job))
@@ -36,7 +36,7 @@ unfolding request_of
 rules_ask arguments request h = rw (given_is_read command_options arguments h.parts h.give) (parts_request h.parts request h.request_of_parts)
 
 -- ---- from the request to the rules
-seed_by : (text : List ℕ) (n seed : ℕ) (b : Bool) → nat_lt n (2 ^ 32) ≡ b → short_number MOST_NUMBER_DIGITS text ≡ Some n → (if b then Some n else None) ≡ Some seed → IsSeed text seed
+seed_by : (text : List ℕ) (n seed : ℕ) (b : Bool) → nat_lt n (2 ^ 32) ≡ b → short_number most_number_digits text ≡ Some n → (if b then Some n else None) ≡ Some seed → IsSeed text seed
 seed_by text n seed true e h k =
     let same : n ≡ seed = cc in
     subst (IsSeed text) same (record { number = h; small = grind (arith, nat_tests) })
@@ -44,7 +44,7 @@ seed_by text n seed false e h k = absurd (cc)
 
 seed_found : (text : List ℕ) (seed : ℕ) → seed_of text ≡ Some seed → IsSeed text seed
 seed_found text seed h =
-    let b = unbind (short_number MOST_NUMBER_DIGITS text) (λ n. (if nat_lt n (2 ^ 32) then Some n else None)) seed h in
+    let b = unbind (short_number most_number_digits text) (λ n. (if nat_lt n (2 ^ 32) then Some n else None)) seed h in
     seed_by text b.value seed (nat_lt b.value (2 ^ 32)) refl b.first b.second
 
 -- none of five is given where one of them isn't
@@ -78,7 +78,7 @@ generation_by parts text request None false false g e f o h =
       given = g;
       filled = e;
       is_seed = seed_found text a.value a.first;
-      is_count = number_found MOST_CONTROLLERS DEFAULT_CONTROLLERS b.value (value_of (codes "count") parts) b.first;
+      is_count = number_found most_controllers default_controllers b.value (value_of (codes "count") parts) b.first;
       no_file = f;
       no_option = no_job_found parts o;
     })

@@ -12,9 +12,8 @@ use Rattle.dsv_names.specs.declared.property.RootProperty.{RootProperty}
 use Rattle.dsv_names.specs.declared.property.Property.{Property}
 use Rattle.dsv_names.specs.declared.property.Property.TheVariants.{OfRuns, OfRoots, Timing}
 use Rattle.dsv_command.specs.declared.job.Design.{Design}
-use Rattle.dsv_command.specs.declared.limits.TheConstants.{MOST_NUMBER_DIGITS, MOST_SAMPLES}
-use Rattle.dsv_command.specs.declared.limits.TheConstants.{DEFAULT_SAMPLES, MOST_CONFLICTS}
-use Rattle.dsv_command.specs.declared.limits.TheConstants.{DEFAULT_CONFLICTS}
+use Rattle.dsv_command.specs.Limits.{most_number_digits, most_samples, default_samples}
+use Rattle.dsv_command.specs.Limits.{most_conflicts, default_conflicts}
 use Rattle.dsv_names.specs.Names.{value_named}
 use Rattle.dsv_names.specs.OverflowModes.{overflow_mode_name, overflow_modes}
 use Rattle.dsv_names.specs.Properties.{property_name, properties}
@@ -98,16 +97,16 @@ has_design_option parts = list_any (is_given parts) design_options
 
 -- a number of 1 to 10 digits from 1 to a limit
 abbrev pub number_up_to : ℕ → List ℕ → Option ℕ
-number_up_to limit text = short_number MOST_NUMBER_DIGITS text >>= λ n.
+number_up_to limit text = short_number most_number_digits text >>= λ n.
     (if nat_le 1 n && nat_le n limit then Some n else None)
 
 -- the samples and the conflicts that are asked for, or how many there are by default
 abbrev pub samples_of : List PartView → Option ℕ
-samples_of parts = choice_or (number_up_to MOST_SAMPLES) DEFAULT_SAMPLES
+samples_of parts = choice_or (number_up_to most_samples) default_samples
     (value_of (codes "x-size") parts)
 
 abbrev pub conflicts_of : List PartView → Option ℕ
-conflicts_of parts = choice_or (number_up_to MOST_CONFLICTS) DEFAULT_CONFLICTS
+conflicts_of parts = choice_or (number_up_to most_conflicts) default_conflicts
     (value_of (codes "conflicts") parts)
 
 -- a formula is written without a search

@@ -3,6 +3,7 @@ pub mod ClapCommand
 pub mod ClapRows
 pub mod Inputs
 pub mod Jobs
+pub mod Limits
 pub mod Options
 pub mod Parts
 pub mod Reading

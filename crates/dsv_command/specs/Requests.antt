@@ -2,8 +2,8 @@
 use Rattle.std.specs.Prelude.{ℕ, ◌||◌, nat_lt, ◌^◌, Bool, List, Option, Some, None}
 use Rattle.std.specs.Prelude.{is_some, option_map, codes, if◌then◌else◌}
 use Rattle.dsv_text.specs.Digits.{short_number}
-use Rattle.dsv_command.specs.declared.limits.TheConstants.{MOST_NUMBER_DIGITS, MOST_CONTROLLERS}
-use Rattle.dsv_command.specs.declared.limits.TheConstants.{DEFAULT_CONTROLLERS}
+use Rattle.dsv_command.specs.Limits.{most_number_digits, most_controllers}
+use Rattle.dsv_command.specs.Limits.{default_controllers}
 use Rattle.dsv_command.specs.Jobs.{Asked, ◌>>=◌, choice_or, is_given, has_verdict_option}
 use Rattle.dsv_command.specs.Jobs.{has_design_option, number_up_to, job_of_parts}
 use Rattle.dsv_command.specs.Options.{command_options}
@@ -19,12 +19,12 @@ pub data Request : Type 0 where
 
 -- the seed that a text of 1 to 10 digits is, below 2^32
 abbrev pub seed_of : List ℕ → Option ℕ
-seed_of text = short_number MOST_NUMBER_DIGITS text >>= λ n.
+seed_of text = short_number most_number_digits text >>= λ n.
     (if nat_lt n (2 ^ 32) then Some n else None)
 
 -- how many controllers are asked for
 abbrev pub controllers_of : List PartView → Option ℕ
-controllers_of parts = choice_or (number_up_to MOST_CONTROLLERS) DEFAULT_CONTROLLERS
+controllers_of parts = choice_or (number_up_to most_controllers) default_controllers
     (value_of (codes "count") parts)
 
 -- something is given that belongs to a job

@@ -23,10 +23,9 @@ use Rattle.dsv_command.specs.declared.job.Design.{Design}
 use Rattle.dsv_command.specs.Inputs.{most_inputs, most_digits}
 use Rattle.dsv_command.specs.Jobs.{Task, decides, checks_time, writes, searches, simulates}
 use Rattle.dsv_command.specs.Jobs.{seeks_set, checks, Asked, is_given}
-use Rattle.dsv_command.specs.declared.limits.TheConstants.{MOST_NUMBER_DIGITS, MOST_SAMPLES}
-use Rattle.dsv_command.specs.declared.limits.TheConstants.{DEFAULT_SAMPLES, MOST_CONFLICTS}
-use Rattle.dsv_command.specs.declared.limits.TheConstants.{DEFAULT_CONFLICTS}
-use Rattle.dsv_command.specs.declared.limits.TheConstants.{MOST_CONTROLLERS, DEFAULT_CONTROLLERS}
+use Rattle.dsv_command.specs.Limits.{most_number_digits, most_samples, default_samples}
+use Rattle.dsv_command.specs.Limits.{most_conflicts, default_conflicts}
+use Rattle.dsv_command.specs.Limits.{most_controllers, default_controllers}
 use Rattle.dsv_command.specs.Options.{command_options}
 use Rattle.dsv_command.specs.Parts.{PartView, file, flag, choice, key_of}
 use Rattle.dsv_command.specs.Parts.{has_key, file_of, value_of, has_empty}
@@ -142,7 +141,7 @@ pub record HasNoDesignOption (parts : List PartView) : Type 0 where
 
 -- a number of 1 to 10 digits from 1 to a limit
 pub record IsNumberUpTo (limit : ℕ) (text : List ℕ) (n : ℕ) : Type 0 where
-  pub number : short_number MOST_NUMBER_DIGITS text ≡ Some n
+  pub number : short_number most_number_digits text ≡ Some n
   pub some : 1 ≤ n
   pub few : n ≤ limit
 
@@ -153,11 +152,11 @@ IsNumber limit default (Some text) n = IsNumberUpTo limit text n
 
 -- the numbers of samples, 1 to 64 or 10 by default, and of conflicts, 1 to 200000 or 50000
 abbrev pub AreSamples : List PartView → ℕ → Type 0
-AreSamples parts n = IsNumber MOST_SAMPLES DEFAULT_SAMPLES (value_of (codes "x-size") parts) n
+AreSamples parts n = IsNumber most_samples default_samples (value_of (codes "x-size") parts) n
 
 abbrev pub AreConflicts : List PartView → ℕ → Type 0
 AreConflicts parts n =
-    IsNumber MOST_CONFLICTS DEFAULT_CONFLICTS (value_of (codes "conflicts") parts) n
+    IsNumber most_conflicts default_conflicts (value_of (codes "conflicts") parts) n
 
 -- Exactly one of a property, inputs and a certificate to check is given. With a property of runs
 -- alone there are samples; and either conflicts, or that the formula is written. Overflow over runs
@@ -215,13 +214,13 @@ pub record IsJobOf (parts : List PartView) (asked : Asked) : Type 0 where
 
 -- a seed of 1 to 10 digits, below 2^32
 pub record IsSeed (text : List ℕ) (seed : ℕ) : Type 0 where
-  pub number : short_number MOST_NUMBER_DIGITS text ≡ Some seed
+  pub number : short_number most_number_digits text ≡ Some seed
   pub small : seed < 2 ^ 32
 
 -- the number of controllers, 1 to 1000 or 40
 abbrev pub IsCount : List PartView → ℕ → Type 0
 IsCount parts n =
-    IsNumber MOST_CONTROLLERS DEFAULT_CONTROLLERS (value_of (codes "count") parts) n
+    IsNumber most_controllers default_controllers (value_of (codes "count") parts) n
 
 -- none of the options of jobs is given
 pub record HasNoJobOption (parts : List PartView) : Type 0 where

@@ -1,6 +1,6 @@
 // How many controllers are generated, and from which seed.
 ghost use Rattle.std.specs.Prelude.{◌≡◌, ◌≤◌, option_map, IfSome};
-ghost use Rattle.dsv_command.specs.declared.limits.TheConstants.{MOST_CONTROLLERS};
+ghost use Rattle.dsv_command.specs.Limits.{most_controllers};
 ghost use Rattle.dsv_command.specs.Requests.{generation_of, controllers_of, seed_of};
 ghost use Rattle.dsv_command.specs.Requests.{has_job_option, generates};
 
@@ -15,7 +15,7 @@ pub struct Generation {
     pub seed: u32,
     pub count: u32,
     ghost some: { 1 ≤ count },
-    ghost few: { count ≤ MOST_CONTROLLERS },
+    ghost few: { count ≤ most_controllers },
 }
 
 /// The seed that a text of 1 to 10 digits is, where it is below 2^32.
@@ -33,7 +33,7 @@ fn find_seed(text: &str) -> Option<u32>
 /// How many controllers are asked for.
 fn find_count(arguments: &Arguments) -> Option<u32>
     ensures number { result ≡ controllers_of arguments.now }
-    ensures within { IfSome result (λ n. (1 ≤ n) × (n ≤ MOST_CONTROLLERS)) }
+    ensures within { IfSome result (λ n. (1 ≤ n) × (n ≤ most_controllers)) }
 {
     match arguments.value("count") {
         Some(text) => number_up_to(MOST_CONTROLLERS, text),

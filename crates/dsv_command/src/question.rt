@@ -1,6 +1,6 @@
 // Questions about runs, and how long a search for their answer may take.
 ghost use Rattle.std.specs.Prelude.{◌≤◌};
-ghost use Rattle.dsv_command.specs.declared.limits.TheConstants.{MOST_SAMPLES, MOST_CONFLICTS};
+ghost use Rattle.dsv_command.specs.Limits.{most_samples, most_conflicts};
 
 use dsv_names::RunProperty;
 
@@ -10,7 +10,7 @@ pub struct RunQuestion {
     pub property: RunProperty,
     pub samples: u32,
     ghost some: { 1 ≤ samples },
-    ghost few: { samples ≤ MOST_SAMPLES },
+    ghost few: { samples ≤ most_samples },
 }
 
 /// How many conflicts a search may have: 1 to 200,000.
@@ -18,5 +18,5 @@ pub struct RunQuestion {
 pub struct Budget {
     pub conflicts: u32,
     ghost some: { 1 ≤ conflicts },
-    ghost few: { conflicts ≤ MOST_CONFLICTS },
+    ghost few: { conflicts ≤ most_conflicts },
 }

@@ -1,6 +1,6 @@
 // The task that the arguments ask for.
 ghost use Rattle.std.specs.Prelude.{◌≡◌, ◌≤◌, option_map, option_and_then, IfSome};
-ghost use Rattle.dsv_command.specs.declared.limits.TheConstants.{MOST_SAMPLES};
+ghost use Rattle.dsv_command.specs.Limits.{most_samples};
 ghost use Rattle.dsv_command.specs.Asking.{asked_task};
 ghost use Rattle.dsv_command.specs.Jobs.{has_run_option, number_up_to, samples_of};
 ghost use Rattle.dsv_command.specs.Jobs.{conflicts_of, run_task, unbounded_task, property_task};
@@ -85,7 +85,7 @@ pub(crate) fn number_up_to(limit: u32, text: &str) -> Option<u32>
 /// How many samples are asked for.
 fn find_samples(arguments: &Arguments) -> Option<u32>
     ensures number { result ≡ samples_of arguments.now }
-    ensures within { IfSome result (λ n. (1 ≤ n) × (n ≤ MOST_SAMPLES)) }
+    ensures within { IfSome result (λ n. (1 ≤ n) × (n ≤ most_samples)) }
 {
     match arguments.value("x-size") {
         Some(text) => number_up_to(MOST_SAMPLES, text),

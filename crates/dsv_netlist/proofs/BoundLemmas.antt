@@ -5,11 +5,11 @@ use Rattle.std.proofs.lemmas.List.{drop_more, take_more_set, get_or_push, get_or
 use Rattle.std.proofs.lemmas.List.Elements.{All-push, All-get_or}
 use Rattle.dsv_netlist.specs.declared.node.Node.{Node}
 use Rattle.dsv_netlist.specs.declared.node.Node.TheVariants.{Input}
-use Rattle.dsv_netlist.specs.declared.TheConstants.{BOUND_LIMIT}
+use Rattle.dsv_netlist.specs.Limits.{bound_limit}
 use Rattle.dsv_netlist.specs.Bounds.{node_bound, bounds_from}
 
 abbrev pub AreBelow : List ℕ → Type 0
-AreBelow bounds = All (λ bound. bound < BOUND_LIMIT) bounds
+AreBelow bounds = All (λ bound. bound < bound_limit) bounds
 
 pub from-length : (word : ℕ) (nodes : List Node) (bounds : List ℕ) → length (bounds_from word nodes bounds) ≡ length bounds + length nodes
 from-length word [] bounds = omega arith
@@ -23,30 +23,30 @@ from_keeps word (node ∷ nodes) bounds i h =
     from_keeps word nodes (bounds ++ b ∷ []) i (omega (arith, length_push bounds b)) ∙ get_or_append_left bounds (b ∷ []) 0 i h
 
 -- the bound of the first of these nodes
-pub first_below : (word : ℕ) (node : Node) (nodes : List Node) (bounds : List ℕ) → AreBelow (bounds_from word (node ∷ nodes) bounds) → node_bound word bounds node < BOUND_LIMIT
+pub first_below : (word : ℕ) (node : Node) (nodes : List Node) (bounds : List ℕ) → AreBelow (bounds_from word (node ∷ nodes) bounds) → node_bound word bounds node < bound_limit
 first_below word node nodes bounds h =
     let b = node_bound word bounds node in
     let more = bounds ++ b ∷ [] in
     let inside : length bounds < length (bounds_from word nodes more) = omega (arith, from-length word nodes more, length_push bounds b) in
     let same : get_or (bounds_from word nodes more) (length bounds) 0 ≡ b = from_keeps word nodes more (length bounds) (omega (arith, length_push bounds b)) ∙ get_or_push bounds b 0 (length bounds) refl in
-    subst (λ (n : ℕ). n < BOUND_LIMIT) same (All-get_or (λ (n : ℕ). n < BOUND_LIMIT) (bounds_from word nodes more) (length bounds) 0 inside h)
+    subst (λ (n : ℕ). n < bound_limit) same (All-get_or (λ (n : ℕ). n < bound_limit) (bounds_from word nodes more) (length bounds) 0 inside h)
 
 -- the bounds after i of the nodes
 pub record BoundsAt (word : ℕ) (nodes : List Node) (i : ℕ) (bounds : List ℕ) : Type 0 where
   pub same : bounds_from word (drop i nodes) (take i bounds) ≡ bounds_from word nodes []
   pub below : AreBelow (take i bounds)
 
-pub here_below : (word : ℕ) (nodes : List Node) (i : ℕ) (bounds : List ℕ) → i < length nodes → BoundsAt word nodes i bounds → AreBelow (bounds_from word nodes []) → node_bound word (take i bounds) (get_or nodes i Input) < BOUND_LIMIT
+pub here_below : (word : ℕ) (nodes : List Node) (i : ℕ) (bounds : List ℕ) → i < length nodes → BoundsAt word nodes i bounds → AreBelow (bounds_from word nodes []) → node_bound word (take i bounds) (get_or nodes i Input) < bound_limit
 here_below word nodes i bounds l s h =
     let all : AreBelow (bounds_from word (drop i nodes) (take i bounds)) = subst AreBelow (sym s.same) h in
     first_below word (get_or nodes i Input) (drop (i + 1) nodes) (take i bounds) (subst (λ (ns : List Node). AreBelow (bounds_from word ns (take i bounds))) (drop_more nodes i Input l) all)
 
 pub bounds_more : (word : ℕ) (nodes : List Node) (i : ℕ) (bounds now : List ℕ) (b : ℕ) → i < length nodes → i < length bounds → BoundsAt word nodes i bounds
-    → b ≡ node_bound word (take i bounds) (get_or nodes i Input) → b < BOUND_LIMIT → now ≡ set bounds i b → BoundsAt word nodes (i + 1) now
+    → b ≡ node_bound word (take i bounds) (get_or nodes i Input) → b < bound_limit → now ≡ set bounds i b → BoundsAt word nodes (i + 1) now
 bounds_more word nodes i bounds now b l k s e small g =
     let pushed : take (i + 1) now ≡ take i bounds ++ b ∷ [] = rw g (take_more_set bounds i b k) in
     let one = subst (λ (ns : List Node). bounds_from word ns (take i bounds) ≡ bounds_from word nodes []) (drop_more nodes i Input l) s.same in
     record {
       same = rw (pushed, e) one;
-      below = rw pushed (All-push (λ (n : ℕ). n < BOUND_LIMIT) (take i bounds) b s.below small);
+      below = rw pushed (All-push (λ (n : ℕ). n < bound_limit) (take i bounds) b s.below small);
     }

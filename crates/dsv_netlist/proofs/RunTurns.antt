@@ -8,7 +8,7 @@ use Rattle.std.proofs.lemmas.List.Elements.{All-push}
 use Rattle.dsv_word.specs.declared.format.Format.{Format}
 use Rattle.dsv_netlist.specs.declared.node.Node.{Node}
 use Rattle.dsv_netlist.specs.declared.node.Node.TheVariants.{Input}
-use Rattle.dsv_netlist.specs.declared.TheConstants.{BOUND_LIMIT}
+use Rattle.dsv_netlist.specs.Limits.{bound_limit}
 use Rattle.dsv_netlist.specs.Nodes.{Sample, node_value, node_exact, sample_from, sample_of}
 use Rattle.dsv_netlist.specs.Safety.{AreSafe}
 
@@ -20,7 +20,7 @@ so_far i values exact = record { values = take i values; exact = exact }
 pub record NodesAt (f : Format) (rs : List ℤ) (x : ℤ) (nodes : List Node) (i : ℕ) (values exact : List ℤ) : Type 0 where
   pub same : sample_from f rs x (drop i nodes) (so_far i values exact) ≡ sample_of f rs x nodes
   pub safe : AreSafe f rs x (drop i nodes) (so_far i values exact)
-  pub bounded : All (λ v. unsigned_abs v < BOUND_LIMIT) (take i values)
+  pub bounded : All (λ v. unsigned_abs v < bound_limit) (take i values)
 
 pub nodes_more : (f : Format) (rs : List ℤ) (x : ℤ) (nodes : List Node) (i : ℕ) (values now exact made : List ℤ) (v : ℤ) → i < length nodes → i < length values → NodesAt f rs x nodes i values exact
     → v ≡ node_value f rs x (take i values) (get_or nodes i Input) → made ≡ exact ++ node_exact (take i values) (get_or nodes i Input) → now ≡ set values i v → NodesAt f rs x nodes (i + 1) now made
@@ -31,5 +31,5 @@ nodes_more f rs x nodes i values now exact made v l k s e g n =
     record {
       same = rw (pushed, e, g) one;
       safe = rw (pushed, e, g) both.1;
-      bounded = rw pushed (All-push (λ (u : ℤ). unsigned_abs u < BOUND_LIMIT) (take i values) v s.bounded (rw e both.0.small));
+      bounded = rw pushed (All-push (λ (u : ℤ). unsigned_abs u < bound_limit) (take i values) v s.bounded (rw e both.0.small));
     }

@@ -12,7 +12,7 @@ use Rattle.std.proofs.lemmas.List.Elements.{All-head, All-tail, All-get_or, All-
 use Rattle.dsv_word.specs.declared.format.Format.{Format}
 use Rattle.dsv_netlist.specs.declared.node.Node.{Node}
 use Rattle.dsv_netlist.specs.declared.node.Node.TheVariants.{Input, Reg, MulConst, Round, Add, Sub, Fit}
-use Rattle.dsv_system.specs.declared.exact_list.TheConstants.{MOST_EXACT}
+use Rattle.dsv_netlist.specs.Limits.{most_exact}
 use Rattle.dsv_netlist.specs.Nodes.{Net, Sample, at, node_value, node_exact, after_node, sample_from, sample_of}
 use Rattle.dsv_netlist.specs.Bounds.{word_bound, node_bound, bounds_from}
 use Rattle.dsv_netlist.specs.Conditions.{NamesBelow, AllNameBack, ReadsBelow, gives_word, names_word, is_fit, IsNetlist}
@@ -71,7 +71,7 @@ pub record After (f : Format) (rs : List ℤ) (ns : List Node) (bs : List ℕ) (
   pub backwards : AllNameBack (length s.values) ns
   pub reads : All (ReadsBelow (length rs)) ns
   pub bounded : AreBelow (bounds_from (word_bound f) ns bs)
-  pub room : length s.exact + count_by is_fit ns ≤ MOST_EXACT
+  pub room : length s.exact + count_by is_fit ns ≤ most_exact
 
 -- the first of these nodes: its value is within its bound
 first_size : (f : Format) (rs : List ℤ) (x : ℤ) (n : Node) (ns : List Node) (bs : List ℕ) (s : Sample) → Words f rs x → After f rs (n ∷ ns) bs s

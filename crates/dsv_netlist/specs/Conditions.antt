@@ -5,8 +5,7 @@ use Rattle.std.specs.List.{All}
 use Rattle.dsv_netlist.specs.declared.node.Node.{Node}
 use Rattle.dsv_netlist.specs.declared.node.Node.TheVariants.{Input, Reg, MulConst}
 use Rattle.dsv_netlist.specs.declared.node.Node.TheVariants.{Round, Add, Sub, Fit}
-use Rattle.dsv_system.specs.declared.exact_list.TheConstants.{MOST_EXACT}
-use Rattle.dsv_netlist.specs.declared.TheConstants.{MOST_NODES, MOST_REGISTERS, BOUND_LIMIT}
+use Rattle.dsv_netlist.specs.Limits.{most_nodes, most_registers, most_exact, bound_limit}
 use Rattle.dsv_netlist.specs.Nodes.{Net}
 use Rattle.dsv_netlist.specs.Bounds.{bounds_of}
 
@@ -64,12 +63,12 @@ is_fit (Fit of) = true
 -- registers; nodes name nodes before them and registers that are there; the output and what loads a
 -- register are words; no bound reaches the limit.
 pub record IsNetlist (net : Net) : Type 0 where
-  pub few_nodes : length net.nodes ≤ MOST_NODES
-  pub few_registers : length net.next ≤ MOST_REGISTERS
-  pub few_exact : count_by is_fit net.nodes ≤ MOST_EXACT
+  pub few_nodes : length net.nodes ≤ most_nodes
+  pub few_registers : length net.next ≤ most_registers
+  pub few_exact : count_by is_fit net.nodes ≤ most_exact
   pub feed_forward : net.feed_forward ≤ length net.next
   pub backwards : AllNameBack 0 net.nodes
   pub registers : All (ReadsBelow (length net.next)) net.nodes
   pub output : IsTrue (names_word net.nodes net.output)
   pub next : All (λ k. IsTrue (names_word net.nodes k)) net.next
-  pub bounded : All (λ bound. bound < BOUND_LIMIT) (bounds_of net.format net.nodes)
+  pub bounded : All (λ bound. bound < bound_limit) (bounds_of net.format net.nodes)

@@ -3,6 +3,7 @@ pub mod Conditions
 pub mod Counts
 pub mod Inside
 pub mod Law
+pub mod Limits
 pub mod Nodes
 pub mod Safety
 pub mod Systems

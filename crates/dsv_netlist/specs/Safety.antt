@@ -3,8 +3,7 @@ use Rattle.std.specs.Prelude.{◌+◌, ◌<◌, ◌≤◌, List, [], ◌∷◌, 
 use Rattle.std.specs.Int.RustNames.{unsigned_abs}
 use Rattle.dsv_word.specs.declared.format.Format.{Format}
 use Rattle.dsv_netlist.specs.declared.node.Node.{Node}
-use Rattle.dsv_system.specs.declared.exact_list.TheConstants.{MOST_EXACT}
-use Rattle.dsv_netlist.specs.declared.TheConstants.{BOUND_LIMIT}
+use Rattle.dsv_netlist.specs.Limits.{most_exact, bound_limit}
 use Rattle.dsv_netlist.specs.Nodes.{Sample, node_value, node_exact, after_node}
 use Rattle.dsv_netlist.specs.Conditions.{NamesBelow, ReadsBelow}
 
@@ -13,8 +12,8 @@ pub record IsSafe (format : Format) (registers : List ℤ) (x : ℤ) (sample : S
     Type 0 where
   pub backwards : NamesBelow (length sample.values) node
   pub reads : ReadsBelow (length registers) node
-  pub small : unsigned_abs (node_value format registers x sample.values node) < BOUND_LIMIT
-  pub room : length sample.exact + length (node_exact sample.values node) ≤ MOST_EXACT
+  pub small : unsigned_abs (node_value format registers x sample.values node) < bound_limit
+  pub room : length sample.exact + length (node_exact sample.values node) ≤ most_exact
 
 -- these nodes can be computed one after another
 abbrev pub AreSafe : Format → List ℤ → ℤ → List Node → Sample → Type 0

@@ -3,6 +3,7 @@ ghost use Rattle.std.specs.Prelude.{◌≡◌, ◌≤◌, ◌<◌, ◌↔◌, le
 ghost use Rattle.std.specs.List.{All};
 ghost use Rattle.dsv_netlist.specs.Bounds.{word_bound, node_bound, bounds_of};
 ghost use Rattle.dsv_netlist.specs.Conditions.{NamesBelow, AllNameBack};
+ghost use Rattle.dsv_netlist.specs.Limits.{bound_limit, most_nodes};
 
 use crate::node::Node;
 use crate::{BOUND_LIMIT, MOST_NODES};
@@ -12,8 +13,8 @@ use dsv_word::Format;
 /// of the nodes before.
 fn bound_of(node: &Node, word: u128, bounds: &[u128]) -> Option<u128>
     requires backwards { NamesBelow (length bounds.now) node.now }
-    requires bounded { All (λ bound. bound < BOUND_LIMIT) bounds.now }
-    ensures exact { IsSome result ↔ (node_bound word bounds.now node.now < BOUND_LIMIT) }
+    requires bounded { All (λ bound. bound < bound_limit) bounds.now }
+    ensures exact { IsSome result ↔ (node_bound word bounds.now node.now < bound_limit) }
     ensures value { IfSome result (λ bound. bound ≡ node_bound word bounds.now node.now) }
 {
     let bound = match node {
@@ -42,10 +43,10 @@ fn word_bound(format: &Format) -> u128
 
 /// The bounds of all nodes, where they are below the limit.
 pub(crate) fn bounds_of(format: &Format, nodes: &[Node]) -> Option<[u128; MOST_NODES]>
-    requires few { length nodes.now ≤ MOST_NODES }
+    requires few { length nodes.now ≤ most_nodes }
     requires backwards { AllNameBack 0 nodes.now }
     ensures exact { IsSome result
-        ↔ All (λ bound. bound < BOUND_LIMIT) (bounds_of format.now nodes.now) }
+        ↔ All (λ bound. bound < bound_limit) (bounds_of format.now nodes.now) }
     ensures value { IfSome result (λ bounds. take (length nodes.now) bounds
         ≡ bounds_of format.now nodes.now) }
 {

@@ -7,7 +7,7 @@ ghost use Rattle.dsv_netlist.specs.Nodes.{net_from, step_of};
 ghost use Rattle.dsv_netlist.specs.Bounds.{bounds_of};
 ghost use Rattle.dsv_netlist.specs.Conditions.{IsNetlist};
 ghost use Rattle.dsv_netlist.specs.Counts.{counts_of};
-ghost use Rattle.dsv_netlist.specs.declared.TheConstants.{BOUND_LIMIT};
+ghost use Rattle.dsv_netlist.specs.Limits.{bound_limit};
 
 use crate::bounds::bounds_of;
 use crate::conditions::{all_name_back, all_name_words, all_read_below, fits_in, names_word};
@@ -147,7 +147,7 @@ impl Netlist {
     pub fn bound(&self, i: u32) -> i128
         requires { i < length self.now.nodes }
         ensures value { result ≡ pos (slice_index (bounds_of self.now.format self.now.nodes) i) }
-        ensures small { result <ℤ pos BOUND_LIMIT }
+        ensures small { result <ℤ pos bound_limit }
     {
         self.bounds[i as usize] as i128
     }

@@ -6,8 +6,7 @@ ghost use Rattle.std.specs.Int.RustNames.{unsigned_abs};
 ghost use Rattle.dsv_netlist.specs.Nodes.{at, node_value, node_exact, sample_of};
 ghost use Rattle.dsv_netlist.specs.Conditions.{NamesBelow, ReadsBelow};
 ghost use Rattle.dsv_netlist.specs.Safety.{AreSafe};
-ghost use Rattle.dsv_system.specs.declared.exact_list.TheConstants.{MOST_EXACT};
-ghost use Rattle.dsv_netlist.specs.declared.TheConstants.{BOUND_LIMIT};
+ghost use Rattle.dsv_netlist.specs.Limits.{most_exact, bound_limit};
 
 use crate::node::Node;
 use dsv_system::ExactList;
@@ -17,9 +16,9 @@ use dsv_word::Format;
 fn value_of(format: &Format, node: &Node, registers: &[i64], x: &i64, values: &[i128]) -> i128
     requires backwards { NamesBelow (length values.now) node.now }
     requires reads { ReadsBelow (length registers.now) node.now }
-    requires bounded { All (λ v. unsigned_abs v < BOUND_LIMIT) values.now }
+    requires bounded { All (λ v. unsigned_abs v < bound_limit) values.now }
     requires small { unsigned_abs (node_value format.now registers.now x.now values.now node.now)
-        < BOUND_LIMIT }
+        < bound_limit }
     ensures { result ≡ node_value format.now registers.now x.now values.now node.now }
 {
     match node {
@@ -39,7 +38,7 @@ fn value_of(format: &Format, node: &Node, registers: &[i64], x: &i64, values: &[
 /// Appends the exact value of a node that fits one.
 fn push_exact(node: &Node, values: &[i128], exact: &mut ExactList)
     requires backwards { NamesBelow (length values.now) node.now }
-    requires room { length exact.old.items + length (node_exact values.now node.now) ≤ MOST_EXACT }
+    requires room { length exact.old.items + length (node_exact values.now node.now) ≤ most_exact }
     ensures { exact.new.items ≡ exact.old.items ++ node_exact values.now node.now }
 {
     if let Node::Fit(of) = node {

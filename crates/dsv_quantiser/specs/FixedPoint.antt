@@ -5,7 +5,7 @@ use Rattle.dsv_word.specs.declared.format.Format.{Format}
 use Rattle.dsv_word.specs.Words.{width, lo, hi, IsWord}
 use Rattle.dsv_names.specs.declared.realisation.Realisation.{Realisation}
 use Rattle.dsv_names.specs.Realisations.{is_delta}
-use Rattle.dsv_quantiser.specs.declared.words.TheConstants.{MOST_COEFFICIENTS}
+use Rattle.dsv_fraction.specs.Ratio.{most_coefficients}
 
 -- the words of a controller, the range of its inputs, its format and its realisation
 pub record FixedPoint : Type 0 where
@@ -30,7 +30,7 @@ IsDeltaWord format realisation w =
 pub record IsFixedPoint (q : FixedPoint) : Type 0 where
   pub one_length : length q.b ≡ length q.a
   pub some : 1 ≤ length q.a
-  pub few : length q.a ≤ MOST_COEFFICIENTS
+  pub few : length q.a ≤ most_coefficients
   pub leading : slice_index_or q.a 0 (pos 0) ≡ unit q.format
   pub b_words : All (IsWord q.format) q.b
   pub a_words : All (IsWord q.format) (drop 1 q.a)

@@ -9,8 +9,8 @@ use Rattle.dsv_quantiser.specs.FixedPoint.{FixedPoint}
 use Rattle.dsv_quantiser.specs.Quantising.{fixed_point_of}
 use Rattle.dsv_quantiser.specs.declared.refusal.QuantRefusal.{QuantRefusal}
 
--- In words of its own widths, rounded and fitted so, the controller becomes these as the realisation
--- computes it, or is refused so.
+-- In words of its own widths, rounded and fitted so, the controller becomes these as the
+-- realisation computes it, or is refused so.
 pub record BecomesWords (c : ControllerView) (realisation : Realisation) (rounds : Rounding)
     (fits : OverflowMode) (outcome : Result FixedPoint QuantRefusal) : Type 0 where
   pub format : Format

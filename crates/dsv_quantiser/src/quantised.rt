@@ -59,7 +59,7 @@ impl Model for Quantised {
 
 impl Quantised {
     ghost use Rattle.std.specs.Prelude.{◌≡◌, ◌≤◌, ◌+◌, length, IfOk};
-    ghost use Rattle.dsv_quantiser.specs.declared.words.TheConstants.{MOST_COEFFICIENTS};
+    ghost use Rattle.dsv_fraction.specs.Ratio.{most_coefficients};
     ghost use Rattle.dsv_quantiser.specs.FixedPoint.{FixedPoint, IsFixedPoint, IsDeltaWord};
     ghost use Rattle.dsv_quantiser.specs.Quantising.{in_words};
     ghost use Rattle.dsv_quantiser.specs.Meaning.{IsInWords};
@@ -75,7 +75,7 @@ impl Quantised {
     ) -> Result<Quantised, QuantRefusal>
         requires one_length { length b.now ≡ length a.now }
         requires some { 1 ≤ length a.now }
-        requires few { length a.now ≤ MOST_COEFFICIENTS }
+        requires few { length a.now ≤ most_coefficients }
         requires delta { IsDeltaWord format realisation delta }
         ensures value { result ≡ in_words controller.now format realisation b.now a.now delta }
         ensures meaning { IfOk result

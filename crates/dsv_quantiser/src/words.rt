@@ -4,7 +4,7 @@
 ghost use Rattle.dsv_word.specs.Words.{IsWord};
 ghost use Rattle.std.specs.Prelude.{◌≡◌, ◌+◌, ◌≤◌, ◌<◌, length, drop};
 ghost use Rattle.std.specs.Prelude.{[], ◌∷◌, MatchResult, Ok, Err, IfOk};
-ghost use Rattle.dsv_quantiser.specs.declared.words.TheConstants.{MOST_COEFFICIENTS};
+ghost use Rattle.dsv_fraction.specs.Ratio.{most_coefficients};
 ghost use Rattle.dsv_quantiser.specs.FixedPoint.{unit};
 ghost use Rattle.dsv_quantiser.specs.Meaning.{IsWordOf};
 ghost use Rattle.dsv_quantiser.specs.Parts.{AreWordsOf};
@@ -84,7 +84,7 @@ fn words_from(
     fractions: &[Frac],
     prefix: Coeffs,
 ) -> Result<Coeffs, QuantRefusal>
-    requires { length prefix.items + length fractions.now ≤ MOST_COEFFICIENTS }
+    requires { length prefix.items + length fractions.now ≤ most_coefficients }
     ensures value { let meant = words_from format list fractions.now prefix.items in
         MatchResult result (λ words. meant ≡ Ok words.items) (λ refusal. meant ≡ Err refusal) }
     ensures meaning { IfOk result
@@ -100,7 +100,7 @@ fn words_from(
 
 /// The words of the numerator.
 pub(crate) fn b_words(format: Format, b: &[Frac]) -> Result<Coeffs, QuantRefusal>
-    requires { length b.now ≤ MOST_COEFFICIENTS }
+    requires { length b.now ≤ most_coefficients }
     ensures value { let meant = b_words format b.now in
         MatchResult result (λ words. meant ≡ Ok words.items) (λ refusal. meant ≡ Err refusal) }
     ensures meaning { IfOk result (λ words. AreWordsOf format b.now [] words.items) }
@@ -111,7 +111,7 @@ pub(crate) fn b_words(format: Format, b: &[Frac]) -> Result<Coeffs, QuantRefusal
 /// The words of the denominator, whose leading coefficient is 1 and isn't tested.
 pub(crate) fn a_words(format: Format, a: &[Frac]) -> Result<Coeffs, QuantRefusal>
     requires some { 1 ≤ length a.now }
-    requires few { length a.now ≤ MOST_COEFFICIENTS }
+    requires few { length a.now ≤ most_coefficients }
     ensures value { let meant = a_words format a.now in
         MatchResult result (λ words. meant ≡ Ok words.items) (λ refusal. meant ≡ Err refusal) }
     ensures meaning { IfOk result

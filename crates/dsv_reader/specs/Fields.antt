@@ -66,8 +66,10 @@ has_setting setting.CostMoves v = is_some v.hardware.moves
 abbrev pub system_field : Field → List ℕ → Entry → SystemFields → Result SystemFields FileRefusal
 system_field field.B bytes e s = list_in bytes e >>= λ xs. Ok (record s { b = Some xs })
 system_field field.A bytes e s = list_in bytes e >>= λ xs. Ok (record s { a = Some xs })
-system_field field.BSize bytes e s = whole_number_in bytes e >>= λ w. Ok (record s { b_size = Some w })
-system_field field.ASize bytes e s = whole_number_in bytes e >>= λ w. Ok (record s { a_size = Some w })
+system_field field.BSize bytes e s =
+    whole_number_in bytes e >>= λ w. Ok (record s { b_size = Some w })
+system_field field.ASize bytes e s =
+    whole_number_in bytes e >>= λ w. Ok (record s { a_size = Some w })
 system_field field.SampleTime bytes e s = time_in bytes e
     >>= λ q. Ok (record s { sample_time = Some q })
 system_field f bytes e s = Ok s
@@ -78,8 +80,10 @@ implementation_field field.IntBits bytes e i = whole_number_in bytes e
     >>= λ w. Ok (record i { int_bits = Some w })
 implementation_field field.FracBits bytes e i = whole_number_in bytes e
     >>= λ w. Ok (record i { frac_bits = Some w })
-implementation_field field.Max bytes e i = decimal_in bytes e >>= λ q. Ok (record i { max = Some q })
-implementation_field field.Min bytes e i = decimal_in bytes e >>= λ q. Ok (record i { min = Some q })
+implementation_field field.Max bytes e i =
+    decimal_in bytes e >>= λ q. Ok (record i { max = Some q })
+implementation_field field.Min bytes e i =
+    decimal_in bytes e >>= λ q. Ok (record i { min = Some q })
 implementation_field field.Delta bytes e i = decimal_in bytes e
     >>= λ q. Ok (record i { delta = Some q })
 implementation_field f bytes e i = Ok i

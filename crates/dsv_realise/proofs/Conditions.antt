@@ -11,7 +11,7 @@ use Rattle.dsv_word.specs.declared.format.Format.{Format}
 use Rattle.dsv_word.specs.Words.{width, hi, IsWord}
 use Rattle.dsv_netlist.specs.declared.node.Node.{Node}
 use Rattle.dsv_netlist.specs.declared.node.Node.TheVariants.{Input, Reg}
-use Rattle.dsv_netlist.specs.declared.TheConstants.{BOUND_LIMIT}
+use Rattle.dsv_netlist.specs.Limits.{bound_limit}
 use Rattle.dsv_netlist.specs.Nodes.{Net}
 use Rattle.dsv_netlist.specs.Bounds.{word_bound, bounds_from, bounds_of}
 use Rattle.dsv_netlist.specs.Conditions.{AllNameBack, ReadsBelow, names_word, is_fit, IsNetlist}
@@ -75,7 +75,7 @@ sources_sound f n =
     record {
       backwards = (tt, registers_back 1 0 n);
       registers = All-cons (ReadsBelow n) Input (registers_from 0 n) tt (registers_read n 0 n (omega arith));
-      bounded = All-weaker (λ b. b ≡ w) (λ b. b < BOUND_LIMIT) (λ b e. omega (arith, e, word_small f)) (bounds_of f (sources n)) all;
+      bounded = All-weaker (λ b. b ≡ w) (λ b. b < bound_limit) (λ b e. omega (arith, e, word_small f)) (bounds_of f (sources n)) all;
       words = λ k h. All-get_or (λ b. b ≡ w) (bounds_of f (sources n)) k 0 (omega (arith, names_word-below (sources n) k h, bounds-length f (sources n))) all;
     }
 

@@ -14,7 +14,7 @@ use Rattle.dsv_word.specs.declared.format.Format.{Format}
 use Rattle.dsv_word.specs.Words.{width}
 use Rattle.dsv_netlist.specs.declared.node.Node.{Node}
 use Rattle.dsv_netlist.specs.declared.node.Node.TheVariants.{MulConst, Round, Fit}
-use Rattle.dsv_netlist.specs.declared.TheConstants.{BOUND_LIMIT}
+use Rattle.dsv_netlist.specs.Limits.{bound_limit}
 use Rattle.dsv_netlist.specs.Bounds.{word_bound, node_bound, bounds_from, bounds_of}
 use Rattle.dsv_netlist.specs.Conditions.{NamesBelow, AllNameBack, ReadsBelow, gives_word, names_word, is_fit}
 use Rattle.dsv_netlist.specs.Counts.{is_product, is_sum}
@@ -63,14 +63,14 @@ bound_before f ns n k h =
 pub record AreSound (f : Format) (r : ℕ) (ns : List Node) : Type 0 where
   pub backwards : AllNameBack 0 ns
   pub registers : All (ReadsBelow r) ns
-  pub bounded : All (λ bound. bound < BOUND_LIMIT) (bounds_of f ns)
+  pub bounded : All (λ bound. bound < bound_limit) (bounds_of f ns)
   pub words : (k : ℕ) → names_word ns k ≡ true → slice_index (bounds_of f ns) k ≡ word_bound f
 
 -- a node that may stand after them
 pub record MayFollow (f : Format) (r : ℕ) (ns : List Node) (n : Node) : Type 0 where
   pub backwards : NamesBelow (length ns) n
   pub reads : ReadsBelow r n
-  pub small : node_bound (word_bound f) (bounds_of f ns) n < BOUND_LIMIT
+  pub small : node_bound (word_bound f) (bounds_of f ns) n < bound_limit
   pub word : gives_word n ≡ true → node_bound (word_bound f) (bounds_of f ns) n ≡ word_bound f
 
 pub sound_more : (f : Format) (r : ℕ) (ns : List Node) (n : Node) → AreSound f r ns → MayFollow f r ns n → AreSound f r (put ns n)
@@ -78,7 +78,7 @@ sound_more f r ns n s h =
     record {
       backwards = back_more 0 ns n s.backwards (subst (λ (j : ℕ). NamesBelow j n) (let e : length ns ≡ 0 + length ns = omega arith in e) h.backwards);
       registers = All-push (ReadsBelow r) ns n s.registers h.reads;
-      bounded = subst (λ (bs : List ℕ). All (λ bound. bound < BOUND_LIMIT) bs) (sym (bounds_more (word_bound f) ns n [])) (All-push (λ (bound : ℕ). bound < BOUND_LIMIT) (bounds_of f ns) (node_bound (word_bound f) (bounds_of f ns) n) s.bounded h.small);
+      bounded = subst (λ (bs : List ℕ). All (λ bound. bound < bound_limit) bs) (sym (bounds_more (word_bound f) ns n [])) (All-push (λ (bound : ℕ). bound < bound_limit) (bounds_of f ns) (node_bound (word_bound f) (bounds_of f ns) n) s.bounded h.small);
       words = λ k w. elim (cases_lt k (length ns)) [
         | inl p ↦ bound_before f ns n k p ∙ s.words k (sym (named_before ns n k p) ∙ w)
         | inr p ↦ let l = names_word-below (put ns n) k w in let e : length ns ≡ k = omega (arith, length_push ns n) in

@@ -6,7 +6,7 @@ use Rattle.std.proofs.lemmas.Int.{ints}
 use Rattle.std.proofs.lemmas.Nat.{pow_pos, pow-add, mod_below, div-add-mod', mod-mul-add}
 use Rattle.std.proofs.lemmas.Bool.{eqb-true}
 use Rattle.std.proofs.lemmas.Bool.Decides.{nat_tests}
-use Rattle.dsv_term.specs.declared.node.TheConstants.{MAX_WIDTH}
+use Rattle.dsv_term.specs.Limits.{max_width}
 use Rattle.dsv_term.specs.declared.node.TermId.{TermId}
 use Rattle.dsv_term.specs.declared.word.Word.{Word}
 use Rattle.dsv_term.specs.Building.{Built, built_of}
@@ -227,7 +227,7 @@ pub record ShiftStands (u v : TermsView) (low noughts : TermId) : Type 0 where
   pub sound : AreSound v
   pub first : low.0 < length v.nodes
   pub second : noughts.0 < length v.nodes
-  pub narrow : width_of v low + width_of v noughts ≤ MAX_WIDTH
+  pub narrow : width_of v low + width_of v noughts ≤ max_width
 
 pub low_adds : (t u : TermsView) (a low : TermId) (width shift : ℕ) → AreSound t → a.0 < length t.nodes → width_of t a ≡ width → shift < width
     → built_of u low ≡ part_term t (width - shift) (record { of = a; high = width - 1 - shift; low = 0 }) → Adds t u low (width - shift)

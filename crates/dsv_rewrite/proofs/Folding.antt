@@ -2,7 +2,7 @@
 use Rattle.std.proofs.Common.{◌≡◌, ℕ, ◌+◌, ◌<◌, ◌≤◌, List, [], ◌∷◌, ◌++◌, refl, arith}
 use Rattle.std.specs.Prelude.{All}
 use Rattle.std.proofs.lemmas.List.Elements.{All-nil, All-cons}
-use Rattle.dsv_term.specs.declared.node.TheConstants.{MAX_WIDTH}
+use Rattle.dsv_term.specs.Limits.{max_width}
 use Rattle.dsv_term.specs.declared.node.TermNode.{TermNode}
 use Rattle.dsv_term.specs.declared.node.TermNode.TheVariants.{Add, Sub, Slt, Sle, Ult, Eq, And, Or, Concat, Neg, Not, MulConst, Sext, Extract}
 use Rattle.dsv_term.specs.declared.word.Word.{Word}
@@ -52,7 +52,7 @@ IsWord-and x y h k e = fold_two x y (And (record { 0 = 0 }) (record { 0 = 1 })) 
 pub IsWord-or : (x y : Word) → IsWord x → IsWord y → x.width ≡ y.width → IsWord (or_of x y)
 IsWord-or x y h k e = fold_two x y (Or (record { 0 = 0 }) (record { 0 = 1 })) h k (record { first = omega arith; second = omega arith; same = e })
 
-pub IsWord-joined : (x y : Word) → IsWord x → IsWord y → x.width + y.width ≤ MAX_WIDTH → IsWord (joined_of x y)
+pub IsWord-joined : (x y : Word) → IsWord x → IsWord y → x.width + y.width ≤ max_width → IsWord (joined_of x y)
 IsWord-joined x y h k e = fold_two x y (Concat (record { 0 = 0 }) (record { 0 = 1 })) h k (record { first = omega arith; second = omega arith; narrow = e })
 
 pub IsWord-negation : (x : Word) → IsWord x → IsWord (negation_of x)
@@ -64,7 +64,7 @@ IsWord-complement x h = fold_one x (Not (record { 0 = 0 })) h (omega arith)
 pub IsWord-product : (c : ℤ) (x : Word) → IsWord x → IsWord (product_of c x)
 IsWord-product c x h = fold_one x (MulConst (record { 0 = 0 }) c) h (omega arith)
 
-pub IsWord-extended : (width : ℕ) (x : Word) → IsWord x → x.width ≤ width → width ≤ MAX_WIDTH → IsWord (extended_of width x)
+pub IsWord-extended : (width : ℕ) (x : Word) → IsWord x → x.width ≤ width → width ≤ max_width → IsWord (extended_of width x)
 IsWord-extended width x h w n = fold_one x (Sext (record { 0 = 0 }) width) h (record { stands = omega arith; wider = w; narrow = n })
 
 pub IsWord-extract : (high low : ℕ) (x : Word) → IsWord x → low ≤ high → high < x.width → IsWord (extract_of high low x)

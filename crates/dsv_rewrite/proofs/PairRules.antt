@@ -3,7 +3,7 @@ use Rattle.std.proofs.Common.{◌≡◌, ℕ, ◌+◌, ◌-◌, ◌^◌, ◌<◌
 use Rattle.std.specs.Prelude.{◌==◌}
 use Rattle.std.proofs.lemmas.Nat.{pow_pos}
 use Rattle.std.proofs.lemmas.Bool.{eqb-true}
-use Rattle.dsv_term.specs.declared.node.TheConstants.{MAX_WIDTH}
+use Rattle.dsv_term.specs.Limits.{max_width}
 use Rattle.dsv_term.specs.declared.node.TermId.{TermId}
 use Rattle.dsv_term.specs.declared.node.TermNode.{TermNode}
 use Rattle.dsv_term.specs.declared.node.TermNode.TheVariants.{Add, Sub, Slt, Sle, Ult, Eq, And, Or, Concat, Neg, Not, Ite}
@@ -220,7 +220,7 @@ or_rewrites t a b p =
     (node_rewrites t (Or a b) s (alike t a b p) (inl o)))
 
 -- ---- joined terms
-pub joined_rewrites : (t : TermsView) (a b : TermId) → AreSound t → a.0 < length t.nodes → b.0 < length t.nodes → width_of t a + width_of t b ≤ MAX_WIDTH
+pub joined_rewrites : (t : TermsView) (a b : TermId) → AreSound t → a.0 < length t.nodes → b.0 < length t.nodes → width_of t a + width_of t b ≤ max_width
     → Rewrites t (joined_term t a b) (width_of t a + width_of t b) (λ values. joined_of (word_of t values a) (word_of t values b))
 joined_rewrites t a b s h g n =
     let m : List ℕ → Word = λ values. joined_of (word_of t values a) (word_of t values b) in

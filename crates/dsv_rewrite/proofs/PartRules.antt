@@ -3,7 +3,7 @@ use Rattle.std.proofs.Common.{◌≡◌, ℕ, zero, suc, ◌+◌, ◌-◌, ◌<�
 use Rattle.std.specs.Prelude.{◌==◌, nat_lt, nat_le, unwrap_or}
 use Rattle.std.proofs.lemmas.Bool.{eqb-true}
 use Rattle.std.proofs.lemmas.Bool.Decides.{nat_tests}
-use Rattle.dsv_term.specs.declared.node.TheConstants.{MAX_WIDTH}
+use Rattle.dsv_term.specs.Limits.{max_width}
 use Rattle.dsv_term.specs.declared.node.TermId.{TermId}
 use Rattle.dsv_term.specs.declared.node.TermNode.{TermNode}
 use Rattle.dsv_term.specs.declared.node.TermNode.TheVariants.{Concat, Sext, Extract}
@@ -181,7 +181,7 @@ bits_by t q false e s h o =
 pub bits_rewrites : (t : TermsView) (q : Part) → AreSound t → IsPart t q → IsOpen t q.of → BitsRewrite t q (bits_term t q)
 bits_rewrites t q s h o = bits_by t q ((q.low == 0) && (q.high + 1 == width_of t q.of)) refl s h o
 
-extended_by : (t : TermsView) (width : ℕ) (q : Part) (same : Bool) → (q.high + 1 - q.low == width) ≡ same → AreSound t → IsPart t q → IsOpen t q.of → q.high + 1 ≤ width + q.low → width ≤ MAX_WIDTH
+extended_by : (t : TermsView) (width : ℕ) (q : Part) (same : Bool) → (q.high + 1 - q.low == width) ≡ same → AreSound t → IsPart t q → IsOpen t q.of → q.high + 1 ≤ width + q.low → width ≤ max_width
     → Rewrites t (if same then bits_term t q else with_node (bits_term t q).terms (Sext (bits_term t q).id width)) width (λ values. extended_of width (extract_of q.high q.low (word_of t values q.of)))
 extended_by t width q true e s h o w n =
     let r = (bits_rewrites t q s h o).rewrites in
@@ -201,11 +201,11 @@ extended_by t width q false e s h o w n =
     (node_rewrites b.terms (Sext b.id width) a.sound (record { stands = listed b.terms b.id a.stands; wider = omega (arith, a.width, h.order); narrow = n }) r.is_open)
     (λ values v. ap (extended_of width) (r.rewrites.word values v))
 
-pub extended_rewrites : (t : TermsView) (width : ℕ) (q : Part) → AreSound t → IsPart t q → IsOpen t q.of → q.high + 1 ≤ width + q.low → width ≤ MAX_WIDTH
+pub extended_rewrites : (t : TermsView) (width : ℕ) (q : Part) → AreSound t → IsPart t q → IsOpen t q.of → q.high + 1 ≤ width + q.low → width ≤ max_width
     → Rewrites t (extended_bits t width q) width (λ values. extended_of width (extract_of q.high q.low (word_of t values q.of)))
 extended_rewrites t width q s h o w n = extended_by t width q (q.high + 1 - q.low == width) refl s h o w n
 
-part_by : (t : TermsView) (width : ℕ) (q : Part) (c : Option Word) → constant_at t q.of ≡ c → AreSound t → IsPart t q → q.high + 1 ≤ width + q.low → width ≤ MAX_WIDTH
+part_by : (t : TermsView) (width : ℕ) (q : Part) (c : Option Word) → constant_at t q.of ≡ c → AreSound t → IsPart t q → q.high + 1 ≤ width + q.low → width ≤ max_width
     → Rewrites t (part_of_constant t width q c) width (λ values. extended_of width (extract_of q.high q.low (word_of t values q.of)))
 part_by t width q (Some x) e s h w n =
     let k = constant_is t q.of x s h.stands e in
@@ -215,7 +215,7 @@ part_by t width q (Some x) e s h w n =
     (λ values v. ap (λ (z : Word). extended_of width (extract_of q.high q.low z)) (sym (k.word values)))
 part_by t width q None e s h w n = extended_rewrites t width q s h e w n
 
-pub part_rewrites : (t : TermsView) (width : ℕ) (p : Part) → AreSound t → IsPart t p → p.high + 1 ≤ width + p.low → width ≤ MAX_WIDTH
+pub part_rewrites : (t : TermsView) (width : ℕ) (p : Part) → AreSound t → IsPart t p → p.high + 1 ≤ width + p.low → width ≤ max_width
     → Rewrites t (part_term t width p) width (λ values. extended_of width (extract_of p.high p.low (word_of t values p.of)))
 unfolding part_term
 part_rewrites t width p s h w n =

@@ -3,7 +3,7 @@ use Rattle.std.proofs.Common.{◌≡◌, ℕ, ◌+◌, ◌-◌, ◌<◌, ◌≤�
 use Rattle.std.proofs.Math.IntN.{ℤ}
 use Rattle.std.proofs.lemmas.List.{drop_more, length_push, get_or_push, get_or_append_left}
 use Rattle.std.proofs.lemmas.Bool.{cases_lt}
-use Rattle.dsv_term.specs.declared.node.TheConstants.{MAX_WIDTH}
+use Rattle.dsv_term.specs.Limits.{max_width}
 use Rattle.dsv_term.specs.declared.node.TermId.{TermId}
 use Rattle.dsv_term.specs.declared.node.TermNode.{TermNode}
 use Rattle.dsv_term.specs.declared.node.TermNode.TheVariants.{Input, Constant, Add, Sub, Slt, Sle, Ult, Eq, And, Or, Concat, Neg, Not, MulConst, Sext, Extract, Ite}
@@ -35,7 +35,7 @@ product_by_rewrites t a (Some x) coeff s h e =
     (λ values v. ap (product_of coeff) (sym (q.word values)))
 product_by_rewrites t a None coeff s h e = multiple_rewrites t coeff a s h
 
-extension_rewrites : (t : TermsView) (a : TermId) (width : ℕ) → AreSound t → a.0 < length t.nodes → width_of t a ≤ width → width ≤ MAX_WIDTH → Rewrites t (extension_term t a width) width (λ values. extended_of width (word_of t values a))
+extension_rewrites : (t : TermsView) (a : TermId) (width : ℕ) → AreSound t → a.0 < length t.nodes → width_of t a ≤ width → width ≤ max_width → Rewrites t (extension_term t a width) width (λ values. extended_of width (word_of t values a))
 extension_rewrites t a width s h w n =
     let some = (stands-width t a s h).some in
     let high = width_of t a - 1 in

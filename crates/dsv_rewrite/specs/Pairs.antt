@@ -17,8 +17,8 @@ use Rattle.dsv_rewrite.specs.Constants.{constant_at, constant_term, is_zero, is_
 
 -- what becomes of a node over two terms: `both` of two constants, `first` and `second` where only
 -- that one is a constant, `neither` where none is
-abbrev pub by_constants : {A : Type 0} → Option Word → Option Word → (Word → Word → A) → (Word → A)
-    → (Word → A) → A → A
+abbrev pub by_constants : {A : Type 0} → Option Word → Option Word
+    → (Word → Word → A) → (Word → A) → (Word → A) → A → A
 by_constants (Some x) (Some y) both first second neither = both x y
 by_constants (Some x) None both first second neither = first x
 by_constants None (Some y) both first second neither = second y
@@ -58,8 +58,8 @@ difference_term t a b = by_constants (constant_at t a) (constant_at t b)
     (constant_or t (is_same_term a b) (zero_like t a) (Sub a b))
 
 -- what becomes of a comparison: `same` is its truth for a term with itself
-abbrev pub comparison_term : TermsView → (Word → Word → Word) → Bool → TermNode → TermId → TermId
-    → Built
+abbrev pub comparison_term : TermsView → (Word → Word → Word) → Bool → TermNode
+    → TermId → TermId → Built
 comparison_term t compare same node a b = by_constants (constant_at t a) (constant_at t b)
     (λ x y. constant_term t (compare x y))
     (λ x. with_node t node)

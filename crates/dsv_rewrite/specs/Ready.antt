@@ -1,6 +1,6 @@
 -- Serves private contracts: what the rules for bits, digits and nodes ask for.
 use Rattle.std.specs.Prelude.{◌≡◌, ℕ, ◌+◌, ◌<◌, ◌≤◌, ◌^◌, List, length, ℤ, pos, neg_ℤ, ◌≤ℤ◌}
-use Rattle.dsv_term.specs.declared.node.TheConstants.{MAX_WIDTH}
+use Rattle.dsv_term.specs.Limits.{max_width}
 use Rattle.dsv_term.specs.declared.node.TermId.{TermId}
 use Rattle.dsv_term.specs.declared.node.TermNode.{TermNode}
 use Rattle.dsv_term.specs.declared.node.TermNode.TheVariants.{Input, Constant, Add, Sub, Slt}
@@ -62,14 +62,14 @@ pub record AreReadyTerms (t : TermsView) (ids : List TermId) (a b : TermId) : Ty
 pub record AreReadyParts (t : TermsView) (ids : List TermId) (a b : TermId) : Type 0 where
   pub first : IsReadyTerm t ids a
   pub second : IsReadyTerm t ids b
-  pub narrow : width_of t (term_of ids a) + width_of t (term_of ids b) ≤ MAX_WIDTH
+  pub narrow : width_of t (term_of ids a) + width_of t (term_of ids b) ≤ max_width
 
 -- One that became a term that is at most so wide.
 pub record IsReadyExtension (t : TermsView) (ids : List TermId) (a : TermId) (width : ℕ)
     : Type 0 where
   pub term : IsReadyTerm t ids a
   pub wider : width_of t (term_of ids a) ≤ width
-  pub narrow : width ≤ MAX_WIDTH
+  pub narrow : width ≤ max_width
 
 -- One that became a term with these bits.
 pub record IsReadyExtract (t : TermsView) (ids : List TermId) (a : TermId) (high low : ℕ)

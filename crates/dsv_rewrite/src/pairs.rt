@@ -1,7 +1,7 @@
 // The rules for nodes over terms that may be constants.
 ghost use Rattle.std.specs.Prelude.{◌≡◌, ◌<◌, ◌≤◌, ◌+◌, length, IfOk};
 ghost use Rattle.dsv_term.specs.declared.node.TermNode.TheVariants.{And, Or};
-ghost use Rattle.dsv_term.specs.declared.node.TheConstants.{MAX_WIDTH};
+ghost use Rattle.dsv_term.specs.Limits.{max_width};
 ghost use Rattle.dsv_term.specs.Building.{built_of};
 ghost use Rattle.dsv_term.specs.Growth.{AreSound};
 ghost use Rattle.dsv_term.specs.Terms.{width_of};
@@ -203,7 +203,7 @@ pub(crate) fn joined_term(terms: &mut Terms, a: TermId, b: TermId) -> Result<Ter
     requires sound { AreSound terms.old }
     requires first { a.0 < length terms.old.nodes }
     requires second { b.0 < length terms.old.nodes }
-    requires narrow { width_of terms.old a + width_of terms.old b ≤ MAX_WIDTH }
+    requires narrow { width_of terms.old a + width_of terms.old b ≤ max_width }
     ensures { IfOk result (λ id. built_of terms.new id ≡ joined_term terms.old a b) }
 {
     match (constant_at(terms, a), constant_at(terms, b)) {

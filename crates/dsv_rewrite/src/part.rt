@@ -1,6 +1,6 @@
 // Bits of terms, extended: what extracts and sign extensions are.
 ghost use Rattle.std.specs.Prelude.{◌≡◌, ◌<◌, ◌≤◌, ◌+◌, IfOk};
-ghost use Rattle.dsv_term.specs.declared.node.TheConstants.{MAX_WIDTH};
+ghost use Rattle.dsv_term.specs.Limits.{max_width};
 ghost use Rattle.dsv_term.specs.Building.{built_of};
 ghost use Rattle.dsv_term.specs.Growth.{AreSound};
 ghost use Rattle.dsv_rewrite.specs.Constants.{node_at};
@@ -93,7 +93,7 @@ fn extended_bits(terms: &mut Terms, width: u32, part: Part) -> Result<TermId, No
     requires part { IsPart terms.old part }
     requires is_open { IsOpen terms.old part.of }
     requires wide { part.high + 1 ≤ width + part.low }
-    requires narrow { width ≤ MAX_WIDTH }
+    requires narrow { width ≤ max_width }
     ensures { IfOk result (λ id. built_of terms.new id ≡ extended_bits terms.old width part) }
 {
     let bits = bits_term(terms, part)?;
@@ -109,7 +109,7 @@ pub(crate) fn part_term(terms: &mut Terms, width: u32, part: Part) -> Result<Ter
     requires sound { AreSound terms.old }
     requires part { IsPart terms.old part }
     requires wide { part.high + 1 ≤ width + part.low }
-    requires narrow { width ≤ MAX_WIDTH }
+    requires narrow { width ≤ max_width }
     ensures { IfOk result (λ id. built_of terms.new id ≡ part_term terms.old width part) }
 {
     let inner = innermost(terms, part);

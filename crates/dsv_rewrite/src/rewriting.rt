@@ -4,7 +4,7 @@ ghost use Rattle.dsv_term.specs.Building.{built_of};
 ghost use Rattle.dsv_term.specs.Growth.{AreSound};
 ghost use Rattle.dsv_term.specs.Terms.{AreValues, word_of, width_of};
 ghost use Rattle.dsv_term.specs.Word.{IsWidth};
-ghost use Rattle.dsv_term.specs.declared.node.TheConstants.{MAX_WIDTH};
+ghost use Rattle.dsv_term.specs.Limits.{max_width};
 ghost use Rattle.dsv_rewrite.specs.Rules.{product_by, extension_term, extract_term, term_of};
 ghost use Rattle.dsv_rewrite.specs.Rules.{rewritten, inputs_from, no_terms, simple_of};
 ghost use Rattle.dsv_rewrite.specs.Constants.{constant_at};
@@ -37,7 +37,7 @@ fn extension_term(terms: &mut Terms, a: TermId, width: u32) -> Result<TermId, No
     requires sound { AreSound terms.old }
     requires stands { a.0 < length terms.old.nodes }
     requires wider { width_of terms.old a ≤ width }
-    requires narrow { width ≤ MAX_WIDTH }
+    requires narrow { width ≤ max_width }
     ensures { IfOk result (λ id. built_of terms.new id ≡ extension_term terms.old a width) }
 {
     let all = Part {

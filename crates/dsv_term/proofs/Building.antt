@@ -1,7 +1,7 @@
 -- What a node adds to sound terms: earlier terms stay, and its word is made of theirs.
 use Rattle.std.proofs.Common.{◌≡◌, ℕ, ◌+◌, ◌-◌, ◌^◌, ◌<◌, ◌≤◌, List, [], ◌∷◌, ◌++◌, refl, arith, ap, sym, subst, ◌∙◌, length, slice_index}
 use Rattle.std.proofs.Math.IntN.{ℤ}
-use Rattle.dsv_term.specs.declared.node.TheConstants.{MAX_WIDTH}
+use Rattle.dsv_term.specs.Limits.{max_width}
 use Rattle.dsv_term.specs.declared.node.TermId.{TermId}
 use Rattle.dsv_term.specs.declared.node.TermNode.{TermNode}
 use Rattle.dsv_term.specs.declared.node.TermNode.TheVariants.{Input, Constant, Add, Sub, Slt, Sle, Eq, And, Or, Not, MulConst, Sext, Extract, Ite}
@@ -130,7 +130,7 @@ pub product_gives : (t : TermsView) (a : TermId) (coeff : ℤ) → AreSound t �
     → Gives t (with_node t (MulConst a coeff)) (width_of t a) (λ values. product_of coeff (word_of t values a))
 product_gives t a coeff s h = node_gives t (MulConst a coeff) s (listed t a h)
 
-pub extension_gives : (t : TermsView) (a : TermId) (bits : ℕ) → AreSound t → a.0 < length t.nodes → width_of t a ≤ bits → bits ≤ MAX_WIDTH
+pub extension_gives : (t : TermsView) (a : TermId) (bits : ℕ) → AreSound t → a.0 < length t.nodes → width_of t a ≤ bits → bits ≤ max_width
     → Gives t (with_node t (Sext a bits)) bits (λ values. extended_of bits (word_of t values a))
 extension_gives t a bits s h w n = node_gives t (Sext a bits) s (record { stands = listed t a h; wider = w; narrow = n })
 

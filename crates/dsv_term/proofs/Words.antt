@@ -5,7 +5,7 @@ use Rattle.std.proofs.Math.Nat.{mul_comm}
 use Rattle.std.proofs.lemmas.Nat.{pow_pos, pow-add, mod_below, and_le_l, or_lt, mul-add-lt}
 use Rattle.std.proofs.lemmas.List.{length-map, get_or-map, map_push, get_or_read}
 use Rattle.std.proofs.lemmas.List.Elements.{All-push}
-use Rattle.dsv_term.specs.declared.node.TheConstants.{MAX_WIDTH}
+use Rattle.dsv_term.specs.Limits.{max_width}
 use Rattle.dsv_term.specs.declared.node.TermId.{TermId}
 use Rattle.dsv_term.specs.declared.node.TermNode.{TermNode}
 use Rattle.dsv_term.specs.declared.node.TermNode.TheVariants.{Input, Constant, Add, Sub, Slt, Sle, Ult, Eq, And, Or, Concat, Neg, Not, MulConst, Sext, Extract, Ite}
@@ -46,7 +46,7 @@ IsWord-complement a h = record { lawful = h.lawful; fits = omega (arith, pow_pos
 joined_fits : (a b v w : ℕ) → a < 2 ^ v → b < 2 ^ w → a * 2 ^ w + b < 2 ^ (v + w)
 joined_fits a b v w h k = let e = mul-add-lt a (2 ^ w) b (2 ^ v) h k in rw (pow-add 2 v w, mul_comm (2 ^ v) (2 ^ w)) e
 
-IsWord-joined : (a b : Word) → IsWord a → IsWord b → a.width + b.width ≤ MAX_WIDTH → IsWord (joined_of a b)
+IsWord-joined : (a b : Word) → IsWord a → IsWord b → a.width + b.width ≤ max_width → IsWord (joined_of a b)
 IsWord-joined a b h k n =
     record {
       lawful = record { some = omega (arith, h.lawful.some); narrow = n };

@@ -1,5 +1,6 @@
 pub mod Building
 pub mod Growth
+pub mod Limits
 pub mod Making
 pub mod TermNode
 pub mod Terms

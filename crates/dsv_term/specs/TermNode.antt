@@ -1,7 +1,7 @@
 -- Terms as a list of nodes: which are lawful, how wide they are, and the words that they stand for.
 use Rattle.std.specs.Prelude.{◌≡◌, ℕ, ◌+◌, ◌-◌, ◌^◌, ◌<◌, ◌≤◌, List, []}
 use Rattle.std.specs.Prelude.{◌∷◌, ◌++◌, length, map, slice_index, slice_index_or}
-use Rattle.dsv_term.specs.declared.node.TheConstants.{MAX_WIDTH}
+use Rattle.dsv_term.specs.Limits.{max_width}
 use Rattle.dsv_term.specs.declared.node.TermId.{TermId}
 use Rattle.dsv_term.specs.declared.node.TermNode.{TermNode}
 use Rattle.dsv_term.specs.declared.node.TermNode.TheVariants.{Input, Constant, Add, Sub, Slt}
@@ -84,7 +84,7 @@ pub record AreAlike (ws : List ℕ) (a b : TermId) : Type 0 where
 pub record AreNarrow (ws : List ℕ) (a b : TermId) : Type 0 where
   pub first : a.0 < length ws
   pub second : b.0 < length ws
-  pub narrow : slice_index ws a.0 + slice_index ws b.0 ≤ MAX_WIDTH
+  pub narrow : slice_index ws a.0 + slice_index ws b.0 ≤ max_width
 
 -- A constant that its bits can spell.
 pub record IsConstant (width value : ℕ) : Type 0 where
@@ -95,7 +95,7 @@ pub record IsConstant (width value : ℕ) : Type 0 where
 pub record IsExtension (ws : List ℕ) (a : TermId) (width : ℕ) : Type 0 where
   pub stands : a.0 < length ws
   pub wider : slice_index ws a.0 ≤ width
-  pub narrow : width ≤ MAX_WIDTH
+  pub narrow : width ≤ max_width
 
 -- Bits of an earlier node.
 pub record IsExtract (ws : List ℕ) (a : TermId) (high low : ℕ) : Type 0 where

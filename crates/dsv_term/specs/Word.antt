@@ -4,13 +4,13 @@ use Rattle.std.specs.Prelude.{ℕ, ◌+◌, ◌-◌, ◌*◌, ◌/◌, ◌%◌, 
 use Rattle.std.specs.Prelude.{◌==◌, nat_lt, Bool, if◌then◌else◌, ℤ, pos, negsuc, neg_ℤ}
 use Rattle.std.specs.Prelude.{◌-ℤ◌, ◌*ℤ◌, int_lt, int_le, unsigned_abs, bit_and, bit_or}
 use Rattle.std.specs.Int.{int_rem_euclid}
-use Rattle.dsv_term.specs.declared.node.TheConstants.{MAX_WIDTH}
+use Rattle.dsv_term.specs.Limits.{max_width}
 use Rattle.dsv_term.specs.declared.word.Word.{Word}
 
 -- A number of bits that a term may have.
 pub record IsWidth (width : ℕ) : Type 0 where
   pub some : 1 ≤ width
-  pub narrow : width ≤ MAX_WIDTH
+  pub narrow : width ≤ max_width
 
 -- The bits spell the number.
 pub record IsWord (a : Word) : Type 0 where

@@ -4,6 +4,7 @@
 
 mod eval;
 mod goal;
+mod law;
 mod lists;
 mod makers;
 mod node;
@@ -12,6 +13,7 @@ mod word;
 
 pub use eval::Scratch;
 pub use goal::Goal;
+pub use law::widest_term;
 pub use lists::{InputList, ValueList};
 pub use node::{MAX_WIDTH, TermId, TermNode};
 pub use terms::Terms;

@@ -1,13 +1,14 @@
 // The makers of terms. Each answers the term that stands already where there is one.
 ghost use Rattle.std.specs.Prelude.{◌≡◌, ℕ, ◌+◌, ◌^◌, ◌<◌, ◌≤◌, List};
 ghost use Rattle.std.specs.Prelude.{length, OnErr, IfOk};
+ghost use Rattle.dsv_term.specs.Limits.{max_width};
 ghost use Rattle.dsv_term.specs.Terms.{Makes, width_of, word_of};
 ghost use Rattle.dsv_term.specs.Word.{IsWidth, sum_of, difference_of, negation_of};
 ghost use Rattle.dsv_term.specs.Word.{product_of, and_of, or_of, complement_of};
 ghost use Rattle.dsv_term.specs.Word.{signed_less_of, signed_at_most_of, less_of, same_of};
 ghost use Rattle.dsv_term.specs.Word.{joined_of, extended_of, extract_of, choice_of};
 
-use crate::node::{MAX_WIDTH, TermId, TermNode};
+use crate::node::{TermId, TermNode};
 use crate::terms::Terms;
 use dsv_base::NoMemory;
 
@@ -150,7 +151,7 @@ impl Terms {
     pub fn concat(&mut self, a: TermId, b: TermId) -> Result<TermId, NoMemory>
         requires first { a.0 < length self.old.nodes }
         requires second { b.0 < length self.old.nodes }
-        requires narrow { width_of self.old a + width_of self.old b ≤ MAX_WIDTH }
+        requires narrow { width_of self.old a + width_of self.old b ≤ max_width }
         ensures made { IfOk result (λ id. Makes self.old self.new (TermNode.Concat a b) id) }
         ensures value { IfOk result (λ id. (values : List ℕ) →
             word_of self.new values id
@@ -205,7 +206,7 @@ impl Terms {
     pub fn sext(&mut self, a: TermId, width: u32) -> Result<TermId, NoMemory>
         requires stands { a.0 < length self.old.nodes }
         requires wider { width_of self.old a ≤ width }
-        requires narrow { width ≤ MAX_WIDTH }
+        requires narrow { width ≤ max_width }
         ensures made { IfOk result (λ id. Makes self.old self.new (TermNode.Sext a width) id) }
         ensures value { IfOk result (λ id. (values : List ℕ) →
             word_of self.new values id

@@ -1,8 +1,7 @@
 // Words, and what the functions of SMT-LIB make of them.
 ghost use Rattle.std.specs.Prelude.{◌≡◌, ◌+◌, ◌-◌, ◌%◌, ◌^◌, ◌≤◌, ◌<◌};
+ghost use Rattle.dsv_term.specs.Limits.{max_width};
 ghost use Rattle.dsv_term.specs.Word.{IsWidth, bit_of};
-
-use crate::node::MAX_WIDTH;
 
 /// A bit vector: how many bits it has, and the number that they spell without a sign.
 #[derive(Clone, Copy, Debug, PartialEq, Eq)]
@@ -183,7 +182,7 @@ impl Word {
     pub fn concatenation(self, other: Word) -> Word
         requires first { IsWord self }
         requires second { IsWord other }
-        requires narrow { self.width + other.width ≤ MAX_WIDTH }
+        requires narrow { self.width + other.width ≤ max_width }
         ensures { result ≡ joined_of self other }
     {
         Word {

@@ -5,8 +5,8 @@ ghost use Rattle.dsv_timing.specs.Cycles.{IsInTime};
 
 use dsv_fraction::Frac;
 
-/// Whether so many cycles, at `clock` cycles a second, are done within the time between two samples,
-/// in seconds.
+/// Whether so many cycles, at `clock` cycles a second, are done within the time between two
+/// samples, in seconds.
 #[tactic(auto, using(crate::proofs::Sizes::sizes))]
 pub fn in_time(cycles: u64, clock: u64, sample_time: &Frac) -> bool
     requires { IsTime sample_time.now }

@@ -29,8 +29,8 @@ fn part(cost: u32, times: u64) -> u64
     u64::from(cost) * times
 }
 
-/// How many cycles a sample takes: its own, those of its products with their roundings, of its sums,
-/// of what is fitted into words after each of these, and of the registers that are loaded.
+/// How many cycles a sample takes: its own, those of its products with their roundings, of its
+/// sums, of what is fitted into words after each of these, and of the registers that are loaded.
 pub fn cycles(counts: &OpCounts, costs: &Costs) -> u64
     requires { AreCosts costs.now }
     ensures { result ≡ cycles_of counts.now costs.now }

@@ -3,13 +3,13 @@ use Rattle.std.specs.Int.{w128}
 use Rattle.std.specs.Int.RustNames.{unsigned_abs}
 use Rattle.std.proofs.Math.IntN.{ℤ, pos, negsuc, ◌+ℤ◌}
 use Rattle.std.proofs.lemmas.Int.{to_z-of_z}
-use Rattle.dsv_netlist.specs.declared.TheConstants.{BOUND_LIMIT}
+use Rattle.dsv_netlist.specs.Limits.{bound_limit}
 use Rattle.dsv_netlist.proofs.stepping.value_of.Goals as goal
 
 pub bounds-values-right : goal.bounds-values-right
 bounds-values-right c = (rw c.in-Add.is at c.requires.backwards).1
 
-size_fits : (z : ℤ) → unsigned_abs z < BOUND_LIMIT → SFits w128 z
+size_fits : (z : ℤ) → unsigned_abs z < bound_limit → SFits w128 z
 size_fits (pos n) h = record { sfits = omega arith }
 size_fits (negsuc n) h = record { sfits = omega arith }
 
