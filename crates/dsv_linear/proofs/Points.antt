@@ -17,7 +17,7 @@ use Rattle.dsv_netlist.specs.declared.node.Node.{Node}
 use Rattle.dsv_netlist.specs.declared.node.Node.TheVariants.{Input, Reg, MulConst, Round, Add, Sub, Fit}
 use Rattle.dsv_netlist.specs.Nodes as nodes
 use Rattle.dsv_netlist.specs.Nodes.{Sample, at, node_value, node_exact}
-use Rattle.dsv_linear.specs.Facts.{Between, Hold, IsTrue}
+use Rattle.dsv_linear.specs.Facts.{Between, Hold, HoldsOf}
 use Rattle.dsv_linear.specs.declared.fact.Fact.{Fact}
 use Rattle.dsv_linear.specs.declared.fact.Fact.TheVariants as fact
 use Rattle.dsv_linear.specs.declared.range.Range.{Range}
@@ -216,7 +216,7 @@ pub record Holds (format : Format) (facts : List Fact) (exact : List ℤ) : Type
   pub each : Hold format facts exact
 
 hold_push : (f : Format) (facts : List Fact) (exact : List ℤ) (known : Fact) (e : ℤ) → Holds f facts exact
-    → (All (IsWord f) exact → IsTrue f known e) → Holds f (facts ++ known ∷ []) (exact ++ e ∷ [])
+    → (All (IsWord f) exact → HoldsOf f known e) → Holds f (facts ++ known ∷ []) (exact ++ e ∷ [])
 hold_push f facts exact known e h k = record {
   long = omega (arith, h.long, length_push facts known, length_push exact e);
   each = λ m p. elim (cases_lt m (length exact)) [

@@ -16,7 +16,7 @@ use Rattle.dsv_word.specs.declared.format.Format.{Format}
 use Rattle.dsv_word.specs.Words.{width, lo, hi, fit, IsWord}
 use Rattle.dsv_word.specs.Quotients.{whole_shift}
 use Rattle.dsv_word.proofs.Meanings.{wrapped_is, saturated_is, shifted_is}
-use Rattle.dsv_linear.specs.Facts.{Between, IsTrue}
+use Rattle.dsv_linear.specs.Facts.{Between, HoldsOf}
 use Rattle.dsv_linear.specs.declared.fact.Fact.TheVariants as fact
 use Rattle.dsv_linear.specs.declared.range.Range.{Range}
 use Rattle.dsv_linear.specs.Forms.{scale, range}
@@ -121,22 +121,22 @@ between_words : (format : Format) (low high v : ℤ) → IsWord format low → I
 between_words format low high v a b c = record { low = omega (arith, ints, a.low, c.least); high = omega (arith, ints, b.high, c.most) }
 
 inside_is_true : (b : Bool) (format : Format) (low high v : ℤ) → IsWord format low → IsWord format high → Between low high v
-    → IsTrue format (if b then fact.Within low high else fact.Inside) v
+    → HoldsOf format (if b then fact.Within low high else fact.Inside) v
 inside_is_true true format low high v a b c = record { low_word = a; high_word = b; between = c }
 inside_is_true false format low high v a b c = between_words format low high v a b c
 
 inside_fact_is_true : (format : Format) (ends : Range) (interval : Option Range) (v : ℤ) → IsWord format ends.low → IsWord format ends.high → Between ends.low ends.high v
-    → IsTrue format (inside_fact format ends interval) v
+    → HoldsOf format (inside_fact format ends interval) v
 inside_fact_is_true format ends None v a b c = between_words format ends.low ends.high v a b c
 inside_fact_is_true format ends (Some interval) v a b c = inside_is_true (are_words format interval) format ends.low ends.high v a b c
 
 ranged_cases : (p q : Bool) (format : Format) (ends : Range) (interval : Option Range) (v : ℤ) → is_word format ends.low ≡ p → is_word format ends.high ≡ q → Between ends.low ends.high v
-    → IsTrue format (if p && q then inside_fact format ends interval else fact.Open) v
+    → HoldsOf format (if p && q then inside_fact format ends interval else fact.Open) v
 ranged_cases true true format ends interval v a b c = inside_fact_is_true format ends interval v (is_word-true format ends.low a) (is_word-true format ends.high b) c
 ranged_cases true false format ends interval v a b c = tt
 ranged_cases false q format ends interval v a b c = tt
 
 -- the fact of a value that lies in its form's range
-pub fact_is_true : (format : Format) (ends interval : Option Range) (v : ℤ) → ((r : Range) → ends ≡ Some r → Between r.low r.high v) → IsTrue format (fact_of format ends interval) v
+pub fact_is_true : (format : Format) (ends interval : Option Range) (v : ℤ) → ((r : Range) → ends ≡ Some r → Between r.low r.high v) → HoldsOf format (fact_of format ends interval) v
 fact_is_true format None interval v h = tt
 fact_is_true format (Some ends) interval v h = ranged_cases (is_word format ends.low) (is_word format ends.high) format ends interval v refl refl (h ends refl)

@@ -23,16 +23,16 @@ pub record LiesWithin (format : Format) (low high v : ℤ) : Type 0 where
   pub between : Between low high v
 
 -- the fact is true of a value
-abbrev pub IsTrue : Format → Fact → ℤ → Type 0
-IsTrue format fact.Open v = Unit {0}
-IsTrue format fact.Inside v = IsWord format v
-IsTrue format (fact.Within low high) v = LiesWithin format low high v
+abbrev pub HoldsOf : Format → Fact → ℤ → Type 0
+HoldsOf format fact.Open v = Unit {0}
+HoldsOf format fact.Inside v = IsWord format v
+HoldsOf format (fact.Within low high) v = LiesWithin format low high v
 
 -- Each exact value has its fact, nothing being said of those after the last: it is true of the
 -- value if all exact values before it are words.
 abbrev pub Hold : Format → List Fact → List ℤ → Type 0
 Hold format facts exact = (m : ℕ) → m < length exact → All (IsWord format) (take m exact)
-    → IsTrue format (slice_index_or facts m fact.Open) (at exact m)
+    → HoldsOf format (slice_index_or facts m fact.Open) (at exact m)
 
 -- the exact values of these samples, in their order
 abbrev pub exact_values : List SampleRow → List ℤ

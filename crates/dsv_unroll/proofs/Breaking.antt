@@ -42,7 +42,7 @@ use Rattle.dsv_unroll.proofs.Runs.{any_outside, breaks_from, RegistersMean, Inpu
 use Rattle.dsv_unroll.proofs.TestedTerms.{TestsHold, run_holds}
 use Rattle.dsv_unroll.proofs.FactTerms.{word_inside, inside_word, facts_hold, first_holds}
 use Rattle.dsv_unroll.proofs.SampleSteps.{bits_later}
-use Rattle.dsv_unroll.proofs.InputTests.{bits_kept, bit_added, no_bits_mean, TestsMean, tests_later, joined-split, InputsStand, inputs_stand, words_at, range_flag, all_in_range, conjunction_joins, conjunction_keeps, conjunction_from-both}
+use Rattle.dsv_unroll.proofs.InputTests.{bits_kept, bit_added, no_bits_mean, TestsMean, tests_later, joined-split, InputsStand, inputs_stand, words_at, range_flag, all_in_range, Joins, conjunction_joins, conjunction_keeps, conjunction_from-both}
 use Rattle.dsv_unroll.proofs.ValueTerms.{value_of, value_right}
 
 -- ---- a break
@@ -326,7 +326,7 @@ starts_holds net values low high samples i t nought h s =
     let vs = map (value_of (width net.format) low high) (words_at (width net.format) values 0 samples) in
     run_holds net values i.ids vs (record { terms = t; registers = replicate m nought; broken = nought }) (zeros m) false h (length-replicate m (pos 0)) (zeros_words net) s.ready (s.flag values) (λ e. s.registers) s.inputs
 
-starts_follow : (net : Net) (values : List ℕ) (low high : ℤ) (samples : ℕ) (i : InputTerms) (t : TermsView) (nought : TermId) → IsNetlist net → Starts net values low high samples i t nought
+pub starts_follow : (net : Net) (values : List ℕ) (low high : ℤ) (samples : ℕ) (i : InputTerms) (t : TermsView) (nought : TermId) → IsNetlist net → Starts net values low high samples i t nought
     → let start : RunTerms = record { terms = t; registers = replicate (length net.next) nought; broken = nought } in let vs = map (value_of (width net.format) low high) (words_at (width net.format) values 0 samples) in
     RunFollows net values t (run_from net i.ids start) (breaks_from net false (zeros (length net.next)) vs)
 starts_follow net values low high samples i t nought h s =
@@ -340,6 +340,15 @@ facts_known : (net : Net) (low high : ℤ) (samples : ℕ) (facts : List Fact) (
 facts_known net low high samples facts zs a c q =
     let e = values_right (width net.format) low high true zs (let s = width_small net.format in omega arith) q in
     subst (λ (ys : List ℤ). Hold net.format facts (exact_values (rows_from (step_of net) (zeros (length net.next)) ys))) (sym e) (a zs c (all_range low high true zs q))
+
+-- the run's flag and the tests of the inputs, joined after terms that keep those of the start
+pub range_joins : (net : Net) (values : List ℕ) (low high : ℤ) (samples : ℕ) (i : InputTerms) (u t : TermsView) (nought broken : TermId) (b : Bool) → Starts net values low high samples i u nought → AreSound t → HasBits t broken 1 → word_of t values broken ≡ bit_of b → KeepsTerms u t
+    → Joins values t (conjunction_from (built_of t broken) i.tests) (b && all_in_range low high true (words_at (width net.format) values 0 samples))
+range_joins net values low high samples i u t nought broken b s sound bit flag kept =
+    let q = all_in_range low high true (words_at (width net.format) values 0 samples) in
+    let m = tests_later u t values i.tests q kept s.bits s.tests in
+    let j = conjunction_joins values t broken i.tests m.truths b sound bit flag (bits_later u t i.tests kept s.bits) m.mean in
+    record { adds = j.adds; word = j.word ∙ ap bit_of (joined-split b m.truths ∙ ap (λ (c : Bool). b && c) m.all) }
 
 pub goal_stands : (net : Net) (low high : ℤ) (samples : ℕ) (facts : List Fact) (values : List ℕ) → IsNetlist net → low ≤ℤ hi (width net.format) → lo (width net.format) ≤ℤ high → AreFacts net low high samples facts
     → ((j : ℕ) → j < samples → slice_index values j < 2 ^ width net.format) → GoalStands net low high samples values (overflow_with net low high samples facts)
@@ -366,13 +375,11 @@ goal_stands net low high samples facts values net_ l h a f =
     (λ o p. (tests.say refl, facts_known net low high samples facts zs a (words_at-length (width net.format) values 0 samples) o)) in
     let g = e.holds in
     let kept = KeepsTerms-both u.terms run.terms k.terms r.kept g.kept in
-    let t = tests_later u.terms k.terms values i.tests q kept s.bits s.tests in
     let broken = bits_kept run.terms k.terms run.broken 1 g.kept (record { stands = r.stands; width = r.bit }) in
     let flag = g.kept.words values run.broken r.stands ∙ r.flag in
-    let j = conjunction_joins values k.terms run.broken i.tests t.truths b g.sound broken flag (bits_later u.terms k.terms i.tests kept s.bits) t.mean in
+    let j = range_joins net values low high samples i u.terms k.terms u.id run.broken b s g.sound broken flag kept in
     let one = conjunction_from (built_of k.terms run.broken) i.tests in
-    let word : word_of one.terms values one.id ≡ bit_of (b && q) = j.word ∙ ap bit_of (joined-split b t.truths ∙ ap (λ (c : Bool). b && c) t.all) in
-    let n = conjunction_keeps values one.terms one.id g.more (b && q) j.adds.sound (bit_added k.terms one.terms one.id j.adds) word (bits_later k.terms one.terms g.more j.adds.kept g.bits)
+    let n = conjunction_keeps values one.terms one.id g.more (b && q) j.adds.sound (bit_added k.terms one.terms one.id j.adds) j.word (bits_later k.terms one.terms g.more j.adds.kept g.bits)
     (λ o d p. j.adds.kept.words values (term_at g.more d) (g.bits.stand d p).stands ∙ g.ones (both_true b q o).1 d p) in
     let end : conjunction_from (built_of k.terms run.broken) k.tests ≡ conjunction_from one g.more = ap (conjunction_from (built_of k.terms run.broken)) g.tests ∙ conjunction_from-both (built_of k.terms run.broken) i.tests g.more in
     let same = n.adds.inputs ∙ (j.adds.inputs ∙ (g.inputs ∙ r.inputs)) in

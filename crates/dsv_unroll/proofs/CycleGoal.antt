@@ -228,9 +228,9 @@ pub record AreCycleStarts (net : Net) (nought : TermId) (s : StartTerms) : Type 
   pub stand : AreAllValues s.terms s.ids
   pub count : length s.ids ≡ length net.next
 
-pub cycle_started : (net : Net) (t : TermsView) (nought : TermId) (s : StartTerms) → IsNetlist net → built_of t nought ≡ with_node no_terms (Constant 1 0)
+pub cycle_started : (net : Net) (first t : TermsView) (nought : TermId) (s : StartTerms) → IsNetlist net → first ≡ no_terms → built_of t nought ≡ with_node first (Constant 1 0)
     → s ≡ starts_from (width net.format) (length net.next - net.feed_forward) (record { terms = t; ids = replicate net.feed_forward nought }) → AreCycleStarts net nought s
-cycle_started net t nought s h e g =
+cycle_started net first t nought s h z e g =
     let u = with_node no_terms (Constant 1 0) in
     let from : Built → StartTerms = λ b. starts_from (width net.format) (length net.next - net.feed_forward) (record { terms = b.terms; ids = replicate net.feed_forward b.id }) in
     let c = (cycle_starts net [] h (λ j p. pow_pos (width net.format))).stands in
@@ -240,7 +240,8 @@ cycle_started net t nought s h e g =
       stand = c.registers_stand;
       count = count;
     } in
-    let two = subst (λ (b : Built). AreCycleStarts net b.id (from b)) (sym e) one in
+    let made : built_of t nought ≡ u = e ∙ ap (λ (v : TermsView). with_node v (Constant 1 0)) z in
+    let two = subst (λ (b : Built). AreCycleStarts net b.id (from b)) (sym made) one in
     subst (AreCycleStarts net nought) (sym g) two
 
 forward_quiet : (m : ℕ) (zs : List ℤ) → All (λ w. w ≡ pos 0) (take m (zeros m ++ zs))

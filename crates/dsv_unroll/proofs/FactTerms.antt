@@ -11,7 +11,7 @@ use Rattle.dsv_word.specs.declared.format.Format.{Format}
 use Rattle.dsv_word.specs.Words.{width, IsWord}
 use Rattle.dsv_linear.specs.declared.fact.Fact.{Fact}
 use Rattle.dsv_linear.specs.declared.fact.Fact.TheVariants as fact
-use Rattle.dsv_linear.specs.Facts.{IsTrue, Hold}
+use Rattle.dsv_linear.specs.Facts.{Hold, HoldsOf}
 use Rattle.dsv_term.specs.declared.node.TermId.{TermId}
 use Rattle.dsv_term.specs.declared.node.TermNode.TheVariants.{Constant, Sle, And, Or}
 use Rattle.dsv_term.specs.declared.word.Word.{Word}
@@ -235,7 +235,7 @@ entry_holds long t values before good g k held None outside h s m = record { fla
 entry_holds long t values before good g k held (Some x) outside h s m = fact_holds long t values before good g k held x outside h s m
 
 -- a fact that is true says so
-between_word : (f : Format) (low high e : ℤ) → IsTrue f (fact.Within low high) e → IsWord f e
+between_word : (f : Format) (low high e : ℤ) → HoldsOf f (fact.Within low high) e → IsWord f e
 between_word f low high e h =
     let a = h.low_word.low in
     let b = h.high_word.high in
@@ -243,7 +243,7 @@ between_word f low high e h =
     let d = h.between.most in
     record { low = omega (arith, ints); high = omega (arith, ints) }
 
-fact_says : (t : TermsView) (values : List ℕ) (f : Format) (held : Fact) (x : TestedTerm) (e : ℤ) → AreSound t → IsTest t x → EntrySays t values (width f) (Some x) e → IsTrue f held e → FactSays t values held x (is_outside (width f) e)
+fact_says : (t : TermsView) (values : List ℕ) (f : Format) (held : Fact) (x : TestedTerm) (e : ℤ) → AreSound t → IsTest t x → EntrySays t values (width f) (Some x) e → HoldsOf f held e → FactSays t values held x (is_outside (width f) e)
 fact_says t values f fact.Open x e s i n h = n.outside
 fact_says t values f fact.Inside x e s i n h = (n.is_word ∙ ap (λ (o : Bool). bit_of (not o)) (word_inside f e h), word_inside f e h)
 fact_says t values f (fact.Within low high) x e s i n h =
@@ -255,7 +255,7 @@ fact_says t values f (fact.Within low high) x e s i n h =
       inside,
     )
 
-entry_says : (t : TermsView) (values : List ℕ) (f : Format) (held : Fact) (x : Option TestedTerm) (e : ℤ) → AreSound t → IsEntry t x → EntrySays t values (width f) x e → IsTrue f held e → EntryFact t values held x (is_outside (width f) e)
+entry_says : (t : TermsView) (values : List ℕ) (f : Format) (held : Fact) (x : Option TestedTerm) (e : ℤ) → AreSound t → IsEntry t x → EntrySays t values (width f) x e → HoldsOf f held e → EntryFact t values held x (is_outside (width f) e)
 entry_says t values f held None e s i n h = n
 entry_says t values f held (Some x) e s i n h = fact_says t values f held x e s i n h
 
@@ -271,7 +271,7 @@ Known t values f facts xs es = EntriesSay t values (width f) xs es × Hold f fac
 none_known : (f : Format) (es : List ℤ) → Hold f [] es
 none_known f es = λ m p w. tt
 
-hold_first : (f : Format) (held : Fact) (facts : List Fact) (e : ℤ) (es : List ℤ) → Hold f (held ∷ facts) (e ∷ es) → IsTrue f held e
+hold_first : (f : Format) (held : Fact) (facts : List Fact) (e : ℤ) (es : List ℤ) → Hold f (held ∷ facts) (e ∷ es) → HoldsOf f held e
 hold_first f held facts e es h = h 0 (omega arith) (All-nil (IsWord f))
 
 hold_rest : (f : Format) (held : Fact) (facts : List Fact) (e : ℤ) (es : List ℤ) → Hold f (held ∷ facts) (e ∷ es) → IsWord f e → Hold f facts es
@@ -279,7 +279,7 @@ hold_rest f held facts e es h w = λ m p a. h (suc m) (omega arith) (All-cons (I
 
 -- one entry more, where the others hold after it
 facts_step : (long : Bool) → (t : TermsView) (values : List ℕ) (f : Format) (before : List TermId) (good : Bool) (g : List ℕ → Bool) (k : FactTerms) (held : Fact) (facts : List Fact) (x : Option TestedTerm) (xs : List (Option TestedTerm)) (e : ℤ) (es : List ℤ) (end : FactTerms)
-    → FactsHold t values before good g k → All (IsEntry k.terms) (x ∷ xs) → (good ≡ true → g values ≡ false → EntriesSay k.terms values (width f) (x ∷ xs) (e ∷ es) × IsTrue f held e) → (good ≡ true → g values ≡ false → IsWord f e → Hold f facts es)
+    → FactsHold t values before good g k → All (IsEntry k.terms) (x ∷ xs) → (good ≡ true → g values ≡ false → EntriesSay k.terms values (width f) (x ∷ xs) (e ∷ es) × HoldsOf f held e) → (good ≡ true → g values ≡ false → IsWord f e → Hold f facts es)
     → ((now : List ℕ → Bool) → FactsHold t values before good now (with_entry long k held x) → All (IsEntry (with_entry long k held x).terms) xs → (good ≡ true → now values ≡ false → Known (with_entry long k held x).terms values f facts xs es) → AllHold t values before good end)
     → AllHold t values before good end
 facts_step long t values f before good g k held facts x xs e es end h s m r rest =

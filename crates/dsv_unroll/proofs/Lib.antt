@@ -13,6 +13,7 @@ pub mod Follows
 pub mod InputTests
 pub mod NodeTerms
 pub mod OverflowRoots
+pub mod PlainGoals
 pub mod RoundTerms
 pub mod Rounding
 pub mod RuleTerms

@@ -14,7 +14,7 @@ use Rattle.dsv_word.specs.declared.format.Format.{Format}
 use Rattle.dsv_word.specs.Words.{width}
 use Rattle.dsv_netlist.specs.declared.node.Node.{Node}
 use Rattle.dsv_netlist.specs.declared.node.Node.TheVariants as node
-use Rattle.dsv_netlist.specs.declared.TheConstants.{BOUND_LIMIT}
+use Rattle.dsv_netlist.specs.Limits.{bound_limit}
 use Rattle.dsv_netlist.specs.Nodes.{Net}
 use Rattle.dsv_netlist.specs.Bounds.{word_bound, bounds_of}
 use Rattle.dsv_netlist.specs.Conditions.{IsNetlist, NamesBelow, AllNameBack, ReadsBelow}
@@ -37,7 +37,7 @@ use Rattle.dsv_unroll.proofs.FaithfulTerms.{word_fits}
 -- ---- numbers of a netlist
 pub bound_small : (net : Net) (i : ℕ) → IsNetlist net → i < length net.nodes → bound_at net i < 2 ^ 78
 bound_small net i n h =
-    All-get_or (λ (b : ℕ). b < BOUND_LIMIT) (bounds_of net.format net.nodes) i 0 (omega (arith, from-length (word_bound net.format) net.nodes [], h)) n.bounded
+    All-get_or (λ (b : ℕ). b < bound_limit) (bounds_of net.format net.nodes) i 0 (omega (arith, from-length (word_bound net.format) net.nodes [], h)) n.bounded
 
 pub point_small : (f : Format) → f.frac_bits ≤ 32
 point_small f = let l = f.lawful in omega (arith, l.0, l.1, l.2)

@@ -11,8 +11,7 @@ use Rattle.dsv_term.specs.Building.{Built, built_of, with_node}
 use Rattle.dsv_term.specs.TermsView.{TermsView}
 use Rattle.dsv_unroll.specs.declared.fitting.TestedTerm.{TestedTerm}
 use Rattle.dsv_unroll.specs.FactTests.{FactTerms, facts_from, is_long}
-use Rattle.dsv_unroll.specs.Goals.{RunTerms, run_from, run_tests, no_terms, conjunction_from, overflow_with}
-use Rattle.dsv_unroll.specs.OverflowStart.{first_inputs}
+use Rattle.dsv_unroll.specs.Goals.{RunTerms, run_from, run_tests, no_terms, conjunction_from, first_inputs, overflow_with}
 use Rattle.dsv_unroll.proofs.Breaking.{AreStarted, started_from}
 
 pub zero_started : (net : Net) (low high : ℤ) (samples : ℕ) (none t : TermsView) (nought : TermId) (registers : List TermId) → none ≡ no_terms → low ≤ℤ hi (width net.format) → lo (width net.format) ≤ℤ high

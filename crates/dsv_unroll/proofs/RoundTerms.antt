@@ -9,7 +9,7 @@ use Rattle.std.proofs.lemmas.Int.{ints}
 use Rattle.std.proofs.lemmas.Bool.{eqb-true}
 use Rattle.dsv_algebra.specs.Floor.{floor_of}
 use Rattle.dsv_netlist.proofs.Sizes.{size_within, within_size}
-use Rattle.dsv_term.specs.declared.node.TheConstants.{MAX_WIDTH}
+use Rattle.dsv_term.specs.Limits.{max_width}
 use Rattle.dsv_term.specs.declared.node.TermId.{TermId}
 use Rattle.dsv_term.specs.declared.node.TermNode.TheVariants.{Constant, Add, Extract}
 use Rattle.dsv_term.specs.declared.word.Word.{Word}
@@ -64,7 +64,7 @@ pub record Shifts (t : TermsView) (of : TermId) (bound addend f bits : ℕ) (b :
 cut : (t : TermsView) (id : TermId) (v f : ℕ) → AreSound t → id.0 < length t.nodes → width_of t id ≡ v + f → 1 ≤ v → Gives t (with_node t (Extract id (v + f - 1) f)) (v + f - 1 + 1 - f) (λ values. extract_of (v + f - 1) f (word_of t values id))
 cut t id v f s h w p = extract_gives t id (v + f - 1) f s h (omega arith) (omega arith)
 
-shifted_by : (t : TermsView) (of : TermId) (bound addend f v : ℕ) → AreSound t → IsValue t of → width_of t of ≤ v + f → v + f ≤ MAX_WIDTH → 1 ≤ v → addend < 2 ^ (v + f)
+shifted_by : (t : TermsView) (of : TermId) (bound addend f v : ℕ) → AreSound t → IsValue t of → width_of t of ≤ v + f → v + f ≤ max_width → 1 ≤ v → addend < 2 ^ (v + f)
     → ((z : ℤ) → IsSpelled (width_of t of) z → unsigned_abs z ≤ bound → IsSpelled (v + f) (z +ℤ pos addend))
     → Shifts t of bound addend f v (let a = widened_term t of (v + f) in let b = with_addend a.terms (v + f) addend a.id in with_node b.terms (Extract b.id (v + f - 1) f))
 shifted_by t of bound addend f v s h w n p l r =

@@ -9,7 +9,7 @@ use Rattle.std.proofs.lemmas.Int.{ints, unsigned_abs-mul}
 use Rattle.std.proofs.lemmas.Nat.{pow-add, pow_pos, mul-le, leading_length}
 use Rattle.std.proofs.lemmas.Bool.{eqb-true, cases_lt}
 use Rattle.dsv_netlist.proofs.Sizes.{size_within, within_size}
-use Rattle.dsv_term.specs.declared.node.TheConstants.{MAX_WIDTH}
+use Rattle.dsv_term.specs.Limits.{max_width}
 use Rattle.dsv_term.specs.declared.node.TermId.{TermId}
 use Rattle.dsv_term.specs.declared.node.TermNode.TheVariants.{Add, Sub, MulConst, Sext}
 use Rattle.dsv_term.specs.declared.word.Word.{Word}
@@ -70,7 +70,7 @@ pub record Widens (t : TermsView) (b : Built) (id : TermId) (bits : ℕ) : Type 
   pub adds : Adds t b.terms b.id bits
   pub spells : (values : List ℕ) (z : ℤ) → Spells t values id (width_of t id) z → Spells b.terms values b.id bits z
 
-widened_by : (t : TermsView) (id : TermId) (bits : ℕ) (q : Bool) → (width_of t id == bits) ≡ q → AreSound t → id.0 < length t.nodes → width_of t id ≤ bits → bits ≤ MAX_WIDTH
+widened_by : (t : TermsView) (id : TermId) (bits : ℕ) (q : Bool) → (width_of t id == bits) ≡ q → AreSound t → id.0 < length t.nodes → width_of t id ≤ bits → bits ≤ max_width
     → Widens t (if q then built_of t id else with_node t (Sext id bits)) id bits
 widened_by t id bits true e s h w n =
     let k : width_of t id ≡ bits = eqb-true (width_of t id) bits e in
@@ -86,7 +86,7 @@ widened_by t id bits false e s h w n =
       };
     }
 
-pub widened : (t : TermsView) (id : TermId) (bits : ℕ) → AreSound t → id.0 < length t.nodes → width_of t id ≤ bits → bits ≤ MAX_WIDTH → Widens t (widened_term t id bits) id bits
+pub widened : (t : TermsView) (id : TermId) (bits : ℕ) → AreSound t → id.0 < length t.nodes → width_of t id ≤ bits → bits ≤ max_width → Widens t (widened_term t id bits) id bits
 widened t id bits s h w n = widened_by t id bits (width_of t id == bits) refl s h w n
 
 -- ---- products and sums
@@ -154,7 +154,7 @@ pub record Multiplies (t : TermsView) (bound : ℕ) (coeff : ℤ) (of : TermId) 
   pub adds : Adds t b.terms b.id bits
   pub spells : (values : List ℕ) (z : ℤ) → Spells t values of (width_of t of) z → unsigned_abs (coeff *ℤ z) ≤ bound → Spells b.terms values b.id bits (coeff *ℤ z)
 
-multiplied : (t : TermsView) (bound : ℕ) (coeff : ℤ) (of : TermId) (bits : ℕ) → AreSound t → IsValue t of → width_of t of ≤ bits → bits ≤ MAX_WIDTH
+multiplied : (t : TermsView) (bound : ℕ) (coeff : ℤ) (of : TermId) (bits : ℕ) → AreSound t → IsValue t of → width_of t of ≤ bits → bits ≤ max_width
     → ((z : ℤ) → IsSpelled (width_of t of) z → unsigned_abs (coeff *ℤ z) ≤ bound → IsSpelled bits (coeff *ℤ z))
     → Multiplies t bound coeff of bits (let a = widened_term t of bits in with_node a.terms (MulConst a.id coeff))
 multiplied t bound coeff of bits s v w n r =
@@ -195,7 +195,7 @@ pub record WidensBoth (t : TermsView) (left right : TermId) (bits : ℕ) (a b : 
   pub left_spells : (values : List ℕ) (z : ℤ) → Spells t values left (width_of t left) z → Spells b.terms values a.id bits z
   pub right_spells : (values : List ℕ) (z : ℤ) → Spells t values right (width_of t right) z → Spells b.terms values b.id bits z
 
-pub both_widened : (t : TermsView) (left right : TermId) (bits : ℕ) → AreSound t → IsValue t left → IsValue t right → width_of t left ≤ bits → width_of t right ≤ bits → bits ≤ MAX_WIDTH
+pub both_widened : (t : TermsView) (left right : TermId) (bits : ℕ) → AreSound t → IsValue t left → IsValue t right → width_of t left ≤ bits → width_of t right ≤ bits → bits ≤ max_width
     → WidensBoth t left right bits (widened_term t left bits) (widened_term (widened_term t left bits).terms right bits)
 both_widened t left right bits s v u w x n =
     let a = widened_term t left bits in
@@ -216,7 +216,7 @@ pub record Combines (t : TermsView) (bound : ℕ) (left right : TermId) (bits : 
   pub adds : Adds t b.terms b.id bits
   pub spells : (values : List ℕ) (y z : ℤ) → Spells t values left (width_of t left) y → Spells t values right (width_of t right) z → unsigned_abs (op y z) ≤ bound → Spells b.terms values b.id bits (op y z)
 
-added : (t : TermsView) (bound : ℕ) (left right : TermId) (bits : ℕ) → AreSound t → IsValue t left → IsValue t right → width_of t left ≤ bits → width_of t right ≤ bits → bits ≤ MAX_WIDTH
+added : (t : TermsView) (bound : ℕ) (left right : TermId) (bits : ℕ) → AreSound t → IsValue t left → IsValue t right → width_of t left ≤ bits → width_of t right ≤ bits → bits ≤ max_width
     → ((y z : ℤ) → IsSpelled (width_of t left) y → IsSpelled (width_of t right) z → unsigned_abs (y +ℤ z) ≤ bound → IsSpelled bits (y +ℤ z))
     → Combines t bound left right bits (λ y z. y +ℤ z) (let a = widened_term t left bits in let b = widened_term a.terms right bits in with_node b.terms (Add a.id b.id))
 added t bound left right bits s v u w x n r =
@@ -234,7 +234,7 @@ added t bound left right bits s v u w x n r =
       };
     }
 
-subtracted : (t : TermsView) (bound : ℕ) (left right : TermId) (bits : ℕ) → AreSound t → IsValue t left → IsValue t right → width_of t left ≤ bits → width_of t right ≤ bits → bits ≤ MAX_WIDTH
+subtracted : (t : TermsView) (bound : ℕ) (left right : TermId) (bits : ℕ) → AreSound t → IsValue t left → IsValue t right → width_of t left ≤ bits → width_of t right ≤ bits → bits ≤ max_width
     → ((y z : ℤ) → IsSpelled (width_of t left) y → IsSpelled (width_of t right) z → unsigned_abs (y -ℤ z) ≤ bound → IsSpelled bits (y -ℤ z))
     → Combines t bound left right bits (λ y z. y -ℤ z) (let a = widened_term t left bits in let b = widened_term a.terms right bits in with_node b.terms (Sub a.id b.id))
 subtracted t bound left right bits s v u w x n r =

@@ -14,10 +14,10 @@ use Rattle.std.proofs.lemmas.List.Sums.{AllPass-from_list_all}
 use Rattle.dsv_algebra.proofs.Normaliser.{ring, env, var, num, plus, times}
 use Rattle.dsv_word.specs.declared.format.Format.{Format}
 use Rattle.dsv_word.specs.Words.{width, IsWord}
-use Rattle.dsv_netlist.specs.declared.TheConstants.{MOST_REGISTERS}
+use Rattle.dsv_netlist.specs.Limits.{most_registers}
 use Rattle.dsv_netlist.specs.Nodes.{at}
 use Rattle.dsv_netlist.proofs.Sizes.{size_within, within_size, word_size}
-use Rattle.dsv_template.specs.declared.limits.TheConstants.{MOST_COEFFICIENT}
+use Rattle.dsv_template.specs.Limits.{most_coefficient}
 use Rattle.dsv_template.specs.Candidates.{combination, is_small}
 use Rattle.dsv_term.specs.declared.node.TermId.{TermId}
 use Rattle.dsv_term.specs.Building.{Built, built_of}
@@ -42,10 +42,10 @@ powers i j h = pow-le-pow_right (omega arith) h
 -- a coefficient times a word takes at most 55 bits
 pub entry_bound-small : (f : Format) (c : ℤ) → is_small c ≡ true → entry_bound (width f) c ≤ 2 ^ 55
 entry_bound-small f c h =
-    let a : unsigned_abs c ≤ MOST_COEFFICIENT = leb-true (unsigned_abs c) MOST_COEFFICIENT h in
+    let a : unsigned_abs c ≤ most_coefficient = leb-true (unsigned_abs c) most_coefficient h in
     let s = width_small f in
     let p = powers (width f - 1) 31 (omega arith) in
-    let m = mul-le (unsigned_abs c) (2 ^ (width f - 1)) MOST_COEFFICIENT (2 ^ 31) a p in
+    let m = mul-le (unsigned_abs c) (2 ^ (width f - 1)) most_coefficient (2 ^ 31) a p in
     omega (arith, m)
 
 entry_size : (f : Format) (c w : ℤ) → IsWord f w → unsigned_abs (c *ℤ w) ≤ entry_bound (width f) c
@@ -267,7 +267,7 @@ pub record IsSumming (f : Format) (cs : List ℤ) (registers : List TermId) (k :
   pub room : s.bound ≤ 2 ^ 55 * k
   pub same : combination_from (width f) s (drop k cs) (drop k registers) ≡ end
 
-pub entry_at : (f : Format) (cs : List ℤ) (registers : List TermId) (k : ℕ) (s end : SumTerms) → k < length registers → length cs ≡ length registers → length registers ≤ MOST_REGISTERS → list_all is_small cs ≡ true → IsSumming f cs registers k s end
+pub entry_at : (f : Format) (cs : List ℤ) (registers : List TermId) (k : ℕ) (s end : SumTerms) → k < length registers → length cs ≡ length registers → length registers ≤ most_registers → list_all is_small cs ≡ true → IsSumming f cs registers k s end
     → IsEntryReady s (at cs k) (term_at registers k)
 entry_at f cs registers k s end l e few h i =
     record { sound = i.sound; value = i.value; register_value = i.registers_stand.stand k l; small = passes_at is_small cs k (pos 0) h (omega arith); room = (let n = i.room in omega arith) }

@@ -12,7 +12,7 @@ use Rattle.dsv_word.specs.declared.format.Format.{Format}
 use Rattle.dsv_word.specs.Words.{width, IsWord}
 use Rattle.dsv_template.specs.declared.candidate.Candidate.{Candidate}
 use Rattle.dsv_template.specs.declared.candidate.Inequality.{Inequality}
-use Rattle.dsv_template.specs.declared.limits.TheConstants.{MOST_BOUND, MOST_BIT_LENGTHS, MOST_DEPTH}
+use Rattle.dsv_template.specs.Limits.{most_bound, most_bit_lengths, most_depth}
 use Rattle.dsv_template.specs.Candidates.{combination, is_small, all_bit_lengths, is_fit_for, is_shaped}
 use Rattle.dsv_term.specs.declared.node.TermId.{TermId}
 use Rattle.dsv_term.specs.declared.node.TermNode.TheVariants.{Constant, Sle}
@@ -41,30 +41,30 @@ use Rattle.dsv_unroll.proofs.SetSums.{SumAdds, sum_ready, combination_adds, comb
 pub record IsFit (registers : ℕ) (i : Inequality) : Type 0 where
   pub many : length i.coefficients.items ≡ registers
   pub small : list_all is_small i.coefficients.items ≡ true
-  pub bound : unsigned_abs i.bound ≤ MOST_BOUND
+  pub bound : unsigned_abs i.bound ≤ most_bound
 
 pub fit_from : (registers : ℕ) (i : Inequality) → is_fit_for registers i ≡ true → IsFit registers i
 fit_from registers i h =
     let cs = i.coefficients.items in
-    let a = and_parts (length cs == registers && list_all is_small cs) (nat_le (unsigned_abs i.bound) MOST_BOUND) h in
+    let a = and_parts (length cs == registers && list_all is_small cs) (nat_le (unsigned_abs i.bound) most_bound) h in
     let b = and_parts (length cs == registers) (list_all is_small cs) a.0 in
-    record { many = eqb-true (length cs) registers b.0; small = b.1; bound = leb-true (unsigned_abs i.bound) MOST_BOUND a.1 }
+    record { many = eqb-true (length cs) registers b.0; small = b.1; bound = leb-true (unsigned_abs i.bound) most_bound a.1 }
 
 pub record IsShaped (registers : ℕ) (candidate : Candidate) : Type 0 where
   pub fit : list_all (is_fit_for registers) candidate.inequalities.items ≡ true
   pub deep : 1 ≤ candidate.depth
-  pub shallow : candidate.depth ≤ MOST_DEPTH
+  pub shallow : candidate.depth ≤ most_depth
 
 pub shaped_from : (registers : ℕ) (candidate : Candidate) → is_shaped registers candidate ≡ true → IsShaped registers candidate
 shaped_from registers candidate h =
     let is = candidate.inequalities.items in
     let fit = list_all (is_fit_for registers) is in
-    let few = nat_le (all_bit_lengths is) MOST_BIT_LENGTHS in
+    let few = nat_le (all_bit_lengths is) most_bit_lengths in
     let deep = nat_le 1 candidate.depth in
-    let a = and_parts (fit && few && deep) (nat_le candidate.depth MOST_DEPTH) h in
+    let a = and_parts (fit && few && deep) (nat_le candidate.depth most_depth) h in
     let b = and_parts (fit && few) deep a.0 in
     let c = and_parts fit few b.0 in
-    record { fit = c.0; deep = leb-true 1 candidate.depth b.1; shallow = leb-true candidate.depth MOST_DEPTH a.1 }
+    record { fit = c.0; deep = leb-true 1 candidate.depth b.1; shallow = leb-true candidate.depth most_depth a.1 }
 
 -- ---- whether a number is at most a bound
 pub record AtMost (t : TermsView) (id : TermId) (bound : ℤ) (b : Built) : Type 0 where
@@ -78,7 +78,7 @@ pub record IsBoundWidth (t : TermsView) (id : TermId) (bound : ℤ) (bits : ℕ)
   pub wider : width_of t id ≤ bits
   pub enough : width_for (unsigned_abs bound) ≤ bits
 
-pub bound_width : (t : TermsView) (id : TermId) (bound : ℤ) → AreSound t → IsValue t id → unsigned_abs bound ≤ MOST_BOUND → IsBoundWidth t id bound (max (width_of t id) (width_for (unsigned_abs bound)))
+pub bound_width : (t : TermsView) (id : TermId) (bound : ℤ) → AreSound t → IsValue t id → unsigned_abs bound ≤ most_bound → IsBoundWidth t id bound (max (width_of t id) (width_for (unsigned_abs bound)))
 bound_width t id bound s v m =
     let size = unsigned_abs bound in
     let a = width_of t id in
@@ -92,7 +92,7 @@ bound_width t id bound s v m =
       enough = le-max_right a (width_for size);
     }
 
-at_most_holds : (t : TermsView) (id : TermId) (bound : ℤ) → AreSound t → IsValue t id → unsigned_abs bound ≤ MOST_BOUND → AtMost t id bound (at_most_term t id bound)
+at_most_holds : (t : TermsView) (id : TermId) (bound : ℤ) → AreSound t → IsValue t id → unsigned_abs bound ≤ most_bound → AtMost t id bound (at_most_term t id bound)
 at_most_holds t id bound s v m =
     let size = unsigned_abs bound in
     let bits = max (width_of t id) (width_for size) in

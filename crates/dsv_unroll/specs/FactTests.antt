@@ -1,6 +1,7 @@
 -- What the facts of a run's exact values add to the root of its overflow goal. Each test holds at
 -- all inputs in range, so the root stays the same; it only makes the search for a break shorter.
-use Rattle.std.specs.Prelude.{ℕ, nat_le, Bool, true, false, List, [], ◌∷◌, ◌++◌, Option, None, Some, ℤ}
+use Rattle.std.specs.Prelude.{ℕ, nat_le, Bool, true, false, List, [], ◌∷◌, ◌++◌}
+use Rattle.std.specs.Prelude.{Option, None, Some, ℤ}
 use Rattle.dsv_linear.specs.declared.fact.Fact.{Fact}
 use Rattle.dsv_linear.specs.declared.fact.Fact.TheVariants as fact
 use Rattle.dsv_term.specs.declared.node.TermId.{TermId}
@@ -33,7 +34,7 @@ with_test known test =
     let either = with_node test.terms (Or known.outside test.id) in
     record { terms = either.terms; outside = known.outside; tests = known.tests ++ either.id ∷ [] }
 
--- over how many samples a goal is long
+-- from so many samples on a goal is long
 abbrev pub long_run : ℕ
 long_run = 11
 
@@ -41,7 +42,7 @@ long_run = 11
 abbrev pub is_long : ℕ → Bool
 is_long samples = nat_le long_run samples
 
--- of a long goal the test that a value is a word, too
+-- the test that a value is a word, where it is wanted
 abbrev pub with_word : Bool → FactTerms → TestedTerm → FactTerms
 with_word true known tested =
     with_test known (record { terms = known.terms; id = tested.is_word })

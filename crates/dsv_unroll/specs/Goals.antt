@@ -156,23 +156,44 @@ conjunction_from b (test ∷ tests) = conjunction_from (with_node b.terms (And b
 abbrev pub no_terms : TermsView
 no_terms = record { inputs = []; nodes = [] }
 
--- The goal of an overflow where these are the facts: inputs of n bits, the run from registers of
--- zeros, and the root, which is 1 where a value was no word and each test holds. The zero in one
--- bit says at first that no value was outside, too.
-abbrev pub overflow_with : Net → ℤ → ℤ → ℕ → List Fact → Built
-overflow_with net low high samples facts =
-    let inputs = inputs_from (width net.format) low high samples
-    (record { terms = no_terms; ids = []; tests = [] }) in
-    let nought = with_node inputs.terms (Constant 1 0) in
-    let start : RunTerms = record {
+-- so many inputs after these terms, and the tests that they are in range
+abbrev pub first_inputs : Net → TermsView → ℤ → ℤ → ℕ → InputTerms
+first_inputs net t low high samples =
+    inputs_from (width net.format) low high samples (record { terms = t; ids = []; tests = [] })
+
+-- Before the first sample, after the terms of the inputs: a zero in one bit, which all registers
+-- hold, and which says that no value was outside so far.
+abbrev pub zero_start : Net → TermsView → RunTerms
+zero_start net t =
+    let nought = with_node t (Constant 1 0) in
+    record {
       terms = nought.terms;
       registers = replicate (length net.next) nought.id;
       broken = nought.id;
-    } in
-    let run = run_from net inputs.ids start in
+    }
+
+-- the run over these inputs from registers of zeros
+abbrev pub zero_run : Net → InputTerms → RunTerms
+zero_run net inputs = run_from net inputs.ids (zero_start net inputs.terms)
+
+-- The goal of an overflow without facts: inputs of as many bits as words have, the run, and the
+-- root, which is 1 where a value was no word and all inputs are in range.
+unfoldable pub plain_overflow_of : Net → ℤ → ℤ → ℕ → Built
+plain_overflow_of net low high samples =
+    let inputs = first_inputs net no_terms low high samples in
+    let run = zero_run net inputs in
+    conjunction_from (built_of run.terms run.broken) inputs.tests
+
+-- The goal of an overflow where these are the facts: the same inputs and run, and the root, which
+-- is 1 where a value was no word, all inputs are in range and the tests of the facts hold.
+abbrev pub overflow_with : Net → ℤ → ℤ → ℕ → List Fact → Built
+overflow_with net low high samples facts =
+    let inputs = first_inputs net no_terms low high samples in
+    let start = zero_start net inputs.terms in
+    let run = zero_run net inputs in
     let known = facts_from (is_long samples) (record {
       terms = run.terms;
-      outside = nought.id;
+      outside = start.broken;
       tests = inputs.tests;
     }) facts (run_tests net inputs.ids start) in
     conjunction_from (built_of known.terms run.broken) known.tests

@@ -1,7 +1,7 @@
 pub mod CycleGoals
 pub mod FactTests
 pub mod Goals
-pub mod OverflowStart
+pub mod Law
 pub mod Ready
 pub mod Rules
 pub mod SetGoals

@@ -5,7 +5,7 @@ use Rattle.std.specs.List.{All}
 use Rattle.dsv_word.specs.Words.{lo, hi}
 use Rattle.dsv_netlist.specs.declared.node.Node.{Node}
 use Rattle.dsv_netlist.specs.declared.node.Node.TheVariants as node
-use Rattle.dsv_netlist.specs.declared.TheConstants.{MOST_REGISTERS}
+use Rattle.dsv_netlist.specs.Limits.{most_registers}
 use Rattle.dsv_netlist.specs.Nodes.{Net}
 use Rattle.dsv_term.specs.declared.node.TermId.{TermId}
 use Rattle.dsv_term.specs.Growth.{AreSound}
@@ -14,6 +14,7 @@ use Rattle.dsv_term.specs.TermsView.{TermsView}
 use Rattle.dsv_term.specs.Word.{bit_of}
 use Rattle.dsv_unroll.specs.declared.fitting.TestedTerm.{TestedTerm}
 use Rattle.dsv_unroll.specs.declared.set_goals.Start.{Start}
+use Rattle.dsv_unroll.specs.FactTests.{FactTerms}
 use Rattle.dsv_unroll.specs.Rules.{EndTerms, term_at}
 use Rattle.dsv_unroll.specs.SetGoals.{SetStart}
 
@@ -118,13 +119,17 @@ pub record AreKnown (t : TermsView) (outside : TermId) (tests : List TermId) : T
   pub bit : IsTruth t outside
   pub bits : AreBits t tests
 
+-- the same as one record
+abbrev pub known_of : TermsView → TermId → List TermId → FactTerms
+known_of t outside tests = record { terms = t; outside = outside; tests = tests }
+
 -- ---- sets
 -- what the test of a set stands on: a zero in one bit, and the terms of few registers
 pub record IsSetReady (t : TermsView) (nought : TermId) (registers : List TermId) : Type 0 where
   pub sound : AreSound t
   pub nought_bit : HasBits t nought 1
   pub registers_stand : AreAllValues t registers
-  pub few : length registers ≤ MOST_REGISTERS
+  pub few : length registers ≤ most_registers
 
 -- the states of a run so far: a zero in one bit, the terms of the registers, and a bit for each
 -- state

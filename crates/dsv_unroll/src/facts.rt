@@ -6,7 +6,7 @@ ghost use Rattle.dsv_term.specs.Terms.{KeepsTerms};
 ghost use Rattle.dsv_unroll.specs.FactTests.{within_test, with_test, with_word, with_fact};
 ghost use Rattle.dsv_unroll.specs.FactTests.{with_entry, facts_from};
 ghost use Rattle.dsv_unroll.specs.Ready.{IsValue, HasBits, AreBits, IsTest, IsEntry};
-ghost use Rattle.dsv_unroll.specs.Ready.{AreTested, AreKnown};
+ghost use Rattle.dsv_unroll.specs.Ready.{AreTested, AreKnown, known_of};
 
 use crate::fitting::TestedTerm;
 use dsv_base::NoMemory;
@@ -38,16 +38,8 @@ fn put_test(
 ) -> Result<(), NoMemory>
     requires known { AreKnown terms.old outside tests.old.items }
     requires test { HasBits terms.old test 1 }
-    ensures built { IfOk result (λ u. record {
-      terms = terms.new;
-      outside = outside;
-      tests = tests.new.items;
-    }
-        ≡ with_test (record {
-          terms = terms.old;
-          outside = outside;
-          tests = tests.old.items;
-        }) (built_of terms.old test)) }
+    ensures built { IfOk result (λ u. known_of terms.new outside tests.new.items
+        ≡ with_test (known_of terms.old outside tests.old.items) (built_of terms.old test)) }
 {
     let either = terms.or(outside, test)?;
     tests.push(either)?;
@@ -64,16 +56,8 @@ fn put_word_test(
 ) -> Result<(), NoMemory>
     requires known { AreKnown terms.old outside tests.old.items }
     requires tested { IsTest terms.old tested }
-    ensures built { IfOk result (λ u. record {
-      terms = terms.new;
-      outside = outside;
-      tests = tests.new.items;
-    }
-        ≡ with_word wanted (record {
-          terms = terms.old;
-          outside = outside;
-          tests = tests.old.items;
-        }) tested) }
+    ensures built { IfOk result (λ u. known_of terms.new outside tests.new.items
+        ≡ with_word wanted (known_of terms.old outside tests.old.items) tested) }
 {
     if wanted {
         put_test(terms, outside, tested.is_word, tests)?;
@@ -92,16 +76,9 @@ fn put_range_test(
 ) -> Result<(), NoMemory>
     requires known { AreKnown terms.old outside tests.old.items }
     requires tested { IsTest terms.old tested }
-    ensures built { IfOk result (λ u. record {
-      terms = terms.new;
-      outside = outside;
-      tests = tests.new.items;
-    }
-        ≡ with_test (record {
-          terms = terms.old;
-          outside = outside;
-          tests = tests.old.items;
-        }) (within_test terms.old low high tested.value)) }
+    ensures built { IfOk result (λ u. known_of terms.new outside tests.new.items
+        ≡ with_test (known_of terms.old outside tests.old.items)
+        (within_test terms.old low high tested.value)) }
     ensures known { IfOk result (λ u. AreKnown terms.new outside tests.new.items) }
     ensures tested { IfOk result (λ u. IsTest terms.new tested) }
 {
@@ -122,16 +99,8 @@ fn put_fact(
 ) -> Result<TermId, NoMemory>
     requires known { AreKnown terms.old outside tests.old.items }
     requires tested { IsTest terms.old tested }
-    ensures built { IfOk result (λ now. record {
-      terms = terms.new;
-      outside = now;
-      tests = tests.new.items;
-    }
-        ≡ with_fact is_long (record {
-          terms = terms.old;
-          outside = outside;
-          tests = tests.old.items;
-        }) fact tested) }
+    ensures built { IfOk result (λ now. known_of terms.new now tests.new.items
+        ≡ with_fact is_long (known_of terms.old outside tests.old.items) fact tested) }
 {
     match fact {
         Fact::Open => terms.or(outside, tested.outside),
@@ -158,16 +127,8 @@ fn put_entry(
 ) -> Result<TermId, NoMemory>
     requires known { AreKnown terms.old outside tests.old.items }
     requires entry { IsEntry terms.old entry }
-    ensures built { IfOk result (λ now. record {
-      terms = terms.new;
-      outside = now;
-      tests = tests.new.items;
-    }
-        ≡ with_entry is_long (record {
-          terms = terms.old;
-          outside = outside;
-          tests = tests.old.items;
-        }) fact entry) }
+    ensures built { IfOk result (λ now. known_of terms.new now tests.new.items
+        ≡ with_entry is_long (known_of terms.old outside tests.old.items) fact entry) }
 {
     match entry {
         Some(tested) => put_fact(terms, outside, is_long, fact, tested, tests),
@@ -196,16 +157,10 @@ pub(crate) fn fact_tests(
 ) -> Result<Vec<TermId>, NoMemory>
     requires known { AreKnown terms.old nought before.items }
     requires tested { AreTested terms.old tested.now }
-    ensures terms { IfOk result (λ tests. terms.new ≡ (facts_from is_long (record {
-      terms = terms.old;
-      outside = nought;
-      tests = before.items;
-    }) facts.now tested.now).terms) }
-    ensures tests { IfOk result (λ tests. tests.items ≡ (facts_from is_long (record {
-      terms = terms.old;
-      outside = nought;
-      tests = before.items;
-    }) facts.now tested.now).tests) }
+    ensures terms { IfOk result (λ tests. terms.new ≡ (facts_from is_long
+        (known_of terms.old nought before.items) facts.now tested.now).terms) }
+    ensures tests { IfOk result (λ tests. tests.items ≡ (facts_from is_long
+        (known_of terms.old nought before.items) facts.now tested.now).tests) }
     ensures bits { IfOk result (λ tests. AreBits terms.new tests.items) }
     ensures kept { IfOk result (λ tests. KeepsTerms terms.old terms.new) }
 {

@@ -7,6 +7,7 @@ mod cycle;
 mod facts;
 mod fitting;
 mod inputs;
+mod law;
 mod nodes;
 mod overflow;
 mod rules;
@@ -17,6 +18,7 @@ mod sets;
 mod states;
 
 pub use cycle::cycle_goal;
+pub use law::facts_keep_root;
 pub use overflow::overflow_goal;
 pub use rules::FitRule;
 pub use run::size;

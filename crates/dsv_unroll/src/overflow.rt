@@ -9,8 +9,7 @@ ghost use Rattle.dsv_linear.specs.Known.{facts_of};
 ghost use Rattle.dsv_term.specs.declared.node.TermNode.TheVariants as TermNode;
 ghost use Rattle.dsv_term.specs.Building.{built_of, with_node};
 ghost use Rattle.dsv_term.specs.Terms.{AreValues, word_of};
-ghost use Rattle.dsv_unroll.specs.Goals.{no_terms, overflow_with, overflow_of};
-ghost use Rattle.dsv_unroll.specs.OverflowStart.{first_inputs};
+ghost use Rattle.dsv_unroll.specs.Goals.{no_terms, first_inputs, overflow_with, overflow_of};
 ghost use Rattle.dsv_unroll.specs.Ready.{HasBits};
 ghost use Rattle.dsv_unroll.specs.Words.{spelled_words, Tells};
 

@@ -1,6 +1,6 @@
 // How each kind of node becomes a term.
 ghost use Rattle.std.specs.Prelude.{◌≡◌, ◌<◌, ◌≤◌, ◌-◌, ◌^◌, length, IfOk};
-ghost use Rattle.dsv_term.specs.declared.node.TheConstants.{MAX_WIDTH};
+ghost use Rattle.dsv_term.specs.Limits.{max_width};
 ghost use Rattle.dsv_term.specs.Building.{built_of};
 ghost use Rattle.dsv_term.specs.Growth.{AreSound, Adds};
 ghost use Rattle.dsv_term.specs.Terms.{width_of};
@@ -35,7 +35,7 @@ pub(crate) fn widened_term(terms: &mut Terms, id: TermId, bits: u32) -> Result<T
     requires sound { AreSound terms.old }
     requires stands { id.0 < length terms.old.nodes }
     requires wider { width_of terms.old id ≤ bits }
-    requires narrow { bits ≤ MAX_WIDTH }
+    requires narrow { bits ≤ max_width }
     ensures built { IfOk result
         (λ made. built_of terms.new made ≡ widened_term terms.old id bits) }
     ensures adds { IfOk result (λ made. Adds terms.old terms.new made bits) }

@@ -4,7 +4,7 @@ ghost use Rattle.std.specs.Prelude.{◌≡◌, ◌<◌, ◌≤◌, ◌+◌, ◌^
 ghost use Rattle.std.specs.List.{list_all};
 ghost use Rattle.std.specs.Int.RustNames.{unsigned_abs};
 ghost use Rattle.dsv_template.specs.Candidates.{is_small, is_fit_for, is_shaped};
-ghost use Rattle.dsv_template.specs.declared.limits.TheConstants.{MOST_BOUND};
+ghost use Rattle.dsv_template.specs.Limits.{most_bound};
 ghost use Rattle.dsv_term.specs.Building.{built_of};
 ghost use Rattle.dsv_term.specs.Growth.{AreSound, Adds};
 ghost use Rattle.dsv_term.specs.Terms.{KeepsTerms};
@@ -95,7 +95,7 @@ fn combination_term(
 fn at_most_term(terms: &mut Terms, id: TermId, bound: &i64) -> Result<TermId, NoMemory>
     requires sound { AreSound terms.old }
     requires value { IsValue terms.old id }
-    requires small { unsigned_abs bound.now ≤ MOST_BOUND }
+    requires small { unsigned_abs bound.now ≤ most_bound }
     ensures { IfOk result (λ made.
         built_of terms.new made ≡ at_most_term terms.old id bound.now) }
 {

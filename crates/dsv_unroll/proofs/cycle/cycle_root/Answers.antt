@@ -1,9 +1,5 @@
-use Rattle.std.proofs.Common.{◌≡◌, ◌∙◌, ap, sym, subst, length, List}
+use Rattle.std.proofs.Common.{◌∙◌, ap, sym, subst, length, List}
 use Rattle.dsv_term.specs.declared.node.TermId.{TermId}
-use Rattle.dsv_term.specs.declared.node.TermNode.TheVariants.{Constant}
-use Rattle.dsv_term.specs.Building.{built_of, with_node}
-use Rattle.dsv_term.specs.TermsView.{TermsView}
-use Rattle.dsv_unroll.specs.Goals.{no_terms}
 use Rattle.dsv_unroll.specs.CycleGoals.{StartTerms}
 use Rattle.dsv_unroll.specs.Ready.{AreAllValues, AreCycleReady}
 use Rattle.dsv_unroll.proofs.CycleGoal.{cycle_started}
@@ -13,9 +9,8 @@ pub found_term-requires-clause-ready : goal.found_term-requires-clause-ready
 found_term-requires-clause-ready c =
     let net = c.args.net.now in
     let nought = c.in_ok-nought.nought in
-    let e : built_of c.constant.new.self nought ≡ with_node no_terms (Constant 1 0) = c.in_ok-nought.ensures.made.built ∙ ap (λ (t : TermsView). with_node t (Constant 1 0)) c.requires.empty in
     let s : StartTerms = record { terms = c.start_terms.new.terms; ids = c.in_ok-starts.starts.items } in
-    let a = cycle_started net c.constant.new.self nought s c.requires.netlist e c.in_ok-starts.ensures in
+    let a = cycle_started net c.args.terms.now c.constant.new.self nought s c.requires.netlist c.requires.empty c.in_ok-nought.ensures.made.built c.in_ok-starts.ensures in
     let same = c.in_ok-from_slice.ensures.items ∙ c.deref.ensures.value in
     subst (λ (ids : List TermId). AreCycleReady net c.start_terms.new.terms nought ids nought nought) (sym same) a.ready
 
@@ -23,16 +18,14 @@ pub found_term-requires-clause-starts : goal.found_term-requires-clause-starts
 found_term-requires-clause-starts c =
     let net = c.args.net.now in
     let nought = c.in_ok-nought.nought in
-    let e : built_of c.constant.new.self nought ≡ with_node no_terms (Constant 1 0) = c.in_ok-nought.ensures.made.built ∙ ap (λ (t : TermsView). with_node t (Constant 1 0)) c.requires.empty in
     let s : StartTerms = record { terms = c.start_terms.new.terms; ids = c.in_ok-starts.starts.items } in
-    let a = cycle_started net c.constant.new.self nought s c.requires.netlist e c.in_ok-starts.ensures in
+    let a = cycle_started net c.args.terms.now c.constant.new.self nought s c.requires.netlist c.requires.empty c.in_ok-nought.ensures.made.built c.in_ok-starts.ensures in
     subst (λ (ids : List TermId). AreAllValues c.start_terms.new.terms ids) (sym c.deref-2.ensures.value) a.stand
 
 pub found_term-requires-clause-count : goal.found_term-requires-clause-count
 found_term-requires-clause-count c =
     let net = c.args.net.now in
     let nought = c.in_ok-nought.nought in
-    let e : built_of c.constant.new.self nought ≡ with_node no_terms (Constant 1 0) = c.in_ok-nought.ensures.made.built ∙ ap (λ (t : TermsView). with_node t (Constant 1 0)) c.requires.empty in
     let s : StartTerms = record { terms = c.start_terms.new.terms; ids = c.in_ok-starts.starts.items } in
-    let a = cycle_started net c.constant.new.self nought s c.requires.netlist e c.in_ok-starts.ensures in
+    let a = cycle_started net c.args.terms.now c.constant.new.self nought s c.requires.netlist c.requires.empty c.in_ok-nought.ensures.made.built c.in_ok-starts.ensures in
     ap length c.deref-2.ensures.value ∙ a.count

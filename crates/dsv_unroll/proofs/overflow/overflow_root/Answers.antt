@@ -2,8 +2,7 @@ use Rattle.std.proofs.Common.{◌≡◌, ◌∙◌, ap, sym, subst, List}
 use Rattle.std.proofs.lemmas.Result.{IfOk-weaker}
 use Rattle.dsv_term.specs.declared.node.TermId.{TermId}
 use Rattle.dsv_term.specs.Building.{built_of}
-use Rattle.dsv_unroll.specs.Goals.{RunTerms, run_from, run_tests, conjunction_from, overflow_with}
-use Rattle.dsv_unroll.specs.OverflowStart.{first_inputs}
+use Rattle.dsv_unroll.specs.Goals.{RunTerms, run_from, run_tests, conjunction_from, first_inputs, overflow_with}
 use Rattle.dsv_unroll.specs.Ready.{AreRunReady, AreTested, AreKnown}
 use Rattle.dsv_unroll.proofs.InputTests.{bits_kept}
 use Rattle.dsv_unroll.proofs.OverflowRoots.{zero_started, root_made}
