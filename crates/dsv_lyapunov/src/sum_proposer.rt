@@ -1,7 +1,8 @@
 // The proposer that is built in.
-ghost use Rattle.std.specs.Prelude.{◌≡◌, nat_le, false, None, List, ℤ};
+ghost use Rattle.std.specs.Prelude.{◌≡◌, nat_le, false, None, Some, List, ℤ};
 ghost use Rattle.dsv_sums.specs.SumForms.{first_offer, most_looks};
 ghost use Rattle.dsv_lyapunov.specs.Answers.{IsThere};
+ghost use Rattle.dsv_lyapunov.specs.Offers.{HasSum, all_offers, sums_of};
 
 use crate::FormProposer;
 use dsv_forms::{FormOffer, FormRefusal, Poly};
@@ -19,10 +20,14 @@ pub struct SumProposer {
 
 impl SumProposer {
     /// A proposer that has looked for nothing yet. It takes no memory.
+    #[tactic(auto, unfolding(crate::specs::Offers::HasSum, crate::specs::Offers::sums_of))]
     pub fn new() -> SumProposer
         // It is sure of each polynomial for which one of its looks finds an offer.
-        ensures sure { (poly : List ℤ) → IsThere (first_offer poly 0)
+        ensures sure { (poly : List ℤ) → HasSum poly
             → ⟦<SumProposer as FormProposer>⟧.sure result poly }
+        // It tells the accepted offers of all its looks.
+        ensures told { (poly : List ℤ)
+            → ⟦<SumProposer as FormProposer>⟧.to_come result poly ≡ Some (sums_of poly) }
         ensures last { ⟦<SumProposer as FormProposer>⟧.last result ≡ None }
         ensures dry { ⟦<SumProposer as FormProposer>⟧.dry result ≡ false }
     {
@@ -39,6 +44,11 @@ impl FormProposer for SumProposer {
     ghost dry = { λ p. nat_le most_looks p.look };
 
     ghost sure = { λ p poly. IsThere (first_offer poly p.look) };
+
+    ghost to_come = { λ p poly. Some (all_offers poly p.look) };
+
+    // What it hears changes nothing.
+    ghost heard = { λ _ _. Unit {0} };
 
     fn propose(&mut self, poly: &Poly) -> Option<FormOffer> {
         if self.look >= MOST_LOOKS {

@@ -12,10 +12,10 @@ use Rattle.std.proofs.lemmas.List.Elements.{All-nil, All-cons, All-head, All-tai
 use Rattle.std.proofs.lemmas.List.Folds.{list_all_at}
 use mir.Syntax.{w64}
 use mir.Val.{SFits, to_z, of_z}
-use Rattle.dsv_word.specs.declared.format.TheConstants.{WIDEST_WORD}
+use Rattle.dsv_word.specs.Width.{widest_word}
 use Rattle.dsv_template.specs.declared.candidate.Candidate.{Candidate}
 use Rattle.dsv_template.specs.declared.candidate.Inequality.{Inequality}
-use Rattle.dsv_template.specs.declared.limits.TheConstants.{MOST_COEFFICIENT}
+use Rattle.dsv_template.specs.Limits.{most_coefficient}
 use Rattle.dsv_template.specs.Candidates.{IsSomeWord, IsInSet, Fulfils, combination, is_small, is_fit_for, is_shaped, most_entry}
 
 -- ---- a coefficient times a register
@@ -23,14 +23,14 @@ size_bounds : (b : ℕ) (v : ℤ) → unsigned_abs v ≤ b → (neg_ℤ (pos b) 
 size_bounds b (pos a) h = (omega (arith, ints), omega (arith, ints))
 size_bounds b (negsuc a) h = (omega (arith, ints), omega (arith, ints))
 
-word_size : (r : ℤ) → IsSomeWord r → unsigned_abs r ≤ 2 ^ (WIDEST_WORD - 1)
+word_size : (r : ℤ) → IsSomeWord r → unsigned_abs r ≤ 2 ^ (widest_word - 1)
 word_size (pos a) w = let h = w.high in omega (arith, ints)
 word_size (negsuc a) w = let l = w.low in omega (arith, ints)
 
 pub entry_size : (c r : ℤ) → is_small c ≡ true → IsSomeWord r → unsigned_abs (c *ℤ r) ≤ most_entry
 entry_size c r s w =
-    let small : unsigned_abs c ≤ MOST_COEFFICIENT = leb-true (unsigned_abs c) MOST_COEFFICIENT s in
-    let m = mul-le (unsigned_abs c) (unsigned_abs r) MOST_COEFFICIENT (2 ^ (WIDEST_WORD - 1)) small (word_size r w) in
+    let small : unsigned_abs c ≤ most_coefficient = leb-true (unsigned_abs c) most_coefficient s in
+    let m = mul-le (unsigned_abs c) (unsigned_abs r) most_coefficient (2 ^ (widest_word - 1)) small (word_size r w) in
     omega (arith, unsigned_abs-mul c r, m)
 
 pub entry_bounds : (c r : ℤ) → is_small c ≡ true → IsSomeWord r → (neg_ℤ (pos most_entry) ≤ℤ (c *ℤ r)) × ((c *ℤ r) ≤ℤ pos most_entry)
@@ -39,7 +39,7 @@ entry_bounds c r s w = size_bounds most_entry (c *ℤ r) (entry_size c r s w)
 -- as the code computes it
 pub entry_read : (c r : ℤ) → is_small c ≡ true → IsSomeWord r → to_z w64 (of_z w64 (to_z w64 (of_z w64 c) *ℤ to_z w64 (of_z w64 r))) ≡ c *ℤ r
 entry_read c r s w =
-    let small : unsigned_abs c ≤ MOST_COEFFICIENT = leb-true (unsigned_abs c) MOST_COEFFICIENT s in
+    let small : unsigned_abs c ≤ most_coefficient = leb-true (unsigned_abs c) most_coefficient s in
     let size = word_size r w in
     let all = entry_size c r s w in
     let first : SFits w64 c = fits_signed_from_abs w64 c (omega arith) in

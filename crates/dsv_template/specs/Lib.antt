@@ -1,4 +1,5 @@
 pub mod Boxes
 pub mod Candidates
 pub mod Kept
+pub mod Limits
 pub mod Shapes

@@ -1,5 +1,6 @@
 // The proposer that is built in.
-ghost use Rattle.std.specs.Prelude.{◌≡◌, ◌<◌, ◌≤◌, ◌+◌, ◌*◌, ◌^◌, neg_ℤ, true, false, Some, None, []};
+ghost use Rattle.std.specs.Prelude.{◌≡◌, ◌<◌, ◌≤◌, ◌+◌, ◌*◌, ◌^◌, neg_ℤ, true, false};
+ghost use Rattle.std.specs.Prelude.{Some, None, []};
 ghost use Rattle.std.proofs.Common.{rules};
 ghost use Rattle.dsv_template.specs.Boxes.{bits_of, sizes_of, or_less, or_more, upper_end};
 ghost use Rattle.dsv_template.specs.Boxes.{lower_end, unit, inequality, ends_of, box_at, boxes};
@@ -172,6 +173,9 @@ impl InvariantProposer for BoxProposer {
     ghost dry = { λ p. p.finished };
 
     ghost to_come = { λ p shape. Some (boxes_from p.finished p.place shape) };
+
+    // What it hears changes nothing.
+    ghost heard = { λ _ _. Unit {0} };
 
     fn propose(&mut self, _alloc: Global, shape: &Shape) -> Result<Option<Candidate>, NoMemory> {
         if self.is_done(shape) {

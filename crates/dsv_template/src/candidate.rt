@@ -6,7 +6,7 @@ ghost use Rattle.dsv_template.specs.Candidates.{is_small, bit_length, bit_length
 ghost use Rattle.dsv_template.specs.Candidates.{all_bit_lengths, is_fit_for, is_shaped};
 ghost use Rattle.dsv_template.specs.Candidates.{IsSomeWord, most_entry, combination, Fulfils};
 ghost use Rattle.dsv_template.specs.Candidates.{IsInSet};
-ghost use Rattle.dsv_template.specs.declared.limits.TheConstants.{MOST_REGISTERS, MOST_INEQUALITIES};
+ghost use Rattle.dsv_template.specs.Limits.{most_registers, most_inequalities};
 
 use crate::limits::{
     MOST_BIT_LENGTHS, MOST_BOUND, MOST_COEFFICIENT, MOST_DEPTH, MOST_INEQUALITIES, MOST_REGISTERS,
@@ -46,9 +46,9 @@ pub(crate) fn bit_length(c: &i64) -> u32
 /// How many bits the sizes of these numbers take together.
 #[tactic(auto, using(crate::proofs::Lengths::lengths))]
 fn bit_lengths(coefficients: &[i64]) -> u32
-    requires { length coefficients.now ≤ MOST_REGISTERS }
+    requires { length coefficients.now ≤ most_registers }
     ensures value { result ≡ bit_lengths coefficients.now }
-    ensures few { result ≤ 64 * MOST_REGISTERS }
+    ensures few { result ≤ 64 * most_registers }
 {
     let mut total = 0;
     for c in coefficients {
@@ -60,7 +60,7 @@ fn bit_lengths(coefficients: &[i64]) -> u32
 /// How many bits the sizes of all coefficients take together.
 #[tactic(auto, using(crate::proofs::Lengths::lengths))]
 fn all_bit_lengths(inequalities: &[Inequality]) -> u32
-    requires { length inequalities.now ≤ MOST_INEQUALITIES }
+    requires { length inequalities.now ≤ most_inequalities }
     ensures { result ≡ all_bit_lengths inequalities.now }
 {
     let mut total = 0;
@@ -112,7 +112,7 @@ fn entry(coefficient: &i64, register: &i64) -> i64
 /// The sum of each coefficient times its register.
 fn combination(coefficients: &[i64], registers: &[i64]) -> i64
     requires many { length coefficients.now ≡ length registers.now }
-    requires few { length coefficients.now ≤ MOST_REGISTERS }
+    requires few { length coefficients.now ≤ most_registers }
     requires small { list_all is_small coefficients.now ≡ true }
     requires words { All IsSomeWord registers.now }
     ensures { result ≡ combination coefficients.now registers.now }
@@ -148,9 +148,9 @@ fn are_fulfilled(inequalities: &[Inequality], registers: &[i64]) -> bool
 }
 
 impl Candidate {
-    /// Whether the candidate's numbers are as they have to be for so many registers: each inequality
-    /// has as many coefficients, none over 2^24 in size, the sizes of all coefficients take at most
-    /// 1,024 bits, no bound is over 2^60 in size, and the depth is 1 to 8.
+    /// Whether the candidate's numbers are as they have to be for so many registers: each
+    /// inequality has as many coefficients, none over 2^24 in size, the sizes of all coefficients
+    /// take at most 1,024 bits, no bound is over 2^60 in size, and the depth is 1 to 8.
     pub fn is_shaped(&self, registers: u32) -> bool
         ensures { result ≡ is_shaped registers self.now }
     {

@@ -3,6 +3,7 @@ ghost use Rattle.std.specs.Prelude.{◌≡◌, Bool, true, List, [], Option, Som
 ghost use Rattle.std.specs.Prelude.{IfOk, IfSome, IfNone, OnErr, slice_get};
 ghost use Rattle.dsv_template.specs.declared.candidate.Candidate.{Candidate};
 ghost use Rattle.dsv_template.specs.declared.shape.Shape.{Shape};
+ghost use Rattle.dsv_template.specs.declared.verdict.Why.{Why};
 ghost use Rattle.dsv_template.specs.Shapes.{IsLawful};
 
 use crate::candidate::Candidate;
@@ -23,6 +24,9 @@ pub trait InvariantProposer: Drop {
     /// What it will offer for a shape, where it tells that.
     ghost to_come: { Self → Shape → Option (List Candidate) };
 
+    /// It has heard that this was found of its last offer.
+    ghost heard: { Self → Why → Type 0 };
+
     /// Offers a candidate for a controller of this shape, or has no more.
     fn propose(&mut self, alloc: Global, shape: &Shape) -> Result<Option<Candidate>, NoMemory>
         requires { IsLawful shape.now }
@@ -42,7 +46,8 @@ pub trait InvariantProposer: Drop {
     fn tell(&mut self, verdict: &Why)
         ensures last { last self.new ≡ last self.old }
         ensures dry { dry self.new ≡ dry self.old }
-        ensures told { to_come self.new ≡ to_come self.old };
+        ensures told { to_come self.new ≡ to_come self.old }
+        ensures heard { heard self.new verdict.now };
 
     /// One that has said that it has no more offers nothing.
     ghost dry_is_empty: { (x : Self) (shape : Shape) → dry x ≡ true
