@@ -8,6 +8,7 @@ use Rattle.dsv_bounded.specs.declared.answers.BoundedAnswer.{BoundedAnswer}
 use Rattle.dsv_bounded.specs.declared.answers.BoundedAnswer.TheVariants as answer
 use Rattle.dsv_bounded.specs.declared.answers.BoundedRefusal.{BoundedRefusal}
 use Rattle.dsv_bounded.specs.declared.answers.BoundedRefusal.TheVariants as refusal
+use Rattle.dsv_bounded.specs.declared.answers.TooLarge.{TooLarge}
 use Rattle.dsv_bounded.specs.declared.decision.Decision.{Decision}
 use Rattle.dsv_bounded.specs.declared.decision.Decision.TheVariants as decision
 
@@ -51,6 +52,11 @@ IfSpent P (answer.Never log) = Unit {0}
 IfSpent P (answer.Overflow trace) = Unit {0}
 IfSpent P (answer.Cycles cycle) = Unit {0}
 IfSpent P (answer.Spent log) = P log
+
+-- the job is refused exactly where its size is too great, and told that size
+abbrev pub IsWeighed : {A : Type 0} → ℕ → Result A TooLarge → Type 0
+IsWeighed size (Ok taken) = size ≤ most_size
+IsWeighed size (Err job) = (job.size ≡ size) × (most_size < size)
 
 -- the job is refused for its size exactly where that is too great, want of memory aside
 abbrev pub IsSized : {A : Type 0} → ℕ → Result A BoundedRefusal → Type 0

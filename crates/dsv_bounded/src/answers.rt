@@ -1,6 +1,6 @@
 // The answers to bounded jobs, and their sizes.
 ghost use Rattle.std.specs.Prelude.{◌≡◌, ◌≤◌};
-ghost use Rattle.dsv_bounded.specs.Answers.{IsSized};
+ghost use Rattle.dsv_bounded.specs.Answers.{IsWeighed};
 ghost use Rattle.dsv_bounded.specs.Formulas.{job_size_of};
 
 use dsv_base::NoMemory;
@@ -43,6 +43,23 @@ impl From<NoMemory> for BoundedRefusal {
     }
 }
 
+/// The size of a job that is too large.
+#[derive(Clone, Copy, Debug, PartialEq, Eq)]
+pub struct TooLarge {
+    pub size: u64,
+}
+
+impl From<TooLarge> for BoundedRefusal {
+    ghost use Rattle.std.specs.Prelude.{◌≡◌};
+    ghost use Rattle.dsv_bounded.specs.declared.answers.BoundedRefusal.TheVariants as refusal;
+
+    ghost from_gives = { λ job e. e ≡ refusal.JobSize job.size };
+
+    fn from(job: TooLarge) -> Self {
+        BoundedRefusal::JobSize { size: job.size }
+    }
+}
+
 /// How great a job over so many samples is: samples times products times the square of a word's
 /// bits.
 pub(crate) fn job_size(q: &Quantised, samples: u32) -> u64
@@ -54,14 +71,14 @@ pub(crate) fn job_size(q: &Quantised, samples: u32) -> u64
     u64::from(samples) * u64::from(products) * (width * width)
 }
 
-/// Refuses a job over so many samples that is too large.
-pub fn accept(q: &Quantised, samples: u32) -> Result<(), BoundedRefusal>
+/// Refuses a job over so many samples that is too large. It takes no memory.
+pub fn accept(q: &Quantised, samples: u32) -> Result<(), TooLarge>
     requires { samples ≤ 64 }
-    ensures { IsSized (job_size_of q.now samples) result }
+    ensures { IsWeighed (job_size_of q.now samples) result }
 {
     let size = job_size(q, samples);
     if size > MOST_SIZE {
-        return Err(BoundedRefusal::JobSize { size });
+        return Err(TooLarge { size });
     }
     Ok(())
 }

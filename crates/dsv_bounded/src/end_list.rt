@@ -41,8 +41,8 @@ impl EndList {
         }
     }
 
-    /// The list with one input more before the others: the end on the side of this value, or the end
-    /// of the input after it where the value is 0.
+    /// The list with one input more before the others: the end on the side of this value, or the
+    /// end of the input after it where the value is 0.
     pub(crate) fn preceded_by(self, value: &i128) -> EndList {
         let rest = self.greatest << 1;
         let first = if *value > 0 {

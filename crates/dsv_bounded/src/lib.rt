@@ -19,7 +19,7 @@ mod settling;
 mod starts;
 mod words;
 
-pub use answers::{BoundedAnswer, BoundedRefusal, MOST_SIZE, accept};
+pub use answers::{BoundedAnswer, BoundedRefusal, MOST_SIZE, TooLarge, accept};
 pub use cycle_job::{cycle_formula, limit_cycle};
 pub use decision::{Decision, decide};
 pub use goal_clauses::goal_formula;

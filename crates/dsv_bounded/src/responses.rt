@@ -1,5 +1,5 @@
-// What a netlist answers to a pulse, in numbers that are neither rounded to words nor fitted, and the
-// inputs that follow from it.
+// What a netlist answers to a pulse, in numbers that are neither rounded to words nor fitted, and
+// the inputs that follow from it.
 ghost use Rattle.std.specs.Prelude.{◌≤◌};
 
 use crate::end_list::EndList;
@@ -50,8 +50,8 @@ fn next_registers(net: &Netlist, values: &[i128]) -> [i128; MOST_REGISTERS] {
     registers
 }
 
-/// For each node the inputs that drive its value farthest in the last of so many samples: the ends on
-/// the sides of its answer to a pulse, from the last sample back to the first.
+/// For each node the inputs that drive its value farthest in the last of so many samples: the ends
+/// on the sides of its answer to a pulse, from the last sample back to the first.
 pub(crate) fn driving_lists(net: &Netlist, samples: u32) -> [EndList; MOST_NODES] {
     let mut registers = [0; MOST_REGISTERS];
     let mut lists = [EndList::greatest(); MOST_NODES];

@@ -28,7 +28,7 @@ use Rattle.dsv_template.specs.declared.verdict.SetPart.TheVariants as part
 use Rattle.dsv_template.specs.declared.verdict.ThreeLogs.{ThreeLogs}
 use Rattle.dsv_invariant.specs.Causes.{IsShaped, IsGood}
 use Rattle.dsv_invariant.specs.Formulas.{set_formula_of}
-use Rattle.dsv_invariant.specs.declared.size.TheConstants.{UNBOUNDED_SAMPLES}
+use Rattle.dsv_invariant.specs.Limits.{unbounded_samples}
 use Rattle.dsv_certfile.specs.Lawful.{IsSize}
 use Rattle.dsv_certfile.specs.Limits.{most_samples}
 use Rattle.dsv_certfile.specs.declared.job.Size.TheVariants as size
@@ -57,12 +57,12 @@ hints_pass q p k log s w e =
     ∙ log_passes (question_formula p q k) body_line log e
 
 -- ---- an invariant
-pub invariant_passes : (q : FixedPoint) (conflicts : ℕ) (candidate : Candidate) (logs : ThreeLogs) → IsWithin q UNBOUNDED_SAMPLES → IsShaped q candidate → IsGood q conflicts candidate logs
+pub invariant_passes : (q : FixedPoint) (conflicts : ℕ) (candidate : Candidate) (logs : ThreeLogs) → IsWithin q unbounded_samples → IsShaped q candidate → IsGood q conflicts candidate logs
     → invariant_check q (property.OfRuns run.Overflow) size.Unbounded candidate logs ≡ Ok tt
 invariant_passes q conflicts candidate logs w shaped good =
     let safe = log_check (set_formula_of q candidate part.Safe) (log_line part.Safe candidate logs) logs.safe in
     let step = log_check (set_formula_of q candidate part.Step) (log_line part.Step candidate logs) logs.step in
-    ap (λ (r : Checked). r >>= λ x. shape_check q candidate >>= λ y. sentences_check q candidate logs) (size_passes q UNBOUNDED_SAMPLES w)
+    ap (λ (r : Checked). r >>= λ x. shape_check q candidate >>= λ y. sentences_check q candidate logs) (size_passes q unbounded_samples w)
     ∙ ap (λ (r : Checked). r >>= λ x. sentences_check q candidate logs) (ap (λ b. if b then Ok tt else misfit) shaped)
     ∙ ap (λ (r : Checked). r >>= λ x. step >>= λ y. safe) (log_passes (set_formula_of q candidate part.Base) (log_line part.Base candidate logs) logs.base good.base.accepted)
     ∙ ap (λ (r : Checked). r >>= λ x. safe) (log_passes (set_formula_of q candidate part.Step) (log_line part.Step candidate logs) logs.step good.step.accepted)

@@ -32,7 +32,7 @@ use Rattle.dsv_template.specs.declared.candidate.Candidate.{Candidate}
 use Rattle.dsv_template.specs.declared.verdict.SetPart.TheVariants as part
 use Rattle.dsv_template.specs.declared.verdict.ThreeLogs.{ThreeLogs}
 use Rattle.dsv_invariant.specs.Formulas.{set_formula_of}
-use Rattle.dsv_invariant.specs.declared.size.TheConstants.{UNBOUNDED_SAMPLES}
+use Rattle.dsv_invariant.specs.Limits.{unbounded_samples}
 use Rattle.dsv_certcheck.specs.FormLines.{form_line}
 use Rattle.dsv_certcheck.specs.LineNumbers.{kind_line, body_line, log_line}
 use Rattle.dsv_certfile.specs.Limits.{most_samples}
@@ -107,7 +107,7 @@ shape_check q candidate = if is_shaped (registers_of q.realisation (order q)) ca
 
 abbrev pub set_check : FixedPoint → Candidate → ThreeLogs → Checked
 set_check q candidate logs =
-    size_check q UNBOUNDED_SAMPLES >>= λ _.
+    size_check q unbounded_samples >>= λ _.
     shape_check q candidate >>= λ _.
     sentences_check q candidate logs
 

@@ -1,6 +1,6 @@
 // What the check of a certificate refuses.
 use dsv_base::NoMemory;
-use dsv_bounded::BoundedRefusal;
+use dsv_bounded::{BoundedRefusal, TooLarge};
 use dsv_certfile::CheckFault;
 use dsv_delta::PolyWide;
 use dsv_quantiser::QuantRefusal;
@@ -59,6 +59,17 @@ impl From<PolyWide> for CheckRefusal {
 
     fn from(wide: PolyWide) -> Self {
         CheckRefusal::Wide { index: wide.index }
+    }
+}
+
+impl From<TooLarge> for CheckRefusal {
+    ghost use Rattle.std.specs.Prelude.{◌≡◌};
+    ghost use Rattle.dsv_certcheck.specs.declared.check_refusal.CheckRefusal.TheVariants as refusal;
+
+    ghost from_gives = { λ job r. r ≡ refusal.JobSize job.size };
+
+    fn from(job: TooLarge) -> Self {
+        CheckRefusal::JobSize { size: job.size }
     }
 }
 

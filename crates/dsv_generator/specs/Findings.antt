@@ -20,7 +20,7 @@ use Rattle.dsv_generator.specs.declared.finding.RootFinding.{RootFinding}
 use Rattle.dsv_generator.specs.declared.finding.RootFinding.TheVariants as root
 use Rattle.dsv_generator.specs.declared.finding.RunFinding.{RunFinding}
 use Rattle.dsv_generator.specs.declared.finding.RunFinding.TheVariants as found
-use Rattle.dsv_generator.specs.declared.generator.TheConstants.{SAMPLES, CONFLICTS}
+use Rattle.dsv_generator.specs.Limits.{generated_samples, generated_conflicts}
 
 abbrev pub degree : List ℤ → ℕ
 degree poly = length poly - 1
@@ -58,9 +58,11 @@ IsOfRoots words of_side f =
 
 -- what is found of the overflow of runs
 abbrev pub IsOfRuns : FixedPoint → RunFinding → Type 0
-IsOfRuns words (found.Never log) = NeverHappens run.Overflow SAMPLES CONFLICTS words log
-IsOfRuns words (found.Overflow trace) = IsTrace words SAMPLES trace
-IsOfRuns words (found.Spent log) = GaveUp run.Overflow SAMPLES CONFLICTS words log
+IsOfRuns words (found.Never log) =
+    NeverHappens run.Overflow generated_samples generated_conflicts words log
+IsOfRuns words (found.Overflow trace) = IsTrace words generated_samples trace
+IsOfRuns words (found.Spent log) =
+    GaveUp run.Overflow generated_samples generated_conflicts words log
 
 -- All that is found is so of the controller in words.
 pub record IsFinding (words : FixedPoint) (finding : Finding) : Type 0 where

@@ -1,5 +1,5 @@
-//! Generated controllers: second-order controllers with pseudo-random coefficients, what is found of
-//! each, and how many there are of each finding.
+//! Generated controllers: second-order controllers with pseudo-random coefficients, what is found
+//! of each, and how many there are of each finding.
 #![tactic(auto, using(dsv_algebra::proofs::Casts::casts))]
 
 mod controllers;

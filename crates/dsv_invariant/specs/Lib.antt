@@ -1,5 +1,6 @@
 pub mod Breaking
 pub mod Causes
 pub mod Formulas
+pub mod Limits
 pub mod Obstacles
 pub mod Shapes

@@ -5,7 +5,7 @@ ghost use Rattle.dsv_bounded.specs.Formulas.{job_size_of};
 ghost use Rattle.dsv_invariant.specs.Breaking.{Realises};
 ghost use Rattle.dsv_invariant.specs.Causes.{IsGood, IsFinding, IsShaped, IsCause};
 ghost use Rattle.dsv_invariant.specs.Obstacles.{IfFound};
-ghost use Rattle.dsv_invariant.specs.declared.size.TheConstants.{UNBOUNDED_SAMPLES};
+ghost use Rattle.dsv_invariant.specs.Limits.{unbounded_samples};
 
 use crate::parts::{Obstacle, part_log};
 use crate::size::{UNBOUNDED_SAMPLES, accept_unbounded};
@@ -38,10 +38,10 @@ fn three_logs(
     Ok(ThreeLogs { base, step, safe })
 }
 
-/// What is found of a candidate for a controller in words. First a job that is too large is refused,
-/// then a candidate whose numbers aren't as they have to be is told so, and then the base, the step
-/// and the safe sentence are asked in this order, each of a search that learns at most so many
-/// clauses. The first that isn't shown is the answer, and each break replays.
+/// What is found of a candidate for a controller in words. First a job that is too large is
+/// refused, then a candidate whose numbers aren't as they have to be is told so, and then the base,
+/// the step and the safe sentence are asked in this order, each of a search that learns at most so
+/// many clauses. The first that isn't shown is the answer, and each break replays.
 pub fn check_candidate(
     alloc: Global,
     q: &Quantised,
@@ -50,7 +50,7 @@ pub fn check_candidate(
 ) -> Result<Why, BoundedRefusal>
     requires allowed { 1 ≤ conflicts }
     requires limited { conflicts ≤ 2 ^ 30 }
-    ensures sized { IsSized (job_size_of q.now UNBOUNDED_SAMPLES) result }
+    ensures sized { IsSized (job_size_of q.now unbounded_samples) result }
     ensures cause { IfOk result (IsCause q.now conflicts candidate.now) }
 {
     accept_unbounded(q)?;

@@ -27,7 +27,8 @@ fn is_inside(net: &Netlist, candidate: &Candidate, registers: &[i64]) -> bool
     candidate.contains(registers)
 }
 
-/// After how many of these inputs the registers of a netlist are outside the set for the first time.
+/// After how many of these inputs the registers of a netlist are outside the set for the first
+/// time.
 fn first_leaving(
     net: &Netlist,
     candidate: &Candidate,
