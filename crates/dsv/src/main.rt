@@ -1,13 +1,13 @@
-//! `dsv`: verifies a digital controller in fixed-point words. `main` makes the real files, the real
-//! output and the built-in proposers, and calls [`dsv_cli::run`].
+//! `dsv`: verifies a digital controller in fixed-point words. `main` makes the real files and the
+//! real output, and calls [`dsv_cli::run_with_built_in`].
 #![tactic(auto)]
 
-use dsv_cli::{BoxProposer, FormProposer, InvariantProposer, OsFiles, OsOut, SumProposer, run};
+use dsv_cli::{OsFiles, OsOut, run_with_built_in};
 use std::io;
 use std::io::ErrorKind;
 use std::process::ExitCode;
 
-/// There is no memory for the command's arguments or for the proposers.
+/// There is no memory for the command's arguments or for the output.
 const NO_MEMORY: u8 = 5;
 
 /// The command's arguments can't be had, as where one isn't UTF-8.
@@ -32,24 +32,8 @@ fn main(rt: HostRuntime) -> ExitCode {
     let Ok(out) = rt.clone() else {
         return ExitCode::from(NO_MEMORY);
     };
-    let Ok(boxes) = Box::new(alloc, BoxProposer::new()) else {
-        return ExitCode::from(NO_MEMORY);
-    };
-    let mut sets: Vec<Box<dyn InvariantProposer>> = Vec::new(alloc);
-    if sets.push(boxes).is_err() {
-        return ExitCode::from(NO_MEMORY);
-    }
-    let Ok(sums) = Box::new(alloc, SumProposer::new()) else {
-        return ExitCode::from(NO_MEMORY);
-    };
-    let mut forms: Vec<Box<dyn FormProposer>> = Vec::new(alloc);
-    if forms.push(sums).is_err() {
-        return ExitCode::from(NO_MEMORY);
-    }
     let mut files = OsFiles::new(rt, alloc);
     let mut sink = OsOut::new(out);
-    let done = run(
-        alloc, &arguments, &mut files, &mut sink, &mut sets, &mut forms,
-    );
+    let done = run_with_built_in(alloc, &arguments, &mut files, &mut sink);
     ExitCode::from(done.status)
 }

@@ -1,6 +1,6 @@
 -- A certificate that a run wrote is accepted for the same file.
 use Rattle.std.proofs.Common.{◌≡◌, ◌∙◌, inl, inr, sym, ap, subst, refl, ℕ, ◌<◌, ◌≤◌, List, length, arith}
-use Rattle.std.specs.Prelude.{Some, IfSome, Result, Ok, Err}
+use Rattle.std.specs.Prelude.{Some, Result, Ok, Err}
 use Rattle.dsv_base.specs.Seen.{FilesSeen}
 use Rattle.dsv_reader.specs.Controllers.{ControllerView}
 use Rattle.dsv_quantiser.specs.FixedPoint.{FixedPoint}
@@ -23,7 +23,9 @@ use Rattle.dsv_report.specs.declared.answers.Answer.{Answer}
 use Rattle.dsv_report.specs.declared.answers.Answer.TheVariants as answer
 use Rattle.dsv_report.specs.declared.answers.CertificateFault.TheVariants as fault
 use Rattle.dsv_cli.specs.Accepted.{IsAcceptance, WrittenAreAccepted}
-use Rattle.dsv_cli.specs.Headline.{longest_certificate, IsAccepted, AsksOver, IsForWords, IsController, IsCheckOf, IsSpelled, Spells, IsRefusedAt, IsRow}
+use Rattle.dsv_token.specs.declared.refusal.FileRefusal.TheVariants as text
+use Rattle.dsv_cli.proofs.Told.{of_told}
+use Rattle.dsv_cli.specs.Headline.{longest_certificate, CameOf, IsAccepted, AsksOver, IsForWords, IsController, IsCheckOf, IsSpelled, Spells, IsRefusedAt, IsRow}
 use Rattle.dsv_cli.proofs.CertifiedWords.{design_in, Fits, certificate_fits}
 use Rattle.dsv_cli.proofs.OneAnswerStages.{Stage, long, faulty, refused, in_words, IsStage, one_stage}
 
@@ -74,7 +76,8 @@ one_name task name other h k = cc
 
 of_bytes : (P : ControllerView → List ℕ → Type 0) (old : FilesSeen) (check : Asked) (bytes written : List ℕ) → Reads old check written → (k : IsCheckOf old check bytes P) → P k.controller written
 of_bytes P old check bytes written r k =
-    subst (λ told. IfSome told (P k.controller)) (ap old.held (one_name check.task r.name k.name r.task k.task) ∙ r.held) k.certificate
+    let held = ap old.held (one_name check.task r.name k.name r.task k.task) ∙ r.held in
+    of_told (P k.controller) written (subst (λ told. CameOf told (P k.controller)) held k.certificate)
 
 one_spelled : (read : Result Certificate CertRefusal) (c d : Certificate) → read ≡ Ok c → read ≡ Ok d → d ≡ c
 one_spelled read c d h k = cc
@@ -106,30 +109,31 @@ asks_nothing check bytes samples words name e (inr (inr t)) = no_check check.tas
 check_accepts : (bytes written : List ℕ) (c : Certificate) → Fits bytes c → IsSpelled written c → (old new : FilesSeen) (check : Asked) (answered : Answer) → Reads old check written
     → IsRow (Some bytes) old new check answered → IsAcceptance (job_of c) answered
 check_accepts bytes written c f s old new check (answer.Checked certified) r row =
-    (of_certificate (λ controller x. (certified ≡ job_of x) × IsChecked controller x (Ok tt)) old check bytes written c r s row.comes_from.1).0
+    (of_certificate (λ controller x. (certified ≡ job_of x) × IsChecked controller x (Ok tt)) old check bytes written c r s (of_told _ bytes row.comes_from).1).0
 check_accepts bytes written c f s old new check (answer.ReadFault which) r row = tt
 check_accepts bytes written c f s old new check answer.NoMemory r row = tt
 check_accepts bytes written c f s old new check (answer.CertificateRefused line (fault.Text why)) r row =
-    absurd (read_or_refused (certificate_in written) c _ s.spelled (of_bytes _ old check bytes written r row.comes_from).1)
+    absurd (read_or_refused (certificate_in written) c _ s.spelled (of_bytes _ old check bytes written r (of_told _ bytes row.comes_from)).1)
 check_accepts bytes written c f s old new check (answer.CertificateRefused line (fault.Check why)) r row =
-    let k = row.comes_from in
+    let k = of_told _ bytes row.comes_from in
     absurd (never_refused_at bytes c k.controller line why f k.accepted (of_certificate (λ controller. IsRefusedAt line why controller) old check bytes written c r s k))
 check_accepts bytes written c f s old new check (answer.CertificateRefused line fault.TooLong) r row =
-    absurd (too_long longest_certificate (length written) s.short (of_bytes _ old check bytes written r row.comes_from).1)
+    absurd (too_long longest_certificate (length written) s.short (of_bytes _ old check bytes written r (of_told _ bytes row.comes_from)).1)
 check_accepts bytes written c f s old new check (answer.QuantRefused why) r row =
-    elim row.comes_from [
+    elim (of_told _ bytes row.comes_from) [
       | inl t ↦ absurd (no_check check.task check.task r.name r.task refl t.0)
       | inr k ↦ absurd (comes_to_words bytes c (refused why) f
           (accepted_of bytes k.controller (job_of c) (Err why) k.accepted (of_certificate (λ controller x. IsChecked controller x (Err (refusal.Quant why))) old check bytes written c r s k)))
     ]
 check_accepts bytes written c f s old new check (answer.JobSize size) r row =
-    elim row.comes_from [
+    elim (of_told _ bytes row.comes_from) [
       | inl t ↦ absurd (asks_nothing check bytes t.0 t.1 r.name r.task t.2)
       | inr k ↦ absurd (never_refused bytes c k.controller (refusal.JobSize size) f k.accepted
           (of_certificate (λ controller x. IsChecked controller x (Err (refusal.JobSize size))) old check bytes written c r s k))
     ]
-check_accepts bytes written c f s old new check (answer.FileRefused why) r row = absurd (comes_to_words bytes c (faulty why) f row.comes_from)
-check_accepts bytes written c f s old new check answer.FileTooLong r row = absurd (comes_to_words bytes c long f row.comes_from)
+check_accepts bytes written c f s old new check (answer.FileRefused text.NoMemory) r row = absurd row
+check_accepts bytes written c f s old new check (answer.FileRefused why) r row = absurd (comes_to_words bytes c (faulty why) f (of_told _ bytes row.comes_from))
+check_accepts bytes written c f s old new check answer.FileTooLong r row = absurd (comes_to_words bytes c long f (of_told _ bytes row.comes_from))
 check_accepts bytes written c f s old new check (answer.Falls poly offer fall) r row = absurd (no_check check.task (decides row.belongs_to.0) r.name r.task row.belongs_to.1 tt)
 check_accepts bytes written c f s old new check (answer.KeptAway poly offer fall value) r row = absurd (no_check check.task (decides row.belongs_to.0) r.name r.task row.belongs_to.1 tt)
 check_accepts bytes written c f s old new check answer.NoZeros r row = absurd (no_check check.task (decides property.MinimumPhase) r.name r.task row.belongs_to tt)

@@ -1,9 +1,11 @@
 -- What is known of the proposers that were asked, and of the offers that are kept.
-use Rattle.std.proofs.Common.{◌≡◌, ℕ, zero, suc, ◌+◌, ◌<◌, List, [], ◌∷◌, ◌++◌, drop, length, slice_index_or, slice_set, refl, arith, length-append}
+use Rattle.std.proofs.Common.{◌≡◌, ℕ, zero, suc, ◌<◌, List, [], ◌∷◌, ◌++◌, drop, length, slice_index_or, slice_set, refl, ap, arith}
 use Rattle.std.specs.Prelude.{remove}
 use Rattle.std.proofs.Math.IntN.{ℤ}
 use Rattle.dsv_lyapunov.specs.declared.kept.KeptForm.{KeptForm}
 use Rattle.dsv_lyapunov.specs.Kept.{IsRefused, AreRefused}
+use Rattle.dsv_forms.specs.declared.offers.FormOffer.{FormOffer}
+use Rattle.dsv_cli.specs.Proposers.{offers_in}
 use Rattle.dsv_cli.specs.Suffixes.{HoldsOfNone}
 
 -- It is true of none of them, where it isn't of the first before it was asked and of none of the others.
@@ -23,5 +25,9 @@ AreRefused-append poly (o ∷ old) k a h = (a.0, AreRefused-append poly old k a.
 pub AreRefused-pushed : (poly : List ℤ) (old new : List KeptForm) (k : KeptForm) → new ≡ old ++ k ∷ [] → AreRefused poly old → IsRefused poly k → AreRefused poly new
 AreRefused-pushed poly old new k e a h = rw e (AreRefused-append poly old k a h)
 
-pub length-pushed : {A : Type 0} (old new : List A) (k : A) → new ≡ old ++ k ∷ [] → length new ≡ length old + 1
-length-pushed old new k e = rw (e, length-append) refl
+offers-append : (old : List KeptForm) (k : KeptForm) (rest : List FormOffer) → offers_in (old ++ k ∷ []) ++ rest ≡ offers_in old ++ k.offer ∷ rest
+offers-append [] k rest = refl
+offers-append (o ∷ old) k rest = ap (λ (l : List FormOffer). o.offer ∷ l) (offers-append old k rest)
+
+pub offers-pushed : (old new : List KeptForm) (k : KeptForm) (rest : List FormOffer) → new ≡ old ++ k ∷ [] → offers_in new ++ rest ≡ offers_in old ++ k.offer ∷ rest
+offers-pushed old new k rest e = rw e (offers-append old k rest)

@@ -1,6 +1,6 @@
 -- The stages of a run lead to the rows of the table.
 use Rattle.std.proofs.Common.{◌≡◌, ◌⊎◌, inl, inr, ℕ, ◌≤◌, List, length, subst, refl, sym, ap, ◌∙◌}
-use Rattle.std.specs.Prelude.{Result, Ok, Err, Option, Some, None, IfSome, ℤ}
+use Rattle.std.specs.Prelude.{Result, Ok, Err, Option, IfSome, ℤ}
 use Rattle.dsv_names.specs.declared.property.RunProperty.{RunProperty}
 use Rattle.dsv_names.specs.declared.property.RunProperty.TheVariants as run
 use Rattle.dsv_reader.specs.Controllers.{ControllerView}
@@ -10,7 +10,7 @@ use Rattle.dsv_quantiser.specs.declared.refusal.QuantRefusal.{QuantRefusal}
 use Rattle.dsv_command.specs.Jobs.{Task, decides, checks_time, writes, searches, seeks_set, simulates, checks, Asked}
 use Rattle.dsv_command.specs.declared.job.Design.{Design}
 use Rattle.dsv_command.specs.declared.question.Budget.{Budget}
-use Rattle.dsv_invariant.specs.declared.size.TheConstants.{UNBOUNDED_SAMPLES}
+use Rattle.dsv_invariant.specs.Limits.{unbounded_samples}
 use Rattle.dsv_report.specs.declared.answers.Answer.{Answer}
 use Rattle.dsv_report.specs.declared.answers.Answer.TheVariants as answer
 use Rattle.dsv_tested.specs.declared.side.Tested.TheVariants as tested
@@ -19,7 +19,8 @@ use Rattle.dsv_certcheck.specs.Checks.{IsChecked}
 use Rattle.dsv_certcheck.specs.declared.check_refusal.CheckRefusal.TheVariants as refusal
 use Rattle.dsv_cli.specs.declared.outcome.Outcome.{Outcome}
 use Rattle.dsv_cli.specs.declared.outcome.Outcome.TheVariants as outcome
-use Rattle.dsv_cli.specs.Headline.{longest_file, BecomesIn, IsForWords, IsCheckOf, Spells, IsAccepted, IsTested, IsTimed, IsSearch, IsWriting, IsSeeking, AsksOver, IsRun, IsRow}
+use Rattle.dsv_token.specs.declared.refusal.FileRefusal.TheVariants as text
+use Rattle.dsv_cli.specs.Headline.{longest_file, BecomesIn, CameOf, IsForWords, IsCheckOf, Spells, IsAccepted, IsTested, IsTimed, IsSearch, IsWriting, IsSeeking, AsksOver, IsRun, IsRow}
 use Rattle.dsv_bounded.specs.Verdicts.{IsTrace, IsCycle}
 use Rattle.dsv_bounded.specs.RunQuestions.{IsWithin}
 use Rattle.dsv_bounded.specs.RunAnswers.{NeverHappens, GaveUp, IsFormulaOf, IsTooLarge}
@@ -39,10 +40,9 @@ of_words c design (simulates inputs) words (outcome.Answered (answer.QuantRefuse
 of_words c design (checks name) words (outcome.Answered (answer.QuantRefused r)) b h = absurd h
 of_words c design task words found b h = record { words = words; becomes = b; answer = h }
 
--- what holds of the bytes that were read holds of the file's, where these are told
-told_by : (P : List ℕ → Type 0) (bytes : List ℕ) (file : Option (List ℕ)) → IfSome file (λ f. bytes ≡ f) → P bytes → IfSome file P
-told_by P bytes None e h = tt
-told_by P bytes (Some f) e h = subst P e h
+-- what holds of the bytes that were read holds of bytes that came of the file
+told_by : (P : List ℕ → Type 0) (bytes : List ℕ) (file : Option (List ℕ)) → IfSome file (λ f. bytes ≡ f) → P bytes → CameOf file P
+told_by P bytes file e h = (bytes, e, h)
 
 abbrev accepted_by : (design : Design) (bytes : List ℕ) (c : ControllerView) (outcome : Result FixedPoint QuantRefusal) → length bytes ≤ longest_file → IsTextOf bytes c
     → BecomesIn c design outcome → IsAccepted design bytes outcome
@@ -180,6 +180,7 @@ row_of_controller job bytes c for short text found h =
 
 -- ---- from the bytes on
 pub row_of : (job : Asked) (bytes : List ℕ) (found : Outcome) → IsForWords job.task → length bytes ≤ longest_file → IsOfBytes job bytes found → HasRowOf job bytes found
+row_of job bytes (outcome.Answered (answer.FileRefused text.NoMemory)) for short h = absurd h
 row_of job bytes (outcome.Answered (answer.FileRefused r)) for short h = λ told old new same. record {
   belongs_to = tt;
   comes_from = told_by (λ b. (length b ≤ longest_file) × IsFaultOf b r) bytes told same (short, h);
@@ -189,9 +190,9 @@ row_of job bytes (outcome.Answered answer.NoMemory) for short h = λ told old ne
 row_of job bytes found for short h = row_of_controller job bytes h.controller for short h.text found h.outcome
 
 -- ---- from the polynomial on
-renamed : (told : Option (List ℕ)) (job : Asked) (p q : List ℤ) → q ≡ p → IfSome told (λ bytes. IsTested job bytes (Ok (tested.Poly p)))
-    → IfSome told (λ bytes. IsTested job bytes (Ok (tested.Poly q)))
-renamed told job p q e h = subst (λ poly. IfSome told (λ bytes. IsTested job bytes (Ok (tested.Poly poly)))) (sym e) h
+renamed : (told : Option (List ℕ)) (job : Asked) (p q : List ℤ) → q ≡ p → CameOf told (λ bytes. IsTested job bytes (Ok (tested.Poly p)))
+    → CameOf told (λ bytes. IsTested job bytes (Ok (tested.Poly q)))
+renamed told job p q e h = subst (λ poly. CameOf told (λ bytes. IsTested job bytes (Ok (tested.Poly poly)))) (sym e) h
 
 -- the answer that decides the polynomial that the job tests has its row
 pub row_of_decision : (told : Option (List ℕ)) (old new : FilesSeen) (job : Asked) (poly : List ℤ) (found : Answer) → HasRow told old new job (outcome.Undecided poly)
@@ -205,9 +206,8 @@ row_of_decision told old new job poly found h d = absurd d
 
 -- ---- from the words on, by what proposers of sets offer
 seeking : (told : Option (List ℕ)) (job : Asked) (words : FixedPoint) (c : ℕ) (P : (List ℕ) → Type 0)
-    → ((bytes : List ℕ) → IsSeeking job bytes c words → P bytes) → job.task ≡ seeks_set c → IfSome told (λ bytes. IsAccepted job.design bytes (Ok words)) → IfSome told P
-seeking None job words c P f e h = tt
-seeking (Some bytes) job words c P f e h = f bytes (record { task = e; accepted = h })
+    → ((bytes : List ℕ) → IsSeeking job bytes c words → P bytes) → job.task ≡ seeks_set c → CameOf told (λ bytes. IsAccepted job.design bytes (Ok words)) → CameOf told P
+seeking told job words c P f e h = (h.0, h.1, f h.0 (record { task = e; accepted = h.2 }))
 
 -- the answer on runs of any length has its row
 pub row_of_sets : (told : Option (List ℕ)) (old new : FilesSeen) (job : Asked) (words : FixedPoint) (budget : Budget) (found : Answer) → HasRow told old new job (outcome.Unbounded words budget)
@@ -227,7 +227,7 @@ row_of_sets told old new job words budget (answer.NoInvariant kept) h d = record
 row_of_sets told old new job words budget (answer.JobSize size) h d = record {
   belongs_to = inr (inr (inl (budget.conflicts, h.0)));
   comes_from = seeking told job words budget.conflicts (SizeCause old job size)
-      (λ bytes s. inl (UNBOUNDED_SAMPLES, words, inr (inr (budget.conflicts, s, refl)), d)) h.0 h.1;
+      (λ bytes s. inl (unbounded_samples, words, inr (inr (budget.conflicts, s, refl)), d)) h.0 h.1;
   shows = tt;
 }
 row_of_sets told old new job words budget answer.NoMemory h d = tt

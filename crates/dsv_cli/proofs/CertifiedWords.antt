@@ -38,6 +38,7 @@ use Rattle.dsv_report.specs.declared.answers.Answer.TheVariants as answer
 use Rattle.dsv_cli.specs.Headline.{IsAccepted, IsTested, IsSearch, IsSeeking, ShowsFall, IsRow}
 use Rattle.dsv_bounded.specs.RunAnswers.{NeverHappens}
 use Rattle.dsv_cli.specs.Sets.{KeepsTo}
+use Rattle.dsv_cli.proofs.Told.{of_told}
 
 -- the design of a certificate's job
 abbrev pub design_in : Job → Design
@@ -139,17 +140,17 @@ has_certificate design task found c e = no_certificate c e
 pub certificate_fits : (bytes : List ℕ) (old new : FilesSeen) (job : Asked) (found : Answer) (c : Certificate) → IsRow (Some bytes) old new job found → certificate_of job found ≡ Some c → IsTyped c
     → IsAcceptable bytes c
 certificate_fits bytes old new job (answer.Never log) c row e known =
-    let t = row.comes_from in
+    let t = of_told _ bytes row.comes_from in
     let d = hints_for job.design t.0 t.1 log in
     let is : d ≡ c = of_task job (searches t.0 t.1 t.2) (answer.Never log) c d t.4.task refl e in
     subst (IsAcceptable bytes) is (hints_fit bytes job t.0 t.1 t.2 t.3 log t.4 t.5 (subst IsTyped (sym is) known))
 certificate_fits bytes old new job (answer.Always candidate logs) c row e known =
-    let t = row.comes_from in
+    let t = of_told _ bytes row.comes_from in
     let d = invariant_for job.design candidate logs in
     let is : d ≡ c = of_task job (seeks_set t.0) (answer.Always candidate logs) c d t.2.task refl e in
     subst (IsAcceptable bytes) is (invariant_fits bytes job t.0 t.1 candidate logs t.2 t.3 (subst IsTyped (sym is) known))
 certificate_fits bytes old new job (answer.Falls poly offer fall) c row e known =
-    let t = row.comes_from in
+    let t = of_told _ bytes row.comes_from in
     let d = falls_for job.design t.property offer in
     let is : d ≡ c = of_task job (decides t.property) (answer.Falls poly offer fall) c d t.task refl e in
     subst (IsAcceptable bytes) is (falls_fit bytes job poly offer fall t row.shows (subst IsTyped (sym is) known))

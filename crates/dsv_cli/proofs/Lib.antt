@@ -2,10 +2,12 @@ pub mod AcceptedLemmas
 pub mod Answering
 pub mod Asked
 pub mod Blocks
+pub mod BuiltIn
 pub mod Causes
 pub mod CertifiedWords
 pub mod CheckRows
 pub mod CheckStages
+pub mod Completeness
 pub mod OneAnswerLemmas
 pub mod OneAnswerStages
 pub mod OneAnswerTasks
@@ -13,3 +15,4 @@ pub mod Proposers
 pub mod RunLines
 pub mod Sets
 pub mod Suffixes
+pub mod Told

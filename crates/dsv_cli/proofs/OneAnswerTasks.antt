@@ -37,7 +37,7 @@ use Rattle.dsv_bounded.specs.Verdicts.{IsTrace, IsCycle}
 use Rattle.dsv_bounded.specs.RunQuestions.{Happens}
 use Rattle.dsv_bounded.specs.RunAnswers.{IsTooLarge}
 use Rattle.dsv_bounded.proofs.Verdicts.{trace_breaks, cycle_cycles}
-use Rattle.dsv_invariant.specs.declared.size.TheConstants.{UNBOUNDED_SAMPLES}
+use Rattle.dsv_invariant.specs.Limits.{unbounded_samples}
 use Rattle.dsv_cli.specs.Causes.{IsOfRun, IsOfTiming, IsOfFormula, IsOfSearch, IsOfSets}
 use Rattle.dsv_cli.specs.Timing.{IsTimingOf, IsOnTime}
 use Rattle.dsv_reader.specs.Controllers.{ControllerView}
@@ -285,7 +285,7 @@ one_time c words a b x y h k = absurd h
 
 -- ---- runs of any length
 one_set : (conflicts : ℕ) (words : FixedPoint) (a b : Answer) → IsSettled a → IsSettled b → IsOfSets conflicts words a → IsOfSets conflicts words b → SameAnswer a b
-one_set c words (answer.JobSize s) (answer.JobSize t) x y h k = one_size UNBOUNDED_SAMPLES words s t h k
+one_set c words (answer.JobSize s) (answer.JobSize t) x y h k = one_size unbounded_samples words s t h k
 one_set c words (answer.JobSize s) (answer.Always candidate logs) x y h k = absurd y
 one_set c words (answer.JobSize s) (answer.NoInvariant kept) x y h k = absurd y
 one_set c words (answer.JobSize s) answer.NoMemory x y h k = absurd y

@@ -39,26 +39,26 @@ some_form (answer.NoForm poly kept verdict) P h = absurd h
 some_form found P h = tt
 
 -- no proposer of forms is asked
-pub unasked : {B P : Type 0} (place : B → P) (last : B → Option FormOffer) (sure : B → List ℤ → Type 0) (xs : List B) (found : Answer) → IsPlain found
-    → IsAsked place last sure xs xs found
-unasked place last sure xs found h = record {
+pub unasked : {B P : Type 0} (place : B → P) (last : B → Option FormOffer) (sure : B → List ℤ → Type 0) (to_come : B → List ℤ → Option (List FormOffer)) (xs : List B) (found : Answer) → IsPlain found
+    → IsAsked place last sure to_come xs xs found
+unasked place last sure to_come xs found h = record {
   suffix = same_list place xs;
   unasked = λ n. refl;
   offered = none_offered found _ h;
   none_sure = some_form found _ h;
   none_left = some_form found _ h;
-  at_most = some_form found _ h;
+  blocks = some_form found _ h;
 }
 
-pub unasked_for_sets : {B P : Type 0} (place : B → P) (last : B → Option FormOffer) (sure : B → List ℤ → Type 0) (xs : List B) (conflicts : ℕ) (words : FixedPoint) (found : Answer)
-    → IsOfSets conflicts words found → IsAsked place last sure xs xs found
-unasked_for_sets place last sure xs conflicts words (answer.Always candidate logs) h =
-    record { suffix = same_list place xs; unasked = λ n. refl; offered = tt; none_sure = tt; none_left = tt; at_most = tt }
-unasked_for_sets place last sure xs conflicts words (answer.NoInvariant kept) h =
-    record { suffix = same_list place xs; unasked = λ n. refl; offered = tt; none_sure = tt; none_left = tt; at_most = tt }
-unasked_for_sets place last sure xs conflicts words (answer.JobSize size) h = unasked place last sure xs (answer.JobSize size) tt
-unasked_for_sets place last sure xs conflicts words answer.NoMemory h = unasked place last sure xs answer.NoMemory tt
-unasked_for_sets place last sure xs conflicts words found h = absurd h
+pub unasked_for_sets : {B P : Type 0} (place : B → P) (last : B → Option FormOffer) (sure : B → List ℤ → Type 0) (to_come : B → List ℤ → Option (List FormOffer)) (xs : List B) (conflicts : ℕ) (words : FixedPoint) (found : Answer)
+    → IsOfSets conflicts words found → IsAsked place last sure to_come xs xs found
+unasked_for_sets place last sure to_come xs conflicts words (answer.Always candidate logs) h =
+    record { suffix = same_list place xs; unasked = λ n. refl; offered = tt; none_sure = tt; none_left = tt; blocks = tt }
+unasked_for_sets place last sure to_come xs conflicts words (answer.NoInvariant kept) h =
+    record { suffix = same_list place xs; unasked = λ n. refl; offered = tt; none_sure = tt; none_left = tt; blocks = tt }
+unasked_for_sets place last sure to_come xs conflicts words (answer.JobSize size) h = unasked place last sure to_come xs (answer.JobSize size) tt
+unasked_for_sets place last sure to_come xs conflicts words answer.NoMemory h = unasked place last sure to_come xs answer.NoMemory tt
+unasked_for_sets place last sure to_come xs conflicts words found h = absurd h
 
 -- no proposer of sets is asked
 same_sets : {B P : Type 0} (place : B → P) (last : B → Option Candidate) (to_come : B → Shape → Option (List Candidate)) (becomes : FixedPoint → Type 0) (xs : List B) (found : Answer)

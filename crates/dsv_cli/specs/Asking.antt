@@ -1,5 +1,5 @@
 -- For private contracts: what comes of asking proposers.
-use Rattle.std.specs.Prelude.{◌≡◌, List, Result, Ok, Err, ℤ}
+use Rattle.std.specs.Prelude.{◌≡◌, List, Option, Some, None, Result, Ok, Err, ℤ}
 use Rattle.dsv_base.specs.declared.memory.NoMemory.{NoMemory}
 use Rattle.dsv_forms.specs.declared.offers.FormOffer.{FormOffer}
 use Rattle.dsv_closed_forms.specs.ClosedForm.{IsAccepted}
@@ -23,6 +23,17 @@ abbrev pub IfAccepted : Asked → (CheckedForm → Type 0) → Type 0
 IfAccepted asked.Nothing P = Unit {0}
 IfAccepted (asked.Accepted found) P = P found
 IfAccepted (asked.Refused kept) P = Unit {0}
+
+abbrev pub IfRefused : Asked → (KeptForm → Type 0) → Type 0
+IfRefused asked.Nothing P = Unit {0}
+IfRefused (asked.Accepted found) P = Unit {0}
+IfRefused (asked.Refused kept) P = P kept
+
+-- the offer that came
+abbrev pub offer_of : Asked → Option FormOffer
+offer_of asked.Nothing = None
+offer_of (asked.Accepted found) = Some (offer_in found)
+offer_of (asked.Refused kept) = Some kept.offer
 
 abbrev pub IsNotAccepted : Asked → Type 0
 IsNotAccepted asked.Nothing = Unit {0}

@@ -8,6 +8,7 @@ use Rattle.dsv_names.specs.declared.property.RootProperty.{RootProperty}
 use Rattle.dsv_names.specs.declared.property.RootProperty.TheVariants as property
 use Rattle.dsv_reader.specs.Controllers.{ControllerView}
 use Rattle.dsv_reader.specs.Texts.{IsTextOf, IsFaultOf}
+use Rattle.dsv_token.specs.declared.refusal.FileRefusal.TheVariants as text
 use Rattle.dsv_quantiser.specs.FixedPoint.{FixedPoint}
 use Rattle.dsv_tested.specs.Tested.{side_of, tested_of}
 use Rattle.dsv_tested.specs.declared.side.Tested.TheVariants as tested
@@ -18,12 +19,12 @@ use Rattle.dsv_report.specs.declared.answers.Answer.{Answer}
 use Rattle.dsv_report.specs.declared.answers.Answer.TheVariants as answer
 use Rattle.dsv_cli.specs.declared.outcome.Outcome.{Outcome}
 use Rattle.dsv_cli.specs.declared.outcome.Outcome.TheVariants as outcome
-use Rattle.dsv_cli.specs.Headline.{BecomesIn, IsTested, Decides, IsRow}
+use Rattle.dsv_cli.specs.Headline.{BecomesIn, CameOf, IsTested, Decides, IsRow}
 use Rattle.dsv_cli.specs.Headline.{ShowsFall, ShowsKeptAway, ShowsNoForm, IsAccepted}
 use Rattle.dsv_bounded.specs.Verdicts.{IsTrace, IsCycle}
 use Rattle.dsv_bounded.specs.RunQuestions.{IsWithin}
 use Rattle.dsv_bounded.specs.RunAnswers.{NeverHappens, GaveUp, IsFormulaOf, IsTooLarge}
-use Rattle.dsv_invariant.specs.declared.size.TheConstants.{UNBOUNDED_SAMPLES}
+use Rattle.dsv_invariant.specs.Limits.{unbounded_samples}
 use Rattle.dsv_cli.specs.Sets.{KeepsTo, NoneIsGood}
 use Rattle.dsv_cli.specs.Simulating.{IsRunOver, IsFirstOutside}
 use Rattle.dsv_cli.specs.Timing.{IsTimingOf, IsOnTime}
@@ -84,7 +85,7 @@ IsOfSearch of_property samples conflicts words other = ⊥
 abbrev pub IsOfSets : ℕ → FixedPoint → Answer → Type 0
 IsOfSets conflicts words (answer.Always candidate logs) = KeepsTo words conflicts candidate logs
 IsOfSets conflicts words (answer.NoInvariant kept) = NoneIsGood words conflicts kept
-IsOfSets conflicts words (answer.JobSize size) = IsTooLarge UNBOUNDED_SAMPLES words size
+IsOfSets conflicts words (answer.JobSize size) = IsTooLarge unbounded_samples words size
 IsOfSets conflicts words answer.NoMemory = Unit {0}
 IsOfSets conflicts words other = ⊥
 
@@ -131,18 +132,19 @@ pub record IsOfText (job : Asked) (bytes : List ℕ) (found : Outcome) : Type 0 
 
 -- what a job on a file of these bytes comes to
 abbrev pub IsOfBytes : Asked → List ℕ → Outcome → Type 0
+IsOfBytes job bytes (outcome.Answered (answer.FileRefused text.NoMemory)) = ⊥
 IsOfBytes job bytes (outcome.Answered (answer.FileRefused r)) = IsFaultOf bytes r
 IsOfBytes job bytes (outcome.Answered answer.NoMemory) = Unit {0}
 IsOfBytes job bytes found = IsOfText job bytes found
 
 -- The answer has its row, or the polynomial is the one that the job tests, or the words are those
--- that the job's controller becomes, where the file's bytes are told.
+-- that the job's controller becomes.
 abbrev pub HasRow : Option (List ℕ) → FilesSeen → FilesSeen → Asked → Outcome → Type 0
 HasRow told old new job (outcome.Answered found) = IsRow told old new job found
 HasRow told old new job (outcome.Undecided poly) =
-    Decides job.task × IfSome told (λ bytes. IsTested job bytes (Ok (tested.Poly poly)))
+    Decides job.task × CameOf told (λ bytes. IsTested job bytes (Ok (tested.Poly poly)))
 HasRow told old new job (outcome.Unbounded words budget) = (job.task ≡ seeks_set budget.conflicts)
-    × IfSome told (λ bytes. IsAccepted job.design bytes (Ok words))
+    × CameOf told (λ bytes. IsAccepted job.design bytes (Ok words))
 
 -- and so for every file that holds these bytes
 abbrev pub HasRowOf : Asked → List ℕ → Outcome → Type 0

@@ -4,6 +4,7 @@ use Rattle.dsv_base.specs.Counts.{Rose}
 use Rattle.dsv_base.specs.Seen.{FilesSeen}
 use Rattle.dsv_reader.specs.Controllers.{ControllerView}
 use Rattle.dsv_reader.specs.Texts.{IsFaultOf}
+use Rattle.dsv_token.specs.declared.refusal.FileRefusal.TheVariants as text
 use Rattle.dsv_certfile.specs.Reading.{certificate_in}
 use Rattle.dsv_certfile.specs.Texts.{job_of}
 use Rattle.dsv_certfile.specs.declared.certificate.Certificate.{Certificate}
@@ -15,7 +16,8 @@ use Rattle.dsv_report.specs.declared.answers.Answer.{Answer}
 use Rattle.dsv_report.specs.declared.answers.Answer.TheVariants as answer
 use Rattle.dsv_report.specs.declared.answers.CertificateFault.TheVariants as fault
 use Rattle.dsv_report.specs.declared.answers.WhichFile.TheVariants as file
-use Rattle.dsv_cli.specs.Headline.{longest_file, longest_certificate, IsController, IsRefusedAt}
+use Rattle.dsv_cli.specs.Headline.{longest_file, longest_certificate, CameOf, IsController}
+use Rattle.dsv_cli.specs.Headline.{IsRefusedAt}
 
 -- what the check of a certificate against a controller comes to
 abbrev pub IsOfCertificate : ControllerView → Certificate → Answer → Type 0
@@ -55,7 +57,8 @@ abbrev pub IsOfFile : FilesSeen → FilesSeen → List ℕ → ControllerView �
 IsOfFile old new name controller (answer.ReadFault file.Certificate) =
     Rose old.faults new.faults × (new.blamed ≡ Some name)
 IsOfFile old new name controller (answer.CertificateRefused line fault.TooLong) =
-    (line ≡ 0) × IfSome (old.held name) (λ bytes. longest_certificate < length bytes)
+    (line ≡ 0) × CameOf (old.held name) (λ bytes. longest_certificate < length bytes)
+    × Rose (old.came + longest_certificate) new.came
 IsOfFile old new name controller answer.NoMemory = Unit {0}
 IsOfFile old new name controller found = IsOfRead (old.held name) controller found
 
@@ -64,11 +67,12 @@ abbrev pub IsOfCheck : FilesSeen → FilesSeen → List ℕ → List ℕ → Ans
 IsOfCheck old new of_controller name (answer.ReadFault file.Controller) =
     Rose old.faults new.faults × (new.blamed ≡ Some of_controller)
 IsOfCheck old new of_controller name answer.FileTooLong =
-    IfSome (old.held of_controller) (λ bytes. longest_file < length bytes)
+    CameOf (old.held of_controller) (λ bytes. longest_file < length bytes)
     × Rose (old.came + longest_file) new.came
+IsOfCheck old new of_controller name (answer.FileRefused text.NoMemory) = ⊥
 IsOfCheck old new of_controller name (answer.FileRefused r) =
-    IfSome (old.held of_controller) (λ bytes. (length bytes ≤ longest_file) × IsFaultOf bytes r)
+    CameOf (old.held of_controller) (λ bytes. (length bytes ≤ longest_file) × IsFaultOf bytes r)
 IsOfCheck old new of_controller name answer.NoMemory = Unit {0}
 IsOfCheck old new of_controller name found = (controller : ControllerView)
-    × IfSome (old.held of_controller) (λ bytes. IsController bytes controller)
+    × CameOf (old.held of_controller) (λ bytes. IsController bytes controller)
     × IsOfFile old new name controller found

@@ -12,6 +12,7 @@ use Rattle.dsv_names.specs.declared.property.RootProperty.{RootProperty}
 use Rattle.dsv_names.specs.declared.property.RootProperty.TheVariants as property
 use Rattle.dsv_reader.specs.Controllers.{ControllerView}
 use Rattle.dsv_reader.specs.Texts.{IsTextOf, IsFaultOf}
+use Rattle.dsv_token.specs.declared.refusal.FileRefusal.TheVariants as text
 use Rattle.dsv_quantiser.specs.FixedPoint.{FixedPoint}
 use Rattle.dsv_quantiser.specs.Modes.{BecomesWords}
 use Rattle.dsv_quantiser.specs.declared.refusal.QuantRefusal.{QuantRefusal}
@@ -58,7 +59,7 @@ use Rattle.dsv_bounded.specs.RunAnswers.{NeverHappens, GaveUp, IsFormulaOf, IsTo
 use Rattle.dsv_cli.specs.Sets.{KeepsTo, NoneIsGood}
 use Rattle.dsv_cli.specs.Simulating.{IsRunOver, IsFirstOutside}
 use Rattle.dsv_cli.specs.Timing.{IsTimingOf, IsOnTime}
-use Rattle.dsv_invariant.specs.declared.size.TheConstants.{UNBOUNDED_SAMPLES}
+use Rattle.dsv_invariant.specs.Limits.{unbounded_samples}
 use Rattle.dsv_timing.specs.declared.work.TimingReport.{TimingReport}
 
 -- ---- the accepted job
@@ -160,7 +161,7 @@ AsksOver job bytes samples words =
     ((property : RunProperty) × (conflicts : ℕ)
     × IsSearch job bytes property samples conflicts words)
     ⊎ (((property : RunProperty) × IsWriting job bytes property samples words)
-    ⊎ ((conflicts : ℕ) × IsSeeking job bytes conflicts words × (samples ≡ UNBOUNDED_SAMPLES)))
+    ⊎ ((conflicts : ℕ) × IsSeeking job bytes conflicts words × (samples ≡ unbounded_samples)))
 
 -- ---- checks of certificates
 -- the task checks a certificate
@@ -177,15 +178,19 @@ pub record IsController (bytes : List ℕ) (c : ControllerView) : Type 0 where
   pub short : length bytes ≤ longest_file
   pub text : IsTextOf bytes c
 
--- The job checks a certificate against the controller whose text the bytes are, and of the bytes of
--- the certificate's file, where they are told, this holds.
+-- Bytes came of which this holds: those of the file, where these are told.
+abbrev pub CameOf : Option (List ℕ) → (List ℕ → Type 0) → Type 0
+CameOf told holds = (bytes : List ℕ) × IfSome told (λ file. bytes ≡ file) × holds bytes
+
+-- The job checks a certificate against the controller whose text the bytes are, and of the bytes
+-- that came of the certificate's file this holds.
 pub record IsCheckOf (old : FilesSeen) (job : Asked) (bytes : List ℕ)
     (P : ControllerView → List ℕ → Type 0) : Type 0 where
   pub name : List ℕ
   pub task : job.task ≡ checks name
   pub controller : ControllerView
   pub accepted : IsController bytes controller
-  pub certificate : IfSome (old.held name) (P controller)
+  pub certificate : CameOf (old.held name) (P controller)
 
 -- The bytes spell a certificate.
 pub record IsSpelled (written : List ℕ) (c : Certificate) : Type 0 where
@@ -227,6 +232,11 @@ IsFaulty line (fault.Check why) controller = Spells (IsRefusedAt line why contro
 IsFaulty line fault.TooLong controller =
     λ written. (line ≡ 0) × (longest_certificate < length written)
 
+-- what a fault of a certificate says whatever the files: of one that is too long so many bytes came
+abbrev pub ShowsFault : FilesSeen → FilesSeen → CertificateFault → Type 0
+ShowsFault old new fault.TooLong = Rose (old.came + longest_certificate) new.came
+ShowsFault old new other = Unit {0}
+
 -- ---- what answers show of a polynomial, whatever the file
 -- The form is positive and strictly falls along every nonzero trajectory of the polynomial; it is
 -- the closed form's, where there is one, its check accepts it, and `fall` is what it loses in a
@@ -257,15 +267,15 @@ pub record ShowsNoForm (poly : List ℤ) (kept : List KeptForm) (verdict : Jury)
 
 -- ---- the table
 -- A row of the table, for a file whose bytes are told or not: the jobs that the answer belongs to;
--- its cause in the bytes; and what it says whatever the file.
+-- its cause in the bytes that came; and what it says whatever the file.
 pub record Row (told : Option (List ℕ)) (belongs : Type 0) (cause : List ℕ
     → Type 0) (says : Type 0) : Type 0 where
   pub belongs_to : belongs
-  pub comes_from : IfSome told cause
+  pub comes_from : CameOf told cause
   pub shows : says
 
 -- The row of each answer to a job on a file with these bytes, where they are told; the files were
--- `old` and are `new`.
+-- `old` and are `new`. Want of memory is no fault of a file.
 abbrev pub IsRow : Option (List ℕ) → FilesSeen → FilesSeen → Asked → Answer → Type 0
 IsRow told old new job (answer.Falls poly offer fall) =
     Row told (Decides job.task) (λ bytes. IsTested job bytes (Ok (tested.Poly poly)))
@@ -349,6 +359,7 @@ IsRow told old new job (answer.QuantRefused r) =
     ⊎ IsCheckOf old job bytes
     (λ controller. Spells (λ c. IsChecked controller c (Err (refusal.Quant r)))))
     (Unit {0})
+IsRow told old new job (answer.FileRefused text.NoMemory) = ⊥
 IsRow told old new job (answer.FileRefused r) =
     Row told (Unit {0}) (λ bytes. (length bytes ≤ longest_file) × IsFaultOf bytes r) (Unit {0})
 IsRow told old new job answer.FileTooLong =
@@ -365,7 +376,8 @@ IsRow told old new job (answer.Checked certified) =
     Row told (Checks job.task)
     (λ bytes. HasShown bytes certified × IsCheckOf old job bytes (Passes certified)) (Unit {0})
 IsRow told old new job (answer.CertificateRefused line why) =
-    Row told (Checks job.task) (λ bytes. IsCheckOf old job bytes (IsFaulty line why)) (Unit {0})
+    Row told (Checks job.task) (λ bytes. IsCheckOf old job bytes (IsFaulty line why))
+    (ShowsFault old new why)
 IsRow told old new job (answer.Generated found) = ⊥
 IsRow told old new job answer.Usage = ⊥
 IsRow told old new job answer.NoMemory = Unit {0}
@@ -385,11 +397,11 @@ IsExplained old new (Some (on_file job)) found = IsRow (old.held job.file) old n
 IsExplained old new (Some (generates seed count)) found =
     IsOfGeneration seed count found × (new ≡ old)
 
--- these are the words that the job's controller becomes, where the file's bytes are told
+-- these are the words that the job's controller becomes
 abbrev pub FileBecomes : FilesSeen → Option Asked → FixedPoint → Type 0
 FileBecomes old None words = ⊥
 FileBecomes old (Some job) words =
-    IfSome (old.held job.file) (λ bytes. IsAccepted job.design bytes (Ok words))
+    CameOf (old.held job.file) (λ bytes. IsAccepted job.design bytes (Ok words))
 
 -- ---- what stays, and what is written
 -- What the files hold is as before, and the count of faults didn't fall.

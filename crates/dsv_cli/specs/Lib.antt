@@ -4,6 +4,7 @@ pub mod Asking
 pub mod Blocks
 pub mod Causes
 pub mod Checking
+pub mod Completeness
 pub mod Headline
 pub mod OneAnswer
 pub mod Proposers

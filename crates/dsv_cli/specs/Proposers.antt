@@ -1,16 +1,19 @@
 -- What becomes of the lists of proposers, whatever they offer.
-use Rattle.std.specs.Prelude.{◌≡◌, ◌≤◌, ◌*◌, Bool, true, false, List, [], ◌∷◌, length}
+use Rattle.std.specs.Prelude.{◌≡◌, Bool, true, false, List, [], ◌∷◌, map}
 use Rattle.std.specs.Prelude.{Option, Some, None, ℤ}
 use Rattle.dsv_forms.specs.declared.offers.FormOffer.{FormOffer}
 use Rattle.dsv_forms.specs.declared.offers.FormOffer.TheVariants as offered
 use Rattle.dsv_closed_forms.specs.ClosedForm.{closed_form_of, are_within, second_limit}
+use Rattle.dsv_cli.specs.Blocks.{AreBlocks}
 use Rattle.dsv_cli.specs.Suffixes.{IsSuffix, IfFirst, HoldsOfNone}
+use Rattle.dsv_command.specs.Jobs.{Asked}
+use Rattle.dsv_cli.specs.Headline.{Decides, Seeks}
 use Rattle.dsv_lyapunov.specs.declared.kept.KeptForm.{KeptForm}
 use Rattle.dsv_quantiser.specs.FixedPoint.{FixedPoint}
 use Rattle.dsv_template.specs.declared.candidate.Candidate.{Candidate}
 use Rattle.dsv_template.specs.declared.kept.KeptSet.{KeptSet}
 use Rattle.dsv_template.specs.declared.shape.Shape.{Shape}
-use Rattle.dsv_cli.specs.Sets.{WereOffered, told_for}
+use Rattle.dsv_cli.specs.Sets.{AreOfJob, told_for}
 use Rattle.dsv_report.specs.declared.answers.Answer.{Answer}
 use Rattle.dsv_report.specs.declared.answers.Answer.TheVariants as answer
 
@@ -36,10 +39,20 @@ abbrev pub IfNoForm : Answer → (List ℤ → List KeptForm → Type 0) → Typ
 IfNoForm (answer.NoForm poly kept verdict) P = P poly kept
 IfNoForm other P = Unit {0}
 
--- The proposers of forms before and after a run with this answer: `place`, `last` and `sure` are
--- the address and the meanings of each.
+-- the offers that were kept
+abbrev pub offers_in : List KeptForm → List FormOffer
+offers_in kept = map (λ (k : KeptForm). k.offer) kept
+
+-- what proposers tell for a polynomial
+abbrev pub told_of : {B : Type 0} → (B → List ℤ → Option (List FormOffer)) → List ℤ → List B
+    → List (Option (List FormOffer))
+told_of to_come poly proposers = map (λ b. to_come b poly) proposers
+
+-- The proposers of forms before and after a run with this answer: `place`, `last`, `sure` and
+-- `to_come` are the address and the meanings of each.
 pub record IsAsked {B P : Type 0} (place : B → P) (last : B → Option FormOffer)
-    (sure : B → List ℤ → Type 0) (before after : List B) (found : Answer) : Type 0 where
+    (sure : B → List ℤ → Type 0) (to_come : B → List ℤ → Option (List FormOffer))
+    (before after : List B) (found : Answer) : Type 0 where
   -- the last of them are left, and only the first of these was asked
   pub suffix : IsSuffix place before after
   -- an answer that needs none leaves the list as it was
@@ -47,11 +60,17 @@ pub record IsAsked {B P : Type 0} (place : B → P) (last : B → Option FormOff
   -- a form that isn't the closed form is what the first that is left gave last
   pub offered : IfOffered found (λ poly offer. closed_form_of poly ≡ None
       → IfFirst after (λ b. last b ≡ Some offer))
-  -- where no form was found, none was sure of the polynomial and none is left, and each gave at
-  -- most 32 of the kept offers
+  -- where no form was found, none was sure of the polynomial and none is left; the kept offers are
+  -- a block of each in their order: the first 32 of what it tells, and else at most 32
   pub none_sure : IfNoForm found (λ poly kept. HoldsOfNone (λ b. sure b poly) before)
   pub none_left : IfNoForm found (λ poly kept. after ≡ [])
-  pub at_most : IfNoForm found (λ poly kept. length kept ≤ 32 * length before)
+  pub blocks : IfNoForm found
+      (λ poly kept. AreBlocks 32 (told_of to_come poly before) (offers_in kept))
+
+-- the job decides a polynomial, for which forms may be wanted
+abbrev pub WantsForm : Option Asked → Type 0
+WantsForm None = ⊥
+WantsForm (Some job) = Decides job.task
 
 -- the order is 0 or 1, or 2 with all coefficients at most 2^23 in size
 abbrev pub is_low : List ℤ → Bool
@@ -93,5 +112,10 @@ pub record AreSetsAsked {B P : Type 0} (place : B → P) (last : B → Option Ca
   pub offered : IfAlways found (λ candidate. IfFirst after (λ b. last b ≡ Some candidate))
   -- where no set was found, none is left, and they were asked in their order
   pub none_left : IfNoInvariant found (λ kept. after ≡ [])
-  pub asked : IfNoInvariant found (λ kept. (words : FixedPoint) × becomes words
-      × WereOffered words (told_for to_come words before) kept)
+  pub asked : IfNoInvariant found
+      (AreOfJob becomes (λ words. told_for to_come words before))
+
+-- the job seeks a set
+abbrev pub WantsSet : Option Asked → Type 0
+WantsSet None = ⊥
+WantsSet (Some job) = Seeks job.task

@@ -24,6 +24,12 @@ offer_of asked.Nothing = None
 offer_of (asked.Accepted candidate logs) = Some candidate
 offer_of (asked.Refused kept) = Some kept.candidate
 
+-- what was found of the offer
+abbrev pub found_of : SetAsked → Option Why
+found_of asked.Nothing = None
+found_of (asked.Accepted candidate logs) = Some (why.Good logs)
+found_of (asked.Refused kept) = Some kept.why
+
 abbrev pub IsJudgedSet : FixedPoint → ℕ → SetAsked → Type 0
 IsJudgedSet words conflicts asked.Nothing = Unit {0}
 IsJudgedSet words conflicts (asked.Accepted candidate logs) =

@@ -13,7 +13,7 @@ use Rattle.dsv_template.specs.declared.verdict.Why.TheVariants as why
 use Rattle.dsv_template.specs.Kept.{IsKept}
 use Rattle.dsv_invariant.specs.Causes.{IsShaped, IsCause}
 use Rattle.dsv_invariant.specs.Shapes.{shape_of}
-use Rattle.dsv_invariant.specs.declared.size.TheConstants.{UNBOUNDED_SAMPLES}
+use Rattle.dsv_invariant.specs.Limits.{unbounded_samples}
 use Rattle.dsv_cli.specs.Blocks.{AreBlocks}
 use Rattle.dsv_bounded.specs.RunQuestions.{IsWithin}
 
@@ -21,7 +21,7 @@ use Rattle.dsv_bounded.specs.RunQuestions.{IsWithin}
 -- which three logs show, each of a search with at most so many conflicts.
 pub record KeepsTo (words : FixedPoint) (conflicts : ℕ) (candidate : Candidate) (logs : ThreeLogs) :
     Type 0 where
-  pub within : IsWithin words UNBOUNDED_SAMPLES
+  pub within : IsWithin words unbounded_samples
   pub good : IsCause words conflicts candidate (why.Good logs)
 
 -- ---- where no set was found
@@ -37,7 +37,7 @@ pub record IsNotGood (words : FixedPoint) (conflicts : ℕ) (kept : KeptSet) : T
 -- The controller is no larger than what is asked of formulas, and each of these candidates has its
 -- cause, and none is good.
 pub record NoneIsGood (words : FixedPoint) (conflicts : ℕ) (kept : List KeptSet) : Type 0 where
-  pub within : IsWithin words UNBOUNDED_SAMPLES
+  pub within : IsWithin words unbounded_samples
   pub causes : All (IsNotGood words conflicts) kept
 
 -- ---- what proposers had to offer
@@ -68,3 +68,10 @@ pub record WereOffered (words : FixedPoint) (told : List (Option (List Candidate
 abbrev pub told_for : {B : Type 0} → (B → Shape → Option (List Candidate)) → FixedPoint → List B
     → List (Option (List Candidate))
 told_for to_come words proposers = map (λ b. to_come b (shape_of words)) proposers
+
+-- These are the offers of proposers that tell `told`, for the words that the job's controller
+-- becomes.
+abbrev pub AreOfJob : (FixedPoint → Type 0) → (FixedPoint → List (Option (List Candidate)))
+    → List KeptSet → Type 0
+AreOfJob becomes told kept =
+    (words : FixedPoint) × becomes words × WereOffered words (told words) kept

@@ -1,7 +1,8 @@
 // Asks a proposer once.
 ghost use Rattle.std.specs.Prelude.{◌≡◌, Some};
 ghost use Rattle.dsv_lyapunov.specs.Answers.{offer_in};
-ghost use Rattle.dsv_cli.specs.Asking.{IsJudged, IfAccepted, IsNotAccepted};
+ghost use Rattle.dsv_cli.specs.Asking.{IsJudged, IfAccepted, IfRefused, IsNotAccepted, offer_of};
+ghost use Rattle.dsv_cli.specs.Blocks.{IsTurn};
 
 use dsv_forms::Poly;
 use dsv_lyapunov::{CheckedForm, FormProposer, KeptForm, check_offer};
@@ -20,6 +21,9 @@ pub fn ask(poly: &Poly, first: &mut Box<dyn FormProposer>) -> Asked
     ensures judged { IsJudged poly.now result }
     ensures last { IfAccepted result (λ found. last first.new ≡ Some (offer_in found)) }
     ensures sure { IsNotAccepted result → sure first.old poly.now → ⊥ }
+    ensures turn { IsTurn (to_come first.old poly.now) (to_come first.new poly.now)
+        (offer_of result) }
+    ensures heard { IfRefused result (λ kept. heard first.new kept.refusal) }
 {
     let Some(offer) = first.propose(poly) else {
         return Asked::Nothing;

@@ -1,5 +1,5 @@
 // Decides a polynomial by a form that is checked.
-ghost use Rattle.std.specs.Prelude.{◌≡◌, ◌≤◌, ◌*◌, [], length, Some, None, IfOk, IfSome};
+ghost use Rattle.std.specs.Prelude.{◌≡◌, [], Some, None, IfOk, IfSome};
 ghost use Rattle.dsv_closed_forms.specs.ClosedForm.{closed_form_of, IsAccepted};
 ghost use Rattle.dsv_jury.specs.Jury.{jury_of};
 ghost use Rattle.dsv_lyapunov.specs.Answers.{offer_in, IsShown};
@@ -7,7 +7,8 @@ ghost use Rattle.dsv_cli.specs.Asking.{IfChecked, IfNoForm, IsChecked};
 ghost use Rattle.dsv_lyapunov.specs.Kept.{AreRefused};
 ghost use Rattle.dsv_report.specs.Printing.{HasPlaces};
 ghost use Rattle.dsv_cli.specs.Causes.{IsDecision};
-ghost use Rattle.dsv_cli.specs.Proposers.{IsAsked};
+ghost use Rattle.dsv_cli.specs.Blocks.{AreBlocks};
+ghost use Rattle.dsv_cli.specs.Proposers.{IsAsked, offers_in, told_of};
 ghost use Rattle.dsv_cli.specs.Suffixes.{IsSuffix, IfFirst, HoldsOfNone};
 
 use crate::asking::{Asked, ask};
@@ -59,8 +60,8 @@ fn asked_answer(
         IfFirst forms.new.items (λ b. last b ≡ Some (offer_in found)))) }
     ensures none_left { IfOk result (λ a. IfNoForm a (λ kept verdict. forms.new.items ≡ [])) }
     ensures causes { IfOk result (λ a. IfNoForm a (λ kept verdict. AreRefused poly.now kept)) }
-    ensures at_most { IfOk result (λ a. IfNoForm a (λ kept verdict.
-        length kept ≤ 32 * length forms.old.items)) }
+    ensures blocks { IfOk result (λ a. IfNoForm a (λ kept verdict. AreBlocks 32
+        (told_of (λ b cs. to_come b cs) poly.now forms.old.items) (offers_in kept))) }
     ensures sure { IfOk result (λ a. IfNoForm a (λ kept verdict.
         HoldsOfNone (λ b. sure b poly.now) forms.old.items)) }
     ensures jury { IfOk result (λ a. IfNoForm a (λ kept verdict. verdict ≡ jury_of poly.now)) }
@@ -93,7 +94,7 @@ fn asked_answer(
 /// Decides a polynomial by a form that is checked: its closed form, where it has one, and else what
 /// the proposers offer, who are asked in their order. One that offers nothing, or whose 32nd offer
 /// was refused, is dropped; one whose offer is accepted stays in front.
-fn decide(
+pub fn decide(
     alloc: Global,
     poly: &Poly,
     forms: &mut Vec<Box<dyn FormProposer>>,
@@ -112,13 +113,14 @@ fn decide(
     ensures last { closed_form_of poly.now ≡ None → IfOk result (λ a. IfChecked a (λ found.
         IfFirst forms.new.items (λ b. last b ≡ Some (offer_in found)))) }
     // No form: there is no closed form, no proposer was sure and none is left, each kept offer has
-    // its refusal, and of each proposer there are at most 32.
+    // its refusal, and they are a block of each proposer: the first 32 of what it tells, and else
+    // at most 32.
     ensures no_form { IfOk result (λ a. IfNoForm a (λ kept verdict.
         closed_form_of poly.now ≡ None)) }
     ensures none_left { IfOk result (λ a. IfNoForm a (λ kept verdict. forms.new.items ≡ [])) }
     ensures causes { IfOk result (λ a. IfNoForm a (λ kept verdict. AreRefused poly.now kept)) }
-    ensures at_most { IfOk result (λ a. IfNoForm a (λ kept verdict.
-        length kept ≤ 32 * length forms.old.items)) }
+    ensures blocks { IfOk result (λ a. IfNoForm a (λ kept verdict. AreBlocks 32
+        (told_of (λ b cs. to_come b cs) poly.now forms.old.items) (offers_in kept))) }
     ensures sure { IfOk result (λ a. IfNoForm a (λ kept verdict.
         HoldsOfNone (λ b. sure b poly.now) forms.old.items)) }
     ensures jury { IfOk result (λ a. IfNoForm a (λ kept verdict. verdict ≡ jury_of poly.now)) }
@@ -134,7 +136,7 @@ pub fn decided_answer(alloc: Global, poly: Poly, forms: &mut Vec<Box<dyn FormPro
     ensures decision { IsDecision poly result }
     ensures places { HasPlaces result }
     ensures proposers { IsAsked (λ b. b.ptr) (λ b. last b) (λ b cs. sure b cs)
-        forms.old.items forms.new.items result }
+        (λ b cs. to_come b cs) forms.old.items forms.new.items result }
 {
     match decide(alloc, &poly, forms) {
         Ok(FormAnswer::Checked(CheckedForm::Falls { offer, fall })) => {

@@ -1,5 +1,6 @@
 // What a controller file is answered by, and what its certificate.
 ghost use Rattle.dsv_cli.specs.Accepted.{WrittenAreAccepted};
+ghost use Rattle.dsv_cli.specs.Completeness.{AreDecided};
 ghost use Rattle.dsv_cli.specs.OneAnswer.{HaveOneAnswer};
 
 /// The law of [`run`](crate::run), for proofs: a job on a file whose bytes are told has one answer,
@@ -15,4 +16,11 @@ pub fn told_files_have_one_answer()
 /// of memory and faults of reads. The call does nothing.
 pub fn written_certificates_are_accepted()
     ensures { WrittenAreAccepted }
+{}
+
+/// The law of completeness, for proofs: a job on a file to which no refusal of the table applies is
+/// decided or inconclusive (its status is 0, 10 or 20), unless a fault of a read rose or there was
+/// no memory. The call does nothing.
+pub fn jobs_are_decided()
+    ensures { AreDecided }
 {}

@@ -1,6 +1,6 @@
 // Answers questions about runs of a controller in words.
 ghost use Rattle.std.specs.Prelude.{◌≡◌, ◌≤◌};
-ghost use Rattle.dsv_command.specs.declared.limits.TheConstants.{MOST_SAMPLES};
+ghost use Rattle.dsv_command.specs.Limits.{most_samples};
 ghost use Rattle.dsv_names.specs.declared.property.RunProperty.TheVariants as run;
 ghost use Rattle.dsv_cli.specs.Answering.{answer_of, formula_answer_of};
 ghost use Rattle.dsv_cli.specs.Causes.{IsOfFormula, IsOfSearch, IsPlain};
@@ -41,7 +41,7 @@ fn verdict_found(found: Result<BoundedAnswer, BoundedRefusal>) -> Answer
 /// Whether an overflow happens.
 fn overflow_verdict(alloc: Global, words: &Quantised, samples: u32, budget: &Budget) -> Answer
     requires some { 1 ≤ samples }
-    requires few { samples ≤ MOST_SAMPLES }
+    requires few { samples ≤ most_samples }
     ensures search { IsOfSearch run.Overflow samples budget.now.conflicts words.now result }
     ensures plain { IsPlain result }
 {
@@ -51,7 +51,7 @@ fn overflow_verdict(alloc: Global, words: &Quantised, samples: u32, budget: &Bud
 /// Whether a limit cycle happens.
 fn cycle_verdict(alloc: Global, words: &Quantised, samples: u32, budget: &Budget) -> Answer
     requires some { 1 ≤ samples }
-    requires few { samples ≤ MOST_SAMPLES }
+    requires few { samples ≤ most_samples }
     ensures search { IsOfSearch run.LimitCycle samples budget.now.conflicts words.now result }
     ensures plain { IsPlain result }
 {

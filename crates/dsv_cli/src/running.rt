@@ -10,6 +10,7 @@ ghost use Rattle.dsv_cli.specs.Headline.{IsRow, IsExplained, IsForWords, FileBec
 ghost use Rattle.dsv_cli.specs.Headline.{AreKept, IsWritten, IfWhole};
 ghost use Rattle.dsv_cli.specs.Causes.{HasRow, AnswersPlainly};
 ghost use Rattle.dsv_cli.specs.Proposers.{IsAsked, AreSetsAsked, IfNoForm, is_low};
+ghost use Rattle.dsv_cli.specs.Proposers.{WantsForm, WantsSet};
 
 use crate::checking::checked_answer;
 use crate::deciding::decided_answer;
@@ -68,12 +69,18 @@ fn words_answer<F: Files>(
     ensures places { HasPlaces result }
     ensures sets { AreSetsAsked (λ b. b.ptr)
         (λ b. (⟦<dyn InvariantProposer as InvariantProposer>⟧ b.vtable).last b.value)
-        (λ b shape. to_come b shape)
+        (λ b shape. (⟦<dyn InvariantProposer as InvariantProposer>⟧ b.vtable).to_come b.value shape)
         (FileBecomes (F.seen files.old) (Some (asked_of job.now)))
         sets.old.items sets.new.items result }
     ensures forms { IsAsked (λ b. b.ptr)
         (λ b. (⟦<dyn FormProposer as FormProposer>⟧ b.vtable).last b.value)
-        (λ b cs. sure b cs) forms.old.items forms.new.items result }
+        (λ b cs. sure b cs)
+        (λ b cs. (⟦<dyn FormProposer as FormProposer>⟧ b.vtable).to_come b.value cs)
+        forms.old.items forms.new.items result }
+    ensures unneeded_sets { (WantsSet (Some (asked_of job.now)) → ⊥)
+        → sets.new.items ≡ sets.old.items }
+    ensures unneeded_forms { (WantsForm (Some (asked_of job.now)) → ⊥)
+        → forms.new.items ≡ forms.old.items }
 {
     match job_outcome(alloc, job, files) {
         Outcome::Answered(answer) => answer,
@@ -96,12 +103,18 @@ fn job_answer<F: Files>(
     ensures places { HasPlaces result }
     ensures sets { AreSetsAsked (λ b. b.ptr)
         (λ b. (⟦<dyn InvariantProposer as InvariantProposer>⟧ b.vtable).last b.value)
-        (λ b shape. to_come b shape)
+        (λ b shape. (⟦<dyn InvariantProposer as InvariantProposer>⟧ b.vtable).to_come b.value shape)
         (FileBecomes (F.seen files.old) (Some (asked_of job.now)))
         sets.old.items sets.new.items result }
     ensures forms { IsAsked (λ b. b.ptr)
         (λ b. (⟦<dyn FormProposer as FormProposer>⟧ b.vtable).last b.value)
-        (λ b cs. sure b cs) forms.old.items forms.new.items result }
+        (λ b cs. sure b cs)
+        (λ b cs. (⟦<dyn FormProposer as FormProposer>⟧ b.vtable).to_come b.value cs)
+        forms.old.items forms.new.items result }
+    ensures unneeded_sets { (WantsSet (Some (asked_of job.now)) → ⊥)
+        → sets.new.items ≡ sets.old.items }
+    ensures unneeded_forms { (WantsForm (Some (asked_of job.now)) → ⊥)
+        → forms.new.items ≡ forms.old.items }
 {
     match &job.task {
         Task::Check(name) => checked_answer(alloc, job.file, name, files),
@@ -110,7 +123,7 @@ fn job_answer<F: Files>(
 }
 
 /// Writes an answer; the status is the answer's where the whole text was written, and else 4.
-fn written_status<K: Sink>(sink: &mut K, job: Option<&Job>, answer: &Answer) -> u8
+pub(crate) fn written_status<K: Sink>(sink: &mut K, job: Option<&Job>, answer: &Answer) -> u8
     requires { HasPlaces answer.now }
     ensures written { IsWritten (K.seen sink.old) (K.seen sink.new) result (status_of answer.now)
         (output_of (asked_in job.entry) answer.now) }
@@ -139,15 +152,22 @@ pub fn run<F: Files, K: Sink>(
     // The answer's row in the table of answers holds.
     ensures explained { IsExplained (F.seen files.old) (F.seen files.new)
         (request_of (map string_bytes arguments.now)) result.answer }
-    // What becomes of the proposers: a list that isn't needed stays as it was.
+    // What becomes of the proposers: a list that the answer doesn't need stays as it was.
     ensures sets { AreSetsAsked (λ b. b.ptr)
         (λ b. (⟦<dyn InvariantProposer as InvariantProposer>⟧ b.vtable).last b.value)
-        (λ b shape. to_come b shape)
+        (λ b shape. (⟦<dyn InvariantProposer as InvariantProposer>⟧ b.vtable).to_come b.value shape)
         (FileBecomes (F.seen files.old) (job_of (map string_bytes arguments.now)))
         sets.old.items sets.new.items result.answer }
     ensures forms { IsAsked (λ b. b.ptr)
         (λ b. (⟦<dyn FormProposer as FormProposer>⟧ b.vtable).last b.value)
-        (λ b cs. sure b cs) forms.old.items forms.new.items result.answer }
+        (λ b cs. sure b cs)
+        (λ b cs. (⟦<dyn FormProposer as FormProposer>⟧ b.vtable).to_come b.value cs)
+        forms.old.items forms.new.items result.answer }
+    // A list that the job doesn't need stays as it was whatever the answer, want of memory too.
+    ensures unneeded_sets { (WantsSet (job_of (map string_bytes arguments.now)) → ⊥)
+        → sets.new.items ≡ sets.old.items }
+    ensures unneeded_forms { (WantsForm (job_of (map string_bytes arguments.now)) → ⊥)
+        → forms.new.items ≡ forms.old.items }
     // A polynomial of order 0 or 1, or 2 with small coefficients, is always decided.
     ensures low_orders { IfNoForm result.answer (λ poly kept. is_low poly ≡ false) }
     // What the files hold is as before.

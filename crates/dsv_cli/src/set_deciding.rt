@@ -1,7 +1,9 @@
 // Seeks a set that a controller never leaves among those that are offered.
-ghost use Rattle.std.specs.Prelude.{◌≡◌, [], Some, IfOk};
+ghost use Rattle.std.specs.Prelude.{◌≡◌, ◌<◌, [], Some, IfOk};
+ghost use Rattle.dsv_bounded.specs.Answers.{IsSized};
+ghost use Rattle.dsv_bounded.specs.Formulas.{job_size_of};
 ghost use Rattle.dsv_invariant.specs.Shapes.{shape_of};
-ghost use Rattle.dsv_invariant.specs.declared.size.TheConstants.{UNBOUNDED_SAMPLES};
+ghost use Rattle.dsv_invariant.specs.Limits.{unbounded_samples};
 ghost use Rattle.dsv_cli.specs.Blocks.{AreBlocks};
 ghost use Rattle.dsv_cli.specs.Causes.{IsOfSets};
 ghost use Rattle.dsv_cli.specs.Proposers.{AreSetsAsked};
@@ -10,6 +12,8 @@ ghost use Rattle.dsv_cli.specs.SetAsking.{IfKept, IfNoSet};
 ghost use Rattle.dsv_cli.specs.Sets.{KeepsTo, NoneIsGood, candidates, told_for};
 ghost use Rattle.dsv_cli.specs.Suffixes.{IsSuffix, IfFirst};
 ghost use Rattle.dsv_report.specs.Printing.{HasPlaces};
+ghost use Rattle.dsv_template.specs.declared.verdict.Why.TheVariants as why;
+ghost use Rattle.dsv_unroll.specs.Goals.{most_size};
 
 use crate::set_asking::{SetAsked, ask_for_set};
 use dsv_base::NoMemory;
@@ -46,11 +50,13 @@ fn asked_sets(
     budget: &Budget,
     sets: &mut Vec<Box<dyn InvariantProposer>>,
 ) -> Result<SetAnswer, NoMemory>
-    requires { IsWithin words.now UNBOUNDED_SAMPLES }
+    requires { IsWithin words.now unbounded_samples }
     ensures suffix { IsSuffix (λ b. b.ptr) sets.old.items sets.new.items }
     ensures good { IfOk result (λ a. IfKept a (KeepsTo words.now budget.now.conflicts)) }
     ensures last { IfOk result (λ a. IfKept a (λ candidate logs.
         IfFirst sets.new.items (λ b. last b ≡ Some candidate))) }
+    ensures heard { IfOk result (λ a. IfKept a (λ candidate logs.
+        IfFirst sets.new.items (λ b. heard b (why.Good logs)))) }
     ensures none_left { IfOk result (λ a. IfNoSet a (λ kept. sets.new.items ≡ [])) }
     ensures causes { IfOk result (λ a. IfNoSet a (NoneIsGood words.now budget.now.conflicts)) }
     ensures blocks { IfOk result (λ a. IfNoSet a (λ kept. AreBlocks 32
@@ -81,28 +87,40 @@ fn asked_sets(
     Ok(SetAnswer::NoInvariant { kept })
 }
 
-/// The answer on runs of any length of a controller that isn't too large.
-fn offered_answer(
+/// Seeks a set that a controller never leaves and in which it never overflows, among those that the
+/// proposers offer, who are asked in their order. One that offers nothing, or whose 32nd offer
+/// wasn't good, is dropped; one whose offer is good stays in front. The size of the job is tested
+/// before anybody is asked.
+pub fn unbounded(
     alloc: Global,
     words: &Quantised,
     budget: &Budget,
     sets: &mut Vec<Box<dyn InvariantProposer>>,
-) -> Answer
-    requires { IsWithin words.now UNBOUNDED_SAMPLES }
-    ensures sets { IsOfSets budget.now.conflicts words.now result }
-    ensures places { HasPlaces result }
-    ensures proposers { AreSetsAsked (λ b. b.ptr) (λ b. last b) (λ b shape. to_come b shape)
-        (λ w. w ≡ words.now) sets.old.items sets.new.items result }
+) -> Result<SetAnswer, BoundedRefusal>
+    // The job is refused exactly where it is too large, want of memory aside, and nobody is asked
+    // then.
+    ensures sized { IsSized (job_size_of words.now unbounded_samples) result }
+    ensures unasked { most_size < job_size_of words.now unbounded_samples
+        → sets.new.items ≡ sets.old.items }
+    // What is left of the proposers: the last of them, and only the first was asked.
+    ensures suffix { IsSuffix (λ b. b.ptr) sets.old.items sets.new.items }
+    // A set is good, the first proposer that is left gave it last, and has heard that it is good.
+    ensures good { IfOk result (λ a. IfKept a (KeepsTo words.now budget.now.conflicts)) }
+    ensures last { IfOk result (λ a. IfKept a (λ candidate logs.
+        IfFirst sets.new.items (λ b. last b ≡ Some candidate))) }
+    ensures heard { IfOk result (λ a. IfKept a (λ candidate logs.
+        IfFirst sets.new.items (λ b. heard b (why.Good logs)))) }
+    // No set: no proposer is left, no kept candidate is good, and they were asked in their order.
+    ensures none_left { IfOk result (λ a. IfNoSet a (λ kept. sets.new.items ≡ [])) }
+    ensures causes { IfOk result (λ a. IfNoSet a (NoneIsGood words.now budget.now.conflicts)) }
+    ensures blocks { IfOk result (λ a. IfNoSet a (λ kept. AreBlocks 32
+        (told_for (λ b shape. to_come b shape) words.now sets.old.items) (candidates kept))) }
 {
-    match asked_sets(alloc, words, budget, sets) {
-        Ok(SetAnswer::Kept { candidate, logs }) => Answer::Always { candidate, logs },
-        Ok(SetAnswer::NoInvariant { kept }) => Answer::NoInvariant { kept },
-        Err(NoMemory) => Answer::NoMemory,
-    }
+    accept_unbounded(words)?;
+    Ok(asked_sets(alloc, words, budget, sets)?)
 }
 
-/// The answer on runs of any length, by what the proposers of sets offer; the size of the job is
-/// tested before anybody is asked.
+/// The answer on runs of any length, by what the proposers of sets offer.
 pub fn unbounded_answer(
     alloc: Global,
     words: &Quantised,
@@ -114,8 +132,9 @@ pub fn unbounded_answer(
     ensures proposers { AreSetsAsked (λ b. b.ptr) (λ b. last b) (λ b shape. to_come b shape)
         (λ w. w ≡ words.now) sets.old.items sets.new.items result }
 {
-    match accept_unbounded(words) {
-        Ok(()) => offered_answer(alloc, words, budget, sets),
+    match unbounded(alloc, words, budget, sets) {
+        Ok(SetAnswer::Kept { candidate, logs }) => Answer::Always { candidate, logs },
+        Ok(SetAnswer::NoInvariant { kept }) => Answer::NoInvariant { kept },
         Err(BoundedRefusal::JobSize { size }) => Answer::JobSize { size },
         Err(BoundedRefusal::NoMemory) => Answer::NoMemory,
     }

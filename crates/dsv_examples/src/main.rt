@@ -4,7 +4,7 @@
 
 use anyhow::{Context, Result};
 use dsv_base::{Files, MemFiles, MemSink, Sink, put_all, put_number};
-use dsv_cli::{BoxProposer, FormProposer, InvariantProposer, OsFiles, OsOut, SumProposer, run};
+use dsv_cli::{OsFiles, OsOut, run_with_built_in};
 use std::alloc::Global;
 use std::fs;
 
@@ -31,13 +31,8 @@ fn status_of<F: Files, K: Sink>(
     arguments: &[String],
     files: &mut F,
     sink: &mut K,
-) -> Result<u8> {
-    let mut sets: Vec<Box<dyn InvariantProposer>> = Vec::new(alloc);
-    sets.push(Box::new(alloc, BoxProposer::new())?)?;
-    let mut forms: Vec<Box<dyn FormProposer>> = Vec::new(alloc);
-    forms.push(Box::new(alloc, SumProposer::new())?)?;
-    let done = run(alloc, arguments, files, sink, &mut sets, &mut forms);
-    Ok(done.status)
+) -> u8 {
+    run_with_built_in(alloc, arguments, files, sink).status
 }
 
 /// Makes the certificate of a job and checks it; the controller's file is the first argument.
@@ -49,13 +44,13 @@ fn certified_status(rt: &HostRuntime, alloc: Global, line: &str, out: &mut OsOut
     let mut files = MemFiles::new(alloc);
     files.hold(file, controller.as_bytes())?;
     let mut certificate = MemSink::new(alloc, LONGEST_CERTIFICATE)?;
-    status_of(alloc, &arguments, &mut files, &mut certificate)?;
+    status_of(alloc, &arguments, &mut files, &mut certificate);
     files.hold("certificate", certificate.bytes())?;
     let mut check = Vec::new(alloc);
     for argument in [file.as_str(), "--check", "certificate"] {
         check.push(String::from_str(alloc, argument)?)?;
     }
-    status_of(alloc, &check, &mut files, out)
+    Ok(status_of(alloc, &check, &mut files, out))
 }
 
 /// Runs the command on a case.
@@ -71,7 +66,7 @@ fn run_case(
     put_all(out, b"\n")?;
     let status = match line.strip_prefix("certify ") {
         Some(job) => certified_status(rt, alloc, job, out)?,
-        None => status_of(alloc, &arguments_of(alloc, line)?, files, out)?,
+        None => status_of(alloc, &arguments_of(alloc, line)?, files, out),
     };
     put_all(out, b"status ")?;
     put_number(out, status)?;

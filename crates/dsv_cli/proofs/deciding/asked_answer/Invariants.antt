@@ -1,5 +1,8 @@
-use Rattle.std.proofs.Common.{◌≡◌, ◌≤◌, ◌*◌, ◌+◌, ◌-◌, ◌<◌, length, drop}
+use Rattle.std.proofs.Common.{◌≡◌, ◌≤◌, ◌*◌, ◌-◌, ◌<◌, List, ◌++◌, length, drop}
+use Rattle.dsv_forms.specs.declared.offers.FormOffer.{FormOffer}
 use Rattle.dsv_lyapunov.specs.Kept.{AreRefused}
+use Rattle.dsv_cli.specs.Blocks.{AreBlocks}
+use Rattle.dsv_cli.specs.Proposers.{offers_in, told_of}
 use Rattle.dsv_cli.specs.Suffixes.{IsSuffix, HoldsOfNone}
 use Rattle.dsv_cli.proofs.deciding.asked_answer.Given as goal
 
@@ -9,7 +12,9 @@ invariant-asking g l = record {
   suffix : IsSuffix (λ b. b.ptr) l.fn.forms.items l.forms.items;
   causes : AreRefused l.poly l.kept;
   live : l.asked ≤ 31 * length l.forms.items;
-  few : length l.kept + 32 * length l.forms.items ≤ 32 * length l.fn.forms.items + l.asked;
+  blocks : (rest : List FormOffer)
+      → AreBlocks (32 - l.asked) (told_of (λ b cs. (goal.FormProposer-dyn g (b.vtable, b.value)).to_come b.value cs) l.poly l.forms.items) rest
+      → AreBlocks 32 (told_of (λ b cs. (goal.FormProposer-dyn g (b.vtable, b.value)).to_come b.value cs) l.poly l.fn.forms.items) (offers_in l.kept ++ rest);
   unasked : l.asked ≡ 0 → HoldsOfNone (λ b. (goal.FormProposer-dyn g (b.vtable, b.value)).sure b.value l.poly) l.forms.items
       → HoldsOfNone (λ b. (goal.FormProposer-dyn g (b.vtable, b.value)).sure b.value l.poly) l.fn.forms.items;
   asked : 0 < l.asked → HoldsOfNone (λ b. (goal.FormProposer-dyn g (b.vtable, b.value)).sure b.value l.poly) (drop 1 l.forms.items)

@@ -12,7 +12,7 @@ returns-in-Check-clause-row g c =
 
 pub returns-in-Check-clause-forms : goal.returns-in-Check-clause-forms
 returns-in-Check-clause-forms g c =
-    unasked (λ b. b.ptr) (λ b. (goal.FormProposer-dyn g (b.vtable, b.value)).last b.value) (λ b cs. (goal.FormProposer-dyn g (b.vtable, b.value)).sure b.value cs)
+    unasked (λ b. b.ptr) (λ b. (goal.FormProposer-dyn g (b.vtable, b.value)).last b.value) (λ b cs. (goal.FormProposer-dyn g (b.vtable, b.value)).sure b.value cs) (λ b cs. (goal.FormProposer-dyn g (b.vtable, b.value)).to_come b.value cs)
     c.args.forms.now.items c.checked_answer.result c.checked_answer.ensures.plain
 
 pub returns-in-Check-clause-sets : goal.returns-in-Check-clause-sets

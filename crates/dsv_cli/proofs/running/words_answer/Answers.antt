@@ -7,7 +7,7 @@ use Rattle.dsv_cli.proofs.running.words_answer.Goals as goal
 
 pub returns-in-Answered-clause-forms : goal.returns-in-Answered-clause-forms
 returns-in-Answered-clause-forms g c =
-    unasked (λ b. b.ptr) (λ b. (goal.FormProposer-dyn g (b.vtable, b.value)).last b.value) (λ b cs. (goal.FormProposer-dyn g (b.vtable, b.value)).sure b.value cs)
+    unasked (λ b. b.ptr) (λ b. (goal.FormProposer-dyn g (b.vtable, b.value)).last b.value) (λ b cs. (goal.FormProposer-dyn g (b.vtable, b.value)).sure b.value cs) (λ b cs. (goal.FormProposer-dyn g (b.vtable, b.value)).to_come b.value cs)
     c.args.forms.now.items c.in-Answered.answer c.in-Answered.ensures.plain
 
 pub returns-in-Answered-clause-sets : goal.returns-in-Answered-clause-sets
@@ -24,7 +24,7 @@ returns-in-Undecided-clause-sets g c =
 
 pub returns-in-Unbounded-clause-forms : goal.returns-in-Unbounded-clause-forms
 returns-in-Unbounded-clause-forms g c =
-    unasked_for_sets (λ b. b.ptr) (λ b. (goal.FormProposer-dyn g (b.vtable, b.value)).last b.value) (λ b cs. (goal.FormProposer-dyn g (b.vtable, b.value)).sure b.value cs)
+    unasked_for_sets (λ b. b.ptr) (λ b. (goal.FormProposer-dyn g (b.vtable, b.value)).last b.value) (λ b cs. (goal.FormProposer-dyn g (b.vtable, b.value)).sure b.value cs) (λ b cs. (goal.FormProposer-dyn g (b.vtable, b.value)).to_come b.value cs)
     c.args.forms.now.items c.in-Unbounded.budget.conflicts c.in-Unbounded.words c.unbounded_answer.result c.unbounded_answer.ensures.sets
 
 pub returns-in-Unbounded-clause-row : goal.returns-in-Unbounded-clause-row
@@ -39,3 +39,9 @@ returns-in-Unbounded-clause-sets g c =
     sets_asked_for (λ b. b.ptr) (λ b. (goal.InvariantProposer-dyn g (b.vtable, b.value)).last b.value) (λ b shape. (goal.InvariantProposer-dyn g (b.vtable, b.value)).to_come b.value shape)
     (λ w. w ≡ c.in-Unbounded.words) becomes c.args.sets.now.items c.unbounded_answer.new.sets.items c.unbounded_answer.result
     (λ w e. subst becomes (sym e) c.in-Unbounded.ensures.row.1) c.unbounded_answer.ensures.proposers
+
+pub returns-in-Undecided-clause-unneeded_forms : goal.returns-in-Undecided-clause-unneeded_forms
+returns-in-Undecided-clause-unneeded_forms g c = λ no. absurd (no c.in-Undecided.ensures.row.0)
+
+pub returns-in-Unbounded-clause-unneeded_sets : goal.returns-in-Unbounded-clause-unneeded_sets
+returns-in-Unbounded-clause-unneeded_sets g c = λ no. absurd (no (c.in-Unbounded.budget.conflicts, c.in-Unbounded.ensures.row.0))

@@ -1,7 +1,7 @@
 use Rattle.std.proofs.Common.{refl}
 use Rattle.dsv_cli.specs.Sets.{told_for}
 use Rattle.dsv_cli.proofs.Sets.{were_offered}
-use Rattle.dsv_cli.proofs.set_deciding.offered_answer.Goals as goal
+use Rattle.dsv_cli.proofs.set_deciding.unbounded_answer.Goals as goal
 
 pub returns-in-Ok-NoInvariant-clause-proposers : goal.returns-in-Ok-NoInvariant-clause-proposers
 returns-in-Ok-NoInvariant-clause-proposers g c =
