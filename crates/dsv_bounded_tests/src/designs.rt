@@ -5,8 +5,8 @@ use dsv_reader::read;
 use dsv_word::Format;
 use std::alloc::Global;
 
-/// (0.5 - 0.5 z^-2) / (1 - 0.5 z^-1 + 0.5 z^-2) with delta 1, in words of three bits; its inputs are
-/// the words from -2 to 2.
+/// (0.5 - 0.5 z^-2) / (1 - 0.5 z^-1 + 0.5 z^-2) with delta 1, in words of three bits; its inputs
+/// are the words from -2 to 2.
 const CONTROLLER: &str =
     "digital_system d = { .b = {0.5, 0.0, -0.5}, .b_size = 3, .a = {1.0, -0.5, 0.5}, .a_size = 3 };
 implementation r = { .int_bits = 2, .frac_bits = 1, .max = 1.0, .min = -1.0, .delta = 1.0 };";

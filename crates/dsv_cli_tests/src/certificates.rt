@@ -1,6 +1,7 @@
 // Certificates that the command writes, and certificates that it checks.
+use crate::pieces::OneByOne;
 use crate::runs::{files_of, status_of};
-use dsv_base::{MemFiles, MemSink};
+use dsv_base::{Files, MemSink};
 use std::alloc::Global;
 
 /// Poles at 0.5 + 0.5i and 0.5 - 0.5i.
@@ -28,10 +29,12 @@ struct Row {
     accepted: &'static [u8],
 }
 
+const ACCEPTED: &[u8] = b"CERTIFICATE ACCEPTED\nproperty STABILITY realization DFI\n";
+
 const STABILITY: Row = Row {
     file: TWO_POLES,
     job: &["f", "--property", "STABILITY", "--certificate"],
-    accepted: b"CERTIFICATE ACCEPTED\nproperty STABILITY realization DFI\n",
+    accepted: ACCEPTED,
 };
 
 const UNBOUNDED: Row = Row {
@@ -76,7 +79,7 @@ struct Output {
 }
 
 /// What a run over these files writes.
-fn output_of(alloc: Global, files: &mut MemFiles, job: &[&str]) -> Option<Output> {
+fn output_of<F: Files>(alloc: Global, files: &mut F, job: &[&str]) -> Option<Output> {
     let mut sink = MemSink::new(alloc, 20_000).ok()?;
     let status = status_of(alloc, job, files, &mut sink)?;
     Some(Output { status, sink })
@@ -88,11 +91,13 @@ fn certificate_of(alloc: Global, row: &Row) -> Option<Output> {
     output_of(alloc, &mut files, row.job)
 }
 
+const CHECK: [&str; 3] = ["f", "--check", "c"];
+
 /// What the check of a certificate against a controller's file writes.
 fn checked(alloc: Global, file: &[u8], certificate: &[u8]) -> Option<Output> {
     let mut files = files_of(alloc, "f", file)?;
     files.hold("c", certificate).ok()?;
-    output_of(alloc, &mut files, &["f", "--check", "c"])
+    output_of(alloc, &mut files, &CHECK)
 }
 
 /// Whether the check ends with this status, and what it writes with these bytes.
@@ -115,6 +120,27 @@ fn is_accepted(alloc: Global, row: &Row) -> bool {
 fn what_is_written_is_accepted(rt: HostRuntime) {
     for row in &ROWS {
         assert!(rt; is_accepted(rt.alloc(), row));
+    }
+}
+
+/// Whether a certificate is the same where the file gives one byte at a time, and is accepted where
+/// its own file does, too.
+fn is_same_one_by_one(alloc: Global, row: &Row) -> Option<bool> {
+    let written = certificate_of(alloc, row)?;
+    let mut files = OneByOne {
+        files: files_of(alloc, "f", row.file)?,
+    };
+    let again = output_of(alloc, &mut files, row.job)?;
+    let is_same = again.status == written.status && again.sink.bytes() == written.sink.bytes();
+    files.files.hold("c", written.sink.bytes()).ok()?;
+    let checked = output_of(alloc, &mut files, &CHECK)?;
+    Some(is_same && checked.status == 0 && checked.sink.bytes() == row.accepted)
+}
+
+#[test]
+fn files_that_give_one_byte_at_a_time_change_nothing(rt: HostRuntime) {
+    for row in &ROWS {
+        assert!(rt; is_same_one_by_one(rt.alloc(), row) == Some(true));
     }
 }
 
@@ -164,14 +190,16 @@ fn are_refused(alloc: Global, certificate: &[u8]) -> bool {
     true
 }
 
-/// A fetch that fails, and what the check of a certificate says then.
-struct Blamed(u64, &'static [u8]);
+/// A fetch that fails, and the status and the text of the check of a certificate then.
+struct Blamed(u64, u8, &'static [u8]);
 
-const BLAMED: [Blamed; 4] = [
-    Blamed(0, b"READ FAULT CONTROLLER\n"),
-    Blamed(1, b"READ FAULT CONTROLLER\n"),
-    Blamed(2, b"READ FAULT CERTIFICATE\n"),
-    Blamed(3, b"READ FAULT CERTIFICATE\n"),
+/// Both files are read by two fetches, and a fifth isn't made.
+const BLAMED: [Blamed; 5] = [
+    Blamed(0, 3, b"READ FAULT CONTROLLER\n"),
+    Blamed(1, 3, b"READ FAULT CONTROLLER\n"),
+    Blamed(2, 3, b"READ FAULT CERTIFICATE\n"),
+    Blamed(3, 3, b"READ FAULT CERTIFICATE\n"),
+    Blamed(4, 0, ACCEPTED),
 ];
 
 /// Whether the check names the file whose read fails first.
@@ -179,8 +207,8 @@ fn is_blamed(alloc: Global, certificate: &[u8], row: &Blamed) -> Option<bool> {
     let mut files = files_of(alloc, "f", TWO_POLES)?;
     files.hold("c", certificate).ok()?;
     files.fail_at(row.0).ok()?;
-    let output = output_of(alloc, &mut files, &["f", "--check", "c"])?;
-    Some(output.status == 3 && output.sink.bytes() == row.1)
+    let output = output_of(alloc, &mut files, &CHECK)?;
+    Some(output.status == row.1 && output.sink.bytes() == row.2)
 }
 
 /// Whether the check names the file at each of these fetches.

@@ -14,8 +14,12 @@ mod lists;
 #[cfg(test)]
 mod outside;
 #[cfg(test)]
+mod pieces;
+#[cfg(test)]
 mod proposers;
 #[cfg(test)]
 mod runs;
+#[cfg(test)]
+mod samples;
 #[cfg(test)]
 mod sets;

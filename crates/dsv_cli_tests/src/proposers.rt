@@ -1,10 +1,12 @@
 // Proposers that need no trust: the command asks them, drops them, and stays right.
-ghost use Rattle.std.specs.Prelude.{nat_eq};
+ghost use Rattle.std.specs.Prelude.{nat_eq, None};
 
 use crate::runs::{files_of, run_with};
 use dsv_base::MemSink;
 use dsv_cli::{FormProposer, InvariantProposer, SumProposer};
-use dsv_forms::{Falls, Form, FormOffer, FormRefusal, GREATEST_ORDER, KeptAway, Poly, Squares};
+use dsv_forms::{
+    Falls, Form, FormOffer, FormRefusal, GREATEST_ORDER, KeptAway, Part, Poly, Squares,
+};
 use std::alloc::Global;
 use std::cell::Cell;
 use std::rc::Rc;
@@ -61,10 +63,11 @@ fn falls(entry: i128) -> FormOffer {
     })
 }
 
-/// Offers a form a number of times, and counts the refusals that it hears.
+/// Offers a form a number of times, and counts how often it hears a refusal.
 #[derive(Drop)]
 struct Stubborn {
     offer: FormOffer,
+    refusal: FormRefusal,
     left: u32,
     last: Option<FormOffer>,
     heard: Rc<Cell<u32>>,
@@ -77,6 +80,10 @@ impl FormProposer for Stubborn {
 
     ghost sure = { λ _ _. ⊥ };
 
+    ghost to_come = { λ _ _. None };
+
+    ghost heard = { λ _ _. Unit {0} };
+
     fn propose(&mut self, _poly: &Poly) -> Option<FormOffer> {
         if self.left == 0 {
             return None;
@@ -86,8 +93,9 @@ impl FormProposer for Stubborn {
         self.last
     }
 
-    fn tell(&mut self, _refusal: &FormRefusal) {
-        self.heard.set(self.heard.get().wrapping_add(1));
+    fn tell(&mut self, refusal: &FormRefusal) {
+        let heard = u32::from(*refusal == self.refusal);
+        self.heard.set(self.heard.get().wrapping_add(heard));
     }
 }
 
@@ -99,8 +107,9 @@ struct Row {
     times: u32,
     status: u8,
     text: &'static [u8],
-    /// How many refusals it heard.
+    /// How often it heard this refusal.
     heard: u32,
+    refusal: FormRefusal,
     /// How many proposers are left.
     left: usize,
 }
@@ -114,6 +123,7 @@ fn proposers_of(
 ) -> Option<Vec<Box<dyn FormProposer>>> {
     let stubborn = Stubborn {
         offer,
+        refusal: row.refusal,
         left: row.times,
         last: None,
         heard,
@@ -148,6 +158,9 @@ const ZERO: Row = Row {
     status: 20,
     text: NO_FORM_TEXT,
     heard: 32,
+    refusal: FormRefusal::Shape {
+        part: Part::Positive,
+    },
     left: 0,
 };
 
@@ -162,6 +175,11 @@ const LEAST: Row = Row {
     status: 0,
     text: THIRD_ROOT_TEXT,
     heard: 1,
+    refusal: FormRefusal::Wide {
+        part: Part::Fall,
+        i: 0,
+        j: 0,
+    },
     left: 1,
 };
 

@@ -1,6 +1,6 @@
 // Runs of the command over files and a sink in memory.
-use dsv_base::{MemFiles, MemSink};
-use dsv_cli::{BoxProposer, Done, FormProposer, InvariantProposer, SumProposer, run};
+use dsv_base::{Files, MemFiles, MemSink};
+use dsv_cli::{Answer, BoxProposer, Done, FormProposer, InvariantProposer, SumProposer, run};
 use std::alloc::Global;
 
 /// These words as arguments.
@@ -20,10 +20,10 @@ pub(crate) fn files_of(alloc: Global, name: &str, bytes: &[u8]) -> Option<MemFil
 }
 
 /// What a run with these proposers comes to.
-pub(crate) fn run_with(
+pub(crate) fn run_with<F: Files>(
     alloc: Global,
     words: &[&str],
-    files: &mut MemFiles,
+    files: &mut F,
     sink: &mut MemSink,
     sets: &mut Vec<Box<dyn InvariantProposer>>,
     forms: &mut Vec<Box<dyn FormProposer>>,
@@ -46,15 +46,36 @@ fn form_proposers(alloc: Global) -> Option<Vec<Box<dyn FormProposer>>> {
     Some(forms)
 }
 
-/// The status of a run with the proposers that are built in.
-pub(crate) fn status_of(
+/// How a run ended.
+#[derive(Clone, Copy)]
+pub(crate) struct Ending {
+    pub(crate) status: u8,
+    /// Whether its answer is a form that falls.
+    pub(crate) falls: bool,
+}
+
+/// How a run with the proposers that are built in ends.
+pub(crate) fn ending_of<F: Files>(
     alloc: Global,
     words: &[&str],
-    files: &mut MemFiles,
+    files: &mut F,
     sink: &mut MemSink,
-) -> Option<u8> {
+) -> Option<Ending> {
     let mut sets = box_proposers(alloc)?;
     let mut forms = form_proposers(alloc)?;
     let done = run_with(alloc, words, files, sink, &mut sets, &mut forms)?;
-    Some(done.status)
+    Some(Ending {
+        status: done.status,
+        falls: matches!(&done.answer, Answer::Falls { .. }),
+    })
+}
+
+/// The status of a run with the proposers that are built in.
+pub(crate) fn status_of<F: Files>(
+    alloc: Global,
+    words: &[&str],
+    files: &mut F,
+    sink: &mut MemSink,
+) -> Option<u8> {
+    Some(ending_of(alloc, words, files, sink)?.status)
 }

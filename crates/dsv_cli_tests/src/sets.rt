@@ -81,6 +81,8 @@ impl InvariantProposer for Stubborn {
 
     ghost to_come = { λ _ _. None };
 
+    ghost heard = { λ _ _. Unit {0} };
+
     fn propose(&mut self, _alloc: Global, _shape: &Shape) -> Result<Option<Candidate>, NoMemory> {
         match self.turn {
             Turn::NoState => {
@@ -118,8 +120,9 @@ struct Row {
     left: usize,
     /// How many findings the first ones heard.
     heard: u32,
-    /// Whether the first candidate that is told of was found unsafe.
-    is_first_unsafe: bool,
+    /// How many of the candidates that the answer tells of first were found to be of a bad shape,
+    /// where the next of them was found unsafe.
+    bad_shapes: Option<usize>,
 }
 
 /// The boxes find their set, behind proposers of which one is heard to its end.
@@ -131,7 +134,7 @@ const FOUND: Row = Row {
     text: HALVES_TEXT,
     left: 1,
     heard: 32,
-    is_first_unsafe: false,
+    bad_shapes: None,
 };
 
 /// The boxes aren't asked, since a proposer before them finds no memory.
@@ -181,7 +184,7 @@ const ROWS: [Row; 8] = [
         boxes: true,
         text: b"VERIFICATION INCONCLUSIVE\nproperty OVERFLOW realization DFI unbounded\n\
               cause NO_INVARIANT offers 16 spent 0\n",
-        is_first_unsafe: true,
+        bad_shapes: Some(0),
         ..NOT_FOUND
     },
     NOT_FOUND,
@@ -191,19 +194,25 @@ const ROWS: [Row; 8] = [
         text: b"VERIFICATION INCONCLUSIVE\nproperty OVERFLOW realization DFI unbounded\n\
               cause NO_INVARIANT offers 48 spent 0\n",
         heard: 32,
+        bad_shapes: Some(32),
         ..NOT_FOUND
     },
 ];
 
-/// Whether the answer tells of candidates, the first of which was found unsafe.
-fn is_first_unsafe(answer: &Answer) -> bool {
-    match answer {
-        Answer::NoInvariant { kept, .. } => match kept.as_slice().first() {
-            Some(first) => matches!(&first.why, Why::Unsafe { .. }),
-            None => false,
-        },
-        _ => false,
+/// How many candidates of a bad shape the answer tells of before the first other one, where that is
+/// unsafe.
+fn bad_shapes_of(answer: &Answer) -> Option<usize> {
+    let Answer::NoInvariant { kept, .. } = answer else {
+        return None;
+    };
+    for (place, set) in kept.as_slice().iter().enumerate() {
+        match &set.why {
+            Why::BadShape => {}
+            Why::Unsafe { .. } => return Some(place),
+            _ => return None,
+        }
     }
+    None
 }
 
 /// A proposer that does this each time.
@@ -248,7 +257,7 @@ fn ends(alloc: Global, row: &Row, sets: &mut Vec<Box<dyn InvariantProposer>>) ->
     Some(
         done.status == row.status
             && sink.bytes() == row.text
-            && is_first_unsafe(&done.answer) == row.is_first_unsafe,
+            && bad_shapes_of(&done.answer) == row.bad_shapes,
     )
 }
 

@@ -44,9 +44,9 @@ implementation r = { .int_bits = 2, .frac_bits = 1, .max = 0.5, .min = -1.0 };";
 
 // The next words are of four bits, one of them after the point: from -8 to 7.
 
-/// y(n) = 3.5 x(n) + 3.5 x(n-1) + 2 y(n-1), with the words from -2 to 1 as inputs. One sample's words
-/// are -7, -4, 0 and 3 for the inputs -2, -1, 0 and 1. Twice the first two are no words, so they
-/// break with each second input, and 3 + 3 + 6 is none and 0 + 3 + 6 neither.
+/// y(n) = 3.5 x(n) + 3.5 x(n-1) + 2 y(n-1), with the words from -2 to 1 as inputs. One sample's
+/// words are -7, -4, 0 and 3 for the inputs -2, -1, 0 and 1. Twice the first two are no words, so
+/// they break with each second input, and 3 + 3 + 6 is none and 0 + 3 + 6 neither.
 const NARROW: &str =
     "digital_system d = { .b = {3.5, 3.5}, .b_size = 2, .a = {1.0, -2.0}, .a_size = 2 };
 implementation r = { .int_bits = 3, .frac_bits = 1, .max = 0.5, .min = -1.0 };";

@@ -44,8 +44,8 @@ struct Row(&'static [Line], u32, SetPart, u32, u32);
 // ceiling of half of y(n-1), is -2, -1, -1, 0, 0, 1, 1, 2 for -4 to 3. Only 3 and an input 2 have a
 // sum that is no word, with each of eight x(n-1). From at most 2 the next y is 3 for 1 or 2 and an
 // input 2, and the one after that for ten pairs of y(n-1) and x(n). The slanted sum is x(n) - 2 c,
-// and is over 4 for y(n-1) = -4 and inputs 1 and 2, where 3 x(n-1) + 8 is at most 4 for three words;
-// where 4 wraps to -4, it is over 4 for y(n-1) = 3 and an input 2 as well, with each x(n-1).
+// and is over 4 for y(n-1) = -4 and inputs 1 and 2, where 3 x(n-1) + 8 is at most 4 for three
+// words; where 4 wraps to -4, it is over 4 for y(n-1) = 3 and an input 2 as well, with each x(n-1).
 const ROWS: [Row; 15] = [
     Row(FREE, 1, SetPart::Base, 0, 0),
     Row(FREE, 1, SetPart::Step, 0, 0),

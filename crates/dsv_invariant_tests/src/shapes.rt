@@ -1,6 +1,6 @@
 // What proposers are told, and jobs that are too large.
 use crate::designs::{Design, HALVES, Offer, candidate_of, words_of};
-use dsv_bounded::BoundedRefusal;
+use dsv_bounded::TooLarge;
 use dsv_invariant::{accept_unbounded, check_candidate, shape_of};
 use dsv_names::{OverflowMode, Realisation};
 use dsv_template::Shape;
@@ -63,9 +63,9 @@ fn earlier_inputs_are_told_of_the_direct_form_one_alone(rt: HostRuntime) {
 fn is_refused(alloc: Global) -> Option<bool> {
     let q = words_of(alloc, &design(EIGHTH, 16, Realisation::Ddfi))?;
     let candidate = candidate_of(&Offer(&[], 0))?;
-    let refusal = BoundedRefusal::JobSize { size: 304_128 };
-    let alone = accept_unbounded(&q) == Err(refusal);
-    Some(alone && check_candidate(alloc, &q, &candidate, 1).err() == Some(refusal))
+    let job = TooLarge { size: 304_128 };
+    let alone = accept_unbounded(&q) == Err(job);
+    Some(alone && check_candidate(alloc, &q, &candidate, 1).err() == Some(job.into()))
 }
 
 #[test]

@@ -56,9 +56,9 @@ const SUM_FACTS: &[Fact] = &[
     Fact::Within { low: -5, high: 3 },
 ];
 
-// The words are -8 to 7. 7 x and an error, over 4, are made whole inwards: by FLOOR 5 gives 8.75 and
-// -5 gives -9.5 at least, by CEIL -5 gives -8.75 at least. Twice a number less the number is the
-// number, whose plain interval is three times as wide.
+// The words are -8 to 7. 7 x and an error, over 4, are made whole inwards: by FLOOR 5 gives 8.75
+// and -5 gives -9.5 at least, by CEIL -5 gives -8.75 at least. Twice a number less the number is
+// the number, whose plain interval is three times as wide.
 const ROWS: [Row; 13] = [
     Row {
         nodes: SUMS,

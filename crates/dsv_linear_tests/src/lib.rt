@@ -1,5 +1,5 @@
-//! Tests of the facts of linear forms, by public calls: beside enumerated runs, and beside facts that
-//! are worked out by hand.
+//! Tests of the facts of linear forms, by public calls: beside enumerated runs, and beside facts
+//! that are worked out by hand.
 #![tactic(auto)]
 
 #[cfg(test)]

@@ -206,8 +206,8 @@ fn is_right(alloc: Global, table: Table, row: &str) -> bool {
     true
 }
 
-/// Whether a row of a single value is right: numbers, the values of three inputs, and the function's
-/// value.
+/// Whether a row of a single value is right: numbers, the values of three inputs, and the
+/// function's value.
 fn is_single_right(alloc: Global, row: &str) -> bool {
     let values = [5, 6, 7].map(|index| number(row, index).unsigned_abs());
     row_value(alloc, row, &values) == Some(number(row, 8).unsigned_abs())
