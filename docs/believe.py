@@ -1,13 +1,24 @@
 #!/usr/bin/env python3
-"""Writes docs/BELIEVE.md: the definitions that the contract of `dsv_cli::run` cites, in reading order.
+"""Prints the definitions that the contract of `dsv_cli::run` and its laws cite, in reading order.
 
-It begins with the names in the clauses of `run` and goes on to those in each definition, so the list has all that a
-reader has to believe, and nothing else. Run it at the top of the repository: python3 docs/believe.py
+It begins with the names in the clauses of `run` and in those of the laws beside it, and goes on to those in each
+definition; then come the types of the code that these definitions are about. So the list has all that a reader has to
+believe, and nothing else. Run it at the top of the repository:
+
+    python3 docs/believe.py            prints the whole list
+    python3 docs/believe.py --page     writes docs/BELIEVE.md: the headline's definitions, and a count of the rest
+
+The glosses are from the comment above each definition. The page's order stands in PAGE below; a name there that the list
+doesn't have is an error, and a definition of the headline's files that isn't there is named all the same.
 """
 import os
 import re
+import sys
+import textwrap
 
 CONTRACT = "crates/dsv_cli/src/running.rt"
+LAWS = "crates/dsv_cli/src/law.rt"
+TYPE = re.compile(r"^((?:\s*///[^\n]*\n)*)(?:#\[[^\n]*\]\n)*pub (?:struct|enum|type|trait) (\w+)", re.M)
 DEFINITION = re.compile(r"^(?:abbrev pub|unfoldable pub|pub record|pub data|pub) ([^\s:({]+)")
 NAME = re.compile(r"[A-Za-z_][\w'-]*(?:\.[A-Za-z_][\w'-]*)?|◌[^\s◌]+◌")
 
@@ -75,20 +86,200 @@ def cited(body, names, aliases):
             yield names[head]
 
 
+def clauses_of(text, start):
+    """The clauses of the function that begins there."""
+    return text[start:text.index("\n{", start)]
+
+
 def roots():
-    with open(CONTRACT, encoding="utf-8") as source:
-        text = source.read()
-    names, aliases = imports_of(text)
-    clauses = text[text.index("pub fn run"):]
-    return list(cited(clauses[:clauses.index("\n{\n")], names, aliases))
+    found = []
+    for path, heads in ((CONTRACT, [r"pub fn run\b"]), (LAWS, [r"pub fn \w+"])):
+        with open(path, encoding="utf-8") as source:
+            text = source.read()
+        names, aliases = imports_of(text)
+        for head in heads:
+            for match in re.finditer(head, text):
+                found += cited(clauses_of(text, match.start()), names, aliases)
+    return found
+
+
+# ---- the types of the code
+
+def types_of(crate):
+    """The public types of a crate: for each its file, the first sentence of its comment, and its body."""
+    found = {}
+    folder = f"crates/{crate}/src"
+    for base, _, files in os.walk(folder):
+        for file in sorted(files):
+            if file.endswith(".rt"):
+                with open(os.path.join(base, file), encoding="utf-8") as source:
+                    text = source.read()
+                for match in TYPE.finditer(text):
+                    note = " ".join(line.strip()[3:].strip() for line in match.group(1).strip().split("\n"))
+                    rest = text[match.end():]
+                    end = min(k for k in (rest.find("\n}"), rest.find(";\n"), len(rest)) if k >= 0)
+                    found[match.group(2)] = (os.path.join(base, file), note, rest[:end])
+    return found
+
+
+def declared_type(module, name):
+    """The crate and the type that a declared module stands for."""
+    parts = module.split(".")
+    if "declared" not in parts:
+        return None
+    return parts[1], parts[-2] if parts[-1] == "TheVariants" else name
+
+
+def all_types(keys):
+    """The types that these names stand for, with the types in their fields."""
+    table = {crate: types_of(crate) for crate in sorted(os.listdir("crates")) if os.path.isdir(f"crates/{crate}/src")}
+    home = {}
+    for crate, types in table.items():
+        for name in types:
+            home.setdefault(name, []).append(crate)
+    queue = [found for key in keys if (found := declared_type(*key))]
+    seen = []
+    while queue:
+        crate, name = queue.pop(0)
+        if (crate, name) in seen or name not in table.get(crate, {}):
+            continue
+        seen.append((crate, name))
+        for word in re.findall(r"\b[A-Z]\w+", table[crate][name][2]):
+            if word in table[crate]:
+                queue.append((crate, word))
+            elif len(home.get(word, [])) == 1:
+                queue.append((home[word][0], word))
+    return [(table[crate][name][0], name, table[crate][name][1]) for crate, name in seen]
+
+
+def first_sentence(note):
+    return re.split(r"(?<=[.:;])\s", note)[0].rstrip(".:;")
+
+
+
+# ---- the page
+
+HEADLINE = ("Headline", "Proposers", "OneAnswer", "Completeness", "Accepted")
+LONG = 30
+PAGE = (
+    ("The call", "What `run` says of an answer, whatever the arguments, the files and the sink.",
+     "request_of Request IsExplained IsRow Row CameOf FilesSeen"),
+    ("The file", "What it means that a file's bytes are a controller, and what the controller is in words.",
+     "longest_file IsAccepted IsTextOf IsFaultOf ControllerView BecomesIn BecomesWords FixedPoint"),
+    ("Overflow, limit cycles, simulation", "What the answers on runs say, over the written equations.",
+     "equations_of rows Breaks Cycles IsSearch Happens NeverHappens IsTrace IsCycle GaveUp IsTooLarge IsFormulaOf "
+     "IsSeeking KeepsTo NoneIsGood IsRun IsRunOver"),
+    ("Stability, minimum phase, timing", "What the answers on polynomials and on time say.",
+     "IsTested tested_of ShowsFall StrictlyFallsAlong StrictlyFalls ShowsKeptAway IsKeptAwayAlong IsKeptAway "
+     "ShowsNoForm closed_form_of jury_of IsTimed IsTimingOf IsOnTime"),
+    ("Certificates, generated controllers", "What a check says, and what a tally says.",
+     "longest_certificate IsCheckOf Passes IsChecked HasShown IsShownOf IsFaulty IsRefusedAt IsOfGeneration "
+     "IsGeneratedFrom"),
+    ("What is written, and what stays", "The output, the status, and the files afterwards.",
+     "IsWritten output_of text_of IfWhole IsTyped AreKept"),
+    ("Proposers", "What becomes of the lists of objects that offer forms and sets.",
+     "IsAsked AreSetsAsked WantsForm WantsSet IfNoForm is_low"),
+    ("Three laws over the table", "What holds of all answers together.",
+     "HaveOneAnswer IsSettled SameAnswer AreDecided IsRefusedByNone IsVerdict WrittenAreAccepted IsAcceptance"),
+)
+
+
+def place_of(key):
+    _, crate, _, file = key[0].split(".")
+    return crate, file
+
+
+def is_of_headline(key):
+    crate, file = place_of(key)
+    return crate == "dsv_cli" and file in HEADLINE
+
+
+def gloss(note):
+    first = re.split(r"(?<=\.)\s", note)[0].rstrip(".")
+    return first[:1].upper() + first[1:] + "." if first else ""
+
+
+def wrapped(text):
+    return textwrap.fill(text, 120, subsequent_indent="  " if text.startswith("- ") else "", break_long_words=False,
+                         break_on_hyphens=False)
+
+
+def named(listed, name):
+    """The one definition of the list with this name, that of the headline's own files where several have it."""
+    keys = [key for key in listed if key[1] == name]
+    own = [key for key in keys if is_of_headline(key)]
+    if len(own or keys) != 1:
+        sys.exit(f"believe.py: {len(keys)} definitions of the list are named {name}")
+    return (own or keys)[0]
+
+
+def page(definitions, listed, types):
+    lines = [
+        "# What the headline asks one to believe",
+        "",
+        wrapped(f"The contract of `run` (`{CONTRACT}`) and its laws (`{LAWS}`) are proved; what they mean is what these "
+                "definitions say. Read them first, in this order; beside each stands what the comment above it says. "
+                "`python3 docs/believe.py` prints the whole list, which the table below counts; "
+                "`python3 docs/believe.py --page` makes this page anew from the sources."),
+        "",
+    ]
+    shown = set()
+    for title, intro, names in PAGE:
+        lines += [f"## {title}", "", intro, ""]
+        for name in names.split():
+            key = named(listed, name)
+            shown.add(key)
+            crate, file = place_of(key)
+            lines.append(wrapped(f"- `{name}` (`{crate}/specs/{file}`): {gloss(definitions[key][0])}"))
+        lines.append("")
+    rest = [key[1] for key in listed if key not in shown and is_of_headline(key)]
+    lines += [wrapped("The same files also have " + ", ".join(f"`{name}`" for name in rest) + "."), ""]
+    lines += ["## The rest, by crate", "", "| Crate | Definitions | Files | Types of the code |", "|---|---|---|---|"]
+    crates = {}
+    for key in listed:
+        crate, file = place_of(key)
+        crates.setdefault(crate, ([], set(), []))
+        crates[crate][0].append(key)
+        crates[crate][1].add(file)
+    for path, name, _ in types:
+        crate = path.split("/")[1]
+        crates.setdefault(crate, ([], set(), []))[2].append(name)
+    for crate in sorted(crates):
+        keys, files, its = crates[crate]
+        lines.append(f"| `{crate}` | {len(keys) or ''} | {len(files) or ''} | {len(its) or ''} |")
+    files = {key[0] for key in listed}
+    lines.append(f"| all | {len(listed)} | {len(files)} | {len(types)} |")
+    long = sorted(((definitions[key][1].rstrip().count("\n") + 1, key) for key in listed), reverse=True)
+    long = [f"`{key[1]}` ({count})" for count, key in long if count > LONG]
+    lines += ["", wrapped(f"Most definitions have a few lines; over {LONG} lines have " + ", ".join(long) + ". Proofs and "
+                          "private contracts cite more, which nobody has to believe.")]
+    return lines
+
+
+def whole(definitions, order, reached, listed, types):
+    lines = []
+    for module in reached:
+        _, crate, _, file = module.split(".")
+        lines += [f"## `{crate}/specs/{file}.antt`", ""]
+        for name in order[module]:
+            if (module, name) in listed:
+                first = first_sentence(definitions[(module, name)][0])
+                lines.append(f"- `{name}`" + (f": {first}" if first else ""))
+        lines.append("")
+    lines += ["## Types of the code", ""]
+    for path in sorted({path for path, _, _ in types}):
+        lines.append(f"- `{path[len('crates/'):]}`: " + ", ".join(f"`{name}`" for at, name, _ in types if at == path))
+    return lines + ["", f"{len(listed)} definitions in {len(reached)} files, and {len(types)} types."]
 
 
 def main():
     definitions, order = read_all()
-    seen, reached = set(), []
+    seen, reached, others = set(), [], []
     queue = roots()
     while queue:
         key = queue.pop(0)
+        if key not in definitions and key not in others:
+            others.append(key)
         if key in seen or key not in definitions:
             continue
         seen.add(key)
@@ -96,29 +287,13 @@ def main():
             reached.append(key[0])
         _, body, names, aliases = definitions[key]
         queue += cited(body, names, aliases)
-    lines = [
-        "# What the headline asks one to believe",
-        "",
-        f"The definitions that the contract of `run` (`{CONTRACT}`) cites, directly or through others, file by file, from the",
-        "table of answers downwards. Each is short and computes or is a relation; proofs and private contracts cite more, which",
-        "nobody has to believe. `python3 docs/believe.py` makes this list anew from the sources.",
-        "",
-    ]
-    count = 0
-    for module in reached:
-        _, crate, _, file = module.split(".")
-        lines.append(f"## `{crate}/specs/{file}.antt`")
-        lines.append("")
-        for name in order[module]:
-            if (module, name) in seen:
-                count += 1
-                note = definitions[(module, name)][0]
-                first = re.split(r"(?<=[.:;])\s", note)[0].rstrip(".:;")
-                lines.append(f"- `{name}`" + (f": {first}" if first else ""))
-        lines.append("")
-    lines.append(f"{count} definitions in {len(reached)} files.")
-    with open("docs/BELIEVE.md", "w", encoding="utf-8") as out:
-        out.write("\n".join(lines) + "\n")
+    listed = [(module, name) for module in reached for name in order[module] if (module, name) in seen]
+    types = all_types(others)
+    if sys.argv[1:] == ["--page"]:
+        with open("docs/BELIEVE.md", "w", encoding="utf-8") as out:
+            out.write("\n".join(page(definitions, listed, types)) + "\n")
+    else:
+        print("\n".join(whole(definitions, order, reached, set(listed), types)))
 
 
 if __name__ == "__main__":
