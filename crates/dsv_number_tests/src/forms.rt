@@ -128,16 +128,11 @@ const ORDER_TWO: [i64; 3] = [2, -2, 1];
 
 #[test]
 fn forms_of_orders_0_to_2_fall(rt: HostRuntime) {
-    let none = on_the_diagonal(0, &[], 0);
-    assert!(rt; is_accepted(&[5], &none, form(0, ZERO)));
-    assert!(rt;
-        is_accepted(
-            &[2, -1],
-            &on_the_diagonal(1, &[1], 3),
-            form(1, diagonal(&[3]))
-        )
-    );
-    assert!(rt; is_accepted(&ORDER_TWO, &of_order_two(), form(2, of_two(20, 0, 20))));
+    let first = on_the_diagonal(1, &[1], 3);
+    let zero_falls = is_accepted(&[5], &on_the_diagonal(0, &[], 0), form(0, ZERO));
+    let one_falls = is_accepted(&[2, -1], &first, form(1, diagonal(&[3])));
+    let two_falls = is_accepted(&ORDER_TWO, &of_order_two(), form(2, of_two(20, 0, 20)));
+    assert!(rt; zero_falls && one_falls && two_falls);
 }
 
 // At place i of d the form loses 4 P_i - 4 P_(i+1), and at the last 4 P_d - P_1.
@@ -146,76 +141,78 @@ fn forms_of_orders_3_and_8_fall(rt: HostRuntime) {
     let third = [3_145_728, 2_359_296, 1_572_864];
     let loss = [3_145_728; 3];
     let offer = on_the_diagonal(3, &third, 3_145_728);
-    assert!(rt; is_accepted(&[2, 0, 0, -1], &offer, form(3, diagonal(&loss))));
+    let three_falls = is_accepted(&[2, 0, 0, -1], &offer, form(3, diagonal(&loss)));
     let eighth = [32, 29, 26, 23, 20, 17, 14, 11];
     let offer = on_the_diagonal(8, &eighth, 12);
     let wanted = form(8, diagonal(&[12; 8]));
-    assert!(rt; is_accepted(&[2, 0, 0, 0, 0, 0, 0, 0, -1], &offer, wanted));
+    let eight_falls = is_accepted(&[2, 0, 0, 0, 0, 0, 0, 0, -1], &offer, wanted);
+    assert!(rt; three_falls && eight_falls);
 }
 
 #[test]
 fn the_form_and_the_multiple_are_tested_first(rt: HostRuntime) {
-    let mut offer = of_order_two();
-    offer.form.d = 1;
-    assert!(rt; is_refused(&ORDER_TWO, &offer, FormRefusal::Shape { part: Part::Form }));
-    let mut offer = of_order_two();
-    offer.form.rows[1][0] = 8;
-    assert!(rt; is_refused(&ORDER_TWO, &offer, FormRefusal::Shape { part: Part::Form }));
-    let mut offer = of_order_two();
-    offer.positive.m = 0;
-    offer.positive.weights[0] = 0;
-    assert!(rt;
-        is_refused(
-            &ORDER_TWO,
-            &offer,
-            FormRefusal::Shape {
-                part: Part::Positive
-            }
-        )
-    );
-    let mut offer = of_order_two();
-    offer.fall.rest[0][1] = 1;
-    assert!(rt; is_refused(&ORDER_TWO, &offer, FormRefusal::Shape { part: Part::Fall }));
+    let mut first = of_order_two();
+    first.form.d = 1;
+    let mut skew = of_order_two();
+    skew.form.rows[1][0] = 8;
+    let mut zero = of_order_two();
+    zero.positive.m = 0;
+    zero.positive.weights[0] = 0;
+    let mut rest = of_order_two();
+    rest.fall.rest[0][1] = 1;
+    let rows = [
+        (first, Part::Form),
+        (skew, Part::Form),
+        (zero, Part::Positive),
+        (rest, Part::Fall),
+    ];
+    for (offer, part) in &rows {
+        assert!(rt; is_refused(&ORDER_TWO, offer, FormRefusal::Shape { part: *part }));
+    }
 }
 
 #[test]
 fn weights_and_rows_are_refused(rt: HostRuntime) {
-    let mut offer = of_order_two();
-    offer.positive.weights[1] = 0;
-    offer.positive.rows[0][0] = 0;
     let part = Part::Positive;
-    assert!(rt; is_refused(&ORDER_TWO, &offer, FormRefusal::Weight { part, i: 1 }));
-    let mut offer = of_order_two();
-    offer.positive.rows[1][0] = 1;
-    assert!(rt; is_refused(&ORDER_TWO, &offer, FormRefusal::Triangle { part, i: 1 }));
-    let mut offer = of_order_two();
-    offer.fall.rows[0][0] = 0;
-    let part = Part::Fall;
-    assert!(rt; is_refused(&ORDER_TWO, &offer, FormRefusal::Triangle { part, i: 0 }));
+    let mut weight = of_order_two();
+    weight.positive.weights[1] = 0;
+    weight.positive.rows[0][0] = 0;
+    let mut lower = of_order_two();
+    lower.positive.rows[1][0] = 1;
+    let mut zero = of_order_two();
+    zero.fall.rows[0][0] = 0;
+    let fall = Part::Fall;
+    let rows = [
+        (weight, FormRefusal::Weight { part, i: 1 }),
+        (lower, FormRefusal::Triangle { part, i: 1 }),
+        (zero, FormRefusal::Triangle { part: fall, i: 0 }),
+    ];
+    for (offer, refusal) in &rows {
+        assert!(rt; is_refused(&ORDER_TWO, offer, *refusal));
+    }
 }
 
 // A number of 2^125 is not wide, twice it is.
 #[test]
 fn sides_are_refused(rt: HostRuntime) {
+    let part = Part::Positive;
     let mut offer = of_order_two();
     offer.positive.rows[0][1] = 2;
-    let part = Part::Positive;
-    assert!(rt;
-        is_refused(
-            &ORDER_TWO,
-            &offer,
-            FormRefusal::Identity { part, i: 0, j: 1 }
-        )
+    let identity = is_refused(
+        &ORDER_TWO,
+        &offer,
+        FormRefusal::Identity { part, i: 0, j: 1 },
     );
     let mut offer = of_order_two();
     offer.positive.rows[1][1] = 1 << 125;
-    assert!(rt; is_refused(&ORDER_TWO, &offer, FormRefusal::Wide { part, i: 1, j: 1 }));
+    let wide = is_refused(&ORDER_TWO, &offer, FormRefusal::Wide { part, i: 1, j: 1 });
     let mut offer = on_the_diagonal(1, &[1 << 125], 3);
     let part = Part::Fall;
-    assert!(rt; is_refused(&[2, -1], &offer, FormRefusal::Wide { part, i: 0, j: 0 }));
+    let wide_fall = is_refused(&[2, -1], &offer, FormRefusal::Wide { part, i: 0, j: 0 });
     offer.positive.rest[0][0] = -1;
     let part = Part::Positive;
-    assert!(rt; is_refused(&[2, -1], &offer, FormRefusal::Identity { part, i: 0, j: 0 }));
+    let lesser_rest = is_refused(&[2, -1], &offer, FormRefusal::Identity { part, i: 0, j: 0 });
+    assert!(rt; identity && wide && wide_fall && lesser_rest);
 }
 
 // 3 P = 2 (6x - 2y)^2 + 26 y^2 - y^2.
@@ -246,26 +243,34 @@ fn a_cycle_is_kept_away(rt: HostRuntime) {
 
 #[test]
 fn starts_and_weights_of_a_cycle_are_refused(rt: HostRuntime) {
-    let mut offer = of_a_cycle();
-    offer.start[0] = 0;
-    let refusal = FormRefusal::StartNotNegative { value: 0 };
-    assert!(rt; is_not_kept_away(&CYCLE, &offer, refusal));
-    let mut offer = of_a_cycle();
-    offer.form.rows = of_two(-2 << 64, 1 << 64, -2 << 64);
-    offer.start[0] = 1 << 32;
-    let wide = FormRefusal::Wide {
-        part: Part::Start,
-        i: 0,
-        j: 0,
-    };
-    assert!(rt; is_not_kept_away(&CYCLE, &offer, wide));
-    let mut offer = of_a_cycle();
-    offer.fall.count = 3;
+    let mut zero = of_a_cycle();
+    zero.start[0] = 0;
+    let mut wide = of_a_cycle();
+    wide.form.rows = of_two(-2 << 64, 1 << 64, -2 << 64);
+    wide.start[0] = 1 << 32;
+    let start = Part::Start;
     let part = Part::Fall;
-    assert!(rt; is_not_kept_away(&CYCLE, &offer, FormRefusal::Shape { part }));
-    offer.fall.count = 2;
-    offer.fall.weights[1] = -1;
-    assert!(rt; is_not_kept_away(&CYCLE, &offer, FormRefusal::Weight { part, i: 1 }));
+    let mut long = of_a_cycle();
+    long.fall.count = 3;
+    let mut negative = long;
+    negative.fall.count = 2;
+    negative.fall.weights[1] = -1;
+    let rows = [
+        (zero, FormRefusal::StartNotNegative { value: 0 }),
+        (
+            wide,
+            FormRefusal::Wide {
+                part: start,
+                i: 0,
+                j: 0,
+            },
+        ),
+        (long, FormRefusal::Shape { part }),
+        (negative, FormRefusal::Weight { part, i: 1 }),
+    ];
+    for (offer, refusal) in &rows {
+        assert!(rt; is_not_kept_away(&CYCLE, offer, *refusal));
+    }
 }
 
 const LEAST: Matrix = [[i128::MIN; GREATEST_ORDER]; GREATEST_ORDER];
@@ -289,17 +294,18 @@ fn the_least_numbers_are_refused(rt: HostRuntime) {
         fall: least_squares(i128::MIN),
     };
     let part = Part::Positive;
-    assert!(rt; is_refused(&ORDER_TWO, &offer, FormRefusal::Shape { part }));
+    let shape = is_refused(&ORDER_TWO, &offer, FormRefusal::Shape { part });
     offer.positive.m = 1;
-    assert!(rt; is_refused(&ORDER_TWO, &offer, FormRefusal::Weight { part, i: 0 }));
+    let weight = is_refused(&ORDER_TWO, &offer, FormRefusal::Weight { part, i: 0 });
     offer.positive = squares_of_places(2, &[1, 1]);
     offer.positive.rest = LEAST;
-    assert!(rt; is_refused(&ORDER_TWO, &offer, FormRefusal::Wide { part, i: 0, j: 0 }));
+    let wide = is_refused(&ORDER_TWO, &offer, FormRefusal::Wide { part, i: 0, j: 0 });
     let offer = KeptAway {
         form: form(2, LEAST),
         start: [i64::MIN; GREATEST_ORDER],
         fall: bare(LEAST),
     };
     let part = Part::Fall;
-    assert!(rt; is_not_kept_away(&CYCLE, &offer, FormRefusal::Wide { part, i: 0, j: 0 }));
+    let away = is_not_kept_away(&CYCLE, &offer, FormRefusal::Wide { part, i: 0, j: 0 });
+    assert!(rt; shape && weight && wide && away);
 }
