@@ -63,6 +63,33 @@ impl MemFiles {
     }
 }
 
+impl MemFiles {
+    ghost use Rattle.std.specs.Prelude.{◌≡◌, ◌≤◌, IsErr, IsErrOf, IfErr};
+    ghost use Rattle.dsv_base.specs.Counts.{Rose};
+    ghost use Rattle.dsv_base.specs.Held.{failed_fetch};
+    ghost use Rattle.dsv_base.specs.FilesView.{state_of};
+
+    /// Counts a fault and blames the name, or finds no memory for it.
+    fn fail(&mut self, name: &str) -> Result<usize, FetchEnd>
+        ensures err { IsErr result }
+        ensures state { IfErr result (λ end. state_of self.new
+            ≡ failed_fetch (state_of self.old) name.now end) }
+        ensures came { (state_of self.new).came ≡ (state_of self.old).came }
+        ensures faults { (state_of self.old).faults ≤ (state_of self.new).faults }
+        ensures failed { IsErrOf result FetchEnd.Failed
+            → Rose (state_of self.old).faults (state_of self.new).faults }
+    {
+        match String::from_str(self.alloc, name) {
+            Ok(blamed) => {
+                self.blamed = Some(blamed);
+                self.faults = self.faults.saturating_add(1);
+                Err(FetchEnd::Failed)
+            }
+            Err(_) => Err(FetchEnd::NoMemory),
+        }
+    }
+}
+
 impl Files for MemFiles {
     ghost use Rattle.std.specs.Prelude.{◌≡◌, ◌<◌, ◌≤◌, ◌^◌, not, is_ok, length};
     ghost use Rattle.std.specs.Prelude.{IfOk, OnOk, IfSome, IsErrOf, Some};
@@ -100,33 +127,6 @@ impl Files for MemFiles {
                 Ok(count)
             }
             None => self.fail(name),
-        }
-    }
-}
-
-impl MemFiles {
-    ghost use Rattle.std.specs.Prelude.{◌≡◌, ◌≤◌, IsErr, IsErrOf, IfErr};
-    ghost use Rattle.dsv_base.specs.Counts.{Rose};
-    ghost use Rattle.dsv_base.specs.Held.{failed_fetch};
-    ghost use Rattle.dsv_base.specs.FilesView.{state_of};
-
-    /// Counts a fault and blames the name, or finds no memory for it.
-    fn fail(&mut self, name: &str) -> Result<usize, FetchEnd>
-        ensures err { IsErr result }
-        ensures state { IfErr result (λ end. state_of self.new
-            ≡ failed_fetch (state_of self.old) name.now end) }
-        ensures came { (state_of self.new).came ≡ (state_of self.old).came }
-        ensures faults { (state_of self.old).faults ≤ (state_of self.new).faults }
-        ensures failed { IsErrOf result FetchEnd.Failed
-            → Rose (state_of self.old).faults (state_of self.new).faults }
-    {
-        match String::from_str(self.alloc, name) {
-            Ok(blamed) => {
-                self.blamed = Some(blamed);
-                self.faults = self.faults.saturating_add(1);
-                Err(FetchEnd::Failed)
-            }
-            Err(_) => Err(FetchEnd::NoMemory),
         }
     }
 }

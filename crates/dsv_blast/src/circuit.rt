@@ -94,6 +94,7 @@ impl Circuit {
         Ok(Lit::new(self.formula.fresh(), true))
     }
 
+    /// Three clauses: the output is true exactly where both inputs are.
     pub(crate) fn push_and(&mut self, a: Lit, b: Lit, output: Lit) -> Result<(), NoMemory>
         requires first { a.var < self.old.formula.vars }
         requires second { b.var < self.old.formula.vars }
@@ -105,6 +106,7 @@ impl Circuit {
         self.push(&[b, output.negation()])
     }
 
+    /// Four clauses: the output is true exactly where one input is and the other is not.
     pub(crate) fn push_exclusive(&mut self, a: Lit, b: Lit, output: Lit) -> Result<(), NoMemory>
         requires first { a.var < self.old.formula.vars }
         requires second { b.var < self.old.formula.vars }
@@ -117,6 +119,8 @@ impl Circuit {
         self.push(&[a, b.negation(), output])
     }
 
+    /// Four clauses: unless the first literal is true, the output is true exactly where one input
+    /// is and the other is not.
     pub(crate) fn push_exclusive_unless(
         &mut self,
         unless: Lit,
@@ -137,6 +141,7 @@ impl Circuit {
         self.push(&[unless, a, b.negation(), output])
     }
 
+    /// Three clauses: the output is true where two of the three inputs are.
     pub(crate) fn push_two_make(
         &mut self,
         a: Lit,
@@ -155,6 +160,8 @@ impl Circuit {
         self.push(&[b.negation(), c.negation(), output])
     }
 
+    /// Three clauses: the output is true where the chosen input is, `a` where the test is true and
+    /// else `b`.
     pub(crate) fn push_chosen_makes(
         &mut self,
         test: Lit,

@@ -7,6 +7,14 @@ use dsv_cnf::Lit;
 use std::alloc::Global;
 use std::marker::Model;
 
+fn piece(literals: &[Lit], start: usize, end: usize) -> &[Lit]
+    requires order { start ≤ end }
+    requires inside { end ≤ length literals.now }
+    ensures { result.now ≡ slice_range literals.now start end }
+{
+    &literals[start..end]
+}
+
 /// The literals of several words, each lowest bit first. Those of all words lie in one list, word
 /// after word; beside it stands where the first word begins and where each word ends.
 #[derive(Drop)]
@@ -65,12 +73,4 @@ impl BitPlaces {
         prove!(i < words);
         piece(self.literals.as_slice(), self.bounds[i], self.bounds[i + 1])
     }
-}
-
-fn piece(literals: &[Lit], start: usize, end: usize) -> &[Lit]
-    requires order { start ≤ end }
-    requires inside { end ≤ length literals.now }
-    ensures { result.now ≡ slice_range literals.now start end }
-{
-    &literals[start..end]
 }

@@ -11,6 +11,7 @@ const CONTROLLER: &str =
     "digital_system d = { .b = {0.5, 0.0, -0.5}, .b_size = 3, .a = {1.0, -0.5, 0.5}, .a_size = 3 };
 implementation r = { .int_bits = 2, .frac_bits = 1, .max = 1.0, .min = -1.0, .delta = 1.0 };";
 
+/// Every realisation: the direct forms, and then the same in the delta operator.
 pub(crate) const REALISATIONS: [Realisation; 6] = [
     Realisation::Dfi,
     Realisation::Dfii,

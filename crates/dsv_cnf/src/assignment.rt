@@ -40,6 +40,7 @@ impl Assignment {
         self.values.len() as u32
     }
 
+    /// The value of the variable with this number, from 0 on.
     pub fn get(&self, var: u32) -> bool
         requires { var < length self.now }
         ensures { result ≡ assignment_of self.now var }
@@ -47,6 +48,7 @@ impl Assignment {
         self.values[var as usize]
     }
 
+    /// Gives the variable with this number, from 0 on, this value.
     pub fn set(&mut self, var: u32, value: bool)
         requires { var < length self.old }
         ensures { self.new ≡ slice_set self.old var value }

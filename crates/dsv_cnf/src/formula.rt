@@ -8,6 +8,14 @@ use dsv_base::NoMemory;
 use std::alloc::Global;
 use std::marker::Model;
 
+fn piece(literals: &[Lit], start: usize, end: usize) -> &[Lit]
+    requires order { start ≤ end }
+    requires inside { end ≤ length literals.now }
+    ensures { result.now ≡ slice_range literals.now start end }
+{
+    &literals[start..end]
+}
+
 /// Clauses over numbered variables. The literals of all clauses lie in one list, clause after
 /// clause. Beside it stands where the first clause begins and where each clause ends.
 #[derive(Drop)]
@@ -92,12 +100,4 @@ impl Formula {
         self.vars += 1;
         var
     }
-}
-
-fn piece(literals: &[Lit], start: usize, end: usize) -> &[Lit]
-    requires order { start ≤ end }
-    requires inside { end ≤ length literals.now }
-    ensures { result.now ≡ slice_range literals.now start end }
-{
-    &literals[start..end]
 }

@@ -33,6 +33,7 @@ impl Lit {
         Lit(if positive { 2 * var } else { 2 * var + 1 })
     }
 
+    /// The number of the variable, from 0 on and below 2^31.
     pub fn var(&self) -> u32
         ensures value { result ≡ self.now.var }
         ensures small { result < 2 ^ 31 }
@@ -40,12 +41,14 @@ impl Lit {
         self.0 / 2
     }
 
+    /// Whether it is the variable itself, and not its negation.
     pub fn positive(&self) -> bool
         ensures { result ≡ self.now.positive }
     {
         self.0 % 2 == 0
     }
 
+    /// The literal that is true where this one is false.
     pub fn negation(&self) -> Self
         ensures { result ≡ negation self.now }
     {

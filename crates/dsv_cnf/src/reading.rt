@@ -54,30 +54,6 @@ impl<T: Drop> From<AllocFailed<T>> for CnfRefusal {
     }
 }
 
-/// Reads DIMACS text: comment lines, the header `p cnf V C`, and C clauses over V variables, each
-/// ended by 0. It takes time in proportion to the text.
-///
-/// A text of a formula is comment lines, its header line and, between blanks, the literals of each
-/// clause with a 0 after them; exactly these texts are read, each to its one formula
-/// ([`texts_are_read`](crate::texts_are_read)). An `Err` names the one fault of a text that is of no
-/// formula, or there was no memory.
-pub fn read_dimacs(alloc: Global, bytes: &[u8]) -> Result<Formula, CnfRefusal>
-    ensures ok { IfOk result (λ f. reading bytes.now ≡ Ok f) }
-    ensures text { IfOk result (λ f. IsTextOf f bytes.now) }
-    ensures refused { IfErr result (IsRefusal (reading bytes.now)) }
-    ensures fault { IfErr result (IsRefusalOf bytes.now) }
-{
-    let header = read_header(bytes, comments_end(bytes))?;
-    let mut reading = Reading {
-        formula: Formula::new(alloc, header.vars)?,
-        wanted: header.clauses,
-        open: Vec::new(alloc),
-        over: false,
-    };
-    read_clauses(&mut reading, bytes, header.end)?;
-    reading.finish(bytes.len())
-}
-
 // ---- the header
 
 fn comments_end(bytes: &[u8]) -> usize
@@ -95,31 +71,6 @@ fn comments_end(bytes: &[u8]) -> usize
         }
     }
     bytes.len()
-}
-
-/// The numbers of the header, and where it ends.
-#[derive(Clone, Copy)]
-struct Header {
-    vars: u32,
-    clauses: u32,
-    end: usize,
-}
-
-fn read_header(bytes: &[u8], at: usize) -> Result<Header, CnfRefusal>
-    requires { at ≤ length bytes.now }
-    ensures header { result ≡ header_of bytes.now at }
-    ensures small { IfOk result (λ h. (h.vars ≤ 2 ^ 31) × (h.end ≤ length bytes.now)) }
-{
-    let at = word_end(bytes, at, b"p cnf ")?;
-    let vars = number_end(bytes, at, 1 << 31)?;
-    let at = word_end(bytes, vars.end, b" ")?;
-    let clauses = number_end(bytes, at, u32::MAX)?;
-    let end = word_end(bytes, clauses.end, b"\n")?;
-    Ok(Header {
-        vars: vars.value,
-        clauses: clauses.value,
-        end,
-    })
 }
 
 fn word_end(bytes: &[u8], at: usize, word: &[u8]) -> Result<usize, CnfRefusal>
@@ -178,6 +129,31 @@ fn number_end(bytes: &[u8], at: usize, limit: u32) -> Result<Number, CnfRefusal>
     })
 }
 
+/// The numbers of the header, and where it ends.
+#[derive(Clone, Copy)]
+struct Header {
+    vars: u32,
+    clauses: u32,
+    end: usize,
+}
+
+fn read_header(bytes: &[u8], at: usize) -> Result<Header, CnfRefusal>
+    requires { at ≤ length bytes.now }
+    ensures header { result ≡ header_of bytes.now at }
+    ensures small { IfOk result (λ h. (h.vars ≤ 2 ^ 31) × (h.end ≤ length bytes.now)) }
+{
+    let at = word_end(bytes, at, b"p cnf ")?;
+    let vars = number_end(bytes, at, 1 << 31)?;
+    let at = word_end(bytes, vars.end, b" ")?;
+    let clauses = number_end(bytes, at, u32::MAX)?;
+    let end = word_end(bytes, clauses.end, b"\n")?;
+    Ok(Header {
+        vars: vars.value,
+        clauses: clauses.value,
+        end,
+    })
+}
+
 // ---- the clauses
 
 /// What stands between two blanks.
@@ -212,6 +188,19 @@ fn number_of(text: &[u8], limit: u32) -> Option<u32>
     Some(value)
 }
 
+fn part_of_number(number: u32, positive: bool) -> Part
+    requires { number ≤ 2 ^ 31 }
+    ensures { result ≡ part_of_number positive (Some number) }
+{
+    if number > 0 {
+        Part::Is(Lit::new(number - 1, positive))
+    } else if positive {
+        Part::End
+    } else {
+        Part::Wrong
+    }
+}
+
 fn part_of(text: &[u8], vars: u32) -> Part
     requires { vars ≤ 2 ^ 31 }
     ensures value { result ≡ part_of vars text.now }
@@ -225,19 +214,6 @@ fn part_of(text: &[u8], vars: u32) -> Part
     match number_of(digits, vars) {
         None => Part::Wrong,
         Some(n) => part_of_number(n, positive),
-    }
-}
-
-fn part_of_number(number: u32, positive: bool) -> Part
-    requires { number ≤ 2 ^ 31 }
-    ensures { result ≡ part_of_number positive (Some number) }
-{
-    if number > 0 {
-        Part::Is(Lit::new(number - 1, positive))
-    } else if positive {
-        Part::End
-    } else {
-        Part::Wrong
     }
 }
 
@@ -264,6 +240,18 @@ impl Model for Reading {
 }
 
 impl Reading {
+    fn end_clause(&mut self) -> Result<(), NoMemory>
+        ensures { OnOk result (self.new ≡ end_clause self.old) }
+    {
+        if self.formula.len() < self.wanted {
+            self.formula.push_clause(self.open.as_slice())?;
+        } else {
+            self.over = true;
+        }
+        self.open.clear();
+        Ok(())
+    }
+
     /// Takes what stands between two blanks, the first byte of it at this offset.
     fn take(&mut self, text: &[u8], at: usize) -> Result<(), CnfRefusal>
         ensures ok { OnOk result (take_part self.old text.now at ≡ Ok self.new) }
@@ -275,18 +263,6 @@ impl Reading {
             Part::Is(literal) => Ok(self.open.push(literal)?),
             Part::Wrong => Err(CnfRefusal::Literal { at: at as u64 }),
         }
-    }
-
-    fn end_clause(&mut self) -> Result<(), NoMemory>
-        ensures { OnOk result (self.new ≡ end_clause self.old) }
-    {
-        if self.formula.len() < self.wanted {
-            self.formula.push_clause(self.open.as_slice())?;
-        } else {
-            self.over = true;
-        }
-        self.open.clear();
-        Ok(())
     }
 
     /// The formula, where the text ends at this offset.
@@ -315,4 +291,30 @@ fn read_clauses(reading: &mut Reading, bytes: &[u8], from: usize) -> Result<(), 
         }
     }
     reading.take(&bytes[start..], start)
+}
+
+// ---- the formula
+
+/// Reads DIMACS text: comment lines, the header `p cnf V C`, and C clauses over V variables, each
+/// ended by 0. It takes time in proportion to the text.
+///
+/// A text of a formula is comment lines, its header line and, between blanks, the literals of each
+/// clause with a 0 after them; exactly these texts are read, each to its one formula
+/// ([`texts_are_read`](crate::texts_are_read)). An `Err` names the one fault of a text that is of
+/// no formula, or there was no memory.
+pub fn read_dimacs(alloc: Global, bytes: &[u8]) -> Result<Formula, CnfRefusal>
+    ensures ok { IfOk result (λ f. reading bytes.now ≡ Ok f) }
+    ensures text { IfOk result (λ f. IsTextOf f bytes.now) }
+    ensures refused { IfErr result (IsRefusal (reading bytes.now)) }
+    ensures fault { IfErr result (IsRefusalOf bytes.now) }
+{
+    let header = read_header(bytes, comments_end(bytes))?;
+    let mut reading = Reading {
+        formula: Formula::new(alloc, header.vars)?,
+        wanted: header.clauses,
+        open: Vec::new(alloc),
+        over: false,
+    };
+    read_clauses(&mut reading, bytes, header.end)?;
+    reading.finish(bytes.len())
 }

@@ -90,6 +90,58 @@ impl Frac {
     ghost use Rattle.dsv_fraction.specs.Arithmetic.{bounded_ratio, sum_of, difference_of};
     ghost use Rattle.dsv_fraction.specs.Parts.{ArePartsOf, AreCoprime, differ};
 
+    fn den_size(&self) -> u128
+        ensures value { result ≡ self.now.den }
+        ensures positive { 0 < result }
+        ensures narrow { result < part_limit }
+    {
+        self.den.unsigned_abs()
+    }
+
+    fn parts(&self) -> Parts
+        ensures { ArePartsOf self.now result.negative result.num result.den }
+    {
+        Parts {
+            negative: self.num < 0,
+            num: self.num.unsigned_abs(),
+            den: self.den.unsigned_abs(),
+        }
+    }
+
+    /// The fraction of these sizes, which have no common factor and are below 2^127, negative or
+    /// not.
+    fn of_sizes(negative: bool, num: u128, den: u128) -> Frac
+        requires coprime { AreCoprime num den }
+        requires narrow_num { num < part_limit }
+        requires narrow_den { den < part_limit }
+        ensures { result ≡ record { num = with_sign negative num; den = den } }
+    {
+        Frac {
+            num: with_sign(negative, num),
+            den: with_sign(false, den),
+        }
+    }
+
+    /// The fraction of these sizes, which have no common factor, negative or not.
+    fn exact(negative: bool, num: u128, den: u128) -> Result<Frac, TooWide>
+        requires { AreCoprime num den }
+        ensures { result ≡ bounded_ratio (record { num = with_sign negative num; den = den }) }
+    {
+        if num >= PART_LIMIT || den >= PART_LIMIT {
+            return Err(TooWide);
+        }
+        Ok(Frac::of_sizes(negative, num, den))
+    }
+
+    /// The fraction of these sizes in lowest terms, negative or not.
+    fn bounded_fraction(negative: bool, num: u128, den: u128) -> Result<Frac, TooWide>
+        requires { 0 < den }
+        ensures { result ≡ bounded_ratio (in_lowest_terms (with_sign negative num) den) }
+    {
+        let parts = cancel(num, den);
+        Frac::exact(negative, parts.num, parts.den)
+    }
+
     /// The fraction `num / den` in lowest terms, or TooWide where a part of it has a size of 2^127
     /// or more.
     pub fn new(num: i128, den: i128) -> Result<Frac, TooWide>
@@ -125,6 +177,51 @@ impl Frac {
         ensures lowest { IsLowest self.now }
     {
         (self.num, self.den)
+    }
+
+    /// The whole number of that size, negative or not.
+    pub(crate) fn whole(negative: bool, size: u128) -> Frac
+        requires { size < part_limit }
+        ensures { result ≡ record { num = with_sign negative size; den = 1 } }
+    {
+        Frac::of_sizes(negative, size, 1)
+    }
+
+    /// One tenth.
+    pub(crate) fn tenth() -> Frac
+        ensures { result ≡ record { num = pos 1; den = 10 } }
+    {
+        Frac::of_sizes(false, 1, 10)
+    }
+
+    /// The fraction of these parts in lowest terms.
+    fn in_lowest_terms(num: i128, den: u128) -> Frac
+        requires positive { 0 < den }
+        requires narrow_num { unsigned_abs num < part_limit }
+        requires narrow_den { den < part_limit }
+        ensures { result ≡ in_lowest_terms num den }
+    {
+        let parts = cancel(num.unsigned_abs(), den);
+        Frac::of_sizes(num < 0, parts.num, parts.den)
+    }
+
+    /// The product of two fractions. What they have in common crosswise goes before the
+    /// multiplication, so a product that doesn't fit here doesn't fit in lowest terms.
+    fn product_of(own: Parts, its: Parts) -> Result<Frac, TooWide>
+        requires own { AreCoprime own.num own.den }
+        requires its { AreCoprime its.num its.den }
+        ensures { let num = with_sign (differ own.negative its.negative) (own.num * its.num) in
+            result ≡ bounded_ratio (in_lowest_terms num (own.den * its.den)) }
+    {
+        let first = cancel(own.num, its.den);
+        let second = cancel(its.num, own.den);
+        let Some(num) = first.num.checked_mul(second.num) else {
+            return Err(TooWide);
+        };
+        let Some(den) = second.den.checked_mul(first.den) else {
+            return Err(TooWide);
+        };
+        Frac::exact(own.negative != its.negative, num, den)
     }
 
     /// The product.
@@ -168,6 +265,14 @@ impl Frac {
         Ok(Frac::in_lowest_terms(sum(left, right)?, den))
     }
 
+    /// The fraction of the other sign.
+    fn neg(&self) -> Frac
+        ensures { result ≡ opposite self.now }
+    {
+        let parts = self.parts();
+        Frac::of_sizes(!parts.negative, parts.num, parts.den)
+    }
+
     /// The difference.
     pub fn sub(&self, other: &Frac) -> Result<Frac, TooWide>
         ensures exact { result ≡ difference_of self.now other.now }
@@ -189,110 +294,6 @@ impl Frac {
             (true, true) => compare_ratios(its.num, its.den, own.num, own.den),
             (true, false) => Ordering::Less,
             (false, true) => Ordering::Greater,
-        }
-    }
-
-    /// The fraction of the other sign.
-    fn neg(&self) -> Frac
-        ensures { result ≡ opposite self.now }
-    {
-        let parts = self.parts();
-        Frac::of_sizes(!parts.negative, parts.num, parts.den)
-    }
-
-    /// The whole number of that size, negative or not.
-    pub(crate) fn whole(negative: bool, size: u128) -> Frac
-        requires { size < part_limit }
-        ensures { result ≡ record { num = with_sign negative size; den = 1 } }
-    {
-        Frac::of_sizes(negative, size, 1)
-    }
-
-    /// One tenth.
-    pub(crate) fn tenth() -> Frac
-        ensures { result ≡ record { num = pos 1; den = 10 } }
-    {
-        Frac::of_sizes(false, 1, 10)
-    }
-
-    fn den_size(&self) -> u128
-        ensures value { result ≡ self.now.den }
-        ensures positive { 0 < result }
-        ensures narrow { result < part_limit }
-    {
-        self.den.unsigned_abs()
-    }
-
-    fn parts(&self) -> Parts
-        ensures { ArePartsOf self.now result.negative result.num result.den }
-    {
-        Parts {
-            negative: self.num < 0,
-            num: self.num.unsigned_abs(),
-            den: self.den.unsigned_abs(),
-        }
-    }
-
-    /// The product of two fractions. What they have in common crosswise goes before the
-    /// multiplication, so a product that doesn't fit here doesn't fit in lowest terms.
-    fn product_of(own: Parts, its: Parts) -> Result<Frac, TooWide>
-        requires own { AreCoprime own.num own.den }
-        requires its { AreCoprime its.num its.den }
-        ensures { let num = with_sign (differ own.negative its.negative) (own.num * its.num) in
-            result ≡ bounded_ratio (in_lowest_terms num (own.den * its.den)) }
-    {
-        let first = cancel(own.num, its.den);
-        let second = cancel(its.num, own.den);
-        let Some(num) = first.num.checked_mul(second.num) else {
-            return Err(TooWide);
-        };
-        let Some(den) = second.den.checked_mul(first.den) else {
-            return Err(TooWide);
-        };
-        Frac::exact(own.negative != its.negative, num, den)
-    }
-
-    /// The fraction of these sizes in lowest terms, negative or not.
-    fn bounded_fraction(negative: bool, num: u128, den: u128) -> Result<Frac, TooWide>
-        requires { 0 < den }
-        ensures { result ≡ bounded_ratio (in_lowest_terms (with_sign negative num) den) }
-    {
-        let parts = cancel(num, den);
-        Frac::exact(negative, parts.num, parts.den)
-    }
-
-    /// The fraction of these parts in lowest terms.
-    fn in_lowest_terms(num: i128, den: u128) -> Frac
-        requires positive { 0 < den }
-        requires narrow_num { unsigned_abs num < part_limit }
-        requires narrow_den { den < part_limit }
-        ensures { result ≡ in_lowest_terms num den }
-    {
-        let parts = cancel(num.unsigned_abs(), den);
-        Frac::of_sizes(num < 0, parts.num, parts.den)
-    }
-
-    /// The fraction of these sizes, which have no common factor, negative or not.
-    fn exact(negative: bool, num: u128, den: u128) -> Result<Frac, TooWide>
-        requires { AreCoprime num den }
-        ensures { result ≡ bounded_ratio (record { num = with_sign negative num; den = den }) }
-    {
-        if num >= PART_LIMIT || den >= PART_LIMIT {
-            return Err(TooWide);
-        }
-        Ok(Frac::of_sizes(negative, num, den))
-    }
-
-    /// The same of sizes that are known to be below 2^127.
-    fn of_sizes(negative: bool, num: u128, den: u128) -> Frac
-        requires coprime { AreCoprime num den }
-        requires narrow_num { num < part_limit }
-        requires narrow_den { den < part_limit }
-        ensures { result ≡ record { num = with_sign negative num; den = den } }
-    {
-        Frac {
-            num: with_sign(negative, num),
-            den: with_sign(false, den),
         }
     }
 }

@@ -20,6 +20,7 @@ fn number_in_bounds(number: i128) -> Result<i128, TooWide>
     }
 }
 
+/// The product, or TooWide where its size is 2^127 or more.
 pub(crate) fn product(a: i128, b: i128) -> Result<i128, TooWide>
     ensures value { result ≡ bounded_whole (a *ℤ b) }
     ensures narrow { IfOk result (λ z. unsigned_abs z < part_limit) }
@@ -30,6 +31,7 @@ pub(crate) fn product(a: i128, b: i128) -> Result<i128, TooWide>
     }
 }
 
+/// The sum, or TooWide where its size is 2^127 or more.
 pub(crate) fn sum(a: i128, b: i128) -> Result<i128, TooWide>
     ensures value { result ≡ bounded_whole (a +ℤ b) }
     ensures narrow { IfOk result (λ z. unsigned_abs z < part_limit) }
@@ -40,6 +42,7 @@ pub(crate) fn sum(a: i128, b: i128) -> Result<i128, TooWide>
     }
 }
 
+/// The product of two sizes, or TooWide where it is 2^127 or more; it is positive where both are.
 #[tactic(auto, using(crate::proofs::Gcds::positive_product))]
 pub(crate) fn size_product(a: u128, b: u128) -> Result<u128, TooWide>
     ensures value { result ≡ bounded_size (a * b) }

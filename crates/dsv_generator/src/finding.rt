@@ -29,6 +29,7 @@ pub enum RootFinding {
 }
 
 impl RootFinding {
+    /// Whether the closed form falls along every trajectory.
     pub(crate) fn does_fall(self) -> bool
         ensures { result ≡ does_fall self }
     {
@@ -51,18 +52,21 @@ pub enum RunFinding {
 }
 
 impl RunFinding {
+    /// Whether no inputs overflow.
     pub(crate) fn is_never(&self) -> bool
         ensures { result ≡ is_never self.now }
     {
         matches!(self, RunFinding::Never(_))
     }
 
+    /// Whether some inputs overflow, with a run that shows it.
     pub(crate) fn is_overflow(&self) -> bool
         ensures { result ≡ is_overflow self.now }
     {
         matches!(self, RunFinding::Overflow(_))
     }
 
+    /// Whether the search gave up, so that nothing is known.
     pub(crate) fn is_spent(&self) -> bool
         ensures { result ≡ is_spent self.now }
     {

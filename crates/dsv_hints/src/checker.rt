@@ -18,6 +18,38 @@ use dsv_cnf::{Formula, Lit};
 use std::alloc::Global;
 use std::marker::Model;
 
+/// The clauses of the formula, with the ids from 1 on.
+fn store_of(alloc: Global, formula: &Formula) -> Result<Store, NoMemory>
+    ensures { IfOk result (λ s. s ≡ start_store formula.now) }
+{
+    let mut store = Store::new(alloc, formula.vars());
+    for i in 0..formula.len() {
+        let clause = formula.clause(i);
+        store.reserve(1, clause.len())?;
+        store.push(u64::from(i) + 1, clause);
+    }
+    Ok(store)
+}
+
+fn are_live(store: &Store, ids: &[u64]) -> bool
+    ensures { result ≡ all_live store.now.live ids.now }
+{
+    for id in ids {
+        if !store.is_live(*id) {
+            return false;
+        }
+    }
+    true
+}
+
+fn remove_all(store: &mut Store, ids: &[u64])
+    ensures { store.new ≡ record store.old { live = without_all store.old.live ids.now } }
+{
+    for id in ids {
+        store.remove(*id);
+    }
+}
+
 /// What is carried along a log, and the room for steps that is kept free. Contracts see both.
 #[derive(Drop)]
 pub struct Checker {
@@ -73,29 +105,6 @@ impl Checker {
         self.ended
     }
 
-    /// Takes a step, or says why not and is unchanged. It takes no memory.
-    pub fn take(&mut self, step: &Step) -> Result<(), StepRefusal>
-        requires steps { 1 ≤ self.old.spare_steps }
-        requires literals { added_literals step.now ≤ self.old.spare_literals }
-        ensures answer { result ≡ step_answer self.old.carried step.now }
-        ensures taken { OnOk result (self.new.carried ≡ after self.old.carried step.now) }
-        ensures refused { OnErr result (self.new ≡ self.old) }
-        ensures steps { self.old.spare_steps ≤ self.new.spare_steps + 1 }
-        ensures literals { self.old.spare_literals
-            ≤ self.new.spare_literals + added_literals step.now }
-        ensures sound { OnOk result (
-            (cs : List (List Literal)) → Follows cs self.old.carried
-            → Follows cs self.new.carried) }
-    {
-        if self.ended {
-            return Err(StepRefusal::NotEmpty);
-        }
-        match step {
-            Step::Add { id, lits, hints } => self.add(*id, lits.as_slice(), hints.as_slice()),
-            Step::Delete { ids, .. } => self.delete(ids.as_slice()),
-        }
-    }
-
     fn add(&mut self, id: u64, clause: &[Lit], hints: &[u64]) -> Result<(), StepRefusal>
         requires steps { 1 ≤ self.old.spare_steps }
         requires literals { length clause.now ≤ self.old.spare_literals }
@@ -121,6 +130,29 @@ impl Checker {
         }
         remove_all(&mut self.store, ids);
         Ok(())
+    }
+
+    /// Takes a step, or says why not and is unchanged. It takes no memory.
+    pub fn take(&mut self, step: &Step) -> Result<(), StepRefusal>
+        requires steps { 1 ≤ self.old.spare_steps }
+        requires literals { added_literals step.now ≤ self.old.spare_literals }
+        ensures answer { result ≡ step_answer self.old.carried step.now }
+        ensures taken { OnOk result (self.new.carried ≡ after self.old.carried step.now) }
+        ensures refused { OnErr result (self.new ≡ self.old) }
+        ensures steps { self.old.spare_steps ≤ self.new.spare_steps + 1 }
+        ensures literals { self.old.spare_literals
+            ≤ self.new.spare_literals + added_literals step.now }
+        ensures sound { OnOk result (
+            (cs : List (List Literal)) → Follows cs self.old.carried
+            → Follows cs self.new.carried) }
+    {
+        if self.ended {
+            return Err(StepRefusal::NotEmpty);
+        }
+        match step {
+            Step::Add { id, lits, hints } => self.add(*id, lits.as_slice(), hints.as_slice()),
+            Step::Delete { ids, .. } => self.delete(ids.as_slice()),
+        }
     }
 }
 
@@ -148,36 +180,4 @@ pub fn check(alloc: Global, formula: &Formula, log: &Log) -> Result<Verdict, NoM
         step: log.as_slice().len() as u32,
         why: StepRefusal::NotEmpty,
     })
-}
-
-/// The clauses of the formula, with the ids from 1 on.
-fn store_of(alloc: Global, formula: &Formula) -> Result<Store, NoMemory>
-    ensures { IfOk result (λ s. s ≡ start_store formula.now) }
-{
-    let mut store = Store::new(alloc, formula.vars());
-    for i in 0..formula.len() {
-        let clause = formula.clause(i);
-        store.reserve(1, clause.len())?;
-        store.push(u64::from(i) + 1, clause);
-    }
-    Ok(store)
-}
-
-fn are_live(store: &Store, ids: &[u64]) -> bool
-    ensures { result ≡ all_live store.now.live ids.now }
-{
-    for id in ids {
-        if !store.is_live(*id) {
-            return false;
-        }
-    }
-    true
-}
-
-fn remove_all(store: &mut Store, ids: &[u64])
-    ensures { store.new ≡ record store.old { live = without_all store.old.live ids.now } }
-{
-    for id in ids {
-        store.remove(*id);
-    }
 }

@@ -77,34 +77,6 @@ fn take_hints(store: &Store, set: &mut LiteralSet, hints: &[u64]) -> Result<(), 
     Err(StepRefusal::NoConflict)
 }
 
-/// Tests an added clause and its hints, with an empty set, and leaves what it marked.
-pub(crate) fn test_clause(
-    store: &Store,
-    set: &mut LiteralSet,
-    id: u64,
-    clause: &[Lit],
-    hints: &[u64],
-) -> Result<(), StepRefusal>
-    requires vars { set.old.vars ≡ store.now.vars }
-    requires empty { set_of set.old ≡ none }
-    ensures answer { result ≡ clause_answer store.now.vars store.now.last store.now.live id
-        clause.now hints.now }
-    ensures over { OnOk result (IsOver store.now.vars clause.now) }
-    ensures vars { set.new.vars ≡ set.old.vars }
-{
-    if !store.is_after(id) {
-        return Err(StepRefusal::IdOrder);
-    }
-    if !is_over(clause, store.vars()) {
-        return Err(StepRefusal::Literal);
-    }
-    insert_all(set, clause);
-    if has_negation(set, clause) {
-        return Err(StepRefusal::Tautology);
-    }
-    take_hints(store, set, hints)
-}
-
 fn is_over(clause: &[Lit], vars: u32) -> bool
     ensures { result ≡ is_over vars clause.now }
 {
@@ -137,4 +109,32 @@ fn has_negation(set: &LiteralSet, clause: &[Lit]) -> bool
         }
     }
     false
+}
+
+/// Tests an added clause and its hints, with an empty set, and leaves what it marked.
+pub(crate) fn test_clause(
+    store: &Store,
+    set: &mut LiteralSet,
+    id: u64,
+    clause: &[Lit],
+    hints: &[u64],
+) -> Result<(), StepRefusal>
+    requires vars { set.old.vars ≡ store.now.vars }
+    requires empty { set_of set.old ≡ none }
+    ensures answer { result ≡ clause_answer store.now.vars store.now.last store.now.live id
+        clause.now hints.now }
+    ensures over { OnOk result (IsOver store.now.vars clause.now) }
+    ensures vars { set.new.vars ≡ set.old.vars }
+{
+    if !store.is_after(id) {
+        return Err(StepRefusal::IdOrder);
+    }
+    if !is_over(clause, store.vars()) {
+        return Err(StepRefusal::Literal);
+    }
+    insert_all(set, clause);
+    if has_negation(set, clause) {
+        return Err(StepRefusal::Tautology);
+    }
+    take_hints(store, set, hints)
 }

@@ -29,6 +29,7 @@ impl Model for LiteralSet {
 }
 
 impl LiteralSet {
+    /// No literals, over so many variables, at most 2^31.
     pub fn new(alloc: Global, vars: u32) -> Result<Self, NoMemory>
         requires { vars ≤ 2 ^ 31 }
         ensures { IfOk result (λ s. s ≡ empty_set vars) }
@@ -40,6 +41,7 @@ impl LiteralSet {
         })
     }
 
+    /// Whether a literal, of one of the set's variables, is in the set.
     pub fn contains(&self, literal: Lit) -> bool
         requires { literal.var < self.now.vars }
         ensures { result ≡ set_of self.now literal }
@@ -47,6 +49,7 @@ impl LiteralSet {
         self.marks[literal.code() as usize] == self.round
     }
 
+    /// Adds a literal, of one of the set's variables. It takes no memory.
     pub fn insert(&mut self, literal: Lit)
         requires { literal.var < self.old.vars }
         ensures vars { self.new.vars ≡ self.old.vars }
@@ -55,6 +58,7 @@ impl LiteralSet {
         self.marks[literal.code() as usize] = self.round;
     }
 
+    /// Takes all literals out. The marks are written anew only once in 2^32 - 1 rounds.
     pub fn clear(&mut self)
         ensures { self.new ≡ empty_set self.old.vars }
     {

@@ -22,6 +22,7 @@ impl Model for LitList {
 }
 
 impl LitList {
+    /// A copy of these literals, in their order.
     pub fn from_slice(alloc: Global, lits: &[Lit]) -> Result<Self, NoMemory>
         ensures { IfOk result (λ list. list ≡ lits.now) }
     {
@@ -30,6 +31,7 @@ impl LitList {
         })
     }
 
+    /// The literals, in order.
     pub fn as_slice(&self) -> &[Lit]
         ensures { result.now ≡ self.now }
     {
@@ -60,6 +62,7 @@ impl Model for HintList {
 }
 
 impl HintList {
+    /// A copy of these ids, in their order.
     pub fn from_slice(alloc: Global, ids: &[u64]) -> Result<Self, NoMemory>
         ensures { IfOk result (λ list. list ≡ ids.now) }
     {
@@ -68,6 +71,7 @@ impl HintList {
         })
     }
 
+    /// The ids, in order.
     pub fn as_slice(&self) -> &[u64]
         ensures { result.now ≡ self.now }
     {

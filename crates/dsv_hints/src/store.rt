@@ -27,6 +27,30 @@ impl Slot {
     }
 }
 
+/// Where the slot of this id is. Ids that have no gap from 1 on are at their place; others are
+/// searched.
+fn find(slots: &[Slot], id: u64) -> Option<usize>
+    requires { IsRising slots.now }
+    ensures some { IfSome result (HasId slots.now id) }
+    ensures none { IfNone result (AllOther slots.now id) }
+{
+    if 0 < id && id <= slots.len() as u64 {
+        let guess = (id - 1) as usize;
+        if slots[guess].id == id {
+            return Some(guess);
+        }
+    }
+    slots.binary_search_by_key(&id, |slot| slot.id).ok()
+}
+
+fn piece(literals: &[Lit], start: usize, end: usize) -> &[Lit]
+    requires order { start ≤ end }
+    requires inside { end ≤ length literals.now }
+    ensures { result.now ≡ slice_range literals.now start end }
+{
+    &literals[start..end]
+}
+
 /// Clauses in the order of their ids. The literals of all of them, below 2^32, lie in one list; a
 /// deleted clause keeps its place.
 #[derive(Drop)]
@@ -52,6 +76,7 @@ impl Model for Store {
 }
 
 impl Store {
+    /// No clauses, over so many variables, at most 2^31, and no room for any.
     pub fn new(alloc: Global, vars: u32) -> Self
         requires { vars ≤ 2 ^ 31 }
         ensures { result ≡ record {
@@ -93,6 +118,7 @@ impl Store {
         Ok(())
     }
 
+    /// How many variables there are; they are numbered from 0.
     pub fn vars(&self) -> u32
         ensures { result ≡ self.now.vars }
     {
@@ -125,6 +151,7 @@ impl Store {
         ))
     }
 
+    /// Whether a clause of this id is live.
     pub fn is_live(&self, id: u64) -> bool
         ensures { result ≡ is_live self.now.live id }
     {
@@ -166,28 +193,4 @@ impl Store {
             slot.end = 0;
         }
     }
-}
-
-/// Where the slot of this id is. Ids that have no gap from 1 on are at their place; others are
-/// searched.
-fn find(slots: &[Slot], id: u64) -> Option<usize>
-    requires { IsRising slots.now }
-    ensures some { IfSome result (HasId slots.now id) }
-    ensures none { IfNone result (AllOther slots.now id) }
-{
-    if 0 < id && id <= slots.len() as u64 {
-        let guess = (id - 1) as usize;
-        if slots[guess].id == id {
-            return Some(guess);
-        }
-    }
-    slots.binary_search_by_key(&id, |slot| slot.id).ok()
-}
-
-fn piece(literals: &[Lit], start: usize, end: usize) -> &[Lit]
-    requires order { start ≤ end }
-    requires inside { end ≤ length literals.now }
-    ensures { result.now ≡ slice_range literals.now start end }
-{
-    &literals[start..end]
 }

@@ -14,6 +14,17 @@ const LENGTH: u32 = 1_000_000;
 /// Room for its text.
 const TEXT_ROOM: usize = 32_000_000;
 
+/// The clause by which this variable implies the next one.
+fn put_implication(sink: &mut MemSink, var: u32) -> Result<(), Failed>
+    requires { var < 2 ^ 30 }
+{
+    put_all(sink, b"-")?;
+    put_number(sink, var + 1)?;
+    put_all(sink, b" ")?;
+    put_number(sink, var + 2)?;
+    put_all(sink, b" 0\n")
+}
+
 /// The text of a chain: the first variable is true, each one implies the next, and the last is
 /// false.
 fn put_chain(sink: &mut MemSink, length: u32) -> Result<(), Failed>
@@ -26,17 +37,6 @@ fn put_chain(sink: &mut MemSink, length: u32) -> Result<(), Failed>
     }
     put_all(sink, b"-")?;
     put_number(sink, length + 1)?;
-    put_all(sink, b" 0\n")
-}
-
-/// The clause by which this variable implies the next one.
-fn put_implication(sink: &mut MemSink, var: u32) -> Result<(), Failed>
-    requires { var < 2 ^ 30 }
-{
-    put_all(sink, b"-")?;
-    put_number(sink, var + 1)?;
-    put_all(sink, b" ")?;
-    put_number(sink, var + 2)?;
     put_all(sink, b" 0\n")
 }
 

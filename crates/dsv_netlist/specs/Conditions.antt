@@ -59,9 +59,9 @@ is_fit (Add left right) = false
 is_fit (Sub left right) = false
 is_fit (Fit of) = true
 
--- What Netlist::new accepts: few enough nodes, registers and exact values; past inputs are
--- registers; nodes name nodes before them and registers that are there; the output and what loads a
--- register are words; no bound reaches the limit.
+-- What Netlist::new accepts: few enough nodes, registers and exact values; no more registers are
+-- feed-forward than there are; nodes name nodes before them and registers that are there; the
+-- output and what loads a register are words; no bound reaches the limit.
 pub record IsNetlist (net : Net) : Type 0 where
   pub few_nodes : length net.nodes ≤ most_nodes
   pub few_registers : length net.next ≤ most_registers

@@ -28,8 +28,8 @@ pub struct OpCounts {
 }
 
 /// Nodes that refer backwards, a node whose value is the output, and for each register the node
-/// that it is loaded from. The first `feed_forward` registers hold inputs of samples before. Beside
-/// them stand the nodes' bounds.
+/// that it is loaded from; beside them, the nodes' bounds. No output leads to the first
+/// `feed_forward` registers; `new` takes that as given.
 #[derive(Drop)]
 pub struct Netlist {
     nodes: Vec<Node>,
@@ -128,7 +128,7 @@ impl Netlist {
         self.output
     }
 
-    /// How many of the first registers hold inputs of samples before.
+    /// How many of the first registers no output leads to.
     pub fn feed_forward(&self) -> u32
         ensures { result ≡ self.now.feed_forward }
     {

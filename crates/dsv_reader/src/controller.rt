@@ -69,6 +69,28 @@ impl Model for Controller {
     }) };
 }
 
+/// The sample time, 1 where the file doesn't say else.
+fn sample_time_of(sample_time: &Option<SampleTime>) -> Frac
+    ensures value { result ≡ unwrap_or sample_time.now one }
+    ensures time { IsTime result }
+{
+    match sample_time {
+        Some(time) => time.get(),
+        None => Frac::from(1),
+    }
+}
+
+/// The clock, 16 MHz where the file doesn't say else.
+fn clock_of(clock: &Option<Clock>) -> u64
+    ensures value { result ≡ unwrap_or clock.now default_clock }
+    ensures clock { IsClock result }
+{
+    match clock {
+        Some(clock) => clock.get(),
+        None => DEFAULT_CLOCK,
+    }
+}
+
 impl Controller {
     ghost use Rattle.std.specs.Prelude.{◌≡◌, ◌≤◌, length, slice_index_or, true};
     ghost use Rattle.dsv_fraction.specs.Ratio.{zero, one};
@@ -207,27 +229,5 @@ impl Controller {
         ensures design { IsController self.now }
     {
         &self.costs
-    }
-}
-
-/// The sample time, 1 where the file doesn't say else.
-fn sample_time_of(sample_time: &Option<SampleTime>) -> Frac
-    ensures value { result ≡ unwrap_or sample_time.now one }
-    ensures time { IsTime result }
-{
-    match sample_time {
-        Some(time) => time.get(),
-        None => Frac::from(1),
-    }
-}
-
-/// The clock, 16 MHz where the file doesn't say else.
-fn clock_of(clock: &Option<Clock>) -> u64
-    ensures value { result ≡ unwrap_or clock.now default_clock }
-    ensures clock { IsClock result }
-{
-    match clock {
-        Some(clock) => clock.get(),
-        None => DEFAULT_CLOCK,
     }
 }

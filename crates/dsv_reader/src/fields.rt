@@ -66,75 +66,6 @@ pub(crate) struct Values {
     pub(crate) hardware: HardwareFields,
 }
 
-impl SystemFields {
-    /// Puts in the value of a field of this block.
-    fn read(mut self, field: Field, bytes: &[u8], entry: &Entry) -> Result<Self, FileRefusal>
-        ensures { result ≡ system_field field bytes.now entry.now self }
-    {
-        match field {
-            Field::B => self.b = Some(list_in(bytes, entry)?),
-            Field::A => self.a = Some(list_in(bytes, entry)?),
-            Field::BSize => self.b_size = Some(whole_number_in(bytes, entry)?),
-            Field::ASize => self.a_size = Some(whole_number_in(bytes, entry)?),
-            Field::SampleTime => self.sample_time = Some(time_in(bytes, entry)?),
-            _ => (),
-        }
-        Ok(self)
-    }
-}
-
-impl ImplementationFields {
-    /// Puts in the value of a field of this block.
-    fn read(mut self, field: Field, bytes: &[u8], entry: &Entry) -> Result<Self, FileRefusal>
-        ensures { result ≡ implementation_field field bytes.now entry.now self }
-    {
-        match field {
-            Field::IntBits => self.int_bits = Some(whole_number_in(bytes, entry)?),
-            Field::FracBits => self.frac_bits = Some(whole_number_in(bytes, entry)?),
-            Field::Max => self.max = Some(decimal_in(bytes, entry)?),
-            Field::Min => self.min = Some(decimal_in(bytes, entry)?),
-            Field::Delta => self.delta = Some(decimal_in(bytes, entry)?),
-            _ => (),
-        }
-        Ok(self)
-    }
-}
-
-impl HardwareFields {
-    /// Puts in the value of a field of this block.
-    fn read(self, setting: Setting, bytes: &[u8], entry: &Entry) -> Result<Self, FileRefusal>
-        ensures { result ≡ hardware_field setting bytes.now entry.now self }
-    {
-        if setting == Setting::Clock {
-            let value = bounded_in(1, GREATEST_CLOCK, bytes, entry)?;
-            return Ok(HardwareFields {
-                clock: Some(Clock::new(value)),
-                ..self
-            });
-        }
-        let value = bounded_in(0, GREATEST_COST, bytes, entry)?;
-        Ok(self.with_cost(setting, Cost::new(value as u32)))
-    }
-
-    /// Puts in a cost.
-    fn with_cost(mut self, setting: Setting, cost: Cost) -> Self
-        requires { is_cost setting ≡ true }
-        ensures { result ≡ with_setting setting cost self }
-    {
-        let cost = Some(cost);
-        match setting {
-            Setting::Clock => unreachable!(),
-            Setting::CostSample => self.sample = cost,
-            Setting::CostMul => self.mul = cost,
-            Setting::CostAdd => self.add = cost,
-            Setting::CostRound => self.round = cost,
-            Setting::CostFit => self.fit = cost,
-            Setting::CostMoves => self.moves = cost,
-        }
-        self
-    }
-}
-
 /// The numbers of a field whose value is a list.
 fn list_in(bytes: &[u8], entry: &Entry) -> Result<Coefficients, FileRefusal>
     ensures { result ≡ list_in bytes.now entry.now }
@@ -177,6 +108,84 @@ fn time_in(bytes: &[u8], entry: &Entry) -> Result<SampleTime, FileRefusal>
     ensures { result ≡ time_in bytes.now entry.now }
 {
     Ok(SampleTime::new(time_at(bytes, number_of(entry)?)?))
+}
+
+impl SystemFields {
+    /// Puts in the value of a field of this block.
+    fn read(mut self, field: Field, bytes: &[u8], entry: &Entry) -> Result<Self, FileRefusal>
+        ensures { result ≡ system_field field bytes.now entry.now self }
+    {
+        match field {
+            Field::B => self.b = Some(list_in(bytes, entry)?),
+            Field::A => self.a = Some(list_in(bytes, entry)?),
+            Field::BSize => self.b_size = Some(whole_number_in(bytes, entry)?),
+            Field::ASize => self.a_size = Some(whole_number_in(bytes, entry)?),
+            Field::SampleTime => self.sample_time = Some(time_in(bytes, entry)?),
+            _ => (),
+        }
+        Ok(self)
+    }
+}
+
+impl ImplementationFields {
+    /// Puts in the value of a field of this block.
+    fn read(mut self, field: Field, bytes: &[u8], entry: &Entry) -> Result<Self, FileRefusal>
+        ensures { result ≡ implementation_field field bytes.now entry.now self }
+    {
+        match field {
+            Field::IntBits => self.int_bits = Some(whole_number_in(bytes, entry)?),
+            Field::FracBits => self.frac_bits = Some(whole_number_in(bytes, entry)?),
+            Field::Max => self.max = Some(decimal_in(bytes, entry)?),
+            Field::Min => self.min = Some(decimal_in(bytes, entry)?),
+            Field::Delta => self.delta = Some(decimal_in(bytes, entry)?),
+            _ => (),
+        }
+        Ok(self)
+    }
+}
+
+impl HardwareFields {
+    /// Puts in a cost.
+    fn with_cost(mut self, setting: Setting, cost: Cost) -> Self
+        requires { is_cost setting ≡ true }
+        ensures { result ≡ with_setting setting cost self }
+    {
+        let cost = Some(cost);
+        match setting {
+            Setting::Clock => unreachable!(),
+            Setting::CostSample => self.sample = cost,
+            Setting::CostMul => self.mul = cost,
+            Setting::CostAdd => self.add = cost,
+            Setting::CostRound => self.round = cost,
+            Setting::CostFit => self.fit = cost,
+            Setting::CostMoves => self.moves = cost,
+        }
+        self
+    }
+
+    /// Puts in the value of a field of this block.
+    fn read(self, setting: Setting, bytes: &[u8], entry: &Entry) -> Result<Self, FileRefusal>
+        ensures { result ≡ hardware_field setting bytes.now entry.now self }
+    {
+        if setting == Setting::Clock {
+            let value = bounded_in(1, GREATEST_CLOCK, bytes, entry)?;
+            return Ok(HardwareFields {
+                clock: Some(Clock::new(value)),
+                ..self
+            });
+        }
+        let value = bounded_in(0, GREATEST_COST, bytes, entry)?;
+        Ok(self.with_cost(setting, Cost::new(value as u32)))
+    }
+}
+
+/// The refusal of a field that stands a second time.
+fn twice(entry: &Entry) -> FileRefusal
+    ensures { result ≡ FieldTwice entry.now.dot }
+{
+    FileRefusal::FieldTwice {
+        at: entry.dot as u64,
+    }
 }
 
 impl Values {
@@ -297,15 +306,6 @@ impl Values {
                 Err(refusal) => Err(refusal),
             },
         }
-    }
-}
-
-/// The refusal of a field that stands a second time.
-fn twice(entry: &Entry) -> FileRefusal
-    ensures { result ≡ FieldTwice entry.now.dot }
-{
-    FileRefusal::FieldTwice {
-        at: entry.dot as u64,
     }
 }
 

@@ -28,6 +28,7 @@ impl Coefficients {
     ghost use Rattle.std.specs.Prelude.{◌≡◌, ◌++◌, [], ◌∷◌, ◌<◌, ◌≤◌, length};
     ghost use Rattle.dsv_reader.specs.Limits.{most_coefficients};
 
+    /// A list without coefficients.
     pub(crate) fn new() -> Self
         ensures { result ≡ [] }
     {
@@ -36,6 +37,7 @@ impl Coefficients {
         }
     }
 
+    /// Adds a coefficient at the end of a list that has fewer than nine.
     pub(crate) fn push(&mut self, coefficient: Coefficient)
         requires { length self.old < most_coefficients }
         ensures { self.new ≡ self.old ++ coefficient ∷ [] }
@@ -43,6 +45,7 @@ impl Coefficients {
         self.held.push(coefficient);
     }
 
+    /// The coefficients in their order, at most nine.
     pub(crate) fn as_slice(&self) -> &[Coefficient]
         ensures same { result.now ≡ self.now }
         ensures few { length self.now ≤ most_coefficients }

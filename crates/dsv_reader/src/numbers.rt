@@ -177,20 +177,6 @@ pub(crate) fn only_of(place: usize, numbers: &[Token]) -> Result<Token, FileRefu
     }
 }
 
-/// The numbers of a list, which has one to nine.
-pub(crate) fn coefficients_of(
-    bytes: &[u8],
-    place: usize,
-    numbers: &[Token],
-) -> Result<Coefficients, FileRefusal>
-    ensures { result ≡ coefficients_of bytes.now place numbers.now }
-{
-    if numbers.is_empty() || numbers.len() > MOST_COEFFICIENTS {
-        return Err(FileRefusal::Length { at: place as u64 });
-    }
-    read_coefficients(bytes, numbers)
-}
-
 fn read_coefficients(bytes: &[u8], numbers: &[Token]) -> Result<Coefficients, FileRefusal>
     requires { length numbers.now ≤ most_coefficients }
     ensures { result ≡ coefficients_from bytes.now numbers.now [] }
@@ -203,6 +189,20 @@ fn read_coefficients(bytes: &[u8], numbers: &[Token]) -> Result<Coefficients, Fi
         }
     }
     Ok(list)
+}
+
+/// The numbers of a list, which has one to nine.
+pub(crate) fn coefficients_of(
+    bytes: &[u8],
+    place: usize,
+    numbers: &[Token],
+) -> Result<Coefficients, FileRefusal>
+    ensures { result ≡ coefficients_of bytes.now place numbers.now }
+{
+    if numbers.is_empty() || numbers.len() > MOST_COEFFICIENTS {
+        return Err(FileRefusal::Length { at: place as u64 });
+    }
+    read_coefficients(bytes, numbers)
 }
 
 /// Tests the numbers of a field that is passed over.

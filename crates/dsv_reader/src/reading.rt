@@ -14,29 +14,6 @@ use dsv_token::{FileRefusal, check_text, lex};
 use dsv_word::WIDEST_WORD;
 use std::alloc::Global;
 
-/// The controller that a file's bytes spell; or the file's first fault, pass by pass over the whole
-/// file: its text, its tokens, its grammar, its numbers field by field, fields that are missing,
-/// and what its values are to each other. It takes time in proportion to the file.
-pub fn read(alloc: Global, bytes: &[u8]) -> Result<Controller, FileRefusal>
-    // The controller exactly where the bytes are its text, and a refusal exactly where it is their
-    // first fault, but for want of memory.
-    ensures value { Gives (λ c. c) result (reading bytes.now) }
-    ensures text { IfOk result (IsTextOf bytes.now) }
-{
-    read_passes(alloc, bytes)
-}
-
-/// The passes over a file, one after another.
-fn read_passes(alloc: Global, bytes: &[u8]) -> Result<Controller, FileRefusal>
-    ensures { Gives (λ c. c) result (reading bytes.now) }
-{
-    check_text(bytes)?;
-    let tokens = lex(alloc, bytes)?;
-    let syntax = parse(alloc, bytes.len(), tokens.as_slice())?;
-    let values = values_of(bytes, syntax.entries.as_slice())?;
-    controller_of(&blocks_of(&syntax, values)?)
-}
-
 /// Tests that words of these widths can be had.
 fn width_test(int_bits: SpelledNumber, frac_bits: SpelledNumber) -> Result<(), FileRefusal>
     ensures { result ≡ width_test int_bits frac_bits }
@@ -66,4 +43,27 @@ fn controller_of(blocks: &Blocks) -> Result<Controller, FileRefusal>
         blocks.implementation.frac_bits,
     )?;
     Ok(Controller::assemble(blocks, b, a))
+}
+
+/// The passes over a file, one after another.
+fn read_passes(alloc: Global, bytes: &[u8]) -> Result<Controller, FileRefusal>
+    ensures { Gives (λ c. c) result (reading bytes.now) }
+{
+    check_text(bytes)?;
+    let tokens = lex(alloc, bytes)?;
+    let syntax = parse(alloc, bytes.len(), tokens.as_slice())?;
+    let values = values_of(bytes, syntax.entries.as_slice())?;
+    controller_of(&blocks_of(&syntax, values)?)
+}
+
+/// The controller that a file's bytes spell; or the file's first fault, pass by pass over the whole
+/// file: its text, its tokens, its grammar, its numbers field by field, fields that are missing,
+/// and what its values are to each other. It takes time in proportion to the file.
+pub fn read(alloc: Global, bytes: &[u8]) -> Result<Controller, FileRefusal>
+    // The controller exactly where the bytes are its text, and a refusal exactly where it is their
+    // first fault, but for want of memory.
+    ensures value { Gives (λ c. c) result (reading bytes.now) }
+    ensures text { IfOk result (IsTextOf bytes.now) }
+{
+    read_passes(alloc, bytes)
 }

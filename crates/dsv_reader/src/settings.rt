@@ -23,6 +23,7 @@ impl SampleTime {
     ghost use Rattle.std.specs.Prelude.{◌≡◌};
     ghost use Rattle.dsv_reader.specs.Controllers.{IsTime};
 
+    /// The sample time of this value, in seconds.
     pub(crate) fn new(value: Frac) -> Self
         requires { IsTime value }
         ensures { result ≡ value }
@@ -30,6 +31,7 @@ impl SampleTime {
         SampleTime { value }
     }
 
+    /// The time in seconds.
     pub(crate) fn get(&self) -> Frac
         ensures same { result ≡ self.now }
         ensures time { IsTime self.now }
@@ -59,6 +61,7 @@ impl Clock {
     ghost use Rattle.std.specs.Prelude.{◌≡◌};
     ghost use Rattle.dsv_reader.specs.Controllers.{IsClock};
 
+    /// The clock of this value, in cycles a second.
     pub(crate) fn new(value: u64) -> Self
         requires { IsClock value }
         ensures { result ≡ value }
@@ -66,6 +69,7 @@ impl Clock {
         Clock { value }
     }
 
+    /// The clock in cycles a second.
     pub(crate) fn get(&self) -> u64
         ensures same { result ≡ self.now }
         ensures clock { IsClock self.now }
@@ -95,6 +99,7 @@ impl Cost {
     ghost use Rattle.std.specs.Prelude.{◌≡◌, ◌≤◌};
     ghost use Rattle.dsv_reader.specs.Limits.{greatest_cost};
 
+    /// The cost of this value, in cycles.
     pub(crate) fn new(value: u32) -> Self
         requires { value ≤ greatest_cost }
         ensures { result ≡ value }
@@ -102,6 +107,7 @@ impl Cost {
         Cost { value }
     }
 
+    /// The cost in cycles.
     pub(crate) fn get(&self) -> u32
         ensures same { result ≡ self.now }
         ensures small { self.now ≤ greatest_cost }

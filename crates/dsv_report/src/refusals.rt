@@ -103,13 +103,6 @@ fn quant_code(refusal: QuantRefusal) -> &'static [u8]
     }
 }
 
-/// Writes why a controller has no words.
-pub fn put_quant_refusal<K: Sink>(sink: &mut K, refusal: QuantRefusal) -> Result<(), Failed>
-    ensures { Writes (K.seen sink.old) (K.seen sink.new) result (quant_text refusal) }
-{
-    put_quant_refusal_after(sink, quant_code(refusal), refusal)
-}
-
 fn put_quant_refusal_after<K: Sink>(
     sink: &mut K,
     code: &[u8],
@@ -148,6 +141,13 @@ fn put_quant_refusal_after<K: Sink>(
             )
         }
     }
+}
+
+/// Writes why a controller has no words.
+pub fn put_quant_refusal<K: Sink>(sink: &mut K, refusal: QuantRefusal) -> Result<(), Failed>
+    ensures { Writes (K.seen sink.old) (K.seen sink.new) result (quant_text refusal) }
+{
+    put_quant_refusal_after(sink, quant_code(refusal), refusal)
 }
 
 /// The code and the name of the refusal of an input.

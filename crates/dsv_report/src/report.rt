@@ -129,16 +129,6 @@ fn put_numbers<K: Sink, I: Integer>(sink: &mut K, numbers: &[I]) -> Result<(), F
     Ok(())
 }
 
-/// Writes where a form is negative, and its value there.
-fn put_start<K: Sink>(sink: &mut K, start: &[i64], value: &i128) -> Result<(), Failed>
-    ensures { Writes (K.seen sink.old) (K.seen sink.new) result
-        (report.start_text start.now value.now) }
-{
-    put_all(sink, b"start")?;
-    put_numbers(sink, start)?;
-    put_value(sink, value)
-}
-
 fn put_value<K: Sink>(sink: &mut K, value: &i128) -> Result<(), Failed>
     ensures { Writes (K.seen sink.old) (K.seen sink.new) result (report.value_text value.now) }
 {
@@ -150,6 +140,16 @@ fn put_value<K: Sink>(sink: &mut K, value: &i128) -> Result<(), Failed>
             Fragment::Bytes(b"\n"),
         ],
     )
+}
+
+/// Writes where a form is negative, and its value there.
+fn put_start<K: Sink>(sink: &mut K, start: &[i64], value: &i128) -> Result<(), Failed>
+    ensures { Writes (K.seen sink.old) (K.seen sink.new) result
+        (report.start_text start.now value.now) }
+{
+    put_all(sink, b"start")?;
+    put_numbers(sink, start)?;
+    put_value(sink, value)
 }
 
 /// Writes the text of a form that falls.

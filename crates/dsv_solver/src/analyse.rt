@@ -275,26 +275,6 @@ fn resolve_zero(
     Ok(())
 }
 
-/// Appends the literals that became false between level 0 and the present level.
-fn push_lows(
-    trail: &Trail,
-    met: &[Lit],
-    clause: &mut LitStack,
-    bounds: Bounds,
-) -> Result<(), NoMemory>
-    requires { AllFalse trail.now met.now }
-    ensures { OnOk result (clause.new
-        ≡ clause.old ++ low_literals trail.now bounds.zero_end bounds.high met.now) }
-{
-    for literal in met {
-        let place = trail.place_of(*literal);
-        if bounds.zero_end <= place && place < bounds.high {
-            clause.push(*literal)?;
-        }
-    }
-    Ok(())
-}
-
 /// A clause in the making.
 #[derive(Drop)]
 pub struct LitStack {
@@ -319,6 +299,7 @@ impl LitStack {
         }
     }
 
+    /// The literals, in the order in which they came.
     pub fn as_slice(&self) -> &[Lit]
         ensures { result.now ≡ self.now }
     {
@@ -332,6 +313,26 @@ impl LitStack {
         self.literals.push(literal)?;
         Ok(())
     }
+}
+
+/// Appends the literals that became false between level 0 and the present level.
+fn push_lows(
+    trail: &Trail,
+    met: &[Lit],
+    clause: &mut LitStack,
+    bounds: Bounds,
+) -> Result<(), NoMemory>
+    requires { AllFalse trail.now met.now }
+    ensures { OnOk result (clause.new
+        ≡ clause.old ++ low_literals trail.now bounds.zero_end bounds.high met.now) }
+{
+    for literal in met {
+        let place = trail.place_of(*literal);
+        if bounds.zero_end <= place && place < bounds.high {
+            clause.push(*literal)?;
+        }
+    }
+    Ok(())
 }
 
 /// Resolves all literals that were met, where each literal of the trail has a reason.

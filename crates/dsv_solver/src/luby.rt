@@ -15,6 +15,7 @@ pub(crate) struct Luby {
 }
 
 impl Luby {
+    /// The start of the first run, of 32 conflicts.
     pub fn new() -> Luby {
         Luby {
             number: 1,

@@ -15,6 +15,15 @@ const SHIFT: u32 = 16;
 /// Where a variable is that isn't in the heap.
 const ABSENT: u32 = u32::MAX;
 
+/// The numbers below this one.
+fn numbers_to(alloc: Global, count: u32) -> Result<Vec<u32>, NoMemory> {
+    let mut numbers = Vec::with_capacity(alloc, count as usize)?;
+    for i in 0..count {
+        numbers.push(i)?;
+    }
+    Ok(numbers)
+}
+
 /// Variables by activity, in a binary heap, and the values that they had last.
 #[derive(Drop)]
 pub(crate) struct Order {
@@ -172,6 +181,14 @@ impl Order {
         }
     }
 
+    /// Takes the last bits away from all activities.
+    fn shift(&mut self) {
+        for activity in &mut self.activities {
+            *activity >>= SHIFT;
+        }
+        self.gain = (self.gain >> SHIFT).max(1);
+    }
+
     /// A variable was met in a conflict.
     pub fn bump(&mut self, var: u32) {
         if self.activity(var) >= LIMIT.saturating_sub(self.gain) {
@@ -191,21 +208,4 @@ impl Order {
     pub fn decay(&mut self) {
         self.gain = self.gain.saturating_add(self.gain / 20);
     }
-
-    /// Takes the last bits away from all activities.
-    fn shift(&mut self) {
-        for activity in &mut self.activities {
-            *activity >>= SHIFT;
-        }
-        self.gain = (self.gain >> SHIFT).max(1);
-    }
-}
-
-/// The numbers below this one.
-fn numbers_to(alloc: Global, count: u32) -> Result<Vec<u32>, NoMemory> {
-    let mut numbers = Vec::with_capacity(alloc, count as usize)?;
-    for i in 0..count {
-        numbers.push(i)?;
-    }
-    Ok(numbers)
 }

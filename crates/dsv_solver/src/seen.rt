@@ -30,6 +30,7 @@ impl Model for Seen {
 }
 
 impl Seen {
+    /// No literals, over so many variables, at most 2^31.
     pub fn new(alloc: Global, vars: u32) -> Result<Seen, NoMemory>
         requires { vars ≤ 2 ^ 31 }
         ensures { IfOk result (λ s. s ≡ record { vars = vars; literals = [] }) }
@@ -41,6 +42,7 @@ impl Seen {
         })
     }
 
+    /// How many variables there are; they are numbered from 0.
     pub fn vars(&self) -> u32
         ensures { result ≡ self.now.vars }
     {
@@ -55,6 +57,7 @@ impl Seen {
         self.inserted.as_slice()
     }
 
+    /// Whether a literal, of one of the set's variables, is in the set.
     pub fn contains(&self, literal: Lit) -> bool
         requires { literal.var < self.now.vars }
         ensures { result ≡ contains self.now.literals literal }
@@ -62,6 +65,8 @@ impl Seen {
         self.marks[literal.code() as usize]
     }
 
+    /// Adds a literal, of one of the set's variables; where there is no memory for it, the set
+    /// stays as it was.
     pub fn insert(&mut self, literal: Lit) -> Result<(), NoMemory>
         requires { literal.var < self.old.vars }
         ensures ok { OnOk result (self.new
@@ -73,6 +78,7 @@ impl Seen {
         Ok(())
     }
 
+    /// Takes all literals out, in time in proportion to their number.
     pub fn clear(&mut self)
         ensures { self.new ≡ record self.old { literals = [] } }
     {

@@ -215,6 +215,7 @@ impl Watches {
     ghost use Rattle.dsv_solver.specs.Watched.{list_of, IsPairOver, Covers};
     ghost use Rattle.dsv_solver.specs.declared.watches.Pair.{Pair};
 
+    /// How many clauses watch a literal.
     pub fn count(&self, literal: Lit) -> usize
         requires { literal.var < self.now.vars }
         ensures len { result ≡ length (list_of self.now.lists literal) }
@@ -223,6 +224,7 @@ impl Watches {
         self.lists[literal.code() as usize].len()
     }
 
+    /// The number of the clause at this place in a literal's list, from 0 on.
     pub fn entry(&self, literal: Lit, j: usize) -> u32
         requires over { literal.var < self.now.vars }
         requires inside { j < length (list_of self.now.lists literal) }
@@ -232,6 +234,7 @@ impl Watches {
         self.lists[literal.code() as usize].at(j)
     }
 
+    /// The two literals that the clause with this number, from 0 on, watches.
     pub fn pair(&self, i: u32) -> Pair
         requires { i < length self.now.pairs }
         ensures at { slice_get self.now.pairs i ≡ Some result }

@@ -197,47 +197,6 @@ impl Parser {
         }
     }
 
-    /// Takes the next token, or refuses it where it can't go on.
-    pub(crate) fn step(self, alloc: Global, token: Token) -> Result<Self, FileRefusal>
-        ensures { Gives (λ p. p) result (step_at self.place token.kind token self) }
-    {
-        match self.place {
-            Place::Declaration => self.declaration(token),
-            Place::BlockName => self.block_name(token),
-            Place::BlockEquals => self.block_equals(token),
-            Place::BlockOpen => self.block_open(token),
-            Place::FieldDot => self.field_dot(token),
-            Place::FieldName => self.field_name(token),
-            Place::FieldEquals => self.field_equals(token),
-            Place::ListOpen => self.list_open(alloc, token),
-            Place::ListNumber => self.list_number(alloc, token),
-            Place::ListComma => self.list_comma(alloc, token),
-            Place::Number => self.number(alloc, token),
-            Place::Value => self.value(alloc, token),
-            Place::Group => self.group(alloc, token),
-            Place::FieldComma => self.field_comma(token),
-            Place::Semicolon => self.semicolon(token),
-        }
-    }
-
-    /// The file ends here, at this offset.
-    pub(crate) fn finish(self, end: usize) -> Result<Syntax, FileRefusal>
-        ensures { result ≡ finish_at self.place end self }
-    {
-        let wanted = wanted_at(self.place);
-        match (self.place, self.closed.system, self.closed.implementation) {
-            (Place::Declaration, Some(system), Some(implementation)) => Ok(Syntax {
-                entries: self.entries,
-                system,
-                implementation,
-            }),
-            (_, _, _) => Err(FileRefusal::Unexpected {
-                at: end as u64,
-                wanted,
-            }),
-        }
-    }
-
     // ---- what happens to what was read
 
     fn at(self, place: Place) -> Self
@@ -470,6 +429,49 @@ impl Parser {
             }),
             TokenKind::Number => self.with_number(token),
             _ => Ok(self),
+        }
+    }
+
+    // ---- all tokens, and the end
+
+    /// Takes the next token, or refuses it where it can't go on.
+    pub(crate) fn step(self, alloc: Global, token: Token) -> Result<Self, FileRefusal>
+        ensures { Gives (λ p. p) result (step_at self.place token.kind token self) }
+    {
+        match self.place {
+            Place::Declaration => self.declaration(token),
+            Place::BlockName => self.block_name(token),
+            Place::BlockEquals => self.block_equals(token),
+            Place::BlockOpen => self.block_open(token),
+            Place::FieldDot => self.field_dot(token),
+            Place::FieldName => self.field_name(token),
+            Place::FieldEquals => self.field_equals(token),
+            Place::ListOpen => self.list_open(alloc, token),
+            Place::ListNumber => self.list_number(alloc, token),
+            Place::ListComma => self.list_comma(alloc, token),
+            Place::Number => self.number(alloc, token),
+            Place::Value => self.value(alloc, token),
+            Place::Group => self.group(alloc, token),
+            Place::FieldComma => self.field_comma(token),
+            Place::Semicolon => self.semicolon(token),
+        }
+    }
+
+    /// The file ends here, at this offset.
+    pub(crate) fn finish(self, end: usize) -> Result<Syntax, FileRefusal>
+        ensures { result ≡ finish_at self.place end self }
+    {
+        let wanted = wanted_at(self.place);
+        match (self.place, self.closed.system, self.closed.implementation) {
+            (Place::Declaration, Some(system), Some(implementation)) => Ok(Syntax {
+                entries: self.entries,
+                system,
+                implementation,
+            }),
+            (_, _, _) => Err(FileRefusal::Unexpected {
+                at: end as u64,
+                wanted,
+            }),
         }
     }
 }

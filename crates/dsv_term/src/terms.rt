@@ -56,6 +56,7 @@ impl Terms {
         self.nodes.len() as u32
     }
 
+    /// Whether there are no terms.
     pub fn is_empty(&self) -> bool
         ensures { IsTrue result ↔ (self.now.nodes ≡ []) }
     {
@@ -97,29 +98,6 @@ impl Terms {
         self.widths[id.0 as usize]
     }
 
-    /// The next input, of this width, as a term that is new.
-    pub fn input(&mut self, width: u32) -> Result<TermId, NoMemory>
-        requires { IsWidth width }
-        ensures made { IfOk result (λ id. MakesInput self.old self.new width id) }
-        ensures value { IfOk result (λ id. (values : List ℕ) →
-            word_of self.new values id
-            ≡ record { width = width; number = slice_index values (length self.old.inputs) }) }
-        ensures err { OnErr result (self.new ≡ self.old) }
-    {
-        if self.inputs.len() >= TOO_MANY {
-            return Err(NoMemory);
-        }
-        let number = self.inputs.len() as u32;
-        self.inputs.push(width)?;
-        match self.make(TermNode::Input(number), width) {
-            Ok(id) => Ok(id),
-            Err(e) => {
-                self.inputs.pop();
-                Err(e)
-            }
-        }
-    }
-
     /// The term of a node, which is made where it doesn't stand yet.
     pub(crate) fn make(&mut self, node: TermNode, width: u32) -> Result<TermId, NoMemory>
         requires lawful { IsLawful self.old.inputs (widths_of self.old) node }
@@ -145,6 +123,29 @@ impl Terms {
             Err(_) => {
                 self.widths.pop();
                 Err(NoMemory)
+            }
+        }
+    }
+
+    /// The next input, of this width, as a term that is new.
+    pub fn input(&mut self, width: u32) -> Result<TermId, NoMemory>
+        requires { IsWidth width }
+        ensures made { IfOk result (λ id. MakesInput self.old self.new width id) }
+        ensures value { IfOk result (λ id. (values : List ℕ) →
+            word_of self.new values id
+            ≡ record { width = width; number = slice_index values (length self.old.inputs) }) }
+        ensures err { OnErr result (self.new ≡ self.old) }
+    {
+        if self.inputs.len() >= TOO_MANY {
+            return Err(NoMemory);
+        }
+        let number = self.inputs.len() as u32;
+        self.inputs.push(width)?;
+        match self.make(TermNode::Input(number), width) {
+            Ok(id) => Ok(id),
+            Err(e) => {
+                self.inputs.pop();
+                Err(e)
             }
         }
     }

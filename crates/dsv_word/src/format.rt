@@ -113,19 +113,14 @@ impl Format {
         shift(v, self.frac_bits, self.rounding)
     }
 
-    /// `q * 2^frac_bits` made whole, or TooWide where a part of it in lowest terms has a size of
-    /// 2^127 or more.
-    pub fn round_frac(&self, q: &Frac) -> Result<i128, TooWide>
-        ensures value { result ≡ word_of (rounded_quotient self.now.rounding) self.now.frac_bits
-            q.now }
-        ensures meaning { IfOk result
-            (IsRounded self.now.rounding (q.now.num *ℤ pos (2 ^ self.now.frac_bits)) q.now.den) }
+    /// `q * 2^frac_bits` in lowest terms.
+    fn in_units(&self, q: &Frac) -> Result<Frac, TooWide>
+        ensures positive { 0 < q.now.den }
+        ensures value { result ≡ bounded_ratio
+            (times q.now (record { num = pos (2 ^ self.now.frac_bits); den = 1 })) }
     {
-        match self.rounding {
-            Rounding::Floor => self.floor_frac(q),
-            Rounding::Ceil => self.ceil_frac(q),
-            Rounding::Nearest => Ok(nearest_to(&self.in_units(q)?)),
-        }
+        let _parts = q.to_parts();
+        q.mul(&Frac::from(power(self.frac_bits)))
     }
 
     /// The greatest whole number that isn't above `q * 2^frac_bits`.
@@ -146,13 +141,18 @@ impl Format {
         Ok(ceiling_of(&self.in_units(q)?))
     }
 
-    /// `q * 2^frac_bits` in lowest terms.
-    fn in_units(&self, q: &Frac) -> Result<Frac, TooWide>
-        ensures positive { 0 < q.now.den }
-        ensures value { result ≡ bounded_ratio
-            (times q.now (record { num = pos (2 ^ self.now.frac_bits); den = 1 })) }
+    /// `q * 2^frac_bits` made whole, or TooWide where a part of it in lowest terms has a size of
+    /// 2^127 or more.
+    pub fn round_frac(&self, q: &Frac) -> Result<i128, TooWide>
+        ensures value { result ≡ word_of (rounded_quotient self.now.rounding) self.now.frac_bits
+            q.now }
+        ensures meaning { IfOk result
+            (IsRounded self.now.rounding (q.now.num *ℤ pos (2 ^ self.now.frac_bits)) q.now.den) }
     {
-        let _parts = q.to_parts();
-        q.mul(&Frac::from(power(self.frac_bits)))
+        match self.rounding {
+            Rounding::Floor => self.floor_frac(q),
+            Rounding::Ceil => self.ceil_frac(q),
+            Rounding::Nearest => Ok(nearest_to(&self.in_units(q)?)),
+        }
     }
 }
