@@ -108,7 +108,7 @@ impl InvariantProposer for Stubborn {
     ghost dry_is_empty = { λ x shape e. tt };
 }
 
-/// A run on a file by these proposers, with the boxes behind them or not, and what comes of it.
+/// A run on a file by these proposers, with the boxes after them or not, and what comes of it.
 #[derive(Clone, Copy)]
 struct Row {
     file: &'static [u8],
@@ -125,7 +125,7 @@ struct Row {
     bad_shapes: Option<usize>,
 }
 
-/// The boxes find their set, behind proposers of which one is heard to its end.
+/// The boxes find their set, after proposers of which one is heard to its end.
 const FOUND: Row = Row {
     file: HALVES,
     turns: &[],
