@@ -1,5 +1,5 @@
 -- A job to which no refusal applies is decided or inconclusive, where no fault rises and there is
--- memory.
+-- memory. It speaks of files whose bytes are told: of others some bytes always have a fault.
 use Rattle.std.specs.Prelude.{◌≡◌, ◌⊎◌, ℕ, List, Option}
 use Rattle.dsv_base.specs.Counts.{Rose}
 use Rattle.dsv_base.specs.Seen.{FilesSeen}

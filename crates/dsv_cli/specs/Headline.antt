@@ -178,12 +178,12 @@ pub record IsController (bytes : List ℕ) (c : ControllerView) : Type 0 where
   pub short : length bytes ≤ longest_file
   pub text : IsTextOf bytes c
 
--- Bytes came of which this holds: those of the file, where these are told.
+-- This holds of some bytes: those of the file, where these are told.
 abbrev pub CameOf : Option (List ℕ) → (List ℕ → Type 0) → Type 0
 CameOf told holds = (bytes : List ℕ) × IfSome told (λ file. bytes ≡ file) × holds bytes
 
--- The job checks a certificate against the controller whose text the bytes are, and of the bytes
--- that came of the certificate's file this holds.
+-- The job checks a certificate against the controller whose text the bytes are, and this holds of
+-- some bytes: those of the certificate's file, where these are told.
 pub record IsCheckOf (old : FilesSeen) (job : Asked) (bytes : List ℕ)
     (P : ControllerView → List ℕ → Type 0) : Type 0 where
   pub name : List ℕ
@@ -267,7 +267,8 @@ pub record ShowsNoForm (poly : List ℤ) (kept : List KeptForm) (verdict : Jury)
 
 -- ---- the table
 -- A row of the table, for a file whose bytes are told or not: the jobs that the answer belongs to;
--- its cause in the bytes that came; and what it says whatever the file.
+-- its cause in some bytes, those of the file where these are told; and what it says whatever the
+-- file.
 pub record Row (told : Option (List ℕ)) (belongs : Type 0) (cause : List ℕ
     → Type 0) (says : Type 0) : Type 0 where
   pub belongs_to : belongs
