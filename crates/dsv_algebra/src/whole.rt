@@ -51,7 +51,7 @@ impl NarrowInteger {
     }
 
     /// The number, where it doesn't pass 2^126.
-    pub fn narrow(self) -> Option<NarrowInteger>
+    pub fn narrow_number(self) -> Option<NarrowInteger>
         ensures { result ≡ narrow_of self }
     {
         if self.value.unsigned_abs() < NARROW_LIMIT {
@@ -66,7 +66,7 @@ impl NarrowInteger {
         ensures { result ≡ narrow_of (self *ℤ other) }
     {
         let value = self.value.checked_mul(other.value)?;
-        NarrowInteger { value }.narrow()
+        NarrowInteger { value }.narrow_number()
     }
 
     /// The sum, where it doesn't pass 2^126.
@@ -74,7 +74,7 @@ impl NarrowInteger {
         ensures { result ≡ narrow_of (self +ℤ other) }
     {
         let value = self.value.checked_add(other.value)?;
-        NarrowInteger { value }.narrow()
+        NarrowInteger { value }.narrow_number()
     }
 
     /// The difference, where it doesn't pass 2^126.
@@ -82,6 +82,6 @@ impl NarrowInteger {
         ensures { result ≡ narrow_of (self -ℤ other) }
     {
         let value = self.value.checked_sub(other.value)?;
-        NarrowInteger { value }.narrow()
+        NarrowInteger { value }.narrow_number()
     }
 }

@@ -1,9 +1,9 @@
 -- What a fetch answers.
 use Rattle.std.specs.Prelude.{ℕ, Result, Ok, Err}
-use Rattle.dsv_base.specs.declared.fetching.FetchEnd.{FetchEnd}
-use Rattle.dsv_base.specs.declared.fetching.FetchEnd.TheVariants as fetch
-use Rattle.dsv_base.specs.declared.fetching.ReadEnd.{ReadEnd}
-use Rattle.dsv_base.specs.declared.fetching.ReadEnd.TheVariants as read
+use Rattle.dsv_base.specs.declared.files.FetchEnd.{FetchEnd}
+use Rattle.dsv_base.specs.declared.files.FetchEnd.TheVariants as fetch
+use Rattle.dsv_base.specs.declared.files.ReadEnd.{ReadEnd}
+use Rattle.dsv_base.specs.declared.files.ReadEnd.TheVariants as read
 
 -- how many bytes came
 abbrev pub count_of : Result ℕ FetchEnd → ℕ

@@ -7,8 +7,8 @@ use Rattle.std.specs.Option.{option_map}
 use Rattle.std.specs.declared.alloc.Global.{Global}
 use Rattle.dsv_base.specs.Counts.{count_after}
 use Rattle.dsv_base.specs.Seen.{FilesSeen}
-use Rattle.dsv_base.specs.declared.fetching.FetchEnd.{FetchEnd}
-use Rattle.dsv_base.specs.declared.fetching.FetchEnd.TheVariants as fetch
+use Rattle.dsv_base.specs.declared.files.FetchEnd.{FetchEnd}
+use Rattle.dsv_base.specs.declared.files.FetchEnd.TheVariants as fetch
 
 -- the bytes of a name in a map
 abbrev pub held_in : BTreeMap (String Global) (Vec ℕ Global) → List ℕ → Option (List ℕ)

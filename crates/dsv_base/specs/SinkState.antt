@@ -3,7 +3,7 @@ use Rattle.std.specs.Prelude.{ℕ, ◌-◌, ◌==◌, ◌||◌, List, [], ◌++�
 use Rattle.std.specs.Prelude.{take, min, if◌then◌else◌, Result, Ok, Err}
 use Rattle.std.specs.List.{list_any}
 use Rattle.dsv_base.specs.Counts.{count_after}
-use Rattle.dsv_base.specs.declared.putting.Failed.{Failed}
+use Rattle.dsv_base.specs.declared.sink.Failed.{Failed}
 
 -- What a sink in memory is seen as: the bytes that it took, how many it can take in all, the
 -- numbers of the puts that are told to fail, how many puts came, and how many of them failed.

@@ -3,20 +3,20 @@
 //! hand on, and the writers of text.
 #![tactic(auto)]
 
-mod fetching;
+mod files;
 mod items;
 mod mem_files;
 mod mem_sink;
 mod memory;
-mod putting;
 mod silent_files;
+mod sink;
 mod text;
 
-pub use fetching::{FetchEnd, Files, ReadEnd, read_all};
+pub use files::{FetchEnd, Files, ReadEnd, read_all};
 pub use items::{Bytes, Items, WordList};
 pub use mem_files::MemFiles;
 pub use mem_sink::MemSink;
 pub use memory::NoMemory;
-pub use putting::{Failed, Sink, put_all};
 pub use silent_files::SilentFiles;
+pub use sink::{Failed, Sink, put_all};
 pub use text::{put_line, put_number, put_spaced};

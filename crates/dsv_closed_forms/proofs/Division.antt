@@ -8,7 +8,7 @@ use Rattle.dsv_forms.specs.Padded.{row_of}
 use Rattle.dsv_forms.proofs.Passing.{Within, within_times, within_plus}
 use Rattle.dsv_closed_forms.specs.ClosedForm.{value_from, quotient_from, root_limit}
 use Rattle.dsv_closed_forms.proofs.RootAccepted.{quotient_length, quotient_within}
-use Rattle.dsv_closed_forms.proofs.Filling.{row_more}
+use Rattle.dsv_forms.proofs.Filling.{row_more}
 
 -- the quotient of a list of coefficients, the leading one first
 abbrev pub whole_quotient : ℤ → List ℤ → List ℤ

@@ -1,7 +1,6 @@
 pub mod Accepted
 pub mod Choices
 pub mod Division
-pub mod Filling
 pub mod FirstAccepted
 pub mod RootAccepted
 pub mod SecondAway

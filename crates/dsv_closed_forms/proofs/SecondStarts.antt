@@ -116,11 +116,11 @@ second_factor a b c h = rw h (ring (env (a ∷ b ∷ [])) (times (var 0) (times 
 lone_factor : (a b c : ℤ) → a ≡ pos 0 → a *ℤ (b *ℤ c) ≡ pos 0
 lone_factor a b c h = rw h (ring (env (b ∷ c ∷ [])) (times (num (pos 0)) (times (var 0) (var 1))) (num (pos 0)) refl)
 
-not_nought : (z : ℤ) → pos 0 <ℤ z → z ≡ pos 0 → ⊥
-not_nought z h e = omega (arith, ints)
+not_zero : (z : ℤ) → pos 0 <ℤ z → z ≡ pos 0 → ⊥
+not_zero z h e = omega (arith, ints)
 
-nor_nought : (z : ℤ) → z <ℤ pos 0 → z ≡ pos 0 → ⊥
-nor_nought z h e = omega (arith, ints)
+nor_zero : (z : ℤ) → z <ℤ pos 0 → z ≡ pos 0 → ⊥
+nor_zero z h e = omega (arith, ints)
 
 never_both : (z : ℤ) → pos 0 <ℤ z → z <ℤ pos 0 → ⊥
 never_both z h k = omega (arith, ints)
@@ -199,10 +199,10 @@ positive_below c0 c1 c2 p s e k =
     let h = scale_sign c0 c1 c2 k in
     elim (sign a) [
       | minus_sign n ↦ by_left c0 c1 c2 p s e n
-      | no_sign z ↦ absurd (not_nought ((c0 -ℤ c2) *ℤ (a *ℤ b)) h (first_factor (c0 -ℤ c2) a b z))
+      | no_sign z ↦ absurd (not_zero ((c0 -ℤ c2) *ℤ (a *ℤ b)) h (first_factor (c0 -ℤ c2) a b z))
       | plus_sign m ↦ elim (sign b) [
         | minus_sign n ↦ by_right c0 c1 c2 p s e n
-        | no_sign z ↦ absurd (not_nought ((c0 -ℤ c2) *ℤ (a *ℤ b)) h (second_factor (c0 -ℤ c2) a b z))
+        | no_sign z ↦ absurd (not_zero ((c0 -ℤ c2) *ℤ (a *ℤ b)) h (second_factor (c0 -ℤ c2) a b z))
         | plus_sign n ↦ absurd (never_both ((c0 -ℤ c2) *ℤ (a *ℤ b)) h (negative_product (c0 -ℤ c2) (a *ℤ b) e (mul_positive a b m n)))
       ]
     ]
@@ -211,7 +211,7 @@ positive_below c0 c1 c2 p s e k =
 both_positive : (a b : ℤ) → pos 0 <ℤ (a *ℤ b) → pos 0 <ℤ (a +ℤ b) → (pos 0 <ℤ a) × (pos 0 <ℤ b)
 both_positive a b h k = elim (sign a) [
   | plus_sign m ↦ (m, positive_factor a b m h)
-  | no_sign z ↦ absurd (not_nought (a *ℤ b) h (ap (λ x. x *ℤ b) z ∙ zero-*ℤ b))
+  | no_sign z ↦ absurd (not_zero (a *ℤ b) h (ap (λ x. x *ℤ b) z ∙ zero-*ℤ b))
   | minus_sign m ↦ absurd (never_both (a *ℤ b) h (negative_product a b m (omega (arith, ints))))
 ]
 
@@ -231,7 +231,7 @@ positive_scale c0 c1 c2 p k = elim (sign (c0 +ℤ c2)) [
   | no_sign z ↦ inr (inr (inr (inr (rw (last_at_none c0 c1 c2 z) (minus_above (fall_scale c0 c1 c2) k)))))
   | plus_sign s ↦ elim (sign (c0 -ℤ c2)) [
     | minus_sign e ↦ inr (positive_below c0 c1 c2 p s e k)
-    | no_sign z ↦ absurd (not_nought ((c0 -ℤ c2) *ℤ ((c0 +ℤ c2 -ℤ c1) *ℤ (c0 +ℤ c2 +ℤ c1))) (scale_sign c0 c1 c2 k) (lone_factor (c0 -ℤ c2) (c0 +ℤ c2 -ℤ c1) (c0 +ℤ c2 +ℤ c1) z))
+    | no_sign z ↦ absurd (not_zero ((c0 -ℤ c2) *ℤ ((c0 +ℤ c2 -ℤ c1) *ℤ (c0 +ℤ c2 +ℤ c1))) (scale_sign c0 c1 c2 k) (lone_factor (c0 -ℤ c2) (c0 +ℤ c2 -ℤ c1) (c0 +ℤ c2 +ℤ c1) z))
     | plus_sign e ↦ inl (positive_above c0 c1 c2 s e k)
   ]
 ]
@@ -262,10 +262,10 @@ negative_scale c0 c1 c2 p k =
       | no_sign z ↦ inr (inr (inr (rw (last_at_none c0 c1 c2 z) (minus_below (fall_scale c0 c1 c2) k))))
       | minus_sign s ↦ elim (sign b) [
         | plus_sign m ↦ under_right c0 c1 c2 p s m
-        | no_sign z ↦ absurd (nor_nought ((c0 -ℤ c2) *ℤ (a *ℤ b)) h (second_factor (c0 -ℤ c2) a b z))
+        | no_sign z ↦ absurd (nor_zero ((c0 -ℤ c2) *ℤ (a *ℤ b)) h (second_factor (c0 -ℤ c2) a b z))
         | minus_sign m ↦ elim (sign a) [
           | plus_sign n ↦ under_left c0 c1 c2 p s n
-          | no_sign z ↦ absurd (nor_nought ((c0 -ℤ c2) *ℤ (a *ℤ b)) h (first_factor (c0 -ℤ c2) a b z))
+          | no_sign z ↦ absurd (nor_zero ((c0 -ℤ c2) *ℤ (a *ℤ b)) h (first_factor (c0 -ℤ c2) a b z))
           | minus_sign n ↦ absurd (never_both ((c0 -ℤ c2) *ℤ (a *ℤ b)) (mul_positive (c0 -ℤ c2) (a *ℤ b) (omega (arith, ints)) (both_negative a b n m)) h)
         ]
       ]

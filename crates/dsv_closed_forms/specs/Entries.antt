@@ -1,7 +1,7 @@
 -- The entries of a form of two places; private contracts alone cite it.
 use Rattle.std.specs.Prelude.{◌≤◌, ◌^◌, List, [], ◌∷◌, ℤ}
 use Rattle.std.specs.Int.RustNames.{unsigned_abs}
-use Rattle.dsv_closed_forms.specs.declared.padded.Entries.{Entries}
+use Rattle.dsv_closed_forms.specs.declared.entries.Entries.{Entries}
 
 -- the entries row by row
 abbrev pub rows_of : Entries → List (List ℤ)

@@ -1,4 +1,10 @@
 // The numbers of the closed form of order 2.
+//
+// For c_0 z^2 + c_1 z + c_2 the form solves Lyapunov's equation P - A^T P A = q I with A the
+// companion matrix, three linear equations for its three entries. With q = (c_0 - c_2) ((c_0 +
+// c_2)^2 - c_1^2) the entries are whole. The factors of q are 0 on the sides of the triangle of
+// stability, c_2 = c_0 and c_1 = c_0 + c_2 and c_1 = -(c_0 + c_2). Over C = c_0 A the form loses
+// c_0^2 q.
 ghost use Rattle.std.specs.Prelude.{◌≡◌, ◌≤◌, ◌^◌, ◌+ℤ◌, ◌*ℤ◌, [], ◌∷◌, pos, neg_ℤ};
 ghost use Rattle.std.specs.Prelude.{◌<◌, length, true};
 ghost use Rattle.std.specs.Int.RustNames.{unsigned_abs};
@@ -9,8 +15,8 @@ ghost use Rattle.dsv_closed_forms.specs.ClosedForm.{second_rows, negative_start,
 ghost use Rattle.dsv_closed_forms.specs.SmallCoefficients.{AreSmall};
 ghost use Rattle.dsv_closed_forms.specs.Entries.{rows_of, HasSmallEntries};
 
-use crate::narrow::{difference, is_less_in_size, negative, product, sum};
-use crate::padded::Entries;
+use crate::entries::Entries;
+use crate::narrow::{difference, is_less_in_size, negation, product, sum};
 use crate::starts::{Pair, is_negative_at};
 use dsv_algebra::NarrowInteger;
 
@@ -123,7 +129,7 @@ impl Coefficients {
             return unit;
         }
         let minus_last = Pair {
-            x: negative(self.c2),
+            x: negation(self.c2),
             y: self.c0,
         };
         if is_negative_at(form, &minus_last) {
@@ -137,7 +143,7 @@ impl Coefficients {
             return last;
         }
         Pair {
-            x: negative(self.c1),
+            x: negation(self.c1),
             y: self.c0,
         }
     }

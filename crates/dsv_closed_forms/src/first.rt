@@ -6,8 +6,8 @@ ghost use Rattle.dsv_forms.specs.Padded.{squares_with};
 ghost use Rattle.dsv_closed_forms.specs.ClosedForm.{without_place, form_that_falls};
 ghost use Rattle.dsv_closed_forms.specs.ClosedForm.{form_that_never_rises, first_order};
 
+use crate::entries::{matrix_of_one, no_squares, row_of_one, unit_start};
 use crate::narrow::{difference, is_less_in_size, product};
-use crate::padded::{matrix_of_one, no_squares, row_of_one, unit_start};
 use dsv_algebra::NarrowInteger;
 use dsv_forms::{Falls, Form, FormOffer, GREATEST_ORDER, KeptAway, Squares};
 

@@ -2,15 +2,15 @@
 //! trajectories fall.
 #![tactic(auto)]
 
-mod closing;
+mod choice;
 mod coefficients;
+mod entries;
 mod first;
 mod law;
 mod narrow;
-mod padded;
 mod root;
 mod second;
 mod starts;
 
-pub use closing::closed_form;
+pub use choice::closed_form;
 pub use law::closed_forms_are_accepted;

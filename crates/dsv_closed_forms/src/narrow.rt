@@ -31,7 +31,7 @@ pub(crate) fn product(a: NarrowInteger, b: NarrowInteger) -> NarrowInteger
 }
 
 /// The number with the other sign.
-pub(crate) fn negative(a: NarrowInteger) -> NarrowInteger
+pub(crate) fn negation(a: NarrowInteger) -> NarrowInteger
     requires { is_narrow a ≡ true }
     ensures { result ≡ neg_ℤ a }
 {

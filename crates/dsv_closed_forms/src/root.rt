@@ -1,4 +1,9 @@
 // The closed form of a polynomial that has a root 1 or -1.
+//
+// Where t, 1 or -1, is a root, the polynomial is (z - t) q. The linear functional with the
+// coefficients of q is multiplied by t in each step, so its square stays as it is: minus that
+// square is negative at the start, loses nothing, and no trajectory from there comes to 0. The
+// quotient and the remainder come from synthetic division (Horner's rule).
 ghost use Rattle.std.specs.Prelude.{◌≡◌, ◌≤◌, ◌<◌, ◌+◌, ◌^◌, ◌*ℤ◌, ℕ, length, drop, map, neg_ℤ};
 ghost use Rattle.std.specs.Prelude.{Some, None, if◌then◌else◌};
 ghost use Rattle.std.specs.Int.RustNames.{unsigned_abs};
@@ -10,8 +15,8 @@ ghost use Rattle.dsv_closed_forms.specs.ClosedForm.{minus_square, quotient_from,
 ghost use Rattle.dsv_closed_forms.specs.ClosedForm.{is_root, root_form, root_limit};
 
 use crate::coefficients::coefficient;
-use crate::narrow::{are_equal, negative, product, sum};
-use crate::padded::{Matrix, Row, no_squares, unit_start};
+use crate::entries::{Matrix, Row, no_squares, unit_start};
+use crate::narrow::{are_equal, negation, product, sum};
 use dsv_algebra::NarrowInteger;
 use dsv_forms::{Form, FormOffer, GREATEST_ORDER, KeptAway};
 
@@ -24,7 +29,7 @@ fn negative_products(a: NarrowInteger, q: &[NarrowInteger]) -> Row
 {
     let mut row = [0; GREATEST_ORDER];
     for i in 0..q.len() {
-        row[i] = negative(product(a, q[i])).get();
+        row[i] = negation(product(a, q[i])).get();
     }
     row
 }

@@ -1,4 +1,10 @@
 // The closed form of order 2.
+//
+// Inside the triangle of stability the form falls, and two squares show it positive. Outside of it
+// the form or its negation is negative somewhere and never rises, so that a trajectory from there
+// is kept away from 0 (Lyapunov's theorem on instability). On the lines through the triangle's
+// sides a form is taken that loses nothing in a step: that of equal ends, or that of the root 1 or
+// -1.
 ghost use Rattle.std.specs.Prelude.{◌≡◌, ◌+ℤ◌, ◌*ℤ◌, [], ◌∷◌, pos, neg_ℤ, if◌then◌else◌};
 ghost use Rattle.std.specs.Ordering.{int_eq};
 ghost use Rattle.dsv_forms.specs.declared.offers.FormOffer.TheVariants as offered;
@@ -9,11 +15,11 @@ ghost use Rattle.dsv_closed_forms.specs.SmallCoefficients.{AreSmall};
 ghost use Rattle.dsv_closed_forms.specs.Entries.{rows_of, HasSmallEntries};
 
 use crate::coefficients::Coefficients;
-use crate::narrow::{are_equal, is_less, negative, product};
-use crate::padded::{
+use crate::entries::{
     Entries, diagonal_rest, form_of, matrix_of_two, no_squares, row_of_two, start_of, unit_squares,
     unit_start,
 };
+use crate::narrow::{are_equal, is_less, negation, product};
 use crate::root::minus_square;
 use dsv_algebra::NarrowInteger;
 use dsv_forms::{Falls, FormOffer, KeptAway, Squares};
@@ -77,12 +83,12 @@ impl Coefficients {
         ensures { result ≡ equal_ends self.now.c0 self.now.c1 self.now.c2 }
     {
         let two = NarrowInteger::from(2i64);
-        let beside = negative(self.c1);
+        let beside = negation(self.c1);
         let entries = Entries {
-            first: negative(product(two, self.c0)),
+            first: negation(product(two, self.c0)),
             upper: beside,
             lower: beside,
-            last: negative(product(two, self.c2)),
+            last: negation(product(two, self.c2)),
         };
         KeptAway {
             form: form_of(&entries),
@@ -103,8 +109,8 @@ impl Coefficients {
     {
         if are_equal(self.c2, self.c0) {
             FormOffer::KeptAway(self.equal_ends())
-        } else if are_equal(self.c1, negative(self.sum_of_ends())) {
-            FormOffer::KeptAway(minus_square(&[self.c0, negative(self.c2)]))
+        } else if are_equal(self.c1, negation(self.sum_of_ends())) {
+            FormOffer::KeptAway(minus_square(&[self.c0, negation(self.c2)]))
         } else {
             FormOffer::KeptAway(minus_square(&[self.c0, self.c2]))
         }
@@ -123,7 +129,7 @@ impl Coefficients {
         } else if is_less(zero, scale) {
             FormOffer::KeptAway(self.kept_away(&entries, self.loss()))
         } else if is_less(scale, zero) {
-            FormOffer::KeptAway(self.kept_away(&entries.negated(), negative(self.loss())))
+            FormOffer::KeptAway(self.kept_away(&entries.negation(), negation(self.loss())))
         } else {
             self.form_without_loss()
         }

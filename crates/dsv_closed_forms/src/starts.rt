@@ -5,8 +5,8 @@ ghost use Rattle.dsv_algebra.specs.Vectors.{form_at, vector_of, matrix_of};
 ghost use Rattle.dsv_closed_forms.specs.ClosedForm.{second_limit};
 ghost use Rattle.dsv_closed_forms.specs.Entries.{rows_of, HasSmallEntries};
 
+use crate::entries::Entries;
 use crate::narrow::{product, sum};
-use crate::padded::Entries;
 use dsv_algebra::NarrowInteger;
 
 /// A vector of two places.

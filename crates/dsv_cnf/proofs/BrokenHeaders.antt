@@ -6,9 +6,9 @@ use Rattle.dsv_cnf.specs.Dimacs.{header_text}
 use Rattle.dsv_cnf.specs.Reading.{comments_end}
 use Rattle.dsv_cnf.specs.TextFaults.{BreaksOff, IsBroken, IsBeforeVars, IsBeforeClauses, IsOverLimit, IsHeaderFault}
 use Rattle.dsv_cnf.specs.Texts.{comment_line}
-use Rattle.dsv_cnf.specs.declared.reading.CnfRefusal.{CnfRefusal}
-use Rattle.dsv_cnf.specs.declared.reading.CnfRefusal.TheVariants as refusal
-use Rattle.dsv_cnf.specs.declared.reading.Header.{Header}
+use Rattle.dsv_cnf.specs.declared.reader.CnfRefusal.{CnfRefusal}
+use Rattle.dsv_cnf.specs.declared.reader.CnfRefusal.TheVariants as refusal
+use Rattle.dsv_cnf.specs.declared.reader.Header.{Header}
 use Rattle.dsv_cnf.proofs.HeaderFaults.{IsHeadWithin, goes_on, head_on, header-fault, vars-over, clauses-over}
 use Rattle.dsv_cnf.proofs.HeaderLines.{most}
 use Rattle.dsv_cnf.proofs.HeaderOutcomes.{header_within}

@@ -4,8 +4,8 @@ use Rattle.std.proofs.lemmas.Bool.Decides.{nat_tests}
 use Rattle.std.proofs.lemmas.Fmt.{decimal_by_steps, decimal_digit, first_decimal, decimal_nonempty}
 use Rattle.dsv_text.specs.Bytes.{is_blank, is_digit}
 use Rattle.dsv_cnf.specs.Reading.{digits_from, digits_end, number_of, number_end, part_of}
-use Rattle.dsv_cnf.specs.declared.reading.CnfRefusal.TheVariants as refusal
-use Rattle.dsv_cnf.specs.declared.reading.Part.TheVariants as part
+use Rattle.dsv_cnf.specs.declared.reader.CnfRefusal.TheVariants as refusal
+use Rattle.dsv_cnf.specs.declared.reader.Part.TheVariants as part
 
 -- ---- digits
 

@@ -10,9 +10,9 @@ use Rattle.dsv_cnf.specs.Dimacs.{header_text}
 use Rattle.dsv_cnf.specs.Reading.{comments_end, digits_end, number_end, word_end}
 use Rattle.dsv_cnf.specs.TextFaults.{IsHead, GoesOn, BreaksOff, IsBroken, IsBeforeVars, IsBeforeClauses, IsOverLimit, IsHeaderFault}
 use Rattle.dsv_cnf.specs.Texts.{AreInLines, comment_line}
-use Rattle.dsv_cnf.specs.declared.reading.CnfRefusal.{CnfRefusal}
-use Rattle.dsv_cnf.specs.declared.reading.CnfRefusal.TheVariants as refusal
-use Rattle.dsv_cnf.specs.declared.reading.Header.{Header}
+use Rattle.dsv_cnf.specs.declared.reader.CnfRefusal.{CnfRefusal}
+use Rattle.dsv_cnf.specs.declared.reader.CnfRefusal.TheVariants as refusal
+use Rattle.dsv_cnf.specs.declared.reader.Header.{Header}
 use Rattle.dsv_cnf.proofs.Comments.{after-lines, after-none}
 use Rattle.dsv_cnf.proofs.Digits.{number-starts, AreDigits, value_after, Spells, spells-decimal, digit-is}
 use Rattle.dsv_cnf.proofs.HeaderLines.{most, Line, LineFault, header-shape}

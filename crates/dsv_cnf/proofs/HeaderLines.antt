@@ -3,9 +3,9 @@ use Rattle.std.proofs.Common.{◌≡◌, ℕ, ◌+◌, ◌-◌, ◌^◌, ◌<◌
 use Rattle.std.specs.Prelude.{Result}
 use Rattle.dsv_cnf.specs.Dimacs.{header_text}
 use Rattle.dsv_cnf.specs.Reading.{number_end, word_end}
-use Rattle.dsv_cnf.specs.declared.reading.CnfRefusal.{CnfRefusal}
-use Rattle.dsv_cnf.specs.declared.reading.Header.{Header}
-use Rattle.dsv_cnf.specs.declared.reading.Number.{Number}
+use Rattle.dsv_cnf.specs.declared.reader.CnfRefusal.{CnfRefusal}
+use Rattle.dsv_cnf.specs.declared.reader.Header.{Header}
+use Rattle.dsv_cnf.specs.declared.reader.Number.{Number}
 use Rattle.dsv_cnf.proofs.HeaderOutcomes.{last_step, clauses_step, space_step, vars_step, header_within, WordThen, NumberThen, IsEmpty, AfterWord, InNumber, NoFault, Outcome, Fault, FirstNoDigit, outcome-word, outcome-number}
 use Rattle.dsv_cnf.proofs.HeaderSteps.{BeginsNoDigit, said_word, word-taken, said_number_end, number-taken}
 use Rattle.dsv_cnf.proofs.ListLemmas.{drop-more}

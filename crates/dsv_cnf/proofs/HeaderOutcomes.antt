@@ -6,10 +6,10 @@ use Rattle.std.proofs.lemmas.Fmt.{decimal_digit}
 use Rattle.dsv_text.specs.Bytes.{is_digit}
 use Rattle.dsv_text.specs.Stages.{and_then}
 use Rattle.dsv_cnf.specs.Reading.{header_of, number_end, word_end}
-use Rattle.dsv_cnf.specs.declared.reading.CnfRefusal.{CnfRefusal}
-use Rattle.dsv_cnf.specs.declared.reading.CnfRefusal.TheVariants as refusal
-use Rattle.dsv_cnf.specs.declared.reading.Header.{Header}
-use Rattle.dsv_cnf.specs.declared.reading.Number.{Number}
+use Rattle.dsv_cnf.specs.declared.reader.CnfRefusal.{CnfRefusal}
+use Rattle.dsv_cnf.specs.declared.reader.CnfRefusal.TheVariants as refusal
+use Rattle.dsv_cnf.specs.declared.reader.Header.{Header}
+use Rattle.dsv_cnf.specs.declared.reader.Number.{Number}
 use Rattle.dsv_cnf.proofs.HeaderSteps.{BeginsNot, WordStops, SaidWord, BeginsNoDigit, IsTooLarge, SaidNumber, number-taken, decimal-first}
 use Rattle.dsv_cnf.proofs.ListLemmas.{cancel, first_same}
 

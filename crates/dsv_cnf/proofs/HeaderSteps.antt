@@ -6,9 +6,9 @@ use Rattle.std.proofs.lemmas.Bool.Decides.{nat_tests}
 use Rattle.std.proofs.lemmas.Fmt.{decimal_digit, decimal_nonempty}
 use Rattle.dsv_text.specs.Bytes.{is_digit}
 use Rattle.dsv_cnf.specs.Reading.{word_end, digits_end, number_end}
-use Rattle.dsv_cnf.specs.declared.reading.CnfRefusal.{CnfRefusal}
-use Rattle.dsv_cnf.specs.declared.reading.CnfRefusal.TheVariants as refusal
-use Rattle.dsv_cnf.specs.declared.reading.Number.{Number}
+use Rattle.dsv_cnf.specs.declared.reader.CnfRefusal.{CnfRefusal}
+use Rattle.dsv_cnf.specs.declared.reader.CnfRefusal.TheVariants as refusal
+use Rattle.dsv_cnf.specs.declared.reader.Number.{Number}
 use Rattle.dsv_cnf.proofs.Digits.{AreDigits, value_after, spells-decimal, digit-is, reads-number}
 use Rattle.dsv_cnf.proofs.ListLemmas.{first_same}
 use Rattle.dsv_cnf.proofs.PartTexts.{is-digit, decimal-spelled}

@@ -7,9 +7,9 @@ use Rattle.std.proofs.lemmas.Grind.{flat_map-append}
 use Rattle.dsv_cnf.specs.Dimacs.{header_text}
 use Rattle.dsv_cnf.specs.Reading.{comments_end}
 use Rattle.dsv_cnf.specs.Texts.{IsInLine, AreInLines, comment_line}
-use Rattle.dsv_cnf.specs.declared.reading.CnfRefusal.{CnfRefusal}
-use Rattle.dsv_cnf.specs.declared.reading.CnfRefusal.TheVariants as refusal
-use Rattle.dsv_cnf.specs.declared.reading.Header.{Header}
+use Rattle.dsv_cnf.specs.declared.reader.CnfRefusal.{CnfRefusal}
+use Rattle.dsv_cnf.specs.declared.reader.CnfRefusal.TheVariants as refusal
+use Rattle.dsv_cnf.specs.declared.reader.Header.{Header}
 use Rattle.dsv_cnf.proofs.Comments.{BeginsOther, comments_cut, after-lines, after-none, in-line}
 use Rattle.dsv_cnf.proofs.HeaderLines.{most, Line, LineFault, a_line, some_line, line_text, line_outcome, line-header, line-taken}
 use Rattle.dsv_cnf.proofs.HeaderOutcomes.{header_within, Refuses, IsStuck, Outcome, Fault}

@@ -10,8 +10,8 @@ use Rattle.dsv_text.specs.Bytes.{is_digit}
 use Rattle.dsv_cnf.specs.Literal.{Literal}
 use Rattle.dsv_cnf.specs.Reading.{digits_from, number_of, part_of, part_of_number}
 use Rattle.dsv_cnf.specs.Texts.{literal_piece, end_piece}
-use Rattle.dsv_cnf.specs.declared.reading.Part.{Part}
-use Rattle.dsv_cnf.specs.declared.reading.Part.TheVariants as part
+use Rattle.dsv_cnf.specs.declared.reader.Part.{Part}
+use Rattle.dsv_cnf.specs.declared.reader.Part.TheVariants as part
 use Rattle.dsv_cnf.proofs.Digits.{AreDigits, value_after, Spells, spells-decimal, part-positive, part-negative}
 
 -- ---- digits that are read

@@ -12,10 +12,10 @@ use Rattle.dsv_cnf.specs.Reading.{part_of, after_part, end_clause}
 use Rattle.dsv_cnf.specs.ReadingView.{ReadingView}
 use Rattle.dsv_cnf.specs.TextFaults.{IsItem, AreItems, IsPiece}
 use Rattle.dsv_cnf.specs.Texts.{literal_piece, end_piece, clause_pieces}
-use Rattle.dsv_cnf.specs.declared.reading.CnfRefusal.{CnfRefusal}
-use Rattle.dsv_cnf.specs.declared.reading.CnfRefusal.TheVariants as refusal
-use Rattle.dsv_cnf.specs.declared.reading.Part.{Part}
-use Rattle.dsv_cnf.specs.declared.reading.Part.TheVariants as part
+use Rattle.dsv_cnf.specs.declared.reader.CnfRefusal.{CnfRefusal}
+use Rattle.dsv_cnf.specs.declared.reader.CnfRefusal.TheVariants as refusal
+use Rattle.dsv_cnf.specs.declared.reader.Part.{Part}
+use Rattle.dsv_cnf.specs.declared.reader.Part.TheVariants as part
 use Rattle.dsv_cnf.proofs.ClauseLemmas.{IsOver-push}
 use Rattle.dsv_cnf.proofs.ListLemmas.{first_same, rest_same}
 use Rattle.dsv_cnf.proofs.PartTexts.{SaidPart, said_part, part-literal, part-end}

@@ -6,7 +6,7 @@ use Rattle.std.proofs.lemmas.Grind.{common_steps}
 use Rattle.std.proofs.lemmas.List.{take_more, length-take-le}
 use Rattle.dsv_text.specs.Bytes.{is_blank}
 use Rattle.dsv_cnf.specs.Reading.{clauses_from, take_part, word_end}
-use Rattle.dsv_cnf.specs.declared.reading.CnfRefusal.TheVariants as refusal
+use Rattle.dsv_cnf.specs.declared.reader.CnfRefusal.TheVariants as refusal
 use Rattle.dsv_cnf.specs.ReadingView.{ReadingView}
 
 from-at : (bytes : List ℕ) (i d : ℕ) → i < length bytes → drop i bytes ≡ get_or bytes i d ∷ drop (i + 1) bytes

@@ -9,7 +9,7 @@ use Rattle.dsv_cnf.specs.Reading.{clauses_from, take_part}
 use Rattle.dsv_cnf.specs.ReadingView.{ReadingView}
 use Rattle.dsv_cnf.specs.TextFaults.{HasNoBlank, IsPiece}
 use Rattle.dsv_cnf.specs.Texts.{IsGap, IsApart, AreSpaced}
-use Rattle.dsv_cnf.specs.declared.reading.CnfRefusal.{CnfRefusal}
+use Rattle.dsv_cnf.specs.declared.reader.CnfRefusal.{CnfRefusal}
 
 -- a piece and where it begins
 pub record Placed : Type 0 where

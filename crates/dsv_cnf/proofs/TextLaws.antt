@@ -15,9 +15,9 @@ use Rattle.dsv_cnf.specs.Reading.{clauses_from, comments_end, empty_reading, fin
 use Rattle.dsv_cnf.specs.ReadingView.{ReadingView}
 use Rattle.dsv_cnf.specs.TextFaults.{IsHead, IsItem, AreItems, HasNoBlank, IsPiece, IsLiteralFault, IsCountFault, IsFaultOf}
 use Rattle.dsv_cnf.specs.Texts.{comment_line, literal_piece, end_piece, clause_pieces, AreSpaced, IsTextOf}
-use Rattle.dsv_cnf.specs.declared.reading.CnfRefusal.{CnfRefusal}
-use Rattle.dsv_cnf.specs.declared.reading.CnfRefusal.TheVariants as refusal
-use Rattle.dsv_cnf.specs.declared.reading.Header.{Header}
+use Rattle.dsv_cnf.specs.declared.reader.CnfRefusal.{CnfRefusal}
+use Rattle.dsv_cnf.specs.declared.reader.CnfRefusal.TheVariants as refusal
+use Rattle.dsv_cnf.specs.declared.reader.Header.{Header}
 use Rattle.dsv_cnf.proofs.BrokenHeaders.{head-read, header-refused}
 use Rattle.dsv_cnf.proofs.Digits.{AreDigits, spells-decimal, digit-no_blank}
 use Rattle.dsv_cnf.proofs.HeaderFaults.{header-fault}

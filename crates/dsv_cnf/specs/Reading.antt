@@ -8,12 +8,12 @@ use Rattle.dsv_text.specs.Stages.{and_then}
 use Rattle.dsv_cnf.specs.Literal.{Literal}
 use Rattle.dsv_cnf.specs.FormulaView.{FormulaView}
 use Rattle.dsv_cnf.specs.ReadingView.{ReadingView}
-use Rattle.dsv_cnf.specs.declared.reading.CnfRefusal.{CnfRefusal}
-use Rattle.dsv_cnf.specs.declared.reading.CnfRefusal.TheVariants as refusal
-use Rattle.dsv_cnf.specs.declared.reading.Header.{Header}
-use Rattle.dsv_cnf.specs.declared.reading.Number.{Number}
-use Rattle.dsv_cnf.specs.declared.reading.Part.{Part}
-use Rattle.dsv_cnf.specs.declared.reading.Part.TheVariants as part
+use Rattle.dsv_cnf.specs.declared.reader.CnfRefusal.{CnfRefusal}
+use Rattle.dsv_cnf.specs.declared.reader.CnfRefusal.TheVariants as refusal
+use Rattle.dsv_cnf.specs.declared.reader.Header.{Header}
+use Rattle.dsv_cnf.specs.declared.reader.Number.{Number}
+use Rattle.dsv_cnf.specs.declared.reader.Part.{Part}
+use Rattle.dsv_cnf.specs.declared.reader.Part.TheVariants as part
 
 -- a refusal is the text's, or there was no memory
 abbrev pub IsRefusal : {X : Type 0} → Result X CnfRefusal → CnfRefusal → Type 0

@@ -2,7 +2,7 @@
 use Rattle.std.specs.Prelude.{◌≤◌, ◌^◌, ◌<◌, length}
 use Rattle.dsv_cnf.specs.Formula.{IsOver}
 use Rattle.dsv_cnf.specs.ReadingView.{ReadingView}
-use Rattle.dsv_cnf.specs.declared.reading.Reading.TheInside.{Inside}
+use Rattle.dsv_cnf.specs.declared.reader.Reading.TheInside.{Inside}
 
 abbrev pub view_of : Inside → ReadingView
 view_of r = record {

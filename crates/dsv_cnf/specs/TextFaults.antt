@@ -9,8 +9,8 @@ use Rattle.dsv_cnf.specs.Formula.{AreOver}
 use Rattle.dsv_cnf.specs.Literal.{Literal}
 use Rattle.dsv_cnf.specs.Texts.{AreInLines, comment_line, literal_piece, end_piece, clause_pieces}
 use Rattle.dsv_cnf.specs.Texts.{IsApart, AreSpaced}
-use Rattle.dsv_cnf.specs.declared.reading.CnfRefusal.{CnfRefusal}
-use Rattle.dsv_cnf.specs.declared.reading.CnfRefusal.TheVariants as refusal
+use Rattle.dsv_cnf.specs.declared.reader.CnfRefusal.{CnfRefusal}
+use Rattle.dsv_cnf.specs.declared.reader.CnfRefusal.TheVariants as refusal
 
 -- The text is comment lines and a header line with these numbers.
 pub record IsHead (vars clauses : ℕ) (text : List ℕ) : Type 0 where

@@ -63,7 +63,7 @@ pub fn holds(clause: &[Lit], values: &Assignment) -> bool
     ensures { result ≡ clause_value (assignment_of values.now) clause.now }
 {
     for literal in clause {
-        if values.get(literal.var()) == literal.positive() {
+        if values.get(literal.var()) == literal.is_positive() {
             return true;
         }
     }

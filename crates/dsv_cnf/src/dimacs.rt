@@ -10,7 +10,7 @@ use dsv_base::{Failed, Sink, put_all, put_line, put_number};
 fn put_sign<K: Sink>(sink: &mut K, literal: Lit) -> Result<(), Failed>
     ensures { Writes (K.seen sink.old) (K.seen sink.new) result (sign_text literal) }
 {
-    if literal.positive() {
+    if literal.is_positive() {
         return Ok(());
     }
     put_all(sink, b"-")

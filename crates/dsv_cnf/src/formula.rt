@@ -91,7 +91,7 @@ impl Formula {
     }
 
     /// Adds a variable and answers its number. It takes no memory.
-    pub fn fresh(&mut self) -> u32
+    pub fn fresh_variable(&mut self) -> u32
         requires { self.old.vars < 2 ^ 31 }
         ensures number { result ≡ self.old.vars }
         ensures more { self.new ≡ record self.old { vars = self.old.vars + 1 } }

@@ -4,7 +4,7 @@ ghost use Rattle.dsv_cnf.specs.FormulaView.{FormulaView};
 ghost use Rattle.dsv_cnf.specs.Reading.{reading};
 ghost use Rattle.dsv_cnf.specs.TextFaults.{IsFaultOf};
 ghost use Rattle.dsv_cnf.specs.Texts.{IsTextOf};
-ghost use Rattle.dsv_cnf.specs.declared.reading.CnfRefusal.{CnfRefusal};
+ghost use Rattle.dsv_cnf.specs.declared.reader.CnfRefusal.{CnfRefusal};
 
 /// The law of [`read_dimacs`](crate::read_dimacs), for proofs: a formula is read of its texts, and
 /// of no others, and a text is refused for its fault, and for nothing else. So each list of bytes

@@ -7,11 +7,11 @@ mod dimacs;
 mod formula;
 mod law;
 mod literal;
-mod reading;
+mod reader;
 
 pub use assignment::{Assignment, holds};
 pub use dimacs::write_dimacs;
 pub use formula::Formula;
 pub use law::texts_are_read;
 pub use literal::Lit;
-pub use reading::{CnfRefusal, read_dimacs};
+pub use reader::{CnfRefusal, read_dimacs};

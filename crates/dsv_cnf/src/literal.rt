@@ -42,7 +42,7 @@ impl Lit {
     }
 
     /// Whether it is the variable itself, and not its negation.
-    pub fn positive(&self) -> bool
+    pub fn is_positive(&self) -> bool
         ensures { result ≡ self.now.positive }
     {
         self.0 % 2 == 0
@@ -52,7 +52,7 @@ impl Lit {
     pub fn negation(&self) -> Self
         ensures { result ≡ negation self.now }
     {
-        Lit::new(self.var(), !self.positive())
+        Lit::new(self.var(), !self.is_positive())
     }
 
     /// The literal's number: twice the variable, and one more for a negation.

@@ -13,7 +13,7 @@ use Rattle.dsv_delta.specs.Binomials.{choose, binomial_sum, weight}
 use Rattle.dsv_delta.specs.Running.{running_sums}
 use Rattle.dsv_delta.proofs.Weights.{length-running, lighter}
 
--- the numbers after so many divisions
+-- the numbers after k divisions
 abbrev pub table : Vector → ℕ → Vector
 table n zero j = n j
 table n (suc k) j = sum_to (suc j) (table n k)
@@ -90,7 +90,7 @@ running_at carry (n ∷ ns) (suc j) h =
     let parted = sum_first (suc j) (vector_of (n ∷ ns)) in
     omega (arith, ints, rest, parted)
 
--- so many numbers in front are left to divide, and those after them are done
+-- len numbers in front are left to divide, and those after them are done
 pub record AreDivided (ns : List ℤ) (len : ℕ) (now : List ℤ) : Type 0 where
   pub places : length now ≡ length ns
   pub left : len ≤ length ns

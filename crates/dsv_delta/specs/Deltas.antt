@@ -50,7 +50,7 @@ or_wide name i (Ok r) = Ok r
 or_wide name i (Err e) = Err (record { list = name; index = i })
 
 -- ---- all of them
--- so many coefficients after those that the list has so far, made of the sums over l
+-- further coefficients after those that the list has so far, made of the sums over l
 abbrev pub coefficients_from : ListName → Ratio → ℕ → Vector → ℕ → List Ratio
     → Result (List Ratio) DeltaWide
 coefficients_from name delta l sums zero out = Ok out

@@ -1,13 +1,13 @@
 //! The coefficients of transfer functions in the delta operator.
 #![tactic(auto)]
 
-mod converting;
+mod conversion;
 mod denominators;
 mod powers;
 mod powers_of_z;
 mod refusal;
 mod synthetic;
 
-pub use converting::{DeltaPair, to_delta};
+pub use conversion::{DeltaPair, to_delta};
 pub use powers_of_z::{ZCoeffs, z_poly};
 pub use refusal::{DeltaWide, PolyWide};

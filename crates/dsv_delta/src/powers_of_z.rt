@@ -1,4 +1,9 @@
 // The polynomial in z of a list of coefficients in the delta operator.
+//
+// The way back, from powers of (z - 1) / delta to powers of z, by Horner's rule: from the highest
+// coefficient on the list so far is multiplied by z - 1, and the next coefficient added. With delta
+// = o / p in lowest terms all is multiplied by p^N, so that the coefficient number j becomes w_j
+// o^j p^(N - j), a whole number.
 #![tactic(auto, using(dsv_algebra::proofs::Casts::casts))]
 
 ghost use Rattle.std.specs.Prelude.{◌≡◌, ℕ, ◌-◌, ◌*◌, ◌^◌};
@@ -56,7 +61,7 @@ fn lowest_dyadic(delta: u64, frac_bits: u32) -> Dyadic
 }
 
 /// The number, where it doesn't pass 2^110.
-fn bounded(number: NarrowInteger) -> Option<NarrowInteger>
+fn bounded_number(number: NarrowInteger) -> Option<NarrowInteger>
     ensures { result ≡ bounded number }
 {
     if number.get().unsigned_abs() < SCALED_LIMIT {
@@ -71,7 +76,7 @@ fn bounded_product(number: NarrowInteger, factor: u64) -> Option<NarrowInteger>
     ensures { result ≡ bounded (number *ℤ pos factor) }
 {
     let factor = NarrowInteger::from(i128::from(factor));
-    bounded(number.checked_mul(factor)?)
+    bounded_number(number.checked_mul(factor)?)
 }
 
 /// The product with a power, where it doesn't pass 2^110.
@@ -88,7 +93,7 @@ fn product_with_power(number: NarrowInteger, base: u64, exponent: usize) -> Opti
 }
 
 /// The number itself.
-fn whole(word: &i64) -> NarrowInteger
+fn number_of(word: &i64) -> NarrowInteger
     ensures { result ≡ word.now }
 {
     NarrowInteger::from(*word)
@@ -96,7 +101,7 @@ fn whole(word: &i64) -> NarrowInteger
 
 /// The coefficient number j of a list of this order times the power j of delta's numerator and the
 /// power `order - j` of its denominator, where it doesn't pass 2^110.
-fn scaled(word: &i64, scale: Dyadic, j: usize, order: usize) -> Option<NarrowInteger>
+fn scaled_coefficient(word: &i64, scale: Dyadic, j: usize, order: usize) -> Option<NarrowInteger>
     requires small { unsigned_abs word.now ≤ greatest_word }
     requires numerator { 0 < scale.numerator }
     requires denominator { 0 < scale.denominator }
@@ -104,7 +109,7 @@ fn scaled(word: &i64, scale: Dyadic, j: usize, order: usize) -> Option<NarrowInt
     ensures { result ≡ bounded (word.now
         *ℤ pos (scale.numerator ^ j * scale.denominator ^ (order - j))) }
 {
-    let product = product_with_power(whole(word), scale.numerator, j)?;
+    let product = product_with_power(number_of(word), scale.numerator, j)?;
     product_with_power(product, scale.denominator, order - j)
 }
 
@@ -151,7 +156,7 @@ fn coefficients_in_z(coeffs: &[i64], scale: Dyadic) -> Result<ZCoeffs, PolyWide>
     let mut list = ZCoeffs::new();
     for word in coeffs {
         let index = list.len();
-        let Some(e) = scaled(word, scale, index, order) else {
+        let Some(e) = scaled_coefficient(word, scale, index, order) else {
             return Err(PolyWide {
                 index: index as u32,
             });

@@ -1,4 +1,9 @@
 // Synthetic division by z - 1.
+//
+// The coefficients of a polynomial in powers of z - 1, by repeated synthetic division (Ruffini and
+// Horner; Taylor's shift by 1): the remainder of a division by z - 1 is the last coefficient, that
+// of the quotient's division the one before it, and so on. Dividing by z - 1 is a running sum, so
+// that all is additions in place.
 #![tactic(auto, using(dsv_algebra::proofs::Casts::casts))]
 
 ghost use Rattle.std.specs.Prelude.{◌≡◌, ℕ, ◌-◌, ◌<◌, length};

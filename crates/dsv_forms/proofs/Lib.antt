@@ -1,6 +1,7 @@
 pub mod Alike
 pub mod Dominance
 pub mod FallLemmas
+pub mod Filling
 pub mod OfferLemmas
 pub mod Padded
 pub mod Passing

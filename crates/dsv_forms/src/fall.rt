@@ -1,4 +1,10 @@
 // What a form loses in a step of a polynomial.
+//
+// Lyapunov's direct method for a linear recursion (Lyapunov 1892; for sampled systems Kalman and
+// Bertram 1960): a form P falls along the trajectories where P - A^T P A is positive, with A the
+// polynomial's companion matrix. Everything is multiplied by the square of the leading coefficient,
+// so that with C = c_0 A the form that is lost is c_0^2 P - C^T P C, in whole numbers. A companion
+// matrix has one full row, so an entry of C^T P C is a sum of at most four products.
 #![tactic(auto, using(dsv_algebra::proofs::Casts::casts))]
 
 ghost use Rattle.std.specs.Prelude.{◌≡◌, ◌<◌, ◌≤◌, ◌+◌, ◌-◌, ℕ};
@@ -37,14 +43,14 @@ fn sum_where(holds: bool, sum: NarrowInteger, term: Term) -> Option<NarrowIntege
 }
 
 /// The number with the other sign.
-fn negative(number: &i64) -> NarrowInteger
+fn negation(number: &i64) -> NarrowInteger
     ensures { result ≡ neg_ℤ number.now }
 {
     NarrowInteger::from(-i128::from(*number))
 }
 
 /// The number itself.
-fn positive(number: &i64) -> NarrowInteger
+fn number_of(number: &i64) -> NarrowInteger
     ensures { result ≡ number.now }
 {
     NarrowInteger::from(*number)
@@ -66,10 +72,10 @@ fn sum_less_image(
 {
     let d = c.len() - 1;
     let (below, after) = (i + 1 < d, j + 1 < d);
-    let lead = positive(&c[0]);
-    let (row, column) = (positive(&c[i + 1]), positive(&c[j + 1]));
+    let lead = number_of(&c[0]);
+    let (row, column) = (number_of(&c[i + 1]), number_of(&c[j + 1]));
     let p = &form.rows;
-    let sum = sum_with_product(sum, negative(&c[i + 1]), column, entry_or_zero(p, 0, 0))?;
+    let sum = sum_with_product(sum, negation(&c[i + 1]), column, entry_or_zero(p, 0, 0))?;
     let first_row = Term {
         a: row,
         b: lead,
@@ -83,7 +89,7 @@ fn sum_less_image(
     };
     let sum = sum_where(below, sum, first_column)?;
     let diagonal = Term {
-        a: negative(&c[0]),
+        a: negation(&c[0]),
         b: lead,
         entry: entry_or_zero(p, i + 1, j + 1),
     };
@@ -115,7 +121,7 @@ fn fall_entry(c: &[i64], form: &Form, i: usize, j: usize) -> Option<NarrowIntege
     ensures { result
         ≡ fall_sum (length c.now - 1) (vector_of c.now) (matrix_of form.now.rows) i j }
 {
-    let lead = positive(&c[0]);
+    let lead = number_of(&c[0]);
     let zero = NarrowInteger::from(0i64);
     let sum = sum_with_product(zero, lead, lead, entry_or_zero(&form.rows, i, j))?;
     sum_less_image(sum, c, form, i, j)

@@ -1,4 +1,10 @@
 // The check of squares, which show that a form is positive or that it is nowhere negative.
+//
+// That a form is positive is shown by an identity in whole numbers: m times the form is a sum of
+// weighted squares of linear functionals and a rest. Positive weights, triangular rows and a rest
+// whose diagonal outweighs what stands beside it in each row (Gershgorin 1931) leave no vector but
+// 0 where the form is 0 or less. For a form that is nowhere negative weights may be 0 and rows are
+// free. The check computes both sides of the identity at each place, in numbers below 2^126.
 ghost use Rattle.std.specs.Prelude.{◌≡◌, ◌<◌, ◌≤◌, not, int_lt};
 ghost use Rattle.std.specs.Prelude.{true, [], ◌∷◌, pos};
 ghost use Rattle.std.specs.Prelude.{IfOk, Some, ◌<ℤ◌, ◌≤ℤ◌};
@@ -159,39 +165,17 @@ fn both_sides(
     Some(Sides { left, right })
 }
 
-/// Checks that both sides at a place are the same.
-fn check_identity(part: Part, sides: Sides, i: u32, j: u32) -> Result<(), FormRefusal>
-    ensures { refusal_of result ≡ sides_refusal part i j (Some (sides.left, sides.right)) }
+/// Checks that both sides of the identity at a place, where no number on the way to them is too
+/// wide, are the same.
+fn check_place(part: Part, sides: Option<Sides>, i: u32, j: u32) -> Result<(), FormRefusal>
+    ensures { refusal_of result
+        ≡ sides_refusal part i j (option_map (λ x. (x.left, x.right)) sides) }
 {
+    let sides = sides.ok_or(FormRefusal::Wide { part, i, j })?;
     if sides.left.get() != sides.right.get() {
         return Err(FormRefusal::Identity { part, i, j });
     }
     Ok(())
-}
-
-/// Checks both sides of the identity at a place where the form has this entry.
-fn check_place(
-    part: Part,
-    squares: &Squares,
-    n: usize,
-    entry_there: NarrowInteger,
-    i: usize,
-    j: usize,
-) -> Result<(), FormRefusal>
-    requires few { n ≤ greatest_order }
-    requires row { i < greatest_order }
-    requires column { j < greatest_order }
-    ensures { refusal_of result
-        ≡ sides_refusal part i j (sides_of n squares.now entry_there i j) }
-{
-    let (row, column) = (i as u32, j as u32);
-    let wide = FormRefusal::Wide {
-        part,
-        i: row,
-        j: column,
-    };
-    let sides = both_sides(squares, n, entry_there, i, j).ok_or(wide)?;
-    check_identity(part, sides, row, column)
 }
 
 /// Checks both sides of the identity in a row, from the diagonal on.
@@ -210,7 +194,8 @@ fn check_row(
         (λ i j. []) i) }
 {
     for j in i..form.d as usize {
-        check_place(part, squares, n, entry(&form.rows, i, j), i, j)?;
+        let sides = both_sides(squares, n, entry(&form.rows, i, j), i, j);
+        check_place(part, sides, i as u32, j as u32)?;
     }
     Ok(())
 }
@@ -236,7 +221,7 @@ fn sum_with_size(sum: NarrowInteger, rest: &Matrix, i: usize, j: usize) -> Optio
     ensures { result
         ≡ sum_with sum (matrix_of rest.now i j ∷ [], beside (matrix_of rest.now) i j) }
 {
-    let entry = entry(rest, i, j).narrow()?;
+    let entry = entry(rest, i, j).narrow_number()?;
     let size = if i == j {
         0
     } else {

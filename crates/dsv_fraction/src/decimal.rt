@@ -88,7 +88,7 @@ fn times_ten_to(number: &Frac, count: u32) -> Result<Frac, TooWide>
     if count == 0 {
         return Ok(*number);
     }
-    times_ten_to(number, count - 1)?.mul(&Frac::whole(false, 10))
+    times_ten_to(number, count - 1)?.mul(&Frac::whole_number(false, 10))
 }
 
 /// A whole number over `10^count`, in lowest terms.
@@ -147,7 +147,7 @@ fn value_of(negative: bool, body: &[u8], exponent: i32) -> Result<Frac, TooWide>
         let places = length (digits_after_point body.now) in
         result ≡ bounded_ratio (decimal_value negative digits (exponent -ℤ pos places)) }
 {
-    let number = Frac::whole(negative, u128::from(digits_of(body)));
+    let number = Frac::whole_number(negative, u128::from(digits_of(body)));
     let places = digits_after_point(body).len();
     times_power_of_ten(&number, shift_of(exponent, places))
 }

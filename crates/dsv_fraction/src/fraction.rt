@@ -123,7 +123,7 @@ impl Frac {
     }
 
     /// The fraction of these sizes, which have no common factor, negative or not.
-    fn exact(negative: bool, num: u128, den: u128) -> Result<Frac, TooWide>
+    fn exact_fraction(negative: bool, num: u128, den: u128) -> Result<Frac, TooWide>
         requires { AreCoprime num den }
         ensures { result ≡ bounded_ratio (record { num = with_sign negative num; den = den }) }
     {
@@ -139,7 +139,7 @@ impl Frac {
         ensures { result ≡ bounded_ratio (in_lowest_terms (with_sign negative num) den) }
     {
         let parts = cancel(num, den);
-        Frac::exact(negative, parts.num, parts.den)
+        Frac::exact_fraction(negative, parts.num, parts.den)
     }
 
     /// The fraction `num / den` in lowest terms, or TooWide where a part of it has a size of 2^127
@@ -180,7 +180,7 @@ impl Frac {
     }
 
     /// The whole number of that size, negative or not.
-    pub(crate) fn whole(negative: bool, size: u128) -> Frac
+    pub(crate) fn whole_number(negative: bool, size: u128) -> Frac
         requires { size < part_limit }
         ensures { result ≡ record { num = with_sign negative size; den = 1 } }
     {
@@ -221,7 +221,7 @@ impl Frac {
         let Some(den) = second.den.checked_mul(first.den) else {
             return Err(TooWide);
         };
-        Frac::exact(own.negative != its.negative, num, den)
+        Frac::exact_fraction(own.negative != its.negative, num, den)
     }
 
     /// The product.

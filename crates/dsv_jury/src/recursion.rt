@@ -1,4 +1,11 @@
 // Jury's recursion, row by row.
+//
+// The criterion of Schur and Cohn as Jury's table computes it (Jury 1964): a polynomial has all
+// roots inside the unit circle exactly where its first coefficient is greater in size than its
+// last, and the polynomial r_0 r_i - r_n r_(n-i), whose order is one less, has all roots inside
+// too. Rows are whole numbers; the common factor of a row is taken out, since without that the
+// numbers would double their length with each row. This is a second verdict beside the forms: it
+// gives no certificate.
 #![tactic(auto, using(dsv_algebra::proofs::Casts::casts))]
 
 ghost use Rattle.std.specs.Prelude.{◌≡◌, ◌<◌, ◌≤◌, ◌-◌, length, true};

@@ -30,8 +30,8 @@ use Rattle.dsv_names.specs.Settings.{setting_name, settings}
 use Rattle.dsv_names.specs.declared.setting.Setting.{Setting}
 use Rattle.dsv_names.specs.declared.setting.Setting.TheVariants as setting
 use Rattle.dsv_names.specs.Wants.{wanted_name, wants}
-use Rattle.dsv_names.specs.declared.wanted.Wanted.{Wanted}
-use Rattle.dsv_names.specs.declared.wanted.Wanted.TheVariants as wanted
+use Rattle.dsv_names.specs.declared.want.Wanted.{Wanted}
+use Rattle.dsv_names.specs.declared.want.Wanted.TheVariants as wanted
 
 -- the first value is found, or the others are searched
 found_at : {A : Type 0} (name : A → List ℕ) (w : A) (ws : List A) (text : List ℕ) (v : A) →

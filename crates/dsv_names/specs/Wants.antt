@@ -1,7 +1,7 @@
 -- Names: What the grammar of controller files wants at a place.
 use Rattle.std.specs.Prelude.{ℕ, List, [], ◌∷◌, codes}
-use Rattle.dsv_names.specs.declared.wanted.Wanted.{Wanted}
-use Rattle.dsv_names.specs.declared.wanted.Wanted.TheVariants as wanted
+use Rattle.dsv_names.specs.declared.want.Wanted.{Wanted}
+use Rattle.dsv_names.specs.declared.want.Wanted.TheVariants as wanted
 
 abbrev pub wanted_name : Wanted → List ℕ
 wanted_name wanted.Declaration = codes "DECLARATION"

@@ -57,7 +57,7 @@ fn squares_of_places(count: u32, weights: &[i128]) -> Squares {
 }
 
 /// The rest alone.
-fn bare(rest: Matrix) -> Squares {
+fn squares_of_rest(rest: Matrix) -> Squares {
     Squares {
         m: 1,
         count: 0,
@@ -230,7 +230,7 @@ fn of_a_cycle() -> KeptAway {
     KeptAway {
         form: form(2, of_two(-2, 1, -2)),
         start: [1, 0, 0, 0, 0, 0, 0, 0],
-        fall: bare(ZERO),
+        fall: squares_of_rest(ZERO),
     }
 }
 
@@ -303,7 +303,7 @@ fn the_least_numbers_are_refused(rt: HostRuntime) {
     let offer = KeptAway {
         form: form(2, LEAST),
         start: [i64::MIN; GREATEST_ORDER],
-        fall: bare(LEAST),
+        fall: squares_of_rest(LEAST),
     };
     let part = Part::Fall;
     let away = is_not_kept_away(&CYCLE, &offer, FormRefusal::Wide { part, i: 0, j: 0 });

@@ -1,9 +1,7 @@
 -- A controller becomes one thing in words.
 use Rattle.std.proofs.Common.{◌≡◌, ◌∙◌, sym, ap}
 use Rattle.std.specs.Prelude.{Result}
-use Rattle.dsv_names.specs.declared.overflow_mode.OverflowMode.{OverflowMode}
-use Rattle.dsv_names.specs.declared.realisation.Realisation.{Realisation}
-use Rattle.dsv_names.specs.declared.rounding.Rounding.{Rounding}
+use Rattle.dsv_names.specs.declared.design.Design.{Design}
 use Rattle.dsv_word.specs.declared.format.Format.{Format}
 use Rattle.dsv_reader.specs.Controllers.{ControllerView}
 use Rattle.dsv_quantiser.specs.FixedPoint.{FixedPoint}
@@ -12,15 +10,14 @@ use Rattle.dsv_quantiser.specs.Quantising.{fixed_point_of}
 use Rattle.dsv_quantiser.specs.declared.refusal.QuantRefusal.{QuantRefusal}
 use Rattle.dsv_quantiser.proofs.Formats.{one_format}
 
-pub become_one : (c d : ControllerView) (r : Realisation) (n : Rounding) (m : OverflowMode) (o p : Result FixedPoint QuantRefusal) → c ≡ d → BecomesWords c r n m o → BecomesWords d r n m p
-    → o ≡ p
-become_one c d r n m o p e h k =
+pub become_one : (c d : ControllerView) (design : Design) (o p : Result FixedPoint QuantRefusal) → c ≡ d → BecomesWords c design o → BecomesWords d design p → o ≡ p
+become_one c d design o p e h k =
     let f = one_format h.format k.format
     (h.int_bits ∙ ap (λ (x : ControllerView). x.int_bits) e ∙ sym k.int_bits)
     (h.frac_bits ∙ ap (λ (x : ControllerView). x.frac_bits) e ∙ sym k.frac_bits)
     (h.rounding ∙ sym k.rounding)
     (h.overflow ∙ sym k.overflow) in
     sym h.becomes
-    ∙ ap (λ (x : ControllerView). fixed_point_of x h.format r) e
-    ∙ ap (λ (x : Format). fixed_point_of d x r) f
+    ∙ ap (λ (x : ControllerView). fixed_point_of x h.format design.realisation) e
+    ∙ ap (λ (x : Format). fixed_point_of d x design.realisation) f
     ∙ k.becomes

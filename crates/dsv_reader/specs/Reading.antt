@@ -108,7 +108,7 @@ abbrev pub width_test : SpelledNumber → SpelledNumber → Result (Unit {0}) Fi
 width_test int_bits frac_bits = if is_lawful int_bits.value frac_bits.value then Ok tt
     else Err (refusal.Width int_bits.at)
 
--- zeros after a list up to so many entries
+-- a list, filled up with zeros to n entries
 abbrev pub padded_list : ℕ → List Ratio → List Ratio
 padded_list n xs = xs ++ replicate (n - length xs) zero
 

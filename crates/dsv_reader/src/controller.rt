@@ -5,9 +5,8 @@ ghost use Rattle.dsv_reader.specs.Controllers.{IsTime, IsClock};
 ghost use Rattle.dsv_reader.specs.Defaults.{default_clock};
 
 use crate::blocks::Blocks;
-use crate::costing::costs_of;
-use crate::costs::{Costs, default_costs};
-use crate::dividing::padded_list;
+use crate::costs::{Costs, costs_of, default_costs};
+use crate::quotients::padded_list;
 use crate::settings::{Clock, SampleTime};
 use dsv_fraction::{Frac, FracList};
 use dsv_word::Format;
@@ -39,34 +38,13 @@ pub struct Controller {
 
 impl Model for Controller {
     ghost use Rattle.dsv_reader.specs.Controllers.{ControllerView, IsController};
+    ghost use Rattle.dsv_reader.specs.Inside.{view_of};
 
     ghost Value = { ControllerView };
 
-    ghost view = { λ c. record {
-      b = c.b.items;
-      a = c.a.items;
-      sample_time = c.sample_time;
-      int_bits = c.int_bits;
-      frac_bits = c.frac_bits;
-      max = c.max;
-      min = c.min;
-      delta = c.delta;
-      clock = c.clock;
-      costs = c.costs;
-    } };
+    ghost view = { view_of };
 
-    ghost invariant = { λ c. IsController (record {
-      b = c.b.items;
-      a = c.a.items;
-      sample_time = c.sample_time;
-      int_bits = c.int_bits;
-      frac_bits = c.frac_bits;
-      max = c.max;
-      min = c.min;
-      delta = c.delta;
-      clock = c.clock;
-      costs = c.costs;
-    }) };
+    ghost invariant = { λ c. IsController (view_of c) };
 }
 
 /// The sample time, 1 where the file doesn't say else.

@@ -14,17 +14,11 @@ use crate::numbers::{
     SpelledNumber, bounded_at, coefficients_of, decimal_at, only_of, passed_over, time_at,
     whole_number_at,
 };
-use crate::settings::{Clock, Cost, SampleTime};
+use crate::settings::{Clock, Cost, GREATEST_CLOCK, GREATEST_COST, SampleTime};
 use dsv_fraction::Frac;
 use dsv_names::{Field, Setting};
 use dsv_syntax::{Entry, Label};
 use dsv_token::{FileRefusal, Token};
-
-/// The greatest clock, in cycles a second.
-const GREATEST_CLOCK: u64 = 1_000_000_000_000;
-
-/// The greatest cost, in cycles.
-const GREATEST_COST: u64 = 10_000;
 
 /// The fields of the block `digital_system` that have stood.
 #[derive(Drop)]
@@ -175,12 +169,12 @@ impl HardwareFields {
             });
         }
         let value = bounded_in(0, GREATEST_COST, bytes, entry)?;
-        Ok(self.with_cost(setting, Cost::new(value as u32)))
+        Ok(self.with_cost(setting, Cost::new(value)))
     }
 }
 
 /// The refusal of a field that stands a second time.
-fn twice(entry: &Entry) -> FileRefusal
+fn repeated_field(entry: &Entry) -> FileRefusal
     ensures { result ≡ FieldTwice entry.now.dot }
 {
     FileRefusal::FieldTwice {
@@ -264,7 +258,7 @@ impl Values {
         ensures { result ≡ field_read field bytes.now entry.now self }
     {
         if self.has_field(field) {
-            return Err(twice(entry));
+            return Err(repeated_field(entry));
         }
         let system = self.system.read(field, bytes, entry)?;
         let implementation = self.implementation.read(field, bytes, entry)?;
@@ -284,7 +278,7 @@ impl Values {
         ensures { result ≡ setting_read setting bytes.now entry.now self }
     {
         if self.has_setting(setting) {
-            return Err(twice(entry));
+            return Err(repeated_field(entry));
         }
         let hardware = self.hardware.read(setting, bytes, entry)?;
         Ok(Values {

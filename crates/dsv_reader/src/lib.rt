@@ -3,18 +3,17 @@
 
 mod blocks;
 mod controller;
-mod costing;
 mod costs;
-mod dividing;
 mod fields;
 mod law;
 mod lists;
 mod numbers;
-mod reading;
+mod passes;
+mod quotients;
 mod settings;
 
 pub use controller::Controller;
 pub use costs::Costs;
 pub use dsv_token::FileRefusal;
 pub use law::one_answer;
-pub use reading::read;
+pub use passes::read;

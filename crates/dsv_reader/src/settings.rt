@@ -40,78 +40,52 @@ impl SampleTime {
     }
 }
 
-/// The clock of the hardware, in cycles a second: 1 to 10^12.
+/// The greatest clock, in cycles a second.
+pub(crate) const GREATEST_CLOCK: u64 = 1_000_000_000_000;
+
+/// The greatest cost, in cycles.
+pub(crate) const GREATEST_COST: u64 = 10_000;
+
+/// A whole number from `LEAST` to `GREATEST`.
 #[derive(Drop)]
-pub(crate) struct Clock {
+pub(crate) struct Bounded<const LEAST: u64, const GREATEST: u64> {
     value: u64,
 }
 
-impl Model for Clock {
-    ghost use Rattle.std.specs.Prelude.{ℕ};
-    ghost use Rattle.dsv_reader.specs.Controllers.{IsClock};
+impl<const LEAST: u64, const GREATEST: u64> Model for Bounded<LEAST, GREATEST> {
+    ghost use Rattle.std.specs.Prelude.{ℕ, ◌≤◌};
 
     ghost Value = { ℕ };
 
-    ghost view = { λ c. c.value };
+    ghost view = { λ n. n.value };
 
-    ghost invariant = { λ c. IsClock c.value };
+    ghost invariant = { λ n. (LEAST ≤ n.value) × (n.value ≤ GREATEST) };
 }
 
-impl Clock {
-    ghost use Rattle.std.specs.Prelude.{◌≡◌};
-    ghost use Rattle.dsv_reader.specs.Controllers.{IsClock};
+impl<const LEAST: u64, const GREATEST: u64> Bounded<LEAST, GREATEST> {
+    ghost use Rattle.std.specs.Prelude.{◌≡◌, ◌≤◌};
 
-    /// The clock of this value, in cycles a second.
+    /// The number of this value.
     pub(crate) fn new(value: u64) -> Self
-        requires { IsClock value }
+        requires least { LEAST ≤ value }
+        requires greatest { value ≤ GREATEST }
         ensures { result ≡ value }
     {
-        Clock { value }
+        Bounded { value }
     }
 
-    /// The clock in cycles a second.
+    /// The value.
     pub(crate) fn get(&self) -> u64
         ensures same { result ≡ self.now }
-        ensures clock { IsClock self.now }
+        ensures least { LEAST ≤ self.now }
+        ensures greatest { self.now ≤ GREATEST }
     {
         self.value
     }
 }
 
-/// A cost in cycles, at most 10,000.
-#[derive(Drop)]
-pub(crate) struct Cost {
-    value: u32,
-}
+/// The clock of the hardware, in cycles a second.
+pub(crate) type Clock = Bounded<1, GREATEST_CLOCK>;
 
-impl Model for Cost {
-    ghost use Rattle.std.specs.Prelude.{ℕ, ◌≤◌};
-    ghost use Rattle.dsv_reader.specs.Limits.{greatest_cost};
-
-    ghost Value = { ℕ };
-
-    ghost view = { λ c. c.value };
-
-    ghost invariant = { λ c. c.value ≤ greatest_cost };
-}
-
-impl Cost {
-    ghost use Rattle.std.specs.Prelude.{◌≡◌, ◌≤◌};
-    ghost use Rattle.dsv_reader.specs.Limits.{greatest_cost};
-
-    /// The cost of this value, in cycles.
-    pub(crate) fn new(value: u32) -> Self
-        requires { value ≤ greatest_cost }
-        ensures { result ≡ value }
-    {
-        Cost { value }
-    }
-
-    /// The cost in cycles.
-    pub(crate) fn get(&self) -> u32
-        ensures same { result ≡ self.now }
-        ensures small { self.now ≤ greatest_cost }
-    {
-        self.value
-    }
-}
+/// A cost in cycles.
+pub(crate) type Cost = Bounded<0, GREATEST_COST>;

@@ -1,4 +1,12 @@
 // Squares for a form by rounded elimination, place by place.
+//
+// Rounded elimination, as in the factorisation of a symmetric matrix into L D L^T (Cholesky without
+// square roots): at place k the weight is what is left on the diagonal, and the row what is left
+// beside it, divided by the weight; their square is taken from the form, and the next place
+// follows. All numbers are whole, so 2^40 times the form is written, a row has 2^20 at its own
+// place, and quotients are rounded down. Each weight leaves a margin on the diagonal, so that what
+// remains at the end, the rest, is dominant: its diagonal outweighs what stands beside it in each
+// row (Gershgorin 1931).
 #![tactic(auto, using(dsv_algebra::proofs::Casts::casts))]
 
 ghost use Rattle.std.specs.Prelude.{◌≡◌, ◌+◌, ◌<◌, ◌≤◌, ◌^◌, true, false, []};
@@ -28,7 +36,7 @@ const ROW_SCALE: i128 = 1 << 20;
 const MARGIN_SHARE: i128 = 1 << 16;
 
 /// The greater of two numbers.
-fn greater(a: NarrowInteger, b: NarrowInteger) -> NarrowInteger
+fn greater_of(a: NarrowInteger, b: NarrowInteger) -> NarrowInteger
     ensures { result ≡ greater_of a b }
 {
     if a.get() < b.get() { b } else { a }
@@ -51,7 +59,7 @@ fn greatest_diagonal(form: &Form) -> NarrowInteger
 {
     let mut greatest = entry(form, 0, 0);
     for i in 1..form.d as usize {
-        greatest = greater(greatest, entry(form, i, i));
+        greatest = greater_of(greatest, entry(form, i, i));
     }
     greatest
 }
@@ -246,7 +254,7 @@ fn no_squares() -> Squares
 
 /// The squares that rounded elimination gives for a symmetric form. Where it has none, or squares
 /// with numbers that are too wide for their check, there are none.
-pub(crate) fn eliminated(form: &Form) -> Option<Squares>
+pub(crate) fn squares_of(form: &Form) -> Option<Squares>
     requires places { form.now.d ≤ greatest_order }
     requires symmetric { is_symmetric form.now.d (matrix_of form.now.rows) ≡ true }
     ensures { let T = matrix_of form.now.rows in

@@ -3,8 +3,8 @@
 #![tactic(auto)]
 
 mod elimination;
+mod partial_sums;
 mod quotient;
 mod search;
-mod stepping;
 
 pub use search::{MOST_LOOKS, SumOffer, first_offer};

@@ -1,12 +1,18 @@
 // The search for a form that its check accepts.
+//
+// The forms after 1, 2, 4, .. 2048 steps are tried, each with squares by elimination for itself and
+// for what it loses in a step. The steps double, since what is missing from a partial sum shrinks
+// with a power of the greatest root, so that a root near the circle needs many. The check of offers
+// decides; a form that it refuses is no mistake, only too early a partial sum or too coarse a
+// rounding.
 ghost use Rattle.std.specs.Prelude.{◌≡◌, ◌-◌, ◌^◌, ◌<◌, ◌≤◌, length, IfSome, None};
 ghost use Rattle.dsv_forms.specs.Refusals.{falls_refusal};
 ghost use Rattle.dsv_sums.specs.Partial.{form_after};
 ghost use Rattle.dsv_sums.specs.SumForms.{where_accepted, offer_with};
 ghost use Rattle.dsv_sums.specs.SumForms.{most_looks, first_offer};
 
-use crate::elimination::eliminated;
-use crate::stepping::{first_form, next_form};
+use crate::elimination::squares_of;
+use crate::partial_sums::{first_form, next_form};
 use dsv_forms::{Falls, Form, Poly, check_falls, fall_form};
 
 /// How often the search looks: after 1, 2, 4, .. 2048 steps.
@@ -19,7 +25,7 @@ pub struct SumOffer {
     pub offer: Falls,
 }
 
-/// The form so many steps after this one.
+/// The form that this one is after `steps` steps.
 fn form_after(poly: &Poly, form: &Form, steps: u32) -> Option<Form>
     ensures { result ≡ form_after poly.now form.now steps }
 {
@@ -51,9 +57,9 @@ fn offer_with(poly: &Poly, form: &Form) -> Option<Falls>
     if !form.is_symmetric() {
         return None;
     }
-    let positive = eliminated(form)?;
+    let positive = squares_of(form)?;
     let loss = fall_form(c, form);
-    let fall = eliminated(&loss)?;
+    let fall = squares_of(&loss)?;
     let offer = Falls {
         form: *form,
         positive,

@@ -4,8 +4,8 @@ use Rattle.std.specs.Prelude.{Result, Ok, Err}
 use Rattle.std.proofs.lemmas.Bool.Decides.{nat_tests}
 use Rattle.dsv_names.specs.declared.field.Field.TheVariants as field
 use Rattle.dsv_names.specs.declared.block.Block.{Block}
-use Rattle.dsv_names.specs.declared.wanted.Wanted.{Wanted}
-use Rattle.dsv_names.specs.declared.wanted.Wanted.TheVariants as wanted
+use Rattle.dsv_names.specs.declared.want.Wanted.{Wanted}
+use Rattle.dsv_names.specs.declared.want.Wanted.TheVariants as wanted
 use Rattle.dsv_token.specs.declared.refusal.FileRefusal.{FileRefusal}
 use Rattle.dsv_token.specs.declared.refusal.FileRefusal.TheVariants as refusal
 use Rattle.dsv_token.specs.declared.token.Word.TheVariants as word

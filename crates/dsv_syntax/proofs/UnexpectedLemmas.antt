@@ -1,8 +1,8 @@
 -- Where the grammar stops, the reading does.
 use Rattle.std.proofs.Common.{◌≡◌, ℕ, List, [], ◌∷◌, ◌++◌, Option, Some, None, refl, sym, ap, subst, ◌∙◌, append_assoc, append-nil}
 use Rattle.std.specs.Prelude.{Result, Ok, Err}
-use Rattle.dsv_names.specs.declared.wanted.Wanted.{Wanted}
-use Rattle.dsv_names.specs.declared.wanted.Wanted.TheVariants as wanted
+use Rattle.dsv_names.specs.declared.want.Wanted.{Wanted}
+use Rattle.dsv_names.specs.declared.want.Wanted.TheVariants as wanted
 use Rattle.dsv_token.specs.declared.refusal.FileRefusal.{FileRefusal}
 use Rattle.dsv_token.specs.declared.refusal.FileRefusal.TheVariants as refusal
 use Rattle.dsv_token.specs.declared.token.Token.{Token}

@@ -28,7 +28,7 @@ impl Entry {
     ghost use Rattle.dsv_syntax.specs.Parsing.{blank_entry};
 
     /// The entry of no field.
-    pub(crate) fn blank(alloc: Global) -> Self
+    pub(crate) fn blank_entry(alloc: Global) -> Self
         ensures { result ≡ blank_entry }
     {
         Entry {

@@ -1,6 +1,6 @@
 // The grammar and the reading of tokens.
 ghost use Rattle.std.specs.Prelude.{◌≡◌, ℕ, List, Ok, Err};
-ghost use Rattle.dsv_names.specs.declared.wanted.Wanted.{Wanted};
+ghost use Rattle.dsv_names.specs.declared.want.Wanted.{Wanted};
 ghost use Rattle.dsv_token.specs.declared.refusal.FileRefusal.{FileRefusal};
 ghost use Rattle.dsv_token.specs.declared.refusal.FileRefusal.TheVariants.{Unexpected};
 ghost use Rattle.dsv_token.specs.declared.token.Token.{Token};

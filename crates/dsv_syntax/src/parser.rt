@@ -191,7 +191,7 @@ impl Parser {
                 implementation: None,
                 hardware: None,
             },
-            entry: Entry::blank(alloc),
+            entry: Entry::blank_entry(alloc),
             depth: 0,
             entries: Entries::new(alloc),
         }
@@ -238,7 +238,7 @@ impl Parser {
     fn field_done(mut self, alloc: Global) -> Result<Self, FileRefusal>
         ensures { Gives (λ p. p) result (Ok (field_done self)) }
     {
-        let entry = mem::replace(&mut self.entry, Entry::blank(alloc));
+        let entry = mem::replace(&mut self.entry, Entry::blank_entry(alloc));
         self.entries.push(entry)?;
         Ok(Parser {
             place: Place::FieldComma,

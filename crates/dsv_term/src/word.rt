@@ -19,7 +19,7 @@ pub(crate) fn mask(width: u32) -> u128
 }
 
 /// A number's lowest bits.
-fn low(number: u128, width: u32) -> u128
+fn low_bits(number: u128, width: u32) -> u128
     requires { IsWidth width }
     ensures { result ≡ number % 2 ^ width }
 {
@@ -51,7 +51,7 @@ impl Word {
     {
         Word {
             width,
-            number: low(z.cast_unsigned(), width),
+            number: low_bits(z.cast_unsigned(), width),
         }
     }
 
@@ -62,7 +62,7 @@ impl Word {
     {
         Word {
             width: self.width,
-            number: low(self.number.wrapping_add(other.number), self.width),
+            number: low_bits(self.number.wrapping_add(other.number), self.width),
         }
     }
 
@@ -73,7 +73,7 @@ impl Word {
     {
         Word {
             width: self.width,
-            number: low(self.number.wrapping_sub(other.number), self.width),
+            number: low_bits(self.number.wrapping_sub(other.number), self.width),
         }
     }
 
@@ -84,7 +84,7 @@ impl Word {
     {
         Word {
             width: self.width,
-            number: low(0u128.wrapping_sub(self.number), self.width),
+            number: low_bits(0u128.wrapping_sub(self.number), self.width),
         }
     }
 
@@ -95,7 +95,7 @@ impl Word {
     {
         Word {
             width: self.width,
-            number: low(
+            number: low_bits(
                 i128::from(coeff).cast_unsigned().wrapping_mul(self.number),
                 self.width,
             ),
@@ -134,14 +134,14 @@ impl Word {
     }
 
     /// Whether the number is less, without signs.
-    pub fn less(self, other: Word) -> Word
+    pub fn less_than(self, other: Word) -> Word
         ensures { result ≡ less_of self other }
     {
         bit(self.number < other.number)
     }
 
     /// Whether the numbers are the same.
-    pub fn same(self, other: Word) -> Word
+    pub fn same_as(self, other: Word) -> Word
         ensures { result ≡ same_of self other }
     {
         bit(self.number == other.number)
@@ -199,7 +199,7 @@ impl Word {
     {
         Word {
             width,
-            number: low(self.signed_value().cast_unsigned(), width),
+            number: low_bits(self.signed_value().cast_unsigned(), width),
         }
     }
 
@@ -213,7 +213,7 @@ impl Word {
         let width = highest + 1 - lowest;
         Word {
             width,
-            number: low(self.number >> lowest, width),
+            number: low_bits(self.number >> lowest, width),
         }
     }
 

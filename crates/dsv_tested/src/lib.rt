@@ -1,12 +1,12 @@
 //! The polynomial that a property of a quantised controller tests.
 #![tactic(auto)]
 
-mod halving;
+mod common_twos;
 mod law;
 mod list;
+mod polynomials;
 mod side;
-mod testing;
 
 pub use law::common_twos_are_taken_out;
+pub use polynomials::polynomial_of;
 pub use side::{Side, Tested, side_of};
-pub use testing::tested;

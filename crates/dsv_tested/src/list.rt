@@ -79,7 +79,7 @@ fn is_negative(c: &i64) -> bool
 }
 
 /// The number with its sign changed.
-fn opposite(c: &i64) -> i64
+fn negation(c: &i64) -> i64
     requires { unsigned_abs c.now ≤ greatest_coefficient }
     ensures { result ≡ neg_ℤ c.now }
 {
@@ -87,14 +87,14 @@ fn opposite(c: &i64) -> i64
 }
 
 /// All the numbers with their signs changed.
-fn opposites(list: &[i64]) -> Coeffs
+fn negations(list: &[i64]) -> Coeffs
     requires few { length list.now ≤ most_coefficients }
     requires small { All (λ c. unsigned_abs c ≤ greatest_coefficient) list.now }
     ensures { result.items ≡ map neg_ℤ list.now }
 {
     let mut changed = Coeffs::new();
     for c in list {
-        changed.push(opposite(c));
+        changed.push(negation(c));
     }
     changed
 }
@@ -105,7 +105,7 @@ pub(crate) fn with_positive_lead(list: Coeffs) -> Coeffs
     ensures { result.items ≡ with_positive_lead list.items }
 {
     match list.first() {
-        Some(lead) if is_negative(lead) => opposites(list.as_slice()),
+        Some(lead) if is_negative(lead) => negations(list.as_slice()),
         _ => list,
     }
 }

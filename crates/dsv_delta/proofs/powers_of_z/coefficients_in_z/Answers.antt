@@ -32,7 +32,7 @@ loop-word-preserved c =
     let e = c.in-Some.e in
     let index = c.len-index.ensures.value ∙ c.loop-word.invariant.part.places in
     let made : Some e ≡ bounded (E j) =
-    sym c.in-Some.is ∙ c.scaled.ensures ∙ ap (λ k. bounded (vector_of cs j *ℤ pos (scale.numerator ^ k * scale.denominator ^ (order - k)))) index in
+    sym c.in-Some.is ∙ c.scaled_coefficient.ensures ∙ ap (λ k. bounded (vector_of cs j *ℤ pos (scale.numerator ^ k * scale.denominator ^ (order - k)))) index in
     let is = bounded_some (E j) e made in
     let fits : SFits w128 c.get.result = search rules in
     let all : c.times_z_less_one-list.result.items ≡ differences (pos 0) xs e =
@@ -53,7 +53,7 @@ returns-in_default-clause-exact c =
     let j = c.loop-word.word-index in
     let index = c.len-index.ensures.value ∙ c.loop-word.invariant.part.places in
     let made : None ≡ bounded (E j) =
-    sym c.in_default.is ∙ c.scaled.ensures ∙ ap (λ k. bounded (vector_of cs j *ℤ pos (scale.numerator ^ k * scale.denominator ^ (order - k)))) index in
+    sym c.in_default.is ∙ c.scaled_coefficient.ensures ∙ ap (λ k. bounded (vector_of cs j *ℤ pos (scale.numerator ^ k * scale.denominator ^ (order - k)))) index in
     wide_list scale cs c.len-index.result (first_at E j (length cs) (omega arith) c.loop-word.invariant.narrow (wide_at (E j) made) ∙ ap Some (sym index))
 
 pub returns-clause-exact : goal.returns-clause-exact

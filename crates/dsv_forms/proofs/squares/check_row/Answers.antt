@@ -16,7 +16,7 @@ returns-in_err-check_place c =
     let gone : refusal_of c.from_residual.result ≡ Some e = search rules in
     gone ∙ sym (from_some (λ j. place_tests c.args.part c.args.n s (P i j) [] i j) i c.args.form.now.d j e (omega arith) (omega arith) c.loop-j.invariant
     (place_tests-is c.args.part c.args.n s (P i j) i j ∙ ap (λ x. sides_refusal c.args.part i j (sides_of c.args.n s x i j)) (sym c.entry.ensures)
-    ∙ sym c.check_place.ensures ∙ refusal-err c.check_place.result e c.in_err-check_place.was))
+    ∙ ap (sides_refusal c.args.part i j) (sym c.both_sides-sides.ensures) ∙ sym c.check_place.ensures ∙ refusal-err c.check_place.result e c.in_err-check_place.was))
 
 pub loop-j-preserved : goal.loop-j-preserved
 loop-j-preserved c =
@@ -26,7 +26,7 @@ loop-j-preserved c =
     let j = c.loop-j.j in
     from_more (λ j. place_tests c.args.part c.args.n s (P i j) [] i j) i j c.loop-j.invariant
     (place_tests-is c.args.part c.args.n s (P i j) i j ∙ ap (λ x. sides_refusal c.args.part i j (sides_of c.args.n s x i j)) (sym c.entry.ensures)
-    ∙ sym c.check_place.ensures ∙ refusal-ok c.check_place.result c.in_ok-check_place.field-0 c.in_ok-check_place.was)
+    ∙ ap (sides_refusal c.args.part i j) (sym c.both_sides-sides.ensures) ∙ sym c.check_place.ensures ∙ refusal-ok c.check_place.result c.in_ok-check_place.field-0 c.in_ok-check_place.was)
 
 pub returns : goal.returns
 returns c =

@@ -8,4 +8,4 @@ pub returns-in_err-times_ten_to : goal.returns-in_err-times_ten_to
 returns-in_err-times_ten_to t c = ten_refused c.requires c.if-count-eq0.false c.in_err-times_ten_to.ensures c.from_residual.ensures.0
 
 pub returns : goal.returns
-returns t c = ten_given c.requires c.if-count-eq0.false c.in_ok-times_ten_to.ensures c.whole.ensures c.mul.ensures.exact
+returns t c = ten_given c.requires c.if-count-eq0.false c.in_ok-times_ten_to.ensures c.whole_number.ensures c.mul.ensures.exact

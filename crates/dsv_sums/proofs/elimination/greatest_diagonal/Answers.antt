@@ -9,5 +9,5 @@ loop-i-preserved c =
     let some = c.loop-i.invariant.some in
     record {
       some = omega arith;
-      same = rw (c.greater-greatest.ensures, c.loop-i.invariant.same, c.entry.ensures) (sym (greatest_next T c.loop-i.i some));
+      same = rw (c.greater_of-greatest.ensures, c.loop-i.invariant.same, c.entry.ensures) (sym (greatest_next T c.loop-i.i some));
     }

@@ -15,8 +15,8 @@ is_symmetric-requires c =
     let same = c.requires in
     omega arith
 
-pub eliminated-requires-clause-places : goal.eliminated-requires-clause-places
-eliminated-requires-clause-places c =
+pub squares_of-requires-clause-places : goal.squares_of-requires-clause-places
+squares_of-requires-clause-places c =
     let few = c.coefficients-c.ensures.poly.few in
     let long = ap length c.coefficients-c.ensures.same in
     let same = c.requires in
@@ -25,12 +25,12 @@ eliminated-requires-clause-places c =
 pub returns-in_err-positive-clause-same : goal.returns-in_err-positive-clause-same
 returns-in_err-positive-clause-same c =
     let P = matrix_of c.args.form.now.rows in
-    let lost = rw c.in_err-positive.was at c.eliminated.ensures in
+    let lost = rw c.in_err-positive.was at c.squares_of.ensures in
     c.from_residual.ensures
     ∙ positive_refused c.args.poly.now c.args.form.now (subst (λ n. AreRefused n P) c.requires lost)
 
-pub eliminated-requires-2-clause-symmetric : goal.eliminated-requires-2-clause-symmetric
-eliminated-requires-2-clause-symmetric c =
+pub squares_of-requires-2-clause-symmetric : goal.squares_of-requires-2-clause-symmetric
+squares_of-requires-2-clause-symmetric c =
     let xs = c.args.poly.now in
     let d = length xs - 1 in
     let form = c.args.form.now in
@@ -50,7 +50,7 @@ returns-in_err-fall-clause-same c =
     let long = ap length c.coefficients-c.ensures.same in
     let its : loss.d ≡ d = omega (arith, c.fall_form-loss.ensures.places) in
     let symmetric : is_symmetric d (matrix_of form.rows) ≡ true = ap (λ n. is_symmetric n (matrix_of form.rows)) (sym c.requires) ∙ sym c.if-not-is_symmetric.ensures in
-    let lost = rw c.in_err-fall.was at c.eliminated-2.ensures in
+    let lost = rw c.in_err-fall.was at c.squares_of-2.ensures in
     c.from_residual-in_err-fall.ensures
     ∙ fall_refused xs form loss symmetric w (subst (λ n. AreRefused n (matrix_of loss.rows)) its lost)
 
@@ -64,8 +64,8 @@ returns-clause-same c =
     let long = ap length c.coefficients-c.ensures.same in
     let its : loss.d ≡ d = omega (arith, c.fall_form-loss.ensures.places) in
     let symmetric : is_symmetric d (matrix_of form.rows) ≡ true = ap (λ n. is_symmetric n (matrix_of form.rows)) (sym c.requires) ∙ sym c.if-not-is_symmetric.ensures in
-    let first = rw c.in_ok-positive.was at c.eliminated.ensures in
-    let second = rw c.in_ok-fall.was at c.eliminated-2.ensures in
+    let first = rw c.in_ok-positive.was at c.squares_of.ensures in
+    let second = rw c.in_ok-fall.was at c.squares_of-2.ensures in
     c.where_accepted.ensures.same
     ∙ offered xs form loss c.in_ok-positive.positive c.in_ok-fall.fall symmetric w
     (ap (λ n. elimination n (matrix_of form.rows)) (sym c.requires) ∙ first)

@@ -11,8 +11,8 @@ pub returns-in_default-checked_mul : goal.returns-in_default-checked_mul
 returns-in_default-checked_mul c =
     refused_den (differ c.args.own.negative c.args.its.negative) c.requires.own c.requires.its c.cancel-first.ensures.parts c.cancel-second.ensures.parts (omega (arith, c.in_default-checked_mul.ensures))
 
-pub exact-requires : goal.exact-requires
-exact-requires c =
+pub exact_fraction-requires : goal.exact_fraction-requires
+exact_fraction-requires c =
     let g = product_coprime c.requires.own c.requires.its c.cancel-first.ensures.parts c.cancel-second.ensures.parts in
     let p = c.in-Some.ensures in
     let q = c.in-Some-checked_mul.ensures in
@@ -22,4 +22,4 @@ pub returns : goal.returns
 returns c =
     let p = c.in-Some.ensures in
     let q = c.in-Some-checked_mul.ensures in
-    given (differ c.args.own.negative c.args.its.negative) c.requires.own c.requires.its c.cancel-first.ensures.parts c.cancel-second.ensures.parts p.1 q.1 c.exact.ensures
+    given (differ c.args.own.negative c.args.its.negative) c.requires.own c.requires.its c.cancel-first.ensures.parts c.cancel-second.ensures.parts p.1 q.1 c.exact_fraction.ensures

@@ -10,4 +10,4 @@ returns c =
     let z = c.args.z in
     let fits : FitsSigned w128 z = search rules in
     ap (λ n. record { width = w; number = n })
-    (c.low.ensures ∙ (ap (λ n. n % 2 ^ w) (c.cast_unsigned.ensures ∙ passed z fits) ∙ cast_wraps w z (narrow c.requires) fits))
+    (c.low_bits.ensures ∙ (ap (λ n. n % 2 ^ w) (c.cast_unsigned.ensures ∙ passed z fits) ∙ cast_wraps w z (narrow c.requires) fits))

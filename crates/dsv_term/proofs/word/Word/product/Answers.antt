@@ -14,5 +14,5 @@ returns c =
     let fits : FitsSigned w128 z = search rules in
     let same : z ≡ c.args.coeff = omega (arith, ints) in
     ap (λ m. record { width = w; number = m })
-    (c.low.ensures ∙ (ap (λ m. m * n % 2 ^ 128 % 2 ^ w) (c.cast_unsigned.ensures ∙ passed z fits)
+    (c.low_bits.ensures ∙ (ap (λ m. m * n % 2 ^ 128 % 2 ^ w) (c.cast_unsigned.ensures ∙ passed z fits)
     ∙ (product_wraps w z n (narrow c.requires.lawful) fits ∙ ap (λ y. residue w (y *ℤ pos n)) same)))

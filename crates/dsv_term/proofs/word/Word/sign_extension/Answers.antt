@@ -11,5 +11,5 @@ returns c =
     let z = c.signed_value.result in
     let fits : FitsSigned w128 z = search rules in
     ap (λ n. record { width = w; number = n })
-    (c.low.ensures ∙ (ap (λ n. n % 2 ^ w) (c.cast_unsigned.ensures ∙ passed z fits)
+    (c.low_bits.ensures ∙ (ap (λ n. n % 2 ^ w) (c.cast_unsigned.ensures ∙ passed z fits)
     ∙ (cast_wraps w z (narrow c.requires.width) fits ∙ ap (residue w) c.signed_value.ensures)))

@@ -4,4 +4,4 @@ use Rattle.dsv_term.proofs.word.Word.sum.Goals as goal
 
 pub returns : goal.returns
 returns c =
-    ap (λ n. record { width = c.args.self.width; number = n }) (c.low.ensures ∙ mod_twice 128 c.args.self.width (c.args.self.number + c.args.other.number) (narrow c.requires.lawful))
+    ap (λ n. record { width = c.args.self.width; number = n }) (c.low_bits.ensures ∙ mod_twice 128 c.args.self.width (c.args.self.number + c.args.other.number) (narrow c.requires.lawful))

@@ -1,5 +1,0 @@
-use Rattle.dsv_fraction.proofs.Powers.{over_one}
-use Rattle.dsv_fraction.proofs.fraction.Frac.whole.Goals as goal
-
-pub of_sizes-requires-clause-coprime : goal.of_sizes-requires-clause-coprime
-of_sizes-requires-clause-coprime c = over_one c.args.size
