@@ -6,12 +6,12 @@
 #[cfg(test)]
 mod netlists;
 #[cfg(test)]
-mod quantising;
+mod quantisation;
 #[cfg(test)]
-mod replaying;
+mod replays;
 #[cfg(test)]
-mod running;
+mod runs;
 #[cfg(test)]
 mod sizes;
 #[cfg(test)]
-mod stepping;
+mod steps;

@@ -1,39 +1,48 @@
 // Netlists of nodes: which nodes make one, and what its readers and its step give.
-use crate::stepping::step_outcome;
+use crate::steps::step_outcome;
 use dsv_names::{OverflowMode, Rounding};
 use dsv_netlist::{Netlist, Node, OpCounts};
 use dsv_word::Format;
 use std::alloc::Global;
 use std::test::Fail;
 
-/// The netlist of these nodes.
-fn netlist(
-    alloc: Global,
-    nodes: &[Node],
-    next: &[u32],
+/// What a netlist is made of, but for its format.
+#[derive(Clone, Copy)]
+struct Parts<'a> {
+    nodes: &'a [Node],
+    next: &'a [u32],
     output: u32,
     feed_forward: u32,
-    format: Format,
-) -> Option<Netlist> {
-    let nodes = Vec::from_slice(alloc, nodes).ok()?;
-    let next = Vec::from_slice(alloc, next).ok()?;
-    Netlist::new(nodes, next, output, feed_forward, format)
+}
+
+/// The parts of a netlist without registers.
+fn without_registers(nodes: &[Node], output: u32) -> Parts<'_> {
+    Parts {
+        nodes,
+        next: &[],
+        output,
+        feed_forward: 0,
+    }
+}
+
+/// The netlist of these parts.
+fn netlist(alloc: Global, parts: Parts, format: Format) -> Option<Netlist> {
+    let nodes = Vec::from_slice(alloc, parts.nodes).ok()?;
+    let next = Vec::from_slice(alloc, parts.next).ok()?;
+    Netlist::new(nodes, next, parts.output, parts.feed_forward, format)
 }
 
 /// Whether these nodes make a netlist in words of four bits, two of them after the point: -8 to 7.
-fn is_netlist(alloc: Global, nodes: &[Node], next: &[u32], output: u32, feed_forward: u32) -> bool {
+fn is_netlist(alloc: Global, parts: Parts) -> bool {
     match Format::new(2, 2, Rounding::Floor, OverflowMode::Wrap) {
-        Ok(format) => netlist(alloc, nodes, next, output, feed_forward, format).is_some(),
+        Ok(format) => netlist(alloc, parts, format).is_some(),
         Err(_) => false,
     }
 }
 
-/// Nodes, and whether they make a netlist.
+/// Parts, and whether they make a netlist.
 struct Offer {
-    nodes: &'static [Node],
-    next: &'static [u32],
-    output: u32,
-    feed_forward: u32,
+    parts: Parts<'static>,
     is_netlist: bool,
 }
 
@@ -47,113 +56,132 @@ const LINE: &[Node] = &[Node::Input, WIDE, Node::Round(1), Node::Fit(2)];
 
 const OFFERS: [Offer; 13] = [
     Offer {
-        nodes: LINE,
-        next: &[0, 3],
-        output: 3,
-        feed_forward: 2,
+        parts: Parts {
+            nodes: LINE,
+            next: &[0, 3],
+            output: 3,
+            feed_forward: 2,
+        },
         is_netlist: true,
     },
     // A register that isn't there, a node that refers to itself, and one that refers to a later
     // one.
     Offer {
-        nodes: &[Node::Reg(0)],
-        next: &[],
-        output: 0,
-        feed_forward: 0,
+        parts: Parts {
+            nodes: &[Node::Reg(0)],
+            next: &[],
+            output: 0,
+            feed_forward: 0,
+        },
         is_netlist: false,
     },
     Offer {
-        nodes: &[Node::Input, Node::Fit(1)],
-        next: &[],
-        output: 1,
-        feed_forward: 0,
+        parts: Parts {
+            nodes: &[Node::Input, Node::Fit(1)],
+            next: &[],
+            output: 1,
+            feed_forward: 0,
+        },
         is_netlist: false,
     },
     Offer {
-        nodes: &[Node::Add(0, 1), Node::Input],
-        next: &[],
-        output: 1,
-        feed_forward: 0,
+        parts: Parts {
+            nodes: &[Node::Add(0, 1), Node::Input],
+            next: &[],
+            output: 1,
+            feed_forward: 0,
+        },
         is_netlist: false,
     },
     // An entry of `next` and an output that are no nodes, or not words.
     Offer {
-        nodes: LINE,
-        next: &[4],
-        output: 3,
-        feed_forward: 0,
+        parts: Parts {
+            nodes: LINE,
+            next: &[4],
+            output: 3,
+            feed_forward: 0,
+        },
         is_netlist: false,
     },
     Offer {
-        nodes: LINE,
-        next: &[],
-        output: 4,
-        feed_forward: 0,
+        parts: Parts {
+            nodes: LINE,
+            next: &[],
+            output: 4,
+            feed_forward: 0,
+        },
         is_netlist: false,
     },
     Offer {
-        nodes: LINE,
-        next: &[2],
-        output: 3,
-        feed_forward: 0,
+        parts: Parts {
+            nodes: LINE,
+            next: &[2],
+            output: 3,
+            feed_forward: 0,
+        },
         is_netlist: false,
     },
     Offer {
-        nodes: LINE,
-        next: &[],
-        output: 1,
-        feed_forward: 0,
+        parts: Parts {
+            nodes: LINE,
+            next: &[],
+            output: 1,
+            feed_forward: 0,
+        },
         is_netlist: false,
     },
     // More feed-forward registers than registers.
     Offer {
-        nodes: LINE,
-        next: &[0],
-        output: 3,
-        feed_forward: 2,
+        parts: Parts {
+            nodes: LINE,
+            next: &[0],
+            output: 3,
+            feed_forward: 2,
+        },
         is_netlist: false,
     },
     // As many nodes and registers as may be, and one more.
     Offer {
-        nodes: &[Node::Input; 512],
-        next: &[],
-        output: 511,
-        feed_forward: 0,
+        parts: Parts {
+            nodes: &[Node::Input; 512],
+            next: &[],
+            output: 511,
+            feed_forward: 0,
+        },
         is_netlist: true,
     },
     Offer {
-        nodes: &[Node::Input; 513],
-        next: &[],
-        output: 511,
-        feed_forward: 0,
+        parts: Parts {
+            nodes: &[Node::Input; 513],
+            next: &[],
+            output: 511,
+            feed_forward: 0,
+        },
         is_netlist: false,
     },
     Offer {
-        nodes: &[Node::Input],
-        next: &[0; 512],
-        output: 0,
-        feed_forward: 512,
+        parts: Parts {
+            nodes: &[Node::Input],
+            next: &[0; 512],
+            output: 0,
+            feed_forward: 512,
+        },
         is_netlist: true,
     },
     Offer {
-        nodes: &[Node::Input],
-        next: &[0; 513],
-        output: 0,
-        feed_forward: 0,
+        parts: Parts {
+            nodes: &[Node::Input],
+            next: &[0; 513],
+            output: 0,
+            feed_forward: 0,
+        },
         is_netlist: false,
     },
 ];
 
 /// Whether the offer makes a netlist exactly where it should.
 fn is_judged(alloc: Global, offer: &Offer) -> bool {
-    let made = is_netlist(
-        alloc,
-        offer.nodes,
-        offer.next,
-        offer.output,
-        offer.feed_forward,
-    );
-    made == offer.is_netlist
+    is_netlist(alloc, offer.parts) == offer.is_netlist
 }
 
 #[test]
@@ -172,8 +200,8 @@ fn one_fitted_value_too_many(rt: HostRuntime) -> Result<(), Fail> {
     let alloc = rt.alloc();
     let mut fits = [Node::Fit(0); 162];
     fits[0] = Node::Input;
-    let most = is_netlist(alloc, &fits[..161], &[], 160, 0);
-    let more = is_netlist(alloc, &fits, &[], 160, 0);
+    let most = is_netlist(alloc, without_registers(&fits[..161], 160));
+    let more = is_netlist(alloc, without_registers(&fits, 160));
     assert!(rt; most && !more);
     Ok(())
 }
@@ -188,7 +216,7 @@ fn bounds_stay_below_the_limit(rt: HostRuntime) -> Result<(), Fail> {
     let alloc = rt.alloc();
     // A word's bound is 2^3, and the limit is 2^78.
     let at = [Node::Input, WIDE, product_of_wide(-(1 << 13))];
-    assert!(rt; !is_netlist(alloc, &at, &[], 0, 0));
+    assert!(rt; !is_netlist(alloc, without_registers(&at, 0)));
     Ok(())
 }
 
@@ -196,7 +224,7 @@ fn bounds_stay_below_the_limit(rt: HostRuntime) -> Result<(), Fail> {
 fn bounds_are_told(rt: HostRuntime) -> Result<(), Fail> {
     let below = [Node::Input, WIDE, product_of_wide(1 - (1 << 13))];
     let format = Format::new(2, 2, Rounding::Floor, OverflowMode::Wrap)?;
-    let Some(net) = netlist(rt.alloc(), &below, &[], 0, 0, format) else {
+    let Some(net) = netlist(rt.alloc(), without_registers(&below, 0), format) else {
         return Err(Fail::from("no netlist"));
     };
     let bound = if net.len() == 3 { net.bound(2) } else { 0 };
@@ -299,7 +327,13 @@ fn is_sample(alloc: Global, sample: &Sample) -> bool {
     let Ok(format) = Format::new(2, 2, sample.rounding, sample.overflow) else {
         return false;
     };
-    let Some(net) = netlist(alloc, sample.nodes, &[0], sample.output, 0, format) else {
+    let parts = Parts {
+        nodes: sample.nodes,
+        next: &[0],
+        output: sample.output,
+        feed_forward: 0,
+    };
+    let Some(net) = netlist(alloc, parts, format) else {
         return false;
     };
     let mut registers = [sample.start];
@@ -356,7 +390,13 @@ fn readers_tell_what_a_netlist_is_made_of(rt: HostRuntime) -> Result<(), Fail> {
         Node::Fit(4),
     ];
     let format = Format::new(2, 2, Rounding::Floor, OverflowMode::Wrap)?;
-    let Some(net) = netlist(rt.alloc(), &nodes, &[0, 5, 5], 5, 1, format) else {
+    let parts = Parts {
+        nodes: &nodes,
+        next: &[0, 5, 5],
+        output: 5,
+        feed_forward: 1,
+    };
+    let Some(net) = netlist(rt.alloc(), parts, format) else {
         return Err(Fail::from("no netlist"));
     };
     assert!(rt; is_told(&net));

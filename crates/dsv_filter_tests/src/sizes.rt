@@ -1,5 +1,5 @@
 // How many nodes, operations and registers the realisations take.
-use crate::stepping::words_of;
+use crate::steps::words_of;
 use dsv_meaning::{forward_registers, products, registers, sums};
 use dsv_names::{OverflowMode, Realisation, Rounding};
 use dsv_netlist::OpCounts;

@@ -39,7 +39,7 @@ abbrev pub exact_values : List SampleRow → List ℤ
 exact_values [] = []
 exact_values (row ∷ rows) = row.exact ++ exact_values rows
 
--- over all lists of so many inputs in the range, from registers of zeros, the facts hold of the
+-- over all lists of `samples` inputs in the range, from registers of zeros, the facts hold of the
 -- netlist's exact values
 abbrev pub AreFacts : Net → ℤ → ℤ → ℕ → List Fact → Type 0
 AreFacts net low high samples facts = (xs : List ℤ) → length xs ≡ samples → AreInRange low high xs

@@ -51,7 +51,7 @@ abbrev pub rounded_in : Format → List Range → List ℤ → Option Entry
 rounded_in format ranges form = rounded (2 ^ format.frac_bits)
     (error_range format.rounding format.frac_bits) ranges form
 
--- an input from this range, after so many symbols
+-- an input from this range, after `count` symbols
 abbrev pub input_entry : Range → ℕ → Option Entry
 input_entry input count = scaled_range input >>= λ symbol. with_symbol (unit count) symbol
 
@@ -182,7 +182,7 @@ loaded next start point = record {
   registers = map (estimate_at point.estimates) next;
 }
 
--- the facts after so many samples
+-- the facts after further samples
 abbrev pub facts_from : Net → ℕ → Start → Point → List Fact
 facts_from net zero start point = point.facts
 facts_from net (suc samples) start point = let now = after_sample net start point in
@@ -203,6 +203,6 @@ zero_start net low high = record {
 abbrev pub no_point : Point
 no_point = record { estimates = []; ranges = []; facts = [] }
 
--- the facts of a run of so many samples from registers of zeros, over inputs from one to another
+-- the facts of a run of `samples` samples from registers of zeros, over inputs from one to another
 unfoldable pub facts_of : Net → ℤ → ℤ → ℕ → List Fact
 facts_of net low high samples = facts_from net samples (zero_start net low high) no_point

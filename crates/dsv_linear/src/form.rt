@@ -1,11 +1,17 @@
 // Linear forms, whose numbers are given up where they aren't narrow.
+//
+// Affine arithmetic (Comba and Stolfi 1993; de Figueiredo and Stolfi 2004): a value is a linear
+// form over symbols, which are the inputs and one error for each rounded product, and each symbol
+// has a range. Unlike with plain intervals, what two values share cancels in their difference.
+// Coefficients are whole numbers over the scale 2^40. A form's range is the sum of the worst cases
+// of its terms.
 ghost use Rattle.std.specs.Prelude.{◌≡◌, ◌<◌, length, IfOk};
 ghost use Rattle.dsv_netlist.specs.Nodes.{at};
 ghost use Rattle.dsv_linear.specs.Forms.{scale, sums, differences, products, unit, longer};
 ghost use Rattle.dsv_algebra.specs.Narrow.{narrow_of};
 ghost use Rattle.dsv_linear.specs.Forms.{least, greatest, least_term, greatest_term, form_range};
 
-use crate::range::{Range, greatest_factor, least_factor, lower, upper};
+use crate::range::{Range, greatest_factor, least_factor, lower_quotient, upper_quotient};
 use crate::{RANGE_SCALE, SCALE};
 use dsv_algebra::NarrowInteger;
 use dsv_base::{Items, NoMemory};
@@ -28,7 +34,7 @@ pub(crate) fn coefficient(form: &Form, j: usize) -> NarrowInteger
 }
 
 /// How many coefficients the longer of two forms has.
-fn longer(left: &Form, right: &Form) -> usize
+fn longer_length(left: &Form, right: &Form) -> usize
     ensures { result ≡ longer (length left.now) (length right.now) }
 {
     if left.len() < right.len() {
@@ -43,7 +49,7 @@ pub(crate) fn sum(alloc: Global, left: &Form, right: &Form) -> Result<Option<For
     ensures { IfOk result (λ form. form ≡ sums left.now right.now) }
 {
     let mut form = Form::new(alloc);
-    for j in 0..longer(left, right) {
+    for j in 0..longer_length(left, right) {
         let Some(entry) = coefficient(left, j).checked_add(coefficient(right, j)) else {
             return Ok(None);
         };
@@ -57,7 +63,7 @@ pub(crate) fn difference(alloc: Global, left: &Form, right: &Form) -> Result<Opt
     ensures { IfOk result (λ form. form ≡ differences left.now right.now) }
 {
     let mut form = Form::new(alloc);
-    for j in 0..longer(left, right) {
+    for j in 0..longer_length(left, right) {
         let Some(entry) = coefficient(left, j).checked_sub(coefficient(right, j)) else {
             return Ok(None);
         };
@@ -80,7 +86,7 @@ pub(crate) fn product(alloc: Global, c: NarrowInteger, of: &Form) -> Result<Opti
     Ok(Some(form))
 }
 
-/// The form of a new symbol, after so many others.
+/// The form of a new symbol, after `count` others.
 #[tactic(auto, using(crate::proofs::Entries::zeros_more, crate::proofs::Scales::scales))]
 pub(crate) fn unit(alloc: Global, count: usize) -> Result<Form, NoMemory>
     ensures { IfOk result (λ form. form ≡ unit count) }
@@ -103,7 +109,7 @@ fn least_term(ranges: &[Range], form: &Form, j: usize) -> Option<NarrowInteger>
 }
 
 /// The least sum of a form's coefficients, each times a number in its symbol's range.
-pub(crate) fn least(ranges: &[Range], form: &Form) -> Option<NarrowInteger>
+pub(crate) fn least_sum(ranges: &[Range], form: &Form) -> Option<NarrowInteger>
     ensures { result ≡ least ranges.now form.now }
 {
     let mut sum = NarrowInteger::from(0i64);
@@ -124,7 +130,7 @@ fn greatest_term(ranges: &[Range], form: &Form, j: usize) -> Option<NarrowIntege
 }
 
 /// The greatest sum of a form's coefficients, each times a number in its symbol's range.
-pub(crate) fn greatest(ranges: &[Range], form: &Form) -> Option<NarrowInteger>
+pub(crate) fn greatest_sum(ranges: &[Range], form: &Form) -> Option<NarrowInteger>
     ensures { result ≡ greatest ranges.now form.now }
 {
     let mut sum = NarrowInteger::from(0i64);
@@ -140,10 +146,10 @@ pub(crate) fn greatest(ranges: &[Range], form: &Form) -> Option<NarrowInteger>
 pub(crate) fn form_range(ranges: &[Range], form: &Form) -> Option<Range>
     ensures { result ≡ form_range ranges.now form.now }
 {
-    let low = least(ranges, form)?;
-    let high = greatest(ranges, form)?;
+    let low = least_sum(ranges, form)?;
+    let high = greatest_sum(ranges, form)?;
     Some(Range {
-        low: upper(low, SCALE * RANGE_SCALE)?,
-        high: lower(high, SCALE * RANGE_SCALE)?,
+        low: upper_quotient(low, SCALE * RANGE_SCALE)?,
+        high: lower_quotient(high, SCALE * RANGE_SCALE)?,
     })
 }

@@ -1,4 +1,9 @@
 // Plain intervals of nodes, and the facts that they choose.
+//
+// Interval arithmetic (Moore 1966), beside the forms: the least and the greatest value of a node
+// from those of its operands, cut to the words where a value is fitted. A fact is told only where
+// the form shows a word. Where the interval shows it too, the fact is the form's range
+// (`Fact::Within`); where the form alone does, it is that the value is a word (`Fact::Inside`).
 ghost use Rattle.std.specs.Prelude.{◌≡◌, if◌then◌else◌, int_lt, Some, None};
 ghost use Rattle.dsv_linear.specs.Known.{interval_at, rounded_end, rounded_range, cut_range};
 ghost use Rattle.dsv_linear.specs.Known.{node_interval, is_word, are_words, fact_of};
@@ -25,8 +30,8 @@ fn interval_at(estimates: &Items<Estimate>, i: u32) -> Option<Range>
 fn rounded_end(format: &Format, v: NarrowInteger) -> Option<NarrowInteger>
     ensures { result ≡ rounded_end format.now v }
 {
-    let whole = format.round_shift(v.narrow()?.get());
-    NarrowInteger::from(whole).narrow()
+    let whole = format.round_shift(v.narrow_number()?.get());
+    NarrowInteger::from(whole).narrow_number()
 }
 
 /// The range of numbers as the format rounds them.
@@ -40,14 +45,14 @@ fn rounded_range(format: &Format, range: &Range) -> Option<Range>
 }
 
 /// The greater of two numbers.
-fn greater(a: &i128, b: &i128) -> i128
+fn greater_of(a: &i128, b: &i128) -> i128
     ensures { result ≡ (if int_lt a.now b.now then b.now else a.now) }
 {
     if *a < *b { *b } else { *a }
 }
 
 /// The lesser of two numbers.
-fn lesser(a: &i128, b: &i128) -> i128
+fn lesser_of(a: &i128, b: &i128) -> i128
     ensures { result ≡ (if int_lt b.now a.now then b.now else a.now) }
 {
     if *b < *a { *b } else { *a }
@@ -57,8 +62,8 @@ fn lesser(a: &i128, b: &i128) -> i128
 fn cut_range(format: &Format, range: &Range) -> Range
     ensures { result ≡ cut_range format.now range.now }
 {
-    let low = greater(&range.low.get(), &i128::from(format.lo()));
-    let high = lesser(&range.high.get(), &i128::from(format.hi()));
+    let low = greater_of(&range.low.get(), &i128::from(format.lo()));
+    let high = lesser_of(&range.high.get(), &i128::from(format.hi()));
     Range::between(&low, &high)
 }
 

@@ -11,7 +11,7 @@ use crate::form::{Form, difference, product, sum, unit};
 use crate::intervals::{node_fact, node_interval};
 use crate::point::{Entry, Estimate, Point, Start, form_at};
 use crate::range::Range;
-use crate::rounding::rounded;
+use crate::rounding::rounded_entry;
 use dsv_algebra::NarrowInteger;
 use dsv_base::{Items, NoMemory};
 use dsv_netlist::Node;
@@ -82,16 +82,16 @@ fn rounded_at(
     ensures { IfOk result (λ entry. entry ≡ rounded_at start.now.format point.now i) }
 {
     match form_at(&point.estimates, i) {
-        Some(form) => rounded(alloc, &start.format, point.ranges.as_slice(), form),
+        Some(form) => rounded_entry(alloc, &start.format, point.ranges.as_slice(), form),
         None => Ok(None),
     }
 }
 
-/// An input from this range, after so many symbols.
+/// An input from this range, after `count` symbols.
 fn input_entry(alloc: Global, input: &Range, count: usize) -> Result<Option<Entry>, NoMemory>
     ensures { IfOk result (λ entry. entry ≡ input_entry input.now count) }
 {
-    let Some(symbol) = input.scaled() else {
+    let Some(symbol) = input.scaled_range() else {
         return Ok(None);
     };
     Ok(Some(Entry {

@@ -15,24 +15,24 @@ pub(crate) struct Range {
 }
 
 /// The quotient by a positive number, rounded down.
-pub(crate) fn lower(v: NarrowInteger, d: u64) -> Option<NarrowInteger>
+pub(crate) fn lower_quotient(v: NarrowInteger, d: u64) -> Option<NarrowInteger>
     requires { 0 < d }
     ensures { result ≡ lower v d }
 {
-    NarrowInteger::from(v.get().div_euclid(i128::from(d))).narrow()
+    NarrowInteger::from(v.get().div_euclid(i128::from(d))).narrow_number()
 }
 
 /// The quotient by a positive number, rounded up.
-pub(crate) fn upper(v: NarrowInteger, d: u64) -> Option<NarrowInteger>
+pub(crate) fn upper_quotient(v: NarrowInteger, d: u64) -> Option<NarrowInteger>
     requires { 0 < d }
     ensures { result ≡ upper v d }
 {
     let sum = v.checked_add(NarrowInteger::from(i128::from(d) - 1))?;
-    lower(sum, d)
+    lower_quotient(sum, d)
 }
 
 /// A range of two ends.
-fn both(low: Option<NarrowInteger>, high: Option<NarrowInteger>) -> Option<Range>
+fn range_of_ends(low: Option<NarrowInteger>, high: Option<NarrowInteger>) -> Option<Range>
     ensures { result ≡ both low high }
 {
     Some(Range {
@@ -68,18 +68,18 @@ impl Range {
 
     /// The range times the range scale.
     #[tactic(auto, using(crate::proofs::Scales::scales))]
-    pub(crate) fn scaled(&self) -> Option<Range>
+    pub(crate) fn scaled_range(&self) -> Option<Range>
         ensures { result ≡ scaled_range self.now }
     {
         let scale = NarrowInteger::from(RANGE_SCALE as i64);
-        both(scale.checked_mul(self.low), scale.checked_mul(self.high))
+        range_of_ends(scale.checked_mul(self.low), scale.checked_mul(self.high))
     }
 
     /// The range of products with a number.
     pub(crate) fn times(&self, c: NarrowInteger) -> Option<Range>
         ensures { result ≡ products_range c self.now }
     {
-        both(
+        range_of_ends(
             c.checked_mul(least_factor(c, self)),
             c.checked_mul(greatest_factor(c, self)),
         )
@@ -89,7 +89,7 @@ impl Range {
     pub(crate) fn plus(&self, other: &Range) -> Option<Range>
         ensures { result ≡ sums_range self.now other.now }
     {
-        both(
+        range_of_ends(
             self.low.checked_add(other.low),
             self.high.checked_add(other.high),
         )
@@ -99,7 +99,7 @@ impl Range {
     pub(crate) fn minus(&self, other: &Range) -> Option<Range>
         ensures { result ≡ differences_range self.now other.now }
     {
-        both(
+        range_of_ends(
             self.low.checked_sub(other.high),
             self.high.checked_sub(other.low),
         )

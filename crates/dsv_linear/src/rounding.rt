@@ -1,4 +1,9 @@
 // Forms of quotients that are made whole.
+//
+// A rounded product brings a symbol, as in affine arithmetic: v divided by d = 2^frac_bits and made
+// whole is v / d and an error, whose range the mode of rounding gives. The coefficients of v are
+// divided by d too and rounded down; what that loses is a sum over the old symbols, and its range
+// is added to the new symbol's. So a form stays exact: no error stands outside the symbols.
 ghost use Rattle.std.specs.Prelude.{◌≡◌, ◌<◌, ◌≤◌, ◌/◌, ◌^◌, pos, IfOk};
 ghost use Rattle.std.specs.Int.{int_rem_euclid};
 ghost use Rattle.dsv_algebra.specs.Narrow.{narrow_of};
@@ -6,9 +11,9 @@ ghost use Rattle.dsv_linear.specs.Forms.{scale, quotients, rests, loss_range, sy
 ghost use Rattle.dsv_linear.specs.Known.{error_range, rounded_in};
 
 use crate::SCALE;
-use crate::form::{Form, coefficient, greatest, least};
+use crate::form::{Form, coefficient, greatest_sum, least_sum};
 use crate::point::Entry;
-use crate::range::{Range, lower, upper};
+use crate::range::{Range, lower_quotient, upper_quotient};
 use dsv_algebra::NarrowInteger;
 use dsv_base::NoMemory;
 use dsv_names::Rounding;
@@ -31,7 +36,7 @@ fn remainder(v: NarrowInteger, d: u64) -> Option<NarrowInteger>
     requires { 0 < d }
     ensures { result ≡ narrow_of (int_rem_euclid v (pos d)) }
 {
-    NarrowInteger::from(v.get().rem_euclid(i128::from(d))).narrow()
+    NarrowInteger::from(v.get().rem_euclid(i128::from(d))).narrow_number()
 }
 
 /// The quotients of a form's first coefficients, rounded down, where they are narrow.
@@ -41,7 +46,7 @@ fn quotients(alloc: Global, count: usize, d: u64, form: &Form) -> Result<Option<
 {
     let mut list = Form::new(alloc);
     for j in 0..count {
-        let Some(quotient) = lower(coefficient(form, j), d) else {
+        let Some(quotient) = lower_quotient(coefficient(form, j), d) else {
             return Ok(None);
         };
         list.push(quotient)?;
@@ -89,11 +94,11 @@ fn error_range(format: &Format) -> Range
 fn loss_range(ranges: &[Range], rests: &Form) -> Option<Range>
     ensures { result ≡ loss_range ranges.now rests.now }
 {
-    let low = least(ranges, rests)?;
-    let high = greatest(ranges, rests)?;
+    let low = least_sum(ranges, rests)?;
+    let high = greatest_sum(ranges, rests)?;
     Some(Range {
-        low: lower(low, SCALE)?,
-        high: upper(high, SCALE)?,
+        low: lower_quotient(low, SCALE)?,
+        high: upper_quotient(high, SCALE)?,
     })
 }
 
@@ -103,7 +108,7 @@ fn symbol_range(format: &Format, ranges: &[Range], rests: &Form) -> Option<Range
         ranges.now rests.now }
 {
     let loss = loss_range(ranges, rests)?;
-    let error = error_range(format).scaled()?;
+    let error = error_range(format).scaled_range()?;
     error.plus(&loss)
 }
 
@@ -118,7 +123,7 @@ fn step(d: u64) -> NarrowInteger
 
 /// The form of a value as the format rounds it, and the range of its symbol.
 #[tactic(auto, using(crate::proofs::Entries::rounded_made))]
-pub(crate) fn rounded(
+pub(crate) fn rounded_entry(
     alloc: Global,
     format: &Format,
     ranges: &[Range],

@@ -1,4 +1,9 @@
-// The facts of so many samples.
+// The facts of a run.
+//
+// The netlist is run over forms and intervals in place of words, sample by sample. Each input is a
+// symbol of its own, registers start with 0, and a sample's symbols join those of the samples
+// before. A fitted value passes its form on unchanged: up to the first value that is no word,
+// fitting changes nothing, and the facts are about runs up to there.
 ghost use Rattle.std.specs.Prelude.{◌≡◌, map, replicate, IfOk};
 ghost use Rattle.dsv_linear.specs.Facts.{AreFacts};
 ghost use Rattle.dsv_linear.specs.Known.{estimate_at, zero_estimate, zero_start, no_point, fresh};
@@ -125,7 +130,7 @@ fn zero_estimate(alloc: Global) -> Estimate
     }
 }
 
-/// What is known of so many registers that start with 0.
+/// What is known of `count` registers that start with 0.
 #[tactic(auto, using(crate::proofs::Passes::replicate_more))]
 fn zero_registers(alloc: Global, count: u32) -> Result<Items<Estimate>, NoMemory>
     ensures { IfOk result (λ registers. registers ≡ replicate count zero_estimate) }
@@ -163,7 +168,7 @@ fn no_point(alloc: Global) -> Point
 /// For each exact value of a run, in its order, what is known of it.
 pub type Facts = Items<Fact>;
 
-/// Adds what so many samples give to what is known.
+/// Adds what `samples` samples give to what is known.
 #[tactic(auto, using(crate::proofs::Passes::samples_more))]
 fn add_samples(
     alloc: Global,
@@ -183,7 +188,7 @@ fn add_samples(
     Ok(())
 }
 
-/// The facts after so many samples, where this is known of the registers and so far.
+/// The facts after `samples` samples, where this is known of the registers and so far.
 fn facts_from(
     alloc: Global,
     net: &Netlist,

@@ -1,10 +1,10 @@
 -- Runs that are replayed: what comes after a run's first inputs, and what this says of its breaks and of its cycles.
-use Rattle.std.proofs.Common.{◌≡◌, ℕ, zero, suc, ◌+◌, ◌-◌, ◌<◌, ◌≤◌, Bool, true, false, List, [], ◌∷◌, ◌++◌, length, take, drop, get_or, ◌⊎◌, inl, inr, refl, sym, ap, subst, ◌∙◌, arith, append_assoc}
+use Rattle.std.proofs.Common.{◌≡◌, ℕ, zero, suc, ◌+◌, ◌-◌, ◌<◌, ◌≤◌, Bool, true, false, List, [], ◌∷◌, ◌++◌, length, map, take, drop, set, get_or, ◌⊎◌, inl, inr, refl, sym, ap, subst, ◌∙◌, arith, append_assoc}
 use Rattle.std.proofs.Math.IntN.{ℤ, pos}
 use Rattle.std.proofs.lemmas.Bool.{cases_lt}
 use Rattle.std.specs.Prelude.{slice_get, Some}
 use Rattle.std.specs.List.{All}
-use Rattle.std.proofs.lemmas.List.{append-nil, drop_more, take_more, take_at, take-append-drop, length-take-le, length-replicate, replicate-append-replicate, replicate_more}
+use Rattle.std.proofs.lemmas.List.{append-nil, drop_more, map-append, take_more, take_more_set, take_at, take-append-drop, length-set, length-take-le, length-replicate, replicate-append-replicate, replicate_more}
 use Rattle.std.proofs.lemmas.List.Elements.{All-nil, All-cons, All-append, All-take}
 use Rattle.dsv_quantiser.specs.FixedPoint.{FixedPoint}
 use Rattle.dsv_system.specs.Runs.{Sampled, SampleRow, row_at, rows_from}
@@ -12,9 +12,10 @@ use Rattle.dsv_system.specs.Systems.{System, rows, registers_after, zeros}
 use Rattle.dsv_system.specs.Breaks.{IsInside, IsFirstBreak}
 use Rattle.dsv_system.specs.Cycles.{Returns, IsLeastPeriod, IsSounding}
 use Rattle.dsv_meaning.specs.Equations.{Past, order, registers_of}
-use Rattle.dsv_meaning.specs.Systems.{equations_of}
+use Rattle.dsv_meaning.specs.Systems.{equations_of, outputs_over}
 use Rattle.dsv_meaning.specs.Stepping.{step_as}
-use Rattle.dsv_meaning.specs.ReplayParts.{IsFirstOutside, Hears}
+use Rattle.dsv_meaning.specs.ReplayParts.{Hears}
+use Rattle.dsv_system.specs.OutsideValues.{IsFirstOutside}
 use Rattle.dsv_meaning.proofs.RunLemmas.{start_registers, next_registers, next_rows}
 
 -- ---- rows
@@ -63,6 +64,13 @@ goes_on {q} {start} {done} {r} {new} {x} {row} s g =
           ∙ next_registers q.realisation q r new x xs s.numerator s.many s.new_is;
     }
 
+-- the outputs so far, in their places of a list, and one more
+outputs_more : {q : FixedPoint} {start done r new : List ℤ} {x : ℤ} {row : SampleRow} {n : ℕ} (ys : List ℤ) → Steps q r new x row → GoesOn Past (equations_of q) start done r → n < length ys → take n ys ≡ outputs_over q start done
+    → take (n + 1) (set ys n row.y) ≡ outputs_over q start (done ++ x ∷ [])
+outputs_more {q} {start} {done} {r} {new} {x} {row} {n} ys s g l e =
+    let y : SampleRow → ℤ = λ (r : SampleRow). r.y in
+    take_more_set ys n row.y l ∙ ap (λ (zs : List ℤ). zs ++ row.y ∷ []) e ∙ sym (map-append y (rows (equations_of q) start done) (row ∷ [])) ∙ ap (map y) (sym (one_row_more s g))
+
 -- ---- breaks
 -- before this sample nothing breaks
 pub record IsUnbroken (q : FixedPoint) (start inputs r : List ℤ) (sample : ℕ) : Type 0 where
@@ -82,6 +90,21 @@ unbroken_more {q} {start} {inputs} {r} {new} {x} {row} {sample} l is same s u in
           (subst (All (IsInside q.format)) (sym (one_row_more s u.goes))
           (All-append (IsInside q.format) (rows (equations_of q) start done) (row ∷ []) u.inside
           (All-cons (IsInside q.format) row [] inside (All-nil (IsInside q.format)))));
+    }
+
+-- the outputs up to this sample are those of the run, in the first places of ys
+pub record AreOutputs (q : FixedPoint) (start inputs ys : List ℤ) (sample : ℕ) : Type 0 where
+  pub room : length ys ≡ length inputs
+  pub outputs : take sample ys ≡ outputs_over q start (take sample inputs)
+
+pub next_outputs : {q : FixedPoint} {start inputs r new ys zs : List ℤ} {x : ℤ} {row : SampleRow} {sample : ℕ} → sample < length inputs → x ≡ get_or inputs sample (pos 0)
+    → Steps q r new x row → IsUnbroken q start inputs r sample → zs ≡ set ys sample row.y → AreOutputs q start inputs ys sample → AreOutputs q start inputs zs (sample + 1)
+next_outputs {q} {start} {inputs} {r} {new} {ys} {zs} {x} {row} {sample} l is s u e o =
+    let done = take sample inputs in
+    let more : done ++ x ∷ [] ≡ take (sample + 1) inputs = ap (λ w. done ++ w ∷ []) is ∙ sym (take_more inputs sample (pos 0) l) in
+    record {
+      room = ap length e ∙ length-set ys sample row.y ∙ o.room;
+      outputs = ap (take (sample + 1)) e ∙ outputs_more ys s u.goes (omega (arith, l, o.room)) o.outputs ∙ ap (outputs_over q start) more;
     }
 
 at_length : {A : Type 0} (xs : List A) (y : A) (ys : List A) → slice_get (xs ++ y ∷ ys) (length xs) ≡ Some y
@@ -159,6 +182,18 @@ next_away {q} {start} {r} {new} {row} {done} {before} {after} same s heard a =
           (heard (rows m start (zeros done)) a.hears);
       gone = a.gone;
     }
+
+-- the outputs so far of a run with input 0, in the first places of ys
+pub record AreQuietOutputs (q : FixedPoint) (start ys : List ℤ) (done limit : ℕ) : Type 0 where
+  pub room : length ys ≡ limit
+  pub outputs : take done ys ≡ outputs_over q start (zeros done)
+
+pub next_quiet_outputs : {q : FixedPoint} {start r new ys zs : List ℤ} {row : SampleRow} {done limit : ℕ} → done < limit → Steps q r new (pos 0) row → GoesOn Past (equations_of q) start (zeros done) r → zs ≡ set ys done row.y
+    → AreQuietOutputs q start ys done limit → AreQuietOutputs q start zs (done + 1) limit
+next_quiet_outputs {q} {start} {r} {new} {ys} {zs} {row} {done} {limit} l s g e o = record {
+  room = ap length e ∙ length-set ys done row.y ∙ o.room;
+  outputs = ap (take (done + 1)) e ∙ outputs_more ys s g (omega (arith, l, o.room)) o.outputs ∙ ap (outputs_over q start) (replicate_more done (pos 0));
+}
 
 registers_then : {q : FixedPoint} {start new : List ℤ} {done limit : ℕ} {sounding : Bool} → IsAway q start new done limit sounding → registers_after (equations_of q) start (zeros done) ≡ new
 registers_then {q} {start} {new} {done} a =

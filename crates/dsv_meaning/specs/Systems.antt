@@ -1,6 +1,8 @@
 -- The written equations of a controller as a system that runs in words.
+use Rattle.std.specs.Prelude.{List, map, ℤ}
 use Rattle.dsv_quantiser.specs.FixedPoint.{FixedPoint}
-use Rattle.dsv_system.specs.Systems.{System}
+use Rattle.dsv_system.specs.Runs.{SampleRow}
+use Rattle.dsv_system.specs.Systems.{System, rows}
 use Rattle.dsv_meaning.specs.Equations.{Past, order, sample, registers_as, start_as}
 use Rattle.dsv_meaning.specs.Equations.{registers_of, forward_registers_of}
 
@@ -14,3 +16,7 @@ equations_of q = record {
   forward = forward_registers_of q.realisation (order q);
   format = q.format;
 }
+
+-- the outputs of a run from these words in the registers over these inputs
+abbrev pub outputs_over : FixedPoint → List ℤ → List ℤ → List ℤ
+outputs_over q start inputs = map (λ (r : SampleRow). r.y) (rows (equations_of q) start inputs)

@@ -1,4 +1,10 @@
 // The new words of registers.
+//
+// The registers' next words. In direct forms they are delay lines, each loaded from the one before
+// it. In the transposed form II each takes a product of the input, less one of the output, and the
+// next register (Oppenheim and Schafer, Discrete-Time Signal Processing). The delta forms have an
+// accumulator in place of each delay (Middleton and Goodwin 1986): the old word, and delta times
+// what a delay would be loaded with.
 #![tactic(auto, using(dsv_algebra::proofs::Casts::casts))]
 
 ghost use Rattle.dsv_word.specs.Words.{IsWord};
@@ -11,7 +17,7 @@ ghost use Rattle.dsv_meaning.specs.Stepping.{delay_line};
 ghost use Rattle.dsv_meaning.specs.declared.chains.TheConstants.{MOST_REGISTERS};
 ghost use Rattle.dsv_system.specs.declared.exact_list.TheConstants.{MOST_EXACT};
 
-use crate::operations::{next_product, plus_first, product};
+use crate::operations::{Multiple, next_product, plus_first, product};
 use arrayvec::ArrayVec;
 use dsv_quantiser::Quantised;
 use dsv_system::ExactList;
@@ -23,7 +29,21 @@ pub(crate) const MOST_REGISTERS: usize = 16;
 /// The words in the registers.
 pub(crate) type Registers = ArrayVec<i64, MOST_REGISTERS>;
 
-/// The words after the first so many.
+/// The input and the output of a sample.
+#[derive(Clone, Copy)]
+pub(crate) struct Signals<'a> {
+    pub(crate) x: &'a i64,
+    pub(crate) y: &'a i64,
+}
+
+/// The coefficients of the input and of the output in a line of a transposed form.
+#[derive(Clone, Copy)]
+struct Taps<'a> {
+    b: &'a i64,
+    a: &'a i64,
+}
+
+/// The words after the first `count`.
 pub(crate) fn rest_after(words: &[i64], count: usize) -> &[i64]
     requires { count ≤ length words.now }
     ensures { result.now ≡ drop count words.now }
@@ -91,7 +111,12 @@ pub(crate) fn delta_chain(
     let delta = delta_word(q);
     let mut before = newest;
     for word in old {
-        let next = next_product(&format, false, word, &delta, before, exact);
+        let multiple = Multiple {
+            away: false,
+            coeff: &delta,
+            word: before,
+        };
+        let next = next_product(&format, word, multiple, exact);
         registers.push(next);
         before = word;
     }
@@ -100,30 +125,33 @@ pub(crate) fn delta_chain(
 /// The line b x - a y + w, where w is the first of the words, if there is one.
 fn transposed_line(
     format: &Format,
-    b: &i64,
-    a: &i64,
-    x: &i64,
-    y: &i64,
+    taps: Taps,
+    signals: Signals,
     words: &[i64],
     exact: &mut ExactList,
 ) -> i64
-    requires b { IsWord format.now b.now }
-    requires a { IsWord format.now a.now }
+    requires b { IsWord format.now taps.b.now }
+    requires a { IsWord format.now taps.a.now }
     requires room { length exact.old.items + 4 ≤ MOST_EXACT }
     ensures value { record { value = result; exact = exact.new.items } ≡
-        line format.now exact.old.items (transposed_line b.now a.now x.now y.now words.now) }
+        line format.now exact.old.items (transposed_line taps.entry.b.now taps.entry.a.now
+        signals.entry.x.now signals.entry.y.now words.now) }
     ensures count { length exact.new.items ≤ length exact.old.items + 4 }
 {
-    let sum = product(format, b, x, exact);
-    let sum = next_product(format, true, &sum, a, y, exact);
+    let sum = product(format, taps.b, signals.x, exact);
+    let feedback = Multiple {
+        away: true,
+        coeff: taps.a,
+        word: signals.y,
+    };
+    let sum = next_product(format, &sum, feedback, exact);
     plus_first(format, &sum, words, exact)
 }
 
 /// Adds the new words of the transposed form's chain.
 pub(crate) fn transposed_chain(
     q: &Quantised,
-    x: &i64,
-    y: &i64,
+    signals: Signals,
     old: &[i64],
     exact: &mut ExactList,
     registers: &mut Registers,
@@ -132,16 +160,17 @@ pub(crate) fn transposed_chain(
     requires room { length exact.old.items + 4 * order q.now ≤ MOST_EXACT }
     requires many { length registers.old.items + order q.now ≤ MOST_REGISTERS }
     ensures value { record { words = registers.new.items; exact = exact.new.items } ≡
-        transposed_chain q.now x.now y.now (drop 1 q.now.b) (feedback q.now) old.now
-        (record { words = registers.old.items; exact = exact.old.items }) }
+        transposed_chain q.now signals.entry.x.now signals.entry.y.now (drop 1 q.now.b)
+        (feedback q.now) old.now (record { words = registers.old.items; exact = exact.old.items }) }
     ensures count { length registers.new.items ≡ length registers.old.items + order q.now }
     ensures room { length exact.new.items ≤ length exact.old.items + 4 * order q.now }
 {
     let format = q.format();
     let a = feedback(q);
     let b = feed_forward(q);
-    for (i, coeff) in b.iter().enumerate() {
-        let next = transposed_line(&format, coeff, &a[i], x, y, rest_after(old, i + 1), exact);
+    for (i, b) in b.iter().enumerate() {
+        let taps = Taps { b, a: &a[i] };
+        let next = transposed_line(&format, taps, signals, rest_after(old, i + 1), exact);
         registers.push(next);
     }
 }
@@ -149,8 +178,7 @@ pub(crate) fn transposed_chain(
 /// Adds the new words of the transposed delta form's chain.
 pub(crate) fn transposed_delta_chain(
     q: &Quantised,
-    x: &i64,
-    y: &i64,
+    signals: Signals,
     old: &[i64],
     exact: &mut ExactList,
     registers: &mut Registers,
@@ -159,8 +187,8 @@ pub(crate) fn transposed_delta_chain(
     requires room { length exact.old.items + 6 * order q.now ≤ MOST_EXACT }
     requires many { length registers.old.items + order q.now ≤ MOST_REGISTERS }
     ensures value { record { words = registers.new.items; exact = exact.new.items } ≡
-        transposed_delta_chain q.now x.now y.now (drop 1 q.now.b) (feedback q.now) old.now
-        (record { words = registers.old.items; exact = exact.old.items }) }
+        transposed_delta_chain q.now signals.entry.x.now signals.entry.y.now (drop 1 q.now.b)
+        (feedback q.now) old.now (record { words = registers.old.items; exact = exact.old.items }) }
     ensures count { length registers.new.items ≡ length registers.old.items + order q.now }
     ensures room { length exact.new.items ≤ length exact.old.items + 6 * order q.now }
 {
@@ -168,9 +196,15 @@ pub(crate) fn transposed_delta_chain(
     let delta = delta_word(q);
     let a = feedback(q);
     let b = feed_forward(q);
-    for (i, coeff) in b.iter().enumerate() {
-        let change = transposed_line(&format, coeff, &a[i], x, y, rest_after(old, i + 1), exact);
-        let next = next_product(&format, false, &old[i], &delta, &change, exact);
+    for (i, b) in b.iter().enumerate() {
+        let taps = Taps { b, a: &a[i] };
+        let change = transposed_line(&format, taps, signals, rest_after(old, i + 1), exact);
+        let multiple = Multiple {
+            away: false,
+            coeff: &delta,
+            word: &change,
+        };
+        let next = next_product(&format, &old[i], multiple, exact);
         registers.push(next);
     }
 }

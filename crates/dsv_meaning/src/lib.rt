@@ -5,9 +5,9 @@ mod chains;
 mod counts;
 mod operations;
 mod replays;
-mod simulating;
-mod stepping;
+mod simulation;
+mod steps;
 
 pub use counts::{MOST_ORDER, forward_registers, products, registers, sums};
 pub use replays::{Cycle, CycleReplay, OverflowReplay, Trace, replay_cycle, replay_overflow};
-pub use simulating::simulate;
+pub use simulation::simulate;

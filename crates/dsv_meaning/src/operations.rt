@@ -14,6 +14,22 @@ ghost use Rattle.dsv_system.specs.declared.exact_list.TheConstants.{MOST_EXACT};
 use dsv_system::ExactList;
 use dsv_word::Format;
 
+/// A multiple of a word in a line: a coefficient times the word, added or taken away.
+#[derive(Clone, Copy)]
+pub(crate) struct Multiple<'a> {
+    pub(crate) away: bool,
+    pub(crate) coeff: &'a i64,
+    pub(crate) word: &'a i64,
+}
+
+/// Multiples of words in a line, one after another, all of them added or all taken away.
+#[derive(Clone, Copy)]
+pub(crate) struct Multiples<'a> {
+    pub(crate) away: bool,
+    pub(crate) coeffs: &'a [i64],
+    pub(crate) words: &'a [i64],
+}
+
 /// The word that the exact value of an operation becomes.
 fn fitted_value(format: &Format, value: &i128, exact: &mut ExactList) -> i64
     requires { length exact.old.items < MOST_EXACT }
@@ -70,23 +86,16 @@ fn minus(format: &Format, sum: &i64, word: &i64, exact: &mut ExactList) -> i64
 }
 
 /// A product more in a line.
-pub(crate) fn next_product(
-    format: &Format,
-    away: bool,
-    sum: &i64,
-    coeff: &i64,
-    word: &i64,
-    exact: &mut ExactList,
-) -> i64
-    requires coeff { IsWord format.now coeff.now }
+pub(crate) fn next_product(format: &Format, sum: &i64, next: Multiple, exact: &mut ExactList) -> i64
+    requires coeff { IsWord format.now next.coeff.now }
     requires room { length exact.old.items + 2 ≤ MOST_EXACT }
     ensures value { record { value = result; exact = exact.new.items } ≡
         next_summand format.now (record { value = sum.now; exact = exact.old.items })
-        (Times away coeff.now word.now) }
+        (Times next.entry.away next.entry.coeff.now next.entry.word.now) }
     ensures count { length exact.new.items ≡ length exact.old.items + 2 }
 {
-    let term = product(format, coeff, word, exact);
-    if away {
+    let term = product(format, next.coeff, next.word, exact);
+    if next.away {
         minus(format, sum, &term, exact)
     } else {
         plus(format, sum, &term, exact)
@@ -96,23 +105,27 @@ pub(crate) fn next_product(
 /// Products of coefficients and words more in a line, one after another.
 pub(crate) fn next_products(
     format: &Format,
-    away: bool,
     sum: &i64,
-    coeffs: &[i64],
-    words: &[i64],
+    next: Multiples,
     exact: &mut ExactList,
 ) -> i64
-    requires coeffs { All (IsWord format.now) coeffs.now }
-    requires words { length coeffs.now ≤ length words.now }
-    requires room { length exact.old.items + 2 * length coeffs.now ≤ MOST_EXACT }
+    requires coeffs { All (IsWord format.now) next.coeffs.now }
+    requires words { length next.coeffs.now ≤ length next.words.now }
+    requires room { length exact.old.items + 2 * length next.coeffs.now ≤ MOST_EXACT }
     ensures value { record { value = result; exact = exact.new.items } ≡
         next_summands format.now (record { value = sum.now; exact = exact.old.items })
-        (summands away coeffs.now (ago words.now) 0) }
-    ensures count { length exact.new.items ≡ length exact.old.items + 2 * length coeffs.now }
+        (summands next.entry.away next.entry.coeffs.now (ago next.entry.words.now) 0) }
+    ensures count { length exact.new.items
+        ≡ length exact.old.items + 2 * length next.entry.coeffs.now }
 {
     let mut value = *sum;
-    for (i, coeff) in coeffs.iter().enumerate() {
-        value = next_product(format, away, &value, coeff, &words[i], exact);
+    for (i, coeff) in next.coeffs.iter().enumerate() {
+        let multiple = Multiple {
+            away: next.away,
+            coeff,
+            word: &next.words[i],
+        };
+        value = next_product(format, &value, multiple, exact);
     }
     value
 }
@@ -150,5 +163,10 @@ pub(crate) fn forward(
 {
     let (first, rest) = coeffs.split_at(1);
     let sum = product(format, &first[0], newest, exact);
-    next_products(format, false, &sum, rest, older, exact)
+    let multiples = Multiples {
+        away: false,
+        coeffs: rest,
+        words: older,
+    };
+    next_products(format, &sum, multiples, exact)
 }

@@ -2,27 +2,25 @@
 #![tactic(auto, using(dsv_algebra::proofs::Casts::casts))]
 
 ghost use Rattle.std.specs.Prelude.{◌≡◌, ◌+◌, ◌<◌, ◌≤◌, ◌^◌, ℕ, true, length};
-ghost use Rattle.std.specs.Prelude.{List, [], ◌∷◌, ◌++◌, IfSome, IfNone};
+ghost use Rattle.std.specs.Prelude.{List, [], ◌∷◌, ◌++◌, take};
 ghost use Rattle.std.specs.List.{All};
 ghost use Rattle.dsv_word.specs.Words.{IsWord};
 ghost use Rattle.dsv_system.specs.Breaks.{IsInside, IsFirstBreak};
 ghost use Rattle.dsv_system.specs.Cycles.{Returns, IsLeastPeriod, IsSounding};
 ghost use Rattle.dsv_system.specs.Systems.{rows, zeros};
 ghost use Rattle.dsv_meaning.specs.Equations.{Past, order, registers_of};
-ghost use Rattle.dsv_meaning.specs.Systems.{equations_of};
+ghost use Rattle.dsv_meaning.specs.Systems.{equations_of, outputs_over};
 ghost use Rattle.dsv_meaning.specs.Replays.{IfBreaks, IfUnbroken, IfReturns, IfGone};
-ghost use Rattle.dsv_meaning.specs.ReplayParts.{IsFirstOutside, Hears};
+ghost use Rattle.dsv_meaning.specs.ReplayParts.{Hears};
 ghost use Rattle.dsv_system.specs.RowViews.{row_of};
 ghost use Rattle.dsv_system.specs.Runs.{SampleRow};
-ghost use Rattle.dsv_system.specs.declared.exact_list.TheConstants.{MOST_EXACT};
 
 use crate::chains::Registers;
 use crate::counts::registers;
-use crate::simulating::{loaded_registers, next_row};
+use crate::simulation::{loaded_registers, next_row};
 use dsv_base::WordList;
 use dsv_quantiser::Quantised;
-use dsv_system::Row;
-use dsv_word::Format;
+use dsv_system::{Row, first_outside};
 
 /// An overflow that replays: the inputs up to the first sample that has an exact value which is no
 /// word, the outputs of that run, the number of that sample, and the first such value in it with
@@ -68,31 +66,6 @@ pub enum CycleReplay {
     Clean,
 }
 
-/// An exact value that is no word, with its number in its sample.
-#[derive(Clone, Copy)]
-struct OutsideValue {
-    value: u32,
-    exact: i128,
-}
-
-/// The first of a sample's exact values that is no word.
-fn first_outside(format: &Format, exact: &[i128]) -> Option<OutsideValue>
-    requires few { length exact.now ≤ MOST_EXACT }
-    ensures first { IfSome result (λ found.
-        IsFirstOutside format.now exact.now found.value found.exact) }
-    ensures none { IfNone result (All (IsWord format.now) exact.now) }
-{
-    for (i, v) in exact.iter().enumerate() {
-        if !format.fits(*v) {
-            return Some(OutsideValue {
-                value: i as u32,
-                exact: *v,
-            });
-        }
-    }
-    None
-}
-
 /// Whether an output isn't 0: one so far, or that of this row.
 fn is_heard(sounding: bool, row: &Row) -> bool
     ensures { (rows : List SampleRow) → Hears rows sounding →
@@ -115,19 +88,24 @@ fn zero_registers(q: &Quantised) -> Registers
 }
 
 /// The first exact value that is no word, in the run of the written equations from registers of
-/// zeros over these inputs. It takes no memory.
-pub fn replay_overflow(q: &Quantised, inputs: &[i64]) -> OverflowReplay
+/// zeros over these inputs, whose outputs up to that sample are written. It takes no memory.
+pub fn replay_overflow(q: &Quantised, inputs: &[i64], outputs: &mut [i64]) -> OverflowReplay
     requires words { All (IsWord q.now.format) inputs.now }
     requires few { length inputs.now < 2 ^ 32 }
+    requires room { length outputs.old ≡ length inputs.now }
     ensures first { IfBreaks result (IsFirstBreak q.now.format
         (rows (equations_of q.now) (zeros (equations_of q.now).many) inputs.now)) }
     ensures none { IfUnbroken result (All (IsInside q.now.format)
         (rows (equations_of q.now) (zeros (equations_of q.now).many) inputs.now)) }
+    ensures outputs { IfBreaks result (λ sample value exact. take (sample + 1) outputs.new
+        ≡ outputs_over q.now (zeros (equations_of q.now).many) (take (sample + 1) inputs.now)) }
+    ensures room { length outputs.new ≡ length inputs.now }
 {
     let format = q.format();
     let mut registers = zero_registers(q);
     for (i, x) in inputs.iter().enumerate() {
         let row = next_row(q, x, &mut registers);
+        outputs[i] = row.y;
         if let Some(found) = first_outside(&format, row.exact.as_slice()) {
             return OverflowReplay::Breaks {
                 sample: i as u32,
@@ -140,11 +118,12 @@ pub fn replay_overflow(q: &Quantised, inputs: &[i64]) -> OverflowReplay
 }
 
 /// The least number of samples with input 0, up to a limit, after which the written equations have
-/// brought these words back into the registers, and whether an output on the way isn't 0. It takes
-/// no memory.
-pub fn replay_cycle(q: &Quantised, start: &[i64], limit: u32) -> CycleReplay
+/// brought these words back into the registers, and whether an output on the way isn't 0; the
+/// outputs until then are written. It takes no memory.
+pub fn replay_cycle(q: &Quantised, start: &[i64], limit: u32, outputs: &mut [i64]) -> CycleReplay
     requires many { length start.now ≡ registers_of q.now.realisation (order q.now) }
     requires words { All (IsWord q.now.format) start.now }
+    requires room { length outputs.old ≡ limit }
     ensures least { IfReturns result (λ period sounding.
         IsLeastPeriod Past (equations_of q.now) start.now period) }
     ensures few { IfReturns result (λ period sounding. period ≤ limit) }
@@ -155,11 +134,15 @@ pub fn replay_cycle(q: &Quantised, start: &[i64], limit: u32) -> CycleReplay
         IsSounding Past (equations_of q.now) start.now n → sounding ≡ true) }
     ensures gone { IfGone result ((p : ℕ) → p ≤ limit →
         Returns Past (equations_of q.now) start.now p → ⊥) }
+    ensures outputs { IfReturns result (λ period sounding. take period outputs.new
+        ≡ outputs_over q.now start.now (zeros period)) }
+    ensures room { length outputs.new ≡ limit }
 {
     let mut registers = loaded_registers(q, start);
     let mut sounding = false;
     for done in 0..limit {
         let row = next_row(q, &0, &mut registers);
+        outputs[done as usize] = row.y;
         sounding = is_heard(sounding, &row);
         if registers.as_slice() == start {
             return CycleReplay::Returns {

@@ -17,7 +17,7 @@ pub(crate) fn all_name_back(nodes: &[Node]) -> bool
     true
 }
 
-/// Whether all registers that are read are among the first so many.
+/// Whether all registers that are read are among the first `count`.
 pub(crate) fn all_read_below(nodes: &[Node], count: usize) -> bool
     ensures { IsTrue result ↔ All (ReadsBelow count) nodes.now }
 {

@@ -7,7 +7,7 @@ mod conditions;
 mod law;
 mod netlist;
 mod node;
-mod stepping;
+mod step;
 
 pub use law::values_are_bounded;
 pub use netlist::{Netlist, OpCounts};

@@ -12,7 +12,7 @@ ghost use Rattle.dsv_netlist.specs.Limits.{bound_limit};
 use crate::bounds::bounds_of;
 use crate::conditions::{all_name_back, all_name_words, all_read_below, fits_in, names_word};
 use crate::node::Node;
-use crate::stepping::{load, narrow, run_nodes};
+use crate::step::{load, run_nodes, word_of};
 use crate::{MOST_NODES, MOST_REGISTERS};
 use dsv_system::{ExactList, MOST_EXACT};
 use dsv_word::Format;
@@ -178,12 +178,11 @@ impl Netlist {
         ensures word { IsWord self.now.format result }
         ensures words { All (IsWord self.now.format) regs.new }
     {
-        let mut values = [0; MOST_NODES];
         let nodes = self.nodes.as_slice();
         let count = nodes.len();
-        run_nodes(&self.format, nodes, regs, &x, &mut values, exact);
+        let values = run_nodes(&self.format, nodes, regs, &x, exact);
         let done = &values[..count];
         load(&self.format, self.next.as_slice(), done, regs);
-        narrow(&self.format, &done[self.output as usize])
+        word_of(&self.format, &done[self.output as usize])
     }
 }

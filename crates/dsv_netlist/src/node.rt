@@ -25,7 +25,7 @@ pub enum Node {
 }
 
 impl Node {
-    /// Whether the nodes that it names are among the first so many.
+    /// Whether the nodes that it names are among the first `count`.
     pub(crate) fn names_below(&self, count: usize) -> bool
         ensures { IsTrue result ↔ NamesBelow count self.now }
     {
@@ -38,7 +38,7 @@ impl Node {
         }
     }
 
-    /// Whether a register that it reads is among the first so many.
+    /// Whether a register that it reads is among the first `count`.
     pub(crate) fn reads_below(&self, count: usize) -> bool
         ensures { IsTrue result ↔ ReadsBelow count self.now }
     {

@@ -9,6 +9,7 @@ pub mod GrowingLines
 pub mod LineNodes
 pub mod Numbers
 pub mod Piecewise
+pub mod Rows
 pub mod Runs
 pub mod Samples
 pub mod SecondForm

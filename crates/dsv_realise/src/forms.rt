@@ -5,7 +5,7 @@ ghost use Rattle.dsv_realise.specs.Netlists.{first_form, second_form_state};
 ghost use Rattle.dsv_realise.specs.Netlists.{second_form, transposed_form};
 ghost use Rattle.dsv_realise.specs.Parts.{line_made, most_line_nodes, most_second_line_nodes};
 
-use crate::building::{forward_line, next_products, product, sources, sum};
+use crate::nodes::{forward_line, next_products, product, sources, sum};
 use crate::parts::BuiltLine;
 use dsv_base::NoMemory;
 use dsv_netlist::Node;

@@ -1,10 +1,12 @@
 //! The netlists of controllers in words.
 #![tactic(auto)]
 
-mod building;
 mod forms;
+mod netlist;
+mod nodes;
 mod parts;
 mod realisations;
-mod realising;
+mod simulation;
 
-pub use realising::realise;
+pub use netlist::realise;
+pub use simulation::simulate;

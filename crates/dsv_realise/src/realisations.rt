@@ -9,8 +9,8 @@ ghost use Rattle.dsv_realise.specs.Making.{made_at, chained_at, with_delta};
 ghost use Rattle.dsv_realise.specs.Parts.{parts_as, successor_of, most_line_nodes};
 ghost use Rattle.dsv_realise.specs.Parts.{most_state_nodes, most_source_nodes};
 
-use crate::building::{next_product, shift, transposed_line};
 use crate::forms::{first_form, second_form, second_form_state, transposed_form};
+use crate::nodes::{next_product, shift, transposed_line};
 use crate::parts::Parts;
 use dsv_base::NoMemory;
 use dsv_netlist::Node;

@@ -1,5 +1,6 @@
 pub mod Breaks
 pub mod Cycles
+pub mod OutsideValues
 pub mod RowViews
 pub mod Runs
 pub mod Systems

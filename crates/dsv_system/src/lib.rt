@@ -2,7 +2,9 @@
 #![tactic(auto)]
 
 mod exact_list;
+mod outside;
 mod rows;
 
 pub use exact_list::{ExactList, MOST_EXACT};
+pub use outside::{OutsideValue, first_outside};
 pub use rows::{Row, Rows};

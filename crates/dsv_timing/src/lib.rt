@@ -2,7 +2,9 @@
 #![tactic(auto, using(dsv_algebra::proofs::Casts::casts))]
 
 mod deadline;
+mod report;
 mod work;
 
 pub use deadline::in_time;
+pub use report::timing_report;
 pub use work::{TimingReport, cycles};

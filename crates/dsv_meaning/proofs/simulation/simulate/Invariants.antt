@@ -1,0 +1,14 @@
+use Rattle.std.proofs.Common.{◌≡◌, ◌++◌, length, drop, map}
+use Rattle.dsv_system.specs.Runs.{rows_from}
+use Rattle.dsv_system.specs.RowViews.{row_of}
+use Rattle.dsv_meaning.specs.Equations.{order, sample, start_as, registers_of}
+use Rattle.dsv_system.specs.Systems.{rows}
+use Rattle.dsv_meaning.specs.Systems.{equations_of}
+use Rattle.dsv_meaning.proofs.simulation.simulate.Given as goal
+
+abbrev pub invariant-loop-x : goal.invariant-loop-x
+invariant-loop-x l = record {
+  same : map row_of l.rows.items ++ rows_from (sample l.q) (start_as l.q.realisation (order l.q) l.registers.items) (drop l.x-index l.inputs)
+      ≡ rows (equations_of l.q) l.fn.start l.inputs;
+  many : length l.registers.items ≡ registers_of l.q.realisation (order l.q);
+}

@@ -1,0 +1,15 @@
+use Rattle.std.proofs.Common.{rules}
+use Rattle.std.proofs.lemmas.Int.{to_z-of_z}
+use mir.Syntax.{w64}
+use mir.Val.{SFits}
+use Rattle.dsv_meaning.proofs.StepLemmas.{tddfii_sample}
+use Rattle.dsv_meaning.proofs.steps.tddfii.Goals as goal
+
+pub returns-clause-sample : goal.returns-clause-sample
+returns-clause-sample c =
+    let result : SFits w64 c.transposed_output-y.result = search rules in
+    simp to_z-of_z
+    (tddfii_sample c.args.q.now c.args.registers.now.items c.args.x.now (record { value = c.transposed_output-y.result; exact = c.transposed_output-y.new.exact.items })
+    (record { words = c.transposed_delta_chain.new.registers.items; exact = c.transposed_delta_chain.new.exact.items })
+    (rw (c.requires.empty, c.as_slice-old.ensures.value) at c.transposed_output-y.ensures.value)
+    (simp (to_z-of_z, c.new-next.ensures, c.as_slice-old.ensures.value) at c.transposed_delta_chain.ensures.value))

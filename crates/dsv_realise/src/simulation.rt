@@ -1,0 +1,68 @@
+// Runs of a controller's netlist over inputs.
+ghost use Rattle.std.specs.Prelude.{◌≡◌, length, IfOk};
+ghost use Rattle.std.specs.List.{All};
+ghost use Rattle.dsv_word.specs.Words.{IsWord};
+ghost use Rattle.dsv_meaning.specs.Equations.{order, registers_of};
+ghost use Rattle.dsv_meaning.specs.Systems.{equations_of};
+ghost use Rattle.dsv_system.specs.Systems.{rows, zeros};
+ghost use Rattle.dsv_system.specs.RowViews.{row_of};
+ghost use Rattle.dsv_system.specs.Runs.{row_at};
+ghost use Rattle.dsv_netlist.specs.Nodes.{step_of};
+ghost use Rattle.dsv_netlist.specs.Systems.{system_of};
+
+use crate::netlist::realise;
+use dsv_base::NoMemory;
+use dsv_netlist::Netlist;
+use dsv_quantiser::Quantised;
+use dsv_system::{ExactList, Row, Rows};
+use std::alloc::Global;
+
+/// The row of a netlist's step, which loads the registers.
+fn next_row(net: &Netlist, registers: &mut [i64], x: &i64) -> Row
+    requires many { length registers.old ≡ length net.now.next }
+    requires words { All (IsWord net.now.format) registers.old }
+    requires input { IsWord net.now.format x.now }
+    ensures row { row_of result ≡ row_at (step_of net.now registers.old x.now) x.now }
+    ensures registers { registers.new ≡ (step_of net.now registers.old x.now).past }
+    ensures many { length registers.new ≡ length net.now.next }
+    ensures words { All (IsWord net.now.format) registers.new }
+{
+    let mut exact = ExactList::new();
+    let y = net.step(registers, *x, &mut exact);
+    Row { x: *x, y, exact }
+}
+
+/// The rows of a netlist's steps over these inputs, from the words in the registers.
+fn rows_of(
+    alloc: Global,
+    net: &Netlist,
+    registers: &mut [i64],
+    inputs: &[i64],
+) -> Result<Rows, NoMemory>
+    requires many { length registers.old ≡ length net.now.next }
+    requires words { All (IsWord net.now.format) registers.old }
+    requires inputs { All (IsWord net.now.format) inputs.now }
+    ensures { IfOk result (λ found. found ≡ rows (system_of net.now) registers.old inputs.now) }
+{
+    let mut rows = Vec::new(alloc);
+    for x in inputs {
+        let row = next_row(net, registers, x);
+        rows.push(row)?;
+    }
+    Ok(Rows::from(rows))
+}
+
+/// The rows of a controller's netlist over these inputs, from registers of zeros: they are those of
+/// the written equations.
+pub fn simulate(alloc: Global, q: &Quantised, inputs: &[i64]) -> Result<Rows, NoMemory>
+    requires { All (IsWord q.now.format) inputs.now }
+    ensures { IfOk result (λ found. found
+        ≡ rows (equations_of q.now)
+        (zeros (registers_of q.now.realisation (order q.now))) inputs.now) }
+{
+    // its range, for the proof
+    let _order = q.order();
+    let net = realise(alloc, q)?;
+    let mut registers = vec![in alloc; 0i64; net.registers() as usize]?;
+    rows_of(alloc, &net, &mut registers, inputs)
+}
