@@ -33,9 +33,9 @@ sum-gives c la lb e s p q =
       over = g.over;
       wide = g.wide ∙ omega arith;
       says = λ v h.
-          let nought = value-zero c v (s.fixed v (g.grows.less v h)) in
+          let zero_bit = value-zero c v (s.fixed v (g.grows.less v h)) in
           let same : length (bits_value v lb) ≡ length (bits_value v la) = omega (arith, length-bits v la, length-bits v lb) in
-          ap number_of (g.says v h) ∙ (ap (λ k. number_of (add_bits (bits_value v la) (bits_value v lb) k)) nought ∙ (number-sum (bits_value v la) (bits_value v lb) same
+          ap number_of (g.says v h) ∙ (ap (λ k. number_of (add_bits (bits_value v la) (bits_value v lb) k)) zero_bit ∙ (number-sum (bits_value v la) (bits_value v lb) same
           ∙ ap (λ n. (number_of (bits_value v la) + number_of (bits_value v lb)) % 2 ^ n) (length-bits v la)));
     }
 

@@ -106,8 +106,8 @@ neg-gives c la s p =
       over = g.over;
       wide = g.wide ∙ e;
       says = λ v h.
-          let nought = value-zero c v (s.fixed v (g.grows.less v h)) in
-          let none : number_of (bits_value v zeros) ≡ 0 = ap number_of (bits-replicate v (length la) (zero_of c) ∙ ap (replicate (length la)) nought) ∙ number-zeros (length la) in
+          let zero_bit = value-zero c v (s.fixed v (g.grows.less v h)) in
+          let none : number_of (bits_value v zeros) ≡ 0 = ap number_of (bits-replicate v (length la) (zero_of c) ∙ ap (replicate (length la)) zero_bit) ∙ number-zeros (length la) in
           g.says v h ∙ (number-negate (bits_value v zeros) (bits_value v la) (same_length v zeros la (sym e)) none
           ∙ ap (λ w. residue w (neg_ℤ (pos (number_of (bits_value v la))))) (length-bits v zeros ∙ e));
     }

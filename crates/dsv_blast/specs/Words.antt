@@ -50,11 +50,11 @@ sign_turned ls = take (length ls - 1) ls ++ negations (drop (length ls - 1) ls)
 
 -- the highest bit
 abbrev pub sign_of : Literal → List Literal → Literal
-sign_of nought ls = slice_index_or ls (length ls - 1) nought
+sign_of zero_bit ls = slice_index_or ls (length ls - 1) zero_bit
 
 -- so many bits more, each the highest bit
 abbrev pub extended : Literal → ℕ → List Literal → List Literal
-extended nought width ls = ls ++ replicate (width - length ls) (sign_of nought ls)
+extended zero_bit width ls = ls ++ replicate (width - length ls) (sign_of zero_bit ls)
 
 -- ---- sums
 
@@ -101,7 +101,7 @@ added_if true copy c sum = sum_built c sum copy
 -- the bits of a number after as many zeros: a part of it that begins so far below the number is a
 -- copy that is shifted so far
 abbrev pub after_zeros : Literal → List Literal → List Literal
-after_zeros nought ls = replicate (length ls) nought ++ ls
+after_zeros zero_bit ls = replicate (length ls) zero_bit ++ ls
 
 abbrev pub shifted_copy : ℕ → ℕ → List Literal → List Literal
 shifted_copy width place ls = take width (drop place ls)

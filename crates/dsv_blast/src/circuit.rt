@@ -84,14 +84,14 @@ impl Circuit {
     }
 
     /// The next variable.
-    pub(crate) fn fresh(&mut self) -> Result<Lit, NoMemory>
+    pub(crate) fn next_variable(&mut self) -> Result<Lit, NoMemory>
         ensures circuit { OnOk result (self.new ≡ with_variable self.old) }
         ensures bit { IfOk result (λ l. l ≡ positive self.old.formula.vars) }
     {
         if self.formula.vars() >= MAX_VARIABLES {
             return Err(NoMemory);
         }
-        Ok(Lit::new(self.formula.fresh(), true))
+        Ok(Lit::new(self.formula.fresh_variable(), true))
     }
 
     /// Three clauses: the output is true exactly where both inputs are.

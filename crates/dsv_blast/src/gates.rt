@@ -1,4 +1,7 @@
-// Gates that may be folded: what is constant, equal or opposite adds no variable.
+// Gates as clauses, by Tseitin's encoding (1968): a gate has a variable of its own, and the prime
+// clauses that hold exactly where the variable is the gate's function. A gate that a constant, or
+// two equal or opposite inputs, make simpler is folded first: to a literal, which adds no
+// variable, or to a smaller gate. Of three inputs it suffices that two of them are so.
 use crate::circuit::Circuit;
 use dsv_base::NoMemory;
 use dsv_cnf::Lit;
@@ -19,7 +22,7 @@ impl Circuit {
         ensures over { IfOk result (λ l. l.var < self.new.formula.vars) }
         ensures longer { OnOk result (self.old.formula.vars ≤ self.new.formula.vars) }
     {
-        let output = self.fresh()?;
+        let output = self.next_variable()?;
         self.push_and(a, b, output)?;
         Ok(output)
     }
@@ -79,14 +82,14 @@ impl Circuit {
         ensures over { IfOk result (λ l. l.var < self.new.formula.vars) }
         ensures longer { OnOk result (self.old.formula.vars ≤ self.new.formula.vars) }
     {
-        let output = self.fresh()?;
+        let output = self.next_variable()?;
         self.push_exclusive(a, b, output)?;
         Ok(output)
     }
 
     /// Whether one of the two is true, and the other is not.
     #[tactic(auto, unfolding(crate::specs::Gates::exclusive_wired))]
-    pub(crate) fn exclusive(&mut self, a: Lit, b: Lit) -> Result<Lit, NoMemory>
+    pub(crate) fn exclusive_or(&mut self, a: Lit, b: Lit) -> Result<Lit, NoMemory>
         requires first { a.var < self.old.formula.vars }
         requires second { b.var < self.old.formula.vars }
         ensures circuit { OnOk result (self.new ≡ (exclusive_wired self.old a b).circuit) }
@@ -140,7 +143,7 @@ impl Circuit {
         ensures over { IfOk result (λ l. l.var < self.new.formula.vars) }
         ensures longer { OnOk result (self.old.formula.vars ≤ self.new.formula.vars) }
     {
-        let output = self.fresh()?;
+        let output = self.next_variable()?;
         self.push_exclusive_unless(a, b, c, output)?;
         self.push_exclusive_unless(a.negation(), b, c, output.negation())?;
         Ok(output)
@@ -157,8 +160,8 @@ impl Circuit {
         ensures over { IfOk result (λ l. l.var < self.new.formula.vars) }
         ensures longer { OnOk result (self.old.formula.vars ≤ self.new.formula.vars) }
     {
-        let both = self.exclusive(a, b)?;
-        self.exclusive(both, c)
+        let both = self.exclusive_or(a, b)?;
+        self.exclusive_or(both, c)
     }
 
     /// Whether one of the three is true, or all are.
@@ -194,7 +197,7 @@ impl Circuit {
         ensures over { IfOk result (λ l. l.var < self.new.formula.vars) }
         ensures longer { OnOk result (self.old.formula.vars ≤ self.new.formula.vars) }
     {
-        let output = self.fresh()?;
+        let output = self.next_variable()?;
         self.push_chosen_makes(test, a, b, output)?;
         self.push_chosen_makes(test, a.negation(), b.negation(), output.negation())?;
         Ok(output)
@@ -223,7 +226,7 @@ impl Circuit {
             return Ok(a);
         }
         if a.is(&b.negation()) {
-            return self.exclusive(test, b);
+            return self.exclusive_or(test, b);
         }
         if a.is(&one) || a.is(&test) {
             return self.or(test, b);
@@ -250,14 +253,15 @@ impl Circuit {
         ensures over { IfOk result (λ l. l.var < self.new.formula.vars) }
         ensures longer { OnOk result (self.old.formula.vars ≤ self.new.formula.vars) }
     {
-        let output = self.fresh()?;
+        let output = self.next_variable()?;
         self.push_two_make(a, b, c, output)?;
         self.push_two_make(a.negation(), b.negation(), c.negation(), output.negation())?;
         Ok(output)
     }
 
-    /// The third where two differ, and else the first of these.
-    fn decided(&mut self, a: Lit, b: Lit, third: Lit) -> Result<Lit, NoMemory>
+    /// The majority of three of which the first two are settled: the third where these differ, and
+    /// else the first.
+    fn settled_majority(&mut self, a: Lit, b: Lit, third: Lit) -> Result<Lit, NoMemory>
         requires first { a.var < self.old.formula.vars }
         requires second { b.var < self.old.formula.vars }
         requires third { third.var < self.old.formula.vars }
@@ -268,7 +272,7 @@ impl Circuit {
         ensures over { IfOk result (λ l. l.var < self.new.formula.vars) }
         ensures longer { OnOk result (self.old.formula.vars ≤ self.new.formula.vars) }
     {
-        let apart = self.exclusive(a, b)?;
+        let apart = self.exclusive_or(a, b)?;
         self.choice(apart, third, a)
     }
 
@@ -284,13 +288,13 @@ impl Circuit {
         ensures longer { OnOk result (self.old.formula.vars ≤ self.new.formula.vars) }
     {
         if self.is_settled(a, b) {
-            return self.decided(a, b, c);
+            return self.settled_majority(a, b, c);
         }
         if self.is_settled(a, c) {
-            return self.decided(a, c, b);
+            return self.settled_majority(a, c, b);
         }
         if self.is_settled(b, c) {
-            return self.decided(b, c, a);
+            return self.settled_majority(b, c, a);
         }
         self.majority_gate(a, b, c)
     }

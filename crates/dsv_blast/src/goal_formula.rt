@@ -1,4 +1,6 @@
-// The formula of a goal, and the input values that a model of it gives.
+// The formula of a goal: the inputs have the first variables, the nodes one circuit after the
+// other, and the root is a clause of its one literal. A node's bits are kept, so that each circuit
+// is made once, however many nodes name it.
 ghost use Rattle.std.specs.Prelude.{◌≡◌, ◌+◌, ◌<◌, ◌≤◌, ◌^◌, [], length, map, All, IfOk, OnOk};
 ghost use Rattle.dsv_cnf.specs.Formula.{IsOver};
 ghost use Rattle.dsv_term.specs.Terms.{AreTerms};

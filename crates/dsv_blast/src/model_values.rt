@@ -17,7 +17,7 @@ fn is_true(literal: Lit, model: &Assignment) -> bool
     requires { literal.var < length model.now }
     ensures { result ≡ literal_value (assignment_of model.now) literal }
 {
-    model.get(literal.var()) == literal.positive()
+    model.get(literal.var()) == literal.is_positive()
 }
 
 /// The number that literals spell.

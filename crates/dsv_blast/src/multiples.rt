@@ -1,4 +1,6 @@
-// Words that are made of constants.
+// Words that are made of constants. A product by a constant adds a shifted copy of the word for
+// each bit of the constant that is 1 (shift and add); a copy is a part of the word after zeros, so
+// shifting adds no gates.
 ghost use Rattle.std.specs.Prelude.{◌≡◌, ◌<◌, ◌≤◌, ◌+◌};
 ghost use Rattle.std.specs.Prelude.{length, cond, OnOk, IfOk};
 ghost use Rattle.dsv_cnf.specs.Literal.{negation};
@@ -7,7 +9,7 @@ ghost use Rattle.dsv_blast.specs.Words.{constant_bits, added_if, after_zeros};
 ghost use Rattle.dsv_blast.specs.Words.{multiple_built};
 
 use crate::circuit::Circuit;
-use crate::words::{Bits, add, repeated};
+use crate::words::{Bits, add, repetition};
 use dsv_base::{Items, NoMemory};
 use dsv_cnf::Lit;
 use std::alloc::Global;
@@ -62,7 +64,7 @@ fn add_if(
 fn with_zeros(alloc: Global, zero: Lit, word: &[Lit]) -> Result<Bits, NoMemory>
     ensures { IfOk result (λ bits. bits ≡ after_zeros zero word.now) }
 {
-    let mut bits = repeated(alloc, zero, word.len())?;
+    let mut bits = repetition(alloc, zero, word.len())?;
     bits.extend_from_slice(word)?;
     Ok(bits)
 }
@@ -83,7 +85,7 @@ pub(crate) fn multiply(
     let zero = circuit.zero();
     let copies = with_zeros(alloc, zero, word)?;
     let copies = copies.as_slice();
-    let mut sum = repeated(alloc, zero, width)?;
+    let mut sum = repetition(alloc, zero, width)?;
     let mut rest = number;
     for i in 0..width {
         let place = width - i;

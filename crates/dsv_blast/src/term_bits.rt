@@ -3,7 +3,7 @@ ghost use Rattle.std.specs.Prelude.{◌≡◌, ◌<◌, ◌≤◌, ◌+◌, ◌+
 ghost use Rattle.std.specs.Prelude.{length, map, slice_index, replicate, ◌∷◌, []};
 ghost use Rattle.std.specs.Prelude.{slice_index_or, OnOk, IfOk};
 ghost use Rattle.dsv_cnf.specs.Formula.{IsOver};
-ghost use Rattle.dsv_term.specs.TermNode.{AreAlike, IsChoice, IsLawful};
+ghost use Rattle.dsv_term.specs.TermNode.{AreAlike, IsLawful};
 ghost use Rattle.dsv_term.specs.Word.{IsWidth, residue};
 ghost use Rattle.dsv_blast.specs.Gates.{zero_of};
 ghost use Rattle.dsv_blast.specs.Words.{sign_turned, extended, at_least_wired};
@@ -34,7 +34,7 @@ fn operand<'a>(circuit: &Circuit, bits: &'a BitPlaces, id: TermId) -> &'a [Lit]
 }
 
 /// One bit as a word.
-fn single(alloc: Global, bit: Lit) -> Result<Bits, NoMemory>
+fn bit_word(alloc: Global, bit: Lit) -> Result<Bits, NoMemory>
     ensures { IfOk result (λ bits. bits ≡ bit ∷ []) }
 {
     let mut bits = Items::new(alloc);
@@ -43,7 +43,7 @@ fn single(alloc: Global, bit: Lit) -> Result<Bits, NoMemory>
 }
 
 /// The lowest bit of a word.
-fn lowest(circuit: &Circuit, bits: &[Lit]) -> Lit
+fn lowest_bit(circuit: &Circuit, bits: &[Lit]) -> Lit
     requires some { 1 ≤ length bits.now }
     requires over { IsOver circuit.now.formula.vars bits.now }
     ensures bit { result ≡ slice_index_or bits.now 0 (zero_of circuit.now) }
@@ -84,21 +84,21 @@ fn sign_extended(
     ensures { IfOk result (λ word. word ≡ extended (zero_of circuit.now) width bits.now) }
 {
     let sign = bits[bits.len() - 1];
-    let more = words::repeated(alloc, sign, width as usize - bits.len())?;
+    let more = words::repetition(alloc, sign, width as usize - bits.len())?;
     let mut word = Items::from_slice(alloc, bits)?;
     word.extend_from_slice(more.as_slice())?;
     Ok(word)
 }
 
 /// The negation of a number, modulo 2 to its width.
-fn negative(alloc: Global, bits: &[Lit], circuit: &mut Circuit) -> Result<Bits, NoMemory>
+fn negation(alloc: Global, bits: &[Lit], circuit: &mut Circuit) -> Result<Bits, NoMemory>
     requires { IsOver circuit.old.formula.vars bits.now }
     ensures circuit { OnOk result (circuit.new ≡ (difference_built circuit.old
         (replicate (length bits.now) (zero_of circuit.old)) bits.now).circuit) }
     ensures bits { IfOk result (λ word. word ≡ (difference_built circuit.old
         (replicate (length bits.now) (zero_of circuit.old)) bits.now).bits) }
 {
-    let zeros = words::repeated(alloc, circuit.zero(), bits.len())?;
+    let zeros = words::repetition(alloc, circuit.zero(), bits.len())?;
     words::subtract(alloc, circuit, zeros.as_slice(), bits)
 }
 
@@ -157,7 +157,7 @@ fn difference(
 }
 
 /// The bits that both have.
-fn both(
+fn conjunction(
     alloc: Global,
     circuit: &mut Circuit,
     bits: &BitPlaces,
@@ -177,7 +177,7 @@ fn both(
 }
 
 /// The bits that one of the two has.
-fn any(
+fn disjunction(
     alloc: Global,
     circuit: &mut Circuit,
     bits: &BitPlaces,
@@ -214,7 +214,7 @@ fn signed_less(
     let first = operand(circuit, bits, a);
     let second = operand(circuit, bits, b);
     let at_least = signed_at_least(alloc, circuit, first, second)?;
-    single(alloc, at_least.negation())
+    bit_word(alloc, at_least.negation())
 }
 
 /// Whether the first is at most the second, with signs.
@@ -235,11 +235,11 @@ fn signed_at_most(
     let first = operand(circuit, bits, a);
     let second = operand(circuit, bits, b);
     let at_most = signed_at_least(alloc, circuit, second, first)?;
-    single(alloc, at_most)
+    bit_word(alloc, at_most)
 }
 
 /// Whether the first is less, without signs.
-fn less(
+fn unsigned_less(
     alloc: Global,
     circuit: &mut Circuit,
     bits: &BitPlaces,
@@ -256,11 +256,11 @@ fn less(
     let first = operand(circuit, bits, a);
     let second = operand(circuit, bits, b);
     let at_least = words::at_least(alloc, circuit, first, second)?;
-    single(alloc, at_least.negation())
+    bit_word(alloc, at_least.negation())
 }
 
 /// Whether the two are the same.
-fn same(
+fn equality(
     alloc: Global,
     circuit: &mut Circuit,
     bits: &BitPlaces,
@@ -276,12 +276,12 @@ fn same(
 {
     let first = operand(circuit, bits, a);
     let second = operand(circuit, bits, b);
-    let same = words::same(circuit, first, second)?;
-    single(alloc, same)
+    let same = words::equality(circuit, first, second)?;
+    bit_word(alloc, same)
 }
 
 /// The bits of the first above those of the second.
-fn joined(
+fn concatenation(
     alloc: Global,
     circuit: &Circuit,
     bits: &BitPlaces,
@@ -296,28 +296,6 @@ fn joined(
     let mut word = Items::from_slice(alloc, operand(circuit, bits, b))?;
     word.extend_from_slice(operand(circuit, bits, a))?;
     Ok(word)
-}
-
-/// The second where the first is 1, and else the third.
-fn choice(
-    alloc: Global,
-    circuit: &mut Circuit,
-    bits: &BitPlaces,
-    test: TermId,
-    a: TermId,
-    b: TermId,
-) -> Result<Bits, NoMemory>
-    requires earlier { AreEarlier circuit.old bits.now }
-    requires choice { IsChoice (map length bits.now) test a b }
-    ensures circuit { OnOk result (circuit.new
-        ≡ (node_built [] bits.now circuit.old (TermNode.Ite test a b)).circuit) }
-    ensures bits { IfOk result (λ word. word
-        ≡ (node_built [] bits.now circuit.old (TermNode.Ite test a b)).bits) }
-{
-    let test = lowest(circuit, operand(circuit, bits, test));
-    let first = operand(circuit, bits, a);
-    let second = operand(circuit, bits, b);
-    words::choice(alloc, circuit, test, first, second)
 }
 
 /// The bits of a node.
@@ -342,13 +320,13 @@ pub(crate) fn node_bits(
         TermNode::Sub(a, b) => difference(alloc, circuit, bits, a, b),
         TermNode::Slt(a, b) => signed_less(alloc, circuit, bits, a, b),
         TermNode::Sle(a, b) => signed_at_most(alloc, circuit, bits, a, b),
-        TermNode::Ult(a, b) => less(alloc, circuit, bits, a, b),
-        TermNode::Eq(a, b) => same(alloc, circuit, bits, a, b),
-        TermNode::And(a, b) => both(alloc, circuit, bits, a, b),
-        TermNode::Or(a, b) => any(alloc, circuit, bits, a, b),
-        TermNode::Concat(a, b) => joined(alloc, circuit, bits, a, b),
-        TermNode::Neg(a) => negative(alloc, operand(circuit, bits, a), circuit),
-        TermNode::Not(a) => words::turned(alloc, operand(circuit, bits, a)),
+        TermNode::Ult(a, b) => unsigned_less(alloc, circuit, bits, a, b),
+        TermNode::Eq(a, b) => equality(alloc, circuit, bits, a, b),
+        TermNode::And(a, b) => conjunction(alloc, circuit, bits, a, b),
+        TermNode::Or(a, b) => disjunction(alloc, circuit, bits, a, b),
+        TermNode::Concat(a, b) => concatenation(alloc, circuit, bits, a, b),
+        TermNode::Neg(a) => negation(alloc, operand(circuit, bits, a), circuit),
+        TermNode::Not(a) => words::complement(alloc, operand(circuit, bits, a)),
         TermNode::MulConst { of, coeff } => {
             product(alloc, coeff, operand(circuit, bits, of), circuit)
         }
@@ -359,6 +337,11 @@ pub(crate) fn node_bits(
             let word = operand(circuit, bits, of);
             Items::from_slice(alloc, &word[low as usize..high as usize + 1])
         }
-        TermNode::Ite(test, a, b) => choice(alloc, circuit, bits, test, a, b),
+        TermNode::Ite(test, a, b) => {
+            let test = lowest_bit(circuit, operand(circuit, bits, test));
+            let first = operand(circuit, bits, a);
+            let second = operand(circuit, bits, b);
+            words::choice(alloc, circuit, test, first, second)
+        }
     }
 }

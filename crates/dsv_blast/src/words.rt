@@ -1,4 +1,7 @@
-// Circuits of words. A word is a list of literals, lowest bit first.
+// Circuits of words, which are lists of literals, lowest bit first. A sum is a row of full adders,
+// each a parity of three and a majority (a ripple-carry adder). A difference is the sum with the
+// complement and a carry of 1, and a comparison is the last carry of a difference: 1 where nothing
+// is borrowed.
 ghost use Rattle.std.specs.Prelude.{◌≡◌, ◌<◌, ◌≤◌, ◌-◌, [], length, replicate};
 ghost use Rattle.std.specs.Prelude.{OnOk, IfOk};
 ghost use Rattle.dsv_cnf.specs.Literal.{negation};
@@ -142,7 +145,11 @@ fn carry_out(
 }
 
 /// Whether two words of one width are the same.
-pub(crate) fn same(circuit: &mut Circuit, first: &[Lit], second: &[Lit]) -> Result<Lit, NoMemory>
+pub(crate) fn equality(
+    circuit: &mut Circuit,
+    first: &[Lit],
+    second: &[Lit],
+) -> Result<Lit, NoMemory>
     requires alike { length second.now ≡ length first.now }
     requires first { IsOver circuit.old.formula.vars first.now }
     requires second { IsOver circuit.old.formula.vars second.now }
@@ -153,14 +160,14 @@ pub(crate) fn same(circuit: &mut Circuit, first: &[Lit], second: &[Lit]) -> Resu
 {
     let mut same = circuit.one();
     for i in 0..first.len() {
-        let apart = circuit.exclusive(first[i], second[i])?;
+        let apart = circuit.exclusive_or(first[i], second[i])?;
         same = circuit.and(same, apart.negation())?;
     }
     Ok(same)
 }
 
 /// The negation of each bit.
-pub(crate) fn turned(alloc: Global, bits: &[Lit]) -> Result<Bits, NoMemory>
+pub(crate) fn complement(alloc: Global, bits: &[Lit]) -> Result<Bits, NoMemory>
     ensures { IfOk result (λ turned. turned ≡ negations bits.now) }
 {
     let mut turned = Items::new(alloc);
@@ -176,13 +183,13 @@ pub(crate) fn with_sign_turned(alloc: Global, bits: &[Lit]) -> Result<Bits, NoMe
 {
     let top = bits.len().saturating_sub(1);
     let mut word = Items::from_slice(alloc, &bits[..top])?;
-    let sign = turned(alloc, &bits[top..])?;
+    let sign = complement(alloc, &bits[top..])?;
     word.extend_from_slice(sign.as_slice())?;
     Ok(word)
 }
 
 /// So many bits that are the same.
-pub(crate) fn repeated(alloc: Global, bit: Lit, count: usize) -> Result<Bits, NoMemory>
+pub(crate) fn repetition(alloc: Global, bit: Lit, count: usize) -> Result<Bits, NoMemory>
     ensures { IfOk result (λ bits. bits ≡ replicate count bit) }
 {
     Ok(Items::from(vec![in alloc; bit; count]?))
@@ -203,7 +210,7 @@ pub(crate) fn subtract(
     ensures bits { IfOk result
         (λ bits. bits ≡ (difference_built circuit.old first.now second.now).bits) }
 {
-    let second = turned(alloc, second)?;
+    let second = complement(alloc, second)?;
     let one = circuit.one();
     add(alloc, circuit, first, second.as_slice(), one)
 }
@@ -223,7 +230,7 @@ pub(crate) fn at_least(
     ensures bit { IfOk result
         (λ l. l ≡ (at_least_wired circuit.old first.now second.now).bit) }
 {
-    let second = turned(alloc, second)?;
+    let second = complement(alloc, second)?;
     let one = circuit.one();
     carry_out(circuit, first, second.as_slice(), one)
 }

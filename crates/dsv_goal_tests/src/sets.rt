@@ -6,7 +6,7 @@ use dsv_netlist::Netlist;
 use dsv_realise::realise;
 use dsv_template::{Candidate, CoefficientList, Inequality, InequalityList, SetPart};
 use dsv_term::Goal;
-use dsv_unroll::set_goal;
+use dsv_unroll::{InputRange, set_goal};
 use std::alloc::Global;
 
 /// y(n) = x(n) + 0.5 y(n-1), where half of y(n-1) is made whole by the ceiling.
@@ -99,7 +99,8 @@ fn goal_of(alloc: Global, net: &Netlist, candidate: &Candidate, part: SetPart) -
     if !candidate.is_shaped(net.registers()) || format.hi() < -2 || 2 < format.lo() {
         return None;
     }
-    set_goal(alloc, net, -2, 2, candidate, part).ok()
+    let range = InputRange { low: -2, high: 2 };
+    set_goal(alloc, net, range, candidate, part).ok()
 }
 
 /// How many of the words break a sentence.

@@ -62,17 +62,17 @@ shift_up x width shift h w l =
     let same : extended_of m (extract_of (width - 1 - shift) 0 x) ≡ spelled m (pos n) = ap (extended_of m) low ∙ extended-same (spelled m (pos n)) fits in
     let e : width ≡ m + shift = omega arith in
     let p : 2 ^ width ≡ 2 ^ m * 2 ^ shift = ap (λ (k : ℕ). 2 ^ k) e ∙ pow-add 2 m shift in
-    let noughts : Word = record { width = shift; number = 0 } in
+    let zeros : Word = record { width = shift; number = 0 } in
     let number : n % 2 ^ m * 2 ^ shift + 0 ≡ 2 ^ shift * n % 2 ^ width =
     sym (ap (λ (k : ℕ). 2 ^ shift * n % k) p ∙ (shift_mod n (2 ^ m) (2 ^ shift) (pow_pos m) (pow_pos shift) ∙ omega arith)) in
-    ap (λ (i : Word). joined_of i noughts) same ∙ word_eq (joined_of (spelled m (pos n)) noughts) (spelled width (pos (2 ^ shift * n))) (sym e) number
+    ap (λ (i : Word). joined_of i zeros) same ∙ word_eq (joined_of (spelled m (pos n)) zeros) (spelled width (pos (2 ^ shift * n))) (sym e) number
 
 -- the word of a term that is so many bits higher
 abbrev pub shifted_number : TermsView → TermId → ℕ → List ℕ → ℤ
 shifted_number t a shift values = pos (2 ^ shift * (word_of t values a).number)
 
 shifted_by : (t : TermsView) (width shift : ℕ) (a : TermId) (none_ : Bool) → (shift == 0) ≡ none_ → AreSound t → a.0 < length t.nodes → width_of t a ≡ width → shift < width
-    → Rewrites t (if none_ then built_of t a else let low = part_term t (width - shift) (record { of = a; high = width - 1 - shift; low = 0 }) in let noughts = constant_term low.terms (record { width = shift; number = 0 }) in joined_term noughts.terms low.id noughts.id)
+    → Rewrites t (if none_ then built_of t a else let low = part_term t (width - shift) (record { of = a; high = width - 1 - shift; low = 0 }) in let zeros = constant_term low.terms (record { width = shift; number = 0 }) in joined_term zeros.terms low.id zeros.id)
     width (λ values. spelled width (shifted_number t a shift values))
 shifted_by t width shift a true e s h w l =
     let z = eqb-true shift 0 e in
@@ -87,22 +87,22 @@ shifted_by t width shift a false e s h w l =
     let p : Part = record { of = a; high = width - 1 - shift; low = 0 } in
     let zero_word : Word = record { width = shift; number = 0 } in
     let low = part_term t (width - shift) p in
-    let noughts = constant_term low.terms zero_word in
-    let both = joined_term noughts.terms low.id noughts.id in
+    let zeros = constant_term low.terms zero_word in
+    let both = joined_term zeros.terms low.id zeros.id in
     let narrow = (stands-width t a s h).narrow in
     let some : 1 ≤ shift = positive shift e in
     let r1 = part_rewrites t (width - shift) p s (record { stands = h; order = omega arith; inside = omega (arith, w) }) (omega arith) (omega arith) in
     let r2 = constant_rewrites low.terms zero_word r1.adds.sound (record { lawful = record { some = some; narrow = omega arith }; fits = pow_pos shift }) in
-    let up_ = later low.terms noughts.terms low.id r2.adds.kept r1.adds.stands in
-    let wide : width_of noughts.terms low.id ≡ width - shift = up_.width ∙ r1.adds.width in
-    let r3 = joined_rewrites noughts.terms low.id noughts.id r2.adds.sound up_.stands r2.adds.stands (omega (arith, wide, r2.adds.width)) in
-    let first = rewrites_then t low noughts (width - shift) shift (λ values. extended_of (width - shift) (extract_of (width - 1 - shift) 0 (word_of t values a))) (λ values. zero_word) (λ values. zero_word) r1 r2 (λ values v. refl) in
-    rewrites_as t both (width_of noughts.terms low.id + width_of noughts.terms noughts.id) width (λ values. spelled width (shifted_number t a shift values)) (λ values. spelled width (shifted_number t a shift values))
-    (rewrites_then t noughts both shift (width_of noughts.terms low.id + width_of noughts.terms noughts.id) (λ values. zero_word)
-    (λ values. joined_of (word_of noughts.terms values low.id) (word_of noughts.terms values noughts.id)) (λ values. spelled width (shifted_number t a shift values)) first r3
+    let up_ = later low.terms zeros.terms low.id r2.adds.kept r1.adds.stands in
+    let wide : width_of zeros.terms low.id ≡ width - shift = up_.width ∙ r1.adds.width in
+    let r3 = joined_rewrites zeros.terms low.id zeros.id r2.adds.sound up_.stands r2.adds.stands (omega (arith, wide, r2.adds.width)) in
+    let first = rewrites_then t low zeros (width - shift) shift (λ values. extended_of (width - shift) (extract_of (width - 1 - shift) 0 (word_of t values a))) (λ values. zero_word) (λ values. zero_word) r1 r2 (λ values v. refl) in
+    rewrites_as t both (width_of zeros.terms low.id + width_of zeros.terms zeros.id) width (λ values. spelled width (shifted_number t a shift values)) (λ values. spelled width (shifted_number t a shift values))
+    (rewrites_then t zeros both shift (width_of zeros.terms low.id + width_of zeros.terms zeros.id) (λ values. zero_word)
+    (λ values. joined_of (word_of zeros.terms values low.id) (word_of zeros.terms values zeros.id)) (λ values. spelled width (shifted_number t a shift values)) first r3
     (λ values v.
     let k = known_word t values a s v h in
-    ap (λ (i : Word). joined_of i (word_of noughts.terms values noughts.id)) (up_.word values ∙ r1.word values v)
+    ap (λ (i : Word). joined_of i (word_of zeros.terms values zeros.id)) (up_.word values ∙ r1.word values v)
     ∙ (ap (joined_of (extended_of (width - shift) (extract_of (width - 1 - shift) 0 (word_of t values a)))) (first.word values v)
     ∙ shift_up (word_of t values a) width shift k.word (k.width ∙ w) l)))
     (omega (arith, wide, r2.adds.width)) (λ values v. refl)
@@ -221,13 +221,13 @@ taken_counts t copy (negated_sum a) width z y h k =
     turned z y = omega (arith, ints)
 
 -- ---- what the code's steps ask
--- The low bits of a term and the noughts below them stand.
-pub record ShiftStands (u v : TermsView) (low noughts : TermId) : Type 0 where
+-- The low bits of a term and the zeros below them stand.
+pub record ShiftStands (u v : TermsView) (low zeros : TermId) : Type 0 where
   pub before : AreSound u
   pub sound : AreSound v
   pub first : low.0 < length v.nodes
-  pub second : noughts.0 < length v.nodes
-  pub narrow : width_of v low + width_of v noughts ≤ max_width
+  pub second : zeros.0 < length v.nodes
+  pub narrow : width_of v low + width_of v zeros ≤ max_width
 
 pub low_adds : (t u : TermsView) (a low : TermId) (width shift : ℕ) → AreSound t → a.0 < length t.nodes → width_of t a ≡ width → shift < width
     → built_of u low ≡ part_term t (width - shift) (record { of = a; high = width - 1 - shift; low = 0 }) → Adds t u low (width - shift)
@@ -236,12 +236,12 @@ low_adds t u a low width shift s h w l e =
     let narrow = (stands-width t a s h).narrow in
     Adds-built t u low (part_term t (width - shift) p) (width - shift) e (part_rewrites t (width - shift) p s (record { stands = h; order = omega arith; inside = omega (arith, w) }) (omega arith) (omega arith)).adds
 
-pub shift_stands : (t u v : TermsView) (a low noughts : TermId) (width shift : ℕ) → AreSound t → a.0 < length t.nodes → width_of t a ≡ width → 1 ≤ shift → shift < width
-    → built_of u low ≡ part_term t (width - shift) (record { of = a; high = width - 1 - shift; low = 0 }) → built_of v noughts ≡ constant_term u (record { width = shift; number = 0 }) → ShiftStands u v low noughts
-shift_stands t u v a low noughts width shift s h w some l e f =
+pub shift_stands : (t u v : TermsView) (a low zeros : TermId) (width shift : ℕ) → AreSound t → a.0 < length t.nodes → width_of t a ≡ width → 1 ≤ shift → shift < width
+    → built_of u low ≡ part_term t (width - shift) (record { of = a; high = width - 1 - shift; low = 0 }) → built_of v zeros ≡ constant_term u (record { width = shift; number = 0 }) → ShiftStands u v low zeros
+shift_stands t u v a low zeros width shift s h w some l e f =
     let narrow = (stands-width t a s h).narrow in
     let x : Word = record { width = shift; number = 0 } in
     let d = low_adds t u a low width shift s h w l e in
-    let g = Adds-built u v noughts (constant_term u x) shift f (constant_rewrites u x d.sound (record { lawful = record { some = some; narrow = omega arith }; fits = pow_pos shift })).adds in
+    let g = Adds-built u v zeros (constant_term u x) shift f (constant_rewrites u x d.sound (record { lawful = record { some = some; narrow = omega arith }; fits = pow_pos shift })).adds in
     let i = later u v low g.kept d.stands in
     record { before = d.sound; sound = g.sound; first = i.stands; second = g.stands; narrow = omega (arith, i.width, d.width, g.width) }

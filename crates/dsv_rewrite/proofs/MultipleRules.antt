@@ -15,7 +15,7 @@ use Rattle.dsv_term.proofs.Building.{Adds-built, stands-width, KeepsTerms-self}
 use Rattle.dsv_term.proofs.Complement.{spelled, residue-small, residue-turn, product-spelled}
 use Rattle.dsv_term.proofs.Made.{KeepsTerms-both}
 use Rattle.dsv_rewrite.specs.declared.digits.Digit.{Digit}
-use Rattle.dsv_rewrite.specs.declared.digits.Digit.TheVariants.{Minus, Nought, Plus}
+use Rattle.dsv_rewrite.specs.declared.digits.Digit.TheVariants.{Minus, Zero, Plus}
 use Rattle.dsv_rewrite.specs.Constants.{constant_term}
 use Rattle.dsv_rewrite.specs.Digits.{lowest_digit, digit_value, above_digit, shifted_term, Copies, none, sum, negated_sum, Multiple, with_added, with_taken, with_digit, digits_from, copies_term, multiple_term}
 use Rattle.dsv_rewrite.specs.Pairs.{negation_term}
@@ -79,8 +79,8 @@ digit_counts t m Minus width shift a z h s w l =
     let copy = shifted_term m.terms width shift a in
     counts_as t (with_taken copy m.copies) width (λ values. z values -ℤ shifted_number t a shift values) (λ values. z values +ℤ digit_value Minus *ℤ shifted_number t a shift values)
     (taken_counts t copy m.copies width z (shifted_number t a shift) c.counts c.has) (λ values. less_one (z values) (shifted_number t a shift values))
-digit_counts t m Nought width shift a z h s w l =
-    counts_as t m width z (λ values. z values +ℤ digit_value Nought *ℤ shifted_number t a shift values) h (λ values. same_one (z values) (shifted_number t a shift values))
+digit_counts t m Zero width shift a z h s w l =
+    counts_as t m width z (λ values. z values +ℤ digit_value Zero *ℤ shifted_number t a shift values) h (λ values. same_one (z values) (shifted_number t a shift values))
 digit_counts t m Plus width shift a z h s w l =
     let c = with_copy t m width shift a z h s w l in
     let copy = shifted_term m.terms width shift a in

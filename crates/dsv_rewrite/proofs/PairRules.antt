@@ -17,7 +17,7 @@ use Rattle.dsv_term.specs.Word.{IsWord, bit_of, sum_of, difference_of, negation_
 use Rattle.dsv_term.proofs.Building.{stands-width}
 use Rattle.dsv_term.proofs.Made.{widths_count}
 use Rattle.dsv_rewrite.specs.Constants.{constant_at, constant_term, is_zero, is_full}
-use Rattle.dsv_rewrite.specs.Pairs.{by_constants, kept_or, constant_or, is_same_term, zero_like, sum_term, difference_term, signed_less_term, signed_at_most_term, less_term, same_term, and_with, and_term, or_with, or_term, joined_term, of_constant, negation_term, complement_term, choice_by, choice_term, comparison_term}
+use Rattle.dsv_rewrite.specs.Pairs.{by_constants, kept_or, constant_or, is_same_term, zero_like, sum_term, difference_term, signed_less_term, signed_at_most_term, less_term, same_term, known_or, end_term, and_term, or_term, joined_term, of_constant, negation_term, complement_term, choice_by, choice_term, comparison_term}
 use Rattle.dsv_rewrite.specs.Simple.{IsOpen}
 use Rattle.dsv_rewrite.proofs.Folding.{IsWord-sum, IsWord-difference, IsWord-signed_less, IsWord-signed_at_most, IsWord-less, IsWord-same, IsWord-and, IsWord-or, IsWord-joined, IsWord-negation, IsWord-complement}
 use Rattle.dsv_rewrite.proofs.Laws.{zero_is, full_is, zero-sum, sum-zero, difference-zero, difference-self, signed_less-self, signed_at_most-self, less-self, same-self, and-self, and-flip, zero-and, full-and, or-self, or-flip, zero-or, full-or}
@@ -149,9 +149,10 @@ same_rewrites t a b p = comparison_rewrites t a b same_of true (Eq a b) p IsWord
 -- a test of a constant, and one more
 with_by : (t : TermsView) (zero full : Bool) (first second : TermId) (node : TermNode) (bits : ℕ) (meaning : List ℕ → Word)
     → (zero ≡ true → Rewrites t (built_of t first) bits meaning) → (full ≡ true → Rewrites t (built_of t second) bits meaning) → Rewrites t (with_node t node) bits meaning
-    → Rewrites t (if zero then built_of t first else kept_or t full second node) bits meaning
+    → Rewrites t (known_or t (if zero then Some first else if full then Some second else None) node) bits meaning
 with_by t true full first second node bits meaning h g n = h refl
-with_by t false full first second node bits meaning h g n = kept_by t full second node bits meaning g n
+with_by t false true first second node bits meaning h g n = g refl
+with_by t false false first second node bits meaning h g n = n
 
 -- a term of two, one of which is a constant, has this word
 kept_first : (t : TermsView) (a b : TermId) (f : Word → Word → Word) → ArePair t a b → ((values : List ℕ) → AreValues t.inputs values → word_of t values a ≡ f (word_of t values a) (word_of t values b))
@@ -185,7 +186,7 @@ pub and_rewrites : (t : TermsView) (a b : TermId) → ArePair t a b → Rewrites
 and_rewrites t a b p =
     let s = p.sound in
     let m : List ℕ → Word = λ values. and_of (word_of t values a) (word_of t values b) in
-    pair_by t a b (constant_at t a) (constant_at t b) (λ x y. constant_term t (and_of x y)) (λ x. and_with t x a b (And a b)) (λ y. and_with t y b a (And a b)) (kept_or t (is_same_term a b) a (And a b))
+    pair_by t a b (constant_at t a) (constant_at t b) (λ x y. constant_term t (and_of x y)) (λ x. known_or t (end_term x a b) (And a b)) (λ y. known_or t (end_term y b a) (And a b)) (kept_or t (is_same_term a b) a (And a b))
     (width_of t a) m s p.first p.second refl refl
     (λ x y q r. folded t a b x y and_of (width_of t a) s q r (IsWord-and x y q.fits r.fits (equal_widths t a b x y p q r)) q.width)
     (λ x q o. with_by t (is_zero x) (is_full x) a b (And a b) (width_of t a) m
@@ -204,7 +205,7 @@ pub or_rewrites : (t : TermsView) (a b : TermId) → ArePair t a b → Rewrites 
 or_rewrites t a b p =
     let s = p.sound in
     let m : List ℕ → Word = λ values. or_of (word_of t values a) (word_of t values b) in
-    pair_by t a b (constant_at t a) (constant_at t b) (λ x y. constant_term t (or_of x y)) (λ x. or_with t x a b (Or a b)) (λ y. or_with t y b a (Or a b)) (kept_or t (is_same_term a b) a (Or a b))
+    pair_by t a b (constant_at t a) (constant_at t b) (λ x y. constant_term t (or_of x y)) (λ x. known_or t (end_term x b a) (Or a b)) (λ y. known_or t (end_term y a b) (Or a b)) (kept_or t (is_same_term a b) a (Or a b))
     (width_of t a) m s p.first p.second refl refl
     (λ x y q r. folded t a b x y or_of (width_of t a) s q r (IsWord-or x y q.fits r.fits (equal_widths t a b x y p q r)) q.width)
     (λ x q o. with_by t (is_zero x) (is_full x) b a (Or a b) (width_of t a) m

@@ -17,7 +17,7 @@ use Rattle.dsv_term.proofs.Building.{stands-width}
 use Rattle.dsv_term.proofs.Made.{widths_count}
 use Rattle.dsv_rewrite.specs.declared.part.Part.{Part}
 use Rattle.dsv_rewrite.specs.Constants.{node_at, constant_of, constant_at, constant_term}
-use Rattle.dsv_rewrite.specs.Parts.{inside_extract, inside_extension, peeled, or_inside, innermost, bits_term, extended_bits, part_of_constant, part_term}
+use Rattle.dsv_rewrite.specs.Parts.{inside_extract, inside_extension, inner_part, or_inside, innermost_part, bits_term, extended_bits, part_of_constant, part_term}
 use Rattle.dsv_rewrite.specs.Ready.{IsPart}
 use Rattle.dsv_rewrite.specs.Simple.{IsOpen}
 use Rattle.dsv_rewrite.proofs.Extracts.{extract-extract, extract-lower, extract-upper, extract-extended, extended-same, extract-all}
@@ -111,18 +111,18 @@ joined_same t p q a b false true el eh s h m e =
     subst (λ (i : Part). SamePart t p i) same r
 joined_same t p q a b false false el eh s h m e = absurd cc
 
-peeled_by : (t : TermsView) (p q : Part) (n : TermNode) → AreSound t → IsPart t p → IsMadeOf t p.of n → peeled t n p ≡ Some q → SamePart t p q
-peeled_by t p q (Concat a b) s h m e = joined_same t p q a b (nat_lt p.high (width_of t b)) (nat_le (width_of t b) p.low) refl refl s h m e
-peeled_by t p q (Sext a w) s h m e =
+inner_part_by : (t : TermsView) (p q : Part) (n : TermNode) → AreSound t → IsPart t p → IsMadeOf t p.of n → inner_part t n p ≡ Some q → SamePart t p q
+inner_part_by t p q (Concat a b) s h m e = joined_same t p q a b (nat_lt p.high (width_of t b)) (nat_le (width_of t b) p.low) refl refl s h m e
+inner_part_by t p q (Sext a w) s h m e =
     let part = inside_extension a (width_of t a) p in
     subst (λ (i : Part). SamePart t p i) (part_from q (Some part) e) (extension_same t p a w s h m)
-peeled_by t p q (Extract a high low) s h m e =
+inner_part_by t p q (Extract a high low) s h m e =
     let part = inside_extract a low p in
     subst (λ (i : Part). SamePart t p i) (part_from q (Some part) e) (extract_same t p a high low s h m)
-peeled_by t p q n s h m e = absurd cc
+inner_part_by t p q n s h m e = absurd cc
 
-pub peeled_same : (t : TermsView) (p q : Part) → AreSound t → IsPart t p → peeled t (node_at t p.of) p ≡ Some q → SamePart t p q
-peeled_same t p q s h e = peeled_by t p q (node_at t p.of) s h (made_of t p.of s h.stands) e
+pub inner_part_same : (t : TermsView) (p q : Part) → AreSound t → IsPart t p → inner_part t (node_at t p.of) p ≡ Some q → SamePart t p q
+inner_part_same t p q s h e = inner_part_by t p q (node_at t p.of) s h (made_of t p.of s h.stands) e
 
 part_itself : (t : TermsView) (p : Part) → IsPart t p → SamePart t p p
 part_itself t p h = record { part = h; fewer = omega arith; word = λ values width v. refl }
@@ -130,15 +130,15 @@ part_itself t p h = record { part = h; fewer = omega arith; word = λ values wid
 part_then : (t : TermsView) (p q r : Part) → SamePart t p q → SamePart t q r → SamePart t p r
 part_then t p q r h k = record { part = k.part; fewer = omega (arith, h.fewer, k.fewer); word = λ values width v. k.word values width v ∙ h.word values width v }
 
-inside_by : (t : TermsView) (p : Part) (next : Part → Part) (o : Option Part) → AreSound t → IsPart t p → peeled t (node_at t p.of) p ≡ o → ((q : Part) → IsPart t q → SamePart t q (next q)) → SamePart t p (or_inside p next o)
+inside_by : (t : TermsView) (p : Part) (next : Part → Part) (o : Option Part) → AreSound t → IsPart t p → inner_part t (node_at t p.of) p ≡ o → ((q : Part) → IsPart t q → SamePart t q (next q)) → SamePart t p (or_inside p next o)
 inside_by t p next None s h e f = part_itself t p h
 inside_by t p next (Some q) s h e f =
-    let k = peeled_same t p q s h e in
+    let k = inner_part_same t p q s h e in
     part_then t p q (next q) k (f q k.part)
 
-pub innermost_same : (n : ℕ) (t : TermsView) (p : Part) → AreSound t → IsPart t p → SamePart t p (innermost n t p)
-innermost_same zero t p s h = part_itself t p h
-innermost_same (suc n) t p s h = inside_by t p (λ q. innermost n t q) (peeled t (node_at t p.of) p) s h refl (λ q k. innermost_same n t q s k)
+pub innermost_part_same : (n : ℕ) (t : TermsView) (p : Part) → AreSound t → IsPart t p → SamePart t p (innermost_part n t p)
+innermost_part_same zero t p s h = part_itself t p h
+innermost_part_same (suc n) t p s h = inside_by t p (λ q. innermost_part n t q) (inner_part t (node_at t p.of) p) s h refl (λ q k. innermost_part_same n t q s k)
 
 -- ---- the term of bits
 listed : (t : TermsView) (id : TermId) → id.0 < length t.nodes → id.0 < length (widths_of t)
@@ -219,8 +219,8 @@ pub part_rewrites : (t : TermsView) (width : ℕ) (p : Part) → AreSound t → 
     → Rewrites t (part_term t width p) width (λ values. extended_of width (extract_of p.high p.low (word_of t values p.of)))
 unfolding part_term
 part_rewrites t width p s h w n =
-    let q = innermost p.of.0 t p in
-    let k = innermost_same p.of.0 t p s h in
+    let q = innermost_part p.of.0 t p in
+    let k = innermost_part_same p.of.0 t p s h in
     rewrites_as t (part_of_constant t width q (constant_at t q.of)) width width (λ values. extended_of width (extract_of q.high q.low (word_of t values q.of))) (λ values. extended_of width (extract_of p.high p.low (word_of t values p.of)))
     (part_by t width q (constant_at t q.of) refl s k.part (omega (arith, k.fewer)) n) refl
     (λ values v. k.word values width v)

@@ -8,7 +8,7 @@ use Rattle.std.proofs.lemmas.Nat.{div-add-mod', mod_below}
 use Rattle.std.proofs.lemmas.Bool.{cases_lt}
 use Rattle.dsv_algebra.proofs.Floors.{floored_is}
 use Rattle.dsv_rewrite.specs.declared.digits.Digit.{Digit}
-use Rattle.dsv_rewrite.specs.declared.digits.Digit.TheVariants.{Minus, Nought, Plus}
+use Rattle.dsv_rewrite.specs.declared.digits.Digit.TheVariants.{Minus, Zero, Plus}
 use Rattle.dsv_rewrite.specs.Digits.{lowest_digit, digit_value, above_digit}
 use Rattle.dsv_rewrite.specs.Ready.{IsSmall}
 
@@ -80,5 +80,5 @@ above_small c s = by (lowest_digit c) (digit_split c).is
   where
     by : (d : Digit) → c ≡ (above_digit c +ℤ above_digit c) +ℤ digit_value d → IsSmall (above_digit c)
     by Minus e = digit_cases (negsuc 0) c (above_digit c) (omega (arith, ints)) (omega (arith, ints)) e s
-    by Nought e = digit_cases (pos 0) c (above_digit c) (omega (arith, ints)) (omega (arith, ints)) e s
+    by Zero e = digit_cases (pos 0) c (above_digit c) (omega (arith, ints)) (omega (arith, ints)) e s
     by Plus e = digit_cases (pos 1) c (above_digit c) (omega (arith, ints)) (omega (arith, ints)) e s

@@ -10,7 +10,7 @@ use Rattle.dsv_term.specs.Building.{Built, built_of}
 use Rattle.dsv_term.specs.Terms.{width_of}
 use Rattle.dsv_term.specs.TermsView.{TermsView}
 use Rattle.dsv_rewrite.specs.declared.digits.Digit.{Digit}
-use Rattle.dsv_rewrite.specs.declared.digits.Digit.TheVariants.{Minus, Nought, Plus}
+use Rattle.dsv_rewrite.specs.declared.digits.Digit.TheVariants.{Minus, Zero, Plus}
 use Rattle.dsv_rewrite.specs.Constants.{constant_term}
 use Rattle.dsv_rewrite.specs.Parts.{part_term}
 use Rattle.dsv_rewrite.specs.Pairs.{sum_term, difference_term, negation_term, joined_term}
@@ -20,12 +20,12 @@ abbrev pub lowest_digit : ℤ → Digit
 lowest_digit c =
     if int_eq (int_rem_euclid c (pos 4)) (pos 1) then Plus
     else if int_eq (int_rem_euclid c (pos 4)) (pos 3) then Minus
-    else Nought
+    else Zero
 
 -- what a digit is
 abbrev pub digit_value : Digit → ℤ
 digit_value Minus = negsuc 0
-digit_value Nought = pos 0
+digit_value Zero = pos 0
 digit_value Plus = pos 1
 
 -- the number without its lowest digit, halved
@@ -38,8 +38,8 @@ shifted_term t width shift a =
     if shift == 0 then built_of t a
     else let low = part_term t (width - shift)
     (record { of = a; high = width - 1 - shift; low = 0 }) in
-    let noughts = constant_term low.terms (record { width = shift; number = 0 }) in
-    joined_term noughts.terms low.id noughts.id
+    let zeros = constant_term low.terms (record { width = shift; number = 0 }) in
+    joined_term zeros.terms low.id zeros.id
 
 -- the sum of the copies so far: none, a term, or the negation of one
 pub data Copies : Type 0 where
@@ -73,7 +73,7 @@ with_taken copy (negated_sum a) = summed_below (sum_term copy.terms a copy.id)
 -- one digit more: only a digit that isn't 0 has a copy
 abbrev pub with_digit : Digit → ℕ → ℕ → TermId → Multiple → Multiple
 with_digit Minus width shift a m = with_taken (shifted_term m.terms width shift a) m.copies
-with_digit Nought width shift a m = m
+with_digit Zero width shift a m = m
 with_digit Plus width shift a m = with_added (shifted_term m.terms width shift a) m.copies
 
 -- so many digits more of this number, from the bit `shift` on

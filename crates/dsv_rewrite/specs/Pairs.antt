@@ -29,6 +29,11 @@ abbrev pub kept_or : TermsView → Bool → TermId → TermNode → Built
 kept_or t true kept node = built_of t kept
 kept_or t false kept node = with_node t node
 
+-- a term that stands already, where there is one, and else the node's
+abbrev pub known_or : TermsView → Option TermId → TermNode → Built
+known_or t (Some id) node = built_of t id
+known_or t None node = with_node t node
+
 -- a constant, where a test holds, and else the node's term
 abbrev pub constant_or : TermsView → Bool → Word → TermNode → Built
 constant_or t true word node = constant_term t word
@@ -78,28 +83,25 @@ less_term t a b = comparison_term t less_of false (Ult a b) a b
 abbrev pub same_term : TermsView → TermId → TermId → Built
 same_term t a b = comparison_term t same_of true (Eq a b) a b
 
--- and with 0 is 0, and with all bits 1 it is the other; a and a is a
-abbrev pub and_with : TermsView → Word → TermId → TermId → TermNode → Built
-and_with t x constant other node =
-    if is_zero x then built_of t constant else kept_or t (is_full x) other node
+-- the term that stands for a node over a constant and another term, where there is one: this where
+-- the constant is 0, and that where all its bits are 1
+abbrev pub end_term : Word → TermId → TermId → Option TermId
+end_term x zero full = if is_zero x then Some zero else if is_full x then Some full else None
 
+-- and with 0 is 0, and with all bits 1 it is the other; a and a is a
 abbrev pub and_term : TermsView → TermId → TermId → Built
 and_term t a b = by_constants (constant_at t a) (constant_at t b)
     (λ x y. constant_term t (and_of x y))
-    (λ x. and_with t x a b (And a b))
-    (λ y. and_with t y b a (And a b))
+    (λ x. known_or t (end_term x a b) (And a b))
+    (λ y. known_or t (end_term y b a) (And a b))
     (kept_or t (is_same_term a b) a (And a b))
 
 -- or with 0 is the other, and with all bits 1 it is that; a or a is a
-abbrev pub or_with : TermsView → Word → TermId → TermId → TermNode → Built
-or_with t x constant other node =
-    if is_zero x then built_of t other else kept_or t (is_full x) constant node
-
 abbrev pub or_term : TermsView → TermId → TermId → Built
 or_term t a b = by_constants (constant_at t a) (constant_at t b)
     (λ x y. constant_term t (or_of x y))
-    (λ x. or_with t x a b (Or a b))
-    (λ y. or_with t y b a (Or a b))
+    (λ x. known_or t (end_term x b a) (Or a b))
+    (λ y. known_or t (end_term y a b) (Or a b))
     (kept_or t (is_same_term a b) a (Or a b))
 
 abbrev pub joined_term : TermsView → TermId → TermId → Built

@@ -37,24 +37,24 @@ inside_joined a b bits p =
     else None
 
 -- the same bits of a term inside this node, where there is one
-abbrev pub peeled : TermsView → TermNode → Part → Option Part
-peeled t (Input k) p = None
-peeled t (Constant width value) p = None
-peeled t (Add a b) p = None
-peeled t (Sub a b) p = None
-peeled t (Slt a b) p = None
-peeled t (Sle a b) p = None
-peeled t (Ult a b) p = None
-peeled t (Eq a b) p = None
-peeled t (And a b) p = None
-peeled t (Or a b) p = None
-peeled t (Concat a b) p = inside_joined a b (width_of t b) p
-peeled t (Neg a) p = None
-peeled t (Not a) p = None
-peeled t (MulConst a coeff) p = None
-peeled t (Sext a width) p = Some (inside_extension a (width_of t a) p)
-peeled t (Extract a high low) p = Some (inside_extract a low p)
-peeled t (Ite c a b) p = None
+abbrev pub inner_part : TermsView → TermNode → Part → Option Part
+inner_part t (Input k) p = None
+inner_part t (Constant width value) p = None
+inner_part t (Add a b) p = None
+inner_part t (Sub a b) p = None
+inner_part t (Slt a b) p = None
+inner_part t (Sle a b) p = None
+inner_part t (Ult a b) p = None
+inner_part t (Eq a b) p = None
+inner_part t (And a b) p = None
+inner_part t (Or a b) p = None
+inner_part t (Concat a b) p = inside_joined a b (width_of t b) p
+inner_part t (Neg a) p = None
+inner_part t (Not a) p = None
+inner_part t (MulConst a coeff) p = None
+inner_part t (Sext a width) p = Some (inside_extension a (width_of t a) p)
+inner_part t (Extract a high low) p = Some (inside_extract a low p)
+inner_part t (Ite c a b) p = None
 
 -- these bits, or what comes of the same bits of a term inside, where there is one
 abbrev pub or_inside : Part → (Part → Part) → Option Part → Part
@@ -63,9 +63,10 @@ or_inside p next (Some q) = next q
 
 -- the innermost such bits; a term inside another has a smaller number, so that so many steps as the
 -- term's number suffice
-abbrev pub innermost : ℕ → TermsView → Part → Part
-innermost zero t p = p
-innermost (suc n) t p = or_inside p (λ q. innermost n t q) (peeled t (node_at t p.of) p)
+abbrev pub innermost_part : ℕ → TermsView → Part → Part
+innermost_part zero t p = p
+innermost_part (suc n) t p =
+    or_inside p (λ q. innermost_part n t q) (inner_part t (node_at t p.of) p)
 
 -- the bits themselves, which may be all that the term has
 abbrev pub bits_term : TermsView → Part → Built
@@ -86,5 +87,5 @@ part_of_constant t width p None = extended_bits t width p
 
 unfoldable pub part_term : TermsView → ℕ → Part → Built
 part_term t width p =
-    let q = innermost p.of.0 t p in
+    let q = innermost_part p.of.0 t p in
     part_of_constant t width q (constant_at t q.of)

@@ -1,4 +1,7 @@
-// Products by constants, by signed digits.
+// A product by a constant is a sum of shifted copies of the other factor. The constant is written
+// with signed digits -1, 0 and 1 of which of two neighbours one is 0, the non-adjacent form
+// (Reitwiesner, 1960): no such writing has fewer digits that aren't 0, and so no sum fewer copies.
+// A digit is taken from the lowest two bits of what is left of the constant.
 ghost use Rattle.std.specs.Prelude.{◌≡◌, ◌<◌, ◌*◌, length, IfOk};
 ghost use Rattle.dsv_term.specs.Building.{built_of};
 ghost use Rattle.dsv_term.specs.Growth.{AreSound};
@@ -20,7 +23,7 @@ use dsv_term::{TermId, Terms, Word};
 pub(crate) enum Digit {
     /// -1.
     Minus,
-    Nought,
+    Zero,
     Plus,
 }
 
@@ -40,7 +43,7 @@ fn lowest_digit(number: &i128) -> Digit
     match number.rem_euclid(4) {
         1 => Digit::Plus,
         3 => Digit::Minus,
-        _ => Digit::Nought,
+        _ => Digit::Zero,
     }
 }
 
@@ -51,7 +54,7 @@ fn above_digit(number: &i128) -> i128
 {
     let rest = match lowest_digit(number) {
         Digit::Minus => *number + 1,
-        Digit::Nought => *number,
+        Digit::Zero => *number,
         Digit::Plus => *number - 1,
     };
     rest.div_euclid(2)
@@ -74,12 +77,12 @@ fn shifted_term(terms: &mut Terms, width: u32, shift: u32, a: TermId) -> Result<
         low: 0,
     };
     let low = part_term(terms, width - shift, low)?;
-    let noughts = Word {
+    let zeros = Word {
         width: shift,
         number: 0,
     };
-    let noughts = constant_term(terms, noughts)?;
-    joined_term(terms, low, noughts)
+    let zeros = constant_term(terms, zeros)?;
+    joined_term(terms, low, zeros)
 }
 
 /// One copy more is added.
@@ -134,7 +137,7 @@ fn with_digit(
             let copy = shifted_term(terms, width, shift, a)?;
             with_taken(terms, copy, copies)
         }
-        Digit::Nought => Ok(copies),
+        Digit::Zero => Ok(copies),
         Digit::Plus => {
             let copy = shifted_term(terms, width, shift, a)?;
             with_added(terms, copy, copies)

@@ -8,8 +8,8 @@ ghost use Rattle.dsv_term.specs.Terms.{width_of};
 ghost use Rattle.dsv_term.specs.Word.{IsWord};
 ghost use Rattle.dsv_rewrite.specs.Pairs.{sum_term, difference_term, negation_term};
 ghost use Rattle.dsv_rewrite.specs.Pairs.{complement_term, signed_less_term};
-ghost use Rattle.dsv_rewrite.specs.Pairs.{signed_at_most_term, less_term, same_term, and_with};
-ghost use Rattle.dsv_rewrite.specs.Pairs.{and_term, or_with, or_term, joined_term, choice_term};
+ghost use Rattle.dsv_rewrite.specs.Pairs.{signed_at_most_term, less_term, same_term, known_or};
+ghost use Rattle.dsv_rewrite.specs.Pairs.{end_term, and_term, or_term, joined_term, choice_term};
 
 use crate::constants::{constant_at, constant_term, is_full};
 use dsv_base::NoMemory;
@@ -93,7 +93,7 @@ pub(crate) fn less_term(terms: &mut Terms, a: TermId, b: TermId) -> Result<TermI
     ensures { IfOk result (λ id. built_of terms.new id ≡ less_term terms.old a b) }
 {
     match (constant_at(terms, a), constant_at(terms, b)) {
-        (Some(x), Some(y)) => constant_term(terms, x.less(y)),
+        (Some(x), Some(y)) => constant_term(terms, x.less_than(y)),
         (None, None) if a == b => terms.constant(1, 0),
         _ => terms.ult(a, b),
     }
@@ -108,35 +108,43 @@ pub(crate) fn same_term(terms: &mut Terms, a: TermId, b: TermId) -> Result<TermI
     ensures { IfOk result (λ id. built_of terms.new id ≡ same_term terms.old a b) }
 {
     match (constant_at(terms, a), constant_at(terms, b)) {
-        (Some(x), Some(y)) => constant_term(terms, x.same(y)),
+        (Some(x), Some(y)) => constant_term(terms, x.same_as(y)),
         (None, None) if a == b => terms.constant(1, 1),
         _ => terms.eq(a, b),
     }
 }
 
-/// The bits that a constant and another term have.
-fn and_with(
+/// The term that stands for a node over a constant and another term, where there is one: `zero`
+/// where the constant is 0, and `full` where all its bits are 1.
+fn end_term(x: Word, zero: TermId, full: TermId) -> Option<TermId>
+    requires { IsWord x }
+    ensures { result ≡ end_term x zero full }
+{
+    if x.number == 0 {
+        return Some(zero);
+    }
+    if is_full(x) {
+        return Some(full);
+    }
+    None
+}
+
+/// The bits that both have, unless the term of them is known.
+fn and_unless(
     terms: &mut Terms,
-    x: Word,
-    constant: TermId,
-    other: TermId,
+    known: Option<TermId>,
     a: TermId,
     b: TermId,
 ) -> Result<TermId, NoMemory>
-    requires word { IsWord x }
     requires first { a.0 < length terms.old.nodes }
     requires second { b.0 < length terms.old.nodes }
     requires alike { width_of terms.old a ≡ width_of terms.old b }
-    ensures { IfOk result (λ id. built_of terms.new id
-        ≡ and_with terms.old x constant other (And a b)) }
+    ensures { IfOk result (λ id. built_of terms.new id ≡ known_or terms.old known (And a b)) }
 {
-    if x.number == 0 {
-        return Ok(constant);
+    match known {
+        Some(id) => Ok(id),
+        None => terms.and(a, b),
     }
-    if is_full(x) {
-        return Ok(other);
-    }
-    terms.and(a, b)
 }
 
 /// The bits that both have: a and a is a.
@@ -149,36 +157,29 @@ pub(crate) fn and_term(terms: &mut Terms, a: TermId, b: TermId) -> Result<TermId
 {
     match (constant_at(terms, a), constant_at(terms, b)) {
         (Some(x), Some(y)) => constant_term(terms, x.and(y)),
-        (Some(x), None) => and_with(terms, x, a, b, a, b),
-        (None, Some(y)) => and_with(terms, y, b, a, a, b),
+        (Some(x), None) => and_unless(terms, end_term(x, a, b), a, b),
+        (None, Some(y)) => and_unless(terms, end_term(y, b, a), a, b),
         (None, None) if a == b => Ok(a),
         (None, None) => terms.and(a, b),
     }
 }
 
-/// The bits that a constant or another term has.
-fn or_with(
+/// The bits that one of the two has, unless the term of them is known.
+fn or_unless(
     terms: &mut Terms,
-    x: Word,
-    constant: TermId,
-    other: TermId,
+    known: Option<TermId>,
     a: TermId,
     b: TermId,
 ) -> Result<TermId, NoMemory>
-    requires word { IsWord x }
     requires first { a.0 < length terms.old.nodes }
     requires second { b.0 < length terms.old.nodes }
     requires alike { width_of terms.old a ≡ width_of terms.old b }
-    ensures { IfOk result (λ id. built_of terms.new id
-        ≡ or_with terms.old x constant other (Or a b)) }
+    ensures { IfOk result (λ id. built_of terms.new id ≡ known_or terms.old known (Or a b)) }
 {
-    if x.number == 0 {
-        return Ok(other);
+    match known {
+        Some(id) => Ok(id),
+        None => terms.or(a, b),
     }
-    if is_full(x) {
-        return Ok(constant);
-    }
-    terms.or(a, b)
 }
 
 /// The bits that one of the two has: a or a is a.
@@ -191,8 +192,8 @@ pub(crate) fn or_term(terms: &mut Terms, a: TermId, b: TermId) -> Result<TermId,
 {
     match (constant_at(terms, a), constant_at(terms, b)) {
         (Some(x), Some(y)) => constant_term(terms, x.or(y)),
-        (Some(x), None) => or_with(terms, x, a, b, a, b),
-        (None, Some(y)) => or_with(terms, y, b, a, a, b),
+        (Some(x), None) => or_unless(terms, end_term(x, b, a), a, b),
+        (None, Some(y)) => or_unless(terms, end_term(y, a, b), a, b),
         (None, None) if a == b => Ok(a),
         (None, None) => terms.or(a, b),
     }

@@ -1,10 +1,14 @@
-// Bits of terms, extended: what extracts and sign extensions are.
+// Bits of a term, extended by their sign: what extracts and sign extensions are. Both are one
+// rule, since the bits of an extract, of a sign extension or of two joined terms are bits of a
+// term inside: they are looked for there, as far inside as one term has them all, and only what is
+// found becomes nodes.
 ghost use Rattle.std.specs.Prelude.{◌≡◌, ◌<◌, ◌≤◌, ◌+◌, IfOk};
 ghost use Rattle.dsv_term.specs.Limits.{max_width};
 ghost use Rattle.dsv_term.specs.Building.{built_of};
 ghost use Rattle.dsv_term.specs.Growth.{AreSound};
 ghost use Rattle.dsv_rewrite.specs.Constants.{node_at};
-ghost use Rattle.dsv_rewrite.specs.Parts.{peeled, innermost, bits_term, extended_bits, part_term};
+ghost use Rattle.dsv_rewrite.specs.Parts.{inner_part, innermost_part, bits_term};
+ghost use Rattle.dsv_rewrite.specs.Parts.{extended_bits, part_term};
 ghost use Rattle.dsv_rewrite.specs.Ready.{IsPart};
 ghost use Rattle.dsv_rewrite.specs.Simple.{IsOpen};
 
@@ -21,10 +25,10 @@ pub(crate) struct Part {
 }
 
 /// The same bits of a term inside, where there is one.
-fn peeled(terms: &Terms, part: Part) -> Option<Part>
+fn inner_part(terms: &Terms, part: Part) -> Option<Part>
     requires sound { AreSound terms.now }
     requires part { IsPart terms.now part }
-    ensures { result ≡ peeled terms.now (node_at terms.now part.of) part }
+    ensures { result ≡ inner_part terms.now (node_at terms.now part.of) part }
 {
     match terms.node(part.of) {
         TermNode::Concat(a, b) => {
@@ -59,15 +63,15 @@ fn peeled(terms: &Terms, part: Part) -> Option<Part>
 }
 
 /// The innermost such bits.
-fn innermost(terms: &Terms, part: Part) -> Part
+fn innermost_part(terms: &Terms, part: Part) -> Part
     requires sound { AreSound terms.now }
     requires part { IsPart terms.now part }
-    ensures inner { result ≡ innermost part.of.0 terms.now part }
+    ensures inner { result ≡ innermost_part part.of.0 terms.now part }
     ensures part { IsPart terms.now result }
 {
     let mut inner = part;
     for step in 0..part.of.0 {
-        match peeled(terms, inner) {
+        match inner_part(terms, inner) {
             Some(next) => inner = next,
             None => return inner,
         }
@@ -112,7 +116,7 @@ pub(crate) fn part_term(terms: &mut Terms, width: u32, part: Part) -> Result<Ter
     requires narrow { width ≤ max_width }
     ensures { IfOk result (λ id. built_of terms.new id ≡ part_term terms.old width part) }
 {
-    let inner = innermost(terms, part);
+    let inner = innermost_part(terms, part);
     match constant_at(terms, inner.of) {
         Some(word) => {
             let bits = word.extract(inner.high, inner.low);

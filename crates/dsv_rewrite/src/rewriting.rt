@@ -1,4 +1,6 @@
-// A goal, rewritten.
+// A goal is rewritten in one pass: each node becomes what the rules make of it over the terms that
+// the nodes before it became. No rule looks at a term again, so the work is linear in the nodes,
+// and a circuit's gates fold what is left.
 ghost use Rattle.std.specs.Prelude.{◌≡◌, ◌<◌, ◌≤◌, ℕ, List, length, All, OnOk, IfOk};
 ghost use Rattle.dsv_term.specs.Building.{built_of};
 ghost use Rattle.dsv_term.specs.Growth.{AreSound};

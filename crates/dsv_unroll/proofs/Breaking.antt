@@ -42,7 +42,7 @@ use Rattle.dsv_unroll.proofs.Runs.{any_outside, breaks_from, RegistersMean, Inpu
 use Rattle.dsv_unroll.proofs.TestedTerms.{TestsHold, run_holds}
 use Rattle.dsv_unroll.proofs.FactTerms.{word_inside, inside_word, facts_hold, first_holds}
 use Rattle.dsv_unroll.proofs.SampleSteps.{bits_later}
-use Rattle.dsv_unroll.proofs.InputTests.{bits_kept, bit_added, no_bits_mean, TestsMean, tests_later, joined-split, InputsStand, inputs_stand, words_at, range_flag, all_in_range, Joins, conjunction_joins, conjunction_keeps, conjunction_from-both}
+use Rattle.dsv_unroll.proofs.InputTests.{bits_kept, bit_added, no_bits_mean, TestsMean, tests_later, joined-split, InputsStand, inputs_stand, words_at, with_range, all_in_range, Joins, conjunction_joins, conjunction_keeps, conjunction_from-both}
 use Rattle.dsv_unroll.proofs.ValueTerms.{value_of, value_right}
 
 -- ---- a break
@@ -118,13 +118,13 @@ row_breaks net rs [] b = absurd (let l = b.1.1 in omega arith)
 row_breaks net rs (z ∷ zs) b = row_breaks_by net rs z zs b.0 b.1.0 b.1.1 b.1.2 b.2 (row_breaks net (step_of net rs z).past zs)
 
 -- ---- the range
-range_one : (low high z : ℤ) → (low ≤ℤ z) × (z ≤ℤ high) → range_flag low high true z ≡ true
+range_one : (low high z : ℤ) → (low ≤ℤ z) × (z ≤ℤ high) → with_range low high true z ≡ true
 range_one low high z h =
     let a : int_le low z ≡ true = (let l = h.0 in grind (arith, ints)) in
     let b : int_le z high ≡ true = (let k = h.1 in grind (arith, ints)) in
     rw (a, b) refl
 
-range_from : (low high z : ℤ) (q : Bool) → range_flag low high q z ≡ true → (q ≡ true) × (low ≤ℤ z) × (z ≤ℤ high)
+range_from : (low high z : ℤ) (q : Bool) → with_range low high q z ≡ true → (q ≡ true) × (low ≤ℤ z) × (z ≤ℤ high)
 range_from low high z true h = by (int_le low z) (int_le z high) refl refl h
   where
     by : (a b : Bool) → int_le low z ≡ a → int_le z high ≡ b → ((true && a) && b) ≡ true → (true ≡ true) × (low ≤ℤ z) × (z ≤ℤ high)
@@ -133,15 +133,15 @@ range_from low high z true h = by (int_le low z) (int_le z high) refl refl h
     by false b e g k = absurd cc
 range_from low high z false h = absurd cc
 
-all_flag : (low high : ℤ) (q : Bool) (zs : List ℤ) → all_in_range low high q zs ≡ true → q ≡ true
-all_flag low high q [] h = h
-all_flag low high q (z ∷ zs) h = (range_from low high z q (all_flag low high (range_flag low high q z) zs h)).0
+all_before : (low high : ℤ) (q : Bool) (zs : List ℤ) → all_in_range low high q zs ≡ true → q ≡ true
+all_before low high q [] h = h
+all_before low high q (z ∷ zs) h = (range_from low high z q (all_before low high (with_range low high q z) zs h)).0
 
 pub all_range : (low high : ℤ) (q : Bool) (zs : List ℤ) → all_in_range low high q zs ≡ true → AreInRange low high zs
 all_range low high q [] h = All-nil (λ x. (low ≤ℤ x) × (x ≤ℤ high))
 all_range low high q (z ∷ zs) h =
-    let r = range_from low high z q (all_flag low high (range_flag low high q z) zs h) in
-    All-cons (λ x. (low ≤ℤ x) × (x ≤ℤ high)) z zs (r.1, r.2) (all_range low high (range_flag low high q z) zs h)
+    let r = range_from low high z q (all_before low high (with_range low high q z) zs h) in
+    All-cons (λ x. (low ≤ℤ x) × (x ≤ℤ high)) z zs (r.1, r.2) (all_range low high (with_range low high q z) zs h)
 
 pub range_all : (low high : ℤ) (zs : List ℤ) → AreInRange low high zs → all_in_range low high true zs ≡ true
 range_all low high [] h = refl
@@ -152,8 +152,8 @@ range_all low high (z ∷ zs) h = rw (range_one low high z (All-head (λ x. (low
 values_right : (n : ℕ) (low high : ℤ) (q : Bool) (zs : List ℤ) → n ≤ 128 → all_in_range low high q zs ≡ true → map (value_of n low high) zs ≡ zs
 values_right n low high q [] s h = refl
 values_right n low high q (z ∷ zs) s h =
-    let r = range_from low high z q (all_flag low high (range_flag low high q z) zs h) in
-    rw (value_right n low high z s r.1 r.2) (ap (λ (ys : List ℤ). z ∷ ys) (values_right n low high (range_flag low high q z) zs s h))
+    let r = range_from low high z q (all_before low high (with_range low high q z) zs h) in
+    rw (value_right n low high z s r.1 r.2) (ap (λ (ys : List ℤ). z ∷ ys) (values_right n low high (with_range low high q z) zs s h))
 
 no_more : (a b : Bool) → (a && false) ≡ (b && false)
 no_more true true = refl
@@ -180,16 +180,16 @@ bit_number true h = refl
 bit_number false h = absurd (let e = ap (λ (w : Word). w.number) h in cc)
 
 pub tells_by : (w : Word) (P : Type 0) (q : Bool) → w ≡ bit_of q → (q ≡ true → P) → (P → q ≡ true) → Tells w P
-tells_by w P true e f g = record { one = λ p. e; nought = λ n. absurd (n (f refl)); only = λ k. f refl }
-tells_by w P false e f g = record { one = λ p. e ∙ ap bit_of (g p); nought = λ n. e; only = λ k. f (bit_number false (sym e ∙ k)) }
+tells_by w P true e f g = record { one = λ p. e; zero = λ n. absurd (n (f refl)); only = λ k. f refl }
+tells_by w P false e f g = record { one = λ p. e ∙ ap bit_of (g p); zero = λ n. e; only = λ k. f (bit_number false (sym e ∙ k)) }
 
-breaks_flag : (net : Net) (low high : ℤ) (zs : List ℤ) → (breaks_from net false (zeros (length net.next)) zs && all_in_range low high true zs) ≡ true → Breaks (List ℤ) (system_of net) low high zs
-breaks_flag net low high zs h =
+truth_breaks : (net : Net) (low high : ℤ) (zs : List ℤ) → (breaks_from net false (zeros (length net.next)) zs && all_in_range low high true zs) ≡ true → Breaks (List ℤ) (system_of net) low high zs
+truth_breaks net low high zs h =
     let b = both_true (breaks_from net false (zeros (length net.next)) zs) (all_in_range low high true zs) h in
     record { in_range = all_range low high true zs b.1; broken = breaks_row net (zeros (length net.next)) zs b.0 }
 
-flag_breaks : (net : Net) (low high : ℤ) (zs : List ℤ) → Breaks (List ℤ) (system_of net) low high zs → (breaks_from net false (zeros (length net.next)) zs && all_in_range low high true zs) ≡ true
-flag_breaks net low high zs h = rw (row_breaks net (zeros (length net.next)) zs h.broken, range_all low high zs h.in_range) refl
+breaks_truth : (net : Net) (low high : ℤ) (zs : List ℤ) → Breaks (List ℤ) (system_of net) low high zs → (breaks_from net false (zeros (length net.next)) zs && all_in_range low high true zs) ≡ true
+breaks_truth net low high zs h = rw (row_breaks net (zeros (length net.next)) zs h.broken, range_all low high zs h.in_range) refl
 
 -- ---- the goal
 pub words_map : (f : Format) (values all : List ℕ) (j : ℕ) → ((i : ℕ) → i < length values → slice_index values i ≡ slice_index all (j + i)) → words_at (width f) all j (length values) ≡ spelled_words f values
@@ -202,18 +202,18 @@ words_map f (v ∷ values) all j h =
 pub word_spelled : (f : Format) (z : ℤ) → IsSpelled (width f) z → IsWord f z
 word_spelled f z s = let l = s.low in let k = s.high in record { low = l; high = omega (arith, ints) }
 
-pub nought_spelled : IsSpelled 1 (pos 0)
-nought_spelled = record { low = omega (arith, ints); high = omega (arith, ints) }
+pub zero_bit_spelled : IsSpelled 1 (pos 0)
+zero_bit_spelled = record { low = omega (arith, ints); high = omega (arith, ints) }
 
 pub word_width : (f : Format) → IsWidth (width f)
 word_width f = record { some = width_some f; narrow = let h = width_small f in omega arith }
 
 -- what stands after the inputs, and after the zero
-pub record Starts (net : Net) (values : List ℕ) (low high : ℤ) (samples : ℕ) (i : InputTerms) (t : TermsView) (nought : TermId) : Type 0 where
-  pub ready : AreRunReady net (replicate (length net.next) nought) i.ids t nought
+pub record Starts (net : Net) (values : List ℕ) (low high : ℤ) (samples : ℕ) (i : InputTerms) (t : TermsView) (zero_bit : TermId) : Type 0 where
+  pub ready : AreRunReady net (replicate (length net.next) zero_bit) i.ids t zero_bit
   pub bits : AreBits t i.tests
-  pub flag : (vs : List ℕ) → word_of t vs nought ≡ bit_of false
-  pub registers : RegistersMean t values (replicate (length net.next) nought) (zeros (length net.next))
+  pub overflows : (vs : List ℕ) → word_of t vs zero_bit ≡ bit_of false
+  pub registers : RegistersMean t values (replicate (length net.next) zero_bit) (zeros (length net.next))
   pub inputs : InputsMean net.format t values i.ids (map (value_of (width net.format) low high) (words_at (width net.format) values 0 samples))
   pub tests : TestsMean t values i.tests (all_in_range low high true (words_at (width net.format) values 0 samples))
   pub sound : AreSound t
@@ -271,7 +271,7 @@ starts_by net values low high samples i s =
     let k = g.adds.kept in
     let small = width_small net.format in
     let value : IsValue u.terms u.id = record { stands = g.adds.stands; narrow = let e = g.adds.width in omega (arith, e) } in
-    let nought : Means u.terms values u.id (pos 0) = record { spells = subst (λ (w : ℕ). Spells u.terms values u.id w (pos 0)) (sym g.adds.width) (record { word = g.word values; fits = nought_spelled }) } in
+    let zero_bit : Means u.terms values u.id (pos 0) = record { spells = subst (λ (w : ℕ). Spells u.terms values u.id w (pos 0)) (sym g.adds.width) (record { word = g.word values; fits = zero_bit_spelled }) } in
     let at_k : (j : ℕ) → j < length (replicate m u.id) → term_at (replicate m u.id) j ≡ u.id = λ j p. get_or-replicate m j u.id (record { 0 = 0 }) (omega (arith, length-replicate m u.id)) in
     let zero_k : (j : ℕ) → j < length (replicate m u.id) → at (zeros m) j ≡ pos 0 = λ j p. get_or-replicate m j (pos 0) (pos 0) (omega (arith, length-replicate m u.id)) in
     record {
@@ -280,12 +280,12 @@ starts_by net values low high samples i s =
         count = length-replicate m u.id;
         registers_stand = λ j p. subst (IsValue u.terms) (sym (at_k j p)) value;
         inputs_stand = λ j p. let h = s.stand j p in let e = k.widths (term_at i.ids j) h.stands in record { stands = k.longer (term_at i.ids j) h.stands; narrow = omega (arith, h.narrow) };
-        flag_stands = g.adds.stands;
-        flag_bit = g.adds.width;
+        overflowed_stands = g.adds.stands;
+        overflowed_bit = g.adds.width;
       };
       bits = bits_later i.terms u.terms i.tests k s.bits;
-      flag = g.word;
-      registers = record { each = λ j p. rw (at_k j p, zero_k j p) nought };
+      overflows = g.word;
+      registers = record { each = λ j p. rw (at_k j p, zero_k j p) zero_bit };
       inputs = inputs_mean_later net.format i.terms u.terms values i.ids (map (value_of n low high) zs) k (λ j p. (s.stand j p).stands) (inputs_mean net.format values low high no_terms i zs (all_in_range low high true zs) s);
       tests = tests_later i.terms u.terms values i.tests (all_in_range low high true zs) k s.bits s.tests;
       sound = g.adds.sound;
@@ -305,34 +305,34 @@ pub record GoalStands (net : Net) (low high : ℤ) (samples : ℕ) (values : Lis
   pub widths : (j : ℕ) → j < length g.terms.inputs → slice_index g.terms.inputs j ≡ width net.format
 
 zeros_words : (net : Net) → All (IsWord net.format) (zeros (length net.next))
-zeros_words net = All-replicate (IsWord net.format) (length net.next) (pos 0) (word_spelled net.format (pos 0) (wider_spelled 1 (width net.format) (pos 0) (width_some net.format) nought_spelled))
+zeros_words net = All-replicate (IsWord net.format) (length net.next) (pos 0) (word_spelled net.format (pos 0) (wider_spelled 1 (width net.format) (pos 0) (width_some net.format) zero_bit_spelled))
 
 -- before the first fact
-first_known : (net : Net) (i : InputTerms) (t : TermsView) (nought : TermId) (run : RunTerms) → AreRunReady net (replicate (length net.next) nought) i.ids t nought → ((vs : List ℕ) → word_of t vs nought ≡ bit_of false) → AreBits t i.tests → AreSound run.terms → KeepsTerms t run.terms
-    → AreKnown run.terms nought i.tests
-first_known net i t nought run r w b s k =
+first_known : (net : Net) (i : InputTerms) (t : TermsView) (zero_bit : TermId) (run : RunTerms) → AreRunReady net (replicate (length net.next) zero_bit) i.ids t zero_bit → ((vs : List ℕ) → word_of t vs zero_bit ≡ bit_of false) → AreBits t i.tests → AreSound run.terms → KeepsTerms t run.terms
+    → AreKnown run.terms zero_bit i.tests
+first_known net i t zero_bit run r w b s k =
     record {
       sound = s;
-      bit = record { bit = bits_kept t run.terms nought 1 k (record { stands = r.flag_stands; width = r.flag_bit }); truth = λ vs. false; word = λ vs. k.words vs nought r.flag_stands ∙ w vs };
+      bit = record { bit = bits_kept t run.terms zero_bit 1 k (record { stands = r.overflowed_stands; width = r.overflowed_bit }); truth = λ vs. false; word = λ vs. k.words vs zero_bit r.overflowed_stands ∙ w vs };
       bits = bits_later t run.terms i.tests k b;
     }
 
 -- the run over the inputs' values
-starts_holds : (net : Net) (values : List ℕ) (low high : ℤ) (samples : ℕ) (i : InputTerms) (t : TermsView) (nought : TermId) → IsNetlist net → Starts net values low high samples i t nought
-    → let start : RunTerms = record { terms = t; registers = replicate (length net.next) nought; broken = nought } in let vs = map (value_of (width net.format) low high) (words_at (width net.format) values 0 samples) in
+starts_holds : (net : Net) (values : List ℕ) (low high : ℤ) (samples : ℕ) (i : InputTerms) (t : TermsView) (zero_bit : TermId) → IsNetlist net → Starts net values low high samples i t zero_bit
+    → let start : RunTerms = record { terms = t; registers = replicate (length net.next) zero_bit; overflowed = zero_bit } in let vs = map (value_of (width net.format) low high) (words_at (width net.format) values 0 samples) in
     TestsHold (run_from net i.ids start).terms values (width net.format) (run_tests net i.ids start) (exact_values (rows_from (step_of net) (zeros (length net.next)) vs)) false
-starts_holds net values low high samples i t nought h s =
+starts_holds net values low high samples i t zero_bit h s =
     let m = length net.next in
     let vs = map (value_of (width net.format) low high) (words_at (width net.format) values 0 samples) in
-    run_holds net values i.ids vs (record { terms = t; registers = replicate m nought; broken = nought }) (zeros m) false h (length-replicate m (pos 0)) (zeros_words net) s.ready (s.flag values) (λ e. s.registers) s.inputs
+    run_holds net values i.ids vs (record { terms = t; registers = replicate m zero_bit; overflowed = zero_bit }) (zeros m) false h (length-replicate m (pos 0)) (zeros_words net) s.ready (s.overflows values) (λ e. s.registers) s.inputs
 
-pub starts_follow : (net : Net) (values : List ℕ) (low high : ℤ) (samples : ℕ) (i : InputTerms) (t : TermsView) (nought : TermId) → IsNetlist net → Starts net values low high samples i t nought
-    → let start : RunTerms = record { terms = t; registers = replicate (length net.next) nought; broken = nought } in let vs = map (value_of (width net.format) low high) (words_at (width net.format) values 0 samples) in
+pub starts_follow : (net : Net) (values : List ℕ) (low high : ℤ) (samples : ℕ) (i : InputTerms) (t : TermsView) (zero_bit : TermId) → IsNetlist net → Starts net values low high samples i t zero_bit
+    → let start : RunTerms = record { terms = t; registers = replicate (length net.next) zero_bit; overflowed = zero_bit } in let vs = map (value_of (width net.format) low high) (words_at (width net.format) values 0 samples) in
     RunFollows net values t (run_from net i.ids start) (breaks_from net false (zeros (length net.next)) vs)
-starts_follow net values low high samples i t nought h s =
+starts_follow net values low high samples i t zero_bit h s =
     let m = length net.next in
     let vs = map (value_of (width net.format) low high) (words_at (width net.format) values 0 samples) in
-    run_follows net values i.ids vs (record { terms = t; registers = replicate m nought; broken = nought }) (zeros m) false h (length-replicate m (pos 0)) (zeros_words net) s.ready (s.flag values) (λ e. s.registers) s.inputs
+    run_follows net values i.ids vs (record { terms = t; registers = replicate m zero_bit; overflowed = zero_bit }) (zeros m) false h (length-replicate m (pos 0)) (zeros_words net) s.ready (s.overflows values) (λ e. s.registers) s.inputs
 
 -- the facts of the run over values, where the words are in range
 facts_known : (net : Net) (low high : ℤ) (samples : ℕ) (facts : List Fact) (zs : List ℤ) → AreFacts net low high samples facts → length zs ≡ samples → all_in_range low high true zs ≡ true
@@ -341,13 +341,13 @@ facts_known net low high samples facts zs a c q =
     let e = values_right (width net.format) low high true zs (let s = width_small net.format in omega arith) q in
     subst (λ (ys : List ℤ). Hold net.format facts (exact_values (rows_from (step_of net) (zeros (length net.next)) ys))) (sym e) (a zs c (all_range low high true zs q))
 
--- the run's flag and the tests of the inputs, joined after terms that keep those of the start
-pub range_joins : (net : Net) (values : List ℕ) (low high : ℤ) (samples : ℕ) (i : InputTerms) (u t : TermsView) (nought broken : TermId) (b : Bool) → Starts net values low high samples i u nought → AreSound t → HasBits t broken 1 → word_of t values broken ≡ bit_of b → KeepsTerms u t
-    → Joins values t (conjunction_from (built_of t broken) i.tests) (b && all_in_range low high true (words_at (width net.format) values 0 samples))
-range_joins net values low high samples i u t nought broken b s sound bit flag kept =
+-- the bit of a run and the tests of the inputs, joined after terms that keep those of the start
+pub range_joins : (net : Net) (values : List ℕ) (low high : ℤ) (samples : ℕ) (i : InputTerms) (u t : TermsView) (zero_bit overflowed : TermId) (b : Bool) → Starts net values low high samples i u zero_bit → AreSound t → HasBits t overflowed 1 → word_of t values overflowed ≡ bit_of b → KeepsTerms u t
+    → Joins values t (conjunction_from (built_of t overflowed) i.tests) (b && all_in_range low high true (words_at (width net.format) values 0 samples))
+range_joins net values low high samples i u t zero_bit overflowed b s sound bit overflows kept =
     let q = all_in_range low high true (words_at (width net.format) values 0 samples) in
     let m = tests_later u t values i.tests q kept s.bits s.tests in
-    let j = conjunction_joins values t broken i.tests m.truths b sound bit flag (bits_later u t i.tests kept s.bits) m.mean in
+    let j = conjunction_joins values t overflowed i.tests m.truths b sound bit overflows (bits_later u t i.tests kept s.bits) m.mean in
     record { adds = j.adds; word = j.word ∙ ap bit_of (joined-split b m.truths ∙ ap (λ (c : Bool). b && c) m.all) }
 
 pub goal_stands : (net : Net) (low high : ℤ) (samples : ℕ) (facts : List Fact) (values : List ℕ) → IsNetlist net → low ≤ℤ hi (width net.format) → lo (width net.format) ≤ℤ high → AreFacts net low high samples facts
@@ -359,29 +359,29 @@ goal_stands net low high samples facts values net_ l h a f =
     let i = inputs_from (width net.format) low high samples (record { terms = no_terms; ids = []; tests = [] }) in
     let s = starts_by net values low high samples i (inputs_of net values low high samples l h f) in
     let u = with_node i.terms (Constant 1 0) in
-    let start : RunTerms = record { terms = u.terms; registers = replicate m u.id; broken = u.id } in
+    let start : RunTerms = record { terms = u.terms; registers = replicate m u.id; overflowed = u.id } in
     let run = run_from net i.ids start in
     let entries = run_tests net i.ids start in
     let vs = map (value_of (width net.format) low high) zs in
     let r = starts_follow net values low high samples i u.terms u.id net_ s in
     let b = breaks_from net false (zeros m) vs in
     let q = all_in_range low high true zs in
-    let first : FactTerms = record { terms = run.terms; outside = u.id; tests = i.tests } in
+    let first : FactTerms = record { terms = run.terms; overflowed = u.id; tests = i.tests } in
     let long = is_long samples in
     let k = facts_from long first facts entries in
     let tests = starts_holds net values low high samples i u.terms u.id net_ s in
     let e = facts_hold long run.terms values net.format i.tests q facts entries (exact_values (rows_from (step_of net) (zeros m) vs)) (λ o. false) first
-    (first_holds run.terms values q u.id i.tests (first_known net i u.terms u.id run s.ready s.flag s.bits r.ready.sound r.kept)) tests.stand
+    (first_holds run.terms values q u.id i.tests (first_known net i u.terms u.id run s.ready s.overflows s.bits r.ready.sound r.kept)) tests.stand
     (λ o p. (tests.say refl, facts_known net low high samples facts zs a (words_at-length (width net.format) values 0 samples) o)) in
     let g = e.holds in
     let kept = KeepsTerms-both u.terms run.terms k.terms r.kept g.kept in
-    let broken = bits_kept run.terms k.terms run.broken 1 g.kept (record { stands = r.stands; width = r.bit }) in
-    let flag = g.kept.words values run.broken r.stands ∙ r.flag in
-    let j = range_joins net values low high samples i u.terms k.terms u.id run.broken b s g.sound broken flag kept in
-    let one = conjunction_from (built_of k.terms run.broken) i.tests in
+    let overflowed = bits_kept run.terms k.terms run.overflowed 1 g.kept (record { stands = r.stands; width = r.bit }) in
+    let overflows = g.kept.words values run.overflowed r.stands ∙ r.overflows in
+    let j = range_joins net values low high samples i u.terms k.terms u.id run.overflowed b s g.sound overflowed overflows kept in
+    let one = conjunction_from (built_of k.terms run.overflowed) i.tests in
     let n = conjunction_keeps values one.terms one.id g.more (b && q) j.adds.sound (bit_added k.terms one.terms one.id j.adds) j.word (bits_later k.terms one.terms g.more j.adds.kept g.bits)
     (λ o d p. j.adds.kept.words values (term_at g.more d) (g.bits.stand d p).stands ∙ g.ones (both_true b q o).1 d p) in
-    let end : conjunction_from (built_of k.terms run.broken) k.tests ≡ conjunction_from one g.more = ap (conjunction_from (built_of k.terms run.broken)) g.tests ∙ conjunction_from-both (built_of k.terms run.broken) i.tests g.more in
+    let end : conjunction_from (built_of k.terms run.overflowed) k.tests ≡ conjunction_from one g.more = ap (conjunction_from (built_of k.terms run.overflowed)) g.tests ∙ conjunction_from-both (built_of k.terms run.overflowed) i.tests g.more in
     let same = n.adds.inputs ∙ (j.adds.inputs ∙ (g.inputs ∙ r.inputs)) in
     subst (GoalStands net low high samples values) (sym end) (record {
       bit = (let a = n.adds in record { stands = a.stands; width = a.width });
@@ -401,7 +401,7 @@ overflow_tells net low high samples facts values net_ l h a v =
     let e : words_at (width net.format) values 0 samples ≡ spelled_words net.format values = ap (words_at (width net.format) values 0) (sym c) ∙ words_map net.format values values 0 (λ i p. ap (slice_index values) (let z : i ≡ 0 + i = omega arith in z)) in
     let zs = words_at (width net.format) values 0 samples in
     subst (λ (ys : List ℤ). Tells (word_of o.terms values o.id) (Breaks (List ℤ) (system_of net) low high ys)) e
-    (tells_by (word_of o.terms values o.id) (Breaks (List ℤ) (system_of net) low high zs) (breaks_from net false (zeros (length net.next)) zs && all_in_range low high true zs) g.word (breaks_flag net low high zs) (flag_breaks net low high zs))
+    (tells_by (word_of o.terms values o.id) (Breaks (List ℤ) (system_of net) low high zs) (breaks_from net false (zeros (length net.next)) zs && all_in_range low high true zs) g.word (truth_breaks net low high zs) (breaks_truth net low high zs))
 
 -- a list of one number is known by its length
 pub same_items : (n : ℕ) (xs : List ℕ) (k : ℕ) → length xs ≡ k → ((j : ℕ) → j < length xs → slice_index xs j ≡ n) → xs ≡ replicate k n
@@ -417,34 +417,34 @@ overflow_inputs net low high samples facts net_ l h a =
     same_items (width net.format) (overflow_with net low high samples facts).terms.inputs samples none.count none.widths
 
 -- ---- as the code has it
-pub record AreStarted (net : Net) (registers : List TermId) (i : InputTerms) (t : TermsView) (nought : TermId) : Type 0 where
-  pub ready : AreRunReady net registers i.ids t nought
-  pub known : IsNetlist net → let start : RunTerms = record { terms = t; registers = registers; broken = nought } in AreKnown (run_from net i.ids start).terms nought i.tests
-  pub tested : IsNetlist net → let start : RunTerms = record { terms = t; registers = registers; broken = nought } in AreTested (run_from net i.ids start).terms (run_tests net i.ids start)
+pub record AreStarted (net : Net) (registers : List TermId) (i : InputTerms) (t : TermsView) (zero_bit : TermId) : Type 0 where
+  pub ready : AreRunReady net registers i.ids t zero_bit
+  pub known : IsNetlist net → let start : RunTerms = record { terms = t; registers = registers; overflowed = zero_bit } in AreKnown (run_from net i.ids start).terms zero_bit i.tests
+  pub tested : IsNetlist net → let start : RunTerms = record { terms = t; registers = registers; overflowed = zero_bit } in AreTested (run_from net i.ids start).terms (run_tests net i.ids start)
 
-started : (net : Net) (low high : ℤ) (samples : ℕ) (registers : List TermId) (i : InputTerms) (t : TermsView) (nought : TermId) → low ≤ℤ hi (width net.format) → lo (width net.format) ≤ℤ high
-    → i ≡ inputs_from (width net.format) low high samples (record { terms = no_terms; ids = []; tests = [] }) → built_of t nought ≡ with_node i.terms (Constant 1 0) → registers ≡ replicate (length net.next) nought → AreStarted net registers i t nought
-started net low high samples registers i t nought l h e b r =
+started : (net : Net) (low high : ℤ) (samples : ℕ) (registers : List TermId) (i : InputTerms) (t : TermsView) (zero_bit : TermId) → low ≤ℤ hi (width net.format) → lo (width net.format) ≤ℤ high
+    → i ≡ inputs_from (width net.format) low high samples (record { terms = no_terms; ids = []; tests = [] }) → built_of t zero_bit ≡ with_node i.terms (Constant 1 0) → registers ≡ replicate (length net.next) zero_bit → AreStarted net registers i t zero_bit
+started net low high samples registers i t zero_bit l h e b r =
     let first = inputs_from (width net.format) low high samples (record { terms = no_terms; ids = []; tests = [] }) in
     let s = starts_by net [] low high samples first (inputs_of net [] low high samples l h (λ j p. pow_pos (width net.format))) in
     let u = with_node first.terms (Constant 1 0) in
-    let start : RunTerms = record { terms = u.terms; registers = replicate (length net.next) u.id; broken = u.id } in
+    let start : RunTerms = record { terms = u.terms; registers = replicate (length net.next) u.id; overflowed = u.id } in
     let one : AreStarted net (replicate (length net.next) u.id) first u.terms u.id = record {
       ready = s.ready;
-      known = λ n. let f = starts_follow net [] low high samples first u.terms u.id n s in first_known net first u.terms u.id (run_from net first.ids start) s.ready s.flag s.bits f.ready.sound f.kept;
+      known = λ n. let f = starts_follow net [] low high samples first u.terms u.id n s in first_known net first u.terms u.id (run_from net first.ids start) s.ready s.overflows s.bits f.ready.sound f.kept;
       tested = λ n. record { stand = (starts_holds net [] low high samples first u.terms u.id n s).stand };
     } in
     let two = subst (λ (j : InputTerms). AreStarted net (replicate (length net.next) (with_node j.terms (Constant 1 0)).id) j (with_node j.terms (Constant 1 0)).terms (with_node j.terms (Constant 1 0)).id) (sym e) one in
     let three = subst (λ (v : Built). AreStarted net (replicate (length net.next) v.id) i v.terms v.id) (sym b) two in
-    subst (λ (ids : List TermId). AreStarted net ids i t nought) (sym r) three
+    subst (λ (ids : List TermId). AreStarted net ids i t zero_bit) (sym r) three
 
 -- from the equations that the code has
-pub started_from : (net : Net) (low high : ℤ) (samples k : ℕ) (f : Format) (none : TermsView) (registers : List TermId) (i : InputTerms) (t : TermsView) (nought : TermId) → low ≤ℤ hi (width net.format) → lo (width net.format) ≤ℤ high
-    → i ≡ inputs_from (width f) low high samples (record { terms = none; ids = []; tests = [] }) → none ≡ no_terms → f ≡ net.format → built_of t nought ≡ with_node i.terms (Constant 1 0) → registers ≡ replicate k nought → k ≡ length net.next
-    → AreStarted net registers i t nought
-started_from net low high samples k f none registers i t nought l h e z g b r c =
+pub started_from : (net : Net) (low high : ℤ) (samples k : ℕ) (f : Format) (none : TermsView) (registers : List TermId) (i : InputTerms) (t : TermsView) (zero_bit : TermId) → low ≤ℤ hi (width net.format) → lo (width net.format) ≤ℤ high
+    → i ≡ inputs_from (width f) low high samples (record { terms = none; ids = []; tests = [] }) → none ≡ no_terms → f ≡ net.format → built_of t zero_bit ≡ with_node i.terms (Constant 1 0) → registers ≡ replicate k zero_bit → k ≡ length net.next
+    → AreStarted net registers i t zero_bit
+started_from net low high samples k f none registers i t zero_bit l h e z g b r c =
     let from : TermsView → Format → InputTerms = λ n j. inputs_from (width j) low high samples (record { terms = n; ids = []; tests = [] }) in
-    started net low high samples registers i t nought l h (e ∙ (ap (λ (n : TermsView). from n f) z ∙ ap (from no_terms) g)) b (r ∙ ap (λ (j : ℕ). replicate j nought) c)
+    started net low high samples registers i t zero_bit l h (e ∙ (ap (λ (n : TermsView). from n f) z ∙ ap (from no_terms) g)) b (r ∙ ap (λ (j : ℕ). replicate j zero_bit) c)
 
 pub made_tells : (net : Net) (low high : ℤ) (samples : ℕ) (t : TermsView) (root : TermId) (values : List ℕ) → built_of t root ≡ overflow_of net low high samples → IsNetlist net → low ≤ℤ hi (width net.format) → lo (width net.format) ≤ℤ high
     → AreFacts net low high samples (facts_of net low high samples) → AreValues t.inputs values → Tells (word_of t values root) (Breaks (List ℤ) (system_of net) low high (spelled_words net.format values))

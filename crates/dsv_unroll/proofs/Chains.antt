@@ -8,7 +8,6 @@ use Rattle.dsv_term.specs.Terms.{width_of}
 use Rattle.dsv_term.specs.TermsView.{TermsView}
 use Rattle.dsv_term.specs.Word.{residue}
 use Rattle.dsv_unroll.specs.FactTests.{within_test}
-use Rattle.dsv_unroll.specs.Ready.{ends_of}
 use Rattle.dsv_unroll.specs.Rules.{EndTerms, end_terms, CutTerms, cut_terms}
 
 -- ---- the rest of a test that a value lies from one number to another, after so much of it
@@ -33,6 +32,9 @@ within_made t u v w x bits m n low high value least greatest above below b p q d
     ∙ ap (λ (k : ℕ). after_least k (residue k high) value (with_node t (Constant k (residue k low)))) b)))))
 
 -- ---- the rest of two numbers and where a term lies beside them
+abbrev pub ends_of : TermsView → TermId → TermId → TermId → TermId → EndTerms
+ends_of t least greatest below above = record { terms = t; least = least; greatest = greatest; below = below; above = above }
+
 abbrev ends_above : TermId → TermId → TermId → Built → EndTerms
 ends_above least greatest below above = ends_of above.terms least greatest below above.id
 

@@ -34,7 +34,7 @@ use Rattle.dsv_unroll.proofs.RuleTerms.{Spells, value_later}
 use Rattle.dsv_unroll.proofs.Follows.{Means, means_later}
 use Rattle.dsv_unroll.proofs.NodeTerms.{width_small, all_more}
 use Rattle.dsv_unroll.proofs.InputTests.{bits_kept, word_at, words_at}
-use Rattle.dsv_unroll.proofs.Breaking.{none_sound, word_width, word_spelled, words_map, words_at-length, nought_spelled, tells_by, same_items}
+use Rattle.dsv_unroll.proofs.Breaking.{none_sound, word_width, word_spelled, words_map, words_at-length, zero_bit_spelled, tells_by, same_items}
 use Rattle.dsv_unroll.proofs.CycleTerms.{AllMean, mean_later, equal_true, equal_from}
 use Rattle.dsv_unroll.proofs.Cycling.{finds_from, is_sound, IsFound, found_is, is_found}
 use Rattle.dsv_unroll.proofs.CycleRuns.{CycleStands, cycles_stand, zero_word}
@@ -147,19 +147,19 @@ pub record CycleGoalStands (net : Net) (periods : ℕ) (values : List ℕ) (g : 
   pub words : All (IsWord net.format) (start_words net values)
   pub inputs : g.terms.inputs ≡ replicate (length net.next - net.feed_forward) (width net.format)
 
-pub nought_starts : (f : Format) (values : List ℕ) (forward : ℕ) → let u = with_node no_terms (Constant 1 0) in StartsStand f values u.terms (record { terms = u.terms; ids = replicate forward u.id }) (zeros forward)
-nought_starts f values forward =
+pub zero_bit_starts : (f : Format) (values : List ℕ) (forward : ℕ) → let u = with_node no_terms (Constant 1 0) in StartsStand f values u.terms (record { terms = u.terms; ids = replicate forward u.id }) (zeros forward)
+zero_bit_starts f values forward =
     let u = with_node no_terms (Constant 1 0) in
     let g = constant_gives no_terms 1 0 none_sound (record { some = omega arith; narrow = omega arith }) (omega arith) in
     let value : IsValue u.terms u.id = record { stands = g.adds.stands; narrow = let e = g.adds.width in omega (arith, e) } in
-    let nought : Means u.terms values u.id (pos 0) = record { spells = subst (λ (w : ℕ). Spells u.terms values u.id w (pos 0)) (sym g.adds.width) (record { word = g.word values; fits = nought_spelled }) } in
+    let zero_bit : Means u.terms values u.id (pos 0) = record { spells = subst (λ (w : ℕ). Spells u.terms values u.id w (pos 0)) (sym g.adds.width) (record { word = g.word values; fits = zero_bit_spelled }) } in
     let at_k : (j : ℕ) → j < length (replicate forward u.id) → term_at (replicate forward u.id) j ≡ u.id = λ j p. get_or-replicate forward j u.id (record { 0 = 0 }) (omega (arith, length-replicate forward u.id)) in
     let zero_k : (j : ℕ) → j < length (replicate forward u.id) → at (zeros forward) j ≡ pos 0 = λ j p. get_or-replicate forward j (pos 0) (pos 0) (omega (arith, length-replicate forward u.id)) in
     record {
       sound = g.adds.sound;
       kept = KeepsTerms-self u.terms;
       stand = record { stand = λ j p. subst (IsValue u.terms) (sym (at_k j p)) value };
-      mean = record { count = length-replicate forward u.id ∙ sym (length-replicate forward (pos 0)); each = λ j p. rw (at_k j p, zero_k j p) nought };
+      mean = record { count = length-replicate forward u.id ∙ sym (length-replicate forward (pos 0)); each = λ j p. rw (at_k j p, zero_k j p) zero_bit };
       words = All-replicate (IsWord f) forward (pos 0) (zero_word f);
       widths = λ j p. absurd (let e = ap length g.adds.inputs in omega arith);
     }
@@ -179,7 +179,7 @@ cycle_starts net values h l =
     let g = constant_gives no_terms 1 0 none_sound (record { some = omega arith; narrow = omega arith }) (omega arith) in
     let zero : length u.terms.inputs ≡ 0 = ap length g.adds.inputs in
     let s0 : StartTerms = record { terms = u.terms; ids = replicate net.feed_forward u.id } in
-    let first = starts_stand f values u.terms m s0 (zeros net.feed_forward) (λ j p. l j (omega arith)) (nought_starts f values net.feed_forward) in
+    let first = starts_stand f values u.terms m s0 (zeros net.feed_forward) (λ j p. l j (omega arith)) (zero_bit_starts f values net.feed_forward) in
     let s = starts_from n m s0 in
     let ss = start_words net values in
     let none_more : 0 + m ≡ m = omega arith in
@@ -188,7 +188,7 @@ cycle_starts net values h l =
     let st = d.stands in
     let nb : HasBits s.terms u.id 1 = bits_kept u.terms s.terms u.id 1 st.kept (record { stands = g.adds.stands; width = g.adds.width }) in
     let nw : word_of s.terms values u.id ≡ bit_of false = st.kept.words values u.id g.adds.stands ∙ g.word values in
-    let nought : Means u.terms values u.id (pos 0) = record { spells = subst (λ (w : ℕ). Spells u.terms values u.id w (pos 0)) (sym g.adds.width) (record { word = g.word values; fits = nought_spelled }) } in
+    let zero_bit : Means u.terms values u.id (pos 0) = record { spells = subst (λ (w : ℕ). Spells u.terms values u.id w (pos 0)) (sym g.adds.width) (record { word = g.word values; fits = zero_bit_spelled }) } in
     let ff = h.feed_forward in
     let long : length ss ≡ length net.next = omega (arith, length-append (zeros net.feed_forward) (words_at n values 0 m), length-replicate net.feed_forward (pos 0), words_at-length n values 0 m) in
     let start : CycleTerms = record { terms = s.terms; registers = s.ids; sounding = u.id; found = u.id } in
@@ -197,13 +197,13 @@ cycle_starts net values h l =
       sound = st.sound;
       registers_stand = st.stand;
       starts_stand = st.stand;
-      nought_bit = nb;
+      zero_has_bit = nb;
       sounding_bit = nb;
       found_bit = nb;
       registers_mean = st.mean;
       starts_mean = st.mean;
-      nought_word = nw;
-      nought_means = means_later u.terms s.terms values u.id (pos 0) st.kept g.adds.stands nought;
+      zero_bit_word = nw;
+      zero_bit_means = means_later u.terms s.terms values u.id (pos 0) st.kept g.adds.stands zero_bit;
       sounding_word = nw;
       found_word = nw;
       count = long;
@@ -223,26 +223,26 @@ cycle_goal_stands net periods values h l =
     record { bit = e.bit; word = e.word; words = c.stands.words; inputs = e.inputs ∙ c.inputs }
 
 -- ---- as the code has it
-pub record AreCycleStarts (net : Net) (nought : TermId) (s : StartTerms) : Type 0 where
-  pub ready : AreCycleReady net s.terms nought s.ids nought nought
+pub record AreCycleStarts (net : Net) (zero_bit : TermId) (s : StartTerms) : Type 0 where
+  pub ready : AreCycleReady net s.terms zero_bit s.ids zero_bit zero_bit
   pub stand : AreAllValues s.terms s.ids
   pub count : length s.ids ≡ length net.next
 
-pub cycle_started : (net : Net) (first t : TermsView) (nought : TermId) (s : StartTerms) → IsNetlist net → first ≡ no_terms → built_of t nought ≡ with_node first (Constant 1 0)
-    → s ≡ starts_from (width net.format) (length net.next - net.feed_forward) (record { terms = t; ids = replicate net.feed_forward nought }) → AreCycleStarts net nought s
-cycle_started net first t nought s h z e g =
+pub cycle_started : (net : Net) (first t : TermsView) (zero_bit : TermId) (s : StartTerms) → IsNetlist net → first ≡ no_terms → built_of t zero_bit ≡ with_node first (Constant 1 0)
+    → s ≡ starts_from (width net.format) (length net.next - net.feed_forward) (record { terms = t; ids = replicate net.feed_forward zero_bit }) → AreCycleStarts net zero_bit s
+cycle_started net first t zero_bit s h z e g =
     let u = with_node no_terms (Constant 1 0) in
     let from : Built → StartTerms = λ b. starts_from (width net.format) (length net.next - net.feed_forward) (record { terms = b.terms; ids = replicate net.feed_forward b.id }) in
     let c = (cycle_starts net [] h (λ j p. pow_pos (width net.format))).stands in
     let count : length (from u).ids ≡ length net.next = c.registers_mean.count ∙ c.count in
     let one : AreCycleStarts net u.id (from u) = record {
-      ready = record { sound = c.sound; registers_stand = c.registers_stand; count = count; nought_bit = c.nought_bit; sounding_bit = c.sounding_bit; found_bit = c.found_bit };
+      ready = record { sound = c.sound; registers_stand = c.registers_stand; count = count; zero_has_bit = c.zero_has_bit; sounding_bit = c.sounding_bit; found_bit = c.found_bit };
       stand = c.registers_stand;
       count = count;
     } in
-    let made : built_of t nought ≡ u = e ∙ ap (λ (v : TermsView). with_node v (Constant 1 0)) z in
+    let made : built_of t zero_bit ≡ u = e ∙ ap (λ (v : TermsView). with_node v (Constant 1 0)) z in
     let two = subst (λ (b : Built). AreCycleStarts net b.id (from b)) (sym made) one in
-    subst (AreCycleStarts net nought) (sym g) two
+    subst (AreCycleStarts net zero_bit) (sym g) two
 
 forward_quiet : (m : ℕ) (zs : List ℤ) → All (λ w. w ≡ pos 0) (take m (zeros m ++ zs))
 forward_quiet m zs = rw (take_at (zeros m) zs m (length-replicate m (pos 0))) (All-replicate (λ w. w ≡ pos 0) m (pos 0) refl)

@@ -34,18 +34,18 @@ use Rattle.dsv_unroll.proofs.CycleTerms.{sounded, matches, all_later, AllMean, m
 use Rattle.dsv_unroll.proofs.Cycling.{finds_from}
 
 -- ---- a run without input so far
-pub record CycleStands (base : List ℕ) (net : Net) (values : List ℕ) (starts : List TermId) (ss : List ℤ) (nought : TermId) (r : CycleTerms) (rs : List ℤ) (loud f : Bool) : Type 0 where
+pub record CycleStands (base : List ℕ) (net : Net) (values : List ℕ) (starts : List TermId) (ss : List ℤ) (zero_bit : TermId) (r : CycleTerms) (rs : List ℤ) (loud f : Bool) : Type 0 where
   pub inputs : r.terms.inputs ≡ base
   pub sound : AreSound r.terms
   pub registers_stand : AreAllValues r.terms r.registers
   pub starts_stand : AreAllValues r.terms starts
-  pub nought_bit : HasBits r.terms nought 1
+  pub zero_has_bit : HasBits r.terms zero_bit 1
   pub sounding_bit : HasBits r.terms r.sounding 1
   pub found_bit : HasBits r.terms r.found 1
   pub registers_mean : AllMean r.terms values r.registers rs
   pub starts_mean : AllMean r.terms values starts ss
-  pub nought_word : word_of r.terms values nought ≡ bit_of false
-  pub nought_means : Means r.terms values nought (pos 0)
+  pub zero_bit_word : word_of r.terms values zero_bit ≡ bit_of false
+  pub zero_bit_means : Means r.terms values zero_bit (pos 0)
   pub sounding_word : word_of r.terms values r.sounding ≡ bit_of loud
   pub found_word : word_of r.terms values r.found ≡ bit_of f
   pub count : length rs ≡ length net.next
@@ -54,43 +54,43 @@ pub record CycleStands (base : List ℕ) (net : Net) (values : List ℕ) (starts
 pub zero_word : (f : Format) → IsWord f (pos 0)
 zero_word f = let p = pow_pos (width f - 1) in record { low = omega (arith, ints); high = omega (arith, ints) }
 
-pub quiet_stands : (base : List ℕ) (net : Net) (values : List ℕ) (starts : List TermId) (ss : List ℤ) (nought : TermId) (r : CycleTerms) (rs : List ℤ) (loud f : Bool) → IsNetlist net → CycleStands base net values starts ss nought r rs loud f
-    → CycleStands base net values starts ss nought (with_quiet_sample net nought r) (step_of net rs (pos 0)).past (loud || not (int_eq (step_of net rs (pos 0)).y (pos 0))) f
-quiet_stands base net values starts ss nought r rs loud f h c =
+pub quiet_stands : (base : List ℕ) (net : Net) (values : List ℕ) (starts : List TermId) (ss : List ℤ) (zero_bit : TermId) (r : CycleTerms) (rs : List ℤ) (loud f : Bool) → IsNetlist net → CycleStands base net values starts ss zero_bit r rs loud f
+    → CycleStands base net values starts ss zero_bit (with_quiet_sample net zero_bit r) (step_of net rs (pos 0)).past (loud || not (int_eq (step_of net rs (pos 0)).y (pos 0))) f
+quiet_stands base net values starts ss zero_bit r rs loud f h c =
     let words : AreWords net rs (pos 0) = record { many = c.count; words = c.words; input = zero_word net.format } in
-    let m = faithful_sample net values r.terms r.registers nought nought rs (pos 0) h words c.sound c.nought_bit c.nought_word c.registers_stand c.registers_mean (bit_value r.terms nought c.nought_bit) c.nought_means in
-    let s = sample_terms fit_rule.Faithful net r.registers nought r.terms nought in
+    let m = faithful_sample net values r.terms r.registers zero_bit zero_bit rs (pos 0) h words c.sound c.zero_has_bit c.zero_bit_word c.registers_stand c.registers_mean (bit_value r.terms zero_bit c.zero_has_bit) c.zero_bit_means in
+    let s = sample_terms fit_rule.Faithful net r.registers zero_bit r.terms zero_bit in
     let next = map (term_at s.ids) net.next in
     let past = (step_of net rs (pos 0)).past in
     let o : net.output < length s.ids = (let b = names_word-below net.nodes net.output (let t = h.output in search rules) in let n = m.count in omega arith) in
     let output = term_at s.ids net.output in
-    let nb = bits_kept r.terms s.terms nought 1 m.kept c.nought_bit in
+    let nb = bits_kept r.terms s.terms zero_bit 1 m.kept c.zero_has_bit in
     let sb = bits_kept r.terms s.terms r.sounding 1 m.kept c.sounding_bit in
-    let nm = means_later r.terms s.terms values nought (pos 0) m.kept c.nought_bit.stands c.nought_means in
-    let u = sounding_term s.terms output nought r.sounding in
-    let d = sounded s.terms output nought r.sounding m.sound (m.nodes_stand.stand net.output o) (bit_value s.terms nought nb) sb in
+    let nm = means_later r.terms s.terms values zero_bit (pos 0) m.kept c.zero_has_bit.stands c.zero_bit_means in
+    let u = sounding_term s.terms output zero_bit r.sounding in
+    let d = sounded s.terms output zero_bit r.sounding m.sound (m.nodes_stand.stand net.output o) (bit_value s.terms zero_bit nb) sb in
     let k = KeepsTerms-both r.terms s.terms u.terms m.kept d.adds.kept in
     record {
       inputs = d.adds.inputs ∙ (m.inputs ∙ c.inputs);
       sound = d.adds.sound;
       registers_stand = all_later s.terms u.terms next d.adds.kept m.registers_stand;
       starts_stand = all_later r.terms u.terms starts k c.starts_stand;
-      nought_bit = bits_kept r.terms u.terms nought 1 k c.nought_bit;
+      zero_has_bit = bits_kept r.terms u.terms zero_bit 1 k c.zero_has_bit;
       sounding_bit = record { stands = d.adds.stands; width = d.adds.width };
       found_bit = bits_kept r.terms u.terms r.found 1 k c.found_bit;
       registers_mean = mean_later s.terms u.terms values next past d.adds.kept m.registers_stand m.registers_mean;
       starts_mean = mean_later r.terms u.terms values starts ss k c.starts_stand c.starts_mean;
-      nought_word = k.words values nought c.nought_bit.stands ∙ c.nought_word;
-      nought_means = means_later r.terms u.terms values nought (pos 0) k c.nought_bit.stands c.nought_means;
+      zero_bit_word = k.words values zero_bit c.zero_has_bit.stands ∙ c.zero_bit_word;
+      zero_bit_means = means_later r.terms u.terms values zero_bit (pos 0) k c.zero_has_bit.stands c.zero_bit_means;
       sounding_word = d.word values (step_of net rs (pos 0)).y loud (m.nodes_mean net.output o) nm (m.kept.words values r.sounding c.sounding_bit.stands ∙ c.sounding_word);
       found_word = k.words values r.found c.found_bit.stands ∙ c.found_word;
       count = m.many;
       words = m.words;
     }
 
-pub found_stands : (base : List ℕ) (net : Net) (values : List ℕ) (starts : List TermId) (ss : List ℤ) (nought : TermId) (r : CycleTerms) (rs : List ℤ) (loud f : Bool) → CycleStands base net values starts ss nought r rs loud f
-    → CycleStands base net values starts ss nought (with_found r starts) rs loud (f || matches loud rs ss)
-found_stands base net values starts ss nought r rs loud f c =
+pub found_stands : (base : List ℕ) (net : Net) (values : List ℕ) (starts : List TermId) (ss : List ℤ) (zero_bit : TermId) (r : CycleTerms) (rs : List ℤ) (loud f : Bool) → CycleStands base net values starts ss zero_bit r rs loud f
+    → CycleStands base net values starts ss zero_bit (with_found r starts) rs loud (f || matches loud rs ss)
+found_stands base net values starts ss zero_bit r rs loud f c =
     let a = returned_from (built_of r.terms r.sounding) r.registers starts in
     let ra = returned_adds r.terms r.sounding r.registers starts c.sound c.sounding_bit c.registers_stand c.starts_stand in
     let w = returned_means r.terms values r.sounding r.registers starts rs ss loud c.sound c.sounding_bit c.registers_stand c.starts_stand c.registers_mean c.starts_mean c.sounding_word in
@@ -103,37 +103,37 @@ found_stands base net values starts ss nought r rs loud f c =
       sound = g.adds.sound;
       registers_stand = all_later r.terms b.terms r.registers k c.registers_stand;
       starts_stand = all_later r.terms b.terms starts k c.starts_stand;
-      nought_bit = bits_kept r.terms b.terms nought 1 k c.nought_bit;
+      zero_has_bit = bits_kept r.terms b.terms zero_bit 1 k c.zero_has_bit;
       sounding_bit = bits_kept r.terms b.terms r.sounding 1 k c.sounding_bit;
       found_bit = record { stands = g.adds.stands; width = g.adds.width ∙ fb.width };
       registers_mean = mean_later r.terms b.terms values r.registers rs k c.registers_stand c.registers_mean;
       starts_mean = mean_later r.terms b.terms values starts ss k c.starts_stand c.starts_mean;
-      nought_word = k.words values nought c.nought_bit.stands ∙ c.nought_word;
-      nought_means = means_later r.terms b.terms values nought (pos 0) k c.nought_bit.stands c.nought_means;
+      zero_bit_word = k.words values zero_bit c.zero_has_bit.stands ∙ c.zero_bit_word;
+      zero_bit_means = means_later r.terms b.terms values zero_bit (pos 0) k c.zero_has_bit.stands c.zero_bit_means;
       sounding_word = k.words values r.sounding c.sounding_bit.stands ∙ c.sounding_word;
       found_word = g.word values ∙ (ap (λ (i : Word). or_of i (word_of a.terms values a.id)) (ra.kept.words values r.found c.found_bit.stands ∙ c.found_word) ∙ (ap (or_of (bit_of f)) w ∙ or-bits f (matches loud rs ss)));
       count = c.count;
       words = c.words;
     }
 
-asked_stands : (base : List ℕ) (net : Net) (values : List ℕ) (starts : List TermId) (ss : List ℤ) (nought : TermId) (r : CycleTerms) (rs : List ℤ) (loud f t : Bool) → CycleStands base net values starts ss nought r rs loud f
-    → CycleStands base net values starts ss nought (if t then with_found r starts else r) rs loud (if t then f || matches loud rs ss else f)
-asked_stands base net values starts ss nought r rs loud f true c = found_stands base net values starts ss nought r rs loud f c
-asked_stands base net values starts ss nought r rs loud f false c = c
+asked_stands : (base : List ℕ) (net : Net) (values : List ℕ) (starts : List TermId) (ss : List ℤ) (zero_bit : TermId) (r : CycleTerms) (rs : List ℤ) (loud f t : Bool) → CycleStands base net values starts ss zero_bit r rs loud f
+    → CycleStands base net values starts ss zero_bit (if t then with_found r starts else r) rs loud (if t then f || matches loud rs ss else f)
+asked_stands base net values starts ss zero_bit r rs loud f true c = found_stands base net values starts ss zero_bit r rs loud f c
+asked_stands base net values starts ss zero_bit r rs loud f false c = c
 
 pub record EndStands (base : List ℕ) (values : List ℕ) (r : CycleTerms) (f : Bool) : Type 0 where
   pub inputs : r.terms.inputs ≡ base
   pub bit : HasBits r.terms r.found 1
   pub word : word_of r.terms values r.found ≡ bit_of f
 
-pub cycles_stand : (base : List ℕ) (net : Net) (values : List ℕ) (starts : List TermId) (ss : List ℤ) (nought : TermId) (periods sample left : ℕ) (r : CycleTerms) (rs : List ℤ) (loud f : Bool) → IsNetlist net → CycleStands base net values starts ss nought r rs loud f
-    → EndStands base values (cycles_from net starts nought periods sample left r) (finds_from net ss periods sample left rs loud f)
-cycles_stand base net values starts ss nought periods sample zero r rs loud f h c = record { inputs = c.inputs; bit = c.found_bit; word = c.found_word }
-cycles_stand base net values starts ss nought periods sample (suc left) r rs loud f h c =
+pub cycles_stand : (base : List ℕ) (net : Net) (values : List ℕ) (starts : List TermId) (ss : List ℤ) (zero_bit : TermId) (periods sample left : ℕ) (r : CycleTerms) (rs : List ℤ) (loud f : Bool) → IsNetlist net → CycleStands base net values starts ss zero_bit r rs loud f
+    → EndStands base values (cycles_from net starts zero_bit periods sample left r) (finds_from net ss periods sample left rs loud f)
+cycles_stand base net values starts ss zero_bit periods sample zero r rs loud f h c = record { inputs = c.inputs; bit = c.found_bit; word = c.found_word }
+cycles_stand base net values starts ss zero_bit periods sample (suc left) r rs loud f h c =
     let q = step_of net rs (pos 0) in
     let l = loud || not (int_eq q.y (pos 0)) in
     let t = nat_lt periods (2 * sample) in
-    let next = with_quiet_sample net nought r in
-    let one = quiet_stands base net values starts ss nought r rs loud f h c in
-    let two = asked_stands base net values starts ss nought next q.past l f t one in
-    cycles_stand base net values starts ss nought periods (sample + 1) left (if t then with_found next starts else next) q.past l (if t then f || matches l q.past ss else f) h two
+    let next = with_quiet_sample net zero_bit r in
+    let one = quiet_stands base net values starts ss zero_bit r rs loud f h c in
+    let two = asked_stands base net values starts ss zero_bit next q.past l f t one in
+    cycles_stand base net values starts ss zero_bit periods (sample + 1) left (if t then with_found next starts else next) q.past l (if t then f || matches l q.past ss else f) h two

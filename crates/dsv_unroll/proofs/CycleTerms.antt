@@ -57,14 +57,14 @@ compared t left right s v u =
     }
 
 -- ---- whether an output isn't 0
-pub record Sounds (t : TermsView) (output nought sounding : TermId) (b : Built) : Type 0 where
+pub record Sounds (t : TermsView) (output zero_bit sounding : TermId) (b : Built) : Type 0 where
   pub adds : Adds t b.terms b.id 1
-  pub word : (values : List ℕ) (y : ℤ) (q : Bool) → Means t values output y → Means t values nought (pos 0) → word_of t values sounding ≡ bit_of q → word_of b.terms values b.id ≡ bit_of (q || not (int_eq y (pos 0)))
+  pub word : (values : List ℕ) (y : ℤ) (q : Bool) → Means t values output y → Means t values zero_bit (pos 0) → word_of t values sounding ≡ bit_of q → word_of b.terms values b.id ≡ bit_of (q || not (int_eq y (pos 0)))
 
-pub sounded : (t : TermsView) (output nought sounding : TermId) → AreSound t → IsValue t output → IsValue t nought → HasBits t sounding 1 → Sounds t output nought sounding (sounding_term t output nought sounding)
-sounded t output nought sounding s v u h =
-    let a = same_term t output nought in
-    let c = compared t output nought s v u in
+pub sounded : (t : TermsView) (output zero_bit sounding : TermId) → AreSound t → IsValue t output → IsValue t zero_bit → HasBits t sounding 1 → Sounds t output zero_bit sounding (sounding_term t output zero_bit sounding)
+sounded t output zero_bit sounding s v u h =
+    let a = same_term t output zero_bit in
+    let c = compared t output zero_bit s v u in
     let b = with_node a.terms (Not a.id) in
     let gb = complement_gives a.terms a.id c.adds.sound c.adds.stands in
     let k = KeepsTerms-both t a.terms b.terms c.adds.kept gb.adds.kept in

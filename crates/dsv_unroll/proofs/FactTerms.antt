@@ -99,8 +99,8 @@ pub record FactsHold (t : TermsView) (values : List ℕ) (before : List TermId) 
   pub sound : AreSound k.terms
   pub inputs : k.terms.inputs ≡ t.inputs
   pub kept : KeepsTerms t k.terms
-  pub bit : HasBits k.terms k.outside 1
-  pub word : (vs : List ℕ) → word_of k.terms vs k.outside ≡ bit_of (g vs)
+  pub bit : HasBits k.terms k.overflowed 1
+  pub word : (vs : List ℕ) → word_of k.terms vs k.overflowed ≡ bit_of (g vs)
   pub all : AreBits k.terms k.tests
   pub more : List TermId
   pub tests : k.tests ≡ before ++ more
@@ -108,14 +108,14 @@ pub record FactsHold (t : TermsView) (values : List ℕ) (before : List TermId) 
   pub ones : good ≡ true → (i : ℕ) → i < length more → word_of k.terms values (term_at more i) ≡ bit_of true
 
 hold_later : (t : TermsView) (values : List ℕ) (before : List TermId) (good : Bool) (g : List ℕ → Bool) (k : FactTerms) (u : TermsView) → AreSound u → u.inputs ≡ k.terms.inputs → KeepsTerms k.terms u → FactsHold t values before good g k
-    → FactsHold t values before good g (record { terms = u; outside = k.outside; tests = k.tests })
+    → FactsHold t values before good g (record { terms = u; overflowed = k.overflowed; tests = k.tests })
 hold_later t values before good g k u s i a h =
     record {
       sound = s;
       inputs = i ∙ h.inputs;
       kept = KeepsTerms-both t k.terms u h.kept a;
-      bit = bits_kept k.terms u k.outside 1 a h.bit;
-      word = λ vs. a.words vs k.outside h.bit.stands ∙ h.word vs;
+      bit = bits_kept k.terms u k.overflowed 1 a h.bit;
+      word = λ vs. a.words vs k.overflowed h.bit.stands ∙ h.word vs;
       all = bits_later k.terms u k.tests a h.all;
       more = h.more;
       tests = h.tests;
@@ -131,8 +131,8 @@ test_holds : (t : TermsView) (values : List ℕ) (before : List TermId) (good : 
     → (good ≡ true → g values ≡ false → word_of k.terms values test ≡ bit_of true) → FactsHold t values before good g (with_test k (built_of k.terms test))
 unfolding hold_later
 test_holds t values before good g k test h b one =
-    let u = with_node k.terms (Or k.outside test) in
-    let a = or_gives k.terms k.outside test h.sound h.bit.stands b.bit.stands (h.bit.width ∙ sym b.bit.width) in
+    let u = with_node k.terms (Or k.overflowed test) in
+    let a = or_gives k.terms k.overflowed test h.sound h.bit.stands b.bit.stands (h.bit.width ∙ sym b.bit.width) in
     let l = hold_later t values before good g k u.terms a.adds.sound a.adds.inputs a.adds.kept h in
     let bit : HasBits u.terms u.id 1 = record { stands = a.adds.stands; width = a.adds.width ∙ h.bit.width } in
     record {
@@ -146,15 +146,15 @@ test_holds t values before good g k test h b one =
       tests = ap (λ (ys : List TermId). ys ++ u.id ∷ []) h.tests ∙ append_assoc before h.more (u.id ∷ []);
       bits = bits_push u.terms h.more u.id l.bits bit;
       ones = λ q. all_more (λ (j : TermId). word_of u.terms values j ≡ bit_of true) h.more u.id (l.ones q)
-          (a.word values ∙ guarded (g values) (b.truth values) (word_of k.terms values k.outside) (word_of k.terms values test) (h.word values) (b.word values) (one q));
+          (a.word values ∙ guarded (g values) (b.truth values) (word_of k.terms values k.overflowed) (word_of k.terms values test) (h.word values) (b.word values) (one q));
     }
 
 open_holds : (t : TermsView) (values : List ℕ) (before : List TermId) (good : Bool) (g : List ℕ → Bool) (k : FactTerms) (outside : TermId) → FactsHold t values before good g k → (b : IsTruth k.terms outside)
-    → let u = with_node k.terms (Or k.outside outside) in FactsHold t values before good (λ vs. g vs || b.truth vs) (record { terms = u.terms; outside = u.id; tests = k.tests })
+    → let u = with_node k.terms (Or k.overflowed outside) in FactsHold t values before good (λ vs. g vs || b.truth vs) (record { terms = u.terms; overflowed = u.id; tests = k.tests })
 unfolding hold_later
 open_holds t values before good g k outside h b =
-    let u = with_node k.terms (Or k.outside outside) in
-    let a = or_gives k.terms k.outside outside h.sound h.bit.stands b.bit.stands (h.bit.width ∙ sym b.bit.width) in
+    let u = with_node k.terms (Or k.overflowed outside) in
+    let a = or_gives k.terms k.overflowed outside h.sound h.bit.stands b.bit.stands (h.bit.width ∙ sym b.bit.width) in
     let l = hold_later t values before good g k u.terms a.adds.sound a.adds.inputs a.adds.kept h in
     record {
       sound = l.sound;
@@ -171,10 +171,10 @@ open_holds t values before good g k outside h b =
 
 -- ---- an entry
 pub record EntryHolds (t : TermsView) (values : List ℕ) (before : List TermId) (good : Bool) (g : List ℕ → Bool) (k now : FactTerms) (outside : Bool) : Type 0 where
-  pub flag : List ℕ → Bool
-  pub holds : FactsHold t values before good flag now
+  pub overflows : List ℕ → Bool
+  pub holds : FactsHold t values before good overflows now
   pub step : KeepsTerms k.terms now.terms
-  pub word : good ≡ true → flag values ≡ false → (g values ≡ false) × (outside ≡ false)
+  pub word : good ≡ true → overflows values ≡ false → (g values ≡ false) × (outside ≡ false)
 
 bit_same : (a b : Bool) → bit_of a ≡ bit_of b → a ≡ b
 bit_same true true h = refl
@@ -200,38 +200,38 @@ EntryFact t values held (Some x) outside = FactSays t values held x outside
 word_holds : (wanted : Bool) (t : TermsView) (values : List ℕ) (before : List TermId) (good : Bool) (g : List ℕ → Bool) (k : FactTerms) (x : TestedTerm) → FactsHold t values before good g k → IsTruth k.terms x.is_word
     → (good ≡ true → g values ≡ false → word_of k.terms values x.is_word ≡ bit_of true) → FactsHold t values before good g (with_word wanted k x) × KeepsTerms k.terms (with_word wanted k x).terms
 word_holds true t values before good g k x h b one =
-    (test_holds t values before good g k x.is_word h b one, (or_gives k.terms k.outside x.is_word h.sound h.bit.stands b.bit.stands (h.bit.width ∙ sym b.bit.width)).adds.kept)
+    (test_holds t values before good g k x.is_word h b one, (or_gives k.terms k.overflowed x.is_word h.sound h.bit.stands b.bit.stands (h.bit.width ∙ sym b.bit.width)).adds.kept)
 word_holds false t values before good g k x h b one = (h, KeepsTerms-self k.terms)
 
 fact_holds : (long : Bool) → (t : TermsView) (values : List ℕ) (before : List TermId) (good : Bool) (g : List ℕ → Bool) (k : FactTerms) (held : Fact) (x : TestedTerm) (outside : Bool) → FactsHold t values before good g k → IsTest k.terms x
     → (good ≡ true → g values ≡ false → FactSays k.terms values held x outside) → EntryHolds t values before good g k (with_fact long k held x) outside
 fact_holds long t values before good g k fact.Open x outside h s m =
     record {
-      flag = λ vs. g vs || s.outside.truth vs;
+      overflows = λ vs. g vs || s.outside.truth vs;
       holds = open_holds t values before good g k x.outside h s.outside;
-      step = (or_gives k.terms k.outside x.outside h.sound h.bit.stands s.outside.bit.stands (h.bit.width ∙ sym s.outside.bit.width)).adds.kept;
+      step = (or_gives k.terms k.overflowed x.outside h.sound h.bit.stands s.outside.bit.stands (h.bit.width ∙ sym s.outside.bit.width)).adds.kept;
       word = λ q o.
           let n = neither (g values) (s.outside.truth values) o in
           (n.0, bit_same outside false (sym (m q n.0) ∙ (s.outside.word values ∙ ap bit_of n.1)));
     }
 fact_holds long t values before good g k fact.Inside x outside h s m =
     let i = word_holds true t values before good g k x h s.is_word (λ q o. (m q o).0) in
-    record { flag = g; holds = i.0; step = i.1; word = λ q o. (o, (m q o).1) }
+    record { overflows = g; holds = i.0; step = i.1; word = λ q o. (o, (m q o).1) }
 fact_holds long t values before good g k (fact.Within low high) x outside h s m =
     let w = within_test k.terms low high x.value in
     let a = within_gives k.terms low high x.value h.sound s.value in
-    let mid : FactTerms = record { terms = w.terms; outside = k.outside; tests = k.tests } in
+    let mid : FactTerms = record { terms = w.terms; overflowed = k.overflowed; tests = k.tests } in
     let l = hold_later t values before good g k w.terms a.adds.sound a.adds.inputs a.adds.kept h in
     let ranged = with_test k w in
     let first = test_holds t values before good g mid w.id l a.truth (λ q o. (m q o).0) in
-    let step = KeepsTerms-both k.terms w.terms ranged.terms a.adds.kept (or_gives w.terms k.outside w.id l.sound l.bit.stands a.truth.bit.stands (l.bit.width ∙ sym a.truth.bit.width)).adds.kept in
+    let step = KeepsTerms-both k.terms w.terms ranged.terms a.adds.kept (or_gives w.terms k.overflowed w.id l.sound l.bit.stands a.truth.bit.stands (l.bit.width ∙ sym a.truth.bit.width)).adds.kept in
     let i = word_holds long t values before good g ranged x first (truth_later k.terms ranged.terms x.is_word step s.is_word)
     (λ q o. step.words values x.is_word s.is_word.bit.stands ∙ (m q o).1) in
-    record { flag = g; holds = i.0; step = KeepsTerms-both k.terms ranged.terms (with_word long ranged x).terms step i.1; word = λ q o. (o, (m q o).2) }
+    record { overflows = g; holds = i.0; step = KeepsTerms-both k.terms ranged.terms (with_word long ranged x).terms step i.1; word = λ q o. (o, (m q o).2) }
 
 entry_holds : (long : Bool) → (t : TermsView) (values : List ℕ) (before : List TermId) (good : Bool) (g : List ℕ → Bool) (k : FactTerms) (held : Fact) (x : Option TestedTerm) (outside : Bool) → FactsHold t values before good g k → IsEntry k.terms x
     → (good ≡ true → g values ≡ false → EntryFact k.terms values held x outside) → EntryHolds t values before good g k (with_entry long k held x) outside
-entry_holds long t values before good g k held None outside h s m = record { flag = g; holds = h; step = KeepsTerms-self k.terms; word = λ q o. (o, m q o) }
+entry_holds long t values before good g k held None outside h s m = record { overflows = g; holds = h; step = KeepsTerms-self k.terms; word = λ q o. (o, m q o) }
 entry_holds long t values before good g k held (Some x) outside h s m = fact_holds long t values before good g k held x outside h s m
 
 -- a fact that is true says so
@@ -261,8 +261,8 @@ entry_says t values f held (Some x) e s i n h = fact_says t values f held x e s 
 
 -- ---- all facts
 pub record AllHold (t : TermsView) (values : List ℕ) (before : List TermId) (good : Bool) (k : FactTerms) : Type 0 where
-  pub flag : List ℕ → Bool
-  pub holds : FactsHold t values before good flag k
+  pub overflows : List ℕ → Bool
+  pub holds : FactsHold t values before good overflows k
 
 -- what is known of the values to come, where none before was outside
 abbrev pub Known : TermsView → List ℕ → Format → List Fact → List (Option TestedTerm) → List ℤ → Type 0
@@ -287,13 +287,13 @@ facts_step long t values f before good g k held facts x xs e es end h s m r rest
     let first = All-head (IsEntry k.terms) x xs s in
     let a = entry_holds long t values before good g k held x (is_outside (width f) e) h first (λ q o. let i = m q o in entry_says k.terms values f held x e h.sound first i.0.0 i.1) in
     let others = All-tail (IsEntry k.terms) x xs s in
-    rest a.flag a.holds (entries_later k.terms n.terms xs a.step others) (λ q o.
+    rest a.overflows a.holds (entries_later k.terms n.terms xs a.step others) (λ q o.
     let b = a.word q o in
     (entries_say_later k.terms n.terms values (width f) a.step xs es others ((m q b.0).0.1 b.1), r q b.0 (inside_word f e b.1)))
 
 pub facts_hold : (long : Bool) → (t : TermsView) (values : List ℕ) (f : Format) (before : List TermId) (good : Bool) (facts : List Fact) (xs : List (Option TestedTerm)) (es : List ℤ) (g : List ℕ → Bool) (k : FactTerms)
     → FactsHold t values before good g k → All (IsEntry k.terms) xs → (good ≡ true → g values ≡ false → Known k.terms values f facts xs es) → AllHold t values before good (facts_from long k facts xs)
-facts_hold long t values f before good facts [] es g k h s m = record { flag = g; holds = h }
+facts_hold long t values f before good facts [] es g k h s m = record { overflows = g; holds = h }
 facts_hold long t values f before good [] (x ∷ xs) [] g k h s m =
     facts_step long t values f before good g k fact.Open [] x xs (pos 0) [] (facts_from long k [] (x ∷ xs)) h s (λ q o. absurd (m q o).0) (λ q o w. none_known f [])
     (λ now a b c. facts_hold long t values f before good [] xs [] now (with_entry long k fact.Open x) a b c)
@@ -309,8 +309,8 @@ facts_hold long t values f before good (held ∷ facts) (x ∷ xs) (e ∷ es) g 
     (λ now a b c. facts_hold long t values f before good facts xs es now (with_entry long k held x) a b c)
 
 -- ---- as the code has it
-pub first_holds : (t : TermsView) (values : List ℕ) (good : Bool) (outside : TermId) (tests : List TermId) → (h : AreKnown t outside tests) → FactsHold t values tests good h.bit.truth (record { terms = t; outside = outside; tests = tests })
-first_holds t values good outside tests h =
+pub first_holds : (t : TermsView) (values : List ℕ) (good : Bool) (overflowed : TermId) (tests : List TermId) → (h : AreKnown t overflowed tests) → FactsHold t values tests good h.bit.truth (record { terms = t; overflowed = overflowed; tests = tests })
+first_holds t values good overflowed tests h =
     record {
       sound = h.sound;
       inputs = refl;
@@ -325,15 +325,15 @@ first_holds t values good outside tests h =
     }
 
 -- after the tests of a value's range the terms stand as they did
-pub ranged_known : (k : FactTerms) (low high : ℤ) (x : TestedTerm) → AreKnown k.terms k.outside k.tests → IsTest k.terms x
-    → let r = with_test k (within_test k.terms low high x.value) in AreKnown r.terms r.outside r.tests × IsTest r.terms x
+pub ranged_known : (k : FactTerms) (low high : ℤ) (x : TestedTerm) → AreKnown k.terms k.overflowed k.tests → IsTest k.terms x
+    → let r = with_test k (within_test k.terms low high x.value) in AreKnown r.terms r.overflowed r.tests × IsTest r.terms x
 ranged_known k low high x h s =
     let r = with_fact false k (fact.Within low high) x in
-    let e = fact_holds false k.terms [] k.tests false h.bit.truth k (fact.Within low high) x false (first_holds k.terms [] false k.outside k.tests h) s (λ q o. absurd cc) in
-    (record { sound = e.holds.sound; bit = record { bit = e.holds.bit; truth = e.flag; word = e.holds.word }; bits = e.holds.all }, entry_later k.terms r.terms e.step (Some x) s)
+    let e = fact_holds false k.terms [] k.tests false h.bit.truth k (fact.Within low high) x false (first_holds k.terms [] false k.overflowed k.tests h) s (λ q o. absurd cc) in
+    (record { sound = e.holds.sound; bit = record { bit = e.holds.bit; truth = e.overflows; word = e.holds.word }; bits = e.holds.all }, entry_later k.terms r.terms e.step (Some x) s)
 
 pub record IsFactStep (long : Bool) (first : TermsView) (i : ℕ) (facts : List Fact) (entries : List (Option TestedTerm)) (k end : FactTerms) : Type 0 where
-  pub known : AreKnown k.terms k.outside k.tests
+  pub known : AreKnown k.terms k.overflowed k.tests
   pub tested : AreTested k.terms entries
   pub kept : KeepsTerms first k.terms
   pub same : facts_from long k (drop i facts) (drop i entries) ≡ end
@@ -348,8 +348,8 @@ pub fact_step : (long : Bool) → (first : TermsView) (i : ℕ) (facts : List Fa
 fact_step long first i facts entries k now end held x l a b n s =
     let u = with_entry long k held x in
     let here : IsEntry k.terms x = subst (IsEntry k.terms) (sym b) (All-get_or (IsEntry k.terms) entries i None l s.tested.stand) in
-    let h = entry_holds long k.terms [] k.tests false s.known.bit.truth k held x false (first_holds k.terms [] false k.outside k.tests s.known) here (λ q o. absurd cc) in
-    let known : AreKnown u.terms u.outside u.tests = record { sound = h.holds.sound; bit = record { bit = h.holds.bit; truth = h.flag; word = h.holds.word }; bits = h.holds.all } in
+    let h = entry_holds long k.terms [] k.tests false s.known.bit.truth k held x false (first_holds k.terms [] false k.overflowed k.tests s.known) here (λ q o. absurd cc) in
+    let known : AreKnown u.terms u.overflowed u.tests = record { sound = h.holds.sound; bit = record { bit = h.holds.bit; truth = h.overflows; word = h.holds.word }; bits = h.holds.all } in
     let tested : AreTested u.terms entries = record { stand = entries_later k.terms u.terms entries h.step s.tested.stand } in
     let d : drop i entries ≡ x ∷ drop (i + 1) entries = drop_more entries i None l ∙ ap (λ (y : Option TestedTerm). y ∷ drop (i + 1) entries) (sym b) in
     let same : facts_from long u (drop (i + 1) facts) (drop (i + 1) entries) ≡ end =

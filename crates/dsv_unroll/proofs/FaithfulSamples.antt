@@ -20,24 +20,24 @@ use Rattle.dsv_unroll.specs.declared.rules.FitRule.TheVariants as fit_rule
 use Rattle.dsv_unroll.specs.Goals.{SampleTerms, sample_terms}
 use Rattle.dsv_unroll.specs.Ready.{IsValue, HasBits, AreReady, AreAllValues}
 use Rattle.dsv_unroll.specs.Rules.{term_at}
-use Rattle.dsv_unroll.proofs.Follows.{Means, node_flag}
-use Rattle.dsv_unroll.proofs.Samples.{flag_from, sample_follows}
+use Rattle.dsv_unroll.proofs.Follows.{Means, node_overflow}
+use Rattle.dsv_unroll.proofs.Samples.{overflow_from, sample_follows}
 use Rattle.dsv_unroll.proofs.Runs.{registers_words, loaded_mean, loaded_stand}
 use Rattle.dsv_unroll.proofs.CycleTerms.{AllMean}
 
--- no flag is shown where every value is fitted as the format has it
-no_node_flag : (n : ℕ) (vals : List ℤ) (d : Node) (b : Bool) → (b || node_flag fit_rule.Faithful n vals d) ≡ b
-no_node_flag n vals node.Input b = right b
+-- no value is shown to be no word where every value is fitted as the format has it
+no_node_overflow : (n : ℕ) (vals : List ℤ) (d : Node) (b : Bool) → (b || node_overflow fit_rule.Faithful n vals d) ≡ b
+no_node_overflow n vals node.Input b = right b
   where
     right : (b : Bool) → (b || false) ≡ b
     right true = refl
     right false = refl
-no_node_flag n vals d true = refl
-no_node_flag n vals d false = refl
+no_node_overflow n vals d true = refl
+no_node_overflow n vals d false = refl
 
-no_flag : (f : Format) (rs : List ℤ) (x : ℤ) (b : Bool) (ns : List Node) (s : Sample) → flag_from fit_rule.Faithful f rs x b ns s ≡ b
-no_flag f rs x b [] s = refl
-no_flag f rs x b (n ∷ ns) s = ap (λ (c : Bool). flag_from fit_rule.Faithful f rs x c ns (after_node f rs x s n)) (no_node_flag (width f) s.values n b) ∙ no_flag f rs x b ns (after_node f rs x s n)
+no_overflow : (f : Format) (rs : List ℤ) (x : ℤ) (b : Bool) (ns : List Node) (s : Sample) → overflow_from fit_rule.Faithful f rs x b ns s ≡ b
+no_overflow f rs x b [] s = refl
+no_overflow f rs x b (n ∷ ns) s = ap (λ (c : Bool). overflow_from fit_rule.Faithful f rs x c ns (after_node f rs x s n)) (no_node_overflow (width f) s.values n b) ∙ no_overflow f rs x b ns (after_node f rs x s n)
 
 pub record FaithfulSample (net : Net) (values : List ℕ) (t : TermsView) (s : SampleTerms) (rs : List ℤ) (z : ℤ) : Type 0 where
   pub sound : AreSound s.terms
@@ -51,22 +51,22 @@ pub record FaithfulSample (net : Net) (values : List ℕ) (t : TermsView) (s : S
   pub many : length (step_of net rs z).past ≡ length net.next
   pub words : All (IsWord net.format) (step_of net rs z).past
 
-pub faithful_sample : (net : Net) (values : List ℕ) (t : TermsView) (registers : List TermId) (x nought : TermId) (rs : List ℤ) (z : ℤ) → IsNetlist net → AreWords net rs z → AreSound t → HasBits t nought 1 → word_of t values nought ≡ bit_of false
-    → AreAllValues t registers → AllMean t values registers rs → IsValue t x → Means t values x z → FaithfulSample net values t (sample_terms fit_rule.Faithful net registers x t nought) rs z
-faithful_sample net values t registers x nought rs z h w sound bit zero stand mean v means =
-    let ready : AreReady net registers x t [] nought = record {
+pub faithful_sample : (net : Net) (values : List ℕ) (t : TermsView) (registers : List TermId) (x zero_bit : TermId) (rs : List ℤ) (z : ℤ) → IsNetlist net → AreWords net rs z → AreSound t → HasBits t zero_bit 1 → word_of t values zero_bit ≡ bit_of false
+    → AreAllValues t registers → AllMean t values registers rs → IsValue t x → Means t values x z → FaithfulSample net values t (sample_terms fit_rule.Faithful net registers x t zero_bit) rs z
+faithful_sample net values t registers x zero_bit rs z h w sound bit zero stand mean v means =
+    let ready : AreReady net registers x t [] zero_bit = record {
       sound = sound;
       nodes = λ i p. absurd (omega arith);
       count = mean.count ∙ w.many;
       registers_stand = stand.stand;
       input = v;
-      flag_stands = bit.stands;
-      flag_bit = bit.width;
+      overflowed_stands = bit.stands;
+      overflowed_bit = bit.width;
     } in
-    let f = sample_follows fit_rule.Faithful values net rs z registers x t nought false h w ready zero (λ e. mean.each) means in
-    let s = sample_terms fit_rule.Faithful net registers x t nought in
+    let f = sample_follows fit_rule.Faithful values net rs z registers x t zero_bit false h w ready zero (λ e. mean.each) means in
+    let s = sample_terms fit_rule.Faithful net registers x t zero_bit in
     let vals = (sample_of net.format rs z net.nodes).values in
-    let all = f.follows.nodes (no_flag net.format rs z false net.nodes (record { values = []; exact = [] })) in
+    let all = f.follows.nodes (no_overflow net.format rs z false net.nodes (record { values = []; exact = [] })) in
     let zero_add : 0 + length net.nodes ≡ length net.nodes = omega arith in
     let n : length s.ids ≡ length net.nodes = f.follows.count ∙ (from-length net.format rs z net.nodes (record { values = []; exact = [] }) ∙ zero_add) in
     let loaded = loaded_mean net s.terms values s.ids vals h n all in

@@ -1,4 +1,4 @@
--- What the term of a fitted value adds, which number it spells, and what its flag says.
+-- What the term of a fitted value adds, which number it spells, and what its bit says.
 use Rattle.std.proofs.Common.{◌≡◌, ℕ, ◌+◌, ◌-◌, ◌<◌, ◌≤◌, Bool, true, false, not, ◌||◌, List, refl, arith, ap, sym, subst, ◌∙◌, length}
 use Rattle.std.specs.Prelude.{◌==◌, nat_lt, int_lt, if◌then◌else◌, ◌≤ℤ◌}
 use Rattle.std.proofs.Math.IntN.{ℤ}
@@ -117,33 +117,33 @@ cut_gives t of n s v p l =
       outside_truth = λ values. gd.word values ∙ (ap complement_of (gc.word values) ∙ complement-bit (r values));
     }
 
-pub record Fits (t : TermsView) (of : TermId) (n : ℕ) (broken : TermId) (u : Unrolled) : Type 0 where
+pub record Fits (t : TermsView) (of : TermId) (n : ℕ) (overflowed : TermId) (u : Unrolled) : Type 0 where
   pub adds : Adds t u.terms u.id (width_of u.terms u.id)
   pub narrow : width_of u.terms u.id ≤ 79
-  pub flag_stands : u.broken.0 < length u.terms.nodes
-  pub flag_bit : width_of u.terms u.broken ≡ 1
+  pub overflowed_stands : u.overflowed.0 < length u.terms.nodes
+  pub overflowed_bit : width_of u.terms u.overflowed ≡ 1
   pub value : (values : List ℕ) (z : ℤ) → Spells t values of (width_of t of) z → is_outside n z ≡ false → Spells u.terms values u.id (width_of u.terms u.id) z
-  pub flag : (values : List ℕ) (z : ℤ) (b : Bool) → Spells t values of (width_of t of) z → word_of t values broken ≡ bit_of b → word_of u.terms values u.broken ≡ bit_of (b || is_outside n z)
-  pub stays : (values : List ℕ) → word_of t values broken ≡ bit_of true → word_of u.terms values u.broken ≡ bit_of true
+  pub overflows : (values : List ℕ) (z : ℤ) (b : Bool) → Spells t values of (width_of t of) z → word_of t values overflowed ≡ bit_of b → word_of u.terms values u.overflowed ≡ bit_of (b || is_outside n z)
+  pub stays : (values : List ℕ) → word_of t values overflowed ≡ bit_of true → word_of u.terms values u.overflowed ≡ bit_of true
 
-pub cut_fits : (t : TermsView) (of : TermId) (n : ℕ) (broken : TermId) → AreSound t → IsValue t of → 1 ≤ n → n < width_of t of → broken.0 < length t.nodes → width_of t broken ≡ 1
-    → Fits t of n broken (cut_term t n of broken)
-cut_fits t of n broken s v p l fs fb =
+pub cut_fits : (t : TermsView) (of : TermId) (n : ℕ) (overflowed : TermId) → AreSound t → IsValue t of → 1 ≤ n → n < width_of t of → overflowed.0 < length t.nodes → width_of t overflowed ≡ 1
+    → Fits t of n overflowed (cut_term t n of overflowed)
+cut_fits t of n overflowed s v p l fs fb =
     let c = cut_terms t n of in
     let g = cut_gives t of n s v p l in
-    let ld = later t c.terms broken g.kept fs in
-    let e = with_node c.terms (Or broken c.tested.outside) in
-    let ge = or_gives c.terms broken c.tested.outside g.sound ld.stands g.outside_bit.stands (ld.width ∙ (fb ∙ sym g.outside_bit.width)) in
+    let ld = later t c.terms overflowed g.kept fs in
+    let e = with_node c.terms (Or overflowed c.tested.outside) in
+    let ge = or_gives c.terms overflowed c.tested.outside g.sound ld.stands g.outside_bit.stands (ld.width ∙ (fb ∙ sym g.outside_bit.width)) in
     let lw = later c.terms e.terms c.word ge.adds.kept g.word_bits.stands in
     record {
       adds = record { sound = ge.adds.sound; inputs = ge.adds.inputs ∙ g.inputs; kept = KeepsTerms-both t c.terms e.terms g.kept ge.adds.kept; stands = lw.stands; width = refl };
       narrow = omega (arith, lw.width, g.word_bits.width, v.narrow);
-      flag_stands = ge.adds.stands;
-      flag_bit = ge.adds.width ∙ (ld.width ∙ fb);
+      overflowed_stands = ge.adds.stands;
+      overflowed_bit = ge.adds.width ∙ (ld.width ∙ fb);
       value = λ values z q i.
           let k : n ≡ width_of e.terms c.word = sym (lw.width ∙ g.word_bits.width) in
           subst (λ (j : ℕ). Spells e.terms values c.word j z) k (record { word = lw.word values ∙ g.word values z q; fits = inside_spelled n z i });
-      flag = λ values z x q f.
+      overflows = λ values z x q f.
           ge.word values ∙ (ap (λ (i : Word). or_of i (word_of c.terms values c.tested.outside)) (ld.word values ∙ f) ∙ (ap (or_of (bit_of x)) (g.outside values z q) ∙ or-bits x (is_outside n z)));
       stays = λ values f.
           ge.word values ∙ (ap (λ (i : Word). or_of i (word_of c.terms values c.tested.outside)) (ld.word values ∙ f) ∙ (ap (or_of (bit_of true)) (g.outside_truth values) ∙ or-bits true (not (g.truth values))));
@@ -154,32 +154,32 @@ or_false_right : (b : Bool) → b ≡ (b || false)
 or_false_right true = refl
 or_false_right false = refl
 
-pub kept_fits : (t : TermsView) (of : TermId) (n : ℕ) (broken : TermId) → AreSound t → IsValue t of → width_of t of ≤ n → broken.0 < length t.nodes → width_of t broken ≡ 1
-    → Fits t of n broken (unrolled_of (built_of t of) broken)
-kept_fits t of n broken s v l fs fb =
+pub kept_fits : (t : TermsView) (of : TermId) (n : ℕ) (overflowed : TermId) → AreSound t → IsValue t of → width_of t of ≤ n → overflowed.0 < length t.nodes → width_of t overflowed ≡ 1
+    → Fits t of n overflowed (unrolled_of (built_of t of) overflowed)
+kept_fits t of n overflowed s v l fs fb =
     record {
       adds = Adds-none t of (width_of t of) s v.stands refl;
       narrow = v.narrow;
-      flag_stands = fs;
-      flag_bit = fb;
+      overflowed_stands = fs;
+      overflowed_bit = fb;
       value = λ values z q i. q;
-      flag = λ values z b q g.
+      overflows = λ values z b q g.
           let e = spelled_inside n z (wider_spelled (width_of t of) n z l q.fits) in
           g ∙ ap bit_of (or_false_right b ∙ ap (λ (c : Bool). b || c) (sym e));
       stays = λ values g. g;
     }
 
-fits_by : (t : TermsView) (of : TermId) (n : ℕ) (broken : TermId) (q : Bool) → nat_lt n (width_of t of) ≡ q → AreSound t → IsValue t of → 1 ≤ n → broken.0 < length t.nodes → width_of t broken ≡ 1
-    → Fits t of n broken (if q then cut_term t n of broken else unrolled_of (built_of t of) broken)
-fits_by t of n broken true e s v p fs fb = cut_fits t of n broken s v p (less n (width_of t of) e) fs fb
+fits_by : (t : TermsView) (of : TermId) (n : ℕ) (overflowed : TermId) (q : Bool) → nat_lt n (width_of t of) ≡ q → AreSound t → IsValue t of → 1 ≤ n → overflowed.0 < length t.nodes → width_of t overflowed ≡ 1
+    → Fits t of n overflowed (if q then cut_term t n of overflowed else unrolled_of (built_of t of) overflowed)
+fits_by t of n overflowed true e s v p fs fb = cut_fits t of n overflowed s v p (less n (width_of t of) e) fs fb
   where
     less : (a b : ℕ) → nat_lt a b ≡ true → a < b
     less a b e = grind (arith, nat_tests)
-fits_by t of n broken false e s v p fs fb = kept_fits t of n broken s v (not_more n (width_of t of) e) fs fb
+fits_by t of n overflowed false e s v p fs fb = kept_fits t of n overflowed s v (not_more n (width_of t of) e) fs fb
   where
     not_more : (a b : ℕ) → nat_lt a b ≡ false → b ≤ a
     not_more a b e = grind (arith, nat_tests)
 
-pub tested_fits : (t : TermsView) (of : TermId) (n : ℕ) (broken : TermId) → AreSound t → IsValue t of → 1 ≤ n → broken.0 < length t.nodes → width_of t broken ≡ 1
-    → Fits t of n broken (if nat_lt n (width_of t of) then cut_term t n of broken else unrolled_of (built_of t of) broken)
-tested_fits t of n broken s v p fs fb = fits_by t of n broken (nat_lt n (width_of t of)) refl s v p fs fb
+pub tested_fits : (t : TermsView) (of : TermId) (n : ℕ) (overflowed : TermId) → AreSound t → IsValue t of → 1 ≤ n → overflowed.0 < length t.nodes → width_of t overflowed ≡ 1
+    → Fits t of n overflowed (if nat_lt n (width_of t of) then cut_term t n of overflowed else unrolled_of (built_of t of) overflowed)
+tested_fits t of n overflowed s v p fs fb = fits_by t of n overflowed (nat_lt n (width_of t of)) refl s v p fs fb

@@ -185,11 +185,11 @@ pub record InputsStand (n : ℕ) (low high : ℤ) (values : List ℕ) (base : Te
 abbrev pub word_at : ℕ → List ℕ → ℕ → ℤ
 word_at n values j = signed_of (record { width = n; number = slice_index values j })
 
-abbrev pub range_flag : ℤ → ℤ → Bool → ℤ → Bool
-range_flag low high q z = (q && int_le low z) && int_le z high
+abbrev pub with_range : ℤ → ℤ → Bool → ℤ → Bool
+with_range low high q z = (q && int_le low z) && int_le z high
 
 pub input_stands : (n : ℕ) (low high : ℤ) (values : List ℕ) (base : TermsView) (s : InputTerms) (zs : List ℤ) (q : Bool) → IsWidth n → low ≤ℤ hi n → lo n ≤ℤ high → slice_index values (length s.terms.inputs) < 2 ^ n → InputsStand n low high values base s zs q
-    → InputsStand n low high values base (with_input n low high s) (zs ++ word_at n values (length s.terms.inputs) ∷ []) (range_flag low high q (word_at n values (length s.terms.inputs)))
+    → InputsStand n low high values base (with_input n low high s) (zs ++ word_at n values (length s.terms.inputs) ∷ []) (with_range low high q (word_at n values (length s.terms.inputs)))
 input_stands n low high values base s zs q w l h f i =
     let z = word_at n values (length s.terms.inputs) in
     let r = signed_reads n (slice_index values (length s.terms.inputs)) w.some f in
@@ -226,7 +226,7 @@ input_stands n low high values base s zs q w l h f i =
         | inr more ↦ (let e : length s.ids ≡ j = omega (arith, length_push s.ids d.id) in rw (get_or_push s.ids d.id (record { 0 = 0 }) j e, get_or_push zs z (pos 0) j (i.words ∙ e)) td.means)
       ];
       bits = bits_later b.terms d.terms b.tests td.kept tb.bits;
-      tests = tests_later b.terms d.terms values b.tests (range_flag low high q z) td.kept tb.bits tb.mean;
+      tests = tests_later b.terms d.terms values b.tests (with_range low high q z) td.kept tb.bits tb.mean;
     }
 
 -- the words of so many values, from one on
@@ -237,7 +237,7 @@ words_at n values j (suc k) = word_at n values j ∷ words_at n values (j + 1) k
 -- whether all are in range
 abbrev pub all_in_range : ℤ → ℤ → Bool → List ℤ → Bool
 all_in_range low high q [] = q
-all_in_range low high q (z ∷ zs) = all_in_range low high (range_flag low high q z) zs
+all_in_range low high q (z ∷ zs) = all_in_range low high (with_range low high q z) zs
 
 -- the term of the next input's value
 abbrev value_id : ℕ → ℤ → ℤ → InputTerms → TermId
@@ -256,10 +256,10 @@ inputs_stand n low high values base (suc k) s zs q w l h f i =
     let next = with_input n low high s in
     let one = input_stands n low high values base s zs q w l h (f j (omega arith)) i in
     let c : length next.terms.inputs ≡ j + 1 = (let old = i.count in let now = one.count in omega (arith, length_push s.ids (value_id n low high s))) in
-    let rest = inputs_stand n low high values base k next (zs ++ z ∷ []) (range_flag low high q z) w l h (λ m p. f m (omega arith)) one in
+    let rest = inputs_stand n low high values base k next (zs ++ z ∷ []) (with_range low high q z) w l h (λ m p. f m (omega arith)) one in
     let e : (zs ++ z ∷ []) ++ words_at n values (j + 1) k ≡ zs ++ (z ∷ words_at n values (j + 1) k) = append_assoc zs (z ∷ []) (words_at n values (j + 1) k) in
-    subst (λ (ys : List ℤ). InputsStand n low high values base (inputs_from n low high k next) ys (all_in_range low high (range_flag low high q z) (words_at n values (j + 1) k))) e
-    (subst (λ (m : ℕ). InputsStand n low high values base (inputs_from n low high k next) ((zs ++ z ∷ []) ++ words_at n values m k) (all_in_range low high (range_flag low high q z) (words_at n values m k))) c rest)
+    subst (λ (ys : List ℤ). InputsStand n low high values base (inputs_from n low high k next) ys (all_in_range low high (with_range low high q z) (words_at n values (j + 1) k))) e
+    (subst (λ (m : ℕ). InputsStand n low high values base (inputs_from n low high k next) ((zs ++ z ∷ []) ++ words_at n values m k) (all_in_range low high (with_range low high q z) (words_at n values m k))) c rest)
 
 -- ---- the root
 pub bit_added : (t u : TermsView) (id : TermId) → Adds t u id 1 → HasBits u id 1

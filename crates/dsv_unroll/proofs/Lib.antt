@@ -11,6 +11,7 @@ pub mod FaithfulTerms
 pub mod FitTerms
 pub mod Follows
 pub mod InputTests
+pub mod MadeGoals
 pub mod NodeTerms
 pub mod OverflowRoots
 pub mod PlainGoals

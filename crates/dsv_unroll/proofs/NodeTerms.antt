@@ -79,64 +79,64 @@ pub record NodeAdds (t : TermsView) (u : Unrolled) : Type 0 where
   pub inputs : u.terms.inputs ≡ t.inputs
   pub kept : KeepsTerms t u.terms
   pub value : IsValue u.terms u.id
-  pub flag_stands : u.broken.0 < length u.terms.nodes
-  pub flag_bit : width_of u.terms u.broken ≡ 1
+  pub overflowed_stands : u.overflowed.0 < length u.terms.nodes
+  pub overflowed_bit : width_of u.terms u.overflowed ≡ 1
 
--- a term that is added and no flag
-plain : (t : TermsView) (b : Built) (bits : ℕ) (broken : TermId) → Adds t b.terms b.id bits → bits ≤ 79 → broken.0 < length t.nodes → width_of t broken ≡ 1 → NodeAdds t (unrolled_of b broken)
-plain t b bits broken a n s w =
-    let l = later t b.terms broken a.kept s in
-    record { sound = a.sound; inputs = a.inputs; kept = a.kept; value = record { stands = a.stands; narrow = omega (arith, a.width, n) }; flag_stands = l.stands; flag_bit = l.width ∙ w }
+-- a term that is added, and the bit as it was
+plain : (t : TermsView) (b : Built) (bits : ℕ) (overflowed : TermId) → Adds t b.terms b.id bits → bits ≤ 79 → overflowed.0 < length t.nodes → width_of t overflowed ≡ 1 → NodeAdds t (unrolled_of b overflowed)
+plain t b bits overflowed a n s w =
+    let l = later t b.terms overflowed a.kept s in
+    record { sound = a.sound; inputs = a.inputs; kept = a.kept; value = record { stands = a.stands; narrow = omega (arith, a.width, n) }; overflowed_stands = l.stands; overflowed_bit = l.width ∙ w }
 
-standing : (t : TermsView) (id broken : TermId) → AreSound t → IsValue t id → broken.0 < length t.nodes → width_of t broken ≡ 1 → NodeAdds t (unrolled_of (built_of t id) broken)
-standing t id broken s v k w = plain t (built_of t id) (width_of t id) broken (Adds-none t id (width_of t id) s v.stands refl) v.narrow k w
+standing : (t : TermsView) (id overflowed : TermId) → AreSound t → IsValue t id → overflowed.0 < length t.nodes → width_of t overflowed ≡ 1 → NodeAdds t (unrolled_of (built_of t id) overflowed)
+standing t id overflowed s v k w = plain t (built_of t id) (width_of t id) overflowed (Adds-none t id (width_of t id) s v.stands refl) v.narrow k w
 
-rounded_by : (t : TermsView) (bound addend f : ℕ) (of broken : TermId) (q : Bool) → AreSound t → IsValue t of → bound < 2 ^ 78 → addend ≤ 2 ^ f → f ≤ 32 → (f == 0) ≡ q → broken.0 < length t.nodes → width_of t broken ≡ 1
-    → NodeAdds t (unrolled_of (if q then built_of t of else shifted_term t bound addend f of) broken)
-rounded_by t bound addend f of broken true s v l m k e bs bw = standing t of broken s v bs bw
-rounded_by t bound addend f of broken false s v l m k e bs bw =
+rounded_by : (t : TermsView) (bound addend f : ℕ) (of overflowed : TermId) (q : Bool) → AreSound t → IsValue t of → bound < 2 ^ 78 → addend ≤ 2 ^ f → f ≤ 32 → (f == 0) ≡ q → overflowed.0 < length t.nodes → width_of t overflowed ≡ 1
+    → NodeAdds t (unrolled_of (if q then built_of t of else shifted_term t bound addend f of) overflowed)
+rounded_by t bound addend f of overflowed true s v l m k e bs bw = standing t of overflowed s v bs bw
+rounded_by t bound addend f of overflowed false s v l m k e bs bw =
     let h = shifted t of bound addend f s v l m k in
     let p : 1 ≤ f = grind (arith, nat_tests) in
-    plain t (shifted_term t bound addend f of) (shift_width t bound addend f of - f) broken h.adds (omega (arith, shift_width-narrow t of bound addend f v l m k)) bs bw
+    plain t (shifted_term t bound addend f of) (shift_width t bound addend f of - f) overflowed h.adds (omega (arith, shift_width-narrow t of bound addend f v l m k)) bs bw
 
-faithful_by : (t : TermsView) (f : Format) (of broken : TermId) (q : Bool) → nat_lt (width f) (width_of t of) ≡ q → AreSound t → IsValue t of → broken.0 < length t.nodes → width_of t broken ≡ 1
-    → NodeAdds t (if q then unrolled_of (word_term f.overflow t (width f) of) broken else unrolled_of (built_of t of) broken)
-faithful_by t f of broken true e s v bs bw =
+faithful_by : (t : TermsView) (f : Format) (of overflowed : TermId) (q : Bool) → nat_lt (width f) (width_of t of) ≡ q → AreSound t → IsValue t of → overflowed.0 < length t.nodes → width_of t overflowed ≡ 1
+    → NodeAdds t (if q then unrolled_of (word_term f.overflow t (width f) of) overflowed else unrolled_of (built_of t of) overflowed)
+faithful_by t f of overflowed true e s v bs bw =
     let l : width f < width_of t of = grind (arith, nat_tests) in
     let h = word_fits f.overflow t of (width f) s v.stands (width_some f) (omega arith) in
     let b = word_term f.overflow t (width f) of in
-    plain t b (width_of b.terms b.id) broken h.adds (omega (arith, h.narrow, width_small f)) bs bw
-faithful_by t f of broken false e s v bs bw = standing t of broken s v bs bw
+    plain t b (width_of b.terms b.id) overflowed h.adds (omega (arith, h.narrow, width_small f)) bs bw
+faithful_by t f of overflowed false e s v bs bw = standing t of overflowed s v bs bw
 
-fitted_adds : (rule : FitRule) (t : TermsView) (f : Format) (of broken : TermId) → AreSound t → IsValue t of → broken.0 < length t.nodes → width_of t broken ≡ 1 → NodeAdds t (fitted_term rule f t of broken)
-fitted_adds fit_rule.Tested t f of broken s v bs bw =
-    let h = tested_fits t of (width f) broken s v (width_some f) bs bw in
-    record { sound = h.adds.sound; inputs = h.adds.inputs; kept = h.adds.kept; value = record { stands = h.adds.stands; narrow = h.narrow }; flag_stands = h.flag_stands; flag_bit = h.flag_bit }
-fitted_adds fit_rule.Faithful t f of broken s v bs bw = faithful_by t f of broken (nat_lt (width f) (width_of t of)) refl s v bs bw
+fitted_adds : (rule : FitRule) (t : TermsView) (f : Format) (of overflowed : TermId) → AreSound t → IsValue t of → overflowed.0 < length t.nodes → width_of t overflowed ≡ 1 → NodeAdds t (fitted_term rule f t of overflowed)
+fitted_adds fit_rule.Tested t f of overflowed s v bs bw =
+    let h = tested_fits t of (width f) overflowed s v (width_some f) bs bw in
+    record { sound = h.adds.sound; inputs = h.adds.inputs; kept = h.adds.kept; value = record { stands = h.adds.stands; narrow = h.narrow }; overflowed_stands = h.overflowed_stands; overflowed_bit = h.overflowed_bit }
+fitted_adds fit_rule.Faithful t f of overflowed s v bs bw = faithful_by t f of overflowed (nat_lt (width f) (width_of t of)) refl s v bs bw
 
-pub node_adds : (rule : FitRule) (net : Net) (registers : List TermId) (x : TermId) (t : TermsView) (ids : List TermId) (broken : TermId) (n : Node) → IsNetlist net → AreReady net registers x t ids broken
-    → length ids < length net.nodes → NamesBelow (length ids) n → ReadsBelow (length registers) n → NodeAdds t (node_term rule net registers x t ids broken n)
-node_adds rule net registers x t ids broken node.Input net_ r l b d = standing t x broken r.sound r.input r.flag_stands r.flag_bit
-node_adds rule net registers x t ids broken (node.Reg k) net_ r l b d = standing t (term_at registers k) broken r.sound (r.registers_stand k d) r.flag_stands r.flag_bit
-node_adds rule net registers x t ids broken (node.MulConst c of) net_ r l b d =
+pub node_adds : (rule : FitRule) (net : Net) (registers : List TermId) (x : TermId) (t : TermsView) (ids : List TermId) (overflowed : TermId) (n : Node) → IsNetlist net → AreReady net registers x t ids overflowed
+    → length ids < length net.nodes → NamesBelow (length ids) n → ReadsBelow (length registers) n → NodeAdds t (node_term rule net registers x t ids overflowed n)
+node_adds rule net registers x t ids overflowed node.Input net_ r l b d = standing t x overflowed r.sound r.input r.overflowed_stands r.overflowed_bit
+node_adds rule net registers x t ids overflowed (node.Reg k) net_ r l b d = standing t (term_at registers k) overflowed r.sound (r.registers_stand k d) r.overflowed_stands r.overflowed_bit
+node_adds rule net registers x t ids overflowed (node.MulConst c of) net_ r l b d =
     let bound = bound_at net (length ids) in
     let small = bound_small net (length ids) net_ l in
     let v = r.nodes of b in
     let h = product_made t bound c (term_at ids of) r.sound v small in
-    plain t (product_term t bound c (term_at ids of)) (product_width t bound c (term_at ids of)) broken h.adds (product_narrow t bound c (term_at ids of) v small) r.flag_stands r.flag_bit
-node_adds rule net registers x t ids broken (node.Round of) net_ r l b d =
-    rounded_by t (bound_at net of) (addend_at net of) net.format.frac_bits (term_at ids of) broken (net.format.frac_bits == 0) r.sound (r.nodes of b) (bound_small net of net_ (omega arith)) (addend_small net of) (point_small net.format) refl r.flag_stands r.flag_bit
-node_adds rule net registers x t ids broken (node.Add i j) net_ r l b d =
+    plain t (product_term t bound c (term_at ids of)) (product_width t bound c (term_at ids of)) overflowed h.adds (product_narrow t bound c (term_at ids of) v small) r.overflowed_stands r.overflowed_bit
+node_adds rule net registers x t ids overflowed (node.Round of) net_ r l b d =
+    rounded_by t (bound_at net of) (addend_at net of) net.format.frac_bits (term_at ids of) overflowed (net.format.frac_bits == 0) r.sound (r.nodes of b) (bound_small net of net_ (omega arith)) (addend_small net of) (point_small net.format) refl r.overflowed_stands r.overflowed_bit
+node_adds rule net registers x t ids overflowed (node.Add i j) net_ r l b d =
     let bound = bound_at net (length ids) in
     let small = bound_small net (length ids) net_ l in
     let h = sum_made t bound (term_at ids i) (term_at ids j) r.sound (r.nodes i b.0) (r.nodes j b.1) small in
-    plain t _ (sum_width t bound (term_at ids i) (term_at ids j)) broken h.adds (sum_narrow t bound (term_at ids i) (term_at ids j) (r.nodes i b.0) (r.nodes j b.1) small) r.flag_stands r.flag_bit
-node_adds rule net registers x t ids broken (node.Sub i j) net_ r l b d =
+    plain t _ (sum_width t bound (term_at ids i) (term_at ids j)) overflowed h.adds (sum_narrow t bound (term_at ids i) (term_at ids j) (r.nodes i b.0) (r.nodes j b.1) small) r.overflowed_stands r.overflowed_bit
+node_adds rule net registers x t ids overflowed (node.Sub i j) net_ r l b d =
     let bound = bound_at net (length ids) in
     let small = bound_small net (length ids) net_ l in
     let h = difference_made t bound (term_at ids i) (term_at ids j) r.sound (r.nodes i b.0) (r.nodes j b.1) small in
-    plain t _ (sum_width t bound (term_at ids i) (term_at ids j)) broken h.adds (sum_narrow t bound (term_at ids i) (term_at ids j) (r.nodes i b.0) (r.nodes j b.1) small) r.flag_stands r.flag_bit
-node_adds rule net registers x t ids broken (node.Fit of) net_ r l b d = fitted_adds rule t net.format (term_at ids of) broken r.sound (r.nodes of b) r.flag_stands r.flag_bit
+    plain t _ (sum_width t bound (term_at ids i) (term_at ids j)) overflowed h.adds (sum_narrow t bound (term_at ids i) (term_at ids j) (r.nodes i b.0) (r.nodes j b.1) small) r.overflowed_stands r.overflowed_bit
+node_adds rule net registers x t ids overflowed (node.Fit of) net_ r l b d = fitted_adds rule t net.format (term_at ids of) overflowed r.sound (r.nodes of b) r.overflowed_stands r.overflowed_bit
 
 -- ---- ready after a node
 -- a fact of all terms so far and of one more
@@ -146,14 +146,14 @@ all_more P ids id h p i l = elim (cases_lt i (length ids)) [
   | inr more ↦ (let e : length ids ≡ i = omega (arith, length_push ids id) in rw (get_or_push ids id (record { 0 = 0 }) i e) p)
 ]
 
-pub ready_with : (net : Net) (registers : List TermId) (x : TermId) (t : TermsView) (ids : List TermId) (broken : TermId) (u : Unrolled) → AreReady net registers x t ids broken → NodeAdds t u → AreReady net registers x u.terms (ids ++ u.id ∷ []) u.broken
-ready_with net registers x t ids broken u r a =
+pub ready_with : (net : Net) (registers : List TermId) (x : TermId) (t : TermsView) (ids : List TermId) (overflowed : TermId) (u : Unrolled) → AreReady net registers x t ids overflowed → NodeAdds t u → AreReady net registers x u.terms (ids ++ u.id ∷ []) u.overflowed
+ready_with net registers x t ids overflowed u r a =
     record {
       sound = a.sound;
       nodes = all_more (IsValue u.terms) ids u.id (λ i p. value_later t u.terms (term_at ids i) a.kept (r.nodes i p)) a.value;
       count = r.count;
       registers_stand = λ k p. value_later t u.terms (term_at registers k) a.kept (r.registers_stand k p);
       input = value_later t u.terms x a.kept r.input;
-      flag_stands = a.flag_stands;
-      flag_bit = a.flag_bit;
+      overflowed_stands = a.overflowed_stands;
+      overflowed_bit = a.overflowed_bit;
     }

@@ -33,7 +33,7 @@ plain_stands net low high samples values n l h f =
     let run = zero_run net i in
     let r = starts_follow net values low high samples i u.terms u.id n s in
     let b = breaks_from net false (zeros m) (map (value_of (width net.format) low high) zs) in
-    let j = range_joins net values low high samples i u.terms run.terms u.id run.broken b s r.ready.sound (record { stands = r.stands; width = r.bit }) r.flag r.kept in
+    let j = range_joins net values low high samples i u.terms run.terms u.id run.overflowed b s r.ready.sound (record { stands = r.stands; width = r.bit }) r.overflows r.kept in
     let same = j.adds.inputs ∙ r.inputs in
     record {
       bit = (let a = j.adds in record { stands = a.stands; width = a.width });

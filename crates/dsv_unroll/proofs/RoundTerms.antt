@@ -32,10 +32,10 @@ pub record AddsTo (t : TermsView) (id : TermId) (bits addend : ℕ) (b : Built) 
 with_addend_by : (t : TermsView) (id : TermId) (bits addend : ℕ) (q : Bool) → (addend == 0) ≡ q → AreSound t → id.0 < length t.nodes → width_of t id ≡ bits → IsWidth bits → addend < 2 ^ bits
     → AddsTo t id bits addend (if q then built_of t id else (let c = with_node t (Constant bits addend) in with_node c.terms (Add id c.id)))
 with_addend_by t id bits addend true e s h w n l =
-    let nought : addend ≡ 0 = eqb-true addend 0 e in
+    let zero_bit : addend ≡ 0 = eqb-true addend 0 e in
     record {
       adds = Adds-none t id bits s h w;
-      spells = λ values z p f. let k : z ≡ z +ℤ pos addend = sym (+ℤ_idr z) ∙ ap (λ (a : ℕ). z +ℤ pos a) (sym nought) in subst (λ (y : ℤ). Spells t values id bits y) k p;
+      spells = λ values z p f. let k : z ≡ z +ℤ pos addend = sym (+ℤ_idr z) ∙ ap (λ (a : ℕ). z +ℤ pos a) (sym zero_bit) in subst (λ (y : ℤ). Spells t values id bits y) k p;
     }
 with_addend_by t id bits addend false e s h w n l =
     let c = with_node t (Constant bits addend) in
@@ -113,8 +113,8 @@ width_by-within false bits w = omega arith
 addend_fits : (b : Bool) (w f bound addend : ℕ) (z : ℤ) → (addend == 0) ≡ b → 1 ≤ w → bound + addend < 2 ^ 128 → addend ≤ 2 ^ f → IsSpelled w z → unsigned_abs z ≤ bound
     → IsSpelled (width_by b (max w (f + 1)) (width_for (bound + addend))) (z +ℤ pos addend)
 addend_fits true w f bound addend z e s l m h k =
-    let nought : addend ≡ 0 = eqb-true addend 0 e in
-    let same : z ≡ z +ℤ pos addend = sym (+ℤ_idr z) ∙ ap (λ (a : ℕ). z +ℤ pos a) (sym nought) in
+    let zero_bit : addend ≡ 0 = eqb-true addend 0 e in
+    let same : z ≡ z +ℤ pos addend = sym (+ℤ_idr z) ∙ ap (λ (a : ℕ). z +ℤ pos a) (sym zero_bit) in
     subst (λ (y : ℤ). IsSpelled (max w (f + 1)) y) same (wider_spelled w (max w (f + 1)) z (le-max_left w (f + 1)) h)
 addend_fits false w f bound addend z e s l m h k =
     lesser_fits (max w (f + 1)) (max w (f + 1) + 1) (bound + addend) (z +ℤ pos addend) (omega arith) l (with_one_more w f addend z s m h)

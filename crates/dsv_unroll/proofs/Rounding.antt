@@ -44,13 +44,13 @@ ceiling_by v w d p f =
 ceiling_shift : (v : ℤ) (d : ℕ) → 0 < d → ceiling_of v d ≡ floor_of (v +ℤ pos (d - 1)) d
 ceiling_shift v d p = sym (ceiling_by v (floor_of (neg_ℤ v) d) d p (floored_is (neg_ℤ v) d p))
 
-not_nought : (f : ℕ) → 1 ≤ f → (f == 0) ≡ false
-not_nought f h = grind (arith, nat_tests)
+not_zero : (f : ℕ) → 1 ≤ f → (f == 0) ≡ false
+not_zero f h = grind (arith, nat_tests)
 
 pub shift_floor : (r : Rounding) (f : ℕ) (v : ℤ) → 1 ≤ f → whole_shift r f v ≡ floor_of (v +ℤ pos (addend_of r f)) (2 ^ f)
 shift_floor rounding.Floor f v h = ap (λ (u : ℤ). floor_of u (2 ^ f)) (sym (+ℤ_idr v))
 shift_floor rounding.Ceil f v h = ceiling_shift v (2 ^ f) (pow_pos f)
-shift_floor rounding.Nearest f v h = rw (not_nought f h) refl
+shift_floor rounding.Nearest f v h = rw (not_zero f h) refl
 
 -- ---- multiples
 floor_multiple : (q : ℤ) (d a : ℕ) → 0 < d → a < d → floor_of (q *ℤ pos d +ℤ pos a) d ≡ q

@@ -1,4 +1,4 @@
--- Runs: the flag after them says whether a value of some sample was no word.
+-- Runs: the bit after them says whether a value of some sample was no word.
 use Rattle.std.proofs.Common.{◌≡◌, ℕ, suc, ◌+◌, ◌<◌, Bool, true, false, ◌||◌, List, [], ◌∷◌, ◌++◌, refl, arith, ap, sym, subst, ◌∙◌, length, map}
 use Rattle.std.specs.Prelude.{slice_index, IsTrue}
 use Rattle.std.specs.List.{All, list_any}
@@ -25,11 +25,11 @@ use Rattle.dsv_unroll.specs.Goals.{sample_terms, RunTerms, with_sample, run_from
 use Rattle.dsv_unroll.specs.Ready.{IsValue, AreRunReady, AreAllValues}
 use Rattle.dsv_unroll.specs.Rules.{term_at}
 use Rattle.dsv_unroll.proofs.FitTerms.{is_outside}
-use Rattle.dsv_unroll.proofs.Follows.{Means, means_later, node_flag}
-use Rattle.dsv_unroll.proofs.Samples.{flag_from, sample_follows}
+use Rattle.dsv_unroll.proofs.Follows.{Means, means_later, node_overflow}
+use Rattle.dsv_unroll.proofs.Samples.{overflow_from, sample_follows}
 use Rattle.dsv_unroll.proofs.SampleSteps.{ready_first, ready_rest, next_below}
 
--- ---- the flag of a sample
+-- ---- the bit of a sample
 abbrev pub any_outside : Format → List ℤ → Bool
 any_outside f es = list_any (is_outside (width f)) es
 
@@ -41,27 +41,27 @@ or_none : (a : Bool) → (a || false) ≡ a
 or_none true = refl
 or_none false = refl
 
-pub flag_exact : (f : Format) (vals : List ℤ) (n : Node) → node_flag fit_rule.Tested (width f) vals n ≡ any_outside f (node_exact vals n)
-flag_exact f vals node.Input = refl
-flag_exact f vals (node.Reg k) = refl
-flag_exact f vals (node.MulConst c i) = refl
-flag_exact f vals (node.Round i) = refl
-flag_exact f vals (node.Add i j) = refl
-flag_exact f vals (node.Sub i j) = refl
-flag_exact f vals (node.Fit i) = sym (or_none (is_outside (width f) (at vals i)))
+pub overflow_exact : (f : Format) (vals : List ℤ) (n : Node) → node_overflow fit_rule.Tested (width f) vals n ≡ any_outside f (node_exact vals n)
+overflow_exact f vals node.Input = refl
+overflow_exact f vals (node.Reg k) = refl
+overflow_exact f vals (node.MulConst c i) = refl
+overflow_exact f vals (node.Round i) = refl
+overflow_exact f vals (node.Add i j) = refl
+overflow_exact f vals (node.Sub i j) = refl
+overflow_exact f vals (node.Fit i) = sym (or_none (is_outside (width f) (at vals i)))
 
-flags_exact : (f : Format) (rs : List ℤ) (x : ℤ) (b : Bool) (ns : List Node) (s : Sample) → flag_from fit_rule.Tested f rs x (b || any_outside f s.exact) ns s ≡ (b || any_outside f (sample_from f rs x ns s).exact)
-flags_exact f rs x b [] s = refl
-flags_exact f rs x b (n ∷ ns) s =
-    let e : ((b || any_outside f s.exact) || node_flag fit_rule.Tested (width f) s.values n) ≡ (b || any_outside f (s.exact ++ node_exact s.values n)) =
-    or_assoc b (any_outside f s.exact) (node_flag fit_rule.Tested (width f) s.values n)
-    ∙ ap (λ (c : Bool). b || c) (ap (λ (c : Bool). any_outside f s.exact || c) (flag_exact f s.values n) ∙ sym (list_any-append (is_outside (width f)) s.exact (node_exact s.values n))) in
-    ap (λ (c : Bool). flag_from fit_rule.Tested f rs x c ns (after_node f rs x s n)) e ∙ flags_exact f rs x b ns (after_node f rs x s n)
+overflows_exact : (f : Format) (rs : List ℤ) (x : ℤ) (b : Bool) (ns : List Node) (s : Sample) → overflow_from fit_rule.Tested f rs x (b || any_outside f s.exact) ns s ≡ (b || any_outside f (sample_from f rs x ns s).exact)
+overflows_exact f rs x b [] s = refl
+overflows_exact f rs x b (n ∷ ns) s =
+    let e : ((b || any_outside f s.exact) || node_overflow fit_rule.Tested (width f) s.values n) ≡ (b || any_outside f (s.exact ++ node_exact s.values n)) =
+    or_assoc b (any_outside f s.exact) (node_overflow fit_rule.Tested (width f) s.values n)
+    ∙ ap (λ (c : Bool). b || c) (ap (λ (c : Bool). any_outside f s.exact || c) (overflow_exact f s.values n) ∙ sym (list_any-append (is_outside (width f)) s.exact (node_exact s.values n))) in
+    ap (λ (c : Bool). overflow_from fit_rule.Tested f rs x c ns (after_node f rs x s n)) e ∙ overflows_exact f rs x b ns (after_node f rs x s n)
 
-sample_flag : (net : Net) (rs : List ℤ) (x : ℤ) (b : Bool) → flag_from fit_rule.Tested net.format rs x b net.nodes (record { values = []; exact = [] }) ≡ (b || any_outside net.format (step_of net rs x).exact)
-sample_flag net rs x b =
-    ap (λ (c : Bool). flag_from fit_rule.Tested net.format rs x c net.nodes (record { values = []; exact = [] })) (sym (or_none b))
-    ∙ flags_exact net.format rs x b net.nodes (record { values = []; exact = [] })
+sample_overflow : (net : Net) (rs : List ℤ) (x : ℤ) (b : Bool) → overflow_from fit_rule.Tested net.format rs x b net.nodes (record { values = []; exact = [] }) ≡ (b || any_outside net.format (step_of net rs x).exact)
+sample_overflow net rs x b =
+    ap (λ (c : Bool). overflow_from fit_rule.Tested net.format rs x c net.nodes (record { values = []; exact = [] })) (sym (or_none b))
+    ∙ overflows_exact net.format rs x b net.nodes (record { values = []; exact = [] })
 
 -- ---- the registers after a sample
 pub registers_words : (net : Net) (rs : List ℤ) (x : ℤ) → IsNetlist net → AreWords net rs x → All (IsWord net.format) (step_of net rs x).past
@@ -111,34 +111,34 @@ breaks_from net b rs [] = b
 breaks_from net b rs (x ∷ xs) = breaks_from net (b || any_outside net.format (step_of net rs x).exact) (step_of net rs x).past xs
 
 pub record RunFollows (net : Net) (values : List ℕ) (t : TermsView) (r : RunTerms) (b : Bool) : Type 0 where
-  pub flag : word_of r.terms values r.broken ≡ bit_of b
-  pub stands : r.broken.0 < length r.terms.nodes
-  pub bit : width_of r.terms r.broken ≡ 1
+  pub overflows : word_of r.terms values r.overflowed ≡ bit_of b
+  pub stands : r.overflowed.0 < length r.terms.nodes
+  pub bit : width_of r.terms r.overflowed ≡ 1
   pub kept : KeepsTerms t r.terms
   pub inputs : r.terms.inputs ≡ t.inputs
-  pub ready : AreRunReady net r.registers [] r.terms r.broken
+  pub ready : AreRunReady net r.registers [] r.terms r.overflowed
 
 -- what stands after one sample
 pub record AfterSample (net : Net) (values : List ℕ) (t : TermsView) (r : RunTerms) (xs : List TermId) (zs : List ℤ) (rs : List ℤ) (b : Bool) : Type 0 where
-  pub ready : AreRunReady net r.registers xs r.terms r.broken
-  pub flag : word_of r.terms values r.broken ≡ bit_of b
+  pub ready : AreRunReady net r.registers xs r.terms r.overflowed
+  pub overflows : word_of r.terms values r.overflowed ≡ bit_of b
   pub registers : b ≡ false → RegistersMean r.terms values r.registers rs
   pub inputs : InputsMean net.format r.terms values xs zs
   pub kept : KeepsTerms t r.terms
   pub same : r.terms.inputs ≡ t.inputs
 
-pub after_sample : (net : Net) (values : List ℕ) (r : RunTerms) (x : TermId) (xs : List TermId) (z : ℤ) (zs : List ℤ) (rs : List ℤ) (b : Bool) → IsNetlist net → AreWords net rs z → AreRunReady net r.registers (x ∷ xs) r.terms r.broken
-    → word_of r.terms values r.broken ≡ bit_of b → (b ≡ false → RegistersMean r.terms values r.registers rs) → InputsMean net.format r.terms values (x ∷ xs) (z ∷ zs)
+pub after_sample : (net : Net) (values : List ℕ) (r : RunTerms) (x : TermId) (xs : List TermId) (z : ℤ) (zs : List ℤ) (rs : List ℤ) (b : Bool) → IsNetlist net → AreWords net rs z → AreRunReady net r.registers (x ∷ xs) r.terms r.overflowed
+    → word_of r.terms values r.overflowed ≡ bit_of b → (b ≡ false → RegistersMean r.terms values r.registers rs) → InputsMean net.format r.terms values (x ∷ xs) (z ∷ zs)
     → AfterSample net values r.terms (with_sample net r x) xs zs (step_of net rs z).past (b || any_outside net.format (step_of net rs z).exact)
 after_sample net values r x xs z zs rs b h w ready g m i =
-    let f = sample_follows fit_rule.Tested values net rs z r.registers x r.terms r.broken b h w (ready_first net r.registers x xs r.terms r.broken ready) g (λ e. (m e).each) (i.each 0 (omega arith)) in
-    let s = sample_terms fit_rule.Tested net r.registers x r.terms r.broken in
+    let f = sample_follows fit_rule.Tested values net rs z r.registers x r.terms r.overflowed b h w (ready_first net r.registers x xs r.terms r.overflowed ready) g (λ e. (m e).each) (i.each 0 (omega arith)) in
+    let s = sample_terms fit_rule.Tested net r.registers x r.terms r.overflowed in
     let vals = (sample_of net.format rs z net.nodes).values in
-    let e = sample_flag net rs z b in
+    let e = sample_overflow net rs z b in
     let c : length s.ids ≡ length net.nodes = f.follows.count ∙ sample_length net rs z in
     record {
-      ready = ready_rest net r.registers x xs r.terms s.terms r.broken s.broken s.ids (map (term_at s.ids) net.next) h ready f.kept f.ready c refl;
-      flag = f.follows.flag ∙ ap bit_of e;
+      ready = ready_rest net r.registers x xs r.terms s.terms r.overflowed s.overflowed s.ids (map (term_at s.ids) net.next) h ready f.kept f.ready c refl;
+      overflows = f.follows.overflows ∙ ap bit_of e;
       registers = λ q. loaded_mean net s.terms values s.ids vals h c (f.follows.nodes (e ∙ q));
       inputs = record {
         count = omega (arith, i.count);
@@ -152,15 +152,15 @@ after_sample net values r x xs z zs rs b h w ready g m i =
     sample_length : (net : Net) (rs : List ℤ) (z : ℤ) → length (sample_of net.format rs z net.nodes).values ≡ length net.nodes
     sample_length net rs z = from-length net.format rs z net.nodes (record { values = []; exact = [] }) ∙ (let e : 0 + length net.nodes ≡ length net.nodes = omega arith in e)
 
-pub run_follows : (net : Net) (values : List ℕ) (xs : List TermId) (zs : List ℤ) (r : RunTerms) (rs : List ℤ) (b : Bool) → IsNetlist net → length rs ≡ length net.next → All (IsWord net.format) rs → AreRunReady net r.registers xs r.terms r.broken
-    → word_of r.terms values r.broken ≡ bit_of b → (b ≡ false → RegistersMean r.terms values r.registers rs) → InputsMean net.format r.terms values xs zs
+pub run_follows : (net : Net) (values : List ℕ) (xs : List TermId) (zs : List ℤ) (r : RunTerms) (rs : List ℤ) (b : Bool) → IsNetlist net → length rs ≡ length net.next → All (IsWord net.format) rs → AreRunReady net r.registers xs r.terms r.overflowed
+    → word_of r.terms values r.overflowed ≡ bit_of b → (b ≡ false → RegistersMean r.terms values r.registers rs) → InputsMean net.format r.terms values xs zs
     → RunFollows net values r.terms (run_from net xs r) (breaks_from net b rs zs)
-run_follows net values [] [] r rs b h c w ready g m i = record { flag = g; stands = ready.flag_stands; bit = ready.flag_bit; kept = KeepsTerms-self r.terms; inputs = refl; ready = ready }
+run_follows net values [] [] r rs b h c w ready g m i = record { overflows = g; stands = ready.overflowed_stands; bit = ready.overflowed_bit; kept = KeepsTerms-self r.terms; inputs = refl; ready = ready }
 run_follows net values [] (z ∷ zs) r rs b h c w ready g m i = absurd (let k = i.count in omega arith)
 run_follows net values (x ∷ xs) [] r rs b h c w ready g m i = absurd (let k = i.count in omega arith)
 run_follows net values (x ∷ xs) (z ∷ zs) r rs b h c w ready g m i =
     let words : AreWords net rs z = record { many = c; words = w; input = All-head (IsWord net.format) z zs i.words } in
     let a = after_sample net values r x xs z zs rs b h words ready g m i in
     let more = run_follows net values xs zs (with_sample net r x) (step_of net rs z).past (b || any_outside net.format (step_of net rs z).exact) h
-    (length-map net.next (at (sample_of net.format rs z net.nodes).values)) (registers_words net rs z h words) a.ready a.flag a.registers a.inputs in
-    record { flag = more.flag; stands = more.stands; bit = more.bit; kept = KeepsTerms-both r.terms _ _ a.kept more.kept; inputs = more.inputs ∙ a.same; ready = more.ready }
+    (length-map net.next (at (sample_of net.format rs z net.nodes).values)) (registers_words net rs z h words) a.ready a.overflows a.registers a.inputs in
+    record { overflows = more.overflows; stands = more.stands; bit = more.bit; kept = KeepsTerms-both r.terms _ _ a.kept more.kept; inputs = more.inputs ∙ a.same; ready = more.ready }

@@ -43,29 +43,29 @@ named net registers ids i n h c r e =
       reads = subst (λ (k : ℕ). ReadsBelow k n) (sym r) (reads-at (length net.next) net.nodes i n h.registers e);
     }
 
-pub record IsStep (rule : FitRule) (net : Net) (registers : List TermId) (x : TermId) (first : TermsView) (i : ℕ) (t : TermsView) (ids : List TermId) (broken : TermId) (start : SampleTerms) : Type 0 where
+pub record IsStep (rule : FitRule) (net : Net) (registers : List TermId) (x : TermId) (first : TermsView) (i : ℕ) (t : TermsView) (ids : List TermId) (overflowed : TermId) (start : SampleTerms) : Type 0 where
   pub count : length ids ≡ i
-  pub ready : AreReady net registers x t ids broken
+  pub ready : AreReady net registers x t ids overflowed
   pub kept : KeepsTerms first t
-  pub same : nodes_from rule net registers x (drop i net.nodes) (record { terms = t; ids = ids; broken = broken }) ≡ start
+  pub same : nodes_from rule net registers x (drop i net.nodes) (record { terms = t; ids = ids; overflowed = overflowed }) ≡ start
 
-pub node_step : (rule : FitRule) (net : Net) (registers : List TermId) (x : TermId) (first : TermsView) (i : ℕ) (t : TermsView) (ids : List TermId) (broken : TermId) (start : SampleTerms) (n : Node) (u : Unrolled) (seen now : List TermId)
-    → IsNetlist net → i < length net.nodes → slice_get net.nodes i ≡ Some n → IsStep rule net registers x first i t ids broken start
-    → seen ≡ ids → u ≡ node_term rule net registers x t seen broken n → now ≡ ids ++ u.id ∷ [] → IsStep rule net registers x first (i + 1) u.terms now u.broken start
-node_step rule net registers x first i t ids broken start n u seen now h l e s g b p =
-    let b2 : u ≡ node_term rule net registers x t ids broken n = b ∙ ap (λ (js : List TermId). node_term rule net registers x t js broken n) g in
+pub node_step : (rule : FitRule) (net : Net) (registers : List TermId) (x : TermId) (first : TermsView) (i : ℕ) (t : TermsView) (ids : List TermId) (overflowed : TermId) (start : SampleTerms) (n : Node) (u : Unrolled) (seen now : List TermId)
+    → IsNetlist net → i < length net.nodes → slice_get net.nodes i ≡ Some n → IsStep rule net registers x first i t ids overflowed start
+    → seen ≡ ids → u ≡ node_term rule net registers x t seen overflowed n → now ≡ ids ++ u.id ∷ [] → IsStep rule net registers x first (i + 1) u.terms now u.overflowed start
+node_step rule net registers x first i t ids overflowed start n u seen now h l e s g b p =
+    let b2 : u ≡ node_term rule net registers x t ids overflowed n = b ∙ ap (λ (js : List TermId). node_term rule net registers x t js overflowed n) g in
     let k = named net registers ids i n h s.count s.ready.count e in
     let c = s.count in
     let d : drop i net.nodes ≡ n ∷ drop (i + 1) net.nodes = drop_more net.nodes i node.Input l ∙ ap (λ (m : Node). m ∷ drop (i + 1) net.nodes) (got net.nodes i node.Input n e) in
-    let q : SampleTerms = record { terms = t; ids = ids; broken = broken } in
+    let q : SampleTerms = record { terms = t; ids = ids; overflowed = overflowed } in
     let same : nodes_from rule net registers x (n ∷ drop (i + 1) net.nodes) q ≡ start = ap (λ (ns : List Node). nodes_from rule net registers x ns q) (sym d) ∙ s.same in
-    let a = subst (NodeAdds t) (sym b2) (node_adds rule net registers x t ids broken n h s.ready (omega arith) k.backwards k.reads) in
+    let a = subst (NodeAdds t) (sym b2) (node_adds rule net registers x t ids overflowed n h s.ready (omega arith) k.backwards k.reads) in
     record {
       count = ap length p ∙ (length_push ids u.id ∙ ap (λ (m : ℕ). m + 1) c);
-      ready = subst (λ (js : List TermId). AreReady net registers x u.terms js u.broken) (sym p) (ready_with net registers x t ids broken u s.ready a);
+      ready = subst (λ (js : List TermId). AreReady net registers x u.terms js u.overflowed) (sym p) (ready_with net registers x t ids overflowed u s.ready a);
       kept = KeepsTerms-both first t u.terms s.kept a.kept;
-      same = ap (λ (js : List TermId). nodes_from rule net registers x (drop (i + 1) net.nodes) (record { terms = u.terms; ids = js; broken = u.broken })) p
-          ∙ (ap (λ (v : Unrolled). nodes_from rule net registers x (drop (i + 1) net.nodes) (record { terms = v.terms; ids = ids ++ v.id ∷ []; broken = v.broken })) b2 ∙ same);
+      same = ap (λ (js : List TermId). nodes_from rule net registers x (drop (i + 1) net.nodes) (record { terms = u.terms; ids = js; overflowed = u.overflowed })) p
+          ∙ (ap (λ (v : Unrolled). nodes_from rule net registers x (drop (i + 1) net.nodes) (record { terms = v.terms; ids = ids ++ v.id ∷ []; overflowed = v.overflowed })) b2 ∙ same);
     }
 
 pub next_step : (ids : List TermId) (next : List ℕ) (k j : ℕ) (old now : List TermId) (id : TermId) → k < length next → slice_get next k ≡ Some j → old ≡ map (term_at ids) (take k next) → id ≡ term_at ids j → now ≡ old ++ id ∷ [] → now ≡ map (term_at ids) (take (k + 1) next)
@@ -80,21 +80,21 @@ next_below net m h e = All-weaker (λ k. IsTrue (names_word net.nodes k)) (λ k.
     below : (k : ℕ) → IsTrue (names_word net.nodes k) → k < m
     below k t = let b = names_word-below net.nodes k (search rules) in omega arith
 
-pub ready_first : (net : Net) (registers : List TermId) (x : TermId) (xs : List TermId) (t : TermsView) (broken : TermId) → AreRunReady net registers (x ∷ xs) t broken → AreReady net registers x t [] broken
-ready_first net registers x xs t broken r =
+pub ready_first : (net : Net) (registers : List TermId) (x : TermId) (xs : List TermId) (t : TermsView) (overflowed : TermId) → AreRunReady net registers (x ∷ xs) t overflowed → AreReady net registers x t [] overflowed
+ready_first net registers x xs t overflowed r =
     record {
       sound = r.sound;
       nodes = λ i p. absurd (omega arith);
       count = r.count;
       registers_stand = r.registers_stand;
       input = r.inputs_stand 0 (omega arith);
-      flag_stands = r.flag_stands;
-      flag_bit = r.flag_bit;
+      overflowed_stands = r.overflowed_stands;
+      overflowed_bit = r.overflowed_bit;
     }
 
-pub ready_rest : (net : Net) (registers : List TermId) (x : TermId) (xs : List TermId) (t u : TermsView) (broken now : TermId) (ids next : List TermId) → IsNetlist net → AreRunReady net registers (x ∷ xs) t broken → KeepsTerms t u
+pub ready_rest : (net : Net) (registers : List TermId) (x : TermId) (xs : List TermId) (t u : TermsView) (overflowed now : TermId) (ids next : List TermId) → IsNetlist net → AreRunReady net registers (x ∷ xs) t overflowed → KeepsTerms t u
     → AreReady net registers x u ids now → length ids ≡ length net.nodes → next ≡ map (term_at ids) net.next → AreRunReady net next xs u now
-ready_rest net registers x xs t u broken now ids next h r k a c e =
+ready_rest net registers x xs t u overflowed now ids next h r k a c e =
     record {
       sound = a.sound;
       count = ap length e ∙ length-map net.next (term_at ids);
@@ -104,37 +104,37 @@ ready_rest net registers x xs t u broken now ids next h r k a c e =
           let w : term_at next j ≡ term_at ids (slice_index net.next j) = ap (λ (ns : List TermId). term_at ns j) e ∙ get_or-map (term_at ids) net.next j 0 (record { 0 = 0 }) q in
           subst (IsValue u) (sym w) (a.nodes (slice_index net.next j) b);
       inputs_stand = λ i p. value_later t u (term_at xs i) k (r.inputs_stand (suc i) (omega arith));
-      flag_stands = a.flag_stands;
-      flag_bit = a.flag_bit;
+      overflowed_stands = a.overflowed_stands;
+      overflowed_bit = a.overflowed_bit;
     }
 
-pub record IsRunStep (net : Net) (xs : List TermId) (t : TermsView) (registers : List TermId) (broken : TermId) (start : RunTerms) : Type 0 where
-  pub ready : AreRunReady net registers xs t broken
-  pub same : run_from net xs (record { terms = t; registers = registers; broken = broken }) ≡ start
+pub record IsRunStep (net : Net) (xs : List TermId) (t : TermsView) (registers : List TermId) (overflowed : TermId) (start : RunTerms) : Type 0 where
+  pub ready : AreRunReady net registers xs t overflowed
+  pub same : run_from net xs (record { terms = t; registers = registers; overflowed = overflowed }) ≡ start
 
-pub run_step : (net : Net) (xs : List TermId) (i : ℕ) (x : TermId) (t : TermsView) (registers seen : List TermId) (broken : TermId) (start : RunTerms) (s : SampleTerms) (shown next : List TermId)
-    → IsNetlist net → i < length xs → x ≡ term_at xs i → IsRunStep net (drop i xs) t registers broken start → seen ≡ registers → s ≡ sample_terms fit_rule.Tested net seen x t broken
-    → KeepsTerms t s.terms → AreReady net seen x s.terms s.ids s.broken → length s.ids ≡ length net.nodes → shown ≡ s.ids → next ≡ map (term_at shown) net.next
-    → IsRunStep net (drop (i + 1) xs) s.terms next s.broken start
-run_step net xs i x t registers seen broken start s shown next h l e r g b k a c v n =
+pub run_step : (net : Net) (xs : List TermId) (i : ℕ) (x : TermId) (t : TermsView) (registers seen : List TermId) (overflowed : TermId) (start : RunTerms) (s : SampleTerms) (shown next : List TermId)
+    → IsNetlist net → i < length xs → x ≡ term_at xs i → IsRunStep net (drop i xs) t registers overflowed start → seen ≡ registers → s ≡ sample_terms fit_rule.Tested net seen x t overflowed
+    → KeepsTerms t s.terms → AreReady net seen x s.terms s.ids s.overflowed → length s.ids ≡ length net.nodes → shown ≡ s.ids → next ≡ map (term_at shown) net.next
+    → IsRunStep net (drop (i + 1) xs) s.terms next s.overflowed start
+run_step net xs i x t registers seen overflowed start s shown next h l e r g b k a c v n =
     let d : drop i xs ≡ x ∷ drop (i + 1) xs = drop_more xs i (record { 0 = 0 }) l ∙ ap (λ (y : TermId). y ∷ drop (i + 1) xs) (sym e) in
-    let rd = subst (λ (ys : List TermId). AreRunReady net registers ys t broken) d r.ready in
+    let rd = subst (λ (ys : List TermId). AreRunReady net registers ys t overflowed) d r.ready in
     let n2 : next ≡ map (term_at s.ids) net.next = n ∙ ap (λ (js : List TermId). map (term_at js) net.next) v in
-    let b2 : s ≡ sample_terms fit_rule.Tested net registers x t broken = b ∙ ap (λ (js : List TermId). sample_terms fit_rule.Tested net js x t broken) g in
-    let a2 = subst (λ (js : List TermId). AreReady net js x s.terms s.ids s.broken) g a in
-    let q : RunTerms = record { terms = t; registers = registers; broken = broken } in
+    let b2 : s ≡ sample_terms fit_rule.Tested net registers x t overflowed = b ∙ ap (λ (js : List TermId). sample_terms fit_rule.Tested net js x t overflowed) g in
+    let a2 = subst (λ (js : List TermId). AreReady net js x s.terms s.ids s.overflowed) g a in
+    let q : RunTerms = record { terms = t; registers = registers; overflowed = overflowed } in
     let same : run_from net (x ∷ drop (i + 1) xs) q ≡ start = ap (λ (ys : List TermId). run_from net ys q) (sym d) ∙ r.same in
     record {
-      ready = ready_rest net registers x (drop (i + 1) xs) t s.terms broken s.broken s.ids next h rd k a2 c n2;
-      same = ap (λ (js : List TermId). run_from net (drop (i + 1) xs) (record { terms = s.terms; registers = js; broken = s.broken })) n2
-          ∙ (ap (λ (w : SampleTerms). run_from net (drop (i + 1) xs) (record { terms = w.terms; registers = map (term_at w.ids) net.next; broken = w.broken })) b2 ∙ same);
+      ready = ready_rest net registers x (drop (i + 1) xs) t s.terms overflowed s.overflowed s.ids next h rd k a2 c n2;
+      same = ap (λ (js : List TermId). run_from net (drop (i + 1) xs) (record { terms = s.terms; registers = js; overflowed = s.overflowed })) n2
+          ∙ (ap (λ (w : SampleTerms). run_from net (drop (i + 1) xs) (record { terms = w.terms; registers = map (term_at w.ids) net.next; overflowed = w.overflowed })) b2 ∙ same);
     }
 
-pub run_ready : (net : Net) (xs : List TermId) (i : ℕ) (x : TermId) (t : TermsView) (registers seen : List TermId) (broken : TermId) (start : RunTerms) → i < length xs → x ≡ term_at xs i → IsRunStep net (drop i xs) t registers broken start → seen ≡ registers
-    → AreReady net seen x t [] broken
-run_ready net xs i x t registers seen broken start l e r g =
+pub run_ready : (net : Net) (xs : List TermId) (i : ℕ) (x : TermId) (t : TermsView) (registers seen : List TermId) (overflowed : TermId) (start : RunTerms) → i < length xs → x ≡ term_at xs i → IsRunStep net (drop i xs) t registers overflowed start → seen ≡ registers
+    → AreReady net seen x t [] overflowed
+run_ready net xs i x t registers seen overflowed start l e r g =
     let d : drop i xs ≡ x ∷ drop (i + 1) xs = drop_more xs i (record { 0 = 0 }) l ∙ ap (λ (y : TermId). y ∷ drop (i + 1) xs) (sym e) in
-    subst (λ (js : List TermId). AreReady net js x t [] broken) (sym g) (ready_first net registers x (drop (i + 1) xs) t broken (subst (λ (ys : List TermId). AreRunReady net registers ys t broken) d r.ready))
+    subst (λ (js : List TermId). AreReady net js x t [] overflowed) (sym g) (ready_first net registers x (drop (i + 1) xs) t overflowed (subst (λ (ys : List TermId). AreRunReady net registers ys t overflowed) d r.ready))
 
 pub input_step : (n : ℕ) (low high : ℤ) (samples i : ℕ) (s now start : InputTerms) → i < samples → inputs_from n low high (samples - i) s ≡ start → now ≡ with_input n low high s → inputs_from n low high (samples - (i + 1)) now ≡ start
 input_step n low high samples i s now start l h e =
@@ -151,16 +151,16 @@ joined_step tests i t u all now start l h b =
     ap (λ (q : Built). conjunction_from q (drop (i + 1) tests)) b ∙ (ap (conjunction_from (built_of t all)) (sym d) ∙ h)
 
 -- ---- tests of exact values
-pub entry_step : (rule : FitRule) (net : Net) (registers : List TermId) (x : TermId) (i : ℕ) (t : TermsView) (ids : List TermId) (broken : TermId) (start : List (Option TestedTerm)) (n : Node) (u : Unrolled) (seen now : List TermId)
-    (old new : List (Option TestedTerm)) (entry : Option TestedTerm) → i < length net.nodes → slice_get net.nodes i ≡ Some n → seen ≡ ids → u ≡ node_term rule net registers x t seen broken n → now ≡ ids ++ u.id ∷ []
-    → old ++ tests_from rule net registers x (drop i net.nodes) (record { terms = t; ids = ids; broken = broken }) ≡ start → fit_tests n entry ≡ node_tests rule net.format t seen n → new ≡ old ++ fit_tests n entry
-    → new ++ tests_from rule net registers x (drop (i + 1) net.nodes) (record { terms = u.terms; ids = now; broken = u.broken }) ≡ start
-entry_step rule net registers x i t ids broken start n u seen now old new entry l e g b p h m a =
-    let q : SampleTerms = record { terms = t; ids = ids; broken = broken } in
+pub entry_step : (rule : FitRule) (net : Net) (registers : List TermId) (x : TermId) (i : ℕ) (t : TermsView) (ids : List TermId) (overflowed : TermId) (start : List (Option TestedTerm)) (n : Node) (u : Unrolled) (seen now : List TermId)
+    (old new : List (Option TestedTerm)) (entry : Option TestedTerm) → i < length net.nodes → slice_get net.nodes i ≡ Some n → seen ≡ ids → u ≡ node_term rule net registers x t seen overflowed n → now ≡ ids ++ u.id ∷ []
+    → old ++ tests_from rule net registers x (drop i net.nodes) (record { terms = t; ids = ids; overflowed = overflowed }) ≡ start → fit_tests n entry ≡ node_tests rule net.format t seen n → new ≡ old ++ fit_tests n entry
+    → new ++ tests_from rule net registers x (drop (i + 1) net.nodes) (record { terms = u.terms; ids = now; overflowed = u.overflowed }) ≡ start
+entry_step rule net registers x i t ids overflowed start n u seen now old new entry l e g b p h m a =
+    let q : SampleTerms = record { terms = t; ids = ids; overflowed = overflowed } in
     let tests : List TermId → List (Option TestedTerm) = λ js. node_tests rule net.format t js n in
-    let rest : List TermId → Unrolled → List (Option TestedTerm) = λ js v. tests_from rule net registers x (drop (i + 1) net.nodes) (record { terms = v.terms; ids = js; broken = v.broken }) in
-    let made = node_term rule net registers x t ids broken n in
-    let b2 : u ≡ made = b ∙ ap (λ (js : List TermId). node_term rule net registers x t js broken n) g in
+    let rest : List TermId → Unrolled → List (Option TestedTerm) = λ js v. tests_from rule net registers x (drop (i + 1) net.nodes) (record { terms = v.terms; ids = js; overflowed = v.overflowed }) in
+    let made = node_term rule net registers x t ids overflowed n in
+    let b2 : u ≡ made = b ∙ ap (λ (js : List TermId). node_term rule net registers x t js overflowed n) g in
     let a2 : new ≡ old ++ tests ids = a ∙ ap (λ (ys : List (Option TestedTerm)). old ++ ys) (m ∙ ap tests g) in
     let d : drop i net.nodes ≡ n ∷ drop (i + 1) net.nodes = drop_more net.nodes i node.Input l ∙ ap (λ (o : Node). o ∷ drop (i + 1) net.nodes) (got net.nodes i node.Input n e) in
     ap (λ (js : List TermId). new ++ rest js u) p
@@ -169,18 +169,18 @@ entry_step rule net registers x i t ids broken start n u seen now old new entry 
     ∙ (append_assoc old (tests ids) (rest (ids ++ made.id ∷ []) made)
     ∙ (ap (λ (ns : List Node). old ++ tests_from rule net registers x ns q) (sym d) ∙ h))))
 
-pub tests_step : (net : Net) (xs : List TermId) (i : ℕ) (x : TermId) (t : TermsView) (registers seen : List TermId) (broken : TermId) (start : List (Option TestedTerm)) (s : SampleTerms) (shown next : List TermId) (old new more : List (Option TestedTerm))
-    → i < length xs → x ≡ term_at xs i → old ++ run_tests net (drop i xs) (record { terms = t; registers = registers; broken = broken }) ≡ start → seen ≡ registers → s ≡ sample_terms fit_rule.Tested net seen x t broken
-    → shown ≡ s.ids → next ≡ map (term_at shown) net.next → more ≡ sample_tests fit_rule.Tested net seen x t broken → new ≡ old ++ more
-    → new ++ run_tests net (drop (i + 1) xs) (record { terms = s.terms; registers = next; broken = s.broken }) ≡ start
-tests_step net xs i x t registers seen broken start s shown next old new more l e h g b v n m a =
-    let q : RunTerms = record { terms = t; registers = registers; broken = broken } in
-    let tests : List TermId → List (Option TestedTerm) = λ js. sample_tests fit_rule.Tested net js x t broken in
-    let rest : List TermId → SampleTerms → List (Option TestedTerm) = λ js w. run_tests net (drop (i + 1) xs) (record { terms = w.terms; registers = js; broken = w.broken }) in
-    let made = sample_terms fit_rule.Tested net registers x t broken in
+pub tests_step : (net : Net) (xs : List TermId) (i : ℕ) (x : TermId) (t : TermsView) (registers seen : List TermId) (overflowed : TermId) (start : List (Option TestedTerm)) (s : SampleTerms) (shown next : List TermId) (old new more : List (Option TestedTerm))
+    → i < length xs → x ≡ term_at xs i → old ++ run_tests net (drop i xs) (record { terms = t; registers = registers; overflowed = overflowed }) ≡ start → seen ≡ registers → s ≡ sample_terms fit_rule.Tested net seen x t overflowed
+    → shown ≡ s.ids → next ≡ map (term_at shown) net.next → more ≡ sample_tests fit_rule.Tested net seen x t overflowed → new ≡ old ++ more
+    → new ++ run_tests net (drop (i + 1) xs) (record { terms = s.terms; registers = next; overflowed = s.overflowed }) ≡ start
+tests_step net xs i x t registers seen overflowed start s shown next old new more l e h g b v n m a =
+    let q : RunTerms = record { terms = t; registers = registers; overflowed = overflowed } in
+    let tests : List TermId → List (Option TestedTerm) = λ js. sample_tests fit_rule.Tested net js x t overflowed in
+    let rest : List TermId → SampleTerms → List (Option TestedTerm) = λ js w. run_tests net (drop (i + 1) xs) (record { terms = w.terms; registers = js; overflowed = w.overflowed }) in
+    let made = sample_terms fit_rule.Tested net registers x t overflowed in
     let d : drop i xs ≡ x ∷ drop (i + 1) xs = drop_more xs i (record { 0 = 0 }) l ∙ ap (λ (y : TermId). y ∷ drop (i + 1) xs) (sym e) in
     let n2 : next ≡ map (term_at s.ids) net.next = n ∙ ap (λ (js : List TermId). map (term_at js) net.next) v in
-    let b2 : s ≡ made = b ∙ ap (λ (js : List TermId). sample_terms fit_rule.Tested net js x t broken) g in
+    let b2 : s ≡ made = b ∙ ap (λ (js : List TermId). sample_terms fit_rule.Tested net js x t overflowed) g in
     let a2 : new ≡ old ++ tests registers = a ∙ ap (λ (ys : List (Option TestedTerm)). old ++ ys) (m ∙ ap tests g) in
     ap (λ (js : List TermId). new ++ rest js s) n2
     ∙ (ap (λ (w : SampleTerms). new ++ rest (map (term_at w.ids) net.next) w) b2

@@ -1,4 +1,4 @@
--- Whole samples: their terms spell their values, and the flag says whether a value was no word.
+-- Whole samples: their terms spell their values, and a bit says whether a value was no word.
 use Rattle.std.proofs.Common.{◌≡◌, ℕ, zero, suc, ◌+◌, ◌<◌, ◌≤◌, Bool, false, ◌||◌, inl, inr, List, [], ◌∷◌, ◌++◌, refl, arith, ap, sym, subst, ◌∙◌, length}
 use Rattle.std.specs.Prelude.{slice_index_or}
 use Rattle.std.specs.List.{All}
@@ -26,7 +26,7 @@ use Rattle.dsv_unroll.specs.Goals.{SampleTerms, with_node_term, nodes_from, samp
 use Rattle.dsv_unroll.specs.Ready.{AreReady}
 use Rattle.dsv_unroll.specs.Rules.{Unrolled, term_at, bound_at, node_term}
 use Rattle.dsv_unroll.proofs.NodeTerms.{NodeAdds, node_adds, ready_with}
-use Rattle.dsv_unroll.proofs.Follows.{Means, means_later, Follows, NodeMeans, NodeKnown, node_flag, node_means}
+use Rattle.dsv_unroll.proofs.Follows.{Means, means_later, Follows, NodeMeans, NodeKnown, node_overflow, node_means}
 
 -- ---- what is known of a sample's values
 -- a product stands in a sample as one
@@ -69,23 +69,23 @@ sample_known net rs x n ns s h w e l =
     }
 
 -- ---- node after node
--- the flag after these nodes
-abbrev pub flag_from : FitRule → Format → List ℤ → ℤ → Bool → List Node → Sample → Bool
-flag_from rule f rs x b [] s = b
-flag_from rule f rs x b (n ∷ ns) s = flag_from rule f rs x (b || node_flag rule (width f) s.values n) ns (after_node f rs x s n)
+-- the truth of the bit after these nodes
+abbrev pub overflow_from : FitRule → Format → List ℤ → ℤ → Bool → List Node → Sample → Bool
+overflow_from rule f rs x b [] s = b
+overflow_from rule f rs x b (n ∷ ns) s = overflow_from rule f rs x (b || node_overflow rule (width f) s.values n) ns (after_node f rs x s n)
 
 pub record SampleFollows (rule : FitRule) (values : List ℕ) (net : Net) (rs : List ℤ) (x : ℤ) (registers : List TermId) (input : TermId) (t : TermsView) (s : SampleTerms) (vals : List ℤ) (b : Bool) : Type 0 where
-  pub ready : AreReady net registers input s.terms s.ids s.broken
-  pub follows : Follows values rs x registers input s.terms s.ids s.broken vals b
+  pub ready : AreReady net registers input s.terms s.ids s.overflowed
+  pub follows : Follows values rs x registers input s.terms s.ids s.overflowed vals b
   pub kept : KeepsTerms t s.terms
   pub inputs : s.terms.inputs ≡ t.inputs
 
-pub follows_with : (values : List ℕ) (net : Net) (rs : List ℤ) (x : ℤ) (registers : List TermId) (input : TermId) (t : TermsView) (ids : List TermId) (broken : TermId) (u : Unrolled) (vals : List ℤ) (v : ℤ) (b now : Bool) → AreReady net registers input t ids broken
-    → Follows values rs x registers input t ids broken vals b → NodeAdds t u → NodeMeans values u v b now → Follows values rs x registers input u.terms (ids ++ u.id ∷ []) u.broken (vals ++ v ∷ []) now
-follows_with values net rs x registers input t ids broken u vals v b now r f a m =
+pub follows_with : (values : List ℕ) (net : Net) (rs : List ℤ) (x : ℤ) (registers : List TermId) (input : TermId) (t : TermsView) (ids : List TermId) (overflowed : TermId) (u : Unrolled) (vals : List ℤ) (v : ℤ) (b now : Bool) → AreReady net registers input t ids overflowed
+    → Follows values rs x registers input t ids overflowed vals b → NodeAdds t u → NodeMeans values u v b now → Follows values rs x registers input u.terms (ids ++ u.id ∷ []) u.overflowed (vals ++ v ∷ []) now
+follows_with values net rs x registers input t ids overflowed u vals v b now r f a m =
     record {
       count = length_push ids u.id ∙ (ap (λ (k : ℕ). k + 1) f.count ∙ sym (length_push vals v));
-      flag = m.flag;
+      overflows = m.overflows;
       nodes = λ e i p. elim (cases_lt i (length ids)) [
         | inl less ↦ (let c = f.count in rw (get_or_append_left ids (u.id ∷ []) (record { 0 = 0 }) i less, get_or_append_left vals (v ∷ []) (pos 0) i (omega arith)) (means_later t u.terms values (term_at ids i) (at vals i) a.kept (r.nodes i less).stands (f.nodes (m.before e) i less)))
         | inr more ↦ (let k : length ids ≡ i = omega (arith, length_push ids u.id) in let c = f.count in rw (get_or_push ids u.id (record { 0 = 0 }) i k, get_or_push vals v (pos 0) i (sym c ∙ k)) (m.value e))
@@ -96,34 +96,34 @@ follows_with values net rs x registers input t ids broken u vals v b now r f a m
 
 pub nodes_follow : (rule : FitRule) (values : List ℕ) (net : Net) (rs : List ℤ) (x : ℤ) (registers : List TermId) (input : TermId) (ns : List Node) (s : SampleTerms) (q : Sample) (b : Bool) → IsNetlist net → AreWords net rs x
     → sample_from net.format rs x ns q ≡ sample_of net.format rs x net.nodes → length s.ids + length ns ≡ length net.nodes → AllNameBack (length s.ids) ns → All (ReadsBelow (length registers)) ns
-    → AreReady net registers input s.terms s.ids s.broken → Follows values rs x registers input s.terms s.ids s.broken q.values b
-    → SampleFollows rule values net rs x registers input s.terms (nodes_from rule net registers input ns s) (sample_from net.format rs x ns q).values (flag_from rule net.format rs x b ns q)
+    → AreReady net registers input s.terms s.ids s.overflowed → Follows values rs x registers input s.terms s.ids s.overflowed q.values b
+    → SampleFollows rule values net rs x registers input s.terms (nodes_from rule net registers input ns s) (sample_from net.format rs x ns q).values (overflow_from rule net.format rs x b ns q)
 nodes_follow rule values net rs x registers input [] s q b h w e l bk rd r f = record { ready = r; follows = f; kept = KeepsTerms-self s.terms; inputs = refl }
 nodes_follow rule values net rs x registers input (n ∷ ns) s q b h w e l bk rd r f =
-    let u = node_term rule net registers input s.terms s.ids s.broken n in
+    let u = node_term rule net registers input s.terms s.ids s.overflowed n in
     let v = node_value net.format rs x q.values n in
     let c = f.count in
     let here : length s.ids < length net.nodes = omega arith in
     let reads = All-head (ReadsBelow (length registers)) n ns rd in
-    let a = node_adds rule net registers input s.terms s.ids s.broken n h r here bk.0 reads in
+    let a = node_adds rule net registers input s.terms s.ids s.overflowed n h r here bk.0 reads in
     let k = sample_known net rs x n ns q h w e (omega arith) in
-    let m = node_means rule values net rs x registers input s.terms s.ids s.broken q.values b n h r f here bk.0 reads k in
-    let now = b || node_flag rule (width net.format) q.values n in
+    let m = node_means rule values net rs x registers input s.terms s.ids s.overflowed q.values b n h r f here bk.0 reads k in
+    let now = b || node_overflow rule (width net.format) q.values n in
     let more : length (s.ids ++ u.id ∷ []) ≡ length s.ids + 1 = length_push s.ids u.id in
     let rest = nodes_follow rule values net rs x registers input ns (with_node_term rule net registers input s n) (after_node net.format rs x q n) now h w e (omega arith)
     (subst (λ (j : ℕ). AllNameBack j ns) (sym more) bk.1) (All-tail (ReadsBelow (length registers)) n ns rd)
-    (ready_with net registers input s.terms s.ids s.broken u r a) (follows_with values net rs x registers input s.terms s.ids s.broken u q.values v b now r f a m) in
+    (ready_with net registers input s.terms s.ids s.overflowed u r a) (follows_with values net rs x registers input s.terms s.ids s.overflowed u q.values v b now r f a m) in
     record { ready = rest.ready; follows = rest.follows; kept = KeepsTerms-both s.terms u.terms _ a.kept rest.kept; inputs = rest.inputs ∙ a.inputs }
 
 -- ---- a whole sample
-pub empty_follows : (values : List ℕ) (rs : List ℤ) (x : ℤ) (registers : List TermId) (input : TermId) (t : TermsView) (broken : TermId) (b : Bool) → word_of t values broken ≡ bit_of b
-    → (b ≡ false → (k : ℕ) → k < length registers → Means t values (term_at registers k) (at rs k)) → Means t values input x → Follows values rs x registers input t [] broken [] b
-empty_follows values rs x registers input t broken b w m i = record { count = refl; flag = w; nodes = λ e i p. absurd (omega arith); registers_mean = m; input_means = i }
+pub empty_follows : (values : List ℕ) (rs : List ℤ) (x : ℤ) (registers : List TermId) (input : TermId) (t : TermsView) (overflowed : TermId) (b : Bool) → word_of t values overflowed ≡ bit_of b
+    → (b ≡ false → (k : ℕ) → k < length registers → Means t values (term_at registers k) (at rs k)) → Means t values input x → Follows values rs x registers input t [] overflowed [] b
+empty_follows values rs x registers input t overflowed b w m i = record { count = refl; overflows = w; nodes = λ e i p. absurd (omega arith); registers_mean = m; input_means = i }
 
-pub sample_follows : (rule : FitRule) (values : List ℕ) (net : Net) (rs : List ℤ) (x : ℤ) (registers : List TermId) (input : TermId) (t : TermsView) (broken : TermId) (b : Bool) → IsNetlist net → AreWords net rs x
-    → AreReady net registers input t [] broken → word_of t values broken ≡ bit_of b → (b ≡ false → (k : ℕ) → k < length registers → Means t values (term_at registers k) (at rs k)) → Means t values input x
-    → SampleFollows rule values net rs x registers input t (sample_terms rule net registers input t broken) (sample_of net.format rs x net.nodes).values (flag_from rule net.format rs x b net.nodes (record { values = []; exact = [] }))
+pub sample_follows : (rule : FitRule) (values : List ℕ) (net : Net) (rs : List ℤ) (x : ℤ) (registers : List TermId) (input : TermId) (t : TermsView) (overflowed : TermId) (b : Bool) → IsNetlist net → AreWords net rs x
+    → AreReady net registers input t [] overflowed → word_of t values overflowed ≡ bit_of b → (b ≡ false → (k : ℕ) → k < length registers → Means t values (term_at registers k) (at rs k)) → Means t values input x
+    → SampleFollows rule values net rs x registers input t (sample_terms rule net registers input t overflowed) (sample_of net.format rs x net.nodes).values (overflow_from rule net.format rs x b net.nodes (record { values = []; exact = [] }))
 unfolding sample_terms
-sample_follows rule values net rs x registers input t broken b h w r g m i =
-    nodes_follow rule values net rs x registers input net.nodes (record { terms = t; ids = []; broken = broken }) (record { values = []; exact = [] }) b h w refl (omega arith) h.backwards (rw r.count h.registers) r
-    (empty_follows values rs x registers input t broken b g m i)
+sample_follows rule values net rs x registers input t overflowed b h w r g m i =
+    nodes_follow rule values net rs x registers input net.nodes (record { terms = t; ids = []; overflowed = overflowed }) (record { values = []; exact = [] }) b h w refl (omega arith) h.backwards (rw r.count h.registers) r
+    (empty_follows values rs x registers input t overflowed b g m i)

@@ -38,7 +38,7 @@ first_state s = record { terms = s.terms; registers = s.registers; inside = [] }
 
 -- What a goal begins with: these are the words in the registers and the values of the inputs, and the tests hold where q does.
 pub record SetStands (net : Net) (values : List ℕ) (s : SetStart) (rs vs : List ℤ) (q : Bool) : Type 0 where
-  pub states : StatesStand net values s.nought s.terms s.inputs vs (first_state s) rs []
+  pub states : StatesStand net values s.zero_bit s.terms s.inputs vs (first_state s) rs []
   pub tests_bits : AreBits s.terms s.tests
   pub tests : TestsMean s.terms values s.tests q
 
@@ -48,7 +48,7 @@ pub base_joins : (net : Net) (values : List ℕ) (candidate : Candidate) (s : Se
 base_joins net values candidate s rs vs q h shaped c =
     let truths = insides net candidate rs vs in
     let states = states_of net candidate s in
-    let st = states_stand net values s.nought candidate s.terms s.inputs vs (first_state s) rs [] h shaped c.states in
+    let st = states_stand net values s.zero_bit candidate s.terms s.inputs vs (first_state s) rs [] h shaped c.states in
     let whole = with_node states.terms (Constant 1 1) in
     let g = constant_gives states.terms 1 1 st.ready.sound (record { some = omega arith; narrow = omega arith }) (omega arith) in
     let bits = bits_later states.terms whole.terms states.inside g.adds.kept st.ready.inside_bits in
@@ -100,7 +100,7 @@ step_joins net values candidate s rs vs q h shaped e c =
     let d = candidate.depth in
     let truths = insides net candidate rs vs in
     let states = states_of net candidate s in
-    let st = states_stand net values s.nought candidate s.terms s.inputs vs (first_state s) rs [] h shaped c.states in
+    let st = states_stand net values s.zero_bit candidate s.terms s.inputs vs (first_state s) rs [] h shaped c.states in
     let below : d < length states.inside = (let m = st.inside_mean.count in let n = insides-length net candidate rs vs in omega arith) in
     let last = term_at states.inside d in
     let bit = st.ready.inside_bits.stand d below in
@@ -120,16 +120,16 @@ step_joins net values candidate s rs vs q h shaped e c =
 
 -- ---- the safe sentence
 -- the run from the registers of a start, after more terms
-pub run_ready : (net : Net) (t u : TermsView) (nought : TermId) (registers inputs : List TermId) → AreStatesReady net t nought registers [] → AreAllValues t inputs → AreSound u → KeepsTerms t u → AreRunReady net registers inputs u nought
-run_ready net t u nought registers inputs r i s k =
-    let bit = bits_kept t u nought 1 k r.nought_bit in
+pub run_ready : (net : Net) (t u : TermsView) (zero_bit : TermId) (registers inputs : List TermId) → AreStatesReady net t zero_bit registers [] → AreAllValues t inputs → AreSound u → KeepsTerms t u → AreRunReady net registers inputs u zero_bit
+run_ready net t u zero_bit registers inputs r i s k =
+    let bit = bits_kept t u zero_bit 1 k r.zero_has_bit in
     record {
       sound = s;
       count = r.count;
       registers_stand = (all_later t u registers k r.registers_stand).stand;
       inputs_stand = (all_later t u inputs k i).stand;
-      flag_stands = bit.stands;
-      flag_bit = bit.width;
+      overflowed_stands = bit.stands;
+      overflowed_bit = bit.width;
     }
 
 pub safe_joins : (net : Net) (values : List ℕ) (candidate : Candidate) (s : SetStart) (rs vs : List ℤ) (q : Bool) → IsNetlist net → is_shaped (length net.next) candidate ≡ true → SetStands net values s rs vs q
@@ -137,24 +137,24 @@ pub safe_joins : (net : Net) (values : List ℕ) (candidate : Candidate) (s : Se
 safe_joins net values candidate s rs vs q h shaped c =
     let st = c.states in
     let r = st.ready in
-    let a = set_term (width net.format) s.nought s.terms candidate s.registers in
-    let says = state_says net candidate s.terms s.nought s.registers [] h shaped r in
+    let a = set_term (width net.format) s.zero_bit s.terms candidate s.registers in
+    let says = state_says net candidate s.terms s.zero_bit s.registers [] h shaped r in
     let k = says.adds.kept in
-    let start : RunTerms = record { terms = a.terms; registers = s.registers; broken = s.nought } in
+    let start : RunTerms = record { terms = a.terms; registers = s.registers; overflowed = s.zero_bit } in
     let run = run_from net s.inputs start in
-    let ready = run_ready net s.terms a.terms s.nought s.registers s.inputs r st.inputs_stand says.adds.sound k in
+    let ready = run_ready net s.terms a.terms s.zero_bit s.registers s.inputs r st.inputs_stand says.adds.sound k in
     let mean = mean_later s.terms a.terms values s.registers rs k r.registers_stand st.registers_mean in
-    let f = run_follows net values s.inputs vs start rs false h (sym st.registers_mean.count ∙ r.count) st.words ready (k.words values s.nought r.nought_bit.stands ∙ st.nought_word) (λ e. record { each = mean.each })
+    let f = run_follows net values s.inputs vs start rs false h (sym st.registers_mean.count ∙ r.count) st.words ready (k.words values s.zero_bit r.zero_has_bit.stands ∙ st.zero_bit_word) (λ e. record { each = mean.each })
     (inputs_mean_later net.format s.terms a.terms values s.inputs vs k (λ i p. (st.inputs_stand.stand i p).stands) st.inputs_mean) in
     let l = later a.terms run.terms a.id f.kept says.adds.stands in
     let word : word_of run.terms values a.id ≡ bit_of (is_inside candidate rs) =
-    l.word values ∙ says.word values rs (record { nought_means = st.nought_means; registers_mean = st.registers_mean; words = st.words }) in
-    let g = and_gives run.terms run.broken a.id f.ready.sound f.stands l.stands (f.bit ∙ sym (l.width ∙ says.adds.width)) in
-    let b = with_node run.terms (And run.broken a.id) in
-    let one = Adds-width run.terms b.terms b.id (width_of run.terms run.broken) 1 g.adds f.bit in
+    l.word values ∙ says.word values rs (record { zero_bit_means = st.zero_bit_means; registers_mean = st.registers_mean; words = st.words }) in
+    let g = and_gives run.terms run.overflowed a.id f.ready.sound f.stands l.stands (f.bit ∙ sym (l.width ∙ says.adds.width)) in
+    let b = with_node run.terms (And run.overflowed a.id) in
+    let one = Adds-width run.terms b.terms b.id (width_of run.terms run.overflowed) 1 g.adds f.bit in
     record {
       adds = adds_after s.terms run.terms b.terms b.id 1 (f.inputs ∙ says.adds.inputs) (KeepsTerms-both s.terms a.terms run.terms k f.kept) one;
-      word = g.word values ∙ (ap (λ (w : Word). and_of w (word_of run.terms values a.id)) f.flag ∙ (ap (and_of (bit_of (breaks_from net false rs vs))) word ∙ and-bits (breaks_from net false rs vs) (is_inside candidate rs)));
+      word = g.word values ∙ (ap (λ (w : Word). and_of w (word_of run.terms values a.id)) f.overflows ∙ (ap (and_of (bit_of (breaks_from net false rs vs))) word ∙ and-bits (breaks_from net false rs vs) (is_inside candidate rs)));
     }
 
 -- ---- each sentence

@@ -98,12 +98,12 @@ set_tells net low high candidate part values net_ l h shaped v =
     let st = goal_stands net low high candidate part values net_ l h shaped fit in
     let rs = start_words net part values in
     let zs = words_at n values (start_inputs net part) samples in
-    let flag = is_broken net candidate part rs zs && all_in_range low high true zs in
+    let truth = is_broken net candidate part rs zs && all_in_range low high true zs in
     let k = count_of net candidate part in
     let d = words_decide net low high candidate part rs zs (shaped_from (length net.next) candidate shaped) (are_start net part values (λ j p. fit j (omega arith))) (words_at-length n values (start_inputs net part) samples) in
     let e : all_words part rs zs ≡ spelled_words net.format values =
     sym (in_order net part values samples) ∙ (ap (words_at n values 0) (k ∙ sym c) ∙ words_map net.format values values 0 (λ i p. ap (slice_index values) (let z : i ≡ 0 + i = omega arith in z))) in
-    subst (λ (ys : List ℤ). Tells (word_of g.terms values g.id) (BreaksPart net low high candidate part ys)) e (tells_by (word_of g.terms values g.id) (BreaksPart net low high candidate part (all_words part rs zs)) flag st.word d.0 d.1)
+    subst (λ (ys : List ℤ). Tells (word_of g.terms values g.id) (BreaksPart net low high candidate part ys)) e (tells_by (word_of g.terms values g.id) (BreaksPart net low high candidate part (all_words part rs zs)) truth st.word d.0 d.1)
 
 -- ---- as the code has it
 -- the bit of a sentence, and the tests after it

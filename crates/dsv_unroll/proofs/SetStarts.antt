@@ -27,8 +27,8 @@ use Rattle.dsv_unroll.proofs.InputTests.{bits_kept, bit_added, no_bits_mean, Inp
 use Rattle.dsv_unroll.proofs.ValueTerms.{value_of}
 use Rattle.dsv_unroll.proofs.CycleTerms.{all_later, mean_later}
 use Rattle.dsv_unroll.proofs.CycleRuns.{zero_word}
-use Rattle.dsv_unroll.proofs.CycleGoal.{StartsDone, starts_stand, nought_starts}
-use Rattle.dsv_unroll.proofs.Breaking.{none_sound, none_stand, inputs_mean, nought_spelled, word_width, words_at-length, same_items}
+use Rattle.dsv_unroll.proofs.CycleGoal.{StartsDone, starts_stand, zero_bit_starts}
+use Rattle.dsv_unroll.proofs.Breaking.{none_sound, none_stand, inputs_mean, zero_bit_spelled, word_width, words_at-length, same_items}
 use Rattle.dsv_unroll.proofs.SetBreaks.{SetStands}
 use Rattle.dsv_unroll.proofs.SetWords.{AreStart}
 
@@ -45,16 +45,16 @@ start_inputs net set_part.Safe = length net.next
 
 -- ---- the registers
 -- the zero in one bit that a goal begins with
-pub record NoughtStands (values : List ℕ) (t : TermsView) (nought : TermId) : Type 0 where
-  pub bit : HasBits t nought 1
-  pub word : word_of t values nought ≡ bit_of false
-  pub means : Means t values nought (pos 0)
+pub record ZeroBitStands (values : List ℕ) (t : TermsView) (zero_bit : TermId) : Type 0 where
+  pub bit : HasBits t zero_bit 1
+  pub word : word_of t values zero_bit ≡ bit_of false
+  pub means : Means t values zero_bit (pos 0)
 
-nought_stands : (values : List ℕ) → let u = with_node no_terms (Constant 1 0) in NoughtStands values u.terms u.id
-nought_stands values =
+zero_bit_stands : (values : List ℕ) → let u = with_node no_terms (Constant 1 0) in ZeroBitStands values u.terms u.id
+zero_bit_stands values =
     let u = with_node no_terms (Constant 1 0) in
     let g = constant_gives no_terms 1 0 none_sound (record { some = omega arith; narrow = omega arith }) (omega arith) in
-    record { bit = bit_added no_terms u.terms u.id g.adds; word = g.word values; means = means_added u.terms values u.id 1 (pos 0) g.adds.width (record { word = g.word values; fits = nought_spelled }) }
+    record { bit = bit_added no_terms u.terms u.id g.adds; word = g.word values; means = means_added u.terms values u.id 1 (pos 0) g.adds.width (record { word = g.word values; fits = zero_bit_spelled }) }
 
 no_inputs : length (with_node no_terms (Constant 1 0)).terms.inputs ≡ 0
 no_inputs = ap length (constant_gives no_terms 1 0 none_sound (record { some = omega arith; narrow = omega arith }) (omega arith)).adds.inputs
@@ -69,13 +69,13 @@ free_registers net values l =
     let end = starts_from n m first in
     let zero = no_inputs in
     let none : 0 + m ≡ m = omega arith in
-    let d = starts_stand net.format values u.terms m first [] (λ j p. l j (omega arith)) (nought_starts net.format values 0) in
+    let d = starts_stand net.format values u.terms m first [] (λ j p. l j (omega arith)) (zero_bit_starts net.format values 0) in
     let e : StartsDone net.format values u.terms end (words_at n values 0 m) (0 + m) = subst (λ (k : ℕ). StartsDone net.format values u.terms end (words_at n values k m) (k + m)) zero d in
     subst (λ (k : ℕ). StartsDone net.format values u.terms end (words_at n values 0 m) k) none e
 
 registers_done : (net : Net) (part : SetPart) (values : List ℕ) → ((j : ℕ) → j < start_inputs net part → slice_index values j < 2 ^ width net.format)
     → let u = with_node no_terms (Constant 1 0) in StartsDone net.format values u.terms (registers_of net u.terms u.id part) (start_words net part values) (start_inputs net part)
-registers_done net set_part.Base values l = record { stands = nought_starts net.format values (length net.next); inputs = no_inputs }
+registers_done net set_part.Base values l = record { stands = zero_bit_starts net.format values (length net.next); inputs = no_inputs }
 registers_done net set_part.Step values l = free_registers net values l
 registers_done net set_part.Safe values l = free_registers net values l
 
@@ -96,7 +96,7 @@ start_stands net low high samples part values l h f =
     let n = width net.format in
     let first = start_inputs net part in
     let u = with_node no_terms (Constant 1 0) in
-    let nought = nought_stands values in
+    let zero_bit = zero_bit_stands values in
     let registers = registers_of net u.terms u.id part in
     let rs = start_words net part values in
     let d = registers_done net part values (λ j p. f j (omega arith)) in
@@ -109,7 +109,7 @@ start_stands net low high samples part values l h f =
     let s : InputsStand n low high values registers.terms i zs q = subst (λ (k : ℕ). InputsStand n low high values registers.terms i (words_at n values k samples) (all_in_range low high true (words_at n values k samples))) d.inputs all in
     let k = s.kept in
     let kn = r.kept in
-    let bit = bits_kept u.terms registers.terms u.id 1 kn nought.bit in
+    let bit = bits_kept u.terms registers.terms u.id 1 kn zero_bit.bit in
     let many : length rs ≡ length net.next = (are_start net part values (λ j p. f j (omega arith))).many in
     let small = width_small net.format in
     record {
@@ -117,15 +117,15 @@ start_stands net low high samples part values l h f =
         states = record {
           ready = record {
             sound = s.sound;
-            nought_bit = bits_kept registers.terms i.terms u.id 1 k bit;
+            zero_has_bit = bits_kept registers.terms i.terms u.id 1 k bit;
             registers_stand = all_later registers.terms i.terms registers.ids k r.stand;
             count = r.mean.count ∙ many;
             inside_bits = record { stand = λ j p. absurd (omega arith) };
           };
           inputs = refl;
           kept = KeepsTerms-self i.terms;
-          nought_word = k.words values u.id bit.stands ∙ (kn.words values u.id nought.bit.stands ∙ nought.word);
-          nought_means = means_later registers.terms i.terms values u.id (pos 0) k bit.stands (means_later u.terms registers.terms values u.id (pos 0) kn nought.bit.stands nought.means);
+          zero_bit_word = k.words values u.id bit.stands ∙ (kn.words values u.id zero_bit.bit.stands ∙ zero_bit.word);
+          zero_bit_means = means_later registers.terms i.terms values u.id (pos 0) k bit.stands (means_later u.terms registers.terms values u.id (pos 0) kn zero_bit.bit.stands zero_bit.means);
           registers_mean = mean_later registers.terms i.terms values registers.ids rs k r.stand r.mean;
           words = r.words;
           inside_mean = no_bits_mean i.terms values;

@@ -247,9 +247,9 @@ combination_means f values (c ∷ cs) (register ∷ registers) (w ∷ rs) s z r 
     subst (SumMeans values (combination_from (width f) next cs registers)) (plus_assoc z (c *ℤ w) (combination cs rs)) rest
 
 -- before the first register
-pub sum_ready : (t : TermsView) (nought : TermId) (cs : List ℤ) (registers : List TermId) → IsSetReady t nought registers → length cs ≡ length registers → list_all is_small cs ≡ true → IsSumReady (record { terms = t; id = nought; bound = 0 }) cs registers
-sum_ready t nought cs registers r e h =
-    record { sound = r.sound; value = bit_value t nought r.nought_bit; registers_stand = r.registers_stand; small = h; room = (let few = r.few in omega arith) }
+pub sum_ready : (t : TermsView) (zero_bit : TermId) (cs : List ℤ) (registers : List TermId) → IsSetReady t zero_bit registers → length cs ≡ length registers → list_all is_small cs ≡ true → IsSumReady (record { terms = t; id = zero_bit; bound = 0 }) cs registers
+sum_ready t zero_bit cs registers r e h =
+    record { sound = r.sound; value = bit_value t zero_bit r.zero_has_bit; registers_stand = r.registers_stand; small = h; room = (let few = r.few in omega arith) }
 
 -- ---- as the code has it
 pub passes_at : {A : Type 0} (p : A → Bool) (xs : List A) (k : ℕ) (d : A) → list_all p xs ≡ true → k < length xs → p (get_or xs k d) ≡ true

@@ -116,22 +116,22 @@ at_most_holds t id bound s v m =
 
 -- ---- what a test of registers says
 -- terms that spell the registers' words, and a zero
-pub record SetMeans (f : Format) (t : TermsView) (values : List ℕ) (nought : TermId) (registers : List TermId) (rs : List ℤ) : Type 0 where
-  pub nought_means : Means t values nought (pos 0)
+pub record SetMeans (f : Format) (t : TermsView) (values : List ℕ) (zero_bit : TermId) (registers : List TermId) (rs : List ℤ) : Type 0 where
+  pub zero_bit_means : Means t values zero_bit (pos 0)
   pub registers_mean : AllMean t values registers rs
   pub words : All (IsWord f) rs
 
-pub set_ready_later : (t u : TermsView) (nought : TermId) (registers : List TermId) → AreSound u → KeepsTerms t u → IsSetReady t nought registers → IsSetReady u nought registers
-set_ready_later t u nought registers s k r = record { sound = s; nought_bit = bits_kept t u nought 1 k r.nought_bit; registers_stand = all_later t u registers k r.registers_stand; few = r.few }
+pub set_ready_later : (t u : TermsView) (zero_bit : TermId) (registers : List TermId) → AreSound u → KeepsTerms t u → IsSetReady t zero_bit registers → IsSetReady u zero_bit registers
+set_ready_later t u zero_bit registers s k r = record { sound = s; zero_has_bit = bits_kept t u zero_bit 1 k r.zero_has_bit; registers_stand = all_later t u registers k r.registers_stand; few = r.few }
 
-set_means_later : (f : Format) (t u : TermsView) (values : List ℕ) (nought : TermId) (registers : List TermId) (rs : List ℤ) → KeepsTerms t u → IsSetReady t nought registers → SetMeans f t values nought registers rs → SetMeans f u values nought registers rs
-set_means_later f t u values nought registers rs k r m =
-    record { nought_means = means_later t u values nought (pos 0) k r.nought_bit.stands m.nought_means; registers_mean = mean_later t u values registers rs k r.registers_stand m.registers_mean; words = m.words }
+set_means_later : (f : Format) (t u : TermsView) (values : List ℕ) (zero_bit : TermId) (registers : List TermId) (rs : List ℤ) → KeepsTerms t u → IsSetReady t zero_bit registers → SetMeans f t values zero_bit registers rs → SetMeans f u values zero_bit registers rs
+set_means_later f t u values zero_bit registers rs k r m =
+    record { zero_bit_means = means_later t u values zero_bit (pos 0) k r.zero_has_bit.stands m.zero_bit_means; registers_mean = mean_later t u values registers rs k r.registers_stand m.registers_mean; words = m.words }
 
 -- a bit that says something of the registers
-pub record SaysOf (f : Format) (t : TermsView) (nought : TermId) (registers : List TermId) (said : List ℤ → Bool) (b : Built) : Type 0 where
+pub record SaysOf (f : Format) (t : TermsView) (zero_bit : TermId) (registers : List TermId) (said : List ℤ → Bool) (b : Built) : Type 0 where
   pub adds : Adds t b.terms b.id 1
-  pub word : (values : List ℕ) (rs : List ℤ) → SetMeans f t values nought registers rs → word_of b.terms values b.id ≡ bit_of (said rs)
+  pub word : (values : List ℕ) (rs : List ℤ) → SetMeans f t values zero_bit registers rs → word_of b.terms values b.id ≡ bit_of (said rs)
 
 abbrev pub fulfils : List ℤ → Inequality → Bool
 fulfils rs i = int_le (combination i.coefficients.items rs) i.bound
@@ -143,14 +143,14 @@ is_inside candidate rs = list_all (fulfils rs) candidate.inequalities.items
 none_plus : (z : ℤ) → pos 0 +ℤ z ≡ z
 none_plus z = omega (arith, ints)
 
-pub inequality_says : (f : Format) (t : TermsView) (nought : TermId) (registers : List TermId) (i : Inequality) → IsSetReady t nought registers → is_fit_for (length registers) i ≡ true
-    → SaysOf f t nought registers (λ (rs : List ℤ). fulfils rs i) (inequality_term (width f) nought registers t i)
-inequality_says f t nought registers i r h =
+pub inequality_says : (f : Format) (t : TermsView) (zero_bit : TermId) (registers : List TermId) (i : Inequality) → IsSetReady t zero_bit registers → is_fit_for (length registers) i ≡ true
+    → SaysOf f t zero_bit registers (λ (rs : List ℤ). fulfils rs i) (inequality_term (width f) zero_bit registers t i)
+inequality_says f t zero_bit registers i r h =
     let cs = i.coefficients.items in
     let fit = fit_from (length registers) i h in
-    let first : SumTerms = record { terms = t; id = nought; bound = 0 } in
+    let first : SumTerms = record { terms = t; id = zero_bit; bound = 0 } in
     let sum = combination_from (width f) first cs registers in
-    let ready = sum_ready t nought cs registers r fit.many fit.small in
+    let ready = sum_ready t zero_bit cs registers r fit.many fit.small in
     let a = combination_adds f cs registers first ready in
     let q = at_most_holds sum.terms sum.id i.bound a.sound a.value fit.bound in
     let b = at_most_term sum.terms sum.id i.bound in
@@ -158,7 +158,7 @@ inequality_says f t nought registers i r h =
       adds = adds_after t sum.terms b.terms b.id 1 a.inputs a.kept q.adds;
       word = λ values rs m.
           let z = combination cs rs in
-          let s = combination_means f values cs registers rs first (pos 0) ready m.words m.registers_mean (record { means = m.nought_means; size = omega arith }) in
+          let s = combination_means f values cs registers rs first (pos 0) ready m.words m.registers_mean (record { means = m.zero_bit_means; size = omega arith }) in
           q.word values (pos 0 +ℤ z) s.means ∙ ap (λ (y : ℤ). bit_of (int_le y i.bound)) (none_plus z);
     }
 
@@ -170,48 +170,48 @@ pub record TestsAdd (t : TermsView) (s : Tests) : Type 0 where
   pub bits : AreBits s.terms s.ids
 
 -- the tests so far, and the inequalities to come
-pub record AreTestsReady (s : Tests) (nought : TermId) (registers : List TermId) (is : List Inequality) : Type 0 where
-  pub ready : IsSetReady s.terms nought registers
+pub record AreTestsReady (s : Tests) (zero_bit : TermId) (registers : List TermId) (is : List Inequality) : Type 0 where
+  pub ready : IsSetReady s.terms zero_bit registers
   pub bits : AreBits s.terms s.ids
   pub fit : list_all (is_fit_for (length registers)) is ≡ true
 
 -- one test more
 abbrev pub with_test : ℕ → TermId → List TermId → Tests → Inequality → Tests
-with_test n nought registers s i = let b = inequality_term n nought registers s.terms i in record { terms = b.terms; ids = s.ids ++ b.id ∷ [] }
+with_test n zero_bit registers s i = let b = inequality_term n zero_bit registers s.terms i in record { terms = b.terms; ids = s.ids ++ b.id ∷ [] }
 
-pub test_says : (f : Format) (s : Tests) (nought : TermId) (registers : List TermId) (i : Inequality) (is : List Inequality) → AreTestsReady s nought registers (i ∷ is)
-    → SaysOf f s.terms nought registers (λ (rs : List ℤ). fulfils rs i) (inequality_term (width f) nought registers s.terms i)
-test_says f s nought registers i is r = inequality_says f s.terms nought registers i r.ready (and_parts (is_fit_for (length registers) i) (list_all (is_fit_for (length registers)) is) r.fit).0
+pub test_says : (f : Format) (s : Tests) (zero_bit : TermId) (registers : List TermId) (i : Inequality) (is : List Inequality) → AreTestsReady s zero_bit registers (i ∷ is)
+    → SaysOf f s.terms zero_bit registers (λ (rs : List ℤ). fulfils rs i) (inequality_term (width f) zero_bit registers s.terms i)
+test_says f s zero_bit registers i is r = inequality_says f s.terms zero_bit registers i r.ready (and_parts (is_fit_for (length registers) i) (list_all (is_fit_for (length registers)) is) r.fit).0
 
-tests_rest : (f : Format) (s : Tests) (nought : TermId) (registers : List TermId) (i : Inequality) (is : List Inequality) → AreTestsReady s nought registers (i ∷ is) → AreTestsReady (with_test (width f) nought registers s i) nought registers is
-tests_rest f s nought registers i is r =
-    let b = inequality_term (width f) nought registers s.terms i in
-    let a = (test_says f s nought registers i is r).adds in
+tests_rest : (f : Format) (s : Tests) (zero_bit : TermId) (registers : List TermId) (i : Inequality) (is : List Inequality) → AreTestsReady s zero_bit registers (i ∷ is) → AreTestsReady (with_test (width f) zero_bit registers s i) zero_bit registers is
+tests_rest f s zero_bit registers i is r =
+    let b = inequality_term (width f) zero_bit registers s.terms i in
+    let a = (test_says f s zero_bit registers i is r).adds in
     record {
-      ready = set_ready_later s.terms b.terms nought registers a.sound a.kept r.ready;
+      ready = set_ready_later s.terms b.terms zero_bit registers a.sound a.kept r.ready;
       bits = bits_push b.terms s.ids b.id (bits_later s.terms b.terms s.ids a.kept r.bits) (bit_added s.terms b.terms b.id a);
       fit = (and_parts (is_fit_for (length registers) i) (list_all (is_fit_for (length registers)) is) r.fit).1;
     }
 
-tests_add : (f : Format) (s : Tests) (nought : TermId) (registers : List TermId) (is : List Inequality) → AreTestsReady s nought registers is → TestsAdd s.terms (inequalities_from (width f) nought registers s is)
-tests_add f s nought registers [] r = record { sound = r.ready.sound; inputs = refl; kept = KeepsTerms-self s.terms; bits = r.bits }
-tests_add f s nought registers (i ∷ is) r =
-    let next = with_test (width f) nought registers s i in
-    let a = (test_says f s nought registers i is r).adds in
-    let rest = tests_add f next nought registers is (tests_rest f s nought registers i is r) in
-    let end = inequalities_from (width f) nought registers next is in
+tests_add : (f : Format) (s : Tests) (zero_bit : TermId) (registers : List TermId) (is : List Inequality) → AreTestsReady s zero_bit registers is → TestsAdd s.terms (inequalities_from (width f) zero_bit registers s is)
+tests_add f s zero_bit registers [] r = record { sound = r.ready.sound; inputs = refl; kept = KeepsTerms-self s.terms; bits = r.bits }
+tests_add f s zero_bit registers (i ∷ is) r =
+    let next = with_test (width f) zero_bit registers s i in
+    let a = (test_says f s zero_bit registers i is r).adds in
+    let rest = tests_add f next zero_bit registers is (tests_rest f s zero_bit registers i is r) in
+    let end = inequalities_from (width f) zero_bit registers next is in
     record { sound = rest.sound; inputs = rest.inputs ∙ a.inputs; kept = KeepsTerms-both s.terms next.terms end.terms a.kept rest.kept; bits = rest.bits }
 
-tests_mean : (f : Format) (s : Tests) (nought : TermId) (registers : List TermId) (is : List Inequality) (values : List ℕ) (rs : List ℤ) (truths : List Bool) → AreTestsReady s nought registers is → SetMeans f s.terms values nought registers rs → BitsMean s.terms values s.ids truths
-    → let end = inequalities_from (width f) nought registers s is in BitsMean end.terms values end.ids (truths ++ map (fulfils rs) is)
-tests_mean f s nought registers [] values rs truths r m bm = subst (BitsMean s.terms values s.ids) (sym (append-nil truths)) bm
-tests_mean f s nought registers (i ∷ is) values rs truths r m bm =
-    let b = inequality_term (width f) nought registers s.terms i in
-    let next = with_test (width f) nought registers s i in
-    let q = test_says f s nought registers i is r in
-    let end = inequalities_from (width f) nought registers next is in
+tests_mean : (f : Format) (s : Tests) (zero_bit : TermId) (registers : List TermId) (is : List Inequality) (values : List ℕ) (rs : List ℤ) (truths : List Bool) → AreTestsReady s zero_bit registers is → SetMeans f s.terms values zero_bit registers rs → BitsMean s.terms values s.ids truths
+    → let end = inequalities_from (width f) zero_bit registers s is in BitsMean end.terms values end.ids (truths ++ map (fulfils rs) is)
+tests_mean f s zero_bit registers [] values rs truths r m bm = subst (BitsMean s.terms values s.ids) (sym (append-nil truths)) bm
+tests_mean f s zero_bit registers (i ∷ is) values rs truths r m bm =
+    let b = inequality_term (width f) zero_bit registers s.terms i in
+    let next = with_test (width f) zero_bit registers s i in
+    let q = test_says f s zero_bit registers i is r in
+    let end = inequalities_from (width f) zero_bit registers next is in
     let now = bits_mean_push b.terms values s.ids truths b.id (fulfils rs i) (bits_mean_later s.terms b.terms values s.ids truths q.adds.kept r.bits bm) (q.word values rs m) in
-    let rest = tests_mean f next nought registers is values rs (truths ++ fulfils rs i ∷ []) (tests_rest f s nought registers i is r) (set_means_later f s.terms b.terms values nought registers rs q.adds.kept r.ready m) now in
+    let rest = tests_mean f next zero_bit registers is values rs (truths ++ fulfils rs i ∷ []) (tests_rest f s zero_bit registers i is r) (set_means_later f s.terms b.terms values zero_bit registers rs q.adds.kept r.ready m) now in
     subst (BitsMean end.terms values end.ids) (append_assoc truths (fulfils rs i ∷ []) (map (fulfils rs) is)) rest
 
 -- ---- the set
@@ -219,18 +219,18 @@ joined-all : {A : Type 0} (p : A → Bool) (xs : List A) → joined true (map p 
 joined-all p [] = refl
 joined-all p (x ∷ xs) = joined-split (p x) (map p xs) ∙ ap (λ (b : Bool). p x && b) (joined-all p xs)
 
-first_tests : (t : TermsView) (nought : TermId) (registers : List TermId) (candidate : Candidate) → IsSetReady t nought registers → is_shaped (length registers) candidate ≡ true → AreTestsReady (record { terms = t; ids = [] }) nought registers candidate.inequalities.items
-first_tests t nought registers candidate r h = record { ready = r; bits = record { stand = λ i p. absurd (omega arith) }; fit = (shaped_from (length registers) candidate h).fit }
+first_tests : (t : TermsView) (zero_bit : TermId) (registers : List TermId) (candidate : Candidate) → IsSetReady t zero_bit registers → is_shaped (length registers) candidate ≡ true → AreTestsReady (record { terms = t; ids = [] }) zero_bit registers candidate.inequalities.items
+first_tests t zero_bit registers candidate r h = record { ready = r; bits = record { stand = λ i p. absurd (omega arith) }; fit = (shaped_from (length registers) candidate h).fit }
 
-pub set_says : (f : Format) (t : TermsView) (nought : TermId) (registers : List TermId) (candidate : Candidate) → IsSetReady t nought registers → is_shaped (length registers) candidate ≡ true
-    → SaysOf f t nought registers (is_inside candidate) (set_term (width f) nought t candidate registers)
+pub set_says : (f : Format) (t : TermsView) (zero_bit : TermId) (registers : List TermId) (candidate : Candidate) → IsSetReady t zero_bit registers → is_shaped (length registers) candidate ≡ true
+    → SaysOf f t zero_bit registers (is_inside candidate) (set_term (width f) zero_bit t candidate registers)
 unfolding set_term
-set_says f t nought registers candidate r h =
+set_says f t zero_bit registers candidate r h =
     let is = candidate.inequalities.items in
     let first : Tests = record { terms = t; ids = [] } in
-    let s = inequalities_from (width f) nought registers first is in
-    let ready = first_tests t nought registers candidate r h in
-    let a = tests_add f first nought registers is ready in
+    let s = inequalities_from (width f) zero_bit registers first is in
+    let ready = first_tests t zero_bit registers candidate r h in
+    let a = tests_add f first zero_bit registers is ready in
     let whole = with_node s.terms (Constant 1 1) in
     let g = constant_gives s.terms 1 1 a.sound (record { some = omega arith; narrow = omega arith }) (omega arith) in
     let bits = bits_later s.terms whole.terms s.ids g.adds.kept a.bits in
@@ -241,39 +241,39 @@ set_says f t nought registers candidate r h =
       adds = adds_after t s.terms b.terms b.id 1 a.inputs a.kept (Adds-both s.terms whole.terms b.terms whole.id b.id 1 1 g.adds c);
       word = λ values rs m.
           let truths = map (fulfils rs) is in
-          let bm = tests_mean f first nought registers is values rs [] ready m (no_bits_mean t values) in
+          let bm = tests_mean f first zero_bit registers is values rs [] ready m (no_bits_mean t values) in
           let j = conjunction_joins values whole.terms whole.id s.ids truths true g.adds.sound bit (g.word values) bits (bits_mean_later s.terms whole.terms values s.ids truths g.adds.kept a.bits bm) in
           j.word ∙ ap bit_of (joined-all (fulfils rs) is);
     }
 
 -- ---- as the code has it
 -- the terms of a sum that the code made
-pub summed : (f : Format) (t : TermsView) (nought : TermId) (registers : List TermId) (i : Inequality) (s : SumTerms) → IsSetReady t nought registers → is_fit_for (length registers) i ≡ true
-    → s ≡ combination_from (width f) (record { terms = t; id = nought; bound = 0 }) i.coefficients.items registers → SumAdds t s
-summed f t nought registers i s r h e =
+pub summed : (f : Format) (t : TermsView) (zero_bit : TermId) (registers : List TermId) (i : Inequality) (s : SumTerms) → IsSetReady t zero_bit registers → is_fit_for (length registers) i ≡ true
+    → s ≡ combination_from (width f) (record { terms = t; id = zero_bit; bound = 0 }) i.coefficients.items registers → SumAdds t s
+summed f t zero_bit registers i s r h e =
     let fit = fit_from (length registers) i h in
-    subst (SumAdds t) (sym e) (combination_adds f i.coefficients.items registers (record { terms = t; id = nought; bound = 0 }) (sum_ready t nought i.coefficients.items registers r fit.many fit.small))
+    subst (SumAdds t) (sym e) (combination_adds f i.coefficients.items registers (record { terms = t; id = zero_bit; bound = 0 }) (sum_ready t zero_bit i.coefficients.items registers r fit.many fit.small))
 
 -- the inequalities from one on are to come
-pub record IsTesting (f : Format) (t : TermsView) (nought : TermId) (registers : List TermId) (is : List Inequality) (k : ℕ) (s end : Tests) : Type 0 where
-  pub ready : IsSetReady s.terms nought registers
+pub record IsTesting (f : Format) (t : TermsView) (zero_bit : TermId) (registers : List TermId) (is : List Inequality) (k : ℕ) (s end : Tests) : Type 0 where
+  pub ready : IsSetReady s.terms zero_bit registers
   pub bits : AreBits s.terms s.ids
   pub kept : KeepsTerms t s.terms
-  pub same : inequalities_from (width f) nought registers s (drop k is) ≡ end
+  pub same : inequalities_from (width f) zero_bit registers s (drop k is) ≡ end
 
-pub test_step : (f : Format) (t : TermsView) (nought : TermId) (registers : List TermId) (is : List Inequality) (k : ℕ) (s end : Tests) (i : Inequality) (u : TermsView) (test : TermId) (ids : List TermId) → is_fit_for (length registers) i ≡ true → drop k is ≡ i ∷ drop (k + 1) is → IsTesting f t nought registers is k s end
-    → built_of u test ≡ inequality_term (width f) nought registers s.terms i → ids ≡ s.ids ++ test ∷ [] → IsTesting f t nought registers is (k + 1) (record { terms = u; ids = ids }) end
-test_step f t nought registers is k s end i u test ids h d g b p =
-    let q = inequality_says f s.terms nought registers i g.ready h in
-    let a = Adds-built s.terms u test (inequality_term (width f) nought registers s.terms i) 1 b q.adds in
-    let step : inequalities_from (width f) nought registers s (i ∷ drop (k + 1) is) ≡ end = ap (inequalities_from (width f) nought registers s) (sym d) ∙ g.same in
-    let from : Built → List TermId → Tests = λ w js. inequalities_from (width f) nought registers (record { terms = w.terms; ids = js }) (drop (k + 1) is) in
+pub test_step : (f : Format) (t : TermsView) (zero_bit : TermId) (registers : List TermId) (is : List Inequality) (k : ℕ) (s end : Tests) (i : Inequality) (u : TermsView) (test : TermId) (ids : List TermId) → is_fit_for (length registers) i ≡ true → drop k is ≡ i ∷ drop (k + 1) is → IsTesting f t zero_bit registers is k s end
+    → built_of u test ≡ inequality_term (width f) zero_bit registers s.terms i → ids ≡ s.ids ++ test ∷ [] → IsTesting f t zero_bit registers is (k + 1) (record { terms = u; ids = ids }) end
+test_step f t zero_bit registers is k s end i u test ids h d g b p =
+    let q = inequality_says f s.terms zero_bit registers i g.ready h in
+    let a = Adds-built s.terms u test (inequality_term (width f) zero_bit registers s.terms i) 1 b q.adds in
+    let step : inequalities_from (width f) zero_bit registers s (i ∷ drop (k + 1) is) ≡ end = ap (inequalities_from (width f) zero_bit registers s) (sym d) ∙ g.same in
+    let from : Built → List TermId → Tests = λ w js. inequalities_from (width f) zero_bit registers (record { terms = w.terms; ids = js }) (drop (k + 1) is) in
     record {
-      ready = set_ready_later s.terms u nought registers a.sound a.kept g.ready;
+      ready = set_ready_later s.terms u zero_bit registers a.sound a.kept g.ready;
       bits = subst (AreBits u) (sym p) (bits_push u s.ids test (bits_later s.terms u s.ids a.kept g.bits) (bit_added s.terms u test a));
       kept = KeepsTerms-both t s.terms u g.kept a.kept;
       same = ap (from (built_of u test)) p ∙ (ap (λ (w : Built). from w (s.ids ++ w.id ∷ [])) b ∙ step);
     }
 
-pub set_adds : (f : Format) (t u : TermsView) (nought inside : TermId) (registers : List TermId) (candidate : Candidate) → IsSetReady t nought registers → is_shaped (length registers) candidate ≡ true → built_of u inside ≡ set_term (width f) nought t candidate registers → Adds t u inside 1
-set_adds f t u nought inside registers candidate r h b = Adds-built t u inside (set_term (width f) nought t candidate registers) 1 b (set_says f t nought registers candidate r h).adds
+pub set_adds : (f : Format) (t u : TermsView) (zero_bit inside : TermId) (registers : List TermId) (candidate : Candidate) → IsSetReady t zero_bit registers → is_shaped (length registers) candidate ≡ true → built_of u inside ≡ set_term (width f) zero_bit t candidate registers → Adds t u inside 1
+set_adds f t u zero_bit inside registers candidate r h b = Adds-built t u inside (set_term (width f) zero_bit t candidate registers) 1 b (set_says f t zero_bit registers candidate r h).adds

@@ -33,10 +33,10 @@ use Rattle.dsv_unroll.specs.Rules.{unrolled_of, cut_terms, cut_term, node_tests,
 use Rattle.dsv_unroll.proofs.RuleTerms.{value_later}
 use Rattle.dsv_unroll.proofs.FitTerms.{is_outside, spelled_inside, cut_gives}
 use Rattle.dsv_unroll.proofs.NodeTerms.{width_some, node_adds, ready_with}
-use Rattle.dsv_unroll.proofs.Follows.{Means, means_later, Follows, node_flag, node_means}
+use Rattle.dsv_unroll.proofs.Follows.{Means, means_later, Follows, node_overflow, node_means}
 use Rattle.dsv_unroll.proofs.SampleSteps.{ready_first}
 use Rattle.dsv_unroll.proofs.Samples.{sample_known, follows_with, nodes_follow, empty_follows}
-use Rattle.dsv_unroll.proofs.Runs.{flag_exact, any_outside, registers_words, RegistersMean, InputsMean, after_sample, run_follows}
+use Rattle.dsv_unroll.proofs.Runs.{overflow_exact, any_outside, registers_words, RegistersMean, InputsMean, after_sample, run_follows}
 use Rattle.dsv_unroll.proofs.InputTests.{bits_kept}
 
 -- ---- what stands
@@ -117,16 +117,16 @@ none_hold : (t : TermsView) (values : List ℕ) (n : ℕ) (b : Bool) → TestsHo
 none_hold t values n b = record { stand = All-nil (IsEntry t); say = λ q. tt }
 
 -- ---- a node
-fit_holds : (values : List ℕ) (t : TermsView) (f : Format) (of broken : TermId) (b q : Bool) (z : ℤ) → nat_lt (width f) (width_of t of) ≡ q → AreSound t → IsValue t of → broken.0 < length t.nodes → width_of t broken ≡ 1 → (b ≡ false → Means t values of z)
-    → TestsHold (if q then cut_term t (width f) of broken else unrolled_of (built_of t of) broken).terms values (width f) ((if q then (let cut = cut_terms t (width f) of in Some cut.tested) else None) ∷ []) (z ∷ []) b
-fit_holds values t f of broken b true z e s v bs bw m =
+fit_holds : (values : List ℕ) (t : TermsView) (f : Format) (of overflowed : TermId) (b q : Bool) (z : ℤ) → nat_lt (width f) (width_of t of) ≡ q → AreSound t → IsValue t of → overflowed.0 < length t.nodes → width_of t overflowed ≡ 1 → (b ≡ false → Means t values of z)
+    → TestsHold (if q then cut_term t (width f) of overflowed else unrolled_of (built_of t of) overflowed).terms values (width f) ((if q then (let cut = cut_terms t (width f) of in Some cut.tested) else None) ∷ []) (z ∷ []) b
+fit_holds values t f of overflowed b true z e s v bs bw m =
     let n = width f in
     let l : n < width_of t of = grind (arith, nat_tests) in
     let c = cut_terms t n of in
     let g = cut_gives t of n s v (width_some f) l in
-    let lb = later t c.terms broken g.kept bs in
-    let u = with_node c.terms (Or broken c.tested.outside) in
-    let k = (or_gives c.terms broken c.tested.outside g.sound lb.stands g.outside_bit.stands (lb.width ∙ (bw ∙ sym g.outside_bit.width))).adds.kept in
+    let lb = later t c.terms overflowed g.kept bs in
+    let u = with_node c.terms (Or overflowed c.tested.outside) in
+    let k = (or_gives c.terms overflowed c.tested.outside g.sound lb.stands g.outside_bit.stands (lb.width ∙ (bw ∙ sym g.outside_bit.width))).adds.kept in
     let both = KeepsTerms-both t c.terms u.terms g.kept k in
     let stand : IsEntry c.terms (Some c.tested) = record {
       value = value_later t c.terms of g.kept v;
@@ -145,24 +145,24 @@ fit_holds values t f of broken b true z e s v bs bw m =
           } in
           (here, λ o. tt);
     }
-fit_holds values t f of broken b false z e s v bs bw m =
+fit_holds values t f of overflowed b false z e s v bs bw m =
     let l : width_of t of ≤ width f = grind (arith, nat_tests) in
     record {
       stand = All-cons (IsEntry t) None [] tt (All-nil (IsEntry t));
       say = λ q. (spelled_inside (width f) z (wider_spelled (width_of t of) (width f) z l (m q).spells.fits), λ o. tt);
     }
 
-node_holds : (values : List ℕ) (net : Net) (regs : List ℤ) (x : ℤ) (registers : List TermId) (input : TermId) (t : TermsView) (ids : List TermId) (broken : TermId) (vals : List ℤ) (b : Bool) (n : Node) → AreReady net registers input t ids broken
-    → Follows values regs x registers input t ids broken vals b → NamesBelow (length ids) n
-    → TestsHold (node_term fit_rule.Tested net registers input t ids broken n).terms values (width net.format) (node_tests fit_rule.Tested net.format t ids n) (node_exact vals n) b
-node_holds values net regs x registers input t ids broken vals b node.Input r f l = none_hold _ values (width net.format) b
-node_holds values net regs x registers input t ids broken vals b (node.Reg i) r f l = none_hold _ values (width net.format) b
-node_holds values net regs x registers input t ids broken vals b (node.MulConst c i) r f l = none_hold _ values (width net.format) b
-node_holds values net regs x registers input t ids broken vals b (node.Round i) r f l = none_hold _ values (width net.format) b
-node_holds values net regs x registers input t ids broken vals b (node.Add i j) r f l = none_hold _ values (width net.format) b
-node_holds values net regs x registers input t ids broken vals b (node.Sub i j) r f l = none_hold _ values (width net.format) b
-node_holds values net regs x registers input t ids broken vals b (node.Fit i) r f l =
-    fit_holds values t net.format (term_at ids i) broken b (nat_lt (width net.format) (width_of t (term_at ids i))) (at vals i) refl r.sound (r.nodes i l) r.flag_stands r.flag_bit (λ q. f.nodes q i l)
+node_holds : (values : List ℕ) (net : Net) (regs : List ℤ) (x : ℤ) (registers : List TermId) (input : TermId) (t : TermsView) (ids : List TermId) (overflowed : TermId) (vals : List ℤ) (b : Bool) (n : Node) → AreReady net registers input t ids overflowed
+    → Follows values regs x registers input t ids overflowed vals b → NamesBelow (length ids) n
+    → TestsHold (node_term fit_rule.Tested net registers input t ids overflowed n).terms values (width net.format) (node_tests fit_rule.Tested net.format t ids n) (node_exact vals n) b
+node_holds values net regs x registers input t ids overflowed vals b node.Input r f l = none_hold _ values (width net.format) b
+node_holds values net regs x registers input t ids overflowed vals b (node.Reg i) r f l = none_hold _ values (width net.format) b
+node_holds values net regs x registers input t ids overflowed vals b (node.MulConst c i) r f l = none_hold _ values (width net.format) b
+node_holds values net regs x registers input t ids overflowed vals b (node.Round i) r f l = none_hold _ values (width net.format) b
+node_holds values net regs x registers input t ids overflowed vals b (node.Add i j) r f l = none_hold _ values (width net.format) b
+node_holds values net regs x registers input t ids overflowed vals b (node.Sub i j) r f l = none_hold _ values (width net.format) b
+node_holds values net regs x registers input t ids overflowed vals b (node.Fit i) r f l =
+    fit_holds values t net.format (term_at ids i) overflowed b (nat_lt (width net.format) (width_of t (term_at ids i))) (at vals i) refl r.sound (r.nodes i l) r.overflowed_stands r.overflowed_bit (λ q. f.nodes q i l)
 
 -- ---- a sample
 -- the exact values of these nodes
@@ -176,46 +176,46 @@ exact_from-all f rs x (n ∷ ns) s = exact_from-all f rs x ns (after_node f rs x
 
 nodes_hold : (values : List ℕ) (net : Net) (rs : List ℤ) (x : ℤ) (registers : List TermId) (input : TermId) (ns : List Node) (s : SampleTerms) (q : Sample) (b : Bool) → IsNetlist net → AreWords net rs x
     → sample_from net.format rs x ns q ≡ sample_of net.format rs x net.nodes → length s.ids + length ns ≡ length net.nodes → AllNameBack (length s.ids) ns → All (ReadsBelow (length registers)) ns
-    → AreReady net registers input s.terms s.ids s.broken → Follows values rs x registers input s.terms s.ids s.broken q.values b
+    → AreReady net registers input s.terms s.ids s.overflowed → Follows values rs x registers input s.terms s.ids s.overflowed q.values b
     → TestsHold (nodes_from fit_rule.Tested net registers input ns s).terms values (width net.format) (tests_from fit_rule.Tested net registers input ns s) (exact_from net.format rs x ns q) b
 nodes_hold values net rs x registers input [] s q b h w e l bk rd r f = none_hold s.terms values (width net.format) b
 nodes_hold values net rs x registers input (n ∷ ns) s q b h w e l bk rd r f =
-    let u = node_term fit_rule.Tested net registers input s.terms s.ids s.broken n in
+    let u = node_term fit_rule.Tested net registers input s.terms s.ids s.overflowed n in
     let v = node_value net.format rs x q.values n in
     let c = f.count in
     let here : length s.ids < length net.nodes = omega arith in
     let reads = All-head (ReadsBelow (length registers)) n ns rd in
-    let a = node_adds fit_rule.Tested net registers input s.terms s.ids s.broken n h r here bk.0 reads in
+    let a = node_adds fit_rule.Tested net registers input s.terms s.ids s.overflowed n h r here bk.0 reads in
     let k = sample_known net rs x n ns q h w e (omega arith) in
-    let m = node_means fit_rule.Tested values net rs x registers input s.terms s.ids s.broken q.values b n h r f here bk.0 reads k in
-    let now = b || node_flag fit_rule.Tested (width net.format) q.values n in
+    let m = node_means fit_rule.Tested values net rs x registers input s.terms s.ids s.overflowed q.values b n h r f here bk.0 reads k in
+    let now = b || node_overflow fit_rule.Tested (width net.format) q.values n in
     let more : length (s.ids ++ u.id ∷ []) ≡ length s.ids + 1 = length_push s.ids u.id in
     let next = with_node_term fit_rule.Tested net registers input s n in
     let back = subst (λ (j : ℕ). AllNameBack j ns) (sym more) bk.1 in
     let tail = All-tail (ReadsBelow (length registers)) n ns rd in
-    let ready = ready_with net registers input s.terms s.ids s.broken u r a in
-    let follow = follows_with values net rs x registers input s.terms s.ids s.broken u q.values v b now r f a m in
+    let ready = ready_with net registers input s.terms s.ids s.overflowed u r a in
+    let follow = follows_with values net rs x registers input s.terms s.ids s.overflowed u q.values v b now r f a m in
     let kept = (nodes_follow fit_rule.Tested values net rs x registers input ns next (after_node net.format rs x q n) now h w e (omega arith) back tail ready follow).kept in
     let rest = nodes_hold values net rs x registers input ns next (after_node net.format rs x q n) now h w e (omega arith) back tail ready follow in
-    let one = node_holds values net rs x registers input s.terms s.ids s.broken q.values b n r f bk.0 in
+    let one = node_holds values net rs x registers input s.terms s.ids s.overflowed q.values b n r f bk.0 in
     let all = nodes_from fit_rule.Tested net registers input ns next in
-    let same : now ≡ (b || list_any (is_outside (width net.format)) (node_exact q.values n)) = ap (λ (d : Bool). b || d) (flag_exact net.format q.values n) in
+    let same : now ≡ (b || list_any (is_outside (width net.format)) (node_exact q.values n)) = ap (λ (d : Bool). b || d) (overflow_exact net.format q.values n) in
     tests_both u.terms all.terms values (width net.format) (node_tests fit_rule.Tested net.format s.terms s.ids n) (tests_from fit_rule.Tested net registers input ns next) (node_exact q.values n) (exact_from net.format rs x ns (after_node net.format rs x q n)) b kept one
     (subst (TestsHold all.terms values (width net.format) (tests_from fit_rule.Tested net registers input ns next) (exact_from net.format rs x ns (after_node net.format rs x q n))) same rest)
 
-sample_holds : (values : List ℕ) (net : Net) (rs : List ℤ) (x : ℤ) (registers : List TermId) (input : TermId) (t : TermsView) (broken : TermId) (b : Bool) → IsNetlist net → AreWords net rs x
-    → AreReady net registers input t [] broken → word_of t values broken ≡ bit_of b → (b ≡ false → (k : ℕ) → k < length registers → Means t values (term_at registers k) (at rs k)) → Means t values input x
-    → TestsHold (sample_terms fit_rule.Tested net registers input t broken).terms values (width net.format) (sample_tests fit_rule.Tested net registers input t broken) (step_of net rs x).exact b
+sample_holds : (values : List ℕ) (net : Net) (rs : List ℤ) (x : ℤ) (registers : List TermId) (input : TermId) (t : TermsView) (overflowed : TermId) (b : Bool) → IsNetlist net → AreWords net rs x
+    → AreReady net registers input t [] overflowed → word_of t values overflowed ≡ bit_of b → (b ≡ false → (k : ℕ) → k < length registers → Means t values (term_at registers k) (at rs k)) → Means t values input x
+    → TestsHold (sample_terms fit_rule.Tested net registers input t overflowed).terms values (width net.format) (sample_tests fit_rule.Tested net registers input t overflowed) (step_of net rs x).exact b
 unfolding sample_terms sample_tests
-sample_holds values net rs x registers input t broken b h w r g m i =
-    let first : SampleTerms = record { terms = t; ids = []; broken = broken } in
+sample_holds values net rs x registers input t overflowed b h w r g m i =
+    let first : SampleTerms = record { terms = t; ids = []; overflowed = overflowed } in
     let none : Sample = record { values = []; exact = [] } in
-    let a = nodes_hold values net rs x registers input net.nodes first none b h w refl (omega arith) h.backwards (rw r.count h.registers) r (empty_follows values rs x registers input t broken b g m i) in
+    let a = nodes_hold values net rs x registers input net.nodes first none b h w refl (omega arith) h.backwards (rw r.count h.registers) r (empty_follows values rs x registers input t overflowed b g m i) in
     subst (λ (es : List ℤ). TestsHold (nodes_from fit_rule.Tested net registers input net.nodes first).terms values (width net.format) (tests_from fit_rule.Tested net registers input net.nodes first) es b) (sym (exact_from-all net.format rs x net.nodes none)) a
 
 -- ---- a run
-pub run_holds : (net : Net) (values : List ℕ) (xs : List TermId) (zs : List ℤ) (r : RunTerms) (rs : List ℤ) (b : Bool) → IsNetlist net → length rs ≡ length net.next → All (IsWord net.format) rs → AreRunReady net r.registers xs r.terms r.broken
-    → word_of r.terms values r.broken ≡ bit_of b → (b ≡ false → RegistersMean r.terms values r.registers rs) → InputsMean net.format r.terms values xs zs
+pub run_holds : (net : Net) (values : List ℕ) (xs : List TermId) (zs : List ℤ) (r : RunTerms) (rs : List ℤ) (b : Bool) → IsNetlist net → length rs ≡ length net.next → All (IsWord net.format) rs → AreRunReady net r.registers xs r.terms r.overflowed
+    → word_of r.terms values r.overflowed ≡ bit_of b → (b ≡ false → RegistersMean r.terms values r.registers rs) → InputsMean net.format r.terms values xs zs
     → TestsHold (run_from net xs r).terms values (width net.format) (run_tests net xs r) (exact_values (rows_from (step_of net) rs zs)) b
 run_holds net values [] [] r rs b h c w ready g m i = none_hold r.terms values (width net.format) b
 run_holds net values [] (z ∷ zs) r rs b h c w ready g m i = absurd (let k = i.count in omega arith)
@@ -223,12 +223,12 @@ run_holds net values (x ∷ xs) [] r rs b h c w ready g m i = absurd (let k = i.
 run_holds net values (x ∷ xs) (z ∷ zs) r rs b h c w ready g m i =
     let words : AreWords net rs z = record { many = c; words = w; input = All-head (IsWord net.format) z zs i.words } in
     let a = after_sample net values r x xs z zs rs b h words ready g m i in
-    let s = sample_holds values net rs z r.registers x r.terms r.broken b h words (ready_first net r.registers x xs r.terms r.broken ready) g (λ e. (m e).each) (i.each 0 (omega arith)) in
+    let s = sample_holds values net rs z r.registers x r.terms r.overflowed b h words (ready_first net r.registers x xs r.terms r.overflowed ready) g (λ e. (m e).each) (i.each 0 (omega arith)) in
     let next = with_sample net r x in
     let past = (step_of net rs z).past in
     let many : length past ≡ length net.next = length-map net.next (at (sample_of net.format rs z net.nodes).values) in
     let now = b || any_outside net.format (step_of net rs z).exact in
     let later_words = registers_words net rs z h words in
-    let kept = (run_follows net values xs zs next past now h many later_words a.ready a.flag a.registers a.inputs).kept in
-    let rest = run_holds net values xs zs next past now h many later_words a.ready a.flag a.registers a.inputs in
-    tests_both next.terms (run_from net xs next).terms values (width net.format) (sample_tests fit_rule.Tested net r.registers x r.terms r.broken) (run_tests net xs next) (step_of net rs z).exact (exact_values (rows_from (step_of net) past zs)) b kept s rest
+    let kept = (run_follows net values xs zs next past now h many later_words a.ready a.overflows a.registers a.inputs).kept in
+    let rest = run_holds net values xs zs next past now h many later_words a.ready a.overflows a.registers a.inputs in
+    tests_both next.terms (run_from net xs next).terms values (width net.format) (sample_tests fit_rule.Tested net r.registers x r.terms r.overflowed) (run_tests net xs next) (step_of net rs z).exact (exact_values (rows_from (step_of net) past zs)) b kept s rest

@@ -31,8 +31,8 @@ returned_from b (register ∷ registers) (start ∷ starts) =
 
 -- whether the output isn't 0, or the bit holds
 abbrev pub sounding_term : TermsView → TermId → TermId → TermId → Built
-sounding_term t output nought sounding =
-    let quiet = same_term t output nought in
+sounding_term t output zero_bit sounding =
+    let quiet = same_term t output zero_bit in
     let sound = with_node quiet.terms (Not quiet.id) in
     with_node sound.terms (Or sounding sound.id)
 
@@ -61,9 +61,9 @@ abbrev pub with_asked : Bool → CycleTerms → List TermId → CycleTerms
 with_asked asked r starts = if asked then with_found r starts else r
 
 abbrev pub with_quiet_sample : Net → TermId → CycleTerms → CycleTerms
-with_quiet_sample net nought r =
-    let s = sample_terms Faithful net r.registers nought r.terms nought in
-    let sounding = sounding_term s.terms (term_at s.ids net.output) nought r.sounding in
+with_quiet_sample net zero_bit r =
+    let s = sample_terms Faithful net r.registers zero_bit r.terms zero_bit in
+    let sounding = sounding_term s.terms (term_at s.ids net.output) zero_bit r.sounding in
     record {
       terms = sounding.terms;
       registers = map (term_at s.ids) net.next;
@@ -74,10 +74,10 @@ with_quiet_sample net nought r =
 -- the samples from one on: a period of at most half the periods has a multiple among the others,
 -- so only the others are asked
 abbrev pub cycles_from : Net → List TermId → TermId → ℕ → ℕ → ℕ → CycleTerms → CycleTerms
-cycles_from net starts nought periods sample zero r = r
-cycles_from net starts nought periods sample (suc left) r =
-    let next = with_quiet_sample net nought r in
-    cycles_from net starts nought periods (sample + 1) left
+cycles_from net starts zero_bit periods sample zero r = r
+cycles_from net starts zero_bit periods sample (suc left) r =
+    let next = with_quiet_sample net zero_bit r in
+    cycles_from net starts zero_bit periods (sample + 1) left
     (with_asked (nat_lt periods (2 * sample)) next starts)
 
 abbrev pub found_of : CycleTerms → Built
@@ -98,13 +98,13 @@ starts_from n (suc k) s =
 -- and the feed-forward registers start with 0.
 unfoldable pub cycle_of : Net → ℕ → Built
 cycle_of net periods =
-    let nought = with_node no_terms (Constant 1 0) in
+    let zero_bit = with_node no_terms (Constant 1 0) in
     let start = starts_from (width net.format) (length net.next - net.feed_forward)
-    (record { terms = nought.terms; ids = replicate net.feed_forward nought.id }) in
-    let end = cycles_from net start.ids nought.id periods 1 periods (record {
+    (record { terms = zero_bit.terms; ids = replicate net.feed_forward zero_bit.id }) in
+    let end = cycles_from net start.ids zero_bit.id periods 1 periods (record {
       terms = start.terms;
       registers = start.ids;
-      sounding = nought.id;
-      found = nought.id;
+      sounding = zero_bit.id;
+      found = zero_bit.id;
     }) in
     found_of end

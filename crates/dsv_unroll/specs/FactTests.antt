@@ -12,10 +12,10 @@ use Rattle.dsv_term.specs.TermsView.{TermsView}
 use Rattle.dsv_term.specs.Word.{residue}
 use Rattle.dsv_unroll.specs.declared.fitting.TestedTerm.{TestedTerm}
 
--- terms, the bit that is 1 where a value before that may be outside was, and the tests so far
+-- terms, the bit that is 1 where a value so far that may be no word was none, and the tests so far
 pub record FactTerms : Type 0 where
   pub terms : TermsView
-  pub outside : TermId
+  pub overflowed : TermId
   pub tests : List TermId
 
 -- the test that a value lies from one number to another
@@ -28,11 +28,15 @@ within_test t low high value =
     let below = with_node above.terms (Sle value greatest.id) in
     with_node below.terms (And above.id below.id)
 
--- one test more, which holds unless a value before was outside
+-- one test more, which holds unless a value before was no word
 abbrev pub with_test : FactTerms → Built → FactTerms
 with_test known test =
-    let either = with_node test.terms (Or known.outside test.id) in
-    record { terms = either.terms; outside = known.outside; tests = known.tests ++ either.id ∷ [] }
+    let either = with_node test.terms (Or known.overflowed test.id) in
+    record {
+      terms = either.terms;
+      overflowed = known.overflowed;
+      tests = known.tests ++ either.id ∷ [];
+    }
 
 -- from so many samples on a goal is long
 abbrev pub long_run : ℕ
@@ -53,8 +57,8 @@ with_word false known tested = known
 -- steps alone refute a goal of whose values all are known to be words.
 abbrev pub with_fact : Bool → FactTerms → Fact → TestedTerm → FactTerms
 with_fact long known fact.Open tested =
-    let either = with_node known.terms (Or known.outside tested.outside) in
-    record { terms = either.terms; outside = either.id; tests = known.tests }
+    let either = with_node known.terms (Or known.overflowed tested.outside) in
+    record { terms = either.terms; overflowed = either.id; tests = known.tests }
 with_fact long known fact.Inside tested = with_word true known tested
 with_fact long known (fact.Within low high) tested =
     with_word long (with_test known (within_test known.terms low high tested.value)) tested

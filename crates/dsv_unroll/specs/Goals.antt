@@ -33,13 +33,13 @@ size_of net samples = samples * (counts_of net).products * width net.format ^ 2
 pub record SampleTerms : Type 0 where
   pub terms : TermsView
   pub ids : List TermId
-  pub broken : TermId
+  pub overflowed : TermId
 
 abbrev pub with_node_term : FitRule → Net → List TermId → TermId → SampleTerms → Node
     → SampleTerms
 with_node_term rule net registers x s node =
-    let u = node_term rule net registers x s.terms s.ids s.broken node in
-    record { terms = u.terms; ids = s.ids ++ u.id ∷ []; broken = u.broken }
+    let u = node_term rule net registers x s.terms s.ids s.overflowed node in
+    record { terms = u.terms; ids = s.ids ++ u.id ∷ []; overflowed = u.overflowed }
 
 abbrev pub nodes_from : FitRule → Net → List TermId → TermId → List Node → SampleTerms
     → SampleTerms
@@ -50,8 +50,9 @@ nodes_from rule net registers x (node ∷ nodes) s =
 -- the terms of one sample
 unfoldable pub sample_terms : FitRule → Net → List TermId → TermId → TermsView → TermId
     → SampleTerms
-sample_terms rule net registers x t broken =
-    nodes_from rule net registers x net.nodes (record { terms = t; ids = []; broken = broken })
+sample_terms rule net registers x t overflowed =
+    nodes_from rule net registers x net.nodes
+    (record { terms = t; ids = []; overflowed = overflowed })
 
 -- the tests of the values that these nodes fit
 abbrev pub tests_from : FitRule → Net → List TermId → TermId → List Node → SampleTerms
@@ -64,20 +65,21 @@ tests_from rule net registers x (node ∷ nodes) s =
 -- the tests of one sample, in the order of its exact values
 unfoldable pub sample_tests : FitRule → Net → List TermId → TermId → TermsView → TermId
     → List (Option TestedTerm)
-sample_tests rule net registers x t broken =
-    tests_from rule net registers x net.nodes (record { terms = t; ids = []; broken = broken })
+sample_tests rule net registers x t overflowed =
+    tests_from rule net registers x net.nodes
+    (record { terms = t; ids = []; overflowed = overflowed })
 
 -- a run so far: terms, those of the registers, and the one that is 1 where a value was no word
 pub record RunTerms : Type 0 where
   pub terms : TermsView
   pub registers : List TermId
-  pub broken : TermId
+  pub overflowed : TermId
 
 -- one sample more; the registers are loaded from their nodes
 abbrev pub with_sample : Net → RunTerms → TermId → RunTerms
 with_sample net r x =
-    let s = sample_terms Tested net r.registers x r.terms r.broken in
-    record { terms = s.terms; registers = map (term_at s.ids) net.next; broken = s.broken }
+    let s = sample_terms Tested net r.registers x r.terms r.overflowed in
+    record { terms = s.terms; registers = map (term_at s.ids) net.next; overflowed = s.overflowed }
 
 abbrev pub run_from : Net → List TermId → RunTerms → RunTerms
 run_from net [] r = r
@@ -87,7 +89,7 @@ run_from net (x ∷ xs) r = run_from net xs (with_sample net r x)
 abbrev pub run_tests : Net → List TermId → RunTerms → List (Option TestedTerm)
 run_tests net [] r = []
 run_tests net (x ∷ xs) r =
-    sample_tests Tested net r.registers x r.terms r.broken
+    sample_tests Tested net r.registers x r.terms r.overflowed
     ++ run_tests net xs (with_sample net r x)
 
 -- ---- inputs
@@ -165,11 +167,11 @@ first_inputs net t low high samples =
 -- hold, and which says that no value was outside so far.
 abbrev pub zero_start : Net → TermsView → RunTerms
 zero_start net t =
-    let nought = with_node t (Constant 1 0) in
+    let zero_bit = with_node t (Constant 1 0) in
     record {
-      terms = nought.terms;
-      registers = replicate (length net.next) nought.id;
-      broken = nought.id;
+      terms = zero_bit.terms;
+      registers = replicate (length net.next) zero_bit.id;
+      overflowed = zero_bit.id;
     }
 
 -- the run over these inputs from registers of zeros
@@ -182,7 +184,7 @@ unfoldable pub plain_overflow_of : Net → ℤ → ℤ → ℕ → Built
 plain_overflow_of net low high samples =
     let inputs = first_inputs net no_terms low high samples in
     let run = zero_run net inputs in
-    conjunction_from (built_of run.terms run.broken) inputs.tests
+    conjunction_from (built_of run.terms run.overflowed) inputs.tests
 
 -- The goal of an overflow where these are the facts: the same inputs and run, and the root, which
 -- is 1 where a value was no word, all inputs are in range and the tests of the facts hold.
@@ -193,10 +195,10 @@ overflow_with net low high samples facts =
     let run = zero_run net inputs in
     let known = facts_from (is_long samples) (record {
       terms = run.terms;
-      outside = start.broken;
+      overflowed = start.overflowed;
       tests = inputs.tests;
     }) facts (run_tests net inputs.ids start) in
-    conjunction_from (built_of known.terms run.broken) known.tests
+    conjunction_from (built_of known.terms run.overflowed) known.tests
 
 -- the goal of an overflow, with what is known of the run's values
 unfoldable pub overflow_of : Net → ℤ → ℤ → ℕ → Built

@@ -1,3 +1,4 @@
+pub mod Beside
 pub mod CycleGoals
 pub mod FactTests
 pub mod Goals

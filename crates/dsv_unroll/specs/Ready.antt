@@ -13,9 +13,7 @@ use Rattle.dsv_term.specs.Terms.{width_of, word_of}
 use Rattle.dsv_term.specs.TermsView.{TermsView}
 use Rattle.dsv_term.specs.Word.{bit_of}
 use Rattle.dsv_unroll.specs.declared.fitting.TestedTerm.{TestedTerm}
-use Rattle.dsv_unroll.specs.declared.set_goals.Start.{Start}
-use Rattle.dsv_unroll.specs.FactTests.{FactTerms}
-use Rattle.dsv_unroll.specs.Rules.{EndTerms, term_at}
+use Rattle.dsv_unroll.specs.Rules.{term_at}
 use Rattle.dsv_unroll.specs.SetGoals.{SetStart}
 
 -- a term that stands and is not too wide for a node's value
@@ -28,35 +26,26 @@ pub record HasBits (t : TermsView) (id : TermId) (bits : ℕ) : Type 0 where
   pub stands : id.0 < length t.nodes
   pub width : width_of t id ≡ bits
 
-abbrev pub ends_of : TermsView → TermId → TermId → TermId → TermId → EndTerms
-ends_of t least greatest below above = record {
-  terms = t;
-  least = least;
-  greatest = greatest;
-  below = below;
-  above = above;
-}
-
 -- the terms of the registers, the input and the nodes so far, and the bit that says a break
 pub record AreReady (net : Net) (registers : List TermId) (x : TermId) (t : TermsView)
-    (ids : List TermId) (broken : TermId) : Type 0 where
+    (ids : List TermId) (overflowed : TermId) : Type 0 where
   pub sound : AreSound t
   pub nodes : (i : ℕ) → i < length ids → IsValue t (term_at ids i)
   pub count : length registers ≡ length net.next
   pub registers_stand : (k : ℕ) → k < length registers → IsValue t (term_at registers k)
   pub input : IsValue t x
-  pub flag_stands : broken.0 < length t.nodes
-  pub flag_bit : width_of t broken ≡ 1
+  pub overflowed_stands : overflowed.0 < length t.nodes
+  pub overflowed_bit : width_of t overflowed ≡ 1
 
 -- the terms of the registers and of the inputs to come, and the bit that says a break
 pub record AreRunReady (net : Net) (registers inputs : List TermId) (t : TermsView)
-    (broken : TermId) : Type 0 where
+    (overflowed : TermId) : Type 0 where
   pub sound : AreSound t
   pub count : length registers ≡ length net.next
   pub registers_stand : (k : ℕ) → k < length registers → IsValue t (term_at registers k)
   pub inputs_stand : (i : ℕ) → i < length inputs → IsValue t (term_at inputs i)
-  pub flag_stands : broken.0 < length t.nodes
-  pub flag_bit : width_of t broken ≡ 1
+  pub overflowed_stands : overflowed.0 < length t.nodes
+  pub overflowed_bit : width_of t overflowed ≡ 1
 
 -- the least number of bits in which all numbers from one end to the other are words
 pub record IsLeastWidth (bits : ℕ) (low high : ℤ) : Type 0 where
@@ -73,12 +62,12 @@ pub record AreAllValues (t : TermsView) (ids : List TermId) : Type 0 where
   pub stand : (i : ℕ) → i < length ids → IsValue t (term_at ids i)
 
 -- a run without input so far
-pub record AreCycleReady (net : Net) (t : TermsView) (nought : TermId) (registers : List TermId)
+pub record AreCycleReady (net : Net) (t : TermsView) (zero_bit : TermId) (registers : List TermId)
     (sounding found : TermId) : Type 0 where
   pub sound : AreSound t
   pub registers_stand : AreAllValues t registers
   pub count : length registers ≡ length net.next
-  pub nought_bit : HasBits t nought 1
+  pub zero_has_bit : HasBits t zero_bit 1
   pub sounding_bit : HasBits t sounding 1
   pub found_bit : HasBits t found 1
 
@@ -113,46 +102,32 @@ IsEntry t (Some tested) = IsTest t tested
 pub record AreTested (t : TermsView) (entries : List (Option TestedTerm)) : Type 0 where
   pub stand : All (IsEntry t) entries
 
--- the bit that is 1 where a value before that may be outside was, and the tests so far
-pub record AreKnown (t : TermsView) (outside : TermId) (tests : List TermId) : Type 0 where
+-- the bit that is 1 where a value so far that may be no word was none, and the tests so far
+pub record AreKnown (t : TermsView) (overflowed : TermId) (tests : List TermId) : Type 0 where
   pub sound : AreSound t
-  pub bit : IsTruth t outside
+  pub bit : IsTruth t overflowed
   pub bits : AreBits t tests
-
--- the same as one record
-abbrev pub known_of : TermsView → TermId → List TermId → FactTerms
-known_of t outside tests = record { terms = t; outside = outside; tests = tests }
 
 -- ---- sets
 -- what the test of a set stands on: a zero in one bit, and the terms of few registers
-pub record IsSetReady (t : TermsView) (nought : TermId) (registers : List TermId) : Type 0 where
+pub record IsSetReady (t : TermsView) (zero_bit : TermId) (registers : List TermId) : Type 0 where
   pub sound : AreSound t
-  pub nought_bit : HasBits t nought 1
+  pub zero_has_bit : HasBits t zero_bit 1
   pub registers_stand : AreAllValues t registers
   pub few : length registers ≤ most_registers
 
 -- the states of a run so far: a zero in one bit, the terms of the registers, and a bit for each
 -- state
-pub record AreStatesReady (net : Net) (t : TermsView) (nought : TermId)
+pub record AreStatesReady (net : Net) (t : TermsView) (zero_bit : TermId)
     (registers inside : List TermId) : Type 0 where
   pub sound : AreSound t
-  pub nought_bit : HasBits t nought 1
+  pub zero_has_bit : HasBits t zero_bit 1
   pub registers_stand : AreAllValues t registers
   pub count : length registers ≡ length net.next
   pub inside_bits : AreBits t inside
 
--- what the code of a set's goal begins with, beside these terms
-abbrev pub start_with : TermsView → Start → SetStart
-start_with t start = record {
-  terms = t;
-  nought = start.nought;
-  registers = start.registers.items;
-  inputs = start.inputs.items;
-  tests = start.tests.items;
-}
-
 -- before the first state of a set's goal
 pub record IsStartReady (net : Net) (s : SetStart) : Type 0 where
-  pub states : AreStatesReady net s.terms s.nought s.registers []
+  pub states : AreStatesReady net s.terms s.zero_bit s.registers []
   pub inputs_stand : AreAllValues s.terms s.inputs
   pub tests_bits : AreBits s.terms s.tests

@@ -122,10 +122,10 @@ rounded_term t bound addend f of =
 pub record Unrolled : Type 0 where
   pub terms : TermsView
   pub id : TermId
-  pub broken : TermId
+  pub overflowed : TermId
 
 abbrev pub unrolled_of : Built → TermId → Unrolled
-unrolled_of b broken = record { terms = b.terms; id = b.id; broken = broken }
+unrolled_of b overflowed = record { terms = b.terms; id = b.id; overflowed = overflowed }
 
 -- terms, the low bits of a term, and the test whether it is a word
 pub record CutTerms : Type 0 where
@@ -146,13 +146,12 @@ cut_terms t n of =
       tested = record { value = of; is_word = same.id; outside = other.id };
     }
 
--- The low bits of a wider term. The word after a break doesn't matter: the flag is 1 then, whatever
--- comes.
+-- The low bits of a wider term. The word after a break doesn't matter: the bit is 1 from there on.
 abbrev pub cut_term : TermsView → ℕ → TermId → TermId → Unrolled
-cut_term t n of broken =
+cut_term t n of overflowed =
     let cut = cut_terms t n of in
-    let either = with_node cut.terms (Or broken cut.tested.outside) in
-    record { terms = either.terms; id = cut.word; broken = either.id }
+    let either = with_node cut.terms (Or overflowed cut.tested.outside) in
+    record { terms = either.terms; id = cut.word; overflowed = either.id }
 
 -- two numbers of so many bits, and whether a term lies below the one or above the other
 pub record EndTerms : Type 0 where
@@ -196,13 +195,13 @@ word_term overflow_mode.Saturate t n of = saturated_term t n of
 -- A term of at most n bits is a word already. Up to the first break every word is the exact value,
 -- so the search for a break tests it; a start may be any word, so the search for cycles fits it.
 abbrev pub fitted_term : FitRule → Format → TermsView → TermId → TermId → Unrolled
-fitted_term fit_rule.Tested format t of broken =
-    if nat_lt (width format) (width_of t of) then cut_term t (width format) of broken
-    else unrolled_of (built_of t of) broken
-fitted_term fit_rule.Faithful format t of broken =
+fitted_term fit_rule.Tested format t of overflowed =
+    if nat_lt (width format) (width_of t of) then cut_term t (width format) of overflowed
+    else unrolled_of (built_of t of) overflowed
+fitted_term fit_rule.Faithful format t of overflowed =
     if nat_lt (width format) (width_of t of)
-    then unrolled_of (word_term format.overflow t (width format) of) broken
-    else unrolled_of (built_of t of) broken
+    then unrolled_of (word_term format.overflow t (width format) of) overflowed
+    else unrolled_of (built_of t of) overflowed
 
 -- the test of a fitted value: none where a term is a word already, or where it isn't tested
 abbrev pub tested_term : FitRule → Format → TermsView → TermId → Option TestedTerm
@@ -224,22 +223,22 @@ bound_at net i = slice_index (bounds_of net.format net.nodes) i
 -- and of the input
 abbrev pub node_term : FitRule → Net → List TermId → TermId → TermsView → List TermId → TermId
     → Node → Unrolled
-node_term rule net registers x t ids broken node.Input = unrolled_of (built_of t x) broken
-node_term rule net registers x t ids broken (node.Reg k) =
-    unrolled_of (built_of t (term_at registers k)) broken
-node_term rule net registers x t ids broken (node.MulConst coeff of) =
-    unrolled_of (product_term t (bound_at net (length ids)) coeff (term_at ids of)) broken
-node_term rule net registers x t ids broken (node.Round of) =
+node_term rule net registers x t ids overflowed node.Input = unrolled_of (built_of t x) overflowed
+node_term rule net registers x t ids overflowed (node.Reg k) =
+    unrolled_of (built_of t (term_at registers k)) overflowed
+node_term rule net registers x t ids overflowed (node.MulConst coeff of) =
+    unrolled_of (product_term t (bound_at net (length ids)) coeff (term_at ids of)) overflowed
+node_term rule net registers x t ids overflowed (node.Round of) =
     unrolled_of (rounded_term t (bound_at net of) (addend_at net of) net.format.frac_bits
-    (term_at ids of)) broken
-node_term rule net registers x t ids broken (node.Add left right) =
+    (term_at ids of)) overflowed
+node_term rule net registers x t ids overflowed (node.Add left right) =
     unrolled_of (sum_term t (bound_at net (length ids)) (term_at ids left) (term_at ids right))
-    broken
-node_term rule net registers x t ids broken (node.Sub left right) =
+    overflowed
+node_term rule net registers x t ids overflowed (node.Sub left right) =
     unrolled_of (difference_term t (bound_at net (length ids)) (term_at ids left)
-    (term_at ids right)) broken
-node_term rule net registers x t ids broken (node.Fit of) =
-    fitted_term rule net.format t (term_at ids of) broken
+    (term_at ids right)) overflowed
+node_term rule net registers x t ids overflowed (node.Fit of) =
+    fitted_term rule net.format t (term_at ids of) overflowed
 
 -- the tests that a node adds: one where a value is fitted
 abbrev pub node_tests : FitRule → Format → TermsView → List TermId → Node

@@ -53,10 +53,10 @@ at_most_term t id bound =
     let most = with_node a.terms (Constant bits (residue bits bound)) in
     with_node most.terms (Sle a.id most.id)
 
--- whether the registers fulfil an inequality, where nought is a zero
+-- whether the registers fulfil an inequality, where zero_bit is a zero
 abbrev pub inequality_term : ℕ → TermId → List TermId → TermsView → Inequality → Built
-inequality_term n nought registers t i =
-    let sum = combination_from n (record { terms = t; id = nought; bound = 0 })
+inequality_term n zero_bit registers t i =
+    let sum = combination_from n (record { terms = t; id = zero_bit; bound = 0 })
     i.coefficients.items registers in
     at_most_term sum.terms sum.id i.bound
 
@@ -67,16 +67,16 @@ pub record Tests : Type 0 where
 
 -- one test for each inequality
 abbrev pub inequalities_from : ℕ → TermId → List TermId → Tests → List Inequality → Tests
-inequalities_from n nought registers s [] = s
-inequalities_from n nought registers s (i ∷ is) =
-    let test = inequality_term n nought registers s.terms i in
-    inequalities_from n nought registers
+inequalities_from n zero_bit registers s [] = s
+inequalities_from n zero_bit registers s (i ∷ is) =
+    let test = inequality_term n zero_bit registers s.terms i in
+    inequalities_from n zero_bit registers
     (record { terms = test.terms; ids = s.ids ++ test.id ∷ [] }) is
 
 -- whether the registers are in the set
 unfoldable pub set_term : ℕ → TermId → TermsView → Candidate → List TermId → Built
-set_term n nought t candidate registers =
-    let tests = inequalities_from n nought registers (record { terms = t; ids = [] })
+set_term n zero_bit t candidate registers =
+    let tests = inequalities_from n zero_bit registers (record { terms = t; ids = [] })
     candidate.inequalities.items in
     let whole = with_node tests.terms (Constant 1 1) in
     conjunction_from whole tests.ids
@@ -89,14 +89,14 @@ pub record StateTerms : Type 0 where
   pub inside : List TermId
 
 abbrev pub with_state : Net → TermId → Candidate → StateTerms → StateTerms
-with_state net nought candidate s =
-    let here = set_term (width net.format) nought s.terms candidate s.registers in
+with_state net zero_bit candidate s =
+    let here = set_term (width net.format) zero_bit s.terms candidate s.registers in
     record { terms = here.terms; registers = s.registers; inside = s.inside ++ here.id ∷ [] }
 
 -- the words that the run computes, whatever breaks
 abbrev pub with_next : Net → TermId → TermId → StateTerms → StateTerms
-with_next net nought x s =
-    let sample = sample_terms Faithful net s.registers x s.terms nought in
+with_next net zero_bit x s =
+    let sample = sample_terms Faithful net s.registers x s.terms zero_bit in
     record {
       terms = sample.terms;
       registers = map (term_at sample.ids) net.next;
@@ -105,39 +105,40 @@ with_next net nought x s =
 
 -- the states before these inputs, between them, and after the last
 abbrev pub states_from : Net → TermId → Candidate → StateTerms → List TermId → StateTerms
-states_from net nought candidate s [] = with_state net nought candidate s
-states_from net nought candidate s (x ∷ xs) =
-    states_from net nought candidate (with_next net nought x (with_state net nought candidate s)) xs
+states_from net zero_bit candidate s [] = with_state net zero_bit candidate s
+states_from net zero_bit candidate s (x ∷ xs) =
+    let next = with_next net zero_bit x (with_state net zero_bit candidate s) in
+    states_from net zero_bit candidate next xs
 
 -- ---- goals
 -- what a goal begins with: terms, a zero in one bit, the terms of the registers and of the inputs,
 -- and the tests that the inputs are in range
 pub record SetStart : Type 0 where
   pub terms : TermsView
-  pub nought : TermId
+  pub zero_bit : TermId
   pub registers : List TermId
   pub inputs : List TermId
   pub tests : List TermId
 
 -- the terms that the registers start with: zeros for the base, and else an input each
 abbrev pub registers_of : Net → TermsView → TermId → SetPart → StartTerms
-registers_of net t nought set_part.Base =
-    record { terms = t; ids = replicate (length net.next) nought }
-registers_of net t nought set_part.Step =
+registers_of net t zero_bit set_part.Base =
+    record { terms = t; ids = replicate (length net.next) zero_bit }
+registers_of net t zero_bit set_part.Step =
     starts_from (width net.format) (length net.next) (record { terms = t; ids = [] })
-registers_of net t nought set_part.Safe =
+registers_of net t zero_bit set_part.Safe =
     starts_from (width net.format) (length net.next) (record { terms = t; ids = [] })
 
 -- what a goal over so many inputs begins with, after the inputs of the registers
 abbrev pub set_start : Net → ℤ → ℤ → ℕ → SetPart → SetStart
 set_start net low high samples part =
-    let nought = with_node no_terms (Constant 1 0) in
-    let registers = registers_of net nought.terms nought.id part in
+    let zero_bit = with_node no_terms (Constant 1 0) in
+    let registers = registers_of net zero_bit.terms zero_bit.id part in
     let inputs = inputs_from (width net.format) low high samples
     (record { terms = registers.terms; ids = []; tests = [] }) in
     record {
       terms = inputs.terms;
-      nought = nought.id;
+      zero_bit = zero_bit.id;
       registers = registers.ids;
       inputs = inputs.ids;
       tests = inputs.tests;
@@ -145,7 +146,7 @@ set_start net low high samples part =
 
 -- the states of a start, over all its inputs
 abbrev pub states_of : Net → Candidate → SetStart → StateTerms
-states_of net candidate s = states_from net s.nought candidate
+states_of net candidate s = states_from net s.zero_bit candidate
     (record { terms = s.terms; registers = s.registers; inside = [] }) s.inputs
 
 -- some state isn't in the set
@@ -166,10 +167,10 @@ step_break net candidate s =
 -- the start is in the set, and an exact value of its sample is no word
 abbrev pub safe_break : Net → Candidate → SetStart → Built
 safe_break net candidate s =
-    let inside = set_term (width net.format) s.nought s.terms candidate s.registers in
+    let inside = set_term (width net.format) s.zero_bit s.terms candidate s.registers in
     let run = run_from net s.inputs
-    (record { terms = inside.terms; registers = s.registers; broken = s.nought }) in
-    with_node run.terms (And run.broken inside.id)
+    (record { terms = inside.terms; registers = s.registers; overflowed = s.zero_bit }) in
+    with_node run.terms (And run.overflowed inside.id)
 
 -- a sentence is broken, where the inputs are in range
 abbrev pub break_of : Net → Candidate → SetPart → SetStart → Built

@@ -34,7 +34,7 @@ HasCycle net start periods = (p : ℕ) × (1 ≤ p) × (p ≤ periods)
 -- The bit is 1 exactly where this holds, and else 0.
 pub record Tells (bit : Word) (holds : Type 0) : Type 0 where
   pub one : holds → bit ≡ bit_of true
-  pub nought : (holds → ⊥) → bit ≡ bit_of false
+  pub zero : (holds → ⊥) → bit ≡ bit_of false
   pub only : bit ≡ bit_of true → holds
 
 -- ---- sets

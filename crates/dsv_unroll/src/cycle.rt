@@ -1,4 +1,10 @@
-// The goal of a limit cycle.
+// The goal of a limit cycle: the start words are its inputs, and the run from them has no input.
+// Its values wrap or saturate as the controller's do. A cycle is found where after a sample the
+// registers hold the start words again, and some output so far wasn't 0.
+//
+// A cycle of a period is one of each multiple of it, too. Every period up to a bound has a
+// multiple that is above half the bound and not above it, so only the samples after that half are
+// compared with the start.
 ghost use Rattle.dsv_word.specs.Words.{width};
 ghost use Rattle.std.specs.Prelude.{◌≡◌, ◌<◌, ◌-◌};
 ghost use Rattle.std.specs.Prelude.{length, replicate};
@@ -12,12 +18,14 @@ ghost use Rattle.dsv_unroll.specs.CycleGoals.{same_term, sounding_term, returned
 ghost use Rattle.dsv_unroll.specs.CycleGoals.{with_quiet_sample, with_asked, cycles_from};
 ghost use Rattle.dsv_unroll.specs.CycleGoals.{starts_from, found_of, cycle_of};
 ghost use Rattle.dsv_unroll.specs.Words.{cycle_start, HasCycle, Tells};
+ghost use Rattle.dsv_unroll.specs.Beside.{cycle_with};
 ghost use Rattle.dsv_unroll.specs.Ready.{IsValue, HasBits, AreAllValues, AreCycleReady};
 
 use crate::inputs::start_inputs;
-use crate::overflow::repeated_term;
+use crate::lists::repeated_term;
+use crate::nodes::Sample;
 use crate::rules::{FitRule, widened_term};
-use crate::sample::{next_terms, sample_terms};
+use crate::unroller::Unroller;
 use dsv_base::NoMemory;
 use dsv_netlist::Netlist;
 use dsv_term::{Goal, TermId, Terms};
@@ -35,29 +43,27 @@ fn same_term(terms: &mut Terms, left: TermId, right: TermId) -> Result<TermId, N
     let bits = terms.width(left).max(terms.width(right));
     let first = widened_term(terms, left, bits)?;
     let second = widened_term(terms, right, bits)?;
-    let same = terms.eq(first, second)?;
-    Ok(same)
+    terms.eq(first, second)
 }
 
 /// Whether the output isn't 0, or the bit holds.
 fn sounding_term(
     terms: &mut Terms,
     output: TermId,
-    nought: TermId,
+    zero_bit: TermId,
     sounding: TermId,
 ) -> Result<TermId, NoMemory>
     requires sound { AreSound terms.old }
     requires output { IsValue terms.old output }
-    requires nought { IsValue terms.old nought }
+    requires zero_bit { IsValue terms.old zero_bit }
     requires bit { HasBits terms.old sounding 1 }
     ensures built { IfOk result (λ made.
-        built_of terms.new made ≡ sounding_term terms.old output nought sounding) }
+        built_of terms.new made ≡ sounding_term terms.old output zero_bit sounding) }
     ensures adds { IfOk result (λ made. Adds terms.old terms.new made 1) }
 {
-    let quiet = same_term(terms, output, nought)?;
+    let quiet = same_term(terms, output, zero_bit)?;
     let sound = terms.not(quiet)?;
-    let made = terms.or(sounding, sound)?;
-    Ok(made)
+    terms.or(sounding, sound)
 }
 
 /// A bit, and whether the registers hold the words of the start.
@@ -95,52 +101,6 @@ pub(crate) struct CycleTerms {
     pub found: TermId,
 }
 
-/// One sample more without input.
-fn quiet_sample(
-    alloc: Global,
-    terms: &mut Terms,
-    net: &Netlist,
-    nought: TermId,
-    state: CycleTerms,
-) -> Result<CycleTerms, NoMemory>
-    requires netlist { IsNetlist net.now }
-    requires ready { AreCycleReady net.now terms.old nought state.registers.items state.sounding
-        state.found }
-    ensures built { IfOk result (λ next. record {
-      terms = terms.new;
-      registers = next.registers.items;
-      sounding = next.sounding;
-      found = next.found;
-    }
-        ≡ with_quiet_sample net.now nought (record {
-          terms = terms.old;
-          registers = state.registers.items;
-          sounding = state.sounding;
-          found = state.found;
-        })) }
-    ensures ready { IfOk result (λ next. AreCycleReady net.now terms.new nought
-        next.registers.items next.sounding next.found) }
-    ensures kept { IfOk result (λ next. KeepsTerms terms.old terms.new) }
-{
-    let sample = sample_terms(
-        alloc,
-        terms,
-        net,
-        FitRule::Faithful,
-        &state.registers,
-        nought,
-        nought,
-    )?;
-    let registers = next_terms(alloc, net, &sample.ids)?;
-    let output = sample.ids[net.output() as usize];
-    let sounding = sounding_term(terms, output, nought, state.sounding)?;
-    Ok(CycleTerms {
-        registers,
-        sounding,
-        found: state.found,
-    })
-}
-
 /// A cycle is found where the registers hold the start, too.
 fn found_cycle(
     terms: &mut Terms,
@@ -154,18 +114,8 @@ fn found_cycle(
     requires count { length starts.now ≡ length state.registers.items }
     requires sounding { HasBits terms.old state.sounding 1 }
     requires found { HasBits terms.old state.found 1 }
-    ensures built { IfOk result (λ next. record {
-      terms = terms.new;
-      registers = next.registers.items;
-      sounding = next.sounding;
-      found = next.found;
-    }
-        ≡ with_asked asked (record {
-          terms = terms.old;
-          registers = state.registers.items;
-          sounding = state.sounding;
-          found = state.found;
-        }) starts.now) }
+    ensures built { IfOk result (λ next. cycle_with terms.new next
+        ≡ with_asked asked (cycle_with terms.old state) starts.now) }
     ensures sound { IfOk result (λ next. AreSound terms.new) }
     ensures kept { IfOk result (λ next. KeepsTerms terms.old terms.new) }
     ensures registers { IfOk result
@@ -193,57 +143,77 @@ fn is_asked(periods: u32, done: u32) -> bool
     u64::from(periods) < 2 * (u64::from(done) + 1)
 }
 
-/// Whether a cycle is found from this state on, in so many samples.
-fn found_term(
-    alloc: Global,
-    terms: &mut Terms,
-    net: &Netlist,
-    starts: &[TermId],
-    nought: TermId,
-    start: CycleTerms,
-    periods: u32,
-) -> Result<TermId, NoMemory>
-    requires netlist { IsNetlist net.now }
-    requires ready { AreCycleReady net.now terms.old nought start.registers.items start.sounding
-        start.found }
-    requires starts { AreAllValues terms.old starts.now }
-    requires count { length starts.now ≡ length net.now.next }
-    ensures built { IfOk result (λ found.
-        built_of terms.new found ≡ found_of (cycles_from net.now starts.now nought periods 1
-        periods (record {
-          terms = terms.old;
-          registers = start.registers.items;
-          sounding = start.sounding;
-          found = start.found;
-        }))) }
-    ensures bit { IfOk result (λ found. HasBits terms.new found 1) }
-{
-    let mut state = start;
-    for i in 0..periods {
-        let next = quiet_sample(alloc, terms, net, nought, state)?;
-        let asked = is_asked(periods, i);
-        state = found_cycle(terms, asked, next, starts)?;
+impl<'a> Unroller<'a> {
+    /// One sample more without input.
+    fn quiet_sample(&self, terms: &mut Terms, state: CycleTerms) -> Result<CycleTerms, NoMemory>
+        requires netlist { IsNetlist self.now.net.now }
+        requires ready { AreCycleReady self.now.net.now terms.old self.now.zero_bit
+            state.registers.items state.sounding state.found }
+        ensures built { IfOk result (λ next. cycle_with terms.new next ≡ with_quiet_sample
+            self.now.net.now self.now.zero_bit (cycle_with terms.old state)) }
+        ensures ready { IfOk result (λ next. AreCycleReady self.now.net.now terms.new
+            self.now.zero_bit next.registers.items next.sounding next.found) }
+        ensures kept { IfOk result (λ next. KeepsTerms terms.old terms.new) }
+    {
+        let zero_bit = self.zero_bit;
+        let before = Sample {
+            rule: FitRule::Faithful,
+            registers: &state.registers,
+            x: zero_bit,
+        };
+        let sample = self.sample_terms(terms, &before, zero_bit)?;
+        let registers = self.next_terms(&sample.ids)?;
+        let output = sample.ids[self.net.output() as usize];
+        let sounding = sounding_term(terms, output, zero_bit, state.sounding)?;
+        Ok(CycleTerms {
+            registers,
+            sounding,
+            found: state.found,
+        })
     }
-    Ok(state.found)
-}
 
-/// The terms that the registers start with: 0 for the feed-forward ones, and an input for each
-/// other.
-fn start_terms(
-    alloc: Global,
-    terms: &mut Terms,
-    net: &Netlist,
-    nought: TermId,
-) -> Result<Vec<TermId>, NoMemory>
-    requires { IsNetlist net.now }
-    ensures { IfOk result (λ ids. record { terms = terms.new; ids = ids.items }
-        ≡ starts_from (width net.now.format) (length net.now.next - net.now.feed_forward)
-        (record { terms = terms.old; ids = replicate net.now.feed_forward nought })) }
-{
-    let format = net.format();
-    let forward = net.feed_forward();
-    let ids = repeated_term(alloc, nought, forward)?;
-    start_inputs(terms, &format, ids, net.registers() - forward)
+    /// Whether a cycle is found from this state on, in so many samples.
+    fn found_term(
+        &self,
+        terms: &mut Terms,
+        starts: &[TermId],
+        start: CycleTerms,
+        periods: u32,
+    ) -> Result<TermId, NoMemory>
+        requires netlist { IsNetlist self.now.net.now }
+        requires ready { AreCycleReady self.now.net.now terms.old self.now.zero_bit
+            start.registers.items start.sounding start.found }
+        requires starts { AreAllValues terms.old starts.now }
+        requires count { length starts.now ≡ length self.now.net.now.next }
+        ensures built { IfOk result (λ found. built_of terms.new found
+            ≡ found_of (cycles_from self.now.net.now starts.now self.now.zero_bit periods 1 periods
+            (cycle_with terms.old start))) }
+        ensures bit { IfOk result (λ found. HasBits terms.new found 1) }
+    {
+        let mut state = start;
+        for i in 0..periods {
+            let next = self.quiet_sample(terms, state)?;
+            let asked = is_asked(periods, i);
+            state = found_cycle(terms, asked, next, starts)?;
+        }
+        Ok(state.found)
+    }
+
+    /// The terms that the registers start with: 0 for the feed-forward ones, and an input for each
+    /// other.
+    fn start_terms(&self, terms: &mut Terms) -> Result<Vec<TermId>, NoMemory>
+        requires { IsNetlist self.now.net.now }
+        ensures { IfOk result (λ ids. let net = self.now.net.now in
+            record { terms = terms.new; ids = ids.items }
+            ≡ starts_from (width net.format) (length net.next - net.feed_forward)
+            (record { terms = terms.old; ids = replicate net.feed_forward self.now.zero_bit })) }
+    {
+        let net = self.net;
+        let format = net.format();
+        let forward = net.feed_forward();
+        let ids = repeated_term(self.alloc, self.zero_bit, forward)?;
+        start_inputs(terms, &format, ids, net.registers() - forward)
+    }
 }
 
 /// The root of the goal of a cycle.
@@ -259,27 +229,19 @@ fn cycle_root(
     ensures built { IfOk result (λ root. built_of terms.new root ≡ cycle_of net.now periods) }
     ensures bit { IfOk result (λ root. HasBits terms.new root 1) }
 {
-    let nought = terms.constant(1, 0)?;
-    let starts = start_terms(alloc, terms, net, nought)?;
+    let zero_bit = terms.constant(1, 0)?;
+    let unroller = Unroller {
+        alloc,
+        net,
+        zero_bit,
+    };
+    let starts = unroller.start_terms(terms)?;
     let state = CycleTerms {
         registers: Vec::from_slice(alloc, &starts)?,
-        sounding: nought,
-        found: nought,
+        sounding: zero_bit,
+        found: zero_bit,
     };
-    let found = found_term(alloc, terms, net, &starts, nought, state, periods)?;
-    Ok(found)
-}
-
-/// The terms of the goal of a cycle, and its root.
-fn cycle_terms(alloc: Global, net: &Netlist, periods: u32) -> Result<Goal, NoMemory>
-    ensures made { IfOk result
-        (λ goal. built_of goal.terms goal.root ≡ cycle_of net.now periods) }
-    ensures netlist { IfOk result (λ goal. IsNetlist net.now) }
-{
-    let count = net.len();
-    let mut terms = Terms::new(alloc);
-    let root = cycle_root(alloc, &mut terms, net, periods)?;
-    Goal::new(alloc, terms, root)
+    unroller.found_term(terms, &starts, state, periods)
 }
 
 /// The goal of a limit cycle of a period from 1 to `periods`: its inputs are the start words of the
@@ -295,6 +257,8 @@ pub fn cycle_goal(alloc: Global, net: &Netlist, periods: u32) -> Result<Goal, No
         → Tells (word_of goal.terms values goal.root)
         (HasCycle net.now (cycle_start net.now values) periods)) }
 {
-    let goal = cycle_terms(alloc, net, periods)?;
-    Ok(goal)
+    let _count = net.len(); // its clause on the netlist, for the proof
+    let mut terms = Terms::new(alloc);
+    let root = cycle_root(alloc, &mut terms, net, periods)?;
+    Goal::new(alloc, terms, root)
 }

@@ -1,4 +1,11 @@
-// What the facts of a run's exact values add to the root of its overflow goal.
+// The tests of known ranges. As long as all exact values before it are words, an exact value may
+// be known to be a word itself, or to lie between two ends. A test says so of its term, and a
+// solver that has these tests beside the root needn't find out by conflicts what worst cases show
+// at once.
+//
+// Each test is joined by an or with the bit that is 1 where a value before, of which nothing is
+// known, was no word: from there on nothing is known, and before it the fact holds. So each test
+// is 1 at all inputs in range.
 ghost use Rattle.std.specs.Prelude.{◌≡◌, IfOk, slice_index_or};
 ghost use Rattle.dsv_linear.specs.declared.fact.Fact.TheVariants.{Open};
 ghost use Rattle.dsv_term.specs.Building.{built_of};
@@ -6,12 +13,23 @@ ghost use Rattle.dsv_term.specs.Terms.{KeepsTerms};
 ghost use Rattle.dsv_unroll.specs.FactTests.{within_test, with_test, with_word, with_fact};
 ghost use Rattle.dsv_unroll.specs.FactTests.{with_entry, facts_from};
 ghost use Rattle.dsv_unroll.specs.Ready.{IsValue, HasBits, AreBits, IsTest, IsEntry};
-ghost use Rattle.dsv_unroll.specs.Ready.{AreTested, AreKnown, known_of};
+ghost use Rattle.dsv_unroll.specs.Ready.{AreTested, AreKnown};
+ghost use Rattle.dsv_unroll.specs.Beside.{known_with};
 
 use crate::fitting::TestedTerm;
 use dsv_base::NoMemory;
 use dsv_linear::Fact;
 use dsv_term::{TermId, Terms, Word};
+
+/// The tests so far of what is known of a run's values.
+#[derive(Drop)]
+pub(crate) struct KnownTests {
+    /// The bit that is 1 where a value so far, of which nothing is known, was no word.
+    pub overflowed: TermId,
+    /// Bits that are 1 at all inputs in range: each says what is known of a value, or that the bit
+    /// above was 1 before it.
+    pub tests: Vec<TermId>,
+}
 
 /// Whether a value lies from one number to another.
 fn within_test(terms: &mut Terms, low: i64, high: i64, value: TermId) -> Result<TermId, NoMemory>
@@ -29,38 +47,32 @@ fn within_test(terms: &mut Terms, low: i64, high: i64, value: TermId) -> Result<
     terms.and(above, below)
 }
 
-/// Adds a test, which holds unless a value before was outside.
-fn put_test(
-    terms: &mut Terms,
-    outside: TermId,
-    test: TermId,
-    tests: &mut Vec<TermId>,
-) -> Result<(), NoMemory>
-    requires known { AreKnown terms.old outside tests.old.items }
+/// Adds a test, which holds unless a value before was no word.
+fn put_test(terms: &mut Terms, known: &mut KnownTests, test: TermId) -> Result<(), NoMemory>
+    requires known { AreKnown terms.old known.old.overflowed known.old.tests.items }
     requires test { HasBits terms.old test 1 }
-    ensures built { IfOk result (λ u. known_of terms.new outside tests.new.items
-        ≡ with_test (known_of terms.old outside tests.old.items) (built_of terms.old test)) }
+    ensures built { IfOk result (λ u. known_with terms.new known.new
+        ≡ with_test (known_with terms.old known.old) (built_of terms.old test)) }
 {
-    let either = terms.or(outside, test)?;
-    tests.push(either)?;
+    let either = terms.or(known.overflowed, test)?;
+    known.tests.push(either)?;
     Ok(())
 }
 
 /// Adds the test that a value is a word, where it is wanted.
 fn put_word_test(
     terms: &mut Terms,
-    outside: TermId,
+    known: &mut KnownTests,
     wanted: bool,
     tested: TestedTerm,
-    tests: &mut Vec<TermId>,
 ) -> Result<(), NoMemory>
-    requires known { AreKnown terms.old outside tests.old.items }
+    requires known { AreKnown terms.old known.old.overflowed known.old.tests.items }
     requires tested { IsTest terms.old tested }
-    ensures built { IfOk result (λ u. known_of terms.new outside tests.new.items
-        ≡ with_word wanted (known_of terms.old outside tests.old.items) tested) }
+    ensures built { IfOk result (λ u. known_with terms.new known.new
+        ≡ with_word wanted (known_with terms.old known.old) tested) }
 {
     if wanted {
-        put_test(terms, outside, tested.is_word, tests)?;
+        put_test(terms, known, tested.is_word)?;
     }
     Ok(())
 }
@@ -68,50 +80,47 @@ fn put_word_test(
 /// Adds the test that a value lies from one number to another.
 fn put_range_test(
     terms: &mut Terms,
-    outside: TermId,
+    known: &mut KnownTests,
     low: i64,
     high: i64,
     tested: TestedTerm,
-    tests: &mut Vec<TermId>,
 ) -> Result<(), NoMemory>
-    requires known { AreKnown terms.old outside tests.old.items }
+    requires known { AreKnown terms.old known.old.overflowed known.old.tests.items }
     requires tested { IsTest terms.old tested }
-    ensures built { IfOk result (λ u. known_of terms.new outside tests.new.items
-        ≡ with_test (known_of terms.old outside tests.old.items)
+    ensures built { IfOk result (λ u. known_with terms.new known.new
+        ≡ with_test (known_with terms.old known.old)
         (within_test terms.old low high tested.value)) }
-    ensures known { IfOk result (λ u. AreKnown terms.new outside tests.new.items) }
+    ensures known { IfOk result
+        (λ u. AreKnown terms.new known.new.overflowed known.new.tests.items) }
     ensures tested { IfOk result (λ u. IsTest terms.new tested) }
 {
     let test = within_test(terms, low, high, tested.value)?;
-    put_test(terms, outside, test, tests)?;
+    put_test(terms, known, test)?;
     Ok(())
 }
 
-/// Adds the tests of a value's fact, in a goal that is long or not, and gives the bit that is 1
-/// where this value or one before may be outside and is.
+/// Adds the tests of a value's fact, in a goal that is long or not.
 fn put_fact(
     terms: &mut Terms,
-    outside: TermId,
+    known: &mut KnownTests,
     is_long: bool,
     fact: Fact,
     tested: TestedTerm,
-    tests: &mut Vec<TermId>,
-) -> Result<TermId, NoMemory>
-    requires known { AreKnown terms.old outside tests.old.items }
+) -> Result<(), NoMemory>
+    requires known { AreKnown terms.old known.old.overflowed known.old.tests.items }
     requires tested { IsTest terms.old tested }
-    ensures built { IfOk result (λ now. known_of terms.new now tests.new.items
-        ≡ with_fact is_long (known_of terms.old outside tests.old.items) fact tested) }
+    ensures built { IfOk result (λ u. known_with terms.new known.new
+        ≡ with_fact is_long (known_with terms.old known.old) fact tested) }
 {
     match fact {
-        Fact::Open => terms.or(outside, tested.outside),
-        Fact::Inside => {
-            put_word_test(terms, outside, true, tested, tests)?;
-            Ok(outside)
+        Fact::Open => {
+            known.overflowed = terms.or(known.overflowed, tested.outside)?;
+            Ok(())
         }
+        Fact::Inside => put_word_test(terms, known, true, tested),
         Fact::Within { low, high } => {
-            put_range_test(terms, outside, low, high, tested, tests)?;
-            put_word_test(terms, outside, is_long, tested, tests)?;
-            Ok(outside)
+            put_range_test(terms, known, low, high, tested)?;
+            put_word_test(terms, known, is_long, tested)
         }
     }
 }
@@ -119,20 +128,19 @@ fn put_fact(
 /// The same, and nothing for a value that isn't tested.
 fn put_entry(
     terms: &mut Terms,
-    outside: TermId,
+    known: &mut KnownTests,
     is_long: bool,
     fact: Fact,
     entry: Option<TestedTerm>,
-    tests: &mut Vec<TermId>,
-) -> Result<TermId, NoMemory>
-    requires known { AreKnown terms.old outside tests.old.items }
+) -> Result<(), NoMemory>
+    requires known { AreKnown terms.old known.old.overflowed known.old.tests.items }
     requires entry { IsEntry terms.old entry }
-    ensures built { IfOk result (λ now. known_of terms.new now tests.new.items
-        ≡ with_entry is_long (known_of terms.old outside tests.old.items) fact entry) }
+    ensures built { IfOk result (λ u. known_with terms.new known.new
+        ≡ with_entry is_long (known_with terms.old known.old) fact entry) }
 {
     match entry {
-        Some(tested) => put_fact(terms, outside, is_long, fact, tested, tests),
-        None => Ok(outside),
+        Some(tested) => put_fact(terms, known, is_long, fact, tested),
+        None => Ok(()),
     }
 }
 
@@ -146,29 +154,27 @@ fn fact_at(facts: &[Fact], number: usize) -> Fact
     }
 }
 
-/// The tests so far and those of the facts, in a goal that is long or not, where the bit is 0.
+/// The tests so far and those of the facts, in a goal that is long or not.
 pub(crate) fn fact_tests(
     terms: &mut Terms,
-    nought: TermId,
+    before: KnownTests,
     is_long: bool,
     facts: &[Fact],
     tested: &[Option<TestedTerm>],
-    before: Vec<TermId>,
 ) -> Result<Vec<TermId>, NoMemory>
-    requires known { AreKnown terms.old nought before.items }
+    requires known { AreKnown terms.old before.overflowed before.tests.items }
     requires tested { AreTested terms.old tested.now }
     ensures terms { IfOk result (λ tests. terms.new ≡ (facts_from is_long
-        (known_of terms.old nought before.items) facts.now tested.now).terms) }
+        (known_with terms.old before) facts.now tested.now).terms) }
     ensures tests { IfOk result (λ tests. tests.items ≡ (facts_from is_long
-        (known_of terms.old nought before.items) facts.now tested.now).tests) }
+        (known_with terms.old before) facts.now tested.now).tests) }
     ensures bits { IfOk result (λ tests. AreBits terms.new tests.items) }
     ensures kept { IfOk result (λ tests. KeepsTerms terms.old terms.new) }
 {
-    let mut outside = nought;
-    let mut tests = before;
+    let mut known = before;
     for i in 0..tested.len() {
         let fact = fact_at(facts, i);
-        outside = put_entry(terms, outside, is_long, fact, tested[i], &mut tests)?;
+        put_entry(terms, &mut known, is_long, fact, tested[i])?;
     }
-    Ok(tests)
+    Ok(known.tests)
 }

@@ -1,4 +1,8 @@
-// How a value that is fitted into a word becomes a term.
+// How a value that is fitted into a word becomes a term. A term of more bits is a word exactly
+// where its low bits, extended by their sign again, are the same number. Where the first value
+// that is no word is looked for, what comes after it doesn't matter: the low bits are taken, and
+// the test is kept. Where the run is to be the controller's, a value wraps to the low bits, or it
+// saturates to the end that it lies beyond.
 ghost use Rattle.std.specs.Prelude.{◌≡◌, ◌<◌, ◌≤◌, ◌-◌, ◌^◌, length, IfOk, Some};
 ghost use Rattle.dsv_word.specs.Words.{width, lo, hi};
 ghost use Rattle.dsv_term.specs.Building.{built_of};
@@ -7,7 +11,8 @@ ghost use Rattle.dsv_term.specs.Word.{IsWidth};
 ghost use Rattle.dsv_unroll.specs.Rules.{cut_terms, cut_term, saturated_term, word_term};
 ghost use Rattle.dsv_unroll.specs.Rules.{fitted_term, tested_term};
 ghost use Rattle.dsv_unroll.specs.Rules.{end_terms, clamped_term};
-ghost use Rattle.dsv_unroll.specs.Ready.{IsValue, HasBits, ends_of};
+ghost use Rattle.dsv_unroll.specs.Beside.{node_with, ends_with};
+ghost use Rattle.dsv_unroll.specs.Ready.{IsValue, HasBits};
 
 use crate::rules::FitRule;
 use dsv_base::NoMemory;
@@ -28,20 +33,24 @@ pub(crate) struct TestedTerm {
 #[derive(Clone, Copy, Debug)]
 pub(crate) struct NodeTerm {
     pub id: TermId,
-    pub broken: TermId,
+    pub overflowed: TermId,
     pub tested: Option<TestedTerm>,
 }
 
 /// The low bits of a wider term, and whether it was no word.
-fn cut_term(terms: &mut Terms, bits: u32, of: TermId, broken: TermId) -> Result<NodeTerm, NoMemory>
+fn cut_term(
+    terms: &mut Terms,
+    bits: u32,
+    of: TermId,
+    overflowed: TermId,
+) -> Result<NodeTerm, NoMemory>
     requires value { IsValue terms.old of }
     requires some { 1 ≤ bits }
     requires wider { bits < width_of terms.old of }
-    requires flag { broken.0 < length terms.old.nodes }
-    requires bit { width_of terms.old broken ≡ 1 }
-    ensures built { IfOk result (λ made.
-        record { terms = terms.new; id = made.id; broken = made.broken }
-        ≡ cut_term terms.old bits of broken) }
+    requires stands { overflowed.0 < length terms.old.nodes }
+    requires bit { width_of terms.old overflowed ≡ 1 }
+    ensures built { IfOk result
+        (λ made. node_with terms.new made ≡ cut_term terms.old bits of overflowed) }
     ensures tested { IfOk result
         (λ made. made.tested ≡ Some (cut_terms terms.old bits of).tested) }
 {
@@ -50,13 +59,17 @@ fn cut_term(terms: &mut Terms, bits: u32, of: TermId, broken: TermId) -> Result<
     let back = terms.sext(id, width)?;
     let is_word = terms.eq(back, of)?;
     let outside = terms.not(is_word)?;
-    let broken = terms.or(broken, outside)?;
+    let overflowed = terms.or(overflowed, outside)?;
     let tested = Some(TestedTerm {
         value: of,
         is_word,
         outside,
     });
-    Ok(NodeTerm { id, broken, tested })
+    Ok(NodeTerm {
+        id,
+        overflowed,
+        tested,
+    })
 }
 
 /// Two numbers, and whether a term lies below the one or above the other.
@@ -81,8 +94,8 @@ fn end_terms(
     requires high { high < 2 ^ bits }
     requires stands { of.0 < length terms.old.nodes }
     requires wide { width_of terms.old of ≡ bits }
-    ensures built { IfOk result (λ ends. ends_of terms.new ends.least ends.greatest ends.below
-        ends.above ≡ end_terms terms.old bits low high of) }
+    ensures built { IfOk result
+        (λ ends. ends_with terms.new ends ≡ end_terms terms.old bits low high of) }
     ensures of { IfOk result (λ ends. HasBits terms.new of bits) }
     ensures least { IfOk result (λ ends. HasBits terms.new ends.least bits) }
     ensures greatest { IfOk result (λ ends. HasBits terms.new ends.greatest bits) }
@@ -116,8 +129,8 @@ fn clamped_term(
     requires greatest { HasBits terms.old ends.greatest wide }
     requires below { HasBits terms.old ends.below 1 }
     requires above { HasBits terms.old ends.above 1 }
-    ensures { IfOk result (λ made. built_of terms.new made ≡ clamped_term
-        (ends_of terms.old ends.least ends.greatest ends.below ends.above) bits of) }
+    ensures { IfOk result (λ made. built_of terms.new made
+        ≡ clamped_term (ends_with terms.old ends) bits of) }
 {
     let upper = terms.ite(ends.above, ends.greatest, of)?;
     let both = terms.ite(ends.below, ends.least, upper)?;
@@ -163,31 +176,30 @@ pub(crate) fn fitted_term(
     rule: FitRule,
     format: &Format,
     of: TermId,
-    broken: TermId,
+    overflowed: TermId,
 ) -> Result<NodeTerm, NoMemory>
     requires value { IsValue terms.old of }
-    requires flag { broken.0 < length terms.old.nodes }
-    requires bit { width_of terms.old broken ≡ 1 }
-    ensures built { IfOk result (λ made.
-        record { terms = terms.new; id = made.id; broken = made.broken }
-        ≡ fitted_term rule format.now terms.old of broken) }
+    requires stands { overflowed.0 < length terms.old.nodes }
+    requires bit { width_of terms.old overflowed ≡ 1 }
+    ensures built { IfOk result (λ made. node_with terms.new made
+        ≡ fitted_term rule format.now terms.old of overflowed) }
     ensures tested { IfOk result
         (λ made. made.tested ≡ tested_term rule format.now terms.old of) }
 {
     if terms.width(of) <= format.width() {
         return Ok(NodeTerm {
             id: of,
-            broken,
+            overflowed,
             tested: None,
         });
     }
     match rule {
-        FitRule::Tested => cut_term(terms, format.width(), of, broken),
+        FitRule::Tested => cut_term(terms, format.width(), of, overflowed),
         FitRule::Faithful => {
             let id = word_term(terms, format, of)?;
             Ok(NodeTerm {
                 id,
-                broken,
+                overflowed,
                 tested: None,
             })
         }

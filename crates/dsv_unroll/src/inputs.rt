@@ -1,19 +1,31 @@
-// The inputs of a goal, and the tests that they are in range.
+// The inputs of a goal, and the tests that they are in range. An input has all bits of a word, so
+// that a model names words; an end of the range that excludes no word has no test. Where fewer
+// bits spell every number of the range, the value's term is the input's low bits alone, and a
+// constant where the range is one number. In range that is the same number, and what is made of it
+// is narrower.
 ghost use Rattle.dsv_word.specs.Words.{width, lo, hi};
 ghost use Rattle.std.specs.Prelude.{◌≡◌, ◌<◌, []};
 ghost use Rattle.std.specs.Prelude.{IfOk, ◌≤ℤ◌};
 ghost use Rattle.dsv_term.specs.Building.{built_of};
 ghost use Rattle.dsv_term.specs.Word.{IsWidth};
 ghost use Rattle.dsv_unroll.specs.Goals.{with_low_test, with_high_test, with_input, inputs_from};
-ghost use Rattle.dsv_unroll.specs.Goals.{magnitude, range_width, value_term, conjunction_from};
+ghost use Rattle.dsv_unroll.specs.Goals.{magnitude, range_width, value_term};
 ghost use Rattle.dsv_unroll.specs.CycleGoals.{starts_from};
-ghost use Rattle.dsv_unroll.specs.Ready.{HasBits, IsLeastWidth, AreBits};
+ghost use Rattle.dsv_unroll.specs.Beside.{inputs_with};
+ghost use Rattle.dsv_unroll.specs.Ready.{HasBits, IsLeastWidth};
 
 use crate::rules::width_for;
 use dsv_base::NoMemory;
 use dsv_term::{TermId, Terms, Word};
 use dsv_word::Format;
 use std::alloc::Global;
+
+/// The numbers that an input may be: those from `low` to `high`.
+#[derive(Clone, Copy, Debug, PartialEq, Eq)]
+pub struct InputRange {
+    pub low: i64,
+    pub high: i64,
+}
 
 /// Adds the test of the range's lower end, where that excludes a word.
 fn put_low_test(
@@ -88,47 +100,24 @@ fn range_width(low: i64, high: i64) -> u32
 fn value_term(
     terms: &mut Terms,
     format: &Format,
-    low: i64,
-    high: i64,
+    range: &InputRange,
     x: TermId,
 ) -> Result<TermId, NoMemory>
     requires { HasBits terms.old x (width format.now) }
     ensures { IfOk result (λ value. built_of terms.new value
-        ≡ value_term terms.old (width format.now) low high x) }
+        ≡ value_term terms.old (width format.now) range.now.low range.now.high x) }
 {
-    let bits = range_width(low, high);
-    if low < high {
+    let bits = range_width(range.low, range.high);
+    if range.low < range.high {
         if bits < format.width() {
             terms.extract(x, bits - 1, 0)
         } else {
             Ok(x)
         }
     } else {
-        let word = Word::of_signed(bits, low.into());
+        let word = Word::of_signed(bits, range.low.into());
         terms.constant(bits, word.number)
     }
-}
-
-/// Adds an input, the tests that it is in range, and the term of its value.
-fn put_input(
-    terms: &mut Terms,
-    format: &Format,
-    low: &i64,
-    high: &i64,
-    ids: &mut Vec<TermId>,
-    tests: &mut Vec<TermId>,
-) -> Result<(), NoMemory>
-    ensures { IfOk result (λ u.
-        record { terms = terms.new; ids = ids.new.items; tests = tests.new.items }
-        ≡ with_input (width format.now) low.now high.now
-        (record { terms = terms.old; ids = ids.old.items; tests = tests.old.items })) }
-{
-    let x = terms.input(format.width())?;
-    put_low_test(terms, format, *low, x, tests)?;
-    put_high_test(terms, format, *high, x, tests)?;
-    let value = value_term(terms, format, *low, *high, x)?;
-    ids.push(value)?;
-    Ok(())
 }
 
 /// The terms of the inputs' values, and the tests that these are in range.
@@ -138,26 +127,45 @@ pub(crate) struct InputTerms {
     pub tests: Vec<TermId>,
 }
 
+/// Adds an input: the tests that it is in range, and the term of its value.
+fn put_input(
+    terms: &mut Terms,
+    format: &Format,
+    range: &InputRange,
+    inputs: &mut InputTerms,
+) -> Result<(), NoMemory>
+    ensures { IfOk result (λ u. inputs_with terms.new inputs.new
+        ≡ with_input (width format.now) range.now.low range.now.high
+        (inputs_with terms.old inputs.old)) }
+{
+    let x = terms.input(format.width())?;
+    put_low_test(terms, format, range.low, x, &mut inputs.tests)?;
+    put_high_test(terms, format, range.high, x, &mut inputs.tests)?;
+    let value = value_term(terms, format, range, x)?;
+    inputs.ids.push(value)?;
+    Ok(())
+}
+
 /// So many inputs, and the tests that they are in range.
 pub(crate) fn input_terms(
     alloc: Global,
     terms: &mut Terms,
     format: &Format,
-    low: &i64,
-    high: &i64,
+    range: &InputRange,
     samples: u32,
 ) -> Result<InputTerms, NoMemory>
-    ensures built { IfOk result (λ made.
-        record { terms = terms.new; ids = made.ids.items; tests = made.tests.items }
-        ≡ inputs_from (width format.now) low.now high.now samples
+    ensures built { IfOk result (λ inputs. inputs_with terms.new inputs
+        ≡ inputs_from (width format.now) range.now.low range.now.high samples
         (record { terms = terms.old; ids = []; tests = [] })) }
 {
-    let mut ids = Vec::new(alloc);
-    let mut tests = Vec::new(alloc);
+    let mut inputs = InputTerms {
+        ids: Vec::new(alloc),
+        tests: Vec::new(alloc),
+    };
     for i in 0..samples {
-        put_input(terms, format, low, high, &mut ids, &mut tests)?;
+        put_input(terms, format, range, &mut inputs)?;
     }
-    Ok(InputTerms { ids, tests })
+    Ok(inputs)
 }
 
 /// So many inputs more after these terms, each in as many bits as words have.
@@ -178,23 +186,4 @@ pub(crate) fn start_inputs(
         ids.push(x)?;
     }
     Ok(ids)
-}
-
-/// A bit and these.
-pub(crate) fn conjunction(
-    terms: &mut Terms,
-    first: TermId,
-    tests: &[TermId],
-) -> Result<TermId, NoMemory>
-    requires first { HasBits terms.old first 1 }
-    requires tests { AreBits terms.old tests.now }
-    ensures built { IfOk result (λ all.
-        built_of terms.new all ≡ conjunction_from (built_of terms.old first) tests.now) }
-    ensures bit { IfOk result (λ all. HasBits terms.new all 1) }
-{
-    let mut all = first;
-    for test in tests {
-        all = terms.and(all, *test)?;
-    }
-    Ok(all)
 }

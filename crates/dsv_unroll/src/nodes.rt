@@ -1,8 +1,9 @@
 // The term of each node of a sample.
 ghost use Rattle.std.specs.Prelude.{◌≡◌, ◌<◌, ◌≤◌, ◌^◌, ◌++◌, length, IfOk};
-ghost use Rattle.dsv_netlist.specs.Conditions.{NamesBelow, ReadsBelow};
+ghost use Rattle.dsv_netlist.specs.Conditions.{IsNetlist, NamesBelow, ReadsBelow};
 ghost use Rattle.dsv_unroll.specs.Rules.{addend_of, is_whole, addend_at, bound_at, node_term};
 ghost use Rattle.dsv_unroll.specs.Rules.{node_tests};
+ghost use Rattle.dsv_unroll.specs.Beside.{node_with};
 ghost use Rattle.dsv_unroll.specs.Ready.{AreReady, fit_tests};
 
 use crate::fitting::{NodeTerm, TestedTerm, fitted_term};
@@ -63,33 +64,49 @@ fn bound_at(net: &Netlist, i: u32) -> u128
     net.bound(i) as u128
 }
 
-/// The term of the node of this number, where these are the terms of the registers, of the input
-/// and of the nodes before it, and of one bit that is 1 where a value so far was no word.
+/// What a sample is unrolled from: how a value becomes a word, and the terms of the registers and
+/// of the input.
+#[derive(Clone, Copy)]
+pub(crate) struct Sample<'a> {
+    pub rule: FitRule,
+    pub registers: &'a [TermId],
+    pub x: TermId,
+}
+
+/// The terms of a sample's nodes so far, the one that is 1 where a value so far was no word, and
+/// the tests of its exact values, in their order.
+#[derive(Drop)]
+pub(crate) struct SampleTerms {
+    pub ids: Vec<TermId>,
+    pub overflowed: TermId,
+    pub tested: Vec<Option<TestedTerm>>,
+}
+
+/// The term of the next node of a sample, after those of the nodes before it.
 pub(crate) fn node_term(
     terms: &mut Terms,
     net: &Netlist,
-    rule: FitRule,
-    i: u32,
-    registers: &[TermId],
-    x: TermId,
-    ids: &[TermId],
-    broken: TermId,
+    sample: &Sample<'_>,
+    made: &SampleTerms,
     node: Node,
 ) -> Result<NodeTerm, NoMemory>
-    requires ready { AreReady net.now registers.now x terms.old ids.now broken }
-    requires place { i ≡ length ids.now }
-    requires below { i < length net.now.nodes }
-    requires backwards { NamesBelow (length ids.now) node }
-    requires reads { ReadsBelow (length registers.now) node }
-    ensures built { IfOk result (λ made.
-        record { terms = terms.new; id = made.id; broken = made.broken }
-        ≡ node_term rule net.now registers.now x terms.old ids.now broken node) }
-    ensures tests { IfOk result (λ made. fit_tests node made.tested
-        ≡ node_tests rule net.now.format terms.old ids.now node) }
+    requires netlist { IsNetlist net.now }
+    requires ready { AreReady net.now sample.now.registers.now sample.now.x terms.old
+        made.now.ids.items made.now.overflowed }
+    requires below { length made.now.ids.items < length net.now.nodes }
+    requires backwards { NamesBelow (length made.now.ids.items) node }
+    requires reads { ReadsBelow (length sample.now.registers.now) node }
+    ensures built { IfOk result (λ next. node_with terms.new next
+        ≡ node_term sample.now.rule net.now sample.now.registers.now sample.now.x terms.old
+        made.now.ids.items made.now.overflowed node) }
+    ensures tests { IfOk result (λ next. fit_tests node next.tested
+        ≡ node_tests sample.now.rule net.now.format terms.old made.now.ids.items node) }
 {
+    let ids = made.ids.as_slice();
+    let i = ids.len() as u32;
     let id = match node {
-        Node::Input => x,
-        Node::Reg(register) => registers[register as usize],
+        Node::Input => sample.x,
+        Node::Reg(register) => sample.registers[register as usize],
         Node::MulConst { coeff, of } => {
             let bound = bound_at(net, i);
             product_term(terms, bound, coeff, ids[of as usize])?
@@ -97,13 +114,8 @@ pub(crate) fn node_term(
         Node::Round(of) => {
             let bound = bound_at(net, of);
             let frac_bits = net.format().frac_bits;
-            rounded_term(
-                terms,
-                bound,
-                addend_at(net, of),
-                frac_bits,
-                ids[of as usize],
-            )?
+            let addend = addend_at(net, of);
+            rounded_term(terms, bound, addend, frac_bits, ids[of as usize])?
         }
         Node::Add(left, right) => {
             let bound = bound_at(net, i);
@@ -114,13 +126,14 @@ pub(crate) fn node_term(
             difference_term(terms, bound, ids[left as usize], ids[right as usize])?
         }
         Node::Fit(of) => {
+            let rule = sample.rule;
             let format = net.format();
-            return fitted_term(terms, rule, &format, ids[of as usize], broken);
+            return fitted_term(terms, rule, &format, ids[of as usize], made.overflowed);
         }
     };
     Ok(NodeTerm {
         id,
-        broken,
+        overflowed: made.overflowed,
         tested: None,
     })
 }

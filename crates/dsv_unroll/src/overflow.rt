@@ -1,4 +1,10 @@
-// The goal of an overflow.
+// The goal of an overflow is a bounded model check: a run from registers of zeros over so many
+// inputs, and a root that is 1 where some exact value of it is no word and all inputs are in
+// range. Up to the first such value nothing wraps or saturates, so one unrolling serves both modes
+// of overflow.
+//
+// The root has tests of known ranges, too. They hold at all inputs in range, so that the root
+// stays as it is, and a search for a model of it is shorter.
 ghost use Rattle.dsv_word.specs.Words.{width, lo, hi};
 ghost use Rattle.std.specs.Prelude.{◌≡◌, ◌≤ℤ◌, ℤ, ℕ, List, length, replicate, IfOk};
 ghost use Rattle.dsv_netlist.specs.Conditions.{IsNetlist};
@@ -9,15 +15,16 @@ ghost use Rattle.dsv_linear.specs.Known.{facts_of};
 ghost use Rattle.dsv_term.specs.declared.node.TermNode.TheVariants as TermNode;
 ghost use Rattle.dsv_term.specs.Building.{built_of, with_node};
 ghost use Rattle.dsv_term.specs.Terms.{AreValues, word_of};
-ghost use Rattle.dsv_unroll.specs.Goals.{no_terms, first_inputs, overflow_with, overflow_of};
+ghost use Rattle.dsv_unroll.specs.Goals.{no_terms, first_inputs, overflow_of};
 ghost use Rattle.dsv_unroll.specs.Ready.{HasBits};
 ghost use Rattle.dsv_unroll.specs.Words.{spelled_words, Tells};
 
-use crate::facts::fact_tests;
-use crate::inputs::{conjunction, input_terms};
-use crate::run::run_terms;
+use crate::facts::{KnownTests, fact_tests};
+use crate::inputs::{InputRange, input_terms};
+use crate::lists::{conjunction, repeated_term};
+use crate::unroller::Unroller;
 use dsv_base::NoMemory;
-use dsv_linear::{Fact, facts_of};
+use dsv_linear::facts_of;
 use dsv_netlist::Netlist;
 use dsv_term::{Goal, TermId, Terms};
 use std::alloc::Global;
@@ -26,24 +33,13 @@ use std::alloc::Global;
 /// for being a word, too. Below it a search takes some hundred conflicts at most.
 const LONG_RUN: u32 = 11;
 
-/// A term so many times.
-pub(crate) fn repeated_term(alloc: Global, id: TermId, count: u32) -> Result<Vec<TermId>, NoMemory>
-    ensures { IfOk result (λ ids. ids.items ≡ replicate count id) }
-{
-    let mut ids = Vec::new(alloc);
-    for i in 0..count {
-        ids.push(id)?;
-    }
-    Ok(ids)
-}
-
 /// What the goal begins with: the terms of the inputs, the tests that they are in range, a zero in
 /// one bit, and the registers, which start with it.
 #[derive(Drop)]
 struct ZeroStart {
     inputs: Vec<TermId>,
     tests: Vec<TermId>,
-    nought: TermId,
+    zero_bit: TermId,
     registers: Vec<TermId>,
 }
 
@@ -52,81 +48,67 @@ fn zero_start(
     alloc: Global,
     terms: &mut Terms,
     net: &Netlist,
-    low: &i64,
-    high: &i64,
+    range: &InputRange,
     samples: u32,
 ) -> Result<ZeroStart, NoMemory>
-    ensures nought { IfOk result (λ start. built_of terms.new start.nought
-        ≡ with_node (first_inputs net.now terms.old low.now high.now samples).terms
+    ensures zero_bit { IfOk result (λ start. built_of terms.new start.zero_bit ≡ with_node
+        (first_inputs net.now terms.old range.now.low range.now.high samples).terms
         (TermNode.Constant 1 0)) }
     ensures inputs { IfOk result (λ start. start.inputs.items
-        ≡ (first_inputs net.now terms.old low.now high.now samples).ids) }
+        ≡ (first_inputs net.now terms.old range.now.low range.now.high samples).ids) }
     ensures tests { IfOk result (λ start. start.tests.items
-        ≡ (first_inputs net.now terms.old low.now high.now samples).tests) }
+        ≡ (first_inputs net.now terms.old range.now.low range.now.high samples).tests) }
     ensures registers { IfOk result (λ start. start.registers.items
-        ≡ replicate (length net.now.next) start.nought) }
+        ≡ replicate (length net.now.next) start.zero_bit) }
 {
     let format = net.format();
-    let inputs = input_terms(alloc, terms, &format, low, high, samples)?;
-    let nought = terms.constant(1, 0)?;
-    let registers = repeated_term(alloc, nought, net.registers())?;
+    let inputs = input_terms(alloc, terms, &format, range, samples)?;
+    let zero_bit = terms.constant(1, 0)?;
+    let registers = repeated_term(alloc, zero_bit, net.registers())?;
     Ok(ZeroStart {
         inputs: inputs.ids,
         tests: inputs.tests,
-        nought,
+        zero_bit,
         registers,
     })
 }
 
-/// The root of the goal of an overflow, where these are the facts.
+/// The root of the goal of an overflow.
 fn overflow_root(
     alloc: Global,
     terms: &mut Terms,
     net: &Netlist,
-    low: &i64,
-    high: &i64,
+    range: &InputRange,
     samples: u32,
-    facts: &[Fact],
 ) -> Result<TermId, NoMemory>
     requires empty { terms.old ≡ no_terms }
-    requires netlist { IsNetlist net.now }
-    requires low { low.now ≤ℤ hi (width net.now.format) }
-    requires high { lo (width net.now.format) ≤ℤ high.now }
+    requires low { range.now.low ≤ℤ hi (width net.now.format) }
+    requires high { lo (width net.now.format) ≤ℤ range.now.high }
     ensures built { IfOk result (λ root. built_of terms.new root
-        ≡ overflow_with net.now low.now high.now samples facts.now) }
+        ≡ overflow_of net.now range.now.low range.now.high samples) }
     ensures bit { IfOk result (λ root. HasBits terms.new root 1) }
+    ensures netlist { IfOk result (λ root. IsNetlist net.now) }
+    ensures facts { IfOk result (λ root. AreFacts net.now range.now.low range.now.high samples
+        (facts_of net.now range.now.low range.now.high samples)) }
 {
-    let start = zero_start(alloc, terms, net, low, high, samples)?;
-    let nought = start.nought;
+    let _count = net.len(); // its clause on the netlist, for the proof
+    let facts = facts_of(alloc, net, range.low, range.high, samples)?;
+    let start = zero_start(alloc, terms, net, range, samples)?;
+    let zero_bit = start.zero_bit;
     let registers = start.registers;
-    let run = run_terms(alloc, terms, net, &start.inputs, registers, nought)?;
+    let unroller = Unroller {
+        alloc,
+        net,
+        zero_bit,
+    };
+    let run = unroller.run_terms(terms, &start.inputs, registers)?;
+    let before = KnownTests {
+        overflowed: zero_bit,
+        tests: start.tests,
+    };
     let is_long = samples >= LONG_RUN;
-    let tests = fact_tests(terms, nought, is_long, facts, &run.tested, start.tests)?;
-    conjunction(terms, run.broken, &tests)
-}
-
-/// The terms of the goal of an overflow, and its root.
-#[tactic(auto, unfolding(crate::specs::Goals::overflow_of))]
-fn overflow_terms(
-    alloc: Global,
-    net: &Netlist,
-    low: &i64,
-    high: &i64,
-    samples: u32,
-) -> Result<Goal, NoMemory>
-    requires low { low.now ≤ℤ hi (width net.now.format) }
-    requires high { lo (width net.now.format) ≤ℤ high.now }
-    ensures made { IfOk result (λ goal.
-        built_of goal.terms goal.root ≡ overflow_of net.now low.now high.now samples) }
-    ensures netlist { IfOk result (λ goal. IsNetlist net.now) }
-    ensures facts { IfOk result (λ goal. AreFacts net.now low.now high.now samples
-        (facts_of net.now low.now high.now samples)) }
-{
-    let count = net.len();
-    let facts = facts_of(alloc, net, *low, *high, samples)?;
-    let mut terms = Terms::new(alloc);
-    let root = overflow_root(alloc, &mut terms, net, low, high, samples, facts.as_slice())?;
-    Goal::new(alloc, terms, root)
+    let tests = fact_tests(terms, before, is_long, facts.as_slice(), &run.tested)?;
+    conjunction(terms, run.overflowed, &tests)
 }
 
 /// The goal of an overflow within so many samples from registers of zeros: its inputs are those of
@@ -149,6 +131,8 @@ pub fn overflow_goal(
         → Tells (word_of goal.terms values goal.root)
         (Breaks (List ℤ) (system_of net.now) low high (spelled_words net.now.format values))) }
 {
-    let goal = overflow_terms(alloc, net, &low, &high, samples)?;
-    Ok(goal)
+    let range = InputRange { low, high };
+    let mut terms = Terms::new(alloc);
+    let root = overflow_root(alloc, &mut terms, net, &range, samples)?;
+    Goal::new(alloc, terms, root)
 }

@@ -1,4 +1,7 @@
-// How each kind of node becomes a term.
+// How each kind of node becomes a term. A term spells its value in two's complement, in so many
+// bits that it never wraps: those that the node's bound needs, or, where that is less, so many
+// more than its operands have as suffice for any operands. The operands are extended to that width
+// first, and so each rule computes with whole numbers.
 ghost use Rattle.std.specs.Prelude.{◌≡◌, ◌<◌, ◌≤◌, ◌-◌, ◌^◌, length, IfOk};
 ghost use Rattle.dsv_term.specs.Limits.{max_width};
 ghost use Rattle.dsv_term.specs.Building.{built_of};
@@ -43,8 +46,7 @@ pub(crate) fn widened_term(terms: &mut Terms, id: TermId, bits: u32) -> Result<T
     if terms.width(id) == bits {
         return Ok(id);
     }
-    let made = terms.sext(id, bits)?;
-    Ok(made)
+    terms.sext(id, bits)
 }
 
 /// The width of a product by a constant, where this is its bound.
@@ -141,8 +143,7 @@ fn with_addend(terms: &mut Terms, bits: u32, addend: u128, id: TermId) -> Result
         return Ok(id);
     }
     let constant = terms.constant(bits, addend)?;
-    let made = terms.add(id, constant)?;
-    Ok(made)
+    terms.add(id, constant)
 }
 
 /// The width of a term with an addend, where this is the bound of what is rounded.

@@ -20,22 +20,22 @@ pub joined_term-requires-clause-sound : goal.joined_term-requires-clause-sound
 joined_term-requires-clause-sound c =
     let r = c.requires in
     let f = c.if-shift-eq0.false in
-    (shift_stands c.args.terms.now c.part_term.new.terms c.constant_term.new.terms c.args.a c.in_ok-low.low c.in_ok-noughts.noughts c.args.width c.args.shift r.sound r.stands r.wide (omega arith) r.inside c.in_ok-low.ensures c.in_ok-noughts.ensures).sound
+    (shift_stands c.args.terms.now c.part_term.new.terms c.constant_term.new.terms c.args.a c.in_ok-low.low c.in_ok-zeros.zeros c.args.width c.args.shift r.sound r.stands r.wide (omega arith) r.inside c.in_ok-low.ensures c.in_ok-zeros.ensures).sound
 
 pub joined_term-requires-clause-first : goal.joined_term-requires-clause-first
 joined_term-requires-clause-first c =
     let r = c.requires in
     let f = c.if-shift-eq0.false in
-    (shift_stands c.args.terms.now c.part_term.new.terms c.constant_term.new.terms c.args.a c.in_ok-low.low c.in_ok-noughts.noughts c.args.width c.args.shift r.sound r.stands r.wide (omega arith) r.inside c.in_ok-low.ensures c.in_ok-noughts.ensures).first
+    (shift_stands c.args.terms.now c.part_term.new.terms c.constant_term.new.terms c.args.a c.in_ok-low.low c.in_ok-zeros.zeros c.args.width c.args.shift r.sound r.stands r.wide (omega arith) r.inside c.in_ok-low.ensures c.in_ok-zeros.ensures).first
 
 pub joined_term-requires-clause-second : goal.joined_term-requires-clause-second
 joined_term-requires-clause-second c =
     let r = c.requires in
     let f = c.if-shift-eq0.false in
-    (shift_stands c.args.terms.now c.part_term.new.terms c.constant_term.new.terms c.args.a c.in_ok-low.low c.in_ok-noughts.noughts c.args.width c.args.shift r.sound r.stands r.wide (omega arith) r.inside c.in_ok-low.ensures c.in_ok-noughts.ensures).second
+    (shift_stands c.args.terms.now c.part_term.new.terms c.constant_term.new.terms c.args.a c.in_ok-low.low c.in_ok-zeros.zeros c.args.width c.args.shift r.sound r.stands r.wide (omega arith) r.inside c.in_ok-low.ensures c.in_ok-zeros.ensures).second
 
 pub joined_term-requires-clause-narrow : goal.joined_term-requires-clause-narrow
 joined_term-requires-clause-narrow c =
     let r = c.requires in
     let f = c.if-shift-eq0.false in
-    (shift_stands c.args.terms.now c.part_term.new.terms c.constant_term.new.terms c.args.a c.in_ok-low.low c.in_ok-noughts.noughts c.args.width c.args.shift r.sound r.stands r.wide (omega arith) r.inside c.in_ok-low.ensures c.in_ok-noughts.ensures).narrow
+    (shift_stands c.args.terms.now c.part_term.new.terms c.constant_term.new.terms c.args.a c.in_ok-low.low c.in_ok-zeros.zeros c.args.width c.args.shift r.sound r.stands r.wide (omega arith) r.inside c.in_ok-low.ensures c.in_ok-zeros.ensures).narrow

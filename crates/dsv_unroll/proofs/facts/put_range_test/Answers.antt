@@ -1,4 +1,5 @@
 use Rattle.std.proofs.Common.{to_z, of_z, w64, ap, sym, subst, ◌∙◌}
+use Rattle.dsv_unroll.specs.Beside.{known_with}
 use Rattle.dsv_unroll.specs.FactTests.{FactTerms, with_test}
 use Rattle.dsv_unroll.specs.Ready.{AreKnown, IsTest}
 use Rattle.dsv_unroll.proofs.SampleSteps.{bits_later}
@@ -12,7 +13,7 @@ put_test-requires-clause-known c =
     let u = c.within_test.new.terms in
     let known = c.requires.known in
     let a = within_adds t u (to_z w64 (of_z w64 c.args.low)) (to_z w64 (of_z w64 c.args.high)) c.args.tested.value c.in_ok-test.test known.sound c.requires.tested.value c.in_ok-test.ensures in
-    record { sound = a.sound; bit = truth_later t u c.args.outside a.kept known.bit; bits = bits_later t u c.args.tests.now.items a.kept known.bits }
+    record { sound = a.sound; bit = truth_later t u c.args.known.now.overflowed a.kept known.bit; bits = bits_later t u c.args.known.now.tests.items a.kept known.bits }
 
 pub put_test-requires-clause-test : goal.put_test-requires-clause-test
 put_test-requires-clause-test c =
@@ -21,14 +22,14 @@ put_test-requires-clause-test c =
 
 pub returns-clause-known : goal.returns-clause-known
 returns-clause-known c =
-    let k : FactTerms = record { terms = c.args.terms.now; outside = c.args.outside; tests = c.args.tests.now.items } in
+    let k = known_with c.args.terms.now c.args.known.now in
     let e = c.in_ok-put_test.ensures.built ∙ ap (with_test k) c.in_ok-test.ensures in
-    subst (λ (r : FactTerms). AreKnown r.terms r.outside r.tests) (sym e)
+    subst (λ (r : FactTerms). AreKnown r.terms r.overflowed r.tests) (sym e)
     (ranged_known k (to_z w64 (of_z w64 c.args.low)) (to_z w64 (of_z w64 c.args.high)) c.args.tested c.requires.known c.requires.tested).0
 
 pub returns-clause-tested : goal.returns-clause-tested
 returns-clause-tested c =
-    let k : FactTerms = record { terms = c.args.terms.now; outside = c.args.outside; tests = c.args.tests.now.items } in
+    let k = known_with c.args.terms.now c.args.known.now in
     let e = c.in_ok-put_test.ensures.built ∙ ap (with_test k) c.in_ok-test.ensures in
     subst (λ (r : FactTerms). IsTest r.terms c.args.tested) (sym e)
     (ranged_known k (to_z w64 (of_z w64 c.args.low)) (to_z w64 (of_z w64 c.args.high)) c.args.tested c.requires.known c.requires.tested).1

@@ -23,8 +23,8 @@ eq-requires-clause-alike c =
 
 pub or-requires-clause-first : goal.or-requires-clause-first
 or-requires-clause-first c =
-    let flag = c.args.broken in
-    c.in_ok-outside.ensures.made.kept.longer flag (c.in_ok-is_word.ensures.made.kept.longer flag (c.in_ok-back.ensures.made.kept.longer flag (c.in_ok-id.ensures.made.kept.longer flag c.requires.flag)))
+    let bit = c.args.overflowed in
+    c.in_ok-outside.ensures.made.kept.longer bit (c.in_ok-is_word.ensures.made.kept.longer bit (c.in_ok-back.ensures.made.kept.longer bit (c.in_ok-id.ensures.made.kept.longer bit c.requires.stands)))
 
 pub or-requires-clause-second : goal.or-requires-clause-second
 or-requires-clause-second c = c.in_ok-outside.ensures.made.stands
@@ -35,22 +35,22 @@ or-requires-clause-alike c =
     let b = c.in_ok-back.ensures.made.kept in
     let d = c.in_ok-is_word.ensures.made in
     let e = c.in_ok-outside.ensures.made in
-    let flag = c.args.broken in
-    let h = a.longer flag c.requires.flag in
-    let i = b.longer flag h in
-    e.kept.widths flag (d.kept.longer flag i) ∙ (d.kept.widths flag i ∙ (b.widths flag h ∙ (a.widths flag c.requires.flag ∙ (c.requires.bit ∙ sym (e.width ∙ d.width)))))
+    let bit = c.args.overflowed in
+    let h = a.longer bit c.requires.stands in
+    let i = b.longer bit h in
+    e.kept.widths bit (d.kept.longer bit i) ∙ (d.kept.widths bit i ∙ (b.widths bit h ∙ (a.widths bit c.requires.stands ∙ (c.requires.bit ∙ sym (e.width ∙ d.width)))))
 
 pub returns-clause-tested : goal.returns-clause-tested
 returns-clause-tested c =
     ap (λ (k : CutTerms). Some k.tested) (cut_made c.args.terms.now c.extract.new.self c.sext.new.self c.eq.new.self c.not.new.self c.args.bits c.width-width.result c.args.of c.in_ok-id.id c.in_ok-back.back c.in_ok-is_word.is_word c.in_ok-outside.outside
     c.width-width.ensures.width c.in_ok-id.ensures.made.built c.in_ok-back.ensures.made.built c.in_ok-is_word.ensures.made.built c.in_ok-outside.ensures.made.built)
 
--- the bit that says a break, after the test of the value
-abbrev with_flag : TermId → CutTerms → Unrolled
-with_flag broken k = let either = with_node k.terms (Or broken k.tested.outside) in record { terms = either.terms; id = k.word; broken = either.id }
+-- the bit that is 1 where a value so far was no word, after the test of this value
+abbrev with_bit : TermId → CutTerms → Unrolled
+with_bit overflowed k = let either = with_node k.terms (Or overflowed k.tested.outside) in record { terms = either.terms; id = k.word; overflowed = either.id }
 
 pub returns-clause-built : goal.returns-clause-built
 returns-clause-built c =
     let cut = cut_made c.args.terms.now c.extract.new.self c.sext.new.self c.eq.new.self c.not.new.self c.args.bits c.width-width.result c.args.of c.in_ok-id.id c.in_ok-back.back c.in_ok-is_word.is_word c.in_ok-outside.outside
     c.width-width.ensures.width c.in_ok-id.ensures.made.built c.in_ok-back.ensures.made.built c.in_ok-is_word.ensures.made.built c.in_ok-outside.ensures.made.built in
-    ap (λ (v : Built). let u : Unrolled = record { terms = v.terms; id = c.in_ok-id.id; broken = v.id } in u) c.in_ok-broken.ensures.made.built ∙ ap (with_flag c.args.broken) cut
+    ap (λ (v : Built). let u : Unrolled = record { terms = v.terms; id = c.in_ok-id.id; overflowed = v.id } in u) c.in_ok-overflowed.ensures.made.built ∙ ap (with_bit c.args.overflowed) cut

@@ -15,7 +15,7 @@ loop-k-preserved c =
     let registers = c.args.registers.now in
     let s : SumTerms = record { terms = l.terms; id = l.sum.id; bound = l.sum.bound } in
     let now : SumTerms = record { terms = c.with_entry.new.terms; id = c.in_ok-sum.sum.id; bound = c.in_ok-sum.sum.bound } in
-    let end : SumTerms = combination_from (width f) (record { terms = c.args.terms.now; id = c.args.nought; bound = 0 }) cs registers in
+    let end : SumTerms = combination_from (width f) (record { terms = c.args.terms.now; id = c.args.zero_bit; bound = 0 }) cs registers in
     let before : IsSumming f cs registers l.k s end = record { sound = i.sound; value = i.value; registers_stand = i.registers; room = i.room; same = i.same } in
     let r = entry_at f cs registers l.k s end (omega arith) c.requires.count c.requires.ready.few c.requires.small before in
     let a = sum_step f cs registers l.k s now end (at cs l.k) (term_at registers l.k) (omega (arith, c.requires.count)) (omega arith) r refl refl before c.in_ok-sum.ensures in
