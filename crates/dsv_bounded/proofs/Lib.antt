@@ -1,7 +1,6 @@
 pub mod Accepted
 pub mod Alike
 pub mod Deciding
-pub mod OutputRows
 pub mod Questions
 pub mod StartLemmas
 pub mod Traces

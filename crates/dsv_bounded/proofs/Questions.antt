@@ -24,7 +24,10 @@ use Rattle.dsv_term.specs.Word.{bit_of}
 use Rattle.dsv_term.proofs.Entries.{length-entries}
 use Rattle.dsv_term.proofs.Words.{words_of_nodes, known}
 use Rattle.dsv_unroll.specs.Words.{spelled_words, cycle_start, HasCycle, Tells}
-use Rattle.dsv_bounded.specs.Questions.{Asks, word_widths, DoBreak, free_registers, start_of_values, DoCycle}
+use Rattle.dsv_hints.specs.Searches.{IfNever}
+use Rattle.dsv_hints.specs.declared.search.Searched.{Searched}
+use Rattle.dsv_hints.specs.declared.search.Searched.TheVariants.{Never, Happens, Spent}
+use Rattle.dsv_bounded.specs.Questions.{Asks, NoneHave, SomeHave, word_widths, DoBreak, free_registers, start_of_values, DoCycle}
 use Rattle.dsv_bounded.specs.Verdicts.{BreaksWithin, CyclesWithin}
 use Rattle.dsv_bounded.proofs.StartLemmas.{forward_below}
 use Rattle.dsv_bounded.proofs.Alike.{alike_back, breaks_alike, cycles_alike}
@@ -61,25 +64,29 @@ asks_from t root widths R P terms stands one e tells f g = record {
 -- What values of these widths have is so of something, and the other way round.
 pub record Means (widths : List ℕ) (P : List ℕ → Type 0) (W : Type 0) : Type 0 where
   pub given : (values : List ℕ) → AreValues widths values → P values → W
-  pub found : W → (values : List ℕ) × AreValues widths values × P values
+  pub found : W → SomeHave widths P
 
-pub told_by : (S W : Type 0) (t : TermsView) (root : TermId) (widths : List ℕ) (P : List ℕ → Type 0) → Asks t root widths P → Means widths P W
-    → (S ↔ ((values : List ℕ) × AreValues t.inputs values × ((word_of t values root).number ≡ 1))) → (S ↔ W)
-told_by S W t root widths P a m s = (
+pub told_by : (S : Type 0) (t : TermsView) (root : TermId) (widths : List ℕ) (P : List ℕ → Type 0) → Asks t root widths P
+    → (S ↔ ((values : List ℕ) × AreValues t.inputs values × ((word_of t values root).number ≡ 1))) → (S ↔ SomeHave widths P)
+told_by S t root widths P a s = (
   (λ x.
       let h = s.0 x in
       let b = subst (λ (is : List ℕ). AreValues is h.0) a.inputs h.1 in
-      m.given h.0 b (a.holds h.0 b h.2)),
-  (λ w.
-      let h = m.found w in
-      s.1 (h.0, subst (λ (is : List ℕ). AreValues is h.0) (sym a.inputs) h.1, a.shows h.0 h.1 h.2)),
+      (h.0, b, a.holds h.0 b h.2)),
+  (λ h. s.1 (h.0, subst (λ (is : List ℕ). AreValues is h.0) (sym a.inputs) h.1, a.shows h.0 h.1 h.2)),
 )
 
-pub never_by : (W : Type 0) (t : TermsView) (root : TermId) (widths : List ℕ) (P : List ℕ → Type 0) → Asks t root widths P → Means widths P W
-    → ((values : List ℕ) → AreValues t.inputs values → (word_of t values root).number ≢ 1) → W → ⊥
-never_by W t root widths P a m n w =
-    let h = m.found w in
-    n h.0 (subst (λ (is : List ℕ). AreValues is h.0) (sym a.inputs) h.1) (a.shows h.0 h.1 h.2)
+pub never_by : (t : TermsView) (root : TermId) (widths : List ℕ) (P : List ℕ → Type 0) → Asks t root widths P
+    → ((values : List ℕ) → AreValues t.inputs values → (word_of t values root).number ≢ 1) → NoneHave widths P
+never_by t root widths P a n = λ values b p. n values (subst (λ (is : List ℕ). AreValues is values) (sym a.inputs) b) (a.shows values b p)
+
+pub told_as : (S W : Type 0) (widths : List ℕ) (P : List ℕ → Type 0) → Means widths P W → (S ↔ SomeHave widths P) → (S ↔ W)
+told_as S W widths P m s = ((λ x. let h = s.0 x in m.given h.0 h.1 h.2), (λ w. s.1 (m.found w)))
+
+pub never_as : {T : Type 0} (W : Type 0) (widths : List ℕ) (P : List ℕ → Type 0) (r : Searched T) → Means widths P W → IfNever (λ log. NoneHave widths P) r → IfNever (λ log. W → ⊥) r
+never_as W widths P (Never log) m n = λ w. let h = m.found w in n h.0 h.1 h.2
+never_as W widths P (Happens found) m n = tt
+never_as W widths P (Spent log) m n = tt
 
 -- ---- overflow
 pub words_in_range : (q : FixedPoint) (zs : List ℤ) → IsFixedPoint q → AreInRange q.xlo q.xhi zs → All (IsWord q.format) zs

@@ -4,10 +4,12 @@ use Rattle.std.specs.List.{All}
 use Rattle.dsv_meaning.specs.Equations.{Past, registers_of, forward_registers_of, order}
 use Rattle.dsv_meaning.specs.Systems.{equations_of}
 use Rattle.dsv_netlist.specs.Nodes.{Net}
-use Rattle.dsv_quantiser.specs.FixedPoint.{FixedPoint}
+use Rattle.dsv_netlist.specs.Systems.{system_of}
+use Rattle.dsv_quantiser.specs.FixedPoint.{FixedPoint, IsFixedPoint}
+use Rattle.dsv_realise.specs.Netlists.{net_of}
 use Rattle.dsv_system.specs.Breaks.{Breaks}
 use Rattle.dsv_system.specs.Cycles.{Cycles}
-use Rattle.dsv_system.specs.Systems.{zeros}
+use Rattle.dsv_system.specs.Systems.{RunAlike, zeros}
 use Rattle.dsv_term.specs.declared.node.TermId.{TermId}
 use Rattle.dsv_term.specs.Terms.{AreValues, word_of}
 use Rattle.dsv_term.specs.TermsView.{TermsView}
@@ -22,6 +24,20 @@ pub record Asks (t : TermsView) (root : TermId) (widths : List ℕ) (P : List �
         → (word_of t values root).number ≡ 1 → P values
     pub shows : (values : List ℕ) → AreValues widths values → P values
         → (word_of t values root).number ≡ 1
+
+-- some values of these widths have the fact
+abbrev pub SomeHave : List ℕ → (List ℕ → Type 0) → Type 0
+SomeHave widths P = (values : List ℕ) × AreValues widths values × P values
+
+-- no values of these widths have the fact
+abbrev pub NoneHave : List ℕ → (List ℕ → Type 0) → Type 0
+NoneHave widths P = (values : List ℕ) → AreValues widths values → P values → ⊥
+
+-- The netlist is the controller's, and runs as its written equations do.
+pub record Realises (q : FixedPoint) (net : Net) : Type 0 where
+  pub same : net ≡ net_of q
+  pub runs : RunAlike (List ℤ) Past (system_of net) (equations_of q)
+  pub fixed_point : IsFixedPoint q
 
 -- so many words of the controller's format
 abbrev pub word_widths : FixedPoint → ℕ → List ℕ

@@ -2,20 +2,16 @@
 // controllers come to a limit cycle from few starts, and after many samples.
 #![tactic(auto, using(dsv_algebra::proofs::Casts::casts))]
 
-ghost use Rattle.std.specs.Prelude.{◌≤◌, ℤ, List, IfOk, IfSome};
-ghost use Rattle.dsv_meaning.specs.Equations.{Past};
-ghost use Rattle.dsv_meaning.specs.Systems.{equations_of};
-ghost use Rattle.dsv_netlist.specs.Systems.{system_of};
-ghost use Rattle.dsv_system.specs.Systems.{RunAlike};
+ghost use Rattle.std.specs.Prelude.{◌≤◌, IfOk, IfSome};
 ghost use Rattle.dsv_word.specs.Words.{IsWord};
 ghost use Rattle.dsv_bounded.specs.Questions.{AreRegisters};
 ghost use Rattle.dsv_bounded.specs.Verdicts.{IsCycle};
 
-use crate::settling::{level_registers, settled_cycle};
+use crate::cycles::CycleQuestion;
+use crate::transients::level_registers;
 use dsv_base::NoMemory;
 use dsv_meaning::Cycle;
 use dsv_netlist::Netlist;
-use dsv_quantiser::Quantised;
 use dsv_word::Format;
 use std::alloc::Global;
 
@@ -90,29 +86,25 @@ fn draw_registers(net: &Netlist, registers: &mut [i64], before: Generator) -> Ge
     generator
 }
 
-/// The limit cycle that comes of the first of so many drawn starts that leads to one.
-pub(crate) fn drawn_cycle(
-    alloc: Global,
-    q: &Quantised,
-    net: &Netlist,
-    periods: u32,
-) -> Result<Option<Cycle>, NoMemory>
-    requires { RunAlike (List ℤ) Past (system_of net.now) (equations_of q.now) }
-    ensures { IfOk result (λ cycle. IfSome cycle (IsCycle q.now periods)) }
-{
-    let mut generator = Generator { state: SEED };
-    for turn in 0..STARTS {
-        let mut level = level_registers(alloc, net, 0)?;
-        let registers = level.as_mut_slice();
-        generator = draw_registers(net, registers, generator);
-        let settling = if turn % LONG_START == 0 {
-            LONG_SETTLING
-        } else {
-            SETTLING
-        };
-        if let Some(cycle) = settled_cycle(alloc, q, net, registers, settling, periods)? {
-            return Ok(Some(cycle));
+impl<'a> CycleQuestion<'a> {
+    /// The limit cycle that comes of the first of so many drawn starts that leads to one.
+    pub(crate) fn drawn_cycle(&self, alloc: Global) -> Result<Option<Cycle>, NoMemory>
+        ensures { IfOk result (λ cycle. IfSome cycle (IsCycle self.now.q.now self.now.periods)) }
+    {
+        let mut generator = Generator { state: SEED };
+        for turn in 0..STARTS {
+            let mut level = level_registers(alloc, self.net, 0)?;
+            let registers = level.as_mut_slice();
+            generator = draw_registers(self.net, registers, generator);
+            let settling = if turn % LONG_START == 0 {
+                LONG_SETTLING
+            } else {
+                SETTLING
+            };
+            if let Some(cycle) = self.settled_cycle(alloc, registers, settling)? {
+                return Ok(Some(cycle));
+            }
         }
+        Ok(None)
     }
-    Ok(None)
 }

@@ -10,12 +10,12 @@ pub(crate) struct EndList {
 
 impl EndList {
     /// The greatest input in each place.
-    pub(crate) fn greatest() -> EndList {
+    pub(crate) fn all_greatest() -> EndList {
         EndList { greatest: u64::MAX }
     }
 
     /// The list that begins with the greatest input and changes ends after each so many samples.
-    pub(crate) fn alternating(half_period: u32) -> EndList
+    pub(crate) fn square_wave(half_period: u32) -> EndList
         requires { 1 ≤ half_period }
     {
         let mut greatest = 0;
@@ -35,7 +35,7 @@ impl EndList {
     }
 
     /// The list with the other end in each place.
-    pub(crate) fn opposite(self) -> EndList {
+    pub(crate) fn with_other_ends(self) -> EndList {
         EndList {
             greatest: !self.greatest,
         }

@@ -3,26 +3,29 @@
 //! by fixed rules are tried first, and then a search decides.
 #![tactic(auto)]
 
-mod answers;
-mod cycle_job;
+mod cycles;
 mod decision;
 mod drawn_starts;
 mod end_list;
+mod formulas;
 mod goal_clauses;
+mod netlists;
 mod offers;
-mod overflow_job;
+mod overflows;
 mod question;
+mod refusals;
 mod replayed_cycles;
 mod replayed_traces;
 mod responses;
-mod settling;
 mod starts;
+mod transients;
 mod words;
 
-pub use answers::{BoundedAnswer, BoundedRefusal, MOST_SIZE, TooLarge, accept};
-pub use cycle_job::{cycle_formula, limit_cycle};
-pub use decision::{Decision, decide};
+pub use cycles::{cycle_formula, limit_cycle};
+pub use decision::decide;
+pub use formulas::question_formula;
 pub use goal_clauses::goal_formula;
-pub use overflow_job::{overflow, overflow_formula};
-pub use question::question_formula;
+pub use netlists::netlist_of;
+pub use overflows::{overflow, overflow_formula};
+pub use refusals::{BoundedRefusal, MOST_SIZE, TooLarge, accept};
 pub use words::{words_after, zero_words};

@@ -1,4 +1,8 @@
-// Lists of inputs that are tried before a search: each input is an end of the range.
+// Lists of inputs that are tried before a search: each input is an end of the range, since the
+// worst inputs of a linear system are. First come those that drive a value before a Fit node
+// farthest in the last sample (responses.rt), and then the square waves, which excite a resonance
+// of each period and, with the longest, the step response. Each list is replayed in the written
+// equations, so nothing is claimed of how it came about; where none overflows, the search decides.
 #![tactic(auto, using(dsv_algebra::proofs::Casts::casts))]
 
 ghost use Rattle.std.specs.Prelude.{◌≡◌, ◌≤◌, ◌≤ℤ◌, length, IfOk, IfSome};
@@ -8,13 +12,13 @@ ghost use Rattle.dsv_word.specs.Words.{IsWord};
 ghost use Rattle.dsv_bounded.specs.Verdicts.{IsTrace};
 
 use crate::end_list::EndList;
+use crate::overflows::OverflowQuestion;
 use crate::replayed_traces::replayed_trace;
 use crate::responses::driving_lists;
 use dsv_base::{NoMemory, WordList};
 use dsv_meaning::Trace;
 use dsv_netlist::Node;
 use dsv_quantiser::Quantised;
-use dsv_realise::realise;
 use std::alloc::Global;
 
 /// The greatest input or the least one.
@@ -45,79 +49,67 @@ fn end_inputs(
     Ok(inputs)
 }
 
-/// The trace of a list, where it breaks the controller.
-fn list_trace(
-    alloc: Global,
-    q: &Quantised,
-    list: EndList,
-    samples: u32,
-) -> Result<Option<Trace>, NoMemory>
-    requires { samples ≤ 64 }
-    ensures { IfOk result (λ trace. IfSome trace (IsTrace q.now samples)) }
-{
-    let inputs = end_inputs(alloc, q, list, samples)?;
-    replayed_trace(alloc, q, inputs.as_slice())
-}
-
-/// The trace of a list or of the list with the other ends, where one of them breaks the controller.
-fn either_trace(
-    alloc: Global,
-    q: &Quantised,
-    list: EndList,
-    samples: u32,
-) -> Result<Option<Trace>, NoMemory>
-    requires { samples ≤ 64 }
-    ensures { IfOk result (λ trace. IfSome trace (IsTrace q.now samples)) }
-{
-    match list_trace(alloc, q, list, samples)? {
-        Some(trace) => Ok(Some(trace)),
-        None => list_trace(alloc, q, list.opposite(), samples),
+impl<'a> OverflowQuestion<'a> {
+    /// The trace of a list, where it breaks the controller.
+    fn list_trace(&self, alloc: Global, list: EndList) -> Result<Option<Trace>, NoMemory>
+        ensures { IfOk result
+            (λ trace. IfSome trace (IsTrace self.now.q.now self.now.samples)) }
+    {
+        let inputs = end_inputs(alloc, self.q, list, self.samples)?;
+        replayed_trace(alloc, self.q, inputs.as_slice())
     }
-}
 
-/// The first trace of the lists that change ends after each 1 sample, 2, and so on up to all.
-fn alternating_trace(alloc: Global, q: &Quantised, samples: u32) -> Result<Option<Trace>, NoMemory>
-    requires { samples ≤ 64 }
-    ensures { IfOk result (λ trace. IfSome trace (IsTrace q.now samples)) }
-{
-    for i in 0..samples {
-        if let Some(trace) = either_trace(alloc, q, EndList::alternating(i + 1), samples)? {
-            return Ok(Some(trace));
+    /// The trace of a list or of the list with the other ends, where one of them breaks the
+    /// controller.
+    fn either_trace(&self, alloc: Global, list: EndList) -> Result<Option<Trace>, NoMemory>
+        ensures { IfOk result
+            (λ trace. IfSome trace (IsTrace self.now.q.now self.now.samples)) }
+    {
+        match self.list_trace(alloc, list)? {
+            Some(trace) => Ok(Some(trace)),
+            None => self.list_trace(alloc, list.with_other_ends()),
         }
     }
-    Ok(None)
-}
 
-/// The first trace of the lists that drive the value before a Fit node farthest in the last sample:
-/// by the signs of its answer to a pulse.
-fn driving_trace(alloc: Global, q: &Quantised, samples: u32) -> Result<Option<Trace>, NoMemory>
-    requires { samples ≤ 64 }
-    ensures { IfOk result (λ trace. IfSome trace (IsTrace q.now samples)) }
-{
-    let net = realise(alloc, q)?;
-    let lists = driving_lists(&net, samples);
-    for i in 0..net.len() {
-        if let Node::Fit(_) = net.node(i) {
-            if let Some(trace) = either_trace(alloc, q, lists[i as usize], samples)? {
+    /// The first trace of the lists that change ends after each 1 sample, 2, and so on up to all.
+    fn alternating_trace(&self, alloc: Global) -> Result<Option<Trace>, NoMemory>
+        ensures { IfOk result
+            (λ trace. IfSome trace (IsTrace self.now.q.now self.now.samples)) }
+    {
+        for i in 0..self.samples {
+            if let Some(trace) = self.either_trace(alloc, EndList::square_wave(i + 1))? {
                 return Ok(Some(trace));
             }
         }
+        Ok(None)
     }
-    Ok(None)
-}
 
-/// The trace of the first list that breaks the controller, of some hundred that are offered by
-/// fixed rules.
-pub(crate) fn offered_trace(
-    alloc: Global,
-    q: &Quantised,
-    samples: u32,
-) -> Result<Option<Trace>, NoMemory>
-    requires { samples ≤ 64 }
-    ensures { IfOk result (λ trace. IfSome trace (IsTrace q.now samples)) }
-{
-    match driving_trace(alloc, q, samples)? {
-        Some(trace) => Ok(Some(trace)),
-        None => alternating_trace(alloc, q, samples),
+    /// The first trace of the lists that drive the value before a Fit node farthest in the last
+    /// sample: by the signs of its answer to a pulse.
+    fn driving_trace(&self, alloc: Global) -> Result<Option<Trace>, NoMemory>
+        ensures { IfOk result
+            (λ trace. IfSome trace (IsTrace self.now.q.now self.now.samples)) }
+    {
+        let lists = driving_lists(self.net, self.samples);
+        for i in 0..self.net.len() {
+            if let Node::Fit(_) = self.net.node(i) {
+                if let Some(trace) = self.either_trace(alloc, lists[i as usize])? {
+                    return Ok(Some(trace));
+                }
+            }
+        }
+        Ok(None)
+    }
+
+    /// The trace of the first list that breaks the controller, of some hundred that are offered by
+    /// fixed rules.
+    pub(crate) fn offered_trace(&self, alloc: Global) -> Result<Option<Trace>, NoMemory>
+        ensures { IfOk result
+            (λ trace. IfSome trace (IsTrace self.now.q.now self.now.samples)) }
+    {
+        match self.driving_trace(alloc)? {
+            Some(trace) => Ok(Some(trace)),
+            None => self.alternating_trace(alloc),
+        }
     }
 }

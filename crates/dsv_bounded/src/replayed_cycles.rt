@@ -2,31 +2,14 @@
 ghost use Rattle.std.specs.Prelude.{◌≤◌, ℕ, IfOk, IfSome, IfNone};
 ghost use Rattle.dsv_meaning.specs.Equations.{Past};
 ghost use Rattle.dsv_meaning.specs.Systems.{equations_of};
-ghost use Rattle.dsv_system.specs.Cycles.{Cycles, IsLeastPeriod, IsSounding};
+ghost use Rattle.dsv_system.specs.Cycles.{Cycles};
 ghost use Rattle.dsv_bounded.specs.Questions.{IsStart};
 ghost use Rattle.dsv_bounded.specs.Verdicts.{IsCycle};
 
-use crate::words::{outputs, zero_words};
 use dsv_base::{NoMemory, WordList};
 use dsv_meaning::{Cycle, CycleReplay, replay_cycle};
 use dsv_quantiser::Quantised;
 use std::alloc::Global;
-
-/// The limit cycle of this least period from a start.
-fn cycle_of(alloc: Global, q: &Quantised, start: WordList, period: u32) -> Result<Cycle, NoMemory>
-    requires start { IsStart q.now start }
-    requires least { IsLeastPeriod Past (equations_of q.now) start period }
-    requires sounding { IsSounding Past (equations_of q.now) start period }
-    ensures { IfOk result (IsCycle q.now period) }
-{
-    let silence = zero_words(alloc, period)?;
-    let ys = outputs(alloc, q, start.as_slice(), silence.as_slice())?;
-    Ok(Cycle {
-        start,
-        period,
-        outputs: ys,
-    })
-}
 
 /// The limit cycle from a start, where it has one of a period up to `periods`.
 pub(crate) fn replayed_cycle(
@@ -40,13 +23,17 @@ pub(crate) fn replayed_cycle(
     ensures none { IfOk result (λ cycle. IfNone cycle ((p : ℕ) → p ≤ periods →
         Cycles Past (equations_of q.now) start p → ⊥)) }
 {
-    match replay_cycle(q, start.as_slice(), periods) {
+    let mut outputs = vec![in alloc; 0i64; periods as usize]?;
+    match replay_cycle(q, start.as_slice(), periods, outputs.as_mut_slice()) {
         CycleReplay::Returns { period, sounding } => {
-            if sounding {
-                Ok(Some(cycle_of(alloc, q, start, period)?))
-            } else {
-                Ok(None)
+            if !sounding {
+                return Ok(None);
             }
+            Ok(Some(Cycle {
+                start,
+                period,
+                outputs: WordList::from_slice(alloc, &outputs[..period as usize])?,
+            }))
         }
         CycleReplay::Clean => Ok(None),
     }

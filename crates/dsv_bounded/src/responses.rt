@@ -1,5 +1,13 @@
 // What a netlist answers to a pulse, in numbers that are neither rounded to words nor fitted, and
 // the inputs that follow from it.
+//
+// Without rounding and fits a netlist is linear and doesn't change with time. So a node's value in
+// the last sample is a sum over the inputs, in which input i counts as often as the node answers to
+// a pulse so many samples before. The sum is greatest where each input is the end of the range that
+// has the sign of that answer, and least where each is the other end. This is how the worst case of
+// a filter's output is found, the sum of the sizes of its impulse response (Jackson, On the
+// Interaction of Roundoff Noise and Dynamic Range in Digital Filters, 1970). With rounding and
+// wrapping it is a guess, which a replay tests.
 ghost use Rattle.std.specs.Prelude.{◌≤◌};
 
 use crate::end_list::EndList;
@@ -42,7 +50,7 @@ fn node_values(net: &Netlist, registers: &[i128], x: i128) -> [i128; MOST_NODES]
 
 /// The registers after a sample.
 fn next_registers(net: &Netlist, values: &[i128]) -> [i128; MOST_REGISTERS] {
-    let _nodes = net.len();
+    let _count = net.len(); // its range, for the proof
     let mut registers = [0; MOST_REGISTERS];
     for k in 0..net.registers() {
         registers[k as usize] = at(values, net.next(k));
@@ -54,7 +62,7 @@ fn next_registers(net: &Netlist, values: &[i128]) -> [i128; MOST_REGISTERS] {
 /// on the sides of its answer to a pulse, from the last sample back to the first.
 pub(crate) fn driving_lists(net: &Netlist, samples: u32) -> [EndList; MOST_NODES] {
     let mut registers = [0; MOST_REGISTERS];
-    let mut lists = [EndList::greatest(); MOST_NODES];
+    let mut lists = [EndList::all_greatest(); MOST_NODES];
     let mut x = PULSE;
     for _ in 0..samples {
         let values = node_values(net, &registers, x);

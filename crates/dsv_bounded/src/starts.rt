@@ -1,22 +1,25 @@
 // Starts that are tried before a search: each runs without input, so that it may settle onto a
 // cycle, and is then replayed.
+//
+// Without input the registers have finitely many states, so every start comes onto a cycle in the
+// end; a limit cycle is one of those on which the output doesn't stay 0. From overflow come large
+// ones, which ends of the words and of the input range lead to (Ebert, Mazo and Taylor, Overflow
+// Oscillations in Digital Filters, 1969), and from rounding small ones, which single small words
+// lead to (Jackson, 1969). So both kinds of numbers are tried in each register, in all of them, and
+// as inputs.
 #![tactic(auto, using(dsv_algebra::proofs::Casts::casts))]
 
-ghost use Rattle.std.specs.Prelude.{◌<◌, ℤ, List, length, IfOk, IfSome};
-ghost use Rattle.dsv_meaning.specs.Equations.{Past};
-ghost use Rattle.dsv_meaning.specs.Systems.{equations_of};
-ghost use Rattle.dsv_netlist.specs.Systems.{system_of};
-ghost use Rattle.dsv_system.specs.Systems.{RunAlike};
+ghost use Rattle.std.specs.Prelude.{◌<◌, IfOk, IfSome};
+ghost use Rattle.dsv_word.specs.Words.{IsWord};
+ghost use Rattle.dsv_bounded.specs.Questions.{AreRegisters};
 ghost use Rattle.dsv_bounded.specs.Verdicts.{IsCycle};
 ghost use Rattle.dsv_bounded.specs.declared.starts.TheConstants.{OFFERED_NUMBERS};
 
-use crate::drawn_starts::drawn_cycle;
-use crate::settling::{drive, level_registers, settled_cycle};
+use crate::cycles::CycleQuestion;
+use crate::transients::{drive, level_registers};
 use dsv_base::NoMemory;
 use dsv_meaning::Cycle;
 use dsv_netlist::Netlist;
-use dsv_quantiser::Quantised;
-use dsv_realise::realise;
 use dsv_word::Format;
 use std::alloc::Global;
 
@@ -50,128 +53,103 @@ fn offered_number(format: &Format, i: u32) -> i64
     }
 }
 
-/// The limit cycle that comes of a number in one register, where it is a word.
-fn number_cycle(
-    alloc: Global,
-    q: &Quantised,
-    net: &Netlist,
-    place: u32,
-    number: i64,
-    periods: u32,
-) -> Result<Option<Cycle>, NoMemory>
-    requires alike { RunAlike (List ℤ) Past (system_of net.now) (equations_of q.now) }
-    requires place { place < length net.now.next }
-    ensures { IfOk result (λ cycle. IfSome cycle (IsCycle q.now periods)) }
-{
-    if !net.format().fits(i128::from(number)) {
-        return Ok(None);
-    }
-    let mut registers = level_registers(alloc, net, 0)?;
-    registers[place as usize] = number;
-    settled_cycle(alloc, q, net, registers.as_mut_slice(), SETTLING, periods)
+/// Where a number stands at a start.
+#[derive(Clone, Copy)]
+enum Place {
+    /// In this register, and 0 in the others.
+    Register(u32),
+    /// In all registers.
+    Everywhere,
+    /// As the input in so many samples from registers of zeros.
+    Input(u32),
 }
 
-/// The first limit cycle that comes of a word in one register: a small one, or an end.
-fn register_cycle(
+/// The registers at the start of a number, which is a word.
+fn start_registers(
     alloc: Global,
-    q: &Quantised,
-    net: &Netlist,
-    place: u32,
-    periods: u32,
-) -> Result<Option<Cycle>, NoMemory>
-    requires alike { RunAlike (List ℤ) Past (system_of net.now) (equations_of q.now) }
-    requires place { place < length net.now.next }
-    ensures { IfOk result (λ cycle. IfSome cycle (IsCycle q.now periods)) }
-{
-    for i in 0..OFFERED_NUMBERS {
-        let number = offered_number(&net.format(), i);
-        if let Some(cycle) = number_cycle(alloc, q, net, place, number, periods)? {
-            return Ok(Some(cycle));
-        }
-    }
-    Ok(None)
-}
-
-/// The limit cycle that comes of an input in so many samples, where it is a word.
-fn input_cycle(
-    alloc: Global,
-    q: &Quantised,
-    net: &Netlist,
-    x: i64,
-    samples: u32,
-    periods: u32,
-) -> Result<Option<Cycle>, NoMemory>
-    requires { RunAlike (List ℤ) Past (system_of net.now) (equations_of q.now) }
-    ensures { IfOk result (λ cycle. IfSome cycle (IsCycle q.now periods)) }
-{
-    if !net.format().fits(i128::from(x)) {
-        return Ok(None);
-    }
-    let mut level = level_registers(alloc, net, 0)?;
-    let registers = level.as_mut_slice();
-    drive(net, registers, x, samples);
-    settled_cycle(alloc, q, net, registers, SETTLING, periods)
-}
-
-/// The limit cycle that comes of a number in all registers, where it is a word.
-fn level_cycle(
-    alloc: Global,
-    q: &Quantised,
     net: &Netlist,
     number: i64,
-    periods: u32,
-) -> Result<Option<Cycle>, NoMemory>
-    requires { RunAlike (List ℤ) Past (system_of net.now) (equations_of q.now) }
-    ensures { IfOk result (λ cycle. IfSome cycle (IsCycle q.now periods)) }
+    place: Place,
+) -> Result<Vec<i64>, NoMemory>
+    requires { IsWord net.now.format number }
+    ensures { IfOk result (λ registers. AreRegisters net.now registers.items) }
 {
-    if !net.format().fits(i128::from(number)) {
-        return Ok(None);
-    }
-    let mut registers = level_registers(alloc, net, number)?;
-    settled_cycle(alloc, q, net, registers.as_mut_slice(), SETTLING, periods)
-}
-
-/// The first limit cycle that comes of a number as the input, in one sample or for long, or in all
-/// registers.
-fn end_cycle(
-    alloc: Global,
-    q: &Quantised,
-    net: &Netlist,
-    number: i64,
-    periods: u32,
-) -> Result<Option<Cycle>, NoMemory>
-    requires { RunAlike (List ℤ) Past (system_of net.now) (equations_of q.now) }
-    ensures { IfOk result (λ cycle. IfSome cycle (IsCycle q.now periods)) }
-{
-    if let Some(cycle) = input_cycle(alloc, q, net, number, 1, periods)? {
-        return Ok(Some(cycle));
-    }
-    if let Some(cycle) = input_cycle(alloc, q, net, number, LONG_INPUT, periods)? {
-        return Ok(Some(cycle));
-    }
-    level_cycle(alloc, q, net, number, periods)
-}
-
-/// The limit cycle of the first start that leads to one, of some hundred that are offered by fixed
-/// rules.
-pub(crate) fn offered_cycle(
-    alloc: Global,
-    q: &Quantised,
-    periods: u32,
-) -> Result<Option<Cycle>, NoMemory>
-    ensures { IfOk result (λ cycle. IfSome cycle (IsCycle q.now periods)) }
-{
-    let net = realise(alloc, q)?;
-    let format = net.format();
-    for number in [q.xhi(), q.xlo(), format.hi(), format.lo()] {
-        if let Some(cycle) = end_cycle(alloc, q, &net, number, periods)? {
-            return Ok(Some(cycle));
+    match place {
+        Place::Register(register) => {
+            let mut registers = level_registers(alloc, net, 0)?;
+            if (register as usize) < registers.len() {
+                registers[register as usize] = number;
+            }
+            Ok(registers)
+        }
+        Place::Everywhere => level_registers(alloc, net, number),
+        Place::Input(samples) => {
+            let mut registers = level_registers(alloc, net, 0)?;
+            drive(net, registers.as_mut_slice(), number, samples);
+            Ok(registers)
         }
     }
-    for place in net.feed_forward()..net.registers() {
-        if let Some(cycle) = register_cycle(alloc, q, &net, place, periods)? {
-            return Ok(Some(cycle));
+}
+
+impl<'a> CycleQuestion<'a> {
+    /// The limit cycle that comes of a number, where it is a word.
+    fn number_cycle(
+        &self,
+        alloc: Global,
+        number: i64,
+        place: Place,
+    ) -> Result<Option<Cycle>, NoMemory>
+        ensures { IfOk result (λ cycle. IfSome cycle (IsCycle self.now.q.now self.now.periods)) }
+    {
+        if !self.net.format().fits(i128::from(number)) {
+            return Ok(None);
         }
+        let mut registers = start_registers(alloc, self.net, number, place)?;
+        self.settled_cycle(alloc, registers.as_mut_slice(), SETTLING)
     }
-    drawn_cycle(alloc, q, &net, periods)
+
+    /// The first limit cycle that comes of a word in one register: a small one, or an end.
+    fn register_cycle(&self, alloc: Global, register: u32) -> Result<Option<Cycle>, NoMemory>
+        ensures { IfOk result (λ cycle. IfSome cycle (IsCycle self.now.q.now self.now.periods)) }
+    {
+        for i in 0..OFFERED_NUMBERS {
+            let number = offered_number(&self.net.format(), i);
+            if let Some(cycle) = self.number_cycle(alloc, number, Place::Register(register))? {
+                return Ok(Some(cycle));
+            }
+        }
+        Ok(None)
+    }
+
+    /// The first limit cycle that comes of a number as the input, in one sample or for long, or in
+    /// all registers.
+    fn end_cycle(&self, alloc: Global, number: i64) -> Result<Option<Cycle>, NoMemory>
+        ensures { IfOk result (λ cycle. IfSome cycle (IsCycle self.now.q.now self.now.periods)) }
+    {
+        for place in [Place::Input(1), Place::Input(LONG_INPUT), Place::Everywhere] {
+            if let Some(cycle) = self.number_cycle(alloc, number, place)? {
+                return Ok(Some(cycle));
+            }
+        }
+        Ok(None)
+    }
+
+    /// The limit cycle of the first start that leads to one, of some hundred that are offered by
+    /// fixed rules.
+    pub(crate) fn offered_cycle(&self, alloc: Global) -> Result<Option<Cycle>, NoMemory>
+        ensures { IfOk result (λ cycle. IfSome cycle (IsCycle self.now.q.now self.now.periods)) }
+    {
+        let format = self.net.format();
+        for number in [self.q.xhi(), self.q.xlo(), format.hi(), format.lo()] {
+            if let Some(cycle) = self.end_cycle(alloc, number)? {
+                return Ok(Some(cycle));
+            }
+        }
+        for register in self.net.feed_forward()..self.net.registers() {
+            if let Some(cycle) = self.register_cycle(alloc, register)? {
+                return Ok(Some(cycle));
+            }
+        }
+        self.drawn_cycle(alloc)
+    }
 }

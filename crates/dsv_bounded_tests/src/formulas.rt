@@ -5,10 +5,11 @@ ghost use Rattle.std.specs.Prelude.{◌<◌};
 use crate::designs::{REALISATIONS, words_of};
 use dsv_bounded::goal_formula;
 use dsv_cnf::{Formula, Lit};
+use dsv_hints::Searched;
 use dsv_names::{OverflowMode, Rounding};
 use dsv_quantiser::Quantised;
 use dsv_realise::realise;
-use dsv_solver::{Solved, solve};
+use dsv_solver::solve;
 use dsv_term::Goal;
 use dsv_unroll::{cycle_goal, overflow_goal};
 use std::alloc::Global;
@@ -59,8 +60,8 @@ fn is_satisfied(alloc: Global, formula: Option<Formula>, number: u32) -> Option<
         fix_bit(&mut formula, bit, number)?;
     }
     match solve(alloc, &formula, 1000) {
-        Ok(Solved::Sat(_)) => Some(true),
-        Ok(Solved::Unsat(_)) => Some(false),
+        Ok(Searched::Happens(_)) => Some(true),
+        Ok(Searched::Never(_)) => Some(false),
         _ => None,
     }
 }

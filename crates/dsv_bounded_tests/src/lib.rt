@@ -8,6 +8,6 @@ mod designs;
 #[cfg(test)]
 mod formulas;
 #[cfg(test)]
-mod offered;
+mod offers;
 #[cfg(test)]
 mod verdicts;

@@ -2,7 +2,8 @@
 ghost use Rattle.std.specs.Prelude.{◌<◌, ◌≤◌};
 
 use crate::designs::{REALISATIONS, words_of};
-use dsv_bounded::{BoundedAnswer, limit_cycle, overflow};
+use dsv_bounded::{limit_cycle, overflow};
+use dsv_hints::Searched;
 use dsv_names::{OverflowMode, Rounding};
 use dsv_quantiser::Quantised;
 use std::alloc::Global;
@@ -66,8 +67,8 @@ fn overflows(alloc: Global, q: &Quantised, samples: u32) -> Option<bool>
     requires few { samples ≤ 64 }
 {
     match overflow(alloc, q, samples, CONFLICTS) {
-        Ok(BoundedAnswer::Never(_)) => Some(false),
-        Ok(BoundedAnswer::Overflow(_)) => Some(true),
+        Ok(Searched::Never(_)) => Some(false),
+        Ok(Searched::Happens(_)) => Some(true),
         _ => None,
     }
 }
@@ -91,8 +92,8 @@ fn cycles(alloc: Global, q: &Quantised, periods: u32) -> Option<bool>
     requires few { periods ≤ 64 }
 {
     match limit_cycle(alloc, q, periods, CONFLICTS) {
-        Ok(BoundedAnswer::Never(_)) => Some(false),
-        Ok(BoundedAnswer::Cycles(_)) => Some(true),
+        Ok(Searched::Never(_)) => Some(false),
+        Ok(Searched::Happens(_)) => Some(true),
         _ => None,
     }
 }

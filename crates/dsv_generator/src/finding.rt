@@ -7,14 +7,14 @@ ghost use Rattle.dsv_generator.specs.Tallies.{does_fall, is_never, is_overflow, 
 
 use crate::generator::{CONFLICTS, SAMPLES};
 use dsv_base::NoMemory;
-use dsv_bounded::{BoundedAnswer, BoundedRefusal, overflow};
+use dsv_bounded::{BoundedRefusal, overflow};
 use dsv_closed_forms::closed_form;
 use dsv_forms::Poly;
-use dsv_hints::Log;
+use dsv_hints::{Log, Searched};
 use dsv_lyapunov::{CheckedForm, check_offer};
 use dsv_meaning::Trace;
 use dsv_quantiser::Quantised;
-use dsv_tested::{Side, Tested, tested};
+use dsv_tested::{Side, Tested, polynomial_of};
 use std::alloc::Global;
 
 /// What is found of the roots of a side.
@@ -102,7 +102,7 @@ fn root_finding(words: &Quantised, side: Side) -> RootFinding
     requires { IsSmall words.now }
     ensures { IsOfRoots words.now side result }
 {
-    match tested(words, side) {
+    match polynomial_of(words, side) {
         Ok(Tested::Poly(poly)) => form_finding(&poly),
         Ok(Tested::NoZeros) => RootFinding::NoZeros,
         Err(_) => unreachable!(),
@@ -115,10 +115,10 @@ fn run_finding(alloc: Global, words: &Quantised) -> Result<RunFinding, NoMemory>
     ensures { IfOk result (IsOfRuns words.now) }
 {
     match overflow(alloc, words, SAMPLES, CONFLICTS) {
-        Ok(BoundedAnswer::Never(log)) => Ok(RunFinding::Never(log)),
-        Ok(BoundedAnswer::Overflow(trace)) => Ok(RunFinding::Overflow(trace)),
-        Ok(BoundedAnswer::Spent(log)) => Ok(RunFinding::Spent(log)),
-        Ok(BoundedAnswer::Cycles(_)) | Err(BoundedRefusal::JobSize { .. }) => unreachable!(),
+        Ok(Searched::Never(log)) => Ok(RunFinding::Never(log)),
+        Ok(Searched::Happens(trace)) => Ok(RunFinding::Overflow(trace)),
+        Ok(Searched::Spent(log)) => Ok(RunFinding::Spent(log)),
+        Err(BoundedRefusal::JobSize { .. }) => unreachable!(),
         Err(BoundedRefusal::NoMemory) => Err(NoMemory),
     }
 }

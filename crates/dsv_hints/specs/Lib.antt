@@ -6,6 +6,7 @@ pub mod Lessons
 pub mod LiteralSet
 pub mod Local
 pub mod MoveOver
+pub mod Searches
 pub mod SetInside
 pub mod Slots
 pub mod StoreInside

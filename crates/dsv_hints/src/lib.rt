@@ -5,9 +5,11 @@
 mod checker;
 mod hints;
 mod literal_set;
+mod search;
 mod step;
 mod store;
 
 pub use checker::{Checker, check};
 pub use hints::Move;
+pub use search::Searched;
 pub use step::{HintList, LitList, Log, Step, StepRefusal, Verdict};

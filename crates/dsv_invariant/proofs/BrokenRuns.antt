@@ -12,7 +12,7 @@ use Rattle.dsv_bounded.specs.Questions.{AreRegisters}
 use Rattle.dsv_bounded.proofs.Questions.{words_in_range}
 use Rattle.dsv_bounded.proofs.WordValues.{zeros_are_words}
 use Rattle.dsv_meaning.specs.Equations.{Past}
-use Rattle.dsv_meaning.specs.ReplayParts.{IsFirstOutside}
+use Rattle.dsv_system.specs.OutsideValues.{IsFirstOutside}
 use Rattle.dsv_meaning.specs.Systems.{equations_of}
 use Rattle.dsv_netlist.specs.Nodes.{Net, at, sample_of, step_of}
 use Rattle.dsv_netlist.specs.Systems.{system_of}

@@ -1,13 +1,12 @@
 -- Serves private contracts: what breaks the sentences of a candidate, and what is found of one.
 use Rattle.std.specs.Prelude.{◌≡◌, ℕ, List, [], ◌∷◌, length, take, drop, ℤ}
 use Rattle.dsv_meaning.specs.Equations.{Past}
-use Rattle.dsv_meaning.specs.ReplayParts.{IsFirstOutside}
 use Rattle.dsv_meaning.specs.Systems.{equations_of}
 use Rattle.dsv_netlist.specs.Nodes.{Net, step_of}
 use Rattle.dsv_netlist.specs.Systems.{system_of}
-use Rattle.dsv_quantiser.specs.FixedPoint.{FixedPoint, IsFixedPoint}
-use Rattle.dsv_realise.specs.Netlists.{net_of}
-use Rattle.dsv_system.specs.Systems.{System, RunAlike, registers_after, zeros}
+use Rattle.dsv_quantiser.specs.FixedPoint.{FixedPoint}
+use Rattle.dsv_system.specs.OutsideValues.{IsFirstOutside}
+use Rattle.dsv_system.specs.Systems.{System, registers_after, zeros}
 use Rattle.dsv_system.specs.Systems.{AreInRange}
 use Rattle.dsv_template.specs.declared.candidate.Candidate.{Candidate}
 use Rattle.dsv_template.specs.declared.verdict.SetPart.{SetPart}
@@ -17,12 +16,6 @@ use Rattle.dsv_template.specs.declared.verdict.Why.TheVariants as why
 use Rattle.dsv_template.specs.Candidates.{IsInSet}
 use Rattle.dsv_template.specs.Kept.{LeavesEarly, LeavesLater, BreaksFrom}
 use Rattle.dsv_invariant.specs.Causes.{HoldBefore, IsFinding}
-
--- The netlist is the controller's, and runs as its written equations do.
-pub record Realises (q : FixedPoint) (net : Net) : Type 0 where
-  pub same : net ≡ net_of q
-  pub runs : RunAlike (List ℤ) Past (system_of net) (equations_of q)
-  pub fixed_point : IsFixedPoint q
 
 -- After these inputs, from registers of zeros, the netlist's registers aren't in the set.
 abbrev pub DoLeave : Net → Candidate → List ℤ → Type 0

@@ -6,10 +6,9 @@ ghost use Rattle.dsv_invariant.specs.Formulas.{set_formula_of};
 
 use crate::parts::part_goal;
 use dsv_base::NoMemory;
-use dsv_bounded::goal_formula;
+use dsv_bounded::{goal_formula, netlist_of};
 use dsv_cnf::Formula;
 use dsv_quantiser::Quantised;
-use dsv_realise::realise;
 use dsv_template::{Candidate, SetPart};
 use std::alloc::Global;
 
@@ -27,8 +26,7 @@ pub fn set_formula(
     ensures holds { IfOk result
         (λ f. IsUnsatisfiable f.clauses → Holds q.now candidate.now part) }
 {
-    let _order = q.order();
-    let net = realise(alloc, q)?;
+    let net = netlist_of(alloc, q)?;
     let goal = part_goal(alloc, q, &net, candidate, part)?;
     let blasted = goal_formula(alloc, goal)?;
     Ok(blasted.formula)

@@ -3,15 +3,15 @@
 #![tactic(auto)]
 
 mod breaks;
-mod checking;
+mod check;
+mod exits;
 mod formulas;
-mod leaving;
 mod outside;
 mod parts;
 mod shape;
 mod size;
 
-pub use checking::check_candidate;
+pub use check::check_candidate;
 pub use formulas::set_formula;
 pub use shape::shape_of;
 pub use size::{UNBOUNDED_SAMPLES, accept_unbounded};

@@ -1,46 +1,19 @@
 // Exact values that are no words.
 #![tactic(auto, using(dsv_algebra::proofs::Casts::casts))]
 
-ghost use Rattle.std.specs.Prelude.{◌≤◌, length, IfOk, IfSome, IfNone};
+ghost use Rattle.std.specs.Prelude.{IfOk, IfSome, IfNone};
 ghost use Rattle.std.specs.List.{All};
 ghost use Rattle.dsv_bounded.specs.Questions.{AreRegisters};
-ghost use Rattle.dsv_meaning.specs.ReplayParts.{IsFirstOutside};
 ghost use Rattle.dsv_netlist.specs.Nodes.{step_of};
-ghost use Rattle.dsv_system.specs.declared.exact_list.TheConstants.{MOST_EXACT};
+ghost use Rattle.dsv_system.specs.OutsideValues.{IsFirstOutside};
 ghost use Rattle.dsv_word.specs.Words.{IsWord};
 ghost use Rattle.dsv_invariant.specs.Breaking.{IsUnsafeSample};
 
 use dsv_base::{NoMemory, WordList};
 use dsv_netlist::Netlist;
-use dsv_system::{ExactList, MOST_EXACT};
+use dsv_system::{ExactList, OutsideValue, first_outside};
 use dsv_template::Why;
-use dsv_word::Format;
 use std::alloc::Global;
-
-/// An exact value that is no word, with its number in its sample.
-#[derive(Clone, Copy)]
-struct OutsideValue {
-    value: u32,
-    exact: i128,
-}
-
-/// The first of a sample's exact values that is no word.
-fn first_outside(format: &Format, exact: &[i128]) -> Option<OutsideValue>
-    requires few { length exact.now ≤ MOST_EXACT }
-    ensures first { IfSome result (λ found.
-        IsFirstOutside format.now exact.now found.value found.exact) }
-    ensures none { IfNone result (All (IsWord format.now) exact.now) }
-{
-    for (i, v) in exact.iter().enumerate() {
-        if !format.fits(*v) {
-            return Some(OutsideValue {
-                value: i as u32,
-                exact: *v,
-            });
-        }
-    }
-    None
-}
 
 /// The first exact value that is no word in the sample from a start at an input.
 fn outside_value(

@@ -1,6 +1,6 @@
 // The size of a job over runs of any length.
-ghost use Rattle.dsv_bounded.specs.Answers.{IsWeighed};
 ghost use Rattle.dsv_bounded.specs.Formulas.{job_size_of};
+ghost use Rattle.dsv_bounded.specs.Refusals.{IsWeighed};
 ghost use Rattle.dsv_invariant.specs.Limits.{unbounded_samples};
 
 use dsv_bounded::{TooLarge, accept};

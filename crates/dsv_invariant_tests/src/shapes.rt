@@ -1,7 +1,7 @@
 // What proposers are told, and jobs that are too large.
-use crate::designs::{Design, HALVES, Offer, candidate_of, words_of};
+use crate::designs::{Design, HALVES, words_of};
 use dsv_bounded::TooLarge;
-use dsv_invariant::{accept_unbounded, check_candidate, shape_of};
+use dsv_invariant::{accept_unbounded, shape_of};
 use dsv_names::{OverflowMode, Realisation};
 use dsv_template::Shape;
 use std::alloc::Global;
@@ -59,16 +59,13 @@ fn earlier_inputs_are_told_of_the_direct_form_one_alone(rt: HostRuntime) {
 }
 
 /// Whether a controller of order 8 with 33 products in words of 32 bits is refused for the size
-/// 9 * 33 * 32^2, by the size alone and with a candidate whose depth is 0.
+/// 9 * 33 * 32^2.
 fn is_refused(alloc: Global) -> Option<bool> {
     let q = words_of(alloc, &design(EIGHTH, 16, Realisation::Ddfi))?;
-    let candidate = candidate_of(&Offer(&[], 0))?;
-    let job = TooLarge { size: 304_128 };
-    let alone = accept_unbounded(&q) == Err(job);
-    Some(alone && check_candidate(alloc, &q, &candidate, 1).err() == Some(job.into()))
+    Some(accept_unbounded(&q) == Err(TooLarge { size: 304_128 }))
 }
 
 #[test]
-fn a_job_that_is_too_large_is_refused_before_the_shape(rt: HostRuntime) {
+fn a_job_that_is_too_large_is_refused(rt: HostRuntime) {
     assert!(rt; is_refused(rt.alloc()) == Some(true));
 }

@@ -3,7 +3,7 @@
 ghost use Rattle.std.specs.Prelude.{◌≤◌, ◌^◌};
 
 use crate::designs::{ALTERNATING, Bound, Design, HALVES, Offer, SUMS, candidate_of, words_of};
-use dsv_invariant::check_candidate;
+use dsv_invariant::{accept_unbounded, check_candidate};
 use dsv_names::{OverflowMode, Realisation};
 use dsv_quantiser::Quantised;
 use dsv_template::{SetPart, Why};
@@ -99,6 +99,7 @@ fn finding(alloc: Global, q: &Quantised, offer: &Offer, conflicts: u32) -> Optio
     requires few { conflicts ≤ 2 ^ 30 }
 {
     let candidate = candidate_of(offer)?;
+    accept_unbounded(q).ok()?;
     check_candidate(alloc, q, &candidate, conflicts).ok()
 }
 

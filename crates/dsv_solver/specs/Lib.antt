@@ -10,7 +10,6 @@ pub mod Propagation
 pub mod Search
 pub mod SeenInside
 pub mod SeenView
-pub mod Solved
 pub mod Solving
 pub mod Step
 pub mod Turns

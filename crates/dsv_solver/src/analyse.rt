@@ -1,5 +1,13 @@
 // What a false clause teaches: the first unique implication point's clause with its hints, and the
-// refutation at level 0.
+// refutation at level 0 (Marques-Silva and Sakallah, GRASP, 1999; Zhang and others, Efficient
+// Conflict Driven Learning, 2001; in MiniSat `analyze`).
+//
+// The trail is walked back from its end. A literal that was met is resolved with its reason, whose
+// other literals are met then, until one literal of the present level is left: the first unique
+// implication point. Its negation and the literals that were met at lower levels, but for level 0,
+// are the clause. Those of level 0 are resolved away too, so that the hints are complete: from the
+// last resolved clause to the first, they lead by unit propagation from the learned clause's
+// negation to the clause that is false.
 ghost use Rattle.std.specs.Prelude.{◌≡◌, ◌≢◌, List, ◌<◌, ◌≤◌, ◌+◌};
 ghost use Rattle.std.specs.Prelude.{◌⊎◌, ◌∷◌, ◌++◌, [], ℕ, true};
 ghost use Rattle.std.specs.Prelude.{false, OnOk, OnErr, IfOk, IsSome, MatchOption, take, length};

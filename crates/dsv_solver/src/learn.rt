@@ -1,4 +1,9 @@
-// Learning: the way back, a clause more, and its step in the log.
+// Learning: the way back, a clause more, and its step in the log (Marques-Silva and Sakallah, 1999;
+// in MiniSat the part of `search` after `analyze`). The search goes back to the last level but the
+// present one at which a literal of the learned clause became false. There all its literals but the
+// first are false, so the first is implied; it is watched together with the one that became false
+// last, which is the first to be open again on a further way back. Before that the variables that
+// the analysis met gain activity.
 ghost use Rattle.std.specs.Prelude.{◌≡◌, ◌<◌, ◌+◌, ◌-◌, ◌^◌, ◌∷◌, ◌++◌, true, [], OnOk, IfOk};
 ghost use Rattle.std.specs.Prelude.{MatchOption, IfSome, length, Some};
 ghost use Rattle.dsv_hints.specs.declared.step.Step.TheVariants.{Add};
@@ -23,7 +28,7 @@ use dsv_trail::Trail;
 use std::alloc::Global;
 
 /// The one of two that became false last.
-fn later(trail: &Trail, found: Option<Lit>, literal: Lit) -> Lit
+fn later_literal(trail: &Trail, found: Option<Lit>, literal: Lit) -> Lit
     requires over { literal.var < trail.now.vars }
     requires is_false { falsifies trail.now.marks literal ≡ true }
     requires found { IfSome found (λ l. (l.var < trail.now.vars) × (falsifies trail.now.marks l
@@ -43,7 +48,7 @@ fn later(trail: &Trail, found: Option<Lit>, literal: Lit) -> Lit
 }
 
 /// Of some false literals, the one that became false last.
-fn highest(trail: &Trail, literals: &[Lit]) -> Option<Lit>
+fn highest_literal(trail: &Trail, literals: &[Lit]) -> Option<Lit>
     requires { AllFalse trail.now literals.now }
     ensures last { MatchOption result (literals.now ≡ []) (IsLast trail.now literals.now) }
     ensures known { IfSome result (λ q. (q.var < trail.now.vars) × (falsifies trail.now.marks q
@@ -51,7 +56,7 @@ fn highest(trail: &Trail, literals: &[Lit]) -> Option<Lit>
 {
     let mut found: Option<Lit> = None;
     for literal in literals {
-        found = Some(later(trail, found, *literal));
+        found = Some(later_literal(trail, found, *literal));
     }
     found
 }
@@ -79,7 +84,7 @@ fn level_of(trail: &Trail, literal: Lit) -> u32
     requires is_false { falsifies trail.now.marks literal ≡ true }
     ensures { IsLevelOf trail.now.limits (place_of trail.now.marks literal) result }
 {
-    let _count = trail.len();
+    let _count = trail.len(); // its range, for the proof
     trail.level_of(literal.var())
 }
 
@@ -96,7 +101,7 @@ fn make_plan(trail: &Trail, clause: &[Lit]) -> Plan
     ensures { IsPlan trail.now clause.now result.pair result.level }
 {
     let first = clause[0];
-    match highest(trail, &clause[1..]) {
+    match highest_literal(trail, &clause[1..]) {
         None => Plan {
             pair: Pair {
                 one: first,
@@ -134,7 +139,7 @@ impl State {
         ensures seen { seen.new.vars ≡ seen.old.vars }
     {
         seen.clear();
-        let _count = self.trail.len();
+        let _count = self.trail.len(); // its range, for the proof
         let high = self.trail.limit(self.trail.level() - 1);
         let zero_end = self.trail.limit(0);
         let bounds = Bounds { zero_end, high };
@@ -165,7 +170,7 @@ impl State {
         let literal = pair.one;
         self.watches.add(pair)?;
         self.clauses.push_clause(clause)?;
-        let _count = self.trail.len();
+        let _count = self.trail.len(); // its range, for the proof
         self.trail.imply(literal, number, &self.clauses);
         Ok(())
     }
@@ -191,7 +196,7 @@ impl Search {
         bump_all(&mut self.order, &self.seen);
         let Learned { clause, hints } = learned;
         let plan = make_plan(&self.state.trail, clause.as_slice());
-        let _count = self.state.trail.len();
+        let _count = self.state.trail.len(); // its range, for the proof
         let number = self.state.clauses.len();
         write_step(alloc, &mut self.log, number, clause.as_slice(), hints)?;
         self.state

@@ -2,8 +2,8 @@
 #![tactic(auto)]
 
 mod analyse;
+mod first_watches;
 mod learn;
-mod loading;
 mod luby;
 mod order;
 mod propagate;
@@ -13,4 +13,4 @@ mod solver;
 mod state;
 mod watches;
 
-pub use solver::{Solved, solve};
+pub use solver::solve;

@@ -1,4 +1,11 @@
-// When the search begins anew at level 0.
+// When the search begins anew at level 0: after 32 times as many conflicts as the numbers 1, 1, 2,
+// 1, 1, 2, 4, 1, 1, 2 and so on say, of Luby, Sinclair and Zuckerman, Optimal Speedup of Las Vegas
+// Algorithms (1993; in MiniSat `luby`). Where nothing is known of how long a search takes, no other
+// sequence is better by more than a factor in the order of a logarithm. What was learned, the
+// activities and the phases stay.
+//
+// The numbers are made one from the other, as Knuth gives them: after the pair u, v comes u + 1, 1
+// where v is the lowest bit of u, and otherwise u, 2 v; each v is a number of the sequence.
 
 /// How many conflicts a Luby number stands for.
 const UNIT: u64 = 32;
@@ -6,9 +13,9 @@ const UNIT: u64 = 32;
 /// Counts conflicts in runs of 32 times the Luby numbers 1, 1, 2, 1, 1, 2, 4 and so on.
 #[derive(Clone, Copy)]
 pub(crate) struct Luby {
-    /// How many numbers ended with the greatest so far; its last bit that is set is where it ends.
+    /// Knuth's u.
     number: u64,
-    /// The present Luby number.
+    /// The present Luby number, Knuth's v.
     power: u64,
     /// How many conflicts are left of the present run.
     left: u64,

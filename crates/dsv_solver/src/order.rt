@@ -1,4 +1,11 @@
-// Which variable is decided next: the open one with the greatest activity. Nothing rests on it, so
+// Which variable is decided next: the open one with the greatest activity, which is a sum of gains
+// that grow by a twentieth with each conflict, so that late conflicts count for most (Moskewicz and
+// others, VSIDS in Chaff, 2001; growing gains in place of shrinking sums are MiniSat's, as
+// `varBumpActivity`). A variable is decided to the value that it had last (Pipatsrisawat and
+// Darwiche, 2007).
+//
+// Variables that were set leave the heap when they come first, and come back on the way back. So
+// what comes first may be set; the search then takes the next one. Nothing rests on the order, so
 // contracts say nothing of it but that it is safe; the search tests what it answers.
 ghost use Rattle.std.specs.Prelude.{◌+◌, ◌*◌, ◌<◌, ◌^◌};
 
@@ -171,7 +178,7 @@ impl Order {
     pub fn put_back(&mut self, literal: Lit) {
         let var = literal.var();
         if let Some(slot) = self.phases.get_mut(var as usize) {
-            *slot = literal.positive();
+            *slot = literal.is_positive();
         }
         if self.place(var) == ABSENT && self.len < ABSENT {
             let place = self.len;

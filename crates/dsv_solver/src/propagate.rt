@@ -1,4 +1,9 @@
-// Unit propagation over watched literals.
+// Unit propagation over watched literals (Moskewicz and others, Chaff, 2001; in MiniSat
+// `propagate`). Two literals of each clause are watched, and a clause is looked at only when one of
+// these becomes false: then the other is true, or a literal that isn't false is watched in its
+// place, or the other is implied, or the clause is false. Going back changes no watches. A clause's
+// search for another literal begins where its last one ended (Gent, Optimal Implementation of
+// Watched Literals, 2013), so that long clauses aren't passed through from their start each time.
 ghost use Rattle.std.specs.Prelude.{◌≡◌, ◌≢◌, ◌<◌, ◌+◌, ℕ, true, slice_set, slice_index, OnOk};
 ghost use Rattle.std.specs.Prelude.{IfOk, IfSome, MatchOption, length, slice_get, Some};
 ghost use Rattle.dsv_cnf.specs.Formula.{IsOver};
@@ -157,7 +162,7 @@ impl State {
                 if self.trail.is_false(other) {
                     return Ok(Outcome::Conflict);
                 }
-                let _count = self.trail.len();
+                let _count = self.trail.len(); // its range, for the proof
                 self.trail.imply(other, watch.clause, &self.clauses);
                 Ok(Outcome::Kept)
             }

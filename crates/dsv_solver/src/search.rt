@@ -74,8 +74,8 @@ impl State {
     {
         let mut found = self.propagate()?;
         while found.is_none() {
-            let _count = self.trail.len();
-            let _vars = self.clauses.vars();
+            let _count = self.trail.len(); // its range, for the proof
+            let _vars = self.clauses.vars(); // its range, for the proof
             let Some(literal) = choose(&self.trail, order) else {
                 return Ok(None);
             };

@@ -1,16 +1,40 @@
-// The solver: search, lessons, restarts, and the answers.
+// The solver: search, lessons, restarts, and the answers. It is that of Een and Sorensson, An
+// Extensible SAT-solver (2003), which is known as MiniSat, with a log of its lessons:
+//
+// | Here                                   | MiniSat                                  |
+// |----------------------------------------|------------------------------------------|
+// | `Trail`: marks, limits, levels         | `trail`, `trail_lim`, `level`, `reason`  |
+// | `State::head`                          | `qhead`                                  |
+// | `Watches`, `Watch`                     | `watches`, `Watcher`                     |
+// | `load`                                 | `addClause`, `attachClause`              |
+// | `State::propagate`, `State::visit`     | `propagate`                              |
+// | `choose`, `Trail::decide`              | `pickBranchLit`, `newDecisionLevel`      |
+// | `Trail::imply`                         | `uncheckedEnqueue`                       |
+// | `analyse`, `Seen`                      | `analyze`, `seen`                        |
+// | `Trail::back_to`, `put_back`           | `cancelUntil`                            |
+// | `Order`: activities, gain, heap        | `activity`, `var_inc`, `order_heap`      |
+// | `Order::bump`, `Order::decay`          | `varBumpActivity`, `varDecayActivity`    |
+// | `Order::phase`                         | `polarity`                               |
+// | `Luby`                                 | `luby`                                   |
+// | `Search::turn`, `Search::run`, `solve` | `search`, `solve`                        |
+// | `Searched`                             | `l_True`, `l_False`, `l_Undef`           |
+// | `write_step`, `refute`: the log        |                                          |
+// |                                        | `reduceDB`, `simplify`, `litRedundant`   |
+//
+// Nothing is deleted, and no learned clause is made shorter after its analysis, so a step of the
+// log is a learned clause with the clauses of its analysis as hints, last first.
 ghost use Rattle.std.specs.Prelude.{◌≡◌, ◌<◌, ◌≤◌, ◌+◌, ◌-◌, ◌^◌, [], IfOk, OnOk, length};
 ghost use Rattle.dsv_solver.specs.Ending.{AreValuesOf};
 ghost use Rattle.dsv_cnf.specs.Formula.{IsModel};
 ghost use Rattle.dsv_hints.specs.Lessons.{IsRefutation, IsSpent};
-ghost use Rattle.dsv_solver.specs.Solved.{IfSat, IfSpent, IfUnsat};
+ghost use Rattle.dsv_hints.specs.Searches.{IfHappens, IfNever, IfSpent};
 ghost use Rattle.dsv_solver.specs.Propagation.{IsReady};
 ghost use Rattle.dsv_solver.specs.Solving.{IsStuck, IsNewSearch, IsRefuted};
 ghost use Rattle.dsv_solver.specs.Turns.{IsNewState, IsTurn, IsLastTurn, HasEnded};
 
 use crate::analyse::refute;
+use crate::first_watches::load;
 use crate::learn::write_step;
-use crate::loading::load;
 use crate::luby::Luby;
 use crate::order::Order;
 use crate::seen::Seen;
@@ -18,27 +42,13 @@ use crate::state::{Search, State};
 use crate::watches::Watches;
 use dsv_base::NoMemory;
 use dsv_cnf::{Assignment, Formula, Lit};
-use dsv_hints::Log;
+use dsv_hints::{Log, Searched};
 use dsv_trail::Trail;
 use std::alloc::Global;
 use std::mem;
 
 /// 2^32 - 2: so many clauses, the learned ones among them, are too many to be numbered.
 const TOO_MANY_CLAUSES: u64 = 0xffff_fffe;
-
-/// What a search found.
-#[derive(Drop)]
-pub enum Solved {
-    /// A value for each variable. They satisfy every clause.
-    Sat(Assignment),
-    /// No values satisfy every clause: a log that `dsv_hints::check` accepts. Its steps add the
-    /// learned clauses, each local, and then the empty one.
-    Unsat(Log),
-    /// As many learned clauses as conflicts were allowed, and then the search gave up. Each follows
-    /// by its hints, is local, and has no live clause in it; no hints derive the empty clause after
-    /// them.
-    Spent(Log),
-}
 
 /// The values that a trail gives.
 fn model(alloc: Global, trail: &Trail) -> Result<Assignment, NoMemory>
@@ -105,7 +115,7 @@ impl Search {
         ensures { OnOk result (IsRefuted self.old.state.clauses self.old.log self.new.log) }
     {
         self.seen.clear();
-        let _count = self.state.trail.len();
+        let _count = self.state.trail.len(); // its range, for the proof
         let hints = refute(alloc, &self.state, &mut self.seen, conflict)?;
         let number = self.state.clauses.len();
         write_step(alloc, &mut self.log, number, &[], hints)?;
@@ -189,24 +199,24 @@ impl Search {
     }
 
     /// What the search finds.
-    fn answer(&mut self, alloc: Global, conflicts: u32) -> Result<Solved, NoMemory>
+    fn answer(&mut self, alloc: Global, conflicts: u32) -> Result<Searched<Assignment>, NoMemory>
         requires begun { IsNewSearch self.old.state.clauses self.old.state self.old.seen
             self.old.log }
         requires few { length self.old.state.clauses.clauses + conflicts < 2 ^ 32 - 2 }
-        ensures model { IfOk result (IfSat (IsModel self.old.state.clauses)) }
-        ensures refuted { IfOk result (IfUnsat
+        ensures model { IfOk result (IfHappens (IsModel self.old.state.clauses)) }
+        ensures refuted { IfOk result (IfNever
             (IsRefutation self.old.state.clauses conflicts)) }
         ensures spent { IfOk result (IfSpent (IsSpent self.old.state.clauses conflicts)) }
     {
         match self.run(alloc, conflicts)? {
-            None => Ok(Solved::Spent(self.take_log(alloc))),
+            None => Ok(Searched::Spent(self.take_log(alloc))),
             Some(End::Full) => {
-                let _over = self.state.clauses.vars();
-                Ok(Solved::Sat(model(alloc, &self.state.trail)?))
+                let _vars = self.state.clauses.vars(); // its range, for the proof
+                Ok(Searched::Happens(model(alloc, &self.state.trail)?))
             }
             Some(End::Stuck(i)) => {
                 self.refute(alloc, i)?;
-                Ok(Solved::Unsat(self.take_log(alloc)))
+                Ok(Searched::Never(self.take_log(alloc)))
             }
         }
     }
@@ -216,14 +226,25 @@ impl Search {
 /// After the last one unit steps at level 0 may still refute. `NoMemory` is answered where there is
 /// none, and where the clauses and the conflicts together are 2^32 - 2 or more.
 ///
+/// - `Happens`: a value for each variable. They satisfy every clause.
+/// - `Never`: no values satisfy every clause: a log that `dsv_hints::check` accepts. Its steps add
+///   the learned clauses, each local, and then the empty one.
+/// - `Spent`: as many learned clauses as conflicts were allowed, and then the search gave up. Each
+///   follows by its hints, is local, and has no live clause in it; no hints derive the empty clause
+///   after them.
+///
 /// The search is that of the best-known small solvers (MiniSat): two watched literals, the first
 /// unique implication point's clause, activities, phases, and restarts after 32 times the Luby
 /// numbers. Nothing is deleted.
-pub fn solve(alloc: Global, formula: &Formula, conflicts: u32) -> Result<Solved, NoMemory>
+pub fn solve(
+    alloc: Global,
+    formula: &Formula,
+    conflicts: u32,
+) -> Result<Searched<Assignment>, NoMemory>
     requires some { 1 ≤ conflicts }
     requires few { conflicts ≤ 2 ^ 30 }
-    ensures model { IfOk result (IfSat (IsModel formula.now)) }
-    ensures refuted { IfOk result (IfUnsat (IsRefutation formula.now conflicts)) }
+    ensures model { IfOk result (IfHappens (IsModel formula.now)) }
+    ensures refuted { IfOk result (IfNever (IsRefutation formula.now conflicts)) }
     ensures spent { IfOk result (IfSpent (IsSpent formula.now conflicts)) }
 {
     if u64::from(formula.len()) + u64::from(conflicts) >= TOO_MANY_CLAUSES {

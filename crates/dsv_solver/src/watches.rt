@@ -1,4 +1,7 @@
-// Watched literals: two of each clause, and for each literal the clauses that watch it.
+// Watched literals: two of each clause, and for each literal the clauses that watch it (Moskewicz
+// and others, Chaff, 2001; in MiniSat `watches`). Of a clause of one literal both are that one. The
+// pairs stand apart from the clauses, which keep the order of their literals, while MiniSat watches
+// the first two and swaps them. Where a clause leaves a list, the list's last one takes its place.
 ghost use Rattle.std.specs.Prelude.{◌≡◌, ◌≢◌, ◌<◌, ◌≤◌, ◌^◌, ◌∷◌};
 ghost use Rattle.std.specs.Prelude.{◌++◌, ◌-◌, ◌+◌, ℕ, [], take};
 ghost use Rattle.std.specs.Prelude.{OnOk, OnErr, IfOk, length, slice_get, slice_set, slice_index};

@@ -4,8 +4,8 @@
 //! number of steps of its log, which isn't judged. Time it from outside.
 
 use dsv_cnf::{Assignment, Formula, holds, read_dimacs};
-use dsv_hints::{Log, Verdict, check};
-use dsv_solver::{Solved, solve};
+use dsv_hints::{Log, Searched, Verdict, check};
+use dsv_solver::solve;
 use std::fs::File;
 use std::io;
 use std::io::Read;
@@ -49,17 +49,17 @@ fn verdict_on(rt: &HostRuntime, formula: &Formula, log: &Log) -> &'static str {
 }
 
 /// What the solver answered, judged.
-fn judgement(rt: &HostRuntime, formula: &Formula, answer: &Solved) -> &'static str {
+fn judgement(rt: &HostRuntime, formula: &Formula, answer: &Searched<Assignment>) -> &'static str {
     match answer {
-        Solved::Sat(values) => {
+        Searched::Happens(values) => {
             if is_model(formula, values) {
                 "a model"
             } else {
                 "no model"
             }
         }
-        Solved::Unsat(log) => verdict_on(rt, formula, log),
-        Solved::Spent(_) => "spent",
+        Searched::Never(log) => verdict_on(rt, formula, log),
+        Searched::Spent(_) => "spent",
     }
 }
 
@@ -85,9 +85,9 @@ fn measure(rt: &HostRuntime, name: &str, conflicts: u32) -> io::Result<()> {
         return println!(rt; "no formula");
     };
     match solve(rt.alloc(), &formula, conflicts.clamp(1, 1 << 30)) {
-        Ok(Solved::Sat(_)) => println!(rt; "satisfiable"),
-        Ok(Solved::Unsat(log)) => println!(rt; "unsatisfiable {}", log.as_slice().len()),
-        Ok(Solved::Spent(log)) => println!(rt; "spent {}", log.as_slice().len()),
+        Ok(Searched::Happens(_)) => println!(rt; "satisfiable"),
+        Ok(Searched::Never(log)) => println!(rt; "unsatisfiable {}", log.as_slice().len()),
+        Ok(Searched::Spent(log)) => println!(rt; "spent {}", log.as_slice().len()),
         Err(_) => println!(rt; "no memory"),
     }
 }

@@ -48,7 +48,7 @@ fn random_formula(alloc: Global, seed: u32) -> Result<Formula, NoMemory> {
 
 /// Whether the assignment that the bits of a number are makes a literal true.
 fn is_true(literal: Lit, bits: u32) -> bool {
-    (bits >> (literal.var() % 32)) % 2 == u32::from(literal.positive())
+    (bits >> (literal.var() % 32)) % 2 == u32::from(literal.is_positive())
 }
 
 fn satisfies(formula: &Formula, bits: u32) -> bool {

@@ -1,7 +1,7 @@
 // Small formulas. Each model is tested and each log judged.
 use dsv_cnf::{Assignment, Formula, holds, read_dimacs};
-use dsv_hints::{Log, Verdict, check};
-use dsv_solver::{Solved, solve};
+use dsv_hints::{Log, Searched, Verdict, check};
+use dsv_solver::solve;
 use std::alloc::Global;
 
 /// What a solver answers, where its model satisfies and its log is accepted.
@@ -158,13 +158,13 @@ fn outcome_if(right: bool, outcome: Outcome) -> Outcome {
 /// What the solver answers; none where there is no memory.
 pub fn outcome_of(alloc: Global, formula: &Formula, conflicts: u32) -> Option<Outcome> {
     match solve(alloc, formula, conflicts.clamp(1, 1 << 30)) {
-        Ok(Solved::Sat(values)) => {
+        Ok(Searched::Happens(values)) => {
             Some(outcome_if(is_model(formula, &values), Outcome::Satisfiable))
         }
-        Ok(Solved::Unsat(log)) => {
+        Ok(Searched::Never(log)) => {
             Some(outcome_if(is_accepted(alloc, formula, &log), Outcome::Unsatisfiable))
         }
-        Ok(Solved::Spent(log)) => Some(Outcome::Spent(log.as_slice().len())),
+        Ok(Searched::Spent(log)) => Some(Outcome::Spent(log.as_slice().len())),
         Err(_) => None,
     }
 }
@@ -188,7 +188,7 @@ fn small_formulas_are_decided(rt: HostRuntime) {
 fn steps_of(alloc: Global, text: &str, conflicts: u32) -> Option<usize> {
     let formula = read_dimacs(alloc, text.as_bytes()).ok()?;
     match solve(alloc, &formula, conflicts.clamp(1, 1 << 30)).ok()? {
-        Solved::Unsat(log) => Some(log.as_slice().len()),
+        Searched::Never(log) => Some(log.as_slice().len()),
         _ => None,
     }
 }

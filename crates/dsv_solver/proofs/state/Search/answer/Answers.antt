@@ -10,7 +10,7 @@ pub returns-in_ok-model-in-Some-Full-clause-model :
     goal.returns-in_ok-model-in-Some-Full-clause-model
 returns-in_ok-model-in-Some-Full-clause-model c =
     let d : IsFilled c.args.self.now.state.clauses c.run.new.self = rw (c.in-Some-Full.is, c.in-Some-Full.field-0-is) at c.in_ok-run.ensures in
-    model_by c.args.self.now.state.clauses c.run.new.self c.in_ok-model-in-Some-Full.field-0 d c.in_ok-model-in-Some-Full.ensures c.vars-over.ensures.over
+    model_by c.args.self.now.state.clauses c.run.new.self c.in_ok-model-in-Some-Full.field-0 d c.in_ok-model-in-Some-Full.ensures c.vars-vars.ensures.over
 
 pub returns-in_ok-refute-in-Some-Stuck-clause-refuted :
     goal.returns-in_ok-refute-in-Some-Stuck-clause-refuted

@@ -1,0 +1,14 @@
+use Rattle.std.proofs.Common.{SFits, rules}
+use Rattle.std.specs.Int.{w64}
+use Rattle.std.proofs.lemmas.Int.{to_z-of_z}
+use Rattle.dsv_bounded.proofs.Questions.{asks_overflow}
+use Rattle.dsv_bounded.proofs.overflows.OverflowQuestionQuestion.goal.Goals as goal
+
+pub returns-clause-asks : goal.returns-clause-asks
+returns-clause-asks c =
+    let g = c.in_ok-goal.goal in
+    let e = c.in_ok-goal.ensures in
+    let low : SFits w64 c.xlo.result = search rules in
+    let high : SFits w64 c.xhi.result = search rules in
+    let exact = rw (to_z-of_z w64 c.xlo.result low, to_z-of_z w64 c.xhi.result high, c.xlo.ensures.same, c.xhi.ensures.same) at e.exact in
+    asks_overflow c.args.self.now.q.now c.args.self.now.net.now c.args.self.now.samples g.terms g.root c.args.self.now.realises.runs c.len-count.ensures.terms g.stands g.one_bit e.inputs exact

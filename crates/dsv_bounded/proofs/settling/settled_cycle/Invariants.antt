@@ -1,5 +1,0 @@
-use Rattle.dsv_bounded.specs.Questions.{AreRegisters}
-use Rattle.dsv_bounded.proofs.settling.settled_cycle.Given as goal
-
-abbrev pub invariant-loop-samples : goal.invariant-loop-samples
-invariant-loop-samples l = AreRegisters l.net l.registers

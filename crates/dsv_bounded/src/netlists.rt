@@ -1,0 +1,17 @@
+// The netlist of a controller in words.
+ghost use Rattle.std.specs.Prelude.{IfOk};
+ghost use Rattle.dsv_bounded.specs.Questions.{Realises};
+
+use dsv_base::NoMemory;
+use dsv_netlist::Netlist;
+use dsv_quantiser::Quantised;
+use dsv_realise::realise;
+use std::alloc::Global;
+
+/// The netlist of a controller in words. It runs as the written equations do.
+pub fn netlist_of(alloc: Global, q: &Quantised) -> Result<Netlist, NoMemory>
+    ensures { IfOk result (Realises q.now) }
+{
+    let _order = q.order(); // its range, for the proof
+    realise(alloc, q)
+}

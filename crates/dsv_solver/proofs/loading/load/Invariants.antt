@@ -1,5 +1,0 @@
-use Rattle.dsv_solver.specs.Solving.{IsBegun}
-use Rattle.dsv_solver.proofs.loading.load.Given as goal
-
-abbrev pub invariant-loop-i : goal.invariant-loop-i
-invariant-loop-i l = IsBegun l.clauses l.trail l.watches l.i
