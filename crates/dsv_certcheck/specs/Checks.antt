@@ -148,7 +148,7 @@ words_check q (certificate.Falls job offer) = falls_check q job.property job.siz
 
 -- in the job's realisation and modes the controller becomes these words, or is refused so
 abbrev pub BecomesFor : ControllerView → Job → Result FixedPoint QuantRefusal → Type 0
-BecomesFor c job outcome = BecomesWords c job.realisation job.rounding job.overflow outcome
+BecomesFor c job outcome = BecomesWords c job.design outcome
 
 -- This is found of the words that the controller becomes.
 pub record IsFoundOf (c : ControllerView) (cert : Certificate) (found : Checked) : Type 0 where

@@ -1,6 +1,6 @@
 -- Refusals of bounded jobs, as the check gives them.
-use Rattle.dsv_bounded.specs.declared.answers.BoundedRefusal.{BoundedRefusal}
-use Rattle.dsv_bounded.specs.declared.answers.BoundedRefusal.TheVariants as bounded
+use Rattle.dsv_bounded.specs.declared.refusals.BoundedRefusal.{BoundedRefusal}
+use Rattle.dsv_bounded.specs.declared.refusals.BoundedRefusal.TheVariants as bounded
 use Rattle.dsv_certcheck.specs.declared.check_refusal.CheckRefusal.{CheckRefusal}
 use Rattle.dsv_certcheck.specs.declared.check_refusal.CheckRefusal.TheVariants as refusal
 

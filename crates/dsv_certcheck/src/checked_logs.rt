@@ -68,25 +68,31 @@ pub(crate) fn check_run(
     check_log(alloc, &formula, BODY_LINE, log)
 }
 
-/// Checks that a log, whose first step stands on this line, refutes that the sentence of a
-/// candidate is broken.
+/// A sentence of a candidate, and the line of the certificate on which the first step of its log
+/// stands.
+#[derive(Clone, Copy)]
+struct LoggedSentence {
+    part: SetPart,
+    line: u64,
+}
+
+/// Checks that a log refutes that the sentence of a candidate is broken.
 fn check_sentence(
     alloc: Global,
     q: &Quantised,
     candidate: &Candidate,
-    part: SetPart,
-    line: u64,
+    sentence: LoggedSentence,
     log: &Log,
 ) -> Result<(), CheckRefusal>
     requires shaped { IsShaped q.now candidate.now }
-    requires low { line < 2 ^ 40 }
+    requires low { sentence.line < 2 ^ 40 }
     requires short { length log.now < 2 ^ 32 - 1 }
     ensures found { Finds result
-        (log_check (set_formula_of q.now candidate.now part) line log.now) }
-    ensures shows { OnOk result (Holds q.now candidate.now part) }
+        (log_check (set_formula_of q.now candidate.now sentence.part) sentence.line log.now) }
+    ensures shows { OnOk result (Holds q.now candidate.now sentence.part) }
 {
-    let formula = set_formula(alloc, q, candidate, part)?;
-    check_log(alloc, &formula, line, log)
+    let formula = set_formula(alloc, q, candidate, sentence.part)?;
+    check_log(alloc, &formula, sentence.line, log)
 }
 
 /// Checks the logs of a candidate's sentences.
@@ -105,12 +111,21 @@ fn check_sentences(
     accept_length(&logs.base)?;
     accept_length(&logs.step)?;
     accept_length(&logs.safe)?;
-    let base = log_line(SetPart::Base, candidate, logs);
-    check_sentence(alloc, q, candidate, SetPart::Base, base, &logs.base)?;
-    let step = log_line(SetPart::Step, candidate, logs);
-    check_sentence(alloc, q, candidate, SetPart::Step, step, &logs.step)?;
-    let safe = log_line(SetPart::Safe, candidate, logs);
-    check_sentence(alloc, q, candidate, SetPart::Safe, safe, &logs.safe)
+    let base = LoggedSentence {
+        part: SetPart::Base,
+        line: log_line(SetPart::Base, candidate, logs),
+    };
+    check_sentence(alloc, q, candidate, base, &logs.base)?;
+    let step = LoggedSentence {
+        part: SetPart::Step,
+        line: log_line(SetPart::Step, candidate, logs),
+    };
+    check_sentence(alloc, q, candidate, step, &logs.step)?;
+    let safe = LoggedSentence {
+        part: SetPart::Safe,
+        line: log_line(SetPart::Safe, candidate, logs),
+    };
+    check_sentence(alloc, q, candidate, safe, &logs.safe)
 }
 
 /// Checks that a controller never leaves a candidate's set and never overflows in it.

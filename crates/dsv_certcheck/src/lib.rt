@@ -4,8 +4,8 @@
 
 mod check_refusal;
 mod checked_logs;
-mod checking;
+mod checks;
 mod line_numbers;
 
 pub use check_refusal::CheckRefusal;
-pub use checking::check;
+pub use checks::check;

@@ -14,7 +14,7 @@ use Rattle.dsv_certfile.specs.declared.job.Job.{Job}
 use Rattle.dsv_certfile.specs.declared.keyword.Keyword.TheVariants as keyword
 use Rattle.dsv_certfile.specs.declared.kind.KindHead.{KindHead}
 use Rattle.dsv_certfile.specs.declared.kind.KindHead.TheVariants as head
-use Rattle.dsv_certfile.specs.declared.reading.Heading.{Heading}
+use Rattle.dsv_certfile.specs.declared.reader.Heading.{Heading}
 use Rattle.dsv_certfile.proofs.LawfulBodies.{IsProof, yields_invariant}
 use Rattle.dsv_certfile.proofs.LawfulFalls.{yields_falls}
 use Rattle.dsv_certfile.proofs.LawfulHeadings.{IsHeadFor, IsHeading, yields_heading}

@@ -33,7 +33,7 @@ use Rattle.dsv_certfile.specs.declared.kind.Kind.{Kind}
 use Rattle.dsv_certfile.specs.declared.kind.Kind.TheVariants as kind
 use Rattle.dsv_certfile.specs.declared.kind.KindHead.{KindHead}
 use Rattle.dsv_certfile.specs.declared.kind.KindHead.TheVariants as head
-use Rattle.dsv_certfile.specs.declared.reading.Heading.{Heading}
+use Rattle.dsv_certfile.specs.declared.reader.Heading.{Heading}
 use Rattle.dsv_certfile.proofs.HeadingLemmas.{job_from}
 use Rattle.dsv_certfile.proofs.LawfulParts.{has_unit, then_has, whole_line_has, Yields, yields_both, yields_made, yields_line}
 use Rattle.dsv_certfile.proofs.RangeLemmas.{positive_has, line_numbers_have}

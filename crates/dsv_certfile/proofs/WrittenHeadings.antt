@@ -75,14 +75,14 @@ size_plain size.Unbounded h = All-cons IsPlain unbounded_text [] refl (All-nil I
 pub job_line-plain : (job : Job) → IsSize job.size → IsLine (job_line job)
 job_line-plain job h =
     let sizes = size_pieces job.size in
-    let modes = overflow_mode_name job.overflow ∷ sizes in
-    let roundings = rounding_name job.rounding ∷ modes in
-    let realisations = realisation_name job.realisation ∷ roundings in
+    let modes = overflow_mode_name job.design.overflow ∷ sizes in
+    let roundings = rounding_name job.design.rounding ∷ modes in
+    let realisations = realisation_name job.design.realisation ∷ roundings in
     All-cons IsPlain (keyword_text keyword.Job) (property_name job.property ∷ realisations) refl
     (All-cons IsPlain (property_name job.property) realisations (property_plain job.property)
-    (All-cons IsPlain (realisation_name job.realisation) roundings (realisation_plain job.realisation)
-    (All-cons IsPlain (rounding_name job.rounding) modes (rounding_plain job.rounding)
-    (All-cons IsPlain (overflow_mode_name job.overflow) sizes (overflow_mode_plain job.overflow) (size_plain job.size h)))))
+    (All-cons IsPlain (realisation_name job.design.realisation) roundings (realisation_plain job.design.realisation)
+    (All-cons IsPlain (rounding_name job.design.rounding) modes (rounding_plain job.design.rounding)
+    (All-cons IsPlain (overflow_mode_name job.design.overflow) sizes (overflow_mode_plain job.design.overflow) (size_plain job.size h)))))
 
 size_written : (s : Size) → IsSize s → size_in (size_pieces s) ≡ Ok s
 size_written size.NoSize h = refl
@@ -96,9 +96,9 @@ job_written job h =
     let line = job_line job in
     whole_job (beginning (keyword_text keyword.Job) line) (name_in property_name properties line 1) (name_in realisation_name realisations line 2)
     (name_in rounding_name roundings line 3) (name_in overflow_mode_name overflow_modes line 4) (size_in (size_pieces job.size))
-    job.property job.realisation job.rounding job.overflow job.size
-    refl (ap or_kind (are_names-properties.found job.property)) (ap or_kind (are_names-realisations.found job.realisation))
-    (ap or_kind (are_names-roundings.found job.rounding)) (ap or_kind (are_names-overflow_modes.found job.overflow)) (size_written job.size h)
+    job.property job.design.realisation job.design.rounding job.design.overflow job.size
+    refl (ap or_kind (are_names-properties.found job.property)) (ap or_kind (are_names-realisations.found job.design.realisation))
+    (ap or_kind (are_names-roundings.found job.design.rounding)) (ap or_kind (are_names-overflow_modes.found job.design.overflow)) (size_written job.size h)
 
 pub job_back : (job : Job) → IsSize job.size → line_job (line_bytes (job_line job)) ≡ Ok job
 job_back job h = ap job_in (pieces_of-line_bytes (job_line job) (job_line-plain job h)) ∙ job_written job h

@@ -82,7 +82,11 @@ job_in pieces =
     name_in rounding_name roundings pieces 3 >>= λ o.
     name_in overflow_mode_name overflow_modes pieces 4 >>= λ m.
     size_in (drop 5 pieces) >>= λ s.
-    Ok (record { property = p; realisation = r; rounding = o; overflow = m; size = s })
+    Ok (record {
+      property = p;
+      design = record { realisation = r; rounding = o; overflow = m };
+      size = s;
+    })
 
 -- the job of a line
 abbrev pub line_job : List ℕ → Result Job TextFault

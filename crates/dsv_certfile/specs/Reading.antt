@@ -10,7 +10,7 @@ use Rattle.dsv_certfile.specs.declared.certificate.Certificate.{Certificate}
 use Rattle.dsv_certfile.specs.declared.certificate.Certificate.TheVariants as certificate
 use Rattle.dsv_certfile.specs.declared.fault.CertRefusal.{CertRefusal}
 use Rattle.dsv_certfile.specs.declared.job.Job.{Job}
-use Rattle.dsv_certfile.specs.declared.reading.Heading.{Heading}
+use Rattle.dsv_certfile.specs.declared.reader.Heading.{Heading}
 use Rattle.dsv_certfile.specs.declared.keyword.Keyword.TheVariants as keyword
 use Rattle.dsv_certfile.specs.declared.kind.KindHead.{KindHead}
 use Rattle.dsv_certfile.specs.declared.kind.KindHead.TheVariants as head

@@ -61,8 +61,8 @@ size_pieces size.Unbounded = unbounded_text ∷ []
 
 abbrev pub job_line : Job → Line
 job_line job = keyword_text keyword.Job ∷ property_name job.property
-    ∷ realisation_name job.realisation ∷ rounding_name job.rounding
-    ∷ overflow_mode_name job.overflow ∷ size_pieces job.size
+    ∷ realisation_name job.design.realisation ∷ rounding_name job.design.rounding
+    ∷ overflow_mode_name job.design.overflow ∷ size_pieces job.size
 
 -- a kind and numbers
 abbrev pub kind_line : Kind → List ℕ → Line

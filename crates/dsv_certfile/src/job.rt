@@ -7,7 +7,7 @@ use crate::fault::TextFault;
 use crate::keyword::{Keyword, is_unbounded, is_version};
 use crate::numbers::samples_of;
 use crate::pieces::Pieces;
-use dsv_names::{OverflowMode, Property, Realisation, Rounding};
+use dsv_names::{Design, OverflowMode, Property, Realisation, Rounding};
 
 /// How many samples a job is about.
 #[derive(Clone, Copy, Debug, PartialEq, Eq)]
@@ -20,13 +20,11 @@ pub enum Size {
     Unbounded,
 }
 
-/// What a certificate is about: a property of a controller's words in a realisation.
+/// What a certificate is about: a property of a controller that is realised by a design.
 #[derive(Clone, Copy, Debug, PartialEq, Eq)]
 pub struct Job {
     pub property: Property,
-    pub realisation: Realisation,
-    pub rounding: Rounding,
-    pub overflow: OverflowMode,
+    pub design: Design,
     pub size: Size,
 }
 
@@ -77,11 +75,14 @@ pub(crate) fn read_job(line: &[u8]) -> Result<Job, TextFault>
     let rounding: Rounding = pieces.next_named()?;
     let overflow: OverflowMode = pieces.next_named()?;
     let size = read_size(pieces)?;
-    Ok(Job {
-        property,
+    let design = Design {
         realisation,
         rounding,
         overflow,
+    };
+    Ok(Job {
+        property,
+        design,
         size,
     })
 }

@@ -106,7 +106,7 @@ const LOG: &str = "dsv-certificate 1\n\
 fn is_clause(lits: &[Lit]) -> bool {
     match lits {
         [first, second] => {
-            first.var() == 0 && first.positive() && second.var() == 1 && !second.positive()
+            first.var() == 0 && first.is_positive() && second.var() == 1 && !second.is_positive()
         }
         _ => false,
     }

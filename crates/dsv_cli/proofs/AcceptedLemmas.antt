@@ -5,8 +5,6 @@ use Rattle.dsv_base.specs.Seen.{FilesSeen}
 use Rattle.dsv_reader.specs.Controllers.{ControllerView}
 use Rattle.dsv_quantiser.specs.FixedPoint.{FixedPoint}
 use Rattle.dsv_quantiser.specs.declared.refusal.QuantRefusal.{QuantRefusal}
-use Rattle.dsv_names.specs.declared.property.RootProperty.TheVariants as property
-use Rattle.dsv_names.specs.declared.property.RunProperty.TheVariants as run
 use Rattle.dsv_certfile.specs.Lawful.{certificate_alone}
 use Rattle.dsv_certfile.specs.Reading.{certificate_in}
 use Rattle.dsv_certfile.specs.Texts.{job_of, certificate_text}
@@ -18,20 +16,20 @@ use Rattle.dsv_certfile.proofs.WrittenCertificates.{written_is_read}
 use Rattle.dsv_certcheck.specs.Checks.{Checked, words_check, BecomesFor, IsFoundOf, IsChecked}
 use Rattle.dsv_certcheck.specs.declared.check_refusal.CheckRefusal.{CheckRefusal}
 use Rattle.dsv_certcheck.specs.declared.check_refusal.CheckRefusal.TheVariants as refusal
-use Rattle.dsv_command.specs.Jobs.{Task, decides, checks_time, writes, searches, seeks_set, simulates, checks, Asked}
-use Rattle.dsv_report.specs.declared.answers.Answer.{Answer}
 use Rattle.dsv_report.specs.declared.answers.Answer.TheVariants as answer
-use Rattle.dsv_report.specs.declared.answers.CertificateFault.TheVariants as fault
+use Rattle.dsv_report.specs.declared.stop.CertificateFault.TheVariants as fault
+use Rattle.dsv_report.specs.declared.stop.Stop.TheVariants as stop
+use Rattle.dsv_report.specs.Stops.{Outcome}
 use Rattle.dsv_cli.specs.Accepted.{IsAcceptance, WrittenAreAccepted}
 use Rattle.dsv_token.specs.declared.refusal.FileRefusal.TheVariants as text
 use Rattle.dsv_cli.proofs.Told.{of_told}
-use Rattle.dsv_cli.specs.Headline.{longest_certificate, CameOf, IsAccepted, AsksOver, IsForWords, IsController, IsCheckOf, IsSpelled, Spells, IsRefusedAt, IsRow}
-use Rattle.dsv_cli.proofs.CertifiedWords.{design_in, Fits, certificate_fits}
+use Rattle.dsv_cli.specs.Headline.{longest_certificate, CameOf, IsAccepted, IsController, IsCheckOf, IsSpelled, Spells, IsRefusedAt, IsCheckRow}
+use Rattle.dsv_cli.proofs.CertifiedWords.{Fits, certificate_fits}
 use Rattle.dsv_cli.proofs.OneAnswerStages.{Stage, long, faulty, refused, in_words, IsStage, one_stage}
 
 -- ---- the words of the certificate's job
 accepted_of : (bytes : List ℕ) (controller : ControllerView) (job : Job) (o : Result FixedPoint QuantRefusal) → IsController bytes controller → BecomesFor controller job o
-    → IsAccepted (design_in job) bytes o
+    → IsAccepted job.design bytes o
 accepted_of bytes controller job o a b = record { short = a.short; controller = controller; text = a.text; becomes = b }
 
 same_words : (a b : ControllerView) (v w : FixedPoint) → in_words a v ≡ in_words b w → v ≡ w
@@ -42,15 +40,15 @@ IsInWords (in_words a words) = Unit {0}
 IsInWords other = ⊥
 
 -- the file comes to words in the realisation and modes of the certificate's job, whatever else is said of it
-comes_to_words : (bytes : List ℕ) (c : Certificate) (s : Stage) → Fits bytes c → IsStage (design_in (job_of c)) bytes s → IsInWords s
+comes_to_words : (bytes : List ℕ) (c : Certificate) (s : Stage) → Fits bytes c → IsStage (job_of c).design bytes s → IsInWords s
 comes_to_words bytes c s f h =
-    subst IsInWords (one_stage (design_in (job_of c)) bytes (in_words f.accepted.controller f.words) s (f.accepted, refl) h) tt
+    subst IsInWords (one_stage (job_of c).design bytes (in_words f.accepted.controller f.words) s (f.accepted, refl) h) tt
 
 -- ---- what the check finds
 finds_nothing : (bytes : List ℕ) (c : Certificate) (controller : ControllerView) (found : Checked) → Fits bytes c → IsController bytes controller → IsFoundOf controller c found → Ok tt ≡ found
 finds_nothing bytes c controller found f a k =
     let b = accepted_of bytes controller (job_of c) (Ok k.words) a k.becomes in
-    let stage = one_stage (design_in (job_of c)) bytes (in_words f.accepted.controller f.words) (in_words b.controller k.words) (f.accepted, refl) (b, refl) in
+    let stage = one_stage (job_of c).design bytes (in_words f.accepted.controller f.words) (in_words b.controller k.words) (f.accepted, refl) (b, refl) in
     sym f.passes ∙ ap (λ q. words_check q c) (same_words f.accepted.controller b.controller f.words k.words stage) ∙ k.checked
 
 never_refused : (bytes : List ℕ) (c : Certificate) (controller : ControllerView) (why : CheckRefusal) → Fits bytes c → IsController bytes controller → IsFoundOf controller c (Err why) → ⊥
@@ -65,19 +63,8 @@ never_refused_at bytes c controller line why f a (inr k) =
     ]
 
 -- ---- the certificate that is checked
--- The check reads these bytes of a certificate's file.
-record Reads (old : FilesSeen) (check : Asked) (written : List ℕ) : Type 0 where
-  name : List ℕ
-  task : check.task ≡ checks name
-  held : old.held name ≡ Some written
-
-one_name : (task : Task) (name other : List ℕ) → task ≡ checks name → task ≡ checks other → other ≡ name
-one_name task name other h k = cc
-
-of_bytes : (P : ControllerView → List ℕ → Type 0) (old : FilesSeen) (check : Asked) (bytes written : List ℕ) → Reads old check written → (k : IsCheckOf old check bytes P) → P k.controller written
-of_bytes P old check bytes written r k =
-    let held = ap old.held (one_name check.task r.name k.name r.task k.task) ∙ r.held in
-    of_told (P k.controller) written (subst (λ told. CameOf told (P k.controller)) held k.certificate)
+of_bytes : (P : ControllerView → List ℕ → Type 0) (old : FilesSeen) (name bytes written : List ℕ) → old.held name ≡ Some written → (k : IsCheckOf old name bytes P) → P k.controller written
+of_bytes P old name bytes written held k = of_told (P k.controller) written (subst (λ told. CameOf told (P k.controller)) held k.certificate)
 
 one_spelled : (read : Result Certificate CertRefusal) (c d : Certificate) → read ≡ Ok c → read ≡ Ok d → d ≡ c
 one_spelled read c d h k = cc
@@ -86,9 +73,9 @@ of_spelled : (P : Certificate → Type 0) (written : List ℕ) (c : Certificate)
 of_spelled P written c s t = subst P (one_spelled (certificate_in written) c t.0 s.spelled t.1.spelled) t.2
 
 -- what a check says of the certificate that the bytes spell
-of_certificate : (P : ControllerView → Certificate → Type 0) (old : FilesSeen) (check : Asked) (bytes written : List ℕ) (c : Certificate) → Reads old check written → IsSpelled written c
-    → (k : IsCheckOf old check bytes (λ controller. Spells (P controller))) → P k.controller c
-of_certificate P old check bytes written c r s k = of_spelled (P k.controller) written c s (of_bytes (λ controller. Spells (P controller)) old check bytes written r k)
+of_certificate : (P : ControllerView → Certificate → Type 0) (old : FilesSeen) (name bytes written : List ℕ) (c : Certificate) → old.held name ≡ Some written → IsSpelled written c
+    → (k : IsCheckOf old name bytes (λ controller. Spells (P controller))) → P k.controller c
+of_certificate P old name bytes written c held s k = of_spelled (P k.controller) written c s (of_bytes (λ controller. Spells (P controller)) old name bytes written held k)
 
 read_or_refused : (read : Result Certificate CertRefusal) (c : Certificate) (why : CertRefusal) → read ≡ Ok c → read ≡ Err why → ⊥
 read_or_refused read c why h k = cc
@@ -97,66 +84,36 @@ too_long : (limit n : ℕ) → n ≤ limit → limit < n → ⊥
 too_long limit n h k = omega arith
 
 -- ---- each answer to the check
--- the task is no check
-no_check : (task other : Task) (name : List ℕ) → task ≡ checks name → task ≡ other → IsForWords other → ⊥
-no_check task other name h k f = subst IsForWords (sym k ∙ h) f
-
-asks_nothing : (check : Asked) (bytes : List ℕ) (samples : ℕ) (words : FixedPoint) (name : List ℕ) → check.task ≡ checks name → AsksOver check bytes samples words → ⊥
-asks_nothing check bytes samples words name e (inl t) = no_check check.task (searches t.0 samples t.1) name e t.2.task tt
-asks_nothing check bytes samples words name e (inr (inl t)) = no_check check.task (writes t.0 samples) name e t.1.task tt
-asks_nothing check bytes samples words name e (inr (inr t)) = no_check check.task (seeks_set t.0) name e t.1.task tt
-
-check_accepts : (bytes written : List ℕ) (c : Certificate) → Fits bytes c → IsSpelled written c → (old new : FilesSeen) (check : Asked) (answered : Answer) → Reads old check written
-    → IsRow (Some bytes) old new check answered → IsAcceptance (job_of c) answered
-check_accepts bytes written c f s old new check (answer.Checked certified) r row =
-    (of_certificate (λ controller x. (certified ≡ job_of x) × IsChecked controller x (Ok tt)) old check bytes written c r s (of_told _ bytes row.comes_from).1).0
-check_accepts bytes written c f s old new check (answer.ReadFault which) r row = tt
-check_accepts bytes written c f s old new check answer.NoMemory r row = tt
-check_accepts bytes written c f s old new check (answer.CertificateRefused line (fault.Text why)) r row =
-    absurd (read_or_refused (certificate_in written) c _ s.spelled (of_bytes _ old check bytes written r (of_told _ bytes row.comes_from)).1)
-check_accepts bytes written c f s old new check (answer.CertificateRefused line (fault.Check why)) r row =
+check_accepts : (bytes written : List ℕ) (c : Certificate) → Fits bytes c → IsSpelled written c → (old new : FilesSeen) (controller name : List ℕ) (answered : Outcome) → old.held name ≡ Some written
+    → IsCheckRow (Some bytes) old new controller name answered → IsAcceptance (job_of c) answered
+check_accepts bytes written c f s old new controller name (Ok (answer.Checked certified)) r row =
+    (of_certificate (λ controller x. (certified ≡ job_of x) × IsChecked controller x (Ok tt)) old name bytes written c r s (of_told _ bytes row.comes_from).1).0
+check_accepts bytes written c f s old new controller name (Err (stop.ReadFault which)) r row = tt
+check_accepts bytes written c f s old new controller name (Err stop.NoMemory) r row = tt
+check_accepts bytes written c f s old new controller name (Err (stop.CertificateRefused line (fault.Text why))) r row =
+    absurd (read_or_refused (certificate_in written) c _ s.spelled (of_bytes _ old name bytes written r (of_told _ bytes row.comes_from)).1)
+check_accepts bytes written c f s old new controller name (Err (stop.CertificateRefused line (fault.Check why))) r row =
     let k = of_told _ bytes row.comes_from in
-    absurd (never_refused_at bytes c k.controller line why f k.accepted (of_certificate (λ controller. IsRefusedAt line why controller) old check bytes written c r s k))
-check_accepts bytes written c f s old new check (answer.CertificateRefused line fault.TooLong) r row =
-    absurd (too_long longest_certificate (length written) s.short (of_bytes _ old check bytes written r (of_told _ bytes row.comes_from)).1)
-check_accepts bytes written c f s old new check (answer.QuantRefused why) r row =
-    elim (of_told _ bytes row.comes_from) [
-      | inl t ↦ absurd (no_check check.task check.task r.name r.task refl t.0)
-      | inr k ↦ absurd (comes_to_words bytes c (refused why) f
-          (accepted_of bytes k.controller (job_of c) (Err why) k.accepted (of_certificate (λ controller x. IsChecked controller x (Err (refusal.Quant why))) old check bytes written c r s k)))
-    ]
-check_accepts bytes written c f s old new check (answer.JobSize size) r row =
-    elim (of_told _ bytes row.comes_from) [
-      | inl t ↦ absurd (asks_nothing check bytes t.0 t.1 r.name r.task t.2)
-      | inr k ↦ absurd (never_refused bytes c k.controller (refusal.JobSize size) f k.accepted
-          (of_certificate (λ controller x. IsChecked controller x (Err (refusal.JobSize size))) old check bytes written c r s k))
-    ]
-check_accepts bytes written c f s old new check (answer.FileRefused text.NoMemory) r row = absurd row
-check_accepts bytes written c f s old new check (answer.FileRefused why) r row = absurd (comes_to_words bytes c (faulty why) f (of_told _ bytes row.comes_from))
-check_accepts bytes written c f s old new check answer.FileTooLong r row = absurd (comes_to_words bytes c long f (of_told _ bytes row.comes_from))
-check_accepts bytes written c f s old new check (answer.Falls poly offer fall) r row = absurd (no_check check.task (decides row.belongs_to.0) r.name r.task row.belongs_to.1 tt)
-check_accepts bytes written c f s old new check (answer.KeptAway poly offer fall value) r row = absurd (no_check check.task (decides row.belongs_to.0) r.name r.task row.belongs_to.1 tt)
-check_accepts bytes written c f s old new check answer.NoZeros r row = absurd (no_check check.task (decides property.MinimumPhase) r.name r.task row.belongs_to tt)
-check_accepts bytes written c f s old new check (answer.NoForm poly kept verdict) r row = absurd (no_check check.task (decides row.belongs_to.0) r.name r.task row.belongs_to.1 tt)
-check_accepts bytes written c f s old new check (answer.Wide index) r row = absurd (no_check check.task (decides row.belongs_to.0) r.name r.task row.belongs_to.1 tt)
-check_accepts bytes written c f s old new check (answer.OnTime report) r row = absurd (no_check check.task checks_time r.name r.task row.belongs_to tt)
-check_accepts bytes written c f s old new check (answer.Late report) r row = absurd (no_check check.task checks_time r.name r.task row.belongs_to tt)
-check_accepts bytes written c f s old new check (answer.Never log) r row = let b = row.belongs_to in absurd (no_check check.task (searches b.0 b.1.0 b.1.1) r.name r.task b.1.2 tt)
-check_accepts bytes written c f s old new check (answer.Spent log) r row = let b = row.belongs_to in absurd (no_check check.task (searches b.0 b.1.0 b.1.1) r.name r.task b.1.2 tt)
-check_accepts bytes written c f s old new check (answer.Overflow trace) r row = let b = row.belongs_to in absurd (no_check check.task (searches run.Overflow b.0 b.1) r.name r.task b.2 tt)
-check_accepts bytes written c f s old new check (answer.Cycles cycle) r row = let b = row.belongs_to in absurd (no_check check.task (searches run.LimitCycle b.0 b.1) r.name r.task b.2 tt)
-check_accepts bytes written c f s old new check (answer.Always candidate logs) r row = absurd (no_check check.task (seeks_set row.belongs_to.0) r.name r.task row.belongs_to.1 tt)
-check_accepts bytes written c f s old new check (answer.NoInvariant kept) r row = absurd (no_check check.task (seeks_set row.belongs_to.0) r.name r.task row.belongs_to.1 tt)
-check_accepts bytes written c f s old new check (answer.FormulaText formula) r row = let b = row.belongs_to in absurd (no_check check.task (writes b.0 b.1) r.name r.task b.2 tt)
-check_accepts bytes written c f s old new check (answer.Simulated found) r row = absurd (no_check check.task (simulates row.belongs_to.0) r.name r.task row.belongs_to.1 tt)
-check_accepts bytes written c f s old new check (answer.InputRange index value) r row = absurd (no_check check.task (simulates row.belongs_to.0) r.name r.task row.belongs_to.1 tt)
-check_accepts bytes written c f s old new check (answer.Generated found) r row = absurd row
-check_accepts bytes written c f s old new check answer.Usage r row = absurd row
+    absurd (never_refused_at bytes c k.controller line why f k.accepted (of_certificate (λ controller. IsRefusedAt line why controller) old name bytes written c r s k))
+check_accepts bytes written c f s old new controller name (Err (stop.CertificateRefused line fault.TooLong)) r row =
+    absurd (too_long longest_certificate (length written) s.short (of_bytes _ old name bytes written r (of_told _ bytes row.comes_from)).1)
+check_accepts bytes written c f s old new controller name (Err (stop.QuantRefused why)) r row =
+    let k = of_told _ bytes row.comes_from in
+    absurd (comes_to_words bytes c (refused why) f
+    (accepted_of bytes k.controller (job_of c) (Err why) k.accepted (of_certificate (λ controller x. IsChecked controller x (Err (refusal.Quant why))) old name bytes written c r s k)))
+check_accepts bytes written c f s old new controller name (Err (stop.JobSize size)) r row =
+    let k = of_told _ bytes row.comes_from in
+    absurd (never_refused bytes c k.controller (refusal.JobSize size) f k.accepted
+    (of_certificate (λ controller x. IsChecked controller x (Err (refusal.JobSize size))) old name bytes written c r s k))
+check_accepts bytes written c f s old new controller name (Err (stop.FileRefused text.NoMemory)) r row = absurd row
+check_accepts bytes written c f s old new controller name (Err (stop.FileRefused why)) r row = absurd (comes_to_words bytes c (faulty why) f (of_told _ bytes row.comes_from))
+check_accepts bytes written c f s old new controller name (Err stop.FileTooLong) r row = absurd (comes_to_words bytes c long f (of_told _ bytes row.comes_from))
+check_accepts bytes written c f s old new controller name answered r row = absurd row
 
 pub written_are_accepted : WrittenAreAccepted
-written_are_accepted bytes old new job found c row e known short then_old then_new check name answered t held then_row =
+written_are_accepted bytes old new job found c row e known short then_old then_new controller name answered held then_row =
     let a = certificate_fits bytes old new job found c row e known in
     let alone = certificate_alone c in
     let spelled : certificate_in (certificate_text c) ≡ Ok alone = ap certificate_in (sym a.text) ∙ written_is_read alone a.lawful in
     subst (λ certified. IsAcceptance certified answered) a.job
-    (check_accepts bytes (certificate_text c) alone a.fits (record { short = short; spelled = spelled }) then_old then_new check answered (record { name = name; task = t; held = held }) then_row)
+    (check_accepts bytes (certificate_text c) alone a.fits (record { short = short; spelled = spelled }) then_old then_new controller name answered held then_row)

@@ -25,13 +25,12 @@ use Rattle.dsv_certfile.specs.Texts.{job_of, certificate_text}
 use Rattle.dsv_certfile.specs.Typed.{IsTyped}
 use Rattle.dsv_certfile.specs.declared.certificate.Certificate.{Certificate}
 use Rattle.dsv_certfile.specs.declared.certificate.Certificate.TheVariants as certificate
-use Rattle.dsv_certfile.specs.declared.job.Job.{Job}
 use Rattle.dsv_certfile.specs.declared.job.Size.TheVariants as size
 use Rattle.dsv_certfile.proofs.LawfulWritten.{hints_are_lawful, invariant_is_lawful, falls_are_lawful, falls_text}
 use Rattle.dsv_certcheck.specs.Checks.{words_check}
 use Rattle.dsv_certcheck.proofs.Passing.{hints_pass, invariant_passes, falls_pass}
 use Rattle.dsv_command.specs.Jobs.{Task, decides, searches, seeks_set, Asked}
-use Rattle.dsv_command.specs.declared.job.Design.{Design}
+use Rattle.dsv_names.specs.declared.design.Design.{Design}
 use Rattle.dsv_report.specs.Output.{job_with, certificate_for, certificate_of}
 use Rattle.dsv_report.specs.declared.answers.Answer.{Answer}
 use Rattle.dsv_report.specs.declared.answers.Answer.TheVariants as answer
@@ -40,14 +39,10 @@ use Rattle.dsv_bounded.specs.RunAnswers.{NeverHappens}
 use Rattle.dsv_cli.specs.Sets.{KeepsTo}
 use Rattle.dsv_cli.proofs.Told.{of_told}
 
--- the design of a certificate's job
-abbrev pub design_in : Job → Design
-design_in job = record { realisation = job.realisation; rounding = job.rounding; overflow = job.overflow }
-
 -- The bytes are the text of a controller, which in the realisation and modes of the certificate's job becomes words for which the certificate passes its check.
 pub record Fits (bytes : List ℕ) (c : Certificate) : Type 0 where
   pub words : FixedPoint
-  pub accepted : IsAccepted (design_in (job_of c)) bytes (Ok words)
+  pub accepted : IsAccepted (job_of c).design bytes (Ok words)
   pub passes : words_check words c ≡ Ok tt
 
 -- With its places alone the certificate passes its check and is read back from its text.
@@ -137,7 +132,7 @@ has_certificate design (seeks_set conflicts) found c e = no_certificate c e
 has_certificate design (decides p) found c e = no_certificate c e
 has_certificate design task found c e = no_certificate c e
 
-pub certificate_fits : (bytes : List ℕ) (old new : FilesSeen) (job : Asked) (found : Answer) (c : Certificate) → IsRow (Some bytes) old new job found → certificate_of job found ≡ Some c → IsTyped c
+pub certificate_fits : (bytes : List ℕ) (old new : FilesSeen) (job : Asked) (found : Answer) (c : Certificate) → IsRow (Some bytes) old new job (Ok found) → certificate_of job found ≡ Some c → IsTyped c
     → IsAcceptable bytes c
 certificate_fits bytes old new job (answer.Never log) c row e known =
     let t = of_told _ bytes row.comes_from in

@@ -1,102 +1,79 @@
 -- The check of a certificate leads to the rows of the table.
-use Rattle.std.proofs.Common.{◌≡◌, ◌⊎◌, inr, ℕ, ◌≤◌, List, length}
-use Rattle.std.specs.Prelude.{Option, IfSome, Ok, Err}
+use Rattle.std.proofs.Common.{◌≡◌, ℕ, ◌+◌, ◌<◌, ◌≤◌, List, length, subst, arith}
+use Rattle.std.specs.Prelude.{Ok, Err}
 use Rattle.dsv_base.specs.Seen.{FilesSeen}
+use Rattle.dsv_base.proofs.TakingLemmas.{Rose-earlier}
 use Rattle.dsv_reader.specs.Controllers.{ControllerView}
 use Rattle.dsv_certfile.specs.Reading.{certificate_in}
-use Rattle.dsv_certfile.specs.Texts.{job_of}
 use Rattle.dsv_certfile.specs.declared.certificate.Certificate.{Certificate}
-use Rattle.dsv_certfile.specs.declared.job.Job.{Job}
-use Rattle.dsv_certcheck.specs.Checks.{IsChecked}
-use Rattle.dsv_certcheck.specs.Shown.{IsShownOf}
-use Rattle.dsv_certcheck.specs.declared.check_refusal.CheckRefusal.TheVariants as refusal
-use Rattle.dsv_command.specs.Jobs.{checks, Asked}
-use Rattle.dsv_report.specs.declared.answers.Answer.{Answer}
+use Rattle.dsv_certfile.specs.declared.fault.CertRefusal.TheVariants as unread
 use Rattle.dsv_report.specs.declared.answers.Answer.TheVariants as answer
-use Rattle.dsv_report.specs.declared.answers.CertificateFault.TheVariants as fault
-use Rattle.dsv_report.specs.declared.answers.WhichFile.TheVariants as file
-use Rattle.dsv_cli.specs.Checking.{IsOfCheck}
+use Rattle.dsv_report.specs.declared.stop.CertificateFault.TheVariants as fault
+use Rattle.dsv_report.specs.declared.stop.Stop.{Stop}
+use Rattle.dsv_report.specs.declared.stop.Stop.TheVariants as stop
+use Rattle.dsv_report.specs.declared.stop.WhichFile.TheVariants as file
+use Rattle.dsv_report.specs.Stops.{Outcome}
 use Rattle.dsv_token.specs.declared.refusal.FileRefusal.TheVariants as text
-use Rattle.dsv_cli.proofs.Told.{some_came}
-use Rattle.dsv_cli.specs.Headline.{longest_certificate, CameOf, IsController, IsCheckOf, Spells, HasShown, Passes, IsRefusedAt, IsFaulty, IsRow}
+use Rattle.dsv_cli.specs.Checking.{IsOfCertificate, IsUnreadCertificate}
+use Rattle.dsv_cli.specs.Headline.{longest_certificate, CameOf, IsController, IsCheckOf, IsSpelled, Spells, IsUnread, IsCheckRow}
+use Rattle.dsv_cli.proofs.Told.{along, some_came}
 
--- ---- of the controller's bytes
--- a check of a certificate of which this holds
-check_of : (P : ControllerView → List ℕ → Type 0) (old : FilesSeen) (job : Asked) (name : List ℕ) (controller : ControllerView) (told : Option (List ℕ)) → job.task ≡ checks name
-    → CameOf told (λ bytes. IsController bytes controller) → CameOf (old.held name) (P controller) → CameOf told (λ bytes. IsCheckOf old job bytes P)
-check_of P old job name controller told e h k = (h.0, h.1, record { name = name; task = e; controller = controller; accepted = h.2; certificate = k })
+-- a file that is no controller's
+pub row_of_no_controller : (old new : FilesSeen) (controller name : List ℕ) (why : Stop) → IsUnread (old.held controller) old new controller why
+    → IsCheckRow (old.held controller) old new controller name (Err why)
+row_of_no_controller old new controller name (stop.FileRefused text.NoMemory) h = absurd h
+row_of_no_controller old new controller name (stop.FileRefused r) h = h
+row_of_no_controller old new controller name stop.FileTooLong h = h
+row_of_no_controller old new controller name (stop.ReadFault file.Controller) h = h
+row_of_no_controller old new controller name stop.NoMemory h = h
+row_of_no_controller old new controller name why h = absurd h
 
--- the same beside what is shown of the controller
-shown_of : (certified : Job) (old : FilesSeen) (job : Asked) (name : List ℕ) (controller : ControllerView) (told : Option (List ℕ)) → job.task ≡ checks name → IsShownOf controller certified
-    → CameOf told (λ bytes. IsController bytes controller) → CameOf (old.held name) (Passes certified controller) → CameOf told (λ bytes. HasShown bytes certified × IsCheckOf old job bytes (Passes certified))
-shown_of certified old job name controller told e s h k =
-    (h.0, h.1, (record { controller = controller; accepted = h.2; shown = s }, record { name = name; task = e; controller = controller; accepted = h.2; certificate = k }))
+-- what is known of the controller and of the certificate's file
+check_of : (P : ControllerView → List ℕ → Type 0) (old : FilesSeen) (controller name : List ℕ) (c : ControllerView) → CameOf (old.held controller) (λ bytes. IsController bytes c)
+    → CameOf (old.held name) (P c) → CameOf (old.held controller) (λ bytes. IsCheckOf old name bytes P)
+check_of P old controller name c h k = along (old.held controller) (λ bytes a. record { controller = c; accepted = a; certificate = k }) h
 
--- the alternative of a check
-by_check : (P Q : List ℕ → Type 0) (told : Option (List ℕ)) → CameOf told Q → CameOf told (λ bytes. P bytes ⊎ Q bytes)
-by_check P Q told h = (h.0, h.1, inr h.2)
-
--- ---- from a certificate that was read
--- bytes that spell a certificate of which this holds
-spelled_by : (P : Certificate → Type 0) (written : List ℕ) (told : Option (List ℕ)) (c : Certificate) → IfSome told (λ b. written ≡ b) → length written ≤ longest_certificate
-    → certificate_in written ≡ Ok c → P c → CameOf told (Spells P)
-spelled_by P written told c e short spelled h = (written, e, (c, record { short = short; spelled = spelled }, h))
-
--- ---- the rows
-pub row_of_check : (old new : FilesSeen) (job : Asked) (name : List ℕ) → job.task ≡ checks name → (found : Answer) → IsOfCheck old new job.file name found → IsRow (old.held job.file) old new job found
-row_of_check old new job name e (answer.ReadFault file.Controller) h = record { belongs_to = tt; comes_from = some_came (old.held job.file); shows = h }
-row_of_check old new job name e answer.FileTooLong h = record { belongs_to = tt; comes_from = h.0; shows = h.1 }
-row_of_check old new job name e (answer.FileRefused text.NoMemory) h = absurd h
-row_of_check old new job name e (answer.FileRefused r) h = record { belongs_to = tt; comes_from = h; shows = tt }
-row_of_check old new job name e answer.NoMemory h = tt
-row_of_check old new job name e (answer.ReadFault file.Certificate) h = record {
-  belongs_to = (name, e);
-  comes_from = check_of (λ controller written. Unit {0}) old job name h.0 (old.held job.file) e h.1 (some_came (old.held name));
-  shows = (h.2.0, (name, e, h.2.1));
+-- a file that is no certificate's, after the controller's was read
+pub row_of_no_certificate : (old then new : FilesSeen) (controller name : List ℕ) (c : ControllerView) (why : Stop) → CameOf (old.held controller) (λ bytes. IsController bytes c)
+    → then.held ≡ old.held → old.faults ≤ then.faults → old.came ≤ then.came → IsUnreadCertificate then new name why → IsCheckRow (old.held controller) old new controller name (Err why)
+row_of_no_certificate old then new controller name c (stop.ReadFault file.Certificate) h e m l k = record {
+  belongs_to = tt;
+  comes_from = check_of (λ c written. Unit {0}) old controller name c h (some_came (old.held name));
+  shows = (Rose-earlier old.faults then.faults new.faults m k.0, k.1);
 }
-row_of_check old new job name e (answer.Checked certified) h =
-    let r = h.2 in
-    let a = r.answer in record {
-      belongs_to = (name, e);
-      comes_from = shown_of certified old job name h.0 (old.held job.file) e a.2.1 h.1
-          (spelled_by (λ c. (certified ≡ job_of c) × IsChecked h.0 c (Ok tt)) r.written (old.held name) a.0 r.same r.short a.1 (a.2.0, a.2.2));
-      shows = tt;
-    }
-row_of_check old new job name e (answer.CertificateRefused line (fault.Text why)) h =
-    let r = h.2 in record {
-      belongs_to = (name, e);
-      comes_from = check_of (IsFaulty line (fault.Text why)) old job name h.0 (old.held job.file) e h.1
-          (r.written, r.same, (r.short, r.answer));
-      shows = tt;
-    }
-row_of_check old new job name e (answer.CertificateRefused line (fault.Check why)) h =
-    let r = h.2 in
-    let a = r.answer in record {
-      belongs_to = (name, e);
-      comes_from = check_of (IsFaulty line (fault.Check why)) old job name h.0 (old.held job.file) e h.1
-          (spelled_by (IsRefusedAt line why h.0) r.written (old.held name) a.0 r.same r.short a.1 a.2);
-      shows = tt;
-    }
-row_of_check old new job name e (answer.CertificateRefused line fault.TooLong) h = record {
-  belongs_to = (name, e);
-  comes_from = check_of (IsFaulty line fault.TooLong) old job name h.0 (old.held job.file) e h.1
-      (h.2.1.0, h.2.1.1, (h.2.0, h.2.1.2));
-  shows = h.2.2;
+row_of_no_certificate old then new controller name c (stop.CertificateRefused line fault.TooLong) h e m l k = record {
+  belongs_to = tt;
+  comes_from = check_of _ old controller name c h (along (old.held name) (λ written long. (k.0, long)) (subst (λ held. CameOf (held name) (λ bytes. longest_certificate < length bytes)) e k.1));
+  shows = Rose-earlier (old.came + longest_certificate) (then.came + longest_certificate) new.came (omega arith) k.2;
 }
-row_of_check old new job name e (answer.QuantRefused r) h =
-    let f = h.2 in
-    let a = f.answer in record {
-      belongs_to = tt;
-      comes_from = by_check _ _ (old.held job.file) (check_of (λ controller. Spells (λ c. IsChecked controller c (Err (refusal.Quant r)))) old job name h.0 (old.held job.file) e h.1
-          (spelled_by (λ c. IsChecked h.0 c (Err (refusal.Quant r))) f.written (old.held name) a.0 f.same f.short a.1 a.2));
-      shows = tt;
-    }
-row_of_check old new job name e (answer.JobSize size) h =
-    let f = h.2 in
-    let a = f.answer in record {
-      belongs_to = inr (inr (inr (name, e)));
-      comes_from = by_check _ _ (old.held job.file) (check_of (λ controller. Spells (λ c. IsChecked controller c (Err (refusal.JobSize size)))) old job name h.0 (old.held job.file) e h.1
-          (spelled_by (λ c. IsChecked h.0 c (Err (refusal.JobSize size))) f.written (old.held name) a.0 f.same f.short a.1 a.2));
-      shows = tt;
-    }
-row_of_check old new job name e found h = absurd h.2.answer.2
+row_of_no_certificate old then new controller name c (stop.CertificateRefused line (fault.Text why)) h e m l k = record {
+  belongs_to = tt;
+  comes_from = check_of _ old controller name c h (subst (λ held. CameOf (held name) (λ written. (length written ≤ longest_certificate) × (certificate_in written ≡ Err (unread.Text line why)))) e k);
+  shows = tt;
+}
+row_of_no_certificate old then new controller name c stop.NoMemory h e m l k = tt
+row_of_no_certificate old then new controller name c why h e m l k = absurd k
+
+-- what the check of a certificate that was read comes to
+spelled_of : (P : Certificate → Type 0) (old then : FilesSeen) (name : List ℕ) (certificate : Certificate) → then.held ≡ old.held → CameOf (then.held name) (λ written. IsSpelled written certificate)
+    → P certificate → CameOf (old.held name) (Spells P)
+spelled_of P old then name certificate e s p =
+    along (old.held name) (λ written is. (certificate, is, p)) (subst (λ held. CameOf (held name) (λ written. IsSpelled written certificate)) e s)
+
+pub row_of_certificate : (old then new : FilesSeen) (controller name : List ℕ) (c : ControllerView) (certificate : Certificate) (found : Outcome)
+    → CameOf (old.held controller) (λ bytes. IsController bytes c) → then.held ≡ old.held → CameOf (then.held name) (λ written. IsSpelled written certificate)
+    → IsOfCertificate c certificate found → IsCheckRow (old.held controller) old new controller name found
+row_of_certificate old then new controller name c certificate (Ok (answer.Checked certified)) h e s k = record {
+  belongs_to = tt;
+  comes_from = along (old.held controller)
+      (λ bytes a. (record { controller = c; accepted = a; shown = k.1 }, record { controller = c; accepted = a; certificate = spelled_of _ old then name certificate e s (k.0, k.2) })) h;
+  shows = tt;
+}
+row_of_certificate old then new controller name c certificate (Err (stop.CertificateRefused line (fault.Check why))) h e s k =
+    record { belongs_to = tt; comes_from = check_of _ old controller name c h (spelled_of _ old then name certificate e s k); shows = tt }
+row_of_certificate old then new controller name c certificate (Err (stop.QuantRefused r)) h e s k =
+    record { belongs_to = tt; comes_from = check_of _ old controller name c h (spelled_of _ old then name certificate e s k); shows = tt }
+row_of_certificate old then new controller name c certificate (Err (stop.JobSize size)) h e s k =
+    record { belongs_to = tt; comes_from = check_of _ old controller name c h (spelled_of _ old then name certificate e s k); shows = tt }
+row_of_certificate old then new controller name c certificate (Err stop.NoMemory) h e s k = tt
+row_of_certificate old then new controller name c certificate found h e s k = absurd k

@@ -6,13 +6,13 @@ pub mod BuiltIn
 pub mod Causes
 pub mod CertifiedWords
 pub mod CheckRows
-pub mod CheckStages
 pub mod Completeness
+pub mod FileBytes
+pub mod Inputs
+pub mod OfferedSets
 pub mod OneAnswerLemmas
 pub mod OneAnswerStages
 pub mod OneAnswerTasks
-pub mod Proposers
-pub mod RunLines
-pub mod Sets
 pub mod Suffixes
 pub mod Told
+pub mod Unasked

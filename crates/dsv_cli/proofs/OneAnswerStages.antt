@@ -8,14 +8,14 @@ use Rattle.dsv_reader.proofs.TextLaws.{answers_apart, one_design}
 use Rattle.dsv_quantiser.specs.FixedPoint.{FixedPoint}
 use Rattle.dsv_quantiser.specs.declared.refusal.QuantRefusal.{QuantRefusal}
 use Rattle.dsv_quantiser.proofs.Modes.{become_one}
-use Rattle.dsv_command.specs.declared.job.Design.{Design}
+use Rattle.dsv_names.specs.declared.design.Design.{Design}
 use Rattle.dsv_cli.specs.Headline.{longest_file, IsAccepted}
 
 -- ---- stages
 one_outcome : (design : Design) (bytes : List ℕ) (o p : Result FixedPoint QuantRefusal) → IsAccepted design bytes o → IsAccepted design bytes p → o ≡ p
 one_outcome design bytes o p h k =
     let c = one_design bytes h.controller k.controller h.text k.text in
-    become_one h.controller k.controller design.realisation design.rounding design.overflow o p c h.becomes k.becomes
+    become_one h.controller k.controller design o p c h.becomes k.becomes
 
 -- how far a file comes: over the limit, no controller's, one that is refused in words, or a controller and its words
 pub data Stage : Type 0 where

@@ -21,9 +21,10 @@ use Rattle.dsv_delta.specs.declared.refusal.PolyWide.{PolyWide}
 use Rattle.dsv_tested.specs.Tested.{side_of, tested_of}
 use Rattle.dsv_tested.specs.declared.side.Tested.{Tested}
 use Rattle.dsv_tested.specs.declared.side.Tested.TheVariants as tested
-use Rattle.dsv_command.specs.Jobs.{Task, decides, checks_time, writes, searches, seeks_set, simulates, checks}
-use Rattle.dsv_report.specs.declared.answers.Answer.{Answer}
+use Rattle.dsv_command.specs.Jobs.{Task, decides, checks_time, writes, searches, seeks_set, simulates}
 use Rattle.dsv_report.specs.declared.answers.Answer.TheVariants as answer
+use Rattle.dsv_report.specs.declared.stop.Stop.TheVariants as stop
+use Rattle.dsv_report.specs.Stops.{Outcome}
 use Rattle.dsv_cli.specs.Headline.{degree, ShowsFall, ShowsKeptAway}
 use Rattle.dsv_cli.specs.Proposers.{HasClosedForm}
 use Rattle.dsv_cli.specs.Simulating.{IsFirstOutside}
@@ -88,7 +89,7 @@ offer_kept_away o u e = cc
 kinds_apart : (o : Falls) (u : KeptAway) → offered.Falls o ≡ offered.KeptAway u → ⊥
 kinds_apart o u e = cc
 
-falls_once : (p q : List ℤ) (o u : Falls) (f g : Form) → HasClosedForm p → p ≡ q → ShowsFall p o f → ShowsFall q u g → SameAnswer (answer.Falls p o f) (answer.Falls q u g)
+falls_once : (p q : List ℤ) (o u : Falls) (f g : Form) → HasClosedForm p → p ≡ q → ShowsFall p o f → ShowsFall q u g → SameAnswer (Ok (answer.Falls p o f)) (Ok (answer.Falls q u g))
 falls_once p q o u f g c e h k =
     let offers = offer_falls o u (one_closed p q (offered.Falls o) (offered.Falls u) e c h.closed_form k.closed_form) in
     (e, offers, one_fall p q o.form u.form f g e (ap (λ (x : Falls). x.form) offers) h.fall_form k.fall_form)
@@ -97,7 +98,7 @@ abbrev value_of : List ℤ → KeptAway → ℤ
 value_of poly offer = form_at (degree poly) (matrix_of offer.form.rows) (vector_of offer.start)
 
 kept_away_once : (p q : List ℤ) (o u : KeptAway) (f g : Form) (v w : ℤ) → HasClosedForm p → p ≡ q → ShowsKeptAway p o f v → ShowsKeptAway q u g w
-    → SameAnswer (answer.KeptAway p o f v) (answer.KeptAway q u g w)
+    → SameAnswer (Ok (answer.KeptAway p o f v)) (Ok (answer.KeptAway q u g w))
 kept_away_once p q o u f g v w c e h k =
     let offers = offer_kept_away o u (one_closed p q (offered.KeptAway o) (offered.KeptAway u) e c h.closed_form k.closed_form) in (
       e,
@@ -110,11 +111,11 @@ falls_or_not : (p q : List ℤ) (o : Falls) (u : KeptAway) (f g : Form) (w : ℤ
 falls_or_not p q o u f g w c e h k = kinds_apart o u (one_closed p q (offered.Falls o) (offered.KeptAway u) e c h.closed_form k.closed_form)
 
 -- what a property's tested polynomial leads to
-abbrev Leads : Result Tested PolyWide → Answer → Type 0
-Leads outcome (answer.Falls p o f) = (outcome ≡ Ok (tested.Poly p)) × ShowsFall p o f
-Leads outcome (answer.KeptAway p o f v) = (outcome ≡ Ok (tested.Poly p)) × ShowsKeptAway p o f v
-Leads outcome answer.NoZeros = outcome ≡ Ok tested.NoZeros
-Leads outcome (answer.Wide index) = outcome ≡ Err (record { index = index })
+abbrev Leads : Result Tested PolyWide → Outcome → Type 0
+Leads outcome (Ok (answer.Falls p o f)) = (outcome ≡ Ok (tested.Poly p)) × ShowsFall p o f
+Leads outcome (Ok (answer.KeptAway p o f v)) = (outcome ≡ Ok (tested.Poly p)) × ShowsKeptAway p o f v
+Leads outcome (Ok answer.NoZeros) = outcome ≡ Ok tested.NoZeros
+Leads outcome (Ok (answer.Wide index)) = outcome ≡ Err (record { index = index })
 Leads outcome other = ⊥
 
 one_poly : (r : Result Tested PolyWide) (p q : List ℤ) → r ≡ Ok (tested.Poly p) → r ≡ Ok (tested.Poly q) → p ≡ q
@@ -132,30 +133,30 @@ none_or_wide r w h k = cc
 one_refusal : (r : Result Tested PolyWide) (v w : PolyWide) → r ≡ Err v → r ≡ Err w → v ≡ w
 one_refusal r v w h k = cc
 
-one_wide : (r : Result Tested PolyWide) (i j : ℕ) → r ≡ Err (record { index = i }) → r ≡ Err (record { index = j }) → answer.Wide i ≡ answer.Wide j
-one_wide r i j h k = ap (λ (w : PolyWide). answer.Wide w.index) (one_refusal r (record { index = i }) (record { index = j }) h k)
+one_wide : (r : Result Tested PolyWide) (i j : ℕ) → r ≡ Err (record { index = i }) → r ≡ Err (record { index = j }) → SameAnswer (Ok (answer.Wide i)) (Ok (answer.Wide j))
+one_wide r i j h k = ap (λ (w : PolyWide). Ok (answer.Wide w.index)) (one_refusal r (record { index = i }) (record { index = j }) h k)
 
-one_decision : (r : Result Tested PolyWide) (a b : Answer) → IsSettled a → IsSettled b → Leads r a → Leads r b → SameAnswer a b
-one_decision r (answer.Falls p o f) (answer.Falls q u g) x y h k = falls_once p q o u f g x (one_poly r p q h.0 k.0) h.1 k.1
-one_decision r (answer.Falls p o f) (answer.KeptAway q u g w) x y h k = absurd (falls_or_not p q o u f g w x (one_poly r p q h.0 k.0) h.1 k.1)
-one_decision r (answer.Falls p o f) answer.NoZeros x y h k = absurd (poly_or_none r p h.0 k)
-one_decision r (answer.Falls p o f) (answer.Wide j) x y h k = absurd (poly_or_wide r p (record { index = j }) h.0 k)
-one_decision r (answer.Falls p o f) b x y h k = absurd k
-one_decision r (answer.KeptAway p o f v) (answer.KeptAway q u g w) x y h k = kept_away_once p q o u f g v w x (one_poly r p q h.0 k.0) h.1 k.1
-one_decision r (answer.KeptAway p o f v) (answer.Falls q u g) x y h k = absurd (falls_or_not q p u o g f v y (one_poly r q p k.0 h.0) k.1 h.1)
-one_decision r (answer.KeptAway p o f v) answer.NoZeros x y h k = absurd (poly_or_none r p h.0 k)
-one_decision r (answer.KeptAway p o f v) (answer.Wide j) x y h k = absurd (poly_or_wide r p (record { index = j }) h.0 k)
-one_decision r (answer.KeptAway p o f v) b x y h k = absurd k
-one_decision r answer.NoZeros answer.NoZeros x y h k = refl
-one_decision r answer.NoZeros (answer.Falls q u g) x y h k = absurd (poly_or_none r q k.0 h)
-one_decision r answer.NoZeros (answer.KeptAway q u g w) x y h k = absurd (poly_or_none r q k.0 h)
-one_decision r answer.NoZeros (answer.Wide j) x y h k = absurd (none_or_wide r (record { index = j }) h k)
-one_decision r answer.NoZeros b x y h k = absurd k
-one_decision r (answer.Wide i) (answer.Wide j) x y h k = one_wide r i j h k
-one_decision r (answer.Wide i) (answer.Falls q u g) x y h k = absurd (poly_or_wide r q (record { index = i }) k.0 h)
-one_decision r (answer.Wide i) (answer.KeptAway q u g w) x y h k = absurd (poly_or_wide r q (record { index = i }) k.0 h)
-one_decision r (answer.Wide i) answer.NoZeros x y h k = absurd (none_or_wide r (record { index = i }) k h)
-one_decision r (answer.Wide i) b x y h k = absurd k
+one_decision : (r : Result Tested PolyWide) (a b : Outcome) → IsSettled a → IsSettled b → Leads r a → Leads r b → SameAnswer a b
+one_decision r (Ok (answer.Falls p o f)) (Ok (answer.Falls q u g)) x y h k = falls_once p q o u f g x (one_poly r p q h.0 k.0) h.1 k.1
+one_decision r (Ok (answer.Falls p o f)) (Ok (answer.KeptAway q u g w)) x y h k = absurd (falls_or_not p q o u f g w x (one_poly r p q h.0 k.0) h.1 k.1)
+one_decision r (Ok (answer.Falls p o f)) (Ok answer.NoZeros) x y h k = absurd (poly_or_none r p h.0 k)
+one_decision r (Ok (answer.Falls p o f)) (Ok (answer.Wide j)) x y h k = absurd (poly_or_wide r p (record { index = j }) h.0 k)
+one_decision r (Ok (answer.Falls p o f)) b x y h k = absurd k
+one_decision r (Ok (answer.KeptAway p o f v)) (Ok (answer.KeptAway q u g w)) x y h k = kept_away_once p q o u f g v w x (one_poly r p q h.0 k.0) h.1 k.1
+one_decision r (Ok (answer.KeptAway p o f v)) (Ok (answer.Falls q u g)) x y h k = absurd (falls_or_not q p u o g f v y (one_poly r q p k.0 h.0) k.1 h.1)
+one_decision r (Ok (answer.KeptAway p o f v)) (Ok answer.NoZeros) x y h k = absurd (poly_or_none r p h.0 k)
+one_decision r (Ok (answer.KeptAway p o f v)) (Ok (answer.Wide j)) x y h k = absurd (poly_or_wide r p (record { index = j }) h.0 k)
+one_decision r (Ok (answer.KeptAway p o f v)) b x y h k = absurd k
+one_decision r (Ok answer.NoZeros) (Ok answer.NoZeros) x y h k = refl
+one_decision r (Ok answer.NoZeros) (Ok (answer.Falls q u g)) x y h k = absurd (poly_or_none r q k.0 h)
+one_decision r (Ok answer.NoZeros) (Ok (answer.KeptAway q u g w)) x y h k = absurd (poly_or_none r q k.0 h)
+one_decision r (Ok answer.NoZeros) (Ok (answer.Wide j)) x y h k = absurd (none_or_wide r (record { index = j }) h k)
+one_decision r (Ok answer.NoZeros) b x y h k = absurd k
+one_decision r (Ok (answer.Wide i)) (Ok (answer.Wide j)) x y h k = one_wide r i j h k
+one_decision r (Ok (answer.Wide i)) (Ok (answer.Falls q u g)) x y h k = absurd (poly_or_wide r q (record { index = i }) k.0 h)
+one_decision r (Ok (answer.Wide i)) (Ok (answer.KeptAway q u g w)) x y h k = absurd (poly_or_wide r q (record { index = i }) k.0 h)
+one_decision r (Ok (answer.Wide i)) (Ok answer.NoZeros) x y h k = absurd (none_or_wide r (record { index = i }) k h)
+one_decision r (Ok (answer.Wide i)) b x y h k = absurd k
 one_decision r a b x y h k = absurd h
 
 -- ---- runs
@@ -170,7 +171,7 @@ before_place P xs i j v e l h =
     subst P (get_or-take j xs i v l ∙ get_or_from_slice_get xs i v v e) (h i v (omega arith))
 
 one_outside : (format : Format) (inputs : List ℤ) (i j : ℕ) (v w : ℤ) → IsFirstOutside format inputs i v → IsFirstOutside format inputs j w
-    → (i ≡ j) ⊎ ((i < j) ⊎ (j < i)) → answer.InputRange i v ≡ answer.InputRange j w
+    → (i ≡ j) ⊎ ((i < j) ⊎ (j < i)) → SameAnswer (Err (stop.InputRange i v)) (Err (stop.InputRange j w))
 one_outside format inputs i j v w h k (inl e) =
     let at = h.there in
     let there = k.there in
@@ -179,35 +180,35 @@ one_outside format inputs i j v w h k (inl e) =
 one_outside format inputs i j v w h k (inr (inl l)) = absurd (h.outside (before_place (IsWord format) inputs i j v h.there l k.before))
 one_outside format inputs i j v w h k (inr (inr l)) = absurd (k.outside (before_place (IsWord format) inputs j i w k.there l h.before))
 
-one_run : (words : FixedPoint) (inputs : List ℤ) (a b : Answer) → IsSettled a → IsSettled b → IsOfRun words inputs a → IsOfRun words inputs b → SameAnswer a b
-one_run words inputs (answer.Simulated r) (answer.Simulated s) x y h k = ap answer.Simulated (h.rows ∙ sym k.rows)
-one_run words inputs (answer.Simulated r) (answer.InputRange j w) x y h k = absurd (k.outside (at_place (IsWord words.format) inputs j w k.there h.inputs_are_words))
-one_run words inputs (answer.Simulated r) answer.NoMemory x y h k = absurd y
-one_run words inputs (answer.Simulated r) b x y h k = absurd k
-one_run words inputs (answer.InputRange i v) (answer.InputRange j w) x y h k = one_outside words.format inputs i j v w h k (cases_order i j)
-one_run words inputs (answer.InputRange i v) (answer.Simulated s) x y h k = absurd (h.outside (at_place (IsWord words.format) inputs i v h.there k.inputs_are_words))
-one_run words inputs (answer.InputRange i v) answer.NoMemory x y h k = absurd y
-one_run words inputs (answer.InputRange i v) b x y h k = absurd k
-one_run words inputs answer.NoMemory b x y h k = absurd x
+one_run : (words : FixedPoint) (inputs : List ℤ) (a b : Outcome) → IsSettled a → IsSettled b → IsOfRun words inputs a → IsOfRun words inputs b → SameAnswer a b
+one_run words inputs (Ok (answer.Simulated r)) (Ok (answer.Simulated s)) x y h k = ap (λ it. Ok (answer.Simulated it)) (h.rows ∙ sym k.rows)
+one_run words inputs (Ok (answer.Simulated r)) (Err (stop.InputRange j w)) x y h k = absurd (k.outside (at_place (IsWord words.format) inputs j w k.there h.inputs_are_words))
+one_run words inputs (Ok (answer.Simulated r)) (Err stop.NoMemory) x y h k = absurd y
+one_run words inputs (Ok (answer.Simulated r)) b x y h k = absurd k
+one_run words inputs (Err (stop.InputRange i v)) (Err (stop.InputRange j w)) x y h k = one_outside words.format inputs i j v w h k (cases_order i j)
+one_run words inputs (Err (stop.InputRange i v)) (Ok (answer.Simulated s)) x y h k = absurd (h.outside (at_place (IsWord words.format) inputs i v h.there k.inputs_are_words))
+one_run words inputs (Err (stop.InputRange i v)) (Err stop.NoMemory) x y h k = absurd y
+one_run words inputs (Err (stop.InputRange i v)) b x y h k = absurd k
+one_run words inputs (Err stop.NoMemory) b x y h k = absurd x
 one_run words inputs a b x y h k = absurd h
 
 -- ---- questions about runs
 within_or_large : (size given limit : ℕ) → size ≤ limit → given ≡ size → limit < given → ⊥
 within_or_large size given limit h e k = omega (arith, h, e, k)
 
-one_size : (samples : ℕ) (words : FixedPoint) (m n : ℕ) → IsTooLarge samples words m → IsTooLarge samples words n → answer.JobSize m ≡ answer.JobSize n
-one_size samples words m n h k = ap answer.JobSize (h.size_of ∙ sym k.size_of)
+one_size : (samples : ℕ) (words : FixedPoint) (m n : ℕ) → IsTooLarge samples words m → IsTooLarge samples words n → SameAnswer (Err (stop.JobSize m)) (Err (stop.JobSize n))
+one_size samples words m n h k = ap (λ it. Err (stop.JobSize it)) (h.size_of ∙ sym k.size_of)
 
-one_formula : (p : RunProperty) (samples : ℕ) (words : FixedPoint) (a b : Answer) → IsSettled a → IsSettled b → IsOfFormula p samples words a → IsOfFormula p samples words b → SameAnswer a b
-one_formula p samples words (answer.FormulaText f) (answer.FormulaText g) x y h k = ap answer.FormulaText (h.formula_of ∙ sym k.formula_of)
-one_formula p samples words (answer.FormulaText f) (answer.JobSize n) x y h k = absurd (within_or_large (job_size_of words samples) n most_size h.within k.size_of k.large)
-one_formula p samples words (answer.FormulaText f) answer.NoMemory x y h k = absurd y
-one_formula p samples words (answer.FormulaText f) b x y h k = absurd k
-one_formula p samples words (answer.JobSize m) (answer.JobSize n) x y h k = one_size samples words m n h k
-one_formula p samples words (answer.JobSize m) (answer.FormulaText g) x y h k = absurd (within_or_large (job_size_of words samples) m most_size k.within h.size_of h.large)
-one_formula p samples words (answer.JobSize m) answer.NoMemory x y h k = absurd y
-one_formula p samples words (answer.JobSize m) b x y h k = absurd k
-one_formula p samples words answer.NoMemory b x y h k = absurd x
+one_formula : (p : RunProperty) (samples : ℕ) (words : FixedPoint) (a b : Outcome) → IsSettled a → IsSettled b → IsOfFormula p samples words a → IsOfFormula p samples words b → SameAnswer a b
+one_formula p samples words (Ok (answer.FormulaText f)) (Ok (answer.FormulaText g)) x y h k = ap (λ it. Ok (answer.FormulaText it)) (h.formula_of ∙ sym k.formula_of)
+one_formula p samples words (Ok (answer.FormulaText f)) (Err (stop.JobSize n)) x y h k = absurd (within_or_large (job_size_of words samples) n most_size h.within k.size_of k.large)
+one_formula p samples words (Ok (answer.FormulaText f)) (Err stop.NoMemory) x y h k = absurd y
+one_formula p samples words (Ok (answer.FormulaText f)) b x y h k = absurd k
+one_formula p samples words (Err (stop.JobSize m)) (Err (stop.JobSize n)) x y h k = one_size samples words m n h k
+one_formula p samples words (Err (stop.JobSize m)) (Ok (answer.FormulaText g)) x y h k = absurd (within_or_large (job_size_of words samples) m most_size k.within h.size_of h.large)
+one_formula p samples words (Err (stop.JobSize m)) (Err stop.NoMemory) x y h k = absurd y
+one_formula p samples words (Err (stop.JobSize m)) b x y h k = absurd k
+one_formula p samples words (Err stop.NoMemory) b x y h k = absurd x
 one_formula p samples words a b x y h k = absurd h
 
 -- a trace or a cycle shows that it happens
@@ -220,37 +221,37 @@ cycled_by p samples words cycle e h never = subst (λ q. (Happens q words sample
 two_properties : (p : RunProperty) → p ≡ run.Overflow → p ≡ run.LimitCycle → ⊥
 two_properties p e f = cc
 
-one_search : (p : RunProperty) (samples conflicts : ℕ) (words : FixedPoint) (a b : Answer) → IsSettled a → IsSettled b → IsOfSearch p samples conflicts words a → IsOfSearch p samples conflicts words b → SameAnswer a b
-one_search p n c words (answer.Never l) (answer.Never m) x y h k = tt
-one_search p n c words (answer.Never l) (answer.Overflow t) x y h k = absurd (broken_by p n words t k.0 k.2 h.never)
-one_search p n c words (answer.Never l) (answer.Cycles z) x y h k = absurd (cycled_by p n words z k.0 k.2 h.never)
-one_search p n c words (answer.Never l) (answer.JobSize s) x y h k = absurd (within_or_large (job_size_of words n) s most_size h.within k.size_of k.large)
-one_search p n c words (answer.Never l) answer.NoMemory x y h k = absurd y
-one_search p n c words (answer.Never l) (answer.Spent m) x y h k = absurd y
-one_search p n c words (answer.Never l) b x y h k = absurd k
-one_search p n c words (answer.Overflow t) (answer.Overflow u) x y h k = tt
-one_search p n c words (answer.Overflow t) (answer.Never m) x y h k = absurd (broken_by p n words t h.0 h.2 k.never)
-one_search p n c words (answer.Overflow t) (answer.Cycles z) x y h k = absurd (two_properties p h.0 k.0)
-one_search p n c words (answer.Overflow t) (answer.JobSize s) x y h k = absurd (within_or_large (job_size_of words n) s most_size h.1 k.size_of k.large)
-one_search p n c words (answer.Overflow t) answer.NoMemory x y h k = absurd y
-one_search p n c words (answer.Overflow t) (answer.Spent m) x y h k = absurd y
-one_search p n c words (answer.Overflow t) b x y h k = absurd k
-one_search p n c words (answer.Cycles z) (answer.Cycles w) x y h k = tt
-one_search p n c words (answer.Cycles z) (answer.Never m) x y h k = absurd (cycled_by p n words z h.0 h.2 k.never)
-one_search p n c words (answer.Cycles z) (answer.Overflow t) x y h k = absurd (two_properties p k.0 h.0)
-one_search p n c words (answer.Cycles z) (answer.JobSize s) x y h k = absurd (within_or_large (job_size_of words n) s most_size h.1 k.size_of k.large)
-one_search p n c words (answer.Cycles z) answer.NoMemory x y h k = absurd y
-one_search p n c words (answer.Cycles z) (answer.Spent m) x y h k = absurd y
-one_search p n c words (answer.Cycles z) b x y h k = absurd k
-one_search p n c words (answer.JobSize s) (answer.JobSize t) x y h k = one_size n words s t h k
-one_search p n c words (answer.JobSize s) (answer.Never m) x y h k = absurd (within_or_large (job_size_of words n) s most_size k.within h.size_of h.large)
-one_search p n c words (answer.JobSize s) (answer.Overflow t) x y h k = absurd (within_or_large (job_size_of words n) s most_size k.1 h.size_of h.large)
-one_search p n c words (answer.JobSize s) (answer.Cycles z) x y h k = absurd (within_or_large (job_size_of words n) s most_size k.1 h.size_of h.large)
-one_search p n c words (answer.JobSize s) answer.NoMemory x y h k = absurd y
-one_search p n c words (answer.JobSize s) (answer.Spent m) x y h k = absurd y
-one_search p n c words (answer.JobSize s) b x y h k = absurd k
-one_search p n c words answer.NoMemory b x y h k = absurd x
-one_search p n c words (answer.Spent l) b x y h k = absurd x
+one_search : (p : RunProperty) (samples conflicts : ℕ) (words : FixedPoint) (a b : Outcome) → IsSettled a → IsSettled b → IsOfSearch p samples conflicts words a → IsOfSearch p samples conflicts words b → SameAnswer a b
+one_search p n c words (Ok (answer.Never l)) (Ok (answer.Never m)) x y h k = tt
+one_search p n c words (Ok (answer.Never l)) (Ok (answer.Overflow t)) x y h k = absurd (broken_by p n words t k.0 k.2 h.never)
+one_search p n c words (Ok (answer.Never l)) (Ok (answer.Cycles z)) x y h k = absurd (cycled_by p n words z k.0 k.2 h.never)
+one_search p n c words (Ok (answer.Never l)) (Err (stop.JobSize s)) x y h k = absurd (within_or_large (job_size_of words n) s most_size h.within k.size_of k.large)
+one_search p n c words (Ok (answer.Never l)) (Err stop.NoMemory) x y h k = absurd y
+one_search p n c words (Ok (answer.Never l)) (Ok (answer.Spent m)) x y h k = absurd y
+one_search p n c words (Ok (answer.Never l)) b x y h k = absurd k
+one_search p n c words (Ok (answer.Overflow t)) (Ok (answer.Overflow u)) x y h k = tt
+one_search p n c words (Ok (answer.Overflow t)) (Ok (answer.Never m)) x y h k = absurd (broken_by p n words t h.0 h.2 k.never)
+one_search p n c words (Ok (answer.Overflow t)) (Ok (answer.Cycles z)) x y h k = absurd (two_properties p h.0 k.0)
+one_search p n c words (Ok (answer.Overflow t)) (Err (stop.JobSize s)) x y h k = absurd (within_or_large (job_size_of words n) s most_size h.1 k.size_of k.large)
+one_search p n c words (Ok (answer.Overflow t)) (Err stop.NoMemory) x y h k = absurd y
+one_search p n c words (Ok (answer.Overflow t)) (Ok (answer.Spent m)) x y h k = absurd y
+one_search p n c words (Ok (answer.Overflow t)) b x y h k = absurd k
+one_search p n c words (Ok (answer.Cycles z)) (Ok (answer.Cycles w)) x y h k = tt
+one_search p n c words (Ok (answer.Cycles z)) (Ok (answer.Never m)) x y h k = absurd (cycled_by p n words z h.0 h.2 k.never)
+one_search p n c words (Ok (answer.Cycles z)) (Ok (answer.Overflow t)) x y h k = absurd (two_properties p k.0 h.0)
+one_search p n c words (Ok (answer.Cycles z)) (Err (stop.JobSize s)) x y h k = absurd (within_or_large (job_size_of words n) s most_size h.1 k.size_of k.large)
+one_search p n c words (Ok (answer.Cycles z)) (Err stop.NoMemory) x y h k = absurd y
+one_search p n c words (Ok (answer.Cycles z)) (Ok (answer.Spent m)) x y h k = absurd y
+one_search p n c words (Ok (answer.Cycles z)) b x y h k = absurd k
+one_search p n c words (Err (stop.JobSize s)) (Err (stop.JobSize t)) x y h k = one_size n words s t h k
+one_search p n c words (Err (stop.JobSize s)) (Ok (answer.Never m)) x y h k = absurd (within_or_large (job_size_of words n) s most_size k.within h.size_of h.large)
+one_search p n c words (Err (stop.JobSize s)) (Ok (answer.Overflow t)) x y h k = absurd (within_or_large (job_size_of words n) s most_size k.1 h.size_of h.large)
+one_search p n c words (Err (stop.JobSize s)) (Ok (answer.Cycles z)) x y h k = absurd (within_or_large (job_size_of words n) s most_size k.1 h.size_of h.large)
+one_search p n c words (Err (stop.JobSize s)) (Err stop.NoMemory) x y h k = absurd y
+one_search p n c words (Err (stop.JobSize s)) (Ok (answer.Spent m)) x y h k = absurd y
+one_search p n c words (Err (stop.JobSize s)) b x y h k = absurd k
+one_search p n c words (Err stop.NoMemory) b x y h k = absurd x
+one_search p n c words (Ok (answer.Spent l)) b x y h k = absurd x
 one_search p n c words a b x y h k = absurd h
 
 -- ---- timing
@@ -271,45 +272,43 @@ one_timing c words r s h k =
 on_time_or_late : (c : ControllerView) (words : FixedPoint) (r s : TimingReport) → IsTimingOf c words r → IsTimingOf c words s → IsOnTime r → (IsOnTime s → ⊥) → ⊥
 on_time_or_late c words r s h k on late = late (subst IsOnTime (one_timing c words r s h k) on)
 
-one_time : (c : ControllerView) (words : FixedPoint) (a b : Answer) → IsSettled a → IsSettled b → IsOfTiming c words a → IsOfTiming c words b → SameAnswer a b
-one_time c words (answer.OnTime r) (answer.OnTime s) x y h k = ap answer.OnTime (one_timing c words r s h.0 k.0)
-one_time c words (answer.OnTime r) (answer.Late s) x y h k = absurd (on_time_or_late c words r s h.0 k.0 h.1 k.1)
-one_time c words (answer.OnTime r) answer.NoMemory x y h k = absurd y
-one_time c words (answer.OnTime r) b x y h k = absurd k
-one_time c words (answer.Late r) (answer.Late s) x y h k = ap answer.Late (one_timing c words r s h.0 k.0)
-one_time c words (answer.Late r) (answer.OnTime s) x y h k = absurd (on_time_or_late c words s r k.0 h.0 k.1 h.1)
-one_time c words (answer.Late r) answer.NoMemory x y h k = absurd y
-one_time c words (answer.Late r) b x y h k = absurd k
-one_time c words answer.NoMemory b x y h k = absurd x
+one_time : (c : ControllerView) (words : FixedPoint) (a b : Outcome) → IsSettled a → IsSettled b → IsOfTiming c words a → IsOfTiming c words b → SameAnswer a b
+one_time c words (Ok (answer.OnTime r)) (Ok (answer.OnTime s)) x y h k = ap (λ it. Ok (answer.OnTime it)) (one_timing c words r s h.0 k.0)
+one_time c words (Ok (answer.OnTime r)) (Ok (answer.Late s)) x y h k = absurd (on_time_or_late c words r s h.0 k.0 h.1 k.1)
+one_time c words (Ok (answer.OnTime r)) (Err stop.NoMemory) x y h k = absurd y
+one_time c words (Ok (answer.OnTime r)) b x y h k = absurd k
+one_time c words (Ok (answer.Late r)) (Ok (answer.Late s)) x y h k = ap (λ it. Ok (answer.Late it)) (one_timing c words r s h.0 k.0)
+one_time c words (Ok (answer.Late r)) (Ok (answer.OnTime s)) x y h k = absurd (on_time_or_late c words s r k.0 h.0 k.1 h.1)
+one_time c words (Ok (answer.Late r)) (Err stop.NoMemory) x y h k = absurd y
+one_time c words (Ok (answer.Late r)) b x y h k = absurd k
+one_time c words (Err stop.NoMemory) b x y h k = absurd x
 one_time c words a b x y h k = absurd h
 
 -- ---- runs of any length
-one_set : (conflicts : ℕ) (words : FixedPoint) (a b : Answer) → IsSettled a → IsSettled b → IsOfSets conflicts words a → IsOfSets conflicts words b → SameAnswer a b
-one_set c words (answer.JobSize s) (answer.JobSize t) x y h k = one_size unbounded_samples words s t h k
-one_set c words (answer.JobSize s) (answer.Always candidate logs) x y h k = absurd y
-one_set c words (answer.JobSize s) (answer.NoInvariant kept) x y h k = absurd y
-one_set c words (answer.JobSize s) answer.NoMemory x y h k = absurd y
-one_set c words (answer.JobSize s) b x y h k = absurd k
-one_set c words (answer.Always candidate logs) b x y h k = absurd x
-one_set c words (answer.NoInvariant kept) b x y h k = absurd x
-one_set c words answer.NoMemory b x y h k = absurd x
+one_set : (conflicts : ℕ) (words : FixedPoint) (a b : Outcome) → IsSettled a → IsSettled b → IsOfSets conflicts words a → IsOfSets conflicts words b → SameAnswer a b
+one_set c words (Err (stop.JobSize s)) (Err (stop.JobSize t)) x y h k = one_size unbounded_samples words s t h k
+one_set c words (Err (stop.JobSize s)) (Ok (answer.Always candidate logs)) x y h k = absurd y
+one_set c words (Err (stop.JobSize s)) (Ok (answer.NoInvariant kept)) x y h k = absurd y
+one_set c words (Err (stop.JobSize s)) (Err stop.NoMemory) x y h k = absurd y
+one_set c words (Err (stop.JobSize s)) b x y h k = absurd k
+one_set c words (Ok (answer.Always candidate logs)) b x y h k = absurd x
+one_set c words (Ok (answer.NoInvariant kept)) b x y h k = absurd x
+one_set c words (Err stop.NoMemory) b x y h k = absurd x
 one_set c words a b x y h k = absurd h
 
 -- what a task leads to for a controller in words
-abbrev pub IsAnswerTo : ControllerView → Task → FixedPoint → Answer → Type 0
+abbrev pub IsAnswerTo : ControllerView → Task → FixedPoint → Outcome → Type 0
 IsAnswerTo c (decides p) words found = Leads (tested_of words (side_of p)) found
 IsAnswerTo c checks_time words found = IsOfTiming c words found
 IsAnswerTo c (writes p samples) words found = IsOfFormula p samples words found
 IsAnswerTo c (searches p samples conflicts) words found = IsOfSearch p samples conflicts words found
 IsAnswerTo c (seeks_set conflicts) words found = IsOfSets conflicts words found
 IsAnswerTo c (simulates inputs) words found = IsOfRun words inputs found
-IsAnswerTo c (checks name) words found = ⊥
 
-pub one_task : (c : ControllerView) (task : Task) (words : FixedPoint) (a b : Answer) → IsSettled a → IsSettled b → IsAnswerTo c task words a → IsAnswerTo c task words b → SameAnswer a b
+pub one_task : (c : ControllerView) (task : Task) (words : FixedPoint) (a b : Outcome) → IsSettled a → IsSettled b → IsAnswerTo c task words a → IsAnswerTo c task words b → SameAnswer a b
 one_task e (decides p) words a b x y h k = one_decision (tested_of words (side_of p)) a b x y h k
 one_task e checks_time words a b x y h k = one_time e words a b x y h k
 one_task e (writes p samples) words a b x y h k = one_formula p samples words a b x y h k
 one_task e (searches p samples conflicts) words a b x y h k = one_search p samples conflicts words a b x y h k
 one_task e (seeks_set conflicts) words a b x y h k = one_set conflicts words a b x y h k
 one_task e (simulates inputs) words a b x y h k = one_run words inputs a b x y h k
-one_task e (checks name) words a b x y h k = absurd h

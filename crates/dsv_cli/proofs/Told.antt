@@ -8,6 +8,10 @@ use Rattle.dsv_cli.specs.Headline.{CameOf}
 pub of_told : (P : List ℕ → Type 0) (bytes : List ℕ) → CameOf (Some bytes) P → P bytes
 of_told P bytes h = subst P h.1 h.2
 
+-- what follows of the bytes that came
+pub along : {P Q : List ℕ → Type 0} (told : Option (List ℕ)) → ((bytes : List ℕ) → P bytes → Q bytes) → CameOf told P → CameOf told Q
+along told f h = (h.0, h.1, f h.0 h.2)
+
 -- some bytes came
 pub some_came : (told : Option (List ℕ)) → CameOf told (λ bytes. Unit {0})
 some_came None = ([], tt, tt)

@@ -1,22 +1,24 @@
 -- A certificate that a run wrote is accepted for the same file.
-use Rattle.std.specs.Prelude.{◌≡◌, ℕ, ◌≤◌, List, length, Some}
+use Rattle.std.specs.Prelude.{◌≡◌, ℕ, ◌≤◌, List, length, Some, Ok, Err}
 use Rattle.dsv_base.specs.Seen.{FilesSeen}
 use Rattle.dsv_certfile.specs.Texts.{job_of, certificate_text}
 use Rattle.dsv_certfile.specs.Typed.{IsTyped}
 use Rattle.dsv_certfile.specs.declared.certificate.Certificate.{Certificate}
 use Rattle.dsv_certfile.specs.declared.job.Job.{Job}
-use Rattle.dsv_command.specs.Jobs.{checks, Asked}
+use Rattle.dsv_command.specs.Jobs.{Asked}
 use Rattle.dsv_report.specs.Output.{certificate_of}
 use Rattle.dsv_report.specs.declared.answers.Answer.{Answer}
 use Rattle.dsv_report.specs.declared.answers.Answer.TheVariants as answer
-use Rattle.dsv_cli.specs.Headline.{longest_certificate, IsRow}
+use Rattle.dsv_report.specs.declared.stop.Stop.TheVariants as stop
+use Rattle.dsv_report.specs.Stops.{Outcome}
+use Rattle.dsv_cli.specs.Headline.{longest_certificate, IsRow, IsCheckRow}
 
 -- the answer is that a certificate with this job is accepted, unless a read failed or there was no
 -- memory
-abbrev pub IsAcceptance : Job → Answer → Type 0
-IsAcceptance certified (answer.Checked found) = found ≡ certified
-IsAcceptance certified (answer.ReadFault file) = Unit {0}
-IsAcceptance certified answer.NoMemory = Unit {0}
+abbrev pub IsAcceptance : Job → Outcome → Type 0
+IsAcceptance certified (Ok (answer.Checked found)) = found ≡ certified
+IsAcceptance certified (Err (stop.ReadFault file)) = Unit {0}
+IsAcceptance certified (Err stop.NoMemory) = Unit {0}
 IsAcceptance certified other = ⊥
 
 -- Where a job on a file of these bytes has a certificate, of which is known what is known of each
@@ -25,8 +27,9 @@ IsAcceptance certified other = ⊥
 abbrev pub WrittenAreAccepted : Type 0
 WrittenAreAccepted =
     (bytes : List ℕ) (old new : FilesSeen) (job : Asked) (found : Answer) (c : Certificate)
-    → IsRow (Some bytes) old new job found → certificate_of job found ≡ Some c → IsTyped c
+    → IsRow (Some bytes) old new job (Ok found) → certificate_of job found ≡ Some c → IsTyped c
     → length (certificate_text c) ≤ longest_certificate
-    → (then_old then_new : FilesSeen) (check : Asked) (name : List ℕ) (answered : Answer)
-    → check.task ≡ checks name → then_old.held name ≡ Some (certificate_text c)
-    → IsRow (Some bytes) then_old then_new check answered → IsAcceptance (job_of c) answered
+    → (then_old then_new : FilesSeen) (controller name : List ℕ) (answered : Outcome)
+    → then_old.held name ≡ Some (certificate_text c)
+    → IsCheckRow (Some bytes) then_old then_new controller name answered
+    → IsAcceptance (job_of c) answered

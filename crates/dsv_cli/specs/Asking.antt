@@ -8,37 +8,37 @@ use Rattle.dsv_lyapunov.specs.declared.kept.KeptForm.{KeptForm}
 use Rattle.dsv_lyapunov.specs.declared.checked_form.CheckedForm.{CheckedForm}
 use Rattle.dsv_lyapunov.specs.Answers.{offer_in, IsShown}
 use Rattle.dsv_lyapunov.specs.Kept.{IsRefused}
-use Rattle.dsv_cli.specs.declared.asking.Asked.{Asked}
-use Rattle.dsv_cli.specs.declared.asking.Asked.TheVariants as asked
-use Rattle.dsv_cli.specs.declared.deciding.FormAnswer.{FormAnswer}
-use Rattle.dsv_cli.specs.declared.deciding.FormAnswer.TheVariants as answer
+use Rattle.dsv_cli.specs.declared.forms.FormTurn.{FormTurn}
+use Rattle.dsv_cli.specs.declared.forms.FormTurn.TheVariants as turn
+use Rattle.dsv_cli.specs.declared.forms.FormAnswer.{FormAnswer}
+use Rattle.dsv_cli.specs.declared.forms.FormAnswer.TheVariants as answer
 
 -- ---- asking once
-abbrev pub IsJudged : List ℤ → Asked → Type 0
-IsJudged poly asked.Nothing = Unit {0}
-IsJudged poly (asked.Accepted found) = IsAccepted poly (offer_in found) × IsShown poly found
-IsJudged poly (asked.Refused kept) = IsRefused poly kept
+abbrev pub IsJudged : List ℤ → FormTurn → Type 0
+IsJudged poly turn.Nothing = Unit {0}
+IsJudged poly (turn.Accepted found) = IsAccepted poly (offer_in found) × IsShown poly found
+IsJudged poly (turn.Refused kept) = IsRefused poly kept
 
-abbrev pub IfAccepted : Asked → (CheckedForm → Type 0) → Type 0
-IfAccepted asked.Nothing P = Unit {0}
-IfAccepted (asked.Accepted found) P = P found
-IfAccepted (asked.Refused kept) P = Unit {0}
+abbrev pub IfAccepted : FormTurn → (CheckedForm → Type 0) → Type 0
+IfAccepted turn.Nothing P = Unit {0}
+IfAccepted (turn.Accepted found) P = P found
+IfAccepted (turn.Refused kept) P = Unit {0}
 
-abbrev pub IfRefused : Asked → (KeptForm → Type 0) → Type 0
-IfRefused asked.Nothing P = Unit {0}
-IfRefused (asked.Accepted found) P = Unit {0}
-IfRefused (asked.Refused kept) P = P kept
+abbrev pub IfRefused : FormTurn → (KeptForm → Type 0) → Type 0
+IfRefused turn.Nothing P = Unit {0}
+IfRefused (turn.Accepted found) P = Unit {0}
+IfRefused (turn.Refused kept) P = P kept
 
 -- the offer that came
-abbrev pub offer_of : Asked → Option FormOffer
-offer_of asked.Nothing = None
-offer_of (asked.Accepted found) = Some (offer_in found)
-offer_of (asked.Refused kept) = Some kept.offer
+abbrev pub offer_of : FormTurn → Option FormOffer
+offer_of turn.Nothing = None
+offer_of (turn.Accepted found) = Some (offer_in found)
+offer_of (turn.Refused kept) = Some kept.offer
 
-abbrev pub IsNotAccepted : Asked → Type 0
-IsNotAccepted asked.Nothing = Unit {0}
-IsNotAccepted (asked.Accepted found) = ⊥
-IsNotAccepted (asked.Refused kept) = Unit {0}
+abbrev pub IsNotAccepted : FormTurn → Type 0
+IsNotAccepted turn.Nothing = Unit {0}
+IsNotAccepted (turn.Accepted found) = ⊥
+IsNotAccepted (turn.Refused kept) = Unit {0}
 
 -- ---- asking all
 abbrev pub IfChecked : FormAnswer → (CheckedForm → Type 0) → Type 0

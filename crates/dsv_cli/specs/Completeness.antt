@@ -1,13 +1,13 @@
 -- A job to which no refusal applies is decided or inconclusive, where no fault rises and there is
 -- memory. It speaks of files whose bytes are told: of others some bytes always have a fault.
-use Rattle.std.specs.Prelude.{◌≡◌, ◌⊎◌, ℕ, List, Option}
+use Rattle.std.specs.Prelude.{◌≡◌, ◌⊎◌, ℕ, List, Option, Err}
 use Rattle.dsv_base.specs.Counts.{Rose}
 use Rattle.dsv_base.specs.Seen.{FilesSeen}
 use Rattle.dsv_command.specs.Jobs.{Asked}
 use Rattle.dsv_report.specs.Report.{status_of}
-use Rattle.dsv_report.specs.declared.answers.Answer.{Answer}
-use Rattle.dsv_report.specs.declared.answers.Answer.TheVariants as answer
-use Rattle.dsv_cli.specs.Headline.{IsRow}
+use Rattle.dsv_report.specs.declared.stop.Stop.TheVariants as stop
+use Rattle.dsv_report.specs.Stops.{Outcome}
+use Rattle.dsv_cli.specs.Headline.{IsRow, IsCheckRow}
 
 -- the status of a job that is done or holds, that fails, or that is inconclusive
 abbrev pub IsVerdict : ℕ → Type 0
@@ -18,15 +18,20 @@ IsVerdict status = (status ≡ 0) ⊎ ((status ≡ 10) ⊎ (status ≡ 20))
 abbrev pub IsRefusal : ℕ → Type 0
 IsRefusal status = (status ≡ 1) ⊎ ((status ≡ 2) ⊎ ((status ≡ 6) ⊎ (status ≡ 7)))
 
--- No refusal has its row for the job.
-abbrev pub IsRefusedByNone : Option (List ℕ) → FilesSeen → FilesSeen → Asked → Type 0
-IsRefusedByNone told old new job =
-    (why : Answer) → IsRefusal (status_of why) → IsRow told old new job why → ⊥
+-- No refusal has its row in the table.
+abbrev pub IsRefusedByNone : (Outcome → Type 0) → Type 0
+IsRefusedByNone HasRow = (why : Outcome) → IsRefusal (status_of why) → HasRow why → ⊥
 
--- An answer that has its row, where no refusal has one and no fault of a read rose, is a verdict,
--- or there was no memory.
-abbrev pub AreDecided : Type 0
-AreDecided =
-    (told : Option (List ℕ)) (old new : FilesSeen) (job : Asked) (found : Answer)
-    → IsRow told old new job found → IsRefusedByNone told old new job
-    → (Rose old.faults new.faults → ⊥) → IsVerdict (status_of found) ⊎ (found ≡ answer.NoMemory)
+-- What has its row in the table, where no refusal has one and no fault of a read rose, is a
+-- verdict, or there was no memory.
+abbrev pub IsDecidedBy : FilesSeen → FilesSeen → (Outcome → Type 0) → Type 0
+IsDecidedBy old new HasRow = (found : Outcome) → HasRow found → IsRefusedByNone HasRow
+    → (Rose old.faults new.faults → ⊥)
+    → IsVerdict (status_of found) ⊎ (found ≡ Err stop.NoMemory)
+
+-- So it is for jobs and for checks of certificates.
+pub record AreDecided : Type 0 where
+  pub jobs : (told : Option (List ℕ)) (old new : FilesSeen) (job : Asked)
+      → IsDecidedBy old new (IsRow told old new job)
+  pub checks : (told : Option (List ℕ)) (old new : FilesSeen) (controller name : List ℕ)
+      → IsDecidedBy old new (IsCheckRow told old new controller name)

@@ -33,14 +33,16 @@ use Rattle.dsv_generator.specs.Tallies.{IsGeneratedFrom}
 use Rattle.dsv_lyapunov.specs.Kept.{AreRefused}
 use Rattle.dsv_lyapunov.specs.declared.kept.KeptForm.{KeptForm}
 use Rattle.dsv_command.specs.Jobs.{Task, decides, checks_time, writes, searches}
-use Rattle.dsv_command.specs.Jobs.{seeks_set, simulates, checks, Asked}
-use Rattle.dsv_command.specs.Requests.{Request, on_file, generates}
-use Rattle.dsv_command.specs.declared.job.Design.{Design}
-use Rattle.dsv_report.specs.declared.answers.Answer.{Answer}
+use Rattle.dsv_command.specs.Jobs.{seeks_set, simulates, Asked}
+use Rattle.dsv_command.specs.Requests.{Request, on_file, checks, generates}
+use Rattle.dsv_names.specs.declared.design.Design.{Design}
 use Rattle.dsv_report.specs.declared.answers.Answer.TheVariants as answer
-use Rattle.dsv_report.specs.declared.answers.WhichFile.TheVariants as file
-use Rattle.dsv_report.specs.declared.answers.CertificateFault.{CertificateFault}
-use Rattle.dsv_report.specs.declared.answers.CertificateFault.TheVariants as fault
+use Rattle.dsv_report.specs.declared.stop.CertificateFault.{CertificateFault}
+use Rattle.dsv_report.specs.declared.stop.CertificateFault.TheVariants as fault
+use Rattle.dsv_report.specs.declared.stop.Stop.{Stop}
+use Rattle.dsv_report.specs.declared.stop.Stop.TheVariants as stop
+use Rattle.dsv_report.specs.declared.stop.WhichFile.TheVariants as file
+use Rattle.dsv_report.specs.Stops.{Outcome}
 use Rattle.dsv_certfile.specs.Reading.{certificate_in}
 use Rattle.dsv_certfile.specs.Texts.{job_of}
 use Rattle.dsv_certfile.specs.declared.certificate.Certificate.{Certificate}
@@ -71,11 +73,6 @@ longest_file = 65536
 abbrev pub longest_certificate : ℕ
 longest_certificate = 2 ^ 26
 
--- in the job's realisation and modes the controller becomes these words, or is refused so
-abbrev pub BecomesIn : ControllerView → Design → Result FixedPoint QuantRefusal → Type 0
-BecomesIn c design outcome =
-    BecomesWords c design.realisation design.rounding design.overflow outcome
-
 -- The bytes are the text of a controller, which in the job's realisation and modes becomes these
 -- words, or is refused so.
 pub record IsAccepted (design : Design) (bytes : List ℕ)
@@ -83,7 +80,7 @@ pub record IsAccepted (design : Design) (bytes : List ℕ)
   pub short : length bytes ≤ longest_file
   pub controller : ControllerView
   pub text : IsTextOf bytes controller
-  pub becomes : BecomesIn controller design outcome
+  pub becomes : BecomesWords controller design outcome
 
 -- the task decides a property of roots
 abbrev pub Decides : Task → Type 0
@@ -164,15 +161,6 @@ AsksOver job bytes samples words =
     ⊎ ((conflicts : ℕ) × IsSeeking job bytes conflicts words × (samples ≡ unbounded_samples)))
 
 -- ---- checks of certificates
--- the task checks a certificate
-abbrev pub Checks : Task → Type 0
-Checks task = (name : List ℕ) × (task ≡ checks name)
-
--- the task is one for the controller in the words of its own design
-abbrev pub IsForWords : Task → Type 0
-IsForWords (checks name) = ⊥
-IsForWords other = Unit {0}
-
 -- The bytes are the text of a controller.
 pub record IsController (bytes : List ℕ) (c : ControllerView) : Type 0 where
   pub short : length bytes ≤ longest_file
@@ -182,12 +170,10 @@ pub record IsController (bytes : List ℕ) (c : ControllerView) : Type 0 where
 abbrev pub CameOf : Option (List ℕ) → (List ℕ → Type 0) → Type 0
 CameOf told holds = (bytes : List ℕ) × IfSome told (λ file. bytes ≡ file) × holds bytes
 
--- The job checks a certificate against the controller whose text the bytes are, and this holds of
--- some bytes: those of the certificate's file, where these are told.
-pub record IsCheckOf (old : FilesSeen) (job : Asked) (bytes : List ℕ)
+-- The bytes are the text of a controller, and this holds of it and of some bytes: those of the file
+-- of this name, where these are told.
+pub record IsCheckOf (old : FilesSeen) (name : List ℕ) (bytes : List ℕ)
     (P : ControllerView → List ℕ → Type 0) : Type 0 where
-  pub name : List ℕ
-  pub task : job.task ≡ checks name
   pub controller : ControllerView
   pub accepted : IsController bytes controller
   pub certificate : CameOf (old.held name) (P controller)
@@ -275,126 +261,139 @@ pub record Row (told : Option (List ℕ)) (belongs : Type 0) (cause : List ℕ
   pub comes_from : CameOf told cause
   pub shows : says
 
--- The row of each answer to a job on a file with these bytes, where they are told; the files were
--- `old` and are `new`. Want of memory is no fault of a file.
-abbrev pub IsRow : Option (List ℕ) → FilesSeen → FilesSeen → Asked → Answer → Type 0
-IsRow told old new job (answer.Falls poly offer fall) =
+-- The row of what keeps the file of this name from being a controller's: the files were `old` and
+-- are `new`. Want of memory is no fault of a file.
+abbrev pub IsUnread : Option (List ℕ) → FilesSeen → FilesSeen → List ℕ → Stop → Type 0
+IsUnread told old new name (stop.FileRefused text.NoMemory) = ⊥
+IsUnread told old new name (stop.FileRefused r) =
+    Row told (Unit {0}) (λ bytes. (length bytes ≤ longest_file) × IsFaultOf bytes r) (Unit {0})
+IsUnread told old new name stop.FileTooLong =
+    Row told (Unit {0}) (λ bytes. longest_file < length bytes)
+    (Rose (old.came + longest_file) new.came)
+IsUnread told old new name (stop.ReadFault file.Controller) =
+    Row told (Unit {0}) (λ bytes. Unit {0}) (Rose old.faults new.faults
+    × (new.blamed ≡ Some name))
+IsUnread told old new name stop.NoMemory = Unit {0}
+IsUnread told old new name other = ⊥
+
+-- The row of each answer to a job on a file with these bytes, where they are told.
+abbrev pub IsRow : Option (List ℕ) → FilesSeen → FilesSeen → Asked → Outcome → Type 0
+IsRow told old new job (Ok (answer.Falls poly offer fall)) =
     Row told (Decides job.task) (λ bytes. IsTested job bytes (Ok (tested.Poly poly)))
     (ShowsFall poly offer fall)
-IsRow told old new job (answer.KeptAway poly offer fall value) =
+IsRow told old new job (Ok (answer.KeptAway poly offer fall value)) =
     Row told (Decides job.task) (λ bytes. IsTested job bytes (Ok (tested.Poly poly)))
     (ShowsKeptAway poly offer fall value)
-IsRow told old new job answer.NoZeros =
+IsRow told old new job (Ok answer.NoZeros) =
     Row told (job.task ≡ decides property.MinimumPhase)
     (λ bytes. IsTested job bytes (Ok tested.NoZeros)) (Unit {0})
-IsRow told old new job (answer.NoForm poly kept verdict) =
+IsRow told old new job (Ok (answer.NoForm poly kept verdict)) =
     Row told (Decides job.task) (λ bytes. IsTested job bytes (Ok (tested.Poly poly)))
     (ShowsNoForm poly kept verdict)
-IsRow told old new job (answer.Wide index) =
+IsRow told old new job (Ok (answer.Wide index)) =
     Row told (Decides job.task) (λ bytes. IsTested job bytes (Err (record { index = index })))
     (Unit {0})
-IsRow told old new job (answer.OnTime report) =
+IsRow told old new job (Ok (answer.OnTime report)) =
     Row told (job.task ≡ checks_time) (λ bytes. IsTimed job bytes report) (IsOnTime report)
-IsRow told old new job (answer.Late report) =
+IsRow told old new job (Ok (answer.Late report)) =
     Row told (job.task ≡ checks_time) (λ bytes. IsTimed job bytes report) (IsOnTime report → ⊥)
-IsRow told old new job (answer.Never log) =
+IsRow told old new job (Ok (answer.Never log)) =
     Row told (Searches job.task)
     (λ bytes. (property : RunProperty) × (samples : ℕ) × (conflicts : ℕ) × (words : FixedPoint)
     × IsSearch job bytes property samples conflicts words
     × NeverHappens property samples conflicts words log)
     (Unit {0})
-IsRow told old new job (answer.Always candidate logs) =
+IsRow told old new job (Ok (answer.Always candidate logs)) =
     Row told (Seeks job.task)
     (λ bytes. (conflicts : ℕ) × (words : FixedPoint) × IsSeeking job bytes conflicts words
     × KeepsTo words conflicts candidate logs)
     (Unit {0})
-IsRow told old new job (answer.NoInvariant kept) =
+IsRow told old new job (Ok (answer.NoInvariant kept)) =
     Row told (Seeks job.task)
     (λ bytes. (conflicts : ℕ) × (words : FixedPoint) × IsSeeking job bytes conflicts words
     × NoneIsGood words conflicts kept)
     (Unit {0})
-IsRow told old new job (answer.Overflow trace) =
+IsRow told old new job (Ok (answer.Overflow trace)) =
     Row told (SearchesFor job.task run.Overflow)
     (λ bytes. (samples : ℕ) × (conflicts : ℕ) × (words : FixedPoint)
     × IsSearch job bytes run.Overflow samples conflicts words
     × IsWithin words samples × IsTrace words samples trace)
     (Unit {0})
-IsRow told old new job (answer.Cycles cycle) =
+IsRow told old new job (Ok (answer.Cycles cycle)) =
     Row told (SearchesFor job.task run.LimitCycle)
     (λ bytes. (samples : ℕ) × (conflicts : ℕ) × (words : FixedPoint)
     × IsSearch job bytes run.LimitCycle samples conflicts words
     × IsWithin words samples × IsCycle words samples cycle)
     (Unit {0})
-IsRow told old new job (answer.Spent log) =
+IsRow told old new job (Ok (answer.Spent log)) =
     Row told (Searches job.task)
     (λ bytes. (property : RunProperty) × (samples : ℕ) × (conflicts : ℕ) × (words : FixedPoint)
     × IsSearch job bytes property samples conflicts words
     × GaveUp property samples conflicts words log)
     (Unit {0})
-IsRow told old new job (answer.FormulaText formula) =
+IsRow told old new job (Ok (answer.FormulaText formula)) =
     Row told (Writes job.task)
     (λ bytes. (property : RunProperty) × (samples : ℕ) × (words : FixedPoint)
     × IsWriting job bytes property samples words
     × IsFormulaOf property samples words formula)
     (Unit {0})
-IsRow told old new job (answer.JobSize size) =
-    Row told (Searches job.task ⊎ (Writes job.task ⊎ (Seeks job.task ⊎ Checks job.task)))
-    (λ bytes. ((samples : ℕ) × (words : FixedPoint) × AsksOver job bytes samples words
-    × IsTooLarge samples words size)
-    ⊎ IsCheckOf old job bytes
-    (λ controller. Spells (λ c. IsChecked controller c (Err (refusal.JobSize size)))))
-    (Unit {0})
-IsRow told old new job (answer.Simulated found) =
+IsRow told old new job (Ok (answer.Simulated found)) =
     Row told ((inputs : List ℤ) × Simulates job.task inputs)
     (λ bytes. (inputs : List ℤ) × (words : FixedPoint) × IsRun job bytes inputs words
     × IsRunOver words inputs found)
     (Unit {0})
-IsRow told old new job (answer.InputRange index value) =
+IsRow told old new job (Err (stop.JobSize size)) =
+    Row told (Searches job.task ⊎ (Writes job.task ⊎ Seeks job.task))
+    (λ bytes. (samples : ℕ) × (words : FixedPoint) × AsksOver job bytes samples words
+    × IsTooLarge samples words size)
+    (Unit {0})
+IsRow told old new job (Err (stop.InputRange index value)) =
     Row told ((inputs : List ℤ) × Simulates job.task inputs)
     (λ bytes. (inputs : List ℤ) × (words : FixedPoint) × IsRun job bytes inputs words
     × IsFirstOutside words.format inputs index value)
     (Unit {0})
-IsRow told old new job (answer.QuantRefused r) =
+IsRow told old new job (Err (stop.QuantRefused r)) =
+    Row told (Unit {0}) (λ bytes. IsAccepted job.design bytes (Err r)) (Unit {0})
+IsRow told old new job (Err why) = IsUnread told old new job.file why
+IsRow told old new job (Ok other) = ⊥
+
+-- The row of each answer to the check of the certificate in the file of this name against the
+-- controller in a file with these bytes, where they are told.
+abbrev pub IsCheckRow : Option (List ℕ) → FilesSeen → FilesSeen → List ℕ → List ℕ → Outcome → Type 0
+IsCheckRow told old new controller name (Ok (answer.Checked certified)) =
     Row told (Unit {0})
-    (λ bytes. (IsForWords job.task × IsAccepted job.design bytes (Err r))
-    ⊎ IsCheckOf old job bytes
-    (λ controller. Spells (λ c. IsChecked controller c (Err (refusal.Quant r)))))
-    (Unit {0})
-IsRow told old new job (answer.FileRefused text.NoMemory) = ⊥
-IsRow told old new job (answer.FileRefused r) =
-    Row told (Unit {0}) (λ bytes. (length bytes ≤ longest_file) × IsFaultOf bytes r) (Unit {0})
-IsRow told old new job answer.FileTooLong =
-    Row told (Unit {0}) (λ bytes. longest_file < length bytes)
-    (Rose (old.came + longest_file) new.came)
-IsRow told old new job (answer.ReadFault file.Controller) =
-    Row told (Unit {0}) (λ bytes. Unit {0}) (Rose old.faults new.faults
-    × (new.blamed ≡ Some job.file))
-IsRow told old new job (answer.ReadFault file.Certificate) =
-    Row told (Checks job.task) (λ bytes. IsCheckOf old job bytes (λ controller written. Unit {0}))
-    (Rose old.faults new.faults
-    × ((name : List ℕ) × (job.task ≡ checks name) × (new.blamed ≡ Some name)))
-IsRow told old new job (answer.Checked certified) =
-    Row told (Checks job.task)
-    (λ bytes. HasShown bytes certified × IsCheckOf old job bytes (Passes certified)) (Unit {0})
-IsRow told old new job (answer.CertificateRefused line why) =
-    Row told (Checks job.task) (λ bytes. IsCheckOf old job bytes (IsFaulty line why))
+    (λ bytes. HasShown bytes certified × IsCheckOf old name bytes (Passes certified)) (Unit {0})
+IsCheckRow told old new controller name (Err (stop.CertificateRefused line why)) =
+    Row told (Unit {0}) (λ bytes. IsCheckOf old name bytes (IsFaulty line why))
     (ShowsFault old new why)
-IsRow told old new job (answer.Generated found) = ⊥
-IsRow told old new job answer.Usage = ⊥
-IsRow told old new job answer.NoMemory = Unit {0}
+IsCheckRow told old new controller name (Err (stop.QuantRefused r)) =
+    Row told (Unit {0}) (λ bytes. IsCheckOf old name bytes
+    (λ c. Spells (λ certificate. IsChecked c certificate (Err (refusal.Quant r))))) (Unit {0})
+IsCheckRow told old new controller name (Err (stop.JobSize size)) =
+    Row told (Unit {0}) (λ bytes. IsCheckOf old name bytes
+    (λ c. Spells (λ certificate. IsChecked c certificate (Err (refusal.JobSize size)))))
+    (Unit {0})
+IsCheckRow told old new controller name (Err (stop.ReadFault file.Certificate)) =
+    Row told (Unit {0}) (λ bytes. IsCheckOf old name bytes (λ c written. Unit {0}))
+    (Rose old.faults new.faults × (new.blamed ≡ Some name))
+IsCheckRow told old new controller name (Err why) = IsUnread told old new controller why
+IsCheckRow told old new controller name (Ok other) = ⊥
 
 -- What is found of generated controllers: each is one of the seed's, and each finding is so.
-abbrev pub IsOfGeneration : ℕ → ℕ → Answer → Type 0
-IsOfGeneration seed count (answer.Generated found) = IsGeneratedFrom seed count found
-IsOfGeneration seed count answer.NoMemory = Unit {0}
+abbrev pub IsOfGeneration : ℕ → ℕ → Outcome → Type 0
+IsOfGeneration seed count (Ok (answer.Generated found)) = IsGeneratedFrom seed count found
+IsOfGeneration seed count (Err stop.NoMemory) = Unit {0}
 IsOfGeneration seed count other = ⊥
 
--- Arguments that ask for nothing are answered by Usage, and a job by an answer with its row.
--- Generated controllers are answered by their tally, with the files untouched. Only NoMemory has no
--- stated cause.
-abbrev pub IsExplained : FilesSeen → FilesSeen → Option Request → Answer → Type 0
-IsExplained old new None found = (found ≡ answer.NoMemory) ⊎ ((found ≡ answer.Usage) × (new ≡ old))
+-- Arguments that ask for nothing come to Usage, and a job or a check to what has its row. Generated
+-- controllers are answered by their tally, with the files untouched. Only NoMemory has no stated
+-- cause.
+abbrev pub IsExplained : FilesSeen → FilesSeen → Option Request → Outcome → Type 0
+IsExplained old new None found =
+    (found ≡ Err stop.NoMemory) ⊎ ((found ≡ Err stop.Usage) × (new ≡ old))
 IsExplained old new (Some (on_file job)) found = IsRow (old.held job.file) old new job found
+IsExplained old new (Some (checks controller name)) found =
+    IsCheckRow (old.held controller) old new controller name found
 IsExplained old new (Some (generates seed count)) found =
     IsOfGeneration seed count found × (new ≡ old)
 

@@ -5,6 +5,7 @@ pub mod Blocks
 pub mod Causes
 pub mod Checking
 pub mod Completeness
+pub mod FileBytes
 pub mod Headline
 pub mod OneAnswer
 pub mod Proposers

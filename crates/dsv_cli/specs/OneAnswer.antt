@@ -1,13 +1,14 @@
 -- A file whose bytes are told has one answer, but for want of memory, read faults and what is left
 -- to proposers.
-use Rattle.std.specs.Prelude.{◌≡◌, ℕ, List, Some}
+use Rattle.std.specs.Prelude.{◌≡◌, ℕ, List, Some, Ok, Err}
 use Rattle.dsv_algebra.specs.Vectors.{matrix_of}
 use Rattle.dsv_base.specs.Seen.{FilesSeen}
 use Rattle.dsv_forms.specs.declared.offers.Form.{Form}
 use Rattle.dsv_command.specs.Jobs.{Asked}
-use Rattle.dsv_report.specs.declared.answers.Answer.{Answer}
 use Rattle.dsv_report.specs.declared.answers.Answer.TheVariants as answer
-use Rattle.dsv_cli.specs.Headline.{IsRow, IsForWords}
+use Rattle.dsv_report.specs.declared.stop.Stop.TheVariants as stop
+use Rattle.dsv_report.specs.Stops.{Outcome}
+use Rattle.dsv_cli.specs.Headline.{IsRow}
 use Rattle.dsv_cli.specs.Proposers.{NeedsNone}
 
 -- The forms have the same places and the same entries.
@@ -17,28 +18,28 @@ pub record SameForm (f g : Form) : Type 0 where
 
 -- The answers are equal, where rows of a form that is lost in a step count as the matrix that they
 -- spell, and logs, traces and cycles, of which there may be many, aren't compared.
-abbrev pub SameAnswer : Answer → Answer → Type 0
-SameAnswer (answer.Falls p o f) (answer.Falls q u g) = (p ≡ q) × (o ≡ u) × SameForm f g
-SameAnswer (answer.KeptAway p o f v) (answer.KeptAway q u g w) = (p ≡ q) × (o ≡ u) × SameForm f g
-    × (v ≡ w)
-SameAnswer (answer.Never log) (answer.Never other) = Unit {0}
-SameAnswer (answer.Overflow trace) (answer.Overflow other) = Unit {0}
-SameAnswer (answer.Cycles cycle) (answer.Cycles other) = Unit {0}
+abbrev pub SameAnswer : Outcome → Outcome → Type 0
+SameAnswer (Ok (answer.Falls p o f)) (Ok (answer.Falls q u g)) = (p ≡ q) × (o ≡ u) × SameForm f g
+SameAnswer (Ok (answer.KeptAway p o f v)) (Ok (answer.KeptAway q u g w)) =
+    (p ≡ q) × (o ≡ u) × SameForm f g × (v ≡ w)
+SameAnswer (Ok (answer.Never log)) (Ok (answer.Never other)) = Unit {0}
+SameAnswer (Ok (answer.Overflow trace)) (Ok (answer.Overflow other)) = Unit {0}
+SameAnswer (Ok (answer.Cycles cycle)) (Ok (answer.Cycles other)) = Unit {0}
 SameAnswer a b = a ≡ b
 
 -- The answer is settled by the bytes: it is neither want of memory nor a fault of a read, proposers
 -- had no part in it, and no search gave up.
-abbrev pub IsSettled : Answer → Type 0
-IsSettled (answer.ReadFault file) = ⊥
-IsSettled (answer.Spent log) = ⊥
-IsSettled (answer.Always candidate logs) = ⊥
-IsSettled (answer.NoInvariant kept) = ⊥
+abbrev pub IsSettled : Outcome → Type 0
+IsSettled (Err (stop.ReadFault file)) = ⊥
+IsSettled (Ok (answer.Spent log)) = ⊥
+IsSettled (Ok (answer.Always candidate logs)) = ⊥
+IsSettled (Ok (answer.NoInvariant kept)) = ⊥
 IsSettled found = NeedsNone found
 
 -- Whatever else was read before, two settled answers to one job on a file of these bytes are the
--- same, but for a job that reads a certificate too.
+-- same.
 abbrev pub HaveOneAnswer : Type 0
 HaveOneAnswer =
-    (bytes : List ℕ) (old new then_old then_new : FilesSeen) (job : Asked) (a b : Answer)
-    → IsForWords job.task → IsSettled a → IsSettled b
+    (bytes : List ℕ) (old new then_old then_new : FilesSeen) (job : Asked) (a b : Outcome)
+    → IsSettled a → IsSettled b
     → IsRow (Some bytes) old new job a → IsRow (Some bytes) then_old then_new job b → SameAnswer a b

@@ -1,6 +1,6 @@
 -- What becomes of the lists of proposers, whatever they offer.
 use Rattle.std.specs.Prelude.{◌≡◌, Bool, true, false, List, [], ◌∷◌, map}
-use Rattle.std.specs.Prelude.{Option, Some, None, ℤ}
+use Rattle.std.specs.Prelude.{Option, Some, None, Ok, Err, ℤ}
 use Rattle.dsv_forms.specs.declared.offers.FormOffer.{FormOffer}
 use Rattle.dsv_forms.specs.declared.offers.FormOffer.TheVariants as offered
 use Rattle.dsv_closed_forms.specs.ClosedForm.{closed_form_of, are_within, second_limit}
@@ -14,29 +14,30 @@ use Rattle.dsv_template.specs.declared.candidate.Candidate.{Candidate}
 use Rattle.dsv_template.specs.declared.kept.KeptSet.{KeptSet}
 use Rattle.dsv_template.specs.declared.shape.Shape.{Shape}
 use Rattle.dsv_cli.specs.Sets.{AreOfJob, told_for}
-use Rattle.dsv_report.specs.declared.answers.Answer.{Answer}
 use Rattle.dsv_report.specs.declared.answers.Answer.TheVariants as answer
+use Rattle.dsv_report.specs.declared.stop.Stop.TheVariants as stop
+use Rattle.dsv_report.specs.Stops.{Outcome}
 
 abbrev pub HasClosedForm : List ℤ → Type 0
 HasClosedForm poly = (offer : FormOffer) × (closed_form_of poly ≡ Some offer)
 
 -- the answer needs no proposer of forms
-abbrev pub NeedsNone : Answer → Type 0
-NeedsNone (answer.Falls poly offer fall) = HasClosedForm poly
-NeedsNone (answer.KeptAway poly offer fall value) = HasClosedForm poly
-NeedsNone (answer.NoForm poly kept verdict) = ⊥
-NeedsNone answer.NoMemory = ⊥
+abbrev pub NeedsNone : Outcome → Type 0
+NeedsNone (Ok (answer.Falls poly offer fall)) = HasClosedForm poly
+NeedsNone (Ok (answer.KeptAway poly offer fall value)) = HasClosedForm poly
+NeedsNone (Ok (answer.NoForm poly kept verdict)) = ⊥
+NeedsNone (Err stop.NoMemory) = ⊥
 NeedsNone other = Unit {0}
 
 -- where the answer is a form for a polynomial, this is true of both
-abbrev pub IfOffered : Answer → (List ℤ → FormOffer → Type 0) → Type 0
-IfOffered (answer.Falls poly offer fall) P = P poly (offered.Falls offer)
-IfOffered (answer.KeptAway poly offer fall value) P = P poly (offered.KeptAway offer)
+abbrev pub IfOffered : Outcome → (List ℤ → FormOffer → Type 0) → Type 0
+IfOffered (Ok (answer.Falls poly offer fall)) P = P poly (offered.Falls offer)
+IfOffered (Ok (answer.KeptAway poly offer fall value)) P = P poly (offered.KeptAway offer)
 IfOffered other P = Unit {0}
 
 -- where the answer is that no form was found, this is true of the polynomial and the kept offers
-abbrev pub IfNoForm : Answer → (List ℤ → List KeptForm → Type 0) → Type 0
-IfNoForm (answer.NoForm poly kept verdict) P = P poly kept
+abbrev pub IfNoForm : Outcome → (List ℤ → List KeptForm → Type 0) → Type 0
+IfNoForm (Ok (answer.NoForm poly kept verdict)) P = P poly kept
 IfNoForm other P = Unit {0}
 
 -- the offers that were kept
@@ -52,7 +53,7 @@ told_of to_come poly proposers = map (λ b. to_come b poly) proposers
 -- `to_come` are the address and the meanings of each.
 pub record IsAsked {B P : Type 0} (place : B → P) (last : B → Option FormOffer)
     (sure : B → List ℤ → Type 0) (to_come : B → List ℤ → Option (List FormOffer))
-    (before after : List B) (found : Answer) : Type 0 where
+    (before after : List B) (found : Outcome) : Type 0 where
   -- the last of them are left, and only the first of these was asked
   pub suffix : IsSuffix place before after
   -- an answer that needs none leaves the list as it was
@@ -82,20 +83,20 @@ is_low (c0 ∷ c1 ∷ c2 ∷ c3 ∷ cs) = false
 
 -- ---- proposers of sets
 -- the answer needs no proposer of sets
-abbrev pub NeedsNoSet : Answer → Type 0
-NeedsNoSet (answer.Always candidate logs) = ⊥
-NeedsNoSet (answer.NoInvariant kept) = ⊥
-NeedsNoSet answer.NoMemory = ⊥
+abbrev pub NeedsNoSet : Outcome → Type 0
+NeedsNoSet (Ok (answer.Always candidate logs)) = ⊥
+NeedsNoSet (Ok (answer.NoInvariant kept)) = ⊥
+NeedsNoSet (Err stop.NoMemory) = ⊥
 NeedsNoSet other = Unit {0}
 
 -- where the answer is a set that is never left, this is true of it
-abbrev pub IfAlways : Answer → (Candidate → Type 0) → Type 0
-IfAlways (answer.Always candidate logs) P = P candidate
+abbrev pub IfAlways : Outcome → (Candidate → Type 0) → Type 0
+IfAlways (Ok (answer.Always candidate logs)) P = P candidate
 IfAlways other P = Unit {0}
 
 -- where the answer is that no set was found, this is true of the kept offers
-abbrev pub IfNoInvariant : Answer → (List KeptSet → Type 0) → Type 0
-IfNoInvariant (answer.NoInvariant kept) P = P kept
+abbrev pub IfNoInvariant : Outcome → (List KeptSet → Type 0) → Type 0
+IfNoInvariant (Ok (answer.NoInvariant kept)) P = P kept
 IfNoInvariant other P = Unit {0}
 
 -- The proposers of sets before and after a run with this answer: `place`, `last` and `to_come` are
@@ -103,7 +104,7 @@ IfNoInvariant other P = Unit {0}
 -- becomes.
 pub record AreSetsAsked {B P : Type 0} (place : B → P) (last : B → Option Candidate)
     (to_come : B → Shape → Option (List Candidate)) (becomes : FixedPoint → Type 0)
-    (before after : List B) (found : Answer) : Type 0 where
+    (before after : List B) (found : Outcome) : Type 0 where
   -- the last of them are left, and only the first of these was asked
   pub suffix : IsSuffix place before after
   -- an answer that needs none leaves the list as it was

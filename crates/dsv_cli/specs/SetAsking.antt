@@ -8,33 +8,33 @@ use Rattle.dsv_template.specs.declared.verdict.Why.{Why}
 use Rattle.dsv_template.specs.declared.verdict.Why.TheVariants as why
 use Rattle.dsv_invariant.specs.Causes.{IsCause}
 use Rattle.dsv_cli.specs.Sets.{IsNotGood}
-use Rattle.dsv_cli.specs.declared.set_asking.SetAsked.{SetAsked}
-use Rattle.dsv_cli.specs.declared.set_asking.SetAsked.TheVariants as asked
-use Rattle.dsv_cli.specs.declared.set_deciding.SetAnswer.{SetAnswer}
-use Rattle.dsv_cli.specs.declared.set_deciding.SetAnswer.TheVariants as answer
+use Rattle.dsv_cli.specs.declared.sets.SetTurn.{SetTurn}
+use Rattle.dsv_cli.specs.declared.sets.SetTurn.TheVariants as turn
+use Rattle.dsv_cli.specs.declared.sets.SetAnswer.{SetAnswer}
+use Rattle.dsv_cli.specs.declared.sets.SetAnswer.TheVariants as answer
 
 -- ---- asking once
 -- what came of it where this was found of the offer
-abbrev pub asked_of : Candidate → Why → SetAsked
-asked_of candidate (why.Good logs) = asked.Accepted candidate logs
-asked_of candidate other = asked.Refused (record { candidate = candidate; why = other })
+abbrev pub turn_of : Candidate → Why → SetTurn
+turn_of candidate (why.Good logs) = turn.Accepted candidate logs
+turn_of candidate other = turn.Refused (record { candidate = candidate; why = other })
 
-abbrev pub offer_of : SetAsked → Option Candidate
-offer_of asked.Nothing = None
-offer_of (asked.Accepted candidate logs) = Some candidate
-offer_of (asked.Refused kept) = Some kept.candidate
+abbrev pub offer_of : SetTurn → Option Candidate
+offer_of turn.Nothing = None
+offer_of (turn.Accepted candidate logs) = Some candidate
+offer_of (turn.Refused kept) = Some kept.candidate
 
 -- what was found of the offer
-abbrev pub found_of : SetAsked → Option Why
-found_of asked.Nothing = None
-found_of (asked.Accepted candidate logs) = Some (why.Good logs)
-found_of (asked.Refused kept) = Some kept.why
+abbrev pub found_of : SetTurn → Option Why
+found_of turn.Nothing = None
+found_of (turn.Accepted candidate logs) = Some (why.Good logs)
+found_of (turn.Refused kept) = Some kept.why
 
-abbrev pub IsJudgedSet : FixedPoint → ℕ → SetAsked → Type 0
-IsJudgedSet words conflicts asked.Nothing = Unit {0}
-IsJudgedSet words conflicts (asked.Accepted candidate logs) =
+abbrev pub IsJudgedSet : FixedPoint → ℕ → SetTurn → Type 0
+IsJudgedSet words conflicts turn.Nothing = Unit {0}
+IsJudgedSet words conflicts (turn.Accepted candidate logs) =
     IsCause words conflicts candidate (why.Good logs)
-IsJudgedSet words conflicts (asked.Refused kept) = IsNotGood words conflicts kept
+IsJudgedSet words conflicts (turn.Refused kept) = IsNotGood words conflicts kept
 
 -- ---- asking all
 abbrev pub IfKept : SetAnswer → (Candidate → ThreeLogs → Type 0) → Type 0

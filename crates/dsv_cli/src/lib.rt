@@ -2,27 +2,27 @@
 //! text.
 #![tactic(auto)]
 
-mod asking;
-mod built_in;
-mod checking;
-mod deciding;
-mod generating;
+mod check;
+mod command;
+mod controller_file;
+mod file_bytes;
+mod forms;
+mod job;
 mod law;
-mod outcome;
-mod outside;
+mod proposers;
 mod questions;
-mod running;
-mod set_asking;
-mod set_deciding;
-mod simulating;
+mod roots;
+mod sets;
+mod simulation;
+mod system_files;
 mod timing;
 
-pub use built_in::run_with_built_in;
-pub use deciding::{FormAnswer, decide};
+pub use command::{Done, run};
 pub use dsv_lyapunov::{FormProposer, SumProposer};
-pub use dsv_report::{Answer, CertificateFault, WhichFile};
+pub use dsv_report::{Answer, CertificateFault, Stop, WhichFile};
 pub use dsv_template::{BoxProposer, InvariantProposer};
+pub use forms::{FormAnswer, decide};
 pub use law::{jobs_are_decided, told_files_have_one_answer, written_certificates_are_accepted};
-pub use outside::{OsFiles, OsOut};
-pub use running::{Done, run};
-pub use set_deciding::{SetAnswer, unbounded};
+pub use proposers::{Proposers, run_with_built_in};
+pub use sets::{SetAnswer, seek_set};
+pub use system_files::{OsFiles, OsOut};

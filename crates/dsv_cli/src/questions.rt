@@ -2,64 +2,100 @@
 ghost use Rattle.std.specs.Prelude.{◌≡◌, ◌≤◌};
 ghost use Rattle.dsv_command.specs.Limits.{most_samples};
 ghost use Rattle.dsv_names.specs.declared.property.RunProperty.TheVariants as run;
-ghost use Rattle.dsv_cli.specs.Answering.{answer_of, formula_answer_of};
+ghost use Rattle.dsv_cli.specs.Answering.{stop_of_question, formula_outcome, overflow_outcome};
+ghost use Rattle.dsv_cli.specs.Answering.{cycle_outcome};
 ghost use Rattle.dsv_cli.specs.Causes.{IsOfFormula, IsOfSearch, IsPlain};
 
-use dsv_bounded::{BoundedAnswer, BoundedRefusal, limit_cycle, overflow, question_formula};
+use dsv_bounded::{BoundedRefusal, limit_cycle, overflow, question_formula};
 use dsv_cnf::Formula;
 use dsv_command::{Budget, RunQuestion};
+use dsv_hints::Searched;
+use dsv_meaning::{Cycle, Trace};
 use dsv_names::RunProperty;
 use dsv_quantiser::Quantised;
-use dsv_report::Answer;
+use dsv_report::{Answer, Stop};
 use std::alloc::Global;
 
-/// The answer that a formula is, or why there is none.
-fn formula_found(found: Result<Formula, BoundedRefusal>) -> Answer
-    ensures { result ≡ formula_answer_of found }
+/// Why there is no answer where a question is refused.
+pub(crate) fn question_stop(refusal: BoundedRefusal) -> Stop
+    ensures { result ≡ stop_of_question refusal }
 {
-    match found {
-        Ok(formula) => Answer::FormulaText(formula),
-        Err(BoundedRefusal::JobSize { size }) => Answer::JobSize { size },
-        Err(BoundedRefusal::NoMemory) => Answer::NoMemory,
+    match refusal {
+        BoundedRefusal::JobSize { size } => Stop::JobSize { size },
+        BoundedRefusal::NoMemory => Stop::NoMemory,
     }
 }
 
-/// The command's answer for a bounded verdict, or why there is none.
-fn verdict_found(found: Result<BoundedAnswer, BoundedRefusal>) -> Answer
-    ensures { result ≡ answer_of found }
+/// The answer that a formula is, or why there is none.
+fn formula_found(found: Result<Formula, BoundedRefusal>) -> Result<Answer, Stop>
+    ensures { result ≡ formula_outcome found }
 {
     match found {
-        Ok(BoundedAnswer::Never(log)) => Answer::Never { log },
-        Ok(BoundedAnswer::Overflow(trace)) => Answer::Overflow(trace),
-        Ok(BoundedAnswer::Cycles(cycle)) => Answer::Cycles(cycle),
-        Ok(BoundedAnswer::Spent(log)) => Answer::Spent { log },
-        Err(BoundedRefusal::JobSize { size }) => Answer::JobSize { size },
-        Err(BoundedRefusal::NoMemory) => Answer::NoMemory,
+        Ok(formula) => Ok(Answer::FormulaText(formula)),
+        Err(refusal) => Err(question_stop(refusal)),
+    }
+}
+
+/// The answer that a search for an overflow gives, or why there is none.
+fn overflow_found(found: Result<Searched<Trace>, BoundedRefusal>) -> Result<Answer, Stop>
+    ensures { result ≡ overflow_outcome found }
+{
+    match found {
+        Ok(Searched::Never(log)) => Ok(Answer::Never { log }),
+        Ok(Searched::Happens(trace)) => Ok(Answer::Overflow(trace)),
+        Ok(Searched::Spent(log)) => Ok(Answer::Spent { log }),
+        Err(refusal) => Err(question_stop(refusal)),
+    }
+}
+
+/// The answer that a search for a limit cycle gives, or why there is none.
+fn cycle_found(found: Result<Searched<Cycle>, BoundedRefusal>) -> Result<Answer, Stop>
+    ensures { result ≡ cycle_outcome found }
+{
+    match found {
+        Ok(Searched::Never(log)) => Ok(Answer::Never { log }),
+        Ok(Searched::Happens(cycle)) => Ok(Answer::Cycles(cycle)),
+        Ok(Searched::Spent(log)) => Ok(Answer::Spent { log }),
+        Err(refusal) => Err(question_stop(refusal)),
     }
 }
 
 /// Whether an overflow happens.
-fn overflow_verdict(alloc: Global, words: &Quantised, samples: u32, budget: &Budget) -> Answer
+fn overflow_answer(
+    alloc: Global,
+    words: &Quantised,
+    samples: u32,
+    budget: &Budget,
+) -> Result<Answer, Stop>
     requires some { 1 ≤ samples }
     requires few { samples ≤ most_samples }
     ensures search { IsOfSearch run.Overflow samples budget.now.conflicts words.now result }
     ensures plain { IsPlain result }
 {
-    verdict_found(overflow(alloc, words, samples, budget.conflicts))
+    overflow_found(overflow(alloc, words, samples, budget.conflicts))
 }
 
 /// Whether a limit cycle happens.
-fn cycle_verdict(alloc: Global, words: &Quantised, samples: u32, budget: &Budget) -> Answer
+fn cycle_answer(
+    alloc: Global,
+    words: &Quantised,
+    samples: u32,
+    budget: &Budget,
+) -> Result<Answer, Stop>
     requires some { 1 ≤ samples }
     requires few { samples ≤ most_samples }
     ensures search { IsOfSearch run.LimitCycle samples budget.now.conflicts words.now result }
     ensures plain { IsPlain result }
 {
-    verdict_found(limit_cycle(alloc, words, samples, budget.conflicts))
+    cycle_found(limit_cycle(alloc, words, samples, budget.conflicts))
 }
 
 /// The formula of a question.
-pub fn formula_answer(alloc: Global, words: &Quantised, question: &RunQuestion) -> Answer
+pub(crate) fn formula_answer(
+    alloc: Global,
+    words: &Quantised,
+    question: &RunQuestion,
+) -> Result<Answer, Stop>
     ensures formula { IsOfFormula question.now.property question.now.samples words.now result }
     ensures plain { IsPlain result }
 {
@@ -67,18 +103,18 @@ pub fn formula_answer(alloc: Global, words: &Quantised, question: &RunQuestion) 
 }
 
 /// The answer to a question, by a search.
-pub fn search_answer(
+pub(crate) fn search_answer(
     alloc: Global,
     words: &Quantised,
     question: &RunQuestion,
     budget: &Budget,
-) -> Answer
+) -> Result<Answer, Stop>
     ensures search { IsOfSearch question.now.property question.now.samples budget.now.conflicts
         words.now result }
     ensures plain { IsPlain result }
 {
     match question.property {
-        RunProperty::Overflow => overflow_verdict(alloc, words, question.samples, budget),
-        RunProperty::LimitCycle => cycle_verdict(alloc, words, question.samples, budget),
+        RunProperty::Overflow => overflow_answer(alloc, words, question.samples, budget),
+        RunProperty::LimitCycle => cycle_answer(alloc, words, question.samples, budget),
     }
 }

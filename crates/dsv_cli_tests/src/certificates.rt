@@ -94,7 +94,7 @@ fn certificate_of(alloc: Global, row: &Row) -> Option<Output> {
 const CHECK: [&str; 3] = ["f", "--check", "c"];
 
 /// What the check of a certificate against a controller's file writes.
-fn checked(alloc: Global, file: &[u8], certificate: &[u8]) -> Option<Output> {
+fn output_of_check(alloc: Global, file: &[u8], certificate: &[u8]) -> Option<Output> {
     let mut files = files_of(alloc, "f", file)?;
     files.hold("c", certificate).ok()?;
     output_of(alloc, &mut files, &CHECK)
@@ -102,7 +102,7 @@ fn checked(alloc: Global, file: &[u8], certificate: &[u8]) -> Option<Output> {
 
 /// Whether the check ends with this status, and what it writes with these bytes.
 fn ends_with(alloc: Global, file: &[u8], certificate: &[u8], status: u8, end: &[u8]) -> bool {
-    match checked(alloc, file, certificate) {
+    match output_of_check(alloc, file, certificate) {
         Some(output) => output.status == status && output.sink.bytes().ends_with(end),
         None => false,
     }

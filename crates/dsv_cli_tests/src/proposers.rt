@@ -3,7 +3,7 @@ ghost use Rattle.std.specs.Prelude.{nat_eq, None};
 
 use crate::runs::{files_of, run_with};
 use dsv_base::MemSink;
-use dsv_cli::{FormProposer, InvariantProposer, SumProposer};
+use dsv_cli::{FormProposer, Proposers, SumProposer};
 use dsv_forms::{
     Falls, Form, FormOffer, FormRefusal, GREATEST_ORDER, KeptAway, Part, Poly, Squares,
 };
@@ -120,7 +120,7 @@ fn proposers_of(
     row: &Row,
     offer: FormOffer,
     heard: Rc<Cell<u32>>,
-) -> Option<Vec<Box<dyn FormProposer>>> {
+) -> Option<Proposers> {
     let stubborn = Stubborn {
         offer,
         refusal: row.refusal,
@@ -131,25 +131,27 @@ fn proposers_of(
     let mut forms: Vec<Box<dyn FormProposer>> = Vec::new(alloc);
     forms.push(Box::new(alloc, stubborn).ok()?).ok()?;
     forms.push(Box::new(alloc, SumProposer::new()).ok()?).ok()?;
-    Some(forms)
+    Some(Proposers {
+        sets: Vec::new(alloc),
+        forms,
+    })
 }
 
 /// Whether the run of a row with these proposers ends as it says.
-fn ends(alloc: Global, row: &Row, forms: &mut Vec<Box<dyn FormProposer>>) -> Option<bool> {
+fn ends(alloc: Global, row: &Row, proposers: &mut Proposers) -> Option<bool> {
     let mut files = files_of(alloc, "f", row.file)?;
     let mut sink = MemSink::new(alloc, 1000).ok()?;
-    let mut sets: Vec<Box<dyn InvariantProposer>> = Vec::new(alloc);
     let words = ["f", "--property", "STABILITY"];
-    let done = run_with(alloc, &words, &mut files, &mut sink, &mut sets, forms)?;
+    let done = run_with(alloc, &words, &mut files, &mut sink, proposers)?;
     Some(done.status == row.status && sink.bytes() == row.text)
 }
 
 /// Whether the run of a row ends as it says, and the proposer heard as much.
 fn is_as_told(alloc: Global, row: &Row, offer: FormOffer) -> Option<bool> {
     let heard = Rc::new(alloc, Cell::new(0)).ok()?;
-    let mut forms = proposers_of(alloc, row, offer, heard.clone().ok()?)?;
-    let ended = ends(alloc, row, &mut forms)?;
-    Some(ended && heard.get() == row.heard && forms.len() == row.left)
+    let mut proposers = proposers_of(alloc, row, offer, heard.clone().ok()?)?;
+    let ended = ends(alloc, row, &mut proposers)?;
+    Some(ended && heard.get() == row.heard && proposers.forms.len() == row.left)
 }
 
 const ZERO: Row = Row {

@@ -1,6 +1,8 @@
 // Runs of the command over files and a sink in memory.
 use dsv_base::{Files, MemFiles, MemSink};
-use dsv_cli::{Answer, BoxProposer, Done, FormProposer, InvariantProposer, SumProposer, run};
+use dsv_cli::{
+    Answer, BoxProposer, Done, FormProposer, InvariantProposer, Proposers, SumProposer, run,
+};
 use std::alloc::Global;
 
 /// These words as arguments.
@@ -25,25 +27,19 @@ pub(crate) fn run_with<F: Files>(
     words: &[&str],
     files: &mut F,
     sink: &mut MemSink,
-    sets: &mut Vec<Box<dyn InvariantProposer>>,
-    forms: &mut Vec<Box<dyn FormProposer>>,
+    proposers: &mut Proposers,
 ) -> Option<Done> {
     let arguments = arguments(alloc, words)?;
-    Some(run(alloc, &arguments, files, sink, sets, forms))
+    Some(run(alloc, &arguments, files, sink, proposers))
 }
 
-/// The proposer of boxes.
-fn box_proposers(alloc: Global) -> Option<Vec<Box<dyn InvariantProposer>>> {
+/// The proposers that are built in.
+fn built_in(alloc: Global) -> Option<Proposers> {
     let mut sets: Vec<Box<dyn InvariantProposer>> = Vec::new(alloc);
     sets.push(Box::new(alloc, BoxProposer::new()).ok()?).ok()?;
-    Some(sets)
-}
-
-/// The proposer of forms that is built in.
-fn form_proposers(alloc: Global) -> Option<Vec<Box<dyn FormProposer>>> {
     let mut forms: Vec<Box<dyn FormProposer>> = Vec::new(alloc);
     forms.push(Box::new(alloc, SumProposer::new()).ok()?).ok()?;
-    Some(forms)
+    Some(Proposers { sets, forms })
 }
 
 /// How a run ended.
@@ -61,12 +57,11 @@ pub(crate) fn ending_of<F: Files>(
     files: &mut F,
     sink: &mut MemSink,
 ) -> Option<Ending> {
-    let mut sets = box_proposers(alloc)?;
-    let mut forms = form_proposers(alloc)?;
-    let done = run_with(alloc, words, files, sink, &mut sets, &mut forms)?;
+    let mut proposers = built_in(alloc)?;
+    let done = run_with(alloc, words, files, sink, &mut proposers)?;
     Some(Ending {
         status: done.status,
-        falls: matches!(&done.answer, Answer::Falls { .. }),
+        falls: matches!(&done.outcome, Ok(Answer::Falls { .. })),
     })
 }
 

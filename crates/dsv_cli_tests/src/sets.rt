@@ -4,7 +4,7 @@ ghost use Rattle.dsv_cli_tests.specs.Hostile.{too_deep, no_state};
 
 use crate::runs::{files_of, run_with};
 use dsv_base::{MemSink, NoMemory};
-use dsv_cli::{Answer, FormProposer, InvariantProposer};
+use dsv_cli::{Answer, InvariantProposer, Proposers, Stop};
 use dsv_template::{
     BoxProposer, Candidate, CoefficientList, Inequality, InequalityList, Shape, Why,
 };
@@ -201,8 +201,8 @@ const ROWS: [Row; 8] = [
 
 /// How many candidates of a bad shape the answer tells of before the first other one, where that is
 /// unsafe.
-fn bad_shapes_of(answer: &Answer) -> Option<usize> {
-    let Answer::NoInvariant { kept, .. } = answer else {
+fn bad_shapes_of(outcome: &Result<Answer, Stop>) -> Option<usize> {
+    let Ok(Answer::NoInvariant { kept, .. }) = outcome else {
         return None;
     };
     for (place, set) in kept.as_slice().iter().enumerate() {
@@ -230,12 +230,8 @@ fn stubborn_of(
     Some(Box::new(alloc, proposer).ok()?)
 }
 
-/// The proposers of a row.
-fn proposers_of(
-    alloc: Global,
-    row: &Row,
-    heard: &Rc<Cell<u32>>,
-) -> Option<Vec<Box<dyn InvariantProposer>>> {
+/// The proposers of a row, which are of sets alone.
+fn proposers_of(alloc: Global, row: &Row, heard: &Rc<Cell<u32>>) -> Option<Proposers> {
     let mut sets: Vec<Box<dyn InvariantProposer>> = Vec::new(alloc);
     for turn in row.turns {
         sets.push(stubborn_of(alloc, *turn, heard.clone().ok()?)?)
@@ -244,29 +240,31 @@ fn proposers_of(
     if row.boxes {
         sets.push(Box::new(alloc, BoxProposer::new()).ok()?).ok()?;
     }
-    Some(sets)
+    Some(Proposers {
+        sets,
+        forms: Vec::new(alloc),
+    })
 }
 
 /// Whether the run of a row with these proposers ends as it says.
-fn ends(alloc: Global, row: &Row, sets: &mut Vec<Box<dyn InvariantProposer>>) -> Option<bool> {
+fn ends(alloc: Global, row: &Row, proposers: &mut Proposers) -> Option<bool> {
     let mut files = files_of(alloc, "f", row.file)?;
     let mut sink = MemSink::new(alloc, 1000).ok()?;
-    let mut forms: Vec<Box<dyn FormProposer>> = Vec::new(alloc);
     let words = ["f", "--property", "OVERFLOW", "--unbounded"];
-    let done = run_with(alloc, &words, &mut files, &mut sink, sets, &mut forms)?;
+    let done = run_with(alloc, &words, &mut files, &mut sink, proposers)?;
     Some(
         done.status == row.status
             && sink.bytes() == row.text
-            && bad_shapes_of(&done.answer) == row.bad_shapes,
+            && bad_shapes_of(&done.outcome) == row.bad_shapes,
     )
 }
 
 /// Whether the run of a row ends as it says, and the proposers heard as much.
 fn is_as_told(alloc: Global, row: &Row) -> Option<bool> {
     let heard = Rc::new(alloc, Cell::new(0)).ok()?;
-    let mut sets = proposers_of(alloc, row, &heard)?;
-    let ended = ends(alloc, row, &mut sets)?;
-    Some(ended && sets.len() == row.left && heard.get() == row.heard)
+    let mut proposers = proposers_of(alloc, row, &heard)?;
+    let ended = ends(alloc, row, &mut proposers)?;
+    Some(ended && proposers.sets.len() == row.left && heard.get() == row.heard)
 }
 
 #[test]

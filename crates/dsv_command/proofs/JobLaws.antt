@@ -16,11 +16,11 @@ use Rattle.dsv_names.specs.declared.property.RunProperty.TheVariants.{Overflow, 
 use Rattle.dsv_names.specs.declared.property.RootProperty.{RootProperty}
 use Rattle.dsv_names.specs.declared.property.Property.{Property}
 use Rattle.dsv_names.specs.declared.property.Property.TheVariants.{OfRuns, OfRoots, Timing}
-use Rattle.dsv_command.specs.declared.job.Design.{Design}
+use Rattle.dsv_names.specs.declared.design.Design.{Design}
 use Rattle.dsv_command.specs.Limits.{most_number_digits, most_samples, default_samples, most_conflicts, default_conflicts}
 use Rattle.dsv_text.specs.Digits.{short_number}
 use Rattle.dsv_command.specs.Inputs.{inputs_of}
-use Rattle.dsv_command.specs.Jobs.{Task, decides, checks_time, writes, searches, seeks_set, simulates, checks, Asked, ◌>>=◌, choice_or, design_of, is_given, has_run_option, is_certified, has_verdict_option, has_design_option, number_up_to, samples_of, conflicts_of, run_task, unbounded_task, property_task, task_by, task_of, job_of_parts}
+use Rattle.dsv_command.specs.Jobs.{Task, decides, checks_time, writes, searches, seeks_set, simulates, Asked, ◌>>=◌, choice_or, design_of, is_given, has_run_option, is_certified, has_verdict_option, has_design_option, number_up_to, samples_of, conflicts_of, run_task, unbounded_task, property_task, task_by, task_of, job_of_parts}
 use Rattle.dsv_command.specs.Parts.{PartView, file_of, value_of, has_empty}
 use Rattle.dsv_command.specs.Rules.{IsTask, GivesProperty, HasNoRunOption, HasNoVerdictOption, HasNoDesignOption, IsNumberUpTo, IsNumber, IsChosen, IsDesign, IsJobOf}
 use Rattle.dsv_command.proofs.InputLaws.{inputs_read, inputs_found}
@@ -66,7 +66,7 @@ number_read limit default n (Some text) h = ap (λ x. x >>= λ m. (if nat_le 1 m
 
 -- the task of a property that is given
 property_read : (parts : List PartView) (p : Property) (t : Task) → GivesProperty parts p → property_task parts p ≡ Some t → task_of parts ≡ Some t
-property_read parts p t g e = rw (g.name, g.no_inputs, g.no_check) (ap (λ x. x >>= property_task parts) (are_names-properties.found p) ∙ e)
+property_read parts p t g e = rw (g.name, g.no_inputs) (ap (λ x. x >>= property_task parts) (are_names-properties.found p) ∙ e)
 
 task_read : (parts : List PartView) (t : Task) → IsTask parts t → task_of parts ≡ Some t
 task_read parts t (IsTask.roots ps p g none) = property_read ps (OfRoots p) (decides p) g (rw (none_given ps none) refl)
@@ -81,9 +81,8 @@ task_read parts t (IsTask.search ps p samples conflicts g b n m f) =
 task_read parts t (IsTask.unbounded ps conflicts g b s f m) =
     property_read ps (OfRuns Overflow) (seeks_set conflicts) g
     (rw (b, s, f) (ap (λ x. x >>= λ found. Some (seeks_set found)) (number_read most_conflicts default_conflicts conflicts (value_of (codes "conflicts") ps) m)))
-task_read parts t (IsTask.simulation ps text inputs e h f d none) =
-    rw (f, e, d) (rw (no_verdict_given ps none) (ap (λ x. x >>= λ found. Some (simulates found)) (inputs_read text inputs h)))
-task_read parts t (IsTask.check ps name e f d none plain) = rw (f, d, e) (rw (no_verdict_given ps none, no_design_given ps plain) refl)
+task_read parts t (IsTask.simulation ps text inputs e h f none) =
+    rw (f, e) (rw (no_verdict_given ps none) (ap (λ x. x >>= λ found. Some (simulates found)) (inputs_read text inputs h)))
 
 pub parts_ask : (parts : List PartView) (asked : Asked) → IsJobOf parts asked → job_of_parts parts ≡ Some asked
 parts_ask parts asked h = rw (h.filled, h.file) (rw (task_read parts asked.task h.task) (rw (design_read parts asked.design h.design) (rw (sym h.certified) refl)))
@@ -206,33 +205,22 @@ property_found parts (OfRoots p) t g h = roots_by parts p t (has_run_option part
 property_found parts Timing t g h = timing_by parts t (has_verdict_option parts) g refl h
 
 simulation_by : (parts : List PartView) (text : List ℕ) (t : Task) (b : Bool) → value_of (codes "simulate") parts ≡ Some text →
-    value_of (codes "property") parts ≡ None → value_of (codes "check") parts ≡ None → has_verdict_option parts ≡ b →
+    value_of (codes "property") parts ≡ None → has_verdict_option parts ≡ b →
     (if b then None else (inputs_of text >>= λ inputs. Some (simulates inputs))) ≡ Some t → IsTask parts t
-simulation_by parts text t true f e d n h = absurd (cc)
-simulation_by parts text t false f e d n h =
+simulation_by parts text t true f e n h = absurd (cc)
+simulation_by parts text t false f e n h =
     let b = unbind (inputs_of text) (λ inputs. Some (simulates inputs)) t h in
     let same : simulates b.value ≡ t = let s = b.second in cc in
-    subst (IsTask parts) same (IsTask.simulation parts text b.value f (inputs_found text b.value b.first) e d (no_verdict_found parts n))
+    subst (IsTask parts) same (IsTask.simulation parts text b.value f (inputs_found text b.value b.first) e (no_verdict_found parts n))
 
-check_by : (parts : List PartView) (name : List ℕ) (t : Task) (v d : Bool) → value_of (codes "check") parts ≡ Some name → value_of (codes "property") parts ≡ None →
-    value_of (codes "simulate") parts ≡ None → has_verdict_option parts ≡ v → has_design_option parts ≡ d → (if v then None else if d then None else Some (checks name)) ≡ Some t → IsTask parts t
-check_by parts name t true d f e s v g h = absurd (cc)
-check_by parts name t false true f e s v g h = absurd (cc)
-check_by parts name t false false f e s v g h =
-    let same : checks name ≡ t = cc in
-    subst (IsTask parts) same (IsTask.check parts name f e s (no_verdict_found parts v) (no_design_found parts g))
-
-task_found : (parts : List PartView) (t : Task) (x y z : Option (List ℕ)) → value_of (codes "property") parts ≡ x → value_of (codes "simulate") parts ≡ y → value_of (codes "check") parts ≡ z →
-    task_by parts x y z ≡ Some t → IsTask parts t
-task_found parts t (Some name) None None e f d h =
+task_found : (parts : List PartView) (t : Task) (x y : Option (List ℕ)) → value_of (codes "property") parts ≡ x → value_of (codes "simulate") parts ≡ y →
+    task_by parts x y ≡ Some t → IsTask parts t
+task_found parts t (Some name) None e f h =
     let b = unbind (value_named property_name properties name) (property_task parts) t h in
-    property_found parts b.value t (record { name = e ∙ ap Some (are_names-properties.only name b.value b.first); no_inputs = f; no_check = d }) b.second
-task_found parts t None (Some text) None e f d h = simulation_by parts text t (has_verdict_option parts) f e d refl h
-task_found parts t None None (Some name) e f d h = check_by parts name t (has_verdict_option parts) (has_design_option parts) d e f refl refl h
-task_found parts t None None None e f d h = absurd (cc)
-task_found parts t (Some name) (Some text) z e f d h = absurd (cc)
-task_found parts t (Some name) None (Some other) e f d h = absurd (cc)
-task_found parts t None (Some text) (Some other) e f d h = absurd (cc)
+    property_found parts b.value t (record { name = e ∙ ap Some (are_names-properties.only name b.value b.first); no_inputs = f }) b.second
+task_found parts t None (Some text) e f h = simulation_by parts text t (has_verdict_option parts) f e refl h
+task_found parts t None None e f h = absurd (cc)
+task_found parts t (Some name) (Some text) e f h = absurd (cc)
 
 -- the job of parts that have no empty text
 job_by : (parts : List PartView) (asked : Asked) (empty : Bool) → has_empty parts ≡ empty →
@@ -250,7 +238,7 @@ job_by parts asked false e h =
     subst (IsJobOf parts) same (record {
       file = a.first;
       filled = e;
-      task = task_found parts b.value (value_of (codes "property") parts) (value_of (codes "simulate") parts) (value_of (codes "check") parts) refl refl refl b.first;
+      task = task_found parts b.value (value_of (codes "property") parts) (value_of (codes "simulate") parts) refl refl b.first;
       design = design_found parts c.value c.first;
       certified = refl;
     })

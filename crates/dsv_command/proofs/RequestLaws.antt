@@ -8,14 +8,17 @@ use Rattle.dsv_command.specs.Jobs.{Asked, ◌>>=◌, is_given, has_verdict_optio
 use Rattle.dsv_command.specs.Options.{command_options}
 use Rattle.dsv_command.specs.Parts.{PartView, file_of, value_of, has_empty}
 use Rattle.dsv_command.specs.Reading.{parts_of}
-use Rattle.dsv_command.specs.Requests.{Request, on_file, generates, seed_of, controllers_of, has_job_option, generation_of, request_by, request_of_parts, request_of}
-use Rattle.dsv_command.specs.Rules.{IsSeed, HasNoJobOption, IsGenerationOf, IsRequestOf, IsRequestLine}
+use Rattle.dsv_command.specs.Requests.{Request, on_file, checks, generates, seed_of, controllers_of, has_task_option, has_job_option, check_of, generation_of, request_by, request_of_parts, request_of}
+use Rattle.dsv_command.specs.Rules.{IsSeed, HasNoTaskOption, HasNoJobOption, IsCheckOf, IsGenerationOf, IsRequestOf, IsRequestLine}
 use Rattle.dsv_command.proofs.JobLaws.{Bound, unbind, parts_ask, job_found, number_read, number_found, no_verdict_given, no_design_given, no_verdict_found, no_design_found}
 use Rattle.dsv_command.proofs.PartLaws.{given_is_read, read_is_given}
 
 -- ---- from the rules to the request
+no_task_given : (parts : List PartView) → HasNoTaskOption parts → has_task_option parts ≡ false
+no_task_given parts h = rw (h.property, h.inputs, no_verdict_given parts h.verdict, no_design_given parts h.design) refl
+
 no_job_given : (parts : List PartView) → HasNoJobOption parts → has_job_option parts ≡ false
-no_job_given parts h = rw (h.property, h.inputs, h.certificate, no_verdict_given parts h.verdict, no_design_given parts h.design) refl
+no_job_given parts h = rw (h.check, no_task_given parts h.tasks) refl
 
 seed_read : (text : List ℕ) (seed : ℕ) → IsSeed text seed → seed_of text ≡ Some seed
 seed_read text seed h =
@@ -27,8 +30,12 @@ generation_read parts seed count h =
     rw (h.filled, h.no_file, no_job_given parts h.no_option)
     (rw (seed_read h.text seed h.is_seed) (rw (number_read most_controllers default_controllers count (value_of (codes "count") parts) h.is_count) refl))
 
+check_read : (parts : List PartView) (controller certificate : List ℕ) → IsCheckOf parts controller certificate → check_of parts certificate ≡ Some (checks controller certificate)
+check_read parts controller certificate h = rw (h.filled, h.file) (rw (no_task_given parts h.no_option) refl)
+
 parts_request : (parts : List PartView) (request : Request) → IsRequestOf parts request → request_of_parts parts ≡ Some request
-parts_request parts (on_file asked) h = rw (h.no_seed, h.no_count) (ap (option_map on_file) (parts_ask parts asked h.job))
+parts_request parts (on_file asked) h = rw (h.no_seed, h.no_count, h.no_check) (ap (option_map on_file) (parts_ask parts asked h.job))
+parts_request parts (checks controller certificate) h = rw (h.no_seed, h.no_count, h.given) (check_read parts controller certificate h)
 parts_request parts (generates seed count) h = rw h.given (generation_read parts seed count h)
 
 pub rules_ask : (arguments : List (List ℕ)) (request : Request) → IsRequestLine arguments request → request_of arguments ≡ Some request
@@ -47,18 +54,25 @@ seed_found text seed h =
     let b = unbind (short_number most_number_digits text) (λ n. (if nat_lt n (2 ^ 32) then Some n else None)) seed h in
     seed_by text b.value seed (nat_lt b.value (2 ^ 32)) refl b.first b.second
 
--- none of five is given where one of them isn't
-no_job_by : (parts : List PartView) (p s c v d : Bool) → is_given parts (codes "property") ≡ p → is_given parts (codes "simulate") ≡ s → is_given parts (codes "check") ≡ c → has_verdict_option parts ≡ v → has_design_option parts ≡ d
-    → has_job_option parts ≡ false → HasNoJobOption parts
-no_job_by parts false false false false false p s c v d h = record { property = p; inputs = s; certificate = c; verdict = no_verdict_found parts v; design = no_design_found parts d }
-no_job_by parts true s c v d e f g k l h = absurd (let k : true ≡ false = sym (rw e refl) ∙ h in cc)
-no_job_by parts false true c v d e f g k l h = absurd (let k : true ≡ false = sym (rw (e, f) refl) ∙ h in cc)
-no_job_by parts false false true v d e f g k l h = absurd (let k : true ≡ false = sym (rw (e, f, g) refl) ∙ h in cc)
-no_job_by parts false false false true d e f g k l h = absurd (let m : true ≡ false = sym (rw (e, f, g, k) refl) ∙ h in cc)
-no_job_by parts false false false false true e f g k l h = absurd (let m : true ≡ false = sym (rw (e, f, g, k, l) refl) ∙ h in cc)
+-- none of four is given where one of them isn't
+no_task_by : (parts : List PartView) (p s v d : Bool) → is_given parts (codes "property") ≡ p → is_given parts (codes "simulate") ≡ s → has_verdict_option parts ≡ v → has_design_option parts ≡ d
+    → has_task_option parts ≡ false → HasNoTaskOption parts
+no_task_by parts false false false false p s v d h = record { property = p; inputs = s; verdict = no_verdict_found parts v; design = no_design_found parts d }
+no_task_by parts true s v d e f k l h = absurd (let m : true ≡ false = sym (rw e refl) ∙ h in cc)
+no_task_by parts false true v d e f k l h = absurd (let m : true ≡ false = sym (rw (e, f) refl) ∙ h in cc)
+no_task_by parts false false true d e f k l h = absurd (let m : true ≡ false = sym (rw (e, f, k) refl) ∙ h in cc)
+no_task_by parts false false false true e f k l h = absurd (let m : true ≡ false = sym (rw (e, f, k, l) refl) ∙ h in cc)
+
+no_task_found : (parts : List PartView) → has_task_option parts ≡ false → HasNoTaskOption parts
+no_task_found parts = no_task_by parts (is_given parts (codes "property")) (is_given parts (codes "simulate")) (has_verdict_option parts) (has_design_option parts) refl refl refl refl
+
+no_job_by : (parts : List PartView) (c t : Bool) → is_given parts (codes "check") ≡ c → has_task_option parts ≡ t → has_job_option parts ≡ false → HasNoJobOption parts
+no_job_by parts false false c t h = record { check = c; tasks = no_task_found parts t }
+no_job_by parts true t e f h = absurd (let k : true ≡ false = sym (rw e refl) ∙ h in cc)
+no_job_by parts false true e f h = absurd (let k : true ≡ false = sym (rw (e, f) refl) ∙ h in cc)
 
 no_job_found : (parts : List PartView) → has_job_option parts ≡ false → HasNoJobOption parts
-no_job_found parts = no_job_by parts (is_given parts (codes "property")) (is_given parts (codes "simulate")) (is_given parts (codes "check")) (has_verdict_option parts) (has_design_option parts) refl refl refl refl refl
+no_job_found parts = no_job_by parts (is_given parts (codes "check")) (has_task_option parts) refl refl
 
 abbrev numbers_of : List PartView → List ℕ → Option Request
 numbers_of parts text = seed_of text >>= λ seed. controllers_of parts >>= λ count. Some (generates seed count)
@@ -83,24 +97,35 @@ generation_by parts text request None false false g e f o h =
       no_option = no_job_found parts o;
     })
 
-job_alone : (parts : List PartView) (request : Request) (job : Option Asked) → value_of (codes "generate") parts ≡ None → value_of (codes "count") parts ≡ None
+job_alone : (parts : List PartView) (request : Request) (job : Option Asked) → value_of (codes "generate") parts ≡ None → value_of (codes "count") parts ≡ None → value_of (codes "check") parts ≡ None
     → job_of_parts parts ≡ job → option_map on_file job ≡ Some request → IsRequestOf parts request
-job_alone parts request None g c e h = absurd (cc)
-job_alone parts request (Some asked) g c e h =
+job_alone parts request None g c n e h = absurd (cc)
+job_alone parts request (Some asked) g c n e h =
     let same : on_file asked ≡ request = cc in
-    subst (IsRequestOf parts) same (record { job = job_found parts asked e; no_seed = g; no_count = c })
+    subst (IsRequestOf parts) same (record { job = job_found parts asked e; no_seed = g; no_count = c; no_check = n })
 
-request_found : (parts : List PartView) (request : Request) (seed count : Option (List ℕ)) → value_of (codes "generate") parts ≡ seed → value_of (codes "count") parts ≡ count
-    → request_by parts seed count ≡ Some request → IsRequestOf parts request
-request_found parts request (Some text) count g c h = generation_by parts text request (file_of parts) (has_empty parts) (has_job_option parts) g refl refl refl h
-request_found parts request None None g c h = job_alone parts request (job_of_parts parts) g c refl h
-request_found parts request None (Some text) g c h = absurd (cc)
+check_by : (parts : List PartView) (name : List ℕ) (request : Request) (file : Option (List ℕ)) (empty other : Bool) → value_of (codes "generate") parts ≡ None → value_of (codes "count") parts ≡ None
+    → value_of (codes "check") parts ≡ Some name → has_empty parts ≡ empty → file_of parts ≡ file → has_task_option parts ≡ other
+    → (if empty then None else (file >>= λ controller. (if other then None else Some (checks controller name)))) ≡ Some request → IsRequestOf parts request
+check_by parts name request file true other g c n e f o h = absurd (cc)
+check_by parts name request None false other g c n e f o h = absurd (cc)
+check_by parts name request (Some controller) false true g c n e f o h = absurd (cc)
+check_by parts name request (Some controller) false false g c n e f o h =
+    let same : checks controller name ≡ request = cc in
+    subst (IsRequestOf parts) same (record { given = n; file = f; filled = e; no_option = no_task_found parts o; no_seed = g; no_count = c })
+
+request_found : (parts : List PartView) (request : Request) (seed count name : Option (List ℕ)) → value_of (codes "generate") parts ≡ seed → value_of (codes "count") parts ≡ count
+    → value_of (codes "check") parts ≡ name → request_by parts seed count name ≡ Some request → IsRequestOf parts request
+request_found parts request (Some text) count name g c n h = generation_by parts text request (file_of parts) (has_empty parts) (has_job_option parts) g refl refl refl h
+request_found parts request None (Some text) name g c n h = absurd (cc)
+request_found parts request None None (Some name) g c n h = check_by parts name request (file_of parts) (has_empty parts) (has_task_option parts) g c n refl refl refl h
+request_found parts request None None None g c n h = job_alone parts request (job_of_parts parts) g c n refl h
 
 line_by : (arguments : List (List ℕ)) (request : Request) → Bound (parts_of command_options arguments) request_of_parts request → IsRequestLine arguments request
 line_by arguments request b = record {
   parts = b.value;
   give = read_is_given command_options arguments b.value b.first;
-  request_of_parts = request_found b.value request (value_of (codes "generate") b.value) (value_of (codes "count") b.value) refl refl b.second;
+  request_of_parts = request_found b.value request (value_of (codes "generate") b.value) (value_of (codes "count") b.value) (value_of (codes "check") b.value) refl refl refl b.second;
 }
 
 pub asked_by_rules : (arguments : List (List ℕ)) (request : Request) → request_of arguments ≡ Some request → IsRequestLine arguments request

@@ -3,6 +3,7 @@ use Rattle.std.specs.Prelude.{ℕ, ◌&&◌, ◌||◌, nat_le, Bool, List, [], �
 use Rattle.std.specs.Prelude.{if◌then◌else◌, option_and_then, ℤ}
 use Rattle.std.specs.List.{list_any}
 use Rattle.dsv_text.specs.Digits.{short_number}
+use Rattle.dsv_names.specs.declared.design.Design.{Design}
 use Rattle.dsv_names.specs.declared.realisation.Realisation.TheVariants.{Dfi}
 use Rattle.dsv_names.specs.declared.rounding.Rounding.TheVariants.{Floor}
 use Rattle.dsv_names.specs.declared.overflow_mode.OverflowMode.TheVariants.{Wrap}
@@ -11,7 +12,6 @@ use Rattle.dsv_names.specs.declared.property.RunProperty.TheVariants.{Overflow, 
 use Rattle.dsv_names.specs.declared.property.RootProperty.{RootProperty}
 use Rattle.dsv_names.specs.declared.property.Property.{Property}
 use Rattle.dsv_names.specs.declared.property.Property.TheVariants.{OfRuns, OfRoots, Timing}
-use Rattle.dsv_command.specs.declared.job.Design.{Design}
 use Rattle.dsv_command.specs.Limits.{most_number_digits, most_samples, default_samples}
 use Rattle.dsv_command.specs.Limits.{most_conflicts, default_conflicts}
 use Rattle.dsv_names.specs.Names.{value_named}
@@ -37,8 +37,6 @@ pub data Task : Type 0 where
   seeks_set : ℕ → Task
   -- it is run over these inputs
   simulates : List ℤ → Task
-  -- the certificate in the file of this name is checked
-  checks : List ℕ → Task
 
 -- what is asked: a task for the controller in a file, realised by a design, and whether a
 -- certificate is to be written in place of the report of a yes-answer
@@ -141,26 +139,19 @@ abbrev pub simulation_task : List PartView → List ℕ → Option Task
 simulation_task parts list = if has_verdict_option parts then None
     else (inputs_of list >>= λ inputs. Some (simulates inputs))
 
--- the check of a certificate goes with no other option
-abbrev pub check_task : List PartView → List ℕ → Option Task
-check_task parts name = if has_verdict_option parts then None
-    else if has_design_option parts then None else Some (checks name)
-
 -- the task of a property that is given by its name
 abbrev pub named_task : List PartView → List ℕ → Option Task
 named_task parts name = value_named property_name properties name >>= property_task parts
 
--- exactly one of a property, inputs and a certificate is given
-abbrev pub task_by : List PartView → Option (List ℕ) → Option (List ℕ) → Option (List ℕ)
-    → Option Task
-task_by parts (Some name) None None = named_task parts name
-task_by parts None (Some list) None = simulation_task parts list
-task_by parts None None (Some name) = check_task parts name
-task_by parts property inputs certificate = None
+-- either a property or inputs are given
+abbrev pub task_by : List PartView → Option (List ℕ) → Option (List ℕ) → Option Task
+task_by parts (Some name) None = named_task parts name
+task_by parts None (Some list) = simulation_task parts list
+task_by parts property inputs = None
 
 abbrev pub task_of : List PartView → Option Task
-task_of parts = task_by parts (value_of (codes "property") parts)
-    (value_of (codes "simulate") parts) (value_of (codes "check") parts)
+task_of parts =
+    task_by parts (value_of (codes "property") parts) (value_of (codes "simulate") parts)
 
 -- no text is empty, and FILE and a task are given
 abbrev pub job_of_parts : List PartView → Option Asked

@@ -14,6 +14,8 @@ use Rattle.dsv_command.specs.Reading.{parts_of}
 pub data Request : Type 0 where
   -- a job for the controller in a file
   on_file : Asked → Request
+  -- the certificate in a file is checked against the controller in the file that is named first
+  checks : List ℕ → List ℕ → Request
   -- controllers of a seed are generated, so many, and what is found of them is counted
   generates : ℕ → ℕ → Request
 
@@ -27,10 +29,21 @@ abbrev pub controllers_of : List PartView → Option ℕ
 controllers_of parts = choice_or (number_up_to most_controllers) default_controllers
     (value_of (codes "count") parts)
 
--- something is given that belongs to a job
+-- an option is given that says what is done with a controller, other than that a certificate is
+-- checked
+abbrev pub has_task_option : List PartView → Bool
+has_task_option parts = is_given parts (codes "property") || (is_given parts (codes "simulate")
+    || (has_verdict_option parts || has_design_option parts))
+
+-- something is given that belongs to a controller in a file
 abbrev pub has_job_option : List PartView → Bool
-has_job_option parts = is_given parts (codes "property") || (is_given parts (codes "simulate")
-    || (is_given parts (codes "check") || (has_verdict_option parts || has_design_option parts)))
+has_job_option parts = is_given parts (codes "check") || has_task_option parts
+
+-- the check of the certificate in the file of this name, which goes with no other option
+abbrev pub check_of : List PartView → List ℕ → Option Request
+check_of parts name = if has_empty parts then None
+    else (file_of parts >>= λ file.
+    (if has_task_option parts then None else Some (checks file name)))
 
 -- what is generated, where this is the text of the seed and no text is empty
 abbrev pub generation_of : List PartView → List ℕ → Option Request
@@ -38,24 +51,28 @@ generation_of parts text = if has_empty parts then None
     else if is_some (file_of parts) || has_job_option parts then None
     else (seed_of text >>= λ seed. controllers_of parts >>= λ count. Some (generates seed count))
 
--- a seed makes it a generation, and else it is a job, which has no number of controllers
-abbrev pub request_by : List PartView → Option (List ℕ) → Option (List ℕ) → Option Request
-request_by parts (Some seed) count = generation_of parts seed
-request_by parts None None = option_map on_file (job_of_parts parts)
-request_by parts None (Some count) = None
+-- a seed makes it a generation, and else there is no number of controllers: a certificate's name
+-- makes it a check, and else it is a job
+abbrev pub request_by : List PartView → Option (List ℕ) → Option (List ℕ) → Option (List ℕ)
+    → Option Request
+request_by parts (Some seed) count certificate = generation_of parts seed
+request_by parts None (Some count) certificate = None
+request_by parts None None (Some name) = check_of parts name
+request_by parts None None None = option_map on_file (job_of_parts parts)
 
 abbrev pub request_of_parts : List PartView → Option Request
 request_of_parts parts = request_by parts (value_of (codes "generate") parts)
-    (value_of (codes "count") parts)
+    (value_of (codes "count") parts) (value_of (codes "check") parts)
 
 -- the request of a list of arguments, or none
 unfoldable pub request_of : List (List ℕ) → Option Request
 request_of arguments = parts_of command_options arguments >>= request_of_parts
 
--- the job of a request, where it is one for a file
+-- the job of a request, where it is one
 abbrev pub job_in : Option Request → Option Asked
 job_in None = None
 job_in (Some (on_file job)) = Some job
+job_in (Some (checks file name)) = None
 job_in (Some (generates seed count)) = None
 
 -- the job for a file that a list of arguments asks for

@@ -7,6 +7,7 @@ use Rattle.std.specs.Str.{bytes_eq}
 use Rattle.dsv_text.specs.Bytes.{has_byte}
 use Rattle.dsv_text.specs.Digits.{short_number}
 use Rattle.dsv_fraction.specs.Arithmetic.{with_sign}
+use Rattle.dsv_names.specs.declared.design.Design.{Design}
 use Rattle.dsv_names.specs.declared.realisation.Realisation.TheVariants.{Dfi}
 use Rattle.dsv_names.specs.declared.rounding.Rounding.TheVariants.{Floor}
 use Rattle.dsv_names.specs.declared.overflow_mode.OverflowMode.TheVariants.{Wrap}
@@ -19,17 +20,16 @@ use Rattle.dsv_names.specs.OverflowModes.{overflow_mode_name}
 use Rattle.dsv_names.specs.Properties.{property_name}
 use Rattle.dsv_names.specs.Realisations.{realisation_name}
 use Rattle.dsv_names.specs.Roundings.{rounding_name}
-use Rattle.dsv_command.specs.declared.job.Design.{Design}
 use Rattle.dsv_command.specs.Inputs.{most_inputs, most_digits}
 use Rattle.dsv_command.specs.Jobs.{Task, decides, checks_time, writes, searches, simulates}
-use Rattle.dsv_command.specs.Jobs.{seeks_set, checks, Asked, is_given}
+use Rattle.dsv_command.specs.Jobs.{seeks_set, Asked, is_given}
 use Rattle.dsv_command.specs.Limits.{most_number_digits, most_samples, default_samples}
 use Rattle.dsv_command.specs.Limits.{most_conflicts, default_conflicts}
 use Rattle.dsv_command.specs.Limits.{most_controllers, default_controllers}
 use Rattle.dsv_command.specs.Options.{command_options}
 use Rattle.dsv_command.specs.Parts.{PartView, file, flag, choice, key_of}
 use Rattle.dsv_command.specs.Parts.{has_key, file_of, value_of, has_empty}
-use Rattle.dsv_command.specs.Requests.{Request, on_file, generates}
+use Rattle.dsv_command.specs.Requests.{Request, on_file, checks, generates}
 use Rattle.dsv_command.specs.Shapes.{dash, is_equals}
 
 -- ---- arguments and the parts that they give
@@ -115,11 +115,10 @@ pub record AreInputs (text : List ℕ) (inputs : List ℤ) : Type 0 where
   pub numbers : AreNumbers text inputs
   pub few : length inputs ≤ most_inputs
 
--- a property is given, and neither inputs nor a certificate to check
+-- a property is given, and no inputs
 pub record GivesProperty (parts : List PartView) (property : Property) : Type 0 where
   pub name : value_of (codes "property") parts ≡ Some (property_name property)
   pub no_inputs : value_of (codes "simulate") parts ≡ None
-  pub no_check : value_of (codes "check") parts ≡ None
 
 -- none of the options of properties of runs is given
 pub record HasNoRunOption (parts : List PartView) : Type 0 where
@@ -158,10 +157,9 @@ abbrev pub AreConflicts : List PartView → ℕ → Type 0
 AreConflicts parts n =
     IsNumber most_conflicts default_conflicts (value_of (codes "conflicts") parts) n
 
--- Exactly one of a property, inputs and a certificate to check is given. With a property of runs
--- alone there are samples; and either conflicts, or that the formula is written. Overflow over runs
--- of any length has no samples and no formula. That a certificate is written goes with no timing,
--- no inputs and no formula, and with a certificate that is checked no other option goes.
+-- Either a property or inputs are given. With a property of runs alone there are samples; and
+-- either conflicts, or that the formula is written. Overflow over runs of any length has no samples
+-- and no formula. That a certificate is written goes with no timing, no inputs and no formula.
 pub data IsTask : List PartView → Task → Type 0 where
   roots : (parts : List PartView) (p : RootProperty) → GivesProperty parts (OfRoots p)
       → HasNoRunOption parts → IsTask parts (decides p)
@@ -182,12 +180,8 @@ pub data IsTask : List PartView → Task → Type 0 where
       → AreConflicts parts conflicts → IsTask parts (seeks_set conflicts)
   simulation : (parts : List PartView) (text : List ℕ) (inputs : List ℤ)
       → value_of (codes "simulate") parts ≡ Some text → AreInputs text inputs →
-      value_of (codes "property") parts ≡ None → value_of (codes "check") parts ≡ None
-      → HasNoVerdictOption parts → IsTask parts (simulates inputs)
-  check : (parts : List PartView) (name : List ℕ)
-      → value_of (codes "check") parts ≡ Some name → value_of (codes "property") parts ≡ None
-      → value_of (codes "simulate") parts ≡ None → HasNoVerdictOption parts
-      → HasNoDesignOption parts → IsTask parts (checks name)
+      value_of (codes "property") parts ≡ None → HasNoVerdictOption parts
+      → IsTask parts (simulates inputs)
 
 -- the value is the chosen one's name, or none is given and the default is chosen
 abbrev pub IsChosen : {A : Type 0} → (A → List ℕ) → A → Option (List ℕ) → A → Type 0
@@ -222,13 +216,27 @@ abbrev pub IsCount : List PartView → ℕ → Type 0
 IsCount parts n =
     IsNumber most_controllers default_controllers (value_of (codes "count") parts) n
 
--- none of the options of jobs is given
-pub record HasNoJobOption (parts : List PartView) : Type 0 where
+-- none of the options is given that say what is done with a controller, but that a certificate may
+-- be checked
+pub record HasNoTaskOption (parts : List PartView) : Type 0 where
   pub property : is_given parts (codes "property") ≡ false
   pub inputs : is_given parts (codes "simulate") ≡ false
-  pub certificate : is_given parts (codes "check") ≡ false
   pub verdict : HasNoVerdictOption parts
   pub design : HasNoDesignOption parts
+
+-- none of the options of a controller in a file is given
+pub record HasNoJobOption (parts : List PartView) : Type 0 where
+  pub check : is_given parts (codes "check") ≡ false
+  pub tasks : HasNoTaskOption parts
+
+-- FILE and the name of a certificate are given, and no other option.
+pub record IsCheckOf (parts : List PartView) (controller certificate : List ℕ) : Type 0 where
+  pub given : value_of (codes "check") parts ≡ Some certificate
+  pub file : file_of parts ≡ Some controller
+  pub filled : has_empty parts ≡ false
+  pub no_option : HasNoTaskOption parts
+  pub no_seed : value_of (codes "generate") parts ≡ None
+  pub no_count : value_of (codes "count") parts ≡ None
 
 -- A seed is given, and a number of controllers or none, and nothing else: no FILE, and no option of
 -- jobs.
@@ -241,15 +249,17 @@ pub record IsGenerationOf (parts : List PartView) (seed count : ℕ) : Type 0 wh
   pub no_file : file_of parts ≡ None
   pub no_option : HasNoJobOption parts
 
--- The job of these parts, with neither a seed nor a number of controllers.
+-- The job of these parts, with no certificate to check, no seed and no number of controllers.
 pub record IsJobAlone (parts : List PartView) (asked : Asked) : Type 0 where
   pub job : IsJobOf parts asked
   pub no_seed : value_of (codes "generate") parts ≡ None
   pub no_count : value_of (codes "count") parts ≡ None
+  pub no_check : value_of (codes "check") parts ≡ None
 
 -- what these parts ask for
 abbrev pub IsRequestOf : List PartView → Request → Type 0
 IsRequestOf parts (on_file asked) = IsJobAlone parts asked
+IsRequestOf parts (checks controller certificate) = IsCheckOf parts controller certificate
 IsRequestOf parts (generates seed count) = IsGenerationOf parts seed count
 
 -- what a command line asks for

@@ -4,9 +4,10 @@ ghost use Rattle.dsv_command.specs.Limits.{most_controllers};
 ghost use Rattle.dsv_command.specs.Requests.{generation_of, controllers_of, seed_of};
 ghost use Rattle.dsv_command.specs.Requests.{has_job_option, generates};
 
+use crate::arguments::Arguments;
+use crate::check::has_task_option;
 use crate::limits::{DEFAULT_CONTROLLERS, MOST_CONTROLLERS, MOST_NUMBER_DIGITS};
-use crate::reading::Arguments;
-use crate::task::{has_design_option, has_verdict_option, number_up_to};
+use crate::task::number_up_to;
 use dsv_text::short_number;
 
 /// So many controllers, 1 to 1,000, of this seed.
@@ -41,15 +42,11 @@ fn find_count(arguments: &Arguments) -> Option<u32>
     }
 }
 
-/// Whether something is given that belongs to a job on a file.
+/// Whether something is given that belongs to a controller in a file.
 fn has_job_option(arguments: &Arguments) -> bool
     ensures { result ≡ has_job_option arguments.now }
 {
-    arguments.is_given("property")
-        || arguments.is_given("simulate")
-        || arguments.is_given("check")
-        || has_verdict_option(arguments)
-        || has_design_option(arguments)
+    arguments.is_given("check") || has_task_option(arguments)
 }
 
 /// What is generated, where this is the text of the seed.

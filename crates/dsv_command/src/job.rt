@@ -3,24 +3,16 @@ ghost use Rattle.std.specs.Prelude.{◌≡◌, option_map};
 ghost use Rattle.dsv_command.specs.Jobs.{job_of_parts, design_of};
 ghost use Rattle.dsv_command.specs.Asking.{asked_of};
 
-use crate::reading::Arguments;
+use crate::arguments::Arguments;
 use crate::task::{Task, find_task, is_certified};
-use dsv_names::{OverflowMode, Realisation, Rounding, find_named};
-
-/// How a controller is realised: the structure of its realisation, and how its sums become words.
-#[derive(Clone, Copy, Debug, PartialEq, Eq)]
-pub struct Design {
-    pub realisation: Realisation,
-    pub rounding: Rounding,
-    pub overflow: OverflowMode,
-}
+use dsv_names::{Design, OverflowMode, Realisation, Rounding, find_named};
 
 /// A job of the command: a task for the controller in a file, realised by this design.
 #[derive(Drop)]
 pub struct Job<'a> {
     /// The name of the file.
     pub file: &'a str,
-    pub task: Task<'a>,
+    pub task: Task,
     pub design: Design,
     /// Whether a certificate is to be written in place of the report of a yes-answer.
     pub certified: bool,

@@ -1,6 +1,8 @@
 //! The command line: the arguments are read by clap, and what they give is the request.
 #![tactic(auto)]
 
+mod arguments;
+mod check;
 mod generation;
 mod inputs;
 mod job;
@@ -8,13 +10,13 @@ mod law;
 mod limits;
 mod options;
 mod question;
-mod reading;
 mod request;
 mod task;
 
+pub use check::Check;
 pub use generation::Generation;
 pub use inputs::{Inputs, MOST_INPUTS};
-pub use job::{Design, Job};
+pub use job::Job;
 pub use law::{parts_are_read, requests_are_read};
 pub use limits::{MOST_CONFLICTS, MOST_CONTROLLERS, MOST_SAMPLES};
 pub use question::{Budget, RunQuestion};

@@ -3,9 +3,10 @@ ghost use Rattle.std.specs.Prelude.{◌≡◌, map, string_bytes, option_map, If
 ghost use Rattle.dsv_command.specs.Asking.{requested_of};
 ghost use Rattle.dsv_command.specs.Requests.{request_of, request_of_parts};
 
+use crate::arguments::{Arguments, read_arguments};
+use crate::check::{Check, find_check};
 use crate::generation::{Generation, find_generation};
 use crate::job::{Job, find_job};
-use crate::reading::{Arguments, read_arguments};
 use dsv_base::NoMemory;
 use std::alloc::Global;
 
@@ -14,6 +15,8 @@ use std::alloc::Global;
 pub enum Request<'a> {
     /// A job for the controller in a file.
     OnFile(Job<'a>),
+    /// A certificate is checked against the controller in a file.
+    Check(Check<'a>),
     /// Controllers are generated, and what is found of them is counted.
     Generate(Generation),
 }
@@ -22,10 +25,13 @@ pub enum Request<'a> {
 fn find_request<'a>(arguments: &Arguments<'a>) -> Option<Request<'a>>
     ensures { option_map requested_of result ≡ request_of_parts arguments.now }
 {
-    match (arguments.value("generate"), arguments.value("count")) {
-        (Some(seed), _) => Some(Request::Generate(find_generation(arguments, seed)?)),
-        (None, None) => Some(Request::OnFile(find_job(arguments)?)),
-        (None, Some(_)) => None,
+    let seed = arguments.value("generate");
+    let count = arguments.value("count");
+    match (seed, count, arguments.value("check")) {
+        (Some(seed), _, _) => Some(Request::Generate(find_generation(arguments, seed)?)),
+        (None, Some(_), _) => None,
+        (None, None, Some(name)) => Some(Request::Check(find_check(arguments, name)?)),
+        (None, None, None) => Some(Request::OnFile(find_job(arguments)?)),
     }
 }
 

@@ -4,21 +4,21 @@ ghost use Rattle.dsv_command.specs.Limits.{most_samples};
 ghost use Rattle.dsv_command.specs.Asking.{asked_task};
 ghost use Rattle.dsv_command.specs.Jobs.{has_run_option, number_up_to, samples_of};
 ghost use Rattle.dsv_command.specs.Jobs.{conflicts_of, run_task, unbounded_task, property_task};
-ghost use Rattle.dsv_command.specs.Jobs.{simulation_task, check_task, task_of, is_certified};
+ghost use Rattle.dsv_command.specs.Jobs.{simulation_task, task_of, is_certified};
 ghost use Rattle.dsv_command.specs.Jobs.{has_verdict_option, has_design_option};
 
+use crate::arguments::Arguments;
 use crate::inputs::{Inputs, find_inputs};
 use crate::limits::{
     DEFAULT_CONFLICTS, DEFAULT_SAMPLES, MOST_CONFLICTS, MOST_NUMBER_DIGITS, MOST_SAMPLES,
 };
 use crate::question::{Budget, RunQuestion};
-use crate::reading::Arguments;
 use dsv_names::{Property, RootProperty, RunProperty, find_named};
 use dsv_text::short_number;
 
 /// What is to be done with a controller.
 #[derive(Drop)]
-pub enum Task<'a> {
+pub enum Task {
     /// It is decided whether the controller has a property of its roots.
     Decide(RootProperty),
     /// It is decided whether the work of a sample is done in time.
@@ -32,8 +32,6 @@ pub enum Task<'a> {
     SeekSet(Budget),
     /// The controller is run over these inputs, from registers that are 0.
     Simulate(Inputs),
-    /// The certificate in the file of this name is checked against the controller.
-    Check(&'a str),
 }
 
 /// Whether an option of properties of runs is given.
@@ -105,7 +103,7 @@ fn find_budget(arguments: &Arguments) -> Option<Budget>
 }
 
 /// The task of a question: its formula is written without a search.
-fn question_task<'a>(arguments: &Arguments, question: RunQuestion) -> Option<Task<'a>>
+fn question_task(arguments: &Arguments, question: RunQuestion) -> Option<Task>
     ensures { option_map asked_task result
         ≡ run_task arguments.now question.property question.samples }
 {
@@ -119,7 +117,7 @@ fn question_task<'a>(arguments: &Arguments, question: RunQuestion) -> Option<Tas
 }
 
 /// The task of a property over runs of any length, which is overflow alone.
-fn unbounded_task<'a>(arguments: &Arguments, property: RunProperty) -> Option<Task<'a>>
+fn unbounded_task(arguments: &Arguments, property: RunProperty) -> Option<Task>
     ensures { option_map asked_task result ≡ unbounded_task arguments.now property }
 {
     match property {
@@ -131,7 +129,7 @@ fn unbounded_task<'a>(arguments: &Arguments, property: RunProperty) -> Option<Ta
 }
 
 /// The task of a property over so many samples as are asked for.
-fn bounded_task<'a>(arguments: &Arguments, property: RunProperty) -> Option<Task<'a>>
+fn bounded_task(arguments: &Arguments, property: RunProperty) -> Option<Task>
     ensures { option_map asked_task result
         ≡ option_and_then (run_task arguments.now property) (samples_of arguments.now) }
 {
@@ -140,7 +138,7 @@ fn bounded_task<'a>(arguments: &Arguments, property: RunProperty) -> Option<Task
 }
 
 /// The task of a property.
-fn property_task<'a>(arguments: &Arguments, property: Property) -> Option<Task<'a>>
+fn property_task(arguments: &Arguments, property: Property) -> Option<Task>
     ensures { option_map asked_task result ≡ property_task arguments.now property }
 {
     match property {
@@ -156,7 +154,7 @@ fn property_task<'a>(arguments: &Arguments, property: Property) -> Option<Task<'
 }
 
 /// The task of a run over inputs.
-fn simulation_task<'a>(arguments: &Arguments, list: &str) -> Option<Task<'a>>
+fn simulation_task(arguments: &Arguments, list: &str) -> Option<Task>
     ensures { option_map asked_task result ≡ simulation_task arguments.now list.now }
 {
     if has_verdict_option(arguments) {
@@ -165,26 +163,13 @@ fn simulation_task<'a>(arguments: &Arguments, list: &str) -> Option<Task<'a>>
     Some(Task::Simulate(find_inputs(list)?))
 }
 
-/// The task of the check of a certificate, which no other option goes with.
-fn check_task<'a>(arguments: &Arguments, name: &'a str) -> Option<Task<'a>>
-    ensures { option_map asked_task result ≡ check_task arguments.now name.now }
-{
-    if has_verdict_option(arguments) || has_design_option(arguments) {
-        return None;
-    }
-    Some(Task::Check(name))
-}
-
 /// What is to be done.
-pub fn find_task<'a>(arguments: &Arguments<'a>) -> Option<Task<'a>>
+pub(crate) fn find_task(arguments: &Arguments) -> Option<Task>
     ensures { option_map asked_task result ≡ task_of arguments.now }
 {
-    let inputs = arguments.value("simulate");
-    let certificate = arguments.value("check");
-    match (arguments.value("property"), inputs, certificate) {
-        (Some(name), None, None) => property_task(arguments, find_named(name.as_bytes())?),
-        (None, Some(list), None) => simulation_task(arguments, list),
-        (None, None, Some(name)) => check_task(arguments, name),
-        _ => None,
+    match (arguments.value("property"), arguments.value("simulate")) {
+        (Some(name), None) => property_task(arguments, find_named(name.as_bytes())?),
+        (None, Some(list)) => simulation_task(arguments, list),
+        (Some(_), Some(_)) | (None, None) => None,
     }
 }

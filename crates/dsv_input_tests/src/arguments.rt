@@ -1,8 +1,8 @@
 // The rules of the command, by lists of arguments with what is wanted of each. A text is the list
 // of what stands between its bars.
 use dsv_base::NoMemory;
-use dsv_command::{Design, Job, Request, Task, read_request};
-use dsv_names::{OverflowMode, Realisation, RootProperty, Rounding, RunProperty};
+use dsv_command::{Job, Request, Task, read_request};
+use dsv_names::{Design, OverflowMode, Realisation, RootProperty, Rounding, RunProperty};
 use std::alloc::Global;
 
 /// The arguments of a text.
@@ -73,7 +73,6 @@ fn is_task_wanted(task: &Task, wanted: &Wanted) -> bool {
                 && budget.conflicts == *conflicts
         }
         (Task::SeekSet(budget), Wanted::Set(conflicts)) => budget.conflicts == *conflicts,
-        (Task::Check(found), Wanted::Check(name)) => *found == *name,
         _ => false,
     }
 }
@@ -82,6 +81,8 @@ fn is_task_wanted(task: &Task, wanted: &Wanted) -> bool {
 fn is_wanted(request: &Request, wanted: &Wanted) -> bool {
     match (request, wanted) {
         (Request::OnFile(job), _) => is_job_wanted(job, wanted),
+        (Request::Check(check), Wanted::Check(name)) => check.certificate == *name,
+        (Request::Check(_), Wanted::Something) => true,
         (Request::Generate(found), Wanted::Controllers(seed, count)) => {
             found.seed == *seed && found.count == *count
         }

@@ -8,8 +8,8 @@ use Rattle.dsv_certfile.specs.declared.job.Size.{Size}
 use Rattle.dsv_certfile.specs.declared.job.Size.TheVariants as size
 use Rattle.dsv_report.specs.Fragments.{concatenation}
 use Rattle.dsv_report.specs.Lines.{property_text, realisation_text, number_line}
-use Rattle.dsv_report.specs.declared.answers.CertificateFault.{CertificateFault}
-use Rattle.dsv_report.specs.declared.answers.CertificateFault.TheVariants as fault
+use Rattle.dsv_report.specs.declared.stop.CertificateFault.{CertificateFault}
+use Rattle.dsv_report.specs.declared.stop.CertificateFault.TheVariants as fault
 
 -- ---- what is shown
 -- over how many samples, up to the end of the line
@@ -24,7 +24,8 @@ accepted = codes "CERTIFICATE ACCEPTED\n"
 -- the property that a certificate shows
 abbrev pub checked_text : Job → List ℕ
 checked_text job = accepted
-    ++ (property_text job.property ++ (realisation_text job.realisation ++ size_line job.size))
+    ++ (property_text job.property
+    ++ (realisation_text job.design.realisation ++ size_line job.size))
 
 -- ---- refusals
 unfoldable pub refused : List ℕ

@@ -5,4 +5,5 @@ pub mod Output
 pub mod Printing
 pub mod Refusals
 pub mod Report
+pub mod Stops
 pub mod Tallies

@@ -1,6 +1,6 @@
 -- What is written for an answer: its certificate, where the job wants one and there is one, and
 -- else its report.
-use Rattle.std.specs.Prelude.{ℕ, List, Option, Some, None, if◌then◌else◌}
+use Rattle.std.specs.Prelude.{ℕ, List, Option, Some, None, Ok, Err, if◌then◌else◌}
 use Rattle.dsv_names.specs.declared.property.Property.{Property}
 use Rattle.dsv_names.specs.declared.property.Property.TheVariants.{OfRuns, OfRoots}
 use Rattle.dsv_names.specs.declared.property.RunProperty.TheVariants.{Overflow}
@@ -11,20 +11,15 @@ use Rattle.dsv_certfile.specs.declared.job.Job.{Job}
 use Rattle.dsv_certfile.specs.declared.job.Size.{Size}
 use Rattle.dsv_certfile.specs.declared.job.Size.TheVariants as size
 use Rattle.dsv_command.specs.Jobs.{Task, decides, searches, seeks_set, Asked}
-use Rattle.dsv_command.specs.declared.job.Design.{Design}
-use Rattle.dsv_report.specs.Report.{text_of}
+use Rattle.dsv_names.specs.declared.design.Design.{Design}
+use Rattle.dsv_report.specs.Report.{answer_text, stop_text}
+use Rattle.dsv_report.specs.Stops.{Outcome}
 use Rattle.dsv_report.specs.declared.answers.Answer.{Answer}
 use Rattle.dsv_report.specs.declared.answers.Answer.TheVariants as answer
 
 -- the job of a certificate for a controller that is realised by a design
 abbrev pub job_with : Design → Property → Size → Job
-job_with design p s = record {
-  property = p;
-  realisation = design.realisation;
-  rounding = design.rounding;
-  overflow = design.overflow;
-  size = s;
-}
+job_with design p s = record { property = p; design = design; size = s }
 
 -- the certificate that a property of bounded runs never happens
 abbrev pub hints_of : Job → Answer → Option Certificate
@@ -61,12 +56,22 @@ abbrev pub text_or : Option Certificate → List ℕ → List ℕ
 text_or (Some c) text = certified.certificate_text c
 text_or None text = text
 
--- what is written for an answer to a job, or where the arguments ask for none
-abbrev pub output_of : Option Asked → Answer → List ℕ
-output_of None found = text_of None found
-output_of (Some job) found = text_or (certificate_of job found) (text_of (Some job) found)
+-- what is written for an answer to a job, or to what is no job
+abbrev pub answer_output : Option Asked → Answer → List ℕ
+answer_output None found = answer_text None found
+answer_output (Some job) found = text_or (certificate_of job found) (answer_text (Some job) found)
 
--- the certificate that is written for an answer to a job, or where the arguments ask for none
-abbrev pub certificate_written : Option Asked → Answer → Option Certificate
-certificate_written None found = None
-certificate_written (Some job) found = certificate_of job found
+-- what is written for what a job comes to, or arguments that ask for none
+abbrev pub output_of : Option Asked → Outcome → List ℕ
+output_of job (Ok found) = answer_output job found
+output_of job (Err why) = stop_text why
+
+-- the certificate that is written for an answer to a job; what is no job wants none
+abbrev pub answer_certificate : Option Asked → Answer → Option Certificate
+answer_certificate None found = None
+answer_certificate (Some job) found = certificate_of job found
+
+-- the certificate that is written for what a job comes to
+abbrev pub certificate_written : Option Asked → Outcome → Option Certificate
+certificate_written job (Ok found) = answer_certificate job found
+certificate_written job (Err why) = None

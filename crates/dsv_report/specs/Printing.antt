@@ -23,18 +23,9 @@ HasPlaces (answer.Overflow trace) = Unit {0}
 HasPlaces (answer.Cycles cycle) = Unit {0}
 HasPlaces (answer.Spent log) = Unit {0}
 HasPlaces (answer.FormulaText formula) = Unit {0}
-HasPlaces (answer.JobSize size) = Unit {0}
 HasPlaces (answer.Simulated found) = Unit {0}
 HasPlaces (answer.Generated found) = Unit {0}
 HasPlaces (answer.Checked job) = Unit {0}
-HasPlaces (answer.CertificateRefused line fault) = Unit {0}
-HasPlaces answer.Usage = Unit {0}
-HasPlaces (answer.FileRefused refusal) = Unit {0}
-HasPlaces answer.FileTooLong = Unit {0}
-HasPlaces (answer.QuantRefused refusal) = Unit {0}
-HasPlaces (answer.InputRange index value) = Unit {0}
-HasPlaces (answer.ReadFault file) = Unit {0}
-HasPlaces answer.NoMemory = Unit {0}
 
 -- what is asked for, where a job is
 abbrev pub asked_in : Option (Bor Job) → Option Asked

@@ -1,6 +1,6 @@
 -- The text of an answer to a job, and its status.
 use Rattle.std.specs.Prelude.{ℕ, ◌+◌, pos, List, [], ◌∷◌, ◌++◌}
-use Rattle.std.specs.Prelude.{length, take, filter, codes, Option, Some, None, ℤ}
+use Rattle.std.specs.Prelude.{length, take, filter, codes, Option, Some, None, Ok, Err, ℤ}
 use Rattle.std.specs.Prelude.{Bool, true, false}
 use Rattle.std.specs.List.{flat_map}
 use Rattle.std.specs.Fmt.{signed_decimal}
@@ -22,15 +22,18 @@ use Rattle.dsv_template.specs.declared.kept.KeptSet.{KeptSet}
 use Rattle.dsv_template.specs.declared.verdict.Why.{Why}
 use Rattle.dsv_template.specs.declared.verdict.Why.TheVariants as why
 use Rattle.dsv_command.specs.Jobs.{Task, decides, checks_time, writes, searches, seeks_set}
-use Rattle.dsv_command.specs.Jobs.{simulates, checks, Asked}
+use Rattle.dsv_command.specs.Jobs.{simulates, Asked}
 use Rattle.dsv_report.specs.Certificates.{checked_text, certificate_text}
 use Rattle.dsv_report.specs.Fragments.{concatenation}
 use Rattle.dsv_report.specs.Lines.{property_text, realisation_text, numbered, number_line}
 use Rattle.dsv_report.specs.Refusals.{file_text, quant_text, input_text}
+use Rattle.dsv_report.specs.Stops.{Outcome}
 use Rattle.dsv_report.specs.Tallies.{tally_text}
 use Rattle.dsv_report.specs.declared.answers.Answer.{Answer}
 use Rattle.dsv_report.specs.declared.answers.Answer.TheVariants as answer
-use Rattle.dsv_report.specs.declared.answers.WhichFile.TheVariants as file
+use Rattle.dsv_report.specs.declared.stop.Stop.{Stop}
+use Rattle.dsv_report.specs.declared.stop.Stop.TheVariants as stop
+use Rattle.dsv_report.specs.declared.stop.WhichFile.TheVariants as file
 
 -- ---- headings
 unfoldable pub successful : List ℕ
@@ -53,7 +56,6 @@ task_text (writes property samples) = property_text (OfRuns property)
 task_text (searches property samples conflicts) = property_text (OfRuns property)
 task_text (seeks_set conflicts) = property_text (OfRuns Overflow)
 task_text (simulates inputs) = []
-task_text (checks name) = []
 
 -- how many samples are asked for, or that there is no end to them, up to the end of the line
 abbrev pub extent_text : Task → List ℕ
@@ -63,7 +65,6 @@ extent_text (writes property samples) = number_line (codes " samples ") samples
 extent_text (searches property samples conflicts) = number_line (codes " samples ") samples
 extent_text (seeks_set conflicts) = codes " unbounded\n"
 extent_text (simulates inputs) = codes "\n"
-extent_text (checks name) = codes "\n"
 
 -- the verdict and what the job asked for; without a job there is none
 abbrev pub heading : List ℕ → Option Asked → List ℕ
@@ -208,65 +209,75 @@ samples_text number [] = []
 samples_text number (row ∷ rows) = sample_text number row ++ samples_text (number + 1) rows
 
 -- ---- answers
--- the text of an answer to a job, or where the arguments ask for none
-abbrev pub text_of : Option Asked → Answer → List ℕ
-text_of job (answer.Falls poly offer fall) =
+-- the text of an answer to a job, or to a check or a generation, which are no jobs
+abbrev pub answer_text : Option Asked → Answer → List ℕ
+answer_text job (answer.Falls poly offer fall) =
     heading successful job ++ form_text poly offer.form fall
-text_of job (answer.KeptAway poly offer fall value) =
+answer_text job (answer.KeptAway poly offer fall value) =
     heading failed job ++ form_text poly offer.form fall
     ++ start_text (take offer.form.d offer.start) value
-text_of job answer.NoZeros = heading failed job ++ no_zeros_text
-text_of job (answer.NoForm poly kept verdict) =
+answer_text job answer.NoZeros = heading failed job ++ no_zeros_text
+answer_text job (answer.NoForm poly kept verdict) =
     heading inconclusive job ++ no_form_text poly (length kept) verdict
-text_of job (answer.Wide index) = heading inconclusive job ++ wide_text index
-text_of job (answer.OnTime report) = heading successful job ++ timing_text report
-text_of job (answer.Late report) = heading failed job ++ timing_text report
-text_of job (answer.Never log) = heading successful job
-text_of job (answer.Always candidate logs) = heading successful job ++ candidate_text candidate
-text_of job (answer.NoInvariant kept) =
+answer_text job (answer.Wide index) = heading inconclusive job ++ wide_text index
+answer_text job (answer.OnTime report) = heading successful job ++ timing_text report
+answer_text job (answer.Late report) = heading failed job ++ timing_text report
+answer_text job (answer.Never log) = heading successful job
+answer_text job (answer.Always candidate logs) = heading successful job ++ candidate_text candidate
+answer_text job (answer.NoInvariant kept) =
     heading inconclusive job ++ no_invariant_text (length kept) (length (filter is_spent kept))
-text_of job (answer.Overflow trace) = heading failed job ++ trace_text trace
-text_of job (answer.Cycles cycle) = heading failed job ++ cycle_text cycle
-text_of job (answer.Spent log) = heading inconclusive job ++ spent_text (length log)
-text_of job (answer.FormulaText formula) = dimacs_text formula
-text_of job (answer.JobSize size) = size_text size
-text_of job (answer.Simulated rows) = heading simulation job ++ samples_text 0 rows
-text_of job (answer.Generated found) = tally_text found
-text_of job (answer.Checked certified) = checked_text certified
-text_of job (answer.CertificateRefused line fault) = certificate_text line fault
-text_of job answer.Usage = codes "USAGE\n"
-text_of job (answer.FileRefused r) = file_text r
-text_of job answer.FileTooLong = codes "FILE REFUSED 12 TOO_LONG at 65536\n"
-text_of job (answer.QuantRefused r) = quant_text r
-text_of job (answer.InputRange index value) = input_text index value
-text_of job (answer.ReadFault file.Controller) = codes "READ FAULT CONTROLLER\n"
-text_of job (answer.ReadFault file.Certificate) = codes "READ FAULT CERTIFICATE\n"
-text_of job answer.NoMemory = codes "NO MEMORY\n"
+answer_text job (answer.Overflow trace) = heading failed job ++ trace_text trace
+answer_text job (answer.Cycles cycle) = heading failed job ++ cycle_text cycle
+answer_text job (answer.Spent log) = heading inconclusive job ++ spent_text (length log)
+answer_text job (answer.FormulaText formula) = dimacs_text formula
+answer_text job (answer.Simulated rows) = heading simulation job ++ samples_text 0 rows
+answer_text job (answer.Generated found) = tally_text found
+answer_text job (answer.Checked certified) = checked_text certified
 
-abbrev pub status_of : Answer → ℕ
-status_of (answer.Falls poly offer fall) = 0
-status_of (answer.KeptAway poly offer fall value) = 10
-status_of answer.NoZeros = 10
-status_of (answer.NoForm poly kept verdict) = 20
-status_of (answer.Wide index) = 20
-status_of (answer.OnTime report) = 0
-status_of (answer.Late report) = 10
-status_of (answer.Never log) = 0
-status_of (answer.Always candidate logs) = 0
-status_of (answer.NoInvariant kept) = 20
-status_of (answer.Overflow trace) = 10
-status_of (answer.Cycles cycle) = 10
-status_of (answer.Spent log) = 20
-status_of (answer.FormulaText formula) = 0
-status_of (answer.JobSize size) = 6
-status_of (answer.Simulated rows) = 0
-status_of (answer.Generated found) = 0
-status_of (answer.Checked certified) = 0
-status_of (answer.CertificateRefused line fault) = 7
-status_of answer.Usage = 1
-status_of (answer.FileRefused r) = 2
-status_of answer.FileTooLong = 2
-status_of (answer.QuantRefused r) = 2
-status_of (answer.InputRange index value) = 2
-status_of (answer.ReadFault file) = 3
-status_of answer.NoMemory = 5
+-- the text where there is no answer
+abbrev pub stop_text : Stop → List ℕ
+stop_text (stop.JobSize size) = size_text size
+stop_text (stop.CertificateRefused line fault) = certificate_text line fault
+stop_text stop.Usage = codes "USAGE\n"
+stop_text (stop.FileRefused r) = file_text r
+stop_text stop.FileTooLong = codes "FILE REFUSED 12 TOO_LONG at 65536\n"
+stop_text (stop.QuantRefused r) = quant_text r
+stop_text (stop.InputRange index value) = input_text index value
+stop_text (stop.ReadFault file.Controller) = codes "READ FAULT CONTROLLER\n"
+stop_text (stop.ReadFault file.Certificate) = codes "READ FAULT CERTIFICATE\n"
+stop_text stop.NoMemory = codes "NO MEMORY\n"
+
+-- ---- statuses
+abbrev pub answer_status : Answer → ℕ
+answer_status (answer.Falls poly offer fall) = 0
+answer_status (answer.KeptAway poly offer fall value) = 10
+answer_status answer.NoZeros = 10
+answer_status (answer.NoForm poly kept verdict) = 20
+answer_status (answer.Wide index) = 20
+answer_status (answer.OnTime report) = 0
+answer_status (answer.Late report) = 10
+answer_status (answer.Never log) = 0
+answer_status (answer.Always candidate logs) = 0
+answer_status (answer.NoInvariant kept) = 20
+answer_status (answer.Overflow trace) = 10
+answer_status (answer.Cycles cycle) = 10
+answer_status (answer.Spent log) = 20
+answer_status (answer.FormulaText formula) = 0
+answer_status (answer.Simulated rows) = 0
+answer_status (answer.Generated found) = 0
+answer_status (answer.Checked certified) = 0
+
+abbrev pub stop_status : Stop → ℕ
+stop_status (stop.JobSize size) = 6
+stop_status (stop.CertificateRefused line fault) = 7
+stop_status stop.Usage = 1
+stop_status (stop.FileRefused r) = 2
+stop_status stop.FileTooLong = 2
+stop_status (stop.QuantRefused r) = 2
+stop_status (stop.InputRange index value) = 2
+stop_status (stop.ReadFault file) = 3
+stop_status stop.NoMemory = 5
+
+abbrev pub status_of : Outcome → ℕ
+status_of (Ok found) = answer_status found
+status_of (Err why) = stop_status why

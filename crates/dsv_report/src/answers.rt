@@ -1,35 +1,15 @@
-// What the command answers.
-use dsv_certfile::{CheckFault, Job, TextFault};
+// What the command finds.
+use dsv_certfile::Job;
 use dsv_cnf::Formula;
 use dsv_forms::{Falls, Form, KeptAway, Poly};
 use dsv_hints::Log;
 use dsv_jury::Jury;
 use dsv_lyapunov::KeptForms;
 use dsv_meaning::{Cycle, Trace};
-use dsv_quantiser::QuantRefusal;
-use dsv_reader::FileRefusal;
 use dsv_system::Rows;
 use dsv_tally::Generated;
 use dsv_template::{Candidate, KeptSets, ThreeLogs};
 use dsv_timing::TimingReport;
-
-/// A file that the command reads.
-#[derive(Clone, Copy, Debug, PartialEq, Eq)]
-pub enum WhichFile {
-    Controller,
-    Certificate,
-}
-
-/// What is wrong with a certificate.
-#[derive(Clone, Copy, Debug, PartialEq, Eq)]
-pub enum CertificateFault {
-    /// The line isn't one of the text of a certificate.
-    Text(TextFault),
-    /// The line's claim isn't so.
-    Check(CheckFault),
-    /// The file has over 64 MiB.
-    TooLong,
-}
 
 /// What the command found.
 #[derive(Drop)]
@@ -92,36 +72,10 @@ pub enum Answer {
     },
     /// The job's formula.
     FormulaText(Formula),
-    /// The job is too large: samples times products times the square of a word's bits.
-    JobSize {
-        size: u64,
-    },
     /// The rows of the controller over the inputs of the job, from registers of zeros.
     Simulated(Rows),
     /// What is found of generated controllers.
     Generated(Generated),
     /// The certificate shows its property of the controller.
     Checked(Job),
-    /// The first line of the certificate that is wrong, counted from 1, and 0 for the whole file.
-    CertificateRefused {
-        line: u64,
-        fault: CertificateFault,
-    },
-    /// The command line is not valid: its arguments ask for no job.
-    Usage,
-    /// The first fault of the controller file.
-    FileRefused(FileRefusal),
-    /// The controller file has over 65,536 bytes.
-    FileTooLong,
-    /// The first number of the controller that is no word, or the range of its inputs, where it is
-    /// empty.
-    QuantRefused(QuantRefusal),
-    /// The first input of the job that is no word of the format, and its number from 0 on.
-    InputRange {
-        index: u32,
-        value: i128,
-    },
-    /// The file couldn't be read.
-    ReadFault(WhichFile),
-    NoMemory,
 }

@@ -4,9 +4,9 @@ ghost use Rattle.dsv_base.specs.Taking.{Writes};
 ghost use Rattle.dsv_report.specs.Certificates.{size_line, checked_text, fault_name};
 ghost use Rattle.dsv_report.specs.Certificates.{certificate_text, refused};
 
-use crate::answers::CertificateFault;
 use crate::fragments::{Fragment, put_fragments};
 use crate::lines::{put_number_line, put_property, put_realisation};
+use crate::stop::CertificateFault;
 use dsv_base::{Failed, Sink, put_all};
 use dsv_certfile::{CheckFault, Job, Size, TextFault};
 
@@ -28,7 +28,7 @@ pub(crate) fn put_checked<K: Sink>(sink: &mut K, job: &Job) -> Result<(), Failed
 {
     put_all(sink, b"CERTIFICATE ACCEPTED\n")?;
     put_property(sink, job.property)?;
-    put_realisation(sink, job.realisation)?;
+    put_realisation(sink, job.design.realisation)?;
     put_size(sink, job.size)
 }
 
@@ -52,7 +52,7 @@ fn fault_name(fault: CertificateFault) -> &'static [u8]
 
 /// What the refusal of a certificate begins with.
 #[tactic(auto, unfolding(crate::specs::Certificates::refused))]
-fn refused() -> &'static [u8]
+fn refusal_heading() -> &'static [u8]
     ensures { result.now ≡ refused }
 {
     b"CERTIFICATE REFUSED line "
@@ -69,7 +69,7 @@ pub(crate) fn put_certificate_refusal<K: Sink>(
     put_fragments(
         sink,
         &[
-            Fragment::Bytes(refused()),
+            Fragment::Bytes(refusal_heading()),
             Fragment::Number(line.into()),
             Fragment::Bytes(fault_name(fault)),
         ],

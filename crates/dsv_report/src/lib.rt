@@ -1,4 +1,4 @@
-//! What the command answers, and the text of each answer.
+//! What the command answers, or why it has no answer, and the text of each.
 #![tactic(auto)]
 
 mod answers;
@@ -8,8 +8,10 @@ mod lines;
 mod output;
 mod refusals;
 mod report;
+mod stop;
 mod tallies;
 
-pub use answers::{Answer, CertificateFault, WhichFile};
+pub use answers::Answer;
 pub use output::put_output;
 pub use report::status_of;
+pub use stop::{CertificateFault, Stop, WhichFile};

@@ -1,23 +1,24 @@
 // Writes what is asked for of an answer, with no memory.
-ghost use Rattle.std.specs.Prelude.{◌≡◌, Some, IfSome, OnOk};
+ghost use Rattle.std.specs.Prelude.{◌≡◌, Some, IfSome, IfOk, OnOk};
 ghost use Rattle.dsv_base.specs.Taking.{Writes};
 ghost use Rattle.dsv_command.specs.Asking.{asked_of, asked_task};
 ghost use Rattle.dsv_report.specs.Output.{job_with, hints_of, invariant_of, falls_of};
-ghost use Rattle.dsv_report.specs.Output.{certificate_for, text_or, output_of};
-ghost use Rattle.dsv_report.specs.Output.{certificate_written};
+ghost use Rattle.dsv_report.specs.Output.{certificate_for, answer_output, text_or, output_of};
+ghost use Rattle.dsv_report.specs.Output.{answer_certificate, certificate_written};
 ghost use Rattle.dsv_report.specs.Printing.{HasPlaces, asked_in};
-ghost use Rattle.dsv_report.specs.Report.{text_of};
+ghost use Rattle.dsv_report.specs.Report.{answer_text};
 ghost use Rattle.dsv_certfile.specs.Typed.{IsTyped};
 ghost use Rattle.dsv_certfile.specs.declared.job.Size.TheVariants as size;
 ghost use Rattle.dsv_names.specs.declared.property.Property.TheVariants.{OfRuns, OfRoots};
 ghost use Rattle.dsv_names.specs.declared.property.RunProperty.TheVariants.{Overflow};
 
 use crate::answers::Answer;
-use crate::report::put_answer;
+use crate::report::{put_answer, put_stop};
+use crate::stop::Stop;
 use dsv_base::{Failed, Sink};
 use dsv_certfile::{Size, write_falls, write_hints, write_invariant};
-use dsv_command::{Design, Job, RunQuestion, Task};
-use dsv_names::{Property, RootProperty, RunProperty};
+use dsv_command::{Job, RunQuestion, Task};
+use dsv_names::{Design, Property, RootProperty, RunProperty};
 
 /// The job of a certificate for a controller that is realised by a design.
 fn job_with(design: Design, property: Property, size: Size) -> dsv_certfile::Job
@@ -25,9 +26,7 @@ fn job_with(design: Design, property: Property, size: Size) -> dsv_certfile::Job
 {
     dsv_certfile::Job {
         property,
-        realisation: design.realisation,
-        rounding: design.rounding,
-        overflow: design.overflow,
+        design,
         size,
     }
 }
@@ -43,7 +42,7 @@ fn put_hints<K: Sink>(
     ensures text { Writes (K.seen sink.old) (K.seen sink.new) result
         (text_or (hints_of (job_with job.now.design (OfRuns question.now.property)
         (size.Samples question.now.samples)) answer.now)
-        (text_of (Some (asked_of job.now)) answer.now)) }
+        (answer_text (Some (asked_of job.now)) answer.now)) }
     ensures typed { OnOk result (IfSome
         (hints_of (job_with job.now.design (OfRuns question.now.property)
         (size.Samples question.now.samples)) answer.now) IsTyped) }
@@ -63,7 +62,7 @@ fn put_invariant<K: Sink>(sink: &mut K, job: &Job, answer: &Answer) -> Result<()
     requires { HasPlaces answer.now }
     ensures text { Writes (K.seen sink.old) (K.seen sink.new) result
         (text_or (invariant_of (job_with job.now.design (OfRuns Overflow) size.Unbounded)
-        answer.now) (text_of (Some (asked_of job.now)) answer.now)) }
+        answer.now) (answer_text (Some (asked_of job.now)) answer.now)) }
     ensures typed { OnOk result (IfSome
         (invariant_of (job_with job.now.design (OfRuns Overflow) size.Unbounded) answer.now)
         IsTyped) }
@@ -88,7 +87,7 @@ fn put_falls<K: Sink>(
     requires { HasPlaces answer.now }
     ensures text { Writes (K.seen sink.old) (K.seen sink.new) result
         (text_or (falls_of (job_with job.now.design (OfRoots property) size.NoSize) answer.now)
-        (text_of (Some (asked_of job.now)) answer.now)) }
+        (answer_text (Some (asked_of job.now)) answer.now)) }
     ensures typed { OnOk result (IfSome
         (falls_of (job_with job.now.design (OfRoots property) size.NoSize) answer.now)
         IsTyped) }
@@ -107,7 +106,7 @@ fn put_certificate<K: Sink>(sink: &mut K, job: &Job, answer: &Answer) -> Result<
     requires { HasPlaces answer.now }
     ensures text { Writes (K.seen sink.old) (K.seen sink.new) result
         (text_or (certificate_for job.now.design (asked_task job.now.task) answer.now)
-        (text_of (Some (asked_of job.now)) answer.now)) }
+        (answer_text (Some (asked_of job.now)) answer.now)) }
     ensures typed { OnOk result (IfSome
         (certificate_for job.now.design (asked_task job.now.task) answer.now) IsTyped) }
 {
@@ -115,25 +114,43 @@ fn put_certificate<K: Sink>(sink: &mut K, job: &Job, answer: &Answer) -> Result<
         Task::Search(question, _) => put_hints(sink, job, question, answer),
         Task::SeekSet(_) => put_invariant(sink, job, answer),
         Task::Decide(property) => put_falls(sink, job, *property, answer),
-        Task::CheckTime | Task::WriteFormula(_) | Task::Simulate(_) | Task::Check(_) => {
+        Task::CheckTime | Task::WriteFormula(_) | Task::Simulate(_) => {
             put_answer(sink, Some(job), answer)
         }
     }
 }
 
-/// Writes what is asked for of an answer to a job, or to arguments that ask for none: a
-/// certificate, where the job wants one and the answer has one, and else the report. It takes no
-/// memory.
-pub fn put_output<K: Sink>(sink: &mut K, job: Option<&Job>, answer: &Answer) -> Result<(), Failed>
+/// Writes what is asked for of an answer: a certificate, where the job wants one and the answer has
+/// one, and else the report.
+fn put_found<K: Sink>(sink: &mut K, job: Option<&Job>, answer: &Answer) -> Result<(), Failed>
     requires { HasPlaces answer.now }
     ensures text { Writes (K.seen sink.old) (K.seen sink.new) result
-        (output_of (asked_in job.entry) answer.now) }
-    // Of a certificate that was written whole its types are known.
+        (answer_output (asked_in job.entry) answer.now) }
     ensures typed { OnOk result
-        (IfSome (certificate_written (asked_in job.entry) answer.now) IsTyped) }
+        (IfSome (answer_certificate (asked_in job.entry) answer.now) IsTyped) }
 {
     match job {
         Some(job) if job.certified => put_certificate(sink, job, answer),
         Some(_) | None => put_answer(sink, job, answer),
+    }
+}
+
+/// Writes what is asked for of the answer to a job, or why there is none: a certificate, where the
+/// job wants one and the answer has one, and else the report. It takes no memory.
+pub fn put_output<K: Sink>(
+    sink: &mut K,
+    job: Option<&Job>,
+    outcome: &Result<Answer, Stop>,
+) -> Result<(), Failed>
+    requires { IfOk outcome.now HasPlaces }
+    ensures text { Writes (K.seen sink.old) (K.seen sink.new) result
+        (output_of (asked_in job.entry) outcome.now) }
+    // Of a certificate that was written whole its types are known.
+    ensures typed { OnOk result
+        (IfSome (certificate_written (asked_in job.entry) outcome.now) IsTyped) }
+{
+    match outcome {
+        Ok(answer) => put_found(sink, job, answer),
+        Err(stop) => put_stop(sink, stop),
     }
 }

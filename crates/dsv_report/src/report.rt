@@ -10,11 +10,12 @@ ghost use Rattle.dsv_command.specs.Asking.{asked_of, asked_task};
 ghost use Rattle.dsv_report.specs.Printing.{HasPlaces, asked_in};
 ghost use Rattle.dsv_report.specs.Report as report;
 
-use crate::answers::{Answer, WhichFile};
+use crate::answers::Answer;
 use crate::certificates::{put_certificate_refusal, put_checked};
 use crate::fragments::{Fragment, put_fragments};
 use crate::lines::{put_number_line, put_numbered, put_property, put_realisation};
 use crate::refusals::{put_file_refusal, put_input_range, put_quant_refusal};
+use crate::stop::{Stop, WhichFile};
 use crate::tallies::put_tally;
 use dsv_base::{Failed, Sink, put_all, put_line, put_spaced};
 use dsv_cnf::write_dimacs;
@@ -50,7 +51,7 @@ fn put_task<K: Sink>(sink: &mut K, task: &Task) -> Result<(), Failed>
             put_property(sink, Property::OfRuns(question.property))
         }
         Task::SeekSet(_) => put_property(sink, Property::OfRuns(RunProperty::Overflow)),
-        Task::Simulate(_) | Task::Check(_) => put_all(sink, b""),
+        Task::Simulate(_) => put_all(sink, b""),
     }
 }
 
@@ -65,9 +66,7 @@ fn put_extent<K: Sink>(sink: &mut K, task: &Task) -> Result<(), Failed>
             put_number_line(sink, b" samples ", question.samples.into())
         }
         Task::SeekSet(_) => put_all(sink, b" unbounded\n"),
-        Task::Decide(_) | Task::CheckTime | Task::Simulate(_) | Task::Check(_) => {
-            put_all(sink, b"\n")
-        }
+        Task::Decide(_) | Task::CheckTime | Task::Simulate(_) => put_all(sink, b"\n"),
     }
 }
 
@@ -171,11 +170,9 @@ fn put_falls<K: Sink>(
     put_form(sink, poly, form, fall)
 }
 
-/// Writes the text of a form that keeps trajectories away from 0.
-#[tactic(auto, unfolding(crate::specs::Report::failed))]
+/// Writes a form that keeps trajectories away from 0, and where it is negative.
 fn put_kept_away<K: Sink>(
     sink: &mut K,
-    job: Option<&Job>,
     poly: &Poly,
     offer: &KeptAway,
     fall: &Form,
@@ -184,11 +181,9 @@ fn put_kept_away<K: Sink>(
     requires form { offer.now.form.d ≤ 8 }
     requires fall { fall.now.d ≤ 8 }
     ensures { Writes (K.seen sink.old) (K.seen sink.new) result
-        (report.heading report.failed (asked_in job.entry)
-        ++ report.form_text poly.now offer.now.form fall.now
+        (report.form_text poly.now offer.now.form fall.now
         ++ report.start_text (take offer.now.form.d offer.now.start) value.now) }
 {
-    put_heading(sink, FAILED, job)?;
     put_form(sink, poly, &offer.form, fall)?;
     put_start(sink, &offer.start[..offer.form.d as usize], value)
 }
@@ -530,9 +525,9 @@ fn put_simulation<K: Sink>(sink: &mut K, job: Option<&Job>, rows: &Rows) -> Resu
     put_samples(sink, rows.as_slice())
 }
 
-/// The status of an answer that was written.
-pub fn status_of(answer: &Answer) -> u8
-    ensures { result ≡ report.status_of answer.now }
+/// The status of an answer.
+fn answer_status(answer: &Answer) -> u8
+    ensures { result ≡ report.answer_status answer.now }
 {
     match answer {
         Answer::Falls { .. }
@@ -552,15 +547,51 @@ pub fn status_of(answer: &Answer) -> u8
         | Answer::Wide { .. }
         | Answer::Spent { .. }
         | Answer::NoInvariant { .. } => 20,
-        Answer::Usage => 1,
-        Answer::FileRefused(_)
-        | Answer::FileTooLong
-        | Answer::QuantRefused(_)
-        | Answer::InputRange { .. } => 2,
-        Answer::ReadFault(_) => 3,
-        Answer::NoMemory => 5,
-        Answer::JobSize { .. } => 6,
-        Answer::CertificateRefused { .. } => 7,
+    }
+}
+
+/// The status where there is no answer.
+fn stop_status(stop: &Stop) -> u8
+    ensures { result ≡ report.stop_status stop.now }
+{
+    match stop {
+        Stop::Usage => 1,
+        Stop::FileRefused(_)
+        | Stop::FileTooLong
+        | Stop::QuantRefused(_)
+        | Stop::InputRange { .. } => 2,
+        Stop::ReadFault(_) => 3,
+        Stop::NoMemory => 5,
+        Stop::JobSize { .. } => 6,
+        Stop::CertificateRefused { .. } => 7,
+    }
+}
+
+/// The status of an answer that was written, or of what was written where there is none.
+pub fn status_of(outcome: &Result<Answer, Stop>) -> u8
+    ensures { result ≡ report.status_of outcome.now }
+{
+    match outcome {
+        Ok(answer) => answer_status(answer),
+        Err(stop) => stop_status(stop),
+    }
+}
+
+/// Writes why there is no answer. It takes no memory.
+pub(crate) fn put_stop<K: Sink>(sink: &mut K, stop: &Stop) -> Result<(), Failed>
+    ensures { Writes (K.seen sink.old) (K.seen sink.new) result (report.stop_text stop.now) }
+{
+    match stop {
+        Stop::Usage => put_all(sink, b"USAGE\n"),
+        Stop::FileRefused(refusal) => put_file_refusal(sink, *refusal),
+        Stop::FileTooLong => put_all(sink, b"FILE REFUSED 12 TOO_LONG at 65536\n"),
+        Stop::QuantRefused(refusal) => put_quant_refusal(sink, *refusal),
+        Stop::InputRange { index, value } => put_input_range(sink, *index, value),
+        Stop::JobSize { size } => put_number_line(sink, b"JOB SIZE ", *size),
+        Stop::CertificateRefused { line, fault } => put_certificate_refusal(sink, *line, *fault),
+        Stop::ReadFault(WhichFile::Controller) => put_all(sink, b"READ FAULT CONTROLLER\n"),
+        Stop::ReadFault(WhichFile::Certificate) => put_all(sink, b"READ FAULT CERTIFICATE\n"),
+        Stop::NoMemory => put_all(sink, b"NO MEMORY\n"),
     }
 }
 
@@ -572,7 +603,7 @@ pub(crate) fn put_answer<K: Sink>(
 ) -> Result<(), Failed>
     requires { HasPlaces answer.now }
     ensures { Writes (K.seen sink.old) (K.seen sink.new) result
-        (report.text_of (asked_in job.entry) answer.now) }
+        (report.answer_text (asked_in job.entry) answer.now) }
 {
     match answer {
         Answer::Falls { poly, offer, fall } => put_falls(sink, job, poly, &offer.form, fall),
@@ -581,7 +612,10 @@ pub(crate) fn put_answer<K: Sink>(
             offer,
             fall,
             value,
-        } => put_kept_away(sink, job, poly, offer, fall, value),
+        } => {
+            put_heading(sink, FAILED, job)?;
+            put_kept_away(sink, poly, offer, fall, value)
+        }
         Answer::NoZeros => put_no_zeros(sink, job),
         Answer::NoForm { poly, kept, jury } => {
             put_no_form(sink, job, poly, kept.len() as u64, *jury)
@@ -599,18 +633,8 @@ pub(crate) fn put_answer<K: Sink>(
         Answer::Cycles(cycle) => put_limit_cycle(sink, job, cycle),
         Answer::Spent { log } => put_spent(sink, job, log.len() as u64),
         Answer::FormulaText(formula) => write_dimacs(formula, sink),
-        Answer::JobSize { size } => put_number_line(sink, b"JOB SIZE ", *size),
         Answer::Simulated(rows) => put_simulation(sink, job, rows),
         Answer::Generated(found) => put_tally(sink, found),
         Answer::Checked(certified) => put_checked(sink, certified),
-        Answer::CertificateRefused { line, fault } => put_certificate_refusal(sink, *line, *fault),
-        Answer::Usage => put_all(sink, b"USAGE\n"),
-        Answer::FileRefused(refusal) => put_file_refusal(sink, *refusal),
-        Answer::FileTooLong => put_all(sink, b"FILE REFUSED 12 TOO_LONG at 65536\n"),
-        Answer::QuantRefused(refusal) => put_quant_refusal(sink, *refusal),
-        Answer::InputRange { index, value } => put_input_range(sink, *index, value),
-        Answer::ReadFault(WhichFile::Controller) => put_all(sink, b"READ FAULT CONTROLLER\n"),
-        Answer::ReadFault(WhichFile::Certificate) => put_all(sink, b"READ FAULT CERTIFICATE\n"),
-        Answer::NoMemory => put_all(sink, b"NO MEMORY\n"),
     }
 }

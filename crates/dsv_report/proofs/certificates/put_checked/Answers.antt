@@ -8,14 +8,14 @@ pub returns-in_err-put_all : goal.returns-in_err-put_all
 unfolding accepted
 returns-in_err-put_all g c =
     let job = c.args.job.now in
-    writes_cut (property_text job.property ++ (realisation_text job.realisation ++ size_line job.size)) c.from_residual.ensures.0 c.in_err-put_all.ensures.cut
+    writes_cut (property_text job.property ++ (realisation_text job.design.realisation ++ size_line job.size)) c.from_residual.ensures.0 c.in_err-put_all.ensures.cut
 
 pub returns-in_err-put_property : goal.returns-in_err-put_property
 unfolding accepted
 returns-in_err-put_property g c =
     let job = c.args.job.now in
     writes_after c.in_ok-put_all.ensures.whole
-    (writes_cut (realisation_text job.realisation ++ size_line job.size) c.from_residual-in_err-put_property.ensures.0 c.in_err-put_property.ensures.cut)
+    (writes_cut (realisation_text job.design.realisation ++ size_line job.size) c.from_residual-in_err-put_property.ensures.0 c.in_err-put_property.ensures.cut)
 
 pub returns-in_err-put_realisation : goal.returns-in_err-put_realisation
 unfolding accepted

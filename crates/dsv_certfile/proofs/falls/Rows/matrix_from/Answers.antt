@@ -1,7 +1,7 @@
 use Rattle.std.proofs.Common.{◌≡◌, ◌<◌, ◌≤◌, length, drop, take, map, get_or, set, ap, ◌∙◌, rules, arith}
 use Rattle.std.proofs.Math.Seq.{take-length}
 use Rattle.dsv_forms.specs.Padded.{row_of, matrix_with}
-use Rattle.dsv_certfile.proofs.Filling.{matrix_step}
+use Rattle.dsv_forms.proofs.Filling.{matrix_step}
 use Rattle.dsv_certfile.proofs.falls.Rows.matrix_from.Goals as goal
 
 pub loop-i-preserved : goal.loop-i-preserved

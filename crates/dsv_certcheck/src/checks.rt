@@ -1,0 +1,124 @@
+// The check of certificates against controllers.
+ghost use Rattle.std.specs.Prelude.{◌≡◌, OnOk};
+ghost use Rattle.dsv_certcheck.specs.Checks.{Finds, IsChecked, words_check, hints_check};
+ghost use Rattle.dsv_certcheck.specs.Checks.{invariant_check, falls_check, offer_check};
+ghost use Rattle.dsv_certcheck.specs.Shown.{Has, IsShownOf, IsFalling};
+ghost use Rattle.dsv_certfile.specs.Texts.{job_of};
+
+use crate::check_refusal::CheckRefusal;
+use crate::checked_logs::{check_run, check_set};
+use crate::line_numbers::{KIND_LINE, form_line};
+use dsv_certfile::{Certificate, CheckFault, Job, MOST_JOB_SAMPLES, Size};
+use dsv_forms::{Falls, Poly, check_falls};
+use dsv_hints::Log;
+use dsv_names::{Property, RunProperty};
+use dsv_quantiser::{Quantised, quantise_in};
+use dsv_reader::Controller;
+use dsv_template::{Candidate, ThreeLogs};
+use dsv_tested::{Tested, polynomial_of, side_of};
+use std::alloc::Global;
+
+/// The kind belongs to no such job.
+const MISFIT: CheckRefusal = CheckRefusal::Line {
+    line: KIND_LINE,
+    fault: CheckFault::Shape,
+};
+
+/// Checks that a log shows the property of a job.
+fn check_hints(alloc: Global, q: &Quantised, job: &Job, log: &Log) -> Result<(), CheckRefusal>
+    ensures found { Finds result (hints_check q.now job.now.property job.now.size log.now) }
+    ensures shows { OnOk result (Has q.now job.now.property job.now.size) }
+{
+    match (job.property, job.size) {
+        (Property::OfRuns(property), Size::Samples(samples))
+            if 1 <= samples && samples <= MOST_JOB_SAMPLES => {
+            check_run(alloc, q, property, samples, log)
+        }
+        (_, _) => Err(MISFIT),
+    }
+}
+
+/// Checks that a set shows the property of a job.
+fn check_invariant(
+    alloc: Global,
+    q: &Quantised,
+    job: &Job,
+    candidate: &Candidate,
+    logs: &ThreeLogs,
+) -> Result<(), CheckRefusal>
+    ensures found { Finds result
+        (invariant_check q.now job.now.property job.now.size candidate.now logs.now) }
+    ensures shows { OnOk result (Has q.now job.now.property job.now.size) }
+{
+    match (job.property, job.size) {
+        (Property::OfRuns(RunProperty::Overflow), Size::Unbounded) => {
+            check_set(alloc, q, candidate, logs)
+        }
+        (_, _) => Err(MISFIT),
+    }
+}
+
+/// Checks that a form falls along the trajectories of a polynomial.
+fn check_offer(poly: &Poly, offer: &Falls) -> Result<(), CheckRefusal>
+    ensures found { result ≡ offer_check poly.now offer.now }
+    ensures shows { OnOk result (IsFalling poly.now offer.now.form) }
+{
+    if offer.form.d as usize != poly.order() {
+        return Err(MISFIT);
+    }
+    match check_falls(poly, offer) {
+        Ok(_) => Ok(()),
+        Err(refusal) => Err(CheckRefusal::Line {
+            line: form_line(offer, refusal),
+            fault: CheckFault::Form,
+        }),
+    }
+}
+
+/// Checks that a form shows the property of a job.
+fn check_form(q: &Quantised, job: &Job, offer: &Falls) -> Result<(), CheckRefusal>
+    ensures found { result ≡ falls_check q.now job.now.property job.now.size offer.now }
+    ensures shows { OnOk result (Has q.now job.now.property job.now.size) }
+{
+    match (job.property, job.size) {
+        (Property::OfRoots(property), Size::NoSize) => match polynomial_of(q, side_of(property))? {
+            Tested::Poly(poly) => check_offer(&poly, offer),
+            Tested::NoZeros => Err(CheckRefusal::NoZeros),
+        },
+        (_, _) => Err(MISFIT),
+    }
+}
+
+/// Checks a certificate for a controller in words.
+fn check_words(alloc: Global, q: &Quantised, certificate: &Certificate) -> Result<(), CheckRefusal>
+    ensures found { Finds result (words_check q.now certificate.now) }
+    ensures shows { OnOk result
+        (Has q.now (job_of certificate.now).property (job_of certificate.now).size) }
+{
+    match certificate {
+        Certificate::Hints { job, log } => check_hints(alloc, q, job, log),
+        Certificate::Invariant {
+            job,
+            candidate,
+            logs,
+        } => check_invariant(alloc, q, job, candidate, logs),
+        Certificate::Falls { job, offer } => check_form(q, job, offer),
+    }
+}
+
+/// Checks a certificate against a controller: the controller's words in the certificate's modes,
+/// and from these the formulas of its job, or the polynomial, are made anew, and nothing else that
+/// the certificate says is believed. What passes has the certificate's property, whatever else is
+/// in the certificate. It takes memory for a formula and a log at a time.
+pub fn check(
+    alloc: Global,
+    controller: &Controller,
+    certificate: &Certificate,
+) -> Result<(), CheckRefusal>
+    ensures found { IsChecked controller.now certificate.now result }
+    ensures shows { OnOk result (IsShownOf controller.now (job_of certificate.now)) }
+{
+    let job = certificate.job();
+    let q = quantise_in(controller, job.design)?;
+    check_words(alloc, &q, certificate)
+}

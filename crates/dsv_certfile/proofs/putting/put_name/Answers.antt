@@ -1,4 +1,0 @@
-use Rattle.dsv_certfile.proofs.putting.put_name.Goals as goal
-
-pub returns : goal.returns
-returns g c = rw (c.as_bytes.ensures.value, c.name.ensures) at c.put_piece.ensures

@@ -1,0 +1,54 @@
+-- Why the bytes of a file aren't those of a controller or a certificate.
+use Rattle.std.proofs.Common.{◌≡◌, refl, ℕ, ◌+◌, ◌<◌, ◌≤◌, List, length}
+use Rattle.std.specs.Prelude.{Option, IfSome}
+use Rattle.dsv_base.specs.Counts.{Rose}
+use Rattle.dsv_base.specs.Seen.{FilesSeen}
+use Rattle.dsv_token.specs.Memory.{Refuses}
+use Rattle.dsv_token.specs.declared.refusal.FileRefusal.{FileRefusal}
+use Rattle.dsv_token.specs.declared.refusal.FileRefusal.TheVariants as text
+use Rattle.dsv_reader.specs.Reading.{reading}
+use Rattle.dsv_certfile.specs.Answers as certificates
+use Rattle.dsv_certfile.specs.Reading.{certificate_in}
+use Rattle.dsv_certfile.specs.declared.fault.CertRefusal.{CertRefusal}
+use Rattle.dsv_certfile.specs.declared.fault.CertRefusal.TheVariants as unread
+use Rattle.dsv_report.specs.Stops.{stop_of_file, stop_of_text}
+use Rattle.dsv_report.specs.declared.stop.CertificateFault.TheVariants as fault
+use Rattle.dsv_report.specs.declared.stop.Stop.{Stop}
+use Rattle.dsv_report.specs.declared.stop.Stop.TheVariants as stop
+use Rattle.dsv_report.specs.declared.stop.WhichFile.{WhichFile}
+use Rattle.dsv_report.specs.declared.stop.WhichFile.TheVariants as file
+use Rattle.dsv_cli.specs.Checking.{IsUnreadCertificate}
+use Rattle.dsv_cli.specs.FileBytes.{limit_of, too_long_of, IsUnreadFile}
+use Rattle.dsv_cli.specs.Headline.{longest_file, longest_certificate, IsUnread}
+use Rattle.dsv_cli.proofs.Told.{some_came, more_came}
+
+-- ---- bytes that didn't come
+pub long_unread : (old new : FilesSeen) (name : List ℕ) (which : WhichFile) (why : Stop) → why ≡ too_long_of which → IfSome (old.held name) (λ file. limit_of which < length file)
+    → Rose (old.came + limit_of which) new.came → IsUnreadFile old new name which why
+long_unread old new name file.Controller why e h r = rw e (refl, more_came longest_file (old.held name) h, r)
+long_unread old new name file.Certificate why e h r = rw e (refl, more_came longest_certificate (old.held name) h, r)
+
+pub controller_unread : (old new : FilesSeen) (name : List ℕ) (why : Stop) → IsUnreadFile old new name file.Controller why → IsUnread (old.held name) old new name why
+controller_unread old new name (stop.ReadFault file.Controller) h = record { belongs_to = tt; comes_from = some_came (old.held name); shows = (h.1, h.2) }
+controller_unread old new name (stop.ReadFault file.Certificate) h = absurd (let e = h.0 in cc)
+controller_unread old new name stop.NoMemory h = tt
+controller_unread old new name stop.FileTooLong h = record { belongs_to = tt; comes_from = h.1; shows = h.2 }
+controller_unread old new name why h = absurd (let e = h.0 in cc)
+
+pub certificate_unread : (old new : FilesSeen) (name : List ℕ) (why : Stop) → IsUnreadFile old new name file.Certificate why → IsUnreadCertificate old new name why
+certificate_unread old new name (stop.ReadFault file.Certificate) h = (h.1, h.2)
+certificate_unread old new name (stop.ReadFault file.Controller) h = absurd (let e = h.0 in cc)
+certificate_unread old new name stop.NoMemory h = tt
+certificate_unread old new name (stop.CertificateRefused line fault.TooLong) h = ((let e = h.0 in cc), h.1, h.2)
+certificate_unread old new name why h = absurd (let e = h.0 in cc)
+
+-- ---- bytes that came
+pub controller_faulty : (told : Option (List ℕ)) (old new : FilesSeen) (name bytes : List ℕ) (r : FileRefusal) → IfSome told (λ file. bytes ≡ file) → length bytes ≤ longest_file → Refuses r (reading bytes)
+    → IsUnread told old new name (stop_of_file r)
+controller_faulty told old new name bytes text.NoMemory e short h = tt
+controller_faulty told old new name bytes r e short h = record { belongs_to = tt; comes_from = (bytes, e, (short, h)); shows = tt }
+
+pub certificate_faulty : (old new : FilesSeen) (name bytes : List ℕ) (r : CertRefusal) → IfSome (old.held name) (λ file. bytes ≡ file) → length bytes ≤ longest_certificate
+    → certificates.Refuses r (certificate_in bytes) → IsUnreadCertificate old new name (stop_of_text r)
+certificate_faulty old new name bytes (unread.Text line why) e short h = (bytes, e, (short, h))
+certificate_faulty old new name bytes unread.NoMemory e short h = tt

@@ -1,0 +1,135 @@
+-- Proposers that nobody asked, and polynomials that need none.
+use Rattle.std.proofs.Common.{◌≡◌, ℕ, ◌+◌, ◌-◌, List, [], ◌∷◌, length, drop, map, refl, subst, sym, arith}
+use Rattle.std.specs.Prelude.{Bool, true, false, Option, Some, None, Ok, Err, IfOk, if◌then◌else◌, ℤ}
+use Rattle.dsv_base.specs.Seen.{FilesSeen}
+use Rattle.dsv_forms.specs.declared.offers.FormOffer.{FormOffer}
+use Rattle.dsv_closed_forms.specs.ClosedForm.{closed_form_of, are_within, second_limit}
+use Rattle.dsv_cli.specs.Suffixes.{IsSuffix}
+use Rattle.dsv_lyapunov.specs.declared.kept.KeptForm.{KeptForm}
+use Rattle.dsv_command.specs.Jobs.{Asked}
+use Rattle.dsv_names.specs.declared.property.RootProperty.{RootProperty}
+use Rattle.dsv_report.specs.Printing.{HasPlaces}
+use Rattle.dsv_report.specs.declared.answers.Answer.TheVariants as answer
+use Rattle.dsv_report.specs.declared.stop.Stop.TheVariants as stop
+use Rattle.dsv_report.specs.Stops.{Outcome}
+use Rattle.dsv_quantiser.specs.FixedPoint.{FixedPoint}
+use Rattle.dsv_template.specs.declared.candidate.Candidate.{Candidate}
+use Rattle.dsv_template.specs.declared.kept.KeptSet.{KeptSet}
+use Rattle.dsv_template.specs.declared.shape.Shape.{Shape}
+use Rattle.dsv_cli.specs.Causes.{IsPlain, IsOfProperty, IsOfSets}
+use Rattle.dsv_cli.specs.Headline.{IsRow}
+use Rattle.dsv_cli.specs.Proposers.{IsAsked, IfOffered, IfNoForm, AreSetsAsked, IfAlways, IfNoInvariant, is_low}
+
+-- ---- nobody is asked
+none : (n : ℕ) → n - n ≡ 0
+none n = omega arith
+
+same_list : {B P : Type 0} (place : B → P) (xs : List B) → IsSuffix place xs xs
+same_list place xs = record {
+  shorter = omega arith;
+  same = subst (λ n. map place xs ≡ drop n (map place xs)) (sym (none (length xs))) refl;
+  others = subst (λ n. drop 1 xs ≡ drop (n + 1) xs) (sym (none (length xs))) refl;
+}
+
+none_offered : (found : Outcome) (P : List ℤ → FormOffer → Type 0) → IsPlain found → IfOffered found P
+none_offered (Ok (answer.Falls poly offer fall)) P h = absurd h
+none_offered (Ok (answer.KeptAway poly offer fall value)) P h = absurd h
+none_offered found P h = tt
+
+pub some_form : (found : Outcome) (P : List ℤ → List KeptForm → Type 0) → IsPlain found → IfNoForm found P
+some_form (Ok (answer.NoForm poly kept verdict)) P h = absurd h
+some_form found P h = tt
+
+-- no proposer of forms is asked
+pub unasked : {B P : Type 0} (place : B → P) (last : B → Option FormOffer) (sure : B → List ℤ → Type 0) (to_come : B → List ℤ → Option (List FormOffer)) (xs : List B) (found : Outcome) → IsPlain found
+    → IsAsked place last sure to_come xs xs found
+unasked place last sure to_come xs found h = record {
+  suffix = same_list place xs;
+  unasked = λ n. refl;
+  offered = none_offered found _ h;
+  none_sure = some_form found _ h;
+  none_left = some_form found _ h;
+  blocks = some_form found _ h;
+}
+
+pub unasked_for_sets : {B P : Type 0} (place : B → P) (last : B → Option FormOffer) (sure : B → List ℤ → Type 0) (to_come : B → List ℤ → Option (List FormOffer)) (xs : List B) (conflicts : ℕ) (words : FixedPoint) (found : Outcome)
+    → IsOfSets conflicts words found → IsAsked place last sure to_come xs xs found
+unasked_for_sets place last sure to_come xs conflicts words (Ok (answer.Always candidate logs)) h =
+    record { suffix = same_list place xs; unasked = λ n. refl; offered = tt; none_sure = tt; none_left = tt; blocks = tt }
+unasked_for_sets place last sure to_come xs conflicts words (Ok (answer.NoInvariant kept)) h =
+    record { suffix = same_list place xs; unasked = λ n. refl; offered = tt; none_sure = tt; none_left = tt; blocks = tt }
+unasked_for_sets place last sure to_come xs conflicts words (Err (stop.JobSize size)) h = unasked place last sure to_come xs (Err (stop.JobSize size)) tt
+unasked_for_sets place last sure to_come xs conflicts words (Err stop.NoMemory) h = unasked place last sure to_come xs (Err stop.NoMemory) tt
+unasked_for_sets place last sure to_come xs conflicts words found h = absurd h
+
+-- no proposer of sets is asked
+same_sets : {B P : Type 0} (place : B → P) (last : B → Option Candidate) (to_come : B → Shape → Option (List Candidate)) (becomes : FixedPoint → Type 0) (xs : List B) (found : Outcome)
+    → ((P : Candidate → Type 0) → IfAlways found P) → ((P : List KeptSet → Type 0) → IfNoInvariant found P) → AreSetsAsked place last to_come becomes xs xs found
+same_sets place last to_come becomes xs found none_kept none_left = record {
+  suffix = same_list place xs;
+  unasked = λ n. refl;
+  offered = none_kept _;
+  none_left = none_left _;
+  asked = none_left _;
+}
+
+pub sets_unasked : {B P : Type 0} (place : B → P) (last : B → Option Candidate) (to_come : B → Shape → Option (List Candidate)) (becomes : FixedPoint → Type 0) (xs : List B) (found : Outcome)
+    → IsPlain found → AreSetsAsked place last to_come becomes xs xs found
+sets_unasked place last to_come becomes xs found h = same_sets place last to_come becomes xs found (λ P. none_kept found P h) (λ P. none_left found P h)
+  where
+    none_kept : (found : Outcome) (P : Candidate → Type 0) → IsPlain found → IfAlways found P
+    none_kept (Ok (answer.Always candidate logs)) P h = absurd h
+    none_kept found P h = tt
+
+    none_left : (found : Outcome) (P : List KeptSet → Type 0) → IsPlain found → IfNoInvariant found P
+    none_left (Ok (answer.NoInvariant kept)) P h = absurd h
+    none_left found P h = tt
+
+pub sets_unasked_for_roots : {B P : Type 0} (place : B → P) (last : B → Option Candidate) (to_come : B → Shape → Option (List Candidate)) (becomes : FixedPoint → Type 0) (xs : List B) (property : RootProperty) (words : FixedPoint)
+    (found : Outcome) → IsOfProperty property words found → AreSetsAsked place last to_come becomes xs xs found
+sets_unasked_for_roots place last to_come becomes xs property words found h = same_sets place last to_come becomes xs found (λ P. none_kept found P h) (λ P. none_left found P h)
+  where
+    none_kept : (found : Outcome) (P : Candidate → Type 0) → IsOfProperty property words found → IfAlways found P
+    none_kept (Ok (answer.Always candidate logs)) P h = absurd h.decision
+    none_kept found P h = tt
+
+    none_left : (found : Outcome) (P : List KeptSet → Type 0) → IsOfProperty property words found → IfNoInvariant found P
+    none_left (Ok (answer.NoInvariant kept)) P h = absurd h.decision
+    none_left found P h = tt
+
+-- the words are those that the job's file becomes
+pub sets_asked_for : {B P : Type 0} (place : B → P) (last : B → Option Candidate) (to_come : B → Shape → Option (List Candidate)) (R S : FixedPoint → Type 0) (before after : List B) (found : Outcome)
+    → ((w : FixedPoint) → R w → S w) → AreSetsAsked place last to_come R before after found → AreSetsAsked place last to_come S before after found
+sets_asked_for place last to_come R S before after found f h = record {
+  suffix = h.suffix;
+  unasked = h.unasked;
+  offered = h.offered;
+  none_left = h.none_left;
+  asked = weaker found (λ kept t. (t.0, f t.0 t.1, t.2)) h.asked;
+}
+  where
+    weaker : {P Q : List KeptSet → Type 0} (found : Outcome) → ((kept : List KeptSet) → P kept → Q kept) → IfNoInvariant found P → IfNoInvariant found Q
+    weaker (Ok (answer.NoInvariant kept)) f h = f kept h
+    weaker found f h = tt
+
+-- no form is in what needs no proposer, and in what sets decide
+pub plain_places : (found : Outcome) → IsPlain found → IfOk found HasPlaces
+plain_places (Ok (answer.Falls poly offer fall)) h = absurd h
+plain_places (Ok (answer.KeptAway poly offer fall value)) h = absurd h
+plain_places found h = tt
+
+-- ---- low orders
+without : (b : Bool) (offer : FormOffer) → (if b then Some offer else None) ≡ None → b ≡ false
+without true offer h = absurd (cc)
+without false offer h = refl
+
+no_low : (poly : List ℤ) → closed_form_of poly ≡ None → is_low poly ≡ false
+no_low [] h = refl
+no_low (c0 ∷ []) h = absurd (cc)
+no_low (c0 ∷ c1 ∷ []) h = absurd (cc)
+no_low (c0 ∷ c1 ∷ c2 ∷ []) h = without (are_within second_limit (c0 ∷ c1 ∷ c2 ∷ [])) _ h
+no_low (c0 ∷ c1 ∷ c2 ∷ c3 ∷ cs) h = refl
+
+pub low_is_decided : (told : Option (List ℕ)) (old new : FilesSeen) (job : Asked) (found : Outcome) → IsRow told old new job found → IfNoForm found (λ poly kept. is_low poly ≡ false)
+low_is_decided told old new job (Ok (answer.NoForm poly kept verdict)) h = no_low poly h.shows.no_closed_form
+low_is_decided told old new job found h = tt

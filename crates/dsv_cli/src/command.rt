@@ -1,0 +1,129 @@
+// The command.
+ghost use Rattle.std.specs.Prelude.{◌≡◌, false, Some, None, IfOk, IfSome, map, string_bytes};
+ghost use Rattle.dsv_certfile.specs.Typed.{IsTyped};
+ghost use Rattle.dsv_command.specs.Requests.{request_of, job_of};
+ghost use Rattle.dsv_report.specs.Printing.{HasPlaces, asked_in};
+ghost use Rattle.dsv_report.specs.Output.{output_of, certificate_written};
+ghost use Rattle.dsv_report.specs.Report.{status_of};
+ghost use Rattle.dsv_cli.specs.Headline.{IsExplained, IsOfGeneration, FileBecomes};
+ghost use Rattle.dsv_cli.specs.Headline.{AreKept, IsWritten, IfWhole};
+ghost use Rattle.dsv_cli.specs.Causes.{IsPlain};
+ghost use Rattle.dsv_cli.specs.Proposers.{IsAsked, AreSetsAsked, IfNoForm, is_low};
+ghost use Rattle.dsv_cli.specs.Proposers.{WantsForm, WantsSet};
+
+use crate::check::check_answer;
+use crate::job::job_answer;
+use crate::proposers::Proposers;
+use dsv_base::{Files, Sink};
+use dsv_command::{Generation, Job, Request, read_request};
+use dsv_generator::generate;
+use dsv_lyapunov::FormProposer;
+use dsv_report::{Answer, Stop, put_output, status_of};
+use dsv_template::InvariantProposer;
+use std::alloc::Global;
+
+/// The status of a run whose sink failed.
+const WRITE_FAULT: u8 = 4;
+
+/// The status of a run, and what it came to: an answer, or why there is none. The status is 4 where
+/// that couldn't be written.
+#[derive(Drop)]
+pub struct Done {
+    pub status: u8,
+    pub outcome: Result<Answer, Stop>,
+}
+
+/// What is found of so many controllers of a seed.
+fn generation_answer(alloc: Global, asked: Generation) -> Result<Answer, Stop>
+    ensures found { IsOfGeneration asked.seed asked.count result }
+    ensures plain { IsPlain result }
+{
+    Ok(Answer::Generated(generate(alloc, asked.seed, asked.count)?))
+}
+
+/// Writes what a request came to. The status is 4 where not the whole text was written.
+pub(crate) fn written_status<K: Sink>(
+    sink: &mut K,
+    job: Option<&Job>,
+    outcome: &Result<Answer, Stop>,
+) -> u8
+    requires { IfOk outcome.now HasPlaces }
+    ensures written { IsWritten (K.seen sink.old) (K.seen sink.new) result (status_of outcome.now)
+        (output_of (asked_in job.entry) outcome.now) }
+    ensures typed { IfWhole result
+        (IfSome (certificate_written (asked_in job.entry) outcome.now) IsTyped) }
+{
+    match put_output(sink, job, outcome) {
+        Ok(()) => status_of(outcome),
+        Err(_) => WRITE_FAULT,
+    }
+}
+
+/// Writes what a request came to, where it is no job.
+pub(crate) fn put_outcome<K: Sink>(sink: &mut K, outcome: Result<Answer, Stop>) -> Done
+    requires { IfOk outcome HasPlaces }
+    ensures outcome { result.outcome ≡ outcome }
+    ensures written { IsWritten (K.seen sink.old) (K.seen sink.new) result.status
+        (status_of outcome) (output_of None outcome) }
+    ensures typed { IfWhole result.status (IfSome (certificate_written None outcome) IsTyped) }
+{
+    let status = written_status(sink, None, &outcome);
+    Done { status, outcome }
+}
+
+/// Runs the command: finds the answer for the arguments after the program's name, and writes its
+/// text to the sink. The writing takes no memory; where the sink fails, a prefix of the text was
+/// written and the status is 4. A polynomial without a closed form is decided by what the proposers
+/// of forms offer, and runs of any length by what those of sets offer; they are asked in their
+/// order and need no trust.
+pub fn run<F: Files, K: Sink>(
+    alloc: Global,
+    arguments: &[String],
+    files: &mut F,
+    sink: &mut K,
+    proposers: &mut Proposers,
+) -> Done
+    // The outcome's row in the table holds.
+    ensures explained { IsExplained (F.seen files.old) (F.seen files.new)
+        (request_of (map string_bytes arguments.now)) result.outcome }
+    // What becomes of the proposers: a list that the answer doesn't need stays as it was.
+    ensures sets { AreSetsAsked (λ b. b.ptr)
+        (λ b. (⟦<dyn InvariantProposer as InvariantProposer>⟧ b.vtable).last b.value)
+        (λ b shape. (⟦<dyn InvariantProposer as InvariantProposer>⟧ b.vtable).to_come b.value shape)
+        (FileBecomes (F.seen files.old) (job_of (map string_bytes arguments.now)))
+        proposers.old.sets.items proposers.new.sets.items result.outcome }
+    ensures forms { IsAsked (λ b. b.ptr)
+        (λ b. (⟦<dyn FormProposer as FormProposer>⟧ b.vtable).last b.value)
+        (λ b cs. sure b cs)
+        (λ b cs. (⟦<dyn FormProposer as FormProposer>⟧ b.vtable).to_come b.value cs)
+        proposers.old.forms.items proposers.new.forms.items result.outcome }
+    // A list that the job doesn't need stays as it was whatever the outcome, want of memory too.
+    ensures unneeded_sets { (WantsSet (job_of (map string_bytes arguments.now)) → ⊥)
+        → proposers.new.sets.items ≡ proposers.old.sets.items }
+    ensures unneeded_forms { (WantsForm (job_of (map string_bytes arguments.now)) → ⊥)
+        → proposers.new.forms.items ≡ proposers.old.forms.items }
+    // A polynomial of order 0 or 1, or 2 with small coefficients, is always decided.
+    ensures low_orders { IfNoForm result.outcome (λ poly kept. is_low poly ≡ false) }
+    // What the files hold is as before.
+    ensures kept { AreKept (F.seen files.old) (F.seen files.new) }
+    // The certificate that the job wants, or else the outcome's text, was written and the status is
+    // the outcome's, or the status is 4 and the sink failed.
+    ensures written { IsWritten (K.seen sink.old) (K.seen sink.new) result.status
+        (status_of result.outcome)
+        (output_of (job_of (map string_bytes arguments.now)) result.outcome) }
+    // Of a certificate that was written whole its types are known.
+    ensures typed { IfWhole result.status (IfSome
+        (certificate_written (job_of (map string_bytes arguments.now)) result.outcome) IsTyped) }
+{
+    match read_request(alloc, arguments) {
+        Ok(Some(Request::OnFile(job))) => {
+            let outcome = job_answer(alloc, &job, files, proposers);
+            let status = written_status(sink, Some(&job), &outcome);
+            Done { status, outcome }
+        }
+        Ok(Some(Request::Check(asked))) => put_outcome(sink, check_answer(alloc, &asked, files)),
+        Ok(Some(Request::Generate(asked))) => put_outcome(sink, generation_answer(alloc, asked)),
+        Ok(None) => put_outcome(sink, Err(Stop::Usage)),
+        Err(_) => put_outcome(sink, Err(Stop::NoMemory)),
+    }
+}

@@ -1,0 +1,160 @@
+// Decides a polynomial by a form that is checked.
+ghost use Rattle.std.specs.Prelude.{◌≡◌, [], Some, None, IfOk, IfSome};
+ghost use Rattle.dsv_closed_forms.specs.ClosedForm.{closed_form_of, IsAccepted};
+ghost use Rattle.dsv_jury.specs.Jury.{jury_of};
+ghost use Rattle.dsv_lyapunov.specs.Answers.{offer_in, IsShown};
+ghost use Rattle.dsv_cli.specs.Asking.{IsJudged, IfAccepted, IfRefused, IsNotAccepted, offer_of};
+ghost use Rattle.dsv_cli.specs.Asking.{IfChecked, IfNoForm, IsChecked};
+ghost use Rattle.dsv_lyapunov.specs.Kept.{AreRefused};
+ghost use Rattle.dsv_cli.specs.Blocks.{AreBlocks, IsTurn};
+ghost use Rattle.dsv_cli.specs.Proposers.{offers_in, told_of};
+ghost use Rattle.dsv_cli.specs.Suffixes.{IsSuffix, IfFirst, HoldsOfNone};
+
+use dsv_base::NoMemory;
+use dsv_closed_forms::closed_form;
+use dsv_forms::{FormOffer, Poly};
+use dsv_jury::{Jury, jury};
+use dsv_lyapunov::{CheckedForm, FormProposer, KeptForm, KeptForms, check_offer};
+use std::alloc::Global;
+
+/// The most offers of one proposer that are refused.
+const MOST_OFFERS: u32 = 32;
+
+/// What came of asking a proposer once.
+#[derive(Clone, Copy)]
+pub(crate) enum FormTurn {
+    /// It offers nothing more.
+    Nothing,
+    Accepted(CheckedForm),
+    Refused(KeptForm),
+}
+
+/// Asks a proposer once, and tells it where its offer is refused.
+fn ask(poly: &Poly, first: &mut Box<dyn FormProposer>) -> FormTurn
+    ensures same { first.new.ptr ≡ first.old.ptr }
+    ensures judged { IsJudged poly.now result }
+    ensures last { IfAccepted result (λ found. last first.new ≡ Some (offer_in found)) }
+    ensures sure { IsNotAccepted result → sure first.old poly.now → ⊥ }
+    ensures turn { IsTurn (to_come first.old poly.now) (to_come first.new poly.now)
+        (offer_of result) }
+    ensures heard { IfRefused result (λ kept. heard first.new kept.refusal) }
+{
+    let Some(offer) = first.propose(poly) else {
+        return FormTurn::Nothing;
+    };
+    match check_offer(poly, &offer) {
+        Ok(found) => FormTurn::Accepted(found),
+        Err(refusal) => {
+            first.tell(&refusal);
+            FormTurn::Refused(KeptForm { offer, refusal })
+        }
+    }
+}
+
+/// What was found of a polynomial.
+#[derive(Drop)]
+pub enum FormAnswer {
+    /// A form shows whether its trajectories fall.
+    Checked(CheckedForm),
+    /// It has no closed form, and no proposer offered a form that is accepted: all offers with
+    /// their refusals, and what Jury's recursion says.
+    NoForm { kept: KeptForms, jury: Jury },
+}
+
+/// The checked form of an offer that is accepted.
+fn accepted_form(poly: &Poly, offer: &FormOffer) -> CheckedForm
+    requires { IsAccepted poly.now offer.now }
+    ensures same { offer_in result ≡ offer.now }
+    ensures shown { IsShown poly.now result }
+{
+    match check_offer(poly, offer) {
+        Ok(found) => found,
+        Err(_) => unreachable!(),
+    }
+}
+
+/// Asks the proposers in their order until a form is accepted. One that offers nothing, or whose
+/// 32nd offer was refused, is dropped; one whose offer is accepted stays in front.
+fn asked_answer(
+    alloc: Global,
+    poly: &Poly,
+    forms: &mut Vec<Box<dyn FormProposer>>,
+) -> Result<FormAnswer, NoMemory>
+    ensures suffix { IsSuffix (λ b. b.ptr) forms.old.items forms.new.items }
+    ensures shown { IfOk result (λ a. IfChecked a (λ found. IsShown poly.now found)) }
+    ensures accepted { IfOk result (λ a. IfChecked a (λ found.
+        IsAccepted poly.now (offer_in found))) }
+    ensures last { IfOk result (λ a. IfChecked a (λ found.
+        IfFirst forms.new.items (λ b. last b ≡ Some (offer_in found)))) }
+    ensures none_left { IfOk result (λ a. IfNoForm a (λ kept verdict. forms.new.items ≡ [])) }
+    ensures causes { IfOk result (λ a. IfNoForm a (λ kept verdict. AreRefused poly.now kept)) }
+    ensures blocks { IfOk result (λ a. IfNoForm a (λ kept verdict. AreBlocks 32
+        (told_of (λ b cs. to_come b cs) poly.now forms.old.items) (offers_in kept))) }
+    ensures sure { IfOk result (λ a. IfNoForm a (λ kept verdict.
+        HoldsOfNone (λ b. sure b poly.now) forms.old.items)) }
+    ensures jury { IfOk result (λ a. IfNoForm a (λ kept verdict. verdict ≡ jury_of poly.now)) }
+{
+    let mut kept = KeptForms::new(alloc);
+    let mut asked = 0;
+    'asking: while !forms.is_empty() {
+        match ask(poly, &mut forms[0]) {
+            FormTurn::Nothing => {
+                forms.remove(0);
+                asked = 0;
+            }
+            FormTurn::Accepted(found) => return Ok(FormAnswer::Checked(found)),
+            FormTurn::Refused(form) => {
+                kept.push(form)?;
+                asked += 1;
+                if asked == MOST_OFFERS {
+                    forms.remove(0);
+                    asked = 0;
+                }
+            }
+        }
+    }
+    Ok(FormAnswer::NoForm {
+        kept,
+        jury: jury(poly),
+    })
+}
+
+/// Decides a polynomial by a form that is checked: its closed form, where it has one, and else what
+/// the proposers offer, who are asked in their order. One that offers nothing, or whose 32nd offer
+/// was refused, is dropped; one whose offer is accepted stays in front.
+pub fn decide(
+    alloc: Global,
+    poly: &Poly,
+    forms: &mut Vec<Box<dyn FormProposer>>,
+) -> Result<FormAnswer, NoMemory>
+    // Where there is a closed form, the answer is that offer; no memory is taken and nobody asked.
+    ensures closed { IfSome (closed_form_of poly.now) (λ offer. IsChecked result offer) }
+    ensures unasked { IfSome (closed_form_of poly.now)
+        (λ offer. forms.new.items ≡ forms.old.items) }
+    // What is left of the proposers: the last of them, and only the first was asked.
+    ensures suffix { IsSuffix (λ b. b.ptr) forms.old.items forms.new.items }
+    // A form is accepted by its check and shows what it says.
+    ensures accepted { IfOk result (λ a. IfChecked a (λ found.
+        IsAccepted poly.now (offer_in found))) }
+    ensures shown { IfOk result (λ a. IfChecked a (λ found. IsShown poly.now found)) }
+    // Where it is no closed form, the first proposer that is left gave it last.
+    ensures last { closed_form_of poly.now ≡ None → IfOk result (λ a. IfChecked a (λ found.
+        IfFirst forms.new.items (λ b. last b ≡ Some (offer_in found)))) }
+    // No form: there is no closed form, no proposer was sure and none is left, each kept offer has
+    // its refusal, and they are a block of each proposer: the first 32 of what it tells, and else
+    // at most 32.
+    ensures no_form { IfOk result (λ a. IfNoForm a (λ kept verdict.
+        closed_form_of poly.now ≡ None)) }
+    ensures none_left { IfOk result (λ a. IfNoForm a (λ kept verdict. forms.new.items ≡ [])) }
+    ensures causes { IfOk result (λ a. IfNoForm a (λ kept verdict. AreRefused poly.now kept)) }
+    ensures blocks { IfOk result (λ a. IfNoForm a (λ kept verdict. AreBlocks 32
+        (told_of (λ b cs. to_come b cs) poly.now forms.old.items) (offers_in kept))) }
+    ensures sure { IfOk result (λ a. IfNoForm a (λ kept verdict.
+        HoldsOfNone (λ b. sure b poly.now) forms.old.items)) }
+    ensures jury { IfOk result (λ a. IfNoForm a (λ kept verdict. verdict ≡ jury_of poly.now)) }
+{
+    match closed_form(poly) {
+        Some(offer) => Ok(FormAnswer::Checked(accepted_form(poly, &offer))),
+        None => asked_answer(alloc, poly, forms),
+    }
+}

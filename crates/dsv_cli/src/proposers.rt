@@ -1,0 +1,96 @@
+// The proposers that a run may ask, and the command with those that are built in.
+ghost use Rattle.std.specs.Prelude.{◌≡◌, [], ◌∷◌, false, Some, IfSome, map, string_bytes};
+ghost use Rattle.dsv_certfile.specs.Typed.{IsTyped};
+ghost use Rattle.dsv_command.specs.Requests.{request_of, job_of};
+ghost use Rattle.dsv_report.specs.Output.{output_of, certificate_written};
+ghost use Rattle.dsv_report.specs.Report.{status_of};
+ghost use Rattle.dsv_invariant.specs.Shapes.{shape_of};
+ghost use Rattle.dsv_template.specs.declared.shape.Shape.{Shape};
+ghost use Rattle.dsv_template.specs.Boxes.{boxes};
+ghost use Rattle.dsv_cli.specs.Headline.{IsExplained, FileBecomes, AreKept, IsWritten, IfWhole};
+ghost use Rattle.dsv_cli.specs.Proposers.{IfNoForm, IfNoInvariant, is_low};
+ghost use Rattle.dsv_cli.specs.Sets.{AreOfJob};
+
+use crate::command::{Done, put_outcome, run};
+use dsv_base::{Files, Sink};
+use dsv_lyapunov::{FormProposer, SumProposer};
+use dsv_report::Stop;
+use dsv_template::{BoxProposer, InvariantProposer};
+use std::alloc::Global;
+
+/// The proposers that a run may ask, each list in the order in which it is asked.
+#[derive(Drop)]
+pub struct Proposers {
+    /// Those of sets that a controller never leaves.
+    pub sets: Vec<Box<dyn InvariantProposer>>,
+    /// Those of forms that decide a polynomial.
+    pub forms: Vec<Box<dyn FormProposer>>,
+}
+
+/// Runs the command with this proposer of sets, which tells all boxes, and the proposer of forms
+/// that is built in.
+fn run_with<F: Files, K: Sink>(
+    alloc: Global,
+    arguments: &[String],
+    files: &mut F,
+    sink: &mut K,
+    first: Box<dyn InvariantProposer>,
+) -> Done
+    requires boxes { (shape : Shape)
+        → (⟦<dyn InvariantProposer as InvariantProposer>⟧ first.vtable).to_come first.value shape
+        ≡ Some (boxes shape) }
+    ensures explained { IsExplained (F.seen files.old) (F.seen files.new)
+        (request_of (map string_bytes arguments.now)) result.outcome }
+    // No set: each of the first 32 boxes was judged, and one that is good has a search that gave
+    // up.
+    ensures boxes { IfNoInvariant result.outcome (AreOfJob
+        (FileBecomes (F.seen files.old) (job_of (map string_bytes arguments.now)))
+        (λ words. Some (boxes (shape_of words)) ∷ [])) }
+    ensures low_orders { IfNoForm result.outcome (λ poly kept. is_low poly ≡ false) }
+    ensures kept { AreKept (F.seen files.old) (F.seen files.new) }
+    ensures written { IsWritten (K.seen sink.old) (K.seen sink.new) result.status
+        (status_of result.outcome)
+        (output_of (job_of (map string_bytes arguments.now)) result.outcome) }
+    ensures typed { IfWhole result.status (IfSome
+        (certificate_written (job_of (map string_bytes arguments.now)) result.outcome) IsTyped) }
+{
+    let Ok(second) = Box::new(alloc, SumProposer::new()) else {
+        return put_outcome(sink, Err(Stop::NoMemory));
+    };
+    let mut sets: Vec<Box<dyn InvariantProposer>> = Vec::new(alloc);
+    let mut forms: Vec<Box<dyn FormProposer>> = Vec::new(alloc);
+    if sets.push(first).is_err() || forms.push(second).is_err() {
+        return put_outcome(sink, Err(Stop::NoMemory));
+    }
+    let mut proposers = Proposers { sets, forms };
+    run(alloc, arguments, files, sink, &mut proposers)
+}
+
+/// Runs the command ([`run`]) with the proposers that are built in: of sets [`BoxProposer`], and of
+/// forms [`SumProposer`].
+pub fn run_with_built_in<F: Files, K: Sink>(
+    alloc: Global,
+    arguments: &[String],
+    files: &mut F,
+    sink: &mut K,
+) -> Done
+    ensures explained { IsExplained (F.seen files.old) (F.seen files.new)
+        (request_of (map string_bytes arguments.now)) result.outcome }
+    // No set: each of the first 32 boxes was judged, and one that is good has a search that gave
+    // up.
+    ensures boxes { IfNoInvariant result.outcome (AreOfJob
+        (FileBecomes (F.seen files.old) (job_of (map string_bytes arguments.now)))
+        (λ words. Some (boxes (shape_of words)) ∷ [])) }
+    ensures low_orders { IfNoForm result.outcome (λ poly kept. is_low poly ≡ false) }
+    ensures kept { AreKept (F.seen files.old) (F.seen files.new) }
+    ensures written { IsWritten (K.seen sink.old) (K.seen sink.new) result.status
+        (status_of result.outcome)
+        (output_of (job_of (map string_bytes arguments.now)) result.outcome) }
+    ensures typed { IfWhole result.status (IfSome
+        (certificate_written (job_of (map string_bytes arguments.now)) result.outcome) IsTyped) }
+{
+    let Ok(first) = Box::new(alloc, BoxProposer::new()) else {
+        return put_outcome(sink, Err(Stop::NoMemory));
+    };
+    run_with(alloc, arguments, files, sink, first)
+}

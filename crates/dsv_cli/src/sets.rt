@@ -1,0 +1,191 @@
+// Seeks a set that a controller never leaves among those that are offered.
+ghost use Rattle.std.specs.Prelude.{◌≡◌, ◌<◌, [], Some, IfOk, IfSome};
+ghost use Rattle.dsv_bounded.specs.Refusals.{IsSized};
+ghost use Rattle.dsv_bounded.specs.Formulas.{job_size_of};
+ghost use Rattle.dsv_invariant.specs.Shapes.{shape_of};
+ghost use Rattle.dsv_invariant.specs.Limits.{unbounded_samples};
+ghost use Rattle.dsv_invariant.specs.Causes.{IsCause};
+ghost use Rattle.dsv_template.specs.Shapes.{IsLawful};
+ghost use Rattle.dsv_cli.specs.Blocks.{AreBlocks, IsTurn};
+ghost use Rattle.dsv_cli.specs.Causes.{IsOfSets};
+ghost use Rattle.dsv_cli.specs.Proposers.{AreSetsAsked};
+ghost use Rattle.dsv_bounded.specs.RunQuestions.{IsWithin};
+ghost use Rattle.dsv_cli.specs.SetAsking.{turn_of, offer_of, found_of, IsJudgedSet};
+ghost use Rattle.dsv_cli.specs.SetAsking.{IfKept, IfNoSet};
+ghost use Rattle.dsv_cli.specs.Sets.{KeepsTo, NoneIsGood, candidates, told_for};
+ghost use Rattle.dsv_cli.specs.Suffixes.{IsSuffix, IfFirst};
+ghost use Rattle.dsv_report.specs.Printing.{HasPlaces};
+ghost use Rattle.dsv_template.specs.declared.verdict.Why.TheVariants as why;
+ghost use Rattle.dsv_unroll.specs.Goals.{most_size};
+
+use crate::questions::question_stop;
+use dsv_base::NoMemory;
+use dsv_bounded::BoundedRefusal;
+use dsv_command::Budget;
+use dsv_invariant::{accept_unbounded, check_candidate, shape_of};
+use dsv_quantiser::Quantised;
+use dsv_report::{Answer, Stop};
+use dsv_template::{Candidate, InvariantProposer, KeptSet, KeptSets, Shape, ThreeLogs, Why};
+use std::alloc::Global;
+
+/// The most offers of one proposer that are judged and not good.
+const MOST_SETS: u32 = 32;
+
+/// What came of asking a proposer of sets once.
+#[derive(Drop)]
+pub(crate) enum SetTurn {
+    /// It offers nothing more.
+    Nothing,
+    Accepted {
+        candidate: Candidate,
+        logs: ThreeLogs,
+    },
+    Refused(KeptSet),
+}
+
+/// What came of asking where this was found of the offer.
+fn turn_of(candidate: Candidate, why: Why) -> SetTurn
+    ensures made { result ≡ turn_of candidate why }
+    ensures offer { offer_of result ≡ Some candidate }
+    ensures found { found_of result ≡ Some why }
+{
+    match why {
+        Why::Good(logs) => SetTurn::Accepted { candidate, logs },
+        why => SetTurn::Refused(KeptSet { candidate, why }),
+    }
+}
+
+/// Asks a proposer once, and tells it what was found of its offer.
+fn ask(
+    alloc: Global,
+    words: &Quantised,
+    shape: &Shape,
+    budget: &Budget,
+    first: &mut Box<dyn InvariantProposer>,
+) -> Result<SetTurn, NoMemory>
+    requires lawful { IsLawful shape.now }
+    ensures same { first.new.ptr ≡ first.old.ptr }
+    ensures judged { IfOk result (IsJudgedSet words.now budget.now.conflicts) }
+    ensures last { IfOk result (λ a. IfSome (offer_of a) (λ c. last first.new ≡ Some c)) }
+    ensures turn { IfOk result (λ a. IsTurn (to_come first.old shape.now)
+        (to_come first.new shape.now) (offer_of a)) }
+    ensures heard { IfOk result (λ a. IfSome (found_of a) (λ why. heard first.new why)) }
+{
+    let Some(candidate) = first.propose(alloc, shape)? else {
+        return Ok(SetTurn::Nothing);
+    };
+    let why = check_candidate(alloc, words, &candidate, budget.conflicts)?;
+    first.tell(&why);
+    Ok(turn_of(candidate, why))
+}
+
+/// What came of asking the proposers of sets.
+#[derive(Drop)]
+pub enum SetAnswer {
+    /// The controller never leaves the candidate's set.
+    Kept {
+        candidate: Candidate,
+        logs: ThreeLogs,
+    },
+    /// No candidate is good: all of them with their causes.
+    NoInvariant {
+        kept: KeptSets,
+    },
+}
+
+/// Asks the proposers in their order until a candidate is good. One that offers nothing, or whose
+/// 32nd offer wasn't good, is dropped; one whose offer is good stays in front.
+fn asked_sets(
+    alloc: Global,
+    words: &Quantised,
+    budget: &Budget,
+    sets: &mut Vec<Box<dyn InvariantProposer>>,
+) -> Result<SetAnswer, NoMemory>
+    requires { IsWithin words.now unbounded_samples }
+    ensures suffix { IsSuffix (λ b. b.ptr) sets.old.items sets.new.items }
+    ensures good { IfOk result (λ a. IfKept a (KeepsTo words.now budget.now.conflicts)) }
+    ensures last { IfOk result (λ a. IfKept a (λ candidate logs.
+        IfFirst sets.new.items (λ b. last b ≡ Some candidate))) }
+    ensures heard { IfOk result (λ a. IfKept a (λ candidate logs.
+        IfFirst sets.new.items (λ b. heard b (why.Good logs)))) }
+    ensures none_left { IfOk result (λ a. IfNoSet a (λ kept. sets.new.items ≡ [])) }
+    ensures causes { IfOk result (λ a. IfNoSet a (NoneIsGood words.now budget.now.conflicts)) }
+    ensures blocks { IfOk result (λ a. IfNoSet a (λ kept. AreBlocks 32
+        (told_for (λ b shape. to_come b shape) words.now sets.old.items) (candidates kept))) }
+{
+    let shape = shape_of(words);
+    let mut kept = KeptSets::new(alloc);
+    let mut asked = 0;
+    'asking: while !sets.is_empty() {
+        match ask(alloc, words, &shape, budget, &mut sets[0])? {
+            SetTurn::Nothing => {
+                sets.remove(0);
+                asked = 0;
+            }
+            SetTurn::Accepted { candidate, logs } => {
+                return Ok(SetAnswer::Kept { candidate, logs });
+            }
+            SetTurn::Refused(set) => {
+                kept.push(set)?;
+                asked += 1;
+                if asked == MOST_SETS {
+                    sets.remove(0);
+                    asked = 0;
+                }
+            }
+        }
+    }
+    Ok(SetAnswer::NoInvariant { kept })
+}
+
+/// Seeks a set that a controller never leaves and in which it never overflows, among those that the
+/// proposers offer, who are asked in their order. One that offers nothing, or whose 32nd offer
+/// wasn't good, is dropped; one whose offer is good stays in front. The size of the job is tested
+/// before anybody is asked.
+pub fn seek_set(
+    alloc: Global,
+    words: &Quantised,
+    budget: &Budget,
+    sets: &mut Vec<Box<dyn InvariantProposer>>,
+) -> Result<SetAnswer, BoundedRefusal>
+    // The job is refused exactly where it is too large, want of memory aside, and nobody is asked
+    // then.
+    ensures sized { IsSized (job_size_of words.now unbounded_samples) result }
+    ensures unasked { most_size < job_size_of words.now unbounded_samples
+        → sets.new.items ≡ sets.old.items }
+    // What is left of the proposers: the last of them, and only the first was asked.
+    ensures suffix { IsSuffix (λ b. b.ptr) sets.old.items sets.new.items }
+    // A set is good, the first proposer that is left gave it last, and has heard that it is good.
+    ensures good { IfOk result (λ a. IfKept a (KeepsTo words.now budget.now.conflicts)) }
+    ensures last { IfOk result (λ a. IfKept a (λ candidate logs.
+        IfFirst sets.new.items (λ b. last b ≡ Some candidate))) }
+    ensures heard { IfOk result (λ a. IfKept a (λ candidate logs.
+        IfFirst sets.new.items (λ b. heard b (why.Good logs)))) }
+    // No set: no proposer is left, no kept candidate is good, and they were asked in their order.
+    ensures none_left { IfOk result (λ a. IfNoSet a (λ kept. sets.new.items ≡ [])) }
+    ensures causes { IfOk result (λ a. IfNoSet a (NoneIsGood words.now budget.now.conflicts)) }
+    ensures blocks { IfOk result (λ a. IfNoSet a (λ kept. AreBlocks 32
+        (told_for (λ b shape. to_come b shape) words.now sets.old.items) (candidates kept))) }
+{
+    accept_unbounded(words)?;
+    Ok(asked_sets(alloc, words, budget, sets)?)
+}
+
+/// The answer on runs of any length, by what the proposers of sets offer.
+pub(crate) fn sets_answer(
+    alloc: Global,
+    words: &Quantised,
+    budget: &Budget,
+    sets: &mut Vec<Box<dyn InvariantProposer>>,
+) -> Result<Answer, Stop>
+    ensures sets { IsOfSets budget.now.conflicts words.now result }
+    ensures places { IfOk result HasPlaces }
+    ensures proposers { AreSetsAsked (λ b. b.ptr) (λ b. last b) (λ b shape. to_come b shape)
+        (λ w. w ≡ words.now) sets.old.items sets.new.items result }
+{
+    match seek_set(alloc, words, budget, sets) {
+        Ok(SetAnswer::Kept { candidate, logs }) => Ok(Answer::Always { candidate, logs }),
+        Ok(SetAnswer::NoInvariant { kept }) => Ok(Answer::NoInvariant { kept }),
+        Err(refusal) => Err(question_stop(refusal)),
+    }
+}

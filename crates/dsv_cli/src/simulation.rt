@@ -1,0 +1,56 @@
+// Answers simulations of a controller in words.
+#![tactic(auto, using(dsv_algebra::proofs::Casts::casts))]
+
+ghost use Rattle.std.specs.Prelude.{◌≤◌, length, MatchOption};
+ghost use Rattle.std.specs.List.{All};
+ghost use Rattle.dsv_word.specs.Words.{IsWord};
+ghost use Rattle.dsv_cli.specs.Causes.{IsOfRun, IsPlain};
+ghost use Rattle.dsv_cli.specs.Simulating.{IsFirstOutside};
+
+use dsv_quantiser::Quantised;
+use dsv_realise::simulate;
+use dsv_report::{Answer, Stop};
+use dsv_word::Format;
+use std::alloc::Global;
+
+/// An input, and its number among the inputs.
+struct Numbered {
+    index: u32,
+    value: i64,
+}
+
+/// The first input that is no word of the format.
+fn find_outside(format: &Format, inputs: &[i64]) -> Option<Numbered>
+    requires { length inputs.now ≤ 64 }
+    ensures { MatchOption result (All (IsWord format.now) inputs.now)
+        (λ found. IsFirstOutside format.now inputs.now found.index found.value) }
+{
+    for (i, input) in inputs.iter().enumerate() {
+        if !format.fits(i128::from(*input)) {
+            return Some(Numbered {
+                index: i as u32,
+                value: *input,
+            });
+        }
+    }
+    None
+}
+
+/// The answer to a simulation over these inputs.
+pub(crate) fn simulation_answer(
+    alloc: Global,
+    words: &Quantised,
+    inputs: &[i64],
+) -> Result<Answer, Stop>
+    requires { length inputs.now ≤ 64 }
+    ensures run { IsOfRun words.now inputs.now result }
+    ensures plain { IsPlain result }
+{
+    if let Some(Numbered { index, value }) = find_outside(&words.format(), inputs) {
+        return Err(Stop::InputRange {
+            index,
+            value: i128::from(value),
+        });
+    }
+    Ok(Answer::Simulated(simulate(alloc, words, inputs)?))
+}

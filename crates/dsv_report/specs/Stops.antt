@@ -1,0 +1,24 @@
+-- What a request comes to.
+use Rattle.std.specs.Prelude.{Result}
+use Rattle.dsv_certfile.specs.declared.fault.CertRefusal.{CertRefusal}
+use Rattle.dsv_certfile.specs.declared.fault.CertRefusal.TheVariants as certificate
+use Rattle.dsv_token.specs.declared.refusal.FileRefusal.{FileRefusal}
+use Rattle.dsv_token.specs.declared.refusal.FileRefusal.TheVariants as file
+use Rattle.dsv_report.specs.declared.answers.Answer.{Answer}
+use Rattle.dsv_report.specs.declared.stop.CertificateFault.TheVariants as fault
+use Rattle.dsv_report.specs.declared.stop.Stop.{Stop}
+use Rattle.dsv_report.specs.declared.stop.Stop.TheVariants as stop
+
+-- an answer, or why there is none
+abbrev pub Outcome : Type 0
+Outcome = Result Answer Stop
+
+-- why there is none where the controller's file is refused so: want of memory is no fault of it
+abbrev pub stop_of_file : FileRefusal → Stop
+stop_of_file file.NoMemory = stop.NoMemory
+stop_of_file refusal = stop.FileRefused refusal
+
+-- and where the text of a certificate is
+abbrev pub stop_of_text : CertRefusal → Stop
+stop_of_text (certificate.Text line why) = stop.CertificateRefused line (fault.Text why)
+stop_of_text certificate.NoMemory = stop.NoMemory

@@ -1,0 +1,100 @@
+// Why the command has no answer.
+use dsv_base::NoMemory;
+use dsv_certfile::{CertRefusal, CheckFault, TextFault};
+use dsv_quantiser::QuantRefusal;
+use dsv_reader::FileRefusal;
+
+/// A file that the command reads.
+#[derive(Clone, Copy, Debug, PartialEq, Eq)]
+pub enum WhichFile {
+    Controller,
+    Certificate,
+}
+
+/// What is wrong with a certificate.
+#[derive(Clone, Copy, Debug, PartialEq, Eq)]
+pub enum CertificateFault {
+    /// The line isn't one of the text of a certificate.
+    Text(TextFault),
+    /// The line's claim isn't so.
+    Check(CheckFault),
+    /// The file has over 64 MiB.
+    TooLong,
+}
+
+/// Why the command has no answer: a refusal, a fault of a read, or that there is no memory.
+#[derive(Clone, Copy, Debug, PartialEq, Eq)]
+pub enum Stop {
+    /// The command line is not valid: its arguments ask for no job.
+    Usage,
+    /// The first fault of the controller file.
+    FileRefused(FileRefusal),
+    /// The controller file has over 65,536 bytes.
+    FileTooLong,
+    /// The first number of the controller that is no word, or the range of its inputs, where it is
+    /// empty.
+    QuantRefused(QuantRefusal),
+    /// The first input of the job that is no word of the format, and its number from 0 on.
+    InputRange { index: u32, value: i128 },
+    /// The job is too large: samples times products times the square of a word's bits.
+    JobSize { size: u64 },
+    /// The first line of the certificate that is wrong, counted from 1, and 0 for the whole file.
+    CertificateRefused { line: u64, fault: CertificateFault },
+    /// The file couldn't be read.
+    ReadFault(WhichFile),
+    NoMemory,
+}
+
+impl From<NoMemory> for Stop {
+    ghost use Rattle.std.specs.Prelude.{◌≡◌};
+    ghost use Rattle.dsv_report.specs.declared.stop.Stop.TheVariants as stop;
+
+    ghost from_gives = { λ _ e. e ≡ stop.NoMemory };
+
+    fn from(_: NoMemory) -> Self {
+        Stop::NoMemory
+    }
+}
+
+impl From<FileRefusal> for Stop {
+    ghost use Rattle.std.specs.Prelude.{◌≡◌};
+    ghost use Rattle.dsv_report.specs.Stops.{stop_of_file};
+
+    ghost from_gives = { λ refusal e. e ≡ stop_of_file refusal };
+
+    /// That there was no memory is no fault of the file.
+    fn from(refusal: FileRefusal) -> Self {
+        match refusal {
+            FileRefusal::NoMemory => Stop::NoMemory,
+            refusal => Stop::FileRefused(refusal),
+        }
+    }
+}
+
+impl From<QuantRefusal> for Stop {
+    ghost use Rattle.std.specs.Prelude.{◌≡◌};
+    ghost use Rattle.dsv_report.specs.declared.stop.Stop.TheVariants as stop;
+
+    ghost from_gives = { λ refusal e. e ≡ stop.QuantRefused refusal };
+
+    fn from(refusal: QuantRefusal) -> Self {
+        Stop::QuantRefused(refusal)
+    }
+}
+
+impl From<CertRefusal> for Stop {
+    ghost use Rattle.std.specs.Prelude.{◌≡◌};
+    ghost use Rattle.dsv_report.specs.Stops.{stop_of_text};
+
+    ghost from_gives = { λ refusal e. e ≡ stop_of_text refusal };
+
+    fn from(refusal: CertRefusal) -> Self {
+        match refusal {
+            CertRefusal::Text { line, fault } => Stop::CertificateRefused {
+                line,
+                fault: CertificateFault::Text(fault),
+            },
+            CertRefusal::NoMemory => Stop::NoMemory,
+        }
+    }
+}
