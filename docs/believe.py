@@ -16,7 +16,7 @@ import re
 import sys
 import textwrap
 
-CONTRACT = "crates/dsv_cli/src/running.rt"
+CONTRACT = "crates/dsv_cli/src/command.rt"
 LAWS = "crates/dsv_cli/src/law.rt"
 TYPE = re.compile(r"^((?:\s*///[^\n]*\n)*)(?:#\[[^\n]*\]\n)*pub (?:struct|enum|type|trait) (\w+)", re.M)
 DEFINITION = re.compile(r"^(?:abbrev pub|unfoldable pub|pub record|pub data|pub) ([^\s:({]+)")
@@ -163,9 +163,9 @@ HEADLINE = ("Headline", "Proposers", "OneAnswer", "Completeness", "Accepted")
 LONG = 30
 PAGE = (
     ("The call", "What `run` says of an answer, whatever the arguments, the files and the sink.",
-     "request_of Request IsExplained IsRow Row CameOf FilesSeen"),
+     "request_of Request IsExplained Outcome IsRow IsCheckRow IsUnread Row CameOf FilesSeen"),
     ("The file", "What it means that a file's bytes are a controller, and what the controller is in words.",
-     "longest_file IsAccepted IsTextOf IsFaultOf ControllerView BecomesIn BecomesWords FixedPoint"),
+     "longest_file IsAccepted IsTextOf IsFaultOf ControllerView BecomesWords FixedPoint"),
     ("Overflow, limit cycles, simulation", "What the answers on runs say, over the written equations.",
      "equations_of rows Breaks Cycles IsSearch Happens NeverHappens IsTrace IsCycle GaveUp IsTooLarge IsFormulaOf "
      "IsSeeking KeepsTo NoneIsGood IsRun IsRunOver"),
@@ -176,7 +176,7 @@ PAGE = (
      "longest_certificate IsCheckOf Passes IsChecked HasShown IsShownOf IsFaulty IsRefusedAt IsOfGeneration "
      "IsGeneratedFrom"),
     ("What is written, and what stays", "The output, the status, and the files afterwards.",
-     "IsWritten output_of text_of IfWhole IsTyped AreKept"),
+     "IsWritten output_of answer_text stop_text IfWhole IsTyped AreKept"),
     ("Proposers", "What becomes of the lists of objects that offer forms and sets.",
      "IsAsked AreSetsAsked WantsForm WantsSet IfNoForm is_low"),
     ("Three laws over the table", "What holds of all answers together.",
