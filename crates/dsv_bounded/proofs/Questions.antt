@@ -9,7 +9,7 @@ use Rattle.std.proofs.lemmas.List.Elements.{All-weaker, All-drop, All-head, All-
 use Rattle.dsv_word.specs.Words.{width, IsWord}
 use Rattle.dsv_meaning.specs.Equations.{Past, order, registers_of, forward_registers_of}
 use Rattle.dsv_meaning.specs.Systems.{equations_of}
-use Rattle.dsv_quantiser.specs.FixedPoint.{FixedPoint, IsFixedPoint}
+use Rattle.dsv_quantiser.specs.QuantisedView.{QuantisedView, IsQuantisedView}
 use Rattle.dsv_system.specs.Breaks.{Breaks}
 use Rattle.dsv_system.specs.Cycles.{Cycles}
 use Rattle.dsv_system.specs.Systems.{RunAlike, zeros, AreInRange}
@@ -89,14 +89,14 @@ never_as W widths P (Happens found) m n = tt
 never_as W widths P (Spent log) m n = tt
 
 -- ---- overflow
-pub words_in_range : (q : FixedPoint) (zs : List ℤ) → IsFixedPoint q → AreInRange q.xlo q.xhi zs → All (IsWord q.format) zs
+pub words_in_range : (q : QuantisedView) (zs : List ℤ) → IsQuantisedView q → AreInRange q.xlo q.xhi zs → All (IsWord q.format) zs
 words_in_range q zs f h =
     let l = f.low in
     let k = f.high in
     All-weaker (λ (x : ℤ). (q.xlo ≤ℤ x) × (x ≤ℤ q.xhi)) (IsWord q.format)
     (λ x b. let low = b.0 in let high = b.1 in record { low = omega (arith, ints); high = omega (arith, ints) }) zs h
 
-pub breaks_mean : (q : FixedPoint) (samples : ℕ) → IsFixedPoint q → Means (word_widths q samples) (DoBreak q) (BreaksWithin q samples)
+pub breaks_mean : (q : QuantisedView) (samples : ℕ) → IsQuantisedView q → Means (word_widths q samples) (DoBreak q) (BreaksWithin q samples)
 breaks_mean q samples f = record {
   given = λ values a b. (spelled_words q.format values, count_of_words q.format values samples a, b);
   found = λ h.
@@ -106,7 +106,7 @@ breaks_mean q samples f = record {
       (values_for q.format zs, values_fit q.format zs samples h.1, subst (λ (xs : List ℤ). Breaks Past (equations_of q) q.xlo q.xhi xs) (sym e) b);
 }
 
-pub asks_overflow : (q : FixedPoint) (net : Net) (samples : ℕ) (t : TermsView) (root : TermId) → RunAlike (List ℤ) Past (system_of net) (equations_of q) → AreTerms t → root.0 < length t.nodes → width_of t root ≡ 1
+pub asks_overflow : (q : QuantisedView) (net : Net) (samples : ℕ) (t : TermsView) (root : TermId) → RunAlike (List ℤ) Past (system_of net) (equations_of q) → AreTerms t → root.0 < length t.nodes → width_of t root ≡ 1
     → t.inputs ≡ replicate samples (width net.format) → ((values : List ℕ) → AreValues t.inputs values → Tells (word_of t values root) (Breaks (List ℤ) (system_of net) q.xlo q.xhi (spelled_words net.format values)))
     → Asks t root (word_widths q samples) (DoBreak q)
 asks_overflow q net samples t root run terms stands one inputs tells =
@@ -130,7 +130,7 @@ start-split k zs l h =
     let z : take k zs ≡ zeros k = all_zeros (take k zs) h ∙ ap zeros e in
     ap (λ (ys : List ℤ). ys ++ drop k zs) (sym z) ∙ take-append-drop k zs
 
-pub cycles_mean : (q : FixedPoint) (periods : ℕ) → Means (word_widths q (free_registers q)) (DoCycle q periods) (CyclesWithin q periods)
+pub cycles_mean : (q : QuantisedView) (periods : ℕ) → Means (word_widths q (free_registers q)) (DoCycle q periods) (CyclesWithin q periods)
 cycles_mean q periods = record {
   given = λ values a h. (start_of_values q values, h.0, h.1, h.2, h.3);
   found = λ h.
@@ -148,12 +148,12 @@ cycles_mean q periods = record {
       );
 }
 
-start-same : (q : FixedPoint) (net : Net) (values : List ℕ) → RunAlike (List ℤ) Past (system_of net) (equations_of q) → cycle_start net values ≡ start_of_values q values
+start-same : (q : QuantisedView) (net : Net) (values : List ℕ) → RunAlike (List ℤ) Past (system_of net) (equations_of q) → cycle_start net values ≡ start_of_values q values
 start-same q net values run =
     ap (λ (k : ℕ). zeros k ++ spelled_words net.format values) run.forward
     ∙ ap (λ f. zeros (forward_registers_of q.realisation (order q)) ++ spelled_words f values) run.format
 
-pub asks_cycle : (q : FixedPoint) (net : Net) (periods : ℕ) (t : TermsView) (root : TermId) → RunAlike (List ℤ) Past (system_of net) (equations_of q) → AreTerms t → root.0 < length t.nodes → width_of t root ≡ 1
+pub asks_cycle : (q : QuantisedView) (net : Net) (periods : ℕ) (t : TermsView) (root : TermId) → RunAlike (List ℤ) Past (system_of net) (equations_of q) → AreTerms t → root.0 < length t.nodes → width_of t root ≡ 1
     → t.inputs ≡ replicate (length net.next - net.feed_forward) (width net.format) → ((values : List ℕ) → AreValues t.inputs values → Tells (word_of t values root) (HasCycle net (cycle_start net values) periods))
     → Asks t root (word_widths q (free_registers q)) (DoCycle q periods)
 asks_cycle q net periods t root run terms stands one inputs tells =

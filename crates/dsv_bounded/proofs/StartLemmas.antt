@@ -7,7 +7,7 @@ use Rattle.std.proofs.lemmas.List.{length-append, length-drop, length-replicate}
 use Rattle.std.proofs.lemmas.List.Elements.{All-append, All-drop, All-replicate}
 use Rattle.dsv_names.specs.declared.realisation.Realisation.{Realisation}
 use Rattle.dsv_names.specs.declared.realisation.Realisation.TheVariants.{Dfi, Dfii, Tdfii, Ddfi, Ddfii, Tddfii}
-use Rattle.dsv_quantiser.specs.FixedPoint.{FixedPoint}
+use Rattle.dsv_quantiser.specs.QuantisedView.{QuantisedView}
 use Rattle.dsv_meaning.specs.Equations.{order, registers_of, forward_registers_of}
 use Rattle.dsv_system.specs.Systems.{zeros}
 use Rattle.dsv_word.specs.Words.{IsWord}
@@ -23,7 +23,7 @@ forward_below Ddfii n = omega arith
 forward_below Tddfii n = omega arith
 
 -- zeros, and then the words of the other registers
-pub start_stands : (q : FixedPoint) (k : ℕ) (rs start : List ℤ) → k ≡ forward_registers_of q.realisation (order q) → length rs ≡ registers_of q.realisation (order q) → All (IsWord q.format) rs
+pub start_stands : (q : QuantisedView) (k : ℕ) (rs start : List ℤ) → k ≡ forward_registers_of q.realisation (order q) → length rs ≡ registers_of q.realisation (order q) → All (IsWord q.format) rs
     → start ≡ zeros k ++ drop k rs → IsStart q start
 start_stands q k rs start e m w s =
     let below = forward_below q.realisation (order q) in

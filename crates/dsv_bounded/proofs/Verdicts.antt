@@ -5,7 +5,7 @@ use Rattle.std.specs.List.{Contains}
 use Rattle.std.proofs.lemmas.List.{length-append, length-replicate}
 use Rattle.std.proofs.lemmas.List.Elements.{All-append, All-replicate, All-head, Contains-append_left}
 use Rattle.std.proofs.lemmas.Option.{get_or_from_slice_get, slice_get_within}
-use Rattle.dsv_quantiser.specs.FixedPoint.{FixedPoint}
+use Rattle.dsv_quantiser.specs.QuantisedView.{QuantisedView}
 use Rattle.dsv_system.specs.Breaks.{Breaks, IsOutside, IsFirstBreak}
 use Rattle.dsv_system.specs.Runs.{Sampled, SampleRow, rows_from, past_after}
 use Rattle.dsv_system.specs.Systems.{System, rows, zeros, AreInRange}
@@ -13,7 +13,8 @@ use Rattle.dsv_meaning.specs.Equations.{Past}
 use Rattle.dsv_meaning.specs.Systems.{equations_of}
 use Rattle.dsv_meaning.specs.declared.replays.Cycle.{Cycle}
 use Rattle.dsv_meaning.specs.declared.replays.Trace.{Trace}
-use Rattle.dsv_bounded.specs.Verdicts.{BreaksWithin, CyclesWithin, IsTrace, IsCycle}
+use Rattle.dsv_bounded.specs.Verdicts.{BreaksWithin, CyclesWithin, IsCycle}
+use Rattle.dsv_meaning.specs.Traces.{IsTrace}
 
 -- the rows over more inputs go on after those over the first
 rows_on : {P : Type 0} (sample : P → ℤ → Sampled P) (past : P) (xs ys : List ℤ) → rows_from sample past (xs ++ ys) ≡ rows_from sample past xs ++ rows_from sample (past_after sample past xs) ys
@@ -52,12 +53,12 @@ so_many P m low high samples (x ∷ xs) some few h =
       more_break P m low high (x ∷ xs) more h (All-replicate (λ z. (low ≤ℤ z) × (z ≤ℤ high)) (samples - length (x ∷ xs)) x (All-head (λ z. (low ≤ℤ z) × (z ≤ℤ high)) x xs h.in_range)),
     )
 
-pub trace_breaks : (q : FixedPoint) (samples : ℕ) (t : Trace) → IsTrace q samples t → BreaksWithin q samples
+pub trace_breaks : (q : QuantisedView) (samples : ℕ) (t : Trace) → IsTrace q samples t → BreaksWithin q samples
 trace_breaks q samples t h =
     let m = equations_of q in
     let r = h.replays in
     so_many Past m q.xlo q.xhi samples t.inputs (omega (arith, r.many)) (omega (arith, r.many, h.within))
     (record { in_range = r.in_range; broken = outside Past m (rows m (zeros m.many) t.inputs) t.sample t.value t.exact r.breaks })
 
-pub cycle_cycles : (q : FixedPoint) (periods : ℕ) (z : Cycle) → IsCycle q periods z → CyclesWithin q periods
+pub cycle_cycles : (q : QuantisedView) (periods : ℕ) (z : Cycle) → IsCycle q periods z → CyclesWithin q periods
 cycle_cycles q periods z h = (z.start, z.period, h.cycles.returns.some, h.within, h.cycles)

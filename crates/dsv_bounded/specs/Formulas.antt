@@ -3,7 +3,7 @@ use Rattle.std.specs.Prelude.{ℕ, ◌*◌, ◌^◌}
 use Rattle.dsv_blast.specs.Blast.{cnf_of}
 use Rattle.dsv_cnf.specs.FormulaView.{FormulaView}
 use Rattle.dsv_meaning.specs.Equations.{order, products_of}
-use Rattle.dsv_quantiser.specs.FixedPoint.{FixedPoint}
+use Rattle.dsv_quantiser.specs.QuantisedView.{QuantisedView}
 use Rattle.dsv_realise.specs.Netlists.{net_of}
 use Rattle.dsv_rewrite.specs.Rules.{simple_of}
 use Rattle.dsv_term.specs.Building.{Built}
@@ -19,13 +19,13 @@ abbrev pub formula_of : Built → FormulaView
 formula_of goal = clauses_of_simple (simple_of goal.terms goal.id)
 
 -- the formula of an overflow within so many samples
-unfoldable pub overflow_formula_of : FixedPoint → ℕ → FormulaView
+unfoldable pub overflow_formula_of : QuantisedView → ℕ → FormulaView
 overflow_formula_of q samples = formula_of (overflow_of (net_of q) q.xlo q.xhi samples)
 
 -- the formula of a limit cycle of a period up to this
-unfoldable pub cycle_formula_of : FixedPoint → ℕ → FormulaView
+unfoldable pub cycle_formula_of : QuantisedView → ℕ → FormulaView
 cycle_formula_of q periods = formula_of (cycle_of (net_of q) periods)
 
 -- how great a job over so many samples is: samples times products times the square of a word's bits
-abbrev pub job_size_of : FixedPoint → ℕ → ℕ
+abbrev pub job_size_of : QuantisedView → ℕ → ℕ
 job_size_of q samples = samples * products_of q.realisation (order q) * width q.format ^ 2

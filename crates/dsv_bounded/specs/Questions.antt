@@ -5,7 +5,7 @@ use Rattle.dsv_meaning.specs.Equations.{Past, registers_of, forward_registers_of
 use Rattle.dsv_meaning.specs.Systems.{equations_of}
 use Rattle.dsv_netlist.specs.Nodes.{Net}
 use Rattle.dsv_netlist.specs.Systems.{system_of}
-use Rattle.dsv_quantiser.specs.FixedPoint.{FixedPoint, IsFixedPoint}
+use Rattle.dsv_quantiser.specs.QuantisedView.{QuantisedView, IsQuantisedView}
 use Rattle.dsv_realise.specs.Netlists.{net_of}
 use Rattle.dsv_system.specs.Breaks.{Breaks}
 use Rattle.dsv_system.specs.Cycles.{Cycles}
@@ -34,21 +34,21 @@ abbrev pub NoneHave : List ℕ → (List ℕ → Type 0) → Type 0
 NoneHave widths P = (values : List ℕ) → AreValues widths values → P values → ⊥
 
 -- The netlist is the controller's, and runs as its written equations do.
-pub record Realises (q : FixedPoint) (net : Net) : Type 0 where
+pub record Realises (q : QuantisedView) (net : Net) : Type 0 where
   pub same : net ≡ net_of q
   pub runs : RunAlike (List ℤ) Past (system_of net) (equations_of q)
-  pub fixed_point : IsFixedPoint q
+  pub quantised : IsQuantisedView q
 
 -- so many words of the controller's format
-abbrev pub word_widths : FixedPoint → ℕ → List ℕ
+abbrev pub word_widths : QuantisedView → ℕ → List ℕ
 word_widths q n = replicate n (width q.format)
 
 -- the inputs that the values spell break the controller
-abbrev pub DoBreak : FixedPoint → List ℕ → Type 0
+abbrev pub DoBreak : QuantisedView → List ℕ → Type 0
 DoBreak q values = Breaks Past (equations_of q) q.xlo q.xhi (spelled_words q.format values)
 
 -- how many registers of a controller aren't feed-forward
-abbrev pub free_registers : FixedPoint → ℕ
+abbrev pub free_registers : QuantisedView → ℕ
 free_registers q =
     registers_of q.realisation (order q) - forward_registers_of q.realisation (order q)
 
@@ -58,18 +58,18 @@ pub record AreRegisters (net : Net) (registers : List ℤ) : Type 0 where
   pub words : All (IsWord net.format) registers
 
 -- A controller can start so: 0 in the feed-forward registers, and words in the others.
-pub record IsStart (q : FixedPoint) (start : List ℤ) : Type 0 where
+pub record IsStart (q : QuantisedView) (start : List ℤ) : Type 0 where
   pub many : length start ≡ registers_of q.realisation (order q)
   pub quiet : All (λ w. w ≡ pos 0)
       (take (forward_registers_of q.realisation (order q)) start)
   pub words : All (IsWord q.format) start
 
 -- the words of a start: 0 in the feed-forward registers, and those that the values spell
-abbrev pub start_of_values : FixedPoint → List ℕ → List ℤ
+abbrev pub start_of_values : QuantisedView → List ℕ → List ℤ
 start_of_values q values =
     zeros (forward_registers_of q.realisation (order q)) ++ spelled_words q.format values
 
 -- the start that the values spell has a cycle of a period up to this
-abbrev pub DoCycle : FixedPoint → ℕ → List ℕ → Type 0
+abbrev pub DoCycle : QuantisedView → ℕ → List ℕ → Type 0
 DoCycle q periods values = (p : ℕ) × (1 ≤ p) × (p ≤ periods)
     × Cycles Past (equations_of q) (start_of_values q values) p

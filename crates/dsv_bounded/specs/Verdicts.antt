@@ -1,34 +1,27 @@
--- What bounded verdicts say of a controller in words, over its written equations.
-use Rattle.std.specs.Prelude.{◌≡◌, ℕ, ◌<◌, ◌≤◌, List, length, map, ℤ}
+-- What bounded verdicts say of a quantised controller, over its written equations.
+use Rattle.std.specs.Prelude.{◌≡◌, ℕ, ◌≤◌, List, length, map, ℤ}
 use Rattle.dsv_meaning.specs.Equations.{Past}
 use Rattle.dsv_meaning.specs.Systems.{equations_of}
 use Rattle.dsv_meaning.specs.declared.replays.Cycle.{Cycle}
-use Rattle.dsv_meaning.specs.declared.replays.Trace.{Trace}
-use Rattle.dsv_quantiser.specs.FixedPoint.{FixedPoint}
-use Rattle.dsv_system.specs.Breaks.{Breaks, Replays}
+use Rattle.dsv_quantiser.specs.QuantisedView.{QuantisedView}
+use Rattle.dsv_system.specs.Breaks.{Breaks}
 use Rattle.dsv_system.specs.Cycles.{Cycles, IsLeastPeriod}
 use Rattle.dsv_system.specs.Runs.{SampleRow}
 use Rattle.dsv_system.specs.Systems.{rows, zeros}
 
 -- some list of so many inputs in range breaks the controller
-abbrev pub BreaksWithin : FixedPoint → ℕ → Type 0
+abbrev pub BreaksWithin : QuantisedView → ℕ → Type 0
 BreaksWithin q samples = (inputs : List ℤ) × (length inputs ≡ samples)
     × Breaks Past (equations_of q) q.xlo q.xhi inputs
 
 -- some start has a limit cycle of a period up to this
-abbrev pub CyclesWithin : FixedPoint → ℕ → Type 0
+abbrev pub CyclesWithin : QuantisedView → ℕ → Type 0
 CyclesWithin q periods = (start : List ℤ) × (p : ℕ) × (1 ≤ p) × (p ≤ periods)
     × Cycles Past (equations_of q) start p
 
--- The trace replays in the written equations, with at most so many samples.
-pub record IsTrace (q : FixedPoint) (samples : ℕ) (t : Trace) : Type 0 where
-  pub replays : Replays Past (equations_of q) q.xlo q.xhi t.inputs t.outputs t.sample t.value
-      t.exact
-  pub within : t.sample < samples
-
 -- The start has a limit cycle in the written equations of this period, which is its least and at
 -- most so many samples, and these are the outputs of one period.
-pub record IsCycle (q : FixedPoint) (periods : ℕ) (z : Cycle) : Type 0 where
+pub record IsCycle (q : QuantisedView) (periods : ℕ) (z : Cycle) : Type 0 where
   pub cycles : Cycles Past (equations_of q) z.start z.period
   pub least : IsLeastPeriod Past (equations_of q) z.start z.period
   pub within : z.period ≤ periods

@@ -26,26 +26,26 @@ use dsv_term::Goal;
 use dsv_unroll::cycle_goal;
 use std::alloc::Global;
 
-/// Whether some start of a controller in words, of which this is the netlist, has a limit cycle of
+/// Whether some start of a quantised controller, of which this is the netlist, has a limit cycle of
 /// a period up to so many samples.
 #[derive(Clone, Copy)]
 pub(crate) struct CycleQuestion<'a> {
-    pub(crate) q: &'a Quantised,
+    pub(crate) quantised: &'a Quantised,
     pub(crate) net: &'a Netlist,
     pub(crate) periods: u32,
-    ghost realises: { Realises q.now net.now } by { Prim.hlevel props },
+    ghost realises: { Realises quantised.now net.now } by { Prim.hlevel props },
 }
 
 impl<'a> Question for CycleQuestion<'a> {
     type Found = Cycle;
 
-    ghost widths = { λ s. word_widths s.q.now (free_registers s.q.now) };
+    ghost widths = { λ s. word_widths s.quantised.now (free_registers s.quantised.now) };
 
-    ghost asked = { λ s. DoCycle s.q.now s.periods };
+    ghost asked = { λ s. DoCycle s.quantised.now s.periods };
 
-    ghost made = { λ s. cycle_of (net_of s.q.now) s.periods };
+    ghost made = { λ s. cycle_of (net_of s.quantised.now) s.periods };
 
-    ghost shown = { λ s. IsCycle s.q.now s.periods };
+    ghost shown = { λ s. IsCycle s.quantised.now s.periods };
 
     fn offer(&self, alloc: Global) -> Result<Option<Cycle>, NoMemory> {
         self.offered_cycle(alloc)
@@ -58,10 +58,13 @@ impl<'a> Question for CycleQuestion<'a> {
     }
 
     fn replay(&self, alloc: Global, values: &[u128]) -> Result<Cycle, NoMemory> {
-        let forward = forward_registers(self.q.realisation(), self.q.order() as u32);
+        let forward = forward_registers(
+            self.quantised.realisation(),
+            self.quantised.order() as u32,
+        );
         let quiet = zero_words(alloc, forward)?;
-        let start = words_after(quiet, &self.q.format(), values)?;
-        match replayed_cycle(alloc, self.q, start, self.periods)? {
+        let start = words_after(quiet, &self.quantised.format(), values)?;
+        match replayed_cycle(alloc, self.quantised, start, self.periods)? {
             Some(cycle) => Ok(cycle),
             None => unreachable!(),
         }
@@ -70,19 +73,23 @@ impl<'a> Question for CycleQuestion<'a> {
 
 /// The formula of a limit cycle of a period from 1 to `periods`, which is 1 to 64.
 #[tactic(auto, unfolding(crate::specs::Formulas::cycle_formula_of))]
-pub fn cycle_formula(alloc: Global, q: &Quantised, periods: u32) -> Result<Formula, BoundedRefusal>
+pub fn cycle_formula(
+    alloc: Global,
+    quantised: &Quantised,
+    periods: u32,
+) -> Result<Formula, BoundedRefusal>
     requires some { 1 ≤ periods }
     requires few { periods ≤ 64 }
-    ensures sized { IsSized (job_size_of q.now periods) result }
-    ensures formula { IfOk result (λ f. f ≡ cycle_formula_of q.now periods) }
+    ensures sized { IsSized (job_size_of quantised.now periods) result }
+    ensures formula { IfOk result (λ f. f ≡ cycle_formula_of quantised.now periods) }
     // Some assignment satisfies it exactly where some start has such a cycle in the written
     // equations.
-    ensures told { IfOk result (λ f. IsSatisfiable f.clauses ↔ CyclesWithin q.now periods) }
+    ensures told { IfOk result (λ f. IsSatisfiable f.clauses ↔ CyclesWithin quantised.now periods) }
 {
-    accept(q, periods)?;
-    let net = netlist_of(alloc, q)?;
+    accept(quantised, periods)?;
+    let net = netlist_of(alloc, quantised)?;
     let question = CycleQuestion {
-        q,
+        quantised,
         net: &net,
         periods,
     };
@@ -95,7 +102,7 @@ pub fn cycle_formula(alloc: Global, q: &Quantised, periods: u32) -> Result<Formu
 #[tactic(auto, unfolding(crate::specs::Formulas::cycle_formula_of))]
 pub fn limit_cycle(
     alloc: Global,
-    q: &Quantised,
+    quantised: &Quantised,
     periods: u32,
     conflicts: u32,
 ) -> Result<Searched<Cycle>, BoundedRefusal>
@@ -103,20 +110,20 @@ pub fn limit_cycle(
     requires few { periods ≤ 64 }
     requires allowed { 1 ≤ conflicts }
     requires limited { conflicts ≤ 2 ^ 30 }
-    ensures sized { IsSized (job_size_of q.now periods) result }
+    ensures sized { IsSized (job_size_of quantised.now periods) result }
     // No start has a cycle of such a period in the written equations.
-    ensures never { IfOk result (IfNever (λ log. CyclesWithin q.now periods → ⊥)) }
+    ensures never { IfOk result (IfNever (λ log. CyclesWithin quantised.now periods → ⊥)) }
     // The log is a derivation of the empty clause from the job's formula.
     ensures refuted { IfOk result
-        (IfNever (IsRefutation (cycle_formula_of q.now periods) conflicts)) }
-    ensures cycle { IfOk result (IfHappens (IsCycle q.now periods)) }
+        (IfNever (IsRefutation (cycle_formula_of quantised.now periods) conflicts)) }
+    ensures cycle { IfOk result (IfHappens (IsCycle quantised.now periods)) }
     ensures spent { IfOk result
-        (IfSpent (IsSpent (cycle_formula_of q.now periods) conflicts)) }
+        (IfSpent (IsSpent (cycle_formula_of quantised.now periods) conflicts)) }
 {
-    accept(q, periods)?;
-    let net = netlist_of(alloc, q)?;
+    accept(quantised, periods)?;
+    let net = netlist_of(alloc, quantised)?;
     let question = CycleQuestion {
-        q,
+        quantised,
         net: &net,
         periods,
     };

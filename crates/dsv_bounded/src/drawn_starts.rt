@@ -89,7 +89,8 @@ fn draw_registers(net: &Netlist, registers: &mut [i64], before: Generator) -> Ge
 impl<'a> CycleQuestion<'a> {
     /// The limit cycle that comes of the first of so many drawn starts that leads to one.
     pub(crate) fn drawn_cycle(&self, alloc: Global) -> Result<Option<Cycle>, NoMemory>
-        ensures { IfOk result (λ cycle. IfSome cycle (IsCycle self.now.q.now self.now.periods)) }
+        ensures { IfOk result (λ cycle. IfSome cycle
+            (IsCycle self.now.quantised.now self.now.periods)) }
     {
         let mut generator = Generator { state: SEED };
         for turn in 0..STARTS {

@@ -16,19 +16,20 @@ use std::alloc::Global;
 /// The formula of the question whether a property happens within 1 to 64 samples.
 pub fn question_formula(
     alloc: Global,
-    q: &Quantised,
+    quantised: &Quantised,
     property: RunProperty,
     samples: u32,
 ) -> Result<Formula, BoundedRefusal>
     requires some { 1 ≤ samples }
     requires few { samples ≤ 64 }
-    ensures sized { IsSized (job_size_of q.now samples) result }
-    ensures formula { IfOk result (λ f. f ≡ question_formula property q.now samples) }
+    ensures sized { IsSized (job_size_of quantised.now samples) result }
+    ensures formula { IfOk result (λ f. f ≡ question_formula property quantised.now samples) }
     // Some assignment satisfies it exactly where the property happens.
-    ensures told { IfOk result (λ f. IsSatisfiable f.clauses ↔ Happens property q.now samples) }
+    ensures told { IfOk result (λ f. IsSatisfiable f.clauses ↔ Happens property quantised.now
+        samples) }
 {
     match property {
-        RunProperty::Overflow => overflow_formula(alloc, q, samples),
-        RunProperty::LimitCycle => cycle_formula(alloc, q, samples),
+        RunProperty::Overflow => overflow_formula(alloc, quantised, samples),
+        RunProperty::LimitCycle => cycle_formula(alloc, quantised, samples),
     }
 }

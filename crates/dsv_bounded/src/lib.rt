@@ -1,4 +1,4 @@
-//! Bounded verdicts on controllers in words: overflow over all lists of so many inputs, and limit
+//! Bounded verdicts on quantised controllers: overflow over all lists of so many inputs, and limit
 //! cycles of all periods up to so many samples, from all starts. Lists and starts that are offered
 //! by fixed rules are tried first, and then a search decides.
 #![tactic(auto)]
@@ -15,8 +15,6 @@ mod overflows;
 mod question;
 mod refusals;
 mod replayed_cycles;
-mod replayed_traces;
-mod responses;
 mod starts;
 mod transients;
 mod words;

@@ -1,4 +1,4 @@
-// The netlist of a controller in words.
+// The netlist of a quantised controller.
 ghost use Rattle.std.specs.Prelude.{IfOk};
 ghost use Rattle.dsv_bounded.specs.Questions.{Realises};
 
@@ -8,10 +8,10 @@ use dsv_quantiser::Quantised;
 use dsv_realise::realise;
 use std::alloc::Global;
 
-/// The netlist of a controller in words. It runs as the written equations do.
-pub fn netlist_of(alloc: Global, q: &Quantised) -> Result<Netlist, NoMemory>
-    ensures { IfOk result (Realises q.now) }
+/// The netlist of a quantised controller. It runs as the written equations do.
+pub fn netlist_of(alloc: Global, quantised: &Quantised) -> Result<Netlist, NoMemory>
+    ensures { IfOk result (Realises quantised.now) }
 {
-    let _order = q.order(); // its range, for the proof
-    realise(alloc, q)
+    let _order = quantised.order(); // its range, for the proof
+    realise(alloc, quantised)
 }

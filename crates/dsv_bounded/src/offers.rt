@@ -1,6 +1,6 @@
 // Lists of inputs that are tried before a search: each input is an end of the range, since the
-// worst inputs of a linear system are. First come those that drive a value before a Fit node
-// farthest in the last sample (responses.rt), and then the square waves, which excite a resonance
+// worst inputs of a linear system are. First come those that drive an exact value farthest in the
+// last sample, by its answers to a pulse, and then the square waves, which excite a resonance
 // of each period and, with the longest, the step response. Each list is replayed in the written
 // equations, so nothing is claimed of how it came about; where none overflows, the search decides.
 #![tactic(auto, using(dsv_algebra::proofs::Casts::casts))]
@@ -9,42 +9,54 @@ ghost use Rattle.std.specs.Prelude.{◌≡◌, ◌≤◌, ◌≤ℤ◌, length, 
 ghost use Rattle.std.specs.List.{All};
 ghost use Rattle.dsv_system.specs.Systems.{AreInRange};
 ghost use Rattle.dsv_word.specs.Words.{IsWord};
-ghost use Rattle.dsv_bounded.specs.Verdicts.{IsTrace};
+ghost use Rattle.dsv_meaning.specs.Traces.{IsTrace};
 
 use crate::end_list::EndList;
 use crate::overflows::OverflowQuestion;
-use crate::replayed_traces::replayed_trace;
-use crate::responses::driving_lists;
 use dsv_base::{NoMemory, WordList};
-use dsv_meaning::Trace;
-use dsv_netlist::Node;
+use dsv_meaning::{Trace, replayed_trace};
+use dsv_netlist::{Responses, pulse_responses};
 use dsv_quantiser::Quantised;
 use std::alloc::Global;
 
 /// The greatest input or the least one.
-fn end_input(q: &Quantised, greatest: bool) -> i64
-    ensures low { q.now.xlo ≤ℤ result }
-    ensures high { result ≤ℤ q.now.xhi }
-    ensures word { IsWord q.now.format result }
+fn end_input(quantised: &Quantised, greatest: bool) -> i64
+    ensures low { quantised.now.xlo ≤ℤ result }
+    ensures high { result ≤ℤ quantised.now.xhi }
+    ensures word { IsWord quantised.now.format result }
 {
-    if greatest { q.xhi() } else { q.xlo() }
+    if greatest {
+        quantised.xhi()
+    } else {
+        quantised.xlo()
+    }
+}
+
+/// The list that drives the exact value of this number farthest in the last of so many samples: the
+/// ends on the sides of its answers to a pulse, from the last sample back to the first.
+fn driving_list(responses: &Responses, value: usize, samples: u32) -> EndList {
+    let mut list = EndList::all_greatest();
+    for after in 0..samples {
+        list = list.preceded_by(&responses.answer(value, after));
+    }
+    list
 }
 
 /// The inputs of a list.
 fn end_inputs(
     alloc: Global,
-    q: &Quantised,
+    quantised: &Quantised,
     list: EndList,
     samples: u32,
 ) -> Result<WordList, NoMemory>
     requires { samples ≤ 64 }
-    ensures range { IfOk result (AreInRange q.now.xlo q.now.xhi) }
-    ensures words { IfOk result (All (IsWord q.now.format)) }
+    ensures range { IfOk result (AreInRange quantised.now.xlo quantised.now.xhi) }
+    ensures words { IfOk result (All (IsWord quantised.now.format)) }
     ensures many { IfOk result (λ inputs. length inputs ≡ samples) }
 {
     let mut inputs = WordList::new(alloc);
     for i in 0..samples {
-        inputs.push(end_input(q, list.is_greatest(i)))?;
+        inputs.push(end_input(quantised, list.is_greatest(i)))?;
     }
     Ok(inputs)
 }
@@ -53,17 +65,17 @@ impl<'a> OverflowQuestion<'a> {
     /// The trace of a list, where it breaks the controller.
     fn list_trace(&self, alloc: Global, list: EndList) -> Result<Option<Trace>, NoMemory>
         ensures { IfOk result
-            (λ trace. IfSome trace (IsTrace self.now.q.now self.now.samples)) }
+            (λ trace. IfSome trace (IsTrace self.now.quantised.now self.now.samples)) }
     {
-        let inputs = end_inputs(alloc, self.q, list, self.samples)?;
-        replayed_trace(alloc, self.q, inputs.as_slice())
+        let inputs = end_inputs(alloc, self.quantised, list, self.samples)?;
+        replayed_trace(alloc, self.quantised, inputs.as_slice())
     }
 
     /// The trace of a list or of the list with the other ends, where one of them breaks the
     /// controller.
     fn either_trace(&self, alloc: Global, list: EndList) -> Result<Option<Trace>, NoMemory>
         ensures { IfOk result
-            (λ trace. IfSome trace (IsTrace self.now.q.now self.now.samples)) }
+            (λ trace. IfSome trace (IsTrace self.now.quantised.now self.now.samples)) }
     {
         match self.list_trace(alloc, list)? {
             Some(trace) => Ok(Some(trace)),
@@ -74,7 +86,7 @@ impl<'a> OverflowQuestion<'a> {
     /// The first trace of the lists that change ends after each 1 sample, 2, and so on up to all.
     fn alternating_trace(&self, alloc: Global) -> Result<Option<Trace>, NoMemory>
         ensures { IfOk result
-            (λ trace. IfSome trace (IsTrace self.now.q.now self.now.samples)) }
+            (λ trace. IfSome trace (IsTrace self.now.quantised.now self.now.samples)) }
     {
         for i in 0..self.samples {
             if let Some(trace) = self.either_trace(alloc, EndList::square_wave(i + 1))? {
@@ -84,18 +96,16 @@ impl<'a> OverflowQuestion<'a> {
         Ok(None)
     }
 
-    /// The first trace of the lists that drive the value before a Fit node farthest in the last
-    /// sample: by the signs of its answer to a pulse.
+    /// The first trace of the lists that drive an exact value farthest in the last sample.
     fn driving_trace(&self, alloc: Global) -> Result<Option<Trace>, NoMemory>
         ensures { IfOk result
-            (λ trace. IfSome trace (IsTrace self.now.q.now self.now.samples)) }
+            (λ trace. IfSome trace (IsTrace self.now.quantised.now self.now.samples)) }
     {
-        let lists = driving_lists(self.net, self.samples);
-        for i in 0..self.net.len() {
-            if let Node::Fit(_) = self.net.node(i) {
-                if let Some(trace) = self.either_trace(alloc, lists[i as usize])? {
-                    return Ok(Some(trace));
-                }
+        let responses = pulse_responses(alloc, self.net, self.samples)?;
+        for value in 0..responses.values() {
+            let list = driving_list(&responses, value, self.samples);
+            if let Some(trace) = self.either_trace(alloc, list)? {
+                return Ok(Some(trace));
             }
         }
         Ok(None)
@@ -105,7 +115,7 @@ impl<'a> OverflowQuestion<'a> {
     /// fixed rules.
     pub(crate) fn offered_trace(&self, alloc: Global) -> Result<Option<Trace>, NoMemory>
         ensures { IfOk result
-            (λ trace. IfSome trace (IsTrace self.now.q.now self.now.samples)) }
+            (λ trace. IfSome trace (IsTrace self.now.quantised.now self.now.samples)) }
     {
         match self.driving_trace(alloc)? {
             Some(trace) => Ok(Some(trace)),

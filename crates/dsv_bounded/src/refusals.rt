@@ -48,21 +48,21 @@ impl From<TooLarge> for BoundedRefusal {
 
 /// How great a job over so many samples is: samples times products times the square of a word's
 /// bits.
-pub(crate) fn job_size(q: &Quantised, samples: u32) -> u64
+pub(crate) fn job_size(quantised: &Quantised, samples: u32) -> u64
     requires { samples ≤ 64 }
-    ensures { result ≡ job_size_of q.now samples }
+    ensures { result ≡ job_size_of quantised.now samples }
 {
-    let width = u64::from(q.format().width());
-    let products = products(q.realisation(), q.order() as u32);
+    let width = u64::from(quantised.format().width());
+    let products = products(quantised.realisation(), quantised.order() as u32);
     u64::from(samples) * u64::from(products) * (width * width)
 }
 
 /// Refuses a job over so many samples that is too large. It takes no memory.
-pub fn accept(q: &Quantised, samples: u32) -> Result<(), TooLarge>
+pub fn accept(quantised: &Quantised, samples: u32) -> Result<(), TooLarge>
     requires { samples ≤ 64 }
-    ensures { IsWeighed (job_size_of q.now samples) result }
+    ensures { IsWeighed (job_size_of quantised.now samples) result }
 {
-    let size = job_size(q, samples);
+    let size = job_size(quantised, samples);
     if size > MOST_SIZE {
         return Err(TooLarge { size });
     }

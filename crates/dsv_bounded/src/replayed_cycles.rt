@@ -14,17 +14,17 @@ use std::alloc::Global;
 /// The limit cycle from a start, where it has one of a period up to `periods`.
 pub(crate) fn replayed_cycle(
     alloc: Global,
-    q: &Quantised,
+    quantised: &Quantised,
     start: WordList,
     periods: u32,
 ) -> Result<Option<Cycle>, NoMemory>
-    requires { IsStart q.now start }
-    ensures cycle { IfOk result (λ cycle. IfSome cycle (IsCycle q.now periods)) }
+    requires { IsStart quantised.now start }
+    ensures cycle { IfOk result (λ cycle. IfSome cycle (IsCycle quantised.now periods)) }
     ensures none { IfOk result (λ cycle. IfNone cycle ((p : ℕ) → p ≤ periods →
-        Cycles Past (equations_of q.now) start p → ⊥)) }
+        Cycles Past (equations_of quantised.now) start p → ⊥)) }
 {
     let mut outputs = vec![in alloc; 0i64; periods as usize]?;
-    match replay_cycle(q, start.as_slice(), periods, outputs.as_mut_slice()) {
+    match replay_cycle(quantised, start.as_slice(), periods, outputs.as_mut_slice()) {
         CycleReplay::Returns { period, sounding } => {
             if !sounding {
                 return Ok(None);

@@ -99,7 +99,8 @@ impl<'a> CycleQuestion<'a> {
         number: i64,
         place: Place,
     ) -> Result<Option<Cycle>, NoMemory>
-        ensures { IfOk result (λ cycle. IfSome cycle (IsCycle self.now.q.now self.now.periods)) }
+        ensures { IfOk result (λ cycle. IfSome cycle
+            (IsCycle self.now.quantised.now self.now.periods)) }
     {
         if !self.net.format().fits(i128::from(number)) {
             return Ok(None);
@@ -110,7 +111,8 @@ impl<'a> CycleQuestion<'a> {
 
     /// The first limit cycle that comes of a word in one register: a small one, or an end.
     fn register_cycle(&self, alloc: Global, register: u32) -> Result<Option<Cycle>, NoMemory>
-        ensures { IfOk result (λ cycle. IfSome cycle (IsCycle self.now.q.now self.now.periods)) }
+        ensures { IfOk result (λ cycle. IfSome cycle
+            (IsCycle self.now.quantised.now self.now.periods)) }
     {
         for i in 0..OFFERED_NUMBERS {
             let number = offered_number(&self.net.format(), i);
@@ -124,7 +126,8 @@ impl<'a> CycleQuestion<'a> {
     /// The first limit cycle that comes of a number as the input, in one sample or for long, or in
     /// all registers.
     fn end_cycle(&self, alloc: Global, number: i64) -> Result<Option<Cycle>, NoMemory>
-        ensures { IfOk result (λ cycle. IfSome cycle (IsCycle self.now.q.now self.now.periods)) }
+        ensures { IfOk result (λ cycle. IfSome cycle
+            (IsCycle self.now.quantised.now self.now.periods)) }
     {
         for place in [Place::Input(1), Place::Input(LONG_INPUT), Place::Everywhere] {
             if let Some(cycle) = self.number_cycle(alloc, number, place)? {
@@ -137,10 +140,16 @@ impl<'a> CycleQuestion<'a> {
     /// The limit cycle of the first start that leads to one, of some hundred that are offered by
     /// fixed rules.
     pub(crate) fn offered_cycle(&self, alloc: Global) -> Result<Option<Cycle>, NoMemory>
-        ensures { IfOk result (λ cycle. IfSome cycle (IsCycle self.now.q.now self.now.periods)) }
+        ensures { IfOk result (λ cycle. IfSome cycle
+            (IsCycle self.now.quantised.now self.now.periods)) }
     {
         let format = self.net.format();
-        for number in [self.q.xhi(), self.q.xlo(), format.hi(), format.lo()] {
+        for number in [
+            self.quantised.xhi(),
+            self.quantised.xlo(),
+            format.hi(),
+            format.lo(),
+        ] {
             if let Some(cycle) = self.end_cycle(alloc, number)? {
                 return Ok(Some(cycle));
             }

@@ -40,12 +40,17 @@ fn are_zero(registers: &[i64]) -> bool {
 }
 
 /// The words of registers, with 0 in the feed-forward ones.
-fn quiet_start(alloc: Global, q: &Quantised, registers: &[i64]) -> Result<WordList, NoMemory>
-    requires many { length registers.now ≡ registers_of q.now.realisation (order q.now) }
-    requires words { All (IsWord q.now.format) registers.now }
-    ensures { IfOk result (IsStart q.now) }
+fn quiet_start(
+    alloc: Global,
+    quantised: &Quantised,
+    registers: &[i64],
+) -> Result<WordList, NoMemory>
+    requires many { length registers.now
+        ≡ registers_of quantised.now.realisation (order quantised.now) }
+    requires words { All (IsWord quantised.now.format) registers.now }
+    ensures { IfOk result (IsStart quantised.now) }
 {
-    let forward = forward_registers(q.realisation(), q.order() as u32);
+    let forward = forward_registers(quantised.realisation(), quantised.order() as u32);
     let mut start = zero_words(alloc, forward)?;
     start.extend_from_slice(registers.split_at(forward as usize).1)?;
     Ok(start)
@@ -73,15 +78,16 @@ impl<'a> CycleQuestion<'a> {
         settling: &[u32],
     ) -> Result<Option<Cycle>, NoMemory>
         requires { AreRegisters self.now.net.now registers.old }
-        ensures { IfOk result (λ cycle. IfSome cycle (IsCycle self.now.q.now self.now.periods)) }
+        ensures { IfOk result (λ cycle. IfSome cycle
+            (IsCycle self.now.quantised.now self.now.periods)) }
     {
         for samples in settling {
             drive(self.net, registers, 0, *samples);
             if are_zero(registers) {
                 return Ok(None);
             }
-            let start = quiet_start(alloc, self.q, registers)?;
-            if let Some(cycle) = replayed_cycle(alloc, self.q, start, self.periods)? {
+            let start = quiet_start(alloc, self.quantised, registers)?;
+            if let Some(cycle) = replayed_cycle(alloc, self.quantised, start, self.periods)? {
                 return Ok(Some(cycle));
             }
         }

@@ -21,8 +21,8 @@ pub(crate) const REALISATIONS: [Realisation; 6] = [
     Realisation::Tddfii,
 ];
 
-/// The controller in words.
-pub(crate) fn words_of(
+/// The quantised controller.
+pub(crate) fn quantised_of(
     alloc: Global,
     realisation: Realisation,
     rounding: Rounding,

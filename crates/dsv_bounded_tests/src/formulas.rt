@@ -2,7 +2,7 @@
 // the lowest bit of the first one first of all.
 ghost use Rattle.std.specs.Prelude.{◌<◌};
 
-use crate::designs::{REALISATIONS, words_of};
+use crate::designs::{REALISATIONS, quantised_of};
 use dsv_bounded::goal_formula;
 use dsv_cnf::{Formula, Lit};
 use dsv_hints::Searched;
@@ -20,11 +20,11 @@ const BITS: u32 = 6;
 const VALUES: u32 = 64;
 
 /// The goal of an overflow within two samples.
-fn overflow_of(alloc: Global, q: &Quantised) -> Option<Goal> {
-    let net = realise(alloc, q).ok()?;
+fn overflow_of(alloc: Global, quantised: &Quantised) -> Option<Goal> {
+    let net = realise(alloc, quantised).ok()?;
     let format = net.format();
-    let low = q.xlo();
-    let high = q.xhi();
+    let low = quantised.xlo();
+    let high = quantised.xhi();
     if format.hi() < low || high < format.lo() {
         return None;
     }
@@ -32,8 +32,8 @@ fn overflow_of(alloc: Global, q: &Quantised) -> Option<Goal> {
 }
 
 /// The goal of a limit cycle of at most six samples.
-fn cycle_of(alloc: Global, q: &Quantised) -> Option<Goal> {
-    let net = realise(alloc, q).ok()?;
+fn cycle_of(alloc: Global, quantised: &Quantised) -> Option<Goal> {
+    let net = realise(alloc, quantised).ok()?;
     cycle_goal(alloc, &net, 6).ok()
 }
 
@@ -67,13 +67,13 @@ fn is_satisfied(alloc: Global, formula: Option<Formula>, number: u32) -> Option<
 }
 
 /// How many values of the inputs satisfy the formula of the overflow goal, and of the cycle goal.
-fn counts_of(alloc: Global, q: &Quantised) -> Option<(u32, u32)> {
+fn counts_of(alloc: Global, quantised: &Quantised) -> Option<(u32, u32)> {
     let mut overflows: u32 = 0;
     let mut cycles: u32 = 0;
     for number in 0..VALUES {
-        let overflow = formula_of(alloc, overflow_of(alloc, q));
+        let overflow = formula_of(alloc, overflow_of(alloc, quantised));
         overflows = overflows.saturating_add(u32::from(is_satisfied(alloc, overflow, number)?));
-        let cycle = formula_of(alloc, cycle_of(alloc, q));
+        let cycle = formula_of(alloc, cycle_of(alloc, quantised));
         cycles = cycles.saturating_add(u32::from(is_satisfied(alloc, cycle, number)?));
     }
     Some((overflows, cycles))
@@ -86,13 +86,13 @@ const WANTED: [(u32, u32); 6] = [(0, 1), (0, 1), (0, 1), (1, 6), (4, 6), (0, 6)]
 fn is_wanted(alloc: Global, i: usize) -> Option<bool>
     requires { i < 6 }
 {
-    let q = words_of(
+    let quantised = quantised_of(
         alloc,
         REALISATIONS[i],
         Rounding::Floor,
         OverflowMode::Saturate,
     )?;
-    Some(counts_of(alloc, &q)? == WANTED[i])
+    Some(counts_of(alloc, &quantised)? == WANTED[i])
 }
 
 #[test]

@@ -55,7 +55,7 @@ const SILENT: &str = "digital_system d = { .b = {1.0}, .b_size = 1, .a = {1.0, 0
 implementation r = { .int_bits = 2, .frac_bits = 14, .max = 1.0, .min = -1.0 };";
 
 /// A controller, in words, and so many samples or periods.
-struct Job {
+struct Case {
     controller: &'static str,
     int_bits: u32,
     frac_bits: u32,
@@ -65,7 +65,7 @@ struct Job {
 }
 
 /// The controller of a job in words.
-fn words_of(alloc: Global, job: &Job) -> Option<Quantised> {
+fn quantised_of(alloc: Global, job: &Case) -> Option<Quantised> {
     let controller = read(alloc, job.controller.as_bytes()).ok()?;
     let format = Format::new(
         job.int_bits,
@@ -78,28 +78,28 @@ fn words_of(alloc: Global, job: &Job) -> Option<Quantised> {
 }
 
 /// Whether inputs are found that overflow, with one learned clause at most.
-fn is_overflow_found(alloc: Global, job: &Job) -> Option<bool> {
-    let q = words_of(alloc, job)?;
+fn is_overflow_found(alloc: Global, job: &Case) -> Option<bool> {
+    let quantised = quantised_of(alloc, job)?;
     let samples = job.samples;
     if samples < 1 || samples > 64 {
         return None;
     }
-    match overflow(alloc, &q, samples, 1).ok()? {
+    match overflow(alloc, &quantised, samples, 1).ok()? {
         Searched::Happens(trace) => {
-            Some(trace.sample < samples && !q.format().fits(trace.exact))
+            Some(trace.sample < samples && !quantised.format().fits(trace.exact))
         }
         _ => Some(false),
     }
 }
 
 /// Whether a limit cycle is found, with one learned clause at most.
-fn is_cycle_found(alloc: Global, job: &Job) -> Option<bool> {
-    let q = words_of(alloc, job)?;
+fn is_cycle_found(alloc: Global, job: &Case) -> Option<bool> {
+    let quantised = quantised_of(alloc, job)?;
     let periods = job.samples;
     if periods < 1 || periods > 64 {
         return None;
     }
-    match limit_cycle(alloc, &q, periods, 1).ok()? {
+    match limit_cycle(alloc, &quantised, periods, 1).ok()? {
         Searched::Happens(cycle) => {
             Some(cycle.period <= periods && cycle.outputs.len() == cycle.period as usize)
         }
@@ -113,21 +113,21 @@ fn is_hard(alloc: Global, goal: Goal) -> bool {
 }
 
 /// Whether a search gives up on the question of an overflow after one learned clause.
-fn is_overflow_hard(alloc: Global, job: &Job) -> Option<bool> {
-    let q = words_of(alloc, job)?;
-    let net = realise(alloc, &q).ok()?;
+fn is_overflow_hard(alloc: Global, job: &Case) -> Option<bool> {
+    let quantised = quantised_of(alloc, job)?;
+    let net = realise(alloc, &quantised).ok()?;
     let format = net.format();
-    if format.hi() < q.xlo() || q.xhi() < format.lo() || job.samples > 64 {
+    if format.hi() < quantised.xlo() || quantised.xhi() < format.lo() || job.samples > 64 {
         return None;
     }
-    let goal = overflow_goal(alloc, &net, q.xlo(), q.xhi(), job.samples).ok()?;
+    let goal = overflow_goal(alloc, &net, quantised.xlo(), quantised.xhi(), job.samples).ok()?;
     Some(is_hard(alloc, goal))
 }
 
 /// Whether a search gives up on the question of a limit cycle after one learned clause.
-fn is_cycle_hard(alloc: Global, job: &Job) -> Option<bool> {
-    let q = words_of(alloc, job)?;
-    let net = realise(alloc, &q).ok()?;
+fn is_cycle_hard(alloc: Global, job: &Case) -> Option<bool> {
+    let quantised = quantised_of(alloc, job)?;
+    let net = realise(alloc, &quantised).ok()?;
     if job.samples < 1 || job.samples > 64 {
         return None;
     }
@@ -136,8 +136,8 @@ fn is_cycle_hard(alloc: Global, job: &Job) -> Option<bool> {
 }
 
 /// Jobs in which some inputs overflow.
-const OVERFLOWS: [Job; 4] = [
-    Job {
+const OVERFLOWS: [Case; 4] = [
+    Case {
         controller: OVERDRIVEN,
         int_bits: 2,
         frac_bits: 14,
@@ -145,7 +145,7 @@ const OVERFLOWS: [Job; 4] = [
         rounding: Rounding::Floor,
         samples: 10,
     },
-    Job {
+    Case {
         controller: ALTERNATING,
         int_bits: 2,
         frac_bits: 14,
@@ -153,7 +153,7 @@ const OVERFLOWS: [Job; 4] = [
         rounding: Rounding::Nearest,
         samples: 10,
     },
-    Job {
+    Case {
         controller: SLOWER,
         int_bits: 2,
         frac_bits: 14,
@@ -161,7 +161,7 @@ const OVERFLOWS: [Job; 4] = [
         rounding: Rounding::Floor,
         samples: 10,
     },
-    Job {
+    Case {
         controller: RESONATOR,
         int_bits: 3,
         frac_bits: 13,
@@ -172,7 +172,7 @@ const OVERFLOWS: [Job; 4] = [
 ];
 
 /// A job in which no inputs overflow.
-const NO_OVERFLOW: Job = Job {
+const NO_OVERFLOW: Case = Case {
     controller: SAFE,
     int_bits: 2,
     frac_bits: 14,
@@ -182,8 +182,8 @@ const NO_OVERFLOW: Job = Job {
 };
 
 /// Jobs in which some start has a limit cycle.
-const CYCLES: [Job; 3] = [
-    Job {
+const CYCLES: [Case; 3] = [
+    Case {
         controller: RING,
         int_bits: 3,
         frac_bits: 5,
@@ -191,7 +191,7 @@ const CYCLES: [Job; 3] = [
         rounding: Rounding::Nearest,
         samples: 6,
     },
-    Job {
+    Case {
         controller: INTEGRATOR,
         int_bits: 2,
         frac_bits: 14,
@@ -199,7 +199,7 @@ const CYCLES: [Job; 3] = [
         rounding: Rounding::Floor,
         samples: 6,
     },
-    Job {
+    Case {
         controller: OSCILLATOR,
         int_bits: 2,
         frac_bits: 14,
@@ -210,7 +210,7 @@ const CYCLES: [Job; 3] = [
 ];
 
 /// A job in which no start has a limit cycle.
-const NO_CYCLE: Job = Job {
+const NO_CYCLE: Case = Case {
     controller: SILENT,
     int_bits: 2,
     frac_bits: 14,

@@ -1,7 +1,7 @@
 // What the searches find, in every realisation, rounding and overflow mode.
 ghost use Rattle.std.specs.Prelude.{◌<◌, ◌≤◌};
 
-use crate::designs::{REALISATIONS, words_of};
+use crate::designs::{REALISATIONS, quantised_of};
 use dsv_bounded::{limit_cycle, overflow};
 use dsv_hints::Searched;
 use dsv_names::{OverflowMode, Rounding};
@@ -62,11 +62,11 @@ const WANTED: [Wanted; 6] = [
 ];
 
 /// Whether some inputs overflow in so many samples.
-fn overflows(alloc: Global, q: &Quantised, samples: u32) -> Option<bool>
+fn overflows(alloc: Global, quantised: &Quantised, samples: u32) -> Option<bool>
     requires some { 1 ≤ samples }
     requires few { samples ≤ 64 }
 {
-    match overflow(alloc, q, samples, CONFLICTS) {
+    match overflow(alloc, quantised, samples, CONFLICTS) {
         Ok(Searched::Never(_)) => Some(false),
         Ok(Searched::Happens(_)) => Some(true),
         _ => None,
@@ -74,24 +74,24 @@ fn overflows(alloc: Global, q: &Quantised, samples: u32) -> Option<bool>
 }
 
 /// Whether these are the least samples in which some inputs overflow; 0 where none do in 3.
-fn is_first_overflow(alloc: Global, q: &Quantised, samples: u32) -> Option<bool>
+fn is_first_overflow(alloc: Global, quantised: &Quantised, samples: u32) -> Option<bool>
     requires { samples ≤ 3 }
 {
     if samples == 0 {
-        return Some(!overflows(alloc, q, 3)?);
+        return Some(!overflows(alloc, quantised, 3)?);
     }
-    if samples > 1 && overflows(alloc, q, samples - 1)? {
+    if samples > 1 && overflows(alloc, quantised, samples - 1)? {
         return Some(false);
     }
-    overflows(alloc, q, samples)
+    overflows(alloc, quantised, samples)
 }
 
 /// Whether a start has a limit cycle of at most such a period.
-fn cycles(alloc: Global, q: &Quantised, periods: u32) -> Option<bool>
+fn cycles(alloc: Global, quantised: &Quantised, periods: u32) -> Option<bool>
     requires some { 1 ≤ periods }
     requires few { periods ≤ 64 }
 {
-    match limit_cycle(alloc, q, periods, CONFLICTS) {
+    match limit_cycle(alloc, quantised, periods, CONFLICTS) {
         Ok(Searched::Never(_)) => Some(false),
         Ok(Searched::Happens(_)) => Some(true),
         _ => None,
@@ -99,29 +99,32 @@ fn cycles(alloc: Global, q: &Quantised, periods: u32) -> Option<bool>
 }
 
 /// Whether this is the least period of a limit cycle; 0 where none has a period up to 6.
-fn is_first_period(alloc: Global, q: &Quantised, period: u32) -> Option<bool>
+fn is_first_period(alloc: Global, quantised: &Quantised, period: u32) -> Option<bool>
     requires { period ≤ 6 }
 {
     if period == 0 {
-        return Some(!cycles(alloc, q, PERIODS)?);
+        return Some(!cycles(alloc, quantised, PERIODS)?);
     }
-    if period > 1 && cycles(alloc, q, period - 1)? {
+    if period > 1 && cycles(alloc, quantised, period - 1)? {
         return Some(false);
     }
-    cycles(alloc, q, period)
+    cycles(alloc, quantised, period)
 }
 
 /// Whether the verdicts on a realisation are the ones that are wanted.
 fn is_wanted(alloc: Global, row: &Wanted, i: usize) -> Option<bool>
     requires { i < 6 }
 {
-    let q = words_of(alloc, REALISATIONS[i], row.rounding, row.overflow)?;
+    let quantised = quantised_of(alloc, REALISATIONS[i], row.rounding, row.overflow)?;
     let samples = row.samples[i];
     let period = row.periods[i];
     if samples > 3 || period > PERIODS {
         return None;
     }
-    Some(is_first_overflow(alloc, &q, samples)? && is_first_period(alloc, &q, period)?)
+    Some(
+        is_first_overflow(alloc, &quantised, samples)?
+            && is_first_period(alloc, &quantised, period)?,
+    )
 }
 
 /// Whether the verdicts on all realisations are the ones that are wanted.

@@ -10,7 +10,7 @@ use dsv_algebra::NarrowInteger;
 use dsv_forms::{Form, GREATEST_ORDER, Squares};
 
 /// A row of up to eight places.
-pub(crate) type Row = [i128; GREATEST_ORDER];
+pub(crate) type MatrixRow = [i128; GREATEST_ORDER];
 
 /// The entries row by row.
 pub(crate) type Matrix = [[i128; GREATEST_ORDER]; GREATEST_ORDER];
@@ -61,7 +61,7 @@ impl Entries {
 }
 
 /// The row with these two places.
-pub(crate) fn row_of_two(first: NarrowInteger, second: NarrowInteger) -> Row
+pub(crate) fn row_of_two(first: NarrowInteger, second: NarrowInteger) -> MatrixRow
     ensures { result ≡ row_of (first ∷ second ∷ []) }
 {
     let mut row = [0; GREATEST_ORDER];
@@ -71,7 +71,7 @@ pub(crate) fn row_of_two(first: NarrowInteger, second: NarrowInteger) -> Row
 }
 
 /// The row with this first place and 0 elsewhere.
-pub(crate) fn row_of_one(first: NarrowInteger) -> Row
+pub(crate) fn row_of_one(first: NarrowInteger) -> MatrixRow
     ensures { result ≡ row_of (first ∷ []) }
 {
     let mut row = [0; GREATEST_ORDER];

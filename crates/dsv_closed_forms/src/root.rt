@@ -15,13 +15,13 @@ ghost use Rattle.dsv_closed_forms.specs.ClosedForm.{minus_square, quotient_from,
 ghost use Rattle.dsv_closed_forms.specs.ClosedForm.{is_root, root_form, root_limit};
 
 use crate::coefficients::coefficient;
-use crate::entries::{Matrix, Row, no_squares, unit_start};
+use crate::entries::{Matrix, MatrixRow, no_squares, unit_start};
 use crate::narrow::{are_equal, negation, product, sum};
 use dsv_algebra::NarrowInteger;
 use dsv_forms::{Form, FormOffer, GREATEST_ORDER, KeptAway};
 
 /// Minus the products of a number with each of these.
-fn negative_products(a: NarrowInteger, q: &[NarrowInteger]) -> Row
+fn negative_products(a: NarrowInteger, q: &[NarrowInteger]) -> MatrixRow
     requires few { length q.now ≤ greatest_order }
     requires small_a { unsigned_abs a ≤ 2 ^ 32 }
     requires small { (k : ℕ) → unsigned_abs (vector_of q.now k) ≤ 2 ^ 32 }

@@ -5,7 +5,7 @@ use Rattle.std.proofs.lemmas.Fmt.{decimal_by_steps, decimal_digit, first_decimal
 use Rattle.dsv_text.specs.Bytes.{is_blank, is_digit}
 use Rattle.dsv_cnf.specs.Reading.{digits_from, digits_end, number_of, number_end, part_of}
 use Rattle.dsv_cnf.specs.declared.reader.CnfRefusal.TheVariants as refusal
-use Rattle.dsv_cnf.specs.declared.reader.Part.TheVariants as part
+use Rattle.dsv_cnf.specs.declared.reader.Piece.TheVariants as part
 
 -- ---- digits
 

@@ -6,7 +6,7 @@ use Rattle.dsv_cnf.specs.Reading.{number_end, word_end}
 use Rattle.dsv_cnf.specs.declared.reader.CnfRefusal.{CnfRefusal}
 use Rattle.dsv_cnf.specs.declared.reader.Header.{Header}
 use Rattle.dsv_cnf.specs.declared.reader.Number.{Number}
-use Rattle.dsv_cnf.proofs.HeaderOutcomes.{last_step, clauses_step, space_step, vars_step, header_within, WordThen, NumberThen, IsEmpty, AfterWord, InNumber, NoFault, Outcome, Fault, FirstNoDigit, outcome-word, outcome-number}
+use Rattle.dsv_cnf.proofs.HeaderOutcomes.{last_step, clauses_step, space_step, vars_step, header_within, WordThen, NumberThen, IsEmpty, AfterWord, InNumber, NoFault, HeaderOutcome, Fault, FirstNoDigit, outcome-word, outcome-number}
 use Rattle.dsv_cnf.proofs.HeaderSteps.{BeginsNoDigit, said_word, word-taken, said_number_end, number-taken}
 use Rattle.dsv_cnf.proofs.ListLemmas.{drop-more}
 
@@ -80,20 +80,20 @@ first_last text w = subst (λ t. (0 < length t) × BeginsNoDigit t) (sym w.1) (o
 -- ---- each step
 
 at_end : (F : Header → List ℕ) (P : Header → Type 0) (S : List ℕ → ℕ → Type 0) (bytes word rest : List ℕ) (at end : ℕ) (o : Result Header CnfRefusal) → drop at bytes ≡ word ++ rest → end ≡ at + length word
-    → Outcome F P S (drop end bytes) end o → Outcome F P S rest (at + length word) o
+    → HeaderOutcome F P S (drop end bytes) end o → HeaderOutcome F P S rest (at + length word) o
 at_end F P S bytes word rest at end o e f h =
     let g : drop end bytes ≡ rest = ap (λ k. drop k bytes) f ∙ drop-more bytes word rest at e in
-    subst (λ (k : ℕ). Outcome F P S rest k o) f (subst (λ t. Outcome F P S t end o) g h)
+    subst (λ (k : ℕ). HeaderOutcome F P S rest k o) f (subst (λ t. HeaderOutcome F P S t end o) g h)
 
 last_outcome : (bytes : List ℕ) (vars clauses : Number)
-    → Outcome (λ h. codes "\n") (λ h. (h.clauses ≡ clauses.value) × (h.vars ≡ vars.value)) (Fault Last Last LastFault) (drop clauses.end bytes) clauses.end (last_step bytes vars clauses)
+    → HeaderOutcome (λ h. codes "\n") (λ h. (h.clauses ≡ clauses.value) × (h.vars ≡ vars.value)) (Fault Last Last LastFault) (drop clauses.end bytes) clauses.end (last_step bytes vars clauses)
 last_outcome bytes vars clauses =
     outcome-word (λ h. []) (λ h. (h.clauses ≡ clauses.value) × (h.vars ≡ vars.value)) IsEmpty IsEmpty NoFault (codes "\n") (drop clauses.end bytes) [] clauses.end (word_end (codes "\n") (drop clauses.end bytes) clauses.end)
     (λ end. Ok (record { vars = vars.value; clauses = clauses.value; end = end })) refl (said_word (codes "\n") (drop clauses.end bytes) clauses.end)
     (λ rest e. let n : clauses.end + 1 ≡ clauses.end + 1 + 0 = omega arith in (rest, refl, n, (refl, refl)))
 
 clauses_outcome : (limit : ℕ) (bytes : List ℕ) (vars : Number) (c : ℕ) → limit < 2 ^ 60
-    → Outcome (λ h. decimal h.clauses ++ codes "\n") (λ h. (h.clauses ≤ limit) × (h.vars ≡ vars.value)) (Fault (Clauses limit) (Clauses most) (ClausesFault limit)) (drop c bytes) c (clauses_step limit bytes vars c)
+    → HeaderOutcome (λ h. decimal h.clauses ++ codes "\n") (λ h. (h.clauses ≤ limit) × (h.vars ≡ vars.value)) (Fault (Clauses limit) (Clauses most) (ClausesFault limit)) (drop c bytes) c (clauses_step limit bytes vars c)
 clauses_outcome limit bytes vars c wide =
     outcome-number (λ h. codes "\n") (λ n h. (h.clauses ≡ n.value) × (h.vars ≡ vars.value)) (λ h. (h.clauses ≤ limit) × (h.vars ≡ vars.value)) (λ h. h.clauses) Last Last LastFault limit most
     (drop c bytes) (codes "\n") c (number_end limit (drop c bytes) c) (last_step bytes vars) first_last (omega arith) (omega (arith, wide)) some_last (said_number_end limit (drop c bytes) c wide)
@@ -101,7 +101,7 @@ clauses_outcome limit bytes vars c wide =
     (λ n rest e f. at_end (λ h. codes "\n") (λ h. (h.clauses ≡ n.value) × (h.vars ≡ vars.value)) (Fault Last Last LastFault) bytes (decimal n.value) rest c n.end (last_step bytes vars n) e f (last_outcome bytes vars n))
 
 space_outcome : (limit : ℕ) (bytes : List ℕ) (vars : Number) → limit < 2 ^ 60
-    → Outcome (λ h. codes " " ++ (decimal h.clauses ++ codes "\n")) (λ h. (h.clauses ≤ limit) × (h.vars ≡ vars.value)) (Fault (Space limit) (Space most) (SpaceFault limit)) (drop vars.end bytes) vars.end (space_step limit bytes vars)
+    → HeaderOutcome (λ h. codes " " ++ (decimal h.clauses ++ codes "\n")) (λ h. (h.clauses ≤ limit) × (h.vars ≡ vars.value)) (Fault (Space limit) (Space most) (SpaceFault limit)) (drop vars.end bytes) vars.end (space_step limit bytes vars)
 space_outcome limit bytes vars wide =
     outcome-word (λ h. decimal h.clauses ++ codes "\n") (λ h. (h.clauses ≤ limit) × (h.vars ≡ vars.value)) (Clauses limit) (Clauses most) (ClausesFault limit) (codes " ") (drop vars.end bytes) (decimal 0 ++ codes "\n") vars.end
     (word_end (codes " ") (drop vars.end bytes) vars.end) (clauses_step limit bytes vars) (some_clauses limit) (said_word (codes " ") (drop vars.end bytes) vars.end)
@@ -109,7 +109,7 @@ space_outcome limit bytes vars wide =
     (clauses_step limit bytes vars (vars.end + 1)) e refl (clauses_outcome limit bytes vars (vars.end + 1) wide))
 
 vars_outcome : (few limit : ℕ) (bytes : List ℕ) (v : ℕ) → few < 2 ^ 60 → limit < 2 ^ 60
-    → Outcome (λ h. decimal h.vars ++ (codes " " ++ (decimal h.clauses ++ codes "\n"))) (λ h. (h.vars ≤ few) × (h.clauses ≤ limit)) (Fault (Vars few limit) (Vars most most) (VarsFault few limit)) (drop v bytes) v (vars_step few limit bytes v)
+    → HeaderOutcome (λ h. decimal h.vars ++ (codes " " ++ (decimal h.clauses ++ codes "\n"))) (λ h. (h.vars ≤ few) × (h.clauses ≤ limit)) (Fault (Vars few limit) (Vars most most) (VarsFault few limit)) (drop v bytes) v (vars_step few limit bytes v)
 vars_outcome few limit bytes v small wide =
     outcome-number (λ h. codes " " ++ (decimal h.clauses ++ codes "\n")) (λ n h. (h.clauses ≤ limit) × (h.vars ≡ n.value)) (λ h. (h.vars ≤ few) × (h.clauses ≤ limit)) (λ h. h.vars) (Space limit) (Space most) (SpaceFault limit) few most
     (drop v bytes) (codes " " ++ (decimal 0 ++ codes "\n")) v (number_end few (drop v bytes) v) (space_step limit bytes) (first_space most) (omega arith) (omega (arith, small)) (some_space limit) (said_number_end few (drop v bytes) v small)
@@ -121,7 +121,7 @@ abbrev pub line_text : Header → List ℕ
 line_text h = codes "p cnf " ++ (decimal h.vars ++ (codes " " ++ (decimal h.clauses ++ codes "\n")))
 
 pub line_outcome : (few limit : ℕ) (bytes : List ℕ) (at : ℕ) → few < 2 ^ 60 → limit < 2 ^ 60
-    → Outcome line_text (λ h. (h.vars ≤ few) × (h.clauses ≤ limit)) (Fault (Line few limit) (Line most most) (LineFault few limit)) (drop at bytes) at (header_within few limit bytes at)
+    → HeaderOutcome line_text (λ h. (h.vars ≤ few) × (h.clauses ≤ limit)) (Fault (Line few limit) (Line most most) (LineFault few limit)) (drop at bytes) at (header_within few limit bytes at)
 line_outcome few limit bytes at small wide =
     outcome-word (λ h. decimal h.vars ++ (codes " " ++ (decimal h.clauses ++ codes "\n"))) (λ h. (h.vars ≤ few) × (h.clauses ≤ limit)) (Vars few limit) (Vars most most) (VarsFault few limit) (codes "p cnf ") (drop at bytes)
     (decimal 0 ++ (codes " " ++ (decimal 0 ++ codes "\n"))) at (word_end (codes "p cnf ") (drop at bytes) at) (vars_step few limit bytes) (some_vars few limit) (said_word (codes "p cnf ") (drop at bytes) at)

@@ -76,9 +76,9 @@ abbrev pub NoFault : List ℕ → ℕ → Type 0
 NoFault text k = ⊥
 
 -- What is read of a text: the header, whose text is a function of it, or the place of a fault.
-abbrev pub Outcome : (Header → List ℕ) → (Header → Type 0) → (List ℕ → ℕ → Type 0) → List ℕ → ℕ → Result Header CnfRefusal → Type 0
-Outcome F P S text at (Ok h) = (body : List ℕ) × (text ≡ F h ++ body) × (h.end ≡ at + length (F h)) × P h
-Outcome F P S text at (Err e) = (k : ℕ) × (e ≡ refusal.Header (at + k)) × S text k
+abbrev pub HeaderOutcome : (Header → List ℕ) → (Header → Type 0) → (List ℕ → ℕ → Type 0) → List ℕ → ℕ → Result Header CnfRefusal → Type 0
+HeaderOutcome F P S text at (Ok h) = (body : List ℕ) × (text ≡ F h ++ body) × (h.end ≡ at + length (F h)) × P h
+HeaderOutcome F P S text at (Err e) = (k : ℕ) × (e ≡ refusal.Header (at + k)) × S text k
 
 abbrev pub Fault : (List ℕ → Type 0) → (List ℕ → Type 0) → (List ℕ → ℕ → Type 0) → List ℕ → ℕ → Type 0
 Fault L W B text k = IsStuck L W text k ⊎ B text k
@@ -129,7 +129,7 @@ fault-after_word L W B word text rest j e (inl s) = inl (stuck-after_word L W wo
 fault-after_word L W B word text rest j e (inr b) = inr (rest, e, j, refl, b)
 
 outcome-later : (F : Header → List ℕ) (P : Header → Type 0) (L W : List ℕ → Type 0) (B : List ℕ → ℕ → Type 0) (word text rest : List ℕ) (at : ℕ) (o : Result Header CnfRefusal) → text ≡ word ++ rest
-    → Outcome F P (Fault L W B) rest (at + length word) o → Outcome (λ h. word ++ F h) P (Fault (WordThen word L) (WordThen word W) (AfterWord word B)) text at o
+    → HeaderOutcome F P (Fault L W B) rest (at + length word) o → HeaderOutcome (λ h. word ++ F h) P (Fault (WordThen word L) (WordThen word W) (AfterWord word B)) text at o
 outcome-later F P L W B word text rest at (Ok h) e s =
     let p = s.2 in
     (s.0, e ∙ ap (λ t. word ++ t) s.1 ∙ sym (append_assoc word (F h) s.0), omega (arith, p, length-append word (F h)), s.3)
@@ -138,10 +138,10 @@ outcome-later F P L W B word text rest at (Err r) e s =
     (length word + s.0, s.1 ∙ ap refusal.Header n, fault-after_word L W B word text rest s.0 e s.2)
 
 pub outcome-word : (F : Header → List ℕ) (P : Header → Type 0) (L W : List ℕ → Type 0) (B : List ℕ → ℕ → Type 0) (word text z : List ℕ) (at : ℕ) (a : Result ℕ CnfRefusal) (K : ℕ → Result Header CnfRefusal)
-    → L z → SaidWord word text at a → ((rest : List ℕ) → text ≡ word ++ rest → Outcome F P (Fault L W B) rest (at + length word) (K (at + length word)))
-    → Outcome (λ h. word ++ F h) P (Fault (WordThen word L) (WordThen word W) (AfterWord word B)) text at (and_then a K)
+    → L z → SaidWord word text at a → ((rest : List ℕ) → text ≡ word ++ rest → HeaderOutcome F P (Fault L W B) rest (at + length word) (K (at + length word)))
+    → HeaderOutcome (λ h. word ++ F h) P (Fault (WordThen word L) (WordThen word W) (AfterWord word B)) text at (and_then a K)
 outcome-word F P L W B word text z at (Ok end) K l s tail =
-    let Q : ℕ → Type 0 = λ n. Outcome (λ h. word ++ F h) P (Fault (WordThen word L) (WordThen word W) (AfterWord word B)) text at (K n) in
+    let Q : ℕ → Type 0 = λ n. HeaderOutcome (λ h. word ++ F h) P (Fault (WordThen word L) (WordThen word W) (AfterWord word B)) text at (K n) in
     subst Q (sym s.2) (outcome-later F P L W B word text s.0 at (K (at + length word)) s.1 (tail s.0 s.1))
 outcome-word F P L W B word text z at (Err e) K l s tail = (s.0, s.1, inl (stuck-in_word L W word text z s.0 l s.2))
 
@@ -234,7 +234,7 @@ fault-after_number L W B limit most n text rest j first wide fits le e whole (in
 -- where the rest says of the header what its number is
 outcome-counted : (F : Header → List ℕ) (P Q : Header → Type 0) (g : Header → ℕ) (L W : List ℕ → Type 0) (B : List ℕ → ℕ → Type 0) (limit most n : ℕ) (text rest : List ℕ) (at : ℕ) (o : Result Header CnfRefusal)
     → FirstNoDigit W → most < 2 ^ 64 → limit ≤ most → n ≤ limit → text ≡ decimal n ++ rest → (n ≡ 0) ⊎ BeginsNoDigit rest → ((h : Header) → P h → (g h ≡ n) × Q h)
-    → Outcome F P (Fault L W B) rest (at + length (decimal n)) o → Outcome (λ h. decimal (g h) ++ F h) Q (Fault (NumberThen limit L) (NumberThen most W) (InNumber limit B)) text at o
+    → HeaderOutcome F P (Fault L W B) rest (at + length (decimal n)) o → HeaderOutcome (λ h. decimal (g h) ++ F h) Q (Fault (NumberThen limit L) (NumberThen most W) (InNumber limit B)) text at o
 outcome-counted F P Q g L W B limit most n text rest at (Ok h) first wide fits le e whole is s =
     let p = s.2 in
     let i = is h s.3 in
@@ -251,8 +251,8 @@ outcome-counted F P Q g L W B limit most n text rest at (Err r) first wide fits 
 
 pub outcome-number : (F : Header → List ℕ) (P : Number → Header → Type 0) (Q : Header → Type 0) (g : Header → ℕ) (L W : List ℕ → Type 0) (B : List ℕ → ℕ → Type 0) (limit most : ℕ) (text z : List ℕ) (at : ℕ) (a : Result Number CnfRefusal)
     (K : Number → Result Header CnfRefusal) → FirstNoDigit W → most < 2 ^ 64 → limit ≤ most → L z → SaidNumber limit text at a → ((n : Number) (h : Header) → n.value ≤ limit → P n h → (g h ≡ n.value) × Q h)
-    → ((n : Number) (rest : List ℕ) → text ≡ decimal n.value ++ rest → n.end ≡ at + length (decimal n.value) → Outcome F (P n) (Fault L W B) rest (at + length (decimal n.value)) (K n))
-    → Outcome (λ h. decimal (g h) ++ F h) Q (Fault (NumberThen limit L) (NumberThen most W) (InNumber limit B)) text at (and_then a K)
+    → ((n : Number) (rest : List ℕ) → text ≡ decimal n.value ++ rest → n.end ≡ at + length (decimal n.value) → HeaderOutcome F (P n) (Fault L W B) rest (at + length (decimal n.value)) (K n))
+    → HeaderOutcome (λ h. decimal (g h) ++ F h) Q (Fault (NumberThen limit L) (NumberThen most W) (InNumber limit B)) text at (and_then a K)
 outcome-number F P Q g L W B limit most text z at (Ok n) K first wide fits l s is tail =
     outcome-counted F (P n) Q g L W B limit most n.value text s.rest at (K n) first wide fits s.small s.split s.whole (λ h p. is n h s.small p) (tail n s.rest s.split s.place)
 outcome-number F P Q g L W B limit most text z at (Err e) K first wide fits l s is tail =

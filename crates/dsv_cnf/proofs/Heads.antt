@@ -12,7 +12,7 @@ use Rattle.dsv_cnf.specs.declared.reader.CnfRefusal.TheVariants as refusal
 use Rattle.dsv_cnf.specs.declared.reader.Header.{Header}
 use Rattle.dsv_cnf.proofs.Comments.{BeginsOther, comments_cut, after-lines, after-none, in-line}
 use Rattle.dsv_cnf.proofs.HeaderLines.{most, Line, LineFault, a_line, some_line, line_text, line_outcome, line-header, line-taken}
-use Rattle.dsv_cnf.proofs.HeaderOutcomes.{header_within, Refuses, IsStuck, Outcome, Fault}
+use Rattle.dsv_cnf.proofs.HeaderOutcomes.{header_within, Refuses, IsStuck, HeaderOutcome, Fault}
 
 -- comment lines, and then a text of the property
 abbrev pub LinesThen : (List ℕ → Type 0) → List ℕ → Type 0
@@ -85,7 +85,7 @@ fault-after_lines few limit cs text rest j h e o (inl s) = inl (stuck-after_line
 fault-after_lines few limit cs text rest j h e o (inr b) = inr (cs, h, rest, e, j, refl, b)
 
 said-after_lines : (few limit : ℕ) (cs : List (List ℕ)) (text rest : List ℕ) (o : Result Header CnfRefusal) → AreInLines cs → text ≡ flat_map comment_line cs ++ rest → BeginsOther rest
-    → Outcome line_text (λ h. (h.vars ≤ few) × (h.clauses ≤ limit)) (Fault (Line few limit) (Line most most) (LineFault few limit)) rest (length (flat_map comment_line cs)) o → SaidHead few limit text o
+    → HeaderOutcome line_text (λ h. (h.vars ≤ few) × (h.clauses ≤ limit)) (Fault (Line few limit) (Line most most) (LineFault few limit)) rest (length (flat_map comment_line cs)) o → SaidHead few limit text o
 said-after_lines few limit cs text rest (Ok h) l e o s =
     let lines = flat_map comment_line cs in
     let header = header_text h.vars h.clauses in
@@ -114,7 +114,7 @@ head_other few limit bytes cs rest small wide l e o =
     let P : Header → Type 0 = λ h. (h.vars ≤ few) × (h.clauses ≤ limit) in
     let S = Fault (Line few limit) (Line most most) (LineFault few limit) in
     let out = header_within few limit bytes (length lines) in
-    let s : Outcome line_text P S rest (length lines) out = subst (λ t. Outcome line_text P S t (length lines) out) after (line_outcome few limit bytes (length lines) small wide) in
+    let s : HeaderOutcome line_text P S rest (length lines) out = subst (λ t. HeaderOutcome line_text P S t (length lines) out) after (line_outcome few limit bytes (length lines) small wide) in
     subst (λ k. SaidHead few limit bytes (header_within few limit bytes k)) (sym end) (said-after_lines few limit cs bytes rest out l e o s)
 
 drop-all : (xs : List ℕ) → drop (length xs) xs ≡ []

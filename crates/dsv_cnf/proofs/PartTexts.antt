@@ -10,8 +10,8 @@ use Rattle.dsv_text.specs.Bytes.{is_digit}
 use Rattle.dsv_cnf.specs.Literal.{Literal}
 use Rattle.dsv_cnf.specs.Reading.{digits_from, number_of, part_of, part_of_number}
 use Rattle.dsv_cnf.specs.Texts.{literal_piece, end_piece}
-use Rattle.dsv_cnf.specs.declared.reader.Part.{Part}
-use Rattle.dsv_cnf.specs.declared.reader.Part.TheVariants as part
+use Rattle.dsv_cnf.specs.declared.reader.Piece.{Piece}
+use Rattle.dsv_cnf.specs.declared.reader.Piece.TheVariants as part
 use Rattle.dsv_cnf.proofs.Digits.{AreDigits, value_after, Spells, spells-decimal, part-positive, part-negative}
 
 -- ---- digits that are read
@@ -68,7 +68,7 @@ number_read limit n (b ∷ bs) wide e = number_on limit n b bs ((b == 48) && nat
 
 -- ---- the text of each part
 
-abbrev pub SaidPart : ℕ → List ℕ → Part → Type 0
+abbrev pub SaidPart : ℕ → List ℕ → Piece → Type 0
 SaidPart vars text part.Nothing = text ≡ []
 SaidPart vars text part.End = text ≡ end_piece
 SaidPart vars text (part.Is l) = (text ≡ literal_piece l) × (l.var < vars)

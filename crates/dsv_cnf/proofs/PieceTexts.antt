@@ -14,8 +14,8 @@ use Rattle.dsv_cnf.specs.TextFaults.{IsItem, AreItems, IsPiece}
 use Rattle.dsv_cnf.specs.Texts.{literal_piece, end_piece, clause_pieces}
 use Rattle.dsv_cnf.specs.declared.reader.CnfRefusal.{CnfRefusal}
 use Rattle.dsv_cnf.specs.declared.reader.CnfRefusal.TheVariants as refusal
-use Rattle.dsv_cnf.specs.declared.reader.Part.{Part}
-use Rattle.dsv_cnf.specs.declared.reader.Part.TheVariants as part
+use Rattle.dsv_cnf.specs.declared.reader.Piece.{Piece}
+use Rattle.dsv_cnf.specs.declared.reader.Piece.TheVariants as part
 use Rattle.dsv_cnf.proofs.ClauseLemmas.{IsOver-push}
 use Rattle.dsv_cnf.proofs.ListLemmas.{first_same, rest_same}
 use Rattle.dsv_cnf.proofs.PartTexts.{SaidPart, said_part, part-literal, part-end}
@@ -154,7 +154,7 @@ other-wrong : (vars : ℕ) (text : List ℕ) → vars ≤ 2 ^ 31 → part_of var
 other-wrong vars text few e (inl h) = let f : part_of vars text ≡ part.End = ap (part_of vars) h ∙ part-end vars in cc
 other-wrong vars text few e (inr h) = let f : part_of vars text ≡ part.Is h.0 = ap (part_of vars) h.1 ∙ part-literal vars h.0 h.2 few in cc
 
-said_first : (r : ReadingView) (p : Placed) (ps : List Placed) (x : Part) → r.vars ≤ 2 ^ 31 → IsPiece p.text → part_of r.vars p.text ≡ x → SaidPart r.vars p.text x
+said_first : (r : ReadingView) (p : Placed) (ps : List Placed) (x : Piece) → r.vars ≤ 2 ^ 31 → IsPiece p.text → part_of r.vars p.text ≡ x → SaidPart r.vars p.text x
     → ((s : ReadingView) → s.vars ≡ r.vars → SaidPieces s ps (read_pieces ps s)) → SaidPieces r (p ∷ ps) (and_then (after_part r x p.at) (read_pieces ps))
 said_first r p ps part.Nothing few piece e h ih = let some = piece.some in absurd (omega (arith, ap (λ t. length t) h, some))
 said_first r p ps part.End few piece e h ih =
@@ -190,7 +190,7 @@ record Left (more : List (List ℕ)) (r : ReadingView) (o : List Literal) (a : R
   are : texts left ≡ more
   same : a ≡ read_pieces left (with_open r o)
 
-read-item : (r : ReadingView) (p : Placed) (ps : List Placed) (x : Part) → part_of r.vars p.text ≡ x → read_pieces (p ∷ ps) r ≡ and_then (after_part r x p.at) (read_pieces ps)
+read-item : (r : ReadingView) (p : Placed) (ps : List Placed) (x : Piece) → part_of r.vars p.text ≡ x → read_pieces (p ∷ ps) r ≡ and_then (after_part r x p.at) (read_pieces ps)
 read-item r p ps x e = ap (λ y. and_then (after_part r y p.at) (read_pieces ps)) e
 
 read-literals : (c o : List Literal) (more : List (List ℕ)) (ps : List Placed) (r : ReadingView) → IsOver r.vars c → r.vars ≤ 2 ^ 31 → texts ps ≡ map literal_piece c ++ more
@@ -235,7 +235,7 @@ read-clauses vars wanted (c ∷ cs) done ps over few room e =
 
 -- ---- a piece that is no item is refused
 
-break-part : (r : ReadingView) (q : Placed) (more : List Placed) (x : Part) → part_of r.vars q.text ≡ x → SaidPart r.vars q.text x → IsPiece q.text → (IsItem r.vars q.text → ⊥) → read_pieces (q ∷ more) r ≡ Err (refusal.Literal q.at)
+break-part : (r : ReadingView) (q : Placed) (more : List Placed) (x : Piece) → part_of r.vars q.text ≡ x → SaidPart r.vars q.text x → IsPiece q.text → (IsItem r.vars q.text → ⊥) → read_pieces (q ∷ more) r ≡ Err (refusal.Literal q.at)
 break-part r q more part.Nothing e s p other = let some = p.some in absurd (omega (arith, ap (λ t. length t) s, some))
 break-part r q more part.End e s p other = absurd (other (inl s))
 break-part r q more (part.Is l) e s p other = absurd (other (inr (l, s.0, s.1)))

@@ -12,8 +12,8 @@ use Rattle.dsv_cnf.specs.declared.reader.CnfRefusal.{CnfRefusal}
 use Rattle.dsv_cnf.specs.declared.reader.CnfRefusal.TheVariants as refusal
 use Rattle.dsv_cnf.specs.declared.reader.Header.{Header}
 use Rattle.dsv_cnf.specs.declared.reader.Number.{Number}
-use Rattle.dsv_cnf.specs.declared.reader.Part.{Part}
-use Rattle.dsv_cnf.specs.declared.reader.Part.TheVariants as part
+use Rattle.dsv_cnf.specs.declared.reader.Piece.{Piece}
+use Rattle.dsv_cnf.specs.declared.reader.Piece.TheVariants as part
 
 -- a refusal is the text's, or there was no memory
 abbrev pub IsRefusal : {X : Type 0} → Result X CnfRefusal → CnfRefusal → Type 0
@@ -74,7 +74,7 @@ number_of limit [] = None
 number_of limit (b ∷ bs) =
     cond ((b == 48) && nat_lt 1 (length (b ∷ bs))) None (digits_from limit 0 (b ∷ bs))
 
-abbrev pub part_of_number : Bool → Option ℕ → Part
+abbrev pub part_of_number : Bool → Option ℕ → Piece
 part_of_number positive None = part.Wrong
 part_of_number positive (Some n) =
     cond (n == 0) (cond positive part.End part.Wrong)
@@ -82,12 +82,12 @@ part_of_number positive (Some n) =
 
 -- what stands between two blanks: nothing, the 0 of a clause's end, a literal over so many
 -- variables, or anything else
-abbrev pub part_of : ℕ → List ℕ → Part
+abbrev pub part_of : ℕ → List ℕ → Piece
 part_of vars [] = part.Nothing
 part_of vars (b ∷ bs) = cond (b == 45) (part_of_number false (number_of vars bs))
     (part_of_number true (number_of vars (b ∷ bs)))
 
-abbrev pub IsPartOver : ℕ → Part → Type 0
+abbrev pub IsPartOver : ℕ → Piece → Type 0
 IsPartOver vars (part.Is l) = l.var < vars
 IsPartOver vars part.Nothing = Unit {0}
 IsPartOver vars part.End = Unit {0}
@@ -100,7 +100,7 @@ end_clause r =
     (record r { clauses = r.clauses ++ r.open_clause ∷ []; open_clause = [] })
     (record r { over = true; open_clause = [] })
 
-abbrev pub after_part : ReadingView → Part → ℕ → Result ReadingView CnfRefusal
+abbrev pub after_part : ReadingView → Piece → ℕ → Result ReadingView CnfRefusal
 after_part r part.Nothing at = Ok r
 after_part r part.End at = Ok (end_clause r)
 after_part r (part.Is l) at = Ok (record r { open_clause = r.open_clause ++ l ∷ [] })

@@ -158,7 +158,7 @@ fn read_header(bytes: &[u8], at: usize) -> Result<Header, CnfRefusal>
 
 /// What stands between two blanks.
 #[derive(Clone, Copy)]
-enum Part {
+enum Piece {
     Nothing,
     End,
     Is(Lit),
@@ -188,31 +188,31 @@ fn number_of(text: &[u8], limit: u32) -> Option<u32>
     Some(value)
 }
 
-fn part_of_number(number: u32, positive: bool) -> Part
+fn part_of_number(number: u32, positive: bool) -> Piece
     requires { number ≤ 2 ^ 31 }
     ensures { result ≡ part_of_number positive (Some number) }
 {
     if number > 0 {
-        Part::Is(Lit::new(number - 1, positive))
+        Piece::Is(Lit::new(number - 1, positive))
     } else if positive {
-        Part::End
+        Piece::End
     } else {
-        Part::Wrong
+        Piece::Wrong
     }
 }
 
-fn part_of(text: &[u8], vars: u32) -> Part
+fn part_of(text: &[u8], vars: u32) -> Piece
     requires { vars ≤ 2 ^ 31 }
     ensures value { result ≡ part_of vars text.now }
     ensures over { IsPartOver vars result }
 {
     let Some(first) = text.first() else {
-        return Part::Nothing;
+        return Piece::Nothing;
     };
     let positive = *first != b'-';
     let digits = if positive { text } else { &text[1..] };
     match number_of(digits, vars) {
-        None => Part::Wrong,
+        None => Piece::Wrong,
         Some(n) => part_of_number(n, positive),
     }
 }
@@ -258,10 +258,10 @@ impl Reading {
         ensures refused { IfErr result (IsRefusal (take_part self.old text.now at)) }
     {
         match part_of(text, self.formula.vars()) {
-            Part::Nothing => Ok(()),
-            Part::End => Ok(self.end_clause()?),
-            Part::Is(literal) => Ok(self.open.push(literal)?),
-            Part::Wrong => Err(CnfRefusal::Literal { at: at as u64 }),
+            Piece::Nothing => Ok(()),
+            Piece::End => Ok(self.end_clause()?),
+            Piece::Is(literal) => Ok(self.open.push(literal)?),
+            Piece::Wrong => Err(CnfRefusal::Literal { at: at as u64 }),
         }
     }
 

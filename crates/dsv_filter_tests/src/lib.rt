@@ -1,4 +1,4 @@
-//! Tests of controllers in words, of their written equations and of their netlists, by public
+//! Tests of quantised controllers, of their written equations and of their netlists, by public
 //! calls. Expected values are worked out by hand from the definitions, or are those of published
 //! worked examples.
 #![tactic(auto)]

@@ -1,7 +1,7 @@
 // Files made words: the coefficients of both lists, delta's word and the inputs, or the first
-// refusal. A coefficient q has the word q 2^f made whole by the rounding, and the inputs go from
-// the ceiling of min 2^f to the floor of max 2^f, where those are words.
-use crate::steps::words_of;
+// refusal. A coefficient quantised has the word quantised 2^f made whole by the rounding, and the
+// inputs go from the ceiling of min 2^f to the floor of max 2^f, where those are words.
+use crate::steps::quantised_of;
 use dsv_names::{ListName, OverflowMode, Realisation, Rounding};
 use dsv_quantiser::{QuantRefusal, quantise};
 use dsv_reader::read;
@@ -169,14 +169,14 @@ fn are_words(alloc: Global, words: &Words) -> bool {
     ) else {
         return false;
     };
-    let Some(q) = words_of(alloc, words.file, format, words.realisation) else {
+    let Some(quantised) = quantised_of(alloc, words.file, format, words.realisation) else {
         return false;
     };
-    q.b() == words.b
-        && q.a() == words.a
-        && q.delta() == words.delta
-        && q.xlo() == words.least
-        && q.xhi() == words.greatest
+    quantised.b() == words.b
+        && quantised.a() == words.a
+        && quantised.delta() == words.delta
+        && quantised.xlo() == words.least
+        && quantised.xhi() == words.greatest
 }
 
 #[test]

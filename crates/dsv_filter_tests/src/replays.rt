@@ -2,7 +2,7 @@
 #![tactic(auto, using(dsv_algebra::proofs::Casts::casts))]
 
 use crate::runs::are_words;
-use crate::steps::words_of;
+use crate::steps::quantised_of;
 use dsv_meaning::{CycleReplay, OverflowReplay, registers, replay_cycle, replay_overflow};
 use dsv_names::{OverflowMode, Realisation, Rounding};
 use dsv_quantiser::Quantised;
@@ -38,7 +38,7 @@ const DELTA: &str =
     "digital_system d = { .b = {0.0, 1.0}, .b_size = 2, .a = {1.0, -0.5}, .a_size = 2 };
 implementation r = { .int_bits = 3, .frac_bits = 4, .max = 1.0, .min = -1.0, .delta = 0.5 };";
 
-/// A controller in words that wrap.
+/// A quantised controller that wrap.
 struct Controller {
     file: &'static str,
     int_bits: u32,
@@ -444,7 +444,7 @@ const STARTS: [Start; 17] = [
     },
 ];
 
-/// The controller in words.
+/// The quantised controller.
 fn quantised_controller(alloc: Global, controller: &Controller) -> Option<Quantised> {
     let format = Format::new(
         controller.int_bits,
@@ -453,32 +453,38 @@ fn quantised_controller(alloc: Global, controller: &Controller) -> Option<Quanti
         OverflowMode::Wrap,
     )
     .ok()?;
-    words_of(alloc, controller.file, format, controller.realisation)
+    quantised_of(alloc, controller.file, format, controller.realisation)
 }
 
 /// What breaks first in the run, where its inputs are words.
 fn overflow_of(alloc: Global, run: &Run) -> Option<OverflowReplay> {
-    let q = quantised_controller(alloc, &run.controller)?;
-    let format = q.format();
+    let quantised = quantised_controller(alloc, &run.controller)?;
+    let format = quantised.format();
     if run.inputs.len() >= 1000 || !are_words(&format, run.inputs) {
         return None;
     }
     let mut outputs = vec![in alloc; 0i64; run.inputs.len()].ok()?;
-    Some(replay_overflow(&q, run.inputs, outputs.as_mut_slice()))
+    Some(replay_overflow(&quantised, run.inputs, outputs.as_mut_slice()))
 }
 
 /// Whether the start comes back, where its registers are as many as the realisation has and all
 /// are words.
 fn cycle_of(alloc: Global, start: &Start) -> Option<CycleReplay> {
-    let q = quantised_controller(alloc, &start.controller)?;
-    let format = q.format();
-    if start.registers.len() != registers(q.realisation(), q.order() as u32) as usize
+    let quantised = quantised_controller(alloc, &start.controller)?;
+    let format = quantised.format();
+    if start.registers.len()
+        != registers(quantised.realisation(), quantised.order() as u32) as usize
         || !are_words(&format, start.registers)
     {
         return None;
     }
     let mut outputs = vec![in alloc; 0i64; start.limit as usize].ok()?;
-    Some(replay_cycle(&q, start.registers, start.limit, outputs.as_mut_slice()))
+    Some(replay_cycle(
+        &quantised,
+        start.registers,
+        start.limit,
+        outputs.as_mut_slice(),
+    ))
 }
 
 #[test]

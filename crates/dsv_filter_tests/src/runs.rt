@@ -5,7 +5,7 @@ ghost use Rattle.dsv_word.specs.Words.{IsWord};
 ghost use Rattle.std.specs.Prelude.{IsTrue};
 ghost use Rattle.std.specs.List.{All};
 
-use crate::steps::{StepOutcome, step_outcome, words_of};
+use crate::steps::{StepOutcome, quantised_of, step_outcome};
 use dsv_meaning::{registers, simulate};
 use dsv_names::{OverflowMode, Realisation, Rounding};
 use dsv_netlist::Netlist;
@@ -356,21 +356,21 @@ pub(crate) fn are_words(format: &Format, words: &[i64]) -> bool
 /// The controller of a run in words.
 fn words_of_run(alloc: Global, run: &Run) -> Option<Quantised> {
     let format = Format::new(run.int_bits, run.frac_bits, run.rounding, run.overflow).ok()?;
-    words_of(alloc, run.file, format, run.realisation)
+    quantised_of(alloc, run.file, format, run.realisation)
 }
 
 /// The rows of a run by the written equations, where its registers are as many as the realisation
 /// has and all are words.
 fn rows_of(alloc: Global, run: &Run) -> Option<Rows> {
-    let q = words_of_run(alloc, run)?;
-    let format = q.format();
-    if run.start.len() != registers(q.realisation(), q.order() as u32) as usize
+    let quantised = words_of_run(alloc, run)?;
+    let format = quantised.format();
+    if run.start.len() != registers(quantised.realisation(), quantised.order() as u32) as usize
         || !are_words(&format, run.start)
         || !are_words(&format, run.inputs)
     {
         return None;
     }
-    let rows = simulate(alloc, &q, run.start, run.inputs).ok()?;
+    let rows = simulate(alloc, &quantised, run.start, run.inputs).ok()?;
     Some(Rows::from(rows.into_vec()))
 }
 
@@ -399,10 +399,10 @@ fn last_step(net: &Netlist, registers: &mut [i64], inputs: &[i64]) -> Option<Ste
 
 /// Whether the netlist gives the run.
 fn is_stepped(alloc: Global, run: &Run) -> bool {
-    let Some(q) = words_of_run(alloc, run) else {
+    let Some(quantised) = words_of_run(alloc, run) else {
         return false;
     };
-    let Ok(net) = realise(alloc, &q) else {
+    let Ok(net) = realise(alloc, &quantised) else {
         return false;
     };
     let Ok(mut registers) = Vec::from_slice(alloc, run.start) else {

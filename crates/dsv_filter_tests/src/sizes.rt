@@ -1,5 +1,5 @@
 // How many nodes, operations and registers the realisations take.
-use crate::steps::words_of;
+use crate::steps::quantised_of;
 use dsv_meaning::{forward_registers, products, registers, sums};
 use dsv_names::{OverflowMode, Realisation, Rounding};
 use dsv_netlist::OpCounts;
@@ -80,10 +80,10 @@ fn is_size_of_netlist(alloc: Global, size: &Size) -> bool {
     let Ok(format) = Format::new(3, 4, Rounding::Floor, OverflowMode::Wrap) else {
         return false;
     };
-    let Some(q) = words_of(alloc, FILE, format, size.realisation) else {
+    let Some(quantised) = quantised_of(alloc, FILE, format, size.realisation) else {
         return false;
     };
-    let Ok(net) = realise(alloc, &q) else {
+    let Ok(net) = realise(alloc, &quantised) else {
         return false;
     };
     let counts = OpCounts {

@@ -17,7 +17,7 @@ pub(crate) struct StepOutcome {
 }
 
 /// The controller of a file in words of a format, where it is a controller's file and has them.
-pub(crate) fn words_of(
+pub(crate) fn quantised_of(
     alloc: Global,
     file: &str,
     format: Format,

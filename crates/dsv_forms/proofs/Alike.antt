@@ -14,8 +14,8 @@ use Rattle.dsv_algebra.proofs.Sums.{sum_same}
 use Rattle.dsv_forms.specs.declared.offers.Form.{Form}
 use Rattle.dsv_forms.specs.declared.offers.Squares.{Squares}
 use Rattle.dsv_forms.specs.declared.offers.Falls.{Falls}
-use Rattle.dsv_forms.specs.declared.refusal.Part.{Part}
-use Rattle.dsv_forms.specs.declared.refusal.Part.TheVariants as part
+use Rattle.dsv_forms.specs.declared.refusal.OfferPart.{OfferPart}
+use Rattle.dsv_forms.specs.declared.refusal.OfferPart.TheVariants as part
 use Rattle.dsv_forms.specs.declared.refusal.FormRefusal.{FormRefusal}
 use Rattle.dsv_forms.specs.declared.refusal.FormRefusal.TheVariants as refusal
 use Rattle.dsv_forms.specs.OfferLaws.{AreReadInPlaces}
@@ -48,7 +48,7 @@ symmetric_alike d A B a =
 bad_shape_alike : (d : ℕ) (s t : Squares) → AreAlikeSquares d s t → bad_shape d s ≡ bad_shape d t
 bad_shape_alike d s t a = rw (a.factor, a.count, symmetric_alike d (rest_of s) (rest_of t) a.rest) refl
 
-weights_alike : (p : Part) (d : ℕ) (s t : Squares) → AreAlikeSquares d s t → s.count ≡ d → positive_weight_tests p d s ≡ positive_weight_tests p d t
+weights_alike : (p : OfferPart) (d : ℕ) (s t : Squares) → AreAlikeSquares d s t → s.count ≡ d → positive_weight_tests p d s ≡ positive_weight_tests p d t
 weights_alike p d s t a e =
     map_same (λ k. (bad_weight s k, refusal.Weight p k)) (λ k. (bad_weight t k, refusal.Weight p k)) d (λ k q. rw (a.weights e k q) refl)
 
@@ -56,7 +56,7 @@ bad_row_alike : (d : ℕ) (s t : Squares) (k : ℕ) → AreAlikeSquares d s t �
 bad_row_alike d s t k a e h =
     rw (any_same (λ j. not (int_eq (rows_of s k j) (pos 0))) (λ j. not (int_eq (rows_of t k j) (pos 0))) k (λ j q. rw (a.rows e k j h (omega arith)) refl), a.rows e k k h h) refl
 
-triangle_alike : (p : Part) (d : ℕ) (s t : Squares) → AreAlikeSquares d s t → s.count ≡ d → triangle_tests p d s ≡ triangle_tests p d t
+triangle_alike : (p : OfferPart) (d : ℕ) (s t : Squares) → AreAlikeSquares d s t → s.count ≡ d → triangle_tests p d s ≡ triangle_tests p d t
 triangle_alike p d s t a e =
     map_same (λ k. (bad_row s k, refusal.Triangle p k)) (λ k. (bad_row t k, refusal.Triangle p k)) d
     (λ k q. ap (λ b. (b, refusal.Triangle p k)) (bad_row_alike d s t k a e q))
@@ -92,13 +92,13 @@ tests_by : (ks ls ms ns : List ℤ) (a b c d : ℤ) (r q : FormRefusal) → ks �
     → ◌≡◌ {A = List Test} ((any_wide (ks ++ ms), r) ∷ (not (int_eq a c), q) ∷ []) ((any_wide (ls ++ ns), r) ∷ (not (int_eq b d), q) ∷ [])
 tests_by ks ls ms ns a b c d r q e f g h = rw (e, f, g, h) refl
 
-place_alike : (p : Part) (d : ℕ) (s t : Squares) (x y : ℤ) (ns ms : List ℤ) (i j : ℕ) → AreAlikeSquares d s t → s.count ≡ d → x ≡ y → ns ≡ ms → i < d → j < d
+place_alike : (p : OfferPart) (d : ℕ) (s t : Squares) (x y : ℤ) (ns ms : List ℤ) (i j : ℕ) → AreAlikeSquares d s t → s.count ≡ d → x ≡ y → ns ≡ ms → i < d → j < d
     → place_tests p d s x ns i j ≡ place_tests p d t y ms i j
 place_alike p d s t x y ns ms i j a e f g k l =
     tests_by ns ms (side_numbers d s x i j) (side_numbers d t y i j) (s.m *ℤ x) (t.m *ℤ y) (right_side d s i j) (right_side d t i j) (refusal.Wide p i j) (refusal.Identity p i j)
     g (side_numbers_alike d s t x y i j a e f k l) (rw (a.factor, f) refl) (right_alike d s t i j a e k l)
 
-sides_alike : (p : Part) (d : ℕ) (s t : Squares) (T U : Matrix) (N M : ℕ → ℕ → List ℤ) → AreAlikeSquares d s t → s.count ≡ d → AreAlike d d T U
+sides_alike : (p : OfferPart) (d : ℕ) (s t : Squares) (T U : Matrix) (N M : ℕ → ℕ → List ℤ) → AreAlikeSquares d s t → s.count ≡ d → AreAlike d d T U
     → ((i j : ℕ) → i < d → j < d → N i j ≡ M i j) → first_of (side_tests p d d s T N) ≡ first_of (side_tests p d d t U M)
 sides_alike p d s t T U N M a e f g =
     first_same (row_tests p d d s T N) (row_tests p d d t U M) d
@@ -123,7 +123,7 @@ not_dominant_alike d s t i a h =
     (a i i h h)
     (sum_same d (λ j. beside (rest_of s) i j) (λ j. beside (rest_of t) i j) size)
 
-dominance_alike : (p : Part) (d : ℕ) (s t : Squares) → AreAlike d d (rest_of s) (rest_of t) → dominance_tests p d s ≡ dominance_tests p d t
+dominance_alike : (p : OfferPart) (d : ℕ) (s t : Squares) → AreAlike d d (rest_of s) (rest_of t) → dominance_tests p d s ≡ dominance_tests p d t
 dominance_alike p d s t a =
     map_same (λ i. (not_dominant d s i, refusal.Dominance p i)) (λ i. (not_dominant d t i, refusal.Dominance p i)) d
     (λ i h. ap (λ b. (b, refusal.Dominance p i)) (not_dominant_alike d s t i a h))
@@ -132,7 +132,7 @@ dominance_alike p d s t a =
 counted : (d : ℕ) (s : Squares) → bad_shape d s ≡ false → s.count ≡ d
 counted d s h = same_count s.count d (not_false (s.count == d) (neither_test (bad_rest d s) (not (s.count == d)) h).1)
 
-definite_alike : (p : Part) (d : ℕ) (s t : Squares) (T U : Matrix) (N M : ℕ → ℕ → List ℤ) → AreAlikeSquares d s t → AreAlike d d T U
+definite_alike : (p : OfferPart) (d : ℕ) (s t : Squares) (T U : Matrix) (N M : ℕ → ℕ → List ℤ) → AreAlikeSquares d s t → AreAlike d d T U
     → ((i j : ℕ) → i < d → j < d → N i j ≡ M i j) → first_of (definite_tests p d s T N) ≡ first_of (definite_tests p d t U M)
 definite_alike p d s t T U N M a f g =
     definite_parts p d s T N

@@ -11,7 +11,7 @@ use Rattle.dsv_algebra.specs.Companion.{only, total_from, fall_terms, fall_entry
 use Rattle.dsv_algebra.proofs.Normaliser.{ring, env, var, times, minus}
 use Rattle.dsv_forms.specs.declared.offers.Form.{Form}
 use Rattle.dsv_forms.specs.declared.offers.Squares.{Squares}
-use Rattle.dsv_forms.specs.declared.refusal.Part.{Part}
+use Rattle.dsv_forms.specs.declared.refusal.OfferPart.{OfferPart}
 use Rattle.dsv_forms.specs.declared.refusal.FormRefusal.{FormRefusal}
 use Rattle.dsv_forms.specs.declared.refusal.FormRefusal.TheVariants as refusal
 use Rattle.dsv_forms.specs.Refusals.{Test, first_of, places, is_symmetric, any_wide, partial_sums, weights_of, rows_of, square_terms, fall_numbers, right_side, side_numbers, place_tests, row_tests, side_tests}
@@ -147,7 +147,7 @@ first_wide z r others tests e = rw e refl
 wide_first : (w others : Bool) (r : FormRefusal) (tests : List Test) → w ≡ true → first_of ((w || others, r) ∷ tests) ≡ Some r
 wide_first w others r tests e = rw e refl
 
-pub place_same : (w : Bool) (p : Part) (n : ℕ) (s : Squares) (x : ℤ) (numbers : List ℤ) (i j : ℕ) → int_lt s.m (pos 1) ≡ false → any_wide numbers ≡ w
+pub place_same : (w : Bool) (p : OfferPart) (n : ℕ) (s : Squares) (x : ℤ) (numbers : List ℤ) (i j : ℕ) → int_lt s.m (pos 1) ≡ false → any_wide numbers ≡ w
     → first_of (place_tests p n s (or_too_wide (unless w x)) [] i j) ≡ first_of (place_tests p n s x numbers i j)
 place_same true p n s x numbers i j m e =
     let z = s.m *ℤ pos narrow_limit in
@@ -194,7 +194,7 @@ fall_symmetric d c P F w =
     (λ i a. all_true (λ j. int_eq (R i j) (R j i)) d (λ j b. (Decides-int_eq (R i j) (R j i)).1 (turned d c P F w i j a b)))
 
 -- the tests of both sides with the wide entries are those with the fall form
-pub side_same : (p : Part) (d n : ℕ) (s : Squares) (c : Vector) (P F : Form) → IsFallOrWide d c P F → int_lt s.m (pos 1) ≡ false
+pub side_same : (p : OfferPart) (d n : ℕ) (s : Squares) (c : Vector) (P F : Form) → IsFallOrWide d c P F → int_lt s.m (pos 1) ≡ false
     → first_of (side_tests p d n s (matrix_of F.rows) (λ i j. []))
     ≡ first_of (side_tests p d n s (fall_entry d c (matrix_of P.rows)) (fall_numbers d c (matrix_of P.rows)))
 side_same p d n s c P F w m =

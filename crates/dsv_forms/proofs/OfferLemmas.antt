@@ -15,8 +15,8 @@ use Rattle.dsv_forms.specs.declared.offers.Form.{Form}
 use Rattle.dsv_forms.specs.declared.offers.Squares.{Squares}
 use Rattle.dsv_forms.specs.declared.offers.Falls.{Falls}
 use Rattle.dsv_forms.specs.declared.offers.KeptAway.{KeptAway}
-use Rattle.dsv_forms.specs.declared.refusal.Part.{Part}
-use Rattle.dsv_forms.specs.declared.refusal.Part.TheVariants as part
+use Rattle.dsv_forms.specs.declared.refusal.OfferPart.{OfferPart}
+use Rattle.dsv_forms.specs.declared.refusal.OfferPart.TheVariants as part
 use Rattle.dsv_forms.specs.declared.refusal.FormRefusal.{FormRefusal}
 use Rattle.dsv_forms.specs.declared.refusal.FormRefusal.TheVariants as refusal
 use Rattle.dsv_forms.specs.FallForm.{IsFallForm}
@@ -29,12 +29,12 @@ use Rattle.dsv_forms.proofs.FallLemmas.{wide_left, upper, turned, side_same}
 use Rattle.dsv_forms.proofs.Values.{value_negative}
 
 -- ---- what squares show
-pub positive_where : {A : Type 0} (r : Result A FormRefusal) (p : Part) (d : ℕ) (s : Squares) (T : Matrix) → is_symmetric d T ≡ true → refusal_of r ≡ first_of (definite_tests p d s T (λ i j. []))
+pub positive_where : {A : Type 0} (r : Result A FormRefusal) (p : OfferPart) (d : ℕ) (s : Squares) (T : Matrix) → is_symmetric d T ≡ true → refusal_of r ≡ first_of (definite_tests p d s T (λ i j. []))
     → IfOk r (λ x. (v : Vector) → IsNotZero d v → pos 0 <ℤ form_at d T v)
 positive_where (Ok x) p d s T form h = λ v n. shown_positive d T v (shows_positive p d s T form (sym h)) n
 positive_where (Err e) p d s T form h = tt
 
-pub not_negative_where : {A : Type 0} (r : Result A FormRefusal) (p : Part) (d : ℕ) (s : Squares) (T : Matrix) → is_symmetric d T ≡ true → refusal_of r ≡ first_of (semidefinite_tests p d s T (λ i j. []))
+pub not_negative_where : {A : Type 0} (r : Result A FormRefusal) (p : OfferPart) (d : ℕ) (s : Squares) (T : Matrix) → is_symmetric d T ≡ true → refusal_of r ≡ first_of (semidefinite_tests p d s T (λ i j. []))
     → IfOk r (λ x. (v : Vector) → pos 0 ≤ℤ form_at d T v)
 not_negative_where (Ok x) p d s T form h = λ v. shown_not_negative d T v (shows_not_negative p d s T form (sym h))
 not_negative_where (Err e) p d s T form h = tt
@@ -44,7 +44,7 @@ pub by_shape : (b : Bool) (r : FormRefusal) (x y : Option FormRefusal) → (b �
 by_shape true r x y h = refl
 by_shape false r x y h = h refl
 
-pub definite_same : (p : Part) (d : ℕ) (s : Squares) (c : Vector) (P F : Form) → IsFallOrWide d c P F
+pub definite_same : (p : OfferPart) (d : ℕ) (s : Squares) (c : Vector) (P F : Form) → IsFallOrWide d c P F
     → first_of (definite_tests p d s (matrix_of F.rows) (λ i j. [])) ≡ first_of (definite_tests p d s (fall_entry d c (matrix_of P.rows)) (fall_numbers d c (matrix_of P.rows)))
 definite_same p d s c P F w =
     let R = matrix_of F.rows in
@@ -57,7 +57,7 @@ definite_same p d s c P F w =
     (λ e. ap (λ o. or_else (or_else before o) after) (side_same p d d s c P F w (good_rest d s (neither_test (bad_rest d s) _ e).0).multiple))
     ∙ sym (definite_parts p d s T numbers)
 
-pub semidefinite_same : (p : Part) (d : ℕ) (s : Squares) (c : Vector) (P F : Form) → IsFallOrWide d c P F
+pub semidefinite_same : (p : OfferPart) (d : ℕ) (s : Squares) (c : Vector) (P F : Form) → IsFallOrWide d c P F
     → first_of (semidefinite_tests p d s (matrix_of F.rows) (λ i j. [])) ≡ first_of (semidefinite_tests p d s (fall_entry d c (matrix_of P.rows)) (fall_numbers d c (matrix_of P.rows)))
 semidefinite_same p d s c P F w =
     let R = matrix_of F.rows in
@@ -86,7 +86,7 @@ pub companion_at : (d : ℕ) (c : Vector) (P : Matrix) (i j : ℕ) → i < d →
 companion_at zero c P i j h = absurd (omega arith)
 companion_at (suc d) c P i j h = companion_fall_form-is d c P i j
 
-pub fall_form-from : (p : Part) (d n : ℕ) (s : Squares) (c : Vector) (P F : Form) → F.d ≡ d → is_symmetric d (matrix_of P.rows) ≡ true → IsFallOrWide d c P F
+pub fall_form-from : (p : OfferPart) (d n : ℕ) (s : Squares) (c : Vector) (P F : Form) → F.d ≡ d → is_symmetric d (matrix_of P.rows) ≡ true → IsFallOrWide d c P F
     → int_lt s.m (pos 1) ≡ false → first_of (side_tests p d n s (matrix_of F.rows) (λ i j. [])) ≡ None → IsFallForm d c P F
 fall_form-from p d n s c P F places form w m h =
     let R = matrix_of F.rows in
@@ -189,24 +189,24 @@ kept_away_along d c P F s start first fall is h k =
     kept_away d (c 0) (companion c) (matrix_of P.rows) start (positive_apart (c 0) first) (value_negative d (matrix_of P.rows) start k)
     (not_negative_same d (matrix_of F.rows) (companion_fall_form d c (matrix_of P.rows)) is.entries (shows_not_negative part.Fall d s (matrix_of F.rows) fall h))
 
-pub fall_form-definite : (p : Part) (d : ℕ) (s : Squares) (c : Vector) (P F : Form) → F.d ≡ d → is_symmetric d (matrix_of P.rows) ≡ true → IsFallOrWide d c P F
+pub fall_form-definite : (p : OfferPart) (d : ℕ) (s : Squares) (c : Vector) (P F : Form) → F.d ≡ d → is_symmetric d (matrix_of P.rows) ≡ true → IsFallOrWide d c P F
     → first_of (definite_tests p d s (matrix_of F.rows) (λ i j. [])) ≡ None → IsFallForm d c P F
 fall_form-definite p d s c P F places form w h =
     let o = definite_passes p d s (matrix_of F.rows) (λ i j. []) h in
     fall_form-from p d d s c P F places form w o.rest.multiple o.sides
 
-pub fall_form-semidefinite : (p : Part) (d : ℕ) (s : Squares) (c : Vector) (P F : Form) → F.d ≡ d → is_symmetric d (matrix_of P.rows) ≡ true → IsFallOrWide d c P F
+pub fall_form-semidefinite : (p : OfferPart) (d : ℕ) (s : Squares) (c : Vector) (P F : Form) → F.d ≡ d → is_symmetric d (matrix_of P.rows) ≡ true → IsFallOrWide d c P F
     → first_of (semidefinite_tests p d s (matrix_of F.rows) (λ i j. [])) ≡ None → IsFallForm d c P F
 fall_form-semidefinite p d s c P F places form w h =
     let o = semidefinite_passes p d s (matrix_of F.rows) h in
     fall_form-from p d s.count s c P F places form w o.rest.multiple o.sides
 
 -- ---- an answer of the check of squares, at its number of places
-pub definite_at : {A : Type 0} (r : Result A FormRefusal) (o : Option FormRefusal) (p : Part) (e d : ℕ) (s : Squares) (T : Matrix) → e ≡ d
+pub definite_at : {A : Type 0} (r : Result A FormRefusal) (o : Option FormRefusal) (p : OfferPart) (e d : ℕ) (s : Squares) (T : Matrix) → e ≡ d
     → refusal_of r ≡ first_of (definite_tests p e s T (λ i j. [])) → refusal_of r ≡ o → first_of (definite_tests p d s T (λ i j. [])) ≡ o
 definite_at r o p e d s T same h is = ap (λ k. first_of (definite_tests p k s T (λ i j. []))) (sym same) ∙ sym h ∙ is
 
-pub semidefinite_at : {A : Type 0} (r : Result A FormRefusal) (o : Option FormRefusal) (p : Part) (e d : ℕ) (s : Squares) (T : Matrix) → e ≡ d
+pub semidefinite_at : {A : Type 0} (r : Result A FormRefusal) (o : Option FormRefusal) (p : OfferPart) (e d : ℕ) (s : Squares) (T : Matrix) → e ≡ d
     → refusal_of r ≡ first_of (semidefinite_tests p e s T (λ i j. [])) → refusal_of r ≡ o → first_of (semidefinite_tests p d s T (λ i j. [])) ≡ o
 semidefinite_at r o p e d s T same h is = ap (λ k. first_of (semidefinite_tests p k s T (λ i j. []))) (sym same) ∙ sym h ∙ is
 

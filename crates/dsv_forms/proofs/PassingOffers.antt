@@ -14,8 +14,8 @@ use Rattle.dsv_algebra.specs.Companion.{fall_entry}
 use Rattle.dsv_forms.specs.declared.offers.Squares.{Squares}
 use Rattle.dsv_forms.specs.declared.offers.Falls.{Falls}
 use Rattle.dsv_forms.specs.declared.offers.KeptAway.{KeptAway}
-use Rattle.dsv_forms.specs.declared.refusal.Part.{Part}
-use Rattle.dsv_forms.specs.declared.refusal.Part.TheVariants as part
+use Rattle.dsv_forms.specs.declared.refusal.OfferPart.{OfferPart}
+use Rattle.dsv_forms.specs.declared.refusal.OfferPart.TheVariants as part
 use Rattle.dsv_forms.specs.declared.refusal.FormRefusal.TheVariants as refusal
 use Rattle.dsv_forms.specs.Refusals.{places, places_from, rest_of, right_side, side_numbers, side_tests, sizes_beside, not_dominant, dominance_tests, bad_shape, bad_weight, bad_row, too_many_rows, negative_weight, definite_tests, semidefinite_tests, bad_form, fall_numbers, falls_refusal, value_terms, value_numbers, kept_away_refusal, partial_sums, any_wide, start_tests}
 use Rattle.dsv_forms.proofs.Passing.{Passed, none_refuses, passed_both, places_below, places_from_below, passed_map, passed_flat, Within, within_times, Narrow, none_wide, narrow_both, AllWithin, all_narrow, within_map, sums_narrow, places_many, map_many}
@@ -25,7 +25,7 @@ same_test a b e = (Decides-int_eq a b).1 e
 
 -- ---- both sides
 
-pub sides_pass : (p : Part) (d n : ℕ) (s : Squares) (T : Matrix) (numbers : ℕ → ℕ → List ℤ)
+pub sides_pass : (p : OfferPart) (d n : ℕ) (s : Squares) (T : Matrix) (numbers : ℕ → ℕ → List ℤ)
     → ((i j : ℕ) → i < d → j < d → Narrow (numbers i j)) → ((i j : ℕ) → i < d → j < d → Narrow (side_numbers n s (T i j) i j))
     → ((i j : ℕ) → i < d → j < d → s.m *ℤ T i j ≡ right_side n s i j) → Passed (side_tests p d n s T numbers)
 sides_pass p d n s T numbers h k same =
@@ -64,7 +64,7 @@ zeros_within d f (i ∷ is) h = (rw (h i) (omega arith), zeros_within d f is h)
 not_below : (z : ℤ) → pos 0 ≤ℤ z → int_lt z (pos 0) ≡ false
 not_below z h = grind (arith, ints)
 
-pub dominance_passes : (p : Part) (d e : ℕ) (s : Squares) → IsDiagonal d e s → e < 2 ^ 126 → Passed (dominance_tests p d s)
+pub dominance_passes : (p : OfferPart) (d e : ℕ) (s : Squares) → IsDiagonal d e s → e < 2 ^ 126 → Passed (dominance_tests p d s)
 dominance_passes p d e s h small = passed_map d (λ i. (not_dominant d s i, refusal.Dominance p i)) (places d) (places_below d) (λ i a.
     let entries = map (λ j. rest_of s i j) (places d) in
     let own : Narrow entries = all_narrow e entries (within_map d e (λ j. rest_of s i j) (places d) (places_below d) (λ j b. entry_within d e s h i j a (i == j) refl)) small in
@@ -83,7 +83,7 @@ pub record IsDefinitePart (d e : ℕ) (s : Squares) (T : Matrix) (numbers : ℕ 
   pub rest : IsDiagonal d e s
   pub small : e < 2 ^ 126
 
-pub definite_passes : (p : Part) (d e : ℕ) (s : Squares) (T : Matrix) (numbers : ℕ → ℕ → List ℤ) → IsDefinitePart d e s T numbers → Passed (definite_tests p d s T numbers)
+pub definite_passes : (p : OfferPart) (d e : ℕ) (s : Squares) (T : Matrix) (numbers : ℕ → ℕ → List ℤ) → IsDefinitePart d e s T numbers → Passed (definite_tests p d s T numbers)
 definite_passes p d e s T numbers h =
     let weights = map (λ k. (bad_weight s k, refusal.Weight p k)) (places d) in
     let rows = map (λ k. (bad_row s k, refusal.Triangle p k)) (places d) in
@@ -101,7 +101,7 @@ pub record IsBarePart (d e : ℕ) (s : Squares) (T : Matrix) (numbers : ℕ → 
   pub rest : IsDiagonal d e s
   pub small : e < 2 ^ 126
 
-pub bare_passes : (p : Part) (d e : ℕ) (s : Squares) (T : Matrix) (numbers : ℕ → ℕ → List ℤ) → IsBarePart d e s T numbers → Passed (semidefinite_tests p d s T numbers)
+pub bare_passes : (p : OfferPart) (d e : ℕ) (s : Squares) (T : Matrix) (numbers : ℕ → ℕ → List ℤ) → IsBarePart d e s T numbers → Passed (semidefinite_tests p d s T numbers)
 bare_passes p d e s T numbers h =
     let rest : Passed (side_tests p d 0 s T numbers ++ dominance_tests p d s) = passed_both (side_tests p d 0 s T numbers) (dominance_tests p d s) (sides_pass p d 0 s T numbers h.way h.sides h.same) (dominance_passes p d e s h.rest h.small) in
     (h.shape, subst (λ n. Passed (map (λ k. (negative_weight s k, refusal.Weight p k)) (places n) ++ side_tests p d n s T numbers ++ dominance_tests p d s)) (sym h.none) rest)

@@ -15,7 +15,7 @@ use Rattle.dsv_algebra.proofs.Sums.{sum_same}
 use Rattle.dsv_algebra.proofs.Falling.{ShowPositive}
 use Rattle.dsv_algebra.proofs.KeptAway.{ShowNotNegative}
 use Rattle.dsv_forms.specs.declared.offers.Squares.{Squares}
-use Rattle.dsv_forms.specs.declared.refusal.Part.{Part}
+use Rattle.dsv_forms.specs.declared.refusal.OfferPart.{OfferPart}
 use Rattle.dsv_forms.specs.declared.refusal.FormRefusal.{FormRefusal}
 use Rattle.dsv_forms.specs.declared.refusal.FormRefusal.TheVariants as refusal
 use Rattle.dsv_forms.specs.Refusals.{first_of, places, any_wide, partial_sums, is_symmetric, weights_of, rows_of, rest_of, bad_rest, bad_shape, square_terms, right_side, side_numbers, place_tests, row_tests, side_tests, sizes_beside, not_dominant, dominance_tests, bad_weight, bad_row, positive_weight_tests, triangle_tests, definite_tests, too_many_rows, negative_weight, weak_weight_tests, semidefinite_tests}
@@ -23,7 +23,7 @@ use Rattle.dsv_forms.proofs.SumLemmas.{any_wide-append}
 use Rattle.dsv_forms.proofs.Places.{or_else, neither, first_of-append, first_before, passes, neither_test, not_false, none_each, from_each, tests_each, all_each, any_each}
 
 -- ---- the parts of a check
-pub definite_parts : (p : Part) (d : ℕ) (s : Squares) (T : Matrix) (numbers : ℕ → ℕ → List ℤ) → first_of (definite_tests p d s T numbers)
+pub definite_parts : (p : OfferPart) (d : ℕ) (s : Squares) (T : Matrix) (numbers : ℕ → ℕ → List ℤ) → first_of (definite_tests p d s T numbers)
     ≡ or_else (first_of ((bad_shape d s, refusal.Shape p) ∷ []))
     (or_else (or_else (or_else (first_of (positive_weight_tests p d s)) (first_of (triangle_tests p d s))) (first_of (side_tests p d d s T numbers))) (first_of (dominance_tests p d s)))
 definite_parts p d s T numbers =
@@ -36,7 +36,7 @@ definite_parts p d s T numbers =
     (first_of-append (w ++ t ++ i) m
     ∙ ap (λ o. or_else o (first_of m)) (first_of-append (w ++ t) i ∙ ap (λ o. or_else o (first_of i)) (first_of-append w t)))
 
-pub semidefinite_parts : (p : Part) (d : ℕ) (s : Squares) (T : Matrix) (numbers : ℕ → ℕ → List ℤ) → first_of (semidefinite_tests p d s T numbers)
+pub semidefinite_parts : (p : OfferPart) (d : ℕ) (s : Squares) (T : Matrix) (numbers : ℕ → ℕ → List ℤ) → first_of (semidefinite_tests p d s T numbers)
     ≡ or_else (first_of ((too_many_rows d s, refusal.Shape p) ∷ []))
     (or_else (or_else (first_of (weak_weight_tests p s)) (first_of (side_tests p d s.count s T numbers))) (first_of (dominance_tests p d s)))
 semidefinite_parts p d s T numbers =
@@ -57,14 +57,14 @@ shaped : (b : Bool) (r : FormRefusal) (o : Option FormRefusal) → b ≡ false �
 shaped b r o h = rw h refl
 
 -- where the shape is right, and the tests before those of a part pass
-pub definite_after_shape : (p : Part) (d : ℕ) (s : Squares) (T : Matrix) → bad_shape d s ≡ false → first_of (definite_tests p d s T (λ i j. []))
+pub definite_after_shape : (p : OfferPart) (d : ℕ) (s : Squares) (T : Matrix) → bad_shape d s ≡ false → first_of (definite_tests p d s T (λ i j. []))
     ≡ or_else (or_else (or_else (first_of (positive_weight_tests p d s)) (first_of (triangle_tests p d s))) (first_of (side_tests p d d s T (λ i j. [])))) (first_of (dominance_tests p d s))
 definite_after_shape p d s T h =
     definite_parts p d s T (λ i j. [])
     ∙ shaped (bad_shape d s) (refusal.Shape p)
     (or_else (or_else (or_else (first_of (positive_weight_tests p d s)) (first_of (triangle_tests p d s))) (first_of (side_tests p d d s T (λ i j. [])))) (first_of (dominance_tests p d s))) h
 
-pub semidefinite_after_shape : (p : Part) (d : ℕ) (s : Squares) (T : Matrix) → too_many_rows d s ≡ false → first_of (semidefinite_tests p d s T (λ i j. []))
+pub semidefinite_after_shape : (p : OfferPart) (d : ℕ) (s : Squares) (T : Matrix) → too_many_rows d s ≡ false → first_of (semidefinite_tests p d s T (λ i j. []))
     ≡ or_else (or_else (first_of (weak_weight_tests p s)) (first_of (side_tests p d s.count s T (λ i j. [])))) (first_of (dominance_tests p d s))
 semidefinite_after_shape p d s T h =
     semidefinite_parts p d s T (λ i j. [])
@@ -88,7 +88,7 @@ each_narrow f n h k p = not_false (is_narrow (f k)) (any_each (λ k. not (is_nar
 pub neither_wide : (xs ys : List ℤ) → any_wide (xs ++ ys) ≡ false → (any_wide xs ≡ false) × (any_wide ys ≡ false)
 neither_wide xs ys h = neither_test (any_wide xs) (any_wide ys) (sym (any_wide-append xs ys) ∙ h)
 
-pub place_passes : (p : Part) (n : ℕ) (s : Squares) (x : ℤ) (numbers : List ℤ) (i j : ℕ) → first_of (place_tests p n s x numbers i j) ≡ None → Passes n s x i j
+pub place_passes : (p : OfferPart) (n : ℕ) (s : Squares) (x : ℤ) (numbers : List ℤ) (i j : ℕ) → first_of (place_tests p n s x numbers i j) ≡ None → Passes n s x i j
 place_passes p n s x numbers i j h =
     let wide = any_wide (numbers ++ side_numbers n s x i j) in
     let apart = not (int_eq (s.m *ℤ x) (right_side n s i j)) in
@@ -109,7 +109,7 @@ place_passes p n s x numbers i j h =
     }
 
 -- each place from the diagonal on
-pub sides_pass : (p : Part) (d n : ℕ) (s : Squares) (T : Matrix) (numbers : ℕ → ℕ → List ℤ) → first_of (side_tests p d n s T numbers) ≡ None
+pub sides_pass : (p : OfferPart) (d n : ℕ) (s : Squares) (T : Matrix) (numbers : ℕ → ℕ → List ℤ) → first_of (side_tests p d n s T numbers) ≡ None
     → (i j : ℕ) → i ≤ j → j < d → Passes n s (T i j) i j
 sides_pass p d n s T numbers h i j q b =
     place_passes p n s (T i j) (numbers i j) i j
@@ -127,7 +127,7 @@ squares-turned : (n : ℕ) (w : Vector) (rows : ℕ → Vector) (i j : ℕ) → 
 squares-turned n w rows i j = sum_same n (λ k. square (w k) (rows k) i j) (λ k. square (w k) (rows k) j i) (λ k h. square-turned (w k) (rows k) i j)
 
 -- the identity at each place of a symmetric form
-pub identity_at : (p : Part) (d n : ℕ) (s : Squares) (T : Matrix) → is_symmetric d T ≡ true → is_symmetric d (rest_of s) ≡ true
+pub identity_at : (p : OfferPart) (d n : ℕ) (s : Squares) (T : Matrix) → is_symmetric d T ≡ true → is_symmetric d (rest_of s) ≡ true
     → first_of (side_tests p d n s T (λ i j. [])) ≡ None
     → (i j : ℕ) → i < d → j < d → s.m *ℤ T i j ≡ squares n (weights_of s) (rows_of s) i j +ℤ rest_of s i j
 identity_at p d n s T form rest h i j a b = elim (cases_lt j i) [
@@ -147,7 +147,7 @@ less a b h = grind (arith, ints)
 more_than_none : (m : ℤ) → pos 1 ≤ℤ m → pos 0 <ℤ m
 more_than_none m h = omega (arith, ints)
 
-pub dominant : (p : Part) (d : ℕ) (s : Squares) → is_symmetric d (rest_of s) ≡ true → first_of (dominance_tests p d s) ≡ None → IsDominant d (rest_of s)
+pub dominant : (p : OfferPart) (d : ℕ) (s : Squares) → is_symmetric d (rest_of s) ≡ true → first_of (dominance_tests p d s) ≡ None → IsDominant d (rest_of s)
 dominant p d s rest h = record {
   symmetric = symmetric_at d (rest_of s) rest;
   dominant = λ i b. less_not (rest_of s i i) (sum_to d (λ j. beside (rest_of s) i j))
@@ -169,7 +169,7 @@ pub positive_scale : (m : ℤ) → int_lt m (pos 1) ≡ false → pos 0 <ℤ m
 positive_scale m h = more_than_none m (less_not m (pos 1) h)
 
 -- ---- a definite part
-pub record DefinitePasses (p : Part) (d : ℕ) (s : Squares) (T : Matrix) (numbers : ℕ → ℕ → List ℤ) : Type 0 where
+pub record DefinitePasses (p : OfferPart) (d : ℕ) (s : Squares) (T : Matrix) (numbers : ℕ → ℕ → List ℤ) : Type 0 where
   pub rest : IsGoodRest d s
   pub count : s.count ≡ d
   pub weights : first_of (positive_weight_tests p d s) ≡ None
@@ -180,7 +180,7 @@ pub record DefinitePasses (p : Part) (d : ℕ) (s : Squares) (T : Matrix) (numbe
 pub same_count : (n d : ℕ) → (n == d) ≡ true → n ≡ d
 same_count n d h = grind (arith, nat_tests)
 
-pub definite_passes : (p : Part) (d : ℕ) (s : Squares) (T : Matrix) (numbers : ℕ → ℕ → List ℤ) → first_of (definite_tests p d s T numbers) ≡ None → DefinitePasses p d s T numbers
+pub definite_passes : (p : OfferPart) (d : ℕ) (s : Squares) (T : Matrix) (numbers : ℕ → ℕ → List ℤ) → first_of (definite_tests p d s T numbers) ≡ None → DefinitePasses p d s T numbers
 definite_passes p d s T numbers h =
     let w = first_of (positive_weight_tests p d s) in
     let t = first_of (triangle_tests p d s) in
@@ -213,7 +213,7 @@ pub own_apart : (s : Squares) (k : ℕ) → bad_row s k ≡ false → rows_of s 
 own_apart s k h e =
     apart ((neither_test (list_any (λ j. not (int_eq (rows_of s k j) (pos 0))) (places k)) (int_eq (rows_of s k k) (pos 0)) h).1) ((Decides-int_eq (rows_of s k k) (pos 0)).1 e)
 
-pub shows_positive : (p : Part) (d : ℕ) (s : Squares) (T : Matrix) → is_symmetric d T ≡ true → first_of (definite_tests p d s T (λ i j. [])) ≡ None → ShowPositive d T
+pub shows_positive : (p : OfferPart) (d : ℕ) (s : Squares) (T : Matrix) → is_symmetric d T ≡ true → first_of (definite_tests p d s T (λ i j. [])) ≡ None → ShowPositive d T
 shows_positive p d s T form h =
     let o = definite_passes p d s T (λ i j. []) h in
     let row : (k : ℕ) → k < d → bad_row s k ≡ false = tests_each (bad_row s) (refusal.Triangle p) d o.triangle in
@@ -233,13 +233,13 @@ shows_positive p d s T form h =
     }
 
 -- ---- a semidefinite part
-pub record SemidefinitePasses (p : Part) (d : ℕ) (s : Squares) (T : Matrix) : Type 0 where
+pub record SemidefinitePasses (p : OfferPart) (d : ℕ) (s : Squares) (T : Matrix) : Type 0 where
   pub rest : IsGoodRest d s
   pub weights : first_of (weak_weight_tests p s) ≡ None
   pub sides : first_of (side_tests p d s.count s T (λ i j. [])) ≡ None
   pub dominance : first_of (dominance_tests p d s) ≡ None
 
-pub semidefinite_passes : (p : Part) (d : ℕ) (s : Squares) (T : Matrix) → first_of (semidefinite_tests p d s T (λ i j. [])) ≡ None → SemidefinitePasses p d s T
+pub semidefinite_passes : (p : OfferPart) (d : ℕ) (s : Squares) (T : Matrix) → first_of (semidefinite_tests p d s T (λ i j. [])) ≡ None → SemidefinitePasses p d s T
 semidefinite_passes p d s T h =
     let w = first_of (weak_weight_tests p s) in
     let i = first_of (side_tests p d s.count s T (λ i j. [])) in
@@ -255,7 +255,7 @@ semidefinite_passes p d s T h =
       dominance = b.1;
     }
 
-pub shows_not_negative : (p : Part) (d : ℕ) (s : Squares) (T : Matrix) → is_symmetric d T ≡ true → first_of (semidefinite_tests p d s T (λ i j. [])) ≡ None → ShowNotNegative d T
+pub shows_not_negative : (p : OfferPart) (d : ℕ) (s : Squares) (T : Matrix) → is_symmetric d T ≡ true → first_of (semidefinite_tests p d s T (λ i j. [])) ≡ None → ShowNotNegative d T
 shows_not_negative p d s T form h =
     let o = semidefinite_passes p d s T h in
     record {

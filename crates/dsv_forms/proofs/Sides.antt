@@ -6,7 +6,7 @@ use Rattle.std.specs.Ordering.{int_eq}
 use Rattle.dsv_algebra.specs.Narrow.{is_narrow, narrow_of}
 use Rattle.dsv_algebra.specs.Squares.{squares}
 use Rattle.dsv_forms.specs.declared.offers.Squares.{Squares}
-use Rattle.dsv_forms.specs.declared.refusal.Part.{Part}
+use Rattle.dsv_forms.specs.declared.refusal.OfferPart.{OfferPart}
 use Rattle.dsv_forms.specs.declared.refusal.FormRefusal.TheVariants as refusal
 use Rattle.dsv_forms.specs.Refusals.{first_of, places, any_wide, partial_sums, weights_of, rows_of, rest_of, square_terms, right_side, side_numbers, place_tests}
 use Rattle.dsv_forms.specs.Sums.{sum_from, square_summands, sides_of, sides_refusal}
@@ -24,7 +24,7 @@ sum_of_squares-is n s i j =
     sum_from-is (pos 0) ts
     ∙ rw (numbers-terms f x (places n), vs, total-places (pos 0) (λ k. f k *ℤ x k) n, +ℤ_idl (squares n (weights_of s) (rows_of s) i j)) refl
 
-cases : (nm B nr : Bool) (m q r : ℤ) (p : Part) (i j : ℕ)
+cases : (nm B nr : Bool) (m q r : ℤ) (p : OfferPart) (i j : ℕ)
     → first_of (((not nm || B) || (not nr || false), refusal.Wide p i j) ∷ (not (int_eq m r), refusal.Identity p i j) ∷ [])
     ≡ sides_refusal p i j (option_and_then (λ left. option_and_then (λ sum. option_map (λ right. (left, right)) (if nr then Some r else None)) (unless B q)) (if nm then Some m else None))
 cases true true true m q r p i j = refl
@@ -63,7 +63,7 @@ sides_known true B m q k l e = last_same B q (k m) (l m) e
 sides_known false B m q k l e = refl
 
 -- the tests of a place are those of both sides
-pub place_tests-is : (p : Part) (n : ℕ) (s : Squares) (x : ℤ) (i j : ℕ) → first_of (place_tests p n s x [] i j) ≡ sides_refusal p i j (sides_of n s x i j)
+pub place_tests-is : (p : OfferPart) (n : ℕ) (s : Squares) (x : ℤ) (i j : ℕ) → first_of (place_tests p n s x [] i j) ≡ sides_refusal p i j (sides_of n s x i j)
 place_tests-is p n s x i j =
     let B = (any_wide (map (λ k. weights_of s k *ℤ rows_of s k i) (places n)) || any_wide (square_terms n s i j)) || any_wide (partial_sums (pos 0) (square_terms n s i j)) in
     let q = squares n (weights_of s) (rows_of s) i j in

@@ -13,8 +13,8 @@ use Rattle.dsv_forms.specs.OfferLaws.{AreNarrow, IsNarrow, AcceptedAreNarrow}
 use Rattle.dsv_forms.specs.Refusals.{first_of, places, any_wide, partial_sums, is_symmetric, weights_of, rows_of, rest_of, sizes_beside, not_dominant, dominance_tests, bad_weight, bad_row, positive_weight_tests, definite_tests, fall_numbers}
 use Rattle.dsv_forms.specs.declared.offers.Squares.{Squares}
 use Rattle.dsv_forms.specs.declared.offers.Falls.{Falls}
-use Rattle.dsv_forms.specs.declared.refusal.Part.{Part}
-use Rattle.dsv_forms.specs.declared.refusal.Part.TheVariants as part
+use Rattle.dsv_forms.specs.declared.refusal.OfferPart.{OfferPart}
+use Rattle.dsv_forms.specs.declared.refusal.OfferPart.TheVariants as part
 use Rattle.dsv_forms.specs.declared.refusal.FormRefusal.TheVariants as refusal
 use Rattle.dsv_forms.proofs.OfferLemmas.{positive_apart, FallsPass, falls_passes}
 use Rattle.dsv_forms.proofs.Places.{neither_test, not_false, tests_each}
@@ -33,17 +33,17 @@ narrow_factor m x h n =
     grind (arith, nat_tests)
 
 -- ---- squares
-weight_positive : (p : Part) (d : ℕ) (s : Squares) → first_of (positive_weight_tests p d s) ≡ None → (k : ℕ) → k < d → pos 0 <ℤ weights_of s k
+weight_positive : (p : OfferPart) (d : ℕ) (s : Squares) → first_of (positive_weight_tests p d s) ≡ None → (k : ℕ) → k < d → pos 0 <ℤ weights_of s k
 weight_positive p d s h k q = less (pos 0) (weights_of s k) (not_false (int_lt (pos 0) (weights_of s k)) (tests_each (bad_weight s) (refusal.Weight p) d h k q))
 
-rest_narrow : (p : Part) (d : ℕ) (s : Squares) → first_of (dominance_tests p d s) ≡ None → (i j : ℕ) → i < d → j < d → is_narrow (rest_of s i j) ≡ true
+rest_narrow : (p : OfferPart) (d : ℕ) (s : Squares) → first_of (dominance_tests p d s) ≡ None → (i j : ℕ) → i < d → j < d → is_narrow (rest_of s i j) ≡ true
 rest_narrow p d s h i j a b =
     let row = map (λ j. rest_of s i j) (places d) in
     let sums = partial_sums (pos 0) (sizes_beside d s i) in
     let test = tests_each (not_dominant d s) (refusal.Dominance p) d h i a in
     each_narrow (λ j. rest_of s i j) d (neither_wide row sums (neither_test (any_wide (row ++ sums)) _ test).0).0 j b
 
-squares_narrow : (p : Part) (d : ℕ) (s : Squares) (T : Matrix) (numbers : ℕ → ℕ → List ℤ) → first_of (definite_tests p d s T numbers) ≡ None → AreNarrow d s
+squares_narrow : (p : OfferPart) (d : ℕ) (s : Squares) (T : Matrix) (numbers : ℕ → ℕ → List ℤ) → first_of (definite_tests p d s T numbers) ≡ None → AreNarrow d s
 squares_narrow p d s T numbers h =
     let o = definite_passes p d s T numbers h in
     let row : (k j : ℕ) → k < d → j < d → is_narrow (weights_of s k *ℤ rows_of s k j) ≡ true =
@@ -58,12 +58,12 @@ squares_narrow p d s T numbers h =
     }
 
 -- ---- the form
-upper_narrow : (p : Part) (d : ℕ) (s : Squares) (T : Matrix) → first_of (definite_tests p d s T (λ i j. [])) ≡ None → (i j : ℕ) → i ≤ j → j < d → is_narrow (T i j) ≡ true
+upper_narrow : (p : OfferPart) (d : ℕ) (s : Squares) (T : Matrix) → first_of (definite_tests p d s T (λ i j. [])) ≡ None → (i j : ℕ) → i ≤ j → j < d → is_narrow (T i j) ≡ true
 upper_narrow p d s T h i j q b =
     let o = definite_passes p d s T (λ i j. []) h in
     narrow_factor s.m (T i j) (positive_apart s.m (positive_scale s.m o.rest.multiple)) (sides_pass p d d s T (λ i j. []) o.sides i j q b).narrow
 
-form_narrow : (p : Part) (d : ℕ) (s : Squares) (T : Matrix) → is_symmetric d T ≡ true → first_of (definite_tests p d s T (λ i j. [])) ≡ None
+form_narrow : (p : OfferPart) (d : ℕ) (s : Squares) (T : Matrix) → is_symmetric d T ≡ true → first_of (definite_tests p d s T (λ i j. [])) ≡ None
     → (i j : ℕ) → i < d → j < d → is_narrow (T i j) ≡ true
 form_narrow p d s T form h i j a b = elim (cases_lt j i) [
   | inl below ↦ ap is_narrow (symmetric_at d T form i j a b) ∙ upper_narrow p d s T h j i (omega arith) a

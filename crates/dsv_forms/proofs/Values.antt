@@ -4,7 +4,7 @@ use Rattle.std.proofs.Math.IntN.{ℤ, pos, ◌*ℤ◌, +ℤ_idl}
 use lib.Signed.{◌<ℤ◌}
 use Rattle.std.specs.List.{flat_map}
 use Rattle.dsv_algebra.specs.Vectors.{Vector, Matrix, form_at}
-use Rattle.dsv_forms.specs.declared.refusal.Part.TheVariants as part
+use Rattle.dsv_forms.specs.declared.refusal.OfferPart.TheVariants as part
 use Rattle.dsv_forms.specs.declared.refusal.FormRefusal.TheVariants as refusal
 use Rattle.dsv_forms.specs.Refusals.{first_of, places, any_wide, partial_sums, value_terms, value_numbers, start_tests}
 use Rattle.dsv_forms.specs.Sums.{sum_from, row_summands, value_summands, value_refusal}

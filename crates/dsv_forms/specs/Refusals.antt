@@ -12,8 +12,8 @@ use Rattle.dsv_forms.specs.declared.offers.Form.{Form}
 use Rattle.dsv_forms.specs.declared.offers.Squares.{Squares}
 use Rattle.dsv_forms.specs.declared.offers.Falls.{Falls}
 use Rattle.dsv_forms.specs.declared.offers.KeptAway.{KeptAway}
-use Rattle.dsv_forms.specs.declared.refusal.Part.{Part}
-use Rattle.dsv_forms.specs.declared.refusal.Part.TheVariants as part
+use Rattle.dsv_forms.specs.declared.refusal.OfferPart.{OfferPart}
+use Rattle.dsv_forms.specs.declared.refusal.OfferPart.TheVariants as part
 use Rattle.dsv_forms.specs.declared.refusal.FormRefusal.{FormRefusal}
 use Rattle.dsv_forms.specs.declared.refusal.FormRefusal.TheVariants as refusal
 
@@ -84,21 +84,21 @@ side_numbers n s x i j =
 
 -- the tests of both sides at a place where the form has the entry x, with these numbers on its own
 -- way
-abbrev pub place_tests : Part → ℕ → Squares → ℤ → List ℤ → ℕ → ℕ → List Test
+abbrev pub place_tests : OfferPart → ℕ → Squares → ℤ → List ℤ → ℕ → ℕ → List Test
 place_tests p n s x numbers i j =
     (any_wide (numbers ++ side_numbers n s x i j), refusal.Wide p i j)
     ∷ (not (int_eq (s.m *ℤ x) (right_side n s i j)), refusal.Identity p i j)
     ∷ []
 
 -- those of row i, from the diagonal on
-abbrev pub row_tests : Part → ℕ → ℕ → Squares → Matrix → (ℕ → ℕ → List ℤ) → ℕ
+abbrev pub row_tests : OfferPart → ℕ → ℕ → Squares → Matrix → (ℕ → ℕ → List ℤ) → ℕ
     → List Test
 row_tests p d n s T numbers i =
     flat_map (λ j. place_tests p n s (T i j) (numbers i j) i j) (places_from i d)
 
 -- The tests of both sides, place by place, with n squares for the form T of d places, whose entry
 -- at i, j has these numbers on its own way.
-abbrev pub side_tests : Part → ℕ → ℕ → Squares → Matrix → (ℕ → ℕ → List ℤ)
+abbrev pub side_tests : OfferPart → ℕ → ℕ → Squares → Matrix → (ℕ → ℕ → List ℤ)
     → List Test
 side_tests p d n s T numbers = flat_map (row_tests p d n s T numbers) (places d)
 
@@ -112,7 +112,7 @@ not_dominant d s i =
     any_wide (map (λ j. rest_of s i j) (places d) ++ partial_sums (pos 0) (sizes_beside d s i))
     || int_lt (rest_of s i i) (sum_to d (λ j. beside (rest_of s) i j))
 
-abbrev pub dominance_tests : Part → ℕ → Squares → List Test
+abbrev pub dominance_tests : OfferPart → ℕ → Squares → List Test
 dominance_tests p d s = map (λ i. (not_dominant d s i, refusal.Dominance p i)) (places d)
 
 -- ---- a definite part, which has d rows
@@ -126,14 +126,14 @@ abbrev pub bad_row : Squares → ℕ → Bool
 bad_row s k = list_any (λ j. not (int_eq (rows_of s k j) (pos 0))) (places k)
     || int_eq (rows_of s k k) (pos 0)
 
-abbrev pub positive_weight_tests : Part → ℕ → Squares → List Test
+abbrev pub positive_weight_tests : OfferPart → ℕ → Squares → List Test
 positive_weight_tests p d s = map (λ k. (bad_weight s k, refusal.Weight p k)) (places d)
 
-abbrev pub triangle_tests : Part → ℕ → Squares → List Test
+abbrev pub triangle_tests : OfferPart → ℕ → Squares → List Test
 triangle_tests p d s = map (λ k. (bad_row s k, refusal.Triangle p k)) (places d)
 
 -- the tests of squares that show the form T to be positive
-abbrev pub definite_tests : Part → ℕ → Squares → Matrix → (ℕ → ℕ → List ℤ) → List Test
+abbrev pub definite_tests : OfferPart → ℕ → Squares → Matrix → (ℕ → ℕ → List ℤ) → List Test
 definite_tests p d s T numbers =
     (bad_shape d s, refusal.Shape p)
     ∷ positive_weight_tests p d s
@@ -148,11 +148,11 @@ too_many_rows d s = bad_rest d s || nat_lt d s.count
 abbrev pub negative_weight : Squares → ℕ → Bool
 negative_weight s k = int_lt (weights_of s k) (pos 0)
 
-abbrev pub weak_weight_tests : Part → Squares → List Test
+abbrev pub weak_weight_tests : OfferPart → Squares → List Test
 weak_weight_tests p s = map (λ k. (negative_weight s k, refusal.Weight p k)) (places s.count)
 
 -- the tests of squares that show the form T to be nowhere negative
-abbrev pub semidefinite_tests : Part → ℕ → Squares → Matrix → (ℕ → ℕ → List ℤ)
+abbrev pub semidefinite_tests : OfferPart → ℕ → Squares → Matrix → (ℕ → ℕ → List ℤ)
     → List Test
 semidefinite_tests p d s T numbers =
     (too_many_rows d s, refusal.Shape p)

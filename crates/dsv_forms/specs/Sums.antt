@@ -12,8 +12,8 @@ use Rattle.dsv_algebra.specs.Vectors.{Vector, Matrix, matrix_of}
 use Rattle.dsv_algebra.specs.Squares.{beside}
 use Rattle.dsv_forms.specs.declared.offers.Form.{Form}
 use Rattle.dsv_forms.specs.declared.offers.Squares.{Squares}
-use Rattle.dsv_forms.specs.declared.refusal.Part.{Part}
-use Rattle.dsv_forms.specs.declared.refusal.Part.TheVariants as part
+use Rattle.dsv_forms.specs.declared.refusal.OfferPart.{OfferPart}
+use Rattle.dsv_forms.specs.declared.refusal.OfferPart.TheVariants as part
 use Rattle.dsv_forms.specs.declared.refusal.FormRefusal.{FormRefusal}
 use Rattle.dsv_forms.specs.declared.refusal.FormRefusal.TheVariants as refusal
 use Rattle.dsv_forms.specs.Refusals.{first_of, places, any_wide, weights_of, rows_of, rest_of}
@@ -91,7 +91,7 @@ sides_of n s x i j =
     (sum_from (pos 0) (square_summands n s i j))) (narrow_of (s.m *ℤ x))
 
 -- why both sides at a place, where there are some, aren't accepted
-abbrev pub sides_refusal : Part → ℕ → ℕ → Option (ℤ × ℤ) → Option FormRefusal
+abbrev pub sides_refusal : OfferPart → ℕ → ℕ → Option (ℤ × ℤ) → Option FormRefusal
 sides_refusal p i j None = Some (refusal.Wide p i j)
 sides_refusal p i j (Some sides) =
     first_of ((not (int_eq sides.0 sides.1), refusal.Identity p i j) ∷ [])

@@ -10,7 +10,7 @@ ghost use Rattle.dsv_forms.specs.Refusals.{is_symmetric};
 use crate::fall::fall_form;
 use crate::matrix::is_symmetric;
 use crate::squares::check_definite;
-use crate::{Falls, Form, FormRefusal, Part, Poly};
+use crate::{Falls, Form, FormRefusal, OfferPart, Poly};
 
 /// Checks that a form has as many places as the polynomial's order, and is symmetric in them.
 pub(crate) fn check_form(poly: &Poly, form: &Form) -> Result<(), FormRefusal>
@@ -21,7 +21,9 @@ pub(crate) fn check_form(poly: &Poly, form: &Form) -> Result<(), FormRefusal>
 {
     let order = poly.order();
     if form.d as usize != order || !is_symmetric(&form.rows, order) {
-        return Err(FormRefusal::Shape { part: Part::Form });
+        return Err(FormRefusal::Shape {
+            part: OfferPart::Form,
+        });
     }
     Ok(())
 }
@@ -40,8 +42,8 @@ pub fn check_falls(poly: &Poly, offer: &Falls) -> Result<Form, FormRefusal>
     ensures few { OnOk result (offer.now.form.d ≤ greatest_order) }
 {
     check_form(poly, &offer.form)?;
-    check_definite(&offer.form, &offer.positive, Part::Positive)?;
+    check_definite(&offer.form, &offer.positive, OfferPart::Positive)?;
     let fall = fall_form(poly.coefficients(), &offer.form);
-    check_definite(&fall, &offer.fall, Part::Fall)?;
+    check_definite(&fall, &offer.fall, OfferPart::Fall)?;
     Ok(fall)
 }

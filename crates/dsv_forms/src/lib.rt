@@ -18,6 +18,6 @@ pub use fall::{fall_form, negative_image_entry};
 pub use law::offers_are_read_in_their_places;
 pub use offers::{Falls, Form, FormOffer, GREATEST_ORDER, KeptAway, Squares};
 pub use poly::{BadPoly, GREATEST_COEFFICIENT, MOST_COEFFICIENTS, Poly};
-pub use refusal::{FormRefusal, Part};
+pub use refusal::{FormRefusal, OfferPart};
 pub use squares::{check_definite, check_semidefinite, sum_of_squares};
 pub use start_checks::check_kept_away;

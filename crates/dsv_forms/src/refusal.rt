@@ -2,7 +2,7 @@
 
 /// A part of an offer.
 #[derive(Clone, Copy, Debug, PartialEq, Eq)]
-pub enum Part {
+pub enum OfferPart {
     Form,
     Positive,
     Fall,
@@ -13,18 +13,18 @@ pub enum Part {
 #[derive(Clone, Copy, Debug, PartialEq, Eq)]
 pub enum FormRefusal {
     /// The squares and the rest don't add up to m times the form's entry.
-    Identity { part: Part, i: u32, j: u32 },
+    Identity { part: OfferPart, i: u32, j: u32 },
     /// A weight isn't positive.
-    Weight { part: Part, i: u32 },
+    Weight { part: OfferPart, i: u32 },
     /// A row isn't 0 before its own place, or is 0 there.
-    Triangle { part: Part, i: u32 },
+    Triangle { part: OfferPart, i: u32 },
     /// A diagonal entry of the rest is less than the sizes of the others in its row.
-    Dominance { part: Part, i: u32 },
+    Dominance { part: OfferPart, i: u32 },
     /// A number on the way passes 2^126.
-    Wide { part: Part, i: u32, j: u32 },
+    Wide { part: OfferPart, i: u32, j: u32 },
     /// The form isn't negative at the start.
     StartNotNegative { value: i128 },
     /// The number of places or of squares isn't the one that is wanted, or a matrix isn't
     /// symmetric.
-    Shape { part: Part },
+    Shape { part: OfferPart },
 }

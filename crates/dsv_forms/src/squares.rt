@@ -25,7 +25,7 @@ ghost use Rattle.dsv_algebra.specs.Squares.{beside};
 
 use crate::matrix::{Matrix, entry, is_symmetric, is_zero};
 use crate::sums::sum_with_product;
-use crate::{Form, FormRefusal, Part, Squares};
+use crate::{Form, FormRefusal, OfferPart, Squares};
 use dsv_algebra::NarrowInteger;
 
 /// Whether m is less than 1 or the rest isn't symmetric.
@@ -45,7 +45,7 @@ fn is_bad_weight(squares: &Squares, k: usize) -> bool
 }
 
 /// Checks that the first d weights are positive.
-fn check_positive_weights(part: Part, squares: &Squares, d: usize) -> Result<(), FormRefusal>
+fn check_positive_weights(part: OfferPart, squares: &Squares, d: usize) -> Result<(), FormRefusal>
     requires { d ≤ greatest_order }
     ensures { refusal_of result ≡ first_of (positive_weight_tests part d squares.now) }
 {
@@ -66,7 +66,7 @@ fn is_negative_weight(squares: &Squares, k: usize) -> bool
 }
 
 /// Checks that no weight is negative.
-fn check_weak_weights(part: Part, squares: &Squares) -> Result<(), FormRefusal>
+fn check_weak_weights(part: OfferPart, squares: &Squares) -> Result<(), FormRefusal>
     requires { squares.now.count ≤ greatest_order }
     ensures { refusal_of result ≡ first_of (weak_weight_tests part squares.now) }
 {
@@ -92,7 +92,7 @@ fn is_bad_row(squares: &Squares, k: usize) -> bool
 }
 
 /// Checks that the first d rows are triangular.
-fn check_triangle(part: Part, squares: &Squares, d: usize) -> Result<(), FormRefusal>
+fn check_triangle(part: OfferPart, squares: &Squares, d: usize) -> Result<(), FormRefusal>
     requires { d ≤ greatest_order }
     ensures { refusal_of result ≡ first_of (triangle_tests part d squares.now) }
 {
@@ -167,7 +167,7 @@ fn both_sides(
 
 /// Checks that both sides of the identity at a place, where no number on the way to them is too
 /// wide, are the same.
-fn check_place(part: Part, sides: Option<Sides>, i: u32, j: u32) -> Result<(), FormRefusal>
+fn check_place(part: OfferPart, sides: Option<Sides>, i: u32, j: u32) -> Result<(), FormRefusal>
     ensures { refusal_of result
         ≡ sides_refusal part i j (option_map (λ x. (x.left, x.right)) sides) }
 {
@@ -180,7 +180,7 @@ fn check_place(part: Part, sides: Option<Sides>, i: u32, j: u32) -> Result<(), F
 
 /// Checks both sides of the identity in a row, from the diagonal on.
 fn check_row(
-    part: Part,
+    part: OfferPart,
     squares: &Squares,
     n: usize,
     form: &Form,
@@ -201,7 +201,7 @@ fn check_row(
 }
 
 /// Checks both sides of the identity at each place.
-fn check_sides(part: Part, squares: &Squares, n: usize, form: &Form) -> Result<(), FormRefusal>
+fn check_sides(part: OfferPart, squares: &Squares, n: usize, form: &Form) -> Result<(), FormRefusal>
     requires few { n ≤ greatest_order }
     requires places { form.now.d ≤ greatest_order }
     ensures { refusal_of result
@@ -263,7 +263,7 @@ fn is_dominant_row(squares: &Squares, d: usize, i: usize) -> bool
 }
 
 /// Checks that the rest is dominant.
-fn check_dominance(part: Part, squares: &Squares, d: usize) -> Result<(), FormRefusal>
+fn check_dominance(part: OfferPart, squares: &Squares, d: usize) -> Result<(), FormRefusal>
     requires { d ≤ greatest_order }
     ensures { refusal_of result ≡ first_of (dominance_tests part d squares.now) }
 {
@@ -279,7 +279,7 @@ fn check_dominance(part: Part, squares: &Squares, d: usize) -> Result<(), FormRe
 /// 1 times the form is `form.d` squares of triangular rows with positive weights, and a symmetric
 /// dominant rest. The form is symmetric in its first `form.d` places, of which there are at most
 /// eight. `part` is named in a refusal. It takes no memory.
-pub fn check_definite(form: &Form, squares: &Squares, part: Part) -> Result<(), FormRefusal>
+pub fn check_definite(form: &Form, squares: &Squares, part: OfferPart) -> Result<(), FormRefusal>
     requires few { form.now.d ≤ greatest_order }
     // As `Form::is_symmetric` tests.
     requires symmetric { is_symmetric form.now.d (matrix_of form.now.rows) ≡ true }
@@ -304,7 +304,11 @@ pub fn check_definite(form: &Form, squares: &Squares, part: Part) -> Result<(), 
 /// `form.d` squares of any rows with weights of 0 or more, and a symmetric dominant rest. The form
 /// is symmetric in its first `form.d` places, of which there are at most eight. `part` is named in
 /// a refusal. It takes no memory.
-pub fn check_semidefinite(form: &Form, squares: &Squares, part: Part) -> Result<(), FormRefusal>
+pub fn check_semidefinite(
+    form: &Form,
+    squares: &Squares,
+    part: OfferPart,
+) -> Result<(), FormRefusal>
     requires few { form.now.d ≤ greatest_order }
     // As `Form::is_symmetric` tests.
     requires symmetric { is_symmetric form.now.d (matrix_of form.now.rows) ≡ true }

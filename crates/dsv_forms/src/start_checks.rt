@@ -20,7 +20,7 @@ use crate::fall::fall_form;
 use crate::matrix::entry;
 use crate::squares::check_semidefinite;
 use crate::sums::sum_with_product;
-use crate::{Form, FormRefusal, GREATEST_ORDER, KeptAway, Part, Poly};
+use crate::{Form, FormRefusal, GREATEST_ORDER, KeptAway, OfferPart, Poly};
 use dsv_algebra::NarrowInteger;
 
 /// A vector of up to eight places.
@@ -89,7 +89,7 @@ fn check_value(value: Option<NarrowInteger>) -> Result<NarrowInteger, FormRefusa
     ensures value { IfOk result (λ x. value ≡ Some x) }
 {
     let wide = FormRefusal::Wide {
-        part: Part::Start,
+        part: OfferPart::Start,
         i: 0,
         j: 0,
     };
@@ -119,7 +119,7 @@ pub fn check_kept_away(poly: &Poly, offer: &KeptAway) -> Result<(Form, i128), Fo
 {
     check_form(poly, &offer.form)?;
     let fall = fall_form(poly.coefficients(), &offer.form);
-    check_semidefinite(&fall, &offer.fall, Part::Fall)?;
+    check_semidefinite(&fall, &offer.fall, OfferPart::Fall)?;
     let value = check_value(value_at(&offer.form, &offer.start))?;
     Ok((fall, value.get()))
 }

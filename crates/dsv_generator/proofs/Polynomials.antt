@@ -12,7 +12,7 @@ use Rattle.dsv_forms.specs.declared.offers.FormOffer.{FormOffer}
 use Rattle.dsv_closed_forms.specs.ClosedForm.{are_within, second_limit, first_order, second_order, closed_form_of}
 use Rattle.dsv_closed_forms.specs.ClosedForm.{without_place}
 use Rattle.dsv_forms.specs.declared.offers.FormOffer.TheVariants as offered
-use Rattle.dsv_quantiser.specs.FixedPoint.{FixedPoint}
+use Rattle.dsv_quantiser.specs.QuantisedView.{QuantisedView}
 use Rattle.dsv_text.specs.Stages.{and_then}
 use Rattle.dsv_delta.specs.declared.refusal.PolyWide.{PolyWide}
 use Rattle.dsv_tested.specs.Tested.{z_list, tested_of, tested_list, polynomial_of, without_leading_zeros, with_positive_lead, without_common_twos, halved_within, are_even, first_over}
@@ -139,14 +139,14 @@ of_list (c ∷ cs) few =
     let some = twos_length (with_positive_lead (c ∷ cs)) ∙ signed_length c cs in
     (tested.Poly made, polynomial made small, closed made small (omega (arith, some)))
 
-of_words : (q : FixedPoint) (words : List ℤ) → is_delta q.realisation ≡ false → AreSmall words
+of_words : (q : QuantisedView) (words : List ℤ) → is_delta q.realisation ≡ false → AreSmall words
     → Decided (and_then (z_list q words) (λ cs. tested_list (without_leading_zeros cs)))
 of_words q words direct is =
     let plain : z_list q words ≡ Ok words = rw direct refl in
     subst (λ z. Decided (and_then z (λ cs. tested_list (without_leading_zeros cs)))) (sym plain)
     (of_list (without_leading_zeros words) (stripped words (omega (arith, is.places), is.within)))
 
-has_closed_form : (q : FixedPoint) (s : Side) → IsSmall q → HasClosedForm q s
+has_closed_form : (q : QuantisedView) (s : Side) → IsSmall q → HasClosedForm q s
 has_closed_form q side.Denominator is = of_words q q.a (ap is_delta is.realisation) is.denominator
 has_closed_form q side.Numerator is = of_words q q.b (ap is_delta is.realisation) is.numerator
 
@@ -154,7 +154,7 @@ has_closed_form q side.Numerator is = of_words q q.b (ap is_delta is.realisation
 one_tested : (a b : Tested) → in_ok a ≡ in_ok b → a ≡ b
 one_tested a b e = cc
 
-pub closed_of : (q : FixedPoint) (s : Side) (poly : List ℤ) → IsSmall q → tested_of q s ≡ Ok (tested.Poly poly) → IsClosed (tested.Poly poly)
+pub closed_of : (q : QuantisedView) (s : Side) (poly : List ℤ) → IsSmall q → tested_of q s ≡ Ok (tested.Poly poly) → IsClosed (tested.Poly poly)
 closed_of q s poly is e =
     let d = has_closed_form q s is in
     subst IsClosed (one_tested d.0 (tested.Poly poly) (sym d.1 ∙ e)) d.2
@@ -162,5 +162,5 @@ closed_of q s poly is e =
 apart : (a : Tested) (wide : PolyWide) → in_ok a ≡ Err wide → ⊥
 apart a wide e = absurd cc
 
-pub never_wide : (q : FixedPoint) (s : Side) (wide : PolyWide) → IsSmall q → tested_of q s ≡ Err wide → ⊥
+pub never_wide : (q : QuantisedView) (s : Side) (wide : PolyWide) → IsSmall q → tested_of q s ≡ Err wide → ⊥
 never_wide q s wide is e = let d = has_closed_form q s is in apart d.0 wide (sym d.1 ∙ e)

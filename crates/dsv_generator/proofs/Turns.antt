@@ -1,6 +1,6 @@
 -- One controller more is counted.
 use Rattle.std.proofs.Common.{◌≡◌, ◌∙◌, ap, sym, subst, ℕ, suc, ◌+◌, List, add-one}
-use Rattle.dsv_quantiser.specs.FixedPoint.{FixedPoint}
+use Rattle.dsv_quantiser.specs.QuantisedView.{QuantisedView}
 use Rattle.dsv_generator.specs.Controllers.{controller_with, state_before, Becomes}
 use Rattle.dsv_generator.specs.Draws.{next_state, word_of}
 use Rattle.dsv_generator.specs.Findings.{IsFinding}
@@ -26,9 +26,9 @@ module _ (seed n state first second third fourth : ℕ) (before : state ≡ stat
   pub next_before : fourth ≡ state_before seed (n + 1)
   next_before = fourth_is ∙ ap (state_before seed) (sym (add-one n))
 
-  pub one_more : (t : Tally) (logs : List SpentLog) (words : FixedPoint) (f : Finding) → IsTally seed n t logs
-      → Becomes (controller_with (word_of first) (word_of second) (word_of third) (word_of fourth)) words → IsFinding words f
+  pub one_more : (t : Tally) (logs : List SpentLog) (quantised : QuantisedView) (f : Finding) → IsTally seed n t logs
+      → Becomes (controller_with (word_of first) (word_of second) (word_of third) (word_of fourth)) quantised → IsFinding quantised f
       → IsTally seed (n + 1) (with_finding f t) (with_log n f.overflow logs)
-  one_more t logs words f is becomes found =
+  one_more t logs quantised f is becomes found =
       subst (λ m. IsTally seed m (with_finding f t) (with_log n f.overflow logs)) (sym (add-one n))
-      (more n t logs words f is (rw (first_is, second_is, third_is, fourth_is) at becomes) found)
+      (more n t logs quantised f is (rw (first_is, second_is, third_is, fourth_is) at becomes) found)

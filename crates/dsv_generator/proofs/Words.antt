@@ -19,8 +19,8 @@ use Rattle.dsv_names.specs.declared.rounding.Rounding.TheVariants.{Floor}
 use Rattle.dsv_text.specs.Stages.{◌>>=◌}
 use Rattle.dsv_word.specs.Quotients.{word_of as quotient_of}
 use Rattle.dsv_word.specs.declared.format.Format.{Format}
-use Rattle.dsv_quantiser.specs.FixedPoint.{FixedPoint}
-use Rattle.dsv_quantiser.specs.Quantising.{or_wide, is_word, fitting_word, word_at, words_from, a_words, b_words, range_of, fixed_point_of}
+use Rattle.dsv_quantiser.specs.QuantisedView.{QuantisedView}
+use Rattle.dsv_quantiser.specs.Quantising.{or_wide, is_word, fitting_word, word_at, words_from, a_words, b_words, range_of, quantised_of}
 use Rattle.dsv_quantiser.specs.declared.refusal.QuantRefusal.{QuantRefusal}
 use Rattle.dsv_quantiser.specs.declared.refusal.QuantRefusal.TheVariants as refusal
 use Rattle.dsv_generator.specs.Controllers.{IsGeneratedFormat, number_with, controller_with}
@@ -123,7 +123,7 @@ denominator_words a1 a2 g h =
 abbrev minus_one : Ratio
 minus_one = record { num = negsuc 0; den = 1 }
 
-abbrev words_with : ℤ → ℤ → ℤ → ℤ → FixedPoint
+abbrev words_with : ℤ → ℤ → ℤ → ℤ → QuantisedView
 words_with a1 a2 b0 b1 = record {
   b = b0 ∷ b1 ∷ pos 0 ∷ [];
   a = pos 16 ∷ a1 ∷ a2 ∷ [];
@@ -134,7 +134,7 @@ words_with a1 a2 b0 b1 = record {
   realisation = Dfi;
 }
 
-abbrev put_together : List ℤ → List ℤ → ℤ → ℤ → FixedPoint
+abbrev put_together : List ℤ → List ℤ → ℤ → ℤ → QuantisedView
 put_together num den low high = record { b = num; a = den; delta = pos 0; xlo = low; xhi = high; format = format_3_4; realisation = Dfi }
 
 -- the inputs are from -16 to 16
@@ -143,7 +143,7 @@ unfolding gcd
 whole_range num den = refl
 
 become : (a1 a2 b0 b1 : ℤ) → IsGood a1 → IsGood a2 → IsGood b0 → IsGood b1
-    → fixed_point_of (controller_with a1 a2 b0 b1 format_3_4) format_3_4 Dfi ≡ Ok (words_with a1 a2 b0 b1)
+    → quantised_of (controller_with a1 a2 b0 b1 format_3_4) format_3_4 Dfi ≡ Ok (words_with a1 a2 b0 b1)
 become a1 a2 b0 b1 ga1 ga2 gb0 gb1 =
     ap (λ (o : Result (List ℤ) QuantRefusal). o >>= λ num. a_words format_3_4 (one ∷ number_with a1 ∷ number_with a2 ∷ []) >>= λ den.
     range_of format_3_4 minus_one one >>= λ r. Ok (put_together num den r.lo r.hi)) (numerator_words b0 b1 gb0 gb1)
@@ -160,29 +160,29 @@ generated_small a1 a2 b0 b1 ga1 ga2 gb0 gb1 = record {
 
 -- for any format with its widths and modes
 becomes_in : (format : Format) → IsGeneratedFormat format → (s1 s2 s3 s4 : ℕ)
-    → fixed_point_of (controller_with (word_of s1) (word_of s2) (word_of s3) (word_of s4) format) format Dfi
+    → quantised_of (controller_with (word_of s1) (word_of s2) (word_of s3) (word_of s4) format) format Dfi
     ≡ Ok (words_with (word_of s1) (word_of s2) (word_of s3) (word_of s4))
 becomes_in format is s1 s2 s3 s4 =
     let same = one_format format format_3_4 is.int_bits is.frac_bits is.rounding is.overflow in
-    ap (λ (f : Format). fixed_point_of (controller_with (word_of s1) (word_of s2) (word_of s3) (word_of s4) f) f Dfi) same
+    ap (λ (f : Format). quantised_of (controller_with (word_of s1) (word_of s2) (word_of s3) (word_of s4) f) f Dfi) same
     ∙ become (word_of s1) (word_of s2) (word_of s3) (word_of s4) (good s1) (good s2) (good s3) (good s4)
 
-apart : (q : FixedPoint) (r : QuantRefusal) → Ok q ≡ Err r → ⊥
+apart : (q : QuantisedView) (r : QuantRefusal) → Ok q ≡ Err r → ⊥
 apart q r e = absurd cc
 
-abbrev in_ok : FixedPoint → Result FixedPoint QuantRefusal
+abbrev in_ok : QuantisedView → Result QuantisedView QuantRefusal
 in_ok q = Ok q
 
-one_value : (p q : FixedPoint) → in_ok p ≡ in_ok q → p ≡ q
+one_value : (p q : QuantisedView) → in_ok p ≡ in_ok q → p ≡ q
 one_value p q e = cc
 
 pub never_refused : (format : Format) (s1 s2 s3 s4 : ℕ) (r : QuantRefusal) → IsGeneratedFormat format
-    → fixed_point_of (controller_with (word_of s1) (word_of s2) (word_of s3) (word_of s4) format) format Dfi ≡ Err r → ⊥
+    → quantised_of (controller_with (word_of s1) (word_of s2) (word_of s3) (word_of s4) format) format Dfi ≡ Err r → ⊥
 never_refused format s1 s2 s3 s4 r is e =
     apart (words_with (word_of s1) (word_of s2) (word_of s3) (word_of s4)) r (sym (becomes_in format is s1 s2 s3 s4) ∙ e)
 
-pub small_words : (format : Format) (s1 s2 s3 s4 : ℕ) (q : FixedPoint) → IsGeneratedFormat format
-    → fixed_point_of (controller_with (word_of s1) (word_of s2) (word_of s3) (word_of s4) format) format Dfi ≡ Ok q → IsSmall q
+pub small_words : (format : Format) (s1 s2 s3 s4 : ℕ) (q : QuantisedView) → IsGeneratedFormat format
+    → quantised_of (controller_with (word_of s1) (word_of s2) (word_of s3) (word_of s4) format) format Dfi ≡ Ok q → IsSmall q
 small_words format s1 s2 s3 s4 q is e =
     let made = words_with (word_of s1) (word_of s2) (word_of s3) (word_of s4) in
     subst (λ p. IsSmall p) (one_value made q (sym (becomes_in format is s1 s2 s3 s4) ∙ e))

@@ -10,8 +10,8 @@ use Rattle.dsv_names.specs.declared.overflow_mode.OverflowMode.TheVariants.{Wrap
 use Rattle.dsv_word.specs.declared.format.Format.{Format}
 use Rattle.dsv_reader.specs.Controllers.{ControllerView}
 use Rattle.dsv_reader.specs.Defaults.{default_controller}
-use Rattle.dsv_quantiser.specs.FixedPoint.{FixedPoint}
-use Rattle.dsv_quantiser.specs.Quantising.{fixed_point_of}
+use Rattle.dsv_quantiser.specs.QuantisedView.{QuantisedView}
+use Rattle.dsv_quantiser.specs.Quantising.{quantised_of}
 use Rattle.dsv_generator.specs.Draws.{next_state, word_of}
 
 -- Words of three bits before the point and four after it, rounded down and wrapped around.
@@ -50,11 +50,11 @@ state_before seed zero = seed
 state_before seed (suc n) = fourth_state (state_before seed n)
 
 -- In that format and direct form I the controller becomes these words.
-pub record Becomes (controller : Format → ControllerView) (words : FixedPoint) : Type 0 where
+pub record Becomes (controller : Format → ControllerView) (q : QuantisedView) : Type 0 where
   pub format : Format
   pub modes : IsGeneratedFormat format
-  pub becomes : fixed_point_of (controller format) format Dfi ≡ Ok words
+  pub becomes : quantised_of (controller format) format Dfi ≡ Ok q
 
 -- the controller of this number becomes these words
-abbrev pub IsGenerated : ℕ → ℕ → FixedPoint → Type 0
-IsGenerated seed n words = Becomes (controller_after (state_before seed n)) words
+abbrev pub IsGenerated : ℕ → ℕ → QuantisedView → Type 0
+IsGenerated seed n q = Becomes (controller_after (state_before seed n)) q

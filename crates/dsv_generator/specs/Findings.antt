@@ -1,9 +1,9 @@
--- What is found of a generated controller in words.
+-- What is found of a generated quantised controller.
 use Rattle.std.specs.Prelude.{◌≡◌, ℕ, ◌-◌, List, length, Some, Ok, ℤ}
 use Rattle.dsv_algebra.specs.Vectors.{vector_of, matrix_of}
 use Rattle.dsv_algebra.specs.Companion.{StrictlyFallsAlong, IsKeptAwayAlong}
 use Rattle.dsv_names.specs.declared.property.RunProperty.TheVariants as run
-use Rattle.dsv_quantiser.specs.FixedPoint.{FixedPoint}
+use Rattle.dsv_quantiser.specs.QuantisedView.{QuantisedView}
 use Rattle.dsv_forms.specs.declared.offers.Falls.{Falls}
 use Rattle.dsv_forms.specs.declared.offers.KeptAway.{KeptAway}
 use Rattle.dsv_forms.specs.declared.offers.FormOffer.TheVariants as offered
@@ -14,7 +14,7 @@ use Rattle.dsv_tested.specs.declared.side.Side.TheVariants as side
 use Rattle.dsv_tested.specs.declared.side.Tested.{Tested}
 use Rattle.dsv_tested.specs.declared.side.Tested.TheVariants as tested
 use Rattle.dsv_bounded.specs.RunAnswers.{NeverHappens, GaveUp}
-use Rattle.dsv_bounded.specs.Verdicts.{IsTrace}
+use Rattle.dsv_meaning.specs.Traces.{IsTrace}
 use Rattle.dsv_generator.specs.declared.finding.Finding.{Finding}
 use Rattle.dsv_generator.specs.declared.finding.RootFinding.{RootFinding}
 use Rattle.dsv_generator.specs.declared.finding.RootFinding.TheVariants as root
@@ -52,20 +52,20 @@ IsOfTested (tested.Poly poly) f = ShowsRoots poly f
 IsOfTested tested.NoZeros f = f ≡ root.NoZeros
 
 -- what is found of a side
-abbrev pub IsOfRoots : FixedPoint → Side → RootFinding → Type 0
-IsOfRoots words of_side f =
-    (what : Tested) × (tested_of words of_side ≡ Ok what) × IsOfTested what f
+abbrev pub IsOfRoots : QuantisedView → Side → RootFinding → Type 0
+IsOfRoots q of_side f =
+    (what : Tested) × (tested_of q of_side ≡ Ok what) × IsOfTested what f
 
 -- what is found of the overflow of runs
-abbrev pub IsOfRuns : FixedPoint → RunFinding → Type 0
-IsOfRuns words (found.Never log) =
-    NeverHappens run.Overflow generated_samples generated_conflicts words log
-IsOfRuns words (found.Overflow trace) = IsTrace words generated_samples trace
-IsOfRuns words (found.Spent log) =
-    GaveUp run.Overflow generated_samples generated_conflicts words log
+abbrev pub IsOfRuns : QuantisedView → RunFinding → Type 0
+IsOfRuns q (found.Never log) =
+    NeverHappens run.Overflow generated_samples generated_conflicts q log
+IsOfRuns q (found.Overflow trace) = IsTrace q generated_samples trace
+IsOfRuns q (found.Spent log) =
+    GaveUp run.Overflow generated_samples generated_conflicts q log
 
--- All that is found is so of the controller in words.
-pub record IsFinding (words : FixedPoint) (finding : Finding) : Type 0 where
-  pub stability : IsOfRoots words side.Denominator finding.stability
-  pub minimum_phase : IsOfRoots words side.Numerator finding.minimum_phase
-  pub overflow : IsOfRuns words finding.overflow
+-- All that is found is so of the quantised controller.
+pub record IsFinding (q : QuantisedView) (finding : Finding) : Type 0 where
+  pub stability : IsOfRoots q side.Denominator finding.stability
+  pub minimum_phase : IsOfRoots q side.Numerator finding.minimum_phase
+  pub overflow : IsOfRuns q finding.overflow

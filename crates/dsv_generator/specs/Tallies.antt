@@ -1,7 +1,7 @@
 -- How findings of generated controllers are counted.
 use Rattle.std.specs.Prelude.{◌≡◌, ℕ, suc, ◌+◌, ◌<◌, ◌≤◌, Bool, true, false, not, List, [], ◌∷◌}
 use Rattle.std.specs.Prelude.{◌++◌, length}
-use Rattle.dsv_quantiser.specs.FixedPoint.{FixedPoint}
+use Rattle.dsv_quantiser.specs.QuantisedView.{QuantisedView}
 use Rattle.dsv_generator.specs.Controllers.{IsGenerated}
 use Rattle.dsv_generator.specs.Findings.{IsFinding}
 use Rattle.dsv_generator.specs.declared.finding.Finding.{Finding}
@@ -74,8 +74,8 @@ with_log n (found.Spent log) logs = logs ++ record { index = n; log = log } ∷ 
 -- What is counted and kept after the first controllers, so many, of a seed.
 pub data IsTally (seed : ℕ) : ℕ → Tally → List SpentLog → Type 0 where
   none : IsTally seed 0 empty_tally []
-  more : (n : ℕ) (t : Tally) (logs : List SpentLog) (words : FixedPoint) (f : Finding)
-      → IsTally seed n t logs → IsGenerated seed n words → IsFinding words f
+  more : (n : ℕ) (t : Tally) (logs : List SpentLog) (q : QuantisedView) (f : Finding)
+      → IsTally seed n t logs → IsGenerated seed n q → IsFinding q f
       → IsTally seed (suc n) (with_finding f t) (with_log n f.overflow logs)
 
 -- for private contracts: all numbers are below a limit

@@ -108,8 +108,8 @@ fn controller_of(states: States, format: Format) -> Controller
     )
 }
 
-/// The controller of the words of four states in words, by direct form I.
-pub(crate) fn words_of(states: States) -> Quantised
+/// The quantised controller of the words of four states, in direct form I.
+pub(crate) fn quantised_from(states: States) -> Quantised
     ensures becomes { Becomes (controller_with (word_of states.first) (word_of states.second)
         (word_of states.third) (word_of states.fourth)) result }
     ensures small { IsSmall result }
@@ -117,7 +117,7 @@ pub(crate) fn words_of(states: States) -> Quantised
     let format = generated_format();
     let controller = controller_of(states, format);
     match quantise(&controller, format, Realisation::Dfi) {
-        Ok(words) => words,
+        Ok(quantised) => quantised,
         Err(_) => unreachable!(),
     }
 }

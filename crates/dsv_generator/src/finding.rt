@@ -98,11 +98,11 @@ fn form_finding(poly: &Poly) -> RootFinding
 }
 
 /// What is found of the roots of a side.
-fn root_finding(words: &Quantised, side: Side) -> RootFinding
-    requires { IsSmall words.now }
-    ensures { IsOfRoots words.now side result }
+fn root_finding(quantised: &Quantised, side: Side) -> RootFinding
+    requires { IsSmall quantised.now }
+    ensures { IsOfRoots quantised.now side result }
 {
-    match polynomial_of(words, side) {
+    match polynomial_of(quantised, side) {
         Ok(Tested::Poly(poly)) => form_finding(&poly),
         Ok(Tested::NoZeros) => RootFinding::NoZeros,
         Err(_) => unreachable!(),
@@ -110,11 +110,11 @@ fn root_finding(words: &Quantised, side: Side) -> RootFinding
 }
 
 /// What is found of the overflow of runs over so many samples.
-fn run_finding(alloc: Global, words: &Quantised) -> Result<RunFinding, NoMemory>
-    requires { IsSmall words.now }
-    ensures { IfOk result (IsOfRuns words.now) }
+fn run_finding(alloc: Global, quantised: &Quantised) -> Result<RunFinding, NoMemory>
+    requires { IsSmall quantised.now }
+    ensures { IfOk result (IsOfRuns quantised.now) }
 {
-    match overflow(alloc, words, SAMPLES, CONFLICTS) {
+    match overflow(alloc, quantised, SAMPLES, CONFLICTS) {
         Ok(Searched::Never(log)) => Ok(RunFinding::Never(log)),
         Ok(Searched::Happens(trace)) => Ok(RunFinding::Overflow(trace)),
         Ok(Searched::Spent(log)) => Ok(RunFinding::Spent(log)),
@@ -123,14 +123,14 @@ fn run_finding(alloc: Global, words: &Quantised) -> Result<RunFinding, NoMemory>
     }
 }
 
-/// What is found of a controller in words.
-pub(crate) fn finding_of(alloc: Global, words: &Quantised) -> Result<Finding, NoMemory>
-    requires { IsSmall words.now }
-    ensures { IfOk result (IsFinding words.now) }
+/// What is found of a quantised controller.
+pub(crate) fn finding_of(alloc: Global, quantised: &Quantised) -> Result<Finding, NoMemory>
+    requires { IsSmall quantised.now }
+    ensures { IfOk result (IsFinding quantised.now) }
 {
     Ok(Finding {
-        stability: root_finding(words, Side::Denominator),
-        minimum_phase: root_finding(words, Side::Numerator),
-        overflow: run_finding(alloc, words)?,
+        stability: root_finding(quantised, Side::Denominator),
+        minimum_phase: root_finding(quantised, Side::Numerator),
+        overflow: run_finding(alloc, quantised)?,
     })
 }

@@ -2,7 +2,7 @@
 ghost use Rattle.std.specs.Prelude.{IfOk};
 ghost use Rattle.dsv_generator.specs.Tallies.{IsGeneratedFrom};
 
-use crate::controllers::{states_after, words_of};
+use crate::controllers::{quantised_from, states_after};
 use crate::finding::finding_of;
 use crate::tally::{empty_tally, keep_log, with_finding};
 use dsv_base::NoMemory;
@@ -25,8 +25,8 @@ pub fn generate(alloc: Global, seed: u32, count: u32) -> Result<Generated, NoMem
     let mut spent = SpentLogs::new(alloc);
     for index in 0..count {
         let states = states_after(state);
-        let words = words_of(states);
-        let finding = finding_of(alloc, &words)?;
+        let quantised = quantised_from(states);
+        let finding = finding_of(alloc, &quantised)?;
         tally = with_finding(tally, &finding);
         keep_log(&mut spent, index, finding.overflow)?;
         state = states.fourth;

@@ -74,8 +74,8 @@ const ROWS: [Row; 10] = [
     Row(SINGLE, 3, 2, 1),
 ];
 
-/// A controller in words with one bit after the point, as the direct form I.
-pub(crate) fn words_of(
+/// A quantised controller with one bit after the point, as the direct form I.
+pub(crate) fn quantised_of(
     alloc: Global,
     text: &str,
     int_bits: u32,
@@ -87,16 +87,16 @@ pub(crate) fn words_of(
 }
 
 /// How many lists of so many inputs break.
-fn breaks_of(alloc: Global, q: &Quantised, samples: u32) -> Option<u32> {
-    let net = realise(alloc, q).ok()?;
-    let goal = overflow_of(alloc, &net, q.xlo(), q.xhi(), samples)?;
+fn breaks_of(alloc: Global, quantised: &Quantised, samples: u32) -> Option<u32> {
+    let net = realise(alloc, quantised).ok()?;
+    let goal = overflow_of(alloc, &net, quantised.xlo(), quantised.xhi(), samples)?;
     count_of(alloc, &goal, net.format().width())
 }
 
 fn is_right(alloc: Global, row: &Row) -> Option<bool> {
     let Row(text, int_bits, samples, breaks) = *row;
-    let q = words_of(alloc, text, int_bits, OverflowMode::Wrap)?;
-    Some(breaks_of(alloc, &q, samples)? == breaks)
+    let quantised = quantised_of(alloc, text, int_bits, OverflowMode::Wrap)?;
+    Some(breaks_of(alloc, &quantised, samples)? == breaks)
 }
 
 #[test]

@@ -1,5 +1,5 @@
 // The goals of candidate sets, at all values of their inputs.
-use crate::controllers::words_of;
+use crate::controllers::quantised_of;
 use crate::goals::count_of;
 use dsv_names::OverflowMode;
 use dsv_netlist::Netlist;
@@ -89,8 +89,8 @@ fn candidate_of(lines: &[Line], depth: u32) -> Option<Candidate> {
 
 /// The netlist of the controller.
 fn netlist(alloc: Global, overflow: OverflowMode) -> Option<Netlist> {
-    let q = words_of(alloc, FIRST, 2, overflow)?;
-    realise(alloc, &q).ok()
+    let quantised = quantised_of(alloc, FIRST, 2, overflow)?;
+    realise(alloc, &quantised).ok()
 }
 
 /// The goal that a sentence of a candidate is broken, with inputs from -2 to 2.

@@ -8,7 +8,7 @@ use Rattle.dsv_hints.specs.Lessons.{IsRefutation}
 use Rattle.dsv_meaning.specs.Equations.{Past, order, registers_of}
 use Rattle.dsv_meaning.specs.Systems.{equations_of}
 use Rattle.dsv_netlist.specs.Systems.{system_of}
-use Rattle.dsv_quantiser.specs.FixedPoint.{FixedPoint, IsFixedPoint}
+use Rattle.dsv_quantiser.specs.QuantisedView.{QuantisedView, IsQuantisedView}
 use Rattle.dsv_realise.specs.Netlists.{net_of}
 use Rattle.dsv_realise.proofs.Conditions.{net_realised}
 use Rattle.dsv_realise.proofs.Runs.{runs_alike}
@@ -27,7 +27,7 @@ use Rattle.dsv_invariant.specs.Formulas.{set_formula_of}
 use Rattle.dsv_invariant.proofs.Stepwise.{net_stepwise, stepwise_alike}
 
 -- the written equations go on from their registers alone
-equations_stepwise : (q : FixedPoint) → IsFixedPoint q → IsStepwise Past (equations_of q) q.xlo q.xhi
+equations_stepwise : (q : QuantisedView) → IsQuantisedView q → IsStepwise Past (equations_of q) q.xlo q.xhi
 equations_stepwise q f =
     let net = net_of q in
     let m = system_of net in
@@ -37,16 +37,16 @@ equations_stepwise q f =
     let high = subst (λ (h : Format). q.xhi ≤ℤ hi (width h)) (sym run.format) f.high in
     stepwise_alike (List ℤ) Past m e q.xlo q.xhi run (alike_back (List ℤ) Past m e run) (net_stepwise net q.xlo q.xhi (net_realised q f).netlist low high)
 
-kept_by : (q : FixedPoint) (c : Candidate) → IsShaped q c → Holds q c part.Base → Holds q c part.Step → Holds q c part.Safe → IsKept Past (equations_of q) q.xlo q.xhi c
+kept_by : (q : QuantisedView) (c : Candidate) → IsShaped q c → Holds q c part.Base → Holds q c part.Step → Holds q c part.Safe → IsKept Past (equations_of q) q.xlo q.xhi c
 kept_by q c shaped begins stays safely = record { deep = (shaped_parts (registers_of q.realisation (order q)) c shaped).deep; begins = begins; stays = stays; safe = safely }
 
 -- where the three sentences hold, no list of inputs breaks the controller
-pub never_breaks : (q : FixedPoint) (c : Candidate) → IsFixedPoint q → IsShaped q c → Holds q c part.Base → Holds q c part.Step → Holds q c part.Safe
+pub never_breaks : (q : QuantisedView) (c : Candidate) → IsQuantisedView q → IsShaped q c → Holds q c part.Base → Holds q c part.Step → Holds q c part.Safe
     → (inputs : List ℤ) → Breaks Past (equations_of q) q.xlo q.xhi inputs → ⊥
 never_breaks q c f shaped begins stays safely =
     kept_never_breaks Past (equations_of q) q.xlo q.xhi c (equations_stepwise q f) (kept_by q c shaped begins stays safely)
 
-pub good_by : (q : FixedPoint) (conflicts : ℕ) (c : Candidate) (base step safe : List Step) → IsFixedPoint q → IsShaped q c → Holds q c part.Base → Holds q c part.Step → Holds q c part.Safe
+pub good_by : (q : QuantisedView) (conflicts : ℕ) (c : Candidate) (base step safe : List Step) → IsQuantisedView q → IsShaped q c → Holds q c part.Base → Holds q c part.Step → Holds q c part.Safe
     → IsRefutation (set_formula_of q c part.Base) conflicts base → IsRefutation (set_formula_of q c part.Step) conflicts step → IsRefutation (set_formula_of q c part.Safe) conflicts safe
     → IsGood q conflicts c (record { base = base; step = step; safe = safe })
 good_by q conflicts c base step safe f shaped begins stays safely b s t =
@@ -58,7 +58,7 @@ good_by q conflicts c base step safe f shaped begins stays safely b s t =
       safe = t;
     }
 
-pub cause_by : (q : FixedPoint) (conflicts : ℕ) (c : Candidate) (found : Why) → IsShaped q c → IsFinding q conflicts c found → IsCause q conflicts c found
+pub cause_by : (q : QuantisedView) (conflicts : ℕ) (c : Candidate) (found : Why) → IsShaped q c → IsFinding q conflicts c found → IsCause q conflicts c found
 cause_by q conflicts c (why.Good logs) s h = (s, h)
 cause_by q conflicts c (why.Base inputs) s h = (s, h)
 cause_by q conflicts c (why.Leaves start inputs) s h = (s, h)

@@ -16,7 +16,7 @@ use Rattle.dsv_meaning.specs.Equations.{Past, order, registers_of}
 use Rattle.dsv_meaning.specs.Systems.{equations_of}
 use Rattle.dsv_netlist.specs.Nodes.{Net}
 use Rattle.dsv_netlist.specs.Systems.{system_of}
-use Rattle.dsv_quantiser.specs.FixedPoint.{FixedPoint, IsFixedPoint}
+use Rattle.dsv_quantiser.specs.QuantisedView.{QuantisedView, IsQuantisedView}
 use Rattle.dsv_system.specs.Breaks.{IsInside}
 use Rattle.dsv_system.specs.Runs.{row_at}
 use Rattle.dsv_system.specs.Systems.{RunAlike, registers_after, zeros, AreInRange}
@@ -35,7 +35,7 @@ use Rattle.dsv_invariant.specs.Causes.{Holds}
 use Rattle.dsv_invariant.proofs.Alike.{break_alike, given_break, wanted_break}
 
 -- ---- what a part's goal asks
-pub part_asks : (q : FixedPoint) (net : Net) (c : Candidate) (p : SetPart) (t : TermsView) (root : TermId) → RunAlike (List ℤ) Past (system_of net) (equations_of q) → AreTerms t → root.0 < length t.nodes → width_of t root ≡ 1
+pub part_asks : (q : QuantisedView) (net : Net) (c : Candidate) (p : SetPart) (t : TermsView) (root : TermId) → RunAlike (List ℤ) Past (system_of net) (equations_of q) → AreTerms t → root.0 < length t.nodes → width_of t root ≡ 1
     → t.inputs ≡ replicate (set_inputs net c p) (width net.format) → ((values : List ℕ) → AreValues t.inputs values → Tells (word_of t values root) (BreaksPart net q.xlo q.xhi c p (spelled_words net.format values)))
     → Asks t root (word_widths q (set_inputs net c p)) (λ values. DoBreak q c p (spelled_words q.format values))
 part_asks q net c p t root run terms stands one inputs tells =
@@ -53,14 +53,14 @@ part_asks q net c p t root run terms stands one inputs tells =
     (subst (λ (f : Format). DoBreak q c p (spelled_words f values)) (sym run.format) b)))
 
 -- no words of so many break the sentence
-abbrev NoneBreak : FixedPoint → ℕ → Candidate → SetPart → Type 0
+abbrev NoneBreak : QuantisedView → ℕ → Candidate → SetPart → Type 0
 NoneBreak q n c p = (words : List ℤ) → length words ≡ n → All (IsWord q.format) words → DoBreak q c p words → ⊥
 
 -- ---- the base
 within_itself : (z : ℤ) → z ≤ℤ z
 within_itself z = omega (arith, ints)
 
-base_holds : (q : FixedPoint) (c : Candidate) → IsFixedPoint q → NoneBreak q (c.depth - 1) c part.Base → Begins Past (equations_of q) q.xlo q.xhi c
+base_holds : (q : QuantisedView) (c : Candidate) → IsQuantisedView q → NoneBreak q (c.depth - 1) c part.Base → Begins Past (equations_of q) q.xlo q.xhi c
 base_holds q c f none xs less range =
     let m = equations_of q in
     let R : ℤ → Type 0 = λ x. (q.xlo ≤ℤ x) × (x ≤ℤ q.xhi) in
@@ -78,7 +78,7 @@ base_holds q c f none xs less range =
     ]
 
 -- ---- the step
-step_holds : (q : FixedPoint) (c : Candidate) (k : ℕ) → k ≡ registers_of q.realisation (order q) → IsFixedPoint q → NoneBreak q (k + c.depth) c part.Step → Stays Past (equations_of q) q.xlo q.xhi c
+step_holds : (q : QuantisedView) (c : Candidate) (k : ℕ) → k ≡ registers_of q.realisation (order q) → IsQuantisedView q → NoneBreak q (k + c.depth) c part.Step → Stays Past (equations_of q) q.xlo q.xhi c
 step_holds q c k same f none start xs state long range within =
     let m = equations_of q in
     let words = start ++ xs in
@@ -110,7 +110,7 @@ outside_cases f (e ∷ es) = elim (word_cases f e) [
   | inr out ↦ inr (e, (0, omega arith, refl), out)
 ]
 
-safe_holds : (q : FixedPoint) (c : Candidate) (k : ℕ) → k ≡ registers_of q.realisation (order q) → IsFixedPoint q → NoneBreak q (k + 1) c part.Safe → IsSafe Past (equations_of q) q.xlo q.xhi c
+safe_holds : (q : QuantisedView) (c : Candidate) (k : ℕ) → k ≡ registers_of q.realisation (order q) → IsQuantisedView q → NoneBreak q (k + 1) c part.Safe → IsSafe Past (equations_of q) q.xlo q.xhi c
 safe_holds q c k same f none start x state within low high =
     let m = equations_of q in
     let R : ℤ → Type 0 = λ z. (q.xlo ≤ℤ z) × (z ≤ℤ q.xhi) in
@@ -132,12 +132,12 @@ safe_holds q c k same f none start x state within low high =
     ]
 
 -- ---- any of them
-holds : (q : FixedPoint) (net : Net) (c : Candidate) (p : SetPart) → length net.next ≡ registers_of q.realisation (order q) → IsFixedPoint q → NoneBreak q (set_inputs net c p) c p → Holds q c p
+holds : (q : QuantisedView) (net : Net) (c : Candidate) (p : SetPart) → length net.next ≡ registers_of q.realisation (order q) → IsQuantisedView q → NoneBreak q (set_inputs net c p) c p → Holds q c p
 holds q net c part.Base e f none = base_holds q c f none
 holds q net c part.Step e f none = step_holds q c (length net.next) e f none
 holds q net c part.Safe e f none = safe_holds q c (length net.next) e f none
 
-pub never_holds : (q : FixedPoint) (net : Net) (c : Candidate) (p : SetPart) (t : TermsView) (root : TermId) → RunAlike (List ℤ) Past (system_of net) (equations_of q) → IsFixedPoint q
+pub never_holds : (q : QuantisedView) (net : Net) (c : Candidate) (p : SetPart) (t : TermsView) (root : TermId) → RunAlike (List ℤ) Past (system_of net) (equations_of q) → IsQuantisedView q
     → Asks t root (word_widths q (set_inputs net c p)) (λ values. DoBreak q c p (spelled_words q.format values)) → ((values : List ℕ) → AreValues t.inputs values → (word_of t values root).number ≢ 1) → Holds q c p
 never_holds q net c p t root run f a never =
     let n = set_inputs net c p in

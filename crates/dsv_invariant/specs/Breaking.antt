@@ -4,7 +4,7 @@ use Rattle.dsv_meaning.specs.Equations.{Past}
 use Rattle.dsv_meaning.specs.Systems.{equations_of}
 use Rattle.dsv_netlist.specs.Nodes.{Net, step_of}
 use Rattle.dsv_netlist.specs.Systems.{system_of}
-use Rattle.dsv_quantiser.specs.FixedPoint.{FixedPoint}
+use Rattle.dsv_quantiser.specs.QuantisedView.{QuantisedView}
 use Rattle.dsv_system.specs.OutsideValues.{IsFirstOutside}
 use Rattle.dsv_system.specs.Systems.{System, registers_after, zeros}
 use Rattle.dsv_system.specs.Systems.{AreInRange}
@@ -33,17 +33,17 @@ BreakIn P m low high candidate part.Safe words = (x : ℤ) × (drop m.many words
     × BreaksFrom P m low high candidate (take m.many words) x
 
 -- the words break the part's sentence in the controller's written equations
-abbrev pub DoBreak : FixedPoint → Candidate → SetPart → List ℤ → Type 0
+abbrev pub DoBreak : QuantisedView → Candidate → SetPart → List ℤ → Type 0
 DoBreak q candidate part words =
     BreakIn Past (equations_of q) q.xlo q.xhi candidate part words
 
 -- what is found of a candidate where the sentences before a part's hold
-abbrev pub IsFoundAt : FixedPoint → ℕ → Candidate → SetPart → Why → Type 0
+abbrev pub IsFoundAt : QuantisedView → ℕ → Candidate → SetPart → Why → Type 0
 IsFoundAt q conflicts candidate part why =
     HoldBefore q candidate part → IsFinding q conflicts candidate why
 
 -- what is found where the part's sentence is broken, however long was searched
-abbrev pub IsBreakOf : FixedPoint → Candidate → SetPart → Why → Type 0
+abbrev pub IsBreakOf : QuantisedView → Candidate → SetPart → Why → Type 0
 IsBreakOf q candidate part why = (conflicts : ℕ) → IsFoundAt q conflicts candidate part why
 
 -- this start and this input, with the first exact value of the netlist's sample that is no word

@@ -1,10 +1,10 @@
--- What is found of a candidate, over the written equations of a controller in words.
+-- What is found of a candidate, over the written equations of a quantised controller.
 use Rattle.std.specs.Prelude.{◌≡◌, ℕ, ◌≤ℤ◌, true, false, List, [], ◌∷◌, ℤ}
 use Rattle.dsv_hints.specs.Lessons.{IsRefutation, IsSpent}
 use Rattle.dsv_hints.specs.declared.step.Step.{Step}
 use Rattle.dsv_meaning.specs.Equations.{Past, order, registers_of}
 use Rattle.dsv_meaning.specs.Systems.{equations_of}
-use Rattle.dsv_quantiser.specs.FixedPoint.{FixedPoint}
+use Rattle.dsv_quantiser.specs.QuantisedView.{QuantisedView}
 use Rattle.dsv_system.specs.Breaks.{Breaks, IsFirstBreak}
 use Rattle.dsv_system.specs.Systems.{rows}
 use Rattle.dsv_template.specs.declared.candidate.Candidate.{Candidate}
@@ -20,13 +20,13 @@ use Rattle.dsv_invariant.specs.Formulas.{set_formula_of}
 
 -- ---- sentences
 -- the sentence of a part, for the controller's written equations
-abbrev pub Holds : FixedPoint → Candidate → SetPart → Type 0
+abbrev pub Holds : QuantisedView → Candidate → SetPart → Type 0
 Holds q candidate part.Base = Begins Past (equations_of q) q.xlo q.xhi candidate
 Holds q candidate part.Step = Stays Past (equations_of q) q.xlo q.xhi candidate
 Holds q candidate part.Safe = IsSafe Past (equations_of q) q.xlo q.xhi candidate
 
 -- the sentences before a part's hold
-abbrev pub HoldBefore : FixedPoint → Candidate → SetPart → Type 0
+abbrev pub HoldBefore : QuantisedView → Candidate → SetPart → Type 0
 HoldBefore q candidate part.Base = Unit {0}
 HoldBefore q candidate part.Step = Holds q candidate part.Base
 HoldBefore q candidate part.Safe = Holds q candidate part.Base × Holds q candidate part.Step
@@ -35,7 +35,7 @@ HoldBefore q candidate part.Safe = Holds q candidate part.Base × Holds q candid
 -- The controller keeps to the candidate's set, so no list of inputs in range, of any length, breaks
 -- it. Each log is of a search with at most so many conflicts, and derives the empty clause from the
 -- formula that its sentence is broken.
-pub record IsGood (q : FixedPoint) (conflicts : ℕ) (candidate : Candidate) (logs : ThreeLogs) :
+pub record IsGood (q : QuantisedView) (conflicts : ℕ) (candidate : Candidate) (logs : ThreeLogs) :
     Type 0 where
   pub kept : IsKept Past (equations_of q) q.xlo q.xhi candidate
   pub never : (inputs : List ℤ) → Breaks Past (equations_of q) q.xlo q.xhi inputs → ⊥
@@ -46,7 +46,7 @@ pub record IsGood (q : FixedPoint) (conflicts : ℕ) (candidate : Candidate) (lo
 -- ---- other causes
 -- The start is in the set, and at this input in range the first exact value that is no word has
 -- this number and is `exact`.
-pub record IsUnsafe (q : FixedPoint) (candidate : Candidate) (start : List ℤ) (input : ℤ)
+pub record IsUnsafe (q : QuantisedView) (candidate : Candidate) (start : List ℤ) (input : ℤ)
     (value : ℕ) (exact : ℤ) : Type 0 where
   pub state : IsState Past (equations_of q) start
   pub inside : IsInSet candidate start
@@ -55,17 +55,17 @@ pub record IsUnsafe (q : FixedPoint) (candidate : Candidate) (start : List ℤ) 
   pub first : IsFirstBreak q.format (rows (equations_of q) start (input ∷ [])) 0 value exact
 
 -- The log is that of a search in the formula of this part that gave up after so many conflicts.
-abbrev pub GivesUp : FixedPoint → ℕ → Candidate → SetPart → List Step → Type 0
+abbrev pub GivesUp : QuantisedView → ℕ → Candidate → SetPart → List Step → Type 0
 GivesUp q conflicts candidate part log =
     IsSpent (set_formula_of q candidate part) conflicts log
 
 -- the candidate's numbers are as they have to be for the controller's registers
-abbrev pub IsShaped : FixedPoint → Candidate → Type 0
+abbrev pub IsShaped : QuantisedView → Candidate → Type 0
 IsShaped q candidate = is_shaped (registers_of q.realisation (order q)) candidate ≡ true
 
 -- what is found of a candidate: the three sentences hold, or the first that isn't known to hold is
 -- broken or was given up
-abbrev pub IsFinding : FixedPoint → ℕ → Candidate → Why → Type 0
+abbrev pub IsFinding : QuantisedView → ℕ → Candidate → Why → Type 0
 IsFinding q conflicts candidate (why.Good logs) = IsGood q conflicts candidate logs
 IsFinding q conflicts candidate (why.Base inputs) =
     LeavesEarly Past (equations_of q) q.xlo q.xhi candidate inputs
@@ -80,7 +80,7 @@ IsFinding q conflicts candidate why.BadShape = ⊥
 
 -- what is found, with the shape: the cause is that alone exactly where the numbers aren't as they
 -- have to be
-abbrev pub IsCause : FixedPoint → ℕ → Candidate → Why → Type 0
+abbrev pub IsCause : QuantisedView → ℕ → Candidate → Why → Type 0
 IsCause q conflicts candidate why.BadShape =
     is_shaped (registers_of q.realisation (order q)) candidate ≡ false
 IsCause q conflicts candidate found =

@@ -20,8 +20,8 @@ impl<'a> Check<'a> {
     ) -> Result<Why, NoMemory>
         requires many { length words.now
             ≡ set_inputs self.now.net.now self.now.candidate.now part }
-        requires breaks { DoBreak self.now.q.now self.now.candidate.now part words.now }
-        ensures { IfOk result (IsBreakOf self.now.q.now self.now.candidate.now part) }
+        requires breaks { DoBreak self.now.quantised.now self.now.candidate.now part words.now }
+        ensures { IfOk result (IsBreakOf self.now.quantised.now self.now.candidate.now part) }
     {
         let registers = self.net.registers() as usize;
         match part {

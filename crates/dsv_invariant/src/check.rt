@@ -1,4 +1,4 @@
-// Candidates checked for a controller in words.
+// Candidates checked for a quantised controller.
 ghost use Rattle.std.proofs.Props.{props};
 ghost use Rattle.std.specs.Prelude.{◌≤◌, ◌^◌, IfOk, IfErr};
 ghost use Rattle.dsv_bounded.specs.Questions.{Realises};
@@ -14,16 +14,16 @@ use dsv_quantiser::Quantised;
 use dsv_template::{Candidate, SetPart, ThreeLogs, Why};
 use std::alloc::Global;
 
-/// A candidate that is checked for a controller in words, of which this is the netlist, by searches
-/// of which each learns at most so many clauses.
+/// A candidate that is checked for a quantised controller, of which this is the netlist, by
+/// searches of which each learns at most so many clauses.
 #[derive(Clone, Copy)]
 pub(crate) struct Check<'a> {
-    pub(crate) q: &'a Quantised,
+    pub(crate) quantised: &'a Quantised,
     pub(crate) net: &'a Netlist,
     pub(crate) candidate: &'a Candidate,
     pub(crate) conflicts: u32,
-    ghost realises: { Realises q.now net.now } by { Prim.hlevel props },
-    ghost shaped: { IsShaped q.now candidate.now },
+    ghost realises: { Realises quantised.now net.now } by { Prim.hlevel props },
+    ghost shaped: { IsShaped quantised.now candidate.now },
     ghost allowed: { 1 ≤ conflicts },
     ghost limited: { conflicts ≤ 2 ^ 30 },
 }
@@ -32,9 +32,9 @@ impl<'a> Check<'a> {
     /// A log for each sentence of the candidate, or what is found where one isn't shown.
     fn three_logs(&self, alloc: Global) -> Result<ThreeLogs, Obstacle>
         ensures good { IfOk result
-            (IsGood self.now.q.now self.now.conflicts self.now.candidate.now) }
+            (IsGood self.now.quantised.now self.now.conflicts self.now.candidate.now) }
         ensures found { IfErr result
-            (IfFound (IsFinding self.now.q.now self.now.conflicts self.now.candidate.now)) }
+            (IfFound (IsFinding self.now.quantised.now self.now.conflicts self.now.candidate.now)) }
     {
         let base = self.part_log(alloc, SetPart::Base)?;
         let step = self.part_log(alloc, SetPart::Step)?;
@@ -43,26 +43,26 @@ impl<'a> Check<'a> {
     }
 }
 
-/// What is found of a candidate for a controller in words. A candidate whose numbers aren't as they
-/// have to be is told so, and then the base, the step and the safe sentence are asked in this
+/// What is found of a candidate for a quantised controller. A candidate whose numbers aren't as
+/// they have to be is told so, and then the base, the step and the safe sentence are asked in this
 /// order, each of a search that learns at most so many clauses. The first that isn't shown is the
 /// answer, and each break replays. The job's size isn't looked at: `accept_unbounded` tests it.
 pub fn check_candidate(
     alloc: Global,
-    q: &Quantised,
+    quantised: &Quantised,
     candidate: &Candidate,
     conflicts: u32,
 ) -> Result<Why, NoMemory>
     requires allowed { 1 ≤ conflicts }
     requires limited { conflicts ≤ 2 ^ 30 }
-    ensures cause { IfOk result (IsCause q.now conflicts candidate.now) }
+    ensures cause { IfOk result (IsCause quantised.now conflicts candidate.now) }
 {
-    if !candidate.is_shaped(registers(q.realisation(), q.order() as u32)) {
+    if !candidate.is_shaped(registers(quantised.realisation(), quantised.order() as u32)) {
         return Ok(Why::BadShape);
     }
-    let net = netlist_of(alloc, q)?;
+    let net = netlist_of(alloc, quantised)?;
     let check = Check {
-        q,
+        quantised,
         net: &net,
         candidate,
         conflicts,

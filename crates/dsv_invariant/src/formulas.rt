@@ -12,22 +12,22 @@ use dsv_quantiser::Quantised;
 use dsv_template::{Candidate, SetPart};
 use std::alloc::Global;
 
-/// The formula that a sentence of the candidate is broken for a controller in words.
+/// The formula that a sentence of the candidate is broken for a quantised controller.
 #[tactic(auto, unfolding(crate::specs::Formulas::set_formula_of))]
 pub fn set_formula(
     alloc: Global,
-    q: &Quantised,
+    quantised: &Quantised,
     candidate: &Candidate,
     part: SetPart,
 ) -> Result<Formula, NoMemory>
-    requires shaped { IsShaped q.now candidate.now }
-    ensures formula { IfOk result (λ f. f ≡ set_formula_of q.now candidate.now part) }
+    requires shaped { IsShaped quantised.now candidate.now }
+    ensures formula { IfOk result (λ f. f ≡ set_formula_of quantised.now candidate.now part) }
     // Where no assignment satisfies it, the sentence holds in the written equations.
     ensures holds { IfOk result
-        (λ f. IsUnsatisfiable f.clauses → Holds q.now candidate.now part) }
+        (λ f. IsUnsatisfiable f.clauses → Holds quantised.now candidate.now part) }
 {
-    let net = netlist_of(alloc, q)?;
-    let goal = part_goal(alloc, q, &net, candidate, part)?;
+    let net = netlist_of(alloc, quantised)?;
+    let goal = part_goal(alloc, quantised, &net, candidate, part)?;
     let blasted = goal_formula(alloc, goal)?;
     Ok(blasted.formula)
 }

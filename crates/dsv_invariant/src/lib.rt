@@ -1,5 +1,5 @@
-//! Overflow over runs of any length: whether a controller in words keeps to a candidate's set, by a
-//! search for what breaks each of its sentences.
+//! Overflow over runs of any length: whether a quantised controller keeps to a candidate's set, by
+//! a search for what breaks each of its sentences.
 #![tactic(auto)]
 
 mod breaks;

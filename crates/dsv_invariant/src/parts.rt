@@ -45,22 +45,23 @@ impl From<NoMemory> for Obstacle {
 /// The goal that a sentence of the candidate is broken.
 pub(crate) fn part_goal(
     alloc: Global,
-    q: &Quantised,
+    quantised: &Quantised,
     net: &Netlist,
     candidate: &Candidate,
     part: SetPart,
 ) -> Result<Goal, NoMemory>
-    requires net { Realises q.now net.now }
-    requires shaped { IsShaped q.now candidate.now }
+    requires net { Realises quantised.now net.now }
+    requires shaped { IsShaped quantised.now candidate.now }
     ensures made { IfOk result (λ goal. built_of goal.terms goal.root
-        ≡ set_of (net_of q.now) q.now.xlo q.now.xhi candidate.now part) }
+        ≡ set_of (net_of quantised.now) quantised.now.xlo quantised.now.xhi candidate.now part) }
     ensures asks { IfOk result (λ goal. Asks goal.terms goal.root
-        (word_widths q.now (set_inputs net.now candidate.now part))
-        (λ values. DoBreak q.now candidate.now part (spelled_words q.now.format values))) }
+        (word_widths quantised.now (set_inputs net.now candidate.now part))
+        (λ values. DoBreak quantised.now candidate.now part
+        (spelled_words quantised.now.format values))) }
 {
     let range = InputRange {
-        low: q.xlo(),
-        high: q.xhi(),
+        low: quantised.xlo(),
+        high: quantised.xhi(),
     };
     let goal = set_goal(alloc, net, range, candidate, part)?;
     let _count = goal.terms.len(); // its range, for the proof
@@ -70,13 +71,13 @@ pub(crate) fn part_goal(
 impl<'a> Check<'a> {
     /// What is found of the candidate where these values break a sentence.
     fn found_break(&self, alloc: Global, part: SetPart, values: &[u128]) -> Result<Why, NoMemory>
-        requires fit { AreValues (word_widths self.now.q.now
+        requires fit { AreValues (word_widths self.now.quantised.now
             (set_inputs self.now.net.now self.now.candidate.now part)) values.now }
-        requires breaks { DoBreak self.now.q.now self.now.candidate.now part
-            (spelled_words self.now.q.now.format values.now) }
-        ensures { IfOk result (IsBreakOf self.now.q.now self.now.candidate.now part) }
+        requires breaks { DoBreak self.now.quantised.now self.now.candidate.now part
+            (spelled_words self.now.quantised.now.format values.now) }
+        ensures { IfOk result (IsBreakOf self.now.quantised.now self.now.candidate.now part) }
     {
-        let words = words_after(WordList::new(alloc), &self.q.format(), values)?;
+        let words = words_after(WordList::new(alloc), &self.quantised.format(), values)?;
         self.break_of(alloc, part, words.as_slice())
     }
 
@@ -84,13 +85,15 @@ impl<'a> Check<'a> {
     /// sentences before it hold.
     #[tactic(auto, unfolding(crate::specs::Formulas::set_formula_of))]
     pub(crate) fn part_log(&self, alloc: Global, part: SetPart) -> Result<Log, Obstacle>
-        ensures holds { IfOk result (λ log. Holds self.now.q.now self.now.candidate.now part) }
+        ensures holds { IfOk result (λ log. Holds self.now.quantised.now self.now.candidate.now
+            part) }
         ensures refuted { IfOk result (IsRefutation
-            (set_formula_of self.now.q.now self.now.candidate.now part) self.now.conflicts) }
-        ensures found { IfErr result (IfFound (IsFoundAt self.now.q.now self.now.conflicts
+            (set_formula_of self.now.quantised.now self.now.candidate.now part)
+            self.now.conflicts) }
+        ensures found { IfErr result (IfFound (IsFoundAt self.now.quantised.now self.now.conflicts
             self.now.candidate.now part)) }
     {
-        let goal = part_goal(alloc, self.q, self.net, self.candidate, part)?;
+        let goal = part_goal(alloc, self.quantised, self.net, self.candidate, part)?;
         match decide(alloc, goal, self.conflicts)? {
             Searched::Never(log) => Ok(log),
             Searched::Happens(values) => Err(Obstacle::Found(self.found_break(

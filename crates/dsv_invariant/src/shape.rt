@@ -1,4 +1,4 @@
-// What proposers are told of a controller in words.
+// What proposers are told of a quantised controller.
 ghost use Rattle.std.specs.Prelude.{◌≡◌};
 ghost use Rattle.dsv_invariant.specs.Shapes.{past_inputs_of, shape_of};
 ghost use Rattle.dsv_template.specs.Shapes.{IsLawful};
@@ -22,21 +22,21 @@ fn past_inputs(realisation: Realisation, order: u32) -> u32
     }
 }
 
-/// What proposers are told of a controller in words: how many registers it has, how many of the
+/// What proposers are told of a quantised controller: how many registers it has, how many of the
 /// first ones hold earlier inputs, the ends of its words and the range of its inputs.
-pub fn shape_of(q: &Quantised) -> Shape
-    ensures value { result ≡ shape_of q.now }
+pub fn shape_of(quantised: &Quantised) -> Shape
+    ensures value { result ≡ shape_of quantised.now }
     ensures lawful { IsLawful result }
 {
-    let format = q.format();
-    let realisation = q.realisation();
-    let order = q.order() as u32;
+    let format = quantised.format();
+    let realisation = quantised.realisation();
+    let order = quantised.order() as u32;
     Shape {
         registers: registers(realisation, order),
         past_inputs: past_inputs(realisation, order),
         lo: format.lo(),
         hi: format.hi(),
-        xlo: q.xlo(),
-        xhi: q.xhi(),
+        xlo: quantised.xlo(),
+        xhi: quantised.xhi(),
     }
 }

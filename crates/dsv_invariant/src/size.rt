@@ -10,8 +10,8 @@ use dsv_quantiser::Quantised;
 pub const UNBOUNDED_SAMPLES: u32 = 9;
 
 /// Refuses a controller whose job over runs of any length is too large. It takes no memory.
-pub fn accept_unbounded(q: &Quantised) -> Result<(), TooLarge>
-    ensures { IsWeighed (job_size_of q.now unbounded_samples) result }
+pub fn accept_unbounded(quantised: &Quantised) -> Result<(), TooLarge>
+    ensures { IsWeighed (job_size_of quantised.now unbounded_samples) result }
 {
-    accept(q, UNBOUNDED_SAMPLES)
+    accept(quantised, UNBOUNDED_SAMPLES)
 }

@@ -2,13 +2,13 @@
 ghost use Rattle.dsv_template.specs.Shapes.{IsLawful};
 ghost use Rattle.std.specs.Prelude.{IfSome};
 
-use crate::designs::{ALTERNATING, Bound, Design, HALVES, Offer, words_of};
+use crate::designs::{ALTERNATING, Bound, Design, HALVES, Offer, quantised_of};
 use dsv_invariant::shape_of;
 use dsv_names::{OverflowMode, Realisation};
 use dsv_template::{BoxProposer, Candidate, Inequality, InvariantProposer, Shape};
 use std::alloc::Global;
 
-/// The shape of a controller in words with two bits before the point, as the direct form I.
+/// The shape of a quantised controller with two bits before the point, as the direct form I.
 fn shape(alloc: Global, controller: &'static str, frac_bits: u32) -> Option<Shape>
     ensures { IfSome result IsLawful }
 {
@@ -19,8 +19,8 @@ fn shape(alloc: Global, controller: &'static str, frac_bits: u32) -> Option<Shap
         realisation: Realisation::Dfi,
         overflow: OverflowMode::Wrap,
     };
-    let q = words_of(alloc, &design)?;
-    Some(shape_of(&q))
+    let quantised = quantised_of(alloc, &design)?;
+    Some(shape_of(&quantised))
 }
 
 /// The box after so many others.

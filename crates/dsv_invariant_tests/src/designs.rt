@@ -1,4 +1,4 @@
-// Controllers in words, and candidates for those with two registers.
+// Quantised controllers, and candidates for those with two registers.
 use dsv_names::{OverflowMode, Realisation, Rounding};
 use dsv_quantiser::{Quantised, quantise};
 use dsv_reader::read;
@@ -21,7 +21,7 @@ pub(crate) const ALTERNATING: &str =
     "digital_system d = { .b = {0.5, 0.25}, .b_size = 2, .a = {1.0, 0.5}, .a_size = 2 };
 implementation r = { .int_bits = 2, .frac_bits = 2, .max = 1.0, .min = 0.25 };";
 
-/// A controller in words, with FLOOR.
+/// A quantised controller, with FLOOR.
 #[derive(Clone, Copy)]
 pub(crate) struct Design {
     pub controller: &'static str,
@@ -32,7 +32,7 @@ pub(crate) struct Design {
 }
 
 /// The controller of a design in words.
-pub(crate) fn words_of(alloc: Global, design: &Design) -> Option<Quantised> {
+pub(crate) fn quantised_of(alloc: Global, design: &Design) -> Option<Quantised> {
     let controller = read(alloc, design.controller.as_bytes()).ok()?;
     let format = Format::new(
         design.int_bits,

@@ -1,5 +1,5 @@
 // What proposers are told, and jobs that are too large.
-use crate::designs::{Design, HALVES, words_of};
+use crate::designs::{Design, HALVES, quantised_of};
 use dsv_bounded::TooLarge;
 use dsv_invariant::{accept_unbounded, shape_of};
 use dsv_names::{OverflowMode, Realisation};
@@ -16,7 +16,7 @@ const DELTA_HALVES: &str =
     "digital_system d = { .b = {0.5}, .b_size = 1, .a = {1.0, -0.5}, .a_size = 2 };
 implementation r = { .int_bits = 2, .frac_bits = 2, .max = 1.0, .min = -1.0, .delta = 0.5 };";
 
-/// A controller in words.
+/// A quantised controller.
 fn design(controller: &'static str, bits: u32, realisation: Realisation) -> Design {
     Design {
         controller,
@@ -27,7 +27,7 @@ fn design(controller: &'static str, bits: u32, realisation: Realisation) -> Desi
     }
 }
 
-/// A controller in words of four bits, and of how many registers and earlier inputs proposers are
+/// A quantised controller of four bits, and of how many registers and earlier inputs proposers are
 /// told.
 struct Told(&'static str, Realisation, u32, u32);
 
@@ -39,7 +39,7 @@ const TOLD: [Told; 3] = [
 
 /// Whether proposers are told so, of words of four bits and inputs from -1 to 1.
 fn is_told(alloc: Global, row: &Told) -> Option<bool> {
-    let q = words_of(alloc, &design(row.0, 2, row.1))?;
+    let quantised = quantised_of(alloc, &design(row.0, 2, row.1))?;
     let wanted = Shape {
         registers: row.2,
         past_inputs: row.3,
@@ -48,7 +48,7 @@ fn is_told(alloc: Global, row: &Told) -> Option<bool> {
         xlo: -4,
         xhi: 4,
     };
-    Some(shape_of(&q) == wanted)
+    Some(shape_of(&quantised) == wanted)
 }
 
 #[test]
@@ -61,8 +61,8 @@ fn earlier_inputs_are_told_of_the_direct_form_one_alone(rt: HostRuntime) {
 /// Whether a controller of order 8 with 33 products in words of 32 bits is refused for the size
 /// 9 * 33 * 32^2.
 fn is_refused(alloc: Global) -> Option<bool> {
-    let q = words_of(alloc, &design(EIGHTH, 16, Realisation::Ddfi))?;
-    Some(accept_unbounded(&q) == Err(TooLarge { size: 304_128 }))
+    let quantised = quantised_of(alloc, &design(EIGHTH, 16, Realisation::Ddfi))?;
+    Some(accept_unbounded(&quantised) == Err(TooLarge { size: 304_128 }))
 }
 
 #[test]

@@ -2,7 +2,7 @@
 // inputs of a model of the written equation.
 ghost use Rattle.std.specs.Prelude.{◌≤◌, ◌^◌};
 
-use crate::designs::{ALTERNATING, Bound, Design, HALVES, Offer, SUMS, candidate_of, words_of};
+use crate::designs::{ALTERNATING, Bound, Design, HALVES, Offer, SUMS, candidate_of, quantised_of};
 use dsv_invariant::{accept_unbounded, check_candidate};
 use dsv_names::{OverflowMode, Realisation};
 use dsv_quantiser::Quantised;
@@ -82,7 +82,7 @@ const CASES: [Case; 8] = [
     Case(HALVES, 1, OverflowMode::Saturate, b"GGGGLLBBGGGGGGBGG"),
 ];
 
-/// A controller in words with two bits before the point, as the direct form I.
+/// A quantised controller with two bits before the point, as the direct form I.
 fn design(controller: &'static str, frac_bits: u32, overflow: OverflowMode) -> Design {
     Design {
         controller,
@@ -94,18 +94,18 @@ fn design(controller: &'static str, frac_bits: u32, overflow: OverflowMode) -> D
 }
 
 /// What is found of an offer.
-fn finding(alloc: Global, q: &Quantised, offer: &Offer, conflicts: u32) -> Option<Why>
+fn finding(alloc: Global, quantised: &Quantised, offer: &Offer, conflicts: u32) -> Option<Why>
     requires some { 1 ≤ conflicts }
     requires few { conflicts ≤ 2 ^ 30 }
 {
     let candidate = candidate_of(offer)?;
-    accept_unbounded(q).ok()?;
-    check_candidate(alloc, q, &candidate, conflicts).ok()
+    accept_unbounded(quantised).ok()?;
+    check_candidate(alloc, quantised, &candidate, conflicts).ok()
 }
 
 /// The letter of what is found of an offer.
-fn letter(alloc: Global, q: &Quantised, offer: &Offer) -> u8 {
-    match finding(alloc, q, offer, 50_000) {
+fn letter(alloc: Global, quantised: &Quantised, offer: &Offer) -> u8 {
+    match finding(alloc, quantised, offer, 50_000) {
         Some(Why::Good(_)) => b'G',
         Some(Why::Base { .. }) => b'B',
         Some(Why::Leaves { .. }) => b'L',
@@ -115,17 +115,15 @@ fn letter(alloc: Global, q: &Quantised, offer: &Offer) -> u8 {
 }
 
 /// Whether these are the letters of all offers.
-fn are_letters(alloc: Global, q: &Quantised, letters: &[u8]) -> bool {
+fn are_letters(alloc: Global, quantised: &Quantised, letters: &[u8]) -> bool {
     letters.len() == OFFERS.len()
-        && OFFERS
-            .iter()
-            .zip(letters)
-            .all(|(offer, wanted)| letter(alloc, q, offer) == *wanted)
+        && OFFERS.iter().zip(letters).all(|(offer, wanted)| letter(alloc, quantised, offer)
+            == *wanted)
 }
 
 fn is_right(alloc: Global, case: &Case) -> bool {
-    match words_of(alloc, &design(case.0, case.1, case.2)) {
-        Some(q) => are_letters(alloc, &q, case.3),
+    match quantised_of(alloc, &design(case.0, case.1, case.2)) {
+        Some(quantised) => are_letters(alloc, &quantised, case.3),
         None => false,
     }
 }
@@ -151,8 +149,8 @@ const FINE_BOX: Offer = Offer(
 /// Whether a search that may learn one clause gives up on the step or the safe sentence. The base
 /// asks of registers of zeros alone, and holds.
 fn is_spent(alloc: Global) -> Option<bool> {
-    let q = words_of(alloc, &design(HALVES, 14, OverflowMode::Wrap))?;
-    match finding(alloc, &q, &FINE_BOX, 1)? {
+    let quantised = quantised_of(alloc, &design(HALVES, 14, OverflowMode::Wrap))?;
+    match finding(alloc, &quantised, &FINE_BOX, 1)? {
         Why::Spent { part, log } => Some(part != SetPart::Base && log.len() == 1),
         _ => Some(false),
     }
@@ -175,9 +173,9 @@ const BAD: [Offer; 5] = [
 
 /// Whether the numbers of no such offer are as they have to be.
 fn are_bad(alloc: Global) -> Option<bool> {
-    let q = words_of(alloc, &design(HALVES, 2, OverflowMode::Wrap))?;
+    let quantised = quantised_of(alloc, &design(HALVES, 2, OverflowMode::Wrap))?;
     for offer in &BAD {
-        if !matches!(finding(alloc, &q, offer, 1), Some(Why::BadShape)) {
+        if !matches!(finding(alloc, &quantised, offer, 1), Some(Why::BadShape)) {
             return Some(false);
         }
     }

@@ -25,7 +25,7 @@ use dsv_forms::{MOST_COEFFICIENTS, Poly};
 const ROW_LIMIT: u128 = 1 << 62;
 
 /// The numbers of a row, the leading one first.
-type Row = ArrayVec<i64, MOST_COEFFICIENTS>;
+type JuryRow = ArrayVec<i64, MOST_COEFFICIENTS>;
 
 /// Whether the last number of a row is at least as great in size as the first.
 fn last_leads(row: &[i64]) -> bool
@@ -72,7 +72,7 @@ fn narrow_quotient(number: &i128, factor: u128) -> Option<i64>
 }
 
 /// The next row, where no entry of it passes 2^62.
-fn row_after(row: &[i64]) -> Option<Row>
+fn row_after(row: &[i64]) -> Option<JuryRow>
     requires some { 0 < length row.now }
     requires few { length row.now ≤ most_coefficients }
     requires apart { last_leads (length row.now - 1) (vector_of row.now) ≡ false }
@@ -82,7 +82,7 @@ fn row_after(row: &[i64]) -> Option<Row>
 {
     let differences = cross_differences(row);
     let factor = common_factor(differences.as_slice());
-    let mut next = Row::new();
+    let mut next = JuryRow::new();
     for number in differences.as_slice() {
         next.push(narrow_quotient(number, factor)?);
     }
@@ -90,11 +90,11 @@ fn row_after(row: &[i64]) -> Option<Row>
 }
 
 /// The polynomial's coefficients as row 0.
-fn first_row(poly: &Poly) -> Row
+fn first_row(poly: &Poly) -> JuryRow
     ensures same { result.items ≡ poly.now }
     ensures poly { IsPoly result.items }
 {
-    let mut row = Row::new();
+    let mut row = JuryRow::new();
     for coefficient in poly.coefficients() {
         row.push(*coefficient);
     }

@@ -3,7 +3,7 @@ use Rattle.std.proofs.Common.{◌≡◌, ℕ, ◌+◌, ◌<◌, false, List, [],
 use Rattle.std.proofs.Math.IntN.{ℤ, pos}
 use Rattle.std.proofs.lemmas.List.{drop_more, drop-drop}
 use Rattle.dsv_word.specs.declared.format.Format.{Format}
-use Rattle.dsv_quantiser.specs.FixedPoint.{FixedPoint}
+use Rattle.dsv_quantiser.specs.QuantisedView.{QuantisedView}
 use Rattle.dsv_meaning.specs.Lines.{Times, Sum, next_summand, line}
 use Rattle.dsv_meaning.specs.Equations.{Chain, chain_with, delta_line, transposed_line, delta_chain, transposed_chain, transposed_delta_chain}
 
@@ -15,7 +15,7 @@ from_place ws i w h e = ap (λ v. v ∷ drop (i + 1) ws) e ∙ sym (drop_more ws
 added : (rs new : List ℤ) (s t : Sum) → new ≡ rs ++ s.value ∷ [] → s ≡ t → chain_with (record { words = rs; exact = [] }) t ≡ record { words = new; exact = s.exact }
 added rs new s t n e = ap (λ (v : Sum). record { words = rs ++ v.value ∷ []; exact = v.exact }) (sym e) ∙ ap (λ v. record { words = v; exact = s.exact }) (sym n)
 
-pub delta_more : (q : FixedPoint) (f : Format) (d : ℤ) (old rs new es : List ℤ) (i : ℕ) (before w : ℤ) (s : Sum) → f ≡ q.format → d ≡ q.delta → i < length old
+pub delta_more : (q : QuantisedView) (f : Format) (d : ℤ) (old rs new es : List ℤ) (i : ℕ) (before w : ℤ) (s : Sum) → f ≡ q.format → d ≡ q.delta → i < length old
     → w ≡ get_or old i (pos 0) → s ≡ next_summand f (record { value = w; exact = es }) (Times false d before) → new ≡ rs ++ s.value ∷ []
     → delta_chain q w (drop (i + 1) old) (record { words = new; exact = s.exact }) ≡ delta_chain q before (drop i old) (record { words = rs; exact = es })
 delta_more q f d old rs new es i before w s p r h e g n =
@@ -25,7 +25,7 @@ delta_more q f d old rs new es i before w s p r h e g n =
     ap (delta_chain q w (drop (i + 1) old)) (sym (added rs new s (line q.format es (delta_line q w before)) n same))
     ∙ ap (λ ws. delta_chain q before ws (record { words = rs; exact = es })) (from_place old i w h e)
 
-pub transposed_more : (q : FixedPoint) (f : Format) (x y : ℤ) (bs cs old rest rs new es : List ℤ) (i : ℕ) (b a : ℤ) (s : Sum) → f ≡ q.format
+pub transposed_more : (q : QuantisedView) (f : Format) (x y : ℤ) (bs cs old rest rs new es : List ℤ) (i : ℕ) (b a : ℤ) (s : Sum) → f ≡ q.format
     → i < length bs → i < length cs → b ≡ get_or bs i (pos 0) → a ≡ get_or cs i (pos 0) → rest ≡ drop (i + 1) old → s ≡ line f es (transposed_line b a x y rest) → new ≡ rs ++ s.value ∷ []
     → transposed_chain q x y (drop (i + 1) bs) (drop (i + 1) cs) (drop (i + 1) old) (record { words = new; exact = s.exact })
     ≡ transposed_chain q x y (drop i bs) (drop i cs) (drop i old) (record { words = rs; exact = es })
@@ -39,7 +39,7 @@ transposed_more q f x y bs cs old rest rs new es i b a s p hb hc eb ec r g n =
     ∙ ap (λ v. transposed_chain q x y v (a ∷ drop (i + 1) cs) (drop i old) start) (from_place bs i b hb eb)
     ∙ ap (λ v. transposed_chain q x y (drop i bs) v (drop i old) start) (from_place cs i a hc ec)
 
-pub transposed_delta_more : (q : FixedPoint) (f : Format) (d x y : ℤ) (bs cs old rest rs new es : List ℤ) (i : ℕ) (b a w : ℤ) (t s : Sum) → f ≡ q.format → d ≡ q.delta
+pub transposed_delta_more : (q : QuantisedView) (f : Format) (d x y : ℤ) (bs cs old rest rs new es : List ℤ) (i : ℕ) (b a w : ℤ) (t s : Sum) → f ≡ q.format → d ≡ q.delta
     → i < length bs → i < length cs → i < length old → b ≡ get_or bs i (pos 0) → a ≡ get_or cs i (pos 0) → w ≡ get_or old i (pos 0) → rest ≡ drop (i + 1) old
     → t ≡ line f es (transposed_line b a x y rest) → s ≡ next_summand f (record { value = w; exact = t.exact }) (Times false d t.value) → new ≡ rs ++ s.value ∷ []
     → transposed_delta_chain q x y (drop (i + 1) bs) (drop (i + 1) cs) (drop (i + 1) old) (record { words = new; exact = s.exact })

@@ -6,7 +6,7 @@ use Rattle.std.specs.Prelude.{slice_get, Some}
 use Rattle.std.specs.List.{All}
 use Rattle.std.proofs.lemmas.List.{append-nil, drop_more, map-append, take_more, take_more_set, take_at, take-append-drop, length-set, length-take-le, length-replicate, replicate-append-replicate, replicate_more}
 use Rattle.std.proofs.lemmas.List.Elements.{All-nil, All-cons, All-append, All-take}
-use Rattle.dsv_quantiser.specs.FixedPoint.{FixedPoint}
+use Rattle.dsv_quantiser.specs.QuantisedView.{QuantisedView}
 use Rattle.dsv_system.specs.Runs.{Sampled, SampleRow, row_at, rows_from}
 use Rattle.dsv_system.specs.Systems.{System, rows, registers_after, zeros}
 use Rattle.dsv_system.specs.Breaks.{IsInside, IsFirstBreak}
@@ -35,21 +35,21 @@ pub record GoesOn (P : Type 0) (m : System P) (start done r : List ℤ) : Type 0
   pub left : (xs : List ℤ) → registers_after m start (done ++ xs) ≡ registers_after m r xs
 
 -- one sample: its row, and the registers before and after it
-pub record Steps (q : FixedPoint) (r new : List ℤ) (x : ℤ) (row : SampleRow) : Type 0 where
+pub record Steps (q : QuantisedView) (r new : List ℤ) (x : ℤ) (row : SampleRow) : Type 0 where
   pub numerator : length q.b ≡ order q + 1
   pub many : length r ≡ registers_of q.realisation (order q)
   pub row_is : row ≡ row_at (step_as q.realisation q r x) x
   pub new_is : new ≡ (step_as q.realisation q r x).past
 
-step_rows : {q : FixedPoint} {r new : List ℤ} {x : ℤ} {row : SampleRow} (xs : List ℤ) → Steps q r new x row
+step_rows : {q : QuantisedView} {r new : List ℤ} {x : ℤ} {row : SampleRow} (xs : List ℤ) → Steps q r new x row
     → rows (equations_of q) r (x ∷ xs) ≡ row ∷ rows (equations_of q) new xs
 step_rows {q} {r} {new} {x} {row} xs s = sym (next_rows q.realisation q r new x xs row s.numerator s.many s.row_is s.new_is)
 
-one_row_more : {q : FixedPoint} {start done r new : List ℤ} {x : ℤ} {row : SampleRow} → Steps q r new x row → GoesOn Past (equations_of q) start done r
+one_row_more : {q : QuantisedView} {start done r new : List ℤ} {x : ℤ} {row : SampleRow} → Steps q r new x row → GoesOn Past (equations_of q) start done r
     → rows (equations_of q) start (done ++ x ∷ []) ≡ rows (equations_of q) start done ++ row ∷ []
 one_row_more {q} {start} {done} {r} {new} {x} {row} s g = g.shown (x ∷ []) ∙ ap (λ (rs : List SampleRow). rows (equations_of q) start done ++ rs) (step_rows [] s)
 
-goes_on : {q : FixedPoint} {start done r new : List ℤ} {x : ℤ} {row : SampleRow} → Steps q r new x row → GoesOn Past (equations_of q) start done r
+goes_on : {q : QuantisedView} {start done r new : List ℤ} {x : ℤ} {row : SampleRow} → Steps q r new x row → GoesOn Past (equations_of q) start done r
     → GoesOn Past (equations_of q) start (done ++ x ∷ []) new
 goes_on {q} {start} {done} {r} {new} {x} {row} s g =
     let m : System Past = equations_of q in
@@ -65,7 +65,7 @@ goes_on {q} {start} {done} {r} {new} {x} {row} s g =
     }
 
 -- the outputs so far, in their places of a list, and one more
-outputs_more : {q : FixedPoint} {start done r new : List ℤ} {x : ℤ} {row : SampleRow} {n : ℕ} (ys : List ℤ) → Steps q r new x row → GoesOn Past (equations_of q) start done r → n < length ys → take n ys ≡ outputs_over q start done
+outputs_more : {q : QuantisedView} {start done r new : List ℤ} {x : ℤ} {row : SampleRow} {n : ℕ} (ys : List ℤ) → Steps q r new x row → GoesOn Past (equations_of q) start done r → n < length ys → take n ys ≡ outputs_over q start done
     → take (n + 1) (set ys n row.y) ≡ outputs_over q start (done ++ x ∷ [])
 outputs_more {q} {start} {done} {r} {new} {x} {row} {n} ys s g l e =
     let y : SampleRow → ℤ = λ (r : SampleRow). r.y in
@@ -73,12 +73,12 @@ outputs_more {q} {start} {done} {r} {new} {x} {row} {n} ys s g l e =
 
 -- ---- breaks
 -- before this sample nothing breaks
-pub record IsUnbroken (q : FixedPoint) (start inputs r : List ℤ) (sample : ℕ) : Type 0 where
+pub record IsUnbroken (q : QuantisedView) (start inputs r : List ℤ) (sample : ℕ) : Type 0 where
   pub many : length r ≡ registers_of q.realisation (order q)
   pub goes : GoesOn Past (equations_of q) start (take sample inputs) r
   pub inside : All (IsInside q.format) (rows (equations_of q) start (take sample inputs))
 
-pub unbroken_more : {q : FixedPoint} {start inputs r new : List ℤ} {x : ℤ} {row : SampleRow} {sample : ℕ} → sample < length inputs → x ≡ get_or inputs sample (pos 0) → length new ≡ length r
+pub unbroken_more : {q : QuantisedView} {start inputs r new : List ℤ} {x : ℤ} {row : SampleRow} {sample : ℕ} → sample < length inputs → x ≡ get_or inputs sample (pos 0) → length new ≡ length r
     → Steps q r new x row → IsUnbroken q start inputs r sample → IsInside q.format row → IsUnbroken q start inputs new (sample + 1)
 unbroken_more {q} {start} {inputs} {r} {new} {x} {row} {sample} l is same s u inside =
     let done = take sample inputs in
@@ -93,11 +93,11 @@ unbroken_more {q} {start} {inputs} {r} {new} {x} {row} {sample} l is same s u in
     }
 
 -- the outputs up to this sample are those of the run, in the first places of ys
-pub record AreOutputs (q : FixedPoint) (start inputs ys : List ℤ) (sample : ℕ) : Type 0 where
+pub record AreOutputs (q : QuantisedView) (start inputs ys : List ℤ) (sample : ℕ) : Type 0 where
   pub room : length ys ≡ length inputs
   pub outputs : take sample ys ≡ outputs_over q start (take sample inputs)
 
-pub next_outputs : {q : FixedPoint} {start inputs r new ys zs : List ℤ} {x : ℤ} {row : SampleRow} {sample : ℕ} → sample < length inputs → x ≡ get_or inputs sample (pos 0)
+pub next_outputs : {q : QuantisedView} {start inputs r new ys zs : List ℤ} {x : ℤ} {row : SampleRow} {sample : ℕ} → sample < length inputs → x ≡ get_or inputs sample (pos 0)
     → Steps q r new x row → IsUnbroken q start inputs r sample → zs ≡ set ys sample row.y → AreOutputs q start inputs ys sample → AreOutputs q start inputs zs (sample + 1)
 next_outputs {q} {start} {inputs} {r} {new} {ys} {zs} {x} {row} {sample} l is s u e o =
     let done = take sample inputs in
@@ -111,7 +111,7 @@ at_length : {A : Type 0} (xs : List A) (y : A) (ys : List A) → slice_get (xs +
 at_length [] y ys = refl
 at_length (x ∷ xs) y ys = at_length xs y ys
 
-pub breaks_here : {q : FixedPoint} {start inputs r new : List ℤ} {x : ℤ} {row : SampleRow} {sample value : ℕ} {exact : ℤ} → sample < length inputs → x ≡ get_or inputs sample (pos 0)
+pub breaks_here : {q : QuantisedView} {start inputs r new : List ℤ} {x : ℤ} {row : SampleRow} {sample value : ℕ} {exact : ℤ} → sample < length inputs → x ≡ get_or inputs sample (pos 0)
     → Steps q r new x row → IsUnbroken q start inputs r sample → IsFirstOutside q.format row.exact value exact
     → IsFirstBreak q.format (rows (equations_of q) start inputs) sample value exact
 breaks_here {q} {start} {inputs} {r} {new} {x} {row} {sample} l is s u o =
@@ -138,7 +138,7 @@ abbrev IsQuiet : SampleRow → Type 0
 IsQuiet row = row.y ≡ pos 0
 
 -- where a run with input 0 is after so many samples, and that the start hasn't come back after fewer than `limit`
-pub record IsAway (q : FixedPoint) (start r : List ℤ) (done limit : ℕ) (sounding : Bool) : Type 0 where
+pub record IsAway (q : QuantisedView) (start r : List ℤ) (done limit : ℕ) (sounding : Bool) : Type 0 where
   pub many : length r ≡ registers_of q.realisation (order q)
   pub goes : GoesOn Past (equations_of q) start (zeros done) r
   pub hears : Hears (rows (equations_of q) start (zeros done)) sounding
@@ -170,7 +170,7 @@ sounds_by_then m start p n false some g h sound =
     absurd (sound.2 (ap (λ (r : SampleRow). r.y) (sym there.2) ∙ quiet_always m start p some g (h.quiet refl) n there.0 row there.1))
 
 -- one sample more, at whose end the start may be back
-pub next_away : {q : FixedPoint} {start r new : List ℤ} {row : SampleRow} {done : ℕ} {before after : Bool} → length new ≡ length r → Steps q r new (pos 0) row
+pub next_away : {q : QuantisedView} {start r new : List ℤ} {row : SampleRow} {done : ℕ} {before after : Bool} → length new ≡ length r → Steps q r new (pos 0) row
     → ((rs : List SampleRow) → Hears rs before → Hears (rs ++ row ∷ []) after) → IsAway q start r done (done + 1) before → IsAway q start new (done + 1) (done + 1) after
 next_away {q} {start} {r} {new} {row} {done} {before} {after} same s heard a =
     let m : System Past = equations_of q in
@@ -184,22 +184,22 @@ next_away {q} {start} {r} {new} {row} {done} {before} {after} same s heard a =
     }
 
 -- the outputs so far of a run with input 0, in the first places of ys
-pub record AreQuietOutputs (q : FixedPoint) (start ys : List ℤ) (done limit : ℕ) : Type 0 where
+pub record AreQuietOutputs (q : QuantisedView) (start ys : List ℤ) (done limit : ℕ) : Type 0 where
   pub room : length ys ≡ limit
   pub outputs : take done ys ≡ outputs_over q start (zeros done)
 
-pub next_quiet_outputs : {q : FixedPoint} {start r new ys zs : List ℤ} {row : SampleRow} {done limit : ℕ} → done < limit → Steps q r new (pos 0) row → GoesOn Past (equations_of q) start (zeros done) r → zs ≡ set ys done row.y
+pub next_quiet_outputs : {q : QuantisedView} {start r new ys zs : List ℤ} {row : SampleRow} {done limit : ℕ} → done < limit → Steps q r new (pos 0) row → GoesOn Past (equations_of q) start (zeros done) r → zs ≡ set ys done row.y
     → AreQuietOutputs q start ys done limit → AreQuietOutputs q start zs (done + 1) limit
 next_quiet_outputs {q} {start} {r} {new} {ys} {zs} {row} {done} {limit} l s g e o = record {
   room = ap length e ∙ length-set ys done row.y ∙ o.room;
   outputs = ap (take (done + 1)) e ∙ outputs_more ys s g (omega (arith, l, o.room)) o.outputs ∙ ap (outputs_over q start) (replicate_more done (pos 0));
 }
 
-registers_then : {q : FixedPoint} {start new : List ℤ} {done limit : ℕ} {sounding : Bool} → IsAway q start new done limit sounding → registers_after (equations_of q) start (zeros done) ≡ new
+registers_then : {q : QuantisedView} {start new : List ℤ} {done limit : ℕ} {sounding : Bool} → IsAway q start new done limit sounding → registers_after (equations_of q) start (zeros done) ≡ new
 registers_then {q} {start} {new} {done} a =
     ap (registers_after (equations_of q) start) (sym (append-nil (zeros done))) ∙ a.goes.left [] ∙ start_registers q.realisation (order q) new a.many
 
-pub still_away : {q : FixedPoint} {start new : List ℤ} {done : ℕ} {sounding : Bool} → (new ≡ start → ⊥) → IsAway q start new done done sounding → IsAway q start new done (done + 1) sounding
+pub still_away : {q : QuantisedView} {start new : List ℤ} {done : ℕ} {sounding : Bool} → (new ≡ start → ⊥) → IsAway q start new done done sounding → IsAway q start new done (done + 1) sounding
 still_away {q} {start} {new} {done} other a = record {
   many = a.many;
   goes = a.goes;
@@ -214,12 +214,12 @@ still_away {q} {start} {new} {done} other a = record {
         other (sym (registers_then a) ∙ ap (λ n. registers_after (equations_of q) start (zeros n)) (sym is) ∙ back.back)
 
 -- the start is back
-pub record IsBack (q : FixedPoint) (start : List ℤ) (period : ℕ) (sounding : Bool) : Type 0 where
+pub record IsBack (q : QuantisedView) (start : List ℤ) (period : ℕ) (sounding : Bool) : Type 0 where
   pub least : IsLeastPeriod Past (equations_of q) start period
   pub loud : sounding ≡ true → IsSounding Past (equations_of q) start period
   pub lasting : (n : ℕ) → IsSounding Past (equations_of q) start n → sounding ≡ true
 
-pub back_now : {q : FixedPoint} {start new : List ℤ} {period : ℕ} {sounding : Bool} → 1 ≤ period → new ≡ start → IsAway q start new period period sounding → IsBack q start period sounding
+pub back_now : {q : QuantisedView} {start new : List ℤ} {period : ℕ} {sounding : Bool} → 1 ≤ period → new ≡ start → IsAway q start new period period sounding → IsBack q start period sounding
 back_now {q} {start} {new} {period} {sounding} some e a =
     let m : System Past = equations_of q in
     record {

@@ -4,7 +4,7 @@ use Rattle.std.proofs.Math.IntN.{ℤ, pos}
 use Rattle.std.proofs.lemmas.List.{drop_more, get_or-take, take-take, take_all, take_at, drop_at, take-append-drop, length-take-le, length-drop, length_push, map_push}
 use Rattle.dsv_names.specs.declared.realisation.Realisation.{Realisation}
 use Rattle.dsv_names.specs.declared.realisation.Realisation.TheVariants.{Dfi, Dfii, Tdfii, Ddfi, Ddfii, Tddfii}
-use Rattle.dsv_quantiser.specs.FixedPoint.{FixedPoint}
+use Rattle.dsv_quantiser.specs.QuantisedView.{QuantisedView}
 use Rattle.dsv_system.specs.declared.rows.Row.{Row}
 use Rattle.dsv_meaning.specs.Lines.{Summand, Times, Alone, Sum, summands, line}
 use Rattle.dsv_system.specs.Runs.{Sampled, SampleRow, row_at, rows_from, past_after}
@@ -31,13 +31,13 @@ prefix_same zero w us vs e = refl
 prefix_same (suc n) w us vs e =
     ap (λ l. w ∷ l) (sym (take-take n (suc n) us (omega arith)) ∙ ap (take n) e ∙ take-take n (suc n) vs (omega arith))
 
-same_forward : (q : FixedPoint) (w : ℤ) (us vs : List ℤ) → length q.b ≡ order q + 1 → take (order q) us ≡ take (order q) vs
+same_forward : (q : QuantisedView) (w : ℤ) (us vs : List ℤ) → length q.b ≡ order q + 1 → take (order q) us ≡ take (order q) vs
     → forward_summands q (ago (w ∷ us)) ≡ forward_summands q (ago (w ∷ vs))
 same_forward q w us vs h e =
     let one_more : length q.b ≡ suc (order q) = h ∙ add-one (order q) in
     same_summands false q.b (w ∷ us) (w ∷ vs) (ap (λ n. take n (w ∷ us)) one_more ∙ ap (λ l. w ∷ l) e ∙ ap (λ n. take n (w ∷ vs)) (sym one_more))
 
-same_feedback : (q : FixedPoint) (us vs : List ℤ) → take (order q) us ≡ take (order q) vs → feedback_summands q (ago us) 0 ≡ feedback_summands q (ago vs) 0
+same_feedback : (q : QuantisedView) (us vs : List ℤ) → take (order q) us ≡ take (order q) vs → feedback_summands q (ago us) 0 ≡ feedback_summands q (ago vs) 0
 same_feedback q us vs e =
     let n = length-drop 1 q.a in
     same_summands true (feedback q) us vs (ap (λ m. take m us) n ∙ e ∙ ap (λ m. take m vs) (sym n))
@@ -59,7 +59,7 @@ pub record AlikeSamples (n : ℕ) (s t : Sampled Past) : Type 0 where
 abbrev chains : List ℤ → List ℤ → Past
 chains u v = record { signal = []; outputs = []; chain = u ∷ []; output_chain = v ∷ [] }
 
-alike_samples : (k : Realisation) (q : FixedPoint) (p s : Past) (x : ℤ) → length q.b ≡ order q + 1 → Alike (order q) p s → AlikeSamples (order q) (sample_as k q p x) (sample_as k q s x)
+alike_samples : (k : Realisation) (q : QuantisedView) (p s : Past) (x : ℤ) → length q.b ≡ order q + 1 → Alike (order q) p s → AlikeSamples (order q) (sample_as k q p x) (sample_as k q s x)
 alike_samples Dfi q p s x m h =
     let n = order q in
     let of : List (Summand ℤ) → List (Summand ℤ) → Sum = λ (ts us : List (Summand ℤ)). line q.format [] (ts ++ us) in
@@ -126,7 +126,7 @@ alike_samples Tddfii q p s x m h = record {
   past = record { signal = h.signal; outputs = h.outputs; chain = ap (λ u. latest (sample_as Tddfii q (chains u []) x).past.chain) h.chain; output_chain = h.output_chain };
 }
 
-alike_rows : (k : Realisation) (q : FixedPoint) (p s : Past) (xs : List ℤ) → length q.b ≡ order q + 1 → Alike (order q) p s → rows_from (sample_as k q) p xs ≡ rows_from (sample_as k q) s xs
+alike_rows : (k : Realisation) (q : QuantisedView) (p s : Past) (xs : List ℤ) → length q.b ≡ order q + 1 → Alike (order q) p s → rows_from (sample_as k q) p xs ≡ rows_from (sample_as k q) s xs
 alike_rows k q p s [] m h = refl
 alike_rows k q p s (x ∷ xs) m h =
     let a = alike_samples k q p s x m h in
@@ -144,13 +144,13 @@ registers_alike Ddfi n p s h = ap (λ l. l ++ latest p.output_chain) h.chain ∙
 registers_alike Ddfii n p s h = h.chain
 registers_alike Tddfii n p s h = h.chain
 
-alike_registers : (k : Realisation) (q : FixedPoint) (p s : Past) (xs : List ℤ) → length q.b ≡ order q + 1 → Alike (order q) p s
+alike_registers : (k : Realisation) (q : QuantisedView) (p s : Past) (xs : List ℤ) → length q.b ≡ order q + 1 → Alike (order q) p s
     → registers_as k (order q) (past_after (sample_as k q) p xs) ≡ registers_as k (order q) (past_after (sample_as k q) s xs)
 alike_registers k q p s [] m h = registers_alike k (order q) p s h
 alike_registers k q p s (x ∷ xs) m h = alike_registers k q (sample_as k q p x).past (sample_as k q s x).past xs m (alike_samples k q p s x m h).past
 
 -- ---- a past begun anew from its registers
-delta_chain-length : (q : FixedPoint) (before : ℤ) (ws : List ℤ) (c : Chain) → length (delta_chain q before ws c).words ≡ length c.words + length ws
+delta_chain-length : (q : QuantisedView) (before : ℤ) (ws : List ℤ) (c : Chain) → length (delta_chain q before ws c).words ≡ length c.words + length ws
 delta_chain-length q before [] c = omega arith
 delta_chain-length q before (w ∷ ws) c =
     let s = line q.format c.exact (delta_line q w before) in
@@ -167,7 +167,7 @@ two_lines n us vs h =
       output_chain = refl;
     }
 
-begun_anew : (k : Realisation) (q : FixedPoint) (r : List ℤ) (x : ℤ) → length r ≡ registers_of k (order q)
+begun_anew : (k : Realisation) (q : QuantisedView) (r : List ℤ) (x : ℤ) → length r ≡ registers_of k (order q)
     → Alike (order q) (sample_as k q (start_as k (order q) r) x).past (start_as k (order q) (registers_as k (order q) (sample_as k q (start_as k (order q) r) x).past))
 begun_anew Dfi q r x h =
     let p = (sample_as Dfi q (start_as Dfi (order q) r) x).past in
@@ -202,7 +202,7 @@ start_registers Ddfii n start l = refl
 start_registers Tddfii n start l = refl
 
 -- the registers at the end of a run, one sample more
-pub next_registers : (k : Realisation) (q : FixedPoint) (r new : List ℤ) (x : ℤ) (xs : List ℤ) → length q.b ≡ order q + 1 → length r ≡ registers_of k (order q) → new ≡ (step_as k q r x).past
+pub next_registers : (k : Realisation) (q : QuantisedView) (r new : List ℤ) (x : ℤ) (xs : List ℤ) → length q.b ≡ order q + 1 → length r ≡ registers_of k (order q) → new ≡ (step_as k q r x).past
     → registers_as k (order q) (past_after (sample_as k q) (start_as k (order q) r) (x ∷ xs)) ≡ registers_as k (order q) (past_after (sample_as k q) (start_as k (order q) new) xs)
 unfolding step_as
 next_registers k q r new x xs m h g =
@@ -211,7 +211,7 @@ next_registers k q r new x xs m h g =
     ∙ ap (λ l. registers_as k (order q) (past_after (sample_as k q) (start_as k (order q) l) xs)) (sym g)
 
 -- the rows over registers, one sample more
-pub next_rows : (k : Realisation) (q : FixedPoint) (r new : List ℤ) (x : ℤ) (xs : List ℤ) (row : SampleRow) → length q.b ≡ order q + 1 → length r ≡ registers_of k (order q)
+pub next_rows : (k : Realisation) (q : QuantisedView) (r new : List ℤ) (x : ℤ) (xs : List ℤ) (row : SampleRow) → length q.b ≡ order q + 1 → length r ≡ registers_of k (order q)
     → row ≡ row_at (step_as k q r x) x → new ≡ (step_as k q r x).past
     → row ∷ rows_from (sample_as k q) (start_as k (order q) new) xs ≡ rows_from (sample_as k q) (start_as k (order q) r) (x ∷ xs)
 unfolding step_as
@@ -222,7 +222,7 @@ next_rows k q r new x xs row m h e g =
     (ap (λ l. rows_from (sample_as k q) (start_as k (order q) l) xs) g
     ∙ sym (alike_rows k q t.past (start_as k (order q) (registers_as k (order q) t.past)) xs m (begun_anew k q r x h)))
 
-pub run_more : (q : FixedPoint) (r new : List ℤ) (x : ℤ) (inputs : List ℤ) (i : ℕ) (shown longer : List Row) (row : Row) → length q.b ≡ order q + 1
+pub run_more : (q : QuantisedView) (r new : List ℤ) (x : ℤ) (inputs : List ℤ) (i : ℕ) (shown longer : List Row) (row : Row) → length q.b ≡ order q + 1
     → length r ≡ registers_of q.realisation (order q) → i < length inputs → x ≡ get_or inputs i (pos 0)
     → row_of row ≡ row_at (step_as q.realisation q r x) x → new ≡ (step_as q.realisation q r x).past → longer ≡ shown ++ row ∷ []
     → map row_of longer ++ rows_from (sample q) (start_as q.realisation (order q) new) (drop (i + 1) inputs)

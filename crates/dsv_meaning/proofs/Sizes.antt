@@ -9,7 +9,7 @@ use lib.Signed.{◌≤ℤ◌}
 use Rattle.dsv_word.specs.declared.format.Format.{Format}
 use Rattle.dsv_word.specs.Words.{width, hi, IsWord}
 use Rattle.dsv_word.proofs.Powers.{power_small}
-use Rattle.dsv_quantiser.specs.FixedPoint.{FixedPoint, IsFixedPoint}
+use Rattle.dsv_quantiser.specs.QuantisedView.{QuantisedView, IsQuantisedView}
 use Rattle.dsv_names.specs.Realisations.{is_delta}
 
 sized : (c : ℤ) (h : ℕ) → h ≤ 2 ^ 32 → neg_ℤ (pos h) ≤ℤ c → c ≤ℤ (pos h -ℤ pos 1) → unsigned_abs c ≤ 2 ^ 32
@@ -28,5 +28,5 @@ word_by : (f : Format) (d : ℤ) (b : Bool) → MatchBool b ((pos 1 ≤ℤ d) ×
 word_by f d true h = let p = pow_pos (width f - 1) in let l : pos 1 ≤ℤ d = h.0 in record { low = omega (arith, ints); high = h.1 }
 word_by f d false h = let p = pow_pos (width f - 1) in let e : d ≡ pos 0 = h in record { low = omega (arith, ints); high = omega (arith, ints) }
 
-pub delta_is_word : (q : FixedPoint) (d : ℤ) → IsFixedPoint q → d ≡ q.delta → IsWord q.format d
+pub delta_is_word : (q : QuantisedView) (d : ℤ) → IsQuantisedView q → d ≡ q.delta → IsWord q.format d
 delta_is_word q d h e = rw e (word_by q.format q.delta (is_delta q.realisation) h.delta)

@@ -4,7 +4,7 @@ use Rattle.std.proofs.Math.IntN.{ℤ}
 use Rattle.std.proofs.lemmas.List.{append-nil}
 use Rattle.dsv_word.specs.declared.format.Format.{Format}
 use Rattle.dsv_names.specs.declared.realisation.Realisation.TheVariants.{Dfi, Dfii, Tdfii, Ddfi, Ddfii, Tddfii}
-use Rattle.dsv_quantiser.specs.FixedPoint.{FixedPoint}
+use Rattle.dsv_quantiser.specs.QuantisedView.{QuantisedView}
 use Rattle.dsv_meaning.specs.Lines.{Summand, Alone, Sum, summands, next_summand, next_summands, line}
 use Rattle.dsv_meaning.specs.Equations.{order, feedback, ago, Chain, chain_with, no_words, forward_summands, feedback_summands, transposed_output, delta_line, delta_chain, transposed_chain, transposed_delta_chain}
 use Rattle.dsv_system.specs.Runs.{Sampled}
@@ -27,7 +27,7 @@ output_and f old (t ∷ ts) us h = more (line f old (t ∷ [])) ts
     more s [] = refl
     more s (v ∷ vs) = more (next_summand f s v) vs
 
-some_forward : (q : FixedPoint) (w : ℕ → ℤ) → 1 ≤ length q.b → 1 ≤ length (forward_summands q w)
+some_forward : (q : QuantisedView) (w : ℕ → ℤ) → 1 ≤ length q.b → 1 ≤ length (forward_summands q w)
 some_forward q w h = some q.b h
   where
     some : (cs : List ℤ) → 1 ≤ length cs → 1 ≤ length (summands false cs w 0)
@@ -35,13 +35,13 @@ some_forward q w h = some q.b h
     some (c ∷ cs) h = omega arith
 
 -- a line of products taken away after one of products added
-pub direct_line : (q : FixedPoint) (old u v : List ℤ) (x : ℤ) (s t : Sum) → 1 ≤ length q.b → s ≡ line q.format old (forward_summands q (ago (x ∷ u)))
+pub direct_line : (q : QuantisedView) (old u v : List ℤ) (x : ℤ) (s t : Sum) → 1 ≤ length q.b → s ≡ line q.format old (forward_summands q (ago (x ∷ u)))
     → t ≡ line q.format s.exact (Alone s.value ∷ feedback_summands q (ago v) 0) → t ≡ line q.format old (forward_summands q (ago (x ∷ u)) ++ feedback_summands q (ago v) 0)
 direct_line q old u v x s t h e g =
     g ∙ ap (λ r. next_summands q.format r (feedback_summands q (ago v) 0)) e
     ∙ output_and q.format old (forward_summands q (ago (x ∷ u))) (feedback_summands q (ago v) 0) (some_forward q (ago (x ∷ u)) h)
 
-pub dfi_sample : (q : FixedPoint) (r u v first new : List ℤ) (x : ℤ) (y : Sum) → u ≡ take (order q) r → v ≡ drop (order q) r → length u ≡ order q → length v ≡ order q
+pub dfi_sample : (q : QuantisedView) (r u v first new : List ℤ) (x : ℤ) (y : Sum) → u ≡ take (order q) r → v ≡ drop (order q) r → length u ≡ order q → length v ≡ order q
     → y ≡ line q.format [] (forward_summands q (ago (x ∷ u)) ++ feedback_summands q (ago v) 0) → first ≡ delay_line [] x u → new ≡ delay_line first y.value v
     → record { y = y.value; exact = y.exact; past = new } ≡ step_as Dfi q r x
 unfolding step_as
@@ -55,7 +55,7 @@ dfi_sample q r u v first new x y a b m n e g h =
     ap (λ w. record { y = y.value; exact = y.exact; past = w }) registers
     ∙ ap (λ (t : Sum). record { y = t.value; exact = t.exact; past = take (order q) (x ∷ take (order q) r) ++ take (order q) (t.value ∷ drop (order q) r) }) same
 
-pub dfii_sample : (q : FixedPoint) (r new : List ℤ) (x : ℤ) (w y : Sum) → length r ≡ order q → w ≡ line q.format [] (Alone x ∷ feedback_summands q (ago r) 0)
+pub dfii_sample : (q : QuantisedView) (r new : List ℤ) (x : ℤ) (w y : Sum) → length r ≡ order q → w ≡ line q.format [] (Alone x ∷ feedback_summands q (ago r) 0)
     → y ≡ line q.format w.exact (forward_summands q (ago (w.value ∷ r))) → new ≡ delay_line [] w.value r
     → record { y = y.value; exact = y.exact; past = new } ≡ step_as Dfii q r x
 unfolding step_as
@@ -65,7 +65,7 @@ dfii_sample q r new x w y m e g h =
     ∙ ap (λ (t : Sum). let z = line q.format t.exact (forward_summands q (ago (t.value ∷ r))) in
     record { y = z.value; exact = z.exact; past = take (order q) (t.value ∷ r) }) e
 
-pub tdfii_sample : (q : FixedPoint) (r : List ℤ) (x : ℤ) (y : Sum) (c : Chain) → y ≡ line q.format [] (transposed_output q x r)
+pub tdfii_sample : (q : QuantisedView) (r : List ℤ) (x : ℤ) (y : Sum) (c : Chain) → y ≡ line q.format [] (transposed_output q x r)
     → c ≡ transposed_chain q x y.value (drop 1 q.b) (feedback q) r (no_words y.exact)
     → record { y = y.value; exact = c.exact; past = c.words } ≡ step_as Tdfii q r x
 unfolding step_as
@@ -78,13 +78,13 @@ tdfii_sample q r x y c e g =
 abbrev chain_after : List ℤ → Chain → Chain
 chain_after front c = record { words = front ++ c.words; exact = c.exact }
 
-delta_chain_after : (q : FixedPoint) (before : ℤ) (ws front : List ℤ) (c : Chain) → delta_chain q before ws (chain_after front c) ≡ chain_after front (delta_chain q before ws c)
+delta_chain_after : (q : QuantisedView) (before : ℤ) (ws front : List ℤ) (c : Chain) → delta_chain q before ws (chain_after front c) ≡ chain_after front (delta_chain q before ws c)
 delta_chain_after q before [] front c = refl
 delta_chain_after q before (w ∷ ws) front c =
     let s = line q.format c.exact (delta_line q w before) in
     ap (λ v. delta_chain q w ws (record { words = v; exact = s.exact })) (append_assoc front c.words (s.value ∷ [])) ∙ delta_chain_after q w ws front (chain_with c s)
 
-pub ddfi_sample : (q : FixedPoint) (r u v : List ℤ) (x : ℤ) (y : Sum) (c d : Chain) → u ≡ take (order q) r → v ≡ drop (order q) r
+pub ddfi_sample : (q : QuantisedView) (r u v : List ℤ) (x : ℤ) (y : Sum) (c d : Chain) → u ≡ take (order q) r → v ≡ drop (order q) r
     → y ≡ line q.format [] (forward_summands q (ago (x ∷ u)) ++ feedback_summands q (ago v) 0) → c ≡ delta_chain q x u (no_words y.exact) → d ≡ delta_chain q y.value v c
     → record { y = y.value; exact = d.exact; past = d.words } ≡ step_as Ddfi q r x
 unfolding step_as
@@ -102,7 +102,7 @@ ddfi_sample q r u v x y c d a b e g h =
     record { y = z.value; exact = k.exact; past = j.words ++ k.words }) e
     ∙ ap (λ s. with_both s v) a ∙ ap (with_both (take (order q) r)) b
 
-pub ddfii_sample : (q : FixedPoint) (r : List ℤ) (x : ℤ) (w y : Sum) (c : Chain) → w ≡ line q.format [] (Alone x ∷ feedback_summands q (ago r) 0)
+pub ddfii_sample : (q : QuantisedView) (r : List ℤ) (x : ℤ) (w y : Sum) (c : Chain) → w ≡ line q.format [] (Alone x ∷ feedback_summands q (ago r) 0)
     → y ≡ line q.format w.exact (forward_summands q (ago (w.value ∷ r))) → c ≡ delta_chain q w.value r (no_words y.exact)
     → record { y = y.value; exact = c.exact; past = c.words } ≡ step_as Ddfii q r x
 unfolding step_as
@@ -112,7 +112,7 @@ ddfii_sample q r x w y c e g h =
     ∙ ap (λ (t : Sum). let z = line q.format t.exact (forward_summands q (ago (t.value ∷ r))) in let d = delta_chain q t.value r (no_words z.exact) in
     record { y = z.value; exact = d.exact; past = d.words }) e
 
-pub tddfii_sample : (q : FixedPoint) (r : List ℤ) (x : ℤ) (y : Sum) (c : Chain) → y ≡ line q.format [] (transposed_output q x r)
+pub tddfii_sample : (q : QuantisedView) (r : List ℤ) (x : ℤ) (y : Sum) (c : Chain) → y ≡ line q.format [] (transposed_output q x r)
     → c ≡ transposed_delta_chain q x y.value (drop 1 q.b) (feedback q) r (no_words y.exact)
     → record { y = y.value; exact = c.exact; past = c.words } ≡ step_as Tddfii q r x
 unfolding step_as

@@ -4,15 +4,15 @@ use Rattle.std.specs.Prelude.{◌++◌, length, take, drop, ℤ, pos, slice_inde
 use Rattle.dsv_names.specs.declared.realisation.Realisation.{Realisation}
 use Rattle.dsv_names.specs.declared.realisation.Realisation.TheVariants.{Dfi, Dfii, Tdfii}
 use Rattle.dsv_names.specs.declared.realisation.Realisation.TheVariants.{Ddfi, Ddfii, Tddfii}
-use Rattle.dsv_quantiser.specs.FixedPoint.{FixedPoint}
+use Rattle.dsv_quantiser.specs.QuantisedView.{QuantisedView}
 use Rattle.dsv_meaning.specs.Lines.{Summand, Times, Alone, Sum, summands, line}
 use Rattle.dsv_system.specs.Runs.{Sampled}
 
-abbrev pub order : FixedPoint → ℕ
+abbrev pub order : QuantisedView → ℕ
 order q = length q.a - 1
 
 -- the coefficients a_1 to a_N
-abbrev pub feedback : FixedPoint → List ℤ
+abbrev pub feedback : QuantisedView → List ℤ
 feedback q = drop 1 q.a
 
 -- the word of a signal i samples ago, where the newest stands first
@@ -34,11 +34,11 @@ latest chains = slice_index_or chains 0 []
 
 -- ---- the lines, over words or over the nodes that have them
 -- b_0 w(0) + b_1 w(1) + ..
-abbrev pub forward_summands : {A : Type 0} → FixedPoint → (ℕ → A) → List (Summand A)
+abbrev pub forward_summands : {A : Type 0} → QuantisedView → (ℕ → A) → List (Summand A)
 forward_summands q w = summands false q.b w 0
 
 -- - a_1 w(k) - a_2 w(k+1) - ..
-abbrev pub feedback_summands : {A : Type 0} → FixedPoint → (ℕ → A) → ℕ → List (Summand A)
+abbrev pub feedback_summands : {A : Type 0} → QuantisedView → (ℕ → A) → ℕ → List (Summand A)
 feedback_summands q w k = summands true (feedback q) w k
 
 -- the first word of a chain, alone
@@ -47,7 +47,7 @@ first_alone [] = []
 first_alone (s ∷ ss) = Alone s ∷ []
 
 -- b_0 x + s_1
-abbrev pub transposed_output : {A : Type 0} → FixedPoint → A → List A → List (Summand A)
+abbrev pub transposed_output : {A : Type 0} → QuantisedView → A → List A → List (Summand A)
 transposed_output q x s = summands false (take 1 q.b) (λ i. x) 0 ++ first_alone s
 
 -- b_i x - a_i y + old s_(i+1), where `s` begins with old s_(i+1)
@@ -55,7 +55,7 @@ abbrev pub transposed_line : {A : Type 0} → ℤ → ℤ → A → A → List A
 transposed_line b a x y s = Times false b x ∷ Times true a y ∷ first_alone s
 
 -- old w + delta v
-abbrev pub delta_line : {A : Type 0} → FixedPoint → A → A → List (Summand A)
+abbrev pub delta_line : {A : Type 0} → QuantisedView → A → A → List (Summand A)
 delta_line q w v = Alone w ∷ Times false q.delta v ∷ []
 
 -- ---- chains
@@ -71,13 +71,13 @@ abbrev pub chain_with : Chain → Sum → Chain
 chain_with c s = record { words = c.words ++ s.value ∷ []; exact = s.exact }
 
 -- new w_j = old w_j + delta old w_(j-1), where `before` is old w_(j-1)
-abbrev pub delta_chain : FixedPoint → ℤ → List ℤ → Chain → Chain
+abbrev pub delta_chain : QuantisedView → ℤ → List ℤ → Chain → Chain
 delta_chain q before [] c = c
 delta_chain q before (w ∷ ws) c =
     delta_chain q w ws (chain_with c (line q.format c.exact (delta_line q w before)))
 
 -- new s_i = b_i x - a_i y + old s_(i+1), where `s` is old s_i and those after it
-abbrev pub transposed_chain : FixedPoint → ℤ → ℤ → List ℤ → List ℤ → List ℤ → Chain
+abbrev pub transposed_chain : QuantisedView → ℤ → ℤ → List ℤ → List ℤ → List ℤ → Chain
     → Chain
 transposed_chain q x y (b ∷ bs) (a ∷ cs) s c =
     transposed_chain q x y bs cs (drop 1 s)
@@ -85,7 +85,7 @@ transposed_chain q x y (b ∷ bs) (a ∷ cs) s c =
 transposed_chain q x y _ _ s c = c
 
 -- new s_i = old s_i + delta (b_i x - a_i y + old s_(i+1))
-abbrev pub transposed_delta_chain : FixedPoint → ℤ → ℤ → List ℤ → List ℤ → List ℤ
+abbrev pub transposed_delta_chain : QuantisedView → ℤ → ℤ → List ℤ → List ℤ → List ℤ
     → Chain → Chain
 transposed_delta_chain q x y (b ∷ bs) (a ∷ cs) (s ∷ ss) c =
     let t = line q.format c.exact (transposed_line b a x y ss) in
@@ -94,7 +94,7 @@ transposed_delta_chain q x y (b ∷ bs) (a ∷ cs) (s ∷ ss) c =
 transposed_delta_chain q x y _ _ _ c = c
 
 -- ---- one sample
-abbrev pub sample_as : Realisation → FixedPoint → Past → ℤ → Sampled Past
+abbrev pub sample_as : Realisation → QuantisedView → Past → ℤ → Sampled Past
 -- y(n) = b_0 x(n) + .. + b_N x(n-N) - a_1 y(n-1) - .. - a_N y(n-N)
 sample_as Dfi q p x =
     let xs = x ∷ p.signal in
@@ -144,7 +144,7 @@ sample_as Tddfii q p x =
     let c = transposed_delta_chain q x y.value (drop 1 q.b) (feedback q) s (no_words y.exact) in
     record { y = y.value; exact = c.exact; past = record p { chain = c.words ∷ p.chain } }
 
-abbrev pub sample : FixedPoint → Past → ℤ → Sampled Past
+abbrev pub sample : QuantisedView → Past → ℤ → Sampled Past
 sample q p x = sample_as q.realisation q p x
 
 -- ---- registers

@@ -4,3 +4,4 @@ pub mod ReplayParts
 pub mod Replays
 pub mod Stepping
 pub mod Systems
+pub mod Traces

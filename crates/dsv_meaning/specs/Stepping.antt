@@ -2,13 +2,13 @@
 -- past.
 use Rattle.std.specs.Prelude.{List, [], ◌∷◌, ◌++◌, ℤ}
 use Rattle.dsv_names.specs.declared.realisation.Realisation.{Realisation}
-use Rattle.dsv_quantiser.specs.FixedPoint.{FixedPoint}
+use Rattle.dsv_quantiser.specs.QuantisedView.{QuantisedView}
 use Rattle.dsv_system.specs.Runs.{Sampled}
 use Rattle.dsv_meaning.specs.Equations.{order, sample_as, start_as, registers_as}
 
 -- one sample of the realisation from these words in the registers, whose past is the registers
 -- after it
-unfoldable pub step_as : Realisation → FixedPoint → List ℤ → ℤ → Sampled (List ℤ)
+unfoldable pub step_as : Realisation → QuantisedView → List ℤ → ℤ → Sampled (List ℤ)
 step_as k q r x =
     let s = sample_as k q (start_as k (order q) r) x in
     record { y = s.y; exact = s.exact; past = registers_as k (order q) s.past }

@@ -52,29 +52,29 @@ pub(crate) fn rest_after(words: &[i64], count: usize) -> &[i64]
 }
 
 /// The coefficients a_1, a_2, .. of the controller.
-pub(crate) fn feedback(q: &Quantised) -> &[i64]
-    ensures same { result.now ≡ feedback q.now }
-    ensures many { length result.now ≡ order q.now }
-    ensures words { All (IsWord q.now.format) result.now }
+pub(crate) fn feedback(quantised: &Quantised) -> &[i64]
+    ensures same { result.now ≡ feedback quantised.now }
+    ensures many { length result.now ≡ order quantised.now }
+    ensures words { All (IsWord quantised.now.format) result.now }
 {
-    rest_after(q.a(), 1)
+    rest_after(quantised.a(), 1)
 }
 
 /// The coefficients b_1, b_2, .. of the controller.
-pub(crate) fn feed_forward(q: &Quantised) -> &[i64]
-    ensures same { result.now ≡ drop 1 q.now.b }
-    ensures many { length result.now ≡ order q.now }
-    ensures words { All (IsWord q.now.format) result.now }
+pub(crate) fn feed_forward(quantised: &Quantised) -> &[i64]
+    ensures same { result.now ≡ drop 1 quantised.now.b }
+    ensures many { length result.now ≡ order quantised.now }
+    ensures words { All (IsWord quantised.now.format) result.now }
 {
-    rest_after(q.b(), 1)
+    rest_after(quantised.b(), 1)
 }
 
 /// Delta's word.
-fn delta_word(q: &Quantised) -> i64
-    ensures same { result ≡ q.now.delta }
-    ensures word { IsWord q.now.format result }
+fn delta_word(quantised: &Quantised) -> i64
+    ensures same { result ≡ quantised.now.delta }
+    ensures word { IsWord quantised.now.format result }
 {
-    q.delta()
+    quantised.delta()
 }
 
 /// Adds the new words of a delay line: the newest word, and the old ones but for the oldest.
@@ -93,7 +93,7 @@ pub(crate) fn delay(newest: &i64, old: &[i64], registers: &mut Registers)
 /// Adds the new words of a chain of the delta forms: to each old word delta times the old one
 /// before it.
 pub(crate) fn delta_chain(
-    q: &Quantised,
+    quantised: &Quantised,
     newest: &i64,
     old: &[i64],
     exact: &mut ExactList,
@@ -102,13 +102,13 @@ pub(crate) fn delta_chain(
     requires room { length exact.old.items + 2 * length old.now ≤ MOST_EXACT }
     requires many { length registers.old.items + length old.now ≤ MOST_REGISTERS }
     ensures value { record { words = registers.new.items; exact = exact.new.items } ≡
-        delta_chain q.now newest.now old.now
+        delta_chain quantised.now newest.now old.now
         (record { words = registers.old.items; exact = exact.old.items }) }
     ensures count { length registers.new.items ≡ length registers.old.items + length old.now }
     ensures room { length exact.new.items ≡ length exact.old.items + 2 * length old.now }
 {
-    let format = q.format();
-    let delta = delta_word(q);
+    let format = quantised.format();
+    let delta = delta_word(quantised);
     let mut before = newest;
     for word in old {
         let multiple = Multiple {
@@ -150,24 +150,26 @@ fn transposed_line(
 
 /// Adds the new words of the transposed form's chain.
 pub(crate) fn transposed_chain(
-    q: &Quantised,
+    quantised: &Quantised,
     signals: Signals,
     old: &[i64],
     exact: &mut ExactList,
     registers: &mut Registers,
 )
-    requires old { length old.now ≡ order q.now }
-    requires room { length exact.old.items + 4 * order q.now ≤ MOST_EXACT }
-    requires many { length registers.old.items + order q.now ≤ MOST_REGISTERS }
+    requires old { length old.now ≡ order quantised.now }
+    requires room { length exact.old.items + 4 * order quantised.now ≤ MOST_EXACT }
+    requires many { length registers.old.items + order quantised.now ≤ MOST_REGISTERS }
     ensures value { record { words = registers.new.items; exact = exact.new.items } ≡
-        transposed_chain q.now signals.entry.x.now signals.entry.y.now (drop 1 q.now.b)
-        (feedback q.now) old.now (record { words = registers.old.items; exact = exact.old.items }) }
-    ensures count { length registers.new.items ≡ length registers.old.items + order q.now }
-    ensures room { length exact.new.items ≤ length exact.old.items + 4 * order q.now }
+        transposed_chain quantised.now signals.entry.x.now signals.entry.y.now
+        (drop 1 quantised.now.b)
+        (feedback quantised.now) old.now
+        (record { words = registers.old.items; exact = exact.old.items }) }
+    ensures count { length registers.new.items ≡ length registers.old.items + order quantised.now }
+    ensures room { length exact.new.items ≤ length exact.old.items + 4 * order quantised.now }
 {
-    let format = q.format();
-    let a = feedback(q);
-    let b = feed_forward(q);
+    let format = quantised.format();
+    let a = feedback(quantised);
+    let b = feed_forward(quantised);
     for (i, b) in b.iter().enumerate() {
         let taps = Taps { b, a: &a[i] };
         let next = transposed_line(&format, taps, signals, rest_after(old, i + 1), exact);
@@ -177,25 +179,27 @@ pub(crate) fn transposed_chain(
 
 /// Adds the new words of the transposed delta form's chain.
 pub(crate) fn transposed_delta_chain(
-    q: &Quantised,
+    quantised: &Quantised,
     signals: Signals,
     old: &[i64],
     exact: &mut ExactList,
     registers: &mut Registers,
 )
-    requires old { length old.now ≡ order q.now }
-    requires room { length exact.old.items + 6 * order q.now ≤ MOST_EXACT }
-    requires many { length registers.old.items + order q.now ≤ MOST_REGISTERS }
+    requires old { length old.now ≡ order quantised.now }
+    requires room { length exact.old.items + 6 * order quantised.now ≤ MOST_EXACT }
+    requires many { length registers.old.items + order quantised.now ≤ MOST_REGISTERS }
     ensures value { record { words = registers.new.items; exact = exact.new.items } ≡
-        transposed_delta_chain q.now signals.entry.x.now signals.entry.y.now (drop 1 q.now.b)
-        (feedback q.now) old.now (record { words = registers.old.items; exact = exact.old.items }) }
-    ensures count { length registers.new.items ≡ length registers.old.items + order q.now }
-    ensures room { length exact.new.items ≤ length exact.old.items + 6 * order q.now }
+        transposed_delta_chain quantised.now signals.entry.x.now signals.entry.y.now
+        (drop 1 quantised.now.b)
+        (feedback quantised.now) old.now
+        (record { words = registers.old.items; exact = exact.old.items }) }
+    ensures count { length registers.new.items ≡ length registers.old.items + order quantised.now }
+    ensures room { length exact.new.items ≤ length exact.old.items + 6 * order quantised.now }
 {
-    let format = q.format();
-    let delta = delta_word(q);
-    let a = feedback(q);
-    let b = feed_forward(q);
+    let format = quantised.format();
+    let delta = delta_word(quantised);
+    let a = feedback(quantised);
+    let b = feed_forward(quantised);
     for (i, b) in b.iter().enumerate() {
         let taps = Taps { b, a: &a[i] };
         let change = transposed_line(&format, taps, signals, rest_after(old, i + 1), exact);

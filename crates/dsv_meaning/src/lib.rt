@@ -1,13 +1,15 @@
-//! What a controller in words computes: the written equations of its realisations.
+//! What a quantised controller computes: the written equations of its realisations.
 #![tactic(auto)]
 
 mod chains;
 mod counts;
 mod operations;
+mod replayed_traces;
 mod replays;
 mod simulation;
 mod steps;
 
 pub use counts::{MOST_ORDER, forward_registers, products, registers, sums};
+pub use replayed_traces::replayed_trace;
 pub use replays::{Cycle, CycleReplay, OverflowReplay, Trace, replay_cycle, replay_overflow};
 pub use simulation::simulate;

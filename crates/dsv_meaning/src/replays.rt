@@ -75,11 +75,11 @@ fn is_heard(sounding: bool, row: &Row) -> bool
 }
 
 /// The registers with a zero in each.
-fn zero_registers(q: &Quantised) -> Registers
-    ensures zeros { result.items ≡ zeros (equations_of q.now).many }
-    ensures numerator { length q.now.b ≡ order q.now + 1 }
+fn zero_registers(quantised: &Quantised) -> Registers
+    ensures zeros { result.items ≡ zeros (equations_of quantised.now).many }
+    ensures numerator { length quantised.now.b ≡ order quantised.now + 1 }
 {
-    let many = registers(q.realisation(), q.order() as u32);
+    let many = registers(quantised.realisation(), quantised.order() as u32);
     let mut loaded = Registers::new();
     'loading: for _ in 0..many {
         loaded.push(0);
@@ -89,22 +89,23 @@ fn zero_registers(q: &Quantised) -> Registers
 
 /// The first exact value that is no word, in the run of the written equations from registers of
 /// zeros over these inputs, whose outputs up to that sample are written. It takes no memory.
-pub fn replay_overflow(q: &Quantised, inputs: &[i64], outputs: &mut [i64]) -> OverflowReplay
-    requires words { All (IsWord q.now.format) inputs.now }
+pub fn replay_overflow(quantised: &Quantised, inputs: &[i64], outputs: &mut [i64]) -> OverflowReplay
+    requires words { All (IsWord quantised.now.format) inputs.now }
     requires few { length inputs.now < 2 ^ 32 }
     requires room { length outputs.old ≡ length inputs.now }
-    ensures first { IfBreaks result (IsFirstBreak q.now.format
-        (rows (equations_of q.now) (zeros (equations_of q.now).many) inputs.now)) }
-    ensures none { IfUnbroken result (All (IsInside q.now.format)
-        (rows (equations_of q.now) (zeros (equations_of q.now).many) inputs.now)) }
+    ensures first { IfBreaks result (IsFirstBreak quantised.now.format
+        (rows (equations_of quantised.now) (zeros (equations_of quantised.now).many) inputs.now)) }
+    ensures none { IfUnbroken result (All (IsInside quantised.now.format)
+        (rows (equations_of quantised.now) (zeros (equations_of quantised.now).many) inputs.now)) }
     ensures outputs { IfBreaks result (λ sample value exact. take (sample + 1) outputs.new
-        ≡ outputs_over q.now (zeros (equations_of q.now).many) (take (sample + 1) inputs.now)) }
+        ≡ outputs_over quantised.now (zeros (equations_of quantised.now).many)
+        (take (sample + 1) inputs.now)) }
     ensures room { length outputs.new ≡ length inputs.now }
 {
-    let format = q.format();
-    let mut registers = zero_registers(q);
+    let format = quantised.format();
+    let mut registers = zero_registers(quantised);
     for (i, x) in inputs.iter().enumerate() {
-        let row = next_row(q, x, &mut registers);
+        let row = next_row(quantised, x, &mut registers);
         outputs[i] = row.y;
         if let Some(found) = first_outside(&format, row.exact.as_slice()) {
             return OverflowReplay::Breaks {
@@ -120,28 +121,34 @@ pub fn replay_overflow(q: &Quantised, inputs: &[i64], outputs: &mut [i64]) -> Ov
 /// The least number of samples with input 0, up to a limit, after which the written equations have
 /// brought these words back into the registers, and whether an output on the way isn't 0; the
 /// outputs until then are written. It takes no memory.
-pub fn replay_cycle(q: &Quantised, start: &[i64], limit: u32, outputs: &mut [i64]) -> CycleReplay
-    requires many { length start.now ≡ registers_of q.now.realisation (order q.now) }
-    requires words { All (IsWord q.now.format) start.now }
+pub fn replay_cycle(
+    quantised: &Quantised,
+    start: &[i64],
+    limit: u32,
+    outputs: &mut [i64],
+) -> CycleReplay
+    requires many { length start.now
+        ≡ registers_of quantised.now.realisation (order quantised.now) }
+    requires words { All (IsWord quantised.now.format) start.now }
     requires room { length outputs.old ≡ limit }
     ensures least { IfReturns result (λ period sounding.
-        IsLeastPeriod Past (equations_of q.now) start.now period) }
+        IsLeastPeriod Past (equations_of quantised.now) start.now period) }
     ensures few { IfReturns result (λ period sounding. period ≤ limit) }
     ensures sounding { IfReturns result (λ period sounding. sounding ≡ true →
-        IsSounding Past (equations_of q.now) start.now period) }
+        IsSounding Past (equations_of quantised.now) start.now period) }
     // An output that isn't 0 at any later time is heard in the first period already.
     ensures lasting { IfReturns result (λ period sounding. (n : ℕ) →
-        IsSounding Past (equations_of q.now) start.now n → sounding ≡ true) }
+        IsSounding Past (equations_of quantised.now) start.now n → sounding ≡ true) }
     ensures gone { IfGone result ((p : ℕ) → p ≤ limit →
-        Returns Past (equations_of q.now) start.now p → ⊥) }
+        Returns Past (equations_of quantised.now) start.now p → ⊥) }
     ensures outputs { IfReturns result (λ period sounding. take period outputs.new
-        ≡ outputs_over q.now start.now (zeros period)) }
+        ≡ outputs_over quantised.now start.now (zeros period)) }
     ensures room { length outputs.new ≡ limit }
 {
-    let mut registers = loaded_registers(q, start);
+    let mut registers = loaded_registers(quantised, start);
     let mut sounding = false;
     for done in 0..limit {
-        let row = next_row(q, &0, &mut registers);
+        let row = next_row(quantised, &0, &mut registers);
         outputs[done as usize] = row.y;
         sounding = is_heard(sounding, &row);
         if registers.as_slice() == start {

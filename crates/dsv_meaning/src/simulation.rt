@@ -1,4 +1,4 @@
-// Runs of a controller in words over inputs.
+// Runs of a quantised controller over inputs.
 #![tactic(auto, using(dsv_algebra::proofs::Casts::casts))]
 
 ghost use Rattle.dsv_word.specs.Words.{IsWord};
@@ -19,12 +19,12 @@ use dsv_system::{ExactList, Row, Rows};
 use std::alloc::Global;
 
 /// The registers with these words.
-pub(crate) fn loaded_registers(q: &Quantised, start: &[i64]) -> Registers
-    requires { length start.now ≡ registers_of q.now.realisation (order q.now) }
+pub(crate) fn loaded_registers(quantised: &Quantised, start: &[i64]) -> Registers
+    requires { length start.now ≡ registers_of quantised.now.realisation (order quantised.now) }
     ensures words { result.items ≡ start.now }
-    ensures numerator { length q.now.b ≡ order q.now + 1 }
+    ensures numerator { length quantised.now.b ≡ order quantised.now + 1 }
 {
-    let _order = q.order();
+    let _order = quantised.order();
     let mut registers = Registers::new();
     for word in start {
         registers.push(*word);
@@ -33,16 +33,17 @@ pub(crate) fn loaded_registers(q: &Quantised, start: &[i64]) -> Registers
 }
 
 /// The row of one sample, after which the registers have their new words.
-pub(crate) fn next_row(q: &Quantised, x: &i64, registers: &mut Registers) -> Row
-    requires { length registers.old.items ≡ registers_of q.now.realisation (order q.now) }
+pub(crate) fn next_row(quantised: &Quantised, x: &i64, registers: &mut Registers) -> Row
+    requires { length registers.old.items
+        ≡ registers_of quantised.now.realisation (order quantised.now) }
     ensures row { row_of result
-        ≡ row_at (step_as q.now.realisation q.now registers.old.items x.now) x.now }
+        ≡ row_at (step_as quantised.now.realisation quantised.now registers.old.items x.now) x.now }
     ensures registers { registers.new.items
-        ≡ (step_as q.now.realisation q.now registers.old.items x.now).past }
+        ≡ (step_as quantised.now.realisation quantised.now registers.old.items x.now).past }
     ensures many { length registers.new.items ≡ length registers.old.items }
 {
     let mut exact = ExactList::new();
-    let y = step(q, x, registers, &mut exact);
+    let y = step(quantised, x, registers, &mut exact);
     Row { x: *x, y, exact }
 }
 
@@ -50,19 +51,21 @@ pub(crate) fn next_row(q: &Quantised, x: &i64, registers: &mut Registers) -> Row
 /// realisation's written equations give at its sample. Takes memory for the rows alone.
 pub fn simulate(
     alloc: Global,
-    q: &Quantised,
+    quantised: &Quantised,
     start: &[i64],
     inputs: &[i64],
 ) -> Result<Rows, NoMemory>
-    requires many { length start.now ≡ registers_of q.now.realisation (order q.now) }
-    requires start { All (IsWord q.now.format) start.now }
-    requires inputs { All (IsWord q.now.format) inputs.now }
-    ensures { IfOk result (λ found. found ≡ rows (equations_of q.now) start.now inputs.now) }
+    requires many { length start.now
+        ≡ registers_of quantised.now.realisation (order quantised.now) }
+    requires start { All (IsWord quantised.now.format) start.now }
+    requires inputs { All (IsWord quantised.now.format) inputs.now }
+    ensures { IfOk result (λ found. found
+        ≡ rows (equations_of quantised.now) start.now inputs.now) }
 {
-    let mut registers = loaded_registers(q, start);
+    let mut registers = loaded_registers(quantised, start);
     let mut rows = Vec::new(alloc);
     for x in inputs {
-        let row = next_row(q, x, &mut registers);
+        let row = next_row(quantised, x, &mut registers);
         rows.push(row)?;
     }
     Ok(Rows::from(rows))

@@ -7,11 +7,13 @@ mod conditions;
 mod law;
 mod netlist;
 mod node;
+mod responses;
 mod step;
 
 pub use law::values_are_bounded;
 pub use netlist::{Netlist, OpCounts};
 pub use node::Node;
+pub use responses::{PULSE, Responses, pulse_responses};
 
 /// The most nodes that a netlist has.
 pub const MOST_NODES: usize = 512;

@@ -1,7 +1,7 @@
 // Offers of forms, accepted and refused; the fall forms are worked out by hand.
 
 use dsv_forms::{
-    Falls, Form, FormRefusal, GREATEST_ORDER, KeptAway, Part, Poly, Squares, check_falls,
+    Falls, Form, FormRefusal, GREATEST_ORDER, KeptAway, OfferPart, Poly, Squares, check_falls,
     check_kept_away,
 };
 
@@ -161,10 +161,10 @@ fn the_form_and_the_multiple_are_tested_first(rt: HostRuntime) {
     let mut rest = of_order_two();
     rest.fall.rest[0][1] = 1;
     let rows = [
-        (first, Part::Form),
-        (skew, Part::Form),
-        (zero, Part::Positive),
-        (rest, Part::Fall),
+        (first, OfferPart::Form),
+        (skew, OfferPart::Form),
+        (zero, OfferPart::Positive),
+        (rest, OfferPart::Fall),
     ];
     for (offer, part) in &rows {
         assert!(rt; is_refused(&ORDER_TWO, offer, FormRefusal::Shape { part: *part }));
@@ -173,7 +173,7 @@ fn the_form_and_the_multiple_are_tested_first(rt: HostRuntime) {
 
 #[test]
 fn weights_and_rows_are_refused(rt: HostRuntime) {
-    let part = Part::Positive;
+    let part = OfferPart::Positive;
     let mut weight = of_order_two();
     weight.positive.weights[1] = 0;
     weight.positive.rows[0][0] = 0;
@@ -181,7 +181,7 @@ fn weights_and_rows_are_refused(rt: HostRuntime) {
     lower.positive.rows[1][0] = 1;
     let mut zero = of_order_two();
     zero.fall.rows[0][0] = 0;
-    let fall = Part::Fall;
+    let fall = OfferPart::Fall;
     let rows = [
         (weight, FormRefusal::Weight { part, i: 1 }),
         (lower, FormRefusal::Triangle { part, i: 1 }),
@@ -195,7 +195,7 @@ fn weights_and_rows_are_refused(rt: HostRuntime) {
 // A number of 2^125 is not wide, twice it is.
 #[test]
 fn sides_are_refused(rt: HostRuntime) {
-    let part = Part::Positive;
+    let part = OfferPart::Positive;
     let mut offer = of_order_two();
     offer.positive.rows[0][1] = 2;
     let identity = is_refused(
@@ -207,10 +207,10 @@ fn sides_are_refused(rt: HostRuntime) {
     offer.positive.rows[1][1] = 1 << 125;
     let wide = is_refused(&ORDER_TWO, &offer, FormRefusal::Wide { part, i: 1, j: 1 });
     let mut offer = on_the_diagonal(1, &[1 << 125], 3);
-    let part = Part::Fall;
+    let part = OfferPart::Fall;
     let wide_fall = is_refused(&[2, -1], &offer, FormRefusal::Wide { part, i: 0, j: 0 });
     offer.positive.rest[0][0] = -1;
-    let part = Part::Positive;
+    let part = OfferPart::Positive;
     let lesser_rest = is_refused(&[2, -1], &offer, FormRefusal::Identity { part, i: 0, j: 0 });
     assert!(rt; identity && wide && wide_fall && lesser_rest);
 }
@@ -221,7 +221,7 @@ fn a_rest_that_is_not_dominant_is_refused(rt: HostRuntime) {
     let mut offer = of_order_two();
     offer.positive.weights[1] = 26;
     offer.positive.rest[1][1] = -1;
-    let part = Part::Positive;
+    let part = OfferPart::Positive;
     assert!(rt; is_refused(&ORDER_TWO, &offer, FormRefusal::Dominance { part, i: 1 }));
 }
 
@@ -248,8 +248,8 @@ fn starts_and_weights_of_a_cycle_are_refused(rt: HostRuntime) {
     let mut wide = of_a_cycle();
     wide.form.rows = of_two(-2 << 64, 1 << 64, -2 << 64);
     wide.start[0] = 1 << 32;
-    let start = Part::Start;
-    let part = Part::Fall;
+    let start = OfferPart::Start;
+    let part = OfferPart::Fall;
     let mut long = of_a_cycle();
     long.fall.count = 3;
     let mut negative = long;
@@ -293,7 +293,7 @@ fn the_least_numbers_are_refused(rt: HostRuntime) {
         positive: least_squares(i128::MIN),
         fall: least_squares(i128::MIN),
     };
-    let part = Part::Positive;
+    let part = OfferPart::Positive;
     let shape = is_refused(&ORDER_TWO, &offer, FormRefusal::Shape { part });
     offer.positive.m = 1;
     let weight = is_refused(&ORDER_TWO, &offer, FormRefusal::Weight { part, i: 0 });
@@ -305,7 +305,7 @@ fn the_least_numbers_are_refused(rt: HostRuntime) {
         start: [i64::MIN; GREATEST_ORDER],
         fall: squares_of_rest(LEAST),
     };
-    let part = Part::Fall;
+    let part = OfferPart::Fall;
     let away = is_not_kept_away(&CYCLE, &offer, FormRefusal::Wide { part, i: 0, j: 0 });
     assert!(rt; shape && weight && wide && away);
 }

@@ -8,10 +8,10 @@ use Rattle.dsv_delta.specs.Deltas.{Lists, delta_lists}
 use Rattle.dsv_reader.specs.Controllers.{ControllerView}
 use Rattle.dsv_names.specs.declared.realisation.Realisation.{Realisation}
 use Rattle.dsv_quantiser.specs.declared.refusal.QuantRefusal.{QuantRefusal}
-use Rattle.dsv_quantiser.specs.FixedPoint.{FixedPoint}
+use Rattle.dsv_quantiser.specs.QuantisedView.{QuantisedView}
 use Rattle.dsv_quantiser.specs.Meaning.{IsWordOf, IsInWords, IsOfDelta}
 
-pub of_delta : (c : ControllerView) (f : Format) (k : Realisation) (delta : Ratio) (w : ℤ) (lists : Lists) (o : Result FixedPoint QuantRefusal) → c.delta ≡ Some delta → pos 0 <ℤ delta.num
+pub of_delta : (c : ControllerView) (f : Format) (k : Realisation) (delta : Ratio) (w : ℤ) (lists : Lists) (o : Result QuantisedView QuantRefusal) → c.delta ≡ Some delta → pos 0 <ℤ delta.num
     → IsWordOf f delta w → pos 1 ≤ℤ w → delta_lists c.b c.a delta ≡ Ok lists → IfOk o (IsInWords c f k lists.b lists.a w) → IfOk o (IsOfDelta c f k)
 of_delta c f k delta w lists (Ok q) exact positive word least converted is =
     let same : w ≡ q.delta = sym is.same_delta in

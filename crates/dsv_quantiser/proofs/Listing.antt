@@ -13,7 +13,7 @@ use Rattle.dsv_names.specs.declared.realisation.Realisation.{Realisation}
 use Rattle.dsv_names.specs.declared.list_name.ListName.{ListName}
 use Rattle.dsv_quantiser.specs.declared.refusal.QuantRefusal.{QuantRefusal}
 use Rattle.dsv_fraction.specs.Ratio.{most_coefficients}
-use Rattle.dsv_quantiser.specs.FixedPoint.{IsFixedPoint, IsDeltaWord, unit}
+use Rattle.dsv_quantiser.specs.QuantisedView.{IsQuantisedView, IsDeltaWord, unit}
 use Rattle.dsv_text.specs.Stages.{◌>>=◌}
 use Rattle.dsv_quantiser.specs.Quantising.{word_at, words_from}
 use Rattle.dsv_quantiser.specs.Meaning.{IsWordOf, IsRangeOf, IsInWords}
@@ -81,10 +81,10 @@ in_words_meant c f k b a num den d low high some is so range = record {
 }
 
 -- ---- what stays true
-pub is_fixed_point : (c : ControllerView) (f : Format) (k : Realisation) (b a : List Ratio) (num den : List ℤ) (d low high : ℤ) → length b ≡ length a → 1 ≤ length a → length a ≤ most_coefficients
+pub is_quantised : (c : ControllerView) (f : Format) (k : Realisation) (b a : List Ratio) (num den : List ℤ) (d low high : ℤ) → length b ≡ length a → 1 ≤ length a → length a ≤ most_coefficients
     → IsDeltaWord f k d → IsInWords c f k b a d (record { b = num; a = den; delta = d; xlo = low; xhi = high; format = f; realisation = k })
-    → IsFixedPoint (record { b = num; a = den; delta = d; xlo = low; xhi = high; format = f; realisation = k })
-is_fixed_point c f k b a num den d low high same some few delta is = record {
+    → IsQuantisedView (record { b = num; a = den; delta = d; xlo = low; xhi = high; format = f; realisation = k })
+is_quantised c f k b a num den d low high same some few delta is = record {
   one_length = omega (arith, is.b_places, is.a_places);
   some = omega (arith, is.a_places);
   few = omega (arith, is.a_places);

@@ -11,7 +11,7 @@ use Rattle.dsv_fraction.specs.Ratio.{Ratio}
 use Rattle.dsv_word.specs.declared.format.Format.{Format}
 use Rattle.dsv_word.specs.Quotients.{IsCeiling}
 use Rattle.dsv_word.specs.Words.{width, lo, hi}
-use Rattle.dsv_quantiser.specs.declared.range.Range.{Range}
+use Rattle.dsv_quantiser.specs.declared.range.InputRange.{InputRange}
 use Rattle.dsv_quantiser.specs.declared.refusal.QuantRefusal.{QuantRefusal}
 use Rattle.dsv_quantiser.specs.declared.refusal.QuantRefusal.TheVariants as refusal
 use Rattle.dsv_quantiser.specs.Quantising.{clamped_range}
@@ -70,7 +70,7 @@ over_ceiling v d h w is =
       λ p. let q : neg_ℤ w ≤ℤ neg_ℤ h = both.1 (omega (arith, ints)) in omega (arith, ints),
     )
 
-pub range_meant : (f : Format) (min max : Ratio) (low high : ℤ) (r : Range) → IsCeiling (min.num *ℤ pos (2 ^ f.frac_bits)) min.den low
+pub range_meant : (f : Format) (min max : Ratio) (low high : ℤ) (r : InputRange) → IsCeiling (min.num *ℤ pos (2 ^ f.frac_bits)) min.den low
     → IsFloor (max.num *ℤ pos (2 ^ f.frac_bits)) max.den high → IsClamped f low high r → IsRangeOf f min max r
 range_meant f min max low high r up down is = record {
   low = is.low_end;
@@ -82,7 +82,7 @@ range_meant f min max low high r up down is = record {
       (λ p. let q = (is.inputs w word).0 p in (lower.0 q.0, upper.0 q.1), λ p. (is.inputs w word).1 (lower.1 p.0, upper.1 p.1));
 }
 
-pub range_given : (f : Format) (min max : Ratio) (low high : ℤ) (o : Result Range QuantRefusal) → IfOk o (IsClamped f low high)
+pub range_given : (f : Format) (min max : Ratio) (low high : ℤ) (o : Result InputRange QuantRefusal) → IfOk o (IsClamped f low high)
     → IsCeiling (min.num *ℤ pos (2 ^ f.frac_bits)) min.den low → IsFloor (max.num *ℤ pos (2 ^ f.frac_bits)) max.den high → IfOk o (IsRangeOf f min max)
 range_given f min max low high (Ok r) is up down = range_meant f min max low high r up down is
 range_given f min max low high (Err e) is up down = is

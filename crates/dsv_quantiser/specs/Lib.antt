@@ -1,4 +1,4 @@
-pub mod FixedPoint
+pub mod QuantisedView
 pub mod Leading
 pub mod Meaning
 pub mod Modes

@@ -9,8 +9,8 @@ use Rattle.dsv_reader.specs.Controllers.{ControllerView}
 use Rattle.dsv_delta.specs.Deltas.{Lists, delta_lists}
 use Rattle.dsv_names.specs.Realisations.{is_delta}
 use Rattle.dsv_names.specs.declared.realisation.Realisation.{Realisation}
-use Rattle.dsv_quantiser.specs.declared.range.Range.{Range}
-use Rattle.dsv_quantiser.specs.FixedPoint.{FixedPoint, unit}
+use Rattle.dsv_quantiser.specs.declared.range.InputRange.{InputRange}
+use Rattle.dsv_quantiser.specs.QuantisedView.{QuantisedView, unit}
 
 -- w is a word of the format, and it is q 2^f made whole by the format's rounding
 pub record IsWordOf (format : Format) (q : Ratio) (w : ℤ) : Type 0 where
@@ -27,16 +27,16 @@ IsTo format q w = (w *ℤ pos q.den) ≤ℤ (q.num *ℤ pos (2 ^ format.frac_bit
 
 -- the range is not empty, and it has the words that stand for a number from min to max, and no
 -- others
-pub record IsRangeOf (format : Format) (min max : Ratio) (r : Range) : Type 0 where
+pub record IsRangeOf (format : Format) (min max : Ratio) (r : InputRange) : Type 0 where
   pub low : lo (width format) ≤ℤ r.lo
   pub order : r.lo ≤ℤ r.hi
   pub high : r.hi ≤ℤ hi (width format)
   pub inputs : (w : ℤ) → IsWord format w → (r.lo ≤ℤ w) × (w ≤ℤ r.hi)
       ↔ IsFrom format min w × IsTo format max w
 
--- the controller in words whose coefficients are made of b and a, with that word for delta
+-- the quantised controller whose coefficients are made of b and a, with that word for delta
 pub record IsInWords (c : ControllerView) (format : Format) (realisation : Realisation)
-    (b a : List Ratio) (delta : ℤ) (q : FixedPoint) : Type 0 where
+    (b a : List Ratio) (delta : ℤ) (q : QuantisedView) : Type 0 where
   pub same_format : q.format ≡ format
   pub same_realisation : q.realisation ≡ realisation
   pub same_delta : q.delta ≡ delta
@@ -52,7 +52,7 @@ pub record IsInWords (c : ControllerView) (format : Format) (realisation : Reali
 -- the coefficients are those in the delta operator with the exact delta, which is positive, and its
 -- word is too
 pub record IsOfDelta (c : ControllerView) (format : Format) (realisation : Realisation)
-    (q : FixedPoint) : Type 0 where
+    (q : QuantisedView) : Type 0 where
   pub delta : Ratio
   pub exact : c.delta ≡ Some delta
   pub positive : pos 0 <ℤ delta.num
@@ -62,8 +62,8 @@ pub record IsOfDelta (c : ControllerView) (format : Format) (realisation : Reali
   pub converted : delta_lists c.b c.a delta ≡ Ok lists
   pub words : IsInWords c format realisation lists.b lists.a q.delta q
 
--- the controller in words of the format, as the realisation computes it
-abbrev pub IsQuantised : ControllerView → Format → Realisation → FixedPoint → Type 0
+-- the quantised controller of the format, as the realisation computes it
+abbrev pub IsQuantised : ControllerView → Format → Realisation → QuantisedView → Type 0
 IsQuantised c format realisation q =
     MatchBool (is_delta realisation) (IsOfDelta c format realisation q)
     (IsInWords c format realisation c.b c.a (pos 0) q)

@@ -5,7 +5,7 @@ use Rattle.std.specs.Prelude.{ℤ, pos, ◌≤ℤ◌, slice_index_or}
 use Rattle.dsv_fraction.specs.Ratio.{Ratio, zero}
 use Rattle.dsv_word.specs.declared.format.Format.{Format}
 use Rattle.dsv_word.specs.Words.{width, lo, hi, IsWord}
-use Rattle.dsv_quantiser.specs.declared.range.Range.{Range}
+use Rattle.dsv_quantiser.specs.declared.range.InputRange.{InputRange}
 use Rattle.dsv_quantiser.specs.Meaning.{IsWordOf}
 
 -- the words of the fractions after those of a prefix
@@ -18,7 +18,7 @@ pub record AreWordsOf (format : Format) (qs : List Ratio) (prefix words : List �
       (slice_index_or words (length prefix + k) (pos 0))
 
 -- the range is not empty, and it has the words from low to high, and no others
-pub record IsClamped (format : Format) (low high : ℤ) (r : Range) : Type 0 where
+pub record IsClamped (format : Format) (low high : ℤ) (r : InputRange) : Type 0 where
   pub low_end : lo (width format) ≤ℤ r.lo
   pub order : r.lo ≤ℤ r.hi
   pub high_end : r.hi ≤ℤ hi (width format)

@@ -16,11 +16,11 @@ use Rattle.dsv_reader.specs.Controllers.{ControllerView}
 use Rattle.dsv_names.specs.declared.realisation.Realisation.{Realisation}
 use Rattle.dsv_names.specs.declared.list_name.ListName.{ListName}
 use Rattle.dsv_names.specs.declared.list_name.ListName.TheVariants as list
-use Rattle.dsv_quantiser.specs.declared.range.Range.{Range}
+use Rattle.dsv_quantiser.specs.declared.range.InputRange.{InputRange}
 use Rattle.dsv_quantiser.specs.declared.refusal.QuantRefusal.{QuantRefusal}
 use Rattle.dsv_quantiser.specs.declared.refusal.QuantRefusal.TheVariants as refusal
 use Rattle.dsv_names.specs.Realisations.{is_delta}
-use Rattle.dsv_quantiser.specs.FixedPoint.{FixedPoint, unit}
+use Rattle.dsv_quantiser.specs.QuantisedView.{QuantisedView, unit}
 
 -- ---- one number
 -- the whole number that was made, where no part was too wide
@@ -58,14 +58,14 @@ a_words format a = words_from format list.A (drop 1 a) (unit format ∷ [])
 
 -- ---- the inputs
 -- the words from the one end to the other, each end moved to the words of the format
-abbrev pub clamped_range : Format → ℤ → ℤ → Result Range QuantRefusal
+abbrev pub clamped_range : Format → ℤ → ℤ → Result InputRange QuantRefusal
 clamped_range format low high =
     let xlo = int_max low (lo (width format)) in
     let xhi = int_min high (hi (width format)) in
     if int_lt xhi xlo then Err (refusal.RangeEmpty xlo xhi) else Ok (record { lo = xlo; hi = xhi })
 
 -- the words from min to max
-abbrev pub range_of : Format → Ratio → Ratio → Result Range QuantRefusal
+abbrev pub range_of : Format → Ratio → Ratio → Result InputRange QuantRefusal
 range_of format min max =
     or_wide list.Min 0 (word_of ceiling_of format.frac_bits min) >>= λ low.
     or_wide list.Max 0 (word_of floor_of format.frac_bits max)
@@ -74,7 +74,7 @@ range_of format min max =
 -- ---- all of it
 -- the controller whose coefficients are these
 abbrev pub in_words : ControllerView → Format → Realisation → List Ratio → List Ratio → ℤ
-    → Result FixedPoint QuantRefusal
+    → Result QuantisedView QuantRefusal
 in_words c format realisation b a delta =
     b_words format b >>= λ num.
     a_words format a >>= λ den.
@@ -107,14 +107,14 @@ converted_lists (Err e) = Err (refusal.FractionWide e.list e.index)
 
 -- the controller of a delta form, by the exact delta
 abbrev pub with_delta : ControllerView → Format → Realisation → Option Ratio
-    → Result FixedPoint QuantRefusal
+    → Result QuantisedView QuantRefusal
 with_delta c format realisation None = Err (refusal.DeltaNotPositive (pos 0))
 with_delta c format realisation (Some delta) =
     delta_word format delta >>= λ word.
     converted_lists (delta_lists c.b c.a delta) >>= λ lists.
     in_words c format realisation lists.b lists.a word
 
--- the controller in words, or the first refusal
-abbrev pub fixed_point_of : ControllerView → Format → Realisation → Result FixedPoint QuantRefusal
-fixed_point_of c format realisation = if is_delta realisation
+-- the quantised controller, or the first refusal
+abbrev pub quantised_of : ControllerView → Format → Realisation → Result QuantisedView QuantRefusal
+quantised_of c format realisation = if is_delta realisation
     then with_delta c format realisation c.delta else in_words c format realisation c.b c.a (pos 0)

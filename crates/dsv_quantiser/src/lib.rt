@@ -1,15 +1,15 @@
-//! Controllers in fixed-point words.
+//! Quantised controllers.
 #![tactic(auto)]
 
-mod fixed_point;
 mod law;
 mod quantisation;
+mod quantised;
 mod range;
 mod refusal;
 mod words;
 
-pub use fixed_point::Quantised;
 pub use law::converted_leading_is_one;
 pub use quantisation::{quantise, quantise_in};
+pub use quantised::Quantised;
 pub use refusal::QuantRefusal;
 pub use words::{Coeffs, MOST_COEFFICIENTS};

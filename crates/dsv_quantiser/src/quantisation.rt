@@ -4,11 +4,11 @@
 ghost use Rattle.std.specs.Prelude.{◌≡◌, ◌≤ℤ◌, ◌<ℤ◌, pos, IfOk, true};
 ghost use Rattle.dsv_word.specs.Words.{width, hi};
 ghost use Rattle.dsv_names.specs.Realisations.{is_delta};
-ghost use Rattle.dsv_quantiser.specs.Quantising.{delta_word, with_delta, fixed_point_of};
+ghost use Rattle.dsv_quantiser.specs.Quantising.{delta_word, with_delta, quantised_of};
 ghost use Rattle.dsv_quantiser.specs.Meaning.{IsWordOf, IsOfDelta, IsQuantised};
 ghost use Rattle.dsv_quantiser.specs.Modes.{BecomesWords};
 
-use crate::fixed_point::{ExactLists, Quantised};
+use crate::quantised::{ExactLists, Quantised};
 use crate::refusal::QuantRefusal;
 use crate::words::{fitting_word, or_wide};
 use dsv_delta::to_delta;
@@ -33,7 +33,7 @@ fn delta_word(format: Format, delta: &Frac) -> Result<i64, QuantRefusal>
     fitting_word(format, ListName::Delta, 0, wanted)
 }
 
-/// The controller in words as that delta form computes it: its coefficients in the delta operator
+/// The quantised controller as that delta form computes it: its coefficients in the delta operator
 /// with the exact delta, and then all as words.
 fn with_delta(
     controller: &Controller,
@@ -56,7 +56,7 @@ fn with_delta(
     Quantised::in_words(controller, format, realisation, lists, word)
 }
 
-/// The controller in words of the format, as that realisation computes it; or the first refusal.
+/// The quantised controller of the format, as that realisation computes it; or the first refusal.
 /// For a delta form alone delta's word comes first, and then the coefficients in the delta
 /// operator, the numerator's before the denominator's. The words of the numerator come next by
 /// their index, then those of the denominator, and at last the least input, the greatest one and
@@ -66,7 +66,7 @@ pub fn quantise(
     format: Format,
     realisation: Realisation,
 ) -> Result<Quantised, QuantRefusal>
-    ensures exact { result ≡ fixed_point_of controller.now format realisation }
+    ensures exact { result ≡ quantised_of controller.now format realisation }
     ensures meaning { IfOk result (IsQuantised controller.now format realisation) }
 {
     if realisation.is_delta() {
@@ -98,7 +98,7 @@ fn format_of(controller: &Controller, design: Design) -> Format
     }
 }
 
-/// The controller in words of its own widths, rounded and fitted in the modes of a design, as its
+/// The quantised controller of its own widths, rounded and fitted in the modes of a design, as its
 /// realisation computes it; or the first refusal, in the order of [`quantise`].
 pub fn quantise_in(controller: &Controller, design: Design) -> Result<Quantised, QuantRefusal>
     ensures { BecomesWords controller.now design result }

@@ -14,13 +14,13 @@ use dsv_word::Format;
 
 /// The words from `lo` to `hi`.
 #[derive(Clone, Copy)]
-pub(crate) struct Range {
+pub(crate) struct InputRange {
     pub(crate) lo: i64,
     pub(crate) hi: i64,
 }
 
 /// The words from the one end to the other, each end moved to the words of the format.
-fn clamped_range(format: Format, low: i128, high: i128) -> Result<Range, QuantRefusal>
+fn clamped_range(format: Format, low: i128, high: i128) -> Result<InputRange, QuantRefusal>
     ensures value { result ≡ clamped_range format low high }
     ensures meaning { IfOk result (IsClamped format low high) }
 {
@@ -29,14 +29,14 @@ fn clamped_range(format: Format, low: i128, high: i128) -> Result<Range, QuantRe
     if hi < lo {
         return Err(QuantRefusal::RangeEmpty { lo, hi });
     }
-    Ok(Range {
+    Ok(InputRange {
         lo: lo as i64,
         hi: hi as i64,
     })
 }
 
 /// The words from `min` to `max`.
-pub(crate) fn range_of(format: Format, min: &Frac, max: &Frac) -> Result<Range, QuantRefusal>
+pub(crate) fn range_of(format: Format, min: &Frac, max: &Frac) -> Result<InputRange, QuantRefusal>
     ensures value { result ≡ range_of format min.now max.now }
     ensures meaning { IfOk result (IsRangeOf format min.now max.now) }
 {

@@ -5,7 +5,7 @@ ghost use Rattle.dsv_word.specs.Words.{IsWord};
 ghost use Rattle.std.specs.Prelude.{◌≡◌, ◌+◌, ◌≤◌, ◌<◌, length, drop};
 ghost use Rattle.std.specs.Prelude.{[], ◌∷◌, MatchResult, Ok, Err, IfOk};
 ghost use Rattle.dsv_fraction.specs.Ratio.{most_coefficients};
-ghost use Rattle.dsv_quantiser.specs.FixedPoint.{unit};
+ghost use Rattle.dsv_quantiser.specs.QuantisedView.{unit};
 ghost use Rattle.dsv_quantiser.specs.Meaning.{IsWordOf};
 ghost use Rattle.dsv_quantiser.specs.Parts.{AreWordsOf};
 ghost use Rattle.dsv_quantiser.specs.Quantising.{or_wide, fitting_word, word_at};

@@ -4,7 +4,7 @@ use Rattle.std.proofs.Math.IntN.{ℤ}
 use Rattle.std.proofs.lemmas.List.{map-append, map_push, length_push, length-take-le}
 use Rattle.dsv_word.specs.declared.format.Format.{Format}
 use Rattle.dsv_netlist.specs.Nodes.{at}
-use Rattle.dsv_quantiser.specs.FixedPoint.{FixedPoint}
+use Rattle.dsv_quantiser.specs.QuantisedView.{QuantisedView}
 use Rattle.dsv_meaning.specs.Lines.{Summand, Times, Sum, summands, line}
 use Rattle.dsv_meaning.specs.Equations.{order, first_alone, transposed_line, transposed_output, Chain, chain_with, transposed_chain}
 use Rattle.dsv_realise.specs.Making.{Made, with_line, Chained, with_place, with_transposed}
@@ -57,7 +57,7 @@ transposed_line_gives f rs x vs xid yid b a s m c g p q h =
     rw (alone_words g.now s, kept_words vs g.now s g.keeps h, g.keeps.old xid p, g.keeps.old yid q) refl in
     subst (λ (w : List (Summand ℤ)). Gives f rs x g.now (with_line m.nodes (transposed_line b a xid yid s)) (line f c.exact w)) e made
 
-pub transposed_gives : (q : FixedPoint) (rs : List ℤ) (x : ℤ) (vs : List ℤ) (xid yid : ℕ) (bs cs : List ℤ) (s : List ℕ) (m : Chained) (c : Chain)
+pub transposed_gives : (q : QuantisedView) (rs : List ℤ) (x : ℤ) (vs : List ℤ) (xid yid : ℕ) (bs cs : List ℤ) (s : List ℕ) (m : Chained) (c : Chain)
     → GivesChain q.format rs x vs m c → xid < length vs → yid < length vs → AreBelow (length vs) s
     → GivesChain q.format rs x vs (with_transposed xid yid bs cs s m) (transposed_chain q (at vs xid) (at vs yid) bs cs (map (at vs) s) c)
 transposed_gives q rs x vs xid yid (b ∷ bs) (a ∷ cs) s m c g p r h =
@@ -70,7 +70,7 @@ transposed_gives q rs x vs xid yid (b ∷ bs) (a ∷ cs) s m c g p r h =
 transposed_gives q rs x vs xid yid [] cs s m c g p r h = g
 transposed_gives q rs x vs xid yid (b ∷ bs) [] s m c g p r h = g
 
-pub transposed_chain-length : (q : FixedPoint) (x y : ℤ) (bs cs s : List ℤ) (c : Chain) → length bs ≡ length cs → length (transposed_chain q x y bs cs s c).words ≡ length c.words + length cs
+pub transposed_chain-length : (q : QuantisedView) (x y : ℤ) (bs cs s : List ℤ) (c : Chain) → length bs ≡ length cs → length (transposed_chain q x y bs cs s c).words ≡ length c.words + length cs
 transposed_chain-length q x y (b ∷ bs) (a ∷ cs) s c e =
     let l = line q.format c.exact (transposed_line b a x y (drop 1 s)) in
     omega (arith, transposed_chain-length q x y bs cs (drop 1 s) (chain_with c l) (omega arith), length_push c.words l.value)
@@ -82,7 +82,7 @@ transposed_chain-length q x y [] (a ∷ cs) s c e = absurd (omega arith)
 pub register_words : (n : ℕ) (x : ℤ) (s : List ℤ) → length s ≡ n → map (at (x ∷ s)) (count 1 n) ≡ s
 register_words n x s l = counted_all (at (x ∷ s)) 1 n s l (λ i h. let p : 1 + i ≡ suc i = omega arith in ap (at (x ∷ s)) p)
 
-pub output_gives : (q : FixedPoint) (x : ℤ) (s : List ℤ) → IsSized q → length s ≡ order q → Gives q.format s x (x ∷ s) (transposed_form q) (line q.format [] (transposed_output q x s))
+pub output_gives : (q : QuantisedView) (x : ℤ) (s : List ℤ) → IsSized q → length s ≡ order q → Gives q.format s x (x ∷ s) (transposed_form q) (line q.format [] (transposed_output q x s))
 output_gives q x s z l =
     let f = q.format in
     let n = order q in

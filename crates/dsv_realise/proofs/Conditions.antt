@@ -1,4 +1,4 @@
--- The netlist of every controller in words is one, with the counts of the table.
+-- The netlist of every quantised controller is one, with the counts of the table.
 use Rattle.std.proofs.Common.{◌≡◌, ℕ, zero, suc, ◌+◌, ◌*◌, ◌<◌, ◌≤◌, Bool, true, false, List, [], ◌∷◌, ◌++◌, length, take, drop, refl, sym, ap, subst, ◌∙◌, arith, length-append, length-drop}
 use Rattle.std.specs.Prelude.{count_by, IsTrue, ◌≤ℤ◌}
 use Rattle.std.specs.List.{All}
@@ -20,7 +20,7 @@ use Rattle.dsv_netlist.proofs.Naming.{names_word-below}
 use Rattle.dsv_netlist.proofs.Sizes.{word_size}
 use Rattle.dsv_names.specs.declared.realisation.Realisation.{Realisation}
 use Rattle.dsv_names.specs.declared.realisation.Realisation.TheVariants.{Dfi, Dfii, Tdfii, Ddfi, Ddfii, Tddfii}
-use Rattle.dsv_quantiser.specs.FixedPoint.{FixedPoint, IsFixedPoint, IsDeltaWord}
+use Rattle.dsv_quantiser.specs.QuantisedView.{QuantisedView, IsQuantisedView, IsDeltaWord}
 use Rattle.dsv_meaning.specs.Lines.{Alone, summands}
 use Rattle.dsv_meaning.specs.Equations.{order, feedback, first_alone, forward_summands, feedback_summands, transposed_output, registers_of, forward_registers_of, products_of, sums_of}
 use Rattle.dsv_realise.specs.Making.{no_places}
@@ -127,14 +127,14 @@ delta_small Ddfii f v h = positive_small f v h.0 h.1
 delta_small Tddfii f v h = positive_small f v h.0 h.1
 
 -- the coefficients are few and small
-record IsMild (q : FixedPoint) : Type 0 where
+record IsMild (q : QuantisedView) : Type 0 where
   size : IsSized q
   few : order q ≤ 8
   b : All IsSmall q.b
   a : All IsSmall (feedback q)
   delta : IsSmall q.delta
 
-mild : (q : FixedPoint) → IsFixedPoint q → IsMild q
+mild : (q : QuantisedView) → IsQuantisedView q → IsMild q
 mild q h = record {
   size = sized q h;
   few = omega (arith, h.few);
@@ -144,7 +144,7 @@ mild q h = record {
 }
 
 -- ---- lines
-first_grown : (q : FixedPoint) (s : ℕ) → IsMild q → s + 1 ≡ 2 * order q + 1 → Grown q.format (order q + order q) (sources (order q + order q)) (first_form q) (2 * order q + 1) s
+first_grown : (q : QuantisedView) (s : ℕ) → IsMild q → s + 1 ≡ 2 * order q + 1 → Grown q.format (order q + order q) (sources (order q + order q)) (first_form q) (2 * order q + 1) s
 first_grown q s m e =
     let n = order q in
     let ns = sources (n + n) in
@@ -160,7 +160,7 @@ first_grown q s m e =
     (omega (arith, products_in-append bs as_, products_in-summands false q.b (λ (i : ℕ). i) 0, products_in-summands true (feedback q) (λ (i : ℕ). i) (n + 1), m.size.forward, m.size.back))
     (omega (arith, m.size.forward, m.size.back)) (omega (arith, m.size.forward))
 
-state_grown : (q : FixedPoint) → IsMild q → Grown q.format (order q) (sources (order q)) (second_form_state q) (order q) (order q)
+state_grown : (q : QuantisedView) → IsMild q → Grown q.format (order q) (sources (order q)) (second_form_state q) (order q) (order q)
 state_grown q m =
     let n = order q in
     let ns = sources n in
@@ -174,7 +174,7 @@ newest_named : (ns : List Node) (p n i : ℕ) → names_word ns p ≡ true → (
 newest_named ns p n zero h g l = h
 newest_named ns p n (suc i) h g l = g (suc i) l
 
-second_grown : (q : FixedPoint) (s : ℕ) → IsMild q → s + 1 ≡ 2 * order q + 1 → Grown q.format (order q) (second_form_state q).nodes (second_form q) (2 * order q + 1) s
+second_grown : (q : QuantisedView) (s : ℕ) → IsMild q → s + 1 ≡ 2 * order q + 1 → Grown q.format (order q) (second_form_state q).nodes (second_form q) (2 * order q + 1) s
 second_grown q s m e =
     let n = order q in
     let g = state_grown q m in
@@ -184,7 +184,7 @@ second_grown q s m e =
     (summands_fit ns false q.b ids 0 m.b (λ i l. newest_named ns (second_form_state q).place n (0 + i) g.place (λ j k. g.keeps j (sources_named n j k)) (omega (arith, m.size.forward))))
     (omega (arith, products_in-summands false q.b ids 0, m.size.forward)) (omega (arith, length-summands false q.b ids 0, m.size.forward)) (omega (arith, length-summands false q.b ids 0, m.size.forward))
 
-output_grown : (q : FixedPoint) → IsMild q → Grown q.format (order q) (sources (order q)) (transposed_form q) 1 (length (first_alone (count 1 (order q))))
+output_grown : (q : QuantisedView) → IsMild q → Grown q.format (order q) (sources (order q)) (transposed_form q) 1 (length (first_alone (count 1 (order q))))
 output_grown q m =
     let n = order q in
     let ns = sources n in
@@ -232,7 +232,7 @@ forward_few Ddfii n = omega arith
 forward_few Tddfii n = omega arith
 
 -- nodes, numbers of those that load the registers, and of the output
-record IsWhole (k : Realisation) (q : FixedPoint) (r : ℕ) (ns : List Node) (ks : List ℕ) (y : ℕ) : Type 0 where
+record IsWhole (k : Realisation) (q : QuantisedView) (r : ℕ) (ns : List Node) (ks : List ℕ) (y : ℕ) : Type 0 where
   sound : AreSound q.format r ns
   counts : HasCounts r ns (products_of k (order q)) (sums_of k (order q))
   next : AllNamed ns ks
@@ -240,11 +240,11 @@ record IsWhole (k : Realisation) (q : FixedPoint) (r : ℕ) (ns : List Node) (ks
   output : names_word ns y ≡ true
 
 -- the netlist of a realisation is one, with the table's counts
-pub record IsRealised (k : Realisation) (q : FixedPoint) (net : Net) : Type 0 where
+pub record IsRealised (k : Realisation) (q : QuantisedView) (net : Net) : Type 0 where
   pub netlist : IsNetlist net
   pub counts : counts_of net ≡ counts_as k (order q)
 
-realised : (k : Realisation) (q : FixedPoint) (r : ℕ) (ns : List Node) (next : List ℕ) (output : ℕ) → order q ≤ 8 → r ≡ registers_of k (order q) → IsWhole k q r ns next output → IsRealised k q (net_with q k ns next output)
+realised : (k : Realisation) (q : QuantisedView) (r : ℕ) (ns : List Node) (next : List ℕ) (output : ℕ) → order q ≤ 8 → r ≡ registers_of k (order q) → IsWhole k q r ns next output → IsRealised k q (net_with q k ns next output)
 realised k q r ns next output few e w =
     let p = products_few k (order q) few in
     let s = sums_few k (order q) few in
@@ -265,7 +265,7 @@ realised k q r ns next output few e w =
       counts = rw (w.counts.products, w.counts.sums, many) refl;
     }
 
-realised_as : (k : Realisation) (q : FixedPoint) → IsMild q → IsRealised k q (net_as k q)
+realised_as : (k : Realisation) (q : QuantisedView) → IsMild q → IsRealised k q (net_as k q)
 realised_as Dfi q m =
     let n = order q in
     let g = first_grown q (sums_of Dfi n) m (omega arith) in
@@ -348,5 +348,5 @@ realised_as Tddfii q m =
     (omega (arith, m.size.forward, m.size.back, length-drop 1 q.b)) (count-length 1 n ∙ sym m.size.back) (omega (arith, m.size.back)) (omega (arith, m.size.back)) (omega (arith, m.size.back)) in
     realised Tddfii q n (transposed_delta_nodes q).nodes (transposed_delta_nodes q).places y.place m.few refl (record { sound = c.sound; counts = c.counts; next = c.named; many = c.many; output = c.keeps y.place g.place })
 
-pub net_realised : (q : FixedPoint) → IsFixedPoint q → IsRealised q.realisation q (net_of q)
+pub net_realised : (q : QuantisedView) → IsQuantisedView q → IsRealised q.realisation q (net_of q)
 net_realised q h = realised_as q.realisation q (mild q h)

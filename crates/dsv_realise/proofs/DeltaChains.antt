@@ -5,7 +5,7 @@ use Rattle.std.proofs.lemmas.List.{length_push}
 use Rattle.dsv_word.specs.declared.format.Format.{Format}
 use Rattle.dsv_netlist.specs.declared.node.Node.{Node}
 use Rattle.dsv_netlist.specs.Nodes.{at}
-use Rattle.dsv_quantiser.specs.FixedPoint.{FixedPoint}
+use Rattle.dsv_quantiser.specs.QuantisedView.{QuantisedView}
 use Rattle.dsv_meaning.specs.Lines.{Summand, Times, Alone, line}
 use Rattle.dsv_meaning.specs.Equations.{transposed_line, delta_line, Chain, no_words, chain_with, delta_chain, transposed_delta_chain}
 use Rattle.dsv_realise.specs.Making.{with_line, Chained, no_places, with_place, with_delta, with_transposed_delta}
@@ -19,14 +19,14 @@ pub chain_start : (f : Format) (rs : List ℤ) (x : ℤ) (ns : List Node) (vs es
 chain_start f rs x ns vs es h = record { now = vs; stands = h; keeps = keeps_self vs; below = tt; words = refl }
 
 -- w + delta v
-delta_line_gives : (q : FixedPoint) (rs : List ℤ) (x : ℤ) (ns : List Node) (vs es : List ℤ) (wid vid : ℕ) (w v : ℤ) → IsAt q.format rs x ns vs es → wid < length vs → vid < length vs → at vs wid ≡ w → at vs vid ≡ v
+delta_line_gives : (q : QuantisedView) (rs : List ℤ) (x : ℤ) (ns : List Node) (vs es : List ℤ) (wid vid : ℕ) (w v : ℤ) → IsAt q.format rs x ns vs es → wid < length vs → vid < length vs → at vs wid ≡ w → at vs vid ≡ v
     → Gives q.format rs x vs (with_line ns (delta_line q wid vid)) (line q.format es (delta_line q w v))
 delta_line_gives q rs x ns vs es wid vid w v h k l e d =
     let made = line_gives q.format rs x ns vs es (Alone wid) (Times false q.delta vid ∷ []) h (k, (l, tt)) in
     let same : map (in_words vs) (delta_line q wid vid) ≡ delta_line q w v = rw (e, d) refl in
     subst (λ (ts : List (Summand ℤ)). Gives q.format rs x vs (with_line ns (delta_line q wid vid)) (line q.format es ts)) same made
 
-pub delta_gives : (q : FixedPoint) (rs : List ℤ) (x : ℤ) (vs : List ℤ) (before : ℕ) (ws : List ℕ) (m : Chained) (c : Chain)
+pub delta_gives : (q : QuantisedView) (rs : List ℤ) (x : ℤ) (vs : List ℤ) (before : ℕ) (ws : List ℕ) (m : Chained) (c : Chain)
     → GivesChain q.format rs x vs m c → before < length vs → AreBelow (length vs) ws
     → GivesChain q.format rs x vs (with_delta q before ws m) (delta_chain q (at vs before) (map (at vs) ws) c)
 delta_gives q rs x vs before [] m c g l h = g
@@ -36,13 +36,13 @@ delta_gives q rs x vs before (w ∷ ws) m c g l h =
     let next = chain_more f rs x vs m c g (with_line m.nodes (delta_line q w before)) (line f c.exact (delta_line q (at vs w) (at vs before))) made in
     delta_gives q rs x vs w ws (with_place m (with_line m.nodes (delta_line q w before))) (chain_with c (line f c.exact (delta_line q (at vs w) (at vs before)))) next h.0 h.1
 
-pub delta_chain-length : (q : FixedPoint) (before : ℤ) (ws : List ℤ) (c : Chain) → length (delta_chain q before ws c).words ≡ length c.words + length ws
+pub delta_chain-length : (q : QuantisedView) (before : ℤ) (ws : List ℤ) (c : Chain) → length (delta_chain q before ws c).words ≡ length c.words + length ws
 delta_chain-length q before [] c = omega arith
 delta_chain-length q before (w ∷ ws) c =
     let l = line q.format c.exact (delta_line q w before) in
     omega (arith, delta_chain-length q w ws (chain_with c l), length_push c.words l.value)
 
-pub transposed_delta_gives : (q : FixedPoint) (rs : List ℤ) (x : ℤ) (vs : List ℤ) (xid yid : ℕ) (bs cs : List ℤ) (s : List ℕ) (m : Chained) (c : Chain)
+pub transposed_delta_gives : (q : QuantisedView) (rs : List ℤ) (x : ℤ) (vs : List ℤ) (xid yid : ℕ) (bs cs : List ℤ) (s : List ℕ) (m : Chained) (c : Chain)
     → GivesChain q.format rs x vs m c → xid < length vs → yid < length vs → AreBelow (length vs) s
     → GivesChain q.format rs x vs (with_transposed_delta q xid yid bs cs s m) (transposed_delta_chain q (at vs xid) (at vs yid) bs cs (map (at vs) s) c)
 transposed_delta_gives q rs x vs xid yid (b ∷ bs) (a ∷ cs) (s ∷ ss) m c g p r h =
@@ -60,7 +60,7 @@ transposed_delta_gives q rs x vs xid yid [] cs s m c g p r h = g
 transposed_delta_gives q rs x vs xid yid (b ∷ bs) [] s m c g p r h = g
 transposed_delta_gives q rs x vs xid yid (b ∷ bs) (a ∷ cs) [] m c g p r h = g
 
-pub transposed_delta_chain-length : (q : FixedPoint) (x y : ℤ) (bs cs s : List ℤ) (c : Chain) → length bs ≡ length cs → length s ≡ length cs → length (transposed_delta_chain q x y bs cs s c).words ≡ length c.words + length cs
+pub transposed_delta_chain-length : (q : QuantisedView) (x y : ℤ) (bs cs s : List ℤ) (c : Chain) → length bs ≡ length cs → length s ≡ length cs → length (transposed_delta_chain q x y bs cs s c).words ≡ length c.words + length cs
 transposed_delta_chain-length q x y (b ∷ bs) (a ∷ cs) (s ∷ ss) c e d =
     let t = line q.format c.exact (transposed_line b a x y ss) in
     let u = line q.format t.exact (delta_line q s t.value) in

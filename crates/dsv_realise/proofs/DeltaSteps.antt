@@ -4,7 +4,7 @@ use Rattle.std.proofs.Math.IntN.{ℤ}
 use Rattle.std.proofs.lemmas.List.{map-append, take_all}
 use Rattle.dsv_netlist.specs.Nodes.{at, sample_of}
 use Rattle.dsv_names.specs.declared.realisation.Realisation.TheVariants.{Ddfi, Ddfii}
-use Rattle.dsv_quantiser.specs.FixedPoint.{FixedPoint}
+use Rattle.dsv_quantiser.specs.QuantisedView.{QuantisedView}
 use Rattle.dsv_meaning.specs.Equations.{order, ago, Past, latest, Chain, no_words, delta_chain}
 use Rattle.dsv_realise.specs.Making.{no_places}
 use Rattle.dsv_realise.specs.Netlists.{count, first_form, second_form_state, second_form, delta_inputs, delta_outputs, delta_states}
@@ -16,7 +16,7 @@ use Rattle.dsv_realise.proofs.Chains.{GivesChain, kept_words, register_words}
 use Rattle.dsv_realise.proofs.DeltaChains.{chain_start, delta_gives, delta_chain-length}
 use Rattle.dsv_realise.proofs.Steps.{HasRegisters, FollowsAs}
 
-pub ddfii_follows : (q : FixedPoint) (p : Past) (x : ℤ) → IsSized q → HasRegisters Ddfii (order q) p → FollowsAs Ddfii q p x
+pub ddfii_follows : (q : QuantisedView) (p : Past) (x : ℤ) → IsSized q → HasRegisters Ddfii (order q) p → FollowsAs Ddfii q p x
 ddfii_follows q p x z l =
     let f = q.format in
     let n = order q in
@@ -48,7 +48,7 @@ ddfii_follows q p x z l =
       good = delta_chain-length q w.value s start ∙ (zero-add (length s) ∙ l);
     }
 
-pub ddfi_follows : (q : FixedPoint) (p : Past) (x : ℤ) → IsSized q → HasRegisters Ddfi (order q) p → FollowsAs Ddfi q p x
+pub ddfi_follows : (q : QuantisedView) (p : Past) (x : ℤ) → IsSized q → HasRegisters Ddfi (order q) p → FollowsAs Ddfi q p x
 ddfi_follows q p x z h =
     let f = q.format in
     let n = order q in

@@ -3,7 +3,7 @@ use Rattle.std.proofs.Common.{◌≡◌, ℕ, ◌+◌, ◌<◌, ◌≤◌, true,
 use Rattle.std.proofs.Math.IntN.{ℤ}
 use Rattle.std.proofs.lemmas.List.{length-take-le, map-append}
 use Rattle.dsv_netlist.specs.Nodes.{at}
-use Rattle.dsv_quantiser.specs.FixedPoint.{FixedPoint}
+use Rattle.dsv_quantiser.specs.QuantisedView.{QuantisedView}
 use Rattle.dsv_meaning.specs.Lines.{Summand, Sum, summands, line}
 use Rattle.dsv_meaning.specs.Equations.{order, feedback, ago, forward_summands, feedback_summands}
 use Rattle.dsv_realise.specs.Netlists.{sources, first_form}
@@ -12,19 +12,19 @@ use Rattle.dsv_realise.proofs.LineNodes.{in_words, AreOver, in_words-summands, s
 use Rattle.dsv_realise.proofs.Sources.{IsSized, sources_give, at_input, at_output}
 
 -- the registers: x_1 to x_N, then y_1 to y_N
-abbrev pub pair : FixedPoint → List ℤ → List ℤ → List ℤ
+abbrev pub pair : QuantisedView → List ℤ → List ℤ → List ℤ
 pair q xs ys = take (order q) xs ++ take (order q) ys
 
-abbrev pub first_line : FixedPoint → ℤ → List ℤ → List ℤ → List (Summand ℤ)
+abbrev pub first_line : QuantisedView → ℤ → List ℤ → List ℤ → List (Summand ℤ)
 first_line q x xs ys = forward_summands q (ago (x ∷ xs)) ++ feedback_summands q (ago ys) 0
 
-abbrev pub first_sum : FixedPoint → ℤ → List ℤ → List ℤ → Sum
+abbrev pub first_sum : QuantisedView → ℤ → List ℤ → List ℤ → Sum
 first_sum q x xs ys = line q.format [] (first_line q x xs ys)
 
-pub pair-length : (q : FixedPoint) (xs ys : List ℤ) → order q ≤ length xs → order q ≤ length ys → length (pair q xs ys) ≡ order q + order q
+pub pair-length : (q : QuantisedView) (xs ys : List ℤ) → order q ≤ length xs → order q ≤ length ys → length (pair q xs ys) ≡ order q + order q
 pair-length q xs ys h k = omega (arith, length-take-le (order q) xs h, length-take-le (order q) ys k, length-append (take (order q) xs) (take (order q) ys))
 
-pub first_form_gives : (q : FixedPoint) (x : ℤ) (xs ys : List ℤ) → IsSized q → order q ≤ length xs → order q ≤ length ys
+pub first_form_gives : (q : QuantisedView) (x : ℤ) (xs ys : List ℤ) → IsSized q → order q ≤ length xs → order q ≤ length ys
     → Gives q.format (pair q xs ys) x (x ∷ pair q xs ys) (first_form q) (first_sum q x xs ys)
 first_form_gives q x xs ys s h k =
     let n = order q in

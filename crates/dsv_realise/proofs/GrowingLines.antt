@@ -7,7 +7,7 @@ use Rattle.std.proofs.lemmas.List.Elements.{All-head, All-tail}
 use Rattle.dsv_word.specs.declared.format.Format.{Format}
 use Rattle.dsv_netlist.specs.declared.node.Node.{Node}
 use Rattle.dsv_netlist.specs.Conditions.{names_word}
-use Rattle.dsv_quantiser.specs.FixedPoint.{FixedPoint}
+use Rattle.dsv_quantiser.specs.QuantisedView.{QuantisedView}
 use Rattle.dsv_meaning.specs.Lines.{Summand, Times, Alone, summands}
 use Rattle.dsv_meaning.specs.Equations.{first_alone, transposed_line, delta_line}
 use Rattle.dsv_realise.specs.Making.{Made, with_product, with_sum, with_first, with_next, with_summands, with_line, Chained, no_places, with_place, with_transposed, with_delta, with_transposed_delta}
@@ -161,13 +161,13 @@ transposed_grows f r old x y [] [] (k ∷ ks) c p s n p2 s2 n2 g wx wy wk sb sa 
 transposed_grows f r old x y [] (a ∷ cs) ks c p s n p2 s2 n2 g wx wy wk sb sa e d ep es en = absurd (omega arith)
 transposed_grows f r old x y (b ∷ bs) [] ks c p s n p2 s2 n2 g wx wy wk sb sa e d ep es en = absurd (omega arith)
 
-delta_line_grows : (q : FixedPoint) (r : ℕ) (ns : List Node) (p s : ℕ) (w v : ℕ) → AreSound q.format r ns → HasCounts r ns p s → IsSmall q.delta → names_word ns w ≡ true → names_word ns v ≡ true
+delta_line_grows : (q : QuantisedView) (r : ℕ) (ns : List Node) (p s : ℕ) (w v : ℕ) → AreSound q.format r ns → HasCounts r ns p s → IsSmall q.delta → names_word ns w ≡ true → names_word ns v ≡ true
     → Grown q.format r ns (with_line ns (delta_line q w v)) (p + 1) (s + 1)
 delta_line_grows q r ns p s w v h u sd ww wv =
     line_grows q.format r ns p s (p + 1) (s + 1) (delta_line q w v) h u (ww, ((sd, wv), tt)) (omega arith) (omega arith) (omega arith)
 
 -- a chain of a delta form has N products and N sums
-pub delta_grows : (q : FixedPoint) (r : ℕ) (old : List Node) (before : ℕ) (ks : List ℕ) (c : Chained) (p s n p2 s2 n2 : ℕ)
+pub delta_grows : (q : QuantisedView) (r : ℕ) (old : List Node) (before : ℕ) (ks : List ℕ) (c : Chained) (p s n p2 s2 n2 : ℕ)
     → GrownChain q.format r old c p s n → IsSmall q.delta → names_word old before ≡ true → AllNamed old ks
     → p + length ks ≡ p2 → s + length ks ≡ s2 → n + length ks ≡ n2
     → GrownChain q.format r old (with_delta q before ks c) p2 s2 n2
@@ -178,7 +178,7 @@ delta_grows q r old before (k ∷ ks) c p s n p2 s2 n2 g sd wb wk ep es en =
     delta_grows q r old k ks (with_place c m) (p + 1) (s + 1) (n + 1) p2 s2 n2 (chain_grows q.format r old c p s (p + 1) (s + 1) n m g h) sd wk.0 wk.1 (omega arith) (omega arith) (omega arith)
 
 -- that of the transposed delta form has 3 N products; with the sum of s_1 before it, 3 N sums
-pub transposed_delta_grows : (q : FixedPoint) (r : ℕ) (old : List Node) (x y : ℕ) (bs as_ : List ℤ) (ks : List ℕ) (c : Chained) (p s n p2 s2 n2 : ℕ)
+pub transposed_delta_grows : (q : QuantisedView) (r : ℕ) (old : List Node) (x y : ℕ) (bs as_ : List ℤ) (ks : List ℕ) (c : Chained) (p s n p2 s2 n2 : ℕ)
     → GrownChain q.format r old c p s n → IsSmall q.delta → names_word old x ≡ true → names_word old y ≡ true → AllNamed old ks → All IsSmall bs → All IsSmall as_
     → length bs ≡ length as_ → length ks ≡ length as_ → p + 3 * length as_ ≡ p2 → s + 3 * length as_ ≡ s2 + length (first_alone ks) → n + length as_ ≡ n2
     → GrownChain q.format r old (with_transposed_delta q x y bs as_ ks c) p2 s2 n2

@@ -5,7 +5,7 @@ use Rattle.std.proofs.Math.IntN.{ℤ, pos}
 use Rattle.std.proofs.lemmas.List.{append-nil, drop_more}
 use Rattle.dsv_netlist.specs.declared.node.Node.{Node}
 use Rattle.dsv_names.specs.declared.realisation.Realisation.TheVariants.{Ddfi}
-use Rattle.dsv_quantiser.specs.FixedPoint.{FixedPoint}
+use Rattle.dsv_quantiser.specs.QuantisedView.{QuantisedView}
 use Rattle.dsv_meaning.specs.Lines.{Summand, Times, summands}
 use Rattle.dsv_meaning.specs.Equations.{order, feedback, first_alone, transposed_line, forward_summands, feedback_summands}
 use Rattle.dsv_realise.specs.Making.{Made, with_product, with_sum, with_first, with_next, with_summands, with_line, Chained, no_places, with_place, with_transposed, with_delta, with_transposed_delta}
@@ -42,7 +42,7 @@ forward_made ns n1 (c ∷ cs) rest k first h e p =
     ∙ ap (λ (ts : List (Summand ℕ)). with_summands (with_product ns c k) ts) (same_summands false cs itself (newest_at k) 1 1 (λ i l. newest_later k (1 + i) (omega arith)))
 
 -- the numerator's line, and then the denominator's
-pub first_made : (q : FixedPoint) (n0 n1 n2 : List Node) (b a rest : List ℤ) (forward place : ℕ) → 0 < length b → b ≡ q.b → a ≡ q.a → rest ≡ drop 1 a → n0 ≡ sources (2 * (length a - 1))
+pub first_made : (q : QuantisedView) (n0 n1 n2 : List Node) (b a rest : List ℤ) (forward place : ℕ) → 0 < length b → b ≡ q.b → a ≡ q.a → rest ≡ drop 1 a → n0 ≡ sources (2 * (length a - 1))
     → record { nodes = n1; place = forward } ≡ with_line n0 (summands false b (newest_at 0) 0)
     → record { nodes = n2; place = place } ≡ with_summands (record { nodes = n1; place = forward }) (summands true rest itself (length a - 1 + 1))
     → record { nodes = n2; place = place } ≡ first_form q
@@ -63,7 +63,7 @@ output_line : (ns : List Node) (b : List ℤ) (ks : List ℕ) → 0 < length b �
 output_line ns [] ks h = absurd (omega arith)
 output_line ns (c ∷ cs) ks h = refl
 
-output_made : (q : FixedPoint) (n0 n1 : List Node) (b : List ℤ) (first n : ℕ) → 0 < length b → b ≡ q.b → n ≡ order q → n0 ≡ sources n → record { nodes = n1; place = first } ≡ with_product n0 (get_or b 0 (pos 0)) 0
+output_made : (q : QuantisedView) (n0 n1 : List Node) (b : List ℤ) (first n : ℕ) → 0 < length b → b ≡ q.b → n ≡ order q → n0 ≡ sources n → record { nodes = n1; place = first } ≡ with_product n0 (get_or b 0 (pos 0)) 0
     → with_summands (record { nodes = n1; place = first }) (first_alone (count 1 n)) ≡ transposed_form q
 output_made q n0 n1 b first n h eb en es e =
     let l : 0 < length q.b = omega (arith, ap length eb) in
@@ -71,11 +71,11 @@ output_made q n0 n1 b first n h eb en es e =
     ∙ ap (λ (k : ℕ). with_summands (with_product (sources (order q)) (get_or q.b 0 (pos 0)) 0) (first_alone (count 1 k))) en
     ∙ sym (output_line (sources (order q)) q.b (count 1 (order q)) l)
 
-pub output_alone : (q : FixedPoint) (n0 n1 : List Node) (b : List ℤ) (first n : ℕ) → 0 < length b → b ≡ q.b → n ≡ order q → n0 ≡ sources n → record { nodes = n1; place = first } ≡ with_product n0 (get_or b 0 (pos 0)) 0 → n ≡ 0
+pub output_alone : (q : QuantisedView) (n0 n1 : List Node) (b : List ℤ) (first n : ℕ) → 0 < length b → b ≡ q.b → n ≡ order q → n0 ≡ sources n → record { nodes = n1; place = first } ≡ with_product n0 (get_or b 0 (pos 0)) 0 → n ≡ 0
     → record { nodes = n1; place = first } ≡ transposed_form q
 output_alone q n0 n1 b first n h eb en es e z = ap (λ (k : ℕ). with_summands (record { nodes = n1; place = first }) (first_alone (count 1 k))) (sym z) ∙ output_made q n0 n1 b first n h eb en es e
 
-pub output_summed : (q : FixedPoint) (n0 n1 n2 : List Node) (b : List ℤ) (first place n : ℕ) → 0 < length b → b ≡ q.b → n ≡ order q → n0 ≡ sources n → record { nodes = n1; place = first } ≡ with_product n0 (get_or b 0 (pos 0)) 0
+pub output_summed : (q : QuantisedView) (n0 n1 n2 : List Node) (b : List ℤ) (first place n : ℕ) → 0 < length b → b ≡ q.b → n ≡ order q → n0 ≡ sources n → record { nodes = n1; place = first } ≡ with_product n0 (get_or b 0 (pos 0)) 0
     → 0 < n → record { nodes = n2; place = place } ≡ with_sum false n1 first 1 → record { nodes = n2; place = place } ≡ transposed_form q
 output_summed q n0 n1 n2 b first place n h eb en es e z f =
     let s : suc (n - 1) ≡ n = omega arith in
@@ -109,7 +109,7 @@ transposed_more y i b a ns ms ps qs ks p all h l m alone e before =
     ap (with_transposed 0 y (drop (i + 1) b) (drop (i + 1) a) rest) same ∙ sym step ∙ before
 
 -- one new word of a delta chain more
-pub delta_more : (q : FixedPoint) (older node end : ℕ) (d : ℤ) (ns ms : List Node) (ps qs : List ℕ) (p : ℕ) (all : Chained) → node < end → d ≡ q.delta
+pub delta_more : (q : QuantisedView) (older node end : ℕ) (d : ℤ) (ns ms : List Node) (ps qs : List ℕ) (p : ℕ) (all : Chained) → node < end → d ≡ q.delta
     → record { nodes = ms; place = p } ≡ with_next (record { nodes = ns; place = node }) (Times false d older) → qs ≡ ps ++ p ∷ []
     → with_delta q older (count node (end - node)) (record { nodes = ns; places = ps }) ≡ all
     → with_delta q node (count (node + 1) (end - (node + 1))) (record { nodes = ms; places = qs }) ≡ all
@@ -123,14 +123,14 @@ delta_more q older node end d ns ms ps qs p all h ed m e before =
     ap (with_delta q node rest) same ∙ sym step ∙ before
 
 -- a chain after another
-pub delta_after : (q : FixedPoint) (before : ℕ) (ks : List ℕ) (ns : List Node) (ps qs : List ℕ)
+pub delta_after : (q : QuantisedView) (before : ℕ) (ks : List ℕ) (ns : List Node) (ps qs : List ℕ)
     → with_delta q before ks (record { nodes = ns; places = ps ++ qs }) ≡ record { nodes = (with_delta q before ks (record { nodes = ns; places = qs })).nodes; places = ps ++ (with_delta q before ks (record { nodes = ns; places = qs })).places }
 delta_after q before [] ns ps qs = refl
 delta_after q before (k ∷ ks) ns ps qs =
     let m = with_next (record { nodes = ns; place = k }) (Times false q.delta before) in
     ap (λ (js : List ℕ). with_delta q k ks (record { nodes = m.nodes; places = js })) (append_assoc ps qs (m.place ∷ [])) ∙ delta_after q k ks m.nodes ps (qs ++ m.place ∷ [])
 
-pub delta_pair : (q : FixedPoint) (ns n1 n2 : List Node) (y n : ℕ) (p0 p1 p2 : List ℕ) → record { nodes = ns; place = y } ≡ first_form q → p0 ≡ [] → n ≡ order q
+pub delta_pair : (q : QuantisedView) (ns n1 n2 : List Node) (y n : ℕ) (p0 p1 p2 : List ℕ) → record { nodes = ns; place = y } ≡ first_form q → p0 ≡ [] → n ≡ order q
     → record { nodes = n1; places = p1 } ≡ with_delta q 0 (count 1 (order q)) (record { nodes = ns; places = p0 })
     → record { nodes = n2; places = p2 } ≡ with_delta q y (count (n + 1) (order q)) (record { nodes = n1; places = p1 })
     → net_with q Ddfi n2 p2 y ≡ net_as Ddfi q
@@ -145,7 +145,7 @@ delta_pair q ns n1 n2 y n p0 p1 p2 f z e one two =
     ap (λ (m : Chained). net_with q Ddfi m.nodes m.places y) second ∙ ap (net_with q Ddfi (delta_outputs q).nodes (c.places ++ (delta_outputs q).places)) place
 
 -- one new word of a transposed delta chain more
-pub transposed_delta_more : (q : FixedPoint) (y i : ℕ) (b a : List ℤ) (d : ℤ) (ns n1 ms : List Node) (ps qs ks : List ℕ) (t p : ℕ) (all : Chained) → i < length a → length b ≡ length a → d ≡ q.delta
+pub transposed_delta_more : (q : QuantisedView) (y i : ℕ) (b a : List ℤ) (d : ℤ) (ns n1 ms : List Node) (ps qs ks : List ℕ) (t p : ℕ) (all : Chained) → i < length a → length b ≡ length a → d ≡ q.delta
     → record { nodes = n1; place = t } ≡ with_line ns (transposed_line (get_or b i (pos 0)) (get_or a i (pos 0)) 0 y ks) → first_alone ks ≡ first_alone (count (i + 1) (length a - (i + 1)))
     → record { nodes = ms; place = p } ≡ with_next (record { nodes = n1; place = i }) (Times false d t) → qs ≡ ps ++ p ∷ []
     → with_transposed_delta q 0 y (drop i b) (drop i a) (count i (length a - i)) (record { nodes = ns; places = ps }) ≡ all

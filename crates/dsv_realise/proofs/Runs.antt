@@ -4,7 +4,7 @@ use Rattle.std.proofs.Math.IntN.{ℤ}
 use Rattle.std.proofs.lemmas.List.{take-take, take_all, take-append-drop, length-take-le}
 use Rattle.dsv_names.specs.declared.realisation.Realisation.{Realisation}
 use Rattle.dsv_names.specs.declared.realisation.Realisation.TheVariants.{Dfi, Dfii, Tdfii, Ddfi, Ddfii, Tddfii}
-use Rattle.dsv_quantiser.specs.FixedPoint.{FixedPoint, IsFixedPoint}
+use Rattle.dsv_quantiser.specs.QuantisedView.{QuantisedView, IsQuantisedView}
 use Rattle.dsv_system.specs.Runs.{rows_from, past_after}
 use Rattle.dsv_system.specs.Systems.{RunAlike, rows, registers_after}
 use Rattle.dsv_netlist.specs.Systems.{system_of}
@@ -18,7 +18,7 @@ use Rattle.dsv_realise.proofs.Sources.{IsSized, sized}
 use Rattle.dsv_realise.proofs.Steps.{HasRegisters, FollowsAs, dfi_follows, dfii_follows, tdfii_follows, tddfii_follows}
 use Rattle.dsv_realise.proofs.DeltaSteps.{ddfi_follows, ddfii_follows}
 
-follows : (k : Realisation) (q : FixedPoint) (p : Past) (x : ℤ) → IsSized q → HasRegisters k (order q) p → FollowsAs k q p x
+follows : (k : Realisation) (q : QuantisedView) (p : Past) (x : ℤ) → IsSized q → HasRegisters k (order q) p → FollowsAs k q p x
 follows Dfi q p x s h = dfi_follows q p x s h
 follows Dfii q p x s h = dfii_follows q p x s h
 follows Tdfii q p x s h = tdfii_follows q p x s h
@@ -49,20 +49,20 @@ start_has Ddfi n start l = (length-take-le n start (omega arith), omega (arith, 
 start_has Ddfii n start l = l
 start_has Tddfii n start l = l
 
-rows_as : (k : Realisation) (q : FixedPoint) (start xs : List ℤ) → IsSized q → length start ≡ registers_of k (order q) → rows (system_of (net_as k q)) start xs ≡ rows_from (sample_as k q) (start_as k (order q) start) xs
+rows_as : (k : Realisation) (q : QuantisedView) (start xs : List ℤ) → IsSized q → length start ≡ registers_of k (order q) → rows (system_of (net_as k q)) start xs ≡ rows_from (sample_as k q) (start_as k (order q) start) xs
 rows_as k q start xs s l =
     let n = order q in
     subst (λ (r : List ℤ). rows (system_of (net_as k q)) r xs ≡ rows_from (sample_as k q) (start_as k n start) xs) (start_registers k n start l)
     (same_rows Past (net_as k q) (registers_as k n) (sample_as k q) (HasRegisters k n) (λ p x h. follows k q p x s h) (start_as k n start) xs (start_has k n start l))
 
-registers_are : (k : Realisation) (q : FixedPoint) (start xs : List ℤ) → IsSized q → length start ≡ registers_of k (order q) → registers_after (system_of (net_as k q)) start xs ≡ registers_as k (order q) (past_after (sample_as k q) (start_as k (order q) start) xs)
+registers_are : (k : Realisation) (q : QuantisedView) (start xs : List ℤ) → IsSized q → length start ≡ registers_of k (order q) → registers_after (system_of (net_as k q)) start xs ≡ registers_as k (order q) (past_after (sample_as k q) (start_as k (order q) start) xs)
 registers_are k q start xs s l =
     let n = order q in
     subst (λ (r : List ℤ). registers_after (system_of (net_as k q)) r xs ≡ registers_as k n (past_after (sample_as k q) (start_as k n start) xs)) (start_registers k n start l)
     (same_registers Past (net_as k q) (registers_as k n) (sample_as k q) (HasRegisters k n) (λ p x h. follows k q p x s h) (start_as k n start) xs (start_has k n start l))
 
 -- ---- what the netlist says of itself
-forward_of : (k : Realisation) (q : FixedPoint) → (net_as k q).feed_forward ≡ forward_registers_of k (order q)
+forward_of : (k : Realisation) (q : QuantisedView) → (net_as k q).feed_forward ≡ forward_registers_of k (order q)
 forward_of Dfi q = refl
 forward_of Dfii q = refl
 forward_of Tdfii q = refl
@@ -70,7 +70,7 @@ forward_of Ddfi q = refl
 forward_of Ddfii q = refl
 forward_of Tddfii q = refl
 
-format_of : (k : Realisation) (q : FixedPoint) → (net_as k q).format ≡ q.format
+format_of : (k : Realisation) (q : QuantisedView) → (net_as k q).format ≡ q.format
 format_of Dfi q = refl
 format_of Dfii q = refl
 format_of Tdfii q = refl
@@ -78,7 +78,7 @@ format_of Ddfi q = refl
 format_of Ddfii q = refl
 format_of Tddfii q = refl
 
-pub runs_alike : (q : FixedPoint) → IsFixedPoint q → RunAlike (List ℤ) Past (system_of (net_of q)) (equations_of q)
+pub runs_alike : (q : QuantisedView) → IsQuantisedView q → RunAlike (List ℤ) Past (system_of (net_of q)) (equations_of q)
 runs_alike q h = record {
   many = ap (λ (c : OpCounts). c.moves) (net_realised q h).counts;
   forward = forward_of q.realisation q;

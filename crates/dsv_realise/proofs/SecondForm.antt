@@ -3,7 +3,7 @@ use Rattle.std.proofs.Common.{◌≡◌, ℕ, zero, suc, ◌+◌, ◌<◌, ◌�
 use Rattle.std.proofs.Math.IntN.{ℤ}
 use Rattle.std.proofs.lemmas.List.{length-take-le}
 use Rattle.dsv_netlist.specs.Nodes.{at}
-use Rattle.dsv_quantiser.specs.FixedPoint.{FixedPoint}
+use Rattle.dsv_quantiser.specs.QuantisedView.{QuantisedView}
 use Rattle.dsv_meaning.specs.Lines.{Summand, Alone, Sum, line}
 use Rattle.dsv_meaning.specs.Equations.{order, feedback, ago, forward_summands, feedback_summands}
 use Rattle.dsv_realise.specs.Netlists.{sources, newest_at, second_form_state, second_form}
@@ -12,14 +12,14 @@ use Rattle.dsv_realise.proofs.LineNodes.{in_words, AreOver, in_words-summands, s
 use Rattle.dsv_realise.proofs.Sources.{IsSized, sources_give, at_state}
 
 -- w_0
-abbrev pub state_sum : FixedPoint → ℤ → List ℤ → Sum
+abbrev pub state_sum : QuantisedView → ℤ → List ℤ → Sum
 state_sum q x ws = line q.format [] (Alone x ∷ feedback_summands q (ago ws) 0)
 
 -- y
-abbrev pub second_sum : FixedPoint → ℤ → List ℤ → Sum
+abbrev pub second_sum : QuantisedView → ℤ → List ℤ → Sum
 second_sum q x ws = line q.format (state_sum q x ws).exact (forward_summands q (ago ((state_sum q x ws).value ∷ ws)))
 
-pub state_gives : (q : FixedPoint) (x : ℤ) (ws : List ℤ) → IsSized q → order q ≤ length ws
+pub state_gives : (q : QuantisedView) (x : ℤ) (ws : List ℤ) → IsSized q → order q ≤ length ws
     → Gives q.format (take (order q) ws) x (x ∷ take (order q) ws) (second_form_state q) (state_sum q x ws)
 state_gives q x ws s h =
     let f = q.format in
@@ -43,7 +43,7 @@ newest_over : (p n m i : ℕ) → p < m → n < m → i < n + 1 → newest_at p 
 newest_over p n m zero h k l = h
 newest_over p n m (suc i) h k l = omega arith
 
-pub second_gives : (q : FixedPoint) (x : ℤ) (ws : List ℤ) → IsSized q → order q ≤ length ws → (g : Gives q.format (take (order q) ws) x (x ∷ take (order q) ws) (second_form_state q) (state_sum q x ws))
+pub second_gives : (q : QuantisedView) (x : ℤ) (ws : List ℤ) → IsSized q → order q ≤ length ws → (g : Gives q.format (take (order q) ws) x (x ∷ take (order q) ws) (second_form_state q) (state_sum q x ws))
     → Gives q.format (take (order q) ws) x g.now (second_form q) (second_sum q x ws)
 second_gives q x ws s h g =
     let f = q.format in

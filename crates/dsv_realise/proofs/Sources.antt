@@ -4,17 +4,17 @@ use Rattle.std.proofs.Math.IntN.{ℤ, pos}
 use Rattle.std.proofs.lemmas.List.{append-nil, drop_more, drop_all, get_or_append_left, get_or-append_right, get_or-take, length-take-le, take_all}
 use Rattle.dsv_word.specs.declared.format.Format.{Format}
 use Rattle.dsv_netlist.specs.Nodes.{at, Sample, sample_from}
-use Rattle.dsv_quantiser.specs.FixedPoint.{FixedPoint, IsFixedPoint}
+use Rattle.dsv_quantiser.specs.QuantisedView.{QuantisedView, IsQuantisedView}
 use Rattle.dsv_meaning.specs.Equations.{order, feedback, ago}
 use Rattle.dsv_realise.specs.Netlists.{count, shift, registers_from, sources}
 use Rattle.dsv_realise.proofs.Samples.{IsAt}
 
 -- how many coefficients there are
-pub record IsSized (q : FixedPoint) : Type 0 where
+pub record IsSized (q : QuantisedView) : Type 0 where
   pub forward : length q.b ≡ order q + 1
   pub back : length (feedback q) ≡ order q
 
-pub sized : (q : FixedPoint) → IsFixedPoint q → IsSized q
+pub sized : (q : QuantisedView) → IsQuantisedView q → IsSized q
 sized q h = record { forward = omega (arith, h.one_length, h.some); back = length-drop 1 q.a }
 
 registers_give : (f : Format) (rs : List ℤ) (x : ℤ) (k m : ℕ) (vs : List ℤ) → length rs ≡ k + m → sample_from f rs x (registers_from k m) (record { values = vs; exact = [] }) ≡ record { values = vs ++ drop k rs; exact = [] }

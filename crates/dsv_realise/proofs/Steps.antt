@@ -5,7 +5,7 @@ use Rattle.std.proofs.lemmas.List.{map-append, length-take-le}
 use Rattle.dsv_netlist.specs.Nodes.{at, sample_of}
 use Rattle.dsv_names.specs.declared.realisation.Realisation.{Realisation}
 use Rattle.dsv_names.specs.declared.realisation.Realisation.TheVariants.{Dfi, Dfii, Tdfii, Ddfi, Ddfii, Tddfii}
-use Rattle.dsv_quantiser.specs.FixedPoint.{FixedPoint}
+use Rattle.dsv_quantiser.specs.QuantisedView.{QuantisedView}
 use Rattle.dsv_meaning.specs.Lines.{line}
 use Rattle.dsv_meaning.specs.Equations.{order, feedback, ago, Past, latest, transposed_output, Chain, no_words, transposed_chain, transposed_delta_chain, sample_as, registers_as}
 use Rattle.dsv_realise.specs.Making.{Chained, no_places}
@@ -27,10 +27,10 @@ HasRegisters Tdfii n p = length (latest p.chain) ≡ n
 HasRegisters Ddfii n p = length (latest p.chain) ≡ n
 HasRegisters Tddfii n p = length (latest p.chain) ≡ n
 
-abbrev pub FollowsAs : Realisation → FixedPoint → Past → ℤ → Type 0
+abbrev pub FollowsAs : Realisation → QuantisedView → Past → ℤ → Type 0
 FollowsAs k q p x = Follows Past (net_as k q) (registers_as k (order q)) (sample_as k q) (HasRegisters k (order q)) p x
 
-pub dfi_follows : (q : FixedPoint) (p : Past) (x : ℤ) → IsSized q → HasRegisters Dfi (order q) p → FollowsAs Dfi q p x
+pub dfi_follows : (q : QuantisedView) (p : Past) (x : ℤ) → IsSized q → HasRegisters Dfi (order q) p → FollowsAs Dfi q p x
 dfi_follows q p x s h =
     let n = order q in
     let rs = pair q p.signal p.outputs in
@@ -52,7 +52,7 @@ dfi_follows q p x s h =
       good = (omega (arith, h.0), omega (arith, h.1));
     }
 
-pub dfii_follows : (q : FixedPoint) (p : Past) (x : ℤ) → IsSized q → HasRegisters Dfii (order q) p → FollowsAs Dfii q p x
+pub dfii_follows : (q : QuantisedView) (p : Past) (x : ℤ) → IsSized q → HasRegisters Dfii (order q) p → FollowsAs Dfii q p x
 dfii_follows q p x s h =
     let f = q.format in
     let n = order q in
@@ -73,12 +73,12 @@ dfii_follows q p x s h =
     }
 
 -- a sample whose output is that of a transposed form, with these nodes and this chain after it
-record StepsAs (q : FixedPoint) (s : List ℤ) (x : ℤ) (m : Chained) (c : Chain) : Type 0 where
+record StepsAs (q : QuantisedView) (s : List ℤ) (x : ℤ) (m : Chained) (c : Chain) : Type 0 where
   y : at (sample_of q.format s x m.nodes).values (transposed_form q).place ≡ (line q.format [] (transposed_output q x s)).value
   exact : (sample_of q.format s x m.nodes).exact ≡ c.exact
   after : map (at (sample_of q.format s x m.nodes).values) m.places ≡ c.words
 
-transposed_steps : (q : FixedPoint) (s : List ℤ) (x : ℤ) → IsSized q → length s ≡ order q → (m : Chained) (chain : ℤ → ℤ → List ℤ → Chain → Chain)
+transposed_steps : (q : QuantisedView) (s : List ℤ) (x : ℤ) → IsSized q → length s ≡ order q → (m : Chained) (chain : ℤ → ℤ → List ℤ → Chain → Chain)
     → ((vs : List ℤ) (c : Chain) → GivesChain q.format s x vs (no_places (transposed_form q).nodes) c → 0 < length vs → (transposed_form q).place < length vs → AreBelow (length vs) (count 1 (order q))
     → GivesChain q.format s x vs m (chain (at vs 0) (at vs (transposed_form q).place) (map (at vs) (count 1 (order q))) c))
     → StepsAs q s x m (chain x (line q.format [] (transposed_output q x s)).value s (no_words (line q.format [] (transposed_output q x s)).exact))
@@ -103,7 +103,7 @@ transposed_steps q s x z l m chain gives =
       after = ap (λ (u : List ℤ). map (at u) m.places) gc.stands.values ∙ gc.words;
     }
 
-pub tdfii_follows : (q : FixedPoint) (p : Past) (x : ℤ) → IsSized q → HasRegisters Tdfii (order q) p → FollowsAs Tdfii q p x
+pub tdfii_follows : (q : QuantisedView) (p : Past) (x : ℤ) → IsSized q → HasRegisters Tdfii (order q) p → FollowsAs Tdfii q p x
 tdfii_follows q p x z l =
     let s = latest p.chain in
     let y = line q.format [] (transposed_output q x s) in
@@ -117,7 +117,7 @@ tdfii_follows q p x z l =
       good = transposed_chain-length q x y.value (drop 1 q.b) (feedback q) s (no_words y.exact) (omega (arith, z.forward, z.back, length-drop 1 q.b)) ∙ (zero-add (length (feedback q)) ∙ z.back);
     }
 
-pub tddfii_follows : (q : FixedPoint) (p : Past) (x : ℤ) → IsSized q → HasRegisters Tddfii (order q) p → FollowsAs Tddfii q p x
+pub tddfii_follows : (q : QuantisedView) (p : Past) (x : ℤ) → IsSized q → HasRegisters Tddfii (order q) p → FollowsAs Tddfii q p x
 tddfii_follows q p x z l =
     let s = latest p.chain in
     let y = line q.format [] (transposed_output q x s) in

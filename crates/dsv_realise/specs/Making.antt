@@ -3,7 +3,7 @@ use Rattle.std.specs.Prelude.{ℕ, Bool, false, if◌then◌else◌, List}
 use Rattle.std.specs.Prelude.{[], ◌∷◌, ◌++◌, length, drop, ℤ}
 use Rattle.dsv_netlist.specs.declared.node.Node.{Node}
 use Rattle.dsv_netlist.specs.declared.node.Node.TheVariants.{MulConst, Round, Add, Sub, Fit}
-use Rattle.dsv_quantiser.specs.FixedPoint.{FixedPoint}
+use Rattle.dsv_quantiser.specs.QuantisedView.{QuantisedView}
 use Rattle.dsv_meaning.specs.Lines.{Summand, Times, Alone}
 use Rattle.dsv_meaning.specs.Equations.{transposed_line, delta_line}
 
@@ -77,13 +77,13 @@ with_transposed x y (b ∷ bs) (a ∷ cs) s c =
 with_transposed x y _ _ s c = c
 
 -- new w_j = old w_j + delta old w_(j-1), where `before` is the node of old w_(j-1)
-abbrev pub with_delta : FixedPoint → ℕ → List ℕ → Chained → Chained
+abbrev pub with_delta : QuantisedView → ℕ → List ℕ → Chained → Chained
 with_delta q before [] c = c
 with_delta q before (w ∷ ws) c =
     with_delta q w ws (with_place c (with_line c.nodes (delta_line q w before)))
 
 -- new s_i = old s_i + delta (b_i x - a_i y + old s_(i+1))
-abbrev pub with_transposed_delta : FixedPoint → ℕ → ℕ → List ℤ → List ℤ → List ℕ
+abbrev pub with_transposed_delta : QuantisedView → ℕ → ℕ → List ℤ → List ℤ → List ℕ
     → Chained → Chained
 with_transposed_delta q x y (b ∷ bs) (a ∷ cs) (s ∷ ss) c =
     let t = with_line c.nodes (transposed_line b a x y ss) in

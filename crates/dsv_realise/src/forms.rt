@@ -13,47 +13,52 @@ use dsv_quantiser::Quantised;
 use std::alloc::Global;
 
 /// The output's line of both first forms.
-pub(crate) fn first_form(alloc: Global, q: &Quantised) -> Result<BuiltLine, NoMemory>
-    ensures made { IfOk result (λ form. line_made form ≡ first_form q.now) }
+pub(crate) fn first_form(alloc: Global, quantised: &Quantised) -> Result<BuiltLine, NoMemory>
+    ensures made { IfOk result (λ form. line_made form ≡ first_form quantised.now) }
     ensures few { IfOk result (λ form. length form.nodes.items ≤ most_line_nodes) }
 {
-    let a = q.a();
+    let a = quantised.a();
     let order = (a.len() - 1) as u32;
     let mut nodes = sources(alloc, 2 * order)?;
-    let forward = forward_line(&mut nodes, q.b(), 0)?;
+    let forward = forward_line(&mut nodes, quantised.b(), 0)?;
     let place = next_products(&mut nodes, forward, true, &a[1..], order + 1)?;
     Ok(BuiltLine { nodes, place })
 }
 
 /// The first line of both second forms.
-pub(crate) fn second_form_state(alloc: Global, q: &Quantised) -> Result<BuiltLine, NoMemory>
-    ensures made { IfOk result (λ form. line_made form ≡ second_form_state q.now) }
+pub(crate) fn second_form_state(alloc: Global, quantised: &Quantised) -> Result<BuiltLine, NoMemory>
+    ensures made { IfOk result (λ form. line_made form ≡ second_form_state quantised.now) }
     ensures few { IfOk result (λ form. length form.nodes.items ≤ most_line_nodes) }
 {
-    let a = q.a();
+    let a = quantised.a();
     let mut nodes = sources(alloc, (a.len() - 1) as u32)?;
     let place = next_products(&mut nodes, 0, true, &a[1..], 1)?;
     Ok(BuiltLine { nodes, place })
 }
 
 /// The output's line of both second forms, after the first line.
-pub(crate) fn second_form(nodes: &mut Vec<Node>, q: &Quantised, state: u32) -> Result<u32, NoMemory>
-    requires begun { made_at nodes.old.items state ≡ second_form_state q.now }
+pub(crate) fn second_form(
+    nodes: &mut Vec<Node>,
+    quantised: &Quantised,
+    state: u32,
+) -> Result<u32, NoMemory>
+    requires begun { made_at nodes.old.items state ≡ second_form_state quantised.now }
     requires few { length nodes.old.items ≤ most_line_nodes }
-    ensures made { IfOk result (λ place. made_at nodes.new.items place ≡ second_form q.now) }
+    ensures made { IfOk result (λ place. made_at nodes.new.items place
+        ≡ second_form quantised.now) }
     ensures few { IfOk result (λ place. length nodes.new.items ≤ most_second_line_nodes) }
 {
-    forward_line(nodes, q.b(), state)
+    forward_line(nodes, quantised.b(), state)
 }
 
 /// The output's line of both transposed forms.
-pub(crate) fn transposed_form(alloc: Global, q: &Quantised) -> Result<BuiltLine, NoMemory>
-    ensures made { IfOk result (λ form. line_made form ≡ transposed_form q.now) }
+pub(crate) fn transposed_form(alloc: Global, quantised: &Quantised) -> Result<BuiltLine, NoMemory>
+    ensures made { IfOk result (λ form. line_made form ≡ transposed_form quantised.now) }
     ensures few { IfOk result (λ form. length form.nodes.items ≤ most_line_nodes) }
 {
-    let order = q.order() as u32;
+    let order = quantised.order() as u32;
     let mut nodes = sources(alloc, order)?;
-    let first = product(&mut nodes, &q.b()[0], 0)?;
+    let first = product(&mut nodes, &quantised.b()[0], 0)?;
     let place = if order == 0 {
         first
     } else {

@@ -1,4 +1,4 @@
-//! The netlists of controllers in words.
+//! The netlists of quantised controllers.
 #![tactic(auto)]
 
 mod forms;

@@ -1,4 +1,4 @@
-// Controllers in words made netlists.
+// Quantised controllers made netlists.
 ghost use Rattle.std.specs.Prelude.{◌≡◌, List, ℤ, IfOk};
 ghost use Rattle.dsv_system.specs.Systems.{RunAlike};
 ghost use Rattle.dsv_meaning.specs.Equations.{Past, order, forward_registers_of};
@@ -21,40 +21,41 @@ use dsv_netlist::Netlist;
 use dsv_quantiser::Quantised;
 use std::alloc::Global;
 
-/// The parts of the netlist of a controller in words.
-fn parts(alloc: Global, q: &Quantised) -> Result<Parts, NoMemory>
-    ensures { IfOk result (λ parts. parts_as q.now.realisation q.now parts ≡ net_of q.now) }
+/// The parts of the netlist of a quantised controller.
+fn parts(alloc: Global, quantised: &Quantised) -> Result<Parts, NoMemory>
+    ensures { IfOk result (λ parts. parts_as quantised.now.realisation quantised.now parts
+        ≡ net_of quantised.now) }
 {
-    match q.realisation() {
-        Realisation::Dfi => direct_form_one(alloc, q),
-        Realisation::Dfii => direct_form_two(alloc, q),
-        Realisation::Tdfii => transposed_form_two(alloc, q),
-        Realisation::Ddfi => delta_form_one(alloc, q),
-        Realisation::Ddfii => delta_form_two(alloc, q),
-        Realisation::Tddfii => transposed_delta_form_two(alloc, q),
+    match quantised.realisation() {
+        Realisation::Dfi => direct_form_one(alloc, quantised),
+        Realisation::Dfii => direct_form_two(alloc, quantised),
+        Realisation::Tdfii => transposed_form_two(alloc, quantised),
+        Realisation::Ddfi => delta_form_one(alloc, quantised),
+        Realisation::Ddfii => delta_form_two(alloc, quantised),
+        Realisation::Tddfii => transposed_delta_form_two(alloc, quantised),
     }
 }
 
-/// The netlist of a controller in words: node 0 is the input, node k + 1 register k, and then come
+/// The netlist of a quantised controller: node 0 is the input, node k + 1 register k, and then come
 /// the operations of its lines, in their order. From every start its steps give the outputs, the
 /// exact values and the registers of the written equations.
-pub fn realise(alloc: Global, q: &Quantised) -> Result<Netlist, NoMemory>
-    ensures net { IfOk result (λ net. net ≡ net_of q.now) }
+pub fn realise(alloc: Global, quantised: &Quantised) -> Result<Netlist, NoMemory>
+    ensures net { IfOk result (λ net. net ≡ net_of quantised.now) }
     ensures runs { IfOk result
-        (λ net. RunAlike (List ℤ) Past (system_of net) (equations_of q.now)) }
+        (λ net. RunAlike (List ℤ) Past (system_of net) (equations_of quantised.now)) }
     ensures counts { IfOk result (λ net. counts_of net
-        ≡ counts_as q.now.realisation (order q.now)) }
+        ≡ counts_as quantised.now.realisation (order quantised.now)) }
     ensures forward { IfOk result (λ net. net.feed_forward
-        ≡ forward_registers_of q.now.realisation (order q.now)) }
+        ≡ forward_registers_of quantised.now.realisation (order quantised.now)) }
 {
-    let parts = parts(alloc, q)?;
-    let feed_forward = forward_registers(q.realisation(), q.order() as u32);
+    let parts = parts(alloc, quantised)?;
+    let feed_forward = forward_registers(quantised.realisation(), quantised.order() as u32);
     let net = Netlist::new(
         parts.nodes,
         parts.next,
         parts.output,
         feed_forward,
-        q.format(),
+        quantised.format(),
     );
     Ok(net.unwrap())
 }

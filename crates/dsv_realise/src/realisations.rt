@@ -18,11 +18,11 @@ use dsv_quantiser::Quantised;
 use std::alloc::Global;
 
 /// Direct form I: past inputs and outputs shift.
-pub(crate) fn direct_form_one(alloc: Global, q: &Quantised) -> Result<Parts, NoMemory>
-    ensures { IfOk result (λ parts. parts_as Dfi q.now parts ≡ net_as Dfi q.now) }
+pub(crate) fn direct_form_one(alloc: Global, quantised: &Quantised) -> Result<Parts, NoMemory>
+    ensures { IfOk result (λ parts. parts_as Dfi quantised.now parts ≡ net_as Dfi quantised.now) }
 {
-    let form = first_form(alloc, q)?;
-    let order = q.order() as u32;
+    let form = first_form(alloc, quantised)?;
+    let order = quantised.order() as u32;
     let mut next = Vec::new(alloc);
     shift(&mut next, 0, 1, order)?;
     shift(&mut next, form.place, order + 1, order)?;
@@ -34,14 +34,14 @@ pub(crate) fn direct_form_one(alloc: Global, q: &Quantised) -> Result<Parts, NoM
 }
 
 /// Direct form II: states shift.
-pub(crate) fn direct_form_two(alloc: Global, q: &Quantised) -> Result<Parts, NoMemory>
-    ensures { IfOk result (λ parts. parts_as Dfii q.now parts ≡ net_as Dfii q.now) }
+pub(crate) fn direct_form_two(alloc: Global, quantised: &Quantised) -> Result<Parts, NoMemory>
+    ensures { IfOk result (λ parts. parts_as Dfii quantised.now parts ≡ net_as Dfii quantised.now) }
 {
-    let state = second_form_state(alloc, q)?;
+    let state = second_form_state(alloc, quantised)?;
     let mut nodes = state.nodes;
-    let output = second_form(&mut nodes, q, state.place)?;
+    let output = second_form(&mut nodes, quantised, state.place)?;
     let mut next = Vec::new(alloc);
-    shift(&mut next, state.place, 1, q.order() as u32)?;
+    shift(&mut next, state.place, 1, quantised.order() as u32)?;
     Ok(Parts {
         nodes,
         next,
@@ -68,15 +68,16 @@ fn successor_at(i: usize, end: usize) -> Option<u32>
 fn transposed_states(
     alloc: Global,
     nodes: &mut Vec<Node>,
-    q: &Quantised,
+    quantised: &Quantised,
     output: u32,
 ) -> Result<Vec<u32>, NoMemory>
-    requires begun { made_at nodes.old.items output ≡ transposed_form q.now }
+    requires begun { made_at nodes.old.items output ≡ transposed_form quantised.now }
     requires few { length nodes.old.items ≤ most_line_nodes }
-    ensures { IfOk result (λ next. chained_at nodes.new.items next.items ≡ transposed_nodes q.now) }
+    ensures { IfOk result (λ next. chained_at nodes.new.items next.items
+        ≡ transposed_nodes quantised.now) }
 {
-    let b = q.b();
-    let a = q.a();
+    let b = quantised.b();
+    let a = quantised.a();
     let mut next = Vec::new(alloc);
     for i in 1..a.len() {
         let successor = successor_at(i, a.len());
@@ -87,12 +88,13 @@ fn transposed_states(
 }
 
 /// Transposed direct form II: each state is made of the one after it.
-pub(crate) fn transposed_form_two(alloc: Global, q: &Quantised) -> Result<Parts, NoMemory>
-    ensures { IfOk result (λ parts. parts_as Tdfii q.now parts ≡ net_as Tdfii q.now) }
+pub(crate) fn transposed_form_two(alloc: Global, quantised: &Quantised) -> Result<Parts, NoMemory>
+    ensures { IfOk result (λ parts. parts_as Tdfii quantised.now parts
+        ≡ net_as Tdfii quantised.now) }
 {
-    let form = transposed_form(alloc, q)?;
+    let form = transposed_form(alloc, quantised)?;
     let mut nodes = form.nodes;
-    let next = transposed_states(alloc, &mut nodes, q, form.place)?;
+    let next = transposed_states(alloc, &mut nodes, quantised, form.place)?;
     Ok(Parts {
         nodes,
         next,
@@ -106,19 +108,19 @@ pub(crate) fn transposed_form_two(alloc: Global, q: &Quantised) -> Result<Parts,
 fn delta_states(
     nodes: &mut Vec<Node>,
     next: &mut Vec<u32>,
-    q: &Quantised,
+    quantised: &Quantised,
     before: u32,
     first: u32,
 ) -> Result<(), NoMemory>
     requires few { length nodes.old.items ≤ most_state_nodes }
     requires low { first ≤ most_source_nodes }
     ensures made { IfOk result (λ u. chained_at nodes.new.items next.new.items ≡
-        with_delta q.now before (count first (order q.now))
+        with_delta quantised.now before (count first (order quantised.now))
         (chained_at nodes.old.items next.old.items)) }
     ensures few { IfOk result (λ u. length nodes.new.items ≤ length nodes.old.items + 40) }
 {
-    let delta = q.delta();
-    let end = first + q.order() as u32;
+    let delta = quantised.delta();
+    let end = first + quantised.order() as u32;
     let mut older = before;
     for node in first..end {
         let place = next_product(nodes, node, false, &delta, older)?;
@@ -129,14 +131,20 @@ fn delta_states(
 }
 
 /// Delta direct form I: past inputs and outputs, each with delta times the one before it.
-pub(crate) fn delta_form_one(alloc: Global, q: &Quantised) -> Result<Parts, NoMemory>
-    ensures { IfOk result (λ parts. parts_as Ddfi q.now parts ≡ net_as Ddfi q.now) }
+pub(crate) fn delta_form_one(alloc: Global, quantised: &Quantised) -> Result<Parts, NoMemory>
+    ensures { IfOk result (λ parts. parts_as Ddfi quantised.now parts ≡ net_as Ddfi quantised.now) }
 {
-    let form = first_form(alloc, q)?;
+    let form = first_form(alloc, quantised)?;
     let mut nodes = form.nodes;
     let mut next = Vec::new(alloc);
-    delta_states(&mut nodes, &mut next, q, 0, 1)?;
-    delta_states(&mut nodes, &mut next, q, form.place, q.order() as u32 + 1)?;
+    delta_states(&mut nodes, &mut next, quantised, 0, 1)?;
+    delta_states(
+        &mut nodes,
+        &mut next,
+        quantised,
+        form.place,
+        quantised.order() as u32 + 1,
+    )?;
     Ok(Parts {
         nodes,
         next,
@@ -145,14 +153,15 @@ pub(crate) fn delta_form_one(alloc: Global, q: &Quantised) -> Result<Parts, NoMe
 }
 
 /// Delta direct form II: states, each with delta times the one before it.
-pub(crate) fn delta_form_two(alloc: Global, q: &Quantised) -> Result<Parts, NoMemory>
-    ensures { IfOk result (λ parts. parts_as Ddfii q.now parts ≡ net_as Ddfii q.now) }
+pub(crate) fn delta_form_two(alloc: Global, quantised: &Quantised) -> Result<Parts, NoMemory>
+    ensures { IfOk result (λ parts. parts_as Ddfii quantised.now parts
+        ≡ net_as Ddfii quantised.now) }
 {
-    let state = second_form_state(alloc, q)?;
+    let state = second_form_state(alloc, quantised)?;
     let mut nodes = state.nodes;
-    let output = second_form(&mut nodes, q, state.place)?;
+    let output = second_form(&mut nodes, quantised, state.place)?;
     let mut next = Vec::new(alloc);
-    delta_states(&mut nodes, &mut next, q, state.place, 1)?;
+    delta_states(&mut nodes, &mut next, quantised, state.place, 1)?;
     Ok(Parts {
         nodes,
         next,
@@ -164,17 +173,17 @@ pub(crate) fn delta_form_two(alloc: Global, q: &Quantised) -> Result<Parts, NoMe
 fn transposed_delta_states(
     alloc: Global,
     nodes: &mut Vec<Node>,
-    q: &Quantised,
+    quantised: &Quantised,
     output: u32,
 ) -> Result<Vec<u32>, NoMemory>
-    requires begun { made_at nodes.old.items output ≡ transposed_form q.now }
+    requires begun { made_at nodes.old.items output ≡ transposed_form quantised.now }
     requires few { length nodes.old.items ≤ most_line_nodes }
     ensures { IfOk result (λ next. chained_at nodes.new.items next.items
-        ≡ transposed_delta_nodes q.now) }
+        ≡ transposed_delta_nodes quantised.now) }
 {
-    let b = q.b();
-    let a = q.a();
-    let delta = q.delta();
+    let b = quantised.b();
+    let a = quantised.a();
+    let delta = quantised.delta();
     let mut next = Vec::new(alloc);
     for i in 1..a.len() {
         let successor = successor_at(i, a.len());
@@ -187,12 +196,16 @@ fn transposed_delta_states(
 
 /// Transposed delta direct form II: each state with delta times a line that is made of the one
 /// after it.
-pub(crate) fn transposed_delta_form_two(alloc: Global, q: &Quantised) -> Result<Parts, NoMemory>
-    ensures { IfOk result (λ parts. parts_as Tddfii q.now parts ≡ net_as Tddfii q.now) }
+pub(crate) fn transposed_delta_form_two(
+    alloc: Global,
+    quantised: &Quantised,
+) -> Result<Parts, NoMemory>
+    ensures { IfOk result (λ parts. parts_as Tddfii quantised.now parts
+        ≡ net_as Tddfii quantised.now) }
 {
-    let form = transposed_form(alloc, q)?;
+    let form = transposed_form(alloc, quantised)?;
     let mut nodes = form.nodes;
-    let next = transposed_delta_states(alloc, &mut nodes, q, form.place)?;
+    let next = transposed_delta_states(alloc, &mut nodes, quantised, form.place)?;
     Ok(Parts {
         nodes,
         next,

@@ -54,15 +54,15 @@ fn rows_of(
 
 /// The rows of a controller's netlist over these inputs, from registers of zeros: they are those of
 /// the written equations.
-pub fn simulate(alloc: Global, q: &Quantised, inputs: &[i64]) -> Result<Rows, NoMemory>
-    requires { All (IsWord q.now.format) inputs.now }
+pub fn simulate(alloc: Global, quantised: &Quantised, inputs: &[i64]) -> Result<Rows, NoMemory>
+    requires { All (IsWord quantised.now.format) inputs.now }
     ensures { IfOk result (λ found. found
-        ≡ rows (equations_of q.now)
-        (zeros (registers_of q.now.realisation (order q.now))) inputs.now) }
+        ≡ rows (equations_of quantised.now)
+        (zeros (registers_of quantised.now.realisation (order quantised.now))) inputs.now) }
 {
     // its range, for the proof
-    let _order = q.order();
-    let net = realise(alloc, q)?;
+    let _order = quantised.order();
+    let net = realise(alloc, quantised)?;
     let mut registers = vec![in alloc; 0i64; net.registers() as usize]?;
     rows_of(alloc, &net, &mut registers, inputs)
 }

@@ -13,19 +13,19 @@ use std::alloc::Global;
 const FIRST: &str = "digital_system d = { .b = {1.0}, .b_size = 1, .a = {1.0, -0.9}, .a_size = 2 };
 implementation r = { .int_bits = 2, .frac_bits = 2, .max = 1.0, .min = -1.0, .delta = 1.0 };";
 
-/// The controller in words.
-fn words_of(alloc: Global) -> Option<Quantised> {
+/// The quantised controller.
+fn quantised_of(alloc: Global) -> Option<Quantised> {
     let controller = read(alloc, FIRST.as_bytes()).ok()?;
     let format = Format::new(2, 2, Rounding::Floor, OverflowMode::Wrap).ok()?;
     quantise(&controller, format, Realisation::Dfi).ok()
 }
 
 /// The goal that its output breaks within two samples, made simpler.
-fn overflow_of(alloc: Global, q: &Quantised) -> Option<Goal> {
-    let net = realise(alloc, q).ok()?;
+fn overflow_of(alloc: Global, quantised: &Quantised) -> Option<Goal> {
+    let net = realise(alloc, quantised).ok()?;
     let format = net.format();
-    let low = q.xlo();
-    let high = q.xhi();
+    let low = quantised.xlo();
+    let high = quantised.xhi();
     if format.hi() < low || high < format.lo() {
         return None;
     }
@@ -54,8 +54,8 @@ fn is_one_alone(alloc: Global, goal: &Goal) -> bool {
 }
 
 fn is_found(alloc: Global) -> Option<bool> {
-    let q = words_of(alloc)?;
-    let goal = overflow_of(alloc, &q)?;
+    let quantised = quantised_of(alloc)?;
+    let goal = overflow_of(alloc, &quantised)?;
     Some(is_one_alone(alloc, &goal))
 }
 

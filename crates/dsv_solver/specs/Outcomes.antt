@@ -10,8 +10,8 @@ use Rattle.dsv_solver.specs.WatchView.{WatchView}
 use Rattle.dsv_solver.specs.Watched.{list_of}
 use Rattle.dsv_solver.specs.Propagation.{IsConflict, IsSettled}
 use Rattle.dsv_solver.specs.declared.watches.Pair.{Pair}
-use Rattle.dsv_solver.specs.declared.propagate.Outcome.{Outcome}
-use Rattle.dsv_solver.specs.declared.propagate.Outcome.TheVariants.{Kept, Moved, Conflict}
+use Rattle.dsv_solver.specs.declared.propagate.Visit.{Visit}
+use Rattle.dsv_solver.specs.declared.propagate.Visit.TheVariants.{Kept, Moved, Conflict}
 
 pub record IsKept (c : FormulaView) (t : TrailView) (v w : WatchView) (f : Literal)
     (i : ℕ) : Type 0 where
@@ -35,7 +35,7 @@ pub record Moves (s t : TrailView) (v w : WatchView) (f : Literal) (j i : ℕ) :
   pub is : IsMoved s t v w f j i next other
 
 abbrev pub IsOutcome : FormulaView → TrailView → TrailView → WatchView → WatchView → Literal → ℕ
-    → ℕ → Outcome → Type 0
+    → ℕ → Visit → Type 0
 IsOutcome c s t v w f j i Kept = IsKept c t v w f i
 IsOutcome c s t v w f j i Moved = Moves s t v w f j i
 IsOutcome c s t v w f j i Conflict = IsConflict c t i

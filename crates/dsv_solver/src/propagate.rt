@@ -115,7 +115,7 @@ fn replace(watches: &mut Watches, watch: Watch, next: Next, other: Lit) -> Resul
 }
 
 /// What became of a clause whose watched literal is false.
-enum Outcome {
+enum Visit {
     /// Its other watched literal is true.
     Kept,
     /// It watches another literal now.
@@ -126,7 +126,7 @@ enum Outcome {
 
 impl State {
     /// Looks at a clause whose watched literal is false.
-    fn tend(&mut self, watch: Watch) -> Result<Outcome, NoMemory>
+    fn tend(&mut self, watch: Watch) -> Result<Visit, NoMemory>
         requires ready { IsReady self.old.clauses self.old.trail self.old.watches self.old.head }
         requires over { watch.literal.var < self.old.trail.vars }
         requires is_false { falsifies self.old.trail.marks watch.literal ≡ true }
@@ -143,10 +143,10 @@ impl State {
             self.old.watches self.new.watches watch.literal watch.place watch.clause) }
     {
         let Some(other) = partner(self.watches.pair(watch.clause), watch.literal) else {
-            return Ok(Outcome::Kept);
+            return Ok(Visit::Kept);
         };
         if self.trail.is_false(other.negation()) {
-            return Ok(Outcome::Kept);
+            return Ok(Visit::Kept);
         }
         match find_next(
             self.clauses.clause(watch.clause),
@@ -156,15 +156,15 @@ impl State {
         ) {
             Some(next) => {
                 replace(&mut self.watches, watch, next, other)?;
-                Ok(Outcome::Moved)
+                Ok(Visit::Moved)
             }
             None => {
                 if self.trail.is_false(other) {
-                    return Ok(Outcome::Conflict);
+                    return Ok(Visit::Conflict);
                 }
                 let _count = self.trail.len(); // its range, for the proof
                 self.trail.imply(other, watch.clause, &self.clauses);
-                Ok(Outcome::Kept)
+                Ok(Visit::Kept)
             }
         }
     }
@@ -191,9 +191,9 @@ impl State {
                 place: j,
                 clause: i,
             })? {
-                Outcome::Kept => j += 1,
-                Outcome::Moved => {}
-                Outcome::Conflict => return Ok(Some(i)),
+                Visit::Kept => j += 1,
+                Visit::Moved => {}
+                Visit::Conflict => return Ok(Some(i)),
             }
         }
         Ok(None)

@@ -1,5 +1,5 @@
 // Two multipliers of two bits, the second with its factors exchanged: their products are the same.
-use crate::small::{Outcome, outcome_of};
+use crate::small::{SolverOutcome, outcome_of};
 use dsv_cnf::{Formula, Lit};
 use std::alloc::Global;
 
@@ -90,7 +90,7 @@ fn difference(alloc: Global) -> Option<Formula> {
 /// Whether it is found that they never differ, and the log is accepted.
 fn is_refuted(alloc: Global) -> bool {
     match difference(alloc) {
-        Some(formula) => outcome_of(alloc, &formula, 1_000) == Some(Outcome::Unsatisfiable),
+        Some(formula) => outcome_of(alloc, &formula, 1_000) == Some(SolverOutcome::Unsatisfiable),
         None => false,
     }
 }

@@ -1,7 +1,7 @@
 // Random formulas of 20 variables against enumeration.
 ghost use Rattle.std.specs.Prelude.{◌<◌};
 
-use crate::small::{Outcome, outcome_of};
+use crate::small::{SolverOutcome, outcome_of};
 use dsv_base::NoMemory;
 use dsv_cnf::{Formula, Lit};
 use std::alloc::Global;
@@ -79,9 +79,9 @@ fn is_decided(alloc: Global, seed: u32) -> bool {
         return false;
     };
     let expected = if is_satisfiable(&formula) {
-        Outcome::Satisfiable
+        SolverOutcome::Satisfiable
     } else {
-        Outcome::Unsatisfiable
+        SolverOutcome::Unsatisfiable
     };
     outcome_of(alloc, &formula, 1_000_000) == Some(expected)
 }

@@ -6,7 +6,7 @@ use std::alloc::Global;
 
 /// What a solver answers, where its model satisfies and its log is accepted.
 #[derive(Clone, Copy, PartialEq, Eq)]
-pub enum Outcome {
+pub enum SolverOutcome {
     Satisfiable,
     Unsatisfiable,
     Spent(usize),
@@ -18,7 +18,7 @@ pub enum Outcome {
 struct Case {
     formula: &'static str,
     conflicts: u32,
-    outcome: Outcome,
+    outcome: SolverOutcome,
 }
 
 /// All four clauses over two variables.
@@ -77,57 +77,57 @@ const CASES: [Case; 11] = [
     Case {
         formula: FOUR,
         conflicts: 10,
-        outcome: Outcome::Unsatisfiable,
+        outcome: SolverOutcome::Unsatisfiable,
     },
     Case {
         formula: FOUR,
         conflicts: 1,
-        outcome: Outcome::Unsatisfiable,
+        outcome: SolverOutcome::Unsatisfiable,
     },
     Case {
         formula: "p cnf 1 1\n0\n",
         conflicts: 1,
-        outcome: Outcome::Unsatisfiable,
+        outcome: SolverOutcome::Unsatisfiable,
     },
     Case {
         formula: "p cnf 1 1\n1 1 0\n",
         conflicts: 1,
-        outcome: Outcome::Satisfiable,
+        outcome: SolverOutcome::Satisfiable,
     },
     Case {
         formula: "p cnf 1 2\n1 1 0\n-1 -1 0\n",
         conflicts: 1,
-        outcome: Outcome::Unsatisfiable,
+        outcome: SolverOutcome::Unsatisfiable,
     },
     Case {
         formula: "p cnf 1 1\n1 -1 0\n",
         conflicts: 1,
-        outcome: Outcome::Satisfiable,
+        outcome: SolverOutcome::Satisfiable,
     },
     Case {
         formula: "p cnf 1 2\n1 0\n-1 0\n",
         conflicts: 1,
-        outcome: Outcome::Unsatisfiable,
+        outcome: SolverOutcome::Unsatisfiable,
     },
     Case {
         formula: "p cnf 3 0\n",
         conflicts: 1,
-        outcome: Outcome::Satisfiable,
+        outcome: SolverOutcome::Satisfiable,
     },
     Case {
         formula: "p cnf 0 0\n",
         conflicts: 1,
-        outcome: Outcome::Satisfiable,
+        outcome: SolverOutcome::Satisfiable,
     },
     Case {
         formula: PIGEONS,
         conflicts: 100_000,
-        outcome: Outcome::Unsatisfiable,
+        outcome: SolverOutcome::Unsatisfiable,
     },
     Case {
         formula: PIGEONS,
         conflicts: 10,
-        outcome: Outcome::Spent(10),
+        outcome: SolverOutcome::Spent(10),
     },
 ];
 
@@ -151,20 +151,23 @@ fn is_accepted(alloc: Global, formula: &Formula, log: &Log) -> bool {
     matches!(check(alloc, formula, log), Ok(Verdict::Accepted))
 }
 
-fn outcome_if(right: bool, outcome: Outcome) -> Outcome {
-    if right { outcome } else { Outcome::Wrong }
+fn outcome_if(right: bool, outcome: SolverOutcome) -> SolverOutcome {
+    if right { outcome } else { SolverOutcome::Wrong }
 }
 
 /// What the solver answers; none where there is no memory.
-pub fn outcome_of(alloc: Global, formula: &Formula, conflicts: u32) -> Option<Outcome> {
+pub fn outcome_of(alloc: Global, formula: &Formula, conflicts: u32) -> Option<SolverOutcome> {
     match solve(alloc, formula, conflicts.clamp(1, 1 << 30)) {
         Ok(Searched::Happens(values)) => {
-            Some(outcome_if(is_model(formula, &values), Outcome::Satisfiable))
+            Some(outcome_if(is_model(formula, &values), SolverOutcome::Satisfiable))
         }
         Ok(Searched::Never(log)) => {
-            Some(outcome_if(is_accepted(alloc, formula, &log), Outcome::Unsatisfiable))
+            Some(outcome_if(
+                is_accepted(alloc, formula, &log),
+                SolverOutcome::Unsatisfiable,
+            ))
         }
-        Ok(Searched::Spent(log)) => Some(Outcome::Spent(log.as_slice().len())),
+        Ok(Searched::Spent(log)) => Some(SolverOutcome::Spent(log.as_slice().len())),
         Err(_) => None,
     }
 }

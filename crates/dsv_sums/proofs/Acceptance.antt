@@ -9,8 +9,8 @@ use Rattle.dsv_algebra.specs.Companion.{fall_entry}
 use Rattle.dsv_forms.specs.declared.offers.Form.{Form}
 use Rattle.dsv_forms.specs.declared.offers.Squares.{Squares}
 use Rattle.dsv_forms.specs.declared.offers.Falls.{Falls}
-use Rattle.dsv_forms.specs.declared.refusal.Part.{Part}
-use Rattle.dsv_forms.specs.declared.refusal.Part.TheVariants as part
+use Rattle.dsv_forms.specs.declared.refusal.OfferPart.{OfferPart}
+use Rattle.dsv_forms.specs.declared.refusal.OfferPart.TheVariants as part
 use Rattle.dsv_forms.specs.declared.refusal.FormRefusal.{FormRefusal}
 use Rattle.dsv_forms.specs.declared.refusal.FormRefusal.TheVariants as refusal
 use Rattle.dsv_forms.specs.Refusals.{Test, first_of, any_wide, is_symmetric, bad_shape, right_side, side_numbers, place_tests, row_tests, side_tests, positive_weight_tests, triangle_tests, dominance_tests, definite_tests, form_tests, fall_numbers, falls_refusal}
@@ -44,14 +44,14 @@ has_parts cs offer h =
     record { form = a.0; positive = b.0; fall = b.1 }
 
 -- the numbers on the way to an entry of a form with accepted squares
-place_narrow : (p : Part) (n : ℕ) (s : Squares) (x : ℤ) (numbers : List ℤ) (i j : ℕ) → first_of (place_tests p n s x numbers i j) ≡ None → any_wide numbers ≡ false
+place_narrow : (p : OfferPart) (n : ℕ) (s : Squares) (x : ℤ) (numbers : List ℤ) (i j : ℕ) → first_of (place_tests p n s x numbers i j) ≡ None → any_wide numbers ≡ false
 place_narrow p n s x numbers i j h =
     let wide = any_wide (numbers ++ side_numbers n s x i j) in
     let rest : List Test = (not (int_eq (s.m *ℤ x) (right_side n s i j)), refusal.Identity p i j) ∷ [] in
     let both = neither (first_of ((wide, refusal.Wide p i j) ∷ [])) (first_of rest) (sym (first_before wide (refusal.Wide p i j) rest) ∙ h) in
     (neither_test (any_wide numbers) (any_wide (side_numbers n s x i j)) (sym (any_wide-append numbers (side_numbers n s x i j)) ∙ passes wide (refusal.Wide p i j) both.0)).0
 
-numbers_narrow : (p : Part) (d : ℕ) (s : Squares) (T : Matrix) (numbers : ℕ → ℕ → List ℤ) → first_of (definite_tests p d s T numbers) ≡ None
+numbers_narrow : (p : OfferPart) (d : ℕ) (s : Squares) (T : Matrix) (numbers : ℕ → ℕ → List ℤ) → first_of (definite_tests p d s T numbers) ≡ None
     → (i j : ℕ) → i ≤ j → j < d → any_wide (numbers i j) ≡ false
 numbers_narrow p d s T numbers h i j q b =
     let w = first_of (positive_weight_tests p d s) in

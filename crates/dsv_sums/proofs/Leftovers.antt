@@ -16,7 +16,7 @@ use Rattle.dsv_algebra.specs.Vectors.{Vector, Matrix, vector_of, matrix_of}
 use Rattle.dsv_algebra.proofs.Normaliser.{ring, env, var, plus, minus, times}
 use Rattle.dsv_algebra.proofs.Sums.{sum_same}
 use Rattle.dsv_forms.specs.declared.offers.Squares.{Squares}
-use Rattle.dsv_forms.specs.declared.refusal.Part.{Part}
+use Rattle.dsv_forms.specs.declared.refusal.OfferPart.{OfferPart}
 use Rattle.dsv_forms.specs.Padded.{row_of}
 use Rattle.dsv_forms.specs.Poly.{greatest_order}
 use Rattle.dsv_forms.specs.Refusals.{places, first_of, any_wide, weights_of, rows_of as rows_in, place_tests, row_tests, definite_tests, is_symmetric}
@@ -131,13 +131,13 @@ sum_narrow s v [] n h = let e : v ≡ s = cc in ap is_narrow e ∙ n
 sum_narrow s v (t ∷ ts) n h = step_narrow (any_wide t.0) (is_narrow (s +ℤ t.1)) (s +ℤ t.1) v (λ u. sum_from u ts) refl (λ m k. sum_narrow (s +ℤ t.1) v ts m k) h
 
 -- ---- refusals
-no_sides : (p : Part) (i j : ℕ) (o : Option (ℤ × ℤ)) → o ≡ None → sides_refusal p i j o ≡ None → ⊥
+no_sides : (p : OfferPart) (i j : ℕ) (o : Option (ℤ × ℤ)) → o ≡ None → sides_refusal p i j o ≡ None → ⊥
 no_sides p i j (Some x) e h = cc
 no_sides p i j None e h = cc
 
 -- where both sides at a place have a number on the way that is too wide
 sides_refused : (d : ℕ) (T : Matrix) (i j : ℕ) → i ≤ j → j < d → sides_of d (squares_of d T) (T i j) i j ≡ None
-    → (p : Part) → first_of (definite_tests p d (squares_of d T) T (λ i j. [])) ≡ None → ⊥
+    → (p : OfferPart) → first_of (definite_tests p d (squares_of d T) T (λ i j. [])) ≡ None → ⊥
 sides_refused d T i j q b h p k =
     let s = squares_of d T in
     let o = definite_passes p d s T (λ i j. []) k in

@@ -7,7 +7,7 @@ use Rattle.std.specs.Int.RustNames.{unsigned_abs}
 use Rattle.dsv_algebra.specs.Vectors.{Vector, Matrix}
 use Rattle.dsv_forms.specs.declared.offers.Form.{Form}
 use Rattle.dsv_forms.specs.declared.offers.Squares.{Squares}
-use Rattle.dsv_forms.specs.declared.refusal.Part.{Part}
+use Rattle.dsv_forms.specs.declared.refusal.OfferPart.{OfferPart}
 use Rattle.dsv_forms.specs.Padded.{squares_with}
 use Rattle.dsv_forms.specs.Refusals.{places, first_of, definite_tests}
 use Rattle.dsv_sums.specs.Elimination.{multiple, margin, weight, row, entries_of, elimination}
@@ -42,5 +42,5 @@ first_squares d T k =
 
 -- the squares that elimination gives, if any, are refused
 abbrev pub AreRefused : ℕ → Matrix → Type 0
-AreRefused d T = (s : Squares) (p : Part) → elimination d T ≡ Some s
+AreRefused d T = (s : Squares) (p : OfferPart) → elimination d T ≡ Some s
     → first_of (definite_tests p d s T (λ i j. [])) ≢ None

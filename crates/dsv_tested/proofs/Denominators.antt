@@ -12,7 +12,7 @@ use Rattle.dsv_algebra.specs.Vectors.{Vector, vector_of}
 use Rattle.dsv_algebra.proofs.Normaliser.{ring, env, var, num, plus, times}
 use Rattle.dsv_algebra.proofs.Signs.{mul_positive}
 use Rattle.dsv_names.specs.Realisations.{is_delta}
-use Rattle.dsv_quantiser.specs.FixedPoint.{FixedPoint, IsFixedPoint}
+use Rattle.dsv_quantiser.specs.QuantisedView.{QuantisedView, IsQuantisedView}
 use Rattle.dsv_delta.specs.declared.refusal.PolyWide.{PolyWide}
 use Rattle.dsv_delta.specs.Binomials.{choose}
 use Rattle.dsv_delta.specs.ZCoefficients.{Dyadic, dyadic, scaled, first_wide, z_coefficient, expansion}
@@ -89,7 +89,7 @@ delta_first delta f ws cs h some lead e =
 unit_positive : (w : ℤ) (f : ℕ) → w ≡ pos (2 ^ f) → pos 0 <ℤ w
 unit_positive w f e = let p = pow_pos f in omega (arith, ints)
 
-z_first_case : (b : Bool) (q : FixedPoint) (cs : List ℤ) → is_delta q.realisation ≡ b → IsFixedPoint q → z_list q q.a ≡ Ok cs → pos 0 <ℤ get_or cs 0 (pos 0)
+z_first_case : (b : Bool) (q : QuantisedView) (cs : List ℤ) → is_delta q.realisation ≡ b → IsQuantisedView q → z_list q q.a ≡ Ok cs → pos 0 <ℤ get_or cs 0 (pos 0)
 z_first_case true q cs is h e =
     let lead = unit_positive (get_or q.a 0 (pos 0)) q.format.frac_bits h.leading in
     let delta = rw is at h.delta in
@@ -101,7 +101,7 @@ z_first_case false q cs is h e =
     let items : q.a ≡ cs = ap items_of same in
     rw (← items) lead
 
-z_first : (q : FixedPoint) (cs : List ℤ) → IsFixedPoint q → z_list q q.a ≡ Ok cs → pos 0 <ℤ get_or cs 0 (pos 0)
+z_first : (q : QuantisedView) (cs : List ℤ) → IsQuantisedView q → z_list q q.a ≡ Ok cs → pos 0 <ℤ get_or cs 0 (pos 0)
 z_first q cs h e = z_first_case (is_delta q.realisation) q cs refl h e
 
 denominator_case : (z : Result (List ℤ) PolyWide) → ((cs : List ℤ) → z ≡ Ok cs → pos 0 <ℤ get_or cs 0 (pos 0))
@@ -109,10 +109,10 @@ denominator_case : (z : Result (List ℤ) PolyWide) → ((cs : List ℤ) → z �
 denominator_case (Ok cs) h e = positive_has cs (h cs refl) e
 denominator_case (Err r) h e = cc
 
-denominator_has : (q : FixedPoint) → IsFixedPoint q → tested_of q side.Denominator ≢ no_zeros
+denominator_has : (q : QuantisedView) → IsQuantisedView q → tested_of q side.Denominator ≢ no_zeros
 denominator_has q h e = denominator_case (z_list q q.a) (λ cs is. z_first q cs h is) e
 
-pub only_numerator : (q : FixedPoint) (s : Side) (r : Result Tested PolyWide) → IsFixedPoint q
+pub only_numerator : (q : QuantisedView) (s : Side) (r : Result Tested PolyWide) → IsQuantisedView q
     → MatchResult r (λ found. tested_of q s ≡ Ok found) (λ refusal. tested_of q s ≡ Err refusal)
     → IfOk r (λ found. found ≡ tested.NoZeros → s ≡ side.Numerator)
 only_numerator q side.Numerator (Ok found) h m = λ e. refl

@@ -5,7 +5,7 @@ use Rattle.std.proofs.lemmas.Bool.{cond_both}
 use Rattle.std.proofs.lemmas.List.{length-map}
 use Rattle.std.specs.Int.RustNames.{unsigned_abs}
 use Rattle.dsv_text.specs.Stages.{and_then}
-use Rattle.dsv_quantiser.specs.FixedPoint.{FixedPoint}
+use Rattle.dsv_quantiser.specs.QuantisedView.{QuantisedView}
 use Rattle.dsv_delta.specs.declared.refusal.PolyWide.{PolyWide}
 use Rattle.dsv_tested.specs.Tested.{words_of, z_list, without_leading_zeros, with_positive_lead, are_even, halved_within, without_common_twos, first_over, tested_list, tested_of}
 use Rattle.dsv_tested.specs.declared.side.Side.{Side}
@@ -48,5 +48,5 @@ some_of_stage : (list : Result (List ℤ) PolyWide) (poly : List ℤ) → and_th
 some_of_stage (Ok cs) poly e = some_of_list (without_leading_zeros cs) poly e
 some_of_stage (Err wide) poly e = cc
 
-pub some_coefficients : (q : FixedPoint) (s : Side) (poly : List ℤ) → tested_of q s ≡ Ok (tested.Poly poly) → 0 < length poly
+pub some_coefficients : (q : QuantisedView) (s : Side) (poly : List ℤ) → tested_of q s ≡ Ok (tested.Poly poly) → 0 < length poly
 some_coefficients q s poly e = some_of_stage (z_list q (words_of q s)) poly e

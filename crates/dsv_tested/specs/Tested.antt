@@ -1,4 +1,4 @@
--- The polynomial that stands for a side of a controller in words.
+-- The polynomial that stands for a side of a quantised controller.
 use Rattle.std.specs.Prelude.{ℕ, zero, suc, ◌%◌, ◌==◌, nat_lt, int_lt, Bool, if◌then◌else◌}
 use Rattle.std.specs.Prelude.{List, [], ◌∷◌, map, Option, Some, None, Result, Ok, Err}
 use Rattle.std.specs.Prelude.{ℤ, pos, neg_ℤ}
@@ -10,7 +10,7 @@ use Rattle.dsv_text.specs.Stages.{and_then}
 use Rattle.dsv_names.specs.Realisations.{is_delta}
 use Rattle.dsv_names.specs.declared.property.RootProperty.{RootProperty}
 use Rattle.dsv_names.specs.declared.property.RootProperty.TheVariants as property
-use Rattle.dsv_quantiser.specs.FixedPoint.{FixedPoint}
+use Rattle.dsv_quantiser.specs.QuantisedView.{QuantisedView}
 use Rattle.dsv_delta.specs.ZCoefficients.{z_coefficients}
 use Rattle.dsv_delta.specs.declared.refusal.PolyWide.{PolyWide}
 use Rattle.dsv_forms.specs.Poly.{greatest_coefficient}
@@ -26,14 +26,14 @@ side_of property.Stability = side.Denominator
 side_of property.MinimumPhase = side.Numerator
 
 -- the words of a side
-abbrev pub words_of : FixedPoint → Side → List ℤ
+abbrev pub words_of : QuantisedView → Side → List ℤ
 words_of q side.Denominator = q.a
 words_of q side.Numerator = q.b
 
 -- Its coefficients in z, those of the highest power first: the words themselves in a direct form,
 -- and what the words of a delta form stand for, or the least index at which a number on the way
 -- passes 2^110.
-abbrev pub z_list : FixedPoint → List ℤ → Result (List ℤ) PolyWide
+abbrev pub z_list : QuantisedView → List ℤ → Result (List ℤ) PolyWide
 z_list q words =
     if is_delta q.realisation
     then z_coefficients words (unsigned_abs q.delta) q.format.frac_bits
@@ -85,6 +85,6 @@ tested_list (c ∷ cs) = polynomial_of (without_common_twos (with_positive_lead 
 
 -- the polynomial that is tested for a side; or that its coefficients are all 0; or the least index
 -- at which a number is too wide
-abbrev pub tested_of : FixedPoint → Side → Result Tested PolyWide
+abbrev pub tested_of : QuantisedView → Side → Result Tested PolyWide
 tested_of q of_side =
     and_then (z_list q (words_of q of_side)) (λ cs. tested_list (without_leading_zeros cs))

@@ -10,7 +10,7 @@ ghost use Rattle.std.specs.Prelude.{◌≡◌, ◌<◌, ◌≤◌, length, All, 
 ghost use Rattle.std.specs.Int.RustNames.{unsigned_abs};
 ghost use Rattle.dsv_forms.specs.Poly.{IsPoly, most_coefficients};
 ghost use Rattle.dsv_delta.specs.ZCoefficients.{greatest_word};
-ghost use Rattle.dsv_quantiser.specs.FixedPoint.{IsFixedPoint};
+ghost use Rattle.dsv_quantiser.specs.QuantisedView.{IsQuantisedView};
 ghost use Rattle.dsv_tested.specs.declared.side.Side.TheVariants.{Numerator};
 ghost use Rattle.dsv_tested.specs.declared.side.Tested.TheVariants.{NoZeros};
 ghost use Rattle.dsv_tested.specs.Tested.{words_of, z_list, tested_list, tested_of};
@@ -24,15 +24,15 @@ use dsv_forms::Poly;
 use dsv_quantiser::Quantised;
 
 /// The words of a side.
-fn side_words(words: &Quantised, side: Side) -> &[i64]
-    ensures same { result.now ≡ words_of words.now side }
+fn side_words(quantised: &Quantised, side: Side) -> &[i64]
+    ensures same { result.now ≡ words_of quantised.now side }
     ensures some { 1 ≤ length result.now }
     ensures few { length result.now ≤ most_coefficients }
     ensures small { All (λ w. unsigned_abs w ≤ greatest_word) result.now }
 {
     match side {
-        Side::Denominator => words.a(),
-        Side::Numerator => words.b(),
+        Side::Denominator => quantised.a(),
+        Side::Numerator => quantised.b(),
     }
 }
 
@@ -50,14 +50,14 @@ fn numbers_of(words: &[i64]) -> ZCoeffs
 
 /// The coefficients in z of a side, those of the highest power first; or the least index at which
 /// a number on the way passes 2^110.
-fn z_list(words: &Quantised, side: Side) -> Result<ZCoeffs, PolyWide>
-    ensures exact { let meant = z_list words.now (words_of words.now side) in
+fn z_list(quantised: &Quantised, side: Side) -> Result<ZCoeffs, PolyWide>
+    ensures exact { let meant = z_list quantised.now (words_of quantised.now side) in
         MatchResult result (λ found. meant ≡ Ok found.items) (λ refusal. meant ≡ Err refusal) }
-    ensures fixed_point { IsFixedPoint words.now }
+    ensures quantised { IsQuantisedView quantised.now }
 {
-    let list = side_words(words, side);
-    if words.realisation().is_delta() {
-        z_poly(list, words.delta(), words.format().frac_bits)
+    let list = side_words(quantised, side);
+    if quantised.realisation().is_delta() {
+        z_poly(list, quantised.delta(), quantised.format().frac_bits)
     } else {
         Ok(numbers_of(list))
     }
@@ -90,7 +90,7 @@ pub(crate) fn tested_list(list: &[i128]) -> Result<Tested, PolyWide>
     Ok(Tested::Poly(polynomial(found.as_slice())))
 }
 
-/// The polynomial that is tested for a side of a controller in words: its coefficients in z from
+/// The polynomial that is tested for a side of a quantised controller: its coefficients in z from
 /// the first that isn't 0 on, the first of them positive, with the greatest power of two that
 /// divides all of them taken out; or that they are all 0, which those of a denominator never are.
 /// In a direct form they are the side's words, in a delta form those of the polynomial in z that
@@ -101,12 +101,12 @@ pub(crate) fn tested_list(list: &[i128]) -> Result<Tested, PolyWide>
 /// Where a number on the way to the coefficients in z passes 2^110, the least index of one;
 /// otherwise, where a coefficient of the polynomial is over 2^44 in size, the least index of one,
 /// which doesn't count the leading zeros.
-pub fn polynomial_of(words: &Quantised, side: Side) -> Result<Tested, PolyWide>
-    ensures exact { MatchResult result (λ found. tested_of words.now side ≡ Ok found)
-        (λ refusal. tested_of words.now side ≡ Err refusal) }
+pub fn polynomial_of(quantised: &Quantised, side: Side) -> Result<Tested, PolyWide>
+    ensures exact { MatchResult result (λ found. tested_of quantised.now side ≡ Ok found)
+        (λ refusal. tested_of quantised.now side ≡ Err refusal) }
     // a denominator always has a polynomial
     ensures denominator { IfOk result (λ found. found ≡ NoZeros → side ≡ Numerator) }
 {
-    let list = z_list(words, side)?;
+    let list = z_list(quantised, side)?;
     tested_list(without_leading_zeros(list.as_slice()))
 }

@@ -8,7 +8,7 @@ use Rattle.dsv_unroll.specs.declared.fitting.NodeTerm.{NodeTerm}
 use Rattle.dsv_unroll.specs.declared.inputs.InputTerms.{InputTerms as Inputs}
 use Rattle.dsv_unroll.specs.declared.nodes.SampleTerms.{SampleTerms as Sample}
 use Rattle.dsv_unroll.specs.declared.run.RunTerms.{RunTerms as Run}
-use Rattle.dsv_unroll.specs.declared.set_goals.Start.{Start}
+use Rattle.dsv_unroll.specs.declared.set_goals.GoalStart.{GoalStart}
 use Rattle.dsv_unroll.specs.declared.sets.SumTerm.{SumTerm}
 use Rattle.dsv_unroll.specs.declared.states.StateTerms.{StateTerms as States}
 use Rattle.dsv_unroll.specs.CycleGoals.{CycleTerms}
@@ -76,7 +76,7 @@ states_with t states = record {
 }
 
 -- after a zero in one bit
-abbrev pub start_with : TermsView → TermId → Start → SetStart
+abbrev pub start_with : TermsView → TermId → GoalStart → SetStart
 start_with t zero_bit start = record {
   terms = t;
   zero_bit = zero_bit;

@@ -33,7 +33,7 @@ use std::alloc::Global;
 /// What a goal begins with, after a zero in one bit: the terms of the registers and of the inputs,
 /// and the tests that the inputs are in range.
 #[derive(Drop)]
-pub(crate) struct Start {
+pub(crate) struct GoalStart {
     pub registers: Vec<TermId>,
     pub inputs: Vec<TermId>,
     pub tests: Vec<TermId>,
@@ -75,7 +75,7 @@ impl<'a> Unroller<'a> {
         range: &InputRange,
         samples: u32,
         part: SetPart,
-    ) -> Result<Start, NoMemory>
+    ) -> Result<GoalStart, NoMemory>
         requires zero_bit { built_of terms.old self.now.zero_bit
             ≡ with_node no_terms (TermNode.Constant 1 0) }
         requires low { range.now.low ≤ℤ hi (width self.now.net.now.format) }
@@ -89,7 +89,7 @@ impl<'a> Unroller<'a> {
         let format = self.net.format();
         let registers = self.register_terms(terms, part)?;
         let inputs = input_terms(self.alloc, terms, &format, range, samples)?;
-        Ok(Start {
+        Ok(GoalStart {
             registers,
             inputs: inputs.ids,
             tests: inputs.tests,
@@ -101,7 +101,7 @@ impl<'a> Unroller<'a> {
         &self,
         terms: &mut Terms,
         candidate: &Candidate,
-        start: &Start,
+        start: &GoalStart,
     ) -> Result<StateTerms, NoMemory>
         requires netlist { IsNetlist self.now.net.now }
         requires ready { IsStartReady self.now.net.now
@@ -124,7 +124,7 @@ impl<'a> Unroller<'a> {
         &self,
         terms: &mut Terms,
         candidate: &Candidate,
-        start: &Start,
+        start: &GoalStart,
     ) -> Result<TermId, NoMemory>
         requires netlist { IsNetlist self.now.net.now }
         requires ready { IsStartReady self.now.net.now
@@ -145,7 +145,7 @@ impl<'a> Unroller<'a> {
         &self,
         terms: &mut Terms,
         candidate: &Candidate,
-        start: &Start,
+        start: &GoalStart,
     ) -> Result<TermId, NoMemory>
         requires netlist { IsNetlist self.now.net.now }
         requires ready { IsStartReady self.now.net.now
@@ -167,7 +167,7 @@ impl<'a> Unroller<'a> {
         &self,
         terms: &mut Terms,
         candidate: &Candidate,
-        start: &Start,
+        start: &GoalStart,
     ) -> Result<TermId, NoMemory>
         requires netlist { IsNetlist self.now.net.now }
         requires ready { IsStartReady self.now.net.now
@@ -189,7 +189,7 @@ impl<'a> Unroller<'a> {
         terms: &mut Terms,
         candidate: &Candidate,
         part: SetPart,
-        start: &Start,
+        start: &GoalStart,
     ) -> Result<TermId, NoMemory>
         requires netlist { IsNetlist self.now.net.now }
         requires ready { IsStartReady self.now.net.now

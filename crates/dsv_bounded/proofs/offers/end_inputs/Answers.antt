@@ -11,7 +11,7 @@ use Rattle.dsv_bounded.proofs.offers.end_inputs.Goals as goal
 
 pub loop-i-preserved : goal.loop-i-preserved
 loop-i-preserved c =
-    let q = c.args.q.now in
+    let q = c.args.quantised.now in
     let l = c.loop-i in
     let x = c.end_input.result in
     let fits : SFits w64 x = search rules in

@@ -5,6 +5,6 @@ use Rattle.dsv_bounded.proofs.overflows.overflow.Goals as goal
 
 pub returns-clause-never : goal.returns-clause-never
 returns-clause-never c =
-    let q = c.args.q.now in
+    let q = c.args.quantised.now in
     let samples = c.args.samples in
-    never_as (BreaksWithin q samples) (word_widths q samples) (DoBreak q) c.in_ok-answer.field-0 (breaks_mean q samples c.in_ok-net.ensures.fixed_point) c.in_ok-answer.ensures.never
+    never_as (BreaksWithin q samples) (word_widths q samples) (DoBreak q) c.in_ok-answer.field-0 (breaks_mean q samples c.in_ok-net.ensures.quantised) c.in_ok-answer.ensures.never

@@ -11,14 +11,14 @@ use Rattle.dsv_bounded.proofs.replayed_cycles.replayed_cycle.Goals as goal
 
 pub returns-then-not-sounding-clause-none : goal.returns-then-not-sounding-clause-none
 returns-then-not-sounding-clause-none c = λ p l z.
-    let m = equations_of c.args.q.now in
+    let m = equations_of c.args.quantised.now in
     let lasting = rw c.in-Returns.is at c.replay_cycle.ensures.lasting in
     let heard = lasting p (subst (λ (xs : List ℤ). IsSounding Past m xs p) (sym c.as_slice.ensures) z.sounding) in
     absurd (cc)
 
 pub returns-in_ok-from_slice-in-Returns-clause-cycle : goal.returns-in_ok-from_slice-in-Returns-clause-cycle
 returns-in_ok-from_slice-in-Returns-clause-cycle c =
-    let q = c.args.q.now in
+    let q = c.args.quantised.now in
     let m = equations_of q in
     let period = c.in-Returns.period in
     let start = c.start.inside.items.items in

@@ -6,7 +6,7 @@ use Rattle.dsv_bounded.proofs.transients.quiet_start.Goals as goal
 
 pub returns : goal.returns
 returns c =
-    let q = c.args.q.now in
+    let q = c.args.quantised.now in
     let rs = c.args.registers.now in
     let k = c.forward_registers-forward.result in
     let forward : k ≡ forward_registers_of q.realisation (order q) = search rules in

@@ -1,6 +1,6 @@
 use Rattle.std.proofs.Common.{◌≡◌, ◌-◌, length, true, [], ap, Some, None, refl, sym, ◌∙◌, arith, rules}
 use Rattle.dsv_algebra.specs.Vectors.{vector_of, matrix_of}
-use Rattle.dsv_forms.specs.declared.refusal.Part.TheVariants as part
+use Rattle.dsv_forms.specs.declared.refusal.OfferPart.TheVariants as part
 use Rattle.dsv_forms.specs.Refusals.{refusal_of, first_of, is_symmetric, form_tests, definite_tests}
 use Rattle.dsv_forms.specs.Sums.{IsFallOrWide}
 use Rattle.dsv_forms.proofs.Places.{refusal-err, refusal-ok}

@@ -4,7 +4,7 @@ use lib.Signed.{◌<ℤ◌}
 use mir.Syntax.{w128}
 use mir.Val.{SFits}
 use Rattle.dsv_algebra.specs.Vectors.{vector_of, matrix_of}
-use Rattle.dsv_forms.specs.declared.refusal.Part.TheVariants as part
+use Rattle.dsv_forms.specs.declared.refusal.OfferPart.TheVariants as part
 use Rattle.dsv_forms.specs.Refusals.{refusal_of, first_of, is_symmetric, form_tests, semidefinite_tests, start_tests}
 use Rattle.dsv_forms.specs.Sums.{IsFallOrWide, sum_from, value_summands, value_refusal}
 use Rattle.dsv_forms.proofs.Places.{refusal-err, refusal-ok}

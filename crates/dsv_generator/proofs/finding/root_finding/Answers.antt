@@ -6,8 +6,8 @@ use Rattle.dsv_generator.proofs.finding.root_finding.Goals as goal
 
 pub form_finding-requires : goal.form_finding-requires
 form_finding-requires c =
-    let e : tested_of c.args.words.now c.args.side ≡ Ok (tested.Poly c.in-Ok-Poly.poly) = search rules in
-    closed_of c.args.words.now c.args.side c.in-Ok-Poly.poly c.requires e
+    let e : tested_of c.args.quantised.now c.args.side ≡ Ok (tested.Poly c.in-Ok-Poly.poly) = search rules in
+    closed_of c.args.quantised.now c.args.side c.in-Ok-Poly.poly c.requires e
 
 pub unreachable-requires : goal.unreachable-requires
-unreachable-requires c = never_wide c.args.words.now c.args.side c.in-Err.field-0 c.requires c.in-Err.ensures.exact
+unreachable-requires c = never_wide c.args.quantised.now c.args.side c.in-Err.field-0 c.requires c.in-Err.ensures.exact

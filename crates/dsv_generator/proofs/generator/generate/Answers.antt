@@ -24,7 +24,7 @@ loop-index-preserved c =
     let f = c.in_ok-finding.finding in
     let P : Tally → List SpentLog → Type 0 = λ t logs. IsTally c.args.seed (l.index + 1) t logs in
     let counted = one_more c.args.seed l.index l.state r.first r.second r.third r.fourth l.invariant.state e.first e.second e.third e.fourth l.tally l.spent
-    c.words_of-words.result f l.invariant.tally c.words_of-words.ensures.becomes c.in_ok-finding.ensures in
+    c.quantised_from-quantised.result f l.invariant.tally c.quantised_from-quantised.ensures.becomes c.in_ok-finding.ensures in
     record {
       state = next_before c.args.seed l.index l.state r.first r.second r.third r.fourth l.invariant.state e.first e.second e.third e.fourth;
       tally = subst (λ t. P t c.keep_log.new.logs) (sym c.with_finding-tally.ensures) (subst (λ logs. P (with_finding f l.tally) logs) (sym c.in_ok-keep_log.ensures) counted);

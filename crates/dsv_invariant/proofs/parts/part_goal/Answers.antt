@@ -12,7 +12,7 @@ set_goal-requires-clause-shaped c = subst (λ (k : ℕ). is_shaped k c.args.cand
 
 pub returns-clause-made : goal.returns-clause-made
 returns-clause-made c =
-    let q = c.args.q.now in
+    let q = c.args.quantised.now in
     let low : SFits w64 c.xlo.result = search rules in
     let high : SFits w64 c.xhi.result = search rules in
     let made = rw (to_z-of_z w64 c.xlo.result low, to_z-of_z w64 c.xhi.result high, c.xlo.ensures.same, c.xhi.ensures.same) at c.in_ok-goal.ensures.made in
@@ -25,4 +25,4 @@ returns-clause-asks c =
     let low : SFits w64 c.xlo.result = search rules in
     let high : SFits w64 c.xhi.result = search rules in
     let exact = rw (to_z-of_z w64 c.xlo.result low, to_z-of_z w64 c.xhi.result high, c.xlo.ensures.same, c.xhi.ensures.same) at e.exact in
-    part_asks c.args.q.now c.args.net.now c.args.candidate.now c.args.part g.terms g.root c.requires.net.runs c.len-count.ensures.terms g.stands g.one_bit e.inputs exact
+    part_asks c.args.quantised.now c.args.net.now c.args.candidate.now c.args.part g.terms g.root c.requires.net.runs c.len-count.ensures.terms g.stands g.one_bit e.inputs exact

@@ -11,7 +11,7 @@ loop-word-preserved c =
     let next : SFits w64 c.next_product-next.result = search rules in
     record {
       same =
-          delta_more c.args.q.now c.format-format.result c.delta_word-delta.result c.args.old.now c.loop-word.registers.items c.push.new.self.items c.loop-word.exact.items c.loop-word.word-index
+          delta_more c.args.quantised.now c.format-format.result c.delta_word-delta.result c.args.old.now c.loop-word.registers.items c.push.new.self.items c.loop-word.exact.items c.loop-word.word-index
           c.loop-word.before.now (slice_index_or c.args.old.now c.loop-word.word-index (pos 0)) (record { value = c.next_product-next.result; exact = c.next_product-next.new.exact.items })
           c.format-format.ensures.same c.delta_word-delta.ensures.same (omega arith) refl (simp to_z-of_z at c.next_product-next.ensures.value) (simp to_z-of_z at c.push.ensures.items) ∙ c.loop-word.invariant.same;
       count = omega arith;

@@ -10,7 +10,7 @@ loop-i-preserved c =
     let next : SFits w64 c.transposed_line-next.result = search rules in
     record {
       same =
-          transposed_more c.args.q.now c.format-format.result c.args.signals.x.now c.args.signals.y.now c.feed_forward-b.result.now c.feedback-a.result.now c.args.old.now c.rest_after.result.now
+          transposed_more c.args.quantised.now c.format-format.result c.args.signals.x.now c.args.signals.y.now c.feed_forward-b.result.now c.feedback-a.result.now c.args.old.now c.rest_after.result.now
           c.loop-i.registers.items c.push.new.self.items c.loop-i.exact.items c.loop-i.i
           (slice_index_or c.feed_forward-b.result.now c.loop-i.i (pos 0)) (slice_index_or c.feedback-a.result.now c.loop-i.i (pos 0))
           (record { value = c.transposed_line-next.result; exact = c.transposed_line-next.new.exact.items })

@@ -4,8 +4,8 @@ use Rattle.dsv_meaning.proofs.chains.transposed_chain.Given as goal
 
 abbrev pub invariant-loop-i : goal.invariant-loop-i
 invariant-loop-i l = record {
-  same : transposed_chain l.q l.signals.x.now l.signals.y.now (drop l.i l.b) (drop l.i l.a) (drop l.i l.old) (record { words = l.registers.items; exact = l.exact.items })
-      ≡ transposed_chain l.q l.signals.x.now l.signals.y.now l.b l.a l.old (record { words = l.initial.registers.items; exact = l.initial.exact.items });
+  same : transposed_chain l.quantised l.signals.x.now l.signals.y.now (drop l.i l.b) (drop l.i l.a) (drop l.i l.old) (record { words = l.registers.items; exact = l.exact.items })
+      ≡ transposed_chain l.quantised l.signals.x.now l.signals.y.now l.b l.a l.old (record { words = l.initial.registers.items; exact = l.initial.exact.items });
   count : length l.registers.items ≡ length l.initial.registers.items + l.i;
   room : length l.exact.items ≤ length l.initial.exact.items + 4 * l.i;
 }

@@ -11,7 +11,7 @@ use Rattle.dsv_meaning.proofs.replays.replay_cycle.Goals as goal
 
 pub returns-then-eq : goal.returns-then-eq
 returns-then-eq c =
-    let step : Steps c.args.q.now c.loop-done.registers.items c.next_row-row.new.registers.items (pos 0) (row_of c.next_row-row.result) = record {
+    let step : Steps c.args.quantised.now c.loop-done.registers.items c.next_row-row.new.registers.items (pos 0) (row_of c.next_row-row.result) = record {
       numerator = c.loaded_registers-registers.ensures.numerator;
       many = c.loop-done.invariant.away.many;
       row_is = c.next_row-row.ensures.row;
@@ -25,7 +25,7 @@ returns-then-eq c =
 
 pub loop-done-preserved : goal.loop-done-preserved
 loop-done-preserved c =
-    let step : Steps c.args.q.now c.loop-done.registers.items c.next_row-row.new.registers.items (pos 0) (row_of c.next_row-row.result) = record {
+    let step : Steps c.args.quantised.now c.loop-done.registers.items c.next_row-row.new.registers.items (pos 0) (row_of c.next_row-row.result) = record {
       numerator = c.loaded_registers-registers.ensures.numerator;
       many = c.loop-done.invariant.away.many;
       row_is = c.next_row-row.ensures.row;

@@ -13,7 +13,7 @@ use Rattle.dsv_meaning.proofs.replays.replay_overflow.Goals as goal
 
 pub returns-in-Some-clause-first : goal.returns-in-Some-clause-first
 returns-in-Some-clause-first c =
-    let q = c.args.q.now in
+    let q = c.args.quantised.now in
     let exact = c.in-Some.found.exact in
     let value = c.in-Some.found.value in
     let row = row_of c.next_row-row.result in
@@ -31,7 +31,7 @@ returns-in-Some-clause-first c =
 
 pub loop-i-preserved : goal.loop-i-preserved
 loop-i-preserved c =
-    let q = c.args.q.now in
+    let q = c.args.quantised.now in
     let row = row_of c.next_row-row.result in
     let inside : All (IsWord q.format) row.exact = search rules in
     let fits : SFits w64 c.next_row-row.result.y = search rules in
@@ -48,7 +48,7 @@ loop-i-preserved c =
 
 pub returns-in-Some-clause-outputs : goal.returns-in-Some-clause-outputs
 returns-in-Some-clause-outputs c =
-    let q = c.args.q.now in
+    let q = c.args.quantised.now in
     let row = row_of c.next_row-row.result in
     let step : Steps q c.loop-i.registers.items c.next_row-row.new.registers.items (get_or c.args.inputs.now c.loop-i.i (pos 0)) row = record {
       numerator = c.zero_registers-registers.ensures.numerator;

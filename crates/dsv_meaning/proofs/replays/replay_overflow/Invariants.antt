@@ -5,6 +5,6 @@ use Rattle.dsv_meaning.proofs.replays.replay_overflow.Given as goal
 
 abbrev pub invariant-loop-i : goal.invariant-loop-i
 invariant-loop-i l = record {
-  unbroken : IsUnbroken l.q (zeros (equations_of l.q).many) l.inputs l.registers.items l.i;
-  written : AreOutputs l.q (zeros (equations_of l.q).many) l.inputs l.outputs l.i;
+  unbroken : IsUnbroken l.quantised (zeros (equations_of l.quantised).many) l.inputs l.registers.items l.i;
+  written : AreOutputs l.quantised (zeros (equations_of l.quantised).many) l.inputs l.outputs l.i;
 }

@@ -8,7 +8,7 @@ use Rattle.dsv_meaning.proofs.simulation.simulate.Given as goal
 
 abbrev pub invariant-loop-x : goal.invariant-loop-x
 invariant-loop-x l = record {
-  same : map row_of l.rows.items ++ rows_from (sample l.q) (start_as l.q.realisation (order l.q) l.registers.items) (drop l.x-index l.inputs)
-      ≡ rows (equations_of l.q) l.fn.start l.inputs;
-  many : length l.registers.items ≡ registers_of l.q.realisation (order l.q);
+  same : map row_of l.rows.items ++ rows_from (sample l.quantised) (start_as l.quantised.realisation (order l.quantised) l.registers.items) (drop l.x-index l.inputs)
+      ≡ rows (equations_of l.quantised) l.fn.start l.inputs;
+  many : length l.registers.items ≡ registers_of l.quantised.realisation (order l.quantised);
 }

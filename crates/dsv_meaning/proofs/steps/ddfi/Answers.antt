@@ -9,9 +9,9 @@ use Rattle.dsv_meaning.proofs.steps.ddfi.Goals as goal
 pub returns-clause-sample : goal.returns-clause-sample
 returns-clause-sample c =
     let result : SFits w64 c.direct_output-y.result = search rules in
-    let n : c.order.result ≡ order c.args.q.now = omega arith in
+    let n : c.order.result ≡ order c.args.quantised.now = omega arith in
     simp to_z-of_z
-    (ddfi_sample c.args.q.now c.args.registers.now.items c.split_at.result.0.now c.split_at.result.1.now c.args.x.now
+    (ddfi_sample c.args.quantised.now c.args.registers.now.items c.split_at.result.0.now c.split_at.result.1.now c.args.x.now
     (record { value = c.direct_output-y.result; exact = c.direct_output-y.new.exact.items })
     (record { words = c.delta_chain.new.registers.items; exact = c.delta_chain.new.exact.items }) (record { words = c.delta_chain-2.new.registers.items; exact = c.delta_chain-2.new.exact.items })
     (rw (n, c.as_slice.ensures.value) at c.split_at.ensures.front) (rw (n, c.as_slice.ensures.value) at c.split_at.ensures.back)

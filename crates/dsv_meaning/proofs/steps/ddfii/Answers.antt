@@ -10,7 +10,7 @@ returns-clause-sample c =
     let result : SFits w64 c.forward_sum-y.result = search rules in
     let w : SFits w64 c.feedback_sum-w.result = search rules in
     simp to_z-of_z
-    (ddfii_sample c.args.q.now c.args.registers.now.items c.args.x.now
+    (ddfii_sample c.args.quantised.now c.args.registers.now.items c.args.x.now
     (record { value = c.feedback_sum-w.result; exact = c.feedback_sum-w.new.exact.items }) (record { value = c.forward_sum-y.result; exact = c.forward_sum-y.new.exact.items })
     (record { words = c.delta_chain.new.registers.items; exact = c.delta_chain.new.exact.items })
     (rw (c.requires.empty, c.as_slice-old.ensures.value) at c.feedback_sum-w.ensures.value)

@@ -10,7 +10,7 @@ returns-clause-sample c =
     let result : SFits w64 c.forward_sum-y.result = search rules in
     let w : SFits w64 c.feedback_sum-w.result = search rules in
     simp to_z-of_z
-    (dfii_sample c.args.q.now c.args.registers.now.items c.delay.new.registers.items c.args.x.now
+    (dfii_sample c.args.quantised.now c.args.registers.now.items c.delay.new.registers.items c.args.x.now
     (record { value = c.feedback_sum-w.result; exact = c.feedback_sum-w.new.exact.items }) (record { value = c.forward_sum-y.result; exact = c.forward_sum-y.new.exact.items })
     c.requires.many (rw (c.requires.empty, c.as_slice-old.ensures.value) at c.feedback_sum-w.ensures.value)
     (simp (to_z-of_z, c.as_slice-old.ensures.value) at c.forward_sum-y.ensures.value)

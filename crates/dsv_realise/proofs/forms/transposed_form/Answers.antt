@@ -6,8 +6,8 @@ use Rattle.dsv_realise.proofs.forms.transposed_form.Goals.{then-order-eq0, else-
 
 pub returns-clause-made : goal.returns-clause-made
 returns-clause-made c =
-    let h = c.b.ensures.fixed_point in
-    let q = c.args.q.now in
+    let h = c.b.ensures.quantised in
+    let q = c.args.quantised.now in
     let b = c.b.result.now in
     let n = c.order-order.result in
     let some : 0 < length b = omega (arith, ap length c.b.ensures.same, h.one_length, h.some) in

@@ -14,21 +14,21 @@ use Rattle.dsv_realise.proofs.netlist.realise.Goals as goal
 
 pub unwrap-requires : goal.unwrap-requires
 unwrap-requires c =
-    let q = c.args.q.now in
+    let q = c.args.quantised.now in
     let parts = c.in_ok-parts.parts in
     let e = net_made q parts.nodes.items parts.next.items parts.output c.forward_registers-feed_forward.result c.format.result c.realisation.result c.order.result c.forward_registers-feed_forward.ensures c.realisation.ensures.same c.order.ensures.value c.format.ensures.same c.in_ok-parts.ensures in
-    c.new-net.ensures.exact.1 (subst IsNetlist (sym e) (net_realised q c.order.ensures.fixed_point).netlist)
+    c.new-net.ensures.exact.1 (subst IsNetlist (sym e) (net_realised q c.order.ensures.quantised).netlist)
 
 pub returns-clause-net : goal.returns-clause-net
 returns-clause-net c =
     let parts = c.in_ok-parts.parts in
-    let e = net_made c.args.q.now parts.nodes.items parts.next.items parts.output c.forward_registers-feed_forward.result c.format.result c.realisation.result c.order.result c.forward_registers-feed_forward.ensures c.realisation.ensures.same c.order.ensures.value c.format.ensures.same c.in_ok-parts.ensures in
+    let e = net_made c.args.quantised.now parts.nodes.items parts.next.items parts.output c.forward_registers-feed_forward.result c.format.result c.realisation.result c.order.result c.forward_registers-feed_forward.ensures c.realisation.ensures.same c.order.ensures.value c.format.ensures.same c.in_ok-parts.ensures in
     (rw c.unwrap.ensures at c.new-net.ensures.same) ∙ e
 
 pub returns-clause-runs : goal.returns-clause-runs
 returns-clause-runs c =
-    let P : Net → Type 0 = λ net. RunAlike (List ℤ) Past (system_of net) (equations_of c.args.q.now) in
-    subst P (sym (returns-clause-net c)) (runs_alike c.args.q.now c.order.ensures.fixed_point)
+    let P : Net → Type 0 = λ net. RunAlike (List ℤ) Past (system_of net) (equations_of c.args.quantised.now) in
+    subst P (sym (returns-clause-net c)) (runs_alike c.args.quantised.now c.order.ensures.quantised)
 
 pub returns-clause-counts : goal.returns-clause-counts
-returns-clause-counts c = ap counts_of (returns-clause-net c) ∙ (net_realised c.args.q.now c.order.ensures.fixed_point).counts
+returns-clause-counts c = ap counts_of (returns-clause-net c) ∙ (net_realised c.args.quantised.now c.order.ensures.quantised).counts

@@ -6,6 +6,6 @@ use Rattle.dsv_realise.proofs.realisations.delta_states.Given as goal
 
 abbrev pub invariant-loop-node : goal.invariant-loop-node
 invariant-loop-node l = record {
-  same : with_delta l.q l.older (count l.node (l.end - l.node)) (record { nodes = l.nodes.items; places = l.next.items }) ≡ with_delta l.q l.before (count l.first (order l.q)) (record { nodes = l.fn.nodes.items; places = l.fn.next.items });
+  same : with_delta l.quantised l.older (count l.node (l.end - l.node)) (record { nodes = l.nodes.items; places = l.next.items }) ≡ with_delta l.quantised l.before (count l.first (order l.quantised)) (record { nodes = l.fn.nodes.items; places = l.fn.next.items });
   few : length l.nodes.items ≤ length l.fn.nodes.items + 5 * (l.node - l.first);
 }

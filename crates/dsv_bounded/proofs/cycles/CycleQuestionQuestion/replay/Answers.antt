@@ -12,7 +12,7 @@ use Rattle.dsv_bounded.proofs.cycles.CycleQuestionQuestion.replay.Goals as goal
 
 pub replayed_cycle-requires : goal.replayed_cycle-requires
 replayed_cycle-requires c =
-    let q = c.args.self.now.q.now in
+    let q = c.args.self.now.quantised.now in
     let values = c.args.values.now in
     let start = c.in_ok-start.start in
     let forward : c.forward_registers-forward.result ≡ forward_registers_of q.realisation (order q) = search rules in

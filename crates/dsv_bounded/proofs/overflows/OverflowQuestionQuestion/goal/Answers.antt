@@ -11,4 +11,4 @@ returns-clause-asks c =
     let low : SFits w64 c.xlo.result = search rules in
     let high : SFits w64 c.xhi.result = search rules in
     let exact = rw (to_z-of_z w64 c.xlo.result low, to_z-of_z w64 c.xhi.result high, c.xlo.ensures.same, c.xhi.ensures.same) at e.exact in
-    asks_overflow c.args.self.now.q.now c.args.self.now.net.now c.args.self.now.samples g.terms g.root c.args.self.now.realises.runs c.len-count.ensures.terms g.stands g.one_bit e.inputs exact
+    asks_overflow c.args.self.now.quantised.now c.args.self.now.net.now c.args.self.now.samples g.terms g.root c.args.self.now.realises.runs c.len-count.ensures.terms g.stands g.one_bit e.inputs exact

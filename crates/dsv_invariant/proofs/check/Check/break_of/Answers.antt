@@ -11,14 +11,14 @@ use Rattle.dsv_invariant.proofs.check.Check.break_of.Goals as goal
 
 pub leaving_inputs-requires-clause-leaves : goal.leaving_inputs-requires-clause-leaves
 leaving_inputs-requires-clause-leaves c =
-    let q = c.args.self.now.q.now in
+    let q = c.args.self.now.quantised.now in
     let candidate = c.args.self.now.candidate.now in
     let words = c.args.words.now in
     early_leaves q c.args.self.now.net.now candidate words c.args.self.now.realises.runs (subst (λ (p : SetPart). DoBreak q candidate p words) c.in-Base.is c.requires.breaks)
 
 pub returns-in_ok-leaving_inputs-in-Base : goal.returns-in_ok-leaving_inputs-in-Base
 returns-in_ok-leaving_inputs-in-Base c = λ conflicts before.
-    let q = c.args.self.now.q.now in
+    let q = c.args.self.now.quantised.now in
     let net = c.args.self.now.net.now in
     let candidate = c.args.self.now.candidate.now in
     let words = c.args.words.now in
@@ -29,29 +29,29 @@ returns-in_ok-leaving_inputs-in-Base c = λ conflicts before.
 
 pub unsafe_sample-requires-clause-input : goal.unsafe_sample-requires-clause-input
 unsafe_sample-requires-clause-input c =
-    let q = c.args.self.now.q.now in
+    let q = c.args.self.now.quantised.now in
     let candidate = c.args.self.now.candidate.now in
     let words = c.args.words.now in
-    (broken_start q c.args.self.now.net.now candidate words c.registers-registers.result c.args.self.now.realises.runs c.args.self.now.realises.fixed_point (subst (λ (p : SetPart). DoBreak q candidate p words) c.in-Safe.is c.requires.breaks) c.registers-registers.ensures).word
+    (broken_start q c.args.self.now.net.now candidate words c.registers-registers.result c.args.self.now.realises.runs c.args.self.now.realises.quantised (subst (λ (p : SetPart). DoBreak q candidate p words) c.in-Safe.is c.requires.breaks) c.registers-registers.ensures).word
 
 pub unsafe_sample-requires-clause-breaks : goal.unsafe_sample-requires-clause-breaks
 unsafe_sample-requires-clause-breaks c =
-    let q = c.args.self.now.q.now in
+    let q = c.args.self.now.quantised.now in
     let net = c.args.self.now.net.now in
     let candidate = c.args.self.now.candidate.now in
     let words = c.args.words.now in
     let k = c.registers-registers.result in
-    let start = broken_start q net candidate words k c.args.self.now.realises.runs c.args.self.now.realises.fixed_point (subst (λ (p : SetPart). DoBreak q candidate p words) c.in-Safe.is c.requires.breaks) c.registers-registers.ensures in
+    let start = broken_start q net candidate words k c.args.self.now.realises.runs c.args.self.now.realises.quantised (subst (λ (p : SetPart). DoBreak q candidate p words) c.in-Safe.is c.requires.breaks) c.registers-registers.ensures in
     not_safe q net candidate (take k words) (get_or words k (pos 0)) c.args.self.now.realises.runs start
 
 pub returns-in-Safe : goal.returns-in-Safe
 returns-in-Safe c =
-    let q = c.args.self.now.q.now in
+    let q = c.args.self.now.quantised.now in
     let net = c.args.self.now.net.now in
     let candidate = c.args.self.now.candidate.now in
     let words = c.args.words.now in
     let k = c.registers-registers.result in
-    let start = broken_start q net candidate words k c.args.self.now.realises.runs c.args.self.now.realises.fixed_point (subst (λ (p : SetPart). DoBreak q candidate p words) c.in-Safe.is c.requires.breaks) c.registers-registers.ensures in
+    let start = broken_start q net candidate words k c.args.self.now.realises.runs c.args.self.now.realises.quantised (subst (λ (p : SetPart). DoBreak q candidate p words) c.in-Safe.is c.requires.breaks) c.registers-registers.ensures in
     IfOk-weaker _ (IsUnsafeSample net (take k words) (get_or words k (pos 0))) (IsBreakOf q candidate c.args.part)
     (λ why u conflicts. subst (λ (p : SetPart). IsFoundAt q conflicts candidate p why) (sym c.in-Safe.is)
     (unsafe_found q net candidate (take k words) (get_or words k (pos 0)) conflicts why c.args.self.now.realises.runs start u)) c.unsafe_sample.ensures

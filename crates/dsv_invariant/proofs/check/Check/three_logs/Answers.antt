@@ -6,5 +6,5 @@ returns-clause-good c =
     let base = c.in_ok-base.ensures in
     let step = c.in_ok-step.ensures in
     let safe = c.in_ok-safe.ensures in
-    good_by c.args.self.now.q.now c.args.self.now.conflicts c.args.self.now.candidate.now c.in_ok-base.base c.in_ok-step.step c.in_ok-safe.safe c.args.self.now.realises.fixed_point c.args.self.now.shaped base.holds step.holds safe.holds base.refuted step.refuted
+    good_by c.args.self.now.quantised.now c.args.self.now.conflicts c.args.self.now.candidate.now c.in_ok-base.base c.in_ok-step.step c.in_ok-safe.safe c.args.self.now.realises.quantised c.args.self.now.shaped base.holds step.holds safe.holds base.refuted step.refuted
     safe.refuted

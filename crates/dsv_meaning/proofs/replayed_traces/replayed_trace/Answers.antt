@@ -4,12 +4,12 @@ use Rattle.std.proofs.lemmas.Int.{to_z-of_z}
 use Rattle.std.proofs.lemmas.List.{take_at}
 use Rattle.dsv_meaning.specs.Systems.{equations_of, outputs_over}
 use Rattle.dsv_system.specs.Systems.{zeros}
-use Rattle.dsv_bounded.proofs.Traces.{trace_stands}
-use Rattle.dsv_bounded.proofs.replayed_traces.replayed_trace.Goals as goal
+use Rattle.dsv_meaning.proofs.Traces.{trace_stands}
+use Rattle.dsv_meaning.proofs.replayed_traces.replayed_trace.Goals as goal
 
 pub returns-in-Breaks-clause-trace : goal.returns-in-Breaks-clause-trace
 returns-in-Breaks-clause-trace c =
-    let q = c.args.q.now in
+    let q = c.args.quantised.now in
     let inputs = c.args.inputs.now in
     let sample = c.in-Breaks.sample in
     let wide : SFits w128 c.in-Breaks.exact = search rules in

@@ -1,4 +1,4 @@
-// Controllers in words.
+// Quantised controllers.
 #![tactic(auto, using(dsv_algebra::proofs::Casts::casts))]
 
 use crate::range::range_of;
@@ -10,7 +10,7 @@ use dsv_reader::Controller;
 use dsv_word::Format;
 use std::marker::Model;
 
-/// A controller in words of a format, as one realisation computes it. Both lists of coefficients
+/// A quantised controller of a format, as one realisation computes it. Both lists of coefficients
 /// have one length, from 1 to `MOST_COEFFICIENTS`.
 #[derive(Drop)]
 pub struct Quantised {
@@ -32,28 +32,28 @@ pub struct Quantised {
 }
 
 impl Model for Quantised {
-    ghost use Rattle.dsv_quantiser.specs.FixedPoint.{FixedPoint, IsFixedPoint};
+    ghost use Rattle.dsv_quantiser.specs.QuantisedView.{QuantisedView, IsQuantisedView};
 
-    ghost Value = { FixedPoint };
+    ghost Value = { QuantisedView };
 
-    ghost view = { λ q. record {
-      b = q.b.items;
-      a = q.a.items;
-      delta = q.delta;
-      xlo = q.xlo;
-      xhi = q.xhi;
-      format = q.format;
-      realisation = q.realisation;
+    ghost view = { λ quantised. record {
+      b = quantised.b.items;
+      a = quantised.a.items;
+      delta = quantised.delta;
+      xlo = quantised.xlo;
+      xhi = quantised.xhi;
+      format = quantised.format;
+      realisation = quantised.realisation;
     } };
 
-    ghost invariant = { λ q. IsFixedPoint (record {
-      b = q.b.items;
-      a = q.a.items;
-      delta = q.delta;
-      xlo = q.xlo;
-      xhi = q.xhi;
-      format = q.format;
-      realisation = q.realisation;
+    ghost invariant = { λ quantised. IsQuantisedView (record {
+      b = quantised.b.items;
+      a = quantised.a.items;
+      delta = quantised.delta;
+      xlo = quantised.xlo;
+      xhi = quantised.xhi;
+      format = quantised.format;
+      realisation = quantised.realisation;
     }) };
 }
 
@@ -67,11 +67,15 @@ pub(crate) struct ExactLists<'a> {
 impl Quantised {
     ghost use Rattle.std.specs.Prelude.{◌≡◌, ◌≤◌, ◌+◌, length, IfOk};
     ghost use Rattle.dsv_fraction.specs.Ratio.{most_coefficients};
-    ghost use Rattle.dsv_quantiser.specs.FixedPoint.{FixedPoint, IsFixedPoint, IsDeltaWord};
+    ghost use Rattle.dsv_quantiser.specs.QuantisedView.{
+      QuantisedView,
+      IsQuantisedView,
+      IsDeltaWord,
+    };
     ghost use Rattle.dsv_quantiser.specs.Quantising.{in_words};
     ghost use Rattle.dsv_quantiser.specs.Meaning.{IsInWords};
 
-    /// The controller in words whose coefficients are those of the lists.
+    /// The quantised controller whose coefficients are those of the lists.
     pub(crate) fn in_words(
         controller: &Controller,
         format: Format,
@@ -105,7 +109,7 @@ impl Quantised {
     /// The numerator's words, b_0 first; in the delta forms those of the converted numerator.
     pub fn b(&self) -> &[i64]
         ensures same { result.now ≡ self.now.b }
-        ensures fixed_point { IsFixedPoint self.now }
+        ensures quantised { IsQuantisedView self.now }
     {
         self.b.as_slice()
     }
@@ -113,7 +117,7 @@ impl Quantised {
     /// The denominator's words, a_0 first; in the delta forms those of the converted denominator.
     pub fn a(&self) -> &[i64]
         ensures same { result.now ≡ self.now.a }
-        ensures fixed_point { IsFixedPoint self.now }
+        ensures quantised { IsQuantisedView self.now }
     {
         self.a.as_slice()
     }
@@ -121,7 +125,7 @@ impl Quantised {
     /// The order: one less than the number of coefficients of either list.
     pub fn order(&self) -> usize
         ensures value { result + 1 ≡ length self.now.a }
-        ensures fixed_point { IsFixedPoint self.now }
+        ensures quantised { IsQuantisedView self.now }
     {
         self.a.len() - 1
     }
@@ -129,7 +133,7 @@ impl Quantised {
     /// Delta's word, 0 in the direct forms.
     pub fn delta(&self) -> i64
         ensures same { result ≡ self.now.delta }
-        ensures fixed_point { IsFixedPoint self.now }
+        ensures quantised { IsQuantisedView self.now }
     {
         self.delta
     }
@@ -137,7 +141,7 @@ impl Quantised {
     /// The least input.
     pub fn xlo(&self) -> i64
         ensures same { result ≡ self.now.xlo }
-        ensures fixed_point { IsFixedPoint self.now }
+        ensures quantised { IsQuantisedView self.now }
     {
         self.xlo
     }
@@ -145,7 +149,7 @@ impl Quantised {
     /// The greatest input.
     pub fn xhi(&self) -> i64
         ensures same { result ≡ self.now.xhi }
-        ensures fixed_point { IsFixedPoint self.now }
+        ensures quantised { IsQuantisedView self.now }
     {
         self.xhi
     }
@@ -153,7 +157,7 @@ impl Quantised {
     /// The format of its words.
     pub fn format(&self) -> Format
         ensures same { result ≡ self.now.format }
-        ensures fixed_point { IsFixedPoint self.now }
+        ensures quantised { IsQuantisedView self.now }
     {
         self.format
     }
@@ -161,7 +165,7 @@ impl Quantised {
     /// The realisation.
     pub fn realisation(&self) -> Realisation
         ensures same { result ≡ self.now.realisation }
-        ensures fixed_point { IsFixedPoint self.now }
+        ensures quantised { IsQuantisedView self.now }
     {
         self.realisation
     }

@@ -1,4 +1,4 @@
--- Controllers in words as contracts see them.
+-- Quantised controllers as contracts see them.
 use Rattle.std.specs.Prelude.{◌≡◌, ◌≤◌, ◌^◌, List, length, drop, All}
 use Rattle.std.specs.Prelude.{MatchBool, ℤ, pos, ◌≤ℤ◌, slice_index_or}
 use Rattle.dsv_word.specs.declared.format.Format.{Format}
@@ -8,7 +8,7 @@ use Rattle.dsv_names.specs.Realisations.{is_delta}
 use Rattle.dsv_fraction.specs.Ratio.{most_coefficients}
 
 -- the words of a controller, the range of its inputs, its format and its realisation
-pub record FixedPoint : Type 0 where
+pub record QuantisedView : Type 0 where
   pub b : List ℤ
   pub a : List ℤ
   pub delta : ℤ
@@ -26,8 +26,8 @@ abbrev pub IsDeltaWord : Format → Realisation → ℤ → Type 0
 IsDeltaWord format realisation w =
     MatchBool (is_delta realisation) ((pos 1 ≤ℤ w) × (w ≤ℤ hi (width format))) (w ≡ pos 0)
 
--- what is true of each controller in words
-pub record IsFixedPoint (q : FixedPoint) : Type 0 where
+-- what is true of each quantised controller
+pub record IsQuantisedView (q : QuantisedView) : Type 0 where
   pub one_length : length q.b ≡ length q.a
   pub some : 1 ≤ length q.a
   pub few : length q.a ≤ most_coefficients
