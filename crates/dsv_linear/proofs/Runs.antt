@@ -38,7 +38,7 @@ tracks_from start words x (n ∷ ns) point sample b t =
 abbrev pub behind : List ℤ → Sample → Sample
 behind before sample = record { values = sample.values; exact = before ++ sample.exact }
 
-sample_after : (f : Format) (words : List ℤ) (x : ℤ) (ns : List Node) (before : List ℤ) (sample : Sample)
+pub sample_after : (f : Format) (words : List ℤ) (x : ℤ) (ns : List Node) (before : List ℤ) (sample : Sample)
     → sample_from f words x ns (behind before sample) ≡ behind before (sample_from f words x ns sample)
 sample_after f words x [] before sample = refl
 sample_after f words x (n ∷ ns) before sample =
@@ -62,7 +62,7 @@ load_stand n k us estimates values next s = record {
       (load_one n k us estimates values i (form_at estimates i) refl s));
 }
 
-none_stand : (n : ℕ) (k : ℤ) (us : ℕ → ℤ) → Stand n k us [] []
+pub none_stand : (n : ℕ) (k : ℤ) (us : ℕ → ℤ) → Stand n k us [] []
 none_stand n k us = record { long = refl; each = λ i p. absurd (omega arith) }
 
 -- ---- samples one after another
@@ -112,7 +112,7 @@ facts_hold net (x ∷ xs) start words point exact e a r =
     (facts_hold net xs (loaded net.next start now) s.past now (exact ++ s.exact) e (All-tail In x xs a) (reaches_more net start words x point exact e (All-head In x xs a) r))
 
 -- ---- runs from registers of zeros
-all_between : (low high : ℤ) (xs : List ℤ) → AreInRange low high xs → All (Between low high) xs
+pub all_between : (low high : ℤ) (xs : List ℤ) → AreInRange low high xs → All (Between low high) xs
 all_between low high [] a = All-nil (Between low high)
 all_between low high (x ∷ xs) a =
     let In = λ (y : ℤ). (low ≤ℤ y) × (y ≤ℤ high) in
@@ -132,7 +132,7 @@ zeros_stand m k us = record {
       (subst (λ (v : ℤ). Means 0 k us [] v) (sym (replicated m i (pos 0) (pos 0) q)) (zero_means k us));
 }
 
-first_reaches : (net : Net) (low high : ℤ) → Reaches (zero_start net low high) (zeros (length net.next)) no_point []
+pub first_reaches : (net : Net) (low high : ℤ) → Reaches (zero_start net low high) (zeros (length net.next)) no_point []
 first_reaches net low high = record {
   hold = record { long = refl; each = λ m p. absurd (omega arith) };
   solved = λ a. record {

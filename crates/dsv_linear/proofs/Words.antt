@@ -114,10 +114,10 @@ word_cases true b format v p q e = absurd cc
 word_cases false true format v p q e = absurd cc
 word_cases false false format v p q e = record { low = omega (arith, ints); high = omega (arith, ints) }
 
-is_word-true : (format : Format) (v : ℤ) → is_word format v ≡ true → IsWord format v
+pub is_word-true : (format : Format) (v : ℤ) → is_word format v ≡ true → IsWord format v
 is_word-true format v e = word_cases (int_lt v (lo (width format))) (int_lt (hi (width format)) v) format v refl refl e
 
-between_words : (format : Format) (low high v : ℤ) → IsWord format low → IsWord format high → Between low high v → IsWord format v
+pub between_words : (format : Format) (low high v : ℤ) → IsWord format low → IsWord format high → Between low high v → IsWord format v
 between_words format low high v a b c = record { low = omega (arith, ints, a.low, c.least); high = omega (arith, ints, b.high, c.most) }
 
 inside_is_true : (b : Bool) (format : Format) (low high v : ℤ) → IsWord format low → IsWord format high → Between low high v

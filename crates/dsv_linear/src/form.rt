@@ -19,7 +19,7 @@ use std::alloc::Global;
 
 /// A coefficient for each symbol, 0 for those after the list's end: the scale times a value is the
 /// sum of its form's coefficients, each times its symbol.
-pub(crate) type Form = Items<NarrowInteger>;
+pub type Form = Items<NarrowInteger>;
 
 /// The coefficient of a symbol.
 pub(crate) fn coefficient(form: &Form, j: usize) -> NarrowInteger
@@ -88,7 +88,7 @@ pub(crate) fn product(alloc: Global, c: NarrowInteger, of: &Form) -> Result<Opti
 
 /// The form of a new symbol, after `count` others.
 #[tactic(auto, using(crate::proofs::Entries::zeros_more, crate::proofs::Scales::scales))]
-pub(crate) fn unit(alloc: Global, count: usize) -> Result<Form, NoMemory>
+pub fn unit(alloc: Global, count: usize) -> Result<Form, NoMemory>
     ensures { IfOk result (λ form. form ≡ unit count) }
 {
     let mut form = Form::new(alloc);
@@ -109,7 +109,7 @@ fn least_term(ranges: &[Range], form: &Form, j: usize) -> Option<NarrowInteger>
 }
 
 /// The least sum of a form's coefficients, each times a number in its symbol's range.
-pub(crate) fn least_sum(ranges: &[Range], form: &Form) -> Option<NarrowInteger>
+pub fn least_sum(ranges: &[Range], form: &Form) -> Option<NarrowInteger>
     ensures { result ≡ least ranges.now form.now }
 {
     let mut sum = NarrowInteger::from(0i64);
@@ -130,7 +130,7 @@ fn greatest_term(ranges: &[Range], form: &Form, j: usize) -> Option<NarrowIntege
 }
 
 /// The greatest sum of a form's coefficients, each times a number in its symbol's range.
-pub(crate) fn greatest_sum(ranges: &[Range], form: &Form) -> Option<NarrowInteger>
+pub fn greatest_sum(ranges: &[Range], form: &Form) -> Option<NarrowInteger>
     ensures { result ≡ greatest ranges.now form.now }
 {
     let mut sum = NarrowInteger::from(0i64);

@@ -112,7 +112,7 @@ fn word_of(format: &Format, v: NarrowInteger) -> Option<i64>
 }
 
 /// Whether both ends are words.
-fn are_words(format: &Format, range: &Range) -> bool
+pub fn are_words(format: &Format, range: &Range) -> bool
     ensures { result ≡ are_words format.now range.now }
 {
     word_of(format, range.low).is_some() && word_of(format, range.high).is_some()
@@ -132,7 +132,7 @@ fn ranged_fact(format: &Format, ends: &Range, interval: Option<Range>) -> Fact
 }
 
 /// The range of the form of the value of this number.
-fn ends_at(point: &Point, i: u32) -> Option<Range>
+pub fn ends_at(point: &Point, i: u32) -> Option<Range>
     ensures { result ≡ ends_at point.now i }
 {
     form_range(point.ranges.as_slice(), form_at(&point.estimates, i)?)

@@ -13,10 +13,15 @@ mod rounding;
 mod run;
 
 pub use fact::Fact;
-pub use run::{Facts, facts_of};
+pub use form::{Form, greatest_sum, least_sum, unit};
+pub use intervals::{are_words, ends_at};
+pub use nodes::add_form;
+pub use point::{Entry, Estimate, Point, Start, form_at};
+pub use range::Range;
+pub use run::{Facts, facts_of, loaded_estimates, next_of, no_point, nodes_of, zero_start};
 
 /// What coefficients are multiplied by.
-pub(crate) const SCALE: u64 = 1 << 40;
+pub const SCALE: u64 = 1 << 40;
 
 /// What the ends of symbols' ranges are multiplied by.
-pub(crate) const RANGE_SCALE: u64 = 1 << 20;
+pub const RANGE_SCALE: u64 = 1 << 20;

@@ -1,6 +1,6 @@
 // What a node adds to what is known.
 ghost use Rattle.std.specs.Prelude.{◌≡◌, ◌++◌, IfOk};
-ghost use Rattle.std.specs.Prelude.{option_to_list};
+ghost use Rattle.std.specs.Prelude.{option_to_list, None};
 ghost use Rattle.dsv_linear.specs.Forms.{without_symbol};
 ghost use Rattle.dsv_linear.specs.Known.{form_at, product_at, sum_at, difference_at, rounded_at};
 ghost use Rattle.dsv_linear.specs.Known.{input_entry, form_of, symbol_of};
@@ -185,4 +185,18 @@ pub(crate) fn add_node(
     let interval = node_interval(start, point, node);
     let fact = node_fact(&start.format, point, node);
     point.advance(entry, interval, fact)
+}
+
+/// Adds the form alone that a node gives, no interval and no fact.
+pub fn add_form(
+    alloc: Global,
+    start: &Start,
+    point: &mut Point,
+    node: &Node,
+) -> Result<(), NoMemory>
+    ensures { IfOk result (λ u. point.new
+        ≡ advanced point.old (node_entry start.now point.old node.now) None None) }
+{
+    let entry = node_entry(alloc, start, point, node)?;
+    point.advance(entry, None, None)
 }

@@ -10,14 +10,14 @@ use dsv_word::Format;
 
 /// The form of a value, and the range of the symbol that the value brings, if it brings one.
 #[derive(Drop)]
-pub(crate) struct Entry {
+pub struct Entry {
     pub form: Form,
     pub symbol: Option<Range>,
 }
 
 /// What is known of a value: its linear form, and a range without one.
 #[derive(Drop)]
-pub(crate) struct Estimate {
+pub struct Estimate {
     pub form: Option<Form>,
     pub interval: Option<Range>,
 }
@@ -25,7 +25,7 @@ pub(crate) struct Estimate {
 /// What a sample starts with: the format, the range of its input, and what is known of the words in
 /// the registers.
 #[derive(Drop)]
-pub(crate) struct Start {
+pub struct Start {
     pub format: Format,
     pub input: Range,
     pub registers: Items<Estimate>,
@@ -34,14 +34,14 @@ pub(crate) struct Start {
 /// How far a sample has come: what is known of the values of its nodes so far, the ranges of all
 /// symbols so far, and the facts of all exact values so far.
 #[derive(Drop)]
-pub(crate) struct Point {
+pub struct Point {
     pub estimates: Items<Estimate>,
     pub ranges: Items<Range>,
     pub facts: Items<Fact>,
 }
 
 /// The form of the value of this number.
-pub(crate) fn form_at(estimates: &Items<Estimate>, i: u32) -> Option<&Form>
+pub fn form_at(estimates: &Items<Estimate>, i: u32) -> Option<&Form>
     ensures { MatchOption result (form_at estimates.now i ≡ None)
         (λ form. form_at estimates.now i ≡ Some form.now) }
 {

@@ -9,7 +9,7 @@ use dsv_algebra::NarrowInteger;
 
 /// The least and the greatest number of a range.
 #[derive(Clone, Copy, Debug, PartialEq, Eq)]
-pub(crate) struct Range {
+pub struct Range {
     pub low: NarrowInteger,
     pub high: NarrowInteger,
 }
@@ -57,7 +57,7 @@ pub(crate) fn greatest_factor(c: NarrowInteger, range: &Range) -> NarrowInteger
 
 impl Range {
     /// The range of these ends.
-    pub(crate) fn between(low: &i128, high: &i128) -> Range
+    pub fn between(low: &i128, high: &i128) -> Range
         ensures { result ≡ range low.now high.now }
     {
         Range {

@@ -19,7 +19,7 @@ use dsv_netlist::{Netlist, Node};
 use std::alloc::Global;
 
 /// The nodes of a netlist.
-fn nodes_of(alloc: Global, net: &Netlist) -> Result<Vec<Node>, NoMemory>
+pub fn nodes_of(alloc: Global, net: &Netlist) -> Result<Vec<Node>, NoMemory>
     ensures { IfOk result (λ nodes. nodes.items ≡ net.now.nodes) }
 {
     let count = net.len();
@@ -32,7 +32,7 @@ fn nodes_of(alloc: Global, net: &Netlist) -> Result<Vec<Node>, NoMemory>
 }
 
 /// The nodes that the registers are loaded from.
-fn next_of(alloc: Global, net: &Netlist) -> Result<Vec<u32>, NoMemory>
+pub fn next_of(alloc: Global, net: &Netlist) -> Result<Vec<u32>, NoMemory>
     ensures { IfOk result (λ next. next.items ≡ net.now.next) }
 {
     let count = net.registers();
@@ -73,7 +73,7 @@ fn estimate_at(alloc: Global, estimates: &Items<Estimate>, i: u32) -> Result<Est
 
 /// What is known of the words in the registers that are loaded from these nodes.
 #[tactic(auto, using(crate::proofs::Passes::mapped_more))]
-fn loaded_estimates(
+pub fn loaded_estimates(
     alloc: Global,
     next: &[u32],
     estimates: &Items<Estimate>,
@@ -143,7 +143,7 @@ fn zero_registers(alloc: Global, count: u32) -> Result<Items<Estimate>, NoMemory
 }
 
 /// What a run starts with whose registers are 0, over inputs from `low` to `high`.
-fn zero_start(alloc: Global, net: &Netlist, low: i64, high: i64) -> Result<Start, NoMemory>
+pub fn zero_start(alloc: Global, net: &Netlist, low: i64, high: i64) -> Result<Start, NoMemory>
     ensures { IfOk result (λ start. start ≡ zero_start net.now low high) }
 {
     let registers = zero_registers(alloc, net.registers())?;
@@ -155,7 +155,7 @@ fn zero_start(alloc: Global, net: &Netlist, low: i64, high: i64) -> Result<Start
 }
 
 /// No symbol and no fact yet.
-fn no_point(alloc: Global) -> Point
+pub fn no_point(alloc: Global) -> Point
     ensures { result ≡ no_point }
 {
     Point {

@@ -1,0 +1,195 @@
+-- Ranges whose ends are words, and the least range that holds two.
+use Rattle.std.proofs.Common.{◌≡◌, ℕ, zero, suc, ◌+◌, Bool, true, false, if◌then◌else◌, List, [], ◌∷◌, length, inl, inr, ◌⊎◌, refl, sym, subst, ap, ◌∙◌, arith, length-append}
+use Rattle.std.specs.Prelude.{Option, Some, None, IfSome, int_lt}
+use Rattle.std.specs.List.{All}
+use Rattle.std.proofs.Math.IntN.{ℤ}
+use Rattle.std.proofs.lemmas.Int.{ints}
+use lib.Signed.{◌≤ℤ◌}
+use Rattle.std.proofs.lemmas.List.Elements.{All-head, All-tail, All-nil, All-cons, All-append}
+use Rattle.dsv_word.specs.declared.format.Format.{Format}
+use Rattle.dsv_word.specs.Words.{IsWord}
+use Rattle.dsv_netlist.specs.declared.node.Node.{Node}
+use Rattle.dsv_netlist.specs.declared.node.Node.TheVariants.{Input, Reg, MulConst, Round, Add, Sub, Fit}
+use Rattle.dsv_netlist.specs.Nodes.{Net, node_exact}
+use Rattle.dsv_linear.specs.Facts.{LiesWithin}
+use Rattle.dsv_linear.specs.declared.range.Range.{Range}
+use Rattle.dsv_linear.specs.declared.point.Start.{Start}
+use Rattle.dsv_linear.specs.declared.point.Point.{Point}
+use Rattle.dsv_linear.specs.Forms.{◌>>=◌}
+use Rattle.dsv_linear.specs.Known.{ends_at, fresh}
+use Rattle.dsv_linear.proofs.Numbers.{some_of}
+use Rattle.dsv_gain.specs.declared.pass.Pass.{Pass}
+use Rattle.dsv_gain.specs.declared.ends.Ends.{Ends}
+use Rattle.dsv_gain.specs.declared.ends.Ends.TheVariants as shown
+use Rattle.dsv_gain.specs.Gains.{after_form, node_ends, ends_from, hull, hulls, hulls_after, pass_ends, after_pass}
+use Rattle.dsv_gain.specs.Safe.{LieWithin}
+use Rattle.dsv_gain.proofs.Samples.{value_is, parts_are}
+
+-- both ends are words
+pub record HasWords (f : Format) (r : Range) : Type 0 where
+  pub low : IsWord f r.low
+  pub high : IsWord f r.high
+
+-- so many ranges, whose ends are words
+pub record AreRanges (f : Format) (n : ℕ) (rs : List Range) : Type 0 where
+  pub many : length rs ≡ n
+  pub words : All (HasWords f) rs
+
+-- ---- two ranges
+least_cases : (b : Bool) (f : Format) (x y v : ℤ) → int_lt y x ≡ b → IsWord f x → IsWord f y → (x ≤ℤ v) ⊎ (y ≤ℤ v) → IsWord f (if b then y else x) × ((if b then y else x) ≤ℤ v)
+least_cases true f x y v e p q h = (q, elim h [ inl l ↦ omega (arith, ints) | inr l ↦ l ])
+least_cases false f x y v e p q h = (p, elim h [ inl l ↦ l | inr l ↦ omega (arith, ints) ])
+
+most_cases : (b : Bool) (f : Format) (x y v : ℤ) → int_lt x y ≡ b → IsWord f x → IsWord f y → (v ≤ℤ x) ⊎ (v ≤ℤ y) → IsWord f (if b then y else x) × (v ≤ℤ (if b then y else x))
+most_cases true f x y v e p q h = (q, elim h [ inl l ↦ omega (arith, ints) | inr l ↦ l ])
+most_cases false f x y v e p q h = (p, elim h [ inl l ↦ l | inr l ↦ omega (arith, ints) ])
+
+hull_left : (f : Format) (r s : Range) (v : ℤ) → LiesWithin f r.low r.high v → HasWords f s → LiesWithin f (hull r s).low (hull r s).high v
+hull_left f r s v l w =
+    let low = least_cases (int_lt s.low r.low) f r.low s.low v refl l.low_word w.low (inl l.between.least) in
+    let high = most_cases (int_lt r.high s.high) f r.high s.high v refl l.high_word w.high (inl l.between.most) in
+    record { low_word = low.0; high_word = high.0; between = record { least = low.1; most = high.1 } }
+
+hull_right : (f : Format) (r s : Range) (v : ℤ) → HasWords f r → LiesWithin f s.low s.high v → LiesWithin f (hull r s).low (hull r s).high v
+hull_right f r s v w l =
+    let low = least_cases (int_lt s.low r.low) f r.low s.low v refl w.low l.low_word (inr l.between.least) in
+    let high = most_cases (int_lt r.high s.high) f r.high s.high v refl w.high l.high_word (inr l.between.most) in
+    record { low_word = low.0; high_word = high.0; between = record { least = low.1; most = high.1 } }
+
+choose : (b : Bool) (f : Format) (x y : ℤ) → IsWord f x → IsWord f y → IsWord f (if b then y else x)
+choose true f x y p q = q
+choose false f x y p q = p
+
+hull_words : (f : Format) (r s : Range) → HasWords f r → HasWords f s → HasWords f (hull r s)
+hull_words f r s a b = record { low = choose (int_lt s.low r.low) f r.low s.low a.low b.low; high = choose (int_lt r.high s.high) f r.high s.high a.high b.high }
+
+-- ---- lists of ranges
+pub hulls_left : (f : Format) (rs ss : List Range) (vs : List ℤ) → length rs ≡ length ss → LieWithin f rs vs → All (HasWords f) ss → LieWithin f (hulls rs ss) vs
+hulls_left f [] ss vs e l w = l
+hulls_left f (r ∷ rs) [] vs e l w = absurd (omega arith)
+hulls_left f (r ∷ rs) (s ∷ ss) [] e l w = absurd l
+hulls_left f (r ∷ rs) (s ∷ ss) (v ∷ vs) e l w = (hull_left f r s v l.0 (All-head (HasWords f) s ss w), hulls_left f rs ss vs (omega arith) l.1 (All-tail (HasWords f) s ss w))
+
+pub hulls_right : (f : Format) (rs ss : List Range) (vs : List ℤ) → length rs ≡ length ss → All (HasWords f) rs → LieWithin f ss vs → LieWithin f (hulls rs ss) vs
+hulls_right f [] [] vs e w l = l
+hulls_right f [] (s ∷ ss) vs e w l = absurd (omega arith)
+hulls_right f (r ∷ rs) [] vs e w l = absurd (omega arith)
+hulls_right f (r ∷ rs) (s ∷ ss) [] e w l = absurd l
+hulls_right f (r ∷ rs) (s ∷ ss) (v ∷ vs) e w l = (hull_right f r s v (All-head (HasWords f) r rs w) l.0, hulls_right f rs ss vs (omega arith) (All-tail (HasWords f) r rs w) l.1)
+
+hulls_words : (f : Format) (rs ss : List Range) → All (HasWords f) rs → All (HasWords f) ss → All (HasWords f) (hulls rs ss)
+hulls_words f [] ss a b = All-nil (HasWords f)
+hulls_words f (r ∷ rs) [] a b = All-nil (HasWords f)
+hulls_words f (r ∷ rs) (s ∷ ss) a b =
+    All-cons (HasWords f) (hull r s) (hulls rs ss) (hull_words f r s (All-head (HasWords f) r rs a) (All-head (HasWords f) s ss b))
+    (hulls_words f rs ss (All-tail (HasWords f) r rs a) (All-tail (HasWords f) s ss b))
+
+hulls_length : (rs ss : List Range) → length rs ≡ length ss → length (hulls rs ss) ≡ length rs
+hulls_length [] ss e = refl
+hulls_length (r ∷ rs) [] e = absurd (omega arith)
+hulls_length (r ∷ rs) (s ∷ ss) e = ap suc (hulls_length rs ss (omega arith))
+
+hulls_are : (f : Format) (n : ℕ) (rs ss : List Range) → AreRanges f n rs → AreRanges f n ss → AreRanges f n (hulls rs ss)
+hulls_are f n rs ss a b = record { many = hulls_length rs ss (a.many ∙ sym b.many) ∙ a.many; words = hulls_words f rs ss a.words b.words }
+
+-- ---- the ranges of samples
+-- how many exact values nodes have
+abbrev pub fits : List Node → ℕ
+fits [] = 0
+fits (n ∷ ns) = length (node_exact [] n) + fits ns
+
+none_are : (f : Format) (all : List Range) → shown.Words [] ≡ shown.Words all → AreRanges f 0 all
+none_are f all e = let same : [] ≡ all = cc in subst (λ (rs : List Range). AreRanges f 0 rs) same (record { many = refl; words = All-nil (HasWords f) })
+
+node_are : (f : Format) (point : Point) (n : Node) (all : List Range) → node_ends f point n ≡ shown.Words all → AreRanges f (length (node_exact [] n)) all
+node_are f point Input all e = none_are f all e
+node_are f point (Reg r) all e = none_are f all e
+node_are f point (MulConst c i) all e = none_are f all e
+node_are f point (Round i) all e = none_are f all e
+node_are f point (Add i j) all e = none_are f all e
+node_are f point (Sub i j) all e = none_are f all e
+node_are f point (Fit i) all e =
+    let o = value_is f (ends_at point i) all e in
+    subst (λ (rs : List Range). AreRanges f 1 rs) (sym o.alone) (record { many = refl; words = All-cons (HasWords f) o.ends [] (record { low = o.low; high = o.high }) (All-nil (HasWords f)) })
+
+ends_are : (start : Start) (ns : List Node) (point : Point) (all : List Range) → ends_from start ns point ≡ shown.Words all → AreRanges start.format (fits ns) all
+ends_are start [] point all e = none_are start.format all e
+ends_are start (n ∷ ns) point all e =
+    let f = start.format in
+    let last = after_form start point n in
+    let p = parts_are (node_ends f point n) (ends_from start ns last) all e in
+    let a = node_are f point n p.ranges p.here in
+    let b = ends_are start ns last p.more p.there in
+    subst (λ (rs : List Range). AreRanges f (fits (n ∷ ns)) rs) p.together (record {
+      many = length-append p.ranges p.more ∙ rw (a.many, b.many) refl;
+      words = All-append (HasWords f) p.ranges p.more a.words b.words;
+    })
+
+-- ---- a sample's ranges, where all of them have words as their ends
+abbrev pub words_in : Ends → Option (List Range)
+words_in (shown.Words ranges) = Some ranges
+words_in (shown.Leaves value) = None
+
+abbrev pub pass_words : List Node → Pass → Option (List Range)
+pass_words nodes pass = words_in (pass_ends nodes pass)
+
+pub words_are : (e : Ends) (all : List Range) → words_in e ≡ Some all → e ≡ shown.Words all
+words_are (shown.Words ranges) all h = let same : ranges ≡ all = cc in ap (λ (rs : List Range). shown.Words rs) same
+words_are (shown.Leaves value) all h = absurd cc
+
+-- ---- the first samples
+-- the ranges of this sample and of so many after it, and of those before
+abbrev pub run_ends : Net → ℕ → Pass → Option (List Range) → Option (List Range)
+run_ends net zero pass before = pass_words net.nodes pass >>= λ ends. Some (hulls_after before ends)
+run_ends net (suc n) pass before = pass_words net.nodes pass >>= λ ends. run_ends net n (after_pass net.nodes net.next pass) (Some (hulls_after before ends))
+
+-- the ranges of the sample after so many
+abbrev pub ends_after : Net → ℕ → Pass → Option (List Range)
+ends_after net zero pass = pass_words net.nodes pass
+ends_after net (suc n) pass = ends_after net n (after_pass net.nodes net.next pass)
+
+-- those before are ranges, if there are any
+abbrev pub AreBefore : Net → Option (List Range) → Type 0
+AreBefore net before = IfSome before (AreRanges net.format (fits net.nodes))
+
+pub pass_are : (net : Net) (pass : Pass) (ends : List Range) → pass.start.format ≡ net.format → pass_words net.nodes pass ≡ Some ends → AreRanges net.format (fits net.nodes) ends
+pass_are net pass ends f e = subst (λ (g : Format). AreRanges g (fits net.nodes) ends) f (ends_are pass.start net.nodes (fresh pass.point) ends (words_are (pass_ends net.nodes pass) ends e))
+
+pub hulls_after-are : (net : Net) (before : Option (List Range)) (ends : List Range) → AreBefore net before → AreRanges net.format (fits net.nodes) ends → AreRanges net.format (fits net.nodes) (hulls_after before ends)
+hulls_after-are net None ends b a = a
+hulls_after-are net (Some others) ends b a = hulls_are net.format (fits net.nodes) others ends b a
+
+-- what lies in the ranges of the last sample
+pub hulls_after-last : (net : Net) (before : Option (List Range)) (ends : List Range) (vs : List ℤ) → AreBefore net before → AreRanges net.format (fits net.nodes) ends → LieWithin net.format ends vs
+    → LieWithin net.format (hulls_after before ends) vs
+hulls_after-last net None ends vs b a l = l
+hulls_after-last net (Some others) ends vs b a l = hulls_right net.format others ends vs (b.many ∙ sym a.many) b.words l
+
+pub run_are : (net : Net) (n : ℕ) (pass : Pass) (before : Option (List Range)) (all : List Range) → pass.start.format ≡ net.format → AreBefore net before → run_ends net n pass before ≡ Some all
+    → AreRanges net.format (fits net.nodes) all
+run_are net zero pass before all f b e =
+    let one = some_of (pass_words net.nodes pass) (λ ends. Some (hulls_after before ends)) all e in
+    let same : hulls_after before one.0 ≡ all = let g = one.2 in cc in
+    subst (AreRanges net.format (fits net.nodes)) same (hulls_after-are net before one.0 b (pass_are net pass one.0 f one.1))
+run_are net (suc n) pass before all f b e =
+    let after = after_pass net.nodes net.next pass in
+    let one = some_of (pass_words net.nodes pass) (λ ends. run_ends net n after (Some (hulls_after before ends))) all e in
+    run_are net n after (Some (hulls_after before one.0)) all f (hulls_after-are net before one.0 b (pass_are net pass one.0 f one.1)) one.2
+
+-- what lies in the ranges before lies in all
+pub run_keeps : (net : Net) (n : ℕ) (pass : Pass) (others all : List Range) (vs : List ℤ) → pass.start.format ≡ net.format → AreRanges net.format (fits net.nodes) others → run_ends net n pass (Some others) ≡ Some all
+    → LieWithin net.format others vs → LieWithin net.format all vs
+run_keeps net zero pass others all vs f b e l =
+    let one = some_of (pass_words net.nodes pass) (λ ends. Some (hulls others ends)) all e in
+    let same : hulls others one.0 ≡ all = let g = one.2 in cc in
+    let a = pass_are net pass one.0 f one.1 in
+    subst (λ (rs : List Range). LieWithin net.format rs vs) same (hulls_left net.format others one.0 vs (b.many ∙ sym a.many) l a.words)
+run_keeps net (suc n) pass others all vs f b e l =
+    let after = after_pass net.nodes net.next pass in
+    let one = some_of (pass_words net.nodes pass) (λ ends. run_ends net n after (Some (hulls others ends))) all e in
+    let a = pass_are net pass one.0 f one.1 in
+    run_keeps net n after (hulls others one.0) all vs f (hulls_are net.format (fits net.nodes) others one.0 b a) one.2 (hulls_left net.format others one.0 vs (b.many ∙ sym a.many) l a.words)
+
+pub after_are : (net : Net) (n : ℕ) (pass : Pass) (ends : List Range) → pass.start.format ≡ net.format → ends_after net n pass ≡ Some ends → AreRanges net.format (fits net.nodes) ends
+after_are net zero pass ends f e = pass_are net pass ends f e
+after_are net (suc n) pass ends f e = after_are net n (after_pass net.nodes net.next pass) ends f e

@@ -1,0 +1,9 @@
+mod Samples
+mod Hulls
+mod Passes
+mod Pasts
+mod Symbols
+pub mod Gains
+pub mod Depths
+mod Loops
+mod Equations

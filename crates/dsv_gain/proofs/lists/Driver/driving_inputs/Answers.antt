@@ -1,0 +1,24 @@
+use Rattle.std.proofs.Common.{◌≡◌, ◌++◌, ◌∷◌, [], arith, ap, sym, subst, length, rules, SFits, w64}
+use Rattle.std.specs.Prelude.{◌≤ℤ◌}
+use Rattle.std.specs.List.{All}
+use Rattle.std.proofs.Math.IntN.{ℤ}
+use Rattle.std.proofs.lemmas.Int.{to_z-of_z}
+use Rattle.std.proofs.lemmas.List.{length-append}
+use Rattle.std.proofs.lemmas.List.Elements.{All-push}
+use Rattle.dsv_system.specs.Systems.{AreInRange}
+use Rattle.dsv_word.specs.Words.{IsWord}
+use Rattle.dsv_gain.proofs.lists.Driver.driving_inputs.Goals as goal
+
+pub loop-i-preserved : goal.loop-i-preserved
+loop-i-preserved c =
+    let q = c.args.self.now.quantised.now in
+    let l = c.loop-i in
+    let x = c.driving_input.result in
+    let fits : SFits w64 x = search rules in
+    let pushed = simp to_z-of_z at c.in_ok-push.ensures.ok in
+    let new : c.push.new.self ≡ l.inputs ++ x ∷ [] = pushed in
+    record {
+      range = subst (AreInRange q.xlo q.xhi) (sym new) (All-push (λ (z : ℤ). (q.xlo ≤ℤ z) × (z ≤ℤ q.xhi)) l.inputs x l.invariant.range (c.driving_input.ensures.low, c.driving_input.ensures.high));
+      words = subst (All (IsWord q.format)) (sym new) (All-push (IsWord q.format) l.inputs x l.invariant.words c.driving_input.ensures.word);
+      many = omega (arith, ap length new, length-append l.inputs (x ∷ []), l.invariant.many);
+    }

@@ -1,0 +1,260 @@
+-- What the runs of a netlist show of its exact values, whatever their length: passes of linear
+-- forms from registers of zeros and from registers that are any words.
+use Rattle.std.specs.Prelude.{ℕ, zero, suc, ◌+◌, ◌-◌, ◌*◌, Bool, true, false, nat_lt}
+use Rattle.std.specs.Prelude.{if◌then◌else◌, List, [], ◌∷◌, ◌++◌, length, take, replicate}
+use Rattle.std.specs.Prelude.{Option, Some, None, ℤ, pos, ◌-ℤ◌, ◌*ℤ◌, int_lt}
+use Rattle.std.specs.List.{list_all}
+use Rattle.dsv_algebra.specs.Narrow.{narrow_of}
+use Rattle.dsv_word.specs.declared.format.Format.{Format}
+use Rattle.dsv_word.specs.Words.{width, lo, hi}
+use Rattle.dsv_netlist.specs.declared.node.Node.{Node}
+use Rattle.dsv_netlist.specs.declared.node.Node.TheVariants.{Input, Reg, MulConst}
+use Rattle.dsv_netlist.specs.declared.node.Node.TheVariants.{Round, Add, Sub, Fit}
+use Rattle.dsv_netlist.specs.Nodes.{Net}
+use Rattle.dsv_linear.specs.declared.range.Range.{Range}
+use Rattle.dsv_linear.specs.declared.point.Estimate.{Estimate}
+use Rattle.dsv_linear.specs.declared.point.Start.{Start}
+use Rattle.dsv_linear.specs.declared.point.Point.{Point}
+use Rattle.dsv_linear.specs.Forms.{◌>>=◌, scale, range_scale, range, unit, least, greatest}
+use Rattle.dsv_linear.specs.Known.{are_words, ends_at, node_entry, advanced, fresh, loaded}
+use Rattle.dsv_linear.specs.Known.{form_at, zero_start, no_point}
+use Rattle.dsv_gain.specs.declared.ends.Ends.{Ends}
+use Rattle.dsv_gain.specs.declared.ends.Ends.TheVariants as ends
+use Rattle.dsv_gain.specs.declared.pass.Pass.{Pass}
+use Rattle.dsv_gain.specs.declared.outlook.Gain.{Gain}
+use Rattle.dsv_gain.specs.declared.outlook.Outlook.{Outlook}
+use Rattle.dsv_gain.specs.declared.outlook.Outlook.TheVariants as outlook
+use Rattle.dsv_gain.specs.declared.search.Search.{Search}
+use Rattle.dsv_gain.specs.declared.search.Turn.{Turn}
+use Rattle.dsv_gain.specs.declared.search.Turn.TheVariants as turns
+
+-- ---- one sample
+-- a point with what a node adds: its form alone, no interval and no fact
+abbrev pub after_form : Start → Point → Node → Point
+after_form start point node = advanced point (node_entry start point node) None None
+
+abbrev pub forms_from : Start → List Node → Point → Point
+forms_from start [] point = point
+forms_from start (node ∷ nodes) point = forms_from start nodes (after_form start point node)
+
+-- the range of an exact value, where it is known and its ends are words
+abbrev pub value_ends : Format → Option Range → Ends
+value_ends format None = ends.Leaves 0
+value_ends format (Some r) = if are_words format r then ends.Words (r ∷ []) else ends.Leaves 0
+
+-- what is shown of what a node fits, if it fits anything
+abbrev pub node_ends : Format → Point → Node → Ends
+node_ends format point Input = ends.Words []
+node_ends format point (Reg register) = ends.Words []
+node_ends format point (MulConst coeff of) = ends.Words []
+node_ends format point (Round of) = ends.Words []
+node_ends format point (Add left right) = ends.Words []
+node_ends format point (Sub left right) = ends.Words []
+node_ends format point (Fit of) = value_ends format (ends_at point of)
+
+-- what is shown after so many values whose ends are words
+abbrev pub later_ends : List Range → Ends → Ends
+later_ends ranges (ends.Words more) = ends.Words (ranges ++ more)
+later_ends ranges (ends.Leaves value) = ends.Leaves (length ranges + value)
+
+-- what is shown of some values and of those after them
+abbrev pub with_ends : Ends → Ends → Ends
+with_ends (ends.Words ranges) rest = later_ends ranges rest
+with_ends (ends.Leaves value) rest = ends.Leaves value
+
+-- each exact value's range is taken over the symbols up to there, and stands where the exact values
+-- before it are words
+abbrev pub ends_from : Start → List Node → Point → Ends
+ends_from start [] point = ends.Words []
+ends_from start (node ∷ nodes) point = with_ends (node_ends start.format point node)
+    (ends_from start nodes (after_form start point node))
+
+-- ---- samples one after another
+-- what the next sample of a pass shows of its exact values
+abbrev pub pass_ends : List Node → Pass → Ends
+pass_ends nodes pass = ends_from pass.start nodes (fresh pass.point)
+
+-- a pass after one sample more
+abbrev pub after_pass : List Node → List ℕ → Pass → Pass
+after_pass nodes next pass = let now = forms_from pass.start nodes (fresh pass.point) in
+    record { start = loaded next pass.start now; point = now }
+
+-- the least range that holds both
+abbrev pub hull : Range → Range → Range
+hull r s = range (if int_lt s.low r.low then s.low else r.low)
+    (if int_lt r.high s.high then s.high else r.high)
+
+abbrev pub hulls : List Range → List Range → List Range
+hulls [] others = []
+hulls (r ∷ ranges) [] = []
+hulls (r ∷ ranges) (s ∷ others) = hull r s ∷ hulls ranges others
+
+-- the ranges of samples before, if there were any, and of one more
+abbrev pub hulls_after : Option (List Range) → List Range → List Range
+hulls_after None ranges = ranges
+hulls_after (Some others) ranges = hulls others ranges
+
+-- ---- registers that are symbols
+-- so many registers, each a symbol of its own
+abbrev pub symbol_registers : ℕ → List Estimate
+symbol_registers zero = []
+symbol_registers (suc n) =
+    symbol_registers n ++ (record { form = Some (unit n); interval = None }) ∷ []
+
+-- the range of a symbol whose values are these
+abbrev pub symbol_of_range : Range → Range
+symbol_of_range r = range (pos range_scale *ℤ r.low) (pos range_scale *ℤ r.high)
+
+abbrev pub words_range : Format → Range
+words_range format = range (lo (width format)) (hi (width format))
+
+-- the inputs and 0
+abbrev pub past_range : ℤ → ℤ → Range
+past_range low high = range (if int_lt (pos 0) low then pos 0 else low)
+    (if int_lt high (pos 0) then pos 0 else high)
+
+-- a node that gives the input, or one of the first so many registers
+abbrev pub is_past : ℕ → Node → Bool
+is_past forward Input = true
+is_past forward (Reg register) = nat_lt register forward
+is_past forward (MulConst coeff of) = false
+is_past forward (Round of) = false
+is_past forward (Add left right) = false
+is_past forward (Sub left right) = false
+is_past forward (Fit of) = false
+
+-- the node of this number is such a one
+abbrev pub gives_past : ℕ → List Node → ℕ → Bool
+gives_past forward [] k = false
+gives_past forward (node ∷ nodes) zero = is_past forward node
+gives_past forward (node ∷ nodes) (suc k) = gives_past forward nodes k
+
+-- the first so many registers are loaded with inputs and from one another
+abbrev pub hold_inputs : ℕ → List Node → List ℕ → Bool
+hold_inputs forward nodes next = list_all (gives_past forward nodes) (take forward next)
+
+-- how many of the first registers hold inputs of samples before, or 0
+abbrev pub pasts : Net → ℕ
+pasts net = if hold_inputs net.feed_forward net.nodes net.next then net.feed_forward else 0
+
+abbrev pub register_symbols : Net → ℤ → ℤ → List Range
+register_symbols net low high = replicate (pasts net) (symbol_of_range (past_range low high))
+    ++ replicate (length net.next - pasts net) (symbol_of_range (words_range net.format))
+
+-- ---- how much the start still counts
+-- the width of what these symbols, the first ones, make of a form's range, times both scales
+abbrev pub start_part : List Range → List ℤ → Option ℤ
+start_part starts form = least starts form >>= λ low. greatest starts form >>= λ high.
+    narrow_of (high -ℤ low)
+
+abbrev pub value_part : List Range → List Estimate → ℕ → Option ℤ
+value_part starts estimates of = form_at estimates of >>= start_part starts
+
+-- the width is known and less than one word's
+abbrev pub is_under_word : Option ℤ → Bool
+is_under_word None = false
+is_under_word (Some width) = int_lt width (pos (scale * range_scale))
+
+abbrev pub node_has_settled : List Range → List Estimate → Node → Bool
+node_has_settled starts estimates Input = true
+node_has_settled starts estimates (Reg register) = true
+node_has_settled starts estimates (MulConst coeff of) = true
+node_has_settled starts estimates (Round of) = true
+node_has_settled starts estimates (Add left right) = true
+node_has_settled starts estimates (Sub left right) = true
+node_has_settled starts estimates (Fit of) = is_under_word (value_part starts estimates of)
+
+-- after a sample: in each of its exact values the part of the first so many symbols is less than
+-- one word
+abbrev pub has_settled : List Node → ℕ → Point → Bool
+has_settled nodes count point =
+    list_all (node_has_settled (take count point.ranges) point.estimates) nodes
+
+-- ---- the search
+-- the gain that was found, or else this
+abbrev pub best_or : Outlook → Option Gain → Outlook
+best_or other None = other
+best_or other (Some gain) = outlook.Safe gain
+
+-- the gain of a sample, after that of the sample before, if it had one
+abbrev pub gain_at : ℕ → Option Gain → List Range → Gain
+gain_at sample None ranges = record { depth = sample; settled = sample; ranges = ranges }
+gain_at sample (Some gain) ranges =
+    record { depth = gain.depth; settled = sample; ranges = ranges }
+
+-- between two samples
+abbrev pub search : Pass → Pass → List Range → Option Gain → Search
+search run step seen best = record { run = run; step = step; seen = Some seen; best = best }
+
+-- after a sample whose values can leave the words from some registers: what was found is the last
+abbrev pub gainless_turn : Pass → Pass → List Range → Option Gain → Turn
+gainless_turn run step seen None = turns.Next (search run step seen None)
+gainless_turn run step seen (Some gain) = turns.Over (outlook.Safe gain)
+
+-- after a sample that has a gain: it is the last if it has settled
+abbrev pub gain_turn : Bool → Pass → Pass → List Range → Gain → Turn
+gain_turn settled run step seen gain = if settled then turns.Over (outlook.Safe gain)
+    else turns.Next (search run step seen (Some gain))
+
+-- by what the step's pass shows; both passes are those after the sample
+abbrev pub step_turn : Bool → ℕ → Pass → Pass → List Range → Option Gain → Ends → Turn
+step_turn settled sample run step seen best (ends.Leaves value) = gainless_turn run step seen best
+step_turn settled sample run step seen best (ends.Words last) =
+    gain_turn settled run step seen (gain_at sample best (hulls seen last))
+
+-- by what the run's pass shows; the step's turn follows the ranges seen so far
+abbrev pub run_turn : ℕ → Option (List Range) → Option Gain → (List Range → Turn) → Ends → Turn
+run_turn sample seen best next (ends.Leaves value) =
+    turns.Over (best_or (outlook.Leaves sample value) best)
+run_turn sample seen best next (ends.Words now) = next (hulls_after seen now)
+
+-- what one sample comes to
+abbrev pub sample_turn : List Node → List ℕ → ℕ → Search → Turn
+sample_turn nodes next sample s = let step = after_pass nodes next s.step in
+    run_turn sample s.seen s.best
+    (λ seen. step_turn (has_settled nodes (length next) step.point) sample
+    (after_pass nodes next s.run) step seen s.best (pass_ends nodes s.step))
+    (pass_ends nodes s.run)
+
+abbrev pub turn_outlook : (Search → Outlook) → Turn → Outlook
+turn_outlook next (turns.Over found) = found
+turn_outlook next (turns.Next later) = next later
+
+-- what so many samples from this one on come to
+abbrev pub gain_from : List Node → List ℕ → ℕ → ℕ → Search → Outlook
+gain_from nodes next zero sample s = best_or outlook.Deep s.best
+gain_from nodes next (suc left) sample s =
+    turn_outlook (gain_from nodes next left (suc sample)) (sample_turn nodes next sample s)
+
+-- ---- runs of any length
+-- from registers of zeros
+abbrev pub zero_pass : Net → ℤ → ℤ → Pass
+zero_pass net low high = record { start = zero_start net low high; point = no_point }
+
+-- from registers that are inputs and words
+abbrev pub word_pass : Net → ℤ → ℤ → Pass
+word_pass net low high = record {
+  start = record {
+    format = net.format;
+    input = range low high;
+    registers = symbol_registers (length net.next);
+  };
+  point = record { estimates = []; ranges = register_symbols net low high; facts = [] };
+}
+
+-- before the first sample
+abbrev pub first_search : Net → ℤ → ℤ → Search
+first_search net low high = record {
+  run = zero_pass net low high;
+  step = word_pass net low high;
+  seen = None;
+  best = None;
+}
+
+-- What the samples below the limit show of runs of any length. A sample has a gain if the ranges of
+-- all runs up to it, and those of the sample itself after any words in the registers, are ranges of
+-- words. The gain is that of the first sample that has one or, after it, of the last one in a row
+-- that has one, up to the first that has settled.
+unfoldable pub gain_of : Net → ℤ → ℤ → ℕ → Outlook
+gain_of net low high limit =
+    gain_from net.nodes net.next limit 0 (first_search net low high)

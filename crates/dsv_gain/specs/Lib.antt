@@ -1,0 +1,3 @@
+pub mod Gains
+pub mod Safe
+pub mod Controllers

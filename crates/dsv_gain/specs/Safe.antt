@@ -1,0 +1,56 @@
+-- What the ranges of a gain say.
+use Rattle.std.specs.Prelude.{◌≡◌, ℕ, suc, ◌<◌, ◌≤◌, List, [], ◌∷◌, length, ℤ}
+use Rattle.std.specs.List.{All}
+use Rattle.dsv_word.specs.declared.format.Format.{Format}
+use Rattle.dsv_word.specs.Words.{IsWord}
+use Rattle.dsv_system.specs.Breaks.{Breaks}
+use Rattle.dsv_system.specs.Systems.{rows, zeros, AreInRange}
+use Rattle.dsv_netlist.specs.Nodes.{Net}
+use Rattle.dsv_netlist.specs.Systems.{system_of}
+use Rattle.dsv_netlist.specs.Conditions.{IsNetlist}
+use Rattle.dsv_linear.specs.Facts.{LiesWithin}
+use Rattle.dsv_linear.specs.declared.range.Range.{Range}
+use Rattle.dsv_gain.specs.declared.outlook.Gain.{Gain}
+use Rattle.dsv_gain.specs.declared.outlook.Outlook.{Outlook}
+use Rattle.dsv_gain.specs.declared.outlook.Outlook.TheVariants as outlook
+use Rattle.dsv_gain.specs.Gains.{gain_of}
+
+-- each value lies in its range, whose ends are words
+abbrev pub LieWithin : Format → List Range → List ℤ → Type 0
+LieWithin format [] [] = Unit {0}
+LieWithin format [] (v ∷ values) = ⊥
+LieWithin format (r ∷ ranges) [] = ⊥
+LieWithin format (r ∷ ranges) (v ∷ values) =
+    LiesWithin format r.low r.high v × LieWithin format ranges values
+
+-- in each run from registers of zeros, over inputs in range, each exact value lies in its range
+abbrev pub HoldInRuns : Net → ℤ → ℤ → List Range → Type 0
+HoldInRuns net low high ranges = (xs : List ℤ) → AreInRange low high xs
+    → All (λ r. LieWithin net.format ranges r.exact)
+    (rows (system_of net) (zeros (length net.next)) xs)
+
+-- no list of inputs in range breaks the netlist's run from registers of zeros
+abbrev pub NeverBreaks : Net → ℤ → ℤ → Type 0
+NeverBreaks net low high = (xs : List ℤ) → Breaks (List ℤ) (system_of net) low high xs → ⊥
+
+-- what is said of the gain, where a search found one
+abbrev pub IfSafe : Outlook → (Gain → Type 0) → Type 0
+IfSafe (outlook.Safe gain) P = P gain
+IfSafe (outlook.Leaves sample value) P = Unit {0}
+IfSafe outlook.Deep P = Unit {0}
+
+-- the samples that showed it are below the limit
+abbrev pub IsWithin : ℕ → Gain → Type 0
+IsWithin limit gain = (gain.depth ≤ gain.settled) × (gain.settled < limit)
+
+-- over inputs that are words, whatever the limit
+abbrev pub GainsAreSafe : Type 0
+GainsAreSafe = (net : Net) (low high : ℤ) (limit : ℕ) (gain : Gain) → IsNetlist net
+    → IsWord net.format low → IsWord net.format high
+    → gain_of net low high limit ≡ outlook.Safe gain → HoldInRuns net low high gain.ranges
+
+-- as many samples as its depth and one more show that there is one, whatever the limit was
+abbrev pub GainsAreFoundAgain : Type 0
+GainsAreFoundAgain = (net : Net) (low high : ℤ) (limit : ℕ) (gain : Gain)
+    → gain_of net low high limit ≡ outlook.Safe gain
+    → (g : Gain) × (gain_of net low high (suc gain.depth) ≡ outlook.Safe g)

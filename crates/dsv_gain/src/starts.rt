@@ -1,0 +1,118 @@
+// Registers that are any words.
+ghost use Rattle.std.specs.Prelude.{◌≡◌, ◌≤◌, length, IfOk};
+ghost use Rattle.dsv_netlist.specs.Conditions.{IsNetlist};
+ghost use Rattle.dsv_gain.specs.Gains.{is_past, gives_past, hold_inputs, pasts};
+ghost use Rattle.dsv_gain.specs.Gains.{symbol_registers, register_symbols, word_pass};
+
+use crate::pass::Pass;
+use crate::ranges::{Ranges, past_symbol, push_copies, symbol_of};
+use dsv_algebra::NarrowInteger;
+use dsv_base::{Items, NoMemory};
+use dsv_linear::{Estimate, Point, Range, Start, next_of, nodes_of, unit};
+use dsv_netlist::{Netlist, Node};
+use std::alloc::Global;
+
+/// Whether a node gives the input, or one of the first so many registers.
+fn is_past(forward: u32, node: &Node) -> bool
+    ensures { result ≡ is_past forward node.now }
+{
+    match node {
+        Node::Input => true,
+        Node::Reg(register) => *register < forward,
+        _ => false,
+    }
+}
+
+/// Whether the node of this number is such a one.
+fn gives_past(forward: u32, nodes: &[Node], id: u32) -> bool
+    ensures { result ≡ gives_past forward nodes.now id }
+{
+    match nodes.get(id as usize) {
+        Some(node) => is_past(forward, node),
+        None => false,
+    }
+}
+
+/// Whether the first so many registers are loaded with inputs and from one another.
+fn hold_inputs(forward: u32, nodes: &[Node], next: &[u32]) -> bool
+    requires { forward ≤ length next.now }
+    ensures { result ≡ hold_inputs forward nodes.now next.now }
+{
+    let first = &next[..forward as usize];
+    first.iter().all(|id| gives_past(forward, nodes, *id))
+}
+
+/// How many of the first registers hold inputs of samples before, or 0.
+fn pasts(alloc: Global, net: &Netlist) -> Result<u32, NoMemory>
+    ensures value { IfOk result (λ count. count ≡ pasts net.now) }
+    ensures few { IfOk result (λ count. count ≤ length net.now.next) }
+{
+    let _count = net.len(); // its range, for the proof
+    let nodes = nodes_of(alloc, net)?;
+    let next = next_of(alloc, net)?;
+    let forward = net.feed_forward();
+    Ok(if hold_inputs(forward, &nodes, &next) {
+        forward
+    } else {
+        0
+    })
+}
+
+/// What is known of so many registers that are symbols of their own.
+#[tactic(auto, using(crate::proofs::Loops::symbols_more))]
+fn symbol_registers(alloc: Global, count: u32) -> Result<Items<Estimate>, NoMemory>
+    ensures { IfOk result (λ registers. registers ≡ symbol_registers count) }
+{
+    let mut registers = Items::new(alloc);
+    for i in 0..count {
+        registers.push(Estimate {
+            form: Some(unit(alloc, i as usize)?),
+            interval: None,
+        })?;
+    }
+    Ok(registers)
+}
+
+/// The ranges of the registers' symbols, where the first so many hold past inputs.
+fn register_symbols(
+    alloc: Global,
+    net: &Netlist,
+    count: u32,
+    low: i64,
+    high: i64,
+) -> Result<Ranges, NoMemory>
+    requires value { count ≡ pasts net.now }
+    requires few { count ≤ length net.now.next }
+    ensures { IfOk result (λ ranges. ranges ≡ register_symbols net.now low high) }
+{
+    let format = net.format();
+    let mut ranges = Ranges::new(alloc);
+    push_copies(&mut ranges, count, &past_symbol(low, high))?;
+    push_copies(
+        &mut ranges,
+        net.registers() - count,
+        &symbol_of(format.lo(), format.hi()),
+    )?;
+    Ok(ranges)
+}
+
+/// A pass from registers that are inputs and words.
+pub(crate) fn word_pass(alloc: Global, net: &Netlist, low: i64, high: i64) -> Result<Pass, NoMemory>
+    ensures { IfOk result (λ pass. pass ≡ word_pass net.now low high) }
+{
+    let count = pasts(alloc, net)?;
+    let start = Start {
+        format: net.format(),
+        input: Range {
+            low: NarrowInteger::from(low),
+            high: NarrowInteger::from(high),
+        },
+        registers: symbol_registers(alloc, net.registers())?,
+    };
+    let point = Point {
+        estimates: Items::new(alloc),
+        ranges: register_symbols(alloc, net, count, low, high)?,
+        facts: Items::new(alloc),
+    };
+    Ok(Pass { start, point })
+}

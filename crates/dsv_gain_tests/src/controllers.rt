@@ -1,0 +1,39 @@
+// Small quantised controllers.
+use dsv_names::{OverflowMode, Realisation, Rounding};
+use dsv_quantiser::{Quantised, quantise};
+use dsv_reader::read;
+use dsv_word::Format;
+use std::alloc::Global;
+
+/// Every realisation: the direct forms, and then the same in the delta operator.
+pub(crate) const REALISATIONS: [Realisation; 6] = [
+    Realisation::Dfi,
+    Realisation::Dfii,
+    Realisation::Tdfii,
+    Realisation::Ddfi,
+    Realisation::Ddfii,
+    Realisation::Tddfii,
+];
+
+/// A file's text, the bits of its words, and how they are made whole and fitted.
+#[derive(Clone, Copy)]
+pub(crate) struct Design {
+    pub text: &'static str,
+    pub int_bits: u32,
+    pub frac_bits: u32,
+    pub rounding: Rounding,
+    pub overflow: OverflowMode,
+}
+
+impl Design {
+    /// The quantised controller.
+    pub(crate) fn quantised_in(
+        &self,
+        alloc: Global,
+        realisation: Realisation,
+    ) -> Option<Quantised> {
+        let format = Format::new(self.int_bits, self.frac_bits, self.rounding, self.overflow).ok()?;
+        let controller = read(alloc, self.text.as_bytes()).ok()?;
+        quantise(&controller, format, realisation).ok()
+    }
+}
