@@ -1,12 +1,16 @@
-//! Tests of the crates of forms, by their public calls: closed forms, sums of steps, Jury's
-//! recursion and offers that are refused. The tested polynomial is tested by the cases of
-//! `dsv_examples`.
+//! Tests of the crates of forms, by their public calls: closed forms, sums of steps, Schur-Cohn
+//! forms, Jury's recursion and offers that are refused. The tested polynomial is tested by the
+//! cases of `dsv_examples`.
 #![tactic(auto)]
 
 #[cfg(test)]
 mod closed_forms;
 #[cfg(test)]
 mod refusals;
+#[cfg(test)]
+mod schur_cohn;
+#[cfg(test)]
+mod schur_cohn_run;
 #[cfg(test)]
 mod sums;
 #[cfg(test)]

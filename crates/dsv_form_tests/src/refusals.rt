@@ -1,6 +1,6 @@
 // Offers that are refused.
 use dsv_forms::{
-    Form, FormRefusal, GREATEST_ORDER, KeptAway, Part, Poly, Squares, check_kept_away,
+    Form, FormRefusal, GREATEST_ORDER, KeptAway, OfferPart, Poly, Squares, check_kept_away,
 };
 
 type Matrix = [[i128; GREATEST_ORDER]; GREATEST_ORDER];
@@ -44,7 +44,7 @@ const OFFERED: [Offered; 5] = [
         start: 1,
         rest: 3,
         refusal: FormRefusal::Identity {
-            part: Part::Fall,
+            part: OfferPart::Fall,
             i: 0,
             j: 0,
         },
@@ -55,7 +55,7 @@ const OFFERED: [Offered; 5] = [
         start: 1,
         rest: -3,
         refusal: FormRefusal::Dominance {
-            part: Part::Fall,
+            part: OfferPart::Fall,
             i: 0,
         },
     },
@@ -72,7 +72,7 @@ const OFFERED: [Offered; 5] = [
         start: 1 << 20,
         rest: 0,
         refusal: FormRefusal::Wide {
-            part: Part::Start,
+            part: OfferPart::Start,
             i: 0,
             j: 0,
         },
