@@ -20,7 +20,7 @@ use Rattle.dsv_certfile.specs.Limits.{most_places}
 use Rattle.dsv_certfile.specs.Texts.{Line, line_text, version_line, job_line, kind_line, word_line, certificate_text, numbers_line, rows_lines, square_lines, squares_head, squares_lines, falls_lines}
 use Rattle.dsv_certfile.specs.Typed.{IsTypedMatrix, IsTypedFactor, AreTypedSquares, IsTypedOffer}
 use Rattle.dsv_certfile.specs.declared.certificate.Certificate.TheVariants as certificate
-use Rattle.dsv_certfile.specs.declared.job.Job.{Job}
+use Rattle.dsv_certfile.specs.declared.job.CertifiedJob.{CertifiedJob}
 use Rattle.dsv_certfile.specs.declared.kind.Kind.TheVariants as kind
 use Rattle.dsv_certfile.specs.declared.keyword.Keyword.{Keyword}
 use Rattle.dsv_certfile.specs.declared.keyword.Keyword.TheVariants as keyword
@@ -67,7 +67,7 @@ falls_lines_alone offer t h k l =
     ∙ ap (λ (ls : List Line). rows_lines keyword.Form d offer.form.rows ++ squares_lines keyword.Positive d offer.positive ++ ls) (squares_lines_alone keyword.Fall d offer.fall t.fall h l)
 
 -- the text of an accepted offer's certificate is that with its places alone
-pub falls_text_alone : (job : Job) (offer : Falls) → IsTypedOffer offer → offer.form.d ≤ most_places → IsNarrow offer
+pub falls_text_alone : (job : CertifiedJob) (offer : Falls) → IsTypedOffer offer → offer.form.d ≤ most_places → IsNarrow offer
     → certificate_text (certificate_alone (certificate.Falls job offer)) ≡ certificate_text (certificate.Falls job offer)
 falls_text_alone job offer t h n =
     ap (λ (ls : List Line). flat_map line_text (version_line ∷ job_line job ∷ kind_line kind.Falls (offer.form.d ∷ []) ∷ (ls ++ word_line keyword.End ∷ [])))

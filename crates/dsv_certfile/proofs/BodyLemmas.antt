@@ -20,8 +20,8 @@ use Rattle.dsv_certfile.specs.declared.fault.TextFault.{TextFault}
 use Rattle.dsv_certfile.specs.declared.fault.CertRefusal.{CertRefusal}
 use Rattle.dsv_certfile.specs.declared.fault.CertRefusal.TheVariants as refusal
 use Rattle.dsv_certfile.specs.declared.keyword.Keyword.{Keyword}
-use Rattle.dsv_certfile.specs.declared.numbers.Range.{Range}
-use Rattle.dsv_certfile.specs.declared.numbers.Range.TheVariants as range
+use Rattle.dsv_certfile.specs.declared.numbers.NumberRange.{NumberRange}
+use Rattle.dsv_certfile.specs.declared.numbers.NumberRange.TheVariants as range
 use Rattle.dsv_certfile.specs.declared.places.Place.TheVariants as place
 use Rattle.dsv_certfile.proofs.RangeLemmas.{row_has}
 
@@ -45,7 +45,7 @@ bad_line {X = X} read n m xs old why e h =
     ∙ ap (λ (r : Result (Reading X) CertRefusal). r >>= λ y. lines_from read m (xs ++ y.value ∷ []) y.left) h
 
 -- ---- places of one range
-pub places_taken : (w : Keyword) (r : Range) (n m : ℕ) → n ≤ m
+pub places_taken : (w : Keyword) (r : NumberRange) (n m : ℕ) → n ≤ m
     → take (n + 1) (place.Word w ∷ replicate m (place.Number r)) ≡ place.Word w ∷ replicate n (place.Number r)
 places_taken w r n m h = rw add-one (ap (λ ps. place.Word w ∷ ps) (take-replicate n m (place.Number r) h))
 

@@ -8,7 +8,7 @@ use Rattle.dsv_names.specs.declared.rounding.Rounding.{Rounding}
 use Rattle.dsv_names.specs.declared.overflow_mode.OverflowMode.{OverflowMode}
 use Rattle.dsv_certfile.specs.Headings.{piece_at, of_job, head_in}
 use Rattle.dsv_certfile.specs.declared.fault.TextFault.{TextFault}
-use Rattle.dsv_certfile.specs.declared.job.Job.{Job}
+use Rattle.dsv_certfile.specs.declared.job.CertifiedJob.{CertifiedJob}
 use Rattle.dsv_certfile.specs.declared.job.Size.{Size}
 use Rattle.dsv_certfile.specs.declared.kind.Kind.{Kind}
 use Rattle.dsv_certfile.specs.declared.kind.KindHead.{KindHead}
@@ -24,7 +24,7 @@ piece_from n ps =
 
 -- ---- the job line
 abbrev pub job_from : Result (Unit {0}) TextFault → Result Property TextFault → Result Realisation TextFault → Result Rounding TextFault
-    → Result OverflowMode TextFault → Result Size TextFault → Result Job TextFault
+    → Result OverflowMode TextFault → Result Size TextFault → Result CertifiedJob TextFault
 job_from b p r o m s =
     b >>= λ _. p >>= λ p. r >>= λ r. o >>= λ o. m >>= λ m. s >>= λ s.
     Ok (record { property = p; design = record { realisation = r; rounding = o; overflow = m }; size = s })
@@ -46,9 +46,9 @@ pub whole_job : (b : Result (Unit {0}) TextFault) (p : Result Property TextFault
 whole_job b p r o m s x y z w v hb hp hr ho hm hs = rw (hb, hp, hr, ho, hm, hs) refl
 
 -- ---- the kind line
-abbrev pub kind_from : Job → Result (Unit {0}) TextFault → Result Kind TextFault → List (List ℕ) → Result KindHead TextFault
+abbrev pub kind_from : CertifiedJob → Result (Unit {0}) TextFault → Result Kind TextFault → List (List ℕ) → Result KindHead TextFault
 kind_from job b n rest = b >>= λ _. n >>= λ k. of_job job k >>= λ k. head_in k rest
 
-pub whole_kind : (job : Job) (b : Result (Unit {0}) TextFault) (n : Result Kind TextFault) (rest : List (List ℕ)) (k l : Kind)
+pub whole_kind : (job : CertifiedJob) (b : Result (Unit {0}) TextFault) (n : Result Kind TextFault) (rest : List (List ℕ)) (k l : Kind)
     → b ≡ Ok tt → n ≡ Ok k → of_job job k ≡ Ok l → head_in l rest ≡ kind_from job b n rest
 whole_kind job b n rest k l hb hn ho = rw (hb, hn) (ap (λ (r : Result Kind TextFault). r >>= λ k. head_in k rest) (sym ho))

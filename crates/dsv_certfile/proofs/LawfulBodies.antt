@@ -16,7 +16,7 @@ use Rattle.dsv_certfile.specs.Steps.{log_in}
 use Rattle.dsv_certfile.specs.declared.invariant.SetProof.{SetProof}
 use Rattle.dsv_certfile.specs.declared.keyword.Keyword.{Keyword}
 use Rattle.dsv_certfile.specs.declared.keyword.Keyword.TheVariants as keyword
-use Rattle.dsv_certfile.specs.declared.numbers.Range.TheVariants as range
+use Rattle.dsv_certfile.specs.declared.numbers.NumberRange.TheVariants as range
 use Rattle.dsv_certfile.proofs.LawfulParts.{has_unit, then_has, Yields, yields_both, yields_made, yields_line, yields_lines}
 use Rattle.dsv_certfile.proofs.LawfulSteps.{yields_log}
 use Rattle.dsv_certfile.proofs.RangeLemmas.{row_has, line_numbers_have}

@@ -3,30 +3,32 @@ use Rattle.std.proofs.Common.{◌≡◌, ℕ, List, [], ◌∷◌, Ok, IfOk}
 use Rattle.std.proofs.lemmas.Result.{IfOk-at_ok}
 use Rattle.dsv_text.specs.Stages.{◌>>=◌}
 use Rattle.dsv_certfile.specs.Answers.{Reading}
-use Rattle.dsv_certfile.specs.Bodies.{whole_text, invariant_in, falls_in}
+use Rattle.dsv_certfile.specs.Bodies.{whole_text, word_in, invariant_in, falls_in}
 use Rattle.dsv_certfile.specs.Lawful.{IsSize, IsLog, IsOffer, IsLawful}
 use Rattle.dsv_certfile.specs.Pieces.{TextLines, unended, line, all_lines}
 use Rattle.dsv_certfile.specs.Reading.{heading_in, body_in, certificate_in}
 use Rattle.dsv_certfile.specs.Steps.{log_in}
 use Rattle.dsv_certfile.specs.declared.certificate.Certificate.{Certificate}
 use Rattle.dsv_certfile.specs.declared.certificate.Certificate.TheVariants as certificate
-use Rattle.dsv_certfile.specs.declared.job.Job.{Job}
+use Rattle.dsv_certfile.specs.declared.job.CertifiedJob.{CertifiedJob}
 use Rattle.dsv_certfile.specs.declared.keyword.Keyword.TheVariants as keyword
 use Rattle.dsv_certfile.specs.declared.kind.KindHead.{KindHead}
 use Rattle.dsv_certfile.specs.declared.kind.KindHead.TheVariants as head
 use Rattle.dsv_certfile.specs.declared.reader.Heading.{Heading}
-use Rattle.dsv_certfile.proofs.LawfulBodies.{IsProof, yields_invariant}
+use Rattle.dsv_certfile.proofs.LawfulBodies.{IsProof, yields_word, yields_invariant}
 use Rattle.dsv_certfile.proofs.LawfulFalls.{yields_falls}
 use Rattle.dsv_certfile.proofs.LawfulHeadings.{IsHeadFor, IsHeading, yields_heading}
 use Rattle.dsv_certfile.proofs.LawfulParts.{then_has, Yields, yields_made}
 use Rattle.dsv_certfile.proofs.LawfulSteps.{yields_log}
 
-yields_body : (job : Job) (h : KindHead) → IsSize job.size → IsHeadFor job h → Yields (body_in job h) IsLawful
+yields_body : (job : CertifiedJob) (h : KindHead) → IsSize job.size → IsHeadFor job h → Yields (body_in job h) IsLawful
 yields_body job head.Hints s e =
     yields_made (log_in keyword.End) (certificate.Hints job) IsLog IsLawful (yields_log keyword.End) (λ log l. (record { size = s; belongs = e }, l))
 yields_body job (head.Invariant depth count) s e =
     yields_made (invariant_in depth count) (λ i. certificate.Invariant job i.candidate i.logs) IsProof IsLawful (yields_invariant depth count e.1 e.2)
     (λ i p. (record { size = s; belongs = e.0 }, p.0, p.1))
+yields_body job (head.Gain depth) s e =
+    yields_made (word_in keyword.End) (λ _. certificate.Gain job depth) (λ _. Unit {0}) IsLawful (yields_word keyword.End) (λ _ _. (record { size = s; belongs = e.0 }, e.1))
 yields_body job (head.Falls d) s e =
     yields_made (falls_in d) (certificate.Falls job) IsOffer IsLawful (yields_falls d e.1) (λ offer o. (record { size = s; belongs = e.0 }, o))
 

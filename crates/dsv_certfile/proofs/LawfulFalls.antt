@@ -14,7 +14,7 @@ use Rattle.dsv_certfile.specs.Places.{row_places, squares_places}
 use Rattle.dsv_certfile.specs.Ranges.{AreOf}
 use Rattle.dsv_certfile.specs.declared.keyword.Keyword.{Keyword}
 use Rattle.dsv_certfile.specs.declared.keyword.Keyword.TheVariants as keyword
-use Rattle.dsv_certfile.specs.declared.numbers.Range.TheVariants as range
+use Rattle.dsv_certfile.specs.declared.numbers.NumberRange.TheVariants as range
 use Rattle.dsv_certfile.proofs.Corners.{HasPlaces, take-row_of, corner-matrix_with}
 use Rattle.dsv_certfile.proofs.LawfulBodies.{yields_word}
 use Rattle.dsv_certfile.proofs.LawfulParts.{Yields, yields_both, yields_made, yields_line, yields_lines}

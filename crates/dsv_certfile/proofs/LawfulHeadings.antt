@@ -16,7 +16,7 @@ use Rattle.dsv_certfile.specs.Bodies.{line_in}
 use Rattle.dsv_certfile.specs.Keywords.{keyword_text, unbounded_text}
 use Rattle.dsv_certfile.specs.Kinds.{kind_name, kinds, is_kind_of}
 use Rattle.dsv_certfile.specs.Lawful.{IsSize}
-use Rattle.dsv_certfile.specs.Limits.{most_samples, greatest_depth, most_places}
+use Rattle.dsv_certfile.specs.Limits.{most_samples, greatest_depth, most_gain_depth, most_places}
 use Rattle.dsv_template.specs.Limits.{most_inequalities}
 use Rattle.dsv_certfile.specs.Numerals.{samples_of}
 use Rattle.dsv_certfile.specs.Pieces.{pieces_of}
@@ -25,7 +25,7 @@ use Rattle.dsv_certfile.specs.Ranges.{AreOf}
 use Rattle.dsv_certfile.specs.Reading.{heading_in}
 use Rattle.dsv_certfile.specs.declared.fault.TextFault.{TextFault}
 use Rattle.dsv_certfile.specs.declared.fault.TextFault.TheVariants as fault
-use Rattle.dsv_certfile.specs.declared.job.Job.{Job}
+use Rattle.dsv_certfile.specs.declared.job.CertifiedJob.{CertifiedJob}
 use Rattle.dsv_certfile.specs.declared.job.Size.{Size}
 use Rattle.dsv_certfile.specs.declared.job.Size.TheVariants as size
 use Rattle.dsv_certfile.specs.declared.keyword.Keyword.TheVariants as keyword
@@ -72,24 +72,27 @@ job_has pieces =
 
 -- ---- the kind line
 -- the kind belongs to the job, and its numbers are of their ranges
-abbrev pub IsHeadFor : Job → KindHead → Type 0
+abbrev pub IsHeadFor : CertifiedJob → KindHead → Type 0
 IsHeadFor job head.Hints = is_kind_of job kind.Hints ≡ true
 IsHeadFor job (head.Invariant depth count) = (is_kind_of job kind.Invariant ≡ true) × (depth ≤ greatest_depth) × (count ≤ most_inequalities)
+IsHeadFor job (head.Gain depth) = (is_kind_of job kind.Gain ≡ true) × (depth ≤ most_gain_depth)
 IsHeadFor job (head.Falls d) = (is_kind_of job kind.Falls ≡ true) × (d ≤ most_places)
 
-head_is : (job : Job) (k : Kind) (zs : List ℤ) → is_kind_of job k ≡ true → AreOf (kind_places k) zs → IsHeadFor job (head_with k zs)
+head_is : (job : CertifiedJob) (k : Kind) (zs : List ℤ) → is_kind_of job k ≡ true → AreOf (kind_places k) zs → IsHeadFor job (head_with k zs)
 head_is job kind.Hints zs e h = e
 head_is job kind.Invariant [] e h = absurd h
 head_is job kind.Invariant (y ∷ []) e h = absurd (h.1)
 head_is job kind.Invariant (y ∷ z ∷ zs) e h = (e, h.0.1, h.1.0.1)
+head_is job kind.Gain [] e h = absurd h
+head_is job kind.Gain (z ∷ zs) e h = (e, h.0.1)
 head_is job kind.Falls [] e h = absurd h
 head_is job kind.Falls (z ∷ zs) e h = (e, h.0.1)
 
-of_step : (job : Job) (k : Kind) (b : Bool) → is_kind_of job k ≡ b → IfOk (if b then Ok k else Err fault.Kind) (λ k. is_kind_of job k ≡ true)
+of_step : (job : CertifiedJob) (k : Kind) (b : Bool) → is_kind_of job k ≡ b → IfOk (if b then Ok k else Err fault.Kind) (λ k. is_kind_of job k ≡ true)
 of_step job k true e = e
 of_step job k false e = tt
 
-kind_has : (job : Job) (pieces : List (List ℕ)) → IfOk (kind_in job pieces) (IsHeadFor job)
+kind_has : (job : CertifiedJob) (pieces : List (List ℕ)) → IfOk (kind_in job pieces) (IsHeadFor job)
 kind_has job pieces =
     let rest = drop 2 pieces in
     then_has (beginning (keyword_text keyword.Kind) pieces) (λ _. name_in kind_name kinds pieces 1 >>= λ k. of_job job k >>= λ k. head_in k rest) (λ _. Unit {0}) (IsHeadFor job)

@@ -1,5 +1,5 @@
 -- A certificate that was written and is accepted is lawful, with the numbers of its form's places alone, and has the same text.
-use Rattle.std.proofs.Common.{◌≡◌, ℕ, true, List, None, ℤ}
+use Rattle.std.proofs.Common.{◌≡◌, ◌≤◌, ℕ, true, List, None, ℤ}
 use Rattle.dsv_cnf.specs.FormulaView.{FormulaView}
 use Rattle.dsv_hints.specs.Lessons.{IsRefutation}
 use Rattle.dsv_hints.specs.declared.step.Step.{Step}
@@ -12,10 +12,11 @@ use Rattle.dsv_template.specs.declared.candidate.Candidate.{Candidate}
 use Rattle.dsv_template.specs.declared.verdict.ThreeLogs.{ThreeLogs}
 use Rattle.dsv_certfile.specs.Kinds.{is_kind_of}
 use Rattle.dsv_certfile.specs.Lawful.{IsLog, AreLogs, IsLawful, certificate_alone}
+use Rattle.dsv_certfile.specs.Limits.{most_gain_depth}
 use Rattle.dsv_certfile.specs.Texts.{certificate_text}
 use Rattle.dsv_certfile.specs.Typed.{IsTypedLog, IsTyped}
 use Rattle.dsv_certfile.specs.declared.certificate.Certificate.TheVariants as certificate
-use Rattle.dsv_certfile.specs.declared.job.Job.{Job}
+use Rattle.dsv_certfile.specs.declared.job.CertifiedJob.{CertifiedJob}
 use Rattle.dsv_certfile.specs.declared.kind.Kind.TheVariants as kind
 use Rattle.dsv_certfile.proofs.AloneOffers.{falls_text_alone, offer_is_lawful}
 use Rattle.dsv_certfile.proofs.TypedParts.{log_is_lawful, set_is_lawful}
@@ -24,7 +25,7 @@ use Rattle.dsv_certfile.proofs.TypedParts.{log_is_lawful, set_is_lawful}
 refutation_is_lawful : (f : FormulaView) (conflicts : ℕ) (log : List Step) → IsTypedLog log → IsRefutation f conflicts log → IsLog log
 refutation_is_lawful f conflicts log t r = log_is_lawful log t (accepted_ids f log r.accepted r.additions)
 
-pub hints_are_lawful : (f : FormulaView) (conflicts : ℕ) (job : Job) (log : List Step) → is_kind_of job kind.Hints ≡ true → IsTyped (certificate.Hints job log) → IsRefutation f conflicts log
+pub hints_are_lawful : (f : FormulaView) (conflicts : ℕ) (job : CertifiedJob) (log : List Step) → is_kind_of job kind.Hints ≡ true → IsTyped (certificate.Hints job log) → IsRefutation f conflicts log
     → IsLawful (certificate.Hints job log)
 hints_are_lawful f conflicts job log b t r = (record { size = t.size; belongs = b }, refutation_is_lawful f conflicts log t.body r)
 
@@ -35,7 +36,7 @@ pub record AreRefutations (base step safe : FormulaView) (conflicts : ℕ) (logs
   pub of_step : IsRefutation step conflicts logs.step
   pub of_safe : IsRefutation safe conflicts logs.safe
 
-pub invariant_is_lawful : (registers conflicts : ℕ) (base step safe : FormulaView) (job : Job) (candidate : Candidate) (logs : ThreeLogs) → is_kind_of job kind.Invariant ≡ true
+pub invariant_is_lawful : (registers conflicts : ℕ) (base step safe : FormulaView) (job : CertifiedJob) (candidate : Candidate) (logs : ThreeLogs) → is_kind_of job kind.Invariant ≡ true
     → IsTyped (certificate.Invariant job candidate logs) → is_shaped registers candidate ≡ true → AreRefutations base step safe conflicts logs → IsLawful (certificate.Invariant job candidate logs)
 invariant_is_lawful registers conflicts base step safe job candidate logs b t shaped r =
     let are : AreLogs logs = record {
@@ -45,11 +46,15 @@ invariant_is_lawful registers conflicts base step safe job candidate logs b t sh
     } in
     (record { size = t.size; belongs = b }, set_is_lawful registers candidate t.body.0 shaped, are)
 
+-- ---- a gain
+pub gain_is_lawful : (job : CertifiedJob) (depth : ℕ) → is_kind_of job kind.Gain ≡ true → IsTyped (certificate.Gain job depth) → depth ≤ most_gain_depth → IsLawful (certificate.Gain job depth)
+gain_is_lawful job depth b t h = (record { size = t.size; belongs = b }, h)
+
 -- ---- a form that falls
-pub falls_are_lawful : (c : List ℤ) (job : Job) (offer : Falls) → is_kind_of job kind.Falls ≡ true → IsTyped (certificate.Falls job offer) → falls_refusal c offer ≡ None
+pub falls_are_lawful : (c : List ℤ) (job : CertifiedJob) (offer : Falls) → is_kind_of job kind.Falls ≡ true → IsTyped (certificate.Falls job offer) → falls_refusal c offer ≡ None
     → IsLawful (certificate_alone (certificate.Falls job offer))
 falls_are_lawful c job offer b t e = (record { size = t.size; belongs = b }, offer_is_lawful offer t.body t.places (accepted_are_narrow c offer e))
 
-pub falls_text : (c : List ℤ) (job : Job) (offer : Falls) → IsTyped (certificate.Falls job offer) → falls_refusal c offer ≡ None
+pub falls_text : (c : List ℤ) (job : CertifiedJob) (offer : Falls) → IsTyped (certificate.Falls job offer) → falls_refusal c offer ≡ None
     → certificate_text (certificate_alone (certificate.Falls job offer)) ≡ certificate_text (certificate.Falls job offer)
 falls_text c job offer t e = falls_text_alone job offer t.body t.places (accepted_are_narrow c offer e)

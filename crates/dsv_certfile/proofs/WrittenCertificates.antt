@@ -4,10 +4,10 @@ use Rattle.std.specs.List.{All}
 use Rattle.std.proofs.lemmas.List.Elements.{All-cons, All-nil, All-append}
 use Rattle.dsv_text.specs.Stages.{◌>>=◌}
 use Rattle.dsv_certfile.specs.Answers.{Reading}
-use Rattle.dsv_certfile.specs.Bodies.{line_in, whole_text, invariant_in, falls_in}
+use Rattle.dsv_certfile.specs.Bodies.{line_in, word_in, whole_text, invariant_in, falls_in}
 use Rattle.dsv_certfile.specs.Headings.{version_in, line_job, line_kind}
 use Rattle.dsv_certfile.specs.Lawful.{IsSize, IsLawful}
-use Rattle.dsv_certfile.specs.Limits.{greatest_depth, most_places}
+use Rattle.dsv_certfile.specs.Limits.{greatest_depth, most_gain_depth, most_places}
 use Rattle.dsv_template.specs.Limits.{most_inequalities}
 use Rattle.dsv_certfile.specs.Pieces.{unended}
 use Rattle.dsv_certfile.specs.Reading.{heading_in, body_in, certificate_in}
@@ -17,13 +17,13 @@ use Rattle.dsv_certfile.specs.declared.certificate.Certificate.{Certificate}
 use Rattle.dsv_certfile.specs.declared.certificate.Certificate.TheVariants as certificate
 use Rattle.dsv_certfile.specs.declared.fault.CertRefusal.{CertRefusal}
 use Rattle.dsv_certfile.specs.declared.invariant.SetProof.{SetProof}
-use Rattle.dsv_certfile.specs.declared.job.Job.{Job}
+use Rattle.dsv_certfile.specs.declared.job.CertifiedJob.{CertifiedJob}
 use Rattle.dsv_certfile.specs.declared.keyword.Keyword.TheVariants as keyword
 use Rattle.dsv_certfile.specs.declared.kind.Kind.TheVariants as kind
 use Rattle.dsv_certfile.specs.declared.kind.KindHead.{KindHead}
 use Rattle.dsv_certfile.specs.declared.kind.KindHead.TheVariants as head
 use Rattle.dsv_certfile.specs.declared.reader.Heading.{Heading}
-use Rattle.dsv_certfile.proofs.WrittenBodies.{word_plain, takes_invariant, invariant_plain}
+use Rattle.dsv_certfile.proofs.WrittenBodies.{word_plain, takes_word, takes_invariant, invariant_plain}
 use Rattle.dsv_certfile.proofs.WrittenFalls.{takes_falls, falls_plain}
 use Rattle.dsv_certfile.proofs.WrittenHeadings.{job_back, job_line-plain, kind_back, kind_line-plain}
 use Rattle.dsv_certfile.proofs.WrittenLines.{IsPlain, ArePlain, IsLine, line_bytes, onto_lines, lines-written}
@@ -32,13 +32,13 @@ use Rattle.dsv_certfile.proofs.WrittenParts.{Reader, Takes, and_read, takes_as, 
 use Rattle.dsv_certfile.proofs.WrittenSteps.{takes_log, log_plain}
 
 -- ---- the three first lines
-abbrev pub job_after : Job → Reader Heading
+abbrev pub job_after : CertifiedJob → Reader Heading
 job_after job ls = line_in (line_kind job) ls >>= λ kind. Ok (record { value = record { job = job; kind = kind.value }; left = kind.left })
 
 abbrev pub version_after : Unit {0} → Reader Heading
 version_after version = and_read (line_in line_job) job_after
 
-takes_heading : (job : Job) (h : KindHead) (line : Line) → IsSize job.size → line_kind job (line_bytes line) ≡ Ok h
+takes_heading : (job : CertifiedJob) (h : KindHead) (line : Line) → IsSize job.size → line_kind job (line_bytes line) ≡ Ok h
     → Takes heading_in (record { job = job; kind = h }) (version_line ∷ job_line job ∷ line ∷ [])
 takes_heading job h line s e =
     let whole : Heading = record { job = job; kind = h } in
@@ -61,6 +61,7 @@ one_plain n h = All-cons IsPlain (decimal n) [] (decimal_plain n h) (All-nil IsP
 abbrev head_of : Certificate → KindHead
 head_of (certificate.Hints job log) = head.Hints
 head_of (certificate.Invariant job candidate logs) = head.Invariant candidate.depth (length candidate.inequalities.items)
+head_of (certificate.Gain job depth) = head.Gain depth
 head_of (certificate.Falls job offer) = head.Falls offer.form.d
 
 is_read_back : (c : Certificate) → IsLawful c → IsReadBack c (head_of c)
@@ -92,6 +93,15 @@ is_read_back (certificate.Invariant job candidate logs) h =
           (sym (append_assoc inequalities (logs_lines logs) end))
           (takes_made (invariant_in candidate.depth few) (λ i. certificate.Invariant job i.candidate i.logs) proof lines (takes_invariant candidate logs h.1 h.2));
       body_plain = invariant_plain candidate logs h.1 h.2;
+    }
+is_read_back (certificate.Gain job depth) h =
+    let plain = one_plain depth (omega (arith, h.1)) in
+    record {
+      size = h.0.size;
+      kind = kind_back job kind.Gain (depth ∷ []) (pos depth ∷ []) h.0.belongs plain (count_read most_gain_depth depth (omega arith) h.1, tt);
+      kind_plain = kind_line-plain kind.Gain (depth ∷ []) plain;
+      body = takes_made (word_in keyword.End) (λ _. certificate.Gain job depth) [] (word_line keyword.End ∷ []) (takes_word keyword.End);
+      body_plain = All-nil IsLine;
     }
 is_read_back (certificate.Falls job offer) h =
     let few = h.1.form.few in

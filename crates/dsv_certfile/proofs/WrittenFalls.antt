@@ -20,7 +20,7 @@ use Rattle.dsv_certfile.specs.Places.{row_places, squares_places}
 use Rattle.dsv_certfile.specs.Texts.{word_line, numbers_line, rows_lines, square_lines, squares_head, squares_lines, falls_lines}
 use Rattle.dsv_certfile.specs.declared.keyword.Keyword.{Keyword}
 use Rattle.dsv_certfile.specs.declared.keyword.Keyword.TheVariants as keyword
-use Rattle.dsv_certfile.specs.declared.numbers.Range.TheVariants as range
+use Rattle.dsv_certfile.specs.declared.numbers.NumberRange.TheVariants as range
 use Rattle.dsv_certfile.specs.declared.places.Place.TheVariants as place
 use Rattle.dsv_certfile.proofs.Corners.{HasPlaces, filled_length, filled_rows}
 use Rattle.dsv_certfile.proofs.WrittenBodies.{takes_word}

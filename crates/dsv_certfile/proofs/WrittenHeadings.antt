@@ -25,7 +25,7 @@ use Rattle.dsv_certfile.specs.Kinds.{kind_name, kinds, is_kind_of}
 use Rattle.dsv_certfile.specs.Lawful.{IsSize}
 use Rattle.dsv_certfile.specs.Texts.{size_pieces, job_line, kind_line}
 use Rattle.dsv_certfile.specs.declared.fault.TextFault.{TextFault}
-use Rattle.dsv_certfile.specs.declared.job.Job.{Job}
+use Rattle.dsv_certfile.specs.declared.job.CertifiedJob.{CertifiedJob}
 use Rattle.dsv_certfile.specs.declared.job.Size.{Size}
 use Rattle.dsv_certfile.specs.declared.job.Size.TheVariants as size
 use Rattle.dsv_certfile.specs.declared.keyword.Keyword.TheVariants as keyword
@@ -64,6 +64,7 @@ overflow_mode_plain overflow_mode.Saturate = refl
 kind_plain : (k : Kind) → IsPlain (kind_name k)
 kind_plain kind.Hints = refl
 kind_plain kind.Invariant = refl
+kind_plain kind.Gain = refl
 kind_plain kind.Falls = refl
 
 -- ---- the job line
@@ -72,7 +73,7 @@ size_plain size.NoSize h = All-nil IsPlain
 size_plain (size.Samples k) h = All-cons IsPlain (decimal k) [] (decimal_plain k (omega (arith, h.1))) (All-nil IsPlain)
 size_plain size.Unbounded h = All-cons IsPlain unbounded_text [] refl (All-nil IsPlain)
 
-pub job_line-plain : (job : Job) → IsSize job.size → IsLine (job_line job)
+pub job_line-plain : (job : CertifiedJob) → IsSize job.size → IsLine (job_line job)
 job_line-plain job h =
     let sizes = size_pieces job.size in
     let modes = overflow_mode_name job.design.overflow ∷ sizes in
@@ -91,7 +92,7 @@ size_written (size.Samples k) h =
     rw (other, samples_read k h.0 h.1) refl
 size_written size.Unbounded h = refl
 
-job_written : (job : Job) → IsSize job.size → job_in (job_line job) ≡ Ok job
+job_written : (job : CertifiedJob) → IsSize job.size → job_in (job_line job) ≡ Ok job
 job_written job h =
     let line = job_line job in
     whole_job (beginning (keyword_text keyword.Job) line) (name_in property_name properties line 1) (name_in realisation_name realisations line 2)
@@ -100,20 +101,21 @@ job_written job h =
     refl (ap or_kind (are_names-properties.found job.property)) (ap or_kind (are_names-realisations.found job.design.realisation))
     (ap or_kind (are_names-roundings.found job.design.rounding)) (ap or_kind (are_names-overflow_modes.found job.design.overflow)) (size_written job.size h)
 
-pub job_back : (job : Job) → IsSize job.size → line_job (line_bytes (job_line job)) ≡ Ok job
+pub job_back : (job : CertifiedJob) → IsSize job.size → line_job (line_bytes (job_line job)) ≡ Ok job
 job_back job h = ap job_in (pieces_of-line_bytes (job_line job) (job_line-plain job h)) ∙ job_written job h
 
 -- ---- the kind line
 kind_found : (k : Kind) → value_named kind_name kinds (kind_name k) ≡ Some k
 kind_found kind.Hints = refl
 kind_found kind.Invariant = refl
+kind_found kind.Gain = refl
 kind_found kind.Falls = refl
 
 pub kind_line-plain : (k : Kind) (numbers : List ℕ) → ArePlain (map decimal numbers) → IsLine (kind_line k numbers)
 kind_line-plain k numbers h =
     All-cons IsPlain (keyword_text keyword.Kind) (kind_name k ∷ map decimal numbers) refl (All-cons IsPlain (kind_name k) (map decimal numbers) (kind_plain k) h)
 
-kind_written : (job : Job) (k : Kind) (numbers : List ℕ) (zs : List ℤ) → is_kind_of job k ≡ true → AreWritten (kind_places k) (map decimal numbers) zs
+kind_written : (job : CertifiedJob) (k : Kind) (numbers : List ℕ) (zs : List ℤ) → is_kind_of job k ≡ true → AreWritten (kind_places k) (map decimal numbers) zs
     → kind_in job (kind_line k numbers) ≡ Ok (head_with k zs)
 kind_written job k numbers zs belongs h =
     let pieces = map decimal numbers in
@@ -122,7 +124,7 @@ kind_written job k numbers zs belongs h =
     ∙ ap (λ (r : Result Kind TextFault). r >>= λ l. head_in l pieces) of
     ∙ ap (λ (r : Result (List ℤ) TextFault). r >>= λ ns. Ok (head_with k ns)) (line_numbers-written (kind_places k) pieces zs h)
 
-pub kind_back : (job : Job) (k : Kind) (numbers : List ℕ) (zs : List ℤ) → is_kind_of job k ≡ true → ArePlain (map decimal numbers)
+pub kind_back : (job : CertifiedJob) (k : Kind) (numbers : List ℕ) (zs : List ℤ) → is_kind_of job k ≡ true → ArePlain (map decimal numbers)
     → AreWritten (kind_places k) (map decimal numbers) zs → line_kind job (line_bytes (kind_line k numbers)) ≡ Ok (head_with k zs)
 kind_back job k numbers zs belongs plain h =
     ap (kind_in job) (pieces_of-line_bytes (kind_line k numbers) (kind_line-plain k numbers plain))

@@ -13,7 +13,7 @@ use Rattle.dsv_certfile.specs.Places.{has_bad_number, has_words, onto_numbers, n
 use Rattle.dsv_certfile.specs.Texts.{Line, numbers_line}
 use Rattle.dsv_certfile.specs.declared.keyword.Keyword.{Keyword}
 use Rattle.dsv_certfile.specs.declared.keyword.Keyword.TheVariants as keyword
-use Rattle.dsv_certfile.specs.declared.numbers.Range.{Range}
+use Rattle.dsv_certfile.specs.declared.numbers.NumberRange.{NumberRange}
 use Rattle.dsv_certfile.specs.declared.places.Place.{Place}
 use Rattle.dsv_certfile.specs.declared.places.Place.TheVariants as place
 use Rattle.dsv_certfile.proofs.WrittenLines.{IsPlain, IsLine, line_bytes, pieces_of-line_bytes}
@@ -39,7 +39,7 @@ one_word w q ps qs zs e s =
     let same : bytes_eq q (keyword_text w) ≡ true = (bytes_eq-Decides q (keyword_text w)).1 e in
     record { good = s.good; words = rw same s.words; numbers = s.numbers }
 
-one_number : (r : Range) (q : List ℕ) (z : ℤ) (ps : List Place) (qs : Line) (zs : List ℤ) → number_in r q ≡ Some z → Stands ps qs zs
+one_number : (r : NumberRange) (q : List ℕ) (z : ℤ) (ps : List Place) (qs : Line) (zs : List ℤ) → number_in r q ≡ Some z → Stands ps qs zs
     → Stands (place.Number r ∷ ps) (q ∷ qs) (z ∷ zs)
 one_number r q z ps qs zs e s = record {
   good = ap (λ (o : Option ℤ). is_none o || has_bad_number ps qs) e ∙ s.good;
@@ -63,7 +63,7 @@ pub line_numbers-written : (ps : List Place) (qs : Line) (zs : List ℤ) → Are
 line_numbers-written ps qs zs h = read_by ps qs zs (stands ps qs zs h)
 
 -- ---- numbers of one range
-pub row_written : (r : Range) (zs : List ℤ) → All (λ z. number_in r (signed_decimal z) ≡ Some z) zs
+pub row_written : (r : NumberRange) (zs : List ℤ) → All (λ z. number_in r (signed_decimal z) ≡ Some z) zs
     → AreWritten (replicate (length zs) (place.Number r)) (map signed_decimal zs) zs
 row_written r [] h = tt
 row_written r (z ∷ zs) h =

@@ -11,14 +11,14 @@ use Rattle.dsv_names.specs.Roundings.{rounding_name, roundings}
 use Rattle.dsv_names.specs.OverflowModes.{overflow_mode_name, overflow_modes}
 use Rattle.dsv_certfile.specs.Keywords.{keyword_text, version_text, unbounded_text}
 use Rattle.dsv_certfile.specs.Kinds.{kind_name, kinds, is_kind_of}
-use Rattle.dsv_certfile.specs.Limits.{greatest_depth, most_places}
+use Rattle.dsv_certfile.specs.Limits.{greatest_depth, most_gain_depth, most_places}
 use Rattle.dsv_template.specs.Limits.{most_inequalities}
 use Rattle.dsv_certfile.specs.Numerals.{samples_of}
 use Rattle.dsv_certfile.specs.Pieces.{pieces_of}
 use Rattle.dsv_certfile.specs.Places.{line_numbers}
 use Rattle.dsv_certfile.specs.declared.fault.TextFault.{TextFault}
 use Rattle.dsv_certfile.specs.declared.fault.TextFault.TheVariants as fault
-use Rattle.dsv_certfile.specs.declared.job.Job.{Job}
+use Rattle.dsv_certfile.specs.declared.job.CertifiedJob.{CertifiedJob}
 use Rattle.dsv_certfile.specs.declared.job.Size.{Size}
 use Rattle.dsv_certfile.specs.declared.job.Size.TheVariants as size
 use Rattle.dsv_certfile.specs.declared.keyword.Keyword.TheVariants as keyword
@@ -26,7 +26,7 @@ use Rattle.dsv_certfile.specs.declared.kind.Kind.{Kind}
 use Rattle.dsv_certfile.specs.declared.kind.Kind.TheVariants as kind
 use Rattle.dsv_certfile.specs.declared.kind.KindHead.{KindHead}
 use Rattle.dsv_certfile.specs.declared.kind.KindHead.TheVariants as head
-use Rattle.dsv_certfile.specs.declared.numbers.Range.TheVariants as range
+use Rattle.dsv_certfile.specs.declared.numbers.NumberRange.TheVariants as range
 use Rattle.dsv_certfile.specs.declared.places.Place.{Place}
 use Rattle.dsv_certfile.specs.declared.places.Place.TheVariants as place
 
@@ -74,7 +74,7 @@ size_in (piece ∷ pieces) = size_of piece >>= λ s. whole_line s pieces
 
 -- the job line: `job`, the names of the property, the realisation, the rounding and the overflow
 -- mode, and the size where there is one
-abbrev pub job_in : List (List ℕ) → Result Job TextFault
+abbrev pub job_in : List (List ℕ) → Result CertifiedJob TextFault
 job_in pieces =
     beginning (keyword_text keyword.Job) pieces >>= λ _.
     name_in property_name properties pieces 1 >>= λ p.
@@ -89,7 +89,7 @@ job_in pieces =
     })
 
 -- the job of a line
-abbrev pub line_job : List ℕ → Result Job TextFault
+abbrev pub line_job : List ℕ → Result CertifiedJob TextFault
 line_job bytes = job_in (pieces_of bytes)
 
 -- ---- the kind
@@ -98,6 +98,7 @@ abbrev pub kind_places : Kind → List Place
 kind_places kind.Hints = []
 kind_places kind.Invariant = place.Number (range.UpTo greatest_depth)
     ∷ place.Number (range.UpTo most_inequalities) ∷ []
+kind_places kind.Gain = place.Number (range.UpTo most_gain_depth) ∷ []
 kind_places kind.Falls = place.Number (range.UpTo most_places) ∷ []
 
 -- a number of a list that counts something
@@ -107,10 +108,11 @@ count_at numbers i = unsigned_abs (slice_index_or numbers i (pos 0))
 abbrev pub head_with : Kind → List ℤ → KindHead
 head_with kind.Hints numbers = head.Hints
 head_with kind.Invariant numbers = head.Invariant (count_at numbers 0) (count_at numbers 1)
+head_with kind.Gain numbers = head.Gain (count_at numbers 0)
 head_with kind.Falls numbers = head.Falls (count_at numbers 0)
 
 -- the kind, where it belongs to the job
-abbrev pub of_job : Job → Kind → Result Kind TextFault
+abbrev pub of_job : CertifiedJob → Kind → Result Kind TextFault
 of_job job k = if is_kind_of job k then Ok k else Err fault.Kind
 
 -- the kind with the numbers that the pieces after its name say
@@ -119,7 +121,7 @@ head_in k pieces =
     line_numbers (kind_places k) pieces >>= λ numbers. Ok (head_with k numbers)
 
 -- the kind line: `kind`, the kind's name, and its numbers
-abbrev pub kind_in : Job → List (List ℕ) → Result KindHead TextFault
+abbrev pub kind_in : CertifiedJob → List (List ℕ) → Result KindHead TextFault
 kind_in job pieces =
     beginning (keyword_text keyword.Kind) pieces >>= λ _.
     name_in kind_name kinds pieces 1 >>= λ k.
@@ -127,5 +129,5 @@ kind_in job pieces =
     head_in k (drop 2 pieces)
 
 -- the kind of a line
-abbrev pub line_kind : Job → List ℕ → Result KindHead TextFault
+abbrev pub line_kind : CertifiedJob → List ℕ → Result KindHead TextFault
 line_kind job bytes = kind_in job (pieces_of bytes)

@@ -1,6 +1,6 @@
 -- Scaffolding, which private contracts alone cite: the numbers of a kind line.
 use Rattle.std.specs.Prelude.{◌≤◌}
-use Rattle.dsv_certfile.specs.Limits.{most_places}
+use Rattle.dsv_certfile.specs.Limits.{most_gain_depth, most_places}
 use Rattle.dsv_template.specs.Limits.{most_inequalities}
 use Rattle.dsv_certfile.specs.declared.kind.KindHead.{KindHead}
 use Rattle.dsv_certfile.specs.declared.kind.KindHead.TheVariants as head
@@ -9,4 +9,5 @@ use Rattle.dsv_certfile.specs.declared.kind.KindHead.TheVariants as head
 abbrev pub IsHead : KindHead → Type 0
 IsHead head.Hints = Unit {0}
 IsHead (head.Invariant depth count) = count ≤ most_inequalities
+IsHead (head.Gain depth) = depth ≤ most_gain_depth
 IsHead (head.Falls d) = d ≤ most_places

@@ -5,26 +5,28 @@ use Rattle.dsv_names.specs.declared.property.Property.{Property}
 use Rattle.dsv_names.specs.declared.property.Property.TheVariants as property
 use Rattle.dsv_certfile.specs.declared.job.Size.{Size}
 use Rattle.dsv_certfile.specs.declared.job.Size.TheVariants as size
-use Rattle.dsv_certfile.specs.declared.job.Job.{Job}
+use Rattle.dsv_certfile.specs.declared.job.CertifiedJob.{CertifiedJob}
 use Rattle.dsv_certfile.specs.declared.kind.Kind.{Kind}
 use Rattle.dsv_certfile.specs.declared.kind.Kind.TheVariants as kind
 
 abbrev pub kind_name : Kind → List ℕ
 kind_name kind.Hints = codes "hints"
 kind_name kind.Invariant = codes "invariant"
+kind_name kind.Gain = codes "gain"
 kind_name kind.Falls = codes "falls"
 
 abbrev pub kinds : List Kind
-kinds = kind.Hints ∷ kind.Invariant ∷ kind.Falls ∷ []
+kinds = kind.Hints ∷ kind.Invariant ∷ kind.Gain ∷ kind.Falls ∷ []
 
--- A log shows a property of bounded runs, an invariant that no run overflows, a falling form a
--- property of roots. No kind shows that a sample is in time.
+-- A log shows a property of bounded runs, an invariant or a gain that no run overflows, a falling
+-- form a property of roots. No kind shows that a sample is in time.
 abbrev pub is_kind_for : Property → Size → Kind → Bool
 is_kind_for (property.OfRuns p) (size.Samples k) kind.Hints = true
 is_kind_for (property.OfRuns run.Overflow) size.Unbounded kind.Invariant = true
+is_kind_for (property.OfRuns run.Overflow) size.Unbounded kind.Gain = true
 is_kind_for (property.OfRoots p) size.NoSize kind.Falls = true
 is_kind_for p s k = false
 
 -- the kind belongs to the job
-abbrev pub is_kind_of : Job → Kind → Bool
+abbrev pub is_kind_of : CertifiedJob → Kind → Bool
 is_kind_of job k = is_kind_for job.property job.size k

@@ -16,11 +16,11 @@ use Rattle.dsv_template.specs.declared.verdict.ThreeLogs.{ThreeLogs}
 use Rattle.dsv_certfile.specs.Kinds.{is_kind_of}
 use Rattle.dsv_certfile.specs.Limits.{greatest_whole, greatest_entry, greatest_id, greatest_literal}
 use Rattle.dsv_certfile.specs.Limits.{greatest_depth, most_samples, most_places, most_squares}
-use Rattle.dsv_certfile.specs.Limits.{most_inequality_numbers}
+use Rattle.dsv_certfile.specs.Limits.{most_inequality_numbers, most_gain_depth}
 use Rattle.dsv_template.specs.Limits.{most_inequalities}
 use Rattle.dsv_certfile.specs.declared.certificate.Certificate.{Certificate}
 use Rattle.dsv_certfile.specs.declared.certificate.Certificate.TheVariants as certificate
-use Rattle.dsv_certfile.specs.declared.job.Job.{Job}
+use Rattle.dsv_certfile.specs.declared.job.CertifiedJob.{CertifiedJob}
 use Rattle.dsv_certfile.specs.declared.job.Size.{Size}
 use Rattle.dsv_certfile.specs.declared.job.Size.TheVariants as size
 use Rattle.dsv_certfile.specs.declared.kind.Kind.{Kind}
@@ -33,7 +33,7 @@ IsSize (size.Samples k) = (1 ≤ k) × (k ≤ most_samples)
 IsSize size.Unbounded = Unit {0}
 
 -- the job is one of this kind
-pub record IsJobOf (k : Kind) (job : Job) : Type 0 where
+pub record IsJobOf (k : Kind) (job : CertifiedJob) : Type 0 where
   pub size : IsSize job.size
   pub belongs : is_kind_of job k ≡ true
 
@@ -102,6 +102,7 @@ abbrev pub IsLawful : Certificate → Type 0
 IsLawful (certificate.Hints job log) = IsJobOf kind.Hints job × IsLog log
 IsLawful (certificate.Invariant job candidate logs) =
     IsJobOf kind.Invariant job × IsSet candidate × AreLogs logs
+IsLawful (certificate.Gain job depth) = IsJobOf kind.Gain job × (depth ≤ most_gain_depth)
 IsLawful (certificate.Falls job offer) = IsJobOf kind.Falls job × IsOffer offer
 
 -- the certificate with the numbers of its form's places alone, as its text has it
@@ -109,4 +110,5 @@ abbrev pub certificate_alone : Certificate → Certificate
 certificate_alone (certificate.Hints job log) = certificate.Hints job log
 certificate_alone (certificate.Invariant job candidate logs) =
     certificate.Invariant job candidate logs
+certificate_alone (certificate.Gain job depth) = certificate.Gain job depth
 certificate_alone (certificate.Falls job offer) = certificate.Falls job (offer_alone offer)

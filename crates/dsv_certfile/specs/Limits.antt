@@ -20,6 +20,10 @@ greatest_literal = 2 ^ 31
 abbrev pub greatest_depth : ℕ
 greatest_depth = 2 ^ 32 - 1
 
+-- the greatest depth of a gain: so many samples after any words in the registers
+abbrev pub most_gain_depth : ℕ
+most_gain_depth = 1023
+
 -- the most samples of a job; it has one at least
 abbrev pub most_samples : ℕ
 most_samples = 64

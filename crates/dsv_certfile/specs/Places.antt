@@ -10,7 +10,7 @@ use Rattle.dsv_certfile.specs.declared.fault.TextFault.{TextFault}
 use Rattle.dsv_certfile.specs.declared.fault.TextFault.TheVariants as fault
 use Rattle.dsv_certfile.specs.declared.keyword.Keyword.{Keyword}
 use Rattle.dsv_certfile.specs.declared.keyword.Keyword.TheVariants as keyword
-use Rattle.dsv_certfile.specs.declared.numbers.Range.TheVariants as range
+use Rattle.dsv_certfile.specs.declared.numbers.NumberRange.TheVariants as range
 use Rattle.dsv_certfile.specs.declared.places.Place.{Place}
 use Rattle.dsv_certfile.specs.declared.places.Place.TheVariants as place
 

@@ -2,12 +2,12 @@
 use Rattle.std.specs.Prelude.{◌≤◌, List, [], ◌∷◌, ℤ, pos, ◌≤ℤ◌}
 use Rattle.std.specs.Int.RustNames.{unsigned_abs}
 use Rattle.dsv_certfile.specs.Limits.{greatest_entry, greatest_whole}
-use Rattle.dsv_certfile.specs.declared.numbers.Range.{Range}
-use Rattle.dsv_certfile.specs.declared.numbers.Range.TheVariants as range
+use Rattle.dsv_certfile.specs.declared.numbers.NumberRange.{NumberRange}
+use Rattle.dsv_certfile.specs.declared.numbers.NumberRange.TheVariants as range
 use Rattle.dsv_certfile.specs.declared.places.Place.{Place}
 use Rattle.dsv_certfile.specs.declared.places.Place.TheVariants as place
 
-abbrev pub IsOf : Range → ℤ → Type 0
+abbrev pub IsOf : NumberRange → ℤ → Type 0
 IsOf (range.UpTo greatest) z = (pos 0 ≤ℤ z) × (unsigned_abs z ≤ greatest)
 IsOf range.Entry z = unsigned_abs z ≤ greatest_entry
 IsOf range.Whole z = unsigned_abs z ≤ greatest_whole

@@ -2,14 +2,14 @@
 use Rattle.std.specs.Prelude.{ℕ, List, Result, Ok}
 use Rattle.dsv_text.specs.Stages.{◌>>=◌}
 use Rattle.dsv_certfile.specs.Answers.{Reading, reading_of}
-use Rattle.dsv_certfile.specs.Bodies.{line_in, whole_text, falls_in, invariant_in}
+use Rattle.dsv_certfile.specs.Bodies.{line_in, word_in, whole_text, falls_in, invariant_in}
 use Rattle.dsv_certfile.specs.Headings.{version_in, line_job, line_kind}
 use Rattle.dsv_certfile.specs.Pieces.{LinesLeft, all_lines}
 use Rattle.dsv_certfile.specs.Steps.{log_in}
 use Rattle.dsv_certfile.specs.declared.certificate.Certificate.{Certificate}
 use Rattle.dsv_certfile.specs.declared.certificate.Certificate.TheVariants as certificate
 use Rattle.dsv_certfile.specs.declared.fault.CertRefusal.{CertRefusal}
-use Rattle.dsv_certfile.specs.declared.job.Job.{Job}
+use Rattle.dsv_certfile.specs.declared.job.CertifiedJob.{CertifiedJob}
 use Rattle.dsv_certfile.specs.declared.reader.Heading.{Heading}
 use Rattle.dsv_certfile.specs.declared.keyword.Keyword.TheVariants as keyword
 use Rattle.dsv_certfile.specs.declared.kind.KindHead.{KindHead}
@@ -24,13 +24,16 @@ heading_in ls =
     Ok (reading_of (record { job = job.value; kind = kind.value }) kind.left)
 
 -- what follows the kind line, the last line of the certificate among it
-abbrev pub body_in : Job → KindHead → LinesLeft → Result (Reading Certificate) CertRefusal
+abbrev pub body_in : CertifiedJob → KindHead → LinesLeft → Result (Reading Certificate) CertRefusal
 body_in job head.Hints ls =
     log_in keyword.End ls >>= λ log.
     Ok (reading_of (certificate.Hints job log.value) log.left)
 body_in job (head.Invariant depth count) ls =
     invariant_in depth count ls >>= λ i.
     Ok (reading_of (certificate.Invariant job i.value.candidate i.value.logs) i.left)
+body_in job (head.Gain depth) ls =
+    word_in keyword.End ls >>= λ end.
+    Ok (reading_of (certificate.Gain job depth) end.left)
 body_in job (head.Falls d) ls =
     falls_in d ls >>= λ offer.
     Ok (reading_of (certificate.Falls job offer.value) offer.left)

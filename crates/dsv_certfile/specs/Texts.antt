@@ -20,7 +20,7 @@ use Rattle.dsv_certfile.specs.Keywords.{keyword_text, unbounded_text, deletion_t
 use Rattle.dsv_certfile.specs.Kinds.{kind_name}
 use Rattle.dsv_certfile.specs.declared.certificate.Certificate.{Certificate}
 use Rattle.dsv_certfile.specs.declared.certificate.Certificate.TheVariants as certificate
-use Rattle.dsv_certfile.specs.declared.job.Job.{Job}
+use Rattle.dsv_certfile.specs.declared.job.CertifiedJob.{CertifiedJob}
 use Rattle.dsv_certfile.specs.declared.job.Size.{Size}
 use Rattle.dsv_certfile.specs.declared.job.Size.TheVariants as size
 use Rattle.dsv_certfile.specs.declared.keyword.Keyword.{Keyword}
@@ -59,7 +59,7 @@ size_pieces size.NoSize = []
 size_pieces (size.Samples k) = decimal k ∷ []
 size_pieces size.Unbounded = unbounded_text ∷ []
 
-abbrev pub job_line : Job → Line
+abbrev pub job_line : CertifiedJob → Line
 job_line job = keyword_text keyword.Job ∷ property_name job.property
     ∷ realisation_name job.design.realisation ∷ rounding_name job.design.rounding
     ∷ overflow_mode_name job.design.overflow ∷ size_pieces job.size
@@ -123,9 +123,10 @@ falls_lines offer = rows_lines keyword.Form offer.form.d offer.form.rows
     ++ squares_lines keyword.Fall offer.form.d offer.fall
 
 -- ---- certificates
-abbrev pub job_of : Certificate → Job
+abbrev pub job_of : Certificate → CertifiedJob
 job_of (certificate.Hints job log) = job
 job_of (certificate.Invariant job candidate logs) = job
+job_of (certificate.Gain job depth) = job
 job_of (certificate.Falls job offer) = job
 
 -- the numbers of an invariant's kind line: the depth, and how many inequalities there are
@@ -136,6 +137,7 @@ abbrev pub kind_line_of : Certificate → Line
 kind_line_of (certificate.Hints job log) = kind_line kind.Hints []
 kind_line_of (certificate.Invariant job candidate logs) =
     kind_line kind.Invariant (candidate_counts candidate)
+kind_line_of (certificate.Gain job depth) = kind_line kind.Gain (depth ∷ [])
 kind_line_of (certificate.Falls job offer) = kind_line kind.Falls (offer.form.d ∷ [])
 
 -- the lines between the kind line and the line `end`
@@ -143,6 +145,7 @@ abbrev pub body_lines : Certificate → List Line
 body_lines (certificate.Hints job log) = log_lines log
 body_lines (certificate.Invariant job candidate logs) =
     map inequality_line candidate.inequalities.items ++ logs_lines logs
+body_lines (certificate.Gain job depth) = []
 body_lines (certificate.Falls job offer) = falls_lines offer
 
 abbrev pub certificate_lines : Certificate → List Line

@@ -2,7 +2,7 @@
 ghost use Rattle.std.specs.Prelude.{◌≡◌};
 ghost use Rattle.dsv_certfile.specs.Texts.{job_of};
 
-use crate::job::Job;
+use crate::job::CertifiedJob;
 use dsv_forms::Falls;
 use dsv_hints::Log;
 use dsv_template::{Candidate, ThreeLogs};
@@ -12,31 +12,38 @@ use dsv_template::{Candidate, ThreeLogs};
 pub enum Certificate {
     /// A log that refutes the formula that some run breaks the property.
     Hints {
-        job: Job,
+        job: CertifiedJob,
         log: Log,
     },
     /// A set of registers that no run leaves, and the logs that refute that a sentence of it is
     /// broken.
     Invariant {
-        job: Job,
+        job: CertifiedJob,
         candidate: Candidate,
         logs: ThreeLogs,
     },
+    /// How many samples after any words in the registers the ranges of all exact values are words:
+    /// 0 to `MOST_GAIN_DEPTH`.
+    Gain {
+        job: CertifiedJob,
+        depth: u32,
+    },
     /// A form that falls along each trajectory of the polynomial.
     Falls {
-        job: Job,
+        job: CertifiedJob,
         offer: Falls,
     },
 }
 
 impl Certificate {
     /// What the certificate is about.
-    pub fn job(&self) -> &Job
+    pub fn job(&self) -> &CertifiedJob
         ensures { result.now ≡ job_of self.now }
     {
         match self {
             Certificate::Hints { job, .. } => job,
             Certificate::Invariant { job, .. } => job,
+            Certificate::Gain { job, .. } => job,
             Certificate::Falls { job, .. } => job,
         }
     }

@@ -9,7 +9,7 @@ ghost use Rattle.dsv_certfile.specs.declared.limits.TheConstants.{MOST_PLACES};
 use crate::fault::CertRefusal;
 use crate::keyword::Keyword;
 use crate::lines::Lines;
-use crate::numbers::Range;
+use crate::numbers::NumberRange;
 use crate::places::{Numbers, Place, squares_places, word_and_numbers};
 use arrayvec::ArrayVec;
 use dsv_forms::{Falls, Form, GREATEST_ORDER, Squares};
@@ -100,7 +100,7 @@ fn read_word_rows(lines: &mut Lines, word: Keyword, n: u32, count: u32) -> Resul
     ensures answer { Reads result lines.new (rows_in (row_places word n) count lines.old) }
     ensures many { IfOk result (λ rows. length rows ≡ count) }
 {
-    let places = word_and_numbers(word, Range::Whole);
+    let places = word_and_numbers(word, NumberRange::Whole);
     read_rows(lines, &places[..=n as usize], count)
 }
 

@@ -56,6 +56,9 @@ pub enum CheckFault {
     /// of the polynomial, or there is none, or the kind belongs to no such job.
     #[error("a certificate of another shape than the controller's")]
     Shape,
+    /// Some range isn't known to be one of words at a gain's depth, nor before it.
+    #[error("a depth at which the ranges aren't ones of words")]
+    Gain,
 }
 
 impl CheckFault {
@@ -67,6 +70,7 @@ impl CheckFault {
             CheckFault::Step => 6,
             CheckFault::Form => 7,
             CheckFault::Shape => 8,
+            CheckFault::Gain => 10,
         }
     }
 }

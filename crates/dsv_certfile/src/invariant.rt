@@ -11,7 +11,7 @@ use crate::fault::{CertRefusal, TextFault, at_line};
 use crate::keyword::Keyword;
 use crate::limits::MOST_INEQUALITY_NUMBERS;
 use crate::lines::Lines;
-use crate::numbers::Range;
+use crate::numbers::NumberRange;
 use crate::pieces::{Pieces, spaces_in};
 use crate::places::{Numbers, Place, read_numbers, word_and_numbers};
 use crate::steps::read_log;
@@ -51,7 +51,7 @@ fn inequality_numbers(line: &[u8]) -> Result<Numbers, TextFault>
     ensures small { IfOk result (λ numbers. AreEntries numbers) }
 {
     let count = spaces_in(line).min(MOST_INEQUALITY_NUMBERS).max(1);
-    let places = word_and_numbers(Keyword::Inequality, Range::Entry);
+    let places = word_and_numbers(Keyword::Inequality, NumberRange::Entry);
     read_numbers(&places[..=count], Pieces::new(line))
 }
 

@@ -22,7 +22,7 @@ pub enum Size {
 
 /// What a certificate is about: a property of a controller that is realised by a design.
 #[derive(Clone, Copy, Debug, PartialEq, Eq)]
-pub struct Job {
+pub struct CertifiedJob {
     pub property: Property,
     pub design: Design,
     pub size: Size,
@@ -65,7 +65,7 @@ fn read_size(mut pieces: Pieces) -> Result<Size, TextFault>
 }
 
 /// Reads the job line.
-pub(crate) fn read_job(line: &[u8]) -> Result<Job, TextFault>
+pub(crate) fn read_job(line: &[u8]) -> Result<CertifiedJob, TextFault>
     ensures { result ≡ job_in (pieces_of line.now) }
 {
     let mut pieces = Pieces::new(line);
@@ -80,7 +80,7 @@ pub(crate) fn read_job(line: &[u8]) -> Result<Job, TextFault>
         rounding,
         overflow,
     };
-    Ok(Job {
+    Ok(CertifiedJob {
         property,
         design,
         size,

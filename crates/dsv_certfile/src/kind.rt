@@ -6,9 +6,10 @@ ghost use Rattle.dsv_certfile.specs.Kinds.{is_kind_of};
 ghost use Rattle.dsv_certfile.specs.Pieces.{pieces_of};
 
 use crate::fault::TextFault;
-use crate::job::{Job, Size};
+use crate::job::{CertifiedJob, Size};
 use crate::keyword::Keyword;
-use crate::numbers::Range;
+use crate::limits::MOST_GAIN_DEPTH;
+use crate::numbers::NumberRange;
 use crate::pieces::Pieces;
 use crate::places::{Place, read_numbers};
 use dsv_forms::GREATEST_ORDER;
@@ -22,6 +23,8 @@ pub(crate) enum Kind {
     Hints,
     /// A set of registers that no run leaves, with a log for each of its sentences.
     Invariant,
+    /// How many samples after any words in the registers all ranges are words.
+    Gain,
     /// A form that falls.
     Falls,
 }
@@ -37,23 +40,25 @@ impl Named for Kind {
         match self {
             Kind::Hints => "hints",
             Kind::Invariant => "invariant",
+            Kind::Gain => "gain",
             Kind::Falls => "falls",
         }
     }
 
     fn all() -> &'static [Kind] {
-        &[Kind::Hints, Kind::Invariant, Kind::Falls]
+        &[Kind::Hints, Kind::Invariant, Kind::Gain, Kind::Falls]
     }
 }
 
 impl Kind {
     /// Whether certificates of this kind show such a job.
-    pub(crate) fn is_of(self, job: &Job) -> bool
+    pub(crate) fn is_of(self, job: &CertifiedJob) -> bool
         ensures { result ≡ is_kind_of job.now self }
     {
         match (job.property, job.size, self) {
             (Property::OfRuns(_), Size::Samples(_), Kind::Hints) => true,
             (Property::OfRuns(RunProperty::Overflow), Size::Unbounded, Kind::Invariant) => true,
+            (Property::OfRuns(RunProperty::Overflow), Size::Unbounded, Kind::Gain) => true,
             (Property::OfRoots(_), Size::NoSize, Kind::Falls) => true,
             (_, _, _) => false,
         }
@@ -65,11 +70,12 @@ impl Kind {
 pub(crate) enum KindHead {
     Hints,
     Invariant { depth: u32, count: u32 },
+    Gain { depth: u32 },
     Falls { places: u32 },
 }
 
 /// The kind, where it belongs to the job.
-fn of_job(job: &Job, kind: Kind) -> Result<Kind, TextFault>
+fn of_job(job: &CertifiedJob, kind: Kind) -> Result<Kind, TextFault>
     ensures { result ≡ of_job job.now kind }
 {
     if kind.is_of(job) {
@@ -90,16 +96,23 @@ fn read_head(kind: Kind, pieces: Pieces) -> Result<KindHead, TextFault>
             Ok(KindHead::Hints)
         }
         Kind::Invariant => {
-            let depth = Place::Number(Range::UpTo(u32::MAX));
-            let count = Place::Number(Range::UpTo(MOST_INEQUALITIES as u32));
+            let depth = Place::Number(NumberRange::UpTo(u32::MAX));
+            let count = Place::Number(NumberRange::UpTo(MOST_INEQUALITIES as u32));
             let numbers = read_numbers(&[depth, count], pieces)?;
             Ok(KindHead::Invariant {
                 depth: numbers.count_at(0),
                 count: numbers.count_at(1),
             })
         }
+        Kind::Gain => {
+            let depth = Place::Number(NumberRange::UpTo(MOST_GAIN_DEPTH));
+            let numbers = read_numbers(&[depth], pieces)?;
+            Ok(KindHead::Gain {
+                depth: numbers.count_at(0),
+            })
+        }
         Kind::Falls => {
-            let places = Place::Number(Range::UpTo(GREATEST_ORDER as u32));
+            let places = Place::Number(NumberRange::UpTo(GREATEST_ORDER as u32));
             let numbers = read_numbers(&[places], pieces)?;
             Ok(KindHead::Falls {
                 places: numbers.count_at(0),
@@ -109,7 +122,7 @@ fn read_head(kind: Kind, pieces: Pieces) -> Result<KindHead, TextFault>
 }
 
 /// Reads the kind line of a certificate for the job.
-pub(crate) fn read_kind(job: &Job, line: &[u8]) -> Result<KindHead, TextFault>
+pub(crate) fn read_kind(job: &CertifiedJob, line: &[u8]) -> Result<KindHead, TextFault>
     ensures answer { result ≡ kind_in job.now (pieces_of line.now) }
     ensures within { IfOk result IsHead }
 {

@@ -1,5 +1,5 @@
-//! Certificates as text: what is claimed of a controller, and the log, the invariant or the form
-//! that shows it.
+//! Certificates as text: what is claimed of a controller, and the log, the invariant, the gain or
+//! the form that shows it.
 #![tactic(auto, using(dsv_algebra::proofs::Casts::casts))]
 
 mod certificate;
@@ -22,8 +22,8 @@ mod writer;
 
 pub use certificate::Certificate;
 pub use fault::{CertRefusal, CheckFault, TextFault};
-pub use job::{Job, Size};
+pub use job::{CertifiedJob, Size};
 pub use law::certificates_are_read;
-pub use limits::{MOST_JOB_SAMPLES, MOST_SQUARES};
+pub use limits::{MOST_GAIN_DEPTH, MOST_JOB_SAMPLES, MOST_SQUARES};
 pub use reader::read;
-pub use writer::{write, write_falls, write_hints, write_invariant};
+pub use writer::{write, write_falls, write_gain, write_hints, write_invariant};

@@ -2,6 +2,9 @@
 /// The most samples of a job.
 pub const MOST_JOB_SAMPLES: u32 = 64;
 
+/// The greatest depth of a gain.
+pub const MOST_GAIN_DEPTH: u32 = 1_023;
+
 /// The most squares of a form.
 pub const MOST_SQUARES: usize = 8;
 

@@ -11,7 +11,7 @@ use dsv_text::{has_byte, is_digits};
 
 /// Which numbers may stand at a place.
 #[derive(Clone, Copy, Debug, PartialEq, Eq)]
-pub(crate) enum Range {
+pub(crate) enum NumberRange {
     /// From 0 to this one.
     UpTo(u32),
     /// Those of an inequality, below 2^63 in size.
@@ -100,15 +100,15 @@ pub(crate) fn literal_of(piece: &[u8]) -> Option<Lit>
     Some(Lit::new(number as u32 - 1, !negated))
 }
 
-impl Range {
+impl NumberRange {
     /// The number that the piece is, where it is one of the range.
     pub(crate) fn number_in(self, piece: &[u8]) -> Option<i128>
         ensures { result ≡ number_in self piece.now }
     {
         match self {
-            Range::UpTo(greatest) => Some(numeral_of(u128::from(greatest), piece)? as i128),
-            Range::Entry => integer_of(GREATEST_ENTRY, piece),
-            Range::Whole => integer_of(GREATEST_WHOLE, piece),
+            NumberRange::UpTo(greatest) => Some(numeral_of(u128::from(greatest), piece)? as i128),
+            NumberRange::Entry => integer_of(GREATEST_ENTRY, piece),
+            NumberRange::Whole => integer_of(GREATEST_WHOLE, piece),
         }
     }
 }

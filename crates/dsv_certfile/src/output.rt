@@ -21,10 +21,10 @@ use dsv_names::Named;
 use itoa::Integer;
 
 /// The entries of a row.
-pub(crate) type Row = [i128; GREATEST_ORDER];
+pub(crate) type MatrixRow = [i128; GREATEST_ORDER];
 
 /// The entries row by row.
-pub(crate) type Matrix = [Row; GREATEST_ORDER];
+pub(crate) type Matrix = [MatrixRow; GREATEST_ORDER];
 
 /// Writes a space and a piece.
 fn put_piece<K: Sink>(sink: &mut K, piece: &[u8]) -> Result<(), Failed>
@@ -82,7 +82,7 @@ pub(crate) fn put_numbers<K: Sink>(
 }
 
 /// Writes a line of the first d places of the row.
-fn put_row<K: Sink>(sink: &mut K, word: Keyword, d: u32, row: &Row) -> Result<(), Failed>
+fn put_row<K: Sink>(sink: &mut K, word: Keyword, d: u32, row: &MatrixRow) -> Result<(), Failed>
     ensures text { Writes (K.seen sink.old) (K.seen sink.new) result
         (line_text (numbers_line word (take d row.now))) }
     ensures typed { IsTypedRow row.now }
@@ -91,7 +91,12 @@ fn put_row<K: Sink>(sink: &mut K, word: Keyword, d: u32, row: &Row) -> Result<()
 }
 
 /// Writes a line for each row, of its first d places.
-fn put_each_row<K: Sink>(sink: &mut K, word: Keyword, d: u32, rows: &[Row]) -> Result<(), Failed>
+fn put_each_row<K: Sink>(
+    sink: &mut K,
+    word: Keyword,
+    d: u32,
+    rows: &[MatrixRow],
+) -> Result<(), Failed>
     ensures text { Writes (K.seen sink.old) (K.seen sink.new) result
         (flat_map (λ row. line_text (numbers_line word (take d row))) rows.now) }
     ensures typed { OnOk result (All IsTypedRow rows.now) }

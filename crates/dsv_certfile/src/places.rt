@@ -9,7 +9,7 @@ ghost use Rattle.dsv_certfile.specs.declared.places.Place.TheVariants as place;
 use crate::fault::TextFault;
 use crate::keyword::Keyword;
 use crate::limits::{MOST_PLACES, MOST_SQUARES};
-use crate::numbers::Range;
+use crate::numbers::NumberRange;
 use crate::pieces::Pieces;
 use arrayvec::ArrayVec;
 use dsv_forms::GREATEST_ORDER;
@@ -19,7 +19,7 @@ use std::marker::Model;
 #[derive(Clone, Copy, Debug, PartialEq, Eq)]
 pub(crate) enum Place {
     Word(Keyword),
-    Number(Range),
+    Number(NumberRange),
 }
 
 /// The numbers of a line. Contracts see them as a list.
@@ -111,7 +111,7 @@ impl Numbers {
 }
 
 /// A word, and numbers of a range in all places after it.
-pub(crate) fn word_and_numbers(word: Keyword, range: Range) -> [Place; MOST_PLACES]
+pub(crate) fn word_and_numbers(word: Keyword, range: NumberRange) -> [Place; MOST_PLACES]
     ensures { result ≡ place.Word word ∷ replicate 17 (place.Number range) }
 {
     let mut places = [Place::Number(range); MOST_PLACES];
@@ -125,8 +125,8 @@ pub(crate) fn squares_places(word: Keyword) -> [Place; 3]
 {
     [
         Place::Word(word),
-        Place::Number(Range::Whole),
-        Place::Number(Range::UpTo(MOST_SQUARES as u32)),
+        Place::Number(NumberRange::Whole),
+        Place::Number(NumberRange::UpTo(MOST_SQUARES as u32)),
     ]
 }
 

@@ -9,17 +9,18 @@ use crate::certificate::Certificate;
 use crate::falls::read_falls;
 use crate::fault::{CertRefusal, at_line};
 use crate::invariant::read_invariant;
-use crate::job::{Job, read_job, read_version};
+use crate::job::{CertifiedJob, read_job, read_version};
 use crate::keyword::Keyword;
 use crate::kind::{KindHead, read_kind};
 use crate::lines::Lines;
+use crate::places::Place;
 use crate::steps::read_log;
 use std::alloc::Global;
 
 /// What the three first lines say.
 #[derive(Clone, Copy)]
 struct Heading {
-    job: Job,
+    job: CertifiedJob,
     kind: KindHead,
 }
 
@@ -54,6 +55,10 @@ fn read_body(alloc: Global, lines: &mut Lines, heading: Heading) -> Result<Certi
                 candidate: proof.candidate,
                 logs: proof.logs,
             })
+        }
+        KindHead::Gain { depth } => {
+            let _ = lines.next_numbers(&[Place::Word(Keyword::End)])?;
+            Ok(Certificate::Gain { job, depth })
         }
         KindHead::Falls { places } => Ok(Certificate::Falls {
             job,

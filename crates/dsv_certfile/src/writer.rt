@@ -21,9 +21,9 @@ ghost use Rattle.dsv_certfile.specs.declared.kind.Kind.TheVariants as kind;
 ghost use Rattle.dsv_certfile.specs.declared.keyword.Keyword.TheVariants as keyword;
 
 use crate::certificate::Certificate;
-use crate::job::{Job, Size};
+use crate::job::{CertifiedJob, Size};
 use crate::keyword::Keyword;
-use crate::output::{Row, put_entries, put_entry, put_log, put_name, put_rows, put_word};
+use crate::output::{MatrixRow, put_entries, put_entry, put_log, put_name, put_rows, put_word};
 use dsv_base::{Failed, Sink, put_all, put_line, put_spaced};
 use dsv_forms::{Falls, GREATEST_ORDER, Squares};
 use dsv_hints::Log;
@@ -44,7 +44,7 @@ fn put_size<K: Sink>(sink: &mut K, size: Size) -> Result<(), Failed>
 }
 
 /// Writes a space before the names of the property and the realisation.
-fn put_names<K: Sink>(sink: &mut K, job: &Job) -> Result<(), Failed>
+fn put_names<K: Sink>(sink: &mut K, job: &CertifiedJob) -> Result<(), Failed>
     ensures { Writes (K.seen sink.old) (K.seen sink.new) result
         (spaced_text piece_text (property_name job.now.property)
         ++ spaced_text piece_text (realisation_name job.now.design.realisation)) }
@@ -54,7 +54,7 @@ fn put_names<K: Sink>(sink: &mut K, job: &Job) -> Result<(), Failed>
 }
 
 /// Writes a space before the names of the rounding and the overflow mode.
-fn put_modes<K: Sink>(sink: &mut K, job: &Job) -> Result<(), Failed>
+fn put_modes<K: Sink>(sink: &mut K, job: &CertifiedJob) -> Result<(), Failed>
     ensures { Writes (K.seen sink.old) (K.seen sink.new) result
         (spaced_text piece_text (rounding_name job.now.design.rounding)
         ++ spaced_text piece_text (overflow_mode_name job.now.design.overflow)) }
@@ -64,7 +64,7 @@ fn put_modes<K: Sink>(sink: &mut K, job: &Job) -> Result<(), Failed>
 }
 
 /// Writes the job line.
-fn put_job<K: Sink>(sink: &mut K, job: &Job) -> Result<(), Failed>
+fn put_job<K: Sink>(sink: &mut K, job: &CertifiedJob) -> Result<(), Failed>
     ensures { Writes (K.seen sink.old) (K.seen sink.new) result (line_text (job_line job.now)) }
 {
     put_all(sink, b"job")?;
@@ -88,7 +88,7 @@ fn put_candidate_kind<K: Sink>(sink: &mut K, candidate: &Candidate) -> Result<()
 }
 
 /// Writes the lines of the version and the job.
-fn put_head<K: Sink>(sink: &mut K, job: &Job) -> Result<(), Failed>
+fn put_head<K: Sink>(sink: &mut K, job: &CertifiedJob) -> Result<(), Failed>
     ensures { Writes (K.seen sink.old) (K.seen sink.new) result
         (line_text version_line ++ line_text (job_line job.now)) }
 {
@@ -102,6 +102,14 @@ fn put_log_kind<K: Sink>(sink: &mut K) -> Result<(), Failed>
         (line_text (kind_line kind.Hints [])) }
 {
     put_all(sink, b"kind hints\n")
+}
+
+/// Writes the kind line of a gain.
+fn put_gain_kind<K: Sink>(sink: &mut K, depth: u32) -> Result<(), Failed>
+    ensures { Writes (K.seen sink.old) (K.seen sink.new) result
+        (line_text (kind_line kind.Gain (depth ∷ []))) }
+{
+    put_line(sink, b"kind gain", &[depth])
 }
 
 /// Writes the kind line of a form that falls.
@@ -161,7 +169,7 @@ fn put_logs<K: Sink>(sink: &mut K, logs: &ThreeLogs) -> Result<(), Failed>
 }
 
 /// Writes the line of a square: its weight, and the first d places of its row.
-fn put_square<K: Sink>(sink: &mut K, d: u32, weight: &i128, row: &Row) -> Result<(), Failed>
+fn put_square<K: Sink>(sink: &mut K, d: u32, weight: &i128, row: &MatrixRow) -> Result<(), Failed>
     ensures text { Writes (K.seen sink.old) (K.seen sink.new) result
         (line_text (numbers_line keyword.Square (weight.now ∷ take d row.now))) }
     ensures typed { IsTypedRow row.now }
@@ -250,7 +258,7 @@ fn put_invariant<K: Sink>(
 
 /// Writes the text of a certificate whose log refutes the formula of its job. It takes no memory;
 /// where the sink fails, it took a prefix.
-pub fn write_hints<K: Sink>(sink: &mut K, job: &Job, log: &Log) -> Result<(), Failed>
+pub fn write_hints<K: Sink>(sink: &mut K, job: &CertifiedJob, log: &Log) -> Result<(), Failed>
     ensures text { Writes (K.seen sink.old) (K.seen sink.new) result
         (certificate_text (certificate.Hints job.now log.now)) }
     ensures typed { OnOk result (IsTypedBody (certificate.Hints job.now log.now)) }
@@ -264,7 +272,7 @@ pub fn write_hints<K: Sink>(sink: &mut K, job: &Job, log: &Log) -> Result<(), Fa
 /// Writes the text of a certificate of a set that is never left, as `write_hints` does.
 pub fn write_invariant<K: Sink>(
     sink: &mut K,
-    job: &Job,
+    job: &CertifiedJob,
     candidate: &Candidate,
     logs: &ThreeLogs,
 ) -> Result<(), Failed>
@@ -279,8 +287,19 @@ pub fn write_invariant<K: Sink>(
     put_word(sink, Keyword::End)
 }
 
+/// Writes the text of a certificate of a gain of this depth, as `write_hints` does.
+pub fn write_gain<K: Sink>(sink: &mut K, job: &CertifiedJob, depth: u32) -> Result<(), Failed>
+    ensures text { Writes (K.seen sink.old) (K.seen sink.new) result
+        (certificate_text (certificate.Gain job.now depth)) }
+    ensures typed { OnOk result (IsTypedBody (certificate.Gain job.now depth)) }
+{
+    put_head(sink, job)?;
+    put_gain_kind(sink, depth)?;
+    put_word(sink, Keyword::End)
+}
+
 /// Writes the text of a certificate of a form that falls, as `write_hints` does.
-pub fn write_falls<K: Sink>(sink: &mut K, job: &Job, offer: &Falls) -> Result<(), Failed>
+pub fn write_falls<K: Sink>(sink: &mut K, job: &CertifiedJob, offer: &Falls) -> Result<(), Failed>
     ensures text { Writes (K.seen sink.old) (K.seen sink.new) result
         (certificate_text (certificate.Falls job.now offer.now)) }
     ensures typed { OnOk result (IsTypedBody (certificate.Falls job.now offer.now)) }
@@ -304,6 +323,7 @@ pub fn write<K: Sink>(certificate: &Certificate, sink: &mut K) -> Result<(), Fai
             candidate,
             logs,
         } => write_invariant(sink, job, candidate, logs),
+        Certificate::Gain { job, depth } => write_gain(sink, job, *depth),
         Certificate::Falls { job, offer } => write_falls(sink, job, offer),
     }
 }

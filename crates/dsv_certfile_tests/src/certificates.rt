@@ -1,8 +1,9 @@
 // Texts of certificates, read and written back.
 use dsv_base::MemSink;
-use dsv_certfile::{Certificate, read, write};
+use dsv_certfile::{Certificate, CertifiedJob, MOST_GAIN_DEPTH, Size, read, write, write_gain};
 use dsv_cnf::Lit;
 use dsv_hints::Step;
+use dsv_names::{Design, OverflowMode, Property, Realisation, Rounding, RunProperty};
 use std::alloc::Global;
 
 /// A form of two places that falls, with its squares.
@@ -57,6 +58,18 @@ const TEXTS: &[&str] = &[
     end\n",
     "dsv-certificate 1\n\
     job OVERFLOW DFI FLOOR WRAPAROUND unbounded\n\
+    kind gain 0\n\
+    end\n",
+    "dsv-certificate 1\n\
+    job OVERFLOW DDFII NEAREST SATURATE unbounded\n\
+    kind gain 66\n\
+    end\n",
+    "dsv-certificate 1\n\
+    job OVERFLOW DFI FLOOR WRAPAROUND unbounded\n\
+    kind gain 1023\n\
+    end\n",
+    "dsv-certificate 1\n\
+    job OVERFLOW DFI FLOOR WRAPAROUND unbounded\n\
     kind invariant 1 0\n\
     base\n\
     step\n\
@@ -93,6 +106,55 @@ fn texts_are_written_as_they_were_read(rt: HostRuntime) {
     for text in TEXTS {
         assert!(rt; is_written_back(rt.alloc(), text) == Some(true));
     }
+}
+
+const GAIN: &str = "dsv-certificate 1\n\
+    job OVERFLOW TDFII CEIL SATURATE unbounded\n\
+    kind gain 1023\n\
+    end\n";
+
+/// Whether the job is overflow over runs of any length, of that realisation and modes.
+fn is_that_job(job: &CertifiedJob) -> bool {
+    job.property == Property::OfRuns(RunProperty::Overflow)
+        && job.size == Size::Unbounded
+        && job.design.realisation == Realisation::Tdfii
+        && job.design.rounding == Rounding::Ceil
+        && job.design.overflow == OverflowMode::Saturate
+}
+
+fn is_gain_read(alloc: Global) -> bool {
+    match read(alloc, GAIN.as_bytes()) {
+        Ok(Certificate::Gain { job, depth }) => {
+            is_that_job(&job) && depth == 1023 && depth == MOST_GAIN_DEPTH
+        }
+        Ok(_) | Err(_) => false,
+    }
+}
+
+#[test]
+fn the_depth_of_a_gain_is_read(rt: HostRuntime) {
+    assert!(rt; is_gain_read(rt.alloc()));
+}
+
+/// What is written of a gain of this depth.
+fn is_gain_written(alloc: Global, depth: u32, text: &str) -> Option<bool> {
+    let mut sink = MemSink::new(alloc, 1024).ok()?;
+    let job = CertifiedJob {
+        property: Property::OfRuns(RunProperty::Overflow),
+        design: Design {
+            realisation: Realisation::Tdfii,
+            rounding: Rounding::Ceil,
+            overflow: OverflowMode::Saturate,
+        },
+        size: Size::Unbounded,
+    };
+    write_gain(&mut sink, &job, depth).ok()?;
+    Some(sink.bytes() == text.as_bytes())
+}
+
+#[test]
+fn the_depth_of_a_gain_is_written(rt: HostRuntime) {
+    assert!(rt; is_gain_written(rt.alloc(), 1023, GAIN) == Some(true));
 }
 
 const LOG: &str = "dsv-certificate 1\n\

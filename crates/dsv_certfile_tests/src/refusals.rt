@@ -38,6 +38,11 @@ const HINTS: &str = "dsv-certificate 1\n\
     job OVERFLOW DFI FLOOR WRAPAROUND 1\n\
     kind hints\n";
 
+/// The lines up to the end of a gain.
+const GAIN: &str = "dsv-certificate 1\n\
+    job OVERFLOW DFI FLOOR WRAPAROUND unbounded\n\
+    kind gain 7\n";
+
 /// The lines up to an invariant of no inequalities.
 const EMPTY_SET: &str = "dsv-certificate 1\n\
     job OVERFLOW DFI FLOOR WRAPAROUND unbounded\n\
@@ -145,6 +150,42 @@ const KINDS: &[Refused] = &[
         3,
         TextFault::Number,
     ),
+    Refused(OVERFLOW, "kind gain 7\n", 3, TextFault::Kind),
+    Refused(STABILITY, "kind gain 7\n", 3, TextFault::Kind),
+    Refused(VERSION, "kind gain 7\n", 2, TextFault::Kind),
+    Refused(UNBOUNDED, "kind gains 7\n", 3, TextFault::Kind),
+    Refused(UNBOUNDED, "kind GAIN 7\n", 3, TextFault::Kind),
+    Refused(UNBOUNDED, "kind gain 1024\n", 3, TextFault::Number),
+    Refused(UNBOUNDED, "kind gain 4294967296\n", 3, TextFault::Number),
+    Refused(UNBOUNDED, "kind gain 007\n", 3, TextFault::Number),
+    Refused(UNBOUNDED, "kind gain 00\n", 3, TextFault::Number),
+    Refused(UNBOUNDED, "kind gain -1\n", 3, TextFault::Number),
+    Refused(UNBOUNDED, "kind gain -0\n", 3, TextFault::Number),
+    Refused(UNBOUNDED, "kind gain +7\n", 3, TextFault::Number),
+    Refused(UNBOUNDED, "kind gain x\n", 3, TextFault::Number),
+    Refused(UNBOUNDED, "kind gain \n", 3, TextFault::Number),
+    Refused(UNBOUNDED, "kind gain  7\n", 3, TextFault::Number),
+    Refused(UNBOUNDED, "kind gain\n", 3, TextFault::Line),
+    Refused(UNBOUNDED, "kind gain 7 7\n", 3, TextFault::Line),
+    Refused(UNBOUNDED, "kind gain 7 \n", 3, TextFault::Line),
+    Refused(UNBOUNDED, "kind gain 1024 7\n", 3, TextFault::Number),
+    Refused(UNBOUNDED, "kind gain 7", 3, TextFault::End),
+];
+
+const GAINS: &[Refused] = &[
+    Refused(GAIN, "", 4, TextFault::End),
+    Refused(GAIN, "end", 4, TextFault::End),
+    Refused(GAIN, "\n", 4, TextFault::Line),
+    Refused(GAIN, "end \n", 4, TextFault::Line),
+    Refused(GAIN, "end 7\n", 4, TextFault::Line),
+    Refused(GAIN, "ends\n", 4, TextFault::Line),
+    Refused(GAIN, "kind gain 7\nend\n", 4, TextFault::Line),
+    Refused(GAIN, "base\nstep\nsafe\nend\n", 4, TextFault::Line),
+    Refused(GAIN, "7 0 0\nend\n", 4, TextFault::Line),
+    Refused(GAIN, "7\nend\n", 4, TextFault::Line),
+    Refused(GAIN, "end\nx", 5, TextFault::End),
+    Refused(GAIN, "end\n\n", 5, TextFault::End),
+    Refused(GAIN, "end\nend\n", 5, TextFault::End),
 ];
 
 const FORMS: &[Refused] = &[
@@ -241,6 +282,11 @@ fn are_refused(alloc: Global, rows: &[Refused]) -> bool {
 #[test]
 fn headings_and_kinds_are_refused(rt: HostRuntime) {
     assert!(rt; are_refused(rt.alloc(), HEADINGS) && are_refused(rt.alloc(), KINDS));
+}
+
+#[test]
+fn gains_are_refused(rt: HostRuntime) {
+    assert!(rt; are_refused(rt.alloc(), GAINS));
 }
 
 #[test]

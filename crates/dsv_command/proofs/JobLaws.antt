@@ -20,9 +20,9 @@ use Rattle.dsv_names.specs.declared.design.Design.{Design}
 use Rattle.dsv_command.specs.Limits.{most_number_digits, most_samples, default_samples, most_conflicts, default_conflicts}
 use Rattle.dsv_text.specs.Digits.{short_number}
 use Rattle.dsv_command.specs.Inputs.{inputs_of}
-use Rattle.dsv_command.specs.Jobs.{Task, decides, checks_time, writes, searches, seeks_set, simulates, Asked, ◌>>=◌, choice_or, design_of, is_given, has_run_option, is_certified, has_verdict_option, has_design_option, number_up_to, samples_of, conflicts_of, run_task, unbounded_task, property_task, task_by, task_of, job_of_parts}
+use Rattle.dsv_command.specs.Jobs.{Task, decides, checks_time, writes, searches, seeks_set, measures_gain, simulates, Asked, ◌>>=◌, choice_or, design_of, is_given, has_search_option, has_run_option, is_by_gain, is_schur_cohn, is_certified, has_verdict_option, has_design_option, number_up_to, samples_of, conflicts_of, run_task, unbounded_task, gain_task, search_task, property_task, task_by, task_of, job_of_parts}
 use Rattle.dsv_command.specs.Parts.{PartView, file_of, value_of, has_empty}
-use Rattle.dsv_command.specs.Rules.{IsTask, GivesProperty, HasNoRunOption, HasNoVerdictOption, HasNoDesignOption, IsNumberUpTo, IsNumber, IsChosen, IsDesign, IsJobOf}
+use Rattle.dsv_command.specs.Rules.{IsTask, GivesProperty, GivesRuns, HasNoSearchOption, HasNoRunOption, HasNoVerdictOption, HasNoDesignOption, IsNumberUpTo, IsNumber, IsChosen, IsDesign, IsJobOf}
 use Rattle.dsv_command.proofs.InputLaws.{inputs_read, inputs_found}
 
 pub record Bound {A B : Type 0} (r : Option A) (f : A → Option B) (y : B) : Type 0 where
@@ -46,12 +46,15 @@ design_read parts d h =
     (rw (chosen_read rounding_name roundings Floor (value_of (codes "rounding") parts) d.rounding are_names-roundings h.rounding)
     (rw (chosen_read overflow_mode_name overflow_modes Wrap (value_of (codes "overflow-mode") parts) d.overflow are_names-overflow_modes h.overflow) refl))
 
--- no option of properties of runs is there, one after another
+-- no option of a search is there, one after another
+no_search_given : (parts : List PartView) → HasNoSearchOption parts → has_search_option parts ≡ false
+no_search_given parts h = rw (h.samples, h.unbounded, h.conflicts, h.formula) refl
+
 none_given : (parts : List PartView) → HasNoRunOption parts → has_run_option parts ≡ false
-none_given parts h = rw (h.samples, h.unbounded, h.conflicts, h.formula) refl
+none_given parts h = rw (h.gain, no_search_given parts h.searches) refl
 
 pub no_verdict_given : (parts : List PartView) → HasNoVerdictOption parts → has_verdict_option parts ≡ false
-no_verdict_given parts h = rw (none_given parts h.runs, h.certificate) refl
+no_verdict_given parts h = rw (none_given parts h.runs, h.schur_cohn, h.certificate) refl
 
 pub no_design_given : (parts : List PartView) → HasNoDesignOption parts → has_design_option parts ≡ false
 no_design_given parts h = rw (h.realisation, h.rounding, h.overflow) refl
@@ -68,19 +71,25 @@ number_read limit default n (Some text) h = ap (λ x. x >>= λ m. (if nat_le 1 m
 property_read : (parts : List PartView) (p : Property) (t : Task) → GivesProperty parts p → property_task parts p ≡ Some t → task_of parts ≡ Some t
 property_read parts p t g e = rw (g.name, g.no_inputs) (ap (λ x. x >>= property_task parts) (are_names-properties.found p) ∙ e)
 
+-- the task of a search
+runs_read : (parts : List PartView) (p : RunProperty) (t : Task) → GivesRuns parts p false → search_task parts p ≡ Some t → task_of parts ≡ Some t
+runs_read parts p t g e = property_read parts (OfRuns p) t g.given (rw (g.no_form, g.gain) e)
+
 task_read : (parts : List PartView) (t : Task) → IsTask parts t → task_of parts ≡ Some t
-task_read parts t (IsTask.roots ps p g none) = property_read ps (OfRoots p) (decides p) g (rw (none_given ps none) refl)
+task_read parts t (IsTask.roots ps p g none) = property_read ps (OfRoots p) (decides p (is_schur_cohn ps)) g (rw (none_given ps none) refl)
 task_read parts t (IsTask.timing ps g none) = property_read ps Timing checks_time g (rw (no_verdict_given ps none) refl)
 task_read parts t (IsTask.formula ps p samples g b n f c d) =
-    property_read ps (OfRuns p) (writes p samples) g
+    runs_read ps p (writes p samples) g
     (rw b (ap (λ x. x >>= run_task ps p) (number_read most_samples default_samples samples (value_of (codes "x-size") ps) n) ∙ rw (f, c, d) refl))
 task_read parts t (IsTask.search ps p samples conflicts g b n m f) =
-    property_read ps (OfRuns p) (searches p samples conflicts) g
+    runs_read ps p (searches p samples conflicts) g
     (rw b (ap (λ x. x >>= run_task ps p) (number_read most_samples default_samples samples (value_of (codes "x-size") ps) n)
     ∙ rw f (ap (λ x. x >>= λ found. Some (searches p samples found)) (number_read most_conflicts default_conflicts conflicts (value_of (codes "conflicts") ps) m))))
 task_read parts t (IsTask.unbounded ps conflicts g b s f m) =
-    property_read ps (OfRuns Overflow) (seeks_set conflicts) g
+    runs_read ps Overflow (seeks_set conflicts) g
     (rw (b, s, f) (ap (λ x. x >>= λ found. Some (seeks_set found)) (number_read most_conflicts default_conflicts conflicts (value_of (codes "conflicts") ps) m)))
+task_read parts t (IsTask.gain ps g none) =
+    property_read ps (OfRuns Overflow) measures_gain g.given (rw (g.no_form, g.gain) (rw (no_search_given ps none) refl))
 task_read parts t (IsTask.simulation ps text inputs e h f none) =
     rw (f, e) (rw (no_verdict_given ps none) (ap (λ x. x >>= λ found. Some (simulates found)) (inputs_read text inputs h)))
 
@@ -120,25 +129,34 @@ number_found limit default n (Some text) h =
     within_by limit n b.value (nat_le 1 b.value) (nat_le b.value limit) refl refl text b.first b.second
 
 -- none of four is given where one of them isn't
-none_by : (parts : List PartView) (s u c f : Bool) → is_given parts (codes "x-size") ≡ s → is_given parts (codes "unbounded") ≡ u → is_given parts (codes "conflicts") ≡ c → is_given parts (codes "formula") ≡ f
-    → has_run_option parts ≡ false → HasNoRunOption parts
-none_by parts false false false false s u c f h = record { samples = s; unbounded = u; conflicts = c; formula = f }
-none_by parts true u c f s b d e h = absurd (let k : true ≡ false = sym (rw s refl) ∙ h in cc)
-none_by parts false true c f s b d e h = absurd (let k : true ≡ false = sym (rw (s, b) refl) ∙ h in cc)
-none_by parts false false true f s b d e h = absurd (let k : true ≡ false = sym (rw (s, b, d) refl) ∙ h in cc)
-none_by parts false false false true s b d e h = absurd (let k : true ≡ false = sym (rw (s, b, d, e) refl) ∙ h in cc)
+no_search_by : (parts : List PartView) (s u c f : Bool) → is_given parts (codes "x-size") ≡ s → is_given parts (codes "unbounded") ≡ u → is_given parts (codes "conflicts") ≡ c → is_given parts (codes "formula") ≡ f
+    → has_search_option parts ≡ false → HasNoSearchOption parts
+no_search_by parts false false false false s u c f h = record { samples = s; unbounded = u; conflicts = c; formula = f }
+no_search_by parts true u c f s b d e h = absurd (let k : true ≡ false = sym (rw s refl) ∙ h in cc)
+no_search_by parts false true c f s b d e h = absurd (let k : true ≡ false = sym (rw (s, b) refl) ∙ h in cc)
+no_search_by parts false false true f s b d e h = absurd (let k : true ≡ false = sym (rw (s, b, d) refl) ∙ h in cc)
+no_search_by parts false false false true s b d e h = absurd (let k : true ≡ false = sym (rw (s, b, d, e) refl) ∙ h in cc)
+
+no_search_found : (parts : List PartView) → has_search_option parts ≡ false → HasNoSearchOption parts
+no_search_found parts = no_search_by parts (is_given parts (codes "x-size")) (is_given parts (codes "unbounded")) (is_given parts (codes "conflicts")) (is_given parts (codes "formula")) refl refl refl refl
+
+none_by : (parts : List PartView) (g s : Bool) → is_by_gain parts ≡ g → has_search_option parts ≡ s → has_run_option parts ≡ false → HasNoRunOption parts
+none_by parts false false g s h = record { gain = g; searches = no_search_found parts s }
+none_by parts true s g e h = absurd (let k : true ≡ false = sym (rw g refl) ∙ h in cc)
+none_by parts false true g s h = absurd (let k : true ≡ false = sym (rw (g, s) refl) ∙ h in cc)
 
 none_found : (parts : List PartView) → has_run_option parts ≡ false → HasNoRunOption parts
-none_found parts = none_by parts (is_given parts (codes "x-size")) (is_given parts (codes "unbounded")) (is_given parts (codes "conflicts")) (is_given parts (codes "formula")) refl refl refl refl
+none_found parts = none_by parts (is_by_gain parts) (has_search_option parts) refl refl
 
--- neither of two options of properties is given where one of them isn't
-no_verdict_by : (parts : List PartView) (r c : Bool) → has_run_option parts ≡ r → is_certified parts ≡ c → has_verdict_option parts ≡ false → HasNoVerdictOption parts
-no_verdict_by parts false false r c h = record { runs = none_found parts r; certificate = c }
-no_verdict_by parts true c r e h = absurd (let k : true ≡ false = sym (rw r refl) ∙ h in cc)
-no_verdict_by parts false true r c h = absurd (let k : true ≡ false = sym (rw (r, c) refl) ∙ h in cc)
+-- none of three options of properties is given where one of them isn't
+no_verdict_by : (parts : List PartView) (r s c : Bool) → has_run_option parts ≡ r → is_schur_cohn parts ≡ s → is_certified parts ≡ c → has_verdict_option parts ≡ false → HasNoVerdictOption parts
+no_verdict_by parts false false false r s c h = record { runs = none_found parts r; schur_cohn = s; certificate = c }
+no_verdict_by parts true s c r e f h = absurd (let k : true ≡ false = sym (rw r refl) ∙ h in cc)
+no_verdict_by parts false true c r s f h = absurd (let k : true ≡ false = sym (rw (r, s) refl) ∙ h in cc)
+no_verdict_by parts false false true r s c h = absurd (let k : true ≡ false = sym (rw (r, s, c) refl) ∙ h in cc)
 
 pub no_verdict_found : (parts : List PartView) → has_verdict_option parts ≡ false → HasNoVerdictOption parts
-no_verdict_found parts = no_verdict_by parts (has_run_option parts) (is_certified parts) refl refl
+no_verdict_found parts = no_verdict_by parts (has_run_option parts) (is_schur_cohn parts) (is_certified parts) refl refl refl
 
 no_design_by : (parts : List PartView) (r o m : Bool) → is_given parts (codes "realization") ≡ r → is_given parts (codes "rounding") ≡ o → is_given parts (codes "overflow-mode") ≡ m → has_design_option parts ≡ false → HasNoDesignOption parts
 no_design_by parts false false false r o m h = record { realisation = r; rounding = o; overflow = m }
@@ -150,7 +168,7 @@ pub no_design_found : (parts : List PartView) → has_design_option parts ≡ fa
 no_design_found parts = no_design_by parts (is_given parts (codes "realization")) (is_given parts (codes "rounding")) (is_given parts (codes "overflow-mode")) refl refl refl
 
 -- the task of a question
-question_by : (parts : List PartView) (p : RunProperty) (samples : ℕ) (t : Task) (f c w : Bool) → GivesProperty parts (OfRuns p) → is_given parts (codes "unbounded") ≡ false →
+question_by : (parts : List PartView) (p : RunProperty) (samples : ℕ) (t : Task) (f c w : Bool) → GivesRuns parts p false → is_given parts (codes "unbounded") ≡ false →
     samples_of parts ≡ Some samples → is_given parts (codes "formula") ≡ f → is_given parts (codes "conflicts") ≡ c → is_certified parts ≡ w →
     (if f then (if c then None else if w then None else Some (writes p samples)) else (conflicts_of parts >>= λ conflicts. Some (searches p samples conflicts))) ≡ Some t → IsTask parts t
 question_by parts p samples t true true w g u n e d k h = absurd (cc)
@@ -166,7 +184,7 @@ question_by parts p samples t false c w g u n e d k h =
     (number_found most_conflicts default_conflicts b.value (value_of (codes "conflicts") parts) b.first) e)
 
 -- the task over runs of any length
-unbounded_by : (parts : List PartView) (p : RunProperty) (t : Task) (s f : Bool) → GivesProperty parts (OfRuns p) → is_given parts (codes "unbounded") ≡ true →
+unbounded_by : (parts : List PartView) (p : RunProperty) (t : Task) (s f : Bool) → GivesRuns parts p false → is_given parts (codes "unbounded") ≡ true →
     is_given parts (codes "x-size") ≡ s → is_given parts (codes "formula") ≡ f → unbounded_task parts p ≡ Some t → IsTask parts t
 unbounded_by parts LimitCycle t s f g u a e h = absurd (cc)
 unbounded_by parts Overflow t true f g u a e h = absurd (let k : None ≡ Some t = sym (rw a refl) ∙ h in cc)
@@ -177,19 +195,35 @@ unbounded_by parts Overflow t false false g u a e h =
     let same : seeks_set b.value ≡ t = let s = b.second in cc in
     subst (IsTask parts) same (IsTask.unbounded parts b.value g u a e (number_found most_conflicts default_conflicts b.value (value_of (codes "conflicts") parts) b.first))
 
--- the task of a property of runs
-runs_by : (parts : List PartView) (p : RunProperty) (t : Task) (u : Bool) → GivesProperty parts (OfRuns p) → is_given parts (codes "unbounded") ≡ u →
+-- the task of a search over runs
+search_by : (parts : List PartView) (p : RunProperty) (t : Task) (u : Bool) → GivesRuns parts p false → is_given parts (codes "unbounded") ≡ u →
     (if u then unbounded_task parts p else samples_of parts >>= run_task parts p) ≡ Some t → IsTask parts t
-runs_by parts p t true g u h = unbounded_by parts p t (is_given parts (codes "x-size")) (is_given parts (codes "formula")) g u refl refl h
-runs_by parts p t false g u h =
+search_by parts p t true g u h = unbounded_by parts p t (is_given parts (codes "x-size")) (is_given parts (codes "formula")) g u refl refl h
+search_by parts p t false g u h =
     let b = unbind (samples_of parts) (run_task parts p) t h in
     question_by parts p b.value t (is_given parts (codes "formula")) (is_given parts (codes "conflicts")) (is_certified parts) g u b.first refl refl refl b.second
 
+-- the task of a property that the gain decides
+gain_by : (parts : List PartView) (p : RunProperty) (t : Task) (s : Bool) → GivesRuns parts p true → has_search_option parts ≡ s → gain_task parts p ≡ Some t → IsTask parts t
+gain_by parts LimitCycle t s g e h = absurd (cc)
+gain_by parts Overflow t true g e h = absurd (let k : None ≡ Some t = sym (rw e refl) ∙ h in cc)
+gain_by parts Overflow t false g e h =
+    let k : Some measures_gain ≡ Some t = sym (rw e refl) ∙ h in
+    let same : measures_gain ≡ t = cc in
+    subst (IsTask parts) same (IsTask.gain parts g (no_search_found parts e))
+
+-- the task of a property of runs
+runs_by : (parts : List PartView) (p : RunProperty) (t : Task) (c g : Bool) → GivesProperty parts (OfRuns p) → is_schur_cohn parts ≡ c → is_by_gain parts ≡ g →
+    (if c then None else if g then gain_task parts p else search_task parts p) ≡ Some t → IsTask parts t
+runs_by parts p t true g h c e k = absurd (cc)
+runs_by parts p t false true h c g k = gain_by parts p t (has_search_option parts) (record { given = h; no_form = c; gain = g }) refl k
+runs_by parts p t false false h c g k = search_by parts p t (is_given parts (codes "unbounded")) (record { given = h; no_form = c; gain = g }) refl k
+
 roots_by : (parts : List PartView) (p : RootProperty) (t : Task) (b : Bool) → GivesProperty parts (OfRoots p) → has_run_option parts ≡ b →
-    (if b then None else Some (decides p)) ≡ Some t → IsTask parts t
+    (if b then None else Some (decides p (is_schur_cohn parts))) ≡ Some t → IsTask parts t
 roots_by parts p t true g e h = absurd (cc)
 roots_by parts p t false g e h =
-    let same : decides p ≡ t = cc in
+    let same : decides p (is_schur_cohn parts) ≡ t = cc in
     subst (IsTask parts) same (IsTask.roots parts p g (none_found parts e))
 
 timing_by : (parts : List PartView) (t : Task) (b : Bool) → GivesProperty parts Timing → has_verdict_option parts ≡ b →
@@ -200,7 +234,7 @@ timing_by parts t false g e h =
     subst (IsTask parts) same (IsTask.timing parts g (no_verdict_found parts e))
 
 property_found : (parts : List PartView) (p : Property) (t : Task) → GivesProperty parts p → property_task parts p ≡ Some t → IsTask parts t
-property_found parts (OfRuns p) t g h = runs_by parts p t (is_given parts (codes "unbounded")) g refl h
+property_found parts (OfRuns p) t g h = runs_by parts p t (is_schur_cohn parts) (is_by_gain parts) g refl refl h
 property_found parts (OfRoots p) t g h = roots_by parts p t (has_run_option parts) g refl h
 property_found parts Timing t g h = timing_by parts t (has_verdict_option parts) g refl h
 

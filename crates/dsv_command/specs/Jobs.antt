@@ -24,8 +24,9 @@ use Rattle.dsv_command.specs.Parts.{PartView, for_option, has_key, file_of, valu
 
 -- what is to be done with a controller
 pub data Task : Type 0 where
-  -- a property of its roots is decided
-  decides : RootProperty → Task
+  -- a property of its roots is decided; the flag: the Schur-Cohn form is offered before any
+  -- proposer is asked
+  decides : RootProperty → Bool → Task
   -- it is decided whether the work of a sample is done in time
   checks_time : Task
   -- the formula of a property of its runs over so many samples is written
@@ -35,6 +36,8 @@ pub data Task : Type 0 where
   -- it is decided that no list of inputs of any length overflows, by a set that its registers never
   -- leave; each search for what is wrong with a set that is offered has so many conflicts
   seeks_set : ℕ → Task
+  -- it is decided by the gain whether any list of inputs, of any length, overflows
+  measures_gain : Task
   -- it is run over these inputs
   simulates : List ℤ → Task
 
@@ -71,12 +74,24 @@ design_of parts =
 abbrev pub is_given : List PartView → List ℕ → Bool
 is_given parts name = has_key (for_option name) parts
 
--- the options of properties of runs
-abbrev pub run_options : List (List ℕ)
-run_options = codes "x-size" ∷ codes "unbounded" ∷ codes "conflicts" ∷ codes "formula" ∷ []
+-- the options of properties of runs that are decided by a search, or written as a formula
+abbrev pub search_options : List (List ℕ)
+search_options = codes "x-size" ∷ codes "unbounded" ∷ codes "conflicts" ∷ codes "formula" ∷ []
 
+abbrev pub has_search_option : List PartView → Bool
+has_search_option parts = list_any (is_given parts) search_options
+
+-- a property of runs is to be decided by the gain
+abbrev pub is_by_gain : List PartView → Bool
+is_by_gain parts = is_given parts (codes "gain")
+
+-- an option of properties of runs
 abbrev pub has_run_option : List PartView → Bool
-has_run_option parts = list_any (is_given parts) run_options
+has_run_option parts = is_by_gain parts || has_search_option parts
+
+-- the Schur-Cohn form is to be offered, for a property of roots
+abbrev pub is_schur_cohn : List PartView → Bool
+is_schur_cohn parts = is_given parts (codes "schur-cohn")
 
 -- a certificate is to be written
 abbrev pub is_certified : List PartView → Bool
@@ -84,7 +99,7 @@ is_certified parts = is_given parts (codes "certificate")
 
 -- an option of properties other than timing
 abbrev pub has_verdict_option : List PartView → Bool
-has_verdict_option parts = has_run_option parts || is_certified parts
+has_verdict_option parts = has_run_option parts || (is_schur_cohn parts || is_certified parts)
 
 -- the options of how a controller is realised
 abbrev pub design_options : List (List ℕ)
@@ -126,12 +141,23 @@ unbounded_task parts Overflow = if is_given parts (codes "x-size") then None
     else (conflicts_of parts >>= λ conflicts. Some (seeks_set conflicts))
 unbounded_task parts LimitCycle = None
 
+-- the task of a property that the gain decides, which is overflow alone: there is no search and no
+-- formula
+abbrev pub gain_task : List PartView → RunProperty → Option Task
+gain_task parts Overflow = if has_search_option parts then None else Some measures_gain
+gain_task parts LimitCycle = None
+
+-- the task of a property of runs, by a search where the gain isn't asked for
+abbrev pub search_task : List PartView → RunProperty → Option Task
+search_task parts property = if is_given parts (codes "unbounded")
+    then unbounded_task parts property else samples_of parts >>= run_task parts property
+
 -- the task of a property
 abbrev pub property_task : List PartView → Property → Option Task
-property_task parts (OfRuns property) = if is_given parts (codes "unbounded")
-    then unbounded_task parts property else samples_of parts >>= run_task parts property
+property_task parts (OfRuns property) = if is_schur_cohn parts then None
+    else if is_by_gain parts then gain_task parts property else search_task parts property
 property_task parts (OfRoots property) =
-    if has_run_option parts then None else Some (decides property)
+    if has_run_option parts then None else Some (decides property (is_schur_cohn parts))
 property_task parts Timing = if has_verdict_option parts then None else Some checks_time
 
 -- the task of a run over inputs

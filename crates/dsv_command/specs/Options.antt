@@ -7,8 +7,10 @@ command_options =
     (codes "property", true) ∷
     (codes "x-size", true) ∷
     (codes "unbounded", false) ∷
+    (codes "gain", false) ∷
     (codes "conflicts", true) ∷
     (codes "formula", false) ∷
+    (codes "schur-cohn", false) ∷
     (codes "certificate", false) ∷
     (codes "check", true) ∷
     (codes "simulate", true) ∷

@@ -22,7 +22,7 @@ use Rattle.dsv_names.specs.Realisations.{realisation_name}
 use Rattle.dsv_names.specs.Roundings.{rounding_name}
 use Rattle.dsv_command.specs.Inputs.{most_inputs, most_digits}
 use Rattle.dsv_command.specs.Jobs.{Task, decides, checks_time, writes, searches, simulates}
-use Rattle.dsv_command.specs.Jobs.{seeks_set, Asked, is_given}
+use Rattle.dsv_command.specs.Jobs.{seeks_set, measures_gain, Asked, is_given}
 use Rattle.dsv_command.specs.Limits.{most_number_digits, most_samples, default_samples}
 use Rattle.dsv_command.specs.Limits.{most_conflicts, default_conflicts}
 use Rattle.dsv_command.specs.Limits.{most_controllers, default_controllers}
@@ -120,17 +120,30 @@ pub record GivesProperty (parts : List PartView) (property : Property) : Type 0 
   pub name : value_of (codes "property") parts ≡ Some (property_name property)
   pub no_inputs : value_of (codes "simulate") parts ≡ None
 
--- none of the options of properties of runs is given
-pub record HasNoRunOption (parts : List PartView) : Type 0 where
+-- none of the options of a search over runs is given, and none of a formula
+pub record HasNoSearchOption (parts : List PartView) : Type 0 where
   pub samples : is_given parts (codes "x-size") ≡ false
   pub unbounded : is_given parts (codes "unbounded") ≡ false
   pub conflicts : is_given parts (codes "conflicts") ≡ false
   pub formula : is_given parts (codes "formula") ≡ false
 
--- nor is it asked that a certificate is written
+-- none of the options of properties of runs is given
+pub record HasNoRunOption (parts : List PartView) : Type 0 where
+  pub gain : is_given parts (codes "gain") ≡ false
+  pub searches : HasNoSearchOption parts
+
+-- nor is the Schur-Cohn form to be offered, or a certificate to be written
 pub record HasNoVerdictOption (parts : List PartView) : Type 0 where
   pub runs : HasNoRunOption parts
+  pub schur_cohn : is_given parts (codes "schur-cohn") ≡ false
   pub certificate : is_given parts (codes "certificate") ≡ false
+
+-- a property of runs is given, and no form of roots is to be offered; the gain is asked for or not
+pub record GivesRuns (parts : List PartView) (property : RunProperty) (by_gain : Bool)
+    : Type 0 where
+  pub given : GivesProperty parts (OfRuns property)
+  pub no_form : is_given parts (codes "schur-cohn") ≡ false
+  pub gain : is_given parts (codes "gain") ≡ by_gain
 
 -- none of the options of how a controller is realised is given
 pub record HasNoDesignOption (parts : List PartView) : Type 0 where
@@ -159,25 +172,29 @@ AreConflicts parts n =
 
 -- Either a property or inputs are given. With a property of runs alone there are samples; and
 -- either conflicts, or that the formula is written. Overflow over runs of any length has no samples
--- and no formula. That a certificate is written goes with no timing, no inputs and no formula.
+-- and no formula, and where the gain decides it, no conflicts either. That the Schur-Cohn form is
+-- offered goes with a property of roots alone. That a certificate is written goes with no timing,
+-- no inputs and no formula.
 pub data IsTask : List PartView → Task → Type 0 where
   roots : (parts : List PartView) (p : RootProperty) → GivesProperty parts (OfRoots p)
-      → HasNoRunOption parts → IsTask parts (decides p)
+      → HasNoRunOption parts → IsTask parts (decides p (is_given parts (codes "schur-cohn")))
   timing : (parts : List PartView) → GivesProperty parts Timing → HasNoVerdictOption parts
       → IsTask parts checks_time
   formula : (parts : List PartView) (p : RunProperty) (samples : ℕ)
-      → GivesProperty parts (OfRuns p) → is_given parts (codes "unbounded") ≡ false
+      → GivesRuns parts p false → is_given parts (codes "unbounded") ≡ false
       → AreSamples parts samples
       → is_given parts (codes "formula") ≡ true → is_given parts (codes "conflicts") ≡ false
       → is_given parts (codes "certificate") ≡ false → IsTask parts (writes p samples)
   search : (parts : List PartView) (p : RunProperty) (samples conflicts : ℕ)
-      → GivesProperty parts (OfRuns p) → is_given parts (codes "unbounded") ≡ false
+      → GivesRuns parts p false → is_given parts (codes "unbounded") ≡ false
       → AreSamples parts samples → AreConflicts parts conflicts
       → is_given parts (codes "formula") ≡ false → IsTask parts (searches p samples conflicts)
   unbounded : (parts : List PartView) (conflicts : ℕ)
-      → GivesProperty parts (OfRuns Overflow) → is_given parts (codes "unbounded") ≡ true
+      → GivesRuns parts Overflow false → is_given parts (codes "unbounded") ≡ true
       → is_given parts (codes "x-size") ≡ false → is_given parts (codes "formula") ≡ false
       → AreConflicts parts conflicts → IsTask parts (seeks_set conflicts)
+  gain : (parts : List PartView) → GivesRuns parts Overflow true → HasNoSearchOption parts
+      → IsTask parts measures_gain
   simulation : (parts : List PartView) (text : List ℕ) (inputs : List ℤ)
       → value_of (codes "simulate") parts ≡ Some text → AreInputs text inputs →
       value_of (codes "property") parts ≡ None → HasNoVerdictOption parts

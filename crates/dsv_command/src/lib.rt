@@ -19,6 +19,6 @@ pub use inputs::{Inputs, MOST_INPUTS};
 pub use job::Job;
 pub use law::{parts_are_read, requests_are_read};
 pub use limits::{MOST_CONFLICTS, MOST_CONTROLLERS, MOST_SAMPLES};
-pub use question::{Budget, RunQuestion};
+pub use question::{Budget, RootQuestion, RunQuestion};
 pub use request::{Request, read_request};
 pub use task::Task;

@@ -14,7 +14,7 @@ pub struct CommandOption {
 
 /// The options that the command has. One more stands here and in `specs/Options.antt`; what it asks
 /// for, in the job or the request.
-const OPTIONS: [CommandOption; 13] = [
+const OPTIONS: [CommandOption; 15] = [
     CommandOption {
         name: "property",
         takes_value: true,
@@ -28,11 +28,19 @@ const OPTIONS: [CommandOption; 13] = [
         takes_value: false,
     },
     CommandOption {
+        name: "gain",
+        takes_value: false,
+    },
+    CommandOption {
         name: "conflicts",
         takes_value: true,
     },
     CommandOption {
         name: "formula",
+        takes_value: false,
+    },
+    CommandOption {
+        name: "schur-cohn",
         takes_value: false,
     },
     CommandOption {

@@ -1,8 +1,16 @@
-// Questions about runs, and how long a search for their answer may take.
+// Questions about roots and runs, and how long a search for their answer may take.
 ghost use Rattle.std.specs.Prelude.{◌≤◌};
 ghost use Rattle.dsv_command.specs.Limits.{most_samples, most_conflicts};
 
-use dsv_names::RunProperty;
+use dsv_names::{RootProperty, RunProperty};
+
+/// A question about a controller's roots.
+#[derive(Clone, Copy)]
+pub struct RootQuestion {
+    pub property: RootProperty,
+    /// Whether the Schur-Cohn form is offered before any proposer is asked.
+    pub schur_cohn: bool,
+}
 
 /// A question about a controller's runs over 1 to 64 samples.
 #[derive(Drop)]

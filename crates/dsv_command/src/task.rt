@@ -2,8 +2,10 @@
 ghost use Rattle.std.specs.Prelude.{◌≡◌, ◌≤◌, option_map, option_and_then, IfSome};
 ghost use Rattle.dsv_command.specs.Limits.{most_samples};
 ghost use Rattle.dsv_command.specs.Asking.{asked_task};
-ghost use Rattle.dsv_command.specs.Jobs.{has_run_option, number_up_to, samples_of};
-ghost use Rattle.dsv_command.specs.Jobs.{conflicts_of, run_task, unbounded_task, property_task};
+ghost use Rattle.dsv_command.specs.Jobs.{has_search_option, has_run_option, number_up_to};
+ghost use Rattle.dsv_command.specs.Jobs.{is_by_gain, is_schur_cohn, samples_of};
+ghost use Rattle.dsv_command.specs.Jobs.{conflicts_of, run_task, unbounded_task, gain_task};
+ghost use Rattle.dsv_command.specs.Jobs.{search_task, property_task};
 ghost use Rattle.dsv_command.specs.Jobs.{simulation_task, task_of, is_certified};
 ghost use Rattle.dsv_command.specs.Jobs.{has_verdict_option, has_design_option};
 
@@ -12,15 +14,15 @@ use crate::inputs::{Inputs, find_inputs};
 use crate::limits::{
     DEFAULT_CONFLICTS, DEFAULT_SAMPLES, MOST_CONFLICTS, MOST_NUMBER_DIGITS, MOST_SAMPLES,
 };
-use crate::question::{Budget, RunQuestion};
-use dsv_names::{Property, RootProperty, RunProperty, find_named};
+use crate::question::{Budget, RootQuestion, RunQuestion};
+use dsv_names::{Property, RunProperty, find_named};
 use dsv_text::short_number;
 
 /// What is to be done with a controller.
 #[derive(Drop)]
 pub enum Task {
     /// It is decided whether the controller has a property of its roots.
-    Decide(RootProperty),
+    Decide(RootQuestion),
     /// It is decided whether the work of a sample is done in time.
     CheckTime,
     /// The formula of a question is written.
@@ -30,18 +32,41 @@ pub enum Task {
     /// A set that the controller's registers never leave, and from which nothing overflows, is
     /// sought among those that are offered; this is the budget of each search.
     SeekSet(Budget),
+    /// It is decided by the gain whether any list of inputs, of any length, overflows.
+    MeasureGain,
     /// The controller is run over these inputs, from registers that are 0.
     Simulate(Inputs),
+}
+
+/// Whether an option of a search over runs is given, or of a formula.
+fn has_search_option(arguments: &Arguments) -> bool
+    ensures { result ≡ has_search_option arguments.now }
+{
+    arguments.is_given("x-size")
+        || arguments.is_given("unbounded")
+        || arguments.is_given("conflicts")
+        || arguments.is_given("formula")
+}
+
+/// Whether a property of runs is to be decided by the gain.
+fn is_by_gain(arguments: &Arguments) -> bool
+    ensures { result ≡ is_by_gain arguments.now }
+{
+    arguments.is_given("gain")
 }
 
 /// Whether an option of properties of runs is given.
 fn has_run_option(arguments: &Arguments) -> bool
     ensures { result ≡ has_run_option arguments.now }
 {
-    arguments.is_given("x-size")
-        || arguments.is_given("unbounded")
-        || arguments.is_given("conflicts")
-        || arguments.is_given("formula")
+    is_by_gain(arguments) || has_search_option(arguments)
+}
+
+/// Whether the Schur-Cohn form is to be offered.
+fn is_schur_cohn(arguments: &Arguments) -> bool
+    ensures { result ≡ is_schur_cohn arguments.now }
+{
+    arguments.is_given("schur-cohn")
 }
 
 /// Whether a certificate is to be written.
@@ -55,7 +80,7 @@ pub(crate) fn is_certified(arguments: &Arguments) -> bool
 pub(crate) fn has_verdict_option(arguments: &Arguments) -> bool
     ensures { result ≡ has_verdict_option arguments.now }
 {
-    has_run_option(arguments) || is_certified(arguments)
+    has_run_option(arguments) || is_schur_cohn(arguments) || is_certified(arguments)
 }
 
 /// Whether an option of how a controller is realised is given.
@@ -137,17 +162,41 @@ fn bounded_task(arguments: &Arguments, property: RunProperty) -> Option<Task>
     question_task(arguments, RunQuestion { property, samples })
 }
 
+/// The task of a property that the gain decides, which is overflow alone.
+fn gain_task(arguments: &Arguments, property: RunProperty) -> Option<Task>
+    ensures { option_map asked_task result ≡ gain_task arguments.now property }
+{
+    match property {
+        RunProperty::Overflow if has_search_option(arguments) => None,
+        RunProperty::Overflow => Some(Task::MeasureGain),
+        RunProperty::LimitCycle => None,
+    }
+}
+
+/// The task of a property of runs, by a search where the gain isn't asked for.
+fn search_task(arguments: &Arguments, property: RunProperty) -> Option<Task>
+    ensures { option_map asked_task result ≡ search_task arguments.now property }
+{
+    if arguments.is_given("unbounded") {
+        unbounded_task(arguments, property)
+    } else {
+        bounded_task(arguments, property)
+    }
+}
+
 /// The task of a property.
 fn property_task(arguments: &Arguments, property: Property) -> Option<Task>
     ensures { option_map asked_task result ≡ property_task arguments.now property }
 {
     match property {
-        Property::OfRuns(property) if arguments.is_given("unbounded") => {
-            unbounded_task(arguments, property)
-        }
-        Property::OfRuns(property) => bounded_task(arguments, property),
+        Property::OfRuns(_) if is_schur_cohn(arguments) => None,
+        Property::OfRuns(property) if is_by_gain(arguments) => gain_task(arguments, property),
+        Property::OfRuns(property) => search_task(arguments, property),
         Property::OfRoots(_) if has_run_option(arguments) => None,
-        Property::OfRoots(property) => Some(Task::Decide(property)),
+        Property::OfRoots(property) => Some(Task::Decide(RootQuestion {
+            property,
+            schur_cohn: is_schur_cohn(arguments),
+        })),
         Property::Timing if has_verdict_option(arguments) => None,
         Property::Timing => Some(Task::CheckTime),
     }

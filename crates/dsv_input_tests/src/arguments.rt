@@ -23,8 +23,12 @@ const DEFAULTS: Design = Design {
 
 /// What is asked.
 enum Wanted {
-    /// Whether the controller of a file is stable in a design.
+    /// Whether the controller of a file is stable in a design; the Schur-Cohn form isn't offered.
     Decision(&'static str, Design),
+    /// Whether the controller has a property of its roots; the Schur-Cohn form is offered.
+    WithForm(RootProperty),
+    /// The same, and a certificate.
+    CertificateWithForm,
     /// A simulation with these inputs.
     Simulation(&'static [i64]),
     /// The formula of a question about runs over so many samples.
@@ -33,6 +37,8 @@ enum Wanted {
     Search(RunProperty, u32, u32),
     /// A set for runs of any length, and how many conflicts each search may have.
     Set(u32),
+    /// Overflow, decided by the gain, and whether a certificate is written.
+    Gain(bool),
     /// The check of the certificate in the file of this name.
     Check(&'static str),
     /// A certificate.
@@ -46,13 +52,29 @@ enum Wanted {
 /// Arguments, and what is asked by them.
 struct Row(&'static str, Wanted);
 
+/// Whether a task is that this property of roots is decided, with the Schur-Cohn form or without.
+fn is_decision(task: &Task, property: RootProperty, schur_cohn: bool) -> bool {
+    match task {
+        Task::Decide(question) => {
+            question.property == property && question.schur_cohn == schur_cohn
+        }
+        _ => false,
+    }
+}
+
 /// Whether a job is the one that is wanted.
 fn is_job_wanted(job: &Job, wanted: &Wanted) -> bool {
     match wanted {
         Wanted::Decision(file, design) => {
             job.file == *file
-                && matches!(job.task, Task::Decide(RootProperty::Stability))
+                && is_decision(&job.task, RootProperty::Stability, false)
                 && job.design == *design
+        }
+        Wanted::CertificateWithForm => {
+            job.certified && is_decision(&job.task, RootProperty::Stability, true)
+        }
+        Wanted::Gain(certified) => {
+            job.certified == *certified && matches!(job.task, Task::MeasureGain)
         }
         Wanted::Certificate => job.certified,
         Wanted::Something => true,
@@ -73,6 +95,7 @@ fn is_task_wanted(task: &Task, wanted: &Wanted) -> bool {
                 && budget.conflicts == *conflicts
         }
         (Task::SeekSet(budget), Wanted::Set(conflicts)) => budget.conflicts == *conflicts,
+        (_, Wanted::WithForm(property)) => is_decision(task, *property, true),
         _ => false,
     }
 }
@@ -262,6 +285,66 @@ const OF_RUNS: &[Row] = &[
     ),
 ];
 
+/// Arguments for overflow that the gain decides: a certificate and a design may stand beside it.
+const BY_GAIN: &[Row] = &[
+    Row("f|--property|OVERFLOW|--gain", Wanted::Gain(false)),
+    Row("--gain|--property=OVERFLOW|f", Wanted::Gain(false)),
+    Row("--gain|--property|OVERFLOW|--|--gain", Wanted::Gain(false)),
+    Row(
+        "f|--property|OVERFLOW|--gain|--certificate",
+        Wanted::Gain(true),
+    ),
+    Row(
+        "f|--gain|--property|OVERFLOW|--realization|TDDFII",
+        Wanted::Gain(false),
+    ),
+    Row(
+        "f|--gain|--property|OVERFLOW|--rounding=CEIL",
+        Wanted::Gain(false),
+    ),
+    Row(
+        "f|--gain|--property|OVERFLOW|--overflow-mode|SATURATE",
+        Wanted::Gain(false),
+    ),
+    Row(
+        "--realization|DDFI|--rounding|NEAREST|--certificate|--gain|f|--property=OVERFLOW",
+        Wanted::Gain(true),
+    ),
+];
+
+/// Arguments for properties of roots with the Schur-Cohn form: a certificate and a design may stand
+/// beside it.
+const BY_FORM: &[Row] = &[
+    Row(
+        "f|--property|STABILITY|--schur-cohn",
+        Wanted::WithForm(RootProperty::Stability),
+    ),
+    Row(
+        "--schur-cohn|--property=MINIMUM_PHASE|f",
+        Wanted::WithForm(RootProperty::MinimumPhase),
+    ),
+    Row(
+        "--schur-cohn|--property=STABILITY|--|--schur-cohn",
+        Wanted::WithForm(RootProperty::Stability),
+    ),
+    Row(
+        "f|--property|STABILITY|--schur-cohn|--realization|DDFII",
+        Wanted::WithForm(RootProperty::Stability),
+    ),
+    Row(
+        "f|--property|MINIMUM_PHASE|--schur-cohn|--rounding=NEAREST|--overflow-mode|SATURATE",
+        Wanted::WithForm(RootProperty::MinimumPhase),
+    ),
+    Row(
+        "f|--certificate|--property|STABILITY|--schur-cohn",
+        Wanted::CertificateWithForm,
+    ),
+    Row(
+        "--schur-cohn|--rounding|CEIL|--certificate|--property|STABILITY|f",
+        Wanted::CertificateWithForm,
+    ),
+];
+
 /// Arguments for generated controllers, and jobs by other forms of the arguments.
 const OTHERS: &[Row] = &[
     Row("--generate|1", Wanted::Controllers(1, 40)),
@@ -298,6 +381,16 @@ fn jobs_over_roots_and_checks(rt: HostRuntime) {
 #[test]
 fn jobs_over_runs(rt: HostRuntime) {
     assert!(rt; do_ask(rt.alloc(), OF_RUNS));
+}
+
+#[test]
+fn jobs_by_the_gain(rt: HostRuntime) {
+    assert!(rt; do_ask(rt.alloc(), BY_GAIN));
+}
+
+#[test]
+fn jobs_by_the_schur_cohn_form(rt: HostRuntime) {
+    assert!(rt; do_ask(rt.alloc(), BY_FORM));
 }
 
 #[test]
@@ -484,6 +577,70 @@ f|--property|STABILITY|--FILE=|g";
 #[test]
 fn other_arguments_are_no_job(rt: HostRuntime) {
     assert!(rt; are_no_jobs(rt.alloc(), NO_JOBS));
+}
+
+/// Arguments with the gain beside what it doesn't go with.
+const NOT_BY_GAIN: &str = "\
+f|--gain\n\
+--gain|--property|OVERFLOW\n\
+f|--property|OVERFLOW|--gain|--gain\n\
+f|--property|OVERFLOW|--gain=\n\
+f|--property|OVERFLOW|--gain=1\n\
+f|--property|OVERFLOW|--gain|1\n\
+f|--property|OVERFLOW|--gains\n\
+f|--property|LIMIT_CYCLE|--gain\n\
+f|--property|STABILITY|--gain\n\
+f|--property|MINIMUM_PHASE|--gain\n\
+f|--property|TIMING|--gain\n\
+f|--property|OVERFLOW|--gain|--x-size|10\n\
+f|--property|OVERFLOW|--gain|--x-size|0\n\
+f|--property|OVERFLOW|--gain|--unbounded\n\
+f|--property|OVERFLOW|--gain|--unbounded|--conflicts|3\n\
+f|--property|OVERFLOW|--gain|--conflicts|3\n\
+f|--property|OVERFLOW|--gain|--formula\n\
+f|--property|OVERFLOW|--gain|--formula|--x-size|3\n\
+f|--property|OVERFLOW|--gain|--schur-cohn\n\
+f|--property|OVERFLOW|--gain|--certificate|--conflicts|3\n\
+f|--simulate=1|--gain\n\
+f|--check|c|--gain\n\
+--generate|1|--gain\n\
+--generate|1|--count|2|--gain";
+
+#[test]
+fn the_gain_goes_with_overflow_alone(rt: HostRuntime) {
+    assert!(rt; are_no_jobs(rt.alloc(), NOT_BY_GAIN));
+}
+
+/// Arguments with the Schur-Cohn form beside what it doesn't go with.
+const NOT_BY_FORM: &str = "\
+f|--schur-cohn\n\
+--schur-cohn|--property|STABILITY\n\
+f|--property|STABILITY|--schur-cohn|--schur-cohn\n\
+f|--property|STABILITY|--schur-cohn=\n\
+f|--property|STABILITY|--schur-cohn=1\n\
+f|--property|STABILITY|--schur-cohn|1\n\
+f|--property|STABILITY|--schur\n\
+f|--property|STABILITY|--schur-cohn|--x-size|1\n\
+f|--property|STABILITY|--schur-cohn|--unbounded\n\
+f|--property|STABILITY|--schur-cohn|--gain\n\
+f|--property|MINIMUM_PHASE|--schur-cohn|--conflicts|1\n\
+f|--property|MINIMUM_PHASE|--schur-cohn|--formula\n\
+f|--property|OVERFLOW|--schur-cohn\n\
+f|--property|OVERFLOW|--schur-cohn|--x-size|5\n\
+f|--property|OVERFLOW|--schur-cohn|--unbounded\n\
+f|--property|OVERFLOW|--schur-cohn|--formula\n\
+f|--property|OVERFLOW|--schur-cohn|--certificate\n\
+f|--property|LIMIT_CYCLE|--schur-cohn\n\
+f|--property|LIMIT_CYCLE|--schur-cohn|--conflicts|5\n\
+f|--property|TIMING|--schur-cohn\n\
+f|--simulate=1|--schur-cohn\n\
+f|--check|c|--schur-cohn\n\
+--generate|1|--schur-cohn\n\
+--generate|1|--count|2|--schur-cohn";
+
+#[test]
+fn the_schur_cohn_form_goes_with_roots_alone(rt: HostRuntime) {
+    assert!(rt; are_no_jobs(rt.alloc(), NOT_BY_FORM));
 }
 
 /// Jobs with one argument more or another one, and options without a value that are given one.

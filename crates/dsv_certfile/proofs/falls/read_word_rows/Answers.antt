@@ -1,6 +1,6 @@
 use Rattle.std.proofs.Common.{◌≡◌, ◌≤◌, ◌+◌, ◌∷◌, take, replicate, ap, ◌∙◌, arith}
 use Rattle.dsv_certfile.specs.Places.{row_places}
-use Rattle.dsv_certfile.specs.declared.numbers.Range.TheVariants as range
+use Rattle.dsv_certfile.specs.declared.numbers.NumberRange.TheVariants as range
 use Rattle.dsv_certfile.specs.declared.places.Place.TheVariants as place
 use Rattle.dsv_certfile.proofs.BodyLemmas.{places_taken}
 use Rattle.dsv_certfile.proofs.falls.read_word_rows.Goals as goal

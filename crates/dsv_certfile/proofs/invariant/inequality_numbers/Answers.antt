@@ -4,7 +4,7 @@ use Rattle.dsv_certfile.specs.Pieces.{pieces_of}
 use Rattle.dsv_certfile.specs.Places.{line_numbers, inequality_places}
 use Rattle.dsv_certfile.specs.Ranges.{AreOf}
 use Rattle.dsv_certfile.specs.declared.keyword.Keyword.TheVariants as keyword
-use Rattle.dsv_certfile.specs.declared.numbers.Range.TheVariants as range
+use Rattle.dsv_certfile.specs.declared.numbers.NumberRange.TheVariants as range
 use Rattle.dsv_certfile.specs.declared.places.Place.TheVariants as place
 use Rattle.dsv_certfile.proofs.BodyLemmas.{places_taken, some_entries, few_entries, small_entries}
 use Rattle.dsv_certfile.proofs.invariant.inequality_numbers.Goals as goal

@@ -6,17 +6,17 @@ use Rattle.dsv_names.specs.Realisations.{realisation_name}
 use Rattle.dsv_names.specs.Roundings.{rounding_name}
 use Rattle.dsv_names.specs.OverflowModes.{overflow_mode_name}
 use Rattle.dsv_certfile.specs.Texts.{piece_text, line_text, job_line, size_pieces}
-use Rattle.dsv_certfile.specs.declared.job.Job.{Job}
+use Rattle.dsv_certfile.specs.declared.job.CertifiedJob.{CertifiedJob}
 use Rattle.dsv_certfile.proofs.LineTexts.{spaced, writes_as, four-text}
 use Rattle.dsv_certfile.proofs.writer.put_job.Goals as goal
 
-abbrev names : Job → List ℕ
+abbrev names : CertifiedJob → List ℕ
 names job = spaced_text piece_text (property_name job.property) ++ spaced_text piece_text (realisation_name job.design.realisation)
 
-abbrev modes : Job → List ℕ
+abbrev modes : CertifiedJob → List ℕ
 modes job = spaced_text piece_text (rounding_name job.design.rounding) ++ spaced_text piece_text (overflow_mode_name job.design.overflow)
 
-text : (job : Job) → codes "job" ++ (names job ++ (modes job ++ (spaced (size_pieces job.size) ++ 10 ∷ []))) ≡ line_text (job_line job)
+text : (job : CertifiedJob) → codes "job" ++ (names job ++ (modes job ++ (spaced (size_pieces job.size) ++ 10 ∷ []))) ≡ line_text (job_line job)
 text job = four-text (codes "job") (property_name job.property) (realisation_name job.design.realisation) (rounding_name job.design.rounding) (overflow_mode_name job.design.overflow) (size_pieces job.size)
 
 pub returns-in_err-put_all : goal.returns-in_err-put_all
