@@ -1,5 +1,5 @@
-//! `dsv`: verifies a digital controller in fixed-point words. `main` makes the real files and the
-//! real output, and calls [`dsv_cli::run_with_built_in`].
+//! `dsv`: verifies a digital controller in the words that it runs in. `main` makes the real files
+//! and the real output, and calls [`dsv_cli::run_with_built_in`].
 #![tactic(auto)]
 
 use dsv_cli::{OsFiles, OsOut, run_with_built_in};

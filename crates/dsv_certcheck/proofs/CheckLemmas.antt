@@ -5,7 +5,7 @@ use Rattle.dsv_names.specs.declared.property.Property.{Property}
 use Rattle.dsv_names.specs.declared.property.Property.TheVariants.{OfRoots}
 use Rattle.dsv_names.specs.declared.property.RootProperty.{RootProperty}
 use Rattle.dsv_reader.specs.Controllers.{ControllerView}
-use Rattle.dsv_quantiser.specs.FixedPoint.{FixedPoint}
+use Rattle.dsv_quantiser.specs.QuantisedView.{QuantisedView}
 use Rattle.dsv_quantiser.specs.declared.refusal.QuantRefusal.{QuantRefusal}
 use Rattle.dsv_forms.specs.declared.offers.Form.{Form}
 use Rattle.dsv_tested.specs.Tested.{side_of, tested_of}
@@ -14,7 +14,7 @@ use Rattle.dsv_tested.specs.declared.side.Tested.{Tested}
 use Rattle.dsv_tested.specs.declared.side.Tested.TheVariants as tested
 use Rattle.dsv_certfile.specs.Texts.{job_of}
 use Rattle.dsv_certfile.specs.declared.certificate.Certificate.{Certificate}
-use Rattle.dsv_certfile.specs.declared.job.Job.{Job}
+use Rattle.dsv_certfile.specs.declared.job.CertifiedJob.{CertifiedJob}
 use Rattle.dsv_certfile.specs.declared.job.Size.{Size}
 use Rattle.dsv_certfile.specs.declared.job.Size.TheVariants as size
 use Rattle.dsv_certcheck.specs.Checks.{Checked, BecomesFor, IsChecked, Finds, words_check}
@@ -33,7 +33,7 @@ on_ok_three (Ok x) f a b c = f a b c
 on_ok_three (Err e) f a b c = tt
 
 -- ---- forms
-pub falling_has : (q : FixedPoint) (p : RootProperty) (of_job : Property) (s : Size) (of_side : Side) (found : Tested) (poly : List ℤ) (form : Form) → of_job ≡ OfRoots p → s ≡ size.NoSize
+pub falling_has : (q : QuantisedView) (p : RootProperty) (of_job : Property) (s : Size) (of_side : Side) (found : Tested) (poly : List ℤ) (form : Form) → of_job ≡ OfRoots p → s ≡ size.NoSize
     → of_side ≡ side_of p → tested_of q of_side ≡ Ok found → found ≡ tested.Poly poly → IsFalling poly form → Has q of_job s
 falling_has q p of_job s of_side found poly form e f g t u h =
     let has : HasFalling q p = record { poly = poly; tested = ap (tested_of q) (sym g) ∙ t ∙ ap Ok u; form = form; falls = h } in
@@ -45,22 +45,22 @@ found_err (Ok x) why h = absurd h
 found_err (Err r) why h = ap Err h
 
 -- the controller has no words
-pub refused_words : (c : ControllerView) (cert : Certificate) (job : Job) (why : QuantRefusal) (found : Checked) → job ≡ job_of cert → BecomesFor c job (Err why)
+pub refused_words : (c : ControllerView) (cert : Certificate) (job : CertifiedJob) (why : QuantRefusal) (found : Checked) → job ≡ job_of cert → BecomesFor c job (Err why)
     → IsErrAnd found (λ r. r ≡ refusal.Quant why) → IsChecked c cert found
 refused_words c cert job why found e b f =
     subst (IsChecked c cert) (sym (found_err found why f)) (subst (λ j. BecomesFor c j (Err why)) e b)
 
 -- what is found of the words is found of the controller
-found_by : (c : ControllerView) (cert : Certificate) (q : FixedPoint) (found : Checked) → BecomesFor c (job_of cert) (Ok q) → Finds found (words_check q cert) → IsChecked c cert found
+found_by : (c : ControllerView) (cert : Certificate) (q : QuantisedView) (found : Checked) → BecomesFor c (job_of cert) (Ok q) → Finds found (words_check q cert) → IsChecked c cert found
 found_by c cert q (Err refusal.NoMemory) b h = tt
 found_by c cert q (Err (refusal.Quant why)) b h = absurd (subst HasWords h (has_words q cert))
-found_by c cert q found b h = record { words = q; becomes = b; checked = h }
+found_by c cert q found b h = record { quantised = q; becomes = b; checked = h }
 
-pub checked_words : (c : ControllerView) (cert : Certificate) (job : Job) (q : FixedPoint) (found : Checked) → job ≡ job_of cert → BecomesFor c job (Ok q)
+pub checked_words : (c : ControllerView) (cert : Certificate) (job : CertifiedJob) (q : QuantisedView) (found : Checked) → job ≡ job_of cert → BecomesFor c job (Ok q)
     → Finds found (words_check q cert) → IsChecked c cert found
 checked_words c cert job q found e b h = found_by c cert q found (subst (λ j. BecomesFor c j (Ok q)) e b) h
 
-pub shown_words : (c : ControllerView) (cert : Certificate) (job : Job) (q : FixedPoint) (found : Checked) → job ≡ job_of cert → BecomesFor c job (Ok q)
+pub shown_words : (c : ControllerView) (cert : Certificate) (job : CertifiedJob) (q : QuantisedView) (found : Checked) → job ≡ job_of cert → BecomesFor c job (Ok q)
     → OnOk found (Has q (job_of cert).property (job_of cert).size) → OnOk found (IsShownOf c (job_of cert))
 shown_words c cert job q found e b =
-    on_ok found (λ has. record { words = q; becomes = subst (λ j. BecomesFor c j (Ok q)) e b; has = has })
+    on_ok found (λ has. record { quantised = q; becomes = subst (λ j. BecomesFor c j (Ok q)) e b; has = has })

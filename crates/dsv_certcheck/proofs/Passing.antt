@@ -1,5 +1,5 @@
 -- A claim that is so passes its check.
-use Rattle.std.proofs.Common.{◌≡◌, ◌∙◌, ap, ℕ, ◌+◌, ◌-◌, ◌<◌, nat_le, true, List, length, None, Result, Ok, Err, if◌then◌else◌, arith}
+use Rattle.std.proofs.Common.{◌≡◌, ◌∙◌, ap, ℕ, suc, ◌+◌, ◌-◌, ◌<◌, ◌≤◌, nat_le, true, List, length, None, Result, Ok, Err, if◌then◌else◌, arith}
 use Rattle.std.proofs.Math.IntN.{ℤ}
 use Rattle.std.proofs.lemmas.Bool.{and_from, le-leb, le-ltb, eq-eqb}
 use Rattle.dsv_algebra.specs.Vectors.{vector_of}
@@ -8,7 +8,7 @@ use Rattle.dsv_names.specs.declared.property.Property.TheVariants as property
 use Rattle.dsv_names.specs.declared.property.RunProperty.{RunProperty}
 use Rattle.dsv_names.specs.declared.property.RunProperty.TheVariants as run
 use Rattle.dsv_names.specs.declared.property.RootProperty.{RootProperty}
-use Rattle.dsv_quantiser.specs.FixedPoint.{FixedPoint}
+use Rattle.dsv_quantiser.specs.QuantisedView.{QuantisedView}
 use Rattle.dsv_cnf.specs.FormulaView.{FormulaView}
 use Rattle.dsv_hints.specs.Derivation.{verdict_of}
 use Rattle.dsv_hints.specs.declared.step.Step.{Step}
@@ -29,16 +29,19 @@ use Rattle.dsv_template.specs.declared.verdict.ThreeLogs.{ThreeLogs}
 use Rattle.dsv_invariant.specs.Causes.{IsShaped, IsGood}
 use Rattle.dsv_invariant.specs.Formulas.{set_formula_of}
 use Rattle.dsv_invariant.specs.Limits.{unbounded_samples}
+use Rattle.dsv_gain.specs.Controllers.{outlook_of}
+use Rattle.dsv_gain.specs.declared.outlook.Gain.{Gain}
+use Rattle.dsv_gain.specs.declared.outlook.Outlook.TheVariants as outlook
 use Rattle.dsv_certfile.specs.Lawful.{IsSize}
-use Rattle.dsv_certfile.specs.Limits.{most_samples}
+use Rattle.dsv_certfile.specs.Limits.{most_samples, most_gain_depth}
 use Rattle.dsv_certfile.specs.declared.job.Size.TheVariants as size
-use Rattle.dsv_certcheck.specs.Checks.{Checked, misfit, size_check, verdict_at, log_check, run_check, is_some_samples, hints_check, sentences_check, shape_check, invariant_check, refusal_check, offer_check, tested_check, falls_check}
+use Rattle.dsv_certcheck.specs.Checks.{Checked, misfit, size_check, verdict_at, log_check, run_check, is_some_samples, hints_check, sentences_check, shape_check, invariant_check, outlook_check, depth_check, gain_check, refusal_check, offer_check, tested_check, falls_check}
 use Rattle.dsv_certcheck.specs.LineNumbers.{body_line, log_line}
 use Rattle.dsv_certcheck.specs.declared.check_refusal.CheckRefusal.TheVariants as refusal
 use Rattle.dsv_tested.proofs.TestedCoefficients.{some_coefficients}
 
 -- a question that is no larger than what is asked of formulas
-size_passes : (q : FixedPoint) (samples : ℕ) → IsWithin q samples → size_check q samples ≡ Ok tt
+size_passes : (q : QuantisedView) (samples : ℕ) → IsWithin q samples → size_check q samples ≡ Ok tt
 size_passes q samples w =
     ap (λ b. if b then Err (refusal.JobSize (job_size_of q samples)) else Ok tt) (le-ltb most_size (job_size_of q samples) w)
 
@@ -49,7 +52,7 @@ log_passes formula line log e = ap (verdict_at line) e
 some_samples : (k : ℕ) → IsSize (size.Samples k) → is_some_samples k ≡ true
 some_samples k s = and_from (nat_le 1 k) (nat_le k most_samples) (le-leb 1 k s.0) (le-leb k most_samples s.1)
 
-pub hints_pass : (q : FixedPoint) (p : RunProperty) (k : ℕ) (log : List Step) → IsSize (size.Samples k) → IsWithin q k → verdict_of (question_formula p q k) log ≡ verdict.Accepted
+pub hints_pass : (q : QuantisedView) (p : RunProperty) (k : ℕ) (log : List Step) → IsSize (size.Samples k) → IsWithin q k → verdict_of (question_formula p q k) log ≡ verdict.Accepted
     → hints_check q (property.OfRuns p) (size.Samples k) log ≡ Ok tt
 hints_pass q p k log s w e =
     ap (λ b. if b then run_check q p k log else misfit) (some_samples k s)
@@ -57,7 +60,7 @@ hints_pass q p k log s w e =
     ∙ log_passes (question_formula p q k) body_line log e
 
 -- ---- an invariant
-pub invariant_passes : (q : FixedPoint) (conflicts : ℕ) (candidate : Candidate) (logs : ThreeLogs) → IsWithin q unbounded_samples → IsShaped q candidate → IsGood q conflicts candidate logs
+pub invariant_passes : (q : QuantisedView) (conflicts : ℕ) (candidate : Candidate) (logs : ThreeLogs) → IsWithin q unbounded_samples → IsShaped q candidate → IsGood q conflicts candidate logs
     → invariant_check q (property.OfRuns run.Overflow) size.Unbounded candidate logs ≡ Ok tt
 invariant_passes q conflicts candidate logs w shaped good =
     let safe = log_check (set_formula_of q candidate part.Safe) (log_line part.Safe candidate logs) logs.safe in
@@ -68,12 +71,18 @@ invariant_passes q conflicts candidate logs w shaped good =
     ∙ ap (λ (r : Checked). r >>= λ x. safe) (log_passes (set_formula_of q candidate part.Step) (log_line part.Step candidate logs) logs.step good.step.accepted)
     ∙ log_passes (set_formula_of q candidate part.Safe) (log_line part.Safe candidate logs) logs.safe good.safe.accepted
 
+-- ---- a gain
+pub gain_passes : (q : QuantisedView) (depth : ℕ) (gain : Gain) → depth ≤ most_gain_depth → outlook_of q (suc depth) ≡ outlook.Safe gain
+    → gain_check q (property.OfRuns run.Overflow) size.Unbounded depth ≡ Ok tt
+gain_passes q depth gain within e =
+    ap (λ b. if b then depth_check q depth else misfit) (le-leb depth most_gain_depth within) ∙ ap outlook_check e
+
 -- ---- a form that falls
 offer_passes : (c : List ℤ) (offer : Falls) → 0 < length c → falls_refusal c offer ≡ None → offer_check c offer ≡ Ok tt
 offer_passes c offer some e =
     ap (λ b. if b then refusal_check offer (falls_refusal c offer) else misfit) (eq-eqb (offer.form.d + 1) (length c) (let o = (falls_passes (length c - 1) (vector_of c) offer e).places in omega (arith, some, o)))
     ∙ ap (refusal_check offer) e
 
-pub falls_pass : (q : FixedPoint) (p : RootProperty) (c : List ℤ) (offer : Falls) → tested_of q (side_of p) ≡ Ok (tested.Poly c) → falls_refusal c offer ≡ None
+pub falls_pass : (q : QuantisedView) (p : RootProperty) (c : List ℤ) (offer : Falls) → tested_of q (side_of p) ≡ Ok (tested.Poly c) → falls_refusal c offer ≡ None
     → falls_check q (property.OfRoots p) size.NoSize offer ≡ Ok tt
 falls_pass q p c offer t e = ap (λ (r : Result Tested PolyWide). tested_check r offer) t ∙ offer_passes c offer (some_coefficients q (side_of p) c t) e

@@ -1,12 +1,12 @@
 -- What is found of words isn't that there are none.
 use Rattle.std.proofs.Common.{ℕ, Bool, true, false, List, Option, Some, None, Result, Ok, Err}
-use Rattle.std.specs.Prelude.{if◌then◌else◌, nat_lt, ◌+◌, ◌==◌, length}
+use Rattle.std.specs.Prelude.{if◌then◌else◌, suc, nat_le, nat_lt, ◌+◌, ◌==◌, length}
 use Rattle.std.proofs.Math.IntN.{ℤ}
 use Rattle.dsv_text.specs.Stages.{◌>>=◌}
 use Rattle.dsv_names.specs.declared.property.Property.{Property}
 use Rattle.dsv_names.specs.declared.property.Property.TheVariants as property
 use Rattle.dsv_names.specs.declared.property.RunProperty.TheVariants as run
-use Rattle.dsv_quantiser.specs.FixedPoint.{FixedPoint}
+use Rattle.dsv_quantiser.specs.QuantisedView.{QuantisedView}
 use Rattle.dsv_meaning.specs.Equations.{order, registers_of}
 use Rattle.dsv_cnf.specs.FormulaView.{FormulaView}
 use Rattle.dsv_hints.specs.Derivation.{verdict_of}
@@ -25,11 +25,15 @@ use Rattle.dsv_tested.specs.declared.side.Tested.TheVariants as tested
 use Rattle.dsv_template.specs.Candidates.{is_shaped}
 use Rattle.dsv_template.specs.declared.candidate.Candidate.{Candidate}
 use Rattle.dsv_template.specs.declared.verdict.ThreeLogs.{ThreeLogs}
+use Rattle.dsv_gain.specs.Controllers.{outlook_of}
+use Rattle.dsv_gain.specs.declared.outlook.Outlook.{Outlook}
+use Rattle.dsv_gain.specs.declared.outlook.Outlook.TheVariants as outlook
+use Rattle.dsv_certfile.specs.Limits.{most_gain_depth}
 use Rattle.dsv_certfile.specs.declared.certificate.Certificate.{Certificate}
 use Rattle.dsv_certfile.specs.declared.certificate.Certificate.TheVariants as certificate
 use Rattle.dsv_certfile.specs.declared.job.Size.{Size}
 use Rattle.dsv_certfile.specs.declared.job.Size.TheVariants as size
-use Rattle.dsv_certcheck.specs.Checks.{Checked, misfit, size_check, verdict_at, log_check, run_check, is_some_samples, hints_check, sentences_check, shape_check, set_check, invariant_check, refusal_check, offer_check, tested_check, falls_check, words_check}
+use Rattle.dsv_certcheck.specs.Checks.{Checked, misfit, size_check, verdict_at, log_check, run_check, is_some_samples, hints_check, sentences_check, shape_check, set_check, invariant_check, outlook_check, depth_check, gain_check, refusal_check, offer_check, tested_check, falls_check, words_check}
 use Rattle.dsv_certcheck.specs.declared.check_refusal.CheckRefusal.TheVariants as refusal
 
 -- it isn't found that there are no words
@@ -47,7 +51,7 @@ has_either : (b : Bool) (x y : Checked) → HasWords x → HasWords y → HasWor
 has_either true x y h k = h
 has_either false x y h k = k
 
-has_size : (q : FixedPoint) (samples : ℕ) → HasWords (size_check q samples)
+has_size : (q : QuantisedView) (samples : ℕ) → HasWords (size_check q samples)
 has_size q samples = has_either (nat_lt most_size (job_size_of q samples)) (Err (refusal.JobSize (job_size_of q samples))) (Ok tt) tt tt
 
 has_verdict : (line : ℕ) (v : Verdict) → HasWords (verdict_at line v)
@@ -58,20 +62,20 @@ has_log : (f : FormulaView) (line : ℕ) (log : List Step) → HasWords (log_che
 has_log f line log = has_verdict line (verdict_of f log)
 
 -- ---- kinds
-has_hints : (q : FixedPoint) (p : Property) (s : Size) (log : List Step) → HasWords (hints_check q p s log)
+has_hints : (q : QuantisedView) (p : Property) (s : Size) (log : List Step) → HasWords (hints_check q p s log)
 has_hints q (property.OfRuns p) (size.Samples k) log =
     has_either (is_some_samples k) (run_check q p k log) misfit (has_then (size_check q k) _ (has_size q k) (λ x. has_log _ _ log)) tt
 has_hints q p s log = tt
 
-has_sentences : (q : FixedPoint) (c : Candidate) (logs : ThreeLogs) → HasWords (sentences_check q c logs)
+has_sentences : (q : QuantisedView) (c : Candidate) (logs : ThreeLogs) → HasWords (sentences_check q c logs)
 has_sentences q c logs = has_then _ _ (has_log _ _ logs.base) (λ x. has_then _ _ (has_log _ _ logs.step) (λ y. has_log _ _ logs.safe))
 
-has_set : (q : FixedPoint) (c : Candidate) (logs : ThreeLogs) → HasWords (set_check q c logs)
+has_set : (q : QuantisedView) (c : Candidate) (logs : ThreeLogs) → HasWords (set_check q c logs)
 has_set q c logs =
     has_then _ _ (has_size q _) (λ x. has_then (shape_check q c) _
     (has_either (is_shaped (registers_of q.realisation (order q)) c) (Ok tt) misfit tt tt) (λ y. has_sentences q c logs))
 
-has_invariant : (q : FixedPoint) (p : Property) (s : Size) (c : Candidate) (logs : ThreeLogs) → HasWords (invariant_check q p s c logs)
+has_invariant : (q : QuantisedView) (p : Property) (s : Size) (c : Candidate) (logs : ThreeLogs) → HasWords (invariant_check q p s c logs)
 has_invariant q (property.OfRuns run.Overflow) size.Unbounded c logs = has_set q c logs
 has_invariant q p s c logs = tt
 
@@ -87,12 +91,23 @@ has_tested (Ok (tested.Poly c)) offer = has_offer c offer
 has_tested (Ok tested.NoZeros) offer = tt
 has_tested (Err wide) offer = tt
 
-has_falls : (q : FixedPoint) (p : Property) (s : Size) (offer : Falls) → HasWords (falls_check q p s offer)
+has_falls : (q : QuantisedView) (p : Property) (s : Size) (offer : Falls) → HasWords (falls_check q p s offer)
 has_falls q (property.OfRoots p) size.NoSize offer = has_tested (tested_of q (side_of p)) offer
 has_falls q p s offer = tt
 
+has_outlook : (found : Outlook) → HasWords (outlook_check found)
+has_outlook (outlook.Safe gain) = tt
+has_outlook (outlook.Leaves sample value) = tt
+has_outlook outlook.Deep = tt
+
+has_gain : (q : QuantisedView) (p : Property) (s : Size) (depth : ℕ) → HasWords (gain_check q p s depth)
+has_gain q (property.OfRuns run.Overflow) size.Unbounded depth =
+    has_either (nat_le depth most_gain_depth) (depth_check q depth) misfit (has_outlook (outlook_of q (suc depth))) tt
+has_gain q p s depth = tt
+
 -- ---- certificates
-pub has_words : (q : FixedPoint) (c : Certificate) → HasWords (words_check q c)
+pub has_words : (q : QuantisedView) (c : Certificate) → HasWords (words_check q c)
 has_words q (certificate.Hints job log) = has_hints q job.property job.size log
 has_words q (certificate.Invariant job candidate logs) = has_invariant q job.property job.size candidate logs
+has_words q (certificate.Gain job depth) = has_gain q job.property job.size depth
 has_words q (certificate.Falls job offer) = has_falls q job.property job.size offer

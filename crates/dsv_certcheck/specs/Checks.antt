@@ -1,6 +1,6 @@
--- What the check of a certificate finds for a controller in words: nothing, or the first line whose
--- claim isn't so, or why there is nothing to check it against.
-use Rattle.std.specs.Prelude.{◌≡◌, ℕ, ◌+◌, ◌==◌, ◌&&◌, nat_le, nat_lt, Bool, List, length}
+-- What the check of a certificate finds for a quantised controller: nothing, or the first line
+-- whose claim isn't so, or why there is nothing to check it against.
+use Rattle.std.specs.Prelude.{◌≡◌, ℕ, suc, ◌+◌, ◌==◌, ◌&&◌, nat_le, nat_lt, Bool, List, length}
 use Rattle.std.specs.Prelude.{Option, Some, None, Result, Ok, Err, if◌then◌else◌, ℤ}
 use Rattle.dsv_text.specs.Stages.{◌>>=◌}
 use Rattle.dsv_names.specs.declared.property.Property.{Property}
@@ -8,7 +8,7 @@ use Rattle.dsv_names.specs.declared.property.Property.TheVariants as property
 use Rattle.dsv_names.specs.declared.property.RunProperty.{RunProperty}
 use Rattle.dsv_names.specs.declared.property.RunProperty.TheVariants as run
 use Rattle.dsv_reader.specs.Controllers.{ControllerView}
-use Rattle.dsv_quantiser.specs.FixedPoint.{FixedPoint}
+use Rattle.dsv_quantiser.specs.QuantisedView.{QuantisedView}
 use Rattle.dsv_quantiser.specs.Modes.{BecomesWords}
 use Rattle.dsv_quantiser.specs.declared.refusal.QuantRefusal.{QuantRefusal}
 use Rattle.dsv_meaning.specs.Equations.{order, registers_of}
@@ -33,9 +33,12 @@ use Rattle.dsv_template.specs.declared.verdict.SetPart.TheVariants as part
 use Rattle.dsv_template.specs.declared.verdict.ThreeLogs.{ThreeLogs}
 use Rattle.dsv_invariant.specs.Formulas.{set_formula_of}
 use Rattle.dsv_invariant.specs.Limits.{unbounded_samples}
+use Rattle.dsv_gain.specs.Controllers.{outlook_of}
+use Rattle.dsv_gain.specs.declared.outlook.Outlook.{Outlook}
+use Rattle.dsv_gain.specs.declared.outlook.Outlook.TheVariants as outlook
 use Rattle.dsv_certcheck.specs.FormLines.{form_line}
 use Rattle.dsv_certcheck.specs.LineNumbers.{kind_line, body_line, log_line}
-use Rattle.dsv_certfile.specs.Limits.{most_samples}
+use Rattle.dsv_certfile.specs.Limits.{most_samples, most_gain_depth}
 use Rattle.dsv_certfile.specs.Texts.{job_of}
 use Rattle.dsv_certfile.specs.declared.certificate.Certificate.{Certificate}
 use Rattle.dsv_certfile.specs.declared.certificate.Certificate.TheVariants as certificate
@@ -43,7 +46,7 @@ use Rattle.dsv_certfile.specs.declared.fault.CheckFault.{CheckFault}
 use Rattle.dsv_certfile.specs.declared.fault.CheckFault.TheVariants as fault
 use Rattle.dsv_certcheck.specs.declared.check_refusal.CheckRefusal.{CheckRefusal}
 use Rattle.dsv_certcheck.specs.declared.check_refusal.CheckRefusal.TheVariants as refusal
-use Rattle.dsv_certfile.specs.declared.job.Job.{Job}
+use Rattle.dsv_certfile.specs.declared.job.CertifiedJob.{CertifiedJob}
 use Rattle.dsv_certfile.specs.declared.job.Size.{Size}
 use Rattle.dsv_certfile.specs.declared.job.Size.TheVariants as size
 
@@ -60,7 +63,7 @@ abbrev pub misfit : Checked
 misfit = refused kind_line fault.Shape
 
 -- a question about runs over so many samples is larger than what is asked of formulas
-abbrev pub size_check : FixedPoint → ℕ → Checked
+abbrev pub size_check : QuantisedView → ℕ → Checked
 size_check q samples = if nat_lt most_size (job_size_of q samples)
     then Err (refusal.JobSize (job_size_of q samples)) else Ok tt
 
@@ -77,21 +80,21 @@ log_check formula line log = verdict_at line (verdict_of formula log)
 
 -- ---- hints
 -- the log refutes that a property of runs happens within so many samples
-abbrev pub run_check : FixedPoint → RunProperty → ℕ → List Step → Checked
+abbrev pub run_check : QuantisedView → RunProperty → ℕ → List Step → Checked
 run_check q p samples log = size_check q samples >>= λ _.
     log_check (question_formula p q samples) body_line log
 
 abbrev pub is_some_samples : ℕ → Bool
 is_some_samples samples = nat_le 1 samples && nat_le samples most_samples
 
-abbrev pub hints_check : FixedPoint → Property → Size → List Step → Checked
+abbrev pub hints_check : QuantisedView → Property → Size → List Step → Checked
 hints_check q (property.OfRuns p) (size.Samples k) log =
     if is_some_samples k then run_check q p k log else misfit
 hints_check q p s log = misfit
 
 -- ---- an invariant
 -- each log refutes that its sentence of the candidate is broken
-abbrev pub sentences_check : FixedPoint → Candidate → ThreeLogs → Checked
+abbrev pub sentences_check : QuantisedView → Candidate → ThreeLogs → Checked
 sentences_check q candidate logs =
     log_check (set_formula_of q candidate part.Base)
     (log_line part.Base candidate logs) logs.base >>= λ _.
@@ -101,20 +104,36 @@ sentences_check q candidate logs =
     (log_line part.Safe candidate logs) logs.safe
 
 -- the candidate's numbers are as they have to be for the controller's registers
-abbrev pub shape_check : FixedPoint → Candidate → Checked
+abbrev pub shape_check : QuantisedView → Candidate → Checked
 shape_check q candidate = if is_shaped (registers_of q.realisation (order q)) candidate
     then Ok tt else misfit
 
-abbrev pub set_check : FixedPoint → Candidate → ThreeLogs → Checked
+abbrev pub set_check : QuantisedView → Candidate → ThreeLogs → Checked
 set_check q candidate logs =
     size_check q unbounded_samples >>= λ _.
     shape_check q candidate >>= λ _.
     sentences_check q candidate logs
 
-abbrev pub invariant_check : FixedPoint → Property → Size → Candidate → ThreeLogs → Checked
+abbrev pub invariant_check : QuantisedView → Property → Size → Candidate → ThreeLogs → Checked
 invariant_check q (property.OfRuns run.Overflow) size.Unbounded candidate logs =
     set_check q candidate logs
 invariant_check q p s candidate logs = misfit
+
+-- ---- a gain
+-- the gain was found
+abbrev pub outlook_check : Outlook → Checked
+outlook_check (outlook.Safe gain) = Ok tt
+outlook_check other = refused kind_line fault.Gain
+
+-- the ranges of all exact values are ones of words at the depth or before it, whatever words were
+-- in the registers
+abbrev pub depth_check : QuantisedView → ℕ → Checked
+depth_check q depth = outlook_check (outlook_of q (suc depth))
+
+abbrev pub gain_check : QuantisedView → Property → Size → ℕ → Checked
+gain_check q (property.OfRuns run.Overflow) size.Unbounded depth =
+    if nat_le depth most_gain_depth then depth_check q depth else misfit
+gain_check q p s depth = misfit
 
 -- ---- falls
 -- the line at which a form is refused, where it is
@@ -133,28 +152,29 @@ tested_check (Ok (tested.Poly c)) offer = offer_check c offer
 tested_check (Ok tested.NoZeros) offer = Err refusal.NoZeros
 tested_check (Err wide) offer = Err (refusal.Wide wide.index)
 
-abbrev pub falls_check : FixedPoint → Property → Size → Falls → Checked
+abbrev pub falls_check : QuantisedView → Property → Size → Falls → Checked
 falls_check q (property.OfRoots p) size.NoSize offer =
     tested_check (tested_of q (side_of p)) offer
 falls_check q p s offer = misfit
 
 -- ---- certificates
--- for a controller in words
-abbrev pub words_check : FixedPoint → Certificate → Checked
+-- for a quantised controller
+abbrev pub words_check : QuantisedView → Certificate → Checked
 words_check q (certificate.Hints job log) = hints_check q job.property job.size log
 words_check q (certificate.Invariant job candidate logs) =
     invariant_check q job.property job.size candidate logs
+words_check q (certificate.Gain job depth) = gain_check q job.property job.size depth
 words_check q (certificate.Falls job offer) = falls_check q job.property job.size offer
 
 -- in the job's realisation and modes the controller becomes these words, or is refused so
-abbrev pub BecomesFor : ControllerView → Job → Result FixedPoint QuantRefusal → Type 0
+abbrev pub BecomesFor : ControllerView → CertifiedJob → Result QuantisedView QuantRefusal → Type 0
 BecomesFor c job outcome = BecomesWords c job.design outcome
 
 -- This is found of the words that the controller becomes.
 pub record IsFoundOf (c : ControllerView) (cert : Certificate) (found : Checked) : Type 0 where
-  pub words : FixedPoint
-  pub becomes : BecomesFor c (job_of cert) (Ok words)
-  pub checked : words_check words cert ≡ found
+  pub quantised : QuantisedView
+  pub becomes : BecomesFor c (job_of cert) (Ok quantised)
+  pub checked : words_check quantised cert ≡ found
 
 -- the result is what is found, or there was no memory
 abbrev pub Finds : Checked → Checked → Type 0

@@ -3,8 +3,8 @@ use Rattle.std.specs.Prelude.{ℕ, ◌+◌, ◌==◌, if◌then◌else◌}
 use Rattle.dsv_forms.specs.declared.offers.Falls.{Falls}
 use Rattle.dsv_forms.specs.declared.refusal.FormRefusal.{FormRefusal}
 use Rattle.dsv_forms.specs.declared.refusal.FormRefusal.TheVariants as refusal
-use Rattle.dsv_forms.specs.declared.refusal.Part.{Part}
-use Rattle.dsv_forms.specs.declared.refusal.Part.TheVariants as part
+use Rattle.dsv_forms.specs.declared.refusal.OfferPart.{OfferPart}
+use Rattle.dsv_forms.specs.declared.refusal.OfferPart.TheVariants as part
 use Rattle.dsv_certcheck.specs.LineNumbers.{kind_line, body_line}
 
 -- the line `positive`, after the rows of the form
@@ -16,22 +16,22 @@ abbrev pub fall_line : Falls → ℕ
 fall_line offer = positive_line offer + 1 + offer.positive.count + offer.form.d
 
 -- the line that a part begins with; a form of no places has no row
-abbrev pub part_line : Falls → Part → ℕ
+abbrev pub part_line : Falls → OfferPart → ℕ
 part_line offer part.Positive = positive_line offer
 part_line offer part.Fall = fall_line offer
 part_line offer other = if offer.form.d == 0 then kind_line else body_line
 
 -- the line of a part's square
-abbrev pub square_line : Falls → Part → ℕ → ℕ
+abbrev pub square_line : Falls → OfferPart → ℕ → ℕ
 square_line offer p i = part_line offer p + 1 + i
 
 -- how many squares a part has
-abbrev pub square_count : Falls → Part → ℕ
+abbrev pub square_count : Falls → OfferPart → ℕ
 square_count offer part.Positive = offer.positive.count
 square_count offer other = offer.fall.count
 
 -- the line of a row of a part's rest
-abbrev pub rest_line : Falls → Part → ℕ → ℕ
+abbrev pub rest_line : Falls → OfferPart → ℕ → ℕ
 rest_line offer p i = part_line offer p + 1 + square_count offer p + i
 
 -- the line at which what is wrong with an offer stands

@@ -7,22 +7,16 @@ use Rattle.dsv_names.specs.declared.property.Property.TheVariants as property
 use Rattle.dsv_names.specs.declared.property.RunProperty.TheVariants as run
 use Rattle.dsv_names.specs.declared.property.RootProperty.{RootProperty}
 use Rattle.dsv_reader.specs.Controllers.{ControllerView}
-use Rattle.dsv_quantiser.specs.FixedPoint.{FixedPoint}
-use Rattle.dsv_meaning.specs.Equations.{Past}
-use Rattle.dsv_meaning.specs.Systems.{equations_of}
-use Rattle.dsv_system.specs.Breaks.{Breaks}
+use Rattle.dsv_quantiser.specs.QuantisedView.{QuantisedView}
+use Rattle.dsv_gain.specs.Controllers.{NeverOverflows}
 use Rattle.dsv_bounded.specs.RunQuestions.{Happens}
 use Rattle.dsv_forms.specs.declared.offers.Form.{Form}
 use Rattle.dsv_tested.specs.Tested.{side_of, tested_of}
 use Rattle.dsv_tested.specs.declared.side.Tested.TheVariants as tested
 use Rattle.dsv_certcheck.specs.Checks.{BecomesFor}
-use Rattle.dsv_certfile.specs.declared.job.Job.{Job}
+use Rattle.dsv_certfile.specs.declared.job.CertifiedJob.{CertifiedJob}
 use Rattle.dsv_certfile.specs.declared.job.Size.{Size}
 use Rattle.dsv_certfile.specs.declared.job.Size.TheVariants as size
-
--- no list of inputs in range, of any length, breaks the controller
-abbrev pub NeverBreaks : FixedPoint → Type 0
-NeverBreaks q = (inputs : List ℤ) → Breaks Past (equations_of q) q.xlo q.xhi inputs → ⊥
 
 -- The form is positive and strictly falls along every nonzero trajectory of the polynomial.
 abbrev pub IsFalling : List ℤ → Form → Type 0
@@ -30,21 +24,21 @@ IsFalling poly form =
     StrictlyFallsAlong (length poly - 1) (vector_of poly) (matrix_of form.rows)
 
 -- The polynomial of the side that the property tests has a form that falls.
-pub record HasFalling (q : FixedPoint) (p : RootProperty) : Type 0 where
+pub record HasFalling (q : QuantisedView) (p : RootProperty) : Type 0 where
   pub poly : List ℤ
   pub tested : tested_of q (side_of p) ≡ Ok (tested.Poly poly)
   pub form : Form
   pub falls : IsFalling poly form
 
 -- the controller has the property, over so many samples where it is one of runs
-abbrev pub Has : FixedPoint → Property → Size → Type 0
+abbrev pub Has : QuantisedView → Property → Size → Type 0
 Has q (property.OfRuns p) (size.Samples k) = Happens p q k → ⊥
-Has q (property.OfRuns run.Overflow) size.Unbounded = NeverBreaks q
+Has q (property.OfRuns run.Overflow) size.Unbounded = NeverOverflows q
 Has q (property.OfRoots p) size.NoSize = HasFalling q p
 Has q p s = ⊥
 
 -- The words that the controller becomes have the job's property.
-pub record IsShownOf (c : ControllerView) (job : Job) : Type 0 where
-  pub words : FixedPoint
-  pub becomes : BecomesFor c job (Ok words)
-  pub has : Has words job.property job.size
+pub record IsShownOf (c : ControllerView) (job : CertifiedJob) : Type 0 where
+  pub quantised : QuantisedView
+  pub becomes : BecomesFor c job (Ok quantised)
+  pub has : Has quantised job.property job.size

@@ -8,7 +8,7 @@ ghost use Rattle.dsv_template.specs.declared.verdict.SetPart.TheVariants as part
 ghost use Rattle.dsv_certcheck.specs.Checks.{Finds, log_check, run_check, sentences_check};
 ghost use Rattle.dsv_certcheck.specs.Checks.{set_check};
 ghost use Rattle.dsv_certcheck.specs.LineNumbers.{log_line};
-ghost use Rattle.dsv_certcheck.specs.Shown.{NeverBreaks};
+ghost use Rattle.dsv_gain.specs.Controllers.{NeverOverflows};
 
 use crate::check_refusal::CheckRefusal;
 use crate::line_numbers::{BODY_LINE, KIND_LINE, log_line};
@@ -53,17 +53,17 @@ fn check_log(alloc: Global, formula: &Formula, line: u64, log: &Log) -> Result<(
 /// Checks that a log refutes that the property happens within 1 to 64 samples.
 pub(crate) fn check_run(
     alloc: Global,
-    q: &Quantised,
+    quantised: &Quantised,
     property: RunProperty,
     samples: u32,
     log: &Log,
 ) -> Result<(), CheckRefusal>
     requires some { 1 ≤ samples }
     requires few { samples ≤ 64 }
-    ensures found { Finds result (run_check q.now property samples log.now) }
-    ensures shows { OnOk result (Happens property q.now samples → ⊥) }
+    ensures found { Finds result (run_check quantised.now property samples log.now) }
+    ensures shows { OnOk result (Happens property quantised.now samples → ⊥) }
 {
-    let formula = question_formula(alloc, q, property, samples)?;
+    let formula = question_formula(alloc, quantised, property, samples)?;
     accept_length(log)?;
     check_log(alloc, &formula, BODY_LINE, log)
 }
@@ -79,34 +79,35 @@ struct LoggedSentence {
 /// Checks that a log refutes that the sentence of a candidate is broken.
 fn check_sentence(
     alloc: Global,
-    q: &Quantised,
+    quantised: &Quantised,
     candidate: &Candidate,
     sentence: LoggedSentence,
     log: &Log,
 ) -> Result<(), CheckRefusal>
-    requires shaped { IsShaped q.now candidate.now }
+    requires shaped { IsShaped quantised.now candidate.now }
     requires low { sentence.line < 2 ^ 40 }
     requires short { length log.now < 2 ^ 32 - 1 }
     ensures found { Finds result
-        (log_check (set_formula_of q.now candidate.now sentence.part) sentence.line log.now) }
-    ensures shows { OnOk result (Holds q.now candidate.now sentence.part) }
+        (log_check (set_formula_of quantised.now candidate.now sentence.part) sentence.line
+        log.now) }
+    ensures shows { OnOk result (Holds quantised.now candidate.now sentence.part) }
 {
-    let formula = set_formula(alloc, q, candidate, sentence.part)?;
+    let formula = set_formula(alloc, quantised, candidate, sentence.part)?;
     check_log(alloc, &formula, sentence.line, log)
 }
 
 /// Checks the logs of a candidate's sentences.
 fn check_sentences(
     alloc: Global,
-    q: &Quantised,
+    quantised: &Quantised,
     candidate: &Candidate,
     logs: &ThreeLogs,
 ) -> Result<(), CheckRefusal>
-    requires shaped { IsShaped q.now candidate.now }
-    ensures found { Finds result (sentences_check q.now candidate.now logs.now) }
-    ensures base { OnOk result (Holds q.now candidate.now part.Base) }
-    ensures step { OnOk result (Holds q.now candidate.now part.Step) }
-    ensures safe { OnOk result (Holds q.now candidate.now part.Safe) }
+    requires shaped { IsShaped quantised.now candidate.now }
+    ensures found { Finds result (sentences_check quantised.now candidate.now logs.now) }
+    ensures base { OnOk result (Holds quantised.now candidate.now part.Base) }
+    ensures step { OnOk result (Holds quantised.now candidate.now part.Step) }
+    ensures safe { OnOk result (Holds quantised.now candidate.now part.Safe) }
 {
     accept_length(&logs.base)?;
     accept_length(&logs.step)?;
@@ -115,36 +116,36 @@ fn check_sentences(
         part: SetPart::Base,
         line: log_line(SetPart::Base, candidate, logs),
     };
-    check_sentence(alloc, q, candidate, base, &logs.base)?;
+    check_sentence(alloc, quantised, candidate, base, &logs.base)?;
     let step = LoggedSentence {
         part: SetPart::Step,
         line: log_line(SetPart::Step, candidate, logs),
     };
-    check_sentence(alloc, q, candidate, step, &logs.step)?;
+    check_sentence(alloc, quantised, candidate, step, &logs.step)?;
     let safe = LoggedSentence {
         part: SetPart::Safe,
         line: log_line(SetPart::Safe, candidate, logs),
     };
-    check_sentence(alloc, q, candidate, safe, &logs.safe)
+    check_sentence(alloc, quantised, candidate, safe, &logs.safe)
 }
 
 /// Checks that a controller never leaves a candidate's set and never overflows in it.
 pub(crate) fn check_set(
     alloc: Global,
-    q: &Quantised,
+    quantised: &Quantised,
     candidate: &Candidate,
     logs: &ThreeLogs,
 ) -> Result<(), CheckRefusal>
-    ensures found { Finds result (set_check q.now candidate.now logs.now) }
-    ensures shows { OnOk result (NeverBreaks q.now) }
+    ensures found { Finds result (set_check quantised.now candidate.now logs.now) }
+    ensures shows { OnOk result (NeverOverflows quantised.now) }
 {
-    accept_unbounded(q)?;
-    let registers = registers(q.realisation(), q.order() as u32);
+    accept_unbounded(quantised)?;
+    let registers = registers(quantised.realisation(), quantised.order() as u32);
     if !candidate.is_shaped(registers) {
         return Err(CheckRefusal::Line {
             line: KIND_LINE,
             fault: CheckFault::Shape,
         });
     }
-    check_sentences(alloc, q, candidate, logs)
+    check_sentences(alloc, quantised, candidate, logs)
 }

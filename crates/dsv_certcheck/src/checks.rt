@@ -1,15 +1,21 @@
 // The check of certificates against controllers.
-ghost use Rattle.std.specs.Prelude.{◌≡◌, OnOk};
+ghost use Rattle.std.specs.Prelude.{◌≡◌, ◌≤◌, OnOk};
 ghost use Rattle.dsv_certcheck.specs.Checks.{Finds, IsChecked, words_check, hints_check};
-ghost use Rattle.dsv_certcheck.specs.Checks.{invariant_check, falls_check, offer_check};
+ghost use Rattle.dsv_certcheck.specs.Checks.{invariant_check, depth_check, gain_check};
+ghost use Rattle.dsv_certcheck.specs.Checks.{falls_check, offer_check};
 ghost use Rattle.dsv_certcheck.specs.Shown.{Has, IsShownOf, IsFalling};
+ghost use Rattle.dsv_certfile.specs.Limits.{most_gain_depth};
 ghost use Rattle.dsv_certfile.specs.Texts.{job_of};
+ghost use Rattle.dsv_gain.specs.Controllers.{NeverOverflows};
 
 use crate::check_refusal::CheckRefusal;
 use crate::checked_logs::{check_run, check_set};
 use crate::line_numbers::{KIND_LINE, form_line};
-use dsv_certfile::{Certificate, CheckFault, Job, MOST_JOB_SAMPLES, Size};
+use dsv_certfile::{
+    Certificate, CertifiedJob, CheckFault, MOST_GAIN_DEPTH, MOST_JOB_SAMPLES, Size,
+};
 use dsv_forms::{Falls, Poly, check_falls};
+use dsv_gain::{Outlook, overflow_gain};
 use dsv_hints::Log;
 use dsv_names::{Property, RunProperty};
 use dsv_quantiser::{Quantised, quantise_in};
@@ -25,14 +31,19 @@ const MISFIT: CheckRefusal = CheckRefusal::Line {
 };
 
 /// Checks that a log shows the property of a job.
-fn check_hints(alloc: Global, q: &Quantised, job: &Job, log: &Log) -> Result<(), CheckRefusal>
-    ensures found { Finds result (hints_check q.now job.now.property job.now.size log.now) }
-    ensures shows { OnOk result (Has q.now job.now.property job.now.size) }
+fn check_hints(
+    alloc: Global,
+    quantised: &Quantised,
+    job: &CertifiedJob,
+    log: &Log,
+) -> Result<(), CheckRefusal>
+    ensures found { Finds result (hints_check quantised.now job.now.property job.now.size log.now) }
+    ensures shows { OnOk result (Has quantised.now job.now.property job.now.size) }
 {
     match (job.property, job.size) {
         (Property::OfRuns(property), Size::Samples(samples))
             if 1 <= samples && samples <= MOST_JOB_SAMPLES => {
-            check_run(alloc, q, property, samples, log)
+            check_run(alloc, quantised, property, samples, log)
         }
         (_, _) => Err(MISFIT),
     }
@@ -41,18 +52,52 @@ fn check_hints(alloc: Global, q: &Quantised, job: &Job, log: &Log) -> Result<(),
 /// Checks that a set shows the property of a job.
 fn check_invariant(
     alloc: Global,
-    q: &Quantised,
-    job: &Job,
+    quantised: &Quantised,
+    job: &CertifiedJob,
     candidate: &Candidate,
     logs: &ThreeLogs,
 ) -> Result<(), CheckRefusal>
     ensures found { Finds result
-        (invariant_check q.now job.now.property job.now.size candidate.now logs.now) }
-    ensures shows { OnOk result (Has q.now job.now.property job.now.size) }
+        (invariant_check quantised.now job.now.property job.now.size candidate.now logs.now) }
+    ensures shows { OnOk result (Has quantised.now job.now.property job.now.size) }
 {
     match (job.property, job.size) {
         (Property::OfRuns(RunProperty::Overflow), Size::Unbounded) => {
-            check_set(alloc, q, candidate, logs)
+            check_set(alloc, quantised, candidate, logs)
+        }
+        (_, _) => Err(MISFIT),
+    }
+}
+
+/// Checks that the ranges of all exact values are ones of words at a depth or before it.
+fn check_depth(alloc: Global, quantised: &Quantised, depth: u32) -> Result<(), CheckRefusal>
+    requires { depth ≤ most_gain_depth }
+    ensures found { Finds result (depth_check quantised.now depth) }
+    ensures shows { OnOk result (NeverOverflows quantised.now) }
+{
+    match overflow_gain(alloc, quantised, depth + 1)? {
+        Outlook::Safe(_) => Ok(()),
+        Outlook::Leaves { .. } | Outlook::Deep => Err(CheckRefusal::Line {
+            line: KIND_LINE,
+            fault: CheckFault::Gain,
+        }),
+    }
+}
+
+/// Checks that a depth shows the property of a job.
+fn check_gain(
+    alloc: Global,
+    quantised: &Quantised,
+    job: &CertifiedJob,
+    depth: u32,
+) -> Result<(), CheckRefusal>
+    ensures found { Finds result
+        (gain_check quantised.now job.now.property job.now.size depth) }
+    ensures shows { OnOk result (Has quantised.now job.now.property job.now.size) }
+{
+    match (job.property, job.size) {
+        (Property::OfRuns(RunProperty::Overflow), Size::Unbounded) if depth <= MOST_GAIN_DEPTH => {
+            check_depth(alloc, quantised, depth)
         }
         (_, _) => Err(MISFIT),
     }
@@ -76,12 +121,15 @@ fn check_offer(poly: &Poly, offer: &Falls) -> Result<(), CheckRefusal>
 }
 
 /// Checks that a form shows the property of a job.
-fn check_form(q: &Quantised, job: &Job, offer: &Falls) -> Result<(), CheckRefusal>
-    ensures found { result ≡ falls_check q.now job.now.property job.now.size offer.now }
-    ensures shows { OnOk result (Has q.now job.now.property job.now.size) }
+fn check_form(quantised: &Quantised, job: &CertifiedJob, offer: &Falls) -> Result<(), CheckRefusal>
+    ensures found { result ≡ falls_check quantised.now job.now.property job.now.size offer.now }
+    ensures shows { OnOk result (Has quantised.now job.now.property job.now.size) }
 {
     match (job.property, job.size) {
-        (Property::OfRoots(property), Size::NoSize) => match polynomial_of(q, side_of(property))? {
+        (Property::OfRoots(property), Size::NoSize) => match polynomial_of(
+            quantised,
+            side_of(property),
+        )? {
             Tested::Poly(poly) => check_offer(&poly, offer),
             Tested::NoZeros => Err(CheckRefusal::NoZeros),
         },
@@ -89,20 +137,25 @@ fn check_form(q: &Quantised, job: &Job, offer: &Falls) -> Result<(), CheckRefusa
     }
 }
 
-/// Checks a certificate for a controller in words.
-fn check_words(alloc: Global, q: &Quantised, certificate: &Certificate) -> Result<(), CheckRefusal>
-    ensures found { Finds result (words_check q.now certificate.now) }
+/// Checks a certificate for a quantised controller.
+fn check_words(
+    alloc: Global,
+    quantised: &Quantised,
+    certificate: &Certificate,
+) -> Result<(), CheckRefusal>
+    ensures found { Finds result (words_check quantised.now certificate.now) }
     ensures shows { OnOk result
-        (Has q.now (job_of certificate.now).property (job_of certificate.now).size) }
+        (Has quantised.now (job_of certificate.now).property (job_of certificate.now).size) }
 {
     match certificate {
-        Certificate::Hints { job, log } => check_hints(alloc, q, job, log),
+        Certificate::Hints { job, log } => check_hints(alloc, quantised, job, log),
         Certificate::Invariant {
             job,
             candidate,
             logs,
-        } => check_invariant(alloc, q, job, candidate, logs),
-        Certificate::Falls { job, offer } => check_form(q, job, offer),
+        } => check_invariant(alloc, quantised, job, candidate, logs),
+        Certificate::Gain { job, depth } => check_gain(alloc, quantised, job, *depth),
+        Certificate::Falls { job, offer } => check_form(quantised, job, offer),
     }
 }
 
@@ -119,6 +172,6 @@ pub fn check(
     ensures shows { OnOk result (IsShownOf controller.now (job_of certificate.now)) }
 {
     let job = certificate.job();
-    let q = quantise_in(controller, job.design)?;
-    check_words(alloc, &q, certificate)
+    let quantised = quantise_in(controller, job.design)?;
+    check_words(alloc, &quantised, certificate)
 }

@@ -5,7 +5,7 @@ ghost use Rattle.dsv_certcheck.specs.FormLines.{square_line, rest_line, form_lin
 ghost use Rattle.dsv_certcheck.specs.LineNumbers.{log_line};
 ghost use Rattle.dsv_template.specs.declared.verdict.SetPart.TheVariants as part;
 
-use dsv_forms::{Falls, FormRefusal, Part};
+use dsv_forms::{Falls, FormRefusal, OfferPart};
 use dsv_template::{Candidate, SetPart, ThreeLogs};
 
 /// The line of the kind.
@@ -44,13 +44,13 @@ fn places(offer: &Falls) -> u64
 }
 
 /// How many squares a part has.
-fn square_count(offer: &Falls, part: Part) -> u64
+fn square_count(offer: &Falls, part: OfferPart) -> u64
     ensures value { result ≡ square_count offer.now part }
     ensures low { result < 2 ^ 32 }
 {
     match part {
-        Part::Positive => u64::from(offer.positive.count),
-        Part::Fall | Part::Form | Part::Start => u64::from(offer.fall.count),
+        OfferPart::Positive => u64::from(offer.positive.count),
+        OfferPart::Fall | OfferPart::Form | OfferPart::Start => u64::from(offer.fall.count),
     }
 }
 
@@ -67,18 +67,18 @@ fn fall_line(offer: &Falls) -> u64
     ensures value { result ≡ fall_line offer.now }
     ensures low { result < 2 ^ 35 }
 {
-    positive_line(offer) + 1 + square_count(offer, Part::Positive) + places(offer)
+    positive_line(offer) + 1 + square_count(offer, OfferPart::Positive) + places(offer)
 }
 
 /// The line that a part begins with.
-fn part_line(offer: &Falls, part: Part) -> u64
+fn part_line(offer: &Falls, part: OfferPart) -> u64
     ensures value { result ≡ part_line offer.now part }
     ensures low { result < 2 ^ 35 }
 {
     match part {
-        Part::Positive => positive_line(offer),
-        Part::Fall => fall_line(offer),
-        Part::Form | Part::Start => {
+        OfferPart::Positive => positive_line(offer),
+        OfferPart::Fall => fall_line(offer),
+        OfferPart::Form | OfferPart::Start => {
             if offer.form.d == 0 {
                 KIND_LINE
             } else {
@@ -89,14 +89,14 @@ fn part_line(offer: &Falls, part: Part) -> u64
 }
 
 /// The line of a part's square.
-fn square_line(offer: &Falls, part: Part, i: u32) -> u64
+fn square_line(offer: &Falls, part: OfferPart, i: u32) -> u64
     ensures { result ≡ square_line offer.now part i }
 {
     part_line(offer, part) + 1 + u64::from(i)
 }
 
 /// The line of a row of a part's rest.
-fn rest_line(offer: &Falls, part: Part, i: u32) -> u64
+fn rest_line(offer: &Falls, part: OfferPart, i: u32) -> u64
     ensures { result ≡ rest_line offer.now part i }
 {
     part_line(offer, part) + 1 + square_count(offer, part) + u64::from(i)

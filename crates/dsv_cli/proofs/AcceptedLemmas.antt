@@ -3,7 +3,7 @@ use Rattle.std.proofs.Common.{◌≡◌, ◌∙◌, inl, inr, sym, ap, subst, re
 use Rattle.std.specs.Prelude.{Some, Result, Ok, Err}
 use Rattle.dsv_base.specs.Seen.{FilesSeen}
 use Rattle.dsv_reader.specs.Controllers.{ControllerView}
-use Rattle.dsv_quantiser.specs.FixedPoint.{FixedPoint}
+use Rattle.dsv_quantiser.specs.QuantisedView.{QuantisedView}
 use Rattle.dsv_quantiser.specs.declared.refusal.QuantRefusal.{QuantRefusal}
 use Rattle.dsv_certfile.specs.Lawful.{certificate_alone}
 use Rattle.dsv_certfile.specs.Reading.{certificate_in}
@@ -11,7 +11,7 @@ use Rattle.dsv_certfile.specs.Texts.{job_of, certificate_text}
 use Rattle.dsv_certfile.specs.declared.certificate.Certificate.{Certificate}
 use Rattle.dsv_certfile.specs.declared.fault.CertRefusal.{CertRefusal}
 use Rattle.dsv_certfile.specs.declared.fault.CheckFault.{CheckFault}
-use Rattle.dsv_certfile.specs.declared.job.Job.{Job}
+use Rattle.dsv_certfile.specs.declared.job.CertifiedJob.{CertifiedJob}
 use Rattle.dsv_certfile.proofs.WrittenCertificates.{written_is_read}
 use Rattle.dsv_certcheck.specs.Checks.{Checked, words_check, BecomesFor, IsFoundOf, IsChecked}
 use Rattle.dsv_certcheck.specs.declared.check_refusal.CheckRefusal.{CheckRefusal}
@@ -28,28 +28,28 @@ use Rattle.dsv_cli.proofs.CertifiedWords.{Fits, certificate_fits}
 use Rattle.dsv_cli.proofs.OneAnswerStages.{Stage, long, faulty, refused, in_words, IsStage, one_stage}
 
 -- ---- the words of the certificate's job
-accepted_of : (bytes : List ℕ) (controller : ControllerView) (job : Job) (o : Result FixedPoint QuantRefusal) → IsController bytes controller → BecomesFor controller job o
+accepted_of : (bytes : List ℕ) (controller : ControllerView) (job : CertifiedJob) (o : Result QuantisedView QuantRefusal) → IsController bytes controller → BecomesFor controller job o
     → IsAccepted job.design bytes o
 accepted_of bytes controller job o a b = record { short = a.short; controller = controller; text = a.text; becomes = b }
 
-same_words : (a b : ControllerView) (v w : FixedPoint) → in_words a v ≡ in_words b w → v ≡ w
+same_words : (a b : ControllerView) (v w : QuantisedView) → in_words a v ≡ in_words b w → v ≡ w
 same_words a b v w e = cc
 
 abbrev IsInWords : Stage → Type 0
-IsInWords (in_words a words) = Unit {0}
+IsInWords (in_words a quantised) = Unit {0}
 IsInWords other = ⊥
 
 -- the file comes to words in the realisation and modes of the certificate's job, whatever else is said of it
 comes_to_words : (bytes : List ℕ) (c : Certificate) (s : Stage) → Fits bytes c → IsStage (job_of c).design bytes s → IsInWords s
 comes_to_words bytes c s f h =
-    subst IsInWords (one_stage (job_of c).design bytes (in_words f.accepted.controller f.words) s (f.accepted, refl) h) tt
+    subst IsInWords (one_stage (job_of c).design bytes (in_words f.accepted.controller f.quantised) s (f.accepted, refl) h) tt
 
 -- ---- what the check finds
 finds_nothing : (bytes : List ℕ) (c : Certificate) (controller : ControllerView) (found : Checked) → Fits bytes c → IsController bytes controller → IsFoundOf controller c found → Ok tt ≡ found
 finds_nothing bytes c controller found f a k =
-    let b = accepted_of bytes controller (job_of c) (Ok k.words) a k.becomes in
-    let stage = one_stage (job_of c).design bytes (in_words f.accepted.controller f.words) (in_words b.controller k.words) (f.accepted, refl) (b, refl) in
-    sym f.passes ∙ ap (λ q. words_check q c) (same_words f.accepted.controller b.controller f.words k.words stage) ∙ k.checked
+    let b = accepted_of bytes controller (job_of c) (Ok k.quantised) a k.becomes in
+    let stage = one_stage (job_of c).design bytes (in_words f.accepted.controller f.quantised) (in_words b.controller k.quantised) (f.accepted, refl) (b, refl) in
+    sym f.passes ∙ ap (λ q. words_check q c) (same_words f.accepted.controller b.controller f.quantised k.quantised stage) ∙ k.checked
 
 never_refused : (bytes : List ℕ) (c : Certificate) (controller : ControllerView) (why : CheckRefusal) → Fits bytes c → IsController bytes controller → IsFoundOf controller c (Err why) → ⊥
 never_refused bytes c controller why f a k = let e : Ok tt ≡ Err why = finds_nothing bytes c controller (Err why) f a k in cc

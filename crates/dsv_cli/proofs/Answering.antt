@@ -3,7 +3,7 @@ use Rattle.std.proofs.Common.{◌≡◌, refl, ℕ}
 use Rattle.std.specs.Prelude.{◌↔◌, Result, Ok, Err, IfOk}
 use Rattle.dsv_names.specs.declared.property.RunProperty.{RunProperty}
 use Rattle.dsv_names.specs.declared.property.RunProperty.TheVariants as run
-use Rattle.dsv_quantiser.specs.FixedPoint.{FixedPoint}
+use Rattle.dsv_quantiser.specs.QuantisedView.{QuantisedView}
 use Rattle.dsv_cnf.specs.Formula.{IsSatisfiable}
 use Rattle.dsv_cnf.specs.FormulaView.{FormulaView}
 use Rattle.dsv_hints.specs.Lessons.{IsRefutation, IsSpent}
@@ -17,12 +17,13 @@ use Rattle.dsv_bounded.specs.declared.refusals.BoundedRefusal.TheVariants as ref
 use Rattle.dsv_bounded.specs.Refusals.{IsSized}
 use Rattle.dsv_bounded.specs.Formulas.{overflow_formula_of, cycle_formula_of, job_size_of}
 use Rattle.dsv_bounded.specs.RunQuestions.{Happens, question_formula}
-use Rattle.dsv_bounded.specs.Verdicts.{BreaksWithin, CyclesWithin, IsTrace, IsCycle}
+use Rattle.dsv_bounded.specs.Verdicts.{BreaksWithin, CyclesWithin, IsCycle}
+use Rattle.dsv_meaning.specs.Traces.{IsTrace}
 use Rattle.dsv_cli.specs.Answering.{formula_outcome, overflow_outcome, cycle_outcome}
 use Rattle.dsv_cli.specs.Causes.{IsOfFormula, IsOfSearch, IsPlain}
 
 -- ---- formulas
-pub formula_written : (p : RunProperty) (k : ℕ) (q : FixedPoint) (found : Result FormulaView BoundedRefusal) → IsSized (job_size_of q k) found
+pub formula_written : (p : RunProperty) (k : ℕ) (q : QuantisedView) (found : Result FormulaView BoundedRefusal) → IsSized (job_size_of q k) found
     → IfOk found (λ f. f ≡ question_formula p q k) → IfOk found (λ f. IsSatisfiable f.clauses ↔ Happens p q k) → IsOfFormula p k q (formula_outcome found)
 formula_written p k q (Ok f) s e t = record { within = s; formula_of = e; tells = t }
 formula_written p k q (Err (refusal.JobSize n)) s e t = record { size_of = s.0; large = rw s.0 s.1 }
@@ -33,7 +34,7 @@ formula_plain (Ok f) = tt
 formula_plain (Err why) = tt
 
 -- ---- searches
-pub overflow_searched : (k c : ℕ) (q : FixedPoint) (found : Result (Searched Trace) BoundedRefusal) → IsSized (job_size_of q k) found
+pub overflow_searched : (k c : ℕ) (q : QuantisedView) (found : Result (Searched Trace) BoundedRefusal) → IsSized (job_size_of q k) found
     → IfOk found (IfNever (λ log. BreaksWithin q k → ⊥)) → IfOk found (IfNever (IsRefutation (overflow_formula_of q k) c))
     → IfOk found (IfHappens (IsTrace q k)) → IfOk found (IfSpent (IsSpent (overflow_formula_of q k) c))
     → IsOfSearch run.Overflow k c q (overflow_outcome found)
@@ -43,7 +44,7 @@ overflow_searched k c q (Ok (searched.Spent log)) s n r t g = record { within = 
 overflow_searched k c q (Err (refusal.JobSize size)) s n r t g = record { size_of = s.0; large = rw s.0 s.1 }
 overflow_searched k c q (Err refusal.NoMemory) s n r t g = tt
 
-pub cycle_searched : (k c : ℕ) (q : FixedPoint) (found : Result (Searched Cycle) BoundedRefusal) → IsSized (job_size_of q k) found
+pub cycle_searched : (k c : ℕ) (q : QuantisedView) (found : Result (Searched Cycle) BoundedRefusal) → IsSized (job_size_of q k) found
     → IfOk found (IfNever (λ log. CyclesWithin q k → ⊥)) → IfOk found (IfNever (IsRefutation (cycle_formula_of q k) c))
     → IfOk found (IfHappens (IsCycle q k)) → IfOk found (IfSpent (IsSpent (cycle_formula_of q k) c))
     → IsOfSearch run.LimitCycle k c q (cycle_outcome found)

@@ -1,5 +1,5 @@
 -- The certificate of an answer passes its check for the words that the job's controller becomes.
-use Rattle.std.proofs.Common.{◌≡◌, ◌∙◌, sym, ap, subst, refl, ℕ, Bool, true, false, List, if◌then◌else◌}
+use Rattle.std.proofs.Common.{◌≡◌, ◌∙◌, sym, ap, subst, refl, ℕ, ◌≤◌, Bool, true, false, List, if◌then◌else◌, arith}
 use Rattle.std.specs.Prelude.{Option, Some, None, Ok}
 use Rattle.std.proofs.Math.IntN.{ℤ}
 use Rattle.dsv_base.specs.Seen.{FilesSeen}
@@ -7,7 +7,7 @@ use Rattle.dsv_names.specs.declared.property.Property.TheVariants.{OfRuns, OfRoo
 use Rattle.dsv_names.specs.declared.property.RunProperty.{RunProperty}
 use Rattle.dsv_names.specs.declared.property.RunProperty.TheVariants.{Overflow}
 use Rattle.dsv_names.specs.declared.property.RootProperty.{RootProperty}
-use Rattle.dsv_quantiser.specs.FixedPoint.{FixedPoint}
+use Rattle.dsv_quantiser.specs.QuantisedView.{QuantisedView}
 use Rattle.dsv_forms.specs.declared.offers.Form.{Form}
 use Rattle.dsv_forms.specs.declared.offers.Falls.{Falls}
 use Rattle.dsv_hints.specs.declared.step.Step.{Step}
@@ -26,24 +26,29 @@ use Rattle.dsv_certfile.specs.Typed.{IsTyped}
 use Rattle.dsv_certfile.specs.declared.certificate.Certificate.{Certificate}
 use Rattle.dsv_certfile.specs.declared.certificate.Certificate.TheVariants as certificate
 use Rattle.dsv_certfile.specs.declared.job.Size.TheVariants as size
-use Rattle.dsv_certfile.proofs.LawfulWritten.{hints_are_lawful, invariant_is_lawful, falls_are_lawful, falls_text}
+use Rattle.dsv_certfile.proofs.LawfulWritten.{hints_are_lawful, invariant_is_lawful, gain_is_lawful, falls_are_lawful, falls_text}
+use Rattle.dsv_certfile.specs.Limits.{most_gain_depth}
 use Rattle.dsv_certcheck.specs.Checks.{words_check}
-use Rattle.dsv_certcheck.proofs.Passing.{hints_pass, invariant_passes, falls_pass}
-use Rattle.dsv_command.specs.Jobs.{Task, decides, searches, seeks_set, Asked}
+use Rattle.dsv_certcheck.proofs.Passing.{hints_pass, invariant_passes, gain_passes, falls_pass}
+use Rattle.dsv_command.specs.Jobs.{Task, decides, searches, seeks_set, measures_gain, Asked}
 use Rattle.dsv_names.specs.declared.design.Design.{Design}
 use Rattle.dsv_report.specs.Output.{job_with, certificate_for, certificate_of}
 use Rattle.dsv_report.specs.declared.answers.Answer.{Answer}
 use Rattle.dsv_report.specs.declared.answers.Answer.TheVariants as answer
-use Rattle.dsv_cli.specs.Headline.{IsAccepted, IsTested, IsSearch, IsSeeking, ShowsFall, IsRow}
+use Rattle.dsv_gain.specs.declared.outlook.Gain.{Gain}
+use Rattle.dsv_gain.proofs.Depths.{gains_again, gain_below}
+use Rattle.dsv_realise.specs.Netlists.{net_of}
+use Rattle.dsv_cli.specs.Headline.{IsAccepted, IsTested, IsSearch, IsSeeking, IsMeasuring, ShowsFall, IsRow}
+use Rattle.dsv_cli.specs.Gain.{most_gain_samples, IsGainOf}
 use Rattle.dsv_bounded.specs.RunAnswers.{NeverHappens}
 use Rattle.dsv_cli.specs.Sets.{KeepsTo}
 use Rattle.dsv_cli.proofs.Told.{of_told}
 
 -- The bytes are the text of a controller, which in the realisation and modes of the certificate's job becomes words for which the certificate passes its check.
 pub record Fits (bytes : List ℕ) (c : Certificate) : Type 0 where
-  pub words : FixedPoint
-  pub accepted : IsAccepted (job_of c).design bytes (Ok words)
-  pub passes : words_check words c ≡ Ok tt
+  pub quantised : QuantisedView
+  pub accepted : IsAccepted (job_of c).design bytes (Ok quantised)
+  pub passes : words_check quantised c ≡ Ok tt
 
 -- With its places alone the certificate passes its check and is read back from its text.
 pub record IsAcceptable (bytes : List ℕ) (c : Certificate) : Type 0 where
@@ -56,11 +61,11 @@ pub record IsAcceptable (bytes : List ℕ) (c : Certificate) : Type 0 where
 abbrev hints_for : Design → RunProperty → ℕ → List Step → Certificate
 hints_for design p samples log = certificate.Hints (job_with design (OfRuns p) (size.Samples samples)) log
 
-hints_fit : (bytes : List ℕ) (job : Asked) (p : RunProperty) (samples conflicts : ℕ) (words : FixedPoint) (log : List Step) → IsSearch job bytes p samples conflicts words
-    → NeverHappens p samples conflicts words log → IsTyped (hints_for job.design p samples log) → IsAcceptable bytes (hints_for job.design p samples log)
-hints_fit bytes job p samples conflicts words log s n t = record {
-  fits = record { words = words; accepted = s.accepted; passes = hints_pass words p samples log t.size n.within n.refuted.accepted };
-  lawful = hints_are_lawful (question_formula p words samples) conflicts (job_with job.design (OfRuns p) (size.Samples samples)) log refl t n.refuted;
+hints_fit : (bytes : List ℕ) (job : Asked) (p : RunProperty) (samples conflicts : ℕ) (quantised : QuantisedView) (log : List Step) → IsSearch job bytes p samples conflicts quantised
+    → NeverHappens p samples conflicts quantised log → IsTyped (hints_for job.design p samples log) → IsAcceptable bytes (hints_for job.design p samples log)
+hints_fit bytes job p samples conflicts quantised log s n t = record {
+  fits = record { quantised = quantised; accepted = s.accepted; passes = hints_pass quantised p samples log t.size n.within n.refuted.accepted };
+  lawful = hints_are_lawful (question_formula p quantised samples) conflicts (job_with job.design (OfRuns p) (size.Samples samples)) log refl t n.refuted;
   text = refl;
   job = refl;
 }
@@ -68,15 +73,31 @@ hints_fit bytes job p samples conflicts words log s n t = record {
 abbrev invariant_for : Design → Candidate → ThreeLogs → Certificate
 invariant_for design candidate logs = certificate.Invariant (job_with design (OfRuns Overflow) size.Unbounded) candidate logs
 
-invariant_fits : (bytes : List ℕ) (job : Asked) (conflicts : ℕ) (words : FixedPoint) (candidate : Candidate) (logs : ThreeLogs) → IsSeeking job bytes conflicts words
-    → KeepsTo words conflicts candidate logs → IsTyped (invariant_for job.design candidate logs) → IsAcceptable bytes (invariant_for job.design candidate logs)
-invariant_fits bytes job conflicts words candidate logs s k t = record {
-  fits = record { words = words; accepted = s.accepted; passes = invariant_passes words conflicts candidate logs k.within k.good.0 k.good.1 };
-  lawful = invariant_is_lawful (registers_of words.realisation (order words)) conflicts (set_formula_of words candidate part.Base) (set_formula_of words candidate part.Step) (set_formula_of words candidate part.Safe)
+invariant_fits : (bytes : List ℕ) (job : Asked) (conflicts : ℕ) (quantised : QuantisedView) (candidate : Candidate) (logs : ThreeLogs) → IsSeeking job bytes conflicts quantised
+    → KeepsTo quantised conflicts candidate logs → IsTyped (invariant_for job.design candidate logs) → IsAcceptable bytes (invariant_for job.design candidate logs)
+invariant_fits bytes job conflicts quantised candidate logs s k t = record {
+  fits = record { quantised = quantised; accepted = s.accepted; passes = invariant_passes quantised conflicts candidate logs k.within k.good.0 k.good.1 };
+  lawful = invariant_is_lawful (registers_of quantised.realisation (order quantised)) conflicts (set_formula_of quantised candidate part.Base) (set_formula_of quantised candidate part.Step) (set_formula_of quantised candidate part.Safe)
       (job_with job.design (OfRuns Overflow) size.Unbounded) candidate logs refl t k.good.0 (record { of_base = k.good.1.base; of_step = k.good.1.step; of_safe = k.good.1.safe });
   text = refl;
   job = refl;
 }
+
+abbrev gain_for : Design → ℕ → Certificate
+gain_for design depth = certificate.Gain (job_with design (OfRuns Overflow) size.Unbounded) depth
+
+gain_fits : (bytes : List ℕ) (job : Asked) (quantised : QuantisedView) (gain : Gain) → IsMeasuring job bytes quantised → IsGainOf quantised gain
+    → IsTyped (gain_for job.design gain.depth) → IsAcceptable bytes (gain_for job.design gain.depth)
+gain_fits bytes job quantised gain s k t =
+    let below = gain_below (net_of quantised) quantised.xlo quantised.xhi most_gain_samples gain k.found in
+    let again = gains_again (net_of quantised) quantised.xlo quantised.xhi most_gain_samples gain k.found in
+    let deep : gain.depth ≤ most_gain_depth = omega (arith, below) in
+    record {
+      fits = record { quantised = quantised; accepted = s.accepted; passes = gain_passes quantised gain.depth again.0 deep again.1 };
+      lawful = gain_is_lawful (job_with job.design (OfRuns Overflow) size.Unbounded) gain.depth refl t deep;
+      text = refl;
+      job = refl;
+    }
 
 abbrev falls_for : Design → RootProperty → Falls → Certificate
 falls_for design p offer = certificate.Falls (job_with design (OfRoots p) size.NoSize) offer
@@ -87,9 +108,9 @@ falls_fit bytes job poly offer fall t s known =
     let certified = job_with job.design (OfRoots t.property) size.NoSize in
     record {
       fits = record {
-        words = t.words;
+        quantised = t.quantised;
         accepted = t.accepted;
-        passes = falls_pass t.words t.property poly (offer_alone offer) t.tested (accepted_alone poly offer known.places s.accepted);
+        passes = falls_pass t.quantised t.property poly (offer_alone offer) t.tested (accepted_alone poly offer known.places s.accepted);
       };
       lawful = falls_are_lawful poly certified offer refl known s.accepted;
       text = falls_text poly certified offer known s.accepted;
@@ -117,6 +138,7 @@ of_task job task found c d t k e =
 abbrev HasCertificate : Answer → Type 0
 HasCertificate (answer.Never log) = Unit {0}
 HasCertificate (answer.Always candidate logs) = Unit {0}
+HasCertificate (answer.InRanges gain) = Unit {0}
 HasCertificate (answer.Falls poly offer fall) = Unit {0}
 HasCertificate other = ⊥
 
@@ -126,10 +148,12 @@ no_certificate c e = cc
 has_certificate : (design : Design) (task : Task) (found : Answer) (c : Certificate) → certificate_for design task found ≡ Some c → HasCertificate found
 has_certificate design task (answer.Never log) c e = tt
 has_certificate design task (answer.Always candidate logs) c e = tt
+has_certificate design task (answer.InRanges gain) c e = tt
 has_certificate design task (answer.Falls poly offer fall) c e = tt
 has_certificate design (searches p samples conflicts) found c e = no_certificate c e
 has_certificate design (seeks_set conflicts) found c e = no_certificate c e
-has_certificate design (decides p) found c e = no_certificate c e
+has_certificate design measures_gain found c e = no_certificate c e
+has_certificate design (decides p sc) found c e = no_certificate c e
 has_certificate design task found c e = no_certificate c e
 
 pub certificate_fits : (bytes : List ℕ) (old new : FilesSeen) (job : Asked) (found : Answer) (c : Certificate) → IsRow (Some bytes) old new job (Ok found) → certificate_of job found ≡ Some c → IsTyped c
@@ -144,9 +168,14 @@ certificate_fits bytes old new job (answer.Always candidate logs) c row e known 
     let d = invariant_for job.design candidate logs in
     let is : d ≡ c = of_task job (seeks_set t.0) (answer.Always candidate logs) c d t.2.task refl e in
     subst (IsAcceptable bytes) is (invariant_fits bytes job t.0 t.1 candidate logs t.2 t.3 (subst IsTyped (sym is) known))
+certificate_fits bytes old new job (answer.InRanges gain) c row e known =
+    let t = of_told _ bytes row.comes_from in
+    let d = gain_for job.design gain.depth in
+    let is : d ≡ c = of_task job measures_gain (answer.InRanges gain) c d t.1.task refl e in
+    subst (IsAcceptable bytes) is (gain_fits bytes job t.0 gain t.1 t.2 (subst IsTyped (sym is) known))
 certificate_fits bytes old new job (answer.Falls poly offer fall) c row e known =
     let t = of_told _ bytes row.comes_from in
     let d = falls_for job.design t.property offer in
-    let is : d ≡ c = of_task job (decides t.property) (answer.Falls poly offer fall) c d t.task refl e in
+    let is : d ≡ c = of_task job (decides t.property t.schur_cohn) (answer.Falls poly offer fall) c d t.task refl e in
     subst (IsAcceptable bytes) is (falls_fit bytes job poly offer fall t row.shows (subst IsTyped (sym is) known))
 certificate_fits bytes old new job found c row e known = absurd (has_certificate job.design job.task found c (certificate_of_task job found c e))

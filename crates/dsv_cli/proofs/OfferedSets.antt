@@ -4,7 +4,7 @@ use Rattle.std.specs.List.{All, Contains}
 use Rattle.std.proofs.Math.IntN.{ℤ}
 use Rattle.std.proofs.lemmas.List.Elements.{All-append, All-cons, All-nil}
 use Rattle.dsv_meaning.specs.Systems.{equations_of}
-use Rattle.dsv_quantiser.specs.FixedPoint.{FixedPoint}
+use Rattle.dsv_quantiser.specs.QuantisedView.{QuantisedView}
 use Rattle.std.proofs.lemmas.Option.{get_or_from_slice_get, slice_get_within}
 use Rattle.dsv_system.specs.Breaks.{IsInside, IsFirstBreak}
 use Rattle.dsv_system.specs.Systems.{rows}
@@ -19,10 +19,10 @@ use Rattle.dsv_cli.specs.Blocks.{AreBlocks}
 use Rattle.dsv_cli.proofs.Blocks.{stands}
 
 -- ---- one more candidate
-pub not_good-pushed : (words : FixedPoint) (conflicts : ℕ) (old new : List KeptSet) (k : KeptSet) → new ≡ old ++ k ∷ [] → All (IsNotGood words conflicts) old → IsNotGood words conflicts k
-    → All (IsNotGood words conflicts) new
-not_good-pushed words conflicts old new k e a h =
-    let P = IsNotGood words conflicts in
+pub not_good-pushed : (quantised : QuantisedView) (conflicts : ℕ) (old new : List KeptSet) (k : KeptSet) → new ≡ old ++ k ∷ [] → All (IsNotGood quantised conflicts) old → IsNotGood quantised conflicts k
+    → All (IsNotGood quantised conflicts) new
+not_good-pushed quantised conflicts old new k e a h =
+    let P = IsNotGood quantised conflicts in
     subst (All P) (sym e) (All-append P old (k ∷ []) a (All-cons P k [] h (All-nil P)))
 
 candidates-append : (old : List KeptSet) (k : KeptSet) (rest : List Candidate) → candidates (old ++ k ∷ []) ++ rest ≡ candidates old ++ k.candidate ∷ rest
@@ -66,34 +66,34 @@ not_false : (b : _) → b ≡ true → b ≡ false → ⊥
 not_false b h k = cc
 
 -- an exact value that is no word isn't in rows without one
-first_or_none : (words : FixedPoint) (start : List ℤ) (input : ℤ) (value : ℕ) (exact : ℤ) → IsFirstBreak words.format (rows (equations_of words) start (input ∷ [])) 0 value exact
-    → All (IsInside words.format) (rows (equations_of words) start (input ∷ [])) → ⊥
-first_or_none words start input value exact f a =
-    let all = rows (equations_of words) start (input ∷ []) in
-    let inside : IsInside words.format f.row = of_row (IsInside words.format) all 0 f.row f.here a in
-    f.outside (of_row (IsWord words.format) f.row.exact value exact f.first inside)
+first_or_none : (quantised : QuantisedView) (start : List ℤ) (input : ℤ) (value : ℕ) (exact : ℤ) → IsFirstBreak quantised.format (rows (equations_of quantised) start (input ∷ [])) 0 value exact
+    → All (IsInside quantised.format) (rows (equations_of quantised) start (input ∷ [])) → ⊥
+first_or_none quantised start input value exact f a =
+    let all = rows (equations_of quantised) start (input ∷ []) in
+    let inside : IsInside quantised.format f.row = of_row (IsInside quantised.format) all 0 f.row f.here a in
+    f.outside (of_row (IsWord quantised.format) f.row.exact value exact f.first inside)
 
-refused_only_by_giving_up : (words : FixedPoint) (conflicts : ℕ) (c : Candidate) (found : Why) → IsGoodSet words c → IsCause words conflicts c found → (IsGoodCause found → ⊥) → GaveUpOn found
-refused_only_by_giving_up words conflicts c (why.Good logs) g h n = absurd (n tt)
-refused_only_by_giving_up words conflicts c (why.Base inputs) g h n = let l = h.1 in absurd (l.outside (g.kept.begins inputs l.few l.in_range))
-refused_only_by_giving_up words conflicts c (why.Leaves start inputs) g h n =
+refused_only_by_giving_up : (quantised : QuantisedView) (conflicts : ℕ) (c : Candidate) (found : Why) → IsGoodSet quantised c → IsCause quantised conflicts c found → (IsGoodCause found → ⊥) → GaveUpOn found
+refused_only_by_giving_up quantised conflicts c (why.Good logs) g h n = absurd (n tt)
+refused_only_by_giving_up quantised conflicts c (why.Base inputs) g h n = let l = h.1 in absurd (l.outside (g.kept.begins inputs l.few l.in_range))
+refused_only_by_giving_up quantised conflicts c (why.Leaves start inputs) g h n =
     let l = h.1.1 in absurd (l.outside (g.kept.stays start inputs l.state l.many l.in_range l.inside))
-refused_only_by_giving_up words conflicts c (why.Unsafe start input value exact) g h n =
+refused_only_by_giving_up quantised conflicts c (why.Unsafe start input value exact) g h n =
     let u = h.1.1 in
-    absurd (first_or_none words start input value exact u.first (g.kept.safe start input u.state u.inside u.at_least u.at_most))
-refused_only_by_giving_up words conflicts c (why.Spent part log) g h n = tt
-refused_only_by_giving_up words conflicts c why.BadShape g h n = absurd (not_false _ g.shaped h)
+    absurd (first_or_none quantised start input value exact u.first (g.kept.safe start input u.state u.inside u.at_least u.at_most))
+refused_only_by_giving_up quantised conflicts c (why.Spent part log) g h n = tt
+refused_only_by_giving_up quantised conflicts c why.BadShape g h n = absurd (not_false _ g.shaped h)
 
-of_candidate : (words : FixedPoint) (conflicts : ℕ) (c : Candidate) (k : KeptSet) → k.candidate ≡ c → IsGoodSet words c → IsNotGood words conflicts k → GaveUpOn k.why
-of_candidate words conflicts c k e g h = refused_only_by_giving_up words conflicts k.candidate k.why (subst (IsGoodSet words) (sym e) g) h.cause h.not_good
+of_candidate : (quantised : QuantisedView) (conflicts : ℕ) (c : Candidate) (k : KeptSet) → k.candidate ≡ c → IsGoodSet quantised c → IsNotGood quantised conflicts k → GaveUpOn k.why
+of_candidate quantised conflicts c k e g h = refused_only_by_giving_up quantised conflicts k.candidate k.why (subst (IsGoodSet quantised) (sym e) g) h.cause h.not_good
 
-pub were_offered : (words : FixedPoint) (conflicts : ℕ) (told : List (Option (List Candidate))) (kept : List KeptSet) → AreBlocks 32 told (candidates kept) → All (IsNotGood words conflicts) kept
-    → WereOffered words told kept
-were_offered words conflicts told kept b a = record {
+pub were_offered : (quantised : QuantisedView) (conflicts : ℕ) (told : List (Option (List Candidate))) (kept : List KeptSet) → AreBlocks 32 told (candidates kept) → All (IsNotGood quantised conflicts) kept
+    → WereOffered quantised told kept
+were_offered quantised conflicts told kept b a = record {
   blocks = b;
   complete = λ i cs c e h g.
       let s = stands told i cs (candidates kept) e b in
       let there : Contains (candidates kept) c = subst (λ (l : List Candidate). Contains l c) (sym s.split) (contains-behind s.before (take 32 cs ++ s.behind) c (contains-before (take 32 cs) s.behind c h)) in
       let t = kept_with kept c there in
-      (t.0, t.1, t.2, of_candidate words conflicts c t.0 t.2 g (of_one (IsNotGood words conflicts) kept t.0 a t.1));
+      (t.0, t.1, t.2, of_candidate quantised conflicts c t.0 t.2 g (of_one (IsNotGood quantised conflicts) kept t.0 a t.1));
 }

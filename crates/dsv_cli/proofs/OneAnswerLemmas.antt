@@ -6,7 +6,7 @@ use Rattle.dsv_command.specs.Jobs.{Task, Asked}
 use Rattle.dsv_report.specs.declared.answers.Answer.TheVariants as answer
 use Rattle.dsv_report.specs.declared.stop.Stop.TheVariants as stop
 use Rattle.dsv_report.specs.Stops.{Outcome}
-use Rattle.dsv_quantiser.specs.FixedPoint.{FixedPoint}
+use Rattle.dsv_quantiser.specs.QuantisedView.{QuantisedView}
 use Rattle.dsv_cli.specs.Headline.{IsRow, AsksOver}
 use Rattle.dsv_bounded.specs.RunAnswers.{IsTooLarge}
 use Rattle.dsv_token.specs.declared.refusal.FileRefusal.TheVariants as text
@@ -19,7 +19,7 @@ abbrev IsOfStage : Task → Stage → Outcome → Type 0
 IsOfStage task long found = found ≡ Err stop.FileTooLong
 IsOfStage task (faulty r) found = found ≡ Err (stop.FileRefused r)
 IsOfStage task (refused r) found = found ≡ Err (stop.QuantRefused r)
-IsOfStage task (in_words c words) found = IsAnswerTo c task words found
+IsOfStage task (in_words c quantised) found = IsAnswerTo c task quantised found
 
 record Reaches (job : Asked) (bytes : List ℕ) (found : Outcome) : Type 0 where
   stage : Stage
@@ -27,12 +27,12 @@ record Reaches (job : Asked) (bytes : List ℕ) (found : Outcome) : Type 0 where
   gives : IsOfStage job.task stage found
 
 -- so does a question that is too large, by a search or for its formula
-large_asked : (bytes : List ℕ) (job : Asked) (size k : ℕ) (words : FixedPoint) → AsksOver job bytes k words → IsTooLarge k words size → Reaches job bytes (Err (stop.JobSize size))
-large_asked bytes job size k words (inl t) h = record { stage = in_words t.2.accepted.controller words; reached = (t.2.accepted, refl); gives = rw t.2.task h }
-large_asked bytes job size k words (inr (inr t)) h = record { stage = in_words t.1.accepted.controller words; reached = (t.1.accepted, refl); gives = rw t.1.task (subst (λ n. IsTooLarge n words size) t.2 h) }
-large_asked bytes job size k words (inr (inl t)) h = record { stage = in_words t.1.accepted.controller words; reached = (t.1.accepted, refl); gives = rw t.1.task h }
+large_asked : (bytes : List ℕ) (job : Asked) (size k : ℕ) (quantised : QuantisedView) → AsksOver job bytes k quantised → IsTooLarge k quantised size → Reaches job bytes (Err (stop.JobSize size))
+large_asked bytes job size k quantised (inl t) h = record { stage = in_words t.2.accepted.controller quantised; reached = (t.2.accepted, refl); gives = rw t.2.task h }
+large_asked bytes job size k quantised (inr (inr t)) h = record { stage = in_words t.1.accepted.controller quantised; reached = (t.1.accepted, refl); gives = rw t.1.task (subst (λ n. IsTooLarge n quantised size) t.2 h) }
+large_asked bytes job size k quantised (inr (inl t)) h = record { stage = in_words t.1.accepted.controller quantised; reached = (t.1.accepted, refl); gives = rw t.1.task h }
 
-large_by : (bytes : List ℕ) (job : Asked) (size : ℕ) → ((n : ℕ) × (w : FixedPoint) × AsksOver job bytes n w × IsTooLarge n w size) → Reaches job bytes (Err (stop.JobSize size))
+large_by : (bytes : List ℕ) (job : Asked) (size : ℕ) → ((n : ℕ) × (w : QuantisedView) × AsksOver job bytes n w × IsTooLarge n w size) → Reaches job bytes (Err (stop.JobSize size))
 large_by bytes job size t = large_asked bytes job size t.0 t.1 t.2 t.3
 
 -- the bytes that came are those of the file
@@ -43,28 +43,37 @@ along {job} {found} e r = subst (λ bytes. Reaches job bytes found) e r
 reached_by : (bytes : List ℕ) (old new : FilesSeen) (job : Asked) (found : Outcome) → IsSettled found → IsRow (Some bytes) old new job found → Reaches job bytes found
 reached_by bytes old new job (Ok (answer.Falls poly offer fall)) s h =
     let t = h.comes_from.2 in
-    along h.comes_from.1 (record { stage = in_words t.accepted.controller t.words; reached = (t.accepted, refl); gives = rw t.task (t.tested, h.shows) })
+    along h.comes_from.1 (record { stage = in_words t.accepted.controller t.quantised; reached = (t.accepted, refl); gives = rw t.task (t.tested, h.shows) })
 reached_by bytes old new job (Ok (answer.KeptAway poly offer fall value)) s h =
     let t = h.comes_from.2 in
-    along h.comes_from.1 (record { stage = in_words t.accepted.controller t.words; reached = (t.accepted, refl); gives = rw t.task (t.tested, h.shows) })
+    along h.comes_from.1 (record { stage = in_words t.accepted.controller t.quantised; reached = (t.accepted, refl); gives = rw t.task (t.tested, h.shows) })
 reached_by bytes old new job (Ok answer.NoZeros) s h =
     let t = h.comes_from.2 in
-    along h.comes_from.1 (record { stage = in_words t.accepted.controller t.words; reached = (t.accepted, refl); gives = rw t.task t.tested })
+    along h.comes_from.1 (record { stage = in_words t.accepted.controller t.quantised; reached = (t.accepted, refl); gives = rw t.task t.tested })
 reached_by bytes old new job (Ok (answer.Wide index)) s h =
     let t = h.comes_from.2 in
-    along h.comes_from.1 (record { stage = in_words t.accepted.controller t.words; reached = (t.accepted, refl); gives = rw t.task t.tested })
+    along h.comes_from.1 (record { stage = in_words t.accepted.controller t.quantised; reached = (t.accepted, refl); gives = rw t.task t.tested })
 reached_by bytes old new job (Ok (answer.OnTime report)) s h =
     let t = h.comes_from.2 in
-    along h.comes_from.1 (record { stage = in_words t.accepted.controller t.words; reached = (t.accepted, refl); gives = rw t.task (t.timing, h.shows) })
+    along h.comes_from.1 (record { stage = in_words t.accepted.controller t.quantised; reached = (t.accepted, refl); gives = rw t.task (t.timing, h.shows) })
 reached_by bytes old new job (Ok (answer.Late report)) s h =
     let t = h.comes_from.2 in
-    along h.comes_from.1 (record { stage = in_words t.accepted.controller t.words; reached = (t.accepted, refl); gives = rw t.task (t.timing, h.shows) })
+    along h.comes_from.1 (record { stage = in_words t.accepted.controller t.quantised; reached = (t.accepted, refl); gives = rw t.task (t.timing, h.shows) })
 reached_by bytes old new job (Ok (answer.Never log)) s h =
     let t = h.comes_from.2 in
     along h.comes_from.1 (record { stage = in_words t.4.accepted.controller t.3; reached = (t.4.accepted, refl); gives = rw t.4.task t.5 })
-reached_by bytes old new job (Ok (answer.Overflow trace)) s h =
+reached_by bytes old new job (Ok (answer.InRanges gain)) s h =
+    let t = h.comes_from.2 in
+    along h.comes_from.1 (record { stage = in_words t.1.accepted.controller t.0; reached = (t.1.accepted, refl); gives = rw t.1.task t.2 })
+reached_by bytes old new job (Ok (answer.TooDeep depth)) s h =
+    let t = h.comes_from.2 in
+    along h.comes_from.1 (record { stage = in_words t.1.accepted.controller t.0; reached = (t.1.accepted, refl); gives = rw t.1.task (t.2, t.3) })
+reached_by bytes old new job (Ok (answer.Overflow trace)) s (inl h) =
     let t = h.comes_from.2 in
     along h.comes_from.1 (record { stage = in_words t.3.accepted.controller t.2; reached = (t.3.accepted, refl); gives = rw t.3.task (refl, t.4, t.5) })
+reached_by bytes old new job (Ok (answer.Overflow trace)) s (inr h) =
+    let t = h.comes_from.2 in
+    along h.comes_from.1 (record { stage = in_words t.1.accepted.controller t.0; reached = (t.1.accepted, refl); gives = rw t.1.task t.2 })
 reached_by bytes old new job (Ok (answer.Cycles cycle)) s h =
     let t = h.comes_from.2 in
     along h.comes_from.1 (record { stage = in_words t.3.accepted.controller t.2; reached = (t.3.accepted, refl); gives = rw t.3.task (refl, t.4, t.5) })
@@ -95,7 +104,7 @@ one_of_stage : (task : Task) (stage : Stage) (a b : Outcome) → IsSettled a →
 one_of_stage task long a b x y h k = rw (h, k) refl
 one_of_stage task (faulty r) a b x y h k = rw (h, k) refl
 one_of_stage task (refused r) a b x y h k = rw (h, k) refl
-one_of_stage task (in_words c words) a b x y h k = one_task c task words a b x y h k
+one_of_stage task (in_words c quantised) a b x y h k = one_task c task quantised a b x y h k
 
 pub one_answer : HaveOneAnswer
 one_answer bytes old new then_old then_new job a b x y h k =

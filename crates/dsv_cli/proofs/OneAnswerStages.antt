@@ -5,14 +5,14 @@ use Rattle.dsv_token.specs.declared.refusal.FileRefusal.{FileRefusal}
 use Rattle.dsv_reader.specs.Controllers.{ControllerView}
 use Rattle.dsv_reader.specs.Texts.{IsFaultOf}
 use Rattle.dsv_reader.proofs.TextLaws.{answers_apart, one_design}
-use Rattle.dsv_quantiser.specs.FixedPoint.{FixedPoint}
+use Rattle.dsv_quantiser.specs.QuantisedView.{QuantisedView}
 use Rattle.dsv_quantiser.specs.declared.refusal.QuantRefusal.{QuantRefusal}
 use Rattle.dsv_quantiser.proofs.Modes.{become_one}
 use Rattle.dsv_names.specs.declared.design.Design.{Design}
 use Rattle.dsv_cli.specs.Headline.{longest_file, IsAccepted}
 
 -- ---- stages
-one_outcome : (design : Design) (bytes : List ℕ) (o p : Result FixedPoint QuantRefusal) → IsAccepted design bytes o → IsAccepted design bytes p → o ≡ p
+one_outcome : (design : Design) (bytes : List ℕ) (o p : Result QuantisedView QuantRefusal) → IsAccepted design bytes o → IsAccepted design bytes p → o ≡ p
 one_outcome design bytes o p h k =
     let c = one_design bytes h.controller k.controller h.text k.text in
     become_one h.controller k.controller design o p c h.becomes k.becomes
@@ -22,18 +22,18 @@ pub data Stage : Type 0 where
   long : Stage
   faulty : FileRefusal → Stage
   refused : QuantRefusal → Stage
-  in_words : ControllerView → FixedPoint → Stage
+  in_words : ControllerView → QuantisedView → Stage
 
 abbrev pub IsStage : Design → List ℕ → Stage → Type 0
 IsStage design bytes long = longest_file < length bytes
 IsStage design bytes (faulty r) = (length bytes ≤ longest_file) × IsFaultOf bytes r
 IsStage design bytes (refused r) = IsAccepted design bytes (Err r)
-IsStage design bytes (in_words c words) = (a : IsAccepted design bytes (Ok words)) × (a.controller ≡ c)
+IsStage design bytes (in_words c quantised) = (a : IsAccepted design bytes (Ok quantised)) × (a.controller ≡ c)
 
 too_long : (bytes : List ℕ) → longest_file < length bytes → length bytes ≤ longest_file → ⊥
 too_long bytes h k = omega arith
 
-no_fault : (design : Design) (bytes : List ℕ) (o : Result FixedPoint QuantRefusal) (r : FileRefusal) → IsAccepted design bytes o → IsFaultOf bytes r → ⊥
+no_fault : (design : Design) (bytes : List ℕ) (o : Result QuantisedView QuantRefusal) (r : FileRefusal) → IsAccepted design bytes o → IsFaultOf bytes r → ⊥
 no_fault design bytes o r h f = answers_apart bytes h.controller r h.text f
 
 one_fault : (bytes : List ℕ) (r s : FileRefusal) → IsFaultOf bytes r → IsFaultOf bytes s → faulty r ≡ faulty s

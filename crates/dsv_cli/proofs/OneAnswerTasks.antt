@@ -1,4 +1,4 @@
--- A task for a controller in words has one answer.
+-- A task for a quantised controller has one answer.
 use Rattle.std.proofs.Common.{◌≡◌, ◌∙◌, ◌⊎◌, inl, inr, sym, ap, subst, refl, ℕ, ◌<◌, ◌≤◌, List, Some, take, arith}
 use Rattle.std.specs.Prelude.{IfSome, Result, Ok, Err, Some, slice_get}
 use Rattle.std.specs.List.{All}
@@ -9,7 +9,7 @@ use Rattle.std.proofs.lemmas.Option.{get_or_from_slice_get, slice_get_within}
 use Rattle.dsv_algebra.specs.Vectors.{Vector, vector_of, matrix_of, form_at}
 use Rattle.dsv_word.specs.declared.format.Format.{Format}
 use Rattle.dsv_word.specs.Words.{IsWord}
-use Rattle.dsv_quantiser.specs.FixedPoint.{FixedPoint}
+use Rattle.dsv_quantiser.specs.QuantisedView.{QuantisedView}
 use Rattle.dsv_forms.specs.declared.offers.Form.{Form}
 use Rattle.dsv_forms.specs.declared.offers.Falls.{Falls}
 use Rattle.dsv_forms.specs.declared.offers.KeptAway.{KeptAway}
@@ -21,7 +21,7 @@ use Rattle.dsv_delta.specs.declared.refusal.PolyWide.{PolyWide}
 use Rattle.dsv_tested.specs.Tested.{side_of, tested_of}
 use Rattle.dsv_tested.specs.declared.side.Tested.{Tested}
 use Rattle.dsv_tested.specs.declared.side.Tested.TheVariants as tested
-use Rattle.dsv_command.specs.Jobs.{Task, decides, checks_time, writes, searches, seeks_set, simulates}
+use Rattle.dsv_command.specs.Jobs.{Task, decides, checks_time, writes, searches, seeks_set, measures_gain, simulates}
 use Rattle.dsv_report.specs.declared.answers.Answer.TheVariants as answer
 use Rattle.dsv_report.specs.declared.stop.Stop.TheVariants as stop
 use Rattle.dsv_report.specs.Stops.{Outcome}
@@ -34,7 +34,13 @@ use Rattle.dsv_meaning.specs.declared.replays.Cycle.{Cycle}
 use Rattle.dsv_meaning.specs.declared.replays.Trace.{Trace}
 use Rattle.dsv_unroll.specs.Goals.{most_size}
 use Rattle.dsv_bounded.specs.Formulas.{job_size_of}
-use Rattle.dsv_bounded.specs.Verdicts.{IsTrace, IsCycle}
+use Rattle.dsv_bounded.specs.Verdicts.{IsCycle}
+use Rattle.dsv_gain.specs.Controllers.{outlook_of}
+use Rattle.dsv_gain.specs.declared.outlook.Gain.{Gain}
+use Rattle.dsv_gain.specs.declared.outlook.Outlook.{Outlook}
+use Rattle.dsv_gain.specs.declared.outlook.Outlook.TheVariants as outlook
+use Rattle.dsv_cli.specs.Gain.{most_gain_samples, IsOfGain}
+use Rattle.dsv_meaning.specs.Traces.{IsTrace}
 use Rattle.dsv_bounded.specs.RunQuestions.{Happens}
 use Rattle.dsv_bounded.specs.RunAnswers.{IsTooLarge}
 use Rattle.dsv_bounded.proofs.Verdicts.{trace_breaks, cycle_cycles}
@@ -180,86 +186,86 @@ one_outside format inputs i j v w h k (inl e) =
 one_outside format inputs i j v w h k (inr (inl l)) = absurd (h.outside (before_place (IsWord format) inputs i j v h.there l k.before))
 one_outside format inputs i j v w h k (inr (inr l)) = absurd (k.outside (before_place (IsWord format) inputs j i w k.there l h.before))
 
-one_run : (words : FixedPoint) (inputs : List ℤ) (a b : Outcome) → IsSettled a → IsSettled b → IsOfRun words inputs a → IsOfRun words inputs b → SameAnswer a b
-one_run words inputs (Ok (answer.Simulated r)) (Ok (answer.Simulated s)) x y h k = ap (λ it. Ok (answer.Simulated it)) (h.rows ∙ sym k.rows)
-one_run words inputs (Ok (answer.Simulated r)) (Err (stop.InputRange j w)) x y h k = absurd (k.outside (at_place (IsWord words.format) inputs j w k.there h.inputs_are_words))
-one_run words inputs (Ok (answer.Simulated r)) (Err stop.NoMemory) x y h k = absurd y
-one_run words inputs (Ok (answer.Simulated r)) b x y h k = absurd k
-one_run words inputs (Err (stop.InputRange i v)) (Err (stop.InputRange j w)) x y h k = one_outside words.format inputs i j v w h k (cases_order i j)
-one_run words inputs (Err (stop.InputRange i v)) (Ok (answer.Simulated s)) x y h k = absurd (h.outside (at_place (IsWord words.format) inputs i v h.there k.inputs_are_words))
-one_run words inputs (Err (stop.InputRange i v)) (Err stop.NoMemory) x y h k = absurd y
-one_run words inputs (Err (stop.InputRange i v)) b x y h k = absurd k
-one_run words inputs (Err stop.NoMemory) b x y h k = absurd x
-one_run words inputs a b x y h k = absurd h
+one_run : (quantised : QuantisedView) (inputs : List ℤ) (a b : Outcome) → IsSettled a → IsSettled b → IsOfRun quantised inputs a → IsOfRun quantised inputs b → SameAnswer a b
+one_run quantised inputs (Ok (answer.Simulated r)) (Ok (answer.Simulated s)) x y h k = ap (λ it. Ok (answer.Simulated it)) (h.rows ∙ sym k.rows)
+one_run quantised inputs (Ok (answer.Simulated r)) (Err (stop.InputRange j w)) x y h k = absurd (k.outside (at_place (IsWord quantised.format) inputs j w k.there h.inputs_are_words))
+one_run quantised inputs (Ok (answer.Simulated r)) (Err stop.NoMemory) x y h k = absurd y
+one_run quantised inputs (Ok (answer.Simulated r)) b x y h k = absurd k
+one_run quantised inputs (Err (stop.InputRange i v)) (Err (stop.InputRange j w)) x y h k = one_outside quantised.format inputs i j v w h k (cases_order i j)
+one_run quantised inputs (Err (stop.InputRange i v)) (Ok (answer.Simulated s)) x y h k = absurd (h.outside (at_place (IsWord quantised.format) inputs i v h.there k.inputs_are_words))
+one_run quantised inputs (Err (stop.InputRange i v)) (Err stop.NoMemory) x y h k = absurd y
+one_run quantised inputs (Err (stop.InputRange i v)) b x y h k = absurd k
+one_run quantised inputs (Err stop.NoMemory) b x y h k = absurd x
+one_run quantised inputs a b x y h k = absurd h
 
 -- ---- questions about runs
 within_or_large : (size given limit : ℕ) → size ≤ limit → given ≡ size → limit < given → ⊥
 within_or_large size given limit h e k = omega (arith, h, e, k)
 
-one_size : (samples : ℕ) (words : FixedPoint) (m n : ℕ) → IsTooLarge samples words m → IsTooLarge samples words n → SameAnswer (Err (stop.JobSize m)) (Err (stop.JobSize n))
-one_size samples words m n h k = ap (λ it. Err (stop.JobSize it)) (h.size_of ∙ sym k.size_of)
+one_size : (samples : ℕ) (quantised : QuantisedView) (m n : ℕ) → IsTooLarge samples quantised m → IsTooLarge samples quantised n → SameAnswer (Err (stop.JobSize m)) (Err (stop.JobSize n))
+one_size samples quantised m n h k = ap (λ it. Err (stop.JobSize it)) (h.size_of ∙ sym k.size_of)
 
-one_formula : (p : RunProperty) (samples : ℕ) (words : FixedPoint) (a b : Outcome) → IsSettled a → IsSettled b → IsOfFormula p samples words a → IsOfFormula p samples words b → SameAnswer a b
-one_formula p samples words (Ok (answer.FormulaText f)) (Ok (answer.FormulaText g)) x y h k = ap (λ it. Ok (answer.FormulaText it)) (h.formula_of ∙ sym k.formula_of)
-one_formula p samples words (Ok (answer.FormulaText f)) (Err (stop.JobSize n)) x y h k = absurd (within_or_large (job_size_of words samples) n most_size h.within k.size_of k.large)
-one_formula p samples words (Ok (answer.FormulaText f)) (Err stop.NoMemory) x y h k = absurd y
-one_formula p samples words (Ok (answer.FormulaText f)) b x y h k = absurd k
-one_formula p samples words (Err (stop.JobSize m)) (Err (stop.JobSize n)) x y h k = one_size samples words m n h k
-one_formula p samples words (Err (stop.JobSize m)) (Ok (answer.FormulaText g)) x y h k = absurd (within_or_large (job_size_of words samples) m most_size k.within h.size_of h.large)
-one_formula p samples words (Err (stop.JobSize m)) (Err stop.NoMemory) x y h k = absurd y
-one_formula p samples words (Err (stop.JobSize m)) b x y h k = absurd k
-one_formula p samples words (Err stop.NoMemory) b x y h k = absurd x
-one_formula p samples words a b x y h k = absurd h
+one_formula : (p : RunProperty) (samples : ℕ) (quantised : QuantisedView) (a b : Outcome) → IsSettled a → IsSettled b → IsOfFormula p samples quantised a → IsOfFormula p samples quantised b → SameAnswer a b
+one_formula p samples quantised (Ok (answer.FormulaText f)) (Ok (answer.FormulaText g)) x y h k = ap (λ it. Ok (answer.FormulaText it)) (h.formula_of ∙ sym k.formula_of)
+one_formula p samples quantised (Ok (answer.FormulaText f)) (Err (stop.JobSize n)) x y h k = absurd (within_or_large (job_size_of quantised samples) n most_size h.within k.size_of k.large)
+one_formula p samples quantised (Ok (answer.FormulaText f)) (Err stop.NoMemory) x y h k = absurd y
+one_formula p samples quantised (Ok (answer.FormulaText f)) b x y h k = absurd k
+one_formula p samples quantised (Err (stop.JobSize m)) (Err (stop.JobSize n)) x y h k = one_size samples quantised m n h k
+one_formula p samples quantised (Err (stop.JobSize m)) (Ok (answer.FormulaText g)) x y h k = absurd (within_or_large (job_size_of quantised samples) m most_size k.within h.size_of h.large)
+one_formula p samples quantised (Err (stop.JobSize m)) (Err stop.NoMemory) x y h k = absurd y
+one_formula p samples quantised (Err (stop.JobSize m)) b x y h k = absurd k
+one_formula p samples quantised (Err stop.NoMemory) b x y h k = absurd x
+one_formula p samples quantised a b x y h k = absurd h
 
 -- a trace or a cycle shows that it happens
-broken_by : (p : RunProperty) (samples : ℕ) (words : FixedPoint) (trace : Trace) → p ≡ run.Overflow → IsTrace words samples trace → (Happens p words samples → ⊥) → ⊥
-broken_by p samples words trace e h never = subst (λ q. (Happens q words samples → ⊥) → ⊥) (sym e) (λ n. n (trace_breaks words samples trace h)) never
+broken_by : (p : RunProperty) (samples : ℕ) (quantised : QuantisedView) (trace : Trace) → p ≡ run.Overflow → IsTrace quantised samples trace → (Happens p quantised samples → ⊥) → ⊥
+broken_by p samples quantised trace e h never = subst (λ q. (Happens q quantised samples → ⊥) → ⊥) (sym e) (λ n. n (trace_breaks quantised samples trace h)) never
 
-cycled_by : (p : RunProperty) (samples : ℕ) (words : FixedPoint) (cycle : Cycle) → p ≡ run.LimitCycle → IsCycle words samples cycle → (Happens p words samples → ⊥) → ⊥
-cycled_by p samples words cycle e h never = subst (λ q. (Happens q words samples → ⊥) → ⊥) (sym e) (λ n. n (cycle_cycles words samples cycle h)) never
+cycled_by : (p : RunProperty) (samples : ℕ) (quantised : QuantisedView) (cycle : Cycle) → p ≡ run.LimitCycle → IsCycle quantised samples cycle → (Happens p quantised samples → ⊥) → ⊥
+cycled_by p samples quantised cycle e h never = subst (λ q. (Happens q quantised samples → ⊥) → ⊥) (sym e) (λ n. n (cycle_cycles quantised samples cycle h)) never
 
 two_properties : (p : RunProperty) → p ≡ run.Overflow → p ≡ run.LimitCycle → ⊥
 two_properties p e f = cc
 
-one_search : (p : RunProperty) (samples conflicts : ℕ) (words : FixedPoint) (a b : Outcome) → IsSettled a → IsSettled b → IsOfSearch p samples conflicts words a → IsOfSearch p samples conflicts words b → SameAnswer a b
-one_search p n c words (Ok (answer.Never l)) (Ok (answer.Never m)) x y h k = tt
-one_search p n c words (Ok (answer.Never l)) (Ok (answer.Overflow t)) x y h k = absurd (broken_by p n words t k.0 k.2 h.never)
-one_search p n c words (Ok (answer.Never l)) (Ok (answer.Cycles z)) x y h k = absurd (cycled_by p n words z k.0 k.2 h.never)
-one_search p n c words (Ok (answer.Never l)) (Err (stop.JobSize s)) x y h k = absurd (within_or_large (job_size_of words n) s most_size h.within k.size_of k.large)
-one_search p n c words (Ok (answer.Never l)) (Err stop.NoMemory) x y h k = absurd y
-one_search p n c words (Ok (answer.Never l)) (Ok (answer.Spent m)) x y h k = absurd y
-one_search p n c words (Ok (answer.Never l)) b x y h k = absurd k
-one_search p n c words (Ok (answer.Overflow t)) (Ok (answer.Overflow u)) x y h k = tt
-one_search p n c words (Ok (answer.Overflow t)) (Ok (answer.Never m)) x y h k = absurd (broken_by p n words t h.0 h.2 k.never)
-one_search p n c words (Ok (answer.Overflow t)) (Ok (answer.Cycles z)) x y h k = absurd (two_properties p h.0 k.0)
-one_search p n c words (Ok (answer.Overflow t)) (Err (stop.JobSize s)) x y h k = absurd (within_or_large (job_size_of words n) s most_size h.1 k.size_of k.large)
-one_search p n c words (Ok (answer.Overflow t)) (Err stop.NoMemory) x y h k = absurd y
-one_search p n c words (Ok (answer.Overflow t)) (Ok (answer.Spent m)) x y h k = absurd y
-one_search p n c words (Ok (answer.Overflow t)) b x y h k = absurd k
-one_search p n c words (Ok (answer.Cycles z)) (Ok (answer.Cycles w)) x y h k = tt
-one_search p n c words (Ok (answer.Cycles z)) (Ok (answer.Never m)) x y h k = absurd (cycled_by p n words z h.0 h.2 k.never)
-one_search p n c words (Ok (answer.Cycles z)) (Ok (answer.Overflow t)) x y h k = absurd (two_properties p k.0 h.0)
-one_search p n c words (Ok (answer.Cycles z)) (Err (stop.JobSize s)) x y h k = absurd (within_or_large (job_size_of words n) s most_size h.1 k.size_of k.large)
-one_search p n c words (Ok (answer.Cycles z)) (Err stop.NoMemory) x y h k = absurd y
-one_search p n c words (Ok (answer.Cycles z)) (Ok (answer.Spent m)) x y h k = absurd y
-one_search p n c words (Ok (answer.Cycles z)) b x y h k = absurd k
-one_search p n c words (Err (stop.JobSize s)) (Err (stop.JobSize t)) x y h k = one_size n words s t h k
-one_search p n c words (Err (stop.JobSize s)) (Ok (answer.Never m)) x y h k = absurd (within_or_large (job_size_of words n) s most_size k.within h.size_of h.large)
-one_search p n c words (Err (stop.JobSize s)) (Ok (answer.Overflow t)) x y h k = absurd (within_or_large (job_size_of words n) s most_size k.1 h.size_of h.large)
-one_search p n c words (Err (stop.JobSize s)) (Ok (answer.Cycles z)) x y h k = absurd (within_or_large (job_size_of words n) s most_size k.1 h.size_of h.large)
-one_search p n c words (Err (stop.JobSize s)) (Err stop.NoMemory) x y h k = absurd y
-one_search p n c words (Err (stop.JobSize s)) (Ok (answer.Spent m)) x y h k = absurd y
-one_search p n c words (Err (stop.JobSize s)) b x y h k = absurd k
-one_search p n c words (Err stop.NoMemory) b x y h k = absurd x
-one_search p n c words (Ok (answer.Spent l)) b x y h k = absurd x
-one_search p n c words a b x y h k = absurd h
+one_search : (p : RunProperty) (samples conflicts : ℕ) (quantised : QuantisedView) (a b : Outcome) → IsSettled a → IsSettled b → IsOfSearch p samples conflicts quantised a → IsOfSearch p samples conflicts quantised b → SameAnswer a b
+one_search p n c quantised (Ok (answer.Never l)) (Ok (answer.Never m)) x y h k = tt
+one_search p n c quantised (Ok (answer.Never l)) (Ok (answer.Overflow t)) x y h k = absurd (broken_by p n quantised t k.0 k.2 h.never)
+one_search p n c quantised (Ok (answer.Never l)) (Ok (answer.Cycles z)) x y h k = absurd (cycled_by p n quantised z k.0 k.2 h.never)
+one_search p n c quantised (Ok (answer.Never l)) (Err (stop.JobSize s)) x y h k = absurd (within_or_large (job_size_of quantised n) s most_size h.within k.size_of k.large)
+one_search p n c quantised (Ok (answer.Never l)) (Err stop.NoMemory) x y h k = absurd y
+one_search p n c quantised (Ok (answer.Never l)) (Ok (answer.Spent m)) x y h k = absurd y
+one_search p n c quantised (Ok (answer.Never l)) b x y h k = absurd k
+one_search p n c quantised (Ok (answer.Overflow t)) (Ok (answer.Overflow u)) x y h k = tt
+one_search p n c quantised (Ok (answer.Overflow t)) (Ok (answer.Never m)) x y h k = absurd (broken_by p n quantised t h.0 h.2 k.never)
+one_search p n c quantised (Ok (answer.Overflow t)) (Ok (answer.Cycles z)) x y h k = absurd (two_properties p h.0 k.0)
+one_search p n c quantised (Ok (answer.Overflow t)) (Err (stop.JobSize s)) x y h k = absurd (within_or_large (job_size_of quantised n) s most_size h.1 k.size_of k.large)
+one_search p n c quantised (Ok (answer.Overflow t)) (Err stop.NoMemory) x y h k = absurd y
+one_search p n c quantised (Ok (answer.Overflow t)) (Ok (answer.Spent m)) x y h k = absurd y
+one_search p n c quantised (Ok (answer.Overflow t)) b x y h k = absurd k
+one_search p n c quantised (Ok (answer.Cycles z)) (Ok (answer.Cycles w)) x y h k = tt
+one_search p n c quantised (Ok (answer.Cycles z)) (Ok (answer.Never m)) x y h k = absurd (cycled_by p n quantised z h.0 h.2 k.never)
+one_search p n c quantised (Ok (answer.Cycles z)) (Ok (answer.Overflow t)) x y h k = absurd (two_properties p k.0 h.0)
+one_search p n c quantised (Ok (answer.Cycles z)) (Err (stop.JobSize s)) x y h k = absurd (within_or_large (job_size_of quantised n) s most_size h.1 k.size_of k.large)
+one_search p n c quantised (Ok (answer.Cycles z)) (Err stop.NoMemory) x y h k = absurd y
+one_search p n c quantised (Ok (answer.Cycles z)) (Ok (answer.Spent m)) x y h k = absurd y
+one_search p n c quantised (Ok (answer.Cycles z)) b x y h k = absurd k
+one_search p n c quantised (Err (stop.JobSize s)) (Err (stop.JobSize t)) x y h k = one_size n quantised s t h k
+one_search p n c quantised (Err (stop.JobSize s)) (Ok (answer.Never m)) x y h k = absurd (within_or_large (job_size_of quantised n) s most_size k.within h.size_of h.large)
+one_search p n c quantised (Err (stop.JobSize s)) (Ok (answer.Overflow t)) x y h k = absurd (within_or_large (job_size_of quantised n) s most_size k.1 h.size_of h.large)
+one_search p n c quantised (Err (stop.JobSize s)) (Ok (answer.Cycles z)) x y h k = absurd (within_or_large (job_size_of quantised n) s most_size k.1 h.size_of h.large)
+one_search p n c quantised (Err (stop.JobSize s)) (Err stop.NoMemory) x y h k = absurd y
+one_search p n c quantised (Err (stop.JobSize s)) (Ok (answer.Spent m)) x y h k = absurd y
+one_search p n c quantised (Err (stop.JobSize s)) b x y h k = absurd k
+one_search p n c quantised (Err stop.NoMemory) b x y h k = absurd x
+one_search p n c quantised (Ok (answer.Spent l)) b x y h k = absurd x
+one_search p n c quantised a b x y h k = absurd h
 
 -- ---- timing
 abbrev made : OpCounts → ℕ → ℕ → Ratio → TimingReport
 made counts cycles clock time = record { counts = counts; cycles = cycles; clock = clock; sample_time = time }
 
-one_timing : (c : ControllerView) (words : FixedPoint) (r s : TimingReport) → IsTimingOf c words r → IsTimingOf c words s → r ≡ s
-one_timing c words r s h k =
+one_timing : (c : ControllerView) (quantised : QuantisedView) (r s : TimingReport) → IsTimingOf c quantised r → IsTimingOf c quantised s → r ≡ s
+one_timing c quantised r s h k =
     let counts : r.counts ≡ s.counts = h.counts ∙ sym k.counts in
     let cycles : r.cycles ≡ s.cycles = h.cycles ∙ ap (λ (n : OpCounts). cycles_of n c.costs) counts ∙ sym k.cycles in
     let clock : r.clock ≡ s.clock = h.clock ∙ sym k.clock in
@@ -269,46 +275,84 @@ one_timing c words r s h k =
     ∙ ap (λ (n : ℕ). made s.counts s.cycles n r.sample_time) clock
     ∙ ap (λ (t : Ratio). made s.counts s.cycles s.clock t) time
 
-on_time_or_late : (c : ControllerView) (words : FixedPoint) (r s : TimingReport) → IsTimingOf c words r → IsTimingOf c words s → IsOnTime r → (IsOnTime s → ⊥) → ⊥
-on_time_or_late c words r s h k on late = late (subst IsOnTime (one_timing c words r s h k) on)
+on_time_or_late : (c : ControllerView) (quantised : QuantisedView) (r s : TimingReport) → IsTimingOf c quantised r → IsTimingOf c quantised s → IsOnTime r → (IsOnTime s → ⊥) → ⊥
+on_time_or_late c quantised r s h k on late = late (subst IsOnTime (one_timing c quantised r s h k) on)
 
-one_time : (c : ControllerView) (words : FixedPoint) (a b : Outcome) → IsSettled a → IsSettled b → IsOfTiming c words a → IsOfTiming c words b → SameAnswer a b
-one_time c words (Ok (answer.OnTime r)) (Ok (answer.OnTime s)) x y h k = ap (λ it. Ok (answer.OnTime it)) (one_timing c words r s h.0 k.0)
-one_time c words (Ok (answer.OnTime r)) (Ok (answer.Late s)) x y h k = absurd (on_time_or_late c words r s h.0 k.0 h.1 k.1)
-one_time c words (Ok (answer.OnTime r)) (Err stop.NoMemory) x y h k = absurd y
-one_time c words (Ok (answer.OnTime r)) b x y h k = absurd k
-one_time c words (Ok (answer.Late r)) (Ok (answer.Late s)) x y h k = ap (λ it. Ok (answer.Late it)) (one_timing c words r s h.0 k.0)
-one_time c words (Ok (answer.Late r)) (Ok (answer.OnTime s)) x y h k = absurd (on_time_or_late c words s r k.0 h.0 k.1 h.1)
-one_time c words (Ok (answer.Late r)) (Err stop.NoMemory) x y h k = absurd y
-one_time c words (Ok (answer.Late r)) b x y h k = absurd k
-one_time c words (Err stop.NoMemory) b x y h k = absurd x
-one_time c words a b x y h k = absurd h
+one_time : (c : ControllerView) (quantised : QuantisedView) (a b : Outcome) → IsSettled a → IsSettled b → IsOfTiming c quantised a → IsOfTiming c quantised b → SameAnswer a b
+one_time c quantised (Ok (answer.OnTime r)) (Ok (answer.OnTime s)) x y h k = ap (λ it. Ok (answer.OnTime it)) (one_timing c quantised r s h.0 k.0)
+one_time c quantised (Ok (answer.OnTime r)) (Ok (answer.Late s)) x y h k = absurd (on_time_or_late c quantised r s h.0 k.0 h.1 k.1)
+one_time c quantised (Ok (answer.OnTime r)) (Err stop.NoMemory) x y h k = absurd y
+one_time c quantised (Ok (answer.OnTime r)) b x y h k = absurd k
+one_time c quantised (Ok (answer.Late r)) (Ok (answer.Late s)) x y h k = ap (λ it. Ok (answer.Late it)) (one_timing c quantised r s h.0 k.0)
+one_time c quantised (Ok (answer.Late r)) (Ok (answer.OnTime s)) x y h k = absurd (on_time_or_late c quantised s r k.0 h.0 k.1 h.1)
+one_time c quantised (Ok (answer.Late r)) (Err stop.NoMemory) x y h k = absurd y
+one_time c quantised (Ok (answer.Late r)) b x y h k = absurd k
+one_time c quantised (Err stop.NoMemory) b x y h k = absurd x
+one_time c quantised a b x y h k = absurd h
 
 -- ---- runs of any length
-one_set : (conflicts : ℕ) (words : FixedPoint) (a b : Outcome) → IsSettled a → IsSettled b → IsOfSets conflicts words a → IsOfSets conflicts words b → SameAnswer a b
-one_set c words (Err (stop.JobSize s)) (Err (stop.JobSize t)) x y h k = one_size unbounded_samples words s t h k
-one_set c words (Err (stop.JobSize s)) (Ok (answer.Always candidate logs)) x y h k = absurd y
-one_set c words (Err (stop.JobSize s)) (Ok (answer.NoInvariant kept)) x y h k = absurd y
-one_set c words (Err (stop.JobSize s)) (Err stop.NoMemory) x y h k = absurd y
-one_set c words (Err (stop.JobSize s)) b x y h k = absurd k
-one_set c words (Ok (answer.Always candidate logs)) b x y h k = absurd x
-one_set c words (Ok (answer.NoInvariant kept)) b x y h k = absurd x
-one_set c words (Err stop.NoMemory) b x y h k = absurd x
-one_set c words a b x y h k = absurd h
+one_set : (conflicts : ℕ) (quantised : QuantisedView) (a b : Outcome) → IsSettled a → IsSettled b → IsOfSets conflicts quantised a → IsOfSets conflicts quantised b → SameAnswer a b
+one_set c quantised (Err (stop.JobSize s)) (Err (stop.JobSize t)) x y h k = one_size unbounded_samples quantised s t h k
+one_set c quantised (Err (stop.JobSize s)) (Ok (answer.Always candidate logs)) x y h k = absurd y
+one_set c quantised (Err (stop.JobSize s)) (Ok (answer.NoInvariant kept)) x y h k = absurd y
+one_set c quantised (Err (stop.JobSize s)) (Err stop.NoMemory) x y h k = absurd y
+one_set c quantised (Err (stop.JobSize s)) b x y h k = absurd k
+one_set c quantised (Ok (answer.Always candidate logs)) b x y h k = absurd x
+one_set c quantised (Ok (answer.NoInvariant kept)) b x y h k = absurd x
+one_set c quantised (Err stop.NoMemory) b x y h k = absurd x
+one_set c quantised a b x y h k = absurd h
 
--- what a task leads to for a controller in words
-abbrev pub IsAnswerTo : ControllerView → Task → FixedPoint → Outcome → Type 0
-IsAnswerTo c (decides p) words found = Leads (tested_of words (side_of p)) found
-IsAnswerTo c checks_time words found = IsOfTiming c words found
-IsAnswerTo c (writes p samples) words found = IsOfFormula p samples words found
-IsAnswerTo c (searches p samples conflicts) words found = IsOfSearch p samples conflicts words found
-IsAnswerTo c (seeks_set conflicts) words found = IsOfSets conflicts words found
-IsAnswerTo c (simulates inputs) words found = IsOfRun words inputs found
+-- ---- the gain
+one_gain_of : (found : Outlook) (g h : Gain) → found ≡ outlook.Safe g → found ≡ outlook.Safe h → g ≡ h
+one_gain_of found g h e f = cc
 
-pub one_task : (c : ControllerView) (task : Task) (words : FixedPoint) (a b : Outcome) → IsSettled a → IsSettled b → IsAnswerTo c task words a → IsAnswerTo c task words b → SameAnswer a b
-one_task e (decides p) words a b x y h k = one_decision (tested_of words (side_of p)) a b x y h k
-one_task e checks_time words a b x y h k = one_time e words a b x y h k
-one_task e (writes p samples) words a b x y h k = one_formula p samples words a b x y h k
-one_task e (searches p samples conflicts) words a b x y h k = one_search p samples conflicts words a b x y h k
-one_task e (seeks_set conflicts) words a b x y h k = one_set conflicts words a b x y h k
-one_task e (simulates inputs) words a b x y h k = one_run words inputs a b x y h k
+safe_or_left : (found : Outlook) (g : Gain) (sample value : ℕ) → found ≡ outlook.Safe g → found ≡ outlook.Leaves sample value → ⊥
+safe_or_left found g sample value e f = cc
+
+safe_or_deep : (found : Outlook) (g : Gain) → found ≡ outlook.Safe g → found ≡ outlook.Deep → ⊥
+safe_or_deep found g e f = cc
+
+left_or_deep : (found : Outlook) (sample value : ℕ) → found ≡ outlook.Leaves sample value → found ≡ outlook.Deep → ⊥
+left_or_deep found sample value e f = cc
+
+one_gain : (quantised : QuantisedView) (a b : Outcome) → IsSettled a → IsSettled b → IsOfGain quantised a → IsOfGain quantised b → SameAnswer a b
+one_gain quantised (Ok (answer.InRanges g)) (Ok (answer.InRanges h)) x y e f = ap (λ it. Ok (answer.InRanges it)) (one_gain_of (outlook_of quantised most_gain_samples) g h e.found f.found)
+one_gain quantised (Ok (answer.InRanges g)) (Ok (answer.Overflow t)) x y e f = absurd (safe_or_left (outlook_of quantised most_gain_samples) g f.sample f.value e.found f.left)
+one_gain quantised (Ok (answer.InRanges g)) (Ok (answer.OutOfRange sample value)) x y e f = absurd y
+one_gain quantised (Ok (answer.InRanges g)) (Ok (answer.TooDeep d)) x y e f = absurd (safe_or_deep (outlook_of quantised most_gain_samples) g e.found f.1)
+one_gain quantised (Ok (answer.InRanges g)) (Err stop.NoMemory) x y e f = absurd y
+one_gain quantised (Ok (answer.InRanges g)) b x y e f = absurd f
+one_gain quantised (Ok (answer.Overflow t)) (Ok (answer.Overflow u)) x y e f = tt
+one_gain quantised (Ok (answer.Overflow t)) (Ok (answer.InRanges h)) x y e f = absurd (safe_or_left (outlook_of quantised most_gain_samples) h e.sample e.value f.found e.left)
+one_gain quantised (Ok (answer.Overflow t)) (Ok (answer.OutOfRange sample value)) x y e f = absurd y
+one_gain quantised (Ok (answer.Overflow t)) (Ok (answer.TooDeep d)) x y e f = absurd (left_or_deep (outlook_of quantised most_gain_samples) e.sample e.value e.left f.1)
+one_gain quantised (Ok (answer.Overflow t)) (Err stop.NoMemory) x y e f = absurd y
+one_gain quantised (Ok (answer.Overflow t)) b x y e f = absurd f
+one_gain quantised (Ok (answer.TooDeep c)) (Ok (answer.TooDeep d)) x y e f = ap (λ it. Ok (answer.TooDeep it)) (e.0 ∙ sym f.0)
+one_gain quantised (Ok (answer.TooDeep c)) (Ok (answer.InRanges h)) x y e f = absurd (safe_or_deep (outlook_of quantised most_gain_samples) h f.found e.1)
+one_gain quantised (Ok (answer.TooDeep c)) (Ok (answer.Overflow u)) x y e f = absurd (left_or_deep (outlook_of quantised most_gain_samples) f.sample f.value f.left e.1)
+one_gain quantised (Ok (answer.TooDeep c)) (Ok (answer.OutOfRange sample value)) x y e f = absurd y
+one_gain quantised (Ok (answer.TooDeep c)) (Err stop.NoMemory) x y e f = absurd y
+one_gain quantised (Ok (answer.TooDeep c)) b x y e f = absurd f
+one_gain quantised (Ok (answer.OutOfRange sample value)) b x y e f = absurd x
+one_gain quantised (Err stop.NoMemory) b x y e f = absurd x
+one_gain quantised a b x y e f = absurd e
+
+-- what a task leads to for a quantised controller
+abbrev pub IsAnswerTo : ControllerView → Task → QuantisedView → Outcome → Type 0
+IsAnswerTo c (decides p sc) quantised found = Leads (tested_of quantised (side_of p)) found
+IsAnswerTo c checks_time quantised found = IsOfTiming c quantised found
+IsAnswerTo c (writes p samples) quantised found = IsOfFormula p samples quantised found
+IsAnswerTo c (searches p samples conflicts) quantised found = IsOfSearch p samples conflicts quantised found
+IsAnswerTo c (seeks_set conflicts) quantised found = IsOfSets conflicts quantised found
+IsAnswerTo c measures_gain quantised found = IsOfGain quantised found
+IsAnswerTo c (simulates inputs) quantised found = IsOfRun quantised inputs found
+
+pub one_task : (c : ControllerView) (task : Task) (quantised : QuantisedView) (a b : Outcome) → IsSettled a → IsSettled b → IsAnswerTo c task quantised a → IsAnswerTo c task quantised b → SameAnswer a b
+one_task e (decides p sc) quantised a b x y h k = one_decision (tested_of quantised (side_of p)) a b x y h k
+one_task e checks_time quantised a b x y h k = one_time e quantised a b x y h k
+one_task e (writes p samples) quantised a b x y h k = one_formula p samples quantised a b x y h k
+one_task e (searches p samples conflicts) quantised a b x y h k = one_search p samples conflicts quantised a b x y h k
+one_task e (seeks_set conflicts) quantised a b x y h k = one_set conflicts quantised a b x y h k
+one_task e measures_gain quantised a b x y h k = one_gain quantised a b x y h k
+one_task e (simulates inputs) quantised a b x y h k = one_run quantised inputs a b x y h k

@@ -1,18 +1,19 @@
 -- Proposers that nobody asked, and polynomials that need none.
-use Rattle.std.proofs.Common.{◌≡◌, ℕ, ◌+◌, ◌-◌, List, [], ◌∷◌, length, drop, map, refl, subst, sym, arith}
+use Rattle.std.proofs.Common.{◌≡◌, ◌⊎◌, inl, inr, ℕ, ◌+◌, ◌-◌, List, [], ◌∷◌, length, drop, map, refl, subst, sym, arith}
 use Rattle.std.specs.Prelude.{Bool, true, false, Option, Some, None, Ok, Err, IfOk, if◌then◌else◌, ℤ}
 use Rattle.dsv_base.specs.Seen.{FilesSeen}
 use Rattle.dsv_forms.specs.declared.offers.FormOffer.{FormOffer}
+use Rattle.dsv_forms.specs.declared.offers.FormOffer.TheVariants as offered
 use Rattle.dsv_closed_forms.specs.ClosedForm.{closed_form_of, are_within, second_limit}
 use Rattle.dsv_cli.specs.Suffixes.{IsSuffix}
 use Rattle.dsv_lyapunov.specs.declared.kept.KeptForm.{KeptForm}
-use Rattle.dsv_command.specs.Jobs.{Asked}
+use Rattle.dsv_command.specs.Jobs.{decides, Asked}
 use Rattle.dsv_names.specs.declared.property.RootProperty.{RootProperty}
 use Rattle.dsv_report.specs.Printing.{HasPlaces}
 use Rattle.dsv_report.specs.declared.answers.Answer.TheVariants as answer
 use Rattle.dsv_report.specs.declared.stop.Stop.TheVariants as stop
 use Rattle.dsv_report.specs.Stops.{Outcome}
-use Rattle.dsv_quantiser.specs.FixedPoint.{FixedPoint}
+use Rattle.dsv_quantiser.specs.QuantisedView.{QuantisedView}
 use Rattle.dsv_template.specs.declared.candidate.Candidate.{Candidate}
 use Rattle.dsv_template.specs.declared.kept.KeptSet.{KeptSet}
 use Rattle.dsv_template.specs.declared.shape.Shape.{Shape}
@@ -41,9 +42,9 @@ some_form (Ok (answer.NoForm poly kept verdict)) P h = absurd h
 some_form found P h = tt
 
 -- no proposer of forms is asked
-pub unasked : {B P : Type 0} (place : B → P) (last : B → Option FormOffer) (sure : B → List ℤ → Type 0) (to_come : B → List ℤ → Option (List FormOffer)) (xs : List B) (found : Outcome) → IsPlain found
-    → IsAsked place last sure to_come xs xs found
-unasked place last sure to_come xs found h = record {
+pub unasked : {B P : Type 0} (place : B → P) (last : B → Option FormOffer) (sure : B → List ℤ → Type 0) (to_come : B → List ℤ → Option (List FormOffer)) (own : Type 0) (xs : List B) (found : Outcome) → IsPlain found
+    → IsAsked place last sure to_come own xs xs found
+unasked place last sure to_come own xs found h = record {
   suffix = same_list place xs;
   unasked = λ n. refl;
   offered = none_offered found _ h;
@@ -52,18 +53,42 @@ unasked place last sure to_come xs found h = record {
   blocks = some_form found _ h;
 }
 
-pub unasked_for_sets : {B P : Type 0} (place : B → P) (last : B → Option FormOffer) (sure : B → List ℤ → Type 0) (to_come : B → List ℤ → Option (List FormOffer)) (xs : List B) (conflicts : ℕ) (words : FixedPoint) (found : Outcome)
-    → IsOfSets conflicts words found → IsAsked place last sure to_come xs xs found
-unasked_for_sets place last sure to_come xs conflicts words (Ok (answer.Always candidate logs)) h =
+pub unasked_for_sets : {B P : Type 0} (place : B → P) (last : B → Option FormOffer) (sure : B → List ℤ → Type 0) (to_come : B → List ℤ → Option (List FormOffer)) (own : Type 0) (xs : List B) (conflicts : ℕ) (quantised : QuantisedView) (found : Outcome)
+    → IsOfSets conflicts quantised found → IsAsked place last sure to_come own xs xs found
+unasked_for_sets place last sure to_come own xs conflicts quantised (Ok (answer.Always candidate logs)) h =
     record { suffix = same_list place xs; unasked = λ n. refl; offered = tt; none_sure = tt; none_left = tt; blocks = tt }
-unasked_for_sets place last sure to_come xs conflicts words (Ok (answer.NoInvariant kept)) h =
+unasked_for_sets place last sure to_come own xs conflicts quantised (Ok (answer.NoInvariant kept)) h =
     record { suffix = same_list place xs; unasked = λ n. refl; offered = tt; none_sure = tt; none_left = tt; blocks = tt }
-unasked_for_sets place last sure to_come xs conflicts words (Err (stop.JobSize size)) h = unasked place last sure to_come xs (Err (stop.JobSize size)) tt
-unasked_for_sets place last sure to_come xs conflicts words (Err stop.NoMemory) h = unasked place last sure to_come xs (Err stop.NoMemory) tt
-unasked_for_sets place last sure to_come xs conflicts words found h = absurd h
+unasked_for_sets place last sure to_come own xs conflicts quantised (Err (stop.JobSize size)) h = unasked place last sure to_come own xs (Err (stop.JobSize size)) tt
+unasked_for_sets place last sure to_come own xs conflicts quantised (Err stop.NoMemory) h = unasked place last sure to_come own xs (Err stop.NoMemory) tt
+unasked_for_sets place last sure to_come own xs conflicts quantised found h = absurd h
+
+-- an offer that one job lets the command make, another does too
+pub own_for : {B P : Type 0} (place : B → P) (last : B → Option FormOffer) (sure : B → List ℤ → Type 0) (to_come : B → List ℤ → Option (List FormOffer)) (R S : Type 0) (before after : List B) (found : Outcome)
+    → (R → S) → IsAsked place last sure to_come R before after found → IsAsked place last sure to_come S before after found
+own_for place last sure to_come R S before after found f h = record {
+  suffix = h.suffix;
+  unasked = h.unasked;
+  offered = weaker found (λ poly offer k none. either (k none)) h.offered;
+  none_sure = h.none_sure;
+  none_left = h.none_left;
+  blocks = h.blocks;
+}
+  where
+    weaker : {P Q : List ℤ → FormOffer → Type 0} (found : Outcome) → ((poly : List ℤ) (offer : FormOffer) → P poly offer → Q poly offer) → IfOffered found P → IfOffered found Q
+    weaker (Ok (answer.Falls poly offer fall)) g k = g poly (offered.Falls offer) k
+    weaker (Ok (answer.KeptAway poly offer fall value)) g k = g poly (offered.KeptAway offer) k
+    weaker found g k = tt
+
+    either : {A C : Type 0} → (R × A) ⊎ C → (S × A) ⊎ C
+    either (inl k) = inl (f k.0, k.1)
+    either (inr k) = inr k
+
+pub schur_cohn_wanted : (p q : RootProperty) (sc : Bool) → decides p sc ≡ decides q true → sc ≡ true
+schur_cohn_wanted p q sc e = cc
 
 -- no proposer of sets is asked
-same_sets : {B P : Type 0} (place : B → P) (last : B → Option Candidate) (to_come : B → Shape → Option (List Candidate)) (becomes : FixedPoint → Type 0) (xs : List B) (found : Outcome)
+same_sets : {B P : Type 0} (place : B → P) (last : B → Option Candidate) (to_come : B → Shape → Option (List Candidate)) (becomes : QuantisedView → Type 0) (xs : List B) (found : Outcome)
     → ((P : Candidate → Type 0) → IfAlways found P) → ((P : List KeptSet → Type 0) → IfNoInvariant found P) → AreSetsAsked place last to_come becomes xs xs found
 same_sets place last to_come becomes xs found none_kept none_left = record {
   suffix = same_list place xs;
@@ -73,7 +98,7 @@ same_sets place last to_come becomes xs found none_kept none_left = record {
   asked = none_left _;
 }
 
-pub sets_unasked : {B P : Type 0} (place : B → P) (last : B → Option Candidate) (to_come : B → Shape → Option (List Candidate)) (becomes : FixedPoint → Type 0) (xs : List B) (found : Outcome)
+pub sets_unasked : {B P : Type 0} (place : B → P) (last : B → Option Candidate) (to_come : B → Shape → Option (List Candidate)) (becomes : QuantisedView → Type 0) (xs : List B) (found : Outcome)
     → IsPlain found → AreSetsAsked place last to_come becomes xs xs found
 sets_unasked place last to_come becomes xs found h = same_sets place last to_come becomes xs found (λ P. none_kept found P h) (λ P. none_left found P h)
   where
@@ -85,21 +110,21 @@ sets_unasked place last to_come becomes xs found h = same_sets place last to_com
     none_left (Ok (answer.NoInvariant kept)) P h = absurd h
     none_left found P h = tt
 
-pub sets_unasked_for_roots : {B P : Type 0} (place : B → P) (last : B → Option Candidate) (to_come : B → Shape → Option (List Candidate)) (becomes : FixedPoint → Type 0) (xs : List B) (property : RootProperty) (words : FixedPoint)
-    (found : Outcome) → IsOfProperty property words found → AreSetsAsked place last to_come becomes xs xs found
-sets_unasked_for_roots place last to_come becomes xs property words found h = same_sets place last to_come becomes xs found (λ P. none_kept found P h) (λ P. none_left found P h)
+pub sets_unasked_for_roots : {B P : Type 0} (place : B → P) (last : B → Option Candidate) (to_come : B → Shape → Option (List Candidate)) (becomes : QuantisedView → Type 0) (xs : List B) (property : RootProperty) (quantised : QuantisedView)
+    (found : Outcome) → IsOfProperty property quantised found → AreSetsAsked place last to_come becomes xs xs found
+sets_unasked_for_roots place last to_come becomes xs property quantised found h = same_sets place last to_come becomes xs found (λ P. none_kept found P h) (λ P. none_left found P h)
   where
-    none_kept : (found : Outcome) (P : Candidate → Type 0) → IsOfProperty property words found → IfAlways found P
+    none_kept : (found : Outcome) (P : Candidate → Type 0) → IsOfProperty property quantised found → IfAlways found P
     none_kept (Ok (answer.Always candidate logs)) P h = absurd h.decision
     none_kept found P h = tt
 
-    none_left : (found : Outcome) (P : List KeptSet → Type 0) → IsOfProperty property words found → IfNoInvariant found P
+    none_left : (found : Outcome) (P : List KeptSet → Type 0) → IsOfProperty property quantised found → IfNoInvariant found P
     none_left (Ok (answer.NoInvariant kept)) P h = absurd h.decision
     none_left found P h = tt
 
 -- the words are those that the job's file becomes
-pub sets_asked_for : {B P : Type 0} (place : B → P) (last : B → Option Candidate) (to_come : B → Shape → Option (List Candidate)) (R S : FixedPoint → Type 0) (before after : List B) (found : Outcome)
-    → ((w : FixedPoint) → R w → S w) → AreSetsAsked place last to_come R before after found → AreSetsAsked place last to_come S before after found
+pub sets_asked_for : {B P : Type 0} (place : B → P) (last : B → Option Candidate) (to_come : B → Shape → Option (List Candidate)) (R S : QuantisedView → Type 0) (before after : List B) (found : Outcome)
+    → ((w : QuantisedView) → R w → S w) → AreSetsAsked place last to_come R before after found → AreSetsAsked place last to_come S before after found
 sets_asked_for place last to_come R S before after found f h = record {
   suffix = h.suffix;
   unasked = h.unasked;

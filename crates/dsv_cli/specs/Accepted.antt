@@ -4,7 +4,7 @@ use Rattle.dsv_base.specs.Seen.{FilesSeen}
 use Rattle.dsv_certfile.specs.Texts.{job_of, certificate_text}
 use Rattle.dsv_certfile.specs.Typed.{IsTyped}
 use Rattle.dsv_certfile.specs.declared.certificate.Certificate.{Certificate}
-use Rattle.dsv_certfile.specs.declared.job.Job.{Job}
+use Rattle.dsv_certfile.specs.declared.job.CertifiedJob.{CertifiedJob}
 use Rattle.dsv_command.specs.Jobs.{Asked}
 use Rattle.dsv_report.specs.Output.{certificate_of}
 use Rattle.dsv_report.specs.declared.answers.Answer.{Answer}
@@ -15,7 +15,7 @@ use Rattle.dsv_cli.specs.Headline.{longest_certificate, IsRow, IsCheckRow}
 
 -- the answer is that a certificate with this job is accepted, unless a read failed or there was no
 -- memory
-abbrev pub IsAcceptance : Job → Outcome → Type 0
+abbrev pub IsAcceptance : CertifiedJob → Outcome → Type 0
 IsAcceptance certified (Ok (answer.Checked found)) = found ≡ certified
 IsAcceptance certified (Err (stop.ReadFault file)) = Unit {0}
 IsAcceptance certified (Err stop.NoMemory) = Unit {0}

@@ -6,19 +6,21 @@ use Rattle.dsv_names.specs.declared.property.RunProperty.TheVariants as run
 use Rattle.dsv_names.specs.declared.property.RootProperty.{RootProperty}
 use Rattle.dsv_names.specs.declared.property.RootProperty.TheVariants as property
 use Rattle.dsv_reader.specs.Controllers.{ControllerView}
-use Rattle.dsv_quantiser.specs.FixedPoint.{FixedPoint}
+use Rattle.dsv_quantiser.specs.QuantisedView.{QuantisedView}
 use Rattle.dsv_tested.specs.Tested.{side_of, tested_of}
 use Rattle.dsv_tested.specs.declared.side.Tested.TheVariants as tested
 use Rattle.dsv_command.specs.Jobs.{Task, decides, checks_time, writes, searches}
-use Rattle.dsv_command.specs.Jobs.{seeks_set, simulates}
+use Rattle.dsv_command.specs.Jobs.{seeks_set, measures_gain, simulates}
 use Rattle.dsv_report.specs.declared.answers.Answer.TheVariants as answer
 use Rattle.dsv_report.specs.declared.stop.Stop.TheVariants as stop
 use Rattle.dsv_report.specs.Stops.{Outcome}
 use Rattle.dsv_cli.specs.Headline.{ShowsFall, ShowsKeptAway, ShowsNoForm}
-use Rattle.dsv_bounded.specs.Verdicts.{IsTrace, IsCycle}
+use Rattle.dsv_bounded.specs.Verdicts.{IsCycle}
+use Rattle.dsv_meaning.specs.Traces.{IsTrace}
 use Rattle.dsv_bounded.specs.RunQuestions.{IsWithin}
 use Rattle.dsv_bounded.specs.RunAnswers.{NeverHappens, GaveUp, IsFormulaOf, IsTooLarge}
 use Rattle.dsv_invariant.specs.Limits.{unbounded_samples}
+use Rattle.dsv_cli.specs.Gain.{IsOfGain}
 use Rattle.dsv_cli.specs.Sets.{KeepsTo, NoneIsGood}
 use Rattle.dsv_cli.specs.Simulating.{IsRunOver, IsFirstOutside}
 use Rattle.dsv_cli.specs.Timing.{IsTimingOf, IsOnTime}
@@ -34,77 +36,78 @@ IsDecision poly (Err stop.NoMemory) = Unit {0}
 IsDecision poly other = ⊥
 
 -- The property tests this polynomial, which comes to this.
-pub record IsOfPolynomial (of_property : RootProperty) (words : FixedPoint) (found : Outcome) :
+pub record IsOfPolynomial (of_property : RootProperty) (q : QuantisedView) (found : Outcome) :
     Type 0 where
   pub poly : List ℤ
-  pub tested : tested_of words (side_of of_property) ≡ Ok (tested.Poly poly)
+  pub tested : tested_of q (side_of of_property) ≡ Ok (tested.Poly poly)
   pub decision : IsDecision poly found
 
 -- what the polynomial that a property tests comes to, or the answer where there is none
-abbrev pub IsOfProperty : RootProperty → FixedPoint → Outcome → Type 0
-IsOfProperty of_property words (Ok answer.NoZeros) =
+abbrev pub IsOfProperty : RootProperty → QuantisedView → Outcome → Type 0
+IsOfProperty of_property q (Ok answer.NoZeros) =
     (of_property ≡ property.MinimumPhase)
-    × (tested_of words (side_of of_property) ≡ Ok tested.NoZeros)
-IsOfProperty of_property words (Ok (answer.Wide index)) =
-    tested_of words (side_of of_property) ≡ Err (record { index = index })
-IsOfProperty of_property words found = IsOfPolynomial of_property words found
+    × (tested_of q (side_of of_property) ≡ Ok tested.NoZeros)
+IsOfProperty of_property q (Ok (answer.Wide index)) =
+    tested_of q (side_of of_property) ≡ Err (record { index = index })
+IsOfProperty of_property q found = IsOfPolynomial of_property q found
 
 -- the controller's run over these inputs, or the first of them that is no word
-abbrev pub IsOfRun : FixedPoint → List ℤ → Outcome → Type 0
-IsOfRun words inputs (Ok (answer.Simulated found)) = IsRunOver words inputs found
-IsOfRun words inputs (Err (stop.InputRange index value)) =
-    IsFirstOutside words.format inputs index value
-IsOfRun words inputs (Err stop.NoMemory) = Unit {0}
-IsOfRun words inputs other = ⊥
+abbrev pub IsOfRun : QuantisedView → List ℤ → Outcome → Type 0
+IsOfRun q inputs (Ok (answer.Simulated found)) = IsRunOver q inputs found
+IsOfRun q inputs (Err (stop.InputRange index value)) =
+    IsFirstOutside q.format inputs index value
+IsOfRun q inputs (Err stop.NoMemory) = Unit {0}
+IsOfRun q inputs other = ⊥
 
 -- the formula of a question about runs
-abbrev pub IsOfFormula : RunProperty → ℕ → FixedPoint → Outcome → Type 0
-IsOfFormula of_property samples words (Ok (answer.FormulaText formula)) =
-    IsFormulaOf of_property samples words formula
-IsOfFormula of_property samples words (Err (stop.JobSize size)) = IsTooLarge samples words size
-IsOfFormula of_property samples words (Err stop.NoMemory) = Unit {0}
-IsOfFormula of_property samples words other = ⊥
+abbrev pub IsOfFormula : RunProperty → ℕ → QuantisedView → Outcome → Type 0
+IsOfFormula of_property samples q (Ok (answer.FormulaText formula)) =
+    IsFormulaOf of_property samples q formula
+IsOfFormula of_property samples q (Err (stop.JobSize size)) = IsTooLarge samples q size
+IsOfFormula of_property samples q (Err stop.NoMemory) = Unit {0}
+IsOfFormula of_property samples q other = ⊥
 
 -- the answer to a question about runs, by a search
-abbrev pub IsOfSearch : RunProperty → ℕ → ℕ → FixedPoint → Outcome → Type 0
-IsOfSearch of_property samples conflicts words (Ok (answer.Never log)) =
-    NeverHappens of_property samples conflicts words log
-IsOfSearch of_property samples conflicts words (Ok (answer.Overflow trace)) =
-    (of_property ≡ run.Overflow) × IsWithin words samples × IsTrace words samples trace
-IsOfSearch of_property samples conflicts words (Ok (answer.Cycles cycle)) =
-    (of_property ≡ run.LimitCycle) × IsWithin words samples × IsCycle words samples cycle
-IsOfSearch of_property samples conflicts words (Ok (answer.Spent log)) =
-    GaveUp of_property samples conflicts words log
-IsOfSearch of_property samples conflicts words (Err (stop.JobSize size)) =
-    IsTooLarge samples words size
-IsOfSearch of_property samples conflicts words (Err stop.NoMemory) = Unit {0}
-IsOfSearch of_property samples conflicts words other = ⊥
+abbrev pub IsOfSearch : RunProperty → ℕ → ℕ → QuantisedView → Outcome → Type 0
+IsOfSearch of_property samples conflicts q (Ok (answer.Never log)) =
+    NeverHappens of_property samples conflicts q log
+IsOfSearch of_property samples conflicts q (Ok (answer.Overflow trace)) =
+    (of_property ≡ run.Overflow) × IsWithin q samples × IsTrace q samples trace
+IsOfSearch of_property samples conflicts q (Ok (answer.Cycles cycle)) =
+    (of_property ≡ run.LimitCycle) × IsWithin q samples × IsCycle q samples cycle
+IsOfSearch of_property samples conflicts q (Ok (answer.Spent log)) =
+    GaveUp of_property samples conflicts q log
+IsOfSearch of_property samples conflicts q (Err (stop.JobSize size)) =
+    IsTooLarge samples q size
+IsOfSearch of_property samples conflicts q (Err stop.NoMemory) = Unit {0}
+IsOfSearch of_property samples conflicts q other = ⊥
 
 -- the answer on runs of any length, by what proposers offer
-abbrev pub IsOfSets : ℕ → FixedPoint → Outcome → Type 0
-IsOfSets conflicts words (Ok (answer.Always candidate logs)) =
-    KeepsTo words conflicts candidate logs
-IsOfSets conflicts words (Ok (answer.NoInvariant kept)) = NoneIsGood words conflicts kept
-IsOfSets conflicts words (Err (stop.JobSize size)) = IsTooLarge unbounded_samples words size
-IsOfSets conflicts words (Err stop.NoMemory) = Unit {0}
-IsOfSets conflicts words other = ⊥
+abbrev pub IsOfSets : ℕ → QuantisedView → Outcome → Type 0
+IsOfSets conflicts q (Ok (answer.Always candidate logs)) =
+    KeepsTo q conflicts candidate logs
+IsOfSets conflicts q (Ok (answer.NoInvariant kept)) = NoneIsGood q conflicts kept
+IsOfSets conflicts q (Err (stop.JobSize size)) = IsTooLarge unbounded_samples q size
+IsOfSets conflicts q (Err stop.NoMemory) = Unit {0}
+IsOfSets conflicts q other = ⊥
 
 -- what a sample takes, in time or not
-abbrev pub IsOfTiming : ControllerView → FixedPoint → Outcome → Type 0
-IsOfTiming c words (Ok (answer.OnTime report)) = IsTimingOf c words report × IsOnTime report
-IsOfTiming c words (Ok (answer.Late report)) = IsTimingOf c words report × (IsOnTime report → ⊥)
-IsOfTiming c words (Err stop.NoMemory) = Unit {0}
-IsOfTiming c words other = ⊥
+abbrev pub IsOfTiming : ControllerView → QuantisedView → Outcome → Type 0
+IsOfTiming c q (Ok (answer.OnTime report)) = IsTimingOf c q report × IsOnTime report
+IsOfTiming c q (Ok (answer.Late report)) = IsTimingOf c q report × (IsOnTime report → ⊥)
+IsOfTiming c q (Err stop.NoMemory) = Unit {0}
+IsOfTiming c q other = ⊥
 
 -- what a task comes to for a controller that becomes these words
-abbrev pub IsOfTask : ControllerView → Task → FixedPoint → Outcome → Type 0
-IsOfTask c (decides of_property) words found = IsOfProperty of_property words found
-IsOfTask c checks_time words found = IsOfTiming c words found
-IsOfTask c (writes of_property samples) words found = IsOfFormula of_property samples words found
-IsOfTask c (searches of_property samples conflicts) words found =
-    IsOfSearch of_property samples conflicts words found
-IsOfTask c (seeks_set conflicts) words found = IsOfSets conflicts words found
-IsOfTask c (simulates inputs) words found = IsOfRun words inputs found
+abbrev pub IsOfTask : ControllerView → Task → QuantisedView → Outcome → Type 0
+IsOfTask c (decides of_property schur_cohn) q found = IsOfProperty of_property q found
+IsOfTask c checks_time q found = IsOfTiming c q found
+IsOfTask c (writes of_property samples) q found = IsOfFormula of_property samples q found
+IsOfTask c (searches of_property samples conflicts) q found =
+    IsOfSearch of_property samples conflicts q found
+IsOfTask c (seeks_set conflicts) q found = IsOfSets conflicts q found
+IsOfTask c measures_gain q found = IsOfGain q found
+IsOfTask c (simulates inputs) q found = IsOfRun q inputs found
 
 -- the answer needs no proposer
 abbrev pub IsPlain : Outcome → Type 0

@@ -1,6 +1,19 @@
 -- What a run answers: a table, one row for each answer.
 use Rattle.std.specs.Prelude.{◌≡◌, ◌≢◌, ◌⊎◌, ℕ, ◌+◌, ◌-◌, ◌^◌, ◌<◌}
-use Rattle.std.specs.Prelude.{◌≤◌, List, length, Option, Some, None, IfSome, Result, Ok, Err, ℤ}
+use Rattle.std.specs.Prelude.{
+  ◌≤◌,
+  Bool,
+  List,
+  length,
+  Option,
+  Some,
+  None,
+  IfSome,
+  Result,
+  Ok,
+  Err,
+  ℤ,
+}
 use Rattle.dsv_algebra.specs.Vectors.{vector_of, matrix_of, form_at}
 use Rattle.dsv_algebra.specs.Companion.{StrictlyFallsAlong, IsKeptAwayAlong}
 use Rattle.dsv_base.specs.Counts.{Rose}
@@ -13,7 +26,7 @@ use Rattle.dsv_names.specs.declared.property.RootProperty.TheVariants as propert
 use Rattle.dsv_reader.specs.Controllers.{ControllerView}
 use Rattle.dsv_reader.specs.Texts.{IsTextOf, IsFaultOf}
 use Rattle.dsv_token.specs.declared.refusal.FileRefusal.TheVariants as text
-use Rattle.dsv_quantiser.specs.FixedPoint.{FixedPoint}
+use Rattle.dsv_quantiser.specs.QuantisedView.{QuantisedView}
 use Rattle.dsv_quantiser.specs.Modes.{BecomesWords}
 use Rattle.dsv_quantiser.specs.declared.refusal.QuantRefusal.{QuantRefusal}
 use Rattle.dsv_forms.specs.declared.offers.Form.{Form}
@@ -29,11 +42,13 @@ use Rattle.dsv_tested.specs.declared.side.Tested.TheVariants as tested
 use Rattle.dsv_closed_forms.specs.ClosedForm.{closed_form_of}
 use Rattle.dsv_jury.specs.Jury.{jury_of}
 use Rattle.dsv_jury.specs.declared.verdict.Jury.{Jury}
+use Rattle.dsv_gain.specs.Controllers.{outlook_of}
+use Rattle.dsv_gain.specs.declared.outlook.Outlook.TheVariants as outlook
 use Rattle.dsv_generator.specs.Tallies.{IsGeneratedFrom}
 use Rattle.dsv_lyapunov.specs.Kept.{AreRefused}
 use Rattle.dsv_lyapunov.specs.declared.kept.KeptForm.{KeptForm}
 use Rattle.dsv_command.specs.Jobs.{Task, decides, checks_time, writes, searches}
-use Rattle.dsv_command.specs.Jobs.{seeks_set, simulates, Asked}
+use Rattle.dsv_command.specs.Jobs.{seeks_set, measures_gain, simulates, Asked}
 use Rattle.dsv_command.specs.Requests.{Request, on_file, checks, generates}
 use Rattle.dsv_names.specs.declared.design.Design.{Design}
 use Rattle.dsv_report.specs.declared.answers.Answer.TheVariants as answer
@@ -50,14 +65,16 @@ use Rattle.dsv_certfile.specs.declared.fault.CertRefusal.TheVariants as unread
 use Rattle.dsv_certfile.specs.declared.fault.CheckFault.{CheckFault}
 use Rattle.dsv_certfile.specs.declared.fault.CheckFault.TheVariants as claim
 use Rattle.dsv_certfile.specs.declared.fault.TextFault.{TextFault}
-use Rattle.dsv_certfile.specs.declared.job.Job.{Job}
+use Rattle.dsv_certfile.specs.declared.job.CertifiedJob.{CertifiedJob}
 use Rattle.dsv_certcheck.specs.Checks.{IsChecked}
 use Rattle.dsv_certcheck.specs.Shown.{IsShownOf}
 use Rattle.dsv_certcheck.specs.LineNumbers.{job_line_number}
 use Rattle.dsv_certcheck.specs.declared.check_refusal.CheckRefusal.TheVariants as refusal
-use Rattle.dsv_bounded.specs.Verdicts.{IsTrace, IsCycle}
+use Rattle.dsv_bounded.specs.Verdicts.{IsCycle}
+use Rattle.dsv_meaning.specs.Traces.{IsTrace}
 use Rattle.dsv_bounded.specs.RunQuestions.{IsWithin}
 use Rattle.dsv_bounded.specs.RunAnswers.{NeverHappens, GaveUp, IsFormulaOf, IsTooLarge}
+use Rattle.dsv_cli.specs.Gain.{most_gain_samples, IsGainOf, IsBreakOf}
 use Rattle.dsv_cli.specs.Sets.{KeepsTo, NoneIsGood}
 use Rattle.dsv_cli.specs.Simulating.{IsRunOver, IsFirstOutside}
 use Rattle.dsv_cli.specs.Timing.{IsTimingOf, IsOnTime}
@@ -76,30 +93,35 @@ longest_certificate = 2 ^ 26
 -- The bytes are the text of a controller, which in the job's realisation and modes becomes these
 -- words, or is refused so.
 pub record IsAccepted (design : Design) (bytes : List ℕ)
-    (outcome : Result FixedPoint QuantRefusal) : Type 0 where
+    (outcome : Result QuantisedView QuantRefusal) : Type 0 where
   pub short : length bytes ≤ longest_file
   pub controller : ControllerView
   pub text : IsTextOf bytes controller
   pub becomes : BecomesWords controller design outcome
 
+-- the task decides this property of roots
+abbrev pub DecidesFor : Task → RootProperty → Type 0
+DecidesFor task property = (schur_cohn : Bool) × (task ≡ decides property schur_cohn)
+
 -- the task decides a property of roots
 abbrev pub Decides : Task → Type 0
-Decides task = (property : RootProperty) × (task ≡ decides property)
+Decides task = (property : RootProperty) × DecidesFor task property
 
 -- The polynomial of the side that the job's property tests, or why there is none.
 pub record IsTested (job : Asked) (bytes : List ℕ) (outcome : Result Tested PolyWide) : Type 0 where
   pub property : RootProperty
-  pub task : job.task ≡ decides property
-  pub words : FixedPoint
-  pub accepted : IsAccepted job.design bytes (Ok words)
-  pub tested : tested_of words (side_of property) ≡ outcome
+  pub schur_cohn : Bool
+  pub task : job.task ≡ decides property schur_cohn
+  pub quantised : QuantisedView
+  pub accepted : IsAccepted job.design bytes (Ok quantised)
+  pub tested : tested_of quantised (side_of property) ≡ outcome
 
 -- The report says what a sample of the file's controller takes, and the time that it has.
 pub record IsTimed (job : Asked) (bytes : List ℕ) (report : TimingReport) : Type 0 where
   pub task : job.task ≡ checks_time
-  pub words : FixedPoint
-  pub accepted : IsAccepted job.design bytes (Ok words)
-  pub timing : IsTimingOf accepted.controller words report
+  pub quantised : QuantisedView
+  pub accepted : IsAccepted job.design bytes (Ok quantised)
+  pub timing : IsTimingOf accepted.controller quantised report
 
 abbrev pub degree : List ℤ → ℕ
 degree poly = length poly - 1
@@ -109,10 +131,10 @@ abbrev pub Simulates : Task → List ℤ → Type 0
 Simulates task inputs = task ≡ simulates inputs
 
 -- These are the rows of the job's run.
-pub record IsRun (job : Asked) (bytes : List ℕ) (inputs : List ℤ) (words : FixedPoint) :
+pub record IsRun (job : Asked) (bytes : List ℕ) (inputs : List ℤ) (q : QuantisedView) :
     Type 0 where
   pub task : Simulates job.task inputs
-  pub accepted : IsAccepted job.design bytes (Ok words)
+  pub accepted : IsAccepted job.design bytes (Ok q)
 
 -- the task is a search whether this property of runs happens
 abbrev pub SearchesFor : Task → RunProperty → Type 0
@@ -128,37 +150,42 @@ abbrev pub Writes : Task → Type 0
 Writes task = (property : RunProperty) × (samples : ℕ) × (task ≡ writes property samples)
 
 -- The job searches whether the property happens within so many samples, with at most so many
--- conflicts, and the file's controller in words is this.
+-- conflicts, and the file's quantised controller is this.
 pub record IsSearch (job : Asked) (bytes : List ℕ) (property : RunProperty)
-    (samples conflicts : ℕ) (words : FixedPoint) : Type 0 where
+    (samples conflicts : ℕ) (q : QuantisedView) : Type 0 where
   pub task : job.task ≡ searches property samples conflicts
-  pub accepted : IsAccepted job.design bytes (Ok words)
+  pub accepted : IsAccepted job.design bytes (Ok q)
 
--- The job writes the formula of this question, and the file's controller in words is this.
+-- The job writes the formula of this question, and the file's quantised controller is this.
 pub record IsWriting (job : Asked) (bytes : List ℕ) (property : RunProperty) (samples : ℕ)
-    (words : FixedPoint) : Type 0 where
+    (q : QuantisedView) : Type 0 where
   pub task : job.task ≡ writes property samples
-  pub accepted : IsAccepted job.design bytes (Ok words)
+  pub accepted : IsAccepted job.design bytes (Ok q)
 
 -- the task seeks a set that is never left
 abbrev pub Seeks : Task → Type 0
 Seeks task = (conflicts : ℕ) × (task ≡ seeks_set conflicts)
 
 -- The job seeks a set that is never left, by searches with at most so many conflicts, and the
--- file's controller in words is this.
-pub record IsSeeking (job : Asked) (bytes : List ℕ) (conflicts : ℕ) (words : FixedPoint) : Type 0
+-- file's quantised controller is this.
+pub record IsSeeking (job : Asked) (bytes : List ℕ) (conflicts : ℕ) (q : QuantisedView) : Type 0
   where
     pub task : job.task ≡ seeks_set conflicts
-    pub accepted : IsAccepted job.design bytes (Ok words)
+    pub accepted : IsAccepted job.design bytes (Ok q)
+
+-- The job asks for the gain, and the file's quantised controller is this.
+pub record IsMeasuring (job : Asked) (bytes : List ℕ) (q : QuantisedView) : Type 0 where
+  pub task : job.task ≡ measures_gain
+  pub accepted : IsAccepted job.design bytes (Ok q)
 
 -- The job asks a question about runs over so many samples, by a search or for its formula, or seeks
 -- a set, which counts as a question over nine samples.
-abbrev pub AsksOver : Asked → List ℕ → ℕ → FixedPoint → Type 0
-AsksOver job bytes samples words =
+abbrev pub AsksOver : Asked → List ℕ → ℕ → QuantisedView → Type 0
+AsksOver job bytes samples q =
     ((property : RunProperty) × (conflicts : ℕ)
-    × IsSearch job bytes property samples conflicts words)
-    ⊎ (((property : RunProperty) × IsWriting job bytes property samples words)
-    ⊎ ((conflicts : ℕ) × IsSeeking job bytes conflicts words × (samples ≡ unbounded_samples)))
+    × IsSearch job bytes property samples conflicts q)
+    ⊎ (((property : RunProperty) × IsWriting job bytes property samples q)
+    ⊎ ((conflicts : ℕ) × IsSeeking job bytes conflicts q × (samples ≡ unbounded_samples)))
 
 -- ---- checks of certificates
 -- The bytes are the text of a controller.
@@ -188,13 +215,13 @@ abbrev pub Spells : (Certificate → Type 0) → List ℕ → Type 0
 Spells P written = (c : Certificate) × IsSpelled written c × P c
 
 -- The bytes are the text of a controller that has the property of a certificate's job.
-pub record HasShown (bytes : List ℕ) (certified : Job) : Type 0 where
+pub record HasShown (bytes : List ℕ) (certified : CertifiedJob) : Type 0 where
   pub controller : ControllerView
   pub accepted : IsController bytes controller
   pub shown : IsShownOf controller certified
 
 -- the certificate passes its check, and has this job
-abbrev pub Passes : Job → ControllerView → List ℕ → Type 0
+abbrev pub Passes : CertifiedJob → ControllerView → List ℕ → Type 0
 Passes certified controller =
     Spells (λ c. (certified ≡ job_of c) × IsChecked controller c (Ok tt))
 
@@ -255,7 +282,7 @@ pub record ShowsNoForm (poly : List ℤ) (kept : List KeptForm) (verdict : Jury)
 -- A row of the table, for a file whose bytes are told or not: the jobs that the answer belongs to;
 -- its cause in some bytes, those of the file where these are told; and what it says whatever the
 -- file.
-pub record Row (told : Option (List ℕ)) (belongs : Type 0) (cause : List ℕ
+pub record TableRow (told : Option (List ℕ)) (belongs : Type 0) (cause : List ℕ
     → Type 0) (says : Type 0) : Type 0 where
   pub belongs_to : belongs
   pub comes_from : CameOf told cause
@@ -266,12 +293,12 @@ pub record Row (told : Option (List ℕ)) (belongs : Type 0) (cause : List ℕ
 abbrev pub IsUnread : Option (List ℕ) → FilesSeen → FilesSeen → List ℕ → Stop → Type 0
 IsUnread told old new name (stop.FileRefused text.NoMemory) = ⊥
 IsUnread told old new name (stop.FileRefused r) =
-    Row told (Unit {0}) (λ bytes. (length bytes ≤ longest_file) × IsFaultOf bytes r) (Unit {0})
+    TableRow told (Unit {0}) (λ bytes. (length bytes ≤ longest_file) × IsFaultOf bytes r) (Unit {0})
 IsUnread told old new name stop.FileTooLong =
-    Row told (Unit {0}) (λ bytes. longest_file < length bytes)
+    TableRow told (Unit {0}) (λ bytes. longest_file < length bytes)
     (Rose (old.came + longest_file) new.came)
 IsUnread told old new name (stop.ReadFault file.Controller) =
-    Row told (Unit {0}) (λ bytes. Unit {0}) (Rose old.faults new.faults
+    TableRow told (Unit {0}) (λ bytes. Unit {0}) (Rose old.faults new.faults
     × (new.blamed ≡ Some name))
 IsUnread told old new name stop.NoMemory = Unit {0}
 IsUnread told old new name other = ⊥
@@ -279,81 +306,96 @@ IsUnread told old new name other = ⊥
 -- The row of each answer to a job on a file with these bytes, where they are told.
 abbrev pub IsRow : Option (List ℕ) → FilesSeen → FilesSeen → Asked → Outcome → Type 0
 IsRow told old new job (Ok (answer.Falls poly offer fall)) =
-    Row told (Decides job.task) (λ bytes. IsTested job bytes (Ok (tested.Poly poly)))
+    TableRow told (Decides job.task) (λ bytes. IsTested job bytes (Ok (tested.Poly poly)))
     (ShowsFall poly offer fall)
 IsRow told old new job (Ok (answer.KeptAway poly offer fall value)) =
-    Row told (Decides job.task) (λ bytes. IsTested job bytes (Ok (tested.Poly poly)))
+    TableRow told (Decides job.task) (λ bytes. IsTested job bytes (Ok (tested.Poly poly)))
     (ShowsKeptAway poly offer fall value)
 IsRow told old new job (Ok answer.NoZeros) =
-    Row told (job.task ≡ decides property.MinimumPhase)
+    TableRow told (DecidesFor job.task property.MinimumPhase)
     (λ bytes. IsTested job bytes (Ok tested.NoZeros)) (Unit {0})
 IsRow told old new job (Ok (answer.NoForm poly kept verdict)) =
-    Row told (Decides job.task) (λ bytes. IsTested job bytes (Ok (tested.Poly poly)))
+    TableRow told (Decides job.task) (λ bytes. IsTested job bytes (Ok (tested.Poly poly)))
     (ShowsNoForm poly kept verdict)
 IsRow told old new job (Ok (answer.Wide index)) =
-    Row told (Decides job.task) (λ bytes. IsTested job bytes (Err (record { index = index })))
+    TableRow told (Decides job.task) (λ bytes. IsTested job bytes (Err (record { index = index })))
     (Unit {0})
 IsRow told old new job (Ok (answer.OnTime report)) =
-    Row told (job.task ≡ checks_time) (λ bytes. IsTimed job bytes report) (IsOnTime report)
+    TableRow told (job.task ≡ checks_time) (λ bytes. IsTimed job bytes report) (IsOnTime report)
 IsRow told old new job (Ok (answer.Late report)) =
-    Row told (job.task ≡ checks_time) (λ bytes. IsTimed job bytes report) (IsOnTime report → ⊥)
+    TableRow told (job.task ≡ checks_time) (λ bytes. IsTimed job bytes report) (IsOnTime report → ⊥)
 IsRow told old new job (Ok (answer.Never log)) =
-    Row told (Searches job.task)
-    (λ bytes. (property : RunProperty) × (samples : ℕ) × (conflicts : ℕ) × (words : FixedPoint)
-    × IsSearch job bytes property samples conflicts words
-    × NeverHappens property samples conflicts words log)
+    TableRow told (Searches job.task)
+    (λ bytes. (property : RunProperty) × (samples : ℕ) × (conflicts : ℕ) × (q : QuantisedView)
+    × IsSearch job bytes property samples conflicts q
+    × NeverHappens property samples conflicts q log)
     (Unit {0})
 IsRow told old new job (Ok (answer.Always candidate logs)) =
-    Row told (Seeks job.task)
-    (λ bytes. (conflicts : ℕ) × (words : FixedPoint) × IsSeeking job bytes conflicts words
-    × KeepsTo words conflicts candidate logs)
+    TableRow told (Seeks job.task)
+    (λ bytes. (conflicts : ℕ) × (q : QuantisedView) × IsSeeking job bytes conflicts q
+    × KeepsTo q conflicts candidate logs)
     (Unit {0})
 IsRow told old new job (Ok (answer.NoInvariant kept)) =
-    Row told (Seeks job.task)
-    (λ bytes. (conflicts : ℕ) × (words : FixedPoint) × IsSeeking job bytes conflicts words
-    × NoneIsGood words conflicts kept)
+    TableRow told (Seeks job.task)
+    (λ bytes. (conflicts : ℕ) × (q : QuantisedView) × IsSeeking job bytes conflicts q
+    × NoneIsGood q conflicts kept)
+    (Unit {0})
+IsRow told old new job (Ok (answer.InRanges gain)) =
+    TableRow told (job.task ≡ measures_gain)
+    (λ bytes. (q : QuantisedView) × IsMeasuring job bytes q × IsGainOf q gain) (Unit {0})
+IsRow told old new job (Ok (answer.OutOfRange sample value)) =
+    TableRow told (job.task ≡ measures_gain)
+    (λ bytes. (q : QuantisedView) × IsMeasuring job bytes q
+    × (outlook_of q most_gain_samples ≡ outlook.Leaves sample value))
+    (Unit {0})
+IsRow told old new job (Ok (answer.TooDeep depth)) =
+    TableRow told (job.task ≡ measures_gain)
+    (λ bytes. (q : QuantisedView) × IsMeasuring job bytes q × (depth ≡ most_gain_samples)
+    × (outlook_of q most_gain_samples ≡ outlook.Deep))
     (Unit {0})
 IsRow told old new job (Ok (answer.Overflow trace)) =
-    Row told (SearchesFor job.task run.Overflow)
-    (λ bytes. (samples : ℕ) × (conflicts : ℕ) × (words : FixedPoint)
-    × IsSearch job bytes run.Overflow samples conflicts words
-    × IsWithin words samples × IsTrace words samples trace)
+    TableRow told (SearchesFor job.task run.Overflow)
+    (λ bytes. (samples : ℕ) × (conflicts : ℕ) × (q : QuantisedView)
+    × IsSearch job bytes run.Overflow samples conflicts q
+    × IsWithin q samples × IsTrace q samples trace)
     (Unit {0})
+    ⊎ TableRow told (job.task ≡ measures_gain)
+    (λ bytes. (q : QuantisedView) × IsMeasuring job bytes q × IsBreakOf q trace) (Unit {0})
 IsRow told old new job (Ok (answer.Cycles cycle)) =
-    Row told (SearchesFor job.task run.LimitCycle)
-    (λ bytes. (samples : ℕ) × (conflicts : ℕ) × (words : FixedPoint)
-    × IsSearch job bytes run.LimitCycle samples conflicts words
-    × IsWithin words samples × IsCycle words samples cycle)
+    TableRow told (SearchesFor job.task run.LimitCycle)
+    (λ bytes. (samples : ℕ) × (conflicts : ℕ) × (q : QuantisedView)
+    × IsSearch job bytes run.LimitCycle samples conflicts q
+    × IsWithin q samples × IsCycle q samples cycle)
     (Unit {0})
 IsRow told old new job (Ok (answer.Spent log)) =
-    Row told (Searches job.task)
-    (λ bytes. (property : RunProperty) × (samples : ℕ) × (conflicts : ℕ) × (words : FixedPoint)
-    × IsSearch job bytes property samples conflicts words
-    × GaveUp property samples conflicts words log)
+    TableRow told (Searches job.task)
+    (λ bytes. (property : RunProperty) × (samples : ℕ) × (conflicts : ℕ) × (q : QuantisedView)
+    × IsSearch job bytes property samples conflicts q
+    × GaveUp property samples conflicts q log)
     (Unit {0})
 IsRow told old new job (Ok (answer.FormulaText formula)) =
-    Row told (Writes job.task)
-    (λ bytes. (property : RunProperty) × (samples : ℕ) × (words : FixedPoint)
-    × IsWriting job bytes property samples words
-    × IsFormulaOf property samples words formula)
+    TableRow told (Writes job.task)
+    (λ bytes. (property : RunProperty) × (samples : ℕ) × (q : QuantisedView)
+    × IsWriting job bytes property samples q
+    × IsFormulaOf property samples q formula)
     (Unit {0})
 IsRow told old new job (Ok (answer.Simulated found)) =
-    Row told ((inputs : List ℤ) × Simulates job.task inputs)
-    (λ bytes. (inputs : List ℤ) × (words : FixedPoint) × IsRun job bytes inputs words
-    × IsRunOver words inputs found)
+    TableRow told ((inputs : List ℤ) × Simulates job.task inputs)
+    (λ bytes. (inputs : List ℤ) × (q : QuantisedView) × IsRun job bytes inputs q
+    × IsRunOver q inputs found)
     (Unit {0})
 IsRow told old new job (Err (stop.JobSize size)) =
-    Row told (Searches job.task ⊎ (Writes job.task ⊎ Seeks job.task))
-    (λ bytes. (samples : ℕ) × (words : FixedPoint) × AsksOver job bytes samples words
-    × IsTooLarge samples words size)
+    TableRow told (Searches job.task ⊎ (Writes job.task ⊎ Seeks job.task))
+    (λ bytes. (samples : ℕ) × (q : QuantisedView) × AsksOver job bytes samples q
+    × IsTooLarge samples q size)
     (Unit {0})
 IsRow told old new job (Err (stop.InputRange index value)) =
-    Row told ((inputs : List ℤ) × Simulates job.task inputs)
-    (λ bytes. (inputs : List ℤ) × (words : FixedPoint) × IsRun job bytes inputs words
-    × IsFirstOutside words.format inputs index value)
+    TableRow told ((inputs : List ℤ) × Simulates job.task inputs)
+    (λ bytes. (inputs : List ℤ) × (q : QuantisedView) × IsRun job bytes inputs q
+    × IsFirstOutside q.format inputs index value)
     (Unit {0})
 IsRow told old new job (Err (stop.QuantRefused r)) =
-    Row told (Unit {0}) (λ bytes. IsAccepted job.design bytes (Err r)) (Unit {0})
+    TableRow told (Unit {0}) (λ bytes. IsAccepted job.design bytes (Err r)) (Unit {0})
 IsRow told old new job (Err why) = IsUnread told old new job.file why
 IsRow told old new job (Ok other) = ⊥
 
@@ -361,20 +403,20 @@ IsRow told old new job (Ok other) = ⊥
 -- controller in a file with these bytes, where they are told.
 abbrev pub IsCheckRow : Option (List ℕ) → FilesSeen → FilesSeen → List ℕ → List ℕ → Outcome → Type 0
 IsCheckRow told old new controller name (Ok (answer.Checked certified)) =
-    Row told (Unit {0})
+    TableRow told (Unit {0})
     (λ bytes. HasShown bytes certified × IsCheckOf old name bytes (Passes certified)) (Unit {0})
 IsCheckRow told old new controller name (Err (stop.CertificateRefused line why)) =
-    Row told (Unit {0}) (λ bytes. IsCheckOf old name bytes (IsFaulty line why))
+    TableRow told (Unit {0}) (λ bytes. IsCheckOf old name bytes (IsFaulty line why))
     (ShowsFault old new why)
 IsCheckRow told old new controller name (Err (stop.QuantRefused r)) =
-    Row told (Unit {0}) (λ bytes. IsCheckOf old name bytes
+    TableRow told (Unit {0}) (λ bytes. IsCheckOf old name bytes
     (λ c. Spells (λ certificate. IsChecked c certificate (Err (refusal.Quant r))))) (Unit {0})
 IsCheckRow told old new controller name (Err (stop.JobSize size)) =
-    Row told (Unit {0}) (λ bytes. IsCheckOf old name bytes
+    TableRow told (Unit {0}) (λ bytes. IsCheckOf old name bytes
     (λ c. Spells (λ certificate. IsChecked c certificate (Err (refusal.JobSize size)))))
     (Unit {0})
 IsCheckRow told old new controller name (Err (stop.ReadFault file.Certificate)) =
-    Row told (Unit {0}) (λ bytes. IsCheckOf old name bytes (λ c written. Unit {0}))
+    TableRow told (Unit {0}) (λ bytes. IsCheckOf old name bytes (λ c written. Unit {0}))
     (Rose old.faults new.faults × (new.blamed ≡ Some name))
 IsCheckRow told old new controller name (Err why) = IsUnread told old new controller why
 IsCheckRow told old new controller name (Ok other) = ⊥
@@ -398,10 +440,10 @@ IsExplained old new (Some (generates seed count)) found =
     IsOfGeneration seed count found × (new ≡ old)
 
 -- these are the words that the job's controller becomes
-abbrev pub FileBecomes : FilesSeen → Option Asked → FixedPoint → Type 0
-FileBecomes old None words = ⊥
-FileBecomes old (Some job) words =
-    CameOf (old.held job.file) (λ bytes. IsAccepted job.design bytes (Ok words))
+abbrev pub FileBecomes : FilesSeen → Option Asked → QuantisedView → Type 0
+FileBecomes old None q = ⊥
+FileBecomes old (Some job) q =
+    CameOf (old.held job.file) (λ bytes. IsAccepted job.design bytes (Ok q))
 
 -- ---- what stays, and what is written
 -- What the files hold is as before, and the count of faults didn't fall.

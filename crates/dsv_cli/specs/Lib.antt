@@ -6,6 +6,7 @@ pub mod Causes
 pub mod Checking
 pub mod Completeness
 pub mod FileBytes
+pub mod Gain
 pub mod Headline
 pub mod OneAnswer
 pub mod Proposers

@@ -28,10 +28,12 @@ SameAnswer (Ok (answer.Cycles cycle)) (Ok (answer.Cycles other)) = Unit {0}
 SameAnswer a b = a ≡ b
 
 -- The answer is settled by the bytes: it is neither want of memory nor a fault of a read, proposers
--- had no part in it, and no search gave up.
+-- had no part in it, no search gave up, and what is beyond the gain's ranges isn't left to the
+-- lists that were tried.
 abbrev pub IsSettled : Outcome → Type 0
 IsSettled (Err (stop.ReadFault file)) = ⊥
 IsSettled (Ok (answer.Spent log)) = ⊥
+IsSettled (Ok (answer.OutOfRange sample value)) = ⊥
 IsSettled (Ok (answer.Always candidate logs)) = ⊥
 IsSettled (Ok (answer.NoInvariant kept)) = ⊥
 IsSettled found = NeedsNone found

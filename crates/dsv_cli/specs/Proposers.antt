@@ -1,15 +1,17 @@
 -- What becomes of the lists of proposers, whatever they offer.
-use Rattle.std.specs.Prelude.{◌≡◌, Bool, true, false, List, [], ◌∷◌, map}
+use Rattle.std.specs.Prelude.{◌≡◌, ◌⊎◌, Bool, true, false, List, [], ◌∷◌, map}
 use Rattle.std.specs.Prelude.{Option, Some, None, Ok, Err, ℤ}
 use Rattle.dsv_forms.specs.declared.offers.FormOffer.{FormOffer}
 use Rattle.dsv_forms.specs.declared.offers.FormOffer.TheVariants as offered
 use Rattle.dsv_closed_forms.specs.ClosedForm.{closed_form_of, are_within, second_limit}
 use Rattle.dsv_cli.specs.Blocks.{AreBlocks}
 use Rattle.dsv_cli.specs.Suffixes.{IsSuffix, IfFirst, HoldsOfNone}
-use Rattle.dsv_command.specs.Jobs.{Asked}
+use Rattle.dsv_command.specs.Jobs.{Task, decides, Asked}
+use Rattle.dsv_names.specs.declared.property.RootProperty.{RootProperty}
 use Rattle.dsv_cli.specs.Headline.{Decides, Seeks}
 use Rattle.dsv_lyapunov.specs.declared.kept.KeptForm.{KeptForm}
-use Rattle.dsv_quantiser.specs.FixedPoint.{FixedPoint}
+use Rattle.dsv_quantiser.specs.QuantisedView.{QuantisedView}
+use Rattle.dsv_schur_cohn.specs.Offer.{IsSmall, HasNegativePlace}
 use Rattle.dsv_template.specs.declared.candidate.Candidate.{Candidate}
 use Rattle.dsv_template.specs.declared.kept.KeptSet.{KeptSet}
 use Rattle.dsv_template.specs.declared.shape.Shape.{Shape}
@@ -50,17 +52,19 @@ abbrev pub told_of : {B : Type 0} → (B → List ℤ → Option (List FormOffer
 told_of to_come poly proposers = map (λ b. to_come b poly) proposers
 
 -- The proposers of forms before and after a run with this answer: `place`, `last`, `sure` and
--- `to_come` are the address and the meanings of each.
+-- `to_come` are the address and the meanings of each; `own` says whether the command makes an offer
+-- of its own before it asks any, the Schur-Cohn form.
 pub record IsAsked {B P : Type 0} (place : B → P) (last : B → Option FormOffer)
-    (sure : B → List ℤ → Type 0) (to_come : B → List ℤ → Option (List FormOffer))
+    (sure : B → List ℤ → Type 0) (to_come : B → List ℤ → Option (List FormOffer)) (own : Type 0)
     (before after : List B) (found : Outcome) : Type 0 where
   -- the last of them are left, and only the first of these was asked
   pub suffix : IsSuffix place before after
   -- an answer that needs none leaves the list as it was
   pub unasked : NeedsNone found → after ≡ before
-  -- a form that isn't the closed form is what the first that is left gave last
+  -- a form that isn't the closed form is the command's own, for which nobody was asked, or what the
+  -- first that is left gave last
   pub offered : IfOffered found (λ poly offer. closed_form_of poly ≡ None
-      → IfFirst after (λ b. last b ≡ Some offer))
+      → (own × (after ≡ before)) ⊎ IfFirst after (λ b. last b ≡ Some offer))
   -- where no form was found, none was sure of the polynomial and none is left; the kept offers are
   -- a block of each in their order: the first 32 of what it tells, and else at most 32
   pub none_sure : IfNoForm found (λ poly kept. HoldsOfNone (λ b. sure b poly) before)
@@ -72,6 +76,18 @@ pub record IsAsked {B P : Type 0} (place : B → P) (last : B → Option FormOff
 abbrev pub WantsForm : Option Asked → Type 0
 WantsForm None = ⊥
 WantsForm (Some job) = Decides job.task
+
+-- the task asks for the Schur-Cohn form before any proposer
+abbrev pub AsksSchurCohn : Task → Type 0
+AsksSchurCohn task = (property : RootProperty) × (task ≡ decides property true)
+
+abbrev pub WantsSchurCohn : Option Asked → Type 0
+WantsSchurCohn None = ⊥
+WantsSchurCohn (Some job) = AsksSchurCohn job.task
+
+-- The polynomial is none that its Schur-Cohn form is known to decide always.
+abbrev pub IsBeyond : List ℤ → Type 0
+IsBeyond poly = IsSmall poly → HasNegativePlace poly → ⊥
 
 -- the order is 0 or 1, or 2 with all coefficients at most 2^23 in size
 abbrev pub is_low : List ℤ → Bool
@@ -103,7 +119,7 @@ IfNoInvariant other P = Unit {0}
 -- the address and the meanings of each, and `becomes` says which words the job's controller
 -- becomes.
 pub record AreSetsAsked {B P : Type 0} (place : B → P) (last : B → Option Candidate)
-    (to_come : B → Shape → Option (List Candidate)) (becomes : FixedPoint → Type 0)
+    (to_come : B → Shape → Option (List Candidate)) (becomes : QuantisedView → Type 0)
     (before after : List B) (found : Outcome) : Type 0 where
   -- the last of them are left, and only the first of these was asked
   pub suffix : IsSuffix place before after

@@ -1,6 +1,6 @@
 -- For private contracts: what comes of asking proposers of sets.
 use Rattle.std.specs.Prelude.{ℕ, List, Option, Some, None}
-use Rattle.dsv_quantiser.specs.FixedPoint.{FixedPoint}
+use Rattle.dsv_quantiser.specs.QuantisedView.{QuantisedView}
 use Rattle.dsv_template.specs.declared.candidate.Candidate.{Candidate}
 use Rattle.dsv_template.specs.declared.kept.KeptSet.{KeptSet}
 use Rattle.dsv_template.specs.declared.verdict.ThreeLogs.{ThreeLogs}
@@ -30,7 +30,7 @@ found_of turn.Nothing = None
 found_of (turn.Accepted candidate logs) = Some (why.Good logs)
 found_of (turn.Refused kept) = Some kept.why
 
-abbrev pub IsJudgedSet : FixedPoint → ℕ → SetTurn → Type 0
+abbrev pub IsJudgedSet : QuantisedView → ℕ → SetTurn → Type 0
 IsJudgedSet words conflicts turn.Nothing = Unit {0}
 IsJudgedSet words conflicts (turn.Accepted candidate logs) =
     IsCause words conflicts candidate (why.Good logs)

@@ -9,7 +9,7 @@ ghost use Rattle.dsv_cli.specs.Headline.{IsExplained, IsOfGeneration, FileBecome
 ghost use Rattle.dsv_cli.specs.Headline.{AreKept, IsWritten, IfWhole};
 ghost use Rattle.dsv_cli.specs.Causes.{IsPlain};
 ghost use Rattle.dsv_cli.specs.Proposers.{IsAsked, AreSetsAsked, IfNoForm, is_low};
-ghost use Rattle.dsv_cli.specs.Proposers.{WantsForm, WantsSet};
+ghost use Rattle.dsv_cli.specs.Proposers.{WantsForm, WantsSet, WantsSchurCohn, IsBeyond};
 
 use crate::check::check_answer;
 use crate::job::job_answer;
@@ -96,6 +96,7 @@ pub fn run<F: Files, K: Sink>(
         (λ b. (⟦<dyn FormProposer as FormProposer>⟧ b.vtable).last b.value)
         (λ b cs. sure b cs)
         (λ b cs. (⟦<dyn FormProposer as FormProposer>⟧ b.vtable).to_come b.value cs)
+        (WantsSchurCohn (job_of (map string_bytes arguments.now)))
         proposers.old.forms.items proposers.new.forms.items result.outcome }
     // A list that the job doesn't need stays as it was whatever the outcome, want of memory too.
     ensures unneeded_sets { (WantsSet (job_of (map string_bytes arguments.now)) → ⊥)
@@ -104,6 +105,9 @@ pub fn run<F: Files, K: Sink>(
         → proposers.new.forms.items ≡ proposers.old.forms.items }
     // A polynomial of order 0 or 1, or 2 with small coefficients, is always decided.
     ensures low_orders { IfNoForm result.outcome (λ poly kept. is_low poly ≡ false) }
+    // Where the Schur-Cohn form is asked for, so is one for which it is known to be accepted.
+    ensures schur_cohn { WantsSchurCohn (job_of (map string_bytes arguments.now))
+        → IfNoForm result.outcome (λ poly kept. IsBeyond poly) }
     // What the files hold is as before.
     ensures kept { AreKept (F.seen files.old) (F.seen files.new) }
     // The certificate that the job wants, or else the outcome's text, was written and the status is

@@ -1,5 +1,5 @@
 // Decides a polynomial by a form that is checked.
-ghost use Rattle.std.specs.Prelude.{◌≡◌, [], Some, None, IfOk, IfSome};
+ghost use Rattle.std.specs.Prelude.{◌≡◌, ◌⊎◌, [], true, Some, None, IfOk, IfSome};
 ghost use Rattle.dsv_closed_forms.specs.ClosedForm.{closed_form_of, IsAccepted};
 ghost use Rattle.dsv_jury.specs.Jury.{jury_of};
 ghost use Rattle.dsv_lyapunov.specs.Answers.{offer_in, IsShown};
@@ -7,7 +7,7 @@ ghost use Rattle.dsv_cli.specs.Asking.{IsJudged, IfAccepted, IfRefused, IsNotAcc
 ghost use Rattle.dsv_cli.specs.Asking.{IfChecked, IfNoForm, IsChecked};
 ghost use Rattle.dsv_lyapunov.specs.Kept.{AreRefused};
 ghost use Rattle.dsv_cli.specs.Blocks.{AreBlocks, IsTurn};
-ghost use Rattle.dsv_cli.specs.Proposers.{offers_in, told_of};
+ghost use Rattle.dsv_cli.specs.Proposers.{offers_in, told_of, IsBeyond};
 ghost use Rattle.dsv_cli.specs.Suffixes.{IsSuffix, IfFirst, HoldsOfNone};
 
 use dsv_base::NoMemory;
@@ -15,6 +15,7 @@ use dsv_closed_forms::closed_form;
 use dsv_forms::{FormOffer, Poly};
 use dsv_jury::{Jury, jury};
 use dsv_lyapunov::{CheckedForm, FormProposer, KeptForm, KeptForms, check_offer};
+use dsv_schur_cohn::schur_cohn_offer;
 use std::alloc::Global;
 
 /// The most offers of one proposer that are refused.
@@ -119,12 +120,28 @@ fn asked_answer(
     })
 }
 
-/// Decides a polynomial by a form that is checked: its closed form, where it has one, and else what
-/// the proposers offer, who are asked in their order. One that offers nothing, or whose 32nd offer
-/// was refused, is dropped; one whose offer is accepted stays in front.
+/// The Schur-Cohn form, where it is wanted and one is accepted.
+fn schur_cohn_form(poly: &Poly, wanted: bool) -> Option<CheckedForm>
+    ensures accepted { IfSome result (λ found. IsAccepted poly.now (offer_in found)) }
+    ensures shown { IfSome result (IsShown poly.now) }
+    ensures wanted { IfSome result (λ found. wanted ≡ true) }
+    ensures beyond { wanted ≡ true → result ≡ None → IsBeyond poly.now }
+{
+    if !wanted {
+        return None;
+    }
+    let offer = schur_cohn_offer(poly)?;
+    Some(accepted_form(poly, &offer))
+}
+
+/// Decides a polynomial by a form that is checked: its closed form, where it has one; else its
+/// Schur-Cohn form, where that is wanted; and else what the proposers offer, who are asked in their
+/// order. One that offers nothing, or whose 32nd offer was refused, is dropped; one whose offer is
+/// accepted stays in front.
 pub fn decide(
     alloc: Global,
     poly: &Poly,
+    schur_cohn: bool,
     forms: &mut Vec<Box<dyn FormProposer>>,
 ) -> Result<FormAnswer, NoMemory>
     // Where there is a closed form, the answer is that offer; no memory is taken and nobody asked.
@@ -137,9 +154,11 @@ pub fn decide(
     ensures accepted { IfOk result (λ a. IfChecked a (λ found.
         IsAccepted poly.now (offer_in found))) }
     ensures shown { IfOk result (λ a. IfChecked a (λ found. IsShown poly.now found)) }
-    // Where it is no closed form, the first proposer that is left gave it last.
+    // Where it is no closed form, it is the Schur-Cohn form and nobody was asked, or the first
+    // proposer that is left gave it last.
     ensures last { closed_form_of poly.now ≡ None → IfOk result (λ a. IfChecked a (λ found.
-        IfFirst forms.new.items (λ b. last b ≡ Some (offer_in found)))) }
+        ((schur_cohn ≡ true) × (forms.new.items ≡ forms.old.items))
+        ⊎ IfFirst forms.new.items (λ b. last b ≡ Some (offer_in found)))) }
     // No form: there is no closed form, no proposer was sure and none is left, each kept offer has
     // its refusal, and they are a block of each proposer: the first 32 of what it tells, and else
     // at most 32.
@@ -152,9 +171,15 @@ pub fn decide(
     ensures sure { IfOk result (λ a. IfNoForm a (λ kept verdict.
         HoldsOfNone (λ b. sure b poly.now) forms.old.items)) }
     ensures jury { IfOk result (λ a. IfNoForm a (λ kept verdict. verdict ≡ jury_of poly.now)) }
+    // Where the Schur-Cohn form is wanted, the polynomial is none that it always decides.
+    ensures beyond { schur_cohn ≡ true
+        → IfOk result (λ a. IfNoForm a (λ kept verdict. IsBeyond poly.now)) }
 {
-    match closed_form(poly) {
-        Some(offer) => Ok(FormAnswer::Checked(accepted_form(poly, &offer))),
-        None => asked_answer(alloc, poly, forms),
+    if let Some(offer) = closed_form(poly) {
+        return Ok(FormAnswer::Checked(accepted_form(poly, &offer)));
     }
+    if let Some(found) = schur_cohn_form(poly, schur_cohn) {
+        return Ok(FormAnswer::Checked(found));
+    }
+    asked_answer(alloc, poly, forms)
 }

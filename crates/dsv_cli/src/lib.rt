@@ -7,6 +7,7 @@ mod command;
 mod controller_file;
 mod file_bytes;
 mod forms;
+mod gain;
 mod job;
 mod law;
 mod proposers;

@@ -8,7 +8,13 @@ ghost use Rattle.dsv_invariant.specs.Shapes.{shape_of};
 ghost use Rattle.dsv_template.specs.declared.shape.Shape.{Shape};
 ghost use Rattle.dsv_template.specs.Boxes.{boxes};
 ghost use Rattle.dsv_cli.specs.Headline.{IsExplained, FileBecomes, AreKept, IsWritten, IfWhole};
-ghost use Rattle.dsv_cli.specs.Proposers.{IfNoForm, IfNoInvariant, is_low};
+ghost use Rattle.dsv_cli.specs.Proposers.{
+  IfNoForm,
+  IfNoInvariant,
+  WantsSchurCohn,
+  IsBeyond,
+  is_low,
+};
 ghost use Rattle.dsv_cli.specs.Sets.{AreOfJob};
 
 use crate::command::{Done, put_outcome, run};
@@ -45,8 +51,10 @@ fn run_with<F: Files, K: Sink>(
     // up.
     ensures boxes { IfNoInvariant result.outcome (AreOfJob
         (FileBecomes (F.seen files.old) (job_of (map string_bytes arguments.now)))
-        (λ words. Some (boxes (shape_of words)) ∷ [])) }
+        (λ q. Some (boxes (shape_of q)) ∷ [])) }
     ensures low_orders { IfNoForm result.outcome (λ poly kept. is_low poly ≡ false) }
+    ensures schur_cohn { WantsSchurCohn (job_of (map string_bytes arguments.now))
+        → IfNoForm result.outcome (λ poly kept. IsBeyond poly) }
     ensures kept { AreKept (F.seen files.old) (F.seen files.new) }
     ensures written { IsWritten (K.seen sink.old) (K.seen sink.new) result.status
         (status_of result.outcome)
@@ -80,8 +88,10 @@ pub fn run_with_built_in<F: Files, K: Sink>(
     // up.
     ensures boxes { IfNoInvariant result.outcome (AreOfJob
         (FileBecomes (F.seen files.old) (job_of (map string_bytes arguments.now)))
-        (λ words. Some (boxes (shape_of words)) ∷ [])) }
+        (λ q. Some (boxes (shape_of q)) ∷ [])) }
     ensures low_orders { IfNoForm result.outcome (λ poly kept. is_low poly ≡ false) }
+    ensures schur_cohn { WantsSchurCohn (job_of (map string_bytes arguments.now))
+        → IfNoForm result.outcome (λ poly kept. IsBeyond poly) }
     ensures kept { AreKept (F.seen files.old) (F.seen files.new) }
     ensures written { IsWritten (K.seen sink.old) (K.seen sink.new) result.status
         (status_of result.outcome)

@@ -1,4 +1,4 @@
-// Answers questions about runs of a controller in words.
+// Answers questions about runs of a quantised controller.
 ghost use Rattle.std.specs.Prelude.{◌≡◌, ◌≤◌};
 ghost use Rattle.dsv_command.specs.Limits.{most_samples};
 ghost use Rattle.dsv_names.specs.declared.property.RunProperty.TheVariants as run;
@@ -63,58 +63,58 @@ fn cycle_found(found: Result<Searched<Cycle>, BoundedRefusal>) -> Result<Answer,
 /// Whether an overflow happens.
 fn overflow_answer(
     alloc: Global,
-    words: &Quantised,
+    quantised: &Quantised,
     samples: u32,
     budget: &Budget,
 ) -> Result<Answer, Stop>
     requires some { 1 ≤ samples }
     requires few { samples ≤ most_samples }
-    ensures search { IsOfSearch run.Overflow samples budget.now.conflicts words.now result }
+    ensures search { IsOfSearch run.Overflow samples budget.now.conflicts quantised.now result }
     ensures plain { IsPlain result }
 {
-    overflow_found(overflow(alloc, words, samples, budget.conflicts))
+    overflow_found(overflow(alloc, quantised, samples, budget.conflicts))
 }
 
 /// Whether a limit cycle happens.
 fn cycle_answer(
     alloc: Global,
-    words: &Quantised,
+    quantised: &Quantised,
     samples: u32,
     budget: &Budget,
 ) -> Result<Answer, Stop>
     requires some { 1 ≤ samples }
     requires few { samples ≤ most_samples }
-    ensures search { IsOfSearch run.LimitCycle samples budget.now.conflicts words.now result }
+    ensures search { IsOfSearch run.LimitCycle samples budget.now.conflicts quantised.now result }
     ensures plain { IsPlain result }
 {
-    cycle_found(limit_cycle(alloc, words, samples, budget.conflicts))
+    cycle_found(limit_cycle(alloc, quantised, samples, budget.conflicts))
 }
 
 /// The formula of a question.
 pub(crate) fn formula_answer(
     alloc: Global,
-    words: &Quantised,
+    quantised: &Quantised,
     question: &RunQuestion,
 ) -> Result<Answer, Stop>
-    ensures formula { IsOfFormula question.now.property question.now.samples words.now result }
+    ensures formula { IsOfFormula question.now.property question.now.samples quantised.now result }
     ensures plain { IsPlain result }
 {
-    formula_found(question_formula(alloc, words, question.property, question.samples))
+    formula_found(question_formula(alloc, quantised, question.property, question.samples))
 }
 
 /// The answer to a question, by a search.
 pub(crate) fn search_answer(
     alloc: Global,
-    words: &Quantised,
+    quantised: &Quantised,
     question: &RunQuestion,
     budget: &Budget,
 ) -> Result<Answer, Stop>
     ensures search { IsOfSearch question.now.property question.now.samples budget.now.conflicts
-        words.now result }
+        quantised.now result }
     ensures plain { IsPlain result }
 {
     match question.property {
-        RunProperty::Overflow => overflow_answer(alloc, words, question.samples, budget),
-        RunProperty::LimitCycle => cycle_answer(alloc, words, question.samples, budget),
+        RunProperty::Overflow => overflow_answer(alloc, quantised, question.samples, budget),
+        RunProperty::LimitCycle => cycle_answer(alloc, quantised, question.samples, budget),
     }
 }

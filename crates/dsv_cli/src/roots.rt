@@ -1,31 +1,34 @@
-// Answers whether a controller in words has a property of its roots.
-ghost use Rattle.std.specs.Prelude.{IfOk};
+// Answers whether a quantised controller has a property of its roots.
+ghost use Rattle.std.specs.Prelude.{◌≡◌, true, IfOk};
 ghost use Rattle.dsv_report.specs.Printing.{HasPlaces};
 ghost use Rattle.dsv_cli.specs.Causes.{IsDecision, IsOfProperty};
-ghost use Rattle.dsv_cli.specs.Proposers.{IsAsked};
+ghost use Rattle.dsv_cli.specs.Proposers.{IsAsked, IfNoForm, IsBeyond};
 
 use crate::forms::{FormAnswer, decide};
+use dsv_command::RootQuestion;
 use dsv_delta::PolyWide;
 use dsv_forms::Poly;
 use dsv_lyapunov::{CheckedForm, FormProposer};
-use dsv_names::RootProperty;
 use dsv_quantiser::Quantised;
 use dsv_report::{Answer, Stop};
 use dsv_tested::{Tested, polynomial_of, side_of};
 use std::alloc::Global;
 
-/// The answer that decides a polynomial, by its closed form or by what the proposers offer.
+/// The answer that decides a polynomial, by its closed form, by its Schur-Cohn form where that is
+/// asked for, or by what the proposers offer.
 fn polynomial_answer(
     alloc: Global,
     poly: Poly,
+    schur_cohn: bool,
     forms: &mut Vec<Box<dyn FormProposer>>,
 ) -> Result<Answer, Stop>
     ensures decision { IsDecision poly result }
     ensures places { IfOk result HasPlaces }
     ensures proposers { IsAsked (λ b. b.ptr) (λ b. last b) (λ b cs. sure b cs)
-        (λ b cs. to_come b cs) forms.old.items forms.new.items result }
+        (λ b cs. to_come b cs) (schur_cohn ≡ true) forms.old.items forms.new.items result }
+    ensures beyond { schur_cohn ≡ true → IfNoForm result (λ poly kept. IsBeyond poly) }
 {
-    match decide(alloc, &poly, forms)? {
+    match decide(alloc, &poly, schur_cohn, forms)? {
         FormAnswer::Checked(CheckedForm::Falls { offer, fall }) => {
             Ok(Answer::Falls { poly, offer, fall })
         }
@@ -42,17 +45,20 @@ fn polynomial_answer(
 /// The answer whether the controller has the property.
 pub(crate) fn roots_answer(
     alloc: Global,
-    words: &Quantised,
-    property: RootProperty,
+    quantised: &Quantised,
+    question: &RootQuestion,
     forms: &mut Vec<Box<dyn FormProposer>>,
 ) -> Result<Answer, Stop>
-    ensures property { IsOfProperty property words.now result }
+    ensures property { IsOfProperty question.now.property quantised.now result }
     ensures places { IfOk result HasPlaces }
     ensures proposers { IsAsked (λ b. b.ptr) (λ b. last b) (λ b cs. sure b cs)
-        (λ b cs. to_come b cs) forms.old.items forms.new.items result }
+        (λ b cs. to_come b cs) (question.now.schur_cohn ≡ true) forms.old.items forms.new.items
+        result }
+    ensures beyond { question.now.schur_cohn ≡ true
+        → IfNoForm result (λ poly kept. IsBeyond poly) }
 {
-    match polynomial_of(words, side_of(property)) {
-        Ok(Tested::Poly(poly)) => polynomial_answer(alloc, poly, forms),
+    match polynomial_of(quantised, side_of(question.property)) {
+        Ok(Tested::Poly(poly)) => polynomial_answer(alloc, poly, question.schur_cohn, forms),
         Ok(Tested::NoZeros) => Ok(Answer::NoZeros),
         Err(PolyWide { index }) => Ok(Answer::Wide { index }),
     }

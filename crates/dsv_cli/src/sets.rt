@@ -58,14 +58,14 @@ fn turn_of(candidate: Candidate, why: Why) -> SetTurn
 /// Asks a proposer once, and tells it what was found of its offer.
 fn ask(
     alloc: Global,
-    words: &Quantised,
+    quantised: &Quantised,
     shape: &Shape,
     budget: &Budget,
     first: &mut Box<dyn InvariantProposer>,
 ) -> Result<SetTurn, NoMemory>
     requires lawful { IsLawful shape.now }
     ensures same { first.new.ptr ≡ first.old.ptr }
-    ensures judged { IfOk result (IsJudgedSet words.now budget.now.conflicts) }
+    ensures judged { IfOk result (IsJudgedSet quantised.now budget.now.conflicts) }
     ensures last { IfOk result (λ a. IfSome (offer_of a) (λ c. last first.new ≡ Some c)) }
     ensures turn { IfOk result (λ a. IsTurn (to_come first.old shape.now)
         (to_come first.new shape.now) (offer_of a)) }
@@ -74,7 +74,7 @@ fn ask(
     let Some(candidate) = first.propose(alloc, shape)? else {
         return Ok(SetTurn::Nothing);
     };
-    let why = check_candidate(alloc, words, &candidate, budget.conflicts)?;
+    let why = check_candidate(alloc, quantised, &candidate, budget.conflicts)?;
     first.tell(&why);
     Ok(turn_of(candidate, why))
 }
@@ -97,27 +97,27 @@ pub enum SetAnswer {
 /// 32nd offer wasn't good, is dropped; one whose offer is good stays in front.
 fn asked_sets(
     alloc: Global,
-    words: &Quantised,
+    quantised: &Quantised,
     budget: &Budget,
     sets: &mut Vec<Box<dyn InvariantProposer>>,
 ) -> Result<SetAnswer, NoMemory>
-    requires { IsWithin words.now unbounded_samples }
+    requires { IsWithin quantised.now unbounded_samples }
     ensures suffix { IsSuffix (λ b. b.ptr) sets.old.items sets.new.items }
-    ensures good { IfOk result (λ a. IfKept a (KeepsTo words.now budget.now.conflicts)) }
+    ensures good { IfOk result (λ a. IfKept a (KeepsTo quantised.now budget.now.conflicts)) }
     ensures last { IfOk result (λ a. IfKept a (λ candidate logs.
         IfFirst sets.new.items (λ b. last b ≡ Some candidate))) }
     ensures heard { IfOk result (λ a. IfKept a (λ candidate logs.
         IfFirst sets.new.items (λ b. heard b (why.Good logs)))) }
     ensures none_left { IfOk result (λ a. IfNoSet a (λ kept. sets.new.items ≡ [])) }
-    ensures causes { IfOk result (λ a. IfNoSet a (NoneIsGood words.now budget.now.conflicts)) }
+    ensures causes { IfOk result (λ a. IfNoSet a (NoneIsGood quantised.now budget.now.conflicts)) }
     ensures blocks { IfOk result (λ a. IfNoSet a (λ kept. AreBlocks 32
-        (told_for (λ b shape. to_come b shape) words.now sets.old.items) (candidates kept))) }
+        (told_for (λ b shape. to_come b shape) quantised.now sets.old.items) (candidates kept))) }
 {
-    let shape = shape_of(words);
+    let shape = shape_of(quantised);
     let mut kept = KeptSets::new(alloc);
     let mut asked = 0;
     'asking: while !sets.is_empty() {
-        match ask(alloc, words, &shape, budget, &mut sets[0])? {
+        match ask(alloc, quantised, &shape, budget, &mut sets[0])? {
             SetTurn::Nothing => {
                 sets.remove(0);
                 asked = 0;
@@ -144,46 +144,46 @@ fn asked_sets(
 /// before anybody is asked.
 pub fn seek_set(
     alloc: Global,
-    words: &Quantised,
+    quantised: &Quantised,
     budget: &Budget,
     sets: &mut Vec<Box<dyn InvariantProposer>>,
 ) -> Result<SetAnswer, BoundedRefusal>
     // The job is refused exactly where it is too large, want of memory aside, and nobody is asked
     // then.
-    ensures sized { IsSized (job_size_of words.now unbounded_samples) result }
-    ensures unasked { most_size < job_size_of words.now unbounded_samples
+    ensures sized { IsSized (job_size_of quantised.now unbounded_samples) result }
+    ensures unasked { most_size < job_size_of quantised.now unbounded_samples
         → sets.new.items ≡ sets.old.items }
     // What is left of the proposers: the last of them, and only the first was asked.
     ensures suffix { IsSuffix (λ b. b.ptr) sets.old.items sets.new.items }
     // A set is good, the first proposer that is left gave it last, and has heard that it is good.
-    ensures good { IfOk result (λ a. IfKept a (KeepsTo words.now budget.now.conflicts)) }
+    ensures good { IfOk result (λ a. IfKept a (KeepsTo quantised.now budget.now.conflicts)) }
     ensures last { IfOk result (λ a. IfKept a (λ candidate logs.
         IfFirst sets.new.items (λ b. last b ≡ Some candidate))) }
     ensures heard { IfOk result (λ a. IfKept a (λ candidate logs.
         IfFirst sets.new.items (λ b. heard b (why.Good logs)))) }
     // No set: no proposer is left, no kept candidate is good, and they were asked in their order.
     ensures none_left { IfOk result (λ a. IfNoSet a (λ kept. sets.new.items ≡ [])) }
-    ensures causes { IfOk result (λ a. IfNoSet a (NoneIsGood words.now budget.now.conflicts)) }
+    ensures causes { IfOk result (λ a. IfNoSet a (NoneIsGood quantised.now budget.now.conflicts)) }
     ensures blocks { IfOk result (λ a. IfNoSet a (λ kept. AreBlocks 32
-        (told_for (λ b shape. to_come b shape) words.now sets.old.items) (candidates kept))) }
+        (told_for (λ b shape. to_come b shape) quantised.now sets.old.items) (candidates kept))) }
 {
-    accept_unbounded(words)?;
-    Ok(asked_sets(alloc, words, budget, sets)?)
+    accept_unbounded(quantised)?;
+    Ok(asked_sets(alloc, quantised, budget, sets)?)
 }
 
 /// The answer on runs of any length, by what the proposers of sets offer.
 pub(crate) fn sets_answer(
     alloc: Global,
-    words: &Quantised,
+    quantised: &Quantised,
     budget: &Budget,
     sets: &mut Vec<Box<dyn InvariantProposer>>,
 ) -> Result<Answer, Stop>
-    ensures sets { IsOfSets budget.now.conflicts words.now result }
+    ensures sets { IsOfSets budget.now.conflicts quantised.now result }
     ensures places { IfOk result HasPlaces }
     ensures proposers { AreSetsAsked (λ b. b.ptr) (λ b. last b) (λ b shape. to_come b shape)
-        (λ w. w ≡ words.now) sets.old.items sets.new.items result }
+        (λ w. w ≡ quantised.now) sets.old.items sets.new.items result }
 {
-    match seek_set(alloc, words, budget, sets) {
+    match seek_set(alloc, quantised, budget, sets) {
         Ok(SetAnswer::Kept { candidate, logs }) => Ok(Answer::Always { candidate, logs }),
         Ok(SetAnswer::NoInvariant { kept }) => Ok(Answer::NoInvariant { kept }),
         Err(refusal) => Err(question_stop(refusal)),

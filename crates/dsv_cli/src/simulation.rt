@@ -1,4 +1,4 @@
-// Answers simulations of a controller in words.
+// Answers simulations of a quantised controller.
 #![tactic(auto, using(dsv_algebra::proofs::Casts::casts))]
 
 ghost use Rattle.std.specs.Prelude.{◌≤◌, length, MatchOption};
@@ -39,18 +39,18 @@ fn find_outside(format: &Format, inputs: &[i64]) -> Option<Numbered>
 /// The answer to a simulation over these inputs.
 pub(crate) fn simulation_answer(
     alloc: Global,
-    words: &Quantised,
+    quantised: &Quantised,
     inputs: &[i64],
 ) -> Result<Answer, Stop>
     requires { length inputs.now ≤ 64 }
-    ensures run { IsOfRun words.now inputs.now result }
+    ensures run { IsOfRun quantised.now inputs.now result }
     ensures plain { IsPlain result }
 {
-    if let Some(Numbered { index, value }) = find_outside(&words.format(), inputs) {
+    if let Some(Numbered { index, value }) = find_outside(&quantised.format(), inputs) {
         return Err(Stop::InputRange {
             index,
             value: i128::from(value),
         });
     }
-    Ok(Answer::Simulated(simulate(alloc, words, inputs)?))
+    Ok(Answer::Simulated(simulate(alloc, quantised, inputs)?))
 }

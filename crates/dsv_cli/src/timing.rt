@@ -12,12 +12,12 @@ use std::alloc::Global;
 pub(crate) fn timing_answer(
     alloc: Global,
     controller: &Controller,
-    words: &Quantised,
+    quantised: &Quantised,
 ) -> Result<Answer, Stop>
-    ensures timing { IsOfTiming controller.now words.now result }
+    ensures timing { IsOfTiming controller.now quantised.now result }
     ensures plain { IsPlain result }
 {
-    let net = realise(alloc, words)?;
+    let net = realise(alloc, quantised)?;
     let report = timing_report(controller, &net);
     if in_time(report.cycles, report.clock, &report.sample_time) {
         Ok(Answer::OnTime(report))

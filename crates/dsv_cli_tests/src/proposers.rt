@@ -5,7 +5,7 @@ use crate::runs::{files_of, run_with};
 use dsv_base::MemSink;
 use dsv_cli::{FormProposer, Proposers, SumProposer};
 use dsv_forms::{
-    Falls, Form, FormOffer, FormRefusal, GREATEST_ORDER, KeptAway, Part, Poly, Squares,
+    Falls, Form, FormOffer, FormRefusal, GREATEST_ORDER, KeptAway, OfferPart, Poly, Squares,
 };
 use std::alloc::Global;
 use std::cell::Cell;
@@ -161,7 +161,7 @@ const ZERO: Row = Row {
     text: NO_FORM_TEXT,
     heard: 32,
     refusal: FormRefusal::Shape {
-        part: Part::Positive,
+        part: OfferPart::Positive,
     },
     left: 0,
 };
@@ -178,7 +178,7 @@ const LEAST: Row = Row {
     text: THIRD_ROOT_TEXT,
     heard: 1,
     refusal: FormRefusal::Wide {
-        part: Part::Fall,
+        part: OfferPart::Fall,
         i: 0,
         j: 0,
     },

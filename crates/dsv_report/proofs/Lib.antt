@@ -1,2 +1,2 @@
 pub mod Outputs
-pub mod SampleLines
+pub mod NumberedLines

@@ -3,7 +3,7 @@ use Rattle.std.specs.Prelude.{ℕ, List, [], ◌∷◌, ◌++◌, codes, pos}
 use Rattle.std.specs.Fmt.{signed_decimal}
 use Rattle.dsv_certfile.specs.declared.fault.CheckFault.TheVariants as check
 use Rattle.dsv_certfile.specs.declared.fault.TextFault.TheVariants as text
-use Rattle.dsv_certfile.specs.declared.job.Job.{Job}
+use Rattle.dsv_certfile.specs.declared.job.CertifiedJob.{CertifiedJob}
 use Rattle.dsv_certfile.specs.declared.job.Size.{Size}
 use Rattle.dsv_certfile.specs.declared.job.Size.TheVariants as size
 use Rattle.dsv_report.specs.Fragments.{concatenation}
@@ -22,7 +22,7 @@ unfoldable pub accepted : List ℕ
 accepted = codes "CERTIFICATE ACCEPTED\n"
 
 -- the property that a certificate shows
-abbrev pub checked_text : Job → List ℕ
+abbrev pub checked_text : CertifiedJob → List ℕ
 checked_text job = accepted
     ++ (property_text job.property
     ++ (realisation_text job.design.realisation ++ size_line job.size))
@@ -41,6 +41,7 @@ fault_name (fault.Text text.End) = codes " code 5 END\n"
 fault_name (fault.Check check.Step) = codes " code 6 STEP\n"
 fault_name (fault.Check check.Form) = codes " code 7 FORM\n"
 fault_name (fault.Check check.Shape) = codes " code 8 SHAPE\n"
+fault_name (fault.Check check.Gain) = codes " code 10 GAIN\n"
 fault_name fault.TooLong = codes " code 9 TOO_LONG\n"
 
 abbrev pub certificate_text : ℕ → CertificateFault → List ℕ

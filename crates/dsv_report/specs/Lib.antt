@@ -1,5 +1,6 @@
 pub mod Certificates
 pub mod Fragments
+pub mod Gains
 pub mod Lines
 pub mod Output
 pub mod Printing

@@ -1,5 +1,5 @@
 -- Parts of lines.
-use Rattle.std.specs.Prelude.{ℕ, pos, List, [], ◌∷◌, codes}
+use Rattle.std.specs.Prelude.{ℕ, ◌+◌, pos, List, [], ◌∷◌, ◌++◌, codes}
 use Rattle.std.specs.Fmt.{signed_decimal}
 use Rattle.dsv_names.specs.Properties.{property_name}
 use Rattle.dsv_names.specs.declared.property.Property.{Property}
@@ -23,3 +23,8 @@ numbered word number = concatenation (word ∷ signed_decimal (pos number) ∷ [
 abbrev pub number_line : List ℕ → ℕ → List ℕ
 number_line word number =
     concatenation (word ∷ signed_decimal (pos number) ∷ codes "\n" ∷ [])
+
+-- the lines of a list, each by its number; the first has this one
+abbrev pub numbered_lines : {A : Type 0} → (ℕ → A → List ℕ) → ℕ → List A → List ℕ
+numbered_lines text number [] = []
+numbered_lines text number (x ∷ xs) = text number x ++ numbered_lines text (number + 1) xs

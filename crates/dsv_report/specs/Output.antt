@@ -7,10 +7,10 @@ use Rattle.dsv_names.specs.declared.property.RunProperty.TheVariants.{Overflow}
 use Rattle.dsv_certfile.specs.Texts as certified
 use Rattle.dsv_certfile.specs.declared.certificate.Certificate.{Certificate}
 use Rattle.dsv_certfile.specs.declared.certificate.Certificate.TheVariants as certificate
-use Rattle.dsv_certfile.specs.declared.job.Job.{Job}
+use Rattle.dsv_certfile.specs.declared.job.CertifiedJob.{CertifiedJob}
 use Rattle.dsv_certfile.specs.declared.job.Size.{Size}
 use Rattle.dsv_certfile.specs.declared.job.Size.TheVariants as size
-use Rattle.dsv_command.specs.Jobs.{Task, decides, searches, seeks_set, Asked}
+use Rattle.dsv_command.specs.Jobs.{Task, decides, searches, seeks_set, measures_gain, Asked}
 use Rattle.dsv_names.specs.declared.design.Design.{Design}
 use Rattle.dsv_report.specs.Report.{answer_text, stop_text}
 use Rattle.dsv_report.specs.Stops.{Outcome}
@@ -18,22 +18,27 @@ use Rattle.dsv_report.specs.declared.answers.Answer.{Answer}
 use Rattle.dsv_report.specs.declared.answers.Answer.TheVariants as answer
 
 -- the job of a certificate for a controller that is realised by a design
-abbrev pub job_with : Design → Property → Size → Job
+abbrev pub job_with : Design → Property → Size → CertifiedJob
 job_with design p s = record { property = p; design = design; size = s }
 
 -- the certificate that a property of bounded runs never happens
-abbrev pub hints_of : Job → Answer → Option Certificate
+abbrev pub hints_of : CertifiedJob → Answer → Option Certificate
 hints_of job (answer.Never log) = Some (certificate.Hints job log)
 hints_of job other = None
 
 -- the certificate of a set that is never left
-abbrev pub invariant_of : Job → Answer → Option Certificate
+abbrev pub invariant_of : CertifiedJob → Answer → Option Certificate
 invariant_of job (answer.Always candidate logs) =
     Some (certificate.Invariant job candidate logs)
 invariant_of job other = None
 
+-- the certificate that the ranges of all exact values are words at a depth
+abbrev pub gain_of : CertifiedJob → Answer → Option Certificate
+gain_of job (answer.InRanges gain) = Some (certificate.Gain job gain.depth)
+gain_of job other = None
+
 -- the certificate of a form that falls
-abbrev pub falls_of : Job → Answer → Option Certificate
+abbrev pub falls_of : CertifiedJob → Answer → Option Certificate
 falls_of job (answer.Falls poly offer fall) = Some (certificate.Falls job offer)
 falls_of job other = None
 
@@ -43,7 +48,10 @@ certificate_for design (searches p samples conflicts) =
     hints_of (job_with design (OfRuns p) (size.Samples samples))
 certificate_for design (seeks_set conflicts) =
     invariant_of (job_with design (OfRuns Overflow) size.Unbounded)
-certificate_for design (decides p) = falls_of (job_with design (OfRoots p) size.NoSize)
+certificate_for design measures_gain =
+    gain_of (job_with design (OfRuns Overflow) size.Unbounded)
+certificate_for design (decides p schur_cohn) =
+    falls_of (job_with design (OfRoots p) size.NoSize)
 certificate_for design other = λ _. None
 
 -- the certificate of an answer to a job, where the job wants one

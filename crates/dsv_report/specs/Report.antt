@@ -22,10 +22,12 @@ use Rattle.dsv_template.specs.declared.kept.KeptSet.{KeptSet}
 use Rattle.dsv_template.specs.declared.verdict.Why.{Why}
 use Rattle.dsv_template.specs.declared.verdict.Why.TheVariants as why
 use Rattle.dsv_command.specs.Jobs.{Task, decides, checks_time, writes, searches, seeks_set}
-use Rattle.dsv_command.specs.Jobs.{simulates, Asked}
+use Rattle.dsv_command.specs.Jobs.{measures_gain, simulates, Asked}
 use Rattle.dsv_report.specs.Certificates.{checked_text, certificate_text}
 use Rattle.dsv_report.specs.Fragments.{concatenation}
+use Rattle.dsv_report.specs.Gains.{gain_text, out_of_range_text, too_deep_text}
 use Rattle.dsv_report.specs.Lines.{property_text, realisation_text, numbered, number_line}
+use Rattle.dsv_report.specs.Lines.{numbered_lines}
 use Rattle.dsv_report.specs.Refusals.{file_text, quant_text, input_text}
 use Rattle.dsv_report.specs.Stops.{Outcome}
 use Rattle.dsv_report.specs.Tallies.{tally_text}
@@ -50,20 +52,23 @@ simulation = codes "SIMULATION\n"
 
 -- what is asked of the controller, before the realisation
 abbrev pub task_text : Task → List ℕ
-task_text (decides property) = property_text (OfRoots property)
+task_text (decides property schur_cohn) = property_text (OfRoots property)
 task_text checks_time = property_text Timing
 task_text (writes property samples) = property_text (OfRuns property)
 task_text (searches property samples conflicts) = property_text (OfRuns property)
 task_text (seeks_set conflicts) = property_text (OfRuns Overflow)
+task_text measures_gain = property_text (OfRuns Overflow)
 task_text (simulates inputs) = []
 
--- how many samples are asked for, or that there is no end to them, up to the end of the line
+-- how many samples are asked for, or that there is no end to them and how it is decided, up to the
+-- end of the line
 abbrev pub extent_text : Task → List ℕ
-extent_text (decides property) = codes "\n"
+extent_text (decides property schur_cohn) = codes "\n"
 extent_text checks_time = codes "\n"
 extent_text (writes property samples) = number_line (codes " samples ") samples
 extent_text (searches property samples conflicts) = number_line (codes " samples ") samples
 extent_text (seeks_set conflicts) = codes " unbounded\n"
+extent_text measures_gain = codes " gain\n"
 extent_text (simulates inputs) = codes "\n"
 
 -- the verdict and what the job asked for; without a job there is none
@@ -205,8 +210,7 @@ sample_text number row = sample_head number row.x row.y ++ numbers_line (codes "
 
 -- the lines of samples with these numbers on
 abbrev pub samples_text : ℕ → List SampleRow → List ℕ
-samples_text number [] = []
-samples_text number (row ∷ rows) = sample_text number row ++ samples_text (number + 1) rows
+samples_text = numbered_lines sample_text
 
 -- ---- answers
 -- the text of an answer to a job, or to a check or a generation, which are no jobs
@@ -226,6 +230,10 @@ answer_text job (answer.Never log) = heading successful job
 answer_text job (answer.Always candidate logs) = heading successful job ++ candidate_text candidate
 answer_text job (answer.NoInvariant kept) =
     heading inconclusive job ++ no_invariant_text (length kept) (length (filter is_spent kept))
+answer_text job (answer.InRanges gain) = heading successful job ++ gain_text gain
+answer_text job (answer.OutOfRange sample value) =
+    heading inconclusive job ++ out_of_range_text sample value
+answer_text job (answer.TooDeep depth) = heading inconclusive job ++ too_deep_text depth
 answer_text job (answer.Overflow trace) = heading failed job ++ trace_text trace
 answer_text job (answer.Cycles cycle) = heading failed job ++ cycle_text cycle
 answer_text job (answer.Spent log) = heading inconclusive job ++ spent_text (length log)
@@ -259,6 +267,9 @@ answer_status (answer.Late report) = 10
 answer_status (answer.Never log) = 0
 answer_status (answer.Always candidate logs) = 0
 answer_status (answer.NoInvariant kept) = 20
+answer_status (answer.InRanges gain) = 0
+answer_status (answer.OutOfRange sample value) = 20
+answer_status (answer.TooDeep depth) = 20
 answer_status (answer.Overflow trace) = 10
 answer_status (answer.Cycles cycle) = 10
 answer_status (answer.Spent log) = 20

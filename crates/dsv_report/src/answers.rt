@@ -1,7 +1,8 @@
 // What the command finds.
-use dsv_certfile::Job;
+use dsv_certfile::CertifiedJob;
 use dsv_cnf::Formula;
 use dsv_forms::{Falls, Form, KeptAway, Poly};
+use dsv_gain::Gain;
 use dsv_hints::Log;
 use dsv_jury::Jury;
 use dsv_lyapunov::KeptForms;
@@ -62,6 +63,20 @@ pub enum Answer {
     NoInvariant {
         kept: KeptSets,
     },
+    /// No list of inputs of any length overflows: each exact value of each sample lies in its range
+    /// of the gain.
+    InRanges(Gain),
+    /// In this sample the range of the exact value of this number isn't known to be one of words,
+    /// and no list of inputs that was tried overflows.
+    OutOfRange {
+        sample: u32,
+        value: usize,
+    },
+    /// The ranges of all samples below this depth are ones of words, and from some registers those
+    /// of none of them are.
+    TooDeep {
+        depth: u32,
+    },
     /// An overflow, which replays in the written equations.
     Overflow(Trace),
     /// A limit cycle, which replays in the written equations.
@@ -77,5 +92,5 @@ pub enum Answer {
     /// What is found of generated controllers.
     Generated(Generated),
     /// The certificate shows its property of the controller.
-    Checked(Job),
+    Checked(CertifiedJob),
 }

@@ -8,7 +8,7 @@ use crate::fragments::{Fragment, put_fragments};
 use crate::lines::{put_number_line, put_property, put_realisation};
 use crate::stop::CertificateFault;
 use dsv_base::{Failed, Sink, put_all};
-use dsv_certfile::{CheckFault, Job, Size, TextFault};
+use dsv_certfile::{CertifiedJob, CheckFault, Size, TextFault};
 
 /// Writes over how many samples, up to the end of the line.
 fn put_size<K: Sink>(sink: &mut K, size: Size) -> Result<(), Failed>
@@ -23,7 +23,7 @@ fn put_size<K: Sink>(sink: &mut K, size: Size) -> Result<(), Failed>
 
 /// Writes what a certificate that passed its check shows.
 #[tactic(auto, unfolding(crate::specs::Certificates::accepted))]
-pub(crate) fn put_checked<K: Sink>(sink: &mut K, job: &Job) -> Result<(), Failed>
+pub(crate) fn put_checked<K: Sink>(sink: &mut K, job: &CertifiedJob) -> Result<(), Failed>
     ensures { Writes (K.seen sink.old) (K.seen sink.new) result (checked_text job.now) }
 {
     put_all(sink, b"CERTIFICATE ACCEPTED\n")?;
@@ -46,6 +46,7 @@ fn fault_name(fault: CertificateFault) -> &'static [u8]
         CertificateFault::Check(CheckFault::Step) => b" code 6 STEP\n",
         CertificateFault::Check(CheckFault::Form) => b" code 7 FORM\n",
         CertificateFault::Check(CheckFault::Shape) => b" code 8 SHAPE\n",
+        CertificateFault::Check(CheckFault::Gain) => b" code 10 GAIN\n",
         CertificateFault::TooLong => b" code 9 TOO_LONG\n",
     }
 }

@@ -4,6 +4,7 @@
 mod answers;
 mod certificates;
 mod fragments;
+mod gains;
 mod lines;
 mod output;
 mod refusals;

@@ -2,7 +2,7 @@
 ghost use Rattle.std.specs.Prelude.{◌≡◌, Some, IfSome, IfOk, OnOk};
 ghost use Rattle.dsv_base.specs.Taking.{Writes};
 ghost use Rattle.dsv_command.specs.Asking.{asked_of, asked_task};
-ghost use Rattle.dsv_report.specs.Output.{job_with, hints_of, invariant_of, falls_of};
+ghost use Rattle.dsv_report.specs.Output.{job_with, hints_of, invariant_of, gain_of, falls_of};
 ghost use Rattle.dsv_report.specs.Output.{certificate_for, answer_output, text_or, output_of};
 ghost use Rattle.dsv_report.specs.Output.{answer_certificate, certificate_written};
 ghost use Rattle.dsv_report.specs.Printing.{HasPlaces, asked_in};
@@ -16,15 +16,15 @@ use crate::answers::Answer;
 use crate::report::{put_answer, put_stop};
 use crate::stop::Stop;
 use dsv_base::{Failed, Sink};
-use dsv_certfile::{Size, write_falls, write_hints, write_invariant};
+use dsv_certfile::{Size, write_falls, write_gain, write_hints, write_invariant};
 use dsv_command::{Job, RunQuestion, Task};
 use dsv_names::{Design, Property, RootProperty, RunProperty};
 
 /// The job of a certificate for a controller that is realised by a design.
-fn job_with(design: Design, property: Property, size: Size) -> dsv_certfile::Job
+fn job_with(design: Design, property: Property, size: Size) -> dsv_certfile::CertifiedJob
     ensures { result ≡ job_with design property size }
 {
-    dsv_certfile::Job {
+    dsv_certfile::CertifiedJob {
         property,
         design,
         size,
@@ -77,6 +77,26 @@ fn put_invariant<K: Sink>(sink: &mut K, job: &Job, answer: &Answer) -> Result<()
     }
 }
 
+/// Writes the certificate of an answer by the gain, or its report where it has none.
+fn put_gain<K: Sink>(sink: &mut K, job: &Job, answer: &Answer) -> Result<(), Failed>
+    requires { HasPlaces answer.now }
+    ensures text { Writes (K.seen sink.old) (K.seen sink.new) result
+        (text_or (gain_of (job_with job.now.design (OfRuns Overflow) size.Unbounded)
+        answer.now) (answer_text (Some (asked_of job.now)) answer.now)) }
+    ensures typed { OnOk result (IfSome
+        (gain_of (job_with job.now.design (OfRuns Overflow) size.Unbounded) answer.now)
+        IsTyped) }
+{
+    match answer {
+        Answer::InRanges(gain) => {
+            let property = Property::OfRuns(RunProperty::Overflow);
+            let certified = job_with(job.design, property, Size::Unbounded);
+            write_gain(sink, &certified, gain.depth)
+        }
+        _ => put_answer(sink, Some(job), answer),
+    }
+}
+
 /// Writes the certificate of an answer on roots, or its report where it has none.
 fn put_falls<K: Sink>(
     sink: &mut K,
@@ -113,7 +133,8 @@ fn put_certificate<K: Sink>(sink: &mut K, job: &Job, answer: &Answer) -> Result<
     match &job.task {
         Task::Search(question, _) => put_hints(sink, job, question, answer),
         Task::SeekSet(_) => put_invariant(sink, job, answer),
-        Task::Decide(property) => put_falls(sink, job, *property, answer),
+        Task::MeasureGain => put_gain(sink, job, answer),
+        Task::Decide(question) => put_falls(sink, job, question.property, answer),
         Task::CheckTime | Task::WriteFormula(_) | Task::Simulate(_) => {
             put_answer(sink, Some(job), answer)
         }

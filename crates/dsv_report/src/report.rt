@@ -7,12 +7,14 @@ ghost use Rattle.dsv_base.specs.Taking.{Writes};
 ghost use Rattle.dsv_base.specs.Text.{spaced_text};
 ghost use Rattle.dsv_system.specs.RowViews.{row_of};
 ghost use Rattle.dsv_command.specs.Asking.{asked_of, asked_task};
+ghost use Rattle.dsv_report.specs.Gains.{gain_text, out_of_range_text, too_deep_text};
 ghost use Rattle.dsv_report.specs.Printing.{HasPlaces, asked_in};
 ghost use Rattle.dsv_report.specs.Report as report;
 
 use crate::answers::Answer;
 use crate::certificates::{put_certificate_refusal, put_checked};
 use crate::fragments::{Fragment, put_fragments};
+use crate::gains::{put_gain, put_out_of_range};
 use crate::lines::{put_number_line, put_numbered, put_property, put_realisation};
 use crate::refusals::{put_file_refusal, put_input_range, put_quant_refusal};
 use crate::stop::{Stop, WhichFile};
@@ -22,6 +24,7 @@ use dsv_cnf::write_dimacs;
 use dsv_command::{Job, Task};
 use dsv_forms::{Form, KeptAway, Poly};
 use dsv_fraction::Frac;
+use dsv_gain::Gain;
 use dsv_jury::Jury;
 use dsv_meaning::{Cycle, Trace};
 use dsv_names::{Property, RunProperty};
@@ -45,18 +48,20 @@ fn put_task<K: Sink>(sink: &mut K, task: &Task) -> Result<(), Failed>
         (report.task_text (asked_task task.now)) }
 {
     match task {
-        Task::Decide(property) => put_property(sink, Property::OfRoots(*property)),
+        Task::Decide(question) => put_property(sink, Property::OfRoots(question.property)),
         Task::CheckTime => put_property(sink, Property::Timing),
         Task::WriteFormula(question) | Task::Search(question, _) => {
             put_property(sink, Property::OfRuns(question.property))
         }
-        Task::SeekSet(_) => put_property(sink, Property::OfRuns(RunProperty::Overflow)),
+        Task::SeekSet(_) | Task::MeasureGain => {
+            put_property(sink, Property::OfRuns(RunProperty::Overflow))
+        }
         Task::Simulate(_) => put_all(sink, b""),
     }
 }
 
-/// Writes how many samples are asked for, or that there is no end to them, up to the end of the
-/// line.
+/// Writes how many samples are asked for, or that there is no end to them and how it is decided, up
+/// to the end of the line.
 fn put_extent<K: Sink>(sink: &mut K, task: &Task) -> Result<(), Failed>
     ensures { Writes (K.seen sink.old) (K.seen sink.new) result
         (report.extent_text (asked_task task.now)) }
@@ -66,6 +71,7 @@ fn put_extent<K: Sink>(sink: &mut K, task: &Task) -> Result<(), Failed>
             put_number_line(sink, b" samples ", question.samples.into())
         }
         Task::SeekSet(_) => put_all(sink, b" unbounded\n"),
+        Task::MeasureGain => put_all(sink, b" gain\n"),
         Task::Decide(_) | Task::CheckTime | Task::Simulate(_) => put_all(sink, b"\n"),
     }
 }
@@ -477,6 +483,37 @@ fn put_no_invariant<K: Sink>(
     put_offered_sets(sink, offers, spent)
 }
 
+/// Writes that nothing overflows in runs of any length, by the ranges of the gain.
+#[tactic(auto, unfolding(crate::specs::Report::successful))]
+fn put_in_ranges<K: Sink>(sink: &mut K, job: Option<&Job>, gain: &Gain) -> Result<(), Failed>
+    ensures { Writes (K.seen sink.old) (K.seen sink.new) result
+        (report.heading report.successful (asked_in job.entry) ++ gain_text gain.now) }
+{
+    put_heading(sink, SUCCESSFUL, job)?;
+    put_gain(sink, gain)
+}
+
+/// Writes where the gain leaves the words though no list overflows.
+#[tactic(auto, unfolding(crate::specs::Report::inconclusive))]
+fn put_left<K: Sink>(sink: &mut K, job: Option<&Job>, sample: u64, value: u64) -> Result<(), Failed>
+    ensures { Writes (K.seen sink.old) (K.seen sink.new) result
+        (report.heading report.inconclusive (asked_in job.entry)
+        ++ out_of_range_text sample value) }
+{
+    put_heading(sink, INCONCLUSIVE, job)?;
+    put_out_of_range(sink, sample, value)
+}
+
+/// Writes that no depth below the limit is enough.
+#[tactic(auto, unfolding(crate::specs::Report::inconclusive))]
+fn put_too_deep<K: Sink>(sink: &mut K, job: Option<&Job>, depth: u64) -> Result<(), Failed>
+    ensures { Writes (K.seen sink.old) (K.seen sink.new) result
+        (report.heading report.inconclusive (asked_in job.entry) ++ too_deep_text depth) }
+{
+    put_heading(sink, INCONCLUSIVE, job)?;
+    put_number_line(sink, b"cause DEPTH ", depth)
+}
+
 /// Writes a sample's number, its input and its output.
 fn put_sample_head<K: Sink>(sink: &mut K, number: u64, x: &i64, y: &i64) -> Result<(), Failed>
     ensures { Writes (K.seen sink.old) (K.seen sink.new) result
@@ -534,6 +571,7 @@ fn answer_status(answer: &Answer) -> u8
         | Answer::OnTime(_)
         | Answer::Never { .. }
         | Answer::Always { .. }
+        | Answer::InRanges(_)
         | Answer::FormulaText(_)
         | Answer::Simulated(_)
         | Answer::Generated(_)
@@ -546,7 +584,9 @@ fn answer_status(answer: &Answer) -> u8
         Answer::NoForm { .. }
         | Answer::Wide { .. }
         | Answer::Spent { .. }
-        | Answer::NoInvariant { .. } => 20,
+        | Answer::NoInvariant { .. }
+        | Answer::OutOfRange { .. }
+        | Answer::TooDeep { .. } => 20,
     }
 }
 
@@ -629,6 +669,11 @@ pub(crate) fn put_answer<K: Sink>(
             let sets = kept.as_slice();
             put_no_invariant(sink, job, sets.len() as u64, spent_in(sets))
         }
+        Answer::InRanges(gain) => put_in_ranges(sink, job, gain),
+        Answer::OutOfRange { sample, value } => {
+            put_left(sink, job, u64::from(*sample), *value as u64)
+        }
+        Answer::TooDeep { depth } => put_too_deep(sink, job, u64::from(*depth)),
         Answer::Overflow(trace) => put_overflow(sink, job, trace),
         Answer::Cycles(cycle) => put_limit_cycle(sink, job, cycle),
         Answer::Spent { log } => put_spent(sink, job, log.len() as u64),

@@ -6,8 +6,8 @@ use Rattle.dsv_certcheck.proofs.checked_logs.check_set.Goals as goal
 
 pub returns-clause-shows : goal.returns-clause-shows
 returns-clause-shows c =
-    let q = c.args.q.now in
+    let q = c.args.quantised.now in
     let candidate = c.args.candidate.now in
     let shaped : IsShaped q candidate = search rules in
     let e = c.check_sentences.ensures in
-    on_ok_three c.check_sentences.result (λ base step safe. never_breaks q candidate c.order.ensures.fixed_point shaped base step safe) e.base e.step e.safe
+    on_ok_three c.check_sentences.result (λ base step safe. never_breaks q candidate c.order.ensures.quantised shaped base step safe) e.base e.step e.safe

@@ -4,8 +4,8 @@ use Rattle.dsv_command.specs.Requests.{job_of}
 use Rattle.dsv_report.specs.Output.{output_of}
 use Rattle.dsv_report.specs.Report.{status_of}
 use Rattle.dsv_cli.specs.Headline.{FileBecomes, IsWritten}
-use Rattle.dsv_cli.specs.Proposers.{AreSetsAsked, WantsForm, WantsSet}
-use Rattle.dsv_cli.proofs.Unasked.{low_is_decided, unasked, sets_unasked}
+use Rattle.dsv_cli.specs.Proposers.{AreSetsAsked, IsAsked, WantsForm, WantsSet, WantsSchurCohn, IfNoForm, IsBeyond}
+use Rattle.dsv_cli.proofs.Unasked.{low_is_decided, unasked, sets_unasked, some_form}
 use Rattle.dsv_cli.proofs.command.run.Goals as goal
 
 -- ---- a job on a file
@@ -33,6 +33,19 @@ returns-in-Ok-Some-OnFile-clause-unneeded_forms g c =
     let e : Some (asked_of c.in-Ok-Some-OnFile.job) ≡ job_of (map string_bytes c.args.arguments.now) = search rules in
     subst (λ asked. (WantsForm asked → ⊥) → c.job_answer-outcome.new.proposers.forms.items ≡ c.args.proposers.now.forms.items) e c.job_answer-outcome.ensures.unneeded_forms
 
+pub returns-in-Ok-Some-OnFile-clause-forms : goal.returns-in-Ok-Some-OnFile-clause-forms
+returns-in-Ok-Some-OnFile-clause-forms g c =
+    let e : Some (asked_of c.in-Ok-Some-OnFile.job) ≡ job_of (map string_bytes c.args.arguments.now) = search rules in
+    subst
+    (λ asked. IsAsked (λ b. b.ptr) (λ b. (goal.FormProposer-dyn g (b.vtable, b.value)).last b.value) (λ b cs. (goal.FormProposer-dyn g (b.vtable, b.value)).sure b.value cs) (λ b cs. (goal.FormProposer-dyn g (b.vtable, b.value)).to_come b.value cs)
+    (WantsSchurCohn asked) c.args.proposers.now.forms.items c.job_answer-outcome.new.proposers.forms.items c.job_answer-outcome.result)
+    e c.job_answer-outcome.ensures.forms
+
+pub returns-in-Ok-Some-OnFile-clause-schur_cohn : goal.returns-in-Ok-Some-OnFile-clause-schur_cohn
+returns-in-Ok-Some-OnFile-clause-schur_cohn g c =
+    let e : Some (asked_of c.in-Ok-Some-OnFile.job) ≡ job_of (map string_bytes c.args.arguments.now) = search rules in
+    subst (λ asked. WantsSchurCohn asked → IfNoForm c.job_answer-outcome.result (λ poly kept. IsBeyond poly)) e c.job_answer-outcome.ensures.beyond
+
 pub returns-in-Ok-Some-OnFile-clause-written : goal.returns-in-Ok-Some-OnFile-clause-written
 returns-in-Ok-Some-OnFile-clause-written g c =
     let e : Some (asked_of c.in-Ok-Some-OnFile.job) ≡ job_of (map string_bytes c.args.arguments.now) = search rules in
@@ -49,4 +62,7 @@ returns-in-Ok-Some-Check-clause-sets g c =
 pub returns-in-Ok-Some-Check-clause-forms : goal.returns-in-Ok-Some-Check-clause-forms
 returns-in-Ok-Some-Check-clause-forms g c =
     rw c.put_outcome.ensures.outcome (unasked (λ b. b.ptr) (λ b. (goal.FormProposer-dyn g (b.vtable, b.value)).last b.value) (λ b cs. (goal.FormProposer-dyn g (b.vtable, b.value)).sure b.value cs) (λ b cs. (goal.FormProposer-dyn g (b.vtable, b.value)).to_come b.value cs)
-    c.args.proposers.now.forms.items c.check_answer.result c.check_answer.ensures.plain)
+    (WantsSchurCohn (job_of (map string_bytes c.args.arguments.now))) c.args.proposers.now.forms.items c.check_answer.result c.check_answer.ensures.plain)
+
+pub returns-in-Ok-Some-Check-clause-schur_cohn : goal.returns-in-Ok-Some-Check-clause-schur_cohn
+returns-in-Ok-Some-Check-clause-schur_cohn g c = λ wanted. rw c.put_outcome.ensures.outcome (some_form c.check_answer.result (λ poly kept. IsBeyond poly) c.check_answer.ensures.plain)

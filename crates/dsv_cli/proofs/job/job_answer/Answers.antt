@@ -4,6 +4,7 @@ use Rattle.dsv_command.specs.Asking.{asked_of}
 use Rattle.dsv_report.specs.declared.stop.Stop.TheVariants as stop
 use Rattle.dsv_cli.specs.Headline.{FileBecomes}
 use Rattle.dsv_cli.proofs.Causes.{row_of_unread, row_of_refused, row_of_task, accepted_words}
+use Rattle.dsv_cli.specs.Proposers.{AsksSchurCohn}
 use Rattle.dsv_cli.proofs.Unasked.{unasked, sets_unasked, sets_asked_for}
 use Rattle.dsv_cli.proofs.job.job_answer.Goals as goal
 
@@ -22,38 +23,38 @@ returns-in_err-controller-clause-sets g c =
 pub returns-in_err-controller-clause-forms : goal.returns-in_err-controller-clause-forms
 returns-in_err-controller-clause-forms g c =
     let is : c.from_residual.result ≡ Err (c.in_err-controller.field-0.0) = search rules in
-    rw is (unasked (λ b. b.ptr) (λ b. (goal.FormProposer-dyn g (b.vtable, b.value)).last b.value) (λ b cs. (goal.FormProposer-dyn g (b.vtable, b.value)).sure b.value cs) (λ b cs. (goal.FormProposer-dyn g (b.vtable, b.value)).to_come b.value cs)
+    rw is (unasked (λ b. b.ptr) (λ b. (goal.FormProposer-dyn g (b.vtable, b.value)).last b.value) (λ b cs. (goal.FormProposer-dyn g (b.vtable, b.value)).sure b.value cs) (λ b cs. (goal.FormProposer-dyn g (b.vtable, b.value)).to_come b.value cs) (AsksSchurCohn (asked_of c.args.job.now).task)
     c.args.proposers.now.forms.items (Err (c.in_err-controller.field-0.0)) tt)
 
 -- ---- a controller that is refused in words
-pub returns-in_err-words-clause-row : goal.returns-in_err-words-clause-row
-returns-in_err-words-clause-row g c =
-    let is : c.from_residual-in_err-words.result ≡ Err (stop.QuantRefused c.in_err-words.field-0.0) = search rules in
-    rw is (row_of_refused ((g.F.Files.seen c.args.files.now).held c.args.job.now.file.now) (g.F.Files.seen c.args.files.now) (g.F.Files.seen c.read_controller.new.files) (asked_of c.args.job.now) c.in_ok-controller.controller c.in_err-words.field-0.0 c.in_ok-controller.ensures.controller c.in_err-words.ensures)
+pub returns-in_err-quantised-clause-row : goal.returns-in_err-quantised-clause-row
+returns-in_err-quantised-clause-row g c =
+    let is : c.from_residual-in_err-quantised.result ≡ Err (stop.QuantRefused c.in_err-quantised.field-0.0) = search rules in
+    rw is (row_of_refused ((g.F.Files.seen c.args.files.now).held c.args.job.now.file.now) (g.F.Files.seen c.args.files.now) (g.F.Files.seen c.read_controller.new.files) (asked_of c.args.job.now) c.in_ok-controller.controller c.in_err-quantised.field-0.0 c.in_ok-controller.ensures.controller c.in_err-quantised.ensures)
 
-pub returns-in_err-words-clause-sets : goal.returns-in_err-words-clause-sets
-returns-in_err-words-clause-sets g c =
-    let is : c.from_residual-in_err-words.result ≡ Err (stop.QuantRefused c.in_err-words.field-0.0) = search rules in
+pub returns-in_err-quantised-clause-sets : goal.returns-in_err-quantised-clause-sets
+returns-in_err-quantised-clause-sets g c =
+    let is : c.from_residual-in_err-quantised.result ≡ Err (stop.QuantRefused c.in_err-quantised.field-0.0) = search rules in
     rw is (sets_unasked (λ b. b.ptr) (λ b. (goal.InvariantProposer-dyn g (b.vtable, b.value)).last b.value) (λ b shape. (goal.InvariantProposer-dyn g (b.vtable, b.value)).to_come b.value shape)
-    (FileBecomes (g.F.Files.seen c.args.files.now) (Some (asked_of c.args.job.now))) c.args.proposers.now.sets.items (Err (stop.QuantRefused c.in_err-words.field-0.0)) tt)
+    (FileBecomes (g.F.Files.seen c.args.files.now) (Some (asked_of c.args.job.now))) c.args.proposers.now.sets.items (Err (stop.QuantRefused c.in_err-quantised.field-0.0)) tt)
 
-pub returns-in_err-words-clause-forms : goal.returns-in_err-words-clause-forms
-returns-in_err-words-clause-forms g c =
-    let is : c.from_residual-in_err-words.result ≡ Err (stop.QuantRefused c.in_err-words.field-0.0) = search rules in
-    rw is (unasked (λ b. b.ptr) (λ b. (goal.FormProposer-dyn g (b.vtable, b.value)).last b.value) (λ b cs. (goal.FormProposer-dyn g (b.vtable, b.value)).sure b.value cs) (λ b cs. (goal.FormProposer-dyn g (b.vtable, b.value)).to_come b.value cs)
-    c.args.proposers.now.forms.items (Err (stop.QuantRefused c.in_err-words.field-0.0)) tt)
+pub returns-in_err-quantised-clause-forms : goal.returns-in_err-quantised-clause-forms
+returns-in_err-quantised-clause-forms g c =
+    let is : c.from_residual-in_err-quantised.result ≡ Err (stop.QuantRefused c.in_err-quantised.field-0.0) = search rules in
+    rw is (unasked (λ b. b.ptr) (λ b. (goal.FormProposer-dyn g (b.vtable, b.value)).last b.value) (λ b cs. (goal.FormProposer-dyn g (b.vtable, b.value)).sure b.value cs) (λ b cs. (goal.FormProposer-dyn g (b.vtable, b.value)).to_come b.value cs) (AsksSchurCohn (asked_of c.args.job.now).task)
+    c.args.proposers.now.forms.items (Err (stop.QuantRefused c.in_err-quantised.field-0.0)) tt)
 
 -- ---- from the words on
 pub returns-clause-row : goal.returns-clause-row
 returns-clause-row g c =
-    row_of_task ((g.F.Files.seen c.args.files.now).held c.args.job.now.file.now) (g.F.Files.seen c.args.files.now) (g.F.Files.seen c.read_controller.new.files) (asked_of c.args.job.now) c.in_ok-controller.controller c.in_ok-words.words c.task_answer.result
-    c.in_ok-controller.ensures.controller c.in_ok-words.ensures c.task_answer.ensures.task
+    row_of_task ((g.F.Files.seen c.args.files.now).held c.args.job.now.file.now) (g.F.Files.seen c.args.files.now) (g.F.Files.seen c.read_controller.new.files) (asked_of c.args.job.now) c.in_ok-controller.controller c.in_ok-quantised.quantised c.task_answer.result
+    c.in_ok-controller.ensures.controller c.in_ok-quantised.ensures c.task_answer.ensures.task
 
 pub returns-clause-sets : goal.returns-clause-sets
 returns-clause-sets g c =
     let becomes = FileBecomes (g.F.Files.seen c.args.files.now) (Some (asked_of c.args.job.now)) in
     sets_asked_for (λ b. b.ptr) (λ b. (goal.InvariantProposer-dyn g (b.vtable, b.value)).last b.value) (λ b shape. (goal.InvariantProposer-dyn g (b.vtable, b.value)).to_come b.value shape)
-    (λ w. w ≡ c.in_ok-words.words) becomes c.args.proposers.now.sets.items c.task_answer.new.proposers.sets.items c.task_answer.result
+    (λ w. w ≡ c.in_ok-quantised.quantised) becomes c.args.proposers.now.sets.items c.task_answer.new.proposers.sets.items c.task_answer.result
     (λ w e. subst becomes (sym e)
-    (accepted_words ((g.F.Files.seen c.args.files.now).held c.args.job.now.file.now) (asked_of c.args.job.now) c.in_ok-controller.controller c.in_ok-words.words c.in_ok-controller.ensures.controller c.in_ok-words.ensures))
+    (accepted_words ((g.F.Files.seen c.args.files.now).held c.args.job.now.file.now) (asked_of c.args.job.now) c.in_ok-controller.controller c.in_ok-quantised.quantised c.in_ok-controller.ensures.controller c.in_ok-quantised.ensures))
     c.task_answer.ensures.sets

@@ -10,10 +10,10 @@ abbrev pub invariant-asking : goal.invariant-asking
 invariant-asking g l = record {
   room : l.asked < 32;
   suffix : IsSuffix (λ b. b.ptr) l.fn.sets.items l.sets.items;
-  causes : All (IsNotGood l.words l.budget.conflicts) l.kept;
+  causes : All (IsNotGood l.quantised l.budget.conflicts) l.kept;
   blocks : (rest : List Candidate)
-      → AreBlocks (32 - l.asked) (told_for (λ b shape. (goal.InvariantProposer-dyn g (b.vtable, b.value)).to_come b.value shape) l.words l.sets.items) rest
-      → AreBlocks 32 (told_for (λ b shape. (goal.InvariantProposer-dyn g (b.vtable, b.value)).to_come b.value shape) l.words l.fn.sets.items) (candidates l.kept ++ rest);
+      → AreBlocks (32 - l.asked) (told_for (λ b shape. (goal.InvariantProposer-dyn g (b.vtable, b.value)).to_come b.value shape) l.quantised l.sets.items) rest
+      → AreBlocks 32 (told_for (λ b shape. (goal.InvariantProposer-dyn g (b.vtable, b.value)).to_come b.value shape) l.quantised l.fn.sets.items) (candidates l.kept ++ rest);
 }
 
 abbrev pub decreases-asking : goal.decreases-asking

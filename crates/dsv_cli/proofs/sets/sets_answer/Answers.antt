@@ -14,10 +14,10 @@ returns-in-Ok-NoInvariant-clause-proposers g c =
       offered = tt;
       none_left = rw is at e.none_left;
       asked = (
-        c.args.words.now,
+        c.args.quantised.now,
         refl,
-        were_offered c.args.words.now c.args.budget.now.conflicts
-            (told_for (λ b shape. (goal.InvariantProposer-dyn g (b.vtable, b.value)).to_come b.value shape) c.args.words.now c.args.sets.now.items)
+        were_offered c.args.quantised.now c.args.budget.now.conflicts
+            (told_for (λ b shape. (goal.InvariantProposer-dyn g (b.vtable, b.value)).to_come b.value shape) c.args.quantised.now c.args.sets.now.items)
             c.in-Ok-NoInvariant.kept (rw is at e.blocks) causes.causes,
       );
     }

@@ -1,0 +1,10 @@
+use Rattle.std.specs.Prelude.{codes}
+use Rattle.dsv_base.proofs.TakingLemmas.{writes_after, writes_cut}
+use Rattle.dsv_report.specs.Lines.{number_line}
+use Rattle.dsv_report.proofs.gains.put_out_of_range.Goals as goal
+
+pub returns-in_err-put_numbered : goal.returns-in_err-put_numbered
+returns-in_err-put_numbered g c = writes_cut (number_line (codes " value ") c.args.value) c.from_residual.ensures.0 c.in_err-put_numbered.ensures.cut
+
+pub returns : goal.returns
+returns g c = writes_after c.in_ok-put_numbered.ensures.whole c.put_number_line.ensures

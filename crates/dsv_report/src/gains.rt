@@ -1,0 +1,63 @@
+// Writes what the gain shows, with no memory.
+ghost use Rattle.dsv_base.specs.Taking.{Writes};
+ghost use Rattle.dsv_report.specs.Gains.{depth_text, range_text, gain_text, out_of_range_text};
+ghost use Rattle.dsv_report.specs.Lines.{numbered_lines};
+
+use crate::fragments::{Fragment, put_fragments};
+use crate::lines::{put_number_line, put_numbered};
+use dsv_base::{Failed, Sink};
+use dsv_gain::Gain;
+use dsv_linear::Range;
+
+/// Writes the depth, and the sample whose step the ranges are taken from.
+fn put_depth<K: Sink>(sink: &mut K, depth: u64, settled: u64) -> Result<(), Failed>
+    ensures { Writes (K.seen sink.old) (K.seen sink.new) result (depth_text depth settled) }
+{
+    put_numbered(sink, b"depth ", depth)?;
+    put_number_line(sink, b" settled ", settled)
+}
+
+/// Writes the range of the exact value of this number.
+fn put_range<K: Sink>(sink: &mut K, number: u64, range: &Range) -> Result<(), Failed>
+    ensures { Writes (K.seen sink.old) (K.seen sink.new) result (range_text number range.now) }
+{
+    put_fragments(
+        sink,
+        &[
+            Fragment::Bytes(b"value "),
+            Fragment::Number(number.into()),
+            Fragment::Bytes(b" least "),
+            Fragment::Number(range.low.get()),
+            Fragment::Bytes(b" greatest "),
+            Fragment::Number(range.high.get()),
+            Fragment::Bytes(b"\n"),
+        ],
+    )
+}
+
+/// Writes a line for each range.
+fn put_ranges<K: Sink>(sink: &mut K, ranges: &[Range]) -> Result<(), Failed>
+    ensures { Writes (K.seen sink.old) (K.seen sink.new) result
+        (numbered_lines range_text 0 ranges.now) }
+{
+    for (number, range) in ranges.iter().enumerate() {
+        put_range(sink, number as u64, range)?;
+    }
+    Ok(())
+}
+
+/// Writes the depth and the ranges.
+pub(crate) fn put_gain<K: Sink>(sink: &mut K, gain: &Gain) -> Result<(), Failed>
+    ensures { Writes (K.seen sink.old) (K.seen sink.new) result (gain_text gain.now) }
+{
+    put_depth(sink, gain.depth.into(), gain.settled.into())?;
+    put_ranges(sink, gain.ranges.as_slice())
+}
+
+/// Writes the first sample and value whose range isn't known to be one of words.
+pub(crate) fn put_out_of_range<K: Sink>(sink: &mut K, sample: u64, value: u64) -> Result<(), Failed>
+    ensures { Writes (K.seen sink.old) (K.seen sink.new) result (out_of_range_text sample value) }
+{
+    put_numbered(sink, b"cause GAIN sample ", sample)?;
+    put_number_line(sink, b" value ", value)
+}
