@@ -163,15 +163,15 @@ HEADLINE = ("Headline", "Proposers", "OneAnswer", "Completeness", "Accepted")
 LONG = 30
 PAGE = (
     ("The call", "What `run` says of an answer, whatever the arguments, the files and the sink.",
-     "request_of Request IsExplained Outcome IsRow IsCheckRow IsUnread Row CameOf FilesSeen"),
+     "request_of Request IsExplained Outcome IsRow IsCheckRow IsUnread TableRow CameOf FilesSeen"),
     ("The file", "What it means that a file's bytes are a controller, and what the controller is in words.",
-     "longest_file IsAccepted IsTextOf IsFaultOf ControllerView BecomesWords FixedPoint"),
+     "longest_file IsAccepted IsTextOf IsFaultOf ControllerView BecomesWords QuantisedView"),
     ("Overflow, limit cycles, simulation", "What the answers on runs say, over the written equations.",
      "equations_of rows Breaks Cycles IsSearch Happens NeverHappens IsTrace IsCycle GaveUp IsTooLarge IsFormulaOf "
-     "IsSeeking KeepsTo NoneIsGood IsRun IsRunOver"),
+     "IsSeeking KeepsTo NoneIsGood IsMeasuring IsGainOf outlook_of HoldAlways NeverOverflows IsBreakOf IsRun IsRunOver"),
     ("Stability, minimum phase, timing", "What the answers on polynomials and on time say.",
      "IsTested tested_of ShowsFall StrictlyFallsAlong StrictlyFalls ShowsKeptAway IsKeptAwayAlong IsKeptAway "
-     "ShowsNoForm closed_form_of jury_of IsTimed IsTimingOf IsOnTime"),
+     "ShowsNoForm closed_form_of jury_of WantsSchurCohn IsBeyond IsTimed IsTimingOf IsOnTime"),
     ("Certificates, generated controllers", "What a check says, and what a tally says.",
      "longest_certificate IsCheckOf Passes IsChecked HasShown IsShownOf IsFaulty IsRefusedAt IsOfGeneration "
      "IsGeneratedFrom"),
