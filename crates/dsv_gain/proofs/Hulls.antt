@@ -9,7 +9,7 @@ use Rattle.std.proofs.lemmas.List.Elements.{All-head, All-tail, All-nil, All-con
 use Rattle.dsv_word.specs.declared.format.Format.{Format}
 use Rattle.dsv_word.specs.Words.{IsWord}
 use Rattle.dsv_netlist.specs.declared.node.Node.{Node}
-use Rattle.dsv_netlist.specs.declared.node.Node.TheVariants.{Input, Reg, MulConst, Round, Add, Sub, Fit}
+use Rattle.dsv_netlist.specs.declared.node.Node.TheVariants.{Input, Reg, MulConst, Round, Add, Sub, Fit, Scale}
 use Rattle.dsv_netlist.specs.Nodes.{Net, node_exact}
 use Rattle.dsv_linear.specs.Facts.{LiesWithin}
 use Rattle.dsv_linear.specs.declared.range.Range.{Range}
@@ -108,6 +108,7 @@ node_are f point (MulConst c i) all e = none_are f all e
 node_are f point (Round i) all e = none_are f all e
 node_are f point (Add i j) all e = none_are f all e
 node_are f point (Sub i j) all e = none_are f all e
+node_are f point (Scale i) all e = none_are f all e
 node_are f point (Fit i) all e =
     let o = value_is f (ends_at point i) all e in
     subst (λ (rs : List Range). AreRanges f 1 rs) (sym o.alone) (record { many = refl; words = All-cons (HasWords f) o.ends [] (record { low = o.low; high = o.high }) (All-nil (HasWords f)) })

@@ -8,7 +8,7 @@ use Rattle.std.proofs.lemmas.List.Elements.{All-nil, All-cons}
 use Rattle.dsv_word.specs.declared.format.Format.{Format}
 use Rattle.dsv_word.specs.Words.{IsWord}
 use Rattle.dsv_netlist.specs.declared.node.Node.{Node}
-use Rattle.dsv_netlist.specs.declared.node.Node.TheVariants.{Input, Reg, MulConst, Round, Add, Sub, Fit}
+use Rattle.dsv_netlist.specs.declared.node.Node.TheVariants.{Input, Reg, MulConst, Round, Add, Sub, Fit, Scale}
 use Rattle.dsv_netlist.specs.Nodes.{Sample, at, node_value, node_exact, sample_from}
 use Rattle.dsv_linear.specs.Facts.{Between}
 use Rattle.dsv_linear.specs.declared.range.Range.{Range}
@@ -111,6 +111,7 @@ node_lies start words point values (MulConst c i) all e s = none_lie start.forma
 node_lies start words point values (Round i) all e s = none_lie start.format all e
 node_lies start words point values (Add i j) all e s = none_lie start.format all e
 node_lies start words point values (Sub i j) all e s = none_lie start.format all e
+node_lies start words point values (Scale i) all e s = none_lie start.format all e
 node_lies start words point values (Fit i) all e s =
     let o = value_is start.format (ends_at point i) all e in
     let p = some_of (form_at point.estimates i) (λ form. form_range point.ranges form) o.ends o.known in

@@ -9,7 +9,7 @@ use Rattle.dsv_word.specs.declared.format.Format.{Format}
 use Rattle.dsv_word.specs.Words.{width, lo, hi}
 use Rattle.dsv_netlist.specs.declared.node.Node.{Node}
 use Rattle.dsv_netlist.specs.declared.node.Node.TheVariants.{Input, Reg, MulConst}
-use Rattle.dsv_netlist.specs.declared.node.Node.TheVariants.{Round, Add, Sub, Fit}
+use Rattle.dsv_netlist.specs.declared.node.Node.TheVariants.{Round, Add, Sub, Fit, Scale}
 use Rattle.dsv_netlist.specs.Nodes.{Net}
 use Rattle.dsv_linear.specs.declared.range.Range.{Range}
 use Rattle.dsv_linear.specs.declared.point.Estimate.{Estimate}
@@ -51,6 +51,7 @@ node_ends format point (Round of) = ends.Words []
 node_ends format point (Add left right) = ends.Words []
 node_ends format point (Sub left right) = ends.Words []
 node_ends format point (Fit of) = value_ends format (ends_at point of)
+node_ends format point (Scale of) = ends.Words []
 
 -- what is shown after so many values whose ends are words
 abbrev pub later_ends : List Range → Ends → Ends
@@ -122,6 +123,7 @@ is_past forward (Round of) = false
 is_past forward (Add left right) = false
 is_past forward (Sub left right) = false
 is_past forward (Fit of) = false
+is_past forward (Scale of) = false
 
 -- the node of this number is such a one
 abbrev pub gives_past : ℕ → List Node → ℕ → Bool
@@ -163,6 +165,7 @@ node_has_settled starts estimates (Round of) = true
 node_has_settled starts estimates (Add left right) = true
 node_has_settled starts estimates (Sub left right) = true
 node_has_settled starts estimates (Fit of) = is_under_word (value_part starts estimates of)
+node_has_settled starts estimates (Scale of) = true
 
 -- after a sample: in each of its exact values the part of the first so many symbols is less than
 -- one word

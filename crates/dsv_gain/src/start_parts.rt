@@ -5,18 +5,15 @@ ghost use Rattle.dsv_gain.specs.Gains.{node_has_settled, has_settled};
 
 use dsv_algebra::NarrowInteger;
 use dsv_base::Items;
-use dsv_linear::{
-    Estimate, Form, Point, RANGE_SCALE, Range, SCALE, form_at, greatest_sum, least_sum,
-};
+use dsv_linear::{Estimate, Form, Point, RANGE_SCALE, Range, SCALE, extreme_sums, form_at};
 use dsv_netlist::Node;
 
 /// What these symbols, the first ones, make of the range of a form: the scales times its width.
 fn start_part(starts: &[Range], form: &Form) -> Option<NarrowInteger>
     ensures { result ≡ start_part starts.now form.now }
 {
-    let low = least_sum(starts, form)?;
-    let high = greatest_sum(starts, form)?;
-    high.checked_sub(low)
+    let sums = extreme_sums(starts, form)?;
+    sums.high.checked_sub(sums.low)
 }
 
 /// What they make of the range of the value of this number, where that is known.

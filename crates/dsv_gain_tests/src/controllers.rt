@@ -1,7 +1,7 @@
 // Small quantised controllers.
 use dsv_names::{OverflowMode, Realisation, Rounding};
-use dsv_quantiser::{Quantised, quantise};
-use dsv_reader::read;
+use dsv_quantiser::Quantised;
+use dsv_test_setup::quantised_of;
 use dsv_word::Format;
 use std::alloc::Global;
 
@@ -33,7 +33,6 @@ impl Design {
         realisation: Realisation,
     ) -> Option<Quantised> {
         let format = Format::new(self.int_bits, self.frac_bits, self.rounding, self.overflow).ok()?;
-        let controller = read(alloc, self.text.as_bytes()).ok()?;
-        quantise(&controller, format, realisation).ok()
+        quantised_of(alloc, self.text, format, realisation)
     }
 }

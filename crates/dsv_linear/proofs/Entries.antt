@@ -1,14 +1,11 @@
 -- Lists and sums of narrow numbers, number by number.
-use Rattle.std.proofs.Common.{◌≡◌, ℕ, zero, suc, ◌+◌, ◌/◌, ◌^◌, ◌<◌, length, inl, inr, List, [], ◌∷◌, ◌++◌, refl, sym, ap, ◌∙◌, arith, add-one}
+use Rattle.std.proofs.Common.{◌≡◌, ℕ, zero, suc, ◌+◌, ◌<◌, inl, inr, List, [], ◌∷◌, ◌++◌, refl, sym, ap, ◌∙◌, arith, add-one}
 use Rattle.std.specs.Prelude.{Some, None}
 use Rattle.std.proofs.Math.IntN.{ℤ, pos, ◌+ℤ◌}
 use Rattle.std.proofs.lemmas.Bool.{cases_lt}
 use Rattle.dsv_algebra.specs.Narrow.{narrow_of}
 use Rattle.dsv_system.specs.Systems.{zeros}
-use Rattle.dsv_word.specs.declared.format.Format.{Format}
-use Rattle.dsv_linear.specs.declared.range.Range.{Range}
-use Rattle.dsv_linear.specs.Forms.{◌>>=◌, scale, entries, total, quotients, rests, symbol_range, with_symbol}
-use Rattle.dsv_linear.specs.Known.{error_range, rounded_in}
+use Rattle.dsv_linear.specs.Forms.{◌>>=◌, entries, total}
 
 -- a list that is given up stays so
 pub entries_stop : (f : ℕ → ℤ) (j n : ℕ) (list : List ℤ) → j < n → entries j f ≡ Some list → None ≡ narrow_of (f j) → None ≡ entries n f
@@ -44,10 +41,3 @@ zeros_next (suc n) = ap (λ (xs : List ℤ). pos 0 ∷ xs) (zeros_next n)
 
 pub zeros_more : (n : ℕ) → zeros (n + 1) ≡ zeros n ++ pos 0 ∷ []
 zeros_more n = ap zeros (add-one n) ∙ zeros_next n
-
-pub rounded_made : (format : Format) (ranges : List Range) (form qs rs list : List ℤ) (d : ℕ) (symbol : Range) (step : ℤ) → d ≡ 2 ^ format.frac_bits
-    → Some qs ≡ quotients (length ranges) d form → Some rs ≡ rests (length ranges) d form
-    → Some symbol ≡ symbol_range (error_range format.rounding format.frac_bits) ranges rs
-    → step ≡ pos (scale / d) → list ≡ qs ++ step ∷ []
-    → with_symbol list symbol ≡ rounded_in format ranges form
-rounded_made format ranges form qs rs list d symbol step e p q r s t = rw (← e, ← p, ← q, ← r, t, s) refl

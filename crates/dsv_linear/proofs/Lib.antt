@@ -1,5 +1,8 @@
 pub mod Entries
 pub mod Scales
+pub mod SmallSums
+pub mod Shifts
+pub mod Divisions
 pub mod Passes
 pub mod Numbers
 pub mod Meanings

@@ -14,6 +14,12 @@ get_some [] i d x e = absurd cc
 get_some (y ∷ ys) zero d x e = cc
 get_some (y ∷ ys) (suc i) d x e = get_some ys i d x e
 
+-- an item that is there, whatever stands for one that isn't
+pub other_default : {X : Type 0} (xs : List X) (i : ℕ) (d e : X) → i < length xs → get_or xs i d ≡ get_or xs i e
+other_default [] i d e h = absurd (omega arith)
+other_default (x ∷ xs) zero d e h = refl
+other_default (x ∷ xs) (suc i) d e h = other_default xs i d e (omega arith)
+
 pub taken_more : {X : Type 0} (xs got now : List X) (i : ℕ) (x : X) → i < length xs → got ≡ take i xs → slice_get xs i ≡ Some x → now ≡ got ++ x ∷ [] → now ≡ take (i + 1) xs
 taken_more xs got now i x l g e p = p ∙ ap (λ ys. ys ++ x ∷ []) g ∙ ap (λ y. take i xs ++ y ∷ []) (sym (get_some xs i x x e)) ∙ sym (take_more xs i x l)
 

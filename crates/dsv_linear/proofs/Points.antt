@@ -14,7 +14,7 @@ use Rattle.dsv_word.specs.declared.format.Format.{Format}
 use Rattle.dsv_word.specs.Words.{IsWord}
 use Rattle.dsv_word.specs.Quotients.{whole_shift}
 use Rattle.dsv_netlist.specs.declared.node.Node.{Node}
-use Rattle.dsv_netlist.specs.declared.node.Node.TheVariants.{Input, Reg, MulConst, Round, Add, Sub, Fit}
+use Rattle.dsv_netlist.specs.declared.node.Node.TheVariants.{Input, Reg, MulConst, Round, Add, Sub, Fit, Scale}
 use Rattle.dsv_netlist.specs.Nodes as nodes
 use Rattle.dsv_netlist.specs.Nodes.{Sample, at, node_value, node_exact}
 use Rattle.dsv_linear.specs.Facts.{Between, Hold, HoldsOf}
@@ -159,6 +159,11 @@ gives start words x point values (Sub i j) s b a =
 gives start words x point values (Fit i) s b a =
     rw (fit_same start.format (at values i) (All-head (IsWord start.format) (at values i) [] a))
     (stays s.k s.us point.ranges (form_at point.estimates i) (at values i) (λ f h. stand_at (length point.ranges) s.k s.us point.estimates values i f h s.stand))
+gives start words x point values (Scale i) s b a =
+    let c = pos (2 ^ start.format.frac_bits) in
+    stays s.k s.us point.ranges (product_at c point.estimates i) (c *ℤ at values i) (λ f h.
+    let o = some_of (form_at point.estimates i) (λ form. products c form) f h in
+    products_mean (length point.ranges) s.k s.us c o.0 f (at values i) o.2 (stand_at (length point.ranges) s.k s.us point.estimates values i o.0 o.1 s.stand))
 
 -- ---- one node more
 solution_none : (registers : List Estimate) (words : List ℤ) (ranges : List Range) (estimates : List Estimate) (values : List ℤ) (e : Estimate) (v : ℤ)
@@ -250,6 +255,7 @@ hold_more start words point sample (Fit i) t =
     fact_is_true start.format (ends_at point i) interval (at sample.values i) (λ r e.
     let o = some_of (form_at point.estimates i) (λ form. form_range point.ranges form) r e in
     form_ranges s.k s.us point.ranges o.0 (at sample.values i) r s.symbols (stand_at (length point.ranges) s.k s.us point.estimates sample.values i o.0 o.1 s.stand) o.2))
+hold_more start words point sample (Scale i) t = hold_same start.format point.facts sample.exact t.hold
 
 pub tracks_more : (start : Start) (words : List ℤ) (x : ℤ) (point : Point) (sample : Sample) (node : Node) → Between start.input.low start.input.high x → Tracks start words point sample
     → Tracks start words (after_node start point node) (nodes.after_node start.format words x sample node)

@@ -12,7 +12,7 @@ use Rattle.dsv_word.specs.Words.{width, lo, hi}
 use Rattle.dsv_word.specs.Quotients.{whole_shift}
 use Rattle.dsv_netlist.specs.declared.node.Node.{Node}
 use Rattle.dsv_netlist.specs.declared.node.Node.TheVariants.{Input, Reg, MulConst}
-use Rattle.dsv_netlist.specs.declared.node.Node.TheVariants.{Round, Add, Sub, Fit}
+use Rattle.dsv_netlist.specs.declared.node.Node.TheVariants.{Round, Add, Sub, Fit, Scale}
 use Rattle.dsv_netlist.specs.Nodes.{Net}
 use Rattle.dsv_linear.specs.declared.fact.Fact.{Fact}
 use Rattle.dsv_linear.specs.declared.fact.Fact.TheVariants as fact
@@ -79,6 +79,8 @@ node_entry start point (Add left right) = without_symbol (sum_at point.estimates
 node_entry start point (Sub left right) = without_symbol (difference_at point.estimates left right)
 -- up to the first break nothing wraps
 node_entry start point (Fit of) = without_symbol (form_at point.estimates of)
+node_entry start point (Scale of) =
+    without_symbol (product_at (pos (2 ^ start.format.frac_bits)) point.estimates of)
 
 -- ---- the plain interval of a node's value
 -- a number as the format rounds it
@@ -108,6 +110,8 @@ node_interval start point (Sub left right) = interval_at point.estimates left >>
     interval_at point.estimates right >>= λ s. differences_range r s
 node_interval start point (Fit of) =
     interval_at point.estimates of >>= λ r. Some (cut_range start.format r)
+node_interval start point (Scale of) =
+    interval_at point.estimates of >>= λ r. products_range (pos (2 ^ start.format.frac_bits)) r
 
 -- ---- the fact of a value that is fitted
 abbrev pub is_word : Format → ℤ → Bool
@@ -142,6 +146,7 @@ node_fact format point (Add left right) = None
 node_fact format point (Sub left right) = None
 node_fact format point (Fit of) =
     Some (fact_of format (ends_at point of) (interval_at point.estimates of))
+node_fact format point (Scale of) = None
 
 -- ---- samples
 abbrev pub form_of : Option Entry → Option (List ℤ)

@@ -10,9 +10,10 @@ ghost use Rattle.dsv_linear.specs.Known.{node_interval, is_word, are_words, fact
 ghost use Rattle.dsv_linear.specs.Known.{ends_at, node_fact};
 ghost use Rattle.dsv_linear.specs.NodeIntervals.{sum_interval, difference_interval};
 
+use crate::extremes::form_range;
 use crate::fact::Fact;
-use crate::form::form_range;
 use crate::point::{Estimate, Point, Start, form_at};
+use crate::powers::one;
 use crate::range::Range;
 use dsv_algebra::NarrowInteger;
 use dsv_base::Items;
@@ -96,6 +97,7 @@ pub(crate) fn node_interval(start: &Start, point: &Point, node: &Node) -> Option
         Node::Add(left, right) => sum_interval(estimates, *left, *right),
         Node::Sub(left, right) => difference_interval(estimates, *left, *right),
         Node::Fit(of) => Some(cut_range(&start.format, &interval_at(estimates, *of)?)),
+        Node::Scale(of) => interval_at(estimates, *of)?.times(one(&start.format)),
     }
 }
 

@@ -3,17 +3,24 @@
 //! sum of worst cases.
 #![tactic(auto, using(dsv_algebra::proofs::Casts::casts))]
 
+mod arithmetic;
+mod division;
+mod extremes;
 mod fact;
 mod form;
 mod intervals;
 mod nodes;
 mod point;
+mod powers;
 mod range;
 mod rounding;
 mod run;
+mod small;
 
+pub use arithmetic::unit;
+pub use extremes::extreme_sums;
 pub use fact::Fact;
-pub use form::{Form, greatest_sum, least_sum, unit};
+pub use form::Form;
 pub use intervals::{are_words, ends_at};
 pub use nodes::add_form;
 pub use point::{Entry, Estimate, Point, Start, form_at};

@@ -6,10 +6,12 @@ ghost use Rattle.dsv_linear.specs.Known.{form_at, product_at, sum_at, difference
 ghost use Rattle.dsv_linear.specs.Known.{input_entry, form_of, symbol_of};
 ghost use Rattle.dsv_linear.specs.Known.{node_entry, after_node, advanced};
 
+use crate::arithmetic::{difference, product, sum, unit};
 use crate::fact::Fact;
-use crate::form::{Form, difference, product, sum, unit};
+use crate::form::Form;
 use crate::intervals::{node_fact, node_interval};
 use crate::point::{Entry, Estimate, Point, Start, form_at};
+use crate::powers::one;
 use crate::range::Range;
 use crate::rounding::rounded_entry;
 use dsv_algebra::NarrowInteger;
@@ -22,7 +24,7 @@ fn copy_at(alloc: Global, estimates: &Items<Estimate>, i: u32) -> Result<Option<
     ensures { IfOk result (λ form. form ≡ form_at estimates.now i) }
 {
     match form_at(estimates, i) {
-        Some(form) => Ok(Some(Form::from_slice(alloc, form.as_slice())?)),
+        Some(form) => Ok(Some(form.copy(alloc)?)),
         None => Ok(None),
     }
 }
@@ -130,6 +132,7 @@ fn node_entry(
         Node::Add(left, right) => sum_at(alloc, &point.estimates, *left, *right)?,
         Node::Sub(left, right) => difference_at(alloc, &point.estimates, *left, *right)?,
         Node::Fit(of) => copy_at(alloc, &point.estimates, *of)?,
+        Node::Scale(of) => product_at(alloc, one(&start.format), &point.estimates, *of)?,
     };
     Ok(without_symbol(form))
 }

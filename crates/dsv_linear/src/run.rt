@@ -49,7 +49,7 @@ fn copy_of(alloc: Global, estimate: &Estimate) -> Result<Estimate, NoMemory>
     ensures { IfOk result (λ copy. copy ≡ estimate.now) }
 {
     let form = match &estimate.form {
-        Some(form) => Some(Form::from_slice(alloc, form.as_slice())?),
+        Some(form) => Some(form.copy(alloc)?),
         None => None,
     };
     Ok(Estimate {

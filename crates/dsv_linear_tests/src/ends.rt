@@ -32,6 +32,26 @@ const SCALES: &[Node] = &[
 /// y(n) = 2 x(n) - x(n).
 const TWICE: &[Node] = &[Node::Input, Node::Add(0, 0), Node::Sub(1, 0), Node::Fit(2)];
 
+/// y(n) = x(n) times 1.75 and x(n), in one sum that is made whole once.
+const WIDE_SUM: &[Node] = &[
+    Node::Input,
+    Node::MulConst { coeff: 7, of: 0 },
+    Node::Scale(0),
+    Node::Add(1, 2),
+    Node::Round(3),
+    Node::Fit(4),
+];
+
+/// y(n) = x(n) less x(n) times 1.0, in one difference that is made whole once.
+const WIDE_DIFFERENCE: &[Node] = &[
+    Node::Input,
+    Node::Scale(0),
+    Node::MulConst { coeff: 4, of: 0 },
+    Node::Sub(1, 2),
+    Node::Round(3),
+    Node::Fit(4),
+];
+
 /// A netlist, its rounding, the range of its inputs, the samples, and the fact of each exact value.
 #[derive(Clone, Copy)]
 struct Row {
@@ -58,8 +78,10 @@ const SUM_FACTS: &[Fact] = &[
 
 // The words are -8 to 7. 7 x and an error, over 4, are made whole inwards: by FLOOR 5 gives 8.75
 // and -5 gives -9.5 at least, by CEIL -5 gives -8.75 at least. Twice a number less the number is
-// the number, whose plain interval is three times as wide.
-const ROWS: [Row; 13] = [
+// the number, whose plain interval is three times as wide. The wide sum is 11 x and an error, over
+// 4: of 2 and -2 by FLOOR at most 5.5 and at least -6.25, by CEIL 6.25 and -5.5, by NEAREST 6 and
+// -5.75; of -3 by FLOOR -9 at least. The wide difference is its error, over 4, alone.
+const ROWS: [Row; 18] = [
     Row {
         nodes: SUMS,
         next: &[9],
@@ -193,6 +215,56 @@ const ROWS: [Row; 13] = [
         high: 7,
         samples: 1,
         facts: &[Fact::Open],
+    },
+    Row {
+        nodes: WIDE_SUM,
+        next: &[],
+        output: 5,
+        rounding: Rounding::Floor,
+        low: -2,
+        high: 2,
+        samples: 1,
+        facts: &[Fact::Within { low: -6, high: 5 }],
+    },
+    Row {
+        nodes: WIDE_SUM,
+        next: &[],
+        output: 5,
+        rounding: Rounding::Ceil,
+        low: -2,
+        high: 2,
+        samples: 1,
+        facts: &[Fact::Within { low: -5, high: 6 }],
+    },
+    Row {
+        nodes: WIDE_SUM,
+        next: &[],
+        output: 5,
+        rounding: Rounding::Nearest,
+        low: -2,
+        high: 2,
+        samples: 1,
+        facts: &[Fact::Within { low: -5, high: 6 }],
+    },
+    Row {
+        nodes: WIDE_SUM,
+        next: &[],
+        output: 5,
+        rounding: Rounding::Floor,
+        low: -3,
+        high: 2,
+        samples: 1,
+        facts: &[Fact::Open],
+    },
+    Row {
+        nodes: WIDE_DIFFERENCE,
+        next: &[],
+        output: 5,
+        rounding: Rounding::Floor,
+        low: -2,
+        high: 2,
+        samples: 1,
+        facts: &[Fact::Within { low: 0, high: 0 }],
     },
 ];
 

@@ -9,10 +9,9 @@ ghost use Rattle.std.specs.List.{All};
 use dsv_linear::{Fact, facts_of};
 use dsv_names::{OverflowMode, Realisation, Rounding};
 use dsv_netlist::Netlist;
-use dsv_quantiser::quantise;
-use dsv_reader::read;
 use dsv_realise::realise;
 use dsv_system::ExactList;
+use dsv_test_setup::quantised_of;
 use dsv_word::Format;
 use std::alloc::Global;
 use std::test::Fail;
@@ -41,8 +40,7 @@ const LISTS: u32 = 64;
 
 fn netlist(alloc: Global, rounding: Rounding, realisation: Realisation) -> Option<Netlist> {
     let format = Format::new(2, 1, rounding, OverflowMode::Wrap).ok()?;
-    let controller = read(alloc, SECOND.as_bytes()).ok()?;
-    let quantised = quantise(&controller, format, realisation).ok()?;
+    let quantised = quantised_of(alloc, SECOND, format, realisation)?;
     realise(alloc, &quantised).ok()
 }
 

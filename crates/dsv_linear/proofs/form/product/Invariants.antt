@@ -1,8 +1,0 @@
-use Rattle.std.proofs.Common.{◌≡◌}
-use Rattle.std.specs.Prelude.{Some, ◌*ℤ◌}
-use Rattle.dsv_netlist.specs.Nodes.{at}
-use Rattle.dsv_linear.specs.Forms.{entries}
-use Rattle.dsv_linear.proofs.form.product.Given as goal
-
-abbrev pub invariant-loop-j : goal.invariant-loop-j
-invariant-loop-j l = entries l.j (λ j. l.c *ℤ at l.of j) ≡ Some l.form
