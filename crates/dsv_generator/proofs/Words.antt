@@ -132,10 +132,11 @@ words_with a1 a2 b0 b1 = record {
   xhi = pos 16;
   format = format_3_4;
   realisation = Dfi;
+  wide = false;
 }
 
 abbrev put_together : List ℤ → List ℤ → ℤ → ℤ → QuantisedView
-put_together num den low high = record { b = num; a = den; delta = pos 0; xlo = low; xhi = high; format = format_3_4; realisation = Dfi }
+put_together num den low high = record { b = num; a = den; delta = pos 0; xlo = low; xhi = high; format = format_3_4; realisation = Dfi; wide = false }
 
 -- the inputs are from -16 to 16
 whole_range : (num den : List ℤ) → (range_of format_3_4 minus_one one >>= λ r. Ok (put_together num den r.lo r.hi)) ≡ Ok (put_together num den (negsuc 15) (pos 16))

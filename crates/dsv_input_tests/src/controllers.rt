@@ -18,6 +18,7 @@ enum Fact {
     Range(Parts, Parts, Parts),
     SampleTime(Parts),
     Delta(Option<Parts>),
+    Wide(bool),
     Clock(u64),
     Costs(Costs),
 }
@@ -62,6 +63,7 @@ fn says(controller: &Controller, fact: &Fact) -> bool {
         Fact::Range(min, max, sample_time) => has_range(controller, min, max, sample_time),
         Fact::SampleTime(time) => is_number(controller.sample_time(), time),
         Fact::Delta(wanted) => is_delta(controller.delta(), wanted),
+        Fact::Wide(wanted) => controller.is_wide() == *wanted,
         Fact::Clock(clock) => controller.clock() == *clock,
         Fact::Costs(costs) => *controller.costs() == *costs,
     }
@@ -137,7 +139,19 @@ const ONE_AND_ZEROS: &[Parts] = &[
 
 /// Files that are read, and what they say.
 const ROWS: &[Row] = &[
-    Row(Blocks(SYSTEM, IMPLEMENTATION, ""), &[]),
+    Row(Blocks(SYSTEM, IMPLEMENTATION, ""), &[Fact::Wide(false)]),
+    Row(
+        Blocks(
+            SYSTEM,
+            ".wide=1,.min=0,.max=1,.frac_bits=1,.int_bits=1",
+            ".wide=5",
+        ),
+        &[Fact::Wide(true)],
+    ),
+    Row(
+        Blocks(SYSTEM, ".min=0,.max=1,.frac_bits=1,.int_bits=1,.wide=0", ""),
+        &[Fact::Wide(false)],
+    ),
     Row(
         Blocks(
             ".b={1,},.a={1,},.a_size=1,.b_size=1,",

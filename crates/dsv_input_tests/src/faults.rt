@@ -96,6 +96,7 @@ const TWICE: &[Blocks] = &[
     Blocks(SYSTEM, ".max=1,^.max=1", ""),
     Blocks(SYSTEM, ".min=1,^.min=1", ""),
     Blocks(SYSTEM, ".delta=1,^.delta=1", ""),
+    Blocks(SYSTEM, ".wide=1,^.wide=2", ""),
     Blocks(SYSTEM, IMPLEMENTATION, ".clock=1,^.clock=1"),
     Blocks(SYSTEM, IMPLEMENTATION, ".cost_sample=1,^.cost_sample=1"),
     Blocks(SYSTEM, IMPLEMENTATION, ".cost_mul=1,^.cost_mul=1"),
@@ -127,6 +128,10 @@ const PASSES: &[File] = &[
         Fault::Unexpected(Wanted::CommaOrClose),
     ),
     File(Blocks("", ".int_bits=^1.5", ""), Fault::Number),
+    File(Blocks("", ".wide=^2", ""), Fault::Number),
+    File(Blocks("", ".wide=^-0", ""), Fault::Number),
+    File(Blocks("", ".wide=^1.0", ""), Fault::Number),
+    File(Blocks("", ".wide=1,.int_bits=^1.5", ""), Fault::Number),
     File(Blocks("", "", ".clock=1,^.clock=0"), Fault::Twice),
     File(
         Blocks(

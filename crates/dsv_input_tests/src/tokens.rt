@@ -187,6 +187,7 @@ const NAMES: &[Name] = &[
     Name("max", Word::Field(Field::Max)),
     Name("min", Word::Field(Field::Min)),
     Name("delta", Word::Field(Field::Delta)),
+    Name("wide", Word::Field(Field::Wide)),
     Name("clock", Word::Setting(Setting::Clock)),
     Name("cost_sample", Word::Setting(Setting::CostSample)),
     Name("cost_mul", Word::Setting(Setting::CostMul)),
@@ -195,6 +196,7 @@ const NAMES: &[Name] = &[
     Name("cost_fit", Word::Setting(Setting::CostFit)),
     Name("cost_moves", Word::Setting(Setting::CostMoves)),
     Name("Delta", Word::Other),
+    Name("wider", Word::Other),
     Name("b_", Word::Other),
 ];
 

@@ -100,6 +100,7 @@ named-field_name field.FracBits = refl
 named-field_name field.Max = refl
 named-field_name field.Min = refl
 named-field_name field.Delta = refl
+named-field_name field.Wide = refl
 
 pub are_names-fields : AreNames field_name fields
 are_names-fields = record { found = named-field_name; only = name-named field_name fields }

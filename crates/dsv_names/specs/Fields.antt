@@ -14,7 +14,8 @@ field_name field.FracBits = codes "frac_bits"
 field_name field.Max = codes "max"
 field_name field.Min = codes "min"
 field_name field.Delta = codes "delta"
+field_name field.Wide = codes "wide"
 
 abbrev pub fields : List Field
 fields = field.B ∷ field.A ∷ field.BSize ∷ field.ASize ∷ field.SampleTime ∷ field.IntBits
-    ∷ field.FracBits ∷ field.Max ∷ field.Min ∷ field.Delta ∷ []
+    ∷ field.FracBits ∷ field.Max ∷ field.Min ∷ field.Delta ∷ field.Wide ∷ []

@@ -24,6 +24,8 @@ pub enum Field {
     Min,
     /// The delta of the delta forms.
     Delta,
+    /// Whether the accumulator is wide.
+    Wide,
 }
 
 impl Named for Field {
@@ -45,6 +47,7 @@ impl Named for Field {
             Field::Max => "max",
             Field::Min => "min",
             Field::Delta => "delta",
+            Field::Wide => "wide",
         }
     }
 
@@ -60,6 +63,7 @@ impl Named for Field {
             Field::Max,
             Field::Min,
             Field::Delta,
+            Field::Wide,
         ]
     }
 }

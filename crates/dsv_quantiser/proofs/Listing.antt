@@ -67,10 +67,11 @@ after_first f a words i so some h =
 
 pub in_words_meant : (c : ControllerView) (f : Format) (k : Realisation) (b a : List Ratio) (num den : List ℤ) (d low high : ℤ) → 1 ≤ length a
     → AreWordsOf f b [] num → AreWordsOf f (drop 1 a) (unit f ∷ []) den → IsRangeOf f c.min c.max (record { lo = low; hi = high })
-    → IsInWords c f k b a d (record { b = num; a = den; delta = d; xlo = low; xhi = high; format = f; realisation = k })
+    → IsInWords c f k b a d (record { b = num; a = den; delta = d; xlo = low; xhi = high; format = f; realisation = k; wide = c.wide })
 in_words_meant c f k b a num den d low high some is so range = record {
   same_format = refl;
   same_realisation = refl;
+  same_wide = refl;
   same_delta = refl;
   leading = so.same 0 (omega arith);
   b_places = omega (arith, is.places);
@@ -82,8 +83,8 @@ in_words_meant c f k b a num den d low high some is so range = record {
 
 -- ---- what stays true
 pub is_quantised : (c : ControllerView) (f : Format) (k : Realisation) (b a : List Ratio) (num den : List ℤ) (d low high : ℤ) → length b ≡ length a → 1 ≤ length a → length a ≤ most_coefficients
-    → IsDeltaWord f k d → IsInWords c f k b a d (record { b = num; a = den; delta = d; xlo = low; xhi = high; format = f; realisation = k })
-    → IsQuantisedView (record { b = num; a = den; delta = d; xlo = low; xhi = high; format = f; realisation = k })
+    → IsDeltaWord f k d → IsInWords c f k b a d (record { b = num; a = den; delta = d; xlo = low; xhi = high; format = f; realisation = k; wide = c.wide })
+    → IsQuantisedView (record { b = num; a = den; delta = d; xlo = low; xhi = high; format = f; realisation = k; wide = c.wide })
 is_quantised c f k b a num den d low high same some few delta is = record {
   one_length = omega (arith, is.b_places, is.a_places);
   some = omega (arith, is.a_places);

@@ -40,6 +40,7 @@ pub record IsInWords (c : ControllerView) (format : Format) (realisation : Reali
   pub same_format : q.format ≡ format
   pub same_realisation : q.realisation ≡ realisation
   pub same_delta : q.delta ≡ delta
+  pub same_wide : q.wide ≡ c.wide
   pub leading : slice_index_or q.a 0 (pos 0) ≡ unit format
   pub b_places : length q.b ≡ length b
   pub a_places : length q.a ≡ length a

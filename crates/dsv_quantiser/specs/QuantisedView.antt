@@ -1,5 +1,5 @@
 -- Quantised controllers as contracts see them.
-use Rattle.std.specs.Prelude.{◌≡◌, ◌≤◌, ◌^◌, List, length, drop, All}
+use Rattle.std.specs.Prelude.{◌≡◌, ◌≤◌, ◌^◌, Bool, List, length, drop, All}
 use Rattle.std.specs.Prelude.{MatchBool, ℤ, pos, ◌≤ℤ◌, slice_index_or}
 use Rattle.dsv_word.specs.declared.format.Format.{Format}
 use Rattle.dsv_word.specs.Words.{width, lo, hi, IsWord}
@@ -7,7 +7,8 @@ use Rattle.dsv_names.specs.declared.realisation.Realisation.{Realisation}
 use Rattle.dsv_names.specs.Realisations.{is_delta}
 use Rattle.dsv_fraction.specs.Ratio.{most_coefficients}
 
--- the words of a controller, the range of its inputs, its format and its realisation
+-- the words of a controller, the range of its inputs, its format, its realisation, and whether its
+-- accumulator is wide
 pub record QuantisedView : Type 0 where
   pub b : List ℤ
   pub a : List ℤ
@@ -16,6 +17,7 @@ pub record QuantisedView : Type 0 where
   pub xhi : ℤ
   pub format : Format
   pub realisation : Realisation
+  pub wide : Bool
 
 -- the word of the number 1, which may lie above the greatest word
 abbrev pub unit : Format → ℤ

@@ -87,6 +87,7 @@ in_words c format realisation b a delta =
       xhi = range.hi;
       format = format;
       realisation = realisation;
+      wide = c.wide;
     })
 
 -- ---- delta

@@ -29,6 +29,8 @@ pub struct Quantised {
     format: Format,
     /// The realisation whose coefficients these are.
     realisation: Realisation,
+    /// Whether its accumulator is wide.
+    wide: bool,
 }
 
 impl Model for Quantised {
@@ -44,6 +46,7 @@ impl Model for Quantised {
       xhi = quantised.xhi;
       format = quantised.format;
       realisation = quantised.realisation;
+      wide = quantised.wide;
     } };
 
     ghost invariant = { λ quantised. IsQuantisedView (record {
@@ -54,6 +57,7 @@ impl Model for Quantised {
       xhi = quantised.xhi;
       format = quantised.format;
       realisation = quantised.realisation;
+      wide = quantised.wide;
     }) };
 }
 
@@ -103,6 +107,7 @@ impl Quantised {
             xhi: range.hi,
             format,
             realisation,
+            wide: controller.is_wide(),
         })
     }
 
@@ -168,5 +173,14 @@ impl Quantised {
         ensures quantised { IsQuantisedView self.now }
     {
         self.realisation
+    }
+
+    /// Whether the accumulator is wide: a line's products stay exact, and their sum is rounded and
+    /// fitted once.
+    pub fn is_wide(&self) -> bool
+        ensures same { result ≡ self.now.wide }
+        ensures quantised { IsQuantisedView self.now }
+    {
+        self.wide
     }
 }

@@ -19,7 +19,7 @@ use Rattle.dsv_reader.specs.declared.fields.HardwareFields.{HardwareFields}
 use Rattle.dsv_reader.specs.declared.fields.Values.{Values}
 use Rattle.dsv_reader.specs.Limits.{greatest_clock, greatest_cost}
 use Rattle.dsv_reader.specs.Fields.{setting_value, with_setting, once, entry_read}
-use Rattle.dsv_reader.specs.FieldValues.{list_in, whole_number_in, bounded_in, time_in, decimal_in}
+use Rattle.dsv_reader.specs.FieldValues.{list_in, whole_number_in, bounded_in, time_in, decimal_in, flag_in}
 
 -- what a field's value is
 abbrev pub Value : Label → Type 0
@@ -33,6 +33,7 @@ Value (label.Field field.FracBits) = SpelledNumber
 Value (label.Field field.Max) = Ratio
 Value (label.Field field.Min) = Ratio
 Value (label.Field field.Delta) = Ratio
+Value (label.Field field.Wide) = Bool
 Value (label.Setting s) = ℕ
 Value label.Passed = Unit {0}
 
@@ -48,6 +49,7 @@ read (label.Field field.FracBits) bytes e = whole_number_in bytes e
 read (label.Field field.Max) bytes e = decimal_in bytes e
 read (label.Field field.Min) bytes e = decimal_in bytes e
 read (label.Field field.Delta) bytes e = decimal_in bytes e
+read (label.Field field.Wide) bytes e = flag_in bytes e
 read (label.Setting setting.Clock) bytes e = bounded_in 1 greatest_clock bytes e
 read (label.Setting s) bytes e = bounded_in 0 greatest_cost bytes e
 read label.Passed bytes e = Ok tt
@@ -64,6 +66,7 @@ get_field field.FracBits s i = i.frac_bits
 get_field field.Max s i = i.max
 get_field field.Min s i = i.min
 get_field field.Delta s i = i.delta
+get_field field.Wide s i = i.wide
 
 -- and that of a field of the block hardware
 abbrev get_setting : Setting → HardwareFields → Option ℕ
@@ -103,6 +106,7 @@ set (label.Field field.FracBits) x v = in_implementation v (record v.implementat
 set (label.Field field.Max) x v = in_implementation v (record v.implementation { max = Some x })
 set (label.Field field.Min) x v = in_implementation v (record v.implementation { min = Some x })
 set (label.Field field.Delta) x v = in_implementation v (record v.implementation { delta = Some x })
+set (label.Field field.Wide) x v = in_implementation v (record v.implementation { wide = Some x })
 set (label.Setting s) x v = in_hardware v (with_setting s x v.hardware)
 set label.Passed x v = v
 
@@ -123,6 +127,7 @@ same (label.Field field.FracBits) (label.Field field.FracBits) = true
 same (label.Field field.Max) (label.Field field.Max) = true
 same (label.Field field.Min) (label.Field field.Min) = true
 same (label.Field field.Delta) (label.Field field.Delta) = true
+same (label.Field field.Wide) (label.Field field.Wide) = true
 same (label.Setting setting.Clock) (label.Setting setting.Clock) = true
 same (label.Setting setting.CostSample) (label.Setting setting.CostSample) = true
 same (label.Setting setting.CostMul) (label.Setting setting.CostMul) = true
@@ -150,6 +155,7 @@ same_is (label.Field field.FracBits) (label.Field field.FracBits) h = refl
 same_is (label.Field field.Max) (label.Field field.Max) h = refl
 same_is (label.Field field.Min) (label.Field field.Min) h = refl
 same_is (label.Field field.Delta) (label.Field field.Delta) h = refl
+same_is (label.Field field.Wide) (label.Field field.Wide) h = refl
 same_is (label.Setting setting.Clock) (label.Setting setting.Clock) h = refl
 same_is (label.Setting setting.CostSample) (label.Setting setting.CostSample) h = refl
 same_is (label.Setting setting.CostMul) (label.Setting setting.CostMul) h = refl
@@ -171,6 +177,7 @@ same_self (label.Field field.FracBits) = refl
 same_self (label.Field field.Max) = refl
 same_self (label.Field field.Min) = refl
 same_self (label.Field field.Delta) = refl
+same_self (label.Field field.Wide) = refl
 same_self (label.Setting setting.Clock) = refl
 same_self (label.Setting setting.CostSample) = refl
 same_self (label.Setting setting.CostMul) = refl
@@ -195,6 +202,7 @@ get_set (label.Field field.FracBits) x v h = refl
 get_set (label.Field field.Max) x v h = refl
 get_set (label.Field field.Min) x v h = refl
 get_set (label.Field field.Delta) x v h = refl
+get_set (label.Field field.Wide) x v h = refl
 get_set (label.Setting setting.Clock) x v h = refl
 get_set (label.Setting setting.CostSample) x v h = refl
 get_set (label.Setting setting.CostMul) x v h = refl
@@ -225,6 +233,8 @@ get_other (label.Field field.Min) (label.Field field.Min) x v h = true_false h
 get_other (label.Field field.Min) m x v h = refl
 get_other (label.Field field.Delta) (label.Field field.Delta) x v h = true_false h
 get_other (label.Field field.Delta) m x v h = refl
+get_other (label.Field field.Wide) (label.Field field.Wide) x v h = true_false h
+get_other (label.Field field.Wide) m x v h = refl
 get_other (label.Setting setting.Clock) (label.Setting setting.Clock) x v h = true_false h
 get_other (label.Setting setting.Clock) m x v h = refl
 get_other (label.Setting setting.CostSample) (label.Setting setting.CostSample) x v h = true_false h
@@ -273,6 +283,7 @@ entry_law (label.Field field.FracBits) bytes e v h = ap (once (is_some v.impleme
 entry_law (label.Field field.Max) bytes e v h = ap (once (is_some v.implementation.max) e.dot) (bind1 (decimal_in bytes e) (λ x. record v.implementation { max = Some x }) (after_implementation v))
 entry_law (label.Field field.Min) bytes e v h = ap (once (is_some v.implementation.min) e.dot) (bind1 (decimal_in bytes e) (λ x. record v.implementation { min = Some x }) (after_implementation v))
 entry_law (label.Field field.Delta) bytes e v h = ap (once (is_some v.implementation.delta) e.dot) (bind1 (decimal_in bytes e) (λ x. record v.implementation { delta = Some x }) (after_implementation v))
+entry_law (label.Field field.Wide) bytes e v h = ap (once (is_some v.implementation.wide) e.dot) (bind1 (flag_in bytes e) (λ x. record v.implementation { wide = Some x }) (after_implementation v))
 entry_law (label.Setting setting.Clock) bytes e v h = ap (once (is_some v.hardware.clock) e.dot) (bind1 (setting_value setting.Clock bytes e) (λ n. with_setting setting.Clock n v.hardware) (after_hardware v))
 entry_law (label.Setting setting.CostSample) bytes e v h = ap (once (is_some v.hardware.sample) e.dot) (bind1 (setting_value setting.CostSample bytes e) (λ n. with_setting setting.CostSample n v.hardware) (after_hardware v))
 entry_law (label.Setting setting.CostMul) bytes e v h = ap (once (is_some v.hardware.mul) e.dot) (bind1 (setting_value setting.CostMul bytes e) (λ n. with_setting setting.CostMul n v.hardware) (after_hardware v))
@@ -292,6 +303,7 @@ whole v = record {
     max = v.implementation.max;
     min = v.implementation.min;
     delta = v.implementation.delta;
+    wide = v.implementation.wide;
   };
   hardware = record {
     clock = v.hardware.clock;
@@ -317,6 +329,7 @@ same_values v w h =
     let max = h (label.Field field.Max) refl in
     let min = h (label.Field field.Min) refl in
     let delta = h (label.Field field.Delta) refl in
+    let wide = h (label.Field field.Wide) refl in
     let clock = h (label.Setting setting.Clock) refl in
     let sample = h (label.Setting setting.CostSample) refl in
     let mul = h (label.Setting setting.CostMul) refl in

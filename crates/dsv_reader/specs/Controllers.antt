@@ -1,5 +1,5 @@
 -- Controllers as contracts see them.
-use Rattle.std.specs.Prelude.{◌≡◌, ℕ, ◌<◌, ◌≤◌, List, length}
+use Rattle.std.specs.Prelude.{◌≡◌, ℕ, ◌<◌, ◌≤◌, Bool, List, length}
 use Rattle.std.specs.Prelude.{Option, pos, ◌<ℤ◌, slice_index_or}
 use Rattle.std.specs.Int.RustNames.{unsigned_abs}
 use Rattle.dsv_fraction.specs.Ratio.{Ratio, zero, one}
@@ -19,6 +19,7 @@ pub record ControllerView : Type 0 where
   pub delta : Option Ratio
   pub clock : ℕ
   pub costs : Costs
+  pub wide : Bool
 
 -- positive, with both parts below 2^62
 pub record IsTime (t : Ratio) : Type 0 where

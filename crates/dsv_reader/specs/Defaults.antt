@@ -1,5 +1,5 @@
 -- What holds where a file doesn't say it.
-use Rattle.std.specs.Prelude.{ℕ, List, None}
+use Rattle.std.specs.Prelude.{ℕ, false, List, None}
 use Rattle.dsv_fraction.specs.Ratio.{Ratio, one}
 use Rattle.dsv_word.specs.declared.format.Format.{Format}
 use Rattle.dsv_reader.specs.declared.costs.Costs.{Costs}
@@ -26,4 +26,5 @@ default_controller b a format min max = record {
   delta = None;
   clock = default_clock;
   costs = default_costs;
+  wide = false;
 }

@@ -1,5 +1,5 @@
 -- What the value of a field is, by its kind.
-use Rattle.std.specs.Prelude.{ℕ, List, Result, Ok}
+use Rattle.std.specs.Prelude.{ℕ, ◌==◌, Bool, List, Result, Ok}
 use Rattle.dsv_fraction.specs.Ratio.{Ratio}
 use Rattle.dsv_token.specs.declared.refusal.FileRefusal.{FileRefusal}
 use Rattle.dsv_syntax.specs.declared.entry.Entry.{Entry}
@@ -19,6 +19,10 @@ whole_number_in bytes e = only_of e.place e.numbers >>= λ t. whole_number_at by
 abbrev pub bounded_in : ℕ → ℕ → List ℕ → Entry → Result ℕ FileRefusal
 bounded_in least greatest bytes e = only_of e.place e.numbers
     >>= λ t. bounded_at least greatest bytes t
+
+-- 0 for no and 1 for yes
+abbrev pub flag_in : List ℕ → Entry → Result Bool FileRefusal
+flag_in bytes e = bounded_in 0 1 bytes e >>= λ n. Ok (n == 1)
 
 abbrev pub time_in : List ℕ → Entry → Result Ratio FileRefusal
 time_in bytes e = only_of e.place e.numbers >>= λ t. time_at bytes t

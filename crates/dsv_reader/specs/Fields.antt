@@ -18,6 +18,7 @@ use Rattle.dsv_reader.specs.declared.fields.Values.{Values}
 use Rattle.dsv_reader.specs.Limits.{greatest_clock, greatest_cost}
 use Rattle.dsv_reader.specs.Numbers.{passed_over}
 use Rattle.dsv_reader.specs.FieldValues.{list_in, whole_number_in, bounded_in, time_in, decimal_in}
+use Rattle.dsv_reader.specs.FieldValues.{flag_in}
 
 abbrev pub no_values : Values
 no_values = record {
@@ -28,6 +29,7 @@ no_values = record {
     max = None;
     min = None;
     delta = None;
+    wide = None;
   };
   hardware = record {
     clock = None;
@@ -52,6 +54,7 @@ has_field field.FracBits v = is_some v.implementation.frac_bits
 has_field field.Max v = is_some v.implementation.max
 has_field field.Min v = is_some v.implementation.min
 has_field field.Delta v = is_some v.implementation.delta
+has_field field.Wide v = is_some v.implementation.wide
 
 abbrev pub has_setting : Setting → Values → Bool
 has_setting setting.Clock v = is_some v.hardware.clock
@@ -86,6 +89,8 @@ implementation_field field.Min bytes e i =
     decimal_in bytes e >>= λ q. Ok (record i { min = Some q })
 implementation_field field.Delta bytes e i = decimal_in bytes e
     >>= λ q. Ok (record i { delta = Some q })
+implementation_field field.Wide bytes e i =
+    flag_in bytes e >>= λ x. Ok (record i { wide = Some x })
 implementation_field f bytes e i = Ok i
 
 abbrev pub is_cost : Setting → Bool

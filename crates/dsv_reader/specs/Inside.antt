@@ -15,4 +15,5 @@ view_of c =
       delta = c.delta;
       clock = c.clock;
       costs = c.costs;
+      wide = c.wide;
     }

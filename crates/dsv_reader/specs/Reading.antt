@@ -56,6 +56,7 @@ implementation_of close i =
       max = max;
       min = min;
       delta = i.delta;
+      wide = i.wide;
     })
 
 -- the block that is closed first is tested first
@@ -123,7 +124,7 @@ costs_of h = record {
   moves = unwrap_or h.moves default_costs.moves;
 }
 
--- the sample time is 1 where the file doesn't say else
+-- the sample time is 1, and the accumulator isn't wide, where the file doesn't say else
 abbrev pub controller_with : Blocks → List Ratio → List Ratio → ControllerView
 controller_with x b a = let n = max (length b) (length a) in record {
   b = padded_list n b;
@@ -136,6 +137,7 @@ controller_with x b a = let n = max (length b) (length a) in record {
   delta = x.implementation.delta;
   clock = unwrap_or x.hardware.clock default_clock;
   costs = costs_of x.hardware;
+  wide = unwrap_or x.implementation.wide false;
 }
 
 abbrev pub controller_from : Blocks → Result ControllerView FileRefusal

@@ -13,6 +13,7 @@ use Rattle.dsv_reader.specs.declared.fields.Values.{Values}
 use Rattle.dsv_reader.specs.Limits.{greatest_clock, greatest_cost}
 use Rattle.dsv_reader.specs.Numbers.{text_at, is_octal}
 use Rattle.dsv_reader.specs.FieldValues.{list_in, whole_number_in, bounded_in, time_in, decimal_in}
+use Rattle.dsv_reader.specs.FieldValues.{flag_in}
 
 -- ---- which value a field has
 -- no field here has the label
@@ -57,6 +58,7 @@ pub record AreValuesOf (bytes : List ℕ) (es : List Entry) (v : Values) : Type 
   pub max : IsValueOf (label.Field field.Max) (decimal_in bytes) es v.implementation.max
   pub min : IsValueOf (label.Field field.Min) (decimal_in bytes) es v.implementation.min
   pub delta : IsValueOf (label.Field field.Delta) (decimal_in bytes) es v.implementation.delta
+  pub wide : IsValueOf (label.Field field.Wide) (flag_in bytes) es v.implementation.wide
   pub clock : IsValueOf (label.Setting setting.Clock) (bounded_in 1 greatest_clock bytes) es
       v.hardware.clock
   pub cost_sample : IsValueOf (label.Setting setting.CostSample) (bounded_in 0 greatest_cost bytes)

@@ -29,6 +29,7 @@ pub(crate) struct Implementation {
     pub(crate) max: Frac,
     pub(crate) min: Frac,
     pub(crate) delta: Option<Frac>,
+    pub(crate) wide: Option<bool>,
 }
 
 /// The blocks of a file, with all the fields that it has to have.
@@ -78,6 +79,7 @@ fn implementation_of(
         max: required_value(close, Field::Max, fields.max)?,
         min: required_value(close, Field::Min, fields.min)?,
         delta: fields.delta,
+        wide: fields.wide,
     })
 }
 

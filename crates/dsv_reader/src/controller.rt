@@ -34,6 +34,7 @@ pub struct Controller {
     delta: Option<Frac>,
     clock: u64,
     costs: Costs,
+    wide: bool,
 }
 
 impl Model for Controller {
@@ -100,12 +101,13 @@ impl Controller {
             delta: implementation.delta,
             clock: clock_of(&blocks.hardware.clock),
             costs: costs_of(&blocks.hardware),
+            wide: implementation.wide.unwrap_or(false),
         }
     }
 
     /// A controller that no file gives: one with these coefficients, the widths of this format, and
     /// inputs from `min` to `max`. The rest is as for a file that doesn't say it: no delta, a
-    /// sample time of 1 second, a clock of 16 MHz and the default costs.
+    /// sample time of 1 second, a clock of 16 MHz, the default costs and no wide accumulator.
     pub fn of_coefficients(
         b: FracList,
         a: FracList,
@@ -129,6 +131,7 @@ impl Controller {
             delta: None,
             clock: DEFAULT_CLOCK,
             costs: default_costs(),
+            wide: false,
         }
     }
 
@@ -207,5 +210,13 @@ impl Controller {
         ensures design { IsController self.now }
     {
         &self.costs
+    }
+
+    /// Whether the accumulator is wide: a line's products stay exact, and their sum is rounded and
+    /// fitted once.
+    pub fn is_wide(&self) -> bool
+        ensures { result ≡ self.now.wide }
+    {
+        self.wide
     }
 }

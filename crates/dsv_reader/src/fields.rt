@@ -3,7 +3,7 @@ ghost use Rattle.std.specs.Prelude.{◌≡◌, ◌≤◌, true, IfOk};
 ghost use Rattle.dsv_token.specs.declared.refusal.FileRefusal.TheVariants.{FieldTwice};
 ghost use Rattle.dsv_reader.specs.Numbers.{only_of};
 ghost use Rattle.dsv_reader.specs.FieldValues.{list_in, whole_number_in, bounded_in};
-ghost use Rattle.dsv_reader.specs.FieldValues.{decimal_in, time_in};
+ghost use Rattle.dsv_reader.specs.FieldValues.{decimal_in, flag_in, time_in};
 ghost use Rattle.dsv_reader.specs.Fields.{no_values, has_field, has_setting, system_field};
 ghost use Rattle.dsv_reader.specs.Fields.{implementation_field, is_cost};
 ghost use Rattle.dsv_reader.specs.Fields.{with_setting, hardware_field, field_read};
@@ -38,6 +38,7 @@ pub(crate) struct ImplementationFields {
     pub(crate) max: Option<Frac>,
     pub(crate) min: Option<Frac>,
     pub(crate) delta: Option<Frac>,
+    pub(crate) wide: Option<bool>,
 }
 
 /// The fields of the block `hardware` that are read and have stood.
@@ -97,6 +98,13 @@ fn decimal_in(bytes: &[u8], entry: &Entry) -> Result<Frac, FileRefusal>
     Ok(decimal_at(bytes, number_of(entry)?)?.value)
 }
 
+/// Whether a field that wants 0 or 1 has 1.
+fn flag_in(bytes: &[u8], entry: &Entry) -> Result<bool, FileRefusal>
+    ensures { result ≡ flag_in bytes.now entry.now }
+{
+    Ok(bounded_in(0, 1, bytes, entry)? == 1)
+}
+
 /// The sample time of a field that wants one.
 fn time_in(bytes: &[u8], entry: &Entry) -> Result<SampleTime, FileRefusal>
     ensures { result ≡ time_in bytes.now entry.now }
@@ -132,6 +140,7 @@ impl ImplementationFields {
             Field::Max => self.max = Some(decimal_in(bytes, entry)?),
             Field::Min => self.min = Some(decimal_in(bytes, entry)?),
             Field::Delta => self.delta = Some(decimal_in(bytes, entry)?),
+            Field::Wide => self.wide = Some(flag_in(bytes, entry)?),
             _ => (),
         }
         Ok(self)
@@ -201,6 +210,7 @@ impl Values {
                 max: None,
                 min: None,
                 delta: None,
+                wide: None,
             },
             hardware: HardwareFields {
                 clock: None,
@@ -234,6 +244,7 @@ impl Values {
             Field::Max => implementation.max.is_some(),
             Field::Min => implementation.min.is_some(),
             Field::Delta => implementation.delta.is_some(),
+            Field::Wide => implementation.wide.is_some(),
         }
     }
 
