@@ -15,3 +15,5 @@ mod runs;
 mod sizes;
 #[cfg(test)]
 mod steps;
+#[cfg(test)]
+mod wide;

@@ -1,10 +1,10 @@
 // Files made words: the coefficients of both lists, delta's word and the inputs, or the first
 // refusal. A coefficient quantised has the word quantised 2^f made whole by the rounding, and the
 // inputs go from the ceiling of min 2^f to the floor of max 2^f, where those are words.
-use crate::steps::quantised_of;
 use dsv_names::{ListName, OverflowMode, Realisation, Rounding};
 use dsv_quantiser::{QuantRefusal, quantise};
 use dsv_reader::read;
+use dsv_test_setup::quantised_of;
 use dsv_word::Format;
 use std::alloc::Global;
 use std::test::Fail;

@@ -2,10 +2,10 @@
 #![tactic(auto, using(dsv_algebra::proofs::Casts::casts))]
 
 use crate::runs::are_words;
-use crate::steps::quantised_of;
 use dsv_meaning::{CycleReplay, OverflowReplay, registers, replay_cycle, replay_overflow};
 use dsv_names::{OverflowMode, Realisation, Rounding};
 use dsv_quantiser::Quantised;
+use dsv_test_setup::quantised_of;
 use dsv_word::Format;
 use std::alloc::Global;
 use std::test::Fail;

@@ -5,13 +5,14 @@ ghost use Rattle.dsv_word.specs.Words.{IsWord};
 ghost use Rattle.std.specs.Prelude.{IsTrue};
 ghost use Rattle.std.specs.List.{All};
 
-use crate::steps::{StepOutcome, quantised_of, step_outcome};
+use crate::steps::{StepOutcome, step_outcome};
 use dsv_meaning::{registers, simulate};
 use dsv_names::{OverflowMode, Realisation, Rounding};
 use dsv_netlist::Netlist;
 use dsv_quantiser::Quantised;
 use dsv_realise::realise;
 use dsv_system::Rows;
+use dsv_test_setup::quantised_of;
 use dsv_word::Format;
 use std::alloc::Global;
 use std::test::Fail;

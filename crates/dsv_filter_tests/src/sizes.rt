@@ -1,9 +1,9 @@
 // How many nodes, operations and registers the realisations take.
-use crate::steps::quantised_of;
 use dsv_meaning::{forward_registers, products, registers, sums};
 use dsv_names::{OverflowMode, Realisation, Rounding};
 use dsv_netlist::OpCounts;
 use dsv_realise::realise;
+use dsv_test_setup::quantised_of;
 use dsv_word::Format;
 use std::alloc::Global;
 use std::test::Fail;

@@ -1,11 +1,6 @@
-// Files made words, and one step of a netlist.
-use dsv_names::Realisation;
+// One step of a netlist.
 use dsv_netlist::Netlist;
-use dsv_quantiser::{Quantised, quantise};
-use dsv_reader::read;
 use dsv_system::ExactList;
-use dsv_word::Format;
-use std::alloc::Global;
 
 /// What a step gives.
 #[derive(Drop)]
@@ -14,17 +9,6 @@ pub(crate) struct StepOutcome {
     pub(crate) y: i64,
     /// The exact values, in the order of the operations.
     pub(crate) exact: ExactList,
-}
-
-/// The controller of a file in words of a format, where it is a controller's file and has them.
-pub(crate) fn quantised_of(
-    alloc: Global,
-    file: &str,
-    format: Format,
-    realisation: Realisation,
-) -> Option<Quantised> {
-    let controller = read(alloc, file.as_bytes()).ok()?;
-    quantise(&controller, format, realisation).ok()
 }
 
 /// One step, where there are as many registers as the netlist has and all are words.

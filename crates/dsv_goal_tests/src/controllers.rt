@@ -3,9 +3,9 @@
 // the words, at it and just outside.
 use crate::goals::{count_of, overflow_of};
 use dsv_names::{OverflowMode, Realisation, Rounding};
-use dsv_quantiser::{Quantised, quantise};
-use dsv_reader::read;
+use dsv_quantiser::Quantised;
 use dsv_realise::realise;
+use dsv_test_setup::quantised_of;
 use dsv_word::Format;
 use std::alloc::Global;
 
@@ -75,15 +75,14 @@ const ROWS: [Row; 10] = [
 ];
 
 /// A quantised controller with one bit after the point, as the direct form I.
-pub(crate) fn quantised_of(
+pub(crate) fn quantised_in(
     alloc: Global,
     text: &str,
     int_bits: u32,
     overflow: OverflowMode,
 ) -> Option<Quantised> {
-    let controller = read(alloc, text.as_bytes()).ok()?;
     let format = Format::new(int_bits, 1, Rounding::Floor, overflow).ok()?;
-    quantise(&controller, format, Realisation::Dfi).ok()
+    quantised_of(alloc, text, format, Realisation::Dfi)
 }
 
 /// How many lists of so many inputs break.
@@ -95,7 +94,7 @@ fn breaks_of(alloc: Global, quantised: &Quantised, samples: u32) -> Option<u32> 
 
 fn is_right(alloc: Global, row: &Row) -> Option<bool> {
     let Row(text, int_bits, samples, breaks) = *row;
-    let quantised = quantised_of(alloc, text, int_bits, OverflowMode::Wrap)?;
+    let quantised = quantised_in(alloc, text, int_bits, OverflowMode::Wrap)?;
     Some(breaks_of(alloc, &quantised, samples)? == breaks)
 }
 

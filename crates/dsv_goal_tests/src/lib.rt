@@ -4,6 +4,8 @@
 #![tactic(auto)]
 
 #[cfg(test)]
+mod accumulators;
+#[cfg(test)]
 mod controllers;
 #[cfg(test)]
 mod goals;

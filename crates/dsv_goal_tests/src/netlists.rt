@@ -57,6 +57,28 @@ const SUMS: Row = Row {
     at: 4 + 4 * 16,
 };
 
+/// The same sum, of the product and of y(n-1) times 4, which is rounded and fitted once. Of the 256
+/// pairs 28 have a sum above 7 and 36 one below -8.
+const EXACT_SUMS: Row = Row {
+    nodes: &[
+        Node::Input,
+        Node::Reg(0),
+        Node::MulConst { coeff: 4, of: 0 },
+        Node::Scale(1),
+        Node::Add(2, 3),
+        Node::Round(4),
+        Node::Fit(5),
+    ],
+    next: &[6],
+    output: 6,
+    feed_forward: 0,
+    rounding: Rounding::Floor,
+    overflow: OverflowMode::Wrap,
+    question: Question::Overflow(-8, 7, 2),
+    count: 64,
+    at: 7 + 16,
+};
+
 /// y(n) = x(n) times 1.75, made whole: a netlist of order 0. 7 x / 4 is below -8 by the floor from
 /// x = -5 on downwards, and above 7 from x = 5 on; the nearest of 31 / 4 is 8 at no x, and that of
 /// -8.75 is -9. The word -8 is 8 as a value.
@@ -123,7 +145,7 @@ const WITH_INPUT: Row = Row {
     at: 1,
 };
 
-const ROWS: [Row; 11] = [
+const ROWS: [Row; 12] = [
     SUMS,
     Row {
         question: Question::Overflow(-4, 4, 1),
@@ -146,6 +168,7 @@ const ROWS: [Row; 11] = [
         at: 8,
         ..SUMS
     },
+    EXACT_SUMS,
     SCALES,
     Row {
         rounding: Rounding::Ceil,

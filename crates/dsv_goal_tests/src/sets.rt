@@ -1,5 +1,5 @@
 // The goals of candidate sets, at all values of their inputs.
-use crate::controllers::quantised_of;
+use crate::controllers::quantised_in;
 use crate::goals::count_of;
 use dsv_names::OverflowMode;
 use dsv_netlist::Netlist;
@@ -89,7 +89,7 @@ fn candidate_of(lines: &[Line], depth: u32) -> Option<Candidate> {
 
 /// The netlist of the controller.
 fn netlist(alloc: Global, overflow: OverflowMode) -> Option<Netlist> {
-    let quantised = quantised_of(alloc, FIRST, 2, overflow)?;
+    let quantised = quantised_in(alloc, FIRST, 2, overflow)?;
     realise(alloc, &quantised).ok()
 }
 

@@ -4,6 +4,7 @@ pub mod ReplayLemmas
 pub mod RunLemmas
 pub mod Sizes
 pub mod StepLemmas
+pub mod SummandLemmas
 pub mod Traces
 pub mod WorkedBreaks
 pub mod WorkedControllers

@@ -1,23 +1,29 @@
--- Lines in parts.
-use Rattle.std.proofs.Common.{◌≡◌, ℕ, ◌+◌, ◌≤◌, Bool, false, List, [], ◌∷◌, length, take, drop, get_or, refl, sym, ap, ◌∙◌, arith, add-one}
-use Rattle.std.proofs.Math.IntN.{ℤ, pos}
+-- Lines, one summand more.
+use Rattle.std.proofs.Common.{◌≡◌, ℕ, ◌+◌, ◌<◌, ◌≤◌, List, length, drop, get_or, sym, ap, ◌∙◌, arith}
+use Rattle.std.specs.Int.RustNames.{unsigned_abs}
+use Rattle.std.proofs.Math.IntN.{ℤ, pos, negsuc, neg_ℤ, ◌+ℤ◌}
+use Rattle.std.proofs.lemmas.Int.{ints}
+use lib.Signed.{◌≤ℤ◌}
+use Rattle.std.proofs.lemmas.List.{drop_more}
 use Rattle.dsv_word.specs.declared.format.Format.{Format}
-use Rattle.dsv_meaning.specs.Lines.{Times, Sum, summands, product, next_summands, line}
-use Rattle.dsv_meaning.specs.Equations.{ago}
+use Rattle.dsv_meaning.specs.declared.summands.Summand.{Summand}
+use Rattle.dsv_meaning.specs.Lines.{Sum, next_summand, next_summands, exact_summand, total}
 
--- summands that leave out the newest word
-pub summands_after : (away : Bool) (cs : List ℤ) (x : ℤ) (ws : List ℤ) (k : ℕ) → summands away cs (ago (x ∷ ws)) (k + 1) ≡ summands away cs (ago ws) k
-summands_after away [] x ws k = refl
-summands_after away (c ∷ cs) x ws k =
-    let e : ago (x ∷ ws) (k + 1) ≡ ago ws k = ap (ago (x ∷ ws)) (add-one k) in
-    ap (λ w. Times away c w ∷ summands away cs (ago (x ∷ ws)) (k + 1 + 1)) e ∙ ap (λ ts. Times away c (ago ws k) ∷ ts) (summands_after away cs x ws (k + 1))
+pub next_more : (f : Format) (ts : List (Summand ℤ)) (i : ℕ) (d : Summand ℤ) (s t : Sum) → i < length ts → t ≡ next_summand f s (get_or ts i d)
+    → next_summands f t (drop (i + 1) ts) ≡ next_summands f s (drop i ts)
+next_more f ts i d s t h e = ap (λ (v : Sum). next_summands f v (drop (i + 1) ts)) e ∙ ap (next_summands f s) (sym (drop_more ts i d h))
 
--- a line whose first product is that of the newest word
-pub forward_line : (f : Format) (old cs front rest : List ℤ) (c x : ℤ) (ws : List ℤ) (s t : Sum) → 1 ≤ length cs → front ≡ take 1 cs → rest ≡ drop 1 cs
-    → c ≡ get_or front 0 (pos 0) → s ≡ product f old c x → t ≡ next_summands f s (summands false rest (ago ws) 0) → t ≡ line f old (summands false cs (ago (x ∷ ws)) 0)
-forward_line f old [] front rest c x ws s t h p q r e g = absurd (omega arith)
-forward_line f old (b ∷ bs) front rest c x ws s t h p q r e g =
-    let same : c ≡ b = r ∙ ap (λ l. get_or l 0 (pos 0)) p in
-    g ∙ ap (λ v. next_summands f v (summands false rest (ago ws) 0)) (e ∙ ap (λ v. product f old v x) same)
-    ∙ ap (λ l. next_summands f (product f old b x) (summands false l (ago ws) 0)) q
-    ∙ ap (next_summands f (product f old b x)) (sym (summands_after false bs x ws 0))
+pub total_more : (f : Format) (ts : List (Summand ℤ)) (i : ℕ) (d : Summand ℤ) (u v e : ℤ) → i < length ts → e ≡ exact_summand f (get_or ts i d) → v ≡ u +ℤ e
+    → v +ℤ total f (drop (i + 1) ts) ≡ u +ℤ total f (drop i ts)
+total_more f ts i d u v e h p q =
+    let s : total f (drop i ts) ≡ exact_summand f (get_or ts i d) +ℤ total f (drop (i + 1) ts) = ap (total f) (drop_more ts i d h) in
+    omega (arith, ints, p, q, s)
+
+-- ---- sizes
+pub within : (v : ℤ) (b : ℕ) → unsigned_abs v ≤ b → (neg_ℤ (pos b) ≤ℤ v) × (v ≤ℤ pos b)
+within (pos n) b h = (omega (arith, ints), omega (arith, ints))
+within (negsuc n) b h = (omega (arith, ints), omega (arith, ints))
+
+pub sized_by : (v : ℤ) (b : ℕ) → neg_ℤ (pos b) ≤ℤ v → v ≤ℤ pos b → unsigned_abs v ≤ b
+sized_by (pos n) b l h = omega (arith, ints)
+sized_by (negsuc n) b l h = omega (arith, ints)

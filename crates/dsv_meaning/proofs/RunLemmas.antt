@@ -6,10 +6,12 @@ use Rattle.dsv_names.specs.declared.realisation.Realisation.{Realisation}
 use Rattle.dsv_names.specs.declared.realisation.Realisation.TheVariants.{Dfi, Dfii, Tdfii, Ddfi, Ddfii, Tddfii}
 use Rattle.dsv_quantiser.specs.QuantisedView.{QuantisedView}
 use Rattle.dsv_system.specs.declared.rows.Row.{Row}
-use Rattle.dsv_meaning.specs.Lines.{Summand, Times, Alone, Sum, summands, line}
+use Rattle.dsv_meaning.specs.declared.summands.Summand.{Summand}
+use Rattle.dsv_meaning.specs.declared.summands.Summand.TheVariants.{Times, Alone}
+use Rattle.dsv_meaning.specs.Lines.{Sum, summands}
 use Rattle.dsv_system.specs.Runs.{Sampled, SampleRow, row_at, rows_from, past_after}
 use Rattle.dsv_system.specs.RowViews.{row_of}
-use Rattle.dsv_meaning.specs.Equations.{Past, order, feedback, ago, latest, Chain, chain_with, forward_summands, feedback_summands, delta_line, delta_chain, no_words, sample_as, sample, start_as, registers_as, registers_of}
+use Rattle.dsv_meaning.specs.Equations.{Past, line_of, order, feedback, ago, latest, Chain, chain_with, forward_summands, feedback_summands, delta_line, delta_chain, no_words, sample_as, sample, start_as, registers_as, registers_of}
 use Rattle.dsv_meaning.specs.Stepping.{step_as}
 
 -- ---- what a sample reads
@@ -62,7 +64,7 @@ chains u v = record { signal = []; outputs = []; chain = u ∷ []; output_chain 
 alike_samples : (k : Realisation) (q : QuantisedView) (p s : Past) (x : ℤ) → length q.b ≡ order q + 1 → Alike (order q) p s → AlikeSamples (order q) (sample_as k q p x) (sample_as k q s x)
 alike_samples Dfi q p s x m h =
     let n = order q in
-    let of : List (Summand ℤ) → List (Summand ℤ) → Sum = λ (ts us : List (Summand ℤ)). line q.format [] (ts ++ us) in
+    let of : List (Summand ℤ) → List (Summand ℤ) → Sum = λ (ts us : List (Summand ℤ)). line_of q [] (ts ++ us) in
     let f = same_forward q x p.signal s.signal m h.signal in
     let b = same_feedback q p.outputs s.outputs h.outputs in
     let e : of (forward_summands q (ago (x ∷ p.signal))) (feedback_summands q (ago p.outputs) 0) ≡ of (forward_summands q (ago (x ∷ s.signal))) (feedback_summands q (ago s.outputs) 0) =
@@ -79,13 +81,13 @@ alike_samples Dfi q p s x m h =
     }
 alike_samples Dfii q p s x m h =
     let n = order q in
-    let of : List (Summand ℤ) → Sum = λ (ts : List (Summand ℤ)). line q.format [] (Alone x ∷ ts) in
+    let of : List (Summand ℤ) → Sum = λ (ts : List (Summand ℤ)). line_of q [] (Alone x ∷ ts) in
     let w = of (feedback_summands q (ago s.signal) 0) in
     let e : of (feedback_summands q (ago p.signal) 0) ≡ w = ap of (same_feedback q p.signal s.signal h.signal) in
-    let g : line q.format (of (feedback_summands q (ago p.signal) 0)).exact (forward_summands q (ago ((of (feedback_summands q (ago p.signal) 0)).value ∷ p.signal)))
-    ≡ line q.format w.exact (forward_summands q (ago (w.value ∷ s.signal))) =
-    ap (λ (t : Sum). line q.format t.exact (forward_summands q (ago (t.value ∷ p.signal)))) e
-    ∙ ap (line q.format w.exact) (same_forward q w.value p.signal s.signal m h.signal) in
+    let g : line_of q (of (feedback_summands q (ago p.signal) 0)).exact (forward_summands q (ago ((of (feedback_summands q (ago p.signal) 0)).value ∷ p.signal)))
+    ≡ line_of q w.exact (forward_summands q (ago (w.value ∷ s.signal))) =
+    ap (λ (t : Sum). line_of q t.exact (forward_summands q (ago (t.value ∷ p.signal)))) e
+    ∙ ap (line_of q w.exact) (same_forward q w.value p.signal s.signal m h.signal) in
     record {
       y = ap (λ (t : Sum). t.value) g;
       exact = ap (λ (t : Sum). t.exact) g;
@@ -153,7 +155,7 @@ alike_registers k q p s (x ∷ xs) m h = alike_registers k q (sample_as k q p x)
 delta_chain-length : (q : QuantisedView) (before : ℤ) (ws : List ℤ) (c : Chain) → length (delta_chain q before ws c).words ≡ length c.words + length ws
 delta_chain-length q before [] c = omega arith
 delta_chain-length q before (w ∷ ws) c =
-    let s = line q.format c.exact (delta_line q w before) in
+    let s = line_of q c.exact (delta_line q w before) in
     omega (arith, delta_chain-length q w ws (chain_with c s), length_push c.words s.value)
 
 two_lines : (n : ℕ) (us vs : List ℤ) → n ≤ length us
@@ -183,7 +185,7 @@ begun_anew Ddfi q r x h =
     let u = latest p.chain in
     let v = latest p.output_chain in
     let m = length-take-le n r (omega arith) in
-    let y = line q.format [] (forward_summands q (ago (x ∷ take n r)) ++ feedback_summands q (ago (drop n r)) 0) in
+    let y = line_of q [] (forward_summands q (ago (x ∷ take n r)) ++ feedback_summands q (ago (drop n r)) 0) in
     let long : length u ≡ n = omega (arith, delta_chain-length q x (take n r) (no_words y.exact)) in
     record { signal = refl; outputs = refl; chain = sym (take_at u v n long); output_chain = sym (drop_at u v n long) }
 begun_anew Ddfii q r x h = record { signal = refl; outputs = refl; chain = refl; output_chain = refl }

@@ -1,12 +1,12 @@
 -- Samples from their lines, for each realisation.
-use Rattle.std.proofs.Common.{◌≡◌, ℕ, ◌≤◌, false, List, [], ◌∷◌, ◌++◌, length, take, drop, refl, sym, ap, ◌∙◌, arith, append_assoc}
+use Rattle.std.proofs.Common.{◌≡◌, ℕ, List, [], ◌∷◌, ◌++◌, length, take, drop, refl, sym, ap, ◌∙◌, append_assoc}
 use Rattle.std.proofs.Math.IntN.{ℤ}
 use Rattle.std.proofs.lemmas.List.{append-nil}
-use Rattle.dsv_word.specs.declared.format.Format.{Format}
 use Rattle.dsv_names.specs.declared.realisation.Realisation.TheVariants.{Dfi, Dfii, Tdfii, Ddfi, Ddfii, Tddfii}
 use Rattle.dsv_quantiser.specs.QuantisedView.{QuantisedView}
-use Rattle.dsv_meaning.specs.Lines.{Summand, Alone, Sum, summands, next_summand, next_summands, line}
-use Rattle.dsv_meaning.specs.Equations.{order, feedback, ago, Chain, chain_with, no_words, forward_summands, feedback_summands, transposed_output, delta_line, delta_chain, transposed_chain, transposed_delta_chain}
+use Rattle.dsv_meaning.specs.declared.summands.Summand.TheVariants.{Alone}
+use Rattle.dsv_meaning.specs.Lines.{Sum}
+use Rattle.dsv_meaning.specs.Equations.{line_of, order, feedback, ago, Chain, chain_with, no_words, forward_summands, feedback_summands, transposed_output, delta_line, delta_chain, transposed_chain, transposed_delta_chain}
 use Rattle.dsv_system.specs.Runs.{Sampled}
 use Rattle.dsv_meaning.specs.Stepping.{step_as, delay_line}
 
@@ -19,53 +19,31 @@ delayed_take : (done : List ℤ) (n : ℕ) (x : ℤ) (ws : List ℤ) → length 
 delayed_take done n x ws e = delayed_is done x ws ∙ ap (λ m. done ++ take m (x ∷ ws)) e
 
 -- ---- direct forms
-output_and : (f : Format) (old : List ℤ) (ts us : List (Summand ℤ)) → 1 ≤ length ts → next_summands f (line f old ts) us ≡ line f old (ts ++ us)
-output_and f old [] us h = absurd (omega arith)
-output_and f old (t ∷ ts) us h = more (line f old (t ∷ [])) ts
-  where
-    more : (s : Sum) (vs : List (Summand ℤ)) → next_summands f (next_summands f s vs) us ≡ next_summands f s (vs ++ us)
-    more s [] = refl
-    more s (v ∷ vs) = more (next_summand f s v) vs
-
-some_forward : (q : QuantisedView) (w : ℕ → ℤ) → 1 ≤ length q.b → 1 ≤ length (forward_summands q w)
-some_forward q w h = some q.b h
-  where
-    some : (cs : List ℤ) → 1 ≤ length cs → 1 ≤ length (summands false cs w 0)
-    some [] h = h
-    some (c ∷ cs) h = omega arith
-
--- a line of products taken away after one of products added
-pub direct_line : (q : QuantisedView) (old u v : List ℤ) (x : ℤ) (s t : Sum) → 1 ≤ length q.b → s ≡ line q.format old (forward_summands q (ago (x ∷ u)))
-    → t ≡ line q.format s.exact (Alone s.value ∷ feedback_summands q (ago v) 0) → t ≡ line q.format old (forward_summands q (ago (x ∷ u)) ++ feedback_summands q (ago v) 0)
-direct_line q old u v x s t h e g =
-    g ∙ ap (λ r. next_summands q.format r (feedback_summands q (ago v) 0)) e
-    ∙ output_and q.format old (forward_summands q (ago (x ∷ u))) (feedback_summands q (ago v) 0) (some_forward q (ago (x ∷ u)) h)
-
 pub dfi_sample : (q : QuantisedView) (r u v first new : List ℤ) (x : ℤ) (y : Sum) → u ≡ take (order q) r → v ≡ drop (order q) r → length u ≡ order q → length v ≡ order q
-    → y ≡ line q.format [] (forward_summands q (ago (x ∷ u)) ++ feedback_summands q (ago v) 0) → first ≡ delay_line [] x u → new ≡ delay_line first y.value v
+    → y ≡ line_of q [] (forward_summands q (ago (x ∷ u)) ++ feedback_summands q (ago v) 0) → first ≡ delay_line [] x u → new ≡ delay_line first y.value v
     → record { y = y.value; exact = y.exact; past = new } ≡ step_as Dfi q r x
 unfolding step_as
 dfi_sample q r u v first new x y a b m n e g h =
-    let z = line q.format [] (forward_summands q (ago (x ∷ take (order q) r)) ++ feedback_summands q (ago (drop (order q) r)) 0) in
-    let same : y ≡ z = e ∙ ap (λ w. line q.format [] (forward_summands q (ago (x ∷ w)) ++ feedback_summands q (ago v) 0)) a
-    ∙ ap (λ w. line q.format [] (forward_summands q (ago (x ∷ take (order q) r)) ++ feedback_summands q (ago w) 0)) b in
+    let z = line_of q [] (forward_summands q (ago (x ∷ take (order q) r)) ++ feedback_summands q (ago (drop (order q) r)) 0) in
+    let same : y ≡ z = e ∙ ap (λ w. line_of q [] (forward_summands q (ago (x ∷ w)) ++ feedback_summands q (ago v) 0)) a
+    ∙ ap (λ w. line_of q [] (forward_summands q (ago (x ∷ take (order q) r)) ++ feedback_summands q (ago w) 0)) b in
     let registers : new ≡ take (order q) (x ∷ take (order q) r) ++ take (order q) (y.value ∷ drop (order q) r) =
     h ∙ delayed_take first (order q) y.value v n ∙ ap (λ w. w ++ take (order q) (y.value ∷ v)) (g ∙ delayed_take [] (order q) x u m)
     ∙ ap (λ w. take (order q) (x ∷ w) ++ take (order q) (y.value ∷ v)) a ∙ ap (λ w. take (order q) (x ∷ take (order q) r) ++ take (order q) (y.value ∷ w)) b in
     ap (λ w. record { y = y.value; exact = y.exact; past = w }) registers
     ∙ ap (λ (t : Sum). record { y = t.value; exact = t.exact; past = take (order q) (x ∷ take (order q) r) ++ take (order q) (t.value ∷ drop (order q) r) }) same
 
-pub dfii_sample : (q : QuantisedView) (r new : List ℤ) (x : ℤ) (w y : Sum) → length r ≡ order q → w ≡ line q.format [] (Alone x ∷ feedback_summands q (ago r) 0)
-    → y ≡ line q.format w.exact (forward_summands q (ago (w.value ∷ r))) → new ≡ delay_line [] w.value r
+pub dfii_sample : (q : QuantisedView) (r new : List ℤ) (x : ℤ) (w y : Sum) → length r ≡ order q → w ≡ line_of q [] (Alone x ∷ feedback_summands q (ago r) 0)
+    → y ≡ line_of q w.exact (forward_summands q (ago (w.value ∷ r))) → new ≡ delay_line [] w.value r
     → record { y = y.value; exact = y.exact; past = new } ≡ step_as Dfii q r x
 unfolding step_as
 dfii_sample q r new x w y m e g h =
     ap (λ s. record { y = y.value; exact = y.exact; past = s }) (h ∙ delayed_take [] (order q) w.value r m)
     ∙ ap (λ (t : Sum). record { y = t.value; exact = t.exact; past = take (order q) (w.value ∷ r) }) g
-    ∙ ap (λ (t : Sum). let z = line q.format t.exact (forward_summands q (ago (t.value ∷ r))) in
+    ∙ ap (λ (t : Sum). let z = line_of q t.exact (forward_summands q (ago (t.value ∷ r))) in
     record { y = z.value; exact = z.exact; past = take (order q) (t.value ∷ r) }) e
 
-pub tdfii_sample : (q : QuantisedView) (r : List ℤ) (x : ℤ) (y : Sum) (c : Chain) → y ≡ line q.format [] (transposed_output q x r)
+pub tdfii_sample : (q : QuantisedView) (r : List ℤ) (x : ℤ) (y : Sum) (c : Chain) → y ≡ line_of q [] (transposed_output q x r)
     → c ≡ transposed_chain q x y.value (drop 1 q.b) (feedback q) r (no_words y.exact)
     → record { y = y.value; exact = c.exact; past = c.words } ≡ step_as Tdfii q r x
 unfolding step_as
@@ -81,16 +59,16 @@ chain_after front c = record { words = front ++ c.words; exact = c.exact }
 delta_chain_after : (q : QuantisedView) (before : ℤ) (ws front : List ℤ) (c : Chain) → delta_chain q before ws (chain_after front c) ≡ chain_after front (delta_chain q before ws c)
 delta_chain_after q before [] front c = refl
 delta_chain_after q before (w ∷ ws) front c =
-    let s = line q.format c.exact (delta_line q w before) in
+    let s = line_of q c.exact (delta_line q w before) in
     ap (λ v. delta_chain q w ws (record { words = v; exact = s.exact })) (append_assoc front c.words (s.value ∷ [])) ∙ delta_chain_after q w ws front (chain_with c s)
 
 pub ddfi_sample : (q : QuantisedView) (r u v : List ℤ) (x : ℤ) (y : Sum) (c d : Chain) → u ≡ take (order q) r → v ≡ drop (order q) r
-    → y ≡ line q.format [] (forward_summands q (ago (x ∷ u)) ++ feedback_summands q (ago v) 0) → c ≡ delta_chain q x u (no_words y.exact) → d ≡ delta_chain q y.value v c
+    → y ≡ line_of q [] (forward_summands q (ago (x ∷ u)) ++ feedback_summands q (ago v) 0) → c ≡ delta_chain q x u (no_words y.exact) → d ≡ delta_chain q y.value v c
     → record { y = y.value; exact = d.exact; past = d.words } ≡ step_as Ddfi q r x
 unfolding step_as
 ddfi_sample q r u v x y c d a b e g h =
     let with_both : List ℤ → List ℤ → Sampled (List ℤ) = λ (s t : List ℤ).
-    let z = line q.format [] (forward_summands q (ago (x ∷ s)) ++ feedback_summands q (ago t) 0) in
+    let z = line_of q [] (forward_summands q (ago (x ∷ s)) ++ feedback_summands q (ago t) 0) in
     let j = delta_chain q x s (no_words z.exact) in
     let k = delta_chain q z.value t (no_words j.exact) in
     record { y = z.value; exact = k.exact; past = j.words ++ k.words } in
@@ -102,17 +80,17 @@ ddfi_sample q r u v x y c d a b e g h =
     record { y = z.value; exact = k.exact; past = j.words ++ k.words }) e
     ∙ ap (λ s. with_both s v) a ∙ ap (with_both (take (order q) r)) b
 
-pub ddfii_sample : (q : QuantisedView) (r : List ℤ) (x : ℤ) (w y : Sum) (c : Chain) → w ≡ line q.format [] (Alone x ∷ feedback_summands q (ago r) 0)
-    → y ≡ line q.format w.exact (forward_summands q (ago (w.value ∷ r))) → c ≡ delta_chain q w.value r (no_words y.exact)
+pub ddfii_sample : (q : QuantisedView) (r : List ℤ) (x : ℤ) (w y : Sum) (c : Chain) → w ≡ line_of q [] (Alone x ∷ feedback_summands q (ago r) 0)
+    → y ≡ line_of q w.exact (forward_summands q (ago (w.value ∷ r))) → c ≡ delta_chain q w.value r (no_words y.exact)
     → record { y = y.value; exact = c.exact; past = c.words } ≡ step_as Ddfii q r x
 unfolding step_as
 ddfii_sample q r x w y c e g h =
     ap (λ (d : Chain). record { y = y.value; exact = d.exact; past = d.words }) h
     ∙ ap (λ (t : Sum). let d = delta_chain q w.value r (no_words t.exact) in record { y = t.value; exact = d.exact; past = d.words }) g
-    ∙ ap (λ (t : Sum). let z = line q.format t.exact (forward_summands q (ago (t.value ∷ r))) in let d = delta_chain q t.value r (no_words z.exact) in
+    ∙ ap (λ (t : Sum). let z = line_of q t.exact (forward_summands q (ago (t.value ∷ r))) in let d = delta_chain q t.value r (no_words z.exact) in
     record { y = z.value; exact = d.exact; past = d.words }) e
 
-pub tddfii_sample : (q : QuantisedView) (r : List ℤ) (x : ℤ) (y : Sum) (c : Chain) → y ≡ line q.format [] (transposed_output q x r)
+pub tddfii_sample : (q : QuantisedView) (r : List ℤ) (x : ℤ) (y : Sum) (c : Chain) → y ≡ line_of q [] (transposed_output q x r)
     → c ≡ transposed_delta_chain q x y.value (drop 1 q.b) (feedback q) r (no_words y.exact)
     → record { y = y.value; exact = c.exact; past = c.words } ≡ step_as Tddfii q r x
 unfolding step_as

@@ -4,17 +4,14 @@ use Rattle.std.specs.Prelude.{◌≤ℤ◌, slice_get}
 use Rattle.std.specs.List.{All}
 use Rattle.std.proofs.Math.IntN.{ℤ}
 use Rattle.std.proofs.lemmas.List.{length-take}
-use Rattle.std.proofs.lemmas.List.Elements.{All-take, All-contains}
+use Rattle.std.proofs.lemmas.List.Elements.{All-take}
 use Rattle.std.proofs.lemmas.Option.{slice_get_within}
 use Rattle.dsv_word.specs.declared.format.Format.{Format}
-use Rattle.dsv_word.specs.Words.{IsWord}
-use Rattle.dsv_meaning.specs.Equations.{Past}
 use Rattle.dsv_meaning.specs.Systems.{equations_of}
 use Rattle.dsv_quantiser.specs.QuantisedView.{QuantisedView}
-use Rattle.dsv_system.specs.Breaks.{Breaks, IsInside, IsFirstBreak}
-use Rattle.dsv_system.specs.Cycles.{Cycles, IsLeastPeriod, IsSounding}
+use Rattle.dsv_system.specs.Breaks.{IsInside, IsFirstBreak}
 use Rattle.dsv_system.specs.Runs.{Sampled, SampleRow, rows_from}
-use Rattle.dsv_system.specs.Systems.{System, rows, zeros, AreInRange}
+use Rattle.dsv_system.specs.Systems.{rows, zeros, AreInRange}
 use Rattle.dsv_meaning.specs.Traces.{IsTrace}
 
 -- ---- rows

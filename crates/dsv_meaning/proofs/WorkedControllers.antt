@@ -1,6 +1,6 @@
 -- Quantised controllers that are worked by hand. Words are whole numbers: in a format with f bits after the point the word w
 -- stands for w / 2^f.
-use Rattle.std.proofs.Common.{List, [], ◌∷◌, map, arith}
+use Rattle.std.proofs.Common.{true, false, List, [], ◌∷◌, map, arith}
 use Rattle.std.proofs.Math.IntN.{ℤ, pos, negsuc}
 use Rattle.dsv_word.specs.declared.format.Format.{Format}
 use Rattle.dsv_names.specs.declared.rounding.Rounding.TheVariants.{Floor}
@@ -30,11 +30,11 @@ format_4_1 = record { int_bits = 4; frac_bits = 1; rounding = Floor; overflow = 
 
 -- 1 / (1 - 0.9 z^-1) in words of 2.2: a_1 is -4
 abbrev pub slow_pole : QuantisedView
-slow_pole = record { b = pos 4 ∷ pos 0 ∷ []; a = pos 4 ∷ negsuc 3 ∷ []; delta = pos 0; xlo = negsuc 3; xhi = pos 4; format = format_2_2; realisation = Dfi }
+slow_pole = record { b = pos 4 ∷ pos 0 ∷ []; a = pos 4 ∷ negsuc 3 ∷ []; delta = pos 0; xlo = negsuc 3; xhi = pos 4; format = format_2_2; realisation = Dfi; wide = false }
 
 -- 1 / (1 - 0.5 z^-1) in words of 2.2: a_1 is -2
 abbrev pub half_pole : QuantisedView
-half_pole = record { b = pos 4 ∷ pos 0 ∷ []; a = pos 4 ∷ negsuc 1 ∷ []; delta = pos 0; xlo = negsuc 3; xhi = pos 4; format = format_2_2; realisation = Dfi }
+half_pole = record { b = pos 4 ∷ pos 0 ∷ []; a = pos 4 ∷ negsuc 1 ∷ []; delta = pos 0; xlo = negsuc 3; xhi = pos 4; format = format_2_2; realisation = Dfi; wide = false }
 
 -- (1 + 0.5 z^-1 - z^-2) / (1 + 0.5 z^-1 - 0.5 z^-2) in words of 4.1: b is 2, 1, -2 and a is 2, 1, -1
 abbrev pub second_order : Realisation → QuantisedView
@@ -46,8 +46,13 @@ second_order k = record {
   xhi = pos 2;
   format = format_4_1;
   realisation = k;
+  wide = false;
 }
 
 -- z^-1 / (1 - 0.5 z^-1) in words of 3.4 with delta 0.5: b is 0, 32 and a is 16, 16, and delta is 8
 abbrev pub delta_order_one : Realisation → QuantisedView
-delta_order_one k = record { b = pos 0 ∷ pos 32 ∷ []; a = pos 16 ∷ pos 16 ∷ []; delta = pos 8; xlo = negsuc 15; xhi = pos 16; format = format_3_4; realisation = k }
+delta_order_one k = record { b = pos 0 ∷ pos 32 ∷ []; a = pos 16 ∷ pos 16 ∷ []; delta = pos 8; xlo = negsuc 15; xhi = pos 16; format = format_3_4; realisation = k; wide = false }
+
+-- the same with a wide accumulator
+abbrev pub widened : QuantisedView → QuantisedView
+widened q = record q { wide = true }

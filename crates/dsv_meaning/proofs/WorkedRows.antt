@@ -5,7 +5,7 @@ use Rattle.std.proofs.Math.IntN.{pos, negsuc}
 use Rattle.dsv_names.specs.declared.realisation.Realisation.TheVariants.{Dfi, Dfii, Tdfii, Ddfi, Ddfii, Tddfii}
 use Rattle.dsv_system.specs.Systems.{rows, registers_after}
 use Rattle.dsv_meaning.specs.Systems.{equations_of}
-use Rattle.dsv_meaning.proofs.WorkedControllers.{exact_of, outputs_of, slow_pole, second_order, delta_order_one}
+use Rattle.dsv_meaning.proofs.WorkedControllers.{exact_of, outputs_of, slow_pole, second_order, delta_order_one, widened}
 
 -- ---- two samples, of which the second wraps: 4; 0; 4; 0; y = 4. Then 4; 0; 4; -4; y = 8, which is the word -8.
 slow_pole_exact : exact_of (rows (equations_of slow_pole) (pos 0 ∷ pos 0 ∷ []) (pos 4 ∷ pos 4 ∷ []))
@@ -78,3 +78,32 @@ tddfii_outputs = refl
 
 tddfii_registers : registers_after (equations_of (delta_order_one Tddfii)) (pos 3 ∷ []) (pos 16 ∷ []) ≡ pos 17 ∷ []
 tddfii_registers = refl
+
+-- ---- with a wide accumulator a line is divided and rounded down once
+-- 4 4 -> 4; then 4 4 + 4 4 -> 8, which is the word -8
+wide_slow_pole_exact : exact_of (rows (equations_of (widened slow_pole)) (pos 0 ∷ pos 0 ∷ []) (pos 4 ∷ pos 4 ∷ [])) ≡ (pos 4 ∷ []) ∷ (pos 8 ∷ []) ∷ []
+wide_slow_pole_exact = refl
+
+-- 2 4 + 1 3 - 2 1 - 1 2 + 1 5 = 12 -> 6
+wide_dfi_exact : exact_of (rows (equations_of (widened (second_order Dfi))) (pos 3 ∷ pos 1 ∷ pos 2 ∷ pos 5 ∷ []) (pos 4 ∷ [])) ≡ (pos 6 ∷ []) ∷ []
+wide_dfi_exact = refl
+
+-- 2 (4) - 1 3 + 1 5 = 10 -> w = 5; 2 5 + 1 3 - 2 5 = 3 -> 1
+wide_dfii_exact : exact_of (rows (equations_of (widened (second_order Dfii))) (pos 3 ∷ pos 5 ∷ []) (pos 4 ∷ [])) ≡ (pos 5 ∷ pos 1 ∷ []) ∷ []
+wide_dfii_exact = refl
+
+-- 2 4 + 2 (3) = 14 -> y = 7; 1 4 - 1 7 + 2 (5) = 7 -> 3; -2 4 + 1 7 = -1 -> -1
+wide_tdfii_exact : exact_of (rows (equations_of (widened (second_order Tdfii))) (pos 3 ∷ pos 5 ∷ []) (pos 4 ∷ [])) ≡ (pos 7 ∷ pos 3 ∷ negsuc 0 ∷ []) ∷ []
+wide_tdfii_exact = refl
+
+-- 0 16 + 32 3 - 16 5 = 16 -> y = 1; 16 (3) + 8 16 = 176 -> 11; 16 (5) + 8 1 = 88 -> 5
+wide_ddfi_exact : exact_of (rows (equations_of (widened (delta_order_one Ddfi))) (pos 3 ∷ pos 5 ∷ []) (pos 16 ∷ [])) ≡ (pos 1 ∷ pos 11 ∷ pos 5 ∷ []) ∷ []
+wide_ddfi_exact = refl
+
+-- 16 (16) - 16 3 = 208 -> w_0 = 13; 0 13 + 32 3 = 96 -> y = 6; 16 (3) + 8 13 = 152 -> 9
+wide_ddfii_exact : exact_of (rows (equations_of (widened (delta_order_one Ddfii))) (pos 3 ∷ []) (pos 16 ∷ [])) ≡ (pos 13 ∷ pos 6 ∷ pos 9 ∷ []) ∷ []
+wide_ddfii_exact = refl
+
+-- 0 16 + 16 (3) = 48 -> y = 3; t = 32 16 - 16 3 = 464 -> 29; 8 29 + 16 (3) = 280 -> 17
+wide_tddfii_exact : exact_of (rows (equations_of (widened (delta_order_one Tddfii))) (pos 3 ∷ []) (pos 16 ∷ [])) ≡ (pos 3 ∷ pos 29 ∷ pos 17 ∷ []) ∷ []
+wide_tddfii_exact = refl

@@ -5,7 +5,9 @@ use Rattle.dsv_names.specs.declared.realisation.Realisation.{Realisation}
 use Rattle.dsv_names.specs.declared.realisation.Realisation.TheVariants.{Dfi, Dfii, Tdfii}
 use Rattle.dsv_names.specs.declared.realisation.Realisation.TheVariants.{Ddfi, Ddfii, Tddfii}
 use Rattle.dsv_quantiser.specs.QuantisedView.{QuantisedView}
-use Rattle.dsv_meaning.specs.Lines.{Summand, Times, Alone, Sum, summands, line}
+use Rattle.dsv_meaning.specs.declared.summands.Summand.{Summand}
+use Rattle.dsv_meaning.specs.declared.summands.Summand.TheVariants.{Times, Alone}
+use Rattle.dsv_meaning.specs.Lines.{Sum, summands, line}
 use Rattle.dsv_system.specs.Runs.{Sampled}
 
 abbrev pub order : QuantisedView → ℕ
@@ -31,6 +33,10 @@ pub record Past : Type 0 where
 
 abbrev pub latest : List (List ℤ) → List ℤ
 latest chains = slice_index_or chains 0 []
+
+-- a line in the controller's words and its way of summing
+abbrev pub line_of : QuantisedView → List ℤ → List (Summand ℤ) → Sum
+line_of q old ts = line q.wide q.format old ts
 
 -- ---- the lines, over words or over the nodes that have them
 -- b_0 w(0) + b_1 w(1) + ..
@@ -74,23 +80,23 @@ chain_with c s = record { words = c.words ++ s.value ∷ []; exact = s.exact }
 abbrev pub delta_chain : QuantisedView → ℤ → List ℤ → Chain → Chain
 delta_chain q before [] c = c
 delta_chain q before (w ∷ ws) c =
-    delta_chain q w ws (chain_with c (line q.format c.exact (delta_line q w before)))
+    delta_chain q w ws (chain_with c (line_of q c.exact (delta_line q w before)))
 
 -- new s_i = b_i x - a_i y + old s_(i+1), where `s` is old s_i and those after it
 abbrev pub transposed_chain : QuantisedView → ℤ → ℤ → List ℤ → List ℤ → List ℤ → Chain
     → Chain
 transposed_chain q x y (b ∷ bs) (a ∷ cs) s c =
     transposed_chain q x y bs cs (drop 1 s)
-    (chain_with c (line q.format c.exact (transposed_line b a x y (drop 1 s))))
+    (chain_with c (line_of q c.exact (transposed_line b a x y (drop 1 s))))
 transposed_chain q x y _ _ s c = c
 
 -- new s_i = old s_i + delta (b_i x - a_i y + old s_(i+1))
 abbrev pub transposed_delta_chain : QuantisedView → ℤ → ℤ → List ℤ → List ℤ → List ℤ
     → Chain → Chain
 transposed_delta_chain q x y (b ∷ bs) (a ∷ cs) (s ∷ ss) c =
-    let t = line q.format c.exact (transposed_line b a x y ss) in
+    let t = line_of q c.exact (transposed_line b a x y ss) in
     transposed_delta_chain q x y bs cs ss
-    (chain_with c (line q.format t.exact (delta_line q s t.value)))
+    (chain_with c (line_of q t.exact (delta_line q s t.value)))
 transposed_delta_chain q x y _ _ _ c = c
 
 -- ---- one sample
@@ -98,7 +104,7 @@ abbrev pub sample_as : Realisation → QuantisedView → Past → ℤ → Sample
 -- y(n) = b_0 x(n) + .. + b_N x(n-N) - a_1 y(n-1) - .. - a_N y(n-N)
 sample_as Dfi q p x =
     let xs = x ∷ p.signal in
-    let y = line q.format [] (forward_summands q (ago xs)
+    let y = line_of q [] (forward_summands q (ago xs)
     ++ feedback_summands q (ago p.outputs) 0) in
     record {
       y = y.value;
@@ -107,14 +113,14 @@ sample_as Dfi q p x =
     }
 -- w(n) = x(n) - a_1 w(n-1) - .. - a_N w(n-N); y(n) = b_0 w(n) + .. + b_N w(n-N)
 sample_as Dfii q p x =
-    let w = line q.format [] (Alone x ∷ feedback_summands q (ago p.signal) 0) in
+    let w = line_of q [] (Alone x ∷ feedback_summands q (ago p.signal) 0) in
     let ws = w.value ∷ p.signal in
-    let y = line q.format w.exact (forward_summands q (ago ws)) in
+    let y = line_of q w.exact (forward_summands q (ago ws)) in
     record { y = y.value; exact = y.exact; past = record p { signal = ws } }
 -- y(n) = b_0 x(n) + s_1; then the new s_i
 sample_as Tdfii q p x =
     let s = latest p.chain in
-    let y = line q.format [] (transposed_output q x s) in
+    let y = line_of q [] (transposed_output q x s) in
     let c = transposed_chain q x y.value (drop 1 q.b) (feedback q) s (no_words y.exact) in
     record { y = y.value; exact = c.exact; past = record p { chain = c.words ∷ p.chain } }
 -- y(n) = b_0 x(n) + b_1 u_1 + .. + b_N u_N - a_1 v_1 - .. - a_N v_N; then the new u_j and the new
@@ -122,7 +128,7 @@ sample_as Tdfii q p x =
 sample_as Ddfi q p x =
     let u = latest p.chain in
     let v = latest p.output_chain in
-    let y = line q.format [] (forward_summands q (ago (x ∷ u)) ++ feedback_summands q (ago v) 0) in
+    let y = line_of q [] (forward_summands q (ago (x ∷ u)) ++ feedback_summands q (ago v) 0) in
     let c = delta_chain q x u (no_words y.exact) in
     let d = delta_chain q y.value v (no_words c.exact) in
     record {
@@ -133,14 +139,14 @@ sample_as Ddfi q p x =
 -- w_0 = x(n) - a_1 w_1 - .. - a_N w_N; y(n) = b_0 w_0 + .. + b_N w_N; then the new w_j
 sample_as Ddfii q p x =
     let w = latest p.chain in
-    let w_0 = line q.format [] (Alone x ∷ feedback_summands q (ago w) 0) in
-    let y = line q.format w_0.exact (forward_summands q (ago (w_0.value ∷ w))) in
+    let w_0 = line_of q [] (Alone x ∷ feedback_summands q (ago w) 0) in
+    let y = line_of q w_0.exact (forward_summands q (ago (w_0.value ∷ w))) in
     let c = delta_chain q w_0.value w (no_words y.exact) in
     record { y = y.value; exact = c.exact; past = record p { chain = c.words ∷ p.chain } }
 -- y(n) = b_0 x(n) + s_1; then the new s_i
 sample_as Tddfii q p x =
     let s = latest p.chain in
-    let y = line q.format [] (transposed_output q x s) in
+    let y = line_of q [] (transposed_output q x s) in
     let c = transposed_delta_chain q x y.value (drop 1 q.b) (feedback q) s (no_words y.exact) in
     record { y = y.value; exact = c.exact; past = record p { chain = c.words ∷ p.chain } }
 

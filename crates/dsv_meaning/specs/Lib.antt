@@ -3,5 +3,6 @@ pub mod Lines
 pub mod ReplayParts
 pub mod Replays
 pub mod Stepping
+pub mod Summands
 pub mod Systems
 pub mod Traces

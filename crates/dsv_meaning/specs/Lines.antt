@@ -1,16 +1,18 @@
 -- Lines of written equations: sums of products of coefficients and words, in fixed point.
-use Rattle.std.specs.Prelude.{ℕ, ◌+◌, Bool, List, [], ◌∷◌, ◌++◌}
+--
+-- What differs between the two ways of summing is where a line loses: after each product and each
+-- sum, or, with a wide accumulator, once.
+use Rattle.std.specs.Prelude.{ℕ, ◌+◌, ◌^◌, Bool, true, false, List, [], ◌∷◌, ◌++◌}
 use Rattle.std.specs.Prelude.{if◌then◌else◌, ℤ, pos, ◌+ℤ◌, ◌-ℤ◌, ◌*ℤ◌}
 use Rattle.dsv_word.specs.declared.format.Format.{Format}
 use Rattle.dsv_word.specs.Words.{width, fit}
 use Rattle.dsv_word.specs.Quotients.{whole_shift}
+use Rattle.dsv_meaning.specs.declared.summands.Summand.{Summand}
+use Rattle.dsv_meaning.specs.declared.summands.Summand.TheVariants.{Times, Alone}
 
 -- A line is a list of summands: a product of a coefficient and a word, added or taken away, or a
 -- word alone, added. A is the type of the words: whole numbers in an equation, numbers of nodes in
 -- a netlist.
-pub data Summand (A : Type 0) : Type 0 where
-  Times : (away : Bool) (coeff : ℤ) (word : A) → Summand A
-  Alone : (word : A) → Summand A
 
 -- the summands c_0 w(k), c_1 w(k+1), ..
 abbrev pub summands : {A : Type 0} → Bool → List ℤ → (ℕ → A) → ℕ → List (Summand A)
@@ -49,6 +51,38 @@ next_summands f s [] = s
 next_summands f s (t ∷ ts) = next_summands f (next_summand f s t) ts
 
 -- a line from left to right, after the exact values of the lines before it
-abbrev pub line : Format → List ℤ → List (Summand ℤ) → Sum
-line f old [] = record { value = pos 0; exact = old }
-line f old (t ∷ ts) = next_summands f (first_summand f old t) ts
+abbrev pub narrow_line : Format → List ℤ → List (Summand ℤ) → Sum
+narrow_line f old [] = record { value = pos 0; exact = old }
+narrow_line f old (t ∷ ts) = next_summands f (first_summand f old t) ts
+
+-- ---- with a wide accumulator
+-- what a summand adds to the total: a product as it is, and a word alone times 2^frac_bits
+abbrev pub exact_summand : Format → Summand ℤ → ℤ
+exact_summand f (Times away c w) = if away then pos 0 -ℤ c *ℤ w else c *ℤ w
+exact_summand f (Alone w) = pos (2 ^ f.frac_bits) *ℤ w
+
+abbrev pub total : Format → List (Summand ℤ) → ℤ
+total f [] = pos 0
+total f (t ∷ ts) = exact_summand f t +ℤ total f ts
+
+-- one of them is a product
+abbrev pub has_product : {A : Type 0} → List (Summand A) → Bool
+has_product [] = false
+has_product (Times away c w ∷ ts) = true
+has_product (Alone w ∷ ts) = has_product ts
+
+-- a word that stands first
+abbrev pub first_word : List (Summand ℤ) → ℤ
+first_word (Alone w ∷ ts) = w
+first_word ts = pos 0
+
+-- The products stay exact, and their total is divided by 2^frac_bits, made whole and fitted once. A
+-- line without a product has its one word as its value and adds no exact value.
+abbrev pub wide_line : Format → List ℤ → List (Summand ℤ) → Sum
+wide_line f old ts = if has_product ts
+    then fitted_value f old (whole_shift f.rounding f.frac_bits (total f ts))
+    else record { value = first_word ts; exact = old }
+
+-- ---- both
+abbrev pub line : Bool → Format → List ℤ → List (Summand ℤ) → Sum
+line wide f old ts = if wide then wide_line f old ts else narrow_line f old ts

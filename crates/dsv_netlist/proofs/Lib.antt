@@ -1,3 +1,4 @@
+pub mod Scaling
 pub mod Sizes
 pub mod Naming
 pub mod BoundLemmas

@@ -1,6 +1,6 @@
 -- A sample of a netlist from words: what each node is computed from, and what it gives.
 use Rattle.dsv_word.specs.Words.{IsWord}
-use Rattle.std.proofs.Common.{◌≡◌, ℕ, zero, suc, ◌+◌, ◌<◌, ◌≤◌, true, cond, List, [], ◌∷◌, ◌++◌, length, zero-add, map, refl, sym, ap, subst, ◌∙◌, inl, inr, arith, rules, take, length-append}
+use Rattle.std.proofs.Common.{◌≡◌, ℕ, zero, suc, ◌+◌, ◌<◌, ◌≤◌, ◌^◌, true, cond, List, [], ◌∷◌, ◌++◌, length, zero-add, map, refl, sym, ap, subst, ◌∙◌, inl, inr, arith, rules, take, length-append}
 use Rattle.std.specs.Prelude.{IsTrue, count_by, slice_index}
 use Rattle.std.specs.List.{All}
 use Rattle.std.specs.Int.RustNames.{unsigned_abs}
@@ -11,7 +11,7 @@ use Rattle.std.proofs.lemmas.List.Sums.{sum_by-cons}
 use Rattle.std.proofs.lemmas.List.Elements.{All-head, All-tail, All-get_or, All-map, All-weaker}
 use Rattle.dsv_word.specs.declared.format.Format.{Format}
 use Rattle.dsv_netlist.specs.declared.node.Node.{Node}
-use Rattle.dsv_netlist.specs.declared.node.Node.TheVariants.{Input, Reg, MulConst, Round, Add, Sub, Fit}
+use Rattle.dsv_netlist.specs.declared.node.Node.TheVariants.{Input, Reg, MulConst, Round, Add, Sub, Fit, Scale}
 use Rattle.dsv_netlist.specs.Limits.{most_exact}
 use Rattle.dsv_netlist.specs.Nodes.{Net, Sample, at, node_value, node_exact, after_node, sample_from, sample_of}
 use Rattle.dsv_netlist.specs.Bounds.{word_bound, node_bound, bounds_from}
@@ -34,7 +34,7 @@ pub record Words (format : Format) (registers : List ℤ) (x : ℤ) : Type 0 whe
   pub input : IsWord format x
 
 value_size : (f : Format) (rs : List ℤ) (x : ℤ) (bs : List ℕ) (vs : List ℤ) (n : Node) → Words f rs x → AreWithin bs vs → NamesBelow (length vs) n → ReadsBelow (length rs) n
-    → unsigned_abs (node_value f rs x vs n) ≤ node_bound (word_bound f) bs n
+    → unsigned_abs (node_value f rs x vs n) ≤ node_bound f bs n
 value_size f rs x bs vs Input w h b r = word_size f x w.input
 value_size f rs x bs vs (Reg k) w h b r = word_size f (at rs k) (w.each k r)
 value_size f rs x bs vs (MulConst c i) w h b r = product_size c (at vs i) (slice_index bs i) (h.each i b)
@@ -42,6 +42,7 @@ value_size f rs x bs vs (Round i) w h b r = shifted_size f.rounding f.frac_bits 
 value_size f rs x bs vs (Add i j) w h b r = sum_size (at vs i) (at vs j) (slice_index bs i) (slice_index bs j) (h.each i b.0) (h.each j b.1)
 value_size f rs x bs vs (Sub i j) w h b r = difference_size (at vs i) (at vs j) (slice_index bs i) (slice_index bs j) (h.each i b.0) (h.each j b.1)
 value_size f rs x bs vs (Fit i) w h b r = word_size f (node_value f rs x vs (Fit i)) (fit_is_word f (at vs i))
+value_size f rs x bs vs (Scale i) w h b r = product_size (pos (2 ^ f.frac_bits)) (at vs i) (slice_index bs i) (h.each i b)
 
 within_more : (bs : List ℕ) (vs : List ℤ) (b : ℕ) (v : ℤ) → AreWithin bs vs → unsigned_abs v ≤ b → AreWithin (bs ++ b ∷ []) (vs ++ v ∷ [])
 within_more bs vs b v h k =
@@ -61,6 +62,7 @@ node_exact-length vs (Round i) = refl
 node_exact-length vs (Add i j) = refl
 node_exact-length vs (Sub i j) = refl
 node_exact-length vs (Fit i) = refl
+node_exact-length vs (Scale i) = refl
 
 count_fits : (n : Node) (ns : List Node) → count_by is_fit (n ∷ ns) ≡ cond (is_fit n) 1 0 + count_by is_fit ns
 count_fits n ns = sum_by-cons (λ (m : Node). cond (is_fit m) 1 0) n ns
@@ -70,19 +72,19 @@ pub record After (f : Format) (rs : List ℤ) (ns : List Node) (bs : List ℕ) (
   pub within : AreWithin bs s.values
   pub backwards : AllNameBack (length s.values) ns
   pub reads : All (ReadsBelow (length rs)) ns
-  pub bounded : AreBelow (bounds_from (word_bound f) ns bs)
+  pub bounded : AreBelow (bounds_from f ns bs)
   pub room : length s.exact + count_by is_fit ns ≤ most_exact
 
 -- the first of these nodes: its value is within its bound
 first_size : (f : Format) (rs : List ℤ) (x : ℤ) (n : Node) (ns : List Node) (bs : List ℕ) (s : Sample) → Words f rs x → After f rs (n ∷ ns) bs s
-    → unsigned_abs (node_value f rs x s.values n) ≤ node_bound (word_bound f) bs n
+    → unsigned_abs (node_value f rs x s.values n) ≤ node_bound f bs n
 first_size f rs x n ns bs s w h = value_size f rs x bs s.values n w h.within h.backwards.0 (All-head (ReadsBelow (length rs)) n ns h.reads)
 
 after_more : (f : Format) (rs : List ℤ) (x : ℤ) (n : Node) (ns : List Node) (bs : List ℕ) (s : Sample) → Words f rs x → After f rs (n ∷ ns) bs s
-    → After f rs ns (bs ++ node_bound (word_bound f) bs n ∷ []) (after_node f rs x s n)
+    → After f rs ns (bs ++ node_bound f bs n ∷ []) (after_node f rs x s n)
 after_more f rs x n ns bs s w h =
     let v = node_value f rs x s.values n in
-    let b = node_bound (word_bound f) bs n in
+    let b = node_bound f bs n in
     let e = node_exact-length s.values n in
     record {
       within = within_more bs s.values b v h.within (first_size f rs x n ns bs s w h);
@@ -98,7 +100,7 @@ first_safe f rs x n ns bs s w h =
     record {
       backwards = h.backwards.0;
       reads = All-head (ReadsBelow (length rs)) n ns h.reads;
-      small = omega (arith, first_size f rs x n ns bs s w h, first_below (word_bound f) n ns bs h.bounded);
+      small = omega (arith, first_size f rs x n ns bs s w h, first_below f n ns bs h.bounded);
       room = omega (arith, h.room, count_fits n ns);
     }
 
@@ -106,14 +108,14 @@ first_safe f rs x n ns bs s w h =
 safe_from : (f : Format) (rs : List ℤ) (x : ℤ) (ns : List Node) (bs : List ℕ) (s : Sample) → Words f rs x → After f rs ns bs s → AreSafe f rs x ns s
 safe_from f rs x [] bs s w h = tt
 safe_from f rs x (n ∷ ns) bs s w h =
-    (first_safe f rs x n ns bs s w h, safe_from f rs x ns (bs ++ node_bound (word_bound f) bs n ∷ []) (after_node f rs x s n) w (after_more f rs x n ns bs s w h))
+    (first_safe f rs x n ns bs s w h, safe_from f rs x ns (bs ++ node_bound f bs n ∷ []) (after_node f rs x s n) w (after_more f rs x n ns bs s w h))
 
 -- all values of a sample are within the bounds
 within_from : (f : Format) (rs : List ℤ) (x : ℤ) (ns : List Node) (bs : List ℕ) (s : Sample) → Words f rs x → After f rs ns bs s
-    → AreWithin (bounds_from (word_bound f) ns bs) (sample_from f rs x ns s).values
+    → AreWithin (bounds_from f ns bs) (sample_from f rs x ns s).values
 within_from f rs x [] bs s w h = h.within
 within_from f rs x (n ∷ ns) bs s w h =
-    within_from f rs x ns (bs ++ node_bound (word_bound f) bs n ∷ []) (after_node f rs x s n) w (after_more f rs x n ns bs s w h)
+    within_from f rs x ns (bs ++ node_bound f bs n ∷ []) (after_node f rs x s n) w (after_more f rs x n ns bs s w h)
 
 -- ---- which values are words
 node_word : (f : Format) (rs : List ℤ) (x : ℤ) (vs : List ℤ) (n : Node) → Words f rs x → ReadsBelow (length rs) n → gives_word n ≡ true → IsWord f (node_value f rs x vs n)
@@ -124,6 +126,7 @@ node_word f rs x vs (MulConst c i) w r h = absurd cc
 node_word f rs x vs (Round i) w r h = absurd cc
 node_word f rs x vs (Add i j) w r h = absurd cc
 node_word f rs x vs (Sub i j) w r h = absurd cc
+node_word f rs x vs (Scale i) w r h = absurd cc
 
 -- a value that stands stays
 pub from_keeps : (f : Format) (rs : List ℤ) (x : ℤ) (ns : List Node) (s : Sample) (i : ℕ) → i < length s.values → at (sample_from f rs x ns s).values i ≡ at s.values i

@@ -4,7 +4,7 @@ use Rattle.std.specs.Prelude.{IsTrue, List, [], ◌∷◌, length, count_by}
 use Rattle.std.specs.List.{All}
 use Rattle.dsv_netlist.specs.declared.node.Node.{Node}
 use Rattle.dsv_netlist.specs.declared.node.Node.TheVariants.{Input, Reg, MulConst}
-use Rattle.dsv_netlist.specs.declared.node.Node.TheVariants.{Round, Add, Sub, Fit}
+use Rattle.dsv_netlist.specs.declared.node.Node.TheVariants.{Round, Add, Sub, Fit, Scale}
 use Rattle.dsv_netlist.specs.Limits.{most_nodes, most_registers, most_exact, bound_limit}
 use Rattle.dsv_netlist.specs.Nodes.{Net}
 use Rattle.dsv_netlist.specs.Bounds.{bounds_of}
@@ -18,6 +18,7 @@ NamesBelow n (Round of) = of < n
 NamesBelow n (Add left right) = (left < n) × (right < n)
 NamesBelow n (Sub left right) = (left < n) × (right < n)
 NamesBelow n (Fit of) = of < n
+NamesBelow n (Scale of) = of < n
 
 -- each node names nodes before it, where n nodes stand before these
 abbrev pub AllNameBack : ℕ → List Node → Type 0
@@ -33,6 +34,7 @@ ReadsBelow n (Round of) = Unit {0}
 ReadsBelow n (Add left right) = Unit {0}
 ReadsBelow n (Sub left right) = Unit {0}
 ReadsBelow n (Fit of) = Unit {0}
+ReadsBelow n (Scale of) = Unit {0}
 
 -- the node's value is a word
 abbrev pub gives_word : Node → Bool
@@ -43,6 +45,7 @@ gives_word (Round of) = false
 gives_word (Add left right) = false
 gives_word (Sub left right) = false
 gives_word (Fit of) = true
+gives_word (Scale of) = false
 
 -- there is a node of this number, and its value is a word
 abbrev pub names_word : List Node → ℕ → Bool
@@ -58,6 +61,7 @@ is_fit (Round of) = false
 is_fit (Add left right) = false
 is_fit (Sub left right) = false
 is_fit (Fit of) = true
+is_fit (Scale of) = false
 
 -- What Netlist::new accepts: few enough nodes, registers and exact values; no more registers are
 -- feed-forward than there are; nodes name nodes before them and registers that are there; the

@@ -1,5 +1,5 @@
 -- Netlists, and what their nodes give in one sample.
-use Rattle.std.specs.Prelude.{ℕ, List, [], ◌∷◌, ◌++◌, map}
+use Rattle.std.specs.Prelude.{ℕ, ◌^◌, List, [], ◌∷◌, ◌++◌, map}
 use Rattle.std.specs.Prelude.{slice_index_or, ℤ, pos, ◌+ℤ◌, ◌-ℤ◌, ◌*ℤ◌}
 use Rattle.dsv_word.specs.declared.format.Format.{Format}
 use Rattle.dsv_word.specs.Words.{width, fit}
@@ -7,7 +7,7 @@ use Rattle.dsv_word.specs.Quotients.{whole_shift}
 use Rattle.dsv_system.specs.Runs.{Sampled}
 use Rattle.dsv_netlist.specs.declared.node.Node.{Node}
 use Rattle.dsv_netlist.specs.declared.node.Node.TheVariants.{Input, Reg, MulConst}
-use Rattle.dsv_netlist.specs.declared.node.Node.TheVariants.{Round, Add, Sub, Fit}
+use Rattle.dsv_netlist.specs.declared.node.Node.TheVariants.{Round, Add, Sub, Fit, Scale}
 
 -- what contracts see of a netlist: register k is loaded from the node that `next` has at place k
 pub record Net : Type 0 where
@@ -46,6 +46,7 @@ node_value format registers x values (Round of) =
 node_value format registers x values (Add left right) = at values left +ℤ at values right
 node_value format registers x values (Sub left right) = at values left -ℤ at values right
 node_value format registers x values (Fit of) = fit format.overflow (width format) (at values of)
+node_value format registers x values (Scale of) = pos (2 ^ format.frac_bits) *ℤ at values of
 
 -- what a node adds to the exact values
 abbrev pub node_exact : List ℤ → Node → List ℤ
@@ -56,6 +57,7 @@ node_exact values (Round of) = []
 node_exact values (Add left right) = []
 node_exact values (Sub left right) = []
 node_exact values (Fit of) = at values of ∷ []
+node_exact values (Scale of) = []
 
 abbrev pub after_node : Format → List ℤ → ℤ → Sample → Node → Sample
 after_node format registers x sample node = record {

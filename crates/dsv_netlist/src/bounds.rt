@@ -9,24 +9,31 @@ ghost use Rattle.dsv_netlist.specs.Bounds.{word_bound, node_bound, bounds_of};
 ghost use Rattle.dsv_netlist.specs.Conditions.{NamesBelow, AllNameBack};
 ghost use Rattle.dsv_netlist.specs.Limits.{bound_limit, most_nodes};
 
-use crate::node::Node;
+use crate::node::{Node, one};
 use crate::{BOUND_LIMIT, MOST_NODES};
 use dsv_word::Format;
 
-/// The bound of a node, where it is below the limit. `word` is that of a word, and `bounds` those
-/// of the nodes before.
-fn bound_of(node: &Node, word: u128, bounds: &[u128]) -> Option<u128>
+/// The greatest size of a word.
+fn word_bound(format: &Format) -> u128
+    ensures { result ≡ word_bound format.now }
+{
+    u128::from(format.lo().unsigned_abs())
+}
+
+/// The bound of a node, where it is below the limit. `bounds` are those of the nodes before.
+fn bound_of(format: &Format, node: &Node, bounds: &[u128]) -> Option<u128>
     requires backwards { NamesBelow (length bounds.now) node.now }
     requires bounded { All (λ bound. bound < bound_limit) bounds.now }
-    ensures exact { IsSome result ↔ (node_bound word bounds.now node.now < bound_limit) }
-    ensures value { IfSome result (λ bound. bound ≡ node_bound word bounds.now node.now) }
+    ensures exact { IsSome result ↔ (node_bound format.now bounds.now node.now < bound_limit) }
+    ensures value { IfSome result (λ bound. bound ≡ node_bound format.now bounds.now node.now) }
 {
     let bound = match node {
-        Node::Input | Node::Reg(_) | Node::Fit(_) => word,
+        Node::Input | Node::Reg(_) | Node::Fit(_) => word_bound(format),
         Node::MulConst { coeff, of } => {
             u128::from(coeff.unsigned_abs()).checked_mul(bounds[*of as usize])?
         }
         Node::Round(of) => bounds[*of as usize],
+        Node::Scale(of) => u128::from(one(format)).checked_mul(bounds[*of as usize])?,
         Node::Add(left, right) | Node::Sub(left, right) => {
             bounds[*left as usize] + bounds[*right as usize]
         }
@@ -38,13 +45,6 @@ fn bound_of(node: &Node, word: u128, bounds: &[u128]) -> Option<u128>
     }
 }
 
-/// The greatest size of a word.
-fn word_bound(format: &Format) -> u128
-    ensures { result ≡ word_bound format.now }
-{
-    u128::from(format.lo().unsigned_abs())
-}
-
 /// The bounds of all nodes, where they are below the limit.
 pub(crate) fn bounds_of(format: &Format, nodes: &[Node]) -> Option<[u128; MOST_NODES]>
     requires few { length nodes.now ≤ most_nodes }
@@ -54,10 +54,9 @@ pub(crate) fn bounds_of(format: &Format, nodes: &[Node]) -> Option<[u128; MOST_N
     ensures value { IfSome result (λ bounds. take (length nodes.now) bounds
         ≡ bounds_of format.now nodes.now) }
 {
-    let word = word_bound(format);
     let mut bounds = [0; MOST_NODES];
     for (i, node) in nodes.iter().enumerate() {
-        let bound = bound_of(node, word, &bounds[..i])?;
+        let bound = bound_of(format, node, &bounds[..i])?;
         bounds[i] = bound;
     }
     Some(bounds)

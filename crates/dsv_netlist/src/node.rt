@@ -1,7 +1,9 @@
 // The nodes of a netlist.
-ghost use Rattle.std.specs.Prelude.{◌≡◌, ◌↔◌, IsTrue};
+ghost use Rattle.std.specs.Prelude.{◌≡◌, ◌↔◌, ◌≤◌, ◌^◌, IsTrue};
 ghost use Rattle.dsv_netlist.specs.Conditions.{NamesBelow, ReadsBelow, gives_word, is_fit};
 ghost use Rattle.dsv_netlist.specs.Counts.{is_product, is_sum};
+
+use dsv_word::Format;
 
 /// A node of a netlist. Others are named by their numbers, which count from 0 and are smaller than
 /// the node's own.
@@ -22,6 +24,17 @@ pub enum Node {
     Sub(u32, u32),
     /// The word that a node becomes by the format's overflow.
     Fit(u32),
+    /// A node times 2 to the number of bits after the point.
+    Scale(u32),
+}
+
+/// The word that stands for 1: 2 to the number of bits after the point.
+#[tactic(auto, using(crate::proofs::Scaling::powers))]
+pub(crate) fn one(format: &Format) -> u64
+    ensures value { result ≡ 2 ^ format.now.frac_bits }
+    ensures small { result ≤ 2 ^ 31 }
+{
+    1u64 << format.frac_bits
 }
 
 impl Node {
@@ -31,7 +44,9 @@ impl Node {
     {
         match self {
             Node::Input | Node::Reg(_) => true,
-            Node::MulConst { of, .. } | Node::Round(of) | Node::Fit(of) => (*of as usize) < count,
+            Node::MulConst { of, .. } | Node::Round(of) | Node::Fit(of) | Node::Scale(of) => {
+                (*of as usize) < count
+            }
             Node::Add(left, right) | Node::Sub(left, right) => {
                 (*left as usize) < count && (*right as usize) < count
             }

@@ -59,6 +59,7 @@ fn node_value(node: &Node, registers: &[i128], x: i128, values: &[i128], frac_bi
         Node::Add(left, right) => at(values, *left).saturating_add(at(values, *right)),
         Node::Sub(left, right) => at(values, *left).saturating_sub(at(values, *right)),
         Node::Fit(of) => at(values, *of),
+        Node::Scale(of) => at(values, *of).saturating_mul(1i128 << frac_bits),
     }
 }
 

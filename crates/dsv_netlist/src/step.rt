@@ -15,7 +15,7 @@ ghost use Rattle.dsv_netlist.specs.Safety.{AreSafe};
 ghost use Rattle.dsv_netlist.specs.Limits.{most_nodes, most_exact, bound_limit};
 
 use crate::MOST_NODES;
-use crate::node::Node;
+use crate::node::{Node, one};
 use dsv_system::ExactList;
 use dsv_word::Format;
 
@@ -39,6 +39,7 @@ fn value_of(format: &Format, node: &Node, registers: &[i64], x: &i64, values: &[
         Node::Add(left, right) => values[*left as usize] + values[*right as usize],
         Node::Sub(left, right) => values[*left as usize] - values[*right as usize],
         Node::Fit(of) => format.fit(values[*of as usize]).into(),
+        Node::Scale(of) => i128::from(one(format)) * values[*of as usize],
     }
 }
 

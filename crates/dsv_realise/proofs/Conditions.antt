@@ -21,7 +21,8 @@ use Rattle.dsv_netlist.proofs.Sizes.{word_size}
 use Rattle.dsv_names.specs.declared.realisation.Realisation.{Realisation}
 use Rattle.dsv_names.specs.declared.realisation.Realisation.TheVariants.{Dfi, Dfii, Tdfii, Ddfi, Ddfii, Tddfii}
 use Rattle.dsv_quantiser.specs.QuantisedView.{QuantisedView, IsQuantisedView, IsDeltaWord}
-use Rattle.dsv_meaning.specs.Lines.{Alone, summands}
+use Rattle.dsv_meaning.specs.declared.summands.Summand.TheVariants.{Alone}
+use Rattle.dsv_meaning.specs.Lines.{summands}
 use Rattle.dsv_meaning.specs.Equations.{order, feedback, first_alone, forward_summands, feedback_summands, transposed_output, registers_of, forward_registers_of, products_of, sums_of}
 use Rattle.dsv_realise.specs.Making.{no_places}
 use Rattle.dsv_realise.specs.Netlists.{registers_from, sources, count, shift, newest_at, first_form, second_form_state, second_form, transposed_form, transposed_nodes, delta_inputs, delta_outputs, delta_states, transposed_delta_nodes, net_with, net_as, net_of}
@@ -29,7 +30,9 @@ use Rattle.dsv_realise.specs.Running.{counts_as}
 use Rattle.dsv_realise.proofs.Sources.{IsSized, sized}
 use Rattle.dsv_realise.proofs.LineNodes.{length-summands}
 use Rattle.dsv_realise.proofs.Growing.{AreSound, HasCounts, IsSmall, word_small, bounds-length, one_if, Grown}
-use Rattle.dsv_realise.proofs.GrowingLines.{AreFit, line_grows, summands_fit, fit_both, products_in-summands, products_in-append, products_in-alone, AllNamed, named_later, named_both, alone_fit, chain_begins, transposed_grows, delta_grows, transposed_delta_grows}
+use Rattle.dsv_realise.proofs.GrowingLines.{AreFit, summands_fit, fit_both, products_in-summands, products_in-append, products_in-alone, AllNamed, named_later, named_both, alone_fit}
+use Rattle.dsv_realise.proofs.Totals.{line_grows, has_summands, none_alone}
+use Rattle.dsv_realise.proofs.GrowingChains.{alone_few, chain_begins, transposed_grows, delta_grows, transposed_delta_grows}
 
 -- ---- the first nodes
 registers_named : (j n i : ℕ) → i < n → names_word (registers_from j n) i ≡ true
@@ -49,9 +52,9 @@ registers_read : (r j n : ℕ) → j + n ≤ r → All (ReadsBelow r) (registers
 registers_read r j zero h = λ k d l. absurd (omega arith)
 registers_read r j (suc n) h = All-cons (ReadsBelow r) (Reg j) (registers_from (j + 1) n) (omega arith) (registers_read r (j + 1) n (omega arith))
 
-registers_bound : (w j n : ℕ) (bs : List ℕ) → All (λ b. b ≡ w) bs → All (λ b. b ≡ w) (bounds_from w (registers_from j n) bs)
-registers_bound w j zero bs h = h
-registers_bound w j (suc n) bs h = registers_bound w (j + 1) n (bs ++ w ∷ []) (All-push (λ b. b ≡ w) bs w h refl)
+registers_bound : (f : Format) (j n : ℕ) (bs : List ℕ) → All (λ b. b ≡ word_bound f) bs → All (λ b. b ≡ word_bound f) (bounds_from f (registers_from j n) bs)
+registers_bound f j zero bs h = h
+registers_bound f j (suc n) bs h = registers_bound f (j + 1) n (bs ++ word_bound f ∷ []) (All-push (λ b. b ≡ word_bound f) bs (word_bound f) h refl)
 
 registers-none : (test : Node → Bool) (j n : ℕ) → ((k : ℕ) → test (Reg k) ≡ false) → count_by test (registers_from j n) ≡ 0
 registers-none test j zero h = refl
@@ -71,7 +74,7 @@ registers-length j (suc n) = ap suc (registers-length (j + 1) n)
 sources_sound : (f : Format) (n : ℕ) → AreSound f n (sources n)
 sources_sound f n =
     let w = word_bound f in
-    let all : All (λ b. b ≡ w) (bounds_of f (sources n)) = registers_bound w 0 n (w ∷ []) (All-push (λ b. b ≡ w) [] w (All-nil (λ b. b ≡ w)) refl) in
+    let all : All (λ b. b ≡ w) (bounds_of f (sources n)) = registers_bound f 0 n (w ∷ []) (All-push (λ b. b ≡ w) [] w (All-nil (λ b. b ≡ w)) refl) in
     record {
       backwards = (tt, registers_back 1 0 n);
       registers = All-cons (ReadsBelow n) Input (registers_from 0 n) tt (registers_read n 0 n (omega arith));
@@ -83,7 +86,7 @@ sources_count : (n : ℕ) → HasCounts n (sources n) 0 0
 sources_count n = record {
   products = sources-none is_product n refl (λ k. refl);
   sums = sources-none is_sum n refl (λ k. refl);
-  fits = sources-none is_fit n refl (λ k. refl);
+  fits = omega (arith, sources-none is_fit n refl (λ k. refl));
   nodes = omega (arith, registers-length 0 n);
 }
 
@@ -156,19 +159,21 @@ first_grown q s m e =
     let lb = length-summands false q.b (λ (i : ℕ). i) 0 in
     let la = length-summands true (feedback q) (λ (i : ℕ). i) (n + 1) in
     let l = length-append bs as_ in
-    line_grows q.format (n + n) ns 0 0 (2 * n + 1) s (bs ++ as_) (sources_sound q.format (n + n)) (sources_count (n + n)) fit
+    line_grows q (n + n) ns 0 0 (2 * n + 1) s (bs ++ as_) (sources_sound q.format (n + n)) (sources_count (n + n)) fit
     (omega (arith, products_in-append bs as_, products_in-summands false q.b (λ (i : ℕ). i) 0, products_in-summands true (feedback q) (λ (i : ℕ). i) (n + 1), m.size.forward, m.size.back))
-    (omega (arith, m.size.forward, m.size.back)) (omega (arith, m.size.forward))
+    (omega (arith, m.size.forward, m.size.back)) (omega (arith, m.size.forward)) (omega (arith, m.size.forward, m.size.back, m.few))
+    (λ g. absurd (cc (g, has_summands false q.b (λ (i : ℕ). i) 0 as_ (omega (arith, m.size.forward)))))
 
 state_grown : (q : QuantisedView) → IsMild q → Grown q.format (order q) (sources (order q)) (second_form_state q) (order q) (order q)
 state_grown q m =
     let n = order q in
     let ns = sources n in
     let as_ = feedback_summands q (λ (i : ℕ). i) 1 in
-    line_grows q.format n ns 0 0 n n (Alone 0 ∷ as_) (sources_sound q.format n) (sources_count n)
+    line_grows q n ns 0 0 n n (Alone 0 ∷ as_) (sources_sound q.format n) (sources_count n)
     (sources_named n 0 (omega arith), summands_fit ns true (feedback q) (λ (i : ℕ). i) 1 m.a (λ i l. sources_named n (1 + i) (omega (arith, m.size.back))))
     (omega (arith, products_in-summands true (feedback q) (λ (i : ℕ). i) 1, m.size.back))
-    (omega (arith, length-summands true (feedback q) (λ (i : ℕ). i) 1, m.size.back)) (omega arith)
+    (omega (arith, length-summands true (feedback q) (λ (i : ℕ). i) 1, m.size.back)) (omega arith) (omega (arith, length-summands true (feedback q) (λ (i : ℕ). i) 1, m.size.back, m.few))
+    (λ g. omega (arith, length-summands true (feedback q) (λ (i : ℕ). i) 1, none_alone true (feedback q) (λ (i : ℕ). i) 1 g))
 
 newest_named : (ns : List Node) (p n i : ℕ) → names_word ns p ≡ true → ((j : ℕ) → j < n + 1 → names_word ns j ≡ true) → i < n + 1 → names_word ns (newest_at p i) ≡ true
 newest_named ns p n zero h g l = h
@@ -180,9 +185,10 @@ second_grown q s m e =
     let g = state_grown q m in
     let ns = (second_form_state q).nodes in
     let ids = newest_at (second_form_state q).place in
-    line_grows q.format n ns n n (2 * n + 1) s (forward_summands q ids) g.sound g.counts
+    line_grows q n ns n n (2 * n + 1) s (forward_summands q ids) g.sound g.counts
     (summands_fit ns false q.b ids 0 m.b (λ i l. newest_named ns (second_form_state q).place n (0 + i) g.place (λ j k. g.keeps j (sources_named n j k)) (omega (arith, m.size.forward))))
-    (omega (arith, products_in-summands false q.b ids 0, m.size.forward)) (omega (arith, length-summands false q.b ids 0, m.size.forward)) (omega (arith, length-summands false q.b ids 0, m.size.forward))
+    (omega (arith, products_in-summands false q.b ids 0, m.size.forward)) (omega (arith, length-summands false q.b ids 0, m.size.forward)) (omega (arith, length-summands false q.b ids 0, m.size.forward)) (omega (arith, length-summands false q.b ids 0, m.size.forward, m.few))
+    (λ e. absurd (let none = none_alone false q.b ids 0 e in omega (arith, none, m.size.forward)))
 
 output_grown : (q : QuantisedView) → IsMild q → Grown q.format (order q) (sources (order q)) (transposed_form q) 1 (length (first_alone (count 1 (order q))))
 output_grown q m =
@@ -194,9 +200,10 @@ output_grown q m =
     let lt : length (take 1 q.b) ≡ 1 = length-take-le 1 q.b (omega (arith, m.size.forward)) in
     let l = length-append bs (first_alone ks) in
     let lb = length-summands false (take 1 q.b) zeroth 0 in
-    line_grows q.format n ns 0 0 1 (length (first_alone ks)) (transposed_output q 0 ks) (sources_sound q.format n) (sources_count n)
+    line_grows q n ns 0 0 1 (length (first_alone ks)) (transposed_output q 0 ks) (sources_sound q.format n) (sources_count n)
     (fit_both ns bs (first_alone ks) (summands_fit ns false (take 1 q.b) zeroth 0 (All-take IsSmall 1 q.b m.b) (λ i k. sources_named n 0 (omega arith))) (alone_fit ns ks (named_count n 1 n (omega arith))))
-    (omega (arith, products_in-append bs (first_alone ks), products_in-summands false (take 1 q.b) zeroth 0, products_in-alone ks)) (omega arith) (omega arith)
+    (omega (arith, products_in-append bs (first_alone ks), products_in-summands false (take 1 q.b) zeroth 0, products_in-alone ks)) (omega arith) (omega arith) (omega (arith, alone_few ks))
+    (λ e. absurd (cc (e, has_summands false (take 1 q.b) zeroth 0 (first_alone ks) (omega arith))))
 
 -- ---- all of it
 products_few : (k : Realisation) (n : ℕ) → n ≤ 8 → products_of k n ≤ 33
@@ -297,7 +304,7 @@ realised_as Tdfii q m =
     let y = transposed_form q in
     let ks = count 1 n in
     let start = chain_begins q.format n y.nodes 1 (length (first_alone ks)) g.sound g.counts in
-    let c = transposed_grows q.format n y.nodes 0 y.place (drop 1 q.b) (feedback q) ks (no_places y.nodes) 1 (length (first_alone ks)) 0 (products_of Tdfii n) (sums_of Tdfii n) n start
+    let c = transposed_grows q n y.nodes 0 y.place (drop 1 q.b) (feedback q) ks (no_places y.nodes) 1 (length (first_alone ks)) 0 (products_of Tdfii n) (sums_of Tdfii n) n start
     (g.keeps 0 refl) g.place (named_later (sources n) y.nodes ks g.keeps (named_count n 1 n (omega arith))) (All-drop IsSmall 1 q.b m.b) m.a
     (omega (arith, m.size.forward, m.size.back, length-drop 1 q.b)) (count-length 1 n ∙ sym m.size.back) (omega (arith, m.size.back)) (omega (arith, m.size.back)) (omega (arith, m.size.back)) in
     realised Tdfii q n (transposed_nodes q).nodes (transposed_nodes q).places y.place m.few refl (record { sound = c.sound; counts = c.counts; next = c.named; many = c.many; output = c.keeps y.place g.place })

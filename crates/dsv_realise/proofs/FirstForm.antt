@@ -4,11 +4,13 @@ use Rattle.std.proofs.Math.IntN.{ℤ}
 use Rattle.std.proofs.lemmas.List.{length-take-le, map-append}
 use Rattle.dsv_netlist.specs.Nodes.{at}
 use Rattle.dsv_quantiser.specs.QuantisedView.{QuantisedView}
-use Rattle.dsv_meaning.specs.Lines.{Summand, Sum, summands, line}
-use Rattle.dsv_meaning.specs.Equations.{order, feedback, ago, forward_summands, feedback_summands}
+use Rattle.dsv_meaning.specs.declared.summands.Summand.{Summand}
+use Rattle.dsv_meaning.specs.Lines.{Sum, summands}
+use Rattle.dsv_meaning.specs.Equations.{line_of, order, feedback, ago, forward_summands, feedback_summands}
 use Rattle.dsv_realise.specs.Netlists.{sources, first_form}
 use Rattle.dsv_realise.proofs.Samples.{Gives}
-use Rattle.dsv_realise.proofs.LineNodes.{in_words, AreOver, in_words-summands, same_summands, over_summands, over_both, some_line_gives, length-summands}
+use Rattle.dsv_realise.proofs.LineNodes.{in_words, AreOver, in_words-summands, same_summands, over_summands, over_both, length-summands}
+use Rattle.dsv_realise.proofs.WideLines.{line_gives}
 use Rattle.dsv_realise.proofs.Sources.{IsSized, sources_give, at_input, at_output}
 
 -- the registers: x_1 to x_N, then y_1 to y_N
@@ -19,7 +21,7 @@ abbrev pub first_line : QuantisedView → ℤ → List ℤ → List ℤ → List
 first_line q x xs ys = forward_summands q (ago (x ∷ xs)) ++ feedback_summands q (ago ys) 0
 
 abbrev pub first_sum : QuantisedView → ℤ → List ℤ → List ℤ → Sum
-first_sum q x xs ys = line q.format [] (first_line q x xs ys)
+first_sum q x xs ys = line_of q [] (first_line q x xs ys)
 
 pub pair-length : (q : QuantisedView) (xs ys : List ℤ) → order q ≤ length xs → order q ≤ length ys → length (pair q xs ys) ≡ order q + order q
 pair-length q xs ys h k = omega (arith, length-take-le (order q) xs h, length-take-le (order q) ys k, length-append (take (order q) xs) (take (order q) ys))
@@ -37,9 +39,9 @@ first_form_gives q x xs ys s h k =
     let old_y : (j : ℕ) → j < n → at vs (n + 1 + j) ≡ ago ys j = λ j l. at_output n j x xs ys h l in
     let o : AreOver (length vs) (bs ++ as_) = over_both (length vs) bs as_ (over_summands (length vs) false q.b 0 (omega (arith, s.forward))) (over_summands (length vs) true (feedback q) (n + 1) (omega (arith, s.back))) in
     let some : 0 < length (bs ++ as_) = omega (arith, s.forward, length-append bs as_, length-summands false q.b (λ (i : ℕ). i) 0) in
-    let made = some_line_gives q.format rs x (sources (n + n)) vs [] (bs ++ as_) some (sources_give q.format rs x (n + n) lr) o in
+    let made = line_gives q rs x (sources (n + n)) vs [] (bs ++ as_) some (sources_give q.format rs x (n + n) lr) o in
     let w : map (in_words vs) (bs ++ as_) ≡ first_line q x xs ys =
     map-append (in_words vs) bs as_
     ∙ ap (λ (ts : List (Summand ℤ)). ts ++ map (in_words vs) as_) (in_words-summands vs false q.b (λ (i : ℕ). i) 0 ∙ same_summands false q.b (at vs) (ago (x ∷ xs)) 0 0 (λ i l. old_x (0 + i) (omega (arith, s.forward))))
     ∙ ap (λ (ts : List (Summand ℤ)). summands false q.b (ago (x ∷ xs)) 0 ++ ts) (in_words-summands vs true (feedback q) (λ (i : ℕ). i) (n + 1) ∙ same_summands true (feedback q) (at vs) (ago ys) (n + 1) 0 (λ j l. let z : j ≡ 0 + j = omega arith in old_y j (omega (arith, s.back)) ∙ ap (ago ys) z)) in
-    subst (λ (ts : List (Summand ℤ)). Gives q.format rs x vs (first_form q) (line q.format [] ts)) w made
+    subst (λ (ts : List (Summand ℤ)). Gives q.format rs x vs (first_form q) (line_of q [] ts)) w made

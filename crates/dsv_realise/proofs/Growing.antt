@@ -42,22 +42,22 @@ back_more : (k : ℕ) (ns : List Node) (n : Node) → AllNameBack k ns → Names
 back_more k [] n h b = let e : k + 0 ≡ k = omega arith in (subst (λ (j : ℕ). NamesBelow j n) e b, tt)
 back_more k (m ∷ ns) n h b = let e : k + suc (length ns) ≡ k + 1 + length ns = omega arith in (h.0, back_more (k + 1) ns n h.1 (subst (λ (j : ℕ). NamesBelow j n) e b))
 
-bounds_more : (w : ℕ) (ns : List Node) (n : Node) (bs : List ℕ) → bounds_from w (put ns n) bs ≡ bounds_from w ns bs ++ node_bound w (bounds_from w ns bs) n ∷ []
-bounds_more w [] n bs = refl
-bounds_more w (m ∷ ns) n bs = bounds_more w ns n (bs ++ node_bound w bs m ∷ [])
+bounds_more : (f : Format) (ns : List Node) (n : Node) (bs : List ℕ) → bounds_from f (put ns n) bs ≡ bounds_from f ns bs ++ node_bound f (bounds_from f ns bs) n ∷ []
+bounds_more f [] n bs = refl
+bounds_more f (m ∷ ns) n bs = bounds_more f ns n (bs ++ node_bound f bs m ∷ [])
 
 pub bounds-length : (f : Format) (ns : List Node) → length (bounds_of f ns) ≡ length ns
-bounds-length f ns = omega (arith, from-length (word_bound f) ns [])
+bounds-length f ns = omega (arith, from-length f ns [])
 
-pub bound_last : (f : Format) (ns : List Node) (n : Node) → slice_index (bounds_of f (put ns n)) (length ns) ≡ node_bound (word_bound f) (bounds_of f ns) n
+pub bound_last : (f : Format) (ns : List Node) (n : Node) → slice_index (bounds_of f (put ns n)) (length ns) ≡ node_bound f (bounds_of f ns) n
 bound_last f ns n =
-    let b = node_bound (word_bound f) (bounds_of f ns) n in
+    let b = node_bound f (bounds_of f ns) n in
     let l : length (bounds_of f ns) ≡ length ns = bounds-length f ns in
-    ap (λ (bs : List ℕ). get_or bs (length ns) 0) (bounds_more (word_bound f) ns n []) ∙ get_or_push (bounds_of f ns) b 0 (length ns) l
+    ap (λ (bs : List ℕ). get_or bs (length ns) 0) (bounds_more f ns n []) ∙ get_or_push (bounds_of f ns) b 0 (length ns) l
 
-bound_before : (f : Format) (ns : List Node) (n : Node) (k : ℕ) → k < length ns → slice_index (bounds_of f (put ns n)) k ≡ slice_index (bounds_of f ns) k
+pub bound_before : (f : Format) (ns : List Node) (n : Node) (k : ℕ) → k < length ns → slice_index (bounds_of f (put ns n)) k ≡ slice_index (bounds_of f ns) k
 bound_before f ns n k h =
-    ap (λ (bs : List ℕ). get_or bs k 0) (bounds_more (word_bound f) ns n []) ∙ get_or_append_left (bounds_of f ns) (node_bound (word_bound f) (bounds_of f ns) n ∷ []) 0 k (omega (arith, bounds-length f ns))
+    ap (λ (bs : List ℕ). get_or bs k 0) (bounds_more f ns n []) ∙ get_or_append_left (bounds_of f ns) (node_bound f (bounds_of f ns) n ∷ []) 0 k (omega (arith, bounds-length f ns))
 
 -- nodes that a netlist with r registers may begin with
 pub record AreSound (f : Format) (r : ℕ) (ns : List Node) : Type 0 where
@@ -70,15 +70,15 @@ pub record AreSound (f : Format) (r : ℕ) (ns : List Node) : Type 0 where
 pub record MayFollow (f : Format) (r : ℕ) (ns : List Node) (n : Node) : Type 0 where
   pub backwards : NamesBelow (length ns) n
   pub reads : ReadsBelow r n
-  pub small : node_bound (word_bound f) (bounds_of f ns) n < bound_limit
-  pub word : gives_word n ≡ true → node_bound (word_bound f) (bounds_of f ns) n ≡ word_bound f
+  pub small : node_bound f (bounds_of f ns) n < bound_limit
+  pub word : gives_word n ≡ true → node_bound f (bounds_of f ns) n ≡ word_bound f
 
 pub sound_more : (f : Format) (r : ℕ) (ns : List Node) (n : Node) → AreSound f r ns → MayFollow f r ns n → AreSound f r (put ns n)
 sound_more f r ns n s h =
     record {
       backwards = back_more 0 ns n s.backwards (subst (λ (j : ℕ). NamesBelow j n) (let e : length ns ≡ 0 + length ns = omega arith in e) h.backwards);
       registers = All-push (ReadsBelow r) ns n s.registers h.reads;
-      bounded = subst (λ (bs : List ℕ). All (λ bound. bound < bound_limit) bs) (sym (bounds_more (word_bound f) ns n [])) (All-push (λ (bound : ℕ). bound < bound_limit) (bounds_of f ns) (node_bound (word_bound f) (bounds_of f ns) n) s.bounded h.small);
+      bounded = subst (λ (bs : List ℕ). All (λ bound. bound < bound_limit) bs) (sym (bounds_more f ns n [])) (All-push (λ (bound : ℕ). bound < bound_limit) (bounds_of f ns) (node_bound f (bounds_of f ns) n) s.bounded h.small);
       words = λ k w. elim (cases_lt k (length ns)) [
         | inl p ↦ bound_before f ns n k p ∙ s.words k (sym (named_before ns n k p) ∙ w)
         | inr p ↦ let l = names_word-below (put ns n) k w in let e : length ns ≡ k = omega (arith, length_push ns n) in
@@ -87,12 +87,12 @@ sound_more f r ns n s h =
     }
 
 -- ---- how many
--- so many products and sums, after the input and r registers
+-- so many products and sums, after the input and r registers, and no more fits and nodes than they take in words
 pub record HasCounts (r : ℕ) (ns : List Node) (p s : ℕ) : Type 0 where
   pub products : count_by is_product ns ≡ p
   pub sums : count_by is_sum ns ≡ s
-  pub fits : count_by is_fit ns ≡ p + s
-  pub nodes : length ns ≡ r + 1 + 3 * p + 2 * s
+  pub fits : count_by is_fit ns ≤ p + s
+  pub nodes : length ns ≤ r + 1 + 3 * p + 2 * s
 
 abbrev pub one_if : Bool → ℕ
 one_if b = cond b 1 0
@@ -126,8 +126,8 @@ product_grows f r ns p s c i h t small w =
     let lb = length_push a n2 in
     let lc = length_push b n3 in
     let big : unsigned_abs c * word_bound f ≤ 2 ^ 31 * 2 ^ 31 = mul-le (unsigned_abs c) (word_bound f) (2 ^ 31) (2 ^ 31) small (word_small f) in
-    let b1 : node_bound (word_bound f) (bounds_of f ns) n1 ≡ unsigned_abs c * word_bound f = ap (λ (u : ℕ). unsigned_abs c * u) (h.words i w) in
-    let b2 : node_bound (word_bound f) (bounds_of f a) n2 ≡ unsigned_abs c * word_bound f = bound_last f ns n1 ∙ b1 in
+    let b1 : node_bound f (bounds_of f ns) n1 ≡ unsigned_abs c * word_bound f = ap (λ (u : ℕ). unsigned_abs c * u) (h.words i w) in
+    let b2 : node_bound f (bounds_of f a) n2 ≡ unsigned_abs c * word_bound f = bound_last f ns n1 ∙ b1 in
     let h1 : AreSound f r a = sound_more f r ns n1 h (record { backwards = names_word-below ns i w; reads = tt; small = omega (arith, big, b1); word = λ g. absurd cc }) in
     let h2 : AreSound f r b = sound_more f r a n2 h1 (record { backwards = omega arith; reads = tt; small = omega (arith, big, b2); word = λ g. absurd cc }) in
     let h3 : AreSound f r (put b n3) = sound_more f r b n3 h2 (record { backwards = omega arith; reads = tt; small = omega (arith, word_small f); word = λ g. refl }) in
@@ -143,35 +143,35 @@ product_grows f r ns p s c i h t small w =
       place = named_last b n3;
     }
 
-joining-bound : (f : Format) (ns : List Node) (away : Bool) (i j : ℕ) (u v : ℕ) → slice_index (bounds_of f ns) i ≡ u → slice_index (bounds_of f ns) j ≡ v → node_bound (word_bound f) (bounds_of f ns) (sum_node away i j) ≡ u + v
+pub joining-bound : (f : Format) (ns : List Node) (away : Bool) (i j : ℕ) (u v : ℕ) → slice_index (bounds_of f ns) i ≡ u → slice_index (bounds_of f ns) j ≡ v → node_bound f (bounds_of f ns) (sum_node away i j) ≡ u + v
 joining-bound f ns true i j u v e g = rw (e, g) refl
 joining-bound f ns false i j u v e g = rw (e, g) refl
 
-joining_below : (n : ℕ) (away : Bool) (i j : ℕ) → i < n → j < n → NamesBelow n (sum_node away i j)
+pub joining_below : (n : ℕ) (away : Bool) (i j : ℕ) → i < n → j < n → NamesBelow n (sum_node away i j)
 joining_below n true i j h k = (h, k)
 joining_below n false i j h k = (h, k)
 
-joining_reads : (r : ℕ) (away : Bool) (i j : ℕ) → ReadsBelow r (sum_node away i j)
+pub joining_reads : (r : ℕ) (away : Bool) (i j : ℕ) → ReadsBelow r (sum_node away i j)
 joining_reads r true i j = tt
 joining_reads r false i j = tt
 
-joining-word : (away : Bool) (i j : ℕ) → gives_word (sum_node away i j) ≡ false
+pub joining-word : (away : Bool) (i j : ℕ) → gives_word (sum_node away i j) ≡ false
 joining-word true i j = refl
 joining-word false i j = refl
 
-joining-product : (away : Bool) (i j : ℕ) → one_if (is_product (sum_node away i j)) ≡ 0
+pub joining-product : (away : Bool) (i j : ℕ) → one_if (is_product (sum_node away i j)) ≡ 0
 joining-product true i j = refl
 joining-product false i j = refl
 
-joining-sum : (away : Bool) (i j : ℕ) → one_if (is_sum (sum_node away i j)) ≡ 1
+pub joining-sum : (away : Bool) (i j : ℕ) → one_if (is_sum (sum_node away i j)) ≡ 1
 joining-sum true i j = refl
 joining-sum false i j = refl
 
-joining-fit : (away : Bool) (i j : ℕ) → one_if (is_fit (sum_node away i j)) ≡ 0
+pub joining-fit : (away : Bool) (i j : ℕ) → one_if (is_fit (sum_node away i j)) ≡ 0
 joining-fit true i j = refl
 joining-fit false i j = refl
 
-not_word : (b : Bool) (e g : ℕ) → b ≡ false → b ≡ true → e ≡ g
+pub not_word : (b : Bool) (e g : ℕ) → b ≡ false → b ≡ true → e ≡ g
 not_word true e g h k = absurd cc
 not_word false e g h k = absurd cc
 
@@ -182,8 +182,8 @@ sum_grows f r ns p s away i j h t v w =
     let n2 = Fit (length ns) in
     let la = length_push ns n1 in
     let lb = length_push a n2 in
-    let b1 : node_bound (word_bound f) (bounds_of f ns) n1 ≡ word_bound f + word_bound f = joining-bound f ns away i j (word_bound f) (word_bound f) (h.words i v) (h.words j w) in
-    let h1 : AreSound f r a = sound_more f r ns n1 h (record { backwards = joining_below (length ns) away i j (names_word-below ns i v) (names_word-below ns j w); reads = joining_reads r away i j; small = omega (arith, word_small f, b1); word = λ g. not_word (gives_word n1) (node_bound (word_bound f) (bounds_of f ns) n1) (word_bound f) (joining-word away i j) g }) in
+    let b1 : node_bound f (bounds_of f ns) n1 ≡ word_bound f + word_bound f = joining-bound f ns away i j (word_bound f) (word_bound f) (h.words i v) (h.words j w) in
+    let h1 : AreSound f r a = sound_more f r ns n1 h (record { backwards = joining_below (length ns) away i j (names_word-below ns i v) (names_word-below ns j w); reads = joining_reads r away i j; small = omega (arith, word_small f, b1); word = λ g. not_word (gives_word n1) (node_bound f (bounds_of f ns) n1) (word_bound f) (joining-word away i j) g }) in
     let h2 : AreSound f r (put a n2) = sound_more f r a n2 h1 (record { backwards = omega arith; reads = tt; small = omega (arith, word_small f); word = λ g. refl }) in
     record {
       sound = h2;

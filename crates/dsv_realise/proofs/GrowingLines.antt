@@ -1,16 +1,16 @@
--- Lines and chains of words by small coefficients are nodes of a netlist.
-use Rattle.std.proofs.Common.{◌≡◌, ℕ, ◌+◌, ◌*◌, ◌<◌, Bool, true, false, List, [], ◌∷◌, ◌++◌, length, refl, subst, arith, add-zero}
+-- Lines of words by small coefficients that are summed in words are nodes of a netlist.
+use Rattle.std.proofs.Common.{◌≡◌, ℕ, ◌+◌, ◌<◌, Bool, true, false, List, [], ◌∷◌, ◌++◌, length, refl, subst, arith, add-zero}
 use Rattle.std.specs.List.{All}
 use Rattle.std.proofs.Math.IntN.{ℤ}
-use Rattle.std.proofs.lemmas.List.{length_push}
 use Rattle.std.proofs.lemmas.List.Elements.{All-head, All-tail}
 use Rattle.dsv_word.specs.declared.format.Format.{Format}
 use Rattle.dsv_netlist.specs.declared.node.Node.{Node}
 use Rattle.dsv_netlist.specs.Conditions.{names_word}
-use Rattle.dsv_quantiser.specs.QuantisedView.{QuantisedView}
-use Rattle.dsv_meaning.specs.Lines.{Summand, Times, Alone, summands}
-use Rattle.dsv_meaning.specs.Equations.{first_alone, transposed_line, delta_line}
-use Rattle.dsv_realise.specs.Making.{Made, with_product, with_sum, with_first, with_next, with_summands, with_line, Chained, no_places, with_place, with_transposed, with_delta, with_transposed_delta}
+use Rattle.dsv_meaning.specs.declared.summands.Summand.{Summand}
+use Rattle.dsv_meaning.specs.declared.summands.Summand.TheVariants.{Times, Alone}
+use Rattle.dsv_meaning.specs.Lines.{summands}
+use Rattle.dsv_meaning.specs.Equations.{first_alone}
+use Rattle.dsv_realise.specs.Making.{Made, with_product, with_sum, with_first, with_next, with_summands, with_narrow_line}
 use Rattle.dsv_realise.proofs.Growing.{AreSound, HasCounts, IsSmall, Grown, product_grows, sum_grows}
 
 -- a summand of a word among these nodes, by a small coefficient
@@ -48,7 +48,7 @@ next_grows f r old m p s (Alone i) g k =
 pub recounted : (f : Format) (r : ℕ) (old : List Node) (m : Made) (p s p2 s2 : ℕ) → p ≡ p2 → s ≡ s2 → Grown f r old m p s → Grown f r old m p2 s2
 recounted f r old m p s p2 s2 e d g = subst (λ (j : ℕ). Grown f r old m j s2) e (subst (λ (j : ℕ). Grown f r old m p j) d g)
 
-products_in-cons : (t : Summand ℕ) (ts : List (Summand ℕ)) → products_in (t ∷ ts) ≡ products_in (t ∷ []) + products_in ts
+pub products_in-cons : (t : Summand ℕ) (ts : List (Summand ℕ)) → products_in (t ∷ ts) ≡ products_in (t ∷ []) + products_in ts
 products_in-cons (Times away c i) ts = refl
 products_in-cons (Alone i) ts = omega arith
 
@@ -59,10 +59,10 @@ summands_grow f r old m p s (t ∷ ts) g k =
     recounted f r old (with_summands (with_next m t) ts) (p + one + products_in ts) (s + 1 + length ts) (p + products_in (t ∷ ts)) (s + length (t ∷ ts)) (omega (arith, products_in-cons t ts)) (omega arith)
     (summands_grow f r old (with_next m t) (p + one) (s + 1) ts (next_grows f r old m p s t g k.0) k.1)
 
-pub line_grows : (f : Format) (r : ℕ) (ns : List Node) (p s p2 s2 : ℕ) (ts : List (Summand ℕ)) → AreSound f r ns → HasCounts r ns p s → AreFit ns ts → p + products_in ts ≡ p2 → s + length ts ≡ s2 + 1 → 0 < length ts
-    → Grown f r ns (with_line ns ts) p2 s2
-line_grows f r ns p s p2 s2 [] h u k e d l = absurd (omega arith)
-line_grows f r ns p s p2 s2 (t ∷ ts) h u k e d l =
+pub narrow_grows : (f : Format) (r : ℕ) (ns : List Node) (p s p2 s2 : ℕ) (ts : List (Summand ℕ)) → AreSound f r ns → HasCounts r ns p s → AreFit ns ts → p + products_in ts ≡ p2 → s + length ts ≡ s2 + 1 → 0 < length ts
+    → Grown f r ns (with_narrow_line ns ts) p2 s2
+narrow_grows f r ns p s p2 s2 [] h u k e d l = absurd (omega arith)
+narrow_grows f r ns p s p2 s2 (t ∷ ts) h u k e d l =
     let one = products_in (t ∷ []) in
     recounted f r ns (with_summands (with_first ns t) ts) (p + one + products_in ts) (s + length ts) p2 s2 (omega (arith, products_in-cons t ts)) (omega arith)
     (summands_grow f r ns (with_first ns t) (p + one) s ts (first_grows f r ns p s t h u k.0) k.1)
@@ -102,7 +102,7 @@ pub named_later : (ns ms : List Node) (ks : List ℕ) → ((k : ℕ) → names_w
 named_later ns ms [] e h = tt
 named_later ns ms (k ∷ ks) e h = (e k h.0, named_later ns ms ks e h.1)
 
-named_push : (ns : List Node) (ks : List ℕ) (k : ℕ) → AllNamed ns ks → names_word ns k ≡ true → AllNamed ns (ks ++ k ∷ [])
+pub named_push : (ns : List Node) (ks : List ℕ) (k : ℕ) → AllNamed ns ks → names_word ns k ≡ true → AllNamed ns (ks ++ k ∷ [])
 named_push ns [] k h e = (e, tt)
 named_push ns (j ∷ js) k h e = (h.0, named_push ns js k h.1 e)
 
@@ -113,87 +113,3 @@ named_both ns (k ∷ ks) js h g = (h.0, named_both ns ks js h.1 g)
 pub alone_fit : (ns : List Node) (ks : List ℕ) → AllNamed ns ks → AreFit ns (first_alone ks)
 alone_fit ns [] h = tt
 alone_fit ns (k ∷ ks) h = (h.0, tt)
-
--- ---- chains
--- what a chain's nodes are beyond older ones, with so many new words
-pub record GrownChain (f : Format) (r : ℕ) (old : List Node) (c : Chained) (p s n : ℕ) : Type 0 where
-  pub sound : AreSound f r c.nodes
-  pub counts : HasCounts r c.nodes p s
-  pub keeps : (k : ℕ) → names_word old k ≡ true → names_word c.nodes k ≡ true
-  pub named : AllNamed c.nodes c.places
-  pub many : length c.places ≡ n
-
--- a chain before its first line
-pub chain_begins : (f : Format) (r : ℕ) (ns : List Node) (p s : ℕ) → AreSound f r ns → HasCounts r ns p s → GrownChain f r ns (no_places ns) p s 0
-chain_begins f r ns p s h u = record { sound = h; counts = u; keeps = λ k e. e; named = tt; many = refl }
-
-chain_grows : (f : Format) (r : ℕ) (old : List Node) (c : Chained) (p s p2 s2 n : ℕ) (m : Made) → GrownChain f r old c p s n → Grown f r c.nodes m p2 s2 → GrownChain f r old (with_place c m) p2 s2 (n + 1)
-chain_grows f r old c p s p2 s2 n m g h =
-    record {
-      sound = h.sound;
-      counts = h.counts;
-      keeps = λ k e. h.keeps k (g.keeps k e);
-      named = named_push m.nodes c.places m.place (named_later c.nodes m.nodes c.places h.keeps g.named) h.place;
-      many = omega (arith, g.many, length_push c.places m.place);
-    }
-
-rechained : (f : Format) (r : ℕ) (old : List Node) (c : Chained) (p s n p2 s2 n2 : ℕ) → p ≡ p2 → s ≡ s2 → n ≡ n2 → GrownChain f r old c p s n → GrownChain f r old c p2 s2 n2
-rechained f r old c p s n p2 s2 n2 e d b g = subst (λ (j : ℕ). GrownChain f r old c j s2 n2) e (subst (λ (j : ℕ). GrownChain f r old c p j n2) d (subst (λ (j : ℕ). GrownChain f r old c p s j) b g))
-
-transposed_line_grows : (f : Format) (r : ℕ) (ns : List Node) (p s : ℕ) (b a : ℤ) (x y : ℕ) (ks : List ℕ) → AreSound f r ns → HasCounts r ns p s → IsSmall b → IsSmall a → names_word ns x ≡ true → names_word ns y ≡ true → AllNamed ns ks
-    → Grown f r ns (with_line ns (transposed_line b a x y ks)) (p + 2) (s + 1 + length (first_alone ks))
-transposed_line_grows f r ns p s b a x y ks h u sb sa wx wy wk =
-    line_grows f r ns p s (p + 2) (s + 1 + length (first_alone ks)) (transposed_line b a x y ks) h u ((sb, wx), ((sa, wy), alone_fit ns ks wk)) (omega (arith, products_in-alone ks)) (omega arith) (omega arith)
-
--- a transposed chain has 2 N products; with the sum of s_1 before it, 2 N sums
-pub transposed_grows : (f : Format) (r : ℕ) (old : List Node) (x y : ℕ) (bs as_ : List ℤ) (ks : List ℕ) (c : Chained) (p s n p2 s2 n2 : ℕ)
-    → GrownChain f r old c p s n → names_word old x ≡ true → names_word old y ≡ true → AllNamed old ks → All IsSmall bs → All IsSmall as_
-    → length bs ≡ length as_ → length ks ≡ length as_ → p + 2 * length as_ ≡ p2 → s + 2 * length as_ ≡ s2 + length (first_alone ks) → n + length as_ ≡ n2
-    → GrownChain f r old (with_transposed x y bs as_ ks c) p2 s2 n2
-transposed_grows f r old x y (b ∷ bs) (a ∷ cs) [] c p s n p2 s2 n2 g wx wy wk sb sa e d ep es en = absurd (omega arith)
-transposed_grows f r old x y (b ∷ bs) (a ∷ cs) (k ∷ ks) c p s n p2 s2 n2 g wx wy wk sb sa e d ep es en =
-    let m = with_line c.nodes (transposed_line b a x y ks) in
-    let h = transposed_line_grows f r c.nodes p s b a x y ks g.sound g.counts (All-head IsSmall b bs sb) (All-head IsSmall a cs sa) (g.keeps x wx) (g.keeps y wy) (named_later old c.nodes ks g.keeps wk.1) in
-    transposed_grows f r old x y bs cs ks (with_place c m) (p + 2) (s + 1 + length (first_alone ks)) (n + 1) p2 s2 n2 (chain_grows f r old c p s (p + 2) (s + 1 + length (first_alone ks)) n m g h)
-    wx wy wk.1 (All-tail IsSmall b bs sb) (All-tail IsSmall a cs sa) (omega arith) (omega arith) (omega arith) (omega arith) (omega arith)
-transposed_grows f r old x y [] [] [] c p s n p2 s2 n2 g wx wy wk sb sa e d ep es en = rechained f r old c p s n p2 s2 n2 (omega arith) (omega arith) (omega arith) g
-transposed_grows f r old x y [] [] (k ∷ ks) c p s n p2 s2 n2 g wx wy wk sb sa e d ep es en = absurd (omega arith)
-transposed_grows f r old x y [] (a ∷ cs) ks c p s n p2 s2 n2 g wx wy wk sb sa e d ep es en = absurd (omega arith)
-transposed_grows f r old x y (b ∷ bs) [] ks c p s n p2 s2 n2 g wx wy wk sb sa e d ep es en = absurd (omega arith)
-
-delta_line_grows : (q : QuantisedView) (r : ℕ) (ns : List Node) (p s : ℕ) (w v : ℕ) → AreSound q.format r ns → HasCounts r ns p s → IsSmall q.delta → names_word ns w ≡ true → names_word ns v ≡ true
-    → Grown q.format r ns (with_line ns (delta_line q w v)) (p + 1) (s + 1)
-delta_line_grows q r ns p s w v h u sd ww wv =
-    line_grows q.format r ns p s (p + 1) (s + 1) (delta_line q w v) h u (ww, ((sd, wv), tt)) (omega arith) (omega arith) (omega arith)
-
--- a chain of a delta form has N products and N sums
-pub delta_grows : (q : QuantisedView) (r : ℕ) (old : List Node) (before : ℕ) (ks : List ℕ) (c : Chained) (p s n p2 s2 n2 : ℕ)
-    → GrownChain q.format r old c p s n → IsSmall q.delta → names_word old before ≡ true → AllNamed old ks
-    → p + length ks ≡ p2 → s + length ks ≡ s2 → n + length ks ≡ n2
-    → GrownChain q.format r old (with_delta q before ks c) p2 s2 n2
-delta_grows q r old before [] c p s n p2 s2 n2 g sd wb wk ep es en = rechained q.format r old c p s n p2 s2 n2 (omega arith) (omega arith) (omega arith) g
-delta_grows q r old before (k ∷ ks) c p s n p2 s2 n2 g sd wb wk ep es en =
-    let m = with_line c.nodes (delta_line q k before) in
-    let h = delta_line_grows q r c.nodes p s k before g.sound g.counts sd (g.keeps k wk.0) (g.keeps before wb) in
-    delta_grows q r old k ks (with_place c m) (p + 1) (s + 1) (n + 1) p2 s2 n2 (chain_grows q.format r old c p s (p + 1) (s + 1) n m g h) sd wk.0 wk.1 (omega arith) (omega arith) (omega arith)
-
--- that of the transposed delta form has 3 N products; with the sum of s_1 before it, 3 N sums
-pub transposed_delta_grows : (q : QuantisedView) (r : ℕ) (old : List Node) (x y : ℕ) (bs as_ : List ℤ) (ks : List ℕ) (c : Chained) (p s n p2 s2 n2 : ℕ)
-    → GrownChain q.format r old c p s n → IsSmall q.delta → names_word old x ≡ true → names_word old y ≡ true → AllNamed old ks → All IsSmall bs → All IsSmall as_
-    → length bs ≡ length as_ → length ks ≡ length as_ → p + 3 * length as_ ≡ p2 → s + 3 * length as_ ≡ s2 + length (first_alone ks) → n + length as_ ≡ n2
-    → GrownChain q.format r old (with_transposed_delta q x y bs as_ ks c) p2 s2 n2
-transposed_delta_grows q r old x y (b ∷ bs) (a ∷ cs) [] c p s n p2 s2 n2 g sd wx wy wk sb sa e d ep es en = absurd (omega arith)
-transposed_delta_grows q r old x y (b ∷ bs) (a ∷ cs) (k ∷ ks) c p s n p2 s2 n2 g sd wx wy wk sb sa e d ep es en =
-    let f = q.format in
-    let t = with_line c.nodes (transposed_line b a x y ks) in
-    let s1 = s + 1 + length (first_alone ks) in
-    let h = transposed_line_grows f r c.nodes p s b a x y ks g.sound g.counts (All-head IsSmall b bs sb) (All-head IsSmall a cs sa) (g.keeps x wx) (g.keeps y wy) (named_later old c.nodes ks g.keeps wk.1) in
-    let m = with_line t.nodes (delta_line q k t.place) in
-    let i = delta_line_grows q r t.nodes (p + 2) s1 k t.place h.sound h.counts sd (h.keeps k (g.keeps k wk.0)) h.place in
-    let both : Grown f r c.nodes m (p + 2 + 1) (s1 + 1) = record { sound = i.sound; counts = i.counts; keeps = λ j u. i.keeps j (h.keeps j u); place = i.place } in
-    transposed_delta_grows q r old x y bs cs ks (with_place c m) (p + 2 + 1) (s1 + 1) (n + 1) p2 s2 n2 (chain_grows f r old c p s (p + 2 + 1) (s1 + 1) n m g both)
-    sd wx wy wk.1 (All-tail IsSmall b bs sb) (All-tail IsSmall a cs sa) (omega arith) (omega arith) (omega arith) (omega arith) (omega arith)
-transposed_delta_grows q r old x y [] [] [] c p s n p2 s2 n2 g sd wx wy wk sb sa e d ep es en = rechained q.format r old c p s n p2 s2 n2 (omega arith) (omega arith) (omega arith) g
-transposed_delta_grows q r old x y [] [] (k ∷ ks) c p s n p2 s2 n2 g sd wx wy wk sb sa e d ep es en = absurd (omega arith)
-transposed_delta_grows q r old x y [] (a ∷ cs) ks c p s n p2 s2 n2 g sd wx wy wk sb sa e d ep es en = absurd (omega arith)
-transposed_delta_grows q r old x y (b ∷ bs) [] ks c p s n p2 s2 n2 g sd wx wy wk sb sa e d ep es en = absurd (omega arith)

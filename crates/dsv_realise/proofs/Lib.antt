@@ -5,6 +5,7 @@ pub mod DeltaSteps
 pub mod FirstForm
 pub mod Follow
 pub mod Growing
+pub mod GrowingChains
 pub mod GrowingLines
 pub mod LineNodes
 pub mod Numbers
@@ -15,4 +16,6 @@ pub mod Samples
 pub mod SecondForm
 pub mod Sources
 pub mod Steps
+pub mod Totals
 pub mod Whole
+pub mod WideLines

@@ -4,8 +4,10 @@ use Rattle.std.proofs.Math.IntN.{ℤ, ◌+ℤ◌}
 use Rattle.dsv_word.specs.declared.format.Format.{Format}
 use Rattle.dsv_netlist.specs.declared.node.Node.{Node}
 use Rattle.dsv_netlist.specs.Nodes.{at}
-use Rattle.dsv_meaning.specs.Lines.{Summand, Times, Alone, summands, Sum, fitted_value, product, joined_value, first_summand, next_summand, next_summands, line}
-use Rattle.dsv_realise.specs.Making.{Made, with_product, with_sum, with_first, with_next, with_summands, with_line}
+use Rattle.dsv_meaning.specs.declared.summands.Summand.{Summand}
+use Rattle.dsv_meaning.specs.declared.summands.Summand.TheVariants.{Times, Alone}
+use Rattle.dsv_meaning.specs.Lines.{summands, Sum, fitted_value, product, joined_value, first_summand, next_summand, next_summands, narrow_line}
+use Rattle.dsv_realise.specs.Making.{Made, with_product, with_sum, with_first, with_next, with_summands, with_narrow_line}
 use Rattle.dsv_realise.proofs.Samples.{IsAt, Gives, Keeps, keeps_self, keeps_both, product_gives, sum_gives}
 
 -- the summand with the words in place of the nodes
@@ -21,7 +23,7 @@ abbrev pub AreOver : ℕ → List (Summand ℕ) → Type 0
 AreOver n [] = Unit {0}
 AreOver n (t ∷ ts) = IsOver n t × AreOver n ts
 
-after : (f : Format) (rs : List ℤ) (x : ℤ) (us vs : List ℤ) (m : Made) (s : Sum) → Keeps us vs → Gives f rs x vs m s → Gives f rs x us m s
+pub after : (f : Format) (rs : List ℤ) (x : ℤ) (us vs : List ℤ) (m : Made) (s : Sum) → Keeps us vs → Gives f rs x vs m s → Gives f rs x us m s
 after f rs x us vs m s k g = record { now = g.now; stands = g.stands; keeps = keeps_both us vs g.now k g.keeps; within = g.within; value = g.value }
 
 first_gives : (f : Format) (rs : List ℤ) (x : ℤ) (ns : List Node) (vs es : List ℤ) (t : Summand ℕ) → IsAt f rs x ns vs es → IsOver (length vs) t → Gives f rs x vs (with_first ns t) (first_summand f es (in_words vs t))
@@ -43,9 +45,10 @@ summands_give : (f : Format) (rs : List ℤ) (x : ℤ) (vs : List ℤ) (m : Made
 summands_give f rs x vs m s [] g o = g
 summands_give f rs x vs m s (t ∷ ts) g o = summands_give f rs x vs (with_next m t) (next_summand f s (in_words vs t)) ts (next_gives f rs x vs m s t g o.0) o.1
 
--- the nodes of a line give the line over the words
-pub line_gives : (f : Format) (rs : List ℤ) (x : ℤ) (ns : List Node) (vs es : List ℤ) (t : Summand ℕ) (ts : List (Summand ℕ)) → IsAt f rs x ns vs es → AreOver (length vs) (t ∷ ts) → Gives f rs x vs (with_line ns (t ∷ ts)) (line f es (map (in_words vs) (t ∷ ts)))
-line_gives f rs x ns vs es t ts h o = summands_give f rs x vs (with_first ns t) (first_summand f es (in_words vs t)) ts (first_gives f rs x ns vs es t h o.0) o.1
+-- the nodes of a line that is summed in words give the line over the words
+pub narrow_gives : (f : Format) (rs : List ℤ) (x : ℤ) (ns : List Node) (vs es : List ℤ) (ts : List (Summand ℕ)) → 0 < length ts → IsAt f rs x ns vs es → AreOver (length vs) ts → Gives f rs x vs (with_narrow_line ns ts) (narrow_line f es (map (in_words vs) ts))
+narrow_gives f rs x ns vs es [] l h o = absurd (omega arith)
+narrow_gives f rs x ns vs es (t ∷ ts) l h o = summands_give f rs x vs (with_first ns t) (first_summand f es (in_words vs t)) ts (first_gives f rs x ns vs es t h o.0) o.1
 
 pub in_words-summands : (vs : List ℤ) (away : Bool) (cs : List ℤ) (g : ℕ → ℕ) (k : ℕ) → map (in_words vs) (summands away cs g k) ≡ summands away cs (λ i. at vs (g i)) k
 in_words-summands vs away [] g k = refl
@@ -69,10 +72,6 @@ over_both n (t ∷ ts) us a b = (a.0, over_both n ts us a.1 b)
 pub length-summands : {A : Type 0} → (away : Bool) (cs : List ℤ) (g : ℕ → A) (k : ℕ) → length (summands away cs g k) ≡ length cs
 length-summands away [] g k = refl
 length-summands away (c ∷ cs) g k = ap suc (length-summands away cs g (k + 1))
-
-pub some_line_gives : (f : Format) (rs : List ℤ) (x : ℤ) (ns : List Node) (vs es : List ℤ) (ts : List (Summand ℕ)) → 0 < length ts → IsAt f rs x ns vs es → AreOver (length vs) ts → Gives f rs x vs (with_line ns ts) (line f es (map (in_words vs) ts))
-some_line_gives f rs x ns vs es [] l h o = absurd (omega arith)
-some_line_gives f rs x ns vs es (t ∷ ts) l h o = line_gives f rs x ns vs es t ts h o
 
 pub over_any_summands : (n : ℕ) (away : Bool) (cs : List ℤ) (g : ℕ → ℕ) (k : ℕ) → ((i : ℕ) → i < length cs → g (k + i) < n) → AreOver n (summands away cs g k)
 over_any_summands n away [] g k h = tt

@@ -4,20 +4,23 @@ use Rattle.std.proofs.Math.IntN.{ℤ}
 use Rattle.std.proofs.lemmas.List.{length-take-le}
 use Rattle.dsv_netlist.specs.Nodes.{at}
 use Rattle.dsv_quantiser.specs.QuantisedView.{QuantisedView}
-use Rattle.dsv_meaning.specs.Lines.{Summand, Alone, Sum, line}
-use Rattle.dsv_meaning.specs.Equations.{order, feedback, ago, forward_summands, feedback_summands}
+use Rattle.dsv_meaning.specs.declared.summands.Summand.{Summand}
+use Rattle.dsv_meaning.specs.declared.summands.Summand.TheVariants.{Alone}
+use Rattle.dsv_meaning.specs.Lines.{Sum}
+use Rattle.dsv_meaning.specs.Equations.{line_of, order, feedback, ago, forward_summands, feedback_summands}
 use Rattle.dsv_realise.specs.Netlists.{sources, newest_at, second_form_state, second_form}
 use Rattle.dsv_realise.proofs.Samples.{Gives}
-use Rattle.dsv_realise.proofs.LineNodes.{in_words, AreOver, in_words-summands, same_summands, over_summands, over_any_summands, line_gives, some_line_gives, length-summands}
+use Rattle.dsv_realise.proofs.LineNodes.{in_words, AreOver, in_words-summands, same_summands, over_summands, over_any_summands, length-summands}
+use Rattle.dsv_realise.proofs.WideLines.{line_gives}
 use Rattle.dsv_realise.proofs.Sources.{IsSized, sources_give, at_state}
 
 -- w_0
 abbrev pub state_sum : QuantisedView → ℤ → List ℤ → Sum
-state_sum q x ws = line q.format [] (Alone x ∷ feedback_summands q (ago ws) 0)
+state_sum q x ws = line_of q [] (Alone x ∷ feedback_summands q (ago ws) 0)
 
 -- y
 abbrev pub second_sum : QuantisedView → ℤ → List ℤ → Sum
-second_sum q x ws = line q.format (state_sum q x ws).exact (forward_summands q (ago ((state_sum q x ws).value ∷ ws)))
+second_sum q x ws = line_of q (state_sum q x ws).exact (forward_summands q (ago ((state_sum q x ws).value ∷ ws)))
 
 pub state_gives : (q : QuantisedView) (x : ℤ) (ws : List ℤ) → IsSized q → order q ≤ length ws
     → Gives q.format (take (order q) ws) x (x ∷ take (order q) ws) (second_form_state q) (state_sum q x ws)
@@ -28,11 +31,11 @@ state_gives q x ws s h =
     let vs = x ∷ rs in
     let as_ = feedback_summands q (λ (i : ℕ). i) 1 in
     let lr : length rs ≡ n = length-take-le n ws h in
-    let made = line_gives f rs x (sources n) vs [] (Alone 0) as_ (sources_give f rs x n lr) (omega arith, over_summands (length vs) true (feedback q) 1 (omega (arith, s.back))) in
+    let made = line_gives q rs x (sources n) vs [] (Alone 0 ∷ as_) (omega arith) (sources_give f rs x n lr) (omega arith, over_summands (length vs) true (feedback q) 1 (omega (arith, s.back))) in
     let e : map (in_words vs) as_ ≡ feedback_summands q (ago ws) 0 =
     in_words-summands vs true (feedback q) (λ (i : ℕ). i) 1
     ∙ same_summands true (feedback q) (at vs) (ago ws) 1 0 (λ i l. let z : i ≡ 0 + i = omega arith in at_state n i x ws (omega (arith, s.back)) ∙ ap (ago ws) z) in
-    subst (λ (ts : List (Summand ℤ)). Gives f rs x vs (second_form_state q) (line f [] (Alone x ∷ ts))) e made
+    subst (λ (ts : List (Summand ℤ)). Gives f rs x vs (second_form_state q) (line_of q [] (Alone x ∷ ts))) e made
 
 newest_words : (n : ℕ) (ws : List ℤ) (x : ℤ) (now : List ℤ) (w : ℤ) (p : ℕ) → length (take n ws) ≡ n → at now p ≡ w → ((i : ℕ) → i < length (x ∷ take n ws) → at now i ≡ at (x ∷ take n ws) i)
     → (i : ℕ) → i < n + 1 → at now (newest_at p i) ≡ ago (w ∷ ws) i
@@ -57,6 +60,6 @@ second_gives q x ws s h g =
     let bs = forward_summands q ids in
     let o : AreOver (length g.now) bs = over_any_summands (length g.now) false q.b ids 0 (λ i l. newest_over p n (length g.now) (0 + i) g.within (omega (arith, g.keeps.longer)) (omega (arith, s.forward))) in
     let some : 0 < length bs = omega (arith, s.forward, length-summands false q.b ids 0) in
-    let made = some_line_gives f rs x (second_form_state q).nodes g.now w.exact bs some g.stands o in
+    let made = line_gives q rs x (second_form_state q).nodes g.now w.exact bs some g.stands o in
     let e : map (in_words g.now) bs ≡ forward_summands q (ago (w.value ∷ ws)) = in_words-summands g.now false q.b ids 0 ∙ same_summands false q.b (λ i. at g.now (ids i)) (ago (w.value ∷ ws)) 0 0 (λ i l. newest (0 + i) (omega (arith, s.forward))) in
-    subst (λ (ts : List (Summand ℤ)). Gives f rs x g.now (second_form q) (line f w.exact ts)) e made
+    subst (λ (ts : List (Summand ℤ)). Gives f rs x g.now (second_form q) (line_of q w.exact ts)) e made

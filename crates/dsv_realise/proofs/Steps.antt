@@ -6,8 +6,7 @@ use Rattle.dsv_netlist.specs.Nodes.{at, sample_of}
 use Rattle.dsv_names.specs.declared.realisation.Realisation.{Realisation}
 use Rattle.dsv_names.specs.declared.realisation.Realisation.TheVariants.{Dfi, Dfii, Tdfii, Ddfi, Ddfii, Tddfii}
 use Rattle.dsv_quantiser.specs.QuantisedView.{QuantisedView}
-use Rattle.dsv_meaning.specs.Lines.{line}
-use Rattle.dsv_meaning.specs.Equations.{order, feedback, ago, Past, latest, transposed_output, Chain, no_words, transposed_chain, transposed_delta_chain, sample_as, registers_as}
+use Rattle.dsv_meaning.specs.Equations.{line_of, order, feedback, ago, Past, latest, transposed_output, Chain, no_words, transposed_chain, transposed_delta_chain, sample_as, registers_as}
 use Rattle.dsv_realise.specs.Making.{Chained, no_places}
 use Rattle.dsv_realise.specs.Netlists.{count, shift, first_form, second_form_state, second_form, transposed_form, transposed_nodes, transposed_delta_nodes, net_as}
 use Rattle.dsv_realise.proofs.Samples.{Gives}
@@ -74,20 +73,20 @@ dfii_follows q p x s h =
 
 -- a sample whose output is that of a transposed form, with these nodes and this chain after it
 record StepsAs (q : QuantisedView) (s : List ℤ) (x : ℤ) (m : Chained) (c : Chain) : Type 0 where
-  y : at (sample_of q.format s x m.nodes).values (transposed_form q).place ≡ (line q.format [] (transposed_output q x s)).value
+  y : at (sample_of q.format s x m.nodes).values (transposed_form q).place ≡ (line_of q [] (transposed_output q x s)).value
   exact : (sample_of q.format s x m.nodes).exact ≡ c.exact
   after : map (at (sample_of q.format s x m.nodes).values) m.places ≡ c.words
 
 transposed_steps : (q : QuantisedView) (s : List ℤ) (x : ℤ) → IsSized q → length s ≡ order q → (m : Chained) (chain : ℤ → ℤ → List ℤ → Chain → Chain)
     → ((vs : List ℤ) (c : Chain) → GivesChain q.format s x vs (no_places (transposed_form q).nodes) c → 0 < length vs → (transposed_form q).place < length vs → AreBelow (length vs) (count 1 (order q))
     → GivesChain q.format s x vs m (chain (at vs 0) (at vs (transposed_form q).place) (map (at vs) (count 1 (order q))) c))
-    → StepsAs q s x m (chain x (line q.format [] (transposed_output q x s)).value s (no_words (line q.format [] (transposed_output q x s)).exact))
+    → StepsAs q s x m (chain x (line_of q [] (transposed_output q x s)).value s (no_words (line_of q [] (transposed_output q x s)).exact))
 transposed_steps q s x z l m chain gives =
     let f = q.format in
     let vs = x ∷ s in
     let ks = count 1 (order q) in
     let bk : AreBelow (length vs) ks = below_count (length vs) 1 (order q) (omega arith) in
-    let y = line f [] (transposed_output q x s) in
+    let y = line_of q [] (transposed_output q x s) in
     let yp = (transposed_form q).place in
     let gy : Gives f s x vs (transposed_form q) y = output_gives q x s z l in
     let start = no_words y.exact in
@@ -106,7 +105,7 @@ transposed_steps q s x z l m chain gives =
 pub tdfii_follows : (q : QuantisedView) (p : Past) (x : ℤ) → IsSized q → HasRegisters Tdfii (order q) p → FollowsAs Tdfii q p x
 tdfii_follows q p x z l =
     let s = latest p.chain in
-    let y = line q.format [] (transposed_output q x s) in
+    let y = line_of q [] (transposed_output q x s) in
     let start = no_places (transposed_form q).nodes in
     let chain = λ (u v : ℤ) (w : List ℤ) (c : Chain). transposed_chain q u v (drop 1 q.b) (feedback q) w c in
     let g = transposed_steps q s x z l (transposed_nodes q) chain (λ vs c g i j h. transposed_gives q s x vs 0 (transposed_form q).place (drop 1 q.b) (feedback q) (count 1 (order q)) start c g i j h) in
@@ -120,7 +119,7 @@ tdfii_follows q p x z l =
 pub tddfii_follows : (q : QuantisedView) (p : Past) (x : ℤ) → IsSized q → HasRegisters Tddfii (order q) p → FollowsAs Tddfii q p x
 tddfii_follows q p x z l =
     let s = latest p.chain in
-    let y = line q.format [] (transposed_output q x s) in
+    let y = line_of q [] (transposed_output q x s) in
     let start = no_places (transposed_form q).nodes in
     let chain = λ (u v : ℤ) (w : List ℤ) (c : Chain). transposed_delta_chain q u v (drop 1 q.b) (feedback q) w c in
     let g = transposed_steps q s x z l (transposed_delta_nodes q) chain (λ vs c g i j h. transposed_delta_gives q s x vs 0 (transposed_form q).place (drop 1 q.b) (feedback q) (count 1 (order q)) start c g i j h) in

@@ -7,10 +7,10 @@ use Rattle.dsv_quantiser.specs.QuantisedView.{QuantisedView}
 use Rattle.dsv_netlist.specs.declared.node.Node.{Node}
 use Rattle.dsv_netlist.specs.declared.node.Node.TheVariants.{Input, Reg}
 use Rattle.dsv_netlist.specs.Nodes.{Net}
-use Rattle.dsv_meaning.specs.Lines.{Alone}
+use Rattle.dsv_meaning.specs.declared.summands.Summand.TheVariants.{Alone}
 use Rattle.dsv_meaning.specs.Equations.{order, feedback, forward_summands, feedback_summands}
 use Rattle.dsv_meaning.specs.Equations.{transposed_output, forward_registers_of}
-use Rattle.dsv_realise.specs.Making.{Made, with_line, Chained, no_places}
+use Rattle.dsv_realise.specs.Making.{Made, line_nodes, Chained, no_places}
 use Rattle.dsv_realise.specs.Making.{with_transposed, with_delta, with_transposed_delta}
 
 -- ---- the nodes that every netlist begins with
@@ -43,27 +43,27 @@ newest_at p (suc i) = suc i
 -- y = b_0 x + .. + b_N x_N - a_1 y_1 - .. - a_N y_N, with x_1 to x_N in the first registers and
 -- then y_1 to y_N
 abbrev pub first_form : QuantisedView → Made
-first_form q = with_line (sources (order q + order q))
+first_form q = line_nodes q (sources (order q + order q))
     (forward_summands q (λ i. i) ++ feedback_summands q (λ i. i) (order q + 1))
 
 -- w_0 = x - a_1 w_1 - .. - a_N w_N, with w_1 to w_N in the registers
 abbrev pub second_form_state : QuantisedView → Made
-second_form_state q = with_line (sources (order q)) (Alone 0 ∷ feedback_summands q (λ i. i) 1)
+second_form_state q = line_nodes q (sources (order q)) (Alone 0 ∷ feedback_summands q (λ i. i) 1)
 
 -- y = b_0 w_0 + .. + b_N w_N after it
 abbrev pub second_form : QuantisedView → Made
-second_form q = with_line (second_form_state q).nodes
+second_form q = line_nodes q (second_form_state q).nodes
     (forward_summands q (newest_at (second_form_state q).place))
 
 -- y = b_0 x + s_1, with s_1 to s_N in the registers
 abbrev pub transposed_form : QuantisedView → Made
-transposed_form q = with_line (sources (order q)) (transposed_output q 0 (count 1 (order q)))
+transposed_form q = line_nodes q (sources (order q)) (transposed_output q 0 (count 1 (order q)))
 
 -- ---- what stands after them: the nodes of all new words of the registers
 abbrev pub transposed_nodes : QuantisedView → Chained
 transposed_nodes q =
     let y = transposed_form q in
-    with_transposed 0 y.place (drop 1 q.b) (feedback q) (count 1 (order q)) (no_places y.nodes)
+    with_transposed q 0 y.place (drop 1 q.b) (feedback q) (count 1 (order q)) (no_places y.nodes)
 
 -- the new words of x_1 to x_N, each with delta times the one before it
 abbrev pub delta_inputs : QuantisedView → Chained

@@ -1,11 +1,12 @@
 -- Serves private contracts: what a netlist is put together from.
-use Rattle.std.specs.Prelude.{ℕ, List, [], ◌∷◌, Option, Some, None}
+use Rattle.std.specs.Prelude.{ℕ, Bool, true, not, List, [], ◌∷◌}
 use Rattle.dsv_names.specs.declared.realisation.Realisation.{Realisation}
 use Rattle.dsv_quantiser.specs.QuantisedView.{QuantisedView}
 use Rattle.dsv_netlist.specs.Nodes.{Net}
 use Rattle.dsv_realise.specs.declared.parts.BuiltLine.{BuiltLine}
 use Rattle.dsv_realise.specs.declared.parts.Parts.{Parts}
-use Rattle.dsv_realise.specs.Making.{Made}
+use Rattle.dsv_meaning.specs.declared.summands.Summand.{Summand}
+use Rattle.dsv_realise.specs.Making.{Made, is_away}
 use Rattle.dsv_realise.specs.Netlists.{net_with}
 
 -- the most nodes after a netlist's first line, after its second, and before the new words of its
@@ -28,7 +29,7 @@ line_made form = record { nodes = form.nodes.items; place = form.place }
 abbrev pub parts_as : Realisation → QuantisedView → Parts → Net
 parts_as realisation q p = net_with q realisation p.nodes.items p.next.items p.output
 
--- the node of the word after a word of a chain, if there is one
-abbrev pub successor_of : Option ℕ → List ℕ
-successor_of None = []
-successor_of (Some k) = k ∷ []
+-- the first summand isn't taken away
+abbrev pub begins_added : List (Summand ℕ) → Bool
+begins_added [] = true
+begins_added (t ∷ ts) = not (is_away t)

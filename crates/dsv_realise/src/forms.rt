@@ -5,8 +5,10 @@ ghost use Rattle.dsv_realise.specs.Netlists.{first_form, second_form_state};
 ghost use Rattle.dsv_realise.specs.Netlists.{second_form, transposed_form};
 ghost use Rattle.dsv_realise.specs.Parts.{line_made, most_line_nodes, most_second_line_nodes};
 
-use crate::nodes::{forward_line, next_products, product, sources, sum};
+use crate::lines::line;
+use crate::nodes::sources;
 use crate::parts::BuiltLine;
+use crate::summands::{direct_summands, forward_summands, state_summands, transposed_output};
 use dsv_base::NoMemory;
 use dsv_netlist::Node;
 use dsv_quantiser::Quantised;
@@ -17,11 +19,9 @@ pub(crate) fn first_form(alloc: Global, quantised: &Quantised) -> Result<BuiltLi
     ensures made { IfOk result (λ form. line_made form ≡ first_form quantised.now) }
     ensures few { IfOk result (λ form. length form.nodes.items ≤ most_line_nodes) }
 {
-    let a = quantised.a();
-    let order = (a.len() - 1) as u32;
-    let mut nodes = sources(alloc, 2 * order)?;
-    let forward = forward_line(&mut nodes, quantised.b(), 0)?;
-    let place = next_products(&mut nodes, forward, true, &a[1..], order + 1)?;
+    let order = quantised.order() as u32;
+    let mut nodes = sources(alloc, order + order)?;
+    let place = line(&mut nodes, quantised, &direct_summands(quantised))?;
     Ok(BuiltLine { nodes, place })
 }
 
@@ -30,9 +30,8 @@ pub(crate) fn second_form_state(alloc: Global, quantised: &Quantised) -> Result<
     ensures made { IfOk result (λ form. line_made form ≡ second_form_state quantised.now) }
     ensures few { IfOk result (λ form. length form.nodes.items ≤ most_line_nodes) }
 {
-    let a = quantised.a();
-    let mut nodes = sources(alloc, (a.len() - 1) as u32)?;
-    let place = next_products(&mut nodes, 0, true, &a[1..], 1)?;
+    let mut nodes = sources(alloc, quantised.order() as u32)?;
+    let place = line(&mut nodes, quantised, &state_summands(quantised))?;
     Ok(BuiltLine { nodes, place })
 }
 
@@ -48,7 +47,8 @@ pub(crate) fn second_form(
         ≡ second_form quantised.now) }
     ensures few { IfOk result (λ place. length nodes.new.items ≤ most_second_line_nodes) }
 {
-    forward_line(nodes, quantised.b(), state)
+    let _order = quantised.order(); // its range, for the proof
+    line(nodes, quantised, &forward_summands(quantised, state))
 }
 
 /// The output's line of both transposed forms.
@@ -56,13 +56,7 @@ pub(crate) fn transposed_form(alloc: Global, quantised: &Quantised) -> Result<Bu
     ensures made { IfOk result (λ form. line_made form ≡ transposed_form quantised.now) }
     ensures few { IfOk result (λ form. length form.nodes.items ≤ most_line_nodes) }
 {
-    let order = quantised.order() as u32;
-    let mut nodes = sources(alloc, order)?;
-    let first = product(&mut nodes, &quantised.b()[0], 0)?;
-    let place = if order == 0 {
-        first
-    } else {
-        sum(&mut nodes, false, first, 1)?
-    };
+    let mut nodes = sources(alloc, quantised.order() as u32)?;
+    let place = line(&mut nodes, quantised, &transposed_output(quantised))?;
     Ok(BuiltLine { nodes, place })
 }

@@ -1,17 +1,19 @@
 // The netlist of each realisation, in its parts.
-ghost use Rattle.std.specs.Prelude.{◌≡◌, ◌<◌, ◌≤◌, ◌+◌, ◌-◌, length, IfOk};
+ghost use Rattle.std.specs.Prelude.{◌≡◌, ◌≤◌, ◌+◌, length, IfOk};
 ghost use Rattle.dsv_names.specs.declared.realisation.Realisation.TheVariants.{Dfi, Dfii, Tdfii};
 ghost use Rattle.dsv_names.specs.declared.realisation.Realisation.TheVariants.{Ddfi, Ddfii, Tddfii};
 ghost use Rattle.dsv_realise.specs.Netlists.{net_as, count, transposed_form};
 ghost use Rattle.dsv_realise.specs.Netlists.{transposed_nodes, transposed_delta_nodes};
-ghost use Rattle.dsv_meaning.specs.Equations.{order, first_alone};
+ghost use Rattle.dsv_meaning.specs.Equations.{order};
 ghost use Rattle.dsv_realise.specs.Making.{made_at, chained_at, with_delta};
-ghost use Rattle.dsv_realise.specs.Parts.{parts_as, successor_of, most_line_nodes};
+ghost use Rattle.dsv_realise.specs.Parts.{parts_as, most_line_nodes};
 ghost use Rattle.dsv_realise.specs.Parts.{most_state_nodes, most_source_nodes};
 
 use crate::forms::{first_form, second_form, second_form_state, transposed_form};
-use crate::nodes::{next_product, shift, transposed_line};
+use crate::lines::line;
+use crate::nodes::shift;
 use crate::parts::Parts;
+use crate::summands::{delta_line, transposed_line};
 use dsv_base::NoMemory;
 use dsv_netlist::Node;
 use dsv_quantiser::Quantised;
@@ -49,21 +51,6 @@ pub(crate) fn direct_form_two(alloc: Global, quantised: &Quantised) -> Result<Pa
     })
 }
 
-/// The state that state `i` of a transposed form is made of too: the one after it, where the form
-/// has one more before place `end`.
-#[tactic(auto, using(crate::proofs::Piecewise::after_some, crate::proofs::Piecewise::after_none))]
-fn successor_at(i: usize, end: usize) -> Option<u32>
-    requires inside { i < end }
-    requires few { end ≤ most_source_nodes }
-    ensures { first_alone (successor_of result) ≡ first_alone (count (i + 1) (end - (i + 1))) }
-{
-    if i + 1 < end {
-        Some(i as u32 + 1)
-    } else {
-        None
-    }
-}
-
 /// The new words of the transposed direct form, after its output.
 fn transposed_states(
     alloc: Global,
@@ -76,12 +63,9 @@ fn transposed_states(
     ensures { IfOk result (λ next. chained_at nodes.new.items next.items
         ≡ transposed_nodes quantised.now) }
 {
-    let b = quantised.b();
-    let a = quantised.a();
     let mut next = Vec::new(alloc);
-    for i in 1..a.len() {
-        let successor = successor_at(i, a.len());
-        let place = transposed_line(nodes, &b[i], &a[i], output, successor)?;
+    for i in 1..quantised.order() + 1 {
+        let place = line(nodes, quantised, &transposed_line(quantised, i, output))?;
         next.push(place)?;
     }
     Ok(next)
@@ -117,13 +101,12 @@ fn delta_states(
     ensures made { IfOk result (λ u. chained_at nodes.new.items next.new.items ≡
         with_delta quantised.now before (count first (order quantised.now))
         (chained_at nodes.old.items next.old.items)) }
-    ensures few { IfOk result (λ u. length nodes.new.items ≤ length nodes.old.items + 40) }
+    ensures few { IfOk result (λ u. length nodes.new.items ≤ length nodes.old.items + 80) }
 {
-    let delta = quantised.delta();
     let end = first + quantised.order() as u32;
     let mut older = before;
     for node in first..end {
-        let place = next_product(nodes, node, false, &delta, older)?;
+        let place = line(nodes, quantised, &delta_line(quantised, node, older))?;
         next.push(place)?;
         older = node;
     }
@@ -181,14 +164,10 @@ fn transposed_delta_states(
     ensures { IfOk result (λ next. chained_at nodes.new.items next.items
         ≡ transposed_delta_nodes quantised.now) }
 {
-    let b = quantised.b();
-    let a = quantised.a();
-    let delta = quantised.delta();
     let mut next = Vec::new(alloc);
-    for i in 1..a.len() {
-        let successor = successor_at(i, a.len());
-        let line = transposed_line(nodes, &b[i], &a[i], output, successor)?;
-        let place = next_product(nodes, i as u32, false, &delta, line)?;
+    for i in 1..quantised.order() + 1 {
+        let change = line(nodes, quantised, &transposed_line(quantised, i, output))?;
+        let place = line(nodes, quantised, &delta_line(quantised, i as u32, change))?;
         next.push(place)?;
     }
     Ok(next)

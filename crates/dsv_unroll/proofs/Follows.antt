@@ -1,5 +1,5 @@
 -- The terms of a sample spell its values as long as no value was outside, and a bit says whether one was.
-use Rattle.std.proofs.Common.{◌≡◌, ℕ, ◌-◌, ◌%◌, ◌^◌, ◌<◌, ◌≤◌, Bool, true, false, ◌||◌, List, refl, arith, ap, sym, subst, ◌∙◌, length}
+use Rattle.std.proofs.Common.{◌≡◌, ℕ, ◌-◌, ◌^◌, ◌<◌, ◌≤◌, Bool, true, false, ◌||◌, List, refl, arith, ap, sym, subst, ◌∙◌, length}
 use Rattle.std.specs.Prelude.{◌==◌, nat_lt, if◌then◌else◌, slice_index_or}
 use Rattle.std.specs.Int.RustNames.{unsigned_abs}
 use Rattle.std.proofs.Math.IntN.{ℤ, pos, ◌+ℤ◌, ◌-ℤ◌, ◌*ℤ◌}
@@ -29,9 +29,9 @@ use Rattle.dsv_term.proofs.Complement.{IsSpelled, only_spelled, wider_spelled}
 use Rattle.dsv_unroll.specs.declared.rules.FitRule.{FitRule}
 use Rattle.dsv_unroll.specs.declared.rules.FitRule.TheVariants as fit_rule
 use Rattle.dsv_unroll.specs.Ready.{IsValue, AreReady}
-use Rattle.dsv_unroll.specs.Rules.{Unrolled, unrolled_of, product_term, rounded_term, shift_width, shifted_term, sum_term, difference_term, addend_of, is_whole, addend_at, fitted_term, word_term, term_at, bound_at, node_term}
-use Rattle.dsv_unroll.proofs.RuleTerms.{Spells, spells_later, product_made, sum_made, difference_made}
-use Rattle.dsv_unroll.proofs.Rounding.{shift_none, shift_floor, shift_product}
+use Rattle.dsv_unroll.specs.Rules.{Unrolled, unrolled_of, rounded_term, shift_width, shifted_term, sum_term, difference_term, addend_of, is_whole, addend_at, fitted_term, word_term, term_at, bound_at, node_term}
+use Rattle.dsv_unroll.proofs.RuleTerms.{Spells, spells_later, Multiplies, product_made, scaled_made, sum_made, difference_made}
+use Rattle.dsv_unroll.proofs.Rounding.{IsTimes, shift_none, shift_floor, shift_times}
 use Rattle.dsv_unroll.proofs.RoundTerms.{shifted}
 use Rattle.dsv_unroll.proofs.FitTerms.{is_outside, inside_spelled, tested_fits}
 use Rattle.dsv_unroll.proofs.FaithfulTerms.{word_fits, wrapped_residue, wrapped_spelled}
@@ -89,28 +89,15 @@ not_fitted values t b overflowed v f k h w m =
     right false = refl
 
 -- the number that a rounded term spells
-rounded_at : (r : Rounding) (f : ℕ) (d : Node) (v : ℤ) → 1 ≤ f → ((c : ℤ) (y : ℕ) → d ≡ node.MulConst c y → (z : ℤ) × (v ≡ c *ℤ z))
-    → whole_shift r f v ≡ floor_of (v +ℤ pos (if is_whole f d then 0 else addend_of r f)) (2 ^ f)
-rounded_at r f node.Input v p h = shift_floor r f v p
-rounded_at r f (node.Reg k) v p h = shift_floor r f v p
-rounded_at r f (node.Round i) v p h = shift_floor r f v p
-rounded_at r f (node.Add i j) v p h = shift_floor r f v p
-rounded_at r f (node.Sub i j) v p h = shift_floor r f v p
-rounded_at r f (node.Fit i) v p h = shift_floor r f v p
-rounded_at r f (node.MulConst c y) v p h = by (unsigned_abs c % 2 ^ f == 0) refl
-  where
-    by : (q : Bool) → (unsigned_abs c % 2 ^ f == 0) ≡ q → whole_shift r f v ≡ floor_of (v +ℤ pos (if q then 0 else addend_of r f)) (2 ^ f)
-    by false e = shift_floor r f v p
-    by true e =
-        let z = h c y refl in
-        let m : unsigned_abs c % 2 ^ f ≡ 0 = eqb-true (unsigned_abs c % 2 ^ f) 0 e in
-        rw (z.1) (shift_product r f c z.0 p m)
+rounded_at : (r : Rounding) (f : ℕ) (whole : Bool) (v : ℤ) → 1 ≤ f → (whole ≡ true → IsTimes v (2 ^ f)) → whole_shift r f v ≡ floor_of (v +ℤ pos (if whole then 0 else addend_of r f)) (2 ^ f)
+rounded_at r f true v p h = shift_times r f v p (h refl)
+rounded_at r f false v p h = shift_floor r f v p
 
 -- what is known of the values that a node is made of
 pub record NodeKnown (net : Net) (vals : List ℤ) (v : ℤ) (n : Node) : Type 0 where
   pub size : unsigned_abs v ≤ bound_at net (length vals)
   pub sizes : (i : ℕ) → i < length vals → unsigned_abs (at vals i) ≤ bound_at net i
-  pub products : (i : ℕ) (c : ℤ) (y : ℕ) → i < length vals → slice_index_or net.nodes i node.Input ≡ node.MulConst c y → (z : ℤ) × (at vals i ≡ c *ℤ z)
+  pub wholes : (i : ℕ) → i < length vals → is_whole net.format.frac_bits (slice_index_or net.nodes i node.Input) ≡ true → IsTimes (at vals i) (2 ^ net.format.frac_bits)
 
 round_means : (values : List ℕ) (net : Net) (t : TermsView) (vals : List ℤ) (of : ℕ) (id overflowed : TermId) (b q : Bool) (v : ℤ) → (net.format.frac_bits == 0) ≡ q → AreSound t → IsValue t id → of < length vals
     → overflowed.0 < length t.nodes → word_of t values overflowed ≡ bit_of b → IsNetlist net → of < length net.nodes → NodeKnown net vals v (node.Round of) → (b ≡ false → Means t values id (at vals of))
@@ -128,7 +115,7 @@ round_means values net t vals of id overflowed b false v e s sv l bs w n ln k m 
     let h = shifted t id bound addend f s sv (bound_small net of n ln) (addend_small net of) (point_small net.format) in
     let c = shifted_term t bound addend f id in
     let p : 1 ≤ f = grind (arith, nat_tests) in
-    let same : floor_of (z +ℤ pos addend) (2 ^ f) ≡ whole_shift net.format.rounding f z = sym (rounded_at net.format.rounding f (slice_index_or net.nodes of node.Input) z p (λ c y i. k.products of c y l i)) in
+    let same : floor_of (z +ℤ pos addend) (2 ^ f) ≡ whole_shift net.format.rounding f z = sym (rounded_at net.format.rounding f (is_whole f (slice_index_or net.nodes of node.Input)) z p (k.wholes of l)) in
     not_fitted values t c overflowed (whole_shift net.format.rounding f z) b h.adds.kept bs w
     (λ q. subst (Means c.terms values c.id) same (means_added c.terms values c.id (shift_width t bound addend f id - f) (floor_of (z +ℤ pos addend) (2 ^ f)) h.adds.width (h.spells values z (m q).spells (k.sizes of l))))
 
@@ -166,15 +153,12 @@ fitted_means : (rule : FitRule) (values : List ℕ) (t : TermsView) (f : Format)
 fitted_means fit_rule.Tested values t f of overflowed b vals i s v bs bw w m = tested_means values t f of overflowed b (at vals i) s v bs bw w m
 fitted_means fit_rule.Faithful values t f of overflowed b vals i s v bs bw w m = faithful_means values t f of overflowed b (nat_lt (width f) (width_of t of)) (at vals i) refl s v bs w m
 
-product_means : (values : List ℕ) (net : Net) {registers : List TermId} {input : TermId} (t : TermsView) (ids : List TermId) (overflowed : TermId) (vals : List ℤ) (b : Bool) (c : ℤ) (i : ℕ) → IsNetlist net → AreReady net registers input t ids overflowed
-    → length ids ≡ length vals → word_of t values overflowed ≡ bit_of b → (b ≡ false → (j : ℕ) → j < length ids → Means t values (term_at ids j) (at vals j)) → length ids < length net.nodes → i < length ids → unsigned_abs (c *ℤ at vals i) ≤ bound_at net (length vals)
-    → NodeMeans values (unrolled_of (product_term t (bound_at net (length ids)) c (term_at ids i)) overflowed) (c *ℤ at vals i) b (b || false)
-product_means values net t ids overflowed vals b c i h r e w m l bk k =
-    let bound = bound_at net (length ids) in
-    let p = product_made t bound c (term_at ids i) r.sound (r.nodes i bk) (bound_small net (length ids) h l) in
-    let q = product_term t bound c (term_at ids i) in
+product_means : (values : List ℕ) (net : Net) {registers : List TermId} {input : TermId} (t : TermsView) (ids : List TermId) (overflowed : TermId) (vals : List ℤ) (b : Bool) (c : ℤ) (i bits : ℕ) (q : Built) → Multiplies t (bound_at net (length ids)) c (term_at ids i) bits q → AreReady net registers input t ids overflowed
+    → length ids ≡ length vals → word_of t values overflowed ≡ bit_of b → (b ≡ false → (j : ℕ) → j < length ids → Means t values (term_at ids j) (at vals j)) → i < length ids → unsigned_abs (c *ℤ at vals i) ≤ bound_at net (length vals)
+    → NodeMeans values (unrolled_of q overflowed) (c *ℤ at vals i) b (b || false)
+product_means values net t ids overflowed vals b c i bits q p r e w m bk k =
     not_fitted values t q overflowed (c *ℤ at vals i) b p.adds.kept r.overflowed_stands w
-    (λ o. means_added q.terms values q.id _ (c *ℤ at vals i) p.adds.width (p.spells values (at vals i) (m o i bk).spells (rw e k)))
+    (λ o. means_added q.terms values q.id bits (c *ℤ at vals i) p.adds.width (p.spells values (at vals i) (m o i bk).spells (rw e k)))
 
 sum_means : (values : List ℕ) (net : Net) {registers : List TermId} {input : TermId} (t : TermsView) (ids : List TermId) (overflowed : TermId) (vals : List ℤ) (b : Bool) (i j : ℕ) → IsNetlist net → AreReady net registers input t ids overflowed
     → length ids ≡ length vals → word_of t values overflowed ≡ bit_of b → (b ≡ false → (k : ℕ) → k < length ids → Means t values (term_at ids k) (at vals k)) → length ids < length net.nodes → (i < length ids) × (j < length ids)
@@ -212,8 +196,10 @@ node_means fit_rule.Tested values net regs x registers input t ids overflowed va
 node_means fit_rule.Faithful values net regs x registers input t ids overflowed vals b node.Input h r f l bk rd k = not_fitted values t (built_of t input) overflowed x b (KeepsTerms-self t) r.overflowed_stands f.overflows (λ q. f.input_means)
 node_means fit_rule.Tested values net regs x registers input t ids overflowed vals b (node.Reg i) h r f l bk rd k = not_fitted values t (built_of t (term_at registers i)) overflowed (at regs i) b (KeepsTerms-self t) r.overflowed_stands f.overflows (λ q. f.registers_mean q i rd)
 node_means fit_rule.Faithful values net regs x registers input t ids overflowed vals b (node.Reg i) h r f l bk rd k = not_fitted values t (built_of t (term_at registers i)) overflowed (at regs i) b (KeepsTerms-self t) r.overflowed_stands f.overflows (λ q. f.registers_mean q i rd)
-node_means fit_rule.Tested values net regs x registers input t ids overflowed vals b (node.MulConst c i) h r f l bk rd k = product_means values net t ids overflowed vals b c i h r f.count f.overflows f.nodes l bk k.size
-node_means fit_rule.Faithful values net regs x registers input t ids overflowed vals b (node.MulConst c i) h r f l bk rd k = product_means values net t ids overflowed vals b c i h r f.count f.overflows f.nodes l bk k.size
+node_means fit_rule.Tested values net regs x registers input t ids overflowed vals b (node.MulConst c i) h r f l bk rd k =
+    product_means values net t ids overflowed vals b c i _ _ (product_made t (bound_at net (length ids)) c (term_at ids i) r.sound (r.nodes i bk) (bound_small net (length ids) h l)) r f.count f.overflows f.nodes bk k.size
+node_means fit_rule.Faithful values net regs x registers input t ids overflowed vals b (node.MulConst c i) h r f l bk rd k =
+    product_means values net t ids overflowed vals b c i _ _ (product_made t (bound_at net (length ids)) c (term_at ids i) r.sound (r.nodes i bk) (bound_small net (length ids) h l)) r f.count f.overflows f.nodes bk k.size
 node_means fit_rule.Tested values net regs x registers input t ids overflowed vals b (node.Round i) h r f l bk rd k = round_node values net t ids overflowed vals b i h r f.count f.overflows f.nodes l bk k
 node_means fit_rule.Faithful values net regs x registers input t ids overflowed vals b (node.Round i) h r f l bk rd k = round_node values net t ids overflowed vals b i h r f.count f.overflows f.nodes l bk k
 node_means fit_rule.Tested values net regs x registers input t ids overflowed vals b (node.Add i j) h r f l bk rd k = sum_means values net t ids overflowed vals b i j h r f.count f.overflows f.nodes l bk k.size
@@ -222,3 +208,7 @@ node_means fit_rule.Tested values net regs x registers input t ids overflowed va
 node_means fit_rule.Faithful values net regs x registers input t ids overflowed vals b (node.Sub i j) h r f l bk rd k = difference_means values net t ids overflowed vals b i j h r f.count f.overflows f.nodes l bk k.size
 node_means rule values net regs x registers input t ids overflowed vals b (node.Fit i) h r f l bk rd k =
     fitted_means rule values t net.format (term_at ids i) overflowed b vals i r.sound (r.nodes i bk) r.overflowed_stands r.overflowed_bit f.overflows (λ q. f.nodes q i bk)
+node_means fit_rule.Tested values net regs x registers input t ids overflowed vals b (node.Scale i) h r f l bk rd k =
+    product_means values net t ids overflowed vals b (pos (2 ^ net.format.frac_bits)) i _ _ (scaled_made t (bound_at net (length ids)) net.format.frac_bits (term_at ids i) r.sound (r.nodes i bk) (bound_small net (length ids) h l)) r f.count f.overflows f.nodes bk k.size
+node_means fit_rule.Faithful values net regs x registers input t ids overflowed vals b (node.Scale i) h r f l bk rd k =
+    product_means values net t ids overflowed vals b (pos (2 ^ net.format.frac_bits)) i _ _ (scaled_made t (bound_at net (length ids)) net.format.frac_bits (term_at ids i) r.sound (r.nodes i bk) (bound_small net (length ids) h l)) r f.count f.overflows f.nodes bk k.size

@@ -16,7 +16,7 @@ use Rattle.dsv_netlist.specs.declared.node.Node.{Node}
 use Rattle.dsv_netlist.specs.declared.node.Node.TheVariants as node
 use Rattle.dsv_netlist.specs.Limits.{bound_limit}
 use Rattle.dsv_netlist.specs.Nodes.{Net}
-use Rattle.dsv_netlist.specs.Bounds.{word_bound, bounds_of}
+use Rattle.dsv_netlist.specs.Bounds.{bounds_of}
 use Rattle.dsv_netlist.specs.Conditions.{IsNetlist, NamesBelow, AllNameBack, ReadsBelow}
 use Rattle.dsv_netlist.proofs.BoundLemmas.{from-length}
 use Rattle.dsv_term.specs.declared.node.TermId.{TermId}
@@ -28,8 +28,8 @@ use Rattle.dsv_term.proofs.Building.{Adds-none, later}
 use Rattle.dsv_unroll.specs.declared.rules.FitRule.{FitRule}
 use Rattle.dsv_unroll.specs.declared.rules.FitRule.TheVariants as fit_rule
 use Rattle.dsv_unroll.specs.Ready.{IsValue, AreReady}
-use Rattle.dsv_unroll.specs.Rules.{Unrolled, unrolled_of, product_width, product_term, sum_width, shift_width, shifted_term, addend_of, is_whole, addend_at, fitted_term, word_term, term_at, bound_at, node_term}
-use Rattle.dsv_unroll.proofs.RuleTerms.{value_later, product_made, product_narrow, sum_made, difference_made, sum_narrow}
+use Rattle.dsv_unroll.specs.Rules.{Unrolled, unrolled_of, product_width, product_term, scaled_width, scaled_term, sum_width, shift_width, shifted_term, addend_of, is_whole, addend_at, fitted_term, word_term, term_at, bound_at, node_term}
+use Rattle.dsv_unroll.proofs.RuleTerms.{value_later, product_made, product_narrow, scaled_made, scaled_narrow, sum_made, difference_made, sum_narrow}
 use Rattle.dsv_unroll.proofs.RoundTerms.{shift_width-narrow, shifted}
 use Rattle.dsv_unroll.proofs.FitTerms.{tested_fits}
 use Rattle.dsv_unroll.proofs.FaithfulTerms.{word_fits}
@@ -37,7 +37,7 @@ use Rattle.dsv_unroll.proofs.FaithfulTerms.{word_fits}
 -- ---- numbers of a netlist
 pub bound_small : (net : Net) (i : ℕ) → IsNetlist net → i < length net.nodes → bound_at net i < 2 ^ 78
 bound_small net i n h =
-    All-get_or (λ (b : ℕ). b < bound_limit) (bounds_of net.format net.nodes) i 0 (omega (arith, from-length (word_bound net.format) net.nodes [], h)) n.bounded
+    All-get_or (λ (b : ℕ). b < bound_limit) (bounds_of net.format net.nodes) i 0 (omega (arith, from-length net.format net.nodes [], h)) n.bounded
 
 pub point_small : (f : Format) → f.frac_bits ≤ 32
 point_small f = let l = f.lawful in omega (arith, l.0, l.1, l.2)
@@ -137,6 +137,13 @@ node_adds rule net registers x t ids overflowed (node.Sub i j) net_ r l b d =
     let h = difference_made t bound (term_at ids i) (term_at ids j) r.sound (r.nodes i b.0) (r.nodes j b.1) small in
     plain t _ (sum_width t bound (term_at ids i) (term_at ids j)) overflowed h.adds (sum_narrow t bound (term_at ids i) (term_at ids j) (r.nodes i b.0) (r.nodes j b.1) small) r.overflowed_stands r.overflowed_bit
 node_adds rule net registers x t ids overflowed (node.Fit of) net_ r l b d = fitted_adds rule t net.format (term_at ids of) overflowed r.sound (r.nodes of b) r.overflowed_stands r.overflowed_bit
+node_adds rule net registers x t ids overflowed (node.Scale of) net_ r l b d =
+    let bound = bound_at net (length ids) in
+    let small = bound_small net (length ids) net_ l in
+    let v = r.nodes of b in
+    let f = net.format.frac_bits in
+    let h = scaled_made t bound f (term_at ids of) r.sound v small in
+    plain t (scaled_term t bound f (term_at ids of)) (scaled_width t bound f (term_at ids of)) overflowed h.adds (scaled_narrow t bound f (term_at ids of) v small) r.overflowed_stands r.overflowed_bit
 
 -- ---- ready after a node
 -- a fact of all terms so far and of one more

@@ -1,10 +1,11 @@
 -- Rounding is the floor after an addend.
-use Rattle.std.proofs.Common.{◌≡◌, ℕ, suc, ◌+◌, ◌-◌, ◌*◌, ◌/◌, ◌%◌, ◌^◌, ◌==◌, ◌<◌, ◌≤◌, false, [], ◌∷◌, refl, arith, ap, sym, ◌∙◌}
+use Rattle.std.proofs.Common.{◌≡◌, ℕ, suc, ◌+◌, ◌-◌, ◌*◌, ◌/◌, ◌%◌, ◌^◌, ◌==◌, ◌<◌, ◌≤◌, true, false, List, [], ◌∷◌, refl, arith, ap, sym, ◌∙◌}
 use Rattle.std.specs.Prelude.{◌<ℤ◌, ◌≤ℤ◌}
 use Rattle.std.specs.Int.RustNames.{unsigned_abs}
 use Rattle.std.proofs.Math.IntN.{ℤ, pos, negsuc, ◌+ℤ◌, ◌*ℤ◌, neg_ℤ, +ℤ_idr}
 use Rattle.std.proofs.lemmas.Int.{ints}
 use Rattle.std.proofs.lemmas.Nat.{pow_pos, pow-add, div-add-mod'}
+use Rattle.std.proofs.lemmas.Bool.{eqb-true}
 use Rattle.std.proofs.lemmas.Bool.Decides.{nat_tests}
 use Rattle.dsv_algebra.specs.Floor.{IsFloor, floor_of}
 use Rattle.dsv_algebra.proofs.Floors.{floored_is}
@@ -13,7 +14,11 @@ use Rattle.dsv_names.specs.declared.rounding.Rounding.{Rounding}
 use Rattle.dsv_names.specs.declared.rounding.Rounding.TheVariants as rounding
 use Rattle.dsv_word.specs.Quotients.{ceiling_of, whole_shift}
 use Rattle.dsv_word.proofs.Floors.{is_floored}
-use Rattle.dsv_unroll.specs.Rules.{addend_of}
+use Rattle.dsv_word.specs.declared.format.Format.{Format}
+use Rattle.dsv_netlist.specs.declared.node.Node.{Node}
+use Rattle.dsv_netlist.specs.declared.node.Node.TheVariants as node
+use Rattle.dsv_netlist.specs.Nodes.{at, node_value}
+use Rattle.dsv_unroll.specs.Rules.{addend_of, is_whole}
 
 -- ---- no bits below the point
 floor_one : (v : ℤ) → floor_of v 1 ≡ v
@@ -65,22 +70,42 @@ addend_small rounding.Ceil f h = omega (arith, pow_pos f)
 addend_small rounding.Nearest f h = let e = halves f h in omega (arith, pow_pos (f - 1))
 
 -- rounding changes no multiple
-pub shift_multiple : (r : Rounding) (f : ℕ) (q : ℤ) → 1 ≤ f → whole_shift r f (q *ℤ pos (2 ^ f)) ≡ floor_of (q *ℤ pos (2 ^ f) +ℤ pos 0) (2 ^ f)
+shift_multiple : (r : Rounding) (f : ℕ) (q : ℤ) → 1 ≤ f → whole_shift r f (q *ℤ pos (2 ^ f)) ≡ floor_of (q *ℤ pos (2 ^ f) +ℤ pos 0) (2 ^ f)
 shift_multiple r f q h =
     shift_floor r f (q *ℤ pos (2 ^ f)) h
     ∙ (floor_multiple q (2 ^ f) (addend_of r f) (pow_pos f) (addend_small r f h) ∙ sym (floor_multiple q (2 ^ f) 0 (pow_pos f) (pow_pos f)))
 
--- a coefficient whose size is a multiple is one
-record IsTimes (c : ℤ) (d : ℕ) : Type 0 where
-  by : ℤ
-  is : c ≡ by *ℤ pos d
+-- the number is a multiple of d
+pub record IsTimes (v : ℤ) (d : ℕ) : Type 0 where
+  pub by : ℤ
+  pub is : v ≡ by *ℤ pos d
 
+pub shift_times : (r : Rounding) (f : ℕ) (v : ℤ) → 1 ≤ f → IsTimes v (2 ^ f) → whole_shift r f v ≡ floor_of (v +ℤ pos 0) (2 ^ f)
+shift_times r f v h t = rw t.is (shift_multiple r f t.by h)
+
+-- a coefficient whose size is a multiple is one
 times_of : (c : ℤ) (d : ℕ) → unsigned_abs c % d ≡ 0 → IsTimes c d
 times_of (pos n) d h = let e = div-add-mod' n d in record { by = pos (n / d); is = omega (arith, ints) }
 times_of (negsuc n) d h = let e = div-add-mod' (suc n) d in record { by = neg_ℤ (pos (suc n / d)); is = (let t = turned (pos (suc n / d)) (pos d) in rw t (omega (arith, ints))) }
 
-pub shift_product : (r : Rounding) (f : ℕ) (c y : ℤ) → 1 ≤ f → unsigned_abs c % 2 ^ f ≡ 0 → whole_shift r f (c *ℤ y) ≡ floor_of (c *ℤ y +ℤ pos 0) (2 ^ f)
-shift_product r f c y h m =
-    let t = times_of c (2 ^ f) m in
-    let e : c *ℤ y ≡ t.by *ℤ y *ℤ pos (2 ^ f) = ap (λ (z : ℤ). z *ℤ y) t.is ∙ ring (env (t.by ∷ pos (2 ^ f) ∷ y ∷ [])) (times (times (var 0) (var 1)) (var 2)) (times (times (var 0) (var 2)) (var 1)) refl in
-    rw e (shift_multiple r f (t.by *ℤ y) h)
+product_times : (c y : ℤ) (d : ℕ) → unsigned_abs c % d ≡ 0 → IsTimes (c *ℤ y) d
+product_times c y d m =
+    let t = times_of c d m in
+    record {
+      by = t.by *ℤ y;
+      is = ap (λ (z : ℤ). z *ℤ y) t.is ∙ ring (env (t.by ∷ pos d ∷ y ∷ [])) (times (times (var 0) (var 1)) (var 2)) (times (times (var 0) (var 2)) (var 1)) refl;
+    }
+
+scaled_times : (y : ℤ) (d : ℕ) → IsTimes (pos d *ℤ y) d
+scaled_times y d = record { by = y; is = ring (env (pos d ∷ y ∷ [])) (times (var 0) (var 1)) (times (var 1) (var 0)) refl }
+
+-- the value of a node that is a multiple of 2^f
+pub whole_value : (f : Format) (rs : List ℤ) (x : ℤ) (vs : List ℤ) (n : Node) → is_whole f.frac_bits n ≡ true → IsTimes (node_value f rs x vs n) (2 ^ f.frac_bits)
+whole_value f rs x vs node.Input e = absurd cc
+whole_value f rs x vs (node.Reg k) e = absurd cc
+whole_value f rs x vs (node.MulConst c i) e = product_times c (at vs i) (2 ^ f.frac_bits) (eqb-true (unsigned_abs c % 2 ^ f.frac_bits) 0 e)
+whole_value f rs x vs (node.Round i) e = absurd cc
+whole_value f rs x vs (node.Add i j) e = absurd cc
+whole_value f rs x vs (node.Sub i j) e = absurd cc
+whole_value f rs x vs (node.Fit i) e = absurd cc
+whole_value f rs x vs (node.Scale i) e = scaled_times (at vs i) (2 ^ f.frac_bits)

@@ -1,13 +1,15 @@
 -- What each rule adds, and which number its term spells.
-use Rattle.std.proofs.Common.{◌≡◌, ℕ, zero, suc, ◌+◌, ◌-◌, ◌*◌, ◌^◌, ◌<◌, ◌≤◌, Bool, true, false, List, inl, inr, refl, arith, ap, sym, subst, ◌∙◌, length}
+use Rattle.std.proofs.Common.{◌≡◌, ℕ, zero, suc, ◌+◌, ◌-◌, ◌*◌, ◌^◌, ◌<◌, ◌≤◌, Bool, true, false, List, [], ◌∷◌, inl, inr, refl, arith, ap, sym, subst, ◌∙◌, length}
 use Rattle.std.specs.Prelude.{◌==◌, max, min, if◌then◌else◌}
 use Rattle.std.specs.Int.Count.{count_leading_zeros}
 use Rattle.std.specs.Int.RustNames.{unsigned_abs}
-use Rattle.std.proofs.Math.IntN.{ℤ, ◌+ℤ◌, ◌-ℤ◌, ◌*ℤ◌}
+use Rattle.std.proofs.Math.IntN.{ℤ, pos, ◌+ℤ◌, ◌-ℤ◌, ◌*ℤ◌, pos-*ℤ-pos}
 use Rattle.std.proofs.Math.Nat.{le-max_left, le-max_right, pow-le-pow_right}
 use Rattle.std.proofs.lemmas.Int.{ints, unsigned_abs-mul}
 use Rattle.std.proofs.lemmas.Nat.{pow-add, pow_pos, mul-le, leading_length}
 use Rattle.std.proofs.lemmas.Bool.{eqb-true, cases_lt}
+use Rattle.dsv_algebra.proofs.Normaliser.{ring, env, var, plus, times, minus}
+use Rattle.dsv_algebra.proofs.Signs.{mul_not_negative, mul_positive}
 use Rattle.dsv_netlist.proofs.Sizes.{size_within, within_size}
 use Rattle.dsv_term.specs.Limits.{max_width}
 use Rattle.dsv_term.specs.declared.node.TermId.{TermId}
@@ -21,7 +23,7 @@ use Rattle.dsv_term.specs.Word.{sum_of, difference_of, product_of, extended_of}
 use Rattle.dsv_term.proofs.Building.{Adds-both, Adds-none, Adds-width, later, stands-width, sum_gives, difference_gives, product_gives, extension_gives}
 use Rattle.dsv_term.proofs.Complement.{IsSpelled, spelled, wider_spelled, extended-spelled, sum-spelled, difference-spelled, product-spelled}
 use Rattle.dsv_unroll.specs.Ready.{IsValue}
-use Rattle.dsv_unroll.specs.Rules.{width_for, widened_term, product_width, product_term, sum_width, sum_term, difference_term}
+use Rattle.dsv_unroll.specs.Rules.{width_for, widened_term, product_width, product_term, scaled_width, scaled_term, sum_width, sum_term, difference_term}
 
 -- the term spells the number in so many bits
 pub record Spells (t : TermsView) (values : List ℕ) (id : TermId) (bits : ℕ) (z : ℤ) : Type 0 where
@@ -187,6 +189,34 @@ product_made t bound coeff of s v l =
     let r = width_for-room d (omega arith) in
     multiplied t bound coeff of (product_width t bound coeff of) s v (le-max_left w (min more (width_for bound))) (omega arith)
     (λ z h k. lesser_fits w more bound (coeff *ℤ z) (omega (arith, r.some)) large (product_spelled w bound coeff z some large k h) k)
+
+-- f bits more suffice for a term times 2^f
+scaled_spelled : (w f : ℕ) (z : ℤ) → 1 ≤ w → IsSpelled w z → IsSpelled (w + f) (pos (2 ^ f) *ℤ z)
+scaled_spelled w f z s h =
+    let k = pos (2 ^ f) in
+    let p = pos (2 ^ (w - 1)) in
+    let i : w + f - 1 ≡ f + (w - 1) = omega arith in
+    let e : 2 ^ (w + f - 1) ≡ 2 ^ f * 2 ^ (w - 1) = ap (λ (j : ℕ). 2 ^ j) i ∙ pow-add 2 f (w - 1) in
+    let m : k *ℤ p ≡ pos (2 ^ (w + f - 1)) = pos-*ℤ-pos (2 ^ f) (2 ^ (w - 1)) ∙ ap pos (sym e) in
+    let some : 0 < 2 ^ f = pow_pos f in
+    let a = mul_not_negative k (z +ℤ p) (omega (arith, ints)) (omega (arith, ints, h.low)) in
+    let b = mul_positive k (p -ℤ z) (omega (arith, ints)) (omega (arith, ints, h.high)) in
+    let c : k *ℤ (z +ℤ p) ≡ k *ℤ z +ℤ k *ℤ p = ring (env (k ∷ z ∷ p ∷ [])) (times (var 0) (plus (var 1) (var 2))) (plus (times (var 0) (var 1)) (times (var 0) (var 2))) refl in
+    let d : k *ℤ (p -ℤ z) ≡ k *ℤ p -ℤ k *ℤ z = ring (env (k ∷ z ∷ p ∷ [])) (times (var 0) (plus (var 2) (minus (var 1)))) (plus (times (var 0) (var 2)) (minus (times (var 0) (var 1)))) refl in
+    record { low = omega (arith, ints, a, c, m); high = omega (arith, ints, b, d, m) }
+
+pub scaled_narrow : (t : TermsView) (bound f : ℕ) (of : TermId) → IsValue t of → bound < 2 ^ 78 → scaled_width t bound f of ≤ 79
+scaled_narrow t bound f of v l =
+    let w = width_of t of in
+    lesser_narrow w (w + f) (width_for bound) 79 v.narrow (width_for-least bound 78 (omega arith) l)
+
+pub scaled_made : (t : TermsView) (bound f : ℕ) (of : TermId) → AreSound t → IsValue t of → bound < 2 ^ 78
+    → Multiplies t bound (pos (2 ^ f)) of (scaled_width t bound f of) (scaled_term t bound f of)
+scaled_made t bound f of s v l =
+    let w = width_of t of in
+    let m = scaled_narrow t bound f of v l in
+    multiplied t bound (pos (2 ^ f)) of (scaled_width t bound f of) s v (le-max_left w (min (w + f) (width_for bound))) (omega arith)
+    (λ z h k. lesser_fits w (w + f) bound (pos (2 ^ f) *ℤ z) (omega arith) (bound_large bound 78 (omega arith) l) (scaled_spelled w f z (stands-width t of s v.stands).some h) k)
 
 -- two terms in so many bits
 pub record WidensBoth (t : TermsView) (left right : TermId) (bits : ℕ) (a b : Built) : Type 0 where

@@ -49,6 +49,7 @@ overflow_exact f vals (node.Round i) = refl
 overflow_exact f vals (node.Add i j) = refl
 overflow_exact f vals (node.Sub i j) = refl
 overflow_exact f vals (node.Fit i) = sym (or_none (is_outside (width f) (at vals i)))
+overflow_exact f vals (node.Scale i) = refl
 
 overflows_exact : (f : Format) (rs : List ℤ) (x : ℤ) (b : Bool) (ns : List Node) (s : Sample) → overflow_from fit_rule.Tested f rs x (b || any_outside f s.exact) ns s ≡ (b || any_outside f (sample_from f rs x ns s).exact)
 overflows_exact f rs x b [] s = refl

@@ -1,9 +1,9 @@
 -- Whole samples: their terms spell their values, and a bit says whether a value was no word.
-use Rattle.std.proofs.Common.{◌≡◌, ℕ, zero, suc, ◌+◌, ◌<◌, ◌≤◌, Bool, false, ◌||◌, inl, inr, List, [], ◌∷◌, ◌++◌, refl, arith, ap, sym, subst, ◌∙◌, length}
+use Rattle.std.proofs.Common.{◌≡◌, ℕ, zero, suc, ◌+◌, ◌<◌, ◌^◌, ◌≤◌, Bool, true, false, ◌||◌, inl, inr, List, [], ◌∷◌, ◌++◌, refl, arith, ap, sym, subst, ◌∙◌, length}
 use Rattle.std.specs.Prelude.{slice_index_or}
 use Rattle.std.specs.List.{All}
 use Rattle.std.specs.Int.RustNames.{unsigned_abs}
-use Rattle.std.proofs.Math.IntN.{ℤ, pos, ◌*ℤ◌}
+use Rattle.std.proofs.Math.IntN.{ℤ, pos}
 use Rattle.std.proofs.lemmas.List.{get_or_append_left, get_or_push, length_push}
 use Rattle.std.proofs.lemmas.List.Elements.{All-head, All-tail}
 use Rattle.std.proofs.lemmas.Bool.{cases_lt}
@@ -12,7 +12,7 @@ use Rattle.dsv_word.specs.Words.{width}
 use Rattle.dsv_netlist.specs.declared.node.Node.{Node}
 use Rattle.dsv_netlist.specs.declared.node.Node.TheVariants as node
 use Rattle.dsv_netlist.specs.Nodes.{Net, Sample, at, node_value, after_node, sample_from, sample_of}
-use Rattle.dsv_netlist.specs.Conditions.{IsNetlist, NamesBelow, AllNameBack, ReadsBelow}
+use Rattle.dsv_netlist.specs.Conditions.{IsNetlist, AllNameBack, ReadsBelow}
 use Rattle.dsv_netlist.specs.Law.{AreWords}
 use Rattle.dsv_netlist.proofs.Runs.{from_keeps, values_bounded}
 use Rattle.dsv_term.specs.declared.node.TermId.{TermId}
@@ -24,30 +24,24 @@ use Rattle.dsv_term.proofs.Building.{KeepsTerms-self}
 use Rattle.dsv_unroll.specs.declared.rules.FitRule.{FitRule}
 use Rattle.dsv_unroll.specs.Goals.{SampleTerms, with_node_term, nodes_from, sample_terms}
 use Rattle.dsv_unroll.specs.Ready.{AreReady}
-use Rattle.dsv_unroll.specs.Rules.{Unrolled, term_at, bound_at, node_term}
+use Rattle.dsv_unroll.specs.Rules.{Unrolled, is_whole, term_at, bound_at, node_term}
+use Rattle.dsv_unroll.proofs.Rounding.{IsTimes, whole_value}
 use Rattle.dsv_unroll.proofs.NodeTerms.{NodeAdds, node_adds, ready_with}
 use Rattle.dsv_unroll.proofs.Follows.{Means, means_later, Follows, NodeMeans, NodeKnown, node_overflow, node_means}
 
 -- ---- what is known of a sample's values
--- a product stands in a sample as one
-product_at : (f : Format) (rs : List ℤ) (x : ℤ) (ns : List Node) (s : Sample) (i : ℕ) (c : ℤ) (of : ℕ) → slice_index_or ns i node.Input ≡ node.MulConst c of → of < length s.values + i
-    → at (sample_from f rs x ns s).values (length s.values + i) ≡ c *ℤ at (sample_from f rs x ns s).values of
-product_at f rs x [] s i c of e h = absurd cc
-product_at f rs x (n ∷ ns) s zero c of e h =
+-- a node that is a multiple of 2^f has such a value in a sample
+whole_at : (f : Format) (rs : List ℤ) (x : ℤ) (ns : List Node) (s : Sample) (i : ℕ) → is_whole f.frac_bits (slice_index_or ns i node.Input) ≡ true → IsTimes (at (sample_from f rs x ns s).values (length s.values + i)) (2 ^ f.frac_bits)
+whole_at f rs x [] s i e = absurd cc
+whole_at f rs x (n ∷ ns) s zero e =
     let v = node_value f rs x s.values n in
     let l : length s.values ≡ length s.values + 0 = omega arith in
     let a : at (sample_from f rs x (n ∷ ns) s).values (length s.values + 0) ≡ v = from_keeps f rs x ns (after_node f rs x s n) (length s.values + 0) (omega (arith, length_push s.values v)) ∙ get_or_push s.values v (pos 0) (length s.values + 0) l in
-    let b : at (sample_from f rs x (n ∷ ns) s).values of ≡ at s.values of = from_keeps f rs x (n ∷ ns) s of (omega arith) in
-    a ∙ (ap (node_value f rs x s.values) e ∙ ap (λ (z : ℤ). c *ℤ z) (sym b))
-product_at f rs x (n ∷ ns) s (suc i) c of e h =
+    subst (λ (z : ℤ). IsTimes z (2 ^ f.frac_bits)) (sym a) (whole_value f rs x s.values n e)
+whole_at f rs x (n ∷ ns) s (suc i) e =
     let v = node_value f rs x s.values n in
     let l : length (s.values ++ v ∷ []) + i ≡ length s.values + suc i = omega (arith, length_push s.values v) in
-    subst (λ (j : ℕ). at (sample_from f rs x (n ∷ ns) s).values j ≡ c *ℤ at (sample_from f rs x (n ∷ ns) s).values of) l (product_at f rs x ns (after_node f rs x s n) i c of e (omega (arith, length_push s.values v)))
-
-names_or : (m : ℕ) (nodes : List Node) (i : ℕ) (c : ℤ) (of : ℕ) → AllNameBack m nodes → slice_index_or nodes i node.Input ≡ node.MulConst c of → of < m + i
-names_or m [] i c of h e = absurd cc
-names_or m (d ∷ ds) zero c of h e = let k = subst (NamesBelow m) e h.0 in omega (arith, k)
-names_or m (d ∷ ds) (suc i) c of h e = let k = names_or (m + 1) ds i c of h.1 e in omega (arith, k)
+    subst (λ (j : ℕ). IsTimes (at (sample_from f rs x (n ∷ ns) s).values j) (2 ^ f.frac_bits)) l (whole_at f rs x ns (after_node f rs x s n) i e)
 
 -- the values so far are those of the whole sample
 pub sample_known : (net : Net) (rs : List ℤ) (x : ℤ) (n : Node) (ns : List Node) (s : Sample) → IsNetlist net → AreWords net rs x → sample_from net.format rs x (n ∷ ns) s ≡ sample_of net.format rs x net.nodes → length s.values < length net.nodes
@@ -61,11 +55,10 @@ sample_known net rs x n ns s h w e l =
     record {
       size = subst (λ (z : ℤ). unsigned_abs z ≤ bound_at net (length s.values)) here (values_bounded net rs x h w (length s.values) l);
       sizes = λ i p. subst (λ (z : ℤ). unsigned_abs z ≤ bound_at net i) (old i p) (values_bounded net rs x h w i (omega arith));
-      products = λ i c of p q.
-          let b : of < 0 + i = names_or 0 net.nodes i c of h.backwards q in
+      wholes = λ i p q.
           let z : 0 + i ≡ i = omega arith in
-          let m = product_at f rs x net.nodes (record { values = []; exact = [] }) i c of q b in
-          (at all.values of, sym (old i p) ∙ (ap (at all.values) (sym z) ∙ m));
+          let m = whole_at f rs x net.nodes (record { values = []; exact = [] }) i q in
+          subst (λ (y : ℤ). IsTimes y (2 ^ f.frac_bits)) (ap (at all.values) z ∙ old i p) m;
     }
 
 -- ---- node after node

@@ -161,6 +161,7 @@ node_holds values net regs x registers input t ids overflowed vals b (node.MulCo
 node_holds values net regs x registers input t ids overflowed vals b (node.Round i) r f l = none_hold _ values (width net.format) b
 node_holds values net regs x registers input t ids overflowed vals b (node.Add i j) r f l = none_hold _ values (width net.format) b
 node_holds values net regs x registers input t ids overflowed vals b (node.Sub i j) r f l = none_hold _ values (width net.format) b
+node_holds values net regs x registers input t ids overflowed vals b (node.Scale i) r f l = none_hold _ values (width net.format) b
 node_holds values net regs x registers input t ids overflowed vals b (node.Fit i) r f l =
     fit_holds values t net.format (term_at ids i) overflowed b (nat_lt (width net.format) (width_of t (term_at ids i))) (at vals i) refl r.sound (r.nodes i l) r.overflowed_stands r.overflowed_bit (λ q. f.nodes q i l)
 

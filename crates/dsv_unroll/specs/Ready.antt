@@ -80,6 +80,7 @@ fit_tests (node.Round of) entry = []
 fit_tests (node.Add left right) entry = []
 fit_tests (node.Sub left right) entry = []
 fit_tests (node.Fit of) entry = entry ∷ []
+fit_tests (node.Scale of) entry = []
 
 -- a term of one bit whose word says a truth
 pub record IsTruth (t : TermsView) (id : TermId) : Type 0 where

@@ -1,9 +1,9 @@
 -- How each node of a netlist becomes a term. A term has the least width that holds its node's
 -- bound, or that of a wider operand.
 use Rattle.std.specs.Prelude.{ℕ, ◌+◌, ◌-◌, ◌%◌, ◌^◌, ◌==◌}
-use Rattle.std.specs.Prelude.{nat_lt, max, min, Bool, false}
+use Rattle.std.specs.Prelude.{nat_lt, max, min, Bool, true, false}
 use Rattle.std.specs.Prelude.{if◌then◌else◌, List, [], ◌∷◌, length, slice_index, slice_index_or}
-use Rattle.std.specs.Prelude.{Option, None, Some, ℤ}
+use Rattle.std.specs.Prelude.{Option, None, Some, ℤ, pos}
 use Rattle.std.specs.Int.Count.{count_leading_zeros}
 use Rattle.std.specs.Int.RustNames.{unsigned_abs}
 use Rattle.dsv_names.specs.declared.rounding.Rounding.{Rounding}
@@ -50,6 +50,17 @@ product_term t bound coeff of =
     let a = widened_term t of (product_width t bound coeff of) in
     with_node a.terms (MulConst a.id coeff)
 
+-- the width of a term times 2^f: f bits more than the term's always suffice
+abbrev pub scaled_width : TermsView → ℕ → ℕ → TermId → ℕ
+scaled_width t bound f of =
+    let bits = width_of t of in max bits (min (bits + f) (width_for bound))
+
+-- a term times 2^f, where this is its bound
+abbrev pub scaled_term : TermsView → ℕ → ℕ → TermId → Built
+scaled_term t bound f of =
+    let a = widened_term t of (scaled_width t bound f of) in
+    with_node a.terms (MulConst a.id (pos (2 ^ f)))
+
 -- the width of a sum or a difference of two terms: one bit more than theirs always suffices
 abbrev pub sum_width : TermsView → ℕ → TermId → TermId → ℕ
 sum_width t bound left right =
@@ -77,7 +88,7 @@ addend_of rounding.Floor f = 0
 addend_of rounding.Ceil f = 2 ^ f - 1
 addend_of rounding.Nearest f = 2 ^ (f - 1)
 
--- the node is a product by a multiple of 2^f
+-- the node is a multiple of 2^f: a product by one, or a scaled node
 abbrev pub is_whole : ℕ → Node → Bool
 is_whole f node.Input = false
 is_whole f (node.Reg register) = false
@@ -86,6 +97,7 @@ is_whole f (node.Round of) = false
 is_whole f (node.Add left right) = false
 is_whole f (node.Sub left right) = false
 is_whole f (node.Fit of) = false
+is_whole f (node.Scale of) = true
 
 -- what is added to the node of this number: nothing to a multiple of 2^f
 abbrev pub addend_at : Net → ℕ → ℕ
@@ -239,6 +251,9 @@ node_term rule net registers x t ids overflowed (node.Sub left right) =
     (term_at ids right)) overflowed
 node_term rule net registers x t ids overflowed (node.Fit of) =
     fitted_term rule net.format t (term_at ids of) overflowed
+node_term rule net registers x t ids overflowed (node.Scale of) =
+    unrolled_of (scaled_term t (bound_at net (length ids)) net.format.frac_bits (term_at ids of))
+    overflowed
 
 -- the tests that a node adds: one where a value is fitted
 abbrev pub node_tests : FitRule → Format → TermsView → List TermId → Node
@@ -250,3 +265,4 @@ node_tests rule format t ids (node.Round of) = []
 node_tests rule format t ids (node.Add left right) = []
 node_tests rule format t ids (node.Sub left right) = []
 node_tests rule format t ids (node.Fit of) = tested_term rule format t (term_at ids of) ∷ []
+node_tests rule format t ids (node.Scale of) = []

@@ -7,7 +7,7 @@ ghost use Rattle.dsv_unroll.specs.Beside.{node_with};
 ghost use Rattle.dsv_unroll.specs.Ready.{AreReady, fit_tests};
 
 use crate::fitting::{NodeTerm, TestedTerm, fitted_term};
-use crate::rules::{FitRule, difference_term, product_term, rounded_term, sum_term};
+use crate::rules::{FitRule, difference_term, product_term, rounded_term, scaled_term, sum_term};
 use dsv_base::NoMemory;
 use dsv_names::Rounding;
 use dsv_netlist::{Netlist, Node};
@@ -27,7 +27,8 @@ fn addend_of(format: &Format) -> u128
     }
 }
 
-/// Whether the node is a product by a multiple of 2 to the number of bits after the point.
+/// Whether the node is a multiple of 2 to the number of bits after the point: a product by one, or
+/// a node that is scaled.
 fn is_whole(node: &Node, frac_bits: u32) -> bool
     requires { frac_bits ≤ 32 }
     ensures { result ≡ is_whole frac_bits node.now }
@@ -37,6 +38,7 @@ fn is_whole(node: &Node, frac_bits: u32) -> bool
             let one: u64 = 1;
             coeff.unsigned_abs() % (one << frac_bits) == 0
         }
+        Node::Scale(_) => true,
         _ => false,
     }
 }
@@ -129,6 +131,11 @@ pub(crate) fn node_term(
             let rule = sample.rule;
             let format = net.format();
             return fitted_term(terms, rule, &format, ids[of as usize], made.overflowed);
+        }
+        Node::Scale(of) => {
+            let bound = bound_at(net, i);
+            let frac_bits = net.format().frac_bits;
+            scaled_term(terms, bound, frac_bits, ids[of as usize])?
         }
     };
     Ok(NodeTerm {

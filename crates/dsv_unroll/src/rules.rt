@@ -2,14 +2,15 @@
 // bits that it never wraps: those that the node's bound needs, or, where that is less, so many
 // more than its operands have as suffice for any operands. The operands are extended to that width
 // first, and so each rule computes with whole numbers.
-ghost use Rattle.std.specs.Prelude.{◌≡◌, ◌<◌, ◌≤◌, ◌-◌, ◌^◌, length, IfOk};
+ghost use Rattle.std.specs.Prelude.{◌≡◌, ◌<◌, ◌≤◌, ◌-◌, ◌^◌, length, pos, IfOk};
 ghost use Rattle.dsv_term.specs.Limits.{max_width};
 ghost use Rattle.dsv_term.specs.Building.{built_of};
 ghost use Rattle.dsv_term.specs.Growth.{AreSound, Adds};
 ghost use Rattle.dsv_term.specs.Terms.{width_of};
 ghost use Rattle.dsv_term.specs.Word.{IsWidth};
 ghost use Rattle.dsv_unroll.specs.Rules.{width_for, widened_term, product_width};
-ghost use Rattle.dsv_unroll.specs.Rules.{product_term, sum_width, shift_width};
+ghost use Rattle.dsv_unroll.specs.Rules.{product_term, scaled_width, scaled_term};
+ghost use Rattle.dsv_unroll.specs.Rules.{sum_width, shift_width};
 ghost use Rattle.dsv_unroll.specs.Rules.{sum_term, difference_term, with_addend, shifted_term};
 ghost use Rattle.dsv_unroll.specs.Rules.{rounded_term};
 ghost use Rattle.dsv_unroll.specs.Ready.{IsValue};
@@ -76,6 +77,45 @@ pub(crate) fn product_term(
     let bits = product_width(terms, bound, coeff, of);
     let wide = widened_term(terms, of, bits)?;
     terms.mul_const(wide, coeff)
+}
+
+/// The width of a term times 2 to the number of bits after the point, where this is its bound.
+fn scaled_width(terms: &Terms, bound: u128, frac_bits: u32, of: TermId) -> u32
+    requires stands { of.0 < length terms.now.nodes }
+    requires small { bound < 2 ^ 78 }
+    requires point { frac_bits ≤ 32 }
+    ensures { result ≡ scaled_width terms.now bound frac_bits of }
+{
+    let bits = terms.width(of);
+    bits.max((bits + frac_bits).min(width_for(bound)))
+}
+
+/// 2 to the number of bits after the point.
+#[tactic(auto, using(dsv_word::proofs::Powers::power_small))]
+fn scale_of(frac_bits: u32) -> i64
+    requires { frac_bits ≤ 32 }
+    ensures { result ≡ pos (2 ^ frac_bits) }
+{
+    1i64 << frac_bits
+}
+
+/// A term times 2 to the number of bits after the point, where this is its bound.
+pub(crate) fn scaled_term(
+    terms: &mut Terms,
+    bound: u128,
+    frac_bits: u32,
+    of: TermId,
+) -> Result<TermId, NoMemory>
+    requires sound { AreSound terms.old }
+    requires value { IsValue terms.old of }
+    requires small { bound < 2 ^ 78 }
+    requires point { frac_bits ≤ 32 }
+    ensures { IfOk result (λ made. built_of terms.new made
+        ≡ scaled_term terms.old bound frac_bits of) }
+{
+    let bits = scaled_width(terms, bound, frac_bits, of);
+    let wide = widened_term(terms, of, bits)?;
+    terms.mul_const(wide, scale_of(frac_bits))
 }
 
 /// The width of a sum or a difference, where this is its bound.

@@ -1,24 +1,28 @@
-use Rattle.std.proofs.Common.{◌∙◌, rules, refl, arith, slice_index_or, pos}
+use Rattle.std.proofs.Common.{◌≡◌, length, length-drop, ◌∙◌, rules, refl, arith, slice_index_or, pos, drop}
 use Rattle.std.proofs.lemmas.Int.{to_z-of_z}
 use mir.Syntax.{w64}
 use mir.Val.{SFits}
+use Rattle.dsv_meaning.specs.Equations.{order, feedback}
 use Rattle.dsv_meaning.proofs.ChainLemmas.{transposed_delta_more}
 use Rattle.dsv_meaning.proofs.chains.transposed_delta_chain.Goals as goal
 
 pub loop-i-preserved : goal.loop-i-preserved
 loop-i-preserved c =
-    let change : SFits w64 c.transposed_line-change.result = search rules in
-    let delta : SFits w64 c.delta_word-delta.result = search rules in
-    let next : SFits w64 c.next_product-next.result = search rules in
+    let change : SFits w64 c.line-change.result = search rules in
+    let next : SFits w64 c.line-next.result = search rules in
+    let q = c.args.quantised.now in
+    let forward : length (drop 1 q.b) ≡ order q = omega (arith, length-drop 1 q.b, c.order-order.ensures.quantised.one_length) in
+    let back : length (feedback q) ≡ order q = length-drop 1 q.a in
     record {
       same =
-          transposed_delta_more c.args.quantised.now c.format-format.result c.delta_word-delta.result c.args.signals.x.now c.args.signals.y.now c.feed_forward-b.result.now c.feedback-a.result.now c.args.old.now c.rest_after.result.now
+          transposed_delta_more q c.args.signals.x.now c.args.signals.y.now (drop 1 q.b) (feedback q) c.args.old.now c.rest_after.result.now
           c.loop-i.registers.items c.push.new.self.items c.loop-i.exact.items c.loop-i.i
-          (slice_index_or c.feed_forward-b.result.now c.loop-i.i (pos 0)) (slice_index_or c.feedback-a.result.now c.loop-i.i (pos 0)) (slice_index_or c.args.old.now c.loop-i.i (pos 0))
-          (record { value = c.transposed_line-change.result; exact = c.transposed_line-change.new.exact.items })
-          (record { value = c.next_product-next.result; exact = c.next_product-next.new.exact.items })
-          c.format-format.ensures.same c.delta_word-delta.ensures.same (omega arith) (omega arith) (omega arith) refl refl refl c.rest_after.ensures c.transposed_line-change.ensures.value
-          (simp to_z-of_z at c.next_product-next.ensures.value) (simp to_z-of_z at c.push.ensures.items) ∙ c.loop-i.invariant.same;
+          (slice_index_or (drop 1 q.b) c.loop-i.i (pos 0)) (slice_index_or (feedback q) c.loop-i.i (pos 0)) (slice_index_or c.args.old.now c.loop-i.i (pos 0))
+          (record { value = c.line-change.result; exact = c.line-change.new.exact.items })
+          (record { value = c.line-next.result; exact = c.line-next.new.exact.items })
+          (omega arith) (omega arith) (omega arith) refl refl refl c.rest_after.ensures
+          (rw c.transposed_line-summands.ensures.value at c.line-change.ensures.value)
+          (simp to_z-of_z at (rw c.delta_line.ensures.value at c.line-next.ensures.value)) (simp to_z-of_z at c.push.ensures.items) ∙ c.loop-i.invariant.same;
       count = omega arith;
       room = omega arith;
     }

@@ -7,9 +7,9 @@ use Rattle.dsv_meaning.proofs.steps.tdfii.Goals as goal
 
 pub returns-clause-sample : goal.returns-clause-sample
 returns-clause-sample c =
-    let result : SFits w64 c.transposed_output-y.result = search rules in
+    let result : SFits w64 c.line-y.result = search rules in
     simp to_z-of_z
-    (tdfii_sample c.args.quantised.now c.args.registers.now.items c.args.x.now (record { value = c.transposed_output-y.result; exact = c.transposed_output-y.new.exact.items })
+    (tdfii_sample c.args.quantised.now c.args.registers.now.items c.args.x.now (record { value = c.line-y.result; exact = c.line-y.new.exact.items })
     (record { words = c.transposed_chain.new.registers.items; exact = c.transposed_chain.new.exact.items })
-    (rw (c.requires.empty, c.as_slice-old.ensures.value) at c.transposed_output-y.ensures.value)
+    (rw (c.requires.empty, c.transposed_output.ensures.value, c.as_slice-old.ensures.value) at c.line-y.ensures.value)
     (simp (to_z-of_z, c.new-next.ensures, c.as_slice-old.ensures.value) at c.transposed_chain.ensures.value))

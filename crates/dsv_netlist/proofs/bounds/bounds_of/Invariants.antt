@@ -7,7 +7,7 @@ use Rattle.dsv_netlist.proofs.bounds.bounds_of.Given as goal
 
 abbrev pub invariant-loop-i : goal.invariant-loop-i
 invariant-loop-i l = record {
-  same : bounds_from l.word (drop l.i l.nodes) (take l.i l.bounds) ≡ bounds_from l.word l.nodes [];
+  same : bounds_from l.format (drop l.i l.nodes) (take l.i l.bounds) ≡ bounds_from l.format l.nodes [];
   below : All (λ bound. bound < bound_limit) (take l.i l.bounds);
   backwards : AllNameBack l.i (drop l.i l.nodes);
 }
