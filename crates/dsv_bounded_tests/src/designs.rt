@@ -1,7 +1,7 @@
 // A small controller in every realisation, rounding and overflow mode.
 use dsv_names::{OverflowMode, Realisation, Rounding};
-use dsv_quantiser::{Quantised, quantise};
-use dsv_reader::read;
+use dsv_quantiser::Quantised;
+use dsv_test_setup::quantised_of;
 use dsv_word::Format;
 use std::alloc::Global;
 
@@ -22,13 +22,12 @@ pub(crate) const REALISATIONS: [Realisation; 6] = [
 ];
 
 /// The quantised controller.
-pub(crate) fn quantised_of(
+pub(crate) fn quantised_in(
     alloc: Global,
     realisation: Realisation,
     rounding: Rounding,
     overflow: OverflowMode,
 ) -> Option<Quantised> {
-    let controller = read(alloc, CONTROLLER.as_bytes()).ok()?;
     let format = Format::new(2, 1, rounding, overflow).ok()?;
-    quantise(&controller, format, realisation).ok()
+    quantised_of(alloc, CONTROLLER, format, realisation)
 }

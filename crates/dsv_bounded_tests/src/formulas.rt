@@ -2,7 +2,7 @@
 // the lowest bit of the first one first of all.
 ghost use Rattle.std.specs.Prelude.{◌<◌};
 
-use crate::designs::{REALISATIONS, quantised_of};
+use crate::designs::{REALISATIONS, quantised_in};
 use dsv_bounded::goal_formula;
 use dsv_cnf::{Formula, Lit};
 use dsv_hints::Searched;
@@ -86,7 +86,7 @@ const WANTED: [(u32, u32); 6] = [(0, 1), (0, 1), (0, 1), (1, 6), (4, 6), (0, 6)]
 fn is_wanted(alloc: Global, i: usize) -> Option<bool>
     requires { i < 6 }
 {
-    let quantised = quantised_of(
+    let quantised = quantised_in(
         alloc,
         REALISATIONS[i],
         Rounding::Floor,

@@ -2,10 +2,10 @@
 use dsv_bounded::{decide, limit_cycle, overflow};
 use dsv_hints::Searched;
 use dsv_names::{OverflowMode, Realisation, Rounding};
-use dsv_quantiser::{Quantised, quantise};
-use dsv_reader::read;
+use dsv_quantiser::Quantised;
 use dsv_realise::realise;
 use dsv_term::Goal;
+use dsv_test_setup::quantised_of;
 use dsv_unroll::{cycle_goal, overflow_goal};
 use dsv_word::Format;
 use std::alloc::Global;
@@ -65,8 +65,7 @@ struct Case {
 }
 
 /// The controller of a job in words.
-fn quantised_of(alloc: Global, job: &Case) -> Option<Quantised> {
-    let controller = read(alloc, job.controller.as_bytes()).ok()?;
+fn quantised_in(alloc: Global, job: &Case) -> Option<Quantised> {
     let format = Format::new(
         job.int_bits,
         job.frac_bits,
@@ -74,12 +73,12 @@ fn quantised_of(alloc: Global, job: &Case) -> Option<Quantised> {
         OverflowMode::Wrap,
     )
     .ok()?;
-    quantise(&controller, format, job.realisation).ok()
+    quantised_of(alloc, job.controller, format, job.realisation)
 }
 
 /// Whether inputs are found that overflow, with one learned clause at most.
 fn is_overflow_found(alloc: Global, job: &Case) -> Option<bool> {
-    let quantised = quantised_of(alloc, job)?;
+    let quantised = quantised_in(alloc, job)?;
     let samples = job.samples;
     if samples < 1 || samples > 64 {
         return None;
@@ -94,7 +93,7 @@ fn is_overflow_found(alloc: Global, job: &Case) -> Option<bool> {
 
 /// Whether a limit cycle is found, with one learned clause at most.
 fn is_cycle_found(alloc: Global, job: &Case) -> Option<bool> {
-    let quantised = quantised_of(alloc, job)?;
+    let quantised = quantised_in(alloc, job)?;
     let periods = job.samples;
     if periods < 1 || periods > 64 {
         return None;
@@ -114,7 +113,7 @@ fn is_hard(alloc: Global, goal: Goal) -> bool {
 
 /// Whether a search gives up on the question of an overflow after one learned clause.
 fn is_overflow_hard(alloc: Global, job: &Case) -> Option<bool> {
-    let quantised = quantised_of(alloc, job)?;
+    let quantised = quantised_in(alloc, job)?;
     let net = realise(alloc, &quantised).ok()?;
     let format = net.format();
     if format.hi() < quantised.xlo() || quantised.xhi() < format.lo() || job.samples > 64 {
@@ -126,7 +125,7 @@ fn is_overflow_hard(alloc: Global, job: &Case) -> Option<bool> {
 
 /// Whether a search gives up on the question of a limit cycle after one learned clause.
 fn is_cycle_hard(alloc: Global, job: &Case) -> Option<bool> {
-    let quantised = quantised_of(alloc, job)?;
+    let quantised = quantised_in(alloc, job)?;
     let net = realise(alloc, &quantised).ok()?;
     if job.samples < 1 || job.samples > 64 {
         return None;

@@ -1,7 +1,7 @@
 // What the searches find, in every realisation, rounding and overflow mode.
 ghost use Rattle.std.specs.Prelude.{◌<◌, ◌≤◌};
 
-use crate::designs::{REALISATIONS, quantised_of};
+use crate::designs::{REALISATIONS, quantised_in};
 use dsv_bounded::{limit_cycle, overflow};
 use dsv_hints::Searched;
 use dsv_names::{OverflowMode, Rounding};
@@ -115,7 +115,7 @@ fn is_first_period(alloc: Global, quantised: &Quantised, period: u32) -> Option<
 fn is_wanted(alloc: Global, row: &Wanted, i: usize) -> Option<bool>
     requires { i < 6 }
 {
-    let quantised = quantised_of(alloc, REALISATIONS[i], row.rounding, row.overflow)?;
+    let quantised = quantised_in(alloc, REALISATIONS[i], row.rounding, row.overflow)?;
     let samples = row.samples[i];
     let period = row.periods[i];
     if samples > 3 || period > PERIODS {

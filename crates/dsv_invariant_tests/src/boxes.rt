@@ -2,7 +2,7 @@
 ghost use Rattle.dsv_template.specs.Shapes.{IsLawful};
 ghost use Rattle.std.specs.Prelude.{IfSome};
 
-use crate::designs::{ALTERNATING, Bound, Design, HALVES, Offer, quantised_of};
+use crate::designs::{ALTERNATING, Bound, Design, HALVES, Offer, quantised_in};
 use dsv_invariant::shape_of;
 use dsv_names::{OverflowMode, Realisation};
 use dsv_template::{BoxProposer, Candidate, Inequality, InvariantProposer, Shape};
@@ -19,7 +19,7 @@ fn shape(alloc: Global, controller: &'static str, frac_bits: u32) -> Option<Shap
         realisation: Realisation::Dfi,
         overflow: OverflowMode::Wrap,
     };
-    let quantised = quantised_of(alloc, &design)?;
+    let quantised = quantised_in(alloc, &design)?;
     Some(shape_of(&quantised))
 }
 

@@ -1,8 +1,8 @@
 // Quantised controllers, and candidates for those with two registers.
 use dsv_names::{OverflowMode, Realisation, Rounding};
-use dsv_quantiser::{Quantised, quantise};
-use dsv_reader::read;
+use dsv_quantiser::Quantised;
 use dsv_template::{Candidate, CoefficientList, Inequality, InequalityList};
+use dsv_test_setup::quantised_of;
 use dsv_word::Format;
 use std::alloc::Global;
 
@@ -32,8 +32,7 @@ pub(crate) struct Design {
 }
 
 /// The controller of a design in words.
-pub(crate) fn quantised_of(alloc: Global, design: &Design) -> Option<Quantised> {
-    let controller = read(alloc, design.controller.as_bytes()).ok()?;
+pub(crate) fn quantised_in(alloc: Global, design: &Design) -> Option<Quantised> {
     let format = Format::new(
         design.int_bits,
         design.frac_bits,
@@ -41,7 +40,7 @@ pub(crate) fn quantised_of(alloc: Global, design: &Design) -> Option<Quantised> 
         design.overflow,
     )
     .ok()?;
-    quantise(&controller, format, design.realisation).ok()
+    quantised_of(alloc, design.controller, format, design.realisation)
 }
 
 /// The inequality that the sum of each coefficient times its register is at most a number.

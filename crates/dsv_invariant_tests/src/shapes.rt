@@ -1,5 +1,5 @@
 // What proposers are told, and jobs that are too large.
-use crate::designs::{Design, HALVES, quantised_of};
+use crate::designs::{Design, HALVES, quantised_in};
 use dsv_bounded::TooLarge;
 use dsv_invariant::{accept_unbounded, shape_of};
 use dsv_names::{OverflowMode, Realisation};
@@ -39,7 +39,7 @@ const TOLD: [Told; 3] = [
 
 /// Whether proposers are told so, of words of four bits and inputs from -1 to 1.
 fn is_told(alloc: Global, row: &Told) -> Option<bool> {
-    let quantised = quantised_of(alloc, &design(row.0, 2, row.1))?;
+    let quantised = quantised_in(alloc, &design(row.0, 2, row.1))?;
     let wanted = Shape {
         registers: row.2,
         past_inputs: row.3,
@@ -61,7 +61,7 @@ fn earlier_inputs_are_told_of_the_direct_form_one_alone(rt: HostRuntime) {
 /// Whether a controller of order 8 with 33 products in words of 32 bits is refused for the size
 /// 9 * 33 * 32^2.
 fn is_refused(alloc: Global) -> Option<bool> {
-    let quantised = quantised_of(alloc, &design(EIGHTH, 16, Realisation::Ddfi))?;
+    let quantised = quantised_in(alloc, &design(EIGHTH, 16, Realisation::Ddfi))?;
     Some(accept_unbounded(&quantised) == Err(TooLarge { size: 304_128 }))
 }
 

@@ -2,7 +2,7 @@
 // inputs of a model of the written equation.
 ghost use Rattle.std.specs.Prelude.{◌≤◌, ◌^◌};
 
-use crate::designs::{ALTERNATING, Bound, Design, HALVES, Offer, SUMS, candidate_of, quantised_of};
+use crate::designs::{ALTERNATING, Bound, Design, HALVES, Offer, SUMS, candidate_of, quantised_in};
 use dsv_invariant::{accept_unbounded, check_candidate};
 use dsv_names::{OverflowMode, Realisation};
 use dsv_quantiser::Quantised;
@@ -122,7 +122,7 @@ fn are_letters(alloc: Global, quantised: &Quantised, letters: &[u8]) -> bool {
 }
 
 fn is_right(alloc: Global, case: &Case) -> bool {
-    match quantised_of(alloc, &design(case.0, case.1, case.2)) {
+    match quantised_in(alloc, &design(case.0, case.1, case.2)) {
         Some(quantised) => are_letters(alloc, &quantised, case.3),
         None => false,
     }
@@ -149,7 +149,7 @@ const FINE_BOX: Offer = Offer(
 /// Whether a search that may learn one clause gives up on the step or the safe sentence. The base
 /// asks of registers of zeros alone, and holds.
 fn is_spent(alloc: Global) -> Option<bool> {
-    let quantised = quantised_of(alloc, &design(HALVES, 14, OverflowMode::Wrap))?;
+    let quantised = quantised_in(alloc, &design(HALVES, 14, OverflowMode::Wrap))?;
     match finding(alloc, &quantised, &FINE_BOX, 1)? {
         Why::Spent { part, log } => Some(part != SetPart::Base && log.len() == 1),
         _ => Some(false),
@@ -173,7 +173,7 @@ const BAD: [Offer; 5] = [
 
 /// Whether the numbers of no such offer are as they have to be.
 fn are_bad(alloc: Global) -> Option<bool> {
-    let quantised = quantised_of(alloc, &design(HALVES, 2, OverflowMode::Wrap))?;
+    let quantised = quantised_in(alloc, &design(HALVES, 2, OverflowMode::Wrap))?;
     for offer in &BAD {
         if !matches!(finding(alloc, &quantised, offer, 1), Some(Why::BadShape)) {
             return Some(false);

@@ -1,10 +1,10 @@
 // Goals of controllers, and goals that are constant.
 use dsv_names::{OverflowMode, Realisation, Rounding};
-use dsv_quantiser::{Quantised, quantise};
-use dsv_reader::read;
+use dsv_quantiser::Quantised;
 use dsv_realise::realise;
 use dsv_rewrite::simplify;
 use dsv_term::{Goal, TermNode, Terms};
+use dsv_test_setup::quantised_of;
 use dsv_unroll::overflow_goal;
 use dsv_word::Format;
 use std::alloc::Global;
@@ -14,10 +14,9 @@ const FIRST: &str = "digital_system d = { .b = {1.0}, .b_size = 1, .a = {1.0, -0
 implementation r = { .int_bits = 2, .frac_bits = 2, .max = 1.0, .min = -1.0, .delta = 1.0 };";
 
 /// The quantised controller.
-fn quantised_of(alloc: Global) -> Option<Quantised> {
-    let controller = read(alloc, FIRST.as_bytes()).ok()?;
+fn first_quantised(alloc: Global) -> Option<Quantised> {
     let format = Format::new(2, 2, Rounding::Floor, OverflowMode::Wrap).ok()?;
-    quantise(&controller, format, Realisation::Dfi).ok()
+    quantised_of(alloc, FIRST, format, Realisation::Dfi)
 }
 
 /// The goal that its output breaks within two samples, made simpler.
@@ -54,7 +53,7 @@ fn is_one_alone(alloc: Global, goal: &Goal) -> bool {
 }
 
 fn is_found(alloc: Global) -> Option<bool> {
-    let quantised = quantised_of(alloc)?;
+    let quantised = first_quantised(alloc)?;
     let goal = overflow_of(alloc, &quantised)?;
     Some(is_one_alone(alloc, &goal))
 }
