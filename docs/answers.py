@@ -1,0 +1,342 @@
+#!/usr/bin/env python3
+"""Writes docs/ANSWERS.md: every answer of the command, with an example from the stored runs of the examples.
+
+    python3 docs/answers.py            writes docs/ANSWERS.md
+    python3 docs/answers.py --check    fails where the page is another
+
+The kinds of answers stand in the tables below: of each its status, a pattern of its text, what it means, what to do, and the
+case of crates/dsv_examples/data/cases.txt that is its example, whose text is taken from crates/dsv_examples/stdout. The script
+fails where a case has another status than its kind, where the text of a case has no kind or several, and where a kind is said
+to have no example and a case has its text. Run it at the top of the repository."""
+import os
+import re
+import sys
+import textwrap
+from collections import namedtuple
+
+PAGE = "docs/ANSWERS.md"
+CASES = "crates/dsv_examples/data/cases.txt"
+STORED = "crates/dsv_examples/stdout"
+
+# `case` is None where the examples have none, and `why` says so.
+Kind = namedtuple("Kind", "title status pattern means next case why", defaults=(None,))
+
+S, F, I = "VERIFICATION SUCCESSFUL", "VERIFICATION FAILED", "VERIFICATION INCONCLUSIVE"
+
+OVERFLOW = [
+    Kind("Successful over K samples", 0, rf"{S}\nproperty OVERFLOW .* samples \d+\n",
+         "No list of K inputs in range, from registers of zeros, makes an operation's exact value leave the words.",
+         "where the controller remembers more than K samples ask `--gain`.",
+         "low_pass_in_bytes.dsv --property OVERFLOW --x-size 6"),
+    Kind("Successful over lists of any length, by ranges", 0, rf"{S}\nproperty OVERFLOW .* gain\n.*",
+         "`--gain`: no list of inputs in range, however long, overflows, and the exact value of each operation is never outside its "
+         "printed range. docs/GUIDE.md says what `depth` and `settled` are.",
+         "where all ranges, the coefficients and the inputs fit in words with one bit less before the point, that bit can go.",
+         "lag.dsv --property OVERFLOW --gain"),
+    Kind("Successful over lists of any length, by an invariant", 0, rf"{S}\nproperty OVERFLOW .* unbounded\n.*",
+         "`--unbounded`: no list of inputs in range, however long, overflows. The registers never leave the printed set: each "
+         "inequality has a coefficient for each register, and what the sum is at most.",
+         "nothing.",
+         "slow_pole.dsv --property OVERFLOW --unbounded"),
+    Kind("Failed", 10, rf"{F}\nproperty OVERFLOW .*\ninputs .*",
+         "A counterexample: these inputs overflow, in the last sample. There the exact value of this number is the first that is no word. With `--gain` "
+         "the list has up to 4,096 inputs.",
+         "`--simulate` with these inputs shows the value in its place. One more of `int_bits`, a smaller range of inputs, another "
+         "realisation; or nothing, where a later operation undoes it and words wrap.",
+         "integrator.dsv --property OVERFLOW --gain"),
+    Kind("Inconclusive, `cause GAIN`", 20, rf"{I}\nproperty OVERFLOW .* gain\ncause GAIN .*",
+         "In this sample the range of the exact value of this number, over all runs, isn't known to be one of words, and is the first "
+         "such; none of the lists that were tried overflows.",
+         "a smaller range of inputs, one more of `int_bits`, `--unbounded`, or `--x-size`.",
+         "notch.dsv --property OVERFLOW --gain"),
+    Kind("Inconclusive, `cause DEPTH`", 20, rf"{I}\nproperty OVERFLOW .* gain\ncause DEPTH .*",
+         "The ranges of all runs are words in each sample below this depth, and those after any words in the registers in none: the "
+         "registers matter for too long, as of a pole on the circle.",
+         "another realisation, `--unbounded`, or `--x-size`.",
+         "small/held.dsv --property OVERFLOW --gain"),
+    Kind("Inconclusive, `cause NO_INVARIANT`", 20, rf"{I}\nproperty OVERFLOW .* unbounded\ncause NO_INVARIANT .*",
+         "`--unbounded`: none of the candidate invariants is known to be one; for `spent` of them the conflict budget was exhausted.",
+         "`--gain`. Where `spent` isn't 0, more `--conflicts`; a smaller range of inputs or one more of `int_bits`; another "
+         "realisation; else `--x-size`.",
+         "small/pole.dsv --property OVERFLOW --unbounded"),
+    Kind("Inconclusive, `cause SPENT`", 20, rf"{I}\nproperty (?:OVERFLOW|LIMIT_CYCLE) .*\ncause SPENT .*",
+         "OVERFLOW and LIMIT_CYCLE with `--x-size`: the conflict budget of the search is exhausted.",
+         "`--conflicts`, up to 200000; fewer samples; `--formula` with another solver.",
+         "small/average.dsv --property OVERFLOW --conflicts 1"),
+]
+
+CYCLES = [
+    Kind("Successful", 0, rf"{S}\nproperty LIMIT_CYCLE .*",
+         "Without input no words in the registers come back within 1 to K samples while an output isn't 0.",
+         "longer periods may be asked, up to 64.",
+         "small/two_taps.dsv --property LIMIT_CYCLE --x-size 3"),
+    Kind("Failed", 10, rf"{F}\nproperty LIMIT_CYCLE .*",
+         "A counterexample: without input these words in the registers come back after `period` samples, and no earlier. The start may be one that no "
+         "inputs lead to.",
+         "look at the size of `outputs`. More of `frac_bits` make a cycle smaller; another `--rounding` or realisation may take it away. "
+         "Of an integrator it is as it should be.",
+         "resonator.dsv --property LIMIT_CYCLE --rounding NEAREST --overflow-mode SATURATE --x-size 9"),
+]
+
+ROOTS = [
+    Kind("Successful", 0, rf"{S}\nproperty (?:STABILITY|MINIMUM_PHASE) .*\npolynomial .*",
+         "The roots of the printed polynomial, the denominator or the numerator in words, are inside the unit circle: the form is "
+         "positive and strictly falls along each trajectory, by `fall` in a step. Form and fall are evidence.",
+         "nothing.",
+         "lag.dsv --property STABILITY"),
+    Kind("Failed", 10, rf"{F}\nproperty (?:STABILITY|MINIMUM_PHASE) .*\npolynomial .*",
+         "Unstable, or of no minimum phase: a root is outside the unit circle or on it. The form is negative at `start` and never rises from there, so that the "
+         "trajectory from the start doesn't tend to 0.",
+         "more of `frac_bits`, another `--rounding`, or a delta form. Of a PI or PID controller a pole at 1 is meant.",
+         "lag_in_bytes.dsv --property STABILITY"),
+    Kind("Failed, `no zeros to test`", 10, rf"{F}\nproperty MINIMUM_PHASE .*\nno zeros to test\n",
+         "All words of the numerator are 0.",
+         "more of `frac_bits`, or a larger numerator.",
+         "small/no_zeros.dsv --property MINIMUM_PHASE"),
+    Kind("Inconclusive, `cause NO_FORM`, `jury not-inside`", 20, rf"{I}\n.*\n.*\ncause NO_FORM .*\njury not-inside .*",
+         "No form was found. By Jury's criterion a root isn't inside, which isn't proved; the number is the row that fails.",
+         "`--schur-cohn`, which can show it unless the root is on the circle.",
+         "small/no_form.dsv --property STABILITY"),
+    Kind("Inconclusive, `cause NO_FORM`, `jury inside`", 20, rf"{I}\n.*\n.*\ncause NO_FORM .*\njury inside\n",
+         "No form was found, though by Jury's criterion the roots are inside, which isn't proved.",
+         "`--schur-cohn`; other words; sections of order 2, each as a file of its own, which are decided with small words.",
+         "small/no_form_inside.dsv --property STABILITY"),
+    Kind("Inconclusive, `cause NO_FORM`, `jury wide`", 20, rf"{I}\n.*\n.*\ncause NO_FORM .*\njury wide .*",
+         "No form was found, and the numbers of Jury's criterion are too large in this row.",
+         "as after `jury inside`.",
+         "small/slow_order_six.dsv --property STABILITY"),
+    Kind("Inconclusive, `cause WIDE`", 20, rf"{I}\nproperty (?:STABILITY|MINIMUM_PHASE) .*\ncause WIDE .*",
+         "This number of the polynomial, or one on the way to it, is too large.",
+         "fewer bits; in a delta form, a `delta` such as 1/4 in place of a smaller one.",
+         "small/wide_polynomial.dsv --property STABILITY --realization DDFI"),
+]
+
+TIMES = [
+    Kind("Successful", 0, rf"{S}\nproperty TIMING .*",
+         "The cycles that a sample takes, by the costs of the block `hardware`, are done within the time between two samples.",
+         "compare the costs with the processor's.",
+         "lag.dsv --property TIMING"),
+    Kind("Failed", 10, rf"{F}\nproperty TIMING .*",
+         "They aren't: the cycles divided by the clock are more than the sample time.",
+         "a direct form has the fewest operations; else a longer sample time or a faster clock.",
+         "small/roll_late.dsv --property TIMING"),
+]
+
+OTHERS = [
+    Kind("A simulation", 0, r"SIMULATION\n.*",
+         "`--simulate`: each line has the input, the output, and the exact value of each operation before it is fitted into a word.",
+         "compare the outputs with the board's.",
+         "small/pole.dsv --simulate 4,4"),
+    Kind("A tally", 0, r"GENERATED .*",
+         "`--generate`: of the generated controllers, how many have each verdict.",
+         "nothing: it tries the program.",
+         "--generate 1"),
+    Kind("A certificate", 0, r"dsv-certificate 1\n.*",
+         "`--certificate`: the evidence of a SUCCESSFUL verdict, in place of the report. docs/CERTIFICATES.md has the text of each kind.",
+         "keep it with the controller's file; `--check` judges it.",
+         "low_pass_in_bytes.dsv --property OVERFLOW --gain --certificate"),
+    Kind("An accepted certificate", 0, r"CERTIFICATE ACCEPTED\n.*",
+         "`--check`: the controller of the file has the certificate's property.",
+         "nothing.",
+         "small/order_two.dsv --check small/order_two.cert"),
+    Kind("A formula", 0, r"p cnf .*",
+         "`--formula`: the question itself, as DIMACS.",
+         "give it to another solver, as docs/GUIDE.md says.",
+         None, "None stands here: the text is long. docs/GUIDE.md has the first line of one."),
+]
+
+REFUSED = [
+    Kind("1 `UTF8`", 2, r"FILE REFUSED 1 .*", "a byte that isn't UTF-8", "write the letter otherwise",
+         "small/not_utf8.dsv --property STABILITY"),
+    Kind("2 `TOKEN`", 2, r"FILE REFUSED 2 .*", "no name, number or sign of the grammar", "look at that place: a unit, a comment without an end",
+         "small/unit.dsv --property STABILITY"),
+    Kind("3 `UNEXPECTED`", 2, r"FILE REFUSED 3 .*", "what stands there can't go on the file",
+         "put there what is `wanted`; a field that isn't known has to go", "small/scale.dsv --property STABILITY"),
+    Kind("4 `FIELD_TWICE`", 2, r"FILE REFUSED 4 .*", "the block has this field already", "leave one", "small/twice.dsv --property STABILITY"),
+    Kind("5 `FIELD_MISSING`", 2, r"FILE REFUSED 5 .*", "the block that ends there lacks the `field`", "add it",
+         "small/missing.dsv --property STABILITY"),
+    Kind("6 `NUMBER`", 2, r"FILE REFUSED 6 .*", "a number breaks the rule or the range of its field", "docs/FILE.md has both",
+         "small/too_many_digits.dsv --property STABILITY"),
+    Kind("7 `SIZE_MISMATCH`", 2, r"FILE REFUSED 7 .*", "`b_size` or `a_size` isn't its list's length", "count again",
+         "small/wrong_size.dsv --property STABILITY"),
+    Kind("8 `LENGTH`", 2, r"FILE REFUSED 8 .*", "a list hasn't one to nine numbers", "order 8 is the highest",
+         "small/ten_coefficients.dsv --property STABILITY"),
+    Kind("9 `LEADING_ZERO`", 2, r"FILE REFUSED 9 .*", "a_0 is 0", "begin `a` with another number",
+         "small/leading_zero.dsv --property STABILITY"),
+    Kind("10 `FRACTION_WIDE`", 2, r"FILE REFUSED 10 .*", "the fraction of a number, or its quotient by a_0, has too many digits", "fewer digits",
+         "small/wide_number.dsv --property STABILITY"),
+    Kind("11 `WIDTH`", 2, r"FILE REFUSED 11 .*", "words of fewer than 2 or more than 32 bits, or none before the point",
+         "other `int_bits` and `frac_bits`", "small/wide_words.dsv --property STABILITY"),
+    Kind("12 `TOO_LONG`", 2, r"FILE REFUSED 12 .*", "over 65,536 bytes", "a shorter file", "small/too_long.dsv --property STABILITY"),
+    Kind("21 `COEFFICIENT_RANGE`", 2, r"FILE REFUSED 21 .*", "the coefficient of this list and index would be `wanted`, which is no word",
+         "more `int_bits`, or coefficients that are scaled", "small/wide_a.dsv --property STABILITY"),
+    Kind("22 `DELTA_NOT_POSITIVE`", 2, r"FILE REFUSED 22 .*", "delta's word isn't above 0, or the file has no delta",
+         "a `delta` of at least 2^-frac_bits", "small/half_pole.dsv --realization DDFI --property STABILITY"),
+    Kind("23 `RANGE_EMPTY`", 2, r"FILE REFUSED 23 .*", "no word lies from `min` to `max`", "a wider range",
+         "small/between_words.dsv --simulate 0 --rounding CEIL"),
+    Kind("24 `FRACTION_WIDE`", 2, r"FILE REFUSED 24 .*", "a number on the way to this word has too many digits", "fewer digits, or a larger `delta`",
+         "small/wide_delta_sum.dsv --simulate 0 --realization DDFI"),
+    Kind("25 `INPUT_RANGE`", 2, r"FILE REFUSED 25 .*", "the input of this number is no word", "inputs are words: 1.0 is 2^frac_bits",
+         "small/pole.dsv --simulate 8"),
+]
+
+STOPPED = [
+    Kind("The command line", 1, r"USAGE\n", "it is not valid", "`./dsv --help`; names are in capitals, `--x-size` is 1 to 64",
+         "small/modes.dsv --property stability"),
+    Kind("The controller's file", 3, r"READ FAULT CONTROLLER\n", "it can't be read", "look at its name and rights",
+         "small/none.dsv --property STABILITY"),
+    Kind("The certificate's file", 3, r"READ FAULT CERTIFICATE\n", "it can't be read", "look at its name and rights",
+         "small/order_two.dsv --check small/none.cert"),
+    Kind("The output", 4, r"OUTPUT\n", "it failed, after a prefix of the text", "look at the disk", None, "none stands here"),
+    Kind("Memory", 5, r"NO MEMORY\n", "out of memory", "fewer samples", None, "none stands here"),
+    Kind("The job's size", 6, r"JOB SIZE .*", "samples (nine for `--unbounded`) times products times the square of a word's bits is over 250,000",
+         "fewer samples or bits; a direct form", "small/large_job.dsv --property OVERFLOW --x-size 49"),
+    Kind("The arguments", 8, r"ARGUMENTS\n", "they can't be read; nothing is written", "names of files in UTF-8", None, "none stands here"),
+    Kind("The launcher", 9, r"LAUNCHER\n", "nothing could be run: standard error says why", "`./dsv --prove`, and the toolchain", None,
+         "none stands here"),
+]
+
+CERTIFICATES = [
+    Kind("1 `VERSION`", 7, r"CERTIFICATE REFUSED .* code 1 .*", "the first line is another", "",
+         "small/order_two.dsv --check small/next_version.cert"),
+    Kind("2 `KIND`", 7, r"CERTIFICATE REFUSED .* code 2 .*", "no job or no kind, or a kind that belongs to no such job", "",
+         "small/order_two.dsv --check small/other_kind.cert"),
+    Kind("3 `NUMBER`", 7, r"CERTIFICATE REFUSED .* code 3 .*", "a piece is no number, or out of its range", "",
+         "small/order_two.dsv --check small/no_number.cert"),
+    Kind("4 `LINE`", 7, r"CERTIFICATE REFUSED .* code 4 .*", "another word or number of pieces than wanted", "",
+         "small/order_two.dsv --check small/short_line.cert"),
+    Kind("5 `END`", 7, r"CERTIFICATE REFUSED .* code 5 .*", "it isn't ended, or goes on after `end`", "",
+         "small/order_two.dsv --check small/order_two_without_end.cert"),
+    Kind("6 `STEP`", 7, r"CERTIFICATE REFUSED .* code 6 .*", "a step of a log doesn't follow", "",
+         "small/average.dsv --check small/average_with_another_hint.cert"),
+    Kind("7 `FORM`", 7, r"CERTIFICATE REFUSED .* code 7 .*", "a part of a form doesn't hold", "",
+         "small/order_two.dsv --check small/order_two_with_24.cert"),
+    Kind("8 `SHAPE`", 7, r"CERTIFICATE REFUSED .* code 8 .*", "a form or a set of another shape than the controller", "",
+         "small/half_pole.dsv --check small/order_two.cert"),
+    Kind("9 `TOO_LONG`", 7, r"CERTIFICATE REFUSED .* code 9 .*", "over 64 MiB", "", None, "none stands here"),
+    Kind("10 `GAIN`", 7, r"CERTIFICATE REFUSED .* code 10 .*", "at this depth, and before it, some range isn't known to be one of words", "",
+         "low_pass_in_bytes.dsv --check small/low_pass_in_bytes_too_early.cert"),
+]
+
+HEAD = """\
+# What the command answers
+
+Every answer, with an example from the stored runs of `crates/dsv_examples`, where one stands there. docs/answers.py writes this
+page. Numbers of inputs, outputs, registers and exact values are words: w stands for w / 2^frac_bits. The program writes
+nothing to standard error; the launcher `./dsv` says there what it does as long as the program isn't proved and built, and
+what helps after a refusal.
+"""
+
+SECTIONS = [
+    ("OVERFLOW", None, OVERFLOW),
+    ("LIMIT_CYCLE", None, CYCLES),
+    ("STABILITY and MINIMUM_PHASE", None, ROOTS),
+    ("TIMING", None, TIMES),
+    ("Other answers", None, OTHERS),
+    ("Refused files: status 2",
+     "`at` is a byte's place, from 0 on; the launcher says its line and column. docs/FILE.md says where each refusal stands, "
+     "and in which order they come.", REFUSED),
+    ("No answer", None, STOPPED),
+    ("Refused certificates: status 7",
+     "The line is the first that is wrong. A refusal doesn't mean that the property fails: ask for the verdict, or make the "
+     "certificate again. docs/CERTIFICATES.md has the lines.", CERTIFICATES),
+]
+TABLES = {"Refused files: status 2": "Code", "No answer": "What fails", "Refused certificates: status 7": "Code"}
+
+
+def stored_runs():
+    """What each case wrote, and its status, in the order of the list."""
+    with open(STORED, encoding="utf-8") as file:
+        runs = re.findall(r"^== (.*)\n((?:.*\n)*?)status (\d+)\n", file.read(), re.M)
+    with open(CASES, encoding="utf-8") as file:
+        cases = [line for line in file.read().split("\n") if line and not line.startswith("#")]
+    if [case for case, _, _ in runs] != cases:
+        sys.exit(f"answers: the runs of {STORED} aren't those of {CASES}")
+    return {case: (text, int(status)) for case, text, status in runs}
+
+
+def is_of(kind, run):
+    return run[1] == kind.status and re.fullmatch(kind.pattern, run[0], re.S) is not None
+
+
+def faults_of(runs, kinds):
+    """What is wrong between the runs and the tables."""
+    for case, run in runs.items():
+        titles = [kind.title for kind in kinds if is_of(kind, run)]
+        if len(titles) != 1:
+            yield f"{case}: it is of {len(titles)} kinds: {', '.join(titles)}"
+    for kind in kinds:
+        if kind.case and not (kind.case in runs and is_of(kind, runs[kind.case])):
+            yield f"{kind.title}: {kind.case} is no example of it"
+        if not kind.case and any(is_of(kind, run) for run in runs.values()):
+            yield f"{kind.title}: there is an example"
+
+
+def place_of(argument):
+    """Where a file of the examples stands in the repository."""
+    place = f"examples/{argument}"
+    return place if os.path.exists(place) else f"crates/dsv_examples/data/{argument}"
+
+
+def command_of(case):
+    words = [place_of(word) if re.search(r"\.(?:dsv|cert)$", word) else word for word in case.split(" ")]
+    return " ".join(["./dsv"] + words)
+
+
+def filled(text):
+    return textwrap.fill(text, 120, break_on_hyphens=False, break_long_words=False)
+
+
+def lines_of(kind, runs):
+    """The part of the page that an answer has."""
+    yield f"\n### {kind.title}: status {kind.status}\n"
+    yield filled(kind.means)
+    yield "\n" + filled(f"What to do: {kind.next}")
+    if kind.case:
+        yield "\n    $ " + command_of(kind.case)
+        yield textwrap.indent(runs[kind.case][0].rstrip("\n"), "    ")
+    else:
+        yield "\n" + kind.why
+
+
+def rows_of(title, kinds, runs):
+    """The rows of a table of refusals."""
+    has_status = len({kind.status for kind in kinds}) > 1
+    has_next = any(kind.next for kind in kinds)
+    heads = [TABLES[title]] + ["Status"] * has_status + ["Means"] + ["What to do"] * has_next + ["Example, a case of the list"]
+    yield "\n| " + " | ".join(heads) + " |"
+    yield "|---" * len(heads) + "|"
+    for kind in kinds:
+        text = f"`{kind.case}`: `{runs[kind.case][0].rstrip()}`" if kind.case else kind.why
+        cells = [kind.title] + [str(kind.status)] * has_status + [kind.means] + [kind.next] * has_next + [text]
+        yield "| " + " | ".join(cells) + " |"
+
+
+def page(runs):
+    parts = [HEAD]
+    for title, text, kinds in SECTIONS:
+        parts.append(f"\n## {title}")
+        if text:
+            parts.append("\n" + filled(text))
+        for kind in [] if title in TABLES else kinds:
+            parts += lines_of(kind, runs)
+        parts += rows_of(title, kinds, runs) if title in TABLES else []
+    return "\n".join(parts).replace("\n\n\n", "\n\n") + "\n"
+
+
+def main():
+    runs = stored_runs()
+    faults = list(faults_of(runs, [kind for _, _, kinds in SECTIONS for kind in kinds]))
+    if faults:
+        sys.exit("answers: " + "\nanswers: ".join(faults))
+    if sys.argv[1:] == ["--check"]:
+        with open(PAGE, encoding="utf-8") as file:
+            if file.read() != page(runs):
+                sys.exit(f"answers: {PAGE} isn't what docs/answers.py writes")
+        return
+    with open(PAGE, "w", encoding="utf-8") as file:
+        file.write(page(runs))
+
+
+if __name__ == "__main__":
+    main()
