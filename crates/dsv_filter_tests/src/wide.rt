@@ -350,12 +350,15 @@ fn next_start(start: &mut [i64]) -> bool {
     false
 }
 
+/// More than there are lists of words in the registers.
+const MOST_STARTS: u32 = 1 << 12;
+
 /// Whether all samples from all words in the registers are those of the model.
 fn all_agree(alloc: Global, quantised: &Quantised) -> Option<bool> {
     let net = realise(alloc, quantised).ok()?;
     let mut start = vec![in alloc; -4i64; net.registers() as usize].ok()?;
     let mut agree = true;
-    loop {
+    for _ in 0..MOST_STARTS {
         for x in WORDS {
             agree = agree && agrees(alloc, quantised, &net, x, &start)?;
         }
@@ -363,6 +366,7 @@ fn all_agree(alloc: Global, quantised: &Quantised) -> Option<bool> {
             return Some(agree);
         }
     }
+    None
 }
 
 const ROUNDINGS: [Rounding; 3] = [Rounding::Floor, Rounding::Nearest, Rounding::Ceil];
