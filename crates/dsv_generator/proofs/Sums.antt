@@ -1,25 +1,26 @@
 -- The counts of a tally add up, and its logs are in the order of their controllers.
 use Rattle.std.proofs.Common.{◌≡◌, ℕ, zero, suc, ◌+◌, ◌<◌, Bool, true, false, not, List, [], ◌∷◌, ◌++◌, length, refl, ◌∙◌, arith, length-append}
-use Rattle.dsv_generator.specs.declared.finding.RunFinding.{RunFinding}
-use Rattle.dsv_generator.specs.declared.finding.RunFinding.TheVariants as found
+use Rattle.dsv_hints.specs.declared.search.Searched.{Searched}
+use Rattle.dsv_hints.specs.declared.search.Searched.TheVariants as searched
+use Rattle.dsv_meaning.specs.declared.replays.Trace.{Trace}
 use Rattle.dsv_tally.specs.declared.tally.SpentLog.{SpentLog}
 use Rattle.dsv_tally.specs.declared.tally.Tally.{Tally}
-use Rattle.dsv_generator.specs.Tallies.{one_if, does_fall, is_never, is_overflow, is_spent, with_log, IsTally, none, more, AreRising, AddsUp, IsBelow}
+use Rattle.dsv_generator.specs.Tallies.{one_if, does_fall, is_never, does_happen, is_spent, with_log, IsTally, none, more, AreRising, AddsUp, IsBelow}
 
 one_of_two : (b : Bool) → one_if b + one_if (not b) ≡ 1
 one_of_two true = refl
 one_of_two false = refl
 
-one_of_three : (f : RunFinding) → one_if (is_never f) + one_if (is_overflow f) + one_if (is_spent f) ≡ 1
-one_of_three (found.Never log) = refl
-one_of_three (found.Overflow trace) = refl
-one_of_three (found.Spent log) = refl
+one_of_three : (f : Searched Trace) → one_if (is_never f) + one_if (does_happen f) + one_if (is_spent f) ≡ 1
+one_of_three (searched.Never log) = refl
+one_of_three (searched.Happens trace) = refl
+one_of_three (searched.Spent log) = refl
 
 -- ---- logs
-more_logs : (n : ℕ) (f : RunFinding) (logs : List SpentLog) → length (with_log n f logs) ≡ length logs + one_if (is_spent f)
-more_logs n (found.Never log) logs = omega arith
-more_logs n (found.Overflow trace) logs = omega arith
-more_logs n (found.Spent log) logs = omega (arith, length-append logs (record { index = n; log = log } ∷ []))
+more_logs : (n : ℕ) (f : Searched Trace) (logs : List SpentLog) → length (with_log n f logs) ≡ length logs + one_if (is_spent f)
+more_logs n (searched.Never log) logs = omega arith
+more_logs n (searched.Happens trace) logs = omega arith
+more_logs n (searched.Spent log) logs = omega (arith, length-append logs (record { index = n; log = log } ∷ []))
 
 rising_later : (least n : ℕ) (logs : List SpentLog) → AreRising least logs n → AreRising least logs (suc n)
 rising_later least n [] h = omega (arith, h)
@@ -29,10 +30,10 @@ rising_more : (least n : ℕ) (logs : List SpentLog) (s : SpentLog) → s.index 
 rising_more least n [] s e h = (omega (arith, e, h), omega (arith, e))
 rising_more least n (t ∷ logs) s e h = (h.0, rising_more (suc t.index) n logs s e h.1)
 
-rising_with : (n : ℕ) (f : RunFinding) (logs : List SpentLog) → AreRising 0 logs n → AreRising 0 (with_log n f logs) (suc n)
-rising_with n (found.Never log) logs h = rising_later 0 n logs h
-rising_with n (found.Overflow trace) logs h = rising_later 0 n logs h
-rising_with n (found.Spent log) logs h = rising_more 0 n logs (record { index = n; log = log }) refl h
+rising_with : (n : ℕ) (f : Searched Trace) (logs : List SpentLog) → AreRising 0 logs n → AreRising 0 (with_log n f logs) (suc n)
+rising_with n (searched.Never log) logs h = rising_later 0 n logs h
+rising_with n (searched.Happens trace) logs h = rising_later 0 n logs h
+rising_with n (searched.Spent log) logs h = rising_more 0 n logs (record { index = n; log = log }) refl h
 
 -- ---- sums
 pub adds_up : (seed n : ℕ) (t : Tally) (logs : List SpentLog) → IsTally seed n t logs → AddsUp n t logs

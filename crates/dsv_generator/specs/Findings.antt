@@ -14,12 +14,13 @@ use Rattle.dsv_tested.specs.declared.side.Side.TheVariants as side
 use Rattle.dsv_tested.specs.declared.side.Tested.{Tested}
 use Rattle.dsv_tested.specs.declared.side.Tested.TheVariants as tested
 use Rattle.dsv_bounded.specs.RunAnswers.{NeverHappens, GaveUp}
+use Rattle.dsv_hints.specs.declared.search.Searched.{Searched}
+use Rattle.dsv_hints.specs.declared.search.Searched.TheVariants as searched
+use Rattle.dsv_meaning.specs.declared.replays.Trace.{Trace}
 use Rattle.dsv_meaning.specs.Traces.{IsTrace}
 use Rattle.dsv_generator.specs.declared.finding.Finding.{Finding}
 use Rattle.dsv_generator.specs.declared.finding.RootFinding.{RootFinding}
 use Rattle.dsv_generator.specs.declared.finding.RootFinding.TheVariants as root
-use Rattle.dsv_generator.specs.declared.finding.RunFinding.{RunFinding}
-use Rattle.dsv_generator.specs.declared.finding.RunFinding.TheVariants as found
 use Rattle.dsv_generator.specs.Limits.{generated_samples, generated_conflicts}
 
 abbrev pub degree : List ℤ → ℕ
@@ -57,11 +58,11 @@ IsOfRoots q of_side f =
     (what : Tested) × (tested_of q of_side ≡ Ok what) × IsOfTested what f
 
 -- what is found of the overflow of runs
-abbrev pub IsOfRuns : QuantisedView → RunFinding → Type 0
-IsOfRuns q (found.Never log) =
+abbrev pub IsOfRuns : QuantisedView → Searched Trace → Type 0
+IsOfRuns q (searched.Never log) =
     NeverHappens run.Overflow generated_samples generated_conflicts q log
-IsOfRuns q (found.Overflow trace) = IsTrace q generated_samples trace
-IsOfRuns q (found.Spent log) =
+IsOfRuns q (searched.Happens trace) = IsTrace q generated_samples trace
+IsOfRuns q (searched.Spent log) =
     GaveUp run.Overflow generated_samples generated_conflicts q log
 
 -- All that is found is so of the quantised controller.

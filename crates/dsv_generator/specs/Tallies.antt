@@ -1,14 +1,15 @@
 -- How findings of generated controllers are counted.
 use Rattle.std.specs.Prelude.{◌≡◌, ℕ, suc, ◌+◌, ◌<◌, ◌≤◌, Bool, true, false, not, List, [], ◌∷◌}
 use Rattle.std.specs.Prelude.{◌++◌, length}
+use Rattle.dsv_hints.specs.declared.search.Searched.{Searched}
+use Rattle.dsv_hints.specs.declared.search.Searched.TheVariants as searched
+use Rattle.dsv_meaning.specs.declared.replays.Trace.{Trace}
 use Rattle.dsv_quantiser.specs.QuantisedView.{QuantisedView}
 use Rattle.dsv_generator.specs.Controllers.{IsGenerated}
 use Rattle.dsv_generator.specs.Findings.{IsFinding}
 use Rattle.dsv_generator.specs.declared.finding.Finding.{Finding}
 use Rattle.dsv_generator.specs.declared.finding.RootFinding.{RootFinding}
 use Rattle.dsv_generator.specs.declared.finding.RootFinding.TheVariants as root
-use Rattle.dsv_generator.specs.declared.finding.RunFinding.{RunFinding}
-use Rattle.dsv_generator.specs.declared.finding.RunFinding.TheVariants as found
 use Rattle.dsv_tally.specs.declared.tally.Generated.{Generated}
 use Rattle.dsv_tally.specs.declared.tally.SpentLog.{SpentLog}
 use Rattle.dsv_tally.specs.declared.tally.Tally.{Tally}
@@ -32,20 +33,20 @@ does_fall root.Falls = true
 does_fall root.KeptAway = false
 does_fall root.NoZeros = false
 
-abbrev pub is_never : RunFinding → Bool
-is_never (found.Never log) = true
-is_never (found.Overflow trace) = false
-is_never (found.Spent log) = false
+abbrev pub is_never : Searched Trace → Bool
+is_never (searched.Never log) = true
+is_never (searched.Happens trace) = false
+is_never (searched.Spent log) = false
 
-abbrev pub is_overflow : RunFinding → Bool
-is_overflow (found.Never log) = false
-is_overflow (found.Overflow trace) = true
-is_overflow (found.Spent log) = false
+abbrev pub does_happen : Searched Trace → Bool
+does_happen (searched.Never log) = false
+does_happen (searched.Happens trace) = true
+does_happen (searched.Spent log) = false
 
-abbrev pub is_spent : RunFinding → Bool
-is_spent (found.Never log) = false
-is_spent (found.Overflow trace) = false
-is_spent (found.Spent log) = true
+abbrev pub is_spent : Searched Trace → Bool
+is_spent (searched.Never log) = false
+is_spent (searched.Happens trace) = false
+is_spent (searched.Spent log) = true
 
 abbrev pub one_if : Bool → ℕ
 one_if true = 1
@@ -61,15 +62,15 @@ with_finding f t = record {
   minimum = t.minimum + one_if (does_fall f.minimum_phase);
   nonminimum = t.nonminimum + one_if (not (does_fall f.minimum_phase));
   safe = t.safe + one_if (is_never f.overflow);
-  overflow = t.overflow + one_if (is_overflow f.overflow);
+  overflow = t.overflow + one_if (does_happen f.overflow);
   spent = t.spent + one_if (is_spent f.overflow);
 }
 
 -- the log of a search that gave up is kept with the controller's number
-abbrev pub with_log : ℕ → RunFinding → List SpentLog → List SpentLog
-with_log n (found.Never log) logs = logs
-with_log n (found.Overflow trace) logs = logs
-with_log n (found.Spent log) logs = logs ++ record { index = n; log = log } ∷ []
+abbrev pub with_log : ℕ → Searched Trace → List SpentLog → List SpentLog
+with_log n (searched.Never log) logs = logs
+with_log n (searched.Happens trace) logs = logs
+with_log n (searched.Spent log) logs = logs ++ record { index = n; log = log } ∷ []
 
 -- What is counted and kept after the first controllers, so many, of a seed.
 pub data IsTally (seed : ℕ) : ℕ → Tally → List SpentLog → Type 0 where

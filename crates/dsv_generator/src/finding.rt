@@ -3,14 +3,14 @@ ghost use Rattle.std.specs.Prelude.{◌≡◌, IfOk};
 ghost use Rattle.dsv_tested.specs.declared.side.Tested.TheVariants as tested;
 ghost use Rattle.dsv_generator.specs.Findings.{ShowsRoots, IsOfRoots, IsOfRuns, IsFinding};
 ghost use Rattle.dsv_generator.specs.Small.{IsSmall, IsClosed};
-ghost use Rattle.dsv_generator.specs.Tallies.{does_fall, is_never, is_overflow, is_spent};
+ghost use Rattle.dsv_generator.specs.Tallies.{does_fall};
 
 use crate::generator::{CONFLICTS, SAMPLES};
 use dsv_base::NoMemory;
 use dsv_bounded::{BoundedRefusal, overflow};
 use dsv_closed_forms::closed_form;
 use dsv_forms::Poly;
-use dsv_hints::{Log, Searched};
+use dsv_hints::Searched;
 use dsv_lyapunov::{CheckedForm, check_offer};
 use dsv_meaning::Trace;
 use dsv_quantiser::Quantised;
@@ -40,46 +40,12 @@ impl RootFinding {
     }
 }
 
-/// What is found of the overflow of runs.
-#[derive(Drop)]
-pub enum RunFinding {
-    /// No inputs overflow: the log derives the empty clause from the formula.
-    Never(Log),
-    /// An overflow.
-    Overflow(Trace),
-    /// The search gave up: the clauses that it learned.
-    Spent(Log),
-}
-
-impl RunFinding {
-    /// Whether no inputs overflow.
-    pub(crate) fn is_never(&self) -> bool
-        ensures { result ≡ is_never self.now }
-    {
-        matches!(self, RunFinding::Never(_))
-    }
-
-    /// Whether some inputs overflow, with a run that shows it.
-    pub(crate) fn is_overflow(&self) -> bool
-        ensures { result ≡ is_overflow self.now }
-    {
-        matches!(self, RunFinding::Overflow(_))
-    }
-
-    /// Whether the search gave up, so that nothing is known.
-    pub(crate) fn is_spent(&self) -> bool
-        ensures { result ≡ is_spent self.now }
-    {
-        matches!(self, RunFinding::Spent(_))
-    }
-}
-
 /// What is found of a controller.
 #[derive(Drop)]
 pub struct Finding {
     pub stability: RootFinding,
     pub minimum_phase: RootFinding,
-    pub overflow: RunFinding,
+    pub overflow: Searched<Trace>,
 }
 
 /// What the closed form of a polynomial shows.
@@ -110,14 +76,12 @@ fn root_finding(quantised: &Quantised, side: Side) -> RootFinding
 }
 
 /// What is found of the overflow of runs over so many samples.
-fn run_finding(alloc: Global, quantised: &Quantised) -> Result<RunFinding, NoMemory>
+fn run_finding(alloc: Global, quantised: &Quantised) -> Result<Searched<Trace>, NoMemory>
     requires { IsSmall quantised.now }
     ensures { IfOk result (IsOfRuns quantised.now) }
 {
     match overflow(alloc, quantised, SAMPLES, CONFLICTS) {
-        Ok(Searched::Never(log)) => Ok(RunFinding::Never(log)),
-        Ok(Searched::Happens(trace)) => Ok(RunFinding::Overflow(trace)),
-        Ok(Searched::Spent(log)) => Ok(RunFinding::Spent(log)),
+        Ok(found) => Ok(found),
         Err(BoundedRefusal::JobSize { .. }) => unreachable!(),
         Err(BoundedRefusal::NoMemory) => Err(NoMemory),
     }

@@ -8,5 +8,5 @@ mod finding;
 mod generator;
 mod tally;
 
-pub use finding::{Finding, RootFinding, RunFinding};
+pub use finding::{Finding, RootFinding};
 pub use generator::{CONFLICTS, SAMPLES, generate};

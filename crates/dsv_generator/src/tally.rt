@@ -1,10 +1,34 @@
 // How findings are counted.
 ghost use Rattle.std.specs.Prelude.{◌≡◌, ◌-◌, ◌^◌, OnOk};
+ghost use Rattle.dsv_generator.specs.Tallies.{is_never, does_happen, is_spent};
 ghost use Rattle.dsv_generator.specs.Tallies.{empty_tally, with_finding, with_log, IsBelow};
 
-use crate::finding::{Finding, RunFinding};
+use crate::finding::Finding;
 use dsv_base::NoMemory;
+use dsv_hints::Searched;
+use dsv_meaning::Trace;
 use dsv_tally::{SpentLog, SpentLogs, Tally};
+
+/// Whether no inputs overflow.
+fn is_never(found: &Searched<Trace>) -> bool
+    ensures { result ≡ is_never found.now }
+{
+    matches!(found, Searched::Never(_))
+}
+
+/// Whether some inputs overflow, with a run that shows it.
+fn does_happen(found: &Searched<Trace>) -> bool
+    ensures { result ≡ does_happen found.now }
+{
+    matches!(found, Searched::Happens(_))
+}
+
+/// Whether the search gave up, so that nothing is known.
+fn is_spent(found: &Searched<Trace>) -> bool
+    ensures { result ≡ is_spent found.now }
+{
+    matches!(found, Searched::Spent(_))
+}
 
 /// Nothing is counted yet.
 pub(crate) fn empty_tally() -> Tally
@@ -35,9 +59,9 @@ pub(crate) fn with_finding(tally: Tally, finding: &Finding) -> Tally
         unstable: tally.unstable + u32::from(!is_stable),
         minimum: tally.minimum + u32::from(is_minimum),
         nonminimum: tally.nonminimum + u32::from(!is_minimum),
-        safe: tally.safe + u32::from(finding.overflow.is_never()),
-        overflow: tally.overflow + u32::from(finding.overflow.is_overflow()),
-        spent: tally.spent + u32::from(finding.overflow.is_spent()),
+        safe: tally.safe + u32::from(is_never(&finding.overflow)),
+        overflow: tally.overflow + u32::from(does_happen(&finding.overflow)),
+        spent: tally.spent + u32::from(is_spent(&finding.overflow)),
     }
 }
 
@@ -45,12 +69,12 @@ pub(crate) fn with_finding(tally: Tally, finding: &Finding) -> Tally
 pub(crate) fn keep_log(
     logs: &mut SpentLogs,
     index: u32,
-    finding: RunFinding,
+    found: Searched<Trace>,
 ) -> Result<(), NoMemory>
-    ensures { OnOk result (logs.new ≡ with_log index finding logs.old) }
+    ensures { OnOk result (logs.new ≡ with_log index found logs.old) }
 {
-    match finding {
-        RunFinding::Never(_) | RunFinding::Overflow(_) => Ok(()),
-        RunFinding::Spent(log) => logs.push(SpentLog { index, log }),
+    match found {
+        Searched::Never(_) | Searched::Happens(_) => Ok(()),
+        Searched::Spent(log) => logs.push(SpentLog { index, log }),
     }
 }
