@@ -1,6 +1,5 @@
 -- One turn of asking, over any list of proposers, and what follows where the offers are blocks.
-use Rattle.std.proofs.Common.{◌≡◌, ℕ, zero, suc, ◌+◌, ◌-◌, ◌<◌, List, [], ◌∷◌, ◌++◌, Option, Some, None, map, length, take, slice_get, slice_index_or, slice_set, refl, sym, ap, ◌∙◌, add-one, append_assoc, arith}
-use Rattle.std.specs.Prelude.{remove}
+use Rattle.std.proofs.Common.{◌≡◌, ℕ, zero, suc, ◌+◌, List, [], ◌∷◌, ◌++◌, Option, Some, None, take, slice_get, refl, sym, ap, ◌∙◌, add-one, append_assoc, arith}
 use Rattle.std.proofs.lemmas.Grind.{common_steps}
 use Rattle.dsv_cli.specs.Blocks.{IsBlock, AreBlocks, IsTurn}
 
@@ -19,49 +18,23 @@ IsBlock-none None after room t = omega arith
 IsBlock-none (Some []) after room t = grind (arith, common_steps)
 IsBlock-none (Some (d ∷ ds)) after room t = cc (t.0)
 
--- a proposer that offered one and may offer no more has a block of one
-IsBlock-one : {C : Type 0} (before after : Option (List C)) (c : C) → IsTurn before after (Some c) → IsBlock 1 before (c ∷ [])
-IsBlock-one None after c t = omega arith
-IsBlock-one (Some []) after c t = cc (t.0)
-IsBlock-one (Some (d ∷ ds)) after c t = cc (t.0)
+-- a proposer of whom no more is judged has an empty block
+IsBlock-full : {C : Type 0} (told : Option (List C)) → IsBlock 0 told []
+IsBlock-full None = omega arith
+IsBlock-full (Some cs) = refl
 
--- one more offer of the first, which may offer more
-pub AreBlocks-more : {A C : Type 0} (xs ys : List A) (b first : A) (told : A → Option (List C)) (offer : Option C) (asked : ℕ) (c : C) (rest : List C)
-    → 0 < length xs → b ≡ slice_index_or xs 0 b → ys ≡ slice_set xs 0 first → asked + 1 < 32 → offer ≡ Some c → IsTurn (told b) (told first) offer
-    → AreBlocks (32 - (asked + 1)) (map told ys) rest → AreBlocks (32 - asked) (map told xs) (c ∷ rest)
-AreBlocks-more [] ys b first told offer asked c rest h at new k o t more = absurd (omega arith)
-AreBlocks-more (x ∷ xs) ys b first told offer asked c rest h at new k o t more =
-    let turn : IsTurn (told x) (told first) (Some c) = rw (← at, ← o) t in
-    let m = rw new at more in
-    (c ∷ m.0, m.1, IsBlock-more (told x) (told first) (32 - (asked + 1)) (32 - asked) c m.0 (omega arith) turn m.2, ap (λ l. c ∷ l) m.3, m.4)
+module _ {C : Type 0} (before after : Option (List C)) (others : List (Option (List C))) (room : ℕ) (rest : List C) where
+  -- one more offer of the first, which may offer more
+  pub AreBlocks-more : (more : ℕ) (c : C) → more ≡ room + 1 → IsTurn before after (Some c) → AreBlocks room (after ∷ others) rest → AreBlocks more (before ∷ others) (c ∷ rest)
+  AreBlocks-more more c e turn m = (c ∷ m.0, m.1, IsBlock-more before after room more c m.0 e turn m.2, ap (λ l. c ∷ l) m.3, m.4)
 
--- one last offer of the first
-pub AreBlocks-last : {A C : Type 0} (xs ys : List A) (b first : A) (told : A → Option (List C)) (offer : Option C) (room : ℕ) (c : C) (rest : List C)
-    → 0 < length xs → b ≡ slice_index_or xs 0 b → ys ≡ remove (slice_set xs 0 first) 0 → room ≡ 1 → offer ≡ Some c → IsTurn (told b) (told first) offer
-    → AreBlocks 32 (map told ys) rest → AreBlocks room (map told xs) (c ∷ rest)
-AreBlocks-last [] ys b first told offer room c rest h at new e o t more = absurd (omega arith)
-AreBlocks-last (x ∷ xs) ys b first told offer room c rest h at new e o t more =
-    let turn : IsTurn (told x) (told first) (Some c) = rw (← at, ← o) t in
-    (c ∷ [], rest, rw e (IsBlock-one (told x) (told first) c turn), refl, rw new at more)
+  -- the first has no more to offer
+  pub AreBlocks-none : IsTurn before after None → AreBlocks 32 others rest → AreBlocks room (before ∷ others) rest
+  AreBlocks-none turn more = ([], rest, IsBlock-none before after room turn, refl, more)
 
--- the first has no more to offer
-pub AreBlocks-none : {A C : Type 0} (xs ys : List A) (b first : A) (told : A → Option (List C)) (offer : Option C) (room : ℕ) (rest : List C)
-    → 0 < length xs → b ≡ slice_index_or xs 0 b → ys ≡ remove (slice_set xs 0 first) 0 → offer ≡ None → IsTurn (told b) (told first) offer
-    → AreBlocks 32 (map told ys) rest → AreBlocks room (map told xs) rest
-AreBlocks-none [] ys b first told offer room rest h at new o t more = absurd (omega arith)
-AreBlocks-none (x ∷ xs) ys b first told offer room rest h at new o t more =
-    let turn : IsTurn (told x) (told first) None = rw (← at, ← o) t in
-    ([], rest, IsBlock-none (told x) (told first) room turn, refl, rw new at more)
-
-append_nil : {C : Type 0} (xs : List C) → xs ++ [] ≡ xs
-append_nil xs = grind (arith, common_steps)
-
--- no proposer is left
-pub AreBlocks-end : {A C : Type 0} (before xs : List A) (told : A → Option (List C)) (room : ℕ) (kept : List C)
-    → length xs ≡ 0 → ((rest : List C) → AreBlocks room (map told xs) rest → AreBlocks 32 (map told before) (kept ++ rest))
-    → AreBlocks 32 (map told before) kept
-AreBlocks-end before [] told room kept h f = rw append_nil at (f [] refl)
-AreBlocks-end before (x ∷ xs) told room kept h f = absurd (omega arith)
+-- no more of the first is judged
+pub AreBlocks-full : {C : Type 0} (told : Option (List C)) (others : List (Option (List C))) (rest : List C) → AreBlocks 32 others rest → AreBlocks 0 (told ∷ others) rest
+AreBlocks-full told others rest more = ([], rest, IsBlock-full told, refl, more)
 
 -- the first offers of a proposer that tells stand together among all
 pub record StandsIn {A : Type 0} (block offers : List A) : Type 0 where

@@ -1,8 +1,7 @@
 -- What is known of the sets that were offered, and of a good one among them.
-use Rattle.std.proofs.Common.{◌≡◌, ℕ, zero, suc, false, true, List, [], ◌∷◌, ◌++◌, Option, Some, take, slice_get, refl, ap, sym, subst, arith}
+use Rattle.std.proofs.Common.{◌≡◌, ℕ, zero, suc, false, true, List, [], ◌∷◌, ◌++◌, Option, Some, take, slice_get, refl, sym, subst, arith}
 use Rattle.std.specs.List.{All, Contains}
 use Rattle.std.proofs.Math.IntN.{ℤ}
-use Rattle.std.proofs.lemmas.List.Elements.{All-append, All-cons, All-nil}
 use Rattle.dsv_meaning.specs.Systems.{equations_of}
 use Rattle.dsv_quantiser.specs.QuantisedView.{QuantisedView}
 use Rattle.std.proofs.lemmas.Option.{get_or_from_slice_get, slice_get_within}
@@ -17,20 +16,6 @@ use Rattle.dsv_invariant.specs.Causes.{IsCause}
 use Rattle.dsv_cli.specs.Sets.{IsGoodCause, IsNotGood, candidates, GaveUpOn, IsGoodSet, WereOffered}
 use Rattle.dsv_cli.specs.Blocks.{AreBlocks}
 use Rattle.dsv_cli.proofs.Blocks.{stands}
-
--- ---- one more candidate
-pub not_good-pushed : (quantised : QuantisedView) (conflicts : ℕ) (old new : List KeptSet) (k : KeptSet) → new ≡ old ++ k ∷ [] → All (IsNotGood quantised conflicts) old → IsNotGood quantised conflicts k
-    → All (IsNotGood quantised conflicts) new
-not_good-pushed quantised conflicts old new k e a h =
-    let P = IsNotGood quantised conflicts in
-    subst (All P) (sym e) (All-append P old (k ∷ []) a (All-cons P k [] h (All-nil P)))
-
-candidates-append : (old : List KeptSet) (k : KeptSet) (rest : List Candidate) → candidates (old ++ k ∷ []) ++ rest ≡ candidates old ++ k.candidate ∷ rest
-candidates-append [] k rest = refl
-candidates-append (o ∷ old) k rest = ap (λ (l : List Candidate). o.candidate ∷ l) (candidates-append old k rest)
-
-pub candidates-pushed : (old new : List KeptSet) (k : KeptSet) (rest : List Candidate) → new ≡ old ++ k ∷ [] → candidates new ++ rest ≡ candidates old ++ k.candidate ∷ rest
-candidates-pushed old new k rest e = rw e (candidates-append old k rest)
 
 -- ---- a candidate among those that were kept
 contains-behind : {X : Type 0} (before xs : List X) (x : X) → Contains xs x → Contains (before ++ xs) x

@@ -15,3 +15,4 @@ pub mod Sets
 pub mod Simulating
 pub mod Suffixes
 pub mod Timing
+pub mod Turns

@@ -8,31 +8,32 @@ use Rattle.dsv_template.specs.declared.verdict.Why.{Why}
 use Rattle.dsv_template.specs.declared.verdict.Why.TheVariants as why
 use Rattle.dsv_invariant.specs.Causes.{IsCause}
 use Rattle.dsv_cli.specs.Sets.{IsNotGood}
-use Rattle.dsv_cli.specs.declared.sets.SetTurn.{SetTurn}
-use Rattle.dsv_cli.specs.declared.sets.SetTurn.TheVariants as turn
 use Rattle.dsv_cli.specs.declared.sets.SetAnswer.{SetAnswer}
 use Rattle.dsv_cli.specs.declared.sets.SetAnswer.TheVariants as answer
+use Rattle.dsv_cli.specs.declared.turns.Turn.{Turn}
+use Rattle.dsv_cli.specs.declared.turns.Turn.TheVariants as turn
+use Rattle.dsv_cli.specs.Turns.{offer_of}
 
 -- ---- asking once
 -- what came of it where this was found of the offer
-abbrev pub turn_of : Candidate → Why → SetTurn
-turn_of candidate (why.Good logs) = turn.Accepted candidate logs
+abbrev pub turn_of : Candidate → Why → Turn (Candidate × ThreeLogs) KeptSet
+turn_of candidate (why.Good logs) = turn.Accepted (candidate, logs)
 turn_of candidate other = turn.Refused (record { candidate = candidate; why = other })
 
-abbrev pub offer_of : SetTurn → Option Candidate
-offer_of turn.Nothing = None
-offer_of (turn.Accepted candidate logs) = Some candidate
-offer_of (turn.Refused kept) = Some kept.candidate
+-- the offer that came
+abbrev pub candidate_of : Turn (Candidate × ThreeLogs) KeptSet → Option Candidate
+candidate_of came =
+    offer_of (λ (a : Candidate × ThreeLogs). a.0) (λ (k : KeptSet). k.candidate) came
 
 -- what was found of the offer
-abbrev pub found_of : SetTurn → Option Why
+abbrev pub found_of : Turn (Candidate × ThreeLogs) KeptSet → Option Why
 found_of turn.Nothing = None
-found_of (turn.Accepted candidate logs) = Some (why.Good logs)
+found_of (turn.Accepted (candidate, logs)) = Some (why.Good logs)
 found_of (turn.Refused kept) = Some kept.why
 
-abbrev pub IsJudgedSet : QuantisedView → ℕ → SetTurn → Type 0
+abbrev pub IsJudgedSet : QuantisedView → ℕ → Turn (Candidate × ThreeLogs) KeptSet → Type 0
 IsJudgedSet words conflicts turn.Nothing = Unit {0}
-IsJudgedSet words conflicts (turn.Accepted candidate logs) =
+IsJudgedSet words conflicts (turn.Accepted (candidate, logs)) =
     IsCause words conflicts candidate (why.Good logs)
 IsJudgedSet words conflicts (turn.Refused kept) = IsNotGood words conflicts kept
 

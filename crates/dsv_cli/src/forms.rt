@@ -3,13 +3,14 @@ ghost use Rattle.std.specs.Prelude.{◌≡◌, ◌⊎◌, [], true, Some, None, 
 ghost use Rattle.dsv_closed_forms.specs.ClosedForm.{closed_form_of, IsAccepted};
 ghost use Rattle.dsv_jury.specs.Jury.{jury_of};
 ghost use Rattle.dsv_lyapunov.specs.Answers.{offer_in, IsShown};
-ghost use Rattle.dsv_cli.specs.Asking.{IsJudged, IfAccepted, IfRefused, IsNotAccepted, offer_of};
-ghost use Rattle.dsv_cli.specs.Asking.{IfChecked, IfNoForm, IsChecked};
-ghost use Rattle.dsv_lyapunov.specs.Kept.{AreRefused};
+ghost use Rattle.dsv_cli.specs.Asking.{form_of, IfChecked, IfNoForm, IsChecked};
+ghost use Rattle.dsv_lyapunov.specs.Kept.{IsRefused, AreRefused};
 ghost use Rattle.dsv_cli.specs.Blocks.{AreBlocks, IsTurn};
 ghost use Rattle.dsv_cli.specs.Proposers.{offers_in, told_of, IsBeyond};
 ghost use Rattle.dsv_cli.specs.Suffixes.{IsSuffix, IfFirst, HoldsOfNone};
+ghost use Rattle.dsv_cli.specs.Turns.{IfAccepted, IfRefused, IsNotAccepted};
 
+use crate::turns::{Turn, first_accepted};
 use dsv_base::NoMemory;
 use dsv_closed_forms::closed_form;
 use dsv_forms::{FormOffer, Poly};
@@ -17,40 +18,6 @@ use dsv_jury::{Jury, jury};
 use dsv_lyapunov::{CheckedForm, FormProposer, KeptForm, KeptForms, check_offer};
 use dsv_schur_cohn::schur_cohn_offer;
 use std::alloc::Global;
-
-/// The most offers of one proposer that are refused.
-const MOST_OFFERS: u32 = 32;
-
-/// What came of asking a proposer once.
-#[derive(Clone, Copy)]
-pub(crate) enum FormTurn {
-    /// It offers nothing more.
-    Nothing,
-    Accepted(CheckedForm),
-    Refused(KeptForm),
-}
-
-/// Asks a proposer once, and tells it where its offer is refused.
-fn ask(poly: &Poly, first: &mut Box<dyn FormProposer>) -> FormTurn
-    ensures same { first.new.ptr ≡ first.old.ptr }
-    ensures judged { IsJudged poly.now result }
-    ensures last { IfAccepted result (λ found. last first.new ≡ Some (offer_in found)) }
-    ensures sure { IsNotAccepted result → sure first.old poly.now → ⊥ }
-    ensures turn { IsTurn (to_come first.old poly.now) (to_come first.new poly.now)
-        (offer_of result) }
-    ensures heard { IfRefused result (λ kept. heard first.new kept.refusal) }
-{
-    let Some(offer) = first.propose(poly) else {
-        return FormTurn::Nothing;
-    };
-    match check_offer(poly, &offer) {
-        Ok(found) => FormTurn::Accepted(found),
-        Err(refusal) => {
-            first.tell(&refusal);
-            FormTurn::Refused(KeptForm { offer, refusal })
-        }
-    }
-}
 
 /// What was found of a polynomial.
 #[derive(Drop)]
@@ -74,8 +41,7 @@ fn accepted_form(poly: &Poly, offer: &FormOffer) -> CheckedForm
     }
 }
 
-/// Asks the proposers in their order until a form is accepted. One that offers nothing, or whose
-/// 32nd offer was refused, is dropped; one whose offer is accepted stays in front.
+/// What comes of asking the proposers in their order ([`first_accepted`]).
 fn asked_answer(
     alloc: Global,
     poly: &Poly,
@@ -95,29 +61,40 @@ fn asked_answer(
         HoldsOfNone (λ b. sure b poly.now) forms.old.items)) }
     ensures jury { IfOk result (λ a. IfNoForm a (λ kept verdict. verdict ≡ jury_of poly.now)) }
 {
-    let mut kept = KeptForms::new(alloc);
-    let mut asked = 0;
-    'asking: while !forms.is_empty() {
-        match ask(poly, &mut forms[0]) {
-            FormTurn::Nothing => {
-                forms.remove(0);
-                asked = 0;
-            }
-            FormTurn::Accepted(found) => return Ok(FormAnswer::Checked(found)),
-            FormTurn::Refused(form) => {
-                kept.push(form)?;
-                asked += 1;
-                if asked == MOST_OFFERS {
-                    forms.remove(0);
-                    asked = 0;
-                }
+    // Asks a proposer once, and tells it where its offer is refused.
+    let ask = |first: &mut Box<dyn FormProposer>| -> Result<Turn<CheckedForm, KeptForm>, NoMemory>
+        ensures same { first.new.ptr ≡ first.old.ptr }
+        ensures accepted { IfOk result (λ came. IfAccepted came (λ found.
+            IsAccepted poly.entry.now (offer_in found) × IsShown poly.entry.now found)) }
+        ensures refused { IfOk result (λ came. IfRefused came (IsRefused poly.entry.now)) }
+        ensures last { IfOk result (λ came. IfAccepted came (λ found.
+            last first.new ≡ Some (offer_in found))) }
+        ensures sure { IfOk result (λ came. IsNotAccepted came
+            → sure first.old poly.entry.now → ⊥) }
+        ensures turn { IfOk result (λ came. IsTurn (to_come first.old poly.entry.now)
+            (to_come first.new poly.entry.now) (form_of came)) }
+        ensures heard { IfOk result (λ came. IfRefused came (λ kept.
+            heard first.new kept.refusal)) }
+    {
+        let Some(offer) = first.propose(poly) else {
+            return Ok(Turn::Nothing);
+        };
+        match check_offer(poly, &offer) {
+            Ok(found) => Ok(Turn::Accepted(found)),
+            Err(refusal) => {
+                first.tell(&refusal);
+                Ok(Turn::Refused(KeptForm { offer, refusal }))
             }
         }
+    };
+    let mut kept = KeptForms::new(alloc);
+    match first_accepted(forms, &mut kept, ask)? {
+        Some(found) => Ok(FormAnswer::Checked(found)),
+        None => Ok(FormAnswer::NoForm {
+            kept,
+            jury: jury(poly),
+        }),
     }
-    Ok(FormAnswer::NoForm {
-        kept,
-        jury: jury(poly),
-    })
 }
 
 /// The Schur-Cohn form, where it is wanted and one is accepted.

@@ -17,6 +17,7 @@ mod sets;
 mod simulation;
 mod system_files;
 mod timing;
+mod turns;
 
 pub use command::{Done, run};
 pub use dsv_lyapunov::{FormProposer, SumProposer};

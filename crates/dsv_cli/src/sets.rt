@@ -10,7 +10,7 @@ ghost use Rattle.dsv_cli.specs.Blocks.{AreBlocks, IsTurn};
 ghost use Rattle.dsv_cli.specs.Causes.{IsOfSets};
 ghost use Rattle.dsv_cli.specs.Proposers.{AreSetsAsked};
 ghost use Rattle.dsv_bounded.specs.RunQuestions.{IsWithin};
-ghost use Rattle.dsv_cli.specs.SetAsking.{turn_of, offer_of, found_of, IsJudgedSet};
+ghost use Rattle.dsv_cli.specs.SetAsking.{turn_of, candidate_of, found_of, IsJudgedSet};
 ghost use Rattle.dsv_cli.specs.SetAsking.{IfKept, IfNoSet};
 ghost use Rattle.dsv_cli.specs.Sets.{KeepsTo, NoneIsGood, candidates, told_for};
 ghost use Rattle.dsv_cli.specs.Suffixes.{IsSuffix, IfFirst};
@@ -19,64 +19,29 @@ ghost use Rattle.dsv_template.specs.declared.verdict.Why.TheVariants as why;
 ghost use Rattle.dsv_unroll.specs.Goals.{most_size};
 
 use crate::questions::question_stop;
+use crate::turns::{Turn, first_accepted};
 use dsv_base::NoMemory;
 use dsv_bounded::BoundedRefusal;
 use dsv_command::Budget;
 use dsv_invariant::{accept_unbounded, check_candidate, shape_of};
 use dsv_quantiser::Quantised;
 use dsv_report::{Answer, Stop};
-use dsv_template::{Candidate, InvariantProposer, KeptSet, KeptSets, Shape, ThreeLogs, Why};
+use dsv_template::{Candidate, InvariantProposer, KeptSet, KeptSets, ThreeLogs, Why};
 use std::alloc::Global;
 
-/// The most offers of one proposer that are judged and not good.
-const MOST_SETS: u32 = 32;
-
 /// What came of asking a proposer of sets once.
-#[derive(Drop)]
-pub(crate) enum SetTurn {
-    /// It offers nothing more.
-    Nothing,
-    Accepted {
-        candidate: Candidate,
-        logs: ThreeLogs,
-    },
-    Refused(KeptSet),
-}
+type SetTurn = Turn<(Candidate, ThreeLogs), KeptSet>;
 
 /// What came of asking where this was found of the offer.
 fn turn_of(candidate: Candidate, why: Why) -> SetTurn
     ensures made { result ≡ turn_of candidate why }
-    ensures offer { offer_of result ≡ Some candidate }
+    ensures offer { candidate_of result ≡ Some candidate }
     ensures found { found_of result ≡ Some why }
 {
     match why {
-        Why::Good(logs) => SetTurn::Accepted { candidate, logs },
-        why => SetTurn::Refused(KeptSet { candidate, why }),
+        Why::Good(logs) => Turn::Accepted((candidate, logs)),
+        why => Turn::Refused(KeptSet { candidate, why }),
     }
-}
-
-/// Asks a proposer once, and tells it what was found of its offer.
-fn ask(
-    alloc: Global,
-    quantised: &Quantised,
-    shape: &Shape,
-    budget: &Budget,
-    first: &mut Box<dyn InvariantProposer>,
-) -> Result<SetTurn, NoMemory>
-    requires lawful { IsLawful shape.now }
-    ensures same { first.new.ptr ≡ first.old.ptr }
-    ensures judged { IfOk result (IsJudgedSet quantised.now budget.now.conflicts) }
-    ensures last { IfOk result (λ a. IfSome (offer_of a) (λ c. last first.new ≡ Some c)) }
-    ensures turn { IfOk result (λ a. IsTurn (to_come first.old shape.now)
-        (to_come first.new shape.now) (offer_of a)) }
-    ensures heard { IfOk result (λ a. IfSome (found_of a) (λ why. heard first.new why)) }
-{
-    let Some(candidate) = first.propose(alloc, shape)? else {
-        return Ok(SetTurn::Nothing);
-    };
-    let why = check_candidate(alloc, quantised, &candidate, budget.conflicts)?;
-    first.tell(&why);
-    Ok(turn_of(candidate, why))
 }
 
 /// What came of asking the proposers of sets.
@@ -93,8 +58,7 @@ pub enum SetAnswer {
     },
 }
 
-/// Asks the proposers in their order until a candidate is good. One that offers nothing, or whose
-/// 32nd offer wasn't good, is dropped; one whose offer is good stays in front.
+/// What comes of asking the proposers in their order ([`first_accepted`]).
 fn asked_sets(
     alloc: Global,
     quantised: &Quantised,
@@ -114,28 +78,30 @@ fn asked_sets(
         (told_for (λ b shape. to_come b shape) quantised.now sets.old.items) (candidates kept))) }
 {
     let shape = shape_of(quantised);
+    // Asks a proposer once, and tells it what was found of its offer.
+    let ask = |first: &mut Box<dyn InvariantProposer>| -> Result<SetTurn, NoMemory>
+        requires lawful { IsLawful shape }
+        ensures same { first.new.ptr ≡ first.old.ptr }
+        ensures judged { IfOk result (IsJudgedSet quantised.entry.now budget.entry.now.conflicts) }
+        ensures last { IfOk result (λ came. IfSome (candidate_of came) (λ c.
+            last first.new ≡ Some c)) }
+        ensures turn { IfOk result (λ came. IsTurn (to_come first.old shape)
+            (to_come first.new shape) (candidate_of came)) }
+        ensures heard { IfOk result (λ came. IfSome (found_of came) (λ why.
+            heard first.new why)) }
+    {
+        let Some(candidate) = first.propose(alloc, &shape)? else {
+            return Ok(Turn::Nothing);
+        };
+        let why = check_candidate(alloc, quantised, &candidate, budget.conflicts)?;
+        first.tell(&why);
+        Ok(turn_of(candidate, why))
+    };
     let mut kept = KeptSets::new(alloc);
-    let mut asked = 0;
-    'asking: while !sets.is_empty() {
-        match ask(alloc, quantised, &shape, budget, &mut sets[0])? {
-            SetTurn::Nothing => {
-                sets.remove(0);
-                asked = 0;
-            }
-            SetTurn::Accepted { candidate, logs } => {
-                return Ok(SetAnswer::Kept { candidate, logs });
-            }
-            SetTurn::Refused(set) => {
-                kept.push(set)?;
-                asked += 1;
-                if asked == MOST_SETS {
-                    sets.remove(0);
-                    asked = 0;
-                }
-            }
-        }
+    match first_accepted(sets, &mut kept, ask)? {
+        Some((candidate, logs)) => Ok(SetAnswer::Kept { candidate, logs }),
+        None => Ok(SetAnswer::NoInvariant { kept }),
     }
-    Ok(SetAnswer::NoInvariant { kept })
 }
 
 /// Seeks a set that a controller never leaves and in which it never overflows, among those that the
