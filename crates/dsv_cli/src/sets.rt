@@ -4,7 +4,6 @@ ghost use Rattle.dsv_bounded.specs.Refusals.{IsSized};
 ghost use Rattle.dsv_bounded.specs.Formulas.{job_size_of};
 ghost use Rattle.dsv_invariant.specs.Shapes.{shape_of};
 ghost use Rattle.dsv_invariant.specs.Limits.{unbounded_samples};
-ghost use Rattle.dsv_invariant.specs.Causes.{IsCause};
 ghost use Rattle.dsv_template.specs.Shapes.{IsLawful};
 ghost use Rattle.dsv_cli.specs.Blocks.{AreBlocks, IsTurn};
 ghost use Rattle.dsv_cli.specs.Causes.{IsOfSets};
