@@ -11,7 +11,7 @@ most_inputs = 64
 
 -- the most digits of an input
 abbrev pub most_digits : ℕ
-most_digits = 12
+most_digits = 15
 
 abbrev pub comma : ℕ
 comma = 44
@@ -36,7 +36,7 @@ pieces (b ∷ bs) = if is_comma b then [] ∷ pieces bs else onto_first b (piece
 abbrev pub after_minus : List ℕ → List ℕ
 after_minus text = drop (if has_byte minus text then 1 else 0) text
 
--- the number of an optional `-` before 1 to 12 digits
+-- the number of an optional `-` before 1 to 15 digits
 abbrev pub input_of : List ℕ → Option ℤ
 input_of text = option_map (with_sign (has_byte minus text))
     (short_number most_digits (after_minus text))

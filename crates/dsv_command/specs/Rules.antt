@@ -98,7 +98,7 @@ pub record Give (options : List (List ℕ × Bool)) (arguments : List (List ℕ)
 
 -- ---- what is asked
 
--- a number of 1 to 12 digits, which may stand after `-`
+-- a number of 1 to 15 digits, which may stand after `-`
 pub data IsInput : List ℕ → ℤ → Type 0 where
   positive : (text : List ℕ) (n : ℕ) → short_number most_digits text ≡ Some n → IsInput text (pos n)
   negative : (text digits : List ℕ) (n : ℕ) → text ≡ codes "-" ++ digits

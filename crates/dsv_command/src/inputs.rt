@@ -10,7 +10,7 @@ use dsv_text::{has_byte, short_number};
 pub const MOST_INPUTS: usize = 64;
 
 /// The most digits of an input.
-const MOST_DIGITS: usize = 12;
+const MOST_DIGITS: usize = 15;
 
 /// The inputs of a simulation, from the first sample on: words of the controller's format, or
 /// numbers that are none.
@@ -25,7 +25,7 @@ fn with_sign(negative: bool, size: u64) -> i64
     if negative { -value } else { value }
 }
 
-/// The number of an optional `-` before 1 to 12 digits; `None` for any other text.
+/// The number of an optional `-` before 1 to 15 digits; `None` for any other text.
 #[tactic(auto, using(dsv_text::proofs::DigitLemmas::short_below_power))]
 fn find_input(text: &str) -> Option<i64>
     ensures { result ≡ input_of text.now }

@@ -17,3 +17,4 @@ mod sizes;
 mod steps;
 #[cfg(test)]
 mod wide;
+mod widest;

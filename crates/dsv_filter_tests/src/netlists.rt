@@ -214,21 +214,21 @@ const fn product_of_wide(coeff: i64) -> Node {
 #[test]
 fn bounds_stay_below_the_limit(rt: HostRuntime) -> Result<(), Fail> {
     let alloc = rt.alloc();
-    // A word's bound is 2^3, and the limit is 2^78.
-    let at = [Node::Input, WIDE, product_of_wide(-(1 << 13))];
+    // A word's bound is 2^3, and the limit is 2^126.
+    let at = [Node::Input, WIDE, product_of_wide(-(1 << 61))];
     assert!(rt; !is_netlist(alloc, without_registers(&at, 0)));
     Ok(())
 }
 
 #[test]
 fn bounds_are_told(rt: HostRuntime) -> Result<(), Fail> {
-    let below = [Node::Input, WIDE, product_of_wide(1 - (1 << 13))];
+    let below = [Node::Input, WIDE, product_of_wide(1 - (1 << 61))];
     let format = Format::new(2, 2, Rounding::Floor, OverflowMode::Wrap)?;
     let Some(net) = netlist(rt.alloc(), without_registers(&below, 0), format) else {
         return Err(Fail::from("no netlist"));
     };
     let bound = if net.len() == 3 { net.bound(2) } else { 0 };
-    assert_eq!(rt; bound, ((1 << 13) - 1) << 65);
+    assert_eq!(rt; bound, ((1 << 61) - 1) << 65);
     Ok(())
 }
 

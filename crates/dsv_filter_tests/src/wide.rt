@@ -42,7 +42,7 @@ struct Model<'a> {
 
 /// A number over 2^frac_bits, made whole.
 fn whole_of(format: &Format, v: i128) -> i128 {
-    let one: i128 = 1i128 << format.frac_bits.min(31);
+    let one: i128 = 1i128 << format.frac_bits.min(47);
     match format.rounding {
         Rounding::Floor => v.div_euclid(one),
         Rounding::Ceil => 0i128.wrapping_sub(0i128.wrapping_sub(v).div_euclid(one)),
@@ -110,7 +110,7 @@ impl<'a> Model<'a> {
             return Some(i128::from(*w));
         }
         let format = self.quantised.format();
-        let one: i64 = 1i64 << format.frac_bits.min(31);
+        let one: i64 = 1i64 << format.frac_bits.min(47);
         let mut total: i128 = 0;
         for term in terms {
             total = match *term {
@@ -301,7 +301,7 @@ fn model_sample(alloc: Global, quantised: &Quantised, x: i64, registers: &[i64])
 }
 
 /// Whether the netlist's step and the written equation's row are those of the model.
-fn agrees(
+pub(crate) fn agrees(
     alloc: Global,
     quantised: &Quantised,
     net: &Netlist,
@@ -369,7 +369,7 @@ fn all_agree(alloc: Global, quantised: &Quantised) -> Option<bool> {
     None
 }
 
-const ROUNDINGS: [Rounding; 3] = [Rounding::Floor, Rounding::Nearest, Rounding::Ceil];
+pub(crate) const ROUNDINGS: [Rounding; 3] = [Rounding::Floor, Rounding::Nearest, Rounding::Ceil];
 
 /// Whether a file's controller agrees with the model in every rounding and both overflow modes.
 fn file_agrees(alloc: Global, file: &str, frac_bits: u32, kind: Realisation) -> Option<bool> {
@@ -389,7 +389,7 @@ fn file_agrees(alloc: Global, file: &str, frac_bits: u32, kind: Realisation) -> 
     Some(agree)
 }
 
-const REALISATIONS: [Realisation; 6] = [
+pub(crate) const REALISATIONS: [Realisation; 6] = [
     Realisation::Dfi,
     Realisation::Dfii,
     Realisation::Tdfii,

@@ -215,8 +215,8 @@ const OF_RUNS: &[Row] = &[
     Row("f|--simulate=-1", Wanted::Simulation(&[-1])),
     Row("--simulate=-0,00,-007|f", Wanted::Simulation(&[0, 0, -7])),
     Row(
-        "--simulate=999999999999,-999999999999|f",
-        Wanted::Simulation(&[999_999_999_999, -999_999_999_999]),
+        "--simulate=999999999999999,-999999999999999|f",
+        Wanted::Simulation(&[999_999_999_999_999, -999_999_999_999_999]),
     ),
     Row(
         "--realization|DDFII|--simulate|0|f",
@@ -509,8 +509,8 @@ f|--simulate=+1\n\
 f|--simulate=-\n\
 f|--simulate=1.0\n\
 f|--simulate=1, 2\n\
-f|--simulate=1234567890123\n\
-f|--simulate=-0000000000001\n\
+f|--simulate=1234567890123456\n\
+f|--simulate=-0000000000000001\n\
 f|--simulate=1|--simulate=1\n\
 f|--simulate=1|--property=STABILITY\n\
 --simulate=1\n\

@@ -211,7 +211,7 @@ const ROWS: &[Row] = &[
     Row(
         Blocks(
             SYSTEM,
-            ".min=00000000000000001.0,.max=0.00000001e-30,.frac_bits=16,.int_bits=16",
+            ".min=00000000000000001.0,.max=0.00000001e-30,.frac_bits=47,.int_bits=1",
             "",
         ),
         &[],
@@ -227,7 +227,7 @@ const ROWS: &[Row] = &[
     Row(
         Blocks(
             SYSTEM,
-            ".min=0,.max=+0,.delta=-0,.frac_bits=0,.int_bits=32",
+            ".min=0,.max=+0,.delta=-0,.frac_bits=0,.int_bits=48",
             "",
         ),
         &[],

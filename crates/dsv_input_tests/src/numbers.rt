@@ -89,7 +89,7 @@ fn decimals_that_are_too_wide(rt: HostRuntime) {
 const UNLAWFUL: &[Blocks] = &[
     Blocks(SYSTEM, ".int_bits=^0,.frac_bits=2,.max=1,.min=-1", ""),
     Blocks(SYSTEM, ".frac_bits=0,.min=1,.int_bits=^1,.max=1", ""),
-    Blocks(SYSTEM, ".int_bits=^32,.frac_bits=1,.max=1,.min=-1", ""),
+    Blocks(SYSTEM, ".int_bits=^48,.frac_bits=1,.max=1,.min=-1", ""),
     Blocks(
         SYSTEM,
         ".int_bits=^999999999999999999,.frac_bits=999999999999999999,.max=1,.min=-1",

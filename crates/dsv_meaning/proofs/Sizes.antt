@@ -15,12 +15,12 @@ use Rattle.dsv_quantiser.specs.QuantisedView.{QuantisedView, IsQuantisedView}
 use Rattle.dsv_names.specs.Realisations.{is_delta}
 use Rattle.dsv_meaning.specs.Summands.{IsSmallNumber}
 
-sized : (c : ℤ) (h : ℕ) → h ≤ 2 ^ 32 → neg_ℤ (pos h) ≤ℤ c → c ≤ℤ (pos h -ℤ pos 1) → unsigned_abs c ≤ 2 ^ 32
+sized : (c : ℤ) (h : ℕ) → h ≤ 2 ^ 48 → neg_ℤ (pos h) ≤ℤ c → c ≤ℤ (pos h -ℤ pos 1) → unsigned_abs c ≤ 2 ^ 48
 sized (pos n) h p a b = omega (arith, ints)
 sized (negsuc n) h p a b = omega (arith, ints)
 
 -- a word is at most 2^32 in size
-word_size : (f : Format) (c : ℤ) → IsWord f c → unsigned_abs c ≤ 2 ^ 32
+word_size : (f : Format) (c : ℤ) → IsWord f c → unsigned_abs c ≤ 2 ^ 48
 word_size f c w = sized c (2 ^ (width f - 1)) (power_small (width f - 1) (omega (arith, f.lawful))) w.low w.high
 
 pub word_is_small : (f : Format) (c : ℤ) → IsWord f c → IsSmallNumber c
@@ -31,11 +31,11 @@ pub fits_size : (w : ℤ) → SFits w64 w → unsigned_abs w ≤ 2 ^ 63
 fits_size (pos n) h = let k = h.sfits in omega (arith, k)
 fits_size (negsuc n) h = let k = h.sfits in omega (arith, k)
 
-pub product_size : (c w : ℤ) → IsSmallNumber c → unsigned_abs w ≤ 2 ^ 63 → unsigned_abs (c *ℤ w) ≤ 2 ^ 95
+pub product_size : (c w : ℤ) → IsSmallNumber c → unsigned_abs w ≤ 2 ^ 63 → unsigned_abs (c *ℤ w) ≤ 2 ^ 111
 product_size c w small h =
-    rw (unsigned_abs-mul c w) (omega (arith, mul-le (unsigned_abs c) (unsigned_abs w) (2 ^ 32) (2 ^ 63) small h))
+    rw (unsigned_abs-mul c w) (omega (arith, mul-le (unsigned_abs c) (unsigned_abs w) (2 ^ 48) (2 ^ 63) small h))
 
-pub small_fits : (v : ℤ) → unsigned_abs v ≤ 2 ^ 95 → SFits w128 v
+pub small_fits : (v : ℤ) → unsigned_abs v ≤ 2 ^ 111 → SFits w128 v
 small_fits (pos n) h = record { sfits = omega arith }
 small_fits (negsuc n) h = record { sfits = omega arith }
 

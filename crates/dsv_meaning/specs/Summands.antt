@@ -6,7 +6,7 @@ use Rattle.dsv_meaning.specs.declared.summands.Summand.TheVariants.{Times, Alone
 
 -- no greater in size than a word can be
 abbrev pub IsSmallNumber : ℤ → Type 0
-IsSmallNumber c = unsigned_abs c ≤ 2 ^ 32
+IsSmallNumber c = unsigned_abs c ≤ 2 ^ 48
 
 -- so is the coefficient
 abbrev pub IsSmall : Summand ℤ → Type 0

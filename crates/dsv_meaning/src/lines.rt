@@ -36,7 +36,7 @@ fn fitted_value(format: &Format, value: &i128, exact: &mut ExactList) -> i64
 fn times(coeff: &i64, word: &i64) -> i128
     requires { IsSmallNumber coeff.now }
     ensures value { result ≡ coeff.now *ℤ word.now }
-    ensures small { unsigned_abs result ≤ 2 ^ 95 }
+    ensures small { unsigned_abs result ≤ 2 ^ 111 }
 {
     let coeff: i128 = (*coeff).into();
     let word: i128 = (*word).into();
@@ -163,7 +163,7 @@ fn narrow_line(format: &Format, summands: &[Summand<i64>], exact: &mut ExactList
 fn exact_summand(format: &Format, summand: &Summand<i64>) -> i128
     requires small { IsSmall summand.now }
     ensures value { result ≡ exact_summand format.now summand.now }
-    ensures small { unsigned_abs result ≤ 2 ^ 95 }
+    ensures small { unsigned_abs result ≤ 2 ^ 111 }
 {
     match summand {
         Summand::Times { away, coeff, word } => {

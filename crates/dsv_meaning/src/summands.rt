@@ -90,7 +90,7 @@ pub(crate) fn rest_of(summands: &[Summand<i64>]) -> &[Summand<i64>]
 
 /// Adds a product, whose coefficient is a word.
 fn push_product(summands: &mut Summands, away: bool, coeff: i64, word: i64)
-    requires small { unsigned_abs coeff ≤ 2 ^ 32 }
+    requires small { unsigned_abs coeff ≤ 2 ^ 48 }
     requires before { All IsSmall summands.old.items }
     requires room { length summands.old.items < MOST_SUMMANDS }
     ensures value { summands.new.items

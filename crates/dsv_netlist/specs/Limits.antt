@@ -15,4 +15,4 @@ most_exact = 160
 
 -- the size that no bound of a node reaches
 abbrev pub bound_limit : ℕ
-bound_limit = 2 ^ 78
+bound_limit = 2 ^ 126

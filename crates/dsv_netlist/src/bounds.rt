@@ -2,7 +2,7 @@
 //
 // Worst cases in one pass: a word has at most 2^(width - 1) in size, a product by a coefficient at
 // most that coefficient's size times its operand's bound, a sum at most both bounds together, and
-// rounding adds nothing. Below the limit 2^78 no value of a sample overflows 128 bits.
+// rounding adds nothing. Below the limit 2^126 no value of a sample overflows 128 bits.
 ghost use Rattle.std.specs.Prelude.{◌≡◌, ◌≤◌, ◌<◌, ◌↔◌, length, take, IsSome, IfSome};
 ghost use Rattle.std.specs.List.{All};
 ghost use Rattle.dsv_netlist.specs.Bounds.{word_bound, node_bound, bounds_of};

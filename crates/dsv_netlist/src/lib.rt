@@ -22,4 +22,4 @@ pub const MOST_NODES: usize = 512;
 pub const MOST_REGISTERS: usize = 512;
 
 /// The bound of each node is below this.
-pub const BOUND_LIMIT: u128 = 1 << 78;
+pub const BOUND_LIMIT: u128 = 1 << 126;

@@ -32,7 +32,7 @@ pub enum Node {
 #[tactic(auto, using(crate::proofs::Scaling::powers))]
 pub(crate) fn one(format: &Format) -> u64
     ensures value { result ≡ 2 ^ format.now.frac_bits }
-    ensures small { result ≤ 2 ^ 31 }
+    ensures small { result ≤ 2 ^ 47 }
 {
     1u64 << format.frac_bits
 }

@@ -49,7 +49,7 @@ fn at(numbers: &[i128], place: u32) -> i128 {
 /// What a node gives, over the values of the nodes before it. A number that is too large for its
 /// type stays at its end.
 fn node_value(node: &Node, registers: &[i128], x: i128, values: &[i128], frac_bits: u32) -> i128
-    requires { frac_bits ≤ 32 }
+    requires { frac_bits ≤ 48 }
 {
     match node {
         Node::Input => x,

@@ -1,7 +1,7 @@
 // Words; expected values are worked out by hand and with Python's `fractions`.
 use dsv_fraction::{Frac, TooWide};
 use dsv_names::{OverflowMode, Rounding};
-use dsv_word::{Format, WIDEST_WORD};
+use dsv_word::Format;
 
 struct Widths {
     int_bits: u32,
@@ -21,13 +21,13 @@ const WIDTHS: [Widths; 10] = [
         lawful: true,
     },
     Widths {
-        int_bits: WIDEST_WORD,
+        int_bits: 48,
         frac_bits: 0,
         lawful: true,
     },
     Widths {
         int_bits: 1,
-        frac_bits: WIDEST_WORD - 1,
+        frac_bits: 47,
         lawful: true,
     },
     Widths {
@@ -41,12 +41,12 @@ const WIDTHS: [Widths; 10] = [
         lawful: false,
     },
     Widths {
-        int_bits: WIDEST_WORD,
+        int_bits: 48,
         frac_bits: 1,
         lawful: false,
     },
     Widths {
-        int_bits: WIDEST_WORD + 1,
+        int_bits: 49,
         frac_bits: 0,
         lawful: false,
     },
@@ -414,5 +414,140 @@ fn is_rounded(row: &Rounded) -> bool {
 fn fractions_in_all_roundings(rt: HostRuntime) {
     for row in &ROUNDED {
         assert!(rt; is_rounded(row));
+    }
+}
+
+// ---- words of 48 bits
+
+const LOW: i64 = -140_737_488_355_328;
+
+const HIGH: i64 = 140_737_488_355_327;
+
+const WIDE_FITTED: [Fitted; 6] = [
+    Fitted {
+        number: 140_737_488_355_327,
+        wrapped: HIGH,
+        saturated: HIGH,
+    },
+    Fitted {
+        number: 140_737_488_355_328,
+        wrapped: LOW,
+        saturated: HIGH,
+    },
+    Fitted {
+        number: -140_737_488_355_328,
+        wrapped: LOW,
+        saturated: LOW,
+    },
+    Fitted {
+        number: -140_737_488_355_329,
+        wrapped: HIGH,
+        saturated: LOW,
+    },
+    Fitted {
+        number: i128::MAX,
+        wrapped: -1,
+        saturated: HIGH,
+    },
+    Fitted {
+        number: i128::MIN,
+        wrapped: 0,
+        saturated: LOW,
+    },
+];
+
+fn fits_wide(overflow: OverflowMode, number: i128, word: i64) -> bool {
+    match Format::new(1, 47, Rounding::Floor, overflow) {
+        Ok(format) => {
+            format.fit(number) == word
+                && format.fits(number) == (i128::from(format.fit(number)) == number)
+        }
+        Err(_) => false,
+    }
+}
+
+#[test]
+fn both_modes_at_both_ends_of_48_bits(rt: HostRuntime) {
+    for row in &WIDE_FITTED {
+        let wraps = fits_wide(OverflowMode::Wrap, row.number, row.wrapped);
+        let saturates = fits_wide(OverflowMode::Saturate, row.number, row.saturated);
+        assert!(rt; wraps && saturates);
+    }
+}
+
+fn has_wide_ends(format: &Format) -> bool {
+    format.width() == 48 && format.lo() == LOW && format.hi() == HIGH
+}
+
+#[test]
+fn ends_of_48_bits(rt: HostRuntime) {
+    for int_bits in [1, 8, 48] {
+        let format = Format::new(int_bits, 48 - int_bits, Rounding::Floor, OverflowMode::Wrap);
+        assert!(rt; format.is_ok_and(|format| has_wide_ends(&format)));
+    }
+}
+
+/// A number, and what it becomes that is divided by 2^47 and made whole in each rounding.
+struct Part {
+    number: i128,
+    floor: i128,
+    ceil: i128,
+    nearest: i128,
+}
+
+// The square of the least word is 2^94, and half of 2^47 is 2^46.
+const PARTS: [Part; 5] = [
+    Part {
+        number: 1 << 94,
+        floor: 1 << 47,
+        ceil: 1 << 47,
+        nearest: 1 << 47,
+    },
+    Part {
+        number: (1 << 94) + (1 << 46),
+        floor: 1 << 47,
+        ceil: (1 << 47) + 1,
+        nearest: (1 << 47) + 1,
+    },
+    Part {
+        number: (1 << 94) + (1 << 46) - 1,
+        floor: 1 << 47,
+        ceil: (1 << 47) + 1,
+        nearest: 1 << 47,
+    },
+    Part {
+        number: -(1 << 94) - (1 << 46),
+        floor: -(1 << 47) - 1,
+        ceil: -(1 << 47),
+        nearest: -(1 << 47),
+    },
+    Part {
+        number: -(1 << 94) - (1 << 46) - 1,
+        floor: -(1 << 47) - 1,
+        ceil: -(1 << 47),
+        nearest: -(1 << 47) - 1,
+    },
+];
+
+fn part(rounding: Rounding, number: i128) -> Option<i128> {
+    if number <= LEAST_NUMBER || number >= -LEAST_NUMBER {
+        return None;
+    }
+    match Format::new(1, 47, rounding, OverflowMode::Wrap) {
+        Ok(format) => Some(format.round_shift(number)),
+        Err(_) => None,
+    }
+}
+
+fn is_parted(row: &Part) -> bool {
+    part(Rounding::Floor, row.number) == Some(row.floor)
+        && part(Rounding::Ceil, row.number) == Some(row.ceil)
+        && part(Rounding::Nearest, row.number) == Some(row.nearest)
+}
+
+#[test]
+fn shifts_by_47_bits(rt: HostRuntime) {
+    for row in &PARTS {
+        assert!(rt; is_parted(row));
     }
 }

@@ -103,10 +103,10 @@ count_more test ns n = sum_by_push (λ (m : Node). one_if (test m)) ns n
 -- ---- products and sums
 -- the size of a coefficient that is a word
 abbrev pub IsSmall : ℤ → Type 0
-IsSmall c = unsigned_abs c ≤ 2 ^ 31
+IsSmall c = unsigned_abs c ≤ 2 ^ 47
 
-pub word_small : (f : Format) → word_bound f ≤ 2 ^ 31
-word_small f = let two : 0 < 2 = omega arith in let e : width f - 1 ≤ 31 = omega (arith, f.lawful) in pow-le-pow_right two e
+pub word_small : (f : Format) → word_bound f ≤ 2 ^ 47
+word_small f = let two : 0 < 2 = omega arith in let e : width f - 1 ≤ 47 = omega (arith, f.lawful) in pow-le-pow_right two e
 
 -- what these nodes are beyond older ones
 pub record Grown (f : Format) (r : ℕ) (old : List Node) (m : Made) (p s : ℕ) : Type 0 where
@@ -125,7 +125,7 @@ product_grows f r ns p s c i h t small w =
     let la = length_push ns n1 in
     let lb = length_push a n2 in
     let lc = length_push b n3 in
-    let big : unsigned_abs c * word_bound f ≤ 2 ^ 31 * 2 ^ 31 = mul-le (unsigned_abs c) (word_bound f) (2 ^ 31) (2 ^ 31) small (word_small f) in
+    let big : unsigned_abs c * word_bound f ≤ 2 ^ 47 * 2 ^ 47 = mul-le (unsigned_abs c) (word_bound f) (2 ^ 47) (2 ^ 47) small (word_small f) in
     let b1 : node_bound f (bounds_of f ns) n1 ≡ unsigned_abs c * word_bound f = ap (λ (u : ℕ). unsigned_abs c * u) (h.words i w) in
     let b2 : node_bound f (bounds_of f a) n2 ≡ unsigned_abs c * word_bound f = bound_last f ns n1 ∙ b1 in
     let h1 : AreSound f r a = sound_more f r ns n1 h (record { backwards = names_word-below ns i w; reads = tt; small = omega (arith, big, b1); word = λ g. absurd cc }) in

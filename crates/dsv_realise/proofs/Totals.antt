@@ -26,7 +26,7 @@ use Rattle.dsv_realise.proofs.GrowingLines.{IsFit, AreFit, products_in, products
 record IsTerm (f : Format) (r : ℕ) (ns : List Node) (n : Node) (p : ℕ) : Type 0 where
   backwards : NamesBelow (length ns) n
   reads : ReadsBelow r n
-  bound : node_bound f (bounds_of f ns) n ≤ 2 ^ 62
+  bound : node_bound f (bounds_of f ns) n ≤ 2 ^ 94
   word : gives_word n ≡ false
   product : one_if (is_product n) ≡ p
   sum : one_if (is_sum n) ≡ 0
@@ -37,7 +37,7 @@ times_term f r ns c i h small w = record {
   backwards = names_word-below ns i w;
   reads = tt;
   bound =
-      let big : unsigned_abs c * word_bound f ≤ 2 ^ 31 * 2 ^ 31 = mul-le (unsigned_abs c) (word_bound f) (2 ^ 31) (2 ^ 31) small (word_small f) in
+      let big : unsigned_abs c * word_bound f ≤ 2 ^ 47 * 2 ^ 47 = mul-le (unsigned_abs c) (word_bound f) (2 ^ 47) (2 ^ 47) small (word_small f) in
       let same : unsigned_abs c * slice_index (bounds_of f ns) i ≡ unsigned_abs c * word_bound f = rw (h.words i w) refl in
       omega (arith, big, same);
   word = refl;
@@ -51,8 +51,8 @@ scale_term f r ns i h w = record {
   backwards = names_word-below ns i w;
   reads = tt;
   bound =
-      let small : 2 ^ f.frac_bits ≤ 2 ^ 31 = let two : 0 < 2 = omega arith in let e : f.frac_bits ≤ 31 = omega (arith, f.lawful) in pow-le-pow_right two e in
-      let big : 2 ^ f.frac_bits * word_bound f ≤ 2 ^ 31 * 2 ^ 31 = mul-le (2 ^ f.frac_bits) (word_bound f) (2 ^ 31) (2 ^ 31) small (word_small f) in
+      let small : 2 ^ f.frac_bits ≤ 2 ^ 47 = let two : 0 < 2 = omega arith in let e : f.frac_bits ≤ 47 = omega (arith, f.lawful) in pow-le-pow_right two e in
+      let big : 2 ^ f.frac_bits * word_bound f ≤ 2 ^ 47 * 2 ^ 47 = mul-le (2 ^ f.frac_bits) (word_bound f) (2 ^ 47) (2 ^ 47) small (word_small f) in
       let same : 2 ^ f.frac_bits * slice_index (bounds_of f ns) i ≡ 2 ^ f.frac_bits * word_bound f = rw (h.words i w) refl in
       omega (arith, big, same);
   word = refl;
@@ -93,7 +93,7 @@ record Summed (f : Format) (r : ℕ) (old : List Node) (m : Made) (p s fits node
   nodes_few : length m.nodes + 1 ≤ nodes + 2 * k
   keeps : (j : ℕ) → names_word old j ≡ true → names_word m.nodes j ≡ true
   within : m.place < length m.nodes
-  bound : slice_index (bounds_of f m.nodes) m.place ≤ k * 2 ^ 62
+  bound : slice_index (bounds_of f m.nodes) m.place ≤ k * 2 ^ 94
 
 first_summed : (f : Format) (r : ℕ) (ns : List Node) (p s fits nodes : ℕ) (t : Summand ℕ) → AreSound f r ns → count_by is_product ns ≡ p → count_by is_sum ns ≡ s → count_by is_fit ns ≤ fits → length ns ≤ nodes → IsFit ns t
     → Summed f r ns (with_first_exact ns t) (p + products_in (t ∷ [])) s fits nodes 1

@@ -40,7 +40,7 @@ length_by k a m e less more = elim (cases_lt m k) [
 bit_length-by : (k clz m : ℕ) → clz + m ≡ 64 → m ≡ k → 64 - clz ≡ k
 bit_length-by k clz m e f = omega arith
 
-bit_length-greatest : (n : ℕ) → n ≤ 32 → bit_length (hi n) ≡ n - 1
+bit_length-greatest : (n : ℕ) → n ≤ 48 → bit_length (hi n) ≡ n - 1
 bit_length-greatest n h =
     let a = unsigned_abs (hi n) in
     let e : a + 1 ≡ 2 ^ (n - 1) = size_of_greatest (2 ^ (n - 1)) (pow_pos (n - 1)) in
@@ -48,7 +48,7 @@ bit_length-greatest n h =
     let l = leading_length 64 a (omega arith) in
     bit_length-by (n - 1) (count_leading_zeros 64 a) l.0 l.1 (length_by (n - 1) a l.0 e l.2 l.3)
 
-pub bits_of-lawful : (shape : Shape) → IsLawful shape → (2 ≤ bits_of shape) × (bits_of shape ≤ 32)
+pub bits_of-lawful : (shape : Shape) → IsLawful shape → (2 ≤ bits_of shape) × (bits_of shape ≤ 48)
 bits_of-lawful shape h =
     let e : bit_length shape.hi ≡ h.bits - 1 = ap bit_length h.greatest ∙ bit_length-greatest h.bits h.narrow in
     let w = h.wide in let n = h.narrow in

@@ -10,7 +10,7 @@ use Rattle.std.proofs.lemmas.Nat.{mul-le}
 use Rattle.std.proofs.lemmas.List.{drop_more}
 use Rattle.std.proofs.lemmas.List.Elements.{All-nil, All-cons, All-head, All-tail}
 use Rattle.std.proofs.lemmas.List.Folds.{list_all_at}
-use mir.Syntax.{w64}
+use mir.Syntax.{w64, w128}
 use mir.Val.{SFits, to_z, of_z}
 use Rattle.dsv_word.specs.Width.{widest_word}
 use Rattle.dsv_template.specs.declared.candidate.Candidate.{Candidate}
@@ -37,15 +37,15 @@ pub entry_bounds : (c r : ℤ) → is_small c ≡ true → IsSomeWord r → (neg
 entry_bounds c r s w = size_bounds most_entry (c *ℤ r) (entry_size c r s w)
 
 -- as the code computes it
-pub entry_read : (c r : ℤ) → is_small c ≡ true → IsSomeWord r → to_z w64 (of_z w64 (to_z w64 (of_z w64 c) *ℤ to_z w64 (of_z w64 r))) ≡ c *ℤ r
+pub entry_read : (c r : ℤ) → is_small c ≡ true → IsSomeWord r → to_z w128 (of_z w128 (to_z w64 (of_z w64 c) *ℤ to_z w64 (of_z w64 r))) ≡ c *ℤ r
 entry_read c r s w =
     let small : unsigned_abs c ≤ most_coefficient = leb-true (unsigned_abs c) most_coefficient s in
     let size = word_size r w in
     let all = entry_size c r s w in
     let first : SFits w64 c = fits_signed_from_abs w64 c (omega arith) in
     let second : SFits w64 r = fits_signed_from_abs w64 r (omega arith) in
-    let product : SFits w64 (c *ℤ r) = fits_signed_from_abs w64 (c *ℤ r) (omega arith) in
-    rw (to_z-of_z w64 c first, to_z-of_z w64 r second) (to_z-of_z w64 (c *ℤ r) product)
+    let product : SFits w128 (c *ℤ r) = fits_signed_from_abs w128 (c *ℤ r) (omega arith) in
+    rw (to_z-of_z w64 c first, to_z-of_z w64 r second) (to_z-of_z w128 (c *ℤ r) product)
 
 -- ---- sums
 pub combination-drop : (cs rs : List ℤ) (i : ℕ) → i < length cs → i < length rs

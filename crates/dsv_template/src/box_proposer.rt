@@ -32,7 +32,7 @@ fn bits_of(shape: &Shape) -> u32
     requires { IsLawful shape.now }
     ensures value { result ≡ bits_of shape.now }
     ensures some { 2 ≤ result }
-    ensures few { result ≤ 32 }
+    ensures few { result ≤ 48 }
 {
     bit_length(&shape.hi) + 1
 }
@@ -64,26 +64,26 @@ fn or_more(z: &i64) -> i64
 
 /// The greatest word of a register in the box of 2^bits.
 fn upper_end(shape: &Shape, bits: u32, register: u32) -> i64
-    requires { bits ≤ 31 }
+    requires { bits ≤ 47 }
     ensures { result ≡ upper_end shape.now bits register }
 {
     if register < shape.past_inputs {
         or_more(&shape.xhi)
     } else {
-        i64::from(2u32.pow(bits)) - 1
+        2i64.pow(bits) - 1
     }
 }
 
 /// Minus the least word of a register in the box of 2^bits.
 fn lower_bound(shape: &Shape, bits: u32, register: u32) -> i64
     requires lawful { IsLawful shape.now }
-    requires bits { bits ≤ 31 }
+    requires bits { bits ≤ 47 }
     ensures { result ≡ neg_ℤ (lower_end shape.now bits register) }
 {
     if register < shape.past_inputs {
         -or_less(&shape.xlo)
     } else {
-        i64::from(2u32.pow(bits))
+        2i64.pow(bits)
     }
 }
 
@@ -112,7 +112,7 @@ fn inequality(shape: &Shape, register: u32, c: &i64, bound: i64) -> Inequality
 /// The ends of all registers in the box of 2^bits: for each the upper end, then the lower one.
 fn ends_of(shape: &Shape, bits: u32) -> InequalityList
     requires lawful { IsLawful shape.now }
-    requires bits { bits ≤ 31 }
+    requires bits { bits ≤ 47 }
     ensures { result.items ≡ ends_of shape.now bits shape.now.registers }
 {
     let mut inequalities = InequalityList::new();

@@ -99,18 +99,18 @@ fn are_fit_for(registers: u32, inequalities: &[Inequality]) -> bool
 }
 
 /// A coefficient times a register.
-fn entry(coefficient: &i64, register: &i64) -> i64
+fn entry(coefficient: &i64, register: &i64) -> i128
     requires small { is_small coefficient.now ≡ true }
     requires word { IsSomeWord register.now }
     ensures value { result ≡ coefficient.now *ℤ register.now }
     ensures least { neg_ℤ (pos most_entry) ≤ℤ result }
     ensures greatest { result ≤ℤ pos most_entry }
 {
-    *coefficient * *register
+    i128::from(*coefficient) * i128::from(*register)
 }
 
 /// The sum of each coefficient times its register.
-fn combination(coefficients: &[i64], registers: &[i64]) -> i64
+fn combination(coefficients: &[i64], registers: &[i64]) -> i128
     requires many { length coefficients.now ≡ length registers.now }
     requires few { length coefficients.now ≤ most_registers }
     requires small { list_all is_small coefficients.now ≡ true }
@@ -130,7 +130,7 @@ fn fulfils(inequality: &Inequality, registers: &[i64]) -> bool
     requires words { All IsSomeWord registers.now }
     ensures { IsTrue result ↔ Fulfils registers.now inequality.now }
 {
-    combination(&inequality.coefficients, registers) <= inequality.bound
+    combination(&inequality.coefficients, registers) <= i128::from(inequality.bound)
 }
 
 /// Whether the registers fulfil all of these inequalities.
@@ -161,7 +161,7 @@ impl Candidate {
     }
 
     /// Whether these registers are in the set: whether they fulfil all inequalities. Each of them
-    /// holds a word of at most 32 bits.
+    /// holds a word.
     pub fn contains(&self, registers: &[i64]) -> bool
         requires shaped { is_shaped (length registers.now) self.now ≡ true }
         requires words { All IsSomeWord registers.now }

@@ -3,4 +3,4 @@ use Rattle.std.specs.Prelude.{ℕ}
 
 -- the most bits of a term
 abbrev pub max_width : ℕ
-max_width = 80
+max_width = 128

@@ -1,7 +1,7 @@
 // What a term is.
 
 /// How many bits a term has at most.
-pub const MAX_WIDTH: u32 = 80;
+pub const MAX_WIDTH: u32 = 128;
 
 /// The number of a term: its place in the order in which the terms were made, from 0 on.
 #[derive(Clone, Copy, Debug, PartialEq, Eq, Hash)]

@@ -44,7 +44,7 @@ compared t left right s v u =
     let bits = max (width_of t left) (width_of t right) in
     let a = widened_term t left bits in
     let b = widened_term a.terms right bits in
-    let m = both_widened t left right bits s v u (le-max_left (width_of t left) (width_of t right)) (le-max_right (width_of t left) (width_of t right)) (let n = max_narrow (width_of t left) (width_of t right) 79 v.narrow u.narrow in omega arith) in
+    let m = both_widened t left right bits s v u (le-max_left (width_of t left) (width_of t right)) (le-max_right (width_of t left) (width_of t right)) (let n = max_narrow (width_of t left) (width_of t right) 127 v.narrow u.narrow in omega arith) in
     let g = same_gives b.terms a.id b.id m.right_adds.sound m.left_adds.stands m.right_adds.stands (m.left_adds.width ∙ sym m.right_adds.width) in
     let c = with_node b.terms (Eq a.id b.id) in
     let some : 1 ≤ bits = (let w = stands-width t left s v.stands in let l = le-max_left (width_of t left) (width_of t right) in omega (arith, w.some)) in

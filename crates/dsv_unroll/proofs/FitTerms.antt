@@ -119,7 +119,7 @@ cut_gives t of n s v p l =
 
 pub record Fits (t : TermsView) (of : TermId) (n : ℕ) (overflowed : TermId) (u : Unrolled) : Type 0 where
   pub adds : Adds t u.terms u.id (width_of u.terms u.id)
-  pub narrow : width_of u.terms u.id ≤ 79
+  pub narrow : width_of u.terms u.id ≤ 127
   pub overflowed_stands : u.overflowed.0 < length u.terms.nodes
   pub overflowed_bit : width_of u.terms u.overflowed ≡ 1
   pub value : (values : List ℕ) (z : ℤ) → Spells t values of (width_of t of) z → is_outside n z ≡ false → Spells u.terms values u.id (width_of u.terms u.id) z

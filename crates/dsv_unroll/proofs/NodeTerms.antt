@@ -35,17 +35,17 @@ use Rattle.dsv_unroll.proofs.FitTerms.{tested_fits}
 use Rattle.dsv_unroll.proofs.FaithfulTerms.{word_fits}
 
 -- ---- numbers of a netlist
-pub bound_small : (net : Net) (i : ℕ) → IsNetlist net → i < length net.nodes → bound_at net i < 2 ^ 78
+pub bound_small : (net : Net) (i : ℕ) → IsNetlist net → i < length net.nodes → bound_at net i < 2 ^ 126
 bound_small net i n h =
     All-get_or (λ (b : ℕ). b < bound_limit) (bounds_of net.format net.nodes) i 0 (omega (arith, from-length net.format net.nodes [], h)) n.bounded
 
-pub point_small : (f : Format) → f.frac_bits ≤ 32
+pub point_small : (f : Format) → f.frac_bits ≤ 48
 point_small f = let l = f.lawful in omega (arith, l.0, l.1, l.2)
 
 pub width_some : (f : Format) → 1 ≤ width f
 width_some f = let l = f.lawful in omega (arith, l.0, l.1)
 
-pub width_small : (f : Format) → width f ≤ 32
+pub width_small : (f : Format) → width f ≤ 48
 width_small f = let l = f.lawful in omega (arith, l.2)
 
 addend_is_small : (r : Rounding) (f : ℕ) → addend_of r f ≤ 2 ^ f
@@ -83,7 +83,7 @@ pub record NodeAdds (t : TermsView) (u : Unrolled) : Type 0 where
   pub overflowed_bit : width_of u.terms u.overflowed ≡ 1
 
 -- a term that is added, and the bit as it was
-plain : (t : TermsView) (b : Built) (bits : ℕ) (overflowed : TermId) → Adds t b.terms b.id bits → bits ≤ 79 → overflowed.0 < length t.nodes → width_of t overflowed ≡ 1 → NodeAdds t (unrolled_of b overflowed)
+plain : (t : TermsView) (b : Built) (bits : ℕ) (overflowed : TermId) → Adds t b.terms b.id bits → bits ≤ 127 → overflowed.0 < length t.nodes → width_of t overflowed ≡ 1 → NodeAdds t (unrolled_of b overflowed)
 plain t b bits overflowed a n s w =
     let l = later t b.terms overflowed a.kept s in
     record { sound = a.sound; inputs = a.inputs; kept = a.kept; value = record { stands = a.stands; narrow = omega (arith, a.width, n) }; overflowed_stands = l.stands; overflowed_bit = l.width ∙ w }
@@ -91,7 +91,7 @@ plain t b bits overflowed a n s w =
 standing : (t : TermsView) (id overflowed : TermId) → AreSound t → IsValue t id → overflowed.0 < length t.nodes → width_of t overflowed ≡ 1 → NodeAdds t (unrolled_of (built_of t id) overflowed)
 standing t id overflowed s v k w = plain t (built_of t id) (width_of t id) overflowed (Adds-none t id (width_of t id) s v.stands refl) v.narrow k w
 
-rounded_by : (t : TermsView) (bound addend f : ℕ) (of overflowed : TermId) (q : Bool) → AreSound t → IsValue t of → bound < 2 ^ 78 → addend ≤ 2 ^ f → f ≤ 32 → (f == 0) ≡ q → overflowed.0 < length t.nodes → width_of t overflowed ≡ 1
+rounded_by : (t : TermsView) (bound addend f : ℕ) (of overflowed : TermId) (q : Bool) → AreSound t → IsValue t of → bound < 2 ^ 126 → addend ≤ 2 ^ f → f ≤ 48 → (f == 0) ≡ q → overflowed.0 < length t.nodes → width_of t overflowed ≡ 1
     → NodeAdds t (unrolled_of (if q then built_of t of else shifted_term t bound addend f of) overflowed)
 rounded_by t bound addend f of overflowed true s v l m k e bs bw = standing t of overflowed s v bs bw
 rounded_by t bound addend f of overflowed false s v l m k e bs bw =

@@ -120,10 +120,10 @@ addend_fits false w f bound addend z e s l m h k =
     lesser_fits (max w (f + 1)) (max w (f + 1) + 1) (bound + addend) (z +ℤ pos addend) (omega arith) l (with_one_more w f addend z s m h)
     (let u = size_within bound z k in within_size (bound + addend) (z +ℤ pos addend) (record { low = omega (arith, ints, u.low); high = omega (arith, ints, u.high) }))
 
-pub shift_width-narrow : (t : TermsView) (of : TermId) (bound addend f : ℕ) → IsValue t of → bound < 2 ^ 78 → addend ≤ 2 ^ f → f ≤ 32 → shift_width t bound addend f of ≤ 80
+pub shift_width-narrow : (t : TermsView) (of : TermId) (bound addend f : ℕ) → IsValue t of → bound < 2 ^ 126 → addend ≤ 2 ^ f → f ≤ 48 → shift_width t bound addend f of ≤ 128
 shift_width-narrow t of bound addend f h l m k =
-    let limit : 2 ^ f ≤ 2 ^ 32 = pow-le-pow_right (omega arith) k in
-    width_by-narrow (addend == 0) (max (width_of t of) (f + 1)) (width_for (bound + addend)) 80 (omega (arith, h.narrow)) (width_for-least (bound + addend) 79 (omega arith) (omega arith))
+    let limit : 2 ^ f ≤ 2 ^ 48 = pow-le-pow_right (omega arith) k in
+    width_by-narrow (addend == 0) (max (width_of t of) (f + 1)) (width_for (bound + addend)) 128 (omega (arith, h.narrow)) (width_for-least (bound + addend) 127 (omega arith) (omega arith))
 
 -- the bits from the point up are fewer
 pub shift_width-point : (t : TermsView) (of : TermId) (bound addend f : ℕ) → f < shift_width t bound addend f of
@@ -138,7 +138,7 @@ addend_room t of bound addend f l =
     let one = pow_pos f in
     omega (arith, double)
 
-pub shifted : (t : TermsView) (of : TermId) (bound addend f : ℕ) → AreSound t → IsValue t of → bound < 2 ^ 78 → addend ≤ 2 ^ f → f ≤ 32
+pub shifted : (t : TermsView) (of : TermId) (bound addend f : ℕ) → AreSound t → IsValue t of → bound < 2 ^ 126 → addend ≤ 2 ^ f → f ≤ 48
     → Shifts t of bound addend f (shift_width t bound addend f of - f) (shifted_term t bound addend f of)
 shifted t of bound addend f s h l m k =
     let bits = shift_width t bound addend f of in
@@ -146,7 +146,7 @@ shifted t of bound addend f s h l m k =
     let some = (stands-width t of s h.stands).some in
     let one = shift_width-point t of bound addend f in
     let e : bits - f + f ≡ bits = omega arith in
-    let limit : 2 ^ f ≤ 2 ^ 32 = pow-le-pow_right (omega arith) k in
+    let limit : 2 ^ f ≤ 2 ^ 48 = pow-le-pow_right (omega arith) k in
     let P : ℕ → Type 0 = λ w. Shifts t of bound addend f (bits - f) (let a = widened_term t of w in let b = with_addend a.terms w addend a.id in with_node b.terms (Extract b.id (w - 1) f)) in
     subst P e (shifted_by t of bound addend f (bits - f) s h
     (rw e (let i = width_by-within (addend == 0) (max w (f + 1)) (width_for (bound + addend)) in omega (arith, i)))

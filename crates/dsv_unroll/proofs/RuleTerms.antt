@@ -172,12 +172,12 @@ multiplied t bound coeff of bits s v w n r =
       };
     }
 
-pub product_narrow : (t : TermsView) (bound : ℕ) (coeff : ℤ) (of : TermId) → IsValue t of → bound < 2 ^ 78 → product_width t bound coeff of ≤ 79
+pub product_narrow : (t : TermsView) (bound : ℕ) (coeff : ℤ) (of : TermId) → IsValue t of → bound < 2 ^ 126 → product_width t bound coeff of ≤ 127
 product_narrow t bound coeff of v l =
     let w = width_of t of in
-    lesser_narrow w (w + width_for (min (unsigned_abs coeff) bound) - 1) (width_for bound) 79 v.narrow (width_for-least bound 78 (omega arith) l)
+    lesser_narrow w (w + width_for (min (unsigned_abs coeff) bound) - 1) (width_for bound) 127 v.narrow (width_for-least bound 126 (omega arith) l)
 
-pub product_made : (t : TermsView) (bound : ℕ) (coeff : ℤ) (of : TermId) → AreSound t → IsValue t of → bound < 2 ^ 78
+pub product_made : (t : TermsView) (bound : ℕ) (coeff : ℤ) (of : TermId) → AreSound t → IsValue t of → bound < 2 ^ 126
     → Multiplies t bound coeff of (product_width t bound coeff of) (product_term t bound coeff of)
 product_made t bound coeff of s v l =
     let w = width_of t of in
@@ -185,7 +185,7 @@ product_made t bound coeff of s v l =
     let d = min (unsigned_abs coeff) bound in
     let more = w + width_for d - 1 in
     let m = product_narrow t bound coeff of v l in
-    let large = bound_large bound 78 (omega arith) l in
+    let large = bound_large bound 126 (omega arith) l in
     let r = width_for-room d (omega arith) in
     multiplied t bound coeff of (product_width t bound coeff of) s v (le-max_left w (min more (width_for bound))) (omega arith)
     (λ z h k. lesser_fits w more bound (coeff *ℤ z) (omega (arith, r.some)) large (product_spelled w bound coeff z some large k h) k)
@@ -205,18 +205,18 @@ scaled_spelled w f z s h =
     let d : k *ℤ (p -ℤ z) ≡ k *ℤ p -ℤ k *ℤ z = ring (env (k ∷ z ∷ p ∷ [])) (times (var 0) (plus (var 2) (minus (var 1)))) (plus (times (var 0) (var 2)) (minus (times (var 0) (var 1)))) refl in
     record { low = omega (arith, ints, a, c, m); high = omega (arith, ints, b, d, m) }
 
-pub scaled_narrow : (t : TermsView) (bound f : ℕ) (of : TermId) → IsValue t of → bound < 2 ^ 78 → scaled_width t bound f of ≤ 79
+pub scaled_narrow : (t : TermsView) (bound f : ℕ) (of : TermId) → IsValue t of → bound < 2 ^ 126 → scaled_width t bound f of ≤ 127
 scaled_narrow t bound f of v l =
     let w = width_of t of in
-    lesser_narrow w (w + f) (width_for bound) 79 v.narrow (width_for-least bound 78 (omega arith) l)
+    lesser_narrow w (w + f) (width_for bound) 127 v.narrow (width_for-least bound 126 (omega arith) l)
 
-pub scaled_made : (t : TermsView) (bound f : ℕ) (of : TermId) → AreSound t → IsValue t of → bound < 2 ^ 78
+pub scaled_made : (t : TermsView) (bound f : ℕ) (of : TermId) → AreSound t → IsValue t of → bound < 2 ^ 126
     → Multiplies t bound (pos (2 ^ f)) of (scaled_width t bound f of) (scaled_term t bound f of)
 scaled_made t bound f of s v l =
     let w = width_of t of in
     let m = scaled_narrow t bound f of v l in
     multiplied t bound (pos (2 ^ f)) of (scaled_width t bound f of) s v (le-max_left w (min (w + f) (width_for bound))) (omega arith)
-    (λ z h k. lesser_fits w (w + f) bound (pos (2 ^ f) *ℤ z) (omega arith) (bound_large bound 78 (omega arith) l) (scaled_spelled w f z (stands-width t of s v.stands).some h) k)
+    (λ z h k. lesser_fits w (w + f) bound (pos (2 ^ f) *ℤ z) (omega arith) (bound_large bound 126 (omega arith) l) (scaled_spelled w f z (stands-width t of s v.stands).some h) k)
 
 -- two terms in so many bits
 pub record WidensBoth (t : TermsView) (left right : TermId) (bits : ℕ) (a b : Built) : Type 0 where
@@ -296,12 +296,12 @@ difference_spelled : (m : ℕ) (y z : ℤ) → 1 ≤ m → IsSpelled m y → IsS
 difference_spelled m y z s h k =
     let p = one_more m s in record { low = omega (arith, ints, p, h.low, h.high, k.low, k.high); high = omega (arith, ints, p, h.low, h.high, k.low, k.high) }
 
-pub sum_narrow : (t : TermsView) (bound : ℕ) (left right : TermId) → IsValue t left → IsValue t right → bound < 2 ^ 78 → sum_width t bound left right ≤ 79
+pub sum_narrow : (t : TermsView) (bound : ℕ) (left right : TermId) → IsValue t left → IsValue t right → bound < 2 ^ 126 → sum_width t bound left right ≤ 127
 sum_narrow t bound left right v u l =
-    let w = width_for-least bound 78 (omega arith) l in
-    let m = max_narrow (width_of t left) (width_of t right) 79 v.narrow u.narrow in
+    let w = width_for-least bound 126 (omega arith) l in
+    let m = max_narrow (width_of t left) (width_of t right) 127 v.narrow u.narrow in
     let bits = max (width_of t left) (width_of t right) in
-    lesser_narrow bits (bits + 1) (width_for bound) 79 m w
+    lesser_narrow bits (bits + 1) (width_for bound) 127 m w
 
 left_within : (a b c : ℕ) → a ≤ lesser_width (max a b) (max a b + 1) c
 left_within a b c = omega arith
@@ -309,7 +309,7 @@ left_within a b c = omega arith
 right_within : (a b c : ℕ) → b ≤ lesser_width (max a b) (max a b + 1) c
 right_within a b c = omega arith
 
-pub sum_made : (t : TermsView) (bound : ℕ) (left right : TermId) → AreSound t → IsValue t left → IsValue t right → bound < 2 ^ 78
+pub sum_made : (t : TermsView) (bound : ℕ) (left right : TermId) → AreSound t → IsValue t left → IsValue t right → bound < 2 ^ 126
     → Combines t bound left right (sum_width t bound left right) (λ y z. y +ℤ z) (sum_term t bound left right)
 sum_made t bound left right s v u l =
     let a = width_of t left in
@@ -317,10 +317,10 @@ sum_made t bound left right s v u l =
     let some = (stands-width t left s v.stands).some in
     let m = sum_narrow t bound left right v u l in
     added t bound left right (sum_width t bound left right) s v u (left_within a b (width_for bound)) (right_within a b (width_for bound)) (omega arith)
-    (λ y z h k. lesser_fits (max a b) (max a b + 1) bound (y +ℤ z) (omega arith) (bound_large bound 78 (omega arith) l)
+    (λ y z h k. lesser_fits (max a b) (max a b + 1) bound (y +ℤ z) (omega arith) (bound_large bound 126 (omega arith) l)
     (sum_spelled (max a b) y z (omega arith) (wider_spelled a (max a b) y (le-max_left a b) h) (wider_spelled b (max a b) z (le-max_right a b) k)))
 
-pub difference_made : (t : TermsView) (bound : ℕ) (left right : TermId) → AreSound t → IsValue t left → IsValue t right → bound < 2 ^ 78
+pub difference_made : (t : TermsView) (bound : ℕ) (left right : TermId) → AreSound t → IsValue t left → IsValue t right → bound < 2 ^ 126
     → Combines t bound left right (sum_width t bound left right) (λ y z. y -ℤ z) (difference_term t bound left right)
 difference_made t bound left right s v u l =
     let a = width_of t left in
@@ -328,5 +328,5 @@ difference_made t bound left right s v u l =
     let some = (stands-width t left s v.stands).some in
     let m = sum_narrow t bound left right v u l in
     subtracted t bound left right (sum_width t bound left right) s v u (left_within a b (width_for bound)) (right_within a b (width_for bound)) (omega arith)
-    (λ y z h k. lesser_fits (max a b) (max a b + 1) bound (y -ℤ z) (omega arith) (bound_large bound 78 (omega arith) l)
+    (λ y z h k. lesser_fits (max a b) (max a b + 1) bound (y -ℤ z) (omega arith) (bound_large bound 126 (omega arith) l)
     (difference_spelled (max a b) y z (omega arith) (wider_spelled a (max a b) y (le-max_left a b) h) (wider_spelled b (max a b) z (le-max_right a b) k)))

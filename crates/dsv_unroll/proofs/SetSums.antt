@@ -39,13 +39,13 @@ use Rattle.dsv_unroll.proofs.CycleTerms.{all_later, tail_values, AllMean, mean_l
 powers : (i j : ℕ) → i ≤ j → 2 ^ i ≤ 2 ^ j
 powers i j h = pow-le-pow_right (omega arith) h
 
--- a coefficient times a word takes at most 55 bits
-pub entry_bound-small : (f : Format) (c : ℤ) → is_small c ≡ true → entry_bound (width f) c ≤ 2 ^ 55
+-- a coefficient times a word takes at most 71 bits
+pub entry_bound-small : (f : Format) (c : ℤ) → is_small c ≡ true → entry_bound (width f) c ≤ 2 ^ 71
 entry_bound-small f c h =
     let a : unsigned_abs c ≤ most_coefficient = leb-true (unsigned_abs c) most_coefficient h in
     let s = width_small f in
-    let p = powers (width f - 1) 31 (omega arith) in
-    let m = mul-le (unsigned_abs c) (2 ^ (width f - 1)) most_coefficient (2 ^ 31) a p in
+    let p = powers (width f - 1) 47 (omega arith) in
+    let m = mul-le (unsigned_abs c) (2 ^ (width f - 1)) most_coefficient (2 ^ 47) a p in
     omega (arith, m)
 
 entry_size : (f : Format) (c w : ℤ) → IsWord f w → unsigned_abs (c *ℤ w) ≤ entry_bound (width f) c
@@ -89,7 +89,7 @@ pub record ProductStands (t : TermsView) (sum entry : TermId) : Type 0 where
   pub left : IsValue t sum
   pub right : IsValue t entry
 
-product_stands : (t : TermsView) (size : ℕ) (c : ℤ) (sum register : TermId) → AreSound t → IsValue t sum → IsValue t register → size < 2 ^ 78 → let entry = product_term t size c register in ProductStands entry.terms sum entry.id
+product_stands : (t : TermsView) (size : ℕ) (c : ℤ) (sum register : TermId) → AreSound t → IsValue t sum → IsValue t register → size < 2 ^ 126 → let entry = product_term t size c register in ProductStands entry.terms sum entry.id
 product_stands t size c sum register h v w l =
     let entry = product_term t size c register in
     let p = product_made t size c register h w l in
@@ -99,13 +99,13 @@ product_stands t size c sum register h v w l =
 record AddsEntry (s : SumTerms) (c : ℤ) (register : TermId) (size : ℕ) (entry total : Built) : Type 0 where
   product : Multiplies s.terms size c register (product_width s.terms size c register) entry
   sum : Combines entry.terms (s.bound + size) s.id entry.id (sum_width entry.terms (s.bound + size) s.id entry.id) (λ y z. y +ℤ z) total
-  narrow : sum_width entry.terms (s.bound + size) s.id entry.id ≤ 79
+  narrow : sum_width entry.terms (s.bound + size) s.id entry.id ≤ 127
 
-adds_entry : (s : SumTerms) (c : ℤ) (register : TermId) (size : ℕ) → AreSound s.terms → IsValue s.terms s.id → IsValue s.terms register → s.bound + size < 2 ^ 78
+adds_entry : (s : SumTerms) (c : ℤ) (register : TermId) (size : ℕ) → AreSound s.terms → IsValue s.terms s.id → IsValue s.terms register → s.bound + size < 2 ^ 126
     → let entry = product_term s.terms size c register in AddsEntry s c register size entry (sum_term entry.terms (s.bound + size) s.id entry.id)
 adds_entry s c register size h v w l =
     let entry = product_term s.terms size c register in
-    let small : size < 2 ^ 78 = omega arith in
+    let small : size < 2 ^ 126 = omega arith in
     let p = product_stands s.terms size c s.id register h v w small in
     record {
       product = product_made s.terms size c register h w small;
@@ -127,7 +127,7 @@ pub record IsEntryReady (s : SumTerms) (c : ℤ) (register : TermId) : Type 0 wh
   pub value : IsValue s.terms s.id
   pub register_value : IsValue s.terms register
   pub small : is_small c ≡ true
-  pub room : s.bound ≤ 2 ^ 64
+  pub room : s.bound ≤ 2 ^ 80
 
 entry_adds : (f : Format) (s : SumTerms) (c : ℤ) (register : TermId) → IsEntryReady s c register → SumAdds s.terms (entry_sum (width f) s c register)
 entry_adds f s c register r =
@@ -168,11 +168,11 @@ adds_by f s c register false r = entry_adds f s c register r
 pub with_entry_adds : (f : Format) (s : SumTerms) (c : ℤ) (register : TermId) → IsEntryReady s c register → SumAdds s.terms (with_entry (width f) s c register)
 with_entry_adds f s c register r = adds_by f s c register (unsigned_abs c == 0) r
 
-bound_by : (f : Format) (s : SumTerms) (c : ℤ) (register : TermId) (q : Bool) → is_small c ≡ true → (if q then s else entry_sum (width f) s c register).bound ≤ s.bound + 2 ^ 55
+bound_by : (f : Format) (s : SumTerms) (c : ℤ) (register : TermId) (q : Bool) → is_small c ≡ true → (if q then s else entry_sum (width f) s c register).bound ≤ s.bound + 2 ^ 71
 bound_by f s c register true h = omega arith
 bound_by f s c register false h = let b = entry_bound-small f c h in omega arith
 
-pub with_entry_bound : (f : Format) (s : SumTerms) (c : ℤ) (register : TermId) → is_small c ≡ true → (with_entry (width f) s c register).bound ≤ s.bound + 2 ^ 55
+pub with_entry_bound : (f : Format) (s : SumTerms) (c : ℤ) (register : TermId) → is_small c ≡ true → (with_entry (width f) s c register).bound ≤ s.bound + 2 ^ 71
 with_entry_bound f s c register h = bound_by f s c register (unsigned_abs c == 0) h
 
 means_by : (f : Format) (values : List ℕ) (s : SumTerms) (c : ℤ) (register : TermId) (z w : ℤ) (q : Bool) → (unsigned_abs c == 0) ≡ q → IsEntryReady s c register → IsWord f w → Means s.terms values register w → SumMeans values s z
@@ -190,7 +190,7 @@ pub record IsSumReady (s : SumTerms) (cs : List ℤ) (registers : List TermId) :
   pub value : IsValue s.terms s.id
   pub registers_stand : AreAllValues s.terms registers
   pub small : list_all is_small cs ≡ true
-  pub room : s.bound + 2 ^ 55 * length cs ≤ 2 ^ 64
+  pub room : s.bound + 2 ^ 71 * length cs ≤ 2 ^ 80
 
 pub first_entry : (s : SumTerms) (c : ℤ) (cs : List ℤ) (register : TermId) (registers : List TermId) → IsSumReady s (c ∷ cs) (register ∷ registers) → IsEntryReady s c register
 first_entry s c cs register registers r =
@@ -256,7 +256,7 @@ pub passes_at : {A : Type 0} (p : A → Bool) (xs : List A) (k : ℕ) (d : A) �
 passes_at p xs k d h l = All-get_or (λ x. p x ≡ true) xs k d l (AllPass-from_list_all p xs h)
 
 -- the terms of a product that the code made
-pub product_after : (t u : TermsView) (size : ℕ) (c : ℤ) (sum register entry : TermId) → AreSound t → IsValue t sum → IsValue t register → size ≤ 2 ^ 55 → built_of u entry ≡ product_term t size c register → ProductStands u sum entry
+pub product_after : (t u : TermsView) (size : ℕ) (c : ℤ) (sum register entry : TermId) → AreSound t → IsValue t sum → IsValue t register → size ≤ 2 ^ 71 → built_of u entry ≡ product_term t size c register → ProductStands u sum entry
 product_after t u size c sum register entry h v w l e = subst (λ (b : Built). ProductStands b.terms sum b.id) (sym e) (product_stands t size c sum register h v w (omega arith))
 
 -- the registers from one on are to come
@@ -264,7 +264,7 @@ pub record IsSumming (f : Format) (cs : List ℤ) (registers : List TermId) (k :
   pub sound : AreSound s.terms
   pub value : IsValue s.terms s.id
   pub registers_stand : AreAllValues s.terms registers
-  pub room : s.bound ≤ 2 ^ 55 * k
+  pub room : s.bound ≤ 2 ^ 71 * k
   pub same : combination_from (width f) s (drop k cs) (drop k registers) ≡ end
 
 pub entry_at : (f : Format) (cs : List ℤ) (registers : List TermId) (k : ℕ) (s end : SumTerms) → k < length registers → length cs ≡ length registers → length registers ≤ most_registers → list_all is_small cs ≡ true → IsSumming f cs registers k s end

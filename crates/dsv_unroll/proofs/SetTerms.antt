@@ -74,7 +74,7 @@ pub record AtMost (t : TermsView) (id : TermId) (bound : ℤ) (b : Built) : Type
 -- the width of a comparison
 pub record IsBoundWidth (t : TermsView) (id : TermId) (bound : ℤ) (bits : ℕ) : Type 0 where
   pub some : 1 ≤ bits
-  pub narrow : bits ≤ 79
+  pub narrow : bits ≤ 127
   pub wider : width_of t id ≤ bits
   pub enough : width_for (unsigned_abs bound) ≤ bits
 
@@ -87,7 +87,7 @@ bound_width t id bound s v m =
     let width = stands-width t id s v.stands in
     record {
       some = omega (arith, width.some, wide);
-      narrow = max_narrow a (width_for size) 79 v.narrow (omega arith);
+      narrow = max_narrow a (width_for size) 127 v.narrow (omega arith);
       wider = wide;
       enough = le-max_right a (width_for size);
     }

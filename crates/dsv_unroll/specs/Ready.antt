@@ -19,7 +19,7 @@ use Rattle.dsv_unroll.specs.SetGoals.{SetStart}
 -- a term that stands and is not too wide for a node's value
 pub record IsValue (t : TermsView) (id : TermId) : Type 0 where
   pub stands : id.0 < length t.nodes
-  pub narrow : width_of t id ≤ 79
+  pub narrow : width_of t id ≤ 127
 
 -- a term that stands and has so many bits
 pub record HasBits (t : TermsView) (id : TermId) (bits : ℕ) : Type 0 where

@@ -7,7 +7,7 @@ use dsv_netlist::Netlist;
 /// Samples times products times the square of a word's bits.
 fn product_of(samples: u32, products: u32, bits: u32) -> u64
     requires samples { samples ≤ 64 }
-    requires bits { bits ≤ 32 }
+    requires bits { bits ≤ 48 }
     ensures { result ≡ samples * products * bits ^ 2 }
 {
     let square = u64::from(bits * bits);

@@ -30,7 +30,7 @@ fn addend_of(format: &Format) -> u128
 /// Whether the node is a multiple of 2 to the number of bits after the point: a product by one, or
 /// a node that is scaled.
 fn is_whole(node: &Node, frac_bits: u32) -> bool
-    requires { frac_bits ≤ 32 }
+    requires { frac_bits ≤ 48 }
     ensures { result ≡ is_whole frac_bits node.now }
 {
     match node {
@@ -61,7 +61,7 @@ fn addend_at(net: &Netlist, of: u32) -> u128
 fn bound_at(net: &Netlist, i: u32) -> u128
     requires { i < length net.now.nodes }
     ensures value { result ≡ bound_at net.now i }
-    ensures small { result < 2 ^ 78 }
+    ensures small { result < 2 ^ 126 }
 {
     net.bound(i) as u128
 }

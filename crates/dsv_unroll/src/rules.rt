@@ -53,7 +53,7 @@ pub(crate) fn widened_term(terms: &mut Terms, id: TermId, bits: u32) -> Result<T
 /// The width of a product by a constant, where this is its bound.
 fn product_width(terms: &Terms, bound: u128, coeff: i64, of: TermId) -> u32
     requires stands { of.0 < length terms.now.nodes }
-    requires small { bound < 2 ^ 78 }
+    requires small { bound < 2 ^ 126 }
     ensures { result ≡ product_width terms.now bound coeff of }
 {
     let bits = terms.width(of);
@@ -70,7 +70,7 @@ pub(crate) fn product_term(
 ) -> Result<TermId, NoMemory>
     requires sound { AreSound terms.old }
     requires value { IsValue terms.old of }
-    requires small { bound < 2 ^ 78 }
+    requires small { bound < 2 ^ 126 }
     ensures { IfOk result (λ made. built_of terms.new made
         ≡ product_term terms.old bound coeff of) }
 {
@@ -82,8 +82,8 @@ pub(crate) fn product_term(
 /// The width of a term times 2 to the number of bits after the point, where this is its bound.
 fn scaled_width(terms: &Terms, bound: u128, frac_bits: u32, of: TermId) -> u32
     requires stands { of.0 < length terms.now.nodes }
-    requires small { bound < 2 ^ 78 }
-    requires point { frac_bits ≤ 32 }
+    requires small { bound < 2 ^ 126 }
+    requires point { frac_bits ≤ 48 }
     ensures { result ≡ scaled_width terms.now bound frac_bits of }
 {
     let bits = terms.width(of);
@@ -93,7 +93,7 @@ fn scaled_width(terms: &Terms, bound: u128, frac_bits: u32, of: TermId) -> u32
 /// 2 to the number of bits after the point.
 #[tactic(auto, using(dsv_word::proofs::Powers::power_small))]
 fn scale_of(frac_bits: u32) -> i64
-    requires { frac_bits ≤ 32 }
+    requires { frac_bits ≤ 48 }
     ensures { result ≡ pos (2 ^ frac_bits) }
 {
     1i64 << frac_bits
@@ -108,8 +108,8 @@ pub(crate) fn scaled_term(
 ) -> Result<TermId, NoMemory>
     requires sound { AreSound terms.old }
     requires value { IsValue terms.old of }
-    requires small { bound < 2 ^ 78 }
-    requires point { frac_bits ≤ 32 }
+    requires small { bound < 2 ^ 126 }
+    requires point { frac_bits ≤ 48 }
     ensures { IfOk result (λ made. built_of terms.new made
         ≡ scaled_term terms.old bound frac_bits of) }
 {
@@ -138,7 +138,7 @@ pub(crate) fn sum_term(
     requires sound { AreSound terms.old }
     requires left { IsValue terms.old left }
     requires right { IsValue terms.old right }
-    requires small { bound < 2 ^ 78 }
+    requires small { bound < 2 ^ 126 }
     ensures { IfOk result (λ made. built_of terms.new made
         ≡ sum_term terms.old bound left right) }
 {
@@ -158,7 +158,7 @@ pub(crate) fn difference_term(
     requires sound { AreSound terms.old }
     requires left { IsValue terms.old left }
     requires right { IsValue terms.old right }
-    requires small { bound < 2 ^ 78 }
+    requires small { bound < 2 ^ 126 }
     ensures { IfOk result (λ made. built_of terms.new made
         ≡ difference_term terms.old bound left right) }
 {
@@ -189,9 +189,9 @@ fn with_addend(terms: &mut Terms, bits: u32, addend: u128, id: TermId) -> Result
 /// The width of a term with an addend, where this is the bound of what is rounded.
 fn shift_width(terms: &Terms, bound: u128, addend: u128, frac_bits: u32, of: TermId) -> u32
     requires stands { of.0 < length terms.now.nodes }
-    requires small { bound < 2 ^ 78 }
+    requires small { bound < 2 ^ 126 }
     requires addend { addend ≤ 2 ^ frac_bits }
-    requires point { frac_bits ≤ 32 }
+    requires point { frac_bits ≤ 48 }
     ensures { result ≡ shift_width terms.now bound addend frac_bits of }
 {
     let bits = terms.width(of).max(frac_bits + 1);
@@ -211,9 +211,9 @@ fn shifted_term(
 ) -> Result<TermId, NoMemory>
     requires sound { AreSound terms.old }
     requires value { IsValue terms.old of }
-    requires small { bound < 2 ^ 78 }
+    requires small { bound < 2 ^ 126 }
     requires addend { addend ≤ 2 ^ frac_bits }
-    requires point { frac_bits ≤ 32 }
+    requires point { frac_bits ≤ 48 }
     ensures { IfOk result (λ made. built_of terms.new made
         ≡ shifted_term terms.old bound addend frac_bits of) }
 {
@@ -233,9 +233,9 @@ pub(crate) fn rounded_term(
 ) -> Result<TermId, NoMemory>
     requires sound { AreSound terms.old }
     requires value { IsValue terms.old of }
-    requires small { bound < 2 ^ 78 }
+    requires small { bound < 2 ^ 126 }
     requires addend { addend ≤ 2 ^ frac_bits }
-    requires point { frac_bits ≤ 32 }
+    requires point { frac_bits ≤ 48 }
     ensures { IfOk result (λ made. built_of terms.new made
         ≡ rounded_term terms.old bound addend frac_bits of) }
 {

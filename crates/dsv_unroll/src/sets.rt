@@ -29,7 +29,7 @@ use dsv_word::Format;
 fn entry_bound(format: &Format, coefficient: &i64) -> u128
     requires { is_small coefficient.now ≡ true }
     ensures value { result ≡ entry_bound (width format.now) coefficient.now }
-    ensures small { result ≤ 2 ^ 55 }
+    ensures small { result ≤ 2 ^ 71 }
 {
     u128::from(coefficient.unsigned_abs()) * 2u128.pow(format.width() - 1)
 }
@@ -53,7 +53,7 @@ fn with_entry(
     requires sum { IsValue terms.old sum.id }
     requires register { IsValue terms.old register }
     requires small { is_small coefficient.now ≡ true }
-    requires room { sum.bound ≤ 2 ^ 64 }
+    requires room { sum.bound ≤ 2 ^ 80 }
     ensures { IfOk result (λ made.
         sum_with terms.new made ≡ with_entry (width format.now) (sum_with terms.old sum)
         coefficient.now register) }

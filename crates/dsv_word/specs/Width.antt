@@ -3,7 +3,7 @@ use Rattle.std.specs.Prelude.{ℕ, ◌+◌, ◌≤◌}
 
 -- the most bits that a word has
 abbrev pub widest_word : ℕ
-widest_word = 32
+widest_word = 48
 
 -- A word has at least one bit before the point, its sign, and 2 to `widest_word` bits in all.
 abbrev pub IsLawful : ℕ → ℕ → Type 0

@@ -10,7 +10,7 @@ use dsv_names::{OverflowMode, Rounding};
 use thiserror::Error;
 
 /// The most bits that a word has.
-pub const WIDEST_WORD: u32 = 32;
+pub const WIDEST_WORD: u32 = 48;
 
 /// The widths aren't lawful.
 #[derive(Clone, Copy, Debug, PartialEq, Eq, Error)]

@@ -6,4 +6,4 @@ pub returns-clause-some : goal.returns-clause-some
 returns-clause-some c = subst (λ (k : ℕ). 2 ≤ k + 1) (sym c.bit_length.ensures.value) (bits_of-lawful c.args.shape.now c.requires).0
 
 pub returns-clause-few : goal.returns-clause-few
-returns-clause-few c = subst (λ (k : ℕ). k + 1 ≤ 32) (sym c.bit_length.ensures.value) (bits_of-lawful c.args.shape.now c.requires).1
+returns-clause-few c = subst (λ (k : ℕ). k + 1 ≤ 48) (sym c.bit_length.ensures.value) (bits_of-lawful c.args.shape.now c.requires).1

@@ -3,4 +3,4 @@ use Rattle.dsv_unroll.proofs.RuleTerms.{width_for-least}
 use Rattle.dsv_unroll.proofs.rules.scaled_term.Goals as goal
 
 pub widened_term-requires-clause-narrow : goal.widened_term-requires-clause-narrow
-widened_term-requires-clause-narrow c = omega (arith, c.requires.value.narrow, width_for-least c.args.bound 78 (omega arith) c.requires.small)
+widened_term-requires-clause-narrow c = omega (arith, c.requires.value.narrow, width_for-least c.args.bound 126 (omega arith) c.requires.small)

@@ -10,7 +10,7 @@ invariant-loop-k l = record {
   sound : AreSound l.terms;
   value : IsValue l.terms l.sum.id;
   registers : AreAllValues l.terms l.registers;
-  room : l.sum.bound ≤ 2 ^ 55 * l.k;
+  room : l.sum.bound ≤ 2 ^ 71 * l.k;
   same : combination_from (width l.format) (record { terms = l.terms; id = l.sum.id; bound = l.sum.bound }) (drop l.k l.coefficients) (drop l.k l.registers)
       ≡ combination_from (width l.format) (record { terms = l.fn.terms; id = l.fn.zero_bit; bound = 0 }) l.coefficients l.registers;
 }
