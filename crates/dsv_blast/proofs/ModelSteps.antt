@@ -22,11 +22,11 @@ number-step v ls n i d e h =
     let lt : k < length ls = omega arith in
     rw (a, b) (ap (λ ms. number_of (bits_value v ms)) (drop-cons ls k d lt))
 
-pub number-narrow : (v : ℕ → Bool) (ls : List Literal) (k : ℕ) → length ls ≤ 80 → number_of (bits_value v (drop k ls)) < 2 ^ 80
-number-narrow v ls k h =
+pub number-narrow : (v : ℕ → Bool) (ls : List Literal) (k : ℕ) → 1 ≤ k → length ls ≤ 128 → number_of (bits_value v (drop k ls)) < 2 ^ 127
+number-narrow v ls k some h =
     let s = bits-small v (drop k ls) in
-    let j : length (drop k ls) ≤ 80 = omega (arith, length-drop k ls) in
-    let p : 2 ^ length (drop k ls) ≤ 2 ^ 80 = pow-le-pow_right {n = 2} (omega arith) j in
+    let j : length (drop k ls) ≤ 127 = omega (arith, length-drop k ls) in
+    let p : 2 ^ length (drop k ls) ≤ 2 ^ 127 = pow-le-pow_right {n = 2} (omega arith) j in
     omega (arith, s, p)
 
 pub values-step : (v : ℕ → Bool) (places : List (List Literal)) (i : ℕ) → i < length places → input_values (drop i places) v ≡ number_of (bits_value v (bits_at places i)) ∷ input_values (drop (i + 1) places) v

@@ -3,6 +3,7 @@ use Rattle.std.proofs.Common.{◌≡◌, ◌∙◌, inl, inr, sym, ap, subst, re
 use Rattle.std.specs.Prelude.{Some, Result, Ok, Err}
 use Rattle.dsv_base.specs.Seen.{FilesSeen}
 use Rattle.dsv_reader.specs.Controllers.{ControllerView}
+use Rattle.dsv_reader.proofs.TextLaws.{one_design}
 use Rattle.dsv_quantiser.specs.QuantisedView.{QuantisedView}
 use Rattle.dsv_quantiser.specs.declared.refusal.QuantRefusal.{QuantRefusal}
 use Rattle.dsv_certfile.specs.Lawful.{certificate_alone}
@@ -13,7 +14,7 @@ use Rattle.dsv_certfile.specs.declared.fault.CertRefusal.{CertRefusal}
 use Rattle.dsv_certfile.specs.declared.fault.CheckFault.{CheckFault}
 use Rattle.dsv_certfile.specs.declared.job.CertifiedJob.{CertifiedJob}
 use Rattle.dsv_certfile.proofs.WrittenCertificates.{written_is_read}
-use Rattle.dsv_certcheck.specs.Checks.{Checked, words_check, BecomesFor, IsFoundOf, IsChecked}
+use Rattle.dsv_certcheck.specs.Checks.{Checked, format_check, words_check, BecomesFor, IsFoundOf, IsFoundFor, IsFoundAfter, IsChecked}
 use Rattle.dsv_certcheck.specs.declared.check_refusal.CheckRefusal.{CheckRefusal}
 use Rattle.dsv_certcheck.specs.declared.check_refusal.CheckRefusal.TheVariants as refusal
 use Rattle.dsv_report.specs.declared.answers.Answer.TheVariants as answer
@@ -44,6 +45,14 @@ comes_to_words : (bytes : List ℕ) (c : Certificate) (s : Stage) → Fits bytes
 comes_to_words bytes c s f h =
     subst IsInWords (one_stage (job_of c).design bytes (in_words f.accepted.controller f.quantised) s (f.accepted, refl) h) tt
 
+-- ---- the format of the words
+-- the certificate has the format of the controller's words, so that the check goes on
+after_format : (bytes : List ℕ) (c : Certificate) (controller : ControllerView) (found : Checked) → Fits bytes c → IsController bytes controller → IsChecked controller c found → IsFoundFor controller c found
+after_format bytes c controller found f a k =
+    let same : f.accepted.controller ≡ controller = one_design bytes f.accepted.controller controller f.accepted.text a.text in
+    let passes : format_check controller (job_of c).words ≡ Ok tt = subst (λ x. format_check x (job_of c).words ≡ Ok tt) same f.format in
+    subst (λ r. IsFoundAfter r controller c found) passes k
+
 -- ---- what the check finds
 finds_nothing : (bytes : List ℕ) (c : Certificate) (controller : ControllerView) (found : Checked) → Fits bytes c → IsController bytes controller → IsFoundOf controller c found → Ok tt ≡ found
 finds_nothing bytes c controller found f a k =
@@ -55,11 +64,11 @@ never_refused : (bytes : List ℕ) (c : Certificate) (controller : ControllerVie
 never_refused bytes c controller why f a k = let e : Ok tt ≡ Err why = finds_nothing bytes c controller (Err why) f a k in cc
 
 never_refused_at : (bytes : List ℕ) (c : Certificate) (controller : ControllerView) (line : ℕ) (why : CheckFault) → Fits bytes c → IsController bytes controller → IsRefusedAt line why controller c → ⊥
-never_refused_at bytes c controller line why f a (inl k) = never_refused bytes c controller (refusal.Line line why) f a k
+never_refused_at bytes c controller line why f a (inl k) = never_refused bytes c controller (refusal.Line line why) f a (after_format bytes c controller (Err (refusal.Line line why)) f a k)
 never_refused_at bytes c controller line why f a (inr k) =
     elim k.2 [
-      | inl w ↦ never_refused bytes c controller (refusal.Wide w.0) f a w.1
-      | inr n ↦ never_refused bytes c controller refusal.NoZeros f a n
+      | inl w ↦ never_refused bytes c controller (refusal.Wide w.0) f a (after_format bytes c controller (Err (refusal.Wide w.0)) f a w.1)
+      | inr n ↦ never_refused bytes c controller refusal.NoZeros f a (after_format bytes c controller (Err refusal.NoZeros) f a n)
     ]
 
 -- ---- the certificate that is checked
@@ -100,19 +109,20 @@ check_accepts bytes written c f s old new controller name (Err (stop.Certificate
 check_accepts bytes written c f s old new controller name (Err (stop.QuantRefused why)) r row =
     let k = of_told _ bytes row.comes_from in
     absurd (comes_to_words bytes c (refused why) f
-    (accepted_of bytes k.controller (job_of c) (Err why) k.accepted (of_certificate (λ controller x. IsChecked controller x (Err (refusal.Quant why))) old name bytes written c r s k)))
+    (accepted_of bytes k.controller (job_of c) (Err why) k.accepted
+    (after_format bytes c k.controller (Err (refusal.Quant why)) f k.accepted (of_certificate (λ controller x. IsChecked controller x (Err (refusal.Quant why))) old name bytes written c r s k))))
 check_accepts bytes written c f s old new controller name (Err (stop.JobSize size)) r row =
     let k = of_told _ bytes row.comes_from in
     absurd (never_refused bytes c k.controller (refusal.JobSize size) f k.accepted
-    (of_certificate (λ controller x. IsChecked controller x (Err (refusal.JobSize size))) old name bytes written c r s k))
+    (after_format bytes c k.controller (Err (refusal.JobSize size)) f k.accepted (of_certificate (λ controller x. IsChecked controller x (Err (refusal.JobSize size))) old name bytes written c r s k)))
 check_accepts bytes written c f s old new controller name (Err (stop.FileRefused text.NoMemory)) r row = absurd row
 check_accepts bytes written c f s old new controller name (Err (stop.FileRefused why)) r row = absurd (comes_to_words bytes c (faulty why) f (of_told _ bytes row.comes_from))
 check_accepts bytes written c f s old new controller name (Err stop.FileTooLong) r row = absurd (comes_to_words bytes c long f (of_told _ bytes row.comes_from))
 check_accepts bytes written c f s old new controller name answered r row = absurd row
 
 pub written_are_accepted : WrittenAreAccepted
-written_are_accepted bytes old new job found c row e known short then_old then_new controller name answered held then_row =
-    let a = certificate_fits bytes old new job found c row e known in
+written_are_accepted bytes old new job words found c row said e known short then_old then_new controller name answered held then_row =
+    let a = certificate_fits bytes old new job words found c row said e known in
     let alone = certificate_alone c in
     let spelled : certificate_in (certificate_text c) ≡ Ok alone = ap certificate_in (sym a.text) ∙ written_is_read alone a.lawful in
     subst (λ certified. IsAcceptance certified answered) a.job

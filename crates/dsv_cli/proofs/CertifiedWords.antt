@@ -1,13 +1,15 @@
 -- The certificate of an answer passes its check for the words that the job's controller becomes.
 use Rattle.std.proofs.Common.{◌≡◌, ◌∙◌, sym, ap, subst, refl, ℕ, ◌≤◌, Bool, true, false, List, if◌then◌else◌, arith}
-use Rattle.std.specs.Prelude.{Option, Some, None, Ok}
+use Rattle.std.specs.Prelude.{Option, Some, None, Result, Ok}
 use Rattle.std.proofs.Math.IntN.{ℤ}
 use Rattle.dsv_base.specs.Seen.{FilesSeen}
 use Rattle.dsv_names.specs.declared.property.Property.TheVariants.{OfRuns, OfRoots}
 use Rattle.dsv_names.specs.declared.property.RunProperty.{RunProperty}
 use Rattle.dsv_names.specs.declared.property.RunProperty.TheVariants.{Overflow}
 use Rattle.dsv_names.specs.declared.property.RootProperty.{RootProperty}
+use Rattle.dsv_reader.proofs.TextLaws.{one_design}
 use Rattle.dsv_quantiser.specs.QuantisedView.{QuantisedView}
+use Rattle.dsv_quantiser.specs.declared.refusal.QuantRefusal.{QuantRefusal}
 use Rattle.dsv_forms.specs.declared.offers.Form.{Form}
 use Rattle.dsv_forms.specs.declared.offers.Falls.{Falls}
 use Rattle.dsv_hints.specs.declared.step.Step.{Step}
@@ -25,11 +27,12 @@ use Rattle.dsv_certfile.specs.Texts.{job_of, certificate_text}
 use Rattle.dsv_certfile.specs.Typed.{IsTyped}
 use Rattle.dsv_certfile.specs.declared.certificate.Certificate.{Certificate}
 use Rattle.dsv_certfile.specs.declared.certificate.Certificate.TheVariants as certificate
+use Rattle.dsv_certfile.specs.declared.job.CertWords.{CertWords}
 use Rattle.dsv_certfile.specs.declared.job.Size.TheVariants as size
 use Rattle.dsv_certfile.proofs.LawfulWritten.{hints_are_lawful, invariant_is_lawful, gain_is_lawful, falls_are_lawful, falls_text}
 use Rattle.dsv_certfile.specs.Limits.{most_gain_depth}
-use Rattle.dsv_certcheck.specs.Checks.{words_check}
-use Rattle.dsv_certcheck.proofs.Passing.{hints_pass, invariant_passes, gain_passes, falls_pass}
+use Rattle.dsv_certcheck.specs.Checks.{format_check, words_check}
+use Rattle.dsv_certcheck.proofs.Passing.{format_passes, hints_pass, invariant_passes, gain_passes, falls_pass}
 use Rattle.dsv_command.specs.Jobs.{Task, decides, searches, seeks_set, measures_gain, Asked}
 use Rattle.dsv_names.specs.declared.design.Design.{Design}
 use Rattle.dsv_report.specs.Output.{job_with, certificate_for, certificate_of}
@@ -38,7 +41,7 @@ use Rattle.dsv_report.specs.declared.answers.Answer.TheVariants as answer
 use Rattle.dsv_gain.specs.declared.outlook.Gain.{Gain}
 use Rattle.dsv_gain.proofs.Depths.{gains_again, gain_below}
 use Rattle.dsv_realise.specs.Netlists.{net_of}
-use Rattle.dsv_cli.specs.Headline.{IsAccepted, IsTested, IsSearch, IsSeeking, IsMeasuring, ShowsFall, IsRow}
+use Rattle.dsv_cli.specs.Headline.{HasWords, IsAccepted, IsTested, IsSearch, IsSeeking, IsMeasuring, ShowsFall, IsRow}
 use Rattle.dsv_cli.specs.Gain.{most_gain_samples, IsGainOf}
 use Rattle.dsv_bounded.specs.RunAnswers.{NeverHappens}
 use Rattle.dsv_cli.specs.Sets.{KeepsTo}
@@ -48,6 +51,7 @@ use Rattle.dsv_cli.proofs.Told.{of_told}
 pub record Fits (bytes : List ℕ) (c : Certificate) : Type 0 where
   pub quantised : QuantisedView
   pub accepted : IsAccepted (job_of c).design bytes (Ok quantised)
+  pub format : format_check accepted.controller (job_of c).words ≡ Ok tt
   pub passes : words_check quantised c ≡ Ok tt
 
 -- With its places alone the certificate passes its check and is read back from its text.
@@ -57,60 +61,67 @@ pub record IsAcceptable (bytes : List ℕ) (c : Certificate) : Type 0 where
   pub text : certificate_text (certificate_alone c) ≡ certificate_text c
   pub job : job_of (certificate_alone c) ≡ job_of c
 
+-- what is said of the words of the file's controller is what its certificates have to say
+format_fits : (bytes : List ℕ) (words : CertWords) (design : Design) (o : Result QuantisedView QuantRefusal) → HasWords bytes words → (a : IsAccepted design bytes o) → format_check a.controller words ≡ Ok tt
+format_fits bytes words design o h a =
+    let same : h.controller ≡ a.controller = one_design bytes h.controller a.controller h.accepted.text a.text in
+    subst (λ c. format_check c words ≡ Ok tt) same (subst (λ w. format_check h.controller w ≡ Ok tt) (sym h.words) (format_passes h.controller))
+
 -- ---- each kind
-abbrev hints_for : Design → RunProperty → ℕ → List Step → Certificate
-hints_for design p samples log = certificate.Hints (job_with design (OfRuns p) (size.Samples samples)) log
+abbrev hints_for : Design → CertWords → RunProperty → ℕ → List Step → Certificate
+hints_for design words p samples log = certificate.Hints (job_with design words (OfRuns p) (size.Samples samples)) log
 
-hints_fit : (bytes : List ℕ) (job : Asked) (p : RunProperty) (samples conflicts : ℕ) (quantised : QuantisedView) (log : List Step) → IsSearch job bytes p samples conflicts quantised
-    → NeverHappens p samples conflicts quantised log → IsTyped (hints_for job.design p samples log) → IsAcceptable bytes (hints_for job.design p samples log)
-hints_fit bytes job p samples conflicts quantised log s n t = record {
-  fits = record { quantised = quantised; accepted = s.accepted; passes = hints_pass quantised p samples log t.size n.within n.refuted.accepted };
-  lawful = hints_are_lawful (question_formula p quantised samples) conflicts (job_with job.design (OfRuns p) (size.Samples samples)) log refl t n.refuted;
+hints_fit : (bytes : List ℕ) (job : Asked) (words : CertWords) (p : RunProperty) (samples conflicts : ℕ) (quantised : QuantisedView) (log : List Step) → IsSearch job bytes p samples conflicts quantised
+    → NeverHappens p samples conflicts quantised log → HasWords bytes words → IsTyped (hints_for job.design words p samples log) → IsAcceptable bytes (hints_for job.design words p samples log)
+hints_fit bytes job words p samples conflicts quantised log s n h t = record {
+  fits = record { quantised = quantised; accepted = s.accepted; format = format_fits bytes words job.design (Ok quantised) h s.accepted; passes = hints_pass words quantised p samples log t.size n.within n.refuted.accepted };
+  lawful = hints_are_lawful (question_formula p quantised samples) conflicts (job_with job.design words (OfRuns p) (size.Samples samples)) log refl t n.refuted;
   text = refl;
   job = refl;
 }
 
-abbrev invariant_for : Design → Candidate → ThreeLogs → Certificate
-invariant_for design candidate logs = certificate.Invariant (job_with design (OfRuns Overflow) size.Unbounded) candidate logs
+abbrev invariant_for : Design → CertWords → Candidate → ThreeLogs → Certificate
+invariant_for design words candidate logs = certificate.Invariant (job_with design words (OfRuns Overflow) size.Unbounded) candidate logs
 
-invariant_fits : (bytes : List ℕ) (job : Asked) (conflicts : ℕ) (quantised : QuantisedView) (candidate : Candidate) (logs : ThreeLogs) → IsSeeking job bytes conflicts quantised
-    → KeepsTo quantised conflicts candidate logs → IsTyped (invariant_for job.design candidate logs) → IsAcceptable bytes (invariant_for job.design candidate logs)
-invariant_fits bytes job conflicts quantised candidate logs s k t = record {
-  fits = record { quantised = quantised; accepted = s.accepted; passes = invariant_passes quantised conflicts candidate logs k.within k.good.0 k.good.1 };
+invariant_fits : (bytes : List ℕ) (job : Asked) (words : CertWords) (conflicts : ℕ) (quantised : QuantisedView) (candidate : Candidate) (logs : ThreeLogs) → IsSeeking job bytes conflicts quantised
+    → KeepsTo quantised conflicts candidate logs → HasWords bytes words → IsTyped (invariant_for job.design words candidate logs) → IsAcceptable bytes (invariant_for job.design words candidate logs)
+invariant_fits bytes job words conflicts quantised candidate logs s k h t = record {
+  fits = record { quantised = quantised; accepted = s.accepted; format = format_fits bytes words job.design (Ok quantised) h s.accepted; passes = invariant_passes words quantised conflicts candidate logs k.within k.good.0 k.good.1 };
   lawful = invariant_is_lawful (registers_of quantised.realisation (order quantised)) conflicts (set_formula_of quantised candidate part.Base) (set_formula_of quantised candidate part.Step) (set_formula_of quantised candidate part.Safe)
-      (job_with job.design (OfRuns Overflow) size.Unbounded) candidate logs refl t k.good.0 (record { of_base = k.good.1.base; of_step = k.good.1.step; of_safe = k.good.1.safe });
+      (job_with job.design words (OfRuns Overflow) size.Unbounded) candidate logs refl t k.good.0 (record { of_base = k.good.1.base; of_step = k.good.1.step; of_safe = k.good.1.safe });
   text = refl;
   job = refl;
 }
 
-abbrev gain_for : Design → ℕ → Certificate
-gain_for design depth = certificate.Gain (job_with design (OfRuns Overflow) size.Unbounded) depth
+abbrev gain_for : Design → CertWords → ℕ → Certificate
+gain_for design words depth = certificate.Gain (job_with design words (OfRuns Overflow) size.Unbounded) depth
 
-gain_fits : (bytes : List ℕ) (job : Asked) (quantised : QuantisedView) (gain : Gain) → IsMeasuring job bytes quantised → IsGainOf quantised gain
-    → IsTyped (gain_for job.design gain.depth) → IsAcceptable bytes (gain_for job.design gain.depth)
-gain_fits bytes job quantised gain s k t =
+gain_fits : (bytes : List ℕ) (job : Asked) (words : CertWords) (quantised : QuantisedView) (gain : Gain) → IsMeasuring job bytes quantised → IsGainOf quantised gain
+    → HasWords bytes words → IsTyped (gain_for job.design words gain.depth) → IsAcceptable bytes (gain_for job.design words gain.depth)
+gain_fits bytes job words quantised gain s k h t =
     let below = gain_below (net_of quantised) quantised.xlo quantised.xhi most_gain_samples gain k.found in
     let again = gains_again (net_of quantised) quantised.xlo quantised.xhi most_gain_samples gain k.found in
     let deep : gain.depth ≤ most_gain_depth = omega (arith, below) in
     record {
-      fits = record { quantised = quantised; accepted = s.accepted; passes = gain_passes quantised gain.depth again.0 deep again.1 };
-      lawful = gain_is_lawful (job_with job.design (OfRuns Overflow) size.Unbounded) gain.depth refl t deep;
+      fits = record { quantised = quantised; accepted = s.accepted; format = format_fits bytes words job.design (Ok quantised) h s.accepted; passes = gain_passes words quantised gain.depth again.0 deep again.1 };
+      lawful = gain_is_lawful (job_with job.design words (OfRuns Overflow) size.Unbounded) gain.depth refl t deep;
       text = refl;
       job = refl;
     }
 
-abbrev falls_for : Design → RootProperty → Falls → Certificate
-falls_for design p offer = certificate.Falls (job_with design (OfRoots p) size.NoSize) offer
+abbrev falls_for : Design → CertWords → RootProperty → Falls → Certificate
+falls_for design words p offer = certificate.Falls (job_with design words (OfRoots p) size.NoSize) offer
 
-falls_fit : (bytes : List ℕ) (job : Asked) (poly : List ℤ) (offer : Falls) (fall : Form) (t : IsTested job bytes (Ok (tested.Poly poly))) → ShowsFall poly offer fall
-    → IsTyped (falls_for job.design t.property offer) → IsAcceptable bytes (falls_for job.design t.property offer)
-falls_fit bytes job poly offer fall t s known =
-    let certified = job_with job.design (OfRoots t.property) size.NoSize in
+falls_fit : (bytes : List ℕ) (job : Asked) (words : CertWords) (poly : List ℤ) (offer : Falls) (fall : Form) (t : IsTested job bytes (Ok (tested.Poly poly))) → ShowsFall poly offer fall
+    → HasWords bytes words → IsTyped (falls_for job.design words t.property offer) → IsAcceptable bytes (falls_for job.design words t.property offer)
+falls_fit bytes job words poly offer fall t s h known =
+    let certified = job_with job.design words (OfRoots t.property) size.NoSize in
     record {
       fits = record {
         quantised = t.quantised;
         accepted = t.accepted;
-        passes = falls_pass t.quantised t.property poly (offer_alone offer) t.tested (accepted_alone poly offer known.places s.accepted);
+        format = format_fits bytes words job.design (Ok t.quantised) h t.accepted;
+        passes = falls_pass words t.quantised t.property poly (offer_alone offer) t.tested (accepted_alone poly offer known.places s.accepted);
       };
       lawful = falls_are_lawful poly certified offer refl known s.accepted;
       text = falls_text poly certified offer known s.accepted;
@@ -123,16 +134,16 @@ some_if_wanted : (b : Bool) (o : Option Certificate) (c : Certificate) → (if b
 some_if_wanted true o c e = e
 some_if_wanted false o c e = cc
 
-certificate_of_task : (job : Asked) (found : Answer) (c : Certificate) → certificate_of job found ≡ Some c → certificate_for job.design job.task found ≡ Some c
-certificate_of_task job found c e = some_if_wanted job.certified (certificate_for job.design job.task found) c e
+certificate_of_task : (job : Asked) (words : CertWords) (found : Answer) (c : Certificate) → certificate_of job words found ≡ Some c → certificate_for job.design words job.task found ≡ Some c
+certificate_of_task job words found c e = some_if_wanted job.certified (certificate_for job.design words job.task found) c e
 
 one_certificate : (o : Option Certificate) (c d : Certificate) → o ≡ Some c → o ≡ Some d → d ≡ c
 one_certificate o c d h k = cc
 
 -- the certificate is the one of the answer to this task
-of_task : (job : Asked) (task : Task) (found : Answer) (c d : Certificate) → job.task ≡ task → certificate_for job.design task found ≡ Some d → certificate_of job found ≡ Some c → d ≡ c
-of_task job task found c d t k e =
-    one_certificate (certificate_for job.design job.task found) c d (certificate_of_task job found c e) (ap (λ x. certificate_for job.design x found) t ∙ k)
+of_task : (job : Asked) (words : CertWords) (task : Task) (found : Answer) (c d : Certificate) → job.task ≡ task → certificate_for job.design words task found ≡ Some d → certificate_of job words found ≡ Some c → d ≡ c
+of_task job words task found c d t k e =
+    one_certificate (certificate_for job.design words job.task found) c d (certificate_of_task job words found c e) (ap (λ x. certificate_for job.design words x found) t ∙ k)
 
 -- the answers that may have a certificate
 abbrev HasCertificate : Answer → Type 0
@@ -145,37 +156,37 @@ HasCertificate other = ⊥
 no_certificate : (c : Certificate) → None ≡ Some c → ⊥
 no_certificate c e = cc
 
-has_certificate : (design : Design) (task : Task) (found : Answer) (c : Certificate) → certificate_for design task found ≡ Some c → HasCertificate found
-has_certificate design task (answer.Never log) c e = tt
-has_certificate design task (answer.Always candidate logs) c e = tt
-has_certificate design task (answer.InRanges gain) c e = tt
-has_certificate design task (answer.Falls poly offer fall) c e = tt
-has_certificate design (searches p samples conflicts) found c e = no_certificate c e
-has_certificate design (seeks_set conflicts) found c e = no_certificate c e
-has_certificate design measures_gain found c e = no_certificate c e
-has_certificate design (decides p sc) found c e = no_certificate c e
-has_certificate design task found c e = no_certificate c e
+has_certificate : (design : Design) (words : CertWords) (task : Task) (found : Answer) (c : Certificate) → certificate_for design words task found ≡ Some c → HasCertificate found
+has_certificate design words task (answer.Never log) c e = tt
+has_certificate design words task (answer.Always candidate logs) c e = tt
+has_certificate design words task (answer.InRanges gain) c e = tt
+has_certificate design words task (answer.Falls poly offer fall) c e = tt
+has_certificate design words (searches p samples conflicts) found c e = no_certificate c e
+has_certificate design words (seeks_set conflicts) found c e = no_certificate c e
+has_certificate design words measures_gain found c e = no_certificate c e
+has_certificate design words (decides p sc) found c e = no_certificate c e
+has_certificate design words task found c e = no_certificate c e
 
-pub certificate_fits : (bytes : List ℕ) (old new : FilesSeen) (job : Asked) (found : Answer) (c : Certificate) → IsRow (Some bytes) old new job (Ok found) → certificate_of job found ≡ Some c → IsTyped c
+pub certificate_fits : (bytes : List ℕ) (old new : FilesSeen) (job : Asked) (words : CertWords) (found : Answer) (c : Certificate) → IsRow (Some bytes) old new job (Ok found) → HasWords bytes words → certificate_of job words found ≡ Some c → IsTyped c
     → IsAcceptable bytes c
-certificate_fits bytes old new job (answer.Never log) c row e known =
+certificate_fits bytes old new job words (answer.Never log) c row said e known =
     let t = of_told _ bytes row.comes_from in
-    let d = hints_for job.design t.0 t.1 log in
-    let is : d ≡ c = of_task job (searches t.0 t.1 t.2) (answer.Never log) c d t.4.task refl e in
-    subst (IsAcceptable bytes) is (hints_fit bytes job t.0 t.1 t.2 t.3 log t.4 t.5 (subst IsTyped (sym is) known))
-certificate_fits bytes old new job (answer.Always candidate logs) c row e known =
+    let d = hints_for job.design words t.0 t.1 log in
+    let is : d ≡ c = of_task job words (searches t.0 t.1 t.2) (answer.Never log) c d t.4.task refl e in
+    subst (IsAcceptable bytes) is (hints_fit bytes job words t.0 t.1 t.2 t.3 log t.4 t.5 said (subst IsTyped (sym is) known))
+certificate_fits bytes old new job words (answer.Always candidate logs) c row said e known =
     let t = of_told _ bytes row.comes_from in
-    let d = invariant_for job.design candidate logs in
-    let is : d ≡ c = of_task job (seeks_set t.0) (answer.Always candidate logs) c d t.2.task refl e in
-    subst (IsAcceptable bytes) is (invariant_fits bytes job t.0 t.1 candidate logs t.2 t.3 (subst IsTyped (sym is) known))
-certificate_fits bytes old new job (answer.InRanges gain) c row e known =
+    let d = invariant_for job.design words candidate logs in
+    let is : d ≡ c = of_task job words (seeks_set t.0) (answer.Always candidate logs) c d t.2.task refl e in
+    subst (IsAcceptable bytes) is (invariant_fits bytes job words t.0 t.1 candidate logs t.2 t.3 said (subst IsTyped (sym is) known))
+certificate_fits bytes old new job words (answer.InRanges gain) c row said e known =
     let t = of_told _ bytes row.comes_from in
-    let d = gain_for job.design gain.depth in
-    let is : d ≡ c = of_task job measures_gain (answer.InRanges gain) c d t.1.task refl e in
-    subst (IsAcceptable bytes) is (gain_fits bytes job t.0 gain t.1 t.2 (subst IsTyped (sym is) known))
-certificate_fits bytes old new job (answer.Falls poly offer fall) c row e known =
+    let d = gain_for job.design words gain.depth in
+    let is : d ≡ c = of_task job words measures_gain (answer.InRanges gain) c d t.1.task refl e in
+    subst (IsAcceptable bytes) is (gain_fits bytes job words t.0 gain t.1 t.2 said (subst IsTyped (sym is) known))
+certificate_fits bytes old new job words (answer.Falls poly offer fall) c row said e known =
     let t = of_told _ bytes row.comes_from in
-    let d = falls_for job.design t.property offer in
-    let is : d ≡ c = of_task job (decides t.property t.schur_cohn) (answer.Falls poly offer fall) c d t.task refl e in
-    subst (IsAcceptable bytes) is (falls_fit bytes job poly offer fall t row.shows (subst IsTyped (sym is) known))
-certificate_fits bytes old new job found c row e known = absurd (has_certificate job.design job.task found c (certificate_of_task job found c e))
+    let d = falls_for job.design words t.property offer in
+    let is : d ≡ c = of_task job words (decides t.property t.schur_cohn) (answer.Falls poly offer fall) c d t.task refl e in
+    subst (IsAcceptable bytes) is (falls_fit bytes job words poly offer fall t row.shows said (subst IsTyped (sym is) known))
+certificate_fits bytes old new job words found c row said e known = absurd (has_certificate job.design words job.task found c (certificate_of_task job words found c e))

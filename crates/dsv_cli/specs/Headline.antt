@@ -60,12 +60,15 @@ use Rattle.dsv_report.specs.declared.stop.WhichFile.TheVariants as file
 use Rattle.dsv_report.specs.Stops.{Outcome}
 use Rattle.dsv_certfile.specs.Reading.{certificate_in}
 use Rattle.dsv_certfile.specs.Texts.{job_of}
+use Rattle.dsv_certfile.specs.Words.{words_for}
 use Rattle.dsv_certfile.specs.declared.certificate.Certificate.{Certificate}
 use Rattle.dsv_certfile.specs.declared.fault.CertRefusal.TheVariants as unread
 use Rattle.dsv_certfile.specs.declared.fault.CheckFault.{CheckFault}
 use Rattle.dsv_certfile.specs.declared.fault.CheckFault.TheVariants as claim
 use Rattle.dsv_certfile.specs.declared.fault.TextFault.{TextFault}
 use Rattle.dsv_certfile.specs.declared.job.CertifiedJob.{CertifiedJob}
+use Rattle.dsv_certfile.specs.declared.job.CertWords.{CertWords}
+use Rattle.dsv_certfile.specs.declared.job.CertWords.TheVariants as words
 use Rattle.dsv_certcheck.specs.Checks.{IsChecked}
 use Rattle.dsv_certcheck.specs.Shown.{IsShownOf}
 use Rattle.dsv_certcheck.specs.LineNumbers.{job_line_number}
@@ -444,6 +447,27 @@ abbrev pub FileBecomes : FilesSeen → Option Asked → QuantisedView → Type 0
 FileBecomes old None q = ⊥
 FileBecomes old (Some job) q =
     CameOf (old.held job.file) (λ bytes. IsAccepted job.design bytes (Ok q))
+
+-- ---- what a certificate says of the words
+-- The bytes are the text of a controller, of whose words certificates say this: its numbers of bits
+-- before the point and after it, where these are over 32 together.
+pub record HasWords (bytes : List ℕ) (said : CertWords) : Type 0 where
+  pub controller : ControllerView
+  pub accepted : IsController bytes controller
+  pub words : said ≡ words_for controller.int_bits controller.frac_bits
+
+-- what keeps the file of this name from being a controller's was found
+abbrev pub FoundUnread : FilesSeen → FilesSeen → List ℕ → Outcome → Type 0
+FoundUnread old new name (Ok found) = ⊥
+FoundUnread old new name (Err why) = IsUnread (old.held name) old new name why
+
+-- What a certificate says of the words, where a job on a file comes to this: what the file's
+-- controller has. Nothing is said where the file is no controller's, or no job is asked for.
+abbrev pub SaysWords : FilesSeen → FilesSeen → Option Asked → Outcome → CertWords → Type 0
+SaysWords old new None found said = said ≡ words.Unsaid
+SaysWords old new (Some job) found said =
+    CameOf (old.held job.file) (λ bytes. HasWords bytes said)
+    ⊎ ((said ≡ words.Unsaid) × FoundUnread old new job.file found)
 
 -- ---- what stays, and what is written
 -- What the files hold is as before, and the count of faults didn't fall.

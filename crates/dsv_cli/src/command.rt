@@ -1,20 +1,23 @@
 // The command.
 ghost use Rattle.std.specs.Prelude.{◌≡◌, false, Some, None, IfOk, IfSome, map, string_bytes};
+ghost use Rattle.dsv_certfile.specs.Lawful.{IsWords};
 ghost use Rattle.dsv_certfile.specs.Typed.{IsTyped};
+ghost use Rattle.dsv_certfile.specs.declared.job.CertWords.TheVariants as words_said;
 ghost use Rattle.dsv_command.specs.Requests.{request_of, job_of};
 ghost use Rattle.dsv_report.specs.Printing.{HasPlaces, asked_in};
 ghost use Rattle.dsv_report.specs.Output.{output_of, certificate_written};
 ghost use Rattle.dsv_report.specs.Report.{status_of};
-ghost use Rattle.dsv_cli.specs.Headline.{IsExplained, IsOfGeneration, FileBecomes};
+ghost use Rattle.dsv_cli.specs.Headline.{IsExplained, IsOfGeneration, FileBecomes, SaysWords};
 ghost use Rattle.dsv_cli.specs.Headline.{AreKept, IsWritten, IfWhole};
 ghost use Rattle.dsv_cli.specs.Causes.{IsPlain};
 ghost use Rattle.dsv_cli.specs.Proposers.{IsAsked, AreSetsAsked, IfNoForm, is_low};
 ghost use Rattle.dsv_cli.specs.Proposers.{WantsForm, WantsSet, WantsSchurCohn, IsBeyond};
 
 use crate::check::check_answer;
-use crate::job::job_answer;
+use crate::job::{JobOutcome, job_outcome};
 use crate::proposers::Proposers;
 use dsv_base::{Files, Sink};
+use dsv_certfile::CertWords;
 use dsv_command::{Generation, Job, Request, read_request};
 use dsv_generator::generate;
 use dsv_lyapunov::FormProposer;
@@ -31,6 +34,8 @@ const WRITE_FAULT: u8 = 4;
 pub struct Done {
     pub status: u8,
     pub outcome: Result<Answer, Stop>,
+    /// What a certificate of it says of the format of the controller's words.
+    pub words: CertWords,
 }
 
 /// What is found of so many controllers of a seed.
@@ -45,15 +50,17 @@ fn generation_answer(alloc: Global, asked: Generation) -> Result<Answer, Stop>
 pub(crate) fn written_status<K: Sink>(
     sink: &mut K,
     job: Option<&Job>,
+    words: CertWords,
     outcome: &Result<Answer, Stop>,
 ) -> u8
-    requires { IfOk outcome.now HasPlaces }
+    requires places { IfOk outcome.now HasPlaces }
+    requires words { IsWords words }
     ensures written { IsWritten (K.seen sink.old) (K.seen sink.new) result (status_of outcome.now)
-        (output_of (asked_in job.entry) outcome.now) }
+        (output_of (asked_in job.entry) words outcome.now) }
     ensures typed { IfWhole result
-        (IfSome (certificate_written (asked_in job.entry) outcome.now) IsTyped) }
+        (IfSome (certificate_written (asked_in job.entry) words outcome.now) IsTyped) }
 {
-    match put_output(sink, job, outcome) {
+    match put_output(sink, job, words, outcome) {
         Ok(()) => status_of(outcome),
         Err(_) => WRITE_FAULT,
     }
@@ -63,12 +70,19 @@ pub(crate) fn written_status<K: Sink>(
 pub(crate) fn put_outcome<K: Sink>(sink: &mut K, outcome: Result<Answer, Stop>) -> Done
     requires { IfOk outcome HasPlaces }
     ensures outcome { result.outcome ≡ outcome }
+    ensures words { result.words ≡ words_said.Unsaid }
     ensures written { IsWritten (K.seen sink.old) (K.seen sink.new) result.status
-        (status_of outcome) (output_of None outcome) }
-    ensures typed { IfWhole result.status (IfSome (certificate_written None outcome) IsTyped) }
+        (status_of outcome) (output_of None result.words outcome) }
+    ensures typed { IfWhole result.status
+        (IfSome (certificate_written None result.words outcome) IsTyped) }
 {
-    let status = written_status(sink, None, &outcome);
-    Done { status, outcome }
+    let words = CertWords::Unsaid;
+    let status = written_status(sink, None, words, &outcome);
+    Done {
+        status,
+        outcome,
+        words,
+    }
 }
 
 /// Runs the command: finds the answer for the arguments after the program's name, and writes its
@@ -108,22 +122,30 @@ pub fn run<F: Files, K: Sink>(
     // Where the Schur-Cohn form is asked for, so is one for which it is known to be accepted.
     ensures schur_cohn { WantsSchurCohn (job_of (map string_bytes arguments.now))
         → IfNoForm result.outcome (λ poly kept. IsBeyond poly) }
+    // What a certificate says of the words is what the file's controller has.
+    ensures words { SaysWords (F.seen files.old) (F.seen files.new)
+        (job_of (map string_bytes arguments.now)) result.outcome result.words }
     // What the files hold is as before.
     ensures kept { AreKept (F.seen files.old) (F.seen files.new) }
     // The certificate that the job wants, or else the outcome's text, was written and the status is
     // the outcome's, or the status is 4 and the sink failed.
     ensures written { IsWritten (K.seen sink.old) (K.seen sink.new) result.status
         (status_of result.outcome)
-        (output_of (job_of (map string_bytes arguments.now)) result.outcome) }
+        (output_of (job_of (map string_bytes arguments.now)) result.words result.outcome) }
     // Of a certificate that was written whole its types are known.
     ensures typed { IfWhole result.status (IfSome
-        (certificate_written (job_of (map string_bytes arguments.now)) result.outcome) IsTyped) }
+        (certificate_written (job_of (map string_bytes arguments.now)) result.words result.outcome)
+        IsTyped) }
 {
     match read_request(alloc, arguments) {
         Ok(Some(Request::OnFile(job))) => {
-            let outcome = job_answer(alloc, &job, files, proposers);
-            let status = written_status(sink, Some(&job), &outcome);
-            Done { status, outcome }
+            let JobOutcome { outcome, words } = job_outcome(alloc, &job, files, proposers);
+            let status = written_status(sink, Some(&job), words, &outcome);
+            Done {
+                status,
+                outcome,
+                words,
+            }
         }
         Ok(Some(Request::Check(asked))) => put_outcome(sink, check_answer(alloc, &asked, files)),
         Ok(Some(Request::Generate(asked))) => put_outcome(sink, generation_answer(alloc, asked)),

@@ -1,9 +1,14 @@
 // The answer to a job on a file: its controller, the controller's words, and then the task.
-ghost use Rattle.std.specs.Prelude.{◌≡◌, Some, IfOk};
+ghost use Rattle.std.specs.Prelude.{◌≡◌, List, ℕ, Option, Some, Ok, IfOk};
 ghost use Rattle.dsv_command.specs.Asking.{asked_task, asked_of};
 ghost use Rattle.dsv_report.specs.Printing.{HasPlaces};
 ghost use Rattle.dsv_cli.specs.Causes.{IsOfTask};
-ghost use Rattle.dsv_cli.specs.Headline.{AreKept, Decides, Seeks, FileBecomes, IsRow};
+ghost use Rattle.dsv_base.specs.Seen.{FilesSeen};
+ghost use Rattle.dsv_certfile.specs.Lawful.{IsWords};
+ghost use Rattle.dsv_certfile.specs.Words.{words_for};
+ghost use Rattle.dsv_quantiser.specs.Modes.{BecomesWords};
+ghost use Rattle.dsv_cli.specs.Headline.{AreKept, CameOf, IsController, Decides, Seeks};
+ghost use Rattle.dsv_cli.specs.Headline.{FileBecomes, IsRow, SaysWords};
 ghost use Rattle.dsv_cli.specs.Proposers.{IsAsked, AreSetsAsked, IfNoForm};
 ghost use Rattle.dsv_cli.specs.Proposers.{AsksSchurCohn, IsBeyond};
 
@@ -16,6 +21,7 @@ use crate::sets::sets_answer;
 use crate::simulation::simulation_answer;
 use crate::timing::timing_answer;
 use dsv_base::Files;
+use dsv_certfile::CertWords;
 use dsv_command::{Job, Task};
 use dsv_lyapunov::FormProposer;
 use dsv_quantiser::{Quantised, quantise_in};
@@ -62,21 +68,38 @@ fn task_answer(
     }
 }
 
-/// The answer to a job on a file.
-pub(crate) fn job_answer<F: Files>(
+/// What a job on a file comes to.
+#[derive(Drop)]
+pub(crate) struct JobOutcome {
+    pub outcome: Result<Answer, Stop>,
+    /// What a certificate of it says of the format of the controller's words.
+    pub words: CertWords,
+}
+
+/// What certificates of a controller say of the format of its words.
+fn words_of(controller: &Controller) -> CertWords
+    ensures words { result ≡ words_for controller.now.int_bits controller.now.frac_bits }
+    ensures lawful { IsWords result }
+{
+    CertWords::of_format(controller.int_bits(), controller.frac_bits())
+}
+
+/// The answer to a job for its controller.
+fn controller_answer(
     alloc: Global,
+    controller: &Controller,
     job: &Job,
-    files: &mut F,
     proposers: &mut Proposers,
 ) -> Result<Answer, Stop>
-    ensures row { IsRow ((F.seen files.old).held (asked_of job.now).file) (F.seen files.old)
-        (F.seen files.new) (asked_of job.now) result }
-    ensures kept { AreKept (F.seen files.old) (F.seen files.new) }
+    // Whatever file the controller came from.
+    ensures row { (told : Option (List ℕ)) (old new : FilesSeen)
+        → CameOf told (λ bytes. IsController bytes controller.now)
+        → IsRow told old new (asked_of job.now) result }
     ensures places { IfOk result HasPlaces }
     ensures sets { AreSetsAsked (λ b. b.ptr)
         (λ b. (⟦<dyn InvariantProposer as InvariantProposer>⟧ b.vtable).last b.value)
         (λ b shape. (⟦<dyn InvariantProposer as InvariantProposer>⟧ b.vtable).to_come b.value shape)
-        (FileBecomes (F.seen files.old) (Some (asked_of job.now)))
+        (λ w. BecomesWords controller.now job.now.design (Ok w))
         proposers.old.sets.items proposers.new.sets.items result }
     ensures forms { IsAsked (λ b. b.ptr)
         (λ b. (⟦<dyn FormProposer as FormProposer>⟧ b.vtable).last b.value)
@@ -91,7 +114,50 @@ pub(crate) fn job_answer<F: Files>(
     ensures beyond { AsksSchurCohn (asked_of job.now).task
         → IfNoForm result (λ poly kept. IsBeyond poly) }
 {
-    let controller = read_controller(alloc, job.file, files)?;
-    let quantised = quantise_in(&controller, job.design)?;
-    task_answer(alloc, &controller, &quantised, &job.task, proposers)
+    let quantised = quantise_in(controller, job.design)?;
+    task_answer(alloc, controller, &quantised, &job.task, proposers)
+}
+
+/// What a job on a file comes to.
+pub(crate) fn job_outcome<F: Files>(
+    alloc: Global,
+    job: &Job,
+    files: &mut F,
+    proposers: &mut Proposers,
+) -> JobOutcome
+    ensures row { IsRow ((F.seen files.old).held (asked_of job.now).file) (F.seen files.old)
+        (F.seen files.new) (asked_of job.now) result.outcome }
+    ensures words { SaysWords (F.seen files.old) (F.seen files.new) (Some (asked_of job.now))
+        result.outcome result.words }
+    ensures lawful { IsWords result.words }
+    ensures kept { AreKept (F.seen files.old) (F.seen files.new) }
+    ensures places { IfOk result.outcome HasPlaces }
+    ensures sets { AreSetsAsked (λ b. b.ptr)
+        (λ b. (⟦<dyn InvariantProposer as InvariantProposer>⟧ b.vtable).last b.value)
+        (λ b shape. (⟦<dyn InvariantProposer as InvariantProposer>⟧ b.vtable).to_come b.value shape)
+        (FileBecomes (F.seen files.old) (Some (asked_of job.now)))
+        proposers.old.sets.items proposers.new.sets.items result.outcome }
+    ensures forms { IsAsked (λ b. b.ptr)
+        (λ b. (⟦<dyn FormProposer as FormProposer>⟧ b.vtable).last b.value)
+        (λ b cs. sure b cs)
+        (λ b cs. (⟦<dyn FormProposer as FormProposer>⟧ b.vtable).to_come b.value cs)
+        (AsksSchurCohn (asked_of job.now).task)
+        proposers.old.forms.items proposers.new.forms.items result.outcome }
+    ensures unneeded_sets { (Seeks (asked_of job.now).task → ⊥)
+        → proposers.new.sets.items ≡ proposers.old.sets.items }
+    ensures unneeded_forms { (Decides (asked_of job.now).task → ⊥)
+        → proposers.new.forms.items ≡ proposers.old.forms.items }
+    ensures beyond { AsksSchurCohn (asked_of job.now).task
+        → IfNoForm result.outcome (λ poly kept. IsBeyond poly) }
+{
+    match read_controller(alloc, job.file, files) {
+        Ok(controller) => JobOutcome {
+            outcome: controller_answer(alloc, &controller, job, proposers),
+            words: words_of(&controller),
+        },
+        Err(stop) => JobOutcome {
+            outcome: Err(stop),
+            words: CertWords::Unsaid,
+        },
+    }
 }

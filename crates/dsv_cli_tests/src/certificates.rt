@@ -49,9 +49,30 @@ const UNBOUNDED: Row = Row {
     accepted: b"CERTIFICATE ACCEPTED\nproperty OVERFLOW realization DFI unbounded\n",
 };
 
-const ROWS: [Row; 4] = [
+/// y = x + y1, in words of 48 bits.
+const WIDE_SUM: &[u8] = b"digital_system d = { .b = {1.0}, .b_size = 1, .a = {1.0, -1.0}, \
+    .a_size = 2 }; implementation r = { .int_bits = 2, .frac_bits = 46, .max = 1.0, .min = 1.0 };";
+
+const ROWS: [Row; 6] = [
     STABILITY,
     UNBOUNDED,
+    Row {
+        file: WIDE_SUM,
+        job: &[
+            "f",
+            "--property",
+            "OVERFLOW",
+            "--x-size",
+            "1",
+            "--certificate",
+        ],
+        accepted: b"CERTIFICATE ACCEPTED\nproperty OVERFLOW realization DFI samples 1\n",
+    },
+    Row {
+        file: HALF_POLE_OF_33,
+        job: &["f", "--property", "OVERFLOW", "--gain", "--certificate"],
+        accepted: b"CERTIFICATE ACCEPTED\nproperty OVERFLOW realization DFI unbounded\n",
+    },
     Row {
         file: SUM,
         job: &[
@@ -250,4 +271,126 @@ fn is_too_long(alloc: Global) -> Option<bool> {
 #[test]
 fn a_certificate_over_64_mebibytes_is_too_long(rt: HostRuntime) {
     assert!(rt; is_too_long(rt.alloc()) == Some(true));
+}
+
+// ---- the format of the words
+
+/// A pole at 0.5, in words of 32 bits.
+const HALF_POLE_OF_32: &[u8] = b"digital_system d = { .b = {1.0}, .b_size = 1, .a = {1.0, -0.5}, \
+    .a_size = 2 }; implementation r = { .int_bits = 16, .frac_bits = 16, .max = 1.0, .min = -1.0 };";
+
+/// The same in words of 33 bits.
+const HALF_POLE_OF_33: &[u8] = b"digital_system d = { .b = {1.0}, .b_size = 1, .a = {1.0, -0.5}, \
+    .a_size = 2 }; implementation r = { .int_bits = 17, .frac_bits = 16, .max = 1.0, .min = -1.0 };";
+
+/// The same with a coefficient that is no word.
+const NO_WORDS_OF_33: &[u8] = b"digital_system d = { .b = {1e5}, .b_size = 1, .a = {1.0, -0.5}, \
+    .a_size = 2 }; implementation r = { .int_bits = 17, .frac_bits = 16, .max = 1.0, .min = -1.0 };";
+
+/// 2 - 1 z^-1 is the polynomial: the form is 1, and it loses 2^2 - 1^2 in a step.
+const VERSION_1: &[u8] = b"dsv-certificate 1\njob STABILITY DFI FLOOR WRAPAROUND\nkind falls 1\n\
+    form 1\npositive 1 1\nsquare 1 1\nrest 0\nfall 1 1\nsquare 3 1\nrest 0\nend\n";
+
+const VERSION_2: &[u8] = b"dsv-certificate 2\njob STABILITY DFI FLOOR WRAPAROUND\n\
+    format 17 16\nkind falls 1\n\
+    form 1\npositive 1 1\nsquare 1 1\nrest 0\nfall 1 1\nsquare 3 1\nrest 0\nend\n";
+
+/// The format of the words of 32 bits.
+const VERSION_2_OF_32: &[u8] = b"dsv-certificate 2\njob STABILITY DFI FLOOR WRAPAROUND\n\
+    format 16 16\nkind falls 1\n\
+    form 1\npositive 1 1\nsquare 1 1\nrest 0\nfall 1 1\nsquare 3 1\nrest 0\nend\n";
+
+/// 33 bits, of which 16 stand before the point.
+const EXCHANGED: &[u8] = b"dsv-certificate 2\njob STABILITY DFI FLOOR WRAPAROUND\n\
+    format 16 17\nkind falls 1\n\
+    form 1\npositive 1 1\nsquare 1 1\nrest 0\nfall 1 1\nsquare 3 1\nrest 0\nend\n";
+
+/// The form loses 3 in a step, and not 2.
+const WRONG_SQUARE: &[u8] = b"dsv-certificate 2\njob STABILITY DFI FLOOR WRAPAROUND\n\
+    format 17 16\nkind falls 1\n\
+    form 1\npositive 1 1\nsquare 1 1\nrest 0\nfall 1 1\nsquare 2 1\nrest 0\nend\n";
+
+/// A property that the certificate's kind doesn't show, of a form of another order.
+const OTHER_ORDER: &[u8] = b"dsv-certificate 2\njob STABILITY DFI FLOOR WRAPAROUND\n\
+    format 17 16\nkind falls 0\npositive 1 0\nfall 1 0\nend\n";
+
+/// A controller's file, a certificate, and the status and the text of the check.
+struct Format(&'static [u8], &'static [u8], u8, &'static [u8]);
+
+const FORMATS: [Format; 10] = [
+    Format(HALF_POLE_OF_32, VERSION_1, 0, ACCEPTED),
+    Format(HALF_POLE_OF_33, VERSION_2, 0, ACCEPTED),
+    Format(HALF_POLE_OF_32, VERSION_2_OF_32, 0, ACCEPTED),
+    Format(
+        HALF_POLE_OF_33,
+        VERSION_1,
+        7,
+        b"CERTIFICATE REFUSED line 1 code 10 FORMAT\n",
+    ),
+    Format(
+        HALF_POLE_OF_32,
+        VERSION_2,
+        7,
+        b"CERTIFICATE REFUSED line 3 code 10 FORMAT\n",
+    ),
+    Format(
+        HALF_POLE_OF_33,
+        EXCHANGED,
+        7,
+        b"CERTIFICATE REFUSED line 3 code 10 FORMAT\n",
+    ),
+    Format(
+        NO_WORDS_OF_33,
+        VERSION_1,
+        7,
+        b"CERTIFICATE REFUSED line 1 code 10 FORMAT\n",
+    ),
+    Format(
+        NO_WORDS_OF_33,
+        VERSION_2,
+        2,
+        b"FILE REFUSED 21 COEFFICIENT_RANGE b 0 wanted 6553600000\n",
+    ),
+    Format(
+        HALF_POLE_OF_33,
+        WRONG_SQUARE,
+        7,
+        b"CERTIFICATE REFUSED line 11 code 7 FORM\n",
+    ),
+    Format(
+        HALF_POLE_OF_33,
+        OTHER_ORDER,
+        7,
+        b"CERTIFICATE REFUSED line 4 code 8 SHAPE\n",
+    ),
+];
+
+/// Whether the check of the certificate writes this.
+fn is_judged(alloc: Global, row: &Format) -> bool {
+    match output_of_check(alloc, row.0, row.1) {
+        Some(output) => output.status == row.2 && output.sink.bytes() == row.3,
+        None => false,
+    }
+}
+
+#[test]
+fn certificates_of_another_format_are_refused(rt: HostRuntime) {
+    for row in &FORMATS {
+        assert!(rt; is_judged(rt.alloc(), row));
+    }
+}
+
+/// Whether the certificate of a file's stability is this.
+fn is_written(alloc: Global, file: &'static [u8], certificate: &[u8]) -> bool {
+    let row = Row { file, ..STABILITY };
+    match certificate_of(alloc, &row) {
+        Some(output) => output.status == 0 && output.sink.bytes() == certificate,
+        None => false,
+    }
+}
+
+#[test]
+fn words_of_more_than_32_bits_have_certificates_of_version_2(rt: HostRuntime) {
+    assert!(rt; is_written(rt.alloc(), HALF_POLE_OF_32, VERSION_1));
+    assert!(rt; is_written(rt.alloc(), HALF_POLE_OF_33, VERSION_2));
 }

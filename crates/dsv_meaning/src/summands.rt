@@ -59,6 +59,7 @@ pub(crate) fn feedback(quantised: &Quantised) -> &[i64]
     ensures same { result.now ≡ feedback quantised.now }
     ensures many { length result.now ≡ order quantised.now }
     ensures words { All (IsWord quantised.now.format) result.now }
+    ensures small { All IsSmallNumber result.now }
 {
     rest_after(quantised.a(), 1)
 }
@@ -68,6 +69,7 @@ pub(crate) fn feed_forward(quantised: &Quantised) -> &[i64]
     ensures same { result.now ≡ drop 1 quantised.now.b }
     ensures many { length result.now ≡ order quantised.now }
     ensures words { All (IsWord quantised.now.format) result.now }
+    ensures small { All IsSmallNumber result.now }
 {
     rest_after(quantised.b(), 1)
 }
@@ -76,6 +78,7 @@ pub(crate) fn feed_forward(quantised: &Quantised) -> &[i64]
 fn delta_word(quantised: &Quantised) -> i64
     ensures same { result ≡ quantised.now.delta }
     ensures word { IsWord quantised.now.format result }
+    ensures small { IsSmallNumber result }
 {
     quantised.delta()
 }

@@ -41,7 +41,8 @@ fault_name (fault.Text text.End) = codes " code 5 END\n"
 fault_name (fault.Check check.Step) = codes " code 6 STEP\n"
 fault_name (fault.Check check.Form) = codes " code 7 FORM\n"
 fault_name (fault.Check check.Shape) = codes " code 8 SHAPE\n"
-fault_name (fault.Check check.Gain) = codes " code 10 GAIN\n"
+fault_name (fault.Check check.Format) = codes " code 10 FORMAT\n"
+fault_name (fault.Check check.Gain) = codes " code 11 GAIN\n"
 fault_name fault.TooLong = codes " code 9 TOO_LONG\n"
 
 abbrev pub certificate_text : ℕ → CertificateFault → List ℕ

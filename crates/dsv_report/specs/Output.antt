@@ -8,6 +8,7 @@ use Rattle.dsv_certfile.specs.Texts as certified
 use Rattle.dsv_certfile.specs.declared.certificate.Certificate.{Certificate}
 use Rattle.dsv_certfile.specs.declared.certificate.Certificate.TheVariants as certificate
 use Rattle.dsv_certfile.specs.declared.job.CertifiedJob.{CertifiedJob}
+use Rattle.dsv_certfile.specs.declared.job.CertWords.{CertWords}
 use Rattle.dsv_certfile.specs.declared.job.Size.{Size}
 use Rattle.dsv_certfile.specs.declared.job.Size.TheVariants as size
 use Rattle.dsv_command.specs.Jobs.{Task, decides, searches, seeks_set, measures_gain, Asked}
@@ -17,9 +18,11 @@ use Rattle.dsv_report.specs.Stops.{Outcome}
 use Rattle.dsv_report.specs.declared.answers.Answer.{Answer}
 use Rattle.dsv_report.specs.declared.answers.Answer.TheVariants as answer
 
--- the job of a certificate for a controller that is realised by a design
-abbrev pub job_with : Design → Property → Size → CertifiedJob
-job_with design p s = record { property = p; design = design; size = s }
+-- the job of a certificate for a controller that is realised by a design, and of whose words this
+-- is said
+abbrev pub job_with : Design → CertWords → Property → Size → CertifiedJob
+job_with design words p s =
+    record { property = p; design = design; words = words; size = s }
 
 -- the certificate that a property of bounded runs never happens
 abbrev pub hints_of : CertifiedJob → Answer → Option Certificate
@@ -43,21 +46,21 @@ falls_of job (answer.Falls poly offer fall) = Some (certificate.Falls job offer)
 falls_of job other = None
 
 -- the certificate of an answer to a task, where it has one
-abbrev pub certificate_for : Design → Task → Answer → Option Certificate
-certificate_for design (searches p samples conflicts) =
-    hints_of (job_with design (OfRuns p) (size.Samples samples))
-certificate_for design (seeks_set conflicts) =
-    invariant_of (job_with design (OfRuns Overflow) size.Unbounded)
-certificate_for design measures_gain =
-    gain_of (job_with design (OfRuns Overflow) size.Unbounded)
-certificate_for design (decides p schur_cohn) =
-    falls_of (job_with design (OfRoots p) size.NoSize)
-certificate_for design other = λ _. None
+abbrev pub certificate_for : Design → CertWords → Task → Answer → Option Certificate
+certificate_for design words (searches p samples conflicts) =
+    hints_of (job_with design words (OfRuns p) (size.Samples samples))
+certificate_for design words (seeks_set conflicts) =
+    invariant_of (job_with design words (OfRuns Overflow) size.Unbounded)
+certificate_for design words measures_gain =
+    gain_of (job_with design words (OfRuns Overflow) size.Unbounded)
+certificate_for design words (decides p schur_cohn) =
+    falls_of (job_with design words (OfRoots p) size.NoSize)
+certificate_for design words other = λ _. None
 
 -- the certificate of an answer to a job, where the job wants one
-abbrev pub certificate_of : Asked → Answer → Option Certificate
-certificate_of job found =
-    if job.certified then certificate_for job.design job.task found else None
+abbrev pub certificate_of : Asked → CertWords → Answer → Option Certificate
+certificate_of job words found =
+    if job.certified then certificate_for job.design words job.task found else None
 
 -- the certificate's text, or else this
 abbrev pub text_or : Option Certificate → List ℕ → List ℕ
@@ -65,21 +68,22 @@ text_or (Some c) text = certified.certificate_text c
 text_or None text = text
 
 -- what is written for an answer to a job, or to what is no job
-abbrev pub answer_output : Option Asked → Answer → List ℕ
-answer_output None found = answer_text None found
-answer_output (Some job) found = text_or (certificate_of job found) (answer_text (Some job) found)
+abbrev pub answer_output : Option Asked → CertWords → Answer → List ℕ
+answer_output None words found = answer_text None found
+answer_output (Some job) words found =
+    text_or (certificate_of job words found) (answer_text (Some job) found)
 
 -- what is written for what a job comes to, or arguments that ask for none
-abbrev pub output_of : Option Asked → Outcome → List ℕ
-output_of job (Ok found) = answer_output job found
-output_of job (Err why) = stop_text why
+abbrev pub output_of : Option Asked → CertWords → Outcome → List ℕ
+output_of job words (Ok found) = answer_output job words found
+output_of job words (Err why) = stop_text why
 
 -- the certificate that is written for an answer to a job; what is no job wants none
-abbrev pub answer_certificate : Option Asked → Answer → Option Certificate
-answer_certificate None found = None
-answer_certificate (Some job) found = certificate_of job found
+abbrev pub answer_certificate : Option Asked → CertWords → Answer → Option Certificate
+answer_certificate None words found = None
+answer_certificate (Some job) words found = certificate_of job words found
 
 -- the certificate that is written for what a job comes to
-abbrev pub certificate_written : Option Asked → Outcome → Option Certificate
-certificate_written job (Ok found) = answer_certificate job found
-certificate_written job (Err why) = None
+abbrev pub certificate_written : Option Asked → CertWords → Outcome → Option Certificate
+certificate_written job words (Ok found) = answer_certificate job words found
+certificate_written job words (Err why) = None

@@ -46,8 +46,9 @@ fn fault_name(fault: CertificateFault) -> &'static [u8]
         CertificateFault::Check(CheckFault::Step) => b" code 6 STEP\n",
         CertificateFault::Check(CheckFault::Form) => b" code 7 FORM\n",
         CertificateFault::Check(CheckFault::Shape) => b" code 8 SHAPE\n",
-        CertificateFault::Check(CheckFault::Gain) => b" code 10 GAIN\n",
         CertificateFault::TooLong => b" code 9 TOO_LONG\n",
+        CertificateFault::Check(CheckFault::Format) => b" code 10 FORMAT\n",
+        CertificateFault::Check(CheckFault::Gain) => b" code 11 GAIN\n",
     }
 }
 

@@ -7,6 +7,7 @@ ghost use Rattle.dsv_report.specs.Output.{certificate_for, answer_output, text_o
 ghost use Rattle.dsv_report.specs.Output.{answer_certificate, certificate_written};
 ghost use Rattle.dsv_report.specs.Printing.{HasPlaces, asked_in};
 ghost use Rattle.dsv_report.specs.Report.{answer_text};
+ghost use Rattle.dsv_certfile.specs.Lawful.{IsWords};
 ghost use Rattle.dsv_certfile.specs.Typed.{IsTyped};
 ghost use Rattle.dsv_certfile.specs.declared.job.Size.TheVariants as size;
 ghost use Rattle.dsv_names.specs.declared.property.Property.TheVariants.{OfRuns, OfRoots};
@@ -16,17 +17,21 @@ use crate::answers::Answer;
 use crate::report::{put_answer, put_stop};
 use crate::stop::Stop;
 use dsv_base::{Failed, Sink};
-use dsv_certfile::{Size, write_falls, write_gain, write_hints, write_invariant};
+use dsv_certfile::{
+    CertWords, CertifiedJob, Size, write_falls, write_gain, write_hints, write_invariant,
+};
 use dsv_command::{Job, RunQuestion, Task};
 use dsv_names::{Design, Property, RootProperty, RunProperty};
 
-/// The job of a certificate for a controller that is realised by a design.
-fn job_with(design: Design, property: Property, size: Size) -> dsv_certfile::CertifiedJob
-    ensures { result ≡ job_with design property size }
+/// The job of a certificate for a controller that is realised by a design, and of whose words this
+/// is said.
+fn job_with(design: Design, words: CertWords, property: Property, size: Size) -> CertifiedJob
+    ensures { result ≡ job_with design words property size }
 {
-    dsv_certfile::CertifiedJob {
+    CertifiedJob {
         property,
         design,
+        words,
         size,
     }
 }
@@ -35,22 +40,24 @@ fn job_with(design: Design, property: Property, size: Size) -> dsv_certfile::Cer
 fn put_hints<K: Sink>(
     sink: &mut K,
     job: &Job,
+    words: CertWords,
     question: &RunQuestion,
     answer: &Answer,
 ) -> Result<(), Failed>
-    requires { HasPlaces answer.now }
+    requires places { HasPlaces answer.now }
+    requires words { IsWords words }
     ensures text { Writes (K.seen sink.old) (K.seen sink.new) result
-        (text_or (hints_of (job_with job.now.design (OfRuns question.now.property)
+        (text_or (hints_of (job_with job.now.design words (OfRuns question.now.property)
         (size.Samples question.now.samples)) answer.now)
         (answer_text (Some (asked_of job.now)) answer.now)) }
     ensures typed { OnOk result (IfSome
-        (hints_of (job_with job.now.design (OfRuns question.now.property)
+        (hints_of (job_with job.now.design words (OfRuns question.now.property)
         (size.Samples question.now.samples)) answer.now) IsTyped) }
 {
     match answer {
         Answer::Never { log } => {
             let size = Size::Samples(question.samples);
-            let certified = job_with(job.design, Property::OfRuns(question.property), size);
+            let certified = job_with(job.design, words, Property::OfRuns(question.property), size);
             write_hints(sink, &certified, log)
         }
         _ => put_answer(sink, Some(job), answer),
@@ -58,19 +65,25 @@ fn put_hints<K: Sink>(
 }
 
 /// Writes the certificate of an answer on runs of any length, or its report where it has none.
-fn put_invariant<K: Sink>(sink: &mut K, job: &Job, answer: &Answer) -> Result<(), Failed>
-    requires { HasPlaces answer.now }
+fn put_invariant<K: Sink>(
+    sink: &mut K,
+    job: &Job,
+    words: CertWords,
+    answer: &Answer,
+) -> Result<(), Failed>
+    requires places { HasPlaces answer.now }
+    requires words { IsWords words }
     ensures text { Writes (K.seen sink.old) (K.seen sink.new) result
-        (text_or (invariant_of (job_with job.now.design (OfRuns Overflow) size.Unbounded)
+        (text_or (invariant_of (job_with job.now.design words (OfRuns Overflow) size.Unbounded)
         answer.now) (answer_text (Some (asked_of job.now)) answer.now)) }
     ensures typed { OnOk result (IfSome
-        (invariant_of (job_with job.now.design (OfRuns Overflow) size.Unbounded) answer.now)
+        (invariant_of (job_with job.now.design words (OfRuns Overflow) size.Unbounded) answer.now)
         IsTyped) }
 {
     match answer {
         Answer::Always { candidate, logs } => {
             let property = Property::OfRuns(RunProperty::Overflow);
-            let certified = job_with(job.design, property, Size::Unbounded);
+            let certified = job_with(job.design, words, property, Size::Unbounded);
             write_invariant(sink, &certified, candidate, logs)
         }
         _ => put_answer(sink, Some(job), answer),
@@ -78,19 +91,25 @@ fn put_invariant<K: Sink>(sink: &mut K, job: &Job, answer: &Answer) -> Result<()
 }
 
 /// Writes the certificate of an answer by the gain, or its report where it has none.
-fn put_gain<K: Sink>(sink: &mut K, job: &Job, answer: &Answer) -> Result<(), Failed>
-    requires { HasPlaces answer.now }
+fn put_gain<K: Sink>(
+    sink: &mut K,
+    job: &Job,
+    words: CertWords,
+    answer: &Answer,
+) -> Result<(), Failed>
+    requires places { HasPlaces answer.now }
+    requires words { IsWords words }
     ensures text { Writes (K.seen sink.old) (K.seen sink.new) result
-        (text_or (gain_of (job_with job.now.design (OfRuns Overflow) size.Unbounded)
+        (text_or (gain_of (job_with job.now.design words (OfRuns Overflow) size.Unbounded)
         answer.now) (answer_text (Some (asked_of job.now)) answer.now)) }
     ensures typed { OnOk result (IfSome
-        (gain_of (job_with job.now.design (OfRuns Overflow) size.Unbounded) answer.now)
+        (gain_of (job_with job.now.design words (OfRuns Overflow) size.Unbounded) answer.now)
         IsTyped) }
 {
     match answer {
         Answer::InRanges(gain) => {
             let property = Property::OfRuns(RunProperty::Overflow);
-            let certified = job_with(job.design, property, Size::Unbounded);
+            let certified = job_with(job.design, words, property, Size::Unbounded);
             write_gain(sink, &certified, gain.depth)
         }
         _ => put_answer(sink, Some(job), answer),
@@ -101,20 +120,22 @@ fn put_gain<K: Sink>(sink: &mut K, job: &Job, answer: &Answer) -> Result<(), Fai
 fn put_falls<K: Sink>(
     sink: &mut K,
     job: &Job,
+    words: CertWords,
     property: RootProperty,
     answer: &Answer,
 ) -> Result<(), Failed>
-    requires { HasPlaces answer.now }
+    requires places { HasPlaces answer.now }
+    requires words { IsWords words }
     ensures text { Writes (K.seen sink.old) (K.seen sink.new) result
-        (text_or (falls_of (job_with job.now.design (OfRoots property) size.NoSize) answer.now)
+        (text_or (falls_of (job_with job.now.design words (OfRoots property) size.NoSize) answer.now)
         (answer_text (Some (asked_of job.now)) answer.now)) }
     ensures typed { OnOk result (IfSome
-        (falls_of (job_with job.now.design (OfRoots property) size.NoSize) answer.now)
+        (falls_of (job_with job.now.design words (OfRoots property) size.NoSize) answer.now)
         IsTyped) }
 {
     match answer {
         Answer::Falls { offer, .. } => {
-            let certified = job_with(job.design, Property::OfRoots(property), Size::NoSize);
+            let certified = job_with(job.design, words, Property::OfRoots(property), Size::NoSize);
             write_falls(sink, &certified, offer)
         }
         _ => put_answer(sink, Some(job), answer),
@@ -122,19 +143,25 @@ fn put_falls<K: Sink>(
 }
 
 /// Writes the certificate of an answer, or its report where it has none.
-fn put_certificate<K: Sink>(sink: &mut K, job: &Job, answer: &Answer) -> Result<(), Failed>
-    requires { HasPlaces answer.now }
+fn put_certificate<K: Sink>(
+    sink: &mut K,
+    job: &Job,
+    words: CertWords,
+    answer: &Answer,
+) -> Result<(), Failed>
+    requires places { HasPlaces answer.now }
+    requires words { IsWords words }
     ensures text { Writes (K.seen sink.old) (K.seen sink.new) result
-        (text_or (certificate_for job.now.design (asked_task job.now.task) answer.now)
+        (text_or (certificate_for job.now.design words (asked_task job.now.task) answer.now)
         (answer_text (Some (asked_of job.now)) answer.now)) }
     ensures typed { OnOk result (IfSome
-        (certificate_for job.now.design (asked_task job.now.task) answer.now) IsTyped) }
+        (certificate_for job.now.design words (asked_task job.now.task) answer.now) IsTyped) }
 {
     match &job.task {
-        Task::Search(question, _) => put_hints(sink, job, question, answer),
-        Task::SeekSet(_) => put_invariant(sink, job, answer),
-        Task::MeasureGain => put_gain(sink, job, answer),
-        Task::Decide(question) => put_falls(sink, job, question.property, answer),
+        Task::Search(question, _) => put_hints(sink, job, words, question, answer),
+        Task::SeekSet(_) => put_invariant(sink, job, words, answer),
+        Task::MeasureGain => put_gain(sink, job, words, answer),
+        Task::Decide(question) => put_falls(sink, job, words, question.property, answer),
         Task::CheckTime | Task::WriteFormula(_) | Task::Simulate(_) => {
             put_answer(sink, Some(job), answer)
         }
@@ -143,35 +170,44 @@ fn put_certificate<K: Sink>(sink: &mut K, job: &Job, answer: &Answer) -> Result<
 
 /// Writes what is asked for of an answer: a certificate, where the job wants one and the answer has
 /// one, and else the report.
-fn put_found<K: Sink>(sink: &mut K, job: Option<&Job>, answer: &Answer) -> Result<(), Failed>
-    requires { HasPlaces answer.now }
+fn put_found<K: Sink>(
+    sink: &mut K,
+    job: Option<&Job>,
+    words: CertWords,
+    answer: &Answer,
+) -> Result<(), Failed>
+    requires places { HasPlaces answer.now }
+    requires words { IsWords words }
     ensures text { Writes (K.seen sink.old) (K.seen sink.new) result
-        (answer_output (asked_in job.entry) answer.now) }
+        (answer_output (asked_in job.entry) words answer.now) }
     ensures typed { OnOk result
-        (IfSome (answer_certificate (asked_in job.entry) answer.now) IsTyped) }
+        (IfSome (answer_certificate (asked_in job.entry) words answer.now) IsTyped) }
 {
     match job {
-        Some(job) if job.certified => put_certificate(sink, job, answer),
+        Some(job) if job.certified => put_certificate(sink, job, words, answer),
         Some(_) | None => put_answer(sink, job, answer),
     }
 }
 
-/// Writes what is asked for of the answer to a job, or why there is none: a certificate, where the
-/// job wants one and the answer has one, and else the report. It takes no memory.
+/// Writes what is asked for of the answer to a job, or why there is none: a certificate, which says
+/// this of the controller's words, where the job wants one and the answer has one, and else the
+/// report. It takes no memory.
 pub fn put_output<K: Sink>(
     sink: &mut K,
     job: Option<&Job>,
+    words: CertWords,
     outcome: &Result<Answer, Stop>,
 ) -> Result<(), Failed>
-    requires { IfOk outcome.now HasPlaces }
+    requires places { IfOk outcome.now HasPlaces }
+    requires words { IsWords words }
     ensures text { Writes (K.seen sink.old) (K.seen sink.new) result
-        (output_of (asked_in job.entry) outcome.now) }
+        (output_of (asked_in job.entry) words outcome.now) }
     // Of a certificate that was written whole its types are known.
     ensures typed { OnOk result
-        (IfSome (certificate_written (asked_in job.entry) outcome.now) IsTyped) }
+        (IfSome (certificate_written (asked_in job.entry) words outcome.now) IsTyped) }
 {
     match outcome {
-        Ok(answer) => put_found(sink, job, answer),
+        Ok(answer) => put_found(sink, job, words, answer),
         Err(stop) => put_stop(sink, stop),
     }
 }

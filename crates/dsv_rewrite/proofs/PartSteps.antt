@@ -15,7 +15,7 @@ use Rattle.dsv_rewrite.specs.Ready.{IsPart}
 use Rattle.dsv_rewrite.proofs.PartRules.{inner_part_same}
 use Rattle.dsv_rewrite.proofs.Standing.{node_made, node_at-is}
 
-pub part_small : (t : TermsView) (p : Part) → AreSound t → IsPart t p → p.high < 80
+pub part_small : (t : TermsView) (p : Part) → AreSound t → IsPart t p → p.high < 128
 part_small t p s h = let w = (stands-width t p.of s h.stands).narrow in omega (arith, h.inside)
 
 pub joined_stands : (t : TermsView) (p : Part) (a b : TermId) → AreSound t → IsPart t p → slice_get t.nodes p.of.0 ≡ Some (Concat a b) → b.0 < length t.nodes
@@ -24,7 +24,7 @@ joined_stands t p a b s h e = let m = node_made t p.of (Concat a b) s h.stands e
 pub extended_stands : (t : TermsView) (p : Part) (a : TermId) (w : ℕ) → AreSound t → IsPart t p → slice_get t.nodes p.of.0 ≡ Some (Sext a w) → a.0 < length t.nodes
 extended_stands t p a w s h e = let m = node_made t p.of (Sext a w) s h.stands e in omega (arith, m.count, m.lawful.stands, h.stands)
 
-pub extract_small : (t : TermsView) (p : Part) (a : TermId) (high low : ℕ) → AreSound t → IsPart t p → slice_get t.nodes p.of.0 ≡ Some (Extract a high low) → p.high + low < 80
+pub extract_small : (t : TermsView) (p : Part) (a : TermId) (high low : ℕ) → AreSound t → IsPart t p → slice_get t.nodes p.of.0 ≡ Some (Extract a high low) → p.high + low < 128
 extract_small t p a high low s h e =
     let q = inside_extract a low p in
     let k = inner_part_same t p q s h (ap (λ (n : TermNode). inner_part t n p) (node_at-is t p.of (Extract a high low) e)) in

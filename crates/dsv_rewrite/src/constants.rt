@@ -39,5 +39,5 @@ pub(crate) fn is_full(word: Word) -> bool
     requires { IsWord word }
     ensures { result ≡ is_full word }
 {
-    word.number == (1u128 << word.width) - 1
+    word.number == u128::MAX >> (128 - word.width)
 }

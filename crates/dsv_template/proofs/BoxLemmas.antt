@@ -1,6 +1,7 @@
 -- Boxes: the bits of a shape's words, and the next of the boxes.
-use Rattle.std.proofs.Common.{◌≡◌, ℕ, zero, suc, ◌+◌, ◌-◌, ◌*◌, ◌^◌, ◌<◌, ◌≤◌, inl, inr, List, [], Some, Bool, true, false, refl, sym, ap, ◌∙◌, drop, length, get_or, slice_get, length-drop, add-zero, arith}
-use Rattle.std.proofs.Math.IntN.{pos, ◌-ℤ◌}
+use Rattle.std.proofs.Common.{◌≡◌, FitsSigned, w64, ℕ, zero, suc, ◌+◌, ◌-◌, ◌*◌, ◌^◌, ◌<◌, ◌≤◌, inl, inr, List, [], Some, Bool, true, false, refl, sym, ap, ◌∙◌, drop, length, get_or, slice_get, length-drop, add-zero, arith}
+use Rattle.std.proofs.Math.IntN.{ℤ, pos, neg_ℤ, ◌-ℤ◌}
+use Rattle.std.specs.Prelude.{◌≤ℤ◌, int_lt, if◌then◌else◌}
 use Rattle.std.proofs.lemmas.Bool.{cases_lt}
 use Rattle.std.proofs.lemmas.Int.{ints}
 use Rattle.std.proofs.Math.Nat.{pow-le-pow_right}
@@ -14,7 +15,7 @@ use Rattle.dsv_word.specs.Words.{hi}
 use Rattle.dsv_template.specs.declared.shape.Shape.{Shape}
 use Rattle.dsv_template.specs.Candidates.{bit_length}
 use Rattle.dsv_template.specs.Shapes.{IsLawful}
-use Rattle.dsv_template.specs.Boxes.{bits_of, sizes_of, box_at, boxes, boxes_from}
+use Rattle.dsv_template.specs.Boxes.{bits_of, sizes_of, or_less, box_at, boxes, boxes_from}
 
 -- ---- bits
 size_of_greatest : (a : ℕ) → 1 ≤ a → unsigned_abs (pos a -ℤ pos 1) + 1 ≡ a
@@ -53,6 +54,17 @@ bits_of-lawful shape h =
     let e : bit_length shape.hi ≡ h.bits - 1 = ap bit_length h.greatest ∙ bit_length-greatest h.bits h.narrow in
     let w = h.wide in let n = h.narrow in
     (omega arith, omega arith)
+
+-- ---- the range of the inputs
+or_less-fits : (z : ℤ) (b : Bool) → int_lt z (pos 0) ≡ b → neg_ℤ (pos (2 ^ 47)) ≤ℤ z → FitsSigned w64 (if b then z else pos 0) × FitsSigned w64 (pos 0 -ℤ (if b then z else pos 0))
+or_less-fits z true e h = (omega (arith, ints), omega (arith, ints))
+or_less-fits z false e h = (omega (arith, ints), omega (arith, ints))
+
+pub inputs_fit : (shape : Shape) → IsLawful shape → FitsSigned w64 (or_less shape.xlo) × FitsSigned w64 (pos 0 -ℤ or_less shape.xlo)
+inputs_fit shape h =
+    let small : 2 ^ (h.bits - 1) ≤ 2 ^ 47 = powers (h.bits - 1) 47 (let n = h.narrow in omega arith) in
+    let least = h.least in let low = h.low in
+    or_less-fits shape.xlo (int_lt shape.xlo (pos 0)) refl (omega (arith, ints))
 
 -- ---- the next of the boxes
 slice_get-at_drop : {X : Type 0} (xs : List X) (p : ℕ) (x : X) → p < length xs → get_or xs p x ≡ x → slice_get (drop p xs) 0 ≡ Some x

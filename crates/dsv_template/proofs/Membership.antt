@@ -37,15 +37,17 @@ pub entry_bounds : (c r : ℤ) → is_small c ≡ true → IsSomeWord r → (neg
 entry_bounds c r s w = size_bounds most_entry (c *ℤ r) (entry_size c r s w)
 
 -- as the code computes it
-pub entry_read : (c r : ℤ) → is_small c ≡ true → IsSomeWord r → to_z w128 (of_z w128 (to_z w64 (of_z w64 c) *ℤ to_z w64 (of_z w64 r))) ≡ c *ℤ r
-entry_read c r s w =
+pub entry_read : (c r a b : ℤ) → is_small c ≡ true → IsSomeWord r → a ≡ to_z w64 (of_z w64 c) → b ≡ to_z w64 (of_z w64 r) → to_z w128 (of_z w128 (to_z w128 (of_z w128 a) *ℤ to_z w128 (of_z w128 b))) ≡ c *ℤ r
+entry_read c r a b s w e f =
     let small : unsigned_abs c ≤ most_coefficient = leb-true (unsigned_abs c) most_coefficient s in
     let size = word_size r w in
     let all = entry_size c r s w in
     let first : SFits w64 c = fits_signed_from_abs w64 c (omega arith) in
     let second : SFits w64 r = fits_signed_from_abs w64 r (omega arith) in
+    let left : SFits w128 c = fits_signed_from_abs w128 c (omega arith) in
+    let right : SFits w128 r = fits_signed_from_abs w128 r (omega arith) in
     let product : SFits w128 (c *ℤ r) = fits_signed_from_abs w128 (c *ℤ r) (omega arith) in
-    rw (to_z-of_z w64 c first, to_z-of_z w64 r second) (to_z-of_z w128 (c *ℤ r) product)
+    rw (e, f, to_z-of_z w64 c first, to_z-of_z w64 r second, to_z-of_z w128 c left, to_z-of_z w128 r right) (to_z-of_z w128 (c *ℤ r) product)
 
 -- ---- sums
 pub combination-drop : (cs rs : List ℤ) (i : ℕ) → i < length cs → i < length rs

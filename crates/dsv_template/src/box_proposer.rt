@@ -1,11 +1,12 @@
 // The proposer that is built in.
 ghost use Rattle.std.specs.Prelude.{◌≡◌, ◌<◌, ◌≤◌, ◌+◌, ◌*◌, ◌^◌, neg_ℤ, true, false};
-ghost use Rattle.std.specs.Prelude.{Some, None, []};
+ghost use Rattle.std.specs.Prelude.{Some, None, [], pos, ◌≤ℤ◌};
 ghost use Rattle.std.proofs.Common.{rules};
 ghost use Rattle.dsv_template.specs.Boxes.{bits_of, sizes_of, or_less, or_more, upper_end};
 ghost use Rattle.dsv_template.specs.Boxes.{lower_end, unit, inequality, ends_of, box_at, boxes};
 ghost use Rattle.dsv_template.specs.Boxes.{boxes_from, box_before};
 ghost use Rattle.dsv_template.specs.Shapes.{IsLawful};
+ghost use Rattle.dsv_word.specs.Width.{widest_word};
 ghost use Rattle.dsv_template.specs.declared.shape.Shape.{Shape};
 
 use crate::candidate::{Candidate, CoefficientList, Inequality, InequalityList, bit_length};
@@ -62,6 +63,16 @@ fn or_more(z: &i64) -> i64
     if 0 < *z { *z } else { 0 }
 }
 
+/// Two to that power.
+#[tactic(auto, using(dsv_word::proofs::Powers::power_small))]
+fn power(bits: u32) -> i64
+    requires { bits ≤ widest_word }
+    ensures value { result ≡ pos (2 ^ bits) }
+    ensures small { result ≤ℤ pos (2 ^ widest_word) }
+{
+    1i64 << bits
+}
+
 /// The greatest word of a register in the box of 2^bits.
 fn upper_end(shape: &Shape, bits: u32, register: u32) -> i64
     requires { bits ≤ 47 }
@@ -70,7 +81,7 @@ fn upper_end(shape: &Shape, bits: u32, register: u32) -> i64
     if register < shape.past_inputs {
         or_more(&shape.xhi)
     } else {
-        2i64.pow(bits) - 1
+        power(bits) - 1
     }
 }
 
@@ -83,7 +94,7 @@ fn lower_bound(shape: &Shape, bits: u32, register: u32) -> i64
     if register < shape.past_inputs {
         -or_less(&shape.xlo)
     } else {
-        2i64.pow(bits)
+        power(bits)
     }
 }
 

@@ -4,3 +4,4 @@ pub mod Signs
 pub mod ListPolynomials
 pub mod Denominators
 pub mod TestedCoefficients
+pub mod WordSizes

@@ -24,6 +24,7 @@ use dsv_forms::Poly;
 use dsv_quantiser::Quantised;
 
 /// The words of a side.
+#[tactic(auto, using(crate::proofs::WordSizes::sizes))]
 fn side_words(quantised: &Quantised, side: Side) -> &[i64]
     ensures same { result.now ≡ words_of quantised.now side }
     ensures some { 1 ≤ length result.now }

@@ -6,12 +6,12 @@ use Rattle.dsv_blast.proofs.model_values.number.Goals as goal
 
 pub overflow_mul-number : goal.overflow_mul-number
 overflow_mul-number c =
-    let n = number-narrow (assignment_of c.args.model.now) c.args.bits.now (length c.args.bits.now - c.loop-i.i) c.requires.narrow in
+    let n = number-narrow (assignment_of c.args.model.now) c.args.bits.now (length c.args.bits.now - c.loop-i.i) (omega (arith, c.loop-i-test.true)) c.requires.narrow in
     omega (arith, n, c.loop-i.invariant)
 
 pub overflow_add-number : goal.overflow_add-number
 overflow_add-number c =
-    let n = number-narrow (assignment_of c.args.model.now) c.args.bits.now (length c.args.bits.now - c.loop-i.i) c.requires.narrow in
+    let n = number-narrow (assignment_of c.args.model.now) c.args.bits.now (length c.args.bits.now - c.loop-i.i) (omega (arith, c.loop-i-test.true)) c.requires.narrow in
     let one : c.from.result ≡ bit c.is_true-bit.result = c.from.ensures ∙ byte-is c.is_true-bit.result in
     omega (arith, n, c.loop-i.invariant, below-two c.from.result c.is_true-bit.result one)
 

@@ -11,7 +11,7 @@ pub returns-clause-small : goal.returns-clause-small
 returns-clause-small c =
     let coeff : SFits w64 c.args.coeff.now = search rules in
     let word : SFits w64 c.args.word.now = search rules in
-    let size : unsigned_abs (c.args.coeff.now *ℤ c.args.word.now) ≤ 2 ^ 95 = product_size c.args.coeff.now c.args.word.now c.requires (fits_size c.args.word.now word) in
+    let size : unsigned_abs (c.args.coeff.now *ℤ c.args.word.now) ≤ 2 ^ 111 = product_size c.args.coeff.now c.args.word.now c.requires (fits_size c.args.word.now word) in
     let product : SFits w128 (c.args.coeff.now *ℤ c.args.word.now) = small_fits (c.args.coeff.now *ℤ c.args.word.now) size in
     let wide_coeff : SFits w128 c.args.coeff.now = search rules in
     let wide_word : SFits w128 c.args.word.now = search rules in

@@ -15,9 +15,9 @@ loop-summand-preserved c =
     let t = to_z w128 c.loop-summand.total-bits in
     let e = c.exact_summand-total.result in
     let part : SFits w128 e = search rules in
-    let size = within e (2 ^ 95) c.exact_summand-total.ensures.small in
-    let low : neg_ℤ (pos ((i + 1) * 2 ^ 95)) ≤ℤ (t +ℤ e) = omega (arith, ints, c.loop-summand.invariant.low, size.0) in
-    let high : (t +ℤ e) ≤ℤ pos ((i + 1) * 2 ^ 95) = omega (arith, ints, c.loop-summand.invariant.high, size.1) in
+    let size = within e (2 ^ 111) c.exact_summand-total.ensures.small in
+    let low : neg_ℤ (pos ((i + 1) * 2 ^ 111)) ≤ℤ (t +ℤ e) = omega (arith, ints, c.loop-summand.invariant.low, size.0) in
+    let high : (t +ℤ e) ≤ℤ pos ((i + 1) * 2 ^ 111) = omega (arith, ints, c.loop-summand.invariant.high, size.1) in
     let fits : SFits w128 (t +ℤ e) = between_fits (t +ℤ e) (omega (arith, ints, low, c.loop-summand-test.true, c.requires.few)) (omega (arith, ints, high, c.loop-summand-test.true, c.requires.few)) in
     let value : to_z w128 (of_z w128 (t +ℤ to_z w128 (of_z w128 e))) ≡ t +ℤ e = rw (to_z-of_z w128 e part) (to_z-of_z w128 (t +ℤ e) fits) in
     record {

@@ -4,8 +4,12 @@ use Rattle.std.proofs.lemmas.Int.{to_z-of_z}
 use mir.Syntax.{w64}
 use mir.Val.{SFits}
 use Rattle.dsv_meaning.specs.declared.summands.Summand.TheVariants.{Times}
+use Rattle.dsv_meaning.proofs.Sizes.{first_is_small}
 use Rattle.dsv_meaning.proofs.SummandLemmas.{forward_built}
 use Rattle.dsv_meaning.proofs.summands.forward_summands.Goals as goal
+
+pub push_product-requires-clause-small : goal.push_product-requires-clause-small
+push_product-requires-clause-small c = rw c.b.ensures.same (first_is_small c.args.quantised.now c.b.ensures.quantised)
 
 pub returns-clause-value : goal.returns-clause-value
 returns-clause-value c =

@@ -10,5 +10,5 @@ use Rattle.dsv_report.proofs.output.put_invariant.Goals as goal
 
 pub returns-in-Always-clause-text : goal.returns-in-Always-clause-text
 returns-in-Always-clause-text g c =
-    invariant_written (job_with c.args.job.now.design (OfRuns Overflow) size.Unbounded) c.job_with-certified.result c.in-Always.candidate c.in-Always.logs c.args.answer.now (answer_text (Some (asked_of c.args.job.now)) c.args.answer.now)
+    invariant_written (job_with c.args.job.now.design c.args.words (OfRuns Overflow) size.Unbounded) c.job_with-certified.result c.in-Always.candidate c.in-Always.logs c.args.answer.now (answer_text (Some (asked_of c.args.job.now)) c.args.answer.now)
     c.in-Always.is c.job_with-certified.ensures c.write_invariant.ensures.text
