@@ -1,16 +1,18 @@
 -- Coefficients that are divided: what is left of them is never negative.
-use Rattle.std.proofs.Common.{◌≡◌, ℕ, zero, suc, ◌+◌, ◌<◌, ◌≤◌, false, if◌then◌else◌, List, [], ◌∷◌, ◌++◌, length, ◌^◌, refl, sym, ap, ◌∙◌, SFits, arith, rules, add-one}
-use Rattle.std.specs.Prelude.{Some, int_lt}
+use Rattle.std.proofs.Common.{◌≡◌, ℕ, zero, suc, ◌+◌, ◌<◌, ◌≤◌, List, [], ◌∷◌, ◌++◌, length, ◌^◌, refl, sym, ap, ◌∙◌, SFits, arith, add-one}
+use Rattle.std.specs.Prelude.{Some}
 use Rattle.std.specs.Int.{w64, int_rem_euclid}
 use Rattle.std.specs.Int.RustNames.{unsigned_abs}
 use Rattle.std.proofs.Math.IntN.{ℤ, pos, ◌*ℤ◌}
 use Rattle.dsv_algebra.specs.Floor.{floor_of}
 use Rattle.dsv_algebra.specs.Narrow.{narrow_limit, narrow_of}
 use Rattle.dsv_word.proofs.Floors.{rest_within}
+use Rattle.dsv_word.specs.Width.{widest_word}
 use Rattle.dsv_netlist.specs.Nodes.{at}
 use Rattle.dsv_linear.specs.declared.range.Range.{Range}
 use Rattle.dsv_linear.specs.Forms.{range, range_at, entries, total, least, greatest, least_term, greatest_term, least_factor, greatest_factor, quotients, rests}
 use Rattle.dsv_linear.specs.Divisions.{division}
+use Rattle.dsv_linear.proofs.Numbers.{least_up, greatest_up}
 use Rattle.dsv_linear.proofs.Meanings.{AreEntries, entries_are}
 use Rattle.dsv_linear.proofs.SmallSums.{IsSum, narrow_same, short_size}
 
@@ -39,22 +41,19 @@ total_same zero f g h = refl
 total_same (suc n) f g h = rw (total_same n f g (λ j p. h j (omega arith)), h n (omega arith)) refl
 
 -- ---- what is left
-not_negative : (m : ℕ) → int_lt (pos m) (pos 0) ≡ false
-not_negative m = search rules
-
 rest_low : (v x : ℤ) (d : ℕ) (r : Range) → 0 < d → x ≡ int_rem_euclid v (pos d) → x *ℤ least_factor x r ≡ int_rem_euclid v (pos d) *ℤ r.low
 rest_low v x d r p e =
     let w = rest_within v d p in
     let same : x ≡ pos w.0 = e ∙ w.1 in
-    rw (same, w.1) (ap (λ b. pos w.0 *ℤ (if b then r.high else r.low)) (not_negative w.0))
+    rw (same, w.1) (ap (λ t. pos w.0 *ℤ t) (least_up w.0 r))
 
 rest_high : (v x : ℤ) (d : ℕ) (r : Range) → 0 < d → x ≡ int_rem_euclid v (pos d) → x *ℤ greatest_factor x r ≡ int_rem_euclid v (pos d) *ℤ r.high
 rest_high v x d r p e =
     let w = rest_within v d p in
     let same : x ≡ pos w.0 = e ∙ w.1 in
-    rw (same, w.1) (ap (λ b. pos w.0 *ℤ (if b then r.low else r.high)) (not_negative w.0))
+    rw (same, w.1) (ap (λ t. pos w.0 *ℤ t) (greatest_up w.0 r))
 
-rest_size : (v : ℤ) (d : ℕ) → 0 < d → d ≤ 2 ^ 40 → unsigned_abs (int_rem_euclid v (pos d)) < narrow_limit
+rest_size : (v : ℤ) (d : ℕ) → 0 < d → d ≤ 2 ^ widest_word → unsigned_abs (int_rem_euclid v (pos d)) < narrow_limit
 rest_size v d p q = let w = rest_within v d p in rw w.1 (omega (arith, w.2))
 
 made : (ranges : List Range) (d : ℕ) (list qs rs : List ℤ) (low high : ℤ) → quotients (length ranges) d list ≡ Some qs → rests (length ranges) d list ≡ Some rs
@@ -62,7 +61,7 @@ made : (ranges : List Range) (d : ℕ) (list qs rs : List ℤ) (low high : ℤ) 
 made ranges d list qs rs low high q r l g = rw (q, r, l, g) refl
 
 -- the division, by its sums
-pub division_made : (ranges : List Range) (d : ℕ) (list qs : List ℤ) (j : ℕ) (low high : ℤ) → 0 < d → d ≤ 2 ^ 40 → j ≡ length ranges
+pub division_made : (ranges : List Range) (d : ℕ) (list qs : List ℤ) (j : ℕ) (low high : ℤ) → 0 < d → d ≤ 2 ^ widest_word → j ≡ length ranges
     → entries j (λ i. floor_of (at list i) d) ≡ Some qs → IsSum (low_term ranges d list) j low → IsSum (high_term ranges d list) j high
     → division ranges d list ≡ Some (record { quotients = qs; rests = range low high })
 division_made ranges d list qs j low high p q e h l g =

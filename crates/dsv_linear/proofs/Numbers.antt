@@ -1,6 +1,6 @@
 -- Orders of products, sums that are compared term by term, and stages that gave something.
-use Rattle.std.proofs.Common.{◌≡◌, ℕ, zero, suc, ◌<◌, Bool, true, false, if◌then◌else◌, [], ◌∷◌, refl, arith}
-use Rattle.std.specs.Prelude.{Option, Some, None}
+use Rattle.std.proofs.Common.{◌≡◌, ℕ, zero, suc, ◌<◌, Bool, true, false, if◌then◌else◌, [], ◌∷◌, refl, ap, arith, rules}
+use Rattle.std.specs.Prelude.{Option, Some, None, int_lt}
 use Rattle.std.proofs.Math.IntN.{ℤ, pos, ◌-ℤ◌, ◌*ℤ◌, neg_ℤ}
 use Rattle.std.proofs.lemmas.Int.{ints}
 use lib.Signed.{◌<ℤ◌, ◌≤ℤ◌}
@@ -8,7 +8,8 @@ use Rattle.dsv_algebra.proofs.Normaliser.{ring, env, var, num, plus, times, minu
 use Rattle.dsv_algebra.proofs.Signs.{mul_not_negative, not_negative_factor}
 use Rattle.dsv_algebra.specs.Narrow.{is_narrow, narrow_of}
 use Rattle.dsv_algebra.specs.Vectors.{sum_to}
-use Rattle.dsv_linear.specs.Forms.{◌>>=◌}
+use Rattle.dsv_linear.specs.declared.range.Range.{Range}
+use Rattle.dsv_linear.specs.Forms.{◌>>=◌, least_factor, greatest_factor}
 
 spread : (a x y : ℤ) → a *ℤ (y -ℤ x) ≡ a *ℤ y -ℤ a *ℤ x
 spread a x y = let p = var 0 in let q = var 1 in let r = var 2 in
@@ -44,6 +45,16 @@ sum_le zero f g h = omega (arith, ints)
 sum_le (suc n) f g h =
     let a = sum_le n f g (λ j p. h j (omega arith)) in
     let b = h n (omega arith) in omega (arith, ints)
+
+-- ---- products of a number that isn't negative with a range
+not_negative : (n : ℕ) → int_lt (pos n) (pos 0) ≡ false
+not_negative n = search rules
+
+pub least_up : (n : ℕ) (r : Range) → least_factor (pos n) r ≡ r.low
+least_up n r = ap (λ b. if b then r.high else r.low) (not_negative n)
+
+pub greatest_up : (n : ℕ) (r : Range) → greatest_factor (pos n) r ≡ r.high
+greatest_up n r = ap (λ b. if b then r.low else r.high) (not_negative n)
 
 -- ---- stages
 pub some_of : {A B : Type 0} (o : Option A) (f : A → Option B) (y : B) → (o >>= f) ≡ Some y → (x : A) × (o ≡ Some x) × (f x ≡ Some y)

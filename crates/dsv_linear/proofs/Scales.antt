@@ -1,8 +1,8 @@
 -- The scales as numbers.
-use Rattle.std.proofs.Common.{◌≡◌, ℕ, ◌*◌, ◌^◌, ◌<◌, ◌≤◌, refl, arith}
-use Rattle.std.proofs.Math.Nat.{pow-le-pow_right}
+use Rattle.std.proofs.Common.{◌≡◌, ℕ, ◌*◌, ◌^◌, ◌<◌, refl}
 use Rattle.std.proofs.lemmas.Nat.{pow_pos}
 use Rattle.std.proofs.Math.IntN.{pos}
+use Rattle.dsv_word.proofs.Powers.{power_small}
 use Rattle.dsv_linear.specs.Forms.{scale, range_scale}
 
 pub scale_is : 1099511627776 ≡ scale
@@ -25,10 +25,11 @@ pub range_scale_is-integer : pos 1048576 ≡ pos range_scale
 unfolding range_scale
 range_scale_is-integer = refl
 
-pub ruleset scales = (scale_is, range_scale_is, scale_is-integer, range_scale_is-integer, full_scale_is)
+pub full_scale_is-integer : pos 1152921504606846976 ≡ pos (scale * range_scale)
+unfolding scale range_scale
+full_scale_is-integer = refl
 
-pub power_small : (n : ℕ) → n ≤ 40 → 2 ^ n ≤ 2 ^ 40
-power_small n h = pow-le-pow_right (omega arith) h
+pub ruleset scales = (scale_is, range_scale_is, scale_is-integer, range_scale_is-integer, full_scale_is, full_scale_is-integer)
 
 pub power_positive : (n : ℕ) → 0 < 2 ^ n
 power_positive n = pow_pos n

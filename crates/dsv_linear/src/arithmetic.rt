@@ -3,7 +3,7 @@
 // Where all coefficients have 64 bits, a sum or a difference is tried in 64 bits first.
 ghost use Rattle.std.specs.Prelude.{◌≡◌, ◌*ℤ◌, length, IfOk, IfSome, Some};
 ghost use Rattle.dsv_netlist.specs.Nodes.{at};
-ghost use Rattle.dsv_linear.specs.Forms.{scale, sums, differences, products, unit, longer};
+ghost use Rattle.dsv_linear.specs.Forms.{sums, differences, products, unit, longer};
 
 use crate::SCALE;
 use crate::form::{Form, room_for, short_number};

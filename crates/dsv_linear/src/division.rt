@@ -1,8 +1,9 @@
 // The coefficients of a form, divided by a power of two.
-ghost use Rattle.std.specs.Prelude.{◌≡◌, ◌<◌, ◌≤◌, ◌^◌, length, pos, IfOk, IfSome, Some};
+ghost use Rattle.std.specs.Prelude.{◌≡◌, ◌<◌, ◌≤◌, ◌^◌, pos, IfOk, IfSome, Some};
 ghost use Rattle.std.specs.Int.{int_rem_euclid};
 ghost use Rattle.dsv_algebra.specs.Floor.{floor_of};
 ghost use Rattle.dsv_algebra.specs.Narrow.{narrow_of};
+ghost use Rattle.dsv_word.specs.Width.{widest_word};
 ghost use Rattle.dsv_netlist.specs.Nodes.{at};
 ghost use Rattle.dsv_linear.specs.Forms.{quotients, rests};
 ghost use Rattle.dsv_linear.specs.Divisions.{division};
@@ -77,7 +78,7 @@ struct Parts {
 /// The quotient by a power of two, rounded down.
 #[tactic(auto, using(crate::proofs::Shifts::shifts))]
 fn lower_number(v: NarrowInteger, bits: u32) -> NarrowInteger
-    requires { bits ≤ 40 }
+    requires { bits ≤ widest_word }
     ensures { result ≡ floor_of v (2 ^ bits) }
 {
     NarrowInteger::from(v.get() >> bits)
@@ -85,7 +86,7 @@ fn lower_number(v: NarrowInteger, bits: u32) -> NarrowInteger
 
 /// What is left of a number that is divided by a power of two.
 fn rest_of(v: NarrowInteger, bits: u32) -> NarrowInteger
-    requires { bits ≤ 40 }
+    requires { bits ≤ widest_word }
     ensures { result ≡ int_rem_euclid v (pos (2 ^ bits)) }
 {
     NarrowInteger::from(v.get().rem_euclid(i128::from(power(bits))))
@@ -93,7 +94,7 @@ fn rest_of(v: NarrowInteger, bits: u32) -> NarrowInteger
 
 /// The parts of a number.
 fn parts_of(v: NarrowInteger, bits: u32) -> Option<Parts>
-    requires { bits ≤ 40 }
+    requires { bits ≤ widest_word }
     ensures { IfSome result (λ parts. (parts.quotient ≡ floor_of v (2 ^ bits))
         × ((parts.rest ≡ int_rem_euclid v (pos (2 ^ bits))) × IsSmall parts.rest)) }
 {
@@ -121,7 +122,7 @@ fn small_division(
     ranges: &[Range],
     list: &[NarrowInteger],
 ) -> Result<Option<Division>, NoMemory>
-    requires { bits ≤ 40 }
+    requires { bits ≤ widest_word }
     ensures { IfOk result (λ found. IfSome found
         (λ it. division ranges.now (2 ^ bits) list.now ≡ Some it)) }
 {
@@ -179,7 +180,7 @@ pub(crate) fn division_of(
     ranges: &[Range],
     form: &Form,
 ) -> Result<Option<Division>, NoMemory>
-    requires { bits ≤ 40 }
+    requires { bits ≤ widest_word }
     ensures { IfOk result (λ found. found ≡ division ranges.now (2 ^ bits) form.now) }
 {
     if let Some(list) = form.as_wide() {

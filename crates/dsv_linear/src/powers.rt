@@ -1,5 +1,6 @@
 // Powers of two.
 ghost use Rattle.std.specs.Prelude.{◌≡◌, ◌<◌, ◌≤◌, ◌^◌, pos};
+ghost use Rattle.dsv_word.specs.Width.{widest_word};
 
 use dsv_algebra::NarrowInteger;
 use dsv_word::Format;
@@ -7,10 +8,10 @@ use dsv_word::Format;
 /// Two to that power.
 #[tactic(auto, using(crate::proofs::Scales::powers))]
 pub(crate) fn power(bits: u32) -> u64
-    requires { bits ≤ 40 }
+    requires { bits ≤ widest_word }
     ensures value { result ≡ 2 ^ bits }
     ensures positive { 0 < result }
-    ensures small { result ≤ 2 ^ 40 }
+    ensures small { result ≤ 2 ^ widest_word }
 {
     1u64 << bits
 }

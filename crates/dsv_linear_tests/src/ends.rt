@@ -54,15 +54,15 @@ const WIDE_DIFFERENCE: &[Node] = &[
 
 /// A netlist, its rounding, the range of its inputs, the samples, and the fact of each exact value.
 #[derive(Clone, Copy)]
-struct Row {
-    nodes: &'static [Node],
-    next: &'static [u32],
-    output: u32,
-    rounding: Rounding,
-    low: i64,
-    high: i64,
-    samples: u32,
-    facts: &'static [Fact],
+pub(crate) struct Row {
+    pub nodes: &'static [Node],
+    pub next: &'static [u32],
+    pub output: u32,
+    pub rounding: Rounding,
+    pub low: i64,
+    pub high: i64,
+    pub samples: u32,
+    pub facts: &'static [Fact],
 }
 
 // An error of the sum is a quarter of one from -3 to 0. The first output is x(0) + (e - f) / 4,
@@ -268,17 +268,17 @@ const ROWS: [Row; 18] = [
     },
 ];
 
-/// The netlist of a row.
-fn netlist(alloc: Global, row: &Row) -> Option<Netlist> {
+/// The netlist of a row, in words of so many bits before and after the point.
+fn netlist(alloc: Global, row: &Row, int_bits: u32, frac_bits: u32) -> Option<Netlist> {
     let nodes = Vec::from_slice(alloc, row.nodes).ok()?;
     let next = Vec::from_slice(alloc, row.next).ok()?;
-    let format = Format::new(2, 2, row.rounding, OverflowMode::Wrap).ok()?;
+    let format = Format::new(int_bits, frac_bits, row.rounding, OverflowMode::Wrap).ok()?;
     Netlist::new(nodes, next, row.output, 0, format)
 }
 
 /// Whether the facts of a row are these.
-fn are_right(alloc: Global, row: &Row) -> Option<bool> {
-    let net = netlist(alloc, row)?;
+fn are_right(alloc: Global, row: &Row, int_bits: u32, frac_bits: u32) -> Option<bool> {
+    let net = netlist(alloc, row, int_bits, frac_bits)?;
     let facts = facts_of(alloc, &net, row.low, row.high, row.samples).ok()?;
     let list = facts.as_slice();
     let mut met = list.len() == row.facts.len();
@@ -288,13 +288,18 @@ fn are_right(alloc: Global, row: &Row) -> Option<bool> {
     Some(met)
 }
 
+/// Whether the facts of all rows are these.
+pub(crate) fn all_right(alloc: Global, rows: &[Row], int_bits: u32, frac_bits: u32) -> bool {
+    let mut met = true;
+    for row in rows {
+        met = met && are_right(alloc, row, int_bits, frac_bits) == Some(true);
+    }
+    met
+}
+
 #[test]
 fn facts_are_those_by_hand(rt: HostRuntime) -> Result<(), Fail> {
     let alloc = rt.alloc();
-    let mut met = true;
-    for row in &ROWS {
-        met = met && are_right(alloc, row) == Some(true);
-    }
-    assert!(rt; met);
+    assert!(rt; all_right(alloc, &ROWS, 2, 2));
     Ok(())
 }

@@ -5,4 +5,6 @@
 #[cfg(test)]
 mod ends;
 #[cfg(test)]
+mod fine_ends;
+#[cfg(test)]
 mod runs;

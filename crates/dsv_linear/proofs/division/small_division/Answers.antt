@@ -2,6 +2,7 @@ use Rattle.std.proofs.Common.{◌≡◌, ℕ, ◌<◌, ◌^◌, SFits, sym, ap, 
 use Rattle.std.specs.Int.{w64, int_rem_euclid}
 use Rattle.std.proofs.Math.IntN.{pos}
 use Rattle.dsv_algebra.specs.Floor.{floor_of}
+use Rattle.dsv_word.proofs.Powers.{power_small}
 use Rattle.dsv_netlist.specs.Nodes.{at}
 use Rattle.dsv_linear.specs.declared.range.Range.{Range}
 use Rattle.dsv_linear.specs.Forms.{range, range_at}
@@ -9,7 +10,7 @@ use Rattle.dsv_linear.specs.SmallNumbers.{most_terms, IsSmall}
 use Rattle.dsv_linear.proofs.Passes.{other_default}
 use Rattle.dsv_linear.proofs.SmallSums.{sum_more, times_same}
 use Rattle.dsv_linear.proofs.Divisions.{low_term, high_term, entries_more, division_made}
-use Rattle.dsv_linear.proofs.Scales.{power_positive, power_small}
+use Rattle.dsv_linear.proofs.Scales.{power_positive}
 use Rattle.dsv_linear.proofs.division.small_division.Goals as goal
 
 pub loop-j-preserved : goal.loop-j-preserved
