@@ -17,7 +17,7 @@ use Rattle.dsv_forms.proofs.Alike.{corner_row}
 use lib.Signed.{◌<ℤ◌}
 use Rattle.dsv_certfile.specs.Lawful.{IsWhole, AreWhole, IsForm, AreSquares, IsOffer, certificate_alone}
 use Rattle.dsv_certfile.specs.Limits.{most_places}
-use Rattle.dsv_certfile.specs.Texts.{Line, line_text, version_line, job_line, kind_line, word_line, certificate_text, numbers_line, rows_lines, square_lines, squares_head, squares_lines, falls_lines}
+use Rattle.dsv_certfile.specs.Texts.{Line, line_text, head_lines, kind_line, word_line, certificate_text, numbers_line, rows_lines, square_lines, squares_head, squares_lines, falls_lines}
 use Rattle.dsv_certfile.specs.Typed.{IsTypedMatrix, IsTypedFactor, AreTypedSquares, IsTypedOffer}
 use Rattle.dsv_certfile.specs.declared.certificate.Certificate.TheVariants as certificate
 use Rattle.dsv_certfile.specs.declared.job.CertifiedJob.{CertifiedJob}
@@ -70,7 +70,7 @@ falls_lines_alone offer t h k l =
 pub falls_text_alone : (job : CertifiedJob) (offer : Falls) → IsTypedOffer offer → offer.form.d ≤ most_places → IsNarrow offer
     → certificate_text (certificate_alone (certificate.Falls job offer)) ≡ certificate_text (certificate.Falls job offer)
 falls_text_alone job offer t h n =
-    ap (λ (ls : List Line). flat_map line_text (version_line ∷ job_line job ∷ kind_line kind.Falls (offer.form.d ∷ []) ∷ (ls ++ word_line keyword.End ∷ [])))
+    ap (λ (ls : List Line). flat_map line_text (head_lines job ++ kind_line kind.Falls (offer.form.d ∷ []) ∷ (ls ++ word_line keyword.End ∷ [])))
     (falls_lines_alone offer t h (omega (arith, n.positive.count, h)) (omega (arith, n.fall.count, h)))
 
 -- ---- what is written is in range

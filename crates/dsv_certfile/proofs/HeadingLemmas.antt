@@ -8,6 +8,7 @@ use Rattle.dsv_names.specs.declared.rounding.Rounding.{Rounding}
 use Rattle.dsv_names.specs.declared.overflow_mode.OverflowMode.{OverflowMode}
 use Rattle.dsv_certfile.specs.Headings.{piece_at, of_job, head_in}
 use Rattle.dsv_certfile.specs.declared.fault.TextFault.{TextFault}
+use Rattle.dsv_certfile.specs.declared.job.CertWords.TheVariants as words
 use Rattle.dsv_certfile.specs.declared.job.CertifiedJob.{CertifiedJob}
 use Rattle.dsv_certfile.specs.declared.job.Size.{Size}
 use Rattle.dsv_certfile.specs.declared.kind.Kind.{Kind}
@@ -27,7 +28,7 @@ abbrev pub job_from : Result (Unit {0}) TextFault → Result Property TextFault 
     → Result OverflowMode TextFault → Result Size TextFault → Result CertifiedJob TextFault
 job_from b p r o m s =
     b >>= λ _. p >>= λ p. r >>= λ r. o >>= λ o. m >>= λ m. s >>= λ s.
-    Ok (record { property = p; design = record { realisation = r; rounding = o; overflow = m }; size = s })
+    Ok (record { property = p; design = record { realisation = r; rounding = o; overflow = m }; words = words.Unsaid; size = s })
 
 pub no_mode : (b : Result (Unit {0}) TextFault) (p : Result Property TextFault) (r : Result Realisation TextFault) (o : Result Rounding TextFault)
     (m : Result OverflowMode TextFault) (s : Result Size TextFault) (x : Property) (y : Realisation) (z : Rounding) (why : TextFault)
@@ -42,7 +43,7 @@ no_size b p r o m s x y z w why hb hp hr ho hm hs = rw (hb, hp, hr, ho, hm, hs) 
 pub whole_job : (b : Result (Unit {0}) TextFault) (p : Result Property TextFault) (r : Result Realisation TextFault) (o : Result Rounding TextFault)
     (m : Result OverflowMode TextFault) (s : Result Size TextFault) (x : Property) (y : Realisation) (z : Rounding) (w : OverflowMode) (v : Size)
     → b ≡ Ok tt → p ≡ Ok x → r ≡ Ok y → o ≡ Ok z → m ≡ Ok w → s ≡ Ok v
-    → job_from b p r o m s ≡ Ok (record { property = x; design = record { realisation = y; rounding = z; overflow = w }; size = v })
+    → job_from b p r o m s ≡ Ok (record { property = x; design = record { realisation = y; rounding = z; overflow = w }; words = words.Unsaid; size = v })
 whole_job b p r o m s x y z w v hb hp hr ho hm hs = rw (hb, hp, hr, ho, hm, hs) refl
 
 -- ---- the kind line

@@ -4,7 +4,7 @@ use Rattle.std.proofs.lemmas.Result.{IfOk-at_ok}
 use Rattle.dsv_text.specs.Stages.{◌>>=◌}
 use Rattle.dsv_certfile.specs.Answers.{Reading}
 use Rattle.dsv_certfile.specs.Bodies.{whole_text, word_in, invariant_in, falls_in}
-use Rattle.dsv_certfile.specs.Lawful.{IsSize, IsLog, IsOffer, IsLawful}
+use Rattle.dsv_certfile.specs.Lawful.{IsSize, IsWords, IsLog, IsOffer, IsLawful}
 use Rattle.dsv_certfile.specs.Pieces.{TextLines, unended, line, all_lines}
 use Rattle.dsv_certfile.specs.Reading.{heading_in, body_in, certificate_in}
 use Rattle.dsv_certfile.specs.Steps.{log_in}
@@ -21,16 +21,16 @@ use Rattle.dsv_certfile.proofs.LawfulHeadings.{IsHeadFor, IsHeading, yields_head
 use Rattle.dsv_certfile.proofs.LawfulParts.{then_has, Yields, yields_made}
 use Rattle.dsv_certfile.proofs.LawfulSteps.{yields_log}
 
-yields_body : (job : CertifiedJob) (h : KindHead) → IsSize job.size → IsHeadFor job h → Yields (body_in job h) IsLawful
-yields_body job head.Hints s e =
-    yields_made (log_in keyword.End) (certificate.Hints job) IsLog IsLawful (yields_log keyword.End) (λ log l. (record { size = s; belongs = e }, l))
-yields_body job (head.Invariant depth count) s e =
+yields_body : (job : CertifiedJob) (h : KindHead) → IsSize job.size → IsWords job.words → IsHeadFor job h → Yields (body_in job h) IsLawful
+yields_body job head.Hints s w e =
+    yields_made (log_in keyword.End) (certificate.Hints job) IsLog IsLawful (yields_log keyword.End) (λ log l. (record { size = s; words = w; belongs = e }, l))
+yields_body job (head.Invariant depth count) s w e =
     yields_made (invariant_in depth count) (λ i. certificate.Invariant job i.candidate i.logs) IsProof IsLawful (yields_invariant depth count e.1 e.2)
-    (λ i p. (record { size = s; belongs = e.0 }, p.0, p.1))
-yields_body job (head.Gain depth) s e =
-    yields_made (word_in keyword.End) (λ _. certificate.Gain job depth) (λ _. Unit {0}) IsLawful (yields_word keyword.End) (λ _ _. (record { size = s; belongs = e.0 }, e.1))
-yields_body job (head.Falls d) s e =
-    yields_made (falls_in d) (certificate.Falls job) IsOffer IsLawful (yields_falls d e.1) (λ offer o. (record { size = s; belongs = e.0 }, o))
+    (λ i p. (record { size = s; words = w; belongs = e.0 }, p.0, p.1))
+yields_body job (head.Gain depth) s w e =
+    yields_made (word_in keyword.End) (λ _. certificate.Gain job depth) (λ _. Unit {0}) IsLawful (yields_word keyword.End) (λ _ _. (record { size = s; words = w; belongs = e.0 }, e.1))
+yields_body job (head.Falls d) s w e =
+    yields_made (falls_in d) (certificate.Falls job) IsOffer IsLawful (yields_falls d e.1) (λ offer o. (record { size = s; words = w; belongs = e.0 }, o))
 
 whole_text_has : (c : Certificate) (n : ℕ) (ls : TextLines) → IsLawful c → IfOk (whole_text c n ls) IsLawful
 whole_text_has c n (unended []) h = h
@@ -43,7 +43,7 @@ certificate_has bytes =
     (λ (h : Reading Heading). body_in h.value.job h.value.kind h.left >>= λ body. whole_text body.value body.left.number body.left.lines)
     (λ h. IsHeading h.value) IsLawful (yields_heading (all_lines bytes))
     (λ h k. then_has (body_in h.value.job h.value.kind h.left) (λ (b : Reading Certificate). whole_text b.value b.left.number b.left.lines)
-    (λ b. IsLawful b.value) IsLawful (yields_body h.value.job h.value.kind k.size k.kind h.left)
+    (λ b. IsLawful b.value) IsLawful (yields_body h.value.job h.value.kind k.size k.words k.kind h.left)
     (λ b l. whole_text_has b.value b.left.number b.left.lines l))
 
 pub read_is_lawful : (bytes : List ℕ) (c : Certificate) → certificate_in bytes ≡ Ok c → IsLawful c

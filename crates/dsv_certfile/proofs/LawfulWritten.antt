@@ -27,7 +27,7 @@ refutation_is_lawful f conflicts log t r = log_is_lawful log t (accepted_ids f l
 
 pub hints_are_lawful : (f : FormulaView) (conflicts : ℕ) (job : CertifiedJob) (log : List Step) → is_kind_of job kind.Hints ≡ true → IsTyped (certificate.Hints job log) → IsRefutation f conflicts log
     → IsLawful (certificate.Hints job log)
-hints_are_lawful f conflicts job log b t r = (record { size = t.size; belongs = b }, refutation_is_lawful f conflicts log t.body r)
+hints_are_lawful f conflicts job log b t r = (record { size = t.size; words = t.words; belongs = b }, refutation_is_lawful f conflicts log t.body r)
 
 -- ---- an invariant
 -- each log refutes a formula
@@ -44,16 +44,16 @@ invariant_is_lawful registers conflicts base step safe job candidate logs b t sh
       step = refutation_is_lawful step conflicts logs.step t.body.1.step r.of_step;
       safe = refutation_is_lawful safe conflicts logs.safe t.body.1.safe r.of_safe;
     } in
-    (record { size = t.size; belongs = b }, set_is_lawful registers candidate t.body.0 shaped, are)
+    (record { size = t.size; words = t.words; belongs = b }, set_is_lawful registers candidate t.body.0 shaped, are)
 
 -- ---- a gain
 pub gain_is_lawful : (job : CertifiedJob) (depth : ℕ) → is_kind_of job kind.Gain ≡ true → IsTyped (certificate.Gain job depth) → depth ≤ most_gain_depth → IsLawful (certificate.Gain job depth)
-gain_is_lawful job depth b t h = (record { size = t.size; belongs = b }, h)
+gain_is_lawful job depth b t h = (record { size = t.size; words = t.words; belongs = b }, h)
 
 -- ---- a form that falls
 pub falls_are_lawful : (c : List ℤ) (job : CertifiedJob) (offer : Falls) → is_kind_of job kind.Falls ≡ true → IsTyped (certificate.Falls job offer) → falls_refusal c offer ≡ None
     → IsLawful (certificate_alone (certificate.Falls job offer))
-falls_are_lawful c job offer b t e = (record { size = t.size; belongs = b }, offer_is_lawful offer t.body t.places (accepted_are_narrow c offer e))
+falls_are_lawful c job offer b t e = (record { size = t.size; words = t.words; belongs = b }, offer_is_lawful offer t.body t.places (accepted_are_narrow c offer e))
 
 pub falls_text : (c : List ℤ) (job : CertifiedJob) (offer : Falls) → IsTyped (certificate.Falls job offer) → falls_refusal c offer ≡ None
     → certificate_text (certificate_alone (certificate.Falls job offer)) ≡ certificate_text (certificate.Falls job offer)

@@ -107,13 +107,13 @@ sections-text a b c xs ys zs =
     six-parts (line_text a) (flat_map line_text xs) (line_text b) (flat_map line_text ys) (line_text c) (flat_map line_text zs)
     ∙ three_lists-text (a ∷ xs) (b ∷ ys) (c ∷ zs)
 
--- two lines, a third, a list of lines and a last line
-pub framed-text : (a b c d : Line) (xs : List Line)
-    → (line_text a ++ line_text b) ++ (line_text c ++ (flat_map line_text xs ++ line_text d)) ≡ flat_map line_text (a ∷ b ∷ c ∷ (xs ++ d ∷ []))
-framed-text a b c d xs =
+-- a list of lines, a line, another list and a last line
+pub framed-text : (hs : List Line) (c d : Line) (xs : List Line)
+    → flat_map line_text hs ++ (line_text c ++ (flat_map line_text xs ++ line_text d)) ≡ flat_map line_text (hs ++ c ∷ (xs ++ d ∷ []))
+framed-text hs c d xs =
     let e : flat_map line_text xs ++ line_text d ≡ flat_map line_text (xs ++ d ∷ []) =
     ap (λ t. flat_map line_text xs ++ t) (sym (append-nil (line_text d))) ∙ sym (flat_map-append line_text xs (d ∷ [])) in
-    append_assoc (line_text a) (line_text b) (line_text c ++ (flat_map line_text xs ++ line_text d)) ∙ ap (λ t. line_text a ++ (line_text b ++ (line_text c ++ t))) e
+    ap (λ t. flat_map line_text hs ++ (line_text c ++ t)) e ∙ sym (flat_map-append line_text hs (c ∷ (xs ++ d ∷ [])))
 
 -- ---- the first rows
 -- at most so many of a list of so many

@@ -1,5 +1,6 @@
--- The three first lines of a certificate are read back.
-use Rattle.std.proofs.Common.{◌≡◌, ◌∙◌, ap, ℕ, true, false, List, [], ◌∷◌, map, decimal, Option, Some, Result, Ok, ℤ, refl, arith}
+-- The lines that a certificate begins with are read back.
+use Rattle.std.proofs.Common.{◌≡◌, ◌∙◌, ap, ℕ, true, false, List, [], ◌∷◌, map, codes, decimal, Option, Some, Result, Ok, ℤ, pos, refl, arith}
+use Rattle.std.specs.List.{All}
 use Rattle.std.specs.Str.{bytes_eq}
 use Rattle.std.proofs.lemmas.List.Elements.{All-cons, All-nil}
 use Rattle.dsv_text.specs.Stages.{◌>>=◌}
@@ -19,22 +20,30 @@ use Rattle.dsv_names.specs.declared.realisation.Realisation.{Realisation}
 use Rattle.dsv_names.specs.declared.realisation.Realisation.TheVariants as realisation
 use Rattle.dsv_names.specs.declared.rounding.Rounding.{Rounding}
 use Rattle.dsv_names.specs.declared.rounding.Rounding.TheVariants as rounding
-use Rattle.dsv_certfile.specs.Headings.{or_kind, beginning, name_in, size_in, job_in, line_job, of_job, head_in, head_with, kind_in, line_kind, kind_places}
+use Rattle.dsv_certfile.specs.Headings.{or_kind, version_in, beginning, name_in, size_in, job_in, line_job, count_at, format_places, line_format, of_job, head_in, head_with, kind_in, line_kind, kind_places}
 use Rattle.dsv_certfile.specs.Keywords.{keyword_text, unbounded_text}
 use Rattle.dsv_certfile.specs.Kinds.{kind_name, kinds, is_kind_of}
-use Rattle.dsv_certfile.specs.Lawful.{IsSize}
-use Rattle.dsv_certfile.specs.Texts.{size_pieces, job_line, kind_line}
+use Rattle.dsv_certfile.specs.Lawful.{IsSize, IsWords}
+use Rattle.dsv_certfile.specs.Limits.{greatest_int_bits, greatest_frac_bits}
+use Rattle.dsv_certfile.specs.Reading.{words_in}
+use Rattle.dsv_certfile.specs.Texts.{version_line, size_pieces, job_line, format_line, format_lines, kind_line}
+use Rattle.dsv_certfile.specs.Words.{with_words}
 use Rattle.dsv_certfile.specs.declared.fault.TextFault.{TextFault}
+use Rattle.dsv_certfile.specs.declared.job.CertWords.{CertWords}
+use Rattle.dsv_certfile.specs.declared.job.CertWords.TheVariants as words
 use Rattle.dsv_certfile.specs.declared.job.CertifiedJob.{CertifiedJob}
 use Rattle.dsv_certfile.specs.declared.job.Size.{Size}
 use Rattle.dsv_certfile.specs.declared.job.Size.TheVariants as size
+use Rattle.dsv_certfile.specs.declared.job.Version.{Version}
+use Rattle.dsv_certfile.specs.declared.job.Version.TheVariants as version
 use Rattle.dsv_certfile.specs.declared.keyword.Keyword.TheVariants as keyword
 use Rattle.dsv_certfile.specs.declared.kind.Kind.{Kind}
 use Rattle.dsv_certfile.specs.declared.kind.Kind.TheVariants as kind
 use Rattle.dsv_certfile.proofs.HeadingLemmas.{whole_job}
 use Rattle.dsv_certfile.proofs.WrittenLines.{IsPlain, ArePlain, IsLine, line_bytes, pieces_of-line_bytes}
-use Rattle.dsv_certfile.proofs.WrittenNumbers.{samples_read, decimal_begins, decimal_plain, other_text}
-use Rattle.dsv_certfile.proofs.WrittenPlaces.{AreWritten, line_numbers-written}
+use Rattle.dsv_certfile.proofs.WrittenNumbers.{samples_read, positive_read, count_read, decimal_begins, decimal_plain, other_text}
+use Rattle.dsv_certfile.proofs.WrittenParts.{Takes, takes_line}
+use Rattle.dsv_certfile.proofs.WrittenPlaces.{AreWritten, line_numbers-written, numbers_of-line_bytes}
 
 -- ---- names are plain
 property_plain : (p : Property) → IsPlain (property_name p)
@@ -92,7 +101,7 @@ size_written (size.Samples k) h =
     rw (other, samples_read k h.0 h.1) refl
 size_written size.Unbounded h = refl
 
-job_written : (job : CertifiedJob) → IsSize job.size → job_in (job_line job) ≡ Ok job
+job_written : (job : CertifiedJob) → IsSize job.size → job_in (job_line job) ≡ Ok (with_words words.Unsaid job)
 job_written job h =
     let line = job_line job in
     whole_job (beginning (keyword_text keyword.Job) line) (name_in property_name properties line 1) (name_in realisation_name realisations line 2)
@@ -101,8 +110,43 @@ job_written job h =
     refl (ap or_kind (are_names-properties.found job.property)) (ap or_kind (are_names-realisations.found job.design.realisation))
     (ap or_kind (are_names-roundings.found job.design.rounding)) (ap or_kind (are_names-overflow_modes.found job.design.overflow)) (size_written job.size h)
 
-pub job_back : (job : CertifiedJob) → IsSize job.size → line_job (line_bytes (job_line job)) ≡ Ok job
+-- the job line says nothing of the words
+pub job_back : (job : CertifiedJob) → IsSize job.size → line_job (line_bytes (job_line job)) ≡ Ok (with_words words.Unsaid job)
 job_back job h = ap job_in (pieces_of-line_bytes (job_line job) (job_line-plain job h)) ∙ job_written job h
+
+-- ---- the format of the words
+abbrev pub version_of : CertWords → Version
+version_of words.Unsaid = version.One
+version_of (words.Said int_bits frac_bits) = version.Two
+
+pub version_plain : (w : CertWords) → IsLine (version_line w)
+version_plain words.Unsaid = All-cons IsPlain (codes "dsv-certificate") (codes "1" ∷ []) refl (All-cons IsPlain (codes "1") [] refl (All-nil IsPlain))
+version_plain (words.Said int_bits frac_bits) =
+    All-cons IsPlain (codes "dsv-certificate") (codes "2" ∷ []) refl (All-cons IsPlain (codes "2") [] refl (All-nil IsPlain))
+
+pub version_back : (w : CertWords) → version_in (line_bytes (version_line w)) ≡ Ok (version_of w)
+version_back words.Unsaid = refl
+version_back (words.Said int_bits frac_bits) = refl
+
+format_line-plain : (i f : ℕ) → IsWords (words.Said i f) → IsLine (format_line i f)
+format_line-plain i f h =
+    All-cons IsPlain (keyword_text keyword.Format) (decimal i ∷ decimal f ∷ []) refl
+    (All-cons IsPlain (decimal i) (decimal f ∷ []) (decimal_plain i (omega (arith, h.1)))
+    (All-cons IsPlain (decimal f) [] (decimal_plain f (omega (arith, h.2))) (All-nil IsPlain)))
+
+pub format_lines-plain : (w : CertWords) → IsWords w → All IsLine (format_lines w)
+format_lines-plain words.Unsaid h = All-nil IsLine
+format_lines-plain (words.Said i f) h = All-cons IsLine (format_line i f) [] (format_line-plain i f h) (All-nil IsLine)
+
+format_back : (i f : ℕ) → IsWords (words.Said i f) → line_format (line_bytes (format_line i f)) ≡ Ok (words.Said i f)
+format_back i f h =
+    ap (λ (r : Result (List ℤ) TextFault). r >>= λ zs. Ok (words.Said (count_at zs 0) (count_at zs 1)))
+    (numbers_of-line_bytes format_places (format_line i f) (pos i ∷ pos f ∷ []) (format_line-plain i f h)
+    (refl, (positive_read greatest_int_bits i (omega arith) h.0 h.1, (count_read greatest_frac_bits f (omega arith) h.2, tt))))
+
+pub takes_words : (w : CertWords) → IsWords w → Takes (words_in (version_of w)) w (format_lines w)
+takes_words words.Unsaid h = λ t n. (n, refl)
+takes_words (words.Said i f) h = takes_line line_format (format_line i f) (words.Said i f) (format_back i f h)
 
 -- ---- the kind line
 kind_found : (k : Kind) → value_named kind_name kinds (kind_name k) ≡ Some k

@@ -72,6 +72,7 @@ row_written r (z ∷ zs) h =
 -- ---- words
 pub keyword_plain : (w : Keyword) → IsPlain (keyword_text w)
 keyword_plain keyword.Job = refl
+keyword_plain keyword.Format = refl
 keyword_plain keyword.Kind = refl
 keyword_plain keyword.Inequality = refl
 keyword_plain keyword.Base = refl

@@ -107,6 +107,7 @@ begins_line byte p (q ∷ qs) some h = has_byte-append byte p (space ∷ line_by
 -- a text that begins with no other byte than a digit
 no_keyword : (w : Keyword) (text : List ℕ) → ((byte : ℕ) → is_digit byte ≡ false → has_byte byte text ≡ false) → bytes_eq text (keyword_text w) ≡ false
 no_keyword keyword.Job text h = other_text 106 (codes "ob") text (h 106 refl)
+no_keyword keyword.Format text h = other_text 102 (codes "ormat") text (h 102 refl)
 no_keyword keyword.Kind text h = other_text 107 (codes "ind") text (h 107 refl)
 no_keyword keyword.Inequality text h = other_text 105 (codes "neq") text (h 105 refl)
 no_keyword keyword.Base text h = other_text 98 (codes "ase") text (h 98 refl)

@@ -1,4 +1,4 @@
--- What follows the three first lines of a certificate.
+-- What follows the kind line of a certificate.
 use Rattle.std.specs.Prelude.{ℕ, zero, suc, ◌+◌, ◌-◌, List, [], ◌∷◌, ◌++◌, length, map, take}
 use Rattle.std.specs.Prelude.{drop, Result, Ok, Err, slice_index_or, ℤ, pos}
 use Rattle.dsv_text.specs.Stages.{◌>>=◌}

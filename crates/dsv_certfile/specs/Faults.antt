@@ -16,4 +16,5 @@ abbrev pub check_code_of : CheckFault → ℕ
 check_code_of check.Step = 6
 check_code_of check.Form = 7
 check_code_of check.Shape = 8
-check_code_of check.Gain = 10
+check_code_of check.Format = 10
+check_code_of check.Gain = 11

@@ -1,4 +1,5 @@
--- The three lines that each certificate begins with: the version, the job, the kind.
+-- The lines that each certificate begins with: the version, the job, the format of the words where
+-- the version says it, the kind.
 use Rattle.std.specs.Prelude.{ℕ, List, [], ◌∷◌, drop, Option, Some, None, Result}
 use Rattle.std.specs.Prelude.{Ok, Err, if◌then◌else◌, slice_index_or, ℤ, pos}
 use Rattle.std.specs.Str.{bytes_eq}
@@ -11,16 +12,21 @@ use Rattle.dsv_names.specs.Roundings.{rounding_name, roundings}
 use Rattle.dsv_names.specs.OverflowModes.{overflow_mode_name, overflow_modes}
 use Rattle.dsv_certfile.specs.Keywords.{keyword_text, version_text, unbounded_text}
 use Rattle.dsv_certfile.specs.Kinds.{kind_name, kinds, is_kind_of}
-use Rattle.dsv_certfile.specs.Limits.{greatest_depth, most_gain_depth, most_places}
+use Rattle.dsv_certfile.specs.Limits.{greatest_depth, greatest_int_bits, greatest_frac_bits}
+use Rattle.dsv_certfile.specs.Limits.{most_gain_depth, most_places}
 use Rattle.dsv_template.specs.Limits.{most_inequalities}
 use Rattle.dsv_certfile.specs.Numerals.{samples_of}
 use Rattle.dsv_certfile.specs.Pieces.{pieces_of}
 use Rattle.dsv_certfile.specs.Places.{line_numbers}
 use Rattle.dsv_certfile.specs.declared.fault.TextFault.{TextFault}
 use Rattle.dsv_certfile.specs.declared.fault.TextFault.TheVariants as fault
+use Rattle.dsv_certfile.specs.declared.job.CertWords.{CertWords}
+use Rattle.dsv_certfile.specs.declared.job.CertWords.TheVariants as words
 use Rattle.dsv_certfile.specs.declared.job.CertifiedJob.{CertifiedJob}
 use Rattle.dsv_certfile.specs.declared.job.Size.{Size}
 use Rattle.dsv_certfile.specs.declared.job.Size.TheVariants as size
+use Rattle.dsv_certfile.specs.declared.job.Version.{Version}
+use Rattle.dsv_certfile.specs.declared.job.Version.TheVariants as version
 use Rattle.dsv_certfile.specs.declared.keyword.Keyword.TheVariants as keyword
 use Rattle.dsv_certfile.specs.declared.kind.Kind.{Kind}
 use Rattle.dsv_certfile.specs.declared.kind.Kind.TheVariants as kind
@@ -31,8 +37,9 @@ use Rattle.dsv_certfile.specs.declared.places.Place.{Place}
 use Rattle.dsv_certfile.specs.declared.places.Place.TheVariants as place
 
 -- ---- the version
-abbrev pub version_in : List ℕ → Result (Unit {0}) TextFault
-version_in line = if bytes_eq line version_text then Ok tt else Err fault.Version
+abbrev pub version_in : List ℕ → Result Version TextFault
+version_in line = if bytes_eq line (version_text version.One) then Ok version.One
+    else (if bytes_eq line (version_text version.Two) then Ok version.Two else Err fault.Version)
 
 -- ---- the job
 -- a piece of a line; one that isn't there is empty, and so no name
@@ -73,7 +80,7 @@ size_in [] = Ok size.NoSize
 size_in (piece ∷ pieces) = size_of piece >>= λ s. whole_line s pieces
 
 -- the job line: `job`, the names of the property, the realisation, the rounding and the overflow
--- mode, and the size where there is one
+-- mode, and the size where there is one; it says nothing of the words
 abbrev pub job_in : List (List ℕ) → Result CertifiedJob TextFault
 job_in pieces =
     beginning (keyword_text keyword.Job) pieces >>= λ _.
@@ -85,12 +92,31 @@ job_in pieces =
     Ok (record {
       property = p;
       design = record { realisation = r; rounding = o; overflow = m };
+      words = words.Unsaid;
       size = s;
     })
 
 -- the job of a line
 abbrev pub line_job : List ℕ → Result CertifiedJob TextFault
 line_job bytes = job_in (pieces_of bytes)
+
+-- ---- the format of the words
+-- the line `format`, and how many bits stand before the point and after it
+abbrev pub format_places : List Place
+format_places = place.Word keyword.Format ∷ place.Number (range.Positive greatest_int_bits)
+    ∷ place.Number (range.UpTo greatest_frac_bits) ∷ []
+
+-- a number of a list that counts something
+abbrev pub count_at : List ℤ → ℕ → ℕ
+count_at numbers i = unsigned_abs (slice_index_or numbers i (pos 0))
+
+abbrev pub format_in : List (List ℕ) → Result CertWords TextFault
+format_in pieces = line_numbers format_places pieces >>= λ numbers.
+    Ok (words.Said (count_at numbers 0) (count_at numbers 1))
+
+-- the format of a line
+abbrev pub line_format : List ℕ → Result CertWords TextFault
+line_format bytes = format_in (pieces_of bytes)
 
 -- ---- the kind
 -- the numbers after a kind's name
@@ -100,10 +126,6 @@ kind_places kind.Invariant = place.Number (range.UpTo greatest_depth)
     ∷ place.Number (range.UpTo most_inequalities) ∷ []
 kind_places kind.Gain = place.Number (range.UpTo most_gain_depth) ∷ []
 kind_places kind.Falls = place.Number (range.UpTo most_places) ∷ []
-
--- a number of a list that counts something
-abbrev pub count_at : List ℤ → ℕ → ℕ
-count_at numbers i = unsigned_abs (slice_index_or numbers i (pos 0))
 
 abbrev pub head_with : Kind → List ℤ → KindHead
 head_with kind.Hints numbers = head.Hints

@@ -1,10 +1,13 @@
 -- The words that lines begin with, and their texts.
 use Rattle.std.specs.Prelude.{ℕ, List, codes}
+use Rattle.dsv_certfile.specs.declared.job.Version.{Version}
+use Rattle.dsv_certfile.specs.declared.job.Version.TheVariants as version
 use Rattle.dsv_certfile.specs.declared.keyword.Keyword.{Keyword}
 use Rattle.dsv_certfile.specs.declared.keyword.Keyword.TheVariants as keyword
 
 abbrev pub keyword_text : Keyword → List ℕ
 keyword_text keyword.Job = codes "job"
+keyword_text keyword.Format = codes "format"
 keyword_text keyword.Kind = codes "kind"
 keyword_text keyword.Inequality = codes "ineq"
 keyword_text keyword.Base = codes "base"
@@ -17,9 +20,10 @@ keyword_text keyword.Rest = codes "rest"
 keyword_text keyword.Fall = codes "fall"
 keyword_text keyword.End = codes "end"
 
--- the first line of each certificate
-abbrev pub version_text : List ℕ
-version_text = codes "dsv-certificate 1"
+-- the first line of each certificate of a version
+abbrev pub version_text : Version → List ℕ
+version_text version.One = codes "dsv-certificate 1"
+version_text version.Two = codes "dsv-certificate 2"
 
 -- the job line's last word, where there is no bound on the samples
 abbrev pub unbounded_text : List ℕ

@@ -15,11 +15,14 @@ use Rattle.dsv_template.specs.declared.candidate.Inequality.{Inequality}
 use Rattle.dsv_template.specs.declared.verdict.ThreeLogs.{ThreeLogs}
 use Rattle.dsv_certfile.specs.Kinds.{is_kind_of}
 use Rattle.dsv_certfile.specs.Limits.{greatest_whole, greatest_entry, greatest_id, greatest_literal}
+use Rattle.dsv_certfile.specs.Limits.{greatest_int_bits, greatest_frac_bits}
 use Rattle.dsv_certfile.specs.Limits.{greatest_depth, most_samples, most_places, most_squares}
 use Rattle.dsv_certfile.specs.Limits.{most_inequality_numbers, most_gain_depth}
 use Rattle.dsv_template.specs.Limits.{most_inequalities}
 use Rattle.dsv_certfile.specs.declared.certificate.Certificate.{Certificate}
 use Rattle.dsv_certfile.specs.declared.certificate.Certificate.TheVariants as certificate
+use Rattle.dsv_certfile.specs.declared.job.CertWords.{CertWords}
+use Rattle.dsv_certfile.specs.declared.job.CertWords.TheVariants as words
 use Rattle.dsv_certfile.specs.declared.job.CertifiedJob.{CertifiedJob}
 use Rattle.dsv_certfile.specs.declared.job.Size.{Size}
 use Rattle.dsv_certfile.specs.declared.job.Size.TheVariants as size
@@ -32,9 +35,15 @@ IsSize size.NoSize = Unit {0}
 IsSize (size.Samples k) = (1 ≤ k) × (k ≤ most_samples)
 IsSize size.Unbounded = Unit {0}
 
+abbrev pub IsWords : CertWords → Type 0
+IsWords words.Unsaid = Unit {0}
+IsWords (words.Said int_bits frac_bits) = (1 ≤ int_bits) × (int_bits ≤ greatest_int_bits)
+    × (frac_bits ≤ greatest_frac_bits)
+
 -- the job is one of this kind
 pub record IsJobOf (k : Kind) (job : CertifiedJob) : Type 0 where
   pub size : IsSize job.size
+  pub words : IsWords job.words
   pub belongs : is_kind_of job k ≡ true
 
 -- ---- logs

@@ -21,3 +21,4 @@ pub mod Steps
 pub mod TextCode
 pub mod Texts
 pub mod Typed
+pub mod Words

@@ -28,6 +28,18 @@ most_gain_depth = 1023
 abbrev pub most_samples : ℕ
 most_samples = 64
 
+-- the most bits of words whose certificates don't say the words' format
+abbrev pub narrow_word_bits : ℕ
+narrow_word_bits = 32
+
+-- the most bits before the point in a format that a certificate says; the least is 1
+abbrev pub greatest_int_bits : ℕ
+greatest_int_bits = 48
+
+-- the most bits after the point in a format that a certificate says
+abbrev pub greatest_frac_bits : ℕ
+greatest_frac_bits = 47
+
 -- the most places of a form
 abbrev pub most_places : ℕ
 most_places = 8

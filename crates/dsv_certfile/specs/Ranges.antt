@@ -9,6 +9,7 @@ use Rattle.dsv_certfile.specs.declared.places.Place.TheVariants as place
 
 abbrev pub IsOf : NumberRange → ℤ → Type 0
 IsOf (range.UpTo greatest) z = (pos 0 ≤ℤ z) × (unsigned_abs z ≤ greatest)
+IsOf (range.Positive greatest) z = (pos 1 ≤ℤ z) × (unsigned_abs z ≤ greatest)
 IsOf range.Entry z = unsigned_abs z ≤ greatest_entry
 IsOf range.Whole z = unsigned_abs z ≤ greatest_whole
 

@@ -3,25 +3,37 @@ use Rattle.std.specs.Prelude.{ℕ, List, Result, Ok}
 use Rattle.dsv_text.specs.Stages.{◌>>=◌}
 use Rattle.dsv_certfile.specs.Answers.{Reading, reading_of}
 use Rattle.dsv_certfile.specs.Bodies.{line_in, word_in, whole_text, falls_in, invariant_in}
-use Rattle.dsv_certfile.specs.Headings.{version_in, line_job, line_kind}
+use Rattle.dsv_certfile.specs.Headings.{version_in, line_job, line_format, line_kind}
 use Rattle.dsv_certfile.specs.Pieces.{LinesLeft, all_lines}
 use Rattle.dsv_certfile.specs.Steps.{log_in}
+use Rattle.dsv_certfile.specs.Words.{with_words}
 use Rattle.dsv_certfile.specs.declared.certificate.Certificate.{Certificate}
 use Rattle.dsv_certfile.specs.declared.certificate.Certificate.TheVariants as certificate
 use Rattle.dsv_certfile.specs.declared.fault.CertRefusal.{CertRefusal}
+use Rattle.dsv_certfile.specs.declared.job.CertWords.{CertWords}
+use Rattle.dsv_certfile.specs.declared.job.CertWords.TheVariants as words
 use Rattle.dsv_certfile.specs.declared.job.CertifiedJob.{CertifiedJob}
+use Rattle.dsv_certfile.specs.declared.job.Version.{Version}
+use Rattle.dsv_certfile.specs.declared.job.Version.TheVariants as version
 use Rattle.dsv_certfile.specs.declared.reader.Heading.{Heading}
 use Rattle.dsv_certfile.specs.declared.keyword.Keyword.TheVariants as keyword
 use Rattle.dsv_certfile.specs.declared.kind.KindHead.{KindHead}
 use Rattle.dsv_certfile.specs.declared.kind.KindHead.TheVariants as head
 
--- the version, the job and the kind
+-- what is said of the words: nothing, or the next line's format
+abbrev pub words_in : Version → LinesLeft → Result (Reading CertWords) CertRefusal
+words_in version.One ls = Ok (reading_of words.Unsaid ls)
+words_in version.Two ls = line_in line_format ls
+
+-- the version, the job with what is said of the words, and the kind
 abbrev pub heading_in : LinesLeft → Result (Reading Heading) CertRefusal
 heading_in ls =
-    line_in version_in ls >>= λ version.
-    line_in line_job version.left >>= λ job.
-    line_in (line_kind job.value) job.left >>= λ kind.
-    Ok (reading_of (record { job = job.value; kind = kind.value }) kind.left)
+    line_in version_in ls >>= λ first.
+    line_in line_job first.left >>= λ job.
+    words_in first.value job.left >>= λ said.
+    let whole = with_words said.value job.value in
+    line_in (line_kind whole) said.left >>= λ kind.
+    Ok (reading_of (record { job = whole; kind = kind.value }) kind.left)
 
 -- what follows the kind line, the last line of the certificate among it
 abbrev pub body_in : CertifiedJob → KindHead → LinesLeft → Result (Reading Certificate) CertRefusal

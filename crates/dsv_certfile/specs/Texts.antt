@@ -20,6 +20,8 @@ use Rattle.dsv_certfile.specs.Keywords.{keyword_text, unbounded_text, deletion_t
 use Rattle.dsv_certfile.specs.Kinds.{kind_name}
 use Rattle.dsv_certfile.specs.declared.certificate.Certificate.{Certificate}
 use Rattle.dsv_certfile.specs.declared.certificate.Certificate.TheVariants as certificate
+use Rattle.dsv_certfile.specs.declared.job.CertWords.{CertWords}
+use Rattle.dsv_certfile.specs.declared.job.CertWords.TheVariants as words
 use Rattle.dsv_certfile.specs.declared.job.CertifiedJob.{CertifiedJob}
 use Rattle.dsv_certfile.specs.declared.job.Size.{Size}
 use Rattle.dsv_certfile.specs.declared.job.Size.TheVariants as size
@@ -51,8 +53,10 @@ abbrev pub numbers_line : Keyword → List ℤ → Line
 numbers_line w numbers = keyword_text w ∷ map signed_decimal numbers
 
 -- ---- headings
-abbrev pub version_line : Line
-version_line = codes "dsv-certificate" ∷ codes "1" ∷ []
+-- version 1 where the format of the words isn't said, and version 2 where it is
+abbrev pub version_line : CertWords → Line
+version_line words.Unsaid = codes "dsv-certificate" ∷ codes "1" ∷ []
+version_line (words.Said int_bits frac_bits) = codes "dsv-certificate" ∷ codes "2" ∷ []
 
 abbrev pub size_pieces : Size → Line
 size_pieces size.NoSize = []
@@ -63,6 +67,20 @@ abbrev pub job_line : CertifiedJob → Line
 job_line job = keyword_text keyword.Job ∷ property_name job.property
     ∷ realisation_name job.design.realisation ∷ rounding_name job.design.rounding
     ∷ overflow_mode_name job.design.overflow ∷ size_pieces job.size
+
+-- how many bits stand before the point and after it
+abbrev pub format_line : ℕ → ℕ → Line
+format_line int_bits frac_bits =
+    keyword_text keyword.Format ∷ decimal int_bits ∷ decimal frac_bits ∷ []
+
+-- the line of the format, where it is said
+abbrev pub format_lines : CertWords → List Line
+format_lines words.Unsaid = []
+format_lines (words.Said int_bits frac_bits) = format_line int_bits frac_bits ∷ []
+
+-- the lines before that of the kind
+abbrev pub head_lines : CertifiedJob → List Line
+head_lines job = version_line job.words ∷ job_line job ∷ format_lines job.words
 
 -- a kind and numbers
 abbrev pub kind_line : Kind → List ℕ → Line
@@ -149,8 +167,8 @@ body_lines (certificate.Gain job depth) = []
 body_lines (certificate.Falls job offer) = falls_lines offer
 
 abbrev pub certificate_lines : Certificate → List Line
-certificate_lines c = version_line ∷ job_line (job_of c) ∷ kind_line_of c
-    ∷ (body_lines c ++ word_line keyword.End ∷ [])
+certificate_lines c =
+    head_lines (job_of c) ++ kind_line_of c ∷ (body_lines c ++ word_line keyword.End ∷ [])
 
 -- the whole text
 abbrev pub certificate_text : Certificate → List ℕ

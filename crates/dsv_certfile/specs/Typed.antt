@@ -8,7 +8,7 @@ use Rattle.dsv_forms.specs.declared.offers.Squares.{Squares}
 use Rattle.dsv_template.specs.declared.candidate.Candidate.{Candidate}
 use Rattle.dsv_template.specs.declared.candidate.Inequality.{Inequality}
 use Rattle.dsv_template.specs.declared.verdict.ThreeLogs.{ThreeLogs}
-use Rattle.dsv_certfile.specs.Lawful.{IsSize, IsLiteral}
+use Rattle.dsv_certfile.specs.Lawful.{IsSize, IsWords, IsLiteral}
 use Rattle.dsv_certfile.specs.Limits.{greatest_whole, greatest_id, most_places, most_squares}
 use Rattle.dsv_certfile.specs.Limits.{most_inequality_numbers}
 use Rattle.dsv_template.specs.Limits.{most_inequalities}
@@ -86,9 +86,10 @@ HasFewPlaces (certificate.Invariant job candidate logs) = Unit {0}
 HasFewPlaces (certificate.Gain job depth) = Unit {0}
 HasFewPlaces (certificate.Falls job offer) = offer.form.d ≤ most_places
 
--- what is known of each certificate that is written: the limits of its job's samples and of its
--- form's places, and what its types say
+-- what is known of each certificate that is written: the limits of its job's samples, of the words'
+-- format and of its form's places, and what its types say
 pub record IsTyped (c : Certificate) : Type 0 where
   pub size : IsSize (job_of c).size
+  pub words : IsWords (job_of c).words
   pub places : HasFewPlaces c
   pub body : IsTypedBody c

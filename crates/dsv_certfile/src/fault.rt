@@ -11,7 +11,7 @@ use thiserror::Error;
 /// `End` comes before all.
 #[derive(Clone, Copy, Debug, PartialEq, Eq, Error)]
 pub enum TextFault {
-    /// The first line isn't that of this version.
+    /// The first line isn't that of a version that is known.
     #[error("another version")]
     Version,
     /// The job line or the kind line has a name that is none, or the kind belongs to no such job.
@@ -56,6 +56,10 @@ pub enum CheckFault {
     /// of the polynomial, or there is none, or the kind belongs to no such job.
     #[error("a certificate of another shape than the controller's")]
     Shape,
+    /// The certificate says another format of the words than the controller has, or says none where
+    /// the controller's words have more than `NARROW_WORD_BITS` bits.
+    #[error("words of another format than the controller's")]
+    Format,
     /// Some range isn't known to be one of words at a gain's depth, nor before it.
     #[error("a depth at which the ranges aren't ones of words")]
     Gain,
@@ -70,7 +74,8 @@ impl CheckFault {
             CheckFault::Step => 6,
             CheckFault::Form => 7,
             CheckFault::Shape => 8,
-            CheckFault::Gain => 10,
+            CheckFault::Format => 10,
+            CheckFault::Gain => 11,
         }
     }
 }

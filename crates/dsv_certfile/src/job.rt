@@ -1,12 +1,14 @@
 // What a certificate is about, and its line.
 ghost use Rattle.std.specs.Prelude.{◌≡◌};
-ghost use Rattle.dsv_certfile.specs.Headings.{job_in, size_in, size_of, version_in};
+ghost use Rattle.dsv_certfile.specs.Headings.{format_in, job_in, size_in, size_of, version_in};
 ghost use Rattle.dsv_certfile.specs.Pieces.{pieces_of};
 
 use crate::fault::TextFault;
 use crate::keyword::{Keyword, is_unbounded, is_version};
-use crate::numbers::samples_of;
+use crate::limits::{GREATEST_FRAC_BITS, GREATEST_INT_BITS, NARROW_WORD_BITS};
+use crate::numbers::{NumberRange, samples_of};
 use crate::pieces::Pieces;
+use crate::places::{Place, read_numbers};
 use dsv_names::{Design, OverflowMode, Property, Realisation, Rounding};
 
 /// How many samples a job is about.
@@ -20,20 +22,67 @@ pub enum Size {
     Unbounded,
 }
 
+/// What a certificate says of the format of the controller's words.
+#[derive(Clone, Copy, Debug, PartialEq, Eq)]
+pub enum CertWords {
+    /// Nothing: they have at most `NARROW_WORD_BITS` bits.
+    Unsaid,
+    /// So many bits before the point, from 1 to 48, and after it, from 0 to 47.
+    Said { int_bits: u32, frac_bits: u32 },
+}
+
+impl CertWords {
+    ghost use Rattle.std.specs.Prelude.{◌≡◌, ◌≤◌};
+    ghost use Rattle.dsv_certfile.specs.Lawful.{IsWords};
+    ghost use Rattle.dsv_certfile.specs.Limits.{greatest_int_bits, greatest_frac_bits};
+    ghost use Rattle.dsv_certfile.specs.Words.{words_for};
+
+    /// What certificates of a controller say whose words have so many bits before the point and
+    /// after it.
+    pub fn of_format(int_bits: u32, frac_bits: u32) -> CertWords
+        ensures words { result ≡ words_for int_bits frac_bits }
+        ensures lawful { 1 ≤ int_bits → int_bits ≤ greatest_int_bits
+            → frac_bits ≤ greatest_frac_bits → IsWords result }
+    {
+        if u64::from(int_bits) + u64::from(frac_bits) <= u64::from(NARROW_WORD_BITS) {
+            CertWords::Unsaid
+        } else {
+            CertWords::Said {
+                int_bits,
+                frac_bits,
+            }
+        }
+    }
+}
+
 /// What a certificate is about: a property of a controller that is realised by a design.
 #[derive(Clone, Copy, Debug, PartialEq, Eq)]
 pub struct CertifiedJob {
     pub property: Property,
     pub design: Design,
+    /// What the certificate says of the controller's words.
+    pub words: CertWords,
     pub size: Size,
 }
 
-/// Tests the first line.
-pub(crate) fn read_version(line: &[u8]) -> Result<(), TextFault>
+/// Which lines a certificate begins with.
+#[derive(Clone, Copy, Debug, PartialEq, Eq)]
+pub(crate) enum Version {
+    /// The format of the words isn't said.
+    One,
+    /// The format of the words stands on a line after that of the job.
+    Two,
+}
+
+/// The version that the first line says.
+pub(crate) fn read_version(line: &[u8]) -> Result<Version, TextFault>
     ensures { result ≡ version_in line.now }
 {
-    if is_version(line) {
-        Ok(())
+    if is_version(line, Version::One) {
+        return Ok(Version::One);
+    }
+    if is_version(line, Version::Two) {
+        Ok(Version::Two)
     } else {
         Err(TextFault::Version)
     }
@@ -64,7 +113,7 @@ fn read_size(mut pieces: Pieces) -> Result<Size, TextFault>
     Ok(size)
 }
 
-/// Reads the job line.
+/// Reads the job line. It says nothing of the words.
 pub(crate) fn read_job(line: &[u8]) -> Result<CertifiedJob, TextFault>
     ensures { result ≡ job_in (pieces_of line.now) }
 {
@@ -83,6 +132,21 @@ pub(crate) fn read_job(line: &[u8]) -> Result<CertifiedJob, TextFault>
     Ok(CertifiedJob {
         property,
         design,
+        words: CertWords::Unsaid,
         size,
+    })
+}
+
+/// Reads the line of the words' format.
+pub(crate) fn read_format(line: &[u8]) -> Result<CertWords, TextFault>
+    ensures { result ≡ format_in (pieces_of line.now) }
+{
+    let word = Place::Word(Keyword::Format);
+    let int_bits = Place::Number(NumberRange::Positive(GREATEST_INT_BITS));
+    let frac_bits = Place::Number(NumberRange::UpTo(GREATEST_FRAC_BITS));
+    let numbers = read_numbers(&[word, int_bits, frac_bits], Pieces::new(line))?;
+    Ok(CertWords::Said {
+        int_bits: numbers.count_at(0),
+        frac_bits: numbers.count_at(1),
     })
 }

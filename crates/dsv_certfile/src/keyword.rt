@@ -4,10 +4,13 @@ ghost use Rattle.std.specs.Str.{bytes_eq};
 ghost use Rattle.dsv_certfile.specs.Keywords.{keyword_text, version_text, unbounded_text};
 ghost use Rattle.dsv_certfile.specs.Keywords.{deletion_text, zero_text};
 
+use crate::job::Version;
+
 /// A word that lines begin with.
 #[derive(Clone, Copy, Debug, PartialEq, Eq)]
 pub(crate) enum Keyword {
     Job,
+    Format,
     Kind,
     Inequality,
     Base,
@@ -27,6 +30,7 @@ impl Keyword {
     {
         match self {
             Keyword::Job => "job",
+            Keyword::Format => "format",
             Keyword::Kind => "kind",
             Keyword::Inequality => "ineq",
             Keyword::Base => "base",
@@ -49,11 +53,14 @@ impl Keyword {
     }
 }
 
-/// Whether the line is the first one of each certificate.
-pub(crate) fn is_version(line: &[u8]) -> bool
-    ensures { result ≡ bytes_eq line.now version_text }
+/// Whether the line is the first one of each certificate of the version.
+pub(crate) fn is_version(line: &[u8], version: Version) -> bool
+    ensures { result ≡ bytes_eq line.now (version_text version) }
 {
-    line == "dsv-certificate 1".as_bytes()
+    match version {
+        Version::One => line == "dsv-certificate 1".as_bytes(),
+        Version::Two => line == "dsv-certificate 2".as_bytes(),
+    }
 }
 
 /// Whether the piece says that there is no bound on the samples.

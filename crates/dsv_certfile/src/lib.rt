@@ -22,8 +22,8 @@ mod writer;
 
 pub use certificate::Certificate;
 pub use fault::{CertRefusal, CheckFault, TextFault};
-pub use job::{CertifiedJob, Size};
+pub use job::{CertWords, CertifiedJob, Size};
 pub use law::certificates_are_read;
-pub use limits::{MOST_GAIN_DEPTH, MOST_JOB_SAMPLES, MOST_SQUARES};
+pub use limits::{MOST_GAIN_DEPTH, MOST_JOB_SAMPLES, MOST_SQUARES, NARROW_WORD_BITS};
 pub use reader::read;
 pub use writer::{write, write_falls, write_gain, write_hints, write_invariant};

@@ -5,6 +5,15 @@ pub const MOST_JOB_SAMPLES: u32 = 64;
 /// The greatest depth of a gain.
 pub const MOST_GAIN_DEPTH: u32 = 1_023;
 
+/// The most bits of words of a controller whose certificates don't say the words' format.
+pub const NARROW_WORD_BITS: u32 = 32;
+
+/// The most bits before the point in a format that a certificate says; the least is 1.
+pub(crate) const GREATEST_INT_BITS: u32 = 48;
+
+/// The most bits after the point in a format that a certificate says.
+pub(crate) const GREATEST_FRAC_BITS: u32 = 47;
+
 /// The most squares of a form.
 pub const MOST_SQUARES: usize = 8;
 

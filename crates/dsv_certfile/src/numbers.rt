@@ -14,6 +14,8 @@ use dsv_text::{has_byte, is_digits};
 pub(crate) enum NumberRange {
     /// From 0 to this one.
     UpTo(u32),
+    /// From 1 to this one.
+    Positive(u32),
     /// Those of an inequality, below 2^63 in size.
     Entry,
     /// Any others, below 2^127 in size.
@@ -107,6 +109,9 @@ impl NumberRange {
     {
         match self {
             NumberRange::UpTo(greatest) => Some(numeral_of(u128::from(greatest), piece)? as i128),
+            NumberRange::Positive(greatest) => {
+                Some(positive_of(u128::from(greatest), piece)? as i128)
+            }
             NumberRange::Entry => integer_of(GREATEST_ENTRY, piece),
             NumberRange::Whole => integer_of(GREATEST_WHOLE, piece),
         }

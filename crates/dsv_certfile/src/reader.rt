@@ -3,13 +3,13 @@ ghost use Rattle.std.specs.Prelude.{IfOk};
 ghost use Rattle.dsv_certfile.specs.Answers.{Gives, Reads};
 ghost use Rattle.dsv_certfile.specs.Heads.{IsHead};
 ghost use Rattle.dsv_certfile.specs.Lawful.{IsLawful};
-ghost use Rattle.dsv_certfile.specs.Reading.{body_in, certificate_in, heading_in};
+ghost use Rattle.dsv_certfile.specs.Reading.{body_in, certificate_in, heading_in, words_in};
 
 use crate::certificate::Certificate;
 use crate::falls::read_falls;
 use crate::fault::{CertRefusal, at_line};
 use crate::invariant::read_invariant;
-use crate::job::{CertifiedJob, read_job, read_version};
+use crate::job::{CertWords, CertifiedJob, Version, read_format, read_job, read_version};
 use crate::keyword::Keyword;
 use crate::kind::{KindHead, read_kind};
 use crate::lines::Lines;
@@ -17,21 +17,36 @@ use crate::places::Place;
 use crate::steps::read_log;
 use std::alloc::Global;
 
-/// What the three first lines say.
+/// What the lines up to that of the kind say.
 #[derive(Clone, Copy)]
 struct Heading {
     job: CertifiedJob,
     kind: KindHead,
 }
 
+/// Reads what the certificate says of the words' format, where its version says it.
+fn read_words(lines: &mut Lines, version: Version) -> Result<CertWords, CertRefusal>
+    ensures { Reads result lines.new (words_in version lines.old) }
+{
+    match version {
+        Version::One => Ok(CertWords::Unsaid),
+        Version::Two => {
+            let line = lines.next_line()?;
+            at_line(line.number, read_format(line.text))
+        }
+    }
+}
+
 fn read_heading(lines: &mut Lines) -> Result<Heading, CertRefusal>
     ensures answer { Reads result lines.new (heading_in lines.old) }
     ensures within { IfOk result (λ heading. IsHead heading.kind) }
 {
-    let version = lines.next_line()?;
-    at_line(version.number, read_version(version.text))?;
+    let line = lines.next_line()?;
+    let version = at_line(line.number, read_version(line.text))?;
     let line = lines.next_line()?;
     let job = at_line(line.number, read_job(line.text))?;
+    let words = read_words(lines, version)?;
+    let job = CertifiedJob { words, ..job };
     let line = lines.next_line()?;
     let kind = at_line(line.number, read_kind(&job, line.text))?;
     Ok(Heading { job, kind })

@@ -7,6 +7,7 @@ ghost use Rattle.dsv_base.specs.Text.{spaced_text};
 ghost use Rattle.dsv_certfile.specs.Texts.{line_text, size_pieces, job_line, inequality_line};
 ghost use Rattle.dsv_certfile.specs.Texts.{logs_lines, squares_lines, square_lines, falls_lines};
 ghost use Rattle.dsv_certfile.specs.Texts.{certificate_text, version_line, numbers_line};
+ghost use Rattle.dsv_certfile.specs.Texts.{format_lines, head_lines};
 ghost use Rattle.dsv_certfile.specs.Texts.{piece_text};
 ghost use Rattle.dsv_certfile.specs.Typed.{IsTypedInequality, IsTypedSet, AreTypedLogs};
 ghost use Rattle.dsv_certfile.specs.Typed.{IsTypedRow, IsTypedFactor, AreTypedRows};
@@ -21,7 +22,7 @@ ghost use Rattle.dsv_certfile.specs.declared.kind.Kind.TheVariants as kind;
 ghost use Rattle.dsv_certfile.specs.declared.keyword.Keyword.TheVariants as keyword;
 
 use crate::certificate::Certificate;
-use crate::job::{CertifiedJob, Size};
+use crate::job::{CertWords, CertifiedJob, Size};
 use crate::keyword::Keyword;
 use crate::output::{MatrixRow, put_entries, put_entry, put_log, put_name, put_rows, put_word};
 use dsv_base::{Failed, Sink, put_all, put_line, put_spaced};
@@ -87,13 +88,38 @@ fn put_candidate_kind<K: Sink>(sink: &mut K, candidate: &Candidate) -> Result<()
     )
 }
 
-/// Writes the lines of the version and the job.
+/// Writes the line of the version.
+fn put_version<K: Sink>(sink: &mut K, words: CertWords) -> Result<(), Failed>
+    ensures { Writes (K.seen sink.old) (K.seen sink.new) result (line_text (version_line words)) }
+{
+    match words {
+        CertWords::Unsaid => put_all(sink, b"dsv-certificate 1\n"),
+        CertWords::Said { .. } => put_all(sink, b"dsv-certificate 2\n"),
+    }
+}
+
+/// Writes the line of the words' format, where the certificate says it.
+fn put_format<K: Sink>(sink: &mut K, words: CertWords) -> Result<(), Failed>
+    ensures { Writes (K.seen sink.old) (K.seen sink.new) result
+        (flat_map line_text (format_lines words)) }
+{
+    match words {
+        CertWords::Unsaid => Ok(()),
+        CertWords::Said {
+            int_bits,
+            frac_bits,
+        } => put_line(sink, b"format", &[int_bits, frac_bits]),
+    }
+}
+
+/// Writes the lines before that of the kind.
 fn put_head<K: Sink>(sink: &mut K, job: &CertifiedJob) -> Result<(), Failed>
     ensures { Writes (K.seen sink.old) (K.seen sink.new) result
-        (line_text version_line ++ line_text (job_line job.now)) }
+        (flat_map line_text (head_lines job.now)) }
 {
-    put_all(sink, b"dsv-certificate 1\n")?;
-    put_job(sink, job)
+    put_version(sink, job.words)?;
+    put_job(sink, job)?;
+    put_format(sink, job.words)
 }
 
 /// Writes the kind line of hints.

@@ -1,7 +1,7 @@
 use Rattle.std.proofs.Common.{List, ◌++◌, map}
 use Rattle.std.specs.List.{flat_map}
 use Rattle.dsv_base.proofs.TakingLemmas.{writes_after, writes_cut}
-use Rattle.dsv_certfile.specs.Texts.{Line, line_text, version_line, job_line, kind_line, candidate_counts, inequality_line, logs_lines, word_line}
+use Rattle.dsv_certfile.specs.Texts.{Line, line_text, head_lines, kind_line, candidate_counts, inequality_line, logs_lines, word_line}
 use Rattle.dsv_certfile.specs.declared.keyword.Keyword.TheVariants as keyword
 use Rattle.dsv_certfile.specs.declared.kind.Kind.TheVariants as kind
 use Rattle.dsv_certfile.proofs.LineTexts.{writes_as, framed-text}
@@ -13,7 +13,7 @@ returns-in_err-put_head-clause-text g c =
     let kind_text = line_text (kind_line kind.Invariant (candidate_counts c.args.candidate.now)) in
     let body : List Line = map inequality_line c.args.candidate.now.inequalities.items ++ logs_lines c.args.logs.now in
     let last = line_text (word_line keyword.End) in
-    writes_as (framed-text version_line (job_line job) (kind_line kind.Invariant (candidate_counts c.args.candidate.now)) (word_line keyword.End) body)
+    writes_as (framed-text (head_lines job) (kind_line kind.Invariant (candidate_counts c.args.candidate.now)) (word_line keyword.End) body)
     (writes_cut (kind_text ++ (flat_map line_text body ++ last)) c.from_residual.ensures.0 c.in_err-put_head.ensures.cut)
 
 pub returns-in_err-put_candidate_kind-clause-text : goal.returns-in_err-put_candidate_kind-clause-text
@@ -21,7 +21,7 @@ returns-in_err-put_candidate_kind-clause-text g c =
     let job = c.args.job.now in
     let body : List Line = map inequality_line c.args.candidate.now.inequalities.items ++ logs_lines c.args.logs.now in
     let last = line_text (word_line keyword.End) in
-    writes_as (framed-text version_line (job_line job) (kind_line kind.Invariant (candidate_counts c.args.candidate.now)) (word_line keyword.End) body)
+    writes_as (framed-text (head_lines job) (kind_line kind.Invariant (candidate_counts c.args.candidate.now)) (word_line keyword.End) body)
     (writes_after c.in_ok-put_head.ensures.whole (writes_cut (flat_map line_text body ++ last) c.from_residual-in_err-put_candidate_kind.ensures.0 c.in_err-put_candidate_kind.ensures.cut))
 
 pub returns-in_err-put_invariant-clause-text : goal.returns-in_err-put_invariant-clause-text
@@ -29,12 +29,12 @@ returns-in_err-put_invariant-clause-text g c =
     let job = c.args.job.now in
     let body : List Line = map inequality_line c.args.candidate.now.inequalities.items ++ logs_lines c.args.logs.now in
     let last = line_text (word_line keyword.End) in
-    writes_as (framed-text version_line (job_line job) (kind_line kind.Invariant (candidate_counts c.args.candidate.now)) (word_line keyword.End) body)
+    writes_as (framed-text (head_lines job) (kind_line kind.Invariant (candidate_counts c.args.candidate.now)) (word_line keyword.End) body)
     (writes_after c.in_ok-put_head.ensures.whole (writes_after c.in_ok-put_candidate_kind.ensures.whole (writes_cut last c.from_residual-in_err-put_invariant.ensures.0 c.in_err-put_invariant.ensures.text.cut)))
 
 pub returns-clause-text : goal.returns-clause-text
 returns-clause-text g c =
     let job = c.args.job.now in
     let body : List Line = map inequality_line c.args.candidate.now.inequalities.items ++ logs_lines c.args.logs.now in
-    writes_as (framed-text version_line (job_line job) (kind_line kind.Invariant (candidate_counts c.args.candidate.now)) (word_line keyword.End) body)
+    writes_as (framed-text (head_lines job) (kind_line kind.Invariant (candidate_counts c.args.candidate.now)) (word_line keyword.End) body)
     (writes_after c.in_ok-put_head.ensures.whole (writes_after c.in_ok-put_candidate_kind.ensures.whole (writes_after c.in_ok-put_invariant.ensures.text.whole c.put_word.ensures)))
