@@ -13,3 +13,5 @@ mod goals;
 mod netlists;
 #[cfg(test)]
 mod sets;
+#[cfg(test)]
+mod widest;

@@ -62,7 +62,7 @@ pub small_fits : (v : ℤ) → unsigned_abs v ≤ 2 ^ 111 → SFits w128 v
 small_fits (pos n) h = record { sfits = omega arith }
 small_fits (negsuc n) h = record { sfits = omega arith }
 
-pub between_fits : (v : ℤ) → neg_ℤ (pos (2 ^ 100)) ≤ℤ v → v ≤ℤ pos (2 ^ 100) → SFits w128 v
+pub between_fits : (v : ℤ) → neg_ℤ (pos (2 ^ 116)) ≤ℤ v → v ≤ℤ pos (2 ^ 116) → SFits w128 v
 between_fits (pos n) l h = record { sfits = omega (arith, ints) }
 between_fits (negsuc n) l h = record { sfits = omega (arith, ints) }
 
