@@ -19,11 +19,11 @@ implementation r = { .int_bits = 1, .frac_bits = 47, .max = 0.75, .min = -1.0, .
 .wide = 1 };",
 ];
 
-/// (0.5 - 127.5 z^-1) / (1 - 1.5 z^-1), with delta 0.5, in words of 8.40.
+/// (64 - 127 z^-1) / (1 - 1.5 z^-1), with delta 0.5, in words of 8.40.
 const PARTS: [&str; 2] = [
-    "digital_system d = { .b = {0.5, -127.5}, .b_size = 2, .a = {1.0, -1.5}, .a_size = 2 };
+    "digital_system d = { .b = {64.0, -127.0}, .b_size = 2, .a = {1.0, -1.5}, .a_size = 2 };
 implementation r = { .int_bits = 8, .frac_bits = 40, .max = 1.0, .min = -1.0, .delta = 0.5 };",
-    "digital_system d = { .b = {0.5, -127.5}, .b_size = 2, .a = {1.0, -1.5}, .a_size = 2 };
+    "digital_system d = { .b = {64.0, -127.0}, .b_size = 2, .a = {1.0, -1.5}, .a_size = 2 };
 implementation r = { .int_bits = 8, .frac_bits = 40, .max = 1.0, .min = -1.0, .delta = 0.5,
 .wide = 1 };",
 ];

@@ -14,7 +14,7 @@ use Rattle.dsv_netlist.specs.declared.node.Node.{Node}
 use Rattle.dsv_netlist.specs.declared.node.Node.TheVariants.{Input, Reg, MulConst, Round, Add, Sub, Fit, Scale}
 use Rattle.dsv_netlist.specs.Limits.{most_exact}
 use Rattle.dsv_netlist.specs.Nodes.{Net, Sample, at, node_value, node_exact, after_node, sample_from, sample_of}
-use Rattle.dsv_netlist.specs.Bounds.{word_bound, node_bound, bounds_from}
+use Rattle.dsv_netlist.specs.Bounds.{node_bound, bounds_from}
 use Rattle.dsv_netlist.specs.Conditions.{NamesBelow, AllNameBack, ReadsBelow, gives_word, names_word, is_fit, IsNetlist}
 use Rattle.dsv_netlist.specs.Law.{AreWords, ValuesAreBounded}
 use Rattle.dsv_netlist.specs.Safety.{IsSafe, AreSafe}

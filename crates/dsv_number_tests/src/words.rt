@@ -488,7 +488,7 @@ fn ends_of_48_bits(rt: HostRuntime) {
 }
 
 /// A number, and what it becomes that is divided by 2^47 and made whole in each rounding.
-struct Part {
+struct Shifted {
     number: i128,
     floor: i128,
     ceil: i128,
@@ -496,32 +496,32 @@ struct Part {
 }
 
 // The square of the least word is 2^94, and half of 2^47 is 2^46.
-const PARTS: [Part; 5] = [
-    Part {
+const SHIFTED: [Shifted; 5] = [
+    Shifted {
         number: 1 << 94,
         floor: 1 << 47,
         ceil: 1 << 47,
         nearest: 1 << 47,
     },
-    Part {
+    Shifted {
         number: (1 << 94) + (1 << 46),
         floor: 1 << 47,
         ceil: (1 << 47) + 1,
         nearest: (1 << 47) + 1,
     },
-    Part {
+    Shifted {
         number: (1 << 94) + (1 << 46) - 1,
         floor: 1 << 47,
         ceil: (1 << 47) + 1,
         nearest: 1 << 47,
     },
-    Part {
+    Shifted {
         number: -(1 << 94) - (1 << 46),
         floor: -(1 << 47) - 1,
         ceil: -(1 << 47),
         nearest: -(1 << 47),
     },
-    Part {
+    Shifted {
         number: -(1 << 94) - (1 << 46) - 1,
         floor: -(1 << 47) - 1,
         ceil: -(1 << 47),
@@ -529,7 +529,7 @@ const PARTS: [Part; 5] = [
     },
 ];
 
-fn part(rounding: Rounding, number: i128) -> Option<i128> {
+fn shift_far(rounding: Rounding, number: i128) -> Option<i128> {
     if number <= LEAST_NUMBER || number >= -LEAST_NUMBER {
         return None;
     }
@@ -539,15 +539,15 @@ fn part(rounding: Rounding, number: i128) -> Option<i128> {
     }
 }
 
-fn is_parted(row: &Part) -> bool {
-    part(Rounding::Floor, row.number) == Some(row.floor)
-        && part(Rounding::Ceil, row.number) == Some(row.ceil)
-        && part(Rounding::Nearest, row.number) == Some(row.nearest)
+fn is_shifted_far(row: &Shifted) -> bool {
+    shift_far(Rounding::Floor, row.number) == Some(row.floor)
+        && shift_far(Rounding::Ceil, row.number) == Some(row.ceil)
+        && shift_far(Rounding::Nearest, row.number) == Some(row.nearest)
 }
 
 #[test]
 fn shifts_by_47_bits(rt: HostRuntime) {
-    for row in &PARTS {
-        assert!(rt; is_parted(row));
+    for row in &SHIFTED {
+        assert!(rt; is_shifted_far(row));
     }
 }

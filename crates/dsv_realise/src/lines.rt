@@ -13,7 +13,7 @@ ghost use Rattle.dsv_realise.specs.Making.{with_first};
 ghost use Rattle.dsv_realise.specs.Making.{with_next, with_summands, with_narrow_line};
 ghost use Rattle.dsv_realise.specs.Making.{exact_node, is_away};
 ghost use Rattle.dsv_realise.specs.Making.{with_next_exact};
-ghost use Rattle.dsv_realise.specs.Making.{with_exact_summands, with_total, with_rounded};
+ghost use Rattle.dsv_realise.specs.Making.{with_exact_summands, with_total};
 ghost use Rattle.dsv_realise.specs.Making.{first_place, with_wide_line, line_nodes};
 ghost use Rattle.dsv_realise.specs.Parts.{begins_added};
 

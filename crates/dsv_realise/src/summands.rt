@@ -1,12 +1,12 @@
 // The summands of a written equation's lines, over the nodes that have their words.
 #![tactic(auto, using(dsv_algebra::proofs::Casts::casts))]
 
-ghost use Rattle.std.specs.Prelude.{◌≡◌, ◌+◌, ◌*◌, ◌<◌, ◌≤◌, ◌++◌, ◌∷◌, length, drop};
+ghost use Rattle.std.specs.Prelude.{◌≡◌, ◌+◌, ◌*◌, ◌<◌, ◌≤◌, ◌++◌, ◌∷◌, length};
 ghost use Rattle.std.specs.Prelude.{slice_index_or, pos, ◌-◌, true};
 ghost use Rattle.dsv_meaning.specs.declared.summands.Summand.TheVariants.{Times, Alone};
 ghost use Rattle.dsv_meaning.specs.declared.summands.TheConstants.{MOST_SUMMANDS};
 ghost use Rattle.dsv_meaning.specs.Lines.{summands};
-ghost use Rattle.dsv_meaning.specs.Equations.{order, feedback, first_alone, forward_summands};
+ghost use Rattle.dsv_meaning.specs.Equations.{order, forward_summands};
 ghost use Rattle.dsv_meaning.specs.Equations.{feedback_summands, transposed_output};
 ghost use Rattle.dsv_meaning.specs.Equations.{transposed_line, delta_line};
 ghost use Rattle.dsv_realise.specs.Netlists.{newest_at, count};

@@ -1,5 +1,4 @@
-use Rattle.std.proofs.Common.{rules, ap, ◌∙◌, sym, subst, FitsSigned, w64}
-use Rattle.std.specs.Prelude.{pos, ◌-ℤ◌}
+use Rattle.std.proofs.Common.{rules}
 use Rattle.dsv_template.proofs.BoxLemmas.{inputs_fit}
 use Rattle.dsv_template.proofs.box_proposer.lower_bound.Goals as goal
 
