@@ -1,6 +1,8 @@
 // Texts of certificates, read and written back.
 use dsv_base::MemSink;
-use dsv_certfile::{Certificate, CertifiedJob, MOST_GAIN_DEPTH, Size, read, write, write_gain};
+use dsv_certfile::{
+    CertWords, Certificate, CertifiedJob, MOST_GAIN_DEPTH, Size, read, write, write_gain,
+};
 use dsv_cnf::Lit;
 use dsv_hints::Step;
 use dsv_names::{Design, OverflowMode, Property, Realisation, Rounding, RunProperty};
@@ -91,6 +93,44 @@ const TEXTS: &[&str] = &[
     step\n\
     safe\n\
     end\n",
+    "dsv-certificate 2\n\
+    job STABILITY DFI FLOOR WRAPAROUND\n\
+    format 2 46\n\
+    kind falls 1\n\
+    form 1\n\
+    positive 1 1\n\
+    square 1 1\n\
+    rest 0\n\
+    fall 1 1\n\
+    square 1 1\n\
+    rest 0\n\
+    end\n",
+    "dsv-certificate 2\n\
+    job OVERFLOW DFI FLOOR WRAPAROUND 1\n\
+    format 1 0\n\
+    kind hints\n\
+    5 1 -2 0 3 4 0\n\
+    5 d 3 3 0\n\
+    end\n",
+    "dsv-certificate 2\n\
+    job OVERFLOW DFI FLOOR WRAPAROUND unbounded\n\
+    format 48 0\n\
+    kind invariant 1 1\n\
+    ineq 1 -1 5\n\
+    base\n\
+    step\n\
+    safe\n\
+    end\n",
+    "dsv-certificate 2\n\
+    job OVERFLOW DDFII NEAREST SATURATE unbounded\n\
+    format 1 47\n\
+    kind gain 66\n\
+    end\n",
+    "dsv-certificate 2\n\
+    job OVERFLOW DFI FLOOR WRAPAROUND unbounded\n\
+    format 48 47\n\
+    kind gain 0\n\
+    end\n",
 ];
 
 /// Whether the text is that of a certificate, and what is written of that is the text.
@@ -113,19 +153,33 @@ const GAIN: &str = "dsv-certificate 1\n\
     kind gain 1023\n\
     end\n";
 
-/// Whether the job is overflow over runs of any length, of that realisation and modes.
-fn is_that_job(job: &CertifiedJob) -> bool {
+/// The same, of words of 16 bits before the point and 17 after it.
+const WIDE_GAIN: &str = "dsv-certificate 2\n\
+    job OVERFLOW TDFII CEIL SATURATE unbounded\n\
+    format 16 17\n\
+    kind gain 1023\n\
+    end\n";
+
+const WIDE: CertWords = CertWords::Said {
+    int_bits: 16,
+    frac_bits: 17,
+};
+
+/// Whether the job is overflow over runs of any length, of that realisation and modes, with this
+/// said of the words.
+fn is_that_job(job: &CertifiedJob, words: CertWords) -> bool {
     job.property == Property::OfRuns(RunProperty::Overflow)
+        && job.words == words
         && job.size == Size::Unbounded
         && job.design.realisation == Realisation::Tdfii
         && job.design.rounding == Rounding::Ceil
         && job.design.overflow == OverflowMode::Saturate
 }
 
-fn is_gain_read(alloc: Global) -> bool {
-    match read(alloc, GAIN.as_bytes()) {
+fn is_gain_read(alloc: Global, text: &str, words: CertWords) -> bool {
+    match read(alloc, text.as_bytes()) {
         Ok(Certificate::Gain { job, depth }) => {
-            is_that_job(&job) && depth == 1023 && depth == MOST_GAIN_DEPTH
+            is_that_job(&job, words) && depth == 1023 && depth == MOST_GAIN_DEPTH
         }
         Ok(_) | Err(_) => false,
     }
@@ -133,11 +187,16 @@ fn is_gain_read(alloc: Global) -> bool {
 
 #[test]
 fn the_depth_of_a_gain_is_read(rt: HostRuntime) {
-    assert!(rt; is_gain_read(rt.alloc()));
+    assert!(rt; is_gain_read(rt.alloc(), GAIN, CertWords::Unsaid));
 }
 
-/// What is written of a gain of this depth.
-fn is_gain_written(alloc: Global, depth: u32, text: &str) -> Option<bool> {
+#[test]
+fn the_format_of_words_is_read(rt: HostRuntime) {
+    assert!(rt; is_gain_read(rt.alloc(), WIDE_GAIN, WIDE));
+}
+
+/// Whether the text is what is written of the gain with this said of the words.
+fn is_gain_written(alloc: Global, words: CertWords, text: &str) -> Option<bool> {
     let mut sink = MemSink::new(alloc, 1024).ok()?;
     let job = CertifiedJob {
         property: Property::OfRuns(RunProperty::Overflow),
@@ -146,15 +205,50 @@ fn is_gain_written(alloc: Global, depth: u32, text: &str) -> Option<bool> {
             rounding: Rounding::Ceil,
             overflow: OverflowMode::Saturate,
         },
+        words,
         size: Size::Unbounded,
     };
-    write_gain(&mut sink, &job, depth).ok()?;
+    write_gain(&mut sink, &job, 1023).ok()?;
     Some(sink.bytes() == text.as_bytes())
 }
 
 #[test]
 fn the_depth_of_a_gain_is_written(rt: HostRuntime) {
-    assert!(rt; is_gain_written(rt.alloc(), 1023, GAIN) == Some(true));
+    assert!(rt; is_gain_written(rt.alloc(), CertWords::Unsaid, GAIN) == Some(true));
+}
+
+#[test]
+fn the_format_of_words_is_written(rt: HostRuntime) {
+    assert!(rt; is_gain_written(rt.alloc(), WIDE, WIDE_GAIN) == Some(true));
+}
+
+/// Bits before the point and after it, and whether certificates say them.
+const FORMATS: &[(u32, u32, bool)] = &[
+    (1, 31, false),
+    (16, 16, false),
+    (32, 0, false),
+    (1, 32, true),
+    (16, 17, true),
+    (33, 0, true),
+    (2, 46, true),
+    (4294967295, 4294967295, true),
+];
+
+/// Whether just these of the formats are said.
+fn are_said() -> bool {
+    FORMATS.iter().all(|(int_bits, frac_bits, said)| {
+        let format = CertWords::Said {
+            int_bits: *int_bits,
+            frac_bits: *frac_bits,
+        };
+        let meant = if *said { format } else { CertWords::Unsaid };
+        CertWords::of_format(*int_bits, *frac_bits) == meant
+    })
+}
+
+#[test]
+fn formats_of_more_than_32_bits_are_said(rt: HostRuntime) {
+    assert!(rt; are_said());
 }
 
 const LOG: &str = "dsv-certificate 1\n\

@@ -1,5 +1,5 @@
 // Texts that are no certificates: the first fault, and its line.
-use dsv_certfile::{CertRefusal, TextFault, read};
+use dsv_certfile::{CertRefusal, CheckFault, TextFault, read};
 use std::alloc::{AllocError, Global};
 
 /// The lines up to nothing.
@@ -7,6 +7,29 @@ const NOTHING: &str = "";
 
 /// The lines up to the version.
 const VERSION: &str = "dsv-certificate 1\n";
+
+/// The line of version 2.
+const SECOND_VERSION: &str = "dsv-certificate 2\n";
+
+/// The lines of version 2 up to a job of roots.
+const SECOND_STABILITY: &str = "dsv-certificate 2\njob STABILITY DFI FLOOR WRAPAROUND\n";
+
+/// The lines of version 2 up to a format of 48 bits.
+const WIDE_STABILITY: &str = "dsv-certificate 2\n\
+    job STABILITY DFI FLOOR WRAPAROUND\n\
+    format 2 46\n";
+
+/// The lines of version 2 up to a log.
+const WIDE_HINTS: &str = "dsv-certificate 2\n\
+    job OVERFLOW DFI FLOOR WRAPAROUND 1\n\
+    format 2 46\n\
+    kind hints\n";
+
+/// The lines of version 2 up to an invariant of one inequality.
+const WIDE_SET: &str = "dsv-certificate 2\n\
+    job OVERFLOW DFI FLOOR WRAPAROUND unbounded\n\
+    format 2 46\n\
+    kind invariant 1 1\n";
 
 /// The lines up to a job of roots.
 const STABILITY: &str = "dsv-certificate 1\njob STABILITY DFI FLOOR WRAPAROUND\n";
@@ -59,8 +82,14 @@ struct Refused(&'static str, &'static str, u64, TextFault);
 const HEADINGS: &[Refused] = &[
     Refused(NOTHING, "", 1, TextFault::End),
     Refused(NOTHING, "dsv-certificate 1", 1, TextFault::End),
-    Refused(NOTHING, "dsv-certificate 2\n", 1, TextFault::Version),
+    Refused(NOTHING, "dsv-certificate 2", 1, TextFault::End),
+    Refused(NOTHING, "dsv-certificate 3\n", 1, TextFault::Version),
+    Refused(NOTHING, "dsv-certificate 0\n", 1, TextFault::Version),
+    Refused(NOTHING, "dsv-certificate 12\n", 1, TextFault::Version),
+    Refused(NOTHING, "dsv-certificate 02\n", 1, TextFault::Version),
+    Refused(NOTHING, "dsv-certificate \n", 1, TextFault::Version),
     Refused(NOTHING, "dsv-certificate 1 \n", 1, TextFault::Version),
+    Refused(NOTHING, "dsv-certificate 2 \n", 1, TextFault::Version),
     Refused(NOTHING, "\n", 1, TextFault::Version),
     Refused(VERSION, "", 2, TextFault::End),
     Refused(
@@ -124,6 +153,75 @@ const HEADINGS: &[Refused] = &[
         3,
         TextFault::Kind,
     ),
+    Refused(SECOND_VERSION, "", 2, TextFault::End),
+    Refused(SECOND_VERSION, "format 2 46\n", 2, TextFault::Kind),
+    Refused(
+        SECOND_VERSION,
+        "job STABILITY DFI FLOOR WRAPAROUND x\n",
+        2,
+        TextFault::Number,
+    ),
+];
+
+const FORMATS: &[Refused] = &[
+    Refused(SECOND_STABILITY, "", 3, TextFault::End),
+    Refused(SECOND_STABILITY, "form", 3, TextFault::End),
+    Refused(SECOND_STABILITY, "format 2 46", 3, TextFault::End),
+    Refused(SECOND_STABILITY, "format 2 46\n", 4, TextFault::End),
+    Refused(SECOND_STABILITY, "format 1 0\n", 4, TextFault::End),
+    Refused(SECOND_STABILITY, "format 48 47\n", 4, TextFault::End),
+    Refused(SECOND_STABILITY, "format\n", 3, TextFault::Line),
+    Refused(SECOND_STABILITY, "format 2\n", 3, TextFault::Line),
+    Refused(SECOND_STABILITY, "format 2 2 2\n", 3, TextFault::Line),
+    Refused(SECOND_STABILITY, "format 2 2 \n", 3, TextFault::Line),
+    Refused(SECOND_STABILITY, "format 2 2 x\n", 3, TextFault::Line),
+    Refused(SECOND_STABILITY, "formats 2 2\n", 3, TextFault::Line),
+    Refused(SECOND_STABILITY, "form 2 2\n", 3, TextFault::Line),
+    Refused(SECOND_STABILITY, "FORMAT 2 2\n", 3, TextFault::Line),
+    Refused(SECOND_STABILITY, "\n", 3, TextFault::Line),
+    Refused(SECOND_STABILITY, "end\n", 3, TextFault::Line),
+    Refused(SECOND_STABILITY, "kind falls 2\n", 3, TextFault::Number),
+    Refused(SECOND_STABILITY, "formats 0 2\n", 3, TextFault::Number),
+    Refused(SECOND_STABILITY, "format 0\n", 3, TextFault::Number),
+    Refused(SECOND_STABILITY, "format 0 2\n", 3, TextFault::Number),
+    Refused(SECOND_STABILITY, "format 49 0\n", 3, TextFault::Number),
+    Refused(SECOND_STABILITY, "format 1 48\n", 3, TextFault::Number),
+    Refused(SECOND_STABILITY, "format 1 48 0\n", 3, TextFault::Number),
+    Refused(SECOND_STABILITY, "format 01 2\n", 3, TextFault::Number),
+    Refused(SECOND_STABILITY, "format 1 02\n", 3, TextFault::Number),
+    Refused(SECOND_STABILITY, "format +1 2\n", 3, TextFault::Number),
+    Refused(SECOND_STABILITY, "format -1 2\n", 3, TextFault::Number),
+    Refused(SECOND_STABILITY, "format 1 -0\n", 3, TextFault::Number),
+    Refused(SECOND_STABILITY, "format  2 2\n", 3, TextFault::Number),
+    Refused(SECOND_STABILITY, "format 2 x\n", 3, TextFault::Number),
+    Refused(
+        SECOND_STABILITY,
+        "format 4294967298 2\n",
+        3,
+        TextFault::Number,
+    ),
+    Refused(STABILITY, "format 2 46\n", 3, TextFault::Kind),
+    Refused(WIDE_STABILITY, "", 4, TextFault::End),
+    Refused(WIDE_STABILITY, "format 2 46\n", 4, TextFault::Kind),
+    Refused(WIDE_STABILITY, "kind hints\n", 4, TextFault::Kind),
+    Refused(WIDE_STABILITY, "kind falls 9\n", 4, TextFault::Number),
+    Refused(WIDE_STABILITY, "kind falls\n", 4, TextFault::Line),
+    Refused(
+        WIDE_STABILITY,
+        "kind falls 0\npositive 1 9\n",
+        5,
+        TextFault::Number,
+    ),
+    Refused(
+        WIDE_STABILITY,
+        "kind falls 0\npositive 1 0\nfall 1 0\nend\nx",
+        8,
+        TextFault::End,
+    ),
+    Refused(WIDE_HINTS, "0 0 0\n", 5, TextFault::Number),
+    Refused(WIDE_HINTS, "end\nx", 6, TextFault::End),
+    Refused(WIDE_SET, "ineq\n", 5, TextFault::Line),
+    Refused(WIDE_SET, "ineq 1\nbase\nend\n", 7, TextFault::Number),
 ];
 
 const KINDS: &[Refused] = &[
@@ -285,6 +383,11 @@ fn headings_and_kinds_are_refused(rt: HostRuntime) {
 }
 
 #[test]
+fn formats_are_refused(rt: HostRuntime) {
+    assert!(rt; are_refused(rt.alloc(), FORMATS));
+}
+
+#[test]
 fn gains_are_refused(rt: HostRuntime) {
     assert!(rt; are_refused(rt.alloc(), GAINS));
 }
@@ -300,4 +403,9 @@ fn forms_logs_and_sets_are_refused(rt: HostRuntime) {
 #[test]
 fn faults_have_their_numbers(rt: HostRuntime) {
     assert!(rt; TextFault::Version.code() == 1 && TextFault::End.code() == 5);
+}
+
+#[test]
+fn faults_of_claims_have_their_numbers(rt: HostRuntime) {
+    assert!(rt; CheckFault::Format.code() == 10 && CheckFault::Gain.code() == 11);
 }
