@@ -369,6 +369,7 @@ fn all_agree(alloc: Global, quantised: &Quantised) -> Option<bool> {
     None
 }
 
+/// All roundings.
 pub(crate) const ROUNDINGS: [Rounding; 3] = [Rounding::Floor, Rounding::Nearest, Rounding::Ceil];
 
 /// Whether a file's controller agrees with the model in every rounding and both overflow modes.
@@ -389,6 +390,7 @@ fn file_agrees(alloc: Global, file: &str, frac_bits: u32, kind: Realisation) -> 
     Some(agree)
 }
 
+/// All realisations.
 pub(crate) const REALISATIONS: [Realisation; 6] = [
     Realisation::Dfi,
     Realisation::Dfii,

@@ -1,5 +1,5 @@
-// The lines of all realisations at the ends of words of 48 bits, in words and in a wide accumulator,
-// beside the model of the tables.
+// The lines of all realisations at the ends of words of 48 bits, in words and in a wide
+// accumulator, beside the model of the tables.
 use crate::wide::{REALISATIONS, ROUNDINGS, agrees};
 use dsv_names::{OverflowMode, Realisation};
 use dsv_quantiser::Quantised;

@@ -58,13 +58,13 @@ fn breaks(alloc: Global, net: &Netlist, inputs: &[i64]) -> Option<bool> {
 }
 
 /// The number that the bits of a word of 48 bits spell.
-fn spelled(word: i64) -> u128 {
+fn bits_of(word: i64) -> u128 {
     i128::from(word).rem_euclid(1 << 48).unsigned_abs()
 }
 
 /// Whether the root is 1 at two inputs.
 fn is_one(alloc: Global, goal: &Goal, inputs: [i64; 2]) -> Option<bool> {
-    let values = inputs.map(|x| spelled(x));
+    let values = inputs.map(|x| bits_of(x));
     if !goal.terms.are_values(&values) {
         return None;
     }

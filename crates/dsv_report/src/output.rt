@@ -127,7 +127,8 @@ fn put_falls<K: Sink>(
     requires places { HasPlaces answer.now }
     requires words { IsWords words }
     ensures text { Writes (K.seen sink.old) (K.seen sink.new) result
-        (text_or (falls_of (job_with job.now.design words (OfRoots property) size.NoSize) answer.now)
+        (text_or (falls_of (job_with job.now.design words (OfRoots property) size.NoSize)
+        answer.now)
         (answer_text (Some (asked_of job.now)) answer.now)) }
     ensures typed { OnOk result (IfSome
         (falls_of (job_with job.now.design words (OfRoots property) size.NoSize) answer.now)
