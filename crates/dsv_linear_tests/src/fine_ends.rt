@@ -91,10 +91,10 @@ const HALF_47: &[Node] = &[
 ];
 
 // The inputs of a chain are -5 to 6. The first product is -3.75 to 4.5 before it is made whole;
-// with the errors e and f, in units of the last place, the second is 0.5625 x + 0.75 e + f. By FLOOR an
-// error is above -1 and at most 0, so the second is above -2.8125 - 1.75 and at most 3.375; by CEIL
-// it is at least -2.8125 and below 3.375 + 1.75; by NEAREST an error is above -0.5 and at most 0.5,
-// and it is above -2.8125 - 0.875 and at most 3.375 + 0.875.
+// with the errors e and f, in units of the last place, the second is 0.5625 x + 0.75 e + f. By
+// FLOOR an error is above -1 and at most 0, so the second is above -2.8125 - 1.75 and at most
+// 3.375; by CEIL it is at least -2.8125 and below 3.375 + 1.75; by NEAREST an error is above -0.5
+// and at most 0.5, and it is above -2.8125 - 0.875 and at most 3.375 + 0.875.
 const FLOORS: &[Fact] = &[
     Fact::Within { low: -4, high: 4 },
     Fact::Within { low: -4, high: 3 },
