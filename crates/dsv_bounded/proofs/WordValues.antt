@@ -1,7 +1,9 @@
 -- Words and the values that spell them.
-use Rattle.std.proofs.Common.{◌≡◌, ℕ, ◌^◌, ◌<◌, List, [], ◌∷◌, refl, arith, ap, sym, subst, ◌∙◌, length, map, replicate, get_or}
+use Rattle.std.proofs.Common.{◌≡◌, ℕ, ◌+◌, ◌-◌, ◌*◌, ◌^◌, ◌<◌, ◌≤◌, List, [], ◌∷◌, refl, arith, ap, sym, subst, ◌∙◌, length, map, replicate, get_or}
 use Rattle.std.proofs.Math.IntN.{ℤ, pos}
 use Rattle.std.proofs.lemmas.Int.{ints}
+use Rattle.std.proofs.lemmas.Nat.{pow-add}
+use Rattle.std.proofs.Math.Nat.{pow-le-pow_right}
 use Rattle.std.specs.List.{All}
 use Rattle.std.proofs.lemmas.List.{length-map, length-replicate, get_or-map, get_or-replicate}
 use Rattle.std.proofs.lemmas.List.Elements.{All-head, All-tail, All-from_get_or, All-replicate}
@@ -16,6 +18,22 @@ use Rattle.dsv_unroll.specs.Words.{spelled_words}
 use Rattle.dsv_unroll.proofs.CycleRuns.{zero_word}
 use Rattle.dsv_unroll.proofs.NodeTerms.{width_some}
 
+-- ---- sizes
+pub width_small : (f : Format) → 2 ^ width f ≤ 2 ^ 48
+width_small f =
+    let few : width f ≤ 48 = omega (arith, f.lawful) in
+    let two : 0 < 2 = omega arith in
+    pow-le-pow_right two few
+
+pub half_width : (f : Format) → 2 ^ (width f - 1) + 2 ^ (width f - 1) ≡ 2 ^ width f
+half_width f =
+    let some : width f - 1 + 1 ≡ width f = omega (arith, f.lawful) in
+    let twice : 2 ^ (width f - 1 + 1) ≡ 2 ^ (width f - 1) * 2 = pow-add 2 (width f - 1) 1 in
+    omega (arith, twice, ap (λ n. 2 ^ n) some)
+
+pub ruleset width_powers = (width_small, half_width)
+
+-- ---- words as values
 -- the values that spell words
 abbrev pub values_for : Format → List ℤ → List ℕ
 values_for f zs = map (residue (width f)) zs

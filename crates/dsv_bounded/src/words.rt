@@ -21,6 +21,7 @@ pub fn zero_words(alloc: Global, count: u32) -> Result<WordList, NoMemory>
 }
 
 /// The word that a value spells in two's complement.
+#[tactic(auto, using(crate::proofs::WordValues::width_powers))]
 fn word(format: &Format, value: &u128) -> i64
     requires { value.now < 2 ^ width format.now }
     ensures { result ≡ spelled_word format.now value.now }
