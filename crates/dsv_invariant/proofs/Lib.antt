@@ -3,3 +3,4 @@ pub mod BrokenRuns
 pub mod Causes
 pub mod Sentences
 pub mod Stepwise
+pub mod SomeWords
