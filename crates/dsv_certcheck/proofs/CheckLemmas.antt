@@ -17,8 +17,9 @@ use Rattle.dsv_certfile.specs.declared.certificate.Certificate.{Certificate}
 use Rattle.dsv_certfile.specs.declared.job.CertifiedJob.{CertifiedJob}
 use Rattle.dsv_certfile.specs.declared.job.Size.{Size}
 use Rattle.dsv_certfile.specs.declared.job.Size.TheVariants as size
-use Rattle.dsv_certcheck.specs.Checks.{Checked, BecomesFor, IsChecked, Finds, words_check}
+use Rattle.dsv_certcheck.specs.Checks.{Checked, format_check, BecomesFor, IsFoundFor, IsFoundAfter, IsChecked, Finds, words_check}
 use Rattle.dsv_certcheck.specs.Shown.{IsFalling, HasFalling, Has, IsShownOf}
+use Rattle.dsv_certcheck.specs.declared.check_refusal.CheckRefusal.{CheckRefusal}
 use Rattle.dsv_certcheck.specs.declared.check_refusal.CheckRefusal.TheVariants as refusal
 use Rattle.dsv_certcheck.proofs.WordsFound.{HasWords, has_words}
 use Rattle.std.proofs.Math.IntN.{ℤ}
@@ -39,26 +40,37 @@ falling_has q p of_job s of_side found poly form e f g t u h =
     let has : HasFalling q p = record { poly = poly; tested = ap (tested_of q) (sym g) ∙ t ∙ ap Ok u; form = form; falls = h } in
     subst (λ x. Has q x s) (sym e) (subst (λ y. Has q (OfRoots p) y) (sym f) has)
 
+-- ---- the format
+-- the format is refused
+pub refused_format : (c : ControllerView) (cert : Certificate) (job : CertifiedJob) (why : CheckRefusal) (found : Checked) → job ≡ job_of cert → Err why ≡ format_check c job.words
+    → found ≡ Err why → IsChecked c cert found
+refused_format c cert job why found e f is =
+    subst (λ r. IsFoundAfter r c cert found) (f ∙ ap (λ (j : CertifiedJob). format_check c j.words) e) is
+
+-- the format passes
+after_format : (c : ControllerView) (cert : Certificate) (job : CertifiedJob) (found : Checked) → job ≡ job_of cert → Ok tt ≡ format_check c job.words → IsFoundFor c cert found → IsChecked c cert found
+after_format c cert job found e f = subst (λ r. IsFoundAfter r c cert found) (f ∙ ap (λ (j : CertifiedJob). format_check c j.words) e)
+
 -- ---- the controller's words
 found_err : (found : Checked) (why : QuantRefusal) → IsErrAnd found (λ r. r ≡ refusal.Quant why) → found ≡ Err (refusal.Quant why)
 found_err (Ok x) why h = absurd h
 found_err (Err r) why h = ap Err h
 
 -- the controller has no words
-pub refused_words : (c : ControllerView) (cert : Certificate) (job : CertifiedJob) (why : QuantRefusal) (found : Checked) → job ≡ job_of cert → BecomesFor c job (Err why)
-    → IsErrAnd found (λ r. r ≡ refusal.Quant why) → IsChecked c cert found
-refused_words c cert job why found e b f =
-    subst (IsChecked c cert) (sym (found_err found why f)) (subst (λ j. BecomesFor c j (Err why)) e b)
+pub refused_words : (c : ControllerView) (cert : Certificate) (job : CertifiedJob) (why : QuantRefusal) (found : Checked) → job ≡ job_of cert → Ok tt ≡ format_check c job.words
+    → BecomesFor c job (Err why) → IsErrAnd found (λ r. r ≡ refusal.Quant why) → IsChecked c cert found
+refused_words c cert job why found e f b h =
+    after_format c cert job found e f (subst (IsFoundFor c cert) (sym (found_err found why h)) (subst (λ j. BecomesFor c j (Err why)) e b))
 
 -- what is found of the words is found of the controller
-found_by : (c : ControllerView) (cert : Certificate) (q : QuantisedView) (found : Checked) → BecomesFor c (job_of cert) (Ok q) → Finds found (words_check q cert) → IsChecked c cert found
+found_by : (c : ControllerView) (cert : Certificate) (q : QuantisedView) (found : Checked) → BecomesFor c (job_of cert) (Ok q) → Finds found (words_check q cert) → IsFoundFor c cert found
 found_by c cert q (Err refusal.NoMemory) b h = tt
 found_by c cert q (Err (refusal.Quant why)) b h = absurd (subst HasWords h (has_words q cert))
 found_by c cert q found b h = record { quantised = q; becomes = b; checked = h }
 
-pub checked_words : (c : ControllerView) (cert : Certificate) (job : CertifiedJob) (q : QuantisedView) (found : Checked) → job ≡ job_of cert → BecomesFor c job (Ok q)
-    → Finds found (words_check q cert) → IsChecked c cert found
-checked_words c cert job q found e b h = found_by c cert q found (subst (λ j. BecomesFor c j (Ok q)) e b) h
+pub checked_words : (c : ControllerView) (cert : Certificate) (job : CertifiedJob) (q : QuantisedView) (found : Checked) → job ≡ job_of cert → Ok tt ≡ format_check c job.words
+    → BecomesFor c job (Ok q) → Finds found (words_check q cert) → IsChecked c cert found
+checked_words c cert job q found e f b h = after_format c cert job found e f (found_by c cert q found (subst (λ j. BecomesFor c j (Ok q)) e b) h)
 
 pub shown_words : (c : ControllerView) (cert : Certificate) (job : CertifiedJob) (q : QuantisedView) (found : Checked) → job ≡ job_of cert → BecomesFor c job (Ok q)
     → OnOk found (Has q (job_of cert).property (job_of cert).size) → OnOk found (IsShownOf c (job_of cert))

@@ -1,5 +1,5 @@
 -- A claim that is so passes its check.
-use Rattle.std.proofs.Common.{◌≡◌, ◌∙◌, ap, ℕ, suc, ◌+◌, ◌-◌, ◌<◌, ◌≤◌, nat_le, true, List, length, None, Result, Ok, Err, if◌then◌else◌, arith}
+use Rattle.std.proofs.Common.{◌≡◌, ◌∙◌, ap, ℕ, suc, ◌+◌, ◌-◌, ◌<◌, ◌≤◌, nat_le, ◌==◌, Bool, true, false, List, length, None, Result, Ok, Err, if◌then◌else◌, refl, arith}
 use Rattle.std.proofs.Math.IntN.{ℤ}
 use Rattle.std.proofs.lemmas.Bool.{and_from, le-leb, le-ltb, eq-eqb}
 use Rattle.dsv_algebra.specs.Vectors.{vector_of}
@@ -8,6 +8,7 @@ use Rattle.dsv_names.specs.declared.property.Property.TheVariants as property
 use Rattle.dsv_names.specs.declared.property.RunProperty.{RunProperty}
 use Rattle.dsv_names.specs.declared.property.RunProperty.TheVariants as run
 use Rattle.dsv_names.specs.declared.property.RootProperty.{RootProperty}
+use Rattle.dsv_reader.specs.Controllers.{ControllerView}
 use Rattle.dsv_quantiser.specs.QuantisedView.{QuantisedView}
 use Rattle.dsv_cnf.specs.FormulaView.{FormulaView}
 use Rattle.dsv_hints.specs.Derivation.{verdict_of}
@@ -33,12 +34,27 @@ use Rattle.dsv_gain.specs.Controllers.{outlook_of}
 use Rattle.dsv_gain.specs.declared.outlook.Gain.{Gain}
 use Rattle.dsv_gain.specs.declared.outlook.Outlook.TheVariants as outlook
 use Rattle.dsv_certfile.specs.Lawful.{IsSize}
-use Rattle.dsv_certfile.specs.Limits.{most_samples, most_gain_depth}
+use Rattle.dsv_certfile.specs.Limits.{most_samples, most_gain_depth, narrow_word_bits}
+use Rattle.dsv_certfile.specs.Words.{words_for}
+use Rattle.dsv_certfile.specs.declared.fault.CheckFault.TheVariants as fault
+use Rattle.dsv_certfile.specs.declared.job.CertWords.{CertWords}
+use Rattle.dsv_certfile.specs.declared.job.CertWords.TheVariants as words
 use Rattle.dsv_certfile.specs.declared.job.Size.TheVariants as size
-use Rattle.dsv_certcheck.specs.Checks.{Checked, misfit, size_check, verdict_at, log_check, run_check, is_some_samples, hints_check, sentences_check, shape_check, invariant_check, outlook_check, depth_check, gain_check, refusal_check, offer_check, tested_check, falls_check}
-use Rattle.dsv_certcheck.specs.LineNumbers.{body_line, log_line}
+use Rattle.dsv_certcheck.specs.Checks.{Checked, refused, format_check, misfit, size_check, verdict_at, log_check, run_check, is_some_samples, hints_check, sentences_check, shape_check, invariant_check, outlook_check, depth_check, gain_check, refusal_check, offer_check, tested_check, falls_check}
+use Rattle.dsv_certcheck.specs.LineNumbers.{version_line_number, format_line_number, body_line, log_line}
 use Rattle.dsv_certcheck.specs.declared.check_refusal.CheckRefusal.TheVariants as refusal
 use Rattle.dsv_tested.proofs.TestedCoefficients.{some_coefficients}
+
+-- what certificates of a controller say of its words is so
+format_by : (c : ControllerView) (b : Bool) → nat_le (c.int_bits + c.frac_bits) narrow_word_bits ≡ b
+    → format_check c (if b then words.Unsaid else words.Said c.int_bits c.frac_bits) ≡ Ok tt
+format_by c true e = ap (λ b. if b then Ok tt else refused version_line_number fault.Format) e
+format_by c false e =
+    ap (λ b. if b then Ok tt else refused format_line_number fault.Format)
+    (and_from (c.int_bits == c.int_bits) (c.frac_bits == c.frac_bits) (eq-eqb c.int_bits c.int_bits refl) (eq-eqb c.frac_bits c.frac_bits refl))
+
+pub format_passes : (c : ControllerView) → format_check c (words_for c.int_bits c.frac_bits) ≡ Ok tt
+format_passes c = format_by c (nat_le (c.int_bits + c.frac_bits) narrow_word_bits) refl
 
 -- a question that is no larger than what is asked of formulas
 size_passes : (q : QuantisedView) (samples : ℕ) → IsWithin q samples → size_check q samples ≡ Ok tt
@@ -52,37 +68,37 @@ log_passes formula line log e = ap (verdict_at line) e
 some_samples : (k : ℕ) → IsSize (size.Samples k) → is_some_samples k ≡ true
 some_samples k s = and_from (nat_le 1 k) (nat_le k most_samples) (le-leb 1 k s.0) (le-leb k most_samples s.1)
 
-pub hints_pass : (q : QuantisedView) (p : RunProperty) (k : ℕ) (log : List Step) → IsSize (size.Samples k) → IsWithin q k → verdict_of (question_formula p q k) log ≡ verdict.Accepted
-    → hints_check q (property.OfRuns p) (size.Samples k) log ≡ Ok tt
-hints_pass q p k log s w e =
-    ap (λ b. if b then run_check q p k log else misfit) (some_samples k s)
-    ∙ ap (λ (r : Checked). r >>= λ x. log_check (question_formula p q k) body_line log) (size_passes q k w)
-    ∙ log_passes (question_formula p q k) body_line log e
+pub hints_pass : (w : CertWords) (q : QuantisedView) (p : RunProperty) (k : ℕ) (log : List Step) → IsSize (size.Samples k) → IsWithin q k → verdict_of (question_formula p q k) log ≡ verdict.Accepted
+    → hints_check w q (property.OfRuns p) (size.Samples k) log ≡ Ok tt
+hints_pass w q p k log s within e =
+    ap (λ b. if b then run_check w q p k log else misfit w) (some_samples k s)
+    ∙ ap (λ (r : Checked). r >>= λ x. log_check (question_formula p q k) (body_line w) log) (size_passes q k within)
+    ∙ log_passes (question_formula p q k) (body_line w) log e
 
 -- ---- an invariant
-pub invariant_passes : (q : QuantisedView) (conflicts : ℕ) (candidate : Candidate) (logs : ThreeLogs) → IsWithin q unbounded_samples → IsShaped q candidate → IsGood q conflicts candidate logs
-    → invariant_check q (property.OfRuns run.Overflow) size.Unbounded candidate logs ≡ Ok tt
-invariant_passes q conflicts candidate logs w shaped good =
-    let safe = log_check (set_formula_of q candidate part.Safe) (log_line part.Safe candidate logs) logs.safe in
-    let step = log_check (set_formula_of q candidate part.Step) (log_line part.Step candidate logs) logs.step in
-    ap (λ (r : Checked). r >>= λ x. shape_check q candidate >>= λ y. sentences_check q candidate logs) (size_passes q unbounded_samples w)
-    ∙ ap (λ (r : Checked). r >>= λ x. sentences_check q candidate logs) (ap (λ b. if b then Ok tt else misfit) shaped)
-    ∙ ap (λ (r : Checked). r >>= λ x. step >>= λ y. safe) (log_passes (set_formula_of q candidate part.Base) (log_line part.Base candidate logs) logs.base good.base.accepted)
-    ∙ ap (λ (r : Checked). r >>= λ x. safe) (log_passes (set_formula_of q candidate part.Step) (log_line part.Step candidate logs) logs.step good.step.accepted)
-    ∙ log_passes (set_formula_of q candidate part.Safe) (log_line part.Safe candidate logs) logs.safe good.safe.accepted
+pub invariant_passes : (w : CertWords) (q : QuantisedView) (conflicts : ℕ) (candidate : Candidate) (logs : ThreeLogs) → IsWithin q unbounded_samples → IsShaped q candidate → IsGood q conflicts candidate logs
+    → invariant_check w q (property.OfRuns run.Overflow) size.Unbounded candidate logs ≡ Ok tt
+invariant_passes w q conflicts candidate logs within shaped good =
+    let safe = log_check (set_formula_of q candidate part.Safe) (log_line w part.Safe candidate logs) logs.safe in
+    let step = log_check (set_formula_of q candidate part.Step) (log_line w part.Step candidate logs) logs.step in
+    ap (λ (r : Checked). r >>= λ x. shape_check w q candidate >>= λ y. sentences_check w q candidate logs) (size_passes q unbounded_samples within)
+    ∙ ap (λ (r : Checked). r >>= λ x. sentences_check w q candidate logs) (ap (λ b. if b then Ok tt else misfit w) shaped)
+    ∙ ap (λ (r : Checked). r >>= λ x. step >>= λ y. safe) (log_passes (set_formula_of q candidate part.Base) (log_line w part.Base candidate logs) logs.base good.base.accepted)
+    ∙ ap (λ (r : Checked). r >>= λ x. safe) (log_passes (set_formula_of q candidate part.Step) (log_line w part.Step candidate logs) logs.step good.step.accepted)
+    ∙ log_passes (set_formula_of q candidate part.Safe) (log_line w part.Safe candidate logs) logs.safe good.safe.accepted
 
 -- ---- a gain
-pub gain_passes : (q : QuantisedView) (depth : ℕ) (gain : Gain) → depth ≤ most_gain_depth → outlook_of q (suc depth) ≡ outlook.Safe gain
-    → gain_check q (property.OfRuns run.Overflow) size.Unbounded depth ≡ Ok tt
-gain_passes q depth gain within e =
-    ap (λ b. if b then depth_check q depth else misfit) (le-leb depth most_gain_depth within) ∙ ap outlook_check e
+pub gain_passes : (w : CertWords) (q : QuantisedView) (depth : ℕ) (gain : Gain) → depth ≤ most_gain_depth → outlook_of q (suc depth) ≡ outlook.Safe gain
+    → gain_check w q (property.OfRuns run.Overflow) size.Unbounded depth ≡ Ok tt
+gain_passes w q depth gain within e =
+    ap (λ b. if b then depth_check w q depth else misfit w) (le-leb depth most_gain_depth within) ∙ ap (outlook_check w) e
 
 -- ---- a form that falls
-offer_passes : (c : List ℤ) (offer : Falls) → 0 < length c → falls_refusal c offer ≡ None → offer_check c offer ≡ Ok tt
-offer_passes c offer some e =
-    ap (λ b. if b then refusal_check offer (falls_refusal c offer) else misfit) (eq-eqb (offer.form.d + 1) (length c) (let o = (falls_passes (length c - 1) (vector_of c) offer e).places in omega (arith, some, o)))
-    ∙ ap (refusal_check offer) e
+offer_passes : (w : CertWords) (c : List ℤ) (offer : Falls) → 0 < length c → falls_refusal c offer ≡ None → offer_check w c offer ≡ Ok tt
+offer_passes w c offer some e =
+    ap (λ b. if b then refusal_check w offer (falls_refusal c offer) else misfit w) (eq-eqb (offer.form.d + 1) (length c) (let o = (falls_passes (length c - 1) (vector_of c) offer e).places in omega (arith, some, o)))
+    ∙ ap (refusal_check w offer) e
 
-pub falls_pass : (q : QuantisedView) (p : RootProperty) (c : List ℤ) (offer : Falls) → tested_of q (side_of p) ≡ Ok (tested.Poly c) → falls_refusal c offer ≡ None
-    → falls_check q (property.OfRoots p) size.NoSize offer ≡ Ok tt
-falls_pass q p c offer t e = ap (λ (r : Result Tested PolyWide). tested_check r offer) t ∙ offer_passes c offer (some_coefficients q (side_of p) c t) e
+pub falls_pass : (w : CertWords) (q : QuantisedView) (p : RootProperty) (c : List ℤ) (offer : Falls) → tested_of q (side_of p) ≡ Ok (tested.Poly c) → falls_refusal c offer ≡ None
+    → falls_check w q (property.OfRoots p) size.NoSize offer ≡ Ok tt
+falls_pass w q p c offer t e = ap (λ (r : Result Tested PolyWide). tested_check w r offer) t ∙ offer_passes w c offer (some_coefficients q (side_of p) c t) e

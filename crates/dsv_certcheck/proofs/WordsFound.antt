@@ -31,6 +31,7 @@ use Rattle.dsv_gain.specs.declared.outlook.Outlook.TheVariants as outlook
 use Rattle.dsv_certfile.specs.Limits.{most_gain_depth}
 use Rattle.dsv_certfile.specs.declared.certificate.Certificate.{Certificate}
 use Rattle.dsv_certfile.specs.declared.certificate.Certificate.TheVariants as certificate
+use Rattle.dsv_certfile.specs.declared.job.CertWords.{CertWords}
 use Rattle.dsv_certfile.specs.declared.job.Size.{Size}
 use Rattle.dsv_certfile.specs.declared.job.Size.TheVariants as size
 use Rattle.dsv_certcheck.specs.Checks.{Checked, misfit, size_check, verdict_at, log_check, run_check, is_some_samples, hints_check, sentences_check, shape_check, set_check, invariant_check, outlook_check, depth_check, gain_check, refusal_check, offer_check, tested_check, falls_check, words_check}
@@ -62,52 +63,53 @@ has_log : (f : FormulaView) (line : ℕ) (log : List Step) → HasWords (log_che
 has_log f line log = has_verdict line (verdict_of f log)
 
 -- ---- kinds
-has_hints : (q : QuantisedView) (p : Property) (s : Size) (log : List Step) → HasWords (hints_check q p s log)
-has_hints q (property.OfRuns p) (size.Samples k) log =
-    has_either (is_some_samples k) (run_check q p k log) misfit (has_then (size_check q k) _ (has_size q k) (λ x. has_log _ _ log)) tt
-has_hints q p s log = tt
+has_hints : (w : CertWords) (q : QuantisedView) (p : Property) (s : Size) (log : List Step) → HasWords (hints_check w q p s log)
+has_hints w q (property.OfRuns p) (size.Samples k) log =
+    has_either (is_some_samples k) (run_check w q p k log) (misfit w) (has_then (size_check q k) _ (has_size q k) (λ x. has_log _ _ log)) tt
+has_hints w q p s log = tt
 
-has_sentences : (q : QuantisedView) (c : Candidate) (logs : ThreeLogs) → HasWords (sentences_check q c logs)
-has_sentences q c logs = has_then _ _ (has_log _ _ logs.base) (λ x. has_then _ _ (has_log _ _ logs.step) (λ y. has_log _ _ logs.safe))
+has_sentences : (w : CertWords) (q : QuantisedView) (c : Candidate) (logs : ThreeLogs) → HasWords (sentences_check w q c logs)
+has_sentences w q c logs = has_then _ _ (has_log _ _ logs.base) (λ x. has_then _ _ (has_log _ _ logs.step) (λ y. has_log _ _ logs.safe))
 
-has_set : (q : QuantisedView) (c : Candidate) (logs : ThreeLogs) → HasWords (set_check q c logs)
-has_set q c logs =
-    has_then _ _ (has_size q _) (λ x. has_then (shape_check q c) _
-    (has_either (is_shaped (registers_of q.realisation (order q)) c) (Ok tt) misfit tt tt) (λ y. has_sentences q c logs))
+has_set : (w : CertWords) (q : QuantisedView) (c : Candidate) (logs : ThreeLogs) → HasWords (set_check w q c logs)
+has_set w q c logs =
+    has_then _ _ (has_size q _) (λ x. has_then (shape_check w q c) _
+    (has_either (is_shaped (registers_of q.realisation (order q)) c) (Ok tt) (misfit w) tt tt) (λ y. has_sentences w q c logs))
 
-has_invariant : (q : QuantisedView) (p : Property) (s : Size) (c : Candidate) (logs : ThreeLogs) → HasWords (invariant_check q p s c logs)
-has_invariant q (property.OfRuns run.Overflow) size.Unbounded c logs = has_set q c logs
-has_invariant q p s c logs = tt
+has_invariant : (w : CertWords) (q : QuantisedView) (p : Property) (s : Size) (c : Candidate) (logs : ThreeLogs) → HasWords (invariant_check w q p s c logs)
+has_invariant w q (property.OfRuns run.Overflow) size.Unbounded c logs = has_set w q c logs
+has_invariant w q p s c logs = tt
 
-has_refusal : (offer : Falls) (r : Option FormRefusal) → HasWords (refusal_check offer r)
-has_refusal offer None = tt
-has_refusal offer (Some why) = tt
+has_refusal : (w : CertWords) (offer : Falls) (r : Option FormRefusal) → HasWords (refusal_check w offer r)
+has_refusal w offer None = tt
+has_refusal w offer (Some why) = tt
 
-has_offer : (c : List ℤ) (offer : Falls) → HasWords (offer_check c offer)
-has_offer c offer = has_either (offer.form.d + 1 == length c) (refusal_check offer (falls_refusal c offer)) misfit (has_refusal offer (falls_refusal c offer)) tt
+has_offer : (w : CertWords) (c : List ℤ) (offer : Falls) → HasWords (offer_check w c offer)
+has_offer w c offer =
+    has_either (offer.form.d + 1 == length c) (refusal_check w offer (falls_refusal c offer)) (misfit w) (has_refusal w offer (falls_refusal c offer)) tt
 
-has_tested : (r : Result Tested PolyWide) (offer : Falls) → HasWords (tested_check r offer)
-has_tested (Ok (tested.Poly c)) offer = has_offer c offer
-has_tested (Ok tested.NoZeros) offer = tt
-has_tested (Err wide) offer = tt
+has_tested : (w : CertWords) (r : Result Tested PolyWide) (offer : Falls) → HasWords (tested_check w r offer)
+has_tested w (Ok (tested.Poly c)) offer = has_offer w c offer
+has_tested w (Ok tested.NoZeros) offer = tt
+has_tested w (Err wide) offer = tt
 
-has_falls : (q : QuantisedView) (p : Property) (s : Size) (offer : Falls) → HasWords (falls_check q p s offer)
-has_falls q (property.OfRoots p) size.NoSize offer = has_tested (tested_of q (side_of p)) offer
-has_falls q p s offer = tt
+has_falls : (w : CertWords) (q : QuantisedView) (p : Property) (s : Size) (offer : Falls) → HasWords (falls_check w q p s offer)
+has_falls w q (property.OfRoots p) size.NoSize offer = has_tested w (tested_of q (side_of p)) offer
+has_falls w q p s offer = tt
 
-has_outlook : (found : Outlook) → HasWords (outlook_check found)
-has_outlook (outlook.Safe gain) = tt
-has_outlook (outlook.Leaves sample value) = tt
-has_outlook outlook.Deep = tt
+has_outlook : (w : CertWords) (found : Outlook) → HasWords (outlook_check w found)
+has_outlook w (outlook.Safe gain) = tt
+has_outlook w (outlook.Leaves sample value) = tt
+has_outlook w outlook.Deep = tt
 
-has_gain : (q : QuantisedView) (p : Property) (s : Size) (depth : ℕ) → HasWords (gain_check q p s depth)
-has_gain q (property.OfRuns run.Overflow) size.Unbounded depth =
-    has_either (nat_le depth most_gain_depth) (depth_check q depth) misfit (has_outlook (outlook_of q (suc depth))) tt
-has_gain q p s depth = tt
+has_gain : (w : CertWords) (q : QuantisedView) (p : Property) (s : Size) (depth : ℕ) → HasWords (gain_check w q p s depth)
+has_gain w q (property.OfRuns run.Overflow) size.Unbounded depth =
+    has_either (nat_le depth most_gain_depth) (depth_check w q depth) (misfit w) (has_outlook w (outlook_of q (suc depth))) tt
+has_gain w q p s depth = tt
 
 -- ---- certificates
 pub has_words : (q : QuantisedView) (c : Certificate) → HasWords (words_check q c)
-has_words q (certificate.Hints job log) = has_hints q job.property job.size log
-has_words q (certificate.Invariant job candidate logs) = has_invariant q job.property job.size candidate logs
-has_words q (certificate.Gain job depth) = has_gain q job.property job.size depth
-has_words q (certificate.Falls job offer) = has_falls q job.property job.size offer
+has_words q (certificate.Hints job log) = has_hints job.words q job.property job.size log
+has_words q (certificate.Invariant job candidate logs) = has_invariant job.words q job.property job.size candidate logs
+has_words q (certificate.Gain job depth) = has_gain job.words q job.property job.size depth
+has_words q (certificate.Falls job offer) = has_falls job.words q job.property job.size offer

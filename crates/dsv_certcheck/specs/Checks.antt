@@ -1,5 +1,5 @@
--- What the check of a certificate finds for a quantised controller: nothing, or the first line
--- whose claim isn't so, or why there is nothing to check it against.
+-- What the check of a certificate finds for a controller: nothing, or the first line whose claim
+-- isn't so, or why there is nothing to check it against.
 use Rattle.std.specs.Prelude.{◌≡◌, ℕ, suc, ◌+◌, ◌==◌, ◌&&◌, nat_le, nat_lt, Bool, List, length}
 use Rattle.std.specs.Prelude.{Option, Some, None, Result, Ok, Err, if◌then◌else◌, ℤ}
 use Rattle.dsv_text.specs.Stages.{◌>>=◌}
@@ -37,8 +37,9 @@ use Rattle.dsv_gain.specs.Controllers.{outlook_of}
 use Rattle.dsv_gain.specs.declared.outlook.Outlook.{Outlook}
 use Rattle.dsv_gain.specs.declared.outlook.Outlook.TheVariants as outlook
 use Rattle.dsv_certcheck.specs.FormLines.{form_line}
+use Rattle.dsv_certcheck.specs.LineNumbers.{version_line_number, format_line_number}
 use Rattle.dsv_certcheck.specs.LineNumbers.{kind_line, body_line, log_line}
-use Rattle.dsv_certfile.specs.Limits.{most_samples, most_gain_depth}
+use Rattle.dsv_certfile.specs.Limits.{most_samples, most_gain_depth, narrow_word_bits}
 use Rattle.dsv_certfile.specs.Texts.{job_of}
 use Rattle.dsv_certfile.specs.declared.certificate.Certificate.{Certificate}
 use Rattle.dsv_certfile.specs.declared.certificate.Certificate.TheVariants as certificate
@@ -46,6 +47,8 @@ use Rattle.dsv_certfile.specs.declared.fault.CheckFault.{CheckFault}
 use Rattle.dsv_certfile.specs.declared.fault.CheckFault.TheVariants as fault
 use Rattle.dsv_certcheck.specs.declared.check_refusal.CheckRefusal.{CheckRefusal}
 use Rattle.dsv_certcheck.specs.declared.check_refusal.CheckRefusal.TheVariants as refusal
+use Rattle.dsv_certfile.specs.declared.job.CertWords.{CertWords}
+use Rattle.dsv_certfile.specs.declared.job.CertWords.TheVariants as words
 use Rattle.dsv_certfile.specs.declared.job.CertifiedJob.{CertifiedJob}
 use Rattle.dsv_certfile.specs.declared.job.Size.{Size}
 use Rattle.dsv_certfile.specs.declared.job.Size.TheVariants as size
@@ -58,9 +61,20 @@ Checked = Result (Unit {0}) CheckRefusal
 abbrev pub refused : ℕ → CheckFault → Checked
 refused line why = Err (refusal.Line line why)
 
+-- ---- the format of the words
+-- A certificate that says no format is one of words of at most 32 bits, and one that says a format
+-- is one of words of this format.
+abbrev pub format_check : ControllerView → CertWords → Checked
+format_check c words.Unsaid = if nat_le (c.int_bits + c.frac_bits) narrow_word_bits
+    then Ok tt else refused version_line_number fault.Format
+format_check c (words.Said int_bits frac_bits) =
+    if c.int_bits == int_bits && c.frac_bits == frac_bits
+    then Ok tt else refused format_line_number fault.Format
+
+-- ---- jobs
 -- the kind belongs to no such job
-abbrev pub misfit : Checked
-misfit = refused kind_line fault.Shape
+abbrev pub misfit : CertWords → Checked
+misfit w = refused (kind_line w) fault.Shape
 
 -- a question about runs over so many samples is larger than what is asked of formulas
 abbrev pub size_check : QuantisedView → ℕ → Checked
@@ -80,91 +94,92 @@ log_check formula line log = verdict_at line (verdict_of formula log)
 
 -- ---- hints
 -- the log refutes that a property of runs happens within so many samples
-abbrev pub run_check : QuantisedView → RunProperty → ℕ → List Step → Checked
-run_check q p samples log = size_check q samples >>= λ _.
-    log_check (question_formula p q samples) body_line log
+abbrev pub run_check : CertWords → QuantisedView → RunProperty → ℕ → List Step → Checked
+run_check w q p samples log = size_check q samples >>= λ _.
+    log_check (question_formula p q samples) (body_line w) log
 
 abbrev pub is_some_samples : ℕ → Bool
 is_some_samples samples = nat_le 1 samples && nat_le samples most_samples
 
-abbrev pub hints_check : QuantisedView → Property → Size → List Step → Checked
-hints_check q (property.OfRuns p) (size.Samples k) log =
-    if is_some_samples k then run_check q p k log else misfit
-hints_check q p s log = misfit
+abbrev pub hints_check : CertWords → QuantisedView → Property → Size → List Step → Checked
+hints_check w q (property.OfRuns p) (size.Samples k) log =
+    if is_some_samples k then run_check w q p k log else misfit w
+hints_check w q p s log = misfit w
 
 -- ---- an invariant
 -- each log refutes that its sentence of the candidate is broken
-abbrev pub sentences_check : QuantisedView → Candidate → ThreeLogs → Checked
-sentences_check q candidate logs =
+abbrev pub sentences_check : CertWords → QuantisedView → Candidate → ThreeLogs → Checked
+sentences_check w q candidate logs =
     log_check (set_formula_of q candidate part.Base)
-    (log_line part.Base candidate logs) logs.base >>= λ _.
+    (log_line w part.Base candidate logs) logs.base >>= λ _.
     log_check (set_formula_of q candidate part.Step)
-    (log_line part.Step candidate logs) logs.step >>= λ _.
+    (log_line w part.Step candidate logs) logs.step >>= λ _.
     log_check (set_formula_of q candidate part.Safe)
-    (log_line part.Safe candidate logs) logs.safe
+    (log_line w part.Safe candidate logs) logs.safe
 
 -- the candidate's numbers are as they have to be for the controller's registers
-abbrev pub shape_check : QuantisedView → Candidate → Checked
-shape_check q candidate = if is_shaped (registers_of q.realisation (order q)) candidate
-    then Ok tt else misfit
+abbrev pub shape_check : CertWords → QuantisedView → Candidate → Checked
+shape_check w q candidate = if is_shaped (registers_of q.realisation (order q)) candidate
+    then Ok tt else misfit w
 
-abbrev pub set_check : QuantisedView → Candidate → ThreeLogs → Checked
-set_check q candidate logs =
+abbrev pub set_check : CertWords → QuantisedView → Candidate → ThreeLogs → Checked
+set_check w q candidate logs =
     size_check q unbounded_samples >>= λ _.
-    shape_check q candidate >>= λ _.
-    sentences_check q candidate logs
+    shape_check w q candidate >>= λ _.
+    sentences_check w q candidate logs
 
-abbrev pub invariant_check : QuantisedView → Property → Size → Candidate → ThreeLogs → Checked
-invariant_check q (property.OfRuns run.Overflow) size.Unbounded candidate logs =
-    set_check q candidate logs
-invariant_check q p s candidate logs = misfit
+abbrev pub invariant_check : CertWords → QuantisedView → Property → Size → Candidate → ThreeLogs
+    → Checked
+invariant_check w q (property.OfRuns run.Overflow) size.Unbounded candidate logs =
+    set_check w q candidate logs
+invariant_check w q p s candidate logs = misfit w
 
 -- ---- a gain
 -- the gain was found
-abbrev pub outlook_check : Outlook → Checked
-outlook_check (outlook.Safe gain) = Ok tt
-outlook_check other = refused kind_line fault.Gain
+abbrev pub outlook_check : CertWords → Outlook → Checked
+outlook_check w (outlook.Safe gain) = Ok tt
+outlook_check w other = refused (kind_line w) fault.Gain
 
 -- the ranges of all exact values are ones of words at the depth or before it, whatever words were
 -- in the registers
-abbrev pub depth_check : QuantisedView → ℕ → Checked
-depth_check q depth = outlook_check (outlook_of q (suc depth))
+abbrev pub depth_check : CertWords → QuantisedView → ℕ → Checked
+depth_check w q depth = outlook_check w (outlook_of q (suc depth))
 
-abbrev pub gain_check : QuantisedView → Property → Size → ℕ → Checked
-gain_check q (property.OfRuns run.Overflow) size.Unbounded depth =
-    if nat_le depth most_gain_depth then depth_check q depth else misfit
-gain_check q p s depth = misfit
+abbrev pub gain_check : CertWords → QuantisedView → Property → Size → ℕ → Checked
+gain_check w q (property.OfRuns run.Overflow) size.Unbounded depth =
+    if nat_le depth most_gain_depth then depth_check w q depth else misfit w
+gain_check w q p s depth = misfit w
 
 -- ---- falls
 -- the line at which a form is refused, where it is
-abbrev pub refusal_check : Falls → Option FormRefusal → Checked
-refusal_check offer None = Ok tt
-refusal_check offer (Some why) = refused (form_line offer why) fault.Form
+abbrev pub refusal_check : CertWords → Falls → Option FormRefusal → Checked
+refusal_check w offer None = Ok tt
+refusal_check w offer (Some why) = refused (form_line w offer why) fault.Form
 
 -- the form has the polynomial's order, and falls along its trajectories
-abbrev pub offer_check : List ℤ → Falls → Checked
-offer_check c offer = if offer.form.d + 1 == length c
-    then refusal_check offer (falls_refusal c offer) else misfit
+abbrev pub offer_check : CertWords → List ℤ → Falls → Checked
+offer_check w c offer = if offer.form.d + 1 == length c
+    then refusal_check w offer (falls_refusal c offer) else misfit w
 
 -- the same for what is tested of a controller
-abbrev pub tested_check : Result Tested PolyWide → Falls → Checked
-tested_check (Ok (tested.Poly c)) offer = offer_check c offer
-tested_check (Ok tested.NoZeros) offer = Err refusal.NoZeros
-tested_check (Err wide) offer = Err (refusal.Wide wide.index)
+abbrev pub tested_check : CertWords → Result Tested PolyWide → Falls → Checked
+tested_check w (Ok (tested.Poly c)) offer = offer_check w c offer
+tested_check w (Ok tested.NoZeros) offer = Err refusal.NoZeros
+tested_check w (Err wide) offer = Err (refusal.Wide wide.index)
 
-abbrev pub falls_check : QuantisedView → Property → Size → Falls → Checked
-falls_check q (property.OfRoots p) size.NoSize offer =
-    tested_check (tested_of q (side_of p)) offer
-falls_check q p s offer = misfit
+abbrev pub falls_check : CertWords → QuantisedView → Property → Size → Falls → Checked
+falls_check w q (property.OfRoots p) size.NoSize offer =
+    tested_check w (tested_of q (side_of p)) offer
+falls_check w q p s offer = misfit w
 
 -- ---- certificates
 -- for a quantised controller
 abbrev pub words_check : QuantisedView → Certificate → Checked
-words_check q (certificate.Hints job log) = hints_check q job.property job.size log
+words_check q (certificate.Hints job log) = hints_check job.words q job.property job.size log
 words_check q (certificate.Invariant job candidate logs) =
-    invariant_check q job.property job.size candidate logs
-words_check q (certificate.Gain job depth) = gain_check q job.property job.size depth
-words_check q (certificate.Falls job offer) = falls_check q job.property job.size offer
+    invariant_check job.words q job.property job.size candidate logs
+words_check q (certificate.Gain job depth) = gain_check job.words q job.property job.size depth
+words_check q (certificate.Falls job offer) = falls_check job.words q job.property job.size offer
 
 -- in the job's realisation and modes the controller becomes these words, or is refused so
 abbrev pub BecomesFor : ControllerView → CertifiedJob → Result QuantisedView QuantRefusal → Type 0
@@ -181,8 +196,17 @@ abbrev pub Finds : Checked → Checked → Type 0
 Finds (Err refusal.NoMemory) meant = Unit {0}
 Finds found meant = meant ≡ found
 
--- what is found for a controller
+-- what is found for a controller whose words have the certificate's format
+abbrev pub IsFoundFor : ControllerView → Certificate → Checked → Type 0
+IsFoundFor c cert (Err refusal.NoMemory) = Unit {0}
+IsFoundFor c cert (Err (refusal.Quant why)) = BecomesFor c (job_of cert) (Err why)
+IsFoundFor c cert found = IsFoundOf c cert found
+
+-- what is found after the format: its refusal, or what is found where it passes
+abbrev pub IsFoundAfter : Checked → ControllerView → Certificate → Checked → Type 0
+IsFoundAfter (Ok x) c cert found = IsFoundFor c cert found
+IsFoundAfter (Err why) c cert found = found ≡ Err why
+
+-- what is found for a controller: the format is checked before all else
 abbrev pub IsChecked : ControllerView → Certificate → Checked → Type 0
-IsChecked c cert (Err refusal.NoMemory) = Unit {0}
-IsChecked c cert (Err (refusal.Quant why)) = BecomesFor c (job_of cert) (Err why)
-IsChecked c cert found = IsFoundOf c cert found
+IsChecked c cert = IsFoundAfter (format_check c (job_of cert).words) c cert

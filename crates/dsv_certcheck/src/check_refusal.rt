@@ -1,7 +1,8 @@
 // What the check of a certificate refuses.
+use crate::line_numbers::kind_line;
 use dsv_base::NoMemory;
 use dsv_bounded::{BoundedRefusal, TooLarge};
-use dsv_certfile::CheckFault;
+use dsv_certfile::{CertWords, CheckFault};
 use dsv_delta::PolyWide;
 use dsv_quantiser::QuantRefusal;
 use thiserror::Error;
@@ -27,6 +28,24 @@ pub enum CheckRefusal {
     /// There is no memory for it, or a log has 2^32 - 1 steps or more.
     #[error("out of memory")]
     NoMemory,
+}
+
+impl CheckRefusal {
+    ghost use Rattle.std.specs.Prelude.{◌≡◌};
+    ghost use Rattle.dsv_certcheck.specs.LineNumbers.{kind_line};
+    ghost use Rattle.dsv_certcheck.specs.declared.check_refusal.CheckRefusal.TheVariants as refusal;
+    ghost use Rattle.dsv_certfile.specs.declared.fault.CheckFault.TheVariants as fault;
+
+    /// The kind belongs to no such job, or a candidate's or a form's shape to no such controller,
+    /// where the certificate says this of the words.
+    pub(crate) fn misfit(words: CertWords) -> CheckRefusal
+        ensures { result ≡ refusal.Line (kind_line words) fault.Shape }
+    {
+        CheckRefusal::Line {
+            line: kind_line(words),
+            fault: CheckFault::Shape,
+        }
+    }
 }
 
 impl From<NoMemory> for CheckRefusal {

@@ -11,10 +11,10 @@ ghost use Rattle.dsv_certcheck.specs.LineNumbers.{log_line};
 ghost use Rattle.dsv_gain.specs.Controllers.{NeverOverflows};
 
 use crate::check_refusal::CheckRefusal;
-use crate::line_numbers::{BODY_LINE, KIND_LINE, log_line};
+use crate::line_numbers::{body_line, log_line};
 use dsv_base::NoMemory;
 use dsv_bounded::question_formula;
-use dsv_certfile::CheckFault;
+use dsv_certfile::{CertWords, CheckFault};
 use dsv_cnf::Formula;
 use dsv_hints::{Log, Verdict, check};
 use dsv_invariant::{accept_unbounded, set_formula};
@@ -50,22 +50,30 @@ fn check_log(alloc: Global, formula: &Formula, line: u64, log: &Log) -> Result<(
     }
 }
 
+/// A question about runs, and what the certificate says of the words.
+#[derive(Clone, Copy)]
+pub(crate) struct RunQuestion {
+    pub(crate) words: CertWords,
+    pub(crate) property: RunProperty,
+    pub(crate) samples: u32,
+}
+
 /// Checks that a log refutes that the property happens within 1 to 64 samples.
 pub(crate) fn check_run(
     alloc: Global,
     quantised: &Quantised,
-    property: RunProperty,
-    samples: u32,
+    question: RunQuestion,
     log: &Log,
 ) -> Result<(), CheckRefusal>
-    requires some { 1 ≤ samples }
-    requires few { samples ≤ 64 }
-    ensures found { Finds result (run_check quantised.now property samples log.now) }
-    ensures shows { OnOk result (Happens property quantised.now samples → ⊥) }
+    requires some { 1 ≤ question.samples }
+    requires few { question.samples ≤ 64 }
+    ensures found { Finds result (run_check question.words quantised.now question.property
+        question.samples log.now) }
+    ensures shows { OnOk result (Happens question.property quantised.now question.samples → ⊥) }
 {
-    let formula = question_formula(alloc, quantised, property, samples)?;
+    let formula = question_formula(alloc, quantised, question.property, question.samples)?;
     accept_length(log)?;
-    check_log(alloc, &formula, BODY_LINE, log)
+    check_log(alloc, &formula, body_line(question.words), log)
 }
 
 /// A sentence of a candidate, and the line of the certificate on which the first step of its log
@@ -100,11 +108,12 @@ fn check_sentence(
 fn check_sentences(
     alloc: Global,
     quantised: &Quantised,
+    words: CertWords,
     candidate: &Candidate,
     logs: &ThreeLogs,
 ) -> Result<(), CheckRefusal>
     requires shaped { IsShaped quantised.now candidate.now }
-    ensures found { Finds result (sentences_check quantised.now candidate.now logs.now) }
+    ensures found { Finds result (sentences_check words quantised.now candidate.now logs.now) }
     ensures base { OnOk result (Holds quantised.now candidate.now part.Base) }
     ensures step { OnOk result (Holds quantised.now candidate.now part.Step) }
     ensures safe { OnOk result (Holds quantised.now candidate.now part.Safe) }
@@ -114,17 +123,17 @@ fn check_sentences(
     accept_length(&logs.safe)?;
     let base = LoggedSentence {
         part: SetPart::Base,
-        line: log_line(SetPart::Base, candidate, logs),
+        line: log_line(words, SetPart::Base, candidate, logs),
     };
     check_sentence(alloc, quantised, candidate, base, &logs.base)?;
     let step = LoggedSentence {
         part: SetPart::Step,
-        line: log_line(SetPart::Step, candidate, logs),
+        line: log_line(words, SetPart::Step, candidate, logs),
     };
     check_sentence(alloc, quantised, candidate, step, &logs.step)?;
     let safe = LoggedSentence {
         part: SetPart::Safe,
-        line: log_line(SetPart::Safe, candidate, logs),
+        line: log_line(words, SetPart::Safe, candidate, logs),
     };
     check_sentence(alloc, quantised, candidate, safe, &logs.safe)
 }
@@ -133,19 +142,17 @@ fn check_sentences(
 pub(crate) fn check_set(
     alloc: Global,
     quantised: &Quantised,
+    words: CertWords,
     candidate: &Candidate,
     logs: &ThreeLogs,
 ) -> Result<(), CheckRefusal>
-    ensures found { Finds result (set_check quantised.now candidate.now logs.now) }
+    ensures found { Finds result (set_check words quantised.now candidate.now logs.now) }
     ensures shows { OnOk result (NeverOverflows quantised.now) }
 {
     accept_unbounded(quantised)?;
     let registers = registers(quantised.realisation(), quantised.order() as u32);
     if !candidate.is_shaped(registers) {
-        return Err(CheckRefusal::Line {
-            line: KIND_LINE,
-            fault: CheckFault::Shape,
-        });
+        return Err(CheckRefusal::misfit(words));
     }
-    check_sentences(alloc, quantised, candidate, logs)
+    check_sentences(alloc, quantised, words, candidate, logs)
 }

@@ -1,7 +1,7 @@
 // The check of certificates against controllers.
 ghost use Rattle.std.specs.Prelude.{◌≡◌, ◌≤◌, OnOk};
-ghost use Rattle.dsv_certcheck.specs.Checks.{Finds, IsChecked, words_check, hints_check};
-ghost use Rattle.dsv_certcheck.specs.Checks.{invariant_check, depth_check, gain_check};
+ghost use Rattle.dsv_certcheck.specs.Checks.{Finds, IsChecked, format_check, words_check};
+ghost use Rattle.dsv_certcheck.specs.Checks.{hints_check, invariant_check, depth_check, gain_check};
 ghost use Rattle.dsv_certcheck.specs.Checks.{falls_check, offer_check};
 ghost use Rattle.dsv_certcheck.specs.Shown.{Has, IsShownOf, IsFalling};
 ghost use Rattle.dsv_certfile.specs.Limits.{most_gain_depth};
@@ -9,10 +9,11 @@ ghost use Rattle.dsv_certfile.specs.Texts.{job_of};
 ghost use Rattle.dsv_gain.specs.Controllers.{NeverOverflows};
 
 use crate::check_refusal::CheckRefusal;
-use crate::checked_logs::{check_run, check_set};
-use crate::line_numbers::{KIND_LINE, form_line};
+use crate::checked_logs::{RunQuestion, check_run, check_set};
+use crate::line_numbers::{FORMAT_LINE, VERSION_LINE, form_line, kind_line};
 use dsv_certfile::{
-    Certificate, CertifiedJob, CheckFault, MOST_GAIN_DEPTH, MOST_JOB_SAMPLES, Size,
+    CertWords, Certificate, CertifiedJob, CheckFault, MOST_GAIN_DEPTH, MOST_JOB_SAMPLES,
+    NARROW_WORD_BITS, Size,
 };
 use dsv_forms::{Falls, Poly, check_falls};
 use dsv_gain::{Outlook, overflow_gain};
@@ -24,11 +25,29 @@ use dsv_template::{Candidate, ThreeLogs};
 use dsv_tested::{Tested, polynomial_of, side_of};
 use std::alloc::Global;
 
-/// The kind belongs to no such job.
-const MISFIT: CheckRefusal = CheckRefusal::Line {
-    line: KIND_LINE,
-    fault: CheckFault::Shape,
-};
+/// Checks that a controller's words have the format that the certificate says, or where it says
+/// none, at most `NARROW_WORD_BITS` bits.
+fn check_format(controller: &Controller, words: CertWords) -> Result<(), CheckRefusal>
+    ensures { result ≡ format_check controller.now words }
+{
+    let int_bits = controller.int_bits();
+    let frac_bits = controller.frac_bits();
+    match words {
+        CertWords::Unsaid if int_bits + frac_bits <= NARROW_WORD_BITS => Ok(()),
+        CertWords::Unsaid => Err(CheckRefusal::Line {
+            line: VERSION_LINE,
+            fault: CheckFault::Format,
+        }),
+        CertWords::Said {
+            int_bits: said_int_bits,
+            frac_bits: said_frac_bits,
+        } if int_bits == said_int_bits && frac_bits == said_frac_bits => Ok(()),
+        CertWords::Said { .. } => Err(CheckRefusal::Line {
+            line: FORMAT_LINE,
+            fault: CheckFault::Format,
+        }),
+    }
+}
 
 /// Checks that a log shows the property of a job.
 fn check_hints(
@@ -37,15 +56,21 @@ fn check_hints(
     job: &CertifiedJob,
     log: &Log,
 ) -> Result<(), CheckRefusal>
-    ensures found { Finds result (hints_check quantised.now job.now.property job.now.size log.now) }
+    ensures found { Finds result (hints_check job.now.words quantised.now job.now.property
+        job.now.size log.now) }
     ensures shows { OnOk result (Has quantised.now job.now.property job.now.size) }
 {
     match (job.property, job.size) {
         (Property::OfRuns(property), Size::Samples(samples))
             if 1 <= samples && samples <= MOST_JOB_SAMPLES => {
-            check_run(alloc, quantised, property, samples, log)
+            let question = RunQuestion {
+                words: job.words,
+                property,
+                samples,
+            };
+            check_run(alloc, quantised, question, log)
         }
-        (_, _) => Err(MISFIT),
+        (_, _) => Err(CheckRefusal::misfit(job.words)),
     }
 }
 
@@ -57,28 +82,33 @@ fn check_invariant(
     candidate: &Candidate,
     logs: &ThreeLogs,
 ) -> Result<(), CheckRefusal>
-    ensures found { Finds result
-        (invariant_check quantised.now job.now.property job.now.size candidate.now logs.now) }
+    ensures found { Finds result (invariant_check job.now.words quantised.now job.now.property
+        job.now.size candidate.now logs.now) }
     ensures shows { OnOk result (Has quantised.now job.now.property job.now.size) }
 {
     match (job.property, job.size) {
         (Property::OfRuns(RunProperty::Overflow), Size::Unbounded) => {
-            check_set(alloc, quantised, candidate, logs)
+            check_set(alloc, quantised, job.words, candidate, logs)
         }
-        (_, _) => Err(MISFIT),
+        (_, _) => Err(CheckRefusal::misfit(job.words)),
     }
 }
 
 /// Checks that the ranges of all exact values are ones of words at a depth or before it.
-fn check_depth(alloc: Global, quantised: &Quantised, depth: u32) -> Result<(), CheckRefusal>
+fn check_depth(
+    alloc: Global,
+    quantised: &Quantised,
+    words: CertWords,
+    depth: u32,
+) -> Result<(), CheckRefusal>
     requires { depth ≤ most_gain_depth }
-    ensures found { Finds result (depth_check quantised.now depth) }
+    ensures found { Finds result (depth_check words quantised.now depth) }
     ensures shows { OnOk result (NeverOverflows quantised.now) }
 {
     match overflow_gain(alloc, quantised, depth + 1)? {
         Outlook::Safe(_) => Ok(()),
         Outlook::Leaves { .. } | Outlook::Deep => Err(CheckRefusal::Line {
-            line: KIND_LINE,
+            line: kind_line(words),
             fault: CheckFault::Gain,
         }),
     }
@@ -92,29 +122,29 @@ fn check_gain(
     depth: u32,
 ) -> Result<(), CheckRefusal>
     ensures found { Finds result
-        (gain_check quantised.now job.now.property job.now.size depth) }
+        (gain_check job.now.words quantised.now job.now.property job.now.size depth) }
     ensures shows { OnOk result (Has quantised.now job.now.property job.now.size) }
 {
     match (job.property, job.size) {
         (Property::OfRuns(RunProperty::Overflow), Size::Unbounded) if depth <= MOST_GAIN_DEPTH => {
-            check_depth(alloc, quantised, depth)
+            check_depth(alloc, quantised, job.words, depth)
         }
-        (_, _) => Err(MISFIT),
+        (_, _) => Err(CheckRefusal::misfit(job.words)),
     }
 }
 
 /// Checks that a form falls along the trajectories of a polynomial.
-fn check_offer(poly: &Poly, offer: &Falls) -> Result<(), CheckRefusal>
-    ensures found { result ≡ offer_check poly.now offer.now }
+fn check_offer(words: CertWords, poly: &Poly, offer: &Falls) -> Result<(), CheckRefusal>
+    ensures found { result ≡ offer_check words poly.now offer.now }
     ensures shows { OnOk result (IsFalling poly.now offer.now.form) }
 {
     if offer.form.d as usize != poly.order() {
-        return Err(MISFIT);
+        return Err(CheckRefusal::misfit(words));
     }
     match check_falls(poly, offer) {
         Ok(_) => Ok(()),
         Err(refusal) => Err(CheckRefusal::Line {
-            line: form_line(offer, refusal),
+            line: form_line(words, offer, refusal),
             fault: CheckFault::Form,
         }),
     }
@@ -122,7 +152,8 @@ fn check_offer(poly: &Poly, offer: &Falls) -> Result<(), CheckRefusal>
 
 /// Checks that a form shows the property of a job.
 fn check_form(quantised: &Quantised, job: &CertifiedJob, offer: &Falls) -> Result<(), CheckRefusal>
-    ensures found { result ≡ falls_check quantised.now job.now.property job.now.size offer.now }
+    ensures found { result
+        ≡ falls_check job.now.words quantised.now job.now.property job.now.size offer.now }
     ensures shows { OnOk result (Has quantised.now job.now.property job.now.size) }
 {
     match (job.property, job.size) {
@@ -130,10 +161,10 @@ fn check_form(quantised: &Quantised, job: &CertifiedJob, offer: &Falls) -> Resul
             quantised,
             side_of(property),
         )? {
-            Tested::Poly(poly) => check_offer(&poly, offer),
+            Tested::Poly(poly) => check_offer(job.words, &poly, offer),
             Tested::NoZeros => Err(CheckRefusal::NoZeros),
         },
-        (_, _) => Err(MISFIT),
+        (_, _) => Err(CheckRefusal::misfit(job.words)),
     }
 }
 
@@ -159,10 +190,11 @@ fn check_words(
     }
 }
 
-/// Checks a certificate against a controller: the controller's words in the certificate's modes,
-/// and from these the formulas of its job, or the polynomial, are made anew, and nothing else that
-/// the certificate says is believed. What passes has the certificate's property, whatever else is
-/// in the certificate. It takes memory for a formula and a log at a time.
+/// Checks a certificate against a controller: the controller's words have to be of the format that
+/// the certificate says, and then these words in the certificate's modes, and from these the
+/// formulas of its job, or the polynomial, are made anew, and nothing else that the certificate
+/// says is believed. What passes has the certificate's property, whatever else is in the
+/// certificate. It takes memory for a formula and a log at a time.
 pub fn check(
     alloc: Global,
     controller: &Controller,
@@ -172,6 +204,7 @@ pub fn check(
     ensures shows { OnOk result (IsShownOf controller.now (job_of certificate.now)) }
 {
     let job = certificate.job();
+    check_format(controller, job.words)?;
     let quantised = quantise_in(controller, job.design)?;
     check_words(alloc, &quantised, certificate)
 }

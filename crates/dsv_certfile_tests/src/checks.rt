@@ -26,6 +26,26 @@ const LARGE: &str = "digital_system d = { .b = {1.0}, .b_size = 1, .a = {1.0, 0.
     .a_size = 3 }; implementation r = { .int_bits = 16, .frac_bits = 16, .max = 1.0, \
     .min = -1.0 };";
 
+/// y = x / 2 in words of 48 bits.
+const WIDE_GAIN: &str = "digital_system d = { .b = {0.5}, .b_size = 1, .a = {1.0}, .a_size = 1 }; \
+    implementation r = { .int_bits = 2, .frac_bits = 46, .max = 1.0, .min = -1.0 };";
+
+/// y = x / 2 in words of 33 bits.
+const LEAST_WIDE_GAIN: &str = "digital_system d = { .b = {0.5}, .b_size = 1, .a = {1.0}, \
+    .a_size = 1 }; implementation r = { .int_bits = 16, .frac_bits = 17, .max = 1.0, \
+    .min = -1.0 };";
+
+/// y = x / 2 in words of 32 bits.
+const GREATEST_NARROW_GAIN: &str = "digital_system d = { .b = {0.5}, .b_size = 1, .a = {1.0}, \
+    .a_size = 1 }; implementation r = { .int_bits = 16, .frac_bits = 16, .max = 1.0, \
+    .min = -1.0 };";
+
+/// The lines before the kind, where no format is said.
+const UNSAID: &str = "dsv-certificate 1\njob STABILITY DFI FLOOR WRAPAROUND\n";
+
+/// The lines before the format for two poles.
+const SAID: &str = "dsv-certificate 2\njob STABILITY DFI FLOOR WRAPAROUND\n";
+
 /// The lines before the form for two poles.
 const HEAD: &str = "dsv-certificate 1\njob STABILITY DFI FLOOR WRAPAROUND\nkind falls 2\n";
 
@@ -211,6 +231,186 @@ const LOGS: &[Case] = &[
     ),
 ];
 
+/// What formats are refused, and at which line.
+const FORMATS: &[Case] = &[
+    Case(
+        GREATEST_NARROW_GAIN,
+        UNSAID,
+        "",
+        "kind falls 0\npositive 1 0\nfall 1 0\nend\n",
+        Ok(()),
+    ),
+    Case(
+        LEAST_WIDE_GAIN,
+        UNSAID,
+        "",
+        "kind falls 0\npositive 1 0\nfall 1 0\nend\n",
+        Err(CheckRefusal::Line {
+            line: 1,
+            fault: CheckFault::Format,
+        }),
+    ),
+    Case(
+        LEAST_WIDE_GAIN,
+        SAID,
+        "format 16 17\n",
+        "kind falls 0\npositive 1 0\nfall 1 0\nend\n",
+        Ok(()),
+    ),
+    Case(
+        WIDE_GAIN,
+        SAID,
+        "format 2 46\n",
+        "kind falls 0\npositive 1 0\nfall 1 0\nend\n",
+        Ok(()),
+    ),
+    Case(
+        WIDE_GAIN,
+        SAID,
+        "format 2 45\n",
+        "kind falls 0\npositive 1 0\nfall 1 0\nend\n",
+        Err(CheckRefusal::Line {
+            line: 3,
+            fault: CheckFault::Format,
+        }),
+    ),
+    Case(
+        WIDE_GAIN,
+        SAID,
+        "format 46 2\n",
+        "kind falls 0\npositive 1 0\nfall 1 0\nend\n",
+        Err(CheckRefusal::Line {
+            line: 3,
+            fault: CheckFault::Format,
+        }),
+    ),
+    Case(
+        GAIN,
+        SAID,
+        "format 2 14\n",
+        "kind falls 0\npositive 1 0\nfall 1 0\nend\n",
+        Ok(()),
+    ),
+    Case(
+        GAIN,
+        SAID,
+        "format 3 14\n",
+        "kind falls 0\npositive 0 0\nfall 1 0\nend\n",
+        Err(CheckRefusal::Line {
+            line: 3,
+            fault: CheckFault::Format,
+        }),
+    ),
+    Case(
+        SUM,
+        "dsv-certificate 2\njob OVERFLOW DDFI FLOOR WRAPAROUND 1\n",
+        "format 2 3\n",
+        "kind hints\nend\n",
+        Err(CheckRefusal::Line {
+            line: 3,
+            fault: CheckFault::Format,
+        }),
+    ),
+    Case(
+        SUM,
+        "dsv-certificate 2\njob OVERFLOW DDFI FLOOR WRAPAROUND 1\n",
+        "format 2 2\n",
+        "kind hints\nend\n",
+        Err(CheckRefusal::Quant(QuantRefusal::DeltaNotPositive { wanted: 0 })),
+    ),
+];
+
+/// Certificates that say a format: what is refused stands a line further down.
+const LINES: &[Case] = &[
+    Case(
+        TWO_POLES,
+        "dsv-certificate 2\njob STABILITY DFI FLOOR WRAPAROUND\nformat 2 2\nkind falls 2\n",
+        "form 24 -8\nform -8 11\npositive 3 2\nsquare 2 6 -2\nsquare 25 0 1\nrest 0 0\nrest 0 0\n",
+        "fall 1 2\nsquare 20 1 0\nsquare 20 0 1\nrest 0 0\nrest 0 0\nend\n",
+        Ok(()),
+    ),
+    Case(
+        TWO_POLES,
+        "dsv-certificate 2\njob STABILITY DFI FLOOR WRAPAROUND\nformat 2 2\nkind falls 2\n",
+        "form 24 -8\nform -7 11\npositive 3 2\nsquare 2 6 -2\nsquare 25 0 1\nrest 0 0\nrest 0 0\n",
+        "fall 1 2\nsquare 20 1 0\nsquare 20 0 1\nrest 0 0\nrest 0 0\nend\n",
+        Err(CheckRefusal::Line {
+            line: 5,
+            fault: CheckFault::Form,
+        }),
+    ),
+    Case(
+        TWO_POLES,
+        "dsv-certificate 2\njob STABILITY DFI FLOOR WRAPAROUND\nformat 2 2\nkind falls 2\n",
+        "form 24 -8\nform -8 11\npositive 3 2\nsquare 2 6 -2\nsquare -25 0 1\nrest 0 0\nrest 0 0\n",
+        "fall 1 2\nsquare 20 1 0\nsquare 20 0 1\nrest 0 0\nrest 0 0\nend\n",
+        Err(CheckRefusal::Line {
+            line: 9,
+            fault: CheckFault::Form,
+        }),
+    ),
+    Case(
+        TWO_POLES,
+        "dsv-certificate 2\njob STABILITY DFI FLOOR WRAPAROUND\nformat 2 2\nkind falls 2\n",
+        "form 24 -8\nform -8 11\npositive 3 2\nsquare 2 6 -2\nsquare 25 0 1\nrest 0 0\nrest 0 0\n",
+        "fall 1 2\nsquare 20 1 0\nsquare 21 0 1\nrest 0 0\nrest 0 -1\nend\n",
+        Err(CheckRefusal::Line {
+            line: 16,
+            fault: CheckFault::Form,
+        }),
+    ),
+    Case(
+        ONE_POLE,
+        "dsv-certificate 2\njob STABILITY DFI FLOOR WRAPAROUND\nformat 2 2\nkind falls 2\n",
+        "form 24 -8\nform -8 11\npositive 3 2\nsquare 2 6 -2\nsquare 25 0 1\nrest 0 0\nrest 0 0\n",
+        "fall 1 2\nsquare 20 1 0\nsquare 20 0 1\nrest 0 0\nrest 0 0\nend\n",
+        Err(CheckRefusal::Line {
+            line: 4,
+            fault: CheckFault::Shape,
+        }),
+    ),
+    Case(
+        SUM,
+        "dsv-certificate 2\njob OVERFLOW DFI FLOOR WRAPAROUND 1\nformat 2 2\n",
+        "kind hints\n1 d 1 0\n1 d 1 0\n",
+        "end\n",
+        Err(CheckRefusal::Line {
+            line: 6,
+            fault: CheckFault::Step,
+        }),
+    ),
+    Case(
+        SUM,
+        "dsv-certificate 2\njob OVERFLOW DFI FLOOR WRAPAROUND unbounded\nformat 2 2\n",
+        "kind invariant 1 0\nbase\n",
+        "step\nsafe\nend\n",
+        Err(CheckRefusal::Line {
+            line: 6,
+            fault: CheckFault::Step,
+        }),
+    ),
+    Case(
+        SUM,
+        "dsv-certificate 2\njob OVERFLOW DFI FLOOR WRAPAROUND unbounded\nformat 2 2\n",
+        "kind invariant 9 0\nbase\n",
+        "step\nsafe\nend\n",
+        Err(CheckRefusal::Line {
+            line: 4,
+            fault: CheckFault::Shape,
+        }),
+    ),
+    Case(
+        SUM,
+        "dsv-certificate 2\njob OVERFLOW DFI FLOOR WRAPAROUND unbounded\nformat 2 2\n",
+        "kind gain 0\n",
+        "end\n",
+        Err(CheckRefusal::Line {
+            line: 4,
+            fault: CheckFault::Gain,
+        }),
+    ),
+];
+
 fn controller_of(alloc: Global, text: &str) -> Option<Controller> {
     dsv_reader::read(alloc, text.as_bytes()).ok()
 }
@@ -241,6 +441,16 @@ fn are_found(alloc: Global, cases: &[Case]) -> bool {
 #[test]
 fn a_form_is_refused_at_the_line_of_its_fault(rt: HostRuntime) {
     assert!(rt; are_found(rt.alloc(), FORMS));
+}
+
+#[test]
+fn another_format_is_refused_before_all_else(rt: HostRuntime) {
+    assert!(rt; are_found(rt.alloc(), FORMATS));
+}
+
+#[test]
+fn lines_after_a_format_are_counted(rt: HostRuntime) {
+    assert!(rt; are_found(rt.alloc(), LINES));
 }
 
 #[test]
