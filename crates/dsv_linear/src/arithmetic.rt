@@ -37,6 +37,7 @@ fn number_at(list: &[i64], j: usize) -> i64
 }
 
 /// The sum, where all its coefficients have 64 bits.
+#[inline(never)]
 fn short_sum(alloc: Global, left: &[i64], right: &[i64]) -> Result<Option<Items<i64>>, NoMemory>
     ensures { IfOk result (λ found. IfSome found (λ list. sums left.now right.now ≡ Some list)) }
 {
@@ -79,6 +80,7 @@ pub(crate) fn sum(alloc: Global, left: &Form, right: &Form) -> Result<Option<For
 }
 
 /// The difference, where all its coefficients have 64 bits.
+#[inline(never)]
 fn short_difference(
     alloc: Global,
     left: &[i64],

@@ -117,6 +117,7 @@ fn number_at(list: &[NarrowInteger], j: usize) -> NarrowInteger
 
 /// The division by this power of two, where all quotients have 64 bits and the ends of all ranges
 /// are small.
+#[inline(never)]
 fn small_division(
     alloc: Global,
     bits: u32,
