@@ -19,24 +19,14 @@ pub(crate) struct Reach {
     greatest: i128,
 }
 
-/// The lesser of two numbers.
-fn lesser_of(a: i128, b: i128) -> i128 {
-    if b < a { b } else { a }
-}
-
-/// The greater of two numbers.
-fn greater_of(a: i128, b: i128) -> i128 {
-    if a < b { b } else { a }
-}
-
 impl Reach {
     /// With one input more, to which the value answers so.
     fn with_answer(&self, quantised: &Quantised, answer: i128) -> Reach {
         let first = answer.saturating_mul(i128::from(quantised.xlo()));
         let last = answer.saturating_mul(i128::from(quantised.xhi()));
         Reach {
-            least: self.least.saturating_add(lesser_of(first, last)),
-            greatest: self.greatest.saturating_add(greater_of(first, last)),
+            least: self.least.saturating_add(first.min(last)),
+            greatest: self.greatest.saturating_add(first.max(last)),
         }
     }
 
@@ -113,7 +103,7 @@ pub(crate) fn candidates(
         let above = reach.excess_above(format);
         let below = reach.excess_below(format);
         list.push(Candidate {
-            past: greater_of(above, below),
+            past: above.max(below),
             value,
             upwards: below <= above,
         })?;

@@ -1,11 +1,11 @@
 -- Coefficients that are divided: what is left of them is never negative.
-use Rattle.std.proofs.Common.{◌≡◌, ℕ, zero, suc, ◌+◌, ◌<◌, ◌≤◌, List, [], ◌∷◌, ◌++◌, length, ◌^◌, refl, sym, ap, ◌∙◌, SFits, arith, add-one}
+use Rattle.std.proofs.Common.{◌≡◌, ℕ, zero, suc, ◌+◌, ◌<◌, ◌≤◌, List, [], ◌∷◌, ◌++◌, length, ◌^◌, refl, sym, ap, ◌∙◌, arith}
 use Rattle.std.specs.Prelude.{Some}
-use Rattle.std.specs.Int.{w64, int_rem_euclid}
+use Rattle.std.specs.Int.{int_rem_euclid}
 use Rattle.std.specs.Int.RustNames.{unsigned_abs}
 use Rattle.std.proofs.Math.IntN.{ℤ, pos, ◌*ℤ◌}
 use Rattle.dsv_algebra.specs.Floor.{floor_of}
-use Rattle.dsv_algebra.specs.Narrow.{narrow_limit, narrow_of}
+use Rattle.dsv_algebra.specs.Narrow.{narrow_limit}
 use Rattle.dsv_word.proofs.Floors.{rest_within}
 use Rattle.dsv_word.specs.Width.{widest_word}
 use Rattle.dsv_netlist.specs.Nodes.{at}
@@ -14,7 +14,7 @@ use Rattle.dsv_linear.specs.Forms.{range, range_at, entries, total, least, great
 use Rattle.dsv_linear.specs.Divisions.{division}
 use Rattle.dsv_linear.proofs.Numbers.{least_up, greatest_up}
 use Rattle.dsv_linear.proofs.Meanings.{AreEntries, entries_are}
-use Rattle.dsv_linear.proofs.SmallSums.{IsSum, narrow_same, short_size}
+use Rattle.dsv_linear.proofs.SmallSums.{IsSum, narrow_same}
 
 -- what is left of a coefficient, times the ends of its symbol's range
 abbrev pub low_term : List Range → ℕ → List ℤ → ℕ → ℤ
@@ -24,12 +24,6 @@ abbrev pub high_term : List Range → ℕ → List ℤ → ℕ → ℤ
 high_term ranges d list j = int_rem_euclid (at list j) (pos d) *ℤ (range_at ranges j).high
 
 -- ---- lists and sums
-pub entries_more : (f : ℕ → ℤ) (j : ℕ) (list now : List ℤ) (x : ℤ) → entries j f ≡ Some list → x ≡ f j → SFits w64 x → now ≡ list ++ x ∷ [] → entries (j + 1) f ≡ Some now
-entries_more f j list now x h e p g =
-    let s = short_size x p in
-    let here : narrow_of (f j) ≡ Some x = rw (← e) (narrow_same x (omega arith)) in
-    ap (λ n. entries n f) (add-one j) ∙ rw (h, here, g) refl
-
 entries_exist : (n : ℕ) (f : ℕ → ℤ) → ((j : ℕ) → j < n → unsigned_abs (f j) < narrow_limit) → (list : List ℤ) × (entries n f ≡ Some list)
 entries_exist zero f h = ([], refl)
 entries_exist (suc n) f h =

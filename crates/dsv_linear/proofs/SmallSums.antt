@@ -1,5 +1,5 @@
 -- Sums of products of small numbers: each sum on the way is narrow.
-use Rattle.std.proofs.Common.{◌≡◌, ℕ, zero, suc, ◌+◌, ◌*◌, ◌^◌, ◌<◌, ◌≤◌, if◌then◌else◌, List, length, inl, inr, refl, sym, subst, ap, ◌∙◌, SFits, to_z, of_z, arith}
+use Rattle.std.proofs.Common.{◌≡◌, ℕ, zero, suc, ◌+◌, ◌*◌, ◌^◌, ◌<◌, ◌≤◌, if◌then◌else◌, List, [], ◌∷◌, ◌++◌, length, inl, inr, refl, sym, subst, ap, ◌∙◌, SFits, to_z, of_z, arith, add-one}
 use Rattle.std.specs.Prelude.{Option, Some, None}
 use Rattle.std.specs.Int.{w64, w128}
 use Rattle.std.specs.Int.RustNames.{unsigned_abs}
@@ -12,7 +12,7 @@ use Rattle.dsv_algebra.specs.Narrow.{narrow_limit, narrow_of}
 use Rattle.dsv_netlist.proofs.Sizes.{sum_size}
 use Rattle.dsv_netlist.specs.Nodes.{at}
 use Rattle.dsv_linear.specs.declared.range.Range.{Range}
-use Rattle.dsv_linear.specs.Forms.{total, range, range_at, both, least, greatest, least_term, greatest_term, least_factor, greatest_factor}
+use Rattle.dsv_linear.specs.Forms.{entries, total, range, range_at, both, least, greatest, least_term, greatest_term, least_factor, greatest_factor}
 use Rattle.dsv_linear.specs.Divisions.{extremes}
 use Rattle.dsv_linear.specs.SmallNumbers.{small_limit, most_terms, most_product, IsSmall, HasRoom}
 use Rattle.dsv_linear.proofs.Numbers.{none_times}
@@ -87,6 +87,13 @@ short_times_is a b x y p q e g =
 -- ---- sums
 pub narrow_same : (z : ℤ) → unsigned_abs z < narrow_limit → narrow_of z ≡ Some z
 narrow_same z h = ap (λ b. if b then Some z else None) (lt-ltb (unsigned_abs z) narrow_limit h)
+
+-- a list with one number of 64 bits more
+pub entries_more : (f : ℕ → ℤ) (j : ℕ) (list now : List ℤ) (x : ℤ) → entries j f ≡ Some list → x ≡ f j → SFits w64 x → now ≡ list ++ x ∷ [] → entries (j + 1) f ≡ Some now
+entries_more f j list now x h e p g =
+    let s = short_size x p in
+    let here : narrow_of (f j) ≡ Some x = rw (← e) (narrow_same x (omega arith)) in
+    ap (λ n. entries n f) (add-one j) ∙ rw (h, here, g) refl
 
 -- the sum of the first numbers, each a product of small ones
 pub record IsSum (f : ℕ → ℤ) (j : ℕ) (sum : ℤ) : Type 0 where

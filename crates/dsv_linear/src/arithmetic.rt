@@ -1,12 +1,16 @@
 // Sums, differences and products of forms, given up where their numbers aren't narrow.
 //
 // Where all coefficients have 64 bits, a sum or a difference is tried in 64 bits first.
-ghost use Rattle.std.specs.Prelude.{◌≡◌, ◌*ℤ◌, length, IfOk, IfSome, Some};
+ghost use Rattle.std.specs.Prelude.{◌≡◌, ◌<◌, ◌*ℤ◌, length, IfOk, IfSome, Some};
+ghost use Rattle.std.specs.Int.RustNames.{unsigned_abs};
+ghost use Rattle.dsv_algebra.specs.Narrow.{narrow_limit};
 ghost use Rattle.dsv_netlist.specs.Nodes.{at};
 ghost use Rattle.dsv_linear.specs.Forms.{sums, differences, products, unit, longer};
+ghost use Rattle.dsv_linear.specs.SmallNumbers.{IsSmall};
 
 use crate::SCALE;
-use crate::form::{Form, room_for, short_number};
+use crate::form::{Form, room_for};
+use crate::small::small_number;
 use dsv_algebra::NarrowInteger;
 use dsv_base::{Items, NoMemory};
 use std::alloc::Global;
@@ -26,17 +30,14 @@ fn longer_length(left: &Form, right: &Form) -> usize
 }
 
 /// The number at this place, 0 after the list's end.
-fn number_at(list: &[i64], j: usize) -> NarrowInteger
+fn number_at(list: &[i64], j: usize) -> i64
     ensures { result ≡ at list.now j }
 {
-    if j < list.len() {
-        NarrowInteger::from(list[j])
-    } else {
-        NarrowInteger::from(0i64)
-    }
+    if j < list.len() { list[j] } else { 0 }
 }
 
 /// The sum, where all its coefficients have 64 bits.
+#[inline(never)]
 fn short_sum(alloc: Global, left: &[i64], right: &[i64]) -> Result<Option<Items<i64>>, NoMemory>
     ensures { IfOk result (λ found. IfSome found (λ list. sums left.now right.now ≡ Some list)) }
 {
@@ -46,10 +47,7 @@ fn short_sum(alloc: Global, left: &[i64], right: &[i64]) -> Result<Option<Items<
         let Some(entry) = number_at(left, j).checked_add(number_at(right, j)) else {
             return Ok(None);
         };
-        let Some(short) = short_number(entry) else {
-            return Ok(None);
-        };
-        list.push(short)?;
+        list.push(entry)?;
     }
     Ok(Some(list))
 }
@@ -82,6 +80,7 @@ pub(crate) fn sum(alloc: Global, left: &Form, right: &Form) -> Result<Option<For
 }
 
 /// The difference, where all its coefficients have 64 bits.
+#[inline(never)]
 fn short_difference(
     alloc: Global,
     left: &[i64],
@@ -96,10 +95,7 @@ fn short_difference(
         let Some(entry) = number_at(left, j).checked_sub(number_at(right, j)) else {
             return Ok(None);
         };
-        let Some(short) = short_number(entry) else {
-            return Ok(None);
-        };
-        list.push(short)?;
+        list.push(entry)?;
     }
     Ok(Some(list))
 }
@@ -131,26 +127,27 @@ pub(crate) fn difference(alloc: Global, left: &Form, right: &Form) -> Result<Opt
     wide_difference(alloc, left, right)
 }
 
-/// The product of two numbers of 64 bits, by one multiplication.
+/// The product of a small number with one of 64 bits, which is narrow.
 #[tactic(auto, using(crate::proofs::SmallSums::short_product_fits))]
-fn short_times(a: &i64, b: &i64) -> NarrowInteger
-    ensures { result ≡ a.now *ℤ b.now }
+fn small_times(a: &i64, b: &i64) -> NarrowInteger
+    requires { IsSmall a.now }
+    ensures value { result ≡ a.now *ℤ b.now }
+    ensures narrow { unsigned_abs result < narrow_limit }
 {
     NarrowInteger::from(i128::from(*a) * i128::from(*b))
 }
 
-/// The product of coefficients of 64 bits with such a number.
-fn short_product(alloc: Global, c: &i64, of: &[i64]) -> Result<Option<Form>, NoMemory>
-    ensures { IfOk result (λ form. form ≡ products c.now of.now) }
+/// The product of coefficients of 64 bits with a small number.
+#[inline(never)]
+fn short_product(alloc: Global, c: &i64, of: &[i64]) -> Result<Form, NoMemory>
+    requires { IsSmall c.now }
+    ensures { IfOk result (λ form. products c.now of.now ≡ Some form) }
 {
     let mut list = room_for(alloc, of.len())?;
     for j in 0..of.len() {
-        let Some(entry) = short_times(c, &of[j]).narrow_number() else {
-            return Ok(None);
-        };
-        list.push(entry)?;
+        list.push(small_times(c, &of[j]))?;
     }
-    Ok(Some(Form::from_wide(alloc, list)))
+    Ok(Form::from_wide(alloc, list))
 }
 
 /// The product of coefficients of any size.
@@ -171,8 +168,8 @@ fn wide_product(alloc: Global, c: NarrowInteger, of: &Form) -> Result<Option<For
 pub(crate) fn product(alloc: Global, c: NarrowInteger, of: &Form) -> Result<Option<Form>, NoMemory>
     ensures { IfOk result (λ form. form ≡ products c of.now) }
 {
-    match (short_number(c), of.as_short()) {
-        (Some(factor), Some(list)) => short_product(alloc, &factor, list),
+    match (small_number(c), of.as_short()) {
+        (Some(factor), Some(list)) => Ok(Some(short_product(alloc, &factor, list)?)),
         _ => wide_product(alloc, c, of),
     }
 }

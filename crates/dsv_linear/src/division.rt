@@ -13,7 +13,7 @@ use crate::extremes::extreme_sums;
 use crate::form::{Form, room_for, short_number};
 use crate::powers::power;
 use crate::range::{Range, lower_quotient};
-use crate::small::{MOST_TERMS, small_number, small_range, with_product};
+use crate::small::{MOST_TERMS, small_range, with_product};
 use dsv_algebra::NarrowInteger;
 use dsv_base::{Items, NoMemory};
 use std::alloc::Global;
@@ -84,12 +84,13 @@ fn lower_number(v: NarrowInteger, bits: u32) -> NarrowInteger
     NarrowInteger::from(v.get() >> bits)
 }
 
-/// What is left of a number that is divided by a power of two.
-fn rest_of(v: NarrowInteger, bits: u32) -> NarrowInteger
+/// What is left of a number that is divided by a power of two, which is small.
+fn rest_of(v: NarrowInteger, bits: u32) -> i64
     requires { bits ≤ widest_word }
-    ensures { result ≡ int_rem_euclid v (pos (2 ^ bits)) }
+    ensures value { result ≡ int_rem_euclid v (pos (2 ^ bits)) }
+    ensures small { IsSmall result }
 {
-    NarrowInteger::from(v.get().rem_euclid(i128::from(power(bits))))
+    v.get().rem_euclid(i128::from(power(bits))) as i64
 }
 
 /// The parts of a number.
@@ -99,7 +100,7 @@ fn parts_of(v: NarrowInteger, bits: u32) -> Option<Parts>
         × ((parts.rest ≡ int_rem_euclid v (pos (2 ^ bits))) × IsSmall parts.rest)) }
 {
     let quotient = short_number(lower_number(v, bits))?;
-    let rest = small_number(rest_of(v, bits))?;
+    let rest = rest_of(v, bits);
     Some(Parts { quotient, rest })
 }
 
@@ -116,6 +117,7 @@ fn number_at(list: &[NarrowInteger], j: usize) -> NarrowInteger
 
 /// The division by this power of two, where all quotients have 64 bits and the ends of all ranges
 /// are small.
+#[inline(never)]
 fn small_division(
     alloc: Global,
     bits: u32,

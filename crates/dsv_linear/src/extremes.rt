@@ -54,6 +54,7 @@ fn greatest_sum(ranges: &[Range], form: &Form) -> Option<NarrowInteger>
 }
 
 /// Both sums, where all coefficients and the ends of all ranges are small.
+#[inline(never)]
 fn small_extremes(ranges: &[Range], list: &[i64]) -> Option<Range>
     ensures { IfSome result (λ sums. extremes ranges.now list.now ≡ Some sums) }
 {

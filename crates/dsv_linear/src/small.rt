@@ -3,10 +3,15 @@
 // Nearly all coefficients and ends of ranges are below 2^55 in size. A product of two such numbers
 // is below 2^110, and a sum of fewer than 2^16 of these below 2^126, so that no sum on the way is
 // tested.
+//
+// The loops over short and small numbers aren't inlined: within a large function what they step
+// wouldn't stay in registers, and factors that are known to be small would be multiplied in 128
+// bits.
 ghost use Rattle.std.specs.Prelude.{◌≡◌, ◌+ℤ◌, ◌*ℤ◌, IfSome, IsTrue};
 ghost use Rattle.dsv_linear.specs.Forms.{least_factor, greatest_factor};
 ghost use Rattle.dsv_linear.specs.SmallNumbers.{IsSmall, HasRoom};
 
+use crate::form::short_number;
 use crate::range::Range;
 use dsv_algebra::NarrowInteger;
 
@@ -27,12 +32,8 @@ pub(crate) fn is_small(v: &i64) -> bool
 pub(crate) fn small_number(v: NarrowInteger) -> Option<i64>
     ensures { IfSome result (λ small. (small ≡ v) × IsSmall small) }
 {
-    let limit = i128::from(SMALL_LIMIT);
-    if -limit < v.get() && v.get() < limit {
-        Some(v.get() as i64)
-    } else {
-        None
-    }
+    let short = short_number(v)?;
+    if is_small(&short) { Some(short) } else { None }
 }
 
 /// A range whose ends are small.

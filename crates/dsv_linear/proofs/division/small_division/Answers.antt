@@ -8,8 +8,8 @@ use Rattle.dsv_linear.specs.declared.range.Range.{Range}
 use Rattle.dsv_linear.specs.Forms.{range, range_at}
 use Rattle.dsv_linear.specs.SmallNumbers.{most_terms, IsSmall}
 use Rattle.dsv_linear.proofs.Passes.{other_default}
-use Rattle.dsv_linear.proofs.SmallSums.{sum_more, times_same}
-use Rattle.dsv_linear.proofs.Divisions.{low_term, high_term, entries_more, division_made}
+use Rattle.dsv_linear.proofs.SmallSums.{entries_more, sum_more, times_same}
+use Rattle.dsv_linear.proofs.Divisions.{low_term, high_term, division_made}
 use Rattle.dsv_linear.proofs.Scales.{power_positive}
 use Rattle.dsv_linear.proofs.division.small_division.Goals as goal
 

@@ -1,10 +1,10 @@
 use Rattle.std.proofs.Common.{◌∙◌, SFits, rules}
 use Rattle.std.specs.Int.{w64}
 use Rattle.dsv_linear.proofs.SmallSums.{short_times_is}
-use Rattle.dsv_linear.proofs.arithmetic.short_times.Goals as goal
+use Rattle.dsv_linear.proofs.arithmetic.small_times.Goals as goal
 
-pub returns : goal.returns
-returns c =
+pub returns-clause-value : goal.returns-clause-value
+returns-clause-value c =
     let a = c.args.a.now in
     let b = c.args.b.now in
     let first : SFits w64 a = search rules in
