@@ -15,4 +15,5 @@ pub mod OneAnswerStages
 pub mod OneAnswerTasks
 pub mod Suffixes
 pub mod Told
+pub mod WordsSaid
 pub mod Unasked
