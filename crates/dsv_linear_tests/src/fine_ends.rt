@@ -90,11 +90,12 @@ const HALF_47: &[Node] = &[
     Node::Fit(2),
 ];
 
-// The inputs of a chain are -5 to 6. The first product is -3.75 to 4.5 before it is made whole; with
-// the errors e and f, in units of the last place, the second is 0.5625 x + 0.75 e + f. By FLOOR an
-// error is above -1 and at most 0, so the second is above -2.8125 - 1.75 and at most 3.375; by CEIL
-// it is at least -2.8125 and below 3.375 + 1.75; by NEAREST an error is above -0.5 and at most 0.5,
-// and it is above -2.8125 - 0.875 and at most 3.375 + 0.875.
+// The inputs of a chain are -5 to 6. Before it is made whole the first product is -3.75 to 4.5, and
+// with the errors e and f of both products, in units of the last place, the second is
+// 0.5625 x + 0.75 e + f. By FLOOR an error is above -1 and at most 0, so the second is above
+// -2.8125 - 1.75 and at most 3.375; by CEIL it is at least -2.8125 and below 3.375 + 1.75; by
+// NEAREST an error is above -0.5 and at most 0.5, and the second is above -2.8125 - 0.875 and at
+// most 3.375 + 0.875.
 const FLOORS: &[Fact] = &[
     Fact::Within { low: -4, high: 4 },
     Fact::Within { low: -4, high: 3 },
@@ -110,8 +111,8 @@ const NEAREST: &[Fact] = &[
     Fact::Within { low: -3, high: 4 },
 ];
 
-// The inputs of the others are the words from -1/2 to 1/2. The product is, in units of the last
-// place, a quarter of the greatest word's size and a half before it is made whole.
+// The inputs of the others are the words from -1/2 to 1/2. Before it is made whole the product is
+// at most 1/4 and half a unit of the last place, and at least -1/4 less half a unit.
 const ROWS_40: [Row; 6] = [
     Row {
         nodes: CHAIN_40,
