@@ -15,5 +15,4 @@ pub mod OneAnswerStages
 pub mod OneAnswerTasks
 pub mod Suffixes
 pub mod Told
-pub mod WordsSaid
 pub mod Unasked

@@ -3,7 +3,7 @@ use Rattle.dsv_command.specs.Asking.{asked_of}
 use Rattle.dsv_command.specs.Requests.{job_of}
 use Rattle.dsv_report.specs.Output.{output_of}
 use Rattle.dsv_report.specs.Report.{status_of}
-use Rattle.dsv_cli.specs.Headline.{FileBecomes, IsWritten}
+use Rattle.dsv_cli.specs.Headline.{FileBecomes, SaysWords, IsWritten}
 use Rattle.dsv_cli.specs.Proposers.{AreSetsAsked, IsAsked, WantsForm, WantsSet, WantsSchurCohn, IfNoForm, IsBeyond}
 use Rattle.dsv_cli.proofs.Unasked.{low_is_decided, unasked, sets_unasked, some_form}
 use Rattle.dsv_cli.proofs.command.run.Goals as goal
@@ -12,46 +12,53 @@ use Rattle.dsv_cli.proofs.command.run.Goals as goal
 pub returns-in-Ok-Some-OnFile-clause-low_orders : goal.returns-in-Ok-Some-OnFile-clause-low_orders
 returns-in-Ok-Some-OnFile-clause-low_orders g c =
     let old = g.F.Files.seen c.args.files.now in
-    low_is_decided (old.held (asked_of c.in-Ok-Some-OnFile.job).file) old (g.F.Files.seen c.job_answer-outcome.new.files) (asked_of c.in-Ok-Some-OnFile.job) c.job_answer-outcome.result
-    c.job_answer-outcome.ensures.row
+    low_is_decided (old.held (asked_of c.in-Ok-Some-OnFile.job).file) old (g.F.Files.seen c.job_outcome-outcome.new.files) (asked_of c.in-Ok-Some-OnFile.job) c.job_outcome-outcome.result.outcome
+    c.job_outcome-outcome.ensures.row
 
 pub returns-in-Ok-Some-OnFile-clause-sets : goal.returns-in-Ok-Some-OnFile-clause-sets
 returns-in-Ok-Some-OnFile-clause-sets g c =
     let e : Some (asked_of c.in-Ok-Some-OnFile.job) ≡ job_of (map string_bytes c.args.arguments.now) = search rules in
     subst
     (λ asked. AreSetsAsked (λ b. b.ptr) (λ b. (goal.InvariantProposer-dyn g (b.vtable, b.value)).last b.value) (λ b shape. (goal.InvariantProposer-dyn g (b.vtable, b.value)).to_come b.value shape)
-    (FileBecomes (g.F.Files.seen c.args.files.now) asked) c.args.proposers.now.sets.items c.job_answer-outcome.new.proposers.sets.items c.job_answer-outcome.result)
-    e c.job_answer-outcome.ensures.sets
+    (FileBecomes (g.F.Files.seen c.args.files.now) asked) c.args.proposers.now.sets.items c.job_outcome-outcome.new.proposers.sets.items c.job_outcome-outcome.result.outcome)
+    e c.job_outcome-outcome.ensures.sets
 
 pub returns-in-Ok-Some-OnFile-clause-unneeded_sets : goal.returns-in-Ok-Some-OnFile-clause-unneeded_sets
 returns-in-Ok-Some-OnFile-clause-unneeded_sets g c =
     let e : Some (asked_of c.in-Ok-Some-OnFile.job) ≡ job_of (map string_bytes c.args.arguments.now) = search rules in
-    subst (λ asked. (WantsSet asked → ⊥) → c.job_answer-outcome.new.proposers.sets.items ≡ c.args.proposers.now.sets.items) e c.job_answer-outcome.ensures.unneeded_sets
+    subst (λ asked. (WantsSet asked → ⊥) → c.job_outcome-outcome.new.proposers.sets.items ≡ c.args.proposers.now.sets.items) e c.job_outcome-outcome.ensures.unneeded_sets
 
 pub returns-in-Ok-Some-OnFile-clause-unneeded_forms : goal.returns-in-Ok-Some-OnFile-clause-unneeded_forms
 returns-in-Ok-Some-OnFile-clause-unneeded_forms g c =
     let e : Some (asked_of c.in-Ok-Some-OnFile.job) ≡ job_of (map string_bytes c.args.arguments.now) = search rules in
-    subst (λ asked. (WantsForm asked → ⊥) → c.job_answer-outcome.new.proposers.forms.items ≡ c.args.proposers.now.forms.items) e c.job_answer-outcome.ensures.unneeded_forms
+    subst (λ asked. (WantsForm asked → ⊥) → c.job_outcome-outcome.new.proposers.forms.items ≡ c.args.proposers.now.forms.items) e c.job_outcome-outcome.ensures.unneeded_forms
 
 pub returns-in-Ok-Some-OnFile-clause-forms : goal.returns-in-Ok-Some-OnFile-clause-forms
 returns-in-Ok-Some-OnFile-clause-forms g c =
     let e : Some (asked_of c.in-Ok-Some-OnFile.job) ≡ job_of (map string_bytes c.args.arguments.now) = search rules in
     subst
     (λ asked. IsAsked (λ b. b.ptr) (λ b. (goal.FormProposer-dyn g (b.vtable, b.value)).last b.value) (λ b cs. (goal.FormProposer-dyn g (b.vtable, b.value)).sure b.value cs) (λ b cs. (goal.FormProposer-dyn g (b.vtable, b.value)).to_come b.value cs)
-    (WantsSchurCohn asked) c.args.proposers.now.forms.items c.job_answer-outcome.new.proposers.forms.items c.job_answer-outcome.result)
-    e c.job_answer-outcome.ensures.forms
+    (WantsSchurCohn asked) c.args.proposers.now.forms.items c.job_outcome-outcome.new.proposers.forms.items c.job_outcome-outcome.result.outcome)
+    e c.job_outcome-outcome.ensures.forms
 
 pub returns-in-Ok-Some-OnFile-clause-schur_cohn : goal.returns-in-Ok-Some-OnFile-clause-schur_cohn
 returns-in-Ok-Some-OnFile-clause-schur_cohn g c =
     let e : Some (asked_of c.in-Ok-Some-OnFile.job) ≡ job_of (map string_bytes c.args.arguments.now) = search rules in
-    subst (λ asked. WantsSchurCohn asked → IfNoForm c.job_answer-outcome.result (λ poly kept. IsBeyond poly)) e c.job_answer-outcome.ensures.beyond
+    subst (λ asked. WantsSchurCohn asked → IfNoForm c.job_outcome-outcome.result.outcome (λ poly kept. IsBeyond poly)) e c.job_outcome-outcome.ensures.beyond
 
 pub returns-in-Ok-Some-OnFile-clause-written : goal.returns-in-Ok-Some-OnFile-clause-written
 returns-in-Ok-Some-OnFile-clause-written g c =
     let e : Some (asked_of c.in-Ok-Some-OnFile.job) ≡ job_of (map string_bytes c.args.arguments.now) = search rules in
     subst
-    (λ asked. IsWritten (g.K.Sink.seen c.args.sink.now) (g.K.Sink.seen c.written_status-status.new.sink) c.written_status-status.result (status_of c.job_answer-outcome.result) (output_of asked c.job_answer-outcome.result))
+    (λ asked. IsWritten (g.K.Sink.seen c.args.sink.now) (g.K.Sink.seen c.written_status-status.new.sink) c.written_status-status.result (status_of c.job_outcome-outcome.result.outcome) (output_of asked c.job_outcome-outcome.result.words c.job_outcome-outcome.result.outcome))
     e c.written_status-status.ensures.written
+
+pub returns-in-Ok-Some-OnFile-clause-words : goal.returns-in-Ok-Some-OnFile-clause-words
+returns-in-Ok-Some-OnFile-clause-words g c =
+    let e : Some (asked_of c.in-Ok-Some-OnFile.job) ≡ job_of (map string_bytes c.args.arguments.now) = search rules in
+    subst
+    (λ asked. SaysWords (g.F.Files.seen c.args.files.now) (g.F.Files.seen c.job_outcome-outcome.new.files) asked c.job_outcome-outcome.result.outcome c.job_outcome-outcome.result.words)
+    e c.job_outcome-outcome.ensures.words
 
 -- ---- a check of a certificate
 pub returns-in-Ok-Some-Check-clause-sets : goal.returns-in-Ok-Some-Check-clause-sets

@@ -2,6 +2,7 @@ use Rattle.std.proofs.Common.{◌≡◌, rules, subst, sym}
 use Rattle.std.specs.Prelude.{Ok, Err}
 use Rattle.dsv_command.specs.Asking.{asked_of}
 use Rattle.dsv_quantiser.specs.Modes.{BecomesWords}
+use Rattle.dsv_quantiser.specs.QuantisedView.{QuantisedView}
 use Rattle.dsv_report.specs.declared.stop.Stop.TheVariants as stop
 use Rattle.dsv_cli.proofs.Causes.{row_of_refused, row_of_task}
 use Rattle.dsv_cli.specs.Proposers.{AsksSchurCohn}
@@ -33,7 +34,7 @@ returns-clause-row g c = λ told old new came.
 
 pub returns-clause-sets : goal.returns-clause-sets
 returns-clause-sets g c =
-    let becomes = λ w. BecomesWords c.args.controller.now c.args.job.now.design (Ok w) in
+    let becomes : QuantisedView → Type 0 = λ w. BecomesWords c.args.controller.now c.args.job.now.design (Ok w) in
     sets_asked_for (λ b. b.ptr) (λ b. (goal.InvariantProposer-dyn g (b.vtable, b.value)).last b.value) (λ b shape. (goal.InvariantProposer-dyn g (b.vtable, b.value)).to_come b.value shape)
     (λ w. w ≡ c.in_ok-quantised.quantised) becomes c.args.proposers.now.sets.items c.task_answer.new.proposers.sets.items c.task_answer.result
     (λ w e. subst becomes (sym e) c.in_ok-quantised.ensures)
