@@ -17,4 +17,5 @@ mod sizes;
 mod steps;
 #[cfg(test)]
 mod wide;
+#[cfg(test)]
 mod widest;
