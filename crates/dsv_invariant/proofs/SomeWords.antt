@@ -1,5 +1,5 @@
 -- The words of each format are words of some format.
-use Rattle.std.proofs.Common.{ℕ, ◌-◌, ◌^◌, ◌<◌, ◌≤◌, List, arith}
+use Rattle.std.proofs.Common.{◌-◌, ◌^◌, ◌<◌, ◌≤◌, List, arith}
 use Rattle.std.specs.List.{All}
 use Rattle.std.proofs.Math.IntN.{ℤ}
 use Rattle.std.proofs.Math.Nat.{pow-le-pow_right}

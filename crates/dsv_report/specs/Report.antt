@@ -1,5 +1,5 @@
 -- The text of an answer to a job, and its status.
-use Rattle.std.specs.Prelude.{ℕ, ◌+◌, pos, List, [], ◌∷◌, ◌++◌}
+use Rattle.std.specs.Prelude.{ℕ, pos, List, [], ◌∷◌, ◌++◌}
 use Rattle.std.specs.Prelude.{length, take, filter, codes, Option, Some, None, Ok, Err, ℤ}
 use Rattle.std.specs.Prelude.{Bool, true, false}
 use Rattle.std.specs.List.{flat_map}
