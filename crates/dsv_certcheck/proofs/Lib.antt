@@ -1,3 +1,4 @@
 pub mod CheckLemmas
 pub mod Passing
 pub mod WordsFound
+pub mod Formats

@@ -3,3 +3,4 @@ pub mod FormLines
 pub mod LineNumbers
 pub mod Refusals
 pub mod Shown
+pub mod FormatRefusals

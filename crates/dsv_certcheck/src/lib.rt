@@ -5,7 +5,9 @@
 mod check_refusal;
 mod checked_logs;
 mod checks;
+mod law;
 mod line_numbers;
 
 pub use check_refusal::CheckRefusal;
 pub use checks::check;
+pub use law::formats_are_compared;

@@ -1,0 +1,118 @@
+-- No test after the comparison of formats gives the refusal of another format.
+use Rattle.std.proofs.Common.{◌≡◌, ℕ, ◌+◌, Bool, true, false, if◌then◌else◌, List, subst, sym}
+use Rattle.std.specs.Prelude.{Option, Some, None, Result, Ok, Err, suc, length, ◌==◌, nat_le, nat_lt}
+use Rattle.dsv_text.specs.Stages.{◌>>=◌}
+use Rattle.dsv_names.specs.declared.property.Property.{Property}
+use Rattle.dsv_names.specs.declared.property.Property.TheVariants as property
+use Rattle.dsv_names.specs.declared.property.RunProperty.TheVariants as run
+use Rattle.dsv_reader.specs.Controllers.{ControllerView}
+use Rattle.dsv_quantiser.specs.QuantisedView.{QuantisedView}
+use Rattle.dsv_cnf.specs.FormulaView.{FormulaView}
+use Rattle.dsv_hints.specs.Derivation.{verdict_of}
+use Rattle.dsv_hints.specs.declared.step.Step.{Step}
+use Rattle.dsv_hints.specs.declared.step.Verdict.{Verdict}
+use Rattle.dsv_hints.specs.declared.step.Verdict.TheVariants as verdict
+use Rattle.dsv_delta.specs.declared.refusal.PolyWide.{PolyWide}
+use Rattle.dsv_forms.specs.Refusals.{falls_refusal}
+use Rattle.dsv_forms.specs.declared.offers.Falls.{Falls}
+use Rattle.dsv_forms.specs.declared.refusal.FormRefusal.{FormRefusal}
+use Rattle.dsv_tested.specs.Tested.{side_of, tested_of}
+use Rattle.dsv_tested.specs.declared.side.Tested.{Tested}
+use Rattle.dsv_tested.specs.declared.side.Tested.TheVariants as tested
+use Rattle.dsv_template.specs.declared.candidate.Candidate.{Candidate}
+use Rattle.dsv_template.specs.declared.verdict.ThreeLogs.{ThreeLogs}
+use Rattle.dsv_unroll.specs.Goals.{most_size}
+use Rattle.dsv_bounded.specs.Formulas.{job_size_of}
+use Rattle.dsv_gain.specs.Controllers.{outlook_of}
+use Rattle.dsv_gain.specs.declared.outlook.Outlook.{Outlook}
+use Rattle.dsv_gain.specs.declared.outlook.Outlook.TheVariants as outlook
+use Rattle.dsv_certfile.specs.Limits.{most_gain_depth}
+use Rattle.dsv_certfile.specs.Texts.{job_of}
+use Rattle.dsv_certfile.specs.declared.certificate.Certificate.{Certificate}
+use Rattle.dsv_certfile.specs.declared.certificate.Certificate.TheVariants as certificate
+use Rattle.dsv_certfile.specs.declared.fault.CheckFault.TheVariants as fault
+use Rattle.dsv_certfile.specs.declared.job.CertWords.{CertWords}
+use Rattle.dsv_certfile.specs.declared.job.Size.{Size}
+use Rattle.dsv_certfile.specs.declared.job.Size.TheVariants as size
+use Rattle.dsv_certcheck.specs.Checks.{Checked, refused, misfit, format_check, size_check, verdict_at, log_check, run_check, is_some_samples, hints_check, shape_check, set_check, invariant_check, outlook_check, depth_check, gain_check, refusal_check, tested_check, falls_check, words_check, IsFoundAfter}
+use Rattle.dsv_certcheck.specs.FormatRefusals.{AreOfFormats}
+use Rattle.dsv_certcheck.specs.declared.check_refusal.CheckRefusal.TheVariants as refusal
+
+-- not the refusal of another format
+abbrev IsOther : Checked → Type 0
+IsOther (Err (refusal.Line line fault.Format)) = ⊥
+IsOther found = Unit {0}
+
+by_test : (b : Bool) (x y : Checked) → IsOther x → IsOther y → IsOther (if b then x else y)
+by_test true x y h k = h
+by_test false x y h k = k
+
+by_stage : (x : Checked) (next : Unit {0} → Checked) → IsOther x → ((u : Unit {0}) → IsOther (next u)) → IsOther (x >>= next)
+by_stage (Ok u) next h k = k u
+by_stage (Err why) next h k = h
+
+by_log : (formula : FormulaView) (line : ℕ) (log : List Step) → IsOther (log_check formula line log)
+by_log formula line log = at (verdict_of formula log)
+  where
+    at : (v : Verdict) → IsOther (verdict_at line v)
+    at verdict.Accepted = tt
+    at (verdict.Refused step why) = tt
+
+by_size : (q : QuantisedView) (samples : ℕ) → IsOther (size_check q samples)
+by_size q samples = by_test (nat_lt most_size (job_size_of q samples)) (Err (refusal.JobSize (job_size_of q samples))) (Ok tt) tt tt
+
+hints_other : (w : CertWords) (q : QuantisedView) (p : Property) (s : Size) (log : List Step) → IsOther (hints_check w q p s log)
+hints_other w q (property.OfRuns p) (size.Samples k) log = by_test (is_some_samples k) (run_check w q p k log) (misfit w) (by_stage (size_check q k) _ (by_size q k) (λ u. by_log _ _ log)) tt
+hints_other w q (property.OfRuns p) size.NoSize log = tt
+hints_other w q (property.OfRuns p) size.Unbounded log = tt
+hints_other w q (property.OfRoots p) s log = tt
+hints_other w q p s log = tt
+
+set_other : (w : CertWords) (q : QuantisedView) (candidate : Candidate) (logs : ThreeLogs) → IsOther (set_check w q candidate logs)
+set_other w q candidate logs =
+    by_stage _ _ (by_size q _) (λ a. by_stage (shape_check w q candidate) _ (by_test _ (Ok tt) (misfit w) tt tt)
+    (λ b. by_stage _ _ (by_log _ _ logs.base) (λ c. by_stage _ _ (by_log _ _ logs.step) (λ d. by_log _ _ logs.safe))))
+
+invariant_other : (w : CertWords) (q : QuantisedView) (p : Property) (s : Size) (candidate : Candidate) (logs : ThreeLogs) → IsOther (invariant_check w q p s candidate logs)
+invariant_other w q (property.OfRuns run.Overflow) size.Unbounded candidate logs = set_other w q candidate logs
+invariant_other w q (property.OfRuns run.Overflow) size.NoSize candidate logs = tt
+invariant_other w q (property.OfRuns run.Overflow) (size.Samples k) candidate logs = tt
+invariant_other w q p s candidate logs = tt
+
+outlook_other : (w : CertWords) (o : Outlook) → IsOther (outlook_check w o)
+outlook_other w (outlook.Safe gain) = tt
+outlook_other w other = tt
+
+gain_other : (w : CertWords) (q : QuantisedView) (p : Property) (s : Size) (depth : ℕ) → IsOther (gain_check w q p s depth)
+gain_other w q (property.OfRuns run.Overflow) size.Unbounded depth = by_test (nat_le depth most_gain_depth) (depth_check w q depth) (misfit w) (outlook_other w (outlook_of q (suc depth))) tt
+gain_other w q (property.OfRuns run.Overflow) size.NoSize depth = tt
+gain_other w q (property.OfRuns run.Overflow) (size.Samples k) depth = tt
+gain_other w q p s depth = tt
+
+refusal_other : (w : CertWords) (offer : Falls) (why : Option FormRefusal) → IsOther (refusal_check w offer why)
+refusal_other w offer None = tt
+refusal_other w offer (Some why) = tt
+
+tested_other : (w : CertWords) (t : Result Tested PolyWide) (offer : Falls) → IsOther (tested_check w t offer)
+tested_other w (Ok (tested.Poly c)) offer = by_test (offer.form.d + 1 == length c) (refusal_check w offer (falls_refusal c offer)) (misfit w) (refusal_other w offer (falls_refusal c offer)) tt
+tested_other w (Ok tested.NoZeros) offer = tt
+tested_other w (Err wide) offer = tt
+
+falls_other : (w : CertWords) (q : QuantisedView) (p : Property) (s : Size) (offer : Falls) → IsOther (falls_check w q p s offer)
+falls_other w q (property.OfRoots p) size.NoSize offer = tested_other w (tested_of q (side_of p)) offer
+falls_other w q (property.OfRoots p) (size.Samples k) offer = tt
+falls_other w q (property.OfRoots p) size.Unbounded offer = tt
+falls_other w q p s offer = tt
+
+words_other : (q : QuantisedView) (cert : Certificate) → IsOther (words_check q cert)
+words_other q (certificate.Hints job log) = hints_other job.words q job.property job.size log
+words_other q (certificate.Invariant job candidate logs) = invariant_other job.words q job.property job.size candidate logs
+words_other q (certificate.Gain job depth) = gain_other job.words q job.property job.size depth
+words_other q (certificate.Falls job offer) = falls_other job.words q job.property job.size offer
+
+after : (c : ControllerView) (cert : Certificate) (line : ℕ) (format : Checked) → IsFoundAfter format c cert (refused line fault.Format) → format ≡ refused line fault.Format
+after c cert line (Err why) k = sym k
+after c cert line (Ok u) k = absurd (subst IsOther k.checked (words_other k.quantised cert))
+
+pub formats_are_compared : AreOfFormats
+formats_are_compared c cert line k = after c cert line (format_check c (job_of cert).words) k
