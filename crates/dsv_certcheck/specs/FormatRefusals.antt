@@ -9,5 +9,6 @@ use Rattle.dsv_certcheck.specs.Checks.{format_check, IsChecked, refused}
 -- where a check refuses a certificate for its format, the comparison does, at the same line
 abbrev pub AreOfFormats : Type 0
 AreOfFormats =
-    (c : ControllerView) (cert : Certificate) (line : ℕ) → IsChecked c cert (refused line fault.Format)
+    (c : ControllerView) (cert : Certificate) (line : ℕ)
+    → IsChecked c cert (refused line fault.Format)
     → format_check c (job_of cert).words ≡ refused line fault.Format
