@@ -191,10 +191,11 @@ fn check_words(
 }
 
 /// Checks a certificate against a controller: the controller's words have to be of the format that
-/// the certificate says, and then these words in the certificate's modes, and from these the
-/// formulas of its job, or the polynomial, are made anew, and nothing else that the certificate
-/// says is believed. What passes has the certificate's property, whatever else is in the
-/// certificate. It takes memory for a formula and a log at a time.
+/// the certificate says, or where it says none, of at most `NARROW_WORD_BITS` bits; then these
+/// words in the certificate's modes, and from these the formulas of its job, or the polynomial, are
+/// made anew, and nothing else that the certificate says is believed. What passes has the
+/// certificate's property, whatever else is in the certificate. It takes memory for a formula and a
+/// log at a time.
 pub fn check(
     alloc: Global,
     controller: &Controller,

@@ -31,7 +31,7 @@ use Rattle.dsv_linear.specs.Meaning.{Means, AreSymbols, Knows, Stand, grown}
 use Rattle.dsv_linear.proofs.Numbers.{some_of, narrow_is}
 use Rattle.dsv_linear.proofs.Meanings.{sums_mean, differences_mean, products_mean, means_grown, symbols_grown, unit_means, input_lies}
 use Rattle.dsv_linear.proofs.Roundings.{Enters, rounded_enters, form_ranges, both_are}
-use Rattle.dsv_linear.proofs.Words.{fit_same, errors_lie, coefficients_are, coefficient_positive, fact_is_true}
+use Rattle.dsv_linear.proofs.Words.{fit_same, errors_lie, steps_are, step_positive, few_bits, fact_is_true}
 
 -- there are a denominator and symbols, over which the words in the registers and the values so far
 -- are those of their forms
@@ -142,7 +142,7 @@ gives start words x point values (Round i) s b a =
     let v = at values i in
     enters s.k s.us point.ranges (rounded_at start.format point i) (whole_shift r f v) (λ e h.
     let o = some_of (form_at point.estimates i) (λ form. rounded_in start.format point.ranges form) e h in
-    rounded_enters (2 ^ f) (error_range r f) s.k s.us point.ranges o.0 e v (whole_shift r f v) (pow_pos f) (coefficients_are f) (coefficient_positive f)
+    rounded_enters (2 ^ f) (error_range r f) s.k s.us point.ranges o.0 e v (whole_shift r f v) (pow_pos f) (steps_are f (few_bits start.format)) (step_positive f (few_bits start.format))
     o.2 s.symbols (stand_at (length point.ranges) s.k s.us point.estimates values i o.0 o.1 s.stand) (errors_lie r f v))
 gives start words x point values (Add i j) s b a =
     stays s.k s.us point.ranges (sum_at point.estimates i j) (at values i +ℤ at values j) (λ f h.

@@ -1,6 +1,6 @@
 -- Bounds of forms, and forms of values that are rounded.
-use Rattle.std.proofs.Common.{◌≡◌, ℕ, suc, ◌*◌, ◌<◌, Bool, true, false, if◌then◌else◌, List, [], ◌∷◌, ◌++◌, length, refl, sym, subst, ap, ◌∙◌, arith}
-use Rattle.std.specs.Prelude.{Option, Some, nat_lt, int_lt}
+use Rattle.std.proofs.Common.{◌≡◌, ℕ, suc, ◌*◌, ◌/◌, ◌<◌, Bool, true, false, if◌then◌else◌, List, [], ◌∷◌, ◌++◌, length, refl, sym, subst, ap, ◌∙◌, arith}
+use Rattle.std.specs.Prelude.{Option, Some, int_lt}
 use Rattle.std.proofs.Math.IntN.{ℤ, pos, ◌+ℤ◌, ◌-ℤ◌, ◌*ℤ◌, neg_ℤ}
 use Rattle.std.specs.Int.{int_rem_euclid}
 use Rattle.std.proofs.lemmas.Int.{ints}
@@ -18,10 +18,9 @@ use Rattle.dsv_netlist.specs.Nodes.{at}
 use Rattle.dsv_linear.specs.Facts.{Between}
 use Rattle.dsv_linear.specs.declared.range.Range.{Range}
 use Rattle.dsv_linear.specs.declared.point.Entry.{Entry}
-use Rattle.dsv_linear.specs.Forms.{◌>>=◌, scale, range_scale, range, range_at, both, lower, upper, least_factor, greatest_factor, products_range, sums_range, quotients_range}
-use Rattle.dsv_linear.specs.Forms.{least_term, greatest_term, least, greatest, quotients, rests, symbol_divisor, symbol_coefficient, error_part, loss_range, symbol_range, with_symbol, rounded, form_range}
+use Rattle.dsv_linear.specs.Forms.{◌>>=◌, scale, range_scale, range, range_at, both, lower, upper, least_term, greatest_term, least, greatest, quotients, rests, loss_range, scaled_range, sums_range, symbol_range, with_symbol, rounded, form_range}
 use Rattle.dsv_linear.specs.Meaning.{sum_at, Means, LiesIn, AreSymbols, grown}
-use Rattle.dsv_linear.proofs.Numbers.{some_of, narrow_is, times_up, times_down, times_back, sum_le, least_up, greatest_up}
+use Rattle.dsv_linear.proofs.Numbers.{some_of, narrow_is, times_up, times_down, times_back, sum_le}
 use Rattle.dsv_linear.proofs.Meanings.{AreEntries, entries_are, total_is, grown_last, sum_before}
 
 -- ---- sums of worst cases
@@ -148,66 +147,38 @@ pub record IsRounded (d : ℕ) (errors : Range) (ranges : List Range) (form : Li
   pub are_rests : AreEntries (length ranges) (λ j. int_rem_euclid (at form j) (pos d)) rests
   pub is_least : least ranges rests ≡ Some low
   pub is_greatest : greatest ranges rests ≡ Some high
-  pub low_end : (pos (symbol_divisor d) *ℤ symbol.low) ≤ℤ (pos scale *ℤ pos range_scale *ℤ errors.low +ℤ low)
-  pub high_end : (pos scale *ℤ pos range_scale *ℤ errors.high +ℤ high) ≤ℤ (pos (symbol_divisor d) *ℤ symbol.high)
-  pub form_is : entry.form ≡ quotients ++ pos (symbol_coefficient d) ∷ []
+  pub low_end : (pos scale *ℤ symbol.low) ≤ℤ (pos scale *ℤ (pos range_scale *ℤ errors.low) +ℤ low)
+  pub high_end : (pos scale *ℤ (pos range_scale *ℤ errors.high) +ℤ high) ≤ℤ (pos scale *ℤ symbol.high)
+  pub form_is : entry.form ≡ quotients ++ pos (scale / d) ∷ []
   pub symbol_is : entry.symbol ≡ Some symbol
 
-grouped : (m a b : ℤ) → m *ℤ (a +ℤ b) ≡ a *ℤ m +ℤ b *ℤ m
-grouped m a b = ring (env (m ∷ a ∷ b ∷ [])) (times (var 0) (plus (var 1) (var 2))) (plus (times (var 1) (var 0)) (times (var 2) (var 0))) refl
+grouped : (s a b : ℤ) → s *ℤ (a +ℤ b) ≡ s *ℤ a +ℤ b *ℤ s
+grouped s a b = ring (env (s ∷ a ∷ b ∷ [])) (times (var 0) (plus (var 1) (var 2))) (plus (times (var 0) (var 1)) (times (var 2) (var 0))) refl
 
--- the ends of an error's part: its ends at both scales, and their quotients
-pub record IsErrorPart (d : ℕ) (errors part : Range) : Type 0 where
-  pub low_end : (part.low *ℤ pos (symbol_divisor d)) ≤ℤ (pos scale *ℤ pos range_scale *ℤ errors.low)
-  pub high_end : (pos scale *ℤ pos range_scale *ℤ errors.high) ≤ℤ (part.high *ℤ pos (symbol_divisor d))
+low_fits : (s new error loss low t least : ℤ) → new ≡ error +ℤ loss → error ≡ t *ℤ least → (loss *ℤ s) ≤ℤ low → (s *ℤ new) ≤ℤ (s *ℤ (t *ℤ least) +ℤ low)
+low_fits s new error loss low t least e g h = rw (e, grouped s error loss, g) (omega (arith, ints))
 
-error_part_is : (d : ℕ) (errors part : Range) → 0 < symbol_divisor d → error_part d errors ≡ Some part → IsErrorPart d errors part
-error_part_is d errors part p e =
-    let n = scale * range_scale in
-    let full = pos n in
-    let m = symbol_divisor d in
-    let one = some_of (products_range full errors) (λ scaled. quotients_range scaled m) part e in
-    let two = both_are (narrow_of (full *ℤ least_factor full errors)) (narrow_of (full *ℤ greatest_factor full errors)) one.0 one.1 in
-    let three = both_are (lower one.0.low m) (upper one.0.high m) part one.2 in
-    let low : one.0.low ≡ pos scale *ℤ pos range_scale *ℤ errors.low =
-    narrow_is (full *ℤ least_factor full errors) one.0.low two.low_is ∙ ap (λ z. full *ℤ z) (least_up n errors) ∙ ap (λ z. z *ℤ errors.low) full_scale_is in
-    let high : one.0.high ≡ pos scale *ℤ pos range_scale *ℤ errors.high =
-    narrow_is (full *ℤ greatest_factor full errors) one.0.high two.high_is ∙ ap (λ z. full *ℤ z) (greatest_up n errors) ∙ ap (λ z. z *ℤ errors.high) full_scale_is in
-    record {
-      low_end = rw low at (lower_is one.0.low m part.low p three.low_is).below;
-      high_end = rw high at (upper_is one.0.high m part.high p three.high_is).above;
-    }
+high_fits : (s new error loss high t most : ℤ) → new ≡ error +ℤ loss → error ≡ t *ℤ most → high ≤ℤ (loss *ℤ s) → (s *ℤ (t *ℤ most) +ℤ high) ≤ℤ (s *ℤ new)
+high_fits s new error loss high t most e g h = rw (e, grouped s error loss, g) (omega (arith, ints))
 
-low_fits : (m new error loss low least : ℤ) → new ≡ error +ℤ loss → (error *ℤ m) ≤ℤ least → (loss *ℤ m) ≤ℤ low → (m *ℤ new) ≤ℤ (least +ℤ low)
-low_fits m new error loss low least e g h = rw (e, grouped m error loss) (omega (arith, ints))
-
-high_fits : (m new error loss high most : ℤ) → new ≡ error +ℤ loss → most ≤ℤ (error *ℤ m) → high ≤ℤ (loss *ℤ m) → (most +ℤ high) ≤ℤ (m *ℤ new)
-high_fits m new error loss high most e g h = rw (e, grouped m error loss) (omega (arith, ints))
-
-divisor_positive : (b : Bool) (d : ℕ) → 0 < d → 0 < (if b then d else scale)
-divisor_positive true d p = p
-divisor_positive false d p = let h = scale_positive in omega (arith, ints)
-
-pub rounded_is : (d : ℕ) (errors : Range) (ranges : List Range) (form : List ℤ) (entry : Entry) → 0 < d → rounded d errors ranges form ≡ Some entry → IsRounded d errors ranges form entry
-rounded_is d errors ranges form entry dp e =
+pub rounded_is : (d : ℕ) (errors : Range) (ranges : List Range) (form : List ℤ) (entry : Entry) → rounded d errors ranges form ≡ Some entry → IsRounded d errors ranges form entry
+rounded_is d errors ranges form entry e =
     let n = length ranges in
-    let m = symbol_divisor d in
-    let c = pos (symbol_coefficient d) in
-    let p : 0 < m = divisor_positive (nat_lt scale d) d dp in
-    let one = some_of (quotients n d form) (λ qs. rests n d form >>= λ rs. symbol_range d errors ranges rs >>= λ symbol. with_symbol (qs ++ c ∷ []) symbol) entry e in
-    let two = some_of (rests n d form) (λ rs. symbol_range d errors ranges rs >>= λ symbol. with_symbol (one.0 ++ c ∷ []) symbol) entry one.2 in
-    let three = some_of (symbol_range d errors ranges two.0) (λ symbol. with_symbol (one.0 ++ c ∷ []) symbol) entry two.2 in
-    let four = some_of (loss_range d ranges two.0) (λ loss. error_part d errors >>= λ error. sums_range error loss) three.0 three.1 in
-    let five = some_of (error_part d errors) (λ error. sums_range error four.0) three.0 four.2 in
-    let six = some_of (least ranges two.0) (λ low. greatest ranges two.0 >>= λ high. quotients_range (range low high) m) four.0 four.1 in
-    let seven = some_of (greatest ranges two.0) (λ high. quotients_range (range six.0 high) m) four.0 six.2 in
-    let loss = both_are (lower six.0 m) (upper seven.0 m) four.0 seven.2 in
-    let error = error_part_is d errors five.0 p five.1 in
+    let p : 0 < scale = let h = scale_positive in omega (arith, ints) in
+    let one = some_of (quotients n d form) (λ qs. rests n d form >>= λ rs. symbol_range errors ranges rs >>= λ symbol. with_symbol (qs ++ pos (scale / d) ∷ []) symbol) entry e in
+    let two = some_of (rests n d form) (λ rs. symbol_range errors ranges rs >>= λ symbol. with_symbol (one.0 ++ pos (scale / d) ∷ []) symbol) entry one.2 in
+    let three = some_of (symbol_range errors ranges two.0) (λ symbol. with_symbol (one.0 ++ pos (scale / d) ∷ []) symbol) entry two.2 in
+    let four = some_of (loss_range ranges two.0) (λ loss. scaled_range errors >>= λ error. sums_range error loss) three.0 three.1 in
+    let five = some_of (scaled_range errors) (λ error. sums_range error four.0) three.0 four.2 in
+    let six = some_of (least ranges two.0) (λ low. greatest ranges two.0 >>= λ high. both (lower low scale) (upper high scale)) four.0 four.1 in
+    let seven = some_of (greatest ranges two.0) (λ high. both (lower six.0 scale) (upper high scale)) four.0 six.2 in
+    let loss = both_are (lower six.0 scale) (upper seven.0 scale) four.0 seven.2 in
+    let error = both_are (narrow_of (pos range_scale *ℤ errors.low)) (narrow_of (pos range_scale *ℤ errors.high)) five.0 five.1 in
     let both_ends = both_are (narrow_of (five.0.low +ℤ four.0.low)) (narrow_of (five.0.high +ℤ four.0.high)) three.0 five.2 in
-    let down = lower_is six.0 m four.0.low p loss.low_is in
-    let up = upper_is seven.0 m four.0.high p loss.high_is in
-    let made : Some (record { form = one.0 ++ c ∷ []; symbol = Some three.0 }) ≡ Some entry = three.2 in
-    let same : entry ≡ record { form = one.0 ++ c ∷ []; symbol = Some three.0 } = cc in
+    let down = lower_is six.0 scale four.0.low p loss.low_is in
+    let up = upper_is seven.0 scale four.0.high p loss.high_is in
+    let made : Some (record { form = one.0 ++ pos (scale / d) ∷ []; symbol = Some three.0 }) ≡ Some entry = three.2 in
+    let same : entry ≡ record { form = one.0 ++ pos (scale / d) ∷ []; symbol = Some three.0 } = cc in
     record {
       quotients = one.0;
       rests = two.0;
@@ -218,8 +189,8 @@ rounded_is d errors ranges form entry dp e =
       are_rests = entries_are n (λ j. int_rem_euclid (at form j) (pos d)) two.0 two.1;
       is_least = six.1;
       is_greatest = seven.1;
-      low_end = low_fits (pos m) three.0.low five.0.low four.0.low six.0 (pos scale *ℤ pos range_scale *ℤ errors.low) (narrow_is (five.0.low +ℤ four.0.low) three.0.low both_ends.low_is) error.low_end down.below;
-      high_end = high_fits (pos m) three.0.high five.0.high four.0.high seven.0 (pos scale *ℤ pos range_scale *ℤ errors.high) (narrow_is (five.0.high +ℤ four.0.high) three.0.high both_ends.high_is) error.high_end up.above;
+      low_end = low_fits (pos scale) three.0.low five.0.low four.0.low six.0 (pos range_scale) errors.low (narrow_is (five.0.low +ℤ four.0.low) three.0.low both_ends.low_is) (narrow_is (pos range_scale *ℤ errors.low) five.0.low error.low_is) down.below;
+      high_end = high_fits (pos scale) three.0.high five.0.high four.0.high seven.0 (pos range_scale) errors.high (narrow_is (five.0.high +ℤ four.0.high) three.0.high both_ends.high_is) (narrow_is (pos range_scale *ℤ errors.high) five.0.high error.high_is) up.above;
       form_is = ap (λ x. x.form) same;
       symbol_is = ap (λ x. x.symbol) same;
     }
@@ -247,40 +218,40 @@ new_symbol s d k v w qs rs e =
     omega (arith, ints, first, second)
 
 -- d times a difference, in parts that aren't negative
-above : (m s t d step k e new rests high most new_high : ℤ) → m ≡ d *ℤ step → d *ℤ new ≡ s *ℤ k *ℤ e +ℤ rests
-    → d *ℤ (k *ℤ step *ℤ new_high -ℤ t *ℤ new) ≡ k *ℤ (m *ℤ new_high -ℤ (s *ℤ t *ℤ most +ℤ high)) +ℤ (s *ℤ k *ℤ t) *ℤ (most -ℤ e) +ℤ (k *ℤ high -ℤ t *ℤ rests)
-above m s t d step k e new rests high most new_high p q =
+above : (s t d step k e new rests high most new_high : ℤ) → s ≡ d *ℤ step → d *ℤ new ≡ s *ℤ k *ℤ e +ℤ rests
+    → d *ℤ (k *ℤ step *ℤ new_high -ℤ t *ℤ new) ≡ k *ℤ (s *ℤ new_high -ℤ (s *ℤ (t *ℤ most) +ℤ high)) +ℤ (s *ℤ k *ℤ t) *ℤ (most -ℤ e) +ℤ (k *ℤ high -ℤ t *ℤ rests)
+above s t d step k e new rests high most new_high p q =
     ring (env (t ∷ d ∷ step ∷ k ∷ new ∷ new_high ∷ [])) (times (var 1) (plus (times (times (var 3) (var 2)) (var 5)) (minus (times (var 0) (var 4))))) (plus (times (times (var 3) (times (var 1) (var 2))) (var 5)) (minus (times (var 0) (times (var 1) (var 4))))) refl
     ∙ ap (λ z. k *ℤ z *ℤ new_high -ℤ t *ℤ (d *ℤ new)) (sym p)
-    ∙ ap (λ z. k *ℤ m *ℤ new_high -ℤ t *ℤ z) q
-    ∙ ring (env (s ∷ t ∷ k ∷ e ∷ rests ∷ high ∷ most ∷ new_high ∷ m ∷ []))
-    (plus (times (times (var 2) (var 8)) (var 7)) (minus (times (var 1) (plus (times (times (var 0) (var 2)) (var 3)) (var 4)))))
-    (plus (plus (times (var 2) (plus (times (var 8) (var 7)) (minus (plus (times (times (var 0) (var 1)) (var 6)) (var 5))))) (times (times (times (var 0) (var 2)) (var 1)) (plus (var 6) (minus (var 3))))) (plus (times (var 2) (var 5)) (minus (times (var 1) (var 4))))) refl
+    ∙ ap (λ z. k *ℤ s *ℤ new_high -ℤ t *ℤ z) q
+    ∙ ring (env (s ∷ t ∷ k ∷ e ∷ rests ∷ high ∷ most ∷ new_high ∷ []))
+    (plus (times (times (var 2) (var 0)) (var 7)) (minus (times (var 1) (plus (times (times (var 0) (var 2)) (var 3)) (var 4)))))
+    (plus (plus (times (var 2) (plus (times (var 0) (var 7)) (minus (plus (times (var 0) (times (var 1) (var 6))) (var 5))))) (times (times (times (var 0) (var 2)) (var 1)) (plus (var 6) (minus (var 3))))) (plus (times (var 2) (var 5)) (minus (times (var 1) (var 4))))) refl
 
 flipped : (d a b : ℤ) → d *ℤ (b -ℤ a) ≡ neg_ℤ (d *ℤ (a -ℤ b))
 flipped d a b = ring (env (d ∷ a ∷ b ∷ [])) (times (var 0) (plus (var 2) (minus (var 1)))) (minus (times (var 0) (plus (var 1) (minus (var 2))))) refl
 
-most_fits : (m s t d step k e new rests high most new_high : ℤ) → m ≡ d *ℤ step → pos 0 <ℤ d → pos 0 ≤ℤ s → pos 0 ≤ℤ t → pos 0 ≤ℤ k
-    → d *ℤ new ≡ s *ℤ k *ℤ e +ℤ rests → e ≤ℤ most → (t *ℤ rests) ≤ℤ (k *ℤ high) → (s *ℤ t *ℤ most +ℤ high) ≤ℤ (m *ℤ new_high)
+most_fits : (s t d step k e new rests high most new_high : ℤ) → s ≡ d *ℤ step → pos 0 <ℤ d → pos 0 ≤ℤ s → pos 0 ≤ℤ t → pos 0 ≤ℤ k
+    → d *ℤ new ≡ s *ℤ k *ℤ e +ℤ rests → e ≤ℤ most → (t *ℤ rests) ≤ℤ (k *ℤ high) → (s *ℤ (t *ℤ most) +ℤ high) ≤ℤ (s *ℤ new_high)
     → (t *ℤ new) ≤ℤ (k *ℤ step *ℤ new_high)
-most_fits m s t d step k e new rests high most new_high p dp sp tp kp q em rm nh =
+most_fits s t d step k e new rests high most new_high p dp sp tp kp q em rm nh =
     let skt : pos 0 ≤ℤ (s *ℤ k *ℤ t) = mul_not_negative (s *ℤ k) t (mul_not_negative s k sp kp) tp in
-    let a = mul_not_negative k (m *ℤ new_high -ℤ (s *ℤ t *ℤ most +ℤ high)) kp (omega (arith, ints)) in
+    let a = mul_not_negative k (s *ℤ new_high -ℤ (s *ℤ (t *ℤ most) +ℤ high)) kp (omega (arith, ints)) in
     let b = mul_not_negative (s *ℤ k *ℤ t) (most -ℤ e) skt (omega (arith, ints)) in
-    let up : pos 0 ≤ℤ (d *ℤ (k *ℤ step *ℤ new_high -ℤ t *ℤ new)) = rw (above m s t d step k e new rests high most new_high p q) (omega (arith, ints)) in
+    let up : pos 0 ≤ℤ (d *ℤ (k *ℤ step *ℤ new_high -ℤ t *ℤ new)) = rw (above s t d step k e new rests high most new_high p q) (omega (arith, ints)) in
     let x = not_negative_factor d (k *ℤ step *ℤ new_high -ℤ t *ℤ new) dp up in
     omega (arith, ints)
 
-least_fits : (m s t d step k e new rests low least new_low : ℤ) → m ≡ d *ℤ step → pos 0 <ℤ d → pos 0 ≤ℤ s → pos 0 ≤ℤ t → pos 0 ≤ℤ k
-    → d *ℤ new ≡ s *ℤ k *ℤ e +ℤ rests → least ≤ℤ e → (k *ℤ low) ≤ℤ (t *ℤ rests) → (m *ℤ new_low) ≤ℤ (s *ℤ t *ℤ least +ℤ low)
+least_fits : (s t d step k e new rests low least new_low : ℤ) → s ≡ d *ℤ step → pos 0 <ℤ d → pos 0 ≤ℤ s → pos 0 ≤ℤ t → pos 0 ≤ℤ k
+    → d *ℤ new ≡ s *ℤ k *ℤ e +ℤ rests → least ≤ℤ e → (k *ℤ low) ≤ℤ (t *ℤ rests) → (s *ℤ new_low) ≤ℤ (s *ℤ (t *ℤ least) +ℤ low)
     → (k *ℤ step *ℤ new_low) ≤ℤ (t *ℤ new)
-least_fits m s t d step k e new rests low least new_low p dp sp tp kp q el rl nl =
+least_fits s t d step k e new rests low least new_low p dp sp tp kp q el rl nl =
     let skt : pos 0 ≤ℤ (s *ℤ k *ℤ t) = mul_not_negative (s *ℤ k) t (mul_not_negative s k sp kp) tp in
-    let f = mul_not_negative k ((s *ℤ t *ℤ least +ℤ low) -ℤ m *ℤ new_low) kp (omega (arith, ints)) in
+    let f = mul_not_negative k ((s *ℤ (t *ℤ least) +ℤ low) -ℤ s *ℤ new_low) kp (omega (arith, ints)) in
     let g = mul_not_negative (s *ℤ k *ℤ t) (e -ℤ least) skt (omega (arith, ints)) in
-    let i = flipped k (m *ℤ new_low) (s *ℤ t *ℤ least +ℤ low) in
+    let i = flipped k (s *ℤ new_low) (s *ℤ (t *ℤ least) +ℤ low) in
     let j = flipped (s *ℤ k *ℤ t) least e in
-    let below = above m s t d step k e new rests low least new_low p q in
+    let below = above s t d step k e new rests low least new_low p q in
     let down : pos 0 ≤ℤ (d *ℤ (t *ℤ new -ℤ k *ℤ step *ℤ new_low)) = rw (flipped d (k *ℤ step *ℤ new_low) (t *ℤ new), below) (omega (arith, ints)) in
     let y = not_negative_factor d (t *ℤ new -ℤ k *ℤ step *ℤ new_low) dp down in
     omega (arith, ints)
@@ -298,20 +269,19 @@ pub record Enters (k : ℤ) (us : ℕ → ℤ) (ranges : List Range) (entry : En
 quotient_value : (s k step w qs : ℤ) → s *ℤ (k *ℤ step) *ℤ w ≡ step *ℤ qs +ℤ step *ℤ (s *ℤ k *ℤ w -ℤ qs)
 quotient_value s k step w qs = ring (env (s ∷ k ∷ step ∷ w ∷ qs ∷ [])) (times (times (var 0) (times (var 1) (var 2))) (var 3)) (plus (times (var 2) (var 4)) (times (var 2) (plus (times (times (var 0) (var 1)) (var 3)) (minus (var 4))))) refl
 
-pub rounded_enters : (d : ℕ) (errors : Range) (k : ℤ) (us : ℕ → ℤ) (ranges : List Range) (form : List ℤ) (entry : Entry) (v w : ℤ) → 0 < d → pos (symbol_divisor d) ≡ pos d *ℤ pos (symbol_coefficient d) → pos 0 <ℤ pos (symbol_coefficient d)
+pub rounded_enters : (d : ℕ) (errors : Range) (k : ℤ) (us : ℕ → ℤ) (ranges : List Range) (form : List ℤ) (entry : Entry) (v w : ℤ) → 0 < d → pos scale ≡ pos d *ℤ pos (scale / d) → pos 0 <ℤ pos (scale / d)
     → rounded d errors ranges form ≡ Some entry → AreSymbols k us ranges → Means (length ranges) k us form v
     → Between errors.low errors.high (pos d *ℤ w -ℤ v) → Enters k us ranges entry w
-rounded_enters d errors k us ranges form entry v w dp steps sp e a mean b =
+rounded_enters d errors k us ranges form entry v w dp steps sp e a m b =
     let n = length ranges in
     let s = pos scale in
-    let m = pos (symbol_divisor d) in
-    let step = pos (symbol_coefficient d) in
-    let r = rounded_is d errors ranges form entry dp e in
+    let step = pos (scale / d) in
+    let r = rounded_is d errors ranges form entry e in
     let q = sum_at n r.quotients us in
     let rest = sum_at n r.rests us in
     let new = s *ℤ k *ℤ w -ℤ q in
     let ws = grown step n us new in
-    let total : s *ℤ k *ℤ v ≡ pos d *ℤ q +ℤ rest = mean.exact ∙ sums_parted n d form r.quotients r.rests us dp r.are_quotients r.are_rests in
+    let total : s *ℤ k *ℤ v ≡ pos d *ℤ q +ℤ rest = m.exact ∙ sums_parted n d form r.quotients r.rests us dp r.are_quotients r.are_rests in
     let x = new_symbol s (pos d) k v w q rest total in
     let s_up : pos 0 ≤ℤ s = let h = scale_positive in omega (arith, ints) in
     let t_up : pos 0 ≤ℤ pos range_scale = let h = range_scale_positive in omega (arith, ints) in
@@ -334,8 +304,8 @@ rounded_enters d errors k us ranges form entry v w dp steps sp e a mean b =
       positive = sp;
       symbol_is = r.symbol_is;
       lies = record {
-        least = least_fits m s (pos range_scale) (pos d) step k (pos d *ℤ w -ℤ v) new rest r.low errors.low r.symbol.low steps d_up s_up t_up k_up x b.least (least_bounds k us ranges r.rests r.low a r.is_least) r.low_end;
-        most = most_fits m s (pos range_scale) (pos d) step k (pos d *ℤ w -ℤ v) new rest r.high errors.high r.symbol.high steps d_up s_up t_up k_up x b.most (greatest_bounds k us ranges r.rests r.high a r.is_greatest) r.high_end;
+        least = least_fits s (pos range_scale) (pos d) step k (pos d *ℤ w -ℤ v) new rest r.low errors.low r.symbol.low steps d_up s_up t_up k_up x b.least (least_bounds k us ranges r.rests r.low a r.is_least) r.low_end;
+        most = most_fits s (pos range_scale) (pos d) step k (pos d *ℤ w -ℤ v) new rest r.high errors.high r.symbol.high steps d_up s_up t_up k_up x b.most (greatest_bounds k us ranges r.rests r.high a r.is_greatest) r.high_end;
       };
       means = subst (λ (xs : List ℤ). Means (suc n) (k *ℤ step) ws xs w) (sym r.form_is) meant;
     }

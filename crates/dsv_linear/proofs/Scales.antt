@@ -5,15 +5,15 @@ use Rattle.std.proofs.Math.IntN.{pos}
 use Rattle.dsv_word.proofs.Powers.{power_small}
 use Rattle.dsv_linear.specs.Forms.{scale, range_scale}
 
-pub scale_is : 1099511627776 ≡ scale
+pub scale_is : 9007199254740992 ≡ scale
 unfolding scale
 scale_is = refl
 
-pub range_scale_is : 1048576 ≡ range_scale
+pub range_scale_is : 128 ≡ range_scale
 unfolding range_scale
 range_scale_is = refl
 
-pub scale_is-integer : pos 1099511627776 ≡ pos scale
+pub scale_is-integer : pos 9007199254740992 ≡ pos scale
 unfolding scale
 scale_is-integer = refl
 
@@ -21,15 +21,11 @@ pub full_scale_is : 1152921504606846976 ≡ scale * range_scale
 unfolding scale range_scale
 full_scale_is = refl
 
-pub range_scale_is-integer : pos 1048576 ≡ pos range_scale
+pub range_scale_is-integer : pos 128 ≡ pos range_scale
 unfolding range_scale
 range_scale_is-integer = refl
 
-pub full_scale_is-integer : pos 1152921504606846976 ≡ pos (scale * range_scale)
-unfolding scale range_scale
-full_scale_is-integer = refl
-
-pub ruleset scales = (scale_is, range_scale_is, scale_is-integer, range_scale_is-integer, full_scale_is, full_scale_is-integer)
+pub ruleset scales = (scale_is, range_scale_is, scale_is-integer, range_scale_is-integer, full_scale_is)
 
 pub power_positive : (n : ℕ) → 0 < 2 ^ n
 power_positive n = pow_pos n

@@ -1,10 +1,9 @@
 -- Words that stay the same, the errors of quotients, and facts that are true.
-use Rattle.std.proofs.Common.{◌≡◌, ℕ, zero, suc, ◌+◌, ◌*◌, ◌/◌, ◌<◌, ◌≤◌, ◌-◌, ◌^◌, ◌==◌, Bool, true, false, ◌&&◌, not, if◌then◌else◌, inl, inr, [], ◌∷◌, refl, sym, ap, ◌∙◌, arith, rules}
+use Rattle.std.proofs.Common.{◌≡◌, ℕ, zero, suc, ◌+◌, ◌*◌, ◌/◌, ◌<◌, ◌≤◌, ◌-◌, ◌^◌, ◌==◌, Bool, true, false, ◌&&◌, not, if◌then◌else◌, [], ◌∷◌, refl, sym, ap, ◌∙◌, arith, rules}
 use Rattle.std.specs.Prelude.{MatchBool, Option, Some, None, int_lt}
 use Rattle.std.proofs.Math.IntN.{ℤ, pos, negsuc, ◌+ℤ◌, ◌-ℤ◌, ◌*ℤ◌, neg_ℤ}
-use Rattle.std.proofs.Math.Nat.{pow-suc, pow-le-pow_right, mul-div_cancel_left}
+use Rattle.std.proofs.Math.Nat.{pow-suc, mul-div_cancel_left}
 use Rattle.std.proofs.lemmas.Nat.{pow_pos, pow-add}
-use Rattle.std.proofs.lemmas.Bool.{cases_lt}
 use Rattle.std.proofs.lemmas.Int.{ints}
 use lib.Signed.{◌<ℤ◌, ◌≤ℤ◌}
 use Rattle.dsv_algebra.specs.Floor.{IsFloor}
@@ -20,7 +19,7 @@ use Rattle.dsv_word.proofs.Meanings.{wrapped_is, saturated_is, shifted_is}
 use Rattle.dsv_linear.specs.Facts.{Between, HoldsOf}
 use Rattle.dsv_linear.specs.declared.fact.Fact.TheVariants as fact
 use Rattle.dsv_linear.specs.declared.range.Range.{Range}
-use Rattle.dsv_linear.specs.Forms.{scale, range, symbol_divisor, symbol_coefficient}
+use Rattle.dsv_linear.specs.Forms.{scale, range}
 use Rattle.dsv_linear.specs.Known.{error_range, is_word, are_words, inside_fact, fact_of}
 
 -- ---- a word stays the same
@@ -92,42 +91,24 @@ errors_lie rounding.Floor f v = error_floor v (whole_shift rounding.Floor f v) (
 errors_lie rounding.Ceil f v = error_ceil v (whole_shift rounding.Ceil f v) (2 ^ f) (shifted_is rounding.Ceil f v)
 errors_lie rounding.Nearest f v = near_of f v (whole_shift rounding.Nearest f v) (shifted_is rounding.Nearest f v)
 
--- ---- the symbol of a quotient by a power of two
-divisor_small : (d : ℕ) → d ≤ scale → symbol_divisor d ≡ scale
-divisor_small d h = search rules
-
-divisor_great : (d : ℕ) → scale < d → symbol_divisor d ≡ d
-divisor_great d h = search rules
-
-power_parts : (f : ℕ) → f ≤ 40 → scale ≡ 2 ^ f * 2 ^ (40 - f)
+-- ---- the scale over a power of two
+power_parts : (f : ℕ) → f ≤ 53 → 2 ^ f * 2 ^ (53 - f) ≡ scale
 unfolding scale
-power_parts f h = let g : f + (40 - f) ≡ 40 = omega arith in ap (λ n. 2 ^ n) (sym g) ∙ pow-add 2 f (40 - f)
+power_parts f h = let g : f + (53 - f) ≡ 53 = omega arith in sym (pow-add 2 f (53 - f)) ∙ ap (λ n. 2 ^ n) g
 
-power_below : (f : ℕ) → f ≤ 40 → 2 ^ f ≤ scale
-unfolding scale
-power_below f h = pow-le-pow_right (omega arith) h
+step_is : (f : ℕ) → f ≤ 53 → scale / 2 ^ f ≡ 2 ^ (53 - f)
+step_is f h = ap (λ n. n / 2 ^ f) (sym (power_parts f h)) ∙ mul-div_cancel_left (2 ^ (53 - f)) {n = 2 ^ f} (pow_pos f)
 
-power_above : (f : ℕ) → 41 ≤ f → scale < 2 ^ f
-unfolding scale
-power_above f h = let p : 2 ^ 41 ≤ 2 ^ f = pow-le-pow_right (omega arith) h in omega arith
+pub steps_are : (f : ℕ) → f ≤ 53 → pos scale ≡ pos (2 ^ f) *ℤ pos (scale / 2 ^ f)
+steps_are f h = let e = power_parts f h in let g = step_is f h in rw g (omega (arith, ints))
 
--- the divisor is the power times this
-divisor_parts : (f : ℕ) → (c : ℕ) × (0 < c) × (symbol_divisor (2 ^ f) ≡ 2 ^ f * c)
-divisor_parts f = elim (cases_lt f 41) [
-  | inl p ↦ (2 ^ (40 - f), pow_pos (40 - f), divisor_small (2 ^ f) (power_below f (omega arith)) ∙ power_parts f (omega arith))
-  | inr p ↦ (1, omega arith, divisor_great (2 ^ f) (power_above f p) ∙ omega arith)
-]
-
-coefficient_is : (f : ℕ) → symbol_coefficient (2 ^ f) ≡ (divisor_parts f).0
-coefficient_is f = let c = divisor_parts f in ap (λ n. n / 2 ^ f) c.2 ∙ mul-div_cancel_left c.0 {n = 2 ^ f} (pow_pos f)
-
-pub coefficients_are : (f : ℕ) → pos (symbol_divisor (2 ^ f)) ≡ pos (2 ^ f) *ℤ pos (symbol_coefficient (2 ^ f))
-coefficients_are f = let c = divisor_parts f in let e = c.2 in let g = coefficient_is f in rw (g, e) (omega (arith, ints))
-
-pub coefficient_positive : (f : ℕ) → pos 0 <ℤ pos (symbol_coefficient (2 ^ f))
-coefficient_positive f = let c = divisor_parts f in let p = c.1 in rw (coefficient_is f) (omega (arith, ints))
+pub step_positive : (f : ℕ) → f ≤ 53 → pos 0 <ℤ pos (scale / 2 ^ f)
+step_positive f h = let p : 0 < 2 ^ (53 - f) = pow_pos (53 - f) in rw (step_is f h) (omega (arith, ints))
 
 -- ---- facts
+pub few_bits : (format : Format) → format.frac_bits ≤ 53
+few_bits format = omega (arith, format.lawful)
+
 word_cases : (a b : Bool) (format : Format) (v : ℤ) → int_lt v (lo (width format)) ≡ a → int_lt (hi (width format)) v ≡ b → (not a && not b) ≡ true → IsWord format v
 word_cases true b format v p q e = absurd cc
 word_cases false true format v p q e = absurd cc

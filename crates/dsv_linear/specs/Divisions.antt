@@ -2,8 +2,8 @@
 use Rattle.std.specs.Prelude.{ℕ, List, length, Option, Some, ℤ}
 use Rattle.dsv_linear.specs.declared.range.Range.{Range}
 use Rattle.dsv_linear.specs.declared.division.Division.{Division}
-use Rattle.dsv_linear.specs.Forms.{◌>>=◌, both, least, greatest, quotients, rests}
-use Rattle.dsv_linear.specs.Forms.{quotients_range, sums_range, symbol_divisor, error_part}
+use Rattle.dsv_linear.specs.Forms.{◌>>=◌, scale, both, lower, upper, least, greatest}
+use Rattle.dsv_linear.specs.Forms.{quotients, rests, scaled_range, sums_range}
 
 -- the least and the greatest sum of a form's terms
 abbrev pub extremes : List Range → List ℤ → Option Range
@@ -19,6 +19,6 @@ division ranges d form = quotients (length ranges) d form >>= λ quotients.
     Some (record { quotients = quotients; rests = rests })
 
 -- the range of a rounding's symbol, by the extreme sums of what is left
-abbrev pub symbol_by : ℕ → Range → Range → Option Range
-symbol_by d errors rests = quotients_range rests (symbol_divisor d) >>= λ loss.
-    error_part d errors >>= λ error. sums_range error loss
+abbrev pub symbol_by : Range → Range → Option Range
+symbol_by errors rests = both (lower rests.low scale) (upper rests.high scale) >>= λ loss.
+    scaled_range errors >>= λ error. sums_range error loss

@@ -24,11 +24,11 @@ None >>= f = None
 
 -- what coefficients are multiplied by
 unfoldable pub scale : ℕ
-scale = 2 ^ 40
+scale = 2 ^ 53
 
 -- what the ends of symbols' ranges are multiplied by
 unfoldable pub range_scale : ℕ
-range_scale = 2 ^ 20
+range_scale = 2 ^ 7
 
 -- ---- lists and sums of numbers that are narrow
 -- the numbers f 0 to f (n - 1)
@@ -76,10 +76,6 @@ sums_range r s = both (narrow_of (r.low +ℤ s.low)) (narrow_of (r.high +ℤ s.h
 
 abbrev pub differences_range : Range → Range → Option Range
 differences_range r s = both (narrow_of (r.low -ℤ s.high)) (narrow_of (r.high -ℤ s.low))
-
--- the range of quotients by d
-abbrev pub quotients_range : Range → ℕ → Option Range
-quotients_range r d = both (lower r.low d) (upper r.high d)
 
 -- ---- forms
 abbrev pub longer : ℕ → ℕ → ℕ
@@ -137,32 +133,19 @@ with_symbol form symbol = Some (record { form = form; symbol = Some symbol })
 abbrev pub scaled_range : Range → Option Range
 scaled_range r = both (narrow_of (pos range_scale *ℤ r.low)) (narrow_of (pos range_scale *ℤ r.high))
 
--- A quotient by d, a power of two, that is made whole brings a symbol: the scale times the error,
--- and what is left of the coefficients times their symbols, all over this divisor.
-abbrev pub symbol_divisor : ℕ → ℕ
-symbol_divisor d = if nat_lt scale d then d else scale
-
-abbrev pub symbol_coefficient : ℕ → ℕ
-symbol_coefficient d = symbol_divisor d / d
-
--- the range of what the errors give
-abbrev pub error_part : ℕ → Range → Option Range
-error_part d errors = products_range (pos (scale * range_scale)) errors >>= λ scaled.
-    quotients_range scaled (symbol_divisor d)
-
 -- the range of what the coefficients lose when they are divided and these are left
-abbrev pub loss_range : ℕ → List Range → List ℤ → Option Range
-loss_range d ranges rests = least ranges rests >>= λ low. greatest ranges rests >>= λ high.
-    quotients_range (range low high) (symbol_divisor d)
+abbrev pub loss_range : List Range → List ℤ → Option Range
+loss_range ranges rests = least ranges rests >>= λ low. greatest ranges rests >>= λ high.
+    both (lower low scale) (upper high scale)
 
--- the range of a rounding's symbol
-abbrev pub symbol_range : ℕ → Range → List Range → List ℤ → Option Range
-symbol_range d errors ranges rests = loss_range d ranges rests >>= λ loss.
-    error_part d errors >>= λ error. sums_range error loss
+-- the range of a rounding's symbol: its error, and what the coefficients lose
+abbrev pub symbol_range : Range → List Range → List ℤ → Option Range
+symbol_range errors ranges rests = loss_range ranges rests >>= λ loss.
+    scaled_range errors >>= λ error. sums_range error loss
 
 -- a quotient by d that is made whole, with an error between these
 abbrev pub rounded : ℕ → Range → List Range → List ℤ → Option Entry
 rounded d errors ranges form =
     quotients (length ranges) d form >>= λ quotients. rests (length ranges) d form >>= λ rests.
-    symbol_range d errors ranges rests >>= λ symbol.
-    with_symbol (quotients ++ pos (symbol_coefficient d) ∷ []) symbol
+    symbol_range errors ranges rests >>= λ symbol.
+    with_symbol (quotients ++ pos (scale / d) ∷ []) symbol

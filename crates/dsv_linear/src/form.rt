@@ -3,7 +3,7 @@
 // Affine arithmetic (Comba and Stolfi 1993; de Figueiredo and Stolfi 2004): a value is a linear
 // form over symbols, which are the inputs and one error for each rounded product, and each symbol
 // has a range. Unlike with plain intervals, what two values share cancels in their difference.
-// Coefficients are whole numbers over the scale 2^40. Nearly all that are kept have 64 bits, and
+// Coefficients are whole numbers over the scale 2^53. Nearly all that are kept have 64 bits, and
 // then take half the room and a fraction of the time.
 ghost use Rattle.std.specs.Prelude.{◌≡◌, ◌++◌, ◌∷◌, [], List, ℤ, length, IfOk, IfSome};
 ghost use Rattle.dsv_netlist.specs.Nodes.{at};

@@ -28,7 +28,7 @@ pub use range::Range;
 pub use run::{Facts, facts_of, loaded_estimates, next_of, no_point, nodes_of, zero_start};
 
 /// What coefficients are multiplied by.
-pub const SCALE: u64 = 1 << 40;
+pub const SCALE: u64 = 1 << 53;
 
 /// What the ends of symbols' ranges are multiplied by.
-pub const RANGE_SCALE: u64 = 1 << 20;
+pub const RANGE_SCALE: u64 = 1 << 7;

@@ -2,7 +2,7 @@
 ghost use Rattle.std.specs.Prelude.{◌≡◌, ◌<◌};
 ghost use Rattle.dsv_linear.specs.Forms.{lower, upper, both, least_factor, greatest_factor};
 ghost use Rattle.dsv_linear.specs.Forms.{range, scaled_range, products_range, sums_range};
-ghost use Rattle.dsv_linear.specs.Forms.{differences_range, quotients_range};
+ghost use Rattle.dsv_linear.specs.Forms.{differences_range};
 
 use crate::RANGE_SCALE;
 use dsv_algebra::NarrowInteger;
@@ -103,13 +103,5 @@ impl Range {
             self.low.checked_sub(other.high),
             self.high.checked_sub(other.low),
         )
-    }
-
-    /// The range of quotients by a positive number.
-    pub(crate) fn over(&self, d: u64) -> Option<Range>
-        requires { 0 < d }
-        ensures { result ≡ quotients_range self.now d }
-    {
-        range_of_ends(lower_quotient(self.low, d), upper_quotient(self.high, d))
     }
 }

@@ -4,22 +4,17 @@
 // whole is v / d and an error, whose range the mode of rounding gives. The coefficients of v are
 // divided by d too and rounded down; what that loses is a sum over the old symbols, and its range
 // is added to the new symbol's. So a form stays exact: no error stands outside the symbols.
-//
-// The new symbol's coefficient is the scale over d, or 1 where d is above the scale: its value is
-// then as many times smaller.
-ghost use Rattle.std.specs.Prelude.{◌≡◌, ◌<◌, ◌≤◌, ◌^◌, pos, IfOk};
-ghost use Rattle.dsv_word.specs.Width.{widest_word};
-ghost use Rattle.dsv_linear.specs.Forms.{symbol_divisor, symbol_coefficient, error_part};
+ghost use Rattle.std.specs.Prelude.{◌≡◌, ◌<◌, ◌≤◌, ◌/◌, pos, IfOk};
+ghost use Rattle.dsv_linear.specs.Forms.{scale, both, lower, upper};
 ghost use Rattle.dsv_linear.specs.Divisions.{symbol_by};
 ghost use Rattle.dsv_linear.specs.Known.{error_range, rounded_in};
 
+use crate::SCALE;
 use crate::division::division_of;
 use crate::form::Form;
 use crate::point::Entry;
 use crate::powers::power;
-use crate::range::Range;
-use crate::{RANGE_SCALE, SCALE};
-use dsv_algebra::NarrowInteger;
+use crate::range::{Range, lower_quotient, upper_quotient};
 use dsv_base::NoMemory;
 use dsv_names::Rounding;
 use dsv_word::Format;
@@ -45,43 +40,33 @@ fn error_range(format: &Format) -> Range
     }
 }
 
-/// What a symbol's range is over: the scale, or d where that is greater.
+/// The range of what the coefficients lose, by the extreme sums of what is left of them.
 #[tactic(auto, using(crate::proofs::Scales::scales))]
-fn symbol_divisor(d: u64) -> u64
-    ensures value { result ≡ symbol_divisor d }
-    ensures positive { 0 < result }
+fn loss_range(rests: &Range) -> Option<Range>
+    ensures { result ≡ both (lower rests.now.low scale) (upper rests.now.high scale) }
 {
-    if SCALE < d { d } else { SCALE }
-}
-
-/// The range of what errors give, over this power of two.
-#[tactic(auto, using(crate::proofs::Scales::scales))]
-fn error_part(errors: &Range, d: u64) -> Option<Range>
-    ensures { result ≡ error_part d errors.now }
-{
-    let full = NarrowInteger::from((SCALE * RANGE_SCALE) as i64);
-    errors.times(full)?.over(symbol_divisor(d))
+    Some(Range {
+        low: lower_quotient(rests.low, SCALE)?,
+        high: upper_quotient(rests.high, SCALE)?,
+    })
 }
 
 /// The range of a rounding's symbol: its error, and what the coefficients lose.
 fn symbol_range(format: &Format, rests: &Range) -> Option<Range>
-    ensures { result ≡ symbol_by (2 ^ format.now.frac_bits)
-        (error_range format.now.rounding format.now.frac_bits) rests.now }
+    ensures { result ≡ symbol_by (error_range format.now.rounding format.now.frac_bits) rests.now }
 {
-    let d = power(format.frac_bits);
-    let loss = rests.over(symbol_divisor(d))?;
-    let error = error_part(&error_range(format), d)?;
+    let loss = loss_range(rests)?;
+    let error = error_range(format).scaled_range()?;
     error.plus(&loss)
 }
 
-/// The coefficient of a symbol that a quotient by this power of two brings.
+/// The scale divided by a power of two.
 #[tactic(auto, using(crate::proofs::Scales::scales))]
-fn symbol_coefficient(d: u64) -> i64
-    requires positive { 0 < d }
-    requires small { d ≤ 2 ^ widest_word }
-    ensures { result ≡ pos (symbol_coefficient d) }
+fn step(d: u64) -> i64
+    requires { 0 < d }
+    ensures { result ≡ pos (scale / d) }
 {
-    (symbol_divisor(d) / d) as i64
+    (SCALE / d) as i64
 }
 
 /// The form of a value as the format rounds it, and the range of its symbol.
@@ -99,8 +84,7 @@ pub(crate) fn rounded_entry(
     let Some(symbol) = symbol_range(format, &division.rests) else {
         return Ok(None);
     };
-    let coefficient = symbol_coefficient(power(format.frac_bits));
-    division.quotients.push(coefficient)?;
+    division.quotients.push(step(power(format.frac_bits)))?;
     Ok(Some(Entry {
         form: division.quotients,
         symbol: Some(symbol),
