@@ -1,5 +1,4 @@
 pub mod Accepted
-pub mod Alike
 pub mod Deciding
 pub mod Questions
 pub mod StartLemmas

@@ -6,13 +6,14 @@ use Rattle.std.proofs.Math.IntN.{ℤ, pos}
 use Rattle.std.proofs.lemmas.Int.{ints}
 use Rattle.std.proofs.lemmas.List.{length-map, length-drop, length-take, take-append-drop}
 use Rattle.std.proofs.lemmas.List.Elements.{All-weaker, All-drop, All-head, All-tail}
+use Rattle.dsv_word.specs.declared.format.Format.{Format}
 use Rattle.dsv_word.specs.Words.{width, IsWord}
 use Rattle.dsv_meaning.specs.Equations.{Past, order, registers_of, forward_registers_of}
 use Rattle.dsv_meaning.specs.Systems.{equations_of}
 use Rattle.dsv_quantiser.specs.QuantisedView.{QuantisedView, IsQuantisedView}
 use Rattle.dsv_system.specs.Breaks.{Breaks}
 use Rattle.dsv_system.specs.Cycles.{Cycles}
-use Rattle.dsv_system.specs.Systems.{RunAlike, zeros, AreInRange}
+use Rattle.dsv_system.specs.Systems.{System, RunAlike, zeros, AreInRange}
 use Rattle.dsv_netlist.specs.Nodes.{Net}
 use Rattle.dsv_netlist.specs.Systems.{system_of}
 use Rattle.dsv_term.specs.declared.node.TermId.{TermId}
@@ -27,10 +28,10 @@ use Rattle.dsv_unroll.specs.Words.{spelled_words, cycle_start, HasCycle, Tells}
 use Rattle.dsv_hints.specs.Searches.{IfNever}
 use Rattle.dsv_hints.specs.declared.search.Searched.{Searched}
 use Rattle.dsv_hints.specs.declared.search.Searched.TheVariants.{Never, Happens, Spent}
-use Rattle.dsv_bounded.specs.Questions.{Asks, NoneHave, SomeHave, word_widths, DoBreak, free_registers, start_of_values, DoCycle}
-use Rattle.dsv_bounded.specs.Verdicts.{BreaksWithin, CyclesWithin}
+use Rattle.dsv_bounded.specs.Questions.{Asks, NoneHave, SomeHave, word_widths, input_widths, DoBreak, free_registers, start_of_values, DoCycle}
+use Rattle.dsv_bounded.specs.Verdicts.{BreaksWithin, BreaksWithinOf, CyclesWithin}
 use Rattle.dsv_bounded.proofs.StartLemmas.{forward_below}
-use Rattle.dsv_bounded.proofs.Alike.{alike_back, breaks_alike, cycles_alike}
+use Rattle.dsv_realise.proofs.Alike.{alike_back, breaks_alike, cycles_alike}
 use Rattle.dsv_bounded.proofs.WordValues.{values_for, words_of_values, values_fit, count_of_words}
 
 -- ---- goals
@@ -89,33 +90,44 @@ never_as W widths P (Happens found) m n = tt
 never_as W widths P (Spent log) m n = tt
 
 -- ---- overflow
+range_words : (f : Format) (low high : ℤ) (zs : List ℤ) → IsWord f low → IsWord f high → AreInRange low high zs → All (IsWord f) zs
+range_words f low high zs l k h =
+    All-weaker (λ (x : ℤ). (low ≤ℤ x) × (x ≤ℤ high)) (IsWord f)
+    (λ x b. let first = b.0 in let last = b.1 in let least = l.low in let greatest = k.high in record { low = omega (arith, ints); high = omega (arith, ints) }) zs h
+
 pub words_in_range : (q : QuantisedView) (zs : List ℤ) → IsQuantisedView q → AreInRange q.xlo q.xhi zs → All (IsWord q.format) zs
 words_in_range q zs f h =
-    let l = f.low in
-    let k = f.high in
-    All-weaker (λ (x : ℤ). (q.xlo ≤ℤ x) × (x ≤ℤ q.xhi)) (IsWord q.format)
-    (λ x b. let low = b.0 in let high = b.1 in record { low = omega (arith, ints); high = omega (arith, ints) }) zs h
+    let low = f.low in
+    let order = f.order in
+    let high = f.high in
+    range_words q.format q.xlo q.xhi zs (record { low = low; high = omega (arith, ints) }) (record { low = omega (arith, ints); high = high }) h
 
-pub breaks_mean : (q : QuantisedView) (samples : ℕ) → IsQuantisedView q → Means (word_widths q samples) (DoBreak q) (BreaksWithin q samples)
-breaks_mean q samples f = record {
-  given = λ values a b. (spelled_words q.format values, count_of_words q.format values samples a, b);
+pub breaks_mean : (net : Net) (low high : ℤ) (samples : ℕ) → IsWord net.format low → IsWord net.format high
+    → Means (input_widths net samples) (DoBreak net low high) (BreaksWithinOf (List ℤ) (system_of net) low high samples)
+breaks_mean net low high samples l k = record {
+  given = λ values a b. (spelled_words net.format values, count_of_words net.format values samples a, b);
   found = λ h.
       let zs = h.0 in
       let b = h.2 in
-      let e = words_of_values q.format zs (words_in_range q zs f b.in_range) in
-      (values_for q.format zs, values_fit q.format zs samples h.1, subst (λ (xs : List ℤ). Breaks Past (equations_of q) q.xlo q.xhi xs) (sym e) b);
+      let e = words_of_values net.format zs (range_words net.format low high zs l k b.in_range) in
+      (values_for net.format zs, values_fit net.format zs samples h.1, subst (λ (xs : List ℤ). Breaks (List ℤ) (system_of net) low high xs) (sym e) b);
 }
 
-pub asks_overflow : (q : QuantisedView) (net : Net) (samples : ℕ) (t : TermsView) (root : TermId) → RunAlike (List ℤ) Past (system_of net) (equations_of q) → AreTerms t → root.0 < length t.nodes → width_of t root ≡ 1
-    → t.inputs ≡ replicate samples (width net.format) → ((values : List ℕ) → AreValues t.inputs values → Tells (word_of t values root) (Breaks (List ℤ) (system_of net) q.xlo q.xhi (spelled_words net.format values)))
-    → Asks t root (word_widths q samples) (DoBreak q)
-asks_overflow q net samples t root run terms stands one inputs tells =
-    asks_from t root (word_widths q samples) (λ values. Breaks (List ℤ) (system_of net) q.xlo q.xhi (spelled_words net.format values)) (DoBreak q) terms stands one
-    (inputs ∙ ap (λ f. replicate samples (width f)) run.format) tells
-    (λ values b. subst (λ f. Breaks Past (equations_of q) q.xlo q.xhi (spelled_words f values)) run.format
-    (breaks_alike (List ℤ) Past (system_of net) (equations_of q) q.xlo q.xhi (spelled_words net.format values) run b))
-    (λ values b. breaks_alike Past (List ℤ) (equations_of q) (system_of net) q.xlo q.xhi (spelled_words net.format values) (alike_back (List ℤ) Past (system_of net) (equations_of q) run)
-    (subst (λ f. Breaks Past (equations_of q) q.xlo q.xhi (spelled_words f values)) (sym run.format) b))
+within_alike : (P Q : Type 0) (m : System P) (n : System Q) (low high : ℤ) (samples : ℕ) → RunAlike P Q m n → BreaksWithinOf P m low high samples → BreaksWithinOf Q n low high samples
+within_alike P Q m n low high samples a b = (b.0, b.1, breaks_alike P Q m n low high b.0 a b.2)
+
+-- what tells whether a controller's netlist breaks tells whether the controller does
+pub told_alike : (S : Type 0) (q : QuantisedView) (net : Net) (samples : ℕ) → RunAlike (List ℤ) Past (system_of net) (equations_of q)
+    → (S ↔ BreaksWithinOf (List ℤ) (system_of net) q.xlo q.xhi samples) → (S ↔ BreaksWithin q samples)
+told_alike S q net samples run s = (
+  (λ x. within_alike (List ℤ) Past (system_of net) (equations_of q) q.xlo q.xhi samples run (s.0 x)),
+  (λ b. s.1 (within_alike Past (List ℤ) (equations_of q) (system_of net) q.xlo q.xhi samples (alike_back (List ℤ) Past (system_of net) (equations_of q) run) b)),
+)
+
+pub asks_overflow : (net : Net) (low high : ℤ) (samples : ℕ) (t : TermsView) (root : TermId) → AreTerms t → root.0 < length t.nodes → width_of t root ≡ 1 → t.inputs ≡ input_widths net samples
+    → ((values : List ℕ) → AreValues t.inputs values → Tells (word_of t values root) (DoBreak net low high values)) → Asks t root (input_widths net samples) (DoBreak net low high)
+asks_overflow net low high samples t root terms stands one inputs tells =
+    asks_from t root (input_widths net samples) (DoBreak net low high) (DoBreak net low high) terms stands one inputs tells (λ values b. b) (λ values b. b)
 
 -- ---- cycles
 all_zeros : (zs : List ℤ) → All (λ (w : ℤ). w ≡ pos 0) zs → zs ≡ zeros (length zs)

@@ -1,8 +1,9 @@
 -- The formulas of bounded jobs: one composition of definitions that compute.
-use Rattle.std.specs.Prelude.{ℕ, ◌*◌, ◌^◌}
+use Rattle.std.specs.Prelude.{ℕ, ◌*◌, ◌^◌, ℤ}
 use Rattle.dsv_blast.specs.Blast.{cnf_of}
 use Rattle.dsv_cnf.specs.FormulaView.{FormulaView}
 use Rattle.dsv_meaning.specs.Equations.{order, products_of}
+use Rattle.dsv_netlist.specs.Nodes.{Net}
 use Rattle.dsv_quantiser.specs.QuantisedView.{QuantisedView}
 use Rattle.dsv_realise.specs.Netlists.{net_of}
 use Rattle.dsv_rewrite.specs.Rules.{simple_of}
@@ -18,9 +19,13 @@ clauses_of_simple goal = cnf_of goal.terms goal.id
 abbrev pub formula_of : Built → FormulaView
 formula_of goal = clauses_of_simple (simple_of goal.terms goal.id)
 
--- the formula of an overflow within so many samples
+-- the formula of an overflow of a netlist within so many samples, over inputs from `low` to `high`
+unfoldable pub net_overflow_formula_of : Net → ℤ → ℤ → ℕ → FormulaView
+net_overflow_formula_of net low high samples = formula_of (overflow_of net low high samples)
+
+-- the formula of an overflow of a controller: that of its netlist over its inputs
 unfoldable pub overflow_formula_of : QuantisedView → ℕ → FormulaView
-overflow_formula_of q samples = formula_of (overflow_of (net_of q) q.xlo q.xhi samples)
+overflow_formula_of q samples = net_overflow_formula_of (net_of q) q.xlo q.xhi samples
 
 -- the formula of a limit cycle of a period up to this
 unfoldable pub cycle_formula_of : QuantisedView → ℕ → FormulaView

@@ -43,9 +43,14 @@ pub record Realises (q : QuantisedView) (net : Net) : Type 0 where
 abbrev pub word_widths : QuantisedView → ℕ → List ℕ
 word_widths q n = replicate n (width q.format)
 
--- the inputs that the values spell break the controller
-abbrev pub DoBreak : QuantisedView → List ℕ → Type 0
-DoBreak q values = Breaks Past (equations_of q) q.xlo q.xhi (spelled_words q.format values)
+-- the inputs that the values spell break the netlist, over inputs from `low` to `high`
+abbrev pub DoBreak : Net → ℤ → ℤ → List ℕ → Type 0
+DoBreak net low high values =
+    Breaks (List ℤ) (system_of net) low high (spelled_words net.format values)
+
+-- so many words of the netlist's format
+abbrev pub input_widths : Net → ℕ → List ℕ
+input_widths net n = replicate n (width net.format)
 
 -- how many registers of a controller aren't feed-forward
 abbrev pub free_registers : QuantisedView → ℕ

@@ -1,4 +1,4 @@
--- What bounded verdicts say of a quantised controller, over its written equations.
+-- What bounded verdicts say of a system, and of a quantised controller over its written equations.
 use Rattle.std.specs.Prelude.{◌≡◌, ℕ, ◌≤◌, List, length, map, ℤ}
 use Rattle.dsv_meaning.specs.Equations.{Past}
 use Rattle.dsv_meaning.specs.Systems.{equations_of}
@@ -7,12 +7,16 @@ use Rattle.dsv_quantiser.specs.QuantisedView.{QuantisedView}
 use Rattle.dsv_system.specs.Breaks.{Breaks}
 use Rattle.dsv_system.specs.Cycles.{Cycles, IsLeastPeriod}
 use Rattle.dsv_system.specs.Runs.{SampleRow}
-use Rattle.dsv_system.specs.Systems.{rows, zeros}
+use Rattle.dsv_system.specs.Systems.{System, rows, zeros}
+
+-- some list of so many inputs from `low` to `high` breaks the system
+abbrev pub BreaksWithinOf : (P : Type 0) → System P → ℤ → ℤ → ℕ → Type 0
+BreaksWithinOf P m low high samples = (inputs : List ℤ) × (length inputs ≡ samples)
+    × Breaks P m low high inputs
 
 -- some list of so many inputs in range breaks the controller
 abbrev pub BreaksWithin : QuantisedView → ℕ → Type 0
-BreaksWithin q samples = (inputs : List ℤ) × (length inputs ≡ samples)
-    × Breaks Past (equations_of q) q.xlo q.xhi inputs
+BreaksWithin q samples = BreaksWithinOf Past (equations_of q) q.xlo q.xhi samples
 
 -- some start has a limit cycle of a period up to this
 abbrev pub CyclesWithin : QuantisedView → ℕ → Type 0

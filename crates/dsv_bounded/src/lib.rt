@@ -1,6 +1,7 @@
-//! Bounded verdicts on quantised controllers: overflow over all lists of so many inputs, and limit
-//! cycles of all periods up to so many samples, from all starts. Lists and starts that are offered
-//! by fixed rules are tried first, and then a search decides.
+//! Bounded verdicts: overflow of netlists and of quantised controllers over all lists of so many
+//! inputs, and limit cycles of quantised controllers of all periods up to so many samples, from all
+//! starts. Lists and starts that are offered by fixed rules are tried first, and then a search
+//! decides.
 #![tactic(auto)]
 
 mod cycles;
@@ -24,6 +25,6 @@ pub use decision::decide;
 pub use formulas::question_formula;
 pub use goal_clauses::goal_formula;
 pub use netlists::netlist_of;
-pub use overflows::{overflow, overflow_formula};
+pub use overflows::{netlist_overflow, overflow, overflow_formula};
 pub use refusals::{BoundedRefusal, MOST_SIZE, TooLarge, accept};
 pub use words::{words_after, zero_words};

@@ -1,16 +1,17 @@
-// Overflow over all lists of so many inputs.
-ghost use Rattle.std.proofs.Props.{props};
-ghost use Rattle.std.specs.Prelude.{◌≡◌, ◌≤◌, ◌↔◌, ◌^◌, IfOk};
+// Overflow over all lists of so many inputs: of netlists, and of quantised controllers by theirs.
+ghost use Rattle.std.specs.Prelude.{◌≡◌, ◌≤◌, ◌↔◌, ◌^◌, List, ℤ, IfOk};
 ghost use Rattle.dsv_cnf.specs.Formula.{IsSatisfiable};
 ghost use Rattle.dsv_hints.specs.Lessons.{IsRefutation, IsSpent};
 ghost use Rattle.dsv_hints.specs.Searches.{IfHappens, IfNever, IfSpent};
-ghost use Rattle.dsv_realise.specs.Netlists.{net_of};
+ghost use Rattle.dsv_netlist.specs.Systems.{system_of};
+ghost use Rattle.dsv_realise.specs.RangedNetlists.{IsTraceIn};
 ghost use Rattle.dsv_unroll.specs.Goals.{overflow_of};
-ghost use Rattle.dsv_bounded.specs.Formulas.{overflow_formula_of, job_size_of};
-ghost use Rattle.dsv_bounded.specs.Questions.{DoBreak, Realises, word_widths};
+ghost use Rattle.dsv_bounded.specs.Formulas.{net_overflow_formula_of, overflow_formula_of};
+ghost use Rattle.dsv_bounded.specs.Formulas.{job_size_of};
+ghost use Rattle.dsv_bounded.specs.Questions.{DoBreak, input_widths};
 ghost use Rattle.dsv_bounded.specs.Refusals.{IsSized};
-ghost use Rattle.dsv_bounded.specs.Verdicts.{BreaksWithin};
-ghost use Rattle.dsv_meaning.specs.Traces.{IsTrace};
+ghost use Rattle.dsv_bounded.specs.Verdicts.{BreaksWithin, BreaksWithinOf};
+ghost use Rattle.dsv_meaning.specs.Traces.{IsTrace, IsTraceOf};
 
 use crate::netlists::netlist_of;
 use crate::question::{Question, answer, formula};
@@ -19,35 +20,32 @@ use crate::words::words_after;
 use dsv_base::{NoMemory, WordList};
 use dsv_cnf::Formula;
 use dsv_hints::Searched;
-use dsv_meaning::{Trace, replayed_trace};
-use dsv_netlist::Netlist;
+use dsv_meaning::Trace;
 use dsv_quantiser::Quantised;
+use dsv_realise::{RangedNetlist, replayed_trace};
 use dsv_term::Goal;
 use dsv_unroll::overflow_goal;
 use std::alloc::Global;
 
-/// Whether some inputs in range, so many of them, break a quantised controller, of which this is
-/// the netlist.
+/// Whether some inputs in range, so many of them, break a netlist.
 #[derive(Clone, Copy)]
 pub(crate) struct OverflowQuestion<'a> {
-    pub(crate) quantised: &'a Quantised,
-    pub(crate) net: &'a Netlist,
+    pub(crate) subject: &'a RangedNetlist<'a>,
     pub(crate) samples: u32,
     ghost few: { samples ≤ 64 },
-    ghost realises: { Realises quantised.now net.now } by { Prim.hlevel props },
 }
 
 impl<'a> Question for OverflowQuestion<'a> {
     type Found = Trace;
 
-    ghost widths = { λ s. word_widths s.quantised.now s.samples };
+    ghost widths = { λ s. input_widths s.subject.now.net.now s.samples };
 
-    ghost asked = { λ s. DoBreak s.quantised.now };
+    ghost asked = { λ s. DoBreak s.subject.now.net.now s.subject.now.low s.subject.now.high };
 
-    ghost made = { λ s. overflow_of (net_of s.quantised.now) s.quantised.now.xlo s.quantised.now.xhi
+    ghost made = { λ s. overflow_of s.subject.now.net.now s.subject.now.low s.subject.now.high
         s.samples };
 
-    ghost shown = { λ s. IsTrace s.quantised.now s.samples };
+    ghost shown = { λ s. IsTraceIn s.subject.now s.samples };
 
     fn offer(&self, alloc: Global) -> Result<Option<Trace>, NoMemory> {
         self.offered_trace(alloc)
@@ -56,9 +54,9 @@ impl<'a> Question for OverflowQuestion<'a> {
     fn goal(&self, alloc: Global) -> Result<Goal, NoMemory> {
         let goal = overflow_goal(
             alloc,
-            self.net,
-            self.quantised.xlo(),
-            self.quantised.xhi(),
+            self.subject.net,
+            self.subject.low,
+            self.subject.high,
             self.samples,
         )?;
         let _count = goal.terms.len(); // its range, for the proof
@@ -66,8 +64,8 @@ impl<'a> Question for OverflowQuestion<'a> {
     }
 
     fn replay(&self, alloc: Global, values: &[u128]) -> Result<Trace, NoMemory> {
-        let words = words_after(WordList::new(alloc), &self.quantised.format(), values)?;
-        match replayed_trace(alloc, self.quantised, words.as_slice())? {
+        let words = words_after(WordList::new(alloc), &self.subject.net.format(), values)?;
+        match replayed_trace(alloc, self.subject, words.as_slice())? {
             Some(trace) => Ok(trace),
             None => unreachable!(),
         }
@@ -75,7 +73,7 @@ impl<'a> Question for OverflowQuestion<'a> {
 }
 
 /// The formula of an overflow within 1 to 64 samples from registers of zeros.
-#[tactic(auto, unfolding(crate::specs::Formulas::overflow_formula_of))]
+#[tactic(auto, unfolding(crate::specs::Formulas::overflow_formula_of, crate::specs::Formulas::net_overflow_formula_of))]
 pub fn overflow_formula(
     alloc: Global,
     quantised: &Quantised,
@@ -91,12 +89,40 @@ pub fn overflow_formula(
 {
     accept(quantised, samples)?;
     let net = netlist_of(alloc, quantised)?;
+    let subject = RangedNetlist::of_controller(quantised, &net);
     let question = OverflowQuestion {
-        quantised,
-        net: &net,
+        subject: &subject,
         samples,
     };
     Ok(formula(alloc, &question)?)
+}
+
+/// Whether a list of so many inputs in range, at most 64, breaks a netlist from registers of zeros:
+/// first some lists are tried, and then there is a search that learns at most so many clauses. A
+/// trace that is found replays. How large the question may be is the caller's to test.
+#[tactic(auto, unfolding(crate::specs::Formulas::net_overflow_formula_of))]
+pub fn netlist_overflow(
+    alloc: Global,
+    subject: &RangedNetlist,
+    samples: u32,
+    conflicts: u32,
+) -> Result<Searched<Trace>, NoMemory>
+    requires few { samples ≤ 64 }
+    requires allowed { 1 ≤ conflicts }
+    requires limited { conflicts ≤ 2 ^ 30 }
+    // No list of so many inputs in range breaks the netlist.
+    ensures never { IfOk result (IfNever (λ log. BreaksWithinOf (List ℤ)
+        (system_of subject.now.net.now) subject.now.low subject.now.high samples → ⊥)) }
+    // The log is a derivation of the empty clause from the question's formula.
+    ensures refuted { IfOk result (IfNever (IsRefutation (net_overflow_formula_of
+        subject.now.net.now subject.now.low subject.now.high samples) conflicts)) }
+    ensures trace { IfOk result (IfHappens (IsTraceOf (List ℤ)
+        (system_of subject.now.net.now) subject.now.low subject.now.high samples)) }
+    ensures spent { IfOk result (IfSpent (IsSpent (net_overflow_formula_of
+        subject.now.net.now subject.now.low subject.now.high samples) conflicts)) }
+{
+    let question = OverflowQuestion { subject, samples };
+    answer(alloc, &question, conflicts)
 }
 
 /// Whether a list of 1 to 64 inputs in range breaks the controller from registers of zeros: first
@@ -125,10 +151,6 @@ pub fn overflow(
 {
     accept(quantised, samples)?;
     let net = netlist_of(alloc, quantised)?;
-    let question = OverflowQuestion {
-        quantised,
-        net: &net,
-        samples,
-    };
-    Ok(answer(alloc, &question, conflicts)?)
+    let subject = RangedNetlist::of_controller(quantised, &net);
+    Ok(netlist_overflow(alloc, &subject, samples, conflicts)?)
 }

@@ -1,4 +1,4 @@
-// Questions about a quantised controller that a search decides.
+// Questions about runs that a search decides.
 ghost use Rattle.std.specs.Prelude.{◌≡◌, ◌≤◌, ◌↔◌, ◌^◌, ℕ, List, IfOk, IfSome};
 ghost use Rattle.dsv_cnf.specs.Formula.{IsSatisfiable};
 ghost use Rattle.dsv_hints.specs.Lessons.{IsRefutation, IsSpent};

@@ -16,6 +16,8 @@ mod sizes;
 #[cfg(test)]
 mod steps;
 #[cfg(test)]
+mod traces;
+#[cfg(test)]
 mod wide;
 #[cfg(test)]
 mod widest;

@@ -16,7 +16,7 @@ mod starts;
 
 pub use controllers::overflow_gain;
 pub use law::{gains_are_found_again, gains_are_safe};
-pub use lists::{MOST_DRIVEN, driven_overflow};
+pub use lists::{MOST_DRIVEN, driven_overflow, driven_trace};
 pub use outlook::{Gain, Outlook};
 pub use ranges::Ranges;
 pub use search::gain_of;

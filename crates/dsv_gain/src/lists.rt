@@ -1,23 +1,25 @@
-// Lists of inputs that may break a controller, where the gain doesn't rule it out. Each is replayed
-// in the written equations, so nothing is claimed of how it came about.
+// Lists of inputs that may break a netlist, where the gain doesn't rule it out. Each is replayed in
+// it, so nothing is claimed of how it came about.
 //
 // The worst inputs of a linear system are ends of their range, by the signs of its answers to a
 // pulse. Rounding seldom does its worst beside them, so a list may have to be longer than the worst
 // case says. At the sample at which the ranges leave the words the lists of all values are tried;
 // at later samples, to keep the time in bounds, those of the two values that are driven farthest.
-ghost use Rattle.std.specs.Prelude.{◌≡◌, ◌<◌, ◌≤◌, ◌≤ℤ◌, length, IfOk, IfSome};
+ghost use Rattle.std.specs.Prelude.{◌≡◌, ◌<◌, ◌≤◌, ◌≤ℤ◌, List, ℤ, length, IfOk, IfSome};
 ghost use Rattle.std.specs.List.{All};
 ghost use Rattle.dsv_system.specs.Systems.{AreInRange};
 ghost use Rattle.dsv_word.specs.Words.{IsWord};
+ghost use Rattle.dsv_netlist.specs.Systems.{system_of};
+ghost use Rattle.dsv_meaning.specs.Traces.{IsTrace, IsTraceOf};
+ghost use Rattle.dsv_realise.specs.RangedNetlists.{IsTraceIn};
 ghost use Rattle.dsv_gain.specs.Controllers.{most_driven};
-ghost use Rattle.dsv_meaning.specs.Traces.{IsTrace};
 
 use crate::reaches::{Reach, Side, candidates, more_reaches, no_reaches};
 use dsv_base::{NoMemory, WordList};
-use dsv_meaning::{Trace, replayed_trace};
+use dsv_meaning::Trace;
 use dsv_netlist::{Responses, pulse_responses};
 use dsv_quantiser::Quantised;
-use dsv_realise::realise;
+use dsv_realise::{RangedNetlist, realise, replayed_trace};
 use std::alloc::Global;
 
 /// The most inputs of a list.
@@ -27,39 +29,39 @@ pub const MOST_DRIVEN: u32 = 4096;
 const LATER_VALUES: usize = 2;
 
 /// The input of the range that is nearest to 0.
-fn quiet_input(quantised: &Quantised) -> i64
-    ensures low { quantised.now.xlo ≤ℤ result }
-    ensures high { result ≤ℤ quantised.now.xhi }
-    ensures word { IsWord quantised.now.format result }
+fn quiet_input(subject: &RangedNetlist) -> i64
+    ensures low { subject.now.low ≤ℤ result }
+    ensures high { result ≤ℤ subject.now.high }
+    ensures word { IsWord subject.now.net.now.format result }
 {
-    if 0 < quantised.xlo() {
-        quantised.xlo()
-    } else if quantised.xhi() < 0 {
-        quantised.xhi()
+    if 0 < subject.low {
+        subject.low
+    } else if subject.high < 0 {
+        subject.high
     } else {
         0
     }
 }
 
 /// The input that drives a value to a side, where it answers so to a pulse.
-fn driving_input(quantised: &Quantised, side: Side, answer: i128) -> i64
-    ensures low { quantised.now.xlo ≤ℤ result }
-    ensures high { result ≤ℤ quantised.now.xhi }
-    ensures word { IsWord quantised.now.format result }
+fn driving_input(subject: &RangedNetlist, side: Side, answer: i128) -> i64
+    ensures low { subject.now.low ≤ℤ result }
+    ensures high { result ≤ℤ subject.now.high }
+    ensures word { IsWord subject.now.net.now.format result }
 {
     if answer == 0 {
-        quiet_input(quantised)
+        quiet_input(subject)
     } else if (0 < answer) == (side == Side::Upper) {
-        quantised.xhi()
+        subject.high
     } else {
-        quantised.xlo()
+        subject.low
     }
 }
 
 /// Where lists come from, and where they are replayed.
 #[derive(Clone, Copy)]
 struct Driver<'a> {
-    quantised: &'a Quantised,
+    subject: &'a RangedNetlist<'a>,
     responses: &'a Responses,
 }
 
@@ -73,20 +75,20 @@ impl<'a> Driver<'a> {
         side: Side,
     ) -> Result<WordList, NoMemory>
         requires { sample < most_driven }
-        ensures range { IfOk result (AreInRange self.now.quantised.now.xlo
-            self.now.quantised.now.xhi) }
-        ensures words { IfOk result (All (IsWord self.now.quantised.now.format)) }
+        ensures range { IfOk result (AreInRange self.now.subject.now.low
+            self.now.subject.now.high) }
+        ensures words { IfOk result (All (IsWord self.now.subject.now.net.now.format)) }
         ensures many { IfOk result (λ inputs. length inputs ≤ most_driven) }
     {
         let mut inputs = WordList::new(alloc);
         for i in 0..sample + 1 {
             let answer = self.responses.answer(value, sample - i);
-            inputs.push(driving_input(self.quantised, side, answer))?;
+            inputs.push(driving_input(self.subject, side, answer))?;
         }
         Ok(inputs)
     }
 
-    /// The trace of one of the lists that drive this value, where one breaks the controller.
+    /// The trace of one of the lists that drive this value, where one breaks the netlist.
     fn value_trace(
         &self,
         alloc: Global,
@@ -95,18 +97,18 @@ impl<'a> Driver<'a> {
         sides: [Side; 2],
     ) -> Result<Option<Trace>, NoMemory>
         requires { sample < most_driven }
-        ensures { IfOk result (λ trace. IfSome trace (IsTrace self.now.quantised.now most_driven)) }
+        ensures { IfOk result (λ trace. IfSome trace (IsTraceIn self.now.subject.now most_driven)) }
     {
         for side in sides.iter() {
             let inputs = self.driving_inputs(alloc, value, sample, *side)?;
-            if let Some(trace) = replayed_trace(alloc, self.quantised, inputs.as_slice())? {
+            if let Some(trace) = replayed_trace(alloc, self.subject, inputs.as_slice())? {
                 return Ok(Some(trace));
             }
         }
         Ok(None)
     }
 
-    /// The trace of the first list that breaks the controller, of those for so many values of this
+    /// The trace of the first list that breaks the netlist, of those for so many values of this
     /// sample, the ones first that are driven farthest.
     fn sample_trace(
         &self,
@@ -116,9 +118,9 @@ impl<'a> Driver<'a> {
         most: usize,
     ) -> Result<Option<Trace>, NoMemory>
         requires { sample < most_driven }
-        ensures { IfOk result (λ trace. IfSome trace (IsTrace self.now.quantised.now most_driven)) }
+        ensures { IfOk result (λ trace. IfSome trace (IsTraceIn self.now.subject.now most_driven)) }
     {
-        let list = candidates(alloc, &self.quantised.format(), reaches)?;
+        let list = candidates(alloc, &self.subject.net.format(), reaches)?;
         for candidate in list.iter().rev().take(most) {
             let found = self.value_trace(alloc, candidate.value, sample, candidate.sides())?;
             if let Some(trace) = found {
@@ -128,14 +130,14 @@ impl<'a> Driver<'a> {
         Ok(None)
     }
 
-    /// The trace of the first list that breaks the controller, from this sample to another.
+    /// The trace of the first list that breaks the netlist, from this sample to another.
     fn first_trace(&self, alloc: Global, sample: u32, last: u32) -> Result<Option<Trace>, NoMemory>
         requires { last < most_driven }
-        ensures { IfOk result (λ trace. IfSome trace (IsTrace self.now.quantised.now most_driven)) }
+        ensures { IfOk result (λ trace. IfSome trace (IsTraceIn self.now.subject.now most_driven)) }
     {
         let mut reaches = no_reaches(alloc, self.responses.values())?;
         for now in 0..last + 1 {
-            reaches = more_reaches(alloc, self.quantised, self.responses, &reaches, now)?;
+            reaches = more_reaches(alloc, self.subject, self.responses, &reaches, now)?;
             if now < sample {
                 continue;
             }
@@ -163,9 +165,28 @@ fn last_sample(sample: u32) -> u32
     }
 }
 
-/// A trace that breaks the controller, found among the lists of inputs that drive exact values
-/// farthest: those of this sample, and then those of the samples after it, up to twice as many and
-/// 64 more. A list has at most 4,096 inputs.
+/// A trace that breaks a netlist, found among the lists of inputs that drive exact values farthest:
+/// those of this sample, and then those of the samples after it, up to twice as many and 64 more. A
+/// list has at most 4,096 inputs.
+pub fn driven_trace(
+    alloc: Global,
+    subject: &RangedNetlist,
+    sample: u32,
+) -> Result<Option<Trace>, NoMemory>
+    ensures trace { IfOk result (λ trace. IfSome trace (IsTraceOf (List ℤ)
+        (system_of subject.now.net.now) subject.now.low subject.now.high most_driven)) }
+{
+    let last = last_sample(sample);
+    let responses = pulse_responses(alloc, subject.net, last + 1)?;
+    let driver = Driver {
+        subject,
+        responses: &responses,
+    };
+    driver.first_trace(alloc, sample, last)
+}
+
+/// A trace that breaks the controller, found among the lists that `driven_trace` tries in its
+/// netlist.
 pub fn driven_overflow(
     alloc: Global,
     quantised: &Quantised,
@@ -175,11 +196,6 @@ pub fn driven_overflow(
 {
     let _order = quantised.order(); // its range, for the proof
     let net = realise(alloc, quantised)?;
-    let last = last_sample(sample);
-    let responses = pulse_responses(alloc, &net, last + 1)?;
-    let driver = Driver {
-        quantised: quantised,
-        responses: &responses,
-    };
-    driver.first_trace(alloc, sample, last)
+    let subject = RangedNetlist::of_controller(quantised, &net);
+    driven_trace(alloc, &subject, sample)
 }

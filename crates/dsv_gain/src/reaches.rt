@@ -1,7 +1,7 @@
 // How far exact values are driven by inputs in a range, without rounding.
 use dsv_base::NoMemory;
 use dsv_netlist::{PULSE, Responses};
-use dsv_quantiser::Quantised;
+use dsv_realise::RangedNetlist;
 use dsv_word::Format;
 use std::alloc::Global;
 
@@ -21,9 +21,9 @@ pub(crate) struct Reach {
 
 impl Reach {
     /// With one input more, to which the value answers so.
-    fn with_answer(&self, quantised: &Quantised, answer: i128) -> Reach {
-        let first = answer.saturating_mul(i128::from(quantised.xlo()));
-        let last = answer.saturating_mul(i128::from(quantised.xhi()));
+    fn with_answer(&self, subject: &RangedNetlist, answer: i128) -> Reach {
+        let first = answer.saturating_mul(i128::from(subject.low));
+        let last = answer.saturating_mul(i128::from(subject.high));
         Reach {
             least: self.least.saturating_add(first.min(last)),
             greatest: self.greatest.saturating_add(first.max(last)),
@@ -80,14 +80,14 @@ pub(crate) fn no_reaches(alloc: Global, values: usize) -> Result<Vec<Reach>, NoM
 /// How far values are driven with one input more, which came so many samples before.
 pub(crate) fn more_reaches(
     alloc: Global,
-    quantised: &Quantised,
+    subject: &RangedNetlist,
     responses: &Responses,
     reaches: &[Reach],
     after: u32,
 ) -> Result<Vec<Reach>, NoMemory> {
     let mut list = Vec::new(alloc);
     for (value, reach) in reaches.iter().enumerate() {
-        list.push(reach.with_answer(quantised, responses.answer(value, after)))?;
+        list.push(reach.with_answer(subject, responses.answer(value, after)))?;
     }
     Ok(list)
 }

@@ -5,7 +5,6 @@ pub mod RunLemmas
 pub mod Sizes
 pub mod StepLemmas
 pub mod SummandLemmas
-pub mod Traces
 pub mod WorkedBreaks
 pub mod WorkedControllers
 pub mod WorkedCycles

@@ -23,7 +23,7 @@ rows-length : {P : Type 0} (sample : P → ℤ → Sampled P) (past : P) (xs : L
 rows-length sample past [] = refl
 rows-length sample past (x ∷ xs) = ap suc (rows-length sample (sample past x).past xs)
 
-take-rows : {P : Type 0} (sample : P → ℤ → Sampled P) (past : P) (n : ℕ) (xs : List ℤ) → take n (rows_from sample past xs) ≡ rows_from sample past (take n xs)
+pub take-rows : {P : Type 0} (sample : P → ℤ → Sampled P) (past : P) (n : ℕ) (xs : List ℤ) → take n (rows_from sample past xs) ≡ rows_from sample past (take n xs)
 take-rows sample past zero xs = refl
 take-rows sample past (suc n) [] = refl
 take-rows sample past (suc n) (x ∷ xs) = ap (λ rs. row_at (sample past x) x ∷ rs) (take-rows sample (sample past x).past n xs)
@@ -107,7 +107,7 @@ next_outputs {q} {start} {inputs} {r} {new} {ys} {zs} {x} {row} {sample} l is s 
       outputs = ap (take (sample + 1)) e ∙ outputs_more ys s u.goes (omega (arith, l, o.room)) o.outputs ∙ ap (outputs_over q start) more;
     }
 
-at_length : {A : Type 0} (xs : List A) (y : A) (ys : List A) → slice_get (xs ++ y ∷ ys) (length xs) ≡ Some y
+pub at_length : {A : Type 0} (xs : List A) (y : A) (ys : List A) → slice_get (xs ++ y ∷ ys) (length xs) ≡ Some y
 at_length [] y ys = refl
 at_length (x ∷ xs) y ys = at_length xs y ys
 

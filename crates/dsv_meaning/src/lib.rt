@@ -4,14 +4,12 @@
 mod chains;
 mod counts;
 mod lines;
-mod replayed_traces;
 mod replays;
 mod simulation;
 mod steps;
 mod summands;
 
 pub use counts::{MOST_ORDER, forward_registers, products, registers, sums};
-pub use replayed_traces::replayed_trace;
 pub use replays::{Cycle, CycleReplay, OverflowReplay, Trace, replay_cycle, replay_overflow};
 pub use simulation::simulate;
 pub use summands::{MOST_SUMMANDS, Summand};

@@ -1,3 +1,4 @@
+pub mod Alike
 pub mod Chains
 pub mod Conditions
 pub mod DeltaChains
@@ -10,6 +11,7 @@ pub mod GrowingLines
 pub mod LineNodes
 pub mod Numbers
 pub mod Piecewise
+pub mod ReplayLemmas
 pub mod Rows
 pub mod Runs
 pub mod Samples

@@ -1,12 +1,10 @@
 -- The rows of a netlist's steps, one sample more, and the word 0.
-use Rattle.std.proofs.Common.{◌≡◌, ◌∙◌, sym, ap, ℕ, ◌+◌, ◌-◌, ◌<◌, List, [], ◌∷◌, ◌++◌, length, drop, map, get_or, append_assoc, arith}
+use Rattle.std.proofs.Common.{◌≡◌, ◌∙◌, sym, ap, ℕ, ◌+◌, ◌-◌, ◌<◌, List, [], ◌∷◌, ◌++◌, length, drop, get_or, append_assoc, arith}
 use Rattle.std.proofs.Math.IntN.{ℤ, pos}
 use Rattle.std.proofs.lemmas.Int.{ints}
 use Rattle.std.proofs.lemmas.Nat.{pow_pos}
-use Rattle.std.proofs.lemmas.List.{drop_more, map_push}
-use Rattle.dsv_system.specs.declared.rows.Row.{Row}
+use Rattle.std.proofs.lemmas.List.{drop_more}
 use Rattle.dsv_system.specs.Runs.{SampleRow, row_at}
-use Rattle.dsv_system.specs.RowViews.{row_of}
 use Rattle.dsv_word.specs.declared.format.Format.{Format}
 use Rattle.dsv_word.specs.Words.{width, IsWord}
 use Rattle.dsv_netlist.specs.Nodes.{Net, step_of}
@@ -18,18 +16,13 @@ next_rows : (net : Net) (r new : List ℤ) (x : ℤ) (xs : List ℤ) (row : Samp
 next_rows net r new x xs row e g =
     ap (λ (s : SampleRow). s ∷ rows (system_of net) new xs) e ∙ ap (λ l. row_at (step_of net r x) x ∷ rows (system_of net) l xs) g
 
-pub run_more : (net : Net) (r new inputs : List ℤ) (i : ℕ) (shown longer : List Row) (row : Row) → i < length inputs
-    → row_of row ≡ row_at (step_of net r (get_or inputs i (pos 0))) (get_or inputs i (pos 0)) → new ≡ (step_of net r (get_or inputs i (pos 0))).past
-    → longer ≡ shown ++ row ∷ []
-    → map row_of longer ++ rows (system_of net) new (drop (i + 1) inputs) ≡ map row_of shown ++ rows (system_of net) r (drop i inputs)
-run_more net r new inputs i shown longer row l e g more =
+pub run_more : (net : Net) (r new inputs : List ℤ) (i : ℕ) (shown : List SampleRow) (row : SampleRow) → i < length inputs
+    → row ≡ row_at (step_of net r (get_or inputs i (pos 0))) (get_or inputs i (pos 0)) → new ≡ (step_of net r (get_or inputs i (pos 0))).past
+    → (shown ++ row ∷ []) ++ rows (system_of net) new (drop (i + 1) inputs) ≡ shown ++ rows (system_of net) r (drop i inputs)
+run_more net r new inputs i shown row l e g =
     let x = get_or inputs i (pos 0) in
-    let rest = rows (system_of net) new (drop (i + 1) inputs) in
-    ap (λ (rs : List Row). map row_of rs ++ rest) more
-    ∙ ap (λ (rs : List SampleRow). rs ++ rest) (map_push row_of shown row)
-    ∙ append_assoc (map row_of shown) (row_of row ∷ []) rest
-    ∙ ap (λ (rs : List SampleRow). map row_of shown ++ rs)
-    (next_rows net r new x (drop (i + 1) inputs) (row_of row) e g ∙ ap (rows (system_of net) r) (sym (drop_more inputs i (pos 0) l)))
+    append_assoc shown (row ∷ []) (rows (system_of net) new (drop (i + 1) inputs))
+    ∙ ap (λ (rs : List SampleRow). shown ++ rs) (next_rows net r new x (drop (i + 1) inputs) row e g ∙ ap (rows (system_of net) r) (sym (drop_more inputs i (pos 0) l)))
 
 -- 0 is a word of every format
 pub zero_word : (f : Format) → IsWord f (pos 0)

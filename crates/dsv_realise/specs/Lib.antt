@@ -1,4 +1,5 @@
 pub mod Making
 pub mod Netlists
 pub mod Parts
+pub mod RangedNetlists
 pub mod Running

@@ -1,4 +1,4 @@
-//! The netlists of quantised controllers.
+//! The netlists of quantised controllers, and runs of netlists over inputs.
 #![tactic(auto)]
 
 mod forms;
@@ -6,9 +6,13 @@ mod lines;
 mod netlist;
 mod nodes;
 mod parts;
+mod ranged_netlist;
 mod realisations;
+mod replays;
 mod simulation;
 mod summands;
 
 pub use netlist::realise;
-pub use simulation::simulate;
+pub use ranged_netlist::RangedNetlist;
+pub use replays::replayed_trace;
+pub use simulation::{simulate, simulate_netlist};

@@ -1,4 +1,4 @@
-// Runs of a controller's netlist over inputs.
+// Runs of netlists over inputs.
 ghost use Rattle.std.specs.Prelude.{◌≡◌, length, IfOk};
 ghost use Rattle.std.specs.List.{All};
 ghost use Rattle.dsv_word.specs.Words.{IsWord};
@@ -17,8 +17,16 @@ use dsv_quantiser::Quantised;
 use dsv_system::{ExactList, Row, Rows};
 use std::alloc::Global;
 
+/// A netlist's registers with a zero in each.
+pub(crate) fn zero_registers(alloc: Global, net: &Netlist) -> Result<Vec<i64>, NoMemory>
+    ensures zeros { IfOk result (λ registers. registers.items ≡ zeros (length net.now.next)) }
+    ensures words { IfOk result (λ registers. All (IsWord net.now.format) registers.items) }
+{
+    Ok(vec![in alloc; 0i64; net.registers() as usize]?)
+}
+
 /// The row of a netlist's step, which loads the registers.
-fn next_row(net: &Netlist, registers: &mut [i64], x: &i64) -> Row
+pub(crate) fn next_row(net: &Netlist, registers: &mut [i64], x: &i64) -> Row
     requires many { length registers.old ≡ length net.now.next }
     requires words { All (IsWord net.now.format) registers.old }
     requires input { IsWord net.now.format x.now }
@@ -52,6 +60,16 @@ fn rows_of(
     Ok(Rows::from(rows))
 }
 
+/// The rows of a netlist over these inputs, from registers of zeros.
+pub fn simulate_netlist(alloc: Global, net: &Netlist, inputs: &[i64]) -> Result<Rows, NoMemory>
+    requires { All (IsWord net.now.format) inputs.now }
+    ensures { IfOk result (λ found. found
+        ≡ rows (system_of net.now) (zeros (length net.now.next)) inputs.now) }
+{
+    let mut registers = zero_registers(alloc, net)?;
+    rows_of(alloc, net, registers.as_mut_slice(), inputs)
+}
+
 /// The rows of a controller's netlist over these inputs, from registers of zeros: they are those of
 /// the written equations.
 pub fn simulate(alloc: Global, quantised: &Quantised, inputs: &[i64]) -> Result<Rows, NoMemory>
@@ -63,6 +81,5 @@ pub fn simulate(alloc: Global, quantised: &Quantised, inputs: &[i64]) -> Result<
     // its range, for the proof
     let _order = quantised.order();
     let net = realise(alloc, quantised)?;
-    let mut registers = vec![in alloc; 0i64; net.registers() as usize]?;
-    rows_of(alloc, &net, &mut registers, inputs)
+    simulate_netlist(alloc, &net, inputs)
 }

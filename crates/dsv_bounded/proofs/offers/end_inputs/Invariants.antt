@@ -6,7 +6,7 @@ use Rattle.dsv_bounded.proofs.offers.end_inputs.Given as goal
 
 abbrev pub invariant-loop-i : goal.invariant-loop-i
 invariant-loop-i l = record {
-  range : AreInRange l.quantised.xlo l.quantised.xhi l.inputs;
-  words : All (IsWord l.quantised.format) l.inputs;
+  range : AreInRange l.subject.low l.subject.high l.inputs;
+  words : All (IsWord l.subject.net.now.format) l.inputs;
   many : length l.inputs ≡ l.i;
 }

@@ -6,9 +6,10 @@ use Rattle.dsv_bounded.proofs.overflows.OverflowQuestionQuestion.goal.Goals as g
 
 pub returns-clause-asks : goal.returns-clause-asks
 returns-clause-asks c =
+    let s = c.args.self.now.subject.now in
     let g = c.in_ok-goal.goal in
     let e = c.in_ok-goal.ensures in
-    let low : SFits w64 c.xlo.result = search rules in
-    let high : SFits w64 c.xhi.result = search rules in
-    let exact = rw (to_z-of_z w64 c.xlo.result low, to_z-of_z w64 c.xhi.result high, c.xlo.ensures.same, c.xhi.ensures.same) at e.exact in
-    asks_overflow c.args.self.now.quantised.now c.args.self.now.net.now c.args.self.now.samples g.terms g.root c.args.self.now.realises.runs c.len-count.ensures.terms g.stands g.one_bit e.inputs exact
+    let low : SFits w64 s.low = search rules in
+    let high : SFits w64 s.high = search rules in
+    let exact = rw (to_z-of_z w64 s.low low, to_z-of_z w64 s.high high) at e.exact in
+    asks_overflow s.net.now s.low s.high c.args.self.now.samples g.terms g.root c.len-count.ensures.terms g.stands g.one_bit e.inputs exact

@@ -11,14 +11,14 @@ use Rattle.dsv_gain.proofs.lists.Driver.driving_inputs.Goals as goal
 
 pub loop-i-preserved : goal.loop-i-preserved
 loop-i-preserved c =
-    let q = c.args.self.now.quantised.now in
+    let s = c.args.self.now.subject.now in
     let l = c.loop-i in
     let x = c.driving_input.result in
     let fits : SFits w64 x = search rules in
     let pushed = simp to_z-of_z at c.in_ok-push.ensures.ok in
     let new : c.push.new.self ≡ l.inputs ++ x ∷ [] = pushed in
     record {
-      range = subst (AreInRange q.xlo q.xhi) (sym new) (All-push (λ (z : ℤ). (q.xlo ≤ℤ z) × (z ≤ℤ q.xhi)) l.inputs x l.invariant.range (c.driving_input.ensures.low, c.driving_input.ensures.high));
-      words = subst (All (IsWord q.format)) (sym new) (All-push (IsWord q.format) l.inputs x l.invariant.words c.driving_input.ensures.word);
+      range = subst (AreInRange s.low s.high) (sym new) (All-push (λ (z : ℤ). (s.low ≤ℤ z) × (z ≤ℤ s.high)) l.inputs x l.invariant.range (c.driving_input.ensures.low, c.driving_input.ensures.high));
+      words = subst (All (IsWord s.net.now.format)) (sym new) (All-push (IsWord s.net.now.format) l.inputs x l.invariant.words c.driving_input.ensures.word);
       many = omega (arith, ap length new, length-append l.inputs (x ∷ []), l.invariant.many);
     }

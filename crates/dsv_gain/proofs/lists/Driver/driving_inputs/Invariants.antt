@@ -6,7 +6,7 @@ use Rattle.dsv_gain.proofs.lists.Driver.driving_inputs.Given as goal
 
 abbrev pub invariant-loop-i : goal.invariant-loop-i
 invariant-loop-i l = record {
-  range : AreInRange l.self.quantised.now.xlo l.self.quantised.now.xhi l.inputs;
-  words : All (IsWord l.self.quantised.now.format) l.inputs;
+  range : AreInRange l.self.subject.now.low l.self.subject.now.high l.inputs;
+  words : All (IsWord l.self.subject.now.net.now.format) l.inputs;
   many : length l.inputs ≡ l.i;
 }
