@@ -1,0 +1,14 @@
+pub mod CascadeNets
+pub mod CascadeVerdicts
+pub mod GreatNumbers
+pub mod JoinedNets
+pub mod JoinedSteps
+pub mod Misfits
+pub mod MovedNodes
+pub mod PolynomialSizes
+pub mod SectionNodes
+pub mod SectionProducts
+pub mod SectionSystems
+pub mod Series
+pub mod SeriesLists
+pub mod StableSections

@@ -1,0 +1,23 @@
+use Rattle.std.proofs.Common.{◌≡◌, ◌∙◌, rules, SFits, to_z, of_z}
+use Rattle.std.specs.Int.{w64}
+use Rattle.std.proofs.lemmas.Int.{to_z-of_z}
+use Rattle.dsv_cascade.proofs.CascadeVerdicts.{safe_holds, safe_never}
+use Rattle.dsv_cascade.proofs.gain.cascade_gain.Goals as goal
+
+pub returns : goal.returns
+returns c =
+    let cascade = c.args.cascade.now in
+    let net = c.in_ok-net.net in
+    let runs = c.in_ok-net.ensures.runs in
+    let s = c.ranged_netlist-subject in
+    let low_fits : SFits w64 s.result.low = search rules in
+    let high_fits : SFits w64 s.result.high = search rules in
+    let low = to_z w64 (of_z w64 s.result.low) in
+    let high = to_z w64 (of_z w64 s.result.high) in
+    let is_low : low ≡ cascade.first.xlo = to_z-of_z w64 s.result.low low_fits ∙ s.ensures.low in
+    let is_high : high ≡ cascade.first.xhi = to_z-of_z w64 s.result.high high_fits ∙ s.ensures.high in
+    record {
+      made = search rules;
+      holds = safe_holds cascade net low high c.gain_of.result runs is_low is_high c.gain_of.ensures.holds;
+      safe = safe_never cascade net low high c.gain_of.result runs is_low is_high c.gain_of.ensures.safe;
+    }

@@ -1,0 +1,7 @@
+pub mod Cascades
+pub mod Netlists
+pub mod Sections
+pub mod Sizes
+pub mod Stability
+pub mod UnstableSections
+pub mod Verdicts
