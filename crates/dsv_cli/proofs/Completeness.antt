@@ -6,12 +6,19 @@ use Rattle.dsv_command.specs.Jobs.{Asked}
 use Rattle.dsv_report.specs.declared.answers.Answer.TheVariants as answer
 use Rattle.dsv_report.specs.declared.stop.Stop.TheVariants as stop
 use Rattle.dsv_report.specs.declared.stop.WhichFile.TheVariants as file
-use Rattle.dsv_cli.specs.Completeness.{IsDecidedBy, AreDecided}
+use Rattle.dsv_cascade.specs.declared.stability.CascadeForms.{CascadeForms}
+use Rattle.dsv_cascade.specs.declared.stability.CascadeForms.TheVariants as forms
+use Rattle.dsv_command.specs.Cascades.{AskedCascade}
+use Rattle.dsv_report.specs.Report.{answer_status, forms_status}
+use Rattle.dsv_report.specs.declared.answers.Answer.{Answer}
+use Rattle.dsv_cli.specs.Cascades.{IsCascadeRow}
+use Rattle.dsv_cli.specs.Completeness.{IsVerdict, IsDecidedBy, AreDecided}
 use Rattle.dsv_cli.specs.Headline.{IsRow, IsCheckRow}
 
 job_decided : (told : Option (List ℕ)) (old new : FilesSeen) (job : Asked) → IsDecidedBy old new (IsRow told old new job)
 job_decided told old new job (Ok (answer.Falls poly offer fall)) row none calm = inl (inl refl)
 job_decided told old new job (Ok (answer.KeptAway poly offer fall value)) row none calm = inl (inr (inl refl))
+job_decided told old new job (Ok (answer.OfSections found)) row none calm = absurd row
 job_decided told old new job (Ok answer.NoZeros) row none calm = inl (inr (inl refl))
 job_decided told old new job (Ok (answer.NoForm poly kept verdict)) row none calm = inl (inr (inr refl))
 job_decided told old new job (Ok (answer.Wide index)) row none calm = inl (inr (inr refl))
@@ -37,6 +44,11 @@ job_decided told old new job (Err (stop.QuantRefused r)) row none calm = absurd 
 job_decided told old new job (Err (stop.InputRange index value)) row none calm = absurd (none (Err (stop.InputRange index value)) (inr (inl refl)) row)
 job_decided told old new job (Err (stop.ReadFault file.Controller)) row none calm = absurd (calm row.shows.0)
 job_decided told old new job (Err (stop.ReadFault file.Certificate)) row none calm = absurd row
+job_decided told old new job (Err (stop.ReadFault (file.Section section))) row none calm = absurd row
+job_decided told old new job (Err (stop.SectionRefused section r)) row none calm = absurd row
+job_decided told old new job (Err (stop.SectionTooLong section)) row none calm = absurd row
+job_decided told old new job (Err (stop.SectionQuant section r)) row none calm = absurd row
+job_decided told old new job (Err (stop.CascadeRefused r)) row none calm = absurd row
 job_decided told old new job (Err (stop.CertificateRefused line fault)) row none calm = absurd row
 job_decided told old new job (Err stop.Usage) row none calm = absurd row
 job_decided told old new job (Err stop.NoMemory) row none calm = inr refl
@@ -51,9 +63,61 @@ check_decided told old new controller name (Err stop.FileTooLong) row none calm 
 check_decided told old new controller name (Err (stop.QuantRefused r)) row none calm = absurd (none (Err (stop.QuantRefused r)) (inr (inl refl)) row)
 check_decided told old new controller name (Err (stop.ReadFault file.Controller)) row none calm = absurd (calm row.shows.0)
 check_decided told old new controller name (Err (stop.ReadFault file.Certificate)) row none calm = absurd (calm row.shows.0)
+check_decided told old new controller name (Err (stop.ReadFault (file.Section section))) row none calm = absurd row
+check_decided told old new controller name (Err (stop.SectionRefused section r)) row none calm = absurd row
+check_decided told old new controller name (Err (stop.SectionTooLong section)) row none calm = absurd row
+check_decided told old new controller name (Err (stop.SectionQuant section r)) row none calm = absurd row
+check_decided told old new controller name (Err (stop.CascadeRefused r)) row none calm = absurd row
 check_decided told old new controller name (Err (stop.InputRange index value)) row none calm = absurd row
 check_decided told old new controller name (Err stop.Usage) row none calm = absurd row
 check_decided told old new controller name (Err stop.NoMemory) row none calm = inr refl
 
+forms_verdict : (found : CascadeForms) → IsVerdict (forms_status found)
+forms_verdict (forms.Falls offers) = inl refl
+forms_verdict (forms.KeptAway section poly offer fall value) = inr (inl refl)
+forms_verdict (forms.Wide section index) = inr (inr refl)
+forms_verdict (forms.NoClosedForm section index) = inr (inr refl)
+
+answer_verdict : (found : Answer) → IsVerdict (answer_status found)
+answer_verdict (answer.Falls poly offer fall) = inl refl
+answer_verdict (answer.KeptAway poly offer fall value) = inr (inl refl)
+answer_verdict (answer.OfSections found) = forms_verdict found
+answer_verdict answer.NoZeros = inr (inl refl)
+answer_verdict (answer.NoForm poly kept verdict) = inr (inr refl)
+answer_verdict (answer.Wide index) = inr (inr refl)
+answer_verdict (answer.OnTime report) = inl refl
+answer_verdict (answer.Late report) = inr (inl refl)
+answer_verdict (answer.Never log) = inl refl
+answer_verdict (answer.Always candidate logs) = inl refl
+answer_verdict (answer.NoInvariant kept) = inr (inr refl)
+answer_verdict (answer.InRanges gain) = inl refl
+answer_verdict (answer.OutOfRange sample value) = inr (inr refl)
+answer_verdict (answer.TooDeep depth) = inr (inr refl)
+answer_verdict (answer.Overflow trace) = inr (inl refl)
+answer_verdict (answer.Cycles cycle) = inr (inl refl)
+answer_verdict (answer.Spent log) = inr (inr refl)
+answer_verdict (answer.FormulaText formula) = inl refl
+answer_verdict (answer.Simulated rows) = inl refl
+answer_verdict (answer.Generated found) = inl refl
+answer_verdict (answer.Checked certified) = inl refl
+
+cascade_decided : (old new : FilesSeen) (asked : AskedCascade) → IsDecidedBy old new (IsCascadeRow old new asked)
+cascade_decided old new asked (Ok found) row none calm = inl (answer_verdict found)
+cascade_decided old new asked (Err (stop.JobSize size)) row none calm = absurd (none (Err (stop.JobSize size)) (inr (inr (inl refl))) row)
+cascade_decided old new asked (Err (stop.FileRefused r)) row none calm = absurd (none (Err (stop.FileRefused r)) (inr (inl refl)) row)
+cascade_decided old new asked (Err stop.FileTooLong) row none calm = absurd (none (Err stop.FileTooLong) (inr (inl refl)) row)
+cascade_decided old new asked (Err (stop.QuantRefused r)) row none calm = absurd (none (Err (stop.QuantRefused r)) (inr (inl refl)) row)
+cascade_decided old new asked (Err (stop.SectionRefused section r)) row none calm = absurd (none (Err (stop.SectionRefused section r)) (inr (inl refl)) row)
+cascade_decided old new asked (Err (stop.SectionTooLong section)) row none calm = absurd (none (Err (stop.SectionTooLong section)) (inr (inl refl)) row)
+cascade_decided old new asked (Err (stop.SectionQuant section r)) row none calm = absurd (none (Err (stop.SectionQuant section r)) (inr (inl refl)) row)
+cascade_decided old new asked (Err (stop.CascadeRefused r)) row none calm = absurd (none (Err (stop.CascadeRefused r)) (inr (inl refl)) row)
+cascade_decided old new asked (Err (stop.InputRange index value)) row none calm = absurd (none (Err (stop.InputRange index value)) (inr (inl refl)) row)
+cascade_decided old new asked (Err (stop.ReadFault file.Controller)) row none calm = absurd (calm row.shows.0)
+cascade_decided old new asked (Err (stop.ReadFault file.Certificate)) row none calm = absurd row
+cascade_decided old new asked (Err (stop.ReadFault (file.Section section))) row none calm = absurd (calm row.2.5.1)
+cascade_decided old new asked (Err (stop.CertificateRefused line fault)) row none calm = absurd row
+cascade_decided old new asked (Err stop.Usage) row none calm = absurd row
+cascade_decided old new asked (Err stop.NoMemory) row none calm = inr refl
+
 pub are_decided : AreDecided
-are_decided = record { jobs = job_decided; checks = check_decided }
+are_decided = record { jobs = job_decided; cascades = cascade_decided; checks = check_decided }

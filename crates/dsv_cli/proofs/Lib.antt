@@ -3,6 +3,7 @@ pub mod Answering
 pub mod Asked
 pub mod Blocks
 pub mod BuiltIn
+pub mod CascadeRows
 pub mod Causes
 pub mod CertifiedWords
 pub mod CheckRows
@@ -13,6 +14,8 @@ pub mod OfferedSets
 pub mod OneAnswerLemmas
 pub mod OneAnswerStages
 pub mod OneAnswerTasks
+pub mod Pairwise
+pub mod SectionFiles
 pub mod Suffixes
 pub mod Told
 pub mod Unasked

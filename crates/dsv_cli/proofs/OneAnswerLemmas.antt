@@ -96,6 +96,11 @@ reached_by bytes old new job (Err stop.FileTooLong) s h = along h.comes_from.1 (
 reached_by bytes old new job (Ok (answer.Checked certified)) s h = absurd h
 reached_by bytes old new job (Err (stop.CertificateRefused line why)) s h = absurd h
 reached_by bytes old new job (Ok (answer.Generated found)) s h = absurd h
+reached_by bytes old new job (Ok (answer.OfSections found)) s h = absurd h
+reached_by bytes old new job (Err (stop.SectionRefused section refusal)) s h = absurd h
+reached_by bytes old new job (Err (stop.SectionTooLong section)) s h = absurd h
+reached_by bytes old new job (Err (stop.SectionQuant section refusal)) s h = absurd h
+reached_by bytes old new job (Err (stop.CascadeRefused refusal)) s h = absurd h
 reached_by bytes old new job (Err stop.Usage) s h = absurd h
 reached_by bytes old new job found s h = absurd s
 

@@ -141,6 +141,7 @@ sets_asked_for place last to_come R S before after found f h = record {
 pub plain_places : (found : Outcome) → IsPlain found → IfOk found HasPlaces
 plain_places (Ok (answer.Falls poly offer fall)) h = absurd h
 plain_places (Ok (answer.KeptAway poly offer fall value)) h = absurd h
+plain_places (Ok (answer.OfSections found)) h = h
 plain_places found h = tt
 
 -- ---- low orders

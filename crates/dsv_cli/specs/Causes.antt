@@ -13,6 +13,7 @@ use Rattle.dsv_command.specs.Jobs.{Task, decides, checks_time, writes, searches}
 use Rattle.dsv_command.specs.Jobs.{seeks_set, measures_gain, simulates}
 use Rattle.dsv_report.specs.declared.answers.Answer.TheVariants as answer
 use Rattle.dsv_report.specs.declared.stop.Stop.TheVariants as stop
+use Rattle.dsv_report.specs.Printing.{FormsHavePlaces}
 use Rattle.dsv_report.specs.Stops.{Outcome}
 use Rattle.dsv_cli.specs.Headline.{ShowsFall, ShowsKeptAway, ShowsNoForm}
 use Rattle.dsv_bounded.specs.Verdicts.{IsCycle}
@@ -109,8 +110,9 @@ IsOfTask c (seeks_set conflicts) q found = IsOfSets conflicts q found
 IsOfTask c measures_gain q found = IsOfGain q found
 IsOfTask c (simulates inputs) q found = IsOfRun q inputs found
 
--- the answer needs no proposer
+-- the answer needs no proposer, and the forms in it have at most eight places
 abbrev pub IsPlain : Outcome → Type 0
+IsPlain (Ok (answer.OfSections found)) = FormsHavePlaces found
 IsPlain (Ok (answer.Falls poly offer fall)) = ⊥
 IsPlain (Ok (answer.KeptAway poly offer fall value)) = ⊥
 IsPlain (Ok (answer.NoForm poly kept verdict)) = ⊥

@@ -3,10 +3,12 @@
 use Rattle.std.specs.Prelude.{◌≡◌, ◌⊎◌, ℕ, List, Option, Err}
 use Rattle.dsv_base.specs.Counts.{Rose}
 use Rattle.dsv_base.specs.Seen.{FilesSeen}
+use Rattle.dsv_command.specs.Cascades.{AskedCascade}
 use Rattle.dsv_command.specs.Jobs.{Asked}
 use Rattle.dsv_report.specs.Report.{status_of}
 use Rattle.dsv_report.specs.declared.stop.Stop.TheVariants as stop
 use Rattle.dsv_report.specs.Stops.{Outcome}
+use Rattle.dsv_cli.specs.Cascades.{IsCascadeRow}
 use Rattle.dsv_cli.specs.Headline.{IsRow, IsCheckRow}
 
 -- the status of a job that is done or holds, that fails, or that is inconclusive
@@ -33,5 +35,7 @@ IsDecidedBy old new HasRow = (found : Outcome) → HasRow found → IsRefusedByN
 pub record AreDecided : Type 0 where
   pub jobs : (told : Option (List ℕ)) (old new : FilesSeen) (job : Asked)
       → IsDecidedBy old new (IsRow told old new job)
+  pub cascades : (old new : FilesSeen) (asked : AskedCascade)
+      → IsDecidedBy old new (IsCascadeRow old new asked)
   pub checks : (told : Option (List ℕ)) (old new : FilesSeen) (controller name : List ℕ)
       → IsDecidedBy old new (IsCheckRow told old new controller name)

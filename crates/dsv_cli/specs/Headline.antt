@@ -49,7 +49,6 @@ use Rattle.dsv_lyapunov.specs.Kept.{AreRefused}
 use Rattle.dsv_lyapunov.specs.declared.kept.KeptForm.{KeptForm}
 use Rattle.dsv_command.specs.Jobs.{Task, decides, checks_time, writes, searches}
 use Rattle.dsv_command.specs.Jobs.{seeks_set, measures_gain, simulates, Asked}
-use Rattle.dsv_command.specs.Requests.{Request, on_file, checks, generates}
 use Rattle.dsv_names.specs.declared.design.Design.{Design}
 use Rattle.dsv_report.specs.declared.answers.Answer.TheVariants as answer
 use Rattle.dsv_report.specs.declared.stop.CertificateFault.{CertificateFault}
@@ -429,18 +428,6 @@ abbrev pub IsOfGeneration : ℕ → ℕ → Outcome → Type 0
 IsOfGeneration seed count (Ok (answer.Generated found)) = IsGeneratedFrom seed count found
 IsOfGeneration seed count (Err stop.NoMemory) = Unit {0}
 IsOfGeneration seed count other = ⊥
-
--- Arguments that ask for nothing come to Usage, and a job or a check to what has its row. Generated
--- controllers are answered by their tally, with the files untouched. Only NoMemory has no stated
--- cause.
-abbrev pub IsExplained : FilesSeen → FilesSeen → Option Request → Outcome → Type 0
-IsExplained old new None found =
-    (found ≡ Err stop.NoMemory) ⊎ ((found ≡ Err stop.Usage) × (new ≡ old))
-IsExplained old new (Some (on_file job)) found = IsRow (old.held job.file) old new job found
-IsExplained old new (Some (checks controller name)) found =
-    IsCheckRow (old.held controller) old new controller name found
-IsExplained old new (Some (generates seed count)) found =
-    IsOfGeneration seed count found × (new ≡ old)
 
 -- these are the words that the job's controller becomes
 abbrev pub FileBecomes : FilesSeen → Option Asked → QuantisedView → Type 0

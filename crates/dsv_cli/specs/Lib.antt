@@ -2,14 +2,17 @@ pub mod Accepted
 pub mod Answering
 pub mod Asking
 pub mod Blocks
+pub mod Cascades
 pub mod Causes
 pub mod Checking
 pub mod Completeness
+pub mod Explained
 pub mod FileBytes
 pub mod Gain
 pub mod Headline
 pub mod OneAnswer
 pub mod Proposers
+pub mod SectionFiles
 pub mod SetAsking
 pub mod Sets
 pub mod Simulating

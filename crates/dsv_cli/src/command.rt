@@ -4,10 +4,12 @@ ghost use Rattle.dsv_certfile.specs.Lawful.{IsWords};
 ghost use Rattle.dsv_certfile.specs.Typed.{IsTyped};
 ghost use Rattle.dsv_certfile.specs.declared.job.CertWords.TheVariants as words_said;
 ghost use Rattle.dsv_command.specs.Requests.{request_of, job_of};
-ghost use Rattle.dsv_report.specs.Printing.{HasPlaces, asked_in};
-ghost use Rattle.dsv_report.specs.Output.{output_of, certificate_written};
+ghost use Rattle.dsv_report.specs.AnyJobs.{asked_in};
+ghost use Rattle.dsv_report.specs.Printing.{HasPlaces};
+ghost use Rattle.dsv_report.specs.Output.{output_of, certificate_written, asked_by};
 ghost use Rattle.dsv_report.specs.Report.{status_of};
-ghost use Rattle.dsv_cli.specs.Headline.{IsExplained, IsOfGeneration, FileBecomes, SaysWords};
+ghost use Rattle.dsv_cli.specs.Explained.{IsExplained};
+ghost use Rattle.dsv_cli.specs.Headline.{IsOfGeneration, FileBecomes, SaysWords};
 ghost use Rattle.dsv_cli.specs.Headline.{AreKept, IsWritten, IfWhole};
 ghost use Rattle.dsv_cli.specs.Causes.{IsPlain};
 ghost use Rattle.dsv_cli.specs.Proposers.{IsAsked, AreSetsAsked, IfNoForm, is_low};
@@ -16,12 +18,13 @@ ghost use Rattle.dsv_cli.specs.Proposers.{WantsForm, WantsSet, WantsSchurCohn, I
 use crate::check::check_answer;
 use crate::job::{JobOutcome, job_outcome};
 use crate::proposers::Proposers;
+use crate::series::cascade_outcome;
 use dsv_base::{Files, Sink};
 use dsv_certfile::CertWords;
-use dsv_command::{Generation, Job, Request, read_request};
+use dsv_command::{Generation, Request, read_request};
 use dsv_generator::generate;
 use dsv_lyapunov::FormProposer;
-use dsv_report::{Answer, Stop, put_output, status_of};
+use dsv_report::{Answer, AnyJob, Stop, put_output, status_of};
 use dsv_template::InvariantProposer;
 use std::alloc::Global;
 
@@ -49,7 +52,7 @@ fn generation_answer(alloc: Global, asked: Generation) -> Result<Answer, Stop>
 /// Writes what a request came to. The status is 4 where not the whole text was written.
 pub(crate) fn written_status<K: Sink>(
     sink: &mut K,
-    job: Option<&Job>,
+    job: Option<AnyJob>,
     words: CertWords,
     outcome: &Result<Answer, Stop>,
 ) -> u8
@@ -131,16 +134,27 @@ pub fn run<F: Files, K: Sink>(
     // the outcome's, or the status is 4 and the sink failed.
     ensures written { IsWritten (K.seen sink.old) (K.seen sink.new) result.status
         (status_of result.outcome)
-        (output_of (job_of (map string_bytes arguments.now)) result.words result.outcome) }
+        (output_of (asked_by (request_of (map string_bytes arguments.now))) result.words
+        result.outcome) }
     // Of a certificate that was written whole its types are known.
     ensures typed { IfWhole result.status (IfSome
-        (certificate_written (job_of (map string_bytes arguments.now)) result.words result.outcome)
-        IsTyped) }
+        (certificate_written (asked_by (request_of (map string_bytes arguments.now))) result.words
+        result.outcome) IsTyped) }
 {
     match read_request(alloc, arguments) {
         Ok(Some(Request::OnFile(job))) => {
             let JobOutcome { outcome, words } = job_outcome(alloc, &job, files, proposers);
-            let status = written_status(sink, Some(&job), words, &outcome);
+            let status = written_status(sink, Some(AnyJob::OfController(&job)), words, &outcome);
+            Done {
+                status,
+                outcome,
+                words,
+            }
+        }
+        Ok(Some(Request::OnCascade(job))) => {
+            let outcome = cascade_outcome(alloc, &job, files);
+            let words = CertWords::Unsaid;
+            let status = written_status(sink, Some(AnyJob::OfCascade(&job)), words, &outcome);
             Done {
                 status,
                 outcome,

@@ -19,7 +19,7 @@ fn limit_of(which: WhichFile) -> u64
     ensures small { result ≤ 2 ^ 26 }
 {
     match which {
-        WhichFile::Controller => LONGEST_FILE,
+        WhichFile::Controller | WhichFile::Section(_) => LONGEST_FILE,
         WhichFile::Certificate => LONGEST_CERTIFICATE,
     }
 }
@@ -30,6 +30,7 @@ fn too_long_stop(which: WhichFile) -> Stop
 {
     match which {
         WhichFile::Controller => Stop::FileTooLong,
+        WhichFile::Section(section) => Stop::SectionTooLong { section },
         WhichFile::Certificate => Stop::CertificateRefused {
             line: 0,
             fault: CertificateFault::TooLong,

@@ -12,7 +12,7 @@ use dsv_report::{Answer, Stop};
 use std::alloc::Global;
 
 /// The most samples that are looked at.
-const MOST_SAMPLES: u32 = MOST_GAIN_DEPTH + 1;
+pub(crate) const MOST_SAMPLES: u32 = MOST_GAIN_DEPTH + 1;
 
 /// The answer where the range of the exact value of this number, in this sample, isn't known to be
 /// one of words: the first list of inputs that overflows, of those that are tried.

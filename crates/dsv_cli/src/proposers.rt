@@ -2,12 +2,13 @@
 ghost use Rattle.std.specs.Prelude.{◌≡◌, [], ◌∷◌, false, Some, IfSome, map, string_bytes};
 ghost use Rattle.dsv_certfile.specs.Typed.{IsTyped};
 ghost use Rattle.dsv_command.specs.Requests.{request_of, job_of};
-ghost use Rattle.dsv_report.specs.Output.{output_of, certificate_written};
+ghost use Rattle.dsv_report.specs.Output.{output_of, certificate_written, asked_by};
 ghost use Rattle.dsv_report.specs.Report.{status_of};
 ghost use Rattle.dsv_invariant.specs.Shapes.{shape_of};
 ghost use Rattle.dsv_template.specs.declared.shape.Shape.{Shape};
 ghost use Rattle.dsv_template.specs.Boxes.{boxes};
-ghost use Rattle.dsv_cli.specs.Headline.{IsExplained, FileBecomes, SaysWords};
+ghost use Rattle.dsv_cli.specs.Explained.{IsExplained};
+ghost use Rattle.dsv_cli.specs.Headline.{FileBecomes, SaysWords};
 ghost use Rattle.dsv_cli.specs.Headline.{AreKept, IsWritten, IfWhole};
 ghost use Rattle.dsv_cli.specs.Proposers.{
   IfNoForm,
@@ -61,9 +62,11 @@ fn run_with<F: Files, K: Sink>(
     ensures kept { AreKept (F.seen files.old) (F.seen files.new) }
     ensures written { IsWritten (K.seen sink.old) (K.seen sink.new) result.status
         (status_of result.outcome)
-        (output_of (job_of (map string_bytes arguments.now)) result.words result.outcome) }
+        (output_of (asked_by (request_of (map string_bytes arguments.now))) result.words
+        result.outcome) }
     ensures typed { IfWhole result.status (IfSome
-        (certificate_written (job_of (map string_bytes arguments.now)) result.words result.outcome)
+        (certificate_written (asked_by (request_of (map string_bytes arguments.now))) result.words
+        result.outcome)
         IsTyped) }
 {
     let Ok(second) = Box::new(alloc, SumProposer::new()) else {
@@ -101,9 +104,11 @@ pub fn run_with_built_in<F: Files, K: Sink>(
     ensures kept { AreKept (F.seen files.old) (F.seen files.new) }
     ensures written { IsWritten (K.seen sink.old) (K.seen sink.new) result.status
         (status_of result.outcome)
-        (output_of (job_of (map string_bytes arguments.now)) result.words result.outcome) }
+        (output_of (asked_by (request_of (map string_bytes arguments.now))) result.words
+        result.outcome) }
     ensures typed { IfWhole result.status (IfSome
-        (certificate_written (job_of (map string_bytes arguments.now)) result.words result.outcome)
+        (certificate_written (asked_by (request_of (map string_bytes arguments.now))) result.words
+        result.outcome)
         IsTyped) }
 {
     let Ok(first) = Box::new(alloc, BoxProposer::new()) else {

@@ -37,7 +37,7 @@ fn formula_found(found: Result<Formula, BoundedRefusal>) -> Result<Answer, Stop>
 }
 
 /// The answer that a search for an overflow gives, or why there is none.
-fn overflow_found(found: Result<Searched<Trace>, BoundedRefusal>) -> Result<Answer, Stop>
+pub(crate) fn overflow_found(found: Result<Searched<Trace>, BoundedRefusal>) -> Result<Answer, Stop>
     ensures { result ≡ overflow_outcome found }
 {
     match found {

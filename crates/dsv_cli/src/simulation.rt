@@ -1,7 +1,8 @@
 // Answers simulations of a quantised controller.
 #![tactic(auto, using(dsv_algebra::proofs::Casts::casts))]
 
-ghost use Rattle.std.specs.Prelude.{◌≤◌, length, MatchOption};
+ghost use Rattle.std.specs.Prelude.{◌≡◌, ◌≤◌, ℕ, ℤ, length, IfSome, IfNone, MatchOption};
+ghost use Rattle.dsv_report.specs.declared.stop.Stop.TheVariants as stop;
 ghost use Rattle.std.specs.List.{All};
 ghost use Rattle.dsv_word.specs.Words.{IsWord};
 ghost use Rattle.dsv_cli.specs.Causes.{IsOfRun, IsPlain};
@@ -36,6 +37,21 @@ fn find_outside(format: &Format, inputs: &[i64]) -> Option<Numbered>
     None
 }
 
+/// Why there is no answer where an input is no word of the format.
+pub(crate) fn outside_stop(format: &Format, inputs: &[i64]) -> Option<Stop>
+    requires { length inputs.now ≤ 64 }
+    ensures none { IfNone result (All (IsWord format.now) inputs.now) }
+    ensures first { IfSome result (λ why. (index : ℕ) × (value : ℤ)
+        × (why ≡ stop.InputRange index value)
+        × IsFirstOutside format.now inputs.now index value) }
+{
+    let Numbered { index, value } = find_outside(format, inputs)?;
+    Some(Stop::InputRange {
+        index,
+        value: i128::from(value),
+    })
+}
+
 /// The answer to a simulation over these inputs.
 pub(crate) fn simulation_answer(
     alloc: Global,
@@ -46,11 +62,8 @@ pub(crate) fn simulation_answer(
     ensures run { IsOfRun quantised.now inputs.now result }
     ensures plain { IsPlain result }
 {
-    if let Some(Numbered { index, value }) = find_outside(&quantised.format(), inputs) {
-        return Err(Stop::InputRange {
-            index,
-            value: i128::from(value),
-        });
+    if let Some(stop) = outside_stop(&quantised.format(), inputs) {
+        return Err(stop);
     }
     Ok(Answer::Simulated(simulate(alloc, quantised, inputs)?))
 }

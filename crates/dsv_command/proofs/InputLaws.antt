@@ -62,7 +62,7 @@ input_read : (text : List ℕ) (n : ℤ) → IsInput text n → input_of text �
 input_read text n (IsInput.positive t m h) = input_by false t m (no_minus t (short_digits t m h)) h
 input_read text n (IsInput.negative t digits m e h) = ap input_of e ∙ input_by true (minus ∷ digits) m refl h
 
-same_byte : (a b : ℕ) → (a == b) ≡ true → a ≡ b
+pub same_byte : (a b : ℕ) → (a == b) ≡ true → a ≡ b
 same_byte a b h = grind (arith, nat_tests)
 
 found_by : (text : List ℕ) (n : ℤ) (b : Bool) (found : Option ℕ) → short_number most_digits (drop (if b then 1 else 0) text) ≡ found → has_byte minus text ≡ b → option_map (with_sign b) found ≡ Some n → IsInput text n
@@ -92,12 +92,12 @@ none_of true b h = absurd (cc)
 onto_by : (b : ℕ) (bs p : List ℕ) (ps : List (List ℕ)) → is_comma b ≡ false → pieces bs ≡ p ∷ ps → pieces (b ∷ bs) ≡ (b ∷ p) ∷ ps
 onto_by b bs p ps e f = rw (e, f) refl
 
-joined_pieces : (first rest : List ℕ) → list_any is_comma first ≡ false → pieces (first ++ comma ∷ rest) ≡ first ∷ pieces rest
+pub joined_pieces : (first rest : List ℕ) → list_any is_comma first ≡ false → pieces (first ++ comma ∷ rest) ≡ first ∷ pieces rest
 joined_pieces [] rest e = refl
 joined_pieces (b ∷ bs) rest e =
     let h = none_of (is_comma b) (list_any is_comma bs) e in onto_by b (bs ++ comma ∷ rest) bs (pieces rest) h.first (joined_pieces bs rest h.others)
 
-one_piece : (text : List ℕ) → list_any is_comma text ≡ false → pieces text ≡ text ∷ []
+pub one_piece : (text : List ℕ) → list_any is_comma text ≡ false → pieces text ≡ text ∷ []
 one_piece [] e = refl
 one_piece (b ∷ bs) e = let h = none_of (is_comma b) (list_any is_comma bs) e in onto_by b bs bs [] h.first (one_piece bs h.others)
 
@@ -153,7 +153,7 @@ cut_first : (text p q : List ℕ) (qs : List (List ℕ)) → pieces text ≡ p �
 cut_first [] p q qs h = absurd (cc)
 cut_first (b ∷ bs) p q qs h = cut_by b bs p q qs (is_comma b) refl (λ x. cut_first bs x q qs) h
 
-some_piece : (text : List ℕ) → pieces text ≡ [] → ⊥
+pub some_piece : (text : List ℕ) → pieces text ≡ [] → ⊥
 some_piece [] h = cc
 some_piece (b ∷ bs) h = some_by b bs (is_comma b) (pieces bs) h
   where

@@ -1,3 +1,4 @@
+pub mod CascadeLaws
 pub mod ClapAgreement
 pub mod ClapFound
 pub mod ClapLooks
@@ -10,6 +11,7 @@ pub mod CommandLemmas
 pub mod InputLaws
 pub mod InputLemmas
 pub mod JobLaws
+pub mod NameLemmas
 pub mod PartLaws
 pub mod RequestLaws
 pub mod ShapeLaws

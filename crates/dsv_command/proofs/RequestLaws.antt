@@ -5,17 +5,19 @@ use Rattle.std.proofs.lemmas.Bool.Decides.{nat_tests}
 use Rattle.dsv_text.specs.Digits.{short_number}
 use Rattle.dsv_command.specs.Limits.{most_number_digits, most_controllers, default_controllers}
 use Rattle.dsv_command.specs.Jobs.{Asked, ◌>>=◌, is_given, has_verdict_option, has_design_option, job_of_parts}
+use Rattle.dsv_command.specs.Cascades.{AskedCascade, cascade_of_parts}
 use Rattle.dsv_command.specs.Options.{command_options}
 use Rattle.dsv_command.specs.Parts.{PartView, file_of, value_of, has_empty}
 use Rattle.dsv_command.specs.Reading.{parts_of}
-use Rattle.dsv_command.specs.Requests.{Request, on_file, checks, generates, seed_of, controllers_of, has_task_option, has_job_option, check_of, generation_of, request_by, request_of_parts, request_of}
+use Rattle.dsv_command.specs.Requests.{Request, on_file, on_cascade, checks, generates, seed_of, controllers_of, has_task_option, has_job_option, check_of, generation_of, job_request, request_by, request_of_parts, request_of}
 use Rattle.dsv_command.specs.Rules.{IsSeed, HasNoTaskOption, HasNoJobOption, IsCheckOf, IsGenerationOf, IsRequestOf, IsRequestLine}
 use Rattle.dsv_command.proofs.JobLaws.{Bound, unbind, parts_ask, job_found, number_read, number_found, no_verdict_given, no_design_given, no_verdict_found, no_design_found}
+use Rattle.dsv_command.proofs.CascadeLaws.{cascade_read, cascade_found}
 use Rattle.dsv_command.proofs.PartLaws.{given_is_read, read_is_given}
 
 -- ---- from the rules to the request
 no_task_given : (parts : List PartView) → HasNoTaskOption parts → has_task_option parts ≡ false
-no_task_given parts h = rw (h.property, h.inputs, no_verdict_given parts h.verdict, no_design_given parts h.design) refl
+no_task_given parts h = rw (h.property, h.inputs, h.sections, no_verdict_given parts h.verdict, no_design_given parts h.design) refl
 
 no_job_given : (parts : List PartView) → HasNoJobOption parts → has_job_option parts ≡ false
 no_job_given parts h = rw (h.check, no_task_given parts h.tasks) refl
@@ -34,7 +36,8 @@ check_read : (parts : List PartView) (controller certificate : List ℕ) → IsC
 check_read parts controller certificate h = rw (h.filled, h.file) (rw (no_task_given parts h.no_option) refl)
 
 parts_request : (parts : List PartView) (request : Request) → IsRequestOf parts request → request_of_parts parts ≡ Some request
-parts_request parts (on_file asked) h = rw (h.no_seed, h.no_count, h.no_check) (ap (option_map on_file) (parts_ask parts asked h.job))
+parts_request parts (on_file asked) h = rw (h.no_seed, h.no_count, h.no_check, h.no_sections) (ap (option_map on_file) (parts_ask parts asked h.job))
+parts_request parts (on_cascade asked) h = rw (h.no_seed, h.no_count, h.no_check, h.given) (ap (option_map on_cascade) (cascade_read parts h.text asked h.names h.job))
 parts_request parts (checks controller certificate) h = rw (h.no_seed, h.no_count, h.given) (check_read parts controller certificate h)
 parts_request parts (generates seed count) h = rw h.given (generation_read parts seed count h)
 
@@ -54,17 +57,18 @@ seed_found text seed h =
     let b = unbind (short_number most_number_digits text) (λ n. (if nat_lt n (2 ^ 32) then Some n else None)) seed h in
     seed_by text b.value seed (nat_lt b.value (2 ^ 32)) refl b.first b.second
 
--- none of four is given where one of them isn't
-no_task_by : (parts : List PartView) (p s v d : Bool) → is_given parts (codes "property") ≡ p → is_given parts (codes "simulate") ≡ s → has_verdict_option parts ≡ v → has_design_option parts ≡ d
-    → has_task_option parts ≡ false → HasNoTaskOption parts
-no_task_by parts false false false false p s v d h = record { property = p; inputs = s; verdict = no_verdict_found parts v; design = no_design_found parts d }
-no_task_by parts true s v d e f k l h = absurd (let m : true ≡ false = sym (rw e refl) ∙ h in cc)
-no_task_by parts false true v d e f k l h = absurd (let m : true ≡ false = sym (rw (e, f) refl) ∙ h in cc)
-no_task_by parts false false true d e f k l h = absurd (let m : true ≡ false = sym (rw (e, f, k) refl) ∙ h in cc)
-no_task_by parts false false false true e f k l h = absurd (let m : true ≡ false = sym (rw (e, f, k, l) refl) ∙ h in cc)
+-- none of five is given where none of them makes a task
+no_task_by : (parts : List PartView) (p s n v d : Bool) → is_given parts (codes "property") ≡ p → is_given parts (codes "simulate") ≡ s → is_given parts (codes "sections") ≡ n
+    → has_verdict_option parts ≡ v → has_design_option parts ≡ d → has_task_option parts ≡ false → HasNoTaskOption parts
+no_task_by parts false false false false false p s n v d h = record { property = p; inputs = s; sections = n; verdict = no_verdict_found parts v; design = no_design_found parts d }
+no_task_by parts true s n v d e f g k l h = absurd (let m : true ≡ false = sym (rw e refl) ∙ h in cc)
+no_task_by parts false true n v d e f g k l h = absurd (let m : true ≡ false = sym (rw (e, f) refl) ∙ h in cc)
+no_task_by parts false false true v d e f g k l h = absurd (let m : true ≡ false = sym (rw (e, f, g) refl) ∙ h in cc)
+no_task_by parts false false false true d e f g k l h = absurd (let m : true ≡ false = sym (rw (e, f, g, k) refl) ∙ h in cc)
+no_task_by parts false false false false true e f g k l h = absurd (let m : true ≡ false = sym (rw (e, f, g, k, l) refl) ∙ h in cc)
 
 no_task_found : (parts : List PartView) → has_task_option parts ≡ false → HasNoTaskOption parts
-no_task_found parts = no_task_by parts (is_given parts (codes "property")) (is_given parts (codes "simulate")) (has_verdict_option parts) (has_design_option parts) refl refl refl refl
+no_task_found parts = no_task_by parts (is_given parts (codes "property")) (is_given parts (codes "simulate")) (is_given parts (codes "sections")) (has_verdict_option parts) (has_design_option parts) refl refl refl refl refl
 
 no_job_by : (parts : List PartView) (c t : Bool) → is_given parts (codes "check") ≡ c → has_task_option parts ≡ t → has_job_option parts ≡ false → HasNoJobOption parts
 no_job_by parts false false c t h = record { check = c; tasks = no_task_found parts t }
@@ -97,12 +101,25 @@ generation_by parts text request None false false g e f o h =
       no_option = no_job_found parts o;
     })
 
-job_alone : (parts : List PartView) (request : Request) (job : Option Asked) → value_of (codes "generate") parts ≡ None → value_of (codes "count") parts ≡ None → value_of (codes "check") parts ≡ None
-    → job_of_parts parts ≡ job → option_map on_file job ≡ Some request → IsRequestOf parts request
-job_alone parts request None g c n e h = absurd (cc)
-job_alone parts request (Some asked) g c n e h =
+job_by : (parts : List PartView) (request : Request) (job : Option Asked) → value_of (codes "generate") parts ≡ None → value_of (codes "count") parts ≡ None → value_of (codes "check") parts ≡ None
+    → value_of (codes "sections") parts ≡ None → job_of_parts parts ≡ job → option_map on_file job ≡ Some request → IsRequestOf parts request
+job_by parts request None g c n s e h = absurd (cc)
+job_by parts request (Some asked) g c n s e h =
     let same : on_file asked ≡ request = cc in
-    subst (IsRequestOf parts) same (record { job = job_found parts asked e; no_seed = g; no_count = c; no_check = n })
+    subst (IsRequestOf parts) same (record { job = job_found parts asked e; no_seed = g; no_count = c; no_check = n; no_sections = s })
+
+cascade_by : (parts : List PartView) (text : List ℕ) (request : Request) (job : Option AskedCascade) → value_of (codes "generate") parts ≡ None → value_of (codes "count") parts ≡ None
+    → value_of (codes "check") parts ≡ None → value_of (codes "sections") parts ≡ Some text → cascade_of_parts parts text ≡ job → option_map on_cascade job ≡ Some request → IsRequestOf parts request
+cascade_by parts text request None g c n s e h = absurd (cc)
+cascade_by parts text request (Some asked) g c n s e h =
+    let same : on_cascade asked ≡ request = cc in
+    let found = cascade_found parts text asked e in
+    subst (IsRequestOf parts) same (record { text = text; given = s; names = found.names; job = found.job; no_seed = g; no_count = c; no_check = n })
+
+job_request_by : (parts : List PartView) (request : Request) (names : Option (List ℕ)) → value_of (codes "generate") parts ≡ None → value_of (codes "count") parts ≡ None → value_of (codes "check") parts ≡ None
+    → value_of (codes "sections") parts ≡ names → job_request parts names ≡ Some request → IsRequestOf parts request
+job_request_by parts request None g c n s h = job_by parts request (job_of_parts parts) g c n s refl h
+job_request_by parts request (Some text) g c n s h = cascade_by parts text request (cascade_of_parts parts text) g c n s refl h
 
 check_by : (parts : List PartView) (name : List ℕ) (request : Request) (file : Option (List ℕ)) (empty other : Bool) → value_of (codes "generate") parts ≡ None → value_of (codes "count") parts ≡ None
     → value_of (codes "check") parts ≡ Some name → has_empty parts ≡ empty → file_of parts ≡ file → has_task_option parts ≡ other
@@ -119,7 +136,7 @@ request_found : (parts : List PartView) (request : Request) (seed count name : O
 request_found parts request (Some text) count name g c n h = generation_by parts text request (file_of parts) (has_empty parts) (has_job_option parts) g refl refl refl h
 request_found parts request None (Some text) name g c n h = absurd (cc)
 request_found parts request None None (Some name) g c n h = check_by parts name request (file_of parts) (has_empty parts) (has_task_option parts) g c n refl refl refl h
-request_found parts request None None None g c n h = job_alone parts request (job_of_parts parts) g c n refl h
+request_found parts request None None None g c n h = job_request_by parts request (value_of (codes "sections") parts) g c n refl h
 
 line_by : (arguments : List (List ℕ)) (request : Request) → Bound (parts_of command_options arguments) request_of_parts request → IsRequestLine arguments request
 line_by arguments request b = record {

@@ -1,12 +1,18 @@
 -- What contracts see of a job and of a request.
+use Rattle.std.specs.Prelude.{map}
+use Rattle.dsv_command.specs.Cascades as cascades
+use Rattle.dsv_command.specs.declared.cascade.CascadeJob.{CascadeJob}
+use Rattle.dsv_command.specs.declared.cascade.CascadeTask.{CascadeTask}
+use Rattle.dsv_command.specs.declared.cascade.CascadeTask.TheVariants as series
 use Rattle.dsv_command.specs.Jobs.{Asked, decides, checks_time, writes, searches, seeks_set}
 use Rattle.dsv_command.specs.Jobs.{measures_gain, simulates}
 use Rattle.dsv_command.specs.Jobs as jobs
 use Rattle.dsv_command.specs.Requests as requests
-use Rattle.dsv_command.specs.Requests.{on_file, checks, generates}
+use Rattle.dsv_command.specs.Requests.{on_file, on_cascade, checks, generates}
 use Rattle.dsv_command.specs.declared.job.Job.{Job}
 use Rattle.dsv_command.specs.declared.request.Request.{Request}
-use Rattle.dsv_command.specs.declared.request.Request.TheVariants.{OnFile, Check, Generate}
+use Rattle.dsv_command.specs.declared.request.Request.TheVariants.{OnFile, OnCascade}
+use Rattle.dsv_command.specs.declared.request.Request.TheVariants.{Check, Generate}
 use Rattle.dsv_command.specs.declared.task.Task.{Task}
 use Rattle.dsv_command.specs.declared.task.Task.TheVariants.{Decide, CheckTime}
 use Rattle.dsv_command.specs.declared.task.Task.TheVariants.{WriteFormula, Search, SeekSet}
@@ -30,7 +36,23 @@ asked_of job = record {
   certified = job.certified;
 }
 
+abbrev pub asked_series : CascadeTask → cascades.CascadeTask
+asked_series series.DecideStability = cascades.decides_stability
+asked_series (series.SearchOverflow samples budget) =
+    cascades.searches_overflow samples.count budget.conflicts
+asked_series series.MeasureGain = cascades.measures_series
+asked_series (series.Simulate inputs) = cascades.simulates_series inputs.items
+
+abbrev pub asked_cascade : CascadeJob → cascades.AskedCascade
+asked_cascade job = record {
+  file = job.file.now;
+  later = map (λ name. name.now) job.later.items;
+  task = asked_series job.task;
+  design = job.design;
+}
+
 abbrev pub requested_of : Request → requests.Request
 requested_of (OnFile job) = on_file (asked_of job)
+requested_of (OnCascade job) = on_cascade (asked_cascade job)
 requested_of (Check check) = checks check.file.now check.certificate.now
 requested_of (Generate g) = generates g.seed g.count

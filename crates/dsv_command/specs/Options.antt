@@ -14,6 +14,7 @@ command_options =
     (codes "certificate", false) ∷
     (codes "check", true) ∷
     (codes "simulate", true) ∷
+    (codes "sections", true) ∷
     (codes "realization", true) ∷
     (codes "rounding", true) ∷
     (codes "overflow-mode", true) ∷

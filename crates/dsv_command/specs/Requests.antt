@@ -2,6 +2,7 @@
 use Rattle.std.specs.Prelude.{ℕ, ◌||◌, nat_lt, ◌^◌, Bool, List, Option, Some, None}
 use Rattle.std.specs.Prelude.{is_some, option_map, codes, if◌then◌else◌}
 use Rattle.dsv_text.specs.Digits.{short_number}
+use Rattle.dsv_command.specs.Cascades.{AskedCascade, cascade_of_parts}
 use Rattle.dsv_command.specs.Limits.{most_number_digits, most_controllers}
 use Rattle.dsv_command.specs.Limits.{default_controllers}
 use Rattle.dsv_command.specs.Jobs.{Asked, ◌>>=◌, choice_or, is_given, has_verdict_option}
@@ -14,6 +15,8 @@ use Rattle.dsv_command.specs.Reading.{parts_of}
 pub data Request : Type 0 where
   -- a job for the controller in a file
   on_file : Asked → Request
+  -- a job for a cascade, the controllers in several files in series
+  on_cascade : AskedCascade → Request
   -- the certificate in a file is checked against the controller in the file that is named first
   checks : List ℕ → List ℕ → Request
   -- controllers of a seed are generated, so many, and what is found of them is counted
@@ -33,7 +36,8 @@ controllers_of parts = choice_or (number_up_to most_controllers) default_control
 -- checked
 abbrev pub has_task_option : List PartView → Bool
 has_task_option parts = is_given parts (codes "property") || (is_given parts (codes "simulate")
-    || (has_verdict_option parts || has_design_option parts))
+    || (is_given parts (codes "sections")
+    || (has_verdict_option parts || has_design_option parts)))
 
 -- something is given that belongs to a controller in a file
 abbrev pub has_job_option : List PartView → Bool
@@ -51,6 +55,11 @@ generation_of parts text = if has_empty parts then None
     else if is_some (file_of parts) || has_job_option parts then None
     else (seed_of text >>= λ seed. controllers_of parts >>= λ count. Some (generates seed count))
 
+-- the job for a controller, or for a cascade where later sections are named
+abbrev pub job_request : List PartView → Option (List ℕ) → Option Request
+job_request parts None = option_map on_file (job_of_parts parts)
+job_request parts (Some names) = option_map on_cascade (cascade_of_parts parts names)
+
 -- a seed makes it a generation, and else there is no number of controllers: a certificate's name
 -- makes it a check, and else it is a job
 abbrev pub request_by : List PartView → Option (List ℕ) → Option (List ℕ) → Option (List ℕ)
@@ -58,7 +67,7 @@ abbrev pub request_by : List PartView → Option (List ℕ) → Option (List ℕ
 request_by parts (Some seed) count certificate = generation_of parts seed
 request_by parts None (Some count) certificate = None
 request_by parts None None (Some name) = check_of parts name
-request_by parts None None None = option_map on_file (job_of_parts parts)
+request_by parts None None None = job_request parts (value_of (codes "sections") parts)
 
 abbrev pub request_of_parts : List PartView → Option Request
 request_of_parts parts = request_by parts (value_of (codes "generate") parts)
@@ -72,6 +81,7 @@ request_of arguments = parts_of command_options arguments >>= request_of_parts
 abbrev pub job_in : Option Request → Option Asked
 job_in None = None
 job_in (Some (on_file job)) = Some job
+job_in (Some (on_cascade job)) = None
 job_in (Some (checks file name)) = None
 job_in (Some (generates seed count)) = None
 

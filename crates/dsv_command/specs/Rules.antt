@@ -1,7 +1,7 @@
 -- The rules of the command, on whole lists of arguments, apart from how they are read.
 use Rattle.std.specs.Prelude.{◌≡◌, ◌⊎◌, ℕ, Bool, true, false, List, [], ◌∷◌, ◌++◌}
 use Rattle.std.specs.Prelude.{length, Option, Some, None, map, codes, ◌≤◌, ◌<◌, ◌^◌, ℤ, pos}
-use Rattle.std.specs.List.{list_any}
+use Rattle.std.specs.List.{All, list_any}
 use Rattle.std.specs.Map.{lookup}
 use Rattle.std.specs.Str.{bytes_eq}
 use Rattle.dsv_text.specs.Bytes.{has_byte}
@@ -20,7 +20,8 @@ use Rattle.dsv_names.specs.OverflowModes.{overflow_mode_name}
 use Rattle.dsv_names.specs.Properties.{property_name}
 use Rattle.dsv_names.specs.Realisations.{realisation_name}
 use Rattle.dsv_names.specs.Roundings.{rounding_name}
-use Rattle.dsv_command.specs.Inputs.{most_inputs, most_digits}
+use Rattle.dsv_command.specs.Cascades.{AskedCascade, task_alone, most_later}
+use Rattle.dsv_command.specs.Inputs.{most_inputs, most_digits, is_comma}
 use Rattle.dsv_command.specs.Jobs.{Task, decides, checks_time, writes, searches, simulates}
 use Rattle.dsv_command.specs.Jobs.{seeks_set, measures_gain, Asked, is_given}
 use Rattle.dsv_command.specs.Limits.{most_number_digits, most_samples, default_samples}
@@ -29,7 +30,7 @@ use Rattle.dsv_command.specs.Limits.{most_controllers, default_controllers}
 use Rattle.dsv_command.specs.Options.{command_options}
 use Rattle.dsv_command.specs.Parts.{PartView, file, flag, choice, key_of}
 use Rattle.dsv_command.specs.Parts.{has_key, file_of, value_of, has_empty}
-use Rattle.dsv_command.specs.Requests.{Request, on_file, checks, generates}
+use Rattle.dsv_command.specs.Requests.{Request, on_file, on_cascade, checks, generates}
 use Rattle.dsv_command.specs.Shapes.{dash, is_equals}
 
 -- ---- arguments and the parts that they give
@@ -238,6 +239,7 @@ IsCount parts n =
 pub record HasNoTaskOption (parts : List PartView) : Type 0 where
   pub property : is_given parts (codes "property") ≡ false
   pub inputs : is_given parts (codes "simulate") ≡ false
+  pub sections : is_given parts (codes "sections") ≡ false
   pub verdict : HasNoVerdictOption parts
   pub design : HasNoDesignOption parts
 
@@ -272,10 +274,50 @@ pub record IsJobAlone (parts : List PartView) (asked : Asked) : Type 0 where
   pub no_seed : value_of (codes "generate") parts ≡ None
   pub no_count : value_of (codes "count") parts ≡ None
   pub no_check : value_of (codes "check") parts ≡ None
+  pub no_sections : value_of (codes "sections") parts ≡ None
+
+-- the text of names, with a comma between each and the next
+abbrev pub with_commas : List (List ℕ) → List ℕ
+with_commas [] = []
+with_commas (name ∷ []) = name
+with_commas (name ∷ next ∷ names) = name ++ (codes "," ++ with_commas (next ∷ names))
+
+-- a name that isn't empty, without a comma
+pub record IsName (name : List ℕ) : Type 0 where
+  pub filled : name ≡ [] → ⊥
+  pub whole : list_any is_comma name ≡ false
+
+-- 1 to 7 names joined by commas
+pub record AreNames (text : List ℕ) (names : List (List ℕ)) : Type 0 where
+  pub joined : text ≡ with_commas names
+  pub each : All IsName names
+  pub some : 1 ≤ length names
+  pub few : length names ≤ most_later
+
+-- the same job for the first section alone
+abbrev pub job_alone : AskedCascade → Asked
+job_alone asked = record {
+  file = asked.file;
+  task = task_alone asked.task;
+  design = asked.design;
+  certified = false;
+}
+
+-- The job for a cascade: it would be one for its first section alone, which is FILE; the later
+-- sections are named, and no certificate is to be checked or written.
+pub record IsCascadeOf (parts : List PartView) (asked : AskedCascade) : Type 0 where
+  pub text : List ℕ
+  pub given : value_of (codes "sections") parts ≡ Some text
+  pub names : AreNames text asked.later
+  pub job : IsJobOf parts (job_alone asked)
+  pub no_seed : value_of (codes "generate") parts ≡ None
+  pub no_count : value_of (codes "count") parts ≡ None
+  pub no_check : value_of (codes "check") parts ≡ None
 
 -- what these parts ask for
 abbrev pub IsRequestOf : List PartView → Request → Type 0
 IsRequestOf parts (on_file asked) = IsJobAlone parts asked
+IsRequestOf parts (on_cascade asked) = IsCascadeOf parts asked
 IsRequestOf parts (checks controller certificate) = IsCheckOf parts controller certificate
 IsRequestOf parts (generates seed count) = IsGenerationOf parts seed count
 

@@ -21,6 +21,7 @@ pub(crate) fn has_task_option(arguments: &Arguments) -> bool
 {
     arguments.is_given("property")
         || arguments.is_given("simulate")
+        || arguments.is_given("sections")
         || has_verdict_option(arguments)
         || has_design_option(arguments)
 }

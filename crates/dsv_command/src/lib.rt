@@ -2,6 +2,7 @@
 #![tactic(auto)]
 
 mod arguments;
+mod cascade;
 mod check;
 mod generation;
 mod inputs;
@@ -13,12 +14,13 @@ mod question;
 mod request;
 mod task;
 
+pub use cascade::{CascadeJob, CascadeTask, MOST_LATER, SectionNames};
 pub use check::Check;
 pub use generation::Generation;
 pub use inputs::{Inputs, MOST_INPUTS};
 pub use job::Job;
 pub use law::{parts_are_read, requests_are_read};
 pub use limits::{MOST_CONFLICTS, MOST_CONTROLLERS, MOST_SAMPLES};
-pub use question::{Budget, RootQuestion, RunQuestion};
+pub use question::{Budget, RootQuestion, RunQuestion, Samples};
 pub use request::{Request, read_request};
 pub use task::Task;

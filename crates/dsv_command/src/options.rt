@@ -14,7 +14,7 @@ pub struct CommandOption {
 
 /// The options that the command has. One more stands here and in `specs/Options.antt`; what it asks
 /// for, in the job or the request.
-const OPTIONS: [CommandOption; 15] = [
+const OPTIONS: [CommandOption; 16] = [
     CommandOption {
         name: "property",
         takes_value: true,
@@ -53,6 +53,10 @@ const OPTIONS: [CommandOption; 15] = [
     },
     CommandOption {
         name: "simulate",
+        takes_value: true,
+    },
+    CommandOption {
+        name: "sections",
         takes_value: true,
     },
     CommandOption {

@@ -21,6 +21,14 @@ pub struct RunQuestion {
     ghost few: { samples ≤ most_samples },
 }
 
+/// How many samples a question is about: 1 to 64.
+#[derive(Clone, Copy)]
+pub struct Samples {
+    pub count: u32,
+    ghost some: { 1 ≤ count },
+    ghost few: { count ≤ most_samples },
+}
+
 /// How many conflicts a search may have: 1 to 200,000.
 #[derive(Clone, Copy)]
 pub struct Budget {

@@ -1,9 +1,11 @@
 // What the arguments ask for.
-ghost use Rattle.std.specs.Prelude.{◌≡◌, map, string_bytes, option_map, IfOk};
+ghost use Rattle.std.specs.Prelude.{◌≡◌, map, string_bytes, codes, option_map, IfOk};
 ghost use Rattle.dsv_command.specs.Asking.{requested_of};
-ghost use Rattle.dsv_command.specs.Requests.{request_of, request_of_parts};
+ghost use Rattle.dsv_command.specs.Parts.{value_of};
+ghost use Rattle.dsv_command.specs.Requests.{job_request, request_of, request_of_parts};
 
 use crate::arguments::{Arguments, read_arguments};
+use crate::cascade::{CascadeJob, find_cascade};
 use crate::check::{Check, find_check};
 use crate::generation::{Generation, find_generation};
 use crate::job::{Job, find_job};
@@ -15,10 +17,23 @@ use std::alloc::Global;
 pub enum Request<'a> {
     /// A job for the controller in a file.
     OnFile(Job<'a>),
+    /// A job for a cascade: the controllers in several files in series.
+    OnCascade(CascadeJob<'a>),
     /// A certificate is checked against the controller in a file.
     Check(Check<'a>),
     /// Controllers are generated, and what is found of them is counted.
     Generate(Generation),
+}
+
+/// The job for a controller, or for a cascade where later sections are named.
+fn find_job_request<'a>(arguments: &Arguments<'a>) -> Option<Request<'a>>
+    ensures { option_map requested_of result
+        ≡ job_request arguments.now (value_of (codes "sections") arguments.now) }
+{
+    match arguments.value("sections") {
+        Some(names) => Some(Request::OnCascade(find_cascade(arguments, names)?)),
+        None => Some(Request::OnFile(find_job(arguments)?)),
+    }
 }
 
 /// The request of what is given.
@@ -31,7 +46,7 @@ fn find_request<'a>(arguments: &Arguments<'a>) -> Option<Request<'a>>
         (Some(seed), _, _) => Some(Request::Generate(find_generation(arguments, seed)?)),
         (None, Some(_), _) => None,
         (None, None, Some(name)) => Some(Request::Check(find_check(arguments, name)?)),
-        (None, None, None) => Some(Request::OnFile(find_job(arguments)?)),
+        (None, None, None) => find_job_request(arguments),
     }
 }
 

@@ -1,4 +1,7 @@
+pub mod AnyJobs
+pub mod CascadeTexts
 pub mod Certificates
+pub mod Forms
 pub mod Fragments
 pub mod Gains
 pub mod Lines

@@ -12,7 +12,9 @@ use Rattle.dsv_certfile.specs.declared.job.CertWords.{CertWords}
 use Rattle.dsv_certfile.specs.declared.job.Size.{Size}
 use Rattle.dsv_certfile.specs.declared.job.Size.TheVariants as size
 use Rattle.dsv_command.specs.Jobs.{Task, decides, searches, seeks_set, measures_gain, Asked}
+use Rattle.dsv_command.specs.Requests.{Request, on_file, on_cascade, checks, generates}
 use Rattle.dsv_names.specs.declared.design.Design.{Design}
+use Rattle.dsv_report.specs.AnyJobs.{AskedJob, of_controller, of_cascade}
 use Rattle.dsv_report.specs.Report.{answer_text, stop_text}
 use Rattle.dsv_report.specs.Stops.{Outcome}
 use Rattle.dsv_report.specs.declared.answers.Answer.{Answer}
@@ -67,23 +69,36 @@ abbrev pub text_or : Option Certificate → List ℕ → List ℕ
 text_or (Some c) text = certified.certificate_text c
 text_or None text = text
 
+-- the certificate of an answer to a job of either kind; one for a cascade wants none
+abbrev pub any_certificate_of : AskedJob → CertWords → Answer → Option Certificate
+any_certificate_of (of_controller job) words found = certificate_of job words found
+any_certificate_of (of_cascade job) words found = None
+
 -- what is written for an answer to a job, or to what is no job
-abbrev pub answer_output : Option Asked → CertWords → Answer → List ℕ
+abbrev pub answer_output : Option AskedJob → CertWords → Answer → List ℕ
 answer_output None words found = answer_text None found
 answer_output (Some job) words found =
-    text_or (certificate_of job words found) (answer_text (Some job) found)
+    text_or (any_certificate_of job words found) (answer_text (Some job) found)
 
 -- what is written for what a job comes to, or arguments that ask for none
-abbrev pub output_of : Option Asked → CertWords → Outcome → List ℕ
+abbrev pub output_of : Option AskedJob → CertWords → Outcome → List ℕ
 output_of job words (Ok found) = answer_output job words found
 output_of job words (Err why) = stop_text why
 
 -- the certificate that is written for an answer to a job; what is no job wants none
-abbrev pub answer_certificate : Option Asked → CertWords → Answer → Option Certificate
+abbrev pub answer_certificate : Option AskedJob → CertWords → Answer → Option Certificate
 answer_certificate None words found = None
-answer_certificate (Some job) words found = certificate_of job words found
+answer_certificate (Some job) words found = any_certificate_of job words found
 
 -- the certificate that is written for what a job comes to
-abbrev pub certificate_written : Option Asked → CertWords → Outcome → Option Certificate
+abbrev pub certificate_written : Option AskedJob → CertWords → Outcome → Option Certificate
 certificate_written job words (Ok found) = answer_certificate job words found
 certificate_written job words (Err why) = None
+
+-- the job that a request is, where it is one
+abbrev pub asked_by : Option Request → Option AskedJob
+asked_by None = None
+asked_by (Some (on_file job)) = Some (of_controller job)
+asked_by (Some (on_cascade job)) = Some (of_cascade job)
+asked_by (Some (checks file name)) = None
+asked_by (Some (generates seed count)) = None

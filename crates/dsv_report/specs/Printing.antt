@@ -1,16 +1,28 @@
 -- What the writers of answers ask of them; private contracts alone cite it.
-use Rattle.std.specs.Prelude.{◌≤◌, Option, option_map}
-use Rattle.std.specs.Borrow.{Bor}
-use Rattle.dsv_command.specs.Asking.{asked_of}
-use Rattle.dsv_command.specs.Jobs.{Asked}
-use Rattle.dsv_command.specs.declared.job.Job.{Job}
+use Rattle.std.specs.Prelude.{◌≤◌}
+use Rattle.std.specs.List.{All}
+use Rattle.dsv_cascade.specs.declared.stability.CascadeForms.{CascadeForms}
+use Rattle.dsv_cascade.specs.declared.stability.CascadeForms.TheVariants as forms
+use Rattle.dsv_cascade.specs.declared.stability.SectionOffer.{SectionOffer}
 use Rattle.dsv_report.specs.declared.answers.Answer.{Answer}
 use Rattle.dsv_report.specs.declared.answers.Answer.TheVariants as answer
+
+-- so have those of a section that is stable
+abbrev pub SectionHasPlaces : SectionOffer → Type 0
+SectionHasPlaces s = (s.offer.form.d ≤ 8) × (s.fall.d ≤ 8)
+
+abbrev pub FormsHavePlaces : CascadeForms → Type 0
+FormsHavePlaces (forms.Falls offers) = All SectionHasPlaces offers
+FormsHavePlaces (forms.KeptAway section poly offer fall value) =
+    (offer.form.d ≤ 8) × (fall.d ≤ 8)
+FormsHavePlaces (forms.Wide section index) = Unit {0}
+FormsHavePlaces (forms.NoClosedForm section index) = Unit {0}
 
 -- the forms of an answer have at most eight places
 abbrev pub HasPlaces : Answer → Type 0
 HasPlaces (answer.Falls poly offer fall) = (offer.form.d ≤ 8) × (fall.d ≤ 8)
 HasPlaces (answer.KeptAway poly offer fall value) = (offer.form.d ≤ 8) × (fall.d ≤ 8)
+HasPlaces (answer.OfSections found) = FormsHavePlaces found
 HasPlaces answer.NoZeros = Unit {0}
 HasPlaces (answer.NoForm poly kept verdict) = Unit {0}
 HasPlaces (answer.Wide index) = Unit {0}
@@ -29,7 +41,3 @@ HasPlaces (answer.FormulaText formula) = Unit {0}
 HasPlaces (answer.Simulated found) = Unit {0}
 HasPlaces (answer.Generated found) = Unit {0}
 HasPlaces (answer.Checked job) = Unit {0}
-
--- what is asked for, where a job is
-abbrev pub asked_in : Option (Bor Job) → Option Asked
-asked_in = option_map (λ job. asked_of job.now)

@@ -6,8 +6,9 @@ use Rattle.std.specs.List.{flat_map}
 use Rattle.std.specs.Fmt.{signed_decimal}
 use Rattle.dsv_names.specs.declared.property.Property.TheVariants.{OfRuns, OfRoots, Timing}
 use Rattle.dsv_names.specs.declared.property.RunProperty.TheVariants.{Overflow}
-use Rattle.dsv_base.specs.Text.{spaced_text, line_of}
-use Rattle.dsv_forms.specs.declared.offers.Form.{Form}
+use Rattle.dsv_base.specs.Text.{spaced_text}
+use Rattle.dsv_cascade.specs.declared.stability.CascadeForms.{CascadeForms}
+use Rattle.dsv_cascade.specs.declared.stability.CascadeForms.TheVariants as forms
 use Rattle.dsv_jury.specs.declared.verdict.Jury.{Jury}
 use Rattle.dsv_jury.specs.declared.verdict.Jury.TheVariants as jury
 use Rattle.dsv_system.specs.Runs.{SampleRow}
@@ -22,8 +23,13 @@ use Rattle.dsv_template.specs.declared.kept.KeptSet.{KeptSet}
 use Rattle.dsv_template.specs.declared.verdict.Why.{Why}
 use Rattle.dsv_template.specs.declared.verdict.Why.TheVariants as why
 use Rattle.dsv_command.specs.Jobs.{Task, decides, checks_time, writes, searches, seeks_set}
-use Rattle.dsv_command.specs.Jobs.{measures_gain, simulates, Asked}
+use Rattle.dsv_command.specs.Jobs.{measures_gain, simulates}
+use Rattle.dsv_command.specs.Cascades.{task_alone}
 use Rattle.dsv_report.specs.Certificates.{checked_text, certificate_text}
+use Rattle.dsv_report.specs.AnyJobs.{AskedJob, of_controller, of_cascade}
+use Rattle.dsv_report.specs.CascadeTexts.{sections_text, section_line, forms_text}
+use Rattle.dsv_report.specs.CascadeTexts.{cascade_refusal_text}
+use Rattle.dsv_report.specs.Forms.{numbers_line, form_text, start_text}
 use Rattle.dsv_report.specs.Fragments.{concatenation}
 use Rattle.dsv_report.specs.Gains.{gain_text, out_of_range_text, too_deep_text}
 use Rattle.dsv_report.specs.Lines.{property_text, realisation_text, numbered, number_line}
@@ -71,35 +77,18 @@ extent_text (seeks_set conflicts) = codes " unbounded\n"
 extent_text measures_gain = codes " gain\n"
 extent_text (simulates inputs) = codes "\n"
 
+-- what the job asked for
+abbrev pub job_text : AskedJob → List ℕ
+job_text (of_controller job) = task_text job.task
+    ++ (realisation_text job.design.realisation ++ extent_text job.task)
+job_text (of_cascade job) = task_text (task_alone job.task)
+    ++ (realisation_text job.design.realisation
+    ++ (sections_text job ++ extent_text (task_alone job.task)))
+
 -- the verdict and what the job asked for; without a job there is none
-abbrev pub heading : List ℕ → Option Asked → List ℕ
+abbrev pub heading : List ℕ → Option AskedJob → List ℕ
 heading verdict None = []
-heading verdict (Some job) = verdict
-    ++ (task_text job.task ++ (realisation_text job.design.realisation ++ extent_text job.task))
-
--- ---- verdicts by a form
--- a word and numbers after it, up to the end of the line
-abbrev pub numbers_line : List ℕ → List ℤ → List ℕ
-numbers_line = line_of signed_decimal
-
--- a line for each row of a form
-abbrev pub rows_text : List ℕ → Form → List ℕ
-rows_text word form = flat_map (λ row. numbers_line word (take form.d row)) (take form.d form.rows)
-
--- the polynomial, the form and what it loses in a step
-abbrev pub form_text : List ℤ → Form → Form → List ℕ
-form_text poly form fall =
-    numbers_line (codes "polynomial") poly
-    ++ rows_text (codes "form") form
-    ++ rows_text (codes "fall") fall
-
-abbrev pub value_text : ℤ → List ℕ
-value_text value = concatenation (codes " value " ∷ signed_decimal value ∷ codes "\n" ∷ [])
-
--- where a form is negative, and its value there
-abbrev pub start_text : List ℤ → ℤ → List ℕ
-start_text start value = codes "start" ++ flat_map (spaced_text signed_decimal) start
-    ++ value_text value
+heading verdict (Some job) = verdict ++ job_text job
 
 -- ---- polynomials that no form decides
 abbrev pub no_zeros_text : List ℕ
@@ -213,13 +202,27 @@ abbrev pub samples_text : ℕ → List SampleRow → List ℕ
 samples_text = numbered_lines sample_text
 
 -- ---- answers
+-- the verdict of what closed forms say of a cascade's sections
+abbrev pub forms_verdict : CascadeForms → List ℕ
+forms_verdict (forms.Falls offers) = successful
+forms_verdict (forms.KeptAway section poly offer fall value) = failed
+forms_verdict (forms.Wide section index) = inconclusive
+forms_verdict (forms.NoClosedForm section index) = inconclusive
+
+abbrev pub forms_status : CascadeForms → ℕ
+forms_status (forms.Falls offers) = 0
+forms_status (forms.KeptAway section poly offer fall value) = 10
+forms_status (forms.Wide section index) = 20
+forms_status (forms.NoClosedForm section index) = 20
+
 -- the text of an answer to a job, or to a check or a generation, which are no jobs
-abbrev pub answer_text : Option Asked → Answer → List ℕ
+abbrev pub answer_text : Option AskedJob → Answer → List ℕ
 answer_text job (answer.Falls poly offer fall) =
     heading successful job ++ form_text poly offer.form fall
 answer_text job (answer.KeptAway poly offer fall value) =
     heading failed job ++ form_text poly offer.form fall
     ++ start_text (take offer.form.d offer.start) value
+answer_text job (answer.OfSections found) = heading (forms_verdict found) job ++ forms_text found
 answer_text job answer.NoZeros = heading failed job ++ no_zeros_text
 answer_text job (answer.NoForm poly kept verdict) =
     heading inconclusive job ++ no_form_text poly (length kept) verdict
@@ -242,23 +245,33 @@ answer_text job (answer.Simulated rows) = heading simulation job ++ samples_text
 answer_text job (answer.Generated found) = tally_text found
 answer_text job (answer.Checked certified) = checked_text certified
 
+abbrev pub too_long_text : List ℕ
+too_long_text = codes "FILE REFUSED 12 TOO_LONG at 65536\n"
+
 -- the text where there is no answer
 abbrev pub stop_text : Stop → List ℕ
 stop_text (stop.JobSize size) = size_text size
 stop_text (stop.CertificateRefused line fault) = certificate_text line fault
 stop_text stop.Usage = codes "USAGE\n"
 stop_text (stop.FileRefused r) = file_text r
-stop_text stop.FileTooLong = codes "FILE REFUSED 12 TOO_LONG at 65536\n"
+stop_text stop.FileTooLong = too_long_text
 stop_text (stop.QuantRefused r) = quant_text r
+stop_text (stop.SectionRefused section r) = section_line section ++ file_text r
+stop_text (stop.SectionTooLong section) = section_line section ++ too_long_text
+stop_text (stop.SectionQuant section r) = section_line section ++ quant_text r
+stop_text (stop.CascadeRefused r) = cascade_refusal_text r
 stop_text (stop.InputRange index value) = input_text index value
 stop_text (stop.ReadFault file.Controller) = codes "READ FAULT CONTROLLER\n"
 stop_text (stop.ReadFault file.Certificate) = codes "READ FAULT CERTIFICATE\n"
+stop_text (stop.ReadFault (file.Section section)) =
+    number_line (codes "READ FAULT SECTION ") section
 stop_text stop.NoMemory = codes "NO MEMORY\n"
 
 -- ---- statuses
 abbrev pub answer_status : Answer → ℕ
 answer_status (answer.Falls poly offer fall) = 0
 answer_status (answer.KeptAway poly offer fall value) = 10
+answer_status (answer.OfSections found) = forms_status found
 answer_status answer.NoZeros = 10
 answer_status (answer.NoForm poly kept verdict) = 20
 answer_status (answer.Wide index) = 20
@@ -285,6 +298,10 @@ stop_status stop.Usage = 1
 stop_status (stop.FileRefused r) = 2
 stop_status stop.FileTooLong = 2
 stop_status (stop.QuantRefused r) = 2
+stop_status (stop.SectionRefused section r) = 2
+stop_status (stop.SectionTooLong section) = 2
+stop_status (stop.SectionQuant section r) = 2
+stop_status (stop.CascadeRefused r) = 2
 stop_status (stop.InputRange index value) = 2
 stop_status (stop.ReadFault file) = 3
 stop_status stop.NoMemory = 5

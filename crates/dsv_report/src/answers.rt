@@ -1,4 +1,5 @@
 // What the command finds.
+use dsv_cascade::CascadeForms;
 use dsv_certfile::CertifiedJob;
 use dsv_cnf::Formula;
 use dsv_forms::{Falls, Form, KeptAway, Poly};
@@ -30,6 +31,8 @@ pub enum Answer {
         fall: Form,
         value: i128,
     },
+    /// What closed forms say of the sections of a cascade.
+    OfSections(CascadeForms),
     /// All coefficients of the numerator are 0, so that there are no zeros to test.
     NoZeros,
     /// The polynomial has no closed form, and no proposer offered a form that its check accepts:

@@ -2,7 +2,10 @@
 #![tactic(auto)]
 
 mod answers;
+mod any_job;
+mod cascades;
 mod certificates;
+mod forms;
 mod fragments;
 mod gains;
 mod lines;
@@ -13,6 +16,7 @@ mod stop;
 mod tallies;
 
 pub use answers::Answer;
+pub use any_job::AnyJob;
 pub use output::put_output;
 pub use report::status_of;
 pub use stop::{CertificateFault, Stop, WhichFile};

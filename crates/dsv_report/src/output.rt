@@ -5,7 +5,8 @@ ghost use Rattle.dsv_command.specs.Asking.{asked_of, asked_task};
 ghost use Rattle.dsv_report.specs.Output.{job_with, hints_of, invariant_of, gain_of, falls_of};
 ghost use Rattle.dsv_report.specs.Output.{certificate_for, answer_output, text_or, output_of};
 ghost use Rattle.dsv_report.specs.Output.{answer_certificate, certificate_written};
-ghost use Rattle.dsv_report.specs.Printing.{HasPlaces, asked_in};
+ghost use Rattle.dsv_report.specs.AnyJobs.{asked_in, of_controller};
+ghost use Rattle.dsv_report.specs.Printing.{HasPlaces};
 ghost use Rattle.dsv_report.specs.Report.{answer_text};
 ghost use Rattle.dsv_certfile.specs.Lawful.{IsWords};
 ghost use Rattle.dsv_certfile.specs.Typed.{IsTyped};
@@ -14,6 +15,7 @@ ghost use Rattle.dsv_names.specs.declared.property.Property.TheVariants.{OfRuns,
 ghost use Rattle.dsv_names.specs.declared.property.RunProperty.TheVariants.{Overflow};
 
 use crate::answers::Answer;
+use crate::any_job::AnyJob;
 use crate::report::{put_answer, put_stop};
 use crate::stop::Stop;
 use dsv_base::{Failed, Sink};
@@ -49,7 +51,7 @@ fn put_hints<K: Sink>(
     ensures text { Writes (K.seen sink.old) (K.seen sink.new) result
         (text_or (hints_of (job_with job.now.design words (OfRuns question.now.property)
         (size.Samples question.now.samples)) answer.now)
-        (answer_text (Some (asked_of job.now)) answer.now)) }
+        (answer_text (Some (of_controller (asked_of job.now))) answer.now)) }
     ensures typed { OnOk result (IfSome
         (hints_of (job_with job.now.design words (OfRuns question.now.property)
         (size.Samples question.now.samples)) answer.now) IsTyped) }
@@ -60,7 +62,7 @@ fn put_hints<K: Sink>(
             let certified = job_with(job.design, words, Property::OfRuns(question.property), size);
             write_hints(sink, &certified, log)
         }
-        _ => put_answer(sink, Some(job), answer),
+        _ => put_answer(sink, Some(AnyJob::OfController(job)), answer),
     }
 }
 
@@ -75,7 +77,7 @@ fn put_invariant<K: Sink>(
     requires words { IsWords words }
     ensures text { Writes (K.seen sink.old) (K.seen sink.new) result
         (text_or (invariant_of (job_with job.now.design words (OfRuns Overflow) size.Unbounded)
-        answer.now) (answer_text (Some (asked_of job.now)) answer.now)) }
+        answer.now) (answer_text (Some (of_controller (asked_of job.now))) answer.now)) }
     ensures typed { OnOk result (IfSome
         (invariant_of (job_with job.now.design words (OfRuns Overflow) size.Unbounded) answer.now)
         IsTyped) }
@@ -86,7 +88,7 @@ fn put_invariant<K: Sink>(
             let certified = job_with(job.design, words, property, Size::Unbounded);
             write_invariant(sink, &certified, candidate, logs)
         }
-        _ => put_answer(sink, Some(job), answer),
+        _ => put_answer(sink, Some(AnyJob::OfController(job)), answer),
     }
 }
 
@@ -101,7 +103,7 @@ fn put_gain<K: Sink>(
     requires words { IsWords words }
     ensures text { Writes (K.seen sink.old) (K.seen sink.new) result
         (text_or (gain_of (job_with job.now.design words (OfRuns Overflow) size.Unbounded)
-        answer.now) (answer_text (Some (asked_of job.now)) answer.now)) }
+        answer.now) (answer_text (Some (of_controller (asked_of job.now))) answer.now)) }
     ensures typed { OnOk result (IfSome
         (gain_of (job_with job.now.design words (OfRuns Overflow) size.Unbounded) answer.now)
         IsTyped) }
@@ -112,7 +114,7 @@ fn put_gain<K: Sink>(
             let certified = job_with(job.design, words, property, Size::Unbounded);
             write_gain(sink, &certified, gain.depth)
         }
-        _ => put_answer(sink, Some(job), answer),
+        _ => put_answer(sink, Some(AnyJob::OfController(job)), answer),
     }
 }
 
@@ -129,7 +131,7 @@ fn put_falls<K: Sink>(
     ensures text { Writes (K.seen sink.old) (K.seen sink.new) result
         (text_or (falls_of (job_with job.now.design words (OfRoots property) size.NoSize)
         answer.now)
-        (answer_text (Some (asked_of job.now)) answer.now)) }
+        (answer_text (Some (of_controller (asked_of job.now))) answer.now)) }
     ensures typed { OnOk result (IfSome
         (falls_of (job_with job.now.design words (OfRoots property) size.NoSize) answer.now)
         IsTyped) }
@@ -139,7 +141,7 @@ fn put_falls<K: Sink>(
             let certified = job_with(job.design, words, Property::OfRoots(property), Size::NoSize);
             write_falls(sink, &certified, offer)
         }
-        _ => put_answer(sink, Some(job), answer),
+        _ => put_answer(sink, Some(AnyJob::OfController(job)), answer),
     }
 }
 
@@ -154,7 +156,7 @@ fn put_certificate<K: Sink>(
     requires words { IsWords words }
     ensures text { Writes (K.seen sink.old) (K.seen sink.new) result
         (text_or (certificate_for job.now.design words (asked_task job.now.task) answer.now)
-        (answer_text (Some (asked_of job.now)) answer.now)) }
+        (answer_text (Some (of_controller (asked_of job.now))) answer.now)) }
     ensures typed { OnOk result (IfSome
         (certificate_for job.now.design words (asked_task job.now.task) answer.now) IsTyped) }
 {
@@ -164,7 +166,7 @@ fn put_certificate<K: Sink>(
         Task::MeasureGain => put_gain(sink, job, words, answer),
         Task::Decide(question) => put_falls(sink, job, words, question.property, answer),
         Task::CheckTime | Task::WriteFormula(_) | Task::Simulate(_) => {
-            put_answer(sink, Some(job), answer)
+            put_answer(sink, Some(AnyJob::OfController(job)), answer)
         }
     }
 }
@@ -173,7 +175,7 @@ fn put_certificate<K: Sink>(
 /// one, and else the report.
 fn put_found<K: Sink>(
     sink: &mut K,
-    job: Option<&Job>,
+    job: Option<AnyJob>,
     words: CertWords,
     answer: &Answer,
 ) -> Result<(), Failed>
@@ -185,7 +187,9 @@ fn put_found<K: Sink>(
         (IfSome (answer_certificate (asked_in job.entry) words answer.now) IsTyped) }
 {
     match job {
-        Some(job) if job.certified => put_certificate(sink, job, words, answer),
+        Some(AnyJob::OfController(job)) if job.certified => {
+            put_certificate(sink, job, words, answer)
+        }
         Some(_) | None => put_answer(sink, job, answer),
     }
 }
@@ -195,7 +199,7 @@ fn put_found<K: Sink>(
 /// report. It takes no memory.
 pub fn put_output<K: Sink>(
     sink: &mut K,
-    job: Option<&Job>,
+    job: Option<AnyJob>,
     words: CertWords,
     outcome: &Result<Answer, Stop>,
 ) -> Result<(), Failed>

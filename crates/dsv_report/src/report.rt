@@ -6,32 +6,43 @@ ghost use Rattle.std.specs.List.{flat_map};
 ghost use Rattle.dsv_base.specs.Taking.{Writes};
 ghost use Rattle.dsv_base.specs.Text.{spaced_text};
 ghost use Rattle.dsv_system.specs.RowViews.{row_of};
-ghost use Rattle.dsv_command.specs.Asking.{asked_of, asked_task};
+ghost use Rattle.dsv_command.specs.Asking.{asked_of, asked_task, asked_cascade, asked_series};
+ghost use Rattle.dsv_command.specs.Cascades.{task_alone};
 ghost use Rattle.dsv_report.specs.Gains.{gain_text, out_of_range_text, too_deep_text};
-ghost use Rattle.dsv_report.specs.Printing.{HasPlaces, asked_in};
+ghost use Rattle.dsv_report.specs.AnyJobs as any;
+ghost use Rattle.dsv_report.specs.AnyJobs.{asked_in, of_controller, of_cascade};
+ghost use Rattle.dsv_report.specs.CascadeTexts.{sections_text, forms_text, section_line};
+ghost use Rattle.dsv_report.specs.Forms as forms;
+ghost use Rattle.dsv_report.specs.Printing.{HasPlaces, FormsHavePlaces};
+ghost use Rattle.dsv_report.specs.Refusals.{file_text, quant_text};
 ghost use Rattle.dsv_report.specs.Report as report;
 
 use crate::answers::Answer;
+use crate::any_job::AnyJob;
+use crate::cascades::{put_cascade_refusal, put_forms, put_section};
 use crate::certificates::{put_certificate_refusal, put_checked};
+use crate::forms::{put_form, put_kept_away, put_numbers};
 use crate::fragments::{Fragment, put_fragments};
 use crate::gains::{put_gain, put_out_of_range};
 use crate::lines::{put_number_line, put_numbered, put_property, put_realisation};
 use crate::refusals::{put_file_refusal, put_input_range, put_quant_refusal};
 use crate::stop::{Stop, WhichFile};
 use crate::tallies::put_tally;
-use dsv_base::{Failed, Sink, put_all, put_line, put_spaced};
+use dsv_base::{Failed, Sink, put_all, put_line};
+use dsv_cascade::CascadeForms;
 use dsv_cnf::write_dimacs;
-use dsv_command::{Job, Task};
-use dsv_forms::{Form, KeptAway, Poly};
+use dsv_command::{CascadeJob, CascadeTask, Job, Task};
+use dsv_forms::{Form, Poly};
 use dsv_fraction::Frac;
 use dsv_gain::Gain;
 use dsv_jury::Jury;
 use dsv_meaning::{Cycle, Trace};
-use dsv_names::{Property, RunProperty};
+use dsv_names::{Property, RootProperty, RunProperty};
+use dsv_quantiser::QuantRefusal;
+use dsv_reader::FileRefusal;
 use dsv_system::{Row, Rows};
 use dsv_template::{Candidate, Inequality, KeptSet, Why};
 use dsv_timing::TimingReport;
-use itoa::Integer;
 use std::slice;
 
 const SUCCESSFUL: &[u8] = b"VERIFICATION SUCCESSFUL\n";
@@ -76,19 +87,87 @@ fn put_extent<K: Sink>(sink: &mut K, task: &Task) -> Result<(), Failed>
     }
 }
 
-/// Writes the verdict and what the job asked for.
-fn put_job_heading<K: Sink>(sink: &mut K, verdict: &[u8], job: &Job) -> Result<(), Failed>
+/// Writes what a job for a controller asked for.
+fn put_controller_job<K: Sink>(sink: &mut K, job: &Job) -> Result<(), Failed>
     ensures { Writes (K.seen sink.old) (K.seen sink.new) result
-        (report.heading verdict.now (Some (asked_of job.now))) }
+        (report.job_text (of_controller (asked_of job.now))) }
 {
-    put_all(sink, verdict)?;
     put_task(sink, &job.task)?;
     put_realisation(sink, job.design.realisation)?;
     put_extent(sink, &job.task)
 }
 
+/// Writes what a job for a cascade asked for, before the realisation.
+fn put_series_task<K: Sink>(sink: &mut K, task: &CascadeTask) -> Result<(), Failed>
+    ensures { Writes (K.seen sink.old) (K.seen sink.new) result
+        (report.task_text (task_alone (asked_series task.now))) }
+{
+    match task {
+        CascadeTask::DecideStability => {
+            put_property(sink, Property::OfRoots(RootProperty::Stability))
+        }
+        CascadeTask::SearchOverflow(_, _) | CascadeTask::MeasureGain => {
+            put_property(sink, Property::OfRuns(RunProperty::Overflow))
+        }
+        CascadeTask::Simulate(_) => put_all(sink, b""),
+    }
+}
+
+/// Writes how many samples it asked for, up to the end of the line.
+fn put_series_extent<K: Sink>(sink: &mut K, task: &CascadeTask) -> Result<(), Failed>
+    ensures { Writes (K.seen sink.old) (K.seen sink.new) result
+        (report.extent_text (task_alone (asked_series task.now))) }
+{
+    match task {
+        CascadeTask::SearchOverflow(samples, _) => {
+            put_number_line(sink, b" samples ", samples.count.into())
+        }
+        CascadeTask::MeasureGain => put_all(sink, b" gain\n"),
+        CascadeTask::DecideStability | CascadeTask::Simulate(_) => put_all(sink, b"\n"),
+    }
+}
+
+/// Writes how many sections there are.
+fn put_section_count<K: Sink>(sink: &mut K, job: &CascadeJob) -> Result<(), Failed>
+    ensures { Writes (K.seen sink.old) (K.seen sink.new) result
+        (sections_text (asked_cascade job.now)) }
+{
+    put_numbered(sink, b" sections ", job.later.len() as u64 + 1)
+}
+
+/// Writes what a job for a cascade asked for.
+fn put_cascade_job<K: Sink>(sink: &mut K, job: &CascadeJob) -> Result<(), Failed>
+    ensures { Writes (K.seen sink.old) (K.seen sink.new) result
+        (report.job_text (of_cascade (asked_cascade job.now))) }
+{
+    put_series_task(sink, &job.task)?;
+    put_realisation(sink, job.design.realisation)?;
+    put_section_count(sink, job)?;
+    put_series_extent(sink, &job.task)
+}
+
+/// Writes what a job asked for.
+fn put_job<K: Sink>(sink: &mut K, job: AnyJob) -> Result<(), Failed>
+    ensures { Writes (K.seen sink.old) (K.seen sink.new) result
+        (report.job_text (any.asked_of job.entry)) }
+{
+    match job {
+        AnyJob::OfController(job) => put_controller_job(sink, job),
+        AnyJob::OfCascade(job) => put_cascade_job(sink, job),
+    }
+}
+
+/// Writes the verdict and what the job asked for.
+fn put_job_heading<K: Sink>(sink: &mut K, verdict: &[u8], job: AnyJob) -> Result<(), Failed>
+    ensures { Writes (K.seen sink.old) (K.seen sink.new) result
+        (report.heading verdict.now (Some (any.asked_of job.entry))) }
+{
+    put_all(sink, verdict)?;
+    put_job(sink, job)
+}
+
 /// Writes the heading of a verdict on a job; nothing without a job.
-fn put_heading<K: Sink>(sink: &mut K, verdict: &[u8], job: Option<&Job>) -> Result<(), Failed>
+fn put_heading<K: Sink>(sink: &mut K, verdict: &[u8], job: Option<AnyJob>) -> Result<(), Failed>
     ensures { Writes (K.seen sink.old) (K.seen sink.new) result
         (report.heading verdict.now (asked_in job.entry)) }
 {
@@ -98,70 +177,11 @@ fn put_heading<K: Sink>(sink: &mut K, verdict: &[u8], job: Option<&Job>) -> Resu
     }
 }
 
-/// Writes a line for each row of a form.
-fn put_rows<K: Sink>(sink: &mut K, word: &[u8], form: &Form) -> Result<(), Failed>
-    requires { form.now.d ≤ 8 }
-    ensures { Writes (K.seen sink.old) (K.seen sink.new) result
-        (report.rows_text word.now form.now) }
-{
-    let d = form.d as usize;
-    for row in &form.rows[..d] {
-        put_line(sink, word, &row[..d])?;
-    }
-    Ok(())
-}
-
-/// Writes the polynomial, the form and what it loses in a step.
-fn put_form<K: Sink>(sink: &mut K, poly: &Poly, form: &Form, fall: &Form) -> Result<(), Failed>
-    requires form { form.now.d ≤ 8 }
-    requires fall { fall.now.d ≤ 8 }
-    ensures { Writes (K.seen sink.old) (K.seen sink.new) result
-        (report.form_text poly.now form.now fall.now) }
-{
-    put_line(sink, b"polynomial", poly.coefficients())?;
-    put_rows(sink, b"form", form)?;
-    put_rows(sink, b"fall", fall)
-}
-
-/// Writes numbers, each after a space.
-fn put_numbers<K: Sink, I: Integer>(sink: &mut K, numbers: &[I]) -> Result<(), Failed>
-    ensures { Writes (K.seen sink.old) (K.seen sink.new) result
-        (flat_map (spaced_text I.text) numbers.now) }
-{
-    for number in numbers {
-        put_spaced(sink, *number)?;
-    }
-    Ok(())
-}
-
-fn put_value<K: Sink>(sink: &mut K, value: &i128) -> Result<(), Failed>
-    ensures { Writes (K.seen sink.old) (K.seen sink.new) result (report.value_text value.now) }
-{
-    put_fragments(
-        sink,
-        &[
-            Fragment::Bytes(b" value "),
-            Fragment::Number(*value),
-            Fragment::Bytes(b"\n"),
-        ],
-    )
-}
-
-/// Writes where a form is negative, and its value there.
-fn put_start<K: Sink>(sink: &mut K, start: &[i64], value: &i128) -> Result<(), Failed>
-    ensures { Writes (K.seen sink.old) (K.seen sink.new) result
-        (report.start_text start.now value.now) }
-{
-    put_all(sink, b"start")?;
-    put_numbers(sink, start)?;
-    put_value(sink, value)
-}
-
 /// Writes the text of a form that falls.
 #[tactic(auto, unfolding(crate::specs::Report::successful))]
 fn put_falls<K: Sink>(
     sink: &mut K,
-    job: Option<&Job>,
+    job: Option<AnyJob>,
     poly: &Poly,
     form: &Form,
     fall: &Form,
@@ -170,33 +190,15 @@ fn put_falls<K: Sink>(
     requires fall { fall.now.d ≤ 8 }
     ensures { Writes (K.seen sink.old) (K.seen sink.new) result
         (report.heading report.successful (asked_in job.entry)
-        ++ report.form_text poly.now form.now fall.now) }
+        ++ forms.form_text poly.now form.now fall.now) }
 {
     put_heading(sink, SUCCESSFUL, job)?;
     put_form(sink, poly, form, fall)
 }
 
-/// Writes a form that keeps trajectories away from 0, and where it is negative.
-fn put_kept_away<K: Sink>(
-    sink: &mut K,
-    poly: &Poly,
-    offer: &KeptAway,
-    fall: &Form,
-    value: &i128,
-) -> Result<(), Failed>
-    requires form { offer.now.form.d ≤ 8 }
-    requires fall { fall.now.d ≤ 8 }
-    ensures { Writes (K.seen sink.old) (K.seen sink.new) result
-        (report.form_text poly.now offer.now.form fall.now
-        ++ report.start_text (take offer.now.form.d offer.now.start) value.now) }
-{
-    put_form(sink, poly, &offer.form, fall)?;
-    put_start(sink, &offer.start[..offer.form.d as usize], value)
-}
-
 /// Writes that a numerator has no zeros.
 #[tactic(auto, unfolding(crate::specs::Report::failed))]
-fn put_no_zeros<K: Sink>(sink: &mut K, job: Option<&Job>) -> Result<(), Failed>
+fn put_no_zeros<K: Sink>(sink: &mut K, job: Option<AnyJob>) -> Result<(), Failed>
     ensures { Writes (K.seen sink.old) (K.seen sink.new) result
         (report.heading report.failed (asked_in job.entry) ++ report.no_zeros_text) }
 {
@@ -229,7 +231,7 @@ fn put_cause<K: Sink>(sink: &mut K, poly: &Poly, offers: u64, jury: Jury) -> Res
 #[tactic(auto, unfolding(crate::specs::Report::inconclusive))]
 fn put_no_form<K: Sink>(
     sink: &mut K,
-    job: Option<&Job>,
+    job: Option<AnyJob>,
     poly: &Poly,
     offers: u64,
     jury: Jury,
@@ -244,7 +246,7 @@ fn put_no_form<K: Sink>(
 
 /// Writes that a number is too wide for a polynomial.
 #[tactic(auto, unfolding(crate::specs::Report::inconclusive))]
-fn put_wide<K: Sink>(sink: &mut K, job: Option<&Job>, index: u64) -> Result<(), Failed>
+fn put_wide<K: Sink>(sink: &mut K, job: Option<AnyJob>, index: u64) -> Result<(), Failed>
     ensures { Writes (K.seen sink.old) (K.seen sink.new) result
         (report.heading report.inconclusive (asked_in job.entry) ++ report.wide_text index) }
 {
@@ -306,7 +308,11 @@ fn put_timing<K: Sink>(sink: &mut K, found: &TimingReport) -> Result<(), Failed>
 
 /// Writes that a sample is done in time.
 #[tactic(auto, unfolding(crate::specs::Report::successful))]
-fn put_on_time<K: Sink>(sink: &mut K, job: Option<&Job>, found: &TimingReport) -> Result<(), Failed>
+fn put_on_time<K: Sink>(
+    sink: &mut K,
+    job: Option<AnyJob>,
+    found: &TimingReport,
+) -> Result<(), Failed>
     ensures { Writes (K.seen sink.old) (K.seen sink.new) result
         (report.heading report.successful (asked_in job.entry) ++ report.timing_text found.now) }
 {
@@ -316,7 +322,7 @@ fn put_on_time<K: Sink>(sink: &mut K, job: Option<&Job>, found: &TimingReport) -
 
 /// Writes that a sample isn't done in time.
 #[tactic(auto, unfolding(crate::specs::Report::failed))]
-fn put_late<K: Sink>(sink: &mut K, job: Option<&Job>, found: &TimingReport) -> Result<(), Failed>
+fn put_late<K: Sink>(sink: &mut K, job: Option<AnyJob>, found: &TimingReport) -> Result<(), Failed>
     ensures { Writes (K.seen sink.old) (K.seen sink.new) result
         (report.heading report.failed (asked_in job.entry) ++ report.timing_text found.now) }
 {
@@ -326,7 +332,7 @@ fn put_late<K: Sink>(sink: &mut K, job: Option<&Job>, found: &TimingReport) -> R
 
 /// Writes that nothing happens in any run.
 #[tactic(auto, unfolding(crate::specs::Report::successful))]
-fn put_never<K: Sink>(sink: &mut K, job: Option<&Job>) -> Result<(), Failed>
+fn put_never<K: Sink>(sink: &mut K, job: Option<AnyJob>) -> Result<(), Failed>
     ensures { Writes (K.seen sink.old) (K.seen sink.new) result
         (report.heading report.successful (asked_in job.entry)) }
 {
@@ -344,7 +350,7 @@ fn put_trace<K: Sink>(sink: &mut K, trace: &Trace) -> Result<(), Failed>
 
 /// Writes the text of an overflow.
 #[tactic(auto, unfolding(crate::specs::Report::failed))]
-fn put_overflow<K: Sink>(sink: &mut K, job: Option<&Job>, trace: &Trace) -> Result<(), Failed>
+fn put_overflow<K: Sink>(sink: &mut K, job: Option<AnyJob>, trace: &Trace) -> Result<(), Failed>
     ensures { Writes (K.seen sink.old) (K.seen sink.new) result
         (report.heading report.failed (asked_in job.entry) ++ report.trace_text trace.now) }
 {
@@ -363,7 +369,7 @@ fn put_cycle<K: Sink>(sink: &mut K, cycle: &Cycle) -> Result<(), Failed>
 
 /// Writes the text of a limit cycle.
 #[tactic(auto, unfolding(crate::specs::Report::failed))]
-fn put_limit_cycle<K: Sink>(sink: &mut K, job: Option<&Job>, cycle: &Cycle) -> Result<(), Failed>
+fn put_limit_cycle<K: Sink>(sink: &mut K, job: Option<AnyJob>, cycle: &Cycle) -> Result<(), Failed>
     ensures { Writes (K.seen sink.old) (K.seen sink.new) result
         (report.heading report.failed (asked_in job.entry) ++ report.cycle_text cycle.now) }
 {
@@ -373,7 +379,7 @@ fn put_limit_cycle<K: Sink>(sink: &mut K, job: Option<&Job>, cycle: &Cycle) -> R
 
 /// Writes that a search gave up.
 #[tactic(auto, unfolding(crate::specs::Report::inconclusive))]
-fn put_spent<K: Sink>(sink: &mut K, job: Option<&Job>, conflicts: u64) -> Result<(), Failed>
+fn put_spent<K: Sink>(sink: &mut K, job: Option<AnyJob>, conflicts: u64) -> Result<(), Failed>
     ensures { Writes (K.seen sink.old) (K.seen sink.new) result
         (report.heading report.inconclusive (asked_in job.entry)
         ++ report.spent_text conflicts) }
@@ -428,7 +434,11 @@ fn put_candidate<K: Sink>(sink: &mut K, candidate: &Candidate) -> Result<(), Fai
 
 /// Writes that nothing overflows in runs of any length, by the candidate's set.
 #[tactic(auto, unfolding(crate::specs::Report::successful))]
-fn put_always<K: Sink>(sink: &mut K, job: Option<&Job>, candidate: &Candidate) -> Result<(), Failed>
+fn put_always<K: Sink>(
+    sink: &mut K,
+    job: Option<AnyJob>,
+    candidate: &Candidate,
+) -> Result<(), Failed>
     ensures { Writes (K.seen sink.old) (K.seen sink.new) result
         (report.heading report.successful (asked_in job.entry)
         ++ report.candidate_text candidate.now) }
@@ -471,7 +481,7 @@ fn put_offered_sets<K: Sink>(sink: &mut K, offers: u64, spent: u64) -> Result<()
 #[tactic(auto, unfolding(crate::specs::Report::inconclusive))]
 fn put_no_invariant<K: Sink>(
     sink: &mut K,
-    job: Option<&Job>,
+    job: Option<AnyJob>,
     offers: u64,
     spent: u64,
 ) -> Result<(), Failed>
@@ -485,7 +495,7 @@ fn put_no_invariant<K: Sink>(
 
 /// Writes that nothing overflows in runs of any length, by the ranges of the gain.
 #[tactic(auto, unfolding(crate::specs::Report::successful))]
-fn put_in_ranges<K: Sink>(sink: &mut K, job: Option<&Job>, gain: &Gain) -> Result<(), Failed>
+fn put_in_ranges<K: Sink>(sink: &mut K, job: Option<AnyJob>, gain: &Gain) -> Result<(), Failed>
     ensures { Writes (K.seen sink.old) (K.seen sink.new) result
         (report.heading report.successful (asked_in job.entry) ++ gain_text gain.now) }
 {
@@ -495,7 +505,12 @@ fn put_in_ranges<K: Sink>(sink: &mut K, job: Option<&Job>, gain: &Gain) -> Resul
 
 /// Writes where the gain leaves the words though no list overflows.
 #[tactic(auto, unfolding(crate::specs::Report::inconclusive))]
-fn put_left<K: Sink>(sink: &mut K, job: Option<&Job>, sample: u64, value: u64) -> Result<(), Failed>
+fn put_left<K: Sink>(
+    sink: &mut K,
+    job: Option<AnyJob>,
+    sample: u64,
+    value: u64,
+) -> Result<(), Failed>
     ensures { Writes (K.seen sink.old) (K.seen sink.new) result
         (report.heading report.inconclusive (asked_in job.entry)
         ++ out_of_range_text sample value) }
@@ -506,7 +521,7 @@ fn put_left<K: Sink>(sink: &mut K, job: Option<&Job>, sample: u64, value: u64) -
 
 /// Writes that no depth below the limit is enough.
 #[tactic(auto, unfolding(crate::specs::Report::inconclusive))]
-fn put_too_deep<K: Sink>(sink: &mut K, job: Option<&Job>, depth: u64) -> Result<(), Failed>
+fn put_too_deep<K: Sink>(sink: &mut K, job: Option<AnyJob>, depth: u64) -> Result<(), Failed>
     ensures { Writes (K.seen sink.old) (K.seen sink.new) result
         (report.heading report.inconclusive (asked_in job.entry) ++ too_deep_text depth) }
 {
@@ -554,7 +569,7 @@ fn put_samples<K: Sink>(sink: &mut K, rows: &[Row]) -> Result<(), Failed>
 
 /// Writes the text of a simulation.
 #[tactic(auto, unfolding(crate::specs::Report::simulation))]
-fn put_simulation<K: Sink>(sink: &mut K, job: Option<&Job>, rows: &Rows) -> Result<(), Failed>
+fn put_simulation<K: Sink>(sink: &mut K, job: Option<AnyJob>, rows: &Rows) -> Result<(), Failed>
     ensures { Writes (K.seen sink.old) (K.seen sink.new) result
         (report.heading report.simulation (asked_in job.entry) ++ report.samples_text 0 rows.now) }
 {
@@ -562,11 +577,50 @@ fn put_simulation<K: Sink>(sink: &mut K, job: Option<&Job>, rows: &Rows) -> Resu
     put_samples(sink, rows.as_slice())
 }
 
+/// The verdict of what closed forms say of a cascade's sections.
+#[tactic(auto, unfolding(crate::specs::Report::successful, crate::specs::Report::failed, crate::specs::Report::inconclusive))]
+fn forms_verdict(found: &CascadeForms) -> &'static [u8]
+    ensures { result.now ≡ report.forms_verdict found.now }
+{
+    match found {
+        CascadeForms::Falls(_) => SUCCESSFUL,
+        CascadeForms::KeptAway { .. } => FAILED,
+        CascadeForms::Wide { .. } | CascadeForms::NoClosedForm { .. } => INCONCLUSIVE,
+    }
+}
+
+/// Writes what closed forms say of a cascade's sections.
+fn put_sections<K: Sink>(
+    sink: &mut K,
+    job: Option<AnyJob>,
+    found: &CascadeForms,
+) -> Result<(), Failed>
+    requires { FormsHavePlaces found.now }
+    ensures { Writes (K.seen sink.old) (K.seen sink.new) result
+        (report.heading (report.forms_verdict found.now) (asked_in job.entry)
+        ++ forms_text found.now) }
+{
+    put_heading(sink, forms_verdict(found), job)?;
+    put_forms(sink, found)
+}
+
+/// The status of what closed forms say of a cascade's sections.
+fn forms_status(found: &CascadeForms) -> u8
+    ensures { result ≡ report.forms_status found.now }
+{
+    match found {
+        CascadeForms::Falls(_) => 0,
+        CascadeForms::KeptAway { .. } => 10,
+        CascadeForms::Wide { .. } | CascadeForms::NoClosedForm { .. } => 20,
+    }
+}
+
 /// The status of an answer.
 fn answer_status(answer: &Answer) -> u8
     ensures { result ≡ report.answer_status answer.now }
 {
     match answer {
+        Answer::OfSections(found) => forms_status(found),
         Answer::Falls { .. }
         | Answer::OnTime(_)
         | Answer::Never { .. }
@@ -599,6 +653,10 @@ fn stop_status(stop: &Stop) -> u8
         Stop::FileRefused(_)
         | Stop::FileTooLong
         | Stop::QuantRefused(_)
+        | Stop::SectionRefused { .. }
+        | Stop::SectionTooLong { .. }
+        | Stop::SectionQuant { .. }
+        | Stop::CascadeRefused(_)
         | Stop::InputRange { .. } => 2,
         Stop::ReadFault(_) => 3,
         Stop::NoMemory => 5,
@@ -617,6 +675,48 @@ pub fn status_of(outcome: &Result<Answer, Stop>) -> u8
     }
 }
 
+/// Writes that a controller's file is too long.
+fn put_too_long<K: Sink>(sink: &mut K) -> Result<(), Failed>
+    ensures { Writes (K.seen sink.old) (K.seen sink.new) result report.too_long_text }
+{
+    put_all(sink, b"FILE REFUSED 12 TOO_LONG at 65536\n")
+}
+
+/// Writes why the file of a cascade's section is refused.
+fn put_section_refusal<K: Sink>(
+    sink: &mut K,
+    section: u64,
+    refusal: FileRefusal,
+) -> Result<(), Failed>
+    ensures { Writes (K.seen sink.old) (K.seen sink.new) result
+        (section_line section ++ file_text refusal) }
+{
+    put_section(sink, section)?;
+    put_file_refusal(sink, refusal)
+}
+
+/// Writes that the file of a cascade's section is too long.
+fn put_section_too_long<K: Sink>(sink: &mut K, section: u64) -> Result<(), Failed>
+    ensures { Writes (K.seen sink.old) (K.seen sink.new) result
+        (section_line section ++ report.too_long_text) }
+{
+    put_section(sink, section)?;
+    put_too_long(sink)
+}
+
+/// Writes why a cascade's section doesn't become words.
+fn put_section_quant<K: Sink>(
+    sink: &mut K,
+    section: u64,
+    refusal: QuantRefusal,
+) -> Result<(), Failed>
+    ensures { Writes (K.seen sink.old) (K.seen sink.new) result
+        (section_line section ++ quant_text refusal) }
+{
+    put_section(sink, section)?;
+    put_quant_refusal(sink, refusal)
+}
+
 /// Writes why there is no answer. It takes no memory.
 pub(crate) fn put_stop<K: Sink>(sink: &mut K, stop: &Stop) -> Result<(), Failed>
     ensures { Writes (K.seen sink.old) (K.seen sink.new) result (report.stop_text stop.now) }
@@ -624,13 +724,24 @@ pub(crate) fn put_stop<K: Sink>(sink: &mut K, stop: &Stop) -> Result<(), Failed>
     match stop {
         Stop::Usage => put_all(sink, b"USAGE\n"),
         Stop::FileRefused(refusal) => put_file_refusal(sink, *refusal),
-        Stop::FileTooLong => put_all(sink, b"FILE REFUSED 12 TOO_LONG at 65536\n"),
+        Stop::FileTooLong => put_too_long(sink),
         Stop::QuantRefused(refusal) => put_quant_refusal(sink, *refusal),
+        Stop::SectionRefused { section, refusal } => {
+            put_section_refusal(sink, u64::from(*section), *refusal)
+        }
+        Stop::SectionTooLong { section } => put_section_too_long(sink, u64::from(*section)),
+        Stop::SectionQuant { section, refusal } => {
+            put_section_quant(sink, u64::from(*section), *refusal)
+        }
+        Stop::CascadeRefused(refusal) => put_cascade_refusal(sink, *refusal),
         Stop::InputRange { index, value } => put_input_range(sink, *index, value),
         Stop::JobSize { size } => put_number_line(sink, b"JOB SIZE ", *size),
         Stop::CertificateRefused { line, fault } => put_certificate_refusal(sink, *line, *fault),
         Stop::ReadFault(WhichFile::Controller) => put_all(sink, b"READ FAULT CONTROLLER\n"),
         Stop::ReadFault(WhichFile::Certificate) => put_all(sink, b"READ FAULT CERTIFICATE\n"),
+        Stop::ReadFault(WhichFile::Section(section)) => {
+            put_number_line(sink, b"READ FAULT SECTION ", (*section).into())
+        }
         Stop::NoMemory => put_all(sink, b"NO MEMORY\n"),
     }
 }
@@ -638,7 +749,7 @@ pub(crate) fn put_stop<K: Sink>(sink: &mut K, stop: &Stop) -> Result<(), Failed>
 /// Writes the text of an answer to a job, or to arguments that ask for none. It takes no memory.
 pub(crate) fn put_answer<K: Sink>(
     sink: &mut K,
-    job: Option<&Job>,
+    job: Option<AnyJob>,
     answer: &Answer,
 ) -> Result<(), Failed>
     requires { HasPlaces answer.now }
@@ -656,6 +767,7 @@ pub(crate) fn put_answer<K: Sink>(
             put_heading(sink, FAILED, job)?;
             put_kept_away(sink, poly, offer, fall, value)
         }
+        Answer::OfSections(found) => put_sections(sink, job, found),
         Answer::NoZeros => put_no_zeros(sink, job),
         Answer::NoForm { poly, kept, jury } => {
             put_no_form(sink, job, poly, kept.len() as u64, *jury)

@@ -1,5 +1,6 @@
 // Why the command has no answer.
 use dsv_base::NoMemory;
+use dsv_cascade::CascadeRefusal;
 use dsv_certfile::{CertRefusal, CheckFault, TextFault};
 use dsv_quantiser::QuantRefusal;
 use dsv_reader::FileRefusal;
@@ -9,6 +10,8 @@ use dsv_reader::FileRefusal;
 pub enum WhichFile {
     Controller,
     Certificate,
+    /// That of this section of a cascade, 1 or more.
+    Section(u32),
 }
 
 /// What is wrong with a certificate.
@@ -34,6 +37,15 @@ pub enum Stop {
     /// The first number of the controller that is no word, or the range of its inputs, where it is
     /// empty.
     QuantRefused(QuantRefusal),
+    /// The first fault of the file of this section of a cascade, 1 or more.
+    SectionRefused { section: u32, refusal: FileRefusal },
+    /// The file of this section of a cascade has over 65,536 bytes.
+    SectionTooLong { section: u32 },
+    /// The first number of this section of a cascade that is no word, or the range of its inputs,
+    /// where it is empty.
+    SectionQuant { section: u32, refusal: QuantRefusal },
+    /// The sections make no cascade.
+    CascadeRefused(CascadeRefusal),
     /// The first input of the job that is no word of the format, and its number from 0 on.
     InputRange { index: u32, value: i128 },
     /// The job is too large: samples times products times the square of a word's bits.
@@ -79,6 +91,17 @@ impl From<QuantRefusal> for Stop {
 
     fn from(refusal: QuantRefusal) -> Self {
         Stop::QuantRefused(refusal)
+    }
+}
+
+impl From<CascadeRefusal> for Stop {
+    ghost use Rattle.std.specs.Prelude.{◌≡◌};
+    ghost use Rattle.dsv_report.specs.declared.stop.Stop.TheVariants as stop;
+
+    ghost from_gives = { λ refusal e. e ≡ stop.CascadeRefused refusal };
+
+    fn from(refusal: CascadeRefusal) -> Self {
+        Stop::CascadeRefused(refusal)
     }
 }
 

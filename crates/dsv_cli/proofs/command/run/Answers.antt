@@ -1,7 +1,8 @@
 use Rattle.std.proofs.Common.{rules, ◌≡◌, Some, map, string_bytes, subst}
 use Rattle.dsv_command.specs.Asking.{asked_of}
-use Rattle.dsv_command.specs.Requests.{job_of}
-use Rattle.dsv_report.specs.Output.{output_of}
+use Rattle.dsv_command.specs.Requests.{request_of, job_of}
+use Rattle.dsv_report.specs.AnyJobs.{of_controller}
+use Rattle.dsv_report.specs.Output.{output_of, asked_by}
 use Rattle.dsv_report.specs.Report.{status_of}
 use Rattle.dsv_cli.specs.Headline.{FileBecomes, SaysWords, IsWritten}
 use Rattle.dsv_cli.specs.Proposers.{AreSetsAsked, IsAsked, WantsForm, WantsSet, WantsSchurCohn, IfNoForm, IsBeyond}
@@ -48,7 +49,7 @@ returns-in-Ok-Some-OnFile-clause-schur_cohn g c =
 
 pub returns-in-Ok-Some-OnFile-clause-written : goal.returns-in-Ok-Some-OnFile-clause-written
 returns-in-Ok-Some-OnFile-clause-written g c =
-    let e : Some (asked_of c.in-Ok-Some-OnFile.job) ≡ job_of (map string_bytes c.args.arguments.now) = search rules in
+    let e : Some (of_controller (asked_of c.in-Ok-Some-OnFile.job)) ≡ asked_by (request_of (map string_bytes c.args.arguments.now)) = search rules in
     subst
     (λ asked. IsWritten (g.K.Sink.seen c.args.sink.now) (g.K.Sink.seen c.written_status-status.new.sink) c.written_status-status.result (status_of c.job_outcome-outcome.result.outcome) (output_of asked c.job_outcome-outcome.result.words c.job_outcome-outcome.result.outcome))
     e c.written_status-status.ensures.written
@@ -59,6 +60,17 @@ returns-in-Ok-Some-OnFile-clause-words g c =
     subst
     (λ asked. SaysWords (g.F.Files.seen c.args.files.now) (g.F.Files.seen c.job_outcome-outcome.new.files) asked c.job_outcome-outcome.result.outcome c.job_outcome-outcome.result.words)
     e c.job_outcome-outcome.ensures.words
+
+-- ---- a job on a cascade: it asks no proposer
+pub returns-in-Ok-Some-OnCascade-clause-sets : goal.returns-in-Ok-Some-OnCascade-clause-sets
+returns-in-Ok-Some-OnCascade-clause-sets g c =
+    sets_unasked (λ b. b.ptr) (λ b. (goal.InvariantProposer-dyn g (b.vtable, b.value)).last b.value) (λ b shape. (goal.InvariantProposer-dyn g (b.vtable, b.value)).to_come b.value shape)
+    (FileBecomes (g.F.Files.seen c.args.files.now) (job_of (map string_bytes c.args.arguments.now))) c.args.proposers.now.sets.items c.cascade_outcome-outcome.result c.cascade_outcome-outcome.ensures.plain
+
+pub returns-in-Ok-Some-OnCascade-clause-forms : goal.returns-in-Ok-Some-OnCascade-clause-forms
+returns-in-Ok-Some-OnCascade-clause-forms g c =
+    unasked (λ b. b.ptr) (λ b. (goal.FormProposer-dyn g (b.vtable, b.value)).last b.value) (λ b cs. (goal.FormProposer-dyn g (b.vtable, b.value)).sure b.value cs) (λ b cs. (goal.FormProposer-dyn g (b.vtable, b.value)).to_come b.value cs)
+    (WantsSchurCohn (job_of (map string_bytes c.args.arguments.now))) c.args.proposers.now.forms.items c.cascade_outcome-outcome.result c.cascade_outcome-outcome.ensures.plain
 
 -- ---- a check of a certificate
 pub returns-in-Ok-Some-Check-clause-sets : goal.returns-in-Ok-Some-Check-clause-sets

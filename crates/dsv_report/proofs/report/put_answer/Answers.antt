@@ -2,8 +2,9 @@ use Rattle.std.proofs.Common.{take, sym, subst}
 use Rattle.std.proofs.lemmas.List.{append_assoc}
 use Rattle.dsv_base.specs.Taking.{Writes}
 use Rattle.dsv_base.proofs.TakingLemmas.{writes_after, writes_err, cut_more}
-use Rattle.dsv_report.specs.Printing.{asked_in}
-use Rattle.dsv_report.specs.Report.{heading, failed, form_text, start_text}
+use Rattle.dsv_report.specs.AnyJobs.{asked_in}
+use Rattle.dsv_report.specs.Forms.{form_text, start_text}
+use Rattle.dsv_report.specs.Report.{heading, failed}
 use Rattle.dsv_report.proofs.report.put_answer.Goals as goal
 
 pub returns-in_err-put_heading-in-KeptAway : goal.returns-in_err-put_heading-in-KeptAway

@@ -2,7 +2,7 @@ use Rattle.std.proofs.Common.{[], ◌∷◌, ◌++◌}
 use Rattle.std.specs.Prelude.{codes}
 use Rattle.dsv_base.proofs.TakingLemmas.{writes_after, writes_cut}
 use Rattle.dsv_report.specs.Lines.{numbered}
-use Rattle.dsv_report.specs.Report.{numbers_line}
+use Rattle.dsv_report.specs.Forms.{numbers_line}
 use Rattle.dsv_report.proofs.report.put_break.Goals as goal
 
 pub returns-in_err-put_numbered : goal.returns-in_err-put_numbered

@@ -1,5 +1,6 @@
 use Rattle.dsv_base.proofs.TakingLemmas.{writes_after, writes_err, cut_more}
-use Rattle.dsv_report.specs.Report.{form_text, successful}
+use Rattle.dsv_report.specs.Forms.{form_text}
+use Rattle.dsv_report.specs.Report.{successful}
 use Rattle.dsv_report.proofs.report.put_falls.Goals as goal
 
 pub returns-in_err-put_heading : goal.returns-in_err-put_heading

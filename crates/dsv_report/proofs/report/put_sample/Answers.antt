@@ -1,6 +1,6 @@
 use Rattle.std.proofs.Common.{codes}
 use Rattle.dsv_base.proofs.TakingLemmas.{writes_after, writes_err, cut_more}
-use Rattle.dsv_report.specs.Report.{numbers_line}
+use Rattle.dsv_report.specs.Forms.{numbers_line}
 use Rattle.dsv_report.proofs.report.put_sample.Goals as goal
 
 pub returns-in_err-put_sample_head : goal.returns-in_err-put_sample_head

@@ -1,7 +1,8 @@
 use Rattle.std.proofs.Common.{◌++◌}
 use Rattle.std.specs.Prelude.{codes}
 use Rattle.dsv_base.proofs.TakingLemmas.{writes_after, writes_cut}
-use Rattle.dsv_report.specs.Report.{numbers_line, break_text}
+use Rattle.dsv_report.specs.Forms.{numbers_line}
+use Rattle.dsv_report.specs.Report.{break_text}
 use Rattle.dsv_report.proofs.report.put_trace.Goals as goal
 
 pub returns-in_err-put_line : goal.returns-in_err-put_line

@@ -1,0 +1,137 @@
+-- The rows of jobs for cascades: what each stage gives, and what follows of it.
+use Rattle.std.proofs.Common.{◌≡◌, ◌≢◌, ◌⊎◌, inl, inr, ◌<◌, ◌≤◌, ◌-◌, ◌+◌, ℕ, suc, List, [], ◌∷◌, length, take, get_or, refl, sym, subst, ap, ◌∙◌, arith}
+use Rattle.std.specs.Prelude.{Result, Some, Ok, Err, IfOk, slice_get, ℤ}
+use Rattle.std.specs.List.{All}
+use Rattle.std.proofs.lemmas.List.Elements.{All-nil, All-cons}
+use Rattle.std.proofs.lemmas.Option.{slice_get_read}
+use Rattle.dsv_base.specs.Seen.{FilesSeen}
+use Rattle.dsv_names.specs.declared.design.Design.{Design}
+use Rattle.dsv_reader.specs.Controllers.{ControllerView}
+use Rattle.dsv_token.specs.declared.refusal.FileRefusal.TheVariants as text
+use Rattle.dsv_quantiser.specs.QuantisedView.{QuantisedView}
+use Rattle.dsv_quantiser.specs.Modes.{BecomesWords}
+use Rattle.dsv_quantiser.specs.declared.refusal.QuantRefusal.{QuantRefusal}
+use Rattle.dsv_forms.specs.declared.offers.Form.{Form}
+use Rattle.dsv_lyapunov.specs.Answers.{IsStable, IsKeptAwayFrom}
+use Rattle.dsv_hints.specs.Lessons.{IsRefutation, IsSpent}
+use Rattle.dsv_hints.specs.Searches.{IfNever, IfHappens, IfSpent}
+use Rattle.dsv_hints.specs.declared.search.Searched.{Searched}
+use Rattle.dsv_hints.specs.declared.search.Searched.TheVariants as searched
+use Rattle.dsv_bounded.specs.declared.refusals.BoundedRefusal.{BoundedRefusal}
+use Rattle.dsv_bounded.specs.declared.refusals.BoundedRefusal.TheVariants as refusal
+use Rattle.dsv_bounded.specs.Refusals.{IsSized}
+use Rattle.dsv_meaning.specs.declared.replays.Trace.{Trace}
+use Rattle.dsv_cascade.specs.Cascades.{CascadeView}
+use Rattle.dsv_cascade.specs.Sizes.{cascade_job_size_of}
+use Rattle.dsv_cascade.specs.Stability.{AreStable, AreJudged}
+use Rattle.dsv_cascade.specs.Verdicts.{CascadeBreaksWithin, IsCascadeTrace, cascade_formula_of}
+use Rattle.dsv_cascade.specs.declared.stability.CascadeForms.{CascadeForms}
+use Rattle.dsv_cascade.specs.declared.stability.CascadeForms.TheVariants as forms
+use Rattle.dsv_cascade.specs.declared.stability.SectionOffer.{SectionOffer}
+use Rattle.dsv_command.specs.Cascades.{CascadeTask, decides_stability, searches_overflow, measures_series, simulates_series, AskedCascade}
+use Rattle.dsv_report.specs.Printing.{SectionHasPlaces, FormsHavePlaces}
+use Rattle.dsv_report.specs.Stops.{Outcome}
+use Rattle.dsv_report.specs.declared.stop.Stop.{Stop}
+use Rattle.dsv_report.specs.declared.stop.Stop.TheVariants as stop
+use Rattle.dsv_report.specs.declared.stop.WhichFile.TheVariants as file
+use Rattle.dsv_cli.specs.Answering.{overflow_outcome}
+use Rattle.dsv_cli.specs.Cascades.{BecomeWords, IsLaterRefused, IsNoCascade, IsCascadeOf, IsOfSeries, HaveControllers, IsLaterRow, IsCascadeRow}
+use Rattle.dsv_cli.specs.Headline.{IsUnread}
+use Rattle.dsv_cli.specs.SectionFiles.{IsFilesUnread}
+
+-- ---- controllers that become no cascade
+pub later_refused : (design : Design) (cs : List ControllerView) (i section : ℕ) (c : ControllerView) (before : List QuantisedView) (r : QuantRefusal) (why : Stop) → section ≡ i + 1 → i < length cs → c ≡ get_or cs i c
+    → BecomeWords design (take i cs) before → why ≡ stop.SectionQuant section r → BecomesWords c design (Err r) → IsLaterRefused design cs why
+later_refused design cs i section c before r why n l e h is refused =
+    let m : section ≡ suc i = omega arith in
+    rw is (i, c, m, slice_get_read cs (length cs) i c refl l e, before, h, refused)
+
+pub no_later : (design : Design) (first : ControllerView) (later : List ControllerView) (q : QuantisedView) (why : Stop) → BecomesWords first design (Ok q) → IsLaterRefused design later why → IsNoCascade design first later why
+no_later design first later q (stop.SectionQuant section r) w h = (q, w, h)
+no_later design first later q stop.NoMemory w h = (q, w, tt)
+no_later design first later q why w h = absurd h
+
+-- ---- rows
+pub row_of_files : (old new : FilesSeen) (asked : AskedCascade) (why : Stop) → IsFilesUnread old new asked why → IsCascadeRow old new asked (Err why)
+row_of_files old new asked (stop.FileRefused text.NoMemory) (inl h) = absurd h
+row_of_files old new asked (stop.FileRefused r) (inl h) = h
+row_of_files old new asked stop.FileTooLong (inl h) = h
+row_of_files old new asked (stop.ReadFault file.Controller) (inl h) = h
+row_of_files old new asked stop.NoMemory (inl h) = tt
+row_of_files old new asked why (inl h) = absurd h
+row_of_files old new asked (stop.SectionRefused section r) (inr h) = h
+row_of_files old new asked (stop.SectionTooLong section) (inr h) = h
+row_of_files old new asked (stop.ReadFault (file.Section section)) (inr h) = h
+row_of_files old new asked stop.NoMemory (inr h) = tt
+row_of_files old new asked why (inr h) = absurd h.2.5
+
+pub row_of_no_cascade : (old new : FilesSeen) (asked : AskedCascade) (first : ControllerView) (later : List ControllerView) (why : Stop) → HaveControllers old asked first later
+    → IsNoCascade asked.design first later why → IsCascadeRow old new asked (Err why)
+row_of_no_cascade old new asked first later (stop.QuantRefused r) c h = (first, later, c, h)
+row_of_no_cascade old new asked first later (stop.SectionQuant section r) c h = (first, later, c, h)
+row_of_no_cascade old new asked first later (stop.CascadeRefused r) c h = (first, later, c, h)
+row_of_no_cascade old new asked first later stop.NoMemory c h = tt
+row_of_no_cascade old new asked first later why c h = absurd h.2
+
+-- the stops that a task may come to
+abbrev IsTaskStop : Stop → Type 0
+IsTaskStop (stop.InputRange index value) = Unit {0}
+IsTaskStop (stop.JobSize size) = Unit {0}
+IsTaskStop stop.NoMemory = Unit {0}
+IsTaskStop other = ⊥
+
+task_stop : (task : CascadeTask) (c : CascadeView) (why : Stop) → IsOfSeries task c (Err why) → IsTaskStop why
+task_stop decides_stability c stop.NoMemory h = tt
+task_stop decides_stability c why h = absurd h
+task_stop (searches_overflow samples conflicts) c (stop.JobSize size) h = tt
+task_stop (searches_overflow samples conflicts) c stop.NoMemory h = tt
+task_stop (searches_overflow samples conflicts) c why h = absurd h
+task_stop measures_series c stop.NoMemory h = tt
+task_stop measures_series c why h = absurd h
+task_stop (simulates_series inputs) c (stop.InputRange index value) h = tt
+task_stop (simulates_series inputs) c stop.NoMemory h = tt
+task_stop (simulates_series inputs) c why h = absurd h
+
+stop_row : (old new : FilesSeen) (asked : AskedCascade) (c : CascadeView) (why : Stop) → IsCascadeOf old asked c → IsOfSeries asked.task c (Err why) → IsTaskStop why → IsCascadeRow old new asked (Err why)
+stop_row old new asked c (stop.InputRange index value) k h t = (c, k, h)
+stop_row old new asked c (stop.JobSize size) k h t = (c, k, h)
+stop_row old new asked c stop.NoMemory k h t = tt
+stop_row old new asked c why k h t = absurd t
+
+pub row_of_task : (old new : FilesSeen) (asked : AskedCascade) (c : CascadeView) (found : Outcome) → IsCascadeOf old asked c → IsOfSeries asked.task c found → IsCascadeRow old new asked found
+row_of_task old new asked c (Ok found) k h = (c, k, h)
+row_of_task old new asked c (Err why) k h = stop_row old new asked c why k h (task_stop asked.task c why h)
+
+-- ---- searches
+pub series_searched : (c : CascadeView) (samples conflicts : ℕ) (found : Result (Searched Trace) BoundedRefusal) → IsSized (cascade_job_size_of c samples) found
+    → IfOk found (IfNever (λ log. CascadeBreaksWithin c samples → ⊥)) → IfOk found (IfNever (IsRefutation (cascade_formula_of c samples) conflicts))
+    → IfOk found (IfHappens (IsCascadeTrace c samples)) → IfOk found (IfSpent (IsSpent (cascade_formula_of c samples) conflicts))
+    → IsOfSeries (searches_overflow samples conflicts) c (overflow_outcome found)
+series_searched c samples conflicts (Ok (searched.Never log)) s n r t g = record { within = s; never = n; refuted = r }
+series_searched c samples conflicts (Ok (searched.Happens trace)) s n r t g = (s, t)
+series_searched c samples conflicts (Ok (searched.Spent log)) s n r t g = (s, g)
+series_searched c samples conflicts (Err (refusal.JobSize size)) s n r t g = (s.0, rw s.0 s.1)
+series_searched c samples conflicts (Err refusal.NoMemory) s n r t g = tt
+
+-- ---- forms
+stable_places : (poly : List ℤ) (form fall : Form) → IsStable poly form fall → (form.d ≤ 8) × (fall.d ≤ 8)
+stable_places poly form fall h =
+    let d : form.d ≤ 8 = omega (arith, h.places, h.few) in
+    (d, omega (arith, h.fall_form.places, h.few))
+
+away_places : (poly : List ℤ) (form : Form) (start : List ℤ) (fall : Form) (value : ℤ) → IsKeptAwayFrom poly form start fall value → (form.d ≤ 8) × (fall.d ≤ 8)
+away_places poly form start fall value h =
+    let d : form.d ≤ 8 = omega (arith, h.places, h.few) in
+    (d, omega (arith, h.fall_form.places, h.few))
+
+offers_places : (sections : List QuantisedView) (offers : List SectionOffer) → AreStable sections offers → All SectionHasPlaces offers
+offers_places [] [] h = All-nil SectionHasPlaces
+offers_places [] (s ∷ ss) h = absurd h
+offers_places (q ∷ qs) [] h = absurd h
+offers_places (q ∷ qs) (s ∷ ss) h = All-cons SectionHasPlaces s ss (stable_places s.poly s.offer.form s.fall h.0.stable) (offers_places qs ss h.1)
+
+pub judged_places : (sections : List QuantisedView) (found : CascadeForms) → AreJudged sections found → FormsHavePlaces found
+judged_places sections (forms.Falls offers) h = offers_places sections offers h
+judged_places sections (forms.KeptAway section poly offer fall value) h = away_places poly offer.form offer.start fall value h.4
+judged_places sections (forms.Wide section index) h = tt
+judged_places sections (forms.NoClosedForm section index) h = tt

@@ -1,0 +1,34 @@
+-- Lists that stand so to one another, place by place.
+use Rattle.std.proofs.Common.{◌≡◌, ◌<◌, ◌≤◌, ◌+◌, ℕ, zero, suc, List, [], ◌∷◌, ◌++◌, length, take, get_or, subst, sym, ap, ◌∙◌, refl, arith}
+use Rattle.std.proofs.lemmas.List.{take_all}
+use Rattle.dsv_cli.specs.Cascades.{Pairwise}
+
+next : {A B : Type 0} (R : A → B → Type 0) (xs : List A) (ys : List B) (i : ℕ) (x : A) (y : B) → i < length xs → x ≡ get_or xs i x → Pairwise R (take i xs) ys → R x y → Pairwise R (take (suc i) xs) (ys ++ y ∷ [])
+next R [] ys i x y l e h r = absurd (omega arith)
+next R (a ∷ xs) [] zero x y l e h r = (subst (λ (z : _). R z y) e r, tt)
+next R (a ∷ xs) (b ∷ ys) zero x y l e h r = absurd h
+next R (a ∷ xs) [] (suc i) x y l e h r = absurd h
+next R (a ∷ xs) (b ∷ ys) (suc i) x y l e h r = (h.0, next R xs ys i x y (omega arith) e h.1 r)
+
+-- a pair more
+pub pairs_more : {A B : Type 0} (R : A → B → Type 0) (xs : List A) (ys : List B) (i : ℕ) (x : A) (y : B) → i < length xs → x ≡ get_or xs i x → Pairwise R (take i xs) ys → R x y → Pairwise R (take (i + 1) xs) (ys ++ y ∷ [])
+pairs_more R xs ys i x y l e h r =
+    let n : suc i ≡ i + 1 = omega arith in
+    subst (λ (k : ℕ). Pairwise R (take k xs) (ys ++ y ∷ [])) n (next R xs ys i x y l e h r)
+
+-- all of them
+pub pairs_whole : {A B : Type 0} (R : A → B → Type 0) (xs : List A) (ys : List B) (i : ℕ) → length xs ≤ i → Pairwise R (take i xs) ys → Pairwise R xs ys
+pairs_whole R xs ys i l h = subst (λ (zs : List _). Pairwise R zs ys) (take_all i xs l) h
+
+-- as long as one another
+pub pairs_long : {A B : Type 0} (R : A → B → Type 0) (xs : List A) (ys : List B) → Pairwise R xs ys → length ys ≡ length xs
+pairs_long R [] [] h = refl
+pairs_long R [] (y ∷ ys) h = absurd h
+pairs_long R (x ∷ xs) [] h = absurd h
+pairs_long R (x ∷ xs) (y ∷ ys) h = ap suc (pairs_long R xs ys h.1)
+
+pub pairs_weaker : {A B : Type 0} (R S : A → B → Type 0) (xs : List A) (ys : List B) → ((x : A) (y : B) → R x y → S x y) → Pairwise R xs ys → Pairwise S xs ys
+pairs_weaker R S [] [] f h = tt
+pairs_weaker R S [] (y ∷ ys) f h = absurd h
+pairs_weaker R S (x ∷ xs) [] f h = absurd h
+pairs_weaker R S (x ∷ xs) (y ∷ ys) f h = (f x y h.0, pairs_weaker R S xs ys f h.1)

@@ -1,0 +1,208 @@
+-- What a run answers to a job for a cascade: a table of its own, one row for each answer.
+use Rattle.std.specs.Prelude.{◌≡◌, ◌<◌, ◌≤◌, ◌+◌, ℕ, suc, List, [], ◌∷◌, length, take, slice_get}
+use Rattle.std.specs.Prelude.{Some, Ok, Err, ℤ}
+use Rattle.std.specs.List.{All}
+use Rattle.dsv_base.specs.Counts.{Rose}
+use Rattle.dsv_base.specs.Seen.{FilesSeen}
+use Rattle.dsv_names.specs.declared.design.Design.{Design}
+use Rattle.dsv_reader.specs.Controllers.{ControllerView}
+use Rattle.dsv_reader.specs.Texts.{IsFaultOf}
+use Rattle.dsv_token.specs.declared.refusal.FileRefusal.TheVariants as text
+use Rattle.dsv_quantiser.specs.QuantisedView.{QuantisedView}
+use Rattle.dsv_quantiser.specs.Modes.{BecomesWords}
+use Rattle.dsv_word.specs.Words.{IsWord}
+use Rattle.dsv_system.specs.Runs.{SampleRow}
+use Rattle.dsv_system.specs.Systems.{rows, zeros}
+use Rattle.dsv_hints.specs.Lessons.{IsRefutation, IsSpent}
+use Rattle.dsv_hints.specs.declared.step.Step.{Step}
+use Rattle.dsv_unroll.specs.Goals.{most_size}
+use Rattle.dsv_gain.specs.Controllers.{most_driven}
+use Rattle.dsv_gain.specs.declared.outlook.Gain.{Gain}
+use Rattle.dsv_gain.specs.declared.outlook.Outlook.TheVariants as outlook
+use Rattle.dsv_meaning.specs.declared.replays.Trace.{Trace}
+use Rattle.dsv_cascade.specs.Cascades.{CascadeView, sections_of, cascade_of}
+use Rattle.dsv_cascade.specs.Sections.{IsCascade, IsRefused}
+use Rattle.dsv_cascade.specs.Sizes.{cascade_job_size_of}
+use Rattle.dsv_cascade.specs.Stability.{AreJudged}
+use Rattle.dsv_cascade.specs.Verdicts.{CascadeBreaksWithin, IsCascadeTrace}
+use Rattle.dsv_cascade.specs.Verdicts.{cascade_formula_of, cascade_outlook_of}
+use Rattle.dsv_cascade.specs.Verdicts.{CascadeHoldsAlways, CascadeNeverOverflows}
+use Rattle.dsv_command.specs.Cascades.{CascadeTask, decides_stability, searches_overflow}
+use Rattle.dsv_command.specs.Cascades.{measures_series, simulates_series, AskedCascade}
+use Rattle.dsv_report.specs.declared.answers.Answer.TheVariants as answer
+use Rattle.dsv_report.specs.declared.stop.Stop.{Stop}
+use Rattle.dsv_report.specs.declared.stop.Stop.TheVariants as stop
+use Rattle.dsv_report.specs.declared.stop.WhichFile.TheVariants as file
+use Rattle.dsv_report.specs.Stops.{Outcome}
+use Rattle.dsv_cli.specs.Gain.{most_gain_samples}
+use Rattle.dsv_cli.specs.Headline.{longest_file, CameOf, IsController, IsUnread}
+use Rattle.dsv_cli.specs.Simulating.{IsFirstOutside}
+
+-- each of one list stands so to that at its place in the other, and they are as long
+abbrev pub Pairwise : {A B : Type 0} → (A → B → Type 0) → List A → List B → Type 0
+Pairwise R [] [] = Unit {0}
+Pairwise R (x ∷ xs) (y ∷ ys) = R x y × Pairwise R xs ys
+Pairwise R _ _ = ⊥
+
+-- ---- the files of the sections
+-- the file of this name has the text of this controller
+abbrev pub IsFileOf : FilesSeen → List ℕ → ControllerView → Type 0
+IsFileOf old name c = CameOf (old.held name) (λ bytes. IsController bytes c)
+
+-- so have the files of these names
+abbrev pub AreControllers : FilesSeen → List (List ℕ) → List ControllerView → Type 0
+AreControllers old = Pairwise (IsFileOf old)
+
+-- The files have the texts of these controllers, section 0's and those of the later sections.
+pub record HaveControllers (old : FilesSeen) (asked : AskedCascade) (first : ControllerView)
+    (later : List ControllerView) : Type 0 where
+  pub first_file : IsFileOf old asked.file first
+  pub later_files : AreControllers old asked.later later
+
+-- what keeps the file of this name from being the controller of this section, 1 or more: the files
+-- were `old` and are `new`
+abbrev pub IsSectionUnread : FilesSeen → FilesSeen → List ℕ → ℕ → Stop → Type 0
+IsSectionUnread old new name section (stop.SectionRefused n text.NoMemory) = ⊥
+IsSectionUnread old new name section (stop.SectionRefused n r) = (n ≡ section)
+    × CameOf (old.held name) (λ bytes. (length bytes ≤ longest_file) × IsFaultOf bytes r)
+IsSectionUnread old new name section (stop.SectionTooLong n) = (n ≡ section)
+    × CameOf (old.held name) (λ bytes. longest_file < length bytes)
+    × Rose (old.came + longest_file) new.came
+IsSectionUnread old new name section (stop.ReadFault (file.Section n)) = (n ≡ section)
+    × Rose old.faults new.faults × (new.blamed ≡ Some name)
+IsSectionUnread old new name section stop.NoMemory = Unit {0}
+IsSectionUnread old new name section other = ⊥
+
+-- what keeps one of the later files from being a controller's, where those before it are
+-- controllers'
+abbrev pub IsLaterUnread : FilesSeen → FilesSeen → List (List ℕ) → Stop → Type 0
+IsLaterUnread old new names stop.NoMemory = Unit {0}
+IsLaterUnread old new names why = (i : ℕ) × (name : List ℕ) × (slice_get names i ≡ Some name)
+    × (before : List ControllerView) × AreControllers old (take i names) before
+    × IsSectionUnread old new name (suc i) why
+
+-- ---- the sections
+-- these controllers become these words in the design
+abbrev pub BecomeWords : Design → List ControllerView → List QuantisedView → Type 0
+BecomeWords design = Pairwise (λ c q. BecomesWords c design (Ok q))
+
+-- why one of the later controllers doesn't become words, where those before it do
+abbrev pub IsLaterRefused : Design → List ControllerView → Stop → Type 0
+IsLaterRefused design cs (stop.SectionQuant section r) = (i : ℕ) × (c : ControllerView)
+    × (section ≡ suc i) × (slice_get cs i ≡ Some c)
+    × (before : List QuantisedView) × BecomeWords design (take i cs) before
+    × BecomesWords c design (Err r)
+IsLaterRefused design cs stop.NoMemory = Unit {0}
+IsLaterRefused design cs other = ⊥
+
+-- why these controllers become no cascade: the first that becomes no words is refused so, or else
+-- their words are
+abbrev pub IsNoCascade : Design → ControllerView → List ControllerView → Stop → Type 0
+IsNoCascade design first later (stop.QuantRefused r) = BecomesWords first design (Err r)
+IsNoCascade design first later (stop.CascadeRefused r) = (q : QuantisedView)
+    × (qs : List QuantisedView) × BecomesWords first design (Ok q) × BecomeWords design later qs
+    × IsRefused q (q ∷ qs) r
+IsNoCascade design first later why = (q : QuantisedView) × BecomesWords first design (Ok q)
+    × IsLaterRefused design later why
+
+-- The files' controllers become the sections of this cascade.
+pub record IsCascadeOf (old : FilesSeen) (asked : AskedCascade) (c : CascadeView) : Type 0 where
+  pub first : ControllerView
+  pub later : List ControllerView
+  pub controllers : HaveControllers old asked first later
+  pub first_words : BecomesWords first asked.design (Ok c.first)
+  pub later_words : BecomeWords asked.design later c.later
+  pub cascade : IsCascade c
+
+-- ---- what the tasks come to
+-- The list is so many inputs long at most, and the job over it no larger than what is asked of
+-- formulas.
+abbrev pub IsWithinSize : CascadeView → ℕ → Type 0
+IsWithinSize c samples = cascade_job_size_of c samples ≤ most_size
+
+-- No list of so many inputs breaks the cascade, and the log derives the empty clause from the
+-- question's formula.
+pub record CascadeNever (c : CascadeView) (samples conflicts : ℕ) (log : List Step) : Type 0 where
+  pub within : IsWithinSize c samples
+  pub never : CascadeBreaksWithin c samples → ⊥
+  pub refuted : IsRefutation (cascade_formula_of c samples) conflicts log
+
+-- The gain is what is found of the most samples that are looked at: in every run each exact value
+-- lies in its range, whose ends are words.
+pub record IsCascadeGain (c : CascadeView) (gain : Gain) : Type 0 where
+  pub found : cascade_outlook_of c most_gain_samples ≡ outlook.Safe gain
+  pub holds : CascadeHoldsAlways c gain.ranges
+  pub never : CascadeNeverOverflows c
+
+-- Some range leaves the words, and the trace replays in the cascade.
+pub record IsCascadeBreak (c : CascadeView) (trace : Trace) : Type 0 where
+  pub sample : ℕ
+  pub value : ℕ
+  pub left : cascade_outlook_of c most_gain_samples ≡ outlook.Leaves sample value
+  pub replays : IsCascadeTrace c most_driven trace
+
+-- All inputs are words, and these are the cascade's rows over them, from registers of zeros.
+pub record IsCascadeRun (c : CascadeView) (inputs : List ℤ) (found : List SampleRow) : Type 0 where
+  pub inputs_are_words : All (IsWord c.first.format) inputs
+  pub rows : found ≡ rows (cascade_of c) (zeros (cascade_of c).many) inputs
+
+-- what a task comes to for a cascade
+abbrev pub IsOfSeries : CascadeTask → CascadeView → Outcome → Type 0
+IsOfSeries decides_stability c (Ok (answer.OfSections found)) = AreJudged (sections_of c) found
+IsOfSeries (searches_overflow samples conflicts) c (Ok (answer.Never log)) =
+    CascadeNever c samples conflicts log
+IsOfSeries (searches_overflow samples conflicts) c (Ok (answer.Overflow trace)) =
+    IsWithinSize c samples × IsCascadeTrace c samples trace
+IsOfSeries (searches_overflow samples conflicts) c (Ok (answer.Spent log)) =
+    IsWithinSize c samples × IsSpent (cascade_formula_of c samples) conflicts log
+IsOfSeries (searches_overflow samples conflicts) c (Err (stop.JobSize size)) =
+    (size ≡ cascade_job_size_of c samples) × (most_size < size)
+IsOfSeries measures_series c (Ok (answer.InRanges gain)) = IsCascadeGain c gain
+IsOfSeries measures_series c (Ok (answer.Overflow trace)) = IsCascadeBreak c trace
+IsOfSeries measures_series c (Ok (answer.OutOfRange sample value)) =
+    cascade_outlook_of c most_gain_samples ≡ outlook.Leaves sample value
+IsOfSeries measures_series c (Ok (answer.TooDeep depth)) = (depth ≡ most_gain_samples)
+    × (cascade_outlook_of c most_gain_samples ≡ outlook.Deep)
+IsOfSeries (simulates_series inputs) c (Ok (answer.Simulated found)) = IsCascadeRun c inputs found
+IsOfSeries (simulates_series inputs) c (Err (stop.InputRange index value)) =
+    IsFirstOutside c.first.format inputs index value
+IsOfSeries task c (Err stop.NoMemory) = Unit {0}
+IsOfSeries task c other = ⊥
+
+-- ---- the table
+-- the task of a job came to this for the cascade of its files
+abbrev pub IsTaskRow : FilesSeen → AskedCascade → Outcome → Type 0
+IsTaskRow old asked found = (c : CascadeView) × IsCascadeOf old asked c
+    × IsOfSeries asked.task c found
+
+-- the files have the texts of controllers that become no cascade
+abbrev pub IsNoCascadeRow : FilesSeen → AskedCascade → Stop → Type 0
+IsNoCascadeRow old asked why = (first : ControllerView) × (later : List ControllerView)
+    × HaveControllers old asked first later × IsNoCascade asked.design first later why
+
+-- the first file has the text of a controller, and a later one hasn't
+abbrev pub IsLaterRow : FilesSeen → FilesSeen → AskedCascade → Stop → Type 0
+IsLaterRow old new asked why = (first : ControllerView) × IsFileOf old asked.file first
+    × IsLaterUnread old new asked.later why
+
+-- The row of each answer to a job for a cascade, where the files were `old` and are `new`. Only
+-- NoMemory has no stated cause.
+abbrev pub IsCascadeRow : FilesSeen → FilesSeen → AskedCascade → Outcome → Type 0
+IsCascadeRow old new asked (Ok found) = IsTaskRow old asked (Ok found)
+IsCascadeRow old new asked (Err stop.NoMemory) = Unit {0}
+IsCascadeRow old new asked (Err (stop.InputRange index value)) =
+    IsTaskRow old asked (Err (stop.InputRange index value))
+IsCascadeRow old new asked (Err (stop.JobSize size)) = IsTaskRow old asked (Err (stop.JobSize size))
+IsCascadeRow old new asked (Err (stop.QuantRefused r)) =
+    IsNoCascadeRow old asked (stop.QuantRefused r)
+IsCascadeRow old new asked (Err (stop.SectionQuant section r)) =
+    IsNoCascadeRow old asked (stop.SectionQuant section r)
+IsCascadeRow old new asked (Err (stop.CascadeRefused r)) =
+    IsNoCascadeRow old asked (stop.CascadeRefused r)
+IsCascadeRow old new asked (Err (stop.SectionRefused section r)) =
+    IsLaterRow old new asked (stop.SectionRefused section r)
+IsCascadeRow old new asked (Err (stop.SectionTooLong section)) =
+    IsLaterRow old new asked (stop.SectionTooLong section)
+IsCascadeRow old new asked (Err (stop.ReadFault (file.Section section))) =
+    IsLaterRow old new asked (stop.ReadFault (file.Section section))
+IsCascadeRow old new asked (Err why) = IsUnread (old.held asked.file) old new asked.file why

@@ -1,0 +1,20 @@
+-- The jobs that a report is headed by, and what contracts see of one.
+use Rattle.std.specs.Prelude.{Option, option_map}
+use Rattle.dsv_command.specs.Asking as asking
+use Rattle.dsv_command.specs.Cascades.{AskedCascade}
+use Rattle.dsv_command.specs.Jobs.{Asked}
+use Rattle.dsv_report.specs.declared.any_job.AnyJob.{AnyJob}
+use Rattle.dsv_report.specs.declared.any_job.AnyJob.TheVariants as any
+
+-- for a controller, or for a cascade
+pub data AskedJob : Type 0 where
+  of_controller : Asked → AskedJob
+  of_cascade : AskedCascade → AskedJob
+
+abbrev pub asked_of : AnyJob → AskedJob
+asked_of (any.OfController job) = of_controller (asking.asked_of job.now)
+asked_of (any.OfCascade job) = of_cascade (asking.asked_cascade job.now)
+
+-- what is asked for, where a job is
+abbrev pub asked_in : Option AnyJob → Option AskedJob
+asked_in = option_map asked_of

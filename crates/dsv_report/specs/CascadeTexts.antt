@@ -1,0 +1,49 @@
+-- The texts of what is found of a cascade's sections.
+use Rattle.std.specs.Prelude.{ℕ, ◌+◌, List, ◌++◌, length, take, codes}
+use Rattle.dsv_cascade.specs.declared.cascade.CascadeRefusal.{CascadeRefusal}
+use Rattle.dsv_cascade.specs.declared.cascade.CascadeRefusal.TheVariants as refusal
+use Rattle.dsv_cascade.specs.declared.stability.CascadeForms.{CascadeForms}
+use Rattle.dsv_cascade.specs.declared.stability.CascadeForms.TheVariants as forms
+use Rattle.dsv_cascade.specs.declared.stability.SectionOffer.{SectionOffer}
+use Rattle.dsv_cascade.specs.Sections.{place_of}
+use Rattle.dsv_command.specs.Cascades.{AskedCascade}
+use Rattle.dsv_report.specs.Forms.{form_text, start_text}
+use Rattle.dsv_report.specs.Lines.{numbered, number_line, numbered_lines}
+
+-- how many sections there are, in the line of the realisation
+abbrev pub sections_text : AskedCascade → List ℕ
+sections_text job = numbered (codes " sections ") (length job.later + 1)
+
+-- the section that what follows is said of
+abbrev pub section_line : ℕ → List ℕ
+section_line section = number_line (codes "section ") section
+
+-- what shows a section to be stable
+abbrev pub section_text : ℕ → SectionOffer → List ℕ
+section_text section s = section_line section ++ form_text s.poly s.offer.form s.fall
+
+-- why a section isn't decided
+abbrev pub cause_text : List ℕ → ℕ → ℕ → List ℕ
+cause_text word section index = numbered word section ++ number_line (codes " index ") index
+
+abbrev pub wide_text : ℕ → ℕ → List ℕ
+wide_text = cause_text (codes "cause WIDE section ")
+
+abbrev pub no_closed_form_text : ℕ → ℕ → List ℕ
+no_closed_form_text = cause_text (codes "cause NO_CLOSED_FORM section ")
+
+-- what closed forms say of the sections, after the heading
+abbrev pub forms_text : CascadeForms → List ℕ
+forms_text (forms.Falls offers) = numbered_lines section_text 0 offers
+forms_text (forms.KeptAway section poly offer fall value) = section_line section
+    ++ (form_text poly offer.form fall ++ start_text (take offer.form.d offer.start) value)
+forms_text (forms.Wide section index) = wide_text section index
+forms_text (forms.NoClosedForm section index) = no_closed_form_text section index
+
+-- the code and the name of a refusal
+unfoldable pub cascade_code : CascadeRefusal → List ℕ
+cascade_code (refusal.Order section) = codes "CASCADE REFUSED 31 ORDER "
+cascade_code (refusal.Mixed section) = codes "CASCADE REFUSED 32 MIXED "
+
+abbrev pub cascade_refusal_text : CascadeRefusal → List ℕ
+cascade_refusal_text r = number_line (cascade_code r) (place_of r)

@@ -1,0 +1,130 @@
+// Writes what is found of a cascade's sections, with no memory.
+ghost use Rattle.std.specs.Prelude.{◌≡◌};
+ghost use Rattle.std.specs.List.{All};
+ghost use Rattle.dsv_base.specs.Taking.{Writes};
+ghost use Rattle.dsv_cascade.specs.Sections.{place_of};
+ghost use Rattle.dsv_report.specs.CascadeTexts.{section_line, section_text, cause_text};
+ghost use Rattle.dsv_report.specs.CascadeTexts.{wide_text, no_closed_form_text, forms_text};
+ghost use Rattle.dsv_report.specs.CascadeTexts.{cascade_code, cascade_refusal_text};
+ghost use Rattle.dsv_report.specs.Lines.{numbered_lines};
+ghost use Rattle.dsv_report.specs.Printing.{SectionHasPlaces, FormsHavePlaces};
+
+use crate::forms::{put_form, put_kept_away};
+use crate::lines::{put_number_line, put_numbered};
+use dsv_base::{Failed, Sink};
+use dsv_cascade::{CascadeForms, CascadeRefusal, SectionOffer};
+
+/// Writes the section that what follows is said of.
+pub(crate) fn put_section<K: Sink>(sink: &mut K, section: u64) -> Result<(), Failed>
+    ensures { Writes (K.seen sink.old) (K.seen sink.new) result (section_line section) }
+{
+    put_number_line(sink, b"section ", section)
+}
+
+/// Writes the section of this number.
+fn put_section_of<K: Sink>(sink: &mut K, section: u32) -> Result<(), Failed>
+    ensures { Writes (K.seen sink.old) (K.seen sink.new) result (section_line section) }
+{
+    put_section(sink, u64::from(section))
+}
+
+/// Writes what shows a section to be stable.
+fn put_offer<K: Sink>(sink: &mut K, section: u64, offer: &SectionOffer) -> Result<(), Failed>
+    requires { SectionHasPlaces offer.now }
+    ensures { Writes (K.seen sink.old) (K.seen sink.new) result (section_text section offer.now) }
+{
+    put_section(sink, section)?;
+    put_form(sink, &offer.poly, &offer.offer.form, &offer.fall)
+}
+
+/// Writes what shows each section to be stable.
+fn put_offers<K: Sink>(sink: &mut K, offers: &[SectionOffer]) -> Result<(), Failed>
+    requires { All SectionHasPlaces offers.now }
+    ensures { Writes (K.seen sink.old) (K.seen sink.new) result
+        (numbered_lines section_text 0 offers.now) }
+{
+    for (section, offer) in offers.iter().enumerate() {
+        put_offer(sink, section as u64, offer)?;
+    }
+    Ok(())
+}
+
+/// Writes why a section isn't decided.
+fn put_undecided<K: Sink>(sink: &mut K, word: &[u8], section: u64, index: u64) -> Result<(), Failed>
+    ensures { Writes (K.seen sink.old) (K.seen sink.new) result
+        (cause_text word.now section index) }
+{
+    put_numbered(sink, word, section)?;
+    put_number_line(sink, b" index ", index)
+}
+
+/// Writes that a number on the way to a section's polynomial is too wide.
+fn put_wide<K: Sink>(sink: &mut K, section: u64, index: u64) -> Result<(), Failed>
+    ensures { Writes (K.seen sink.old) (K.seen sink.new) result (wide_text section index) }
+{
+    put_undecided(sink, b"cause WIDE section ", section, index)
+}
+
+/// Writes that a section's polynomial has no closed form.
+fn put_no_closed_form<K: Sink>(sink: &mut K, section: u64, index: u64) -> Result<(), Failed>
+    ensures { Writes (K.seen sink.old) (K.seen sink.new) result
+        (no_closed_form_text section index) }
+{
+    put_undecided(sink, b"cause NO_CLOSED_FORM section ", section, index)
+}
+
+/// Writes what closed forms say of a cascade's sections.
+pub(crate) fn put_forms<K: Sink>(sink: &mut K, found: &CascadeForms) -> Result<(), Failed>
+    requires { FormsHavePlaces found.now }
+    ensures { Writes (K.seen sink.old) (K.seen sink.new) result (forms_text found.now) }
+{
+    match found {
+        CascadeForms::Falls(offers) => put_offers(sink, offers.as_slice()),
+        CascadeForms::KeptAway {
+            section,
+            poly,
+            offer,
+            fall,
+            value,
+        } => {
+            put_section_of(sink, *section)?;
+            put_kept_away(sink, poly, offer, fall, value)
+        }
+        CascadeForms::Wide { section, index } => {
+            put_wide(sink, u64::from(*section), u64::from(*index))
+        }
+        CascadeForms::NoClosedForm { section, index } => {
+            put_no_closed_form(sink, u64::from(*section), u64::from(*index))
+        }
+    }
+}
+
+/// The code and the name of a refusal.
+#[tactic(auto, unfolding(crate::specs::CascadeTexts::cascade_code))]
+fn cascade_code(refusal: CascadeRefusal) -> &'static [u8]
+    ensures { result.now ≡ cascade_code refusal }
+{
+    match refusal {
+        CascadeRefusal::Order { .. } => b"CASCADE REFUSED 31 ORDER ",
+        CascadeRefusal::Mixed { .. } => b"CASCADE REFUSED 32 MIXED ",
+    }
+}
+
+/// The section that a refusal names.
+fn place_of(refusal: CascadeRefusal) -> u32
+    ensures { result ≡ place_of refusal }
+{
+    match refusal {
+        CascadeRefusal::Order { section } | CascadeRefusal::Mixed { section } => section,
+    }
+}
+
+/// Writes why sections make no cascade.
+pub(crate) fn put_cascade_refusal<K: Sink>(
+    sink: &mut K,
+    refusal: CascadeRefusal,
+) -> Result<(), Failed>
+    ensures { Writes (K.seen sink.old) (K.seen sink.new) result (cascade_refusal_text refusal) }
+{
+    put_number_line(sink, cascade_code(refusal), u64::from(place_of(refusal)))
+}
