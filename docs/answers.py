@@ -79,12 +79,12 @@ CYCLES = [
 ]
 
 ROOTS = [
-    Kind("Successful", 0, rf"{S}\nproperty (?:STABILITY|MINIMUM_PHASE) .*\npolynomial .*",
+    Kind("Successful", 0, rf"{S}\nproperty (?:STABILITY|MINIMUM_PHASE) realization \w+\npolynomial .*",
          "The roots of the printed polynomial, the denominator or the numerator in words, are inside the unit circle: the form is "
          "positive and strictly falls along each trajectory, by `fall` in a step. Form and fall are evidence.",
          "nothing.",
          "lag.dsv --property STABILITY"),
-    Kind("Failed", 10, rf"{F}\nproperty (?:STABILITY|MINIMUM_PHASE) .*\npolynomial .*",
+    Kind("Failed", 10, rf"{F}\nproperty (?:STABILITY|MINIMUM_PHASE) realization \w+\npolynomial .*",
          "Unstable, or of no minimum phase: a root is outside the unit circle or on it. The form is negative at `start` and never rises from there, so that the "
          "trajectory from the start doesn't tend to 0.",
          "more of `frac_bits`, another `--rounding`, or a delta form. Of a PI or PID controller a pole at 1 is meant.",
@@ -99,16 +99,36 @@ ROOTS = [
          "small/no_form.dsv --property STABILITY"),
     Kind("Inconclusive, `cause NO_FORM`, `jury inside`", 20, rf"{I}\n.*\n.*\ncause NO_FORM .*\njury inside\n",
          "No form was found, though by Jury's criterion the roots are inside, which isn't proved.",
-         "`--schur-cohn`; other words; sections of order 2, each as a file of its own, which are decided with small words.",
+         "`--schur-cohn`; other words; sections of order 2, with `--sections`, which are decided with small words.",
          "small/no_form_inside.dsv --property STABILITY"),
     Kind("Inconclusive, `cause NO_FORM`, `jury wide`", 20, rf"{I}\n.*\n.*\ncause NO_FORM .*\njury wide .*",
          "No form was found, and the numbers of Jury's criterion are too large in this row.",
          "as after `jury inside`.",
          "small/slow_order_six.dsv --property STABILITY"),
-    Kind("Inconclusive, `cause WIDE`", 20, rf"{I}\nproperty (?:STABILITY|MINIMUM_PHASE) .*\ncause WIDE .*",
+    Kind("Inconclusive, `cause WIDE`", 20, rf"{I}\nproperty (?:STABILITY|MINIMUM_PHASE) realization \w+\ncause WIDE .*",
          "This number of the polynomial, or one on the way to it, is too large.",
          "fewer bits; in a delta form, a `delta` such as 1/4 in place of a smaller one.",
          "small/wide_polynomial.dsv --property STABILITY --realization DDFI"),
+]
+
+SERIES = [
+    Kind("Successful", 0, rf"{S}\nproperty STABILITY realization \w+ sections \d\n.*",
+         "All sections are stable: after each one's number, from 0 on, stand its polynomial, and form and fall as of a single controller.",
+         "nothing.",
+         "low_pass_section_1.dsv --sections low_pass_section_2.dsv,low_pass_section_3.dsv --property STABILITY"),
+    Kind("Failed", 10, rf"{F}\nproperty STABILITY realization \w+ sections \d\n.*",
+         "This section is the first that isn't stable; what follows is as of a single controller.",
+         "as of a single controller, for this section's file.",
+         "small/half_pole.dsv --sections small/pole_at_one.dsv --property STABILITY"),
+    Kind("Inconclusive, `cause NO_CLOSED_FORM`", 20, rf"{I}\nproperty STABILITY .*\ncause NO_CLOSED_FORM .*",
+         "This section is the first that isn't known to be stable: its polynomial has order 2, and the number at this index is over "
+         "2^23 in size.",
+         "ask for this section's file alone, where a form is searched for, or with `--schur-cohn`; or fewer bits.",
+         "small/fine_gain.dsv --sections small/fine_pair.dsv --property STABILITY"),
+    Kind("Inconclusive, `cause WIDE`", 20, rf"{I}\nproperty STABILITY .*\ncause WIDE section .*",
+         "Of this section a number of the polynomial, or one on the way to it, is too large.",
+         "as of a single controller, for this section's file.",
+         "small/fine_gain.dsv --sections small/fine_pair.dsv --property STABILITY --realization DDFI"),
 ]
 
 TIMES = [
@@ -178,6 +198,13 @@ REFUSED = [
          "small/wide_delta_sum.dsv --simulate 0 --realization DDFI"),
     Kind("25 `INPUT_RANGE`", 2, r"FILE REFUSED 25 .*", "the input of this number is no word", "inputs are words: 1.0 is 2^frac_bits",
          "small/pole.dsv --simulate 8"),
+    Kind("31 `ORDER`", 2, r"CASCADE REFUSED 31 .*", "this section of a cascade, 0 for FILE, has an order over 2", "split it",
+         "small/half_pole.dsv --sections small/third_order.dsv --property STABILITY"),
+    Kind("32 `MIXED`", 2, r"CASCADE REFUSED 32 .*", "this section of a cascade hasn't FILE's format or `wide`", "one format for all",
+         "small/half_pole.dsv --sections small/pole.dsv --property STABILITY"),
+    Kind("after a line `section I`", 2, r"section [1-7]\nFILE REFUSED .*",
+         "the file of this section of a cascade is refused, 1 for the first of `--sections`", "as above",
+         "small/half_pole.dsv --sections small/missing.dsv,small/half_pole.dsv --property STABILITY"),
 ]
 
 STOPPED = [
@@ -185,6 +212,8 @@ STOPPED = [
          "small/modes.dsv --property stability"),
     Kind("The controller's file", 3, r"READ FAULT CONTROLLER\n", "it can't be read", "look at its name and rights",
          "small/none.dsv --property STABILITY"),
+    Kind("A section's file", 3, r"READ FAULT SECTION [1-7]\n", "that of this section of a cascade can't be read",
+         "look at its name and rights", "small/half_pole.dsv --sections small/half_pole.dsv,small/none.dsv --property STABILITY"),
     Kind("The certificate's file", 3, r"READ FAULT CERTIFICATE\n", "it can't be read", "look at its name and rights",
          "small/order_two.dsv --check small/none.cert"),
     Kind("The output", 4, r"OUTPUT\n", "it failed, after a prefix of the text", "look at the disk", None, "none stands here"),
@@ -234,6 +263,7 @@ SECTIONS = [
     ("OVERFLOW", None, OVERFLOW),
     ("LIMIT_CYCLE", None, CYCLES),
     ("STABILITY and MINIMUM_PHASE", None, ROOTS),
+    ("STABILITY of a cascade", None, SERIES),
     ("TIMING", None, TIMES),
     ("Other answers", None, OTHERS),
     ("Refused files: status 2",
@@ -282,7 +312,8 @@ def place_of(argument):
 
 
 def command_of(case):
-    words = [place_of(word) if re.search(r"\.(?:dsv|cert)$", word) else word for word in case.split(" ")]
+    words = [",".join(place_of(file) for file in word.split(",")) if re.search(r"\.(?:dsv|cert)$", word) else word
+             for word in case.split(" ")]
     return " ".join(["./dsv"] + words)
 
 
@@ -310,7 +341,7 @@ def rows_of(title, kinds, runs):
     yield "\n| " + " | ".join(heads) + " |"
     yield "|---" * len(heads) + "|"
     for kind in kinds:
-        text = f"`{kind.case}`: `{runs[kind.case][0].rstrip()}`" if kind.case else kind.why
+        text = f"`{kind.case}`: `{' / '.join(runs[kind.case][0].rstrip().split(chr(10)))}`" if kind.case else kind.why
         cells = [kind.title] + [str(kind.status)] * has_status + [kind.means] + [kind.next] * has_next + [text]
         yield "| " + " | ".join(cells) + " |"
 

@@ -159,7 +159,7 @@ def first_sentence(note):
 
 # ---- the page
 
-HEADLINE = ("Headline", "Proposers", "OneAnswer", "Completeness", "Accepted")
+HEADLINE = ("Explained", "Headline", "Cascades", "Proposers", "OneAnswer", "Completeness", "Accepted")
 LONG = 30
 PAGE = (
     ("The call", "What `run` says of an answer, whatever the arguments, the files and the sink.",
@@ -169,6 +169,9 @@ PAGE = (
     ("Overflow, limit cycles, simulation", "What the answers on runs say, over the written equations.",
      "equations_of rows Breaks Cycles IsSearch Happens NeverHappens IsTrace IsCycle GaveUp IsTooLarge IsFormulaOf "
      "IsSeeking KeepsTo NoneIsGood IsMeasuring IsGainOf outlook_of HoldAlways NeverOverflows IsBreakOf IsRun IsRunOver"),
+    ("Cascades", "What the answers on several files in series say.",
+     "IsCascadeRow IsCascadeOf HaveControllers IsLaterRow IsNoCascadeRow IsCascade Fits CascadeView cascade_of IsOfSeries "
+     "CascadeNever IsCascadeTrace IsCascadeGain cascade_outlook_of IsCascadeBreak IsCascadeRun AreJudged IsStableSection"),
     ("Stability, minimum phase, timing", "What the answers on polynomials and on time say.",
      "IsTested tested_of ShowsFall StrictlyFallsAlong StrictlyFalls ShowsKeptAway IsKeptAwayAlong IsKeptAway "
      "ShowsNoForm closed_form_of jury_of WantsSchurCohn IsBeyond IsTimed IsTimingOf IsOnTime"),
