@@ -1,30 +1,19 @@
 -- The rows of jobs for cascades: what each stage gives, and what follows of it.
-use Rattle.std.proofs.Common.{◌≡◌, ◌≢◌, ◌⊎◌, inl, inr, ◌<◌, ◌≤◌, ◌-◌, ◌+◌, ℕ, suc, List, [], ◌∷◌, length, take, get_or, refl, sym, subst, ap, ◌∙◌, arith}
-use Rattle.std.specs.Prelude.{Result, Some, Ok, Err, IfOk, slice_get, ℤ}
+use Rattle.std.proofs.Common.{◌≡◌, ◌<◌, ◌≤◌, ◌+◌, ℕ, suc, List, [], ◌∷◌, length, take, get_or, refl, arith}
+use Rattle.std.specs.Prelude.{Ok, Err, ℤ}
 use Rattle.std.specs.List.{All}
 use Rattle.std.proofs.lemmas.List.Elements.{All-nil, All-cons}
 use Rattle.std.proofs.lemmas.Option.{slice_get_read}
 use Rattle.dsv_base.specs.Seen.{FilesSeen}
 use Rattle.dsv_names.specs.declared.design.Design.{Design}
 use Rattle.dsv_reader.specs.Controllers.{ControllerView}
-use Rattle.dsv_token.specs.declared.refusal.FileRefusal.TheVariants as text
 use Rattle.dsv_quantiser.specs.QuantisedView.{QuantisedView}
 use Rattle.dsv_quantiser.specs.Modes.{BecomesWords}
 use Rattle.dsv_quantiser.specs.declared.refusal.QuantRefusal.{QuantRefusal}
 use Rattle.dsv_forms.specs.declared.offers.Form.{Form}
 use Rattle.dsv_lyapunov.specs.Answers.{IsStable, IsKeptAwayFrom}
-use Rattle.dsv_hints.specs.Lessons.{IsRefutation, IsSpent}
-use Rattle.dsv_hints.specs.Searches.{IfNever, IfHappens, IfSpent}
-use Rattle.dsv_hints.specs.declared.search.Searched.{Searched}
-use Rattle.dsv_hints.specs.declared.search.Searched.TheVariants as searched
-use Rattle.dsv_bounded.specs.declared.refusals.BoundedRefusal.{BoundedRefusal}
-use Rattle.dsv_bounded.specs.declared.refusals.BoundedRefusal.TheVariants as refusal
-use Rattle.dsv_bounded.specs.Refusals.{IsSized}
-use Rattle.dsv_meaning.specs.declared.replays.Trace.{Trace}
 use Rattle.dsv_cascade.specs.Cascades.{CascadeView}
-use Rattle.dsv_cascade.specs.Sizes.{cascade_job_size_of}
 use Rattle.dsv_cascade.specs.Stability.{AreStable, AreJudged}
-use Rattle.dsv_cascade.specs.Verdicts.{CascadeBreaksWithin, IsCascadeTrace, cascade_formula_of}
 use Rattle.dsv_cascade.specs.declared.stability.CascadeForms.{CascadeForms}
 use Rattle.dsv_cascade.specs.declared.stability.CascadeForms.TheVariants as forms
 use Rattle.dsv_cascade.specs.declared.stability.SectionOffer.{SectionOffer}
@@ -33,11 +22,7 @@ use Rattle.dsv_report.specs.Printing.{SectionHasPlaces, FormsHavePlaces}
 use Rattle.dsv_report.specs.Stops.{Outcome}
 use Rattle.dsv_report.specs.declared.stop.Stop.{Stop}
 use Rattle.dsv_report.specs.declared.stop.Stop.TheVariants as stop
-use Rattle.dsv_report.specs.declared.stop.WhichFile.TheVariants as file
-use Rattle.dsv_cli.specs.Answering.{overflow_outcome}
-use Rattle.dsv_cli.specs.Cascades.{BecomeWords, IsLaterRefused, IsNoCascade, IsCascadeOf, IsOfSeries, HaveControllers, IsLaterRow, IsCascadeRow}
-use Rattle.dsv_cli.specs.Headline.{IsUnread}
-use Rattle.dsv_cli.specs.SectionFiles.{IsFilesUnread}
+use Rattle.dsv_cli.specs.Cascades.{BecomeWords, IsLaterRefused, IsNoCascade, IsCascadeOf, IsOfSeries, IsCascadeRow}
 
 -- ---- controllers that become no cascade
 pub later_refused : (design : Design) (cs : List ControllerView) (i section : ℕ) (c : ControllerView) (before : List QuantisedView) (r : QuantRefusal) (why : Stop) → section ≡ i + 1 → i < length cs → c ≡ get_or cs i c
@@ -52,26 +37,6 @@ no_later design first later q stop.NoMemory w h = (q, w, tt)
 no_later design first later q why w h = absurd h
 
 -- ---- rows
-pub row_of_files : (old new : FilesSeen) (asked : AskedCascade) (why : Stop) → IsFilesUnread old new asked why → IsCascadeRow old new asked (Err why)
-row_of_files old new asked (stop.FileRefused text.NoMemory) (inl h) = absurd h
-row_of_files old new asked (stop.FileRefused r) (inl h) = h
-row_of_files old new asked stop.FileTooLong (inl h) = h
-row_of_files old new asked (stop.ReadFault file.Controller) (inl h) = h
-row_of_files old new asked stop.NoMemory (inl h) = tt
-row_of_files old new asked why (inl h) = absurd h
-row_of_files old new asked (stop.SectionRefused section r) (inr h) = h
-row_of_files old new asked (stop.SectionTooLong section) (inr h) = h
-row_of_files old new asked (stop.ReadFault (file.Section section)) (inr h) = h
-row_of_files old new asked stop.NoMemory (inr h) = tt
-row_of_files old new asked why (inr h) = absurd h.2.5
-
-pub row_of_no_cascade : (old new : FilesSeen) (asked : AskedCascade) (first : ControllerView) (later : List ControllerView) (why : Stop) → HaveControllers old asked first later
-    → IsNoCascade asked.design first later why → IsCascadeRow old new asked (Err why)
-row_of_no_cascade old new asked first later (stop.QuantRefused r) c h = (first, later, c, h)
-row_of_no_cascade old new asked first later (stop.SectionQuant section r) c h = (first, later, c, h)
-row_of_no_cascade old new asked first later (stop.CascadeRefused r) c h = (first, later, c, h)
-row_of_no_cascade old new asked first later stop.NoMemory c h = tt
-row_of_no_cascade old new asked first later why c h = absurd h.2
 
 -- the stops that a task may come to
 abbrev IsTaskStop : Stop → Type 0
@@ -101,17 +66,6 @@ stop_row old new asked c why k h t = absurd t
 pub row_of_task : (old new : FilesSeen) (asked : AskedCascade) (c : CascadeView) (found : Outcome) → IsCascadeOf old asked c → IsOfSeries asked.task c found → IsCascadeRow old new asked found
 row_of_task old new asked c (Ok found) k h = (c, k, h)
 row_of_task old new asked c (Err why) k h = stop_row old new asked c why k h (task_stop asked.task c why h)
-
--- ---- searches
-pub series_searched : (c : CascadeView) (samples conflicts : ℕ) (found : Result (Searched Trace) BoundedRefusal) → IsSized (cascade_job_size_of c samples) found
-    → IfOk found (IfNever (λ log. CascadeBreaksWithin c samples → ⊥)) → IfOk found (IfNever (IsRefutation (cascade_formula_of c samples) conflicts))
-    → IfOk found (IfHappens (IsCascadeTrace c samples)) → IfOk found (IfSpent (IsSpent (cascade_formula_of c samples) conflicts))
-    → IsOfSeries (searches_overflow samples conflicts) c (overflow_outcome found)
-series_searched c samples conflicts (Ok (searched.Never log)) s n r t g = record { within = s; never = n; refuted = r }
-series_searched c samples conflicts (Ok (searched.Happens trace)) s n r t g = (s, t)
-series_searched c samples conflicts (Ok (searched.Spent log)) s n r t g = (s, g)
-series_searched c samples conflicts (Err (refusal.JobSize size)) s n r t g = (s.0, rw s.0 s.1)
-series_searched c samples conflicts (Err refusal.NoMemory) s n r t g = tt
 
 -- ---- forms
 stable_places : (poly : List ℤ) (form fall : Form) → IsStable poly form fall → (form.d ≤ 8) × (fall.d ≤ 8)

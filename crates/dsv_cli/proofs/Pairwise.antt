@@ -1,6 +1,5 @@
 -- Lists that stand so to one another, place by place.
-use Rattle.std.proofs.Common.{◌≡◌, ◌<◌, ◌≤◌, ◌+◌, ℕ, zero, suc, List, [], ◌∷◌, ◌++◌, length, take, get_or, subst, sym, ap, ◌∙◌, refl, arith}
-use Rattle.std.proofs.lemmas.List.{take_all}
+use Rattle.std.proofs.Common.{◌≡◌, ◌<◌, ◌+◌, ℕ, zero, suc, List, [], ◌∷◌, ◌++◌, length, take, get_or, subst, ap, refl, arith}
 use Rattle.dsv_cli.specs.Cascades.{Pairwise}
 
 next : {A B : Type 0} (R : A → B → Type 0) (xs : List A) (ys : List B) (i : ℕ) (x : A) (y : B) → i < length xs → x ≡ get_or xs i x → Pairwise R (take i xs) ys → R x y → Pairwise R (take (suc i) xs) (ys ++ y ∷ [])
@@ -15,10 +14,6 @@ pub pairs_more : {A B : Type 0} (R : A → B → Type 0) (xs : List A) (ys : Lis
 pairs_more R xs ys i x y l e h r =
     let n : suc i ≡ i + 1 = omega arith in
     subst (λ (k : ℕ). Pairwise R (take k xs) (ys ++ y ∷ [])) n (next R xs ys i x y l e h r)
-
--- all of them
-pub pairs_whole : {A B : Type 0} (R : A → B → Type 0) (xs : List A) (ys : List B) (i : ℕ) → length xs ≤ i → Pairwise R (take i xs) ys → Pairwise R xs ys
-pairs_whole R xs ys i l h = subst (λ (zs : List _). Pairwise R zs ys) (take_all i xs l) h
 
 -- as long as one another
 pub pairs_long : {A B : Type 0} (R : A → B → Type 0) (xs : List A) (ys : List B) → Pairwise R xs ys → length ys ≡ length xs

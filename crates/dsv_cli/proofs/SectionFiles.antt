@@ -1,38 +1,19 @@
 -- Why the files of a cascade's sections aren't those of controllers.
-use Rattle.std.proofs.Common.{◌≡◌, ◌⊎◌, inl, inr, ◌+◌, ◌<◌, ◌≤◌, ℕ, zero, suc, List, [], ◌∷◌, length, take, map, get_or, Bor, ap, refl, sym, subst, ◌∙◌, arith}
-use Rattle.std.specs.Prelude.{Option, Some, IfSome, slice_get}
-use Rattle.dsv_base.specs.Counts.{Rose}
+use Rattle.std.proofs.Common.{◌≡◌, ◌+◌, ◌<◌, ◌≤◌, ℕ, zero, suc, List, [], ◌∷◌, length, take, map, get_or, Bor, refl, subst, ◌∙◌, arith}
+use Rattle.std.specs.Prelude.{Some, slice_get}
 use Rattle.dsv_base.specs.Seen.{FilesSeen}
 use Rattle.dsv_base.proofs.TakingLemmas.{Rose-earlier}
-use Rattle.dsv_command.specs.Cascades.{AskedCascade}
-use Rattle.dsv_token.specs.Memory.{Refuses}
-use Rattle.dsv_token.specs.declared.refusal.FileRefusal.{FileRefusal}
 use Rattle.dsv_token.specs.declared.refusal.FileRefusal.TheVariants as text
 use Rattle.dsv_reader.specs.Controllers.{ControllerView}
-use Rattle.dsv_reader.specs.Reading.{reading}
 use Rattle.dsv_reader.specs.Texts.{IsFaultOf}
 use Rattle.dsv_report.specs.declared.stop.Stop.{Stop}
 use Rattle.dsv_report.specs.declared.stop.Stop.TheVariants as stop
 use Rattle.dsv_report.specs.declared.stop.WhichFile.TheVariants as file
-use Rattle.dsv_cli.specs.Cascades.{IsFileOf, AreControllers, IsSectionUnread, IsLaterUnread, IsLaterRow}
-use Rattle.dsv_cli.specs.FileBytes.{IsUnreadFile}
+use Rattle.dsv_cli.specs.Cascades.{IsFileOf, AreControllers, IsSectionUnread, IsLaterUnread}
 use Rattle.dsv_cli.specs.Headline.{longest_file, CameOf, IsController, AreKept}
-use Rattle.dsv_cli.specs.SectionFiles.{stop_of_section}
 use Rattle.dsv_cli.proofs.Pairwise.{pairs_weaker}
 
 -- ---- one file
-pub section_unread : (old new : FilesSeen) (name : List ℕ) (section : ℕ) (why : Stop) → IsUnreadFile old new name (file.Section section) why → IsSectionUnread old new name section why
-section_unread old new name section (stop.ReadFault (file.Section n)) h = ((let e = h.0 in cc), h.1, h.2)
-section_unread old new name section (stop.ReadFault file.Controller) h = absurd (let e = h.0 in cc)
-section_unread old new name section (stop.ReadFault file.Certificate) h = absurd (let e = h.0 in cc)
-section_unread old new name section stop.NoMemory h = tt
-section_unread old new name section (stop.SectionTooLong n) h = ((let e = h.0 in cc), h.1, h.2)
-section_unread old new name section why h = absurd (let e = h.0 in cc)
-
-pub section_faulty : (old new : FilesSeen) (name bytes : List ℕ) (section : ℕ) (r : FileRefusal) → IfSome (old.held name) (λ file. bytes ≡ file) → length bytes ≤ longest_file → Refuses r (reading bytes)
-    → IsSectionUnread old new name section (stop_of_section section r)
-section_faulty old new name bytes section text.NoMemory e short h = tt
-section_faulty old new name bytes section r e short h = (refl, (bytes, e, (short, h)))
 
 -- from files that were read earlier
 pub section_earlier : (old then new : FilesSeen) (name : List ℕ) (section : ℕ) (why : Stop) → AreKept old then → old.came ≤ then.came → IsSectionUnread then new name section why → IsSectionUnread old new name section why

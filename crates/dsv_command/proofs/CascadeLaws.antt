@@ -48,9 +48,6 @@ has_name : (name : List ℕ) (others : List (List ℕ)) (b : ℕ) → with_comma
 has_name name [] b = refl
 has_name name (next ∷ others) b = refl
 
-after_comma : (p : List ℕ) (ps : List (List ℕ)) → with_commas ([] ∷ p ∷ ps) ≡ comma ∷ with_commas (p ∷ ps)
-after_comma p ps = refl
-
 rejoined_by : (b : ℕ) (bs : List ℕ) (c : Bool) (ps : List (List ℕ)) → is_comma b ≡ c → pieces bs ≡ ps → with_commas ps ≡ bs → with_commas (if c then [] ∷ ps else onto_first b ps) ≡ b ∷ bs
 rejoined_by b bs c [] e f h = absurd (some_piece bs f)
 rejoined_by b bs true (p ∷ ps) e f h = rw (same_byte b comma e) (ap (λ xs. comma ∷ xs) h)

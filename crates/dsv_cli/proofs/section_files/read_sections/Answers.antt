@@ -1,4 +1,4 @@
-use Rattle.std.proofs.Common.{rules, ◌≡◌, ◌≤◌, ℕ, List, Bor, length, map, inr, subst, sym, arith}
+use Rattle.std.proofs.Common.{rules, ◌≡◌, ℕ, List, Bor, map, inr, arith}
 use Rattle.std.specs.Prelude.{Err}
 use Rattle.std.proofs.lemmas.List.{length-map}
 use Rattle.dsv_cli.specs.Cascades.{IsFileOf, AreControllers, IsLaterUnread}
