@@ -17,7 +17,8 @@ use Rattle.dsv_forms.proofs.Alike.{corner_row}
 use lib.Signed.{◌<ℤ◌}
 use Rattle.dsv_certfile.specs.Lawful.{IsWhole, AreWhole, IsForm, AreSquares, IsOffer, certificate_alone}
 use Rattle.dsv_certfile.specs.Limits.{most_places}
-use Rattle.dsv_certfile.specs.Texts.{Line, line_text, head_lines, kind_line, word_line, certificate_text, numbers_line, rows_lines, square_lines, squares_head, squares_lines, falls_lines}
+use Rattle.dsv_lines.specs.Texts.{Line, line_text}
+use Rattle.dsv_certfile.specs.Texts.{head_lines, kind_line, word_line, certificate_text, numbers_line, rows_lines, square_lines, squares_head, squares_lines, falls_lines}
 use Rattle.dsv_certfile.specs.Typed.{IsTypedMatrix, IsTypedFactor, AreTypedSquares, IsTypedOffer}
 use Rattle.dsv_certfile.specs.declared.certificate.Certificate.TheVariants as certificate
 use Rattle.dsv_certfile.specs.declared.job.CertifiedJob.{CertifiedJob}

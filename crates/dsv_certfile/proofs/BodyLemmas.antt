@@ -4,7 +4,8 @@ use Rattle.std.proofs.Math.IntN.{ℤ, pos}
 use Rattle.std.specs.Int.RustNames.{unsigned_abs}
 use Rattle.std.proofs.lemmas.List.{take-replicate, length-map}
 use Rattle.dsv_text.specs.Stages.{◌>>=◌}
-use Rattle.dsv_certfile.specs.Answers.{Reading, reading_of, Refuses}
+use Rattle.dsv_lines.specs.Readings.{Reading, reading_of}
+use Rattle.dsv_certfile.specs.Answers.{Refuses}
 use Rattle.dsv_forms.specs.Padded.{row_of, matrix_with, form_with, squares_with}
 use Rattle.dsv_forms.specs.declared.offers.Falls.{Falls}
 use Rattle.dsv_forms.specs.declared.offers.Squares.{Squares}
@@ -14,7 +15,7 @@ use Rattle.dsv_certfile.specs.Places.{row_places, squares_places}
 use Rattle.dsv_certfile.specs.declared.keyword.Keyword.TheVariants as keyword
 use Rattle.dsv_certfile.specs.Candidates.{AreEntries}
 use Rattle.dsv_certfile.specs.Limits.{greatest_entry}
-use Rattle.dsv_certfile.specs.Pieces.{LinesLeft}
+use Rattle.dsv_lines.specs.Pieces.{LinesLeft}
 use Rattle.dsv_certfile.specs.Ranges.{AreOf}
 use Rattle.dsv_certfile.specs.declared.fault.TextFault.{TextFault}
 use Rattle.dsv_certfile.specs.declared.fault.CertRefusal.{CertRefusal}

@@ -1,27 +1,17 @@
 -- The job line and the kind line, one stage after another.
-use Rattle.std.proofs.Common.{◌≡◌, ◌∙◌, sym, ap, ℕ, ◌+◌, List, [], drop, Result, Ok, Err, refl, arith}
-use Rattle.std.proofs.lemmas.List.{get_or-drop, drop-drop}
+use Rattle.std.proofs.Common.{◌≡◌, ap, sym, ℕ, List, Result, Ok, Err, refl}
 use Rattle.dsv_text.specs.Stages.{◌>>=◌}
 use Rattle.dsv_names.specs.declared.property.Property.{Property}
 use Rattle.dsv_names.specs.declared.realisation.Realisation.{Realisation}
 use Rattle.dsv_names.specs.declared.rounding.Rounding.{Rounding}
 use Rattle.dsv_names.specs.declared.overflow_mode.OverflowMode.{OverflowMode}
-use Rattle.dsv_certfile.specs.Headings.{piece_at, of_job, head_in}
+use Rattle.dsv_certfile.specs.Headings.{of_job, head_in}
 use Rattle.dsv_certfile.specs.declared.fault.TextFault.{TextFault}
 use Rattle.dsv_certfile.specs.declared.job.CertWords.TheVariants as words
 use Rattle.dsv_certfile.specs.declared.job.CertifiedJob.{CertifiedJob}
 use Rattle.dsv_certfile.specs.declared.job.Size.{Size}
 use Rattle.dsv_certfile.specs.declared.kind.Kind.{Kind}
 use Rattle.dsv_certfile.specs.declared.kind.KindHead.{KindHead}
-
--- ---- pieces one after another
-pub drop_more : {A : Type 0} (n : ℕ) (xs : List A) → drop 1 (drop n xs) ≡ drop (n + 1) xs
-drop_more n xs = drop-drop 1 n xs
-
-pub piece_from : (n : ℕ) (ps : List (List ℕ)) → piece_at (drop n ps) 0 ≡ piece_at ps n
-piece_from n ps =
-    let e : n + 0 ≡ n = omega arith in
-    get_or-drop n ps 0 [] ∙ ap (piece_at ps) e
 
 -- ---- the job line
 abbrev pub job_from : Result (Unit {0}) TextFault → Result Property TextFault → Result Realisation TextFault → Result Rounding TextFault

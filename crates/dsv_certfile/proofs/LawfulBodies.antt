@@ -9,7 +9,7 @@ use Rattle.dsv_certfile.specs.Bodies.{lines_from, word_in, numbers_of, inequalit
 use Rattle.dsv_certfile.specs.Lawful.{IsEntry, IsInequality, IsSet, AreLogs, IsLog}
 use Rattle.dsv_certfile.specs.Limits.{greatest_depth}
 use Rattle.dsv_template.specs.Limits.{most_inequalities}
-use Rattle.dsv_certfile.specs.Pieces.{pieces_of}
+use Rattle.dsv_lines.specs.Pieces.{pieces_of}
 use Rattle.dsv_certfile.specs.Places.{word_places, inequality_places}
 use Rattle.dsv_certfile.specs.Ranges.{AreOf}
 use Rattle.dsv_certfile.specs.Steps.{log_in}

@@ -2,10 +2,10 @@
 use Rattle.std.proofs.Common.{◌≡◌, ℕ, List, [], ◌∷◌, Ok, IfOk}
 use Rattle.std.proofs.lemmas.Result.{IfOk-at_ok}
 use Rattle.dsv_text.specs.Stages.{◌>>=◌}
-use Rattle.dsv_certfile.specs.Answers.{Reading}
+use Rattle.dsv_lines.specs.Readings.{Reading}
 use Rattle.dsv_certfile.specs.Bodies.{whole_text, word_in, invariant_in, falls_in}
 use Rattle.dsv_certfile.specs.Lawful.{IsSize, IsWords, IsLog, IsOffer, IsLawful}
-use Rattle.dsv_certfile.specs.Pieces.{TextLines, unended, line, all_lines}
+use Rattle.dsv_lines.specs.Pieces.{TextLines, unended, line, all_lines}
 use Rattle.dsv_certfile.specs.Reading.{heading_in, body_in, certificate_in}
 use Rattle.dsv_certfile.specs.Steps.{log_in}
 use Rattle.dsv_certfile.specs.declared.certificate.Certificate.{Certificate}

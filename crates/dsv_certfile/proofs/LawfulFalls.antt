@@ -9,7 +9,7 @@ use Rattle.dsv_certfile.specs.Bodies.{numbers_of, numbers_in, rows_in, word_in, 
 use Rattle.dsv_certfile.specs.Headings.{count_at}
 use Rattle.dsv_certfile.specs.Lawful.{IsWhole, AreWhole, IsForm, AreSquares, IsOffer}
 use Rattle.dsv_certfile.specs.Limits.{most_places, most_squares}
-use Rattle.dsv_certfile.specs.Pieces.{pieces_of}
+use Rattle.dsv_lines.specs.Pieces.{pieces_of}
 use Rattle.dsv_certfile.specs.Places.{row_places, squares_places}
 use Rattle.dsv_certfile.specs.Ranges.{AreOf}
 use Rattle.dsv_certfile.specs.declared.keyword.Keyword.{Keyword}

@@ -20,7 +20,7 @@ use Rattle.dsv_certfile.specs.Lawful.{IsSize, IsWords}
 use Rattle.dsv_certfile.specs.Limits.{most_samples, greatest_depth, most_gain_depth, most_places}
 use Rattle.dsv_template.specs.Limits.{most_inequalities}
 use Rattle.dsv_certfile.specs.Numerals.{samples_of}
-use Rattle.dsv_certfile.specs.Pieces.{pieces_of}
+use Rattle.dsv_lines.specs.Pieces.{pieces_of}
 use Rattle.dsv_certfile.specs.Places.{line_numbers}
 use Rattle.dsv_certfile.specs.Ranges.{AreOf}
 use Rattle.dsv_certfile.specs.Reading.{words_in, heading_in}
@@ -41,7 +41,8 @@ use Rattle.dsv_certfile.specs.declared.kind.KindHead.TheVariants as head
 use Rattle.dsv_certfile.specs.declared.reader.Heading.{Heading}
 use Rattle.dsv_certfile.proofs.HeadingLemmas.{job_from}
 use Rattle.dsv_certfile.proofs.LawfulParts.{has_unit, then_has, whole_line_has, Yields, yields_both, yields_made, yields_line}
-use Rattle.dsv_certfile.proofs.RangeLemmas.{positive_has, line_numbers_have}
+use Rattle.dsv_lines.proofs.NumeralBounds.{positive_has}
+use Rattle.dsv_certfile.proofs.RangeLemmas.{line_numbers_have}
 use Rattle.dsv_certfile.proofs.WrittenCertificates.{words_after, job_after, version_after}
 
 -- ---- the job line

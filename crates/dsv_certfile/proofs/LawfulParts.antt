@@ -4,10 +4,11 @@ use Rattle.std.specs.List.{All}
 use Rattle.std.proofs.lemmas.List.Elements.{All-push}
 use Rattle.std.proofs.lemmas.Result.{IfOk-weaker}
 use Rattle.dsv_text.specs.Stages.{◌>>=◌}
-use Rattle.dsv_certfile.specs.Answers.{Reading, reading_of, at_line}
+use Rattle.dsv_lines.specs.Readings.{Reading, reading_of}
+use Rattle.dsv_certfile.specs.Answers.{at_line}
 use Rattle.dsv_certfile.specs.Bodies.{line_from, line_in, lines_from}
 use Rattle.dsv_certfile.specs.Headings.{whole_line}
-use Rattle.dsv_certfile.specs.Pieces.{TextLines, unended, line, LinesLeft}
+use Rattle.dsv_lines.specs.Pieces.{TextLines, unended, line, LinesLeft}
 use Rattle.dsv_certfile.specs.declared.fault.TextFault.{TextFault}
 use Rattle.dsv_certfile.proofs.WrittenParts.{Reader, and_read}
 

@@ -9,19 +9,21 @@ use Rattle.dsv_text.specs.Stages.{◌>>=◌}
 use Rattle.dsv_cnf.specs.Literal.{Literal}
 use Rattle.dsv_hints.specs.declared.step.Step.{Step}
 use Rattle.dsv_hints.specs.declared.step.Step.TheVariants.{Add, Delete}
-use Rattle.dsv_certfile.specs.Answers.{Reading, reading_of, at_line}
+use Rattle.dsv_lines.specs.Readings.{Reading, reading_of}
+use Rattle.dsv_certfile.specs.Answers.{at_line}
 use Rattle.dsv_certfile.specs.Headings.{or_number, whole_line}
 use Rattle.dsv_certfile.specs.Keywords.{keyword_text, zero_text}
 use Rattle.dsv_certfile.specs.Lawful.{IsId, IsLiteral, IsStep, IsLog}
 use Rattle.dsv_certfile.specs.Limits.{greatest_id, greatest_literal}
-use Rattle.dsv_certfile.specs.Numerals.{minus, positive_of, id_of, literal_read}
-use Rattle.dsv_certfile.specs.Pieces.{TextLines, unended, line, pieces_of}
+use Rattle.dsv_lines.specs.Numerals.{minus, positive_of}
+use Rattle.dsv_certfile.specs.Numerals.{id_of, literal_read}
+use Rattle.dsv_lines.specs.Pieces.{TextLines, unended, line, pieces_of}
 use Rattle.dsv_certfile.specs.Steps.{Listed, with_entry, entries_from, deletion_in, addition_in, says_deletion, step_after, step_id, step_in, steps_from, log_in}
 use Rattle.dsv_certfile.specs.declared.fault.TextFault.{TextFault}
 use Rattle.dsv_certfile.specs.declared.fault.CertRefusal.{CertRefusal}
 use Rattle.dsv_certfile.specs.declared.keyword.Keyword.{Keyword}
 use Rattle.dsv_certfile.proofs.LawfulParts.{then_has, whole_line_has, at_line_has, Yields}
-use Rattle.dsv_certfile.proofs.RangeLemmas.{positive_has}
+use Rattle.dsv_lines.proofs.NumeralBounds.{positive_has}
 
 -- ---- lists
 literal_step : (o : Option ℕ) (p : Bool) → IfSome o (λ n. (1 ≤ n) × (n ≤ greatest_literal))

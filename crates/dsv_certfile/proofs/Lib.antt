@@ -1,7 +1,6 @@
 pub mod AloneOffers
 pub mod BodyLemmas
 pub mod Corners
-pub mod Cuts
 pub mod Filling
 pub mod HeadingLemmas
 pub mod LawfulBodies
@@ -21,7 +20,6 @@ pub mod WrittenBodies
 pub mod WrittenCertificates
 pub mod WrittenFalls
 pub mod WrittenHeadings
-pub mod WrittenLines
 pub mod WrittenNumbers
 pub mod WrittenParts
 pub mod WrittenPlaces

@@ -10,7 +10,8 @@ use Rattle.dsv_base.specs.Seen.{SinkSeen}
 use Rattle.dsv_base.specs.Taking.{Wrote, Writes}
 use Rattle.dsv_base.specs.Text.{spaced_text, line_of}
 use Rattle.dsv_certfile.specs.Keywords.{zero_text}
-use Rattle.dsv_certfile.specs.Texts.{Line, piece_text, line_text, list_pieces, numbers_line, rows_lines}
+use Rattle.dsv_lines.specs.Texts.{Line, piece_text, line_text}
+use Rattle.dsv_certfile.specs.Texts.{list_pieces, numbers_line, rows_lines}
 use Rattle.dsv_certfile.specs.declared.keyword.Keyword.{Keyword}
 
 abbrev pub spaced : Line → List ℕ

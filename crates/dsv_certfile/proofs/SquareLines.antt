@@ -3,7 +3,8 @@ use Rattle.std.proofs.Common.{◌≡◌, ◌∙◌, ap, ℕ, zero, suc, ◌<◌,
 use Rattle.std.specs.Prelude.{min}
 use Rattle.std.specs.List.{flat_map}
 use Rattle.std.proofs.lemmas.List.{get_or-take, length-take}
-use Rattle.dsv_certfile.specs.Texts.{line_text, numbers_line, square_lines}
+use Rattle.dsv_lines.specs.Texts.{line_text}
+use Rattle.dsv_certfile.specs.Texts.{numbers_line, square_lines}
 use Rattle.dsv_certfile.specs.declared.keyword.Keyword.TheVariants as keyword
 
 abbrev pub pairs : List ℤ → List (List ℤ) → List (ℤ × List ℤ)

@@ -10,7 +10,7 @@ use Rattle.dsv_template.specs.declared.candidate.Candidate.{Candidate}
 use Rattle.dsv_template.specs.declared.candidate.Inequality.{Inequality}
 use Rattle.dsv_template.specs.declared.verdict.ThreeLogs.{ThreeLogs}
 use Rattle.dsv_hints.specs.declared.step.Step.{Step}
-use Rattle.dsv_certfile.specs.Answers.{reading_of}
+use Rattle.dsv_lines.specs.Readings.{reading_of}
 use Rattle.dsv_certfile.specs.Bodies.{lines_from, numbers_of, word_in, inequality_with, inequality_numbers, inequality_in, logs_in, invariant_in}
 use Rattle.dsv_certfile.specs.Keywords.{keyword_text}
 use Rattle.dsv_certfile.specs.Lawful.{IsEntry, IsInequality, IsSet, AreLogs}
@@ -24,7 +24,7 @@ use Rattle.dsv_certfile.specs.declared.keyword.Keyword.{Keyword}
 use Rattle.dsv_certfile.specs.declared.keyword.Keyword.TheVariants as keyword
 use Rattle.dsv_certfile.specs.declared.numbers.NumberRange.TheVariants as range
 use Rattle.dsv_certfile.specs.declared.places.Place.TheVariants as place
-use Rattle.dsv_certfile.proofs.WrittenLines.{IsPlain, IsLine, line_bytes, pieces_of-line_bytes}
+use Rattle.dsv_lines.proofs.WrittenLines.{IsPlain, IsLine, line_bytes, pieces_of-line_bytes}
 use Rattle.dsv_certfile.proofs.WrittenNumbers.{entry_read, entry_plain}
 use Rattle.dsv_certfile.proofs.WrittenParts.{Reader, Takes, and_read, takes_as, takes_both, takes_made, takes_line, takes_lines}
 use Rattle.dsv_certfile.proofs.WrittenPlaces.{row_written, keyword_plain, numbers_line-plain, numbers_of-line_bytes}

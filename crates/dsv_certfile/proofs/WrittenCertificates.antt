@@ -3,16 +3,17 @@ use Rattle.std.proofs.Common.{◌≡◌, ◌∙◌, sym, ap, ℕ, ◌^◌, ◌<�
 use Rattle.std.specs.List.{All}
 use Rattle.std.proofs.lemmas.List.Elements.{All-cons, All-nil, All-append}
 use Rattle.dsv_text.specs.Stages.{◌>>=◌}
-use Rattle.dsv_certfile.specs.Answers.{Reading}
+use Rattle.dsv_lines.specs.Readings.{Reading}
 use Rattle.dsv_certfile.specs.Bodies.{line_in, word_in, whole_text, invariant_in, falls_in}
 use Rattle.dsv_certfile.specs.Headings.{version_in, line_job, line_kind}
 use Rattle.dsv_certfile.specs.Lawful.{IsSize, IsWords, IsLawful}
 use Rattle.dsv_certfile.specs.Limits.{greatest_depth, most_gain_depth, most_places}
 use Rattle.dsv_template.specs.Limits.{most_inequalities}
-use Rattle.dsv_certfile.specs.Pieces.{unended, lines_of}
+use Rattle.dsv_lines.specs.Pieces.{unended, lines_of}
 use Rattle.dsv_certfile.specs.Reading.{words_in, heading_in, body_in, certificate_in}
 use Rattle.dsv_certfile.specs.Steps.{log_in}
-use Rattle.dsv_certfile.specs.Texts.{Line, log_lines, falls_lines, version_line, job_line, format_lines, head_lines, word_line, job_of, kind_line_of, body_lines, candidate_counts, certificate_lines, certificate_text, inequality_line, logs_lines}
+use Rattle.dsv_lines.specs.Texts.{Line}
+use Rattle.dsv_certfile.specs.Texts.{log_lines, falls_lines, version_line, job_line, format_lines, head_lines, word_line, job_of, kind_line_of, body_lines, candidate_counts, certificate_lines, certificate_text, inequality_line, logs_lines}
 use Rattle.dsv_certfile.specs.Words.{with_words}
 use Rattle.dsv_certfile.specs.declared.certificate.Certificate.{Certificate}
 use Rattle.dsv_certfile.specs.declared.certificate.Certificate.TheVariants as certificate
@@ -29,8 +30,9 @@ use Rattle.dsv_certfile.specs.declared.reader.Heading.{Heading}
 use Rattle.dsv_certfile.proofs.WrittenBodies.{word_plain, takes_word, takes_invariant, invariant_plain}
 use Rattle.dsv_certfile.proofs.WrittenFalls.{takes_falls, falls_plain}
 use Rattle.dsv_certfile.proofs.WrittenHeadings.{version_of, version_plain, version_back, job_back, job_line-plain, format_lines-plain, takes_words, kind_back, kind_line-plain}
-use Rattle.dsv_certfile.proofs.WrittenLines.{IsPlain, ArePlain, IsLine, line_bytes, onto_lines, onto_lines-append, lines-written}
-use Rattle.dsv_certfile.proofs.WrittenNumbers.{count_read, decimal_plain}
+use Rattle.dsv_lines.proofs.WrittenLines.{IsPlain, ArePlain, IsLine, line_bytes, onto_lines, onto_lines-append, lines-written}
+use Rattle.dsv_lines.proofs.WrittenNumerals.{decimal_plain}
+use Rattle.dsv_certfile.proofs.WrittenNumbers.{count_read}
 use Rattle.dsv_certfile.proofs.WrittenParts.{Reader, Takes, and_read, takes_as, takes_both, takes_made, takes_line, left_at}
 use Rattle.dsv_certfile.proofs.WrittenSteps.{takes_log, log_plain}
 

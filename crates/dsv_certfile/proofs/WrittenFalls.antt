@@ -9,7 +9,7 @@ use Rattle.dsv_forms.specs.Padded.{corner, matrix_with, form_with, squares_with}
 use Rattle.dsv_forms.specs.declared.offers.Form.{Form}
 use Rattle.dsv_forms.specs.declared.offers.Squares.{Squares}
 use Rattle.dsv_forms.specs.declared.offers.Falls.{Falls}
-use Rattle.dsv_certfile.specs.Answers.{reading_of}
+use Rattle.dsv_lines.specs.Readings.{reading_of}
 use Rattle.dsv_certfile.specs.Bodies.{numbers_of, numbers_in, rows_in, word_in, squares_in, falls_in}
 use Rattle.dsv_certfile.specs.Headings.{count_at}
 use Rattle.dsv_certfile.specs.Keywords.{keyword_text}
@@ -24,8 +24,9 @@ use Rattle.dsv_certfile.specs.declared.numbers.NumberRange.TheVariants as range
 use Rattle.dsv_certfile.specs.declared.places.Place.TheVariants as place
 use Rattle.dsv_certfile.proofs.Corners.{HasPlaces, filled_length, filled_rows}
 use Rattle.dsv_certfile.proofs.WrittenBodies.{takes_word}
-use Rattle.dsv_certfile.proofs.WrittenLines.{IsPlain, IsLine, line_bytes}
-use Rattle.dsv_certfile.proofs.WrittenNumbers.{whole_read, whole_plain, count_read, decimal_plain}
+use Rattle.dsv_lines.proofs.WrittenLines.{IsPlain, IsLine, line_bytes}
+use Rattle.dsv_lines.proofs.WrittenNumerals.{decimal_plain}
+use Rattle.dsv_certfile.proofs.WrittenNumbers.{whole_read, whole_plain, count_read}
 use Rattle.dsv_certfile.proofs.WrittenParts.{Reader, Takes, and_read, takes_as, takes_value, takes_both, takes_made, takes_line, takes_lines}
 use Rattle.dsv_certfile.proofs.WrittenPlaces.{row_written, keyword_plain, numbers_line-plain, numbers_of-line_bytes}
 

@@ -4,13 +4,14 @@ use Rattle.std.specs.List.{All}
 use Rattle.std.proofs.lemmas.List.Elements.{All-head, All-tail}
 use Rattle.dsv_base.proofs.TextLemmas.{end_nil}
 use Rattle.dsv_text.specs.Stages.{◌>>=◌}
-use Rattle.dsv_certfile.specs.Answers.{Reading, reading_of, at_line}
+use Rattle.dsv_lines.specs.Readings.{Reading, reading_of}
+use Rattle.dsv_certfile.specs.Answers.{at_line}
 use Rattle.dsv_certfile.specs.Bodies.{line_in, lines_from}
-use Rattle.dsv_certfile.specs.Pieces.{TextLines, LinesLeft}
-use Rattle.dsv_certfile.specs.Texts.{Line}
+use Rattle.dsv_lines.specs.Pieces.{TextLines, LinesLeft}
+use Rattle.dsv_lines.specs.Texts.{Line}
 use Rattle.dsv_certfile.specs.declared.fault.TextFault.{TextFault}
 use Rattle.dsv_certfile.specs.declared.fault.CertRefusal.{CertRefusal}
-use Rattle.dsv_certfile.proofs.WrittenLines.{line_bytes, onto_lines, onto_lines-append}
+use Rattle.dsv_lines.proofs.WrittenLines.{line_bytes, onto_lines, onto_lines-append}
 
 abbrev pub left_at : TextLines → ℕ → LinesLeft
 left_at ls n = record { lines = ls; number = n }

@@ -1,19 +1,12 @@
 -- What is read, and why it isn't.
 use Rattle.std.specs.Prelude.{◌≡◌, ℕ, Result, Ok, Err}
-use Rattle.dsv_certfile.specs.Pieces.{LinesLeft}
+use Rattle.dsv_lines.specs.Pieces.{LinesLeft}
+use Rattle.dsv_lines.specs.Readings.{Reading, reading_of}
 use Rattle.dsv_certfile.specs.declared.fault.TextFault.{TextFault}
 use Rattle.dsv_certfile.specs.declared.fault.LineRefusal.{LineRefusal}
 use Rattle.dsv_certfile.specs.declared.fault.LineRefusal.TheVariants as line_refusal
 use Rattle.dsv_certfile.specs.declared.fault.CertRefusal.{CertRefusal}
 use Rattle.dsv_certfile.specs.declared.fault.CertRefusal.TheVariants as refusal
-
--- what was read, and what is left of the text
-pub record Reading (X : Type 0) : Type 0 where
-  pub value : X
-  pub left : LinesLeft
-
-abbrev pub reading_of : {X : Type 0} → X → LinesLeft → Reading X
-reading_of x ls = record { value = x; left = ls }
 
 -- what a line of this number says, or its fault there
 abbrev pub at_line : {X : Type 0} → ℕ → Result X TextFault → Result X CertRefusal

@@ -7,9 +7,10 @@ use Rattle.dsv_forms.specs.declared.offers.Squares.{Squares}
 use Rattle.dsv_forms.specs.declared.offers.Falls.{Falls}
 use Rattle.dsv_template.specs.declared.candidate.Inequality.{Inequality}
 use Rattle.dsv_template.specs.declared.verdict.ThreeLogs.{ThreeLogs}
-use Rattle.dsv_certfile.specs.Answers.{Reading, reading_of, at_line}
+use Rattle.dsv_lines.specs.Readings.{Reading, reading_of}
+use Rattle.dsv_certfile.specs.Answers.{at_line}
 use Rattle.dsv_certfile.specs.Headings.{count_at}
-use Rattle.dsv_certfile.specs.Pieces.{TextLines, unended, line, LinesLeft, pieces_of}
+use Rattle.dsv_lines.specs.Pieces.{TextLines, unended, line, LinesLeft, pieces_of}
 use Rattle.dsv_certfile.specs.Places.{line_numbers, word_places, row_places, squares_places}
 use Rattle.dsv_certfile.specs.Places.{inequality_places}
 use Rattle.dsv_certfile.specs.Steps.{log_in}

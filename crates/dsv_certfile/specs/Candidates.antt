@@ -4,10 +4,11 @@ use Rattle.std.specs.Prelude.{ℤ, pos}
 use Rattle.std.specs.Int.RustNames.{unsigned_abs}
 use Rattle.arrayvec.specs.ArrayVec.{ArrayVec}
 use Rattle.dsv_template.specs.declared.candidate.Inequality.{Inequality}
-use Rattle.dsv_certfile.specs.Answers.{reading_of, Refuses}
+use Rattle.dsv_lines.specs.Readings.{reading_of}
+use Rattle.dsv_certfile.specs.Answers.{Refuses}
 use Rattle.dsv_certfile.specs.Bodies.{inequality_in, lines_from}
 use Rattle.dsv_certfile.specs.Limits.{greatest_entry}
-use Rattle.dsv_certfile.specs.Pieces.{LinesLeft}
+use Rattle.dsv_lines.specs.Pieces.{LinesLeft}
 use Rattle.dsv_certfile.specs.declared.fault.CertRefusal.{CertRefusal}
 
 -- no number is too great for an inequality

@@ -16,7 +16,7 @@ use Rattle.dsv_certfile.specs.Limits.{greatest_depth, greatest_int_bits, greates
 use Rattle.dsv_certfile.specs.Limits.{most_gain_depth, most_places}
 use Rattle.dsv_template.specs.Limits.{most_inequalities}
 use Rattle.dsv_certfile.specs.Numerals.{samples_of}
-use Rattle.dsv_certfile.specs.Pieces.{pieces_of}
+use Rattle.dsv_lines.specs.Pieces.{pieces_of, piece_at}
 use Rattle.dsv_certfile.specs.Places.{line_numbers}
 use Rattle.dsv_certfile.specs.declared.fault.TextFault.{TextFault}
 use Rattle.dsv_certfile.specs.declared.fault.TextFault.TheVariants as fault
@@ -42,10 +42,6 @@ version_in line = if bytes_eq line (version_text version.One) then Ok version.On
     else (if bytes_eq line (version_text version.Two) then Ok version.Two else Err fault.Version)
 
 -- ---- the job
--- a piece of a line; one that isn't there is empty, and so no name
-abbrev pub piece_at : List (List ℕ) → ℕ → List ℕ
-piece_at pieces i = slice_index_or pieces i []
-
 -- what a name names, and KIND where it names nothing
 abbrev pub or_kind : {X : Type 0} → Option X → Result X TextFault
 or_kind (Some x) = Ok x
@@ -61,7 +57,7 @@ abbrev pub whole_line : {X : Type 0} → X → List (List ℕ) → Result X Text
 whole_line x [] = Ok x
 whole_line x (piece ∷ pieces) = Err fault.Line
 
--- the value of the name at a place of the line
+-- the value of the name at a place of the line; a piece that isn't there is no name
 abbrev pub name_in : {X : Type 0} → (X → List ℕ) → List X → List (List ℕ) → ℕ → Result X TextFault
 name_in name values pieces i = or_kind (value_named name values (piece_at pieces i))
 

@@ -10,15 +10,12 @@ pub mod Lawful
 pub mod Limits
 pub mod Listing
 pub mod NextLine
-pub mod NextPiece
 pub mod Numerals
-pub mod Pieces
 pub mod Places
 pub mod PlacesRead
 pub mod Ranges
 pub mod Reading
 pub mod Steps
-pub mod TextCode
 pub mod Texts
 pub mod Typed
 pub mod Words

@@ -1,10 +1,10 @@
 -- The certificate that a text spells, or why it spells none and at which line.
 use Rattle.std.specs.Prelude.{ℕ, List, Result, Ok}
 use Rattle.dsv_text.specs.Stages.{◌>>=◌}
-use Rattle.dsv_certfile.specs.Answers.{Reading, reading_of}
+use Rattle.dsv_lines.specs.Readings.{Reading, reading_of}
 use Rattle.dsv_certfile.specs.Bodies.{line_in, word_in, whole_text, falls_in, invariant_in}
 use Rattle.dsv_certfile.specs.Headings.{version_in, line_job, line_format, line_kind}
-use Rattle.dsv_certfile.specs.Pieces.{LinesLeft, all_lines}
+use Rattle.dsv_lines.specs.Pieces.{LinesLeft, all_lines}
 use Rattle.dsv_certfile.specs.Steps.{log_in}
 use Rattle.dsv_certfile.specs.Words.{with_words}
 use Rattle.dsv_certfile.specs.declared.certificate.Certificate.{Certificate}

@@ -6,11 +6,12 @@ use Rattle.std.specs.Str.{bytes_eq}
 use Rattle.dsv_text.specs.Stages.{◌>>=◌}
 use Rattle.dsv_hints.specs.declared.step.Step.{Step}
 use Rattle.dsv_hints.specs.declared.step.Step.TheVariants.{Add, Delete}
-use Rattle.dsv_certfile.specs.Answers.{Reading, reading_of, at_line}
+use Rattle.dsv_lines.specs.Readings.{Reading, reading_of}
+use Rattle.dsv_certfile.specs.Answers.{at_line}
 use Rattle.dsv_certfile.specs.Headings.{or_number, whole_line}
 use Rattle.dsv_certfile.specs.Keywords.{keyword_text, deletion_text, zero_text}
 use Rattle.dsv_certfile.specs.Numerals.{id_of, literal_read}
-use Rattle.dsv_certfile.specs.Pieces.{TextLines, unended, line, LinesLeft, pieces_of}
+use Rattle.dsv_lines.specs.Pieces.{TextLines, unended, line, LinesLeft, pieces_of}
 use Rattle.dsv_certfile.specs.declared.fault.TextFault.{TextFault}
 use Rattle.dsv_certfile.specs.declared.fault.TextFault.TheVariants as fault
 use Rattle.dsv_certfile.specs.declared.fault.CertRefusal.{CertRefusal}

@@ -2,7 +2,7 @@
 use Rattle.std.specs.Prelude.{ℕ, ◌+◌, List, [], ◌∷◌, ◌++◌, length, map, take, codes, decimal, ℤ}
 use Rattle.std.specs.List.{flat_map}
 use Rattle.std.specs.Fmt.{signed_decimal}
-use Rattle.dsv_base.specs.Text.{line_of}
+use Rattle.dsv_lines.specs.Texts.{Line, line_text}
 use Rattle.dsv_names.specs.Properties.{property_name}
 use Rattle.dsv_names.specs.Realisations.{realisation_name}
 use Rattle.dsv_names.specs.Roundings.{rounding_name}
@@ -31,19 +31,6 @@ use Rattle.dsv_certfile.specs.declared.kind.Kind.{Kind}
 use Rattle.dsv_certfile.specs.declared.kind.Kind.TheVariants as kind
 
 -- ---- lines
--- a line as its pieces, of which there is one at least
-abbrev pub Line : Type 0
-Line = List (List ℕ)
-
--- a piece is written as it is
-abbrev pub piece_text : List ℕ → List ℕ
-piece_text piece = piece
-
--- the bytes of a line
-abbrev pub line_text : Line → List ℕ
-line_text [] = line_of piece_text [] []
-line_text (piece ∷ pieces) = line_of piece_text piece pieces
-
 -- a word alone
 abbrev pub word_line : Keyword → Line
 word_line w = keyword_text w ∷ []

@@ -8,11 +8,12 @@ ghost use Rattle.dsv_certfile.specs.declared.limits.TheConstants.{MOST_PLACES};
 
 use crate::fault::CertRefusal;
 use crate::keyword::Keyword;
-use crate::lines::Lines;
+use crate::lines::next_numbers;
 use crate::numbers::NumberRange;
 use crate::places::{Numbers, Place, squares_places, word_and_numbers};
 use arrayvec::ArrayVec;
 use dsv_forms::{Falls, Form, GREATEST_ORDER, Squares};
+use dsv_lines::Lines;
 use std::marker::Model;
 
 /// The numbers of at most eight lines. Contracts see them as a list of lists.
@@ -87,7 +88,7 @@ fn read_rows(lines: &mut Lines, places: &[Place], count: u32) -> Result<Rows, Ce
     let mut rows = Rows::new();
     let mut left = count;
     while left > 0 {
-        rows.push(lines.next_numbers(places)?);
+        rows.push(next_numbers(lines, places)?);
         left -= 1;
     }
     Ok(rows)
@@ -109,7 +110,7 @@ fn read_squares(lines: &mut Lines, word: Keyword, d: u32) -> Result<Squares, Cer
     requires { d ≤ most_places }
     ensures { Reads result lines.new (squares_in word d lines.old) }
 {
-    let head = lines.next_numbers(&squares_places(word))?;
+    let head = next_numbers(lines, &squares_places(word))?;
     let count = head.count_at(1);
     let squares = read_word_rows(lines, Keyword::Square, d + 1, count)?;
     let rest = read_word_rows(lines, Keyword::Rest, d, d)?;
@@ -130,7 +131,7 @@ pub(crate) fn read_falls(lines: &mut Lines, d: u32) -> Result<Falls, CertRefusal
     let rows = read_word_rows(lines, Keyword::Form, d, d)?;
     let positive = read_squares(lines, Keyword::Positive, d)?;
     let fall = read_squares(lines, Keyword::Fall, d)?;
-    let _ = lines.next_numbers(&[Place::Word(Keyword::End)])?;
+    let _ = next_numbers(lines, &[Place::Word(Keyword::End)])?;
     Ok(Falls {
         form: Form {
             d,

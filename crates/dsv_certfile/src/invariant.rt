@@ -10,11 +10,11 @@ ghost use Rattle.dsv_template.specs.Limits.{most_inequalities};
 use crate::fault::{CertRefusal, TextFault, at_line};
 use crate::keyword::Keyword;
 use crate::limits::MOST_INEQUALITY_NUMBERS;
-use crate::lines::Lines;
+use crate::lines::{next_line, next_numbers};
 use crate::numbers::NumberRange;
-use crate::pieces::{Pieces, spaces_in};
 use crate::places::{Numbers, Place, read_numbers, word_and_numbers};
 use crate::steps::read_log;
+use dsv_lines::{Lines, Pieces, spaces_in};
 use dsv_template::{Candidate, CoefficientList, Inequality, InequalityList, ThreeLogs};
 use std::alloc::Global;
 
@@ -67,7 +67,7 @@ fn inequality_of(line: &[u8]) -> Result<Inequality, TextFault>
 fn read_inequality(lines: &mut Lines) -> Result<Inequality, CertRefusal>
     ensures { Reads result lines.new (line_in inequality_in lines.old) }
 {
-    let line = lines.next_line()?;
+    let line = next_line(lines)?;
     at_line(line.number, inequality_of(line.text))
 }
 
@@ -89,7 +89,7 @@ fn read_inequalities(lines: &mut Lines, count: u32) -> Result<InequalityList, Ce
 fn read_logs(alloc: Global, lines: &mut Lines) -> Result<ThreeLogs, CertRefusal>
     ensures { Reads result lines.new (logs_in lines.old) }
 {
-    let _ = lines.next_numbers(&[Place::Word(Keyword::Base)])?;
+    let _ = next_numbers(lines, &[Place::Word(Keyword::Base)])?;
     let base = read_log(alloc, lines, Keyword::Step)?;
     let step = read_log(alloc, lines, Keyword::Safe)?;
     let safe = read_log(alloc, lines, Keyword::End)?;

@@ -1,14 +1,15 @@
 // What a certificate is about, and its line.
 ghost use Rattle.std.specs.Prelude.{◌≡◌};
 ghost use Rattle.dsv_certfile.specs.Headings.{format_in, job_in, size_in, size_of, version_in};
-ghost use Rattle.dsv_certfile.specs.Pieces.{pieces_of};
+ghost use Rattle.dsv_lines.specs.Pieces.{pieces_of};
 
 use crate::fault::TextFault;
 use crate::keyword::{Keyword, is_unbounded, is_version};
 use crate::limits::{GREATEST_FRAC_BITS, GREATEST_INT_BITS, NARROW_WORD_BITS};
 use crate::numbers::{NumberRange, samples_of};
-use crate::pieces::Pieces;
+use crate::pieces::{begin, end, next_named};
 use crate::places::{Place, read_numbers};
+use dsv_lines::Pieces;
 use dsv_names::{Design, OverflowMode, Property, Realisation, Rounding};
 
 /// How many samples a job is about.
@@ -109,7 +110,7 @@ fn read_size(mut pieces: Pieces) -> Result<Size, TextFault>
         return Ok(Size::NoSize);
     };
     let size = size_of_piece(piece)?;
-    pieces.end()?;
+    end(&pieces)?;
     Ok(size)
 }
 
@@ -118,11 +119,11 @@ pub(crate) fn read_job(line: &[u8]) -> Result<CertifiedJob, TextFault>
     ensures { result ≡ job_in (pieces_of line.now) }
 {
     let mut pieces = Pieces::new(line);
-    pieces.begin(Keyword::Job)?;
-    let property: Property = pieces.next_named()?;
-    let realisation: Realisation = pieces.next_named()?;
-    let rounding: Rounding = pieces.next_named()?;
-    let overflow: OverflowMode = pieces.next_named()?;
+    begin(&mut pieces, Keyword::Job)?;
+    let property: Property = next_named(&mut pieces)?;
+    let realisation: Realisation = next_named(&mut pieces)?;
+    let rounding: Rounding = next_named(&mut pieces)?;
+    let overflow: OverflowMode = next_named(&mut pieces)?;
     let size = read_size(pieces)?;
     let design = Design {
         realisation,

@@ -3,16 +3,17 @@ ghost use Rattle.std.specs.Prelude.{◌≡◌, IfOk};
 ghost use Rattle.dsv_certfile.specs.Headings.{kind_in, head_in, of_job};
 ghost use Rattle.dsv_certfile.specs.Heads.{IsHead};
 ghost use Rattle.dsv_certfile.specs.Kinds.{is_kind_of};
-ghost use Rattle.dsv_certfile.specs.Pieces.{pieces_of};
+ghost use Rattle.dsv_lines.specs.Pieces.{pieces_of};
 
 use crate::fault::TextFault;
 use crate::job::{CertifiedJob, Size};
 use crate::keyword::Keyword;
 use crate::limits::MOST_GAIN_DEPTH;
 use crate::numbers::NumberRange;
-use crate::pieces::Pieces;
+use crate::pieces::{begin, next_named};
 use crate::places::{Place, read_numbers};
 use dsv_forms::GREATEST_ORDER;
+use dsv_lines::Pieces;
 use dsv_names::{Named, Property, RunProperty};
 use dsv_template::MOST_INEQUALITIES;
 
@@ -127,8 +128,8 @@ pub(crate) fn read_kind(job: &CertifiedJob, line: &[u8]) -> Result<KindHead, Tex
     ensures within { IfOk result IsHead }
 {
     let mut pieces = Pieces::new(line);
-    pieces.begin(Keyword::Kind)?;
-    let kind: Kind = pieces.next_named()?;
+    begin(&mut pieces, Keyword::Kind)?;
+    let kind: Kind = next_named(&mut pieces)?;
     let kind = of_job(job, kind)?;
     read_head(kind, pieces)
 }

@@ -10,9 +10,10 @@ use crate::fault::TextFault;
 use crate::keyword::Keyword;
 use crate::limits::{MOST_PLACES, MOST_SQUARES};
 use crate::numbers::NumberRange;
-use crate::pieces::Pieces;
+use crate::pieces::end;
 use arrayvec::ArrayVec;
 use dsv_forms::GREATEST_ORDER;
+use dsv_lines::Pieces;
 use std::marker::Model;
 
 /// What is wanted at a place of a line: a word, or a number of a range.
@@ -164,7 +165,7 @@ fn numbers_at(places: &[Place], mut pieces: Pieces) -> Result<Numbers, TextFault
         let is_kept = read_place(&mut numbers, place, piece)?;
         has_words = has_words && is_kept;
     }
-    pieces.end()?;
+    end(&pieces)?;
     if has_words {
         Ok(numbers)
     } else {

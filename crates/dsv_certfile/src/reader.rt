@@ -12,9 +12,10 @@ use crate::invariant::read_invariant;
 use crate::job::{CertWords, CertifiedJob, Version, read_format, read_job, read_version};
 use crate::keyword::Keyword;
 use crate::kind::{KindHead, read_kind};
-use crate::lines::Lines;
+use crate::lines::{end, next_line, next_numbers};
 use crate::places::Place;
 use crate::steps::read_log;
+use dsv_lines::Lines;
 use std::alloc::Global;
 
 /// What the lines up to that of the kind say.
@@ -31,7 +32,7 @@ fn read_words(lines: &mut Lines, version: Version) -> Result<CertWords, CertRefu
     match version {
         Version::One => Ok(CertWords::Unsaid),
         Version::Two => {
-            let line = lines.next_line()?;
+            let line = next_line(lines)?;
             at_line(line.number, read_format(line.text))
         }
     }
@@ -41,13 +42,13 @@ fn read_heading(lines: &mut Lines) -> Result<Heading, CertRefusal>
     ensures answer { Reads result lines.new (heading_in lines.old) }
     ensures within { IfOk result (λ heading. IsHead heading.kind) }
 {
-    let line = lines.next_line()?;
+    let line = next_line(lines)?;
     let version = at_line(line.number, read_version(line.text))?;
-    let line = lines.next_line()?;
+    let line = next_line(lines)?;
     let job = at_line(line.number, read_job(line.text))?;
     let words = read_words(lines, version)?;
     let job = CertifiedJob { words, ..job };
-    let line = lines.next_line()?;
+    let line = next_line(lines)?;
     let kind = at_line(line.number, read_kind(&job, line.text))?;
     Ok(Heading { job, kind })
 }
@@ -72,7 +73,7 @@ fn read_body(alloc: Global, lines: &mut Lines, heading: Heading) -> Result<Certi
             })
         }
         KindHead::Gain { depth } => {
-            let _ = lines.next_numbers(&[Place::Word(Keyword::End)])?;
+            let _ = next_numbers(lines, &[Place::Word(Keyword::End)])?;
             Ok(Certificate::Gain { job, depth })
         }
         KindHead::Falls { places } => Ok(Certificate::Falls {
@@ -92,6 +93,6 @@ pub fn read(alloc: Global, bytes: &[u8]) -> Result<Certificate, CertRefusal>
     let mut lines = Lines::new(bytes);
     let heading = read_heading(&mut lines)?;
     let certificate = read_body(alloc, &mut lines, heading)?;
-    lines.end()?;
+    end(&lines)?;
     Ok(certificate)
 }

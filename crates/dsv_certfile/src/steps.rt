@@ -3,17 +3,18 @@ ghost use Rattle.std.specs.Prelude.{◌≡◌, drop};
 ghost use Rattle.dsv_certfile.specs.Answers.{Gives, LineGives, Reads, at_line};
 ghost use Rattle.dsv_certfile.specs.Listing.{ListsUpTo};
 ghost use Rattle.dsv_certfile.specs.Numerals.{id_of, literal_read};
-ghost use Rattle.dsv_certfile.specs.Pieces.{pieces_of};
+ghost use Rattle.dsv_lines.specs.Pieces.{pieces_of};
 ghost use Rattle.dsv_certfile.specs.Steps.{step_in, step_after, step_id, deletion_in, addition_in};
 ghost use Rattle.dsv_certfile.specs.Steps.{log_in};
 
 use crate::fault::{CertRefusal, LineRefusal, TextFault};
 use crate::keyword::{Keyword, is_list_end};
-use crate::lines::{Line, Lines};
+use crate::lines::next_line;
 use crate::numbers::{id_of, literal_of};
-use crate::pieces::Pieces;
+use crate::pieces::{end, says_deletion};
 use dsv_cnf::Lit;
 use dsv_hints::{HintList, LitList, Log, Step};
+use dsv_lines::{Line, Lines, Pieces};
 use std::alloc::Global;
 
 /// Reads literals up to the 0 that ends them.
@@ -55,7 +56,7 @@ fn read_deletion(alloc: Global, id: u64, mut pieces: Pieces) -> Result<Step, Lin
     ensures { LineGives result (deletion_in id pieces.entry) }
 {
     let ids = read_ids(alloc, &mut pieces)?;
-    pieces.end()?;
+    end(&pieces)?;
     Ok(Step::Delete {
         id,
         ids: HintList::from_slice(alloc, ids.as_slice())?,
@@ -68,7 +69,7 @@ fn read_addition(alloc: Global, id: u64, mut pieces: Pieces) -> Result<Step, Lin
 {
     let lits = read_literals(alloc, &mut pieces)?;
     let hints = read_ids(alloc, &mut pieces)?;
-    pieces.end()?;
+    end(&pieces)?;
     Ok(Step::Add {
         id,
         lits: LitList::from_slice(alloc, lits.as_slice())?,
@@ -80,7 +81,7 @@ fn read_addition(alloc: Global, id: u64, mut pieces: Pieces) -> Result<Step, Lin
 fn read_step_after(alloc: Global, id: u64, mut pieces: Pieces) -> Result<Step, LineRefusal>
     ensures { LineGives result (step_after id pieces.entry) }
 {
-    if pieces.says_deletion() {
+    if says_deletion(&pieces) {
         let _ = pieces.next_piece();
         read_deletion(alloc, id, pieces)
     } else {
@@ -128,7 +129,7 @@ pub(crate) fn read_log(alloc: Global, lines: &mut Lines, word: Keyword) -> Resul
 {
     let mut log = Log::new(alloc);
     'steps: loop {
-        let line = lines.next_line()?;
+        let line = next_line(lines)?;
         if line.text == word.text() {
             return Ok(log);
         }

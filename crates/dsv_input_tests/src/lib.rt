@@ -1,5 +1,6 @@
-//! Tests of the input: what controller files and arguments are read as. Expected values are worked
-//! by hand from the format of controller files and the rules of the command.
+//! Tests of the input: what controller files, the files of state-space controllers and arguments
+//! are read as. Expected values are worked by hand from the formats of the files and the rules of
+//! the command.
 #![tactic(auto)]
 
 #[cfg(test)]
@@ -12,5 +13,7 @@ mod faults;
 mod files;
 #[cfg(test)]
 mod numbers;
+#[cfg(test)]
+mod state_files;
 #[cfg(test)]
 mod tokens;

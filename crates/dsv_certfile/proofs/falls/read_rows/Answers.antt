@@ -21,7 +21,7 @@ loop-left-preserved c =
     let more : l.left ≡ suc (l.left - 1) = omega (arith, c.loop-left-test.true) in
     record {
       few = omega (arith, ap length c.push.ensures, length-append l.rows (x ∷ []), l.invariant.few, more);
-      rest = ap (λ xs. lines_from (numbers_of places) (l.left - 1) xs c.next_numbers.new.self) c.push.ensures
-          ∙ sym (one_line (numbers_of places) l.left (l.left - 1) l.rows l.lines c.next_numbers.new.self x more c.in_ok-next_numbers.ensures.answer)
+      rest = ap (λ xs. lines_from (numbers_of places) (l.left - 1) xs c.next_numbers.new.lines) c.push.ensures
+          ∙ sym (one_line (numbers_of places) l.left (l.left - 1) l.rows l.lines c.next_numbers.new.lines x more c.in_ok-next_numbers.ensures.answer)
           ∙ l.invariant.rest;
     }

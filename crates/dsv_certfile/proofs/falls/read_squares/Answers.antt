@@ -3,7 +3,7 @@ use Rattle.std.proofs.Math.IntN.{pos}
 use Rattle.std.proofs.lemmas.Int.{to_z-of_z}
 use mir.Syntax.{w128}
 use mir.Val.{SFits, to_z, of_z}
-use Rattle.dsv_certfile.specs.Answers.{reading_of}
+use Rattle.dsv_lines.specs.Readings.{reading_of}
 use Rattle.dsv_certfile.specs.Bodies.{numbers_in}
 use Rattle.dsv_certfile.proofs.BodyLemmas.{squares_read, squares_made}
 use Rattle.dsv_certfile.proofs.falls.read_squares.Goals as goal
@@ -17,7 +17,7 @@ returns c =
     let head = c.in_ok-head.head in
     let squares = c.in_ok-squares.squares in
     let rest = c.in_ok-rest.rest in
-    squares_read a.word a.d c.count_at-count.result a.lines.now c.next_numbers.new.self c.read_word_rows.new.lines c.read_word_rows-2.new.lines head squares rest
+    squares_read a.word a.d c.count_at-count.result a.lines.now c.next_numbers.new.lines c.read_word_rows.new.lines c.read_word_rows-2.new.lines head squares rest
     (ap (λ places. numbers_in places a.lines.now) (sym c.squares_places.ensures) ∙ c.in_ok-head.ensures.answer) c.count_at-count.ensures c.in_ok-squares.ensures.answer c.in_ok-rest.ensures.answer
     ∙ ap (λ s. Ok (reading_of s c.read_word_rows-2.new.lines))
     (squares_made (to_z w128 (of_z w128 m)) (get_or head 0 (pos 0)) c.count_at-count.result c.firsts.result c.matrix_from.result c.matrix_from-2.result squares rest

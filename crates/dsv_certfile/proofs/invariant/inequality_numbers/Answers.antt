@@ -1,6 +1,6 @@
 use Rattle.std.proofs.Common.{◌≡◌, ◌≤◌, ◌+◌, ◌-◌, ◌∷◌, IfOk, length, take, replicate, ap, ◌∙◌, arith}
 use Rattle.std.specs.Prelude.{min, max}
-use Rattle.dsv_certfile.specs.Pieces.{pieces_of}
+use Rattle.dsv_lines.specs.Pieces.{pieces_of}
 use Rattle.dsv_certfile.specs.Places.{line_numbers, inequality_places}
 use Rattle.dsv_certfile.specs.Ranges.{AreOf}
 use Rattle.dsv_certfile.specs.declared.keyword.Keyword.TheVariants as keyword

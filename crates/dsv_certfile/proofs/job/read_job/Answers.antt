@@ -4,21 +4,22 @@ use Rattle.dsv_names.specs.Properties.{property_name, properties}
 use Rattle.dsv_names.specs.Realisations.{realisation_name, realisations}
 use Rattle.dsv_names.specs.Roundings.{rounding_name, roundings}
 use Rattle.dsv_names.specs.OverflowModes.{overflow_mode_name, overflow_modes}
-use Rattle.dsv_certfile.specs.Headings.{beginning, name_in, or_kind, piece_at, size_in}
+use Rattle.dsv_certfile.specs.Headings.{beginning, name_in, or_kind, size_in}
 use Rattle.dsv_certfile.specs.Keywords.{keyword_text}
-use Rattle.dsv_certfile.specs.Pieces.{pieces_of}
+use Rattle.dsv_lines.specs.Pieces.{pieces_of, piece_at}
+use Rattle.dsv_lines.proofs.PieceLemmas.{drop_more, piece_from}
 use Rattle.dsv_certfile.specs.declared.keyword.Keyword.TheVariants as keyword
-use Rattle.dsv_certfile.proofs.HeadingLemmas.{drop_more, piece_from, no_mode, no_size, whole_job}
+use Rattle.dsv_certfile.proofs.HeadingLemmas.{no_mode, no_size, whole_job}
 use Rattle.dsv_certfile.proofs.job.read_job.Goals as goal
 
 pub returns-in_err-overflow : goal.returns-in_err-overflow
 returns-in_err-overflow c =
     let ps = pieces_of c.args.line.now in
     let d0 : c.new-pieces.result ≡ ps = c.new-pieces.ensures in
-    let d1 : c.begin.new.self ≡ drop 1 ps = c.in_ok-begin.ensures.rest ∙ ap (drop 1) d0 in
-    let d2 : c.next_named.new.self ≡ drop 2 ps = c.in_ok-property.ensures.rest ∙ ap (drop 1) d1 ∙ drop_more 1 ps in
-    let d3 : c.next_named-2.new.self ≡ drop 3 ps = c.in_ok-realisation.ensures.rest ∙ ap (drop 1) d2 ∙ drop_more 2 ps in
-    let d4 : c.next_named-3.new.self ≡ drop 4 ps = c.in_ok-rounding.ensures.rest ∙ ap (drop 1) d3 ∙ drop_more 3 ps in
+    let d1 : c.begin.new.pieces ≡ drop 1 ps = c.in_ok-begin.ensures.rest ∙ ap (drop 1) d0 in
+    let d2 : c.next_named.new.pieces ≡ drop 2 ps = c.in_ok-property.ensures.rest ∙ ap (drop 1) d1 ∙ drop_more 1 ps in
+    let d3 : c.next_named-2.new.pieces ≡ drop 3 ps = c.in_ok-realisation.ensures.rest ∙ ap (drop 1) d2 ∙ drop_more 2 ps in
+    let d4 : c.next_named-3.new.pieces ≡ drop 4 ps = c.in_ok-rounding.ensures.rest ∙ ap (drop 1) d3 ∙ drop_more 3 ps in
     let b : beginning (keyword_text keyword.Job) ps ≡ Ok tt = ap (beginning (keyword_text keyword.Job)) (sym d0) ∙ sym c.in_ok-begin.ensures.answer in
     let n1 : name_in property_name properties ps 1 ≡ Ok c.in_ok-property.property =
     ap (λ piece. or_kind (value_named property_name properties piece)) (sym (piece_from 1 ps) ∙ ap (λ qs. piece_at qs 0) (sym d1)) ∙ sym c.in_ok-property.ensures.answer in
@@ -36,11 +37,11 @@ pub returns-in_err-size : goal.returns-in_err-size
 returns-in_err-size c =
     let ps = pieces_of c.args.line.now in
     let d0 : c.new-pieces.result ≡ ps = c.new-pieces.ensures in
-    let d1 : c.begin.new.self ≡ drop 1 ps = c.in_ok-begin.ensures.rest ∙ ap (drop 1) d0 in
-    let d2 : c.next_named.new.self ≡ drop 2 ps = c.in_ok-property.ensures.rest ∙ ap (drop 1) d1 ∙ drop_more 1 ps in
-    let d3 : c.next_named-2.new.self ≡ drop 3 ps = c.in_ok-realisation.ensures.rest ∙ ap (drop 1) d2 ∙ drop_more 2 ps in
-    let d4 : c.next_named-3.new.self ≡ drop 4 ps = c.in_ok-rounding.ensures.rest ∙ ap (drop 1) d3 ∙ drop_more 3 ps in
-    let d5 : c.next_named-4.new.self ≡ drop 5 ps = c.in_ok-overflow.ensures.rest ∙ ap (drop 1) d4 ∙ drop_more 4 ps in
+    let d1 : c.begin.new.pieces ≡ drop 1 ps = c.in_ok-begin.ensures.rest ∙ ap (drop 1) d0 in
+    let d2 : c.next_named.new.pieces ≡ drop 2 ps = c.in_ok-property.ensures.rest ∙ ap (drop 1) d1 ∙ drop_more 1 ps in
+    let d3 : c.next_named-2.new.pieces ≡ drop 3 ps = c.in_ok-realisation.ensures.rest ∙ ap (drop 1) d2 ∙ drop_more 2 ps in
+    let d4 : c.next_named-3.new.pieces ≡ drop 4 ps = c.in_ok-rounding.ensures.rest ∙ ap (drop 1) d3 ∙ drop_more 3 ps in
+    let d5 : c.next_named-4.new.pieces ≡ drop 5 ps = c.in_ok-overflow.ensures.rest ∙ ap (drop 1) d4 ∙ drop_more 4 ps in
     let b : beginning (keyword_text keyword.Job) ps ≡ Ok tt = ap (beginning (keyword_text keyword.Job)) (sym d0) ∙ sym c.in_ok-begin.ensures.answer in
     let n1 : name_in property_name properties ps 1 ≡ Ok c.in_ok-property.property =
     ap (λ piece. or_kind (value_named property_name properties piece)) (sym (piece_from 1 ps) ∙ ap (λ qs. piece_at qs 0) (sym d1)) ∙ sym c.in_ok-property.ensures.answer in
@@ -59,11 +60,11 @@ pub returns : goal.returns
 returns c =
     let ps = pieces_of c.args.line.now in
     let d0 : c.new-pieces.result ≡ ps = c.new-pieces.ensures in
-    let d1 : c.begin.new.self ≡ drop 1 ps = c.in_ok-begin.ensures.rest ∙ ap (drop 1) d0 in
-    let d2 : c.next_named.new.self ≡ drop 2 ps = c.in_ok-property.ensures.rest ∙ ap (drop 1) d1 ∙ drop_more 1 ps in
-    let d3 : c.next_named-2.new.self ≡ drop 3 ps = c.in_ok-realisation.ensures.rest ∙ ap (drop 1) d2 ∙ drop_more 2 ps in
-    let d4 : c.next_named-3.new.self ≡ drop 4 ps = c.in_ok-rounding.ensures.rest ∙ ap (drop 1) d3 ∙ drop_more 3 ps in
-    let d5 : c.next_named-4.new.self ≡ drop 5 ps = c.in_ok-overflow.ensures.rest ∙ ap (drop 1) d4 ∙ drop_more 4 ps in
+    let d1 : c.begin.new.pieces ≡ drop 1 ps = c.in_ok-begin.ensures.rest ∙ ap (drop 1) d0 in
+    let d2 : c.next_named.new.pieces ≡ drop 2 ps = c.in_ok-property.ensures.rest ∙ ap (drop 1) d1 ∙ drop_more 1 ps in
+    let d3 : c.next_named-2.new.pieces ≡ drop 3 ps = c.in_ok-realisation.ensures.rest ∙ ap (drop 1) d2 ∙ drop_more 2 ps in
+    let d4 : c.next_named-3.new.pieces ≡ drop 4 ps = c.in_ok-rounding.ensures.rest ∙ ap (drop 1) d3 ∙ drop_more 3 ps in
+    let d5 : c.next_named-4.new.pieces ≡ drop 5 ps = c.in_ok-overflow.ensures.rest ∙ ap (drop 1) d4 ∙ drop_more 4 ps in
     let b : beginning (keyword_text keyword.Job) ps ≡ Ok tt = ap (beginning (keyword_text keyword.Job)) (sym d0) ∙ sym c.in_ok-begin.ensures.answer in
     let n1 : name_in property_name properties ps 1 ≡ Ok c.in_ok-property.property =
     ap (λ piece. or_kind (value_named property_name properties piece)) (sym (piece_from 1 ps) ∙ ap (λ qs. piece_at qs 0) (sym d1)) ∙ sym c.in_ok-property.ensures.answer in

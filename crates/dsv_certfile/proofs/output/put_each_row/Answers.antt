@@ -1,7 +1,8 @@
 use Rattle.std.proofs.Common.{[], take, arith}
 use Rattle.dsv_base.proofs.TakingLemmas.{writes_err}
 use Rattle.dsv_base.proofs.ListWrites.{wrote_item, cut_item}
-use Rattle.dsv_certfile.specs.Texts.{line_text, numbers_line}
+use Rattle.dsv_lines.specs.Texts.{line_text}
+use Rattle.dsv_certfile.specs.Texts.{numbers_line}
 use Rattle.std.proofs.lemmas.List.Elements.{All-more}
 use Rattle.dsv_certfile.specs.Typed.{IsTypedRow}
 use Rattle.dsv_certfile.proofs.output.put_each_row.Goals as goal

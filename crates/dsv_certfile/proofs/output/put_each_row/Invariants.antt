@@ -1,7 +1,8 @@
 use Rattle.std.proofs.Common.{take}
 use Rattle.std.specs.List.{All, flat_map}
 use Rattle.dsv_base.specs.Taking.{Wrote}
-use Rattle.dsv_certfile.specs.Texts.{line_text, numbers_line}
+use Rattle.dsv_lines.specs.Texts.{line_text}
+use Rattle.dsv_certfile.specs.Texts.{numbers_line}
 use Rattle.dsv_certfile.specs.Typed.{IsTypedRow}
 use Rattle.dsv_certfile.proofs.output.put_each_row.Given as goal
 

@@ -1,7 +1,8 @@
 use Rattle.std.proofs.Common.{take}
 use Rattle.std.specs.List.{flat_map}
 use Rattle.dsv_base.specs.Taking.{Wrote}
-use Rattle.dsv_certfile.specs.Texts.{line_text, step_line}
+use Rattle.dsv_lines.specs.Texts.{line_text}
+use Rattle.dsv_certfile.specs.Texts.{step_line}
 use Rattle.dsv_certfile.specs.Typed.{IsTypedLog}
 use Rattle.dsv_certfile.proofs.output.put_steps.Given as goal
 

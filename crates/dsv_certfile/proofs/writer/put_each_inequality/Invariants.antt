@@ -1,7 +1,8 @@
 use Rattle.std.proofs.Common.{take}
 use Rattle.std.specs.List.{All, flat_map}
 use Rattle.dsv_base.specs.Taking.{Wrote}
-use Rattle.dsv_certfile.specs.Texts.{line_text, inequality_line}
+use Rattle.dsv_lines.specs.Texts.{line_text}
+use Rattle.dsv_certfile.specs.Texts.{inequality_line}
 use Rattle.dsv_certfile.specs.Typed.{IsTypedInequality}
 use Rattle.dsv_certfile.proofs.writer.put_each_inequality.Given as goal
 

@@ -1,7 +1,8 @@
 use Rattle.std.proofs.Common.{◌++◌}
 use Rattle.std.specs.List.{flat_map}
 use Rattle.dsv_base.proofs.TakingLemmas.{writes_after, writes_cut}
-use Rattle.dsv_certfile.specs.Texts.{line_text, job_line, format_lines}
+use Rattle.dsv_lines.specs.Texts.{line_text}
+use Rattle.dsv_certfile.specs.Texts.{job_line, format_lines}
 use Rattle.dsv_certfile.proofs.writer.put_head.Goals as goal
 
 pub returns-in_err-put_version : goal.returns-in_err-put_version

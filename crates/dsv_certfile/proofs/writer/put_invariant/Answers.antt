@@ -2,7 +2,8 @@ use Rattle.std.proofs.Common.{map, sym}
 use Rattle.std.specs.List.{flat_map}
 use Rattle.dsv_base.proofs.TakingLemmas.{writes_after, writes_cut}
 use Rattle.std.proofs.lemmas.Grind.{flat_map-append}
-use Rattle.dsv_certfile.specs.Texts.{line_text, inequality_line, logs_lines}
+use Rattle.dsv_lines.specs.Texts.{line_text}
+use Rattle.dsv_certfile.specs.Texts.{inequality_line, logs_lines}
 use Rattle.dsv_certfile.proofs.LineTexts.{writes_as}
 use Rattle.dsv_certfile.proofs.writer.put_invariant.Goals as goal
 

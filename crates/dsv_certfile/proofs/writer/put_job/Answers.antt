@@ -5,7 +5,8 @@ use Rattle.dsv_names.specs.Properties.{property_name}
 use Rattle.dsv_names.specs.Realisations.{realisation_name}
 use Rattle.dsv_names.specs.Roundings.{rounding_name}
 use Rattle.dsv_names.specs.OverflowModes.{overflow_mode_name}
-use Rattle.dsv_certfile.specs.Texts.{piece_text, line_text, job_line, size_pieces}
+use Rattle.dsv_lines.specs.Texts.{piece_text, line_text}
+use Rattle.dsv_certfile.specs.Texts.{job_line, size_pieces}
 use Rattle.dsv_certfile.specs.declared.job.CertifiedJob.{CertifiedJob}
 use Rattle.dsv_certfile.proofs.LineTexts.{spaced, writes_as, four-text}
 use Rattle.dsv_certfile.proofs.writer.put_job.Goals as goal

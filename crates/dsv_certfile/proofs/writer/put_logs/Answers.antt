@@ -1,7 +1,8 @@
 use Rattle.std.proofs.Common.{◌++◌}
 use Rattle.std.specs.List.{flat_map}
 use Rattle.dsv_base.proofs.TakingLemmas.{writes_after, writes_cut}
-use Rattle.dsv_certfile.specs.Texts.{line_text, word_line, log_lines}
+use Rattle.dsv_lines.specs.Texts.{line_text}
+use Rattle.dsv_certfile.specs.Texts.{word_line, log_lines}
 use Rattle.dsv_certfile.specs.declared.keyword.Keyword.TheVariants as keyword
 use Rattle.dsv_certfile.proofs.LineTexts.{writes_as, sections-text}
 use Rattle.dsv_certfile.proofs.writer.put_logs.Goals as goal

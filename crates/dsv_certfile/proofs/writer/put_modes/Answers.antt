@@ -1,7 +1,7 @@
 use Rattle.dsv_base.specs.Text.{spaced_text}
 use Rattle.dsv_base.proofs.TakingLemmas.{writes_after, writes_cut}
 use Rattle.dsv_names.specs.OverflowModes.{overflow_mode_name}
-use Rattle.dsv_certfile.specs.Texts.{piece_text}
+use Rattle.dsv_lines.specs.Texts.{piece_text}
 use Rattle.dsv_certfile.proofs.writer.put_modes.Goals as goal
 
 pub returns-in_err-put_name : goal.returns-in_err-put_name

@@ -1,7 +1,8 @@
 use Rattle.std.proofs.Common.{List, [], ◌++◌}
 use Rattle.std.specs.List.{flat_map}
 use Rattle.dsv_base.proofs.TakingLemmas.{writes_after, writes_cut}
-use Rattle.dsv_certfile.specs.Texts.{Line, line_text, head_lines, kind_line, log_lines, word_line}
+use Rattle.dsv_lines.specs.Texts.{Line, line_text}
+use Rattle.dsv_certfile.specs.Texts.{head_lines, kind_line, log_lines, word_line}
 use Rattle.dsv_certfile.specs.declared.keyword.Keyword.TheVariants as keyword
 use Rattle.dsv_certfile.specs.declared.kind.Kind.TheVariants as kind
 use Rattle.dsv_certfile.proofs.LineTexts.{writes_as, framed-text}

@@ -1,0 +1,19 @@
+-- Stages that follow one another, and parts of a line that were read.
+use Rattle.std.proofs.Common.{◌≡◌, Bool, true, false, refl}
+use Rattle.std.specs.Prelude.{Result, Ok, Err, if◌then◌else◌}
+use Rattle.dsv_text.specs.Stages.{◌>>=◌}
+
+pub record Bound {A B E : Type 0} (r : Result A E) (f : A → Result B E) (y : B) : Type 0 where
+  pub value : A
+  pub first : r ≡ Ok value
+  pub second : f value ≡ Ok y
+
+-- what came from two stages came from both
+pub unbind : {A B E : Type 0} (r : Result A E) (f : A → Result B E) (y : B) → (r >>= f) ≡ Ok y → Bound r f y
+unbind (Ok x) f y e = record { value = x; first = refl; second = e }
+unbind (Err d) f y e = absurd (cc)
+
+-- a test that was passed
+pub passed : {A E : Type 0} (b : Bool) (x y : A) (why : E) → (if b then Ok x else Err why) ≡ Ok y → (b ≡ true) × (x ≡ y)
+passed true x y why e = (refl, cc)
+passed false x y why e = absurd (cc)

@@ -1,0 +1,9 @@
+pub mod Binds
+pub mod FileStages
+pub mod PlainDecimals
+pub mod ReadFiles
+pub mod ReadParts
+pub mod Stages
+pub mod Suffixes
+pub mod Worked
+pub mod WrittenFiles

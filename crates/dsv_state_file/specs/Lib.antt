@@ -1,0 +1,7 @@
+pub mod Decimals
+pub mod Heads
+pub mod Inside
+pub mod Limits
+pub mod Reading
+pub mod StateFiles
+pub mod StateTexts
