@@ -1,7 +1,7 @@
 pub mod Accepted
+pub mod CycleLemmas
 pub mod Deciding
 pub mod Questions
 pub mod StartLemmas
-pub mod Traces
 pub mod Verdicts
 pub mod WordValues

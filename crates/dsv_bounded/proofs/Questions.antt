@@ -1,5 +1,5 @@
 -- Goals ask what their makers say of the values, and what values have is so of inputs and starts.
-use Rattle.std.proofs.Common.{◌≡◌, ℕ, ◌-◌, ◌<◌, ◌≤◌, true, List, [], ◌∷◌, ◌++◌, refl, arith, ap, sym, subst, ◌∙◌, length, replicate, take, drop}
+use Rattle.std.proofs.Common.{◌≡◌, ℕ, ◌<◌, ◌≤◌, true, List, [], ◌∷◌, ◌++◌, refl, arith, ap, sym, subst, ◌∙◌, length, take, drop}
 use Rattle.std.specs.Prelude.{◌≢◌, ◌↔◌, ◌≤ℤ◌, slice_index}
 use Rattle.std.specs.List.{All}
 use Rattle.std.proofs.Math.IntN.{ℤ, pos}
@@ -8,8 +8,6 @@ use Rattle.std.proofs.lemmas.List.{length-map, length-drop, length-take, take-ap
 use Rattle.std.proofs.lemmas.List.Elements.{All-weaker, All-drop, All-head, All-tail}
 use Rattle.dsv_word.specs.declared.format.Format.{Format}
 use Rattle.dsv_word.specs.Words.{width, IsWord}
-use Rattle.dsv_meaning.specs.Equations.{Past, order, registers_of, forward_registers_of}
-use Rattle.dsv_meaning.specs.Systems.{equations_of}
 use Rattle.dsv_quantiser.specs.QuantisedView.{QuantisedView, IsQuantisedView}
 use Rattle.dsv_system.specs.Breaks.{Breaks}
 use Rattle.dsv_system.specs.Cycles.{Cycles}
@@ -24,14 +22,13 @@ use Rattle.dsv_term.specs.TermNode.{node_word}
 use Rattle.dsv_term.specs.Word.{bit_of}
 use Rattle.dsv_term.proofs.Entries.{length-entries}
 use Rattle.dsv_term.proofs.Words.{words_of_nodes, known}
-use Rattle.dsv_unroll.specs.Words.{spelled_words, cycle_start, HasCycle, Tells}
+use Rattle.dsv_unroll.specs.Words.{spelled_words, cycle_start, Tells}
 use Rattle.dsv_hints.specs.Searches.{IfNever}
 use Rattle.dsv_hints.specs.declared.search.Searched.{Searched}
 use Rattle.dsv_hints.specs.declared.search.Searched.TheVariants.{Never, Happens, Spent}
-use Rattle.dsv_bounded.specs.Questions.{Asks, NoneHave, SomeHave, word_widths, input_widths, DoBreak, free_registers, start_of_values, DoCycle}
-use Rattle.dsv_bounded.specs.Verdicts.{BreaksWithin, BreaksWithinOf, CyclesWithin}
-use Rattle.dsv_bounded.proofs.StartLemmas.{forward_below}
-use Rattle.dsv_realise.proofs.Alike.{alike_back, breaks_alike, cycles_alike}
+use Rattle.dsv_bounded.specs.Questions.{Asks, NoneHave, SomeHave, input_widths, DoBreak, free_registers, DoCycle}
+use Rattle.dsv_bounded.specs.Verdicts.{BreaksWithinOf, CyclesWithinOf}
+use Rattle.dsv_system.proofs.Alike.{alike_back, breaks_alike, cycles_alike}
 use Rattle.dsv_bounded.proofs.WordValues.{values_for, words_of_values, values_fit, count_of_words}
 
 -- ---- goals
@@ -84,6 +81,10 @@ never_by t root widths P a n = λ values b p. n values (subst (λ (is : List ℕ
 pub told_as : (S W : Type 0) (widths : List ℕ) (P : List ℕ → Type 0) → Means widths P W → (S ↔ SomeHave widths P) → (S ↔ W)
 told_as S W widths P m s = ((λ x. let h = s.0 x in m.given h.0 h.1 h.2), (λ w. s.1 (m.found w)))
 
+-- what tells the one tells the other
+pub told_through : (S W V : Type 0) → (S ↔ W) → (W ↔ V) → (S ↔ V)
+told_through S W V s w = ((λ x. w.0 (s.0 x)), (λ v. s.1 (w.1 v)))
+
 pub never_as : {T : Type 0} (W : Type 0) (widths : List ℕ) (P : List ℕ → Type 0) (r : Searched T) → Means widths P W → IfNever (λ log. NoneHave widths P) r → IfNever (λ log. W → ⊥) r
 never_as W widths P (Never log) m n = λ w. let h = m.found w in n h.0 h.1 h.2
 never_as W widths P (Happens found) m n = tt
@@ -113,21 +114,11 @@ breaks_mean net low high samples l k = record {
       (values_for net.format zs, values_fit net.format zs samples h.1, subst (λ (xs : List ℤ). Breaks (List ℤ) (system_of net) low high xs) (sym e) b);
 }
 
-within_alike : (P Q : Type 0) (m : System P) (n : System Q) (low high : ℤ) (samples : ℕ) → RunAlike P Q m n → BreaksWithinOf P m low high samples → BreaksWithinOf Q n low high samples
-within_alike P Q m n low high samples a b = (b.0, b.1, breaks_alike P Q m n low high b.0 a b.2)
-
--- what tells whether a controller's netlist breaks tells whether the controller does
-pub told_alike : (S : Type 0) (q : QuantisedView) (net : Net) (samples : ℕ) → RunAlike (List ℤ) Past (system_of net) (equations_of q)
-    → (S ↔ BreaksWithinOf (List ℤ) (system_of net) q.xlo q.xhi samples) → (S ↔ BreaksWithin q samples)
-told_alike S q net samples run s = (
-  (λ x. within_alike (List ℤ) Past (system_of net) (equations_of q) q.xlo q.xhi samples run (s.0 x)),
-  (λ b. s.1 (within_alike Past (List ℤ) (equations_of q) (system_of net) q.xlo q.xhi samples (alike_back (List ℤ) Past (system_of net) (equations_of q) run) b)),
+pub breaks_same : (P Q : Type 0) (m : System P) (n : System Q) (low high : ℤ) (samples : ℕ) → RunAlike P Q m n → BreaksWithinOf P m low high samples ↔ BreaksWithinOf Q n low high samples
+breaks_same P Q m n low high samples a = (
+  (λ b. (b.0, b.1, breaks_alike P Q m n low high b.0 a b.2)),
+  (λ b. (b.0, b.1, breaks_alike Q P n m low high b.0 (alike_back P Q m n a) b.2)),
 )
-
-pub asks_overflow : (net : Net) (low high : ℤ) (samples : ℕ) (t : TermsView) (root : TermId) → AreTerms t → root.0 < length t.nodes → width_of t root ≡ 1 → t.inputs ≡ input_widths net samples
-    → ((values : List ℕ) → AreValues t.inputs values → Tells (word_of t values root) (DoBreak net low high values)) → Asks t root (input_widths net samples) (DoBreak net low high)
-asks_overflow net low high samples t root terms stands one inputs tells =
-    asks_from t root (input_widths net samples) (DoBreak net low high) (DoBreak net low high) terms stands one inputs tells (λ values b. b) (λ values b. b)
 
 -- ---- cycles
 all_zeros : (zs : List ℤ) → All (λ (w : ℤ). w ≡ pos 0) zs → zs ≡ zeros (length zs)
@@ -142,47 +133,25 @@ start-split k zs l h =
     let z : take k zs ≡ zeros k = all_zeros (take k zs) h ∙ ap zeros e in
     ap (λ (ys : List ℤ). ys ++ drop k zs) (sym z) ∙ take-append-drop k zs
 
-pub cycles_mean : (q : QuantisedView) (periods : ℕ) → Means (word_widths q (free_registers q)) (DoCycle q periods) (CyclesWithin q periods)
-cycles_mean q periods = record {
-  given = λ values a h. (start_of_values q values, h.0, h.1, h.2, h.3);
+pub cycles_mean : (net : Net) (periods : ℕ) → net.feed_forward ≤ length net.next → Means (input_widths net (free_registers net)) (DoCycle net periods) (CyclesWithinOf (List ℤ) (system_of net) periods)
+cycles_mean net periods below = record {
+  given = λ values a h. (cycle_start net values, h.0, h.1, h.2, h.3);
   found = λ h.
       let zs = h.0 in
       let c = h.4 in
-      let k = forward_registers_of q.realisation (order q) in
-      let below = forward_below q.realisation (order q) in
+      let k = net.feed_forward in
       let l : k ≤ length zs = omega (arith, c.many, below) in
       let free = drop k zs in
-      let words : All (IsWord q.format) free = All-drop (IsWord q.format) k zs c.words in
-      let e : start_of_values q (values_for q.format free) ≡ zs = ap (λ (ys : List ℤ). zeros k ++ ys) (words_of_values q.format free words) ∙ start-split k zs l c.quiet in (
-        values_for q.format free,
-        values_fit q.format free (free_registers q) (omega (arith, length-drop k zs, c.many)),
-        (h.1, h.2, h.3, subst (λ (ys : List ℤ). Cycles Past (equations_of q) ys h.1) (sym e) c),
+      let words : All (IsWord net.format) free = All-drop (IsWord net.format) k zs c.words in
+      let e : cycle_start net (values_for net.format free) ≡ zs = ap (λ (ys : List ℤ). zeros k ++ ys) (words_of_values net.format free words) ∙ start-split k zs l c.quiet in (
+        values_for net.format free,
+        values_fit net.format free (free_registers net) (omega (arith, length-drop k zs, c.many)),
+        (h.1, h.2, h.3, subst (λ (ys : List ℤ). Cycles (List ℤ) (system_of net) ys h.1) (sym e) c),
       );
 }
 
-start-same : (q : QuantisedView) (net : Net) (values : List ℕ) → RunAlike (List ℤ) Past (system_of net) (equations_of q) → cycle_start net values ≡ start_of_values q values
-start-same q net values run =
-    ap (λ (k : ℕ). zeros k ++ spelled_words net.format values) run.forward
-    ∙ ap (λ f. zeros (forward_registers_of q.realisation (order q)) ++ spelled_words f values) run.format
-
-pub asks_cycle : (q : QuantisedView) (net : Net) (periods : ℕ) (t : TermsView) (root : TermId) → RunAlike (List ℤ) Past (system_of net) (equations_of q) → AreTerms t → root.0 < length t.nodes → width_of t root ≡ 1
-    → t.inputs ≡ replicate (length net.next - net.feed_forward) (width net.format) → ((values : List ℕ) → AreValues t.inputs values → Tells (word_of t values root) (HasCycle net (cycle_start net values) periods))
-    → Asks t root (word_widths q (free_registers q)) (DoCycle q periods)
-asks_cycle q net periods t root run terms stands one inputs tells =
-    asks_from t root (word_widths q (free_registers q)) (λ values. HasCycle net (cycle_start net values) periods) (DoCycle q periods) terms stands one
-    (inputs ∙ (ap (λ (k : ℕ). replicate (k - net.feed_forward) (width net.format)) run.many ∙ (ap (λ (k : ℕ). replicate (registers_of q.realisation (order q) - k) (width net.format)) run.forward
-    ∙ ap (λ f. replicate (free_registers q) (width f)) run.format))) tells
-    (λ values h. (
-      h.0,
-      h.1,
-      h.2,
-      subst (λ (ys : List ℤ). Cycles Past (equations_of q) ys h.0) (start-same q net values run)
-          (cycles_alike (List ℤ) Past (system_of net) (equations_of q) (cycle_start net values) h.0 run h.3),
-    ))
-    (λ values h. (
-      h.0,
-      h.1,
-      h.2,
-      cycles_alike Past (List ℤ) (equations_of q) (system_of net) (cycle_start net values) h.0 (alike_back (List ℤ) Past (system_of net) (equations_of q) run)
-          (subst (λ (ys : List ℤ). Cycles Past (equations_of q) ys h.0) (sym (start-same q net values run)) h.3),
-    ))
+pub cycles_same : (P Q : Type 0) (m : System P) (n : System Q) (periods : ℕ) → RunAlike P Q m n → CyclesWithinOf P m periods ↔ CyclesWithinOf Q n periods
+cycles_same P Q m n periods a = (
+  (λ h. (h.0, h.1, h.2, h.3, cycles_alike P Q m n h.0 h.1 a h.4)),
+  (λ h. (h.0, h.1, h.2, h.3, cycles_alike Q P n m h.0 h.1 (alike_back P Q m n a) h.4)),
+)

@@ -1,5 +1,5 @@
 -- A trace shows that a list of inputs breaks the controller, and a cycle that a start cycles.
-use Rattle.std.proofs.Common.{◌≡◌, ◌∙◌, sym, ap, subst, refl, ℕ, ◌+◌, ◌-◌, ◌≤◌, List, [], ◌∷◌, ◌++◌, length, arith}
+use Rattle.std.proofs.Common.{◌≡◌, ◌∙◌, sym, ap, subst, ℕ, ◌+◌, ◌-◌, ◌≤◌, List, [], ◌∷◌, ◌++◌, length, arith}
 use Rattle.std.specs.Prelude.{Some, slice_get, replicate, ℤ, ◌≤ℤ◌}
 use Rattle.std.specs.List.{Contains}
 use Rattle.std.proofs.lemmas.List.{length-append, length-replicate}
@@ -7,19 +7,15 @@ use Rattle.std.proofs.lemmas.List.Elements.{All-append, All-replicate, All-head,
 use Rattle.std.proofs.lemmas.Option.{get_or_from_slice_get, slice_get_within}
 use Rattle.dsv_quantiser.specs.QuantisedView.{QuantisedView}
 use Rattle.dsv_system.specs.Breaks.{Breaks, IsOutside, IsFirstBreak}
-use Rattle.dsv_system.specs.Runs.{Sampled, SampleRow, rows_from, past_after}
+use Rattle.dsv_system.specs.Runs.{SampleRow, rows_from, past_after}
 use Rattle.dsv_system.specs.Systems.{System, rows, zeros, AreInRange}
+use Rattle.dsv_system.proofs.RunLemmas.{rows-append}
 use Rattle.dsv_meaning.specs.Equations.{Past}
 use Rattle.dsv_meaning.specs.Systems.{equations_of}
 use Rattle.dsv_meaning.specs.declared.replays.Cycle.{Cycle}
 use Rattle.dsv_meaning.specs.declared.replays.Trace.{Trace}
 use Rattle.dsv_bounded.specs.Verdicts.{BreaksWithin, CyclesWithin, IsCycle}
 use Rattle.dsv_meaning.specs.Traces.{IsTrace}
-
--- the rows over more inputs go on after those over the first
-rows_on : {P : Type 0} (sample : P → ℤ → Sampled P) (past : P) (xs ys : List ℤ) → rows_from sample past (xs ++ ys) ≡ rows_from sample past xs ++ rows_from sample (past_after sample past xs) ys
-rows_on sample past [] ys = refl
-rows_on sample past (x ∷ xs) ys = ap (λ rs. record { x = x; y = (sample past x).y; exact = (sample past x).exact } ∷ rs) (rows_on sample (sample past x).past xs ys)
 
 at_contains : {X : Type 0} (xs : List X) (i : ℕ) (x : X) → slice_get xs i ≡ Some x → Contains xs x
 at_contains xs i x e = (i, slice_get_within xs i x e, get_or_from_slice_get xs i x x e)
@@ -36,7 +32,7 @@ more_break P m low high xs ys h r =
       in_range = All-append (λ x. (low ≤ℤ x) × (x ≤ℤ high)) xs ys h.in_range r;
       broken = (
         h.broken.0,
-        subst (λ rs. Contains rs h.broken.0) (sym (rows_on m.sample start xs ys))
+        subst (λ rs. Contains rs h.broken.0) (sym (rows-append m.sample start xs ys))
             (Contains-append_left (rows_from m.sample start xs) (rows_from m.sample (past_after m.sample start xs) ys) h.broken.0 h.broken.1),
         h.broken.2,
       );

@@ -6,7 +6,7 @@ use Rattle.std.proofs.lemmas.Nat.{pow-add}
 use Rattle.std.proofs.Math.Nat.{pow-le-pow_right}
 use Rattle.std.specs.List.{All}
 use Rattle.std.proofs.lemmas.List.{length-map, length-replicate, get_or-map, get_or-replicate}
-use Rattle.std.proofs.lemmas.List.Elements.{All-head, All-tail, All-from_get_or, All-replicate}
+use Rattle.std.proofs.lemmas.List.Elements.{All-head, All-tail, All-replicate}
 use Rattle.dsv_word.specs.declared.format.Format.{Format}
 use Rattle.dsv_word.specs.Words.{width, IsWord}
 use Rattle.dsv_system.specs.Systems.{zeros}
@@ -55,13 +55,6 @@ values_fit f zs n e = record {
       let j : k < length zs = omega (arith, i, e) in
       rw (get_or-map (residue (width f)) zs k (pos 0) 0 j, get_or-replicate n k (width f) 0 i) (residue_fits (width f) (get_or zs k (pos 0)));
 }
-
--- values of words are below 2 to the width
-pub values_below : (f : Format) (values : List ℕ) (n : ℕ) → AreValues (replicate n (width f)) values → All (λ value. value < 2 ^ width f) values
-values_below f values n a = All-from_get_or (λ value. value < 2 ^ width f) values 0 (λ k l.
-    let i : k < n = omega (arith, l, a.count, length-replicate n (width f)) in
-    let b : k < length (replicate n (width f)) = omega (arith, i, length-replicate n (width f)) in
-    subst (λ (w : ℕ). get_or values k 0 < 2 ^ w) (get_or-replicate n k (width f) 0 i) (a.fit k b))
 
 pub count_of_words : (f : Format) (values : List ℕ) (n : ℕ) → AreValues (replicate n (width f)) values → length (spelled_words f values) ≡ n
 count_of_words f values n a = length-map values _ ∙ (a.count ∙ length-replicate n (width f))

@@ -27,9 +27,13 @@ net_overflow_formula_of net low high samples = formula_of (overflow_of net low h
 unfoldable pub overflow_formula_of : QuantisedView → ℕ → FormulaView
 overflow_formula_of q samples = net_overflow_formula_of (net_of q) q.xlo q.xhi samples
 
--- the formula of a limit cycle of a period up to this
+-- the formula of a limit cycle of a netlist of a period up to this
+unfoldable pub net_cycle_formula_of : Net → ℕ → FormulaView
+net_cycle_formula_of net periods = formula_of (cycle_of net periods)
+
+-- the formula of a limit cycle of a controller: that of its netlist
 unfoldable pub cycle_formula_of : QuantisedView → ℕ → FormulaView
-cycle_formula_of q periods = formula_of (cycle_of (net_of q) periods)
+cycle_formula_of q periods = net_cycle_formula_of (net_of q) periods
 
 -- how great a job over so many samples is: samples times products times the square of a word's bits
 abbrev pub job_size_of : QuantisedView → ℕ → ℕ

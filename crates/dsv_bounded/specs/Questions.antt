@@ -1,19 +1,18 @@
 -- Serves private contracts: what a goal asks of the values of its inputs, and starts.
-use Rattle.std.specs.Prelude.{◌≡◌, ℕ, ◌≤◌, ◌-◌, List, ℤ, pos, replicate, ◌++◌, length, take}
+use Rattle.std.specs.Prelude.{◌≡◌, ℕ, ◌-◌, List, ℤ, pos, replicate, length, take}
 use Rattle.std.specs.List.{All}
-use Rattle.dsv_meaning.specs.Equations.{Past, registers_of, forward_registers_of, order}
+use Rattle.dsv_meaning.specs.Equations.{Past}
 use Rattle.dsv_meaning.specs.Systems.{equations_of}
 use Rattle.dsv_netlist.specs.Nodes.{Net}
 use Rattle.dsv_netlist.specs.Systems.{system_of}
 use Rattle.dsv_quantiser.specs.QuantisedView.{QuantisedView, IsQuantisedView}
 use Rattle.dsv_realise.specs.Netlists.{net_of}
 use Rattle.dsv_system.specs.Breaks.{Breaks}
-use Rattle.dsv_system.specs.Cycles.{Cycles}
-use Rattle.dsv_system.specs.Systems.{RunAlike, zeros}
+use Rattle.dsv_system.specs.Systems.{RunAlike}
 use Rattle.dsv_term.specs.declared.node.TermId.{TermId}
 use Rattle.dsv_term.specs.Terms.{AreValues, word_of}
 use Rattle.dsv_term.specs.TermsView.{TermsView}
-use Rattle.dsv_unroll.specs.Words.{spelled_words}
+use Rattle.dsv_unroll.specs.Words.{HasCycle, cycle_start, spelled_words}
 use Rattle.dsv_word.specs.Words.{width, IsWord}
 
 -- The inputs have these widths, and the root is 1 exactly at the values that have the fact.
@@ -52,29 +51,21 @@ DoBreak net low high values =
 abbrev pub input_widths : Net → ℕ → List ℕ
 input_widths net n = replicate n (width net.format)
 
--- how many registers of a controller aren't feed-forward
-abbrev pub free_registers : QuantisedView → ℕ
-free_registers q =
-    registers_of q.realisation (order q) - forward_registers_of q.realisation (order q)
+-- how many registers of a netlist aren't feed-forward
+abbrev pub free_registers : Net → ℕ
+free_registers net = length net.next - net.feed_forward
+
+-- the start that the values spell has a cycle of a period up to this
+abbrev pub DoCycle : Net → ℕ → List ℕ → Type 0
+DoCycle net periods values = HasCycle net (cycle_start net values) periods
 
 -- The registers of a netlist hold words.
 pub record AreRegisters (net : Net) (registers : List ℤ) : Type 0 where
   pub many : length registers ≡ length net.next
   pub words : All (IsWord net.format) registers
 
--- A controller can start so: 0 in the feed-forward registers, and words in the others.
-pub record IsStart (q : QuantisedView) (start : List ℤ) : Type 0 where
-  pub many : length start ≡ registers_of q.realisation (order q)
-  pub quiet : All (λ w. w ≡ pos 0)
-      (take (forward_registers_of q.realisation (order q)) start)
-  pub words : All (IsWord q.format) start
-
--- the words of a start: 0 in the feed-forward registers, and those that the values spell
-abbrev pub start_of_values : QuantisedView → List ℕ → List ℤ
-start_of_values q values =
-    zeros (forward_registers_of q.realisation (order q)) ++ spelled_words q.format values
-
--- the start that the values spell has a cycle of a period up to this
-abbrev pub DoCycle : QuantisedView → ℕ → List ℕ → Type 0
-DoCycle q periods values = (p : ℕ) × (1 ≤ p) × (p ≤ periods)
-    × Cycles Past (equations_of q) (start_of_values q values) p
+-- A netlist can start so: 0 in the feed-forward registers, and words in the others.
+pub record IsStart (net : Net) (start : List ℤ) : Type 0 where
+  pub many : length start ≡ length net.next
+  pub quiet : All (λ w. w ≡ pos 0) (take net.feed_forward start)
+  pub words : All (IsWord net.format) start

@@ -18,16 +18,24 @@ BreaksWithinOf P m low high samples = (inputs : List ℤ) × (length inputs ≡ 
 abbrev pub BreaksWithin : QuantisedView → ℕ → Type 0
 BreaksWithin q samples = BreaksWithinOf Past (equations_of q) q.xlo q.xhi samples
 
--- some start has a limit cycle of a period up to this
+-- some start of the system has a limit cycle of a period up to this
+abbrev pub CyclesWithinOf : (P : Type 0) → System P → ℕ → Type 0
+CyclesWithinOf P m periods = (start : List ℤ) × (p : ℕ) × (1 ≤ p) × (p ≤ periods)
+    × Cycles P m start p
+
+-- some start of the controller has a limit cycle of a period up to this
 abbrev pub CyclesWithin : QuantisedView → ℕ → Type 0
-CyclesWithin q periods = (start : List ℤ) × (p : ℕ) × (1 ≤ p) × (p ≤ periods)
-    × Cycles Past (equations_of q) start p
+CyclesWithin q periods = CyclesWithinOf Past (equations_of q) periods
+
+-- The start has a limit cycle in the system of this period, which is its least and at most so many
+-- samples, and these are the outputs of one period.
+pub record IsCycleOf (P : Type 0) (m : System P) (periods : ℕ) (z : Cycle) : Type 0 where
+  pub cycles : Cycles P m z.start z.period
+  pub least : IsLeastPeriod P m z.start z.period
+  pub within : z.period ≤ periods
+  pub gives : map (λ (r : SampleRow). r.y) (rows m z.start (zeros z.period)) ≡ z.outputs
 
 -- The start has a limit cycle in the written equations of this period, which is its least and at
 -- most so many samples, and these are the outputs of one period.
-pub record IsCycle (q : QuantisedView) (periods : ℕ) (z : Cycle) : Type 0 where
-  pub cycles : Cycles Past (equations_of q) z.start z.period
-  pub least : IsLeastPeriod Past (equations_of q) z.start z.period
-  pub within : z.period ≤ periods
-  pub gives : map (λ (r : SampleRow). r.y) (rows (equations_of q) z.start (zeros z.period))
-      ≡ z.outputs
+abbrev pub IsCycle : QuantisedView → ℕ → Cycle → Type 0
+IsCycle q periods z = IsCycleOf Past (equations_of q) periods z

@@ -1,15 +1,15 @@
-// Limit cycles of all periods up to so many samples, from all starts.
-ghost use Rattle.std.proofs.Props.{props};
-ghost use Rattle.std.specs.Prelude.{◌≡◌, ◌≤◌, ◌↔◌, ◌^◌, IfOk};
+// Limit cycles of all periods up to so many samples, from all starts: of netlists, and of quantised
+// controllers by theirs.
+ghost use Rattle.std.specs.Prelude.{◌≡◌, ◌≤◌, ◌↔◌, ◌^◌, List, ℤ, IfOk};
 ghost use Rattle.dsv_cnf.specs.Formula.{IsSatisfiable};
 ghost use Rattle.dsv_hints.specs.Lessons.{IsRefutation, IsSpent};
 ghost use Rattle.dsv_hints.specs.Searches.{IfHappens, IfNever, IfSpent};
-ghost use Rattle.dsv_realise.specs.Netlists.{net_of};
+ghost use Rattle.dsv_netlist.specs.Systems.{system_of};
 ghost use Rattle.dsv_unroll.specs.CycleGoals.{cycle_of};
-ghost use Rattle.dsv_bounded.specs.Formulas.{cycle_formula_of, job_size_of};
-ghost use Rattle.dsv_bounded.specs.Questions.{DoCycle, Realises, free_registers, word_widths};
+ghost use Rattle.dsv_bounded.specs.Formulas.{net_cycle_formula_of, cycle_formula_of, job_size_of};
+ghost use Rattle.dsv_bounded.specs.Questions.{DoCycle, free_registers, input_widths};
 ghost use Rattle.dsv_bounded.specs.Refusals.{IsSized};
-ghost use Rattle.dsv_bounded.specs.Verdicts.{CyclesWithin, IsCycle};
+ghost use Rattle.dsv_bounded.specs.Verdicts.{CyclesWithin, CyclesWithinOf, IsCycle, IsCycleOf};
 
 use crate::netlists::netlist_of;
 use crate::question::{Question, answer, formula};
@@ -19,52 +19,47 @@ use crate::words::{words_after, zero_words};
 use dsv_base::NoMemory;
 use dsv_cnf::Formula;
 use dsv_hints::Searched;
-use dsv_meaning::{Cycle, forward_registers};
-use dsv_netlist::Netlist;
+use dsv_meaning::Cycle;
 use dsv_quantiser::Quantised;
+use dsv_realise::RangedNetlist;
 use dsv_term::Goal;
 use dsv_unroll::cycle_goal;
 use std::alloc::Global;
 
-/// Whether some start of a quantised controller, of which this is the netlist, has a limit cycle of
-/// a period up to so many samples.
+/// Whether some start of a netlist has a limit cycle of a period up to so many samples.
 #[derive(Clone, Copy)]
 pub(crate) struct CycleQuestion<'a> {
-    pub(crate) quantised: &'a Quantised,
-    pub(crate) net: &'a Netlist,
+    pub(crate) subject: &'a RangedNetlist<'a>,
     pub(crate) periods: u32,
-    ghost realises: { Realises quantised.now net.now } by { Prim.hlevel props },
 }
 
 impl<'a> Question for CycleQuestion<'a> {
     type Found = Cycle;
 
-    ghost widths = { λ s. word_widths s.quantised.now (free_registers s.quantised.now) };
+    ghost widths = { λ s. input_widths s.subject.now.net.now
+        (free_registers s.subject.now.net.now) };
 
-    ghost asked = { λ s. DoCycle s.quantised.now s.periods };
+    ghost asked = { λ s. DoCycle s.subject.now.net.now s.periods };
 
-    ghost made = { λ s. cycle_of (net_of s.quantised.now) s.periods };
+    ghost made = { λ s. cycle_of s.subject.now.net.now s.periods };
 
-    ghost shown = { λ s. IsCycle s.quantised.now s.periods };
+    ghost shown = { λ s. IsCycleOf (List ℤ) (system_of s.subject.now.net.now) s.periods };
 
     fn offer(&self, alloc: Global) -> Result<Option<Cycle>, NoMemory> {
         self.offered_cycle(alloc)
     }
 
     fn goal(&self, alloc: Global) -> Result<Goal, NoMemory> {
-        let goal = cycle_goal(alloc, self.net, self.periods)?;
+        let goal = cycle_goal(alloc, self.subject.net, self.periods)?;
         let _count = goal.terms.len(); // its range, for the proof
         Ok(goal)
     }
 
     fn replay(&self, alloc: Global, values: &[u128]) -> Result<Cycle, NoMemory> {
-        let forward = forward_registers(
-            self.quantised.realisation(),
-            self.quantised.order() as u32,
-        );
-        let quiet = zero_words(alloc, forward)?;
-        let start = words_after(quiet, &self.quantised.format(), values)?;
-        match replayed_cycle(alloc, self.quantised, start, self.periods)? {
+        let net = self.subject.net;
+        let quiet = zero_words(alloc, net.feed_forward())?;
+        let start = words_after(quiet, &net.format(), values)?;
+        match replayed_cycle(alloc, net, start, self.periods)? {
             Some(cycle) => Ok(cycle),
             None => unreachable!(),
         }
@@ -72,7 +67,7 @@ impl<'a> Question for CycleQuestion<'a> {
 }
 
 /// The formula of a limit cycle of a period from 1 to `periods`, which is 1 to 64.
-#[tactic(auto, unfolding(crate::specs::Formulas::cycle_formula_of))]
+#[tactic(auto, unfolding(crate::specs::Formulas::cycle_formula_of, crate::specs::Formulas::net_cycle_formula_of))]
 pub fn cycle_formula(
     alloc: Global,
     quantised: &Quantised,
@@ -88,12 +83,44 @@ pub fn cycle_formula(
 {
     accept(quantised, periods)?;
     let net = netlist_of(alloc, quantised)?;
+    let _count = net.len(); // its clause on the netlist, for the proof
+    let subject = RangedNetlist::of_controller(quantised, &net);
     let question = CycleQuestion {
-        quantised,
-        net: &net,
+        subject: &subject,
         periods,
     };
     Ok(formula(alloc, &question)?)
+}
+
+/// Whether a start of a netlist has a limit cycle of a period from 1 to `periods`, which is 1 to
+/// 64: first some starts are tried, some of which the range of the inputs gives, and then there is
+/// a search that learns at most so many clauses. A cycle that is found replays. How large the
+/// question may be is the caller's to test.
+#[tactic(auto, unfolding(crate::specs::Formulas::net_cycle_formula_of))]
+pub fn netlist_cycle(
+    alloc: Global,
+    subject: &RangedNetlist,
+    periods: u32,
+    conflicts: u32,
+) -> Result<Searched<Cycle>, NoMemory>
+    requires some { 1 ≤ periods }
+    requires few { periods ≤ 64 }
+    requires allowed { 1 ≤ conflicts }
+    requires limited { conflicts ≤ 2 ^ 30 }
+    // No start has a cycle of such a period in the netlist.
+    ensures never { IfOk result (IfNever (λ log. CyclesWithinOf (List ℤ)
+        (system_of subject.now.net.now) periods → ⊥)) }
+    // The log is a derivation of the empty clause from the question's formula.
+    ensures refuted { IfOk result (IfNever (IsRefutation (net_cycle_formula_of
+        subject.now.net.now periods) conflicts)) }
+    ensures cycle { IfOk result (IfHappens (IsCycleOf (List ℤ)
+        (system_of subject.now.net.now) periods)) }
+    ensures spent { IfOk result (IfSpent (IsSpent (net_cycle_formula_of
+        subject.now.net.now periods) conflicts)) }
+{
+    let _count = subject.net.len(); // its clause on the netlist, for the proof
+    let question = CycleQuestion { subject, periods };
+    answer(alloc, &question, conflicts)
 }
 
 /// Whether a start has a limit cycle of a period from 1 to `periods`, which is 1 to 64: first some
@@ -122,10 +149,6 @@ pub fn limit_cycle(
 {
     accept(quantised, periods)?;
     let net = netlist_of(alloc, quantised)?;
-    let question = CycleQuestion {
-        quantised,
-        net: &net,
-        periods,
-    };
-    Ok(answer(alloc, &question, conflicts)?)
+    let subject = RangedNetlist::of_controller(quantised, &net);
+    Ok(netlist_cycle(alloc, &subject, periods, conflicts)?)
 }

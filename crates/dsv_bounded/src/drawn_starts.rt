@@ -2,10 +2,11 @@
 // controllers come to a limit cycle from few starts, and after many samples.
 #![tactic(auto, using(dsv_algebra::proofs::Casts::casts))]
 
-ghost use Rattle.std.specs.Prelude.{◌≤◌, IfOk, IfSome};
+ghost use Rattle.std.specs.Prelude.{◌≤◌, List, ℤ, IfOk, IfSome};
+ghost use Rattle.dsv_netlist.specs.Systems.{system_of};
 ghost use Rattle.dsv_word.specs.Words.{IsWord};
 ghost use Rattle.dsv_bounded.specs.Questions.{AreRegisters};
-ghost use Rattle.dsv_bounded.specs.Verdicts.{IsCycle};
+ghost use Rattle.dsv_bounded.specs.Verdicts.{IsCycleOf};
 
 use crate::cycles::CycleQuestion;
 use crate::transients::level_registers;
@@ -90,13 +91,13 @@ impl<'a> CycleQuestion<'a> {
     /// The limit cycle that comes of the first of so many drawn starts that leads to one.
     pub(crate) fn drawn_cycle(&self, alloc: Global) -> Result<Option<Cycle>, NoMemory>
         ensures { IfOk result (λ cycle. IfSome cycle
-            (IsCycle self.now.quantised.now self.now.periods)) }
+            (IsCycleOf (List ℤ) (system_of self.now.subject.now.net.now) self.now.periods)) }
     {
         let mut generator = Generator { state: SEED };
         for turn in 0..STARTS {
-            let mut level = level_registers(alloc, self.net, 0)?;
+            let mut level = level_registers(alloc, self.subject.net, 0)?;
             let registers = level.as_mut_slice();
-            generator = draw_registers(self.net, registers, generator);
+            generator = draw_registers(self.subject.net, registers, generator);
             let settling = if turn % LONG_START == 0 {
                 LONG_SETTLING
             } else {

@@ -1,7 +1,6 @@
-//! Bounded verdicts: overflow of netlists and of quantised controllers over all lists of so many
-//! inputs, and limit cycles of quantised controllers of all periods up to so many samples, from all
-//! starts. Lists and starts that are offered by fixed rules are tried first, and then a search
-//! decides.
+//! Bounded verdicts on netlists and on quantised controllers: overflow over all lists of so many
+//! inputs, and limit cycles of all periods up to so many samples, from all starts. Lists and starts
+//! that are offered by fixed rules are tried first, and then a search decides.
 #![tactic(auto)]
 
 mod cycles;
@@ -20,7 +19,7 @@ mod starts;
 mod transients;
 mod words;
 
-pub use cycles::{cycle_formula, limit_cycle};
+pub use cycles::{cycle_formula, limit_cycle, netlist_cycle};
 pub use decision::decide;
 pub use formulas::question_formula;
 pub use goal_clauses::goal_formula;

@@ -1,30 +1,38 @@
 // Limit cycles of starts that are replayed.
-ghost use Rattle.std.specs.Prelude.{◌≤◌, ℕ, IfOk, IfSome, IfNone};
-ghost use Rattle.dsv_meaning.specs.Equations.{Past};
-ghost use Rattle.dsv_meaning.specs.Systems.{equations_of};
+ghost use Rattle.std.specs.Prelude.{◌≤◌, ℕ, List, ℤ, IfOk, IfSome, IfNone};
+ghost use Rattle.dsv_netlist.specs.Systems.{system_of};
 ghost use Rattle.dsv_system.specs.Cycles.{Cycles};
 ghost use Rattle.dsv_bounded.specs.Questions.{IsStart};
-ghost use Rattle.dsv_bounded.specs.Verdicts.{IsCycle};
+ghost use Rattle.dsv_bounded.specs.Verdicts.{IsCycleOf};
 
 use dsv_base::{NoMemory, WordList};
-use dsv_meaning::{Cycle, CycleReplay, replay_cycle};
-use dsv_quantiser::Quantised;
+use dsv_meaning::{Cycle, CycleReplay};
+use dsv_netlist::Netlist;
+use dsv_realise::replay_cycle;
 use std::alloc::Global;
 
-/// The limit cycle from a start, where it has one of a period up to `periods`.
+/// The limit cycle of a netlist from a start, where it has one of a period up to `periods`.
 pub(crate) fn replayed_cycle(
     alloc: Global,
-    quantised: &Quantised,
+    net: &Netlist,
     start: WordList,
     periods: u32,
 ) -> Result<Option<Cycle>, NoMemory>
-    requires { IsStart quantised.now start }
-    ensures cycle { IfOk result (λ cycle. IfSome cycle (IsCycle quantised.now periods)) }
+    requires { IsStart net.now start }
+    ensures cycle { IfOk result (λ cycle. IfSome cycle
+        (IsCycleOf (List ℤ) (system_of net.now) periods)) }
     ensures none { IfOk result (λ cycle. IfNone cycle ((p : ℕ) → p ≤ periods →
-        Cycles Past (equations_of quantised.now) start p → ⊥)) }
+        Cycles (List ℤ) (system_of net.now) start p → ⊥)) }
 {
     let mut outputs = vec![in alloc; 0i64; periods as usize]?;
-    match replay_cycle(quantised, start.as_slice(), periods, outputs.as_mut_slice()) {
+    let replay = replay_cycle(
+        alloc,
+        net,
+        start.as_slice(),
+        periods,
+        outputs.as_mut_slice(),
+    )?;
+    match replay {
         CycleReplay::Returns { period, sounding } => {
             if !sounding {
                 return Ok(None);

@@ -9,10 +9,11 @@
 // as inputs.
 #![tactic(auto, using(dsv_algebra::proofs::Casts::casts))]
 
-ghost use Rattle.std.specs.Prelude.{◌<◌, IfOk, IfSome};
+ghost use Rattle.std.specs.Prelude.{◌<◌, List, ℤ, IfOk, IfSome};
+ghost use Rattle.dsv_netlist.specs.Systems.{system_of};
 ghost use Rattle.dsv_word.specs.Words.{IsWord};
 ghost use Rattle.dsv_bounded.specs.Questions.{AreRegisters};
-ghost use Rattle.dsv_bounded.specs.Verdicts.{IsCycle};
+ghost use Rattle.dsv_bounded.specs.Verdicts.{IsCycleOf};
 ghost use Rattle.dsv_bounded.specs.declared.starts.TheConstants.{OFFERED_NUMBERS};
 
 use crate::cycles::CycleQuestion;
@@ -100,22 +101,22 @@ impl<'a> CycleQuestion<'a> {
         place: Place,
     ) -> Result<Option<Cycle>, NoMemory>
         ensures { IfOk result (λ cycle. IfSome cycle
-            (IsCycle self.now.quantised.now self.now.periods)) }
+            (IsCycleOf (List ℤ) (system_of self.now.subject.now.net.now) self.now.periods)) }
     {
-        if !self.net.format().fits(i128::from(number)) {
+        if !self.subject.net.format().fits(i128::from(number)) {
             return Ok(None);
         }
-        let mut registers = start_registers(alloc, self.net, number, place)?;
+        let mut registers = start_registers(alloc, self.subject.net, number, place)?;
         self.settled_cycle(alloc, registers.as_mut_slice(), SETTLING)
     }
 
     /// The first limit cycle that comes of a word in one register: a small one, or an end.
     fn register_cycle(&self, alloc: Global, register: u32) -> Result<Option<Cycle>, NoMemory>
         ensures { IfOk result (λ cycle. IfSome cycle
-            (IsCycle self.now.quantised.now self.now.periods)) }
+            (IsCycleOf (List ℤ) (system_of self.now.subject.now.net.now) self.now.periods)) }
     {
         for i in 0..OFFERED_NUMBERS {
-            let number = offered_number(&self.net.format(), i);
+            let number = offered_number(&self.subject.net.format(), i);
             if let Some(cycle) = self.number_cycle(alloc, number, Place::Register(register))? {
                 return Ok(Some(cycle));
             }
@@ -127,7 +128,7 @@ impl<'a> CycleQuestion<'a> {
     /// all registers.
     fn end_cycle(&self, alloc: Global, number: i64) -> Result<Option<Cycle>, NoMemory>
         ensures { IfOk result (λ cycle. IfSome cycle
-            (IsCycle self.now.quantised.now self.now.periods)) }
+            (IsCycleOf (List ℤ) (system_of self.now.subject.now.net.now) self.now.periods)) }
     {
         for place in [Place::Input(1), Place::Input(LONG_INPUT), Place::Everywhere] {
             if let Some(cycle) = self.number_cycle(alloc, number, place)? {
@@ -141,12 +142,13 @@ impl<'a> CycleQuestion<'a> {
     /// fixed rules.
     pub(crate) fn offered_cycle(&self, alloc: Global) -> Result<Option<Cycle>, NoMemory>
         ensures { IfOk result (λ cycle. IfSome cycle
-            (IsCycle self.now.quantised.now self.now.periods)) }
+            (IsCycleOf (List ℤ) (system_of self.now.subject.now.net.now) self.now.periods)) }
     {
-        let format = self.net.format();
+        let net = self.subject.net;
+        let format = net.format();
         for number in [
-            self.quantised.xhi(),
-            self.quantised.xlo(),
+            self.subject.high,
+            self.subject.low,
             format.hi(),
             format.lo(),
         ] {
@@ -154,7 +156,7 @@ impl<'a> CycleQuestion<'a> {
                 return Ok(Some(cycle));
             }
         }
-        for register in self.net.feed_forward()..self.net.registers() {
+        for register in net.feed_forward()..net.registers() {
             if let Some(cycle) = self.register_cycle(alloc, register)? {
                 return Ok(Some(cycle));
             }

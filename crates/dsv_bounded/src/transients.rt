@@ -5,20 +5,18 @@
 // start that is replayed, since a cycle without input has them so.
 #![tactic(auto, using(dsv_algebra::proofs::Casts::casts))]
 
-ghost use Rattle.std.specs.Prelude.{◌≡◌, length, IfOk, IfSome};
-ghost use Rattle.std.specs.List.{All};
-ghost use Rattle.dsv_meaning.specs.Equations.{order, registers_of};
+ghost use Rattle.std.specs.Prelude.{List, ℤ, IfOk, IfSome};
+ghost use Rattle.dsv_netlist.specs.Systems.{system_of};
 ghost use Rattle.dsv_word.specs.Words.{IsWord};
 ghost use Rattle.dsv_bounded.specs.Questions.{IsStart, AreRegisters};
-ghost use Rattle.dsv_bounded.specs.Verdicts.{IsCycle};
+ghost use Rattle.dsv_bounded.specs.Verdicts.{IsCycleOf};
 
 use crate::cycles::CycleQuestion;
 use crate::replayed_cycles::replayed_cycle;
 use crate::words::zero_words;
 use dsv_base::{NoMemory, WordList};
-use dsv_meaning::{Cycle, forward_registers};
+use dsv_meaning::Cycle;
 use dsv_netlist::Netlist;
-use dsv_quantiser::Quantised;
 use dsv_system::ExactList;
 use std::alloc::Global;
 
@@ -40,17 +38,12 @@ fn are_zero(registers: &[i64]) -> bool {
 }
 
 /// The words of registers, with 0 in the feed-forward ones.
-fn quiet_start(
-    alloc: Global,
-    quantised: &Quantised,
-    registers: &[i64],
-) -> Result<WordList, NoMemory>
-    requires many { length registers.now
-        ≡ registers_of quantised.now.realisation (order quantised.now) }
-    requires words { All (IsWord quantised.now.format) registers.now }
-    ensures { IfOk result (IsStart quantised.now) }
+fn quiet_start(alloc: Global, net: &Netlist, registers: &[i64]) -> Result<WordList, NoMemory>
+    requires { AreRegisters net.now registers.now }
+    ensures { IfOk result (IsStart net.now) }
 {
-    let forward = forward_registers(quantised.realisation(), quantised.order() as u32);
+    let _count = net.len(); // its clause on the netlist, for the proof
+    let forward = net.feed_forward();
     let mut start = zero_words(alloc, forward)?;
     start.extend_from_slice(registers.split_at(forward as usize).1)?;
     Ok(start)
@@ -77,17 +70,17 @@ impl<'a> CycleQuestion<'a> {
         registers: &mut [i64],
         settling: &[u32],
     ) -> Result<Option<Cycle>, NoMemory>
-        requires { AreRegisters self.now.net.now registers.old }
+        requires { AreRegisters self.now.subject.now.net.now registers.old }
         ensures { IfOk result (λ cycle. IfSome cycle
-            (IsCycle self.now.quantised.now self.now.periods)) }
+            (IsCycleOf (List ℤ) (system_of self.now.subject.now.net.now) self.now.periods)) }
     {
         for samples in settling {
-            drive(self.net, registers, 0, *samples);
+            drive(self.subject.net, registers, 0, *samples);
             if are_zero(registers) {
                 return Ok(None);
             }
-            let start = quiet_start(alloc, self.quantised, registers)?;
-            if let Some(cycle) = replayed_cycle(alloc, self.quantised, start, self.periods)? {
+            let start = quiet_start(alloc, self.subject.net, registers)?;
+            if let Some(cycle) = replayed_cycle(alloc, self.subject.net, start, self.periods)? {
                 return Ok(Some(cycle));
             }
         }

@@ -8,6 +8,8 @@ mod designs;
 #[cfg(test)]
 mod formulas;
 #[cfg(test)]
+mod netlist_cycles;
+#[cfg(test)]
 mod offers;
 #[cfg(test)]
 mod verdicts;

@@ -30,7 +30,7 @@ use Rattle.dsv_template.specs.Kept.{LeavesEarly, BreaksFrom}
 use Rattle.dsv_invariant.specs.Breaking.{DoLeave, DoBreak, IsUnsafeSample, IsFoundAt}
 use Rattle.dsv_invariant.specs.Causes.{IsUnsafe}
 use Rattle.dsv_invariant.proofs.Alike.{zero_registers}
-use Rattle.dsv_invariant.proofs.Stepwise.{past-append}
+use Rattle.dsv_system.proofs.RunLemmas.{past-append}
 
 -- ---- a run so far
 -- The registers are those after i of the inputs, and before each of these they were in the set.

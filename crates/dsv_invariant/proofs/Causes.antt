@@ -2,7 +2,7 @@
 use Rattle.std.proofs.Common.{ℕ, List, sym, subst}
 use Rattle.std.specs.Prelude.{◌≤ℤ◌}
 use Rattle.std.proofs.Math.IntN.{ℤ}
-use Rattle.dsv_realise.proofs.Alike.{alike_back}
+use Rattle.dsv_system.proofs.Alike.{alike_back}
 use Rattle.dsv_hints.specs.declared.step.Step.{Step}
 use Rattle.dsv_hints.specs.Lessons.{IsRefutation}
 use Rattle.dsv_meaning.specs.Equations.{Past, order, registers_of}

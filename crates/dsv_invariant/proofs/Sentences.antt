@@ -9,7 +9,7 @@ use Rattle.std.proofs.lemmas.List.Elements.{All-nil, All-cons, All-append, All-r
 use Rattle.dsv_word.specs.declared.format.Format.{Format}
 use Rattle.dsv_word.specs.Words.{width, lo, hi, IsWord}
 use Rattle.dsv_bounded.specs.Questions.{Asks, word_widths}
-use Rattle.dsv_realise.proofs.Alike.{alike_back}
+use Rattle.dsv_system.proofs.Alike.{alike_back}
 use Rattle.dsv_bounded.proofs.Questions.{asks_from, words_in_range}
 use Rattle.dsv_bounded.proofs.WordValues.{values_for, words_of_values, values_fit}
 use Rattle.dsv_meaning.specs.Equations.{Past, order, registers_of}

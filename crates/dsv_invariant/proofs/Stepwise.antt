@@ -10,20 +10,12 @@ use Rattle.dsv_bounded.proofs.WordValues.{zeros_are_words}
 use Rattle.dsv_netlist.specs.Conditions.{IsNetlist}
 use Rattle.dsv_netlist.specs.Nodes.{Net, at, sample_of, step_of}
 use Rattle.dsv_netlist.specs.Systems.{system_of}
-use Rattle.dsv_system.specs.Runs.{Sampled, SampleRow, rows_from, past_after, row_at}
+use Rattle.dsv_system.specs.Runs.{SampleRow}
 use Rattle.dsv_system.specs.Systems.{System, RunAlike, rows, registers_after, zeros, AreInRange}
+use Rattle.dsv_system.proofs.RunLemmas.{past-append, rows-append}
 use Rattle.dsv_template.specs.Kept.{IsState, IsStepwise}
 use Rattle.dsv_unroll.proofs.Runs.{registers_words}
 use Rattle.dsv_invariant.proofs.Alike.{state_alike}
-
--- ---- more inputs
-pub past-append : {P : Type 0} (sample : P → ℤ → Sampled P) (past : P) (xs ys : List ℤ) → past_after sample past (xs ++ ys) ≡ past_after sample (past_after sample past xs) ys
-past-append sample past [] ys = refl
-past-append sample past (x ∷ xs) ys = past-append sample (sample past x).past xs ys
-
-rows-append : {P : Type 0} (sample : P → ℤ → Sampled P) (past : P) (xs ys : List ℤ) → rows_from sample past (xs ++ ys) ≡ rows_from sample past xs ++ rows_from sample (past_after sample past xs) ys
-rows-append sample past [] ys = refl
-rows-append sample past (x ∷ xs) ys = ap (λ (rs : List SampleRow). row_at (sample past x) x ∷ rs) (rows-append sample (sample past x).past xs ys)
 
 -- ---- netlists
 -- an input in range is a word

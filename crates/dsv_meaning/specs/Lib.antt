@@ -1,6 +1,5 @@
 pub mod Equations
 pub mod Lines
-pub mod ReplayParts
 pub mod Replays
 pub mod Stepping
 pub mod Summands

@@ -2,7 +2,7 @@
 #![tactic(auto, using(dsv_algebra::proofs::Casts::casts))]
 
 ghost use Rattle.std.specs.Prelude.{◌≡◌, ◌+◌, ◌<◌, ◌≤◌, ◌^◌, ℕ, true, length};
-ghost use Rattle.std.specs.Prelude.{List, [], ◌∷◌, ◌++◌, take};
+ghost use Rattle.std.specs.Prelude.{take};
 ghost use Rattle.std.specs.List.{All};
 ghost use Rattle.dsv_word.specs.Words.{IsWord};
 ghost use Rattle.dsv_system.specs.Breaks.{IsInside, IsFirstBreak};
@@ -11,16 +11,13 @@ ghost use Rattle.dsv_system.specs.Systems.{rows, zeros};
 ghost use Rattle.dsv_meaning.specs.Equations.{Past, order, registers_of};
 ghost use Rattle.dsv_meaning.specs.Systems.{equations_of, outputs_over};
 ghost use Rattle.dsv_meaning.specs.Replays.{IfBreaks, IfUnbroken, IfReturns, IfGone};
-ghost use Rattle.dsv_meaning.specs.ReplayParts.{Hears};
-ghost use Rattle.dsv_system.specs.RowViews.{row_of};
-ghost use Rattle.dsv_system.specs.Runs.{SampleRow};
 
 use crate::chains::Registers;
 use crate::counts::registers;
 use crate::simulation::{loaded_registers, next_row};
 use dsv_base::WordList;
 use dsv_quantiser::Quantised;
-use dsv_system::{Row, first_outside};
+use dsv_system::{first_outside, is_heard};
 
 /// An overflow that replays: the inputs up to the first sample that has an exact value which is no
 /// word, the outputs of that run, the number of that sample, and the first such value in it with
@@ -64,14 +61,6 @@ pub enum CycleReplay {
     Returns { period: u32, sounding: bool },
     /// It doesn't come back up to the limit.
     Clean,
-}
-
-/// Whether an output isn't 0: one so far, or that of this row.
-fn is_heard(sounding: bool, row: &Row) -> bool
-    ensures { (rows : List SampleRow) → Hears rows sounding →
-        Hears (rows ++ row_of row.now ∷ []) result }
-{
-    sounding || row.y != 0
 }
 
 /// The registers with a zero in each.

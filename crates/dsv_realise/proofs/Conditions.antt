@@ -40,7 +40,7 @@ registers_named j zero i h = absurd (omega arith)
 registers_named j (suc n) zero h = refl
 registers_named j (suc n) (suc i) h = registers_named (j + 1) n i (omega arith)
 
-sources_named : (n i : ℕ) → i < n + 1 → names_word (sources n) i ≡ true
+pub sources_named : (n i : ℕ) → i < n + 1 → names_word (sources n) i ≡ true
 sources_named n zero h = refl
 sources_named n (suc i) h = registers_named 0 n i (omega arith)
 
@@ -71,7 +71,7 @@ registers-length : (j n : ℕ) → length (registers_from j n) ≡ n
 registers-length j zero = refl
 registers-length j (suc n) = ap suc (registers-length (j + 1) n)
 
-sources_sound : (f : Format) (n : ℕ) → AreSound f n (sources n)
+pub sources_sound : (f : Format) (n : ℕ) → AreSound f n (sources n)
 sources_sound f n =
     let w = word_bound f in
     let all : All (λ b. b ≡ w) (bounds_of f (sources n)) = registers_bound f 0 n (w ∷ []) (All-push (λ b. b ≡ w) [] w (All-nil (λ b. b ≡ w)) refl) in
@@ -82,7 +82,7 @@ sources_sound f n =
       words = λ k h. All-get_or (λ b. b ≡ w) (bounds_of f (sources n)) k 0 (omega (arith, names_word-below (sources n) k h, bounds-length f (sources n))) all;
     }
 
-sources_count : (n : ℕ) → HasCounts n (sources n) 0 0
+pub sources_count : (n : ℕ) → HasCounts n (sources n) 0 0
 sources_count n = record {
   products = sources-none is_product n refl (λ k. refl);
   sums = sources-none is_sum n refl (λ k. refl);
@@ -107,12 +107,12 @@ shift-length : (i k n : ℕ) → length (shift i k n) ≡ n
 shift-length i k zero = refl
 shift-length i k (suc n) = ap suc (count-length k n)
 
-all_named : (ns : List Node) (ks : List ℕ) → AllNamed ns ks → All (λ k. IsTrue (names_word ns k)) ks
+pub all_named : (ns : List Node) (ks : List ℕ) → AllNamed ns ks → All (λ k. IsTrue (names_word ns k)) ks
 all_named ns [] h = All-nil (λ k. IsTrue (names_word ns k))
 all_named ns (k ∷ ks) h = All-cons (λ j. IsTrue (names_word ns j)) k ks h.0 (all_named ns ks h.1)
 
 -- ---- coefficients
-small_word : (f : Format) (v : ℤ) → IsWord f v → IsSmall v
+pub small_word : (f : Format) (v : ℤ) → IsWord f v → IsSmall v
 small_word f v h = omega (arith, word_size f v h, word_small f)
 
 zero_small : (v : ℤ) → v ≡ pos 0 → IsSmall v

@@ -27,7 +27,7 @@ pub record GrownChain (f : Format) (r : ℕ) (old : List Node) (c : Chained) (p 
 pub chain_begins : (f : Format) (r : ℕ) (ns : List Node) (p s : ℕ) → AreSound f r ns → HasCounts r ns p s → GrownChain f r ns (no_places ns) p s 0
 chain_begins f r ns p s h u = record { sound = h; counts = u; keeps = λ k e. e; named = tt; many = refl }
 
-chain_grows : (f : Format) (r : ℕ) (old : List Node) (c : Chained) (p s p2 s2 n : ℕ) (m : Made) → GrownChain f r old c p s n → Grown f r c.nodes m p2 s2 → GrownChain f r old (with_place c m) p2 s2 (n + 1)
+pub chain_grows : (f : Format) (r : ℕ) (old : List Node) (c : Chained) (p s p2 s2 n : ℕ) (m : Made) → GrownChain f r old c p s n → Grown f r c.nodes m p2 s2 → GrownChain f r old (with_place c m) p2 s2 (n + 1)
 chain_grows f r old c p s p2 s2 n m g h =
     record {
       sound = h.sound;
@@ -37,7 +37,7 @@ chain_grows f r old c p s p2 s2 n m g h =
       many = omega (arith, g.many, length_push c.places m.place);
     }
 
-rechained : (f : Format) (r : ℕ) (old : List Node) (c : Chained) (p s n p2 s2 n2 : ℕ) → p ≡ p2 → s ≡ s2 → n ≡ n2 → GrownChain f r old c p s n → GrownChain f r old c p2 s2 n2
+pub rechained : (f : Format) (r : ℕ) (old : List Node) (c : Chained) (p s n p2 s2 n2 : ℕ) → p ≡ p2 → s ≡ s2 → n ≡ n2 → GrownChain f r old c p s n → GrownChain f r old c p2 s2 n2
 rechained f r old c p s n p2 s2 n2 e d b g = subst (λ (j : ℕ). GrownChain f r old c j s2 n2) e (subst (λ (j : ℕ). GrownChain f r old c p j n2) d (subst (λ (j : ℕ). GrownChain f r old c p s j) b g))
 
 pub alone_few : (ks : List ℕ) → length (first_alone ks) ≤ 1

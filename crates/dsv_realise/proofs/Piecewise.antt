@@ -1,28 +1,21 @@
 -- Lines and chains made piece after piece.
-use Rattle.std.proofs.Common.{◌≡◌, ℕ, zero, suc, ◌+◌, ◌-◌, ◌<◌, ◌≤◌, Bool, true, false, List, [], ◌∷◌, ◌++◌, length, get_or, take, drop, refl, sym, ap, ◌∙◌, arith, append_assoc}
+use Rattle.std.proofs.Common.{◌≡◌, ℕ, zero, suc, ◌+◌, ◌-◌, ◌<◌, Bool, false, List, [], ◌∷◌, ◌++◌, length, get_or, drop, refl, sym, ap, ◌∙◌, arith, append_assoc}
 use Rattle.std.proofs.Math.IntN.{ℤ, pos}
 use Rattle.std.proofs.lemmas.List.{append-nil, drop_more}
 use Rattle.dsv_netlist.specs.declared.node.Node.{Node}
 use Rattle.dsv_names.specs.declared.realisation.Realisation.TheVariants.{Ddfi}
 use Rattle.dsv_quantiser.specs.QuantisedView.{QuantisedView}
 use Rattle.dsv_meaning.specs.declared.summands.Summand.{Summand}
-use Rattle.dsv_meaning.specs.declared.summands.Summand.TheVariants.{Times, Alone}
+use Rattle.dsv_meaning.specs.declared.summands.Summand.TheVariants.{Times}
 use Rattle.dsv_meaning.specs.Lines.{summands}
-use Rattle.dsv_meaning.specs.Equations.{order, first_alone, transposed_line, delta_line}
+use Rattle.dsv_meaning.specs.Equations.{order, transposed_line, delta_line}
 use Rattle.dsv_realise.specs.Making.{Made, line_nodes, Chained, no_places, with_place, with_transposed, with_delta, with_transposed_delta}
 use Rattle.dsv_realise.specs.Netlists.{count, newest_at, first_form, delta_inputs, delta_outputs, net_with, net_as}
-use Rattle.dsv_realise.specs.Parts.{begins_added}
 use Rattle.dsv_realise.proofs.LineNodes.{same_summands}
 
 -- ---- chains
 count_first : (i n : ℕ) → i < n → count i (n - i) ≡ i ∷ count (i + 1) (n - (i + 1))
 count_first i n h = let e : n - i ≡ suc (n - (i + 1)) = omega arith in ap (count i) e
-
-pub word_after : (i n : ℕ) → i < n → first_alone (count (i + 1) (n - i)) ≡ Alone (i + 1) ∷ []
-word_after i n h = let e : n - i ≡ suc (n - i - 1) = omega arith in ap (λ (k : ℕ). first_alone (count (i + 1) k)) e
-
-pub none_after : (i n : ℕ) → n ≤ i → first_alone (count (i + 1) (n - i)) ≡ []
-none_after i n h = let e : n - i ≡ 0 = omega arith in ap (λ (k : ℕ). first_alone (count (i + 1) k)) e
 
 -- one new word of a transposed chain more
 pub transposed_more : (q : QuantisedView) (y i : ℕ) (ns ms : List Node) (ps qs : List ℕ) (p : ℕ) (all : Chained) → i < length q.a → length q.b ≡ length q.a
@@ -115,10 +108,6 @@ newest_zero (suc n) = refl
 pub newest_input : (bs : List ℤ) → summands false bs (newest_at 0) 0 ≡ summands false bs (λ i. i) 0
 newest_input bs = same_summands false bs (newest_at 0) (λ i. i) 0 0 (λ i h. newest_zero (0 + i))
 
-pub output_built : (bs : List ℤ) → 0 < length bs → summands {A = ℕ} false (take 1 bs) (λ i. 0) 0 ≡ Times false (get_or bs 0 (pos 0)) 0 ∷ []
-output_built [] h = absurd (omega arith)
-output_built (c ∷ cs) h = refl
-
 -- the products so far, and one more
 pub products_more : (away : Bool) (cs : List ℤ) (i w : ℕ) (c : ℤ) (old new : List (Summand ℕ)) → i < length cs → c ≡ get_or cs i (pos 0)
     → new ≡ old ++ Times away c w ∷ [] → new ++ summands away (drop (i + 1) cs) (λ j. j) (w + 1) ≡ old ++ summands away (drop i cs) (λ j. j) w
@@ -126,7 +115,3 @@ products_more away cs i w c old new l p g =
     let rest = summands away (drop (i + 1) cs) (λ (j : ℕ). j) (w + 1) in
     let heads : Times away c w ∷ rest ≡ summands away (drop i cs) (λ j. j) w = ap (λ v. Times away v w ∷ rest) p ∙ sym (ap (λ vs. summands away vs (λ (j : ℕ). j) w) (drop_more cs i (pos 0) l)) in
     ap (λ (ts : List (Summand ℕ)). ts ++ rest) g ∙ append_assoc old (Times away c w ∷ []) rest ∙ ap (λ (ts : List (Summand ℕ)). old ++ ts) heads
-
-pub still_added : (ts us : List (Summand ℕ)) → 0 < length ts → begins_added ts ≡ true → begins_added (ts ++ us) ≡ true
-still_added [] us l h = absurd (omega arith)
-still_added (t ∷ ts) us l h = h

@@ -8,12 +8,14 @@ use Rattle.std.proofs.lemmas.List.Elements.{All-push, All-take}
 use Rattle.dsv_system.specs.Breaks.{IsInside, IsFirstBreak}
 use Rattle.dsv_system.specs.OutsideValues.{IsFirstOutside}
 use Rattle.dsv_system.specs.Runs.{SampleRow, row_at}
-use Rattle.dsv_system.specs.Systems.{System, rows, zeros, AreInRange}
+use Rattle.dsv_system.specs.Systems.{System, rows, registers_after, zeros, AreInRange}
 use Rattle.dsv_netlist.specs.Nodes.{Net, step_of}
 use Rattle.dsv_netlist.specs.Systems.{system_of}
 use Rattle.dsv_meaning.specs.Traces.{IsTraceOf}
-use Rattle.dsv_meaning.proofs.ReplayLemmas.{take-rows, at_length}
-use Rattle.dsv_realise.proofs.Rows.{run_more}
+use Rattle.dsv_system.proofs.QuietRuns.{Moves}
+use Rattle.dsv_system.proofs.RunLemmas.{take-rows}
+use Rattle.dsv_meaning.proofs.ReplayLemmas.{at_length}
+use Rattle.dsv_realise.proofs.Rows.{next_rows, run_more}
 
 -- the first inputs, so many, have led to these registers and gave these outputs, and none of their rows breaks
 pub record IsUnbroken (net : Net) (inputs r ys : List ℤ) (sample : ℕ) : Type 0 where
@@ -77,3 +79,10 @@ trace_here {net} {inputs} {until} {r} {ys} {zs} {row} {sample} {value} {exact} {
       };
       within = l;
     }
+
+-- ---- one sample of a netlist
+pub net_moves : (net : Net) (r new : List ℤ) (x : ℤ) (row : SampleRow) → row ≡ row_at (step_of net r x) x → new ≡ (step_of net r x).past → Moves (List ℤ) (system_of net) r new x row
+net_moves net r new x row e g = record {
+  shown = λ xs. sym (next_rows net r new x xs row e g);
+  left = λ xs. ap (λ (rs : List ℤ). registers_after (system_of net) rs xs) (sym g);
+}

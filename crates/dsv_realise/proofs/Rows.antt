@@ -11,7 +11,7 @@ use Rattle.dsv_netlist.specs.Nodes.{Net, step_of}
 use Rattle.dsv_netlist.specs.Systems.{system_of}
 use Rattle.dsv_system.specs.Systems.{rows}
 
-next_rows : (net : Net) (r new : List ℤ) (x : ℤ) (xs : List ℤ) (row : SampleRow) → row ≡ row_at (step_of net r x) x → new ≡ (step_of net r x).past
+pub next_rows : (net : Net) (r new : List ℤ) (x : ℤ) (xs : List ℤ) (row : SampleRow) → row ≡ row_at (step_of net r x) x → new ≡ (step_of net r x).past
     → row ∷ rows (system_of net) new xs ≡ rows (system_of net) r (x ∷ xs)
 next_rows net r new x xs row e g =
     ap (λ (s : SampleRow). s ∷ rows (system_of net) new xs) e ∙ ap (λ l. row_at (step_of net r x) x ∷ rows (system_of net) l xs) g

@@ -6,7 +6,7 @@ ghost use Rattle.dsv_realise.specs.Netlists.{second_form, transposed_form};
 ghost use Rattle.dsv_realise.specs.Parts.{line_made, most_line_nodes, most_second_line_nodes};
 
 use crate::lines::line;
-use crate::nodes::sources;
+use crate::nodes::source_nodes;
 use crate::parts::BuiltLine;
 use crate::summands::{direct_summands, forward_summands, state_summands, transposed_output};
 use dsv_base::NoMemory;
@@ -20,7 +20,7 @@ pub(crate) fn first_form(alloc: Global, quantised: &Quantised) -> Result<BuiltLi
     ensures few { IfOk result (λ form. length form.nodes.items ≤ most_line_nodes) }
 {
     let order = quantised.order() as u32;
-    let mut nodes = sources(alloc, order + order)?;
+    let mut nodes = source_nodes(alloc, order + order)?;
     let place = line(&mut nodes, quantised, &direct_summands(quantised))?;
     Ok(BuiltLine { nodes, place })
 }
@@ -30,7 +30,7 @@ pub(crate) fn second_form_state(alloc: Global, quantised: &Quantised) -> Result<
     ensures made { IfOk result (λ form. line_made form ≡ second_form_state quantised.now) }
     ensures few { IfOk result (λ form. length form.nodes.items ≤ most_line_nodes) }
 {
-    let mut nodes = sources(alloc, quantised.order() as u32)?;
+    let mut nodes = source_nodes(alloc, quantised.order() as u32)?;
     let place = line(&mut nodes, quantised, &state_summands(quantised))?;
     Ok(BuiltLine { nodes, place })
 }
@@ -56,7 +56,7 @@ pub(crate) fn transposed_form(alloc: Global, quantised: &Quantised) -> Result<Bu
     ensures made { IfOk result (λ form. line_made form ≡ transposed_form quantised.now) }
     ensures few { IfOk result (λ form. length form.nodes.items ≤ most_line_nodes) }
 {
-    let mut nodes = sources(alloc, quantised.order() as u32)?;
+    let mut nodes = source_nodes(alloc, quantised.order() as u32)?;
     let place = line(&mut nodes, quantised, &transposed_output(quantised))?;
     Ok(BuiltLine { nodes, place })
 }

@@ -12,7 +12,10 @@ mod replays;
 mod simulation;
 mod summands;
 
+pub use lines::narrow_line;
 pub use netlist::realise;
+pub use nodes::source_nodes;
 pub use ranged_netlist::RangedNetlist;
-pub use replays::replayed_trace;
+pub use replays::{replay_cycle, replayed_trace};
 pub use simulation::{simulate, simulate_netlist};
+pub use summands::{Summands, push_products};

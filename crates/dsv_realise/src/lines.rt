@@ -111,8 +111,9 @@ fn next_summands(
     Ok(place)
 }
 
-/// The nodes of a line that is summed in words.
-fn narrow_line(nodes: &mut Vec<Node>, summands: &[Summand<u32>]) -> Result<u32, NoMemory>
+/// The nodes of a line of at most `MOST_SUMMANDS` summands that is summed in words, after fewer
+/// than 2^15 nodes; answers the number of the one that has its value.
+pub fn narrow_line(nodes: &mut Vec<Node>, summands: &[Summand<u32>]) -> Result<u32, NoMemory>
     requires few { length nodes.old.items < 2 ^ 15 }
     requires short { length summands.now ≤ MOST_SUMMANDS }
     ensures made { IfOk result (λ place. made_at nodes.new.items place ≡

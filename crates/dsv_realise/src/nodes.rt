@@ -20,8 +20,9 @@ pub(crate) fn put(nodes: &mut Vec<Node>, node: Node) -> Result<u32, NoMemory>
     Ok(place)
 }
 
-/// The input and the registers.
-pub(crate) fn sources(alloc: Global, registers: u32) -> Result<Vec<Node>, NoMemory>
+/// The nodes that every netlist of up to 16 registers begins with: the input, and then the
+/// registers in their order.
+pub fn source_nodes(alloc: Global, registers: u32) -> Result<Vec<Node>, NoMemory>
     requires { registers ≤ 16 }
     ensures made { IfOk result (λ nodes. nodes.items ≡ sources registers) }
     ensures few { IfOk result (λ nodes. length nodes.items ≡ registers + 1) }

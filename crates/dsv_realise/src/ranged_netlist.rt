@@ -19,6 +19,18 @@ pub struct RangedNetlist<'a> {
 impl<'a> RangedNetlist<'a> {
     ghost use Rattle.std.specs.Prelude.{◌≡◌};
 
+    /// The netlist with inputs from `low` to `high`.
+    pub fn new(net: &'a Netlist, low: i64, high: i64) -> RangedNetlist<'a>
+        requires low { IsWord net.now.format low }
+        requires high { IsWord net.now.format high }
+        requires order { low ≤ℤ high }
+        ensures net { result.net.now ≡ net.now }
+        ensures low { result.low ≡ low }
+        ensures high { result.high ≡ high }
+    {
+        RangedNetlist { net, low, high }
+    }
+
     /// The netlist with the range of a controller's inputs.
     pub fn of_controller(quantised: &Quantised, net: &'a Netlist) -> RangedNetlist<'a>
         requires { net.now.format ≡ quantised.now.format }
@@ -26,10 +38,6 @@ impl<'a> RangedNetlist<'a> {
         ensures low { result.low ≡ quantised.now.xlo }
         ensures high { result.high ≡ quantised.now.xhi }
     {
-        RangedNetlist {
-            net,
-            low: quantised.xlo(),
-            high: quantised.xhi(),
-        }
+        RangedNetlist::new(net, quantised.xlo(), quantised.xhi())
     }
 }

@@ -1,18 +1,23 @@
-// Traces of inputs that are replayed in a netlist.
-ghost use Rattle.std.specs.Prelude.{◌≡◌, ◌<◌, ◌^◌, List, ℤ, length, IfOk, IfSome, IfNone};
+// Traces of inputs, and limit cycles of starts, that are replayed in a netlist.
+ghost use Rattle.std.specs.Prelude.{◌≡◌, ◌<◌, ◌≤◌, ◌^◌, ℕ, List, ℤ, true, length, map, take};
+ghost use Rattle.std.specs.Prelude.{IfOk, IfSome, IfNone};
 ghost use Rattle.std.specs.List.{All};
 ghost use Rattle.dsv_word.specs.Words.{IsWord};
 ghost use Rattle.dsv_system.specs.Breaks.{IsInside};
+ghost use Rattle.dsv_system.specs.Cycles.{Returns, IsLeastPeriod, IsSounding};
+ghost use Rattle.dsv_system.specs.Runs.{SampleRow};
 ghost use Rattle.dsv_system.specs.Systems.{rows, zeros, AreInRange};
 ghost use Rattle.dsv_netlist.specs.Systems.{system_of};
+ghost use Rattle.dsv_meaning.specs.Replays.{IfReturns, IfGone};
 ghost use Rattle.dsv_meaning.specs.Traces.{IsTraceOf};
 ghost use Rattle.dsv_realise.specs.RangedNetlists.{IsTraceIn};
 
 use crate::ranged_netlist::RangedNetlist;
 use crate::simulation::{next_row, zero_registers};
 use dsv_base::{NoMemory, WordList};
-use dsv_meaning::Trace;
-use dsv_system::first_outside;
+use dsv_meaning::{CycleReplay, Trace};
+use dsv_netlist::Netlist;
+use dsv_system::{first_outside, is_heard};
 use std::alloc::Global;
 
 /// The trace of these inputs from registers of zeros, which it steps.
@@ -69,4 +74,76 @@ pub fn replayed_trace(
 {
     let mut registers = zero_registers(alloc, subject.net)?;
     stepped_trace(alloc, subject, registers.as_mut_slice(), inputs)
+}
+
+/// Whether a start comes back without input, in registers that hold it, which it steps.
+fn stepped_cycle(
+    net: &Netlist,
+    registers: &mut [i64],
+    start: &[i64],
+    limit: u32,
+    outputs: &mut [i64],
+) -> CycleReplay
+    requires held { registers.old ≡ start.now }
+    requires many { length start.now ≡ length net.now.next }
+    requires words { All (IsWord net.now.format) start.now }
+    requires room { length outputs.old ≡ limit }
+    ensures least { IfReturns result (λ period sounding.
+        IsLeastPeriod (List ℤ) (system_of net.now) start.now period) }
+    ensures few { IfReturns result (λ period sounding. period ≤ limit) }
+    ensures sounding { IfReturns result (λ period sounding. sounding ≡ true →
+        IsSounding (List ℤ) (system_of net.now) start.now period) }
+    ensures lasting { IfReturns result (λ period sounding. (n : ℕ) →
+        IsSounding (List ℤ) (system_of net.now) start.now n → sounding ≡ true) }
+    ensures gone { IfGone result ((p : ℕ) → p ≤ limit →
+        Returns (List ℤ) (system_of net.now) start.now p → ⊥) }
+    ensures outputs { IfReturns result (λ period sounding. take period outputs.new
+        ≡ map (λ (r : SampleRow). r.y) (rows (system_of net.now) start.now (zeros period))) }
+    ensures room { length outputs.new ≡ limit }
+{
+    let mut sounding = false;
+    for done in 0..limit {
+        let row = next_row(net, registers, &0);
+        outputs[done as usize] = row.y;
+        sounding = is_heard(sounding, &row);
+        if *registers == *start {
+            return CycleReplay::Returns {
+                period: done + 1,
+                sounding,
+            };
+        }
+    }
+    CycleReplay::Clean
+}
+
+/// The least number of samples with input 0, up to a limit, after which the netlist has brought
+/// these words back into its registers, and whether an output on the way isn't 0; the outputs until
+/// then are written.
+pub fn replay_cycle(
+    alloc: Global,
+    net: &Netlist,
+    start: &[i64],
+    limit: u32,
+    outputs: &mut [i64],
+) -> Result<CycleReplay, NoMemory>
+    requires many { length start.now ≡ length net.now.next }
+    requires words { All (IsWord net.now.format) start.now }
+    requires room { length outputs.old ≡ limit }
+    ensures least { IfOk result (λ replay. IfReturns replay (λ period sounding.
+        IsLeastPeriod (List ℤ) (system_of net.now) start.now period)) }
+    ensures few { IfOk result (λ replay. IfReturns replay (λ period sounding. period ≤ limit)) }
+    ensures sounding { IfOk result (λ replay. IfReturns replay (λ period sounding.
+        sounding ≡ true → IsSounding (List ℤ) (system_of net.now) start.now period)) }
+    // An output that isn't 0 at any later time is heard in the first period already.
+    ensures lasting { IfOk result (λ replay. IfReturns replay (λ period sounding. (n : ℕ) →
+        IsSounding (List ℤ) (system_of net.now) start.now n → sounding ≡ true)) }
+    ensures gone { IfOk result (λ replay. IfGone replay ((p : ℕ) → p ≤ limit →
+        Returns (List ℤ) (system_of net.now) start.now p → ⊥)) }
+    ensures outputs { IfOk result (λ replay. IfReturns replay (λ period sounding.
+        take period outputs.new ≡ map (λ (r : SampleRow). r.y)
+        (rows (system_of net.now) start.now (zeros period)))) }
+    ensures room { length outputs.new ≡ limit }
+{
+    let mut registers = Vec::from_slice(alloc, start)?;
+    Ok(stepped_cycle(net, registers.as_mut_slice(), start, limit, outputs))
 }

@@ -17,10 +17,11 @@ use dsv_meaning::{MOST_SUMMANDS, Summand};
 use dsv_quantiser::Quantised;
 
 /// The summands of a line, in their order.
-pub(crate) type Summands = ArrayVec<Summand<u32>, MOST_SUMMANDS>;
+pub type Summands = ArrayVec<Summand<u32>, MOST_SUMMANDS>;
 
-/// Adds the products of coefficients and the words of the nodes from one on.
-fn push_products(list: &mut Summands, away: bool, coeffs: &[i64], from: u32)
+/// Adds the products of coefficients and the words of the nodes from one on, which are added to a
+/// line, or taken away from it.
+pub fn push_products(list: &mut Summands, away: bool, coeffs: &[i64], from: u32)
     requires room { length list.old.items + length coeffs.now ≤ MOST_SUMMANDS }
     requires low { from ≤ most_source_nodes }
     ensures value { list.new.items

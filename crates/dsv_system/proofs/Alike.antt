@@ -11,6 +11,15 @@ use Rattle.dsv_system.specs.Systems.{System, RunAlike, rows, zeros}
 use Rattle.dsv_system.specs.Breaks.{IsOutside, Breaks, IsFirstBreak, Replays}
 use Rattle.dsv_system.specs.Cycles.{Returns, IsLeastPeriod, Cycles}
 
+pub alike_back : (P Q : Type 0) (m : System P) (n : System Q) → RunAlike P Q m n → RunAlike Q P n m
+alike_back P Q m n a = record {
+  many = sym a.many;
+  forward = sym a.forward;
+  format = sym a.format;
+  rows = λ start xs l. sym (a.rows start xs (l ∙ a.many));
+  registers = λ start xs l. sym (a.registers start xs (l ∙ a.many));
+}
+
 -- the rows from registers of zeros
 zero_rows : (P Q : Type 0) (m : System P) (n : System Q) (xs : List ℤ) → RunAlike P Q m n → rows m (zeros m.many) xs ≡ rows n (zeros n.many) xs
 zero_rows P Q m n xs h = ap (λ (k : ℕ). rows m (zeros k) xs) h.many ∙ h.rows (zeros n.many) xs (length-replicate n.many (pos 0))

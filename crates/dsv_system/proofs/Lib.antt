@@ -1,2 +1,4 @@
 pub mod Alike
+pub mod QuietRuns
+pub mod RunLemmas
 pub mod Words

@@ -7,4 +7,4 @@ mod rows;
 
 pub use exact_list::{ExactList, MOST_EXACT};
 pub use outside::{OutsideValue, first_outside};
-pub use rows::{Row, Rows};
+pub use rows::{Row, Rows, is_heard};

@@ -1,6 +1,8 @@
 // The rows of runs.
-ghost use Rattle.std.specs.Prelude.{◌≡◌, ◌↔◌, [], length, map, IsTrue};
+ghost use Rattle.std.specs.Prelude.{◌≡◌, ◌↔◌, ◌++◌, ◌∷◌, [], List, length, map, IsTrue};
 ghost use Rattle.dsv_system.specs.RowViews.{row_of};
+ghost use Rattle.dsv_system.specs.Runs.{SampleRow};
+ghost use Rattle.dsv_system.specs.Sounds.{Hears};
 
 use crate::exact_list::ExactList;
 use std::marker::Model;
@@ -72,4 +74,12 @@ impl Rows {
     {
         self.rows
     }
+}
+
+/// Whether an output isn't 0: one so far, or that of this row.
+pub fn is_heard(sounding: bool, row: &Row) -> bool
+    ensures { (rows : List SampleRow) → Hears rows sounding →
+        Hears (rows ++ row_of row.now ∷ []) result }
+{
+    sounding || row.y != 0
 }

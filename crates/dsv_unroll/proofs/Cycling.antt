@@ -8,20 +8,13 @@ use Rattle.std.proofs.lemmas.Bool.{cases_lt}
 use Rattle.std.proofs.lemmas.Bool.Decides.{nat_tests}
 use Rattle.std.proofs.lemmas.List.{replicate_more, replicate-append-replicate, length-map}
 use Rattle.std.proofs.lemmas.List.Folds.{list_any-append}
-use Rattle.dsv_system.specs.Runs.{SampleRow, Sampled, rows_from, past_after, row_at}
+use Rattle.dsv_system.specs.Runs.{SampleRow, rows_from, past_after}
 use Rattle.dsv_system.specs.Systems.{zeros}
+use Rattle.dsv_system.proofs.RunLemmas.{past-append, rows-append}
 use Rattle.dsv_netlist.specs.Nodes.{Net, step_of}
 use Rattle.dsv_unroll.proofs.CycleTerms.{matches, equal_true, equal_from}
 
 -- ---- runs, one sample more
-past-append : (step : List ℤ → ℤ → Sampled (List ℤ)) (s xs ys : List ℤ) → past_after step s (xs ++ ys) ≡ past_after step (past_after step s xs) ys
-past-append step s [] ys = refl
-past-append step s (x ∷ xs) ys = past-append step (step s x).past xs ys
-
-rows-append : (step : List ℤ → ℤ → Sampled (List ℤ)) (s xs ys : List ℤ) → rows_from step s (xs ++ ys) ≡ rows_from step s xs ++ rows_from step (past_after step s xs) ys
-rows-append step s [] ys = refl
-rows-append step s (x ∷ xs) ys = ap (λ (rs : List SampleRow). row_at (step s x) x ∷ rs) (rows-append step (step s x).past xs ys)
-
 -- whether an output isn't 0
 abbrev pub is_sound : SampleRow → Bool
 is_sound r = not (int_eq r.y (pos 0))

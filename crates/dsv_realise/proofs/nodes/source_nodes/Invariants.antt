@@ -1,6 +1,6 @@
 use Rattle.std.proofs.Common.{◌≡◌, ◌++◌, ◌-◌, ◌+◌, length}
 use Rattle.dsv_realise.specs.Netlists.{sources, registers_from}
-use Rattle.dsv_realise.proofs.nodes.sources.Given as goal
+use Rattle.dsv_realise.proofs.nodes.source_nodes.Given as goal
 
 abbrev pub invariant-loop-register : goal.invariant-loop-register
 invariant-loop-register l = record {

@@ -1,7 +1,7 @@
 use Rattle.std.proofs.Common.{arith}
 use Rattle.dsv_realise.specs.Netlists.{sources}
 use Rattle.dsv_realise.proofs.Numbers.{register_more}
-use Rattle.dsv_realise.proofs.nodes.sources.Goals as goal
+use Rattle.dsv_realise.proofs.nodes.source_nodes.Goals as goal
 
 pub loop-register-preserved : goal.loop-register-preserved
 loop-register-preserved c = record {

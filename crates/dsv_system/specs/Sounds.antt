@@ -1,4 +1,4 @@
--- Serves private contracts: what a replay looks for in a sample.
+-- What is heard in rows: outputs that aren't 0.
 use Rattle.std.specs.Prelude.{◌≡◌, ◌≢◌, Bool, true, false, List, pos}
 use Rattle.std.specs.List.{All, Contains}
 use Rattle.dsv_system.specs.Runs.{SampleRow}
