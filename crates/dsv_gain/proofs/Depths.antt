@@ -12,7 +12,7 @@ use Rattle.dsv_gain.specs.declared.outlook.Outlook.TheVariants as outlook
 use Rattle.dsv_gain.specs.declared.ends.Ends.{Ends}
 use Rattle.dsv_gain.specs.declared.ends.Ends.TheVariants as shown
 use Rattle.dsv_gain.specs.declared.search.Search.{Search}
-use Rattle.dsv_gain.specs.Gains.{hulls, hulls_after, pass_ends, after_pass, has_settled, best_or, gain_at, search, step_turn, run_turn, turn_outlook, gain_from, zero_pass, word_pass, gain_of}
+use Rattle.dsv_gain.specs.Gains.{hulls, hulls_after, pass_ends, after_pass, has_settled, best_or, gain_at, search, step_turn, run_turn, turn_outlook, gain_from, word_pass, gain_of}
 use Rattle.dsv_gain.specs.Safe.{GainsAreFoundAgain}
 use Rattle.dsv_gain.proofs.Gains.{same_gain, answer_within}
 
@@ -37,43 +37,43 @@ kept_deep sample (Some g) ranges gain e = e
 before_deep : (sample : ℕ) (gain : Gain) → DepthFrom (suc sample) None gain → DepthFrom sample None gain
 before_deep sample gain h = omega (arith, h)
 
-step_deep : (settled : Bool) (sample : ℕ) (next : Search → Outlook) (run step : Pass) (seen : List Range) (best : Option Gain) (e : Ends) (gain : Gain)
-    → ((s : Search) → next s ≡ outlook.Safe gain → DepthFrom (suc sample) s.best gain) → turn_outlook next (step_turn settled sample run step seen best e) ≡ outlook.Safe gain → DepthFrom sample best gain
-step_deep settled sample next run step seen (Some g) (shown.Leaves value) gain rest h = ap (λ (x : Gain). x.depth) (same_gain g gain h)
-step_deep settled sample next run step seen None (shown.Leaves value) gain rest h = before_deep sample gain (rest (search run step seen None) h)
-step_deep true sample next run step seen best (shown.Words last) gain rest h = gain_deep sample best (hulls seen last) gain (same_gain (gain_at sample best (hulls seen last)) gain h)
-step_deep false sample next run step seen best (shown.Words last) gain rest h =
-    kept_deep sample best (hulls seen last) gain (rest (search run step seen (Some (gain_at sample best (hulls seen last)))) h)
+step_deep : (settled : Bool) (sample : ℕ) (next : Search → Outlook) (pass : Pass) (seen : List Range) (best : Option Gain) (e : Ends) (gain : Gain)
+    → ((s : Search) → next s ≡ outlook.Safe gain → DepthFrom (suc sample) s.best gain) → turn_outlook next (step_turn settled sample pass seen best e) ≡ outlook.Safe gain → DepthFrom sample best gain
+step_deep settled sample next pass seen (Some g) (shown.Leaves value) gain rest h = ap (λ (x : Gain). x.depth) (same_gain g gain h)
+step_deep settled sample next pass seen None (shown.Leaves value) gain rest h = before_deep sample gain (rest (search pass seen None) h)
+step_deep true sample next pass seen best (shown.Words last) gain rest h = gain_deep sample best (hulls seen last) gain (same_gain (gain_at sample best (hulls seen last)) gain h)
+step_deep false sample next pass seen best (shown.Words last) gain rest h =
+    kept_deep sample best (hulls seen last) gain (rest (search pass seen (Some (gain_at sample best (hulls seen last)))) h)
 
 run_deep : (nodes : List Node) (next : List ℕ) (sample : ℕ) (after : Search → Outlook) (s : Search) (e : Ends) (gain : Gain) → ((l : Search) → after l ≡ outlook.Safe gain → DepthFrom (suc sample) l.best gain)
-    → turn_outlook after (run_turn sample s.seen s.best (λ seen. step_turn (has_settled nodes (length next) (after_pass nodes next s.step).point) sample (after_pass nodes next s.run) (after_pass nodes next s.step) seen s.best (pass_ends nodes s.step)) e) ≡ outlook.Safe gain → DepthFrom sample s.best gain
+    → turn_outlook after (run_turn sample s.seen s.best (λ seen. step_turn (has_settled nodes (length next) (after_pass nodes next s.pass).point) sample (after_pass nodes next s.pass) seen s.best (pass_ends 0 nodes s.pass)) e) ≡ outlook.Safe gain → DepthFrom sample s.best gain
 run_deep nodes next sample after s (shown.Leaves value) gain rest h = best_deep (outlook.Leaves sample value) sample s.best gain (λ q. absurd cc) h
 run_deep nodes next sample after s (shown.Words now) gain rest h =
-    step_deep (has_settled nodes (length next) (after_pass nodes next s.step).point) sample after (after_pass nodes next s.run) (after_pass nodes next s.step) (hulls_after s.seen now) s.best (pass_ends nodes s.step) gain rest h
+    step_deep (has_settled nodes (length next) (after_pass nodes next s.pass).point) sample after (after_pass nodes next s.pass) (hulls_after s.seen now) s.best (pass_ends 0 nodes s.pass) gain rest h
 
 deep_from : (nodes : List Node) (next : List ℕ) (left sample : ℕ) (s : Search) (gain : Gain) → gain_from nodes next left sample s ≡ outlook.Safe gain → DepthFrom sample s.best gain
 deep_from nodes next zero sample s gain h = best_deep outlook.Deep sample s.best gain (λ q. absurd cc) h
 deep_from nodes next (suc left) sample s gain h =
-    run_deep nodes next sample (gain_from nodes next left (suc sample)) s (pass_ends nodes s.run) gain (λ l q. deep_from nodes next left (suc sample) l gain q) h
+    run_deep nodes next sample (gain_from nodes next left (suc sample)) s (pass_ends (length next) nodes s.pass) gain (λ l q. deep_from nodes next left (suc sample) l gain q) h
 
 -- ---- found again
 abbrev IsSafe : Outlook → Type 0
 IsSafe found = (g : Gain) × (found ≡ outlook.Safe g)
 
 -- before anything was found
-abbrev unfound : Pass → Pass → Option (List Range) → Search
-unfound run step seen = record { run = run; step = step; seen = seen; best = None }
+abbrev unfound : Pass → Option (List Range) → Search
+unfound pass seen = record { pass = pass; seen = seen; best = None }
 
-step_again : (settled : Bool) (sample : ℕ) (next short : Search → Outlook) (run step : Pass) (seen : List Range) (e : Ends) (gain : Gain)
+step_again : (settled : Bool) (sample : ℕ) (next short : Search → Outlook) (pass : Pass) (seen : List Range) (e : Ends) (gain : Gain)
     → ((s : Search) → next s ≡ outlook.Safe gain → DepthFrom (suc sample) s.best gain)
     → ((s : Search) → sample ≡ gain.depth → short s ≡ best_or outlook.Deep s.best)
-    → (next (unfound run step (Some seen)) ≡ outlook.Safe gain → IsSafe (short (unfound run step (Some seen))))
-    → turn_outlook next (step_turn settled sample run step seen None e) ≡ outlook.Safe gain → IsSafe (turn_outlook short (step_turn settled sample run step seen None e))
-step_again settled sample next short run step seen (shown.Leaves value) gain deep last rest h = rest h
-step_again true sample next short run step seen (shown.Words ranges) gain deep last rest h = (gain_at sample None (hulls seen ranges), refl)
-step_again false sample next short run step seen (shown.Words ranges) gain deep last rest h =
+    → (next (unfound pass (Some seen)) ≡ outlook.Safe gain → IsSafe (short (unfound pass (Some seen))))
+    → turn_outlook next (step_turn settled sample pass seen None e) ≡ outlook.Safe gain → IsSafe (turn_outlook short (step_turn settled sample pass seen None e))
+step_again settled sample next short pass seen (shown.Leaves value) gain deep last rest h = rest h
+step_again true sample next short pass seen (shown.Words ranges) gain deep last rest h = (gain_at sample None (hulls seen ranges), refl)
+step_again false sample next short pass seen (shown.Words ranges) gain deep last rest h =
     let new = gain_at sample None (hulls seen ranges) in
-    let s = search run step seen (Some new) in
+    let s = search pass seen (Some new) in
     (new, last s (deep s h))
 
 no_leaving : (sample value : ℕ) (gain : Gain) → outlook.Leaves sample value ≡ outlook.Safe gain → ⊥
@@ -82,36 +82,36 @@ no_leaving sample value gain h = cc
 not_deep : (gain : Gain) → outlook.Deep ≡ outlook.Safe gain → ⊥
 not_deep gain h = cc
 
-run_again : (nodes : List Node) (next : List ℕ) (sample : ℕ) (after short : Search → Outlook) (run step : Pass) (seen : Option (List Range)) (e : Ends) (gain : Gain)
+run_again : (nodes : List Node) (next : List ℕ) (sample : ℕ) (after short : Search → Outlook) (pass : Pass) (seen : Option (List Range)) (e : Ends) (gain : Gain)
     → ((s : Search) → after s ≡ outlook.Safe gain → DepthFrom (suc sample) s.best gain)
     → ((s : Search) → sample ≡ gain.depth → short s ≡ best_or outlook.Deep s.best)
-    → ((run step : Pass) (seen : List Range) → after (unfound run step (Some seen)) ≡ outlook.Safe gain → IsSafe (short (unfound run step (Some seen))))
-    → turn_outlook after (run_turn sample seen None (λ all. step_turn (has_settled nodes (length next) (after_pass nodes next step).point) sample (after_pass nodes next run) (after_pass nodes next step) all None (pass_ends nodes step)) e) ≡ outlook.Safe gain
-    → IsSafe (turn_outlook short (run_turn sample seen None (λ all. step_turn (has_settled nodes (length next) (after_pass nodes next step).point) sample (after_pass nodes next run) (after_pass nodes next step) all None (pass_ends nodes step)) e))
-run_again nodes next sample after short run step seen (shown.Leaves value) gain deep last rest h = absurd (no_leaving sample value gain h)
-run_again nodes next sample after short run step seen (shown.Words now) gain deep last rest h =
-    step_again (has_settled nodes (length next) (after_pass nodes next step).point) sample after short (after_pass nodes next run) (after_pass nodes next step) (hulls_after seen now) (pass_ends nodes step) gain deep last
-    (rest (after_pass nodes next run) (after_pass nodes next step) (hulls_after seen now)) h
+    → ((pass : Pass) (seen : List Range) → after (unfound pass (Some seen)) ≡ outlook.Safe gain → IsSafe (short (unfound pass (Some seen))))
+    → turn_outlook after (run_turn sample seen None (λ all. step_turn (has_settled nodes (length next) (after_pass nodes next pass).point) sample (after_pass nodes next pass) all None (pass_ends 0 nodes pass)) e) ≡ outlook.Safe gain
+    → IsSafe (turn_outlook short (run_turn sample seen None (λ all. step_turn (has_settled nodes (length next) (after_pass nodes next pass).point) sample (after_pass nodes next pass) all None (pass_ends 0 nodes pass)) e))
+run_again nodes next sample after short pass seen (shown.Leaves value) gain deep last rest h = absurd (no_leaving sample value gain h)
+run_again nodes next sample after short pass seen (shown.Words now) gain deep last rest h =
+    step_again (has_settled nodes (length next) (after_pass nodes next pass).point) sample after short (after_pass nodes next pass) (hulls_after seen now) (pass_ends 0 nodes pass) gain deep last
+    (rest (after_pass nodes next pass) (hulls_after seen now)) h
 
 -- no sample is left where the depth is reached
 last_of : (nodes : List Node) (next : List ℕ) (sample k : ℕ) (gain : Gain) (s : Search) → gain.depth + 1 ≡ sample + suc k → sample ≡ gain.depth → gain_from nodes next k (suc sample) s ≡ best_or outlook.Deep s.best
 last_of nodes next sample zero gain s e f = refl
 last_of nodes next sample (suc k) gain s e f = absurd (omega (arith, e, f))
 
-again_from : (nodes : List Node) (next : List ℕ) (left sample k : ℕ) (run step : Pass) (seen : Option (List Range)) (gain : Gain) → gain.depth + 1 ≡ sample + k
-    → gain_from nodes next left sample (unfound run step seen) ≡ outlook.Safe gain → IsSafe (gain_from nodes next k sample (unfound run step seen))
-again_from nodes next zero sample k run step seen gain e h = absurd (not_deep gain h)
-again_from nodes next (suc left) sample zero run step seen gain e h =
-    let d : sample ≤ gain.depth = deep_from nodes next (suc left) sample (unfound run step seen) gain h in absurd (omega (arith, d, e))
-again_from nodes next (suc left) sample (suc k) run step seen gain e h =
-    run_again nodes next sample (gain_from nodes next left (suc sample)) (gain_from nodes next k (suc sample)) run step seen (pass_ends nodes run) gain
+again_from : (nodes : List Node) (next : List ℕ) (left sample k : ℕ) (pass : Pass) (seen : Option (List Range)) (gain : Gain) → gain.depth + 1 ≡ sample + k
+    → gain_from nodes next left sample (unfound pass seen) ≡ outlook.Safe gain → IsSafe (gain_from nodes next k sample (unfound pass seen))
+again_from nodes next zero sample k pass seen gain e h = absurd (not_deep gain h)
+again_from nodes next (suc left) sample zero pass seen gain e h =
+    let d : sample ≤ gain.depth = deep_from nodes next (suc left) sample (unfound pass seen) gain h in absurd (omega (arith, d, e))
+again_from nodes next (suc left) sample (suc k) pass seen gain e h =
+    run_again nodes next sample (gain_from nodes next left (suc sample)) (gain_from nodes next k (suc sample)) pass seen (pass_ends (length next) nodes pass) gain
     (λ s q. deep_from nodes next left (suc sample) s gain q) (λ s f. last_of nodes next sample k gain s e f)
-    (λ r p all q. again_from nodes next left (suc sample) k r p (Some all) gain (omega (arith, e)) q) h
+    (λ p all q. again_from nodes next left (suc sample) k p (Some all) gain (omega (arith, e)) q) h
 
 pub gains_again : GainsAreFoundAgain
 unfolding gain_of
 gains_again net low high limit gain h =
-    again_from net.nodes net.next limit 0 (suc gain.depth) (zero_pass net low high) (word_pass net low high) None gain (omega arith) h
+    again_from net.nodes net.next limit 0 (suc gain.depth) (word_pass net low high) None gain (omega arith) h
 
 -- the depth is below the limit
 pub gain_below : (net : Net) (low high : ℤ) (limit : ℕ) (gain : Gain) → gain_of net low high limit ≡ outlook.Safe gain → gain.depth < limit

@@ -2,24 +2,21 @@
 use Rattle.std.proofs.Common.{◌≡◌, ℕ, zero, suc, ◌+◌, ◌<◌, ◌≤◌, inl, inr, ◌⊎◌, Bool, true, false, arith, zero-add, List, [], ◌∷◌, length, take, refl, sym, subst, ap, ◌∙◌}
 use Rattle.std.specs.Prelude.{Option, Some, None, IfSome, Result, Ok, Err, IfOk}
 use Rattle.std.specs.List.{All}
-use Rattle.std.proofs.Math.IntN.{ℤ}
+use Rattle.std.proofs.Math.IntN.{ℤ, pos}
 use Rattle.std.proofs.lemmas.List.Elements.{All-head, All-tail, All-nil, All-cons, All-weaker}
 use Rattle.dsv_word.specs.Words.{IsWord}
 use Rattle.dsv_system.specs.Runs.{rows_from}
 use Rattle.dsv_system.specs.Systems.{zeros}
 use Rattle.dsv_system.specs.Breaks.{IsInside}
 use Rattle.dsv_system.proofs.Words.{no_break}
-use Rattle.dsv_netlist.specs.Nodes.{Net, step_of}
+use Rattle.dsv_netlist.specs.Nodes.{Net, at, step_of}
 use Rattle.dsv_netlist.specs.Conditions.{IsNetlist}
 use Rattle.dsv_netlist.specs.declared.node.Node.{Node}
 use Rattle.dsv_base.specs.declared.NoMemory.{NoMemory}
-use Rattle.dsv_linear.specs.declared.point.Start.{Start}
-use Rattle.dsv_linear.specs.declared.point.Point.{Point}
-use Rattle.dsv_linear.specs.Known.{zero_start, no_point}
 use Rattle.dsv_linear.specs.Facts.{Between}
 use Rattle.dsv_linear.specs.declared.range.Range.{Range}
 use Rattle.dsv_linear.specs.Forms.{◌>>=◌}
-use Rattle.dsv_linear.proofs.Runs.{first_reaches, all_between}
+use Rattle.dsv_linear.proofs.Runs.{all_between}
 use Rattle.dsv_gain.specs.declared.pass.Pass.{Pass}
 use Rattle.dsv_gain.specs.declared.outlook.Gain.{Gain}
 use Rattle.dsv_gain.specs.declared.outlook.Outlook.{Outlook}
@@ -27,10 +24,10 @@ use Rattle.dsv_gain.specs.declared.outlook.Outlook.TheVariants as outlook
 use Rattle.dsv_gain.specs.declared.ends.Ends.{Ends}
 use Rattle.dsv_gain.specs.declared.ends.Ends.TheVariants as shown
 use Rattle.dsv_gain.specs.declared.search.Search.{Search}
-use Rattle.dsv_gain.specs.Gains.{hulls, hulls_after, pass_ends, after_pass, has_settled, best_or, gain_at, search, step_turn, run_turn, turn_outlook, gain_from, zero_pass, word_pass, first_search, gain_of}
+use Rattle.dsv_gain.specs.Gains.{hulls, hulls_after, pass_ends, after_pass, has_settled, best_or, gain_at, search, step_turn, run_turn, turn_outlook, gain_from, word_pass, first_search, gain_of}
 use Rattle.dsv_gain.specs.Safe.{HoldInRuns, NeverBreaks, IfSafe, IsWithin, GainsAreSafe}
 use Rattle.dsv_gain.proofs.Samples.{lie_words}
-use Rattle.dsv_gain.proofs.Hulls.{pass_words, words_in, hulls_left, hulls_right, run_ends, ends_after, run_are, after_are}
+use Rattle.dsv_gain.proofs.Hulls.{pass_words, words_in, hulls_left, hulls_right, run_ends, later_words, run_are, after_are}
 use Rattle.dsv_gain.proofs.Passes.{LiesIn, run_lies, next_has, all_have}
 use Rattle.dsv_gain.proofs.Pasts.{AreRegisters, zeros_registers, step_registers}
 use Rattle.dsv_gain.proofs.Symbols.{words_stand}
@@ -47,23 +44,24 @@ best_cases : (other : Outlook) (best : Option Gain) (gain : Gain) → (other ≡
 best_cases other None gain n h = absurd (n h)
 best_cases other (Some g) gain n h = let same : g ≡ gain = cc in ap (λ (x : Gain). Some x) same
 
--- both passes have ranges of words after so many samples
-record Finds (net : Net) (run step : Pass) (seen : Option (List Range)) (gain : Gain) : Type 0 where
+-- the pass has ranges of words after so many samples, for runs from registers of zeros, where the
+-- start's symbols are 0, and after any words in the registers
+record Finds (net : Net) (pass : Pass) (seen : Option (List Range)) (gain : Gain) : Type 0 where
   samples : ℕ
   all : List Range
   last : List Range
-  run_is : run_ends net samples run seen ≡ Some all
-  step_is : ends_after net samples step ≡ Some last
+  run_is : run_ends (length net.next) net samples pass seen ≡ Some all
+  step_is : later_words 0 net samples pass ≡ Some last
   ranges_are : hulls all last ≡ gain.ranges
 
 -- one sample before
-later : (net : Net) (run step : Pass) (seen : Option (List Range)) (now : List Range) (gain : Gain) → pass_words net.nodes run ≡ Some now
-    → Finds net (after_pass net.nodes net.next run) (after_pass net.nodes net.next step) (Some (hulls_after seen now)) gain → Finds net run step seen gain
-later net run step seen now gain e h = record {
+later : (net : Net) (pass : Pass) (seen : Option (List Range)) (now : List Range) (gain : Gain) → pass_words (length net.next) net.nodes pass ≡ Some now
+    → Finds net (after_pass net.nodes net.next pass) (Some (hulls_after seen now)) gain → Finds net pass seen gain
+later net pass seen now gain e h = record {
   samples = suc h.samples;
   all = h.all;
   last = h.last;
-  run_is = ap (λ (o : Option (List Range)). o >>= λ rs. run_ends net h.samples (after_pass net.nodes net.next run) (Some (hulls_after seen rs))) e ∙ h.run_is;
+  run_is = ap (λ (o : Option (List Range)). o >>= λ rs. run_ends (length net.next) net h.samples (after_pass net.nodes net.next pass) (Some (hulls_after seen rs))) e ∙ h.run_is;
   step_is = h.step_is;
   ranges_are = h.ranges_are;
 }
@@ -73,9 +71,9 @@ ranges_at sample None ranges = refl
 ranges_at sample (Some gain) ranges = refl
 
 -- the gain of this sample
-here : (net : Net) (run step : Pass) (seen : Option (List Range)) (now last : List Range) (sample : ℕ) (best : Option Gain) (gain : Gain) → pass_words net.nodes run ≡ Some now → pass_words net.nodes step ≡ Some last
-    → gain_at sample best (hulls (hulls_after seen now) last) ≡ gain → Finds net run step seen gain
-here net run step seen now last sample best gain e p h = record {
+here : (net : Net) (pass : Pass) (seen : Option (List Range)) (now last : List Range) (sample : ℕ) (best : Option Gain) (gain : Gain) → pass_words (length net.next) net.nodes pass ≡ Some now → pass_words 0 net.nodes pass ≡ Some last
+    → gain_at sample best (hulls (hulls_after seen now) last) ≡ gain → Finds net pass seen gain
+here net pass seen now last sample best gain e p h = record {
   samples = 0;
   all = hulls_after seen now;
   last = last;
@@ -85,39 +83,39 @@ here net run step seen now last sample best gain e p h = record {
 }
 
 -- it was the best so far, or is found from here on
-abbrev FindsOr : Net → Pass → Pass → Option (List Range) → Option Gain → Gain → Type 0
-FindsOr net run step seen best gain = (best ≡ Some gain) ⊎ Finds net run step seen gain
+abbrev FindsOr : Net → Pass → Option (List Range) → Option Gain → Gain → Type 0
+FindsOr net pass seen best gain = (best ≡ Some gain) ⊎ Finds net pass seen gain
 
 pub same_gain : (g gain : Gain) → outlook.Safe g ≡ outlook.Safe gain → g ≡ gain
 same_gain g gain e = cc
 
-step_finds : (net : Net) (settled : Bool) (sample : ℕ) (next : Search → Outlook) (run step : Pass) (seen : Option (List Range)) (now : List Range) (best : Option Gain) (e : Ends) (gain : Gain) → pass_words net.nodes run ≡ Some now
-    → pass_ends net.nodes step ≡ e → ((s : Search) → next s ≡ outlook.Safe gain → FindsOr net s.run s.step s.seen s.best gain)
-    → turn_outlook next (step_turn settled sample (after_pass net.nodes net.next run) (after_pass net.nodes net.next step) (hulls_after seen now) best e) ≡ outlook.Safe gain → FindsOr net run step seen best gain
-step_finds net settled sample next run step seen now (Some g) (shown.Leaves value) gain e p rest h = inl (ap (λ (x : Gain). Some x) (same_gain g gain h))
-step_finds net settled sample next run step seen now None (shown.Leaves value) gain e p rest h =
-    elim (rest (search (after_pass net.nodes net.next run) (after_pass net.nodes net.next step) (hulls_after seen now) None) h) [
+step_finds : (net : Net) (settled : Bool) (sample : ℕ) (next : Search → Outlook) (pass : Pass) (seen : Option (List Range)) (now : List Range) (best : Option Gain) (e : Ends) (gain : Gain) → pass_words (length net.next) net.nodes pass ≡ Some now
+    → pass_ends 0 net.nodes pass ≡ e → ((s : Search) → next s ≡ outlook.Safe gain → FindsOr net s.pass s.seen s.best gain)
+    → turn_outlook next (step_turn settled sample (after_pass net.nodes net.next pass) (hulls_after seen now) best e) ≡ outlook.Safe gain → FindsOr net pass seen best gain
+step_finds net settled sample next pass seen now (Some g) (shown.Leaves value) gain e p rest h = inl (ap (λ (x : Gain). Some x) (same_gain g gain h))
+step_finds net settled sample next pass seen now None (shown.Leaves value) gain e p rest h =
+    elim (rest (search (after_pass net.nodes net.next pass) (hulls_after seen now) None) h) [
       | inl q ↦ absurd (none_some gain q)
-      | inr f ↦ inr (later net run step seen now gain e f)
+      | inr f ↦ inr (later net pass seen now gain e f)
     ]
-step_finds net true sample next run step seen now best (shown.Words last) gain e p rest h = inr (here net run step seen now last sample best gain e (ap words_in p) (same_gain (gain_at sample best (hulls (hulls_after seen now) last)) gain h))
-step_finds net false sample next run step seen now best (shown.Words last) gain e p rest h =
+step_finds net true sample next pass seen now best (shown.Words last) gain e p rest h = inr (here net pass seen now last sample best gain e (ap words_in p) (same_gain (gain_at sample best (hulls (hulls_after seen now) last)) gain h))
+step_finds net false sample next pass seen now best (shown.Words last) gain e p rest h =
     let new = gain_at sample best (hulls (hulls_after seen now) last) in
-    elim (rest (search (after_pass net.nodes net.next run) (after_pass net.nodes net.next step) (hulls_after seen now) (Some new)) h) [
-      | inl q ↦ inr (here net run step seen now last sample best gain e (ap words_in p) (some_same new gain q))
-      | inr f ↦ inr (later net run step seen now gain e f)
+    elim (rest (search (after_pass net.nodes net.next pass) (hulls_after seen now) (Some new)) h) [
+      | inl q ↦ inr (here net pass seen now last sample best gain e (ap words_in p) (some_same new gain q))
+      | inr f ↦ inr (later net pass seen now gain e f)
     ]
 
-run_finds : (net : Net) (sample : ℕ) (next : Search → Outlook) (s : Search) (e : Ends) (gain : Gain) → pass_ends net.nodes s.run ≡ e → ((l : Search) → next l ≡ outlook.Safe gain → FindsOr net l.run l.step l.seen l.best gain)
-    → turn_outlook next (run_turn sample s.seen s.best (λ seen. step_turn (has_settled net.nodes (length net.next) (after_pass net.nodes net.next s.step).point) sample (after_pass net.nodes net.next s.run) (after_pass net.nodes net.next s.step) seen s.best (pass_ends net.nodes s.step)) e) ≡ outlook.Safe gain
-    → FindsOr net s.run s.step s.seen s.best gain
+run_finds : (net : Net) (sample : ℕ) (next : Search → Outlook) (s : Search) (e : Ends) (gain : Gain) → pass_ends (length net.next) net.nodes s.pass ≡ e → ((l : Search) → next l ≡ outlook.Safe gain → FindsOr net l.pass l.seen l.best gain)
+    → turn_outlook next (run_turn sample s.seen s.best (λ seen. step_turn (has_settled net.nodes (length net.next) (after_pass net.nodes net.next s.pass).point) sample (after_pass net.nodes net.next s.pass) seen s.best (pass_ends 0 net.nodes s.pass)) e) ≡ outlook.Safe gain
+    → FindsOr net s.pass s.seen s.best gain
 run_finds net sample next s (shown.Leaves value) gain p rest h = inl (best_cases (outlook.Leaves sample value) s.best gain (λ q. absurd cc) h)
 run_finds net sample next s (shown.Words now) gain p rest h =
-    step_finds net (has_settled net.nodes (length net.next) (after_pass net.nodes net.next s.step).point) sample next s.run s.step s.seen now s.best (pass_ends net.nodes s.step) gain (ap words_in p) refl rest h
+    step_finds net (has_settled net.nodes (length net.next) (after_pass net.nodes net.next s.pass).point) sample next s.pass s.seen now s.best (pass_ends 0 net.nodes s.pass) gain (ap words_in p) refl rest h
 
-finds : (net : Net) (left sample : ℕ) (s : Search) (gain : Gain) → gain_from net.nodes net.next left sample s ≡ outlook.Safe gain → FindsOr net s.run s.step s.seen s.best gain
+finds : (net : Net) (left sample : ℕ) (s : Search) (gain : Gain) → gain_from net.nodes net.next left sample s ≡ outlook.Safe gain → FindsOr net s.pass s.seen s.best gain
 finds net zero sample s gain h = inl (best_cases outlook.Deep s.best gain (λ q. absurd cc) h)
-finds net (suc left) sample s gain h = run_finds net sample (gain_from net.nodes net.next left (suc sample)) s (pass_ends net.nodes s.run) gain refl (λ l q. finds net left (suc sample) l gain q) h
+finds net (suc left) sample s gain h = run_finds net sample (gain_from net.nodes net.next left (suc sample)) s (pass_ends (length net.next) net.nodes s.pass) gain refl (λ l q. finds net left (suc sample) l gain q) h
 
 -- ---- the induction
 front_part : {X : Type 0} (P : X → Type 0) (n : ℕ) (xs : List X) → All P (take (suc n) xs) → All P (take n xs)
@@ -126,25 +124,32 @@ front_part P (suc n) [] a = All-nil P
 front_part P zero (x ∷ xs) a = All-nil P
 front_part P (suc n) (x ∷ xs) a = All-cons P x (take n xs) (All-head P x (take (suc n) xs) a) (front_part P n xs (All-tail P x (take (suc n) xs) a))
 
-found_safe : (net : Net) (low high : ℤ) (gain : Gain) → IsNetlist net → IsWord net.format low → IsWord net.format high → Finds net (zero_pass net low high) (word_pass net low high) None gain → HoldInRuns net low high gain.ranges
+-- the words of registers of zeros are 0
+zero_at : (m j : ℕ) → at (zeros m) j ≡ pos 0
+zero_at zero j = refl
+zero_at (suc m) zero = refl
+zero_at (suc m) (suc j) = zero_at m j
+
+found_safe : (net : Net) (low high : ℤ) (gain : Gain) → IsNetlist net → IsWord net.format low → IsWord net.format high → Finds net (word_pass net low high) None gain → HoldInRuns net low high gain.ranges
 found_safe net low high gain n l h d xs a =
     let f = net.format in
-    let run = zero_pass net low high in
-    let step = word_pass net low high in
-    let first = run_are net d.samples run None d.all refl tt d.run_is in
-    let last = after_are net d.samples step d.last refl d.step_is in
+    let pass = word_pass net low high in
+    let count = length net.next in
+    let first = run_are count net d.samples pass None d.all refl tt d.run_is in
+    let last = after_are 0 net d.samples pass d.last refl d.step_is in
     let long : length d.all ≡ length d.last = first.many ∙ sym last.many in
     let Q = LiesIn net (hulls d.all d.last) in
-    let start = zeros (length net.next) in
+    let start = zeros count in
     let inputs = all_between low high xs a in
-    let lies = run_lies net d.samples xs run start None d.all refl inputs tt d.run_is ((first_reaches net low high).solved (All-nil (IsWord f))) in
+    let registers = zeros_registers net low high n in
+    let lies = run_lies count net d.samples xs pass start None d.all refl inputs tt d.run_is (words_stand count net low high start n registers (omega arith) (λ j p. zero_at count j)) in
     let begun = All-weaker (LiesIn net d.all) Q (λ r q. hulls_left f d.all d.last r.exact long q last.words) (take (suc d.samples) (rows_from (step_of net) start xs)) lies in
     subst (λ (rs : List Range). All (LiesIn net rs) (rows_from (step_of net) start xs)) d.ranges_are
     (all_have net (AreRegisters net low high) (Between low high) Q d.samples
     (λ words x b r. step_registers net low high words x n l h b r)
-    (λ words ys b r q. next_has net Q d.samples ys step words d.last refl b
-    (λ row p. lie_words f (hulls d.all d.last) row.exact p) (λ row p. hulls_right f d.all d.last row.exact long first.words p) d.step_is (words_stand net low high words n r) q)
-    start xs inputs (zeros_registers net low high n) (front_part Q d.samples (rows_from (step_of net) start xs) begun))
+    (λ words ys b r q. next_has 0 net Q d.samples ys pass words d.last refl b
+    (λ row p. lie_words f (hulls d.all d.last) row.exact p) (λ row p. hulls_right f d.all d.last row.exact long first.words p) d.step_is (words_stand 0 net low high words n r (omega arith) (λ j p. absurd (omega arith))) q)
+    start xs inputs registers (front_part Q d.samples (rows_from (step_of net) start xs) begun))
 
 pub gains_safe : GainsAreSafe
 unfolding gain_of
@@ -172,35 +177,34 @@ best_within : (m n : ℕ) (best : Option Gain) (gain : Gain) → m ≤ n → IfS
 best_within m n None gain l w e = absurd (none_some gain e)
 best_within m n (Some g) gain l w e = subst (IsWithin n) (some_same g gain e) (within_more m n g l w)
 
-step_within : (settled : Bool) (sample n : ℕ) (next : Search → Outlook) (run step : Pass) (seen : List Range) (best : Option Gain) (e : Ends) (gain : Gain) → sample < n → IfSome best (IsWithin sample)
-    → ((s : Search) → IfSome s.best (IsWithin (suc sample)) → next s ≡ outlook.Safe gain → IsWithin n gain) → turn_outlook next (step_turn settled sample run step seen best e) ≡ outlook.Safe gain → IsWithin n gain
-step_within settled sample n next run step seen (Some g) (shown.Leaves value) gain l b rest h = best_within sample n (Some g) gain (omega arith) b (ap (λ (x : Gain). Some x) (same_gain g gain h))
-step_within settled sample n next run step seen None (shown.Leaves value) gain l b rest h = rest (search run step seen None) tt h
-step_within true sample n next run step seen best (shown.Words last) gain l b rest h =
+step_within : (settled : Bool) (sample n : ℕ) (next : Search → Outlook) (pass : Pass) (seen : List Range) (best : Option Gain) (e : Ends) (gain : Gain) → sample < n → IfSome best (IsWithin sample)
+    → ((s : Search) → IfSome s.best (IsWithin (suc sample)) → next s ≡ outlook.Safe gain → IsWithin n gain) → turn_outlook next (step_turn settled sample pass seen best e) ≡ outlook.Safe gain → IsWithin n gain
+step_within settled sample n next pass seen (Some g) (shown.Leaves value) gain l b rest h = best_within sample n (Some g) gain (omega arith) b (ap (λ (x : Gain). Some x) (same_gain g gain h))
+step_within settled sample n next pass seen None (shown.Leaves value) gain l b rest h = rest (search pass seen None) tt h
+step_within true sample n next pass seen best (shown.Words last) gain l b rest h =
     let new = gain_at sample best (hulls seen last) in
     subst (IsWithin n) (same_gain new gain h) (within_more (suc sample) n new l (gain_within sample best (hulls seen last) b))
-step_within false sample n next run step seen best (shown.Words last) gain l b rest h =
-    rest (search run step seen (Some (gain_at sample best (hulls seen last)))) (gain_within sample best (hulls seen last) b) h
+step_within false sample n next pass seen best (shown.Words last) gain l b rest h =
+    rest (search pass seen (Some (gain_at sample best (hulls seen last)))) (gain_within sample best (hulls seen last) b) h
 
 run_within : (nodes : List Node) (next : List ℕ) (sample n : ℕ) (after : Search → Outlook) (s : Search) (e : Ends) (gain : Gain) → sample < n → IfSome s.best (IsWithin sample)
     → ((l : Search) → IfSome l.best (IsWithin (suc sample)) → after l ≡ outlook.Safe gain → IsWithin n gain)
-    → turn_outlook after (run_turn sample s.seen s.best (λ seen. step_turn (has_settled nodes (length next) (after_pass nodes next s.step).point) sample (after_pass nodes next s.run) (after_pass nodes next s.step) seen s.best (pass_ends nodes s.step)) e) ≡ outlook.Safe gain → IsWithin n gain
+    → turn_outlook after (run_turn sample s.seen s.best (λ seen. step_turn (has_settled nodes (length next) (after_pass nodes next s.pass).point) sample (after_pass nodes next s.pass) seen s.best (pass_ends 0 nodes s.pass)) e) ≡ outlook.Safe gain → IsWithin n gain
 run_within nodes next sample n after s (shown.Leaves value) gain l b rest h = best_within sample n s.best gain (omega arith) b (best_cases (outlook.Leaves sample value) s.best gain (λ q. absurd cc) h)
 run_within nodes next sample n after s (shown.Words now) gain l b rest h =
-    step_within (has_settled nodes (length next) (after_pass nodes next s.step).point) sample n after (after_pass nodes next s.run) (after_pass nodes next s.step) (hulls_after s.seen now) s.best (pass_ends nodes s.step) gain l b rest h
+    step_within (has_settled nodes (length next) (after_pass nodes next s.pass).point) sample n after (after_pass nodes next s.pass) (hulls_after s.seen now) s.best (pass_ends 0 nodes s.pass) gain l b rest h
 
 within_from : (nodes : List Node) (next : List ℕ) (left sample n : ℕ) (s : Search) (gain : Gain) → sample + left ≡ n → IfSome s.best (IsWithin sample) → gain_from nodes next left sample s ≡ outlook.Safe gain → IsWithin n gain
 within_from nodes next zero sample n s gain e b h = best_within sample n s.best gain (omega arith) b (best_cases outlook.Deep s.best gain (λ q. absurd cc) h)
 within_from nodes next (suc left) sample n s gain e b h =
-    run_within nodes next sample n (gain_from nodes next left (suc sample)) s (pass_ends nodes s.run) gain (omega arith) b (λ l c q. within_from nodes next left (suc sample) n l gain (omega arith) c q) h
+    run_within nodes next sample n (gain_from nodes next left (suc sample)) s (pass_ends (length next) nodes s.pass) gain (omega arith) b (λ l c q. within_from nodes next left (suc sample) n l gain (omega arith) c q) h
 
 -- ---- what the code gives
-pub gain_made : (net : Net) (low high l h : ℤ) (limit : ℕ) (nodes : List Node) (next : List ℕ) (start : Start) (point : Point) (step : Pass) (o : Result Outlook NoMemory) → nodes ≡ net.nodes → next ≡ net.next
-    → start ≡ zero_start net l h → point ≡ no_point → step ≡ word_pass net l h → l ≡ low → h ≡ high
-    → IfOk o (λ g. g ≡ gain_from nodes next limit 0 (record { run = record { start = start; point = point }; step = step; seen = None; best = None })) → IfOk o (λ g. g ≡ gain_of net low high limit)
+pub gain_made : (net : Net) (low high l h : ℤ) (limit : ℕ) (nodes : List Node) (next : List ℕ) (pass : Pass) (o : Result Outlook NoMemory) → nodes ≡ net.nodes → next ≡ net.next
+    → pass ≡ word_pass net l h → l ≡ low → h ≡ high → IfOk o (λ g. g ≡ gain_from nodes next limit 0 (record { pass = pass; seen = None; best = None })) → IfOk o (λ g. g ≡ gain_of net low high limit)
 unfolding gain_of
-gain_made net low high l h limit nodes next start point step (Err e) n m s p w a b f = f
-gain_made net low high l h limit nodes next start point step (Ok g) n m s p w a b f = f ∙ rw (n, m, s, p, w, a, b) refl
+gain_made net low high l h limit nodes next pass (Err e) n m w a b f = f
+gain_made net low high l h limit nodes next pass (Ok g) n m w a b f = f ∙ rw (n, m, w, a, b) refl
 
 gain_holds : (net : Net) (low high : ℤ) (limit : ℕ) (g : Outlook) → IsNetlist net → IsWord net.format low → IsWord net.format high → g ≡ gain_of net low high limit → IfSafe g (λ gain. HoldInRuns net low high gain.ranges)
 gain_holds net low high limit (outlook.Leaves sample value) n l h e = tt

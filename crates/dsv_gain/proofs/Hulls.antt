@@ -16,7 +16,7 @@ use Rattle.dsv_linear.specs.declared.range.Range.{Range}
 use Rattle.dsv_linear.specs.declared.point.Start.{Start}
 use Rattle.dsv_linear.specs.declared.point.Point.{Point}
 use Rattle.dsv_linear.specs.Forms.{◌>>=◌}
-use Rattle.dsv_linear.specs.Known.{ends_at, fresh}
+use Rattle.dsv_linear.specs.Known.{ends_after, fresh}
 use Rattle.dsv_linear.proofs.Numbers.{some_of}
 use Rattle.dsv_gain.specs.declared.pass.Pass.{Pass}
 use Rattle.dsv_gain.specs.declared.ends.Ends.{Ends}
@@ -101,26 +101,26 @@ fits (n ∷ ns) = length (node_exact [] n) + fits ns
 none_are : (f : Format) (all : List Range) → shown.Words [] ≡ shown.Words all → AreRanges f 0 all
 none_are f all e = let same : [] ≡ all = cc in subst (λ (rs : List Range). AreRanges f 0 rs) same (record { many = refl; words = All-nil (HasWords f) })
 
-node_are : (f : Format) (point : Point) (n : Node) (all : List Range) → node_ends f point n ≡ shown.Words all → AreRanges f (length (node_exact [] n)) all
-node_are f point Input all e = none_are f all e
-node_are f point (Reg r) all e = none_are f all e
-node_are f point (MulConst c i) all e = none_are f all e
-node_are f point (Round i) all e = none_are f all e
-node_are f point (Add i j) all e = none_are f all e
-node_are f point (Sub i j) all e = none_are f all e
-node_are f point (Scale i) all e = none_are f all e
-node_are f point (Fit i) all e =
-    let o = value_is f (ends_at point i) all e in
+node_are : (count : ℕ) (f : Format) (point : Point) (n : Node) (all : List Range) → node_ends count f point n ≡ shown.Words all → AreRanges f (length (node_exact [] n)) all
+node_are count f point Input all e = none_are f all e
+node_are count f point (Reg r) all e = none_are f all e
+node_are count f point (MulConst c i) all e = none_are f all e
+node_are count f point (Round i) all e = none_are f all e
+node_are count f point (Add i j) all e = none_are f all e
+node_are count f point (Sub i j) all e = none_are f all e
+node_are count f point (Scale i) all e = none_are f all e
+node_are count f point (Fit i) all e =
+    let o = value_is f (ends_after count point i) all e in
     subst (λ (rs : List Range). AreRanges f 1 rs) (sym o.alone) (record { many = refl; words = All-cons (HasWords f) o.ends [] (record { low = o.low; high = o.high }) (All-nil (HasWords f)) })
 
-ends_are : (start : Start) (ns : List Node) (point : Point) (all : List Range) → ends_from start ns point ≡ shown.Words all → AreRanges start.format (fits ns) all
-ends_are start [] point all e = none_are start.format all e
-ends_are start (n ∷ ns) point all e =
+ends_are : (count : ℕ) (start : Start) (ns : List Node) (point : Point) (all : List Range) → ends_from count start ns point ≡ shown.Words all → AreRanges start.format (fits ns) all
+ends_are count start [] point all e = none_are start.format all e
+ends_are count start (n ∷ ns) point all e =
     let f = start.format in
     let last = after_form start point n in
-    let p = parts_are (node_ends f point n) (ends_from start ns last) all e in
-    let a = node_are f point n p.ranges p.here in
-    let b = ends_are start ns last p.more p.there in
+    let p = parts_are (node_ends count f point n) (ends_from count start ns last) all e in
+    let a = node_are count f point n p.ranges p.here in
+    let b = ends_are count start ns last p.more p.there in
     subst (λ (rs : List Range). AreRanges f (fits (n ∷ ns)) rs) p.together (record {
       many = length-append p.ranges p.more ∙ rw (a.many, b.many) refl;
       words = All-append (HasWords f) p.ranges p.more a.words b.words;
@@ -131,8 +131,8 @@ abbrev pub words_in : Ends → Option (List Range)
 words_in (shown.Words ranges) = Some ranges
 words_in (shown.Leaves value) = None
 
-abbrev pub pass_words : List Node → Pass → Option (List Range)
-pass_words nodes pass = words_in (pass_ends nodes pass)
+abbrev pub pass_words : ℕ → List Node → Pass → Option (List Range)
+pass_words count nodes pass = words_in (pass_ends count nodes pass)
 
 pub words_are : (e : Ends) (all : List Range) → words_in e ≡ Some all → e ≡ shown.Words all
 words_are (shown.Words ranges) all h = let same : ranges ≡ all = cc in ap (λ (rs : List Range). shown.Words rs) same
@@ -140,21 +140,21 @@ words_are (shown.Leaves value) all h = absurd cc
 
 -- ---- the first samples
 -- the ranges of this sample and of so many after it, and of those before
-abbrev pub run_ends : Net → ℕ → Pass → Option (List Range) → Option (List Range)
-run_ends net zero pass before = pass_words net.nodes pass >>= λ ends. Some (hulls_after before ends)
-run_ends net (suc n) pass before = pass_words net.nodes pass >>= λ ends. run_ends net n (after_pass net.nodes net.next pass) (Some (hulls_after before ends))
+abbrev pub run_ends : ℕ → Net → ℕ → Pass → Option (List Range) → Option (List Range)
+run_ends count net zero pass before = pass_words count net.nodes pass >>= λ ends. Some (hulls_after before ends)
+run_ends count net (suc n) pass before = pass_words count net.nodes pass >>= λ ends. run_ends count net n (after_pass net.nodes net.next pass) (Some (hulls_after before ends))
 
 -- the ranges of the sample after so many
-abbrev pub ends_after : Net → ℕ → Pass → Option (List Range)
-ends_after net zero pass = pass_words net.nodes pass
-ends_after net (suc n) pass = ends_after net n (after_pass net.nodes net.next pass)
+abbrev pub later_words : ℕ → Net → ℕ → Pass → Option (List Range)
+later_words count net zero pass = pass_words count net.nodes pass
+later_words count net (suc n) pass = later_words count net n (after_pass net.nodes net.next pass)
 
 -- those before are ranges, if there are any
 abbrev pub AreBefore : Net → Option (List Range) → Type 0
 AreBefore net before = IfSome before (AreRanges net.format (fits net.nodes))
 
-pub pass_are : (net : Net) (pass : Pass) (ends : List Range) → pass.start.format ≡ net.format → pass_words net.nodes pass ≡ Some ends → AreRanges net.format (fits net.nodes) ends
-pass_are net pass ends f e = subst (λ (g : Format). AreRanges g (fits net.nodes) ends) f (ends_are pass.start net.nodes (fresh pass.point) ends (words_are (pass_ends net.nodes pass) ends e))
+pub pass_are : (count : ℕ) (net : Net) (pass : Pass) (ends : List Range) → pass.start.format ≡ net.format → pass_words count net.nodes pass ≡ Some ends → AreRanges net.format (fits net.nodes) ends
+pass_are count net pass ends f e = subst (λ (g : Format). AreRanges g (fits net.nodes) ends) f (ends_are count pass.start net.nodes (fresh pass.point) ends (words_are (pass_ends count net.nodes pass) ends e))
 
 pub hulls_after-are : (net : Net) (before : Option (List Range)) (ends : List Range) → AreBefore net before → AreRanges net.format (fits net.nodes) ends → AreRanges net.format (fits net.nodes) (hulls_after before ends)
 hulls_after-are net None ends b a = a
@@ -166,31 +166,31 @@ pub hulls_after-last : (net : Net) (before : Option (List Range)) (ends : List R
 hulls_after-last net None ends vs b a l = l
 hulls_after-last net (Some others) ends vs b a l = hulls_right net.format others ends vs (b.many ∙ sym a.many) b.words l
 
-pub run_are : (net : Net) (n : ℕ) (pass : Pass) (before : Option (List Range)) (all : List Range) → pass.start.format ≡ net.format → AreBefore net before → run_ends net n pass before ≡ Some all
+pub run_are : (count : ℕ) (net : Net) (n : ℕ) (pass : Pass) (before : Option (List Range)) (all : List Range) → pass.start.format ≡ net.format → AreBefore net before → run_ends count net n pass before ≡ Some all
     → AreRanges net.format (fits net.nodes) all
-run_are net zero pass before all f b e =
-    let one = some_of (pass_words net.nodes pass) (λ ends. Some (hulls_after before ends)) all e in
+run_are count net zero pass before all f b e =
+    let one = some_of (pass_words count net.nodes pass) (λ ends. Some (hulls_after before ends)) all e in
     let same : hulls_after before one.0 ≡ all = let g = one.2 in cc in
-    subst (AreRanges net.format (fits net.nodes)) same (hulls_after-are net before one.0 b (pass_are net pass one.0 f one.1))
-run_are net (suc n) pass before all f b e =
+    subst (AreRanges net.format (fits net.nodes)) same (hulls_after-are net before one.0 b (pass_are count net pass one.0 f one.1))
+run_are count net (suc n) pass before all f b e =
     let after = after_pass net.nodes net.next pass in
-    let one = some_of (pass_words net.nodes pass) (λ ends. run_ends net n after (Some (hulls_after before ends))) all e in
-    run_are net n after (Some (hulls_after before one.0)) all f (hulls_after-are net before one.0 b (pass_are net pass one.0 f one.1)) one.2
+    let one = some_of (pass_words count net.nodes pass) (λ ends. run_ends count net n after (Some (hulls_after before ends))) all e in
+    run_are count net n after (Some (hulls_after before one.0)) all f (hulls_after-are net before one.0 b (pass_are count net pass one.0 f one.1)) one.2
 
 -- what lies in the ranges before lies in all
-pub run_keeps : (net : Net) (n : ℕ) (pass : Pass) (others all : List Range) (vs : List ℤ) → pass.start.format ≡ net.format → AreRanges net.format (fits net.nodes) others → run_ends net n pass (Some others) ≡ Some all
+pub run_keeps : (count : ℕ) (net : Net) (n : ℕ) (pass : Pass) (others all : List Range) (vs : List ℤ) → pass.start.format ≡ net.format → AreRanges net.format (fits net.nodes) others → run_ends count net n pass (Some others) ≡ Some all
     → LieWithin net.format others vs → LieWithin net.format all vs
-run_keeps net zero pass others all vs f b e l =
-    let one = some_of (pass_words net.nodes pass) (λ ends. Some (hulls others ends)) all e in
+run_keeps count net zero pass others all vs f b e l =
+    let one = some_of (pass_words count net.nodes pass) (λ ends. Some (hulls others ends)) all e in
     let same : hulls others one.0 ≡ all = let g = one.2 in cc in
-    let a = pass_are net pass one.0 f one.1 in
+    let a = pass_are count net pass one.0 f one.1 in
     subst (λ (rs : List Range). LieWithin net.format rs vs) same (hulls_left net.format others one.0 vs (b.many ∙ sym a.many) l a.words)
-run_keeps net (suc n) pass others all vs f b e l =
+run_keeps count net (suc n) pass others all vs f b e l =
     let after = after_pass net.nodes net.next pass in
-    let one = some_of (pass_words net.nodes pass) (λ ends. run_ends net n after (Some (hulls others ends))) all e in
-    let a = pass_are net pass one.0 f one.1 in
-    run_keeps net n after (hulls others one.0) all vs f (hulls_are net.format (fits net.nodes) others one.0 b a) one.2 (hulls_left net.format others one.0 vs (b.many ∙ sym a.many) l a.words)
+    let one = some_of (pass_words count net.nodes pass) (λ ends. run_ends count net n after (Some (hulls others ends))) all e in
+    let a = pass_are count net pass one.0 f one.1 in
+    run_keeps count net n after (hulls others one.0) all vs f (hulls_are net.format (fits net.nodes) others one.0 b a) one.2 (hulls_left net.format others one.0 vs (b.many ∙ sym a.many) l a.words)
 
-pub after_are : (net : Net) (n : ℕ) (pass : Pass) (ends : List Range) → pass.start.format ≡ net.format → ends_after net n pass ≡ Some ends → AreRanges net.format (fits net.nodes) ends
-after_are net zero pass ends f e = pass_are net pass ends f e
-after_are net (suc n) pass ends f e = after_are net n (after_pass net.nodes net.next pass) ends f e
+pub after_are : (count : ℕ) (net : Net) (n : ℕ) (pass : Pass) (ends : List Range) → pass.start.format ≡ net.format → later_words count net n pass ≡ Some ends → AreRanges net.format (fits net.nodes) ends
+after_are count net zero pass ends f e = pass_are count net pass ends f e
+after_are count net (suc n) pass ends f e = after_are count net n (after_pass net.nodes net.next pass) ends f e

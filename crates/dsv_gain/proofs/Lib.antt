@@ -6,4 +6,4 @@ mod Symbols
 pub mod Gains
 pub mod Depths
 mod Loops
-mod Equations
+pub mod Equations

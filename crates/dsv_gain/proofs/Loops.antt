@@ -1,5 +1,5 @@
 -- Loops over nodes, ranges, registers and samples.
-use Rattle.std.proofs.Common.{◌≡◌, ℕ, zero, suc, ◌+◌, ◌-◌, ◌<◌, ◌≤◌, inl, inr, ◌⊎◌, Bool, false, List, [], ◌∷◌, ◌++◌, length, get_or, take, replicate, refl, sym, ap, ◌∙◌, arith, add-one, zero-add, length-append}
+use Rattle.std.proofs.Common.{◌≡◌, ℕ, zero, suc, ◌+◌, ◌-◌, ◌<◌, ◌≤◌, inl, inr, ◌⊎◌, Bool, false, List, [], ◌∷◌, ◌++◌, length, get_or, take, refl, sym, ap, ◌∙◌, arith, add-one, zero-add, length-append}
 use Rattle.std.specs.Prelude.{Some, None}
 use Rattle.std.proofs.lemmas.List.{take_more, append-nil, append_assoc}
 use Rattle.dsv_netlist.specs.declared.node.Node.{Node}
@@ -7,20 +7,16 @@ use Rattle.dsv_linear.specs.declared.range.Range.{Range}
 use Rattle.dsv_linear.specs.declared.point.Start.{Start}
 use Rattle.dsv_linear.specs.declared.point.Point.{Point}
 use Rattle.dsv_linear.specs.Forms.{unit}
-use Rattle.dsv_linear.proofs.Passes.{replicate_more}
 use Rattle.dsv_gain.specs.declared.outlook.Outlook.{Outlook}
 use Rattle.dsv_gain.specs.declared.pass.Pass.{Pass}
 use Rattle.dsv_gain.specs.declared.outlook.Gain.{Gain}
 use Rattle.dsv_gain.specs.declared.ends.Ends.{Ends}
+use Rattle.dsv_gain.specs.declared.ends.SampleEnds.{SampleEnds}
 use Rattle.dsv_gain.specs.declared.ends.Ends.TheVariants as shown
 use Rattle.dsv_gain.specs.declared.search.Search.{Search}
 use Rattle.dsv_gain.specs.declared.search.Turn.{Turn}
 use Rattle.dsv_gain.specs.declared.search.Turn.TheVariants as turns
 use Rattle.dsv_gain.specs.Gains.{after_form, forms_from, node_ends, later_ends, with_ends, ends_from, hull, hulls, hulls_after, symbol_registers, is_past, gives_past, pass_ends, after_pass, has_settled, gain_at, gain_turn, step_turn, run_turn, sample_turn, turn_outlook, gain_from}
-
--- ---- copies
-pub copies_more : (old got now : List Range) (i : ℕ) (r : Range) → got ≡ old ++ replicate i r → now ≡ got ++ r ∷ [] → now ≡ old ++ replicate (i + 1) r
-copies_more old got now i r g p = p ∙ ap (λ rs. rs ++ r ∷ []) g ∙ append_assoc old (replicate i r) (r ∷ []) ∙ ap (λ rs. old ++ rs) (sym (replicate_more i r))
 
 -- ---- hulls
 hulls_next : (rs ss : List Range) (i : ℕ) (d : Range) → i < length rs → i < length ss → hulls (take (suc i) rs) (take (suc i) ss) ≡ hulls (take i rs) (take i ss) ++ hull (get_or rs i d) (get_or ss i d) ∷ []
@@ -78,26 +74,33 @@ with_assoc (shown.Words rs) (shown.Leaves value) c = refl
 with_assoc (shown.Words rs) (shown.Words ss) (shown.Leaves value) = ap (λ (k : ℕ). shown.Leaves k) (let e = length-append rs ss in omega arith)
 with_assoc (shown.Words rs) (shown.Words ss) (shown.Words ts) = ap (λ (us : List Range). shown.Words us) (sym (append_assoc rs ss ts))
 
-ends_next : (start : Start) (nodes : List Node) (node : Node) (point : Point) → ends_from start (nodes ++ node ∷ []) point ≡ with_ends (ends_from start nodes point) (node_ends start.format (forms_from start nodes point) node)
-ends_next start [] node point = with_none (node_ends start.format point node) ∙ sym (with_first (node_ends start.format point node))
-ends_next start (n ∷ nodes) node point =
-    let here = node_ends start.format point n in
+ends_next : (count : ℕ) (start : Start) (nodes : List Node) (node : Node) (point : Point) → ends_from count start (nodes ++ node ∷ []) point ≡ with_ends (ends_from count start nodes point) (node_ends count start.format (forms_from start nodes point) node)
+ends_next count start [] node point = with_none (node_ends count start.format point node) ∙ sym (with_first (node_ends count start.format point node))
+ends_next count start (n ∷ nodes) node point =
+    let here = node_ends count start.format point n in
     let next = after_form start point n in
-    ap (with_ends here) (ends_next start nodes node next) ∙ with_assoc here (ends_from start nodes next) (node_ends start.format (forms_from start nodes next) node)
+    ap (with_ends here) (ends_next count start nodes node next) ∙ with_assoc here (ends_from count start nodes next) (node_ends count start.format (forms_from start nodes next) node)
 
--- what is known after the first nodes
-pub record Known (start : Start) (nodes : List Node) (before point : Point) (ends : Ends) : Type 0 where
+-- what is known after the first nodes, where the start has so many symbols
+pub record Known (count : ℕ) (start : Start) (nodes : List Node) (before point : Point) (ends : SampleEnds) : Type 0 where
   pub point_is : point ≡ forms_from start nodes before
-  pub ends_are : ends ≡ ends_from start nodes before
+  pub run_is : ends.run ≡ ends_from count start nodes before
+  pub step_is : ends.step ≡ ends_from 0 start nodes before
 
-pub known_more : (start : Start) (nodes : List Node) (d : Node) (i : ℕ) (before point now : Point) (ends more : Ends) → i < length nodes → Known start (take i nodes) before point ends
-    → now ≡ after_form start point (get_or nodes i d) → more ≡ with_ends ends (node_ends start.format point (get_or nodes i d)) → Known start (take (i + 1) nodes) before now more
-known_more start nodes d i before point now ends more l k p q =
+ends_more : (count : ℕ) (start : Start) (nodes : List Node) (d : Node) (i : ℕ) (before point : Point) (ends more : Ends) → i < length nodes → point ≡ forms_from start (take i nodes) before
+    → ends ≡ ends_from count start (take i nodes) before → more ≡ with_ends ends (node_ends count start.format point (get_or nodes i d)) → more ≡ ends_from count start (take (i + 1) nodes) before
+ends_more count start nodes d i before point ends more l k e q =
+    q ∙ rw (k, e) (sym (ends_next count start (take i nodes) (get_or nodes i d) before)) ∙ ap (λ ns. ends_from count start ns before) (sym (take_more nodes i d l))
+
+pub known_more : (count : ℕ) (start : Start) (nodes : List Node) (d : Node) (i : ℕ) (before point now : Point) (ends more : SampleEnds) → i < length nodes → Known count start (take i nodes) before point ends
+    → now ≡ after_form start point (get_or nodes i d) → more.run ≡ with_ends ends.run (node_ends count start.format point (get_or nodes i d))
+    → more.step ≡ with_ends ends.step (node_ends 0 start.format point (get_or nodes i d)) → Known count start (take (i + 1) nodes) before now more
+known_more count start nodes d i before point now ends more l k p q r =
     let n = get_or nodes i d in
-    let e = take_more nodes i d l in
     record {
-      point_is = p ∙ ap (λ m. after_form start m n) k.point_is ∙ sym (forms_next start (take i nodes) n before) ∙ ap (λ ns. forms_from start ns before) (sym e);
-      ends_are = q ∙ rw (k.point_is, k.ends_are) (sym (ends_next start (take i nodes) n before)) ∙ ap (λ ns. ends_from start ns before) (sym e);
+      point_is = p ∙ ap (λ m. after_form start m n) k.point_is ∙ sym (forms_next start (take i nodes) n before) ∙ ap (λ ns. forms_from start ns before) (sym (take_more nodes i d l));
+      run_is = ends_more count start nodes d i before point ends.run more.run l k.point_is k.run_is q;
+      step_is = ends_more 0 start nodes d i before point ends.step more.step l k.point_is k.step_is r;
     }
 
 -- ---- samples
@@ -122,14 +125,13 @@ search_over nodes next limit i s found g l h e =
     ∙ h
 
 -- ---- one sample
--- both passes have ranges of words
-pub turn_is : (nodes : List Node) (next : List ℕ) (sample : ℕ) (s : Search) (run step : Pass) (now seen last ranges : List Range) (settled : Bool) (gain : Gain) (result : Turn)
-    → pass_ends nodes s.run ≡ shown.Words now → pass_ends nodes s.step ≡ shown.Words last → run ≡ after_pass nodes next s.run → step ≡ after_pass nodes next s.step → seen ≡ hulls_after s.seen now
-    → settled ≡ has_settled nodes (length next) step.point → ranges ≡ hulls seen last → gain ≡ gain_at sample s.best ranges → result ≡ gain_turn settled run step seen gain → result ≡ sample_turn nodes next sample s
-turn_is nodes next sample s run step now seen last ranges settled gain result e p a b c d f g h =
-    let r = after_pass nodes next s.run in
-    let t = after_pass nodes next s.step in
+-- it has ranges of words of either kind
+pub turn_is : (nodes : List Node) (next : List ℕ) (sample : ℕ) (s : Search) (pass : Pass) (now seen last ranges : List Range) (settled : Bool) (gain : Gain) (result : Turn)
+    → pass_ends (length next) nodes s.pass ≡ shown.Words now → pass_ends 0 nodes s.pass ≡ shown.Words last → pass ≡ after_pass nodes next s.pass → seen ≡ hulls_after s.seen now
+    → settled ≡ has_settled nodes (length next) pass.point → ranges ≡ hulls seen last → gain ≡ gain_at sample s.best ranges → result ≡ gain_turn settled pass seen gain → result ≡ sample_turn nodes next sample s
+turn_is nodes next sample s pass now seen last ranges settled gain result e p a c d f g h =
+    let t = after_pass nodes next s.pass in
     let all = hulls_after s.seen now in
     let bit = has_settled nodes (length next) t.point in
-    let same : gain_turn settled run step seen gain ≡ gain_turn bit r t all (gain_at sample s.best (hulls all last)) = rw (g, f, d, a, b, c) refl in
-    h ∙ same ∙ sym (ap (run_turn sample s.seen s.best (λ rs. step_turn bit sample r t rs s.best (pass_ends nodes s.step))) e ∙ ap (step_turn bit sample r t all s.best) p)
+    let same : gain_turn settled pass seen gain ≡ gain_turn bit t all (gain_at sample s.best (hulls all last)) = rw (g, f, d, a, c) refl in
+    h ∙ same ∙ sym (ap (run_turn sample s.seen s.best (λ rs. step_turn bit sample t rs s.best (pass_ends 0 nodes s.pass))) e ∙ ap (step_turn bit sample t all s.best) p)

@@ -1,5 +1,5 @@
 -- One sample: its exact values lie in the ranges that it shows.
-use Rattle.std.proofs.Common.{◌≡◌, Bool, true, false, if◌then◌else◌, List, [], ◌∷◌, ◌++◌, length, refl, sym, subst, ap, ◌∙◌}
+use Rattle.std.proofs.Common.{◌≡◌, ℕ, Bool, true, false, if◌then◌else◌, List, [], ◌∷◌, ◌++◌, length, drop, refl, sym, subst, ap, ◌∙◌}
 use Rattle.std.specs.Prelude.{Option, Some, None, ◌&&◌}
 use Rattle.std.specs.List.{All}
 use Rattle.std.proofs.Math.IntN.{ℤ}
@@ -15,9 +15,9 @@ use Rattle.dsv_linear.specs.declared.range.Range.{Range}
 use Rattle.dsv_linear.specs.declared.point.Start.{Start}
 use Rattle.dsv_linear.specs.declared.point.Point.{Point}
 use Rattle.dsv_linear.specs.Forms.{form_range}
-use Rattle.dsv_linear.specs.Known.{form_at, ends_at, is_word, node_entry}
+use Rattle.dsv_linear.specs.Known.{form_at, ends_after, is_word, node_entry}
 use Rattle.dsv_linear.proofs.Numbers.{some_of}
-use Rattle.dsv_linear.proofs.Roundings.{form_ranges}
+use Rattle.dsv_linear.proofs.ZeroSymbols.{rest_lies}
 use Rattle.dsv_linear.proofs.Points.{Solution, stand_at, gives, solution_more, all_front, all_back}
 use Rattle.dsv_linear.proofs.Words.{is_word-true, between_words}
 use Rattle.dsv_linear.proofs.Runs.{behind, sample_after}
@@ -53,11 +53,11 @@ rest_more f words x n ns values =
 
 -- ---- solutions
 -- where all exact values are words, the values are those of their forms
-pub solved_from : (start : Start) (words : List ℤ) (x : ℤ) (ns : List Node) (point : Point) (values : List ℤ) → Between start.input.low start.input.high x
-    → All (IsWord start.format) (rest_of start.format words x ns values).exact → Solution start.registers words point.ranges point.estimates values
-    → Solution start.registers words (forms_from start ns point).ranges (forms_from start ns point).estimates (rest_of start.format words x ns values).values
-solved_from start words x [] point values b a s = s
-solved_from start words x (n ∷ ns) point values b a s =
+pub solved_from : {count : ℕ} (start : Start) (words : List ℤ) (x : ℤ) (ns : List Node) (point : Point) (values : List ℤ) → Between start.input.low start.input.high x
+    → All (IsWord start.format) (rest_of start.format words x ns values).exact → Solution count start.registers words point.ranges point.estimates values
+    → Solution count start.registers words (forms_from start ns point).ranges (forms_from start ns point).estimates (rest_of start.format words x ns values).values
+solved_from {count} start words x [] point values b a s = s
+solved_from {count} start words x (n ∷ ns) point values b a s =
     let W = IsWord start.format in
     let v = node_value start.format words x values n in
     let now = values ++ v ∷ [] in
@@ -66,7 +66,7 @@ solved_from start words x (n ∷ ns) point values b a s =
     let more = solution_more start.registers words point.ranges point.estimates values (node_entry start point n) None v s
     (gives start words x point values n s b (all_front W (node_exact values n) (rest_of start.format words x ns now).exact c)) in
     let last = after_form start point n in
-    subst (λ (m : Sample). Solution start.registers words (forms_from start ns last).ranges (forms_from start ns last).estimates m.values) (sym e)
+    subst (λ (m : Sample). Solution count start.registers words (forms_from start ns last).ranges (forms_from start ns last).estimates m.values) (sym e)
     (solved_from start words x ns last now b (all_back W (node_exact values n) (rest_of start.format words x ns now).exact c) more)
 
 -- ---- ends
@@ -103,34 +103,34 @@ parts_are (shown.Words rs) (shown.Words ss) all e = record { ranges = rs; more =
 none_lie : (f : Format) (all : List Range) → shown.Words [] ≡ shown.Words all → LieWithin f all []
 none_lie f all e = let same : [] ≡ all = cc in subst (λ (rs : List Range). LieWithin f rs []) same tt
 
-node_lies : (start : Start) (words : List ℤ) (point : Point) (values : List ℤ) (n : Node) (all : List Range) → node_ends start.format point n ≡ shown.Words all
-    → Solution start.registers words point.ranges point.estimates values → LieWithin start.format all (node_exact values n)
-node_lies start words point values Input all e s = none_lie start.format all e
-node_lies start words point values (Reg r) all e s = none_lie start.format all e
-node_lies start words point values (MulConst c i) all e s = none_lie start.format all e
-node_lies start words point values (Round i) all e s = none_lie start.format all e
-node_lies start words point values (Add i j) all e s = none_lie start.format all e
-node_lies start words point values (Sub i j) all e s = none_lie start.format all e
-node_lies start words point values (Scale i) all e s = none_lie start.format all e
-node_lies start words point values (Fit i) all e s =
-    let o = value_is start.format (ends_at point i) all e in
-    let p = some_of (form_at point.estimates i) (λ form. form_range point.ranges form) o.ends o.known in
-    let b = form_ranges s.k s.us point.ranges p.0 (at values i) o.ends s.symbols (stand_at (length point.ranges) s.k s.us point.estimates values i p.0 p.1 s.stand) p.2 in
+node_lies : (count : ℕ) (start : Start) (words : List ℤ) (point : Point) (values : List ℤ) (n : Node) (all : List Range) → node_ends count start.format point n ≡ shown.Words all
+    → Solution count start.registers words point.ranges point.estimates values → LieWithin start.format all (node_exact values n)
+node_lies count start words point values Input all e s = none_lie start.format all e
+node_lies count start words point values (Reg r) all e s = none_lie start.format all e
+node_lies count start words point values (MulConst c i) all e s = none_lie start.format all e
+node_lies count start words point values (Round i) all e s = none_lie start.format all e
+node_lies count start words point values (Add i j) all e s = none_lie start.format all e
+node_lies count start words point values (Sub i j) all e s = none_lie start.format all e
+node_lies count start words point values (Scale i) all e s = none_lie start.format all e
+node_lies count start words point values (Fit i) all e s =
+    let o = value_is start.format (ends_after count point i) all e in
+    let p = some_of (form_at point.estimates i) (λ form. form_range (drop count point.ranges) (drop count form)) o.ends o.known in
+    let b = rest_lies count s.k s.us point.ranges p.0 (at values i) o.ends s.symbols s.few s.none (stand_at (length point.ranges) s.k s.us point.estimates values i p.0 p.1 s.stand) p.2 in
     subst (λ (rs : List Range). LieWithin start.format rs (at values i ∷ [])) (sym o.alone) (record { low_word = o.low; high_word = o.high; between = b }, tt)
 
 -- the exact values of the nodes that are left lie in their ranges
-pub lies_from : (start : Start) (words : List ℤ) (x : ℤ) (ns : List Node) (point : Point) (values : List ℤ) (all : List Range) → Between start.input.low start.input.high x
-    → ends_from start ns point ≡ shown.Words all → Solution start.registers words point.ranges point.estimates values → LieWithin start.format all (rest_of start.format words x ns values).exact
-lies_from start words x [] point values all b e s = none_lie start.format all e
-lies_from start words x (n ∷ ns) point values all b e s =
+pub lies_from : (count : ℕ) (start : Start) (words : List ℤ) (x : ℤ) (ns : List Node) (point : Point) (values : List ℤ) (all : List Range) → Between start.input.low start.input.high x
+    → ends_from count start ns point ≡ shown.Words all → Solution count start.registers words point.ranges point.estimates values → LieWithin start.format all (rest_of start.format words x ns values).exact
+lies_from count start words x [] point values all b e s = none_lie start.format all e
+lies_from count start words x (n ∷ ns) point values all b e s =
     let f = start.format in
     let v = node_value f words x values n in
     let now = values ++ v ∷ [] in
     let last = after_form start point n in
-    let p = parts_are (node_ends f point n) (ends_from start ns last) all e in
-    let here = node_lies start words point values n p.ranges p.here s in
+    let p = parts_are (node_ends count f point n) (ends_from count start ns last) all e in
+    let here = node_lies count start words point values n p.ranges p.here s in
     let more = solution_more start.registers words point.ranges point.estimates values (node_entry start point n) None v s (gives start words x point values n s b (lie_words f p.ranges (node_exact values n) here)) in
-    let there = lies_from start words x ns last now p.more b p.there more in
+    let there = lies_from count start words x ns last now p.more b p.there more in
     subst (λ (rs : List Range). LieWithin f rs (rest_of f words x (n ∷ ns) values).exact) p.together
     (subst (λ (m : Sample). LieWithin f (p.ranges ++ p.more) m.exact) (sym (rest_more f words x n ns values))
     (lie_append f p.ranges p.more (node_exact values n) (rest_of f words x ns now).exact here there))

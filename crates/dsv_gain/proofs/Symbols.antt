@@ -1,5 +1,5 @@
 -- Registers that are symbols of their own.
-use Rattle.std.proofs.Common.{◌≡◌, ℕ, zero, suc, ◌-◌, ◌<◌, ◌≢◌, inl, inr, List, [], ◌∷◌, length, replicate, refl, sym, subst, ap, ◌∙◌, arith, length-append}
+use Rattle.std.proofs.Common.{◌≡◌, ℕ, zero, suc, ◌-◌, ◌<◌, ◌≤◌, ◌≢◌, inl, inr, List, [], ◌∷◌, length, replicate, refl, sym, subst, ap, ◌∙◌, arith, length-append}
 use Rattle.std.specs.Prelude.{Option, Some, None}
 use Rattle.std.proofs.Math.IntN.{ℤ, pos, ◌*ℤ◌}
 use Rattle.std.proofs.lemmas.Int.{ints}
@@ -112,14 +112,17 @@ symbols_are net low high words n r = record {
       ];
 }
 
--- registers are those of their symbols
-pub words_stand : (net : Net) (low high : ℤ) (words : List ℤ) → IsNetlist net → AreRegisters net low high words → Stands (word_pass net low high) words
-words_stand net low high words n r =
+-- registers are those of their symbols, of which those are 0 whose registers are
+pub words_stand : (count : ℕ) (net : Net) (low high : ℤ) (words : List ℤ) → IsNetlist net → AreRegisters net low high words → count ≤ length net.next → ((j : ℕ) → j < count → at words j ≡ pos 0)
+    → Stands count (word_pass net low high) words
+words_stand count net low high words n r few none =
     let long = symbols_long net low high n in
     record {
       k = pos 1;
       us = at words;
       symbols = symbols_are net low high words n r;
+      few = omega (arith, few, long);
+      none = none;
       loaded = subst (λ (m : ℕ). Stand m (pos 1) (at words) (symbol_registers (length net.next)) words) (sym long) (registers_stand (length net.next) words (sym r.many));
       stand = none_stand (length (register_symbols net low high)) (pos 1) (at words);
     }

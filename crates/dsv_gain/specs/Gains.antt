@@ -1,5 +1,6 @@
--- What the runs of a netlist show of its exact values, whatever their length: passes of linear
--- forms from registers of zeros and from registers that are any words.
+-- What the runs of a netlist show of its exact values, whatever their length: a pass of linear
+-- forms from registers that are any words, each a symbol of its own. In runs from registers of
+-- zeros these symbols, the first ones, are 0.
 use Rattle.std.specs.Prelude.{ℕ, zero, suc, ◌+◌, ◌-◌, ◌*◌, Bool, true, false, nat_lt}
 use Rattle.std.specs.Prelude.{if◌then◌else◌, List, [], ◌∷◌, ◌++◌, length, take, replicate}
 use Rattle.std.specs.Prelude.{Option, Some, None, ℤ, pos, ◌-ℤ◌, ◌*ℤ◌, int_lt}
@@ -16,8 +17,8 @@ use Rattle.dsv_linear.specs.declared.point.Estimate.{Estimate}
 use Rattle.dsv_linear.specs.declared.point.Start.{Start}
 use Rattle.dsv_linear.specs.declared.point.Point.{Point}
 use Rattle.dsv_linear.specs.Forms.{◌>>=◌, scale, range_scale, range, unit, least, greatest}
-use Rattle.dsv_linear.specs.Known.{are_words, ends_at, node_entry, advanced, fresh, loaded}
-use Rattle.dsv_linear.specs.Known.{form_at, zero_start, no_point}
+use Rattle.dsv_linear.specs.Known.{are_words, ends_after, node_entry, advanced, fresh, loaded}
+use Rattle.dsv_linear.specs.Known.{form_at}
 use Rattle.dsv_gain.specs.declared.ends.Ends.{Ends}
 use Rattle.dsv_gain.specs.declared.ends.Ends.TheVariants as ends
 use Rattle.dsv_gain.specs.declared.pass.Pass.{Pass}
@@ -42,16 +43,16 @@ abbrev pub value_ends : Format → Option Range → Ends
 value_ends format None = ends.Leaves 0
 value_ends format (Some r) = if are_words format r then ends.Words (r ∷ []) else ends.Leaves 0
 
--- what is shown of what a node fits, if it fits anything
-abbrev pub node_ends : Format → Point → Node → Ends
-node_ends format point Input = ends.Words []
-node_ends format point (Reg register) = ends.Words []
-node_ends format point (MulConst coeff of) = ends.Words []
-node_ends format point (Round of) = ends.Words []
-node_ends format point (Add left right) = ends.Words []
-node_ends format point (Sub left right) = ends.Words []
-node_ends format point (Fit of) = value_ends format (ends_at point of)
-node_ends format point (Scale of) = ends.Words []
+-- what is shown of what a node fits, if it fits anything, where the first so many symbols are 0
+abbrev pub node_ends : ℕ → Format → Point → Node → Ends
+node_ends count format point Input = ends.Words []
+node_ends count format point (Reg register) = ends.Words []
+node_ends count format point (MulConst coeff of) = ends.Words []
+node_ends count format point (Round of) = ends.Words []
+node_ends count format point (Add left right) = ends.Words []
+node_ends count format point (Sub left right) = ends.Words []
+node_ends count format point (Fit of) = value_ends format (ends_after count point of)
+node_ends count format point (Scale of) = ends.Words []
 
 -- what is shown after so many values whose ends are words
 abbrev pub later_ends : List Range → Ends → Ends
@@ -63,19 +64,20 @@ abbrev pub with_ends : Ends → Ends → Ends
 with_ends (ends.Words ranges) rest = later_ends ranges rest
 with_ends (ends.Leaves value) rest = ends.Leaves value
 
--- each exact value's range is taken over the symbols up to there, and stands where the exact values
--- before it are words
-abbrev pub ends_from : Start → List Node → Point → Ends
-ends_from start [] point = ends.Words []
-ends_from start (node ∷ nodes) point = with_ends (node_ends start.format point node)
-    (ends_from start nodes (after_form start point node))
+-- each exact value's range is taken over the symbols up to there, of which the first so many are 0,
+-- and stands where the exact values before it are words
+abbrev pub ends_from : ℕ → Start → List Node → Point → Ends
+ends_from count start [] point = ends.Words []
+ends_from count start (node ∷ nodes) point =
+    with_ends (node_ends count start.format point node)
+    (ends_from count start nodes (after_form start point node))
 
 -- ---- samples one after another
--- what the next sample of a pass shows of its exact values
-abbrev pub pass_ends : List Node → Pass → Ends
-pass_ends nodes pass = ends_from pass.start nodes (fresh pass.point)
+-- what the next sample of a pass shows of its exact values, where the first so many symbols are 0
+abbrev pub pass_ends : ℕ → List Node → Pass → Ends
+pass_ends count nodes pass = ends_from count pass.start nodes (fresh pass.point)
 
--- a pass after one sample more
+-- the pass after one sample more
 abbrev pub after_pass : List Node → List ℕ → Pass → Pass
 after_pass nodes next pass = let now = forms_from pass.start nodes (fresh pass.point) in
     record { start = loaded next pass.start now; point = now }
@@ -186,38 +188,39 @@ gain_at sample (Some gain) ranges =
     record { depth = gain.depth; settled = sample; ranges = ranges }
 
 -- between two samples
-abbrev pub search : Pass → Pass → List Range → Option Gain → Search
-search run step seen best = record { run = run; step = step; seen = Some seen; best = best }
+abbrev pub search : Pass → List Range → Option Gain → Search
+search pass seen best = record { pass = pass; seen = Some seen; best = best }
 
 -- after a sample whose values can leave the words from some registers: what was found is the last
-abbrev pub gainless_turn : Pass → Pass → List Range → Option Gain → Turn
-gainless_turn run step seen None = turns.Next (search run step seen None)
-gainless_turn run step seen (Some gain) = turns.Over (outlook.Safe gain)
+abbrev pub gainless_turn : Pass → List Range → Option Gain → Turn
+gainless_turn pass seen None = turns.Next (search pass seen None)
+gainless_turn pass seen (Some gain) = turns.Over (outlook.Safe gain)
 
 -- after a sample that has a gain: it is the last if it has settled
-abbrev pub gain_turn : Bool → Pass → Pass → List Range → Gain → Turn
-gain_turn settled run step seen gain = if settled then turns.Over (outlook.Safe gain)
-    else turns.Next (search run step seen (Some gain))
+abbrev pub gain_turn : Bool → Pass → List Range → Gain → Turn
+gain_turn settled pass seen gain = if settled then turns.Over (outlook.Safe gain)
+    else turns.Next (search pass seen (Some gain))
 
--- by what the step's pass shows; both passes are those after the sample
-abbrev pub step_turn : Bool → ℕ → Pass → Pass → List Range → Option Gain → Ends → Turn
-step_turn settled sample run step seen best (ends.Leaves value) = gainless_turn run step seen best
-step_turn settled sample run step seen best (ends.Words last) =
-    gain_turn settled run step seen (gain_at sample best (hulls seen last))
+-- by what the sample shows after any words in the registers; the pass is that after the sample
+abbrev pub step_turn : Bool → ℕ → Pass → List Range → Option Gain → Ends → Turn
+step_turn settled sample pass seen best (ends.Leaves value) = gainless_turn pass seen best
+step_turn settled sample pass seen best (ends.Words last) =
+    gain_turn settled pass seen (gain_at sample best (hulls seen last))
 
--- by what the run's pass shows; the step's turn follows the ranges seen so far
+-- by what it shows of runs from registers of zeros; the other turn follows the ranges seen so far
 abbrev pub run_turn : ℕ → Option (List Range) → Option Gain → (List Range → Turn) → Ends → Turn
 run_turn sample seen best next (ends.Leaves value) =
     turns.Over (best_or (outlook.Leaves sample value) best)
 run_turn sample seen best next (ends.Words now) = next (hulls_after seen now)
 
--- what one sample comes to
+-- what one sample comes to: in runs from registers of zeros the start's symbols, one for each
+-- register, are 0
 abbrev pub sample_turn : List Node → List ℕ → ℕ → Search → Turn
-sample_turn nodes next sample s = let step = after_pass nodes next s.step in
+sample_turn nodes next sample s = let pass = after_pass nodes next s.pass in
     run_turn sample s.seen s.best
-    (λ seen. step_turn (has_settled nodes (length next) step.point) sample
-    (after_pass nodes next s.run) step seen s.best (pass_ends nodes s.step))
-    (pass_ends nodes s.run)
+    (λ seen. step_turn (has_settled nodes (length next) pass.point) sample pass seen s.best
+    (pass_ends 0 nodes s.pass))
+    (pass_ends (length next) nodes s.pass)
 
 abbrev pub turn_outlook : (Search → Outlook) → Turn → Outlook
 turn_outlook next (turns.Over found) = found
@@ -230,10 +233,6 @@ gain_from nodes next (suc left) sample s =
     turn_outlook (gain_from nodes next left (suc sample)) (sample_turn nodes next sample s)
 
 -- ---- runs of any length
--- from registers of zeros
-abbrev pub zero_pass : Net → ℤ → ℤ → Pass
-zero_pass net low high = record { start = zero_start net low high; point = no_point }
-
 -- from registers that are inputs and words
 abbrev pub word_pass : Net → ℤ → ℤ → Pass
 word_pass net low high = record {
@@ -248,8 +247,7 @@ word_pass net low high = record {
 -- before the first sample
 abbrev pub first_search : Net → ℤ → ℤ → Search
 first_search net low high = record {
-  run = zero_pass net low high;
-  step = word_pass net low high;
+  pass = word_pass net low high;
   seen = None;
   best = None;
 }

@@ -1,9 +1,8 @@
-// Passes over samples: forms alone.
-ghost use Rattle.std.specs.Prelude.{◌≡◌, IfOk};
+// The pass over samples: forms alone.
+ghost use Rattle.std.specs.Prelude.{◌≡◌, length, IfOk};
 ghost use Rattle.dsv_gain.specs.Gains.{forms_from, ends_from, after_pass, pass_ends};
 
-use crate::ends::{Ends, with_node};
-use crate::ranges::Ranges;
+use crate::ends::{SampleEnds, with_node};
 use dsv_base::{Items, NoMemory};
 use dsv_linear::{Point, Start, add_form, loaded_estimates};
 use dsv_netlist::Node;
@@ -16,19 +15,23 @@ pub(crate) struct Pass {
     pub point: Point,
 }
 
-/// Adds the forms of a sample to what is known; answers what they show of its exact values.
+/// Adds the forms of a sample to what is known; answers what they show of its exact values, where
+/// the start has so many symbols.
 fn add_forms(
     alloc: Global,
     start: &Start,
     nodes: &[Node],
+    count: usize,
     point: &mut Point,
-) -> Result<Ends, NoMemory>
+) -> Result<SampleEnds, NoMemory>
     ensures point { IfOk result (λ u. point.new ≡ forms_from start.now nodes.now point.old) }
-    ensures ends { IfOk result (λ ends. ends ≡ ends_from start.now nodes.now point.old) }
+    ensures run { IfOk result
+        (λ ends. ends.run ≡ ends_from count start.now nodes.now point.old) }
+    ensures step { IfOk result (λ ends. ends.step ≡ ends_from 0 start.now nodes.now point.old) }
 {
-    let mut ends = Ends::Words(Ranges::new(alloc));
+    let mut ends = SampleEnds::new(alloc);
     for node in nodes {
-        ends = with_node(ends, &start.format, point, node)?;
+        ends = with_node(ends, &start.format, point, count, node)?;
         add_form(alloc, start, point, node)?;
     }
     Ok(ends)
@@ -40,12 +43,14 @@ pub(crate) fn add_sample(
     nodes: &[Node],
     next: &[u32],
     pass: &mut Pass,
-) -> Result<Ends, NoMemory>
+) -> Result<SampleEnds, NoMemory>
     ensures pass { IfOk result (λ u. pass.new ≡ after_pass nodes.now next.now pass.old) }
-    ensures ends { IfOk result (λ ends. ends ≡ pass_ends nodes.now pass.old) }
+    ensures run { IfOk result
+        (λ ends. ends.run ≡ pass_ends (length next.now) nodes.now pass.old) }
+    ensures step { IfOk result (λ ends. ends.step ≡ pass_ends 0 nodes.now pass.old) }
 {
     pass.point.estimates = Items::new(alloc);
-    let ends = add_forms(alloc, &pass.start, nodes, &mut pass.point)?;
+    let ends = add_forms(alloc, &pass.start, nodes, next.len(), &mut pass.point)?;
     pass.start.registers = loaded_estimates(alloc, next, &pass.point.estimates)?;
     Ok(ends)
 }

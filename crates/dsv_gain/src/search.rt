@@ -5,25 +5,24 @@ ghost use Rattle.dsv_gain.specs.Gains.{best_or, gain_at, gainless_turn, gain_tur
 ghost use Rattle.dsv_gain.specs.Gains.{gain_from, gain_of};
 ghost use Rattle.dsv_gain.specs.Safe.{HoldInRuns, NeverBreaks, IfSafe, IsWithin};
 
-use crate::ends::Ends;
+use crate::ends::{Ends, SampleEnds};
 use crate::outlook::{Gain, Outlook};
 use crate::pass::{Pass, add_sample};
 use crate::ranges::{Ranges, hulls, hulls_after};
 use crate::start_parts::has_settled;
 use crate::starts::word_pass;
 use dsv_base::NoMemory;
-use dsv_linear::{next_of, no_point, nodes_of, zero_start};
+use dsv_linear::{next_of, nodes_of};
 use dsv_netlist::{Netlist, Node};
 use std::alloc::Global;
 
 /// What is known between two samples.
 #[derive(Drop)]
 pub(crate) struct Search {
-    /// The pass from registers of zeros.
-    pub run: Pass,
     /// The pass from registers that are any words.
-    pub step: Pass,
-    /// The ranges of the run's exact values in all samples so far, if there were any.
+    pub pass: Pass,
+    /// The ranges of the exact values of runs from registers of zeros, in all samples so far, if
+    /// there were any.
     pub seen: Option<Ranges>,
     /// The gain of the last sample, where it had one.
     pub best: Option<Gain>,
@@ -64,14 +63,13 @@ fn gain_at(sample: u32, best: Option<Gain>, ranges: Ranges) -> Gain
 }
 
 /// After a sample whose values can leave the words from some registers.
-fn gainless_turn(run: Pass, step: Pass, seen: Ranges, best: Option<Gain>) -> Turn
-    ensures { result ≡ gainless_turn run step seen best }
+fn gainless_turn(pass: Pass, seen: Ranges, best: Option<Gain>) -> Turn
+    ensures { result ≡ gainless_turn pass seen best }
 {
     match best {
         Some(gain) => Turn::Over(Outlook::Safe(gain)),
         None => Turn::Next(Search {
-            run,
-            step,
+            pass,
             seen: Some(seen),
             best: None,
         }),
@@ -79,15 +77,14 @@ fn gainless_turn(run: Pass, step: Pass, seen: Ranges, best: Option<Gain>) -> Tur
 }
 
 /// After a sample that has a gain.
-fn gain_turn(settled: bool, run: Pass, step: Pass, seen: Ranges, gain: Gain) -> Turn
-    ensures { result ≡ gain_turn settled run step seen gain }
+fn gain_turn(settled: bool, pass: Pass, seen: Ranges, gain: Gain) -> Turn
+    ensures { result ≡ gain_turn settled pass seen gain }
 {
     if settled {
         Turn::Over(Outlook::Safe(gain))
     } else {
         Turn::Next(Search {
-            run,
-            step,
+            pass,
             seen: Some(seen),
             best: Some(gain),
         })
@@ -105,24 +102,24 @@ fn sample_turn(
     ensures { IfOk result (λ now. now ≡ sample_turn nodes.now next.now sample search) }
 {
     let Search {
-        mut run,
-        mut step,
+        mut pass,
         seen,
         best,
     } = search;
-    let ends = match add_sample(alloc, nodes, next, &mut run)? {
-        Ends::Words(ends) => ends,
+    let SampleEnds { run, step } = add_sample(alloc, nodes, next, &mut pass)?;
+    let now = match run {
+        Ends::Words(now) => now,
         Ends::Leaves(value) => {
             return Ok(Turn::Over(best_or(Outlook::Leaves { sample, value }, best)));
         }
     };
-    let seen = hulls_after(alloc, seen, ends)?;
-    match add_sample(alloc, nodes, next, &mut step)? {
-        Ends::Leaves(_) => Ok(gainless_turn(run, step, seen, best)),
+    let seen = hulls_after(alloc, seen, now)?;
+    match step {
+        Ends::Leaves(_) => Ok(gainless_turn(pass, seen, best)),
         Ends::Words(last) => {
             let ranges = hulls(alloc, &seen, &last)?;
-            let settled = has_settled(nodes, next.len(), &step.point);
-            Ok(gain_turn(settled, run, step, seen, gain_at(sample, best, ranges)))
+            let settled = has_settled(nodes, next.len(), &pass.point);
+            Ok(gain_turn(settled, pass, seen, gain_at(sample, best, ranges)))
         }
     }
 }
@@ -148,8 +145,8 @@ fn gain_from(
 }
 
 /// What is found of the runs of a netlist from registers of zeros, over inputs from `low` to
-/// `high`, of any length, by two passes over the samples below the limit: one from registers of
-/// zeros, one from registers that are any words.
+/// `high`, of any length, by a pass over the samples below the limit, from registers that are any
+/// words.
 pub fn gain_of(
     alloc: Global,
     net: &Netlist,
@@ -168,19 +165,14 @@ pub fn gain_of(
     let _count = net.len(); // its range, for the proof
     let nodes = nodes_of(alloc, net)?;
     let next = next_of(alloc, net)?;
-    let run = Pass {
-        start: zero_start(alloc, net, low, high)?,
-        point: no_point(alloc),
-    };
-    let step = word_pass(alloc, net, low, high)?;
+    let pass = word_pass(alloc, net, low, high)?;
     gain_from(
         alloc,
         &nodes,
         &next,
         limit,
         Search {
-            run,
-            step,
+            pass,
             seen: None,
             best: None,
         },

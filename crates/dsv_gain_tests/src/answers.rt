@@ -57,8 +57,8 @@ struct Row {
 // PAIR: the products are exact. What the register of x_1 held at the start counts three words in
 // the values of sample 0, and nothing in those of sample 1.
 //
-// STEEP: the coefficient of x(0) in a_1 y_1 is 2^40 times 2^30, 2^60 and 2^90 in samples 1, 2 and
-// 3, and forms end below 2^126.
+// STEEP: the coefficient of the word that y_1 began with in a_1 y_1 is 2^53 times 2^30, 2^60 and
+// 2^90 in samples 0, 1 and 2, and forms end below 2^126.
 const ROWS: [Row; 11] = [
     Row {
         text: SUMS,
@@ -146,7 +146,7 @@ const ROWS: [Row; 11] = [
         frac_bits: 0,
         rounding: Rounding::Floor,
         limit: 8,
-        wanted: Wanted::Leaves(3, 3),
+        wanted: Wanted::Leaves(2, 3),
     },
 ];
 

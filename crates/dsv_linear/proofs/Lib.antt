@@ -1,6 +1,7 @@
 pub mod Entries
 pub mod Scales
 pub mod SmallSums
+pub mod Rests
 pub mod Shifts
 pub mod Divisions
 pub mod Passes
@@ -8,5 +9,6 @@ pub mod Numbers
 pub mod Meanings
 pub mod Roundings
 pub mod Words
+pub mod ZeroSymbols
 pub mod Points
 pub mod Runs

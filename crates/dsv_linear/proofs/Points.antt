@@ -1,5 +1,5 @@
 -- What is known after one node more.
-use Rattle.std.proofs.Common.{◌≡◌, ℕ, suc, ◌<◌, ◌^◌, inl, inr, ◌⊎◌, List, [], ◌∷◌, ◌++◌, length, get_or, refl, sym, subst, ap, ◌∙◌, arith}
+use Rattle.std.proofs.Common.{◌≡◌, ℕ, suc, ◌<◌, ◌≤◌, ◌^◌, inl, inr, ◌⊎◌, List, [], ◌∷◌, ◌++◌, length, get_or, refl, sym, subst, ap, ◌∙◌, arith}
 use Rattle.std.specs.Prelude.{Option, Some, None, option_to_list}
 use Rattle.std.specs.List.{All}
 use Rattle.std.proofs.Math.IntN.{ℤ, pos, ◌+ℤ◌, ◌-ℤ◌, ◌*ℤ◌}
@@ -28,17 +28,19 @@ use Rattle.dsv_linear.specs.declared.point.Point.{Point}
 use Rattle.dsv_linear.specs.Forms.{◌>>=◌, range_scale, scaled_range, sums, differences, products, unit, form_range, with_symbol, without_symbol}
 use Rattle.dsv_linear.specs.Known.{unknown, form_at, input_entry, product_at, sum_at, difference_at, rounded_in, rounded_at, ends_at, error_range, node_entry, node_interval, node_fact, fact_of, form_of, symbol_of, after_node}
 use Rattle.dsv_linear.specs.Meaning.{Means, AreSymbols, Knows, Stand, grown}
-use Rattle.dsv_linear.proofs.Numbers.{some_of, narrow_is}
-use Rattle.dsv_linear.proofs.Meanings.{sums_mean, differences_mean, products_mean, means_grown, symbols_grown, unit_means, input_lies}
+use Rattle.dsv_linear.proofs.Numbers.{some_of, narrow_is, times_none}
+use Rattle.dsv_linear.proofs.Meanings.{sums_mean, differences_mean, products_mean, means_grown, grown_before, symbols_grown, unit_means, input_lies}
 use Rattle.dsv_linear.proofs.Roundings.{Enters, rounded_enters, form_ranges, both_are}
 use Rattle.dsv_linear.proofs.Words.{fit_same, errors_lie, steps_are, step_positive, few_bits, fact_is_true}
 
 -- there are a denominator and symbols, over which the words in the registers and the values so far
--- are those of their forms
-pub record Solution (registers : List Estimate) (words : List ℤ) (ranges : List Range) (estimates : List Estimate) (values : List ℤ) : Type 0 where
+-- are those of their forms; the first so many symbols are 0
+pub record Solution (count : ℕ) (registers : List Estimate) (words : List ℤ) (ranges : List Range) (estimates : List Estimate) (values : List ℤ) : Type 0 where
   pub k : ℤ
   pub us : ℕ → ℤ
   pub symbols : AreSymbols k us ranges
+  pub few : count ≤ length ranges
+  pub none : (j : ℕ) → j < count → us j ≡ pos 0
   pub loaded : Stand (length ranges) k us registers words
   pub stand : Stand (length ranges) k us estimates values
 
@@ -125,7 +127,7 @@ input_enters k us ranges input entry x a b e =
       means = subst (λ (f : List ℤ). Means (suc n) (k *ℤ pos 1) (grown (pos 1) n us (k *ℤ x)) f x) (ap (λ y. y.form) (sym same)) (unit_means n k us x);
     }
 
-pub gives : (start : Start) (words : List ℤ) (x : ℤ) (point : Point) (values : List ℤ) (node : Node) (s : Solution start.registers words point.ranges point.estimates values)
+pub gives : {count : ℕ} (start : Start) (words : List ℤ) (x : ℤ) (point : Point) (values : List ℤ) (node : Node) (s : Solution count start.registers words point.ranges point.estimates values)
     → Between start.input.low start.input.high x → All (IsWord start.format) (node_exact values node)
     → Gives s.k s.us point.ranges (node_entry start point node) (node_value start.format words x values node)
 gives start words x point values Input s b a =
@@ -166,17 +168,17 @@ gives start words x point values (Scale i) s b a =
     products_mean (length point.ranges) s.k s.us c o.0 f (at values i) o.2 (stand_at (length point.ranges) s.k s.us point.estimates values i o.0 o.1 s.stand))
 
 -- ---- one node more
-solution_none : (registers : List Estimate) (words : List ℤ) (ranges : List Range) (estimates : List Estimate) (values : List ℤ) (e : Estimate) (v : ℤ)
-    (s : Solution registers words ranges estimates values) → Knows (length ranges) s.k s.us e.form v
-    → Solution registers words (ranges ++ []) (estimates ++ e ∷ []) (values ++ v ∷ [])
-solution_none registers words ranges estimates values e v s h =
-    subst (λ (rs : List Range). Solution registers words rs (estimates ++ e ∷ []) (values ++ v ∷ [])) (sym (append-nil ranges))
-    (record { k = s.k; us = s.us; symbols = s.symbols; loaded = s.loaded; stand = stand_push (length ranges) s.k s.us estimates values e v s.stand h })
+solution_none : {count : ℕ} (registers : List Estimate) (words : List ℤ) (ranges : List Range) (estimates : List Estimate) (values : List ℤ) (e : Estimate) (v : ℤ)
+    (s : Solution count registers words ranges estimates values) → Knows (length ranges) s.k s.us e.form v
+    → Solution count registers words (ranges ++ []) (estimates ++ e ∷ []) (values ++ v ∷ [])
+solution_none {count} registers words ranges estimates values e v s h =
+    subst (λ (rs : List Range). Solution count registers words rs (estimates ++ e ∷ []) (values ++ v ∷ [])) (sym (append-nil ranges))
+    (record { k = s.k; us = s.us; symbols = s.symbols; few = s.few; none = s.none; loaded = s.loaded; stand = stand_push (length ranges) s.k s.us estimates values e v s.stand h })
 
-solution_some : (registers : List Estimate) (words : List ℤ) (ranges : List Range) (estimates : List Estimate) (values : List ℤ) (e : Estimate) (v : ℤ) (entry : Entry)
-    (s : Solution registers words ranges estimates values) → e.form ≡ Some entry.form → Enters s.k s.us ranges entry v
-    → Solution registers words (ranges ++ option_to_list entry.symbol) (estimates ++ e ∷ []) (values ++ v ∷ [])
-solution_some registers words ranges estimates values e v entry s p t =
+solution_some : {count : ℕ} (registers : List Estimate) (words : List ℤ) (ranges : List Range) (estimates : List Estimate) (values : List ℤ) (e : Estimate) (v : ℤ) (entry : Entry)
+    (s : Solution count registers words ranges estimates values) → e.form ≡ Some entry.form → Enters s.k s.us ranges entry v
+    → Solution count registers words (ranges ++ option_to_list entry.symbol) (estimates ++ e ∷ []) (values ++ v ∷ [])
+solution_some {count} registers words ranges estimates values e v entry s p t =
     let n = length ranges in
     let more = ranges ++ t.symbol ∷ [] in
     let k = s.k *ℤ t.growth in
@@ -185,23 +187,25 @@ solution_some registers words ranges estimates values e v entry s p t =
     let here : Knows (suc n) k us e.form v = subst (λ (o : Option (List ℤ)). Knows (suc n) k us o v) (sym p) t.means in
     let stand = stand_push (suc n) k us estimates values e v (stand_grown n s.k s.us t.growth t.value estimates values s.stand) here in
     let loaded = stand_grown n s.k s.us t.growth t.value registers words s.loaded in
-    subst (λ (o : Option Range). Solution registers words (ranges ++ option_to_list o) (estimates ++ e ∷ []) (values ++ v ∷ [])) (sym t.symbol_is) (record {
+    subst (λ (o : Option Range). Solution count registers words (ranges ++ option_to_list o) (estimates ++ e ∷ []) (values ++ v ∷ [])) (sym t.symbol_is) (record {
       k = k;
       us = us;
       symbols = symbols_grown s.k s.us ranges t.growth t.value t.symbol t.positive s.symbols t.lies;
+      few = let few = s.few in omega (arith, few, long);
+      none = λ j p. let few = s.few in grown_before t.growth n s.us t.value j (omega (arith, few)) ∙ ap (λ u. t.growth *ℤ u) (s.none j p) ∙ times_none t.growth;
       loaded = subst (λ (m : ℕ). Stand m k us registers words) long loaded;
       stand = subst (λ (m : ℕ). Stand m k us (estimates ++ e ∷ []) (values ++ v ∷ [])) long stand;
     })
 
 -- after a node what was known is known, and its value too
-pub solution_more : (registers : List Estimate) (words : List ℤ) (ranges : List Range) (estimates : List Estimate) (values : List ℤ) (entry : Option Entry) (interval : Option Range) (v : ℤ)
-    (s : Solution registers words ranges estimates values) → Gives s.k s.us ranges entry v
-    → Solution registers words (ranges ++ option_to_list (symbol_of entry)) (estimates ++ (record { form = form_of entry; interval = interval }) ∷ []) (values ++ v ∷ [])
-solution_more registers words ranges estimates values None interval v s g =
+pub solution_more : {count : ℕ} (registers : List Estimate) (words : List ℤ) (ranges : List Range) (estimates : List Estimate) (values : List ℤ) (entry : Option Entry) (interval : Option Range) (v : ℤ)
+    (s : Solution count registers words ranges estimates values) → Gives s.k s.us ranges entry v
+    → Solution count registers words (ranges ++ option_to_list (symbol_of entry)) (estimates ++ (record { form = form_of entry; interval = interval }) ∷ []) (values ++ v ∷ [])
+solution_more {count} registers words ranges estimates values None interval v s g =
     solution_none registers words ranges estimates values (record { form = None; interval = interval }) v s tt
-solution_more registers words ranges estimates values (Some entry) interval v s g = elim g [
+solution_more {count} registers words ranges estimates values (Some entry) interval v s g = elim g [
   | inl t ↦ solution_some registers words ranges estimates values (record { form = Some entry.form; interval = interval }) v entry s refl t
-  | inr t ↦ subst (λ (o : Option Range). Solution registers words (ranges ++ option_to_list o) (estimates ++ (record { form = Some entry.form; interval = interval }) ∷ []) (values ++ v ∷ [])) (sym t.symbol_is)
+  | inr t ↦ subst (λ (o : Option Range). Solution count registers words (ranges ++ option_to_list o) (estimates ++ (record { form = Some entry.form; interval = interval }) ∷ []) (values ++ v ∷ [])) (sym t.symbol_is)
       (solution_none registers words ranges estimates values (record { form = Some entry.form; interval = interval }) v s t.means)
 ]
 
@@ -238,7 +242,7 @@ hold_same f facts exact h = rw (append-nil facts, append-nil exact) h
 -- are a denominator and symbols
 pub record Tracks (start : Start) (words : List ℤ) (point : Point) (sample : Sample) : Type 0 where
   pub hold : Holds start.format point.facts sample.exact
-  pub solved : All (IsWord start.format) sample.exact → Solution start.registers words point.ranges point.estimates sample.values
+  pub solved : All (IsWord start.format) sample.exact → Solution 0 start.registers words point.ranges point.estimates sample.values
 
 hold_more : (start : Start) (words : List ℤ) (point : Point) (sample : Sample) (node : Node) → Tracks start words point sample
     → Holds start.format (point.facts ++ option_to_list (node_fact start.format point node)) (sample.exact ++ node_exact sample.values node)

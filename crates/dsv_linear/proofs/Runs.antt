@@ -70,7 +70,7 @@ none_stand n k us = record { long = refl; each = λ i p. absurd (omega arith) }
 -- are words
 pub record Reaches (start : Start) (words : List ℤ) (point : Point) (exact : List ℤ) : Type 0 where
   pub hold : Holds start.format point.facts exact
-  pub solved : All (IsWord start.format) exact → Solution start.registers words point.ranges [] []
+  pub solved : All (IsWord start.format) exact → Solution 0 start.registers words point.ranges [] []
 
 begun : (start : Start) (words : List ℤ) (point : Point) (exact : List ℤ) → Reaches start words point exact
     → Tracks start words (fresh point) (behind exact (record { values = []; exact = [] }))
@@ -94,6 +94,8 @@ reaches_more net start words x point exact e b r =
             k = s.k;
             us = s.us;
             symbols = s.symbols;
+            few = s.few;
+            none = s.none;
             loaded = load_stand n s.k s.us now.estimates (sample_of net.format words x net.nodes).values net.next s.stand;
             stand = none_stand n s.k s.us;
           };
@@ -139,6 +141,8 @@ first_reaches net low high = record {
     k = pos 1;
     us = λ j. pos 0;
     symbols = record { positive = omega (arith, ints); within = λ j p. absurd (omega arith) };
+    few = omega arith;
+    none = λ j p. refl;
     loaded = zeros_stand (length net.next) (pos 1) (λ j. pos 0);
     stand = none_stand 0 (pos 1) (λ j. pos 0);
   };

@@ -4,4 +4,5 @@ pub mod Known
 pub mod NodeIntervals
 pub mod Divisions
 pub mod SmallNumbers
+pub mod SmallSums
 pub mod Meaning

@@ -84,13 +84,15 @@ fn lower_number(v: NarrowInteger, bits: u32) -> NarrowInteger
     NarrowInteger::from(v.get() >> bits)
 }
 
-/// What is left of a number that is divided by a power of two, which is small.
-fn rest_of(v: NarrowInteger, bits: u32) -> i64
-    requires { bits ≤ widest_word }
+/// What is left of a number that is divided by a power of two, which is small, where this is its
+/// quotient. A product and a difference take a fraction of the time of a division.
+fn rest_of(v: NarrowInteger, quotient: &i64, bits: u32) -> i64
+    requires bits { bits ≤ widest_word }
+    requires quotient { quotient.now ≡ floor_of v (2 ^ bits) }
     ensures value { result ≡ int_rem_euclid v (pos (2 ^ bits)) }
     ensures small { IsSmall result }
 {
-    v.get().rem_euclid(i128::from(power(bits))) as i64
+    (v.get() - i128::from(*quotient) * i128::from(power(bits))) as i64
 }
 
 /// The parts of a number.
@@ -100,7 +102,7 @@ fn parts_of(v: NarrowInteger, bits: u32) -> Option<Parts>
         × ((parts.rest ≡ int_rem_euclid v (pos (2 ^ bits))) × IsSmall parts.rest)) }
 {
     let quotient = short_number(lower_number(v, bits))?;
-    let rest = rest_of(v, bits);
+    let rest = rest_of(v, &quotient, bits);
     Some(Parts { quotient, rest })
 }
 

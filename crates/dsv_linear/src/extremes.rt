@@ -1,15 +1,29 @@
 // The least and the greatest values of forms, as sums of the worst cases of their terms.
-ghost use Rattle.std.specs.Prelude.{◌≡◌, ◌<◌, length, IfSome, Some};
+ghost use Rattle.std.specs.Prelude.{◌≡◌, ◌<◌, ◌≤◌, ◌-◌, ◌*◌, length, drop, IfSome, Some};
 ghost use Rattle.dsv_algebra.specs.Narrow.{narrow_of};
 ghost use Rattle.dsv_linear.specs.Forms.{least, greatest, least_term, greatest_term};
-ghost use Rattle.dsv_linear.specs.Forms.{both, form_range};
+ghost use Rattle.dsv_linear.specs.Forms.{both, upper, lower, scale, range_scale, form_range};
 ghost use Rattle.dsv_linear.specs.Divisions.{extremes};
+ghost use Rattle.dsv_linear.specs.SmallNumbers.{most_terms};
+ghost use Rattle.dsv_linear.specs.SmallSums.{AreSums, SplitsTo};
 
 use crate::form::Form;
 use crate::range::{Range, greatest_factor, least_factor, lower_quotient, upper_quotient};
-use crate::small::{MOST_TERMS, is_small, small_factors, with_product};
+use crate::small::{
+    MOST_TERMS, are_products_small, is_medium, light_factors, small_factors, with_medium_product,
+    with_product,
+};
 use crate::{RANGE_SCALE, SCALE};
 use dsv_algebra::NarrowInteger;
+
+/// The sums of a form's terms: of all, and of those after the first ones.
+#[derive(Clone, Copy)]
+pub(crate) struct SplitSums {
+    /// The least and the greatest sum of all terms.
+    pub all: Range,
+    /// The same of the terms after the first ones.
+    pub rest: Range,
+}
 
 /// The least product of a form's coefficient with a number in its symbol's range.
 fn least_term(ranges: &[Range], form: &Form, j: usize) -> Option<NarrowInteger>
@@ -20,12 +34,13 @@ fn least_term(ranges: &[Range], form: &Form, j: usize) -> Option<NarrowInteger>
     c.checked_mul(least_factor(c, &ranges[j]))
 }
 
-/// The least sum of a form's coefficients, each times a number in its symbol's range.
-fn least_sum(ranges: &[Range], form: &Form) -> Option<NarrowInteger>
-    ensures { result ≡ least ranges.now form.now }
+/// The least sum of a form's coefficients from one place on, each times a number in its symbol's
+/// range.
+fn least_sum(ranges: &[Range], form: &Form, from: usize) -> Option<NarrowInteger>
+    ensures { result ≡ least (drop from ranges.now) (drop from form.now) }
 {
     let mut sum = NarrowInteger::from(0i64);
-    for j in 0..ranges.len() {
+    for j in from..ranges.len() {
         let term = least_term(ranges, form, j)?;
         sum = sum.checked_add(term)?;
     }
@@ -41,49 +56,118 @@ fn greatest_term(ranges: &[Range], form: &Form, j: usize) -> Option<NarrowIntege
     c.checked_mul(greatest_factor(c, &ranges[j]))
 }
 
-/// The greatest sum of a form's coefficients, each times a number in its symbol's range.
-fn greatest_sum(ranges: &[Range], form: &Form) -> Option<NarrowInteger>
-    ensures { result ≡ greatest ranges.now form.now }
+/// The greatest sum of a form's coefficients from one place on, each times a number in its symbol's
+/// range.
+fn greatest_sum(ranges: &[Range], form: &Form, from: usize) -> Option<NarrowInteger>
+    ensures { result ≡ greatest (drop from ranges.now) (drop from form.now) }
 {
     let mut sum = NarrowInteger::from(0i64);
-    for j in 0..ranges.len() {
+    for j in from..ranges.len() {
         let term = greatest_term(ranges, form, j)?;
         sum = sum.checked_add(term)?;
     }
     Some(sum)
 }
 
-/// Both sums, where all coefficients and the ends of all ranges are small.
+/// The sums of the terms from one place to another, where their products are small.
 #[inline(never)]
-fn small_extremes(ranges: &[Range], list: &[i64]) -> Option<Range>
-    ensures { IfSome result (λ sums. extremes ranges.now list.now ≡ Some sums) }
+fn small_sums(ranges: &[Range], list: &[i64], from: usize, to: usize) -> Option<Range>
+    requires order { from ≤ to }
+    requires list { to ≤ length list.now }
+    requires ranges { to ≤ length ranges.now }
+    requires few { to ≤ most_terms }
+    ensures { IfSome result (AreSums ranges.now list.now from (to - from)) }
 {
-    if MOST_TERMS < list.len() || ranges.len() < list.len() {
-        return None;
-    }
     let mut low = NarrowInteger::from(0i64);
     let mut high = NarrowInteger::from(0i64);
-    for j in 0..list.len() {
+    for j in from..to {
         if list[j] == 0 {
             continue;
         }
-        if !is_small(&list[j]) {
+        let factors = small_factors(&list[j], &ranges[j])?;
+        if !are_products_small(&list[j], &factors) {
             return None;
         }
-        let factors = small_factors(&list[j], &ranges[j])?;
         low = with_product(low, &list[j], &factors.low);
         high = with_product(high, &list[j], &factors.high);
     }
     Some(Range { low, high })
 }
 
-/// Both sums.
-fn wide_extremes(ranges: &[Range], form: &Form) -> Option<Range>
-    ensures { result ≡ extremes ranges.now form.now }
+/// The same of coefficients that may have more than 64 bits.
+#[inline(never)]
+fn medium_sums(ranges: &[Range], list: &[NarrowInteger], from: usize, to: usize) -> Option<Range>
+    requires order { from ≤ to }
+    requires list { to ≤ length list.now }
+    requires ranges { to ≤ length ranges.now }
+    requires few { to ≤ most_terms }
+    ensures { IfSome result (AreSums ranges.now list.now from (to - from)) }
+{
+    let mut low = NarrowInteger::from(0i64);
+    let mut high = NarrowInteger::from(0i64);
+    for j in from..to {
+        let c = list[j];
+        let factors = light_factors(c, &ranges[j])?;
+        if !is_medium(c) {
+            return None;
+        }
+        low = with_medium_product(low, c, &factors.low);
+        high = with_medium_product(high, c, &factors.high);
+    }
+    Some(Range { low, high })
+}
+
+/// The sums of the terms from one place to another, where their products are small.
+fn sums_between(ranges: &[Range], form: &Form, from: usize, to: usize) -> Option<Range>
+    requires order { from ≤ to }
+    requires form { to ≤ length form.now }
+    requires ranges { to ≤ length ranges.now }
+    requires few { to ≤ most_terms }
+    ensures { IfSome result (AreSums ranges.now form.now from (to - from)) }
+{
+    match (form.as_short(), form.as_wide()) {
+        (Some(list), _) => small_sums(ranges, list, from, to),
+        (None, Some(list)) => medium_sums(ranges, list, from, to),
+        (None, None) => None,
+    }
+}
+
+/// Both sums, where the products are small.
+fn small_extremes(ranges: &[Range], form: &Form) -> Option<Range>
+    ensures { IfSome result (λ sums. extremes ranges.now form.now ≡ Some sums) }
+{
+    let long = form.len();
+    if MOST_TERMS < long || ranges.len() < long {
+        return None;
+    }
+    sums_between(ranges, form, 0, long)
+}
+
+/// The sums of all terms and of those after the first so many, where the products are small: each
+/// term is taken once.
+fn small_split(ranges: &[Range], form: &Form, count: usize) -> Option<SplitSums>
+    ensures { IfSome result (λ sums. SplitsTo ranges.now form.now count sums) }
+{
+    let long = form.len();
+    if MOST_TERMS < long || ranges.len() < long {
+        return None;
+    }
+    let split = if count < long { count } else { long };
+    let first = sums_between(ranges, form, 0, split)?;
+    let rest = sums_between(ranges, form, split, long)?;
+    Some(SplitSums {
+        all: first.plus(&rest)?,
+        rest,
+    })
+}
+
+/// Both sums, of the terms from one place on.
+fn wide_extremes(ranges: &[Range], form: &Form, from: usize) -> Option<Range>
+    ensures { result ≡ extremes (drop from ranges.now) (drop from form.now) }
 {
     Some(Range {
-        low: least_sum(ranges, form)?,
-        high: greatest_sum(ranges, form)?,
+        low: least_sum(ranges, form, from)?,
+        high: greatest_sum(ranges, form, from)?,
     })
 }
 
@@ -92,22 +176,60 @@ fn wide_extremes(ranges: &[Range], form: &Form) -> Option<Range>
 pub fn extreme_sums(ranges: &[Range], form: &Form) -> Option<Range>
     ensures { result ≡ both (least ranges.now form.now) (greatest ranges.now form.now) }
 {
-    if let Some(list) = form.as_short() {
-        if let Some(sums) = small_extremes(ranges, list) {
-            return Some(sums);
-        }
+    if let Some(sums) = small_extremes(ranges, form) {
+        return Some(sums);
     }
-    wide_extremes(ranges, form)
+    wide_extremes(ranges, form, 0)
 }
 
-/// The range of a form's value, which is whole.
+/// The range of a form's value, which is whole, by its extreme sums.
 #[tactic(auto, using(crate::proofs::Scales::scales))]
-pub(crate) fn form_range(ranges: &[Range], form: &Form) -> Option<Range>
-    ensures { result ≡ form_range ranges.now form.now }
+fn whole_range(sums: &Range) -> Option<Range>
+    ensures { result ≡ both (upper sums.now.low (scale * range_scale))
+        (lower sums.now.high (scale * range_scale)) }
 {
-    let sums = extreme_sums(ranges, form)?;
     Some(Range {
         low: upper_quotient(sums.low, SCALE * RANGE_SCALE)?,
         high: lower_quotient(sums.high, SCALE * RANGE_SCALE)?,
     })
+}
+
+/// The range of a form's value, which is whole.
+pub(crate) fn form_range(ranges: &[Range], form: &Form) -> Option<Range>
+    ensures { result ≡ form_range ranges.now form.now }
+{
+    whole_range(&extreme_sums(ranges, form)?)
+}
+
+/// The range of a form's value where the first so many symbols are 0.
+fn rest_range(ranges: &[Range], form: &Form, count: usize) -> Option<Range>
+    ensures { result ≡ form_range (drop count ranges.now) (drop count form.now) }
+{
+    whole_range(&wide_extremes(ranges, form, count)?)
+}
+
+/// The ranges of a value, where they are known.
+#[derive(Clone, Copy)]
+pub struct ValueRanges {
+    /// Over all symbols.
+    pub all: Option<Range>,
+    /// Where the first ones are 0.
+    pub rest: Option<Range>,
+}
+
+/// The ranges of a form's value: over all symbols, and where the first so many are 0.
+pub(crate) fn form_ranges(ranges: &[Range], form: &Form, count: usize) -> ValueRanges
+    ensures all { result.all ≡ form_range ranges.now form.now }
+    ensures rest { result.rest ≡ form_range (drop count ranges.now) (drop count form.now) }
+{
+    if let Some(sums) = small_split(ranges, form, count) {
+        return ValueRanges {
+            all: whole_range(&sums.all),
+            rest: whole_range(&sums.rest),
+        };
+    }
+    ValueRanges {
+        all: form_range(ranges, form),
+        rest: rest_range(ranges, form, count),
+    }
 }

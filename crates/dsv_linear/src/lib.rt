@@ -18,10 +18,10 @@ mod run;
 mod small;
 
 pub use arithmetic::unit;
-pub use extremes::extreme_sums;
+pub use extremes::{ValueRanges, extreme_sums};
 pub use fact::Fact;
 pub use form::Form;
-pub use intervals::{are_words, ends_at};
+pub use intervals::{are_words, ranges_at};
 pub use nodes::add_form;
 pub use point::{Entry, Estimate, Point, Start, form_at};
 pub use range::Range;

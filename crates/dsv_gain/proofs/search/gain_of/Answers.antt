@@ -6,8 +6,8 @@ use Rattle.dsv_gain.proofs.search.gain_of.Goals as goal
 
 pub returns-clause-made : goal.returns-clause-made
 returns-clause-made c =
-    gain_made c.args.net.now c.args.low c.args.high (to_z w64 (of_z w64 c.args.low)) (to_z w64 (of_z w64 c.args.high)) c.args.limit c.deref.result.now c.deref-2.result.now c.in_ok-zero_start.field-0 c.no_point.result c.in_ok-step.step c.gain_from.result
-    (c.deref.ensures.value ∙ c.in_ok-nodes.ensures) (c.deref-2.ensures.value ∙ c.in_ok-next.ensures) c.in_ok-zero_start.ensures c.no_point.ensures c.in_ok-step.ensures
+    gain_made c.args.net.now c.args.low c.args.high (to_z w64 (of_z w64 c.args.low)) (to_z w64 (of_z w64 c.args.high)) c.args.limit c.deref.result.now c.deref-2.result.now c.in_ok-pass.pass c.gain_from.result
+    (c.deref.ensures.value ∙ c.in_ok-nodes.ensures) (c.deref-2.ensures.value ∙ c.in_ok-next.ensures) c.in_ok-pass.ensures
     (to_z-of_z w64 c.args.low c.ranges.low) (to_z-of_z w64 c.args.high c.ranges.high) c.gain_from.ensures
 
 pub returns-clause-holds : goal.returns-clause-holds

@@ -3,7 +3,7 @@ use Rattle.std.specs.Prelude.{Some}
 use Rattle.dsv_algebra.specs.Floor.{floor_of}
 use Rattle.dsv_netlist.specs.Nodes.{at}
 use Rattle.dsv_linear.specs.Forms.{entries}
-use Rattle.dsv_linear.proofs.SmallSums.{IsSum}
+use Rattle.dsv_linear.specs.SmallSums.{IsSum}
 use Rattle.dsv_linear.proofs.Divisions.{low_term, high_term}
 use Rattle.dsv_linear.proofs.division.small_division.Given as goal
 

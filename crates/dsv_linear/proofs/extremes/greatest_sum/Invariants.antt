@@ -1,7 +1,10 @@
-use Rattle.std.proofs.Common.{◌≡◌}
+use Rattle.std.proofs.Common.{◌≡◌, ◌+◌, ◌-◌, ◌≤◌, ◌⊎◌, length}
 use Rattle.std.specs.Prelude.{Some}
 use Rattle.dsv_linear.specs.Forms.{total, greatest_term}
 use Rattle.dsv_linear.proofs.extremes.greatest_sum.Given as goal
 
 abbrev pub invariant-loop-j : goal.invariant-loop-j
-invariant-loop-j l = total l.j (greatest_term l.ranges l.form) ≡ Some l.sum
+invariant-loop-j l = record {
+  sum : total (l.j - l.from) (λ i. greatest_term l.ranges l.form (l.from + i)) ≡ Some l.sum;
+  place : (l.j ≡ l.from) ⊎ (l.j ≤ length l.ranges);
+}

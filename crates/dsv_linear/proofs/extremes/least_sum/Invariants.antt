@@ -1,7 +1,10 @@
-use Rattle.std.proofs.Common.{◌≡◌}
+use Rattle.std.proofs.Common.{◌≡◌, ◌+◌, ◌-◌, ◌≤◌, ◌⊎◌, length}
 use Rattle.std.specs.Prelude.{Some}
 use Rattle.dsv_linear.specs.Forms.{total, least_term}
 use Rattle.dsv_linear.proofs.extremes.least_sum.Given as goal
 
 abbrev pub invariant-loop-j : goal.invariant-loop-j
-invariant-loop-j l = total l.j (least_term l.ranges l.form) ≡ Some l.sum
+invariant-loop-j l = record {
+  sum : total (l.j - l.from) (λ i. least_term l.ranges l.form (l.from + i)) ≡ Some l.sum;
+  place : (l.j ≡ l.from) ⊎ (l.j ≤ length l.ranges);
+}
