@@ -23,7 +23,7 @@ use Rattle.dsv_meaning.specs.Systems.{equations_of}
 use Rattle.dsv_realise.specs.Netlists.{net_of}
 use Rattle.dsv_realise.specs.Running.{counts_as}
 use Rattle.dsv_realise.proofs.Growing.{word_small}
-use Rattle.dsv_realise.proofs.Alike.{alike_back}
+use Rattle.dsv_system.proofs.Alike.{alike_back}
 use Rattle.dsv_cascade.specs.Cascades.{CascadeView, sections_of}
 use Rattle.dsv_cascade.specs.Netlists.{moved, joined, joined_all, wire}
 use Rattle.dsv_cascade.specs.Sections.{Fits, IsCascade}

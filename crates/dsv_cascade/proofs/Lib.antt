@@ -1,5 +1,4 @@
 pub mod CascadeNets
-pub mod CascadeVerdicts
 pub mod GreatNumbers
 pub mod JoinedNets
 pub mod JoinedSteps

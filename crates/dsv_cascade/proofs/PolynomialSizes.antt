@@ -17,24 +17,10 @@ use Rattle.dsv_delta.specs.ZCoefficients.{Dyadic, dyadic, scaled, first_wide, z_
 use Rattle.dsv_tested.specs.declared.side.Tested.{Tested}
 use Rattle.dsv_tested.specs.declared.side.Tested.TheVariants as tested
 use Rattle.dsv_tested.specs.Tested.{z_list, without_leading_zeros, with_positive_lead, are_even, halved_within, without_common_twos, first_over, tested_list}
+use Rattle.dsv_tested.proofs.TestedCoefficients.{length-reduced, length-positive}
 use Rattle.dsv_cascade.specs.Stability.{HasPoly}
 
 -- ---- as many numbers
-length-halved : (n : ℕ) (cs : List ℤ) → length (halved_within n cs) ≡ length cs
-length-halved zero cs = refl
-length-halved (suc n) cs =
-    let half : ℤ → ℤ = λ c. int_div_euclid c (pos 2) in
-    cond_both (are_even cs) (halved_within n (map half cs)) cs (λ xs. length xs ≡ length cs) (λ e. length-halved n (map half cs) ∙ length-map cs half) (λ e. refl)
-
-length-reduced : (cs : List ℤ) → length (without_common_twos cs) ≡ length cs
-length-reduced [] = refl
-length-reduced (c ∷ cs) = length-halved (unsigned_abs c) (c ∷ cs)
-
-length-positive : (cs : List ℤ) → length (with_positive_lead cs) ≡ length cs
-length-positive [] = refl
-length-positive (c ∷ cs) =
-    cond_both (int_lt c (pos 0)) (map neg_ℤ (c ∷ cs)) (c ∷ cs) (λ xs. length xs ≡ length (c ∷ cs)) (λ e. length-map (c ∷ cs) neg_ℤ) (λ e. refl)
-
 length-expanded : (wide : Option ℕ) (f : Vector) (n : ℕ) (cs : List ℤ)
     → elim wide as (λ o. Result (List ℤ) PolyWide) [ Some index ↦ Err (record { index = index }) | None ↦ Ok (map f (range_with_len 0 n)) ] ≡ Ok cs → length cs ≡ n
 length-expanded (Some index) f n cs e = cc

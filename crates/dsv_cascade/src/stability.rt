@@ -4,7 +4,7 @@ ghost use Rattle.std.specs.Prelude.{Some, None, Err, IfOk, IfErr, IfSome, IfNone
 ghost use Rattle.std.specs.List.{All};
 ghost use Rattle.std.specs.Int.RustNames.{unsigned_abs};
 ghost use Rattle.dsv_meaning.specs.Equations.{order};
-ghost use Rattle.dsv_closed_forms.specs.ClosedForm.{closed_form_of, second_limit, IsAccepted};
+ghost use Rattle.dsv_closed_forms.specs.ClosedForm.{closed_form_of, second_limit};
 ghost use Rattle.dsv_forms.specs.declared.offers.FormOffer.TheVariants as offered;
 ghost use Rattle.dsv_lyapunov.specs.Answers.{offer_in, IsStable, IsShown};
 ghost use Rattle.dsv_tested.specs.Tested.{tested_of};
@@ -20,7 +20,7 @@ use arrayvec::ArrayVec;
 use dsv_closed_forms::closed_form;
 use dsv_delta::PolyWide;
 use dsv_forms::{Falls, Form, FormOffer, KeptAway, Poly};
-use dsv_lyapunov::{CheckedForm, check_offer};
+use dsv_lyapunov::{CheckedForm, accepted_form};
 use dsv_quantiser::Quantised;
 use dsv_tested::{Side, Tested, polynomial_of};
 use std::marker::Model;
@@ -145,18 +145,6 @@ impl From<UnstableSection> for CascadeForms {
                 CascadeForms::NoClosedForm { section, index }
             }
         }
-    }
-}
-
-/// The checked form of an offer that is accepted.
-fn accepted_form(poly: &Poly, offer: &FormOffer) -> CheckedForm
-    requires { IsAccepted poly.now offer.now }
-    ensures same { offer_in result ≡ offer.now }
-    ensures shown { IsShown poly.now result }
-{
-    match check_offer(poly, offer) {
-        Ok(found) => found,
-        Err(_) => unreachable!(),
     }
 }
 

@@ -15,7 +15,7 @@ use dsv_base::NoMemory;
 use dsv_closed_forms::closed_form;
 use dsv_forms::{FormOffer, Poly};
 use dsv_jury::{Jury, jury};
-use dsv_lyapunov::{CheckedForm, FormProposer, KeptForm, KeptForms, check_offer};
+use dsv_lyapunov::{CheckedForm, FormProposer, KeptForm, KeptForms, accepted_form, check_offer};
 use dsv_schur_cohn::schur_cohn_offer;
 use std::alloc::Global;
 
@@ -27,18 +27,6 @@ pub enum FormAnswer {
     /// It has no closed form, and no proposer offered a form that is accepted: all offers with
     /// their refusals, and what Jury's recursion says.
     NoForm { kept: KeptForms, jury: Jury },
-}
-
-/// The checked form of an offer that is accepted.
-fn accepted_form(poly: &Poly, offer: &FormOffer) -> CheckedForm
-    requires { IsAccepted poly.now offer.now }
-    ensures same { offer_in result ≡ offer.now }
-    ensures shown { IsShown poly.now result }
-{
-    match check_offer(poly, offer) {
-        Ok(found) => found,
-        Err(_) => unreachable!(),
-    }
 }
 
 /// What comes of asking the proposers in their order ([`first_accepted`]).

@@ -1,5 +1,5 @@
 -- The fall form with wide entries in place of those that can't be had.
-use Rattle.std.proofs.Common.{◌≡◌, ℕ, suc, ◌+◌, ◌<◌, ◌≤◌, Bool, true, false, not, ◌&&◌, ◌||◌, nat_lt, int_lt, if◌then◌else◌, List, [], ◌∷◌, ◌++◌, map, drop, min, max, Option, Some, None, refl, sym, ap, ◌∙◌, arith, add-one, append_assoc}
+use Rattle.std.proofs.Common.{◌≡◌, ◌⊎◌, ℕ, suc, ◌+◌, ◌<◌, ◌≤◌, Bool, true, false, not, ◌&&◌, ◌||◌, nat_lt, int_lt, if◌then◌else◌, List, [], ◌∷◌, ◌++◌, map, drop, min, max, Option, Some, None, refl, sym, ap, ◌∙◌, arith, add-one, append_assoc}
 use Rattle.std.proofs.Math.IntN.{ℤ, pos, negsuc, ◌+ℤ◌, ◌*ℤ◌, neg_ℤ}
 use Rattle.std.proofs.lemmas.Bool.Decides.{nat_tests, Decides-int_eq}
 use Rattle.std.specs.List.{flat_map, list_all}
@@ -23,10 +23,10 @@ use Rattle.dsv_forms.proofs.SumLemmas.{unless, any_wide-append, sum_from-is, num
 neg-times : (x y : ℤ) → neg_ℤ x *ℤ y ≡ neg_ℤ (x *ℤ y)
 neg-times x y = ring (env (x ∷ y ∷ [])) (times (minus (var 0)) (var 1)) (minus (times (var 0) (var 1))) refl
 
-abbrev as_summand : ℤ × ℤ → Summand
+abbrev pub as_summand : ℤ × ℤ → Summand
 as_summand t = term t.0 t.1
 
-abbrev summands : List (ℤ × ℤ) → List Summand
+abbrev pub summands : List (ℤ × ℤ) → List Summand
 summands ts = flat_map (λ t. as_summand t ∷ []) ts
 
 where_summands : (below after : Bool) (p q r t u : ℤ × ℤ)
@@ -63,7 +63,7 @@ fall_summands-are d c P i j =
     ∙ ap (λ f. product (c 0) (c 0) (P i j) ∷ term (neg_ℤ (c (suc i) *ℤ c (suc j))) (P 0 0) ∷ rest ++ summand_where (below && after) (term f (P (suc i) (suc j)))) (neg-times (c 0) (c 0))
     ∙ where_summands below after (c 0 *ℤ c 0, P i j) (neg_ℤ (c (suc i) *ℤ c (suc j)), P 0 0) (c (suc i) *ℤ c 0, P 0 (suc j)) (c 0 *ℤ c (suc j), P (suc i) 0) (neg_ℤ (c 0 *ℤ c 0), P (suc i) (suc j))
 
-total-terms : (s : ℤ) (ts : List (ℤ × ℤ)) → total s (map (λ t. t.0 *ℤ t.1) ts) ≡ total_from s ts
+pub total-terms : (s : ℤ) (ts : List (ℤ × ℤ)) → total s (map (λ t. t.0 *ℤ t.1) ts) ≡ total_from s ts
 total-terms s [] = refl
 total-terms s (t ∷ ts) = total-terms (s +ℤ t.0 *ℤ t.1) ts
 
@@ -75,7 +75,7 @@ numbers_of_terms ts =
     let p = partial_sums (pos 0) b in
     any_wide-append (a ++ b) p ∙ ap (λ w. w || any_wide p) (any_wide-append a b)
 
-terms_sum : (ts : List (ℤ × ℤ)) → sum_from (pos 0) (summands ts)
+pub terms_sum : (ts : List (ℤ × ℤ)) → sum_from (pos 0) (summands ts)
     ≡ unless (any_wide (map (λ t. t.0) ts ++ map (λ t. t.0 *ℤ t.1) ts ++ partial_sums (pos 0) (map (λ t. t.0 *ℤ t.1) ts))) (total_from (pos 0) ts)
 terms_sum ts =
     let f : ℤ × ℤ → ℤ = λ t. t.0 in
@@ -171,37 +171,61 @@ min-turned i j = omega arith
 max-turned : (i j : ℕ) → max i j ≡ max j i
 max-turned i j = omega arith
 
--- an entry of the upper half
-pub upper : (d : ℕ) (c : Vector) (P F : Form) → IsFallOrWide d c P F → (i j : ℕ) → i ≤ j → j < d
-    → matrix_of F.rows i j ≡ or_too_wide (unless (any_wide (fall_numbers d c (matrix_of P.rows) i j)) (fall_entry d c (matrix_of P.rows) i j))
-upper d c P F w i j h b =
-    w.entries i j (omega arith) b
-    ∙ ap (λ k. or_too_wide (fall_sum d c (matrix_of P.rows) k (max i j))) (smaller i j h)
-    ∙ ap (λ k. or_too_wide (fall_sum d c (matrix_of P.rows) i k)) (greater i j h)
-    ∙ ap or_too_wide (fall_sum-is d c (matrix_of P.rows) i j)
+-- F has the entries of T in the first d places, the upper half mirrored, each with a number in its place that is too wide where one on its own way is; elsewhere it is 0
+pub record AreEntriesOrWide (d : ℕ) (T : Matrix) (ways : ℕ → ℕ → List ℤ) (F : Form) : Type 0 where
+  pub entries : (i j : ℕ) → i < d → j < d → matrix_of F.rows i j ≡ or_too_wide (unless (any_wide (ways (min i j) (max i j))) (T (min i j) (max i j)))
+  pub elsewhere : (i j : ℕ) → (d ≤ i) ⊎ (d ≤ j) → matrix_of F.rows i j ≡ pos 0
 
-pub turned : (d : ℕ) (c : Vector) (P F : Form) → IsFallOrWide d c P F → (i j : ℕ) → i < d → j < d → matrix_of F.rows i j ≡ matrix_of F.rows j i
-turned d c P F w i j a b =
+-- the fall form of a polynomial
+pub fall_entries : (d : ℕ) (c : Vector) (P F : Form) → IsFallOrWide d c P F → AreEntriesOrWide d (fall_entry d c (matrix_of P.rows)) (fall_numbers d c (matrix_of P.rows)) F
+fall_entries d c P F w = record {
+  entries = λ i j a b. w.entries i j a b ∙ ap or_too_wide (fall_sum-is d c (matrix_of P.rows) (min i j) (max i j));
+  elsewhere = w.elsewhere;
+}
+
+-- an entry of the upper half
+pub entries_upper : (d : ℕ) (T : Matrix) (ways : ℕ → ℕ → List ℤ) (F : Form) → AreEntriesOrWide d T ways F → (i j : ℕ) → i ≤ j → j < d → matrix_of F.rows i j ≡ or_too_wide (unless (any_wide (ways i j)) (T i j))
+entries_upper d T ways F w i j h b =
+    w.entries i j (omega arith) b
+    ∙ ap (λ k. or_too_wide (unless (any_wide (ways k (max i j))) (T k (max i j)))) (smaller i j h)
+    ∙ ap (λ k. or_too_wide (unless (any_wide (ways i k)) (T i k))) (greater i j h)
+
+pub entries_turned : (d : ℕ) (T : Matrix) (ways : ℕ → ℕ → List ℤ) (F : Form) → AreEntriesOrWide d T ways F → (i j : ℕ) → i < d → j < d → matrix_of F.rows i j ≡ matrix_of F.rows j i
+entries_turned d T ways F w i j a b =
     w.entries i j a b
-    ∙ ap (λ k. or_too_wide (fall_sum d c (matrix_of P.rows) k (max i j))) (min-turned i j)
-    ∙ ap (λ k. or_too_wide (fall_sum d c (matrix_of P.rows) (min j i) k)) (max-turned i j)
+    ∙ ap (λ k. or_too_wide (unless (any_wide (ways k (max i j))) (T k (max i j)))) (min-turned i j)
+    ∙ ap (λ k. or_too_wide (unless (any_wide (ways (min j i) k)) (T (min j i) k))) (max-turned i j)
     ∙ sym (w.entries j i b a)
 
-pub fall_symmetric : (d : ℕ) (c : Vector) (P F : Form) → IsFallOrWide d c P F → is_symmetric d (matrix_of F.rows) ≡ true
-fall_symmetric d c P F w =
+pub entries_symmetric : (d : ℕ) (T : Matrix) (ways : ℕ → ℕ → List ℤ) (F : Form) → AreEntriesOrWide d T ways F → is_symmetric d (matrix_of F.rows) ≡ true
+entries_symmetric d T ways F w =
     let R = matrix_of F.rows in
     all_true (λ i. list_all (λ j. int_eq (R i j) (R j i)) (places d)) d
-    (λ i a. all_true (λ j. int_eq (R i j) (R j i)) d (λ j b. (Decides-int_eq (R i j) (R j i)).1 (turned d c P F w i j a b)))
+    (λ i a. all_true (λ j. int_eq (R i j) (R j i)) d (λ j b. (Decides-int_eq (R i j) (R j i)).1 (entries_turned d T ways F w i j a b)))
 
--- the tests of both sides with the wide entries are those with the fall form
-pub side_same : (p : OfferPart) (d n : ℕ) (s : Squares) (c : Vector) (P F : Form) → IsFallOrWide d c P F → int_lt s.m (pos 1) ≡ false
-    → first_of (side_tests p d n s (matrix_of F.rows) (λ i j. []))
-    ≡ first_of (side_tests p d n s (fall_entry d c (matrix_of P.rows)) (fall_numbers d c (matrix_of P.rows)))
-side_same p d n s c P F w m =
+-- the same of the fall form
+abbrev fall_at : ℕ → Vector → Form → Matrix
+fall_at d c P = fall_entry d c (matrix_of P.rows)
+
+abbrev ways_at : ℕ → Vector → Form → ℕ → ℕ → List ℤ
+ways_at d c P = fall_numbers d c (matrix_of P.rows)
+
+pub upper : (d : ℕ) (c : Vector) (P F : Form) → IsFallOrWide d c P F → (i j : ℕ) → i ≤ j → j < d
+    → matrix_of F.rows i j ≡ or_too_wide (unless (any_wide (fall_numbers d c (matrix_of P.rows) i j)) (fall_entry d c (matrix_of P.rows) i j))
+upper d c P F w = entries_upper d (fall_at d c P) (ways_at d c P) F (fall_entries d c P F w)
+
+pub turned : (d : ℕ) (c : Vector) (P F : Form) → IsFallOrWide d c P F → (i j : ℕ) → i < d → j < d → matrix_of F.rows i j ≡ matrix_of F.rows j i
+turned d c P F w = entries_turned d (fall_at d c P) (ways_at d c P) F (fall_entries d c P F w)
+
+pub fall_symmetric : (d : ℕ) (c : Vector) (P F : Form) → IsFallOrWide d c P F → is_symmetric d (matrix_of F.rows) ≡ true
+fall_symmetric d c P F w = entries_symmetric d (fall_at d c P) (ways_at d c P) F (fall_entries d c P F w)
+
+-- the tests of both sides with the wide entries are those with the entries and the numbers on their way
+pub entries_side : (p : OfferPart) (d n : ℕ) (s : Squares) (T : Matrix) (ways : ℕ → ℕ → List ℤ) (F : Form) → AreEntriesOrWide d T ways F → int_lt s.m (pos 1) ≡ false
+    → first_of (side_tests p d n s (matrix_of F.rows) (λ i j. [])) ≡ first_of (side_tests p d n s T ways)
+entries_side p d n s T ways F w m =
     let R = matrix_of F.rows in
-    let T = fall_entry d c (matrix_of P.rows) in
-    let numbers = fall_numbers d c (matrix_of P.rows) in
-    first_same (row_tests p d n s R (λ i j. [])) (row_tests p d n s T numbers) d
-    (λ i a. from_same (λ j. place_tests p n s (R i j) [] i j) (λ j. place_tests p n s (T i j) (numbers i j) i j) i d
-    (λ j q b. ap (λ x. first_of (place_tests p n s x [] i j)) (upper d c P F w i j q b)
-    ∙ place_same (any_wide (numbers i j)) p n s (T i j) (numbers i j) i j m refl))
+    first_same (row_tests p d n s R (λ i j. [])) (row_tests p d n s T ways) d
+    (λ i a. from_same (λ j. place_tests p n s (R i j) [] i j) (λ j. place_tests p n s (T i j) (ways i j) i j) i d
+    (λ j q b. ap (λ x. first_of (place_tests p n s x [] i j)) (entries_upper d T ways F w i j q b)
+    ∙ place_same (any_wide (ways i j)) p n s (T i j) (ways i j) i j m refl))

@@ -6,6 +6,7 @@ use Rattle.std.proofs.lemmas.Bool.{cases_lt}
 use lib.Signed.{◌<ℤ◌, ◌≤ℤ◌}
 use Rattle.dsv_algebra.specs.Narrow.{is_narrow}
 use Rattle.dsv_algebra.specs.Vectors.{Vector, Matrix, form_at, matrix_of, vector_of, IsNotZero}
+use Rattle.dsv_algebra.specs.Falling.{StrictlyFalls, fall_form}
 use Rattle.dsv_algebra.specs.Companion.{companion, companion_fall_form, fall_entry, StrictlyFallsAlong, IsKeptAwayAlong}
 use Rattle.dsv_algebra.proofs.Congruence.{congruence-turned}
 use Rattle.dsv_algebra.proofs.CompanionEntries.{companion_fall_form-is}
@@ -25,7 +26,7 @@ use Rattle.dsv_forms.specs.Sums.{or_too_wide, IsFallOrWide}
 use Rattle.dsv_forms.proofs.Places.{or_else, neither, neither_test, not_false, passes, first_before, first_of-append}
 use Rattle.dsv_forms.proofs.SumLemmas.{unless}
 use Rattle.dsv_forms.proofs.Shown.{definite_parts, semidefinite_parts, good_rest, same_count, sides_pass, symmetric_at, definite_passes, semidefinite_passes, shows_positive, shows_not_negative}
-use Rattle.dsv_forms.proofs.FallLemmas.{wide_left, upper, turned, side_same}
+use Rattle.dsv_forms.proofs.FallLemmas.{wide_left, AreEntriesOrWide, fall_entries, entries_upper, entries_turned, entries_side}
 use Rattle.dsv_forms.proofs.Values.{value_negative}
 
 -- ---- what squares show
@@ -44,31 +45,37 @@ pub by_shape : (b : Bool) (r : FormRefusal) (x y : Option FormRefusal) → (b �
 by_shape true r x y h = refl
 by_shape false r x y h = h refl
 
-pub definite_same : (p : OfferPart) (d : ℕ) (s : Squares) (c : Vector) (P F : Form) → IsFallOrWide d c P F
-    → first_of (definite_tests p d s (matrix_of F.rows) (λ i j. [])) ≡ first_of (definite_tests p d s (fall_entry d c (matrix_of P.rows)) (fall_numbers d c (matrix_of P.rows)))
-definite_same p d s c P F w =
+-- the tests of squares for a form whose entries are given up where a number on their way is too wide
+pub definite_entries : (p : OfferPart) (d : ℕ) (s : Squares) (T : Matrix) (ways : ℕ → ℕ → List ℤ) (F : Form) → AreEntriesOrWide d T ways F
+    → first_of (definite_tests p d s (matrix_of F.rows) (λ i j. [])) ≡ first_of (definite_tests p d s T ways)
+definite_entries p d s T ways F w =
     let R = matrix_of F.rows in
-    let T = fall_entry d c (matrix_of P.rows) in
-    let numbers = fall_numbers d c (matrix_of P.rows) in
     let before = or_else (first_of (positive_weight_tests p d s)) (first_of (triangle_tests p d s)) in
     let after = first_of (dominance_tests p d s) in
     definite_parts p d s R (λ i j. [])
-    ∙ by_shape (bad_shape d s) (refusal.Shape p) (or_else (or_else before (first_of (side_tests p d d s R (λ i j. [])))) after) (or_else (or_else before (first_of (side_tests p d d s T numbers))) after)
-    (λ e. ap (λ o. or_else (or_else before o) after) (side_same p d d s c P F w (good_rest d s (neither_test (bad_rest d s) _ e).0).multiple))
-    ∙ sym (definite_parts p d s T numbers)
+    ∙ by_shape (bad_shape d s) (refusal.Shape p) (or_else (or_else before (first_of (side_tests p d d s R (λ i j. [])))) after) (or_else (or_else before (first_of (side_tests p d d s T ways))) after)
+    (λ e. ap (λ o. or_else (or_else before o) after) (entries_side p d d s T ways F w (good_rest d s (neither_test (bad_rest d s) _ e).0).multiple))
+    ∙ sym (definite_parts p d s T ways)
 
-pub semidefinite_same : (p : OfferPart) (d : ℕ) (s : Squares) (c : Vector) (P F : Form) → IsFallOrWide d c P F
-    → first_of (semidefinite_tests p d s (matrix_of F.rows) (λ i j. [])) ≡ first_of (semidefinite_tests p d s (fall_entry d c (matrix_of P.rows)) (fall_numbers d c (matrix_of P.rows)))
-semidefinite_same p d s c P F w =
+pub semidefinite_entries : (p : OfferPart) (d : ℕ) (s : Squares) (T : Matrix) (ways : ℕ → ℕ → List ℤ) (F : Form) → AreEntriesOrWide d T ways F
+    → first_of (semidefinite_tests p d s (matrix_of F.rows) (λ i j. [])) ≡ first_of (semidefinite_tests p d s T ways)
+semidefinite_entries p d s T ways F w =
     let R = matrix_of F.rows in
-    let T = fall_entry d c (matrix_of P.rows) in
-    let numbers = fall_numbers d c (matrix_of P.rows) in
     let before = first_of (weak_weight_tests p s) in
     let after = first_of (dominance_tests p d s) in
     semidefinite_parts p d s R (λ i j. [])
-    ∙ by_shape (too_many_rows d s) (refusal.Shape p) (or_else (or_else before (first_of (side_tests p d s.count s R (λ i j. [])))) after) (or_else (or_else before (first_of (side_tests p d s.count s T numbers))) after)
-    (λ e. ap (λ o. or_else (or_else before o) after) (side_same p d s.count s c P F w (good_rest d s (neither_test (bad_rest d s) _ e).0).multiple))
-    ∙ sym (semidefinite_parts p d s T numbers)
+    ∙ by_shape (too_many_rows d s) (refusal.Shape p) (or_else (or_else before (first_of (side_tests p d s.count s R (λ i j. [])))) after) (or_else (or_else before (first_of (side_tests p d s.count s T ways))) after)
+    (λ e. ap (λ o. or_else (or_else before o) after) (entries_side p d s.count s T ways F w (good_rest d s (neither_test (bad_rest d s) _ e).0).multiple))
+    ∙ sym (semidefinite_parts p d s T ways)
+
+-- the same of the fall form
+pub definite_same : (p : OfferPart) (d : ℕ) (s : Squares) (c : Vector) (P F : Form) → IsFallOrWide d c P F
+    → first_of (definite_tests p d s (matrix_of F.rows) (λ i j. [])) ≡ first_of (definite_tests p d s (fall_entry d c (matrix_of P.rows)) (fall_numbers d c (matrix_of P.rows)))
+definite_same p d s c P F w = definite_entries p d s (fall_entry d c (matrix_of P.rows)) (fall_numbers d c (matrix_of P.rows)) F (fall_entries d c P F w)
+
+pub semidefinite_same : (p : OfferPart) (d : ℕ) (s : Squares) (c : Vector) (P F : Form) → IsFallOrWide d c P F
+    → first_of (semidefinite_tests p d s (matrix_of F.rows) (λ i j. [])) ≡ first_of (semidefinite_tests p d s (fall_entry d c (matrix_of P.rows)) (fall_numbers d c (matrix_of P.rows)))
+semidefinite_same p d s c P F w = semidefinite_entries p d s (fall_entry d c (matrix_of P.rows)) (fall_numbers d c (matrix_of P.rows)) F (fall_entries d c P F w)
 
 -- ---- the fall form of an accepted offer
 pub fall_form-turned : (d : ℕ) (c : Vector) (P : Matrix) → is_symmetric d P ≡ true → (i j : ℕ) → i < d → j < d → companion_fall_form d c P i j ≡ companion_fall_form d c P j i
@@ -86,33 +93,45 @@ pub companion_at : (d : ℕ) (c : Vector) (P : Matrix) (i j : ℕ) → i < d →
 companion_at zero c P i j h = absurd (omega arith)
 companion_at (suc d) c P i j h = companion_fall_form-is d c P i j
 
+-- where the squares' identity holds, no number on the way was too wide: the entries are those of U, which is T in the first d rows
+pub entries_from : (p : OfferPart) (d n : ℕ) (s : Squares) (T U : Matrix) (ways : ℕ → ℕ → List ℤ) (F : Form) → AreEntriesOrWide d T ways F → ((i j : ℕ) → i < d → U i j ≡ T i j) → ((i j : ℕ) → i < d → j < d → U i j ≡ U j i)
+    → int_lt s.m (pos 1) ≡ false → first_of (side_tests p d n s (matrix_of F.rows) (λ i j. [])) ≡ None → (i j : ℕ) → i < d → j < d → matrix_of F.rows i j ≡ U i j
+entries_from p d n s T U ways F w same turn m h i j a b =
+    let R = matrix_of F.rows in
+    let own : (i j : ℕ) → i ≤ j → j < d → R i j ≡ U i j =
+    λ i j q b. entry_had (any_wide (ways i j)) s.m (R i j) (T i j) m (entries_upper d T ways F w i j q b) (sides_pass p d n s R (λ i j. []) h i j q b).narrow ∙ sym (same i j (omega arith)) in
+    elim (cases_lt j i) [
+      | inl below ↦ entries_turned d T ways F w i j a b ∙ own j i (omega arith) a ∙ turn j i b a
+      | inr from ↦ own i j from b
+    ]
+
 pub fall_form-from : (p : OfferPart) (d n : ℕ) (s : Squares) (c : Vector) (P F : Form) → F.d ≡ d → is_symmetric d (matrix_of P.rows) ≡ true → IsFallOrWide d c P F
     → int_lt s.m (pos 1) ≡ false → first_of (side_tests p d n s (matrix_of F.rows) (λ i j. [])) ≡ None → IsFallForm d c P F
-fall_form-from p d n s c P F places form w m h =
-    let R = matrix_of F.rows in
-    let T = fall_entry d c (matrix_of P.rows) in
-    let own : (i j : ℕ) → i ≤ j → j < d → R i j ≡ companion_fall_form d c (matrix_of P.rows) i j =
-    λ i j q b. entry_had (any_wide (fall_numbers d c (matrix_of P.rows) i j)) s.m (R i j) (T i j) m (upper d c P F w i j q b) (sides_pass p d n s R (λ i j. []) h i j q b).narrow
-    ∙ sym (companion_at d c (matrix_of P.rows) i j (omega arith)) in
-    record {
-      places = places;
-      entries = λ i j a b. elim (cases_lt j i) [
-        | inl below ↦ turned d c P F w i j a b ∙ own j i (omega arith) a ∙ fall_form-turned d c (matrix_of P.rows) form j i b a
-        | inr from ↦ own i j from b
-      ];
-      elsewhere = w.elsewhere;
-    }
+fall_form-from p d n s c P F places form w m h = record {
+  places = places;
+  entries = entries_from p d n s (fall_entry d c (matrix_of P.rows)) (companion_fall_form d c (matrix_of P.rows)) (fall_numbers d c (matrix_of P.rows)) F (fall_entries d c P F w)
+      (λ i j a. companion_at d c (matrix_of P.rows) i j a) (λ i j a b. fall_form-turned d c (matrix_of P.rows) form i j a b) m h;
+  elsewhere = w.elsewhere;
+}
 
 -- ---- an offer of a form that falls
+-- the tests of an offer whose form loses T in a step, with these numbers on the way to its entries
+pub parts_with : (d : ℕ) (offer : Falls) (T : Matrix) (ways : ℕ → ℕ → List ℤ)
+    → first_of ((bad_form d offer.form, refusal.Shape part.Form) ∷ definite_tests part.Positive d offer.positive (matrix_of offer.form.rows) (λ i j. []) ++ definite_tests part.Fall d offer.fall T ways)
+    ≡ or_else (first_of (form_tests d offer.form))
+    (or_else (first_of (definite_tests part.Positive d offer.positive (matrix_of offer.form.rows) (λ i j. [])))
+    (first_of (definite_tests part.Fall d offer.fall T ways)))
+parts_with d offer T ways =
+    let P = matrix_of offer.form.rows in
+    let a = definite_tests part.Positive d offer.positive P (λ i j. []) in
+    let b = definite_tests part.Fall d offer.fall T ways in
+    first_before (bad_form d offer.form) (refusal.Shape part.Form) (a ++ b) ∙ ap (or_else (first_of (form_tests d offer.form))) (first_of-append a b)
+
 pub falls_parts : (d : ℕ) (c : Vector) (offer : Falls) → first_of (falls_tests d c offer)
     ≡ or_else (first_of (form_tests d offer.form))
     (or_else (first_of (definite_tests part.Positive d offer.positive (matrix_of offer.form.rows) (λ i j. [])))
     (first_of (definite_tests part.Fall d offer.fall (fall_entry d c (matrix_of offer.form.rows)) (fall_numbers d c (matrix_of offer.form.rows)))))
-falls_parts d c offer =
-    let P = matrix_of offer.form.rows in
-    let a = definite_tests part.Positive d offer.positive P (λ i j. []) in
-    let b = definite_tests part.Fall d offer.fall (fall_entry d c P) (fall_numbers d c P) in
-    first_before (bad_form d offer.form) (refusal.Shape part.Form) (a ++ b) ∙ ap (or_else (first_of (form_tests d offer.form))) (first_of-append a b)
+falls_parts d c offer = parts_with d offer (fall_entry d c (matrix_of offer.form.rows)) (fall_numbers d c (matrix_of offer.form.rows))
 
 -- what passes in an accepted offer
 pub record FallsPass (d : ℕ) (c : Vector) (offer : Falls) : Type 0 where
@@ -148,12 +167,19 @@ positive_same d T U e o = record {
   dominant = o.dominant;
 }
 
+-- a form that squares show to be positive, as they show what it loses in a step
+pub falls_with : (d : ℕ) (q : ℤ) (M : Matrix) (P F : Form) (s t : Squares) → is_symmetric d (matrix_of P.rows) ≡ true → is_symmetric d (matrix_of F.rows) ≡ true
+    → ((i j : ℕ) → i < d → j < d → matrix_of F.rows i j ≡ fall_form d q M (matrix_of P.rows) i j)
+    → first_of (definite_tests part.Positive d s (matrix_of P.rows) (λ i j. [])) ≡ None → first_of (definite_tests part.Fall d t (matrix_of F.rows) (λ i j. [])) ≡ None
+    → StrictlyFalls d q M (matrix_of P.rows)
+falls_with d q M P F s t form fall is h k =
+    strictly_falls d q M (matrix_of P.rows) (shows_positive part.Positive d s (matrix_of P.rows) form h)
+    (positive_same d (matrix_of F.rows) (fall_form d q M (matrix_of P.rows)) is (shows_positive part.Fall d t (matrix_of F.rows) fall k))
+
 pub falls_along : (d : ℕ) (c : Vector) (P F : Form) (s t : Squares) → is_symmetric d (matrix_of P.rows) ≡ true → is_symmetric d (matrix_of F.rows) ≡ true → IsFallForm d c P F
     → first_of (definite_tests part.Positive d s (matrix_of P.rows) (λ i j. [])) ≡ None → first_of (definite_tests part.Fall d t (matrix_of F.rows) (λ i j. [])) ≡ None
     → StrictlyFallsAlong d c (matrix_of P.rows)
-falls_along d c P F s t form fall is h k =
-    strictly_falls d (c 0) (companion c) (matrix_of P.rows) (shows_positive part.Positive d s (matrix_of P.rows) form h)
-    (positive_same d (matrix_of F.rows) (companion_fall_form d c (matrix_of P.rows)) is.entries (shows_positive part.Fall d t (matrix_of F.rows) fall k))
+falls_along d c P F s t form fall is h k = falls_with d (c 0) (companion c) P F s t form fall is.entries h k
 
 -- ---- an offer of a form that is kept away
 pub kept_away_parts : (d : ℕ) (c : Vector) (offer : KeptAway) → first_of (kept_away_tests d c offer)
@@ -194,6 +220,12 @@ pub fall_form-definite : (p : OfferPart) (d : ℕ) (s : Squares) (c : Vector) (P
 fall_form-definite p d s c P F places form w h =
     let o = definite_passes p d s (matrix_of F.rows) (λ i j. []) h in
     fall_form-from p d d s c P F places form w o.rest.multiple o.sides
+
+pub entries_definite : (p : OfferPart) (d : ℕ) (s : Squares) (T U : Matrix) (ways : ℕ → ℕ → List ℤ) (F : Form) → AreEntriesOrWide d T ways F → ((i j : ℕ) → i < d → U i j ≡ T i j) → ((i j : ℕ) → i < d → j < d → U i j ≡ U j i)
+    → first_of (definite_tests p d s (matrix_of F.rows) (λ i j. [])) ≡ None → (i j : ℕ) → i < d → j < d → matrix_of F.rows i j ≡ U i j
+entries_definite p d s T U ways F w same turn h =
+    let o = definite_passes p d s (matrix_of F.rows) (λ i j. []) h in
+    entries_from p d d s T U ways F w same turn o.rest.multiple o.sides
 
 pub fall_form-semidefinite : (p : OfferPart) (d : ℕ) (s : Squares) (c : Vector) (P F : Form) → F.d ≡ d → is_symmetric d (matrix_of P.rows) ≡ true → IsFallOrWide d c P F
     → first_of (semidefinite_tests p d s (matrix_of F.rows) (λ i j. [])) ≡ None → IsFallForm d c P F

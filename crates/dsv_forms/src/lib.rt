@@ -21,3 +21,4 @@ pub use poly::{BadPoly, GREATEST_COEFFICIENT, MOST_COEFFICIENTS, Poly};
 pub use refusal::{FormRefusal, OfferPart};
 pub use squares::{check_definite, check_semidefinite, sum_of_squares};
 pub use start_checks::check_kept_away;
+pub use sums::sum_with_product;

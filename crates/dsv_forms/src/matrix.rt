@@ -90,6 +90,15 @@ pub(crate) fn is_symmetric(rows: &Matrix, d: usize) -> bool
 }
 
 impl Form {
+    /// The entry in a row and a column, which are below `GREATEST_ORDER`.
+    pub fn entry(&self, i: usize, j: usize) -> NarrowInteger
+        requires row { i < greatest_order }
+        requires column { j < greatest_order }
+        ensures { result ≡ matrix_of self.now.rows i j }
+    {
+        entry(&self.rows, i, j)
+    }
+
     /// Whether the form is symmetric in its first d places, of which there are at most
     /// `GREATEST_ORDER`.
     pub fn is_symmetric(&self) -> bool

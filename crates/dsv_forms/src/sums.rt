@@ -4,8 +4,9 @@ ghost use Rattle.dsv_forms.specs.Sums.{sum_with, product};
 
 use dsv_algebra::NarrowInteger;
 
-/// The sum with the product of three numbers more.
-pub(crate) fn sum_with_product(
+/// The sum with the product of three numbers more: `None` where the product of the first two, that
+/// of all three or the sum passes 2^126.
+pub fn sum_with_product(
     sum: NarrowInteger,
     a: NarrowInteger,
     b: NarrowInteger,

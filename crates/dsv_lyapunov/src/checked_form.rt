@@ -1,5 +1,6 @@
 // Forms that their check accepts.
 ghost use Rattle.std.specs.Prelude.{◌≡◌, IfOk};
+ghost use Rattle.dsv_closed_forms.specs.ClosedForm.{IsAccepted};
 ghost use Rattle.dsv_forms.specs.Refusals.{refusal_of};
 ghost use Rattle.dsv_lyapunov.specs.Answers.{offer_refusal, offer_in, IsShown};
 
@@ -47,5 +48,17 @@ pub fn check_offer(poly: &Poly, offer: &FormOffer) -> Result<CheckedForm, FormRe
                 value,
             })
         }
+    }
+}
+
+/// The checked form of an offer that its check accepts. It takes no memory.
+pub fn accepted_form(poly: &Poly, offer: &FormOffer) -> CheckedForm
+    requires { IsAccepted poly.now offer.now }
+    ensures same { offer_in result ≡ offer.now }
+    ensures shown { IsShown poly.now result }
+{
+    match check_offer(poly, offer) {
+        Ok(found) => found,
+        Err(_) => unreachable!(),
     }
 }

@@ -7,7 +7,7 @@ mod kept;
 mod proposer;
 mod sum_proposer;
 
-pub use checked_form::{CheckedForm, check_offer};
+pub use checked_form::{CheckedForm, accepted_form, check_offer};
 pub use kept::{KeptForm, KeptForms};
 pub use proposer::FormProposer;
 pub use sum_proposer::SumProposer;

@@ -11,5 +11,6 @@ mod words;
 pub use law::converted_leading_is_one;
 pub use quantisation::{quantise, quantise_in};
 pub use quantised::Quantised;
+pub use range::{InputRange, range_of};
 pub use refusal::QuantRefusal;
-pub use words::{Coeffs, MOST_COEFFICIENTS};
+pub use words::{Coeffs, MOST_COEFFICIENTS, b_words};

@@ -13,10 +13,10 @@ use dsv_names::ListName;
 use dsv_word::Format;
 
 /// The words from `lo` to `hi`.
-#[derive(Clone, Copy)]
-pub(crate) struct InputRange {
-    pub(crate) lo: i64,
-    pub(crate) hi: i64,
+#[derive(Clone, Copy, Debug, PartialEq, Eq)]
+pub struct InputRange {
+    pub lo: i64,
+    pub hi: i64,
 }
 
 /// The words from the one end to the other, each end moved to the words of the format.
@@ -36,7 +36,11 @@ fn clamped_range(format: Format, low: i128, high: i128) -> Result<InputRange, Qu
 }
 
 /// The words from `min` to `max`.
-pub(crate) fn range_of(format: Format, min: &Frac, max: &Frac) -> Result<InputRange, QuantRefusal>
+///
+/// # Errors
+///
+/// `FractionWide` of `min`, else of `max`; `RangeEmpty` where there are no such words.
+pub fn range_of(format: Format, min: &Frac, max: &Frac) -> Result<InputRange, QuantRefusal>
     ensures value { result ≡ range_of format min.now max.now }
     ensures meaning { IfOk result (IsRangeOf format min.now max.now) }
 {

@@ -98,8 +98,14 @@ fn words_from(
     Ok(out)
 }
 
-/// The words of the numerator.
-pub(crate) fn b_words(format: Format, b: &[Frac]) -> Result<Coeffs, QuantRefusal>
+/// The words of the numerator, which has at most nine coefficients: each is its coefficient times
+/// 2^frac_bits, made whole as the format rounds.
+///
+/// # Errors
+///
+/// At the first coefficient that has none, as one of the list b: `FractionWide`, and else
+/// `CoefficientRange`.
+pub fn b_words(format: Format, b: &[Frac]) -> Result<Coeffs, QuantRefusal>
     requires { length b.now ≤ most_coefficients }
     ensures value { let meant = b_words format b.now in
         MatchResult result (λ words. meant ≡ Ok words.items) (λ refusal. meant ≡ Err refusal) }

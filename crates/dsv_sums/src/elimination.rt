@@ -254,7 +254,7 @@ fn no_squares() -> Squares
 
 /// The squares that rounded elimination gives for a symmetric form. Where it has none, or squares
 /// with numbers that are too wide for their check, there are none.
-pub(crate) fn squares_of(form: &Form) -> Option<Squares>
+pub fn squares_of(form: &Form) -> Option<Squares>
     requires places { form.now.d ≤ greatest_order }
     requires symmetric { is_symmetric form.now.d (matrix_of form.now.rows) ≡ true }
     ensures { let T = matrix_of form.now.rows in

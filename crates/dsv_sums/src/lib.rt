@@ -7,4 +7,5 @@ mod partial_sums;
 mod quotient;
 mod search;
 
+pub use elimination::squares_of;
 pub use search::{MOST_LOOKS, SumOffer, first_offer};

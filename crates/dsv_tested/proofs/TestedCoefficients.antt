@@ -19,11 +19,11 @@ length-halved zero cs = refl
 length-halved (suc n) cs =
     cond_both (are_even cs) (halved_within n (map half cs)) cs (λ xs. length xs ≡ length cs) (λ e. length-halved n (map half cs) ∙ length-map cs half) (λ e. refl)
 
-length-reduced : (cs : List ℤ) → length (without_common_twos cs) ≡ length cs
+pub length-reduced : (cs : List ℤ) → length (without_common_twos cs) ≡ length cs
 length-reduced [] = refl
 length-reduced (c ∷ cs) = length-halved (unsigned_abs c) (c ∷ cs)
 
-length-positive : (cs : List ℤ) → length (with_positive_lead cs) ≡ length cs
+pub length-positive : (cs : List ℤ) → length (with_positive_lead cs) ≡ length cs
 length-positive [] = refl
 length-positive (c ∷ cs) =
     cond_both (int_lt c (pos 0)) (map neg_ℤ (c ∷ cs)) (c ∷ cs) (λ xs. length xs ≡ length (c ∷ cs)) (λ e. length-map (c ∷ cs) neg_ℤ) (λ e. refl)

@@ -1,7 +1,9 @@
-use Rattle.std.proofs.Common.{◌≡◌, ◌∙◌, rules, SFits, to_z, of_z}
+use Rattle.std.proofs.Common.{List, ◌≡◌, ◌∙◌, rules, SFits, to_z, of_z}
 use Rattle.std.specs.Int.{w64}
 use Rattle.std.proofs.lemmas.Int.{to_z-of_z}
-use Rattle.dsv_cascade.proofs.CascadeVerdicts.{safe_holds, safe_never}
+use Rattle.dsv_meaning.specs.Equations.{Past}
+use Rattle.dsv_gain.proofs.Equations.{answer_holds, answer_safe}
+use Rattle.dsv_cascade.specs.Cascades.{cascade_of}
 use Rattle.dsv_cascade.proofs.gain.cascade_gain.Goals as goal
 
 pub returns : goal.returns
@@ -18,6 +20,6 @@ returns c =
     let is_high : high ≡ cascade.first.xhi = to_z-of_z w64 s.result.high high_fits ∙ s.ensures.high in
     record {
       made = search rules;
-      holds = safe_holds cascade net low high c.gain_of.result runs is_low is_high c.gain_of.ensures.holds;
-      safe = safe_never cascade net low high c.gain_of.result runs is_low is_high c.gain_of.ensures.safe;
+      holds = answer_holds (List Past) (cascade_of cascade) net cascade.first.xlo cascade.first.xhi low high c.gain_of.result runs is_low is_high c.gain_of.ensures.holds;
+      safe = answer_safe (List Past) (cascade_of cascade) net cascade.first.xlo cascade.first.xhi low high c.gain_of.result runs is_low is_high c.gain_of.ensures.safe;
     }

@@ -4,7 +4,7 @@ use Rattle.dsv_gain.specs.Controllers.{most_driven}
 use Rattle.dsv_meaning.specs.Equations.{Past}
 use Rattle.dsv_netlist.specs.Systems.{system_of}
 use Rattle.dsv_cascade.specs.Cascades.{cascade_of}
-use Rattle.dsv_cascade.proofs.CascadeVerdicts.{found_alike}
+use Rattle.dsv_realise.proofs.Alike.{found_alike}
 use Rattle.dsv_cascade.proofs.gain.driven_cascade.Goals as goal
 
 pub returns : goal.returns
