@@ -1,0 +1,9 @@
+pub mod Equations
+pub mod Losses
+pub mod Meaning
+pub mod Netlists
+pub mod Places
+pub mod Quantising
+pub mod StateForms
+pub mod StateView
+pub mod Verdicts

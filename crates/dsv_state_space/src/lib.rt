@@ -1,0 +1,25 @@
+//! State-space controllers in words: x' = A x + b u, y = c x + d u.
+#![tactic(auto, using(dsv_algebra::proofs::Casts::casts))]
+
+mod falls;
+mod gain;
+mod lane;
+mod netlist;
+mod place;
+mod quantisation;
+mod refusal;
+mod search;
+mod simulation;
+mod system;
+mod verdicts;
+
+pub use falls::check_state_falls;
+pub use gain::{driven_state, state_gain};
+pub use netlist::state_net;
+pub use place::Place;
+pub use quantisation::quantise_state;
+pub use refusal::StateQuantRefusal;
+pub use search::state_offer;
+pub use simulation::simulate_state;
+pub use system::{MOST_STATES, StateSystem, WordRow, WordRows};
+pub use verdicts::{state_cycle, state_overflow};
