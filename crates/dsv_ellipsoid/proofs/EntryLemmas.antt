@@ -1,0 +1,141 @@
+-- The entries of both forms as the code sums them.
+use Rattle.std.proofs.Common.{◌≡◌, ℕ, suc, ◌+◌, Bool, true, false, ◌&&◌, ◌==◌, nat_lt, min, max, if◌then◌else◌, List, [], ◌∷◌, ◌++◌, map, Option, Some, None, refl, sym, ap, ◌∙◌, arith, add-one, append_assoc}
+use Rattle.std.specs.Prelude.{is_none}
+use Rattle.std.specs.List.{list_any}
+use Rattle.std.specs.Option.{option_and_then}
+use Rattle.std.proofs.Math.IntN.{ℤ, pos, neg_ℤ, ◌+ℤ◌, ◌-ℤ◌, ◌*ℤ◌}
+use Rattle.std.proofs.lemmas.Int.{ints}
+use Rattle.dsv_algebra.specs.Companion.{only}
+use Rattle.dsv_algebra.specs.Narrow.{narrow_of}
+use Rattle.dsv_algebra.specs.Vectors.{Vector, Matrix}
+use Rattle.dsv_algebra.proofs.Normaliser.{ring, env, var, times, minus}
+use Rattle.dsv_forms.specs.Refusals.{places}
+use Rattle.dsv_forms.specs.Sums.{Summand, sum_with, sum_from, summand_where, product, image_sum}
+use Rattle.dsv_forms.proofs.Places.{any_same}
+use Rattle.dsv_forms.proofs.SumLemmas.{sum_from-append}
+use Rattle.dsv_ellipsoid.specs.declared.offer.Ellipsoid.{Ellipsoid}
+use Rattle.dsv_ellipsoid.specs.Good.{form_of}
+use Rattle.dsv_ellipsoid.specs.Entries.{scaled, numbered, bare, image_terms, inside_summands, side_summands, corner_summands, step_summands, first_summands, has_wide_entry}
+use Rattle.dsv_ellipsoid.specs.Sums.{inside_sum, side_sum, corner_sum, step_sum, first_sum}
+
+-- ---- the sums of the code, as sums of summands
+then_same : (o : Option ℤ) (f g : ℤ → Option ℤ) → ((s : ℤ) → f s ≡ g s) → option_and_then f o ≡ option_and_then g o
+then_same None f g h = refl
+then_same (Some s) f g h = h s
+
+then_itself : (o : Option ℤ) → option_and_then (λ s. Some s) o ≡ o
+then_itself None = refl
+then_itself (Some s) = refl
+
+neg-times : (x y : ℤ) → neg_ℤ x *ℤ y ≡ neg_ℤ (x *ℤ y)
+neg-times x y = ring (env (x ∷ y ∷ [])) (times (minus (var 0)) (var 1)) (minus (times (var 0) (var 1))) refl
+
+last_where : (below after : Bool) (s : ℤ) (t : Summand) → (if below then sum_from s (summand_where after t) else Some s) ≡ sum_from s (summand_where (below && after) t)
+last_where true after s t = refl
+last_where false after s t = refl
+
+numbered_where : (below after : Bool) (q r t u : ℤ × ℤ)
+    → numbered q ∷ summand_where after (numbered r) ++ summand_where below (numbered t) ++ summand_where (below && after) (numbered u)
+    ≡ map numbered (q ∷ only after r ++ only below t ++ only (below && after) u)
+numbered_where true true q r t u = refl
+numbered_where true false q r t u = refl
+numbered_where false true q r t u = refl
+numbered_where false false q r t u = refl
+
+-- an image's sum in the stages of the code, at the places after i and j
+staged : (below after : Bool) (s : ℤ) (q r t u : Summand)
+    → option_and_then (λ s. option_and_then (λ s. option_and_then (λ s. if below then sum_from s (summand_where after u) else Some s) (sum_from s (summand_where below t))) (sum_from s (summand_where after r))) (sum_with s q)
+    ≡ sum_from s (q ∷ summand_where after r ++ summand_where below t ++ summand_where (below && after) u)
+staged below after s q r t u =
+    let rs = summand_where after r in
+    let ts = summand_where below t in
+    let us = summand_where (below && after) u in
+    then_same (sum_with s q) _ (λ s. sum_from s (rs ++ ts ++ us))
+    (λ s. then_same (sum_from s rs) _ (λ s. sum_from s (ts ++ us))
+    (λ s. then_same (sum_from s ts) _ (λ s. sum_from s us) (λ s. last_where below after s u) ∙ sym (sum_from-append s ts us))
+    ∙ sym (sum_from-append s rs (ts ++ us)) ∙ ap (sum_from s) (sym (append_assoc rs ts us)))
+
+image_stages : ℕ → Vector → Matrix → ℤ → ℕ → ℕ → Option ℤ
+image_stages d c P s k l = option_and_then (λ s. option_and_then (λ s. option_and_then (λ s.
+    if nat_lt k d then sum_from s (summand_where (nat_lt l d) (product (neg_ℤ (c 0)) (c 0) (P k l))) else Some s)
+    (sum_from s (summand_where (nat_lt k d) (product (c 0) (c l) (P k 0)))))
+    (sum_from s (summand_where (nat_lt l d) (product (c k) (c 0) (P 0 l)))))
+    (sum_with s (product (neg_ℤ (c k)) (c l) (P 0 0)))
+
+image_sum-is : (d : ℕ) (c : Vector) (P : Matrix) (i j : ℕ) (s : ℤ) → image_sum d c P i j s ≡ sum_from s (map numbered (image_terms d c P i j))
+unfolding image_stages
+image_sum-is d c P i j s =
+    let k = suc i in
+    let l = suc j in
+    let below = nat_lt k d in
+    let after = nat_lt l d in
+    let r = numbered (c k *ℤ c 0, P 0 l) in
+    let t = numbered (c 0 *ℤ c l, P k 0) in
+    ap (λ m. image_stages d c P s m (j + 1)) (add-one i) ∙ ap (image_stages d c P s k) (add-one j)
+    ∙ staged below after s (product (neg_ℤ (c k)) (c l) (P 0 0)) r t (product (neg_ℤ (c 0)) (c 0) (P k l))
+    ∙ ap (λ f. sum_from s (numbered (f, P 0 0) ∷ summand_where after r ++ summand_where below t ++ summand_where (below && after) (numbered (neg_ℤ (c 0) *ℤ c 0, P k l)))) (neg-times (c k) (c l))
+    ∙ ap (λ f. sum_from s (numbered (neg_ℤ (c k *ℤ c l), P 0 0) ∷ summand_where after r ++ summand_where below t ++ summand_where (below && after) (numbered (f, P k l)))) (neg-times (c 0) (c 0))
+    ∙ ap (sum_from s) (numbered_where below after (neg_ℤ (c k *ℤ c l), P 0 0) (c k *ℤ c 0, P 0 l) (c 0 *ℤ c l, P k 0) (neg_ℤ (c 0 *ℤ c 0), P k l))
+
+inside_sum-is : (d : ℕ) (c : Vector) (o : Ellipsoid) (i j : ℕ) → inside_sum d c o i j ≡ sum_from (pos 0) (inside_summands d c o i j)
+inside_sum-is d c o i j = then_same (sum_with (pos 0) (scaled o.lambda (form_of o i j))) (image_sum d c (form_of o) i j) _ (image_sum-is d c (form_of o) i j)
+
+side_where : (b : Bool) (s f x : ℤ) → (if b then sum_with s (scaled f x) else Some s) ≡ sum_from s (map (λ (t : ℤ × ℤ). scaled t.0 t.1) (only b (f, x)))
+side_where true s f x = sym (then_itself (sum_with s (scaled f x)))
+side_where false s f x = refl
+
+side_stages : ℕ → Vector → Ellipsoid → ℕ → Option ℤ
+side_stages d c o k = option_and_then (λ s. if nat_lt k d then sum_with s (scaled (neg_ℤ (c 0)) (form_of o 0 k)) else Some s) (sum_with (pos 0) (scaled (c k) (form_of o 0 0)))
+
+side_sum-is : (d : ℕ) (c : Vector) (o : Ellipsoid) (i : ℕ) → side_sum d c o i ≡ sum_from (pos 0) (side_summands d c o i)
+unfolding side_stages
+side_sum-is d c o i =
+    ap (side_stages d c o) (add-one i)
+    ∙ then_same (sum_with (pos 0) (scaled (c (suc i)) (form_of o 0 0))) _ _ (λ s. side_where (nat_lt (suc i) d) s (neg_ℤ (c 0)) (form_of o 0 (suc i)))
+
+plus_nothing : (z : ℤ) → pos 0 +ℤ z ≡ z
+plus_nothing z = omega (arith, ints)
+
+corner_sum-is : (o : Ellipsoid) → corner_sum o ≡ sum_from (pos 0) (corner_summands o)
+corner_sum-is o =
+    ap (λ z. option_and_then (λ s. narrow_of (s -ℤ form_of o 0 0)) (narrow_of z)) (sym (plus_nothing o.mu))
+    ∙ then_same (narrow_of (pos 0 +ℤ o.mu)) _ _ (λ s. sym (then_itself (narrow_of (s -ℤ form_of o 0 0))))
+
+either_same : (b : Bool) (x y z w : Option ℤ) → x ≡ z → y ≡ w → (if b then x else y) ≡ (if b then z else w)
+either_same true x y z w h k = h
+either_same false x y z w h k = k
+
+summed_either : (b : Bool) (xs ys : List Summand) → (if b then sum_from (pos 0) xs else sum_from (pos 0) ys) ≡ sum_from (pos 0) (if b then xs else ys)
+summed_either true xs ys = refl
+summed_either false xs ys = refl
+
+pub step_sum-is : (d : ℕ) (c : Vector) (o : Ellipsoid) (i j : ℕ) → step_sum d c o i j ≡ sum_from (pos 0) (step_summands d c o i j)
+step_sum-is d c o i j =
+    let a = nat_lt j d in
+    let b = nat_lt i d in
+    let side = side_summands d c o i in
+    let corner = corner_summands o in
+    either_same a (inside_sum d c o i j) (if b then side_sum d c o i else corner_sum o) (sum_from (pos 0) (inside_summands d c o i j)) (sum_from (pos 0) (if b then side else corner))
+    (inside_sum-is d c o i j)
+    (either_same b (side_sum d c o i) (corner_sum o) (sum_from (pos 0) side) (sum_from (pos 0) corner) (side_sum-is d c o i) (corner_sum-is o) ∙ summed_either b side corner)
+    ∙ summed_either a (inside_summands d c o i j) (if b then side else corner)
+
+first_where : (b : Bool) (s k : ℤ) → (if b then narrow_of (s -ℤ k) else Some s) ≡ sum_from s (if b then bare (neg_ℤ k) ∷ [] else [])
+first_where true s k = sym (then_itself (narrow_of (s -ℤ k)))
+first_where false s k = refl
+
+pub first_sum-is : (o : Ellipsoid) (i j : ℕ) → first_sum o i j ≡ sum_from (pos 0) (first_summands o i j)
+first_sum-is o i j = then_same (sum_with (pos 0) (scaled o.nu (form_of o i j))) _ _ (λ s. first_where ((i == 0) && (j == 0)) s o.kappa)
+
+-- ---- whether a number on the way is too wide
+pub wide_same : (n : ℕ) (sum : ℕ → ℕ → Option ℤ) (summands : ℕ → ℕ → List Summand) → ((i j : ℕ) → sum i j ≡ sum_from (pos 0) (summands i j))
+    → list_any (λ i. list_any (λ j. is_none (sum (min i j) (max i j))) (places n)) (places n) ≡ has_wide_entry n summands
+wide_same n sum summands h =
+    any_same (λ i. list_any (λ j. is_none (sum (min i j) (max i j))) (places n)) (λ i. list_any (λ j. is_none (sum_from (pos 0) (summands (min i j) (max i j)))) (places n)) n
+    (λ i p. any_same (λ j. is_none (sum (min i j) (max i j))) (λ j. is_none (sum_from (pos 0) (summands (min i j) (max i j)))) n (λ j q. ap is_none (h (min i j) (max i j))))
+
+pub step_is_wide : (d : ℕ) (c : Vector) (o : Ellipsoid) → list_any (λ i. list_any (λ j. is_none (step_sum d c o (min i j) (max i j))) (places (d + 1))) (places (d + 1)) ≡ has_wide_entry (suc d) (step_summands d c o)
+step_is_wide d c o = wide_same (d + 1) (step_sum d c o) (step_summands d c o) (step_sum-is d c o) ∙ ap (λ n. has_wide_entry n (step_summands d c o)) (add-one d)
+
+pub first_is_wide : (d : ℕ) (o : Ellipsoid) → list_any (λ i. list_any (λ j. is_none (first_sum o (min i j) (max i j))) (places d)) (places d) ≡ has_wide_entry d (first_summands o)
+first_is_wide d o = wide_same d (first_sum o) (first_summands o) (first_sum-is o)

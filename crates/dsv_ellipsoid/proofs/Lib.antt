@@ -1,0 +1,14 @@
+pub mod EntryLemmas
+pub mod Errors
+pub mod FirstTests
+pub mod Levels
+pub mod Rectangular
+pub mod Runs
+pub mod Samples
+pub mod SizeLemmas
+pub mod Shown
+pub mod Standing
+pub mod StepEntries
+pub mod WalkLemmas
+pub mod Walks
+pub mod Worked

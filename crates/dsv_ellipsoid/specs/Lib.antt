@@ -1,0 +1,9 @@
+pub mod Disturbance
+pub mod Entries
+pub mod Good
+pub mod Intervals
+pub mod Refusals
+pub mod Sizes
+pub mod Stages
+pub mod Sums
+pub mod Walks
