@@ -1,5 +1,5 @@
 -- Lines, one summand more.
-use Rattle.std.proofs.Common.{◌≡◌, ℕ, ◌+◌, ◌<◌, ◌≤◌, List, length, drop, get_or, sym, ap, ◌∙◌, arith}
+use Rattle.std.proofs.Common.{◌≡◌, ℕ, ◌+◌, ◌<◌, ◌≤◌, List, length, drop, get_or, ap, arith}
 use Rattle.std.specs.Int.RustNames.{unsigned_abs}
 use Rattle.std.proofs.Math.IntN.{ℤ, pos, negsuc, neg_ℤ, ◌+ℤ◌}
 use Rattle.std.proofs.lemmas.Int.{ints}
@@ -7,11 +7,7 @@ use lib.Signed.{◌≤ℤ◌}
 use Rattle.std.proofs.lemmas.List.{drop_more}
 use Rattle.dsv_word.specs.declared.format.Format.{Format}
 use Rattle.dsv_meaning.specs.declared.summands.Summand.{Summand}
-use Rattle.dsv_meaning.specs.Lines.{Sum, next_summand, next_summands, exact_summand, total}
-
-pub next_more : (f : Format) (ts : List (Summand ℤ)) (i : ℕ) (d : Summand ℤ) (s t : Sum) → i < length ts → t ≡ next_summand f s (get_or ts i d)
-    → next_summands f t (drop (i + 1) ts) ≡ next_summands f s (drop i ts)
-next_more f ts i d s t h e = ap (λ (v : Sum). next_summands f v (drop (i + 1) ts)) e ∙ ap (next_summands f s) (sym (drop_more ts i d h))
+use Rattle.dsv_meaning.specs.Lines.{exact_summand, total}
 
 pub total_more : (f : Format) (ts : List (Summand ℤ)) (i : ℕ) (d : Summand ℤ) (u v e : ℤ) → i < length ts → e ≡ exact_summand f (get_or ts i d) → v ≡ u +ℤ e
     → v +ℤ total f (drop (i + 1) ts) ≡ u +ℤ total f (drop i ts)
@@ -23,7 +19,3 @@ total_more f ts i d u v e h p q =
 pub within : (v : ℤ) (b : ℕ) → unsigned_abs v ≤ b → (neg_ℤ (pos b) ≤ℤ v) × (v ≤ℤ pos b)
 within (pos n) b h = (omega (arith, ints), omega (arith, ints))
 within (negsuc n) b h = (omega (arith, ints), omega (arith, ints))
-
-pub sized_by : (v : ℤ) (b : ℕ) → neg_ℤ (pos b) ≤ℤ v → v ≤ℤ pos b → unsigned_abs v ≤ b
-sized_by (pos n) b l h = omega (arith, ints)
-sized_by (negsuc n) b l h = omega (arith, ints)
