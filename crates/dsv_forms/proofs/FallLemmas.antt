@@ -123,10 +123,14 @@ image_sum-staged d c P i j sum =
     with_then (sum_with sum q) q rs g h
     ∙ ap (λ ts. sum_from sum (q ∷ ts)) (sym (append_assoc (summand_where after r) (summand_where below t) us))
 
+-- the sum less an entry of C^T P C
+pub image_sum-terms : (d : ℕ) (c : Vector) (P : Matrix) (i j : ℕ) (sum : ℤ) → image_sum d c P i j sum ≡ sum_from sum (summands (drop 1 (fall_terms d c P i j)))
+image_sum-terms d c P i j sum = image_sum-staged d c P i j sum ∙ ap (λ ts. sum_from sum (drop 1 ts)) (fall_summands-are d c P i j)
+
 -- an entry of C^T P C with the other sign
 pub image_sum-is : (d : ℕ) (c : Vector) (P : Matrix) (i j : ℕ) → (let ts = drop 1 (fall_terms d c P i j) in image_sum d c P i j (pos 0)
     ≡ unless (any_wide (map (λ t. t.0) ts ++ map (λ t. t.0 *ℤ t.1) ts ++ partial_sums (pos 0) (map (λ t. t.0 *ℤ t.1) ts))) (total_from (pos 0) ts))
-image_sum-is d c P i j = image_sum-staged d c P i j (pos 0) ∙ ap (λ ts. sum_from (pos 0) (drop 1 ts)) (fall_summands-are d c P i j) ∙ terms_sum (drop 1 (fall_terms d c P i j))
+image_sum-is d c P i j = image_sum-terms d c P i j (pos 0) ∙ terms_sum (drop 1 (fall_terms d c P i j))
 
 fall_sum-staged : (d : ℕ) (c : Vector) (P : Matrix) (i j : ℕ) → fall_sum d c P i j ≡ sum_from (pos 0) (fall_summands d c P i j)
 fall_sum-staged d c P i j =

@@ -9,19 +9,16 @@
 
 ghost use Rattle.std.specs.Prelude.{◌≡◌, ◌<◌, ◌≤◌, ◌+◌, ◌-◌, ℕ};
 ghost use Rattle.std.specs.Prelude.{length, pos};
-ghost use Rattle.std.specs.Prelude.{neg_ℤ, slice_index_or, min, max};
+ghost use Rattle.std.specs.Prelude.{slice_index_or, min, max};
 ghost use Rattle.dsv_algebra.specs.Vectors.{vector_of, matrix_of};
 ghost use Rattle.dsv_forms.specs.Poly.{greatest_order, most_coefficients};
 ghost use Rattle.dsv_forms.specs.Sums.{sum_from, summand_where, product, image_sum, fall_sum};
 ghost use Rattle.dsv_forms.specs.Sums.{or_too_wide, IsFallOrWide};
 
 use crate::matrix::entry_or_zero;
-use crate::sums::sum_with_product;
+use crate::sums::{negation, number_of, or_too_wide, sum_with_product};
 use crate::{Form, GREATEST_ORDER};
 use dsv_algebra::NarrowInteger;
-
-/// A number that is too wide, in place of one that can't be had.
-const TOO_WIDE: i128 = 1 << 126;
 
 /// A product of two coefficients and an entry.
 #[derive(Clone, Copy)]
@@ -42,22 +39,10 @@ fn sum_where(holds: bool, sum: NarrowInteger, term: Term) -> Option<NarrowIntege
     }
 }
 
-/// The number with the other sign.
-fn negation(number: &i64) -> NarrowInteger
-    ensures { result ≡ neg_ℤ number.now }
-{
-    NarrowInteger::from(-i128::from(*number))
-}
-
-/// The number itself.
-fn number_of(number: &i64) -> NarrowInteger
-    ensures { result ≡ number.now }
-{
-    NarrowInteger::from(*number)
-}
-
-/// The sum less an entry of the form after a step, where no number on the way is too wide.
-fn sum_less_image(
+/// The sum less an entry of C^T P C, where C is the companion matrix of the polynomial with these
+/// coefficients and P the form: `None` where a number on the way passes 2^126. The place is one of
+/// the form's.
+pub fn sum_less_image(
     sum: NarrowInteger,
     c: &[i64],
     form: &Form,
@@ -135,10 +120,7 @@ fn entry_or_too_wide(c: &[i64], form: &Form, i: usize, j: usize) -> i128
     ensures { result ≡ or_too_wide
         (fall_sum (length c.now - 1) (vector_of c.now) (matrix_of form.now.rows) i j) }
 {
-    match fall_entry(c, form, i, j) {
-        Some(found) => found.get(),
-        None => TOO_WIDE,
-    }
+    or_too_wide(fall_entry(c, form, i, j))
 }
 
 /// A row of what the form loses in a step.
