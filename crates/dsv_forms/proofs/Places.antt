@@ -10,47 +10,47 @@ use Rattle.dsv_forms.specs.declared.refusal.FormRefusal.{FormRefusal}
 use Rattle.dsv_forms.specs.Refusals.{Test, first_of, refusal_of, places, places_from}
 
 -- the first refusal, else the other
-abbrev pub or_else : Option FormRefusal → Option FormRefusal → Option FormRefusal
+abbrev pub or_else : {R : Type 0} → Option R → Option R → Option R
 or_else (Some r) other = Some r
 or_else None other = other
 
-pub neither : (a b : Option FormRefusal) → or_else a b ≡ None → (a ≡ None) × (b ≡ None)
+pub neither : {R : Type 0} (a b : Option R) → or_else a b ≡ None → (a ≡ None) × (b ≡ None)
 neither None b h = (refl, h)
-neither (Some r) b h = cc
+neither (Some r) b h = absurd (cc)
 
-one_more : (test : Test) (o p : Option FormRefusal) → elim test.0 as (λ b. Option FormRefusal) [ true ↦ Some test.1 | false ↦ or_else o p ]
-    ≡ or_else (elim test.0 as (λ b. Option FormRefusal) [ true ↦ Some test.1 | false ↦ o ]) p
-one_more test o p = elim test.0 as (λ b. ◌≡◌ {A = Option FormRefusal} (elim b as (λ b. Option FormRefusal) [ true ↦ Some test.1 | false ↦ or_else o p ])
-    (or_else (elim b as (λ b. Option FormRefusal) [ true ↦ Some test.1 | false ↦ o ]) p)) [ true ↦ refl | false ↦ refl ]
+one_more : {R : Type 0} (b : Bool) (r : R) (o p : Option R) → elim b as (λ b. Option R) [ true ↦ Some r | false ↦ or_else o p ]
+    ≡ or_else (elim b as (λ b. Option R) [ true ↦ Some r | false ↦ o ]) p
+one_more true r o p = refl
+one_more false r o p = refl
 
-pub first_of-append : (xs ys : List Test) → first_of (xs ++ ys) ≡ or_else (first_of xs) (first_of ys)
+pub first_of-append : {R : Type 0} (xs ys : List (Bool × R)) → first_of (xs ++ ys) ≡ or_else (first_of xs) (first_of ys)
 first_of-append [] ys = refl
-first_of-append (x ∷ xs) ys =
-    ap (λ (o : Option FormRefusal). elim x.0 as (λ b. Option FormRefusal) [ true ↦ Some x.1 | false ↦ o ]) (first_of-append xs ys)
-    ∙ one_more x (first_of xs) (first_of ys)
+first_of-append {R} (x ∷ xs) ys =
+    ap (λ (o : Option R). elim x.0 as (λ b. Option R) [ true ↦ Some x.1 | false ↦ o ]) (first_of-append xs ys)
+    ∙ one_more x.0 x.1 (first_of xs) (first_of ys)
 
-pub first_before : (b : Bool) (r : FormRefusal) (tests : List Test) → first_of ((b, r) ∷ tests) ≡ or_else (first_of ((b, r) ∷ [])) (first_of tests)
+pub first_before : {R : Type 0} (b : Bool) (r : R) (tests : List (Bool × R)) → first_of ((b, r) ∷ tests) ≡ or_else (first_of ((b, r) ∷ [])) (first_of tests)
 first_before true r tests = refl
 first_before false r tests = refl
 
-pub refusal-err : {T : Type 0} (r : Result T FormRefusal) (e : FormRefusal) → r ≡ Err e → refusal_of r ≡ Some e
+pub refusal-err : {T R : Type 0} (r : Result T R) (e : R) → r ≡ Err e → refusal_of r ≡ Some e
 refusal-err r e h = rw h refl
 
-pub refusal-ok : {T : Type 0} (r : Result T FormRefusal) (x : T) → r ≡ Ok x → refusal_of r ≡ None
+pub refusal-ok : {T R : Type 0} (r : Result T R) (x : T) → r ≡ Ok x → refusal_of r ≡ None
 refusal-ok r x h = rw h refl
 
 pub not_true : (a : Bool) → false ≡ not a → a ≡ true
 not_true true h = refl
 not_true false h = cc
 
-pub passes : (b : Bool) (r : FormRefusal) → first_of ((b, r) ∷ []) ≡ None → b ≡ false
+pub passes : {R : Type 0} (b : Bool) (r : R) → first_of ((b, r) ∷ []) ≡ None → b ≡ false
 passes true r h = cc
 passes false r h = refl
 
-pub passed : (b : Bool) (r : FormRefusal) → b ≡ false → first_of ((b, r) ∷ []) ≡ None
+pub passed : {R : Type 0} (b : Bool) (r : R) → b ≡ false → first_of ((b, r) ∷ []) ≡ None
 passed b r e = rw e refl
 
-pub refused : (b : Bool) (r : FormRefusal) → b ≡ true → first_of ((b, r) ∷ []) ≡ Some r
+pub refused : {R : Type 0} (b : Bool) (r : R) → b ≡ true → first_of ((b, r) ∷ []) ≡ Some r
 refused b r e = rw e refl
 
 pub neither_test : (a b : Bool) → (a || b) ≡ false → (a ≡ false) × (b ≡ false)

@@ -22,11 +22,11 @@ abbrev pub Test : Type 0
 Test = Bool × FormRefusal
 
 -- the first refusal whose test refuses
-abbrev pub first_of : List Test → Option FormRefusal
+abbrev pub first_of : {R : Type 0} → List (Bool × R) → Option R
 first_of [] = None
 first_of (test ∷ tests) = elim test.0 [ true ↦ Some test.1 | false ↦ first_of tests ]
 
-abbrev pub refusal_of : {T : Type 0} → Result T FormRefusal → Option FormRefusal
+abbrev pub refusal_of : {T R : Type 0} → Result T R → Option R
 refusal_of (Ok x) = None
 refusal_of (Err r) = Some r
 
