@@ -1,18 +1,18 @@
 -- The entries of both forms as the code sums them.
-use Rattle.std.proofs.Common.{◌≡◌, ℕ, suc, ◌+◌, Bool, true, false, ◌&&◌, ◌==◌, nat_lt, min, max, if◌then◌else◌, List, [], ◌∷◌, ◌++◌, map, Option, Some, None, refl, sym, ap, ◌∙◌, arith, add-one, append_assoc}
+use Rattle.std.proofs.Common.{◌≡◌, ℕ, suc, ◌+◌, Bool, true, false, ◌&&◌, ◌==◌, nat_lt, min, max, if◌then◌else◌, List, [], ◌∷◌, map, Option, Some, None, refl, sym, ap, ◌∙◌, arith, add-one}
 use Rattle.std.specs.Prelude.{is_none}
 use Rattle.std.specs.List.{list_any}
 use Rattle.std.specs.Option.{option_and_then}
-use Rattle.std.proofs.Math.IntN.{ℤ, pos, neg_ℤ, ◌+ℤ◌, ◌-ℤ◌, ◌*ℤ◌}
+use Rattle.std.proofs.Math.IntN.{ℤ, pos, neg_ℤ, ◌+ℤ◌, ◌-ℤ◌}
 use Rattle.std.proofs.lemmas.Int.{ints}
+use Rattle.std.proofs.lemmas.List.Concat.{flat_map_single}
 use Rattle.dsv_algebra.specs.Companion.{only}
 use Rattle.dsv_algebra.specs.Narrow.{narrow_of}
 use Rattle.dsv_algebra.specs.Vectors.{Vector, Matrix}
-use Rattle.dsv_algebra.proofs.Normaliser.{ring, env, var, times, minus}
 use Rattle.dsv_forms.specs.Refusals.{places}
-use Rattle.dsv_forms.specs.Sums.{Summand, sum_with, sum_from, summand_where, product, image_sum}
+use Rattle.dsv_forms.specs.Sums.{Summand, sum_with, sum_from, image_sum}
+use Rattle.dsv_forms.proofs.FallLemmas.{image_sum-terms}
 use Rattle.dsv_forms.proofs.Places.{any_same}
-use Rattle.dsv_forms.proofs.SumLemmas.{sum_from-append}
 use Rattle.dsv_ellipsoid.specs.declared.offer.Ellipsoid.{Ellipsoid}
 use Rattle.dsv_ellipsoid.specs.Good.{form_of}
 use Rattle.dsv_ellipsoid.specs.Entries.{scaled, numbered, bare, image_terms, inside_summands, side_summands, corner_summands, step_summands, first_summands, has_wide_entry}
@@ -27,55 +27,8 @@ then_itself : (o : Option ℤ) → option_and_then (λ s. Some s) o ≡ o
 then_itself None = refl
 then_itself (Some s) = refl
 
-neg-times : (x y : ℤ) → neg_ℤ x *ℤ y ≡ neg_ℤ (x *ℤ y)
-neg-times x y = ring (env (x ∷ y ∷ [])) (times (minus (var 0)) (var 1)) (minus (times (var 0) (var 1))) refl
-
-last_where : (below after : Bool) (s : ℤ) (t : Summand) → (if below then sum_from s (summand_where after t) else Some s) ≡ sum_from s (summand_where (below && after) t)
-last_where true after s t = refl
-last_where false after s t = refl
-
-numbered_where : (below after : Bool) (q r t u : ℤ × ℤ)
-    → numbered q ∷ summand_where after (numbered r) ++ summand_where below (numbered t) ++ summand_where (below && after) (numbered u)
-    ≡ map numbered (q ∷ only after r ++ only below t ++ only (below && after) u)
-numbered_where true true q r t u = refl
-numbered_where true false q r t u = refl
-numbered_where false true q r t u = refl
-numbered_where false false q r t u = refl
-
--- an image's sum in the stages of the code, at the places after i and j
-staged : (below after : Bool) (s : ℤ) (q r t u : Summand)
-    → option_and_then (λ s. option_and_then (λ s. option_and_then (λ s. if below then sum_from s (summand_where after u) else Some s) (sum_from s (summand_where below t))) (sum_from s (summand_where after r))) (sum_with s q)
-    ≡ sum_from s (q ∷ summand_where after r ++ summand_where below t ++ summand_where (below && after) u)
-staged below after s q r t u =
-    let rs = summand_where after r in
-    let ts = summand_where below t in
-    let us = summand_where (below && after) u in
-    then_same (sum_with s q) _ (λ s. sum_from s (rs ++ ts ++ us))
-    (λ s. then_same (sum_from s rs) _ (λ s. sum_from s (ts ++ us))
-    (λ s. then_same (sum_from s ts) _ (λ s. sum_from s us) (λ s. last_where below after s u) ∙ sym (sum_from-append s ts us))
-    ∙ sym (sum_from-append s rs (ts ++ us)) ∙ ap (sum_from s) (sym (append_assoc rs ts us)))
-
-image_stages : ℕ → Vector → Matrix → ℤ → ℕ → ℕ → Option ℤ
-image_stages d c P s k l = option_and_then (λ s. option_and_then (λ s. option_and_then (λ s.
-    if nat_lt k d then sum_from s (summand_where (nat_lt l d) (product (neg_ℤ (c 0)) (c 0) (P k l))) else Some s)
-    (sum_from s (summand_where (nat_lt k d) (product (c 0) (c l) (P k 0)))))
-    (sum_from s (summand_where (nat_lt l d) (product (c k) (c 0) (P 0 l)))))
-    (sum_with s (product (neg_ℤ (c k)) (c l) (P 0 0)))
-
 image_sum-is : (d : ℕ) (c : Vector) (P : Matrix) (i j : ℕ) (s : ℤ) → image_sum d c P i j s ≡ sum_from s (map numbered (image_terms d c P i j))
-unfolding image_stages
-image_sum-is d c P i j s =
-    let k = suc i in
-    let l = suc j in
-    let below = nat_lt k d in
-    let after = nat_lt l d in
-    let r = numbered (c k *ℤ c 0, P 0 l) in
-    let t = numbered (c 0 *ℤ c l, P k 0) in
-    ap (λ m. image_stages d c P s m (j + 1)) (add-one i) ∙ ap (image_stages d c P s k) (add-one j)
-    ∙ staged below after s (product (neg_ℤ (c k)) (c l) (P 0 0)) r t (product (neg_ℤ (c 0)) (c 0) (P k l))
-    ∙ ap (λ f. sum_from s (numbered (f, P 0 0) ∷ summand_where after r ++ summand_where below t ++ summand_where (below && after) (numbered (neg_ℤ (c 0) *ℤ c 0, P k l)))) (neg-times (c k) (c l))
-    ∙ ap (λ f. sum_from s (numbered (neg_ℤ (c k *ℤ c l), P 0 0) ∷ summand_where after r ++ summand_where below t ++ summand_where (below && after) (numbered (f, P k l)))) (neg-times (c 0) (c 0))
-    ∙ ap (sum_from s) (numbered_where below after (neg_ℤ (c k *ℤ c l), P 0 0) (c k *ℤ c 0, P 0 l) (c 0 *ℤ c l, P k 0) (neg_ℤ (c 0 *ℤ c 0), P k l))
+image_sum-is d c P i j s = image_sum-terms d c P i j s ∙ ap (sum_from s) (flat_map_single numbered (image_terms d c P i j))
 
 inside_sum-is : (d : ℕ) (c : Vector) (o : Ellipsoid) (i j : ℕ) → inside_sum d c o i j ≡ sum_from (pos 0) (inside_summands d c o i j)
 inside_sum-is d c o i j = then_same (sum_with (pos 0) (scaled o.lambda (form_of o i j))) (image_sum d c (form_of o) i j) _ (image_sum-is d c (form_of o) i j)

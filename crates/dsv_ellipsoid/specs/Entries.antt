@@ -1,9 +1,9 @@
 -- The entries of the step form and of the first form term by term, as a check computes them.
 use Rattle.std.specs.Prelude.{ℕ, suc, Bool, ◌&&◌, ◌==◌, nat_lt, is_none, min, max}
-use Rattle.std.specs.Prelude.{List, [], ◌∷◌, ◌++◌, map, if◌then◌else◌, ℤ, pos, neg_ℤ, ◌*ℤ◌}
+use Rattle.std.specs.Prelude.{List, [], ◌∷◌, map, drop, if◌then◌else◌, ℤ, pos, neg_ℤ, ◌*ℤ◌}
 use Rattle.std.specs.List.{list_any}
 use Rattle.dsv_algebra.specs.Vectors.{Vector, Matrix}
-use Rattle.dsv_algebra.specs.Companion.{only}
+use Rattle.dsv_algebra.specs.Companion.{only, fall_terms}
 use Rattle.dsv_forms.specs.Refusals.{places}
 use Rattle.dsv_forms.specs.Sums.{Summand, sum_from}
 use Rattle.dsv_ellipsoid.specs.declared.offer.Ellipsoid.{Ellipsoid}
@@ -23,16 +23,10 @@ abbrev pub bare : ℤ → Summand
 bare z = ([], z)
 
 -- ---- the step form, in places i <= j
--- The terms of an entry of the form after a step, with the other sign: a product of two of the c,
--- and the entry that it is multiplied with. Entries outside the first d places are absent.
+-- the terms of an entry of the form after a step, with the other sign: those of an entry of the
+-- fall form but the first
 abbrev pub image_terms : ℕ → Vector → Matrix → ℕ → ℕ → List (ℤ × ℤ)
-image_terms d c P i j =
-    let below = nat_lt (suc i) d in
-    let beside = nat_lt (suc j) d in
-    (neg_ℤ (c (suc i) *ℤ c (suc j)), P 0 0)
-    ∷ only beside (c (suc i) *ℤ c 0, P 0 (suc j))
-    ++ only below (c 0 *ℤ c (suc j), P (suc i) 0)
-    ++ only (below && beside) (neg_ℤ (c 0 *ℤ c 0), P (suc i) (suc j))
+image_terms d c P i j = drop 1 (fall_terms d c P i j)
 
 -- for v_i and v_j
 abbrev pub inside_summands : ℕ → Vector → Ellipsoid → ℕ → ℕ → List Summand

@@ -6,13 +6,13 @@
 // way passes 2^126.
 #![tactic(auto, using(dsv_algebra::proofs::Casts::casts))]
 
-ghost use Rattle.std.specs.Prelude.{◌≡◌, ◌<◌, ◌≤◌, ◌+◌, ◌-◌, length, neg_ℤ, min, max};
+ghost use Rattle.std.specs.Prelude.{◌≡◌, ◌<◌, ◌≤◌, ◌+◌, ◌-◌, length, min, max};
 ghost use Rattle.std.specs.Prelude.{suc, true, ◌||◌, is_none, IfSome, IfOk};
 ghost use Rattle.std.specs.List.{list_any};
-ghost use Rattle.dsv_algebra.specs.Vectors.{vector_of, matrix_of};
+ghost use Rattle.dsv_algebra.specs.Vectors.{vector_of};
 ghost use Rattle.dsv_meaning.specs.Equations.{order};
 ghost use Rattle.dsv_forms.specs.Refusals.{places, is_symmetric};
-ghost use Rattle.dsv_forms.specs.Sums.{sum_from, sum_with, summand_where, product, image_sum};
+ghost use Rattle.dsv_forms.specs.Sums.{sum_with};
 ghost use Rattle.dsv_ellipsoid.specs.Good.{form_of, step_form, first_form};
 ghost use Rattle.dsv_ellipsoid.specs.Entries.{scaled, step_summands, first_summands};
 ghost use Rattle.dsv_ellipsoid.specs.Entries.{has_wide_entry};
@@ -25,7 +25,7 @@ use crate::offer::Ellipsoid;
 use crate::refusal::EllipsoidRefusal;
 use crate::sizes::wide_number;
 use dsv_algebra::NarrowInteger;
-use dsv_forms::{Form, GREATEST_ORDER, sum_with_product};
+use dsv_forms::{Form, GREATEST_ORDER, negation, number_of, sum_less_image};
 use dsv_quantiser::Quantised;
 
 /// Which of both forms.
@@ -37,20 +37,6 @@ pub(crate) enum FormKind {
     First,
 }
 
-/// The number itself.
-fn number_of(number: &i64) -> NarrowInteger
-    ensures { result ≡ number.now }
-{
-    NarrowInteger::from(*number)
-}
-
-/// The number with the other sign.
-fn negation(number: &i64) -> NarrowInteger
-    ensures { result ≡ neg_ℤ number.now }
-{
-    NarrowInteger::from(-i128::from(*number))
-}
-
 /// The sum with a product of two numbers more, where no number on the way is too wide.
 fn sum_with_scaled(
     sum: NarrowInteger,
@@ -60,68 +46,6 @@ fn sum_with_scaled(
     ensures { result ≡ sum_with sum (scaled factor entry) }
 {
     sum.checked_add(factor.checked_mul(entry)?)
-}
-
-/// A product of two coefficients and an entry.
-#[derive(Clone, Copy)]
-struct Term {
-    a: NarrowInteger,
-    b: NarrowInteger,
-    entry: NarrowInteger,
-}
-
-/// The sum with a term more, where the test holds.
-fn sum_where(holds: bool, sum: NarrowInteger, term: Term) -> Option<NarrowInteger>
-    ensures { result ≡ sum_from sum (summand_where holds (product term.a term.b term.entry)) }
-{
-    if holds {
-        sum_with_product(sum, term.a, term.b, term.entry)
-    } else {
-        Some(sum)
-    }
-}
-
-/// The sum less an entry of the form after a step, where no number on the way is too wide.
-fn sum_less_image(
-    sum: NarrowInteger,
-    c: &[i64],
-    form: &Form,
-    i: usize,
-    j: usize,
-) -> Option<NarrowInteger>
-    requires some { i + 1 < length c.now }
-    requires others { j + 1 < length c.now }
-    requires few { length c.now ≤ 8 }
-    ensures { result
-        ≡ image_sum (length c.now - 1) (vector_of c.now) (matrix_of form.now.rows) i j sum }
-{
-    let d = c.len() - 1;
-    let (below, after) = (i + 1 < d, j + 1 < d);
-    let lead = number_of(&c[0]);
-    let (row, column) = (number_of(&c[i + 1]), number_of(&c[j + 1]));
-    let sum = sum_with_product(sum, negation(&c[i + 1]), column, form.entry(0, 0))?;
-    let first_row = Term {
-        a: row,
-        b: lead,
-        entry: form.entry(0, j + 1),
-    };
-    let sum = sum_where(after, sum, first_row)?;
-    let first_column = Term {
-        a: lead,
-        b: column,
-        entry: form.entry(i + 1, 0),
-    };
-    let sum = sum_where(below, sum, first_column)?;
-    let diagonal = Term {
-        a: negation(&c[0]),
-        b: lead,
-        entry: form.entry(i + 1, j + 1),
-    };
-    if below {
-        sum_where(after, sum, diagonal)
-    } else {
-        Some(sum)
-    }
 }
 
 /// An entry of the step form for two outputs.
