@@ -29,9 +29,11 @@ use Rattle.dsv_ellipsoid.specs.declared.refusal.EllipsoidRefusal.{EllipsoidRefus
 use Rattle.dsv_ellipsoid.specs.declared.refusal.EllipsoidRefusal.TheVariants as refusal
 use Rattle.dsv_ellipsoid.specs.Intervals.{AreWords, sample_intervals}
 use Rattle.dsv_ellipsoid.specs.Good.{form_of, step_form, first_form, IsGood, NeverBreaks, StaysKept}
-use Rattle.dsv_ellipsoid.specs.Refusals.{Test, first_of, refusal_of, most_states, is_direct, bad_shape, sign_tests, level_after, level_before, square_past, size_tests, entry_tests, step_tests, first_tests, interval_tests, claim_tests, ellipsoid_refusal}
+use Rattle.dsv_forms.specs.Refusals.{first_of, refusal_of}
+use Rattle.dsv_ellipsoid.specs.Refusals.{Test, most_states, is_direct, bad_shape, sign_tests, level_after, level_before, square_past, size_tests, entry_tests, step_tests, first_tests, interval_tests, claim_tests, ellipsoid_refusal}
 use Rattle.dsv_ellipsoid.specs.Stages.{IsShaped, HasBound, StandsFor}
-use Rattle.dsv_ellipsoid.proofs.FirstTests.{neither, first_of-append, first_before, passes, test_stops, test_passes, tests_stop, tests_pass}
+use Rattle.dsv_forms.proofs.Places.{neither, first_of-append, first_before, passes}
+use Rattle.dsv_ellipsoid.proofs.FirstTests.{test_stops, test_passes, tests_stop, tests_pass}
 use Rattle.dsv_ellipsoid.proofs.Runs.{keeps, never}
 use Rattle.dsv_ellipsoid.proofs.SizeLemmas.{ends_are_words}
 use Rattle.dsv_ellipsoid.proofs.Standing.{symmetric_is}

@@ -12,9 +12,10 @@ use Rattle.dsv_ellipsoid.specs.declared.refusal.EllipsoidRefusal.{EllipsoidRefus
 use Rattle.dsv_ellipsoid.specs.declared.refusal.EllipsoidRefusal.TheVariants as refusal
 use Rattle.dsv_ellipsoid.specs.declared.intervals.Walk.{Walk}
 use Rattle.dsv_ellipsoid.specs.Intervals.{product_interval, joined_interval, later_intervals, line_intervals}
-use Rattle.dsv_ellipsoid.specs.Refusals.{first_of, refusal_of, interval_tests}
+use Rattle.dsv_forms.specs.Refusals.{first_of, refusal_of}
+use Rattle.dsv_ellipsoid.specs.Refusals.{interval_tests}
 use Rattle.dsv_ellipsoid.specs.Walks.{first_walk, walk_with, product_tests, products, later_tests, refusal_then, IsWalked}
-use Rattle.dsv_ellipsoid.proofs.FirstTests.{first_of-append, first_before, or_else, refusal-err, refusal-ok}
+use Rattle.dsv_forms.proofs.Places.{first_of-append, first_before, or_else, refusal-err, refusal-ok}
 
 -- the products of a line whose words lie in one interval
 pub summands_alike : (away : Bool) (cs : List ℤ) (x : Range) (k : ℕ) → summands away cs (λ i. x) k ≡ products away cs x

@@ -1,6 +1,6 @@
 -- Why an ellipsoid isn't accepted: the tests of the check in their order.
 use Rattle.std.specs.Prelude.{ℕ, suc, ◌+◌, ◌^◌, Bool, true, false, not, ◌||◌, ◌==◌, nat_lt, int_lt}
-use Rattle.std.specs.Prelude.{List, [], ◌∷◌, ◌++◌, map, Option, Some, None, Result, Ok, Err}
+use Rattle.std.specs.Prelude.{List, [], ◌∷◌, ◌++◌, map, Option}
 use Rattle.std.specs.Prelude.{ℤ, pos, ◌+ℤ◌, ◌*ℤ◌}
 use Rattle.dsv_algebra.specs.Narrow.{is_narrow}
 use Rattle.dsv_algebra.specs.Vectors.{vector_of}
@@ -14,6 +14,7 @@ use Rattle.dsv_linear.specs.declared.range.Range.{Range}
 use Rattle.dsv_linear.specs.Known.{are_words}
 use Rattle.dsv_forms.specs.declared.refusal.OfferPart.TheVariants as part
 use Rattle.dsv_forms.specs.Refusals as forms
+use Rattle.dsv_forms.specs.Refusals.{first_of}
 use Rattle.dsv_ellipsoid.specs.declared.offer.Ellipsoid.{Ellipsoid}
 use Rattle.dsv_ellipsoid.specs.declared.refusal.EllipsoidRefusal.{EllipsoidRefusal}
 use Rattle.dsv_ellipsoid.specs.declared.refusal.EllipsoidRefusal.TheVariants as refusal
@@ -25,15 +26,6 @@ use Rattle.dsv_ellipsoid.specs.Entries.{step_summands, first_summands, has_wide_
 -- a test: whether it refuses, and the refusal that it gives
 abbrev pub Test : Type 0
 Test = Bool × EllipsoidRefusal
-
--- the first refusal whose test refuses
-abbrev pub first_of : List Test → Option EllipsoidRefusal
-first_of [] = None
-first_of (test ∷ tests) = elim test.0 [ true ↦ Some test.1 | false ↦ first_of tests ]
-
-abbrev pub refusal_of : {T : Type 0} → Result T EllipsoidRefusal → Option EllipsoidRefusal
-refusal_of (Ok x) = None
-refusal_of (Err r) = Some r
 
 -- ---- the shape
 -- the greatest order: the step form has one place more, and a form has at most eight

@@ -9,7 +9,8 @@ use Rattle.dsv_linear.specs.declared.range.Range.{Range}
 use Rattle.dsv_ellipsoid.specs.declared.refusal.EllipsoidRefusal.{EllipsoidRefusal}
 use Rattle.dsv_ellipsoid.specs.declared.intervals.Walk.{Walk}
 use Rattle.dsv_ellipsoid.specs.Intervals.{product_interval, joined_interval, later_intervals}
-use Rattle.dsv_ellipsoid.specs.Refusals.{Test, first_of, interval_tests}
+use Rattle.dsv_forms.specs.Refusals.{first_of}
+use Rattle.dsv_ellipsoid.specs.Refusals.{Test, interval_tests}
 
 -- both ends are no greater in size than words can be
 pub record HasSmallEnds (r : Range) : Type 0 where

@@ -12,7 +12,8 @@ ghost use Rattle.dsv_ellipsoid.specs.Intervals.{lesser, greater, between, produc
 ghost use Rattle.dsv_ellipsoid.specs.Intervals.{joined_interval, input_interval, output_interval};
 ghost use Rattle.dsv_ellipsoid.specs.Intervals.{line_intervals, sample_intervals};
 ghost use Rattle.dsv_meaning.specs.Lines.{summands};
-ghost use Rattle.dsv_ellipsoid.specs.Refusals.{first_of, refusal_of, interval_tests};
+ghost use Rattle.dsv_forms.specs.Refusals.{first_of, refusal_of};
+ghost use Rattle.dsv_ellipsoid.specs.Refusals.{interval_tests};
 ghost use Rattle.dsv_ellipsoid.specs.Walks.{HasSmallEnds, first_walk, walk_with, product_tests};
 ghost use Rattle.dsv_ellipsoid.specs.Walks.{products, IsWalked};
 

@@ -1,7 +1,7 @@
 // Why an ellipsoid isn't accepted.
 
 ghost use Rattle.std.specs.Prelude.{◌≡◌, ◌∷◌, []};
-ghost use Rattle.dsv_ellipsoid.specs.Refusals.{first_of, refusal_of};
+ghost use Rattle.dsv_forms.specs.Refusals.{first_of, refusal_of};
 
 use dsv_forms::FormRefusal;
 

@@ -4,8 +4,10 @@ use Rattle.dsv_algebra.specs.Vectors.{vector_of}
 use Rattle.dsv_meaning.specs.Equations.{order}
 use Rattle.dsv_ellipsoid.specs.declared.refusal.EllipsoidRefusal.TheVariants as refusal
 use Rattle.dsv_ellipsoid.specs.Good.{step_form, first_form}
-use Rattle.dsv_ellipsoid.specs.Refusals.{refusal_of, level_before, level_after, square_past}
-use Rattle.dsv_ellipsoid.proofs.FirstTests.{refusal-err, refusal-ok, test_is}
+use Rattle.dsv_forms.specs.Refusals.{refusal_of}
+use Rattle.dsv_ellipsoid.specs.Refusals.{level_before, level_after, square_past}
+use Rattle.dsv_forms.proofs.Places.{refusal-err, refusal-ok}
+use Rattle.dsv_ellipsoid.proofs.FirstTests.{test_is}
 use Rattle.dsv_ellipsoid.proofs.Shown.{squares_same, step_stops, first_stops, bound_stops, claims_pass}
 use Rattle.dsv_ellipsoid.proofs.check.check_claims.Goals as goal
 

@@ -1,5 +1,5 @@
 use Rattle.std.proofs.Common.{sym, ◌∙◌}
-use Rattle.dsv_ellipsoid.proofs.FirstTests.{refusal-ok}
+use Rattle.dsv_forms.proofs.Places.{refusal-ok}
 use Rattle.dsv_ellipsoid.proofs.Shown.{early_pass, good_where, never_where, kept_where}
 use Rattle.dsv_ellipsoid.proofs.check.check_ellipsoid.Goals as goal
 

@@ -4,7 +4,7 @@ use Rattle.dsv_algebra.specs.Vectors.{vector_of}
 use Rattle.dsv_meaning.specs.Equations.{order}
 use Rattle.dsv_ellipsoid.specs.declared.refusal.EllipsoidRefusal.TheVariants as refusal
 use Rattle.dsv_ellipsoid.specs.Entries.{step_summands, first_summands, has_wide_entry}
-use Rattle.dsv_ellipsoid.proofs.FirstTests.{passed, refused}
+use Rattle.dsv_forms.proofs.Places.{passed, refused}
 use Rattle.dsv_ellipsoid.proofs.entries.tested_forms.Goals as goal
 
 pub returns-in-Some-clause-refusal : goal.returns-in-Some-clause-refusal

@@ -1,7 +1,7 @@
 use Rattle.std.proofs.Common.{drop, ap, ◌∙◌}
 use Rattle.dsv_meaning.specs.Equations.{feedback}
 use Rattle.dsv_ellipsoid.specs.Intervals.{input_interval, output_interval}
-use Rattle.dsv_ellipsoid.specs.Refusals.{refusal_of}
+use Rattle.dsv_forms.specs.Refusals.{refusal_of}
 use Rattle.dsv_ellipsoid.proofs.WalkLemmas.{line_tests_same}
 use Rattle.dsv_ellipsoid.proofs.intervals.check_intervals.Goals as goal
 

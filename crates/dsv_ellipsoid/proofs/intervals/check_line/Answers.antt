@@ -1,7 +1,7 @@
 use Rattle.std.proofs.Common.{◌≡◌, true, Some, None, sym, ap, ◌∙◌, rules}
-use Rattle.dsv_ellipsoid.specs.Refusals.{refusal_of}
+use Rattle.dsv_forms.specs.Refusals.{refusal_of}
 use Rattle.dsv_ellipsoid.specs.Walks.{products, refusal_then}
-use Rattle.dsv_ellipsoid.proofs.FirstTests.{refusal-err, refusal-ok}
+use Rattle.dsv_forms.proofs.Places.{refusal-err, refusal-ok}
 use Rattle.dsv_ellipsoid.proofs.WalkLemmas.{first_refused, row_walked, last_row}
 use Rattle.dsv_ellipsoid.proofs.intervals.check_line.Goals as goal
 

@@ -1,7 +1,7 @@
 use Rattle.std.proofs.Common.{◌≡◌, ◌+◌, ◌*◌, List, ◌++◌, drop}
 use Rattle.dsv_meaning.specs.declared.summands.Summand.{Summand}
 use Rattle.dsv_linear.specs.declared.range.Range.{Range}
-use Rattle.dsv_ellipsoid.specs.Refusals.{first_of}
+use Rattle.dsv_forms.specs.Refusals.{first_of}
 use Rattle.dsv_ellipsoid.specs.Walks.{HasSmallEnds, products, later_tests}
 use Rattle.dsv_ellipsoid.proofs.intervals.walk_products.Given as goal
 
