@@ -23,3 +23,7 @@ tests_pass ts us h = first_of-append ts us ∙ rw h refl
 -- a test's answer, by what was tested
 pub test_is : {T : Type 0} (r : Result T EllipsoidRefusal) (why : EllipsoidRefusal) (o : Option EllipsoidRefusal) (b c : Bool) → b ≡ c → refusal_of r ≡ first_of ((b, why) ∷ []) → refusal_of r ≡ o → first_of ((c, why) ∷ []) ≡ o
 test_is r why o b c e h is = ap (λ t. first_of ((t, why) ∷ [])) (sym e) ∙ sym h ∙ is
+
+pub ruleset single_tests = (test_stops, test_passes)
+
+pub ruleset test_lists = (test_stops, test_passes, tests_stop, tests_pass)

@@ -201,6 +201,8 @@ pub kept_where : (r : Result (Unit {0}) EllipsoidRefusal) (q : QuantisedView) (o
 kept_where (Ok x) q o fixed h = keeps q o fixed (shown q o (sym h))
 kept_where (Err e) q o fixed h = tt
 
+pub ruleset accepted_offers = (good_where, never_where, kept_where)
+
 -- ---- the tests in the code's stages
 abbrev bound_test : QuantisedView → Ellipsoid → Test
 bound_test q o = (not (int_lt (o.nu *ℤ o.level) (o.kappa *ℤ square_past o)), refusal.Bound)

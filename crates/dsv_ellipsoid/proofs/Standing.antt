@@ -21,7 +21,7 @@ use Rattle.dsv_ellipsoid.specs.Good.{form_of, step_form, first_form}
 use Rattle.dsv_ellipsoid.specs.Entries.{numbered, scaled, bare, image_terms, inside_summands, side_terms, side_summands, corner_summands, step_summands, first_summands}
 use Rattle.dsv_ellipsoid.specs.Stages.{StandsFor}
 use Rattle.dsv_ellipsoid.specs.Sums.{IsSummed, step_sum, first_sum}
-use Rattle.dsv_ellipsoid.proofs.EntryLemmas.{step_sum-is, first_sum-is}
+use Rattle.dsv_ellipsoid.proofs.EntryLemmas.{step_sum-is, first_sum-is, step_is_wide, first_is_wide}
 use Rattle.dsv_ellipsoid.proofs.StepEntries.{entries}
 
 -- ---- the value of a sum
@@ -116,3 +116,5 @@ first_stands d o F w = stands d (first_form o) (first_sum o) F w (λ i j v p q h
 pub symmetric_is : (d : ℕ) (R : Matrix) → ((i j : ℕ) → i < d → j < d → R i j ≡ R j i) → is_symmetric d R ≡ true
 symmetric_is d R h = all_true (λ i. list_all (λ j. int_eq (R i j) (R j i)) (places d)) d
     (λ i a. all_true (λ j. int_eq (R i j) (R j i)) d (λ j b. (Decides-int_eq (R i j) (R j i)).1 (h i j a b)))
+
+pub ruleset both_forms = (step_is_wide, first_is_wide, step_stands, first_stands)

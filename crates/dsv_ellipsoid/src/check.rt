@@ -6,7 +6,7 @@
 // disturbance is, bounds the outputs; and where the intervals of all exact values are within the
 // words then, nothing is ever fitted. Both claims on the form are S-procedures: a weighted sum of
 // what is known less what is wanted is nowhere negative, which squares show.
-#![tactic(auto, using(dsv_algebra::proofs::Casts::casts, crate::proofs::FirstTests::test_stops, crate::proofs::FirstTests::test_passes, crate::proofs::FirstTests::tests_stop, crate::proofs::FirstTests::tests_pass,))]
+#![tactic(auto, using(dsv_algebra::proofs::Casts::casts, crate::proofs::FirstTests::test_lists))]
 
 ghost use Rattle.std.specs.Prelude.{◌≡◌, ◌≤◌, ◌∷◌, [], ◌||◌, suc, true, int_lt, pos};
 ghost use Rattle.std.specs.Prelude.{IfOk, OnOk};
@@ -183,7 +183,7 @@ fn check_claims(
 ///
 /// The first test that refuses, in the order of the variants of `EllipsoidRefusal` and of their
 /// places.
-#[tactic(auto, using(crate::proofs::Shown::good_where, crate::proofs::Shown::never_where, crate::proofs::Shown::kept_where,))]
+#[tactic(auto, using(crate::proofs::Shown::accepted_offers))]
 pub fn check_ellipsoid(quantised: &Quantised, offer: &Ellipsoid) -> Result<(), EllipsoidRefusal>
     // The offer is accepted exactly where no test refuses.
     ensures refusal { refusal_of result ≡ ellipsoid_refusal quantised.now offer.now }

@@ -191,7 +191,7 @@ pub(crate) struct TestedForms {
 }
 
 /// Both forms of an offer for the denominator, where no number on the way to an entry is too wide.
-#[tactic(auto, using(crate::proofs::EntryLemmas::step_is_wide, crate::proofs::EntryLemmas::first_is_wide, crate::proofs::Standing::step_stands, crate::proofs::Standing::first_stands,))]
+#[tactic(auto, using(crate::proofs::Standing::both_forms))]
 fn forms_of(c: &[i64], offer: &Ellipsoid) -> Option<TestedForms>
     requires some { 2 ≤ length c.now }
     requires few { length c.now ≤ 8 }

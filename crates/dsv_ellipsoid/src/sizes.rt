@@ -1,5 +1,5 @@
 // The numbers that the level and the bound of an offer are tested by.
-#![tactic(auto, using(dsv_algebra::proofs::Casts::casts, crate::proofs::FirstTests::test_stops, crate::proofs::FirstTests::test_passes,))]
+#![tactic(auto, using(dsv_algebra::proofs::Casts::casts, crate::proofs::FirstTests::single_tests))]
 
 ghost use Rattle.std.specs.Prelude.{◌≡◌, ◌∷◌, [], not, int_lt, pos, IfOk};
 ghost use Rattle.std.specs.Prelude.{◌+ℤ◌, ◌*ℤ◌};

@@ -12,7 +12,8 @@ struct Refused {
 /// Files that are refused; 170141183460469231e21 is less than 2^127, and four times it is not.
 const REFUSED: [Refused; 17] = [
     Refused {
-        text: "dsv-state-space 1\nformat 2 2\nrange 1.0 1.0\nstates 1\na 2.0\nb 1.0\nc 1.0\nd 0.0\nend\n",
+        text: "dsv-state-space 1\nformat 2 2\nrange 1.0 1.0\nstates 1\n\
+            a 2.0\nb 1.0\nc 1.0\nd 0.0\nend\n",
         why: StateQuantRefusal::CoefficientRange {
             place: Place::A,
             row: 0,
@@ -21,7 +22,8 @@ const REFUSED: [Refused; 17] = [
         },
     },
     Refused {
-        text: "dsv-state-space 1\nformat 2 2\nrange 0 0\nstates 2\na 1.75 -2.0\na 0 -2.25\nb 0 0\nc 0 0\nd 0\nend\n",
+        text: "dsv-state-space 1\nformat 2 2\nrange 0 0\nstates 2\n\
+            a 1.75 -2.0\na 0 -2.25\nb 0 0\nc 0 0\nd 0\nend\n",
         why: StateQuantRefusal::CoefficientRange {
             place: Place::A,
             row: 1,
@@ -30,7 +32,8 @@ const REFUSED: [Refused; 17] = [
         },
     },
     Refused {
-        text: "dsv-state-space 1\nformat 2 2\nrange 0 0\nstates 2\na 0 0\na 2 9\nb 9 9\nc 9 9\nd 9\nend\n",
+        text: "dsv-state-space 1\nformat 2 2\nrange 0 0\nstates 2\n\
+            a 0 0\na 2 9\nb 9 9\nc 9 9\nd 9\nend\n",
         why: StateQuantRefusal::CoefficientRange {
             place: Place::A,
             row: 1,
@@ -39,7 +42,8 @@ const REFUSED: [Refused; 17] = [
         },
     },
     Refused {
-        text: "dsv-state-space 1\nformat 2 2\nrange 0 0\nstates 2\na 0 0\na 0 0\nb 1 2.25\nc 9 9\nd 9\nend\n",
+        text: "dsv-state-space 1\nformat 2 2\nrange 0 0\nstates 2\n\
+            a 0 0\na 0 0\nb 1 2.25\nc 9 9\nd 9\nend\n",
         why: StateQuantRefusal::CoefficientRange {
             place: Place::B,
             row: 1,
@@ -48,7 +52,8 @@ const REFUSED: [Refused; 17] = [
         },
     },
     Refused {
-        text: "dsv-state-space 1\nformat 2 2\nrange 0 0\nstates 2\na 0 0\na 0 0\nb 0 0\nc 1 -3\nd 9\nend\n",
+        text: "dsv-state-space 1\nformat 2 2\nrange 0 0\nstates 2\n\
+            a 0 0\na 0 0\nb 0 0\nc 1 -3\nd 9\nend\n",
         why: StateQuantRefusal::CoefficientRange {
             place: Place::C,
             row: 0,
@@ -57,7 +62,8 @@ const REFUSED: [Refused; 17] = [
         },
     },
     Refused {
-        text: "dsv-state-space 1\nformat 2 2\nrange 0 0\nstates 2\na 0 0\na 0 0\nb 0 0\nc 0 0\nd 2\nend\n",
+        text: "dsv-state-space 1\nformat 2 2\nrange 0 0\nstates 2\n\
+            a 0 0\na 0 0\nb 0 0\nc 0 0\nd 2\nend\n",
         why: StateQuantRefusal::CoefficientRange {
             place: Place::D,
             row: 0,
@@ -66,7 +72,8 @@ const REFUSED: [Refused; 17] = [
         },
     },
     Refused {
-        text: "dsv-state-space 1\nformat 2 2\nrange 0 0\nstates 2\na 0 170141183460469231e21\na 9 0\nb 0 0\nc 0 0\nd 0\nend\n",
+        text: "dsv-state-space 1\nformat 2 2\nrange 0 0\nstates 2\n\
+            a 0 170141183460469231e21\na 9 0\nb 0 0\nc 0 0\nd 0\nend\n",
         why: StateQuantRefusal::FractionWide {
             place: Place::A,
             row: 0,
@@ -74,7 +81,8 @@ const REFUSED: [Refused; 17] = [
         },
     },
     Refused {
-        text: "dsv-state-space 1\nformat 2 2\nrange 0 0\nstates 2\na 9 170141183460469231e21\na 0 0\nb 0 0\nc 0 0\nd 0\nend\n",
+        text: "dsv-state-space 1\nformat 2 2\nrange 0 0\nstates 2\n\
+            a 9 170141183460469231e21\na 0 0\nb 0 0\nc 0 0\nd 0\nend\n",
         why: StateQuantRefusal::CoefficientRange {
             place: Place::A,
             row: 0,
@@ -83,7 +91,8 @@ const REFUSED: [Refused; 17] = [
         },
     },
     Refused {
-        text: "dsv-state-space 1\nformat 2 2\nrange 0 0\nstates 2\na 0 0\na 0 0\nb 0 170141183460469231e21\nc 9 0\nd 0\nend\n",
+        text: "dsv-state-space 1\nformat 2 2\nrange 0 0\nstates 2\n\
+            a 0 0\na 0 0\nb 0 170141183460469231e21\nc 9 0\nd 0\nend\n",
         why: StateQuantRefusal::FractionWide {
             place: Place::B,
             row: 1,
@@ -91,7 +100,8 @@ const REFUSED: [Refused; 17] = [
         },
     },
     Refused {
-        text: "dsv-state-space 1\nformat 2 2\nrange 0 0\nstates 2\na 0 0\na 0 0\nb 0 0\nc 0 170141183460469231e21\nd 9\nend\n",
+        text: "dsv-state-space 1\nformat 2 2\nrange 0 0\nstates 2\n\
+            a 0 0\na 0 0\nb 0 0\nc 0 170141183460469231e21\nd 9\nend\n",
         why: StateQuantRefusal::FractionWide {
             place: Place::C,
             row: 0,
@@ -99,7 +109,8 @@ const REFUSED: [Refused; 17] = [
         },
     },
     Refused {
-        text: "dsv-state-space 1\nformat 2 2\nrange 170141183460469231e21 0\nstates 1\na 0\nb 0\nc 0\nd 170141183460469231e21\nend\n",
+        text: "dsv-state-space 1\nformat 2 2\nrange 170141183460469231e21 0\nstates 1\n\
+            a 0\nb 0\nc 0\nd 170141183460469231e21\nend\n",
         why: StateQuantRefusal::FractionWide {
             place: Place::D,
             row: 0,
@@ -107,7 +118,8 @@ const REFUSED: [Refused; 17] = [
         },
     },
     Refused {
-        text: "dsv-state-space 1\nformat 2 2\nrange 170141183460469231e21 170141183460469231e21\nstates 1\na 0\nb 0\nc 0\nd 0\nend\n",
+        text: "dsv-state-space 1\nformat 2 2\nrange 170141183460469231e21 170141183460469231e21\nstates 1\n\
+            a 0\nb 0\nc 0\nd 0\nend\n",
         why: StateQuantRefusal::FractionWide {
             place: Place::Min,
             row: 0,
@@ -115,7 +127,8 @@ const REFUSED: [Refused; 17] = [
         },
     },
     Refused {
-        text: "dsv-state-space 1\nformat 2 2\nrange 1.0 170141183460469231e21\nstates 1\na 0\nb 0\nc 0\nd 0\nend\n",
+        text: "dsv-state-space 1\nformat 2 2\nrange 1.0 170141183460469231e21\nstates 1\n\
+            a 0\nb 0\nc 0\nd 0\nend\n",
         why: StateQuantRefusal::FractionWide {
             place: Place::Max,
             row: 0,
@@ -123,19 +136,23 @@ const REFUSED: [Refused; 17] = [
         },
     },
     Refused {
-        text: "dsv-state-space 1\nformat 2 2\nrange 0.1 0.2\nstates 1\na 0\nb 0\nc 0\nd 0\nend\n",
+        text: "dsv-state-space 1\nformat 2 2\nrange 0.1 0.2\nstates 1\n\
+            a 0\nb 0\nc 0\nd 0\nend\n",
         why: StateQuantRefusal::RangeEmpty { lo: 1, hi: 0 },
     },
     Refused {
-        text: "dsv-state-space 1\nformat 2 2\nrange 2.0 3.0\nstates 1\na 0\nb 0\nc 0\nd 0\nend\n",
+        text: "dsv-state-space 1\nformat 2 2\nrange 2.0 3.0\nstates 1\n\
+            a 0\nb 0\nc 0\nd 0\nend\n",
         why: StateQuantRefusal::RangeEmpty { lo: 8, hi: 7 },
     },
     Refused {
-        text: "dsv-state-space 1\nformat 2 2\nrange -5 -2.1\nstates 1\na 0\nb 0\nc 0\nd 0\nend\n",
+        text: "dsv-state-space 1\nformat 2 2\nrange -5 -2.1\nstates 1\n\
+            a 0\nb 0\nc 0\nd 0\nend\n",
         why: StateQuantRefusal::RangeEmpty { lo: -8, hi: -9 },
     },
     Refused {
-        text: "dsv-state-space 1\nformat 2 2\nrange 1 -1\nstates 1\na 0\nb 0\nc 0\nd 0\nend\n",
+        text: "dsv-state-space 1\nformat 2 2\nrange 1 -1\nstates 1\n\
+            a 0\nb 0\nc 0\nd 0\nend\n",
         why: StateQuantRefusal::RangeEmpty { lo: 4, hi: -4 },
     },
 ];
