@@ -2,7 +2,7 @@
 //
 // Lyapunov's direct method for x' = A x in words: with q = 2^frac_bits the step is A divided by q,
 // so that what the form P loses in a step is q^2 P - A^T P A, in whole numbers.
-ghost use Rattle.std.specs.Prelude.{◌≡◌, ◌<◌, ◌≤◌, ◌^◌, ℕ, length, pos, neg_ℤ, IfOk, OnOk};
+ghost use Rattle.std.specs.Prelude.{◌≡◌, ◌<◌, ◌≤◌, ◌^◌, ℕ, length, pos, IfOk, OnOk};
 ghost use Rattle.std.specs.Prelude.{slice_index_or, min, max, true};
 ghost use Rattle.dsv_algebra.specs.Vectors.{matrix_of};
 ghost use Rattle.dsv_forms.specs.Poly.{greatest_order};
@@ -18,31 +18,15 @@ ghost use Rattle.dsv_state_space.specs.StateView.{states};
 use crate::system::StateSystem;
 use dsv_algebra::NarrowInteger;
 use dsv_forms::{
-    Falls, Form, FormRefusal, GREATEST_ORDER, OfferPart, check_definite, sum_with_product,
+    Falls, Form, FormRefusal, GREATEST_ORDER, OfferPart, check_definite, negation, number_of,
+    or_too_wide, sum_with_product,
 };
-
-/// A number that is too wide, in place of one that can't be had.
-const TOO_WIDE: i128 = 1 << 126;
 
 /// A place of a form.
 #[derive(Clone, Copy)]
 pub(crate) struct Corner {
     pub(crate) row: usize,
     pub(crate) column: usize,
-}
-
-/// The number itself.
-fn number_of(number: &i64) -> NarrowInteger
-    ensures { result ≡ number.now }
-{
-    NarrowInteger::from(*number)
-}
-
-/// The number with the other sign.
-fn negation(number: &i64) -> NarrowInteger
-    ensures { result ≡ neg_ℤ number.now }
-{
-    NarrowInteger::from(-i128::from(*number))
 }
 
 /// The word of the number 1, whether or not it is a word of the format.
@@ -141,10 +125,7 @@ fn entry_or_too_wide(system: &StateSystem, form: &Form, at: Corner) -> i128
     ensures { result ≡ or_too_wide (loss_sum (states system.now) (one_of system.now)
         (matrix_of system.now.a) (matrix_of form.now.rows) at.row at.column) }
 {
-    match loss_entry(system, form, at) {
-        Some(found) => found.get(),
-        None => TOO_WIDE,
-    }
+    or_too_wide(loss_entry(system, form, at))
 }
 
 /// A row of what the form loses in a step.
