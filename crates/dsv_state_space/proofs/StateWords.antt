@@ -1,9 +1,9 @@
 -- The words of a state file's rows, one row after another.
-use Rattle.std.proofs.Common.{◌≡◌, ℕ, suc, ◌+◌, ◌<◌, ◌≤◌, List, [], ◌∷◌, ◌++◌, length, take, drop, map, get_or, refl, sym, ap, subst, ◌∙◌, arith, zero-add, add-one, drop-cons, Result, Ok, Err}
+use Rattle.std.proofs.Common.{◌≡◌, ℕ, suc, ◌+◌, ◌<◌, ◌≤◌, List, [], ◌∷◌, ◌++◌, length, take, drop, map, get_or, refl, sym, ap, subst, ◌∙◌, arith, zero-add, add-one, append_assoc, drop-cons, Result, Ok, Err}
 use Rattle.std.proofs.Math.IntN.{ℤ, pos}
 use Rattle.std.specs.Prelude.{slice_index_or}
 use Rattle.std.specs.List.{All}
-use Rattle.std.proofs.lemmas.List.{map-append, take_more, take_all, drop_all}
+use Rattle.std.proofs.lemmas.List.{append-nil, map-append, take_more, take_all, drop_all}
 use Rattle.std.proofs.lemmas.List.Elements.{All-nil, All-cons, All-head, All-tail, All-weaker, All-from_get_or}
 use Rattle.dsv_fraction.specs.Ratio.{Ratio, zero as nought}
 use Rattle.dsv_text.specs.Stages.{◌>>=◌}
@@ -26,24 +26,45 @@ words_meant f qs ws h = record {
 }
 
 -- ---- a row more
+-- what the words so far come to with those of the rows from row i on
+abbrev pub rows_after : Format → ℕ → List (List Ratio) → List (List ℤ) → Result (List (List ℤ)) StateQuantRefusal
+rows_after f i rows out = rows_words f i rows >>= λ more. Ok (out ++ more)
+
+pub rows_after-none : (f : Format) (i : ℕ) (rows : List (List Ratio)) → rows_after f i rows [] ≡ rows_words f i rows
+rows_after-none f i rows = itself (rows_words f i rows)
+  where
+    itself : (o : Result (List (List ℤ)) StateQuantRefusal) → (o >>= λ more. Ok ([] ++ more)) ≡ o
+    itself (Ok more) = refl
+    itself (Err why) = refl
+
+rows_after-words : (f : Format) (i : ℕ) (rows : List (List Ratio)) (out : List (List ℤ)) (w : List ℤ)
+    → ((rows_words f i rows >>= λ more. Ok (w ∷ more)) >>= λ more. Ok (out ++ more)) ≡ rows_after f i rows (out ++ w ∷ [])
+rows_after-words f i rows out w = moved (rows_words f i rows) out w
+  where
+    moved : (o : Result (List (List ℤ)) StateQuantRefusal) (out : List (List ℤ)) (w : List ℤ) → ((o >>= λ more. Ok (w ∷ more)) >>= λ more. Ok (out ++ more)) ≡ (o >>= λ more. Ok ((out ++ w ∷ []) ++ more))
+    moved (Ok more) out w = ap Ok (sym (append_assoc out (w ∷ []) more))
+    moved (Err why) out w = refl
+
 one_row : {R : Type 0} (g : R → List Ratio) (f : Format) (rows : List R) (i : ℕ) (row : R) (out : List (List ℤ)) → i < length rows → row ≡ get_or rows i row
-    → rows_words f i (map g (drop i rows)) out ≡ (lane_words f (lane.Row i) (g row) >>= λ words. rows_words f (i + 1) (map g (drop (i + 1) rows)) (out ++ words ∷ []))
+    → rows_after f i (map g (drop i rows)) out ≡ ((lane_words f (lane.Row i) (g row) >>= λ words. rows_words f (i + 1) (map g (drop (i + 1) rows)) >>= λ more. Ok (words ∷ more)) >>= λ more. Ok (out ++ more))
 one_row g f rows i row out h is =
     let split : drop i rows ≡ row ∷ drop (i + 1) rows = drop-cons rows i row h ∙ ap (λ x. x ∷ drop (suc i) rows) (sym is) ∙ ap (λ m. row ∷ drop m rows) (sym (add-one i)) in
-    ap (λ rs. rows_words f i (map g rs) out) split
+    ap (λ rs. rows_after f i (map g rs) out) split
 
 pub rows_step : {R : Type 0} (g : R → List Ratio) (f : Format) (rows : List R) (i : ℕ) (row : R) (out : List (List ℤ)) (w : List ℤ) (o : Result (List ℤ) StateQuantRefusal) → i < length rows → row ≡ get_or rows i row
-    → o ≡ lane_words f (lane.Row i) (g row) → o ≡ Ok w → rows_words f (i + 1) (map g (drop (i + 1) rows)) (out ++ w ∷ []) ≡ rows_words f i (map g (drop i rows)) out
+    → o ≡ lane_words f (lane.Row i) (g row) → o ≡ Ok w → rows_after f (i + 1) (map g (drop (i + 1) rows)) (out ++ w ∷ []) ≡ rows_after f i (map g (drop i rows)) out
 rows_step g f rows i row out w o h is given fine =
-    sym (one_row g f rows i row out h is ∙ ap (λ m. m >>= λ words. rows_words f (i + 1) (map g (drop (i + 1) rows)) (out ++ words ∷ [])) (sym given ∙ fine))
+    let rest = map g (drop (i + 1) rows) in
+    sym (one_row g f rows i row out h is ∙ ap (λ m. (m >>= λ words. rows_words f (i + 1) rest >>= λ more. Ok (words ∷ more)) >>= λ more. Ok (out ++ more)) (sym given ∙ fine) ∙ rows_after-words f (i + 1) rest out w)
 
 pub rows_stop : {R : Type 0} (g : R → List Ratio) (f : Format) (rows : List R) (i : ℕ) (row : R) (out : List (List ℤ)) (why : StateQuantRefusal) (o : Result (List ℤ) StateQuantRefusal) → i < length rows → row ≡ get_or rows i row
-    → o ≡ lane_words f (lane.Row i) (g row) → o ≡ Err why → rows_words f i (map g (drop i rows)) out ≡ Err why
+    → o ≡ lane_words f (lane.Row i) (g row) → o ≡ Err why → rows_after f i (map g (drop i rows)) out ≡ Err why
 rows_stop g f rows i row out why o h is given bad =
-    one_row g f rows i row out h is ∙ ap (λ m. m >>= λ words. rows_words f (i + 1) (map g (drop (i + 1) rows)) (out ++ words ∷ [])) (sym given ∙ bad)
+    let rest = map g (drop (i + 1) rows) in
+    one_row g f rows i row out h is ∙ ap (λ m. (m >>= λ words. rows_words f (i + 1) rest >>= λ more. Ok (words ∷ more)) >>= λ more. Ok (out ++ more)) (sym given ∙ bad)
 
-pub rows_end : {R : Type 0} (g : R → List Ratio) (f : Format) (rows : List R) (i : ℕ) (out : List (List ℤ)) → length rows ≤ i → rows_words f i (map g (drop i rows)) out ≡ Ok out
-rows_end g f rows i out h = ap (λ rs. rows_words f i (map g rs) out) (drop_all i rows h)
+pub rows_end : {R : Type 0} (g : R → List Ratio) (f : Format) (rows : List R) (i : ℕ) (out : List (List ℤ)) → length rows ≤ i → rows_after f i (map g (drop i rows)) out ≡ Ok out
+rows_end g f rows i out h = ap (λ rs. rows_after f i (map g rs) out) (drop_all i rows h) ∙ ap Ok (append-nil out)
 
 -- ---- what they mean
 meant_push : (f : Format) (ms : List (List Ratio)) (ws : List (List ℤ)) (m : List Ratio) (w : List ℤ) → AreRowsOf f ms ws → AreWordsOf f m w → AreRowsOf f (ms ++ m ∷ []) (ws ++ w ∷ [])

@@ -61,12 +61,14 @@ in_lane at (Err why) = Err (state_refusal at why)
 abbrev pub lane_words : Format → Lane → List Ratio → Result (List ℤ) StateQuantRefusal
 lane_words format at numbers = in_lane at (b_words format numbers)
 
--- the words of the rows of A from this one on, after those of the rows before
-abbrev pub rows_words : Format → ℕ → List (List Ratio) → List (List ℤ)
+-- the words of these rows of A, of which the first is row i
+abbrev pub rows_words : Format → ℕ → List (List Ratio)
     → Result (List (List ℤ)) StateQuantRefusal
-rows_words format i [] out = Ok out
-rows_words format i (row ∷ rows) out = lane_words format (lane.Row i) row
-    >>= λ words. rows_words format (i + 1) rows (out ++ words ∷ [])
+rows_words format i [] = Ok []
+rows_words format i (row ∷ rows) =
+    lane_words format (lane.Row i) row >>= λ words.
+    rows_words format (i + 1) rows >>= λ more.
+    Ok (words ∷ more)
 
 abbrev pub direct_word : Format → Ratio → Result ℤ StateQuantRefusal
 direct_word format d = lane_words format lane.Direct (d ∷ [])
@@ -78,7 +80,7 @@ inputs_of format min max = in_lane lane.Range (range_of format min max)
 -- ---- all of it: A row by row, b, c, d, and then the range
 abbrev pub state_words_of : StateFileView → Format → Result StateView StateQuantRefusal
 state_words_of file format =
-    rows_words format 0 file.a [] >>= λ a.
+    rows_words format 0 file.a >>= λ a.
     lane_words format lane.Input file.b >>= λ b.
     lane_words format lane.Output file.c >>= λ c.
     direct_word format file.d >>= λ d.

@@ -37,7 +37,7 @@ pub(crate) fn lane_words(
 pub(crate) fn rows_words(format: Format, rows: &[FracList]) -> Result<WordRows, StateQuantRefusal>
     requires many { length rows.now ≤ most_states }
     requires short { All (λ row. length row.items ≤ most_states) rows.now }
-    ensures value { let meant = rows_words format 0 (map (λ row. row.items) rows.now) [] in
+    ensures value { let meant = rows_words format 0 (map (λ row. row.items) rows.now) in
         MatchResult result (λ words. meant ≡ Ok words.items) (λ why. meant ≡ Err why) }
     ensures meaning { IfOk result
         (λ words. AreRowsOf format (map (λ row. row.items) rows.now) words.items) }

@@ -1,5 +1,5 @@
-use Rattle.std.proofs.Common.{◌≡◌, ◌≤◌, length, Err, sym, ◌∙◌, rules}
-use Rattle.dsv_state_space.proofs.StateWords.{rows_step, rows_stop, rows_end, meant_more, meant_all}
+use Rattle.std.proofs.Common.{◌≡◌, ◌≤◌, length, map, Err, sym, ◌∙◌, rules}
+use Rattle.dsv_state_space.proofs.StateWords.{rows_after-none, rows_step, rows_stop, rows_end, meant_more, meant_all}
 use Rattle.dsv_state_space.proofs.quantisation.rows_words.Goals as goal
 
 pub returns-in_err-lane_words-clause-value : goal.returns-in_err-lane_words-clause-value
@@ -8,7 +8,7 @@ returns-in_err-lane_words-clause-value c =
     let gone : c.from_residual.result ≡ Err why = search rules in
     let given = rw c.as_slice.ensures.value at c.lane_words.ensures.value in
     rw gone
-    (sym c.loop-i.invariant.same
+    (sym (rows_after-none c.args.format 0 (map (λ row. row.items) c.args.rows.now)) ∙ sym c.loop-i.invariant.same
     ∙ rows_stop (λ row. row.items) c.args.format c.args.rows.now c.loop-i.i c.index-rows-i.result c.loop-i.words.items why c.lane_words.result (search rules) c.index-rows-i.is given c.in_err-lane_words.was)
 
 pub loop-i-preserved : goal.loop-i-preserved
@@ -30,7 +30,8 @@ loop-i-preserved c =
 pub returns-clause-value : goal.returns-clause-value
 returns-clause-value c =
     let over : length c.args.rows.now ≤ c.loop-i.i = search rules in
-    sym c.loop-i.invariant.same ∙ rows_end (λ row. row.items) c.args.format c.args.rows.now c.loop-i.i c.loop-i.words.items over
+    sym (rows_after-none c.args.format 0 (map (λ row. row.items) c.args.rows.now)) ∙ sym c.loop-i.invariant.same
+    ∙ rows_end (λ row. row.items) c.args.format c.args.rows.now c.loop-i.i c.loop-i.words.items over
 
 pub returns-clause-meaning : goal.returns-clause-meaning
 returns-clause-meaning c =
