@@ -1,5 +1,5 @@
 -- How a state file becomes words, and the first reason for which it can't.
-use Rattle.std.specs.Prelude.{◌≡◌, ℕ, ◌+◌, List, [], ◌∷◌, ◌++◌, Result, Ok, Err, ℤ, pos}
+use Rattle.std.specs.Prelude.{◌≡◌, ℕ, ◌+◌, List, [], ◌∷◌, Result, Ok, Err, ℤ, pos}
 use Rattle.std.specs.Prelude.{slice_index_or}
 use Rattle.dsv_text.specs.Stages.{◌>>=◌}
 use Rattle.dsv_fraction.specs.Ratio.{Ratio}

@@ -1,5 +1,5 @@
 // State files made words.
-ghost use Rattle.std.specs.Prelude.{◌≡◌, ◌≤◌, [], length, map, MatchResult, Ok, Err, IfOk};
+ghost use Rattle.std.specs.Prelude.{◌≡◌, ◌≤◌, length, map, MatchResult, Ok, Err, IfOk};
 ghost use Rattle.std.specs.List.{All};
 ghost use Rattle.dsv_quantiser.specs.Meaning.{IsWordOf, IsRangeOf};
 ghost use Rattle.dsv_state_space.specs.Meaning.{AreWordsOf, AreRowsOf, IsInStateWords};
