@@ -8,11 +8,15 @@ use Rattle.dsv_command.specs.Jobs.{Asked, decides, checks_time, writes, searches
 use Rattle.dsv_command.specs.Jobs.{measures_gain, simulates}
 use Rattle.dsv_command.specs.Jobs as jobs
 use Rattle.dsv_command.specs.Requests as requests
-use Rattle.dsv_command.specs.Requests.{on_file, on_cascade, checks, generates}
+use Rattle.dsv_command.specs.Requests.{on_file, on_cascade, on_states, checks, generates}
+use Rattle.dsv_command.specs.States as states
+use Rattle.dsv_command.specs.declared.states.StateJob.{StateJob}
+use Rattle.dsv_command.specs.declared.states.StateTask.{StateTask}
+use Rattle.dsv_command.specs.declared.states.StateTask.TheVariants as of_states
 use Rattle.dsv_command.specs.declared.job.Job.{Job}
 use Rattle.dsv_command.specs.declared.request.Request.{Request}
 use Rattle.dsv_command.specs.declared.request.Request.TheVariants.{OnFile, OnCascade}
-use Rattle.dsv_command.specs.declared.request.Request.TheVariants.{Check, Generate}
+use Rattle.dsv_command.specs.declared.request.Request.TheVariants.{OnStates, Check, Generate}
 use Rattle.dsv_command.specs.declared.task.Task.{Task}
 use Rattle.dsv_command.specs.declared.task.Task.TheVariants.{Decide, CheckTime}
 use Rattle.dsv_command.specs.declared.task.Task.TheVariants.{WriteFormula, Search, SeekSet}
@@ -51,8 +55,25 @@ asked_cascade job = record {
   design = job.design;
 }
 
+abbrev pub asked_state_task : StateTask → states.StateTask
+asked_state_task (of_states.CheckForm name) = states.checks_form name.now
+asked_state_task (of_states.SeekForm certified) = states.seeks_form certified
+asked_state_task (of_states.Search question budget) =
+    states.searches_states question.property question.samples budget.conflicts
+asked_state_task of_states.MeasureGain = states.measures_states
+asked_state_task (of_states.Simulate inputs) = states.simulates_states inputs.items
+
+abbrev pub asked_states : StateJob → states.AskedStates
+asked_states job = record {
+  file = job.file.now;
+  task = asked_state_task job.task;
+  rounding = job.rounding;
+  overflow = job.overflow;
+}
+
 abbrev pub requested_of : Request → requests.Request
 requested_of (OnFile job) = on_file (asked_of job)
 requested_of (OnCascade job) = on_cascade (asked_cascade job)
+requested_of (OnStates job) = on_states (asked_states job)
 requested_of (Check check) = checks check.file.now check.certificate.now
 requested_of (Generate g) = generates g.seed g.count

@@ -4,8 +4,11 @@ use Rattle.std.specs.Prelude.{if◌then◌else◌, option_and_then, ℤ}
 use Rattle.std.specs.List.{list_any}
 use Rattle.dsv_text.specs.Digits.{short_number}
 use Rattle.dsv_names.specs.declared.design.Design.{Design}
+use Rattle.dsv_names.specs.declared.realisation.Realisation.{Realisation}
 use Rattle.dsv_names.specs.declared.realisation.Realisation.TheVariants.{Dfi}
+use Rattle.dsv_names.specs.declared.rounding.Rounding.{Rounding}
 use Rattle.dsv_names.specs.declared.rounding.Rounding.TheVariants.{Floor}
+use Rattle.dsv_names.specs.declared.overflow_mode.OverflowMode.{OverflowMode}
 use Rattle.dsv_names.specs.declared.overflow_mode.OverflowMode.TheVariants.{Wrap}
 use Rattle.dsv_names.specs.declared.property.RunProperty.{RunProperty}
 use Rattle.dsv_names.specs.declared.property.RunProperty.TheVariants.{Overflow, LimitCycle}
@@ -60,14 +63,23 @@ choice_or value_named default None = Some default
 choice_or value_named default (Some name) = value_named name
 
 -- DFI, FLOOR and WRAPAROUND are the defaults
+abbrev pub realisation_of : List PartView → Option Realisation
+realisation_of parts =
+    choice_or (value_named realisation_name realisations) Dfi (value_of (codes "realization") parts)
+
+abbrev pub rounding_of : List PartView → Option Rounding
+rounding_of parts =
+    choice_or (value_named rounding_name roundings) Floor (value_of (codes "rounding") parts)
+
+abbrev pub overflow_of : List PartView → Option OverflowMode
+overflow_of parts = choice_or (value_named overflow_mode_name overflow_modes) Wrap
+    (value_of (codes "overflow-mode") parts)
+
 abbrev pub design_of : List PartView → Option Design
 design_of parts =
-    choice_or (value_named realisation_name realisations) Dfi (value_of (codes "realization") parts)
-    >>= λ realisation.
-    choice_or (value_named rounding_name roundings) Floor (value_of (codes "rounding") parts)
-    >>= λ rounding.
-    choice_or (value_named overflow_mode_name overflow_modes) Wrap
-    (value_of (codes "overflow-mode") parts) >>= λ overflow.
+    realisation_of parts >>= λ realisation.
+    rounding_of parts >>= λ rounding.
+    overflow_of parts >>= λ overflow.
     Some (record { realisation = realisation; rounding = rounding; overflow = overflow })
 
 -- an option of this name is given

@@ -11,4 +11,5 @@ pub mod Reading
 pub mod Requests
 pub mod Rules
 pub mod Shapes
+pub mod States
 pub mod Views

@@ -15,6 +15,9 @@ command_options =
     (codes "check", true) ∷
     (codes "simulate", true) ∷
     (codes "sections", true) ∷
+    (codes "state-space", true) ∷
+    (codes "form", true) ∷
+    (codes "lyapunov", false) ∷
     (codes "realization", true) ∷
     (codes "rounding", true) ∷
     (codes "overflow-mode", true) ∷

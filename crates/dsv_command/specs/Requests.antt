@@ -10,6 +10,8 @@ use Rattle.dsv_command.specs.Jobs.{has_design_option, number_up_to, job_of_parts
 use Rattle.dsv_command.specs.Options.{command_options}
 use Rattle.dsv_command.specs.Parts.{PartView, file_of, value_of, has_empty}
 use Rattle.dsv_command.specs.Reading.{parts_of}
+use Rattle.dsv_command.specs.States.{AskedStates, has_form_option, has_state_option}
+use Rattle.dsv_command.specs.States.{states_of_parts}
 
 -- what the command is asked for
 pub data Request : Type 0 where
@@ -17,6 +19,8 @@ pub data Request : Type 0 where
   on_file : Asked → Request
   -- a job for a cascade, the controllers in several files in series
   on_cascade : AskedCascade → Request
+  -- a job for the state-space controller in a file
+  on_states : AskedStates → Request
   -- the certificate in a file is checked against the controller in the file that is named first
   checks : List ℕ → List ℕ → Request
   -- controllers of a seed are generated, so many, and what is found of them is counted
@@ -36,8 +40,8 @@ controllers_of parts = choice_or (number_up_to most_controllers) default_control
 -- checked
 abbrev pub has_task_option : List PartView → Bool
 has_task_option parts = is_given parts (codes "property") || (is_given parts (codes "simulate")
-    || (is_given parts (codes "sections")
-    || (has_verdict_option parts || has_design_option parts)))
+    || (is_given parts (codes "sections") || (has_state_option parts
+    || (has_verdict_option parts || has_design_option parts))))
 
 -- something is given that belongs to a controller in a file
 abbrev pub has_job_option : List PartView → Bool
@@ -56,9 +60,16 @@ generation_of parts text = if has_empty parts then None
     else (seed_of text >>= λ seed. controllers_of parts >>= λ count. Some (generates seed count))
 
 -- the job for a controller, or for a cascade where later sections are named
+abbrev pub controllers_request : List PartView → Option (List ℕ) → Option Request
+controllers_request parts None = option_map on_file (job_of_parts parts)
+controllers_request parts (Some names) = option_map on_cascade (cascade_of_parts parts names)
+
+-- the job for a state-space controller where the file of one is named, and else for controllers in
+-- files, with which no form goes
 abbrev pub job_request : List PartView → Option (List ℕ) → Option Request
-job_request parts None = option_map on_file (job_of_parts parts)
-job_request parts (Some names) = option_map on_cascade (cascade_of_parts parts names)
+job_request parts (Some file) = option_map on_states (states_of_parts parts file)
+job_request parts None = if has_form_option parts then None
+    else controllers_request parts (value_of (codes "sections") parts)
 
 -- a seed makes it a generation, and else there is no number of controllers: a certificate's name
 -- makes it a check, and else it is a job
@@ -67,7 +78,7 @@ abbrev pub request_by : List PartView → Option (List ℕ) → Option (List ℕ
 request_by parts (Some seed) count certificate = generation_of parts seed
 request_by parts None (Some count) certificate = None
 request_by parts None None (Some name) = check_of parts name
-request_by parts None None None = job_request parts (value_of (codes "sections") parts)
+request_by parts None None None = job_request parts (value_of (codes "state-space") parts)
 
 abbrev pub request_of_parts : List PartView → Option Request
 request_of_parts parts = request_by parts (value_of (codes "generate") parts)
@@ -82,6 +93,7 @@ abbrev pub job_in : Option Request → Option Asked
 job_in None = None
 job_in (Some (on_file job)) = Some job
 job_in (Some (on_cascade job)) = None
+job_in (Some (on_states job)) = None
 job_in (Some (checks file name)) = None
 job_in (Some (generates seed count)) = None
 

@@ -14,6 +14,7 @@ use Rattle.dsv_names.specs.declared.overflow_mode.OverflowMode.TheVariants.{Wrap
 use Rattle.dsv_names.specs.declared.property.RunProperty.{RunProperty}
 use Rattle.dsv_names.specs.declared.property.RunProperty.TheVariants.{Overflow}
 use Rattle.dsv_names.specs.declared.property.RootProperty.{RootProperty}
+use Rattle.dsv_names.specs.declared.property.RootProperty.TheVariants.{Stability}
 use Rattle.dsv_names.specs.declared.property.Property.{Property}
 use Rattle.dsv_names.specs.declared.property.Property.TheVariants.{OfRuns, OfRoots, Timing}
 use Rattle.dsv_names.specs.OverflowModes.{overflow_mode_name}
@@ -30,8 +31,11 @@ use Rattle.dsv_command.specs.Limits.{most_controllers, default_controllers}
 use Rattle.dsv_command.specs.Options.{command_options}
 use Rattle.dsv_command.specs.Parts.{PartView, file, flag, choice, key_of}
 use Rattle.dsv_command.specs.Parts.{has_key, file_of, value_of, has_empty}
-use Rattle.dsv_command.specs.Requests.{Request, on_file, on_cascade, checks, generates}
+use Rattle.dsv_command.specs.Requests.{Request, on_file, on_cascade, on_states, checks}
+use Rattle.dsv_command.specs.Requests.{generates}
 use Rattle.dsv_command.specs.Shapes.{dash, is_equals}
+use Rattle.dsv_command.specs.States.{StateTask, checks_form, seeks_form, searches_states}
+use Rattle.dsv_command.specs.States.{measures_states, simulates_states, AskedStates}
 
 -- ---- arguments and the parts that they give
 
@@ -234,12 +238,23 @@ abbrev pub IsCount : List PartView → ℕ → Type 0
 IsCount parts n =
     IsNumber most_controllers default_controllers (value_of (codes "count") parts) n
 
+-- it isn't said where the form of a state-space controller comes from
+pub record HasNoFormOption (parts : List PartView) : Type 0 where
+  pub form : is_given parts (codes "form") ≡ false
+  pub lyapunov : is_given parts (codes "lyapunov") ≡ false
+
+-- none of the options is given that go with state-space controllers alone
+pub record HasNoStateOption (parts : List PartView) : Type 0 where
+  pub file : is_given parts (codes "state-space") ≡ false
+  pub form : HasNoFormOption parts
+
 -- none of the options is given that say what is done with a controller, but that a certificate may
 -- be checked
 pub record HasNoTaskOption (parts : List PartView) : Type 0 where
   pub property : is_given parts (codes "property") ≡ false
   pub inputs : is_given parts (codes "simulate") ≡ false
   pub sections : is_given parts (codes "sections") ≡ false
+  pub states : HasNoStateOption parts
   pub verdict : HasNoVerdictOption parts
   pub design : HasNoDesignOption parts
 
@@ -274,6 +289,8 @@ pub record IsJobAlone (parts : List PartView) (asked : Asked) : Type 0 where
   pub no_seed : value_of (codes "generate") parts ≡ None
   pub no_count : value_of (codes "count") parts ≡ None
   pub no_check : value_of (codes "check") parts ≡ None
+  pub no_states : value_of (codes "state-space") parts ≡ None
+  pub no_form : HasNoFormOption parts
   pub no_sections : value_of (codes "sections") parts ≡ None
 
 -- the text of names, with a comma between each and the next
@@ -313,11 +330,52 @@ pub record IsCascadeOf (parts : List PartView) (asked : AskedCascade) : Type 0 w
   pub no_seed : value_of (codes "generate") parts ≡ None
   pub no_count : value_of (codes "count") parts ≡ None
   pub no_check : value_of (codes "check") parts ≡ None
+  pub no_states : value_of (codes "state-space") parts ≡ None
+  pub no_form : HasNoFormOption parts
+
+-- neither is said where a form comes from, nor that a certificate is written
+pub record HasNoFormOrCertificate (parts : List PartView) : Type 0 where
+  pub no_form : HasNoFormOption parts
+  pub no_certificate : is_given parts (codes "certificate") ≡ false
+
+-- The task for a state-space controller: it would be one for a controller in a file. With stability
+-- alone a form is named, or is to be sought, and a certificate goes only with what is sought.
+pub data IsStateTask : List PartView → StateTask → Type 0 where
+  named_form : (parts : List PartView) (name : List ℕ) → IsTask parts (decides Stability false)
+      → value_of (codes "form") parts ≡ Some name → is_given parts (codes "lyapunov") ≡ false
+      → is_given parts (codes "certificate") ≡ false → IsStateTask parts (checks_form name)
+  sought_form : (parts : List PartView) → IsTask parts (decides Stability false)
+      → value_of (codes "form") parts ≡ None → is_given parts (codes "lyapunov") ≡ true
+      → IsStateTask parts (seeks_form (is_given parts (codes "certificate")))
+  search : (parts : List PartView) (p : RunProperty) (samples conflicts : ℕ)
+      → IsTask parts (searches p samples conflicts) → HasNoFormOrCertificate parts
+      → IsStateTask parts (searches_states p samples conflicts)
+  gain : (parts : List PartView) → IsTask parts measures_gain → HasNoFormOrCertificate parts
+      → IsStateTask parts measures_states
+  simulation : (parts : List PartView) (inputs : List ℤ) → IsTask parts (simulates inputs)
+      → HasNoFormOrCertificate parts → IsStateTask parts (simulates_states inputs)
+
+-- The job for a state-space controller: its file is named in place of FILE. It has no realisation
+-- and no sections; no text is empty, and no certificate is to be checked.
+pub record IsStateJobOf (parts : List PartView) (asked : AskedStates) : Type 0 where
+  pub given : value_of (codes "state-space") parts ≡ Some asked.file
+  pub filled : has_empty parts ≡ false
+  pub no_file : file_of parts ≡ None
+  pub no_realisation : is_given parts (codes "realization") ≡ false
+  pub no_sections : is_given parts (codes "sections") ≡ false
+  pub task : IsStateTask parts asked.task
+  pub rounding : IsChosen rounding_name Floor (value_of (codes "rounding") parts) asked.rounding
+  pub overflow : IsChosen overflow_mode_name Wrap (value_of (codes "overflow-mode") parts)
+      asked.overflow
+  pub no_seed : value_of (codes "generate") parts ≡ None
+  pub no_count : value_of (codes "count") parts ≡ None
+  pub no_check : value_of (codes "check") parts ≡ None
 
 -- what these parts ask for
 abbrev pub IsRequestOf : List PartView → Request → Type 0
 IsRequestOf parts (on_file asked) = IsJobAlone parts asked
 IsRequestOf parts (on_cascade asked) = IsCascadeOf parts asked
+IsRequestOf parts (on_states asked) = IsStateJobOf parts asked
 IsRequestOf parts (checks controller certificate) = IsCheckOf parts controller certificate
 IsRequestOf parts (generates seed count) = IsGenerationOf parts seed count
 
