@@ -3,7 +3,9 @@ use Rattle.std.proofs.Common.{◌≡◌, ℕ, ◌≤◌, Bool, true, false, List
 use Rattle.std.proofs.lemmas.Bool.{leb-true, le-leb}
 use Rattle.std.specs.Prelude.{codes, if◌then◌else◌, ◌&&◌, nat_le}
 use Rattle.dsv_names.specs.declared.realisation.Realisation.TheVariants.{Dfi}
+use Rattle.dsv_names.specs.declared.rounding.Rounding.{Rounding}
 use Rattle.dsv_names.specs.declared.rounding.Rounding.TheVariants.{Floor}
+use Rattle.dsv_names.specs.declared.overflow_mode.OverflowMode.{OverflowMode}
 use Rattle.dsv_names.specs.declared.overflow_mode.OverflowMode.TheVariants.{Wrap}
 use Rattle.dsv_names.specs.Names.{value_named, AreNames}
 use Rattle.dsv_names.specs.OverflowModes.{overflow_mode_name, overflow_modes}
@@ -20,7 +22,7 @@ use Rattle.dsv_names.specs.declared.design.Design.{Design}
 use Rattle.dsv_command.specs.Limits.{most_number_digits, most_samples, default_samples, most_conflicts, default_conflicts}
 use Rattle.dsv_text.specs.Digits.{short_number}
 use Rattle.dsv_command.specs.Inputs.{inputs_of}
-use Rattle.dsv_command.specs.Jobs.{Task, decides, checks_time, writes, searches, seeks_set, measures_gain, simulates, Asked, ◌>>=◌, choice_or, design_of, is_given, has_search_option, has_run_option, is_by_gain, is_schur_cohn, is_certified, has_verdict_option, has_design_option, number_up_to, samples_of, conflicts_of, run_task, unbounded_task, gain_task, search_task, property_task, task_by, task_of, job_of_parts}
+use Rattle.dsv_command.specs.Jobs.{Task, decides, checks_time, writes, searches, seeks_set, measures_gain, simulates, Asked, ◌>>=◌, choice_or, realisation_of, rounding_of, overflow_of, design_of, is_given, has_search_option, has_run_option, is_by_gain, is_schur_cohn, is_certified, has_verdict_option, has_design_option, number_up_to, samples_of, conflicts_of, run_task, unbounded_task, gain_task, search_task, property_task, task_by, task_of, job_of_parts}
 use Rattle.dsv_command.specs.Parts.{PartView, file_of, value_of, has_empty}
 use Rattle.dsv_command.specs.Rules.{IsTask, GivesProperty, GivesRuns, HasNoSearchOption, HasNoRunOption, HasNoVerdictOption, HasNoDesignOption, IsNumberUpTo, IsNumber, IsChosen, IsDesign, IsJobOf}
 use Rattle.dsv_command.proofs.InputLaws.{inputs_read, inputs_found}
@@ -40,11 +42,16 @@ chosen_read : {A : Type 0} (name : A → List ℕ) (values : List A) (default : 
 chosen_read name values default None v names h = ap Some (sym h)
 chosen_read name values default (Some text) v names h = ap (value_named name values) h ∙ names.found v
 
+pub rounding_read : (parts : List PartView) (r : Rounding) → IsChosen rounding_name Floor (value_of (codes "rounding") parts) r → rounding_of parts ≡ Some r
+rounding_read parts r = chosen_read rounding_name roundings Floor (value_of (codes "rounding") parts) r are_names-roundings
+
+pub overflow_read : (parts : List PartView) (m : OverflowMode) → IsChosen overflow_mode_name Wrap (value_of (codes "overflow-mode") parts) m → overflow_of parts ≡ Some m
+overflow_read parts m = chosen_read overflow_mode_name overflow_modes Wrap (value_of (codes "overflow-mode") parts) m are_names-overflow_modes
+
 design_read : (parts : List PartView) (d : Design) → IsDesign parts d → design_of parts ≡ Some d
 design_read parts d h =
     rw (chosen_read realisation_name realisations Dfi (value_of (codes "realization") parts) d.realisation are_names-realisations h.realisation)
-    (rw (chosen_read rounding_name roundings Floor (value_of (codes "rounding") parts) d.rounding are_names-roundings h.rounding)
-    (rw (chosen_read overflow_mode_name overflow_modes Wrap (value_of (codes "overflow-mode") parts) d.overflow are_names-overflow_modes h.overflow) refl))
+    (rw (rounding_read parts d.rounding h.rounding) (rw (overflow_read parts d.overflow h.overflow) refl))
 
 -- no option of a search is there, one after another
 no_search_given : (parts : List PartView) → HasNoSearchOption parts → has_search_option parts ≡ false
@@ -75,7 +82,7 @@ property_read parts p t g e = rw (g.name, g.no_inputs) (ap (λ x. x >>= property
 runs_read : (parts : List PartView) (p : RunProperty) (t : Task) → GivesRuns parts p false → search_task parts p ≡ Some t → task_of parts ≡ Some t
 runs_read parts p t g e = property_read parts (OfRuns p) t g.given (rw (g.no_form, g.gain) e)
 
-task_read : (parts : List PartView) (t : Task) → IsTask parts t → task_of parts ≡ Some t
+pub task_read : (parts : List PartView) (t : Task) → IsTask parts t → task_of parts ≡ Some t
 task_read parts t (IsTask.roots ps p g none) = property_read ps (OfRoots p) (decides p (is_schur_cohn ps)) g (rw (none_given ps none) refl)
 task_read parts t (IsTask.timing ps g none) = property_read ps Timing checks_time g (rw (no_verdict_given ps none) refl)
 task_read parts t (IsTask.formula ps p samples g b n f c d) =
@@ -101,16 +108,22 @@ chosen_found : {A : Type 0} (name : A → List ℕ) (values : List A) (default :
 chosen_found name values default None v names e = cc
 chosen_found name values default (Some text) v names e = names.only text v e
 
+pub rounding_found : (parts : List PartView) (r : Rounding) → rounding_of parts ≡ Some r → IsChosen rounding_name Floor (value_of (codes "rounding") parts) r
+rounding_found parts r = chosen_found rounding_name roundings Floor (value_of (codes "rounding") parts) r are_names-roundings
+
+pub overflow_found : (parts : List PartView) (m : OverflowMode) → overflow_of parts ≡ Some m → IsChosen overflow_mode_name Wrap (value_of (codes "overflow-mode") parts) m
+overflow_found parts m = chosen_found overflow_mode_name overflow_modes Wrap (value_of (codes "overflow-mode") parts) m are_names-overflow_modes
+
 design_found : (parts : List PartView) (d : Design) → design_of parts ≡ Some d → IsDesign parts d
 design_found parts d e =
-    let a = unbind (choice_or (value_named realisation_name realisations) Dfi (value_of (codes "realization") parts)) _ d e in
-    let b = unbind (choice_or (value_named rounding_name roundings) Floor (value_of (codes "rounding") parts)) _ d a.second in
-    let c = unbind (choice_or (value_named overflow_mode_name overflow_modes) Wrap (value_of (codes "overflow-mode") parts)) _ d b.second in
+    let a = unbind (realisation_of parts) _ d e in
+    let b = unbind (rounding_of parts) _ d a.second in
+    let c = unbind (overflow_of parts) _ d b.second in
     let same : record { realisation = a.value; rounding = b.value; overflow = c.value } ≡ d = let s = c.second in cc in
     subst (IsDesign parts) same (record {
       realisation = chosen_found realisation_name realisations Dfi (value_of (codes "realization") parts) a.value are_names-realisations a.first;
-      rounding = chosen_found rounding_name roundings Floor (value_of (codes "rounding") parts) b.value are_names-roundings b.first;
-      overflow = chosen_found overflow_mode_name overflow_modes Wrap (value_of (codes "overflow-mode") parts) c.value are_names-overflow_modes c.first;
+      rounding = rounding_found parts b.value b.first;
+      overflow = overflow_found parts c.value c.first;
     })
 
 -- a number that was chosen is within the limit
@@ -247,7 +260,7 @@ simulation_by parts text t false f e n h =
     let same : simulates b.value ≡ t = let s = b.second in cc in
     subst (IsTask parts) same (IsTask.simulation parts text b.value f (inputs_found text b.value b.first) e (no_verdict_found parts n))
 
-task_found : (parts : List PartView) (t : Task) (x y : Option (List ℕ)) → value_of (codes "property") parts ≡ x → value_of (codes "simulate") parts ≡ y →
+pub task_found : (parts : List PartView) (t : Task) (x y : Option (List ℕ)) → value_of (codes "property") parts ≡ x → value_of (codes "simulate") parts ≡ y →
     task_by parts x y ≡ Some t → IsTask parts t
 task_found parts t (Some name) None e f h =
     let b = unbind (value_named property_name properties name) (property_task parts) t h in

@@ -15,3 +15,4 @@ pub mod NameLemmas
 pub mod PartLaws
 pub mod RequestLaws
 pub mod ShapeLaws
+pub mod StateLaws

@@ -3,6 +3,7 @@ ghost use Rattle.std.specs.Prelude.{◌≡◌, option_map};
 ghost use Rattle.dsv_command.specs.Requests.{has_task_option, check_of, checks};
 
 use crate::arguments::Arguments;
+use crate::states::has_state_option;
 use crate::task::{has_design_option, has_verdict_option};
 
 /// The certificate in a file is checked against the controller in another.
@@ -22,6 +23,7 @@ pub(crate) fn has_task_option(arguments: &Arguments) -> bool
     arguments.is_given("property")
         || arguments.is_given("simulate")
         || arguments.is_given("sections")
+        || has_state_option(arguments)
         || has_verdict_option(arguments)
         || has_design_option(arguments)
 }

@@ -1,6 +1,7 @@
 // A job for the controller in a file.
 ghost use Rattle.std.specs.Prelude.{◌≡◌, option_map};
 ghost use Rattle.dsv_command.specs.Jobs.{job_of_parts, design_of};
+ghost use Rattle.dsv_command.specs.Jobs.{realisation_of, rounding_of, overflow_of};
 ghost use Rattle.dsv_command.specs.Asking.{asked_of};
 
 use crate::arguments::Arguments;
@@ -18,22 +19,43 @@ pub struct Job<'a> {
     pub certified: bool,
 }
 
+/// The realisation that is asked for.
+fn find_realisation(arguments: &Arguments) -> Option<Realisation>
+    ensures { result ≡ realisation_of arguments.now }
+{
+    match arguments.value("realization") {
+        Some(name) => find_named(name.as_bytes()),
+        None => Some(Realisation::Dfi),
+    }
+}
+
+/// The rounding that is asked for.
+pub(crate) fn find_rounding(arguments: &Arguments) -> Option<Rounding>
+    ensures { result ≡ rounding_of arguments.now }
+{
+    match arguments.value("rounding") {
+        Some(name) => find_named(name.as_bytes()),
+        None => Some(Rounding::Floor),
+    }
+}
+
+/// The overflow mode that is asked for.
+pub(crate) fn find_overflow_mode(arguments: &Arguments) -> Option<OverflowMode>
+    ensures { result ≡ overflow_of arguments.now }
+{
+    match arguments.value("overflow-mode") {
+        Some(name) => find_named(name.as_bytes()),
+        None => Some(OverflowMode::Wrap),
+    }
+}
+
 /// How the controller is to be realised.
 fn find_design(arguments: &Arguments) -> Option<Design>
     ensures { result ≡ design_of arguments.now }
 {
-    let realisation = match arguments.value("realization") {
-        Some(name) => find_named(name.as_bytes())?,
-        None => Realisation::Dfi,
-    };
-    let rounding = match arguments.value("rounding") {
-        Some(name) => find_named(name.as_bytes())?,
-        None => Rounding::Floor,
-    };
-    let overflow = match arguments.value("overflow-mode") {
-        Some(name) => find_named(name.as_bytes())?,
-        None => OverflowMode::Wrap,
-    };
+    let realisation = find_realisation(arguments)?;
+    let rounding = find_rounding(arguments)?;
+    let overflow = find_overflow_mode(arguments)?;
     Some(Design {
         realisation,
         rounding,

@@ -12,6 +12,7 @@ mod limits;
 mod options;
 mod question;
 mod request;
+mod states;
 mod task;
 
 pub use cascade::{CascadeJob, CascadeTask, MOST_LATER, SectionNames};
@@ -23,4 +24,5 @@ pub use law::{parts_are_read, requests_are_read};
 pub use limits::{MOST_CONFLICTS, MOST_CONTROLLERS, MOST_SAMPLES};
 pub use question::{Budget, RootQuestion, RunQuestion, Samples};
 pub use request::{Request, read_request};
+pub use states::{StateJob, StateTask};
 pub use task::Task;

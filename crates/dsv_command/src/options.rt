@@ -14,7 +14,7 @@ pub struct CommandOption {
 
 /// The options that the command has. One more stands here and in `specs/Options.antt`; what it asks
 /// for, in the job or the request.
-const OPTIONS: [CommandOption; 16] = [
+const OPTIONS: [CommandOption; 19] = [
     CommandOption {
         name: "property",
         takes_value: true,
@@ -58,6 +58,18 @@ const OPTIONS: [CommandOption; 16] = [
     CommandOption {
         name: "sections",
         takes_value: true,
+    },
+    CommandOption {
+        name: "state-space",
+        takes_value: true,
+    },
+    CommandOption {
+        name: "form",
+        takes_value: true,
+    },
+    CommandOption {
+        name: "lyapunov",
+        takes_value: false,
     },
     CommandOption {
         name: "realization",

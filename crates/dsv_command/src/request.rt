@@ -2,13 +2,15 @@
 ghost use Rattle.std.specs.Prelude.{◌≡◌, map, string_bytes, codes, option_map, IfOk};
 ghost use Rattle.dsv_command.specs.Asking.{requested_of};
 ghost use Rattle.dsv_command.specs.Parts.{value_of};
-ghost use Rattle.dsv_command.specs.Requests.{job_request, request_of, request_of_parts};
+ghost use Rattle.dsv_command.specs.Requests.{controllers_request, job_request, request_of};
+ghost use Rattle.dsv_command.specs.Requests.{request_of_parts};
 
 use crate::arguments::{Arguments, read_arguments};
 use crate::cascade::{CascadeJob, find_cascade};
 use crate::check::{Check, find_check};
 use crate::generation::{Generation, find_generation};
 use crate::job::{Job, find_job};
+use crate::states::{StateJob, find_states, has_form_option};
 use dsv_base::NoMemory;
 use std::alloc::Global;
 
@@ -19,6 +21,8 @@ pub enum Request<'a> {
     OnFile(Job<'a>),
     /// A job for a cascade: the controllers in several files in series.
     OnCascade(CascadeJob<'a>),
+    /// A job for the state-space controller in a file.
+    OnStates(StateJob<'a>),
     /// A certificate is checked against the controller in a file.
     Check(Check<'a>),
     /// Controllers are generated, and what is found of them is counted.
@@ -26,13 +30,26 @@ pub enum Request<'a> {
 }
 
 /// The job for a controller, or for a cascade where later sections are named.
-fn find_job_request<'a>(arguments: &Arguments<'a>) -> Option<Request<'a>>
+fn find_controllers_request<'a>(arguments: &Arguments<'a>) -> Option<Request<'a>>
     ensures { option_map requested_of result
-        ≡ job_request arguments.now (value_of (codes "sections") arguments.now) }
+        ≡ controllers_request arguments.now (value_of (codes "sections") arguments.now) }
 {
     match arguments.value("sections") {
         Some(names) => Some(Request::OnCascade(find_cascade(arguments, names)?)),
         None => Some(Request::OnFile(find_job(arguments)?)),
+    }
+}
+
+/// The job for a state-space controller where the file of one is named, and else for controllers in
+/// files, with which no form goes.
+fn find_job_request<'a>(arguments: &Arguments<'a>) -> Option<Request<'a>>
+    ensures { option_map requested_of result
+        ≡ job_request arguments.now (value_of (codes "state-space") arguments.now) }
+{
+    match arguments.value("state-space") {
+        Some(file) => Some(Request::OnStates(find_states(arguments, file)?)),
+        None if has_form_option(arguments) => None,
+        None => find_controllers_request(arguments),
     }
 }
 
