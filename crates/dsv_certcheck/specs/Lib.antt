@@ -3,4 +3,5 @@ pub mod FormLines
 pub mod LineNumbers
 pub mod Refusals
 pub mod Shown
+pub mod StateChecks
 pub mod FormatRefusals

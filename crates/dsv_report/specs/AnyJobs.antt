@@ -1,19 +1,23 @@
 -- The jobs that a report is headed by, and what contracts see of one.
-use Rattle.std.specs.Prelude.{Option, option_map}
+use Rattle.std.specs.Prelude.{ℕ, Option, option_map}
 use Rattle.dsv_command.specs.Asking as asking
 use Rattle.dsv_command.specs.Cascades.{AskedCascade}
 use Rattle.dsv_command.specs.Jobs.{Asked}
+use Rattle.dsv_command.specs.States.{AskedStates}
 use Rattle.dsv_report.specs.declared.any_job.AnyJob.{AnyJob}
 use Rattle.dsv_report.specs.declared.any_job.AnyJob.TheVariants as any
 
--- for a controller, or for a cascade
+-- for a controller, for a cascade, or for a state-space controller, of which its file says that it
+-- has so many states
 pub data AskedJob : Type 0 where
   of_controller : Asked → AskedJob
   of_cascade : AskedCascade → AskedJob
+  of_states : AskedStates → ℕ → AskedJob
 
 abbrev pub asked_of : AnyJob → AskedJob
 asked_of (any.OfController job) = of_controller (asking.asked_of job.now)
 asked_of (any.OfCascade job) = of_cascade (asking.asked_cascade job.now)
+asked_of (any.OfStates job states) = of_states (asking.asked_states job.now) states
 
 -- what is asked for, where a job is
 abbrev pub asked_in : Option AnyJob → Option AskedJob

@@ -14,12 +14,13 @@ numbers_line = line_of signed_decimal
 abbrev pub rows_text : List ℕ → Form → List ℕ
 rows_text word form = flat_map (λ row. numbers_line word (take form.d row)) (take form.d form.rows)
 
--- the polynomial, the form and what it loses in a step
+-- the form and what it loses in a step
+abbrev pub fall_text : Form → Form → List ℕ
+fall_text form fall = rows_text (codes "form") form ++ rows_text (codes "fall") fall
+
+-- the same after the polynomial
 abbrev pub form_text : List ℤ → Form → Form → List ℕ
-form_text poly form fall =
-    numbers_line (codes "polynomial") poly
-    ++ rows_text (codes "form") form
-    ++ rows_text (codes "fall") fall
+form_text poly form fall = numbers_line (codes "polynomial") poly ++ fall_text form fall
 
 abbrev pub value_text : ℤ → List ℕ
 value_text value = concatenation (codes " value " ∷ signed_decimal value ∷ codes "\n" ∷ [])

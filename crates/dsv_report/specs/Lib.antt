@@ -9,5 +9,6 @@ pub mod Output
 pub mod Printing
 pub mod Refusals
 pub mod Report
+pub mod StateTexts
 pub mod Stops
 pub mod Tallies

@@ -1,6 +1,6 @@
 -- What is written for an answer: its certificate, where the job wants one and there is one, and
 -- else its report.
-use Rattle.std.specs.Prelude.{ℕ, List, Option, Some, None, Ok, Err, if◌then◌else◌}
+use Rattle.std.specs.Prelude.{ℕ, Bool, false, List, Option, Some, None, Ok, Err, if◌then◌else◌}
 use Rattle.dsv_names.specs.declared.property.Property.{Property}
 use Rattle.dsv_names.specs.declared.property.Property.TheVariants.{OfRuns, OfRoots}
 use Rattle.dsv_names.specs.declared.property.RunProperty.TheVariants.{Overflow}
@@ -12,9 +12,13 @@ use Rattle.dsv_certfile.specs.declared.job.CertWords.{CertWords}
 use Rattle.dsv_certfile.specs.declared.job.Size.{Size}
 use Rattle.dsv_certfile.specs.declared.job.Size.TheVariants as size
 use Rattle.dsv_command.specs.Jobs.{Task, decides, searches, seeks_set, measures_gain, Asked}
-use Rattle.dsv_command.specs.Requests.{Request, on_file, on_cascade, checks, generates}
+use Rattle.dsv_command.specs.Requests.{Request, on_file, on_cascade, on_states, checks}
+use Rattle.dsv_command.specs.Requests.{generates}
+use Rattle.dsv_command.specs.States.{StateTask, seeks_form, AskedStates}
 use Rattle.dsv_names.specs.declared.design.Design.{Design}
-use Rattle.dsv_report.specs.AnyJobs.{AskedJob, of_controller, of_cascade}
+use Rattle.dsv_names.specs.declared.property.RootProperty.TheVariants.{Stability}
+use Rattle.dsv_names.specs.declared.realisation.Realisation.TheVariants.{Dfi}
+use Rattle.dsv_report.specs.AnyJobs.{AskedJob, of_controller, of_cascade, of_states}
 use Rattle.dsv_report.specs.Report.{answer_text, stop_text}
 use Rattle.dsv_report.specs.Stops.{Outcome}
 use Rattle.dsv_report.specs.declared.answers.Answer.{Answer}
@@ -69,10 +73,32 @@ abbrev pub text_or : Option Certificate → List ℕ → List ℕ
 text_or (Some c) text = certified.certificate_text c
 text_or None text = text
 
--- the certificate of an answer to a job of either kind; one for a cascade wants none
+-- the job of a certificate for a state-space controller; of the design its modes alone count
+abbrev pub state_job_with : AskedStates → CertWords → CertifiedJob
+state_job_with job words = job_with
+    (record { realisation = Dfi; rounding = job.rounding; overflow = job.overflow }) words
+    (OfRoots Stability) size.NoSize
+
+-- the certificate of a form that falls along the states
+abbrev pub state_falls_of : CertifiedJob → Answer → Option Certificate
+state_falls_of job (answer.StateFalls states offer fall) = Some (certificate.Falls job offer)
+state_falls_of job other = None
+
+-- a certificate of the answer to the task is wanted
+abbrev pub wants_certificate : StateTask → Bool
+wants_certificate (seeks_form certified) = certified
+wants_certificate other = false
+
+-- the certificate of an answer to a job for a state-space controller, where it wants one
+abbrev pub state_certificate_of : AskedStates → CertWords → Answer → Option Certificate
+state_certificate_of job words found = if wants_certificate job.task
+    then state_falls_of (state_job_with job words) found else None
+
+-- the certificate of an answer to a job of any kind; one for a cascade wants none
 abbrev pub any_certificate_of : AskedJob → CertWords → Answer → Option Certificate
 any_certificate_of (of_controller job) words found = certificate_of job words found
 any_certificate_of (of_cascade job) words found = None
+any_certificate_of (of_states job states) words found = state_certificate_of job words found
 
 -- what is written for an answer to a job, or to what is no job
 abbrev pub answer_output : Option AskedJob → CertWords → Answer → List ℕ
@@ -95,10 +121,11 @@ abbrev pub certificate_written : Option AskedJob → CertWords → Outcome → O
 certificate_written job words (Ok found) = answer_certificate job words found
 certificate_written job words (Err why) = None
 
--- the job that a request is, where it is one
-abbrev pub asked_by : Option Request → Option AskedJob
-asked_by None = None
-asked_by (Some (on_file job)) = Some (of_controller job)
-asked_by (Some (on_cascade job)) = Some (of_cascade job)
-asked_by (Some (checks file name)) = None
-asked_by (Some (generates seed count)) = None
+-- the job that a request is, where it is one; a state-space controller has so many states
+abbrev pub asked_by : ℕ → Option Request → Option AskedJob
+asked_by states None = None
+asked_by states (Some (on_file job)) = Some (of_controller job)
+asked_by states (Some (on_cascade job)) = Some (of_cascade job)
+asked_by states (Some (on_states job)) = Some (of_states job states)
+asked_by states (Some (checks file name)) = None
+asked_by states (Some (generates seed count)) = None

@@ -23,6 +23,8 @@ abbrev pub HasPlaces : Answer → Type 0
 HasPlaces (answer.Falls poly offer fall) = (offer.form.d ≤ 8) × (fall.d ≤ 8)
 HasPlaces (answer.KeptAway poly offer fall value) = (offer.form.d ≤ 8) × (fall.d ≤ 8)
 HasPlaces (answer.OfSections found) = FormsHavePlaces found
+HasPlaces (answer.StateFalls states offer fall) = (offer.form.d ≤ 8) × (fall.d ≤ 8)
+HasPlaces answer.NoStateForm = Unit {0}
 HasPlaces answer.NoZeros = Unit {0}
 HasPlaces (answer.NoForm poly kept verdict) = Unit {0}
 HasPlaces (answer.Wide index) = Unit {0}

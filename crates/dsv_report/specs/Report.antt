@@ -26,15 +26,17 @@ use Rattle.dsv_command.specs.Jobs.{Task, decides, checks_time, writes, searches,
 use Rattle.dsv_command.specs.Jobs.{measures_gain, simulates}
 use Rattle.dsv_command.specs.Cascades.{task_alone}
 use Rattle.dsv_report.specs.Certificates.{checked_text, certificate_text}
-use Rattle.dsv_report.specs.AnyJobs.{AskedJob, of_controller, of_cascade}
+use Rattle.dsv_report.specs.AnyJobs.{AskedJob, of_controller, of_cascade, of_states}
 use Rattle.dsv_report.specs.CascadeTexts.{sections_text, section_line, forms_text}
 use Rattle.dsv_report.specs.CascadeTexts.{cascade_refusal_text}
-use Rattle.dsv_report.specs.Forms.{numbers_line, form_text, start_text}
+use Rattle.dsv_report.specs.Forms.{numbers_line, fall_text, form_text, start_text}
 use Rattle.dsv_report.specs.Fragments.{concatenation}
 use Rattle.dsv_report.specs.Gains.{gain_text, out_of_range_text, too_deep_text}
 use Rattle.dsv_report.specs.Lines.{property_text, realisation_text, numbered, number_line}
 use Rattle.dsv_report.specs.Lines.{numbered_lines}
 use Rattle.dsv_report.specs.Refusals.{file_text, quant_text, input_text}
+use Rattle.dsv_report.specs.StateTexts.{state_job_text, no_state_form_text, state_text}
+use Rattle.dsv_report.specs.StateTexts.{state_quant_text}
 use Rattle.dsv_report.specs.Stops.{Outcome}
 use Rattle.dsv_report.specs.Tallies.{tally_text}
 use Rattle.dsv_report.specs.declared.answers.Answer.{Answer}
@@ -84,6 +86,7 @@ job_text (of_controller job) = task_text job.task
 job_text (of_cascade job) = task_text (task_alone job.task)
     ++ (realisation_text job.design.realisation
     ++ (sections_text job ++ extent_text (task_alone job.task)))
+job_text (of_states job states) = state_job_text job states
 
 -- the verdict and what the job asked for; without a job there is none
 abbrev pub heading : List ℕ → Option AskedJob → List ℕ
@@ -223,6 +226,9 @@ answer_text job (answer.KeptAway poly offer fall value) =
     heading failed job ++ form_text poly offer.form fall
     ++ start_text (take offer.form.d offer.start) value
 answer_text job (answer.OfSections found) = heading (forms_verdict found) job ++ forms_text found
+answer_text job (answer.StateFalls states offer fall) =
+    heading successful job ++ fall_text offer.form fall
+answer_text job answer.NoStateForm = heading inconclusive job ++ no_state_form_text
 answer_text job answer.NoZeros = heading failed job ++ no_zeros_text
 answer_text job (answer.NoForm poly kept verdict) =
     heading inconclusive job ++ no_form_text poly (length kept) verdict
@@ -260,6 +266,8 @@ stop_text (stop.SectionRefused section r) = section_line section ++ file_text r
 stop_text (stop.SectionTooLong section) = section_line section ++ too_long_text
 stop_text (stop.SectionQuant section r) = section_line section ++ quant_text r
 stop_text (stop.CascadeRefused r) = cascade_refusal_text r
+stop_text (stop.StateRefused r) = state_text r
+stop_text (stop.StateQuantRefused r) = state_quant_text r
 stop_text (stop.InputRange index value) = input_text index value
 stop_text (stop.ReadFault file.Controller) = codes "READ FAULT CONTROLLER\n"
 stop_text (stop.ReadFault file.Certificate) = codes "READ FAULT CERTIFICATE\n"
@@ -272,6 +280,8 @@ abbrev pub answer_status : Answer → ℕ
 answer_status (answer.Falls poly offer fall) = 0
 answer_status (answer.KeptAway poly offer fall value) = 10
 answer_status (answer.OfSections found) = forms_status found
+answer_status (answer.StateFalls states offer fall) = 0
+answer_status answer.NoStateForm = 20
 answer_status answer.NoZeros = 10
 answer_status (answer.NoForm poly kept verdict) = 20
 answer_status (answer.Wide index) = 20
@@ -302,6 +312,8 @@ stop_status (stop.SectionRefused section r) = 2
 stop_status (stop.SectionTooLong section) = 2
 stop_status (stop.SectionQuant section r) = 2
 stop_status (stop.CascadeRefused r) = 2
+stop_status (stop.StateRefused r) = 2
+stop_status (stop.StateQuantRefused r) = 2
 stop_status (stop.InputRange index value) = 2
 stop_status (stop.ReadFault file) = 3
 stop_status stop.NoMemory = 5
