@@ -1,5 +1,6 @@
 //! The check of certificates: what a certificate claims of a controller is made anew from the
-//! controller's file, and nothing else that the certificate says is believed.
+//! controller's file, and nothing else that the certificate says is believed. A form may also be
+//! checked against a state-space controller, along whose states it has to fall.
 #![tactic(auto)]
 
 mod check_refusal;
@@ -7,7 +8,9 @@ mod checked_logs;
 mod checks;
 mod law;
 mod line_numbers;
+mod state_forms;
 
 pub use check_refusal::CheckRefusal;
 pub use checks::check;
 pub use law::formats_are_compared;
+pub use state_forms::{StateForm, check_state_form};

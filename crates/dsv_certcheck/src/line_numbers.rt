@@ -11,6 +11,9 @@ use dsv_template::{Candidate, SetPart, ThreeLogs};
 /// The line of the version.
 pub(crate) const VERSION_LINE: u64 = 1;
 
+/// The line of the job.
+pub(crate) const JOB_LINE: u64 = 2;
+
 /// The line of the words' format, where a certificate says it.
 pub(crate) const FORMAT_LINE: u64 = 3;
 
