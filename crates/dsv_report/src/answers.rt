@@ -33,6 +33,15 @@ pub enum Answer {
     },
     /// What closed forms say of the sections of a cascade.
     OfSections(CascadeForms),
+    /// The form of the offer strictly falls along the states of a controller with so many of them,
+    /// without input, by the form `fall` in a step.
+    StateFalls {
+        states: u32,
+        offer: Falls,
+        fall: Form,
+    },
+    /// No form was found that falls along the states: the search for one ended.
+    NoStateForm,
     /// All coefficients of the numerator are 0, so that there are no zeros to test.
     NoZeros,
     /// The polynomial has no closed form, and no proposer offered a form that its check accepts:

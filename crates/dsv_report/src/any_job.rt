@@ -1,9 +1,14 @@
 // The jobs that a report is headed by.
-use dsv_command::{CascadeJob, Job};
+use dsv_command::{CascadeJob, Job, StateJob};
 
-/// A job for a controller, or for a cascade.
+/// A job for a controller, for a cascade, or for a state-space controller.
 #[derive(Clone, Copy)]
 pub enum AnyJob<'a> {
     OfController(&'a Job<'a>),
     OfCascade(&'a CascadeJob<'a>),
+    OfStates {
+        job: &'a StateJob<'a>,
+        /// How many states the controller's file has, and 0 where none was accepted.
+        states: u32,
+    },
 }

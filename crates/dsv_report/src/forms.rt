@@ -23,6 +23,17 @@ fn put_rows<K: Sink>(sink: &mut K, word: &[u8], form: &Form) -> Result<(), Faile
     Ok(())
 }
 
+/// Writes the form and what it loses in a step.
+pub(crate) fn put_fall<K: Sink>(sink: &mut K, form: &Form, fall: &Form) -> Result<(), Failed>
+    requires form { form.now.d ≤ 8 }
+    requires fall { fall.now.d ≤ 8 }
+    ensures { Writes (K.seen sink.old) (K.seen sink.new) result
+        (forms.fall_text form.now fall.now) }
+{
+    put_rows(sink, b"form", form)?;
+    put_rows(sink, b"fall", fall)
+}
+
 /// Writes the polynomial, the form and what it loses in a step.
 pub(crate) fn put_form<K: Sink>(
     sink: &mut K,
@@ -36,8 +47,7 @@ pub(crate) fn put_form<K: Sink>(
         (forms.form_text poly.now form.now fall.now) }
 {
     put_line(sink, b"polynomial", poly.coefficients())?;
-    put_rows(sink, b"form", form)?;
-    put_rows(sink, b"fall", fall)
+    put_fall(sink, form, fall)
 }
 
 /// Writes numbers, each after a space.

@@ -12,7 +12,9 @@ mod lines;
 mod output;
 mod refusals;
 mod report;
+mod states;
 mod stop;
+mod stops;
 mod tallies;
 
 pub use answers::Answer;

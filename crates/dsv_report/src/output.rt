@@ -1,11 +1,12 @@
 // Writes what is asked for of an answer, with no memory.
 ghost use Rattle.std.specs.Prelude.{◌≡◌, Some, IfSome, IfOk, OnOk};
 ghost use Rattle.dsv_base.specs.Taking.{Writes};
-ghost use Rattle.dsv_command.specs.Asking.{asked_of, asked_task};
+ghost use Rattle.dsv_command.specs.Asking.{asked_of, asked_task, asked_state_task, asked_states};
 ghost use Rattle.dsv_report.specs.Output.{job_with, hints_of, invariant_of, gain_of, falls_of};
 ghost use Rattle.dsv_report.specs.Output.{certificate_for, answer_output, text_or, output_of};
 ghost use Rattle.dsv_report.specs.Output.{answer_certificate, certificate_written};
-ghost use Rattle.dsv_report.specs.AnyJobs.{asked_in, of_controller};
+ghost use Rattle.dsv_report.specs.Output.{state_job_with, state_falls_of, wants_certificate};
+ghost use Rattle.dsv_report.specs.AnyJobs.{asked_in, of_controller, of_states};
 ghost use Rattle.dsv_report.specs.Printing.{HasPlaces};
 ghost use Rattle.dsv_report.specs.Report.{answer_text};
 ghost use Rattle.dsv_certfile.specs.Lawful.{IsWords};
@@ -16,14 +17,15 @@ ghost use Rattle.dsv_names.specs.declared.property.RunProperty.TheVariants.{Over
 
 use crate::answers::Answer;
 use crate::any_job::AnyJob;
-use crate::report::{put_answer, put_stop};
+use crate::report::put_answer;
 use crate::stop::Stop;
+use crate::stops::put_stop;
 use dsv_base::{Failed, Sink};
 use dsv_certfile::{
     CertWords, CertifiedJob, Size, write_falls, write_gain, write_hints, write_invariant,
 };
-use dsv_command::{Job, RunQuestion, Task};
-use dsv_names::{Design, Property, RootProperty, RunProperty};
+use dsv_command::{Job, RunQuestion, StateJob, StateTask, Task};
+use dsv_names::{Design, Property, Realisation, RootProperty, RunProperty};
 
 /// The job of a certificate for a controller that is realised by a design, and of whose words this
 /// is said.
@@ -171,6 +173,54 @@ fn put_certificate<K: Sink>(
     }
 }
 
+/// The job of a certificate for a state-space controller; of the design its modes alone count.
+fn state_job_with(job: &StateJob, words: CertWords) -> CertifiedJob
+    ensures { result ≡ state_job_with (asked_states job.now) words }
+{
+    let design = Design {
+        realisation: Realisation::Dfi,
+        rounding: job.rounding,
+        overflow: job.overflow,
+    };
+    let property = Property::OfRoots(RootProperty::Stability);
+    job_with(design, words, property, Size::NoSize)
+}
+
+/// Whether a certificate of the answer to the task is wanted.
+fn wants_certificate(task: &StateTask) -> bool
+    ensures { result ≡ wants_certificate (asked_state_task task.now) }
+{
+    match task {
+        StateTask::SeekForm { certified } => *certified,
+        _ => false,
+    }
+}
+
+/// Writes the certificate of an answer on a controller with so many states, or its report where it
+/// has none.
+fn put_state_certificate<K: Sink>(
+    sink: &mut K,
+    job: &StateJob,
+    states: u32,
+    words: CertWords,
+    answer: &Answer,
+) -> Result<(), Failed>
+    requires places { HasPlaces answer.now }
+    requires words { IsWords words }
+    ensures text { Writes (K.seen sink.old) (K.seen sink.new) result
+        (text_or (state_falls_of (state_job_with (asked_states job.now) words) answer.now)
+        (answer_text (Some (of_states (asked_states job.now) states)) answer.now)) }
+    ensures typed { OnOk result (IfSome
+        (state_falls_of (state_job_with (asked_states job.now) words) answer.now) IsTyped) }
+{
+    match answer {
+        Answer::StateFalls { offer, .. } => {
+            write_falls(sink, &state_job_with(job, words), offer)
+        }
+        _ => put_answer(sink, Some(AnyJob::OfStates { job, states }), answer),
+    }
+}
+
 /// Writes what is asked for of an answer: a certificate, where the job wants one and the answer has
 /// one, and else the report.
 fn put_found<K: Sink>(
@@ -189,6 +239,9 @@ fn put_found<K: Sink>(
     match job {
         Some(AnyJob::OfController(job)) if job.certified => {
             put_certificate(sink, job, words, answer)
+        }
+        Some(AnyJob::OfStates { job, states }) if wants_certificate(&job.task) => {
+            put_state_certificate(sink, job, states, words, answer)
         }
         Some(_) | None => put_answer(sink, job, answer),
     }

@@ -1,32 +1,31 @@
 // Writes the text of an answer, with no memory.
 #![tactic(auto, using(dsv_algebra::proofs::Casts::casts))]
 
-ghost use Rattle.std.specs.Prelude.{◌≡◌, ◌≤◌, ◌++◌, cond, length, take, map, filter, Some};
-ghost use Rattle.std.specs.List.{flat_map};
+ghost use Rattle.std.specs.Prelude.{◌≡◌, ◌≤◌, ◌++◌, cond, length, map, filter, Some};
 ghost use Rattle.dsv_base.specs.Taking.{Writes};
-ghost use Rattle.dsv_base.specs.Text.{spaced_text};
 ghost use Rattle.dsv_system.specs.RowViews.{row_of};
 ghost use Rattle.dsv_command.specs.Asking.{asked_of, asked_task, asked_cascade, asked_series};
 ghost use Rattle.dsv_command.specs.Cascades.{task_alone};
 ghost use Rattle.dsv_report.specs.Gains.{gain_text, out_of_range_text, too_deep_text};
 ghost use Rattle.dsv_report.specs.AnyJobs as any;
 ghost use Rattle.dsv_report.specs.AnyJobs.{asked_in, of_controller, of_cascade};
-ghost use Rattle.dsv_report.specs.CascadeTexts.{sections_text, forms_text, section_line};
+ghost use Rattle.dsv_report.specs.CascadeTexts.{sections_text, forms_text};
 ghost use Rattle.dsv_report.specs.Forms as forms;
 ghost use Rattle.dsv_report.specs.Printing.{HasPlaces, FormsHavePlaces};
-ghost use Rattle.dsv_report.specs.Refusals.{file_text, quant_text};
 ghost use Rattle.dsv_report.specs.Report as report;
+ghost use Rattle.dsv_report.specs.StateTexts.{no_state_form_text};
 
 use crate::answers::Answer;
 use crate::any_job::AnyJob;
-use crate::cascades::{put_cascade_refusal, put_forms, put_section};
-use crate::certificates::{put_certificate_refusal, put_checked};
-use crate::forms::{put_form, put_kept_away, put_numbers};
+use crate::cascades::put_forms;
+use crate::certificates::put_checked;
+use crate::forms::{put_fall, put_form, put_kept_away, put_numbers};
 use crate::fragments::{Fragment, put_fragments};
 use crate::gains::{put_gain, put_out_of_range};
 use crate::lines::{put_number_line, put_numbered, put_property, put_realisation};
-use crate::refusals::{put_file_refusal, put_input_range, put_quant_refusal};
-use crate::stop::{Stop, WhichFile};
+use crate::states::{put_no_form_cause, put_state_job};
+use crate::stop::Stop;
+use crate::stops::stop_status;
 use crate::tallies::put_tally;
 use dsv_base::{Failed, Sink, put_all, put_line};
 use dsv_cascade::CascadeForms;
@@ -38,8 +37,6 @@ use dsv_gain::Gain;
 use dsv_jury::Jury;
 use dsv_meaning::{Cycle, Trace};
 use dsv_names::{Property, RootProperty, RunProperty};
-use dsv_quantiser::QuantRefusal;
-use dsv_reader::FileRefusal;
 use dsv_system::{Row, Rows};
 use dsv_template::{Candidate, Inequality, KeptSet, Why};
 use dsv_timing::TimingReport;
@@ -154,6 +151,7 @@ fn put_job<K: Sink>(sink: &mut K, job: AnyJob) -> Result<(), Failed>
     match job {
         AnyJob::OfController(job) => put_controller_job(sink, job),
         AnyJob::OfCascade(job) => put_cascade_job(sink, job),
+        AnyJob::OfStates { job, states } => put_state_job(sink, job, u64::from(states)),
     }
 }
 
@@ -577,15 +575,38 @@ fn put_simulation<K: Sink>(sink: &mut K, job: Option<AnyJob>, rows: &Rows) -> Re
     put_samples(sink, rows.as_slice())
 }
 
+/// The heading of a success.
+#[tactic(auto, unfolding(crate::specs::Report::successful))]
+fn success_heading() -> &'static [u8]
+    ensures { result.now ≡ report.successful }
+{
+    SUCCESSFUL
+}
+
+/// The heading of a failure.
+#[tactic(auto, unfolding(crate::specs::Report::failed))]
+fn failure_heading() -> &'static [u8]
+    ensures { result.now ≡ report.failed }
+{
+    FAILED
+}
+
+/// The heading of what is undecided.
+#[tactic(auto, unfolding(crate::specs::Report::inconclusive))]
+fn doubt_heading() -> &'static [u8]
+    ensures { result.now ≡ report.inconclusive }
+{
+    INCONCLUSIVE
+}
+
 /// The verdict of what closed forms say of a cascade's sections.
-#[tactic(auto, unfolding(crate::specs::Report::successful, crate::specs::Report::failed, crate::specs::Report::inconclusive))]
 fn forms_verdict(found: &CascadeForms) -> &'static [u8]
     ensures { result.now ≡ report.forms_verdict found.now }
 {
     match found {
-        CascadeForms::Falls(_) => SUCCESSFUL,
-        CascadeForms::KeptAway { .. } => FAILED,
-        CascadeForms::Wide { .. } | CascadeForms::NoClosedForm { .. } => INCONCLUSIVE,
+        CascadeForms::Falls(_) => success_heading(),
+        CascadeForms::KeptAway { .. } => failure_heading(),
+        CascadeForms::Wide { .. } | CascadeForms::NoClosedForm { .. } => doubt_heading(),
     }
 }
 
@@ -602,6 +623,34 @@ fn put_sections<K: Sink>(
 {
     put_heading(sink, forms_verdict(found), job)?;
     put_forms(sink, found)
+}
+
+/// Writes the text of a form that falls along the states of a controller.
+#[tactic(auto, unfolding(crate::specs::Report::successful))]
+fn put_state_falls<K: Sink>(
+    sink: &mut K,
+    job: Option<AnyJob>,
+    form: &Form,
+    fall: &Form,
+) -> Result<(), Failed>
+    requires form { form.now.d ≤ 8 }
+    requires fall { fall.now.d ≤ 8 }
+    ensures { Writes (K.seen sink.old) (K.seen sink.new) result
+        (report.heading report.successful (asked_in job.entry)
+        ++ forms.fall_text form.now fall.now) }
+{
+    put_heading(sink, SUCCESSFUL, job)?;
+    put_fall(sink, form, fall)
+}
+
+/// Writes the text of a controller for whose states no form was found.
+#[tactic(auto, unfolding(crate::specs::Report::inconclusive))]
+fn put_no_state_form<K: Sink>(sink: &mut K, job: Option<AnyJob>) -> Result<(), Failed>
+    ensures { Writes (K.seen sink.old) (K.seen sink.new) result
+        (report.heading report.inconclusive (asked_in job.entry) ++ no_state_form_text) }
+{
+    put_heading(sink, INCONCLUSIVE, job)?;
+    put_no_form_cause(sink)
 }
 
 /// The status of what closed forms say of a cascade's sections.
@@ -622,6 +671,7 @@ fn answer_status(answer: &Answer) -> u8
     match answer {
         Answer::OfSections(found) => forms_status(found),
         Answer::Falls { .. }
+        | Answer::StateFalls { .. }
         | Answer::OnTime(_)
         | Answer::Never { .. }
         | Answer::Always { .. }
@@ -636,32 +686,12 @@ fn answer_status(answer: &Answer) -> u8
         | Answer::Overflow(_)
         | Answer::Cycles(_) => 10,
         Answer::NoForm { .. }
+        | Answer::NoStateForm
         | Answer::Wide { .. }
         | Answer::Spent { .. }
         | Answer::NoInvariant { .. }
         | Answer::OutOfRange { .. }
         | Answer::TooDeep { .. } => 20,
-    }
-}
-
-/// The status where there is no answer.
-fn stop_status(stop: &Stop) -> u8
-    ensures { result ≡ report.stop_status stop.now }
-{
-    match stop {
-        Stop::Usage => 1,
-        Stop::FileRefused(_)
-        | Stop::FileTooLong
-        | Stop::QuantRefused(_)
-        | Stop::SectionRefused { .. }
-        | Stop::SectionTooLong { .. }
-        | Stop::SectionQuant { .. }
-        | Stop::CascadeRefused(_)
-        | Stop::InputRange { .. } => 2,
-        Stop::ReadFault(_) => 3,
-        Stop::NoMemory => 5,
-        Stop::JobSize { .. } => 6,
-        Stop::CertificateRefused { .. } => 7,
     }
 }
 
@@ -672,77 +702,6 @@ pub fn status_of(outcome: &Result<Answer, Stop>) -> u8
     match outcome {
         Ok(answer) => answer_status(answer),
         Err(stop) => stop_status(stop),
-    }
-}
-
-/// Writes that a controller's file is too long.
-fn put_too_long<K: Sink>(sink: &mut K) -> Result<(), Failed>
-    ensures { Writes (K.seen sink.old) (K.seen sink.new) result report.too_long_text }
-{
-    put_all(sink, b"FILE REFUSED 12 TOO_LONG at 65536\n")
-}
-
-/// Writes why the file of a cascade's section is refused.
-fn put_section_refusal<K: Sink>(
-    sink: &mut K,
-    section: u64,
-    refusal: FileRefusal,
-) -> Result<(), Failed>
-    ensures { Writes (K.seen sink.old) (K.seen sink.new) result
-        (section_line section ++ file_text refusal) }
-{
-    put_section(sink, section)?;
-    put_file_refusal(sink, refusal)
-}
-
-/// Writes that the file of a cascade's section is too long.
-fn put_section_too_long<K: Sink>(sink: &mut K, section: u64) -> Result<(), Failed>
-    ensures { Writes (K.seen sink.old) (K.seen sink.new) result
-        (section_line section ++ report.too_long_text) }
-{
-    put_section(sink, section)?;
-    put_too_long(sink)
-}
-
-/// Writes why a cascade's section doesn't become words.
-fn put_section_quant<K: Sink>(
-    sink: &mut K,
-    section: u64,
-    refusal: QuantRefusal,
-) -> Result<(), Failed>
-    ensures { Writes (K.seen sink.old) (K.seen sink.new) result
-        (section_line section ++ quant_text refusal) }
-{
-    put_section(sink, section)?;
-    put_quant_refusal(sink, refusal)
-}
-
-/// Writes why there is no answer. It takes no memory.
-pub(crate) fn put_stop<K: Sink>(sink: &mut K, stop: &Stop) -> Result<(), Failed>
-    ensures { Writes (K.seen sink.old) (K.seen sink.new) result (report.stop_text stop.now) }
-{
-    match stop {
-        Stop::Usage => put_all(sink, b"USAGE\n"),
-        Stop::FileRefused(refusal) => put_file_refusal(sink, *refusal),
-        Stop::FileTooLong => put_too_long(sink),
-        Stop::QuantRefused(refusal) => put_quant_refusal(sink, *refusal),
-        Stop::SectionRefused { section, refusal } => {
-            put_section_refusal(sink, u64::from(*section), *refusal)
-        }
-        Stop::SectionTooLong { section } => put_section_too_long(sink, u64::from(*section)),
-        Stop::SectionQuant { section, refusal } => {
-            put_section_quant(sink, u64::from(*section), *refusal)
-        }
-        Stop::CascadeRefused(refusal) => put_cascade_refusal(sink, *refusal),
-        Stop::InputRange { index, value } => put_input_range(sink, *index, value),
-        Stop::JobSize { size } => put_number_line(sink, b"JOB SIZE ", *size),
-        Stop::CertificateRefused { line, fault } => put_certificate_refusal(sink, *line, *fault),
-        Stop::ReadFault(WhichFile::Controller) => put_all(sink, b"READ FAULT CONTROLLER\n"),
-        Stop::ReadFault(WhichFile::Certificate) => put_all(sink, b"READ FAULT CERTIFICATE\n"),
-        Stop::ReadFault(WhichFile::Section(section)) => {
-            put_number_line(sink, b"READ FAULT SECTION ", (*section).into())
-        }
-        Stop::NoMemory => put_all(sink, b"NO MEMORY\n"),
     }
 }
 
@@ -768,6 +727,8 @@ pub(crate) fn put_answer<K: Sink>(
             put_kept_away(sink, poly, offer, fall, value)
         }
         Answer::OfSections(found) => put_sections(sink, job, found),
+        Answer::StateFalls { offer, fall, .. } => put_state_falls(sink, job, &offer.form, fall),
+        Answer::NoStateForm => put_no_state_form(sink, job),
         Answer::NoZeros => put_no_zeros(sink, job),
         Answer::NoForm { poly, kept, jury } => {
             put_no_form(sink, job, poly, kept.len() as u64, *jury)

@@ -4,6 +4,8 @@ use dsv_cascade::CascadeRefusal;
 use dsv_certfile::{CertRefusal, CheckFault, TextFault};
 use dsv_quantiser::QuantRefusal;
 use dsv_reader::FileRefusal;
+use dsv_state_file::StateRefusal;
+use dsv_state_space::StateQuantRefusal;
 
 /// A file that the command reads.
 #[derive(Clone, Copy, Debug, PartialEq, Eq)]
@@ -46,6 +48,11 @@ pub enum Stop {
     SectionQuant { section: u32, refusal: QuantRefusal },
     /// The sections make no cascade.
     CascadeRefused(CascadeRefusal),
+    /// The first fault of a state-space controller's file.
+    StateRefused(StateRefusal),
+    /// The first number of a state-space controller that is no word, or the range of its inputs,
+    /// where it is empty.
+    StateQuantRefused(StateQuantRefusal),
     /// The first input of the job that is no word of the format, and its number from 0 on.
     InputRange { index: u32, value: i128 },
     /// The job is too large: samples times products times the square of a word's bits.
@@ -102,6 +109,28 @@ impl From<CascadeRefusal> for Stop {
 
     fn from(refusal: CascadeRefusal) -> Self {
         Stop::CascadeRefused(refusal)
+    }
+}
+
+impl From<StateRefusal> for Stop {
+    ghost use Rattle.std.specs.Prelude.{◌≡◌};
+    ghost use Rattle.dsv_report.specs.declared.stop.Stop.TheVariants as stop;
+
+    ghost from_gives = { λ refusal e. e ≡ stop.StateRefused refusal };
+
+    fn from(refusal: StateRefusal) -> Self {
+        Stop::StateRefused(refusal)
+    }
+}
+
+impl From<StateQuantRefusal> for Stop {
+    ghost use Rattle.std.specs.Prelude.{◌≡◌};
+    ghost use Rattle.dsv_report.specs.declared.stop.Stop.TheVariants as stop;
+
+    ghost from_gives = { λ refusal e. e ≡ stop.StateQuantRefused refusal };
+
+    fn from(refusal: StateQuantRefusal) -> Self {
+        Stop::StateQuantRefused(refusal)
     }
 }
 

@@ -1,6 +1,6 @@
 use Rattle.dsv_base.proofs.TakingLemmas.{writes_after, writes_cut}
 use Rattle.dsv_report.specs.Refusals.{quant_text}
-use Rattle.dsv_report.proofs.report.put_section_quant.Goals as goal
+use Rattle.dsv_report.proofs.stops.put_section_quant.Goals as goal
 
 pub returns-in_err-put_section : goal.returns-in_err-put_section
 returns-in_err-put_section g c = writes_cut (quant_text c.args.refusal) c.from_residual.ensures.0 c.in_err-put_section.ensures.cut
