@@ -6,7 +6,7 @@ use dsv_names::{Design, OverflowMode, Realisation, RootProperty, Rounding, RunPr
 use std::alloc::Global;
 
 /// The arguments of a text.
-fn arguments_of(alloc: Global, text: &str) -> Result<Vec<String>, NoMemory> {
+pub fn arguments_of(alloc: Global, text: &str) -> Result<Vec<String>, NoMemory> {
     let mut arguments = Vec::new(alloc);
     for argument in text.split('|') {
         arguments.push(String::from_str(alloc, argument)?)?;
@@ -432,7 +432,7 @@ fn no_arguments_are_no_job(rt: HostRuntime) {
 }
 
 /// Whether no line is a job.
-fn are_no_jobs(alloc: Global, texts: &str) -> bool {
+pub fn are_no_jobs(alloc: Global, texts: &str) -> bool {
     texts
         .lines()
         .all(|text| !is_job(alloc, text).unwrap_or(true))

@@ -16,4 +16,6 @@ mod numbers;
 #[cfg(test)]
 mod state_files;
 #[cfg(test)]
+mod state_jobs;
+#[cfg(test)]
 mod tokens;
