@@ -1,12 +1,9 @@
 -- The check of a certificate leads to the rows of the table.
-use Rattle.std.proofs.Common.{◌≡◌, ℕ, ◌+◌, ◌<◌, ◌≤◌, List, length, subst, arith}
+use Rattle.std.proofs.Common.{◌≡◌, ℕ, ◌≤◌, List, subst}
 use Rattle.std.specs.Prelude.{Ok, Err}
 use Rattle.dsv_base.specs.Seen.{FilesSeen}
-use Rattle.dsv_base.proofs.TakingLemmas.{Rose-earlier}
 use Rattle.dsv_reader.specs.Controllers.{ControllerView}
-use Rattle.dsv_certfile.specs.Reading.{certificate_in}
 use Rattle.dsv_certfile.specs.declared.certificate.Certificate.{Certificate}
-use Rattle.dsv_certfile.specs.declared.fault.CertRefusal.TheVariants as unread
 use Rattle.dsv_report.specs.declared.answers.Answer.TheVariants as answer
 use Rattle.dsv_report.specs.declared.stop.CertificateFault.TheVariants as fault
 use Rattle.dsv_report.specs.declared.stop.Stop.{Stop}
@@ -15,7 +12,8 @@ use Rattle.dsv_report.specs.declared.stop.WhichFile.TheVariants as file
 use Rattle.dsv_report.specs.Stops.{Outcome}
 use Rattle.dsv_token.specs.declared.refusal.FileRefusal.TheVariants as text
 use Rattle.dsv_cli.specs.Checking.{IsOfCertificate, IsUnreadCertificate}
-use Rattle.dsv_cli.specs.Headline.{longest_certificate, CameOf, IsController, IsCheckOf, IsSpelled, Spells, IsUnread, IsCheckRow}
+use Rattle.dsv_cli.specs.Headline.{CameOf, IsController, IsCheckOf, IsSpelled, Spells, IsUnread, IsCheckRow}
+use Rattle.dsv_cli.proofs.FileBytes.{unread_earlier}
 use Rattle.dsv_cli.proofs.Told.{along, some_came}
 
 -- a file that is no controller's
@@ -34,25 +32,26 @@ check_of : (P : ControllerView → List ℕ → Type 0) (old : FilesSeen) (contr
 check_of P old controller name c h k = along (old.held controller) (λ bytes a. record { controller = c; accepted = a; certificate = k }) h
 
 -- a file that is no certificate's, after the controller's was read
-pub row_of_no_certificate : (old then new : FilesSeen) (controller name : List ℕ) (c : ControllerView) (why : Stop) → CameOf (old.held controller) (λ bytes. IsController bytes c)
-    → then.held ≡ old.held → old.faults ≤ then.faults → old.came ≤ then.came → IsUnreadCertificate then new name why → IsCheckRow (old.held controller) old new controller name (Err why)
-row_of_no_certificate old then new controller name c (stop.ReadFault file.Certificate) h e m l k = record {
+no_certificate : (old new : FilesSeen) (controller name : List ℕ) (c : ControllerView) (why : Stop) → CameOf (old.held controller) (λ bytes. IsController bytes c)
+    → IsUnreadCertificate old new name why → IsCheckRow (old.held controller) old new controller name (Err why)
+no_certificate old new controller name c (stop.ReadFault file.Certificate) h k = record {
   belongs_to = tt;
   comes_from = check_of (λ c written. Unit {0}) old controller name c h (some_came (old.held name));
-  shows = (Rose-earlier old.faults then.faults new.faults m k.0, k.1);
+  shows = (k.0, k.1);
 }
-row_of_no_certificate old then new controller name c (stop.CertificateRefused line fault.TooLong) h e m l k = record {
+no_certificate old new controller name c (stop.CertificateRefused line fault.TooLong) h k = record {
   belongs_to = tt;
-  comes_from = check_of _ old controller name c h (along (old.held name) (λ written long. (k.0, long)) (subst (λ held. CameOf (held name) (λ bytes. longest_certificate < length bytes)) e k.1));
-  shows = Rose-earlier (old.came + longest_certificate) (then.came + longest_certificate) new.came (omega arith) k.2;
+  comes_from = check_of _ old controller name c h (along (old.held name) (λ written long. (k.0, long)) k.1);
+  shows = k.2;
 }
-row_of_no_certificate old then new controller name c (stop.CertificateRefused line (fault.Text why)) h e m l k = record {
-  belongs_to = tt;
-  comes_from = check_of _ old controller name c h (subst (λ held. CameOf (held name) (λ written. (length written ≤ longest_certificate) × (certificate_in written ≡ Err (unread.Text line why)))) e k);
-  shows = tt;
-}
-row_of_no_certificate old then new controller name c stop.NoMemory h e m l k = tt
-row_of_no_certificate old then new controller name c why h e m l k = absurd k
+no_certificate old new controller name c (stop.CertificateRefused line (fault.Text why)) h k =
+    record { belongs_to = tt; comes_from = check_of _ old controller name c h k; shows = tt }
+no_certificate old new controller name c stop.NoMemory h k = tt
+no_certificate old new controller name c why h k = absurd k
+
+pub row_of_no_certificate : (old then new : FilesSeen) (controller name : List ℕ) (c : ControllerView) (why : Stop) → CameOf (old.held controller) (λ bytes. IsController bytes c)
+    → then.held ≡ old.held → old.faults ≤ then.faults → old.came ≤ then.came → IsUnreadCertificate then new name why → IsCheckRow (old.held controller) old new controller name (Err why)
+row_of_no_certificate old then new controller name c why h e m l k = no_certificate old new controller name c why h (unread_earlier old then new name why e m l k)
 
 -- what the check of a certificate that was read comes to
 spelled_of : (P : Certificate → Type 0) (old then : FilesSeen) (name : List ℕ) (certificate : Certificate) → then.held ≡ old.held → CameOf (then.held name) (λ written. IsSpelled written certificate)

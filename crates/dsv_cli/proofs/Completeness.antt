@@ -1,19 +1,23 @@
 -- Each outcome is a verdict, a refusal, a fault or want of memory.
 use Rattle.std.proofs.Common.{inl, inr, refl, ℕ, List}
 use Rattle.std.specs.Prelude.{Option, Ok, Err}
+use Rattle.dsv_base.specs.Counts.{Rose}
 use Rattle.dsv_base.specs.Seen.{FilesSeen}
 use Rattle.dsv_command.specs.Jobs.{Asked}
 use Rattle.dsv_report.specs.declared.answers.Answer.TheVariants as answer
 use Rattle.dsv_report.specs.declared.stop.Stop.TheVariants as stop
+use Rattle.dsv_report.specs.declared.stop.WhichFile.{WhichFile}
 use Rattle.dsv_report.specs.declared.stop.WhichFile.TheVariants as file
 use Rattle.dsv_cascade.specs.declared.stability.CascadeForms.{CascadeForms}
 use Rattle.dsv_cascade.specs.declared.stability.CascadeForms.TheVariants as forms
 use Rattle.dsv_command.specs.Cascades.{AskedCascade}
+use Rattle.dsv_command.specs.States.{StateTask, checks_form, seeks_form, searches_states, measures_states, simulates_states, AskedStates}
 use Rattle.dsv_report.specs.Report.{answer_status, forms_status}
 use Rattle.dsv_report.specs.declared.answers.Answer.{Answer}
 use Rattle.dsv_cli.specs.Cascades.{IsCascadeRow}
 use Rattle.dsv_cli.specs.Completeness.{IsVerdict, IsDecidedBy, AreDecided}
 use Rattle.dsv_cli.specs.Headline.{IsRow, IsCheckRow}
+use Rattle.dsv_cli.specs.States.{NamesUnread, IsStateRow}
 
 job_decided : (told : Option (List ℕ)) (old new : FilesSeen) (job : Asked) → IsDecidedBy old new (IsRow told old new job)
 job_decided told old new job (Ok (answer.Falls poly offer fall)) row none calm = inl (inl refl)
@@ -37,6 +41,8 @@ job_decided told old new job (Ok (answer.FormulaText formula)) row none calm = i
 job_decided told old new job (Ok (answer.Simulated rows)) row none calm = inl (inl refl)
 job_decided told old new job (Ok (answer.Generated found)) row none calm = absurd row
 job_decided told old new job (Ok (answer.Checked certified)) row none calm = absurd row
+job_decided told old new job (Ok (answer.StateFalls many offer fall)) row none calm = absurd row
+job_decided told old new job (Ok answer.NoStateForm) row none calm = absurd row
 job_decided told old new job (Err (stop.JobSize size)) row none calm = absurd (none (Err (stop.JobSize size)) (inr (inr (inl refl))) row)
 job_decided told old new job (Err (stop.FileRefused r)) row none calm = absurd (none (Err (stop.FileRefused r)) (inr (inl refl)) row)
 job_decided told old new job (Err stop.FileTooLong) row none calm = absurd (none (Err stop.FileTooLong) (inr (inl refl)) row)
@@ -49,6 +55,8 @@ job_decided told old new job (Err (stop.SectionRefused section r)) row none calm
 job_decided told old new job (Err (stop.SectionTooLong section)) row none calm = absurd row
 job_decided told old new job (Err (stop.SectionQuant section r)) row none calm = absurd row
 job_decided told old new job (Err (stop.CascadeRefused r)) row none calm = absurd row
+job_decided told old new job (Err (stop.StateRefused r)) row none calm = absurd row
+job_decided told old new job (Err (stop.StateQuantRefused r)) row none calm = absurd row
 job_decided told old new job (Err (stop.CertificateRefused line fault)) row none calm = absurd row
 job_decided told old new job (Err stop.Usage) row none calm = absurd row
 job_decided told old new job (Err stop.NoMemory) row none calm = inr refl
@@ -68,6 +76,8 @@ check_decided told old new controller name (Err (stop.SectionRefused section r))
 check_decided told old new controller name (Err (stop.SectionTooLong section)) row none calm = absurd row
 check_decided told old new controller name (Err (stop.SectionQuant section r)) row none calm = absurd row
 check_decided told old new controller name (Err (stop.CascadeRefused r)) row none calm = absurd row
+check_decided told old new controller name (Err (stop.StateRefused r)) row none calm = absurd row
+check_decided told old new controller name (Err (stop.StateQuantRefused r)) row none calm = absurd row
 check_decided told old new controller name (Err (stop.InputRange index value)) row none calm = absurd row
 check_decided told old new controller name (Err stop.Usage) row none calm = absurd row
 check_decided told old new controller name (Err stop.NoMemory) row none calm = inr refl
@@ -82,6 +92,8 @@ answer_verdict : (found : Answer) → IsVerdict (answer_status found)
 answer_verdict (answer.Falls poly offer fall) = inl refl
 answer_verdict (answer.KeptAway poly offer fall value) = inr (inl refl)
 answer_verdict (answer.OfSections found) = forms_verdict found
+answer_verdict (answer.StateFalls many offer fall) = inl refl
+answer_verdict answer.NoStateForm = inr (inr refl)
 answer_verdict answer.NoZeros = inr (inl refl)
 answer_verdict (answer.NoForm poly kept verdict) = inr (inr refl)
 answer_verdict (answer.Wide index) = inr (inr refl)
@@ -115,9 +127,41 @@ cascade_decided old new asked (Err (stop.InputRange index value)) row none calm 
 cascade_decided old new asked (Err (stop.ReadFault file.Controller)) row none calm = absurd (calm row.shows.0)
 cascade_decided old new asked (Err (stop.ReadFault file.Certificate)) row none calm = absurd row
 cascade_decided old new asked (Err (stop.ReadFault (file.Section section))) row none calm = absurd (calm row.2.5.1)
+cascade_decided old new asked (Err (stop.StateRefused r)) row none calm = absurd row
+cascade_decided old new asked (Err (stop.StateQuantRefused r)) row none calm = absurd row
 cascade_decided old new asked (Err (stop.CertificateRefused line fault)) row none calm = absurd row
 cascade_decided old new asked (Err stop.Usage) row none calm = absurd row
 cascade_decided old new asked (Err stop.NoMemory) row none calm = inr refl
 
+-- a certificate that is named couldn't be read
+fault_rose : (old new : FilesSeen) (task : StateTask) (which : WhichFile) → NamesUnread old new task (stop.ReadFault which) → Rose old.faults new.faults
+fault_rose old new (checks_form name) file.Certificate h = h.0
+fault_rose old new (checks_form name) file.Controller h = absurd h
+fault_rose old new (checks_form name) (file.Section section) h = absurd h
+fault_rose old new (seeks_form certified) which h = absurd h
+fault_rose old new (searches_states p samples conflicts) which h = absurd h
+fault_rose old new measures_states which h = absurd h
+fault_rose old new (simulates_states inputs) which h = absurd h
+
+state_decided : (old new : FilesSeen) (asked : AskedStates) → IsDecidedBy old new (IsStateRow old new asked)
+state_decided old new asked (Ok found) row none calm = inl (answer_verdict found)
+state_decided old new asked (Err stop.Usage) row none calm = absurd (none (Err stop.Usage) (inl refl) row)
+state_decided old new asked (Err (stop.FileRefused r)) row none calm = absurd (none (Err (stop.FileRefused r)) (inr (inl refl)) row)
+state_decided old new asked (Err stop.FileTooLong) row none calm = absurd (none (Err stop.FileTooLong) (inr (inl refl)) row)
+state_decided old new asked (Err (stop.QuantRefused r)) row none calm = absurd (none (Err (stop.QuantRefused r)) (inr (inl refl)) row)
+state_decided old new asked (Err (stop.SectionRefused section r)) row none calm = absurd (none (Err (stop.SectionRefused section r)) (inr (inl refl)) row)
+state_decided old new asked (Err (stop.SectionTooLong section)) row none calm = absurd (none (Err (stop.SectionTooLong section)) (inr (inl refl)) row)
+state_decided old new asked (Err (stop.SectionQuant section r)) row none calm = absurd (none (Err (stop.SectionQuant section r)) (inr (inl refl)) row)
+state_decided old new asked (Err (stop.CascadeRefused r)) row none calm = absurd (none (Err (stop.CascadeRefused r)) (inr (inl refl)) row)
+state_decided old new asked (Err (stop.StateRefused r)) row none calm = absurd (none (Err (stop.StateRefused r)) (inr (inl refl)) row)
+state_decided old new asked (Err (stop.StateQuantRefused r)) row none calm = absurd (none (Err (stop.StateQuantRefused r)) (inr (inl refl)) row)
+state_decided old new asked (Err (stop.InputRange index value)) row none calm = absurd (none (Err (stop.InputRange index value)) (inr (inl refl)) row)
+state_decided old new asked (Err (stop.JobSize size)) row none calm = absurd (none (Err (stop.JobSize size)) (inr (inr (inl refl))) row)
+state_decided old new asked (Err (stop.CertificateRefused line fault)) row none calm = absurd (none (Err (stop.CertificateRefused line fault)) (inr (inr (inr refl))) row)
+state_decided old new asked (Err (stop.ReadFault file.Controller)) row none calm = absurd (calm row.0)
+state_decided old new asked (Err (stop.ReadFault file.Certificate)) row none calm = absurd (calm (fault_rose old new asked.task file.Certificate row.2))
+state_decided old new asked (Err (stop.ReadFault (file.Section section))) row none calm = absurd (calm (fault_rose old new asked.task (file.Section section) row.2))
+state_decided old new asked (Err stop.NoMemory) row none calm = inr refl
+
 pub are_decided : AreDecided
-are_decided = record { jobs = job_decided; cascades = cascade_decided; checks = check_decided }
+are_decided = record { jobs = job_decided; cascades = cascade_decided; states = state_decided; checks = check_decided }

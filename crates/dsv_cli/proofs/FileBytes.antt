@@ -1,8 +1,9 @@
 -- Why the bytes of a file aren't those of a controller or a certificate.
-use Rattle.std.proofs.Common.{◌≡◌, refl, ℕ, ◌+◌, ◌<◌, ◌≤◌, List, length}
-use Rattle.std.specs.Prelude.{Option, IfSome}
+use Rattle.std.proofs.Common.{◌≡◌, refl, subst, arith, ℕ, ◌+◌, ◌<◌, ◌≤◌, List, length}
+use Rattle.std.specs.Prelude.{Option, IfSome, Err}
 use Rattle.dsv_base.specs.Counts.{Rose}
 use Rattle.dsv_base.specs.Seen.{FilesSeen}
+use Rattle.dsv_base.proofs.TakingLemmas.{Rose-earlier}
 use Rattle.dsv_token.specs.Memory.{Refuses}
 use Rattle.dsv_token.specs.declared.refusal.FileRefusal.{FileRefusal}
 use Rattle.dsv_token.specs.declared.refusal.FileRefusal.TheVariants as text
@@ -19,7 +20,7 @@ use Rattle.dsv_report.specs.declared.stop.WhichFile.{WhichFile}
 use Rattle.dsv_report.specs.declared.stop.WhichFile.TheVariants as file
 use Rattle.dsv_cli.specs.Checking.{IsUnreadCertificate}
 use Rattle.dsv_cli.specs.FileBytes.{limit_of, too_long_of, IsUnreadFile}
-use Rattle.dsv_cli.specs.Headline.{longest_file, longest_certificate, IsUnread}
+use Rattle.dsv_cli.specs.Headline.{longest_file, longest_certificate, CameOf, IsUnread}
 use Rattle.dsv_cli.proofs.Told.{some_came, more_came}
 
 -- ---- bytes that didn't come
@@ -55,3 +56,13 @@ pub certificate_faulty : (old new : FilesSeen) (name bytes : List ℕ) (r : Cert
     → certificates.Refuses r (certificate_in bytes) → IsUnreadCertificate old new name (stop_of_text r)
 certificate_faulty old new name bytes (unread.Text line why) e short h = (bytes, e, (short, h))
 certificate_faulty old new name bytes unread.NoMemory e short h = tt
+
+-- a file that is no certificate's, after others were read
+pub unread_earlier : (old then new : FilesSeen) (name : List ℕ) (why : Stop) → then.held ≡ old.held → old.faults ≤ then.faults → old.came ≤ then.came → IsUnreadCertificate then new name why → IsUnreadCertificate old new name why
+unread_earlier old then new name (stop.ReadFault file.Certificate) e m l h = (Rose-earlier old.faults then.faults new.faults m h.0, h.1)
+unread_earlier old then new name (stop.CertificateRefused line fault.TooLong) e m l h =
+    (h.0, subst (λ held. CameOf (held name) (λ bytes. longest_certificate < length bytes)) e h.1, Rose-earlier (old.came + longest_certificate) (then.came + longest_certificate) new.came (omega arith) h.2)
+unread_earlier old then new name (stop.CertificateRefused line (fault.Text why)) e m l h =
+    subst (λ held. CameOf (held name) (λ written. (length written ≤ longest_certificate) × (certificate_in written ≡ Err (unread.Text line why)))) e h
+unread_earlier old then new name stop.NoMemory e m l h = tt
+unread_earlier old then new name why e m l h = absurd h

@@ -16,6 +16,7 @@ pub mod OneAnswerStages
 pub mod OneAnswerTasks
 pub mod Pairwise
 pub mod SectionFiles
+pub mod StateRows
 pub mod Suffixes
 pub mod Told
 pub mod Unasked

@@ -1,6 +1,6 @@
 -- The stages of a run and what each gives; private contracts alone cite it. `Headline` has the
 -- table that they lead to.
-use Rattle.std.specs.Prelude.{◌≡◌, ℕ, List, Ok, Err, ℤ}
+use Rattle.std.specs.Prelude.{◌≡◌, ◌≤◌, ℕ, List, Ok, Err, ℤ}
 use Rattle.dsv_names.specs.declared.property.RunProperty.{RunProperty}
 use Rattle.dsv_names.specs.declared.property.RunProperty.TheVariants as run
 use Rattle.dsv_names.specs.declared.property.RootProperty.{RootProperty}
@@ -113,6 +113,7 @@ IsOfTask c (simulates inputs) q found = IsOfRun q inputs found
 -- the answer needs no proposer, and the forms in it have at most eight places
 abbrev pub IsPlain : Outcome → Type 0
 IsPlain (Ok (answer.OfSections found)) = FormsHavePlaces found
+IsPlain (Ok (answer.StateFalls many offer fall)) = (offer.form.d ≤ 8) × (fall.d ≤ 8)
 IsPlain (Ok (answer.Falls poly offer fall)) = ⊥
 IsPlain (Ok (answer.KeptAway poly offer fall value)) = ⊥
 IsPlain (Ok (answer.NoForm poly kept verdict)) = ⊥

@@ -1,4 +1,5 @@
--- The stages of a check of a certificate and what each gives; private contracts alone cite it.
+-- The stages of a check of a certificate and what each gives: of them `States` cites
+-- `IsUnreadCertificate`, and else private contracts alone do.
 use Rattle.std.specs.Prelude.{◌≡◌, ℕ, ◌+◌, ◌<◌, ◌≤◌, List, length, Some, Ok, Err}
 use Rattle.dsv_base.specs.Counts.{Rose}
 use Rattle.dsv_base.specs.Seen.{FilesSeen}

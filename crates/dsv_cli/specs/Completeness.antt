@@ -5,11 +5,13 @@ use Rattle.dsv_base.specs.Counts.{Rose}
 use Rattle.dsv_base.specs.Seen.{FilesSeen}
 use Rattle.dsv_command.specs.Cascades.{AskedCascade}
 use Rattle.dsv_command.specs.Jobs.{Asked}
+use Rattle.dsv_command.specs.States.{AskedStates}
 use Rattle.dsv_report.specs.Report.{status_of}
 use Rattle.dsv_report.specs.declared.stop.Stop.TheVariants as stop
 use Rattle.dsv_report.specs.Stops.{Outcome}
 use Rattle.dsv_cli.specs.Cascades.{IsCascadeRow}
 use Rattle.dsv_cli.specs.Headline.{IsRow, IsCheckRow}
+use Rattle.dsv_cli.specs.States.{IsStateRow}
 
 -- the status of a job that is done or holds, that fails, or that is inconclusive
 abbrev pub IsVerdict : ℕ → Type 0
@@ -37,5 +39,7 @@ pub record AreDecided : Type 0 where
       → IsDecidedBy old new (IsRow told old new job)
   pub cascades : (old new : FilesSeen) (asked : AskedCascade)
       → IsDecidedBy old new (IsCascadeRow old new asked)
+  pub states : (old new : FilesSeen) (asked : AskedStates)
+      → IsDecidedBy old new (IsStateRow old new asked)
   pub checks : (told : Option (List ℕ)) (old new : FilesSeen) (controller name : List ℕ)
       → IsDecidedBy old new (IsCheckRow told old new controller name)

@@ -1,11 +1,15 @@
 -- What a run answers to a list of arguments.
-use Rattle.std.specs.Prelude.{◌≡◌, ◌⊎◌, Option, Some, None, Err}
+use Rattle.std.specs.Prelude.{◌≡◌, ◌⊎◌, ℕ, Option, Some, None, Err}
 use Rattle.dsv_base.specs.Seen.{FilesSeen}
-use Rattle.dsv_command.specs.Requests.{Request, on_file, on_cascade, checks, generates}
+use Rattle.dsv_certfile.specs.declared.job.CertWords.{CertWords}
+use Rattle.dsv_certfile.specs.declared.job.CertWords.TheVariants as words
+use Rattle.dsv_command.specs.Requests.{Request, on_file, on_cascade, on_states, checks}
+use Rattle.dsv_command.specs.Requests.{generates}
 use Rattle.dsv_report.specs.declared.stop.Stop.TheVariants as stop
 use Rattle.dsv_report.specs.Stops.{Outcome}
 use Rattle.dsv_cli.specs.Cascades.{IsCascadeRow}
-use Rattle.dsv_cli.specs.Headline.{IsRow, IsCheckRow, IsOfGeneration}
+use Rattle.dsv_cli.specs.Headline.{IsRow, IsCheckRow, IsOfGeneration, SaysWords}
+use Rattle.dsv_cli.specs.States.{IsStateRow, SaysStates}
 
 -- Arguments that ask for nothing come to Usage, and a job or a check to what has its row. Generated
 -- controllers are answered by their tally, with the files untouched. Only NoMemory has no stated
@@ -15,7 +19,16 @@ IsExplained old new None found =
     (found ≡ Err stop.NoMemory) ⊎ ((found ≡ Err stop.Usage) × (new ≡ old))
 IsExplained old new (Some (on_file job)) found = IsRow (old.held job.file) old new job found
 IsExplained old new (Some (on_cascade asked)) found = IsCascadeRow old new asked found
+IsExplained old new (Some (on_states asked)) found = IsStateRow old new asked found
 IsExplained old new (Some (checks controller name)) found =
     IsCheckRow (old.held controller) old new controller name found
 IsExplained old new (Some (generates seed count)) found =
     IsOfGeneration seed count found × (new ≡ old)
+
+-- How many states a run says that its controller has, and what a certificate says of the words:
+-- what the job's file has. Of other jobs, and where there is none, it is 0 and nothing.
+abbrev pub IsSaid : FilesSeen → FilesSeen → Option Request → Outcome → ℕ → CertWords → Type 0
+IsSaid old new (Some (on_file job)) found many said =
+    (many ≡ 0) × SaysWords old new job found said
+IsSaid old new (Some (on_states asked)) found many said = SaysStates old new asked found many said
+IsSaid old new other found many said = (many ≡ 0) × (said ≡ words.Unsaid)

@@ -449,10 +449,9 @@ FoundUnread old new name (Ok found) = ⊥
 FoundUnread old new name (Err why) = IsUnread (old.held name) old new name why
 
 -- What a certificate says of the words, where a job on a file comes to this: what the file's
--- controller has. Nothing is said where the file is no controller's, or no job is asked for.
-abbrev pub SaysWords : FilesSeen → FilesSeen → Option Asked → Outcome → CertWords → Type 0
-SaysWords old new None found said = said ≡ words.Unsaid
-SaysWords old new (Some job) found said =
+-- controller has. Nothing is said where the file is no controller's.
+abbrev pub SaysWords : FilesSeen → FilesSeen → Asked → Outcome → CertWords → Type 0
+SaysWords old new job found said =
     CameOf (old.held job.file) (λ bytes. HasWords bytes said)
     ⊎ ((said ≡ words.Unsaid) × FoundUnread old new job.file found)
 

@@ -16,6 +16,8 @@ pub mod SectionFiles
 pub mod SetAsking
 pub mod Sets
 pub mod Simulating
+pub mod StateStages
+pub mod States
 pub mod Suffixes
 pub mod Timing
 pub mod Turns

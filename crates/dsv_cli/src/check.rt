@@ -18,7 +18,11 @@ use std::alloc::Global;
 const JOB_LINE: u64 = 2;
 
 /// The certificate in the file of this name.
-fn read_certificate<F: Files>(alloc: Global, name: &str, files: &mut F) -> Result<Certificate, Stop>
+pub(crate) fn read_certificate<F: Files>(
+    alloc: Global,
+    name: &str,
+    files: &mut F,
+) -> Result<Certificate, Stop>
     ensures spelled { IfOk result (λ c. CameOf ((F.seen files.old).held name.now)
         (λ written. IsSpelled written c)) }
     ensures unread { IfErr result
@@ -30,7 +34,7 @@ fn read_certificate<F: Files>(alloc: Global, name: &str, files: &mut F) -> Resul
 }
 
 /// Why there is no answer where the check of a certificate refuses it.
-fn check_stop(refusal: CheckRefusal) -> Stop
+pub(crate) fn check_stop(refusal: CheckRefusal) -> Stop
     ensures { result ≡ stop_of_check refusal }
 {
     match refusal {

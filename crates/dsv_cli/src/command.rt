@@ -3,15 +3,17 @@ ghost use Rattle.std.specs.Prelude.{◌≡◌, false, Some, None, IfOk, IfSome, 
 ghost use Rattle.dsv_certfile.specs.Lawful.{IsWords};
 ghost use Rattle.dsv_certfile.specs.Typed.{IsTyped};
 ghost use Rattle.dsv_certfile.specs.declared.job.CertWords.TheVariants as words_said;
+ghost use Rattle.dsv_command.specs.Asking.{asked_states};
 ghost use Rattle.dsv_command.specs.Requests.{request_of, job_of};
-ghost use Rattle.dsv_report.specs.AnyJobs.{asked_in};
+ghost use Rattle.dsv_report.specs.AnyJobs.{asked_in, of_states};
 ghost use Rattle.dsv_report.specs.Printing.{HasPlaces};
 ghost use Rattle.dsv_report.specs.Output.{output_of, certificate_written, asked_by};
 ghost use Rattle.dsv_report.specs.Report.{status_of};
-ghost use Rattle.dsv_cli.specs.Explained.{IsExplained};
-ghost use Rattle.dsv_cli.specs.Headline.{IsOfGeneration, FileBecomes, SaysWords};
+ghost use Rattle.dsv_cli.specs.Explained.{IsExplained, IsSaid};
+ghost use Rattle.dsv_cli.specs.Headline.{IsOfGeneration, FileBecomes};
 ghost use Rattle.dsv_cli.specs.Headline.{AreKept, IsWritten, IfWhole};
 ghost use Rattle.dsv_cli.specs.Causes.{IsPlain};
+ghost use Rattle.dsv_cli.specs.States.{IsStateRow, SaysStates};
 ghost use Rattle.dsv_cli.specs.Proposers.{IsAsked, AreSetsAsked, IfNoForm, is_low};
 ghost use Rattle.dsv_cli.specs.Proposers.{WantsForm, WantsSet, WantsSchurCohn, IsBeyond};
 
@@ -19,9 +21,10 @@ use crate::check::check_answer;
 use crate::job::{JobOutcome, job_outcome};
 use crate::proposers::Proposers;
 use crate::series::cascade_outcome;
+use crate::states::{StateOutcome, state_outcome};
 use dsv_base::{Files, Sink};
 use dsv_certfile::CertWords;
-use dsv_command::{Generation, Request, read_request};
+use dsv_command::{Generation, Request, StateJob, read_request};
 use dsv_generator::generate;
 use dsv_lyapunov::FormProposer;
 use dsv_report::{Answer, AnyJob, Stop, put_output, status_of};
@@ -39,6 +42,8 @@ pub struct Done {
     pub outcome: Result<Answer, Stop>,
     /// What a certificate of it says of the format of the controller's words.
     pub words: CertWords,
+    /// How many states a state-space controller has, as its accepted file says; 0 of all else.
+    pub states: u32,
 }
 
 /// What is found of so many controllers of a seed.
@@ -74,6 +79,7 @@ pub(crate) fn put_outcome<K: Sink>(sink: &mut K, outcome: Result<Answer, Stop>) 
     requires { IfOk outcome HasPlaces }
     ensures outcome { result.outcome ≡ outcome }
     ensures words { result.words ≡ words_said.Unsaid }
+    ensures states { result.states ≡ 0 }
     ensures written { IsWritten (K.seen sink.old) (K.seen sink.new) result.status
         (status_of outcome) (output_of None result.words outcome) }
     ensures typed { IfWhole result.status
@@ -85,6 +91,43 @@ pub(crate) fn put_outcome<K: Sink>(sink: &mut K, outcome: Result<Answer, Stop>) 
         status,
         outcome,
         words,
+        states: 0,
+    }
+}
+
+/// Runs a job for a state-space controller, and writes what it came to.
+fn states_done<F: Files, K: Sink>(
+    alloc: Global,
+    job: &StateJob,
+    files: &mut F,
+    sink: &mut K,
+) -> Done
+    ensures row { IsStateRow (F.seen files.old) (F.seen files.new) (asked_states job.now)
+        result.outcome }
+    ensures said { SaysStates (F.seen files.old) (F.seen files.new) (asked_states job.now)
+        result.outcome result.states result.words }
+    ensures kept { AreKept (F.seen files.old) (F.seen files.new) }
+    ensures plain { IsPlain result.outcome }
+    ensures written { IsWritten (K.seen sink.old) (K.seen sink.new) result.status
+        (status_of result.outcome)
+        (output_of (Some (of_states (asked_states job.now) result.states)) result.words
+        result.outcome) }
+    ensures typed { IfWhole result.status (IfSome
+        (certificate_written (Some (of_states (asked_states job.now) result.states)) result.words
+        result.outcome) IsTyped) }
+{
+    let StateOutcome {
+        outcome,
+        states,
+        words,
+    } = state_outcome(alloc, job, files);
+    let heading = AnyJob::OfStates { job, states };
+    let status = written_status(sink, Some(heading), words, &outcome);
+    Done {
+        status,
+        outcome,
+        words,
+        states,
     }
 }
 
@@ -125,20 +168,22 @@ pub fn run<F: Files, K: Sink>(
     // Where the Schur-Cohn form is asked for, so is one for which it is known to be accepted.
     ensures schur_cohn { WantsSchurCohn (job_of (map string_bytes arguments.now))
         → IfNoForm result.outcome (λ poly kept. IsBeyond poly) }
-    // What a certificate says of the words is what the file's controller has.
-    ensures words { SaysWords (F.seen files.old) (F.seen files.new)
-        (job_of (map string_bytes arguments.now)) result.outcome result.words }
+    // What a certificate says of the words is what the file's controller has, and so is how many
+    // states the report of a state-space controller says.
+    ensures said { IsSaid (F.seen files.old) (F.seen files.new)
+        (request_of (map string_bytes arguments.now)) result.outcome result.states result.words }
     // What the files hold is as before.
     ensures kept { AreKept (F.seen files.old) (F.seen files.new) }
     // The certificate that the job wants, or else the outcome's text, was written and the status is
     // the outcome's, or the status is 4 and the sink failed.
     ensures written { IsWritten (K.seen sink.old) (K.seen sink.new) result.status
         (status_of result.outcome)
-        (output_of (asked_by (request_of (map string_bytes arguments.now))) result.words
-        result.outcome) }
+        (output_of (asked_by result.states (request_of (map string_bytes arguments.now)))
+        result.words result.outcome) }
     // Of a certificate that was written whole its types are known.
     ensures typed { IfWhole result.status (IfSome
-        (certificate_written (asked_by (request_of (map string_bytes arguments.now))) result.words
+        (certificate_written
+        (asked_by result.states (request_of (map string_bytes arguments.now))) result.words
         result.outcome) IsTyped) }
 {
     match read_request(alloc, arguments) {
@@ -149,6 +194,7 @@ pub fn run<F: Files, K: Sink>(
                 status,
                 outcome,
                 words,
+                states: 0,
             }
         }
         Ok(Some(Request::OnCascade(job))) => {
@@ -159,8 +205,10 @@ pub fn run<F: Files, K: Sink>(
                 status,
                 outcome,
                 words,
+                states: 0,
             }
         }
+        Ok(Some(Request::OnStates(job))) => states_done(alloc, &job, files, sink),
         Ok(Some(Request::Check(asked))) => put_outcome(sink, check_answer(alloc, &asked, files)),
         Ok(Some(Request::Generate(asked))) => put_outcome(sink, generation_answer(alloc, asked)),
         Ok(None) => put_outcome(sink, Err(Stop::Usage)),

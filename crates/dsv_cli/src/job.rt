@@ -127,7 +127,7 @@ pub(crate) fn job_outcome<F: Files>(
 ) -> JobOutcome
     ensures row { IsRow ((F.seen files.old).held (asked_of job.now).file) (F.seen files.old)
         (F.seen files.new) (asked_of job.now) result.outcome }
-    ensures words { SaysWords (F.seen files.old) (F.seen files.new) (Some (asked_of job.now))
+    ensures words { SaysWords (F.seen files.old) (F.seen files.new) (asked_of job.now)
         result.outcome result.words }
     ensures lawful { IsWords result.words }
     ensures kept { AreKept (F.seen files.old) (F.seen files.new) }

@@ -18,6 +18,8 @@ mod sections;
 mod series;
 mod sets;
 mod simulation;
+mod state_file;
+mod states;
 mod system_files;
 mod timing;
 mod turns;

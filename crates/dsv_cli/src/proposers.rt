@@ -7,8 +7,8 @@ ghost use Rattle.dsv_report.specs.Report.{status_of};
 ghost use Rattle.dsv_invariant.specs.Shapes.{shape_of};
 ghost use Rattle.dsv_template.specs.declared.shape.Shape.{Shape};
 ghost use Rattle.dsv_template.specs.Boxes.{boxes};
-ghost use Rattle.dsv_cli.specs.Explained.{IsExplained};
-ghost use Rattle.dsv_cli.specs.Headline.{FileBecomes, SaysWords};
+ghost use Rattle.dsv_cli.specs.Explained.{IsExplained, IsSaid};
+ghost use Rattle.dsv_cli.specs.Headline.{FileBecomes};
 ghost use Rattle.dsv_cli.specs.Headline.{AreKept, IsWritten, IfWhole};
 ghost use Rattle.dsv_cli.specs.Proposers.{
   IfNoForm,
@@ -57,17 +57,17 @@ fn run_with<F: Files, K: Sink>(
     ensures low_orders { IfNoForm result.outcome (λ poly kept. is_low poly ≡ false) }
     ensures schur_cohn { WantsSchurCohn (job_of (map string_bytes arguments.now))
         → IfNoForm result.outcome (λ poly kept. IsBeyond poly) }
-    ensures words { SaysWords (F.seen files.old) (F.seen files.new)
-        (job_of (map string_bytes arguments.now)) result.outcome result.words }
+    ensures said { IsSaid (F.seen files.old) (F.seen files.new)
+        (request_of (map string_bytes arguments.now)) result.outcome result.states result.words }
     ensures kept { AreKept (F.seen files.old) (F.seen files.new) }
     ensures written { IsWritten (K.seen sink.old) (K.seen sink.new) result.status
         (status_of result.outcome)
-        (output_of (asked_by (request_of (map string_bytes arguments.now))) result.words
-        result.outcome) }
+        (output_of (asked_by result.states (request_of (map string_bytes arguments.now)))
+        result.words result.outcome) }
     ensures typed { IfWhole result.status (IfSome
-        (certificate_written (asked_by (request_of (map string_bytes arguments.now))) result.words
-        result.outcome)
-        IsTyped) }
+        (certificate_written
+        (asked_by result.states (request_of (map string_bytes arguments.now))) result.words
+        result.outcome) IsTyped) }
 {
     let Ok(second) = Box::new(alloc, SumProposer::new()) else {
         return put_outcome(sink, Err(Stop::NoMemory));
@@ -99,17 +99,17 @@ pub fn run_with_built_in<F: Files, K: Sink>(
     ensures low_orders { IfNoForm result.outcome (λ poly kept. is_low poly ≡ false) }
     ensures schur_cohn { WantsSchurCohn (job_of (map string_bytes arguments.now))
         → IfNoForm result.outcome (λ poly kept. IsBeyond poly) }
-    ensures words { SaysWords (F.seen files.old) (F.seen files.new)
-        (job_of (map string_bytes arguments.now)) result.outcome result.words }
+    ensures said { IsSaid (F.seen files.old) (F.seen files.new)
+        (request_of (map string_bytes arguments.now)) result.outcome result.states result.words }
     ensures kept { AreKept (F.seen files.old) (F.seen files.new) }
     ensures written { IsWritten (K.seen sink.old) (K.seen sink.new) result.status
         (status_of result.outcome)
-        (output_of (asked_by (request_of (map string_bytes arguments.now))) result.words
-        result.outcome) }
+        (output_of (asked_by result.states (request_of (map string_bytes arguments.now)))
+        result.words result.outcome) }
     ensures typed { IfWhole result.status (IfSome
-        (certificate_written (asked_by (request_of (map string_bytes arguments.now))) result.words
-        result.outcome)
-        IsTyped) }
+        (certificate_written
+        (asked_by result.states (request_of (map string_bytes arguments.now))) result.words
+        result.outcome) IsTyped) }
 {
     let Ok(first) = Box::new(alloc, BoxProposer::new()) else {
         return put_outcome(sink, Err(Stop::NoMemory));

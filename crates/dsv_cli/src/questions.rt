@@ -49,7 +49,7 @@ pub(crate) fn overflow_found(found: Result<Searched<Trace>, BoundedRefusal>) -> 
 }
 
 /// The answer that a search for a limit cycle gives, or why there is none.
-fn cycle_found(found: Result<Searched<Cycle>, BoundedRefusal>) -> Result<Answer, Stop>
+pub(crate) fn cycle_found(found: Result<Searched<Cycle>, BoundedRefusal>) -> Result<Answer, Stop>
     ensures { result ≡ cycle_outcome found }
 {
     match found {

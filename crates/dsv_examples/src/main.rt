@@ -13,6 +13,12 @@ use std::fs;
 /// certificate is made, and checked against the same file: what is written is what the check says.
 const CASES: &str = "cases.txt";
 
+/// The name of the certificate that is made.
+const CERTIFICATE: &str = "certificate";
+
+/// The option before the name of a state-space controller's file.
+const STATE_SPACE: &str = "--state-space";
+
 /// The most bytes of a certificate that is made.
 const LONGEST_CERTIFICATE: usize = 1 << 22;
 
@@ -35,21 +41,31 @@ fn status_of<F: Files, K: Sink>(
     run_with_built_in(alloc, arguments, files, sink).status
 }
 
-/// Makes the certificate of a job and checks it; the controller's file is the first argument.
+/// The arguments that have the certificate checked against the controller's file, or its form
+/// against a state-space controller's.
+fn check_arguments(alloc: Global, file: &str, is_states: bool) -> Result<Vec<String>> {
+    let line = if is_states {
+        format!(in alloc; "{STATE_SPACE} {file} --property STABILITY --form {CERTIFICATE}")?
+    } else {
+        format!(in alloc; "{file} --check {CERTIFICATE}")?
+    };
+    arguments_of(alloc, &line)
+}
+
+/// Makes the certificate of a job and checks it. The controller's file is the first argument, or a
+/// state-space controller's the second.
 fn certified_status(rt: &HostRuntime, alloc: Global, line: &str, out: &mut OsOut) -> Result<u8> {
     let mut arguments = arguments_of(alloc, line)?;
     arguments.push(String::from_str(alloc, "--certificate")?)?;
-    let file = arguments.first().context("no file")?;
+    let is_states = line.starts_with(STATE_SPACE);
+    let file = arguments.get(usize::from(is_states)).context("no file")?;
     let controller = fs::read_to_string(rt, file)?;
     let mut files = MemFiles::new(alloc);
     files.hold(file, controller.as_bytes())?;
     let mut certificate = MemSink::new(alloc, LONGEST_CERTIFICATE)?;
     status_of(alloc, &arguments, &mut files, &mut certificate);
-    files.hold("certificate", certificate.bytes())?;
-    let mut check = Vec::new(alloc);
-    for argument in [file.as_str(), "--check", "certificate"] {
-        check.push(String::from_str(alloc, argument)?)?;
-    }
+    files.hold(CERTIFICATE, certificate.bytes())?;
+    let check = check_arguments(alloc, file, is_states)?;
     Ok(status_of(alloc, &check, &mut files, out))
 }
 

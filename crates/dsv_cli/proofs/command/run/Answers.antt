@@ -1,10 +1,11 @@
-use Rattle.std.proofs.Common.{rules, ◌≡◌, Some, map, string_bytes, subst}
+use Rattle.std.proofs.Common.{rules, ◌≡◌, refl, Some, map, string_bytes, subst}
 use Rattle.dsv_command.specs.Asking.{asked_of}
-use Rattle.dsv_command.specs.Requests.{request_of, job_of}
+use Rattle.dsv_command.specs.Requests.{on_file, request_of, job_of}
 use Rattle.dsv_report.specs.AnyJobs.{of_controller}
 use Rattle.dsv_report.specs.Output.{output_of, asked_by}
 use Rattle.dsv_report.specs.Report.{status_of}
-use Rattle.dsv_cli.specs.Headline.{FileBecomes, SaysWords, IsWritten}
+use Rattle.dsv_cli.specs.Explained.{IsSaid}
+use Rattle.dsv_cli.specs.Headline.{FileBecomes, IsWritten}
 use Rattle.dsv_cli.specs.Proposers.{AreSetsAsked, IsAsked, WantsForm, WantsSet, WantsSchurCohn, IfNoForm, IsBeyond}
 use Rattle.dsv_cli.proofs.Unasked.{low_is_decided, unasked, sets_unasked, some_form}
 use Rattle.dsv_cli.proofs.command.run.Goals as goal
@@ -49,17 +50,17 @@ returns-in-Ok-Some-OnFile-clause-schur_cohn g c =
 
 pub returns-in-Ok-Some-OnFile-clause-written : goal.returns-in-Ok-Some-OnFile-clause-written
 returns-in-Ok-Some-OnFile-clause-written g c =
-    let e : Some (of_controller (asked_of c.in-Ok-Some-OnFile.job)) ≡ asked_by (request_of (map string_bytes c.args.arguments.now)) = search rules in
+    let e : Some (of_controller (asked_of c.in-Ok-Some-OnFile.job)) ≡ asked_by 0 (request_of (map string_bytes c.args.arguments.now)) = search rules in
     subst
     (λ asked. IsWritten (g.K.Sink.seen c.args.sink.now) (g.K.Sink.seen c.written_status-status.new.sink) c.written_status-status.result (status_of c.job_outcome-outcome.result.outcome) (output_of asked c.job_outcome-outcome.result.words c.job_outcome-outcome.result.outcome))
     e c.written_status-status.ensures.written
 
-pub returns-in-Ok-Some-OnFile-clause-words : goal.returns-in-Ok-Some-OnFile-clause-words
-returns-in-Ok-Some-OnFile-clause-words g c =
-    let e : Some (asked_of c.in-Ok-Some-OnFile.job) ≡ job_of (map string_bytes c.args.arguments.now) = search rules in
+pub returns-in-Ok-Some-OnFile-clause-said : goal.returns-in-Ok-Some-OnFile-clause-said
+returns-in-Ok-Some-OnFile-clause-said g c =
+    let e : Some (on_file (asked_of c.in-Ok-Some-OnFile.job)) ≡ request_of (map string_bytes c.args.arguments.now) = search rules in
     subst
-    (λ asked. SaysWords (g.F.Files.seen c.args.files.now) (g.F.Files.seen c.job_outcome-outcome.new.files) asked c.job_outcome-outcome.result.outcome c.job_outcome-outcome.result.words)
-    e c.job_outcome-outcome.ensures.words
+    (λ request. IsSaid (g.F.Files.seen c.args.files.now) (g.F.Files.seen c.job_outcome-outcome.new.files) request c.job_outcome-outcome.result.outcome 0 c.job_outcome-outcome.result.words)
+    e (refl, c.job_outcome-outcome.ensures.words)
 
 -- ---- a job on a cascade: it asks no proposer
 pub returns-in-Ok-Some-OnCascade-clause-sets : goal.returns-in-Ok-Some-OnCascade-clause-sets
@@ -71,6 +72,17 @@ pub returns-in-Ok-Some-OnCascade-clause-forms : goal.returns-in-Ok-Some-OnCascad
 returns-in-Ok-Some-OnCascade-clause-forms g c =
     unasked (λ b. b.ptr) (λ b. (goal.FormProposer-dyn g (b.vtable, b.value)).last b.value) (λ b cs. (goal.FormProposer-dyn g (b.vtable, b.value)).sure b.value cs) (λ b cs. (goal.FormProposer-dyn g (b.vtable, b.value)).to_come b.value cs)
     (WantsSchurCohn (job_of (map string_bytes c.args.arguments.now))) c.args.proposers.now.forms.items c.cascade_outcome-outcome.result c.cascade_outcome-outcome.ensures.plain
+
+-- ---- a job on a state-space controller: nor does it
+pub returns-in-Ok-Some-OnStates-clause-sets : goal.returns-in-Ok-Some-OnStates-clause-sets
+returns-in-Ok-Some-OnStates-clause-sets g c =
+    sets_unasked (λ b. b.ptr) (λ b. (goal.InvariantProposer-dyn g (b.vtable, b.value)).last b.value) (λ b shape. (goal.InvariantProposer-dyn g (b.vtable, b.value)).to_come b.value shape)
+    (FileBecomes (g.F.Files.seen c.args.files.now) (job_of (map string_bytes c.args.arguments.now))) c.args.proposers.now.sets.items c.states_done.result.outcome c.states_done.ensures.plain
+
+pub returns-in-Ok-Some-OnStates-clause-forms : goal.returns-in-Ok-Some-OnStates-clause-forms
+returns-in-Ok-Some-OnStates-clause-forms g c =
+    unasked (λ b. b.ptr) (λ b. (goal.FormProposer-dyn g (b.vtable, b.value)).last b.value) (λ b cs. (goal.FormProposer-dyn g (b.vtable, b.value)).sure b.value cs) (λ b cs. (goal.FormProposer-dyn g (b.vtable, b.value)).to_come b.value cs)
+    (WantsSchurCohn (job_of (map string_bytes c.args.arguments.now))) c.args.proposers.now.forms.items c.states_done.result.outcome c.states_done.ensures.plain
 
 -- ---- a check of a certificate
 pub returns-in-Ok-Some-Check-clause-sets : goal.returns-in-Ok-Some-Check-clause-sets
