@@ -131,6 +131,18 @@ SERIES = [
          "small/fine_gain.dsv --sections small/fine_pair.dsv --property STABILITY --realization DDFI"),
 ]
 
+STATES = [
+    Kind("Successful", 0, rf"{S}\nproperty STABILITY state-space \d\nform .*",
+         "The form is positive, and less after each step of the states without input, by `fall`: with A in words and q = 2^frac_bits it "
+         "is q^2 P - A^T P A.",
+         "nothing.",
+         "--state-space small/two_states.states --property STABILITY --form small/two_states.cert"),
+    Kind("Inconclusive, `cause NO_FORM`", 20, rf"{I}\nproperty STABILITY state-space \d\ncause NO_FORM\n",
+         "`--lyapunov`: the search for a form found none. That says nothing of the controller, but of most that are stable one is found.",
+         "fewer bits after the point; a form of one's own, with `--form`.",
+         "--state-space small/unstable.states --property STABILITY --lyapunov"),
+]
+
 TIMES = [
     Kind("Successful", 0, rf"{S}\nproperty TIMING .*",
          "The cycles that a sample takes, by the costs of the block `hardware`, are done within the time between two samples.",
@@ -202,6 +214,16 @@ REFUSED = [
          "small/half_pole.dsv --sections small/third_order.dsv --property STABILITY"),
     Kind("32 `MIXED`", 2, r"CASCADE REFUSED 32 .*", "this section of a cascade hasn't FILE's format or `wide`", "one format for all",
          "small/half_pole.dsv --sections small/pole.dsv --property STABILITY"),
+    Kind("41 `LINE`", 2, r"STATE FILE REFUSED 41 .*", "this line of a state-space controller's file is another than wanted", "docs/FILE.md has the lines",
+         "--state-space small/without_end.states --simulate 0"),
+    Kind("42 `NUMBER`", 2, r"STATE FILE REFUSED 42 .*", "in this line the piece at this place, from 0 on after the first word, isn't the number that is wanted",
+         "docs/FILE.md has the ranges", "--state-space small/bad_entry.states --simulate 0"),
+    Kind("43 `WIDTH`", 2, r"STATE FILE REFUSED 43 .*", "in this line words of fewer than 2 or more than 48 bits", "another `format`",
+         "--state-space small/width_49.states --simulate 0"),
+    Kind("44 `COEFFICIENT_RANGE`", 2, r"STATE FILE REFUSED 44 .*", "the entry of this matrix, row and column would be the last number, which is no word",
+         "more bits before the point, or states that are scaled", "--state-space small/twice_the_sum.states --property OVERFLOW --x-size 2"),
+    Kind("45 `FRACTION_WIDE`", 2, r"STATE FILE REFUSED 45 .*", "this entry has too many digits", "fewer digits", "--state-space small/wide_entry.states --simulate 0"),
+    Kind("46 `RANGE_EMPTY`", 2, r"STATE FILE REFUSED 46 .*", "no word lies in the range", "a wider range", "--state-space small/no_inputs_left.states --simulate 0"),
     Kind("after a line `section I`", 2, r"section [1-7]\nFILE REFUSED .*",
          "the file of this section of a cascade is refused, 1 for the first of `--sections`", "as above",
          "small/half_pole.dsv --sections small/missing.dsv,small/half_pole.dsv --property STABILITY"),
@@ -264,6 +286,7 @@ SECTIONS = [
     ("LIMIT_CYCLE", None, CYCLES),
     ("STABILITY and MINIMUM_PHASE", None, ROOTS),
     ("STABILITY of a cascade", None, SERIES),
+    ("STABILITY of a state-space controller", None, STATES),
     ("TIMING", None, TIMES),
     ("Other answers", None, OTHERS),
     ("Refused files: status 2",
@@ -312,7 +335,7 @@ def place_of(argument):
 
 
 def command_of(case):
-    words = [",".join(place_of(file) for file in word.split(",")) if re.search(r"\.(?:dsv|cert)$", word) else word
+    words = [",".join(place_of(file) for file in word.split(",")) if re.search(r"\.(?:dsv|states|cert)$", word) else word
              for word in case.split(" ")]
     return " ".join(["./dsv"] + words)
 

@@ -159,7 +159,7 @@ def first_sentence(note):
 
 # ---- the page
 
-HEADLINE = ("Explained", "Headline", "Cascades", "Proposers", "OneAnswer", "Completeness", "Accepted")
+HEADLINE = ("Explained", "Headline", "Cascades", "States", "Proposers", "OneAnswer", "Completeness", "Accepted")
 LONG = 30
 PAGE = (
     ("The call", "What `run` says of an answer, whatever the arguments, the files and the sink.",
@@ -172,6 +172,10 @@ PAGE = (
     ("Cascades", "What the answers on several files in series say.",
      "IsCascadeRow IsCascadeOf HaveControllers IsLaterRow IsNoCascadeRow IsCascade Fits CascadeView cascade_of IsOfSeries "
      "CascadeNever IsCascadeTrace IsCascadeGain cascade_outlook_of IsCascadeBreak IsCascadeRun AreJudged IsStableSection"),
+    ("State-space controllers", "What the answers on a state-space controller say.",
+     "IsStateRow IsStatesFileOf IsStateController StateFileView IsStateText IsStatesUnread IsOfStates BecomesStates StateView "
+     "state_space_of IsOfStateTask IsOfStateSearch StatesNever IsStateTrace IsStateCycle IsOfStateGain IsStateGain "
+     "state_outlook_of IsStateBreak IsStateRun ShowsStateFall FallsAlongStates IsStateLoss IsOfNamedForm state_check IsSaid SaysStates"),
     ("Stability, minimum phase, timing", "What the answers on polynomials and on time say.",
      "IsTested tested_of ShowsFall StrictlyFallsAlong StrictlyFalls ShowsKeptAway IsKeptAwayAlong IsKeptAway "
      "ShowsNoForm closed_form_of jury_of WantsSchurCohn IsBeyond IsTimed IsTimingOf IsOnTime"),
@@ -179,7 +183,7 @@ PAGE = (
      "longest_certificate IsCheckOf Passes IsChecked HasShown IsShownOf IsFaulty IsRefusedAt IsOfGeneration "
      "IsGeneratedFrom"),
     ("What is written, and what stays", "The output, the status, and the files afterwards.",
-     "IsWritten output_of answer_text stop_text IfWhole IsTyped AreKept"),
+     "IsWritten dsv_report:output_of answer_text stop_text IfWhole IsTyped AreKept"),
     ("Proposers", "What becomes of the lists of objects that offer forms and sets.",
      "IsAsked AreSetsAsked WantsForm WantsSet IfNoForm is_low"),
     ("Three laws over the table", "What holds of all answers together.",
@@ -208,8 +212,10 @@ def wrapped(text):
 
 
 def named(listed, name):
-    """The one definition of the list with this name, that of the headline's own files where several have it."""
-    keys = [key for key in listed if key[1] == name]
+    """The one definition of the list with this name, which may stand after its crate and a colon; where several have it, that of
+    the headline's own files."""
+    crate, _, word = name.rpartition(":")
+    keys = [key for key in listed if key[1] == word and crate in ("", place_of(key)[0])]
     own = [key for key in keys if is_of_headline(key)]
     if len(own or keys) != 1:
         sys.exit(f"believe.py: {len(keys)} definitions of the list are named {name}")
