@@ -5,7 +5,7 @@ use Rattle.std.specs.List.{All}
 use Rattle.std.proofs.lemmas.List.{length-take}
 use Rattle.std.proofs.lemmas.List.Elements.{All-nil, All-take, All-get_or}
 use Rattle.std.proofs.lemmas.Result.{IfOk-weaker}
-use Rattle.dsv_certfile.specs.Bodies.{lines_from, word_in, numbers_of, inequality_with, inequality_numbers, inequality_in, logs_in, invariant_in}
+use Rattle.dsv_certfile.specs.Bodies.{lines_from, word_in, numbers_of, numbers_in, inequality_with, inequality_numbers, inequality_in, logs_in, invariant_in}
 use Rattle.dsv_certfile.specs.Lawful.{IsEntry, IsInequality, IsSet, AreLogs, IsLog}
 use Rattle.dsv_certfile.specs.Limits.{greatest_depth}
 use Rattle.dsv_template.specs.Limits.{most_inequalities}
@@ -17,14 +17,20 @@ use Rattle.dsv_certfile.specs.declared.invariant.SetProof.{SetProof}
 use Rattle.dsv_certfile.specs.declared.keyword.Keyword.{Keyword}
 use Rattle.dsv_certfile.specs.declared.keyword.Keyword.TheVariants as keyword
 use Rattle.dsv_certfile.specs.declared.numbers.NumberRange.TheVariants as range
-use Rattle.dsv_certfile.proofs.LawfulParts.{has_unit, then_has, Yields, yields_both, yields_made, yields_line, yields_lines}
+use Rattle.dsv_certfile.specs.declared.places.Place.{Place}
+use Rattle.dsv_certfile.proofs.LawfulParts.{then_has, Yields, yields_both, yields_made, yields_line, yields_lines}
 use Rattle.dsv_certfile.proofs.LawfulSteps.{yields_log}
 use Rattle.dsv_certfile.proofs.RangeLemmas.{row_has, line_numbers_have}
 use Rattle.dsv_certfile.proofs.WrittenBodies.{after_step, after_base, after_start, after_inequalities, proof_with}
 
+-- the numbers of a line, of which something follows from the ranges of its places
+pub yields_numbers : (places : List Place) (P : List ℤ → Type 0) → ((zs : List ℤ) → AreOf places zs → P zs) → Yields (numbers_in places) P
+yields_numbers places P h =
+    yields_line (numbers_of places) P (λ bytes. IfOk-weaker (numbers_of places bytes) (AreOf places) P h (line_numbers_have places (pieces_of bytes)))
+
 -- the line of a word, of which nothing is said
 pub yields_word : (w : Keyword) → Yields (word_in w) (λ _. Unit {0})
-yields_word w = yields_line (numbers_of (word_places w)) (λ _. Unit {0}) (λ bytes. has_unit (numbers_of (word_places w) bytes))
+yields_word w = yields_numbers (word_places w) (λ _. Unit {0}) (λ _ _. tt)
 
 -- 1 to 17 numbers
 record AreNumbers (zs : List ℤ) : Type 0 where

@@ -5,7 +5,8 @@ use Rattle.std.proofs.lemmas.List.{length-map, length-drop}
 use Rattle.std.proofs.lemmas.List.Elements.{All-nil, All-map, All-same, All-weaker, All-drop, All-get_or}
 use Rattle.std.proofs.lemmas.Result.{IfOk-weaker}
 use Rattle.dsv_forms.specs.Padded.{row_of, corner, matrix_with, form_with, squares_with}
-use Rattle.dsv_certfile.specs.Bodies.{numbers_of, numbers_in, rows_in, word_in, squares_in, falls_in}
+use Rattle.dsv_forms.specs.declared.offers.Form.{Form}
+use Rattle.dsv_certfile.specs.Bodies.{numbers_of, numbers_in, rows_in, word_in, form_in, squares_of, squares_in, falls_in}
 use Rattle.dsv_certfile.specs.Headings.{count_at}
 use Rattle.dsv_certfile.specs.Lawful.{IsWhole, AreWhole, IsForm, AreSquares, IsOffer}
 use Rattle.dsv_certfile.specs.Limits.{most_places, most_squares}
@@ -16,8 +17,8 @@ use Rattle.dsv_certfile.specs.declared.keyword.Keyword.{Keyword}
 use Rattle.dsv_certfile.specs.declared.keyword.Keyword.TheVariants as keyword
 use Rattle.dsv_certfile.specs.declared.numbers.NumberRange.TheVariants as range
 use Rattle.dsv_certfile.proofs.Corners.{HasPlaces, take-row_of, corner-matrix_with}
-use Rattle.dsv_certfile.proofs.LawfulBodies.{yields_word}
-use Rattle.dsv_certfile.proofs.LawfulParts.{Yields, yields_both, yields_made, yields_line, yields_lines}
+use Rattle.dsv_certfile.proofs.LawfulBodies.{yields_numbers, yields_word}
+use Rattle.dsv_certfile.proofs.LawfulParts.{Yields, yields_both, yields_made, yields_lines}
 use Rattle.dsv_certfile.proofs.RangeLemmas.{row_has, line_numbers_have}
 use Rattle.dsv_certfile.proofs.WrittenFalls.{made_of, rest_after, squares_after, fall_after, positive_after, form_after}
 
@@ -56,6 +57,16 @@ form_has d rows h a =
     let same : corner n n (matrix_with rows) ≡ rows = corner-matrix_with n n rows refl few few places in
     record { few = few; filled = ap form_with (sym same); rows = All-same (All IsWhole) (corner n n (matrix_with rows)) rows same a.whole }
 
+-- a form of d places
+pub record IsFormOf (d : ℕ) (f : Form) : Type 0 where
+  pub places : f.d ≡ d
+  pub form : IsForm f
+
+pub yields_form : (d : ℕ) → d ≤ most_places → Yields (form_in d) (IsFormOf d)
+yields_form d h =
+    yields_made (rows_in (row_places keyword.Form d) d) form_with (AreRows d d) (IsFormOf d) (yields_rows keyword.Form d d)
+    (λ rows a. record { places = a.long; form = form_has d rows h a })
+
 -- ---- squares
 -- the line that squares begin with
 record IsHead (zs : List ℤ) : Type 0 where
@@ -67,16 +78,12 @@ head_by w [] h = absurd h
 head_by w (z ∷ []) h = absurd (h.1)
 head_by w (z ∷ y ∷ zs) h = record { factor = h.0; few = h.1.0.1 }
 
-head_has : (w : Keyword) (bytes : List ℕ) → IfOk (numbers_of (squares_places w) bytes) IsHead
-head_has w bytes =
-    IfOk-weaker (numbers_of (squares_places w) bytes) (AreOf (squares_places w)) IsHead (λ zs h. head_by w zs h) (line_numbers_have (squares_places w) (pieces_of bytes))
-
 pub same_squares : (m : ℤ) (a b : List ℤ) (p q r s : List (List ℤ)) → a ≡ b → p ≡ q → r ≡ s → squares_with m b q s ≡ squares_with m a p r
 same_squares m a b p q r s e f g = rw (e, f, g) refl
 
-squares_have : (d count : ℕ) (head : List ℤ) (squares rest : List (List ℤ)) → d ≤ most_places → count ≤ most_squares → IsWhole (get_or head 0 (pos 0))
-    → AreRows count (d + 1) squares → AreRows d d rest → AreSquares d (made_of head squares rest)
-squares_have d count head squares rest h few m a b =
+squares_have : (d count : ℕ) (m : ℤ) (squares rest : List (List ℤ)) → d ≤ most_places → count ≤ most_squares → IsWhole m
+    → AreRows count (d + 1) squares → AreRows d d rest → AreSquares d (made_of m squares rest)
+squares_have d count m squares rest h few whole a b =
     let first : List ℤ → ℤ = λ square. get_or square 0 (pos 0) in
     let ws = map first squares in
     let rows = map (drop 1) squares in
@@ -93,30 +100,34 @@ squares_have d count head squares rest h few m a b =
     let same_rest : corner d d (matrix_with rest) ≡ rest = corner-matrix_with d d rest b.long h h b.places in
     record {
       few = small;
-      filled = same_squares (get_or head 0 (pos 0)) (take n (row_of ws)) ws (corner n d (matrix_with rows)) rows (corner d d (matrix_with rest)) rest same_weights same_rows same_rest;
-      factor = m;
+      filled = same_squares m (take n (row_of ws)) ws (corner n d (matrix_with rows)) rows (corner d d (matrix_with rest)) rest same_weights same_rows same_rest;
+      factor = whole;
       weights = All-same IsWhole (take n (row_of ws)) ws same_weights whole_weights;
       rows = All-same (All IsWhole) (corner n d (matrix_with rows)) rows same_rows whole_rows;
       rest = All-same (All IsWhole) (corner d d (matrix_with rest)) rest same_rest b.whole;
     }
 
-yields_squares : (w : Keyword) (d : ℕ) → d ≤ most_places → Yields (squares_in w d) (AreSquares d)
+pub yields_squares_of : (d : ℕ) (m : ℤ) (count : ℕ) → d ≤ most_places → count ≤ most_squares → IsWhole m → Yields (squares_of d m count) (AreSquares d)
+yields_squares_of d m count h few whole =
+    yields_both (rows_in (row_places keyword.Square (d + 1)) count) (rest_after d m) (AreRows count (d + 1)) (AreSquares d)
+    (yields_rows keyword.Square count (d + 1))
+    (λ squares a. yields_made (rows_in (row_places keyword.Rest d) d) (made_of m squares) (AreRows d d) (AreSquares d) (yields_rows keyword.Rest d d)
+    (λ rest b. squares_have d count m squares rest h few whole a b))
+
+pub yields_squares : (w : Keyword) (d : ℕ) → d ≤ most_places → Yields (squares_in w d) (AreSquares d)
 yields_squares w d h =
-    yields_both (numbers_in (squares_places w)) (squares_after d) IsHead (AreSquares d) (yields_line (numbers_of (squares_places w)) IsHead (head_has w))
-    (λ head k. yields_both (rows_in (row_places keyword.Square (d + 1)) (count_at head 1)) (rest_after d head) (AreRows (count_at head 1) (d + 1)) (AreSquares d)
-    (yields_rows keyword.Square (count_at head 1) (d + 1))
-    (λ squares a. yields_made (rows_in (row_places keyword.Rest d) d) (made_of head squares) (AreRows d d) (AreSquares d) (yields_rows keyword.Rest d d)
-    (λ rest b. squares_have d (count_at head 1) head squares rest h k.few k.factor a b)))
+    yields_both (numbers_in (squares_places w)) (squares_after d) IsHead (AreSquares d) (yields_numbers (squares_places w) IsHead (head_by w))
+    (λ head k. yields_squares_of d (get_or head 0 (pos 0)) (count_at head 1) h k.few k.factor)
 
 -- ---- a falling form
 pub yields_falls : (d : ℕ) → d ≤ most_places → Yields (falls_in d) IsOffer
 yields_falls d h =
-    yields_both (rows_in (row_places keyword.Form d) d) (form_after d) (AreRows d d) IsOffer (yields_rows keyword.Form d d)
-    (λ rows a. yields_both (squares_in keyword.Positive d) (positive_after d rows) (AreSquares d) IsOffer (yields_squares keyword.Positive d h)
-    (λ positive p. yields_both (squares_in keyword.Fall d) (fall_after rows positive) (AreSquares d) IsOffer (yields_squares keyword.Fall d h)
-    (λ fall f. yields_made (word_in keyword.End) (λ _. record { form = form_with rows; positive = positive; fall = fall }) (λ _. Unit {0}) IsOffer (yields_word keyword.End)
+    yields_both (form_in d) (form_after d) (IsFormOf d) IsOffer (yields_form d h)
+    (λ form a. yields_both (squares_in keyword.Positive d) (positive_after d form) (AreSquares d) IsOffer (yields_squares keyword.Positive d h)
+    (λ positive p. yields_both (squares_in keyword.Fall d) (fall_after form positive) (AreSquares d) IsOffer (yields_squares keyword.Fall d h)
+    (λ fall f. yields_made (word_in keyword.End) (λ _. record { form = form; positive = positive; fall = fall }) (λ _. Unit {0}) IsOffer (yields_word keyword.End)
     (λ _ _. record {
-      form = form_has d rows h a;
-      positive = subst (λ n. AreSquares n positive) (sym a.long) p;
-      fall = subst (λ n. AreSquares n fall) (sym a.long) f;
+      form = a.form;
+      positive = subst (λ n. AreSquares n positive) (sym a.places) p;
+      fall = subst (λ n. AreSquares n fall) (sym a.places) f;
     }))))

@@ -6,7 +6,7 @@ use Rattle.std.proofs.lemmas.Result.{IfOk-weaker}
 use Rattle.dsv_text.specs.Stages.{◌>>=◌}
 use Rattle.dsv_lines.specs.Readings.{Reading, reading_of}
 use Rattle.dsv_certfile.specs.Answers.{at_line}
-use Rattle.dsv_certfile.specs.Bodies.{line_from, line_in, lines_from}
+use Rattle.dsv_certfile.specs.Bodies.{line_from, line_in, lines_from, whole_text}
 use Rattle.dsv_certfile.specs.Headings.{whole_line}
 use Rattle.dsv_lines.specs.Pieces.{TextLines, unended, line, LinesLeft}
 use Rattle.dsv_certfile.specs.declared.fault.TextFault.{TextFault}
@@ -26,6 +26,11 @@ has_unit (Err e) = tt
 pub whole_line_has : {X : Type 0} (x : X) (pieces : List (List ℕ)) (P : X → Type 0) → P x → IfOk (whole_line x pieces) P
 whole_line_has x [] P h = h
 whole_line_has x (piece ∷ pieces) P h = tt
+
+pub whole_text_has : {X : Type 0} (x : X) (n : ℕ) (ls : TextLines) (P : X → Type 0) → P x → IfOk (whole_text x n ls) P
+whole_text_has x n (unended []) P h = h
+whole_text_has x n (unended (b ∷ bs)) P h = tt
+whole_text_has x n (line bytes more) P h = tt
 
 pub at_line_has : {X : Type 0} (n : ℕ) (r : Result X TextFault) (P : X → Type 0) → IfOk r P → IfOk (at_line n r) P
 at_line_has n (Ok x) P h = h

@@ -20,7 +20,7 @@ use Rattle.dsv_certfile.specs.Numerals.{id_of, literal_read}
 use Rattle.dsv_lines.specs.Pieces.{TextLines, unended, line, pieces_of}
 use Rattle.dsv_certfile.specs.Steps.{Listed, with_entry, entries_from, deletion_in, addition_in, says_deletion, step_after, step_id, step_in, steps_from, log_in}
 use Rattle.dsv_certfile.specs.declared.fault.TextFault.{TextFault}
-use Rattle.dsv_certfile.specs.declared.fault.CertRefusal.{CertRefusal}
+use Rattle.dsv_certfile.specs.declared.fault.TextRefusal.{TextRefusal}
 use Rattle.dsv_certfile.specs.declared.keyword.Keyword.{Keyword}
 use Rattle.dsv_certfile.proofs.LawfulParts.{then_has, whole_line_has, at_line_has, Yields}
 use Rattle.dsv_lines.proofs.NumeralBounds.{positive_has}
@@ -92,7 +92,7 @@ step_has pieces =
     (λ id h. after_step (says_deletion rest) (deletion_in id (drop 1 rest)) (addition_in id rest) (deletion_has id (drop 1 rest) h) (addition_has id rest h))
 
 -- ---- a log
-log_step : (b : Bool) (steps : List Step) (n : ℕ) (more : TextLines) (r : Result (Reading (List Step)) CertRefusal) → IsLog steps → IfOk r (λ l. IsLog l.value)
+log_step : (b : Bool) (steps : List Step) (n : ℕ) (more : TextLines) (r : Result (Reading (List Step)) TextRefusal) → IsLog steps → IfOk r (λ l. IsLog l.value)
     → IfOk (cond b (Ok (reading_of steps (record { lines = more; number = n + 1 }))) r) (λ l. IsLog l.value)
 log_step true steps n more r h k = h
 log_step false steps n more r h k = k

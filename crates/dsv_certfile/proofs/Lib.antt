@@ -5,6 +5,7 @@ pub mod Filling
 pub mod HeadingLemmas
 pub mod LawfulBodies
 pub mod LawfulCertificates
+pub mod LawfulEllipsoids
 pub mod LawfulFalls
 pub mod LawfulHeadings
 pub mod LawfulParts
@@ -18,6 +19,7 @@ pub mod StepLemmas
 pub mod TypedParts
 pub mod WrittenBodies
 pub mod WrittenCertificates
+pub mod WrittenEllipsoids
 pub mod WrittenFalls
 pub mod WrittenHeadings
 pub mod WrittenNumbers

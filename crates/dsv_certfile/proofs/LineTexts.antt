@@ -78,16 +78,31 @@ two-text w p q = two-parts w (32 ∷ p) (32 ∷ q) (10 ∷ [])
 four-parts : (w p q r s xs e : List ℕ) → w ++ ((p ++ q) ++ ((r ++ s) ++ (xs ++ e))) ≡ (w ++ (p ++ (q ++ (r ++ (s ++ xs))))) ++ e
 four-parts w p q r s xs e = simp append_assoc
 
+six-terms : (w p v q u r e : List ℕ) → w ++ (p ++ ((v ++ q) ++ ((u ++ r) ++ e))) ≡ (w ++ (p ++ (v ++ (q ++ (u ++ (r ++ [])))))) ++ e
+six-terms w p v q u r e = simp (append_assoc, append-nil)
+
+-- a piece after each of three words
+pub words-text : (w p v q u r : List ℕ)
+    → w ++ ((32 ∷ p) ++ (((32 ∷ v) ++ (32 ∷ q)) ++ (((32 ∷ u) ++ (32 ∷ r)) ++ 10 ∷ []))) ≡ line_text (w ∷ p ∷ v ∷ q ∷ u ∷ r ∷ [])
+words-text w p v q u r = six-terms w (32 ∷ p) (32 ∷ v) (32 ∷ q) (32 ∷ u) (32 ∷ r) (10 ∷ [])
+
+five-parts : (w p q r s t e : List ℕ) → w ++ ((p ++ (q ++ r)) ++ (s ++ (t ++ e))) ≡ (w ++ (p ++ (q ++ (r ++ (s ++ (t ++ [])))))) ++ e
+five-parts w p q r s t e = simp (append_assoc, append-nil)
+
+-- five pieces after a word
+pub five-text : (w p q r s t : List ℕ)
+    → w ++ (((32 ∷ p) ++ ((32 ∷ q) ++ (32 ∷ r))) ++ ((32 ∷ s) ++ ((32 ∷ t) ++ 10 ∷ []))) ≡ line_text (w ∷ p ∷ q ∷ r ∷ s ∷ t ∷ [])
+five-text w p q r s t = five-parts w (32 ∷ p) (32 ∷ q) (32 ∷ r) (32 ∷ s) (32 ∷ t) (10 ∷ [])
+
 -- four pieces and a list after a word
 pub four-text : (w p q r s : List ℕ) (xs : Line)
     → w ++ (((32 ∷ p) ++ (32 ∷ q)) ++ (((32 ∷ r) ++ (32 ∷ s)) ++ (spaced xs ++ 10 ∷ []))) ≡ line_text (w ∷ p ∷ q ∷ r ∷ s ∷ xs)
 four-text w p q r s xs = four-parts w (32 ∷ p) (32 ∷ q) (32 ∷ r) (32 ∷ s) (spaced xs) (10 ∷ [])
 
 -- ---- lines one after another
--- a line and two lists of lines
-pub line_lists-text : (x : Line) (xs ys : List Line)
-    → line_text x ++ (flat_map line_text xs ++ flat_map line_text ys) ≡ flat_map line_text ((x ∷ xs) ++ ys)
-line_lists-text x xs ys = ap (λ t. line_text x ++ t) (sym (flat_map-append line_text xs ys))
+-- two lists of lines
+pub two_lists-text : (xs ys : List Line) → flat_map line_text xs ++ flat_map line_text ys ≡ flat_map line_text (xs ++ ys)
+two_lists-text xs ys = sym (flat_map-append line_text xs ys)
 
 -- three lists of lines
 pub three_lists-text : (xs ys zs : List Line)
@@ -115,6 +130,12 @@ framed-text hs c d xs =
     let e : flat_map line_text xs ++ line_text d ≡ flat_map line_text (xs ++ d ∷ []) =
     ap (λ t. flat_map line_text xs ++ t) (sym (append-nil (line_text d))) ∙ sym (flat_map-append line_text xs (d ∷ [])) in
     ap (λ t. flat_map line_text hs ++ (line_text c ++ t)) e ∙ sym (flat_map-append line_text hs (c ∷ (xs ++ d ∷ [])))
+
+-- a list of lines, a line, another list, and a third one
+pub parted-text : (xs : List Line) (c : Line) (ys zs : List Line)
+    → flat_map line_text xs ++ (line_text c ++ (flat_map line_text ys ++ flat_map line_text zs)) ≡ flat_map line_text (xs ++ c ∷ (ys ++ zs))
+parted-text xs c ys zs =
+    ap (λ t. flat_map line_text xs ++ (line_text c ++ t)) (two_lists-text ys zs) ∙ two_lists-text xs (c ∷ (ys ++ zs))
 
 -- ---- the first rows
 -- at most so many of a list of so many

@@ -4,20 +4,21 @@ use Rattle.std.specs.List.{All}
 use Rattle.std.proofs.lemmas.List.Elements.{All-cons, All-nil, All-append}
 use Rattle.dsv_text.specs.Stages.{◌>>=◌}
 use Rattle.dsv_lines.specs.Readings.{Reading}
+use Rattle.dsv_certfile.specs.Answers.{cert_answer}
 use Rattle.dsv_certfile.specs.Bodies.{line_in, word_in, whole_text, invariant_in, falls_in}
 use Rattle.dsv_certfile.specs.Headings.{version_in, line_job, line_kind}
 use Rattle.dsv_certfile.specs.Lawful.{IsSize, IsWords, IsLawful}
 use Rattle.dsv_certfile.specs.Limits.{greatest_depth, most_gain_depth, most_places}
 use Rattle.dsv_template.specs.Limits.{most_inequalities}
 use Rattle.dsv_lines.specs.Pieces.{unended, lines_of}
-use Rattle.dsv_certfile.specs.Reading.{words_in, heading_in, body_in, certificate_in}
+use Rattle.dsv_certfile.specs.Reading.{words_in, heading_in, body_in, whole_certificate, certificate_in}
 use Rattle.dsv_certfile.specs.Steps.{log_in}
 use Rattle.dsv_lines.specs.Texts.{Line}
 use Rattle.dsv_certfile.specs.Texts.{log_lines, falls_lines, version_line, job_line, format_lines, head_lines, word_line, job_of, kind_line_of, body_lines, candidate_counts, certificate_lines, certificate_text, inequality_line, logs_lines}
 use Rattle.dsv_certfile.specs.Words.{with_words}
 use Rattle.dsv_certfile.specs.declared.certificate.Certificate.{Certificate}
 use Rattle.dsv_certfile.specs.declared.certificate.Certificate.TheVariants as certificate
-use Rattle.dsv_certfile.specs.declared.fault.CertRefusal.{CertRefusal}
+use Rattle.dsv_certfile.specs.declared.fault.TextRefusal.{TextRefusal}
 use Rattle.dsv_certfile.specs.declared.invariant.SetProof.{SetProof}
 use Rattle.dsv_certfile.specs.declared.job.CertWords.TheVariants as words
 use Rattle.dsv_certfile.specs.declared.job.CertifiedJob.{CertifiedJob}
@@ -144,7 +145,7 @@ lines_plain c h b =
     (All-cons IsLine (kind_line_of c) body b.kind_plain
     (All-append IsLine (body_lines c) end b.body_plain (All-cons IsLine (word_line keyword.End) [] (word_plain keyword.End) (All-nil IsLine))))
 
-back_by : (c : Certificate) (h : KindHead) → IsReadBack c h → certificate_in (certificate_text c) ≡ Ok c
+back_by : (c : Certificate) (h : KindHead) → IsReadBack c h → whole_certificate (certificate_text c) ≡ Ok c
 back_by c h b =
     let body = body_lines c ++ word_line keyword.End ∷ [] in
     let rest = onto_lines body (unended []) in
@@ -156,9 +157,9 @@ back_by c h b =
     ∙ sym (onto_lines-append heads (kind_line_of c ∷ []) rest) in
     ap (λ ls. heading_in (left_at ls 1) >>= λ heading. body_in heading.value.job heading.value.kind heading.left
     >>= λ body. whole_text body.value body.left.number body.left.lines) lines
-    ∙ ap (λ (r : Result (Reading Heading) CertRefusal). r >>= λ heading. body_in heading.value.job heading.value.kind heading.left
+    ∙ ap (λ (r : Result (Reading Heading) TextRefusal). r >>= λ heading. body_in heading.value.job heading.value.kind heading.left
     >>= λ body. whole_text body.value body.left.number body.left.lines) first.1
-    ∙ ap (λ (r : Result (Reading Certificate) CertRefusal). r >>= λ body. whole_text body.value body.left.number body.left.lines) last.1
+    ∙ ap (λ (r : Result (Reading Certificate) TextRefusal). r >>= λ body. whole_text body.value body.left.number body.left.lines) last.1
 
 pub written_is_read : (c : Certificate) → IsLawful c → certificate_in (certificate_text c) ≡ Ok c
-written_is_read c h = back_by c (head_of c) (is_read_back c h)
+written_is_read c h = ap cert_answer (back_by c (head_of c) (is_read_back c h))

@@ -10,14 +10,14 @@ use Rattle.dsv_forms.specs.declared.offers.Form.{Form}
 use Rattle.dsv_forms.specs.declared.offers.Squares.{Squares}
 use Rattle.dsv_forms.specs.declared.offers.Falls.{Falls}
 use Rattle.dsv_lines.specs.Readings.{reading_of}
-use Rattle.dsv_certfile.specs.Bodies.{numbers_of, numbers_in, rows_in, word_in, squares_in, falls_in}
+use Rattle.dsv_certfile.specs.Bodies.{numbers_of, numbers_in, rows_in, word_in, form_in, squares_of, squares_in, falls_in}
 use Rattle.dsv_certfile.specs.Headings.{count_at}
 use Rattle.dsv_certfile.specs.Keywords.{keyword_text}
-use Rattle.dsv_certfile.specs.Lawful.{IsWhole, AreWhole, AreSquares, IsOffer}
+use Rattle.dsv_certfile.specs.Lawful.{IsWhole, AreWhole, IsForm, AreSquares, IsOffer}
 use Rattle.dsv_certfile.specs.Limits.{most_squares}
 use Rattle.dsv_certfile.specs.Numerals.{number_in}
 use Rattle.dsv_certfile.specs.Places.{row_places, squares_places}
-use Rattle.dsv_certfile.specs.Texts.{word_line, numbers_line, rows_lines, square_lines, squares_head, squares_lines, falls_lines}
+use Rattle.dsv_certfile.specs.Texts.{word_line, numbers_line, rows_lines, square_lines, squares_head, squares_body, squares_lines, falls_lines}
 use Rattle.dsv_certfile.specs.declared.keyword.Keyword.{Keyword}
 use Rattle.dsv_certfile.specs.declared.keyword.Keyword.TheVariants as keyword
 use Rattle.dsv_certfile.specs.declared.numbers.NumberRange.TheVariants as range
@@ -110,65 +110,82 @@ head_back w s h few =
     numbers_of-line_bytes (squares_places w) (squares_head w s) (s.m ∷ pos s.count ∷ [])
     (head_plain w s h few) (refl, (whole_read s.m h, (count_read most_squares s.count (omega arith) few, tt)))
 
-abbrev pub made_of : List ℤ → List (List ℤ) → List (List ℤ) → Squares
-made_of head squares rest =
-    squares_with (get_or head 0 (pos 0)) (map (λ square. get_or square 0 (pos 0)) squares) (map (drop 1) squares) rest
+abbrev pub made_of : ℤ → List (List ℤ) → List (List ℤ) → Squares
+made_of m squares rest = squares_with m (map (λ square. get_or square 0 (pos 0)) squares) (map (drop 1) squares) rest
 
-abbrev pub rest_after : ℕ → List ℤ → List (List ℤ) → Reader Squares
-rest_after d head squares ls = rows_in (row_places keyword.Rest d) d ls >>= λ rest. Ok (reading_of (made_of head squares rest.value) rest.left)
+abbrev pub rest_after : ℕ → ℤ → List (List ℤ) → Reader Squares
+rest_after d m squares ls = rows_in (row_places keyword.Rest d) d ls >>= λ rest. Ok (reading_of (made_of m squares rest.value) rest.left)
 
 abbrev pub squares_after : ℕ → List ℤ → Reader Squares
-squares_after d head = and_read (rows_in (row_places keyword.Square (d + 1)) (count_at head 1)) (rest_after d head)
+squares_after d head = squares_of d (get_or head 0 (pos 0)) (count_at head 1)
 
-takes_squares : (w : Keyword) (d : ℕ) (s : Squares) → d ≤ greatest_order → AreSquares d s → Takes (squares_in w d) s (squares_lines w d s)
-takes_squares w d s h a =
+pub takes_squares_of : (d : ℕ) (s : Squares) → d ≤ greatest_order → AreSquares d s → Takes (squares_of d s.m s.count) s (squares_body d s)
+takes_squares_of d s h a =
     let ws = take s.count s.weights in
     let rows = corner s.count d s.rows in
     let rest = corner d d s.rest in
     let squares = weighted_rows ws rows in
-    let head = s.m ∷ pos s.count ∷ [] in
     let rows_filled : s.rows ≡ matrix_with rows = ap (λ (q : Squares). q.rows) a.filled in
     let rest_filled : s.rest ≡ matrix_with rest = ap (λ (q : Squares). q.rest) a.filled in
     let count : s.count ≡ length ws = ap (λ (q : Squares). q.count) a.filled in
     let long : length rows ≡ s.count = filled_length s.count d s.rows rows rows_filled a.few in
     let same : length ws ≡ length rows = sym count ∙ sym long in
-    let made : made_of head squares rest ≡ s = rw (firsts-weighted_rows ws rows same, others-weighted_rows ws rows same) (sym a.filled) in
+    let made : made_of s.m squares rest ≡ s = rw (firsts-weighted_rows ws rows same, others-weighted_rows ws rows same) (sym a.filled) in
     let square_lines_as = squares_as s.count d s.weights s.rows in
     let rest_lines_as = rows_as keyword.Rest d s.rest in
-    let all : (squares_head w s ∷ []) ++ (map (numbers_line keyword.Square) squares ++ map (numbers_line keyword.Rest) rest) ≡ squares_lines w d s =
-    rw (square_lines_as, rest_lines_as) refl in
-    takes_as (squares_in w d) s ((squares_head w s ∷ []) ++ (map (numbers_line keyword.Square) squares ++ map (numbers_line keyword.Rest) rest)) (squares_lines w d s) all
-    (takes_both (numbers_in (squares_places w)) (squares_after d) head s (squares_head w s ∷ [])
-    (map (numbers_line keyword.Square) squares ++ map (numbers_line keyword.Rest) rest)
-    (takes_line (numbers_of (squares_places w)) (squares_head w s) head (head_back w s a.factor a.few))
-    (takes_both (rows_in (row_places keyword.Square (d + 1)) s.count) (rest_after d head) squares s
+    let all : map (numbers_line keyword.Square) squares ++ map (numbers_line keyword.Rest) rest ≡ squares_body d s = rw (square_lines_as, rest_lines_as) refl in
+    takes_as (squares_of d s.m s.count) s (map (numbers_line keyword.Square) squares ++ map (numbers_line keyword.Rest) rest) (squares_body d s) all
+    (takes_both (rows_in (row_places keyword.Square (d + 1)) s.count) (rest_after d s.m) squares s
     (map (numbers_line keyword.Square) squares) (map (numbers_line keyword.Rest) rest)
     (takes_rows keyword.Square s.count (d + 1) squares (length-weighted_rows ws rows same ∙ sym count)
     (places-weighted_rows d ws rows (filled_rows s.count d s.rows rows rows_filled h)) (whole-weighted_rows ws rows a.weights a.rows))
-    (takes_value (rest_after d head squares) (made_of head squares rest) s (map (numbers_line keyword.Rest) rest) made
-    (takes_made (rows_in (row_places keyword.Rest d) d) (made_of head squares) rest (map (numbers_line keyword.Rest) rest)
-    (takes_rows keyword.Rest d d rest (filled_length d d s.rest rest rest_filled h) (filled_rows d d s.rest rest rest_filled h) a.rest)))))
+    (takes_value (rest_after d s.m squares) (made_of s.m squares rest) s (map (numbers_line keyword.Rest) rest) made
+    (takes_made (rows_in (row_places keyword.Rest d) d) (made_of s.m squares) rest (map (numbers_line keyword.Rest) rest)
+    (takes_rows keyword.Rest d d rest (filled_length d d s.rest rest rest_filled h) (filled_rows d d s.rest rest rest_filled h) a.rest))))
 
-squares_plain : (w : Keyword) (d : ℕ) (s : Squares) → AreSquares d s → All IsLine (squares_lines w d s)
-squares_plain w d s a =
+pub takes_squares : (w : Keyword) (d : ℕ) (s : Squares) → d ≤ greatest_order → AreSquares d s → Takes (squares_in w d) s (squares_lines w d s)
+takes_squares w d s h a =
+    let head = s.m ∷ pos s.count ∷ [] in
+    takes_both (numbers_in (squares_places w)) (squares_after d) head s (squares_head w s ∷ []) (squares_body d s)
+    (takes_line (numbers_of (squares_places w)) (squares_head w s) head (head_back w s a.factor a.few)) (takes_squares_of d s h a)
+
+pub body_plain : (d : ℕ) (s : Squares) → AreSquares d s → All IsLine (squares_body d s)
+body_plain d s a =
     let squares = weighted_rows (take s.count s.weights) (corner s.count d s.rows) in
     let rest = corner d d s.rest in
     let square_lines_plain = rows_plain keyword.Square squares (whole-weighted_rows (take s.count s.weights) (corner s.count d s.rows) a.weights a.rows) in
-    All-append IsLine (squares_head w s ∷ square_lines d (take s.count s.weights) s.rows) (rows_lines keyword.Rest d s.rest)
-    (All-cons IsLine (squares_head w s) (square_lines d (take s.count s.weights) s.rows) (head_plain w s a.factor a.few)
-    (All-same IsLine (square_lines d (take s.count s.weights) s.rows) (map (numbers_line keyword.Square) squares) (squares_as s.count d s.weights s.rows) square_lines_plain))
+    All-append IsLine (square_lines d (take s.count s.weights) s.rows) (rows_lines keyword.Rest d s.rest)
+    (All-same IsLine (square_lines d (take s.count s.weights) s.rows) (map (numbers_line keyword.Square) squares) (squares_as s.count d s.weights s.rows) square_lines_plain)
     (All-same IsLine (rows_lines keyword.Rest d s.rest) (map (numbers_line keyword.Rest) rest) (rows_as keyword.Rest d s.rest) (rows_plain keyword.Rest rest a.rest))
 
+pub squares_plain : (w : Keyword) (d : ℕ) (s : Squares) → AreSquares d s → All IsLine (squares_lines w d s)
+squares_plain w d s a = All-cons IsLine (squares_head w s) (squares_body d s) (head_plain w s a.factor a.few) (body_plain d s a)
+
+-- ---- a form
+pub takes_form : (f : Form) → IsForm f → Takes (form_in f.d) f (rows_lines keyword.Form f.d f.rows)
+takes_form f h =
+    let rows = corner f.d f.d f.rows in
+    let filled : f.rows ≡ matrix_with rows = ap (λ (f : Form). f.rows) h.filled in
+    takes_as (form_in f.d) f (map (numbers_line keyword.Form) rows) (rows_lines keyword.Form f.d f.rows) (sym (rows_as keyword.Form f.d f.rows))
+    (takes_value (form_in f.d) (form_with rows) f (map (numbers_line keyword.Form) rows) (sym h.filled)
+    (takes_made (rows_in (row_places keyword.Form f.d) f.d) form_with rows (map (numbers_line keyword.Form) rows)
+    (takes_rows keyword.Form f.d f.d rows (filled_length f.d f.d f.rows rows filled h.few) (filled_rows f.d f.d f.rows rows filled h.few) h.rows)))
+
+pub form_plain : (f : Form) → IsForm f → All IsLine (rows_lines keyword.Form f.d f.rows)
+form_plain f h =
+    let rows = corner f.d f.d f.rows in
+    All-same IsLine (rows_lines keyword.Form f.d f.rows) (map (numbers_line keyword.Form) rows) (rows_as keyword.Form f.d f.rows) (rows_plain keyword.Form rows h.rows)
+
 -- ---- a falling form
-abbrev pub fall_after : List (List ℤ) → Squares → Squares → Reader Falls
-fall_after rows positive fall ls =
-    word_in keyword.End ls >>= λ end. Ok (reading_of (record { form = form_with rows; positive = positive; fall = fall }) end.left)
+abbrev pub fall_after : Form → Squares → Squares → Reader Falls
+fall_after form positive fall ls =
+    word_in keyword.End ls >>= λ end. Ok (reading_of (record { form = form; positive = positive; fall = fall }) end.left)
 
-abbrev pub positive_after : ℕ → List (List ℤ) → Squares → Reader Falls
-positive_after d rows positive = and_read (squares_in keyword.Fall d) (fall_after rows positive)
+abbrev pub positive_after : ℕ → Form → Squares → Reader Falls
+positive_after d form positive = and_read (squares_in keyword.Fall d) (fall_after form positive)
 
-abbrev pub form_after : ℕ → List (List ℤ) → Reader Falls
-form_after d rows = and_read (squares_in keyword.Positive d) (positive_after d rows)
+abbrev pub form_after : ℕ → Form → Reader Falls
+form_after d form = and_read (squares_in keyword.Positive d) (positive_after d form)
 
 four_parts : {A : Type 0} (xs ys zs us : List A) → xs ++ (ys ++ (zs ++ us)) ≡ ((xs ++ ys) ++ zs) ++ us
 four_parts xs ys zs us = simp append_assoc
@@ -176,33 +193,22 @@ four_parts xs ys zs us = simp append_assoc
 pub takes_falls : (offer : Falls) → IsOffer offer → Takes (falls_in offer.form.d) offer (falls_lines offer ++ word_line keyword.End ∷ [])
 takes_falls offer h =
     let d = offer.form.d in
-    let rows = corner d d offer.form.rows in
-    let form_lines = map (numbers_line keyword.Form) rows in
+    let form_lines = rows_lines keyword.Form d offer.form.rows in
     let positive_lines = squares_lines keyword.Positive d offer.positive in
     let fall_lines = squares_lines keyword.Fall d offer.fall in
     let end = word_line keyword.End ∷ [] in
-    let filled : offer.form.rows ≡ matrix_with rows = ap (λ (f : Form). f.rows) h.form.filled in
-    let whole : record { form = form_with rows; positive = offer.positive; fall = offer.fall } ≡ offer =
-    ap (λ (f : Form). record { form = f; positive = offer.positive; fall = offer.fall }) (sym h.form.filled) in
-    let all : form_lines ++ (positive_lines ++ (fall_lines ++ end)) ≡ falls_lines offer ++ end =
-    four_parts form_lines positive_lines fall_lines end ∙ ap (λ ls. ((ls ++ positive_lines) ++ fall_lines) ++ end) (sym (rows_as keyword.Form d offer.form.rows)) in
-    takes_as (falls_in d) offer (form_lines ++ (positive_lines ++ (fall_lines ++ end))) (falls_lines offer ++ end) all
-    (takes_both (rows_in (row_places keyword.Form d) d) (form_after d) rows offer form_lines (positive_lines ++ (fall_lines ++ end))
-    (takes_rows keyword.Form d d rows (filled_length d d offer.form.rows rows filled h.form.few) (filled_rows d d offer.form.rows rows filled h.form.few) h.form.rows)
-    (takes_both (squares_in keyword.Positive d) (positive_after d rows) offer.positive offer positive_lines (fall_lines ++ end)
+    takes_as (falls_in d) offer (form_lines ++ (positive_lines ++ (fall_lines ++ end))) (falls_lines offer ++ end) (four_parts form_lines positive_lines fall_lines end)
+    (takes_both (form_in d) (form_after d) offer.form offer form_lines (positive_lines ++ (fall_lines ++ end)) (takes_form offer.form h.form)
+    (takes_both (squares_in keyword.Positive d) (positive_after d offer.form) offer.positive offer positive_lines (fall_lines ++ end)
     (takes_squares keyword.Positive d offer.positive h.form.few h.positive)
-    (takes_both (squares_in keyword.Fall d) (fall_after rows offer.positive) offer.fall offer fall_lines end
+    (takes_both (squares_in keyword.Fall d) (fall_after offer.form offer.positive) offer.fall offer fall_lines end
     (takes_squares keyword.Fall d offer.fall h.form.few h.fall)
-    (takes_value (fall_after rows offer.positive offer.fall) (record { form = form_with rows; positive = offer.positive; fall = offer.fall }) offer end whole
-    (takes_made (word_in keyword.End) (λ _. record { form = form_with rows; positive = offer.positive; fall = offer.fall }) [] end (takes_word keyword.End))))))
+    (takes_made (word_in keyword.End) (λ _. record { form = offer.form; positive = offer.positive; fall = offer.fall }) [] end (takes_word keyword.End)))))
 
 pub falls_plain : (offer : Falls) → IsOffer offer → All IsLine (falls_lines offer)
 falls_plain offer h =
     let d = offer.form.d in
     let form_lines = rows_lines keyword.Form d offer.form.rows in
     All-append IsLine (form_lines ++ squares_lines keyword.Positive d offer.positive) (squares_lines keyword.Fall d offer.fall)
-    (All-append IsLine form_lines (squares_lines keyword.Positive d offer.positive)
-    (All-same IsLine form_lines (map (numbers_line keyword.Form) (corner d d offer.form.rows)) (rows_as keyword.Form d offer.form.rows)
-    (rows_plain keyword.Form (corner d d offer.form.rows) h.form.rows))
-    (squares_plain keyword.Positive d offer.positive h.positive))
+    (All-append IsLine form_lines (squares_lines keyword.Positive d offer.positive) (form_plain offer.form h.form) (squares_plain keyword.Positive d offer.positive h.positive))
     (squares_plain keyword.Fall d offer.fall h.fall)

@@ -84,6 +84,11 @@ keyword_plain keyword.Positive = refl
 keyword_plain keyword.Square = refl
 keyword_plain keyword.Rest = refl
 keyword_plain keyword.Fall = refl
+keyword_plain keyword.States = refl
+keyword_plain keyword.Level = refl
+keyword_plain keyword.Lambda = refl
+keyword_plain keyword.Mu = refl
+keyword_plain keyword.First = refl
 keyword_plain keyword.End = refl
 
 pub numbers_line-plain : (w : Keyword) (zs : List ℤ) → All (λ z. IsPlain (signed_decimal z)) zs → IsLine (numbers_line w zs)

@@ -121,6 +121,11 @@ no_keyword keyword.Positive text h = other_text 112 (codes "ositive") text (h 11
 no_keyword keyword.Square text h = other_text 115 (codes "quare") text (h 115 refl)
 no_keyword keyword.Rest text h = other_text 114 (codes "est") text (h 114 refl)
 no_keyword keyword.Fall text h = other_text 102 (codes "all") text (h 102 refl)
+no_keyword keyword.States text h = other_text 115 (codes "tates") text (h 115 refl)
+no_keyword keyword.Level text h = other_text 108 (codes "evel") text (h 108 refl)
+no_keyword keyword.Lambda text h = other_text 108 (codes "ambda") text (h 108 refl)
+no_keyword keyword.Mu text h = other_text 109 (codes "u") text (h 109 refl)
+no_keyword keyword.First text h = other_text 102 (codes "irst") text (h 102 refl)
 no_keyword keyword.End text h = other_text 101 (codes "nd") text (h 101 refl)
 
 step_goes_on : (w : Keyword) (s : Step) → IsStep s → bytes_eq (line_bytes (step_line s)) (keyword_text w) ≡ false

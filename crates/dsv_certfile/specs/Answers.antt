@@ -3,15 +3,29 @@ use Rattle.std.specs.Prelude.{◌≡◌, ℕ, Result, Ok, Err}
 use Rattle.dsv_lines.specs.Pieces.{LinesLeft}
 use Rattle.dsv_lines.specs.Readings.{Reading, reading_of}
 use Rattle.dsv_certfile.specs.declared.fault.TextFault.{TextFault}
+use Rattle.dsv_certfile.specs.declared.fault.TextRefusal.{TextRefusal}
 use Rattle.dsv_certfile.specs.declared.fault.LineRefusal.{LineRefusal}
 use Rattle.dsv_certfile.specs.declared.fault.LineRefusal.TheVariants as line_refusal
 use Rattle.dsv_certfile.specs.declared.fault.CertRefusal.{CertRefusal}
 use Rattle.dsv_certfile.specs.declared.fault.CertRefusal.TheVariants as refusal
 
+-- the refusal of a text whose line of this number has this fault
+abbrev pub text_refusal : ℕ → TextFault → TextRefusal
+text_refusal n why = record { line = n; fault = why }
+
 -- what a line of this number says, or its fault there
-abbrev pub at_line : {X : Type 0} → ℕ → Result X TextFault → Result X CertRefusal
+abbrev pub at_line : {X : Type 0} → ℕ → Result X TextFault → Result X TextRefusal
 at_line n (Ok x) = Ok x
-at_line n (Err why) = Err (refusal.Text n why)
+at_line n (Err why) = Err (text_refusal n why)
+
+-- the refusal of a text, as one of a certificate
+abbrev pub cert_refusal : TextRefusal → CertRefusal
+cert_refusal why = refusal.Text why.line why.fault
+
+-- what a text says, or its refusal, as one of a certificate
+abbrev pub cert_answer : {X : Type 0} → Result X TextRefusal → Result X CertRefusal
+cert_answer (Ok x) = Ok x
+cert_answer (Err why) = Err (cert_refusal why)
 
 -- ---- answers that may be want of memory in place of what is meant
 -- the refusal is the one that is meant, or there was no memory
@@ -24,11 +38,20 @@ abbrev pub Gives : {X : Type 0} → Result X CertRefusal → Result X CertRefusa
 Gives (Ok x) meant = meant ≡ Ok x
 Gives (Err why) meant = Refuses why meant
 
+-- the same of what is meant by a text
+abbrev pub RefusesText : {X : Type 0} → CertRefusal → Result X TextRefusal → Type 0
+RefusesText refusal.NoMemory meant = Unit {0}
+RefusesText (refusal.Text n why) meant = meant ≡ Err (text_refusal n why)
+
+abbrev pub GivesText : {X : Type 0} → Result X CertRefusal → Result X TextRefusal → Type 0
+GivesText (Ok x) meant = meant ≡ Ok x
+GivesText (Err why) meant = RefusesText why meant
+
 -- the same for a reader that moves on: what is left of the text is what is meant, too
-abbrev pub Reads : {X : Type 0} → Result X CertRefusal → LinesLeft
-    → Result (Reading X) CertRefusal → Type 0
-Reads (Ok x) left meant = meant ≡ Ok (reading_of x left)
-Reads (Err why) left meant = Refuses why meant
+abbrev pub ReadsText : {X : Type 0} → Result X CertRefusal → LinesLeft
+    → Result (Reading X) TextRefusal → Type 0
+ReadsText (Ok x) left meant = meant ≡ Ok (reading_of x left)
+ReadsText (Err why) left meant = RefusesText why meant
 
 -- the same on one line
 abbrev pub LineRefuses : {X : Type 0} → LineRefusal → Result X TextFault → Type 0

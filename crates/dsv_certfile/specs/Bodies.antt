@@ -3,12 +3,13 @@ use Rattle.std.specs.Prelude.{ℕ, zero, suc, ◌+◌, ◌-◌, List, [], ◌∷
 use Rattle.std.specs.Prelude.{drop, Result, Ok, Err, slice_index_or, ℤ, pos}
 use Rattle.dsv_text.specs.Stages.{◌>>=◌}
 use Rattle.dsv_forms.specs.Padded.{form_with, squares_with}
+use Rattle.dsv_forms.specs.declared.offers.Form.{Form}
 use Rattle.dsv_forms.specs.declared.offers.Squares.{Squares}
 use Rattle.dsv_forms.specs.declared.offers.Falls.{Falls}
 use Rattle.dsv_template.specs.declared.candidate.Inequality.{Inequality}
 use Rattle.dsv_template.specs.declared.verdict.ThreeLogs.{ThreeLogs}
 use Rattle.dsv_lines.specs.Readings.{Reading, reading_of}
-use Rattle.dsv_certfile.specs.Answers.{at_line}
+use Rattle.dsv_certfile.specs.Answers.{at_line, text_refusal}
 use Rattle.dsv_certfile.specs.Headings.{count_at}
 use Rattle.dsv_lines.specs.Pieces.{TextLines, unended, line, LinesLeft, pieces_of}
 use Rattle.dsv_certfile.specs.Places.{line_numbers, word_places, row_places, squares_places}
@@ -16,8 +17,7 @@ use Rattle.dsv_certfile.specs.Places.{inequality_places}
 use Rattle.dsv_certfile.specs.Steps.{log_in}
 use Rattle.dsv_certfile.specs.declared.fault.TextFault.{TextFault}
 use Rattle.dsv_certfile.specs.declared.fault.TextFault.TheVariants as fault
-use Rattle.dsv_certfile.specs.declared.fault.CertRefusal.{CertRefusal}
-use Rattle.dsv_certfile.specs.declared.fault.CertRefusal.TheVariants as refusal
+use Rattle.dsv_certfile.specs.declared.fault.TextRefusal.{TextRefusal}
 use Rattle.dsv_certfile.specs.declared.keyword.Keyword.{Keyword}
 use Rattle.dsv_certfile.specs.declared.keyword.Keyword.TheVariants as keyword
 use Rattle.dsv_certfile.specs.declared.invariant.SetProof.{SetProof}
@@ -25,14 +25,14 @@ use Rattle.dsv_certfile.specs.declared.places.Place.{Place}
 
 -- ---- lines one after another
 abbrev pub line_from : {X : Type 0} → (List ℕ → Result X TextFault) → ℕ → TextLines
-    → Result (Reading X) CertRefusal
-line_from read n (unended bytes) = Err (refusal.Text n fault.End)
+    → Result (Reading X) TextRefusal
+line_from read n (unended bytes) = Err (text_refusal n fault.End)
 line_from read n (line bytes more) = at_line n (read bytes) >>= λ x.
     Ok (reading_of x (record { lines = more; number = n + 1 }))
 
 -- the next line as it is read, and what is left after it; END where there is none
 abbrev pub line_in : {X : Type 0} → (List ℕ → Result X TextFault) → LinesLeft
-    → Result (Reading X) CertRefusal
+    → Result (Reading X) TextRefusal
 line_in read ls = line_from read ls.number ls.lines
 
 -- the numbers of a line at these places
@@ -40,51 +40,62 @@ abbrev pub numbers_of : List Place → List ℕ → Result (List ℤ) TextFault
 numbers_of places bytes = line_numbers places (pieces_of bytes)
 
 -- the numbers of the next line
-abbrev pub numbers_in : List Place → LinesLeft → Result (Reading (List ℤ)) CertRefusal
+abbrev pub numbers_in : List Place → LinesLeft → Result (Reading (List ℤ)) TextRefusal
 numbers_in places = line_in (numbers_of places)
 
 -- the next so many lines, after those that are read already
 abbrev pub lines_from : {X : Type 0} → (List ℕ → Result X TextFault) → ℕ → List X → LinesLeft
-    → Result (Reading (List X)) CertRefusal
+    → Result (Reading (List X)) TextRefusal
 lines_from read zero xs ls = Ok (reading_of xs ls)
 lines_from read (suc n) xs ls =
     line_in read ls >>= λ x. lines_from read n (xs ++ x.value ∷ []) x.left
 
 -- the numbers of so many lines
-abbrev pub rows_in : List Place → ℕ → LinesLeft → Result (Reading (List (List ℤ))) CertRefusal
+abbrev pub rows_in : List Place → ℕ → LinesLeft → Result (Reading (List (List ℤ))) TextRefusal
 rows_in places n = lines_from (numbers_of places) n []
 
 -- the line that is this word
-abbrev pub word_in : Keyword → LinesLeft → Result (Reading (List ℤ)) CertRefusal
+abbrev pub word_in : Keyword → LinesLeft → Result (Reading (List ℤ)) TextRefusal
 word_in w = numbers_in (word_places w)
 
 -- nothing follows
-abbrev pub whole_text : {X : Type 0} → X → ℕ → TextLines → Result X CertRefusal
+abbrev pub whole_text : {X : Type 0} → X → ℕ → TextLines → Result X TextRefusal
 whole_text x n (unended []) = Ok x
-whole_text x n (unended (b ∷ bs)) = Err (refusal.Text n fault.End)
-whole_text x n (line bytes more) = Err (refusal.Text n fault.End)
+whole_text x n (unended (b ∷ bs)) = Err (text_refusal n fault.End)
+whole_text x n (line bytes more) = Err (text_refusal n fault.End)
 
 -- ---- falls
--- so many squares of rows of d places: a line `WORD M COUNT`, a line `square WEIGHT ROW..` for each
--- square, d lines `rest ROW..`
-abbrev pub squares_in : Keyword → ℕ → LinesLeft → Result (Reading Squares) CertRefusal
-squares_in w d ls =
-    numbers_in (squares_places w) ls >>= λ h.
-    rows_in (row_places keyword.Square (d + 1)) (count_at h.value 1) h.left >>= λ squares.
+-- a form of d places: d lines `form ROW..`
+abbrev pub form_in : ℕ → LinesLeft → Result (Reading Form) TextRefusal
+form_in d ls =
+    rows_in (row_places keyword.Form d) d ls >>= λ rows.
+    Ok (reading_of (form_with rows.value) rows.left)
+
+-- m times a form of d places as so many squares: a line `square WEIGHT ROW..` for each square, d
+-- lines `rest ROW..`
+abbrev pub squares_of : ℕ → ℤ → ℕ → LinesLeft → Result (Reading Squares) TextRefusal
+squares_of d m count ls =
+    rows_in (row_places keyword.Square (d + 1)) count ls >>= λ squares.
     rows_in (row_places keyword.Rest d) d squares.left >>= λ rest.
-    Ok (reading_of (squares_with (slice_index_or h.value 0 (pos 0))
+    Ok (reading_of (squares_with m
     (map (λ square. slice_index_or square 0 (pos 0)) squares.value)
     (map (drop 1) squares.value) rest.value) rest.left)
 
+-- the same after a line `WORD M COUNT`
+abbrev pub squares_in : Keyword → ℕ → LinesLeft → Result (Reading Squares) TextRefusal
+squares_in w d ls =
+    numbers_in (squares_places w) ls >>= λ h.
+    squares_of d (slice_index_or h.value 0 (pos 0)) (count_at h.value 1) h.left
+
 -- a form of d places and its squares
-abbrev pub falls_in : ℕ → LinesLeft → Result (Reading Falls) CertRefusal
+abbrev pub falls_in : ℕ → LinesLeft → Result (Reading Falls) TextRefusal
 falls_in d ls =
-    rows_in (row_places keyword.Form d) d ls >>= λ rows.
-    squares_in keyword.Positive d rows.left >>= λ positive.
+    form_in d ls >>= λ form.
+    squares_in keyword.Positive d form.left >>= λ positive.
     squares_in keyword.Fall d positive.left >>= λ fall.
     word_in keyword.End fall.left >>= λ end.
     Ok (reading_of (record {
-      form = form_with rows.value;
+      form = form.value;
       positive = positive.value;
       fall = fall.value;
     }) end.left)
@@ -107,7 +118,7 @@ inequality_in bytes =
     inequality_numbers bytes >>= λ numbers. Ok (inequality_with numbers)
 
 -- a log for each sentence, each up to the word of the next
-abbrev pub logs_in : LinesLeft → Result (Reading ThreeLogs) CertRefusal
+abbrev pub logs_in : LinesLeft → Result (Reading ThreeLogs) TextRefusal
 logs_in ls =
     word_in keyword.Base ls >>= λ start.
     log_in keyword.Step start.left >>= λ base.
@@ -116,7 +127,7 @@ logs_in ls =
     Ok (reading_of (record { base = base.value; step = step.value; safe = safe.value }) safe.left)
 
 -- so many inequalities, and the logs
-abbrev pub invariant_in : ℕ → ℕ → LinesLeft → Result (Reading SetProof) CertRefusal
+abbrev pub invariant_in : ℕ → ℕ → LinesLeft → Result (Reading SetProof) TextRefusal
 invariant_in depth count ls =
     lines_from inequality_in count [] ls >>= λ inequalities.
     logs_in inequalities.left >>= λ logs.

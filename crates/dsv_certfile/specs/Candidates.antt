@@ -5,11 +5,10 @@ use Rattle.std.specs.Int.RustNames.{unsigned_abs}
 use Rattle.arrayvec.specs.ArrayVec.{ArrayVec}
 use Rattle.dsv_template.specs.declared.candidate.Inequality.{Inequality}
 use Rattle.dsv_lines.specs.Readings.{reading_of}
-use Rattle.dsv_certfile.specs.Answers.{Refuses}
 use Rattle.dsv_certfile.specs.Bodies.{inequality_in, lines_from}
 use Rattle.dsv_certfile.specs.Limits.{greatest_entry}
 use Rattle.dsv_lines.specs.Pieces.{LinesLeft}
-use Rattle.dsv_certfile.specs.declared.fault.CertRefusal.{CertRefusal}
+use Rattle.dsv_certfile.specs.declared.fault.TextRefusal.{TextRefusal}
 
 -- no number is too great for an inequality
 abbrev pub AreEntries : List ℤ → Type 0
@@ -18,8 +17,8 @@ AreEntries numbers =
 
 -- The result has the inequalities that are meant, and what is left of the text is what is meant; or
 -- it is the refusal that is meant.
-abbrev pub ReadsInequalities : ℕ → LinesLeft → Result (ArrayVec Inequality) CertRefusal
+abbrev pub ReadsInequalities : ℕ → LinesLeft → Result (ArrayVec Inequality) TextRefusal
     → LinesLeft → Type 0
 ReadsInequalities count old (Ok list) new =
     lines_from inequality_in count [] old ≡ Ok (reading_of list.items new)
-ReadsInequalities count old (Err why) new = Refuses why (lines_from inequality_in count [] old)
+ReadsInequalities count old (Err why) new = lines_from inequality_in count [] old ≡ Err why

@@ -18,12 +18,21 @@ keyword_text keyword.Positive = codes "positive"
 keyword_text keyword.Square = codes "square"
 keyword_text keyword.Rest = codes "rest"
 keyword_text keyword.Fall = codes "fall"
+keyword_text keyword.States = codes "states"
+keyword_text keyword.Level = codes "level"
+keyword_text keyword.Lambda = codes "lambda"
+keyword_text keyword.Mu = codes "mu"
+keyword_text keyword.First = codes "first"
 keyword_text keyword.End = codes "end"
 
 -- the first line of each certificate of a version
 abbrev pub version_text : Version → List ℕ
 version_text version.One = codes "dsv-certificate 1"
 version_text version.Two = codes "dsv-certificate 2"
+
+-- the first line of each text that offers an ellipsoid
+abbrev pub ellipsoid_version : List ℕ
+ellipsoid_version = codes "dsv-ellipsoid 1"
 
 -- the job line's last word, where there is no bound on the samples
 abbrev pub unbounded_text : List ℕ

@@ -1,6 +1,7 @@
 pub mod Answers
 pub mod Bodies
 pub mod Candidates
+pub mod Ellipsoids
 pub mod Faults
 pub mod Headings
 pub mod Heads

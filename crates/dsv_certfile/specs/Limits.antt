@@ -44,6 +44,14 @@ greatest_frac_bits = 47
 abbrev pub most_places : ℕ
 most_places = 8
 
+-- the most places of the form of an ellipsoid; it has one at least
+abbrev pub most_states : ℕ
+most_states = 7
+
+-- the greatest size of the number that bounds the outputs in an ellipsoid
+abbrev pub greatest_bound : ℕ
+greatest_bound = 2 ^ 62 - 1
+
 -- the most squares of a form
 abbrev pub most_squares : ℕ
 most_squares = 8

@@ -7,15 +7,14 @@ use Rattle.dsv_text.specs.Stages.{◌>>=◌}
 use Rattle.dsv_hints.specs.declared.step.Step.{Step}
 use Rattle.dsv_hints.specs.declared.step.Step.TheVariants.{Add, Delete}
 use Rattle.dsv_lines.specs.Readings.{Reading, reading_of}
-use Rattle.dsv_certfile.specs.Answers.{at_line}
+use Rattle.dsv_certfile.specs.Answers.{at_line, text_refusal}
 use Rattle.dsv_certfile.specs.Headings.{or_number, whole_line}
 use Rattle.dsv_certfile.specs.Keywords.{keyword_text, deletion_text, zero_text}
 use Rattle.dsv_certfile.specs.Numerals.{id_of, literal_read}
 use Rattle.dsv_lines.specs.Pieces.{TextLines, unended, line, LinesLeft, pieces_of}
 use Rattle.dsv_certfile.specs.declared.fault.TextFault.{TextFault}
 use Rattle.dsv_certfile.specs.declared.fault.TextFault.TheVariants as fault
-use Rattle.dsv_certfile.specs.declared.fault.CertRefusal.{CertRefusal}
-use Rattle.dsv_certfile.specs.declared.fault.CertRefusal.TheVariants as refusal
+use Rattle.dsv_certfile.specs.declared.fault.TextRefusal.{TextRefusal}
 use Rattle.dsv_certfile.specs.declared.keyword.Keyword.{Keyword}
 
 -- ---- a step
@@ -74,13 +73,13 @@ step_in pieces = step_id pieces >>= λ id. step_after id (drop 1 pieces)
 -- the steps of the lines up to the one that is exactly the word, after those that are read already,
 -- and what is left after that line; the first line has the number n
 abbrev pub steps_from : List ℕ → List Step → ℕ → TextLines
-    → Result (Reading (List Step)) CertRefusal
-steps_from word steps n (unended bytes) = Err (refusal.Text n fault.End)
+    → Result (Reading (List Step)) TextRefusal
+steps_from word steps n (unended bytes) = Err (text_refusal n fault.End)
 steps_from word steps n (line bytes more) =
     cond (bytes_eq bytes word) (Ok (reading_of steps (record { lines = more; number = n + 1 })))
     (at_line n (step_in (pieces_of bytes)) >>= λ s.
     steps_from word (steps ++ s ∷ []) (n + 1) more)
 
 -- a log and the line after it
-abbrev pub log_in : Keyword → LinesLeft → Result (Reading (List Step)) CertRefusal
+abbrev pub log_in : Keyword → LinesLeft → Result (Reading (List Step)) TextRefusal
 log_in word ls = steps_from (keyword_text word) [] ls.number ls.lines

@@ -117,10 +117,13 @@ abbrev pub squares_head : Keyword → Squares → Line
 squares_head w s = keyword_text w ∷ signed_decimal s.m ∷ decimal s.count ∷ []
 
 -- the squares of a form of d places and the rest
+abbrev pub squares_body : ℕ → Squares → List Line
+squares_body d s =
+    square_lines d (take s.count s.weights) s.rows ++ rows_lines keyword.Rest d s.rest
+
+-- the same after that line
 abbrev pub squares_lines : Keyword → ℕ → Squares → List Line
-squares_lines w d s = squares_head w s
-    ∷ square_lines d (take s.count s.weights) s.rows
-    ++ rows_lines keyword.Rest d s.rest
+squares_lines w d s = squares_head w s ∷ squares_body d s
 
 abbrev pub falls_lines : Falls → List Line
 falls_lines offer = rows_lines keyword.Form offer.form.d offer.form.rows

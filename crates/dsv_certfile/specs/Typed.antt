@@ -15,6 +15,7 @@ use Rattle.dsv_template.specs.Limits.{most_inequalities}
 use Rattle.dsv_certfile.specs.Texts.{job_of}
 use Rattle.dsv_certfile.specs.declared.certificate.Certificate.{Certificate}
 use Rattle.dsv_certfile.specs.declared.certificate.Certificate.TheVariants as certificate
+use Rattle.dsv_certfile.specs.declared.ellipsoid.Ellipsoid.{Ellipsoid}
 
 -- ---- logs
 abbrev pub IsShortId : ℕ → Type 0
@@ -71,6 +72,27 @@ pub record IsTypedOffer (offer : Falls) : Type 0 where
   pub form : IsTypedMatrix offer.form.d offer.form.rows
   pub positive : AreTypedSquares offer.form.d offer.positive
   pub fall : AreTypedSquares offer.form.d offer.fall
+
+-- ---- ellipsoids
+-- the numbers of the line of the level aren't too great
+pub record AreTypedLevels (offer : Ellipsoid) : Type 0 where
+  pub level : IsTypedFactor offer.level
+  pub lambda : IsTypedFactor offer.lambda
+  pub mu : IsTypedFactor offer.mu
+
+-- nor are those of the first form
+pub record IsTypedFirst (offer : Ellipsoid) : Type 0 where
+  pub kappa : IsTypedFactor offer.kappa
+  pub nu : IsTypedFactor offer.nu
+  pub factor : IsTypedFactor offer.first.m
+
+pub record IsTypedEllipsoid (offer : Ellipsoid) : Type 0 where
+  pub form : IsTypedMatrix offer.form.d offer.form.rows
+  pub levels : AreTypedLevels offer
+  pub step : AreTypedSquares (offer.form.d + 1) offer.step
+  pub numbers : IsTypedFirst offer
+  pub squares : AreTypedRows offer.first
+  pub rest : IsTypedMatrix offer.form.d offer.first.rest
 
 -- ---- certificates
 -- what their types say of the numbers and lists after the kind line, which were written

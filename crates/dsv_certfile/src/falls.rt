@@ -1,12 +1,12 @@
 // The lines of a form that falls.
 ghost use Rattle.std.specs.Prelude.{◌≡◌, ◌+◌, ◌≤◌, length, IfOk};
-ghost use Rattle.dsv_certfile.specs.Answers.{Reads};
-ghost use Rattle.dsv_certfile.specs.Bodies.{rows_in, squares_in, falls_in};
-ghost use Rattle.dsv_certfile.specs.Limits.{most_places};
+ghost use Rattle.dsv_lines.specs.Readings.{Reads};
+ghost use Rattle.dsv_certfile.specs.Bodies.{rows_in, form_in, squares_of, squares_in, falls_in};
+ghost use Rattle.dsv_certfile.specs.Limits.{most_places, most_squares};
 ghost use Rattle.dsv_certfile.specs.Places.{row_places};
 ghost use Rattle.dsv_certfile.specs.declared.limits.TheConstants.{MOST_PLACES};
 
-use crate::fault::CertRefusal;
+use crate::fault::TextRefusal;
 use crate::keyword::Keyword;
 use crate::lines::next_numbers;
 use crate::numbers::NumberRange;
@@ -79,7 +79,7 @@ impl Rows {
 }
 
 /// Reads so many lines of numbers.
-fn read_rows(lines: &mut Lines, places: &[Place], count: u32) -> Result<Rows, CertRefusal>
+fn read_rows(lines: &mut Lines, places: &[Place], count: u32) -> Result<Rows, TextRefusal>
     requires count { count ≤ most_places }
     requires places { length places.now ≤ MOST_PLACES }
     ensures answer { Reads result lines.new (rows_in places.now count lines.old) }
@@ -95,7 +95,7 @@ fn read_rows(lines: &mut Lines, places: &[Place], count: u32) -> Result<Rows, Ce
 }
 
 /// Reads so many lines of a word and n numbers each.
-fn read_word_rows(lines: &mut Lines, word: Keyword, n: u32, count: u32) -> Result<Rows, CertRefusal>
+fn read_word_rows(lines: &mut Lines, word: Keyword, n: u32, count: u32) -> Result<Rows, TextRefusal>
     requires numbers { n ≤ most_places + 1 }
     requires count { count ≤ most_places }
     ensures answer { Reads result lines.new (rows_in (row_places word n) count lines.old) }
@@ -105,17 +105,33 @@ fn read_word_rows(lines: &mut Lines, word: Keyword, n: u32, count: u32) -> Resul
     read_rows(lines, &places[..=n as usize], count)
 }
 
-/// Reads the squares of a form of d places, after a line that begins with the word, and the rest.
-fn read_squares(lines: &mut Lines, word: Keyword, d: u32) -> Result<Squares, CertRefusal>
+/// Reads a form of d places.
+pub(crate) fn read_form(lines: &mut Lines, d: u32) -> Result<Form, TextRefusal>
     requires { d ≤ most_places }
-    ensures { Reads result lines.new (squares_in word d lines.old) }
+    ensures { Reads result lines.new (form_in d lines.old) }
 {
-    let head = next_numbers(lines, &squares_places(word))?;
-    let count = head.count_at(1);
+    let rows = read_word_rows(lines, Keyword::Form, d, d)?;
+    Ok(Form {
+        d,
+        rows: rows.matrix_from(0),
+    })
+}
+
+/// Reads so many squares of m times a form of d places, and the rest.
+pub(crate) fn read_squares_of(
+    lines: &mut Lines,
+    d: u32,
+    m: &i128,
+    count: u32,
+) -> Result<Squares, TextRefusal>
+    requires places { d ≤ most_places }
+    requires count { count ≤ most_squares }
+    ensures { Reads result lines.new (squares_of d m.now count lines.old) }
+{
     let squares = read_word_rows(lines, Keyword::Square, d + 1, count)?;
     let rest = read_word_rows(lines, Keyword::Rest, d, d)?;
     Ok(Squares {
-        m: head.at(0),
+        m: *m,
         count,
         weights: squares.firsts(),
         rows: squares.matrix_from(1),
@@ -123,20 +139,27 @@ fn read_squares(lines: &mut Lines, word: Keyword, d: u32) -> Result<Squares, Cer
     })
 }
 
+/// Reads the squares of a form of d places, after a line that begins with the word, and the rest.
+pub(crate) fn read_squares(lines: &mut Lines, word: Keyword, d: u32) -> Result<Squares, TextRefusal>
+    requires { d ≤ most_places }
+    ensures { Reads result lines.new (squares_in word d lines.old) }
+{
+    let head = next_numbers(lines, &squares_places(word))?;
+    let m = head.at(0);
+    read_squares_of(lines, d, &m, head.count_at(1))
+}
+
 /// Reads a form of d places, its squares, and the last line.
-pub(crate) fn read_falls(lines: &mut Lines, d: u32) -> Result<Falls, CertRefusal>
+pub(crate) fn read_falls(lines: &mut Lines, d: u32) -> Result<Falls, TextRefusal>
     requires { d ≤ most_places }
     ensures { Reads result lines.new (falls_in d lines.old) }
 {
-    let rows = read_word_rows(lines, Keyword::Form, d, d)?;
+    let form = read_form(lines, d)?;
     let positive = read_squares(lines, Keyword::Positive, d)?;
     let fall = read_squares(lines, Keyword::Fall, d)?;
     let _ = next_numbers(lines, &[Place::Word(Keyword::End)])?;
     Ok(Falls {
-        form: Form {
-            d,
-            rows: rows.matrix_from(0),
-        },
+        form,
         positive,
         fall,
     })

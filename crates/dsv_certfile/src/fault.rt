@@ -120,6 +120,16 @@ impl<T: Drop> From<AllocFailed<T>> for LineRefusal {
     }
 }
 
+/// Why a text isn't read: its first fault, and the number of its line.
+#[derive(Clone, Copy, Debug, PartialEq, Eq, Error)]
+#[error("line {line}: {fault}")]
+pub struct TextRefusal {
+    /// The number of the line; lines count from 1.
+    pub line: u64,
+    /// What is wrong with the line.
+    pub fault: TextFault,
+}
+
 /// Why a text is no certificate: its first fault, and the number of its line. Lines count from 1.
 #[derive(Clone, Copy, Debug, PartialEq, Eq, Error)]
 pub enum CertRefusal {
@@ -140,6 +150,20 @@ impl From<NoMemory> for CertRefusal {
     }
 }
 
+impl From<TextRefusal> for CertRefusal {
+    ghost use Rattle.std.specs.Prelude.{◌≡◌};
+    ghost use Rattle.dsv_certfile.specs.Answers.{cert_refusal};
+
+    ghost from_gives = { λ why r. r ≡ cert_refusal why };
+
+    fn from(refusal: TextRefusal) -> Self {
+        CertRefusal::Text {
+            line: refusal.line,
+            fault: refusal.fault,
+        }
+    }
+}
+
 impl LineRefusal {
     ghost use Rattle.std.specs.Prelude.{◌≡◌};
     ghost use Rattle.dsv_certfile.specs.Answers.{refusal_at};
@@ -156,11 +180,11 @@ impl LineRefusal {
 }
 
 /// What a line of this number says, or its fault there.
-pub(crate) fn at_line<T>(line: u64, answer: Result<T, TextFault>) -> Result<T, CertRefusal>
+pub(crate) fn at_line<T>(line: u64, answer: Result<T, TextFault>) -> Result<T, TextRefusal>
     ensures { result ≡ at_line line answer }
 {
     match answer {
         Ok(value) => Ok(value),
-        Err(fault) => Err(CertRefusal::Text { line, fault }),
+        Err(fault) => Err(TextRefusal { line, fault }),
     }
 }

@@ -1,13 +1,14 @@
 // The lines of an invariant.
 ghost use Rattle.std.specs.Prelude.{◌≡◌, ◌≤◌, ◌<◌, length, IfOk};
-ghost use Rattle.dsv_certfile.specs.Answers.{Reads};
+ghost use Rattle.dsv_lines.specs.Readings.{Reads};
+ghost use Rattle.dsv_certfile.specs.Answers.{ReadsText};
 ghost use Rattle.dsv_certfile.specs.Bodies.{inequality_in, inequality_numbers, inequality_with};
 ghost use Rattle.dsv_certfile.specs.Bodies.{line_in, logs_in, invariant_in};
 ghost use Rattle.dsv_certfile.specs.Candidates.{ReadsInequalities, AreEntries};
 ghost use Rattle.dsv_certfile.specs.Limits.{most_inequality_numbers};
 ghost use Rattle.dsv_template.specs.Limits.{most_inequalities};
 
-use crate::fault::{CertRefusal, TextFault, at_line};
+use crate::fault::{CertRefusal, TextFault, TextRefusal, at_line};
 use crate::keyword::Keyword;
 use crate::limits::MOST_INEQUALITY_NUMBERS;
 use crate::lines::{next_line, next_numbers};
@@ -64,7 +65,7 @@ fn inequality_of(line: &[u8]) -> Result<Inequality, TextFault>
 }
 
 /// Reads the next line, which is an inequality.
-fn read_inequality(lines: &mut Lines) -> Result<Inequality, CertRefusal>
+fn read_inequality(lines: &mut Lines) -> Result<Inequality, TextRefusal>
     ensures { Reads result lines.new (line_in inequality_in lines.old) }
 {
     let line = next_line(lines)?;
@@ -72,7 +73,7 @@ fn read_inequality(lines: &mut Lines) -> Result<Inequality, CertRefusal>
 }
 
 /// Reads so many inequalities, a line each.
-fn read_inequalities(lines: &mut Lines, count: u32) -> Result<InequalityList, CertRefusal>
+fn read_inequalities(lines: &mut Lines, count: u32) -> Result<InequalityList, TextRefusal>
     requires { count ≤ most_inequalities }
     ensures { ReadsInequalities count lines.old result lines.new }
 {
@@ -87,7 +88,7 @@ fn read_inequalities(lines: &mut Lines, count: u32) -> Result<InequalityList, Ce
 
 /// Reads the logs of the three sentences, each after the word of its sentence, and the last line.
 fn read_logs(alloc: Global, lines: &mut Lines) -> Result<ThreeLogs, CertRefusal>
-    ensures { Reads result lines.new (logs_in lines.old) }
+    ensures { ReadsText result lines.new (logs_in lines.old) }
 {
     let _ = next_numbers(lines, &[Place::Word(Keyword::Base)])?;
     let base = read_log(alloc, lines, Keyword::Step)?;
@@ -104,7 +105,7 @@ pub(crate) fn read_invariant(
     count: u32,
 ) -> Result<SetProof, CertRefusal>
     requires { count ≤ most_inequalities }
-    ensures { Reads result lines.new (invariant_in depth count lines.old) }
+    ensures { ReadsText result lines.new (invariant_in depth count lines.old) }
 {
     let inequalities = read_inequalities(lines, count)?;
     let logs = read_logs(alloc, lines)?;

@@ -2,7 +2,7 @@
 ghost use Rattle.std.specs.Prelude.{◌≡◌};
 ghost use Rattle.std.specs.Str.{bytes_eq};
 ghost use Rattle.dsv_certfile.specs.Keywords.{keyword_text, version_text, unbounded_text};
-ghost use Rattle.dsv_certfile.specs.Keywords.{deletion_text, zero_text};
+ghost use Rattle.dsv_certfile.specs.Keywords.{ellipsoid_version, deletion_text, zero_text};
 
 use crate::job::Version;
 
@@ -21,6 +21,11 @@ pub(crate) enum Keyword {
     Square,
     Rest,
     Fall,
+    States,
+    Level,
+    Lambda,
+    Mu,
+    First,
     End,
 }
 
@@ -41,6 +46,11 @@ impl Keyword {
             Keyword::Square => "square",
             Keyword::Rest => "rest",
             Keyword::Fall => "fall",
+            Keyword::States => "states",
+            Keyword::Level => "level",
+            Keyword::Lambda => "lambda",
+            Keyword::Mu => "mu",
+            Keyword::First => "first",
             Keyword::End => "end",
         }
     }
@@ -61,6 +71,13 @@ pub(crate) fn is_version(line: &[u8], version: Version) -> bool
         Version::One => line == "dsv-certificate 1".as_bytes(),
         Version::Two => line == "dsv-certificate 2".as_bytes(),
     }
+}
+
+/// Whether the line is the first one of each text that offers an ellipsoid.
+pub(crate) fn is_ellipsoid_version(line: &[u8]) -> bool
+    ensures { result ≡ bytes_eq line.now ellipsoid_version }
+{
+    line == "dsv-ellipsoid 1".as_bytes()
 }
 
 /// Whether the piece says that there is no bound on the samples.

@@ -1,8 +1,11 @@
 //! Certificates as text: what is claimed of a controller, and the log, the invariant, the gain or
-//! the form that shows it.
+//! the form that shows it. Texts that offer an ellipsoid, too.
 #![tactic(auto, using(dsv_algebra::proofs::Casts::casts))]
 
 mod certificate;
+mod ellipsoid;
+mod ellipsoid_reader;
+mod ellipsoid_writer;
 mod falls;
 mod fault;
 mod invariant;
@@ -21,9 +24,12 @@ mod steps;
 mod writer;
 
 pub use certificate::Certificate;
-pub use fault::{CertRefusal, CheckFault, TextFault};
+pub use ellipsoid::Ellipsoid;
+pub use ellipsoid_reader::read_ellipsoid;
+pub use ellipsoid_writer::write_ellipsoid;
+pub use fault::{CertRefusal, CheckFault, TextFault, TextRefusal};
 pub use job::{CertWords, CertifiedJob, Size};
-pub use law::certificates_are_read;
+pub use law::{certificates_are_read, ellipsoids_are_read};
 pub use limits::{MOST_GAIN_DEPTH, MOST_JOB_SAMPLES, MOST_SQUARES, NARROW_WORD_BITS};
 pub use reader::read;
 pub use writer::{write, write_falls, write_gain, write_hints, write_invariant};

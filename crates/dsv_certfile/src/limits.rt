@@ -14,6 +14,9 @@ pub(crate) const GREATEST_INT_BITS: u32 = 48;
 /// The most bits after the point in a format that a certificate says.
 pub(crate) const GREATEST_FRAC_BITS: u32 = 47;
 
+/// The most places of the form of an ellipsoid; the least is 1.
+pub(crate) const MOST_STATES: u32 = 7;
+
 /// The most squares of a form.
 pub const MOST_SQUARES: usize = 8;
 
@@ -29,6 +32,9 @@ pub(crate) const GREATEST_LITERAL: u32 = 1 << 31;
 
 /// The greatest size of a number of an inequality.
 pub(crate) const GREATEST_ENTRY: u128 = (1 << 63) - 1;
+
+/// The greatest size of the number that bounds the outputs in an ellipsoid.
+pub(crate) const GREATEST_BOUND: u128 = (1 << 62) - 1;
 
 /// The greatest size of a number.
 pub(crate) const GREATEST_WHOLE: u128 = (1 << 127) - 1;

@@ -2,7 +2,9 @@
 ghost use Rattle.std.specs.Prelude.{◌≡◌};
 ghost use Rattle.dsv_certfile.specs.Numerals.{number_in, samples_of, id_of, literal_read};
 
-use crate::limits::{GREATEST_ENTRY, GREATEST_LITERAL, GREATEST_WHOLE, MOST_JOB_SAMPLES};
+use crate::limits::{
+    GREATEST_BOUND, GREATEST_ENTRY, GREATEST_LITERAL, GREATEST_WHOLE, MOST_JOB_SAMPLES,
+};
 use dsv_cnf::Lit;
 use dsv_lines::{integer_of, numeral_of, positive_of};
 use dsv_text::has_byte;
@@ -16,6 +18,8 @@ pub(crate) enum NumberRange {
     Positive(u32),
     /// Those of an inequality, below 2^63 in size.
     Entry,
+    /// Those that bound the outputs in an ellipsoid, below 2^62 in size.
+    Bound,
     /// Any others, below 2^127 in size.
     Whole,
 }
@@ -55,6 +59,7 @@ impl NumberRange {
                 Some(positive_of(u128::from(greatest), piece)? as i128)
             }
             NumberRange::Entry => integer_of(GREATEST_ENTRY, piece),
+            NumberRange::Bound => integer_of(GREATEST_BOUND, piece),
             NumberRange::Whole => integer_of(GREATEST_WHOLE, piece),
         }
     }

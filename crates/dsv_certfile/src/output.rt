@@ -28,7 +28,7 @@ pub(crate) type MatrixRow = [i128; GREATEST_ORDER];
 pub(crate) type Matrix = [MatrixRow; GREATEST_ORDER];
 
 /// Writes a space and a piece.
-fn put_piece<K: Sink>(sink: &mut K, piece: &[u8]) -> Result<(), Failed>
+pub(crate) fn put_piece<K: Sink>(sink: &mut K, piece: &[u8]) -> Result<(), Failed>
     ensures { Writes (K.seen sink.old) (K.seen sink.new) result
         (spaced_text piece_text piece.now) }
 {
@@ -83,19 +83,19 @@ pub(crate) fn put_numbers<K: Sink>(
 }
 
 /// Writes a line of the first d places of the row.
-fn put_row<K: Sink>(sink: &mut K, word: Keyword, d: u32, row: &MatrixRow) -> Result<(), Failed>
+fn put_row<K: Sink>(sink: &mut K, word: Keyword, d: usize, row: &MatrixRow) -> Result<(), Failed>
     ensures text { Writes (K.seen sink.old) (K.seen sink.new) result
         (line_text (numbers_line word (take d row.now))) }
     ensures typed { IsTypedRow row.now }
 {
-    put_numbers(sink, word, &row[..GREATEST_ORDER.min(d as usize)])
+    put_numbers(sink, word, &row[..GREATEST_ORDER.min(d)])
 }
 
 /// Writes a line for each row, of its first d places.
 fn put_each_row<K: Sink>(
     sink: &mut K,
     word: Keyword,
-    d: u32,
+    d: usize,
     rows: &[MatrixRow],
 ) -> Result<(), Failed>
     ensures text { Writes (K.seen sink.old) (K.seen sink.new) result
@@ -112,14 +112,14 @@ fn put_each_row<K: Sink>(
 pub(crate) fn put_rows<K: Sink>(
     sink: &mut K,
     word: Keyword,
-    d: u32,
+    d: usize,
     rows: &Matrix,
 ) -> Result<(), Failed>
     ensures text { Writes (K.seen sink.old) (K.seen sink.new) result
         (flat_map line_text (rows_lines word d rows.now)) }
     ensures typed { OnOk result (IsTypedMatrix d rows.now) }
 {
-    put_each_row(sink, word, d, &rows[..GREATEST_ORDER.min(d as usize)])
+    put_each_row(sink, word, d, &rows[..GREATEST_ORDER.min(d)])
 }
 
 // ---- logs

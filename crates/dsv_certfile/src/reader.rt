@@ -1,13 +1,14 @@
 // Reading a certificate from its text.
 ghost use Rattle.std.specs.Prelude.{IfOk};
-ghost use Rattle.dsv_certfile.specs.Answers.{Gives, Reads};
+ghost use Rattle.dsv_lines.specs.Readings.{Reads};
+ghost use Rattle.dsv_certfile.specs.Answers.{Gives, ReadsText};
 ghost use Rattle.dsv_certfile.specs.Heads.{IsHead};
 ghost use Rattle.dsv_certfile.specs.Lawful.{IsLawful};
 ghost use Rattle.dsv_certfile.specs.Reading.{body_in, certificate_in, heading_in, words_in};
 
 use crate::certificate::Certificate;
 use crate::falls::read_falls;
-use crate::fault::{CertRefusal, at_line};
+use crate::fault::{CertRefusal, TextRefusal, at_line};
 use crate::invariant::read_invariant;
 use crate::job::{CertWords, CertifiedJob, Version, read_format, read_job, read_version};
 use crate::keyword::Keyword;
@@ -26,7 +27,7 @@ struct Heading {
 }
 
 /// Reads what the certificate says of the words' format, where its version says it.
-fn read_words(lines: &mut Lines, version: Version) -> Result<CertWords, CertRefusal>
+fn read_words(lines: &mut Lines, version: Version) -> Result<CertWords, TextRefusal>
     ensures { Reads result lines.new (words_in version lines.old) }
 {
     match version {
@@ -38,7 +39,7 @@ fn read_words(lines: &mut Lines, version: Version) -> Result<CertWords, CertRefu
     }
 }
 
-fn read_heading(lines: &mut Lines) -> Result<Heading, CertRefusal>
+fn read_heading(lines: &mut Lines) -> Result<Heading, TextRefusal>
     ensures answer { Reads result lines.new (heading_in lines.old) }
     ensures within { IfOk result (λ heading. IsHead heading.kind) }
 {
@@ -56,7 +57,7 @@ fn read_heading(lines: &mut Lines) -> Result<Heading, CertRefusal>
 /// Reads what follows the kind line, the last line among it.
 fn read_body(alloc: Global, lines: &mut Lines, heading: Heading) -> Result<Certificate, CertRefusal>
     requires { IsHead heading.kind }
-    ensures { Reads result lines.new (body_in heading.job heading.kind lines.old) }
+    ensures { ReadsText result lines.new (body_in heading.job heading.kind lines.old) }
 {
     let job = heading.job;
     match heading.kind {

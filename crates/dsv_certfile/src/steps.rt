@@ -1,6 +1,6 @@
 // The lines of a log.
 ghost use Rattle.std.specs.Prelude.{◌≡◌, drop};
-ghost use Rattle.dsv_certfile.specs.Answers.{Gives, LineGives, Reads, at_line};
+ghost use Rattle.dsv_certfile.specs.Answers.{GivesText, LineGives, ReadsText, at_line};
 ghost use Rattle.dsv_certfile.specs.Listing.{ListsUpTo};
 ghost use Rattle.dsv_certfile.specs.Numerals.{id_of, literal_read};
 ghost use Rattle.dsv_lines.specs.Pieces.{pieces_of};
@@ -114,7 +114,7 @@ fn read_step(alloc: Global, line: &[u8]) -> Result<Step, LineRefusal>
 
 /// Reads the step of a line of a text.
 fn read_step_at(alloc: Global, line: Line) -> Result<Step, CertRefusal>
-    ensures { Gives result (at_line line.entry.number
+    ensures { GivesText result (at_line line.entry.number
         (step_in (pieces_of line.entry.text.now))) }
 {
     match read_step(alloc, line.text) {
@@ -125,7 +125,7 @@ fn read_step_at(alloc: Global, line: Line) -> Result<Step, CertRefusal>
 
 /// Reads a log and the line after it, which is exactly this word.
 pub(crate) fn read_log(alloc: Global, lines: &mut Lines, word: Keyword) -> Result<Log, CertRefusal>
-    ensures { Reads result lines.new (log_in word lines.old) }
+    ensures { ReadsText result lines.new (log_in word lines.old) }
 {
     let mut log = Log::new(alloc);
     'steps: loop {

@@ -7,11 +7,13 @@ ghost use Rattle.dsv_base.specs.Text.{spaced_text};
 ghost use Rattle.dsv_lines.specs.Texts.{line_text};
 ghost use Rattle.dsv_certfile.specs.Texts.{size_pieces, job_line, inequality_line};
 ghost use Rattle.dsv_certfile.specs.Texts.{logs_lines, squares_lines, square_lines, falls_lines};
+ghost use Rattle.dsv_certfile.specs.Texts.{squares_body};
 ghost use Rattle.dsv_certfile.specs.Texts.{certificate_text, version_line, numbers_line};
 ghost use Rattle.dsv_certfile.specs.Texts.{format_lines, head_lines};
 ghost use Rattle.dsv_lines.specs.Texts.{piece_text};
 ghost use Rattle.dsv_certfile.specs.Typed.{IsTypedInequality, IsTypedSet, AreTypedLogs};
-ghost use Rattle.dsv_certfile.specs.Typed.{IsTypedRow, IsTypedFactor, AreTypedRows};
+ghost use Rattle.dsv_certfile.specs.Typed.{IsTypedRow, IsTypedFactor, IsTypedMatrix};
+ghost use Rattle.dsv_certfile.specs.Typed.{AreTypedRows};
 ghost use Rattle.dsv_certfile.specs.Typed.{AreTypedSquares, IsTypedOffer, IsTypedBody};
 ghost use Rattle.dsv_names.specs.Properties.{property_name};
 ghost use Rattle.dsv_names.specs.Realisations.{realisation_name};
@@ -196,18 +198,18 @@ fn put_logs<K: Sink>(sink: &mut K, logs: &ThreeLogs) -> Result<(), Failed>
 }
 
 /// Writes the line of a square: its weight, and the first d places of its row.
-fn put_square<K: Sink>(sink: &mut K, d: u32, weight: &i128, row: &MatrixRow) -> Result<(), Failed>
+fn put_square<K: Sink>(sink: &mut K, d: usize, weight: &i128, row: &MatrixRow) -> Result<(), Failed>
     ensures text { Writes (K.seen sink.old) (K.seen sink.new) result
         (line_text (numbers_line keyword.Square (weight.now ∷ take d row.now))) }
     ensures typed { IsTypedRow row.now }
 {
     put_all(sink, Keyword::Square.text())?;
     put_entry(sink, weight)?;
-    put_entries(sink, &row[..GREATEST_ORDER.min(d as usize)])?;
+    put_entries(sink, &row[..GREATEST_ORDER.min(d)])?;
     put_all(sink, b"\n")
 }
 
-fn put_all_squares<K: Sink>(sink: &mut K, d: u32, squares: &Squares) -> Result<(), Failed>
+fn put_all_squares<K: Sink>(sink: &mut K, d: usize, squares: &Squares) -> Result<(), Failed>
     ensures text { Writes (K.seen sink.old) (K.seen sink.new) result
         (flat_map line_text (square_lines d
         (take squares.now.count squares.now.weights) squares.now.rows)) }
@@ -220,7 +222,7 @@ fn put_all_squares<K: Sink>(sink: &mut K, d: u32, squares: &Squares) -> Result<(
 }
 
 /// Writes a space and the factor of a form.
-fn put_factor<K: Sink>(sink: &mut K, factor: &i128) -> Result<(), Failed>
+pub(crate) fn put_factor<K: Sink>(sink: &mut K, factor: &i128) -> Result<(), Failed>
     ensures text { Writes (K.seen sink.old) (K.seen sink.new) result
         (spaced_text signed_decimal factor.now) }
     ensures typed { IsTypedFactor factor.now }
@@ -241,10 +243,24 @@ fn put_squares_head<K: Sink>(sink: &mut K, word: Keyword, s: &Squares) -> Result
 }
 
 /// Writes the squares of a form of d places, and the rest.
-fn put_squares<K: Sink>(
+pub(crate) fn put_squares_body<K: Sink>(
+    sink: &mut K,
+    d: usize,
+    squares: &Squares,
+) -> Result<(), Failed>
+    ensures text { Writes (K.seen sink.old) (K.seen sink.new) result
+        (flat_map line_text (squares_body d squares.now)) }
+    ensures typed { OnOk result (AreTypedRows squares.now × IsTypedMatrix d squares.now.rest) }
+{
+    put_all_squares(sink, d, squares)?;
+    put_rows(sink, Keyword::Rest, d, &squares.rest)
+}
+
+/// Writes the same after the line that the squares begin with.
+pub(crate) fn put_squares<K: Sink>(
     sink: &mut K,
     word: Keyword,
-    d: u32,
+    d: usize,
     squares: &Squares,
 ) -> Result<(), Failed>
     ensures text { Writes (K.seen sink.old) (K.seen sink.new) result
@@ -252,8 +268,7 @@ fn put_squares<K: Sink>(
     ensures typed { OnOk result (AreTypedSquares d squares.now) }
 {
     put_squares_head(sink, word, squares)?;
-    put_all_squares(sink, d, squares)?;
-    put_rows(sink, Keyword::Rest, d, &squares.rest)
+    put_squares_body(sink, d, squares)
 }
 
 fn put_falls<K: Sink>(sink: &mut K, offer: &Falls) -> Result<(), Failed>
@@ -261,7 +276,7 @@ fn put_falls<K: Sink>(sink: &mut K, offer: &Falls) -> Result<(), Failed>
         (flat_map line_text (falls_lines offer.now)) }
     ensures typed { OnOk result (IsTypedOffer offer.now) }
 {
-    let d = offer.form.d;
+    let d = offer.form.d as usize;
     put_rows(sink, Keyword::Form, d, &offer.form.rows)?;
     put_squares(sink, Keyword::Positive, d, &offer.positive)?;
     put_squares(sink, Keyword::Fall, d, &offer.fall)

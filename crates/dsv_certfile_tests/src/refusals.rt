@@ -77,7 +77,12 @@ const ONE_SET: &str = "dsv-certificate 1\n\
     kind invariant 1 1\n";
 
 /// A text in two parts, and its refusal: the line, and the fault.
-struct Refused(&'static str, &'static str, u64, TextFault);
+pub(crate) struct Refused(
+    pub(crate) &'static str,
+    pub(crate) &'static str,
+    pub(crate) u64,
+    pub(crate) TextFault,
+);
 
 const HEADINGS: &[Refused] = &[
     Refused(NOTHING, "", 1, TextFault::End),
@@ -355,15 +360,16 @@ const SETS: &[Refused] = &[
     ),
 ];
 
-fn text_of(alloc: Global, row: &Refused) -> Result<String, AllocError> {
+/// The text of two parts.
+pub(crate) fn text_of(alloc: Global, lines: &str, rest: &str) -> Result<String, AllocError> {
     let mut text = String::new(alloc);
-    text.push_str(row.0)?;
-    text.push_str(row.1)?;
+    text.push_str(lines)?;
+    text.push_str(rest)?;
     Ok(text)
 }
 
 fn is_refused(alloc: Global, row: &Refused) -> bool {
-    let Ok(text) = text_of(alloc, row) else {
+    let Ok(text) = text_of(alloc, row.0, row.1) else {
         return false;
     };
     let refusal = CertRefusal::Text {

@@ -13,7 +13,7 @@ use Rattle.dsv_forms.specs.Refusals.{places}
 use Rattle.dsv_forms.specs.Sums.{Summand, sum_with, sum_from, image_sum}
 use Rattle.dsv_forms.proofs.FallLemmas.{image_sum-terms}
 use Rattle.dsv_forms.proofs.Places.{any_same}
-use Rattle.dsv_ellipsoid.specs.declared.offer.Ellipsoid.{Ellipsoid}
+use Rattle.dsv_certfile.specs.declared.ellipsoid.Ellipsoid.{Ellipsoid}
 use Rattle.dsv_ellipsoid.specs.Good.{form_of}
 use Rattle.dsv_ellipsoid.specs.Entries.{scaled, numbered, bare, image_terms, inside_summands, side_summands, corner_summands, step_summands, first_summands, has_wide_entry}
 use Rattle.dsv_ellipsoid.specs.Sums.{inside_sum, side_sum, corner_sum, step_sum, first_sum}

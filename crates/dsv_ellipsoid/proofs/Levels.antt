@@ -10,7 +10,7 @@ use Rattle.dsv_algebra.specs.Squares.{size}
 use Rattle.dsv_algebra.specs.Companion.{companion}
 use Rattle.dsv_algebra.proofs.Sums.{sum_same, sum_scale}
 use Rattle.dsv_linear.proofs.Numbers.{times_up, times_back}
-use Rattle.dsv_ellipsoid.specs.declared.offer.Ellipsoid.{Ellipsoid}
+use Rattle.dsv_certfile.specs.declared.ellipsoid.Ellipsoid.{Ellipsoid}
 use Rattle.dsv_ellipsoid.specs.Good.{form_of, step_form, first_form}
 use Rattle.dsv_ellipsoid.specs.Intervals.{LiesIn, greater, output_interval}
 use Rattle.dsv_ellipsoid.proofs.Rectangular.{into, with_last, form_read, step_form_at, first_form_at}

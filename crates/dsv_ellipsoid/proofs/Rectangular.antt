@@ -7,7 +7,7 @@ use Rattle.dsv_algebra.proofs.Normaliser.{ring, env, var, num, times}
 use Rattle.dsv_algebra.specs.Vectors.{Vector, Matrix, sum_to, form_at, dot, congruence}
 use Rattle.dsv_algebra.proofs.Sums.{sum_same, sum_scale, sum_swap, sum_none, sum_one, form_add, form_nought, form_scale, form_neg}
 use Rattle.dsv_algebra.specs.Companion.{companion}
-use Rattle.dsv_ellipsoid.specs.declared.offer.Ellipsoid.{Ellipsoid}
+use Rattle.dsv_certfile.specs.declared.ellipsoid.Ellipsoid.{Ellipsoid}
 use Rattle.dsv_ellipsoid.specs.Good.{form_of, disturbed, bordered, step_form, first_form}
 
 -- ---- these are those of dsv_algebra's Congruence, for n columns in place of d

@@ -26,7 +26,7 @@ use Rattle.dsv_meaning.specs.Equations.{Past, order, feedback, ago, forward_summ
 use Rattle.dsv_linear.specs.declared.range.Range.{Range}
 use Rattle.dsv_ellipsoid.specs.Intervals.{LiesIn, HasInterval, AreWords, line_intervals, input_interval, output_interval, sample_intervals}
 use Rattle.dsv_ellipsoid.specs.Disturbance.{disturbance, greatest_disturbance}
-use Rattle.dsv_ellipsoid.specs.declared.offer.Ellipsoid.{Ellipsoid}
+use Rattle.dsv_certfile.specs.declared.ellipsoid.Ellipsoid.{Ellipsoid}
 use Rattle.dsv_ellipsoid.specs.Good.{form_of, IsGood, IsKept, NeverBreaks, StaysKept}
 use Rattle.dsv_ellipsoid.proofs.Walks.{sum_of_products, lesser_least, greater_most}
 use Rattle.dsv_ellipsoid.proofs.Samples.{Gives, whole_line, sum_lies}

@@ -24,7 +24,7 @@ use Rattle.dsv_forms.specs.Refusals as forms
 use Rattle.dsv_algebra.proofs.KeptAway.{shown_not_negative}
 use Rattle.dsv_forms.proofs.Places.{neither_test, not_false}
 use Rattle.dsv_forms.proofs.Shown.{less, less_not, shows_not_negative, symmetric_at}
-use Rattle.dsv_ellipsoid.specs.declared.offer.Ellipsoid.{Ellipsoid}
+use Rattle.dsv_certfile.specs.declared.ellipsoid.Ellipsoid.{Ellipsoid}
 use Rattle.dsv_ellipsoid.specs.declared.refusal.EllipsoidRefusal.{EllipsoidRefusal}
 use Rattle.dsv_ellipsoid.specs.declared.refusal.EllipsoidRefusal.TheVariants as refusal
 use Rattle.dsv_ellipsoid.specs.Intervals.{AreWords, sample_intervals}

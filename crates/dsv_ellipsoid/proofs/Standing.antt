@@ -16,7 +16,7 @@ use Rattle.dsv_forms.proofs.OfferLemmas.{semidefinite_entries}
 use Rattle.dsv_forms.proofs.Places.{all_true}
 use Rattle.dsv_forms.proofs.Shown.{symmetric_at}
 use Rattle.dsv_forms.proofs.SumLemmas.{unless, sum_from-is, values, total}
-use Rattle.dsv_ellipsoid.specs.declared.offer.Ellipsoid.{Ellipsoid}
+use Rattle.dsv_certfile.specs.declared.ellipsoid.Ellipsoid.{Ellipsoid}
 use Rattle.dsv_ellipsoid.specs.Good.{form_of, step_form, first_form}
 use Rattle.dsv_ellipsoid.specs.Entries.{numbered, scaled, bare, image_terms, inside_summands, side_terms, side_summands, corner_summands, step_summands, first_summands}
 use Rattle.dsv_ellipsoid.specs.Stages.{StandsFor}

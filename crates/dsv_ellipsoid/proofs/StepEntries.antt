@@ -11,7 +11,7 @@ use Rattle.dsv_algebra.specs.Companion.{companion, only, total_from, fall_entry}
 use Rattle.dsv_algebra.proofs.CompanionEntries.{companion_fall_form-is}
 use Rattle.dsv_algebra.proofs.Congruence.{congruence-turned}
 use Rattle.dsv_algebra.proofs.Sums.{sum_same, sum_first, sum_none, sum_one}
-use Rattle.dsv_ellipsoid.specs.declared.offer.Ellipsoid.{Ellipsoid}
+use Rattle.dsv_certfile.specs.declared.ellipsoid.Ellipsoid.{Ellipsoid}
 use Rattle.dsv_ellipsoid.specs.Good.{form_of, disturbed, bordered, step_form, first_form}
 use Rattle.dsv_ellipsoid.specs.Entries.{image_terms, side_terms}
 use Rattle.dsv_ellipsoid.proofs.Rectangular.{at_place, off_place, inner, beside_row, below_column, corner, not_last}

@@ -15,7 +15,7 @@ use Rattle.dsv_names.specs.declared.overflow_mode.OverflowMode.TheVariants.{Wrap
 use Rattle.dsv_names.specs.declared.realisation.Realisation.TheVariants.{Dfi, Dfii}
 use Rattle.dsv_quantiser.specs.QuantisedView.{QuantisedView, IsQuantisedView}
 use Rattle.dsv_forms.specs.declared.offers.Squares.{Squares}
-use Rattle.dsv_ellipsoid.specs.declared.offer.Ellipsoid.{Ellipsoid}
+use Rattle.dsv_certfile.specs.declared.ellipsoid.Ellipsoid.{Ellipsoid}
 use Rattle.dsv_forms.specs.declared.refusal.OfferPart.TheVariants.{Fall}
 use Rattle.dsv_forms.specs.declared.refusal.FormRefusal.TheVariants.{Identity}
 use Rattle.dsv_ellipsoid.specs.declared.refusal.EllipsoidRefusal.{EllipsoidRefusal}

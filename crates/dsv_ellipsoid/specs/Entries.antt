@@ -6,7 +6,7 @@ use Rattle.dsv_algebra.specs.Vectors.{Vector, Matrix}
 use Rattle.dsv_algebra.specs.Companion.{only, fall_terms}
 use Rattle.dsv_forms.specs.Refusals.{places}
 use Rattle.dsv_forms.specs.Sums.{Summand, sum_from}
-use Rattle.dsv_ellipsoid.specs.declared.offer.Ellipsoid.{Ellipsoid}
+use Rattle.dsv_certfile.specs.declared.ellipsoid.Ellipsoid.{Ellipsoid}
 use Rattle.dsv_ellipsoid.specs.Good.{form_of}
 
 -- ---- what stands on the way to a summand

@@ -16,7 +16,7 @@ use Rattle.dsv_system.specs.Runs.{SampleRow}
 use Rattle.dsv_system.specs.Systems.{rows, zeros, AreInRange}
 use Rattle.dsv_meaning.specs.Equations.{Past, order}
 use Rattle.dsv_meaning.specs.Systems.{equations_of}
-use Rattle.dsv_ellipsoid.specs.declared.offer.Ellipsoid.{Ellipsoid}
+use Rattle.dsv_certfile.specs.declared.ellipsoid.Ellipsoid.{Ellipsoid}
 use Rattle.dsv_ellipsoid.specs.Intervals.{LiesIn, HasInterval, AreWords, output_interval}
 use Rattle.dsv_ellipsoid.specs.Intervals.{sample_intervals}
 use Rattle.dsv_ellipsoid.specs.Disturbance.{greatest_disturbance}

@@ -1,7 +1,7 @@
 -- Serves private contracts: the numbers that the level and the bound are tested by.
 use Rattle.std.specs.Prelude.{not, int_lt, List, [], ◌∷◌, ◌++◌, pos, ◌*ℤ◌}
 use Rattle.dsv_quantiser.specs.QuantisedView.{QuantisedView}
-use Rattle.dsv_ellipsoid.specs.declared.offer.Ellipsoid.{Ellipsoid}
+use Rattle.dsv_certfile.specs.declared.ellipsoid.Ellipsoid.{Ellipsoid}
 use Rattle.dsv_ellipsoid.specs.declared.refusal.EllipsoidRefusal.TheVariants as refusal
 use Rattle.dsv_ellipsoid.specs.declared.sizes.Sizes.{Sizes}
 use Rattle.dsv_ellipsoid.specs.Disturbance.{greatest_disturbance}

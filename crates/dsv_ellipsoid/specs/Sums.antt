@@ -9,7 +9,7 @@ use Rattle.dsv_algebra.specs.Vectors.{Vector, matrix_of}
 use Rattle.dsv_forms.specs.Poly.{greatest_order}
 use Rattle.dsv_forms.specs.Sums.{sum_with, image_sum}
 use Rattle.dsv_forms.specs.declared.offers.Form.{Form}
-use Rattle.dsv_ellipsoid.specs.declared.offer.Ellipsoid.{Ellipsoid}
+use Rattle.dsv_certfile.specs.declared.ellipsoid.Ellipsoid.{Ellipsoid}
 use Rattle.dsv_ellipsoid.specs.declared.entries.FormKind.{FormKind}
 use Rattle.dsv_ellipsoid.specs.declared.entries.FormKind.TheVariants as kind
 use Rattle.dsv_ellipsoid.specs.Good.{form_of}

@@ -29,19 +29,19 @@ ghost use Rattle.dsv_ellipsoid.specs.Stages.{step_sign_tests, first_sign_tests};
 
 use crate::entries::{TestedForms, tested_forms};
 use crate::intervals::check_intervals;
-use crate::offer::Ellipsoid;
 use crate::refusal::{EllipsoidRefusal, refuse_where};
 use crate::sizes::{Sizes, sizes_of};
 use dsv_algebra::NarrowInteger;
+use dsv_certfile::Ellipsoid;
 use dsv_forms::{Form, OfferPart, Squares, check_semidefinite};
 use dsv_names::Realisation;
 use dsv_quantiser::Quantised;
 
 /// The greatest order: the step form has one place more, and a form has at most eight.
-const MOST_STATES: usize = 7;
+pub(crate) const MOST_STATES: usize = 7;
 
 /// Whether the realisation is the direct form I.
-fn is_direct(realisation: Realisation) -> bool
+pub(crate) fn is_direct(realisation: Realisation) -> bool
     ensures { result ≡ is_direct realisation }
 {
     matches!(realisation, Realisation::Dfi)

@@ -21,10 +21,10 @@ ghost use Rattle.dsv_ellipsoid.specs.Stages.{IsShaped, StandsFor};
 ghost use Rattle.dsv_ellipsoid.specs.Sums.{inside_sum, side_sum, corner_sum, step_sum, first_sum};
 ghost use Rattle.dsv_ellipsoid.specs.Sums.{sum_of, places_of, IsSummedRow, IsSummed};
 
-use crate::offer::Ellipsoid;
 use crate::refusal::EllipsoidRefusal;
 use crate::sizes::wide_number;
 use dsv_algebra::NarrowInteger;
+use dsv_certfile::Ellipsoid;
 use dsv_forms::{Form, GREATEST_ORDER, negation, number_of, sum_less_image};
 use dsv_quantiser::Quantised;
 

@@ -13,9 +13,9 @@ ghost use Rattle.dsv_ellipsoid.specs.Refusals.{disturbance_limit};
 ghost use Rattle.dsv_ellipsoid.specs.Sizes.{noise_tests, after_tests, limit_tests, sizes_of};
 
 use crate::disturbance::{greatest_disturbance, one};
-use crate::offer::Ellipsoid;
 use crate::refusal::{EllipsoidRefusal, refuse_where};
 use dsv_algebra::NarrowInteger;
+use dsv_certfile::Ellipsoid;
 use dsv_quantiser::Quantised;
 use dsv_word::Format;
 

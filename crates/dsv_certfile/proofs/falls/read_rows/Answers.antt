@@ -1,6 +1,6 @@
 use Rattle.std.proofs.Common.{◌≡◌, suc, ◌-◌, [], ◌∷◌, length, length-append, sym, ap, ◌∙◌, Err, rules, arith}
-use Rattle.dsv_certfile.specs.Bodies.{numbers_of, numbers_in, lines_from, rows_in}
-use Rattle.dsv_certfile.proofs.BodyLemmas.{refuses_more, one_line, bad_line}
+use Rattle.dsv_certfile.specs.Bodies.{numbers_of, lines_from}
+use Rattle.dsv_certfile.proofs.BodyLemmas.{one_line, bad_line}
 use Rattle.dsv_certfile.proofs.falls.read_rows.Goals as goal
 
 pub returns-in_err-next_numbers-clause-answer : goal.returns-in_err-next_numbers-clause-answer
@@ -10,8 +10,7 @@ returns-in_err-next_numbers-clause-answer c =
     let why = c.in_err-next_numbers.field-0.0 in
     let more : l.left ≡ suc (l.left - 1) = omega (arith, c.loop-left-test.true) in
     let e : c.from_residual.result ≡ Err why = search rules in
-    rw e (refuses_more why (numbers_in places l.lines) (rows_in places c.args.count c.args.lines.now)
-    (λ r h. sym l.invariant.rest ∙ bad_line (numbers_of places) l.left (l.left - 1) l.rows l.lines r more h) c.in_err-next_numbers.ensures.answer)
+    rw e (sym l.invariant.rest ∙ bad_line (numbers_of places) l.left (l.left - 1) l.rows l.lines why more c.in_err-next_numbers.ensures.answer)
 
 pub loop-left-preserved : goal.loop-left-preserved
 loop-left-preserved c =

@@ -1,6 +1,6 @@
 use Rattle.std.proofs.Common.{◌≡◌, suc, ◌-◌, [], ◌∷◌, length, length-append, sym, ap, ◌∙◌, Err, rules, arith}
-use Rattle.dsv_certfile.specs.Bodies.{inequality_in, line_in, lines_from}
-use Rattle.dsv_certfile.proofs.BodyLemmas.{refuses_more, one_line, bad_line}
+use Rattle.dsv_certfile.specs.Bodies.{inequality_in, lines_from}
+use Rattle.dsv_certfile.proofs.BodyLemmas.{one_line, bad_line}
 use Rattle.dsv_certfile.proofs.invariant.read_inequalities.Goals as goal
 
 pub returns-in_err-read_inequality : goal.returns-in_err-read_inequality
@@ -9,8 +9,7 @@ returns-in_err-read_inequality c =
     let why = c.in_err-read_inequality.field-0.0 in
     let more : l.left ≡ suc (l.left - 1) = omega (arith, c.loop-left-test.true) in
     let e : c.from_residual.result ≡ Err why = search rules in
-    rw e (refuses_more why (line_in inequality_in l.lines) (lines_from inequality_in c.args.count [] c.args.lines.now)
-    (λ r h. sym l.invariant.rest ∙ bad_line inequality_in l.left (l.left - 1) l.inequalities.items l.lines r more h) c.in_err-read_inequality.ensures)
+    rw e (sym l.invariant.rest ∙ bad_line inequality_in l.left (l.left - 1) l.inequalities.items l.lines why more c.in_err-read_inequality.ensures)
 
 pub loop-left-preserved : goal.loop-left-preserved
 loop-left-preserved c =
