@@ -8,6 +8,7 @@ pub mod ClapTurns
 pub mod ClapUses
 pub mod ClapWalk
 pub mod CommandLemmas
+pub mod EllipsoidLaws
 pub mod InputLaws
 pub mod InputLemmas
 pub mod JobLaws

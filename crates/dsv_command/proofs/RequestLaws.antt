@@ -6,20 +6,22 @@ use Rattle.dsv_text.specs.Digits.{short_number}
 use Rattle.dsv_command.specs.Limits.{most_number_digits, most_controllers, default_controllers}
 use Rattle.dsv_command.specs.Jobs.{Asked, ◌>>=◌, is_given, has_verdict_option, has_design_option, job_of_parts}
 use Rattle.dsv_command.specs.Cascades.{AskedCascade, cascade_of_parts}
+use Rattle.dsv_command.specs.Ellipsoids.{AskedEllipsoid, has_ellipsoid_option, ellipsoid_of_parts}
 use Rattle.dsv_command.specs.Options.{command_options}
 use Rattle.dsv_command.specs.Parts.{PartView, file_of, value_of, has_empty}
 use Rattle.dsv_command.specs.Reading.{parts_of}
-use Rattle.dsv_command.specs.Requests.{Request, on_file, on_cascade, on_states, checks, generates, seed_of, controllers_of, has_task_option, has_job_option, check_of, generation_of, controllers_request, job_request, request_by, request_of_parts, request_of}
-use Rattle.dsv_command.specs.Rules.{IsSeed, HasNoFormOption, HasNoTaskOption, HasNoJobOption, IsCheckOf, IsGenerationOf, IsRequestOf, IsRequestLine}
+use Rattle.dsv_command.specs.Requests.{Request, on_file, on_cascade, on_states, on_ellipsoid, checks, generates, seed_of, controllers_of, has_task_option, has_job_option, check_of, generation_of, controllers_request, files_request, job_request, request_by, request_of_parts, request_of}
+use Rattle.dsv_command.specs.Rules.{IsSeed, HasNoEllipsoidOption, HasNoTaskOption, HasNoJobOption, IsCheckOf, IsGenerationOf, IsRequestOf, IsRequestLine}
 use Rattle.dsv_command.specs.States.{AskedStates, has_form_option, has_state_option, states_of_parts}
 use Rattle.dsv_command.proofs.JobLaws.{Bound, unbind, parts_ask, job_found, number_read, number_found, no_verdict_given, no_design_given, no_verdict_found, no_design_found}
 use Rattle.dsv_command.proofs.CascadeLaws.{cascade_read, cascade_found}
+use Rattle.dsv_command.proofs.EllipsoidLaws.{GivesControllers, no_ellipsoid_given, no_ellipsoid_found, ellipsoid_given, ellipsoid_read, ellipsoid_found}
 use Rattle.dsv_command.proofs.StateLaws.{GivesStates, no_form_given, no_state_given, no_form_found, no_state_found, states_read, states_found}
 use Rattle.dsv_command.proofs.PartLaws.{given_is_read, read_is_given}
 
 -- ---- from the rules to the request
 no_task_given : (parts : List PartView) → HasNoTaskOption parts → has_task_option parts ≡ false
-no_task_given parts h = rw (h.property, h.inputs, h.sections, no_state_given parts h.states, no_verdict_given parts h.verdict, no_design_given parts h.design) refl
+no_task_given parts h = rw (h.property, h.inputs, h.sections, no_state_given parts h.states, no_ellipsoid_given parts h.ellipsoid, no_verdict_given parts h.verdict, no_design_given parts h.design) refl
 
 no_job_given : (parts : List PartView) → HasNoJobOption parts → has_job_option parts ≡ false
 no_job_given parts h = rw (h.check, no_task_given parts h.tasks) refl
@@ -38,10 +40,12 @@ check_read : (parts : List PartView) (controller certificate : List ℕ) → IsC
 check_read parts controller certificate h = rw (h.filled, h.file) (rw (no_task_given parts h.no_option) refl)
 
 parts_request : (parts : List PartView) (request : Request) → IsRequestOf parts request → request_of_parts parts ≡ Some request
-parts_request parts (on_file asked) h = rw (h.no_seed, h.no_count, h.no_check, h.no_states, no_form_given parts h.no_form, h.no_sections) (ap (option_map on_file) (parts_ask parts asked h.job))
+parts_request parts (on_file asked) h = rw (h.no_seed, h.no_count, h.no_check, h.no_states, no_form_given parts h.no_form, no_ellipsoid_given parts h.no_ellipsoid, h.no_sections) (ap (option_map on_file) (parts_ask parts asked h.job))
 parts_request parts (on_cascade asked) h =
-    rw (h.no_seed, h.no_count, h.no_check, h.no_states, no_form_given parts h.no_form, h.given) (ap (option_map on_cascade) (cascade_read parts h.text asked h.names h.job))
+    rw (h.no_seed, h.no_count, h.no_check, h.no_states, no_form_given parts h.no_form, no_ellipsoid_given parts h.no_ellipsoid, h.given) (ap (option_map on_cascade) (cascade_read parts h.text asked h.names h.job))
 parts_request parts (on_states asked) h = rw (h.no_seed, h.no_count, h.no_check, h.given) (ap (option_map on_states) (states_read parts asked h))
+parts_request parts (on_ellipsoid asked) h =
+    rw (h.no_seed, h.no_count, h.no_check, h.no_states, no_form_given parts h.no_form, ellipsoid_given parts asked h) (ap (option_map on_ellipsoid) (ellipsoid_read parts asked h))
 parts_request parts (checks controller certificate) h = rw (h.no_seed, h.no_count, h.given) (check_read parts controller certificate h)
 parts_request parts (generates seed count) h = rw h.given (generation_read parts seed count h)
 
@@ -61,27 +65,29 @@ seed_found text seed h =
     let b = unbind (short_number most_number_digits text) (λ n. (if nat_lt n (2 ^ 32) then Some n else None)) seed h in
     seed_by text b.value seed (nat_lt b.value (2 ^ 32)) refl b.first b.second
 
--- none of six is given where none of them makes a task
-no_task_by : (parts : List PartView) (p s n t v d : Bool) → is_given parts (codes "property") ≡ p → is_given parts (codes "simulate") ≡ s → is_given parts (codes "sections") ≡ n
-    → has_state_option parts ≡ t → has_verdict_option parts ≡ v → has_design_option parts ≡ d → has_task_option parts ≡ false → HasNoTaskOption parts
-no_task_by parts false false false false false false p s n t v d h = record {
+-- none of seven is given where none of them makes a task
+no_task_by : (parts : List PartView) (p s n t l v d : Bool) → is_given parts (codes "property") ≡ p → is_given parts (codes "simulate") ≡ s → is_given parts (codes "sections") ≡ n
+    → has_state_option parts ≡ t → has_ellipsoid_option parts ≡ l → has_verdict_option parts ≡ v → has_design_option parts ≡ d → has_task_option parts ≡ false → HasNoTaskOption parts
+no_task_by parts false false false false false false false p s n t l v d h = record {
   property = p;
   inputs = s;
   sections = n;
   states = no_state_found parts t;
+  ellipsoid = no_ellipsoid_found parts l;
   verdict = no_verdict_found parts v;
   design = no_design_found parts d;
 }
-no_task_by parts true s n t v d e f g i k l h = absurd (let m : true ≡ false = sym (rw e refl) ∙ h in cc)
-no_task_by parts false true n t v d e f g i k l h = absurd (let m : true ≡ false = sym (rw (e, f) refl) ∙ h in cc)
-no_task_by parts false false true t v d e f g i k l h = absurd (let m : true ≡ false = sym (rw (e, f, g) refl) ∙ h in cc)
-no_task_by parts false false false true v d e f g i k l h = absurd (let m : true ≡ false = sym (rw (e, f, g, i) refl) ∙ h in cc)
-no_task_by parts false false false false true d e f g i k l h = absurd (let m : true ≡ false = sym (rw (e, f, g, i, k) refl) ∙ h in cc)
-no_task_by parts false false false false false true e f g i k l h = absurd (let m : true ≡ false = sym (rw (e, f, g, i, k, l) refl) ∙ h in cc)
+no_task_by parts true s n t o v d e f g i j k l h = absurd (let m : true ≡ false = sym (rw e refl) ∙ h in cc)
+no_task_by parts false true n t o v d e f g i j k l h = absurd (let m : true ≡ false = sym (rw (e, f) refl) ∙ h in cc)
+no_task_by parts false false true t o v d e f g i j k l h = absurd (let m : true ≡ false = sym (rw (e, f, g) refl) ∙ h in cc)
+no_task_by parts false false false true o v d e f g i j k l h = absurd (let m : true ≡ false = sym (rw (e, f, g, i) refl) ∙ h in cc)
+no_task_by parts false false false false true v d e f g i j k l h = absurd (let m : true ≡ false = sym (rw (e, f, g, i, j) refl) ∙ h in cc)
+no_task_by parts false false false false false true d e f g i j k l h = absurd (let m : true ≡ false = sym (rw (e, f, g, i, j, k) refl) ∙ h in cc)
+no_task_by parts false false false false false false true e f g i j k l h = absurd (let m : true ≡ false = sym (rw (e, f, g, i, j, k, l) refl) ∙ h in cc)
 
 no_task_found : (parts : List PartView) → has_task_option parts ≡ false → HasNoTaskOption parts
 no_task_found parts =
-    no_task_by parts (is_given parts (codes "property")) (is_given parts (codes "simulate")) (is_given parts (codes "sections")) (has_state_option parts) (has_verdict_option parts) (has_design_option parts) refl refl refl refl refl refl
+    no_task_by parts (is_given parts (codes "property")) (is_given parts (codes "simulate")) (is_given parts (codes "sections")) (has_state_option parts) (has_ellipsoid_option parts) (has_verdict_option parts) (has_design_option parts) refl refl refl refl refl refl refl
 
 no_job_by : (parts : List PartView) (c t : Bool) → is_given parts (codes "check") ≡ c → has_task_option parts ≡ t → has_job_option parts ≡ false → HasNoJobOption parts
 no_job_by parts false false c t h = record { check = c; tasks = no_task_found parts t }
@@ -114,18 +120,10 @@ generation_by parts text request None false false g e f o h =
       no_option = no_job_found parts o;
     })
 
--- no seed, no number of controllers, no certificate to check, no state-space controller and no form
-record GivesControllers (parts : List PartView) : Type 0 where
-  pub no_seed : value_of (codes "generate") parts ≡ None
-  pub no_count : value_of (codes "count") parts ≡ None
-  pub no_check : value_of (codes "check") parts ≡ None
-  pub no_states : value_of (codes "state-space") parts ≡ None
-  pub no_form : HasNoFormOption parts
-
-job_by : (parts : List PartView) (request : Request) (job : Option Asked) → GivesControllers parts → value_of (codes "sections") parts ≡ None
+job_by : (parts : List PartView) (request : Request) (job : Option Asked) → GivesControllers parts → HasNoEllipsoidOption parts → value_of (codes "sections") parts ≡ None
     → job_of_parts parts ≡ job → option_map on_file job ≡ Some request → IsRequestOf parts request
-job_by parts request None g s e h = absurd (cc)
-job_by parts request (Some asked) g s e h =
+job_by parts request None g l s e h = absurd (cc)
+job_by parts request (Some asked) g l s e h =
     let same : on_file asked ≡ request = cc in
     subst (IsRequestOf parts) same (record {
       job = job_found parts asked e;
@@ -134,13 +132,14 @@ job_by parts request (Some asked) g s e h =
       no_check = g.no_check;
       no_states = g.no_states;
       no_form = g.no_form;
+      no_ellipsoid = l;
       no_sections = s;
     })
 
-cascade_by : (parts : List PartView) (text : List ℕ) (request : Request) (job : Option AskedCascade) → GivesControllers parts → value_of (codes "sections") parts ≡ Some text
+cascade_by : (parts : List PartView) (text : List ℕ) (request : Request) (job : Option AskedCascade) → GivesControllers parts → HasNoEllipsoidOption parts → value_of (codes "sections") parts ≡ Some text
     → cascade_of_parts parts text ≡ job → option_map on_cascade job ≡ Some request → IsRequestOf parts request
-cascade_by parts text request None g s e h = absurd (cc)
-cascade_by parts text request (Some asked) g s e h =
+cascade_by parts text request None g l s e h = absurd (cc)
+cascade_by parts text request (Some asked) g l s e h =
     let same : on_cascade asked ≡ request = cc in
     let found = cascade_found parts text asked e in
     subst (IsRequestOf parts) same (record {
@@ -153,12 +152,25 @@ cascade_by parts text request (Some asked) g s e h =
       no_check = g.no_check;
       no_states = g.no_states;
       no_form = g.no_form;
+      no_ellipsoid = l;
     })
 
-controllers_by : (parts : List PartView) (request : Request) (names : Option (List ℕ)) → GivesControllers parts → value_of (codes "sections") parts ≡ names
+controllers_by : (parts : List PartView) (request : Request) (names : Option (List ℕ)) → GivesControllers parts → HasNoEllipsoidOption parts → value_of (codes "sections") parts ≡ names
     → controllers_request parts names ≡ Some request → IsRequestOf parts request
-controllers_by parts request None g s h = job_by parts request (job_of_parts parts) g s refl h
-controllers_by parts request (Some text) g s h = cascade_by parts text request (cascade_of_parts parts text) g s refl h
+controllers_by parts request None g l s h = job_by parts request (job_of_parts parts) g l s refl h
+controllers_by parts request (Some text) g l s h = cascade_by parts text request (cascade_of_parts parts text) g l s refl h
+
+ellipsoid_by : (parts : List PartView) (request : Request) (job : Option AskedEllipsoid) → GivesControllers parts → ellipsoid_of_parts parts ≡ job
+    → option_map on_ellipsoid job ≡ Some request → IsRequestOf parts request
+ellipsoid_by parts request None g e h = absurd (cc)
+ellipsoid_by parts request (Some asked) g e h =
+    let same : on_ellipsoid asked ≡ request = cc in
+    subst (IsRequestOf parts) same (ellipsoid_found parts asked g e)
+
+files_by : (parts : List PartView) (request : Request) (ellipsoid : Bool) → GivesControllers parts → has_ellipsoid_option parts ≡ ellipsoid
+    → files_request parts ellipsoid ≡ Some request → IsRequestOf parts request
+files_by parts request true g l h = ellipsoid_by parts request (ellipsoid_of_parts parts) g refl h
+files_by parts request false g l h = controllers_by parts request (value_of (codes "sections") parts) g (no_ellipsoid_found parts l) refl h
 
 states_by : (parts : List PartView) (file : List ℕ) (request : Request) (job : Option AskedStates) → GivesStates parts file → states_of_parts parts file ≡ job
     → option_map on_states job ≡ Some request → IsRequestOf parts request
@@ -172,9 +184,9 @@ job_request_by : (parts : List PartView) (request : Request) (file : Option (Lis
 job_request_by parts request (Some file) form g c n s f h = states_by parts file request (states_of_parts parts file) (record { given = s; no_seed = g; no_count = c; no_check = n }) refl h
 job_request_by parts request None true g c n s f h = absurd (let k : None ≡ Some request = sym (rw f refl) ∙ h in cc)
 job_request_by parts request None false g c n s f h =
-    let k : controllers_request parts (value_of (codes "sections") parts) ≡ Some request = sym (rw f refl) ∙ h in
+    let k : files_request parts (has_ellipsoid_option parts) ≡ Some request = sym (rw f refl) ∙ h in
     let none : GivesControllers parts = record { no_seed = g; no_count = c; no_check = n; no_states = s; no_form = no_form_found parts f } in
-    controllers_by parts request (value_of (codes "sections") parts) none refl k
+    files_by parts request (has_ellipsoid_option parts) none refl k
 
 check_by : (parts : List PartView) (name : List ℕ) (request : Request) (file : Option (List ℕ)) (empty other : Bool) → value_of (codes "generate") parts ≡ None → value_of (codes "count") parts ≡ None
     → value_of (codes "check") parts ≡ Some name → has_empty parts ≡ empty → file_of parts ≡ file → has_task_option parts ≡ other

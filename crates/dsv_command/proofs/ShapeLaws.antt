@@ -107,7 +107,7 @@ before_is before after e = rw (first_after before after e) (take-append_seam bef
 after_is : (before after : List ℕ) → list_any is_equals before ≡ false → after_first is_equals (before ++ equals_sign ∷ after) ≡ after
 after_is before after e = rw (first_after before after e) (drop-append-add before (equals_sign ∷ after) 1)
 
-or_true : (a : Bool) → (a || true) ≡ true
+pub or_true : (a : Bool) → (a || true) ≡ true
 or_true true = refl
 or_true false = refl
 

@@ -2,10 +2,12 @@
 use Rattle.std.proofs.Common.{◌≡◌, ℕ, Bool, true, false, ◌||◌, List, Option, Some, None, refl, sym, subst, ◌∙◌}
 use Rattle.std.specs.Prelude.{codes, if◌then◌else◌, is_some}
 use Rattle.dsv_names.specs.declared.property.RootProperty.TheVariants.{Stability, MinimumPhase}
+use Rattle.dsv_command.specs.Ellipsoids.{has_ellipsoid_option}
 use Rattle.dsv_command.specs.Jobs.{Task, decides, checks_time, writes, searches, seeks_set, measures_gain, simulates, ◌>>=◌, is_given, is_certified, task_of, rounding_of, overflow_of}
 use Rattle.dsv_command.specs.Parts.{PartView, file_of, value_of, has_empty}
 use Rattle.dsv_command.specs.Rules.{IsTask, HasNoFormOption, HasNoStateOption, HasNoFormOrCertificate, IsStateTask, IsStateJobOf}
 use Rattle.dsv_command.specs.States.{StateTask, checks_form, seeks_form, searches_states, measures_states, simulates_states, AskedStates, has_form_option, has_state_option, form_task, state_task, states_of_parts}
+use Rattle.dsv_command.proofs.EllipsoidLaws.{no_ellipsoid_given, no_ellipsoid_found}
 use Rattle.dsv_command.proofs.JobLaws.{Bound, unbind, task_read, task_found, rounding_read, rounding_found, overflow_read, overflow_found}
 
 -- ---- from the rules to the job
@@ -52,7 +54,7 @@ state_task_read parts t (IsStateTask.simulation ps inputs task none) = record {
 pub states_read : (parts : List PartView) (asked : AskedStates) → IsStateJobOf parts asked → states_of_parts parts asked.file ≡ Some asked
 states_read parts asked h =
     let task = state_task_read parts asked.task h.task in
-    rw (h.filled, h.no_file, h.no_realisation, h.no_sections)
+    rw (h.filled, h.no_file, h.no_realisation, h.no_sections, no_ellipsoid_given parts h.no_ellipsoid)
     (rw task.first
     (rw task.second
     (rw (rounding_read parts asked.rounding h.rounding) (rw (overflow_read parts asked.overflow h.overflow) refl))))
@@ -140,14 +142,15 @@ states_in parts file = task_of parts >>= λ task.
     overflow_of parts >>= λ overflow.
     Some (record { file = file; task = found; rounding = rounding; overflow = overflow })
 
-states_by : (parts : List PartView) (file : List ℕ) (asked : AskedStates) (empty : Bool) (other : Option (List ℕ)) (realisation sections : Bool) → GivesStates parts file
+states_by : (parts : List PartView) (file : List ℕ) (asked : AskedStates) (empty : Bool) (other : Option (List ℕ)) (realisation sections ellipsoid : Bool) → GivesStates parts file
     → has_empty parts ≡ empty → file_of parts ≡ other → is_given parts (codes "realization") ≡ realisation → is_given parts (codes "sections") ≡ sections
-    → (if empty then None else if is_some other || (realisation || sections) then None else states_in parts file) ≡ Some asked → IsStateJobOf parts asked
-states_by parts file asked true other r s g e f d n h = absurd cc
-states_by parts file asked false (Some name) r s g e f d n h = absurd cc
-states_by parts file asked false None true s g e f d n h = absurd cc
-states_by parts file asked false None false true g e f d n h = absurd cc
-states_by parts file asked false None false false g e f d n h =
+    → has_ellipsoid_option parts ≡ ellipsoid → (if empty then None else if is_some other || (realisation || (sections || ellipsoid)) then None else states_in parts file) ≡ Some asked → IsStateJobOf parts asked
+states_by parts file asked true other r s l g e f d n o h = absurd cc
+states_by parts file asked false (Some name) r s l g e f d n o h = absurd cc
+states_by parts file asked false None true s l g e f d n o h = absurd cc
+states_by parts file asked false None false true l g e f d n o h = absurd cc
+states_by parts file asked false None false false true g e f d n o h = absurd cc
+states_by parts file asked false None false false false g e f d n o h =
     let a = unbind (task_of parts) _ asked h in
     let b = unbind (state_task parts a.value) _ asked a.second in
     let c = unbind (rounding_of parts) _ asked b.second in
@@ -159,6 +162,7 @@ states_by parts file asked false None false false g e f d n h =
       no_file = f;
       no_realisation = d;
       no_sections = n;
+      no_ellipsoid = no_ellipsoid_found parts o;
       task = state_task_found parts a.value b.value (task_found parts a.value (value_of (codes "property") parts) (value_of (codes "simulate") parts) refl refl a.first) b.first;
       rounding = rounding_found parts c.value c.first;
       overflow = overflow_found parts m.value m.first;
@@ -168,4 +172,4 @@ states_by parts file asked false None false false g e f d n h =
     })
 
 pub states_found : (parts : List PartView) (file : List ℕ) (asked : AskedStates) → GivesStates parts file → states_of_parts parts file ≡ Some asked → IsStateJobOf parts asked
-states_found parts file asked g = states_by parts file asked (has_empty parts) (file_of parts) (is_given parts (codes "realization")) (is_given parts (codes "sections")) g refl refl refl refl
+states_found parts file asked g = states_by parts file asked (has_empty parts) (file_of parts) (is_given parts (codes "realization")) (is_given parts (codes "sections")) (has_ellipsoid_option parts) g refl refl refl refl refl

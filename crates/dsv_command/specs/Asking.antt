@@ -8,7 +8,12 @@ use Rattle.dsv_command.specs.Jobs.{Asked, decides, checks_time, writes, searches
 use Rattle.dsv_command.specs.Jobs.{measures_gain, simulates}
 use Rattle.dsv_command.specs.Jobs as jobs
 use Rattle.dsv_command.specs.Requests as requests
-use Rattle.dsv_command.specs.Requests.{on_file, on_cascade, on_states, checks, generates}
+use Rattle.dsv_command.specs.Ellipsoids as ellipsoids
+use Rattle.dsv_command.specs.declared.ellipsoid.EllipsoidJob.{EllipsoidJob}
+use Rattle.dsv_command.specs.declared.ellipsoid.EllipsoidSource.{EllipsoidSource}
+use Rattle.dsv_command.specs.declared.ellipsoid.EllipsoidSource.TheVariants as of_ellipsoid
+use Rattle.dsv_command.specs.Requests.{on_file, on_cascade, on_states, on_ellipsoid, checks}
+use Rattle.dsv_command.specs.Requests.{generates}
 use Rattle.dsv_command.specs.States as states
 use Rattle.dsv_command.specs.declared.states.StateJob.{StateJob}
 use Rattle.dsv_command.specs.declared.states.StateTask.{StateTask}
@@ -16,7 +21,8 @@ use Rattle.dsv_command.specs.declared.states.StateTask.TheVariants as of_states
 use Rattle.dsv_command.specs.declared.job.Job.{Job}
 use Rattle.dsv_command.specs.declared.request.Request.{Request}
 use Rattle.dsv_command.specs.declared.request.Request.TheVariants.{OnFile, OnCascade}
-use Rattle.dsv_command.specs.declared.request.Request.TheVariants.{OnStates, Check, Generate}
+use Rattle.dsv_command.specs.declared.request.Request.TheVariants.{OnStates, OnEllipsoid}
+use Rattle.dsv_command.specs.declared.request.Request.TheVariants.{Check, Generate}
 use Rattle.dsv_command.specs.declared.task.Task.{Task}
 use Rattle.dsv_command.specs.declared.task.Task.TheVariants.{Decide, CheckTime}
 use Rattle.dsv_command.specs.declared.task.Task.TheVariants.{WriteFormula, Search, SeekSet}
@@ -71,9 +77,21 @@ asked_states job = record {
   overflow = job.overflow;
 }
 
+abbrev pub asked_source : EllipsoidSource → ellipsoids.EllipsoidSource
+asked_source (of_ellipsoid.Offered name) = ellipsoids.offered name.now
+asked_source of_ellipsoid.Sought = ellipsoids.sought
+
+abbrev pub asked_ellipsoid : EllipsoidJob → ellipsoids.AskedEllipsoid
+asked_ellipsoid job = record {
+  file = job.file.now;
+  source = asked_source job.source;
+  design = job.design;
+}
+
 abbrev pub requested_of : Request → requests.Request
 requested_of (OnFile job) = on_file (asked_of job)
 requested_of (OnCascade job) = on_cascade (asked_cascade job)
 requested_of (OnStates job) = on_states (asked_states job)
+requested_of (OnEllipsoid job) = on_ellipsoid (asked_ellipsoid job)
 requested_of (Check check) = checks check.file.now check.certificate.now
 requested_of (Generate g) = generates g.seed g.count

@@ -2,6 +2,7 @@ pub mod Asking
 pub mod Cascades
 pub mod ClapCommand
 pub mod ClapRows
+pub mod Ellipsoids
 pub mod Inputs
 pub mod Jobs
 pub mod Limits

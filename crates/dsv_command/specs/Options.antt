@@ -18,6 +18,8 @@ command_options =
     (codes "state-space", true) ∷
     (codes "form", true) ∷
     (codes "lyapunov", false) ∷
+    (codes "ellipsoid", true) ∷
+    (codes "offer-ellipsoid", false) ∷
     (codes "realization", true) ∷
     (codes "rounding", true) ∷
     (codes "overflow-mode", true) ∷

@@ -1,8 +1,10 @@
 -- What the arguments ask for.
-use Rattle.std.specs.Prelude.{ℕ, ◌||◌, nat_lt, ◌^◌, Bool, List, Option, Some, None}
+use Rattle.std.specs.Prelude.{ℕ, ◌||◌, nat_lt, ◌^◌, Bool, true, false, List, Option, Some, None}
 use Rattle.std.specs.Prelude.{is_some, option_map, codes, if◌then◌else◌}
 use Rattle.dsv_text.specs.Digits.{short_number}
 use Rattle.dsv_command.specs.Cascades.{AskedCascade, cascade_of_parts}
+use Rattle.dsv_command.specs.Ellipsoids.{AskedEllipsoid, has_ellipsoid_option}
+use Rattle.dsv_command.specs.Ellipsoids.{ellipsoid_of_parts}
 use Rattle.dsv_command.specs.Limits.{most_number_digits, most_controllers}
 use Rattle.dsv_command.specs.Limits.{default_controllers}
 use Rattle.dsv_command.specs.Jobs.{Asked, ◌>>=◌, choice_or, is_given, has_verdict_option}
@@ -21,6 +23,8 @@ pub data Request : Type 0 where
   on_cascade : AskedCascade → Request
   -- a job for the state-space controller in a file
   on_states : AskedStates → Request
+  -- an ellipsoid for the controller in a file
+  on_ellipsoid : AskedEllipsoid → Request
   -- the certificate in a file is checked against the controller in the file that is named first
   checks : List ℕ → List ℕ → Request
   -- controllers of a seed are generated, so many, and what is found of them is counted
@@ -41,7 +45,8 @@ controllers_of parts = choice_or (number_up_to most_controllers) default_control
 abbrev pub has_task_option : List PartView → Bool
 has_task_option parts = is_given parts (codes "property") || (is_given parts (codes "simulate")
     || (is_given parts (codes "sections") || (has_state_option parts
-    || (has_verdict_option parts || has_design_option parts))))
+    || (has_ellipsoid_option parts
+    || (has_verdict_option parts || has_design_option parts)))))
 
 -- something is given that belongs to a controller in a file
 abbrev pub has_job_option : List PartView → Bool
@@ -64,12 +69,17 @@ abbrev pub controllers_request : List PartView → Option (List ℕ) → Option 
 controllers_request parts None = option_map on_file (job_of_parts parts)
 controllers_request parts (Some names) = option_map on_cascade (cascade_of_parts parts names)
 
+-- the job of an ellipsoid where one is asked for, and else that for a controller or a cascade
+abbrev pub files_request : List PartView → Bool → Option Request
+files_request parts true = option_map on_ellipsoid (ellipsoid_of_parts parts)
+files_request parts false = controllers_request parts (value_of (codes "sections") parts)
+
 -- the job for a state-space controller where the file of one is named, and else for controllers in
 -- files, with which no form goes
 abbrev pub job_request : List PartView → Option (List ℕ) → Option Request
 job_request parts (Some file) = option_map on_states (states_of_parts parts file)
 job_request parts None = if has_form_option parts then None
-    else controllers_request parts (value_of (codes "sections") parts)
+    else files_request parts (has_ellipsoid_option parts)
 
 -- a seed makes it a generation, and else there is no number of controllers: a certificate's name
 -- makes it a check, and else it is a job
@@ -94,6 +104,7 @@ job_in None = None
 job_in (Some (on_file job)) = Some job
 job_in (Some (on_cascade job)) = None
 job_in (Some (on_states job)) = None
+job_in (Some (on_ellipsoid job)) = None
 job_in (Some (checks file name)) = None
 job_in (Some (generates seed count)) = None
 

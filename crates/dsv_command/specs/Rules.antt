@@ -8,6 +8,7 @@ use Rattle.dsv_text.specs.Bytes.{has_byte}
 use Rattle.dsv_text.specs.Digits.{short_number}
 use Rattle.dsv_fraction.specs.Arithmetic.{with_sign}
 use Rattle.dsv_names.specs.declared.design.Design.{Design}
+use Rattle.dsv_names.specs.declared.realisation.Realisation.{Realisation}
 use Rattle.dsv_names.specs.declared.realisation.Realisation.TheVariants.{Dfi}
 use Rattle.dsv_names.specs.declared.rounding.Rounding.TheVariants.{Floor}
 use Rattle.dsv_names.specs.declared.overflow_mode.OverflowMode.TheVariants.{Wrap}
@@ -22,6 +23,7 @@ use Rattle.dsv_names.specs.Properties.{property_name}
 use Rattle.dsv_names.specs.Realisations.{realisation_name}
 use Rattle.dsv_names.specs.Roundings.{rounding_name}
 use Rattle.dsv_command.specs.Cascades.{AskedCascade, task_alone, most_later}
+use Rattle.dsv_command.specs.Ellipsoids.{EllipsoidSource, offered, sought, AskedEllipsoid}
 use Rattle.dsv_command.specs.Inputs.{most_inputs, most_digits, is_comma}
 use Rattle.dsv_command.specs.Jobs.{Task, decides, checks_time, writes, searches, simulates}
 use Rattle.dsv_command.specs.Jobs.{seeks_set, measures_gain, Asked, is_given}
@@ -31,8 +33,8 @@ use Rattle.dsv_command.specs.Limits.{most_controllers, default_controllers}
 use Rattle.dsv_command.specs.Options.{command_options}
 use Rattle.dsv_command.specs.Parts.{PartView, file, flag, choice, key_of}
 use Rattle.dsv_command.specs.Parts.{has_key, file_of, value_of, has_empty}
-use Rattle.dsv_command.specs.Requests.{Request, on_file, on_cascade, on_states, checks}
-use Rattle.dsv_command.specs.Requests.{generates}
+use Rattle.dsv_command.specs.Requests.{Request, on_file, on_cascade, on_states, on_ellipsoid}
+use Rattle.dsv_command.specs.Requests.{checks, generates}
 use Rattle.dsv_command.specs.Shapes.{dash, is_equals}
 use Rattle.dsv_command.specs.States.{StateTask, checks_form, seeks_form, searches_states}
 use Rattle.dsv_command.specs.States.{measures_states, simulates_states, AskedStates}
@@ -243,6 +245,11 @@ pub record HasNoFormOption (parts : List PartView) : Type 0 where
   pub form : is_given parts (codes "form") ≡ false
   pub lyapunov : is_given parts (codes "lyapunov") ≡ false
 
+-- no ellipsoid is asked for
+pub record HasNoEllipsoidOption (parts : List PartView) : Type 0 where
+  pub named : is_given parts (codes "ellipsoid") ≡ false
+  pub sought : is_given parts (codes "offer-ellipsoid") ≡ false
+
 -- none of the options is given that go with state-space controllers alone
 pub record HasNoStateOption (parts : List PartView) : Type 0 where
   pub file : is_given parts (codes "state-space") ≡ false
@@ -255,6 +262,7 @@ pub record HasNoTaskOption (parts : List PartView) : Type 0 where
   pub inputs : is_given parts (codes "simulate") ≡ false
   pub sections : is_given parts (codes "sections") ≡ false
   pub states : HasNoStateOption parts
+  pub ellipsoid : HasNoEllipsoidOption parts
   pub verdict : HasNoVerdictOption parts
   pub design : HasNoDesignOption parts
 
@@ -291,6 +299,7 @@ pub record IsJobAlone (parts : List PartView) (asked : Asked) : Type 0 where
   pub no_check : value_of (codes "check") parts ≡ None
   pub no_states : value_of (codes "state-space") parts ≡ None
   pub no_form : HasNoFormOption parts
+  pub no_ellipsoid : HasNoEllipsoidOption parts
   pub no_sections : value_of (codes "sections") parts ≡ None
 
 -- the text of names, with a comma between each and the next
@@ -332,6 +341,43 @@ pub record IsCascadeOf (parts : List PartView) (asked : AskedCascade) : Type 0 w
   pub no_check : value_of (codes "check") parts ≡ None
   pub no_states : value_of (codes "state-space") parts ≡ None
   pub no_form : HasNoFormOption parts
+  pub no_ellipsoid : HasNoEllipsoidOption parts
+
+-- Where the ellipsoid comes from: a file that is named, with overflow over runs of any length; or
+-- it is to be found, with overflow of direct form I and neither samples nor runs of any length.
+pub data IsEllipsoidSource : List PartView → Realisation → Task → EllipsoidSource → Type 0 where
+  from_file : (parts : List PartView) (realisation : Realisation) (conflicts : ℕ) (name : List ℕ)
+      → value_of (codes "ellipsoid") parts ≡ Some name
+      → is_given parts (codes "offer-ellipsoid") ≡ false
+      → IsEllipsoidSource parts realisation (seeks_set conflicts) (offered name)
+  to_find : (parts : List PartView) (samples conflicts : ℕ)
+      → value_of (codes "ellipsoid") parts ≡ None
+      → is_given parts (codes "offer-ellipsoid") ≡ true
+      → is_given parts (codes "x-size") ≡ false
+      → IsEllipsoidSource parts Dfi (searches Overflow samples conflicts) sought
+
+-- the same job without an ellipsoid
+abbrev pub job_without : Task → AskedEllipsoid → Asked
+job_without task asked = record {
+  file = asked.file;
+  task = task;
+  design = asked.design;
+  certified = false;
+}
+
+-- The job of an ellipsoid: it would be one for the controller in FILE, with no number of conflicts
+-- and no certificate.
+pub record IsEllipsoidOf (parts : List PartView) (asked : AskedEllipsoid) : Type 0 where
+  pub task : Task
+  pub job : IsJobOf parts (job_without task asked)
+  pub source : IsEllipsoidSource parts asked.design.realisation task asked.source
+  pub no_conflicts : is_given parts (codes "conflicts") ≡ false
+  pub no_sections : is_given parts (codes "sections") ≡ false
+  pub no_seed : value_of (codes "generate") parts ≡ None
+  pub no_count : value_of (codes "count") parts ≡ None
+  pub no_check : value_of (codes "check") parts ≡ None
+  pub no_states : value_of (codes "state-space") parts ≡ None
+  pub no_form : HasNoFormOption parts
 
 -- neither is said where a form comes from, nor that a certificate is written
 pub record HasNoFormOrCertificate (parts : List PartView) : Type 0 where
@@ -355,14 +401,15 @@ pub data IsStateTask : List PartView → StateTask → Type 0 where
   simulation : (parts : List PartView) (inputs : List ℤ) → IsTask parts (simulates inputs)
       → HasNoFormOrCertificate parts → IsStateTask parts (simulates_states inputs)
 
--- The job for a state-space controller: its file is named in place of FILE. It has no realisation
--- and no sections; no text is empty, and no certificate is to be checked.
+-- The job for a state-space controller: its file is named in place of FILE. It has no realisation,
+-- no sections and no ellipsoid; no text is empty, and no certificate is to be checked.
 pub record IsStateJobOf (parts : List PartView) (asked : AskedStates) : Type 0 where
   pub given : value_of (codes "state-space") parts ≡ Some asked.file
   pub filled : has_empty parts ≡ false
   pub no_file : file_of parts ≡ None
   pub no_realisation : is_given parts (codes "realization") ≡ false
   pub no_sections : is_given parts (codes "sections") ≡ false
+  pub no_ellipsoid : HasNoEllipsoidOption parts
   pub task : IsStateTask parts asked.task
   pub rounding : IsChosen rounding_name Floor (value_of (codes "rounding") parts) asked.rounding
   pub overflow : IsChosen overflow_mode_name Wrap (value_of (codes "overflow-mode") parts)
@@ -376,6 +423,7 @@ abbrev pub IsRequestOf : List PartView → Request → Type 0
 IsRequestOf parts (on_file asked) = IsJobAlone parts asked
 IsRequestOf parts (on_cascade asked) = IsCascadeOf parts asked
 IsRequestOf parts (on_states asked) = IsStateJobOf parts asked
+IsRequestOf parts (on_ellipsoid asked) = IsEllipsoidOf parts asked
 IsRequestOf parts (checks controller certificate) = IsCheckOf parts controller certificate
 IsRequestOf parts (generates seed count) = IsGenerationOf parts seed count
 

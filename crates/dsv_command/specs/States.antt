@@ -5,6 +5,7 @@ use Rattle.dsv_names.specs.declared.overflow_mode.OverflowMode.{OverflowMode}
 use Rattle.dsv_names.specs.declared.property.RunProperty.{RunProperty}
 use Rattle.dsv_names.specs.declared.property.RootProperty.TheVariants.{Stability}
 use Rattle.dsv_names.specs.declared.rounding.Rounding.{Rounding}
+use Rattle.dsv_command.specs.Ellipsoids.{has_ellipsoid_option}
 use Rattle.dsv_command.specs.Jobs.{Task, decides, searches, measures_gain, simulates, task_of}
 use Rattle.dsv_command.specs.Jobs.{◌>>=◌, is_given, is_certified, rounding_of, overflow_of}
 use Rattle.dsv_command.specs.Parts.{PartView, file_of, value_of, has_empty}
@@ -60,10 +61,12 @@ state_task parts (decides Stability false) = form_task parts (value_of (codes "f
 state_task parts task = if has_form_option parts || is_certified parts then None
     else runs_task task
 
--- something is given that state-space controllers don't have: FILE, a realisation, sections
+-- something is given that state-space controllers don't have: FILE, a realisation, sections, an
+-- ellipsoid
 abbrev pub has_other_option : List PartView → Bool
 has_other_option parts = is_some (file_of parts)
-    || (is_given parts (codes "realization") || is_given parts (codes "sections"))
+    || (is_given parts (codes "realization")
+    || (is_given parts (codes "sections") || has_ellipsoid_option parts))
 
 -- the job for the state-space controller in the file of this name, where no text is empty
 abbrev pub states_of_parts : List PartView → List ℕ → Option AskedStates

@@ -3,6 +3,7 @@ ghost use Rattle.std.specs.Prelude.{◌≡◌, option_map};
 ghost use Rattle.dsv_command.specs.Requests.{has_task_option, check_of, checks};
 
 use crate::arguments::Arguments;
+use crate::ellipsoid::has_ellipsoid_option;
 use crate::states::has_state_option;
 use crate::task::{has_design_option, has_verdict_option};
 
@@ -24,6 +25,7 @@ pub(crate) fn has_task_option(arguments: &Arguments) -> bool
         || arguments.is_given("simulate")
         || arguments.is_given("sections")
         || has_state_option(arguments)
+        || has_ellipsoid_option(arguments)
         || has_verdict_option(arguments)
         || has_design_option(arguments)
 }

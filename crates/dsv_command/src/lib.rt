@@ -4,6 +4,7 @@
 mod arguments;
 mod cascade;
 mod check;
+mod ellipsoid;
 mod generation;
 mod inputs;
 mod job;
@@ -17,6 +18,7 @@ mod task;
 
 pub use cascade::{CascadeJob, CascadeTask, MOST_LATER, SectionNames};
 pub use check::Check;
+pub use ellipsoid::{EllipsoidJob, EllipsoidSource};
 pub use generation::Generation;
 pub use inputs::{Inputs, MOST_INPUTS};
 pub use job::Job;

@@ -14,7 +14,7 @@ pub struct CommandOption {
 
 /// The options that the command has. One more stands here and in `specs/Options.antt`; what it asks
 /// for, in the job or the request.
-const OPTIONS: [CommandOption; 19] = [
+const OPTIONS: [CommandOption; 21] = [
     CommandOption {
         name: "property",
         takes_value: true,
@@ -69,6 +69,14 @@ const OPTIONS: [CommandOption; 19] = [
     },
     CommandOption {
         name: "lyapunov",
+        takes_value: false,
+    },
+    CommandOption {
+        name: "ellipsoid",
+        takes_value: true,
+    },
+    CommandOption {
+        name: "offer-ellipsoid",
         takes_value: false,
     },
     CommandOption {

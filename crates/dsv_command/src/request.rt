@@ -2,12 +2,14 @@
 ghost use Rattle.std.specs.Prelude.{◌≡◌, map, string_bytes, codes, option_map, IfOk};
 ghost use Rattle.dsv_command.specs.Asking.{requested_of};
 ghost use Rattle.dsv_command.specs.Parts.{value_of};
-ghost use Rattle.dsv_command.specs.Requests.{controllers_request, job_request, request_of};
-ghost use Rattle.dsv_command.specs.Requests.{request_of_parts};
+ghost use Rattle.dsv_command.specs.Ellipsoids.{has_ellipsoid_option};
+ghost use Rattle.dsv_command.specs.Requests.{controllers_request, files_request, job_request};
+ghost use Rattle.dsv_command.specs.Requests.{request_of, request_of_parts};
 
 use crate::arguments::{Arguments, read_arguments};
 use crate::cascade::{CascadeJob, find_cascade};
 use crate::check::{Check, find_check};
+use crate::ellipsoid::{EllipsoidJob, find_ellipsoid, has_ellipsoid_option};
 use crate::generation::{Generation, find_generation};
 use crate::job::{Job, find_job};
 use crate::states::{StateJob, find_states, has_form_option};
@@ -23,6 +25,8 @@ pub enum Request<'a> {
     OnCascade(CascadeJob<'a>),
     /// A job for the state-space controller in a file.
     OnStates(StateJob<'a>),
+    /// An ellipsoid for the controller in a file.
+    OnEllipsoid(EllipsoidJob<'a>),
     /// A certificate is checked against the controller in a file.
     Check(Check<'a>),
     /// Controllers are generated, and what is found of them is counted.
@@ -40,6 +44,18 @@ fn find_controllers_request<'a>(arguments: &Arguments<'a>) -> Option<Request<'a>
     }
 }
 
+/// The job of an ellipsoid where one is asked for, and else that for a controller or a cascade.
+fn find_files_request<'a>(arguments: &Arguments<'a>) -> Option<Request<'a>>
+    ensures { option_map requested_of result
+        ≡ files_request arguments.now (has_ellipsoid_option arguments.now) }
+{
+    if has_ellipsoid_option(arguments) {
+        Some(Request::OnEllipsoid(find_ellipsoid(arguments)?))
+    } else {
+        find_controllers_request(arguments)
+    }
+}
+
 /// The job for a state-space controller where the file of one is named, and else for controllers in
 /// files, with which no form goes.
 fn find_job_request<'a>(arguments: &Arguments<'a>) -> Option<Request<'a>>
@@ -49,7 +65,7 @@ fn find_job_request<'a>(arguments: &Arguments<'a>) -> Option<Request<'a>>
     match arguments.value("state-space") {
         Some(file) => Some(Request::OnStates(find_states(arguments, file)?)),
         None if has_form_option(arguments) => None,
-        None => find_controllers_request(arguments),
+        None => find_files_request(arguments),
     }
 }
 

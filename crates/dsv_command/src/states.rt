@@ -7,6 +7,7 @@ ghost use Rattle.dsv_command.specs.States.{runs_task, state_task, has_other_opti
 ghost use Rattle.dsv_command.specs.States.{states_of_parts};
 
 use crate::arguments::Arguments;
+use crate::ellipsoid::has_ellipsoid_option;
 use crate::inputs::Inputs;
 use crate::job::{find_overflow_mode, find_rounding};
 use crate::question::{Budget, RootQuestion, RunQuestion};
@@ -101,7 +102,7 @@ fn state_task<'a>(arguments: &Arguments<'a>, task: Task) -> Option<StateTask<'a>
 }
 
 /// Whether something is given that state-space controllers don't have: FILE, a realisation,
-/// sections. No text among the arguments is empty.
+/// sections, an ellipsoid. No text among the arguments is empty.
 fn has_other_option(arguments: &Arguments) -> bool
     ensures given { result ≡ has_other_option arguments.now }
     ensures filled { has_empty arguments.now ≡ false }
@@ -109,6 +110,7 @@ fn has_other_option(arguments: &Arguments) -> bool
     arguments.file().is_some()
         || arguments.is_given("realization")
         || arguments.is_given("sections")
+        || has_ellipsoid_option(arguments)
 }
 
 /// The job for the state-space controller in the file of this name.

@@ -8,6 +8,8 @@ mod arguments;
 #[cfg(test)]
 mod controllers;
 #[cfg(test)]
+mod ellipsoid_jobs;
+#[cfg(test)]
 mod faults;
 #[cfg(test)]
 mod files;
