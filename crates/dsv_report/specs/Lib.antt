@@ -1,6 +1,7 @@
 pub mod AnyJobs
 pub mod CascadeTexts
 pub mod Certificates
+pub mod EllipsoidTexts
 pub mod Forms
 pub mod Fragments
 pub mod Gains

@@ -12,13 +12,14 @@ use Rattle.dsv_certfile.specs.declared.job.CertWords.{CertWords}
 use Rattle.dsv_certfile.specs.declared.job.Size.{Size}
 use Rattle.dsv_certfile.specs.declared.job.Size.TheVariants as size
 use Rattle.dsv_command.specs.Jobs.{Task, decides, searches, seeks_set, measures_gain, Asked}
-use Rattle.dsv_command.specs.Requests.{Request, on_file, on_cascade, on_states, checks}
-use Rattle.dsv_command.specs.Requests.{generates}
+use Rattle.dsv_command.specs.Requests.{Request, on_file, on_cascade, on_states, on_ellipsoid}
+use Rattle.dsv_command.specs.Requests.{checks, generates}
 use Rattle.dsv_command.specs.States.{StateTask, seeks_form, AskedStates}
 use Rattle.dsv_names.specs.declared.design.Design.{Design}
 use Rattle.dsv_names.specs.declared.property.RootProperty.TheVariants.{Stability}
 use Rattle.dsv_names.specs.declared.realisation.Realisation.TheVariants.{Dfi}
 use Rattle.dsv_report.specs.AnyJobs.{AskedJob, of_controller, of_cascade, of_states}
+use Rattle.dsv_report.specs.AnyJobs.{of_ellipsoid}
 use Rattle.dsv_report.specs.Report.{answer_text, stop_text}
 use Rattle.dsv_report.specs.Stops.{Outcome}
 use Rattle.dsv_report.specs.declared.answers.Answer.{Answer}
@@ -94,11 +95,13 @@ abbrev pub state_certificate_of : AskedStates → CertWords → Answer → Optio
 state_certificate_of job words found = if wants_certificate job.task
     then state_falls_of (state_job_with job words) found else None
 
--- the certificate of an answer to a job of any kind; one for a cascade wants none
+-- the certificate of an answer to a job of any kind; one for a cascade or of an ellipsoid wants
+-- none
 abbrev pub any_certificate_of : AskedJob → CertWords → Answer → Option Certificate
 any_certificate_of (of_controller job) words found = certificate_of job words found
 any_certificate_of (of_cascade job) words found = None
 any_certificate_of (of_states job states) words found = state_certificate_of job words found
+any_certificate_of (of_ellipsoid job) words found = None
 
 -- what is written for an answer to a job, or to what is no job
 abbrev pub answer_output : Option AskedJob → CertWords → Answer → List ℕ
@@ -127,5 +130,6 @@ asked_by states None = None
 asked_by states (Some (on_file job)) = Some (of_controller job)
 asked_by states (Some (on_cascade job)) = Some (of_cascade job)
 asked_by states (Some (on_states job)) = Some (of_states job states)
+asked_by states (Some (on_ellipsoid job)) = Some (of_ellipsoid job)
 asked_by states (Some (checks file name)) = None
 asked_by states (Some (generates seed count)) = None

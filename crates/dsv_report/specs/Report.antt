@@ -27,8 +27,13 @@ use Rattle.dsv_command.specs.Jobs.{measures_gain, simulates}
 use Rattle.dsv_command.specs.Cascades.{task_alone}
 use Rattle.dsv_report.specs.Certificates.{checked_text, certificate_text}
 use Rattle.dsv_report.specs.AnyJobs.{AskedJob, of_controller, of_cascade, of_states}
+use Rattle.dsv_report.specs.AnyJobs.{of_ellipsoid}
 use Rattle.dsv_report.specs.CascadeTexts.{sections_text, section_line, forms_text}
 use Rattle.dsv_report.specs.CascadeTexts.{cascade_refusal_text}
+use Rattle.dsv_certfile.specs.Ellipsoids.{ellipsoid_text}
+use Rattle.dsv_report.specs.EllipsoidTexts.{ellipsoid_job_text, in_ellipsoid_text}
+use Rattle.dsv_report.specs.EllipsoidTexts.{no_offer_text, offer_fault_text}
+use Rattle.dsv_report.specs.EllipsoidTexts.{ellipsoid_refusal_text}
 use Rattle.dsv_report.specs.Forms.{numbers_line, fall_text, form_text, start_text}
 use Rattle.dsv_report.specs.Fragments.{concatenation}
 use Rattle.dsv_report.specs.Gains.{gain_text, out_of_range_text, too_deep_text}
@@ -87,6 +92,7 @@ job_text (of_cascade job) = task_text (task_alone job.task)
     ++ (realisation_text job.design.realisation
     ++ (sections_text job ++ extent_text (task_alone job.task)))
 job_text (of_states job states) = state_job_text job states
+job_text (of_ellipsoid job) = ellipsoid_job_text job
 
 -- the verdict and what the job asked for; without a job there is none
 abbrev pub heading : List ℕ → Option AskedJob → List ℕ
@@ -240,6 +246,10 @@ answer_text job (answer.Always candidate logs) = heading successful job ++ candi
 answer_text job (answer.NoInvariant kept) =
     heading inconclusive job ++ no_invariant_text (length kept) (length (filter is_spent kept))
 answer_text job (answer.InRanges gain) = heading successful job ++ gain_text gain
+answer_text job (answer.InEllipsoid offer) =
+    heading successful job ++ in_ellipsoid_text offer
+answer_text job (answer.FoundEllipsoid offer) = ellipsoid_text offer
+answer_text job answer.NoEllipsoid = heading inconclusive job ++ no_offer_text
 answer_text job (answer.OutOfRange sample value) =
     heading inconclusive job ++ out_of_range_text sample value
 answer_text job (answer.TooDeep depth) = heading inconclusive job ++ too_deep_text depth
@@ -269,6 +279,8 @@ stop_text (stop.CascadeRefused r) = cascade_refusal_text r
 stop_text (stop.StateRefused r) = state_text r
 stop_text (stop.StateQuantRefused r) = state_quant_text r
 stop_text (stop.InputRange index value) = input_text index value
+stop_text (stop.EllipsoidText r) = offer_fault_text r.line r.fault
+stop_text (stop.EllipsoidRefused r) = ellipsoid_refusal_text r
 stop_text (stop.ReadFault file.Controller) = codes "READ FAULT CONTROLLER\n"
 stop_text (stop.ReadFault file.Certificate) = codes "READ FAULT CERTIFICATE\n"
 stop_text (stop.ReadFault (file.Section section)) =
@@ -291,6 +303,9 @@ answer_status (answer.Never log) = 0
 answer_status (answer.Always candidate logs) = 0
 answer_status (answer.NoInvariant kept) = 20
 answer_status (answer.InRanges gain) = 0
+answer_status (answer.InEllipsoid offer) = 0
+answer_status (answer.FoundEllipsoid offer) = 0
+answer_status answer.NoEllipsoid = 20
 answer_status (answer.OutOfRange sample value) = 20
 answer_status (answer.TooDeep depth) = 20
 answer_status (answer.Overflow trace) = 10
@@ -315,6 +330,8 @@ stop_status (stop.CascadeRefused r) = 2
 stop_status (stop.StateRefused r) = 2
 stop_status (stop.StateQuantRefused r) = 2
 stop_status (stop.InputRange index value) = 2
+stop_status (stop.EllipsoidText r) = 7
+stop_status (stop.EllipsoidRefused r) = 7
 stop_status (stop.ReadFault file) = 3
 stop_status stop.NoMemory = 5
 

@@ -1,6 +1,6 @@
 // What the command finds.
 use dsv_cascade::CascadeForms;
-use dsv_certfile::CertifiedJob;
+use dsv_certfile::{CertifiedJob, Ellipsoid};
 use dsv_cnf::Formula;
 use dsv_forms::{Falls, Form, KeptAway, Poly};
 use dsv_gain::Gain;
@@ -78,6 +78,13 @@ pub enum Answer {
     /// No list of inputs of any length overflows: each exact value of each sample lies in its range
     /// of the gain.
     InRanges(Gain),
+    /// No list of inputs of any length overflows: the last outputs stay in this ellipsoid, which
+    /// was offered.
+    InEllipsoid(Ellipsoid),
+    /// An ellipsoid that was found: the last outputs stay in it.
+    FoundEllipsoid(Ellipsoid),
+    /// No ellipsoid was found: the search for one ended.
+    NoEllipsoid,
     /// In this sample the range of the exact value of this number isn't known to be one of words,
     /// and no list of inputs that was tried overflows.
     OutOfRange {

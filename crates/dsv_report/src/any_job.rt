@@ -1,7 +1,7 @@
 // The jobs that a report is headed by.
-use dsv_command::{CascadeJob, Job, StateJob};
+use dsv_command::{CascadeJob, EllipsoidJob, Job, StateJob};
 
-/// A job for a controller, for a cascade, or for a state-space controller.
+/// A job for a controller, for a cascade, for a state-space controller, or of an ellipsoid.
 #[derive(Clone, Copy)]
 pub enum AnyJob<'a> {
     OfController(&'a Job<'a>),
@@ -11,4 +11,5 @@ pub enum AnyJob<'a> {
         /// How many states the controller's file has, and 0 where none was accepted.
         states: u32,
     },
+    OfEllipsoid(&'a EllipsoidJob<'a>),
 }

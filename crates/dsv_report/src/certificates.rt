@@ -34,7 +34,7 @@ pub(crate) fn put_checked<K: Sink>(sink: &mut K, job: &CertifiedJob) -> Result<(
 
 /// The code and the name of a fault.
 #[tactic(auto, unfolding(crate::specs::Certificates::fault_name))]
-fn fault_name(fault: CertificateFault) -> &'static [u8]
+pub(crate) fn fault_name(fault: CertificateFault) -> &'static [u8]
     ensures { result.now ≡ fault_name fault }
 {
     match fault {

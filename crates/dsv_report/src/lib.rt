@@ -5,6 +5,7 @@ mod answers;
 mod any_job;
 mod cascades;
 mod certificates;
+mod ellipsoids;
 mod forms;
 mod fragments;
 mod gains;

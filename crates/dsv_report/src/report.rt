@@ -13,12 +13,14 @@ ghost use Rattle.dsv_report.specs.CascadeTexts.{sections_text, forms_text};
 ghost use Rattle.dsv_report.specs.Forms as forms;
 ghost use Rattle.dsv_report.specs.Printing.{HasPlaces, FormsHavePlaces};
 ghost use Rattle.dsv_report.specs.Report as report;
+ghost use Rattle.dsv_report.specs.EllipsoidTexts.{in_ellipsoid_text, no_offer_text};
 ghost use Rattle.dsv_report.specs.StateTexts.{no_state_form_text};
 
 use crate::answers::Answer;
 use crate::any_job::AnyJob;
 use crate::cascades::put_forms;
 use crate::certificates::put_checked;
+use crate::ellipsoids::{put_ellipsoid_job, put_in_ellipsoid, put_no_offer_cause};
 use crate::forms::{put_fall, put_form, put_kept_away, put_numbers};
 use crate::fragments::{Fragment, put_fragments};
 use crate::gains::{put_gain, put_out_of_range};
@@ -29,6 +31,7 @@ use crate::stops::stop_status;
 use crate::tallies::put_tally;
 use dsv_base::{Failed, Sink, put_all, put_line};
 use dsv_cascade::CascadeForms;
+use dsv_certfile::{Ellipsoid, write_ellipsoid};
 use dsv_cnf::write_dimacs;
 use dsv_command::{CascadeJob, CascadeTask, Job, Task};
 use dsv_forms::{Form, Poly};
@@ -152,6 +155,7 @@ fn put_job<K: Sink>(sink: &mut K, job: AnyJob) -> Result<(), Failed>
         AnyJob::OfController(job) => put_controller_job(sink, job),
         AnyJob::OfCascade(job) => put_cascade_job(sink, job),
         AnyJob::OfStates { job, states } => put_state_job(sink, job, u64::from(states)),
+        AnyJob::OfEllipsoid(job) => put_ellipsoid_job(sink, job),
     }
 }
 
@@ -231,7 +235,7 @@ fn put_no_form<K: Sink>(
     sink: &mut K,
     job: Option<AnyJob>,
     poly: &Poly,
-    offers: u64,
+    offers: usize,
     jury: Jury,
 ) -> Result<(), Failed>
     ensures { Writes (K.seen sink.old) (K.seen sink.new) result
@@ -239,7 +243,7 @@ fn put_no_form<K: Sink>(
         ++ report.no_form_text poly.now offers jury) }
 {
     put_heading(sink, INCONCLUSIVE, job)?;
-    put_cause(sink, poly, offers, jury)
+    put_cause(sink, poly, offers as u64, jury)
 }
 
 /// Writes that a number is too wide for a polynomial.
@@ -507,14 +511,14 @@ fn put_left<K: Sink>(
     sink: &mut K,
     job: Option<AnyJob>,
     sample: u64,
-    value: u64,
+    value: usize,
 ) -> Result<(), Failed>
     ensures { Writes (K.seen sink.old) (K.seen sink.new) result
         (report.heading report.inconclusive (asked_in job.entry)
         ++ out_of_range_text sample value) }
 {
     put_heading(sink, INCONCLUSIVE, job)?;
-    put_out_of_range(sink, sample, value)
+    put_out_of_range(sink, sample, value as u64)
 }
 
 /// Writes that no depth below the limit is enough.
@@ -653,6 +657,31 @@ fn put_no_state_form<K: Sink>(sink: &mut K, job: Option<AnyJob>) -> Result<(), F
     put_no_form_cause(sink)
 }
 
+/// Writes the text of an ellipsoid that the last outputs stay in.
+#[tactic(auto, unfolding(crate::specs::Report::successful))]
+fn put_kept_in<K: Sink>(
+    sink: &mut K,
+    job: Option<AnyJob>,
+    offer: &Ellipsoid,
+) -> Result<(), Failed>
+    requires { offer.now.form.d ≤ 8 }
+    ensures { Writes (K.seen sink.old) (K.seen sink.new) result
+        (report.heading report.successful (asked_in job.entry) ++ in_ellipsoid_text offer.now) }
+{
+    put_heading(sink, SUCCESSFUL, job)?;
+    put_in_ellipsoid(sink, offer)
+}
+
+/// Writes the text of a controller for which no ellipsoid was found.
+#[tactic(auto, unfolding(crate::specs::Report::inconclusive))]
+fn put_no_ellipsoid<K: Sink>(sink: &mut K, job: Option<AnyJob>) -> Result<(), Failed>
+    ensures { Writes (K.seen sink.old) (K.seen sink.new) result
+        (report.heading report.inconclusive (asked_in job.entry) ++ no_offer_text) }
+{
+    put_heading(sink, INCONCLUSIVE, job)?;
+    put_no_offer_cause(sink)
+}
+
 /// The status of what closed forms say of a cascade's sections.
 fn forms_status(found: &CascadeForms) -> u8
     ensures { result ≡ report.forms_status found.now }
@@ -676,6 +705,8 @@ fn answer_status(answer: &Answer) -> u8
         | Answer::Never { .. }
         | Answer::Always { .. }
         | Answer::InRanges(_)
+        | Answer::InEllipsoid(_)
+        | Answer::FoundEllipsoid(_)
         | Answer::FormulaText(_)
         | Answer::Simulated(_)
         | Answer::Generated(_)
@@ -687,6 +718,7 @@ fn answer_status(answer: &Answer) -> u8
         | Answer::Cycles(_) => 10,
         Answer::NoForm { .. }
         | Answer::NoStateForm
+        | Answer::NoEllipsoid
         | Answer::Wide { .. }
         | Answer::Spent { .. }
         | Answer::NoInvariant { .. }
@@ -730,9 +762,7 @@ pub(crate) fn put_answer<K: Sink>(
         Answer::StateFalls { offer, fall, .. } => put_state_falls(sink, job, &offer.form, fall),
         Answer::NoStateForm => put_no_state_form(sink, job),
         Answer::NoZeros => put_no_zeros(sink, job),
-        Answer::NoForm { poly, kept, jury } => {
-            put_no_form(sink, job, poly, kept.len() as u64, *jury)
-        }
+        Answer::NoForm { poly, kept, jury } => put_no_form(sink, job, poly, kept.len(), *jury),
         Answer::Wide { index } => put_wide(sink, job, u64::from(*index)),
         Answer::OnTime(found) => put_on_time(sink, job, found),
         Answer::Late(found) => put_late(sink, job, found),
@@ -743,9 +773,10 @@ pub(crate) fn put_answer<K: Sink>(
             put_no_invariant(sink, job, sets.len() as u64, spent_in(sets))
         }
         Answer::InRanges(gain) => put_in_ranges(sink, job, gain),
-        Answer::OutOfRange { sample, value } => {
-            put_left(sink, job, u64::from(*sample), *value as u64)
-        }
+        Answer::InEllipsoid(offer) => put_kept_in(sink, job, offer),
+        Answer::FoundEllipsoid(offer) => write_ellipsoid(sink, offer),
+        Answer::NoEllipsoid => put_no_ellipsoid(sink, job),
+        Answer::OutOfRange { sample, value } => put_left(sink, job, u64::from(*sample), *value),
         Answer::TooDeep { depth } => put_too_deep(sink, job, u64::from(*depth)),
         Answer::Overflow(trace) => put_overflow(sink, job, trace),
         Answer::Cycles(cycle) => put_limit_cycle(sink, job, cycle),

@@ -1,7 +1,8 @@
 // Why the command has no answer.
 use dsv_base::NoMemory;
 use dsv_cascade::CascadeRefusal;
-use dsv_certfile::{CertRefusal, CheckFault, TextFault};
+use dsv_certfile::{CertRefusal, CheckFault, TextFault, TextRefusal};
+use dsv_ellipsoid::EllipsoidRefusal;
 use dsv_quantiser::QuantRefusal;
 use dsv_reader::FileRefusal;
 use dsv_state_file::StateRefusal;
@@ -59,6 +60,10 @@ pub enum Stop {
     JobSize { size: u64 },
     /// The first line of the certificate that is wrong, counted from 1, and 0 for the whole file.
     CertificateRefused { line: u64, fault: CertificateFault },
+    /// The first fault of the text of an ellipsoid.
+    EllipsoidText(TextRefusal),
+    /// The first test that refuses an ellipsoid.
+    EllipsoidRefused(EllipsoidRefusal),
     /// The file couldn't be read.
     ReadFault(WhichFile),
     NoMemory,
@@ -131,6 +136,28 @@ impl From<StateQuantRefusal> for Stop {
 
     fn from(refusal: StateQuantRefusal) -> Self {
         Stop::StateQuantRefused(refusal)
+    }
+}
+
+impl From<TextRefusal> for Stop {
+    ghost use Rattle.std.specs.Prelude.{◌≡◌};
+    ghost use Rattle.dsv_report.specs.declared.stop.Stop.TheVariants as stop;
+
+    ghost from_gives = { λ refusal e. e ≡ stop.EllipsoidText refusal };
+
+    fn from(refusal: TextRefusal) -> Self {
+        Stop::EllipsoidText(refusal)
+    }
+}
+
+impl From<EllipsoidRefusal> for Stop {
+    ghost use Rattle.std.specs.Prelude.{◌≡◌};
+    ghost use Rattle.dsv_report.specs.declared.stop.Stop.TheVariants as stop;
+
+    ghost from_gives = { λ refusal e. e ≡ stop.EllipsoidRefused refusal };
+
+    fn from(refusal: EllipsoidRefusal) -> Self {
+        Stop::EllipsoidRefused(refusal)
     }
 }
 

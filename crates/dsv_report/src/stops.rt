@@ -7,6 +7,7 @@ ghost use Rattle.dsv_report.specs.Report.{stop_status, stop_text, too_long_text}
 
 use crate::cascades::{put_cascade_refusal, put_section};
 use crate::certificates::put_certificate_refusal;
+use crate::ellipsoids::{put_ellipsoid_refusal, put_offer_fault};
 use crate::lines::put_number_line;
 use crate::refusals::{put_file_refusal, put_input_range, put_quant_refusal};
 use crate::states::{put_state_quant_refusal, put_state_refusal};
@@ -34,7 +35,9 @@ pub(crate) fn stop_status(stop: &Stop) -> u8
         Stop::ReadFault(_) => 3,
         Stop::NoMemory => 5,
         Stop::JobSize { .. } => 6,
-        Stop::CertificateRefused { .. } => 7,
+        Stop::CertificateRefused { .. }
+        | Stop::EllipsoidText(_)
+        | Stop::EllipsoidRefused(_) => 7,
     }
 }
 
@@ -102,6 +105,8 @@ pub(crate) fn put_stop<K: Sink>(sink: &mut K, stop: &Stop) -> Result<(), Failed>
         Stop::InputRange { index, value } => put_input_range(sink, *index, value),
         Stop::JobSize { size } => put_number_line(sink, b"JOB SIZE ", *size),
         Stop::CertificateRefused { line, fault } => put_certificate_refusal(sink, *line, *fault),
+        Stop::EllipsoidText(refusal) => put_offer_fault(sink, refusal.line, refusal.fault),
+        Stop::EllipsoidRefused(refusal) => put_ellipsoid_refusal(sink, refusal),
         Stop::ReadFault(WhichFile::Controller) => put_all(sink, b"READ FAULT CONTROLLER\n"),
         Stop::ReadFault(WhichFile::Certificate) => put_all(sink, b"READ FAULT CERTIFICATE\n"),
         Stop::ReadFault(WhichFile::Section(section)) => {

@@ -1,0 +1,12 @@
+use Rattle.dsv_base.proofs.TakingLemmas.{writes_after, writes_err, cut_more}
+use Rattle.dsv_report.specs.EllipsoidTexts.{in_ellipsoid_text}
+use Rattle.dsv_report.specs.Report.{successful}
+use Rattle.dsv_report.proofs.report.put_kept_in.Goals as goal
+
+pub returns-in_err-put_heading : goal.returns-in_err-put_heading
+unfolding successful
+returns-in_err-put_heading g c = writes_err c.from_residual.ensures.0 (cut_more (in_ellipsoid_text c.args.offer.now) c.in_err-put_heading.ensures.cut)
+
+pub returns : goal.returns
+unfolding successful
+returns g c = writes_after c.in_ok-put_heading.ensures.whole c.put_in_ellipsoid.ensures
