@@ -11,11 +11,13 @@ use Rattle.dsv_report.specs.declared.stop.WhichFile.TheVariants as file
 use Rattle.dsv_cascade.specs.declared.stability.CascadeForms.{CascadeForms}
 use Rattle.dsv_cascade.specs.declared.stability.CascadeForms.TheVariants as forms
 use Rattle.dsv_command.specs.Cascades.{AskedCascade}
+use Rattle.dsv_command.specs.Ellipsoids.{EllipsoidSource, offered, sought, AskedEllipsoid}
 use Rattle.dsv_command.specs.States.{StateTask, checks_form, seeks_form, searches_states, measures_states, simulates_states, AskedStates}
 use Rattle.dsv_report.specs.Report.{answer_status, forms_status}
 use Rattle.dsv_report.specs.declared.answers.Answer.{Answer}
 use Rattle.dsv_cli.specs.Cascades.{IsCascadeRow}
 use Rattle.dsv_cli.specs.Completeness.{IsVerdict, IsDecidedBy, AreDecided}
+use Rattle.dsv_cli.specs.Ellipsoids.{NamesNoOffer, IsEllipsoidRow}
 use Rattle.dsv_cli.specs.Headline.{IsRow, IsCheckRow}
 use Rattle.dsv_cli.specs.States.{NamesUnread, IsStateRow}
 
@@ -43,6 +45,9 @@ job_decided told old new job (Ok (answer.Generated found)) row none calm = absur
 job_decided told old new job (Ok (answer.Checked certified)) row none calm = absurd row
 job_decided told old new job (Ok (answer.StateFalls many offer fall)) row none calm = absurd row
 job_decided told old new job (Ok answer.NoStateForm) row none calm = absurd row
+job_decided told old new job (Ok (answer.InEllipsoid offer)) row none calm = absurd row
+job_decided told old new job (Ok (answer.FoundEllipsoid offer)) row none calm = absurd row
+job_decided told old new job (Ok answer.NoEllipsoid) row none calm = absurd row
 job_decided told old new job (Err (stop.JobSize size)) row none calm = absurd (none (Err (stop.JobSize size)) (inr (inr (inl refl))) row)
 job_decided told old new job (Err (stop.FileRefused r)) row none calm = absurd (none (Err (stop.FileRefused r)) (inr (inl refl)) row)
 job_decided told old new job (Err stop.FileTooLong) row none calm = absurd (none (Err stop.FileTooLong) (inr (inl refl)) row)
@@ -57,6 +62,8 @@ job_decided told old new job (Err (stop.SectionQuant section r)) row none calm =
 job_decided told old new job (Err (stop.CascadeRefused r)) row none calm = absurd row
 job_decided told old new job (Err (stop.StateRefused r)) row none calm = absurd row
 job_decided told old new job (Err (stop.StateQuantRefused r)) row none calm = absurd row
+job_decided told old new job (Err (stop.EllipsoidText r)) row none calm = absurd row
+job_decided told old new job (Err (stop.EllipsoidRefused r)) row none calm = absurd row
 job_decided told old new job (Err (stop.CertificateRefused line fault)) row none calm = absurd row
 job_decided told old new job (Err stop.Usage) row none calm = absurd row
 job_decided told old new job (Err stop.NoMemory) row none calm = inr refl
@@ -78,6 +85,8 @@ check_decided told old new controller name (Err (stop.SectionQuant section r)) r
 check_decided told old new controller name (Err (stop.CascadeRefused r)) row none calm = absurd row
 check_decided told old new controller name (Err (stop.StateRefused r)) row none calm = absurd row
 check_decided told old new controller name (Err (stop.StateQuantRefused r)) row none calm = absurd row
+check_decided told old new controller name (Err (stop.EllipsoidText r)) row none calm = absurd row
+check_decided told old new controller name (Err (stop.EllipsoidRefused r)) row none calm = absurd row
 check_decided told old new controller name (Err (stop.InputRange index value)) row none calm = absurd row
 check_decided told old new controller name (Err stop.Usage) row none calm = absurd row
 check_decided told old new controller name (Err stop.NoMemory) row none calm = inr refl
@@ -94,6 +103,9 @@ answer_verdict (answer.KeptAway poly offer fall value) = inr (inl refl)
 answer_verdict (answer.OfSections found) = forms_verdict found
 answer_verdict (answer.StateFalls many offer fall) = inl refl
 answer_verdict answer.NoStateForm = inr (inr refl)
+answer_verdict (answer.InEllipsoid offer) = inl refl
+answer_verdict (answer.FoundEllipsoid offer) = inl refl
+answer_verdict answer.NoEllipsoid = inr (inr refl)
 answer_verdict answer.NoZeros = inr (inl refl)
 answer_verdict (answer.NoForm poly kept verdict) = inr (inr refl)
 answer_verdict (answer.Wide index) = inr (inr refl)
@@ -129,6 +141,8 @@ cascade_decided old new asked (Err (stop.ReadFault file.Certificate)) row none c
 cascade_decided old new asked (Err (stop.ReadFault (file.Section section))) row none calm = absurd (calm row.2.5.1)
 cascade_decided old new asked (Err (stop.StateRefused r)) row none calm = absurd row
 cascade_decided old new asked (Err (stop.StateQuantRefused r)) row none calm = absurd row
+cascade_decided old new asked (Err (stop.EllipsoidText r)) row none calm = absurd row
+cascade_decided old new asked (Err (stop.EllipsoidRefused r)) row none calm = absurd row
 cascade_decided old new asked (Err (stop.CertificateRefused line fault)) row none calm = absurd row
 cascade_decided old new asked (Err stop.Usage) row none calm = absurd row
 cascade_decided old new asked (Err stop.NoMemory) row none calm = inr refl
@@ -155,6 +169,8 @@ state_decided old new asked (Err (stop.SectionQuant section r)) row none calm = 
 state_decided old new asked (Err (stop.CascadeRefused r)) row none calm = absurd (none (Err (stop.CascadeRefused r)) (inr (inl refl)) row)
 state_decided old new asked (Err (stop.StateRefused r)) row none calm = absurd (none (Err (stop.StateRefused r)) (inr (inl refl)) row)
 state_decided old new asked (Err (stop.StateQuantRefused r)) row none calm = absurd (none (Err (stop.StateQuantRefused r)) (inr (inl refl)) row)
+state_decided old new asked (Err (stop.EllipsoidText r)) row none calm = absurd (none (Err (stop.EllipsoidText r)) (inr (inr (inr refl))) row)
+state_decided old new asked (Err (stop.EllipsoidRefused r)) row none calm = absurd (none (Err (stop.EllipsoidRefused r)) (inr (inr (inr refl))) row)
 state_decided old new asked (Err (stop.InputRange index value)) row none calm = absurd (none (Err (stop.InputRange index value)) (inr (inl refl)) row)
 state_decided old new asked (Err (stop.JobSize size)) row none calm = absurd (none (Err (stop.JobSize size)) (inr (inr (inl refl))) row)
 state_decided old new asked (Err (stop.CertificateRefused line fault)) row none calm = absurd (none (Err (stop.CertificateRefused line fault)) (inr (inr (inr refl))) row)
@@ -163,5 +179,34 @@ state_decided old new asked (Err (stop.ReadFault file.Certificate)) row none cal
 state_decided old new asked (Err (stop.ReadFault (file.Section section))) row none calm = absurd (calm (fault_rose old new asked.task (file.Section section) row.2))
 state_decided old new asked (Err stop.NoMemory) row none calm = inr refl
 
+-- an ellipsoid that is offered couldn't be read
+offer_rose : (old new : FilesSeen) (source : EllipsoidSource) (which : WhichFile) → NamesNoOffer old new source (stop.ReadFault which) → Rose old.faults new.faults
+offer_rose old new (offered name) file.Certificate h = h.0
+offer_rose old new (offered name) file.Controller h = absurd h
+offer_rose old new (offered name) (file.Section section) h = absurd h
+offer_rose old new sought which h = absurd h
+
+ellipsoid_decided : (old new : FilesSeen) (asked : AskedEllipsoid) → IsDecidedBy old new (IsEllipsoidRow old new asked)
+ellipsoid_decided old new asked (Ok found) row none calm = inl (answer_verdict found)
+ellipsoid_decided old new asked (Err stop.Usage) row none calm = absurd (none (Err stop.Usage) (inl refl) row)
+ellipsoid_decided old new asked (Err (stop.FileRefused r)) row none calm = absurd (none (Err (stop.FileRefused r)) (inr (inl refl)) row)
+ellipsoid_decided old new asked (Err stop.FileTooLong) row none calm = absurd (none (Err stop.FileTooLong) (inr (inl refl)) row)
+ellipsoid_decided old new asked (Err (stop.QuantRefused r)) row none calm = absurd (none (Err (stop.QuantRefused r)) (inr (inl refl)) row)
+ellipsoid_decided old new asked (Err (stop.SectionRefused section r)) row none calm = absurd (none (Err (stop.SectionRefused section r)) (inr (inl refl)) row)
+ellipsoid_decided old new asked (Err (stop.SectionTooLong section)) row none calm = absurd (none (Err (stop.SectionTooLong section)) (inr (inl refl)) row)
+ellipsoid_decided old new asked (Err (stop.SectionQuant section r)) row none calm = absurd (none (Err (stop.SectionQuant section r)) (inr (inl refl)) row)
+ellipsoid_decided old new asked (Err (stop.CascadeRefused r)) row none calm = absurd (none (Err (stop.CascadeRefused r)) (inr (inl refl)) row)
+ellipsoid_decided old new asked (Err (stop.StateRefused r)) row none calm = absurd (none (Err (stop.StateRefused r)) (inr (inl refl)) row)
+ellipsoid_decided old new asked (Err (stop.StateQuantRefused r)) row none calm = absurd (none (Err (stop.StateQuantRefused r)) (inr (inl refl)) row)
+ellipsoid_decided old new asked (Err (stop.InputRange index value)) row none calm = absurd (none (Err (stop.InputRange index value)) (inr (inl refl)) row)
+ellipsoid_decided old new asked (Err (stop.JobSize size)) row none calm = absurd (none (Err (stop.JobSize size)) (inr (inr (inl refl))) row)
+ellipsoid_decided old new asked (Err (stop.CertificateRefused line fault)) row none calm = absurd (none (Err (stop.CertificateRefused line fault)) (inr (inr (inr refl))) row)
+ellipsoid_decided old new asked (Err (stop.EllipsoidText r)) row none calm = absurd (none (Err (stop.EllipsoidText r)) (inr (inr (inr refl))) row)
+ellipsoid_decided old new asked (Err (stop.EllipsoidRefused r)) row none calm = absurd (none (Err (stop.EllipsoidRefused r)) (inr (inr (inr refl))) row)
+ellipsoid_decided old new asked (Err (stop.ReadFault file.Controller)) row none calm = absurd (calm row.shows.0)
+ellipsoid_decided old new asked (Err (stop.ReadFault file.Certificate)) row none calm = absurd (calm (offer_rose old new asked.source file.Certificate row.2))
+ellipsoid_decided old new asked (Err (stop.ReadFault (file.Section section))) row none calm = absurd (calm (offer_rose old new asked.source (file.Section section) row.2))
+ellipsoid_decided old new asked (Err stop.NoMemory) row none calm = inr refl
+
 pub are_decided : AreDecided
-are_decided = record { jobs = job_decided; cascades = cascade_decided; states = state_decided; checks = check_decided }
+are_decided = record { jobs = job_decided; cascades = cascade_decided; states = state_decided; ellipsoids = ellipsoid_decided; checks = check_decided }

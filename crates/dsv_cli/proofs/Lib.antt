@@ -8,6 +8,7 @@ pub mod Causes
 pub mod CertifiedWords
 pub mod CheckRows
 pub mod Completeness
+pub mod EllipsoidRows
 pub mod FileBytes
 pub mod Inputs
 pub mod OfferedSets

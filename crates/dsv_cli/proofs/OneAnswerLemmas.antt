@@ -99,12 +99,17 @@ reached_by bytes old new job (Ok (answer.Generated found)) s h = absurd h
 reached_by bytes old new job (Ok (answer.OfSections found)) s h = absurd h
 reached_by bytes old new job (Ok (answer.StateFalls many offer fall)) s h = absurd h
 reached_by bytes old new job (Ok answer.NoStateForm) s h = absurd h
+reached_by bytes old new job (Ok (answer.InEllipsoid offer)) s h = absurd h
+reached_by bytes old new job (Ok (answer.FoundEllipsoid offer)) s h = absurd h
+reached_by bytes old new job (Ok answer.NoEllipsoid) s h = absurd h
 reached_by bytes old new job (Err (stop.SectionRefused section refusal)) s h = absurd h
 reached_by bytes old new job (Err (stop.SectionTooLong section)) s h = absurd h
 reached_by bytes old new job (Err (stop.SectionQuant section refusal)) s h = absurd h
 reached_by bytes old new job (Err (stop.CascadeRefused refusal)) s h = absurd h
 reached_by bytes old new job (Err (stop.StateRefused refusal)) s h = absurd h
 reached_by bytes old new job (Err (stop.StateQuantRefused refusal)) s h = absurd h
+reached_by bytes old new job (Err (stop.EllipsoidText refusal)) s h = absurd h
+reached_by bytes old new job (Err (stop.EllipsoidRefused refusal)) s h = absurd h
 reached_by bytes old new job (Err stop.Usage) s h = absurd h
 reached_by bytes old new job found s h = absurd s
 

@@ -143,6 +143,7 @@ plain_places (Ok (answer.Falls poly offer fall)) h = absurd h
 plain_places (Ok (answer.KeptAway poly offer fall value)) h = absurd h
 plain_places (Ok (answer.OfSections found)) h = h
 plain_places (Ok (answer.StateFalls many offer fall)) h = h
+plain_places (Ok (answer.InEllipsoid offer)) h = h
 plain_places found h = tt
 
 -- ---- low orders

@@ -114,6 +114,7 @@ IsOfTask c (simulates inputs) q found = IsOfRun q inputs found
 abbrev pub IsPlain : Outcome → Type 0
 IsPlain (Ok (answer.OfSections found)) = FormsHavePlaces found
 IsPlain (Ok (answer.StateFalls many offer fall)) = (offer.form.d ≤ 8) × (fall.d ≤ 8)
+IsPlain (Ok (answer.InEllipsoid offer)) = offer.form.d ≤ 8
 IsPlain (Ok (answer.Falls poly offer fall)) = ⊥
 IsPlain (Ok (answer.KeptAway poly offer fall value)) = ⊥
 IsPlain (Ok (answer.NoForm poly kept verdict)) = ⊥

@@ -4,12 +4,14 @@ use Rattle.std.specs.Prelude.{◌≡◌, ◌⊎◌, ℕ, List, Option, Err}
 use Rattle.dsv_base.specs.Counts.{Rose}
 use Rattle.dsv_base.specs.Seen.{FilesSeen}
 use Rattle.dsv_command.specs.Cascades.{AskedCascade}
+use Rattle.dsv_command.specs.Ellipsoids.{AskedEllipsoid}
 use Rattle.dsv_command.specs.Jobs.{Asked}
 use Rattle.dsv_command.specs.States.{AskedStates}
 use Rattle.dsv_report.specs.Report.{status_of}
 use Rattle.dsv_report.specs.declared.stop.Stop.TheVariants as stop
 use Rattle.dsv_report.specs.Stops.{Outcome}
 use Rattle.dsv_cli.specs.Cascades.{IsCascadeRow}
+use Rattle.dsv_cli.specs.Ellipsoids.{IsEllipsoidRow}
 use Rattle.dsv_cli.specs.Headline.{IsRow, IsCheckRow}
 use Rattle.dsv_cli.specs.States.{IsStateRow}
 
@@ -41,5 +43,7 @@ pub record AreDecided : Type 0 where
       → IsDecidedBy old new (IsCascadeRow old new asked)
   pub states : (old new : FilesSeen) (asked : AskedStates)
       → IsDecidedBy old new (IsStateRow old new asked)
+  pub ellipsoids : (old new : FilesSeen) (asked : AskedEllipsoid)
+      → IsDecidedBy old new (IsEllipsoidRow old new asked)
   pub checks : (told : Option (List ℕ)) (old new : FilesSeen) (controller name : List ℕ)
       → IsDecidedBy old new (IsCheckRow told old new controller name)

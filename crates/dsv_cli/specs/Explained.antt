@@ -3,11 +3,12 @@ use Rattle.std.specs.Prelude.{◌≡◌, ◌⊎◌, ℕ, Option, Some, None, Err
 use Rattle.dsv_base.specs.Seen.{FilesSeen}
 use Rattle.dsv_certfile.specs.declared.job.CertWords.{CertWords}
 use Rattle.dsv_certfile.specs.declared.job.CertWords.TheVariants as words
-use Rattle.dsv_command.specs.Requests.{Request, on_file, on_cascade, on_states, checks}
-use Rattle.dsv_command.specs.Requests.{generates}
+use Rattle.dsv_command.specs.Requests.{Request, on_file, on_cascade, on_states, on_ellipsoid}
+use Rattle.dsv_command.specs.Requests.{checks, generates}
 use Rattle.dsv_report.specs.declared.stop.Stop.TheVariants as stop
 use Rattle.dsv_report.specs.Stops.{Outcome}
 use Rattle.dsv_cli.specs.Cascades.{IsCascadeRow}
+use Rattle.dsv_cli.specs.Ellipsoids.{IsEllipsoidRow}
 use Rattle.dsv_cli.specs.Headline.{IsRow, IsCheckRow, IsOfGeneration, SaysWords}
 use Rattle.dsv_cli.specs.States.{IsStateRow, SaysStates}
 
@@ -20,6 +21,7 @@ IsExplained old new None found =
 IsExplained old new (Some (on_file job)) found = IsRow (old.held job.file) old new job found
 IsExplained old new (Some (on_cascade asked)) found = IsCascadeRow old new asked found
 IsExplained old new (Some (on_states asked)) found = IsStateRow old new asked found
+IsExplained old new (Some (on_ellipsoid asked)) found = IsEllipsoidRow old new asked found
 IsExplained old new (Some (checks controller name)) found =
     IsCheckRow (old.held controller) old new controller name found
 IsExplained old new (Some (generates seed count)) found =

@@ -6,6 +6,7 @@ pub mod Cascades
 pub mod Causes
 pub mod Checking
 pub mod Completeness
+pub mod Ellipsoids
 pub mod Explained
 pub mod FileBytes
 pub mod Gain

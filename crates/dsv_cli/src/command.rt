@@ -3,9 +3,9 @@ ghost use Rattle.std.specs.Prelude.{◌≡◌, false, Some, None, IfOk, IfSome, 
 ghost use Rattle.dsv_certfile.specs.Lawful.{IsWords};
 ghost use Rattle.dsv_certfile.specs.Typed.{IsTyped};
 ghost use Rattle.dsv_certfile.specs.declared.job.CertWords.TheVariants as words_said;
-ghost use Rattle.dsv_command.specs.Asking.{asked_states};
+ghost use Rattle.dsv_command.specs.Asking.{asked_ellipsoid, asked_states};
 ghost use Rattle.dsv_command.specs.Requests.{request_of, job_of};
-ghost use Rattle.dsv_report.specs.AnyJobs.{asked_in, of_states};
+ghost use Rattle.dsv_report.specs.AnyJobs.{asked_in, of_ellipsoid, of_states};
 ghost use Rattle.dsv_report.specs.Printing.{HasPlaces};
 ghost use Rattle.dsv_report.specs.Output.{output_of, certificate_written, asked_by};
 ghost use Rattle.dsv_report.specs.Report.{status_of};
@@ -13,18 +13,20 @@ ghost use Rattle.dsv_cli.specs.Explained.{IsExplained, IsSaid};
 ghost use Rattle.dsv_cli.specs.Headline.{IsOfGeneration, FileBecomes};
 ghost use Rattle.dsv_cli.specs.Headline.{AreKept, IsWritten, IfWhole};
 ghost use Rattle.dsv_cli.specs.Causes.{IsPlain};
+ghost use Rattle.dsv_cli.specs.Ellipsoids.{IsEllipsoidRow};
 ghost use Rattle.dsv_cli.specs.States.{IsStateRow, SaysStates};
 ghost use Rattle.dsv_cli.specs.Proposers.{IsAsked, AreSetsAsked, IfNoForm, is_low};
 ghost use Rattle.dsv_cli.specs.Proposers.{WantsForm, WantsSet, WantsSchurCohn, IsBeyond};
 
 use crate::check::check_answer;
+use crate::ellipsoids::ellipsoid_outcome;
 use crate::job::{JobOutcome, job_outcome};
 use crate::proposers::Proposers;
 use crate::series::cascade_outcome;
 use crate::states::{StateOutcome, state_outcome};
 use dsv_base::{Files, Sink};
 use dsv_certfile::CertWords;
-use dsv_command::{Generation, Request, StateJob, read_request};
+use dsv_command::{EllipsoidJob, Generation, Request, StateJob, read_request};
 use dsv_generator::generate;
 use dsv_lyapunov::FormProposer;
 use dsv_report::{Answer, AnyJob, Stop, put_output, status_of};
@@ -131,6 +133,37 @@ fn states_done<F: Files, K: Sink>(
     }
 }
 
+/// Runs a job of an ellipsoid, and writes what it came to.
+fn ellipsoid_done<F: Files, K: Sink>(
+    alloc: Global,
+    job: &EllipsoidJob,
+    files: &mut F,
+    sink: &mut K,
+) -> Done
+    ensures row { IsEllipsoidRow (F.seen files.old) (F.seen files.new) (asked_ellipsoid job.now)
+        result.outcome }
+    ensures words { result.words ≡ words_said.Unsaid }
+    ensures states { result.states ≡ 0 }
+    ensures kept { AreKept (F.seen files.old) (F.seen files.new) }
+    ensures plain { IsPlain result.outcome }
+    ensures written { IsWritten (K.seen sink.old) (K.seen sink.new) result.status
+        (status_of result.outcome)
+        (output_of (Some (of_ellipsoid (asked_ellipsoid job.now))) result.words result.outcome) }
+    ensures typed { IfWhole result.status (IfSome
+        (certificate_written (Some (of_ellipsoid (asked_ellipsoid job.now))) result.words
+        result.outcome) IsTyped) }
+{
+    let outcome = ellipsoid_outcome(alloc, job, files);
+    let words = CertWords::Unsaid;
+    let status = written_status(sink, Some(AnyJob::OfEllipsoid(job)), words, &outcome);
+    Done {
+        status,
+        outcome,
+        words,
+        states: 0,
+    }
+}
+
 /// Runs the command: finds the answer for the arguments after the program's name, and writes its
 /// text to the sink. The writing takes no memory; where the sink fails, a prefix of the text was
 /// written and the status is 4. A polynomial without a closed form is decided by what the proposers
@@ -209,6 +242,7 @@ pub fn run<F: Files, K: Sink>(
             }
         }
         Ok(Some(Request::OnStates(job))) => states_done(alloc, &job, files, sink),
+        Ok(Some(Request::OnEllipsoid(job))) => ellipsoid_done(alloc, &job, files, sink),
         Ok(Some(Request::Check(asked))) => put_outcome(sink, check_answer(alloc, &asked, files)),
         Ok(Some(Request::Generate(asked))) => put_outcome(sink, generation_answer(alloc, asked)),
         Ok(None) => put_outcome(sink, Err(Stop::Usage)),

@@ -5,6 +5,7 @@
 mod check;
 mod command;
 mod controller_file;
+mod ellipsoids;
 mod file_bytes;
 mod forms;
 mod gain;

@@ -2,12 +2,10 @@
 // words, and then the task.
 ghost use Rattle.std.specs.Prelude.{◌≡◌, ◌≤◌, length, IfOk, IfErr, Ok, Err};
 ghost use Rattle.dsv_command.specs.Asking.{asked_states};
-ghost use Rattle.dsv_command.specs.Limits.{most_samples};
 ghost use Rattle.dsv_command.specs.States.{checks_form};
 ghost use Rattle.dsv_certfile.specs.Lawful.{IsWords};
 ghost use Rattle.dsv_certfile.specs.Words.{words_for};
 ghost use Rattle.dsv_gain.specs.declared.outlook.Outlook.TheVariants as outlook;
-ghost use Rattle.dsv_names.specs.declared.property.RunProperty.TheVariants as run;
 ghost use Rattle.dsv_report.specs.declared.stop.Stop.TheVariants as stop;
 ghost use Rattle.dsv_state_space.specs.Quantising.{BecomesStates};
 ghost use Rattle.dsv_state_space.specs.Verdicts.{state_outlook_of};
@@ -40,36 +38,6 @@ use std::alloc::Global;
 
 // ---- runs
 
-/// Whether an overflow happens within so many samples.
-fn overflow_answer(
-    alloc: Global,
-    system: &StateSystem,
-    samples: u32,
-    budget: &Budget,
-) -> Result<Answer, Stop>
-    requires some { 1 ≤ samples }
-    requires few { samples ≤ most_samples }
-    ensures search { IsOfStateSearch run.Overflow samples budget.now.conflicts system.now result }
-    ensures plain { IsPlain result }
-{
-    overflow_found(state_overflow(alloc, system, samples, budget.conflicts))
-}
-
-/// Whether a limit cycle of a period up to so many samples happens.
-fn cycle_answer(
-    alloc: Global,
-    system: &StateSystem,
-    samples: u32,
-    budget: &Budget,
-) -> Result<Answer, Stop>
-    requires some { 1 ≤ samples }
-    requires few { samples ≤ most_samples }
-    ensures search { IsOfStateSearch run.LimitCycle samples budget.now.conflicts system.now result }
-    ensures plain { IsPlain result }
-{
-    cycle_found(state_cycle(alloc, system, samples, budget.conflicts))
-}
-
 /// The answer to a question about runs, by a search.
 fn search_answer(
     alloc: Global,
@@ -81,9 +49,10 @@ fn search_answer(
         budget.now.conflicts system.now result }
     ensures plain { IsPlain result }
 {
+    let (samples, conflicts) = (question.samples, budget.conflicts);
     match question.property {
-        RunProperty::Overflow => overflow_answer(alloc, system, question.samples, budget),
-        RunProperty::LimitCycle => cycle_answer(alloc, system, question.samples, budget),
+        RunProperty::Overflow => overflow_found(state_overflow(alloc, system, samples, conflicts)),
+        RunProperty::LimitCycle => cycle_found(state_cycle(alloc, system, samples, conflicts)),
     }
 }
 

@@ -11,15 +11,17 @@ use std::fs;
 /// The list of the cases: the arguments of each in a line of their own, with spaces between them. A
 /// line that is empty or begins with `#` is none. A line that begins with `certify` is a job whose
 /// certificate is made, and checked against the same file: what is written is what the check says.
+/// So it is of one that begins with `offer`, a controller's file and options of its design, for
+/// which an ellipsoid is found.
 const CASES: &str = "cases.txt";
 
-/// The name of the certificate that is made.
+/// The name of the certificate that is made, or of the text that offers an ellipsoid.
 const CERTIFICATE: &str = "certificate";
 
 /// The option before the name of a state-space controller's file.
 const STATE_SPACE: &str = "--state-space";
 
-/// The most bytes of a certificate that is made.
+/// The most bytes of such a text.
 const LONGEST_CERTIFICATE: usize = 1 << 22;
 
 /// The arguments of a case.
@@ -52,6 +54,22 @@ fn check_arguments(alloc: Global, file: &str, is_states: bool) -> Result<Vec<Str
     arguments_of(alloc, &line)
 }
 
+/// The controller's file and the text that a job writes.
+fn made_files(
+    rt: &HostRuntime,
+    alloc: Global,
+    file: &str,
+    arguments: &[String],
+) -> Result<MemFiles> {
+    let controller = fs::read_to_string(rt, file)?;
+    let mut files = MemFiles::new(alloc);
+    files.hold(file, controller.as_bytes())?;
+    let mut text = MemSink::new(alloc, LONGEST_CERTIFICATE)?;
+    status_of(alloc, arguments, &mut files, &mut text);
+    files.hold(CERTIFICATE, text.bytes())?;
+    Ok(files)
+}
+
 /// Makes the certificate of a job and checks it. The controller's file is the first argument, or a
 /// state-space controller's the second.
 fn certified_status(rt: &HostRuntime, alloc: Global, line: &str, out: &mut OsOut) -> Result<u8> {
@@ -59,13 +77,20 @@ fn certified_status(rt: &HostRuntime, alloc: Global, line: &str, out: &mut OsOut
     arguments.push(String::from_str(alloc, "--certificate")?)?;
     let is_states = line.starts_with(STATE_SPACE);
     let file = arguments.get(usize::from(is_states)).context("no file")?;
-    let controller = fs::read_to_string(rt, file)?;
-    let mut files = MemFiles::new(alloc);
-    files.hold(file, controller.as_bytes())?;
-    let mut certificate = MemSink::new(alloc, LONGEST_CERTIFICATE)?;
-    status_of(alloc, &arguments, &mut files, &mut certificate);
-    files.hold(CERTIFICATE, certificate.bytes())?;
+    let mut files = made_files(rt, alloc, file, &arguments)?;
     let check = check_arguments(alloc, file, is_states)?;
+    Ok(status_of(alloc, &check, &mut files, out))
+}
+
+/// Finds an ellipsoid and checks it. The controller's file is the first argument.
+fn offered_status(rt: &HostRuntime, alloc: Global, line: &str, out: &mut OsOut) -> Result<u8> {
+    let job = format!(in alloc; "{line} --property OVERFLOW --offer-ellipsoid")?;
+    let arguments = arguments_of(alloc, &job)?;
+    let file = arguments.first().context("no file")?;
+    let mut files = made_files(rt, alloc, file, &arguments)?;
+    let check = format!(in alloc;
+        "{line} --property OVERFLOW --unbounded --ellipsoid {CERTIFICATE}")?;
+    let check = arguments_of(alloc, &check)?;
     Ok(status_of(alloc, &check, &mut files, out))
 }
 
@@ -80,9 +105,12 @@ fn run_case(
     put_all(out, b"== ")?;
     put_all(out, line.as_bytes())?;
     put_all(out, b"\n")?;
-    let status = match line.strip_prefix("certify ") {
-        Some(job) => certified_status(rt, alloc, job, out)?,
-        None => status_of(alloc, &arguments_of(alloc, line)?, files, out),
+    let status = if let Some(job) = line.strip_prefix("certify ") {
+        certified_status(rt, alloc, job, out)?
+    } else if let Some(job) = line.strip_prefix("offer ") {
+        offered_status(rt, alloc, job, out)?
+    } else {
+        status_of(alloc, &arguments_of(alloc, line)?, files, out)
     };
     put_all(out, b"status ")?;
     put_number(out, status)?;

@@ -84,6 +84,17 @@ returns-in-Ok-Some-OnStates-clause-forms g c =
     unasked (λ b. b.ptr) (λ b. (goal.FormProposer-dyn g (b.vtable, b.value)).last b.value) (λ b cs. (goal.FormProposer-dyn g (b.vtable, b.value)).sure b.value cs) (λ b cs. (goal.FormProposer-dyn g (b.vtable, b.value)).to_come b.value cs)
     (WantsSchurCohn (job_of (map string_bytes c.args.arguments.now))) c.args.proposers.now.forms.items c.states_done.result.outcome c.states_done.ensures.plain
 
+-- ---- a job of an ellipsoid: nor does it
+pub returns-in-Ok-Some-OnEllipsoid-clause-sets : goal.returns-in-Ok-Some-OnEllipsoid-clause-sets
+returns-in-Ok-Some-OnEllipsoid-clause-sets g c =
+    sets_unasked (λ b. b.ptr) (λ b. (goal.InvariantProposer-dyn g (b.vtable, b.value)).last b.value) (λ b shape. (goal.InvariantProposer-dyn g (b.vtable, b.value)).to_come b.value shape)
+    (FileBecomes (g.F.Files.seen c.args.files.now) (job_of (map string_bytes c.args.arguments.now))) c.args.proposers.now.sets.items c.ellipsoid_done.result.outcome c.ellipsoid_done.ensures.plain
+
+pub returns-in-Ok-Some-OnEllipsoid-clause-forms : goal.returns-in-Ok-Some-OnEllipsoid-clause-forms
+returns-in-Ok-Some-OnEllipsoid-clause-forms g c =
+    unasked (λ b. b.ptr) (λ b. (goal.FormProposer-dyn g (b.vtable, b.value)).last b.value) (λ b cs. (goal.FormProposer-dyn g (b.vtable, b.value)).sure b.value cs) (λ b cs. (goal.FormProposer-dyn g (b.vtable, b.value)).to_come b.value cs)
+    (WantsSchurCohn (job_of (map string_bytes c.args.arguments.now))) c.args.proposers.now.forms.items c.ellipsoid_done.result.outcome c.ellipsoid_done.ensures.plain
+
 -- ---- a check of a certificate
 pub returns-in-Ok-Some-Check-clause-sets : goal.returns-in-Ok-Some-Check-clause-sets
 returns-in-Ok-Some-Check-clause-sets g c =

@@ -1,0 +1,128 @@
+-- What a run answers to a job of an ellipsoid: a table of its own, one row for each answer.
+use Rattle.std.specs.Prelude.{◌≡◌, ℕ, ◌+◌, ◌<◌, ◌≤◌, List, length, Some, None, Ok, Err}
+use Rattle.dsv_base.specs.Counts.{Rose}
+use Rattle.dsv_base.specs.Seen.{FilesSeen}
+use Rattle.dsv_reader.specs.Controllers.{ControllerView}
+use Rattle.dsv_quantiser.specs.QuantisedView.{QuantisedView}
+use Rattle.dsv_quantiser.specs.Modes.{BecomesWords}
+use Rattle.dsv_bounded.specs.RunAnswers.{IsTooLarge}
+use Rattle.dsv_bounded.specs.RunQuestions.{IsWithin}
+use Rattle.dsv_invariant.specs.Limits.{unbounded_samples}
+use Rattle.dsv_certfile.specs.Ellipsoids.{ellipsoid_in}
+use Rattle.dsv_certfile.specs.declared.ellipsoid.Ellipsoid.{Ellipsoid}
+use Rattle.dsv_ellipsoid.specs.Good.{IsGood, NeverBreaks, StaysKept}
+use Rattle.dsv_ellipsoid.specs.Refusals.{ellipsoid_refusal}
+use Rattle.dsv_command.specs.Ellipsoids.{EllipsoidSource, offered, sought, AskedEllipsoid}
+use Rattle.dsv_report.specs.declared.answers.Answer.TheVariants as answer
+use Rattle.dsv_report.specs.declared.stop.CertificateFault.TheVariants as fault
+use Rattle.dsv_report.specs.declared.stop.Stop.{Stop}
+use Rattle.dsv_report.specs.declared.stop.Stop.TheVariants as stop
+use Rattle.dsv_report.specs.declared.stop.WhichFile.TheVariants as file
+use Rattle.dsv_report.specs.Stops.{Outcome}
+use Rattle.dsv_cli.specs.Cascades.{IsFileOf}
+use Rattle.dsv_cli.specs.Headline.{longest_certificate, CameOf, IsUnread}
+
+-- ---- the offer
+-- The bytes spell this ellipsoid.
+pub record IsOffer (written : List ℕ) (offer : Ellipsoid) : Type 0 where
+  pub short : length written ≤ longest_certificate
+  pub spelled : ellipsoid_in written ≡ Ok offer
+
+-- the file of this name offers this ellipsoid
+abbrev pub IsOfferOf : FilesSeen → List ℕ → Ellipsoid → Type 0
+IsOfferOf old name offer = CameOf (old.held name) (λ written. IsOffer written offer)
+
+-- what keeps the file of this name from offering an ellipsoid: the files were `old` and are `new`
+abbrev pub IsUnreadOffer : FilesSeen → FilesSeen → List ℕ → Stop → Type 0
+IsUnreadOffer old new name (stop.ReadFault file.Certificate) =
+    Rose old.faults new.faults × (new.blamed ≡ Some name)
+IsUnreadOffer old new name (stop.CertificateRefused line fault.TooLong) =
+    (line ≡ 0) × CameOf (old.held name) (λ bytes. longest_certificate < length bytes)
+    × Rose (old.came + longest_certificate) new.came
+IsUnreadOffer old new name (stop.EllipsoidText r) =
+    CameOf (old.held name) (λ written. (length written ≤ longest_certificate)
+    × (ellipsoid_in written ≡ Err r))
+IsUnreadOffer old new name stop.NoMemory = Unit {0}
+IsUnreadOffer old new name other = ⊥
+
+-- ---- what an ellipsoid shows
+-- Its check accepts the ellipsoid, which is good, and so no list of inputs in range, of any length,
+-- breaks the controller, and each exact value of each sample lies in its interval.
+pub record ShowsEllipsoid (q : QuantisedView) (offer : Ellipsoid) : Type 0 where
+  pub accepted : ellipsoid_refusal q offer ≡ None
+  pub good : IsGood q offer
+  pub never : NeverBreaks q
+  pub kept : StaysKept q offer
+
+-- the answer for an ellipsoid that is offered
+abbrev pub IsOfOffer : Ellipsoid → QuantisedView → Outcome → Type 0
+IsOfOffer offer q (Ok (answer.InEllipsoid found)) =
+    (found ≡ offer) × IsWithin q unbounded_samples × ShowsEllipsoid q offer
+IsOfOffer offer q (Err (stop.EllipsoidRefused r)) =
+    IsWithin q unbounded_samples × (ellipsoid_refusal q offer ≡ Some r)
+IsOfOffer offer q (Err (stop.JobSize size)) = IsTooLarge unbounded_samples q size
+IsOfOffer offer q other = ⊥
+
+-- the answer where one is to be found; that none was found says nothing of the controller
+abbrev pub IsOfSoughtEllipsoid : QuantisedView → Outcome → Type 0
+IsOfSoughtEllipsoid q (Ok (answer.FoundEllipsoid offer)) =
+    IsWithin q unbounded_samples × ShowsEllipsoid q offer
+IsOfSoughtEllipsoid q (Ok answer.NoEllipsoid) = IsWithin q unbounded_samples
+IsOfSoughtEllipsoid q (Err (stop.JobSize size)) = IsTooLarge unbounded_samples q size
+IsOfSoughtEllipsoid q other = ⊥
+
+-- ---- the stages of a job
+-- what a job comes to for a controller in words, by where its ellipsoid comes from
+abbrev pub IsOfSource : FilesSeen → EllipsoidSource → QuantisedView → Outcome → Type 0
+IsOfSource old (offered name) q found = (offer : Ellipsoid) × IsOfferOf old name offer
+    × IsOfOffer offer q found
+IsOfSource old sought q found = IsOfSoughtEllipsoid q found
+
+-- where an ellipsoid is offered, its file spells one
+abbrev pub NamesOffer : FilesSeen → EllipsoidSource → Type 0
+NamesOffer old (offered name) = (offer : Ellipsoid) × IsOfferOf old name offer
+NamesOffer old sought = Unit {0}
+
+-- an ellipsoid is offered, and this keeps its file from spelling one
+abbrev pub NamesNoOffer : FilesSeen → FilesSeen → EllipsoidSource → Stop → Type 0
+NamesNoOffer old new (offered name) why = IsUnreadOffer old new name why
+NamesNoOffer old new sought why = ⊥
+
+-- the controller becomes words for which the job comes to this
+abbrev pub IsInWords : FilesSeen → AskedEllipsoid → ControllerView → Outcome → Type 0
+IsInWords old asked c found = (q : QuantisedView) × BecomesWords c asked.design (Ok q)
+    × IsOfSource old asked.source q found
+
+-- What a job comes to for the controller of its file: first the ellipsoid that is offered is read,
+-- then the controller becomes words, and then its size is looked at and the ellipsoid is checked or
+-- sought.
+abbrev pub IsOfEllipsoid : FilesSeen → FilesSeen → AskedEllipsoid → ControllerView → Outcome
+    → Type 0
+IsOfEllipsoid old new asked c (Err stop.NoMemory) = Unit {0}
+IsOfEllipsoid old new asked c (Err (stop.ReadFault which)) =
+    NamesNoOffer old new asked.source (stop.ReadFault which)
+IsOfEllipsoid old new asked c (Err (stop.CertificateRefused line why)) =
+    NamesNoOffer old new asked.source (stop.CertificateRefused line why)
+IsOfEllipsoid old new asked c (Err (stop.EllipsoidText r)) =
+    NamesNoOffer old new asked.source (stop.EllipsoidText r)
+IsOfEllipsoid old new asked c (Err (stop.QuantRefused r)) =
+    NamesOffer old asked.source × BecomesWords c asked.design (Err r)
+IsOfEllipsoid old new asked c found = IsInWords old asked c found
+
+-- ---- the table
+-- the file has the text of a controller, for which the job comes to this
+abbrev pub IsOfEllipsoidFile : FilesSeen → FilesSeen → AskedEllipsoid → Outcome → Type 0
+IsOfEllipsoidFile old new asked found = (c : ControllerView) × IsFileOf old asked.file c
+    × IsOfEllipsoid old new asked c found
+
+-- The row of each answer to a job of an ellipsoid, where the files were `old` and are `new`. Only
+-- NoMemory has no stated cause.
+abbrev pub IsEllipsoidRow : FilesSeen → FilesSeen → AskedEllipsoid → Outcome → Type 0
+IsEllipsoidRow old new asked (Err stop.NoMemory) = Unit {0}
+IsEllipsoidRow old new asked (Err (stop.FileRefused r)) =
+    IsUnread (old.held asked.file) old new asked.file (stop.FileRefused r)
+IsEllipsoidRow old new asked (Err stop.FileTooLong) =
+    IsUnread (old.held asked.file) old new asked.file stop.FileTooLong
+IsEllipsoidRow old new asked (Err (stop.ReadFault file.Controller)) =
+    IsUnread (old.held asked.file) old new asked.file (stop.ReadFault file.Controller)
+IsEllipsoidRow old new asked found = IsOfEllipsoidFile old new asked found
