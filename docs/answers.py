@@ -33,11 +33,16 @@ OVERFLOW = [
          "printed range. docs/GUIDE.md says what `depth` and `settled` are.",
          "where all ranges, the coefficients and the inputs fit in words with one bit less before the point, that bit can go.",
          "lag.dsv --property OVERFLOW --gain"),
-    Kind("Successful over lists of any length, by an invariant", 0, rf"{S}\nproperty OVERFLOW .* unbounded\n.*",
+    Kind("Successful over lists of any length, by an invariant", 0, rf"{S}\nproperty OVERFLOW .* unbounded\ndepth .*",
          "`--unbounded`: no list of inputs in range, however long, overflows. The registers never leave the printed set: each "
          "inequality has a coefficient for each register, and what the sum is at most.",
          "nothing.",
          "slow_pole.dsv --property OVERFLOW --unbounded"),
+    Kind("Successful over lists of any length, by an ellipsoid", 0, rf"{S}\nproperty OVERFLOW .* unbounded\nellipsoid .*",
+         "`--unbounded --ellipsoid`: no list of inputs in range, however long, overflows. The form of the last outputs is never greater "
+         "than the level, and no output than the bound in size.",
+         "nothing.",
+         "small/resonance.dsv --property OVERFLOW --unbounded --ellipsoid small/resonance.ellipsoid"),
     Kind("Failed", 10, rf"{F}\nproperty OVERFLOW .*\ninputs .*",
          "A counterexample: these inputs overflow, in the last sample. There the exact value of this number is the first that is no word. With `--gain` "
          "the list has up to 4,096 inputs.",
@@ -59,6 +64,10 @@ OVERFLOW = [
          "`--gain`. Where `spent` isn't 0, more `--conflicts`; a smaller range of inputs or one more of `int_bits`; another "
          "realisation; else `--x-size`.",
          "small/pole.dsv --property OVERFLOW --unbounded"),
+    Kind("Inconclusive, `cause NO_OFFER`", 20, rf"{I}\nproperty OVERFLOW .* unbounded\ncause NO_OFFER\n",
+         "`--offer-ellipsoid`: no ellipsoid was found that its check accepts.",
+         "`--gain`; a smaller range of inputs or one more of `int_bits`.",
+         "small/pole_outside.dsv --property OVERFLOW --offer-ellipsoid"),
     Kind("Inconclusive, `cause SPENT`", 20, rf"{I}\nproperty (?:OVERFLOW|LIMIT_CYCLE) .*\ncause SPENT .*",
          "OVERFLOW and LIMIT_CYCLE with `--x-size`: the conflict budget of the search is exhausted.",
          "`--conflicts`, up to 200000; fewer samples; `--formula` with another solver.",
@@ -171,6 +180,10 @@ OTHERS = [
          "`--check`: the controller of the file has the certificate's property.",
          "nothing.",
          "small/order_two.dsv --check small/order_two.cert"),
+    Kind("An ellipsoid", 0, r"dsv-ellipsoid 1\n.*",
+         "`--offer-ellipsoid`: an ellipsoid that its check accepts. So no list of inputs in range, however long, overflows.",
+         "keep it with the controller's file; `--unbounded --ellipsoid` judges it.",
+         None, "None stands here: docs/CERTIFICATES.md has the text of one."),
     Kind("A formula", 0, r"p cnf .*",
          "`--formula`: the question itself, as DIMACS.",
          "give it to another solver, as docs/GUIDE.md says.",
@@ -272,6 +285,38 @@ CERTIFICATES = [
          "low_pass_in_bytes.dsv --check small/low_pass_in_bytes_too_early.cert"),
 ]
 
+ELLIPSOIDS = [
+    Kind("1 `VERSION`", 7, r"ELLIPSOID REFUSED line .* code 1 .*", "the first line is another", "",
+         "small/resonance.dsv --property OVERFLOW --unbounded --ellipsoid small/resonance_other_version.ellipsoid"),
+    Kind("3 `NUMBER`", 7, r"ELLIPSOID REFUSED line .* code 3 .*", "a piece is no number, or out of its range", "",
+         "small/resonance.dsv --property OVERFLOW --unbounded --ellipsoid small/resonance_without_number.ellipsoid"),
+    Kind("4 `LINE`", 7, r"ELLIPSOID REFUSED line .* code 4 .*", "another word or number of pieces than wanted", "",
+         "small/resonance.dsv --property OVERFLOW --unbounded --ellipsoid small/resonance_wrong_word.ellipsoid"),
+    Kind("5 `END`", 7, r"ELLIPSOID REFUSED line .* code 5 .*", "it isn't ended, or goes on after `end`", "",
+         "small/resonance.dsv --property OVERFLOW --unbounded --ellipsoid small/resonance_cut.ellipsoid"),
+    Kind("51 `SHAPE`", 7, r"ELLIPSOID REFUSED 51 .*",
+         "the controller isn't in DFI without `wide` and of an order from 1 to 7, or the form isn't one of its order", "",
+         "small/resonance.dsv --property OVERFLOW --unbounded --ellipsoid small/resonance.ellipsoid --realization DFII"),
+    Kind("52 `SIGN`", 7, r"ELLIPSOID REFUSED 52 .*",
+         "negative: 0 the level, 1 lambda, 2 mu, 4 nu; 3: kappa is less than 1; 5: the bound isn't from 0 to the greatest word", "",
+         "small/resonance.dsv --property OVERFLOW --unbounded --ellipsoid small/resonance_bound_2048.ellipsoid"),
+    Kind("53 `WIDE`", 7, r"ELLIPSOID REFUSED 53 .*",
+         "a number is too large: 0 the disturbance, 1 its square and mu times that, 2 lambda times the level, 3 the sum of both, 4 2^(2 "
+         "`frac_bits`) times the level, 5 nu times the level, 6 kappa times the square of the bound and 1, 7 on the way to an entry", "",
+         "small/resonance.dsv --property OVERFLOW --unbounded --ellipsoid small/resonance_great_form.ellipsoid"),
+    Kind("54 `LEVEL`", 7, r"ELLIPSOID REFUSED 54 .*", "a step may leave the ellipsoid", "",
+         "small/resonance.dsv --property OVERFLOW --unbounded --ellipsoid small/resonance_with_mu_513.ellipsoid"),
+    Kind("55 `STEP`", 7, r"ELLIPSOID REFUSED 55 .*", "the squares of the step form don't show it", "",
+         "small/resonance.dsv --property OVERFLOW --unbounded --ellipsoid small/resonance_other_step_square.ellipsoid"),
+    Kind("56 `FIRST`", 7, r"ELLIPSOID REFUSED 56 .*", "the squares of the first form don't show it", "",
+         "small/resonance.dsv --property OVERFLOW --unbounded --ellipsoid small/resonance_other_first_square.ellipsoid"),
+    Kind("57 `BOUND`", 7, r"ELLIPSOID REFUSED 57 .*", "an output in the ellipsoid may pass the bound", "",
+         "small/resonance.dsv --property OVERFLOW --unbounded --ellipsoid small/resonance_with_958.ellipsoid"),
+    Kind("58 `INTERVAL`", 7, r"ELLIPSOID REFUSED 58 .*",
+         "within the bound the exact value of this number may leave the words: its least and its greatest", "",
+         "small/resonance_in_11_bits.dsv --property OVERFLOW --unbounded --ellipsoid small/resonance.ellipsoid"),
+]
+
 HEAD = """\
 # What the command answers
 
@@ -296,8 +341,12 @@ SECTIONS = [
     ("Refused certificates: status 7",
      "The line is the first that is wrong. A refusal doesn't mean that the property fails: ask for the verdict, or make the "
      "certificate again. docs/CERTIFICATES.md has the lines.", CERTIFICATES),
+    ("Refused ellipsoids: status 7",
+     "The first test that refuses counts. docs/CERTIFICATES.md has the lines of the text, and what the numbers are; a file over 64 MiB "
+     "is refused as a certificate is.", ELLIPSOIDS),
 ]
-TABLES = {"Refused files: status 2": "Code", "No answer": "What fails", "Refused certificates: status 7": "Code"}
+TABLES = {"Refused files: status 2": "Code", "No answer": "What fails", "Refused certificates: status 7": "Code",
+          "Refused ellipsoids: status 7": "Code"}
 
 
 def stored_runs():
@@ -335,7 +384,7 @@ def place_of(argument):
 
 
 def command_of(case):
-    words = [",".join(place_of(file) for file in word.split(",")) if re.search(r"\.(?:dsv|states|cert)$", word) else word
+    words = [",".join(place_of(file) for file in word.split(",")) if re.search(r"\.(?:dsv|states|cert|ellipsoid)$", word) else word
              for word in case.split(" ")]
     return " ".join(["./dsv"] + words)
 

@@ -176,6 +176,9 @@ PAGE = (
      "IsStateRow IsStatesFileOf IsStateController StateFileView IsStateText IsStatesUnread IsOfStates BecomesStates StateView "
      "state_space_of IsOfStateTask IsOfStateSearch StatesNever IsStateTrace IsStateCycle IsOfStateGain IsStateGain "
      "state_outlook_of IsStateBreak IsStateRun ShowsStateFall FallsAlongStates IsStateLoss IsOfNamedForm state_check IsSaid SaysStates"),
+    ("Ellipsoids", "What the answers on ellipsoids say.",
+     "IsEllipsoidRow IsOffer ellipsoid_in IsUnreadOffer IsOfEllipsoid IsOfOffer IsOfSoughtEllipsoid ShowsEllipsoid dsv_ellipsoid:IsGood "
+     "dsv_ellipsoid:NeverBreaks StaysKept ellipsoid_refusal greatest_disturbance step_form dsv_ellipsoid:first_form sample_intervals"),
     ("Stability, minimum phase, timing", "What the answers on polynomials and on time say.",
      "IsTested tested_of ShowsFall StrictlyFallsAlong StrictlyFalls ShowsKeptAway IsKeptAwayAlong IsKeptAway "
      "ShowsNoForm closed_form_of jury_of WantsSchurCohn IsBeyond IsTimed IsTimingOf IsOnTime"),
