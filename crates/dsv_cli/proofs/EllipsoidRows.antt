@@ -87,9 +87,11 @@ row_of_no_offer old new asked c name why e h = absurd h
 unread_earlier : (old between new : FilesSeen) (name : List ℕ) (why : Stop) → between.held ≡ old.held → old.faults ≤ between.faults → old.came ≤ between.came → IsUnreadOffer between new name why
     → IsUnreadOffer old new name why
 unread_earlier old between new name (stop.ReadFault file.Certificate) e m l h = (Rose-earlier old.faults between.faults new.faults m h.0, h.1)
-unread_earlier old between new name (stop.CertificateRefused line fault.TooLong) e m l h =
-    (h.0, subst (λ held. CameOf (held name) (λ bytes. longest_certificate < length bytes)) e h.1,
-    Rose-earlier (old.came + longest_certificate) (between.came + longest_certificate) new.came (omega arith) h.2)
+unread_earlier old between new name (stop.CertificateRefused line fault.TooLong) e m l h = (
+  h.0,
+  subst (λ held. CameOf (held name) (λ bytes. longest_certificate < length bytes)) e h.1,
+  Rose-earlier (old.came + longest_certificate) (between.came + longest_certificate) new.came (omega arith) h.2,
+)
 unread_earlier old between new name (stop.EllipsoidText r) e m l h =
     subst (λ held. CameOf (held name) (λ written. (length written ≤ longest_certificate) × (ellipsoid_in written ≡ Err r))) e h
 unread_earlier old between new name stop.NoMemory e m l h = tt

@@ -89,7 +89,8 @@ fn offered_status(rt: &HostRuntime, alloc: Global, line: &str, out: &mut OsOut) 
     let file = arguments.first().context("no file")?;
     let mut files = made_files(rt, alloc, file, &arguments)?;
     let check = format!(in alloc;
-        "{line} --property OVERFLOW --unbounded --ellipsoid {CERTIFICATE}")?;
+        "{line} --property OVERFLOW --unbounded --ellipsoid {CERTIFICATE}"
+    )?;
     let check = arguments_of(alloc, &check)?;
     Ok(status_of(alloc, &check, &mut files, out))
 }

@@ -11,11 +11,7 @@ use dsv_forms::{Form, KeptAway, Poly};
 use itoa::Integer;
 
 /// Writes a line for each row of a form.
-pub(crate) fn put_rows<K: Sink>(
-    sink: &mut K,
-    word: &[u8],
-    form: &Form,
-) -> Result<(), Failed>
+pub(crate) fn put_rows<K: Sink>(sink: &mut K, word: &[u8], form: &Form) -> Result<(), Failed>
     requires { form.now.d ≤ 8 }
     ensures { Writes (K.seen sink.old) (K.seen sink.new) result
         (forms.rows_text word.now form.now) }

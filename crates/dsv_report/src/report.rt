@@ -659,11 +659,7 @@ fn put_no_state_form<K: Sink>(sink: &mut K, job: Option<AnyJob>) -> Result<(), F
 
 /// Writes the text of an ellipsoid that the last outputs stay in.
 #[tactic(auto, unfolding(crate::specs::Report::successful))]
-fn put_kept_in<K: Sink>(
-    sink: &mut K,
-    job: Option<AnyJob>,
-    offer: &Ellipsoid,
-) -> Result<(), Failed>
+fn put_kept_in<K: Sink>(sink: &mut K, job: Option<AnyJob>, offer: &Ellipsoid) -> Result<(), Failed>
     requires { offer.now.form.d ≤ 8 }
     ensures { Writes (K.seen sink.old) (K.seen sink.new) result
         (report.heading report.successful (asked_in job.entry) ++ in_ellipsoid_text offer.now) }

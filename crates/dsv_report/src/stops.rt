@@ -35,9 +35,7 @@ pub(crate) fn stop_status(stop: &Stop) -> u8
         Stop::ReadFault(_) => 3,
         Stop::NoMemory => 5,
         Stop::JobSize { .. } => 6,
-        Stop::CertificateRefused { .. }
-        | Stop::EllipsoidText(_)
-        | Stop::EllipsoidRefused(_) => 7,
+        Stop::CertificateRefused { .. } | Stop::EllipsoidText(_) | Stop::EllipsoidRefused(_) => 7,
     }
 }
 
