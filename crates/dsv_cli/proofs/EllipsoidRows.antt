@@ -1,7 +1,6 @@
 -- The rows of jobs of ellipsoids: what each stage gives, and what follows of it.
 use Rattle.std.proofs.Common.{◌≡◌, ◌<◌, ◌≤◌, ◌+◌, ℕ, List, length, subst, arith}
 use Rattle.std.specs.Prelude.{Ok, Err, IfSome}
-use Rattle.dsv_base.specs.Counts.{Rose}
 use Rattle.dsv_base.specs.Seen.{FilesSeen}
 use Rattle.dsv_base.proofs.TakingLemmas.{Rose-earlier}
 use Rattle.dsv_reader.specs.Controllers.{ControllerView}
@@ -11,7 +10,6 @@ use Rattle.dsv_certfile.specs.Ellipsoids.{ellipsoid_in}
 use Rattle.dsv_certfile.specs.declared.ellipsoid.Ellipsoid.{Ellipsoid}
 use Rattle.dsv_certfile.specs.declared.fault.TextRefusal.{TextRefusal}
 use Rattle.dsv_command.specs.Ellipsoids.{EllipsoidSource, offered, sought, AskedEllipsoid}
-use Rattle.dsv_report.specs.declared.answers.Answer.TheVariants as answer
 use Rattle.dsv_report.specs.declared.stop.CertificateFault.TheVariants as fault
 use Rattle.dsv_report.specs.declared.stop.Stop.{Stop}
 use Rattle.dsv_report.specs.declared.stop.Stop.TheVariants as stop

@@ -1,7 +1,6 @@
 use Rattle.std.proofs.Common.{◌≡◌, rules}
 use Rattle.std.specs.Prelude.{Err}
 use Rattle.dsv_command.specs.Asking.{asked_ellipsoid}
-use Rattle.dsv_report.specs.declared.stop.Stop.TheVariants as stop
 use Rattle.dsv_cli.proofs.EllipsoidRows.{row_of_offer, row_of_no_offer}
 use Rattle.dsv_cli.proofs.ellipsoids.offered_answer.Goals as goal
 
