@@ -22,7 +22,7 @@ greatest_depth = 2 ^ 32 - 1
 
 -- the greatest depth of a gain: so many samples after any words in the registers
 abbrev pub most_gain_depth : ℕ
-most_gain_depth = 1023
+most_gain_depth = 16383
 
 -- the most samples of a job; it has one at least
 abbrev pub most_samples : ℕ

@@ -3,7 +3,7 @@
 pub const MOST_JOB_SAMPLES: u32 = 64;
 
 /// The greatest depth of a gain.
-pub const MOST_GAIN_DEPTH: u32 = 1_023;
+pub const MOST_GAIN_DEPTH: u32 = 16_383;
 
 /// The most bits of words of a controller whose certificates don't say the words' format.
 pub const NARROW_WORD_BITS: u32 = 32;

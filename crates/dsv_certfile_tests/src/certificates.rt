@@ -68,7 +68,7 @@ const TEXTS: &[&str] = &[
     end\n",
     "dsv-certificate 1\n\
     job OVERFLOW DFI FLOOR WRAPAROUND unbounded\n\
-    kind gain 1023\n\
+    kind gain 16383\n\
     end\n",
     "dsv-certificate 1\n\
     job OVERFLOW DFI FLOOR WRAPAROUND unbounded\n\
@@ -150,14 +150,14 @@ fn texts_are_written_as_they_were_read(rt: HostRuntime) {
 
 const GAIN: &str = "dsv-certificate 1\n\
     job OVERFLOW TDFII CEIL SATURATE unbounded\n\
-    kind gain 1023\n\
+    kind gain 16383\n\
     end\n";
 
 /// The same, of words of 16 bits before the point and 17 after it.
 const WIDE_GAIN: &str = "dsv-certificate 2\n\
     job OVERFLOW TDFII CEIL SATURATE unbounded\n\
     format 16 17\n\
-    kind gain 1023\n\
+    kind gain 16383\n\
     end\n";
 
 const WIDE: CertWords = CertWords::Said {
@@ -179,7 +179,7 @@ fn is_that_job(job: &CertifiedJob, words: CertWords) -> bool {
 fn is_gain_read(alloc: Global, text: &str, words: CertWords) -> bool {
     match read(alloc, text.as_bytes()) {
         Ok(Certificate::Gain { job, depth }) => {
-            is_that_job(&job, words) && depth == 1023 && depth == MOST_GAIN_DEPTH
+            is_that_job(&job, words) && depth == 16_383 && depth == MOST_GAIN_DEPTH
         }
         Ok(_) | Err(_) => false,
     }
@@ -208,7 +208,7 @@ fn is_gain_written(alloc: Global, words: CertWords, text: &str) -> Option<bool> 
         words,
         size: Size::Unbounded,
     };
-    write_gain(&mut sink, &job, 1023).ok()?;
+    write_gain(&mut sink, &job, 16_383).ok()?;
     Some(sink.bytes() == text.as_bytes())
 }
 

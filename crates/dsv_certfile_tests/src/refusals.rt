@@ -258,7 +258,7 @@ const KINDS: &[Refused] = &[
     Refused(VERSION, "kind gain 7\n", 2, TextFault::Kind),
     Refused(UNBOUNDED, "kind gains 7\n", 3, TextFault::Kind),
     Refused(UNBOUNDED, "kind GAIN 7\n", 3, TextFault::Kind),
-    Refused(UNBOUNDED, "kind gain 1024\n", 3, TextFault::Number),
+    Refused(UNBOUNDED, "kind gain 16384\n", 3, TextFault::Number),
     Refused(UNBOUNDED, "kind gain 4294967296\n", 3, TextFault::Number),
     Refused(UNBOUNDED, "kind gain 007\n", 3, TextFault::Number),
     Refused(UNBOUNDED, "kind gain 00\n", 3, TextFault::Number),
@@ -271,7 +271,7 @@ const KINDS: &[Refused] = &[
     Refused(UNBOUNDED, "kind gain\n", 3, TextFault::Line),
     Refused(UNBOUNDED, "kind gain 7 7\n", 3, TextFault::Line),
     Refused(UNBOUNDED, "kind gain 7 \n", 3, TextFault::Line),
-    Refused(UNBOUNDED, "kind gain 1024 7\n", 3, TextFault::Number),
+    Refused(UNBOUNDED, "kind gain 16384 7\n", 3, TextFault::Number),
     Refused(UNBOUNDED, "kind gain 7", 3, TextFault::End),
 ];
 

@@ -12,7 +12,8 @@ use Rattle.dsv_gain.specs.declared.outlook.Outlook.TheVariants as outlook
 use Rattle.dsv_gain.specs.declared.ends.Ends.{Ends}
 use Rattle.dsv_gain.specs.declared.ends.Ends.TheVariants as shown
 use Rattle.dsv_gain.specs.declared.search.Search.{Search}
-use Rattle.dsv_gain.specs.Gains.{hulls, hulls_after, pass_ends, after_pass, has_settled, best_or, gain_at, search, step_turn, run_turn, turn_outlook, gain_from, word_pass, gain_of}
+use Rattle.dsv_gain.specs.Samples.{pass_ends, after_pass}
+use Rattle.dsv_gain.specs.Gains.{hulls, hulls_after, has_settled, best_or, gain_at, search, step_turn, run_turn, turn_outlook, gain_from, word_pass, gain_of}
 use Rattle.dsv_gain.specs.Safe.{GainsAreFoundAgain}
 use Rattle.dsv_gain.proofs.Gains.{same_gain, answer_within}
 
@@ -34,22 +35,22 @@ kept_deep : (sample : ℕ) (best : Option Gain) (ranges : List Range) (gain : Ga
 kept_deep sample None ranges gain e = omega (arith, e)
 kept_deep sample (Some g) ranges gain e = e
 
-before_deep : (sample : ℕ) (gain : Gain) → DepthFrom (suc sample) None gain → DepthFrom sample None gain
-before_deep sample gain h = omega (arith, h)
+later_deep : (sample : ℕ) (best : Option Gain) (gain : Gain) → DepthFrom (suc sample) best gain → DepthFrom sample best gain
+later_deep sample None gain h = omega (arith, h)
+later_deep sample (Some g) gain h = h
 
 step_deep : (settled : Bool) (sample : ℕ) (next : Search → Outlook) (pass : Pass) (seen : List Range) (best : Option Gain) (e : Ends) (gain : Gain)
     → ((s : Search) → next s ≡ outlook.Safe gain → DepthFrom (suc sample) s.best gain) → turn_outlook next (step_turn settled sample pass seen best e) ≡ outlook.Safe gain → DepthFrom sample best gain
-step_deep settled sample next pass seen (Some g) (shown.Leaves value) gain rest h = ap (λ (x : Gain). x.depth) (same_gain g gain h)
-step_deep settled sample next pass seen None (shown.Leaves value) gain rest h = before_deep sample gain (rest (search pass seen None) h)
+step_deep settled sample next pass seen best (shown.Leaves value) gain rest h = later_deep sample best gain (rest (search pass seen best) h)
 step_deep true sample next pass seen best (shown.Words last) gain rest h = gain_deep sample best (hulls seen last) gain (same_gain (gain_at sample best (hulls seen last)) gain h)
 step_deep false sample next pass seen best (shown.Words last) gain rest h =
     kept_deep sample best (hulls seen last) gain (rest (search pass seen (Some (gain_at sample best (hulls seen last)))) h)
 
 run_deep : (nodes : List Node) (next : List ℕ) (sample : ℕ) (after : Search → Outlook) (s : Search) (e : Ends) (gain : Gain) → ((l : Search) → after l ≡ outlook.Safe gain → DepthFrom (suc sample) l.best gain)
-    → turn_outlook after (run_turn sample s.seen s.best (λ seen. step_turn (has_settled nodes (length next) (after_pass nodes next s.pass).point) sample (after_pass nodes next s.pass) seen s.best (pass_ends 0 nodes s.pass)) e) ≡ outlook.Safe gain → DepthFrom sample s.best gain
+    → turn_outlook after (run_turn sample s.seen s.best (λ seen. step_turn (has_settled nodes (after_pass nodes next s.pass)) sample (after_pass nodes next s.pass) seen s.best (pass_ends 0 nodes s.pass)) e) ≡ outlook.Safe gain → DepthFrom sample s.best gain
 run_deep nodes next sample after s (shown.Leaves value) gain rest h = best_deep (outlook.Leaves sample value) sample s.best gain (λ q. absurd cc) h
 run_deep nodes next sample after s (shown.Words now) gain rest h =
-    step_deep (has_settled nodes (length next) (after_pass nodes next s.pass).point) sample after (after_pass nodes next s.pass) (hulls_after s.seen now) s.best (pass_ends 0 nodes s.pass) gain rest h
+    step_deep (has_settled nodes (after_pass nodes next s.pass)) sample after (after_pass nodes next s.pass) (hulls_after s.seen now) s.best (pass_ends 0 nodes s.pass) gain rest h
 
 deep_from : (nodes : List Node) (next : List ℕ) (left sample : ℕ) (s : Search) (gain : Gain) → gain_from nodes next left sample s ≡ outlook.Safe gain → DepthFrom sample s.best gain
 deep_from nodes next zero sample s gain h = best_deep outlook.Deep sample s.best gain (λ q. absurd cc) h
@@ -86,11 +87,11 @@ run_again : (nodes : List Node) (next : List ℕ) (sample : ℕ) (after short : 
     → ((s : Search) → after s ≡ outlook.Safe gain → DepthFrom (suc sample) s.best gain)
     → ((s : Search) → sample ≡ gain.depth → short s ≡ best_or outlook.Deep s.best)
     → ((pass : Pass) (seen : List Range) → after (unfound pass (Some seen)) ≡ outlook.Safe gain → IsSafe (short (unfound pass (Some seen))))
-    → turn_outlook after (run_turn sample seen None (λ all. step_turn (has_settled nodes (length next) (after_pass nodes next pass).point) sample (after_pass nodes next pass) all None (pass_ends 0 nodes pass)) e) ≡ outlook.Safe gain
-    → IsSafe (turn_outlook short (run_turn sample seen None (λ all. step_turn (has_settled nodes (length next) (after_pass nodes next pass).point) sample (after_pass nodes next pass) all None (pass_ends 0 nodes pass)) e))
+    → turn_outlook after (run_turn sample seen None (λ all. step_turn (has_settled nodes (after_pass nodes next pass)) sample (after_pass nodes next pass) all None (pass_ends 0 nodes pass)) e) ≡ outlook.Safe gain
+    → IsSafe (turn_outlook short (run_turn sample seen None (λ all. step_turn (has_settled nodes (after_pass nodes next pass)) sample (after_pass nodes next pass) all None (pass_ends 0 nodes pass)) e))
 run_again nodes next sample after short pass seen (shown.Leaves value) gain deep last rest h = absurd (no_leaving sample value gain h)
 run_again nodes next sample after short pass seen (shown.Words now) gain deep last rest h =
-    step_again (has_settled nodes (length next) (after_pass nodes next pass).point) sample after short (after_pass nodes next pass) (hulls_after seen now) (pass_ends 0 nodes pass) gain deep last
+    step_again (has_settled nodes (after_pass nodes next pass)) sample after short (after_pass nodes next pass) (hulls_after seen now) (pass_ends 0 nodes pass) gain deep last
     (rest (after_pass nodes next pass) (hulls_after seen now)) h
 
 -- no sample is left where the depth is reached

@@ -24,9 +24,10 @@ use Rattle.dsv_gain.specs.declared.outlook.Outlook.TheVariants as outlook
 use Rattle.dsv_gain.specs.declared.ends.Ends.{Ends}
 use Rattle.dsv_gain.specs.declared.ends.Ends.TheVariants as shown
 use Rattle.dsv_gain.specs.declared.search.Search.{Search}
-use Rattle.dsv_gain.specs.Gains.{hulls, hulls_after, pass_ends, after_pass, has_settled, best_or, gain_at, search, step_turn, run_turn, turn_outlook, gain_from, word_pass, first_search, gain_of}
+use Rattle.dsv_gain.specs.Samples.{pass_ends, after_pass}
+use Rattle.dsv_gain.specs.Gains.{hulls, hulls_after, has_settled, best_or, gain_at, search, step_turn, run_turn, turn_outlook, gain_from, word_pass, first_search, gain_of}
 use Rattle.dsv_gain.specs.Safe.{HoldInRuns, NeverBreaks, IfSafe, IsWithin, GainsAreSafe}
-use Rattle.dsv_gain.proofs.Samples.{lie_words}
+use Rattle.dsv_gain.proofs.Values.{lie_words}
 use Rattle.dsv_gain.proofs.Hulls.{pass_words, words_in, hulls_left, hulls_right, run_ends, later_words, run_are, after_are}
 use Rattle.dsv_gain.proofs.Passes.{LiesIn, run_lies, next_has, all_have}
 use Rattle.dsv_gain.proofs.Pasts.{AreRegisters, zeros_registers, step_registers}
@@ -92,10 +93,9 @@ same_gain g gain e = cc
 step_finds : (net : Net) (settled : Bool) (sample : ℕ) (next : Search → Outlook) (pass : Pass) (seen : Option (List Range)) (now : List Range) (best : Option Gain) (e : Ends) (gain : Gain) → pass_words (length net.next) net.nodes pass ≡ Some now
     → pass_ends 0 net.nodes pass ≡ e → ((s : Search) → next s ≡ outlook.Safe gain → FindsOr net s.pass s.seen s.best gain)
     → turn_outlook next (step_turn settled sample (after_pass net.nodes net.next pass) (hulls_after seen now) best e) ≡ outlook.Safe gain → FindsOr net pass seen best gain
-step_finds net settled sample next pass seen now (Some g) (shown.Leaves value) gain e p rest h = inl (ap (λ (x : Gain). Some x) (same_gain g gain h))
-step_finds net settled sample next pass seen now None (shown.Leaves value) gain e p rest h =
-    elim (rest (search (after_pass net.nodes net.next pass) (hulls_after seen now) None) h) [
-      | inl q ↦ absurd (none_some gain q)
+step_finds net settled sample next pass seen now best (shown.Leaves value) gain e p rest h =
+    elim (rest (search (after_pass net.nodes net.next pass) (hulls_after seen now) best) h) [
+      | inl q ↦ inl q
       | inr f ↦ inr (later net pass seen now gain e f)
     ]
 step_finds net true sample next pass seen now best (shown.Words last) gain e p rest h = inr (here net pass seen now last sample best gain e (ap words_in p) (same_gain (gain_at sample best (hulls (hulls_after seen now) last)) gain h))
@@ -107,11 +107,11 @@ step_finds net false sample next pass seen now best (shown.Words last) gain e p 
     ]
 
 run_finds : (net : Net) (sample : ℕ) (next : Search → Outlook) (s : Search) (e : Ends) (gain : Gain) → pass_ends (length net.next) net.nodes s.pass ≡ e → ((l : Search) → next l ≡ outlook.Safe gain → FindsOr net l.pass l.seen l.best gain)
-    → turn_outlook next (run_turn sample s.seen s.best (λ seen. step_turn (has_settled net.nodes (length net.next) (after_pass net.nodes net.next s.pass).point) sample (after_pass net.nodes net.next s.pass) seen s.best (pass_ends 0 net.nodes s.pass)) e) ≡ outlook.Safe gain
+    → turn_outlook next (run_turn sample s.seen s.best (λ seen. step_turn (has_settled net.nodes (after_pass net.nodes net.next s.pass)) sample (after_pass net.nodes net.next s.pass) seen s.best (pass_ends 0 net.nodes s.pass)) e) ≡ outlook.Safe gain
     → FindsOr net s.pass s.seen s.best gain
 run_finds net sample next s (shown.Leaves value) gain p rest h = inl (best_cases (outlook.Leaves sample value) s.best gain (λ q. absurd cc) h)
 run_finds net sample next s (shown.Words now) gain p rest h =
-    step_finds net (has_settled net.nodes (length net.next) (after_pass net.nodes net.next s.pass).point) sample next s.pass s.seen now s.best (pass_ends 0 net.nodes s.pass) gain (ap words_in p) refl rest h
+    step_finds net (has_settled net.nodes (after_pass net.nodes net.next s.pass)) sample next s.pass s.seen now s.best (pass_ends 0 net.nodes s.pass) gain (ap words_in p) refl rest h
 
 finds : (net : Net) (left sample : ℕ) (s : Search) (gain : Gain) → gain_from net.nodes net.next left sample s ≡ outlook.Safe gain → FindsOr net s.pass s.seen s.best gain
 finds net zero sample s gain h = inl (best_cases outlook.Deep s.best gain (λ q. absurd cc) h)
@@ -142,12 +142,12 @@ found_safe net low high gain n l h d xs a =
     let start = zeros count in
     let inputs = all_between low high xs a in
     let registers = zeros_registers net low high n in
-    let lies = run_lies count net d.samples xs pass start None d.all refl inputs tt d.run_is (words_stand count net low high start n registers (omega arith) (λ j p. zero_at count j)) in
+    let lies = run_lies count net low high d.samples xs pass start None d.all refl inputs tt d.run_is (words_stand count net low high start n registers (omega arith) (λ j p. zero_at count j)) in
     let begun = All-weaker (LiesIn net d.all) Q (λ r q. hulls_left f d.all d.last r.exact long q last.words) (take (suc d.samples) (rows_from (step_of net) start xs)) lies in
     subst (λ (rs : List Range). All (LiesIn net rs) (rows_from (step_of net) start xs)) d.ranges_are
     (all_have net (AreRegisters net low high) (Between low high) Q d.samples
     (λ words x b r. step_registers net low high words x n l h b r)
-    (λ words ys b r q. next_has 0 net Q d.samples ys pass words d.last refl b
+    (λ words ys b r q. next_has 0 net low high Q d.samples ys pass words d.last b
     (λ row p. lie_words f (hulls d.all d.last) row.exact p) (λ row p. hulls_right f d.all d.last row.exact long first.words p) d.step_is (words_stand 0 net low high words n r (omega arith) (λ j p. absurd (omega arith))) q)
     start xs inputs registers (front_part Q d.samples (rows_from (step_of net) start xs) begun))
 
@@ -173,14 +173,17 @@ gain_within sample (Some gain) ranges b = (omega arith, omega arith)
 within_more : (m n : ℕ) (gain : Gain) → m ≤ n → IsWithin m gain → IsWithin n gain
 within_more m n gain l w = (w.0, omega arith)
 
+some_within : (m n : ℕ) (best : Option Gain) → m ≤ n → IfSome best (IsWithin m) → IfSome best (IsWithin n)
+some_within m n None l w = tt
+some_within m n (Some g) l w = within_more m n g l w
+
 best_within : (m n : ℕ) (best : Option Gain) (gain : Gain) → m ≤ n → IfSome best (IsWithin m) → best ≡ Some gain → IsWithin n gain
 best_within m n None gain l w e = absurd (none_some gain e)
 best_within m n (Some g) gain l w e = subst (IsWithin n) (some_same g gain e) (within_more m n g l w)
 
 step_within : (settled : Bool) (sample n : ℕ) (next : Search → Outlook) (pass : Pass) (seen : List Range) (best : Option Gain) (e : Ends) (gain : Gain) → sample < n → IfSome best (IsWithin sample)
     → ((s : Search) → IfSome s.best (IsWithin (suc sample)) → next s ≡ outlook.Safe gain → IsWithin n gain) → turn_outlook next (step_turn settled sample pass seen best e) ≡ outlook.Safe gain → IsWithin n gain
-step_within settled sample n next pass seen (Some g) (shown.Leaves value) gain l b rest h = best_within sample n (Some g) gain (omega arith) b (ap (λ (x : Gain). Some x) (same_gain g gain h))
-step_within settled sample n next pass seen None (shown.Leaves value) gain l b rest h = rest (search pass seen None) tt h
+step_within settled sample n next pass seen best (shown.Leaves value) gain l b rest h = rest (search pass seen best) (some_within sample (suc sample) best (omega arith) b) h
 step_within true sample n next pass seen best (shown.Words last) gain l b rest h =
     let new = gain_at sample best (hulls seen last) in
     subst (IsWithin n) (same_gain new gain h) (within_more (suc sample) n new l (gain_within sample best (hulls seen last) b))
@@ -189,10 +192,10 @@ step_within false sample n next pass seen best (shown.Words last) gain l b rest 
 
 run_within : (nodes : List Node) (next : List ℕ) (sample n : ℕ) (after : Search → Outlook) (s : Search) (e : Ends) (gain : Gain) → sample < n → IfSome s.best (IsWithin sample)
     → ((l : Search) → IfSome l.best (IsWithin (suc sample)) → after l ≡ outlook.Safe gain → IsWithin n gain)
-    → turn_outlook after (run_turn sample s.seen s.best (λ seen. step_turn (has_settled nodes (length next) (after_pass nodes next s.pass).point) sample (after_pass nodes next s.pass) seen s.best (pass_ends 0 nodes s.pass)) e) ≡ outlook.Safe gain → IsWithin n gain
+    → turn_outlook after (run_turn sample s.seen s.best (λ seen. step_turn (has_settled nodes (after_pass nodes next s.pass)) sample (after_pass nodes next s.pass) seen s.best (pass_ends 0 nodes s.pass)) e) ≡ outlook.Safe gain → IsWithin n gain
 run_within nodes next sample n after s (shown.Leaves value) gain l b rest h = best_within sample n s.best gain (omega arith) b (best_cases (outlook.Leaves sample value) s.best gain (λ q. absurd cc) h)
 run_within nodes next sample n after s (shown.Words now) gain l b rest h =
-    step_within (has_settled nodes (length next) (after_pass nodes next s.pass).point) sample n after (after_pass nodes next s.pass) (hulls_after s.seen now) s.best (pass_ends 0 nodes s.pass) gain l b rest h
+    step_within (has_settled nodes (after_pass nodes next s.pass)) sample n after (after_pass nodes next s.pass) (hulls_after s.seen now) s.best (pass_ends 0 nodes s.pass) gain l b rest h
 
 within_from : (nodes : List Node) (next : List ℕ) (left sample n : ℕ) (s : Search) (gain : Gain) → sample + left ≡ n → IfSome s.best (IsWithin sample) → gain_from nodes next left sample s ≡ outlook.Safe gain → IsWithin n gain
 within_from nodes next zero sample n s gain e b h = best_within sample n s.best gain (omega arith) b (best_cases outlook.Deep s.best gain (λ q. absurd cc) h)

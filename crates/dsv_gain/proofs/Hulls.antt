@@ -13,17 +13,17 @@ use Rattle.dsv_netlist.specs.declared.node.Node.TheVariants.{Input, Reg, MulCons
 use Rattle.dsv_netlist.specs.Nodes.{Net, node_exact}
 use Rattle.dsv_linear.specs.Facts.{LiesWithin}
 use Rattle.dsv_linear.specs.declared.range.Range.{Range}
-use Rattle.dsv_linear.specs.declared.point.Start.{Start}
-use Rattle.dsv_linear.specs.declared.point.Point.{Point}
 use Rattle.dsv_linear.specs.Forms.{◌>>=◌}
-use Rattle.dsv_linear.specs.Known.{ends_after, fresh}
 use Rattle.dsv_linear.proofs.Numbers.{some_of}
 use Rattle.dsv_gain.specs.declared.pass.Pass.{Pass}
 use Rattle.dsv_gain.specs.declared.ends.Ends.{Ends}
 use Rattle.dsv_gain.specs.declared.ends.Ends.TheVariants as shown
-use Rattle.dsv_gain.specs.Gains.{after_form, node_ends, ends_from, hull, hulls, hulls_after, pass_ends, after_pass}
+use Rattle.dsv_gain.specs.declared.weights.Weights.{Weights}
+use Rattle.dsv_gain.specs.declared.walk.Walk.{Walk}
+use Rattle.dsv_gain.specs.Samples.{weights_at, value_range, node_ends, with_ends, shown_by, then_ends, after_node, walk_from, begun, ends_from, hull, pass_with, pass_ends, after_pass}
+use Rattle.dsv_gain.specs.Gains.{hulls, hulls_after}
 use Rattle.dsv_gain.specs.Safe.{LieWithin}
-use Rattle.dsv_gain.proofs.Samples.{value_is, parts_are}
+use Rattle.dsv_gain.proofs.Values.{value_is, parts_are}
 
 -- both ends are words
 pub record HasWords (f : Format) (r : Range) : Type 0 where
@@ -101,30 +101,52 @@ fits (n ∷ ns) = length (node_exact [] n) + fits ns
 none_are : (f : Format) (all : List Range) → shown.Words [] ≡ shown.Words all → AreRanges f 0 all
 none_are f all e = let same : [] ≡ all = cc in subst (λ (rs : List Range). AreRanges f 0 rs) same (record { many = refl; words = All-nil (HasWords f) })
 
-node_are : (count : ℕ) (f : Format) (point : Point) (n : Node) (all : List Range) → node_ends count f point n ≡ shown.Words all → AreRanges f (length (node_exact [] n)) all
-node_are count f point Input all e = none_are f all e
-node_are count f point (Reg r) all e = none_are f all e
-node_are count f point (MulConst c i) all e = none_are f all e
-node_are count f point (Round i) all e = none_are f all e
-node_are count f point (Add i j) all e = none_are f all e
-node_are count f point (Sub i j) all e = none_are f all e
-node_are count f point (Scale i) all e = none_are f all e
-node_are count f point (Fit i) all e =
-    let o = value_is f (ends_after count point i) all e in
+node_are : (count : ℕ) (f : Format) (ranges : List Range) (w : Weights) (n : Node) (all : List Range) → node_ends count f ranges w n ≡ shown.Words all → AreRanges f (length (node_exact [] n)) all
+node_are count f ranges w Input all e = none_are f all e
+node_are count f ranges w (Reg r) all e = none_are f all e
+node_are count f ranges w (MulConst c i) all e = none_are f all e
+node_are count f ranges w (Round i) all e = none_are f all e
+node_are count f ranges w (Add i j) all e = none_are f all e
+node_are count f ranges w (Sub i j) all e = none_are f all e
+node_are count f ranges w (Scale i) all e = none_are f all e
+node_are count f ranges w (Fit i) all e =
+    let o = value_is f (value_range count ranges w) all e in
     subst (λ (rs : List Range). AreRanges f 1 rs) (sym o.alone) (record { many = refl; words = All-cons (HasWords f) o.ends [] (record { low = o.low; high = o.high }) (All-nil (HasWords f)) })
 
-ends_are : (count : ℕ) (start : Start) (ns : List Node) (point : Point) (all : List Range) → ends_from count start ns point ≡ shown.Words all → AreRanges start.format (fits ns) all
-ends_are count start [] point all e = none_are start.format all e
-ends_are count start (n ∷ ns) point all e =
-    let f = start.format in
-    let last = after_form start point n in
-    let p = parts_are (node_ends count f point n) (ends_from count start ns last) all e in
-    let a = node_are count f point n p.ranges p.here in
-    let b = ends_are count start ns last p.more p.there in
+-- a walk that shows words was made
+pub record IsShown (here rest : Walk → Ends) (o : Option Walk) (all : List Range) : Type 0 where
+  pub walk : Walk
+  pub made : o ≡ Some walk
+  pub shows : with_ends (here walk) (rest walk) ≡ shown.Words all
+
+pub shown_is : (here rest : Walk → Ends) (o : Option Walk) (all : List Range) → then_ends (shown.Leaves 0) here rest o ≡ shown.Words all → IsShown here rest o all
+shown_is here rest None all e = absurd cc
+shown_is here rest (Some walk) all e = record { walk = walk; made = refl; shows = e }
+
+ends_are : (count : ℕ) (pass : Pass) (ns : List Node) (walk : Walk) (all : List Range) → ends_from count pass ns walk ≡ shown.Words all → AreRanges pass.format (fits ns) all
+ends_are count pass [] walk all e = none_are pass.format all e
+ends_are count pass (n ∷ ns) walk all e =
+    let f = pass.format in
+    let i = length walk.weights in
+    let s = shown_is (shown_by count f i n) (ends_from count pass ns) (after_node pass walk n) all e in
+    let p = parts_are (shown_by count f i n s.walk) (ends_from count pass ns s.walk) all s.shows in
+    let a = node_are count f s.walk.ranges (weights_at s.walk.weights i) n p.ranges p.here in
+    let b = ends_are count pass ns s.walk p.more p.there in
     subst (λ (rs : List Range). AreRanges f (fits (n ∷ ns)) rs) p.together (record {
       many = length-append p.ranges p.more ∙ rw (a.many, b.many) refl;
       words = All-append (HasWords f) p.ranges p.more a.words b.words;
     })
+
+-- where all of a walk is shown, it was made
+pub ends_made : (count : ℕ) (pass : Pass) (ns : List Node) (walk : Walk) (all : List Range) → ends_from count pass ns walk ≡ shown.Words all → (final : Walk) × (walk_from pass ns walk ≡ Some final)
+ends_made count pass [] walk all e = (walk, refl)
+ends_made count pass (n ∷ ns) walk all e =
+    let f = pass.format in
+    let i = length walk.weights in
+    let s = shown_is (shown_by count f i n) (ends_from count pass ns) (after_node pass walk n) all e in
+    let p = parts_are (shown_by count f i n s.walk) (ends_from count pass ns s.walk) all s.shows in
+    let last = ends_made count pass ns s.walk p.more p.there in
+    (last.0, ap (λ (o : Option Walk). o >>= walk_from pass ns) s.made ∙ last.1)
 
 -- ---- a sample's ranges, where all of them have words as their ends
 abbrev pub words_in : Ends → Option (List Range)
@@ -153,8 +175,8 @@ later_words count net (suc n) pass = later_words count net n (after_pass net.nod
 abbrev pub AreBefore : Net → Option (List Range) → Type 0
 AreBefore net before = IfSome before (AreRanges net.format (fits net.nodes))
 
-pub pass_are : (count : ℕ) (net : Net) (pass : Pass) (ends : List Range) → pass.start.format ≡ net.format → pass_words count net.nodes pass ≡ Some ends → AreRanges net.format (fits net.nodes) ends
-pass_are count net pass ends f e = subst (λ (g : Format). AreRanges g (fits net.nodes) ends) f (ends_are count pass.start net.nodes (fresh pass.point) ends (words_are (pass_ends count net.nodes pass) ends e))
+pub pass_are : (count : ℕ) (net : Net) (pass : Pass) (ends : List Range) → pass.format ≡ net.format → pass_words count net.nodes pass ≡ Some ends → AreRanges net.format (fits net.nodes) ends
+pass_are count net pass ends f e = subst (λ (g : Format). AreRanges g (fits net.nodes) ends) f (ends_are count pass net.nodes (begun pass) ends (words_are (pass_ends count net.nodes pass) ends e))
 
 pub hulls_after-are : (net : Net) (before : Option (List Range)) (ends : List Range) → AreBefore net before → AreRanges net.format (fits net.nodes) ends → AreRanges net.format (fits net.nodes) (hulls_after before ends)
 hulls_after-are net None ends b a = a
@@ -166,7 +188,14 @@ pub hulls_after-last : (net : Net) (before : Option (List Range)) (ends : List R
 hulls_after-last net None ends vs b a l = l
 hulls_after-last net (Some others) ends vs b a l = hulls_right net.format others ends vs (b.many ∙ sym a.many) b.words l
 
-pub run_are : (count : ℕ) (net : Net) (n : ℕ) (pass : Pass) (before : Option (List Range)) (all : List Range) → pass.start.format ≡ net.format → AreBefore net before → run_ends count net n pass before ≡ Some all
+pub format_stays : (next : List ℕ) (pass : Pass) (o : Option Walk) → (pass_with next pass o).format ≡ pass.format
+format_stays next pass None = refl
+format_stays next pass (Some walk) = refl
+
+pub format_after : (net : Net) (pass : Pass) → pass.format ≡ net.format → (after_pass net.nodes net.next pass).format ≡ net.format
+format_after net pass e = format_stays net.next pass (walk_from pass net.nodes (begun pass)) ∙ e
+
+pub run_are : (count : ℕ) (net : Net) (n : ℕ) (pass : Pass) (before : Option (List Range)) (all : List Range) → pass.format ≡ net.format → AreBefore net before → run_ends count net n pass before ≡ Some all
     → AreRanges net.format (fits net.nodes) all
 run_are count net zero pass before all f b e =
     let one = some_of (pass_words count net.nodes pass) (λ ends. Some (hulls_after before ends)) all e in
@@ -175,10 +204,10 @@ run_are count net zero pass before all f b e =
 run_are count net (suc n) pass before all f b e =
     let after = after_pass net.nodes net.next pass in
     let one = some_of (pass_words count net.nodes pass) (λ ends. run_ends count net n after (Some (hulls_after before ends))) all e in
-    run_are count net n after (Some (hulls_after before one.0)) all f (hulls_after-are net before one.0 b (pass_are count net pass one.0 f one.1)) one.2
+    run_are count net n after (Some (hulls_after before one.0)) all (format_after net pass f) (hulls_after-are net before one.0 b (pass_are count net pass one.0 f one.1)) one.2
 
 -- what lies in the ranges before lies in all
-pub run_keeps : (count : ℕ) (net : Net) (n : ℕ) (pass : Pass) (others all : List Range) (vs : List ℤ) → pass.start.format ≡ net.format → AreRanges net.format (fits net.nodes) others → run_ends count net n pass (Some others) ≡ Some all
+pub run_keeps : (count : ℕ) (net : Net) (n : ℕ) (pass : Pass) (others all : List Range) (vs : List ℤ) → pass.format ≡ net.format → AreRanges net.format (fits net.nodes) others → run_ends count net n pass (Some others) ≡ Some all
     → LieWithin net.format others vs → LieWithin net.format all vs
 run_keeps count net zero pass others all vs f b e l =
     let one = some_of (pass_words count net.nodes pass) (λ ends. Some (hulls others ends)) all e in
@@ -189,8 +218,8 @@ run_keeps count net (suc n) pass others all vs f b e l =
     let after = after_pass net.nodes net.next pass in
     let one = some_of (pass_words count net.nodes pass) (λ ends. run_ends count net n after (Some (hulls others ends))) all e in
     let a = pass_are count net pass one.0 f one.1 in
-    run_keeps count net n after (hulls others one.0) all vs f (hulls_are net.format (fits net.nodes) others one.0 b a) one.2 (hulls_left net.format others one.0 vs (b.many ∙ sym a.many) l a.words)
+    run_keeps count net n after (hulls others one.0) all vs (format_after net pass f) (hulls_are net.format (fits net.nodes) others one.0 b a) one.2 (hulls_left net.format others one.0 vs (b.many ∙ sym a.many) l a.words)
 
-pub after_are : (count : ℕ) (net : Net) (n : ℕ) (pass : Pass) (ends : List Range) → pass.start.format ≡ net.format → later_words count net n pass ≡ Some ends → AreRanges net.format (fits net.nodes) ends
+pub after_are : (count : ℕ) (net : Net) (n : ℕ) (pass : Pass) (ends : List Range) → pass.format ≡ net.format → later_words count net n pass ≡ Some ends → AreRanges net.format (fits net.nodes) ends
 after_are count net zero pass ends f e = pass_are count net pass ends f e
-after_are count net (suc n) pass ends f e = after_are count net n (after_pass net.nodes net.next pass) ends f e
+after_are count net (suc n) pass ends f e = after_are count net n (after_pass net.nodes net.next pass) ends (format_after net pass f) e

@@ -1,4 +1,13 @@
-mod Samples
+mod Values
+mod Weighing
+mod Masses
+mod Bounds
+mod Widening
+mod Walks
+mod Solutions
+mod Rounded
+mod Nodes
+mod Walking
 mod Hulls
 mod Passes
 mod Pasts

@@ -1,14 +1,15 @@
 -- Loops over nodes, ranges, registers and samples.
-use Rattle.std.proofs.Common.{◌≡◌, ℕ, zero, suc, ◌+◌, ◌-◌, ◌<◌, ◌≤◌, inl, inr, ◌⊎◌, Bool, false, List, [], ◌∷◌, ◌++◌, length, get_or, take, refl, sym, ap, ◌∙◌, arith, add-one, zero-add, length-append}
-use Rattle.std.specs.Prelude.{Some, None}
-use Rattle.std.proofs.lemmas.List.{take_more, append-nil, append_assoc}
+use Rattle.std.proofs.Common.{◌≡◌, ℕ, zero, suc, ◌+◌, ◌-◌, ◌<◌, ◌≤◌, inl, inr, ◌⊎◌, Bool, false, List, [], ◌∷◌, ◌++◌, length, get_or, take, drop, refl, sym, ap, ◌∙◌, arith, add-one, zero-add, length-append}
+use Rattle.std.specs.Prelude.{Option, Some, None}
+use Rattle.std.proofs.lemmas.List.{take_more, drop_more, drop_all, append-nil, append_assoc}
 use Rattle.dsv_netlist.specs.declared.node.Node.{Node}
+use Rattle.dsv_netlist.specs.declared.node.Node.TheVariants.{Input, Reg, MulConst, Round, Add, Sub, Fit, Scale}
 use Rattle.dsv_linear.specs.declared.range.Range.{Range}
-use Rattle.dsv_linear.specs.declared.point.Start.{Start}
-use Rattle.dsv_linear.specs.declared.point.Point.{Point}
-use Rattle.dsv_linear.specs.Forms.{unit}
+use Rattle.dsv_linear.specs.Forms.{◌>>=◌, unit}
 use Rattle.dsv_gain.specs.declared.outlook.Outlook.{Outlook}
 use Rattle.dsv_gain.specs.declared.pass.Pass.{Pass}
+use Rattle.dsv_gain.specs.declared.pass.Sample.{Sample}
+use Rattle.dsv_gain.specs.declared.walk.Walk.{Walk}
 use Rattle.dsv_gain.specs.declared.outlook.Gain.{Gain}
 use Rattle.dsv_gain.specs.declared.ends.Ends.{Ends}
 use Rattle.dsv_gain.specs.declared.ends.SampleEnds.{SampleEnds}
@@ -16,7 +17,9 @@ use Rattle.dsv_gain.specs.declared.ends.Ends.TheVariants as shown
 use Rattle.dsv_gain.specs.declared.search.Search.{Search}
 use Rattle.dsv_gain.specs.declared.search.Turn.{Turn}
 use Rattle.dsv_gain.specs.declared.search.Turn.TheVariants as turns
-use Rattle.dsv_gain.specs.Gains.{after_form, forms_from, node_ends, later_ends, with_ends, ends_from, hull, hulls, hulls_after, symbol_registers, is_past, gives_past, pass_ends, after_pass, has_settled, gain_at, gain_turn, step_turn, run_turn, sample_turn, turn_outlook, gain_from}
+use Rattle.dsv_gain.specs.Samples.{own_after, after_node, walk_from, begun, later_ends, with_ends, shown_by, then_ends, ends_from, hull, pass_ends, after_pass}
+use Rattle.dsv_gain.proofs.Walks.{step_is, weights_long}
+use Rattle.dsv_gain.specs.Gains.{hulls, hulls_after, symbol_registers, is_past, gives_past, first_ranges, sample_symbols, has_settled, gain_at, gain_turn, step_turn, run_turn, sample_turn, turn_outlook, gain_from}
 
 -- ---- hulls
 hulls_next : (rs ss : List Range) (i : ℕ) (d : Range) → i < length rs → i < length ss → hulls (take (suc i) rs) (take (suc i) ss) ≡ hulls (take i rs) (take i ss) ++ hull (get_or rs i d) (get_or ss i d) ∷ []
@@ -39,7 +42,7 @@ hulls_all (r ∷ rs) (s ∷ ss) zero h = elim h [ inl e ↦ absurd (omega arith)
 hulls_all (r ∷ rs) (s ∷ ss) (suc i) h = ap (λ ts. hull r s ∷ ts) (hulls_all rs ss i (elim h [ inl e ↦ inl (omega arith) | inr e ↦ inr (omega arith) ]))
 
 -- ---- registers
-pub symbols_more : (n : ℕ) → symbol_registers (n + 1) ≡ symbol_registers n ++ (record { form = Some (unit n); interval = None }) ∷ []
+pub symbols_more : (n : ℕ) → symbol_registers (n + 1) ≡ symbol_registers n ++ unit n ∷ []
 symbols_more n = ap symbol_registers (add-one n)
 
 pub gives_past-get_or : (forward : ℕ) (nodes : List Node) (k : ℕ) (d : Node) → k < length nodes → gives_past forward nodes k ≡ is_past forward (get_or nodes k d)
@@ -52,11 +55,7 @@ gives_past-outside forward [] k h = refl
 gives_past-outside forward (node ∷ nodes) zero h = absurd (omega arith)
 gives_past-outside forward (node ∷ nodes) (suc k) h = gives_past-outside forward nodes k (omega arith)
 
--- ---- nodes
-forms_next : (start : Start) (nodes : List Node) (node : Node) (point : Point) → forms_from start (nodes ++ node ∷ []) point ≡ after_form start (forms_from start nodes point) node
-forms_next start [] node point = refl
-forms_next start (n ∷ nodes) node point = forms_next start nodes node (after_form start point n)
-
+-- ---- what is shown of exact values
 later_none : (rs : List Range) → later_ends rs (shown.Words []) ≡ shown.Words rs
 later_none rs = ap (λ (ts : List Range). shown.Words ts) (append-nil rs)
 
@@ -74,34 +73,103 @@ with_assoc (shown.Words rs) (shown.Leaves value) c = refl
 with_assoc (shown.Words rs) (shown.Words ss) (shown.Leaves value) = ap (λ (k : ℕ). shown.Leaves k) (let e = length-append rs ss in omega arith)
 with_assoc (shown.Words rs) (shown.Words ss) (shown.Words ts) = ap (λ (us : List Range). shown.Words us) (sym (append_assoc rs ss ts))
 
-ends_next : (count : ℕ) (start : Start) (nodes : List Node) (node : Node) (point : Point) → ends_from count start (nodes ++ node ∷ []) point ≡ with_ends (ends_from count start nodes point) (node_ends count start.format (forms_from start nodes point) node)
-ends_next count start [] node point = with_none (node_ends count start.format point node) ∙ sym (with_first (node_ends count start.format point node))
-ends_next count start (n ∷ nodes) node point =
-    let here = node_ends count start.format point n in
-    let next = after_form start point n in
-    ap (with_ends here) (ends_next count start nodes node next) ∙ with_assoc here (ends_from count start nodes next) (node_ends count start.format (forms_from start nodes next) node)
+-- ---- nodes
+-- after the first nodes of a sample, where the start has so many symbols: what is left comes to the whole
+pub record Walked (count : ℕ) (pass : Pass) (nodes : List Node) (i : ℕ) (walk : Walk) (ends : SampleEnds) : Type 0 where
+  pub walk_is : walk_from pass (drop i nodes) walk ≡ walk_from pass nodes (begun pass)
+  pub run_is : with_ends ends.run (ends_from count pass (drop i nodes) walk) ≡ pass_ends count nodes pass
+  pub step_is : with_ends ends.step (ends_from 0 pass (drop i nodes) walk) ≡ pass_ends 0 nodes pass
+  pub few : walk.own ≤ pass.count + i
 
--- what is known after the first nodes, where the start has so many symbols
-pub record Known (count : ℕ) (start : Start) (nodes : List Node) (before point : Point) (ends : SampleEnds) : Type 0 where
-  pub point_is : point ≡ forms_from start nodes before
-  pub run_is : ends.run ≡ ends_from count start nodes before
-  pub step_is : ends.step ≡ ends_from 0 start nodes before
+pub walked_first : (count : ℕ) (pass : Pass) (nodes : List Node) (walk : Walk) (ends : SampleEnds) → walk ≡ begun pass → ends.run ≡ shown.Words [] → ends.step ≡ shown.Words [] → Walked count pass nodes 0 walk ends
+walked_first count pass nodes walk ends w r s = record {
+  walk_is = ap (walk_from pass nodes) w;
+  run_is = rw (w, r) (with_first (pass_ends count nodes pass));
+  step_is = rw (w, s) (with_first (pass_ends 0 nodes pass));
+  few = rw w (omega arith);
+}
 
-ends_more : (count : ℕ) (start : Start) (nodes : List Node) (d : Node) (i : ℕ) (before point : Point) (ends more : Ends) → i < length nodes → point ≡ forms_from start (take i nodes) before
-    → ends ≡ ends_from count start (take i nodes) before → more ≡ with_ends ends (node_ends count start.format point (get_or nodes i d)) → more ≡ ends_from count start (take (i + 1) nodes) before
-ends_more count start nodes d i before point ends more l k e q =
-    q ∙ rw (k, e) (sym (ends_next count start (take i nodes) (get_or nodes i d) before)) ∙ ap (λ ns. ends_from count start ns before) (sym (take_more nodes i d l))
-
-pub known_more : (count : ℕ) (start : Start) (nodes : List Node) (d : Node) (i : ℕ) (before point now : Point) (ends more : SampleEnds) → i < length nodes → Known count start (take i nodes) before point ends
-    → now ≡ after_form start point (get_or nodes i d) → more.run ≡ with_ends ends.run (node_ends count start.format point (get_or nodes i d))
-    → more.step ≡ with_ends ends.step (node_ends 0 start.format point (get_or nodes i d)) → Known count start (take (i + 1) nodes) before now more
-known_more count start nodes d i before point now ends more l k p q r =
+ends_more : (count : ℕ) (pass : Pass) (nodes : List Node) (d : Node) (i : ℕ) (walk next : Walk) (ends more : Ends) → i < length nodes → Some next ≡ after_node pass walk (get_or nodes i d)
+    → with_ends ends (ends_from count pass (drop i nodes) walk) ≡ pass_ends count nodes pass → more ≡ with_ends ends (shown_by count pass.format (length walk.weights) (get_or nodes i d) next)
+    → with_ends more (ends_from count pass (drop (i + 1) nodes) next) ≡ pass_ends count nodes pass
+ends_more count pass nodes d i walk next ends more l e h q =
     let n = get_or nodes i d in
-    record {
-      point_is = p ∙ ap (λ m. after_form start m n) k.point_is ∙ sym (forms_next start (take i nodes) n before) ∙ ap (λ ns. forms_from start ns before) (sym (take_more nodes i d l));
-      run_is = ends_more count start nodes d i before point ends.run more.run l k.point_is k.run_is q;
-      step_is = ends_more 0 start nodes d i before point ends.step more.step l k.point_is k.step_is r;
-    }
+    let here = shown_by count pass.format (length walk.weights) n in
+    let rest = ends_from count pass (drop (i + 1) nodes) in
+    ap (λ (m : Ends). with_ends m (rest next)) q
+    ∙ sym (with_assoc ends (here next) (rest next))
+    ∙ ap (λ (o : Option Walk). with_ends ends (then_ends (shown.Leaves 0) here rest o)) e
+    ∙ sym (ap (λ (ns : List Node). with_ends ends (ends_from count pass ns walk)) (drop_more nodes i d l))
+    ∙ h
+
+own_more : (own : ℕ) (n : Node) → own_after own n ≤ suc own
+own_more own Input = omega arith
+own_more own (Reg r) = omega arith
+own_more own (MulConst c i) = omega arith
+own_more own (Round i) = omega arith
+own_more own (Add i j) = omega arith
+own_more own (Sub i j) = omega arith
+own_more own (Fit i) = omega arith
+own_more own (Scale i) = omega arith
+
+own_is : (pass : Pass) (walk next : Walk) (n : Node) → Some next ≡ after_node pass walk n → next.own ≡ own_after walk.own n
+own_is pass walk next n e = ap (λ (w : Walk). w.own) (step_is pass walk n next (sym e)).same
+
+pub weights_more : (pass : Pass) (walk next : Walk) (n : Node) → Some next ≡ after_node pass walk n → length walk.weights < length next.weights
+weights_more pass walk next n e = let long = weights_long pass walk next n (step_is pass walk n next (sym e)) in omega (arith, long)
+
+pub walked_more : (count : ℕ) (pass : Pass) (nodes : List Node) (d : Node) (i : ℕ) (walk next : Walk) (ends more : SampleEnds) → i < length nodes → Walked count pass nodes i walk ends
+    → Some next ≡ after_node pass walk (get_or nodes i d) → more.run ≡ with_ends ends.run (shown_by count pass.format (length walk.weights) (get_or nodes i d) next)
+    → more.step ≡ with_ends ends.step (shown_by 0 pass.format (length walk.weights) (get_or nodes i d) next) → Walked count pass nodes (i + 1) next more
+walked_more count pass nodes d i walk next ends more l w e q r = record {
+  walk_is = ap (λ (o : Option Walk). o >>= walk_from pass (drop (i + 1) nodes)) e ∙ sym (ap (λ (ns : List Node). walk_from pass ns walk) (drop_more nodes i d l)) ∙ w.walk_is;
+  run_is = ends_more count pass nodes d i walk next ends.run more.run l e w.run_is q;
+  step_is = ends_more 0 pass nodes d i walk next ends.step more.step l e w.step_is r;
+  few = let few = w.few in let m = own_more walk.own (get_or nodes i d) in let o = own_is pass walk next (get_or nodes i d) e in omega (arith, few, m, o);
+}
+
+-- the walk is given up
+ends_left : (count : ℕ) (pass : Pass) (nodes : List Node) (d : Node) (i : ℕ) (walk : Walk) (ends last : Ends) → i < length nodes → None ≡ after_node pass walk (get_or nodes i d)
+    → with_ends ends (ends_from count pass (drop i nodes) walk) ≡ pass_ends count nodes pass → last ≡ with_ends ends (shown.Leaves 0) → last ≡ pass_ends count nodes pass
+ends_left count pass nodes d i walk ends last l e h q =
+    let n = get_or nodes i d in
+    q
+    ∙ ap (λ (o : Option Walk). with_ends ends (then_ends (shown.Leaves 0) (shown_by count pass.format (length walk.weights) n) (ends_from count pass (drop (i + 1) nodes)) o)) e
+    ∙ sym (ap (λ (ns : List Node). with_ends ends (ends_from count pass ns walk)) (drop_more nodes i d l))
+    ∙ h
+
+-- what a sample shows, and what is known after it
+pub record IsSample (count : ℕ) (pass : Pass) (nodes : List Node) (it : Sample) : Type 0 where
+  pub walk_is : it.walk ≡ walk_from pass nodes (begun pass)
+  pub run_is : it.ends.run ≡ pass_ends count nodes pass
+  pub step_is : it.ends.step ≡ pass_ends 0 nodes pass
+
+pub walked_left : (count : ℕ) (pass : Pass) (nodes : List Node) (d : Node) (i : ℕ) (walk : Walk) (ends last : SampleEnds) → i < length nodes → Walked count pass nodes i walk ends → None ≡ after_node pass walk (get_or nodes i d)
+    → last.run ≡ with_ends ends.run (shown.Leaves 0) → last.step ≡ with_ends ends.step (shown.Leaves 0) → IsSample count pass nodes (record { ends = last; walk = None })
+walked_left count pass nodes d i walk ends last l w e q r = record {
+  walk_is = ap (λ (o : Option Walk). o >>= walk_from pass (drop (i + 1) nodes)) e ∙ sym (ap (λ (ns : List Node). walk_from pass ns walk) (drop_more nodes i d l)) ∙ w.walk_is;
+  run_is = ends_left count pass nodes d i walk ends.run last.run l e w.run_is q;
+  step_is = ends_left 0 pass nodes d i walk ends.step last.step l e w.step_is r;
+}
+
+pub walked_all : (count : ℕ) (pass : Pass) (nodes : List Node) (i : ℕ) (walk : Walk) (ends : SampleEnds) → length nodes ≤ i → Walked count pass nodes i walk ends → IsSample count pass nodes (record { ends = ends; walk = Some walk })
+walked_all count pass nodes i walk ends l w = record {
+  walk_is = sym (ap (λ (ns : List Node). walk_from pass ns walk) (drop_all i nodes l)) ∙ w.walk_is;
+  run_is = sym (with_none ends.run) ∙ sym (ap (λ (ns : List Node). with_ends ends.run (ends_from count pass ns walk)) (drop_all i nodes l)) ∙ w.run_is;
+  step_is = sym (with_none ends.step) ∙ sym (ap (λ (ns : List Node). with_ends ends.step (ends_from 0 pass ns walk)) (drop_all i nodes l)) ∙ w.step_is;
+}
+
+-- ---- lists of what nodes bring
+joined_symbols : (input : Range) (nodes : List Node) (n : Node) → sample_symbols input (nodes ++ n ∷ []) ≡ sample_symbols input nodes ++ first_ranges input n
+joined_symbols input [] n = append-nil (first_ranges input n)
+joined_symbols input (m ∷ nodes) n = ap (λ (rs : List Range). first_ranges input m ++ rs) (joined_symbols input nodes n) ∙ sym (append_assoc (first_ranges input m) (sample_symbols input nodes) (first_ranges input n))
+
+pub symbols_next : (input : Range) (nodes : List Node) (d : Node) (i : ℕ) (before old now : List Range) → i < length nodes → old ≡ before ++ sample_symbols input (take i nodes)
+    → now ≡ old ++ first_ranges input (get_or nodes i d) → now ≡ before ++ sample_symbols input (take (i + 1) nodes)
+symbols_next input nodes d i before old now l o e =
+    e ∙ ap (λ (rs : List Range). rs ++ first_ranges input (get_or nodes i d)) o
+    ∙ append_assoc before (sample_symbols input (take i nodes)) (first_ranges input (get_or nodes i d))
+    ∙ ap (λ (rs : List Range). before ++ rs) (sym (joined_symbols input (take i nodes) (get_or nodes i d)) ∙ ap (sample_symbols input) (sym (take_more nodes i d l)))
 
 -- ---- samples
 -- one sample more: what is left comes to the same
@@ -128,10 +196,10 @@ search_over nodes next limit i s found g l h e =
 -- it has ranges of words of either kind
 pub turn_is : (nodes : List Node) (next : List ℕ) (sample : ℕ) (s : Search) (pass : Pass) (now seen last ranges : List Range) (settled : Bool) (gain : Gain) (result : Turn)
     → pass_ends (length next) nodes s.pass ≡ shown.Words now → pass_ends 0 nodes s.pass ≡ shown.Words last → pass ≡ after_pass nodes next s.pass → seen ≡ hulls_after s.seen now
-    → settled ≡ has_settled nodes (length next) pass.point → ranges ≡ hulls seen last → gain ≡ gain_at sample s.best ranges → result ≡ gain_turn settled pass seen gain → result ≡ sample_turn nodes next sample s
+    → settled ≡ has_settled nodes pass → ranges ≡ hulls seen last → gain ≡ gain_at sample s.best ranges → result ≡ gain_turn settled pass seen gain → result ≡ sample_turn nodes next sample s
 turn_is nodes next sample s pass now seen last ranges settled gain result e p a c d f g h =
     let t = after_pass nodes next s.pass in
     let all = hulls_after s.seen now in
-    let bit = has_settled nodes (length next) t.point in
+    let bit = has_settled nodes t in
     let same : gain_turn settled pass seen gain ≡ gain_turn bit t all (gain_at sample s.best (hulls all last)) = rw (g, f, d, a, c) refl in
     h ∙ same ∙ sym (ap (run_turn sample s.seen s.best (λ rs. step_turn bit sample t rs s.best (pass_ends 0 nodes s.pass))) e ∙ ap (step_turn bit sample t all s.best) p)

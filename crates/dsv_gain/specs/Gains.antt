@@ -1,7 +1,7 @@
 -- What the runs of a netlist show of its exact values, whatever their length: a pass of linear
 -- forms from registers that are any words, each a symbol of its own. In runs from registers of
 -- zeros these symbols, the first ones, are 0.
-use Rattle.std.specs.Prelude.{ℕ, zero, suc, ◌+◌, ◌-◌, ◌*◌, Bool, true, false, nat_lt}
+use Rattle.std.specs.Prelude.{ℕ, zero, suc, ◌-◌, ◌*◌, Bool, true, false, nat_lt}
 use Rattle.std.specs.Prelude.{if◌then◌else◌, List, [], ◌∷◌, ◌++◌, length, take, replicate}
 use Rattle.std.specs.Prelude.{Option, Some, None, ℤ, pos, ◌-ℤ◌, ◌*ℤ◌, int_lt}
 use Rattle.std.specs.List.{list_all}
@@ -13,12 +13,7 @@ use Rattle.dsv_netlist.specs.declared.node.Node.TheVariants.{Input, Reg, MulCons
 use Rattle.dsv_netlist.specs.declared.node.Node.TheVariants.{Round, Add, Sub, Fit, Scale}
 use Rattle.dsv_netlist.specs.Nodes.{Net}
 use Rattle.dsv_linear.specs.declared.range.Range.{Range}
-use Rattle.dsv_linear.specs.declared.point.Estimate.{Estimate}
-use Rattle.dsv_linear.specs.declared.point.Start.{Start}
-use Rattle.dsv_linear.specs.declared.point.Point.{Point}
 use Rattle.dsv_linear.specs.Forms.{◌>>=◌, scale, range_scale, range, unit, least, greatest}
-use Rattle.dsv_linear.specs.Known.{are_words, ends_after, node_entry, advanced, fresh, loaded}
-use Rattle.dsv_linear.specs.Known.{form_at}
 use Rattle.dsv_gain.specs.declared.ends.Ends.{Ends}
 use Rattle.dsv_gain.specs.declared.ends.Ends.TheVariants as ends
 use Rattle.dsv_gain.specs.declared.pass.Pass.{Pass}
@@ -28,65 +23,9 @@ use Rattle.dsv_gain.specs.declared.outlook.Outlook.TheVariants as outlook
 use Rattle.dsv_gain.specs.declared.search.Search.{Search}
 use Rattle.dsv_gain.specs.declared.search.Turn.{Turn}
 use Rattle.dsv_gain.specs.declared.search.Turn.TheVariants as turns
+use Rattle.dsv_gain.specs.Samples.{form_at, hull, pass_ends, after_pass}
 
--- ---- one sample
--- a point with what a node adds: its form alone, no interval and no fact
-abbrev pub after_form : Start → Point → Node → Point
-after_form start point node = advanced point (node_entry start point node) None None
-
-abbrev pub forms_from : Start → List Node → Point → Point
-forms_from start [] point = point
-forms_from start (node ∷ nodes) point = forms_from start nodes (after_form start point node)
-
--- the range of an exact value, where it is known and its ends are words
-abbrev pub value_ends : Format → Option Range → Ends
-value_ends format None = ends.Leaves 0
-value_ends format (Some r) = if are_words format r then ends.Words (r ∷ []) else ends.Leaves 0
-
--- what is shown of what a node fits, if it fits anything, where the first so many symbols are 0
-abbrev pub node_ends : ℕ → Format → Point → Node → Ends
-node_ends count format point Input = ends.Words []
-node_ends count format point (Reg register) = ends.Words []
-node_ends count format point (MulConst coeff of) = ends.Words []
-node_ends count format point (Round of) = ends.Words []
-node_ends count format point (Add left right) = ends.Words []
-node_ends count format point (Sub left right) = ends.Words []
-node_ends count format point (Fit of) = value_ends format (ends_after count point of)
-node_ends count format point (Scale of) = ends.Words []
-
--- what is shown after so many values whose ends are words
-abbrev pub later_ends : List Range → Ends → Ends
-later_ends ranges (ends.Words more) = ends.Words (ranges ++ more)
-later_ends ranges (ends.Leaves value) = ends.Leaves (length ranges + value)
-
--- what is shown of some values and of those after them
-abbrev pub with_ends : Ends → Ends → Ends
-with_ends (ends.Words ranges) rest = later_ends ranges rest
-with_ends (ends.Leaves value) rest = ends.Leaves value
-
--- each exact value's range is taken over the symbols up to there, of which the first so many are 0,
--- and stands where the exact values before it are words
-abbrev pub ends_from : ℕ → Start → List Node → Point → Ends
-ends_from count start [] point = ends.Words []
-ends_from count start (node ∷ nodes) point =
-    with_ends (node_ends count start.format point node)
-    (ends_from count start nodes (after_form start point node))
-
--- ---- samples one after another
--- what the next sample of a pass shows of its exact values, where the first so many symbols are 0
-abbrev pub pass_ends : ℕ → List Node → Pass → Ends
-pass_ends count nodes pass = ends_from count pass.start nodes (fresh pass.point)
-
--- the pass after one sample more
-abbrev pub after_pass : List Node → List ℕ → Pass → Pass
-after_pass nodes next pass = let now = forms_from pass.start nodes (fresh pass.point) in
-    record { start = loaded next pass.start now; point = now }
-
--- the least range that holds both
-abbrev pub hull : Range → Range → Range
-hull r s = range (if int_lt s.low r.low then s.low else r.low)
-    (if int_lt r.high s.high then s.high else r.high)
-
+-- ---- ranges
 abbrev pub hulls : List Range → List Range → List Range
 hulls [] others = []
 hulls (r ∷ ranges) [] = []
@@ -99,10 +38,9 @@ hulls_after (Some others) ranges = hulls others ranges
 
 -- ---- registers that are symbols
 -- so many registers, each a symbol of its own
-abbrev pub symbol_registers : ℕ → List Estimate
+abbrev pub symbol_registers : ℕ → List (List ℤ)
 symbol_registers zero = []
-symbol_registers (suc n) =
-    symbol_registers n ++ (record { form = Some (unit n); interval = None }) ∷ []
+symbol_registers (suc n) = symbol_registers n ++ unit n ∷ []
 
 -- the range of a symbol whose values are these
 abbrev pub symbol_of_range : Range → Range
@@ -145,35 +83,50 @@ abbrev pub register_symbols : Net → ℤ → ℤ → List Range
 register_symbols net low high = replicate (pasts net) (symbol_of_range (past_range low high))
     ++ replicate (length net.next - pasts net) (symbol_of_range (words_range net.format))
 
+-- what the symbol of a node is known to lie in before the first sample: the range of the input's,
+-- and 0 of an error, of which the samples tell more
+abbrev pub first_ranges : Range → Node → List Range
+first_ranges input Input = input ∷ []
+first_ranges input (Reg register) = []
+first_ranges input (MulConst coeff of) = []
+first_ranges input (Round of) = range (pos 0) (pos 0) ∷ []
+first_ranges input (Add left right) = []
+first_ranges input (Sub left right) = []
+first_ranges input (Fit of) = []
+first_ranges input (Scale of) = []
+
+abbrev pub sample_symbols : Range → List Node → List Range
+sample_symbols input [] = []
+sample_symbols input (node ∷ nodes) = first_ranges input node ++ sample_symbols input nodes
+
 -- ---- how much the start still counts
 -- the width of what these symbols, the first ones, make of a form's range, times both scales
 abbrev pub start_part : List Range → List ℤ → Option ℤ
 start_part starts form = least starts form >>= λ low. greatest starts form >>= λ high.
     narrow_of (high -ℤ low)
 
-abbrev pub value_part : List Range → List Estimate → ℕ → Option ℤ
-value_part starts estimates of = form_at estimates of >>= start_part starts
+abbrev pub value_part : List Range → List (List ℤ) → ℕ → Option ℤ
+value_part starts forms of = form_at forms of >>= start_part starts
 
 -- the width is known and less than one word's
 abbrev pub is_under_word : Option ℤ → Bool
 is_under_word None = false
 is_under_word (Some width) = int_lt width (pos (scale * range_scale))
 
-abbrev pub node_has_settled : List Range → List Estimate → Node → Bool
-node_has_settled starts estimates Input = true
-node_has_settled starts estimates (Reg register) = true
-node_has_settled starts estimates (MulConst coeff of) = true
-node_has_settled starts estimates (Round of) = true
-node_has_settled starts estimates (Add left right) = true
-node_has_settled starts estimates (Sub left right) = true
-node_has_settled starts estimates (Fit of) = is_under_word (value_part starts estimates of)
-node_has_settled starts estimates (Scale of) = true
+abbrev pub node_has_settled : List Range → List (List ℤ) → Node → Bool
+node_has_settled starts forms Input = true
+node_has_settled starts forms (Reg register) = true
+node_has_settled starts forms (MulConst coeff of) = true
+node_has_settled starts forms (Round of) = true
+node_has_settled starts forms (Add left right) = true
+node_has_settled starts forms (Sub left right) = true
+node_has_settled starts forms (Fit of) = is_under_word (value_part starts forms of)
+node_has_settled starts forms (Scale of) = true
 
--- after a sample: in each of its exact values the part of the first so many symbols is less than
--- one word
-abbrev pub has_settled : List Node → ℕ → Point → Bool
-has_settled nodes count point =
-    list_all (node_has_settled (take count point.ranges) point.estimates) nodes
+-- after a sample: in each of its exact values the part of the start's symbols is less than one word
+abbrev pub has_settled : List Node → Pass → Bool
+has_settled nodes pass =
+    list_all (node_has_settled (take pass.count pass.ranges) pass.forms) nodes
 
 -- ---- the search
 -- the gain that was found, or else this
@@ -181,7 +134,7 @@ abbrev pub best_or : Outlook → Option Gain → Outlook
 best_or other None = other
 best_or other (Some gain) = outlook.Safe gain
 
--- the gain of a sample, after that of the sample before, if it had one
+-- the gain of a sample, after that of a sample before, if one had it
 abbrev pub gain_at : ℕ → Option Gain → List Range → Gain
 gain_at sample None ranges = record { depth = sample; settled = sample; ranges = ranges }
 gain_at sample (Some gain) ranges =
@@ -191,19 +144,15 @@ gain_at sample (Some gain) ranges =
 abbrev pub search : Pass → List Range → Option Gain → Search
 search pass seen best = record { pass = pass; seen = Some seen; best = best }
 
--- after a sample whose values can leave the words from some registers: what was found is the last
-abbrev pub gainless_turn : Pass → List Range → Option Gain → Turn
-gainless_turn pass seen None = turns.Next (search pass seen None)
-gainless_turn pass seen (Some gain) = turns.Over (outlook.Safe gain)
-
 -- after a sample that has a gain: it is the last if it has settled
 abbrev pub gain_turn : Bool → Pass → List Range → Gain → Turn
 gain_turn settled pass seen gain = if settled then turns.Over (outlook.Safe gain)
     else turns.Next (search pass seen (Some gain))
 
--- by what the sample shows after any words in the registers; the pass is that after the sample
+-- by what the sample shows after any words in the registers: where a value can leave the words from
+-- some of them, the search goes on with what was found; the pass is that after the sample
 abbrev pub step_turn : Bool → ℕ → Pass → List Range → Option Gain → Ends → Turn
-step_turn settled sample pass seen best (ends.Leaves value) = gainless_turn pass seen best
+step_turn settled sample pass seen best (ends.Leaves value) = turns.Next (search pass seen best)
 step_turn settled sample pass seen best (ends.Words last) =
     gain_turn settled pass seen (gain_at sample best (hulls seen last))
 
@@ -218,8 +167,7 @@ run_turn sample seen best next (ends.Words now) = next (hulls_after seen now)
 abbrev pub sample_turn : List Node → List ℕ → ℕ → Search → Turn
 sample_turn nodes next sample s = let pass = after_pass nodes next s.pass in
     run_turn sample s.seen s.best
-    (λ seen. step_turn (has_settled nodes (length next) pass.point) sample pass seen s.best
-    (pass_ends 0 nodes s.pass))
+    (λ seen. step_turn (has_settled nodes pass) sample pass seen s.best (pass_ends 0 nodes s.pass))
     (pass_ends (length next) nodes s.pass)
 
 abbrev pub turn_outlook : (Search → Outlook) → Turn → Outlook
@@ -236,12 +184,14 @@ gain_from nodes next (suc left) sample s =
 -- from registers that are inputs and words
 abbrev pub word_pass : Net → ℤ → ℤ → Pass
 word_pass net low high = record {
-  start = record {
-    format = net.format;
-    input = range low high;
-    registers = symbol_registers (length net.next);
-  };
-  point = record { estimates = []; ranges = register_symbols net low high; facts = [] };
+  format = net.format;
+  count = length net.next;
+  is_first = true;
+  registers = symbol_registers (length net.next);
+  weights = [];
+  ranges =
+      register_symbols net low high ++ sample_symbols (symbol_of_range (range low high)) net.nodes;
+  forms = [];
 }
 
 -- before the first sample
@@ -254,8 +204,8 @@ first_search net low high = record {
 
 -- What the samples below the limit show of runs of any length. A sample has a gain if the ranges of
 -- all runs up to it, and those of the sample itself after any words in the registers, are ranges of
--- words. The gain is that of the first sample that has one or, after it, of the last one in a row
--- that has one, up to the first that has settled.
+-- words. The depth is the first sample that has one. The ranges are those of the first sample from
+-- there on that has one and has settled, or of the last that has one.
 unfoldable pub gain_of : Net → ℤ → ℤ → ℕ → Outlook
 gain_of net low high limit =
     gain_from net.nodes net.next limit 0 (first_search net low high)

@@ -1,3 +1,4 @@
 pub mod Gains
+pub mod Samples
 pub mod Safe
 pub mod Controllers

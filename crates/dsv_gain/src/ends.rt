@@ -1,11 +1,12 @@
 // What a sample shows of its exact values.
-ghost use Rattle.std.specs.Prelude.{◌≡◌, IfOk, []};
-ghost use Rattle.dsv_gain.specs.declared.ends.Ends.TheVariants.{Words};
-ghost use Rattle.dsv_gain.specs.Gains.{with_ends, value_ends, node_ends};
+ghost use Rattle.std.specs.Prelude.{◌≡◌, ◌<◌, length, [], IfOk};
+ghost use Rattle.dsv_gain.specs.declared.ends.Ends.TheVariants.{Words, Leaves};
+ghost use Rattle.dsv_gain.specs.Samples.{with_ends, value_ends, value_range, weights_at, shown_by};
 
 use crate::ranges::Ranges;
+use crate::walk::Walk;
 use dsv_base::NoMemory;
-use dsv_linear::{Point, Range, are_words, ranges_at};
+use dsv_linear::{Range, are_words};
 use dsv_netlist::Node;
 use dsv_word::Format;
 use std::alloc::Global;
@@ -28,16 +29,13 @@ pub(crate) struct SampleEnds {
     pub step: Ends,
 }
 
-impl SampleEnds {
-    /// Of no value yet.
-    pub(crate) fn new(alloc: Global) -> Self
-        ensures run { result.run ≡ Words [] }
-        ensures step { result.step ≡ Words [] }
-    {
-        SampleEnds {
-            run: Ends::Words(Ranges::new(alloc)),
-            step: Ends::Words(Ranges::new(alloc)),
-        }
+/// What is shown so far, where nothing is known of the values after it.
+fn left(ends: Ends) -> Ends
+    ensures { result ≡ with_ends ends (Leaves 0) }
+{
+    match ends {
+        Ends::Words(list) => Ends::Leaves(list.len()),
+        Ends::Leaves(value) => Ends::Leaves(value),
     }
 }
 
@@ -58,25 +56,59 @@ fn with_value(ends: Ends, format: &Format, range: Option<Range>) -> Result<Ends,
     }
 }
 
-/// What is shown so far, with what a node fits, where the start has so many symbols.
-pub(crate) fn with_node(
-    ends: SampleEnds,
-    format: &Format,
-    point: &Point,
-    count: usize,
-    node: &Node,
-) -> Result<SampleEnds, NoMemory>
-    ensures run { IfOk result (λ now. now.run
-        ≡ with_ends ends.run (node_ends count format.now point.now node.now)) }
-    ensures step { IfOk result (λ now. now.step
-        ≡ with_ends ends.step (node_ends 0 format.now point.now node.now)) }
+/// The range of the value of this number, where the first so many symbols are 0.
+fn range_at(walk: &Walk, i: usize, count: usize) -> Option<Range>
+    requires { i < length walk.now.weights }
+    ensures { result ≡ value_range count walk.now.ranges (weights_at walk.now.weights i) }
 {
-    let Node::Fit(of) = node else {
-        return Ok(ends);
-    };
-    let ranges = ranges_at(point, count, *of);
-    Ok(SampleEnds {
-        run: with_value(ends.run, format, ranges.rest)?,
-        step: with_value(ends.step, format, ranges.all)?,
-    })
+    walk.weights.as_slice()[i].value_range(walk.ranges.as_slice(), count)
+}
+
+impl SampleEnds {
+    /// Of no value yet.
+    pub(crate) fn new(alloc: Global) -> Self
+        ensures run { result.run ≡ Words [] }
+        ensures step { result.step ≡ Words [] }
+    {
+        SampleEnds {
+            run: Ends::Words(Ranges::new(alloc)),
+            step: Ends::Words(Ranges::new(alloc)),
+        }
+    }
+
+    /// Where nothing is known of the values after them.
+    pub(crate) fn left(self) -> Self
+        ensures run { result.run ≡ with_ends self.run (Leaves 0) }
+        ensures step { result.step ≡ with_ends self.step (Leaves 0) }
+    {
+        SampleEnds {
+            run: left(self.run),
+            step: left(self.step),
+        }
+    }
+
+    /// With what a node shows, the value of this number, after which the walk has come so far,
+    /// where the start has so many symbols.
+    pub(crate) fn with_node(
+        self,
+        count: usize,
+        format: &Format,
+        walk: &Walk,
+        i: usize,
+        node: &Node,
+    ) -> Result<Self, NoMemory>
+        requires { i < length walk.now.weights }
+        ensures run { IfOk result (λ now. now.run
+            ≡ with_ends self.run (shown_by count format.now i node.now walk.now)) }
+        ensures step { IfOk result (λ now. now.step
+            ≡ with_ends self.step (shown_by 0 format.now i node.now walk.now)) }
+    {
+        let Node::Fit(_) = node else {
+            return Ok(self);
+        };
+        Ok(SampleEnds {
+            run: with_value(self.run, format, range_at(walk, i, count))?,
+            step: with_value(self.step, format, range_at(walk, i, 0))?,
+        })
+    }
 }

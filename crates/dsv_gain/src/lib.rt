@@ -13,6 +13,8 @@ mod reaches;
 mod search;
 mod start_parts;
 mod starts;
+mod walk;
+mod weights;
 
 pub use controllers::overflow_gain;
 pub use law::{gains_are_found_again, gains_are_safe};

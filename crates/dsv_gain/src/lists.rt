@@ -5,7 +5,7 @@
 // pulse. Rounding seldom does its worst beside them, so a list may have to be longer than the worst
 // case says. At the sample at which the ranges leave the words the lists of all values are tried;
 // at later samples, to keep the time in bounds, those of the two values that are driven farthest.
-ghost use Rattle.std.specs.Prelude.{◌≡◌, ◌<◌, ◌≤◌, ◌≤ℤ◌, List, ℤ, length, IfOk, IfSome};
+ghost use Rattle.std.specs.Prelude.{◌<◌, ◌≤◌, ◌≤ℤ◌, List, ℤ, length, IfOk, IfSome};
 ghost use Rattle.std.specs.List.{All};
 ghost use Rattle.dsv_system.specs.Systems.{AreInRange};
 ghost use Rattle.dsv_word.specs.Words.{IsWord};

@@ -1,43 +1,92 @@
-// The pass over samples: forms alone.
-ghost use Rattle.std.specs.Prelude.{◌≡◌, length, IfOk};
-ghost use Rattle.dsv_gain.specs.Gains.{forms_from, ends_from, after_pass, pass_ends};
+// The pass over samples.
+ghost use Rattle.std.specs.Prelude.{◌≡◌, length, slice_index_or, [], IfOk};
+ghost use Rattle.dsv_gain.specs.Samples.{pass_ends, after_pass, walk_from, begun, loaded};
 
-use crate::ends::{SampleEnds, with_node};
+use crate::ends::SampleEnds;
+use crate::ranges::Ranges;
+use crate::walk::{Walk, form_at};
+use crate::weights::Weights;
 use dsv_base::{Items, NoMemory};
-use dsv_linear::{Point, Start, add_form, loaded_estimates};
+use dsv_linear::Form;
 use dsv_netlist::Node;
+use dsv_word::Format;
 use std::alloc::Global;
 
 /// Between samples: what the next one starts with, and what is known so far.
 #[derive(Drop)]
 pub(crate) struct Pass {
-    pub start: Start,
-    pub point: Point,
+    pub format: Format,
+    /// How many symbols the registers begin with, the first ones.
+    pub count: u32,
+    /// Whether no sample has been.
+    pub is_first: bool,
+    /// The forms of the words in the registers.
+    pub registers: Items<Form>,
+    /// What the coefficients of the values of nodes come to over all samples so far.
+    pub weights: Items<Weights>,
+    /// The ranges of all symbols, those that the registers begin with and those of a sample.
+    pub ranges: Ranges,
+    /// The forms of the values of nodes in the sample before.
+    pub forms: Items<Form>,
 }
 
-/// Adds the forms of a sample to what is known; answers what they show of its exact values, where
-/// the start has so many symbols.
-fn add_forms(
-    alloc: Global,
-    start: &Start,
-    nodes: &[Node],
-    count: usize,
-    point: &mut Point,
-) -> Result<SampleEnds, NoMemory>
-    ensures point { IfOk result (λ u. point.new ≡ forms_from start.now nodes.now point.old) }
-    ensures run { IfOk result
-        (λ ends. ends.run ≡ ends_from count start.now nodes.now point.old) }
-    ensures step { IfOk result (λ ends. ends.step ≡ ends_from 0 start.now nodes.now point.old) }
+/// A sample.
+#[derive(Drop)]
+pub(crate) struct Sample {
+    /// What it shows of its exact values.
+    pub ends: SampleEnds,
+    /// What is known after it, unless it was given up.
+    pub walk: Option<Walk>,
+}
+
+/// A sample, where the start has so many symbols.
+fn sample_of(alloc: Global, nodes: &[Node], count: usize, pass: &Pass) -> Result<Sample, NoMemory>
+    ensures walk { IfOk result (λ it. it.walk ≡ walk_from pass.now nodes.now (begun pass.now)) }
+    ensures run { IfOk result (λ it. it.ends.run ≡ pass_ends count nodes.now pass.now) }
+    ensures step { IfOk result (λ it. it.ends.step ≡ pass_ends 0 nodes.now pass.now) }
 {
     let mut ends = SampleEnds::new(alloc);
+    let mut walk = Walk::begin(alloc, pass)?;
     for node in nodes {
-        ends = with_node(ends, &start.format, point, count, node)?;
-        add_form(alloc, start, point, node)?;
+        let i = walk.weights.len();
+        let Some(next) = walk.with_node(alloc, pass, node)? else {
+            return Ok(Sample {
+                ends: ends.left(),
+                walk: None,
+            });
+        };
+        ends = ends.with_node(count, &pass.format, &next, i, node)?;
+        walk = next;
     }
-    Ok(ends)
+    Ok(Sample {
+        ends,
+        walk: Some(walk),
+    })
 }
 
-/// One sample more; answers what it shows of its exact values.
+/// The form of a node's value, for a register that is loaded from it.
+fn loaded_form(alloc: Global, forms: &Items<Form>, i: u32) -> Result<Form, NoMemory>
+    ensures { IfOk result (λ form. form ≡ slice_index_or forms.now i []) }
+{
+    match form_at(forms, i) {
+        Some(form) => form.copy(alloc),
+        None => Ok(Form::new(alloc)),
+    }
+}
+
+/// The forms of registers that are loaded from these nodes.
+fn loaded_forms(alloc: Global, next: &[u32], forms: &Items<Form>) -> Result<Items<Form>, NoMemory>
+    ensures { IfOk result (λ registers. registers ≡ loaded next.now forms.now) }
+{
+    let mut registers = Items::new(alloc);
+    for i in next {
+        registers.push(loaded_form(alloc, forms, *i)?)?;
+    }
+    Ok(registers)
+}
+
+/// One sample more; answers what it shows of its exact values. A sample that is given up leaves the
+/// pass as it was.
 pub(crate) fn add_sample(
     alloc: Global,
     nodes: &[Node],
@@ -49,8 +98,13 @@ pub(crate) fn add_sample(
         (λ ends. ends.run ≡ pass_ends (length next.now) nodes.now pass.old) }
     ensures step { IfOk result (λ ends. ends.step ≡ pass_ends 0 nodes.now pass.old) }
 {
-    pass.point.estimates = Items::new(alloc);
-    let ends = add_forms(alloc, &pass.start, nodes, next.len(), &mut pass.point)?;
-    pass.start.registers = loaded_estimates(alloc, next, &pass.point.estimates)?;
+    let Sample { ends, walk } = sample_of(alloc, nodes, next.len(), pass)?;
+    if let Some(walk) = walk {
+        pass.is_first = false;
+        pass.registers = loaded_forms(alloc, next, &walk.forms)?;
+        pass.weights = walk.weights;
+        pass.ranges = walk.ranges;
+        pass.forms = walk.forms;
+    }
     Ok(ends)
 }

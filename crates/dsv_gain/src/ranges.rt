@@ -2,7 +2,8 @@
 ghost use Rattle.std.specs.Prelude.{◌≡◌, ◌≤◌, ◌++◌, ◌⊎◌, length, replicate, IfOk};
 ghost use Rattle.std.specs.Prelude.{◌<◌, pos, ◌*ℤ◌};
 ghost use Rattle.dsv_linear.specs.Forms.{range, range_at, range_scale};
-ghost use Rattle.dsv_gain.specs.Gains.{hull, hulls, hulls_after, past_range, symbol_of_range};
+ghost use Rattle.dsv_gain.specs.Samples.{hull};
+ghost use Rattle.dsv_gain.specs.Gains.{hulls, hulls_after, past_range, symbol_of_range};
 
 use dsv_algebra::NarrowInteger;
 use dsv_base::{Items, NoMemory};
@@ -13,7 +14,7 @@ use std::alloc::Global;
 pub type Ranges = Items<Range>;
 
 /// The least range that holds both.
-fn hull(a: &Range, b: &Range) -> Range
+pub(crate) fn hull(a: &Range, b: &Range) -> Range
     ensures { result ≡ hull a.now b.now }
 {
     Range {

@@ -1,7 +1,7 @@
 // The search for a depth, and the settling of its ranges.
-ghost use Rattle.std.specs.Prelude.{◌≡◌, ◌≤◌, ◌<◌, IfOk, None};
+ghost use Rattle.std.specs.Prelude.{◌≡◌, ◌<◌, IfOk, None};
 ghost use Rattle.dsv_word.specs.Words.{IsWord};
-ghost use Rattle.dsv_gain.specs.Gains.{best_or, gain_at, gainless_turn, gain_turn, sample_turn};
+ghost use Rattle.dsv_gain.specs.Gains.{best_or, gain_at, gain_turn, sample_turn};
 ghost use Rattle.dsv_gain.specs.Gains.{gain_from, gain_of};
 ghost use Rattle.dsv_gain.specs.Safe.{HoldInRuns, NeverBreaks, IfSafe, IsWithin};
 
@@ -62,20 +62,6 @@ fn gain_at(sample: u32, best: Option<Gain>, ranges: Ranges) -> Gain
     }
 }
 
-/// After a sample whose values can leave the words from some registers.
-fn gainless_turn(pass: Pass, seen: Ranges, best: Option<Gain>) -> Turn
-    ensures { result ≡ gainless_turn pass seen best }
-{
-    match best {
-        Some(gain) => Turn::Over(Outlook::Safe(gain)),
-        None => Turn::Next(Search {
-            pass,
-            seen: Some(seen),
-            best: None,
-        }),
-    }
-}
-
 /// After a sample that has a gain.
 fn gain_turn(settled: bool, pass: Pass, seen: Ranges, gain: Gain) -> Turn
     ensures { result ≡ gain_turn settled pass seen gain }
@@ -115,10 +101,14 @@ fn sample_turn(
     };
     let seen = hulls_after(alloc, seen, now)?;
     match step {
-        Ends::Leaves(_) => Ok(gainless_turn(pass, seen, best)),
+        Ends::Leaves(_) => Ok(Turn::Next(Search {
+            pass,
+            seen: Some(seen),
+            best,
+        })),
         Ends::Words(last) => {
             let ranges = hulls(alloc, &seen, &last)?;
-            let settled = has_settled(nodes, next.len(), &pass.point);
+            let settled = has_settled(nodes, &pass);
             Ok(gain_turn(settled, pass, seen, gain_at(sample, best, ranges)))
         }
     }

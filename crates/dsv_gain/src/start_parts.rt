@@ -3,9 +3,11 @@ ghost use Rattle.std.specs.Prelude.{◌≡◌, take};
 ghost use Rattle.dsv_gain.specs.Gains.{start_part, is_under_word, value_part};
 ghost use Rattle.dsv_gain.specs.Gains.{node_has_settled, has_settled};
 
+use crate::pass::Pass;
+use crate::walk::form_at;
 use dsv_algebra::NarrowInteger;
 use dsv_base::Items;
-use dsv_linear::{Estimate, Form, Point, RANGE_SCALE, Range, SCALE, extreme_sums, form_at};
+use dsv_linear::{Form, RANGE_SCALE, Range, SCALE, extreme_sums};
 use dsv_netlist::Node;
 
 /// What these symbols, the first ones, make of the range of a form: the scales times its width.
@@ -16,11 +18,11 @@ fn start_part(starts: &[Range], form: &Form) -> Option<NarrowInteger>
     sums.high.checked_sub(sums.low)
 }
 
-/// What they make of the range of the value of this number, where that is known.
-fn value_part(starts: &[Range], estimates: &Items<Estimate>, i: u32) -> Option<NarrowInteger>
-    ensures { result ≡ value_part starts.now estimates.now i }
+/// What they make of the range of the value of this number.
+fn value_part(starts: &[Range], forms: &Items<Form>, i: u32) -> Option<NarrowInteger>
+    ensures { result ≡ value_part starts.now forms.now i }
 {
-    start_part(starts, form_at(estimates, i)?)
+    start_part(starts, form_at(forms, i)?)
 }
 
 /// Whether a width is known and less than that of one word.
@@ -35,20 +37,21 @@ fn is_under_word(part: Option<NarrowInteger>) -> bool
 }
 
 /// Whether it is so of what a node fits, if it fits anything.
-fn node_has_settled(starts: &[Range], estimates: &Items<Estimate>, node: &Node) -> bool
-    ensures { result ≡ node_has_settled starts.now estimates.now node.now }
+fn node_has_settled(starts: &[Range], forms: &Items<Form>, node: &Node) -> bool
+    ensures { result ≡ node_has_settled starts.now forms.now node.now }
 {
     match node {
-        Node::Fit(of) => is_under_word(value_part(starts, estimates, *of)),
+        Node::Fit(of) => is_under_word(value_part(starts, forms, *of)),
         _ => true,
     }
 }
 
-/// The ranges of the first symbols, of which there are so many.
-fn first_ranges(point: &Point, count: usize) -> &[Range]
-    ensures { result.now ≡ take count point.now.ranges }
+/// The ranges of the symbols that the registers begin with.
+fn start_ranges(pass: &Pass) -> &[Range]
+    ensures { result.now ≡ take pass.now.count pass.now.ranges }
 {
-    let ranges = point.ranges.as_slice();
+    let ranges = pass.ranges.as_slice();
+    let count = pass.count as usize;
     if count < ranges.len() {
         &ranges[..count]
     } else {
@@ -56,13 +59,13 @@ fn first_ranges(point: &Point, count: usize) -> &[Range]
     }
 }
 
-/// Whether in each exact value of a sample the part of the first symbols, those of the start, is
-/// less than one word.
-pub(crate) fn has_settled(nodes: &[Node], count: usize, point: &Point) -> bool
-    ensures { result ≡ has_settled nodes.now count point.now }
+/// Whether in each exact value of the sample before the part of the start's symbols is less than
+/// one word.
+pub(crate) fn has_settled(nodes: &[Node], pass: &Pass) -> bool
+    ensures { result ≡ has_settled nodes.now pass.now }
 {
-    let starts = first_ranges(point, count);
+    let starts = start_ranges(pass);
     nodes
         .iter()
-        .all(|node| node_has_settled(starts, &point.estimates, node))
+        .all(|node| node_has_settled(starts, &pass.forms, node))
 }

@@ -1,14 +1,13 @@
 // Registers that are any words.
-ghost use Rattle.std.specs.Prelude.{◌≡◌, ◌≤◌, length, IfOk};
-ghost use Rattle.dsv_netlist.specs.Conditions.{IsNetlist};
+ghost use Rattle.std.specs.Prelude.{◌≡◌, ◌≤◌, ◌++◌, length, IfOk};
 ghost use Rattle.dsv_gain.specs.Gains.{is_past, gives_past, hold_inputs, pasts};
 ghost use Rattle.dsv_gain.specs.Gains.{symbol_registers, register_symbols, word_pass};
+ghost use Rattle.dsv_gain.specs.Gains.{first_ranges, sample_symbols};
 
 use crate::pass::Pass;
 use crate::ranges::{Ranges, past_symbol, push_copies, symbol_of};
-use dsv_algebra::NarrowInteger;
 use dsv_base::{Items, NoMemory};
-use dsv_linear::{Estimate, Point, Range, Start, next_of, nodes_of, unit};
+use dsv_linear::{Form, Range, next_of, nodes_of, unit};
 use dsv_netlist::{Netlist, Node};
 use std::alloc::Global;
 
@@ -60,15 +59,12 @@ fn pasts(alloc: Global, net: &Netlist) -> Result<u32, NoMemory>
 
 /// What is known of so many registers that are symbols of their own.
 #[tactic(auto, using(crate::proofs::Loops::symbols_more))]
-fn symbol_registers(alloc: Global, count: u32) -> Result<Items<Estimate>, NoMemory>
+fn symbol_registers(alloc: Global, count: u32) -> Result<Items<Form>, NoMemory>
     ensures { IfOk result (λ registers. registers ≡ symbol_registers count) }
 {
     let mut registers = Items::new(alloc);
     for i in 0..count {
-        registers.push(Estimate {
-            form: Some(unit(alloc, i as usize)?),
-            interval: None,
-        })?;
+        registers.push(unit(alloc, i as usize)?)?;
     }
     Ok(registers)
 }
@@ -96,23 +92,43 @@ fn register_symbols(
     Ok(ranges)
 }
 
+/// The range of the symbol that a node brings, as far as it is known before the first sample, where
+/// this is that of an input's.
+fn push_first_range(ranges: &mut Ranges, input: &Range, node: &Node) -> Result<(), NoMemory>
+    ensures { IfOk result (λ u. ranges.new ≡ ranges.old ++ first_ranges input.now node.now) }
+{
+    match node {
+        Node::Input => ranges.push(*input),
+        Node::Round(_) => ranges.push(symbol_of(0, 0)),
+        _ => Ok(()),
+    }
+}
+
+/// The ranges of the symbols that nodes bring, as far as they are known before the first sample.
+fn push_sample_symbols(ranges: &mut Ranges, input: &Range, nodes: &[Node]) -> Result<(), NoMemory>
+    ensures { IfOk result (λ u. ranges.new ≡ ranges.old ++ sample_symbols input.now nodes.now) }
+{
+    for node in nodes {
+        push_first_range(ranges, input, node)?;
+    }
+    Ok(())
+}
+
 /// A pass from registers that are inputs and words.
 pub(crate) fn word_pass(alloc: Global, net: &Netlist, low: i64, high: i64) -> Result<Pass, NoMemory>
     ensures { IfOk result (λ pass. pass ≡ word_pass net.now low high) }
 {
     let count = pasts(alloc, net)?;
-    let start = Start {
+    let nodes = nodes_of(alloc, net)?;
+    let mut ranges = register_symbols(alloc, net, count, low, high)?;
+    push_sample_symbols(&mut ranges, &symbol_of(low, high), &nodes)?;
+    Ok(Pass {
         format: net.format(),
-        input: Range {
-            low: NarrowInteger::from(low),
-            high: NarrowInteger::from(high),
-        },
+        count: net.registers(),
+        is_first: true,
         registers: symbol_registers(alloc, net.registers())?,
-    };
-    let point = Point {
-        estimates: Items::new(alloc),
-        ranges: register_symbols(alloc, net, count, low, high)?,
-        facts: Items::new(alloc),
-    };
-    Ok(Pass { start, point })
+        weights: Items::new(alloc),
+        ranges,
+        forms: Items::new(alloc),
+    })
 }

@@ -9,6 +9,6 @@ pub mod Numbers
 pub mod Meanings
 pub mod Roundings
 pub mod Words
-pub mod ZeroSymbols
+pub mod ZeroTerms
 pub mod Points
 pub mod Runs

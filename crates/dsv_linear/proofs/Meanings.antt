@@ -61,16 +61,16 @@ total_is (suc n) f t e =
     narrow_is (first.0 +ℤ second.0) t second.2 ∙ plus_same first.0 (sum_to n f) second.0 (f n) (total_is n f first.0 first.1) (narrow_is (f n) second.0 second.1)
 
 -- ---- sums and products
-longer_left : (m n : ℕ) → m ≤ longer m n
+pub longer_left : (m n : ℕ) → m ≤ longer m n
 longer_left m n = grind arith
 
-longer_right : (m n : ℕ) → n ≤ longer m n
+pub longer_right : (m n : ℕ) → n ≤ longer m n
 longer_right m n = grind arith
 
-longer_least : (m n k : ℕ) → m ≤ k → n ≤ k → longer m n ≤ k
+pub longer_least : (m n k : ℕ) → m ≤ k → n ≤ k → longer m n ≤ k
 longer_least m n k p q = grind arith
 
-past : (form : List ℤ) (n j : ℕ) → length form ≤ n → n ≤ j → at form j ≡ pos 0
+pub past : (form : List ℤ) (n j : ℕ) → length form ≤ n → n ≤ j → at form j ≡ pos 0
 past form n j p q = get_or_past form j (pos 0) (omega arith)
 
 add_spread : (a b u : ℤ) → (a +ℤ b) *ℤ u ≡ a *ℤ u +ℤ b *ℤ u
@@ -164,7 +164,7 @@ means_grown n k us s u form v m =
       exact = stretched (pos scale) k s v ∙ ap (λ t. s *ℤ t) m.exact ∙ sym (sum_before s n us u form) ∙ sym (ap (λ t. sum_at n form (grown s n us u) +ℤ t) last ∙ +ℤ_idr (sum_at n form (grown s n us u)));
     }
 
-lies_grown : (k s : ℤ) (r : Range) (u : ℤ) → pos 0 <ℤ s → LiesIn k r u → LiesIn (k *ℤ s) r (s *ℤ u)
+pub lies_grown : (k s : ℤ) (r : Range) (u : ℤ) → pos 0 <ℤ s → LiesIn k r u → LiesIn (k *ℤ s) r (s *ℤ u)
 lies_grown k s r u p l =
     let turn : (x : ℤ) → k *ℤ s *ℤ x ≡ s *ℤ (k *ℤ x) = λ x. ring (env (k ∷ s ∷ x ∷ [])) (times (times (var 0) (var 1)) (var 2)) (times (var 1) (times (var 0) (var 2))) refl in
     let move : pos range_scale *ℤ (s *ℤ u) ≡ s *ℤ (pos range_scale *ℤ u) = turned s (pos range_scale) u in

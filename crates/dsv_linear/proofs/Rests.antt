@@ -1,19 +1,14 @@
 -- Sums of a form's terms after the first ones.
-use Rattle.std.proofs.Common.{◌≡◌, ℕ, zero, suc, ◌+◌, ◌-◌, ◌<◌, ◌≤◌, inl, inr, ◌⊎◌, List, length, drop, refl, sym, subst, ap, ◌∙◌, arith, zero-add}
+use Rattle.std.proofs.Common.{◌≡◌, ℕ, zero, suc, ◌+◌, ◌-◌, ◌<◌, ◌≤◌, List, length, drop, refl, sym, subst, ap, ◌∙◌, arith, zero-add}
 use Rattle.std.specs.Prelude.{Option, Some, None, IfSome}
-use Rattle.std.proofs.Math.IntN.{ℤ, pos, ◌+ℤ◌, ◌*ℤ◌}
+use Rattle.std.proofs.Math.IntN.{ℤ, pos}
 use Rattle.std.proofs.lemmas.List.{get_or-drop, length-drop}
-use Rattle.dsv_algebra.specs.Narrow.{narrow_of}
-use Rattle.dsv_netlist.specs.Nodes.{at}
 use Rattle.dsv_linear.specs.declared.range.Range.{Range}
-use Rattle.dsv_linear.specs.declared.extremes.SplitSums.{SplitSums}
-use Rattle.dsv_linear.specs.Forms.{total, range, range_at, least, greatest, least_term, greatest_term, least_factor, greatest_factor, sums_range}
+use Rattle.dsv_linear.specs.Forms.{total, range, least, greatest, least_term, greatest_term}
 use Rattle.dsv_linear.specs.Divisions.{extremes}
 use Rattle.dsv_linear.specs.SmallNumbers.{most_terms}
-use Rattle.dsv_linear.specs.SmallSums.{IsSum, AreSums, SplitsTo}
-use Rattle.dsv_linear.proofs.Numbers.{none_times, narrow_is}
-use Rattle.dsv_linear.proofs.Roundings.{both_are}
-use Rattle.dsv_linear.proofs.SmallSums.{both_same, list_ends, long_total, sum_joined, sum_alike, extremes_made}
+use Rattle.dsv_linear.specs.SmallSums.{IsSum, AreSums}
+use Rattle.dsv_linear.proofs.SmallSums.{sum_alike, extremes_made}
 
 pub total_same : (n : ℕ) (f g : ℕ → ℤ) → ((j : ℕ) → j < n → f j ≡ g j) → total n f ≡ total n g
 total_same zero f g h = refl
@@ -39,21 +34,7 @@ greatest-drop k ranges form =
     ap (λ n. total n (greatest_term (drop k ranges) (drop k form))) (length-drop k ranges)
     ∙ total_same (length ranges - k) (greatest_term (drop k ranges) (drop k form)) (λ i. greatest_term ranges form (k + i)) (λ j p. greatest_term-drop k ranges form j)
 
--- ---- sums in two parts
--- sums of no term are those of no other
-moved : (f g : ℕ → ℤ) (m n : ℕ) (sum : ℤ) → m ≡ 0 → n ≡ 0 → IsSum f m sum → IsSum g n sum
-moved f g m n sum e h s = subst (λ (k : ℕ). IsSum g k sum) (sym h) (record {
-  value = let here : IsSum f 0 sum = subst (λ (k : ℕ). IsSum f k sum) e s in here.value;
-  each = λ i p. absurd (omega arith);
-})
-
--- the sums from a split on are those after the first `count`
-placed : (t : ℕ → ℤ) (split count long : ℕ) (sum : ℤ) → (split ≡ count) ⊎ ((split ≡ long) × (long ≤ count)) → IsSum (λ i. t (split + i)) (long - split) sum → IsSum (λ i. t (count + i)) (long - count) sum
-placed t split count long sum h s = elim h [
-  | inl e ↦ subst (λ (k : ℕ). IsSum (λ i. t (k + i)) (long - k) sum) e s
-  | inr p ↦ (let same = p.0 in let past = p.1 in moved (λ i. t (split + i)) (λ i. t (count + i)) (long - split) (long - count) sum (omega (arith, same)) (omega (arith, past)) s)
-]
-
+-- ---- sums from the first place on
 first_place : (t : ℕ → ℤ) (n : ℕ) (sum : ℤ) → IsSum (λ i. t (0 + i)) (n - 0) sum → IsSum t n sum
 first_place t n sum s =
     let same : n - 0 ≡ n = omega arith in
@@ -68,28 +49,3 @@ pub whole_answer : (ranges : List Range) (list : List ℤ) (o : Option Range) �
     → IfSome o (AreSums ranges list 0 (length list - 0)) → IfSome o (λ sums. extremes ranges list ≡ Some sums)
 whole_answer ranges list None l p s = tt
 whole_answer ranges list (Some sums) l p s = whole_made ranges list sums l p s
-
-pub split_made : (ranges : List Range) (list : List ℤ) (count split : ℕ) (first rest : Range) (sums : SplitSums) → length list ≤ most_terms → length list ≤ length ranges → split ≤ length list
-    → (split ≡ count) ⊎ ((split ≡ length list) × (length list ≤ count)) → AreSums ranges list 0 (split - 0) first → AreSums ranges list split (length list - split) rest
-    → sums_range first rest ≡ Some sums.all → sums.rest ≡ rest → SplitsTo ranges list count sums
-split_made ranges list count split first rest sums l p q h f r e g =
-    let n = length list in
-    let place : split + (n - split) ≡ n = omega arith in
-    let few : n - count ≤ most_terms = omega arith in
-    let less : n - count ≤ length ranges - count = omega arith in
-    let ends = both_are (narrow_of (first.low +ℤ rest.low)) (narrow_of (first.high +ℤ rest.high)) sums.all e in
-    let low = narrow_is (first.low +ℤ rest.low) sums.all.low ends.low_is in
-    let high = narrow_is (first.high +ℤ rest.high) sums.all.high ends.high_is in
-    record {
-      all = extremes_made ranges list (split + (n - split)) sums.all.low sums.all.high place (omega arith) p
-          (sum_joined (least_term ranges list) split (n - split) first.low rest.low sums.all.low (first_place (least_term ranges list) split first.low f.low) r.low low)
-          (sum_joined (greatest_term ranges list) split (n - split) first.high rest.high sums.all.high (first_place (greatest_term ranges list) split first.high f.high) r.high high);
-      rest = both_same (least (drop count ranges) (drop count list)) (greatest (drop count ranges) (drop count list)) rest.low rest.high
-          (least-drop count ranges list ∙ long_total (λ i. least_term ranges list (count + i)) (n - count) (length ranges - count) rest.low less few
-          (λ i s. ap (λ c. c *ℤ least_factor (at list (count + i)) (range_at ranges (count + i))) (list_ends list (count + i) (omega arith)) ∙ none_times (least_factor (at list (count + i)) (range_at ranges (count + i))))
-          (placed (least_term ranges list) split count n rest.low h r.low))
-          (greatest-drop count ranges list ∙ long_total (λ i. greatest_term ranges list (count + i)) (n - count) (length ranges - count) rest.high less few
-          (λ i s. ap (λ c. c *ℤ greatest_factor (at list (count + i)) (range_at ranges (count + i))) (list_ends list (count + i) (omega arith)) ∙ none_times (greatest_factor (at list (count + i)) (range_at ranges (count + i))))
-          (placed (greatest_term ranges list) split count n rest.high h r.high))
-          ∙ ap (λ (x : Range). Some x) (sym g);
-    }

@@ -27,12 +27,12 @@ use Rattle.dsv_linear.proofs.Meanings.{AreEntries, entries_are, total_is, grown_
 turned : (c s v : ℤ) → s *ℤ (c *ℤ v) ≡ c *ℤ (s *ℤ v)
 turned c s v = let p = var 0 in let q = var 1 in let x = var 2 in ring (env (c ∷ s ∷ v ∷ [])) (times q (times p x)) (times p (times q x)) refl
 
-least_le : (b : Bool) (k t c low high u : ℤ) → int_lt c (pos 0) ≡ b → (k *ℤ low) ≤ℤ (t *ℤ u) → (t *ℤ u) ≤ℤ (k *ℤ high)
+pub least_le : (b : Bool) (k t c low high u : ℤ) → int_lt c (pos 0) ≡ b → (k *ℤ low) ≤ℤ (t *ℤ u) → (t *ℤ u) ≤ℤ (k *ℤ high)
     → (k *ℤ (c *ℤ (if b then high else low))) ≤ℤ (t *ℤ (c *ℤ u))
 least_le true k t c low high u e l h = rw (turned c k high, turned c t u) (times_down c (t *ℤ u) (k *ℤ high) (omega (arith, ints)) h)
 least_le false k t c low high u e l h = rw (turned c k low, turned c t u) (times_up c (k *ℤ low) (t *ℤ u) (omega (arith, ints)) l)
 
-greatest_le : (b : Bool) (k t c low high u : ℤ) → int_lt c (pos 0) ≡ b → (k *ℤ low) ≤ℤ (t *ℤ u) → (t *ℤ u) ≤ℤ (k *ℤ high)
+pub greatest_le : (b : Bool) (k t c low high u : ℤ) → int_lt c (pos 0) ≡ b → (k *ℤ low) ≤ℤ (t *ℤ u) → (t *ℤ u) ≤ℤ (k *ℤ high)
     → (t *ℤ (c *ℤ u)) ≤ℤ (k *ℤ (c *ℤ (if b then low else high)))
 greatest_le true k t c low high u e l h = rw (turned c k low, turned c t u) (times_down c (k *ℤ low) (t *ℤ u) (omega (arith, ints)) l)
 greatest_le false k t c low high u e l h = rw (turned c k high, turned c t u) (times_up c (t *ℤ u) (k *ℤ high) (omega (arith, ints)) h)
@@ -88,32 +88,32 @@ upper_is v d w p e =
     record { above = omega (arith, ints); below = omega (arith, ints) }
 
 -- ---- the range of a form
-scale_positive : pos 0 <ℤ pos scale
+pub scale_positive : pos 0 <ℤ pos scale
 unfolding scale
 scale_positive = omega (arith, ints)
 
-range_scale_positive : pos 0 <ℤ pos range_scale
+pub range_scale_positive : pos 0 <ℤ pos range_scale
 unfolding range_scale
 range_scale_positive = omega (arith, ints)
 
-full_scale_positive : 0 < scale * range_scale
+pub full_scale_positive : 0 < scale * range_scale
 unfolding scale range_scale
 full_scale_positive = omega arith
 
-full_scale_is : pos (scale * range_scale) ≡ pos scale *ℤ pos range_scale
+pub full_scale_is : pos (scale * range_scale) ≡ pos scale *ℤ pos range_scale
 full_scale_is = omega (arith, ints)
 
 -- t (s k v) is k times the value at both scales
-rescaled : (s t k v : ℤ) → t *ℤ (s *ℤ k *ℤ v) ≡ k *ℤ (v *ℤ (s *ℤ t))
+pub rescaled : (s t k v : ℤ) → t *ℤ (s *ℤ k *ℤ v) ≡ k *ℤ (v *ℤ (s *ℤ t))
 rescaled s t k v = ring (env (s ∷ t ∷ k ∷ v ∷ [])) (times (var 1) (times (times (var 0) (var 2)) (var 3))) (times (var 2) (times (var 3) (times (var 0) (var 1)))) refl
 
-not_above : (low v d least : ℤ) → pos 0 <ℤ d → least ≤ℤ (v *ℤ d) → (low *ℤ d) <ℤ (least +ℤ d) → low ≤ℤ v
+pub not_above : (low v d least : ℤ) → pos 0 <ℤ d → least ≤ℤ (v *ℤ d) → (low *ℤ d) <ℤ (least +ℤ d) → low ≤ℤ v
 not_above low v d least p h e =
     let f : d *ℤ (v -ℤ low +ℤ pos 1) ≡ v *ℤ d -ℤ low *ℤ d +ℤ d = ring (env (d ∷ v ∷ low ∷ [])) (times (var 0) (plus (plus (var 1) (minus (var 2))) (num (pos 1)))) (plus (plus (times (var 1) (var 0)) (minus (times (var 2) (var 0)))) (var 0)) refl in
     let x : pos 0 <ℤ (v -ℤ low +ℤ pos 1) = positive_factor d (v -ℤ low +ℤ pos 1) p (rw f (omega (arith, ints))) in
     omega (arith, ints)
 
-not_below : (high v d most : ℤ) → pos 0 <ℤ d → (v *ℤ d) ≤ℤ most → most <ℤ ((high +ℤ pos 1) *ℤ d) → v ≤ℤ high
+pub not_below : (high v d most : ℤ) → pos 0 <ℤ d → (v *ℤ d) ≤ℤ most → most <ℤ ((high +ℤ pos 1) *ℤ d) → v ≤ℤ high
 not_below high v d most p h e =
     let f : d *ℤ (high -ℤ v +ℤ pos 1) ≡ (high +ℤ pos 1) *ℤ d -ℤ v *ℤ d = ring (env (d ∷ v ∷ high ∷ [])) (times (var 0) (plus (plus (var 2) (minus (var 1))) (num (pos 1)))) (plus (times (plus (var 2) (num (pos 1))) (var 0)) (minus (times (var 1) (var 0)))) refl in
     let x : pos 0 <ℤ (high -ℤ v +ℤ pos 1) = positive_factor d (high -ℤ v +ℤ pos 1) p (rw f (omega (arith, ints))) in
@@ -155,10 +155,10 @@ pub record IsRounded (d : ℕ) (errors : Range) (ranges : List Range) (form : Li
 grouped : (s a b : ℤ) → s *ℤ (a +ℤ b) ≡ s *ℤ a +ℤ b *ℤ s
 grouped s a b = ring (env (s ∷ a ∷ b ∷ [])) (times (var 0) (plus (var 1) (var 2))) (plus (times (var 0) (var 1)) (times (var 2) (var 0))) refl
 
-low_fits : (s new error loss low t least : ℤ) → new ≡ error +ℤ loss → error ≡ t *ℤ least → (loss *ℤ s) ≤ℤ low → (s *ℤ new) ≤ℤ (s *ℤ (t *ℤ least) +ℤ low)
+pub low_fits : (s new error loss low t least : ℤ) → new ≡ error +ℤ loss → error ≡ t *ℤ least → (loss *ℤ s) ≤ℤ low → (s *ℤ new) ≤ℤ (s *ℤ (t *ℤ least) +ℤ low)
 low_fits s new error loss low t least e g h = rw (e, grouped s error loss, g) (omega (arith, ints))
 
-high_fits : (s new error loss high t most : ℤ) → new ≡ error +ℤ loss → error ≡ t *ℤ most → high ≤ℤ (loss *ℤ s) → (s *ℤ (t *ℤ most) +ℤ high) ≤ℤ (s *ℤ new)
+pub high_fits : (s new error loss high t most : ℤ) → new ≡ error +ℤ loss → error ≡ t *ℤ most → high ≤ℤ (loss *ℤ s) → (s *ℤ (t *ℤ most) +ℤ high) ≤ℤ (s *ℤ new)
 high_fits s new error loss high t most e g h = rw (e, grouped s error loss, g) (omega (arith, ints))
 
 pub rounded_is : (d : ℕ) (errors : Range) (ranges : List Range) (form : List ℤ) (entry : Entry) → rounded d errors ranges form ≡ Some entry → IsRounded d errors ranges form entry
@@ -209,7 +209,7 @@ sums_parted n d form qs rs us p a b =
     ∙ ap (λ t. t +ℤ sum_at n rs us) (sum_scale n (pos d) (λ j. at qs j *ℤ us j))
 
 -- d times the new symbol is the error and what the coefficients lose
-new_symbol : (s d k v w qs rs : ℤ) → s *ℤ k *ℤ v ≡ d *ℤ qs +ℤ rs → d *ℤ (s *ℤ k *ℤ w -ℤ qs) ≡ s *ℤ k *ℤ (d *ℤ w -ℤ v) +ℤ rs
+pub new_symbol : (s d k v w qs rs : ℤ) → s *ℤ k *ℤ v ≡ d *ℤ qs +ℤ rs → d *ℤ (s *ℤ k *ℤ w -ℤ qs) ≡ s *ℤ k *ℤ (d *ℤ w -ℤ v) +ℤ rs
 new_symbol s d k v w qs rs e =
     let first : d *ℤ (s *ℤ k *ℤ w -ℤ qs) ≡ s *ℤ k *ℤ (d *ℤ w) -ℤ d *ℤ qs =
     ring (env (s ∷ d ∷ k ∷ w ∷ qs ∷ [])) (times (var 1) (plus (times (times (var 0) (var 2)) (var 3)) (minus (var 4)))) (plus (times (times (var 0) (var 2)) (times (var 1) (var 3))) (minus (times (var 1) (var 4)))) refl in
@@ -231,7 +231,7 @@ above s t d step k e new rests high most new_high p q =
 flipped : (d a b : ℤ) → d *ℤ (b -ℤ a) ≡ neg_ℤ (d *ℤ (a -ℤ b))
 flipped d a b = ring (env (d ∷ a ∷ b ∷ [])) (times (var 0) (plus (var 2) (minus (var 1)))) (minus (times (var 0) (plus (var 1) (minus (var 2))))) refl
 
-most_fits : (s t d step k e new rests high most new_high : ℤ) → s ≡ d *ℤ step → pos 0 <ℤ d → pos 0 ≤ℤ s → pos 0 ≤ℤ t → pos 0 ≤ℤ k
+pub most_fits : (s t d step k e new rests high most new_high : ℤ) → s ≡ d *ℤ step → pos 0 <ℤ d → pos 0 ≤ℤ s → pos 0 ≤ℤ t → pos 0 ≤ℤ k
     → d *ℤ new ≡ s *ℤ k *ℤ e +ℤ rests → e ≤ℤ most → (t *ℤ rests) ≤ℤ (k *ℤ high) → (s *ℤ (t *ℤ most) +ℤ high) ≤ℤ (s *ℤ new_high)
     → (t *ℤ new) ≤ℤ (k *ℤ step *ℤ new_high)
 most_fits s t d step k e new rests high most new_high p dp sp tp kp q em rm nh =
@@ -242,7 +242,7 @@ most_fits s t d step k e new rests high most new_high p dp sp tp kp q em rm nh =
     let x = not_negative_factor d (k *ℤ step *ℤ new_high -ℤ t *ℤ new) dp up in
     omega (arith, ints)
 
-least_fits : (s t d step k e new rests low least new_low : ℤ) → s ≡ d *ℤ step → pos 0 <ℤ d → pos 0 ≤ℤ s → pos 0 ≤ℤ t → pos 0 ≤ℤ k
+pub least_fits : (s t d step k e new rests low least new_low : ℤ) → s ≡ d *ℤ step → pos 0 <ℤ d → pos 0 ≤ℤ s → pos 0 ≤ℤ t → pos 0 ≤ℤ k
     → d *ℤ new ≡ s *ℤ k *ℤ e +ℤ rests → least ≤ℤ e → (k *ℤ low) ≤ℤ (t *ℤ rests) → (s *ℤ new_low) ≤ℤ (s *ℤ (t *ℤ least) +ℤ low)
     → (k *ℤ step *ℤ new_low) ≤ℤ (t *ℤ new)
 least_fits s t d step k e new rests low least new_low p dp sp tp kp q el rl nl =
@@ -266,7 +266,7 @@ pub record Enters (k : ℤ) (us : ℕ → ℤ) (ranges : List Range) (entry : En
   pub lies : LiesIn (k *ℤ growth) symbol value
   pub means : Means (suc (length ranges)) (k *ℤ growth) (grown growth (length ranges) us value) entry.form w
 
-quotient_value : (s k step w qs : ℤ) → s *ℤ (k *ℤ step) *ℤ w ≡ step *ℤ qs +ℤ step *ℤ (s *ℤ k *ℤ w -ℤ qs)
+pub quotient_value : (s k step w qs : ℤ) → s *ℤ (k *ℤ step) *ℤ w ≡ step *ℤ qs +ℤ step *ℤ (s *ℤ k *ℤ w -ℤ qs)
 quotient_value s k step w qs = ring (env (s ∷ k ∷ step ∷ w ∷ qs ∷ [])) (times (times (var 0) (times (var 1) (var 2))) (var 3)) (plus (times (var 2) (var 4)) (times (var 2) (plus (times (times (var 0) (var 1)) (var 3)) (minus (var 4))))) refl
 
 pub rounded_enters : (d : ℕ) (errors : Range) (k : ℤ) (us : ℕ → ℤ) (ranges : List Range) (form : List ℤ) (entry : Entry) (v w : ℤ) → 0 < d → pos scale ≡ pos d *ℤ pos (scale / d) → pos 0 <ℤ pos (scale / d)

@@ -194,17 +194,6 @@ summed_further f m (suc n) =
     ∙ plus_same (summed_further f m n) refl
     ∙ +ℤ_assoc (sum_to m f) (sum_to n (λ i. f (m + i))) (f (m + n))
 
--- the sum of both parts
-pub sum_joined : (f : ℕ → ℤ) (m n : ℕ) (first rest sum : ℤ) → IsSum f m first → IsSum (λ i. f (m + i)) n rest → sum ≡ first +ℤ rest → IsSum f (m + n) sum
-sum_joined f m n first rest sum s t e = record {
-  value = e ∙ plus_same s.value t.value ∙ sym (summed_further f m n);
-  each = λ i p. elim (cases_lt i m) [
-    | inl less ↦ s.each i less
-    | inr more ↦ (let same : m + (i - m) ≡ i = omega arith in subst (λ (k : ℕ). unsigned_abs (f k) ≤ most_product) same (t.each (i - m) (omega arith)))
-  ];
-}
-
--- the same numbers
 pub sum_alike : (f g : ℕ → ℤ) (n : ℕ) (sum : ℤ) → ((i : ℕ) → i < n → f i ≡ g i) → IsSum f n sum → IsSum g n sum
 sum_alike f g n sum h s = record {
   value = s.value ∙ sum_same n f g h;

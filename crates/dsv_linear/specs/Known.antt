@@ -1,7 +1,7 @@
 -- What is known of each exact value of a run: forms and plain intervals, node by node and sample by
 -- sample.
 use Rattle.std.specs.Prelude.{ℕ, zero, suc, ◌-◌, ◌^◌, ◌==◌, Bool, ◌&&◌, not}
-use Rattle.std.specs.Prelude.{if◌then◌else◌, List, [], ◌∷◌, ◌++◌, length, drop, map, replicate}
+use Rattle.std.specs.Prelude.{if◌then◌else◌, List, [], ◌∷◌, ◌++◌, length, map, replicate}
 use Rattle.std.specs.Prelude.{slice_index_or, Option, Some, None, option_map, option_to_list}
 use Rattle.std.specs.Prelude.{ℤ, pos, ◌-ℤ◌, int_lt}
 use Rattle.dsv_algebra.specs.Narrow.{narrow_of}
@@ -136,11 +136,6 @@ fact_of format (Some ends) interval =
 -- the range of the form of the value of this number
 abbrev pub ends_at : Point → ℕ → Option Range
 ends_at point of = form_at point.estimates of >>= λ form. form_range point.ranges form
-
--- the same where the first so many symbols are 0
-abbrev pub ends_after : ℕ → Point → ℕ → Option Range
-ends_after count point of = form_at point.estimates of >>= λ form.
-    form_range (drop count point.ranges) (drop count form)
 
 abbrev pub node_fact : Format → Point → Node → Option Fact
 node_fact format point Input = None

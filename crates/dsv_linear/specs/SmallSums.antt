@@ -1,11 +1,9 @@
 -- Serves private contracts: sums of small products, of some of a form's terms.
-use Rattle.std.specs.Prelude.{◌≡◌, ℕ, ◌+◌, ◌<◌, ◌≤◌, List, drop, Some, ℤ}
+use Rattle.std.specs.Prelude.{◌≡◌, ℕ, ◌+◌, ◌<◌, ◌≤◌, List, ℤ}
 use Rattle.std.specs.Int.RustNames.{unsigned_abs}
 use Rattle.dsv_algebra.specs.Vectors.{sum_to}
 use Rattle.dsv_linear.specs.declared.range.Range.{Range}
-use Rattle.dsv_linear.specs.declared.extremes.SplitSums.{SplitSums}
 use Rattle.dsv_linear.specs.Forms.{least_term, greatest_term}
-use Rattle.dsv_linear.specs.Divisions.{extremes}
 use Rattle.dsv_linear.specs.SmallNumbers.{most_product}
 
 -- the sum of so many numbers, each small as a product
@@ -18,9 +16,3 @@ pub record AreSums (ranges : List Range) (form : List ℤ) (from count : ℕ) (s
     Type 0 where
   pub low : IsSum (λ i. least_term ranges form (from + i)) count sums.low
   pub high : IsSum (λ i. greatest_term ranges form (from + i)) count sums.high
-
--- the extreme sums of all terms, and of those after the first so many
-pub record SplitsTo (ranges : List Range) (form : List ℤ) (count : ℕ) (sums : SplitSums) :
-    Type 0 where
-  pub all : extremes ranges form ≡ Some sums.all
-  pub rest : extremes (drop count ranges) (drop count form) ≡ Some sums.rest

@@ -68,7 +68,7 @@ fn wide_sum(alloc: Global, left: &Form, right: &Form) -> Result<Option<Form>, No
 }
 
 /// The form of a sum, where its numbers are narrow.
-pub(crate) fn sum(alloc: Global, left: &Form, right: &Form) -> Result<Option<Form>, NoMemory>
+pub fn sum(alloc: Global, left: &Form, right: &Form) -> Result<Option<Form>, NoMemory>
     ensures { IfOk result (λ form. form ≡ sums left.now right.now) }
 {
     if let (Some(first), Some(second)) = (left.as_short(), right.as_short()) {
@@ -116,7 +116,7 @@ fn wide_difference(alloc: Global, left: &Form, right: &Form) -> Result<Option<Fo
 }
 
 /// The form of a difference, where its numbers are narrow.
-pub(crate) fn difference(alloc: Global, left: &Form, right: &Form) -> Result<Option<Form>, NoMemory>
+pub fn difference(alloc: Global, left: &Form, right: &Form) -> Result<Option<Form>, NoMemory>
     ensures { IfOk result (λ form. form ≡ differences left.now right.now) }
 {
     if let (Some(first), Some(second)) = (left.as_short(), right.as_short()) {
@@ -165,7 +165,7 @@ fn wide_product(alloc: Global, c: NarrowInteger, of: &Form) -> Result<Option<For
 }
 
 /// The form of a product with a number, where its numbers are narrow.
-pub(crate) fn product(alloc: Global, c: NarrowInteger, of: &Form) -> Result<Option<Form>, NoMemory>
+pub fn product(alloc: Global, c: NarrowInteger, of: &Form) -> Result<Option<Form>, NoMemory>
     ensures { IfOk result (λ form. form ≡ products c of.now) }
 {
     match (small_number(c), of.as_short()) {

@@ -5,7 +5,7 @@ ghost use Rattle.dsv_linear.specs.Forms.{least, greatest, least_term, greatest_t
 ghost use Rattle.dsv_linear.specs.Forms.{both, upper, lower, scale, range_scale, form_range};
 ghost use Rattle.dsv_linear.specs.Divisions.{extremes};
 ghost use Rattle.dsv_linear.specs.SmallNumbers.{most_terms};
-ghost use Rattle.dsv_linear.specs.SmallSums.{AreSums, SplitsTo};
+ghost use Rattle.dsv_linear.specs.SmallSums.{AreSums};
 
 use crate::form::Form;
 use crate::range::{Range, greatest_factor, least_factor, lower_quotient, upper_quotient};
@@ -15,15 +15,6 @@ use crate::small::{
 };
 use crate::{RANGE_SCALE, SCALE};
 use dsv_algebra::NarrowInteger;
-
-/// The sums of a form's terms: of all, and of those after the first ones.
-#[derive(Clone, Copy)]
-pub(crate) struct SplitSums {
-    /// The least and the greatest sum of all terms.
-    pub all: Range,
-    /// The same of the terms after the first ones.
-    pub rest: Range,
-}
 
 /// The least product of a form's coefficient with a number in its symbol's range.
 fn least_term(ranges: &[Range], form: &Form, j: usize) -> Option<NarrowInteger>
@@ -143,24 +134,6 @@ fn small_extremes(ranges: &[Range], form: &Form) -> Option<Range>
     sums_between(ranges, form, 0, long)
 }
 
-/// The sums of all terms and of those after the first so many, where the products are small: each
-/// term is taken once.
-fn small_split(ranges: &[Range], form: &Form, count: usize) -> Option<SplitSums>
-    ensures { IfSome result (λ sums. SplitsTo ranges.now form.now count sums) }
-{
-    let long = form.len();
-    if MOST_TERMS < long || ranges.len() < long {
-        return None;
-    }
-    let split = if count < long { count } else { long };
-    let first = sums_between(ranges, form, 0, split)?;
-    let rest = sums_between(ranges, form, split, long)?;
-    Some(SplitSums {
-        all: first.plus(&rest)?,
-        rest,
-    })
-}
-
 /// Both sums, of the terms from one place on.
 fn wide_extremes(ranges: &[Range], form: &Form, from: usize) -> Option<Range>
     ensures { result ≡ extremes (drop from ranges.now) (drop from form.now) }
@@ -184,7 +157,7 @@ pub fn extreme_sums(ranges: &[Range], form: &Form) -> Option<Range>
 
 /// The range of a form's value, which is whole, by its extreme sums.
 #[tactic(auto, using(crate::proofs::Scales::scales))]
-fn whole_range(sums: &Range) -> Option<Range>
+pub fn whole_range(sums: &Range) -> Option<Range>
     ensures { result ≡ both (upper sums.now.low (scale * range_scale))
         (lower sums.now.high (scale * range_scale)) }
 {
@@ -199,37 +172,4 @@ pub(crate) fn form_range(ranges: &[Range], form: &Form) -> Option<Range>
     ensures { result ≡ form_range ranges.now form.now }
 {
     whole_range(&extreme_sums(ranges, form)?)
-}
-
-/// The range of a form's value where the first so many symbols are 0.
-fn rest_range(ranges: &[Range], form: &Form, count: usize) -> Option<Range>
-    ensures { result ≡ form_range (drop count ranges.now) (drop count form.now) }
-{
-    whole_range(&wide_extremes(ranges, form, count)?)
-}
-
-/// The ranges of a value, where they are known.
-#[derive(Clone, Copy)]
-pub struct ValueRanges {
-    /// Over all symbols.
-    pub all: Option<Range>,
-    /// Where the first ones are 0.
-    pub rest: Option<Range>,
-}
-
-/// The ranges of a form's value: over all symbols, and where the first so many are 0.
-pub(crate) fn form_ranges(ranges: &[Range], form: &Form, count: usize) -> ValueRanges
-    ensures all { result.all ≡ form_range ranges.now form.now }
-    ensures rest { result.rest ≡ form_range (drop count ranges.now) (drop count form.now) }
-{
-    if let Some(sums) = small_split(ranges, form, count) {
-        return ValueRanges {
-            all: whole_range(&sums.all),
-            rest: whole_range(&sums.rest),
-        };
-    }
-    ValueRanges {
-        all: form_range(ranges, form),
-        rest: rest_range(ranges, form, count),
-    }
 }

@@ -45,7 +45,7 @@ pub(crate) fn room_for<T>(alloc: Global, count: usize) -> Result<Items<T>, NoMem
 
 impl Form {
     /// The form of 0.
-    pub(crate) fn new(alloc: Global) -> Self
+    pub fn new(alloc: Global) -> Self
         ensures { result ≡ [] }
     {
         Form {
@@ -65,7 +65,7 @@ impl Form {
     }
 
     /// A form of coefficients of any size.
-    pub(crate) fn from_wide(alloc: Global, wide: Items<NarrowInteger>) -> Self
+    pub fn from_wide(alloc: Global, wide: Items<NarrowInteger>) -> Self
         ensures { result ≡ wide }
     {
         Form {
@@ -115,7 +115,7 @@ impl Form {
     }
 
     /// The coefficient of a symbol.
-    pub(crate) fn coefficient(&self, j: usize) -> NarrowInteger
+    pub fn coefficient(&self, j: usize) -> NarrowInteger
         ensures { result ≡ at self.now j }
     {
         let short = self.short.as_slice();
@@ -130,7 +130,7 @@ impl Form {
     }
 
     /// The form, copied.
-    pub(crate) fn copy(&self, alloc: Global) -> Result<Form, NoMemory>
+    pub fn copy(&self, alloc: Global) -> Result<Form, NoMemory>
         ensures { IfOk result (λ form. form ≡ self.now) }
     {
         Ok(Form {

@@ -7,10 +7,10 @@
 ghost use Rattle.std.specs.Prelude.{◌≡◌, if◌then◌else◌, int_lt, Some, None};
 ghost use Rattle.dsv_linear.specs.Known.{interval_at, rounded_end, rounded_range, cut_range};
 ghost use Rattle.dsv_linear.specs.Known.{node_interval, is_word, are_words, fact_of};
-ghost use Rattle.dsv_linear.specs.Known.{ends_at, ends_after, node_fact};
+ghost use Rattle.dsv_linear.specs.Known.{ends_at, node_fact};
 ghost use Rattle.dsv_linear.specs.NodeIntervals.{sum_interval, difference_interval};
 
-use crate::extremes::{ValueRanges, form_range, form_ranges};
+use crate::extremes::form_range;
 use crate::fact::Fact;
 use crate::point::{Estimate, Point, Start, form_at};
 use crate::powers::one;
@@ -130,21 +130,6 @@ fn ranged_fact(format: &Format, ends: &Range, interval: Option<Range>) -> Fact
     match interval {
         Some(plain) if are_words(format, &plain) => Fact::Within { low, high },
         _ => Fact::Inside,
-    }
-}
-
-/// The ranges of the form of the value of this number: over all symbols, and where the first so
-/// many are 0.
-pub fn ranges_at(point: &Point, count: usize, i: u32) -> ValueRanges
-    ensures all { result.all ≡ ends_at point.now i }
-    ensures rest { result.rest ≡ ends_after count point.now i }
-{
-    match form_at(&point.estimates, i) {
-        Some(form) => form_ranges(point.ranges.as_slice(), form, count),
-        None => ValueRanges {
-            all: None,
-            rest: None,
-        },
     }
 }
 

@@ -17,15 +17,16 @@ mod rounding;
 mod run;
 mod small;
 
-pub use arithmetic::unit;
-pub use extremes::{ValueRanges, extreme_sums};
+pub use arithmetic::{difference, product, sum, unit};
+pub use extremes::{extreme_sums, whole_range};
 pub use fact::Fact;
 pub use form::Form;
-pub use intervals::{are_words, ranges_at};
-pub use nodes::add_form;
-pub use point::{Entry, Estimate, Point, Start, form_at};
+pub use intervals::are_words;
+pub use point::{Entry, Estimate, Point, Start};
+pub use powers::{one, power};
 pub use range::Range;
-pub use run::{Facts, facts_of, loaded_estimates, next_of, no_point, nodes_of, zero_start};
+pub use rounding::{step, symbol_range};
+pub use run::{Facts, facts_of, next_of, no_point, nodes_of, zero_start};
 
 /// What coefficients are multiplied by.
 pub const SCALE: u64 = 1 << 53;

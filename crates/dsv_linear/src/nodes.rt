@@ -189,17 +189,3 @@ pub(crate) fn add_node(
     let fact = node_fact(&start.format, point, node);
     point.advance(entry, interval, fact)
 }
-
-/// Adds the form alone that a node gives, no interval and no fact.
-pub fn add_form(
-    alloc: Global,
-    start: &Start,
-    point: &mut Point,
-    node: &Node,
-) -> Result<(), NoMemory>
-    ensures { IfOk result (λ u. point.new
-        ≡ advanced point.old (node_entry start.now point.old node.now) None None) }
-{
-    let entry = node_entry(alloc, start, point, node)?;
-    point.advance(entry, None, None)
-}

@@ -7,7 +7,7 @@ use dsv_word::Format;
 
 /// Two to that power.
 #[tactic(auto, using(crate::proofs::Scales::powers))]
-pub(crate) fn power(bits: u32) -> u64
+pub fn power(bits: u32) -> u64
     requires { bits ≤ widest_word }
     ensures value { result ≡ 2 ^ bits }
     ensures positive { 0 < result }
@@ -17,7 +17,7 @@ pub(crate) fn power(bits: u32) -> u64
 }
 
 /// The word that stands for 1.
-pub(crate) fn one(format: &Format) -> NarrowInteger
+pub fn one(format: &Format) -> NarrowInteger
     ensures { result ≡ pos (2 ^ format.now.frac_bits) }
 {
     NarrowInteger::from(i128::from(power(format.frac_bits)))

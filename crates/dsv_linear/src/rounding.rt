@@ -52,7 +52,7 @@ fn loss_range(rests: &Range) -> Option<Range>
 }
 
 /// The range of a rounding's symbol: its error, and what the coefficients lose.
-fn symbol_range(format: &Format, rests: &Range) -> Option<Range>
+pub fn symbol_range(format: &Format, rests: &Range) -> Option<Range>
     ensures { result ≡ symbol_by (error_range format.now.rounding format.now.frac_bits) rests.now }
 {
     let loss = loss_range(rests)?;
@@ -62,7 +62,7 @@ fn symbol_range(format: &Format, rests: &Range) -> Option<Range>
 
 /// The scale divided by a power of two.
 #[tactic(auto, using(crate::proofs::Scales::scales))]
-fn step(d: u64) -> i64
+pub fn step(d: u64) -> i64
     requires { 0 < d }
     ensures { result ≡ pos (scale / d) }
 {

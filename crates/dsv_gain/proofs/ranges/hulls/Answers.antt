@@ -1,7 +1,7 @@
 use Rattle.std.proofs.Common.{◌≡◌, [], ◌∷◌, ◌++◌, arith, inl, inr, ◌∙◌, refl}
 use Rattle.std.specs.Prelude.{pos}
 use Rattle.dsv_linear.specs.Forms.{range, range_at}
-use Rattle.dsv_gain.specs.Gains.{hull}
+use Rattle.dsv_gain.specs.Samples.{hull}
 use Rattle.dsv_gain.proofs.Loops.{hulls_more, hulls_all}
 use Rattle.dsv_gain.proofs.ranges.hulls.Goals as goal
 

@@ -1,0 +1,261 @@
+-- A walk over all nodes of a sample.
+use Rattle.std.proofs.Common.{◌≡◌, ℕ, suc, ◌+◌, ◌^◌, ◌<◌, ◌≤◌, List, [], ◌∷◌, ◌++◌, length, refl, sym, subst, ap, ◌∙◌, arith}
+use Rattle.std.specs.Prelude.{Option, Some}
+use Rattle.std.specs.List.{All}
+use Rattle.std.proofs.Math.IntN.{ℤ, pos}
+use Rattle.std.proofs.lemmas.Int.{ints}
+use lib.Signed.{◌≤ℤ◌}
+use Rattle.std.proofs.lemmas.List.{get_or_append_left, get_or_push, length_push}
+use Rattle.dsv_word.specs.declared.format.Format.{Format}
+use Rattle.dsv_word.specs.Words.{IsWord}
+use Rattle.dsv_netlist.specs.Nodes.{Sample, at, node_value, node_exact}
+use Rattle.dsv_netlist.specs.declared.node.Node.{Node}
+use Rattle.dsv_netlist.specs.declared.node.Node.TheVariants.{Input, Reg, MulConst, Round, Add, Sub, Fit, Scale}
+use Rattle.dsv_linear.specs.Facts.{Between}
+use Rattle.dsv_linear.specs.declared.range.Range.{Range}
+use Rattle.dsv_linear.specs.Forms.{◌>>=◌, range_at}
+use Rattle.dsv_linear.specs.Meaning.{LiesIn}
+use Rattle.dsv_linear.proofs.Numbers.{some_of}
+use Rattle.dsv_linear.proofs.Points.{all_front, all_back}
+use Rattle.dsv_gain.specs.declared.ends.Ends.TheVariants as shown
+use Rattle.dsv_gain.specs.declared.weights.Weights.{Weights}
+use Rattle.dsv_gain.specs.declared.pass.Pass.{Pass}
+use Rattle.dsv_gain.specs.declared.walk.Walk.{Walk}
+use Rattle.dsv_gain.specs.Samples.{no_weights, weights_at, own_after, after_node, walk_from, value_range, node_ends, with_ends, shown_by, then_ends, ends_from}
+use Rattle.dsv_gain.specs.Safe.{LieWithin}
+use Rattle.dsv_gain.proofs.Values.{lie_append, lie_words, rest_of, rest_more, none_lie, value_is, parts_are}
+use Rattle.dsv_gain.proofs.Walks.{form_of, IsStep, step_is, weights_long, walk_or_is, coefficients, means_same}
+use Rattle.dsv_gain.proofs.Widening.{IsWider, wider_same, wider_further}
+use Rattle.dsv_gain.proofs.Solutions.{AreAges, AreWalks, Solution, after, AreMade, steps}
+use Rattle.dsv_gain.proofs.Nodes.{NodeSums, NodeTakes, Before, Next, new_weights, node_more, fit_lies}
+
+-- ---- what is known of the nodes that are left
+-- how many symbols they bring
+abbrev pub symbols_in : List Node → ℕ
+symbols_in [] = 0
+symbols_in (node ∷ nodes) = own_after 0 node + symbols_in nodes
+
+-- their weights are sums over T samples, from that of this number on
+abbrev pub AreSummed : ℕ → ℕ → ℕ → ℕ → (ℕ → Pass) → (ℕ → Walk) → List Weights → ℕ → List Node → Type 0
+AreSummed n m T d ps ws list i [] = Unit {0}
+AreSummed n m T d ps ws list i (node ∷ nodes) = NodeSums n m T d ws (weights_at list i) node × AreSummed n m T d ps (after ps ws node) list (suc i) nodes
+
+-- the ranges of their symbols hold the inputs
+abbrev pub AreTaken : ℤ → ℤ → List Range → ℕ → List Node → Type 0
+AreTaken low high rs own [] = Unit {0}
+AreTaken low high rs own (node ∷ nodes) = NodeTakes low high (range_at rs own) node × AreTaken low high rs (own_after own node) nodes
+
+takes_wider : (low high : ℤ) (r s : Range) (node : Node) → (s.low ≤ℤ r.low) × (r.high ≤ℤ s.high) → NodeTakes low high r node → NodeTakes low high s node
+takes_wider low high r s Input w t = (let a = w.0 in let b = t.0 in omega (arith, ints, a, b), let a = w.1 in let b = t.1 in omega (arith, ints, a, b))
+takes_wider low high r s (Reg i) w t = tt
+takes_wider low high r s (MulConst c i) w t = tt
+takes_wider low high r s (Round i) w t = tt
+takes_wider low high r s (Add i j) w t = tt
+takes_wider low high r s (Sub i j) w t = tt
+takes_wider low high r s (Fit i) w t = tt
+takes_wider low high r s (Scale i) w t = tt
+
+pub taken_wider : (low high : ℤ) (rs ss : List Range) (own : ℕ) (ns : List Node) → IsWider rs ss → AreTaken low high rs own ns → AreTaken low high ss own ns
+taken_wider low high rs ss own [] w t = tt
+taken_wider low high rs ss own (n ∷ ns) w t = (takes_wider low high (range_at rs own) (range_at ss own) n (w own) t.0, taken_wider low high rs ss (own_after own n) ns w t.1)
+
+pub own_sum : (own : ℕ) (node : Node) → own_after own node ≡ own + own_after 0 node
+own_sum own Input = omega arith
+own_sum own (Reg r) = omega arith
+own_sum own (MulConst c i) = omega arith
+own_sum own (Round i) = omega arith
+own_sum own (Add i j) = omega arith
+own_sum own (Sub i j) = omega arith
+own_sum own (Fit i) = omega arith
+own_sum own (Scale i) = omega arith
+
+pub record Midway (silent n m t own : ℕ) (f : Format) (low high : ℤ) (ps : ℕ → Pass) (ws finals : ℕ → Walk) (words vs : List ℤ) (x : ℤ) (ns : List Node) : Type 0 where
+  pub ages : AreAges n m f t ps
+  pub walks : AreWalks n own t ws vs
+  pub solution : Solution silent n m t own ps ws words vs
+  pub long : length (ws t).ranges ≡ m
+  pub less : silent ≤ n
+  pub room : own + symbols_in ns ≡ m
+  pub input : Between low high x
+  pub takes : AreTaken low high (ws t).ranges own ns
+  pub weighed : length (ws t).weights ≡ length vs
+  pub sums : AreSummed n m t (2 ^ f.frac_bits) ps ws (ps t).weights (length vs) ns
+  pub made : (a : ℕ) → a ≤ t → walk_from (ps a) ns (ws a) ≡ Some (finals a)
+
+-- ---- one node
+first_made : {silent n m t own : ℕ} {f : Format} {low high : ℤ} {ps : ℕ → Pass} {ws finals : ℕ → Walk} {words vs : List ℤ} {x : ℤ} {node : Node} {ns : List Node} (d : Midway silent n m t own f low high ps ws finals words vs x (node ∷ ns)) → AreMade t ps ws node
+first_made {silent} {n} {m} {t} {own} {f} {low} {high} {ps} {ws} {finals} {words} {vs} {x} {node} {ns} d a l =
+    let one = some_of (after_node (ps a) (ws a) node) (walk_from (ps a) ns) (finals a) (d.made a l) in
+    walk_or_is (ws a) (after_node (ps a) (ws a) node) one.0 one.1
+
+rest_made : {silent n m t own : ℕ} {f : Format} {low high : ℤ} {ps : ℕ → Pass} {ws finals : ℕ → Walk} {words vs : List ℤ} {x : ℤ} {node : Node} {ns : List Node} (d : Midway silent n m t own f low high ps ws finals words vs x (node ∷ ns)) (a : ℕ) → a ≤ t
+    → walk_from (ps a) ns (after ps ws node a) ≡ Some (finals a)
+rest_made {silent} {n} {m} {t} {own} {f} {low} {high} {ps} {ws} {finals} {words} {vs} {x} {node} {ns} d a l =
+    sym (ap (λ (o : Option Walk). o >>= walk_from (ps a) ns) (first_made d a l)) ∙ d.made a l
+
+before : {silent n m t own : ℕ} {f : Format} {low high : ℤ} {ps : ℕ → Pass} {ws finals : ℕ → Walk} {words vs : List ℤ} {x : ℤ} {node : Node} {ns : List Node} (d : Midway silent n m t own f low high ps ws finals words vs x (node ∷ ns))
+    → Before silent n m t own f low high ps ws words vs x node
+before {silent} {n} {m} {t} {own} {f} {low} {high} {ps} {ws} {finals} {words} {vs} {x} {node} {ns} d = record {
+  ages = d.ages;
+  walks = d.walks;
+  made = first_made d;
+  solution = d.solution;
+  long = d.long;
+  less = d.less;
+  room = let r = d.room in let o = own_sum own node in omega (arith, r, o);
+  input = d.input;
+  takes = d.takes.0;
+  sums = subst (λ (i : ℕ). NodeSums n m t (2 ^ f.frac_bits) ws (weights_at (ps t).weights i) node) (sym (d.walks.long t (omega arith))) d.sums.0;
+}
+
+new_weight : (pass : Pass) (walk next : Walk) (n : Node) (i : ℕ) (s : IsStep pass walk n next) → length walk.weights ≡ i → weights_at next.weights i ≡ s.weights
+new_weight pass walk next n i s e = ap (λ (w : Walk). weights_at w.weights i) s.same ∙ get_or_push walk.weights s.weights no_weights i e
+
+old_weight : (pass : Pass) (walk next : Walk) (n : Node) (i : ℕ) → IsStep pass walk n next → i < length walk.weights → weights_at next.weights i ≡ weights_at walk.weights i
+old_weight pass walk next n i s e = ap (λ (w : Walk). weights_at w.weights i) s.same ∙ get_or_append_left walk.weights (s.weights ∷ []) no_weights i e
+
+-- weights stay as they are
+weights_stay : (pass : Pass) (ns : List Node) (walk final : Walk) (i : ℕ) → walk_from pass ns walk ≡ Some final → i < length walk.weights → weights_at final.weights i ≡ weights_at walk.weights i
+weights_stay pass [] walk final i e l = let same : walk ≡ final = cc in ap (λ (w : Walk). weights_at w.weights i) (sym same)
+weights_stay pass (n ∷ ns) walk final i e l =
+    let one = some_of (after_node pass walk n) (walk_from pass ns) final e in
+    let s = step_is pass walk n one.0 one.1 in
+    let long = weights_long pass walk one.0 n s in
+    weights_stay pass ns one.0 final i one.2 (omega (arith, l, long)) ∙ old_weight pass walk one.0 n i s l
+
+further : {silent n m t own : ℕ} {f : Format} {low high : ℤ} {ps : ℕ → Pass} {ws finals : ℕ → Walk} {words vs : List ℤ} {x : ℤ} {node : Node} {ns : List Node} (d : Midway silent n m t own f low high ps ws finals words vs x (node ∷ ns)) (v : ℤ)
+    → Next silent n m t own f ps ws words vs v node (new_weights ps ws node (first_made d)) → Midway silent n m t (own_after own node) f low high ps (after ps ws node) finals words (vs ++ v ∷ []) x ns
+further {silent} {n} {m} {t} {own} {f} {low} {high} {ps} {ws} {finals} {words} {vs} {x} {node} {ns} d v g =
+    let push = length_push vs v in
+    record {
+      ages = d.ages;
+      walks = g.walks;
+      solution = g.solution;
+      long = g.long;
+      less = d.less;
+      room = let r = d.room in let o = own_sum own node in omega (arith, r, o);
+      input = d.input;
+      takes = taken_wider low high (ws t).ranges (after ps ws node t).ranges (own_after own node) ns g.wider d.takes.1;
+      weighed = let e = weights_long (ps t) (ws t) (after ps ws node t) node (steps t ps ws node (first_made d) t (omega arith)) in let w = d.weighed in omega (arith, e, w, push);
+      sums = subst (λ (i : ℕ). AreSummed n m t (2 ^ f.frac_bits) ps (after ps ws node) (ps t).weights i ns) (let same : suc (length vs) ≡ length (vs ++ v ∷ []) = omega (arith, push) in same) d.sums.1;
+      made = rest_made d;
+    }
+
+-- ---- all nodes
+pub record Done (silent n m t : ℕ) (f : Format) (ps : ℕ → Pass) (ws finals : ℕ → Walk) (words vs values : List ℤ) (ns : List Node) : Type 0 where
+  pub own : ℕ
+  pub walks : AreWalks n own t finals values
+  pub solution : Solution silent n m t own ps finals words values
+  pub long : length (finals t).ranges ≡ m
+  pub full : own ≡ m
+  pub wider : IsWider (ws t).ranges (finals t).ranges
+  pub sums : AreSummed n m (suc t) (2 ^ f.frac_bits) ps ws (finals t).weights (length vs) ns
+
+walks_same : (n own t : ℕ) (ws ss : ℕ → Walk) (vs : List ℤ) → ((a : ℕ) → a ≤ t → ws a ≡ ss a) → AreWalks n own t ws vs → AreWalks n own t ss vs
+walks_same n own t ws ss vs e w = record {
+  long = λ a l. subst (λ (x : Walk). length x.forms ≡ length vs) (e a l) (w.long a l);
+  own_is = λ a l. subst (λ (x : Walk). x.own ≡ own) (e a l) (w.own_is a l);
+  few = w.few;
+  none = λ i j l. subst (λ (x : Walk). at (form_of x.forms i) j ≡ pos 0) (e 0 (omega arith)) (w.none i j l);
+}
+
+solution_same : (silent n m t own : ℕ) (ps : ℕ → Pass) (ws ss : ℕ → Walk) (words vs : List ℤ) → ((a : ℕ) → a ≤ t → ws a ≡ ss a) → Solution silent n m t own ps ws words vs → Solution silent n m t own ps ss words vs
+solution_same silent n m t own ps ws ss words vs e s = record {
+  k = s.k;
+  us = s.us;
+  positive = s.positive;
+  none = s.none;
+  past = s.past;
+  start = λ j l. subst (λ (x : Walk). LiesIn s.k (range_at x.ranges j) (s.us t j)) (e t (omega arith)) (s.start j l);
+  lies = λ a j l p q h. subst (λ (x : Walk). LiesIn s.k (range_at x.ranges j) (s.us a j)) (e t (omega arith)) (s.lies a j l p q h);
+  many = s.many;
+  loaded = s.loaded;
+  stand = λ i l. means_same m t s.k s.us (coefficients (λ a. (ws a).forms) i) (coefficients (λ a. (ss a).forms) i) (at vs i) (λ a j p q. ap (λ (x : Walk). at (form_of x.forms i) j) (sym (e a (omega (arith, p))))) (s.stand i l);
+}
+
+-- the exact values of the nodes that are left are words
+pub walked : {silent n m t own : ℕ} {f : Format} {low high : ℤ} (ps : ℕ → Pass) (ws finals : ℕ → Walk) (words vs : List ℤ) (x : ℤ) (ns : List Node) → Midway silent n m t own f low high ps ws finals words vs x ns
+    → All (IsWord f) (rest_of f words x ns vs).exact → Done silent n m t f ps ws finals words vs (rest_of f words x ns vs).values ns
+unfolding first_made before
+walked {silent} {n} {m} {t} {own} {f} {low} {high} ps ws finals words vs x [] d e =
+    let same : (a : ℕ) → a ≤ t → ws a ≡ finals a = λ a l. (let g = d.made a l in cc) in
+    record {
+      own = own;
+      walks = walks_same n own t ws finals vs same d.walks;
+      solution = solution_same silent n m t own ps ws finals words vs same d.solution;
+      long = subst (λ (w : Walk). length w.ranges ≡ m) (same t (omega arith)) d.long;
+      full = let r = d.room in omega (arith, r);
+      wider = subst (λ (w : Walk). IsWider (ws t).ranges w.ranges) (same t (omega arith)) (wider_same (ws t).ranges);
+      sums = tt;
+    }
+walked {silent} {n} {m} {t} {own} {f} {low} {high} ps ws finals words vs x (node ∷ ns) d e =
+    let W = IsWord f in
+    let v = node_value f words x vs node in
+    let now = vs ++ v ∷ [] in
+    let h = rest_more f words x node ns vs in
+    let c : All W (node_exact vs node ++ (rest_of f words x ns now).exact) = subst (λ (m : Sample). All W m.exact) h e in
+    let g = node_more ps ws words vs x node (before d) (all_front W (node_exact vs node) (rest_of f words x ns now).exact c) in
+    let last = walked ps (after ps ws node) finals words now x ns (further d v g) (all_back W (node_exact vs node) (rest_of f words x ns now).exact c) in
+    let s = steps t ps ws node (first_made d) t (omega arith) in
+    let long = weights_long (ps t) (ws t) (after ps ws node t) node s in
+    let weighed = d.weighed in
+    let push = length_push vs v in
+    let weight : weights_at (finals t).weights (length vs) ≡ s.weights =
+    weights_stay (ps t) ns (after ps ws node t) (finals t) (length vs) (rest_made d t (omega arith)) (omega (arith, long, weighed)) ∙ new_weight (ps t) (ws t) (after ps ws node t) node (length vs) s weighed in
+    subst (λ (m' : Sample). Done silent n m t f ps ws finals words vs m'.values (node ∷ ns)) (sym h) (record {
+      own = last.own;
+      walks = last.walks;
+      solution = last.solution;
+      long = last.long;
+      full = last.full;
+      wider = wider_further (ws t).ranges (after ps ws node t).ranges (finals t).ranges g.wider last.wider;
+      sums = (
+        subst (λ (w : Weights). NodeSums n m (suc t) (2 ^ f.frac_bits) ws w node) (sym weight) g.sums,
+        subst (λ (i : ℕ). AreSummed n m (suc t) (2 ^ f.frac_bits) ps (after ps ws node) (finals t).weights i ns) (let same : length now ≡ suc (length vs) = omega (arith, push) in same) last.sums,
+      );
+    })
+
+-- ---- their exact values lie in the ranges that are shown
+some_ranges : (rs ss : List Range) → Some rs ≡ Some ss → ss ≡ rs
+some_ranges rs ss e = cc
+
+fit_ranges : (pass : Pass) (walk next : Walk) (i : ℕ) → IsStep pass walk (Fit i) next → next.ranges ≡ walk.ranges
+fit_ranges pass walk next i s = ap (λ (w : Walk). w.ranges) s.same ∙ some_ranges walk.ranges s.ranges s.ranges_are
+
+node_lies : {silent n m t own : ℕ} {f : Format} {low high : ℤ} (ps : ℕ → Pass) (ws : ℕ → Walk) (words vs : List ℤ) (x : ℤ) (off : ℕ) (node : Node) (all : List Range) (b : Before silent n m t own f low high ps ws words vs x node) → off ≤ silent
+    → node_ends off f (after ps ws node t).ranges (new_weights ps ws node b.made) node ≡ shown.Words all → LieWithin f all (node_exact vs node)
+node_lies {f = f} ps ws words vs x off Input all b l e = none_lie f all e
+node_lies {f = f} ps ws words vs x off (Reg r) all b l e = none_lie f all e
+node_lies {f = f} ps ws words vs x off (MulConst c i) all b l e = none_lie f all e
+node_lies {f = f} ps ws words vs x off (Round i) all b l e = none_lie f all e
+node_lies {f = f} ps ws words vs x off (Add i j) all b l e = none_lie f all e
+node_lies {f = f} ps ws words vs x off (Sub i j) all b l e = none_lie f all e
+node_lies {f = f} ps ws words vs x off (Scale i) all b l e = none_lie f all e
+node_lies {silent} {n} {m} {t} {own} {f} {low} {high} ps ws words vs x off (Fit i) all b l e =
+    let w = new_weights ps ws (Fit i) b.made in
+    let o = value_is f (value_range off (after ps ws (Fit i) t).ranges w) all e in
+    let known = subst (λ (rs : List Range). value_range off rs w ≡ Some o.ends) (fit_ranges (ps t) (ws t) (after ps ws (Fit i) t) i (steps t ps ws (Fit i) b.made t (omega arith))) o.known in
+    subst (λ (rs : List Range). LieWithin f rs (at vs i ∷ [])) (sym o.alone) (record { low_word = o.low; high_word = o.high; between = fit_lies ps ws words vs x i off o.ends b l known }, tt)
+
+pub walk_lies : {silent n m t own : ℕ} {f : Format} {low high : ℤ} (ps : ℕ → Pass) (ws finals : ℕ → Walk) (words vs : List ℤ) (x : ℤ) (off : ℕ) (ns : List Node) (all : List Range) → Midway silent n m t own f low high ps ws finals words vs x ns → off ≤ silent
+    → ends_from off (ps t) ns (ws t) ≡ shown.Words all → LieWithin f all (rest_of f words x ns vs).exact
+unfolding first_made before
+walk_lies {f = f} ps ws finals words vs x off [] all d l e = none_lie f all e
+walk_lies {silent} {n} {m} {t} {own} {f} {low} {high} ps ws finals words vs x off (node ∷ ns) all d l e =
+    let v = node_value f words x vs node in
+    let now = vs ++ v ∷ [] in
+    let made = first_made d in
+    let s = steps t ps ws node made t (omega arith) in
+    let next = after ps ws node t in
+    let g : with_ends (shown_by off (ps t).format (length (ws t).weights) node next) (ends_from off (ps t) ns next) ≡ shown.Words all =
+    sym (ap (λ (o : Option Walk). then_ends (shown.Leaves 0) (shown_by off (ps t).format (length (ws t).weights) node) (ends_from off (ps t) ns) o) (made t (omega arith))) ∙ e in
+    let p = parts_are (shown_by off (ps t).format (length (ws t).weights) node next) (ends_from off (ps t) ns next) all g in
+    let shows : node_ends off f next.ranges s.weights node ≡ shown.Words p.ranges =
+    subst (λ (g : Format). node_ends off g next.ranges s.weights node ≡ shown.Words p.ranges) (d.ages.format t (omega arith))
+    (subst (λ (w : Weights). node_ends off (ps t).format next.ranges w node ≡ shown.Words p.ranges) (new_weight (ps t) (ws t) next node (length (ws t).weights) s refl) p.here) in
+    let here = node_lies ps ws words vs x off node p.ranges (before d) l shows in
+    let after_it = node_more ps ws words vs x node (before d) (lie_words f p.ranges (node_exact vs node) here) in
+    let there = walk_lies ps (after ps ws node) finals words now x off ns p.more (further d v after_it) l p.there in
+    subst (λ (rs : List Range). LieWithin f rs (rest_of f words x (node ∷ ns) vs).exact) p.together
+    (subst (λ (m' : Sample). LieWithin f (p.ranges ++ p.more) m'.exact) (sym (rest_more f words x node ns vs))
+    (lie_append f p.ranges p.more (node_exact vs node) (rest_of f words x ns now).exact here there))

@@ -1,0 +1,200 @@
+// What the coefficients of values come to over all samples so far.
+ghost use Rattle.std.specs.Prelude.{◌≡◌, ◌<◌, length, drop, IfOk};
+ghost use Rattle.dsv_algebra.specs.Narrow.{narrow_of};
+ghost use Rattle.dsv_gain.specs.Samples.{part_of, kept, added, no_weights, fitted, left_over};
+ghost use Rattle.dsv_gain.specs.Samples.{end_of, weighted_term, weighted, least_sum, greatest_sum};
+ghost use Rattle.dsv_gain.specs.Samples.{weight_sums, after_first, value_range};
+
+use crate::pass::Pass;
+use dsv_algebra::NarrowInteger;
+use dsv_base::{Items, NoMemory};
+use dsv_linear::{Form, Range, power, whole_range};
+use std::alloc::Global;
+
+/// What the coefficients of a value come to over all samples so far, for each symbol: the sums of
+/// their positive and of their negative parts, or of what a rounding leaves of them. The start's
+/// symbols count in the newest form alone.
+#[derive(Drop)]
+pub(crate) struct Weights {
+    pub positive: Form,
+    pub negative: Form,
+}
+
+/// The part of a coefficient that is added up.
+#[derive(Clone, Copy)]
+pub(crate) enum Part {
+    Positive,
+    Negative,
+    /// What is left of it when it is divided.
+    Rest,
+}
+
+/// An end of a range.
+#[derive(Clone, Copy)]
+pub(crate) enum End {
+    Low,
+    High,
+}
+
+impl Part {
+    /// This part of a coefficient, where a rounding divides by `d`.
+    fn of(self, d: u64, v: NarrowInteger) -> NarrowInteger
+        requires { 0 < d }
+        ensures { result ≡ part_of self d v }
+    {
+        let zero = NarrowInteger::from(0i64);
+        match self {
+            Part::Positive => { if v.get() < 0 { zero } else { v } }
+            Part::Negative => { if v.get() < 0 { v } else { zero } }
+            Part::Rest => NarrowInteger::from(v.get().rem_euclid(i128::from(d))),
+        }
+    }
+}
+
+impl End {
+    /// This end of a range.
+    fn of(self, range: &Range) -> NarrowInteger
+        ensures { result ≡ end_of self range.now }
+    {
+        match self {
+            End::Low => range.low,
+            End::High => range.high,
+        }
+    }
+}
+
+/// What stays of the samples before of the weight of a symbol.
+fn kept_coefficient(count: usize, old: &Form, j: usize) -> NarrowInteger
+    ensures { result ≡ kept count old.now j }
+{
+    if j < count {
+        NarrowInteger::from(0i64)
+    } else {
+        old.coefficient(j)
+    }
+}
+
+/// The sums with this part of a form's coefficients, where they are narrow.
+fn added_parts(
+    alloc: Global,
+    pass: &Pass,
+    part: Part,
+    old: &Form,
+    form: &Form,
+) -> Result<Option<Form>, NoMemory>
+    ensures { IfOk result (λ list. list ≡ added pass.now part old.now form.now) }
+{
+    let d = power(pass.format.frac_bits);
+    let mut list = Items::new(alloc);
+    for j in 0..pass.ranges.len() {
+        let more = part.of(d, form.coefficient(j));
+        let Some(sum) = kept_coefficient(pass.count as usize, old, j).checked_add(more) else {
+            return Ok(None);
+        };
+        list.push(sum)?;
+    }
+    Ok(Some(Form::from_wide(alloc, list)))
+}
+
+/// The coefficient of a symbol times this end of its range.
+fn term(end: End, ranges: &[Range], form: &Form, j: usize) -> Option<NarrowInteger>
+    requires { j < length ranges.now }
+    ensures { result ≡ narrow_of (weighted_term end ranges.now form.now j) }
+{
+    form.coefficient(j).checked_mul(end.of(&ranges[j]))
+}
+
+/// The sum of coefficients from a place on, each times this end of its symbol's range.
+fn weighted_sum(end: End, ranges: &[Range], form: &Form, from: usize) -> Option<NarrowInteger>
+    ensures { result ≡ weighted end (drop from ranges.now) (drop from form.now) }
+{
+    let mut sum = NarrowInteger::from(0i64);
+    for j in from..ranges.len() {
+        let term = term(end, ranges, form, j)?;
+        sum = sum.checked_add(term)?;
+    }
+    Some(sum)
+}
+
+impl Weights {
+    /// Of no coefficient.
+    pub(crate) fn none(alloc: Global) -> Self
+        ensures { result ≡ no_weights }
+    {
+        Weights {
+            positive: Form::new(alloc),
+            negative: Form::new(alloc),
+        }
+    }
+
+    /// With those of a value that is fitted.
+    pub(crate) fn fitted_weights(
+        &self,
+        alloc: Global,
+        pass: &Pass,
+        form: &Form,
+    ) -> Result<Option<Weights>, NoMemory>
+        ensures { IfOk result (λ weights. weights ≡ fitted pass.now self.now form.now) }
+    {
+        let Some(positive) = added_parts(alloc, pass, Part::Positive, &self.positive, form)? else {
+            return Ok(None);
+        };
+        let Some(negative) = added_parts(alloc, pass, Part::Negative, &self.negative, form)? else {
+            return Ok(None);
+        };
+        Ok(Some(Weights { positive, negative }))
+    }
+
+    /// With what is left of those of a value that is rounded.
+    pub(crate) fn left_over(
+        &self,
+        alloc: Global,
+        pass: &Pass,
+        form: &Form,
+    ) -> Result<Option<Weights>, NoMemory>
+        ensures { IfOk result (λ weights. weights ≡ left_over pass.now self.now form.now) }
+    {
+        let Some(positive) = added_parts(alloc, pass, Part::Rest, &self.positive, form)? else {
+            return Ok(None);
+        };
+        Ok(Some(Weights {
+            positive,
+            negative: Form::new(alloc),
+        }))
+    }
+
+    /// The least sum of those from a place on, each times a number in its symbol's range.
+    fn least_sum(&self, ranges: &[Range], from: usize) -> Option<NarrowInteger>
+        ensures { result ≡ least_sum (drop from ranges.now) (after_first from self.now) }
+    {
+        let positive = weighted_sum(End::Low, ranges, &self.positive, from)?;
+        let negative = weighted_sum(End::High, ranges, &self.negative, from)?;
+        positive.checked_add(negative)
+    }
+
+    /// The greatest of these sums.
+    fn greatest_sum(&self, ranges: &[Range], from: usize) -> Option<NarrowInteger>
+        ensures { result ≡ greatest_sum (drop from ranges.now) (after_first from self.now) }
+    {
+        let positive = weighted_sum(End::High, ranges, &self.positive, from)?;
+        let negative = weighted_sum(End::Low, ranges, &self.negative, from)?;
+        positive.checked_add(negative)
+    }
+
+    /// The least and the greatest of these sums.
+    pub(crate) fn sums_from(&self, ranges: &[Range], from: usize) -> Option<Range>
+        ensures { result ≡ weight_sums (drop from ranges.now) (after_first from self.now) }
+    {
+        Some(Range {
+            low: self.least_sum(ranges, from)?,
+            high: self.greatest_sum(ranges, from)?,
+        })
+    }
+
+    /// The range of a value with these weights, where the first so many symbols are 0.
+    pub(crate) fn value_range(&self, ranges: &[Range], count: usize) -> Option<Range>
+        ensures { result ≡ value_range count ranges.now self.now }
+    {
+        whole_range(&self.sums_from(ranges, count)?)
+    }
+}
