@@ -6,7 +6,7 @@ use std::alloc::Global;
 
 /// The numerator and the denominator of a fraction.
 #[derive(Clone, Copy)]
-struct Parts(i128, i128);
+pub struct Parts(pub i128, pub i128);
 
 /// What a controller says.
 enum Fact {
@@ -24,12 +24,12 @@ enum Fact {
 }
 
 /// Whether the number has these parts.
-fn is_number(number: &Frac, parts: &Parts) -> bool {
+pub fn is_number(number: &Frac, parts: &Parts) -> bool {
     number.to_parts() == (parts.0, parts.1)
 }
 
 /// Whether the numbers have these parts.
-fn are_numbers(numbers: &[Frac], parts: &[Parts]) -> bool {
+pub fn are_numbers(numbers: &[Frac], parts: &[Parts]) -> bool {
     numbers.len() == parts.len()
         && numbers
             .iter()

@@ -54,7 +54,7 @@ pub enum Fault {
 pub struct Blocks(pub &'static str, pub &'static str, pub &'static str);
 
 /// The refusal of this fault at this offset.
-fn refusal_of(fault: Fault, at: u64) -> FileRefusal {
+pub fn refusal_of(fault: Fault, at: u64) -> FileRefusal {
     match fault {
         Fault::Token => FileRefusal::Token { at },
         Fault::Unexpected(wanted) => FileRefusal::Unexpected { at, wanted },
@@ -78,7 +78,7 @@ pub fn file_of(alloc: Global, blocks: &Blocks) -> Result<String, NoMemory> {
 }
 
 /// The text without its mark.
-fn without_mark(alloc: Global, before: &str, after: &str) -> Result<String, NoMemory> {
+pub fn without_mark(alloc: Global, before: &str, after: &str) -> Result<String, NoMemory> {
     Ok(format!(in alloc; "{before}{after}")?)
 }
 

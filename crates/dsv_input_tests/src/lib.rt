@@ -1,6 +1,6 @@
-//! Tests of the input: what controller files, the files of state-space controllers and arguments
-//! are read as. Expected values are worked by hand from the formats of the files and the rules of
-//! the command.
+//! Tests of the input: what the files of controllers, of plants and of state-space controllers and
+//! arguments are read as. Expected values are worked by hand from the formats of the files and the
+//! rules of the command.
 #![tactic(auto)]
 
 #[cfg(test)]
@@ -15,6 +15,8 @@ mod faults;
 mod files;
 #[cfg(test)]
 mod numbers;
+#[cfg(test)]
+mod plants;
 #[cfg(test)]
 mod state_files;
 #[cfg(test)]

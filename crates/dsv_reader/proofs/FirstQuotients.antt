@@ -1,4 +1,4 @@
--- The leading coefficient divided by itself is 1.
+-- The leading coefficient, and that it is 1 where it is divided by itself.
 use Rattle.std.proofs.Common.{◌≡◌, ◌≢◌, ℕ, zero, suc, ◌*◌, ◌<◌, List, [], ◌∷◌, ◌++◌, refl, sym, ap, ◌∙◌, arith}
 use Rattle.std.proofs.Math.IntN.{ℤ, pos, negsuc, ◌*ℤ◌, *ℤ_comm}
 use Rattle.std.proofs.lemmas.Int.{unsigned_abs-mul}
@@ -14,7 +14,7 @@ use Rattle.dsv_token.specs.declared.refusal.FileRefusal.{FileRefusal}
 use Rattle.dsv_text.specs.Stages.{◌>>=◌}
 use Rattle.dsv_reader.specs.declared.numbers.Coefficient.{Coefficient}
 use Rattle.dsv_fraction.specs.Ratio as ratio
-use Rattle.dsv_reader.specs.Reading.{BeginsWith, by_quotient, divided_from, divided_list}
+use Rattle.dsv_reader.specs.Reading.{BeginsWith, by_quotient, divided_from, divided_list, values_in}
 
 one_gcd : IsGcd 1 1 1
 unfolding gcd
@@ -55,3 +55,8 @@ divided_first a0 [] qs h p b e = absurd b
 divided_first a0 (c ∷ cs) qs h p b e =
     let f : quotient c.value a0 ≡ one = ap (λ v. quotient v a0) b ∙ self_quotient a0 h p in
     first_kept a0 cs one [] qs (sym (ap (λ x. by_quotient c.at (bounded_ratio x) >>= λ q. divided_from a0 cs (q ∷ [])) f) ∙ e)
+
+-- the first value is the leading coefficient
+pub value_first : (q : Ratio) (cs : List Coefficient) → q.num ≢ pos 0 → BeginsWith q cs → (slice_index_or (values_in cs) 0 ratio.zero).num ≢ pos 0
+value_first q [] h b = absurd b
+value_first q (c ∷ cs) h b = λ e. h (ap (λ (r : Ratio). r.num) (sym b) ∙ e)

@@ -1,6 +1,9 @@
--- Serves private contracts: a controller's fields, as its view and invariant see them.
+-- Serves private contracts: the fields of a controller and of a plant, as views and invariants see
+-- them.
 use Rattle.dsv_reader.specs.declared.controller.Controller.TheInside.{Inside}
+use Rattle.dsv_reader.specs.declared.plant.Plant.TheInside as plant
 use Rattle.dsv_reader.specs.Controllers.{ControllerView}
+use Rattle.dsv_reader.specs.Plants.{PlantView}
 
 abbrev pub view_of : Inside → ControllerView
 view_of c =
@@ -17,3 +20,6 @@ view_of c =
       costs = c.costs;
       wide = c.wide;
     }
+
+abbrev pub plant_view_of : plant.Inside → PlantView
+plant_view_of p = record { b = p.b.items; a = p.a.items; sample_time = p.sample_time }

@@ -1,6 +1,6 @@
 -- What a file says, pass by pass over the whole file; the first pass that refuses gives the answer.
 use Rattle.std.specs.Prelude.{◌≡◌, ℕ, ◌+◌, ◌-◌, Bool, true, false, ◌&&◌, ◌==◌, nat_lt}
-use Rattle.std.specs.Prelude.{nat_le, max, if◌then◌else◌, List, [], ◌∷◌, ◌++◌, length}
+use Rattle.std.specs.Prelude.{nat_le, max, if◌then◌else◌, List, [], ◌∷◌, ◌++◌, length, map}
 use Rattle.std.specs.Prelude.{replicate, Option, Some, None, Result, Ok, Err, pos, unwrap_or}
 use Rattle.std.specs.Ordering.{int_eq}
 use Rattle.dsv_fraction.specs.Ratio.{Ratio, zero, one}
@@ -14,7 +14,7 @@ use Rattle.dsv_token.specs.declared.refusal.FileRefusal.TheVariants as refusal
 use Rattle.dsv_names.specs.declared.field.Field.{Field}
 use Rattle.dsv_names.specs.declared.field.Field.TheVariants as field
 use Rattle.dsv_text.specs.Stages.{◌>>=◌}
-use Rattle.dsv_syntax.specs.Parsing.{syntax_of}
+use Rattle.dsv_syntax.specs.Parsing.{syntax_of, plant_syntax_of}
 use Rattle.dsv_syntax.specs.declared.parsing.Syntax.{Syntax}
 use Rattle.dsv_reader.specs.declared.costs.Costs.{Costs}
 use Rattle.dsv_reader.specs.declared.numbers.SpelledNumber.{SpelledNumber}
@@ -27,6 +27,7 @@ use Rattle.dsv_reader.specs.declared.blocks.System.{System}
 use Rattle.dsv_reader.specs.declared.blocks.Implementation.{Implementation}
 use Rattle.dsv_reader.specs.declared.blocks.Blocks.{Blocks}
 use Rattle.dsv_reader.specs.Controllers.{ControllerView}
+use Rattle.dsv_reader.specs.Plants.{PlantView}
 use Rattle.dsv_reader.specs.Defaults.{default_clock, default_costs}
 use Rattle.dsv_reader.specs.Fields.{values_of}
 
@@ -159,3 +160,34 @@ reading bytes =
     values_of bytes x.entries >>= λ v.
     blocks_of x v >>= λ b.
     controller_from b
+
+-- ---- the file of a plant
+-- what the coefficients are
+abbrev pub values_in : List Coefficient → List Ratio
+values_in cs = map (λ c. c.value) cs
+
+-- the sample time is 1 where the file doesn't say else
+abbrev pub padded_plant : List Ratio → List Ratio → Option Ratio → PlantView
+padded_plant b a sample_time = let n = max (length b) (length a) in record {
+  b = padded_list n b;
+  a = padded_list n a;
+  sample_time = unwrap_or sample_time one;
+}
+
+-- a plant's coefficients stand as they are, not divided by the leading one
+abbrev pub plant_from : System → Result PlantView FileRefusal
+plant_from s =
+    size_test s.b_size s.b >>= λ u.
+    size_test s.a_size s.a >>= λ u.
+    leading_coefficient s.a >>= λ a0.
+    Ok (padded_plant (values_in s.b) (values_in s.a) s.sample_time)
+
+-- what the bytes of a plant's file say, or the first refusal
+abbrev pub plant_reading : List ℕ → Result PlantView FileRefusal
+plant_reading bytes =
+    utf8_test bytes >>= λ u.
+    tokens_of bytes >>= λ ts.
+    plant_syntax_of (length bytes) ts >>= λ x.
+    values_of bytes x.entries >>= λ v.
+    system_of x.system v.system >>= λ s.
+    plant_from s

@@ -54,7 +54,7 @@ fn required_value<T: Drop>(close: usize, field: Field, value: Option<T>) -> Resu
 }
 
 /// The block `digital_system`, which is closed here.
-fn system_of(close: usize, fields: SystemFields) -> Result<System, FileRefusal>
+pub(crate) fn system_of(close: usize, fields: SystemFields) -> Result<System, FileRefusal>
     ensures { result ≡ system_of close fields }
 {
     Ok(System {

@@ -49,7 +49,7 @@ impl Model for Controller {
 }
 
 /// The sample time, 1 where the file doesn't say else.
-fn sample_time_of(sample_time: &Option<SampleTime>) -> Frac
+pub(crate) fn sample_time_of(sample_time: &Option<SampleTime>) -> Frac
     ensures value { result ≡ unwrap_or sample_time.now one }
     ensures time { IsTime result }
 {

@@ -2,8 +2,9 @@
 ghost use Rattle.std.specs.Prelude.{◌≡◌, ◌↔◌, ◌⊎◌, ℕ, List, Ok};
 ghost use Rattle.dsv_token.specs.declared.refusal.FileRefusal.{FileRefusal};
 ghost use Rattle.dsv_reader.specs.Controllers.{ControllerView};
-ghost use Rattle.dsv_reader.specs.Reading.{reading};
-ghost use Rattle.dsv_reader.specs.Texts.{IsTextOf, IsFaultOf};
+ghost use Rattle.dsv_reader.specs.Plants.{PlantView};
+ghost use Rattle.dsv_reader.specs.Reading.{reading, plant_reading};
+ghost use Rattle.dsv_reader.specs.Texts.{IsTextOf, IsFaultOf, IsPlantText};
 ghost use Rattle.dsv_reader.specs.Fields.{values_of};
 ghost use Rattle.dsv_reader.specs.Values.{AreValuesOf};
 ghost use Rattle.dsv_reader.specs.declared.fields.Values.{Values};
@@ -25,4 +26,11 @@ pub fn one_answer()
         ↔ IsTextOf bytes c }
     ensures table { (bytes : List ℕ) (fields : List Entry) (v : Values)
         → (values_of bytes fields ≡ Ok v) ↔ AreValuesOf bytes fields v }
+{}
+
+/// The law of [`read_plant`](crate::read_plant), for proofs: what is read of bytes is the plant
+/// that they are the text of. The call does nothing.
+pub fn plant_text_is_read()
+    ensures { (bytes : List ℕ) (p : PlantView) → (plant_reading bytes ≡ Ok p)
+        ↔ IsPlantText bytes p }
 {}

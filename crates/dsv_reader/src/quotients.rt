@@ -1,10 +1,10 @@
-// Coefficients divided by the leading one.
+// Coefficients, as they stand or divided by the leading one.
 ghost use Rattle.std.specs.Prelude.{◌≡◌, ◌≢◌, ◌<◌, ◌≤◌, length, pos};
 ghost use Rattle.std.specs.Prelude.{IfOk, Ok, Err, MatchResult};
 ghost use Rattle.dsv_fraction.specs.Arithmetic.{bounded_ratio, quotient};
 ghost use Rattle.dsv_reader.specs.Limits.{most_coefficients};
 ghost use Rattle.dsv_reader.specs.Reading.{size_test, BeginsWith, leading_coefficient};
-ghost use Rattle.dsv_reader.specs.Reading.{by_quotient, divided_list, padded_list};
+ghost use Rattle.dsv_reader.specs.Reading.{by_quotient, divided_list, values_in, padded_list};
 
 use crate::lists::Coefficients;
 use crate::numbers::{Coefficient, SpelledNumber};
@@ -72,6 +72,19 @@ pub(crate) fn divided_list(divisor: &Frac, list: &Coefficients) -> Result<FracLi
         }
     }
     Ok(quotients)
+}
+
+/// The coefficients as they stand.
+pub(crate) fn values_in(list: &Coefficients) -> FracList
+    ensures value { result.items ≡ values_in list.now }
+    ensures places { length result.items ≡ length list.now }
+    ensures few { length list.now ≤ most_coefficients }
+{
+    let mut values = FracList::new();
+    for coefficient in list.as_slice() {
+        values.push(coefficient.value);
+    }
+    values
 }
 
 /// The list with zeros after it up to `count` entries.

@@ -1,5 +1,6 @@
 pub mod Binds
 pub mod Completions
+pub mod PlantFiles
 pub mod ReadLemmas
 pub mod States
 pub mod Steps

@@ -352,7 +352,7 @@ fields_taken zero end b c out (t ∷ r) es few h = absurd (omega arith)
 fields_taken (suc fuel) end b c out (t ∷ r) es few h = fields_by fuel end b c es t r out few (fields_taken fuel end b c out) t.kind refl h
 
 -- ---- blocks
-record BlockTaken (end : ℕ) (c : Closed) (es : List Entry) (ts : List Token) (out : Syntax) : Type 0 where
+pub record BlockTaken (end : ℕ) (c : Closed) (es : List Entry) (ts : List Token) (out : Syntax) : Type 0 where
   pub b : Block
   pub fs : List Entry
   pub at : ℕ
@@ -418,7 +418,7 @@ word_by : (end : ℕ) (a : Block) (c : Closed) (es : List Entry) (k : Token) (r 
 word_by end a c es k r out (word.Block b) h f = declared_by end a b c es k r out h (is_closed b c) refl f
 word_by end a c es k r out w h f = absurd (cc)
 
-declaration_by : (end : ℕ) (a : Block) (c : Closed) (es : List Entry) (k : Token) (r : List Token) (out : Syntax) (x : TokenKind) → k.kind ≡ x →
+pub declaration_by : (end : ℕ) (a : Block) (c : Closed) (es : List Entry) (k : Token) (r : List Token) (out : Syntax) (x : TokenKind) → k.kind ≡ x →
     (declaration x k (between place.Declaration a c es) >>= next end r) ≡ Ok out → BlockTaken end c es (k ∷ r) out
 declaration_by end a c es k r out (kind.Name w) h f = word_by end a c es k r out w h f
 declaration_by end a c es k r out x h f = absurd (cc)

@@ -1,9 +1,10 @@
--- The grammar of controller files, on whole lists of tokens:
+-- The grammar of the files of controllers and plants, on whole lists of tokens:
 --
 -- file           = any order of: system, implementation, at most one hardware
 -- system         = "digital_system" name "=" fields ";"
 -- implementation = "implementation" name "=" fields ";"
 -- hardware       = "hardware" name "=" fields ";"
+-- plant          = system
 -- fields         = "{" [ field { "," field } [ "," ] ] "}"
 -- field          = "." fieldname "=" value
 -- list           = "{" [ number { "," number } [ "," ] ] "}"
@@ -13,6 +14,7 @@
 -- front, and which tokens are left after it.
 use Rattle.std.specs.Prelude.{◌≡◌, ℕ, true, false, List, [], ◌∷◌, ◌++◌, Some}
 use Rattle.dsv_names.specs.declared.block.Block.{Block}
+use Rattle.dsv_names.specs.declared.block.Block.TheVariants.{System}
 use Rattle.dsv_token.specs.declared.token.Word.{Word}
 use Rattle.dsv_token.specs.declared.token.Word.TheVariants as word
 use Rattle.dsv_token.specs.declared.token.TokenKind.TheVariants as kind
@@ -99,3 +101,8 @@ pub record IsFile (ts : List Token) (s : Syntax) : Type 0 where
   pub blocks : Blocks none_closed ts s.entries closed
   pub system : closed.system ≡ Some s.system
   pub implementation : closed.implementation ≡ Some s.implementation
+
+-- the whole file of a plant, which ends at the offset `end`: one block and nothing after it
+pub record IsPlantFile (end : ℕ) (ts : List Token) (s : Syntax) : Type 0 where
+  pub only : IsBlock System ts s.entries s.system []
+  pub place : s.implementation ≡ end

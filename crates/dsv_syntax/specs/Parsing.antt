@@ -256,16 +256,31 @@ abbrev pub parsed_from : ℕ → Parser → List Token → Result Syntax FileRef
 parsed_from end p [] = finish_at p.place end p
 parsed_from end p (t ∷ ts) = step_at p.place t.kind t p >>= λ q. parsed_from end q ts
 
-abbrev pub start : Parser
-start = record {
+-- nothing was read, and these blocks can't stand any more
+abbrev pub start_after : Closed → Parser
+start_after closed = record {
   place = place.Declaration;
   block = block.System;
-  closed = none_closed;
+  closed = closed;
   entry = blank_entry;
   depth = 0;
   entries = [];
 }
 
+abbrev pub start : Parser
+start = start_after none_closed
+
 -- what stands in a file with these tokens, or the first of them that can't go on
 abbrev pub syntax_of : ℕ → List Token → Result Syntax FileRefusal
 syntax_of end ts = parsed_from end start ts
+
+-- ---- the file of a plant, in which the block digital_system alone can stand
+abbrev pub plant_closed : ℕ → Closed
+plant_closed end = record { system = None; implementation = Some end; hardware = Some end }
+
+abbrev pub plant_start : ℕ → Parser
+plant_start end = start_after (plant_closed end)
+
+-- what stands in a plant's file with these tokens, or the first of them that can't go on
+abbrev pub plant_syntax_of : ℕ → List Token → Result Syntax FileRefusal
+plant_syntax_of end ts = parsed_from end (plant_start end) ts

@@ -5,8 +5,8 @@ ghost use Rattle.dsv_token.specs.declared.refusal.FileRefusal.{FileRefusal};
 ghost use Rattle.dsv_token.specs.declared.refusal.FileRefusal.TheVariants.{Unexpected};
 ghost use Rattle.dsv_token.specs.declared.token.Token.{Token};
 ghost use Rattle.dsv_syntax.specs.declared.parsing.Syntax.{Syntax};
-ghost use Rattle.dsv_syntax.specs.Parsing.{syntax_of};
-ghost use Rattle.dsv_syntax.specs.Grammar.{IsFile};
+ghost use Rattle.dsv_syntax.specs.Parsing.{syntax_of, plant_syntax_of};
+ghost use Rattle.dsv_syntax.specs.Grammar.{IsFile, IsPlantFile};
 ghost use Rattle.dsv_syntax.specs.Beginnings.{IsUnexpectedAt};
 
 /// The grammar on whole lists of tokens, and their reading one by one, take the same files and find
@@ -16,6 +16,14 @@ pub fn grammar_is_read()
         → syntax_of end ts ≡ Ok s }
     ensures taken { (end : ℕ) (ts : List Token) (s : Syntax) → syntax_of end ts ≡ Ok s
         → IsFile ts s }
+{}
+
+/// The same of the file of a plant, which ends at the offset `end`.
+pub fn plant_grammar_is_read()
+    ensures read { (end : ℕ) (ts : List Token) (s : Syntax) → IsPlantFile end ts s
+        → plant_syntax_of end ts ≡ Ok s }
+    ensures taken { (end : ℕ) (ts : List Token) (s : Syntax) → plant_syntax_of end ts ≡ Ok s
+        → IsPlantFile end ts s }
 {}
 
 /// The law of the first unexpected token. Each refusal names a place: the tokens before it begin

@@ -3,8 +3,9 @@ ghost use Rattle.std.specs.Prelude.{◌≡◌, [], Ok};
 ghost use Rattle.dsv_token.specs.Memory.{Gives};
 ghost use Rattle.dsv_token.specs.declared.refusal.FileRefusal.TheVariants.{Unexpected};
 ghost use Rattle.dsv_syntax.specs.Parsing.{is_of_system, label_named, label_of, value_place};
-ghost use Rattle.dsv_syntax.specs.Parsing.{wanted_at, is_closed, with_close};
-ghost use Rattle.dsv_syntax.specs.Parsing.{start, entry_with, with_number, field_done};
+ghost use Rattle.dsv_syntax.specs.Parsing.{wanted_at, none_closed, plant_closed};
+ghost use Rattle.dsv_syntax.specs.Parsing.{is_closed, with_close};
+ghost use Rattle.dsv_syntax.specs.Parsing.{start_after, entry_with, with_number, field_done};
 ghost use Rattle.dsv_syntax.specs.Parsing.{block_done, declaration, block_name, block_equals};
 ghost use Rattle.dsv_syntax.specs.Parsing.{block_open, field_dot, field_name, field_equals};
 ghost use Rattle.dsv_syntax.specs.Parsing.{list_open, list_number, list_comma, number, value};
@@ -53,6 +54,29 @@ pub(crate) struct Closed {
 }
 
 impl Closed {
+    /// No block was closed.
+    pub(crate) fn none() -> Self
+        ensures { result ≡ none_closed }
+    {
+        Closed {
+            system: None,
+            implementation: None,
+            hardware: None,
+        }
+    }
+
+    /// Where the file of a plant begins, which ends at the offset `end`: the block `digital_system`
+    /// alone can stand in it.
+    pub(crate) fn of_plant(end: usize) -> Self
+        ensures { result ≡ plant_closed end }
+    {
+        Closed {
+            system: None,
+            implementation: Some(end),
+            hardware: Some(end),
+        }
+    }
+
     fn has(&self, block: Block) -> bool
         ensures { result ≡ is_closed block self.now }
     {
@@ -179,18 +203,14 @@ fn wanted_at(place: Place) -> Wanted
 }
 
 impl Parser {
-    /// Nothing was read.
-    pub(crate) fn new(alloc: Global) -> Self
-        ensures { result ≡ start }
+    /// Nothing was read, and the blocks of `closed` can't stand any more.
+    pub(crate) fn new(alloc: Global, closed: Closed) -> Self
+        ensures { result ≡ start_after closed }
     {
         Parser {
             place: Place::Declaration,
             block: Block::System,
-            closed: Closed {
-                system: None,
-                implementation: None,
-                hardware: None,
-            },
+            closed,
             entry: Entry::blank_entry(alloc),
             depth: 0,
             entries: Entries::new(alloc),
