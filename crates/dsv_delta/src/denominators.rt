@@ -35,7 +35,7 @@ fn multiple(common: Option<NarrowInteger>, fraction: &Frac) -> Option<NarrowInte
 }
 
 /// The least common multiple of the denominators, where it doesn't pass 2^126.
-pub(crate) fn common_denominator(fractions: &[Frac]) -> Option<NarrowInteger>
+pub fn common_denominator(fractions: &[Frac]) -> Option<NarrowInteger>
     ensures value { result ≡ narrow_of (pos (common fractions.now)) }
     ensures positive { 0 < common fractions.now }
 {
@@ -47,7 +47,7 @@ pub(crate) fn common_denominator(fractions: &[Frac]) -> Option<NarrowInteger>
 }
 
 /// The fraction's numerator over a multiple of its denominator, where it doesn't pass 2^126.
-fn numerator(common: NarrowInteger, fraction: &Frac) -> Option<NarrowInteger>
+pub fn numerator(common: NarrowInteger, fraction: &Frac) -> Option<NarrowInteger>
     requires { pos 0 ≤ℤ common }
     ensures { result ≡ narrow_of
         (fraction.now.num *ℤ pos (unsigned_abs common / fraction.now.den)) }

@@ -9,5 +9,6 @@ mod refusal;
 mod synthetic;
 
 pub use conversion::{DeltaPair, to_delta};
+pub use denominators::{common_denominator, numerator};
 pub use powers_of_z::{ZCoeffs, z_poly};
 pub use refusal::{DeltaWide, PolyWide};

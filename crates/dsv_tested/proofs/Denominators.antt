@@ -60,7 +60,7 @@ first_of_range : (f : ℕ → ℤ) (n : ℕ) → 1 ≤ n → get_or (map f (rang
 first_of_range f zero h = absurd (omega arith)
 first_of_range f (suc n) h = refl
 
-expansion_first : (d : Dyadic) (ws cs : List ℤ) (o : Option ℕ) → first_wide (scaled d (length ws - 1) (vector_of ws)) (length ws) ≡ o
+pub expansion_first : (d : Dyadic) (ws cs : List ℤ) (o : Option ℕ) → first_wide (scaled d (length ws - 1) (vector_of ws)) (length ws) ≡ o
     → 1 ≤ length ws → expansion d ws ≡ Ok cs → get_or cs 0 (pos 0) ≡ scaled d (length ws - 1) (vector_of ws) 0
 expansion_first d ws cs (Some j) is some e = let wide : expansion d ws ≡ Err (record { index = j }) = rw (is, expansion) refl in cc
 expansion_first d ws cs None is some e =
@@ -101,7 +101,7 @@ z_first_case false q cs is h e =
     let items : q.a ≡ cs = ap items_of same in
     rw (← items) lead
 
-z_first : (q : QuantisedView) (cs : List ℤ) → IsQuantisedView q → z_list q q.a ≡ Ok cs → pos 0 <ℤ get_or cs 0 (pos 0)
+pub z_first : (q : QuantisedView) (cs : List ℤ) → IsQuantisedView q → z_list q q.a ≡ Ok cs → pos 0 <ℤ get_or cs 0 (pos 0)
 z_first q cs h e = z_first_case (is_delta q.realisation) q cs refl h e
 
 denominator_case : (z : Result (List ℤ) PolyWide) → ((cs : List ℤ) → z ≡ Ok cs → pos 0 <ℤ get_or cs 0 (pos 0))

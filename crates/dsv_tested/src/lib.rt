@@ -8,5 +8,5 @@ mod polynomials;
 mod side;
 
 pub use law::common_twos_are_taken_out;
-pub use polynomials::polynomial_of;
+pub use polynomials::{poly_of, polynomial_of, z_list};
 pub use side::{Side, Tested, side_of};

@@ -7,6 +7,7 @@
 #![tactic(auto, using(dsv_algebra::proofs::Casts::casts))]
 
 ghost use Rattle.std.specs.Prelude.{◌≡◌, ◌<◌, ◌≤◌, length, All, MatchResult, IfOk, Ok, Err};
+ghost use Rattle.std.specs.Prelude.{Some, None};
 ghost use Rattle.std.specs.Int.RustNames.{unsigned_abs};
 ghost use Rattle.dsv_forms.specs.Poly.{IsPoly, most_coefficients};
 ghost use Rattle.dsv_delta.specs.ZCoefficients.{greatest_word};
@@ -14,6 +15,7 @@ ghost use Rattle.dsv_quantiser.specs.QuantisedView.{IsQuantisedView};
 ghost use Rattle.dsv_tested.specs.declared.side.Side.TheVariants.{Numerator};
 ghost use Rattle.dsv_tested.specs.declared.side.Tested.TheVariants.{NoZeros};
 ghost use Rattle.dsv_tested.specs.Tested.{words_of, z_list, tested_list, tested_of};
+ghost use Rattle.dsv_tested.specs.Tested.{first_over, with_positive_lead};
 ghost use Rattle.dsv_tested.specs.Lead.{lead_size};
 
 use crate::common_twos::without_common_twos;
@@ -51,7 +53,7 @@ fn numbers_of(words: &[i64]) -> ZCoeffs
 
 /// The coefficients in z of a side, those of the highest power first; or the least index at which
 /// a number on the way passes 2^110.
-fn z_list(quantised: &Quantised, side: Side) -> Result<ZCoeffs, PolyWide>
+pub fn z_list(quantised: &Quantised, side: Side) -> Result<ZCoeffs, PolyWide>
     ensures exact { let meant = z_list quantised.now (words_of quantised.now side) in
         MatchResult result (λ found. meant ≡ Ok found.items) (λ refusal. meant ≡ Err refusal) }
     ensures quantised { IsQuantisedView quantised.now }
@@ -75,6 +77,21 @@ fn polynomial(list: &[i64]) -> Poly
     }
 }
 
+/// The polynomial with these coefficients, of which the first isn't 0, all signs changed where it
+/// is negative; or the least index of a number over 2^44 in size.
+#[tactic(auto, using(crate::proofs::Signs::positive_poly))]
+pub fn poly_of(list: &[i128]) -> Result<Poly, PolyWide>
+    requires few { length list.now ≤ most_coefficients }
+    requires lead { 0 < lead_size list.now }
+    ensures exact { MatchResult result
+        (λ poly. (first_over 0 list.now ≡ None) × (poly ≡ with_positive_lead list.now))
+        (λ refusal. first_over 0 list.now ≡ Some refusal.index) }
+    ensures poly { IfOk result IsPoly }
+{
+    let found = with_positive_lead(coefficients(list)?);
+    Ok(polynomial(found.as_slice()))
+}
+
 /// The polynomial of a list that is empty or begins with a number that isn't 0.
 #[tactic(auto, using(crate::proofs::ListPolynomials::list_polynomials))]
 pub(crate) fn tested_list(list: &[i128]) -> Result<Tested, PolyWide>
@@ -87,8 +104,7 @@ pub(crate) fn tested_list(list: &[i128]) -> Result<Tested, PolyWide>
         return Ok(Tested::NoZeros);
     }
     let reduced = without_common_twos(list);
-    let found = with_positive_lead(coefficients(reduced.as_slice())?);
-    Ok(Tested::Poly(polynomial(found.as_slice())))
+    Ok(Tested::Poly(poly_of(reduced.as_slice())?))
 }
 
 /// The polynomial that is tested for a side of a quantised controller: its coefficients in z from

@@ -1,0 +1,10 @@
+pub mod Coefficients
+pub mod Convolutions
+pub mod Entries
+pub mod Factors
+pub mod Leads
+pub mod Multiples
+pub mod Recursions
+pub mod Scales
+pub mod Sides
+pub mod Stages

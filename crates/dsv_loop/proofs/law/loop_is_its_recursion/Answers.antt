@@ -1,0 +1,5 @@
+use Rattle.dsv_loop.proofs.Recursions.{loop_obeys}
+use Rattle.dsv_loop.proofs.law.loop_is_its_recursion.Goals as goal
+
+pub returns : goal.returns
+returns c = loop_obeys

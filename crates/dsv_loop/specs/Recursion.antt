@@ -1,0 +1,30 @@
+-- What the plant's whole numbers are to its fractions, and what the loop's polynomial says of the
+-- signals in the loop. A signal is a function of how many samples ago: y 0 is now, y 1 one sample
+-- before.
+use Rattle.std.specs.Prelude.{◌≡◌, ℕ, ◌+◌, ◌<◌, List, [], ◌∷◌, length, ℤ, pos, ◌*ℤ◌, neg_ℤ}
+use Rattle.dsv_fraction.specs.Ratio.{Ratio}
+use Rattle.dsv_algebra.specs.Vectors.{Vector, vector_of, dot}
+use Rattle.dsv_loop.specs.Loops.{TransferView}
+
+-- the sum of c_k x(t + k): what the list makes of the signal, t samples ago
+abbrev pub filtered : List ℤ → Vector → ℕ → ℤ
+filtered cs x t = dot (length cs) (vector_of cs) (λ k. x (t + k))
+
+-- t samples ago the output was what b / a makes of the input
+abbrev pub Meets : TransferView → Vector → Vector → ℕ → Type 0
+Meets f output input t = filtered f.a output t ≡ filtered f.b input t
+
+-- in the last n samples u was the controller's output for the input -y, and y the plant's for u
+pub record AreInLoop (c p : TransferView) (y u : Vector) (n : ℕ) : Type 0 where
+  pub controller : (t : ℕ) → t < n → Meets c u (λ i. neg_ℤ (y i)) t
+  pub plant : (t : ℕ) → t < n → Meets p y u t
+
+-- t samples ago the signal obeyed the recursion with these coefficients
+abbrev pub Obeys : List ℤ → Vector → ℕ → Type 0
+Obeys cs y t = filtered cs y t ≡ pos 0
+
+-- each whole number is the fraction in its place times l
+abbrev pub AreTimes : ℕ → List Ratio → List ℤ → Type 0
+AreTimes l [] [] = Unit {0}
+AreTimes l (q ∷ qs) (n ∷ ns) = (n *ℤ pos q.den ≡ q.num *ℤ pos l) × AreTimes l qs ns
+AreTimes l qs ns = ⊥
