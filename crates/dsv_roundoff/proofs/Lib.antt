@@ -1,0 +1,12 @@
+mod Scaling
+pub mod Existence
+pub mod Differences
+mod ExactSamples
+mod ExactLines
+mod ExactChains
+mod ExactForms
+mod ExactSteps
+pub mod WrittenRuns
+pub mod OneWrittenRun
+pub mod Controllers
+pub mod Worked

@@ -1,0 +1,4 @@
+pub mod Differences
+pub mod Exact
+pub mod Laws
+pub mod Written
