@@ -89,13 +89,14 @@ source_found : (parts : List PartView) (realisation : Realisation) (task : Task)
 source_found parts realisation task source None n h = sought_by parts realisation task source n h
 source_found parts realisation task source (Some name) n h = offered_by parts realisation task name source (is_given parts (codes "offer-ellipsoid")) n refl h
 
--- no seed, no number of controllers, no certificate to check, no state-space controller and no form
+-- no seed, no number of controllers, no certificate to check, no state-space controller, no form and no plant
 pub record GivesControllers (parts : List PartView) : Type 0 where
   pub no_seed : value_of (codes "generate") parts ≡ None
   pub no_count : value_of (codes "count") parts ≡ None
   pub no_check : value_of (codes "check") parts ≡ None
   pub no_states : value_of (codes "state-space") parts ≡ None
   pub no_form : HasNoFormOption parts
+  pub no_plant : value_of (codes "plant") parts ≡ None
 
 ellipsoid_by : (parts : List PartView) (job : Asked) (asked : AskedEllipsoid) (certified conflicts sections : Bool) → GivesControllers parts → job_of_parts parts ≡ Some job
     → job.certified ≡ certified → is_given parts (codes "conflicts") ≡ conflicts → is_given parts (codes "sections") ≡ sections
@@ -119,6 +120,7 @@ ellipsoid_by parts job asked false false false g f c e n h =
       no_check = g.no_check;
       no_states = g.no_states;
       no_form = g.no_form;
+      no_plant = g.no_plant;
     })
 
 pub ellipsoid_found : (parts : List PartView) (asked : AskedEllipsoid) → GivesControllers parts → ellipsoid_of_parts parts ≡ Some asked → IsEllipsoidOf parts asked

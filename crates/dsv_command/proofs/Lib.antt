@@ -12,6 +12,7 @@ pub mod EllipsoidLaws
 pub mod InputLaws
 pub mod InputLemmas
 pub mod JobLaws
+pub mod LoopLaws
 pub mod NameLemmas
 pub mod PartLaws
 pub mod RequestLaws

@@ -7,15 +7,17 @@ use Rattle.dsv_command.specs.Limits.{most_number_digits, most_controllers, defau
 use Rattle.dsv_command.specs.Jobs.{Asked, ◌>>=◌, is_given, has_verdict_option, has_design_option, job_of_parts}
 use Rattle.dsv_command.specs.Cascades.{AskedCascade, cascade_of_parts}
 use Rattle.dsv_command.specs.Ellipsoids.{AskedEllipsoid, has_ellipsoid_option, ellipsoid_of_parts}
+use Rattle.dsv_command.specs.Loops.{AskedLoop, loop_of_parts}
 use Rattle.dsv_command.specs.Options.{command_options}
 use Rattle.dsv_command.specs.Parts.{PartView, file_of, value_of, has_empty}
 use Rattle.dsv_command.specs.Reading.{parts_of}
-use Rattle.dsv_command.specs.Requests.{Request, on_file, on_cascade, on_states, on_ellipsoid, checks, generates, seed_of, controllers_of, has_task_option, has_job_option, check_of, generation_of, controllers_request, files_request, job_request, request_by, request_of_parts, request_of}
-use Rattle.dsv_command.specs.Rules.{IsSeed, HasNoEllipsoidOption, HasNoTaskOption, HasNoJobOption, IsCheckOf, IsGenerationOf, IsRequestOf, IsRequestLine}
+use Rattle.dsv_command.specs.Requests.{Request, on_file, on_cascade, on_states, on_ellipsoid, on_loop, checks, checks_loop, generates, seed_of, controllers_of, has_task_option, has_job_option, checked_file, check_request, generation_of, controllers_request, files_request, plant_request, job_request, request_by, request_of_parts, request_of}
+use Rattle.dsv_command.specs.Rules.{IsSeed, HasNoEllipsoidOption, HasNoTaskOption, HasNoFormOption, HasNoJobOption, IsCheckWith, IsGenerationOf, IsRequestOf, IsRequestLine}
 use Rattle.dsv_command.specs.States.{AskedStates, has_form_option, has_state_option, states_of_parts}
 use Rattle.dsv_command.proofs.JobLaws.{Bound, unbind, parts_ask, job_found, number_read, number_found, no_verdict_given, no_design_given, no_verdict_found, no_design_found}
 use Rattle.dsv_command.proofs.CascadeLaws.{cascade_read, cascade_found}
 use Rattle.dsv_command.proofs.EllipsoidLaws.{GivesControllers, no_ellipsoid_given, no_ellipsoid_found, ellipsoid_given, ellipsoid_read, ellipsoid_found}
+use Rattle.dsv_command.proofs.LoopLaws.{GivesPlant, loop_read, loop_found}
 use Rattle.dsv_command.proofs.StateLaws.{GivesStates, no_form_given, no_state_given, no_form_found, no_state_found, states_read, states_found}
 use Rattle.dsv_command.proofs.PartLaws.{given_is_read, read_is_given}
 
@@ -24,7 +26,7 @@ no_task_given : (parts : List PartView) → HasNoTaskOption parts → has_task_o
 no_task_given parts h = rw (h.property, h.inputs, h.sections, no_state_given parts h.states, no_ellipsoid_given parts h.ellipsoid, no_verdict_given parts h.verdict, no_design_given parts h.design) refl
 
 no_job_given : (parts : List PartView) → HasNoJobOption parts → has_job_option parts ≡ false
-no_job_given parts h = rw (h.check, no_task_given parts h.tasks) refl
+no_job_given parts h = rw (h.check, h.plant, no_task_given parts h.tasks) refl
 
 seed_read : (text : List ℕ) (seed : ℕ) → IsSeed text seed → seed_of text ≡ Some seed
 seed_read text seed h =
@@ -36,17 +38,21 @@ generation_read parts seed count h =
     rw (h.filled, h.no_file, no_job_given parts h.no_option)
     (rw (seed_read h.text seed h.is_seed) (rw (number_read most_controllers default_controllers count (value_of (codes "count") parts) h.is_count) refl))
 
-check_read : (parts : List PartView) (controller certificate : List ℕ) → IsCheckOf parts controller certificate → check_of parts certificate ≡ Some (checks controller certificate)
-check_read parts controller certificate h = rw (h.filled, h.file) (rw (no_task_given parts h.no_option) refl)
+file_checked : (parts : List PartView) (controller certificate : List ℕ) (plant : Option (List ℕ)) → IsCheckWith parts controller certificate plant → checked_file parts ≡ Some controller
+file_checked parts controller certificate plant h = rw (h.filled, h.file) (rw (no_task_given parts h.no_option) refl)
 
 parts_request : (parts : List PartView) (request : Request) → IsRequestOf parts request → request_of_parts parts ≡ Some request
-parts_request parts (on_file asked) h = rw (h.no_seed, h.no_count, h.no_check, h.no_states, no_form_given parts h.no_form, no_ellipsoid_given parts h.no_ellipsoid, h.no_sections) (ap (option_map on_file) (parts_ask parts asked h.job))
+parts_request parts (on_file asked) h = rw (h.no_seed, h.no_count, h.no_check, h.no_states, no_form_given parts h.no_form, h.no_plant, no_ellipsoid_given parts h.no_ellipsoid, h.no_sections) (ap (option_map on_file) (parts_ask parts asked h.job))
 parts_request parts (on_cascade asked) h =
-    rw (h.no_seed, h.no_count, h.no_check, h.no_states, no_form_given parts h.no_form, no_ellipsoid_given parts h.no_ellipsoid, h.given) (ap (option_map on_cascade) (cascade_read parts h.text asked h.names h.job))
+    rw (h.no_seed, h.no_count, h.no_check, h.no_states, no_form_given parts h.no_form, h.no_plant, no_ellipsoid_given parts h.no_ellipsoid, h.given) (ap (option_map on_cascade) (cascade_read parts h.text asked h.names h.job))
 parts_request parts (on_states asked) h = rw (h.no_seed, h.no_count, h.no_check, h.given) (ap (option_map on_states) (states_read parts asked h))
 parts_request parts (on_ellipsoid asked) h =
-    rw (h.no_seed, h.no_count, h.no_check, h.no_states, no_form_given parts h.no_form, ellipsoid_given parts asked h) (ap (option_map on_ellipsoid) (ellipsoid_read parts asked h))
-parts_request parts (checks controller certificate) h = rw (h.no_seed, h.no_count, h.given) (check_read parts controller certificate h)
+    rw (h.no_seed, h.no_count, h.no_check, h.no_states, no_form_given parts h.no_form, h.no_plant, ellipsoid_given parts asked h) (ap (option_map on_ellipsoid) (ellipsoid_read parts asked h))
+parts_request parts (on_loop asked) h = rw (h.no_seed, h.no_count, h.no_check, h.no_states, no_form_given parts h.no_form, h.given) (ap (option_map on_loop) (loop_read parts asked h))
+parts_request parts (checks controller certificate) h =
+    rw (h.no_seed, h.no_count, h.given, h.plant_given) (ap (option_map (λ file. checks file certificate)) (file_checked parts controller certificate None h))
+parts_request parts (checks_loop controller certificate plant) h =
+    rw (h.no_seed, h.no_count, h.given, h.plant_given) (ap (option_map (λ file. checks_loop file certificate plant)) (file_checked parts controller certificate (Some plant) h))
 parts_request parts (generates seed count) h = rw h.given (generation_read parts seed count h)
 
 pub rules_ask : (arguments : List (List ℕ)) (request : Request) → IsRequestLine arguments request → request_of arguments ≡ Some request
@@ -89,13 +95,15 @@ no_task_found : (parts : List PartView) → has_task_option parts ≡ false → 
 no_task_found parts =
     no_task_by parts (is_given parts (codes "property")) (is_given parts (codes "simulate")) (is_given parts (codes "sections")) (has_state_option parts) (has_ellipsoid_option parts) (has_verdict_option parts) (has_design_option parts) refl refl refl refl refl refl refl
 
-no_job_by : (parts : List PartView) (c t : Bool) → is_given parts (codes "check") ≡ c → has_task_option parts ≡ t → has_job_option parts ≡ false → HasNoJobOption parts
-no_job_by parts false false c t h = record { check = c; tasks = no_task_found parts t }
-no_job_by parts true t e f h = absurd (let k : true ≡ false = sym (rw e refl) ∙ h in cc)
-no_job_by parts false true e f h = absurd (let k : true ≡ false = sym (rw (e, f) refl) ∙ h in cc)
+no_job_by : (parts : List PartView) (c p t : Bool) → is_given parts (codes "check") ≡ c → is_given parts (codes "plant") ≡ p → has_task_option parts ≡ t → has_job_option parts ≡ false
+    → HasNoJobOption parts
+no_job_by parts false false false c p t h = record { check = c; plant = p; tasks = no_task_found parts t }
+no_job_by parts true p t e f g h = absurd (let k : true ≡ false = sym (rw e refl) ∙ h in cc)
+no_job_by parts false true t e f g h = absurd (let k : true ≡ false = sym (rw (e, f) refl) ∙ h in cc)
+no_job_by parts false false true e f g h = absurd (let k : true ≡ false = sym (rw (e, f, g) refl) ∙ h in cc)
 
 no_job_found : (parts : List PartView) → has_job_option parts ≡ false → HasNoJobOption parts
-no_job_found parts = no_job_by parts (is_given parts (codes "check")) (has_task_option parts) refl refl
+no_job_found parts = no_job_by parts (is_given parts (codes "check")) (is_given parts (codes "plant")) (has_task_option parts) refl refl refl
 
 abbrev numbers_of : List PartView → List ℕ → Option Request
 numbers_of parts text = seed_of text >>= λ seed. controllers_of parts >>= λ count. Some (generates seed count)
@@ -132,6 +140,7 @@ job_by parts request (Some asked) g l s e h =
       no_check = g.no_check;
       no_states = g.no_states;
       no_form = g.no_form;
+      no_plant = g.no_plant;
       no_ellipsoid = l;
       no_sections = s;
     })
@@ -152,6 +161,7 @@ cascade_by parts text request (Some asked) g l s e h =
       no_check = g.no_check;
       no_states = g.no_states;
       no_form = g.no_form;
+      no_plant = g.no_plant;
       no_ellipsoid = l;
     })
 
@@ -172,6 +182,21 @@ files_by : (parts : List PartView) (request : Request) (ellipsoid : Bool) → Gi
 files_by parts request true g l h = ellipsoid_by parts request (ellipsoid_of_parts parts) g refl h
 files_by parts request false g l h = controllers_by parts request (value_of (codes "sections") parts) g (no_ellipsoid_found parts l) refl h
 
+loop_by : (parts : List PartView) (plant : List ℕ) (request : Request) (job : Option AskedLoop) → GivesPlant parts plant → loop_of_parts parts plant ≡ job
+    → option_map on_loop job ≡ Some request → IsRequestOf parts request
+loop_by parts plant request None g e h = absurd (cc)
+loop_by parts plant request (Some asked) g e h =
+    let same : on_loop asked ≡ request = cc in
+    subst (IsRequestOf parts) same (loop_found parts plant asked g e)
+
+plant_by : (parts : List PartView) (request : Request) (plant : Option (List ℕ)) → value_of (codes "generate") parts ≡ None → value_of (codes "count") parts ≡ None
+    → value_of (codes "check") parts ≡ None → value_of (codes "state-space") parts ≡ None → HasNoFormOption parts → value_of (codes "plant") parts ≡ plant
+    → plant_request parts plant ≡ Some request → IsRequestOf parts request
+plant_by parts request (Some plant) g c n s f p h =
+    loop_by parts plant request (loop_of_parts parts plant) (record { given = p; no_seed = g; no_count = c; no_check = n; no_states = s; no_form = f }) refl h
+plant_by parts request None g c n s f p h =
+    files_by parts request (has_ellipsoid_option parts) (record { no_seed = g; no_count = c; no_check = n; no_states = s; no_form = f; no_plant = p }) refl h
+
 states_by : (parts : List PartView) (file : List ℕ) (request : Request) (job : Option AskedStates) → GivesStates parts file → states_of_parts parts file ≡ job
     → option_map on_states job ≡ Some request → IsRequestOf parts request
 states_by parts file request None g e h = absurd (cc)
@@ -184,25 +209,45 @@ job_request_by : (parts : List PartView) (request : Request) (file : Option (Lis
 job_request_by parts request (Some file) form g c n s f h = states_by parts file request (states_of_parts parts file) (record { given = s; no_seed = g; no_count = c; no_check = n }) refl h
 job_request_by parts request None true g c n s f h = absurd (let k : None ≡ Some request = sym (rw f refl) ∙ h in cc)
 job_request_by parts request None false g c n s f h =
-    let k : files_request parts (has_ellipsoid_option parts) ≡ Some request = sym (rw f refl) ∙ h in
-    let none : GivesControllers parts = record { no_seed = g; no_count = c; no_check = n; no_states = s; no_form = no_form_found parts f } in
-    files_by parts request (has_ellipsoid_option parts) none refl k
+    let k : plant_request parts (value_of (codes "plant") parts) ≡ Some request = sym (rw f refl) ∙ h in
+    plant_by parts request (value_of (codes "plant") parts) g c n s (no_form_found parts f) refl k
 
-check_by : (parts : List PartView) (name : List ℕ) (request : Request) (file : Option (List ℕ)) (empty other : Bool) → value_of (codes "generate") parts ≡ None → value_of (codes "count") parts ≡ None
-    → value_of (codes "check") parts ≡ Some name → has_empty parts ≡ empty → file_of parts ≡ file → has_task_option parts ≡ other
-    → (if empty then None else (file >>= λ controller. (if other then None else Some (checks controller name)))) ≡ Some request → IsRequestOf parts request
-check_by parts name request file true other g c n e f o h = absurd (cc)
-check_by parts name request None false other g c n e f o h = absurd (cc)
-check_by parts name request (Some controller) false true g c n e f o h = absurd (cc)
-check_by parts name request (Some controller) false false g c n e f o h =
+-- the controller's file of a check, with nothing else that is done
+record OfCheck (parts : List PartView) (controller : List ℕ) : Type 0 where
+  pub file : file_of parts ≡ Some controller
+  pub filled : has_empty parts ≡ false
+  pub no_option : HasNoTaskOption parts
+
+checked_by : (parts : List PartView) (controller : List ℕ) (file : Option (List ℕ)) (empty other : Bool) → has_empty parts ≡ empty → file_of parts ≡ file → has_task_option parts ≡ other
+    → (if empty then None else (file >>= λ name. (if other then None else Some name))) ≡ Some controller → OfCheck parts controller
+checked_by parts controller file true other e f o h = absurd (cc)
+checked_by parts controller None false other e f o h = absurd (cc)
+checked_by parts controller (Some name) false true e f o h = absurd (cc)
+checked_by parts controller (Some name) false false e f o h = record { file = f ∙ h; filled = e; no_option = no_task_found parts o }
+
+checked_found : (parts : List PartView) (controller : List ℕ) → checked_file parts ≡ Some controller → OfCheck parts controller
+checked_found parts controller h = checked_by parts controller (file_of parts) (has_empty parts) (has_task_option parts) refl refl refl h
+
+check_by : (parts : List PartView) (name : List ℕ) (request : Request) (plant file : Option (List ℕ)) → value_of (codes "generate") parts ≡ None → value_of (codes "count") parts ≡ None
+    → value_of (codes "check") parts ≡ Some name → value_of (codes "plant") parts ≡ plant → checked_file parts ≡ file → check_request parts name plant ≡ Some request → IsRequestOf parts request
+check_by parts name request None None g c n p f h = absurd (let k : None ≡ Some request = sym (rw f refl) ∙ h in cc)
+check_by parts name request (Some plant) None g c n p f h = absurd (let k : None ≡ Some request = sym (rw f refl) ∙ h in cc)
+check_by parts name request None (Some controller) g c n p f h =
+    let found = checked_found parts controller f in
+    let k : Some (checks controller name) ≡ Some request = sym (rw f refl) ∙ h in
     let same : checks controller name ≡ request = cc in
-    subst (IsRequestOf parts) same (record { given = n; file = f; filled = e; no_option = no_task_found parts o; no_seed = g; no_count = c })
+    subst (IsRequestOf parts) same (record { given = n; plant_given = p; file = found.file; filled = found.filled; no_option = found.no_option; no_seed = g; no_count = c })
+check_by parts name request (Some plant) (Some controller) g c n p f h =
+    let found = checked_found parts controller f in
+    let k : Some (checks_loop controller name plant) ≡ Some request = sym (rw f refl) ∙ h in
+    let same : checks_loop controller name plant ≡ request = cc in
+    subst (IsRequestOf parts) same (record { given = n; plant_given = p; file = found.file; filled = found.filled; no_option = found.no_option; no_seed = g; no_count = c })
 
 request_found : (parts : List PartView) (request : Request) (seed count name : Option (List ℕ)) → value_of (codes "generate") parts ≡ seed → value_of (codes "count") parts ≡ count
     → value_of (codes "check") parts ≡ name → request_by parts seed count name ≡ Some request → IsRequestOf parts request
 request_found parts request (Some text) count name g c n h = generation_by parts text request (file_of parts) (has_empty parts) (has_job_option parts) g refl refl refl h
 request_found parts request None (Some text) name g c n h = absurd (cc)
-request_found parts request None None (Some name) g c n h = check_by parts name request (file_of parts) (has_empty parts) (has_task_option parts) g c n refl refl refl h
+request_found parts request None None (Some name) g c n h = check_by parts name request (value_of (codes "plant") parts) (checked_file parts) g c n refl refl h
 request_found parts request None None None g c n h = job_request_by parts request (value_of (codes "state-space") parts) (has_form_option parts) g c n refl refl h
 
 line_by : (arguments : List (List ℕ)) (request : Request) → Bound (parts_of command_options arguments) request_of_parts request → IsRequestLine arguments request

@@ -54,7 +54,7 @@ state_task_read parts t (IsStateTask.simulation ps inputs task none) = record {
 pub states_read : (parts : List PartView) (asked : AskedStates) → IsStateJobOf parts asked → states_of_parts parts asked.file ≡ Some asked
 states_read parts asked h =
     let task = state_task_read parts asked.task h.task in
-    rw (h.filled, h.no_file, h.no_realisation, h.no_sections, no_ellipsoid_given parts h.no_ellipsoid)
+    rw (h.filled, h.no_file, h.no_realisation, h.no_sections, h.no_plant, no_ellipsoid_given parts h.no_ellipsoid)
     (rw task.first
     (rw task.second
     (rw (rounding_read parts asked.rounding h.rounding) (rw (overflow_read parts asked.overflow h.overflow) refl))))
@@ -142,15 +142,17 @@ states_in parts file = task_of parts >>= λ task.
     overflow_of parts >>= λ overflow.
     Some (record { file = file; task = found; rounding = rounding; overflow = overflow })
 
-states_by : (parts : List PartView) (file : List ℕ) (asked : AskedStates) (empty : Bool) (other : Option (List ℕ)) (realisation sections ellipsoid : Bool) → GivesStates parts file
+states_by : (parts : List PartView) (file : List ℕ) (asked : AskedStates) (empty : Bool) (other : Option (List ℕ)) (realisation sections plant ellipsoid : Bool) → GivesStates parts file
     → has_empty parts ≡ empty → file_of parts ≡ other → is_given parts (codes "realization") ≡ realisation → is_given parts (codes "sections") ≡ sections
-    → has_ellipsoid_option parts ≡ ellipsoid → (if empty then None else if is_some other || (realisation || (sections || ellipsoid)) then None else states_in parts file) ≡ Some asked → IsStateJobOf parts asked
-states_by parts file asked true other r s l g e f d n o h = absurd cc
-states_by parts file asked false (Some name) r s l g e f d n o h = absurd cc
-states_by parts file asked false None true s l g e f d n o h = absurd cc
-states_by parts file asked false None false true l g e f d n o h = absurd cc
-states_by parts file asked false None false false true g e f d n o h = absurd cc
-states_by parts file asked false None false false false g e f d n o h =
+    → is_given parts (codes "plant") ≡ plant → has_ellipsoid_option parts ≡ ellipsoid
+    → (if empty then None else if is_some other || (realisation || (sections || (plant || ellipsoid))) then None else states_in parts file) ≡ Some asked → IsStateJobOf parts asked
+states_by parts file asked true other r s p l g e f d n q o h = absurd cc
+states_by parts file asked false (Some name) r s p l g e f d n q o h = absurd cc
+states_by parts file asked false None true s p l g e f d n q o h = absurd cc
+states_by parts file asked false None false true p l g e f d n q o h = absurd cc
+states_by parts file asked false None false false true l g e f d n q o h = absurd cc
+states_by parts file asked false None false false false true g e f d n q o h = absurd cc
+states_by parts file asked false None false false false false g e f d n q o h =
     let a = unbind (task_of parts) _ asked h in
     let b = unbind (state_task parts a.value) _ asked a.second in
     let c = unbind (rounding_of parts) _ asked b.second in
@@ -162,6 +164,7 @@ states_by parts file asked false None false false false g e f d n o h =
       no_file = f;
       no_realisation = d;
       no_sections = n;
+      no_plant = q;
       no_ellipsoid = no_ellipsoid_found parts o;
       task = state_task_found parts a.value b.value (task_found parts a.value (value_of (codes "property") parts) (value_of (codes "simulate") parts) refl refl a.first) b.first;
       rounding = rounding_found parts c.value c.first;
@@ -172,4 +175,4 @@ states_by parts file asked false None false false false g e f d n o h =
     })
 
 pub states_found : (parts : List PartView) (file : List ℕ) (asked : AskedStates) → GivesStates parts file → states_of_parts parts file ≡ Some asked → IsStateJobOf parts asked
-states_found parts file asked g = states_by parts file asked (has_empty parts) (file_of parts) (is_given parts (codes "realization")) (is_given parts (codes "sections")) (has_ellipsoid_option parts) g refl refl refl refl refl
+states_found parts file asked g = states_by parts file asked (has_empty parts) (file_of parts) (is_given parts (codes "realization")) (is_given parts (codes "sections")) (is_given parts (codes "plant")) (has_ellipsoid_option parts) g refl refl refl refl refl refl

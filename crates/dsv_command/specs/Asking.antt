@@ -12,8 +12,10 @@ use Rattle.dsv_command.specs.Ellipsoids as ellipsoids
 use Rattle.dsv_command.specs.declared.ellipsoid.EllipsoidJob.{EllipsoidJob}
 use Rattle.dsv_command.specs.declared.ellipsoid.EllipsoidSource.{EllipsoidSource}
 use Rattle.dsv_command.specs.declared.ellipsoid.EllipsoidSource.TheVariants as of_ellipsoid
-use Rattle.dsv_command.specs.Requests.{on_file, on_cascade, on_states, on_ellipsoid, checks}
-use Rattle.dsv_command.specs.Requests.{generates}
+use Rattle.dsv_command.specs.Loops as loops
+use Rattle.dsv_command.specs.declared.loops.LoopJob.{LoopJob}
+use Rattle.dsv_command.specs.Requests.{on_file, on_cascade, on_states, on_ellipsoid, on_loop}
+use Rattle.dsv_command.specs.Requests.{checks, checks_loop, generates}
 use Rattle.dsv_command.specs.States as states
 use Rattle.dsv_command.specs.declared.states.StateJob.{StateJob}
 use Rattle.dsv_command.specs.declared.states.StateTask.{StateTask}
@@ -22,7 +24,8 @@ use Rattle.dsv_command.specs.declared.job.Job.{Job}
 use Rattle.dsv_command.specs.declared.request.Request.{Request}
 use Rattle.dsv_command.specs.declared.request.Request.TheVariants.{OnFile, OnCascade}
 use Rattle.dsv_command.specs.declared.request.Request.TheVariants.{OnStates, OnEllipsoid}
-use Rattle.dsv_command.specs.declared.request.Request.TheVariants.{Check, Generate}
+use Rattle.dsv_command.specs.declared.request.Request.TheVariants.{OnLoop, Check, CheckLoop}
+use Rattle.dsv_command.specs.declared.request.Request.TheVariants.{Generate}
 use Rattle.dsv_command.specs.declared.task.Task.{Task}
 use Rattle.dsv_command.specs.declared.task.Task.TheVariants.{Decide, CheckTime}
 use Rattle.dsv_command.specs.declared.task.Task.TheVariants.{WriteFormula, Search, SeekSet}
@@ -88,10 +91,22 @@ asked_ellipsoid job = record {
   design = job.design;
 }
 
+abbrev pub asked_loop : LoopJob → loops.AskedLoop
+asked_loop job = record {
+  file = job.file.now;
+  plant = job.plant.now;
+  design = job.design;
+  schur_cohn = job.schur_cohn;
+  certified = job.certified;
+}
+
 abbrev pub requested_of : Request → requests.Request
 requested_of (OnFile job) = on_file (asked_of job)
 requested_of (OnCascade job) = on_cascade (asked_cascade job)
 requested_of (OnStates job) = on_states (asked_states job)
 requested_of (OnEllipsoid job) = on_ellipsoid (asked_ellipsoid job)
+requested_of (OnLoop job) = on_loop (asked_loop job)
 requested_of (Check check) = checks check.file.now check.certificate.now
+requested_of (CheckLoop found) =
+    checks_loop found.check.file.now found.check.certificate.now found.plant.now
 requested_of (Generate g) = generates g.seed g.count

@@ -6,6 +6,7 @@ pub mod Ellipsoids
 pub mod Inputs
 pub mod Jobs
 pub mod Limits
+pub mod Loops
 pub mod Options
 pub mod Parts
 pub mod Reading

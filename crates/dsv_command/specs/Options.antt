@@ -20,6 +20,7 @@ command_options =
     (codes "lyapunov", false) ∷
     (codes "ellipsoid", true) ∷
     (codes "offer-ellipsoid", false) ∷
+    (codes "plant", true) ∷
     (codes "realization", true) ∷
     (codes "rounding", true) ∷
     (codes "overflow-mode", true) ∷

@@ -30,11 +30,12 @@ use Rattle.dsv_command.specs.Jobs.{seeks_set, measures_gain, Asked, is_given}
 use Rattle.dsv_command.specs.Limits.{most_number_digits, most_samples, default_samples}
 use Rattle.dsv_command.specs.Limits.{most_conflicts, default_conflicts}
 use Rattle.dsv_command.specs.Limits.{most_controllers, default_controllers}
+use Rattle.dsv_command.specs.Loops.{AskedLoop}
 use Rattle.dsv_command.specs.Options.{command_options}
 use Rattle.dsv_command.specs.Parts.{PartView, file, flag, choice, key_of}
 use Rattle.dsv_command.specs.Parts.{has_key, file_of, value_of, has_empty}
 use Rattle.dsv_command.specs.Requests.{Request, on_file, on_cascade, on_states, on_ellipsoid}
-use Rattle.dsv_command.specs.Requests.{checks, generates}
+use Rattle.dsv_command.specs.Requests.{on_loop, checks, checks_loop, generates}
 use Rattle.dsv_command.specs.Shapes.{dash, is_equals}
 use Rattle.dsv_command.specs.States.{StateTask, checks_form, seeks_form, searches_states}
 use Rattle.dsv_command.specs.States.{measures_states, simulates_states, AskedStates}
@@ -256,7 +257,7 @@ pub record HasNoStateOption (parts : List PartView) : Type 0 where
   pub form : HasNoFormOption parts
 
 -- none of the options is given that say what is done with a controller, but that a certificate may
--- be checked
+-- be checked, and that there may be a plant
 pub record HasNoTaskOption (parts : List PartView) : Type 0 where
   pub property : is_given parts (codes "property") ≡ false
   pub inputs : is_given parts (codes "simulate") ≡ false
@@ -269,16 +270,28 @@ pub record HasNoTaskOption (parts : List PartView) : Type 0 where
 -- none of the options of a controller in a file is given
 pub record HasNoJobOption (parts : List PartView) : Type 0 where
   pub check : is_given parts (codes "check") ≡ false
+  pub plant : is_given parts (codes "plant") ≡ false
   pub tasks : HasNoTaskOption parts
 
--- FILE and the name of a certificate are given, and no other option.
-pub record IsCheckOf (parts : List PartView) (controller certificate : List ℕ) : Type 0 where
+-- FILE and the name of a certificate are given, and no other option but the name of a plant or
+-- none.
+pub record IsCheckWith (parts : List PartView) (controller certificate : List ℕ)
+    (plant : Option (List ℕ)) : Type 0 where
   pub given : value_of (codes "check") parts ≡ Some certificate
+  pub plant_given : value_of (codes "plant") parts ≡ plant
   pub file : file_of parts ≡ Some controller
   pub filled : has_empty parts ≡ false
   pub no_option : HasNoTaskOption parts
   pub no_seed : value_of (codes "generate") parts ≡ None
   pub no_count : value_of (codes "count") parts ≡ None
+
+-- the check of a controller's certificate, and that of a loop's
+abbrev pub IsCheckOf : List PartView → List ℕ → List ℕ → Type 0
+IsCheckOf parts controller certificate = IsCheckWith parts controller certificate None
+
+abbrev pub IsLoopCheckOf : List PartView → List ℕ → List ℕ → List ℕ → Type 0
+IsLoopCheckOf parts controller certificate plant =
+    IsCheckWith parts controller certificate (Some plant)
 
 -- A seed is given, and a number of controllers or none, and nothing else: no FILE, and no option of
 -- jobs.
@@ -299,6 +312,7 @@ pub record IsJobAlone (parts : List PartView) (asked : Asked) : Type 0 where
   pub no_check : value_of (codes "check") parts ≡ None
   pub no_states : value_of (codes "state-space") parts ≡ None
   pub no_form : HasNoFormOption parts
+  pub no_plant : value_of (codes "plant") parts ≡ None
   pub no_ellipsoid : HasNoEllipsoidOption parts
   pub no_sections : value_of (codes "sections") parts ≡ None
 
@@ -341,6 +355,7 @@ pub record IsCascadeOf (parts : List PartView) (asked : AskedCascade) : Type 0 w
   pub no_check : value_of (codes "check") parts ≡ None
   pub no_states : value_of (codes "state-space") parts ≡ None
   pub no_form : HasNoFormOption parts
+  pub no_plant : value_of (codes "plant") parts ≡ None
   pub no_ellipsoid : HasNoEllipsoidOption parts
 
 -- Where the ellipsoid comes from: a file that is named, with overflow over runs of any length; or
@@ -378,6 +393,29 @@ pub record IsEllipsoidOf (parts : List PartView) (asked : AskedEllipsoid) : Type
   pub no_check : value_of (codes "check") parts ≡ None
   pub no_states : value_of (codes "state-space") parts ≡ None
   pub no_form : HasNoFormOption parts
+  pub no_plant : value_of (codes "plant") parts ≡ None
+
+-- the same job without a plant
+abbrev pub job_of_loop : AskedLoop → Asked
+job_of_loop asked = record {
+  file = asked.file;
+  task = decides Stability asked.schur_cohn;
+  design = asked.design;
+  certified = asked.certified;
+}
+
+-- The job for a loop: it would be one of stability for the controller in FILE; a plant is named,
+-- and no sections and no ellipsoid.
+pub record IsLoopOf (parts : List PartView) (asked : AskedLoop) : Type 0 where
+  pub given : value_of (codes "plant") parts ≡ Some asked.plant
+  pub job : IsJobOf parts (job_of_loop asked)
+  pub no_sections : is_given parts (codes "sections") ≡ false
+  pub no_ellipsoid : HasNoEllipsoidOption parts
+  pub no_seed : value_of (codes "generate") parts ≡ None
+  pub no_count : value_of (codes "count") parts ≡ None
+  pub no_check : value_of (codes "check") parts ≡ None
+  pub no_states : value_of (codes "state-space") parts ≡ None
+  pub no_form : HasNoFormOption parts
 
 -- neither is said where a form comes from, nor that a certificate is written
 pub record HasNoFormOrCertificate (parts : List PartView) : Type 0 where
@@ -402,13 +440,14 @@ pub data IsStateTask : List PartView → StateTask → Type 0 where
       → HasNoFormOrCertificate parts → IsStateTask parts (simulates_states inputs)
 
 -- The job for a state-space controller: its file is named in place of FILE. It has no realisation,
--- no sections and no ellipsoid; no text is empty, and no certificate is to be checked.
+-- no sections, no plant and no ellipsoid; no text is empty, and no certificate is to be checked.
 pub record IsStateJobOf (parts : List PartView) (asked : AskedStates) : Type 0 where
   pub given : value_of (codes "state-space") parts ≡ Some asked.file
   pub filled : has_empty parts ≡ false
   pub no_file : file_of parts ≡ None
   pub no_realisation : is_given parts (codes "realization") ≡ false
   pub no_sections : is_given parts (codes "sections") ≡ false
+  pub no_plant : is_given parts (codes "plant") ≡ false
   pub no_ellipsoid : HasNoEllipsoidOption parts
   pub task : IsStateTask parts asked.task
   pub rounding : IsChosen rounding_name Floor (value_of (codes "rounding") parts) asked.rounding
@@ -424,7 +463,10 @@ IsRequestOf parts (on_file asked) = IsJobAlone parts asked
 IsRequestOf parts (on_cascade asked) = IsCascadeOf parts asked
 IsRequestOf parts (on_states asked) = IsStateJobOf parts asked
 IsRequestOf parts (on_ellipsoid asked) = IsEllipsoidOf parts asked
+IsRequestOf parts (on_loop asked) = IsLoopOf parts asked
 IsRequestOf parts (checks controller certificate) = IsCheckOf parts controller certificate
+IsRequestOf parts (checks_loop controller certificate plant) =
+    IsLoopCheckOf parts controller certificate plant
 IsRequestOf parts (generates seed count) = IsGenerationOf parts seed count
 
 -- what a command line asks for

@@ -61,12 +61,13 @@ state_task parts (decides Stability false) = form_task parts (value_of (codes "f
 state_task parts task = if has_form_option parts || is_certified parts then None
     else runs_task task
 
--- something is given that state-space controllers don't have: FILE, a realisation, sections, an
--- ellipsoid
+-- something is given that state-space controllers don't have: FILE, a realisation, sections, a
+-- plant, an ellipsoid
 abbrev pub has_other_option : List PartView → Bool
 has_other_option parts = is_some (file_of parts)
     || (is_given parts (codes "realization")
-    || (is_given parts (codes "sections") || has_ellipsoid_option parts))
+    || (is_given parts (codes "sections")
+    || (is_given parts (codes "plant") || has_ellipsoid_option parts)))
 
 -- the job for the state-space controller in the file of this name, where no text is empty
 abbrev pub states_of_parts : List PartView → List ℕ → Option AskedStates

@@ -1,6 +1,6 @@
 // The check of a certificate.
 ghost use Rattle.std.specs.Prelude.{◌≡◌, option_map};
-ghost use Rattle.dsv_command.specs.Requests.{has_task_option, check_of, checks};
+ghost use Rattle.dsv_command.specs.Requests.{has_task_option, checked_file, check_of, checks};
 
 use crate::arguments::Arguments;
 use crate::ellipsoid::has_ellipsoid_option;
@@ -17,7 +17,7 @@ pub struct Check<'a> {
 }
 
 /// Whether an option is given that says what is done with a controller, other than that a
-/// certificate is checked.
+/// certificate is checked, or that there is a plant.
 pub(crate) fn has_task_option(arguments: &Arguments) -> bool
     ensures { result ≡ has_task_option arguments.now }
 {
@@ -30,14 +30,22 @@ pub(crate) fn has_task_option(arguments: &Arguments) -> bool
         || has_design_option(arguments)
 }
 
-/// The check of the certificate in the file of this name.
-pub(crate) fn find_check<'a>(arguments: &Arguments<'a>, certificate: &'a str) -> Option<Check<'a>>
-    ensures { option_map (λ check. checks check.file.now check.certificate.now) result
-        ≡ check_of arguments.now certificate.now }
+/// The controller's file of a check, with which no option goes that says what else is done with it.
+pub(crate) fn checked_file<'a>(arguments: &Arguments<'a>) -> Option<&'a str>
+    ensures { option_map (λ file. file.now) result ≡ checked_file arguments.now }
 {
     let file = arguments.file()?;
     if has_task_option(arguments) {
         return None;
     }
+    Some(file)
+}
+
+/// The check of the certificate in the file of this name.
+pub(crate) fn find_check<'a>(arguments: &Arguments<'a>, certificate: &'a str) -> Option<Check<'a>>
+    ensures { option_map (λ check. checks check.file.now check.certificate.now) result
+        ≡ check_of arguments.now certificate.now }
+{
+    let file = checked_file(arguments)?;
     Some(Check { file, certificate })
 }

@@ -46,7 +46,7 @@ fn find_count(arguments: &Arguments) -> Option<u32>
 fn has_job_option(arguments: &Arguments) -> bool
     ensures { result ≡ has_job_option arguments.now }
 {
-    arguments.is_given("check") || has_task_option(arguments)
+    arguments.is_given("check") || arguments.is_given("plant") || has_task_option(arguments)
 }
 
 /// What is generated, where this is the text of the seed.

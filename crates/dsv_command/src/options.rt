@@ -14,7 +14,7 @@ pub struct CommandOption {
 
 /// The options that the command has. One more stands here and in `specs/Options.antt`; what it asks
 /// for, in the job or the request.
-const OPTIONS: [CommandOption; 21] = [
+const OPTIONS: [CommandOption; 22] = [
     CommandOption {
         name: "property",
         takes_value: true,
@@ -78,6 +78,10 @@ const OPTIONS: [CommandOption; 21] = [
     CommandOption {
         name: "offer-ellipsoid",
         takes_value: false,
+    },
+    CommandOption {
+        name: "plant",
+        takes_value: true,
     },
     CommandOption {
         name: "realization",

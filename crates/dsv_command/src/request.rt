@@ -3,7 +3,8 @@ ghost use Rattle.std.specs.Prelude.{◌≡◌, map, string_bytes, codes, option_
 ghost use Rattle.dsv_command.specs.Asking.{requested_of};
 ghost use Rattle.dsv_command.specs.Parts.{value_of};
 ghost use Rattle.dsv_command.specs.Ellipsoids.{has_ellipsoid_option};
-ghost use Rattle.dsv_command.specs.Requests.{controllers_request, files_request, job_request};
+ghost use Rattle.dsv_command.specs.Requests.{check_request, controllers_request, files_request};
+ghost use Rattle.dsv_command.specs.Requests.{plant_request, job_request};
 ghost use Rattle.dsv_command.specs.Requests.{request_of, request_of_parts};
 
 use crate::arguments::{Arguments, read_arguments};
@@ -12,6 +13,7 @@ use crate::check::{Check, find_check};
 use crate::ellipsoid::{EllipsoidJob, find_ellipsoid, has_ellipsoid_option};
 use crate::generation::{Generation, find_generation};
 use crate::job::{Job, find_job};
+use crate::loops::{LoopCheck, LoopJob, find_loop, find_loop_check};
 use crate::states::{StateJob, find_states, has_form_option};
 use dsv_base::NoMemory;
 use std::alloc::Global;
@@ -27,8 +29,12 @@ pub enum Request<'a> {
     OnStates(StateJob<'a>),
     /// An ellipsoid for the controller in a file.
     OnEllipsoid(EllipsoidJob<'a>),
+    /// A job for the loop of the controller in a file with the plant in another.
+    OnLoop(LoopJob<'a>),
     /// A certificate is checked against the controller in a file.
     Check(Check<'a>),
+    /// A certificate is checked against the loop of the controller in a file with a plant.
+    CheckLoop(LoopCheck<'a>),
     /// Controllers are generated, and what is found of them is counted.
     Generate(Generation),
 }
@@ -56,6 +62,17 @@ fn find_files_request<'a>(arguments: &Arguments<'a>) -> Option<Request<'a>>
     }
 }
 
+/// The job for a loop where a plant is named, and else for controllers in files alone.
+fn find_plant_request<'a>(arguments: &Arguments<'a>) -> Option<Request<'a>>
+    ensures { option_map requested_of result
+        ≡ plant_request arguments.now (value_of (codes "plant") arguments.now) }
+{
+    match arguments.value("plant") {
+        Some(plant) => Some(Request::OnLoop(find_loop(arguments, plant)?)),
+        None => find_files_request(arguments),
+    }
+}
+
 /// The job for a state-space controller where the file of one is named, and else for controllers in
 /// files, with which no form goes.
 fn find_job_request<'a>(arguments: &Arguments<'a>) -> Option<Request<'a>>
@@ -65,7 +82,18 @@ fn find_job_request<'a>(arguments: &Arguments<'a>) -> Option<Request<'a>>
     match arguments.value("state-space") {
         Some(file) => Some(Request::OnStates(find_states(arguments, file)?)),
         None if has_form_option(arguments) => None,
-        None => find_files_request(arguments),
+        None => find_plant_request(arguments),
+    }
+}
+
+/// The check of the certificate in the file of this name: of the loop where a plant is named.
+fn find_check_request<'a>(arguments: &Arguments<'a>, name: &'a str) -> Option<Request<'a>>
+    ensures { option_map requested_of result
+        ≡ check_request arguments.now name.now (value_of (codes "plant") arguments.now) }
+{
+    match arguments.value("plant") {
+        Some(plant) => Some(Request::CheckLoop(find_loop_check(arguments, name, plant)?)),
+        None => Some(Request::Check(find_check(arguments, name)?)),
     }
 }
 
@@ -78,7 +106,7 @@ fn find_request<'a>(arguments: &Arguments<'a>) -> Option<Request<'a>>
     match (seed, count, arguments.value("check")) {
         (Some(seed), _, _) => Some(Request::Generate(find_generation(arguments, seed)?)),
         (None, Some(_), _) => None,
-        (None, None, Some(name)) => Some(Request::Check(find_check(arguments, name)?)),
+        (None, None, Some(name)) => find_check_request(arguments, name),
         (None, None, None) => find_job_request(arguments),
     }
 }

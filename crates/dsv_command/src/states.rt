@@ -102,7 +102,7 @@ fn state_task<'a>(arguments: &Arguments<'a>, task: Task) -> Option<StateTask<'a>
 }
 
 /// Whether something is given that state-space controllers don't have: FILE, a realisation,
-/// sections, an ellipsoid. No text among the arguments is empty.
+/// sections, a plant, an ellipsoid. No text among the arguments is empty.
 fn has_other_option(arguments: &Arguments) -> bool
     ensures given { result ≡ has_other_option arguments.now }
     ensures filled { has_empty arguments.now ≡ false }
@@ -110,6 +110,7 @@ fn has_other_option(arguments: &Arguments) -> bool
     arguments.file().is_some()
         || arguments.is_given("realization")
         || arguments.is_given("sections")
+        || arguments.is_given("plant")
         || has_ellipsoid_option(arguments)
 }
 

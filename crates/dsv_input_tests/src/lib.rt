@@ -14,6 +14,8 @@ mod faults;
 #[cfg(test)]
 mod files;
 #[cfg(test)]
+mod loop_jobs;
+#[cfg(test)]
 mod numbers;
 #[cfg(test)]
 mod plants;
