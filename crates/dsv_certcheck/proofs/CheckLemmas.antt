@@ -52,7 +52,7 @@ after_format : (c : ControllerView) (cert : Certificate) (job : CertifiedJob) (f
 after_format c cert job found e f = subst (λ r. IsFoundAfter r c cert found) (f ∙ ap (λ (j : CertifiedJob). format_check c j.words) e)
 
 -- ---- the controller's words
-found_err : (found : Checked) (why : QuantRefusal) → IsErrAnd found (λ r. r ≡ refusal.Quant why) → found ≡ Err (refusal.Quant why)
+pub found_err : (found : Checked) (why : QuantRefusal) → IsErrAnd found (λ r. r ≡ refusal.Quant why) → found ≡ Err (refusal.Quant why)
 found_err (Ok x) why h = absurd h
 found_err (Err r) why h = ap Err h
 

@@ -1,11 +1,15 @@
 -- No test after the comparison of formats gives the refusal of another format.
 use Rattle.std.proofs.Common.{◌≡◌, ℕ, ◌+◌, Bool, true, false, if◌then◌else◌, List, subst, sym}
 use Rattle.std.specs.Prelude.{Option, Some, None, Result, Ok, Err, suc, length, ◌==◌, nat_le, nat_lt}
+use Rattle.std.proofs.Math.IntN.{ℤ}
 use Rattle.dsv_text.specs.Stages.{◌>>=◌}
 use Rattle.dsv_names.specs.declared.property.Property.{Property}
 use Rattle.dsv_names.specs.declared.property.Property.TheVariants as property
 use Rattle.dsv_names.specs.declared.property.RunProperty.TheVariants as run
+use Rattle.dsv_names.specs.declared.property.RootProperty.TheVariants as root
+use Rattle.dsv_fraction.specs.Ratio.{Ratio}
 use Rattle.dsv_reader.specs.Controllers.{ControllerView}
+use Rattle.dsv_reader.specs.Plants.{PlantView}
 use Rattle.dsv_quantiser.specs.QuantisedView.{QuantisedView}
 use Rattle.dsv_cnf.specs.FormulaView.{FormulaView}
 use Rattle.dsv_hints.specs.Derivation.{verdict_of}
@@ -19,6 +23,8 @@ use Rattle.dsv_forms.specs.declared.refusal.FormRefusal.{FormRefusal}
 use Rattle.dsv_tested.specs.Tested.{side_of, tested_of}
 use Rattle.dsv_tested.specs.declared.side.Tested.{Tested}
 use Rattle.dsv_tested.specs.declared.side.Tested.TheVariants as tested
+use Rattle.dsv_loop.specs.Loops.{loop_of}
+use Rattle.dsv_loop.specs.declared.refusal.LoopRefusal.{LoopRefusal}
 use Rattle.dsv_template.specs.declared.candidate.Candidate.{Candidate}
 use Rattle.dsv_template.specs.declared.verdict.ThreeLogs.{ThreeLogs}
 use Rattle.dsv_unroll.specs.Goals.{most_size}
@@ -34,8 +40,9 @@ use Rattle.dsv_certfile.specs.declared.fault.CheckFault.TheVariants as fault
 use Rattle.dsv_certfile.specs.declared.job.CertWords.{CertWords}
 use Rattle.dsv_certfile.specs.declared.job.Size.{Size}
 use Rattle.dsv_certfile.specs.declared.job.Size.TheVariants as size
-use Rattle.dsv_certcheck.specs.Checks.{Checked, refused, misfit, format_check, size_check, verdict_at, log_check, run_check, is_some_samples, hints_check, shape_check, set_check, invariant_check, outlook_check, depth_check, gain_check, refusal_check, tested_check, falls_check, words_check, IsFoundAfter}
-use Rattle.dsv_certcheck.specs.FormatRefusals.{AreOfFormats}
+use Rattle.dsv_certcheck.specs.Checks.{Checked, refused, misfit, format_check, size_check, verdict_at, log_check, run_check, is_some_samples, hints_check, shape_check, set_check, invariant_check, outlook_check, depth_check, gain_check, refusal_check, offer_check, tested_check, falls_check, words_check, IsFoundAfter}
+use Rattle.dsv_certcheck.specs.LoopChecks.{polynomial_check, loop_check, words_loop_check, IsLoopFoundAfter}
+use Rattle.dsv_certcheck.specs.FormatRefusals.{AreOfFormats, AreOfLoopFormats}
 use Rattle.dsv_certcheck.specs.declared.check_refusal.CheckRefusal.TheVariants as refusal
 
 -- not the refusal of another format
@@ -65,6 +72,7 @@ hints_other : (w : CertWords) (q : QuantisedView) (p : Property) (s : Size) (log
 hints_other w q (property.OfRuns p) (size.Samples k) log = by_test (is_some_samples k) (run_check w q p k log) (misfit w) (by_stage (size_check q k) _ (by_size q k) (λ u. by_log _ _ log)) tt
 hints_other w q (property.OfRuns p) size.NoSize log = tt
 hints_other w q (property.OfRuns p) size.Unbounded log = tt
+hints_other w q (property.OfRuns p) size.OfLoop log = tt
 hints_other w q (property.OfRoots p) s log = tt
 hints_other w q p s log = tt
 
@@ -77,6 +85,7 @@ invariant_other : (w : CertWords) (q : QuantisedView) (p : Property) (s : Size) 
 invariant_other w q (property.OfRuns run.Overflow) size.Unbounded candidate logs = set_other w q candidate logs
 invariant_other w q (property.OfRuns run.Overflow) size.NoSize candidate logs = tt
 invariant_other w q (property.OfRuns run.Overflow) (size.Samples k) candidate logs = tt
+invariant_other w q (property.OfRuns run.Overflow) size.OfLoop candidate logs = tt
 invariant_other w q p s candidate logs = tt
 
 outlook_other : (w : CertWords) (o : Outlook) → IsOther (outlook_check w o)
@@ -87,14 +96,18 @@ gain_other : (w : CertWords) (q : QuantisedView) (p : Property) (s : Size) (dept
 gain_other w q (property.OfRuns run.Overflow) size.Unbounded depth = by_test (nat_le depth most_gain_depth) (depth_check w q depth) (misfit w) (outlook_other w (outlook_of q (suc depth))) tt
 gain_other w q (property.OfRuns run.Overflow) size.NoSize depth = tt
 gain_other w q (property.OfRuns run.Overflow) (size.Samples k) depth = tt
+gain_other w q (property.OfRuns run.Overflow) size.OfLoop depth = tt
 gain_other w q p s depth = tt
 
 refusal_other : (w : CertWords) (offer : Falls) (why : Option FormRefusal) → IsOther (refusal_check w offer why)
 refusal_other w offer None = tt
 refusal_other w offer (Some why) = tt
 
+offer_other : (w : CertWords) (c : List ℤ) (offer : Falls) → IsOther (offer_check w c offer)
+offer_other w c offer = by_test (offer.form.d + 1 == length c) (refusal_check w offer (falls_refusal c offer)) (misfit w) (refusal_other w offer (falls_refusal c offer)) tt
+
 tested_other : (w : CertWords) (t : Result Tested PolyWide) (offer : Falls) → IsOther (tested_check w t offer)
-tested_other w (Ok (tested.Poly c)) offer = by_test (offer.form.d + 1 == length c) (refusal_check w offer (falls_refusal c offer)) (misfit w) (refusal_other w offer (falls_refusal c offer)) tt
+tested_other w (Ok (tested.Poly c)) offer = offer_other w c offer
 tested_other w (Ok tested.NoZeros) offer = tt
 tested_other w (Err wide) offer = tt
 
@@ -102,6 +115,7 @@ falls_other : (w : CertWords) (q : QuantisedView) (p : Property) (s : Size) (off
 falls_other w q (property.OfRoots p) size.NoSize offer = tested_other w (tested_of q (side_of p)) offer
 falls_other w q (property.OfRoots p) (size.Samples k) offer = tt
 falls_other w q (property.OfRoots p) size.Unbounded offer = tt
+falls_other w q (property.OfRoots p) size.OfLoop offer = tt
 falls_other w q p s offer = tt
 
 words_other : (q : QuantisedView) (cert : Certificate) → IsOther (words_check q cert)
@@ -116,3 +130,23 @@ after c cert line (Ok u) k = absurd (subst IsOther k.checked (words_other k.quan
 
 pub formats_are_compared : AreOfFormats
 formats_are_compared c cert line k = after c cert line (format_check c (job_of cert).words) k
+
+-- ---- beside a plant
+polynomial_other : (w : CertWords) (r : Result (List ℤ) LoopRefusal) (offer : Falls) → IsOther (polynomial_check w r offer)
+polynomial_other w (Ok c) offer = offer_other w c offer
+polynomial_other w (Err why) offer = tt
+
+loop_other : (w : CertWords) (q : QuantisedView) (time : Ratio) (plant : PlantView) (p : Property) (s : Size) (offer : Falls) → IsOther (loop_check w q time plant p s offer)
+loop_other w q time plant (property.OfRoots root.Stability) size.OfLoop offer = polynomial_other w (loop_of q time plant) offer
+loop_other w q time plant p s offer = tt
+
+loop_words_other : (q : QuantisedView) (time : Ratio) (plant : PlantView) (cert : Certificate) → IsOther (words_loop_check q time plant cert)
+loop_words_other q time plant (certificate.Falls job offer) = loop_other job.words q time plant job.property job.size offer
+loop_words_other q time plant other = tt
+
+after_loop : (c : ControllerView) (plant : PlantView) (cert : Certificate) (line : ℕ) (format : Checked) → IsLoopFoundAfter format c plant cert (refused line fault.Format) → format ≡ refused line fault.Format
+after_loop c plant cert line (Err why) k = sym k
+after_loop c plant cert line (Ok u) k = absurd (subst IsOther k.checked (loop_words_other k.quantised c.sample_time plant cert))
+
+pub loop_formats_are_compared : AreOfLoopFormats
+loop_formats_are_compared c plant cert line k = after_loop c plant cert line (format_check c (job_of cert).words) k

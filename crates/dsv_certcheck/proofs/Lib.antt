@@ -1,4 +1,7 @@
 pub mod CheckLemmas
+pub mod LoopLemmas
+pub mod LoopRefusals
+pub mod Misfits
 pub mod Passing
 pub mod WordsFound
 pub mod Formats

@@ -8,7 +8,10 @@ use Rattle.dsv_names.specs.declared.property.Property.TheVariants as property
 use Rattle.dsv_names.specs.declared.property.RunProperty.{RunProperty}
 use Rattle.dsv_names.specs.declared.property.RunProperty.TheVariants as run
 use Rattle.dsv_names.specs.declared.property.RootProperty.{RootProperty}
+use Rattle.dsv_names.specs.declared.property.RootProperty.TheVariants as root
+use Rattle.dsv_fraction.specs.Ratio.{Ratio}
 use Rattle.dsv_reader.specs.Controllers.{ControllerView}
+use Rattle.dsv_reader.specs.Plants.{PlantView}
 use Rattle.dsv_quantiser.specs.QuantisedView.{QuantisedView}
 use Rattle.dsv_cnf.specs.FormulaView.{FormulaView}
 use Rattle.dsv_hints.specs.Derivation.{verdict_of}
@@ -17,6 +20,7 @@ use Rattle.dsv_hints.specs.declared.step.Verdict.TheVariants as verdict
 use Rattle.dsv_unroll.specs.Goals.{most_size}
 use Rattle.dsv_bounded.specs.Formulas.{job_size_of}
 use Rattle.dsv_bounded.specs.RunQuestions.{question_formula, IsWithin}
+use Rattle.dsv_forms.specs.Poly.{IsPoly}
 use Rattle.dsv_forms.specs.Refusals.{falls_refusal}
 use Rattle.dsv_forms.specs.declared.offers.Falls.{Falls}
 use Rattle.dsv_forms.proofs.OfferLemmas.{falls_passes}
@@ -24,6 +28,8 @@ use Rattle.dsv_tested.specs.Tested.{side_of, tested_of}
 use Rattle.dsv_tested.specs.declared.side.Tested.{Tested}
 use Rattle.dsv_tested.specs.declared.side.Tested.TheVariants as tested
 use Rattle.dsv_delta.specs.declared.refusal.PolyWide.{PolyWide}
+use Rattle.dsv_loop.specs.Loops.{loop_of}
+use Rattle.dsv_loop.specs.declared.refusal.LoopRefusal.{LoopRefusal}
 use Rattle.dsv_template.specs.declared.candidate.Candidate.{Candidate}
 use Rattle.dsv_template.specs.declared.verdict.SetPart.TheVariants as part
 use Rattle.dsv_template.specs.declared.verdict.ThreeLogs.{ThreeLogs}
@@ -41,6 +47,7 @@ use Rattle.dsv_certfile.specs.declared.job.CertWords.{CertWords}
 use Rattle.dsv_certfile.specs.declared.job.CertWords.TheVariants as words
 use Rattle.dsv_certfile.specs.declared.job.Size.TheVariants as size
 use Rattle.dsv_certcheck.specs.Checks.{Checked, refused, format_check, misfit, size_check, verdict_at, log_check, run_check, is_some_samples, hints_check, sentences_check, shape_check, invariant_check, outlook_check, depth_check, gain_check, refusal_check, offer_check, tested_check, falls_check}
+use Rattle.dsv_certcheck.specs.LoopChecks.{polynomial_check, loop_check}
 use Rattle.dsv_certcheck.specs.LineNumbers.{version_line_number, format_line_number, body_line, log_line}
 use Rattle.dsv_certcheck.specs.declared.check_refusal.CheckRefusal.TheVariants as refusal
 use Rattle.dsv_tested.proofs.TestedCoefficients.{some_coefficients}
@@ -102,3 +109,8 @@ offer_passes w c offer some e =
 pub falls_pass : (w : CertWords) (q : QuantisedView) (p : RootProperty) (c : List ℤ) (offer : Falls) → tested_of q (side_of p) ≡ Ok (tested.Poly c) → falls_refusal c offer ≡ None
     → falls_check w q (property.OfRoots p) size.NoSize offer ≡ Ok tt
 falls_pass w q p c offer t e = ap (λ (r : Result Tested PolyWide). tested_check w r offer) t ∙ offer_passes w c offer (some_coefficients q (side_of p) c t) e
+
+-- the form falls along the trajectories of the loop's polynomial
+pub loop_passes : (w : CertWords) (q : QuantisedView) (time : Ratio) (plant : PlantView) (c : List ℤ) (offer : Falls) → IsPoly c → loop_of q time plant ≡ Ok c → falls_refusal c offer ≡ None
+    → loop_check w q time plant (property.OfRoots root.Stability) size.OfLoop offer ≡ Ok tt
+loop_passes w q time plant c offer is t e = ap (λ (r : Result (List ℤ) LoopRefusal). polynomial_check w r offer) t ∙ offer_passes w c offer is.some e

@@ -84,7 +84,7 @@ has_refusal : (w : CertWords) (offer : Falls) (r : Option FormRefusal) → HasWo
 has_refusal w offer None = tt
 has_refusal w offer (Some why) = tt
 
-has_offer : (w : CertWords) (c : List ℤ) (offer : Falls) → HasWords (offer_check w c offer)
+pub has_offer : (w : CertWords) (c : List ℤ) (offer : Falls) → HasWords (offer_check w c offer)
 has_offer w c offer =
     has_either (offer.form.d + 1 == length c) (refusal_check w offer (falls_refusal c offer)) (misfit w) (has_refusal w offer (falls_refusal c offer)) tt
 

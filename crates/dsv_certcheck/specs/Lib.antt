@@ -1,6 +1,8 @@
 pub mod Checks
 pub mod FormLines
 pub mod LineNumbers
+pub mod LoopChecks
+pub mod Misfits
 pub mod Refusals
 pub mod Shown
 pub mod StateChecks

@@ -4,6 +4,7 @@ use dsv_base::NoMemory;
 use dsv_bounded::{BoundedRefusal, TooLarge};
 use dsv_certfile::{CertWords, CheckFault};
 use dsv_delta::PolyWide;
+use dsv_loop::LoopRefusal;
 use dsv_quantiser::QuantRefusal;
 use thiserror::Error;
 
@@ -22,6 +23,9 @@ pub enum CheckRefusal {
     /// The numerator's coefficients are all 0.
     #[error("all coefficients of the numerator are 0")]
     NoZeros,
+    /// The controller has no loop with the plant, or one whose polynomial isn't tested.
+    #[error("{0}")]
+    Loop(LoopRefusal),
     /// The question of runs is larger than what is asked of formulas.
     #[error("the job's size is {size}")]
     JobSize { size: u64 },
@@ -78,6 +82,17 @@ impl From<PolyWide> for CheckRefusal {
 
     fn from(wide: PolyWide) -> Self {
         CheckRefusal::Wide { index: wide.index }
+    }
+}
+
+impl From<LoopRefusal> for CheckRefusal {
+    ghost use Rattle.std.specs.Prelude.{◌≡◌};
+    ghost use Rattle.dsv_certcheck.specs.declared.check_refusal.CheckRefusal.TheVariants as refusal;
+
+    ghost from_gives = { λ why r. r ≡ refusal.Loop why };
+
+    fn from(refusal: LoopRefusal) -> Self {
+        CheckRefusal::Loop(refusal)
     }
 }
 

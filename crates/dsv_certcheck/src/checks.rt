@@ -27,7 +27,7 @@ use std::alloc::Global;
 
 /// Checks that a controller's words have the format that the certificate says, or where it says
 /// none, at most `NARROW_WORD_BITS` bits.
-fn check_format(controller: &Controller, words: CertWords) -> Result<(), CheckRefusal>
+pub(crate) fn check_format(controller: &Controller, words: CertWords) -> Result<(), CheckRefusal>
     ensures { result ≡ format_check controller.now words }
 {
     let int_bits = controller.int_bits();
@@ -134,7 +134,7 @@ fn check_gain(
 }
 
 /// Checks that a form falls along the trajectories of a polynomial.
-fn check_offer(words: CertWords, poly: &Poly, offer: &Falls) -> Result<(), CheckRefusal>
+pub(crate) fn check_offer(words: CertWords, poly: &Poly, offer: &Falls) -> Result<(), CheckRefusal>
     ensures found { result ≡ offer_check words poly.now offer.now }
     ensures shows { OnOk result (IsFalling poly.now offer.now.form) }
 {

@@ -1,6 +1,7 @@
 //! The check of certificates: what a certificate claims of a controller is made anew from the
 //! controller's file, and nothing else that the certificate says is believed. A form may also be
-//! checked against a state-space controller, along whose states it has to fall.
+//! checked against the loop of a controller with a plant, and against a state-space controller,
+//! along whose states it has to fall.
 #![tactic(auto)]
 
 mod check_refusal;
@@ -8,9 +9,11 @@ mod checked_logs;
 mod checks;
 mod law;
 mod line_numbers;
+mod loops;
 mod state_forms;
 
 pub use check_refusal::CheckRefusal;
 pub use checks::check;
-pub use law::formats_are_compared;
+pub use law::{checks_are_apart, formats_are_compared, loop_formats_are_compared};
+pub use loops::check_loop;
 pub use state_forms::{StateForm, check_state_form};

@@ -14,7 +14,7 @@ use Rattle.dsv_names.specs.declared.rounding.Rounding.{Rounding}
 use Rattle.dsv_names.specs.declared.overflow_mode.OverflowMode.{OverflowMode}
 use Rattle.dsv_certfile.specs.Headings.{or_number, whole_line, beginning, name_in, size_of, size_in, job_in, line_job, count_at, format_places, format_in, line_format, of_job, head_in, head_with, kind_in, line_kind, kind_places, version_in}
 use Rattle.dsv_certfile.specs.Bodies.{line_in}
-use Rattle.dsv_certfile.specs.Keywords.{keyword_text, unbounded_text}
+use Rattle.dsv_certfile.specs.Keywords.{keyword_text, unbounded_text, plant_text}
 use Rattle.dsv_certfile.specs.Kinds.{kind_name, kinds, is_kind_of}
 use Rattle.dsv_certfile.specs.Lawful.{IsSize, IsWords}
 use Rattle.dsv_certfile.specs.Limits.{most_samples, greatest_depth, most_gain_depth, most_places}
@@ -50,16 +50,17 @@ samples_step : (o : Option ℕ) → IfSome o (λ k. (1 ≤ k) × (k ≤ most_sam
 samples_step None h = tt
 samples_step (Some k) h = h
 
-size_step : (b : Bool) (o : Option ℕ) → IfSome o (λ k. (1 ≤ k) × (k ≤ most_samples))
-    → IfOk (if b then Ok size.Unbounded else or_number o >>= λ k. Ok (size.Samples k)) IsSize
-size_step true o h = tt
-size_step false o h = samples_step o h
+size_step : (b c : Bool) (o : Option ℕ) → IfSome o (λ k. (1 ≤ k) × (k ≤ most_samples))
+    → IfOk (if b then Ok size.Unbounded else (if c then Ok size.OfLoop else or_number o >>= λ k. Ok (size.Samples k))) IsSize
+size_step true c o h = tt
+size_step false true o h = tt
+size_step false false o h = samples_step o h
 
 size_has : (pieces : List (List ℕ)) → IfOk (size_in pieces) IsSize
 size_has [] = tt
 size_has (piece ∷ pieces) =
     then_has (size_of piece) (λ (s : Size). whole_line s pieces) IsSize IsSize
-    (size_step (bytes_eq piece unbounded_text) (samples_of piece) (positive_has most_samples piece)) (λ s h. whole_line_has s pieces IsSize h)
+    (size_step (bytes_eq piece unbounded_text) (bytes_eq piece plant_text) (samples_of piece) (positive_has most_samples piece)) (λ s h. whole_line_has s pieces IsSize h)
 
 job_step : (b : Result (Unit {0}) TextFault) (p : Result Property TextFault) (r : Result Realisation TextFault) (o : Result Rounding TextFault)
     (m : Result OverflowMode TextFault) (s : Result Size TextFault) → IfOk s IsSize → IfOk (job_from b p r o m s) (λ job. IsSize job.size)

@@ -21,7 +21,7 @@ use Rattle.dsv_names.specs.declared.realisation.Realisation.TheVariants as reali
 use Rattle.dsv_names.specs.declared.rounding.Rounding.{Rounding}
 use Rattle.dsv_names.specs.declared.rounding.Rounding.TheVariants as rounding
 use Rattle.dsv_certfile.specs.Headings.{or_kind, version_in, beginning, name_in, size_in, job_in, line_job, count_at, format_places, line_format, of_job, head_in, head_with, kind_in, line_kind, kind_places}
-use Rattle.dsv_certfile.specs.Keywords.{keyword_text, unbounded_text}
+use Rattle.dsv_certfile.specs.Keywords.{keyword_text, unbounded_text, plant_text}
 use Rattle.dsv_certfile.specs.Kinds.{kind_name, kinds, is_kind_of}
 use Rattle.dsv_certfile.specs.Lawful.{IsSize, IsWords}
 use Rattle.dsv_certfile.specs.Limits.{greatest_int_bits, greatest_frac_bits}
@@ -82,6 +82,7 @@ size_plain : (s : Size) → IsSize s → ArePlain (size_pieces s)
 size_plain size.NoSize h = All-nil IsPlain
 size_plain (size.Samples k) h = All-cons IsPlain (decimal k) [] (decimal_plain k (omega (arith, h.1))) (All-nil IsPlain)
 size_plain size.Unbounded h = All-cons IsPlain unbounded_text [] refl (All-nil IsPlain)
+size_plain size.OfLoop h = All-cons IsPlain plant_text [] refl (All-nil IsPlain)
 
 pub job_line-plain : (job : CertifiedJob) → IsSize job.size → IsLine (job_line job)
 job_line-plain job h =
@@ -98,9 +99,11 @@ job_line-plain job h =
 size_written : (s : Size) → IsSize s → size_in (size_pieces s) ≡ Ok s
 size_written size.NoSize h = refl
 size_written (size.Samples k) h =
-    let other : bytes_eq (decimal k) unbounded_text ≡ false = other_text 117 _ (decimal k) (decimal_begins 117 k refl (omega (arith, h.1))) in
-    rw (other, samples_read k h.0 h.1) refl
+    let bounded : bytes_eq (decimal k) unbounded_text ≡ false = other_text 117 _ (decimal k) (decimal_begins 117 k refl (omega (arith, h.1))) in
+    let alone : bytes_eq (decimal k) plant_text ≡ false = other_text 112 _ (decimal k) (decimal_begins 112 k refl (omega (arith, h.1))) in
+    rw (bounded, alone, samples_read k h.0 h.1) refl
 size_written size.Unbounded h = refl
+size_written size.OfLoop h = refl
 
 job_written : (job : CertifiedJob) → IsSize job.size → job_in (job_line job) ≡ Ok (with_words words.Unsaid job)
 job_written job h =

@@ -10,7 +10,7 @@ use Rattle.dsv_names.specs.Properties.{property_name, properties}
 use Rattle.dsv_names.specs.Realisations.{realisation_name, realisations}
 use Rattle.dsv_names.specs.Roundings.{rounding_name, roundings}
 use Rattle.dsv_names.specs.OverflowModes.{overflow_mode_name, overflow_modes}
-use Rattle.dsv_certfile.specs.Keywords.{keyword_text, version_text, unbounded_text}
+use Rattle.dsv_certfile.specs.Keywords.{keyword_text, version_text, unbounded_text, plant_text}
 use Rattle.dsv_certfile.specs.Kinds.{kind_name, kinds, is_kind_of}
 use Rattle.dsv_certfile.specs.Limits.{greatest_depth, greatest_int_bits, greatest_frac_bits}
 use Rattle.dsv_certfile.specs.Limits.{most_gain_depth, most_places}
@@ -65,10 +65,11 @@ name_in name values pieces i = or_kind (value_named name values (piece_at pieces
 abbrev pub beginning : List ℕ → List (List ℕ) → Result (Unit {0}) TextFault
 beginning word pieces = if bytes_eq (piece_at pieces 0) word then Ok tt else Err fault.Kind
 
--- how many samples, or that there is no bound
+-- how many samples, or that there is no bound, or that the property is that of a loop
 abbrev pub size_of : List ℕ → Result Size TextFault
 size_of piece = if bytes_eq piece unbounded_text then Ok size.Unbounded
-    else or_number (samples_of piece) >>= λ k. Ok (size.Samples k)
+    else (if bytes_eq piece plant_text then Ok size.OfLoop
+    else or_number (samples_of piece) >>= λ k. Ok (size.Samples k))
 
 -- the size that the pieces after the names say
 abbrev pub size_in : List (List ℕ) → Result Size TextFault

@@ -38,6 +38,10 @@ ellipsoid_version = codes "dsv-ellipsoid 1"
 abbrev pub unbounded_text : List ℕ
 unbounded_text = codes "unbounded"
 
+-- the job line's last word, where the property is that of the loop with a plant
+abbrev pub plant_text : List ℕ
+plant_text = codes "plant"
+
 -- the word of a deletion, after its id
 abbrev pub deletion_text : List ℕ
 deletion_text = codes "d"

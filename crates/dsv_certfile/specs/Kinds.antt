@@ -1,6 +1,7 @@
 -- The kinds of certificates: their names, and the jobs that they belong to.
 use Rattle.std.specs.Prelude.{ℕ, Bool, true, false, List, [], ◌∷◌, codes}
 use Rattle.dsv_names.specs.declared.property.RunProperty.TheVariants as run
+use Rattle.dsv_names.specs.declared.property.RootProperty.TheVariants as root
 use Rattle.dsv_names.specs.declared.property.Property.{Property}
 use Rattle.dsv_names.specs.declared.property.Property.TheVariants as property
 use Rattle.dsv_certfile.specs.declared.job.Size.{Size}
@@ -19,12 +20,13 @@ abbrev pub kinds : List Kind
 kinds = kind.Hints ∷ kind.Invariant ∷ kind.Gain ∷ kind.Falls ∷ []
 
 -- A log shows a property of bounded runs, an invariant or a gain that no run overflows, a falling
--- form a property of roots. No kind shows that a sample is in time.
+-- form a property of roots, of a loop its stability alone. No kind shows that a sample is in time.
 abbrev pub is_kind_for : Property → Size → Kind → Bool
 is_kind_for (property.OfRuns p) (size.Samples k) kind.Hints = true
 is_kind_for (property.OfRuns run.Overflow) size.Unbounded kind.Invariant = true
 is_kind_for (property.OfRuns run.Overflow) size.Unbounded kind.Gain = true
 is_kind_for (property.OfRoots p) size.NoSize kind.Falls = true
+is_kind_for (property.OfRoots root.Stability) size.OfLoop kind.Falls = true
 is_kind_for p s k = false
 
 -- the kind belongs to the job

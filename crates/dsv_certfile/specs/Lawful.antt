@@ -34,6 +34,7 @@ abbrev pub IsSize : Size → Type 0
 IsSize size.NoSize = Unit {0}
 IsSize (size.Samples k) = (1 ≤ k) × (k ≤ most_samples)
 IsSize size.Unbounded = Unit {0}
+IsSize size.OfLoop = Unit {0}
 
 abbrev pub IsWords : CertWords → Type 0
 IsWords words.Unsaid = Unit {0}

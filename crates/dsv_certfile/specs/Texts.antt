@@ -16,7 +16,8 @@ use Rattle.dsv_forms.specs.declared.offers.Falls.{Falls}
 use Rattle.dsv_template.specs.declared.candidate.Inequality.{Inequality}
 use Rattle.dsv_template.specs.declared.candidate.Candidate.{Candidate}
 use Rattle.dsv_template.specs.declared.verdict.ThreeLogs.{ThreeLogs}
-use Rattle.dsv_certfile.specs.Keywords.{keyword_text, unbounded_text, deletion_text, zero_text}
+use Rattle.dsv_certfile.specs.Keywords.{keyword_text, unbounded_text, plant_text}
+use Rattle.dsv_certfile.specs.Keywords.{deletion_text, zero_text}
 use Rattle.dsv_certfile.specs.Kinds.{kind_name}
 use Rattle.dsv_certfile.specs.declared.certificate.Certificate.{Certificate}
 use Rattle.dsv_certfile.specs.declared.certificate.Certificate.TheVariants as certificate
@@ -49,6 +50,7 @@ abbrev pub size_pieces : Size → Line
 size_pieces size.NoSize = []
 size_pieces (size.Samples k) = decimal k ∷ []
 size_pieces size.Unbounded = unbounded_text ∷ []
+size_pieces size.OfLoop = plant_text ∷ []
 
 abbrev pub job_line : CertifiedJob → Line
 job_line job = keyword_text keyword.Job ∷ property_name job.property

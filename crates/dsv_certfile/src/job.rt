@@ -4,7 +4,7 @@ ghost use Rattle.dsv_certfile.specs.Headings.{format_in, job_in, size_in, size_o
 ghost use Rattle.dsv_lines.specs.Pieces.{pieces_of};
 
 use crate::fault::TextFault;
-use crate::keyword::{Keyword, is_unbounded, is_version};
+use crate::keyword::{Keyword, is_plant, is_unbounded, is_version};
 use crate::limits::{GREATEST_FRAC_BITS, GREATEST_INT_BITS, NARROW_WORD_BITS};
 use crate::numbers::{NumberRange, samples_of};
 use crate::pieces::{begin, end, next_named};
@@ -12,7 +12,7 @@ use crate::places::{Place, read_numbers};
 use dsv_lines::Pieces;
 use dsv_names::{Design, OverflowMode, Property, Realisation, Rounding};
 
-/// How many samples a job is about.
+/// What a job is about: how many samples, or the loop with a plant.
 #[derive(Clone, Copy, Debug, PartialEq, Eq)]
 pub enum Size {
     /// The property isn't one of runs.
@@ -21,6 +21,8 @@ pub enum Size {
     Samples(u32),
     /// Any number of them.
     Unbounded,
+    /// The property is that of the loop with a plant.
+    OfLoop,
 }
 
 /// What a certificate says of the format of the controller's words.
@@ -95,6 +97,9 @@ fn size_of_piece(piece: &[u8]) -> Result<Size, TextFault>
 {
     if is_unbounded(piece) {
         return Ok(Size::Unbounded);
+    }
+    if is_plant(piece) {
+        return Ok(Size::OfLoop);
     }
     match samples_of(piece) {
         Some(samples) => Ok(Size::Samples(samples)),

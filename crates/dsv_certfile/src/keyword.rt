@@ -2,7 +2,8 @@
 ghost use Rattle.std.specs.Prelude.{◌≡◌};
 ghost use Rattle.std.specs.Str.{bytes_eq};
 ghost use Rattle.dsv_certfile.specs.Keywords.{keyword_text, version_text, unbounded_text};
-ghost use Rattle.dsv_certfile.specs.Keywords.{ellipsoid_version, deletion_text, zero_text};
+ghost use Rattle.dsv_certfile.specs.Keywords.{plant_text, ellipsoid_version, deletion_text};
+ghost use Rattle.dsv_certfile.specs.Keywords.{zero_text};
 
 use crate::job::Version;
 
@@ -85,6 +86,13 @@ pub(crate) fn is_unbounded(piece: &[u8]) -> bool
     ensures { result ≡ bytes_eq piece.now unbounded_text }
 {
     piece == "unbounded".as_bytes()
+}
+
+/// Whether the piece says that the property is that of the loop with a plant.
+pub(crate) fn is_plant(piece: &[u8]) -> bool
+    ensures { result ≡ bytes_eq piece.now plant_text }
+{
+    piece == "plant".as_bytes()
 }
 
 /// Whether the piece says that a step is a deletion.

@@ -14,7 +14,7 @@ use crate::pieces::{begin, next_named};
 use crate::places::{Place, read_numbers};
 use dsv_forms::GREATEST_ORDER;
 use dsv_lines::Pieces;
-use dsv_names::{Named, Property, RunProperty};
+use dsv_names::{Named, Property, RootProperty, RunProperty};
 use dsv_template::MOST_INEQUALITIES;
 
 /// What shows the property of a job.
@@ -61,6 +61,7 @@ impl Kind {
             (Property::OfRuns(RunProperty::Overflow), Size::Unbounded, Kind::Invariant) => true,
             (Property::OfRuns(RunProperty::Overflow), Size::Unbounded, Kind::Gain) => true,
             (Property::OfRoots(_), Size::NoSize, Kind::Falls) => true,
+            (Property::OfRoots(RootProperty::Stability), Size::OfLoop, Kind::Falls) => true,
             (_, _, _) => false,
         }
     }

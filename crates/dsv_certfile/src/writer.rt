@@ -44,6 +44,7 @@ fn put_size<K: Sink>(sink: &mut K, size: Size) -> Result<(), Failed>
         Size::NoSize => put_all(sink, b""),
         Size::Samples(samples) => put_spaced(sink, samples),
         Size::Unbounded => put_all(sink, b" unbounded"),
+        Size::OfLoop => put_all(sink, b" plant"),
     }
 }
 

@@ -26,6 +26,14 @@ const FALLING_FORM: &str = "dsv-certificate 1\n\
     rest 0 0\n\
     end\n";
 
+/// A form of no places, for a loop.
+const LOOP: &str = "dsv-certificate 1\n\
+    job STABILITY DFI FLOOR WRAPAROUND plant\n\
+    kind falls 0\n\
+    positive 1 0\n\
+    fall 1 0\n\
+    end\n";
+
 const TEXTS: &[&str] = &[
     FALLING_FORM,
     "dsv-certificate 1\n\
@@ -33,6 +41,19 @@ const TEXTS: &[&str] = &[
     kind falls 0\n\
     positive 1 0\n\
     fall 1 0\n\
+    end\n",
+    LOOP,
+    "dsv-certificate 2\n\
+    job STABILITY TDDFII NEAREST SATURATE plant\n\
+    format 2 46\n\
+    kind falls 1\n\
+    form 1\n\
+    positive 1 1\n\
+    square 1 1\n\
+    rest 0\n\
+    fall 1 1\n\
+    square 1 1\n\
+    rest 0\n\
     end\n",
     "dsv-certificate 1\n\
     job OVERFLOW DFI FLOOR WRAPAROUND 1\n\
@@ -146,6 +167,19 @@ fn texts_are_written_as_they_were_read(rt: HostRuntime) {
     for text in TEXTS {
         assert!(rt; is_written_back(rt.alloc(), text) == Some(true));
     }
+}
+
+/// Whether the job of the certificate is one of a loop.
+fn is_of_loop(alloc: Global, text: &str) -> bool {
+    match read(alloc, text.as_bytes()) {
+        Ok(certificate) => certificate.job().size == Size::OfLoop,
+        Err(_) => false,
+    }
+}
+
+#[test]
+fn a_job_of_a_loop_is_read(rt: HostRuntime) {
+    assert!(rt; is_of_loop(rt.alloc(), LOOP) && !is_of_loop(rt.alloc(), FALLING_FORM));
 }
 
 const GAIN: &str = "dsv-certificate 1\n\

@@ -165,6 +165,16 @@ const FORMS: &[Case] = &[
         }),
     ),
     Case(
+        GAIN,
+        "dsv-certificate 1\njob STABILITY DFI FLOOR WRAPAROUND plant\nkind falls 0\n",
+        "positive 1 0\n",
+        "fall 1 0\nend\n",
+        Err(CheckRefusal::Line {
+            line: 3,
+            fault: CheckFault::Shape,
+        }),
+    ),
+    Case(
         ONE_POLE,
         "dsv-certificate 1\njob MINIMUM_PHASE DFI FLOOR WRAPAROUND\nkind falls 0\n",
         "positive 1 0\n",

@@ -1,5 +1,5 @@
-//! Tests of certificates: their text, and their check; and of texts that offer an ellipsoid.
-//! Certificates that the command writes are checked in `dsv_cli_tests`.
+//! Tests of certificates: their text, and their check, that of loops too; and of texts that offer
+//! an ellipsoid. Certificates that the command writes are checked in `dsv_cli_tests`.
 #![tactic(auto)]
 
 #[cfg(test)]
@@ -8,5 +8,7 @@ mod certificates;
 mod checks;
 #[cfg(test)]
 mod ellipsoids;
+#[cfg(test)]
+mod loops;
 #[cfg(test)]
 mod refusals;
