@@ -12,11 +12,12 @@ use Rattle.dsv_report.specs.declared.stop.CertificateFault.{CertificateFault}
 use Rattle.dsv_report.specs.declared.stop.CertificateFault.TheVariants as fault
 
 -- ---- what is shown
--- over how many samples, up to the end of the line
+-- over how many samples, or of the loop with a plant, up to the end of the line
 abbrev pub size_line : Size → List ℕ
 size_line size.NoSize = codes "\n"
 size_line (size.Samples k) = number_line (codes " samples ") k
 size_line size.Unbounded = codes " unbounded\n"
+size_line size.OfLoop = codes " plant\n"
 
 unfoldable pub accepted : List ℕ
 accepted = codes "CERTIFICATE ACCEPTED\n"

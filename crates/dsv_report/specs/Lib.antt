@@ -6,6 +6,7 @@ pub mod Forms
 pub mod Fragments
 pub mod Gains
 pub mod Lines
+pub mod LoopTexts
 pub mod Output
 pub mod Printing
 pub mod Refusals

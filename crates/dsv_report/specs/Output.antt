@@ -12,14 +12,15 @@ use Rattle.dsv_certfile.specs.declared.job.CertWords.{CertWords}
 use Rattle.dsv_certfile.specs.declared.job.Size.{Size}
 use Rattle.dsv_certfile.specs.declared.job.Size.TheVariants as size
 use Rattle.dsv_command.specs.Jobs.{Task, decides, searches, seeks_set, measures_gain, Asked}
+use Rattle.dsv_command.specs.Loops.{AskedLoop}
 use Rattle.dsv_command.specs.Requests.{Request, on_file, on_cascade, on_states, on_ellipsoid}
-use Rattle.dsv_command.specs.Requests.{checks, generates}
+use Rattle.dsv_command.specs.Requests.{on_loop, checks, checks_loop, generates}
 use Rattle.dsv_command.specs.States.{StateTask, seeks_form, AskedStates}
 use Rattle.dsv_names.specs.declared.design.Design.{Design}
 use Rattle.dsv_names.specs.declared.property.RootProperty.TheVariants.{Stability}
 use Rattle.dsv_names.specs.declared.realisation.Realisation.TheVariants.{Dfi}
 use Rattle.dsv_report.specs.AnyJobs.{AskedJob, of_controller, of_cascade, of_states}
-use Rattle.dsv_report.specs.AnyJobs.{of_ellipsoid}
+use Rattle.dsv_report.specs.AnyJobs.{of_ellipsoid, of_loop}
 use Rattle.dsv_report.specs.Report.{answer_text, stop_text}
 use Rattle.dsv_report.specs.Stops.{Outcome}
 use Rattle.dsv_report.specs.declared.answers.Answer.{Answer}
@@ -95,6 +96,15 @@ abbrev pub state_certificate_of : AskedStates → CertWords → Answer → Optio
 state_certificate_of job words found = if wants_certificate job.task
     then state_falls_of (state_job_with job words) found else None
 
+-- the job of a certificate for the loop of a controller with a plant
+abbrev pub loop_job_with : AskedLoop → CertWords → CertifiedJob
+loop_job_with job words = job_with job.design words (OfRoots Stability) size.OfLoop
+
+-- the certificate of an answer to a job for a loop, where it wants one
+abbrev pub loop_certificate_of : AskedLoop → CertWords → Answer → Option Certificate
+loop_certificate_of job words found =
+    if job.certified then falls_of (loop_job_with job words) found else None
+
 -- the certificate of an answer to a job of any kind; one for a cascade or of an ellipsoid wants
 -- none
 abbrev pub any_certificate_of : AskedJob → CertWords → Answer → Option Certificate
@@ -102,6 +112,7 @@ any_certificate_of (of_controller job) words found = certificate_of job words fo
 any_certificate_of (of_cascade job) words found = None
 any_certificate_of (of_states job states) words found = state_certificate_of job words found
 any_certificate_of (of_ellipsoid job) words found = None
+any_certificate_of (of_loop job) words found = loop_certificate_of job words found
 
 -- what is written for an answer to a job, or to what is no job
 abbrev pub answer_output : Option AskedJob → CertWords → Answer → List ℕ
@@ -131,5 +142,7 @@ asked_by states (Some (on_file job)) = Some (of_controller job)
 asked_by states (Some (on_cascade job)) = Some (of_cascade job)
 asked_by states (Some (on_states job)) = Some (of_states job states)
 asked_by states (Some (on_ellipsoid job)) = Some (of_ellipsoid job)
+asked_by states (Some (on_loop job)) = Some (of_loop job)
 asked_by states (Some (checks file name)) = None
+asked_by states (Some (checks_loop file name plant)) = None
 asked_by states (Some (generates seed count)) = None

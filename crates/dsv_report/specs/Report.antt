@@ -27,7 +27,7 @@ use Rattle.dsv_command.specs.Jobs.{measures_gain, simulates}
 use Rattle.dsv_command.specs.Cascades.{task_alone}
 use Rattle.dsv_report.specs.Certificates.{checked_text, certificate_text}
 use Rattle.dsv_report.specs.AnyJobs.{AskedJob, of_controller, of_cascade, of_states}
-use Rattle.dsv_report.specs.AnyJobs.{of_ellipsoid}
+use Rattle.dsv_report.specs.AnyJobs.{of_ellipsoid, of_loop}
 use Rattle.dsv_report.specs.CascadeTexts.{sections_text, section_line, forms_text}
 use Rattle.dsv_report.specs.CascadeTexts.{cascade_refusal_text}
 use Rattle.dsv_certfile.specs.Ellipsoids.{ellipsoid_text}
@@ -39,6 +39,7 @@ use Rattle.dsv_report.specs.Fragments.{concatenation}
 use Rattle.dsv_report.specs.Gains.{gain_text, out_of_range_text, too_deep_text}
 use Rattle.dsv_report.specs.Lines.{property_text, realisation_text, numbered, number_line}
 use Rattle.dsv_report.specs.Lines.{numbered_lines}
+use Rattle.dsv_report.specs.LoopTexts.{loop_job_text, plant_line, loop_refusal_text}
 use Rattle.dsv_report.specs.Refusals.{file_text, quant_text, input_text}
 use Rattle.dsv_report.specs.StateTexts.{state_job_text, no_state_form_text, state_text}
 use Rattle.dsv_report.specs.StateTexts.{state_quant_text}
@@ -93,6 +94,7 @@ job_text (of_cascade job) = task_text (task_alone job.task)
     ++ (sections_text job ++ extent_text (task_alone job.task)))
 job_text (of_states job states) = state_job_text job states
 job_text (of_ellipsoid job) = ellipsoid_job_text job
+job_text (of_loop job) = loop_job_text job
 
 -- the verdict and what the job asked for; without a job there is none
 abbrev pub heading : List ℕ → Option AskedJob → List ℕ
@@ -276,6 +278,9 @@ stop_text (stop.SectionRefused section r) = section_line section ++ file_text r
 stop_text (stop.SectionTooLong section) = section_line section ++ too_long_text
 stop_text (stop.SectionQuant section r) = section_line section ++ quant_text r
 stop_text (stop.CascadeRefused r) = cascade_refusal_text r
+stop_text (stop.PlantRefused r) = plant_line ++ file_text r
+stop_text stop.PlantTooLong = plant_line ++ too_long_text
+stop_text (stop.LoopRefused r) = loop_refusal_text r
 stop_text (stop.StateRefused r) = state_text r
 stop_text (stop.StateQuantRefused r) = state_quant_text r
 stop_text (stop.InputRange index value) = input_text index value
@@ -285,6 +290,7 @@ stop_text (stop.ReadFault file.Controller) = codes "READ FAULT CONTROLLER\n"
 stop_text (stop.ReadFault file.Certificate) = codes "READ FAULT CERTIFICATE\n"
 stop_text (stop.ReadFault (file.Section section)) =
     number_line (codes "READ FAULT SECTION ") section
+stop_text (stop.ReadFault file.Plant) = codes "READ FAULT PLANT\n"
 stop_text stop.NoMemory = codes "NO MEMORY\n"
 
 -- ---- statuses
@@ -327,6 +333,9 @@ stop_status (stop.SectionRefused section r) = 2
 stop_status (stop.SectionTooLong section) = 2
 stop_status (stop.SectionQuant section r) = 2
 stop_status (stop.CascadeRefused r) = 2
+stop_status (stop.PlantRefused r) = 2
+stop_status stop.PlantTooLong = 2
+stop_status (stop.LoopRefused r) = 2
 stop_status (stop.StateRefused r) = 2
 stop_status (stop.StateQuantRefused r) = 2
 stop_status (stop.InputRange index value) = 2

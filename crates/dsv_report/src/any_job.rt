@@ -1,7 +1,8 @@
 // The jobs that a report is headed by.
-use dsv_command::{CascadeJob, EllipsoidJob, Job, StateJob};
+use dsv_command::{CascadeJob, EllipsoidJob, Job, LoopJob, StateJob};
 
-/// A job for a controller, for a cascade, for a state-space controller, or of an ellipsoid.
+/// A job for a controller, for a cascade, for a state-space controller, of an ellipsoid, or for a
+/// controller's loop with a plant.
 #[derive(Clone, Copy)]
 pub enum AnyJob<'a> {
     OfController(&'a Job<'a>),
@@ -12,4 +13,5 @@ pub enum AnyJob<'a> {
         states: u32,
     },
     OfEllipsoid(&'a EllipsoidJob<'a>),
+    OfLoop(&'a LoopJob<'a>),
 }

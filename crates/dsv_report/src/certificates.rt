@@ -10,7 +10,7 @@ use crate::stop::CertificateFault;
 use dsv_base::{Failed, Sink, put_all};
 use dsv_certfile::{CertifiedJob, CheckFault, Size, TextFault};
 
-/// Writes over how many samples, up to the end of the line.
+/// Writes over how many samples, or that it is of the loop with a plant, up to the end of the line.
 fn put_size<K: Sink>(sink: &mut K, size: Size) -> Result<(), Failed>
     ensures { Writes (K.seen sink.old) (K.seen sink.new) result (size_line size) }
 {
@@ -18,6 +18,7 @@ fn put_size<K: Sink>(sink: &mut K, size: Size) -> Result<(), Failed>
         Size::NoSize => put_all(sink, b"\n"),
         Size::Samples(samples) => put_number_line(sink, b" samples ", samples.into()),
         Size::Unbounded => put_all(sink, b" unbounded\n"),
+        Size::OfLoop => put_all(sink, b" plant\n"),
     }
 }
 

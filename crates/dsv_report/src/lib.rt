@@ -10,6 +10,7 @@ mod forms;
 mod fragments;
 mod gains;
 mod lines;
+mod loops;
 mod output;
 mod refusals;
 mod report;

@@ -2,11 +2,13 @@
 ghost use Rattle.std.specs.Prelude.{◌≡◌, Some, IfSome, IfOk, OnOk};
 ghost use Rattle.dsv_base.specs.Taking.{Writes};
 ghost use Rattle.dsv_command.specs.Asking.{asked_of, asked_task, asked_state_task, asked_states};
+ghost use Rattle.dsv_command.specs.Asking.{asked_loop};
 ghost use Rattle.dsv_report.specs.Output.{job_with, hints_of, invariant_of, gain_of, falls_of};
 ghost use Rattle.dsv_report.specs.Output.{certificate_for, answer_output, text_or, output_of};
 ghost use Rattle.dsv_report.specs.Output.{answer_certificate, certificate_written};
 ghost use Rattle.dsv_report.specs.Output.{state_job_with, state_falls_of, wants_certificate};
-ghost use Rattle.dsv_report.specs.AnyJobs.{asked_in, of_controller, of_states};
+ghost use Rattle.dsv_report.specs.Output.{loop_job_with};
+ghost use Rattle.dsv_report.specs.AnyJobs.{asked_in, of_controller, of_states, of_loop};
 ghost use Rattle.dsv_report.specs.Printing.{HasPlaces};
 ghost use Rattle.dsv_report.specs.Report.{answer_text};
 ghost use Rattle.dsv_certfile.specs.Lawful.{IsWords};
@@ -24,7 +26,7 @@ use dsv_base::{Failed, Sink};
 use dsv_certfile::{
     CertWords, CertifiedJob, Size, write_falls, write_gain, write_hints, write_invariant,
 };
-use dsv_command::{Job, RunQuestion, StateJob, StateTask, Task};
+use dsv_command::{Job, LoopJob, RunQuestion, StateJob, StateTask, Task};
 use dsv_names::{Design, Property, Realisation, RootProperty, RunProperty};
 
 /// The job of a certificate for a controller that is realised by a design, and of whose words this
@@ -221,6 +223,35 @@ fn put_state_certificate<K: Sink>(
     }
 }
 
+/// The job of a certificate for the loop of a controller with a plant.
+fn loop_job_with(job: &LoopJob, words: CertWords) -> CertifiedJob
+    ensures { result ≡ loop_job_with (asked_loop job.now) words }
+{
+    let property = Property::OfRoots(RootProperty::Stability);
+    job_with(job.design, words, property, Size::OfLoop)
+}
+
+/// Writes the certificate of an answer on a loop, or its report where it has none.
+fn put_loop_certificate<K: Sink>(
+    sink: &mut K,
+    job: &LoopJob,
+    words: CertWords,
+    answer: &Answer,
+) -> Result<(), Failed>
+    requires places { HasPlaces answer.now }
+    requires words { IsWords words }
+    ensures text { Writes (K.seen sink.old) (K.seen sink.new) result
+        (text_or (falls_of (loop_job_with (asked_loop job.now) words) answer.now)
+        (answer_text (Some (of_loop (asked_loop job.now))) answer.now)) }
+    ensures typed { OnOk result (IfSome
+        (falls_of (loop_job_with (asked_loop job.now) words) answer.now) IsTyped) }
+{
+    match answer {
+        Answer::Falls { offer, .. } => write_falls(sink, &loop_job_with(job, words), offer),
+        _ => put_answer(sink, Some(AnyJob::OfLoop(job)), answer),
+    }
+}
+
 /// Writes what is asked for of an answer: a certificate, where the job wants one and the answer has
 /// one, and else the report.
 fn put_found<K: Sink>(
@@ -242,6 +273,9 @@ fn put_found<K: Sink>(
         }
         Some(AnyJob::OfStates { job, states }) if wants_certificate(&job.task) => {
             put_state_certificate(sink, job, states, words, answer)
+        }
+        Some(AnyJob::OfLoop(job)) if job.certified => {
+            put_loop_certificate(sink, job, words, answer)
         }
         Some(_) | None => put_answer(sink, job, answer),
     }

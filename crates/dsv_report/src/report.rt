@@ -25,6 +25,7 @@ use crate::forms::{put_fall, put_form, put_kept_away, put_numbers};
 use crate::fragments::{Fragment, put_fragments};
 use crate::gains::{put_gain, put_out_of_range};
 use crate::lines::{put_number_line, put_numbered, put_property, put_realisation};
+use crate::loops::put_loop_job;
 use crate::states::{put_no_form_cause, put_state_job};
 use crate::stop::Stop;
 use crate::stops::stop_status;
@@ -156,6 +157,7 @@ fn put_job<K: Sink>(sink: &mut K, job: AnyJob) -> Result<(), Failed>
         AnyJob::OfCascade(job) => put_cascade_job(sink, job),
         AnyJob::OfStates { job, states } => put_state_job(sink, job, u64::from(states)),
         AnyJob::OfEllipsoid(job) => put_ellipsoid_job(sink, job),
+        AnyJob::OfLoop(job) => put_loop_job(sink, job),
     }
 }
 

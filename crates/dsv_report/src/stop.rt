@@ -3,6 +3,7 @@ use dsv_base::NoMemory;
 use dsv_cascade::CascadeRefusal;
 use dsv_certfile::{CertRefusal, CheckFault, TextFault, TextRefusal};
 use dsv_ellipsoid::EllipsoidRefusal;
+use dsv_loop::LoopRefusal;
 use dsv_quantiser::QuantRefusal;
 use dsv_reader::FileRefusal;
 use dsv_state_file::StateRefusal;
@@ -15,6 +16,8 @@ pub enum WhichFile {
     Certificate,
     /// That of this section of a cascade, 1 or more.
     Section(u32),
+    /// That of the plant of a loop.
+    Plant,
 }
 
 /// What is wrong with a certificate.
@@ -49,6 +52,12 @@ pub enum Stop {
     SectionQuant { section: u32, refusal: QuantRefusal },
     /// The sections make no cascade.
     CascadeRefused(CascadeRefusal),
+    /// The first fault of the plant's file.
+    PlantRefused(FileRefusal),
+    /// The plant's file has over 65,536 bytes.
+    PlantTooLong,
+    /// The controller and the plant have no loop, or one whose polynomial isn't tested.
+    LoopRefused(LoopRefusal),
     /// The first fault of a state-space controller's file.
     StateRefused(StateRefusal),
     /// The first number of a state-space controller that is no word, or the range of its inputs,
@@ -114,6 +123,17 @@ impl From<CascadeRefusal> for Stop {
 
     fn from(refusal: CascadeRefusal) -> Self {
         Stop::CascadeRefused(refusal)
+    }
+}
+
+impl From<LoopRefusal> for Stop {
+    ghost use Rattle.std.specs.Prelude.{◌≡◌};
+    ghost use Rattle.dsv_report.specs.declared.stop.Stop.TheVariants as stop;
+
+    ghost from_gives = { λ refusal e. e ≡ stop.LoopRefused refusal };
+
+    fn from(refusal: LoopRefusal) -> Self {
+        Stop::LoopRefused(refusal)
     }
 }
 

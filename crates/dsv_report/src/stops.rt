@@ -2,6 +2,7 @@
 ghost use Rattle.std.specs.Prelude.{◌≡◌, ◌++◌};
 ghost use Rattle.dsv_base.specs.Taking.{Writes};
 ghost use Rattle.dsv_report.specs.CascadeTexts.{section_line};
+ghost use Rattle.dsv_report.specs.LoopTexts.{plant_line};
 ghost use Rattle.dsv_report.specs.Refusals.{file_text, quant_text};
 ghost use Rattle.dsv_report.specs.Report.{stop_status, stop_text, too_long_text};
 
@@ -9,6 +10,7 @@ use crate::cascades::{put_cascade_refusal, put_section};
 use crate::certificates::put_certificate_refusal;
 use crate::ellipsoids::{put_ellipsoid_refusal, put_offer_fault};
 use crate::lines::put_number_line;
+use crate::loops::{put_loop_refusal, put_plant};
 use crate::refusals::{put_file_refusal, put_input_range, put_quant_refusal};
 use crate::states::{put_state_quant_refusal, put_state_refusal};
 use crate::stop::{Stop, WhichFile};
@@ -29,6 +31,9 @@ pub(crate) fn stop_status(stop: &Stop) -> u8
         | Stop::SectionTooLong { .. }
         | Stop::SectionQuant { .. }
         | Stop::CascadeRefused(_)
+        | Stop::PlantRefused(_)
+        | Stop::PlantTooLong
+        | Stop::LoopRefused(_)
         | Stop::StateRefused(_)
         | Stop::StateQuantRefused(_)
         | Stop::InputRange { .. } => 2,
@@ -81,6 +86,23 @@ fn put_section_quant<K: Sink>(
     put_quant_refusal(sink, refusal)
 }
 
+/// Writes why the plant's file is refused.
+fn put_plant_refusal<K: Sink>(sink: &mut K, refusal: FileRefusal) -> Result<(), Failed>
+    ensures { Writes (K.seen sink.old) (K.seen sink.new) result
+        (plant_line ++ file_text refusal) }
+{
+    put_plant(sink)?;
+    put_file_refusal(sink, refusal)
+}
+
+/// Writes that the plant's file is too long.
+fn put_plant_too_long<K: Sink>(sink: &mut K) -> Result<(), Failed>
+    ensures { Writes (K.seen sink.old) (K.seen sink.new) result (plant_line ++ too_long_text) }
+{
+    put_plant(sink)?;
+    put_too_long(sink)
+}
+
 /// Writes why there is no answer. It takes no memory.
 pub(crate) fn put_stop<K: Sink>(sink: &mut K, stop: &Stop) -> Result<(), Failed>
     ensures { Writes (K.seen sink.old) (K.seen sink.new) result (stop_text stop.now) }
@@ -98,6 +120,9 @@ pub(crate) fn put_stop<K: Sink>(sink: &mut K, stop: &Stop) -> Result<(), Failed>
             put_section_quant(sink, u64::from(*section), *refusal)
         }
         Stop::CascadeRefused(refusal) => put_cascade_refusal(sink, *refusal),
+        Stop::PlantRefused(refusal) => put_plant_refusal(sink, *refusal),
+        Stop::PlantTooLong => put_plant_too_long(sink),
+        Stop::LoopRefused(refusal) => put_loop_refusal(sink, *refusal),
         Stop::StateRefused(refusal) => put_state_refusal(sink, *refusal),
         Stop::StateQuantRefused(refusal) => put_state_quant_refusal(sink, *refusal),
         Stop::InputRange { index, value } => put_input_range(sink, *index, value),
@@ -110,6 +135,7 @@ pub(crate) fn put_stop<K: Sink>(sink: &mut K, stop: &Stop) -> Result<(), Failed>
         Stop::ReadFault(WhichFile::Section(section)) => {
             put_number_line(sink, b"READ FAULT SECTION ", (*section).into())
         }
+        Stop::ReadFault(WhichFile::Plant) => put_all(sink, b"READ FAULT PLANT\n"),
         Stop::NoMemory => put_all(sink, b"NO MEMORY\n"),
     }
 }
