@@ -29,14 +29,14 @@ use Rattle.dsv_cli.proofs.CertifiedWords.{Fits, certificate_fits}
 use Rattle.dsv_cli.proofs.OneAnswerStages.{Stage, long, faulty, refused, in_words, IsStage, one_stage}
 
 -- ---- the words of the certificate's job
-accepted_of : (bytes : List ℕ) (controller : ControllerView) (job : CertifiedJob) (o : Result QuantisedView QuantRefusal) → IsController bytes controller → BecomesFor controller job o
+abbrev pub accepted_of : (bytes : List ℕ) (controller : ControllerView) (job : CertifiedJob) (o : Result QuantisedView QuantRefusal) → IsController bytes controller → BecomesFor controller job o
     → IsAccepted job.design bytes o
 accepted_of bytes controller job o a b = record { short = a.short; controller = controller; text = a.text; becomes = b }
 
-same_words : (a b : ControllerView) (v w : QuantisedView) → in_words a v ≡ in_words b w → v ≡ w
+pub same_words : (a b : ControllerView) (v w : QuantisedView) → in_words a v ≡ in_words b w → v ≡ w
 same_words a b v w e = cc
 
-abbrev IsInWords : Stage → Type 0
+abbrev pub IsInWords : Stage → Type 0
 IsInWords (in_words a quantised) = Unit {0}
 IsInWords other = ⊥
 
@@ -75,7 +75,7 @@ never_refused_at bytes c controller line why f a (inr k) =
 of_bytes : (P : ControllerView → List ℕ → Type 0) (old : FilesSeen) (name bytes written : List ℕ) → old.held name ≡ Some written → (k : IsCheckOf old name bytes P) → P k.controller written
 of_bytes P old name bytes written held k = of_told (P k.controller) written (subst (λ told. CameOf told (P k.controller)) held k.certificate)
 
-one_spelled : (read : Result Certificate CertRefusal) (c d : Certificate) → read ≡ Ok c → read ≡ Ok d → d ≡ c
+pub one_spelled : (read : Result Certificate CertRefusal) (c d : Certificate) → read ≡ Ok c → read ≡ Ok d → d ≡ c
 one_spelled read c d h k = cc
 
 of_spelled : (P : Certificate → Type 0) (written : List ℕ) (c : Certificate) → IsSpelled written c → Spells P written → P c
@@ -86,10 +86,10 @@ of_certificate : (P : ControllerView → Certificate → Type 0) (old : FilesSee
     → (k : IsCheckOf old name bytes (λ controller. Spells (P controller))) → P k.controller c
 of_certificate P old name bytes written c held s k = of_spelled (P k.controller) written c s (of_bytes (λ controller. Spells (P controller)) old name bytes written held k)
 
-read_or_refused : (read : Result Certificate CertRefusal) (c : Certificate) (why : CertRefusal) → read ≡ Ok c → read ≡ Err why → ⊥
+pub read_or_refused : (read : Result Certificate CertRefusal) (c : Certificate) (why : CertRefusal) → read ≡ Ok c → read ≡ Err why → ⊥
 read_or_refused read c why h k = cc
 
-too_long : (limit n : ℕ) → n ≤ limit → limit < n → ⊥
+pub too_long : (limit n : ℕ) → n ≤ limit → limit < n → ⊥
 too_long limit n h k = omega arith
 
 -- ---- each answer to the check

@@ -62,7 +62,7 @@ pub record IsAcceptable (bytes : List ℕ) (c : Certificate) : Type 0 where
   pub job : job_of (certificate_alone c) ≡ job_of c
 
 -- what is said of the words of the file's controller is what its certificates have to say
-format_fits : (bytes : List ℕ) (words : CertWords) (design : Design) (o : Result QuantisedView QuantRefusal) → HasWords bytes words → (a : IsAccepted design bytes o) → format_check a.controller words ≡ Ok tt
+pub format_fits : (bytes : List ℕ) (words : CertWords) (design : Design) (o : Result QuantisedView QuantRefusal) → HasWords bytes words → (a : IsAccepted design bytes o) → format_check a.controller words ≡ Ok tt
 format_fits bytes words design o h a =
     let same : h.controller ≡ a.controller = one_design bytes h.controller a.controller h.accepted.text a.text in
     subst (λ c. format_check c words ≡ Ok tt) same (subst (λ w. format_check h.controller w ≡ Ok tt) (sym h.words) (format_passes h.controller))

@@ -1,9 +1,14 @@
 -- The check of a certificate leads to the rows of the table.
-use Rattle.std.proofs.Common.{◌≡◌, ℕ, ◌≤◌, List, subst}
+use Rattle.std.proofs.Common.{◌≡◌, refl, inl, inr, ℕ, ◌≤◌, List, subst}
 use Rattle.std.specs.Prelude.{Ok, Err}
 use Rattle.dsv_base.specs.Seen.{FilesSeen}
 use Rattle.dsv_reader.specs.Controllers.{ControllerView}
 use Rattle.dsv_certfile.specs.declared.certificate.Certificate.{Certificate}
+use Rattle.dsv_certcheck.proofs.LoopRefusals.{no_loop_is_refused}
+use Rattle.dsv_certcheck.specs.Checks.{IsChecked}
+use Rattle.dsv_certcheck.specs.declared.check_refusal.CheckRefusal.{CheckRefusal}
+use Rattle.dsv_certcheck.specs.declared.check_refusal.CheckRefusal.TheVariants as refusal
+use Rattle.dsv_loop.specs.declared.refusal.LoopRefusal.TheVariants.{Wide}
 use Rattle.dsv_report.specs.declared.answers.Answer.TheVariants as answer
 use Rattle.dsv_report.specs.declared.stop.CertificateFault.TheVariants as fault
 use Rattle.dsv_report.specs.declared.stop.Stop.{Stop}
@@ -11,10 +16,21 @@ use Rattle.dsv_report.specs.declared.stop.Stop.TheVariants as stop
 use Rattle.dsv_report.specs.declared.stop.WhichFile.TheVariants as file
 use Rattle.dsv_report.specs.Stops.{Outcome}
 use Rattle.dsv_token.specs.declared.refusal.FileRefusal.TheVariants as text
-use Rattle.dsv_cli.specs.Checking.{IsOfCertificate, IsUnreadCertificate}
+use Rattle.dsv_cli.specs.Checking.{IsOfCertificate, IsUnreadCertificate, stop_of_check}
 use Rattle.dsv_cli.specs.Headline.{CameOf, IsController, IsCheckOf, IsSpelled, Spells, IsUnread, IsCheckRow}
 use Rattle.dsv_cli.proofs.FileBytes.{unread_earlier}
 use Rattle.dsv_cli.proofs.Told.{along, some_came}
+
+-- what the check of a certificate refuses
+pub of_refusal : (controller : ControllerView) (c : Certificate) (r : CheckRefusal) → IsChecked controller c (Err r) → IsOfCertificate controller c (Err (stop_of_check r))
+of_refusal controller c (refusal.Line line why) h = inl h
+of_refusal controller c (refusal.Wide index) h = inr (refl, refl, inl (index, h))
+of_refusal controller c refusal.NoZeros h = inr (refl, refl, inr h)
+of_refusal controller c (refusal.Loop (Wide index)) h = absurd (no_loop_is_refused controller c (Wide index) h)
+of_refusal controller c (refusal.Loop why) h = absurd (no_loop_is_refused controller c why h)
+of_refusal controller c (refusal.Quant r) h = h
+of_refusal controller c (refusal.JobSize size) h = h
+of_refusal controller c refusal.NoMemory h = tt
 
 -- a file that is no controller's
 pub row_of_no_controller : (old new : FilesSeen) (controller name : List ℕ) (why : Stop) → IsUnread (old.held controller) old new controller why

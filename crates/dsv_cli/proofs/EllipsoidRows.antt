@@ -26,6 +26,7 @@ pub offer_unread : (old new : FilesSeen) (name : List ℕ) (why : Stop) → IsUn
 offer_unread old new name (stop.ReadFault file.Certificate) h = (h.1, h.2)
 offer_unread old new name (stop.ReadFault file.Controller) h = absurd (let e = h.0 in cc)
 offer_unread old new name (stop.ReadFault (file.Section section)) h = absurd (let e = h.0 in cc)
+offer_unread old new name (stop.ReadFault file.Plant) h = absurd (let e = h.0 in cc)
 offer_unread old new name stop.NoMemory h = tt
 offer_unread old new name (stop.CertificateRefused line fault.TooLong) h = ((let e = h.0 in cc), h.1, h.2)
 offer_unread old new name why h = absurd (let e = h.0 in cc)

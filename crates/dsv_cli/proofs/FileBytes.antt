@@ -28,12 +28,14 @@ pub long_unread : (old new : FilesSeen) (name : List ℕ) (which : WhichFile) (w
     → Rose (old.came + limit_of which) new.came → IsUnreadFile old new name which why
 long_unread old new name file.Controller why e h r = rw e (refl, more_came longest_file (old.held name) h, r)
 long_unread old new name (file.Section section) why e h r = rw e (refl, more_came longest_file (old.held name) h, r)
+long_unread old new name file.Plant why e h r = rw e (refl, more_came longest_file (old.held name) h, r)
 long_unread old new name file.Certificate why e h r = rw e (refl, more_came longest_certificate (old.held name) h, r)
 
 pub controller_unread : (old new : FilesSeen) (name : List ℕ) (why : Stop) → IsUnreadFile old new name file.Controller why → IsUnread (old.held name) old new name why
 controller_unread old new name (stop.ReadFault file.Controller) h = record { belongs_to = tt; comes_from = some_came (old.held name); shows = (h.1, h.2) }
 controller_unread old new name (stop.ReadFault file.Certificate) h = absurd (let e = h.0 in cc)
 controller_unread old new name (stop.ReadFault (file.Section section)) h = absurd (let e = h.0 in cc)
+controller_unread old new name (stop.ReadFault file.Plant) h = absurd (let e = h.0 in cc)
 controller_unread old new name stop.NoMemory h = tt
 controller_unread old new name stop.FileTooLong h = record { belongs_to = tt; comes_from = h.1; shows = h.2 }
 controller_unread old new name why h = absurd (let e = h.0 in cc)
@@ -42,6 +44,7 @@ pub certificate_unread : (old new : FilesSeen) (name : List ℕ) (why : Stop) �
 certificate_unread old new name (stop.ReadFault file.Certificate) h = (h.1, h.2)
 certificate_unread old new name (stop.ReadFault file.Controller) h = absurd (let e = h.0 in cc)
 certificate_unread old new name (stop.ReadFault (file.Section section)) h = absurd (let e = h.0 in cc)
+certificate_unread old new name (stop.ReadFault file.Plant) h = absurd (let e = h.0 in cc)
 certificate_unread old new name stop.NoMemory h = tt
 certificate_unread old new name (stop.CertificateRefused line fault.TooLong) h = ((let e = h.0 in cc), h.1, h.2)
 certificate_unread old new name why h = absurd (let e = h.0 in cc)

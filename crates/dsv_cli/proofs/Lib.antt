@@ -1,4 +1,5 @@
 pub mod AcceptedLemmas
+pub mod AcceptedLoops
 pub mod Answering
 pub mod Asked
 pub mod Blocks
@@ -11,6 +12,8 @@ pub mod Completeness
 pub mod EllipsoidRows
 pub mod FileBytes
 pub mod Inputs
+pub mod LoopChecks
+pub mod LoopRows
 pub mod OfferedSets
 pub mod OneAnswerLemmas
 pub mod OneAnswerStages

@@ -110,6 +110,9 @@ reached_by bytes old new job (Err (stop.StateRefused refusal)) s h = absurd h
 reached_by bytes old new job (Err (stop.StateQuantRefused refusal)) s h = absurd h
 reached_by bytes old new job (Err (stop.EllipsoidText refusal)) s h = absurd h
 reached_by bytes old new job (Err (stop.EllipsoidRefused refusal)) s h = absurd h
+reached_by bytes old new job (Err (stop.PlantRefused refusal)) s h = absurd h
+reached_by bytes old new job (Err stop.PlantTooLong) s h = absurd h
+reached_by bytes old new job (Err (stop.LoopRefused refusal)) s h = absurd h
 reached_by bytes old new job (Err stop.Usage) s h = absurd h
 reached_by bytes old new job found s h = absurd s
 

@@ -27,6 +27,7 @@ pub states_unread : (old new : FilesSeen) (name : List ℕ) (why : Stop) → IsU
 states_unread old new name (stop.ReadFault file.Controller) h = (h.1, h.2)
 states_unread old new name (stop.ReadFault file.Certificate) h = absurd (let e = h.0 in cc)
 states_unread old new name (stop.ReadFault (file.Section section)) h = absurd (let e = h.0 in cc)
+states_unread old new name (stop.ReadFault file.Plant) h = absurd (let e = h.0 in cc)
 states_unread old new name stop.NoMemory h = tt
 states_unread old new name stop.FileTooLong h = (h.1, h.2)
 states_unread old new name why h = absurd (let e = h.0 in cc)

@@ -1,4 +1,4 @@
--- A certificate that a run wrote is accepted for the same file.
+-- A certificate that a run wrote is accepted for the same files.
 use Rattle.std.specs.Prelude.{◌≡◌, ℕ, ◌≤◌, List, length, Some, Ok, Err}
 use Rattle.dsv_base.specs.Seen.{FilesSeen}
 use Rattle.dsv_certfile.specs.Texts.{job_of, certificate_text}
@@ -7,12 +7,15 @@ use Rattle.dsv_certfile.specs.declared.certificate.Certificate.{Certificate}
 use Rattle.dsv_certfile.specs.declared.job.CertifiedJob.{CertifiedJob}
 use Rattle.dsv_certfile.specs.declared.job.CertWords.{CertWords}
 use Rattle.dsv_command.specs.Jobs.{Asked}
-use Rattle.dsv_report.specs.Output.{certificate_of}
+use Rattle.dsv_command.specs.Loops.{AskedLoop}
+use Rattle.dsv_report.specs.Output.{certificate_of, loop_certificate_of}
 use Rattle.dsv_report.specs.declared.answers.Answer.{Answer}
 use Rattle.dsv_report.specs.declared.answers.Answer.TheVariants as answer
 use Rattle.dsv_report.specs.declared.stop.Stop.TheVariants as stop
 use Rattle.dsv_report.specs.Stops.{Outcome}
 use Rattle.dsv_cli.specs.Headline.{longest_certificate, HasWords, IsRow, IsCheckRow}
+use Rattle.dsv_cli.specs.LoopChecks.{IsLoopCheckRow}
+use Rattle.dsv_cli.specs.Loops.{IsLoopRow, SaysLoop}
 
 -- the answer is that a certificate with this job is accepted, unless a read failed or there was no
 -- memory
@@ -34,4 +37,21 @@ WrittenAreAccepted =
     → (then_old then_new : FilesSeen) (controller name : List ℕ) (answered : Outcome)
     → then_old.held name ≡ Some (certificate_text c)
     → IsCheckRow (Some bytes) then_old then_new controller name answered
+    → IsAcceptance (job_of c) answered
+
+-- So it is for loops: where a job for a loop, of files with these bytes, has such a certificate,
+-- each check of its text against a controller's file and a plant's of the same bytes accepts it.
+abbrev pub WrittenLoopsAreAccepted : Type 0
+WrittenLoopsAreAccepted =
+    (controller plant : List ℕ) (old new : FilesSeen) (asked : AskedLoop) (words : CertWords)
+    (found : Answer) (c : Certificate)
+    → old.held asked.file ≡ Some controller → old.held asked.plant ≡ Some plant
+    → IsLoopRow old new asked (Ok found) → SaysLoop old new asked (Ok found) words
+    → loop_certificate_of asked words found ≡ Some c → IsTyped c
+    → length (certificate_text c) ≤ longest_certificate
+    → (then_old then_new : FilesSeen) (controller_name plant_name name : List ℕ)
+    (answered : Outcome)
+    → then_old.held controller_name ≡ Some controller → then_old.held plant_name ≡ Some plant
+    → then_old.held name ≡ Some (certificate_text c)
+    → IsLoopCheckRow then_old then_new controller_name plant_name name answered
     → IsAcceptance (job_of c) answered

@@ -6,6 +6,7 @@ use Rattle.dsv_base.specs.Seen.{FilesSeen}
 use Rattle.dsv_command.specs.Cascades.{AskedCascade}
 use Rattle.dsv_command.specs.Ellipsoids.{AskedEllipsoid}
 use Rattle.dsv_command.specs.Jobs.{Asked}
+use Rattle.dsv_command.specs.Loops.{AskedLoop}
 use Rattle.dsv_command.specs.States.{AskedStates}
 use Rattle.dsv_report.specs.Report.{status_of}
 use Rattle.dsv_report.specs.declared.stop.Stop.TheVariants as stop
@@ -13,6 +14,8 @@ use Rattle.dsv_report.specs.Stops.{Outcome}
 use Rattle.dsv_cli.specs.Cascades.{IsCascadeRow}
 use Rattle.dsv_cli.specs.Ellipsoids.{IsEllipsoidRow}
 use Rattle.dsv_cli.specs.Headline.{IsRow, IsCheckRow}
+use Rattle.dsv_cli.specs.LoopChecks.{IsLoopCheckRow}
+use Rattle.dsv_cli.specs.Loops.{IsLoopRow}
 use Rattle.dsv_cli.specs.States.{IsStateRow}
 
 -- the status of a job that is done or holds, that fails, or that is inconclusive
@@ -45,5 +48,9 @@ pub record AreDecided : Type 0 where
       → IsDecidedBy old new (IsStateRow old new asked)
   pub ellipsoids : (old new : FilesSeen) (asked : AskedEllipsoid)
       → IsDecidedBy old new (IsEllipsoidRow old new asked)
+  pub loops : (old new : FilesSeen) (asked : AskedLoop)
+      → IsDecidedBy old new (IsLoopRow old new asked)
   pub checks : (told : Option (List ℕ)) (old new : FilesSeen) (controller name : List ℕ)
       → IsDecidedBy old new (IsCheckRow told old new controller name)
+  pub loop_checks : (old new : FilesSeen) (controller plant name : List ℕ)
+      → IsDecidedBy old new (IsLoopCheckRow old new controller plant name)

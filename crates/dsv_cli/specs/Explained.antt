@@ -4,12 +4,14 @@ use Rattle.dsv_base.specs.Seen.{FilesSeen}
 use Rattle.dsv_certfile.specs.declared.job.CertWords.{CertWords}
 use Rattle.dsv_certfile.specs.declared.job.CertWords.TheVariants as words
 use Rattle.dsv_command.specs.Requests.{Request, on_file, on_cascade, on_states, on_ellipsoid}
-use Rattle.dsv_command.specs.Requests.{checks, generates}
+use Rattle.dsv_command.specs.Requests.{on_loop, checks, checks_loop, generates}
 use Rattle.dsv_report.specs.declared.stop.Stop.TheVariants as stop
 use Rattle.dsv_report.specs.Stops.{Outcome}
 use Rattle.dsv_cli.specs.Cascades.{IsCascadeRow}
 use Rattle.dsv_cli.specs.Ellipsoids.{IsEllipsoidRow}
 use Rattle.dsv_cli.specs.Headline.{IsRow, IsCheckRow, IsOfGeneration, SaysWords}
+use Rattle.dsv_cli.specs.LoopChecks.{IsLoopCheckRow}
+use Rattle.dsv_cli.specs.Loops.{IsLoopRow, SaysLoop}
 use Rattle.dsv_cli.specs.States.{IsStateRow, SaysStates}
 
 -- Arguments that ask for nothing come to Usage, and a job or a check to what has its row. Generated
@@ -22,8 +24,11 @@ IsExplained old new (Some (on_file job)) found = IsRow (old.held job.file) old n
 IsExplained old new (Some (on_cascade asked)) found = IsCascadeRow old new asked found
 IsExplained old new (Some (on_states asked)) found = IsStateRow old new asked found
 IsExplained old new (Some (on_ellipsoid asked)) found = IsEllipsoidRow old new asked found
+IsExplained old new (Some (on_loop asked)) found = IsLoopRow old new asked found
 IsExplained old new (Some (checks controller name)) found =
     IsCheckRow (old.held controller) old new controller name found
+IsExplained old new (Some (checks_loop controller name plant)) found =
+    IsLoopCheckRow old new controller plant name found
 IsExplained old new (Some (generates seed count)) found =
     IsOfGeneration seed count found × (new ≡ old)
 
@@ -33,4 +38,6 @@ abbrev pub IsSaid : FilesSeen → FilesSeen → Option Request → Outcome → �
 IsSaid old new (Some (on_file job)) found many said =
     (many ≡ 0) × SaysWords old new job found said
 IsSaid old new (Some (on_states asked)) found many said = SaysStates old new asked found many said
+IsSaid old new (Some (on_loop asked)) found many said =
+    (many ≡ 0) × SaysLoop old new asked found said
 IsSaid old new other found many said = (many ≡ 0) × (said ≡ words.Unsaid)

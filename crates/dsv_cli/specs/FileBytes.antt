@@ -13,12 +13,14 @@ use Rattle.dsv_cli.specs.Headline.{longest_file, longest_certificate, CameOf}
 abbrev pub limit_of : WhichFile → ℕ
 limit_of file.Controller = longest_file
 limit_of (file.Section section) = longest_file
+limit_of file.Plant = longest_file
 limit_of file.Certificate = longest_certificate
 
 -- why there is no answer where it has more
 abbrev pub too_long_of : WhichFile → Stop
 too_long_of file.Controller = stop.FileTooLong
 too_long_of (file.Section section) = stop.SectionTooLong section
+too_long_of file.Plant = stop.PlantTooLong
 too_long_of file.Certificate = stop.CertificateRefused 0 fault.TooLong
 
 -- Why the bytes of the file of this name didn't come: the files were `old` and are `new`.

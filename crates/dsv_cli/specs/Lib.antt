@@ -11,6 +11,9 @@ pub mod Explained
 pub mod FileBytes
 pub mod Gain
 pub mod Headline
+pub mod LoopChecks
+pub mod LoopStages
+pub mod Loops
 pub mod OneAnswer
 pub mod Proposers
 pub mod SectionFiles

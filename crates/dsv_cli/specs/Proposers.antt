@@ -6,7 +6,8 @@ use Rattle.dsv_forms.specs.declared.offers.FormOffer.TheVariants as offered
 use Rattle.dsv_closed_forms.specs.ClosedForm.{closed_form_of, are_within, second_limit}
 use Rattle.dsv_cli.specs.Blocks.{AreBlocks}
 use Rattle.dsv_cli.specs.Suffixes.{IsSuffix, IfFirst, HoldsOfNone}
-use Rattle.dsv_command.specs.Jobs.{Task, decides, Asked}
+use Rattle.dsv_command.specs.Jobs.{Task, decides}
+use Rattle.dsv_command.specs.Requests.{Request, on_file, on_loop}
 use Rattle.dsv_names.specs.declared.property.RootProperty.{RootProperty}
 use Rattle.dsv_cli.specs.Headline.{Decides, Seeks}
 use Rattle.dsv_lyapunov.specs.declared.kept.KeptForm.{KeptForm}
@@ -72,18 +73,20 @@ pub record IsAsked {B P : Type 0} (place : B → P) (last : B → Option FormOff
   pub blocks : IfNoForm found
       (λ poly kept. AreBlocks 32 (told_of to_come poly before) (offers_in kept))
 
--- the job decides a polynomial, for which forms may be wanted
-abbrev pub WantsForm : Option Asked → Type 0
-WantsForm None = ⊥
-WantsForm (Some job) = Decides job.task
+-- the request is to decide a polynomial, for which forms may be wanted
+abbrev pub WantsForm : Option Request → Type 0
+WantsForm (Some (on_file job)) = Decides job.task
+WantsForm (Some (on_loop asked)) = Unit {0}
+WantsForm other = ⊥
 
 -- the task asks for the Schur-Cohn form before any proposer
 abbrev pub AsksSchurCohn : Task → Type 0
 AsksSchurCohn task = (property : RootProperty) × (task ≡ decides property true)
 
-abbrev pub WantsSchurCohn : Option Asked → Type 0
-WantsSchurCohn None = ⊥
-WantsSchurCohn (Some job) = AsksSchurCohn job.task
+abbrev pub WantsSchurCohn : Option Request → Type 0
+WantsSchurCohn (Some (on_file job)) = AsksSchurCohn job.task
+WantsSchurCohn (Some (on_loop asked)) = asked.schur_cohn ≡ true
+WantsSchurCohn other = ⊥
 
 -- The polynomial is none that its Schur-Cohn form is known to decide always.
 abbrev pub IsBeyond : List ℤ → Type 0
@@ -132,7 +135,7 @@ pub record AreSetsAsked {B P : Type 0} (place : B → P) (last : B → Option Ca
   pub asked : IfNoInvariant found
       (AreOfJob becomes (λ words. told_for to_come words before))
 
--- the job seeks a set
-abbrev pub WantsSet : Option Asked → Type 0
-WantsSet None = ⊥
-WantsSet (Some job) = Seeks job.task
+-- the request is to seek a set
+abbrev pub WantsSet : Option Request → Type 0
+WantsSet (Some (on_file job)) = Seeks job.task
+WantsSet other = ⊥

@@ -10,6 +10,7 @@ use dsv_base::Files;
 use dsv_certcheck::{CheckRefusal, check};
 use dsv_certfile::{Certificate, CheckFault};
 use dsv_command::Check;
+use dsv_loop::LoopRefusal;
 use dsv_reader::Controller;
 use dsv_report::{Answer, CertificateFault, Stop, WhichFile};
 use std::alloc::Global;
@@ -42,10 +43,13 @@ pub(crate) fn check_stop(refusal: CheckRefusal) -> Stop
             line,
             fault: CertificateFault::Check(fault),
         },
-        CheckRefusal::Wide { .. } | CheckRefusal::NoZeros => Stop::CertificateRefused {
+        CheckRefusal::Wide { .. }
+        | CheckRefusal::NoZeros
+        | CheckRefusal::Loop(LoopRefusal::Wide { .. }) => Stop::CertificateRefused {
             line: JOB_LINE,
             fault: CertificateFault::Check(CheckFault::Shape),
         },
+        CheckRefusal::Loop(refusal) => Stop::LoopRefused(refusal),
         CheckRefusal::Quant(refusal) => Stop::QuantRefused(refusal),
         CheckRefusal::JobSize { size } => Stop::JobSize { size },
         CheckRefusal::NoMemory => Stop::NoMemory,

@@ -5,7 +5,7 @@ ghost use Rattle.dsv_certfile.specs.Typed.{IsTyped};
 ghost use Rattle.dsv_certfile.specs.declared.job.CertWords.TheVariants as words_said;
 ghost use Rattle.dsv_command.specs.Asking.{asked_ellipsoid, asked_states};
 ghost use Rattle.dsv_command.specs.Requests.{request_of, job_of};
-ghost use Rattle.dsv_report.specs.AnyJobs.{asked_in, of_ellipsoid, of_states};
+ghost use Rattle.dsv_report.specs.AnyJobs.{asked_in, asked_of, of_ellipsoid, of_states};
 ghost use Rattle.dsv_report.specs.Printing.{HasPlaces};
 ghost use Rattle.dsv_report.specs.Output.{output_of, certificate_written, asked_by};
 ghost use Rattle.dsv_report.specs.Report.{status_of};
@@ -21,6 +21,8 @@ ghost use Rattle.dsv_cli.specs.Proposers.{WantsForm, WantsSet, WantsSchurCohn, I
 use crate::check::check_answer;
 use crate::ellipsoids::ellipsoid_outcome;
 use crate::job::{JobOutcome, job_outcome};
+use crate::loop_check::loop_check_answer;
+use crate::loops::loop_outcome;
 use crate::proposers::Proposers;
 use crate::series::cascade_outcome;
 use crate::states::{StateOutcome, state_outcome};
@@ -89,6 +91,28 @@ pub(crate) fn put_outcome<K: Sink>(sink: &mut K, outcome: Result<Answer, Stop>) 
 {
     let words = CertWords::Unsaid;
     let status = written_status(sink, None, words, &outcome);
+    Done {
+        status,
+        outcome,
+        words,
+        states: 0,
+    }
+}
+
+/// Writes what a job for a controller or its loop came to.
+fn put_job<K: Sink>(sink: &mut K, job: AnyJob, came: JobOutcome) -> Done
+    requires places { IfOk came.outcome HasPlaces }
+    requires words { IsWords came.words }
+    ensures outcome { result.outcome ≡ came.outcome }
+    ensures words { result.words ≡ came.words }
+    ensures states { result.states ≡ 0 }
+    ensures written { IsWritten (K.seen sink.old) (K.seen sink.new) result.status
+        (status_of came.outcome) (output_of (Some (asked_of job.entry)) came.words came.outcome) }
+    ensures typed { IfWhole result.status
+        (IfSome (certificate_written (Some (asked_of job.entry)) came.words came.outcome) IsTyped) }
+{
+    let JobOutcome { outcome, words } = came;
+    let status = written_status(sink, Some(job), words, &outcome);
     Done {
         status,
         outcome,
@@ -189,17 +213,17 @@ pub fn run<F: Files, K: Sink>(
         (λ b. (⟦<dyn FormProposer as FormProposer>⟧ b.vtable).last b.value)
         (λ b cs. sure b cs)
         (λ b cs. (⟦<dyn FormProposer as FormProposer>⟧ b.vtable).to_come b.value cs)
-        (WantsSchurCohn (job_of (map string_bytes arguments.now)))
+        (WantsSchurCohn (request_of (map string_bytes arguments.now)))
         proposers.old.forms.items proposers.new.forms.items result.outcome }
     // A list that the job doesn't need stays as it was whatever the outcome, want of memory too.
-    ensures unneeded_sets { (WantsSet (job_of (map string_bytes arguments.now)) → ⊥)
+    ensures unneeded_sets { (WantsSet (request_of (map string_bytes arguments.now)) → ⊥)
         → proposers.new.sets.items ≡ proposers.old.sets.items }
-    ensures unneeded_forms { (WantsForm (job_of (map string_bytes arguments.now)) → ⊥)
+    ensures unneeded_forms { (WantsForm (request_of (map string_bytes arguments.now)) → ⊥)
         → proposers.new.forms.items ≡ proposers.old.forms.items }
     // A polynomial of order 0 or 1, or 2 with small coefficients, is always decided.
     ensures low_orders { IfNoForm result.outcome (λ poly kept. is_low poly ≡ false) }
     // Where the Schur-Cohn form is asked for, so is one for which it is known to be accepted.
-    ensures schur_cohn { WantsSchurCohn (job_of (map string_bytes arguments.now))
+    ensures schur_cohn { WantsSchurCohn (request_of (map string_bytes arguments.now))
         → IfNoForm result.outcome (λ poly kept. IsBeyond poly) }
     // What a certificate says of the words is what the file's controller has, and so is how many
     // states the report of a state-space controller says.
@@ -221,14 +245,8 @@ pub fn run<F: Files, K: Sink>(
 {
     match read_request(alloc, arguments) {
         Ok(Some(Request::OnFile(job))) => {
-            let JobOutcome { outcome, words } = job_outcome(alloc, &job, files, proposers);
-            let status = written_status(sink, Some(AnyJob::OfController(&job)), words, &outcome);
-            Done {
-                status,
-                outcome,
-                words,
-                states: 0,
-            }
+            let came = job_outcome(alloc, &job, files, proposers);
+            put_job(sink, AnyJob::OfController(&job), came)
         }
         Ok(Some(Request::OnCascade(job))) => {
             let outcome = cascade_outcome(alloc, &job, files);
@@ -243,7 +261,14 @@ pub fn run<F: Files, K: Sink>(
         }
         Ok(Some(Request::OnStates(job))) => states_done(alloc, &job, files, sink),
         Ok(Some(Request::OnEllipsoid(job))) => ellipsoid_done(alloc, &job, files, sink),
+        Ok(Some(Request::OnLoop(job))) => {
+            let came = loop_outcome(alloc, &job, files, &mut proposers.forms);
+            put_job(sink, AnyJob::OfLoop(&job), came)
+        }
         Ok(Some(Request::Check(asked))) => put_outcome(sink, check_answer(alloc, &asked, files)),
+        Ok(Some(Request::CheckLoop(asked))) => {
+            put_outcome(sink, loop_check_answer(alloc, &asked, files))
+        }
         Ok(Some(Request::Generate(asked))) => put_outcome(sink, generation_answer(alloc, asked)),
         Ok(None) => put_outcome(sink, Err(Stop::Usage)),
         Err(_) => put_outcome(sink, Err(Stop::NoMemory)),

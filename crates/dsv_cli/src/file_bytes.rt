@@ -7,7 +7,7 @@ use dsv_base::{Bytes, Files, ReadEnd, read_all};
 use dsv_report::{CertificateFault, Stop, WhichFile};
 use std::alloc::Global;
 
-/// The most bytes that a controller file may have.
+/// The most bytes that the file of a controller or of a plant may have.
 const LONGEST_FILE: u64 = 65_536;
 
 /// The most bytes that a certificate's file may have: 64 MiB.
@@ -19,7 +19,7 @@ fn limit_of(which: WhichFile) -> u64
     ensures small { result ≤ 2 ^ 26 }
 {
     match which {
-        WhichFile::Controller | WhichFile::Section(_) => LONGEST_FILE,
+        WhichFile::Controller | WhichFile::Section(_) | WhichFile::Plant => LONGEST_FILE,
         WhichFile::Certificate => LONGEST_CERTIFICATE,
     }
 }
@@ -31,6 +31,7 @@ fn too_long_stop(which: WhichFile) -> Stop
     match which {
         WhichFile::Controller => Stop::FileTooLong,
         WhichFile::Section(section) => Stop::SectionTooLong { section },
+        WhichFile::Plant => Stop::PlantTooLong,
         WhichFile::Certificate => Stop::CertificateRefused {
             line: 0,
             fault: CertificateFault::TooLong,

@@ -77,7 +77,7 @@ pub(crate) struct JobOutcome {
 }
 
 /// What certificates of a controller say of the format of its words.
-fn words_of(controller: &Controller) -> CertWords
+pub(crate) fn words_of(controller: &Controller) -> CertWords
     ensures words { result ≡ words_for controller.now.int_bits controller.now.frac_bits }
     ensures lawful { IsWords result }
 {

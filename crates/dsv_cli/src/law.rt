@@ -1,5 +1,5 @@
 // What a controller file is answered by, and what its certificate.
-ghost use Rattle.dsv_cli.specs.Accepted.{WrittenAreAccepted};
+ghost use Rattle.dsv_cli.specs.Accepted.{WrittenAreAccepted, WrittenLoopsAreAccepted};
 ghost use Rattle.dsv_cli.specs.Completeness.{AreDecided};
 ghost use Rattle.dsv_cli.specs.OneAnswer.{HaveOneAnswer};
 
@@ -16,6 +16,13 @@ pub fn told_files_have_one_answer()
 /// of memory and faults of reads. The call does nothing.
 pub fn written_certificates_are_accepted()
     ensures { WrittenAreAccepted }
+{}
+
+/// The same law for loops, for proofs: each check of such a text against a controller's file and a
+/// plant's of the same bytes accepts it, but for want of memory and faults of reads. The call does
+/// nothing.
+pub fn written_loop_certificates_are_accepted()
+    ensures { WrittenLoopsAreAccepted }
 {}
 
 /// The law of completeness, for proofs: a job on a file whose bytes are told, to which no refusal

@@ -55,7 +55,7 @@ fn run_with<F: Files, K: Sink>(
         (FileBecomes (F.seen files.old) (job_of (map string_bytes arguments.now)))
         (λ q. Some (boxes (shape_of q)) ∷ [])) }
     ensures low_orders { IfNoForm result.outcome (λ poly kept. is_low poly ≡ false) }
-    ensures schur_cohn { WantsSchurCohn (job_of (map string_bytes arguments.now))
+    ensures schur_cohn { WantsSchurCohn (request_of (map string_bytes arguments.now))
         → IfNoForm result.outcome (λ poly kept. IsBeyond poly) }
     ensures said { IsSaid (F.seen files.old) (F.seen files.new)
         (request_of (map string_bytes arguments.now)) result.outcome result.states result.words }
@@ -97,7 +97,7 @@ pub fn run_with_built_in<F: Files, K: Sink>(
         (FileBecomes (F.seen files.old) (job_of (map string_bytes arguments.now)))
         (λ q. Some (boxes (shape_of q)) ∷ [])) }
     ensures low_orders { IfNoForm result.outcome (λ poly kept. is_low poly ≡ false) }
-    ensures schur_cohn { WantsSchurCohn (job_of (map string_bytes arguments.now))
+    ensures schur_cohn { WantsSchurCohn (request_of (map string_bytes arguments.now))
         → IfNoForm result.outcome (λ poly kept. IsBeyond poly) }
     ensures said { IsSaid (F.seen files.old) (F.seen files.new)
         (request_of (map string_bytes arguments.now)) result.outcome result.states result.words }

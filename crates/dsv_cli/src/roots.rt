@@ -16,7 +16,7 @@ use std::alloc::Global;
 
 /// The answer that decides a polynomial, by its closed form, by its Schur-Cohn form where that is
 /// asked for, or by what the proposers offer.
-fn polynomial_answer(
+pub(crate) fn polynomial_answer(
     alloc: Global,
     poly: Poly,
     schur_cohn: bool,

@@ -12,6 +12,8 @@ mod formulas;
 #[cfg(test)]
 mod lists;
 #[cfg(test)]
+mod loops;
+#[cfg(test)]
 mod outside;
 #[cfg(test)]
 mod pieces;

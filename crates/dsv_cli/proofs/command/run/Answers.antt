@@ -1,66 +1,143 @@
 use Rattle.std.proofs.Common.{rules, ◌≡◌, refl, Some, map, string_bytes, subst}
-use Rattle.dsv_command.specs.Asking.{asked_of}
-use Rattle.dsv_command.specs.Requests.{on_file, request_of, job_of}
-use Rattle.dsv_report.specs.AnyJobs.{of_controller}
-use Rattle.dsv_report.specs.Output.{output_of, asked_by}
+use Rattle.std.specs.Prelude.{IfSome}
+use Rattle.dsv_certfile.specs.Typed.{IsTyped}
+use Rattle.dsv_command.specs.Asking.{asked_of, asked_loop}
+use Rattle.dsv_command.specs.Requests.{on_file, on_loop, request_of, job_of}
+use Rattle.dsv_report.specs.AnyJobs.{of_controller, of_loop}
+use Rattle.dsv_report.specs.Output.{output_of, certificate_written, asked_by}
 use Rattle.dsv_report.specs.Report.{status_of}
 use Rattle.dsv_cli.specs.Explained.{IsSaid}
-use Rattle.dsv_cli.specs.Headline.{FileBecomes, IsWritten}
+use Rattle.dsv_cli.specs.Headline.{FileBecomes, IsWritten, IfWhole}
 use Rattle.dsv_cli.specs.Proposers.{AreSetsAsked, IsAsked, WantsForm, WantsSet, WantsSchurCohn, IfNoForm, IsBeyond}
-use Rattle.dsv_cli.proofs.Unasked.{low_is_decided, unasked, sets_unasked, some_form}
+use Rattle.dsv_cli.proofs.LoopRows.{low_loop_is_decided, row_without_set}
+use Rattle.dsv_cli.proofs.Unasked.{low_is_decided, unasked, sets_unasked, sets_unasked_without, some_form}
 use Rattle.dsv_cli.proofs.command.run.Goals as goal
 
 -- ---- a job on a file
 pub returns-in-Ok-Some-OnFile-clause-low_orders : goal.returns-in-Ok-Some-OnFile-clause-low_orders
 returns-in-Ok-Some-OnFile-clause-low_orders g c =
     let old = g.F.Files.seen c.args.files.now in
-    low_is_decided (old.held (asked_of c.in-Ok-Some-OnFile.job).file) old (g.F.Files.seen c.job_outcome-outcome.new.files) (asked_of c.in-Ok-Some-OnFile.job) c.job_outcome-outcome.result.outcome
-    c.job_outcome-outcome.ensures.row
+    let came = c.job_outcome-came in
+    rw c.put_job.ensures.outcome (low_is_decided (old.held (asked_of c.in-Ok-Some-OnFile.job).file) old (g.F.Files.seen came.new.files) (asked_of c.in-Ok-Some-OnFile.job) came.result.outcome came.ensures.row)
 
 pub returns-in-Ok-Some-OnFile-clause-sets : goal.returns-in-Ok-Some-OnFile-clause-sets
 returns-in-Ok-Some-OnFile-clause-sets g c =
     let e : Some (asked_of c.in-Ok-Some-OnFile.job) ≡ job_of (map string_bytes c.args.arguments.now) = search rules in
-    subst
+    let came = c.job_outcome-came in
+    rw c.put_job.ensures.outcome (subst
     (λ asked. AreSetsAsked (λ b. b.ptr) (λ b. (goal.InvariantProposer-dyn g (b.vtable, b.value)).last b.value) (λ b shape. (goal.InvariantProposer-dyn g (b.vtable, b.value)).to_come b.value shape)
-    (FileBecomes (g.F.Files.seen c.args.files.now) asked) c.args.proposers.now.sets.items c.job_outcome-outcome.new.proposers.sets.items c.job_outcome-outcome.result.outcome)
-    e c.job_outcome-outcome.ensures.sets
+    (FileBecomes (g.F.Files.seen c.args.files.now) asked) c.args.proposers.now.sets.items came.new.proposers.sets.items came.result.outcome)
+    e came.ensures.sets)
 
 pub returns-in-Ok-Some-OnFile-clause-unneeded_sets : goal.returns-in-Ok-Some-OnFile-clause-unneeded_sets
 returns-in-Ok-Some-OnFile-clause-unneeded_sets g c =
-    let e : Some (asked_of c.in-Ok-Some-OnFile.job) ≡ job_of (map string_bytes c.args.arguments.now) = search rules in
-    subst (λ asked. (WantsSet asked → ⊥) → c.job_outcome-outcome.new.proposers.sets.items ≡ c.args.proposers.now.sets.items) e c.job_outcome-outcome.ensures.unneeded_sets
+    let e : Some (on_file (asked_of c.in-Ok-Some-OnFile.job)) ≡ request_of (map string_bytes c.args.arguments.now) = search rules in
+    subst (λ request. (WantsSet request → ⊥) → c.job_outcome-came.new.proposers.sets.items ≡ c.args.proposers.now.sets.items) e c.job_outcome-came.ensures.unneeded_sets
 
 pub returns-in-Ok-Some-OnFile-clause-unneeded_forms : goal.returns-in-Ok-Some-OnFile-clause-unneeded_forms
 returns-in-Ok-Some-OnFile-clause-unneeded_forms g c =
-    let e : Some (asked_of c.in-Ok-Some-OnFile.job) ≡ job_of (map string_bytes c.args.arguments.now) = search rules in
-    subst (λ asked. (WantsForm asked → ⊥) → c.job_outcome-outcome.new.proposers.forms.items ≡ c.args.proposers.now.forms.items) e c.job_outcome-outcome.ensures.unneeded_forms
+    let e : Some (on_file (asked_of c.in-Ok-Some-OnFile.job)) ≡ request_of (map string_bytes c.args.arguments.now) = search rules in
+    subst (λ request. (WantsForm request → ⊥) → c.job_outcome-came.new.proposers.forms.items ≡ c.args.proposers.now.forms.items) e c.job_outcome-came.ensures.unneeded_forms
 
 pub returns-in-Ok-Some-OnFile-clause-forms : goal.returns-in-Ok-Some-OnFile-clause-forms
 returns-in-Ok-Some-OnFile-clause-forms g c =
-    let e : Some (asked_of c.in-Ok-Some-OnFile.job) ≡ job_of (map string_bytes c.args.arguments.now) = search rules in
-    subst
-    (λ asked. IsAsked (λ b. b.ptr) (λ b. (goal.FormProposer-dyn g (b.vtable, b.value)).last b.value) (λ b cs. (goal.FormProposer-dyn g (b.vtable, b.value)).sure b.value cs) (λ b cs. (goal.FormProposer-dyn g (b.vtable, b.value)).to_come b.value cs)
-    (WantsSchurCohn asked) c.args.proposers.now.forms.items c.job_outcome-outcome.new.proposers.forms.items c.job_outcome-outcome.result.outcome)
-    e c.job_outcome-outcome.ensures.forms
+    let e : Some (on_file (asked_of c.in-Ok-Some-OnFile.job)) ≡ request_of (map string_bytes c.args.arguments.now) = search rules in
+    let came = c.job_outcome-came in
+    rw c.put_job.ensures.outcome (subst
+    (λ request. IsAsked (λ b. b.ptr) (λ b. (goal.FormProposer-dyn g (b.vtable, b.value)).last b.value) (λ b cs. (goal.FormProposer-dyn g (b.vtable, b.value)).sure b.value cs) (λ b cs. (goal.FormProposer-dyn g (b.vtable, b.value)).to_come b.value cs)
+    (WantsSchurCohn request) c.args.proposers.now.forms.items came.new.proposers.forms.items came.result.outcome)
+    e came.ensures.forms)
 
 pub returns-in-Ok-Some-OnFile-clause-schur_cohn : goal.returns-in-Ok-Some-OnFile-clause-schur_cohn
 returns-in-Ok-Some-OnFile-clause-schur_cohn g c =
-    let e : Some (asked_of c.in-Ok-Some-OnFile.job) ≡ job_of (map string_bytes c.args.arguments.now) = search rules in
-    subst (λ asked. WantsSchurCohn asked → IfNoForm c.job_outcome-outcome.result.outcome (λ poly kept. IsBeyond poly)) e c.job_outcome-outcome.ensures.beyond
-
-pub returns-in-Ok-Some-OnFile-clause-written : goal.returns-in-Ok-Some-OnFile-clause-written
-returns-in-Ok-Some-OnFile-clause-written g c =
-    let e : Some (of_controller (asked_of c.in-Ok-Some-OnFile.job)) ≡ asked_by 0 (request_of (map string_bytes c.args.arguments.now)) = search rules in
-    subst
-    (λ asked. IsWritten (g.K.Sink.seen c.args.sink.now) (g.K.Sink.seen c.written_status-status.new.sink) c.written_status-status.result (status_of c.job_outcome-outcome.result.outcome) (output_of asked c.job_outcome-outcome.result.words c.job_outcome-outcome.result.outcome))
-    e c.written_status-status.ensures.written
+    let e : Some (on_file (asked_of c.in-Ok-Some-OnFile.job)) ≡ request_of (map string_bytes c.args.arguments.now) = search rules in
+    rw c.put_job.ensures.outcome (subst (λ request. WantsSchurCohn request → IfNoForm c.job_outcome-came.result.outcome (λ poly kept. IsBeyond poly)) e c.job_outcome-came.ensures.beyond)
 
 pub returns-in-Ok-Some-OnFile-clause-said : goal.returns-in-Ok-Some-OnFile-clause-said
 returns-in-Ok-Some-OnFile-clause-said g c =
     let e : Some (on_file (asked_of c.in-Ok-Some-OnFile.job)) ≡ request_of (map string_bytes c.args.arguments.now) = search rules in
-    subst
-    (λ request. IsSaid (g.F.Files.seen c.args.files.now) (g.F.Files.seen c.job_outcome-outcome.new.files) request c.job_outcome-outcome.result.outcome 0 c.job_outcome-outcome.result.words)
-    e (refl, c.job_outcome-outcome.ensures.words)
+    let came = c.job_outcome-came in
+    let put = c.put_job.ensures in
+    rw put.outcome (rw put.states (rw put.words (subst
+    (λ request. IsSaid (g.F.Files.seen c.args.files.now) (g.F.Files.seen came.new.files) request came.result.outcome 0 came.result.words)
+    e (refl, came.ensures.words))))
+
+pub returns-in-Ok-Some-OnFile-clause-written : goal.returns-in-Ok-Some-OnFile-clause-written
+returns-in-Ok-Some-OnFile-clause-written g c =
+    let e : Some (of_controller (asked_of c.in-Ok-Some-OnFile.job)) ≡ asked_by 0 (request_of (map string_bytes c.args.arguments.now)) = search rules in
+    let came = c.job_outcome-came in
+    let put = c.put_job in
+    rw put.ensures.outcome (rw put.ensures.words (rw put.ensures.states (subst
+    (λ asked. IsWritten (g.K.Sink.seen c.args.sink.now) (g.K.Sink.seen put.new.sink) put.result.status (status_of came.result.outcome) (output_of asked came.result.words came.result.outcome))
+    e put.ensures.written)))
+
+pub returns-in-Ok-Some-OnFile-clause-typed : goal.returns-in-Ok-Some-OnFile-clause-typed
+returns-in-Ok-Some-OnFile-clause-typed g c =
+    let e : Some (of_controller (asked_of c.in-Ok-Some-OnFile.job)) ≡ asked_by 0 (request_of (map string_bytes c.args.arguments.now)) = search rules in
+    let came = c.job_outcome-came in
+    let put = c.put_job in
+    rw put.ensures.outcome (rw put.ensures.words (rw put.ensures.states (subst
+    (λ asked. IfWhole put.result.status (IfSome (certificate_written asked came.result.words came.result.outcome) IsTyped))
+    e put.ensures.typed)))
+
+-- ---- a job for a loop: it asks no proposer of sets
+pub returns-in-Ok-Some-OnLoop-clause-low_orders : goal.returns-in-Ok-Some-OnLoop-clause-low_orders
+returns-in-Ok-Some-OnLoop-clause-low_orders g c =
+    let came = c.loop_outcome-came in
+    rw c.put_job-in-Ok-Some-OnLoop.ensures.outcome (low_loop_is_decided (g.F.Files.seen c.args.files.now) (g.F.Files.seen came.new.files) (asked_loop c.in-Ok-Some-OnLoop.job) came.result.outcome came.ensures.row)
+
+pub returns-in-Ok-Some-OnLoop-clause-sets : goal.returns-in-Ok-Some-OnLoop-clause-sets
+returns-in-Ok-Some-OnLoop-clause-sets g c =
+    let came = c.loop_outcome-came in
+    rw c.put_job-in-Ok-Some-OnLoop.ensures.outcome (sets_unasked_without (λ b. b.ptr) (λ b. (goal.InvariantProposer-dyn g (b.vtable, b.value)).last b.value) (λ b shape. (goal.InvariantProposer-dyn g (b.vtable, b.value)).to_come b.value shape)
+    (FileBecomes (g.F.Files.seen c.args.files.now) (job_of (map string_bytes c.args.arguments.now))) c.args.proposers.now.sets.items came.result.outcome
+    (row_without_set (g.F.Files.seen c.args.files.now) (g.F.Files.seen came.new.files) (asked_loop c.in-Ok-Some-OnLoop.job) came.result.outcome came.ensures.row))
+
+pub returns-in-Ok-Some-OnLoop-clause-unneeded_forms : goal.returns-in-Ok-Some-OnLoop-clause-unneeded_forms
+returns-in-Ok-Some-OnLoop-clause-unneeded_forms g c =
+    let e : Some (on_loop (asked_loop c.in-Ok-Some-OnLoop.job)) ≡ request_of (map string_bytes c.args.arguments.now) = search rules in
+    λ no. absurd (no (subst WantsForm e tt))
+
+pub returns-in-Ok-Some-OnLoop-clause-forms : goal.returns-in-Ok-Some-OnLoop-clause-forms
+returns-in-Ok-Some-OnLoop-clause-forms g c =
+    let e : Some (on_loop (asked_loop c.in-Ok-Some-OnLoop.job)) ≡ request_of (map string_bytes c.args.arguments.now) = search rules in
+    let came = c.loop_outcome-came in
+    rw c.put_job-in-Ok-Some-OnLoop.ensures.outcome (subst
+    (λ request. IsAsked (λ b. b.ptr) (λ b. (goal.FormProposer-dyn g (b.vtable, b.value)).last b.value) (λ b cs. (goal.FormProposer-dyn g (b.vtable, b.value)).sure b.value cs) (λ b cs. (goal.FormProposer-dyn g (b.vtable, b.value)).to_come b.value cs)
+    (WantsSchurCohn request) c.args.proposers.now.forms.items came.new.forms.items came.result.outcome)
+    e came.ensures.proposers)
+
+pub returns-in-Ok-Some-OnLoop-clause-schur_cohn : goal.returns-in-Ok-Some-OnLoop-clause-schur_cohn
+returns-in-Ok-Some-OnLoop-clause-schur_cohn g c =
+    let e : Some (on_loop (asked_loop c.in-Ok-Some-OnLoop.job)) ≡ request_of (map string_bytes c.args.arguments.now) = search rules in
+    rw c.put_job-in-Ok-Some-OnLoop.ensures.outcome (subst (λ request. WantsSchurCohn request → IfNoForm c.loop_outcome-came.result.outcome (λ poly kept. IsBeyond poly)) e c.loop_outcome-came.ensures.beyond)
+
+pub returns-in-Ok-Some-OnLoop-clause-said : goal.returns-in-Ok-Some-OnLoop-clause-said
+returns-in-Ok-Some-OnLoop-clause-said g c =
+    let e : Some (on_loop (asked_loop c.in-Ok-Some-OnLoop.job)) ≡ request_of (map string_bytes c.args.arguments.now) = search rules in
+    let came = c.loop_outcome-came in
+    let put = c.put_job-in-Ok-Some-OnLoop.ensures in
+    rw put.outcome (rw put.states (rw put.words (subst
+    (λ request. IsSaid (g.F.Files.seen c.args.files.now) (g.F.Files.seen came.new.files) request came.result.outcome 0 came.result.words)
+    e (refl, came.ensures.words))))
+
+pub returns-in-Ok-Some-OnLoop-clause-written : goal.returns-in-Ok-Some-OnLoop-clause-written
+returns-in-Ok-Some-OnLoop-clause-written g c =
+    let e : Some (of_loop (asked_loop c.in-Ok-Some-OnLoop.job)) ≡ asked_by 0 (request_of (map string_bytes c.args.arguments.now)) = search rules in
+    let came = c.loop_outcome-came in
+    let put = c.put_job-in-Ok-Some-OnLoop in
+    rw put.ensures.outcome (rw put.ensures.words (rw put.ensures.states (subst
+    (λ asked. IsWritten (g.K.Sink.seen c.args.sink.now) (g.K.Sink.seen put.new.sink) put.result.status (status_of came.result.outcome) (output_of asked came.result.words came.result.outcome))
+    e put.ensures.written)))
+
+pub returns-in-Ok-Some-OnLoop-clause-typed : goal.returns-in-Ok-Some-OnLoop-clause-typed
+returns-in-Ok-Some-OnLoop-clause-typed g c =
+    let e : Some (of_loop (asked_loop c.in-Ok-Some-OnLoop.job)) ≡ asked_by 0 (request_of (map string_bytes c.args.arguments.now)) = search rules in
+    let came = c.loop_outcome-came in
+    let put = c.put_job-in-Ok-Some-OnLoop in
+    rw put.ensures.outcome (rw put.ensures.words (rw put.ensures.states (subst
+    (λ asked. IfWhole put.result.status (IfSome (certificate_written asked came.result.words came.result.outcome) IsTyped))
+    e put.ensures.typed)))
 
 -- ---- a job on a cascade: it asks no proposer
 pub returns-in-Ok-Some-OnCascade-clause-sets : goal.returns-in-Ok-Some-OnCascade-clause-sets
@@ -71,7 +148,7 @@ returns-in-Ok-Some-OnCascade-clause-sets g c =
 pub returns-in-Ok-Some-OnCascade-clause-forms : goal.returns-in-Ok-Some-OnCascade-clause-forms
 returns-in-Ok-Some-OnCascade-clause-forms g c =
     unasked (λ b. b.ptr) (λ b. (goal.FormProposer-dyn g (b.vtable, b.value)).last b.value) (λ b cs. (goal.FormProposer-dyn g (b.vtable, b.value)).sure b.value cs) (λ b cs. (goal.FormProposer-dyn g (b.vtable, b.value)).to_come b.value cs)
-    (WantsSchurCohn (job_of (map string_bytes c.args.arguments.now))) c.args.proposers.now.forms.items c.cascade_outcome-outcome.result c.cascade_outcome-outcome.ensures.plain
+    (WantsSchurCohn (request_of (map string_bytes c.args.arguments.now))) c.args.proposers.now.forms.items c.cascade_outcome-outcome.result c.cascade_outcome-outcome.ensures.plain
 
 -- ---- a job on a state-space controller: nor does it
 pub returns-in-Ok-Some-OnStates-clause-sets : goal.returns-in-Ok-Some-OnStates-clause-sets
@@ -82,7 +159,7 @@ returns-in-Ok-Some-OnStates-clause-sets g c =
 pub returns-in-Ok-Some-OnStates-clause-forms : goal.returns-in-Ok-Some-OnStates-clause-forms
 returns-in-Ok-Some-OnStates-clause-forms g c =
     unasked (λ b. b.ptr) (λ b. (goal.FormProposer-dyn g (b.vtable, b.value)).last b.value) (λ b cs. (goal.FormProposer-dyn g (b.vtable, b.value)).sure b.value cs) (λ b cs. (goal.FormProposer-dyn g (b.vtable, b.value)).to_come b.value cs)
-    (WantsSchurCohn (job_of (map string_bytes c.args.arguments.now))) c.args.proposers.now.forms.items c.states_done.result.outcome c.states_done.ensures.plain
+    (WantsSchurCohn (request_of (map string_bytes c.args.arguments.now))) c.args.proposers.now.forms.items c.states_done.result.outcome c.states_done.ensures.plain
 
 -- ---- a job of an ellipsoid: nor does it
 pub returns-in-Ok-Some-OnEllipsoid-clause-sets : goal.returns-in-Ok-Some-OnEllipsoid-clause-sets
@@ -93,7 +170,7 @@ returns-in-Ok-Some-OnEllipsoid-clause-sets g c =
 pub returns-in-Ok-Some-OnEllipsoid-clause-forms : goal.returns-in-Ok-Some-OnEllipsoid-clause-forms
 returns-in-Ok-Some-OnEllipsoid-clause-forms g c =
     unasked (λ b. b.ptr) (λ b. (goal.FormProposer-dyn g (b.vtable, b.value)).last b.value) (λ b cs. (goal.FormProposer-dyn g (b.vtable, b.value)).sure b.value cs) (λ b cs. (goal.FormProposer-dyn g (b.vtable, b.value)).to_come b.value cs)
-    (WantsSchurCohn (job_of (map string_bytes c.args.arguments.now))) c.args.proposers.now.forms.items c.ellipsoid_done.result.outcome c.ellipsoid_done.ensures.plain
+    (WantsSchurCohn (request_of (map string_bytes c.args.arguments.now))) c.args.proposers.now.forms.items c.ellipsoid_done.result.outcome c.ellipsoid_done.ensures.plain
 
 -- ---- a check of a certificate
 pub returns-in-Ok-Some-Check-clause-sets : goal.returns-in-Ok-Some-Check-clause-sets
@@ -104,7 +181,21 @@ returns-in-Ok-Some-Check-clause-sets g c =
 pub returns-in-Ok-Some-Check-clause-forms : goal.returns-in-Ok-Some-Check-clause-forms
 returns-in-Ok-Some-Check-clause-forms g c =
     rw c.put_outcome.ensures.outcome (unasked (λ b. b.ptr) (λ b. (goal.FormProposer-dyn g (b.vtable, b.value)).last b.value) (λ b cs. (goal.FormProposer-dyn g (b.vtable, b.value)).sure b.value cs) (λ b cs. (goal.FormProposer-dyn g (b.vtable, b.value)).to_come b.value cs)
-    (WantsSchurCohn (job_of (map string_bytes c.args.arguments.now))) c.args.proposers.now.forms.items c.check_answer.result c.check_answer.ensures.plain)
+    (WantsSchurCohn (request_of (map string_bytes c.args.arguments.now))) c.args.proposers.now.forms.items c.check_answer.result c.check_answer.ensures.plain)
 
 pub returns-in-Ok-Some-Check-clause-schur_cohn : goal.returns-in-Ok-Some-Check-clause-schur_cohn
 returns-in-Ok-Some-Check-clause-schur_cohn g c = λ wanted. rw c.put_outcome.ensures.outcome (some_form c.check_answer.result (λ poly kept. IsBeyond poly) c.check_answer.ensures.plain)
+
+-- ---- a check of a certificate of a loop
+pub returns-in-Ok-Some-CheckLoop-clause-sets : goal.returns-in-Ok-Some-CheckLoop-clause-sets
+returns-in-Ok-Some-CheckLoop-clause-sets g c =
+    rw c.put_outcome-in-Ok-Some-CheckLoop.ensures.outcome (sets_unasked (λ b. b.ptr) (λ b. (goal.InvariantProposer-dyn g (b.vtable, b.value)).last b.value) (λ b shape. (goal.InvariantProposer-dyn g (b.vtable, b.value)).to_come b.value shape)
+    (FileBecomes (g.F.Files.seen c.args.files.now) (job_of (map string_bytes c.args.arguments.now))) c.args.proposers.now.sets.items c.loop_check_answer.result c.loop_check_answer.ensures.plain)
+
+pub returns-in-Ok-Some-CheckLoop-clause-forms : goal.returns-in-Ok-Some-CheckLoop-clause-forms
+returns-in-Ok-Some-CheckLoop-clause-forms g c =
+    rw c.put_outcome-in-Ok-Some-CheckLoop.ensures.outcome (unasked (λ b. b.ptr) (λ b. (goal.FormProposer-dyn g (b.vtable, b.value)).last b.value) (λ b cs. (goal.FormProposer-dyn g (b.vtable, b.value)).sure b.value cs) (λ b cs. (goal.FormProposer-dyn g (b.vtable, b.value)).to_come b.value cs)
+    (WantsSchurCohn (request_of (map string_bytes c.args.arguments.now))) c.args.proposers.now.forms.items c.loop_check_answer.result c.loop_check_answer.ensures.plain)
+
+pub returns-in-Ok-Some-CheckLoop-clause-schur_cohn : goal.returns-in-Ok-Some-CheckLoop-clause-schur_cohn
+returns-in-Ok-Some-CheckLoop-clause-schur_cohn g c = λ wanted. rw c.put_outcome-in-Ok-Some-CheckLoop.ensures.outcome (some_form c.loop_check_answer.result (λ poly kept. IsBeyond poly) c.loop_check_answer.ensures.plain)
