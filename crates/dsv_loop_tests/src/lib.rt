@@ -3,8 +3,14 @@
 #![tactic(auto)]
 
 #[cfg(test)]
+mod delta_run;
+#[cfg(test)]
+mod direct_run;
+#[cfg(test)]
 mod loops;
 #[cfg(test)]
 mod polynomials;
 #[cfg(test)]
 mod refusals;
+#[cfg(test)]
+mod runs;

@@ -1,4 +1,5 @@
 // Controllers with their plants.
+use dsv_forms::Poly;
 use dsv_loop::{LoopRefusal, loop_polynomial};
 use dsv_names::{OverflowMode, Realisation, Rounding};
 use dsv_quantiser::{Quantised, quantise};
@@ -8,7 +9,7 @@ use std::alloc::Global;
 
 /// The fields of a controller and of a plant.
 #[derive(Clone, Copy)]
-pub struct Pair(pub &'static str, pub &'static str);
+pub struct Pair<'a>(pub &'a str, pub &'a str);
 
 /// What is wanted of a loop: its coefficients, or its refusal.
 pub type Wanted = Result<&'static [i64], LoopRefusal>;
@@ -37,29 +38,30 @@ fn words_of(
     quantise(controller, format, realisation).ok()
 }
 
+/// The polynomial of this pair's loop, or its refusal, where the pair is one.
+pub fn found_loop(
+    alloc: Global,
+    pair: &Pair<'_>,
+    frac_bits: u32,
+    realisation: Realisation,
+) -> Option<Result<Poly, LoopRefusal>> {
+    let controller = controller_of(alloc, pair.0)?;
+    let quantised = words_of(&controller, frac_bits, realisation)?;
+    let plant = plant_of(alloc, pair.1)?;
+    Some(loop_polynomial(&quantised, *controller.sample_time(), &plant))
+}
+
 /// Whether the loop of this pair is what is wanted.
 pub fn is_loop(
     alloc: Global,
-    pair: &Pair,
+    pair: &Pair<'_>,
     frac_bits: u32,
     realisation: Realisation,
     wanted: &Wanted,
 ) -> bool {
-    let Some(controller) = controller_of(alloc, pair.0) else {
-        return false;
-    };
-    let Some(quantised) = words_of(&controller, frac_bits, realisation) else {
-        return false;
-    };
-    let Some(plant) = plant_of(alloc, pair.1) else {
-        return false;
-    };
-    match (
-        loop_polynomial(&quantised, *controller.sample_time(), &plant),
-        wanted,
-    ) {
-        (Ok(poly), Ok(coefficients)) => poly.coefficients() == *coefficients,
-        (Err(refusal), Err(other)) => refusal == *other,
+    match (found_loop(alloc, pair, frac_bits, realisation), wanted) {
+        (Some(Ok(poly)), Ok(coefficients)) => poly.coefficients() == *coefficients,
+        (Some(Err(refusal)), Err(other)) => refusal == *other,
         _ => false,
     }
 }

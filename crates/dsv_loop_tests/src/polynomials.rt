@@ -6,10 +6,10 @@ use dsv_names::Realisation;
 
 /// A pair, and the coefficients of its loop.
 #[derive(Clone, Copy)]
-struct Row(Pair, &'static [i64]);
+struct Row(Pair<'static>, &'static [i64]);
 
 /// A proportional and integral controller, and a plant of order 2.
-const INTEGRAL: Pair = Pair(
+const INTEGRAL: Pair<'static> = Pair(
     ".b={0.5,-0.375},.b_size=2,.a={1,-1},.a_size=2",
     ".b={0,0.25,0.125},.b_size=3,.a={1,-1.5,0.5625},.a_size=3",
 );
@@ -19,7 +19,7 @@ const INTEGRAL: Pair = Pair(
 const INTEGRAL_LOOP: &[i64] = &[64, -152, 130, -39];
 
 /// A controller of order 2 with its numerator one sample late, and a plant of order 1.
-const LATE: Pair = Pair(
+const LATE: Pair<'static> = Pair(
     ".b={0,1,-0.875},.b_size=3,.a={1,-1.5,0.5625},.a_size=3",
     ".b={0,0.125},.b_size=2,.a={1,-0.75},.a_size=2",
 );

@@ -6,7 +6,7 @@ use dsv_names::Realisation;
 
 /// A pair, and why its loop is refused.
 #[derive(Clone, Copy)]
-struct Row(Pair, LoopRefusal);
+struct Row(Pair<'static>, LoopRefusal);
 
 const GAIN: &str = ".b={0.5},.b_size=1,.a={1},.a_size=1";
 
