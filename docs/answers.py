@@ -140,6 +140,24 @@ SERIES = [
          "small/fine_gain.dsv --sections small/fine_pair.dsv --property STABILITY --realization DDFI"),
 ]
 
+LOOPS = [
+    Kind("Successful", 0, rf"{S}\nproperty STABILITY realization \w+ plant\npolynomial .*",
+         "`--plant`: the loop is stable. The roots of the printed polynomial A a + B b are inside the unit circle, where B / A is the "
+         "controller in words and b / a the plant; form and fall are evidence, as of a controller.",
+         "nothing.",
+         "motor_pi.dsv --property STABILITY --plant motor_plant.dsv"),
+    Kind("Failed", 10, rf"{F}\nproperty STABILITY realization \w+ plant\npolynomial .*",
+         "The loop isn't stable: a root of its polynomial is outside the unit circle or on it. The form is negative at `start` and never rises "
+         "from there.",
+         "more of `frac_bits`, another `--rounding`, or other coefficients of the controller; look at the sign of the plant, since the "
+         "feedback is negative.",
+         "small/motor_pi_in_bytes.dsv --property STABILITY --plant motor_plant.dsv"),
+    Kind("Inconclusive, `cause WIDE`", 20, rf"{I}\nproperty STABILITY realization \w+ plant\ncause WIDE .*",
+         "This number of the loop's polynomial, or one on the way to it, is too large. Where no form is found the cause is as of a controller.",
+         "fewer digits in the plant's file, or fewer bits; in a delta form, a `delta` such as 1/4 in place of a smaller one.",
+         "small/half_pole.dsv --property STABILITY --plant small/plant_fine.dsv"),
+]
+
 STATES = [
     Kind("Successful", 0, rf"{S}\nproperty STABILITY state-space \d\nform .*",
          "The form is positive, and less after each step of the states without input, by `fall`: with A in words and q = 2^frac_bits it "
@@ -176,10 +194,14 @@ OTHERS = [
          "`--certificate`: the evidence of a SUCCESSFUL verdict, in place of the report. docs/CERTIFICATES.md has the text of each kind.",
          "keep it with the controller's file; `--check` judges it.",
          "low_pass_in_bytes.dsv --property OVERFLOW --gain --certificate"),
-    Kind("An accepted certificate", 0, r"CERTIFICATE ACCEPTED\n.*",
+    Kind("An accepted certificate", 0, r"CERTIFICATE ACCEPTED\n(?!.* plant\n).*",
          "`--check`: the controller of the file has the certificate's property.",
          "nothing.",
          "small/order_two.dsv --check small/order_two.cert"),
+    Kind("An accepted certificate of a loop", 0, r"CERTIFICATE ACCEPTED\n.* plant\n",
+         "`--check` with `--plant`: the loop of the controller with the plant is stable.",
+         "nothing.",
+         "small/half_pole.dsv --check small/half_pole_in_a_loop.cert --plant small/plant_one.dsv"),
     Kind("An ellipsoid", 0, r"dsv-ellipsoid 1\n.*",
          "`--offer-ellipsoid`: an ellipsoid that its check accepts. So no list of inputs in range, however long, overflows.",
          "keep it with the controller's file; `--unbounded --ellipsoid` judges it.",
@@ -237,6 +259,16 @@ REFUSED = [
          "more bits before the point, or states that are scaled", "--state-space small/twice_the_sum.states --property OVERFLOW --x-size 2"),
     Kind("45 `FRACTION_WIDE`", 2, r"STATE FILE REFUSED 45 .*", "this entry has too many digits", "fewer digits", "--state-space small/wide_entry.states --simulate 0"),
     Kind("46 `RANGE_EMPTY`", 2, r"STATE FILE REFUSED 46 .*", "no word lies in the range", "a wider range", "--state-space small/no_inputs_left.states --simulate 0"),
+    Kind("61 `SAMPLE_TIME`", 2, r"LOOP REFUSED 61 .*", "the plant's sample time isn't the controller's", "one sample time for both, 1 where a file says none",
+         "small/half_pole.dsv --property STABILITY --plant small/plant_slow.dsv"),
+    Kind("62 `ALGEBRAIC`", 2, r"LOOP REFUSED 62 .*", "both answer an input in the same sample", "a plant whose `b` begins with 0: it answers a sample later",
+         "small/half_pole.dsv --property STABILITY --plant small/plant_at_once.dsv"),
+    Kind("63 `ORDER`", 2, r"LOOP REFUSED 63 .*", "the orders of both are together over 8", "a model of the plant of a lower order",
+         "butterworth.dsv --property STABILITY --plant small/plant_order_five.dsv"),
+    Kind("64 `WIDE`", 2, r"LOOP REFUSED 64 .*", "this number of the loop's polynomial is too large", "fewer digits in the plant's file", None,
+         "none: it is never written, since such a loop's verdict is inconclusive, `cause WIDE`"),
+    Kind("after a line `plant`", 2, r"plant\nFILE REFUSED .*", "the plant's file is refused", "as above",
+         "small/half_pole.dsv --property STABILITY --plant small/two_plants.dsv"),
     Kind("after a line `section I`", 2, r"section [1-7]\nFILE REFUSED .*",
          "the file of this section of a cascade is refused, 1 for the first of `--sections`", "as above",
          "small/half_pole.dsv --sections small/missing.dsv,small/half_pole.dsv --property STABILITY"),
@@ -247,6 +279,8 @@ STOPPED = [
          "small/modes.dsv --property stability"),
     Kind("The controller's file", 3, r"READ FAULT CONTROLLER\n", "it can't be read", "look at its name and rights",
          "small/none.dsv --property STABILITY"),
+    Kind("The plant's file", 3, r"READ FAULT PLANT\n", "it can't be read", "look at its name and rights",
+         "small/half_pole.dsv --property STABILITY --plant small/none.dsv"),
     Kind("A section's file", 3, r"READ FAULT SECTION [1-7]\n", "that of this section of a cascade can't be read",
          "look at its name and rights", "small/half_pole.dsv --sections small/half_pole.dsv,small/none.dsv --property STABILITY"),
     Kind("The certificate's file", 3, r"READ FAULT CERTIFICATE\n", "it can't be read", "look at its name and rights",
@@ -331,6 +365,7 @@ SECTIONS = [
     ("LIMIT_CYCLE", None, CYCLES),
     ("STABILITY and MINIMUM_PHASE", None, ROOTS),
     ("STABILITY of a cascade", None, SERIES),
+    ("STABILITY of a loop", None, LOOPS),
     ("STABILITY of a state-space controller", None, STATES),
     ("TIMING", None, TIMES),
     ("Other answers", None, OTHERS),

@@ -10,7 +10,7 @@ use std::fs;
 
 /// The list of the cases: the arguments of each in a line of their own, with spaces between them. A
 /// line that is empty or begins with `#` is none. A line that begins with `certify` is a job whose
-/// certificate is made, and checked against the same file: what is written is what the check says.
+/// certificate is made, and checked against the same files: what is written is what the check says.
 /// So it is of one that begins with `offer`, a controller's file and options of its design, for
 /// which an ellipsoid is found.
 const CASES: &str = "cases.txt";
@@ -20,6 +20,9 @@ const CERTIFICATE: &str = "certificate";
 
 /// The option before the name of a state-space controller's file.
 const STATE_SPACE: &str = "--state-space";
+
+/// The option before the name of a plant's file, in a line.
+const PLANT: &str = " --plant ";
 
 /// The most bytes of such a text.
 const LONGEST_CERTIFICATE: usize = 1 << 22;
@@ -43,27 +46,45 @@ fn status_of<F: Files, K: Sink>(
     run_with_built_in(alloc, arguments, files, sink).status
 }
 
-/// The arguments that have the certificate checked against the controller's file, or its form
-/// against a state-space controller's.
-fn check_arguments(alloc: Global, file: &str, is_states: bool) -> Result<Vec<String>> {
-    let line = if is_states {
+/// The name of the plant's file, where the job has one.
+fn plant_of(job: &str) -> Option<&str> {
+    let (_, rest) = job.split_once(PLANT)?;
+    rest.split(' ').next()
+}
+
+/// The arguments that have the certificate of a job checked against the controller's file, and the
+/// plant's where the job has one, or its form against a state-space controller's.
+fn check_arguments(alloc: Global, job: &str, file: &str) -> Result<Vec<String>> {
+    let line = if job.starts_with(STATE_SPACE) {
         format!(in alloc; "{STATE_SPACE} {file} --property STABILITY --form {CERTIFICATE}")?
+    } else if let Some(plant) = plant_of(job) {
+        format!(in alloc; "{file} --check {CERTIFICATE}{PLANT}{plant}")?
     } else {
         format!(in alloc; "{file} --check {CERTIFICATE}")?
     };
     arguments_of(alloc, &line)
 }
 
-/// The controller's file and the text that a job writes.
+/// Holds the text of a file under its name.
+fn hold_file(rt: &HostRuntime, files: &mut MemFiles, name: &str) -> Result<()> {
+    let text = fs::read_to_string(rt, name)?;
+    files.hold(name, text.as_bytes())?;
+    Ok(())
+}
+
+/// The controller's file, the plant's where there is one, and the text that a job writes.
 fn made_files(
     rt: &HostRuntime,
     alloc: Global,
     file: &str,
+    plant: Option<&str>,
     arguments: &[String],
 ) -> Result<MemFiles> {
-    let controller = fs::read_to_string(rt, file)?;
     let mut files = MemFiles::new(alloc);
-    files.hold(file, controller.as_bytes())?;
+    hold_file(rt, &mut files, file)?;
+    if let Some(plant) = plant {
+        hold_file(rt, &mut files, plant)?;
+    }
     let mut text = MemSink::new(alloc, LONGEST_CERTIFICATE)?;
     status_of(alloc, arguments, &mut files, &mut text);
     files.hold(CERTIFICATE, text.bytes())?;
@@ -77,8 +98,8 @@ fn certified_status(rt: &HostRuntime, alloc: Global, line: &str, out: &mut OsOut
     arguments.push(String::from_str(alloc, "--certificate")?)?;
     let is_states = line.starts_with(STATE_SPACE);
     let file = arguments.get(usize::from(is_states)).context("no file")?;
-    let mut files = made_files(rt, alloc, file, &arguments)?;
-    let check = check_arguments(alloc, file, is_states)?;
+    let mut files = made_files(rt, alloc, file, plant_of(line), &arguments)?;
+    let check = check_arguments(alloc, line, file)?;
     Ok(status_of(alloc, &check, &mut files, out))
 }
 
@@ -87,7 +108,7 @@ fn offered_status(rt: &HostRuntime, alloc: Global, line: &str, out: &mut OsOut) 
     let job = format!(in alloc; "{line} --property OVERFLOW --offer-ellipsoid")?;
     let arguments = arguments_of(alloc, &job)?;
     let file = arguments.first().context("no file")?;
-    let mut files = made_files(rt, alloc, file, &arguments)?;
+    let mut files = made_files(rt, alloc, file, None, &arguments)?;
     let check = format!(in alloc;
         "{line} --property OVERFLOW --unbounded --ellipsoid {CERTIFICATE}"
     )?;
