@@ -159,7 +159,7 @@ def first_sentence(note):
 
 # ---- the page
 
-HEADLINE = ("Explained", "Headline", "Cascades", "States", "Proposers", "OneAnswer", "Completeness", "Accepted")
+HEADLINE = ("Explained", "Headline", "Cascades", "States", "Loops", "LoopChecks", "Proposers", "OneAnswer", "Completeness", "Accepted")
 LONG = 30
 PAGE = (
     ("The call", "What `run` says of an answer, whatever the arguments, the files and the sink.",
@@ -179,6 +179,9 @@ PAGE = (
     ("Ellipsoids", "What the answers on ellipsoids say.",
      "IsEllipsoidRow IsOffer ellipsoid_in IsUnreadOffer IsOfEllipsoid IsOfOffer IsOfSoughtEllipsoid ShowsEllipsoid dsv_ellipsoid:IsGood "
      "dsv_ellipsoid:NeverBreaks StaysKept ellipsoid_refusal greatest_disturbance step_form dsv_ellipsoid:first_form sample_intervals"),
+    ("Loops with their plants", "What the answers on the loop of a controller with its plant say, and what the check of its certificate.",
+     "IsLoopRow HaveLoop IsPlantFileOf IsPlantOf IsPlantText PlantView IsPlantUnread IsOfPlant IsLoopInWords IsOfLoop dsv_loop:loop_of IsLoopCheckRow "
+     "IsLoopCheck IsOfLoopCertificate IsLoopChecked IsLoopShownOf LoopHas SaysLoop"),
     ("Stability, minimum phase, timing", "What the answers on polynomials and on time say.",
      "IsTested tested_of ShowsFall StrictlyFallsAlong StrictlyFalls ShowsKeptAway IsKeptAwayAlong IsKeptAway "
      "ShowsNoForm closed_form_of jury_of WantsSchurCohn IsBeyond IsTimed IsTimingOf IsOnTime"),
@@ -189,8 +192,8 @@ PAGE = (
      "IsWritten dsv_report:output_of answer_text stop_text IfWhole IsTyped AreKept"),
     ("Proposers", "What becomes of the lists of objects that offer forms and sets.",
      "IsAsked AreSetsAsked WantsForm WantsSet IfNoForm is_low"),
-    ("Three laws over the table", "What holds of all answers together.",
-     "HaveOneAnswer IsSettled SameAnswer AreDecided IsRefusedByNone IsVerdict WrittenAreAccepted IsAcceptance"),
+    ("Four laws over the table", "What holds of all answers together.",
+     "HaveOneAnswer IsSettled SameAnswer AreDecided IsRefusedByNone IsVerdict WrittenAreAccepted WrittenLoopsAreAccepted IsAcceptance"),
 )
 
 
