@@ -20,7 +20,7 @@ use Rattle.dsv_gain.specs.declared.weights.Part.TheVariants.{Positive, Negative}
 use Rattle.dsv_gain.specs.declared.weights.End.{End}
 use Rattle.dsv_gain.specs.declared.weights.End.TheVariants.{Low, High}
 use Rattle.dsv_gain.specs.declared.weights.Weights.{Weights}
-use Rattle.dsv_gain.specs.Samples.{part_of, weighted, weighted_term, least_sum, greatest_sum, weight_sums, after_first, whole_range}
+use Rattle.dsv_gain.specs.Samples.{part_of, weighted, weighted_term, least_sum, greatest_sum, weight_sums, after_first, whole_range, outer_range}
 use Rattle.dsv_gain.proofs.Weighing.{weighted-drop}
 
 abbrev pub positive_part : ℤ → ℤ
@@ -148,3 +148,36 @@ value_between k sums ends v all p a m e =
     let y : (v *ℤ pos full) ≤ℤ sums.high = times_back k (v *ℤ pos full) sums.high p (rw same at a.most) in
     let positive : pos 0 <ℤ pos full = let q = full_scale_positive in omega (arith, ints) in
     record { least = not_above ends.low v (pos full) sums.low positive x up.below; most = not_below ends.high v (pos full) sums.high positive y down.above }
+
+both_scaled : (o x full : ℤ) → o *ℤ (x *ℤ full) ≡ full *ℤ (o *ℤ x)
+both_scaled o x full = ring (env (o ∷ x ∷ full ∷ [])) (times (var 0) (times (var 1) (var 2))) (times (var 2) (times (var 0) (var 1))) refl
+
+moved : (k o x : ℤ) → k *ℤ o *ℤ x ≡ k *ℤ (o *ℤ x)
+moved k o x = ring (env (k ∷ o ∷ x ∷ [])) (times (times (var 0) (var 1)) (var 2)) (times (var 0) (times (var 1) (var 2))) refl
+
+swapped : (x y : ℤ) → x *ℤ y ≡ y *ℤ x
+swapped x y = ring (env (x ∷ y ∷ [])) (times (var 0) (var 1)) (times (var 1) (var 0)) refl
+
+-- the same of a fraction, by the range that is rounded outward
+pub fraction_between : (k base over : ℤ) (sums ends : Range) (v all : ℤ) → pos 0 <ℤ k → pos 0 <ℤ over → base ≡ k *ℤ over → AreSums base sums all → pos scale *ℤ k *ℤ v ≡ all → outer_range sums ≡ Some ends
+    → Between (over *ℤ ends.low) (over *ℤ ends.high) v
+fraction_between k base over sums ends v all p o w a m e =
+    let full = scale * range_scale in
+    let b = both_are (lower sums.low full) (upper sums.high full) ends e in
+    let down = lower_is sums.low full ends.low full_scale_positive b.low_is in
+    let up = upper_is sums.high full ends.high full_scale_positive b.high_is in
+    let same : pos range_scale *ℤ all ≡ k *ℤ (v *ℤ pos full) =
+    ap (λ z. pos range_scale *ℤ z) (sym m) ∙ rescaled (pos scale) (pos range_scale) k v ∙ ap (λ z. k *ℤ (v *ℤ z)) (sym full_scale_is) in
+    let low_moved : base *ℤ sums.low ≡ k *ℤ (over *ℤ sums.low) = ap (λ z. z *ℤ sums.low) w ∙ moved k over sums.low in
+    let high_moved : base *ℤ sums.high ≡ k *ℤ (over *ℤ sums.high) = ap (λ z. z *ℤ sums.high) w ∙ moved k over sums.high in
+    let x : (over *ℤ sums.low) ≤ℤ (v *ℤ pos full) = times_back k (over *ℤ sums.low) (v *ℤ pos full) p (rw (low_moved, same) at a.least) in
+    let y : (v *ℤ pos full) ≤ℤ (over *ℤ sums.high) = times_back k (v *ℤ pos full) (over *ℤ sums.high) p (rw (high_moved, same) at a.most) in
+    let positive : pos 0 <ℤ pos full = let q = full_scale_positive in omega (arith, ints) in
+    let o_up : pos 0 ≤ℤ over = omega (arith, ints, o) in
+    let l = rw (both_scaled over ends.low (pos full)) at (times_up over (ends.low *ℤ pos full) sums.low o_up down.below) in
+    let h = rw (both_scaled over ends.high (pos full)) at (times_up over sums.high (ends.high *ℤ pos full) o_up up.above) in
+    let turn = swapped v (pos full) in
+    record {
+      least = times_back (pos full) (over *ℤ ends.low) v positive (omega (arith, ints, l, x, turn));
+      most = times_back (pos full) v (over *ℤ ends.high) positive (omega (arith, ints, h, y, turn));
+    }

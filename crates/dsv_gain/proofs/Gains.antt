@@ -3,9 +3,11 @@ use Rattle.std.proofs.Common.{◌≡◌, ℕ, zero, suc, ◌+◌, ◌<◌, ◌�
 use Rattle.std.specs.Prelude.{Option, Some, None, IfSome, Result, Ok, Err, IfOk}
 use Rattle.std.specs.List.{All}
 use Rattle.std.proofs.Math.IntN.{ℤ, pos}
+use Rattle.std.proofs.lemmas.Int.{ints}
+use lib.Signed.{◌≤ℤ◌}
 use Rattle.std.proofs.lemmas.List.Elements.{All-head, All-tail, All-nil, All-cons, All-weaker}
 use Rattle.dsv_word.specs.Words.{IsWord}
-use Rattle.dsv_system.specs.Runs.{rows_from}
+use Rattle.dsv_system.specs.Runs.{SampleRow, rows_from}
 use Rattle.dsv_system.specs.Systems.{zeros}
 use Rattle.dsv_system.specs.Breaks.{IsInside}
 use Rattle.dsv_system.proofs.Words.{no_break}
@@ -17,6 +19,7 @@ use Rattle.dsv_linear.specs.Facts.{Between}
 use Rattle.dsv_linear.specs.declared.range.Range.{Range}
 use Rattle.dsv_linear.specs.Forms.{◌>>=◌}
 use Rattle.dsv_linear.proofs.Runs.{all_between}
+use Rattle.dsv_gain.specs.declared.pass.Quantity.TheVariants as quantity
 use Rattle.dsv_gain.specs.declared.pass.Pass.{Pass}
 use Rattle.dsv_gain.specs.declared.outlook.Gain.{Gain}
 use Rattle.dsv_gain.specs.declared.outlook.Outlook.{Outlook}
@@ -24,11 +27,13 @@ use Rattle.dsv_gain.specs.declared.outlook.Outlook.TheVariants as outlook
 use Rattle.dsv_gain.specs.declared.ends.Ends.{Ends}
 use Rattle.dsv_gain.specs.declared.ends.Ends.TheVariants as shown
 use Rattle.dsv_gain.specs.declared.search.Search.{Search}
-use Rattle.dsv_gain.specs.Samples.{pass_ends, after_pass}
+use Rattle.dsv_gain.specs.Samples.{ranges_in, pass_ends, after_pass}
 use Rattle.dsv_gain.specs.Gains.{hulls, hulls_after, has_settled, best_or, gain_at, search, step_turn, run_turn, turn_outlook, gain_from, word_pass, first_search, gain_of}
-use Rattle.dsv_gain.specs.Safe.{HoldInRuns, NeverBreaks, IfSafe, IsWithin, GainsAreSafe}
-use Rattle.dsv_gain.proofs.Values.{lie_words}
-use Rattle.dsv_gain.proofs.Hulls.{pass_words, words_in, hulls_left, hulls_right, run_ends, later_words, run_are, after_are}
+use Rattle.dsv_gain.proofs.Given.{fitted_in, RunsGiven}
+use Rattle.dsv_gain.proofs.WordRuns.{values_over, run_given, rows_lie}
+use Rattle.dsv_gain.specs.Safe.{LieWithin, HoldInRuns, NeverBreaks, IfSafe, IsWithin, GainsAreSafe}
+use Rattle.dsv_gain.proofs.Values.{lie_words, lie_fits}
+use Rattle.dsv_gain.proofs.Hulls.{pass_words, hulls_left, hulls_right, run_ends, later_words, run_are, after_are}
 use Rattle.dsv_gain.proofs.Passes.{LiesIn, run_lies, next_has, all_have}
 use Rattle.dsv_gain.proofs.Pasts.{AreRegisters, zeros_registers, step_registers}
 use Rattle.dsv_gain.proofs.Symbols.{words_stand}
@@ -98,11 +103,11 @@ step_finds net settled sample next pass seen now best (shown.Leaves value) gain 
       | inl q ↦ inl q
       | inr f ↦ inr (later net pass seen now gain e f)
     ]
-step_finds net true sample next pass seen now best (shown.Words last) gain e p rest h = inr (here net pass seen now last sample best gain e (ap words_in p) (same_gain (gain_at sample best (hulls (hulls_after seen now) last)) gain h))
+step_finds net true sample next pass seen now best (shown.Words last) gain e p rest h = inr (here net pass seen now last sample best gain e (ap ranges_in p) (same_gain (gain_at sample best (hulls (hulls_after seen now) last)) gain h))
 step_finds net false sample next pass seen now best (shown.Words last) gain e p rest h =
     let new = gain_at sample best (hulls (hulls_after seen now) last) in
     elim (rest (search (after_pass net.nodes net.next pass) (hulls_after seen now) (Some new)) h) [
-      | inl q ↦ inr (here net pass seen now last sample best gain e (ap words_in p) (some_same new gain q))
+      | inl q ↦ inr (here net pass seen now last sample best gain e (ap ranges_in p) (some_same new gain q))
       | inr f ↦ inr (later net pass seen now gain e f)
     ]
 
@@ -111,14 +116,14 @@ run_finds : (net : Net) (sample : ℕ) (next : Search → Outlook) (s : Search) 
     → FindsOr net s.pass s.seen s.best gain
 run_finds net sample next s (shown.Leaves value) gain p rest h = inl (best_cases (outlook.Leaves sample value) s.best gain (λ q. absurd cc) h)
 run_finds net sample next s (shown.Words now) gain p rest h =
-    step_finds net (has_settled net.nodes (after_pass net.nodes net.next s.pass)) sample next s.pass s.seen now s.best (pass_ends 0 net.nodes s.pass) gain (ap words_in p) refl rest h
+    step_finds net (has_settled net.nodes (after_pass net.nodes net.next s.pass)) sample next s.pass s.seen now s.best (pass_ends 0 net.nodes s.pass) gain (ap ranges_in p) refl rest h
 
 finds : (net : Net) (left sample : ℕ) (s : Search) (gain : Gain) → gain_from net.nodes net.next left sample s ≡ outlook.Safe gain → FindsOr net s.pass s.seen s.best gain
 finds net zero sample s gain h = inl (best_cases outlook.Deep s.best gain (λ q. absurd cc) h)
 finds net (suc left) sample s gain h = run_finds net sample (gain_from net.nodes net.next left (suc sample)) s (pass_ends (length net.next) net.nodes s.pass) gain refl (λ l q. finds net left (suc sample) l gain q) h
 
 -- ---- the induction
-front_part : {X : Type 0} (P : X → Type 0) (n : ℕ) (xs : List X) → All P (take (suc n) xs) → All P (take n xs)
+pub front_part : {X : Type 0} (P : X → Type 0) (n : ℕ) (xs : List X) → All P (take (suc n) xs) → All P (take n xs)
 front_part P zero [] a = All-nil P
 front_part P (suc n) [] a = All-nil P
 front_part P zero (x ∷ xs) a = All-nil P
@@ -130,26 +135,53 @@ zero_at zero j = refl
 zero_at (suc m) zero = refl
 zero_at (suc m) (suc j) = zero_at m j
 
+-- a run from here on
+record IsRun (net : Net) (low high : ℤ) (samples : List (List ℤ)) : Type 0 where
+  words : List ℤ
+  xs : List ℤ
+  in_range : All (Between low high) xs
+  registers : AreRegisters net low high words
+  are : samples ≡ values_over net words xs
+
+run_next : (net : Net) (low high : ℤ) (values : List ℤ) (samples : List (List ℤ)) → IsNetlist net → IsWord net.format low → IsWord net.format high → (words xs : List ℤ) → All (Between low high) xs → AreRegisters net low high words
+    → values ∷ samples ≡ values_over net words xs → IsRun net low high samples
+run_next net low high values samples n l h words [] a r e = absurd cc
+run_next net low high values samples n l h words (x ∷ xs) a r e = record {
+  words = (step_of net words x).past;
+  xs = xs;
+  in_range = All-tail (Between low high) x xs a;
+  registers = step_registers net low high words x n l h (All-head (Between low high) x xs a) r;
+  are = cc;
+}
+
 found_safe : (net : Net) (low high : ℤ) (gain : Gain) → IsNetlist net → IsWord net.format low → IsWord net.format high → Finds net (word_pass net low high) None gain → HoldInRuns net low high gain.ranges
 found_safe net low high gain n l h d xs a =
     let f = net.format in
+    let g = quantity.Words in
+    let one = pos 1 in
+    let up : pos 0 ≤ℤ one = omega (arith, ints) in
     let pass = word_pass net low high in
     let count = length net.next in
     let first = run_are count net d.samples pass None d.all refl tt d.run_is in
     let last = after_are 0 net d.samples pass d.last refl d.step_is in
     let long : length d.all ≡ length d.last = first.many ∙ sym last.many in
-    let Q = LiesIn net (hulls d.all d.last) in
+    let all = hulls d.all d.last in
+    let Q = LiesIn net one all in
+    let fitted = fitted_in [] net.nodes in
     let start = zeros count in
+    let samples = values_over net start xs in
     let inputs = all_between low high xs a in
     let registers = zeros_registers net low high n in
-    let lies = run_lies count net low high d.samples xs pass start None d.all refl inputs tt d.run_is (words_stand count net low high start n registers (omega arith) (λ j p. zero_at count j)) in
-    let begun = All-weaker (LiesIn net d.all) Q (λ r q. hulls_left f d.all d.last r.exact long q last.words) (take (suc d.samples) (rows_from (step_of net) start xs)) lies in
-    subst (λ (rs : List Range). All (LiesIn net rs) (rows_from (step_of net) start xs)) d.ranges_are
-    (all_have net (AreRegisters net low high) (Between low high) Q d.samples
-    (λ words x b r. step_registers net low high words x n l h b r)
-    (λ words ys b r q. next_has 0 net low high Q d.samples ys pass words d.last b
-    (λ row p. lie_words f (hulls d.all d.last) row.exact p) (λ row p. hulls_right f d.all d.last row.exact long first.words p) d.step_is (words_stand 0 net low high words n r (omega arith) (λ j p. absurd (omega arith))) q)
-    start xs inputs registers (front_part Q d.samples (rows_from (step_of net) start xs) begun))
+    let lies = run_lies count net g one low high d.samples xs samples pass start None d.all refl inputs tt d.run_is (run_given net start xs) (words_stand count net low high start n registers (omega arith) (λ j p. zero_at count j)) in
+    let begun = All-weaker (LiesIn net one d.all) Q (λ values q. hulls_left one f d.all d.last (fitted values) up long q last.words) (take (suc d.samples) samples) lies in
+    let always = all_have (IsRun net low high) Q d.samples
+    (λ values rest r q. run_next net low high values rest n l h r.words r.xs r.in_range r.registers r.are)
+    (λ rest r q. next_has 0 net g one low high Q d.samples r.xs rest pass r.words d.last r.in_range
+    (λ values p. lie_fits g one f all (fitted values) refl p) (λ values p. hulls_right one f d.all d.last (fitted values) up long first.words p) d.step_is
+    (subst (λ (v : List (List ℤ)). RunsGiven net g one r.words r.xs v) (sym r.are) (run_given net r.words r.xs))
+    (words_stand 0 net low high r.words n r.registers (omega arith) (λ j p. absurd (omega arith))) q)
+    samples (record { words = start; xs = xs; in_range = inputs; registers = registers; are = refl }) (front_part Q d.samples samples begun) in
+    subst (λ (rs : List Range). All (λ r. LieWithin f rs r.exact) (rows_from (step_of net) start xs)) d.ranges_are (rows_lie net all start xs always)
 
 pub gains_safe : GainsAreSafe
 unfolding gain_of
@@ -163,7 +195,7 @@ gains_safe net low high limit gain n l h e =
 none_breaks : (net : Net) (low high : ℤ) (ranges : List Range) → HoldInRuns net low high ranges → NeverBreaks net low high
 none_breaks net low high ranges h xs b =
     let rs = rows_from (step_of net) (zeros (length net.next)) xs in
-    no_break net.format rs (All-weaker (LiesIn net ranges) (IsInside net.format) (λ r l. lie_words net.format ranges r.exact l) rs (h xs b.in_range)) b.broken
+    no_break net.format rs (All-weaker (λ (r : SampleRow). LieWithin net.format ranges r.exact) (IsInside net.format) (λ r l. lie_words net.format ranges r.exact l) rs (h xs b.in_range)) b.broken
 
 -- ---- the samples of a gain
 gain_within : (sample : ℕ) (best : Option Gain) (ranges : List Range) → IfSome best (IsWithin sample) → IsWithin (suc sample) (gain_at sample best ranges)

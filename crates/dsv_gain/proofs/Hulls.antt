@@ -2,7 +2,7 @@
 use Rattle.std.proofs.Common.{◌≡◌, ℕ, zero, suc, ◌+◌, Bool, true, false, if◌then◌else◌, List, [], ◌∷◌, length, inl, inr, ◌⊎◌, refl, sym, subst, ap, ◌∙◌, arith, length-append}
 use Rattle.std.specs.Prelude.{Option, Some, None, IfSome, int_lt}
 use Rattle.std.specs.List.{All}
-use Rattle.std.proofs.Math.IntN.{ℤ}
+use Rattle.std.proofs.Math.IntN.{ℤ, pos, ◌*ℤ◌}
 use Rattle.std.proofs.lemmas.Int.{ints}
 use lib.Signed.{◌≤ℤ◌}
 use Rattle.std.proofs.lemmas.List.Elements.{All-head, All-tail, All-nil, All-cons, All-append}
@@ -11,19 +11,17 @@ use Rattle.dsv_word.specs.Words.{IsWord}
 use Rattle.dsv_netlist.specs.declared.node.Node.{Node}
 use Rattle.dsv_netlist.specs.declared.node.Node.TheVariants.{Input, Reg, MulConst, Round, Add, Sub, Fit, Scale}
 use Rattle.dsv_netlist.specs.Nodes.{Net, node_exact}
-use Rattle.dsv_linear.specs.Facts.{LiesWithin}
 use Rattle.dsv_linear.specs.declared.range.Range.{Range}
 use Rattle.dsv_linear.specs.Forms.{◌>>=◌}
-use Rattle.dsv_linear.proofs.Numbers.{some_of}
+use Rattle.dsv_linear.proofs.Numbers.{some_of, times_up}
 use Rattle.dsv_gain.specs.declared.pass.Pass.{Pass}
 use Rattle.dsv_gain.specs.declared.ends.Ends.{Ends}
 use Rattle.dsv_gain.specs.declared.ends.Ends.TheVariants as shown
 use Rattle.dsv_gain.specs.declared.weights.Weights.{Weights}
 use Rattle.dsv_gain.specs.declared.walk.Walk.{Walk}
-use Rattle.dsv_gain.specs.Samples.{weights_at, value_range, node_ends, with_ends, shown_by, then_ends, after_node, walk_from, begun, ends_from, hull, pass_with, pass_ends, after_pass}
+use Rattle.dsv_gain.specs.Samples.{ranges_in, weights_at, value_range, node_ends, with_ends, shown_by, then_ends, after_node, walk_from, begun, ends_from, hull, pass_with, pass_ends, after_pass}
 use Rattle.dsv_gain.specs.Gains.{hulls, hulls_after}
-use Rattle.dsv_gain.specs.Safe.{LieWithin}
-use Rattle.dsv_gain.proofs.Values.{value_is, parts_are}
+use Rattle.dsv_gain.proofs.Values.{LiesOver, LieOver, value_is, parts_are}
 
 -- both ends are words
 pub record HasWords (f : Format) (r : Range) : Type 0 where
@@ -36,24 +34,24 @@ pub record AreRanges (f : Format) (n : ℕ) (rs : List Range) : Type 0 where
   pub words : All (HasWords f) rs
 
 -- ---- two ranges
-least_cases : (b : Bool) (f : Format) (x y v : ℤ) → int_lt y x ≡ b → IsWord f x → IsWord f y → (x ≤ℤ v) ⊎ (y ≤ℤ v) → IsWord f (if b then y else x) × ((if b then y else x) ≤ℤ v)
-least_cases true f x y v e p q h = (q, elim h [ inl l ↦ omega (arith, ints) | inr l ↦ l ])
-least_cases false f x y v e p q h = (p, elim h [ inl l ↦ l | inr l ↦ omega (arith, ints) ])
+least_cases : (b : Bool) (f : Format) (o x y v : ℤ) → pos 0 ≤ℤ o → int_lt y x ≡ b → IsWord f x → IsWord f y → ((o *ℤ x) ≤ℤ v) ⊎ ((o *ℤ y) ≤ℤ v) → IsWord f (if b then y else x) × ((o *ℤ (if b then y else x)) ≤ℤ v)
+least_cases true f o x y v u e p q h = (q, elim h [ inl l ↦ (let m = times_up o y x u (omega (arith, ints, e)) in omega (arith, ints, m, l)) | inr l ↦ l ])
+least_cases false f o x y v u e p q h = (p, elim h [ inl l ↦ l | inr l ↦ (let m = times_up o x y u (omega (arith, ints, e)) in omega (arith, ints, m, l)) ])
 
-most_cases : (b : Bool) (f : Format) (x y v : ℤ) → int_lt x y ≡ b → IsWord f x → IsWord f y → (v ≤ℤ x) ⊎ (v ≤ℤ y) → IsWord f (if b then y else x) × (v ≤ℤ (if b then y else x))
-most_cases true f x y v e p q h = (q, elim h [ inl l ↦ omega (arith, ints) | inr l ↦ l ])
-most_cases false f x y v e p q h = (p, elim h [ inl l ↦ l | inr l ↦ omega (arith, ints) ])
+most_cases : (b : Bool) (f : Format) (o x y v : ℤ) → pos 0 ≤ℤ o → int_lt x y ≡ b → IsWord f x → IsWord f y → (v ≤ℤ (o *ℤ x)) ⊎ (v ≤ℤ (o *ℤ y)) → IsWord f (if b then y else x) × (v ≤ℤ (o *ℤ (if b then y else x)))
+most_cases true f o x y v u e p q h = (q, elim h [ inl l ↦ (let m = times_up o x y u (omega (arith, ints, e)) in omega (arith, ints, m, l)) | inr l ↦ l ])
+most_cases false f o x y v u e p q h = (p, elim h [ inl l ↦ l | inr l ↦ (let m = times_up o y x u (omega (arith, ints, e)) in omega (arith, ints, m, l)) ])
 
-hull_left : (f : Format) (r s : Range) (v : ℤ) → LiesWithin f r.low r.high v → HasWords f s → LiesWithin f (hull r s).low (hull r s).high v
-hull_left f r s v l w =
-    let low = least_cases (int_lt s.low r.low) f r.low s.low v refl l.low_word w.low (inl l.between.least) in
-    let high = most_cases (int_lt r.high s.high) f r.high s.high v refl l.high_word w.high (inl l.between.most) in
+hull_left : (o : ℤ) (f : Format) (r s : Range) (v : ℤ) → pos 0 ≤ℤ o → LiesOver o f r v → HasWords f s → LiesOver o f (hull r s) v
+hull_left o f r s v u l w =
+    let low = least_cases (int_lt s.low r.low) f o r.low s.low v u refl l.low_word w.low (inl l.between.least) in
+    let high = most_cases (int_lt r.high s.high) f o r.high s.high v u refl l.high_word w.high (inl l.between.most) in
     record { low_word = low.0; high_word = high.0; between = record { least = low.1; most = high.1 } }
 
-hull_right : (f : Format) (r s : Range) (v : ℤ) → HasWords f r → LiesWithin f s.low s.high v → LiesWithin f (hull r s).low (hull r s).high v
-hull_right f r s v w l =
-    let low = least_cases (int_lt s.low r.low) f r.low s.low v refl w.low l.low_word (inr l.between.least) in
-    let high = most_cases (int_lt r.high s.high) f r.high s.high v refl w.high l.high_word (inr l.between.most) in
+hull_right : (o : ℤ) (f : Format) (r s : Range) (v : ℤ) → pos 0 ≤ℤ o → HasWords f r → LiesOver o f s v → LiesOver o f (hull r s) v
+hull_right o f r s v u w l =
+    let low = least_cases (int_lt s.low r.low) f o r.low s.low v u refl w.low l.low_word (inr l.between.least) in
+    let high = most_cases (int_lt r.high s.high) f o r.high s.high v u refl w.high l.high_word (inr l.between.most) in
     record { low_word = low.0; high_word = high.0; between = record { least = low.1; most = high.1 } }
 
 choose : (b : Bool) (f : Format) (x y : ℤ) → IsWord f x → IsWord f y → IsWord f (if b then y else x)
@@ -64,18 +62,18 @@ hull_words : (f : Format) (r s : Range) → HasWords f r → HasWords f s → Ha
 hull_words f r s a b = record { low = choose (int_lt s.low r.low) f r.low s.low a.low b.low; high = choose (int_lt r.high s.high) f r.high s.high a.high b.high }
 
 -- ---- lists of ranges
-pub hulls_left : (f : Format) (rs ss : List Range) (vs : List ℤ) → length rs ≡ length ss → LieWithin f rs vs → All (HasWords f) ss → LieWithin f (hulls rs ss) vs
-hulls_left f [] ss vs e l w = l
-hulls_left f (r ∷ rs) [] vs e l w = absurd (omega arith)
-hulls_left f (r ∷ rs) (s ∷ ss) [] e l w = absurd l
-hulls_left f (r ∷ rs) (s ∷ ss) (v ∷ vs) e l w = (hull_left f r s v l.0 (All-head (HasWords f) s ss w), hulls_left f rs ss vs (omega arith) l.1 (All-tail (HasWords f) s ss w))
+pub hulls_left : (o : ℤ) (f : Format) (rs ss : List Range) (vs : List ℤ) → pos 0 ≤ℤ o → length rs ≡ length ss → LieOver o f rs vs → All (HasWords f) ss → LieOver o f (hulls rs ss) vs
+hulls_left o f [] ss vs u e l w = l
+hulls_left o f (r ∷ rs) [] vs u e l w = absurd (omega arith)
+hulls_left o f (r ∷ rs) (s ∷ ss) [] u e l w = absurd l
+hulls_left o f (r ∷ rs) (s ∷ ss) (v ∷ vs) u e l w = (hull_left o f r s v u l.0 (All-head (HasWords f) s ss w), hulls_left o f rs ss vs u (omega arith) l.1 (All-tail (HasWords f) s ss w))
 
-pub hulls_right : (f : Format) (rs ss : List Range) (vs : List ℤ) → length rs ≡ length ss → All (HasWords f) rs → LieWithin f ss vs → LieWithin f (hulls rs ss) vs
-hulls_right f [] [] vs e w l = l
-hulls_right f [] (s ∷ ss) vs e w l = absurd (omega arith)
-hulls_right f (r ∷ rs) [] vs e w l = absurd (omega arith)
-hulls_right f (r ∷ rs) (s ∷ ss) [] e w l = absurd l
-hulls_right f (r ∷ rs) (s ∷ ss) (v ∷ vs) e w l = (hull_right f r s v (All-head (HasWords f) r rs w) l.0, hulls_right f rs ss vs (omega arith) (All-tail (HasWords f) r rs w) l.1)
+pub hulls_right : (o : ℤ) (f : Format) (rs ss : List Range) (vs : List ℤ) → pos 0 ≤ℤ o → length rs ≡ length ss → All (HasWords f) rs → LieOver o f ss vs → LieOver o f (hulls rs ss) vs
+hulls_right o f [] [] vs u e w l = l
+hulls_right o f [] (s ∷ ss) vs u e w l = absurd (omega arith)
+hulls_right o f (r ∷ rs) [] vs u e w l = absurd (omega arith)
+hulls_right o f (r ∷ rs) (s ∷ ss) [] u e w l = absurd l
+hulls_right o f (r ∷ rs) (s ∷ ss) (v ∷ vs) u e w l = (hull_right o f r s v u (All-head (HasWords f) r rs w) l.0, hulls_right o f rs ss vs u (omega arith) (All-tail (HasWords f) r rs w) l.1)
 
 hulls_words : (f : Format) (rs ss : List Range) → All (HasWords f) rs → All (HasWords f) ss → All (HasWords f) (hulls rs ss)
 hulls_words f [] ss a b = All-nil (HasWords f)
@@ -101,17 +99,17 @@ fits (n ∷ ns) = length (node_exact [] n) + fits ns
 none_are : (f : Format) (all : List Range) → shown.Words [] ≡ shown.Words all → AreRanges f 0 all
 none_are f all e = let same : [] ≡ all = cc in subst (λ (rs : List Range). AreRanges f 0 rs) same (record { many = refl; words = All-nil (HasWords f) })
 
-node_are : (count : ℕ) (f : Format) (ranges : List Range) (w : Weights) (n : Node) (all : List Range) → node_ends count f ranges w n ≡ shown.Words all → AreRanges f (length (node_exact [] n)) all
-node_are count f ranges w Input all e = none_are f all e
-node_are count f ranges w (Reg r) all e = none_are f all e
-node_are count f ranges w (MulConst c i) all e = none_are f all e
-node_are count f ranges w (Round i) all e = none_are f all e
-node_are count f ranges w (Add i j) all e = none_are f all e
-node_are count f ranges w (Sub i j) all e = none_are f all e
-node_are count f ranges w (Scale i) all e = none_are f all e
-node_are count f ranges w (Fit i) all e =
-    let o = value_is f (value_range count ranges w) all e in
-    subst (λ (rs : List Range). AreRanges f 1 rs) (sym o.alone) (record { many = refl; words = All-cons (HasWords f) o.ends [] (record { low = o.low; high = o.high }) (All-nil (HasWords f)) })
+node_are : (count : ℕ) (pass : Pass) (ranges : List Range) (w : Weights) (n : Node) (all : List Range) → node_ends count pass ranges w n ≡ shown.Words all → AreRanges pass.format (length (node_exact [] n)) all
+node_are count pass ranges w Input all e = none_are pass.format all e
+node_are count pass ranges w (Reg r) all e = none_are pass.format all e
+node_are count pass ranges w (MulConst c i) all e = none_are pass.format all e
+node_are count pass ranges w (Round i) all e = none_are pass.format all e
+node_are count pass ranges w (Add i j) all e = none_are pass.format all e
+node_are count pass ranges w (Sub i j) all e = none_are pass.format all e
+node_are count pass ranges w (Scale i) all e = none_are pass.format all e
+node_are count pass ranges w (Fit i) all e =
+    let o = value_is pass.format (value_range pass.quantity count ranges w) all e in
+    subst (λ (rs : List Range). AreRanges pass.format 1 rs) (sym o.alone) (record { many = refl; words = All-cons (HasWords pass.format) o.ends [] (record { low = o.low; high = o.high }) (All-nil (HasWords pass.format)) })
 
 -- a walk that shows words was made
 pub record IsShown (here rest : Walk → Ends) (o : Option Walk) (all : List Range) : Type 0 where
@@ -128,9 +126,9 @@ ends_are count pass [] walk all e = none_are pass.format all e
 ends_are count pass (n ∷ ns) walk all e =
     let f = pass.format in
     let i = length walk.weights in
-    let s = shown_is (shown_by count f i n) (ends_from count pass ns) (after_node pass walk n) all e in
-    let p = parts_are (shown_by count f i n s.walk) (ends_from count pass ns s.walk) all s.shows in
-    let a = node_are count f s.walk.ranges (weights_at s.walk.weights i) n p.ranges p.here in
+    let s = shown_is (shown_by count pass i n) (ends_from count pass ns) (after_node pass walk n) all e in
+    let p = parts_are (shown_by count pass i n s.walk) (ends_from count pass ns s.walk) all s.shows in
+    let a = node_are count pass s.walk.ranges (weights_at s.walk.weights i) n p.ranges p.here in
     let b = ends_are count pass ns s.walk p.more p.there in
     subst (λ (rs : List Range). AreRanges f (fits (n ∷ ns)) rs) p.together (record {
       many = length-append p.ranges p.more ∙ rw (a.many, b.many) refl;
@@ -143,20 +141,16 @@ ends_made count pass [] walk all e = (walk, refl)
 ends_made count pass (n ∷ ns) walk all e =
     let f = pass.format in
     let i = length walk.weights in
-    let s = shown_is (shown_by count f i n) (ends_from count pass ns) (after_node pass walk n) all e in
-    let p = parts_are (shown_by count f i n s.walk) (ends_from count pass ns s.walk) all s.shows in
+    let s = shown_is (shown_by count pass i n) (ends_from count pass ns) (after_node pass walk n) all e in
+    let p = parts_are (shown_by count pass i n s.walk) (ends_from count pass ns s.walk) all s.shows in
     let last = ends_made count pass ns s.walk p.more p.there in
     (last.0, ap (λ (o : Option Walk). o >>= walk_from pass ns) s.made ∙ last.1)
 
 -- ---- a sample's ranges, where all of them have words as their ends
-abbrev pub words_in : Ends → Option (List Range)
-words_in (shown.Words ranges) = Some ranges
-words_in (shown.Leaves value) = None
-
 abbrev pub pass_words : ℕ → List Node → Pass → Option (List Range)
-pass_words count nodes pass = words_in (pass_ends count nodes pass)
+pass_words count nodes pass = ranges_in (pass_ends count nodes pass)
 
-pub words_are : (e : Ends) (all : List Range) → words_in e ≡ Some all → e ≡ shown.Words all
+pub words_are : (e : Ends) (all : List Range) → ranges_in e ≡ Some all → e ≡ shown.Words all
 words_are (shown.Words ranges) all h = let same : ranges ≡ all = cc in ap (λ (rs : List Range). shown.Words rs) same
 words_are (shown.Leaves value) all h = absurd cc
 
@@ -183,10 +177,10 @@ hulls_after-are net None ends b a = a
 hulls_after-are net (Some others) ends b a = hulls_are net.format (fits net.nodes) others ends b a
 
 -- what lies in the ranges of the last sample
-pub hulls_after-last : (net : Net) (before : Option (List Range)) (ends : List Range) (vs : List ℤ) → AreBefore net before → AreRanges net.format (fits net.nodes) ends → LieWithin net.format ends vs
-    → LieWithin net.format (hulls_after before ends) vs
-hulls_after-last net None ends vs b a l = l
-hulls_after-last net (Some others) ends vs b a l = hulls_right net.format others ends vs (b.many ∙ sym a.many) b.words l
+pub hulls_after-last : (o : ℤ) (net : Net) (before : Option (List Range)) (ends : List Range) (vs : List ℤ) → pos 0 ≤ℤ o → AreBefore net before → AreRanges net.format (fits net.nodes) ends → LieOver o net.format ends vs
+    → LieOver o net.format (hulls_after before ends) vs
+hulls_after-last o net None ends vs u b a l = l
+hulls_after-last o net (Some others) ends vs u b a l = hulls_right o net.format others ends vs u (b.many ∙ sym a.many) b.words l
 
 pub format_stays : (next : List ℕ) (pass : Pass) (o : Option Walk) → (pass_with next pass o).format ≡ pass.format
 format_stays next pass None = refl
@@ -207,18 +201,18 @@ run_are count net (suc n) pass before all f b e =
     run_are count net n after (Some (hulls_after before one.0)) all (format_after net pass f) (hulls_after-are net before one.0 b (pass_are count net pass one.0 f one.1)) one.2
 
 -- what lies in the ranges before lies in all
-pub run_keeps : (count : ℕ) (net : Net) (n : ℕ) (pass : Pass) (others all : List Range) (vs : List ℤ) → pass.format ≡ net.format → AreRanges net.format (fits net.nodes) others → run_ends count net n pass (Some others) ≡ Some all
-    → LieWithin net.format others vs → LieWithin net.format all vs
-run_keeps count net zero pass others all vs f b e l =
+pub run_keeps : (o : ℤ) (count : ℕ) (net : Net) (n : ℕ) (pass : Pass) (others all : List Range) (vs : List ℤ) → pos 0 ≤ℤ o → pass.format ≡ net.format → AreRanges net.format (fits net.nodes) others → run_ends count net n pass (Some others) ≡ Some all
+    → LieOver o net.format others vs → LieOver o net.format all vs
+run_keeps o count net zero pass others all vs u f b e l =
     let one = some_of (pass_words count net.nodes pass) (λ ends. Some (hulls others ends)) all e in
     let same : hulls others one.0 ≡ all = let g = one.2 in cc in
     let a = pass_are count net pass one.0 f one.1 in
-    subst (λ (rs : List Range). LieWithin net.format rs vs) same (hulls_left net.format others one.0 vs (b.many ∙ sym a.many) l a.words)
-run_keeps count net (suc n) pass others all vs f b e l =
+    subst (λ (rs : List Range). LieOver o net.format rs vs) same (hulls_left o net.format others one.0 vs u (b.many ∙ sym a.many) l a.words)
+run_keeps o count net (suc n) pass others all vs u f b e l =
     let after = after_pass net.nodes net.next pass in
     let one = some_of (pass_words count net.nodes pass) (λ ends. run_ends count net n after (Some (hulls others ends))) all e in
     let a = pass_are count net pass one.0 f one.1 in
-    run_keeps count net n after (hulls others one.0) all vs (format_after net pass f) (hulls_are net.format (fits net.nodes) others one.0 b a) one.2 (hulls_left net.format others one.0 vs (b.many ∙ sym a.many) l a.words)
+    run_keeps o count net n after (hulls others one.0) all vs u (format_after net pass f) (hulls_are net.format (fits net.nodes) others one.0 b a) one.2 (hulls_left o net.format others one.0 vs u (b.many ∙ sym a.many) l a.words)
 
 pub after_are : (count : ℕ) (net : Net) (n : ℕ) (pass : Pass) (ends : List Range) → pass.format ≡ net.format → later_words count net n pass ≡ Some ends → AreRanges net.format (fits net.nodes) ends
 after_are count net zero pass ends f e = pass_are count net pass ends f e

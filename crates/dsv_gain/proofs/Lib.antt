@@ -1,3 +1,4 @@
+mod Given
 mod Values
 mod Weighing
 mod Masses
@@ -10,9 +11,13 @@ mod Nodes
 mod Walking
 mod Hulls
 mod Passes
+mod WordRuns
 mod Pasts
 mod Symbols
 pub mod Gains
+mod ErrorLoops
+pub mod Errors
+pub mod Near
 pub mod Depths
 mod Loops
 pub mod Equations

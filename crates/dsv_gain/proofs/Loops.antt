@@ -90,11 +90,11 @@ walked_first count pass nodes walk ends w r s = record {
 }
 
 ends_more : (count : ℕ) (pass : Pass) (nodes : List Node) (d : Node) (i : ℕ) (walk next : Walk) (ends more : Ends) → i < length nodes → Some next ≡ after_node pass walk (get_or nodes i d)
-    → with_ends ends (ends_from count pass (drop i nodes) walk) ≡ pass_ends count nodes pass → more ≡ with_ends ends (shown_by count pass.format (length walk.weights) (get_or nodes i d) next)
+    → with_ends ends (ends_from count pass (drop i nodes) walk) ≡ pass_ends count nodes pass → more ≡ with_ends ends (shown_by count pass (length walk.weights) (get_or nodes i d) next)
     → with_ends more (ends_from count pass (drop (i + 1) nodes) next) ≡ pass_ends count nodes pass
 ends_more count pass nodes d i walk next ends more l e h q =
     let n = get_or nodes i d in
-    let here = shown_by count pass.format (length walk.weights) n in
+    let here = shown_by count pass (length walk.weights) n in
     let rest = ends_from count pass (drop (i + 1) nodes) in
     ap (λ (m : Ends). with_ends m (rest next)) q
     ∙ sym (with_assoc ends (here next) (rest next))
@@ -119,8 +119,8 @@ pub weights_more : (pass : Pass) (walk next : Walk) (n : Node) → Some next ≡
 weights_more pass walk next n e = let long = weights_long pass walk next n (step_is pass walk n next (sym e)) in omega (arith, long)
 
 pub walked_more : (count : ℕ) (pass : Pass) (nodes : List Node) (d : Node) (i : ℕ) (walk next : Walk) (ends more : SampleEnds) → i < length nodes → Walked count pass nodes i walk ends
-    → Some next ≡ after_node pass walk (get_or nodes i d) → more.run ≡ with_ends ends.run (shown_by count pass.format (length walk.weights) (get_or nodes i d) next)
-    → more.step ≡ with_ends ends.step (shown_by 0 pass.format (length walk.weights) (get_or nodes i d) next) → Walked count pass nodes (i + 1) next more
+    → Some next ≡ after_node pass walk (get_or nodes i d) → more.run ≡ with_ends ends.run (shown_by count pass (length walk.weights) (get_or nodes i d) next)
+    → more.step ≡ with_ends ends.step (shown_by 0 pass (length walk.weights) (get_or nodes i d) next) → Walked count pass nodes (i + 1) next more
 walked_more count pass nodes d i walk next ends more l w e q r = record {
   walk_is = ap (λ (o : Option Walk). o >>= walk_from pass (drop (i + 1) nodes)) e ∙ sym (ap (λ (ns : List Node). walk_from pass ns walk) (drop_more nodes i d l)) ∙ w.walk_is;
   run_is = ends_more count pass nodes d i walk next ends.run more.run l e w.run_is q;
@@ -134,7 +134,7 @@ ends_left : (count : ℕ) (pass : Pass) (nodes : List Node) (d : Node) (i : ℕ)
 ends_left count pass nodes d i walk ends last l e h q =
     let n = get_or nodes i d in
     q
-    ∙ ap (λ (o : Option Walk). with_ends ends (then_ends (shown.Leaves 0) (shown_by count pass.format (length walk.weights) n) (ends_from count pass (drop (i + 1) nodes)) o)) e
+    ∙ ap (λ (o : Option Walk). with_ends ends (then_ends (shown.Leaves 0) (shown_by count pass (length walk.weights) n) (ends_from count pass (drop (i + 1) nodes)) o)) e
     ∙ sym (ap (λ (ns : List Node). with_ends ends (ends_from count pass ns walk)) (drop_more nodes i d l))
     ∙ h
 

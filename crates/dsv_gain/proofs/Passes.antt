@@ -3,24 +3,26 @@ use Rattle.std.proofs.Common.{◌≡◌, ℕ, zero, suc, ◌+◌, ◌^◌, ◌<�
 use Rattle.std.specs.Prelude.{Option, Some, None}
 use Rattle.std.specs.List.{All}
 use Rattle.std.proofs.Math.IntN.{ℤ, pos, ◌*ℤ◌}
+use Rattle.std.proofs.lemmas.Int.{ints}
+use lib.Signed.{◌≤ℤ◌}
 use Rattle.std.proofs.lemmas.Bool.{cases_lt}
 use Rattle.std.proofs.lemmas.List.{get_or_past, get_or-map, length-map}
 use Rattle.std.proofs.lemmas.List.Elements.{All-head, All-tail, All-nil, All-cons}
-use Rattle.dsv_word.specs.Words.{IsWord}
-use Rattle.dsv_system.specs.Runs.{SampleRow, row_at, rows_from}
-use Rattle.dsv_netlist.specs.Nodes.{Net, at, step_of}
+use Rattle.dsv_netlist.specs.Nodes.{Net, at}
 use Rattle.dsv_linear.specs.Facts.{Between}
 use Rattle.dsv_linear.specs.declared.range.Range.{Range}
 use Rattle.dsv_linear.specs.Forms.{scale, range_at}
 use Rattle.dsv_linear.specs.Meaning as meaning
 use Rattle.dsv_linear.proofs.Numbers.{some_of, times_none}
 use Rattle.dsv_gain.specs.declared.ends.Ends.TheVariants as shown
+use Rattle.dsv_gain.specs.declared.pass.Quantity.{Quantity}
+use Rattle.dsv_gain.specs.declared.pass.Quantity.TheVariants as quantity
 use Rattle.dsv_gain.specs.declared.pass.Pass.{Pass}
 use Rattle.dsv_gain.specs.declared.walk.Walk.{Walk}
 use Rattle.dsv_gain.specs.Samples.{walk_from, begun, pass_ends, pass_with, after_pass}
 use Rattle.dsv_gain.specs.Gains.{hulls_after}
-use Rattle.dsv_gain.specs.Safe.{LieWithin}
-use Rattle.dsv_gain.proofs.Values.{rest_of, lie_words}
+use Rattle.dsv_gain.proofs.Given.{IsOver, Fits, AreGiven, fitted_in, RunsGiven}
+use Rattle.dsv_gain.proofs.Values.{LieOver, lie_fits}
 use Rattle.dsv_gain.proofs.Masses.{mass_same, mass_none, grid_shift}
 use Rattle.dsv_gain.proofs.Walks.{form_of, walk_or, walk_or_is, coefficients, Means}
 use Rattle.dsv_gain.proofs.Solutions.{AreAges, Solution}
@@ -43,16 +45,17 @@ finals net first a = walk_or (starts net first a) (walk_from (pass_after net fir
 abbrev pub IsMade : Net → Pass → Type 0
 IsMade net pass = (final : Walk) × (walk_from pass net.nodes (begun pass) ≡ Some final)
 
--- between samples: the words in the registers are those of their forms, where the first so many
+-- between samples: the numbers in the registers are those of their forms, where the first so many
 -- symbols are 0
-pub record Stands (silent : ℕ) (net : Net) (low high : ℤ) (pass : Pass) (words : List ℤ) : Type 0 where
+pub record Stands (silent : ℕ) (net : Net) (g : Quantity) (over low high : ℤ) (pass : Pass) (words : List ℤ) : Type 0 where
   pub first : Pass
   pub n : ℕ
   pub m : ℕ
   pub t : ℕ
   pub pass_is : pass ≡ pass_after net first t
-  pub ages : AreAges n m net.format t (pass_after net first)
-  pub solution : Solution silent n m t n (pass_after net first) (starts net first) words []
+  pub ages : AreAges n m net.format g t (pass_after net first)
+  pub solution : Solution silent n m t n over (pass_after net first) (starts net first) words []
+  pub is_over : IsOver g over
   pub less : silent ≤ n
   pub room : n + symbols_in net.nodes ≡ m
   pub takes : AreTaken low high (pass_after net first t).ranges n net.nodes
@@ -68,12 +71,13 @@ all_made net first t old now a l = elim (cases_lt a t) [
       walk_or_is (starts net first a) (walk_from (pass_after net first a) net.nodes (starts net first a)) g.0 g.1)
 ]
 
-midway : {silent : ℕ} {net : Net} {low high : ℤ} {pass : Pass} {words : List ℤ} (s : Stands silent net low high pass words) (x : ℤ) → Between low high x → IsMade net pass
-    → Midway silent s.n s.m s.t s.n net.format low high (pass_after net s.first) (starts net s.first) (finals net s.first) words [] x net.nodes
-midway {silent} {net} {low} {high} {pass} {words} s x b made = record {
+midway : {silent : ℕ} {net : Net} {g : Quantity} {over low high : ℤ} {pass : Pass} {words : List ℤ} (s : Stands silent net g over low high pass words) (x : ℤ) → Between low high x → IsMade net pass
+    → Midway silent s.n s.m s.t s.n net.format g over low high (pass_after net s.first) (starts net s.first) (finals net s.first) words [] x net.nodes
+midway {silent} {net} {g} {over} {low} {high} {pass} {words} s x b made = record {
   ages = s.ages;
   walks = record { long = λ a l. refl; own_is = λ a l. s.ages.count a l; few = omega arith; none = λ i j l. refl };
   solution = s.solution;
+  is_over = s.is_over;
   long = s.ages.long s.t (omega arith);
   less = s.less;
   room = s.room;
@@ -122,10 +126,10 @@ aged_lies : (k : ℤ) (us : ℕ → ℕ → ℤ) (rs : List Range) (n m t j a : 
 aged_lies k us rs n m t j zero l p q h old = elim h [ inl r ↦ absurd (omega (arith, r)) | inr r ↦ absurd (omega (arith, p, r)) ]
 aged_lies k us rs n m t j (suc a) l p q h old = old a (omega (arith, l))
 
--- after a sample whose exact values are words
-next_stands : (silent : ℕ) (net : Net) (low high : ℤ) (pass : Pass) (words : List ℤ) (x : ℤ) → Between low high x → IsMade net pass → All (IsWord net.format) (step_of net words x).exact → Stands silent net low high pass words
-    → Stands silent net low high (after_pass net.nodes net.next pass) (step_of net words x).past
-next_stands silent net low high pass words x b made e s =
+-- after a sample in which fitting changes nothing
+next_stands : (silent : ℕ) (net : Net) (g : Quantity) (over low high : ℤ) (pass : Pass) (words : List ℤ) (x : ℤ) (values : List ℤ) → Between low high x → IsMade net pass → AreGiven net.format g over words x [] net.nodes values
+    → All (Fits net.format g) (fitted_in [] net.nodes values) → Stands silent net g over low high pass words → Stands silent net g over low high (after_pass net.nodes net.next pass) (map (at values) net.next)
+next_stands silent net g over low high pass words x values b made h e s =
     let first = s.first in
     let t = s.t in
     let n = s.n in
@@ -133,8 +137,7 @@ next_stands silent net low high pass words x b made e s =
     let ps = pass_after net first in
     let f = net.format in
     let made_all = all_made net first t s.made (subst (IsMade net) s.pass_is made) in
-    let values = (rest_of f words x net.nodes []).values in
-    let d = walked ps (starts net first) (finals net first) words [] x net.nodes (midway s x b made) e in
+    let d = walked ps (starts net first) (finals net first) words [] x net.nodes values (midway s x b made) h e in
     let last = later_is net first t (made_all t (omega arith)) in
     let sol = d.solution in
     let us = aged sol.us in
@@ -151,6 +154,7 @@ next_stands silent net low high pass words x b made e s =
         count = λ a l. up_to t (λ a. (ps a).count ≡ n) s.ages.count (ap (λ (p : Pass). p.count) last ∙ s.ages.count t (omega arith)) a l;
         long = λ a l. up_to t (λ a. length (ps a).ranges ≡ m) s.ages.long (ap (λ (p : Pass). length p.ranges) last ∙ d.long) a l;
         format = λ a l. up_to t (λ a. (ps a).format ≡ f) s.ages.format (ap (λ (p : Pass). p.format) last ∙ s.ages.format t (omega arith)) a l;
+        quantity = λ a l. up_to t (λ a. (ps a).quantity ≡ g) s.ages.quantity (ap (λ (p : Pass). p.quantity) last ∙ s.ages.quantity t (omega arith)) a l;
         first = s.ages.first;
         later = λ a l. elim (cases_lt a t) [
           | inl p ↦ s.ages.later a p
@@ -160,12 +164,15 @@ next_stands silent net low high pass words x b made e s =
       };
       solution = record {
         k = sol.k;
+        base = sol.base;
         us = us;
         positive = sol.positive;
+        whole = sol.whole;
+        above = sol.above;
         none = λ a j l. aged_none sol.us (λ b j. j < silent) (λ b j q. sol.none b j q) a j (λ b q. l);
         past = λ a j l h. aged_none sol.us (λ b j. (b < t) × (j < n)) (λ b j q. sol.past b j q.0 q.1) a j (λ b q. (omega (arith, l, q), h));
-        start = λ j l. subst (λ (p : Pass). meaning.LiesIn sol.k (range_at p.ranges j) (sol.us t j)) (sym last) (sol.start j l);
-        lies = λ a j l p q h. subst (λ (z : Pass). meaning.LiesIn sol.k (range_at z.ranges j) (us a j)) (sym last) (aged_lies sol.k sol.us (finals net first t).ranges n m t j a l p q h
+        start = λ j l. subst (λ (p : Pass). meaning.LiesIn sol.base (range_at p.ranges j) (sol.us t j)) (sym last) (sol.start j l);
+        lies = λ a j l p q h. subst (λ (z : Pass). meaning.LiesIn sol.base (range_at z.ranges j) (us a j)) (sym last) (aged_lies sol.base sol.us (finals net first t).ranges n m t j a l p q h
             (λ c r. sol.lies c j r p q (inr (omega (arith, q, full)))));
         many = ap (λ (p : Pass). length p.registers) last ∙ length-map net.next (λ i. form_of (finals net first t).forms i) ∙ sym long_past;
         loaded = λ r l.
@@ -179,6 +186,7 @@ next_stands silent net low high pass words x b made e s =
             ∙ sym (grid_shift m (suc t) (λ a j. c a j *ℤ us a j) (λ j q. times_none (c 0 j))));
         stand = λ i l. absurd (omega (arith, l));
       };
+      is_over = s.is_over;
       less = s.less;
       room = s.room;
       takes = subst (λ (p : Pass). AreTaken low high p.ranges n net.nodes) (sym last) (taken_wider low high (ps t).ranges (finals net first t).ranges n net.nodes d.wider s.takes);
@@ -186,45 +194,52 @@ next_stands silent net low high pass words x b made e s =
       made = λ a l. (finals net first a, made_all a (omega (arith, l)));
     }
 
-sample_lies : (count : ℕ) (net : Net) (low high : ℤ) (pass : Pass) (words : List ℤ) (x : ℤ) (ends : List Range) → Between low high x → pass_words count net.nodes pass ≡ Some ends → Stands count net low high pass words
-    → LieWithin net.format ends (step_of net words x).exact
-sample_lies count net low high pass words x ends b g s =
-    let e = words_are (pass_ends count net.nodes pass) ends g in
+-- a sample's exact values lie in these ranges
+abbrev pub LiesIn : Net → ℤ → List Range → List ℤ → Type 0
+LiesIn net over ends values = LieOver over net.format ends (fitted_in [] net.nodes values)
+
+sample_lies : (count : ℕ) (net : Net) (g : Quantity) (over low high : ℤ) (pass : Pass) (words : List ℤ) (x : ℤ) (values : List ℤ) (ends : List Range) → Between low high x → pass_words count net.nodes pass ≡ Some ends
+    → AreGiven net.format g over words x [] net.nodes values → Stands count net g over low high pass words → LiesIn net over ends values
+sample_lies count net g over low high pass words x values ends b w h s =
+    let e = words_are (pass_ends count net.nodes pass) ends w in
     let made = ends_made count pass net.nodes (begun pass) ends e in
-    walk_lies (pass_after net s.first) (starts net s.first) (finals net s.first) words [] x count net.nodes ends (midway s x b made) (omega arith)
+    walk_lies (pass_after net s.first) (starts net s.first) (finals net s.first) words [] x count net.nodes values ends (midway s x b made) (omega arith) h
     (subst (λ (p : Pass). pass_ends count net.nodes p ≡ shown.Words ends) s.pass_is e)
 
 -- a sample that shows all values was made
 words_made : (count : ℕ) (net : Net) (pass : Pass) (ends : List Range) → pass_words count net.nodes pass ≡ Some ends → IsMade net pass
 words_made count net pass ends g = ends_made count pass net.nodes (begun pass) ends (words_are (pass_ends count net.nodes pass) ends g)
 
--- ---- the first samples
--- a sample's exact values lie in these ranges
-abbrev pub LiesIn : Net → List Range → SampleRow → Type 0
-LiesIn net ends r = LieWithin net.format ends r.exact
+over_positive : (g : Quantity) (over : ℤ) → IsOver g over → pos 0 ≤ℤ over
+over_positive quantity.Words over o = omega (arith, ints, o)
+over_positive (quantity.Differences multiples) over o = omega (arith, ints, o)
 
-pub run_lies : (count : ℕ) (net : Net) (low high : ℤ) (n : ℕ) (xs : List ℤ) (pass : Pass) (words : List ℤ) (before : Option (List Range)) (all : List Range) → pass.format ≡ net.format → All (Between low high) xs → AreBefore net before
-    → run_ends count net n pass before ≡ Some all → Stands count net low high pass words → All (LiesIn net all) (take (suc n) (rows_from (step_of net) words xs))
-run_lies count net low high n [] pass words before all e a p g s = All-nil (LiesIn net all)
-run_lies count net low high zero (x ∷ xs) pass words before all e a p g s =
-    let step = step_of net words x in
-    let one = some_of (pass_words count net.nodes pass) (λ ends. Some (hulls_after before ends)) all g in
+-- ---- the first samples
+pub run_lies : (count : ℕ) (net : Net) (g : Quantity) (over low high : ℤ) (n : ℕ) (xs : List ℤ) (samples : List (List ℤ)) (pass : Pass) (words : List ℤ) (before : Option (List Range)) (all : List Range) → pass.format ≡ net.format → All (Between low high) xs
+    → AreBefore net before → run_ends count net n pass before ≡ Some all → RunsGiven net g over words xs samples → Stands count net g over low high pass words → All (LiesIn net over all) (take (suc n) samples)
+run_lies count net g over low high n [] [] pass words before all e a p w h s = All-nil (LiesIn net over all)
+run_lies count net g over low high n [] (values ∷ samples) pass words before all e a p w h s = absurd h
+run_lies count net g over low high n (x ∷ xs) [] pass words before all e a p w h s = absurd h
+run_lies count net g over low high zero (x ∷ xs) (values ∷ samples) pass words before all e a p w h s =
+    let one = some_of (pass_words count net.nodes pass) (λ ends. Some (hulls_after before ends)) all w in
     let same : hulls_after before one.0 ≡ all = let h = one.2 in cc in
-    let here = sample_lies count net low high pass words x one.0 (All-head (Between low high) x xs a) one.1 s in
-    let lies = hulls_after-last net before one.0 step.exact p (pass_are count net pass one.0 e one.1) here in
-    All-cons (LiesIn net all) (row_at step x) [] (subst (λ (rs : List Range). LieWithin net.format rs step.exact) same lies) (All-nil (LiesIn net all))
-run_lies count net low high (suc n) (x ∷ xs) pass words before all e a p g s =
-    let step = step_of net words x in
+    let here = sample_lies count net g over low high pass words x values one.0 (All-head (Between low high) x xs a) one.1 h.0 s in
+    let exact = fitted_in [] net.nodes values in
+    let lies = hulls_after-last over net before one.0 exact (over_positive g over s.is_over) p (pass_are count net pass one.0 e one.1) here in
+    All-cons (LiesIn net over all) values [] (subst (λ (rs : List Range). LieOver over net.format rs exact) same lies) (All-nil (LiesIn net over all))
+run_lies count net g over low high (suc n) (x ∷ xs) (values ∷ samples) pass words before all e a p w h s =
+    let up = over_positive g over s.is_over in
     let after = after_pass net.nodes net.next pass in
-    let one = some_of (pass_words count net.nodes pass) (λ ends. run_ends count net n after (Some (hulls_after before ends))) all g in
+    let one = some_of (pass_words count net.nodes pass) (λ ends. run_ends count net n after (Some (hulls_after before ends))) all w in
     let now = hulls_after before one.0 in
-    let here = sample_lies count net low high pass words x one.0 (All-head (Between low high) x xs a) one.1 s in
+    let exact = fitted_in [] net.nodes values in
+    let here = sample_lies count net g over low high pass words x values one.0 (All-head (Between low high) x xs a) one.1 h.0 s in
     let are = pass_are count net pass one.0 e one.1 in
     let kept = hulls_after-are net before one.0 p are in
-    All-cons (LiesIn net all) (row_at step x) (take (suc n) (rows_from (step_of net) step.past xs))
-    (run_keeps count net n after now all step.exact (format_after net pass e) kept one.2 (hulls_after-last net before one.0 step.exact p are here))
-    (run_lies count net low high n xs after step.past (Some now) all (format_after net pass e) (All-tail (Between low high) x xs a) kept one.2
-    (next_stands count net low high pass words x (All-head (Between low high) x xs a) (words_made count net pass one.0 one.1) (lie_words net.format one.0 step.exact here) s))
+    All-cons (LiesIn net over all) values (take (suc n) samples)
+    (run_keeps over count net n after now all exact up (format_after net pass e) kept one.2 (hulls_after-last over net before one.0 exact up p are here))
+    (run_lies count net g over low high n xs samples after (map (at values) net.next) (Some now) all (format_after net pass e) (All-tail (Between low high) x xs a) kept one.2 h.1
+    (next_stands count net g over low high pass words x values (All-head (Between low high) x xs a) (words_made count net pass one.0 one.1) h.0 (lie_fits g over net.format one.0 exact s.is_over here) s))
 
 -- ---- the sample that comes after so many
 -- a pass that is given up stands still, so what shows a later sample was made on the way
@@ -242,34 +257,27 @@ later_made count net (suc n) pass ends g = elim (made_cases (walk_from pass net.
   | inr p ↦ later_made count net n pass ends (sym (ap (later_words count net n) (stands_still net pass p)) ∙ g)
 ]
 
--- where the samples before have Q, by which their exact values are words, it has Q too
-pub next_has : (count : ℕ) (net : Net) (low high : ℤ) (Q : SampleRow → Type 0) (n : ℕ) (xs : List ℤ) (pass : Pass) (words : List ℤ) (ends : List Range) → All (Between low high) xs
-    → ((r : SampleRow) → Q r → All (IsWord net.format) r.exact) → ((r : SampleRow) → LiesIn net ends r → Q r) → later_words count net n pass ≡ Some ends → Stands count net low high pass words
-    → All Q (take n (rows_from (step_of net) words xs)) → All Q (take (suc n) (rows_from (step_of net) words xs))
-next_has count net low high Q n [] pass words ends a w q g s h = All-nil Q
-next_has count net low high Q zero (x ∷ xs) pass words ends a w q g s h =
-    let row = row_at (step_of net words x) x in
-    All-cons Q row [] (q row (sample_lies count net low high pass words x ends (All-head (Between low high) x xs a) g s)) (All-nil Q)
-next_has count net low high Q (suc n) (x ∷ xs) pass words ends a w q g s h =
-    let step = step_of net words x in
-    let row = row_at step x in
-    let rows = rows_from (step_of net) step.past xs in
-    let here = All-head Q row (take n rows) h in
-    All-cons Q row (take (suc n) rows) here
-    (next_has count net low high Q n xs (after_pass net.nodes net.next pass) step.past ends (All-tail (Between low high) x xs a) w q g
-    (next_stands count net low high pass words x (All-head (Between low high) x xs a) (later_made count net (suc n) pass ends g) (w row here) s) (All-tail Q row (take n rows) h))
+-- where the samples before have Q, so that fitting changes nothing in them, it has Q too
+pub next_has : (count : ℕ) (net : Net) (g : Quantity) (over low high : ℤ) (Q : List ℤ → Type 0) (n : ℕ) (xs : List ℤ) (samples : List (List ℤ)) (pass : Pass) (words : List ℤ) (ends : List Range) → All (Between low high) xs
+    → ((values : List ℤ) → Q values → All (Fits net.format g) (fitted_in [] net.nodes values)) → ((values : List ℤ) → LiesIn net over ends values → Q values) → later_words count net n pass ≡ Some ends
+    → RunsGiven net g over words xs samples → Stands count net g over low high pass words → All Q (take n samples) → All Q (take (suc n) samples)
+next_has count net g over low high Q n [] [] pass words ends a w q e r s h = All-nil Q
+next_has count net g over low high Q n [] (values ∷ samples) pass words ends a w q e r s h = absurd r
+next_has count net g over low high Q n (x ∷ xs) [] pass words ends a w q e r s h = absurd r
+next_has count net g over low high Q zero (x ∷ xs) (values ∷ samples) pass words ends a w q e r s h =
+    All-cons Q values [] (q values (sample_lies count net g over low high pass words x values ends (All-head (Between low high) x xs a) e r.0 s)) (All-nil Q)
+next_has count net g over low high Q (suc n) (x ∷ xs) (values ∷ samples) pass words ends a w q e r s h =
+    let here = All-head Q values (take n samples) h in
+    All-cons Q values (take (suc n) samples) here
+    (next_has count net g over low high Q n xs samples (after_pass net.nodes net.next pass) (map (at values) net.next) ends (All-tail (Between low high) x xs a) w q e r.1
+    (next_stands count net g over low high pass words x values (All-head (Between low high) x xs a) (later_made count net (suc n) pass ends e) r.0 (w values here) s) (All-tail Q values (take n samples) h))
 
 -- ---- all samples
--- where, from all words with P, the sample after n others has Q if these have, and the first n have, then all have
-pub all_have : (net : Net) (P : List ℤ → Type 0) (In : ℤ → Type 0) (Q : SampleRow → Type 0) (n : ℕ)
-    → ((words : List ℤ) (x : ℤ) → In x → P words → P (step_of net words x).past)
-    → ((words xs : List ℤ) → All In xs → P words → All Q (take n (rows_from (step_of net) words xs)) → All Q (take (suc n) (rows_from (step_of net) words xs)))
-    → (words xs : List ℤ) → All In xs → P words → All Q (take n (rows_from (step_of net) words xs)) → All Q (rows_from (step_of net) words xs)
-all_have net P In Q n keeps more words [] a p h = All-nil Q
-all_have net P In Q n keeps more words (x ∷ xs) a p h =
-    let step = step_of net words x in
-    let row = row_at step x in
-    let rows = rows_from (step_of net) step.past xs in
-    let first = more words (x ∷ xs) a p h in
-    All-cons Q row rows (All-head Q row (take n rows) first)
-    (all_have net P In Q n keeps more step.past xs (All-tail In x xs a) (keeps words x (All-head In x xs a) p) (All-tail Q row (take n rows) first))
+-- where, from all states with P, the sample after n others has Q if these have, and the first n have, then all have
+pub all_have : {X : Type 0} (P : List X → Type 0) (Q : X → Type 0) (n : ℕ) → ((x : X) (xs : List X) → P (x ∷ xs) → Q x → P xs) → ((xs : List X) → P xs → All Q (take n xs) → All Q (take (suc n) xs))
+    → (xs : List X) → P xs → All Q (take n xs) → All Q xs
+all_have P Q n keeps more [] p h = All-nil Q
+all_have P Q n keeps more (x ∷ xs) p h =
+    let first = more (x ∷ xs) p h in
+    let here = All-head Q x (take n xs) first in
+    All-cons Q x xs here (all_have P Q n keeps more xs (keeps x xs p here) (All-tail Q x (take n xs) first))

@@ -2,6 +2,7 @@
 use Rattle.std.proofs.Common.{◌≡◌, ℕ, zero, suc, ◌<◌, ◌≤◌, inl, inr, ◌⊎◌, Bool, true, false, if◌then◌else◌, List, [], ◌∷◌, ◌++◌, length, refl, sym, subst, ap, ◌∙◌, arith, rules}
 use Rattle.std.specs.Prelude.{Some, ◌==◌}
 use Rattle.std.proofs.Math.IntN.{ℤ, pos, ◌*ℤ◌}
+use Rattle.dsv_algebra.proofs.Normaliser.{ring, env, var, times}
 use Rattle.std.proofs.lemmas.Bool.{cases_lt}
 use Rattle.std.proofs.lemmas.List.{get_or_append_left, get_or_push, get_or_past, length_push}
 use lib.Signed.{◌<ℤ◌}
@@ -15,6 +16,7 @@ use Rattle.dsv_linear.specs.Forms.{range_at}
 use Rattle.dsv_linear.specs.Meaning.{LiesIn}
 use Rattle.dsv_linear.proofs.Numbers.{times_none}
 use Rattle.dsv_linear.proofs.Meanings.{lies_grown}
+use Rattle.dsv_gain.specs.declared.pass.Quantity.{Quantity}
 use Rattle.dsv_gain.specs.declared.pass.Pass.{Pass}
 use Rattle.dsv_gain.specs.declared.walk.Walk.{Walk}
 use Rattle.dsv_gain.specs.Samples.{own_after, after_node}
@@ -24,10 +26,11 @@ use Rattle.dsv_gain.proofs.Widening.{IsWider, lies_wider}
 
 -- ---- samples one after another, up to number t
 -- the passes before them: over m symbols, of which the registers begin with n
-pub record AreAges (n m : ℕ) (f : Format) (t : ℕ) (ps : ℕ → Pass) : Type 0 where
+pub record AreAges (n m : ℕ) (f : Format) (g : Quantity) (t : ℕ) (ps : ℕ → Pass) : Type 0 where
   pub count : (a : ℕ) → a ≤ t → (ps a).count ≡ n
   pub long : (a : ℕ) → a ≤ t → length (ps a).ranges ≡ m
   pub format : (a : ℕ) → a ≤ t → (ps a).format ≡ f
+  pub quantity : (a : ℕ) → a ≤ t → (ps a).quantity ≡ g
   pub first : (ps 0).is_first ≡ true
   pub later : (a : ℕ) → a < t → (ps (suc a)).is_first ≡ false
   pub none : (r j : ℕ) → n ≤ j → at (form_of (ps 0).registers r) j ≡ pos 0
@@ -35,9 +38,9 @@ pub record AreAges (n m : ℕ) (f : Format) (t : ℕ) (ps : ℕ → Pass) : Type
 not_zero : (a : ℕ) → (suc a == 0) ≡ false
 not_zero a = search rules
 
-pub first_at : (n m : ℕ) (f : Format) (t : ℕ) (ps : ℕ → Pass) (a : ℕ) → AreAges n m f t ps → a ≤ t → (ps a).is_first ≡ (a == 0)
-first_at n m f t ps zero g l = g.first
-first_at n m f t ps (suc a) g l = g.later a (omega arith) ∙ sym (not_zero a)
+pub first_at : (n m : ℕ) (f : Format) (g : Quantity) (t : ℕ) (ps : ℕ → Pass) (a : ℕ) → AreAges n m f g t ps → a ≤ t → (ps a).is_first ≡ (a == 0)
+first_at n m f g t ps zero h l = h.first
+first_at n m f g t ps (suc a) h l = h.later a (omega arith) ∙ sym (not_zero a)
 
 -- how far each has come: as far as these values, with as many symbols before the next one; the
 -- newest symbols are in no form before they come
@@ -47,17 +50,21 @@ pub record AreWalks (n own t : ℕ) (ws : ℕ → Walk) (vs : List ℤ) : Type 0
   pub few : n ≤ own
   pub none : (i j : ℕ) → own ≤ j → at (form_of (ws 0).forms i) j ≡ pos 0
 
--- there are a denominator and symbols, over which the words in the registers and the values so far
--- are those of their forms; the symbols that registers begin with are 0 but before the first sample,
--- and the first so many at all times
-pub record Solution (silent n m t own : ℕ) (ps : ℕ → Pass) (ws : ℕ → Walk) (words vs : List ℤ) : Type 0 where
+-- there are a denominator and symbols, over which these numbers in the registers and the values so
+-- far, which stand for fractions over a denominator of their own, are those of their forms; the
+-- symbols that registers begin with are 0 but before the first sample, and the first so many at all
+-- times
+pub record Solution (silent n m t own : ℕ) (over : ℤ) (ps : ℕ → Pass) (ws : ℕ → Walk) (words vs : List ℤ) : Type 0 where
   pub k : ℤ
+  pub base : ℤ
   pub us : ℕ → ℕ → ℤ
   pub positive : pos 0 <ℤ k
+  pub whole : base ≡ k *ℤ over
+  pub above : pos 0 <ℤ base
   pub none : (a j : ℕ) → j < silent → us a j ≡ pos 0
   pub past : (a j : ℕ) → a < t → j < n → us a j ≡ pos 0
-  pub start : (j : ℕ) → j < n → LiesIn k (range_at (ws t).ranges j) (us t j)
-  pub lies : (a j : ℕ) → a ≤ t → n ≤ j → j < m → (0 < a) ⊎ (j < own) → LiesIn k (range_at (ws t).ranges j) (us a j)
+  pub start : (j : ℕ) → j < n → LiesIn base (range_at (ws t).ranges j) (us t j)
+  pub lies : (a j : ℕ) → a ≤ t → n ≤ j → j < m → (0 < a) ⊎ (j < own) → LiesIn base (range_at (ws t).ranges j) (us a j)
   pub many : length (ps t).registers ≡ length words
   pub loaded : (r : ℕ) → r < length words → Means m t k us (coefficients (λ a. (ps a).registers) r) (at words r)
   pub stand : (i : ℕ) → i < length vs → Means m t k us (coefficients (λ a. (ws a).forms) i) (at vs i)
@@ -139,17 +146,20 @@ stand_more m t k us ps ws node vs v long made old new i p =
     ]
 
 -- a node that brings no symbol
-pub solution_plain : {silent n m t own : ℕ} (ps : ℕ → Pass) (ws : ℕ → Walk) (node : Node) (words vs : List ℤ) (v : ℤ) (s : Solution silent n m t own ps ws words vs) → AreWalks n own t ws vs → AreMade t ps ws node
-    → own_after own node ≡ own → (after ps ws node t).ranges ≡ (ws t).ranges → Means m t s.k s.us (newest ps ws node vs) v → Solution silent n m t (own_after own node) ps (after ps ws node) words (vs ++ v ∷ [])
-solution_plain {silent} {n} {m} {t} {own} ps ws node words vs v s w made o r new =
-    subst (λ (x : ℕ). Solution silent n m t x ps (after ps ws node) words (vs ++ v ∷ [])) (sym o) (record {
+pub solution_plain : {silent n m t own : ℕ} {over : ℤ} (ps : ℕ → Pass) (ws : ℕ → Walk) (node : Node) (words vs : List ℤ) (v : ℤ) (s : Solution silent n m t own over ps ws words vs) → AreWalks n own t ws vs → AreMade t ps ws node
+    → own_after own node ≡ own → (after ps ws node t).ranges ≡ (ws t).ranges → Means m t s.k s.us (newest ps ws node vs) v → Solution silent n m t (own_after own node) over ps (after ps ws node) words (vs ++ v ∷ [])
+solution_plain {silent} {n} {m} {t} {own} {over} ps ws node words vs v s w made o r new =
+    subst (λ (x : ℕ). Solution silent n m t x over ps (after ps ws node) words (vs ++ v ∷ [])) (sym o) (record {
       k = s.k;
+      base = s.base;
       us = s.us;
       positive = s.positive;
+      whole = s.whole;
+      above = s.above;
       none = s.none;
       past = s.past;
-      start = λ j l. subst (λ (rs : List Range). LiesIn s.k (range_at rs j) (s.us t j)) (sym r) (s.start j l);
-      lies = λ a j l p q h. subst (λ (rs : List Range). LiesIn s.k (range_at rs j) (s.us a j)) (sym r) (s.lies a j l p q h);
+      start = λ j l. subst (λ (rs : List Range). LiesIn s.base (range_at rs j) (s.us t j)) (sym r) (s.start j l);
+      lies = λ a j l p q h. subst (λ (rs : List Range). LiesIn s.base (range_at rs j) (s.us a j)) (sym r) (s.lies a j l p q h);
       many = s.many;
       loaded = s.loaded;
       stand = stand_more m t s.k s.us ps ws node vs v w.long made s.stand new;
@@ -187,26 +197,33 @@ placed_lies false own a j k s u v rs ss e p q w l h old =
       | inr g ↦ later_here own a j e g
     ])))
 
-pub solution_symbol : {silent n m t own : ℕ} (ps : ℕ → Pass) (ws : ℕ → Walk) (node : Node) (words vs : List ℤ) (v growth u : ℤ) (s : Solution silent n m t own ps ws words vs) (f : Format) → AreAges n m f t ps → AreWalks n own t ws vs
-    → AreMade t ps ws node → own_after own node ≡ suc own → silent ≤ n → pos 0 <ℤ growth → IsWider (ws t).ranges (after ps ws node t).ranges → LiesIn (s.k *ℤ growth) (range_at (after ps ws node t).ranges own) u
-    → Means m t (s.k *ℤ growth) (placed growth own s.us u) (newest ps ws node vs) v → Solution silent n m t (own_after own node) ps (after ps ws node) words (vs ++ v ∷ [])
-solution_symbol {silent} {n} {m} {t} {own} ps ws node words vs v growth u s f ages w made o z p wide lies new =
+stretched : (b k g o : ℤ) → b ≡ k *ℤ o → b *ℤ g ≡ k *ℤ g *ℤ o
+stretched b k g o e = rw e (ring (env (k ∷ g ∷ o ∷ [])) (times (times (var 0) (var 2)) (var 1)) (times (times (var 0) (var 1)) (var 2)) refl)
+
+pub solution_symbol : {silent n m t own : ℕ} {over : ℤ} (ps : ℕ → Pass) (ws : ℕ → Walk) (node : Node) (words vs : List ℤ) (v growth u : ℤ) (s : Solution silent n m t own over ps ws words vs) (f : Format) (g : Quantity) → AreAges n m f g t ps → AreWalks n own t ws vs
+    → AreMade t ps ws node → own_after own node ≡ suc own → silent ≤ n → pos 0 <ℤ growth → IsWider (ws t).ranges (after ps ws node t).ranges → LiesIn (s.base *ℤ growth) (range_at (after ps ws node t).ranges own) u
+    → Means m t (s.k *ℤ growth) (placed growth own s.us u) (newest ps ws node vs) v → Solution silent n m t (own_after own node) over ps (after ps ws node) words (vs ++ v ∷ [])
+solution_symbol {silent} {n} {m} {t} {own} {over} ps ws node words vs v growth u s f g ages w made o z p wide lies new =
     let k = s.k *ℤ growth in
+    let base = s.base *ℤ growth in
     let us = placed growth own s.us u in
     let few = w.few in
-    let up = mul_positive s.k growth s.positive p in
+    let up = mul_positive s.base growth s.above p in
     let grown : (c : ℕ → ℕ → ℤ) (x : ℤ) → c 0 own ≡ pos 0 → Means m t s.k s.us c x → Means m t k us c x = λ c x e h. means_grown m t own s.k growth u s.us c x e h in
-    subst (λ (x : ℕ). Solution silent n m t x ps (after ps ws node) words (vs ++ v ∷ [])) (sym o) (record {
+    subst (λ (x : ℕ). Solution silent n m t x over ps (after ps ws node) words (vs ++ v ∷ [])) (sym o) (record {
       k = k;
+      base = base;
       us = us;
-      positive = up;
+      positive = mul_positive s.k growth s.positive p;
+      whole = stretched s.base s.k growth over s.whole;
+      above = up;
       none = λ a j l. placed_old growth own s.us u a j (omega (arith, l, z, few)) ∙ ap (λ x. growth *ℤ x) (s.none a j l) ∙ times_none growth;
       past = λ a j l h. placed_old growth own s.us u a j (omega (arith, h, few)) ∙ ap (λ x. growth *ℤ x) (s.past a j l h) ∙ times_none growth;
       start = λ j l.
           let wj = wide j in
-          subst (λ (x : ℤ). LiesIn k (range_at (after ps ws node t).ranges j) x) (sym (placed_old growth own s.us u t j (omega (arith, l, few))))
-          (lies_wider k (growth *ℤ s.us t j) (range_at (ws t).ranges j) (range_at (after ps ws node t).ranges j) up wj.0 wj.1 (lies_grown s.k growth (range_at (ws t).ranges j) (s.us t j) p (s.start j l)));
-      lies = λ a j l q r h. placed_lies (is_here own a j) own a j s.k growth u (s.us a j) (ws t).ranges (after ps ws node t).ranges refl up p wide lies h (λ g. s.lies a j l q r g);
+          subst (λ (x : ℤ). LiesIn base (range_at (after ps ws node t).ranges j) x) (sym (placed_old growth own s.us u t j (omega (arith, l, few))))
+          (lies_wider base (growth *ℤ s.us t j) (range_at (ws t).ranges j) (range_at (after ps ws node t).ranges j) up wj.0 wj.1 (lies_grown s.base growth (range_at (ws t).ranges j) (s.us t j) p (s.start j l)));
+      lies = λ a j l q r h. placed_lies (is_here own a j) own a j s.base growth u (s.us a j) (ws t).ranges (after ps ws node t).ranges refl up p wide lies h (λ g. s.lies a j l q r g);
       many = s.many;
       loaded = λ r l. grown (coefficients (λ a. (ps a).registers) r) (at words r) (ages.none r own few) (s.loaded r l);
       stand = stand_more m t k us ps ws node vs v w.long made (λ i l. grown (coefficients (λ a. (ws a).forms) i) (at vs i) (w.none i own (omega arith)) (s.stand i l)) new;

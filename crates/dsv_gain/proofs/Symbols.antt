@@ -5,7 +5,7 @@ use Rattle.std.proofs.lemmas.Int.{ints}
 use Rattle.std.proofs.lemmas.Bool.{cases_lt}
 use Rattle.std.proofs.lemmas.List.{get_or_append_left, get_or-append_right, get_or_push, get_or_past, length_push, length-replicate, append_assoc}
 use Rattle.std.proofs.lemmas.List.Elements.{All-get_or}
-use lib.Signed.{◌≤ℤ◌}
+use lib.Signed.{◌<ℤ◌, ◌≤ℤ◌}
 use Rattle.dsv_algebra.proofs.Normaliser.{ring, env, var, num, plus, times}
 use Rattle.dsv_algebra.proofs.Sums.{sum_one}
 use Rattle.dsv_algebra.specs.Vectors.{sum_to}
@@ -21,10 +21,13 @@ use Rattle.dsv_linear.specs.Forms.{scale, range_scale, range, range_at, unit}
 use Rattle.dsv_linear.specs.Meaning.{LiesIn}
 use Rattle.dsv_linear.proofs.Numbers.{times_up}
 use Rattle.dsv_linear.proofs.Meanings.{replicated}
+use Rattle.dsv_gain.specs.declared.pass.Quantity.{Quantity}
+use Rattle.dsv_gain.specs.declared.pass.Quantity.TheVariants as quantity
 use Rattle.dsv_gain.specs.declared.pass.Pass.{Pass}
 use Rattle.dsv_gain.specs.declared.walk.Walk.{Walk}
 use Rattle.dsv_gain.specs.Samples.{begun}
-use Rattle.dsv_gain.specs.Gains.{symbol_registers, symbol_of_range, words_range, past_range, pasts, register_symbols, first_ranges, sample_symbols, word_pass}
+use Rattle.dsv_gain.specs.Gains.{symbol_registers, symbol_of_range, words_range, past_range, pasts, register_symbols, first_ranges, sample_symbols, symbol_pass, word_pass}
+use Rattle.dsv_gain.proofs.Given.{IsOver}
 use Rattle.dsv_gain.proofs.Walks.{form_of}
 use Rattle.dsv_gain.proofs.Solutions.{after}
 use Rattle.dsv_gain.proofs.Walking.{symbols_in, AreSummed, AreTaken}
@@ -78,14 +81,24 @@ symbol_means n m r us p q =
     ∙ ap (λ c. pos 0 +ℤ c *ℤ us r) (ap (λ (g : List ℤ). at g r) same ∙ unit_last r)
     ∙ sym (alone (pos scale) (us r)))
 
+over_above : (g : Quantity) (over : ℤ) → IsOver g over → pos 0 <ℤ over
+over_above quantity.Words over o = omega (arith, ints, o)
+over_above (quantity.Differences multiples) over o = o
+
 once : (v : ℤ) → pos 1 *ℤ v ≡ v
 once v = ring (env (v ∷ [])) (times (num (pos 1)) (var 0)) (var 0) refl
 
-symbol_lies : (r : Range) (v : ℤ) → Between r.low r.high v → LiesIn (pos 1) (symbol_of_range r) v
-symbol_lies r v b = record {
-  least = rw (once (pos range_scale *ℤ r.low)) (times_up (pos range_scale) r.low v (omega (arith, ints)) b.least);
-  most = rw (once (pos range_scale *ℤ r.high)) (times_up (pos range_scale) v r.high (omega (arith, ints)) b.most);
+grouped : (o t x : ℤ) → o *ℤ (t *ℤ x) ≡ t *ℤ (o *ℤ x)
+grouped o t x = ring (env (o ∷ t ∷ x ∷ [])) (times (var 0) (times (var 1) (var 2))) (times (var 1) (times (var 0) (var 2))) refl
+
+pub symbol_lies : (over : ℤ) (r : Range) (v : ℤ) → Between (over *ℤ r.low) (over *ℤ r.high) v → LiesIn over (symbol_of_range r) v
+symbol_lies over r v b = record {
+  least = rw (grouped over (pos range_scale) r.low) (times_up (pos range_scale) (over *ℤ r.low) v (omega (arith, ints)) b.least);
+  most = rw (grouped over (pos range_scale) r.high) (times_up (pos range_scale) v (over *ℤ r.high) (omega (arith, ints)) b.most);
 }
+
+word_lies : (r : Range) (v : ℤ) → Between r.low r.high v → LiesIn (pos 1) (symbol_of_range r) v
+word_lies r v b = symbol_lies (pos 1) r v (rw (once r.low, once r.high) b)
 
 symbols_long : (net : Net) (low high : ℤ) → IsNetlist net → length (register_symbols net low high) ≡ length net.next
 symbols_long net low high n =
@@ -112,10 +125,10 @@ symbols_are net low high words n r j q =
     let many = r.many in
     elim (cases_lt j p) [
       | inl s ↦ subst (λ (t : Range). LiesIn (pos 1) t (at words j)) (sym (get_or_append_left (replicate p a) (replicate m b) none j (omega arith) ∙ replicated p j a none s))
-          (symbol_lies (past_range low high) (at words j) (r.past j s))
+          (word_lies (past_range low high) (at words j) (r.past j s))
       | inr s ↦ (let w = All-get_or (IsWord net.format) words j (pos 0) (omega arith) r.words in
           subst (λ (t : Range). LiesIn (pos 1) t (at words j)) (sym (get_or-append_right (replicate p a) (replicate m b) p j none lp s ∙ replicated m (j - p) b none (omega arith)))
-          (symbol_lies (words_range net.format) (at words j) (record { least = w.low; most = w.high })))
+          (word_lies (words_range net.format) (at words j) (record { least = w.low; most = w.high })))
     ]
 
 -- ---- the symbols of a sample
@@ -183,19 +196,17 @@ at_first : (P : ℕ → Type 0) → P 0 → (a : ℕ) → a ≤ 0 → P a
 at_first P p a l = let same : 0 ≡ a = omega (arith, l) in subst P same p
 
 -- registers are those of their symbols, of which those are 0 whose registers are
-pub words_stand : (count : ℕ) (net : Net) (low high : ℤ) (words : List ℤ) → IsNetlist net → AreRegisters net low high words → count ≤ length net.next → ((j : ℕ) → j < count → at words j ≡ pos 0)
-    → Stands count net low high (word_pass net low high) words
-words_stand count net low high words netlist r few none =
-    let first = word_pass net low high in
-    let n = length net.next in
-    let own = register_symbols net low high in
+pub registers_stand : (count : ℕ) (net : Net) (g : Quantity) (over low high : ℤ) (own : List Range) (words : List ℤ) → IsOver g over → length own ≡ length net.next → length words ≡ length net.next
+    → ((j : ℕ) → j < length own → LiesIn over (range_at own j) (at words j)) → count ≤ length net.next → ((j : ℕ) → j < count → at words j ≡ pos 0)
+    → Stands count net g over low high (symbol_pass net g own (symbol_of_range (range low high))) words
+registers_stand count net g over low high own words o long many lie few none =
     let input = symbol_of_range (range low high) in
+    let first = symbol_pass net g own input in
+    let n = length net.next in
     let brought = sample_symbols input net.nodes in
     let m = length (own ++ brought) in
-    let long = symbols_long net low high netlist in
     let sum = length-append own brought in
     let more = sample_long input net.nodes in
-    let many = r.many in
     record {
       first = first;
       n = n;
@@ -206,25 +217,36 @@ words_stand count net low high words netlist r few none =
         count = at_first (λ a. (pass_after net first a).count ≡ n) refl;
         long = at_first (λ a. length (pass_after net first a).ranges ≡ m) refl;
         format = at_first (λ a. (pass_after net first a).format ≡ net.format) refl;
+        quantity = at_first (λ a. (pass_after net first a).quantity ≡ g) refl;
         first = refl;
         later = λ a l. absurd (omega (arith, l));
         none = register_none n;
       };
       solution = record {
         k = pos 1;
+        base = over;
         us = λ a j. at words j;
         positive = omega (arith, ints);
+        whole = sym (once over);
+        above = over_above g over o;
         none = λ a j l. none j l;
         past = λ a j l h. absurd (omega (arith, l));
-        start = λ j l. subst (λ (s : Range). LiesIn (pos 1) s (at words j)) (sym (get_or_append_left own brought (range (pos 0) (pos 0)) j (omega (arith, l, long)))) (symbols_are net low high words netlist r j (omega (arith, l, long)));
+        start = λ j l. subst (λ (s : Range). LiesIn over s (at words j)) (sym (get_or_append_left own brought (range (pos 0) (pos 0)) j (omega (arith, l, long)))) (lie j (omega (arith, l, long)));
         lies = λ a j l p q h. elim h [ inl g ↦ absurd (omega (arith, l, g)) | inr g ↦ absurd (omega (arith, p, g)) ];
         many = registers_long n ∙ sym many;
         loaded = λ i l. symbol_means n m i (at words) (omega (arith, l, many)) (omega (arith, sum, long));
         stand = λ i l. absurd (omega (arith, l));
       };
+      is_over = o;
       less = few;
       room = omega (arith, sum, long, more);
       takes = subst (λ (k : ℕ). AreTaken low high (own ++ brought) k net.nodes) long (sample_taken low high own net.nodes);
       sums = sums_none n m (2 ^ net.format.frac_bits) (pass_after net first) (λ a. begun (pass_after net first a)) 0 net.nodes;
       made = λ a l. absurd (omega (arith, l));
     }
+
+-- registers that are words
+pub words_stand : (count : ℕ) (net : Net) (low high : ℤ) (words : List ℤ) → IsNetlist net → AreRegisters net low high words → count ≤ length net.next → ((j : ℕ) → j < count → at words j ≡ pos 0)
+    → Stands count net quantity.Words (pos 1) low high (word_pass net low high) words
+words_stand count net low high words netlist r few none =
+    registers_stand count net quantity.Words (pos 1) low high (register_symbols net low high) words refl (symbols_long net low high netlist) r.many (symbols_are net low high words netlist r) few none

@@ -1,29 +1,56 @@
 -- The exact values of a sample's nodes, and ranges of them.
-use Rattle.std.proofs.Common.{◌≡◌, Bool, true, false, if◌then◌else◌, List, [], ◌∷◌, ◌++◌, refl, sym, subst, ap, ◌∙◌}
+use Rattle.std.proofs.Common.{◌≡◌, Bool, true, false, if◌then◌else◌, List, [], ◌∷◌, ◌++◌, refl, subst}
 use Rattle.std.specs.Prelude.{Option, Some, None, ◌&&◌}
 use Rattle.std.specs.List.{All}
-use Rattle.std.proofs.Math.IntN.{ℤ}
-use Rattle.std.proofs.lemmas.List.{append-nil}
+use Rattle.std.proofs.Math.IntN.{ℤ, pos, ◌*ℤ◌}
+use Rattle.dsv_algebra.proofs.Normaliser.{ring, env, var, num, times}
 use Rattle.std.proofs.lemmas.List.Elements.{All-nil, All-cons}
 use Rattle.dsv_word.specs.declared.format.Format.{Format}
 use Rattle.dsv_word.specs.Words.{IsWord}
-use Rattle.dsv_netlist.specs.declared.node.Node.{Node}
-use Rattle.dsv_netlist.specs.Nodes.{Sample, node_value, node_exact, sample_from}
+use Rattle.dsv_linear.specs.Facts.{Between, LiesWithin}
 use Rattle.dsv_linear.specs.declared.range.Range.{Range}
 use Rattle.dsv_linear.specs.Known.{is_word}
 use Rattle.dsv_linear.proofs.Words.{is_word-true, between_words}
-use Rattle.dsv_linear.proofs.Runs.{behind, sample_after}
+use Rattle.dsv_gain.specs.declared.pass.Quantity.{Quantity}
+use Rattle.dsv_gain.specs.declared.pass.Quantity.TheVariants as quantity
 use Rattle.dsv_gain.specs.declared.ends.Ends.{Ends}
 use Rattle.dsv_gain.specs.declared.ends.Ends.TheVariants as shown
 use Rattle.dsv_gain.specs.Samples.{value_ends, with_ends}
 use Rattle.dsv_gain.specs.Safe.{LieWithin}
+use Rattle.dsv_gain.proofs.Given.{IsOver, Fits}
 
 -- ---- values in ranges
-pub lie_append : (f : Format) (rs ss : List Range) (vs ws : List ℤ) → LieWithin f rs vs → LieWithin f ss ws → LieWithin f (rs ++ ss) (vs ++ ws)
-lie_append f [] ss [] ws a b = b
-lie_append f [] ss (v ∷ vs) ws a b = absurd a
-lie_append f (r ∷ rs) ss [] ws a b = absurd a
-lie_append f (r ∷ rs) ss (v ∷ vs) ws a b = (a.0, lie_append f rs ss vs ws a.1 b)
+-- a number over this denominator lies in a range, whose ends are words
+pub record LiesOver (over : ℤ) (f : Format) (r : Range) (v : ℤ) : Type 0 where
+  pub low_word : IsWord f r.low
+  pub high_word : IsWord f r.high
+  pub between : Between (over *ℤ r.low) (over *ℤ r.high) v
+
+-- each number in its range
+abbrev pub LieOver : ℤ → Format → List Range → List ℤ → Type 0
+LieOver over f [] [] = Unit {0}
+LieOver over f [] (v ∷ vs) = ⊥
+LieOver over f (r ∷ rs) [] = ⊥
+LieOver over f (r ∷ rs) (v ∷ vs) = LiesOver over f r v × LieOver over f rs vs
+
+pub lie_append : (over : ℤ) (f : Format) (rs ss : List Range) (vs ws : List ℤ) → LieOver over f rs vs → LieOver over f ss ws → LieOver over f (rs ++ ss) (vs ++ ws)
+lie_append over f [] ss [] ws a b = b
+lie_append over f [] ss (v ∷ vs) ws a b = absurd a
+lie_append over f (r ∷ rs) ss [] ws a b = absurd a
+lie_append over f (r ∷ rs) ss (v ∷ vs) ws a b = (a.0, lie_append over f rs ss vs ws a.1 b)
+
+-- numbers over 1
+alone : (over v : ℤ) → over ≡ pos 1 → over *ℤ v ≡ v
+alone over v e = rw e (ring (env (v ∷ [])) (times (num (pos 1)) (var 0)) (var 0) refl)
+
+pub lies_within : (over : ℤ) (f : Format) (r : Range) (v : ℤ) → over ≡ pos 1 → LiesOver over f r v → LiesWithin f r.low r.high v
+lies_within over f r v e l = record { low_word = l.low_word; high_word = l.high_word; between = rw (alone over r.low e, alone over r.high e) at l.between }
+
+pub lie_within : (over : ℤ) (f : Format) (rs : List Range) (vs : List ℤ) → over ≡ pos 1 → LieOver over f rs vs → LieWithin f rs vs
+lie_within over f [] [] e l = tt
+lie_within over f [] (v ∷ vs) e l = absurd l
+lie_within over f (r ∷ rs) [] e l = absurd l
+lie_within over f (r ∷ rs) (v ∷ vs) e l = (lies_within over f r v e l.0, lie_within over f rs vs e l.1)
 
 pub lie_words : (f : Format) (rs : List Range) (vs : List ℤ) → LieWithin f rs vs → All (IsWord f) vs
 lie_words f [] [] l = All-nil (IsWord f)
@@ -31,17 +58,14 @@ lie_words f [] (v ∷ vs) l = absurd l
 lie_words f (r ∷ rs) [] l = absurd l
 lie_words f (r ∷ rs) (v ∷ vs) l = All-cons (IsWord f) v vs (between_words f r.low r.high v l.0.low_word l.0.high_word l.0.between) (lie_words f rs vs l.1)
 
--- ---- the nodes that are left
--- what they give, where these are the values before them
-abbrev pub rest_of : Format → List ℤ → ℤ → List Node → List ℤ → Sample
-rest_of f words x ns values = sample_from f words x ns (record { values = values; exact = [] })
+free : (f : Format) (multiples : List Bool) (vs : List ℤ) → All (Fits f (quantity.Differences multiples)) vs
+free f multiples [] = All-nil (Fits f (quantity.Differences multiples))
+free f multiples (v ∷ vs) = All-cons (Fits f (quantity.Differences multiples)) v vs tt (free f multiples vs)
 
-pub rest_more : (f : Format) (words : List ℤ) (x : ℤ) (n : Node) (ns : List Node) (values : List ℤ)
-    → rest_of f words x (n ∷ ns) values ≡ behind (node_exact values n) (rest_of f words x ns (values ++ node_value f words x values n ∷ []))
-rest_more f words x n ns values =
-    let now = values ++ node_value f words x values n ∷ [] in
-    ap (λ (es : List ℤ). sample_from f words x ns (record { values = now; exact = es })) (sym (append-nil (node_exact values n)))
-    ∙ sample_after f words x ns (node_exact values n) (record { values = now; exact = [] })
+-- fitting changes nothing of what lies in such ranges
+pub lie_fits : (g : Quantity) (over : ℤ) (f : Format) (rs : List Range) (vs : List ℤ) → IsOver g over → LieOver over f rs vs → All (Fits f g) vs
+lie_fits quantity.Words over f rs vs o l = lie_words f rs vs (lie_within over f rs vs o l)
+lie_fits (quantity.Differences multiples) over f rs vs o l = free f multiples vs
 
 -- ---- ends
 -- an exact value whose range has words as its ends
@@ -74,5 +98,5 @@ parts_are (shown.Leaves value) rest all e = absurd cc
 parts_are (shown.Words rs) (shown.Leaves value) all e = absurd cc
 parts_are (shown.Words rs) (shown.Words ss) all e = record { ranges = rs; more = ss; here = refl; there = refl; together = cc }
 
-pub none_lie : (f : Format) (all : List Range) → shown.Words [] ≡ shown.Words all → LieWithin f all []
-none_lie f all e = let same : [] ≡ all = cc in subst (λ (rs : List Range). LieWithin f rs []) same tt
+pub none_lie : (over : ℤ) (f : Format) (all : List Range) → shown.Words [] ≡ shown.Words all → LieOver over f all []
+none_lie over f all e = let same : [] ≡ all = cc in subst (λ (rs : List Range). LieOver over f rs []) same tt

@@ -5,10 +5,10 @@ use Rattle.std.specs.List.{All}
 use Rattle.std.proofs.Math.IntN.{ℤ, pos}
 use Rattle.std.proofs.lemmas.Int.{ints}
 use lib.Signed.{◌≤ℤ◌}
-use Rattle.std.proofs.lemmas.List.{get_or_append_left, get_or_push, length_push}
+use Rattle.std.proofs.lemmas.List.{get_or_append_left, get_or_push, length_push, append-nil, append_assoc}
 use Rattle.dsv_word.specs.declared.format.Format.{Format}
 use Rattle.dsv_word.specs.Words.{IsWord}
-use Rattle.dsv_netlist.specs.Nodes.{Sample, at, node_value, node_exact}
+use Rattle.dsv_netlist.specs.Nodes.{at, node_exact}
 use Rattle.dsv_netlist.specs.declared.node.Node.{Node}
 use Rattle.dsv_netlist.specs.declared.node.Node.TheVariants.{Input, Reg, MulConst, Round, Add, Sub, Fit, Scale}
 use Rattle.dsv_linear.specs.Facts.{Between}
@@ -19,11 +19,12 @@ use Rattle.dsv_linear.proofs.Numbers.{some_of}
 use Rattle.dsv_linear.proofs.Points.{all_front, all_back}
 use Rattle.dsv_gain.specs.declared.ends.Ends.TheVariants as shown
 use Rattle.dsv_gain.specs.declared.weights.Weights.{Weights}
+use Rattle.dsv_gain.specs.declared.pass.Quantity.{Quantity}
 use Rattle.dsv_gain.specs.declared.pass.Pass.{Pass}
 use Rattle.dsv_gain.specs.declared.walk.Walk.{Walk}
 use Rattle.dsv_gain.specs.Samples.{no_weights, weights_at, own_after, after_node, walk_from, value_range, node_ends, with_ends, shown_by, then_ends, ends_from}
-use Rattle.dsv_gain.specs.Safe.{LieWithin}
-use Rattle.dsv_gain.proofs.Values.{lie_append, lie_words, rest_of, rest_more, none_lie, value_is, parts_are}
+use Rattle.dsv_gain.proofs.Given.{IsOver, Fits, AreGiven, fitted_in}
+use Rattle.dsv_gain.proofs.Values.{LieOver, lie_append, lie_fits, none_lie, value_is, parts_are}
 use Rattle.dsv_gain.proofs.Walks.{form_of, IsStep, step_is, weights_long, walk_or_is, coefficients, means_same}
 use Rattle.dsv_gain.proofs.Widening.{IsWider, wider_same, wider_further}
 use Rattle.dsv_gain.proofs.Solutions.{AreAges, AreWalks, Solution, after, AreMade, steps}
@@ -69,10 +70,11 @@ own_sum own (Sub i j) = omega arith
 own_sum own (Fit i) = omega arith
 own_sum own (Scale i) = omega arith
 
-pub record Midway (silent n m t own : ℕ) (f : Format) (low high : ℤ) (ps : ℕ → Pass) (ws finals : ℕ → Walk) (words vs : List ℤ) (x : ℤ) (ns : List Node) : Type 0 where
-  pub ages : AreAges n m f t ps
+pub record Midway (silent n m t own : ℕ) (f : Format) (g : Quantity) (over low high : ℤ) (ps : ℕ → Pass) (ws finals : ℕ → Walk) (words vs : List ℤ) (x : ℤ) (ns : List Node) : Type 0 where
+  pub ages : AreAges n m f g t ps
   pub walks : AreWalks n own t ws vs
-  pub solution : Solution silent n m t own ps ws words vs
+  pub solution : Solution silent n m t own over ps ws words vs
+  pub is_over : IsOver g over
   pub long : length (ws t).ranges ≡ m
   pub less : silent ≤ n
   pub room : own + symbols_in ns ≡ m
@@ -83,23 +85,24 @@ pub record Midway (silent n m t own : ℕ) (f : Format) (low high : ℤ) (ps : �
   pub made : (a : ℕ) → a ≤ t → walk_from (ps a) ns (ws a) ≡ Some (finals a)
 
 -- ---- one node
-first_made : {silent n m t own : ℕ} {f : Format} {low high : ℤ} {ps : ℕ → Pass} {ws finals : ℕ → Walk} {words vs : List ℤ} {x : ℤ} {node : Node} {ns : List Node} (d : Midway silent n m t own f low high ps ws finals words vs x (node ∷ ns)) → AreMade t ps ws node
-first_made {silent} {n} {m} {t} {own} {f} {low} {high} {ps} {ws} {finals} {words} {vs} {x} {node} {ns} d a l =
+first_made : {silent n m t own : ℕ} {f : Format} {g : Quantity} {over low high : ℤ} {ps : ℕ → Pass} {ws finals : ℕ → Walk} {words vs : List ℤ} {x : ℤ} {node : Node} {ns : List Node} (d : Midway silent n m t own f g over low high ps ws finals words vs x (node ∷ ns)) → AreMade t ps ws node
+first_made {silent} {n} {m} {t} {own} {f} {g} {over} {low} {high} {ps} {ws} {finals} {words} {vs} {x} {node} {ns} d a l =
     let one = some_of (after_node (ps a) (ws a) node) (walk_from (ps a) ns) (finals a) (d.made a l) in
     walk_or_is (ws a) (after_node (ps a) (ws a) node) one.0 one.1
 
-rest_made : {silent n m t own : ℕ} {f : Format} {low high : ℤ} {ps : ℕ → Pass} {ws finals : ℕ → Walk} {words vs : List ℤ} {x : ℤ} {node : Node} {ns : List Node} (d : Midway silent n m t own f low high ps ws finals words vs x (node ∷ ns)) (a : ℕ) → a ≤ t
+rest_made : {silent n m t own : ℕ} {f : Format} {g : Quantity} {over low high : ℤ} {ps : ℕ → Pass} {ws finals : ℕ → Walk} {words vs : List ℤ} {x : ℤ} {node : Node} {ns : List Node} (d : Midway silent n m t own f g over low high ps ws finals words vs x (node ∷ ns)) (a : ℕ) → a ≤ t
     → walk_from (ps a) ns (after ps ws node a) ≡ Some (finals a)
-rest_made {silent} {n} {m} {t} {own} {f} {low} {high} {ps} {ws} {finals} {words} {vs} {x} {node} {ns} d a l =
+rest_made {silent} {n} {m} {t} {own} {f} {g} {over} {low} {high} {ps} {ws} {finals} {words} {vs} {x} {node} {ns} d a l =
     sym (ap (λ (o : Option Walk). o >>= walk_from (ps a) ns) (first_made d a l)) ∙ d.made a l
 
-before : {silent n m t own : ℕ} {f : Format} {low high : ℤ} {ps : ℕ → Pass} {ws finals : ℕ → Walk} {words vs : List ℤ} {x : ℤ} {node : Node} {ns : List Node} (d : Midway silent n m t own f low high ps ws finals words vs x (node ∷ ns))
-    → Before silent n m t own f low high ps ws words vs x node
-before {silent} {n} {m} {t} {own} {f} {low} {high} {ps} {ws} {finals} {words} {vs} {x} {node} {ns} d = record {
+before : {silent n m t own : ℕ} {f : Format} {g : Quantity} {over low high : ℤ} {ps : ℕ → Pass} {ws finals : ℕ → Walk} {words vs : List ℤ} {x : ℤ} {node : Node} {ns : List Node} (d : Midway silent n m t own f g over low high ps ws finals words vs x (node ∷ ns))
+    → Before silent n m t own f g over low high ps ws words vs x node
+before {silent} {n} {m} {t} {own} {f} {g} {over} {low} {high} {ps} {ws} {finals} {words} {vs} {x} {node} {ns} d = record {
   ages = d.ages;
   walks = d.walks;
   made = first_made d;
   solution = d.solution;
+  is_over = d.is_over;
   long = d.long;
   less = d.less;
   room = let r = d.room in let o = own_sum own node in omega (arith, r, o);
@@ -123,29 +126,30 @@ weights_stay pass (n ∷ ns) walk final i e l =
     let long = weights_long pass walk one.0 n s in
     weights_stay pass ns one.0 final i one.2 (omega (arith, l, long)) ∙ old_weight pass walk one.0 n i s l
 
-further : {silent n m t own : ℕ} {f : Format} {low high : ℤ} {ps : ℕ → Pass} {ws finals : ℕ → Walk} {words vs : List ℤ} {x : ℤ} {node : Node} {ns : List Node} (d : Midway silent n m t own f low high ps ws finals words vs x (node ∷ ns)) (v : ℤ)
-    → Next silent n m t own f ps ws words vs v node (new_weights ps ws node (first_made d)) → Midway silent n m t (own_after own node) f low high ps (after ps ws node) finals words (vs ++ v ∷ []) x ns
-further {silent} {n} {m} {t} {own} {f} {low} {high} {ps} {ws} {finals} {words} {vs} {x} {node} {ns} d v g =
+further : {silent n m t own : ℕ} {f : Format} {g : Quantity} {over low high : ℤ} {ps : ℕ → Pass} {ws finals : ℕ → Walk} {words vs : List ℤ} {x : ℤ} {node : Node} {ns : List Node} (d : Midway silent n m t own f g over low high ps ws finals words vs x (node ∷ ns)) (v : ℤ)
+    → Next silent n m t own f over ps ws words vs v node (new_weights ps ws node (first_made d)) → Midway silent n m t (own_after own node) f g over low high ps (after ps ws node) finals words (vs ++ v ∷ []) x ns
+further {silent} {n} {m} {t} {own} {f} {g} {over} {low} {high} {ps} {ws} {finals} {words} {vs} {x} {node} {ns} d v it =
     let push = length_push vs v in
     record {
       ages = d.ages;
-      walks = g.walks;
-      solution = g.solution;
-      long = g.long;
+      walks = it.walks;
+      solution = it.solution;
+      is_over = d.is_over;
+      long = it.long;
       less = d.less;
       room = let r = d.room in let o = own_sum own node in omega (arith, r, o);
       input = d.input;
-      takes = taken_wider low high (ws t).ranges (after ps ws node t).ranges (own_after own node) ns g.wider d.takes.1;
+      takes = taken_wider low high (ws t).ranges (after ps ws node t).ranges (own_after own node) ns it.wider d.takes.1;
       weighed = let e = weights_long (ps t) (ws t) (after ps ws node t) node (steps t ps ws node (first_made d) t (omega arith)) in let w = d.weighed in omega (arith, e, w, push);
       sums = subst (λ (i : ℕ). AreSummed n m t (2 ^ f.frac_bits) ps (after ps ws node) (ps t).weights i ns) (let same : suc (length vs) ≡ length (vs ++ v ∷ []) = omega (arith, push) in same) d.sums.1;
       made = rest_made d;
     }
 
 -- ---- all nodes
-pub record Done (silent n m t : ℕ) (f : Format) (ps : ℕ → Pass) (ws finals : ℕ → Walk) (words vs values : List ℤ) (ns : List Node) : Type 0 where
+pub record Done (silent n m t : ℕ) (f : Format) (over : ℤ) (ps : ℕ → Pass) (ws finals : ℕ → Walk) (words vs values : List ℤ) (ns : List Node) : Type 0 where
   pub own : ℕ
   pub walks : AreWalks n own t finals values
-  pub solution : Solution silent n m t own ps finals words values
+  pub solution : Solution silent n m t own over ps finals words values
   pub long : length (finals t).ranges ≡ m
   pub full : own ≡ m
   pub wider : IsWider (ws t).ranges (finals t).ranges
@@ -159,103 +163,111 @@ walks_same n own t ws ss vs e w = record {
   none = λ i j l. subst (λ (x : Walk). at (form_of x.forms i) j ≡ pos 0) (e 0 (omega arith)) (w.none i j l);
 }
 
-solution_same : (silent n m t own : ℕ) (ps : ℕ → Pass) (ws ss : ℕ → Walk) (words vs : List ℤ) → ((a : ℕ) → a ≤ t → ws a ≡ ss a) → Solution silent n m t own ps ws words vs → Solution silent n m t own ps ss words vs
-solution_same silent n m t own ps ws ss words vs e s = record {
+solution_same : (silent n m t own : ℕ) (over : ℤ) (ps : ℕ → Pass) (ws ss : ℕ → Walk) (words vs : List ℤ) → ((a : ℕ) → a ≤ t → ws a ≡ ss a) → Solution silent n m t own over ps ws words vs → Solution silent n m t own over ps ss words vs
+solution_same silent n m t own over ps ws ss words vs e s = record {
   k = s.k;
+  base = s.base;
   us = s.us;
   positive = s.positive;
+  whole = s.whole;
+  above = s.above;
   none = s.none;
   past = s.past;
-  start = λ j l. subst (λ (x : Walk). LiesIn s.k (range_at x.ranges j) (s.us t j)) (e t (omega arith)) (s.start j l);
-  lies = λ a j l p q h. subst (λ (x : Walk). LiesIn s.k (range_at x.ranges j) (s.us a j)) (e t (omega arith)) (s.lies a j l p q h);
+  start = λ j l. subst (λ (x : Walk). LiesIn s.base (range_at x.ranges j) (s.us t j)) (e t (omega arith)) (s.start j l);
+  lies = λ a j l p q h. subst (λ (x : Walk). LiesIn s.base (range_at x.ranges j) (s.us a j)) (e t (omega arith)) (s.lies a j l p q h);
   many = s.many;
   loaded = s.loaded;
   stand = λ i l. means_same m t s.k s.us (coefficients (λ a. (ws a).forms) i) (coefficients (λ a. (ss a).forms) i) (at vs i) (λ a j p q. ap (λ (x : Walk). at (form_of x.forms i) j) (sym (e a (omega (arith, p))))) (s.stand i l);
 }
 
--- the exact values of the nodes that are left are words
-pub walked : {silent n m t own : ℕ} {f : Format} {low high : ℤ} (ps : ℕ → Pass) (ws finals : ℕ → Walk) (words vs : List ℤ) (x : ℤ) (ns : List Node) → Midway silent n m t own f low high ps ws finals words vs x ns
-    → All (IsWord f) (rest_of f words x ns vs).exact → Done silent n m t f ps ws finals words vs (rest_of f words x ns vs).values ns
+one_more : (vs : List ℤ) (v : ℤ) (rest : List ℤ) → vs ++ v ∷ rest ≡ (vs ++ v ∷ []) ++ rest
+one_more vs v rest = sym (append_assoc vs (v ∷ []) rest)
+
+-- what the nodes that are left give, where fitting changes nothing
+pub walked : {silent n m t own : ℕ} {f : Format} {g : Quantity} {over low high : ℤ} (ps : ℕ → Pass) (ws finals : ℕ → Walk) (words vs : List ℤ) (x : ℤ) (ns : List Node) (rest : List ℤ) → Midway silent n m t own f g over low high ps ws finals words vs x ns
+    → AreGiven f g over words x vs ns rest → All (Fits f g) (fitted_in vs ns rest) → Done silent n m t f over ps ws finals words vs (vs ++ rest) ns
 unfolding first_made before
-walked {silent} {n} {m} {t} {own} {f} {low} {high} ps ws finals words vs x [] d e =
+walked {silent} {n} {m} {t} {own} {f} {g} {over} {low} {high} ps ws finals words vs x [] (v ∷ rest) d h e = absurd h
+walked {silent} {n} {m} {t} {own} {f} {g} {over} {low} {high} ps ws finals words vs x (node ∷ ns) [] d h e = absurd h
+walked {silent} {n} {m} {t} {own} {f} {g} {over} {low} {high} ps ws finals words vs x [] [] d h e =
     let same : (a : ℕ) → a ≤ t → ws a ≡ finals a = λ a l. (let g = d.made a l in cc) in
-    record {
+    subst (λ (all : List ℤ). Done silent n m t f over ps ws finals words vs all []) (sym (append-nil vs)) (record {
       own = own;
       walks = walks_same n own t ws finals vs same d.walks;
-      solution = solution_same silent n m t own ps ws finals words vs same d.solution;
+      solution = solution_same silent n m t own over ps ws finals words vs same d.solution;
       long = subst (λ (w : Walk). length w.ranges ≡ m) (same t (omega arith)) d.long;
       full = let r = d.room in omega (arith, r);
       wider = subst (λ (w : Walk). IsWider (ws t).ranges w.ranges) (same t (omega arith)) (wider_same (ws t).ranges);
       sums = tt;
-    }
-walked {silent} {n} {m} {t} {own} {f} {low} {high} ps ws finals words vs x (node ∷ ns) d e =
-    let W = IsWord f in
-    let v = node_value f words x vs node in
+    })
+walked {silent} {n} {m} {t} {own} {f} {g} {over} {low} {high} ps ws finals words vs x (node ∷ ns) (v ∷ rest) d h e =
+    let W = Fits f g in
     let now = vs ++ v ∷ [] in
-    let h = rest_more f words x node ns vs in
-    let c : All W (node_exact vs node ++ (rest_of f words x ns now).exact) = subst (λ (m : Sample). All W m.exact) h e in
-    let g = node_more ps ws words vs x node (before d) (all_front W (node_exact vs node) (rest_of f words x ns now).exact c) in
-    let last = walked ps (after ps ws node) finals words now x ns (further d v g) (all_back W (node_exact vs node) (rest_of f words x ns now).exact c) in
+    let it = node_more ps ws words vs x node v (before d) h.0 (all_front W (node_exact vs node) (fitted_in now ns rest) e) in
+    let last = walked ps (after ps ws node) finals words now x ns rest (further d v it) h.1 (all_back W (node_exact vs node) (fitted_in now ns rest) e) in
     let s = steps t ps ws node (first_made d) t (omega arith) in
     let long = weights_long (ps t) (ws t) (after ps ws node t) node s in
     let weighed = d.weighed in
     let push = length_push vs v in
     let weight : weights_at (finals t).weights (length vs) ≡ s.weights =
     weights_stay (ps t) ns (after ps ws node t) (finals t) (length vs) (rest_made d t (omega arith)) (omega (arith, long, weighed)) ∙ new_weight (ps t) (ws t) (after ps ws node t) node (length vs) s weighed in
-    subst (λ (m' : Sample). Done silent n m t f ps ws finals words vs m'.values (node ∷ ns)) (sym h) (record {
+    subst (λ (all : List ℤ). Done silent n m t f over ps ws finals words vs all (node ∷ ns)) (sym (one_more vs v rest)) (record {
       own = last.own;
       walks = last.walks;
       solution = last.solution;
       long = last.long;
       full = last.full;
-      wider = wider_further (ws t).ranges (after ps ws node t).ranges (finals t).ranges g.wider last.wider;
+      wider = wider_further (ws t).ranges (after ps ws node t).ranges (finals t).ranges it.wider last.wider;
       sums = (
-        subst (λ (w : Weights). NodeSums n m (suc t) (2 ^ f.frac_bits) ws w node) (sym weight) g.sums,
+        subst (λ (w : Weights). NodeSums n m (suc t) (2 ^ f.frac_bits) ws w node) (sym weight) it.sums,
         subst (λ (i : ℕ). AreSummed n m (suc t) (2 ^ f.frac_bits) ps (after ps ws node) (finals t).weights i ns) (let same : length now ≡ suc (length vs) = omega (arith, push) in same) last.sums,
       );
     })
 
--- ---- their exact values lie in the ranges that are shown
+-- ---- they lie in the ranges that are shown
 some_ranges : (rs ss : List Range) → Some rs ≡ Some ss → ss ≡ rs
 some_ranges rs ss e = cc
 
 fit_ranges : (pass : Pass) (walk next : Walk) (i : ℕ) → IsStep pass walk (Fit i) next → next.ranges ≡ walk.ranges
 fit_ranges pass walk next i s = ap (λ (w : Walk). w.ranges) s.same ∙ some_ranges walk.ranges s.ranges s.ranges_are
 
-node_lies : {silent n m t own : ℕ} {f : Format} {low high : ℤ} (ps : ℕ → Pass) (ws : ℕ → Walk) (words vs : List ℤ) (x : ℤ) (off : ℕ) (node : Node) (all : List Range) (b : Before silent n m t own f low high ps ws words vs x node) → off ≤ silent
-    → node_ends off f (after ps ws node t).ranges (new_weights ps ws node b.made) node ≡ shown.Words all → LieWithin f all (node_exact vs node)
-node_lies {f = f} ps ws words vs x off Input all b l e = none_lie f all e
-node_lies {f = f} ps ws words vs x off (Reg r) all b l e = none_lie f all e
-node_lies {f = f} ps ws words vs x off (MulConst c i) all b l e = none_lie f all e
-node_lies {f = f} ps ws words vs x off (Round i) all b l e = none_lie f all e
-node_lies {f = f} ps ws words vs x off (Add i j) all b l e = none_lie f all e
-node_lies {f = f} ps ws words vs x off (Sub i j) all b l e = none_lie f all e
-node_lies {f = f} ps ws words vs x off (Scale i) all b l e = none_lie f all e
-node_lies {silent} {n} {m} {t} {own} {f} {low} {high} ps ws words vs x off (Fit i) all b l e =
+node_lies : {silent n m t own : ℕ} {f : Format} {g : Quantity} {over low high : ℤ} (ps : ℕ → Pass) (ws : ℕ → Walk) (words vs : List ℤ) (x : ℤ) (off : ℕ) (node : Node) (all : List Range) (b : Before silent n m t own f g over low high ps ws words vs x node) → off ≤ silent
+    → node_ends off (ps t) (after ps ws node t).ranges (new_weights ps ws node b.made) node ≡ shown.Words all → LieOver over f all (node_exact vs node)
+node_lies {f = f} {over = o} ps ws words vs x off Input all b l e = none_lie o f all e
+node_lies {f = f} {over = o} ps ws words vs x off (Reg r) all b l e = none_lie o f all e
+node_lies {f = f} {over = o} ps ws words vs x off (MulConst c i) all b l e = none_lie o f all e
+node_lies {f = f} {over = o} ps ws words vs x off (Round i) all b l e = none_lie o f all e
+node_lies {f = f} {over = o} ps ws words vs x off (Add i j) all b l e = none_lie o f all e
+node_lies {f = f} {over = o} ps ws words vs x off (Sub i j) all b l e = none_lie o f all e
+node_lies {f = f} {over = o} ps ws words vs x off (Scale i) all b l e = none_lie o f all e
+node_lies {silent} {n} {m} {t} {own} {f} {g} {over} {low} {high} ps ws words vs x off (Fit i) all b l e =
     let w = new_weights ps ws (Fit i) b.made in
-    let o = value_is f (value_range off (after ps ws (Fit i) t).ranges w) all e in
-    let known = subst (λ (rs : List Range). value_range off rs w ≡ Some o.ends) (fit_ranges (ps t) (ws t) (after ps ws (Fit i) t) i (steps t ps ws (Fit i) b.made t (omega arith))) o.known in
-    subst (λ (rs : List Range). LieWithin f rs (at vs i ∷ [])) (sym o.alone) (record { low_word = o.low; high_word = o.high; between = fit_lies ps ws words vs x i off o.ends b l known }, tt)
+    let format = b.ages.format t (omega arith) in
+    let quantity = b.ages.quantity t (omega arith) in
+    let o = value_is (ps t).format (value_range (ps t).quantity off (after ps ws (Fit i) t).ranges w) all e in
+    let kept = subst (λ (rs : List Range). value_range (ps t).quantity off rs w ≡ Some o.ends) (fit_ranges (ps t) (ws t) (after ps ws (Fit i) t) i (steps t ps ws (Fit i) b.made t (omega arith))) o.known in
+    let known = subst (λ (q : Quantity). value_range q off (ws t).ranges w ≡ Some o.ends) quantity kept in
+    subst (λ (rs : List Range). LieOver over f rs (at vs i ∷ [])) (sym o.alone)
+    (record { low_word = subst (λ (h : Format). IsWord h o.ends.low) format o.low; high_word = subst (λ (h : Format). IsWord h o.ends.high) format o.high; between = fit_lies ps ws words vs x i off o.ends b l known }, tt)
 
-pub walk_lies : {silent n m t own : ℕ} {f : Format} {low high : ℤ} (ps : ℕ → Pass) (ws finals : ℕ → Walk) (words vs : List ℤ) (x : ℤ) (off : ℕ) (ns : List Node) (all : List Range) → Midway silent n m t own f low high ps ws finals words vs x ns → off ≤ silent
-    → ends_from off (ps t) ns (ws t) ≡ shown.Words all → LieWithin f all (rest_of f words x ns vs).exact
+pub walk_lies : {silent n m t own : ℕ} {f : Format} {g : Quantity} {over low high : ℤ} (ps : ℕ → Pass) (ws finals : ℕ → Walk) (words vs : List ℤ) (x : ℤ) (off : ℕ) (ns : List Node) (rest : List ℤ) (all : List Range) → Midway silent n m t own f g over low high ps ws finals words vs x ns → off ≤ silent
+    → AreGiven f g over words x vs ns rest → ends_from off (ps t) ns (ws t) ≡ shown.Words all → LieOver over f all (fitted_in vs ns rest)
 unfolding first_made before
-walk_lies {f = f} ps ws finals words vs x off [] all d l e = none_lie f all e
-walk_lies {silent} {n} {m} {t} {own} {f} {low} {high} ps ws finals words vs x off (node ∷ ns) all d l e =
-    let v = node_value f words x vs node in
+walk_lies ps ws finals words vs x off [] (v ∷ rest) all d l h e = absurd h
+walk_lies ps ws finals words vs x off (node ∷ ns) [] all d l h e = absurd h
+walk_lies {f = f} {over = o} ps ws finals words vs x off [] [] all d l h e = none_lie o f all e
+walk_lies {silent} {n} {m} {t} {own} {f} {g} {over} {low} {high} ps ws finals words vs x off (node ∷ ns) (v ∷ rest) all d l h e =
     let now = vs ++ v ∷ [] in
     let made = first_made d in
     let s = steps t ps ws node made t (omega arith) in
     let next = after ps ws node t in
-    let g : with_ends (shown_by off (ps t).format (length (ws t).weights) node next) (ends_from off (ps t) ns next) ≡ shown.Words all =
-    sym (ap (λ (o : Option Walk). then_ends (shown.Leaves 0) (shown_by off (ps t).format (length (ws t).weights) node) (ends_from off (ps t) ns) o) (made t (omega arith))) ∙ e in
-    let p = parts_are (shown_by off (ps t).format (length (ws t).weights) node next) (ends_from off (ps t) ns next) all g in
-    let shows : node_ends off f next.ranges s.weights node ≡ shown.Words p.ranges =
-    subst (λ (g : Format). node_ends off g next.ranges s.weights node ≡ shown.Words p.ranges) (d.ages.format t (omega arith))
-    (subst (λ (w : Weights). node_ends off (ps t).format next.ranges w node ≡ shown.Words p.ranges) (new_weight (ps t) (ws t) next node (length (ws t).weights) s refl) p.here) in
+    let both : with_ends (shown_by off (ps t) (length (ws t).weights) node next) (ends_from off (ps t) ns next) ≡ shown.Words all =
+    sym (ap (λ (o : Option Walk). then_ends (shown.Leaves 0) (shown_by off (ps t) (length (ws t).weights) node) (ends_from off (ps t) ns) o) (made t (omega arith))) ∙ e in
+    let p = parts_are (shown_by off (ps t) (length (ws t).weights) node next) (ends_from off (ps t) ns next) all both in
+    let shows : node_ends off (ps t) next.ranges s.weights node ≡ shown.Words p.ranges =
+    subst (λ (w : Weights). node_ends off (ps t) next.ranges w node ≡ shown.Words p.ranges) (new_weight (ps t) (ws t) next node (length (ws t).weights) s refl) p.here in
     let here = node_lies ps ws words vs x off node p.ranges (before d) l shows in
-    let after_it = node_more ps ws words vs x node (before d) (lie_words f p.ranges (node_exact vs node) here) in
-    let there = walk_lies ps (after ps ws node) finals words now x off ns p.more (further d v after_it) l p.there in
-    subst (λ (rs : List Range). LieWithin f rs (rest_of f words x (node ∷ ns) vs).exact) p.together
-    (subst (λ (m' : Sample). LieWithin f (p.ranges ++ p.more) m'.exact) (sym (rest_more f words x node ns vs))
-    (lie_append f p.ranges p.more (node_exact vs node) (rest_of f words x ns now).exact here there))
+    let after_it = node_more ps ws words vs x node v (before d) h.0 (lie_fits g over f p.ranges (node_exact vs node) d.is_over here) in
+    let there = walk_lies ps (after ps ws node) finals words now x off ns rest p.more (further d v after_it) l h.1 p.there in
+    subst (λ (rs : List Range). LieOver over f rs (fitted_in vs (node ∷ ns) (v ∷ rest))) p.together
+    (lie_append over f p.ranges p.more (node_exact vs node) (fitted_in now ns rest) here there)

@@ -29,14 +29,14 @@ pub record IsStep (pass : Pass) (walk : Walk) (n : Node) (next : Walk) : Type 0 
   pub ranges : List Range
   pub form_is : node_form pass walk n ≡ Some form
   pub weights_are : node_weights pass walk n ≡ Some weights
-  pub ranges_are : node_ranges pass.format walk.ranges walk.own weights n ≡ Some ranges
+  pub ranges_are : node_ranges pass walk.ranges walk.own weights n ≡ Some ranges
   pub same : next ≡ walk_with walk form weights ranges (own_after walk.own n)
 
 pub step_is : (pass : Pass) (walk : Walk) (n : Node) (next : Walk) → after_node pass walk n ≡ Some next → IsStep pass walk n next
 step_is pass walk n next e =
-    let one = some_of (node_form pass walk n) (λ form. node_weights pass walk n >>= λ w. node_ranges pass.format walk.ranges walk.own w n >>= λ ranges. Some (walk_with walk form w ranges (own_after walk.own n))) next e in
-    let two = some_of (node_weights pass walk n) (λ w. node_ranges pass.format walk.ranges walk.own w n >>= λ ranges. Some (walk_with walk one.0 w ranges (own_after walk.own n))) next one.2 in
-    let three = some_of (node_ranges pass.format walk.ranges walk.own two.0 n) (λ ranges. Some (walk_with walk one.0 two.0 ranges (own_after walk.own n))) next two.2 in
+    let one = some_of (node_form pass walk n) (λ form. node_weights pass walk n >>= λ w. node_ranges pass walk.ranges walk.own w n >>= λ ranges. Some (walk_with walk form w ranges (own_after walk.own n))) next e in
+    let two = some_of (node_weights pass walk n) (λ w. node_ranges pass walk.ranges walk.own w n >>= λ ranges. Some (walk_with walk one.0 w ranges (own_after walk.own n))) next one.2 in
+    let three = some_of (node_ranges pass walk.ranges walk.own two.0 n) (λ ranges. Some (walk_with walk one.0 two.0 ranges (own_after walk.own n))) next two.2 in
     let last : Some (walk_with walk one.0 two.0 three.0 (own_after walk.own n)) ≡ Some next = three.2 in
     record { form = one.0; weights = two.0; ranges = three.0; form_is = one.1; weights_are = two.1; ranges_are = three.1; same = cc }
 

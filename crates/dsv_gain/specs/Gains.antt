@@ -16,6 +16,8 @@ use Rattle.dsv_linear.specs.declared.range.Range.{Range}
 use Rattle.dsv_linear.specs.Forms.{◌>>=◌, scale, range_scale, range, unit, least, greatest}
 use Rattle.dsv_gain.specs.declared.ends.Ends.{Ends}
 use Rattle.dsv_gain.specs.declared.ends.Ends.TheVariants as ends
+use Rattle.dsv_gain.specs.declared.pass.Quantity.{Quantity}
+use Rattle.dsv_gain.specs.declared.pass.Quantity.TheVariants as quantity
 use Rattle.dsv_gain.specs.declared.pass.Pass.{Pass}
 use Rattle.dsv_gain.specs.declared.outlook.Gain.{Gain}
 use Rattle.dsv_gain.specs.declared.outlook.Outlook.{Outlook}
@@ -181,18 +183,23 @@ gain_from nodes next (suc left) sample s =
     turn_outlook (gain_from nodes next left (suc sample)) (sample_turn nodes next sample s)
 
 -- ---- runs of any length
--- from registers that are inputs and words
-abbrev pub word_pass : Net → ℤ → ℤ → Pass
-word_pass net low high = record {
+-- from registers whose symbols, and those of inputs, have these ranges
+abbrev pub symbol_pass : Net → Quantity → List Range → Range → Pass
+symbol_pass net quantity symbols input = record {
   format = net.format;
+  quantity = quantity;
   count = length net.next;
   is_first = true;
   registers = symbol_registers (length net.next);
   weights = [];
-  ranges =
-      register_symbols net low high ++ sample_symbols (symbol_of_range (range low high)) net.nodes;
+  ranges = symbols ++ sample_symbols input net.nodes;
   forms = [];
 }
+
+-- from registers that are inputs and words
+abbrev pub word_pass : Net → ℤ → ℤ → Pass
+word_pass net low high = symbol_pass net quantity.Words (register_symbols net low high)
+    (symbol_of_range (range low high))
 
 -- before the first sample
 abbrev pub first_search : Net → ℤ → ℤ → Search

@@ -1,4 +1,6 @@
 pub mod Gains
 pub mod Samples
 pub mod Safe
+pub mod Errors
+pub mod Near
 pub mod Controllers

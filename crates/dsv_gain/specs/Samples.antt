@@ -22,6 +22,7 @@ use Rattle.dsv_linear.specs.Divisions.{symbol_by}
 use Rattle.dsv_linear.specs.Forms.{◌>>=◌, scale, range_scale, range, range_at, both, lower, upper}
 use Rattle.dsv_linear.specs.Forms.{entries, total, sums, differences, products, unit}
 use Rattle.dsv_linear.specs.Known.{are_words, error_range}
+use Rattle.dsv_roundoff.specs.Differences.{errors_at}
 use Rattle.dsv_gain.specs.declared.ends.Ends.{Ends}
 use Rattle.dsv_gain.specs.declared.ends.Ends.TheVariants as ends
 use Rattle.dsv_gain.specs.declared.weights.Part.{Part}
@@ -29,6 +30,8 @@ use Rattle.dsv_gain.specs.declared.weights.Part.TheVariants.{Positive, Negative,
 use Rattle.dsv_gain.specs.declared.weights.Weights.{Weights}
 use Rattle.dsv_gain.specs.declared.weights.End.{End}
 use Rattle.dsv_gain.specs.declared.weights.End.TheVariants.{Low, High}
+use Rattle.dsv_gain.specs.declared.pass.Quantity.{Quantity}
+use Rattle.dsv_gain.specs.declared.pass.Quantity.TheVariants as quantity
 use Rattle.dsv_gain.specs.declared.pass.Pass.{Pass}
 use Rattle.dsv_gain.specs.declared.walk.Walk.{Walk}
 
@@ -165,9 +168,20 @@ abbrev pub whole_range : Range → Option Range
 whole_range sums =
     both (upper sums.low (scale * range_scale)) (lower sums.high (scale * range_scale))
 
+-- the range of any number
+abbrev pub outer_range : Range → Option Range
+outer_range sums =
+    both (lower sums.low (scale * range_scale)) (upper sums.high (scale * range_scale))
+
+-- the values of runs in words are whole, their differences from an exact run are not
+abbrev pub rounded_range : Quantity → Range → Option Range
+rounded_range quantity.Words sums = whole_range sums
+rounded_range (quantity.Differences multiples) sums = outer_range sums
+
 -- where the first so many symbols are 0
-abbrev pub value_range : ℕ → List Range → Weights → Option Range
-value_range count ranges w = weight_sums (drop count ranges) (after_first count w) >>= whole_range
+abbrev pub value_range : Quantity → ℕ → List Range → Weights → Option Range
+value_range quantity count ranges w = weight_sums (drop count ranges) (after_first count w)
+    >>= rounded_range quantity
 
 -- ---- the ranges of symbols
 -- the least range that holds both
@@ -181,21 +195,26 @@ widened [] j r = []
 widened (s ∷ ranges) zero r = hull s r ∷ ranges
 widened (s ∷ ranges) (suc j) r = s ∷ widened ranges j r
 
--- the symbol of a rounding is its error, and what the coefficients lose
-abbrev pub error_symbol : Format → List Range → Weights → Option Range
-error_symbol format ranges w = weight_sums ranges w
-    >>= symbol_by (error_range format.rounding format.frac_bits)
+-- the errors of the rounding of the value of this number
+abbrev pub errors_of : Format → Quantity → ℕ → Range
+errors_of format quantity.Words of = error_range format.rounding format.frac_bits
+errors_of format (quantity.Differences multiples) of = errors_at format multiples of
 
-abbrev pub node_ranges : Format → List Range → ℕ → Weights → Node → Option (List Range)
-node_ranges format ranges own w Input = Some ranges
-node_ranges format ranges own w (Reg register) = Some ranges
-node_ranges format ranges own w (MulConst coeff of) = Some ranges
-node_ranges format ranges own w (Round of) =
-    error_symbol format ranges w >>= λ symbol. Some (widened ranges own symbol)
-node_ranges format ranges own w (Add left right) = Some ranges
-node_ranges format ranges own w (Sub left right) = Some ranges
-node_ranges format ranges own w (Fit of) = Some ranges
-node_ranges format ranges own w (Scale of) = Some ranges
+-- the symbol of a rounding is its error, one of these, and what the coefficients lose
+abbrev pub error_symbol : Range → List Range → Weights → Option Range
+error_symbol errors ranges w = weight_sums ranges w >>= symbol_by errors
+
+abbrev pub node_ranges : Pass → List Range → ℕ → Weights → Node → Option (List Range)
+node_ranges pass ranges own w Input = Some ranges
+node_ranges pass ranges own w (Reg register) = Some ranges
+node_ranges pass ranges own w (MulConst coeff of) = Some ranges
+node_ranges pass ranges own w (Round of) =
+    error_symbol (errors_of pass.format pass.quantity of) ranges w
+    >>= λ symbol. Some (widened ranges own symbol)
+node_ranges pass ranges own w (Add left right) = Some ranges
+node_ranges pass ranges own w (Sub left right) = Some ranges
+node_ranges pass ranges own w (Fit of) = Some ranges
+node_ranges pass ranges own w (Scale of) = Some ranges
 
 -- ---- node by node
 -- the number of the next symbol, after those before
@@ -226,7 +245,7 @@ walk_with walk form w ranges own = record {
 abbrev pub after_node : Pass → Walk → Node → Option Walk
 after_node pass walk node = node_form pass walk node >>= λ form.
     node_weights pass walk node >>= λ w.
-    node_ranges pass.format walk.ranges walk.own w node >>= λ ranges.
+    node_ranges pass walk.ranges walk.own w node >>= λ ranges.
     Some (walk_with walk form w ranges (own_after walk.own node))
 
 abbrev pub walk_from : Pass → List Node → Walk → Option Walk
@@ -244,15 +263,16 @@ value_ends format None = ends.Leaves 0
 value_ends format (Some r) = if are_words format r then ends.Words (r ∷ []) else ends.Leaves 0
 
 -- what is shown of what a node fits, if it fits anything, where the first so many symbols are 0
-abbrev pub node_ends : ℕ → Format → List Range → Weights → Node → Ends
-node_ends count format ranges w Input = ends.Words []
-node_ends count format ranges w (Reg register) = ends.Words []
-node_ends count format ranges w (MulConst coeff of) = ends.Words []
-node_ends count format ranges w (Round of) = ends.Words []
-node_ends count format ranges w (Add left right) = ends.Words []
-node_ends count format ranges w (Sub left right) = ends.Words []
-node_ends count format ranges w (Fit of) = value_ends format (value_range count ranges w)
-node_ends count format ranges w (Scale of) = ends.Words []
+abbrev pub node_ends : ℕ → Pass → List Range → Weights → Node → Ends
+node_ends count pass ranges w Input = ends.Words []
+node_ends count pass ranges w (Reg register) = ends.Words []
+node_ends count pass ranges w (MulConst coeff of) = ends.Words []
+node_ends count pass ranges w (Round of) = ends.Words []
+node_ends count pass ranges w (Add left right) = ends.Words []
+node_ends count pass ranges w (Sub left right) = ends.Words []
+node_ends count pass ranges w (Fit of) =
+    value_ends pass.format (value_range pass.quantity count ranges w)
+node_ends count pass ranges w (Scale of) = ends.Words []
 
 -- what is shown after so many values whose ends are words
 abbrev pub later_ends : List Range → Ends → Ends
@@ -264,10 +284,15 @@ abbrev pub with_ends : Ends → Ends → Ends
 with_ends (ends.Words ranges) rest = later_ends ranges rest
 with_ends (ends.Leaves value) rest = ends.Leaves value
 
+-- the ranges of a sample's values, where all of them are ranges of words
+abbrev pub ranges_in : Ends → Option (List Range)
+ranges_in (ends.Words ranges) = Some ranges
+ranges_in (ends.Leaves value) = None
+
 -- what a node of this number shows, after which the walk has come so far
-abbrev pub shown_by : ℕ → Format → ℕ → Node → Walk → Ends
-shown_by count format i node walk =
-    node_ends count format walk.ranges (weights_at walk.weights i) node
+abbrev pub shown_by : ℕ → Pass → ℕ → Node → Walk → Ends
+shown_by count pass i node walk =
+    node_ends count pass walk.ranges (weights_at walk.weights i) node
 
 -- where the walk is given up, the next value isn't known
 abbrev pub then_ends : Ends → (Walk → Ends) → (Walk → Ends) → Option Walk → Ends
@@ -277,7 +302,7 @@ then_ends other here rest (Some walk) = with_ends (here walk) (rest walk)
 abbrev pub ends_from : ℕ → Pass → List Node → Walk → Ends
 ends_from count pass [] walk = ends.Words []
 ends_from count pass (node ∷ nodes) walk =
-    then_ends (ends.Leaves 0) (shown_by count pass.format (length walk.weights) node)
+    then_ends (ends.Leaves 0) (shown_by count pass (length walk.weights) node)
     (ends_from count pass nodes) (after_node pass walk node)
 
 -- ---- samples one after another
@@ -294,6 +319,7 @@ abbrev pub pass_with : List ℕ → Pass → Option Walk → Pass
 pass_with next pass None = pass
 pass_with next pass (Some walk) = record {
   format = pass.format;
+  quantity = pass.quantity;
   count = pass.count;
   is_first = false;
   registers = loaded next walk.forms;

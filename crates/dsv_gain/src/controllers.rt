@@ -1,11 +1,18 @@
 // Quantised controllers: overflow over runs of the written equations, of any length.
-ghost use Rattle.std.specs.Prelude.{◌≡◌, IfOk};
+ghost use Rattle.std.specs.Prelude.{◌≡◌, ◌<◌, IfOk, IfSome, Some};
+ghost use Rattle.dsv_realise.specs.Netlists.{net_of};
+ghost use Rattle.dsv_gain.specs.Errors.{error_of};
+ghost use Rattle.dsv_gain.specs.Near.{StaysNear};
 ghost use Rattle.dsv_gain.specs.Safe.{IfSafe};
 ghost use Rattle.dsv_gain.specs.Controllers.{outlook_of, HoldAlways, NeverOverflows};
 
+use crate::error_ranges::error_of;
+use crate::error_search::error_bound;
 use crate::outlook::Outlook;
+use crate::roundoff::{ErrorBound, RoundoffOffer};
 use crate::search::gain_of;
 use dsv_base::NoMemory;
+use dsv_linear::Range;
 use dsv_quantiser::Quantised;
 use dsv_realise::realise;
 use std::alloc::Global;
@@ -20,4 +27,36 @@ pub fn overflow_gain(alloc: Global, quantised: &Quantised, limit: u32) -> Result
     let _order = quantised.order(); // its range, for the proof
     let net = realise(alloc, quantised)?;
     gain_of(alloc, &net, quantised.xlo(), quantised.xhi(), limit)
+}
+
+/// How far the output of a controller's runs is from that of the exact runs of its written
+/// equations, where the samples below the limit show a bound.
+pub fn rounding_error(
+    alloc: Global,
+    quantised: &Quantised,
+    limit: u32,
+) -> Result<Option<ErrorBound>, NoMemory>
+    ensures found { IfOk result (λ bound. IfSome bound
+        (λ it. error_of (net_of quantised.now) it.offer ≡ Some it.output)) }
+    ensures near { IfOk result
+        (λ bound. IfSome bound (λ it. StaysNear quantised.now it.output)) }
+    ensures within { IfOk result (λ bound. IfSome bound (λ it. it.offer.depth < limit)) }
+{
+    let _order = quantised.order(); // its range, for the proof
+    let net = realise(alloc, quantised)?;
+    error_bound(alloc, &net, limit)
+}
+
+/// What an offer shows of that.
+pub fn controller_error(
+    alloc: Global,
+    quantised: &Quantised,
+    offer: &RoundoffOffer,
+) -> Result<Option<Range>, NoMemory>
+    ensures value { IfOk result (λ range. range ≡ error_of (net_of quantised.now) offer.now) }
+    ensures near { IfOk result (λ range. IfSome range (StaysNear quantised.now)) }
+{
+    let _order = quantised.order(); // its range, for the proof
+    let net = realise(alloc, quantised)?;
+    error_of(alloc, &net, offer)
 }

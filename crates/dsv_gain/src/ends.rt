@@ -3,6 +3,7 @@ ghost use Rattle.std.specs.Prelude.{◌≡◌, ◌<◌, length, [], IfOk};
 ghost use Rattle.dsv_gain.specs.declared.ends.Ends.TheVariants.{Words, Leaves};
 ghost use Rattle.dsv_gain.specs.Samples.{with_ends, value_ends, value_range, weights_at, shown_by};
 
+use crate::pass::{Pass, Quantity};
 use crate::ranges::Ranges;
 use crate::walk::Walk;
 use dsv_base::NoMemory;
@@ -57,11 +58,12 @@ fn with_value(ends: Ends, format: &Format, range: Option<Range>) -> Result<Ends,
 }
 
 /// The range of the value of this number, where the first so many symbols are 0.
-fn range_at(walk: &Walk, i: usize, count: usize) -> Option<Range>
+fn range_at(quantity: &Quantity, walk: &Walk, i: usize, count: usize) -> Option<Range>
     requires { i < length walk.now.weights }
-    ensures { result ≡ value_range count walk.now.ranges (weights_at walk.now.weights i) }
+    ensures { result
+        ≡ value_range quantity.now count walk.now.ranges (weights_at walk.now.weights i) }
 {
-    walk.weights.as_slice()[i].value_range(walk.ranges.as_slice(), count)
+    walk.weights.as_slice()[i].value_range(quantity, walk.ranges.as_slice(), count)
 }
 
 impl SampleEnds {
@@ -92,23 +94,25 @@ impl SampleEnds {
     pub(crate) fn with_node(
         self,
         count: usize,
-        format: &Format,
+        pass: &Pass,
         walk: &Walk,
         i: usize,
         node: &Node,
     ) -> Result<Self, NoMemory>
         requires { i < length walk.now.weights }
         ensures run { IfOk result (λ now. now.run
-            ≡ with_ends self.run (shown_by count format.now i node.now walk.now)) }
+            ≡ with_ends self.run (shown_by count pass.now i node.now walk.now)) }
         ensures step { IfOk result (λ now. now.step
-            ≡ with_ends self.step (shown_by 0 format.now i node.now walk.now)) }
+            ≡ with_ends self.step (shown_by 0 pass.now i node.now walk.now)) }
     {
         let Node::Fit(_) = node else {
             return Ok(self);
         };
+        let run = range_at(&pass.quantity, walk, i, count);
+        let step = range_at(&pass.quantity, walk, i, 0);
         Ok(SampleEnds {
-            run: with_value(self.run, format, range_at(walk, i, count))?,
-            step: with_value(self.step, format, range_at(walk, i, 0))?,
+            run: with_value(self.run, &pass.format, run)?,
+            step: with_value(self.step, &pass.format, step)?,
         })
     }
 }

@@ -1,5 +1,6 @@
 // What the ranges of a gain say.
 ghost use Rattle.dsv_gain.specs.Safe.{GainsAreSafe, GainsAreFoundAgain};
+ghost use Rattle.dsv_gain.specs.Near.{OutputsStayNear, ControllersStayNear, OffersFit};
 
 /// In every run of a netlist from registers of zeros, over inputs in range, of any length, each
 /// exact value lies in its range of the gain, whose ends are words.
@@ -10,4 +11,20 @@ pub fn gains_are_safe()
 /// A gain that is found of some number of samples is found of as many as its depth and one more.
 pub fn gains_are_found_again()
     ensures { GainsAreFoundAgain }
+{}
+
+/// The range that an offer shows of a netlist holds how far its output is from that of its exact
+/// run, in every sample of every run in which no exact value leaves the words.
+pub fn outputs_stay_near()
+    ensures { OutputsStayNear }
+{}
+
+/// The same of a quantised controller and the exact run of its written equations.
+pub fn controllers_stay_near()
+    ensures { ControllersStayNear }
+{}
+
+/// An offer that shows a range has a range of words for each register.
+pub fn offers_fit()
+    ensures { OffersFit }
 {}

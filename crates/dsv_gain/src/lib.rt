@@ -1,24 +1,33 @@
 //! Overflow over runs of any length: linear forms from registers of zeros and from registers that
-//! are any words, and lists of inputs for what they can't rule out.
+//! are any words, and lists of inputs for what they can't rule out. And how far outputs are from
+//! those of exact runs.
 #![tactic(auto, using(dsv_algebra::proofs::Casts::casts))]
 
 mod controllers;
 mod ends;
+mod error_ranges;
+mod error_search;
 mod law;
 mod lists;
 mod outlook;
 mod pass;
 mod ranges;
 mod reaches;
+mod roundoff;
 mod search;
 mod start_parts;
 mod starts;
 mod walk;
 mod weights;
 
-pub use controllers::overflow_gain;
-pub use law::{gains_are_found_again, gains_are_safe};
+pub use controllers::{controller_error, overflow_gain, rounding_error};
+pub use error_ranges::error_of;
+pub use error_search::error_bound;
+pub use law::{
+    controllers_stay_near, gains_are_found_again, gains_are_safe, offers_fit, outputs_stay_near,
+};
 pub use lists::{MOST_DRIVEN, driven_overflow, driven_trace};
 pub use outlook::{Gain, Outlook};
 pub use ranges::Ranges;
+pub use roundoff::{ErrorBound, RoundoffOffer, WordRange};
 pub use search::gain_of;

@@ -9,13 +9,24 @@ use crate::weights::Weights;
 use dsv_base::{Items, NoMemory};
 use dsv_linear::Form;
 use dsv_netlist::Node;
+use dsv_roundoff::Multiples;
 use dsv_word::Format;
 use std::alloc::Global;
+
+/// What the values of a pass are.
+#[derive(Drop)]
+pub(crate) enum Quantity {
+    /// Those of runs in words, which are whole numbers.
+    Words,
+    /// The differences of such runs from their exact runs. It says which nodes need no rounding.
+    Differences(Multiples),
+}
 
 /// Between samples: what the next one starts with, and what is known so far.
 #[derive(Drop)]
 pub(crate) struct Pass {
     pub format: Format,
+    pub quantity: Quantity,
     /// How many symbols the registers begin with, the first ones.
     pub count: u32,
     /// Whether no sample has been.
@@ -55,7 +66,7 @@ fn sample_of(alloc: Global, nodes: &[Node], count: usize, pass: &Pass) -> Result
                 walk: None,
             });
         };
-        ends = ends.with_node(count, &pass.format, &next, i, node)?;
+        ends = ends.with_node(count, pass, &next, i, node)?;
         walk = next;
     }
     Ok(Sample {

@@ -1,10 +1,10 @@
 // Registers that are any words.
 ghost use Rattle.std.specs.Prelude.{◌≡◌, ◌≤◌, ◌++◌, length, IfOk};
 ghost use Rattle.dsv_gain.specs.Gains.{is_past, gives_past, hold_inputs, pasts};
-ghost use Rattle.dsv_gain.specs.Gains.{symbol_registers, register_symbols, word_pass};
-ghost use Rattle.dsv_gain.specs.Gains.{first_ranges, sample_symbols};
+ghost use Rattle.dsv_gain.specs.Gains.{symbol_registers, register_symbols, first_ranges};
+ghost use Rattle.dsv_gain.specs.Gains.{sample_symbols, symbol_pass, word_pass};
 
-use crate::pass::Pass;
+use crate::pass::{Pass, Quantity};
 use crate::ranges::{Ranges, past_symbol, push_copies, symbol_of};
 use dsv_base::{Items, NoMemory};
 use dsv_linear::{Form, Range, next_of, nodes_of, unit};
@@ -114,16 +114,22 @@ fn push_sample_symbols(ranges: &mut Ranges, input: &Range, nodes: &[Node]) -> Re
     Ok(())
 }
 
-/// A pass from registers that are inputs and words.
-pub(crate) fn word_pass(alloc: Global, net: &Netlist, low: i64, high: i64) -> Result<Pass, NoMemory>
-    ensures { IfOk result (λ pass. pass ≡ word_pass net.now low high) }
+/// A pass from registers whose symbols, and those of inputs, have these ranges.
+pub(crate) fn symbol_pass(
+    alloc: Global,
+    net: &Netlist,
+    quantity: Quantity,
+    symbols: Ranges,
+    input: &Range,
+) -> Result<Pass, NoMemory>
+    ensures { IfOk result (λ pass. pass ≡ symbol_pass net.now quantity symbols input.now) }
 {
-    let count = pasts(alloc, net)?;
     let nodes = nodes_of(alloc, net)?;
-    let mut ranges = register_symbols(alloc, net, count, low, high)?;
-    push_sample_symbols(&mut ranges, &symbol_of(low, high), &nodes)?;
+    let mut ranges = symbols;
+    push_sample_symbols(&mut ranges, input, &nodes)?;
     Ok(Pass {
         format: net.format(),
+        quantity,
         count: net.registers(),
         is_first: true,
         registers: symbol_registers(alloc, net.registers())?,
@@ -131,4 +137,13 @@ pub(crate) fn word_pass(alloc: Global, net: &Netlist, low: i64, high: i64) -> Re
         ranges,
         forms: Items::new(alloc),
     })
+}
+
+/// A pass from registers that are inputs and words.
+pub(crate) fn word_pass(alloc: Global, net: &Netlist, low: i64, high: i64) -> Result<Pass, NoMemory>
+    ensures { IfOk result (λ pass. pass ≡ word_pass net.now low high) }
+{
+    let count = pasts(alloc, net)?;
+    let symbols = register_symbols(alloc, net, count, low, high)?;
+    symbol_pass(alloc, net, Quantity::Words, symbols, &symbol_of(low, high))
 }

@@ -6,17 +6,20 @@ ghost use Rattle.dsv_linear.specs.Forms.{scale};
 ghost use Rattle.dsv_gain.specs.Samples.{form_at, owned, input_form, quotient_form, product_at};
 ghost use Rattle.dsv_gain.specs.Samples.{sum_at, difference_at, rounded_at, node_form};
 ghost use Rattle.dsv_gain.specs.Samples.{no_weights, old_weights, fitted_at, left_over_at};
-ghost use Rattle.dsv_gain.specs.Samples.{node_weights, widened, error_symbol, node_ranges};
+ghost use Rattle.dsv_gain.specs.Samples.{node_weights, widened, errors_of, error_symbol};
+ghost use Rattle.dsv_gain.specs.Samples.{node_ranges};
 ghost use Rattle.dsv_gain.specs.Samples.{own_after, own_limit, after_node, begun};
 
-use crate::pass::Pass;
+use crate::pass::{Pass, Quantity};
 use crate::ranges::{Ranges, hull};
 use crate::weights::Weights;
 use dsv_algebra::NarrowInteger;
 use dsv_base::{Items, NoMemory};
-use dsv_linear::{Form, Range, difference, one, power, product, step, sum, symbol_range, unit};
+use dsv_linear::{
+    Form, Range, difference, error_range, one, power, product, step, sum, symbol_range, unit,
+};
 use dsv_netlist::Node;
-use dsv_word::Format;
+use dsv_roundoff::holds_at;
 use std::alloc::Global;
 
 /// How far a sample has come: the forms and the weights of the values of its nodes so far, the
@@ -162,26 +165,38 @@ fn widened_ranges(ranges: Ranges, j: usize, range: &Range) -> Ranges
     Ranges::from(list)
 }
 
-/// The range of the symbol of a rounding: its error, and what the coefficients lose.
-fn error_symbol(format: &Format, ranges: &[Range], weights: &Weights) -> Option<Range>
-    ensures { result ≡ error_symbol format.now ranges.now weights.now }
+/// The errors of the rounding of the value of this number.
+fn errors_of(pass: &Pass, of: u32) -> Range
+    ensures { result ≡ errors_of pass.now.format pass.now.quantity of }
 {
-    symbol_range(format, &weights.sums_from(ranges, 0)?)
+    match &pass.quantity {
+        Quantity::Differences(multiples) if holds_at(multiples.as_slice(), of) => {
+            Range::between(&0, &0)
+        }
+        _ => error_range(&pass.format),
+    }
+}
+
+/// The range of the symbol of a rounding: its error, one of these, and what the coefficients lose.
+fn error_symbol(errors: &Range, ranges: &[Range], weights: &Weights) -> Option<Range>
+    ensures { result ≡ error_symbol errors.now ranges.now weights.now }
+{
+    symbol_range(errors, &weights.sums_from(ranges, 0)?)
 }
 
 /// The ranges of all symbols after a node, whose symbol has this number where it brings one.
 fn node_ranges(
-    format: &Format,
+    pass: &Pass,
     ranges: Ranges,
     own: usize,
     weights: &Weights,
     node: &Node,
 ) -> Option<Ranges>
-    ensures { result ≡ node_ranges format.now ranges own weights.now node.now }
+    ensures { result ≡ node_ranges pass.now ranges own weights.now node.now }
 {
     match node {
-        Node::Round(_) => {
-            let symbol = error_symbol(format, ranges.as_slice(), weights)?;
+        Node::Round(of) => {
+            let symbol = error_symbol(&errors_of(pass, *of), ranges.as_slice(), weights)?;
             Some(widened_ranges(ranges, own, &symbol))
         }
         _ => Some(ranges),
@@ -308,7 +323,7 @@ impl Walk {
             return Ok(None);
         };
         let own = own_after(self.own, node);
-        let Some(ranges) = node_ranges(&pass.format, self.ranges, self.own, &weights, node) else {
+        let Some(ranges) = node_ranges(pass, self.ranges, self.own, &weights, node) else {
             return Ok(None);
         };
         let mut walk = Walk {

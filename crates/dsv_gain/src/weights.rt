@@ -5,10 +5,10 @@ ghost use Rattle.dsv_gain.specs.Samples.{part_of, kept, added, no_weights, fitte
 ghost use Rattle.dsv_gain.specs.Samples.{end_of, weighted_term, weighted, least_sum, greatest_sum};
 ghost use Rattle.dsv_gain.specs.Samples.{weight_sums, after_first, value_range};
 
-use crate::pass::Pass;
+use crate::pass::{Pass, Quantity};
 use dsv_algebra::NarrowInteger;
 use dsv_base::{Items, NoMemory};
-use dsv_linear::{Form, Range, power, whole_range};
+use dsv_linear::{Form, Range, outer_range, power, whole_range};
 use std::alloc::Global;
 
 /// What the coefficients of a value come to over all samples so far, for each symbol: the sums of
@@ -192,9 +192,18 @@ impl Weights {
     }
 
     /// The range of a value with these weights, where the first so many symbols are 0.
-    pub(crate) fn value_range(&self, ranges: &[Range], count: usize) -> Option<Range>
-        ensures { result ≡ value_range count ranges.now self.now }
+    pub(crate) fn value_range(
+        &self,
+        quantity: &Quantity,
+        ranges: &[Range],
+        count: usize,
+    ) -> Option<Range>
+        ensures { result ≡ value_range quantity.now count ranges.now self.now }
     {
-        whole_range(&self.sums_from(ranges, count)?)
+        let sums = self.sums_from(ranges, count)?;
+        match quantity {
+            Quantity::Words => whole_range(&sums),
+            Quantity::Differences(_) => outer_range(&sums),
+        }
     }
 }

@@ -7,6 +7,8 @@ mod answers;
 #[cfg(test)]
 mod controllers;
 #[cfg(test)]
+mod errors;
+#[cfg(test)]
 mod lists;
 #[cfg(test)]
 mod runs;

@@ -167,6 +167,18 @@ pub fn whole_range(sums: &Range) -> Option<Range>
     })
 }
 
+/// The range of a number by its extreme sums, both times the scales, rounded outward.
+#[tactic(auto, using(crate::proofs::Scales::scales))]
+pub fn outer_range(sums: &Range) -> Option<Range>
+    ensures { result ≡ both (lower sums.now.low (scale * range_scale))
+        (upper sums.now.high (scale * range_scale)) }
+{
+    Some(Range {
+        low: lower_quotient(sums.low, SCALE * RANGE_SCALE)?,
+        high: upper_quotient(sums.high, SCALE * RANGE_SCALE)?,
+    })
+}
+
 /// The range of a form's value, which is whole.
 pub(crate) fn form_range(ranges: &[Range], form: &Form) -> Option<Range>
     ensures { result ≡ form_range ranges.now form.now }

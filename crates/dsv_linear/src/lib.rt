@@ -18,14 +18,14 @@ mod run;
 mod small;
 
 pub use arithmetic::{difference, product, sum, unit};
-pub use extremes::{extreme_sums, whole_range};
+pub use extremes::{extreme_sums, outer_range, whole_range};
 pub use fact::Fact;
 pub use form::Form;
 pub use intervals::are_words;
 pub use point::{Entry, Estimate, Point, Start};
 pub use powers::{one, power};
 pub use range::Range;
-pub use rounding::{step, symbol_range};
+pub use rounding::{error_range, step, symbol_range};
 pub use run::{Facts, facts_of, next_of, no_point, nodes_of, zero_start};
 
 /// What coefficients are multiplied by.

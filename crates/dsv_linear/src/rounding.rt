@@ -22,7 +22,7 @@ use std::alloc::Global;
 
 /// The range of the errors d w - v, where w is v divided by d = 2^frac_bits and made whole.
 #[tactic(auto, using(crate::proofs::Scales::powers))]
-fn error_range(format: &Format) -> Range
+pub fn error_range(format: &Format) -> Range
     ensures { result ≡ error_range format.now.rounding format.now.frac_bits }
 {
     let d = i128::from(power(format.frac_bits));
@@ -51,12 +51,13 @@ fn loss_range(rests: &Range) -> Option<Range>
     })
 }
 
-/// The range of a rounding's symbol: its error, and what the coefficients lose.
-pub fn symbol_range(format: &Format, rests: &Range) -> Option<Range>
-    ensures { result ≡ symbol_by (error_range format.now.rounding format.now.frac_bits) rests.now }
+/// The range of a rounding's symbol: its error, which is one of these, and what the coefficients
+/// lose, by the extreme sums of what is left of them.
+pub fn symbol_range(errors: &Range, rests: &Range) -> Option<Range>
+    ensures { result ≡ symbol_by errors.now rests.now }
 {
     let loss = loss_range(rests)?;
-    let error = error_range(format).scaled_range()?;
+    let error = errors.scaled_range()?;
     error.plus(&loss)
 }
 
@@ -81,7 +82,7 @@ pub(crate) fn rounded_entry(
     let Some(mut division) = division_of(alloc, format.frac_bits, ranges, form)? else {
         return Ok(None);
     };
-    let Some(symbol) = symbol_range(format, &division.rests) else {
+    let Some(symbol) = symbol_range(&error_range(format), &division.rests) else {
         return Ok(None);
     };
     division.quotients.push(step(power(format.frac_bits)))?;

@@ -1,5 +1,5 @@
 -- Where all exact values of a run are words, its differences from the exact run obey the linear step.
-use Rattle.std.proofs.Common.{◌≡◌, ℕ, zero, suc, ◌^◌, List, [], ◌∷◌, ◌++◌, length, map, refl, sym, subst, ap, ◌∙◌, arith}
+use Rattle.std.proofs.Common.{◌≡◌, ℕ, zero, suc, ◌^◌, Bool, List, [], ◌∷◌, ◌++◌, length, map, refl, sym, subst, ap, ◌∙◌, arith}
 use Rattle.std.specs.List.{All}
 use Rattle.std.proofs.Math.IntN.{ℤ, pos, ◌+ℤ◌, ◌-ℤ◌, ◌*ℤ◌}
 use Rattle.std.proofs.lemmas.List.{append-nil, append_assoc, length_push, length-map}
@@ -15,10 +15,11 @@ use Rattle.dsv_netlist.specs.declared.node.Node.{Node}
 use Rattle.dsv_netlist.specs.declared.node.Node.TheVariants.{Input, Reg, MulConst, Round, Add, Sub, Fit, Scale}
 use Rattle.dsv_netlist.specs.Nodes as nodes
 use Rattle.dsv_netlist.specs.Nodes.{Net, Sample, at, node_value, node_exact, sample_from, sample_of, step_of}
-use Rattle.dsv_linear.proofs.Words.{fit_same, errors_lie}
+use Rattle.dsv_linear.proofs.Words.{fit_same}
 use Rattle.dsv_linear.proofs.Points.{all_front, all_back}
 use Rattle.dsv_roundoff.specs.Exact.{IsExactly, AreExactly, RunsExactly}
-use Rattle.dsv_roundoff.specs.Differences.{IsDifference, AreDifferences, RunsApart, differences, run_differences}
+use Rattle.dsv_roundoff.specs.Differences.{is_multiple, multiples_after, multiples_of, IsDifference, AreDifferences, RunsApart, differences, run_differences}
+use Rattle.dsv_roundoff.proofs.NoErrors.{AreMultiples, multiples_more, multiples_so_far, error_lies}
 use Rattle.dsv_roundoff.specs.Laws.{DifferencesObeyTheStep, OutputsDiffer, outputs_of}
 
 -- ---- differences over d
@@ -65,38 +66,38 @@ apart_difference : (d v w e f : ℤ) → d *ℤ (v -ℤ w) -ℤ (e -ℤ f) ≡ (
 apart_difference d v w e f = ring (env (d ∷ v ∷ w ∷ e ∷ f ∷ [])) (plus (times (var 0) (plus (var 1) (minus (var 2)))) (minus (plus (var 3) (minus (var 4)))))
     (plus (plus (times (var 0) (var 1)) (minus (var 3))) (minus (plus (times (var 0) (var 2)) (minus (var 4))))) refl
 
-node_apart : (f : Format) (d : ℤ) (words regs : List ℤ) (x : ℤ) (vs es : List ℤ) (n : Node) (e : ℤ) → length words ≡ length regs → length vs ≡ length es
-    → IsExactly f d regs x es n e → All (IsWord f) (node_exact vs n) → IsDifference f d (differences d words regs) (differences d vs es) n (d *ℤ node_value f words x vs n -ℤ e)
-node_apart f d words regs x vs es Input e l m h a = rw h (same_input d x)
-node_apart f d words regs x vs es (Reg r) e l m h a = rw (h, apart_at d words regs r l) refl
-node_apart f d words regs x vs es (MulConst c i) e l m h a = rw (h, apart_at d vs es i m) (apart_product d c (at vs i) (at es i))
-node_apart f d words regs x vs es (Round i) e l m h a = record {
+node_apart : (f : Format) (says : List Bool) (d : ℤ) (words regs : List ℤ) (x : ℤ) (vs es : List ℤ) (n : Node) (e : ℤ) → length words ≡ length regs → length vs ≡ length es → AreMultiples f says vs
+    → IsExactly f d regs x es n e → All (IsWord f) (node_exact vs n) → IsDifference f says d (differences d words regs) (differences d vs es) n (d *ℤ node_value f words x vs n -ℤ e)
+node_apart f says d words regs x vs es Input e l m t h a = rw h (same_input d x)
+node_apart f says d words regs x vs es (Reg r) e l m t h a = rw (h, apart_at d words regs r l) refl
+node_apart f says d words regs x vs es (MulConst c i) e l m t h a = rw (h, apart_at d vs es i m) (apart_product d c (at vs i) (at es i))
+node_apart f says d words regs x vs es (Round i) e l m t h a = record {
   error = pos (2 ^ f.frac_bits) *ℤ whole_shift f.rounding f.frac_bits (at vs i) -ℤ at vs i;
-  between = errors_lie f.rounding f.frac_bits (at vs i);
+  between = error_lies f says vs i t;
   is = rw (apart_at d vs es i m, ← h) (apart_quotient d (pos (2 ^ f.frac_bits)) (at vs i) (whole_shift f.rounding f.frac_bits (at vs i)) e);
 }
-node_apart f d words regs x vs es (Add i j) e l m h a = rw (h, apart_at d vs es i m, apart_at d vs es j m) (apart_sum d (at vs i) (at vs j) (at es i) (at es j))
-node_apart f d words regs x vs es (Sub i j) e l m h a = rw (h, apart_at d vs es i m, apart_at d vs es j m) (apart_difference d (at vs i) (at vs j) (at es i) (at es j))
-node_apart f d words regs x vs es (Fit i) e l m h a = rw (fit_same f (at vs i) (All-head (IsWord f) (at vs i) [] a), h, apart_at d vs es i m) refl
-node_apart f d words regs x vs es (Scale i) e l m h a = rw (h, apart_at d vs es i m) (apart_product d (pos (2 ^ f.frac_bits)) (at vs i) (at es i))
+node_apart f says d words regs x vs es (Add i j) e l m t h a = rw (h, apart_at d vs es i m, apart_at d vs es j m) (apart_sum d (at vs i) (at vs j) (at es i) (at es j))
+node_apart f says d words regs x vs es (Sub i j) e l m t h a = rw (h, apart_at d vs es i m, apart_at d vs es j m) (apart_difference d (at vs i) (at vs j) (at es i) (at es j))
+node_apart f says d words regs x vs es (Fit i) e l m t h a = rw (fit_same f (at vs i) (All-head (IsWord f) (at vs i) [] a), h, apart_at d vs es i m) refl
+node_apart f says d words regs x vs es (Scale i) e l m t h a = rw (h, apart_at d vs es i m) (apart_product d (pos (2 ^ f.frac_bits)) (at vs i) (at es i))
 
 -- ---- the nodes that are left
 -- what they give, after these values
-abbrev added : Format → List ℤ → ℤ → List Node → List ℤ → List ℤ
+abbrev pub added : Format → List ℤ → ℤ → List Node → List ℤ → List ℤ
 added f words x [] values = []
 added f words x (n ∷ ns) values = node_value f words x values n ∷ added f words x ns (values ++ node_value f words x values n ∷ [])
 
-abbrev fitted : Format → List ℤ → ℤ → List Node → List ℤ → List ℤ
+abbrev pub fitted : Format → List ℤ → ℤ → List Node → List ℤ → List ℤ
 fitted f words x [] values = []
 fitted f words x (n ∷ ns) values = node_exact values n ++ fitted f words x ns (values ++ node_value f words x values n ∷ [])
 
-values_are : (f : Format) (words : List ℤ) (x : ℤ) (ns : List Node) (s : Sample) → (sample_from f words x ns s).values ≡ s.values ++ added f words x ns s.values
+pub values_are : (f : Format) (words : List ℤ) (x : ℤ) (ns : List Node) (s : Sample) → (sample_from f words x ns s).values ≡ s.values ++ added f words x ns s.values
 values_are f words x [] s = sym (append-nil s.values)
 values_are f words x (n ∷ ns) s =
     let v = node_value f words x s.values n in
     values_are f words x ns (nodes.after_node f words x s n) ∙ append_assoc s.values (v ∷ []) (added f words x ns (s.values ++ v ∷ []))
 
-exact_are : (f : Format) (words : List ℤ) (x : ℤ) (ns : List Node) (s : Sample) → (sample_from f words x ns s).exact ≡ s.exact ++ fitted f words x ns s.values
+pub exact_are : (f : Format) (words : List ℤ) (x : ℤ) (ns : List Node) (s : Sample) → (sample_from f words x ns s).exact ≡ s.exact ++ fitted f words x ns s.values
 exact_are f words x [] s = sym (append-nil s.exact)
 exact_are f words x (n ∷ ns) s =
     exact_are f words x ns (nodes.after_node f words x s n) ∙ append_assoc s.exact (node_exact s.values n) (fitted f words x ns (s.values ++ node_value f words x s.values n ∷ []))
@@ -107,29 +108,32 @@ as_many f d words regs x [] vs es (e ∷ all) h = absurd h
 as_many f d words regs x (n ∷ ns) vs es [] h = absurd h
 as_many f d words regs x (n ∷ ns) vs es (e ∷ all) h = ap suc (as_many f d words regs x ns (vs ++ node_value f words x vs n ∷ []) (es ++ e ∷ []) all h.1)
 
-nodes_apart : (f : Format) (d : ℤ) (words regs : List ℤ) (x : ℤ) (ns : List Node) (vs es all : List ℤ) → length words ≡ length regs → length vs ≡ length es
-    → AreExactly f d regs x es ns all → All (IsWord f) (fitted f words x ns vs) → AreDifferences f d (differences d words regs) (differences d vs es) ns (differences d (added f words x ns vs) all)
-nodes_apart f d words regs x [] vs es [] l m h a = tt
-nodes_apart f d words regs x [] vs es (e ∷ all) l m h a = absurd h
-nodes_apart f d words regs x (n ∷ ns) vs es [] l m h a = absurd h
-nodes_apart f d words regs x (n ∷ ns) vs es (e ∷ all) l m h a =
+-- `says` tells which of the values so far are multiples
+nodes_apart : (f : Format) (says : List Bool) (d : ℤ) (words regs : List ℤ) (x : ℤ) (ns : List Node) (vs es all : List ℤ) → length words ≡ length regs → length vs ≡ length es → length says ≡ length vs → AreMultiples f says vs
+    → AreExactly f d regs x es ns all → All (IsWord f) (fitted f words x ns vs) → AreDifferences f (multiples_after f says ns) d (differences d words regs) (differences d vs es) ns (differences d (added f words x ns vs) all)
+nodes_apart f says d words regs x [] vs es [] l m k t h a = tt
+nodes_apart f says d words regs x [] vs es (e ∷ all) l m k t h a = absurd h
+nodes_apart f says d words regs x (n ∷ ns) vs es [] l m k t h a = absurd h
+nodes_apart f says d words regs x (n ∷ ns) vs es (e ∷ all) l m k t h a =
     let v = node_value f words x vs n in
     let now = vs ++ v ∷ [] in
     let more = es ++ e ∷ [] in
+    let b = is_multiple f says n in
     let long : length now ≡ length more = let p = length_push vs v in let q = length_push es e in omega arith in
-    let rest = nodes_apart f d words regs x ns now more all l long h.1 (all_back (IsWord f) (node_exact vs n) (fitted f words x ns now) a) in (
-      node_apart f d words regs x vs es n e l m h.0 (all_front (IsWord f) (node_exact vs n) (fitted f words x ns now) a),
-      subst (λ (xs : List ℤ). AreDifferences f d (differences d words regs) xs ns (differences d (added f words x ns now) all)) (apart_push d vs es v e m) rest,
+    let same : length (says ++ b ∷ []) ≡ length now = let p = length_push vs v in let q = length_push says b in omega arith in
+    let rest = nodes_apart f (says ++ b ∷ []) d words regs x ns now more all l long same (multiples_more f words x says vs n k t) h.1 (all_back (IsWord f) (node_exact vs n) (fitted f words x ns now) a) in (
+      node_apart f (multiples_after f says (n ∷ ns)) d words regs x vs es n e l m (multiples_so_far f says vs (n ∷ ns) k t) h.0 (all_front (IsWord f) (node_exact vs n) (fitted f words x ns now) a),
+      subst (λ (xs : List ℤ). AreDifferences f (multiples_after f says (n ∷ ns)) d (differences d words regs) xs ns (differences d (added f words x ns now) all)) (apart_push d vs es v e m) rest,
     )
 
 -- ---- samples
 sample_apart : (f : Format) (d : ℤ) (words regs : List ℤ) (x : ℤ) (ns : List Node) (all : List ℤ) → length words ≡ length regs → AreExactly f d regs x [] ns all
-    → All (IsWord f) (sample_of f words x ns).exact → AreDifferences f d (differences d words regs) [] ns (differences d (sample_of f words x ns).values all)
+    → All (IsWord f) (sample_of f words x ns).exact → AreDifferences f (multiples_of f ns) d (differences d words regs) [] ns (differences d (sample_of f words x ns).values all)
 sample_apart f d words regs x ns all l h a =
     let first : Sample = record { values = []; exact = [] } in
     let b : All (IsWord f) (fitted f words x ns []) = subst (All (IsWord f)) (exact_are f words x ns first) a in
-    subst (λ (vs : List ℤ). AreDifferences f d (differences d words regs) [] ns (differences d vs all)) (sym (values_are f words x ns first))
-    (nodes_apart f d words regs x ns [] [] all l refl h b)
+    subst (λ (vs : List ℤ). AreDifferences f (multiples_of f ns) d (differences d words regs) [] ns (differences d vs all)) (sym (values_are f words x ns first))
+    (nodes_apart f [] d words regs x ns [] [] all l refl refl (λ i e. absurd cc) h b)
 
 sample_long : (f : Format) (d : ℤ) (words regs : List ℤ) (x : ℤ) (ns : List Node) (all : List ℤ) → AreExactly f d regs x [] ns all → length (sample_of f words x ns).values ≡ length all
 sample_long f d words regs x ns all h =

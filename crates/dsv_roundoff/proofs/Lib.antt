@@ -1,5 +1,6 @@
 mod Scaling
 pub mod Existence
+mod NoErrors
 pub mod Differences
 mod ExactSamples
 mod ExactLines

@@ -1,0 +1,221 @@
+// Offers of boxes and depths, found by passes over differences. Nothing is claimed of them: what an
+// offer shows is decided by `error_of`.
+ghost use Rattle.std.specs.Prelude.{◌≡◌, ◌<◌, IfOk, IfSome, Some};
+ghost use Rattle.dsv_gain.specs.Errors.{error_of};
+
+use crate::ends::{Ends, SampleEnds};
+use crate::error_ranges::{difference_range, error_of, error_pass, is_kept, ranges_of};
+use crate::pass::add_sample;
+use crate::ranges::{Ranges, hulls, hulls_after};
+use crate::roundoff::{ErrorBound, RoundoffOffer, WordRange};
+use crate::start_parts::has_settled;
+use dsv_base::{Items, NoMemory};
+use dsv_linear::{Range, next_of, nodes_of};
+use dsv_netlist::{Netlist, Node};
+use dsv_word::Format;
+use std::alloc::Global;
+
+/// The first sample after which it is looked whether ranges still grow.
+const FIRST_MARK: u32 = 16;
+
+/// A box of no differences.
+fn empty_box(alloc: Global, count: u32) -> Result<Items<WordRange>, NoMemory> {
+    let mut list = Items::new(alloc);
+    for _ in 0..count {
+        list.push(WordRange { low: 0, high: 0 })?;
+    }
+    Ok(list)
+}
+
+/// Whether two lists have the same ranges.
+fn are_same(a: &[Range], b: &[Range]) -> bool {
+    if a.len() != b.len() {
+        return false;
+    }
+    for i in 0..a.len() {
+        if a[i] != b[i] {
+            return false;
+        }
+    }
+    true
+}
+
+/// The ranges of the differences of all that is fitted, in runs from registers without differences,
+/// over so many samples that they didn't grow in the later half of them.
+fn grown_ranges(
+    alloc: Global,
+    net: &Netlist,
+    nodes: &[Node],
+    next: &[u32],
+    limit: u32,
+) -> Result<Option<Ranges>, NoMemory>
+    requires { nodes.now ≡ net.now.nodes }
+{
+    let list = empty_box(alloc, net.registers())?;
+    let mut pass = error_pass(alloc, net, nodes, list.as_slice())?;
+    let mut seen: Option<Ranges> = None;
+    let mut before = Ranges::new(alloc);
+    let mut mark = FIRST_MARK;
+    for sample in 0..limit {
+        let SampleEnds { run, .. } = add_sample(alloc, nodes, next, &mut pass)?;
+        let Ends::Words(now) = run else {
+            return Ok(None);
+        };
+        let all = hulls_after(alloc, seen, now)?;
+        if sample == mark {
+            if are_same(all.as_slice(), before.as_slice()) {
+                return Ok(Some(all));
+            }
+            before = Ranges::from_slice(alloc, all.as_slice())?;
+            mark = mark.saturating_mul(2);
+        }
+        seen = Some(all);
+    }
+    Ok(seen)
+}
+
+/// The ranges of what registers are loaded with, where these are those of the registers.
+fn loaded_ranges(
+    alloc: Global,
+    list: &[Range],
+    ranges: &[Range],
+    nodes: &[Node],
+    next: &[u32],
+) -> Result<Option<Ranges>, NoMemory> {
+    let mut loaded = Ranges::new(alloc);
+    for i in next {
+        let Some(range) = difference_range(list, ranges, nodes, *i) else {
+            return Ok(None);
+        };
+        loaded.push(range)?;
+    }
+    Ok(Some(loaded))
+}
+
+/// The ranges of registers that are loaded from one another as well.
+fn register_ranges(
+    alloc: Global,
+    ranges: &[Range],
+    nodes: &[Node],
+    next: &[u32],
+) -> Result<Option<Ranges>, NoMemory> {
+    let mut list = Ranges::new(alloc);
+    for _ in next {
+        list.push(Range::between(&0, &0))?;
+    }
+    for _ in next {
+        let Some(loaded) = loaded_ranges(alloc, list.as_slice(), ranges, nodes, next)? else {
+            return Ok(None);
+        };
+        if are_same(loaded.as_slice(), list.as_slice()) {
+            return Ok(Some(list));
+        }
+        list = loaded;
+    }
+    Ok(Some(list))
+}
+
+/// A range with an eighth of its width and one word more at both ends, as far as there are words;
+/// one of no difference stays.
+fn widened_range(format: &Format, range: &Range) -> WordRange {
+    let (low, high) = (range.low.get(), range.high.get());
+    if low == 0 && high == 0 {
+        return WordRange { low: 0, high: 0 };
+    }
+    let more = high.saturating_sub(low) / 8 + 1;
+    let least = i128::from(format.lo()).max(low.min(0).saturating_sub(more));
+    let greatest = i128::from(format.hi()).min(high.max(0).saturating_add(more));
+    WordRange {
+        low: i64::try_from(least).unwrap_or(0),
+        high: i64::try_from(greatest).unwrap_or(0),
+    }
+}
+
+/// The box of these ranges.
+fn widened_box(
+    alloc: Global,
+    format: &Format,
+    ranges: &[Range],
+) -> Result<Items<WordRange>, NoMemory> {
+    let mut list = Items::new(alloc);
+    for range in ranges {
+        list.push(widened_range(format, range))?;
+    }
+    Ok(list)
+}
+
+/// The last sample up to which differences settle that are in the box after it, where there is one.
+fn kept_depth(
+    alloc: Global,
+    net: &Netlist,
+    list: &[WordRange],
+    limit: u32,
+) -> Result<Option<u32>, NoMemory>
+    ensures { IfOk result (λ depth. IfSome depth (λ it. it < limit)) }
+{
+    let nodes = nodes_of(alloc, net)?;
+    let next = next_of(alloc, net)?;
+    let mut pass = error_pass(alloc, net, &nodes, list)?;
+    let list = ranges_of(alloc, list)?;
+    let mut seen: Option<Ranges> = None;
+    let mut best: Option<u32> = None;
+    for sample in 0..limit {
+        let SampleEnds { run, step } = add_sample(alloc, &nodes, &next, &mut pass)?;
+        let Ends::Words(now) = run else {
+            return Ok(best);
+        };
+        let all = hulls_after(alloc, seen, now)?;
+        if let Ends::Words(last) = step {
+            let both = hulls(alloc, &all, &last)?;
+            if is_kept(
+                &net.format(),
+                list.as_slice(),
+                both.as_slice(),
+                &nodes,
+                &next,
+            ) {
+                best = Some(sample);
+            }
+            if has_settled(&nodes, &pass) {
+                return Ok(best);
+            }
+        }
+        seen = Some(all);
+    }
+    Ok(best)
+}
+
+/// An offer for a netlist, by the samples below the limit, where one is found.
+fn offer_of(alloc: Global, net: &Netlist, limit: u32) -> Result<Option<RoundoffOffer>, NoMemory>
+    ensures { IfOk result (λ offer. IfSome offer (λ it. it.depth < limit)) }
+{
+    let nodes = nodes_of(alloc, net)?;
+    let next = next_of(alloc, net)?;
+    let Some(grown) = grown_ranges(alloc, net, &nodes, &next, limit)? else {
+        return Ok(None);
+    };
+    let Some(list) = register_ranges(alloc, grown.as_slice(), &nodes, &next)? else {
+        return Ok(None);
+    };
+    let ranges = widened_box(alloc, &net.format(), list.as_slice())?;
+    match kept_depth(alloc, net, ranges.as_slice(), limit)? {
+        Some(depth) => Ok(Some(RoundoffOffer { depth, ranges })),
+        None => Ok(None),
+    }
+}
+
+/// How far the output of a netlist's runs is from that of its exact run, where the samples below
+/// the limit show a bound.
+pub fn error_bound(alloc: Global, net: &Netlist, limit: u32) -> Result<Option<ErrorBound>, NoMemory>
+    ensures found { IfOk result
+        (λ bound. IfSome bound (λ it. error_of net.now it.offer ≡ Some it.output)) }
+    ensures within { IfOk result (λ bound. IfSome bound (λ it. it.offer.depth < limit)) }
+{
+    let Some(offer) = offer_of(alloc, net, limit)? else {
+        return Ok(None);
+    };
+    match error_of(alloc, net, &offer)? {
+        Some(output) => Ok(Some(ErrorBound { offer, output })),
+        None => Ok(None),
+    }
+}
