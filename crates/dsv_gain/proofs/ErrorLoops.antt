@@ -13,7 +13,7 @@ use Rattle.dsv_gain.specs.declared.ends.Ends.TheVariants as shown
 use Rattle.dsv_gain.specs.declared.pass.Pass.{Pass}
 use Rattle.dsv_gain.specs.Samples.{ranges_in, pass_ends, after_pass}
 use Rattle.dsv_gain.specs.Gains.{hulls, hulls_after}
-use Rattle.dsv_gain.specs.declared.roundoff.RoundoffOffer.{RoundoffOffer}
+use Rattle.dsv_roundoff.specs.declared.offers.RoundoffOffer.{RoundoffOffer}
 use Rattle.dsv_gain.specs.Errors.{range_from, error_pass, kept_range, error_of, differences_from, range_of, node_range, difference_range, fits_before, holds_loaded, is_kept}
 
 -- ---- mapped lists

@@ -27,8 +27,8 @@ use Rattle.dsv_gain.specs.declared.pass.Pass.{Pass}
 use Rattle.dsv_gain.specs.declared.pass.Quantity.TheVariants as quantity
 use Rattle.dsv_gain.specs.Samples.{after_pass}
 use Rattle.dsv_gain.specs.Gains.{hulls, hulls_after, symbol_of_range}
-use Rattle.dsv_gain.specs.declared.roundoff.WordRange.{WordRange}
-use Rattle.dsv_gain.specs.declared.roundoff.RoundoffOffer.{RoundoffOffer}
+use Rattle.dsv_roundoff.specs.declared.offers.WordRange.{WordRange}
+use Rattle.dsv_roundoff.specs.declared.offers.RoundoffOffer.{RoundoffOffer}
 use Rattle.dsv_gain.specs.Near.{HasWords, OffersFit}
 use Rattle.dsv_gain.specs.Errors.{none_range, range_from, error_pass, differences_from, range_of, node_range, difference_range, is_inside, is_known_inside, holds_loaded, is_kept, kept_range, error_of}
 use Rattle.dsv_gain.proofs.Given as given

@@ -24,7 +24,7 @@ use Rattle.dsv_roundoff.proofs.Differences.{differences_obey, outputs_differ}
 use Rattle.dsv_roundoff.proofs.Controllers.{controllers_apart}
 use Rattle.dsv_gain.specs.Controllers.{HoldAlways}
 use Rattle.dsv_gain.specs.Safe.{LieWithin}
-use Rattle.dsv_gain.specs.declared.roundoff.RoundoffOffer.{RoundoffOffer}
+use Rattle.dsv_roundoff.specs.declared.offers.RoundoffOffer.{RoundoffOffer}
 use Rattle.dsv_gain.specs.declared.roundoff.ErrorBound.{ErrorBound}
 use Rattle.dsv_gain.specs.Errors.{error_of}
 use Rattle.dsv_gain.specs.Near.{OutputsStayNear, StaysNear, AlwaysNear, ControllersStayNear}

@@ -17,8 +17,8 @@ use Rattle.dsv_linear.specs.Forms.{◌>>=◌, range, range_at}
 use Rattle.dsv_linear.specs.Known.{are_words}
 use Rattle.dsv_roundoff.specs.Differences.{multiples_of}
 use Rattle.dsv_gain.specs.declared.pass.Pass.{Pass}
-use Rattle.dsv_gain.specs.declared.roundoff.WordRange.{WordRange}
-use Rattle.dsv_gain.specs.declared.roundoff.RoundoffOffer.{RoundoffOffer}
+use Rattle.dsv_roundoff.specs.declared.offers.WordRange.{WordRange}
+use Rattle.dsv_roundoff.specs.declared.offers.RoundoffOffer.{RoundoffOffer}
 use Rattle.dsv_gain.specs.declared.pass.Quantity.TheVariants as quantity
 use Rattle.dsv_gain.specs.Samples.{ranges_in, pass_ends, after_pass}
 use Rattle.dsv_gain.specs.Gains.{hulls, hulls_after, symbol_of_range, symbol_pass}

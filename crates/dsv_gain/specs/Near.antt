@@ -17,8 +17,8 @@ use Rattle.dsv_roundoff.specs.Exact.{RunsExactly}
 use Rattle.dsv_roundoff.specs.Differences.{differences}
 use Rattle.dsv_roundoff.specs.Laws.{outputs_of}
 use Rattle.dsv_roundoff.specs.Written.{RunsAsWritten}
-use Rattle.dsv_gain.specs.declared.roundoff.WordRange.{WordRange}
-use Rattle.dsv_gain.specs.declared.roundoff.RoundoffOffer.{RoundoffOffer}
+use Rattle.dsv_roundoff.specs.declared.offers.WordRange.{WordRange}
+use Rattle.dsv_roundoff.specs.declared.offers.RoundoffOffer.{RoundoffOffer}
 use Rattle.dsv_gain.specs.Errors.{error_of}
 
 -- both ends are words

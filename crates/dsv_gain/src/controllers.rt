@@ -1,4 +1,5 @@
-// Quantised controllers: overflow over runs of the written equations, of any length.
+// Quantised controllers: overflow over runs of the written equations, of any length, and how far
+// their outputs are from those of exact runs.
 ghost use Rattle.std.specs.Prelude.{◌≡◌, ◌<◌, IfOk, IfSome, Some};
 ghost use Rattle.dsv_realise.specs.Netlists.{net_of};
 ghost use Rattle.dsv_gain.specs.Errors.{error_of};
@@ -9,12 +10,13 @@ ghost use Rattle.dsv_gain.specs.Controllers.{outlook_of, HoldAlways, NeverOverfl
 use crate::error_ranges::error_of;
 use crate::error_search::error_bound;
 use crate::outlook::Outlook;
-use crate::roundoff::{ErrorBound, RoundoffOffer};
+use crate::roundoff::ErrorBound;
 use crate::search::gain_of;
 use dsv_base::NoMemory;
 use dsv_linear::Range;
 use dsv_quantiser::Quantised;
 use dsv_realise::realise;
+use dsv_roundoff::RoundoffOffer;
 use std::alloc::Global;
 
 /// What is found of the runs of a controller's written equations from registers of zeros, over

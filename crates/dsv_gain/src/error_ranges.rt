@@ -12,12 +12,11 @@ ghost use Rattle.dsv_linear.specs.Known.{are_words};
 use crate::ends::{Ends, SampleEnds};
 use crate::pass::{Pass, Quantity, add_sample};
 use crate::ranges::{Ranges, hulls, hulls_after, symbol_of};
-use crate::roundoff::{RoundoffOffer, WordRange};
 use crate::starts::symbol_pass;
 use dsv_base::NoMemory;
 use dsv_linear::{Range, are_words, next_of, nodes_of};
 use dsv_netlist::{Netlist, Node};
-use dsv_roundoff::multiples_of;
+use dsv_roundoff::{RoundoffOffer, WordRange, multiples_of};
 use dsv_word::Format;
 use std::alloc::Global;
 

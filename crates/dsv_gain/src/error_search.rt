@@ -7,11 +7,12 @@ use crate::ends::{Ends, SampleEnds};
 use crate::error_ranges::{difference_range, error_of, error_pass, is_kept, ranges_of};
 use crate::pass::add_sample;
 use crate::ranges::{Ranges, hulls, hulls_after};
-use crate::roundoff::{ErrorBound, RoundoffOffer, WordRange};
+use crate::roundoff::ErrorBound;
 use crate::start_parts::has_settled;
 use dsv_base::{Items, NoMemory};
 use dsv_linear::{Range, next_of, nodes_of};
 use dsv_netlist::{Netlist, Node};
+use dsv_roundoff::{RoundoffOffer, WordRange};
 use dsv_word::Format;
 use std::alloc::Global;
 

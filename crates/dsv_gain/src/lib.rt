@@ -29,5 +29,5 @@ pub use law::{
 pub use lists::{MOST_DRIVEN, driven_overflow, driven_trace};
 pub use outlook::{Gain, Outlook};
 pub use ranges::Ranges;
-pub use roundoff::{ErrorBound, RoundoffOffer, WordRange};
+pub use roundoff::ErrorBound;
 pub use search::gain_of;

@@ -2,9 +2,10 @@
 // are in words.
 use crate::controllers::Design;
 use dsv_base::Items;
-use dsv_gain::{RoundoffOffer, WordRange, controller_error, rounding_error};
+use dsv_gain::{controller_error, rounding_error};
 use dsv_linear::Range;
 use dsv_names::{OverflowMode, Realisation, Rounding};
+use dsv_roundoff::{RoundoffOffer, WordRange};
 use std::alloc::Global;
 use std::test::Fail;
 

@@ -4,9 +4,11 @@
 
 mod law;
 mod multiples;
+mod offers;
 
 pub use law::{
     controllers_run_apart, differences_obey_the_step, exact_runs_are_written, outputs_differ,
     runs_are_one, runs_exist, written_runs_are_exact, written_runs_are_one, written_runs_exist,
 };
 pub use multiples::{Multiples, holds_at, multiples_of};
+pub use offers::{RoundoffOffer, WordRange};
