@@ -18,7 +18,7 @@ use Rattle.dsv_certfile.specs.declared.job.CertifiedJob.{CertifiedJob}
 use Rattle.dsv_certfile.specs.declared.job.Size.{Size}
 use Rattle.dsv_certfile.specs.declared.job.Size.TheVariants as size
 use Rattle.dsv_certcheck.specs.Checks.{Checked, format_check, BecomesFor, IsFoundFor, IsFoundAfter, IsChecked, Finds, words_check}
-use Rattle.dsv_certcheck.specs.Shown.{IsFalling, HasFalling, Has, IsShownOf}
+use Rattle.dsv_certcheck.specs.Shown.{IsFalling, HasFalling, Has, IsShownOf, StaysAsOffered, IsNearOf}
 use Rattle.dsv_certcheck.specs.declared.check_refusal.CheckRefusal.{CheckRefusal}
 use Rattle.dsv_certcheck.specs.declared.check_refusal.CheckRefusal.TheVariants as refusal
 use Rattle.dsv_certcheck.proofs.WordsFound.{HasWords, has_words}
@@ -76,3 +76,8 @@ pub shown_words : (c : ControllerView) (cert : Certificate) (job : CertifiedJob)
     → OnOk found (Has q (job_of cert).property (job_of cert).size) → OnOk found (IsShownOf c (job_of cert))
 shown_words c cert job q found e b =
     on_ok found (λ has. record { quantised = q; becomes = subst (λ j. BecomesFor c j (Ok q)) e b; has = has })
+
+pub near_words : (c : ControllerView) (cert : Certificate) (job : CertifiedJob) (q : QuantisedView) (found : Checked) → job ≡ job_of cert → BecomesFor c job (Ok q)
+    → OnOk found (StaysAsOffered q cert) → OnOk found (IsNearOf c cert)
+near_words c cert job q found e b =
+    on_ok found (λ near. record { quantised = q; becomes = subst (λ j. BecomesFor c j (Ok q)) e b; near = near })

@@ -29,7 +29,11 @@ use Rattle.dsv_template.specs.declared.candidate.Candidate.{Candidate}
 use Rattle.dsv_template.specs.declared.verdict.ThreeLogs.{ThreeLogs}
 use Rattle.dsv_unroll.specs.Goals.{most_size}
 use Rattle.dsv_bounded.specs.Formulas.{job_size_of}
+use Rattle.dsv_linear.specs.declared.range.Range.{Range}
+use Rattle.dsv_realise.specs.Netlists.{net_of}
+use Rattle.dsv_roundoff.specs.declared.offers.RoundoffOffer.{RoundoffOffer}
 use Rattle.dsv_gain.specs.Controllers.{outlook_of}
+use Rattle.dsv_gain.specs.Errors.{error_of}
 use Rattle.dsv_gain.specs.declared.outlook.Outlook.{Outlook}
 use Rattle.dsv_gain.specs.declared.outlook.Outlook.TheVariants as outlook
 use Rattle.dsv_certfile.specs.Limits.{most_gain_depth}
@@ -40,7 +44,7 @@ use Rattle.dsv_certfile.specs.declared.fault.CheckFault.TheVariants as fault
 use Rattle.dsv_certfile.specs.declared.job.CertWords.{CertWords}
 use Rattle.dsv_certfile.specs.declared.job.Size.{Size}
 use Rattle.dsv_certfile.specs.declared.job.Size.TheVariants as size
-use Rattle.dsv_certcheck.specs.Checks.{Checked, refused, misfit, format_check, size_check, verdict_at, log_check, run_check, is_some_samples, hints_check, shape_check, set_check, invariant_check, outlook_check, depth_check, gain_check, refusal_check, offer_check, tested_check, falls_check, words_check, IsFoundAfter}
+use Rattle.dsv_certcheck.specs.Checks.{Checked, refused, misfit, format_check, size_check, verdict_at, log_check, run_check, is_some_samples, hints_check, shape_check, set_check, invariant_check, shown_check, error_check, outlook_check, depth_check, gain_check, refusal_check, offer_check, tested_check, falls_check, words_check, IsFoundAfter}
 use Rattle.dsv_certcheck.specs.LoopChecks.{polynomial_check, loop_check, words_loop_check, IsLoopFoundAfter}
 use Rattle.dsv_certcheck.specs.FormatRefusals.{AreOfFormats, AreOfLoopFormats}
 use Rattle.dsv_certcheck.specs.declared.check_refusal.CheckRefusal.TheVariants as refusal
@@ -88,16 +92,26 @@ invariant_other w q (property.OfRuns run.Overflow) (size.Samples k) candidate lo
 invariant_other w q (property.OfRuns run.Overflow) size.OfLoop candidate logs = tt
 invariant_other w q p s candidate logs = tt
 
-outlook_other : (w : CertWords) (o : Outlook) → IsOther (outlook_check w o)
-outlook_other w (outlook.Safe gain) = tt
-outlook_other w other = tt
+shown_other : (w : CertWords) (o : Option Range) → IsOther (shown_check w o)
+shown_other w (Some r) = tt
+shown_other w None = tt
 
-gain_other : (w : CertWords) (q : QuantisedView) (p : Property) (s : Size) (depth : ℕ) → IsOther (gain_check w q p s depth)
-gain_other w q (property.OfRuns run.Overflow) size.Unbounded depth = by_test (nat_le depth most_gain_depth) (depth_check w q depth) (misfit w) (outlook_other w (outlook_of q (suc depth))) tt
-gain_other w q (property.OfRuns run.Overflow) size.NoSize depth = tt
-gain_other w q (property.OfRuns run.Overflow) (size.Samples k) depth = tt
-gain_other w q (property.OfRuns run.Overflow) size.OfLoop depth = tt
-gain_other w q p s depth = tt
+error_other : (w : CertWords) (q : QuantisedView) (offer : Option RoundoffOffer) → IsOther (error_check w q offer)
+error_other w q None = tt
+error_other w q (Some offer) = shown_other w (error_of (net_of q) offer)
+
+outlook_other : (w : CertWords) (rest : Checked) (o : Outlook) → IsOther rest → IsOther (outlook_check w rest o)
+outlook_other w rest (outlook.Safe gain) h = h
+outlook_other w rest other h = tt
+
+gain_other : (w : CertWords) (q : QuantisedView) (p : Property) (s : Size) (depth : ℕ) (offer : Option RoundoffOffer) → IsOther (gain_check w q p s depth offer)
+gain_other w q (property.OfRuns run.Overflow) size.Unbounded depth offer =
+    by_test (nat_le depth most_gain_depth) (depth_check w q depth offer) (misfit w)
+    (outlook_other w (error_check w q offer) (outlook_of q (suc depth)) (error_other w q offer)) tt
+gain_other w q (property.OfRuns run.Overflow) size.NoSize depth offer = tt
+gain_other w q (property.OfRuns run.Overflow) (size.Samples k) depth offer = tt
+gain_other w q (property.OfRuns run.Overflow) size.OfLoop depth offer = tt
+gain_other w q p s depth offer = tt
 
 refusal_other : (w : CertWords) (offer : Falls) (why : Option FormRefusal) → IsOther (refusal_check w offer why)
 refusal_other w offer None = tt
@@ -121,7 +135,7 @@ falls_other w q p s offer = tt
 words_other : (q : QuantisedView) (cert : Certificate) → IsOther (words_check q cert)
 words_other q (certificate.Hints job log) = hints_other job.words q job.property job.size log
 words_other q (certificate.Invariant job candidate logs) = invariant_other job.words q job.property job.size candidate logs
-words_other q (certificate.Gain job depth) = gain_other job.words q job.property job.size depth
+words_other q (certificate.Gain job depth offer) = gain_other job.words q job.property job.size depth offer
 words_other q (certificate.Falls job offer) = falls_other job.words q job.property job.size offer
 
 after : (c : ControllerView) (cert : Certificate) (line : ℕ) (format : Checked) → IsFoundAfter format c cert (refused line fault.Format) → format ≡ refused line fault.Format

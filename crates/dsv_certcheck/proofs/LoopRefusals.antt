@@ -1,5 +1,5 @@
 -- The check of a certificate against a controller alone refuses no loop.
-use Rattle.std.proofs.Common.{◌≡◌, sym, ℕ, suc, ◌+◌, ◌==◌, ◌&&◌, nat_le, nat_lt, Bool, true, false, List, length, Option, Some, None, Result, Ok, Err, if◌then◌else◌, subst}
+use Rattle.std.proofs.Common.{sym, ℕ, suc, ◌+◌, ◌==◌, ◌&&◌, nat_le, nat_lt, Bool, true, false, List, length, Option, Some, None, Result, Ok, Err, if◌then◌else◌, subst}
 use Rattle.dsv_text.specs.Stages.{◌>>=◌}
 use Rattle.dsv_names.specs.declared.property.Property.{Property}
 use Rattle.dsv_names.specs.declared.property.Property.TheVariants as property
@@ -30,7 +30,11 @@ use Rattle.dsv_tested.specs.declared.side.Tested.{Tested}
 use Rattle.dsv_tested.specs.declared.side.Tested.TheVariants as tested
 use Rattle.dsv_template.specs.declared.candidate.Candidate.{Candidate}
 use Rattle.dsv_template.specs.declared.verdict.ThreeLogs.{ThreeLogs}
+use Rattle.dsv_linear.specs.declared.range.Range.{Range}
+use Rattle.dsv_realise.specs.Netlists.{net_of}
+use Rattle.dsv_roundoff.specs.declared.offers.RoundoffOffer.{RoundoffOffer}
 use Rattle.dsv_gain.specs.Controllers.{outlook_of}
+use Rattle.dsv_gain.specs.Errors.{error_of}
 use Rattle.dsv_gain.specs.declared.outlook.Outlook.{Outlook}
 use Rattle.dsv_gain.specs.declared.outlook.Outlook.TheVariants as outlook
 use Rattle.dsv_certfile.specs.Limits.{most_gain_depth, narrow_word_bits}
@@ -42,7 +46,7 @@ use Rattle.dsv_certfile.specs.declared.job.CertWords.{CertWords}
 use Rattle.dsv_certfile.specs.declared.job.CertWords.TheVariants as words
 use Rattle.dsv_certfile.specs.declared.job.Size.{Size}
 use Rattle.dsv_certfile.specs.declared.job.Size.TheVariants as size
-use Rattle.dsv_certcheck.specs.Checks.{Checked, refused, format_check, misfit, size_check, log_check, verdict_at, is_some_samples, run_check, hints_check, sentences_check, shape_check, invariant_check, outlook_check, depth_check, gain_check, refusal_check, tested_check, falls_check, words_check, IsFoundAfter, IsChecked}
+use Rattle.dsv_certcheck.specs.Checks.{Checked, refused, format_check, misfit, size_check, log_check, verdict_at, is_some_samples, run_check, hints_check, sentences_check, shape_check, invariant_check, shown_check, error_check, outlook_check, depth_check, gain_check, refusal_check, tested_check, falls_check, words_check, IsFoundAfter, IsChecked}
 use Rattle.dsv_certcheck.specs.LineNumbers.{version_line_number, format_line_number, body_line, log_line}
 use Rattle.dsv_certcheck.specs.declared.check_refusal.CheckRefusal.TheVariants as refusal
 
@@ -75,10 +79,18 @@ of_tested w (Ok (tested.Poly c)) offer = either (offer.form.d + 1 == length c) (
 of_tested w (Ok tested.NoZeros) offer = tt
 of_tested w (Err wide) offer = tt
 
-of_outlook : (w : CertWords) (o : Outlook) → IsNoLoop (outlook_check w o)
-of_outlook w (outlook.Safe gain) = tt
-of_outlook w (outlook.Leaves sample value) = tt
-of_outlook w outlook.Deep = tt
+of_shown : (w : CertWords) (o : Option Range) → IsNoLoop (shown_check w o)
+of_shown w (Some r) = tt
+of_shown w None = tt
+
+of_error : (w : CertWords) (q : QuantisedView) (offer : Option RoundoffOffer) → IsNoLoop (error_check w q offer)
+of_error w q None = tt
+of_error w q (Some offer) = of_shown w (error_of (net_of q) offer)
+
+of_outlook : (w : CertWords) (rest : Checked) (o : Outlook) → IsNoLoop rest → IsNoLoop (outlook_check w rest o)
+of_outlook w rest (outlook.Safe gain) h = h
+of_outlook w rest (outlook.Leaves sample value) h = tt
+of_outlook w rest outlook.Deep h = tt
 
 -- ---- kinds
 of_size : (q : QuantisedView) (samples : ℕ) → IsNoLoop (size_check q samples)
@@ -108,9 +120,11 @@ of_invariant w q (property.OfRuns run.Overflow) size.Unbounded candidate logs =
     (after (shape_check w q candidate) (λ y. sentences_check w q candidate logs) (of_shape w q candidate) (of_sentences w q candidate logs))
 of_invariant w q p s candidate logs = tt
 
-of_gain : (w : CertWords) (q : QuantisedView) (p : Property) (s : Size) (depth : ℕ) → IsNoLoop (gain_check w q p s depth)
-of_gain w q (property.OfRuns run.Overflow) size.Unbounded depth = either (nat_le depth most_gain_depth) (depth_check w q depth) (misfit w) (of_outlook w (outlook_of q (suc depth))) tt
-of_gain w q p s depth = tt
+of_gain : (w : CertWords) (q : QuantisedView) (p : Property) (s : Size) (depth : ℕ) (offer : Option RoundoffOffer) → IsNoLoop (gain_check w q p s depth offer)
+of_gain w q (property.OfRuns run.Overflow) size.Unbounded depth offer =
+    either (nat_le depth most_gain_depth) (depth_check w q depth offer) (misfit w)
+    (of_outlook w (error_check w q offer) (outlook_of q (suc depth)) (of_error w q offer)) tt
+of_gain w q p s depth offer = tt
 
 of_falls : (w : CertWords) (q : QuantisedView) (p : Property) (s : Size) (offer : Falls) → IsNoLoop (falls_check w q p s offer)
 of_falls w q (property.OfRoots p) size.NoSize offer = of_tested w (tested_of q (side_of p)) offer
@@ -119,7 +133,7 @@ of_falls w q p s offer = tt
 of_words : (q : QuantisedView) (cert : Certificate) → IsNoLoop (words_check q cert)
 of_words q (certificate.Hints job log) = of_hints job.words q job.property job.size log
 of_words q (certificate.Invariant job candidate logs) = of_invariant job.words q job.property job.size candidate logs
-of_words q (certificate.Gain job depth) = of_gain job.words q job.property job.size depth
+of_words q (certificate.Gain job depth offer) = of_gain job.words q job.property job.size depth offer
 of_words q (certificate.Falls job offer) = of_falls job.words q job.property job.size offer
 
 of_format : (c : ControllerView) (w : CertWords) → IsNoLoop (format_check c w)

@@ -1,5 +1,5 @@
 -- Each check refuses the certificates that are for the other.
-use Rattle.std.proofs.Common.{◌≡◌, ◌∙◌, ℕ, List, ap, refl}
+use Rattle.std.proofs.Common.{◌≡◌, ◌∙◌, ℕ, List, Option, ap, refl}
 use Rattle.dsv_names.specs.declared.property.Property.{Property}
 use Rattle.dsv_names.specs.declared.property.Property.TheVariants as property
 use Rattle.dsv_names.specs.declared.property.RunProperty.TheVariants as run
@@ -9,15 +9,15 @@ use Rattle.dsv_reader.specs.Plants.{PlantView}
 use Rattle.dsv_quantiser.specs.QuantisedView.{QuantisedView}
 use Rattle.dsv_hints.specs.declared.step.Step.{Step}
 use Rattle.dsv_forms.specs.declared.offers.Falls.{Falls}
+use Rattle.dsv_roundoff.specs.declared.offers.RoundoffOffer.{RoundoffOffer}
 use Rattle.dsv_template.specs.declared.candidate.Candidate.{Candidate}
 use Rattle.dsv_template.specs.declared.verdict.ThreeLogs.{ThreeLogs}
-use Rattle.dsv_certfile.specs.declared.certificate.Certificate.{Certificate}
 use Rattle.dsv_certfile.specs.declared.certificate.Certificate.TheVariants as certificate
 use Rattle.dsv_certfile.specs.declared.job.CertWords.{CertWords}
 use Rattle.dsv_certfile.specs.declared.job.Size.{Size}
 use Rattle.dsv_certfile.specs.declared.job.Size.TheVariants as size
-use Rattle.dsv_certcheck.specs.Checks.{misfit, hints_check, invariant_check, gain_check, falls_check, words_check}
-use Rattle.dsv_certcheck.specs.LoopChecks.{loop_check, words_loop_check}
+use Rattle.dsv_certcheck.specs.Checks.{misfit, hints_check, invariant_check, gain_check, falls_check}
+use Rattle.dsv_certcheck.specs.LoopChecks.{loop_check}
 use Rattle.dsv_certcheck.specs.Misfits.{LoopsMisfitAlone, OthersMisfitLoops}
 
 -- ---- where no plant stands beside the controller
@@ -29,9 +29,9 @@ invariant_of_loop : (w : CertWords) (q : QuantisedView) (p : Property) (candidat
 invariant_of_loop w q (property.OfRuns run.Overflow) candidate logs = refl
 invariant_of_loop w q p candidate logs = refl
 
-gain_of_loop : (w : CertWords) (q : QuantisedView) (p : Property) (depth : ℕ) → gain_check w q p size.OfLoop depth ≡ misfit w
-gain_of_loop w q (property.OfRuns run.Overflow) depth = refl
-gain_of_loop w q p depth = refl
+gain_of_loop : (w : CertWords) (q : QuantisedView) (p : Property) (depth : ℕ) (offer : Option RoundoffOffer) → gain_check w q p size.OfLoop depth offer ≡ misfit w
+gain_of_loop w q (property.OfRuns run.Overflow) depth offer = refl
+gain_of_loop w q p depth offer = refl
 
 falls_of_loop : (w : CertWords) (q : QuantisedView) (p : Property) (offer : Falls) → falls_check w q p size.OfLoop offer ≡ misfit w
 falls_of_loop w q (property.OfRoots p) offer = refl
@@ -41,7 +41,8 @@ pub loops_misfit_alone : LoopsMisfitAlone
 loops_misfit_alone q (certificate.Hints job log) e = ap (λ s. hints_check job.words q job.property s log) e ∙ hints_of_loop job.words q job.property log
 loops_misfit_alone q (certificate.Invariant job candidate logs) e =
     ap (λ s. invariant_check job.words q job.property s candidate logs) e ∙ invariant_of_loop job.words q job.property candidate logs
-loops_misfit_alone q (certificate.Gain job depth) e = ap (λ s. gain_check job.words q job.property s depth) e ∙ gain_of_loop job.words q job.property depth
+loops_misfit_alone q (certificate.Gain job depth offer) e =
+    ap (λ s. gain_check job.words q job.property s depth offer) e ∙ gain_of_loop job.words q job.property depth offer
 loops_misfit_alone q (certificate.Falls job offer) e = ap (λ s. falls_check job.words q job.property s offer) e ∙ falls_of_loop job.words q job.property offer
 
 -- ---- where one does

@@ -1,5 +1,5 @@
--- A claim that is so passes its check.
-use Rattle.std.proofs.Common.{◌≡◌, ◌∙◌, ap, ℕ, suc, ◌+◌, ◌-◌, ◌<◌, ◌≤◌, nat_le, ◌==◌, Bool, true, false, List, length, None, Result, Ok, Err, if◌then◌else◌, refl, arith}
+-- A claim that is so passes its check, and an offer that passes shows a range.
+use Rattle.std.proofs.Common.{◌≡◌, ◌∙◌, ap, ℕ, suc, ◌+◌, ◌-◌, ◌<◌, ◌≤◌, nat_le, ◌==◌, Bool, true, false, List, length, Option, Some, None, Result, Ok, Err, if◌then◌else◌, refl, arith}
 use Rattle.std.proofs.Math.IntN.{ℤ}
 use Rattle.std.proofs.lemmas.Bool.{and_from, le-leb, le-ltb, eq-eqb}
 use Rattle.dsv_algebra.specs.Vectors.{vector_of}
@@ -36,7 +36,11 @@ use Rattle.dsv_template.specs.declared.verdict.ThreeLogs.{ThreeLogs}
 use Rattle.dsv_invariant.specs.Causes.{IsShaped, IsGood}
 use Rattle.dsv_invariant.specs.Formulas.{set_formula_of}
 use Rattle.dsv_invariant.specs.Limits.{unbounded_samples}
+use Rattle.dsv_linear.specs.declared.range.Range.{Range}
+use Rattle.dsv_realise.specs.Netlists.{net_of}
+use Rattle.dsv_roundoff.specs.declared.offers.RoundoffOffer.{RoundoffOffer}
 use Rattle.dsv_gain.specs.Controllers.{outlook_of}
+use Rattle.dsv_gain.specs.Errors.{error_of}
 use Rattle.dsv_gain.specs.declared.outlook.Gain.{Gain}
 use Rattle.dsv_gain.specs.declared.outlook.Outlook.TheVariants as outlook
 use Rattle.dsv_certfile.specs.Lawful.{IsSize}
@@ -46,7 +50,7 @@ use Rattle.dsv_certfile.specs.declared.fault.CheckFault.TheVariants as fault
 use Rattle.dsv_certfile.specs.declared.job.CertWords.{CertWords}
 use Rattle.dsv_certfile.specs.declared.job.CertWords.TheVariants as words
 use Rattle.dsv_certfile.specs.declared.job.Size.TheVariants as size
-use Rattle.dsv_certcheck.specs.Checks.{Checked, refused, format_check, misfit, size_check, verdict_at, log_check, run_check, is_some_samples, hints_check, sentences_check, shape_check, invariant_check, outlook_check, depth_check, gain_check, refusal_check, offer_check, tested_check, falls_check}
+use Rattle.dsv_certcheck.specs.Checks.{Checked, refused, format_check, misfit, size_check, verdict_at, log_check, run_check, is_some_samples, hints_check, sentences_check, shape_check, invariant_check, shown_check, error_check, outlook_check, depth_check, gain_check, refusal_check, offer_check, tested_check, falls_check}
 use Rattle.dsv_certcheck.specs.LoopChecks.{polynomial_check, loop_check}
 use Rattle.dsv_certcheck.specs.LineNumbers.{version_line_number, format_line_number, body_line, log_line}
 use Rattle.dsv_certcheck.specs.declared.check_refusal.CheckRefusal.TheVariants as refusal
@@ -95,10 +99,19 @@ invariant_passes w q conflicts candidate logs within shaped good =
     ∙ log_passes (set_formula_of q candidate part.Safe) (log_line w part.Safe candidate logs) logs.safe good.safe.accepted
 
 -- ---- a gain
-pub gain_passes : (w : CertWords) (q : QuantisedView) (depth : ℕ) (gain : Gain) → depth ≤ most_gain_depth → outlook_of q (suc depth) ≡ outlook.Safe gain
-    → gain_check w q (property.OfRuns run.Overflow) size.Unbounded depth ≡ Ok tt
-gain_passes w q depth gain within e =
-    ap (λ b. if b then depth_check w q depth else misfit w) (le-leb depth most_gain_depth within) ∙ ap (outlook_check w) e
+-- with an offer beside it that passes, or with none
+pub gain_passes : (w : CertWords) (q : QuantisedView) (depth : ℕ) (offer : Option RoundoffOffer) (gain : Gain) → depth ≤ most_gain_depth → outlook_of q (suc depth) ≡ outlook.Safe gain
+    → error_check w q offer ≡ Ok tt → gain_check w q (property.OfRuns run.Overflow) size.Unbounded depth offer ≡ Ok tt
+gain_passes w q depth offer gain within e h =
+    ap (λ b. if b then depth_check w q depth offer else misfit w) (le-leb depth most_gain_depth within) ∙ ap (outlook_check w (error_check w q offer)) e ∙ h
+
+-- what an offer that passes shows of the output
+shown_passes : (w : CertWords) (o : Option Range) → shown_check w o ≡ Ok tt → (r : Range) × (o ≡ Some r)
+shown_passes w (Some r) e = (r, refl)
+shown_passes w None e = absurd (cc)
+
+pub error_passes : (w : CertWords) (q : QuantisedView) (offer : RoundoffOffer) → error_check w q (Some offer) ≡ Ok tt → (r : Range) × (error_of (net_of q) offer ≡ Some r)
+error_passes w q offer e = shown_passes w (error_of (net_of q) offer) e
 
 -- ---- a form that falls
 offer_passes : (w : CertWords) (c : List ℤ) (offer : Falls) → 0 < length c → falls_refusal c offer ≡ None → offer_check w c offer ≡ Ok tt

@@ -25,7 +25,11 @@ use Rattle.dsv_tested.specs.declared.side.Tested.TheVariants as tested
 use Rattle.dsv_template.specs.Candidates.{is_shaped}
 use Rattle.dsv_template.specs.declared.candidate.Candidate.{Candidate}
 use Rattle.dsv_template.specs.declared.verdict.ThreeLogs.{ThreeLogs}
+use Rattle.dsv_linear.specs.declared.range.Range.{Range}
+use Rattle.dsv_realise.specs.Netlists.{net_of}
+use Rattle.dsv_roundoff.specs.declared.offers.RoundoffOffer.{RoundoffOffer}
 use Rattle.dsv_gain.specs.Controllers.{outlook_of}
+use Rattle.dsv_gain.specs.Errors.{error_of}
 use Rattle.dsv_gain.specs.declared.outlook.Outlook.{Outlook}
 use Rattle.dsv_gain.specs.declared.outlook.Outlook.TheVariants as outlook
 use Rattle.dsv_certfile.specs.Limits.{most_gain_depth}
@@ -34,7 +38,7 @@ use Rattle.dsv_certfile.specs.declared.certificate.Certificate.TheVariants as ce
 use Rattle.dsv_certfile.specs.declared.job.CertWords.{CertWords}
 use Rattle.dsv_certfile.specs.declared.job.Size.{Size}
 use Rattle.dsv_certfile.specs.declared.job.Size.TheVariants as size
-use Rattle.dsv_certcheck.specs.Checks.{Checked, misfit, size_check, verdict_at, log_check, run_check, is_some_samples, hints_check, sentences_check, shape_check, set_check, invariant_check, outlook_check, depth_check, gain_check, refusal_check, offer_check, tested_check, falls_check, words_check}
+use Rattle.dsv_certcheck.specs.Checks.{Checked, misfit, size_check, verdict_at, log_check, run_check, is_some_samples, hints_check, sentences_check, shape_check, set_check, invariant_check, shown_check, error_check, outlook_check, depth_check, gain_check, refusal_check, offer_check, tested_check, falls_check, words_check}
 use Rattle.dsv_certcheck.specs.declared.check_refusal.CheckRefusal.TheVariants as refusal
 
 -- it isn't found that there are no words
@@ -97,19 +101,28 @@ has_falls : (w : CertWords) (q : QuantisedView) (p : Property) (s : Size) (offer
 has_falls w q (property.OfRoots p) size.NoSize offer = has_tested w (tested_of q (side_of p)) offer
 has_falls w q p s offer = tt
 
-has_outlook : (w : CertWords) (found : Outlook) → HasWords (outlook_check w found)
-has_outlook w (outlook.Safe gain) = tt
-has_outlook w (outlook.Leaves sample value) = tt
-has_outlook w outlook.Deep = tt
+has_shown : (w : CertWords) (o : Option Range) → HasWords (shown_check w o)
+has_shown w (Some r) = tt
+has_shown w None = tt
 
-has_gain : (w : CertWords) (q : QuantisedView) (p : Property) (s : Size) (depth : ℕ) → HasWords (gain_check w q p s depth)
-has_gain w q (property.OfRuns run.Overflow) size.Unbounded depth =
-    has_either (nat_le depth most_gain_depth) (depth_check w q depth) (misfit w) (has_outlook w (outlook_of q (suc depth))) tt
-has_gain w q p s depth = tt
+has_error : (w : CertWords) (q : QuantisedView) (offer : Option RoundoffOffer) → HasWords (error_check w q offer)
+has_error w q None = tt
+has_error w q (Some offer) = has_shown w (error_of (net_of q) offer)
+
+has_outlook : (w : CertWords) (rest : Checked) (found : Outlook) → HasWords rest → HasWords (outlook_check w rest found)
+has_outlook w rest (outlook.Safe gain) h = h
+has_outlook w rest (outlook.Leaves sample value) h = tt
+has_outlook w rest outlook.Deep h = tt
+
+has_gain : (w : CertWords) (q : QuantisedView) (p : Property) (s : Size) (depth : ℕ) (offer : Option RoundoffOffer) → HasWords (gain_check w q p s depth offer)
+has_gain w q (property.OfRuns run.Overflow) size.Unbounded depth offer =
+    has_either (nat_le depth most_gain_depth) (depth_check w q depth offer) (misfit w)
+    (has_outlook w (error_check w q offer) (outlook_of q (suc depth)) (has_error w q offer)) tt
+has_gain w q p s depth offer = tt
 
 -- ---- certificates
 pub has_words : (q : QuantisedView) (c : Certificate) → HasWords (words_check q c)
 has_words q (certificate.Hints job log) = has_hints job.words q job.property job.size log
 has_words q (certificate.Invariant job candidate logs) = has_invariant job.words q job.property job.size candidate logs
-has_words q (certificate.Gain job depth) = has_gain job.words q job.property job.size depth
+has_words q (certificate.Gain job depth offer) = has_gain job.words q job.property job.size depth offer
 has_words q (certificate.Falls job offer) = has_falls job.words q job.property job.size offer

@@ -33,7 +33,11 @@ use Rattle.dsv_template.specs.declared.verdict.SetPart.TheVariants as part
 use Rattle.dsv_template.specs.declared.verdict.ThreeLogs.{ThreeLogs}
 use Rattle.dsv_invariant.specs.Formulas.{set_formula_of}
 use Rattle.dsv_invariant.specs.Limits.{unbounded_samples}
+use Rattle.dsv_linear.specs.declared.range.Range.{Range}
+use Rattle.dsv_realise.specs.Netlists.{net_of}
+use Rattle.dsv_roundoff.specs.declared.offers.RoundoffOffer.{RoundoffOffer}
 use Rattle.dsv_gain.specs.Controllers.{outlook_of}
+use Rattle.dsv_gain.specs.Errors.{error_of}
 use Rattle.dsv_gain.specs.declared.outlook.Outlook.{Outlook}
 use Rattle.dsv_gain.specs.declared.outlook.Outlook.TheVariants as outlook
 use Rattle.dsv_certcheck.specs.FormLines.{form_line}
@@ -135,20 +139,32 @@ invariant_check w q (property.OfRuns run.Overflow) size.Unbounded candidate logs
 invariant_check w q p s candidate logs = misfit w
 
 -- ---- a gain
--- the gain was found
-abbrev pub outlook_check : CertWords → Outlook → Checked
-outlook_check w (outlook.Safe gain) = Ok tt
-outlook_check w other = refused (kind_line w) fault.Gain
+-- the offer shows a range of the output's difference
+abbrev pub shown_check : CertWords → Option Range → Checked
+shown_check w (Some r) = Ok tt
+shown_check w None = refused (kind_line w) fault.Error
+
+-- where there is an offer, it shows how far the output is from that of exact runs
+abbrev pub error_check : CertWords → QuantisedView → Option RoundoffOffer → Checked
+error_check w q None = Ok tt
+error_check w q (Some offer) = shown_check w (error_of (net_of q) offer)
+
+-- the gain was found, and then the rest
+abbrev pub outlook_check : CertWords → Checked → Outlook → Checked
+outlook_check w rest (outlook.Safe gain) = rest
+outlook_check w rest other = refused (kind_line w) fault.Gain
 
 -- the ranges of all exact values are ones of words at the depth or before it, whatever words were
--- in the registers
-abbrev pub depth_check : CertWords → QuantisedView → ℕ → Checked
-depth_check w q depth = outlook_check w (outlook_of q (suc depth))
+-- in the registers; and then the offer
+abbrev pub depth_check : CertWords → QuantisedView → ℕ → Option RoundoffOffer → Checked
+depth_check w q depth offer =
+    outlook_check w (error_check w q offer) (outlook_of q (suc depth))
 
-abbrev pub gain_check : CertWords → QuantisedView → Property → Size → ℕ → Checked
-gain_check w q (property.OfRuns run.Overflow) size.Unbounded depth =
-    if nat_le depth most_gain_depth then depth_check w q depth else misfit w
-gain_check w q p s depth = misfit w
+abbrev pub gain_check : CertWords → QuantisedView → Property → Size → ℕ → Option RoundoffOffer
+    → Checked
+gain_check w q (property.OfRuns run.Overflow) size.Unbounded depth offer =
+    if nat_le depth most_gain_depth then depth_check w q depth offer else misfit w
+gain_check w q p s depth offer = misfit w
 
 -- ---- falls
 -- the line at which a form is refused, where it is
@@ -178,7 +194,8 @@ abbrev pub words_check : QuantisedView → Certificate → Checked
 words_check q (certificate.Hints job log) = hints_check job.words q job.property job.size log
 words_check q (certificate.Invariant job candidate logs) =
     invariant_check job.words q job.property job.size candidate logs
-words_check q (certificate.Gain job depth) = gain_check job.words q job.property job.size depth
+words_check q (certificate.Gain job depth offer) =
+    gain_check job.words q job.property job.size depth offer
 words_check q (certificate.Falls job offer) = falls_check job.words q job.property job.size offer
 
 -- in the job's realisation and modes the controller becomes these words, or is refused so

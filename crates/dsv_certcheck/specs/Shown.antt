@@ -1,5 +1,5 @@
 -- What a certificate that passes its check shows of a controller.
-use Rattle.std.specs.Prelude.{◌≡◌, ◌-◌, List, length, Ok, ℤ}
+use Rattle.std.specs.Prelude.{◌≡◌, ◌-◌, List, length, Option, Some, None, Ok, ℤ}
 use Rattle.dsv_algebra.specs.Companion.{StrictlyFallsAlong}
 use Rattle.dsv_algebra.specs.Vectors.{vector_of, matrix_of}
 use Rattle.dsv_names.specs.declared.property.Property.{Property}
@@ -8,12 +8,20 @@ use Rattle.dsv_names.specs.declared.property.RunProperty.TheVariants as run
 use Rattle.dsv_names.specs.declared.property.RootProperty.{RootProperty}
 use Rattle.dsv_reader.specs.Controllers.{ControllerView}
 use Rattle.dsv_quantiser.specs.QuantisedView.{QuantisedView}
+use Rattle.dsv_linear.specs.declared.range.Range.{Range}
+use Rattle.dsv_realise.specs.Netlists.{net_of}
+use Rattle.dsv_roundoff.specs.declared.offers.RoundoffOffer.{RoundoffOffer}
 use Rattle.dsv_gain.specs.Controllers.{NeverOverflows}
+use Rattle.dsv_gain.specs.Errors.{error_of}
+use Rattle.dsv_gain.specs.Near.{AlwaysNear}
 use Rattle.dsv_bounded.specs.RunQuestions.{Happens}
 use Rattle.dsv_forms.specs.declared.offers.Form.{Form}
 use Rattle.dsv_tested.specs.Tested.{side_of, tested_of}
 use Rattle.dsv_tested.specs.declared.side.Tested.TheVariants as tested
 use Rattle.dsv_certcheck.specs.Checks.{BecomesFor}
+use Rattle.dsv_certfile.specs.Texts.{job_of}
+use Rattle.dsv_certfile.specs.declared.certificate.Certificate.{Certificate}
+use Rattle.dsv_certfile.specs.declared.certificate.Certificate.TheVariants as certificate
 use Rattle.dsv_certfile.specs.declared.job.CertifiedJob.{CertifiedJob}
 use Rattle.dsv_certfile.specs.declared.job.Size.{Size}
 use Rattle.dsv_certfile.specs.declared.job.Size.TheVariants as size
@@ -42,3 +50,22 @@ pub record IsShownOf (c : ControllerView) (job : CertifiedJob) : Type 0 where
   pub quantised : QuantisedView
   pub becomes : BecomesFor c job (Ok quantised)
   pub has : Has quantised job.property job.size
+
+-- ---- how far outputs are from those of exact runs
+-- The offer, where there is one, shows a range, and in every sample of every run over inputs in
+-- range, of any length, the output less that of the exact run of the written equations lies in it.
+abbrev pub ShowsNear : QuantisedView → Option RoundoffOffer → Type 0
+ShowsNear q None = Unit {0}
+ShowsNear q (Some offer) =
+    (r : Range) × (error_of (net_of q) offer ≡ Some r) × AlwaysNear q r
+
+-- so does the offer of a certificate of a gain
+abbrev pub StaysAsOffered : QuantisedView → Certificate → Type 0
+StaysAsOffered q (certificate.Gain job depth offer) = ShowsNear q offer
+StaysAsOffered q other = Unit {0}
+
+-- The words that the controller becomes stay as the certificate offers.
+pub record IsNearOf (c : ControllerView) (cert : Certificate) : Type 0 where
+  pub quantised : QuantisedView
+  pub becomes : BecomesFor c (job_of cert) (Ok quantised)
+  pub near : StaysAsOffered quantised cert

@@ -1,9 +1,10 @@
 // The check of certificates against controllers.
 ghost use Rattle.std.specs.Prelude.{◌≡◌, ◌≤◌, OnOk};
 ghost use Rattle.dsv_certcheck.specs.Checks.{Finds, IsChecked, format_check, words_check};
-ghost use Rattle.dsv_certcheck.specs.Checks.{hints_check, invariant_check, depth_check, gain_check};
-ghost use Rattle.dsv_certcheck.specs.Checks.{falls_check, offer_check};
+ghost use Rattle.dsv_certcheck.specs.Checks.{hints_check, invariant_check, error_check};
+ghost use Rattle.dsv_certcheck.specs.Checks.{depth_check, gain_check, falls_check, offer_check};
 ghost use Rattle.dsv_certcheck.specs.Shown.{Has, IsShownOf, IsFalling};
+ghost use Rattle.dsv_certcheck.specs.Shown.{ShowsNear, StaysAsOffered, IsNearOf};
 ghost use Rattle.dsv_certfile.specs.Limits.{most_gain_depth};
 ghost use Rattle.dsv_certfile.specs.Texts.{job_of};
 ghost use Rattle.dsv_gain.specs.Controllers.{NeverOverflows};
@@ -16,11 +17,12 @@ use dsv_certfile::{
     NARROW_WORD_BITS, Size,
 };
 use dsv_forms::{Falls, Poly, check_falls};
-use dsv_gain::{Outlook, overflow_gain};
+use dsv_gain::{Outlook, controller_error, overflow_gain};
 use dsv_hints::Log;
 use dsv_names::{Property, RunProperty};
 use dsv_quantiser::{Quantised, quantise_in};
 use dsv_reader::Controller;
+use dsv_roundoff::RoundoffOffer;
 use dsv_template::{Candidate, ThreeLogs};
 use dsv_tested::{Tested, polynomial_of, side_of};
 use std::alloc::Global;
@@ -94,19 +96,44 @@ fn check_invariant(
     }
 }
 
-/// Checks that the ranges of all exact values are ones of words at a depth or before it.
+/// Checks that an offer, where there is one, shows how far the output is from that of exact runs.
+fn check_error(
+    alloc: Global,
+    quantised: &Quantised,
+    words: CertWords,
+    offer: &Option<RoundoffOffer>,
+) -> Result<(), CheckRefusal>
+    ensures { Finds result (error_check words quantised.now offer.now) }
+{
+    match offer {
+        Some(offer) => match controller_error(alloc, quantised, offer)? {
+            Some(_) => Ok(()),
+            None => Err(CheckRefusal::Line {
+                line: kind_line(words),
+                fault: CheckFault::Error,
+            }),
+        },
+        None => Ok(()),
+    }
+}
+
+/// Checks that the ranges of all exact values are ones of words at a depth or before it, and then
+/// the offer.
 fn check_depth(
     alloc: Global,
     quantised: &Quantised,
     words: CertWords,
     depth: u32,
+    offer: &Option<RoundoffOffer>,
 ) -> Result<(), CheckRefusal>
     requires { depth ≤ most_gain_depth }
-    ensures found { Finds result (depth_check words quantised.now depth) }
+    ensures found { Finds result (depth_check words quantised.now depth offer.now) }
     ensures shows { OnOk result (NeverOverflows quantised.now) }
+    ensures near { OnOk result (ShowsNear quantised.now offer.now) }
 {
+    let _order = quantised.order(); // its range, for the proof
     match overflow_gain(alloc, quantised, depth + 1)? {
-        Outlook::Safe(_) => Ok(()),
+        Outlook::Safe(_) => check_error(alloc, quantised, words, offer),
         Outlook::Leaves { .. } | Outlook::Deep => Err(CheckRefusal::Line {
             line: kind_line(words),
             fault: CheckFault::Gain,
@@ -114,20 +141,22 @@ fn check_depth(
     }
 }
 
-/// Checks that a depth shows the property of a job.
+/// Checks that a depth shows the property of a job, and then the offer beside it.
 fn check_gain(
     alloc: Global,
     quantised: &Quantised,
     job: &CertifiedJob,
     depth: u32,
+    offer: &Option<RoundoffOffer>,
 ) -> Result<(), CheckRefusal>
-    ensures found { Finds result
-        (gain_check job.now.words quantised.now job.now.property job.now.size depth) }
+    ensures found { Finds result (gain_check job.now.words quantised.now job.now.property
+        job.now.size depth offer.now) }
     ensures shows { OnOk result (Has quantised.now job.now.property job.now.size) }
+    ensures near { OnOk result (ShowsNear quantised.now offer.now) }
 {
     match (job.property, job.size) {
         (Property::OfRuns(RunProperty::Overflow), Size::Unbounded) if depth <= MOST_GAIN_DEPTH => {
-            check_depth(alloc, quantised, job.words, depth)
+            check_depth(alloc, quantised, job.words, depth, offer)
         }
         (_, _) => Err(CheckRefusal::misfit(job.words)),
     }
@@ -177,6 +206,7 @@ fn check_words(
     ensures found { Finds result (words_check quantised.now certificate.now) }
     ensures shows { OnOk result
         (Has quantised.now (job_of certificate.now).property (job_of certificate.now).size) }
+    ensures near { OnOk result (StaysAsOffered quantised.now certificate.now) }
 {
     match certificate {
         Certificate::Hints { job, log } => check_hints(alloc, quantised, job, log),
@@ -185,7 +215,9 @@ fn check_words(
             candidate,
             logs,
         } => check_invariant(alloc, quantised, job, candidate, logs),
-        Certificate::Gain { job, depth } => check_gain(alloc, quantised, job, *depth),
+        Certificate::Gain { job, depth, offer } => {
+            check_gain(alloc, quantised, job, *depth, offer)
+        }
         Certificate::Falls { job, offer } => check_form(quantised, job, offer),
     }
 }
@@ -194,8 +226,9 @@ fn check_words(
 /// the certificate says, or where it says none, of at most `NARROW_WORD_BITS` bits; then these
 /// words in the certificate's modes, and from these the formulas of its job, or the polynomial, are
 /// made anew, and nothing else that the certificate says is believed. What passes has the
-/// certificate's property, whatever else is in the certificate. It takes memory for a formula and a
-/// log at a time.
+/// certificate's property, whatever else is in the certificate; and where a gain has an offer
+/// beside it, this shows how far the output is from that of exact runs. It takes memory for a
+/// formula and a log at a time.
 pub fn check(
     alloc: Global,
     controller: &Controller,
@@ -203,6 +236,7 @@ pub fn check(
 ) -> Result<(), CheckRefusal>
     ensures found { IsChecked controller.now certificate.now result }
     ensures shows { OnOk result (IsShownOf controller.now (job_of certificate.now)) }
+    ensures near { OnOk result (IsNearOf controller.now certificate.now) }
 {
     let job = certificate.job();
     check_format(controller, job.words)?;

@@ -1,13 +1,13 @@
 -- An invariant that was read has numbers of their ranges.
-use Rattle.std.proofs.Common.{◌≡◌, ℕ, ◌+◌, ◌-◌, ◌≤◌, List, [], length, Ok, IfOk, ℤ, pos, arith}
+use Rattle.std.proofs.Common.{◌≡◌, ℕ, ◌+◌, ◌-◌, ◌≤◌, List, [], ◌∷◌, length, Ok, IfOk, ℤ, pos, arith}
 use Rattle.std.specs.Prelude.{min, max}
 use Rattle.std.specs.List.{All}
 use Rattle.std.proofs.lemmas.List.{length-take}
 use Rattle.std.proofs.lemmas.List.Elements.{All-nil, All-take, All-get_or}
 use Rattle.std.proofs.lemmas.Result.{IfOk-weaker}
-use Rattle.dsv_certfile.specs.Bodies.{lines_from, word_in, numbers_of, numbers_in, inequality_with, inequality_numbers, inequality_in, logs_in, invariant_in}
-use Rattle.dsv_certfile.specs.Lawful.{IsEntry, IsInequality, IsSet, AreLogs, IsLog}
-use Rattle.dsv_certfile.specs.Limits.{greatest_depth}
+use Rattle.dsv_certfile.specs.Bodies.{lines_from, word_in, numbers_of, numbers_in, inequality_with, inequality_numbers, inequality_in, logs_in, invariant_in, range_places, range_with, range_in, roundoff_in}
+use Rattle.dsv_certfile.specs.Lawful.{IsEntry, IsInequality, IsSet, AreLogs, IsLog, IsWordRange, IsRoundoffOffer}
+use Rattle.dsv_certfile.specs.Limits.{greatest_depth, most_gain_depth, most_box_ranges}
 use Rattle.dsv_template.specs.Limits.{most_inequalities}
 use Rattle.dsv_lines.specs.Pieces.{pieces_of}
 use Rattle.dsv_certfile.specs.Places.{word_places, inequality_places}
@@ -21,7 +21,7 @@ use Rattle.dsv_certfile.specs.declared.places.Place.{Place}
 use Rattle.dsv_certfile.proofs.LawfulParts.{then_has, Yields, yields_both, yields_made, yields_line, yields_lines}
 use Rattle.dsv_certfile.proofs.LawfulSteps.{yields_log}
 use Rattle.dsv_certfile.proofs.RangeLemmas.{row_has, line_numbers_have}
-use Rattle.dsv_certfile.proofs.WrittenBodies.{after_step, after_base, after_start, after_inequalities, proof_with}
+use Rattle.dsv_certfile.proofs.WrittenBodies.{after_step, after_base, after_start, after_inequalities, proof_with, after_ranges, offer_with}
 
 -- the numbers of a line, of which something follows from the ranges of its places
 pub yields_numbers : (places : List Place) (P : List ℤ → Type 0) → ((zs : List ℤ) → AreOf places zs → P zs) → Yields (numbers_in places) P
@@ -64,6 +64,24 @@ yields_logs =
     (λ step s. yields_made (log_in keyword.End) (λ safe. record { base = base; step = step; safe = safe }) IsLog AreLogs (yields_log keyword.End)
     (λ safe h. record { base = b; step = s; safe = h }))))
 
+-- ---- how far outputs are from those of exact runs
+range_is : (zs : List ℤ) → AreOf range_places zs → IsWordRange (range_with zs)
+range_is [] h = absurd h
+range_is (low ∷ []) h = absurd (h.1)
+range_is (low ∷ high ∷ zs) h = record { low = h.0; high = h.1.0 }
+
+range_has : (bytes : List ℕ) → IfOk (range_in bytes) IsWordRange
+range_has bytes =
+    then_has (numbers_of range_places bytes) (λ (zs : List ℤ). Ok (range_with zs)) (AreOf range_places) IsWordRange (line_numbers_have range_places (pieces_of bytes)) range_is
+
+pub yields_roundoff : (depth count : ℕ) → depth ≤ most_gain_depth → count ≤ most_box_ranges → Yields (roundoff_in depth count) IsRoundoffOffer
+yields_roundoff depth count h k =
+    yields_both (lines_from range_in count []) (after_ranges depth) (λ ws. (length ws ≡ 0 + count) × All IsWordRange ws) IsRoundoffOffer
+    (yields_lines range_in IsWordRange range_has count [] (All-nil IsWordRange))
+    (λ ws q. yields_made (word_in keyword.End) (λ _. offer_with depth ws) (λ _. Unit {0}) IsRoundoffOffer (yields_word keyword.End)
+    (λ _ _. record { depth = h; few = omega (arith, q.0, k); ranges = q.1 }))
+
+-- ---- an invariant
 abbrev pub IsProof : SetProof → Type 0
 IsProof p = IsSet p.candidate × AreLogs p.logs
 

@@ -1,11 +1,11 @@
 -- A certificate that was read is one that texts spell.
-use Rattle.std.proofs.Common.{◌≡◌, ℕ, List, Result, Ok, Err, IfOk}
+use Rattle.std.proofs.Common.{◌≡◌, ◌∙◌, sym, ℕ, List, Some, None, Result, Ok, Err, IfOk}
 use Rattle.std.proofs.lemmas.Result.{IfOk-at_ok}
 use Rattle.dsv_text.specs.Stages.{◌>>=◌}
 use Rattle.dsv_lines.specs.Readings.{Reading}
 use Rattle.dsv_certfile.specs.Answers.{cert_answer}
-use Rattle.dsv_certfile.specs.Bodies.{whole_text, word_in, invariant_in, falls_in}
-use Rattle.dsv_certfile.specs.Lawful.{IsSize, IsWords, IsLog, IsOffer, IsLawful}
+use Rattle.dsv_certfile.specs.Bodies.{whole_text, word_in, invariant_in, falls_in, roundoff_in}
+use Rattle.dsv_certfile.specs.Lawful.{IsSize, IsWords, IsLog, IsOffer, IsRoundoffOffer, IsLawful}
 use Rattle.dsv_lines.specs.Pieces.{all_lines}
 use Rattle.dsv_certfile.specs.Reading.{heading_in, body_in, whole_certificate, certificate_in}
 use Rattle.dsv_certfile.specs.Steps.{log_in}
@@ -17,7 +17,8 @@ use Rattle.dsv_certfile.specs.declared.keyword.Keyword.TheVariants as keyword
 use Rattle.dsv_certfile.specs.declared.kind.KindHead.{KindHead}
 use Rattle.dsv_certfile.specs.declared.kind.KindHead.TheVariants as head
 use Rattle.dsv_certfile.specs.declared.reader.Heading.{Heading}
-use Rattle.dsv_certfile.proofs.LawfulBodies.{IsProof, yields_word, yields_invariant}
+use Rattle.dsv_certfile.proofs.LawfulBodies.{IsProof, yields_word, yields_roundoff, yields_invariant}
+use Rattle.dsv_certfile.proofs.KindLemmas.{one_kind}
 use Rattle.dsv_certfile.proofs.LawfulFalls.{yields_falls}
 use Rattle.dsv_certfile.proofs.LawfulHeadings.{IsHeadFor, IsHeading, yields_heading}
 use Rattle.dsv_certfile.proofs.LawfulParts.{then_has, whole_text_has, Yields, yields_made}
@@ -30,7 +31,10 @@ yields_body job (head.Invariant depth count) s w e =
     yields_made (invariant_in depth count) (λ i. certificate.Invariant job i.candidate i.logs) IsProof IsLawful (yields_invariant depth count e.1 e.2)
     (λ i p. (record { size = s; words = w; belongs = e.0 }, p.0, p.1))
 yields_body job (head.Gain depth) s w e =
-    yields_made (word_in keyword.End) (λ _. certificate.Gain job depth) (λ _. Unit {0}) IsLawful (yields_word keyword.End) (λ _ _. (record { size = s; words = w; belongs = e.0 }, e.1))
+    yields_made (word_in keyword.End) (λ _. certificate.Gain job depth None) (λ _. Unit {0}) IsLawful (yields_word keyword.End) (λ _ _. (record { size = s; words = w; belongs = e.0 }, e.1, tt))
+yields_body job (head.Error depth error_depth count) s w e =
+    yields_made (roundoff_in error_depth count) (λ offer. certificate.Gain job depth (Some offer)) IsRoundoffOffer IsLawful (yields_roundoff error_depth count e.2 e.3)
+    (λ offer o. (record { size = s; words = w; belongs = sym (one_kind job) ∙ e.0 }, e.1, o))
 yields_body job (head.Falls d) s w e =
     yields_made (falls_in d) (certificate.Falls job) IsOffer IsLawful (yields_falls d e.1) (λ offer o. (record { size = s; words = w; belongs = e.0 }, o))
 

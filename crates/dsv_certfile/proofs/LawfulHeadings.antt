@@ -17,7 +17,7 @@ use Rattle.dsv_certfile.specs.Bodies.{line_in}
 use Rattle.dsv_certfile.specs.Keywords.{keyword_text, unbounded_text, plant_text}
 use Rattle.dsv_certfile.specs.Kinds.{kind_name, kinds, is_kind_of}
 use Rattle.dsv_certfile.specs.Lawful.{IsSize, IsWords}
-use Rattle.dsv_certfile.specs.Limits.{most_samples, greatest_depth, most_gain_depth, most_places}
+use Rattle.dsv_certfile.specs.Limits.{most_samples, greatest_depth, most_gain_depth, most_box_ranges, most_places}
 use Rattle.dsv_template.specs.Limits.{most_inequalities}
 use Rattle.dsv_certfile.specs.Numerals.{samples_of}
 use Rattle.dsv_lines.specs.Pieces.{pieces_of}
@@ -98,6 +98,8 @@ abbrev pub IsHeadFor : CertifiedJob → KindHead → Type 0
 IsHeadFor job head.Hints = is_kind_of job kind.Hints ≡ true
 IsHeadFor job (head.Invariant depth count) = (is_kind_of job kind.Invariant ≡ true) × (depth ≤ greatest_depth) × (count ≤ most_inequalities)
 IsHeadFor job (head.Gain depth) = (is_kind_of job kind.Gain ≡ true) × (depth ≤ most_gain_depth)
+IsHeadFor job (head.Error depth error_depth count) =
+    (is_kind_of job kind.Error ≡ true) × (depth ≤ most_gain_depth) × (error_depth ≤ most_gain_depth) × (count ≤ most_box_ranges)
 IsHeadFor job (head.Falls d) = (is_kind_of job kind.Falls ≡ true) × (d ≤ most_places)
 
 head_is : (job : CertifiedJob) (k : Kind) (zs : List ℤ) → is_kind_of job k ≡ true → AreOf (kind_places k) zs → IsHeadFor job (head_with k zs)
@@ -107,6 +109,10 @@ head_is job kind.Invariant (y ∷ []) e h = absurd (h.1)
 head_is job kind.Invariant (y ∷ z ∷ zs) e h = (e, h.0.1, h.1.0.1)
 head_is job kind.Gain [] e h = absurd h
 head_is job kind.Gain (z ∷ zs) e h = (e, h.0.1)
+head_is job kind.Error [] e h = absurd h
+head_is job kind.Error (x ∷ []) e h = absurd (h.1)
+head_is job kind.Error (x ∷ y ∷ []) e h = absurd (h.1.1)
+head_is job kind.Error (x ∷ y ∷ z ∷ zs) e h = (e, h.0.1, h.1.0.1, h.1.1.0.1)
 head_is job kind.Falls [] e h = absurd h
 head_is job kind.Falls (z ∷ zs) e h = (e, h.0.1)
 

@@ -1,5 +1,5 @@
 -- A certificate that was written and is accepted is lawful, with the numbers of its form's places alone, and has the same text.
-use Rattle.std.proofs.Common.{◌≡◌, ◌≤◌, ℕ, true, List, None, ℤ}
+use Rattle.std.proofs.Common.{◌≡◌, ◌≤◌, ℕ, true, List, Option, None, IfSome, ℤ}
 use Rattle.dsv_cnf.specs.FormulaView.{FormulaView}
 use Rattle.dsv_hints.specs.Lessons.{IsRefutation}
 use Rattle.dsv_hints.specs.declared.step.Step.{Step}
@@ -7,11 +7,12 @@ use Rattle.dsv_hints.proofs.AcceptedIds.{accepted_ids}
 use Rattle.dsv_forms.specs.Refusals.{falls_refusal}
 use Rattle.dsv_forms.specs.declared.offers.Falls.{Falls}
 use Rattle.dsv_forms.proofs.SmallOffers.{accepted_are_narrow}
+use Rattle.dsv_roundoff.specs.declared.offers.RoundoffOffer.{RoundoffOffer}
 use Rattle.dsv_template.specs.Candidates.{is_shaped}
 use Rattle.dsv_template.specs.declared.candidate.Candidate.{Candidate}
 use Rattle.dsv_template.specs.declared.verdict.ThreeLogs.{ThreeLogs}
 use Rattle.dsv_certfile.specs.Kinds.{is_kind_of}
-use Rattle.dsv_certfile.specs.Lawful.{IsLog, AreLogs, IsLawful, certificate_alone}
+use Rattle.dsv_certfile.specs.Lawful.{IsLog, AreLogs, IsRoundoffOffer, IsLawful, certificate_alone}
 use Rattle.dsv_certfile.specs.Limits.{most_gain_depth}
 use Rattle.dsv_certfile.specs.Texts.{certificate_text}
 use Rattle.dsv_certfile.specs.Typed.{IsTypedLog, IsTyped}
@@ -47,8 +48,9 @@ invariant_is_lawful registers conflicts base step safe job candidate logs b t sh
     (record { size = t.size; words = t.words; belongs = b }, set_is_lawful registers candidate t.body.0 shaped, are)
 
 -- ---- a gain
-pub gain_is_lawful : (job : CertifiedJob) (depth : ℕ) → is_kind_of job kind.Gain ≡ true → IsTyped (certificate.Gain job depth) → depth ≤ most_gain_depth → IsLawful (certificate.Gain job depth)
-gain_is_lawful job depth b t h = (record { size = t.size; words = t.words; belongs = b }, h)
+pub gain_is_lawful : (job : CertifiedJob) (depth : ℕ) (offer : Option RoundoffOffer) → is_kind_of job kind.Gain ≡ true → IsTyped (certificate.Gain job depth offer) → depth ≤ most_gain_depth
+    → IfSome offer IsRoundoffOffer → IsLawful (certificate.Gain job depth offer)
+gain_is_lawful job depth offer b t h o = (record { size = t.size; words = t.words; belongs = b }, h, o)
 
 -- ---- a form that falls
 pub falls_are_lawful : (c : List ℤ) (job : CertifiedJob) (offer : Falls) → is_kind_of job kind.Falls ≡ true → IsTyped (certificate.Falls job offer) → falls_refusal c offer ≡ None

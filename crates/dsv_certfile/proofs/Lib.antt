@@ -3,6 +3,7 @@ pub mod BodyLemmas
 pub mod Corners
 pub mod Filling
 pub mod HeadingLemmas
+pub mod KindLemmas
 pub mod LawfulBodies
 pub mod LawfulCertificates
 pub mod LawfulEllipsoids

@@ -10,14 +10,16 @@ use Rattle.dsv_template.specs.declared.candidate.Candidate.{Candidate}
 use Rattle.dsv_template.specs.declared.candidate.Inequality.{Inequality}
 use Rattle.dsv_template.specs.declared.verdict.ThreeLogs.{ThreeLogs}
 use Rattle.dsv_hints.specs.declared.step.Step.{Step}
+use Rattle.dsv_roundoff.specs.declared.offers.RoundoffOffer.{RoundoffOffer}
+use Rattle.dsv_roundoff.specs.declared.offers.WordRange.{WordRange}
 use Rattle.dsv_lines.specs.Readings.{reading_of}
-use Rattle.dsv_certfile.specs.Bodies.{lines_from, numbers_of, word_in, inequality_with, inequality_numbers, inequality_in, logs_in, invariant_in}
+use Rattle.dsv_certfile.specs.Bodies.{lines_from, numbers_of, word_in, inequality_with, inequality_numbers, inequality_in, logs_in, invariant_in, range_places, range_with, range_in, roundoff_in}
 use Rattle.dsv_certfile.specs.Keywords.{keyword_text}
-use Rattle.dsv_certfile.specs.Lawful.{IsEntry, IsInequality, IsSet, AreLogs}
+use Rattle.dsv_certfile.specs.Lawful.{IsEntry, IsInequality, IsSet, AreLogs, IsWordRange, IsRoundoffOffer}
 use Rattle.dsv_certfile.specs.Numerals.{number_in}
 use Rattle.dsv_certfile.specs.Places.{word_places, inequality_places}
 use Rattle.dsv_certfile.specs.Steps.{log_in}
-use Rattle.dsv_certfile.specs.Texts.{word_line, numbers_line, log_lines, inequality_line, logs_lines}
+use Rattle.dsv_certfile.specs.Texts.{word_line, numbers_line, log_lines, inequality_line, logs_lines, range_line}
 use Rattle.dsv_certfile.specs.declared.fault.TextFault.{TextFault}
 use Rattle.dsv_certfile.specs.declared.invariant.SetProof.{SetProof}
 use Rattle.dsv_certfile.specs.declared.keyword.Keyword.{Keyword}
@@ -131,3 +133,31 @@ invariant_plain candidate logs h k =
     All-append IsLine (map inequality_line candidate.inequalities.items) (logs_lines logs)
     (All-map IsLine inequality_line candidate.inequalities.items (All-weaker IsInequality (λ i. IsLine (inequality_line i)) inequality_plain candidate.inequalities.items h.inequalities))
     (logs_plain logs k)
+
+-- ---- how far outputs are from those of exact runs
+abbrev pub offer_with : ℕ → List WordRange → RoundoffOffer
+offer_with depth ranges = record { depth = depth; ranges = ranges }
+
+abbrev pub after_ranges : ℕ → List WordRange → Reader RoundoffOffer
+after_ranges depth ranges ls = word_in keyword.End ls >>= λ end. Ok (reading_of (offer_with depth ranges) end.left)
+
+ends_are : (w : WordRange) → IsWordRange w → All IsEntry (w.low ∷ w.high ∷ [])
+ends_are w h = All-cons IsEntry w.low (w.high ∷ []) h.low (All-cons IsEntry w.high [] h.high (All-nil IsEntry))
+
+range_plain : (w : WordRange) → IsWordRange w → IsLine (range_line w)
+range_plain w h = entries_plain keyword.Box (w.low ∷ w.high ∷ []) (ends_are w h)
+
+range_back : (w : WordRange) → IsWordRange w → range_in (line_bytes (range_line w)) ≡ Ok w
+range_back w h =
+    ap (λ (r : Result (List ℤ) TextFault). r >>= λ numbers. Ok (range_with numbers))
+    (numbers_of-line_bytes range_places (range_line w) (w.low ∷ w.high ∷ []) (range_plain w h) (refl, (entry_read w.low h.low, (entry_read w.high h.high, tt))))
+
+pub takes_roundoff : (offer : RoundoffOffer) → IsRoundoffOffer offer
+    → Takes (roundoff_in offer.depth (length offer.ranges)) offer (map range_line offer.ranges ++ word_line keyword.End ∷ [])
+takes_roundoff offer h =
+    takes_both (lines_from range_in (length offer.ranges) []) (after_ranges offer.depth) offer.ranges offer (map range_line offer.ranges) (word_line keyword.End ∷ [])
+    (takes_lines range_in range_line offer.ranges [] (All-weaker IsWordRange (λ w. range_in (line_bytes (range_line w)) ≡ Ok w) range_back offer.ranges h.ranges))
+    (takes_made (word_in keyword.End) (λ _. offer) [] (word_line keyword.End ∷ []) (takes_word keyword.End))
+
+pub box_plain : (offer : RoundoffOffer) → IsRoundoffOffer offer → All IsLine (map range_line offer.ranges)
+box_plain offer h = All-map IsLine range_line offer.ranges (All-weaker IsWordRange (λ w. IsLine (range_line w)) range_plain offer.ranges h.ranges)

@@ -1,20 +1,20 @@
 -- A certificate is read back from its text.
-use Rattle.std.proofs.Common.{◌≡◌, ◌∙◌, sym, ap, ℕ, ◌^◌, ◌<◌, [], ◌∷◌, ◌++◌, length, map, decimal, Result, Ok, pos, arith, append_assoc}
+use Rattle.std.proofs.Common.{◌≡◌, ◌∙◌, sym, ap, ℕ, ◌^◌, ◌<◌, [], ◌∷◌, ◌++◌, length, map, decimal, Some, None, Result, Ok, pos, arith, append_assoc}
 use Rattle.std.specs.List.{All}
 use Rattle.std.proofs.lemmas.List.Elements.{All-cons, All-nil, All-append}
 use Rattle.dsv_text.specs.Stages.{◌>>=◌}
 use Rattle.dsv_lines.specs.Readings.{Reading}
 use Rattle.dsv_certfile.specs.Answers.{cert_answer}
-use Rattle.dsv_certfile.specs.Bodies.{line_in, word_in, whole_text, invariant_in, falls_in}
+use Rattle.dsv_certfile.specs.Bodies.{line_in, word_in, whole_text, invariant_in, falls_in, roundoff_in}
 use Rattle.dsv_certfile.specs.Headings.{version_in, line_job, line_kind}
 use Rattle.dsv_certfile.specs.Lawful.{IsSize, IsWords, IsLawful}
-use Rattle.dsv_certfile.specs.Limits.{greatest_depth, most_gain_depth, most_places}
+use Rattle.dsv_certfile.specs.Limits.{greatest_depth, most_gain_depth, most_box_ranges, most_places}
 use Rattle.dsv_template.specs.Limits.{most_inequalities}
 use Rattle.dsv_lines.specs.Pieces.{unended, lines_of}
 use Rattle.dsv_certfile.specs.Reading.{words_in, heading_in, body_in, whole_certificate, certificate_in}
 use Rattle.dsv_certfile.specs.Steps.{log_in}
 use Rattle.dsv_lines.specs.Texts.{Line}
-use Rattle.dsv_certfile.specs.Texts.{log_lines, falls_lines, version_line, job_line, format_lines, head_lines, word_line, job_of, kind_line_of, body_lines, candidate_counts, certificate_lines, certificate_text, inequality_line, logs_lines}
+use Rattle.dsv_certfile.specs.Texts.{log_lines, falls_lines, version_line, job_line, format_lines, head_lines, word_line, job_of, kind_line_of, body_lines, candidate_counts, certificate_lines, certificate_text, inequality_line, logs_lines, range_line, roundoff_counts}
 use Rattle.dsv_certfile.specs.Words.{with_words}
 use Rattle.dsv_certfile.specs.declared.certificate.Certificate.{Certificate}
 use Rattle.dsv_certfile.specs.declared.certificate.Certificate.TheVariants as certificate
@@ -28,7 +28,8 @@ use Rattle.dsv_certfile.specs.declared.kind.Kind.TheVariants as kind
 use Rattle.dsv_certfile.specs.declared.kind.KindHead.{KindHead}
 use Rattle.dsv_certfile.specs.declared.kind.KindHead.TheVariants as head
 use Rattle.dsv_certfile.specs.declared.reader.Heading.{Heading}
-use Rattle.dsv_certfile.proofs.WrittenBodies.{word_plain, takes_word, takes_invariant, invariant_plain}
+use Rattle.dsv_certfile.proofs.KindLemmas.{one_kind}
+use Rattle.dsv_certfile.proofs.WrittenBodies.{word_plain, takes_word, takes_invariant, invariant_plain, takes_roundoff, box_plain}
 use Rattle.dsv_certfile.proofs.WrittenFalls.{takes_falls, falls_plain}
 use Rattle.dsv_certfile.proofs.WrittenHeadings.{version_of, version_plain, version_back, job_back, job_line-plain, format_lines-plain, takes_words, kind_back, kind_line-plain}
 use Rattle.dsv_lines.proofs.WrittenLines.{IsPlain, ArePlain, IsLine, line_bytes, onto_lines, onto_lines-append, lines-written}
@@ -76,7 +77,8 @@ one_plain n h = All-cons IsPlain (decimal n) [] (decimal_plain n h) (All-nil IsP
 abbrev head_of : Certificate → KindHead
 head_of (certificate.Hints job log) = head.Hints
 head_of (certificate.Invariant job candidate logs) = head.Invariant candidate.depth (length candidate.inequalities.items)
-head_of (certificate.Gain job depth) = head.Gain depth
+head_of (certificate.Gain job depth None) = head.Gain depth
+head_of (certificate.Gain job depth (Some offer)) = head.Error depth offer.depth (length offer.ranges)
 head_of (certificate.Falls job offer) = head.Falls offer.form.d
 
 is_read_back : (c : Certificate) → IsLawful c → IsReadBack c (head_of c)
@@ -111,15 +113,31 @@ is_read_back (certificate.Invariant job candidate logs) h =
           (takes_made (invariant_in candidate.depth few) (λ i. certificate.Invariant job i.candidate i.logs) proof lines (takes_invariant candidate logs h.1 h.2));
       body_plain = invariant_plain candidate logs h.1 h.2;
     }
-is_read_back (certificate.Gain job depth) h =
+is_read_back (certificate.Gain job depth None) h =
     let plain = one_plain depth (omega (arith, h.1)) in
     record {
       size = h.0.size;
       words = h.0.words;
       kind = kind_back job kind.Gain (depth ∷ []) (pos depth ∷ []) h.0.belongs plain (count_read most_gain_depth depth (omega arith) h.1, tt);
       kind_plain = kind_line-plain kind.Gain (depth ∷ []) plain;
-      body = takes_made (word_in keyword.End) (λ _. certificate.Gain job depth) [] (word_line keyword.End ∷ []) (takes_word keyword.End);
+      body = takes_made (word_in keyword.End) (λ _. certificate.Gain job depth None) [] (word_line keyword.End ∷ []) (takes_word keyword.End);
       body_plain = All-nil IsLine;
+    }
+is_read_back (certificate.Gain job depth (Some offer)) h =
+    let few = length offer.ranges in
+    let o = h.2 in
+    let counts = roundoff_counts depth offer in
+    let plain : ArePlain (map decimal counts) =
+    All-cons IsPlain (decimal depth) (decimal offer.depth ∷ decimal few ∷ []) (decimal_plain depth (omega (arith, h.1)))
+    (All-cons IsPlain (decimal offer.depth) (decimal few ∷ []) (decimal_plain offer.depth (omega (arith, o.depth))) (one_plain few (omega (arith, o.few)))) in
+    record {
+      size = h.0.size;
+      words = h.0.words;
+      kind = kind_back job kind.Error counts (pos depth ∷ pos offer.depth ∷ pos few ∷ []) (one_kind job ∙ h.0.belongs) plain
+          (count_read most_gain_depth depth (omega arith) h.1, (count_read most_gain_depth offer.depth (omega arith) o.depth, (count_read most_box_ranges few (omega arith) o.few, tt)));
+      kind_plain = kind_line-plain kind.Error counts plain;
+      body = takes_made (roundoff_in offer.depth few) (λ offer. certificate.Gain job depth (Some offer)) offer (map range_line offer.ranges ++ word_line keyword.End ∷ []) (takes_roundoff offer o);
+      body_plain = box_plain offer o;
     }
 is_read_back (certificate.Falls job offer) h =
     let few = h.1.form.few in

@@ -75,6 +75,7 @@ kind_plain : (k : Kind) → IsPlain (kind_name k)
 kind_plain kind.Hints = refl
 kind_plain kind.Invariant = refl
 kind_plain kind.Gain = refl
+kind_plain kind.Error = refl
 kind_plain kind.Falls = refl
 
 -- ---- the job line
@@ -157,6 +158,7 @@ kind_found : (k : Kind) → value_named kind_name kinds (kind_name k) ≡ Some k
 kind_found kind.Hints = refl
 kind_found kind.Invariant = refl
 kind_found kind.Gain = refl
+kind_found kind.Error = refl
 kind_found kind.Falls = refl
 
 pub kind_line-plain : (k : Kind) (numbers : List ℕ) → ArePlain (map decimal numbers) → IsLine (kind_line k numbers)

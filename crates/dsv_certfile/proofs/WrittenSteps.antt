@@ -116,6 +116,7 @@ no_keyword keyword.Inequality text h = other_text 105 (codes "neq") text (h 105 
 no_keyword keyword.Base text h = other_text 98 (codes "ase") text (h 98 refl)
 no_keyword keyword.Step text h = other_text 115 (codes "tep") text (h 115 refl)
 no_keyword keyword.Safe text h = other_text 115 (codes "afe") text (h 115 refl)
+no_keyword keyword.Box text h = other_text 98 (codes "ox") text (h 98 refl)
 no_keyword keyword.Form text h = other_text 102 (codes "orm") text (h 102 refl)
 no_keyword keyword.Positive text h = other_text 112 (codes "ositive") text (h 112 refl)
 no_keyword keyword.Square text h = other_text 115 (codes "quare") text (h 115 refl)

@@ -6,6 +6,8 @@ use Rattle.dsv_forms.specs.Padded.{form_with, squares_with}
 use Rattle.dsv_forms.specs.declared.offers.Form.{Form}
 use Rattle.dsv_forms.specs.declared.offers.Squares.{Squares}
 use Rattle.dsv_forms.specs.declared.offers.Falls.{Falls}
+use Rattle.dsv_roundoff.specs.declared.offers.RoundoffOffer.{RoundoffOffer}
+use Rattle.dsv_roundoff.specs.declared.offers.WordRange.{WordRange}
 use Rattle.dsv_template.specs.declared.candidate.Inequality.{Inequality}
 use Rattle.dsv_template.specs.declared.verdict.ThreeLogs.{ThreeLogs}
 use Rattle.dsv_lines.specs.Readings.{Reading, reading_of}
@@ -21,7 +23,9 @@ use Rattle.dsv_certfile.specs.declared.fault.TextRefusal.{TextRefusal}
 use Rattle.dsv_certfile.specs.declared.keyword.Keyword.{Keyword}
 use Rattle.dsv_certfile.specs.declared.keyword.Keyword.TheVariants as keyword
 use Rattle.dsv_certfile.specs.declared.invariant.SetProof.{SetProof}
+use Rattle.dsv_certfile.specs.declared.numbers.NumberRange.TheVariants as range
 use Rattle.dsv_certfile.specs.declared.places.Place.{Place}
+use Rattle.dsv_certfile.specs.declared.places.Place.TheVariants as place
 
 -- ---- lines one after another
 abbrev pub line_from : {X : Type 0} → (List ℕ → Result X TextFault) → ℕ → TextLines
@@ -138,3 +142,27 @@ invariant_in depth count ls =
       };
       logs = logs.value;
     }) logs.left)
+
+-- ---- how far outputs are from those of exact runs
+-- the line `box L G`
+abbrev pub range_places : List Place
+range_places =
+    place.Word keyword.Box ∷ place.Number range.Entry ∷ place.Number range.Entry ∷ []
+
+-- the least and the greatest difference of a register
+abbrev pub range_with : List ℤ → WordRange
+range_with numbers = record {
+  low = slice_index_or numbers 0 (pos 0);
+  high = slice_index_or numbers 1 (pos 0);
+}
+
+-- the range of such a line
+abbrev pub range_in : List ℕ → Result WordRange TextFault
+range_in bytes = numbers_of range_places bytes >>= λ numbers. Ok (range_with numbers)
+
+-- so many ranges, and the last line
+abbrev pub roundoff_in : ℕ → ℕ → LinesLeft → Result (Reading RoundoffOffer) TextRefusal
+roundoff_in depth count ls =
+    lines_from range_in count [] ls >>= λ ranges.
+    word_in keyword.End ranges.left >>= λ end.
+    Ok (reading_of (record { depth = depth; ranges = ranges.value }) end.left)

@@ -18,3 +18,4 @@ check_code_of check.Form = 7
 check_code_of check.Shape = 8
 check_code_of check.Format = 10
 check_code_of check.Gain = 11
+check_code_of check.Error = 12

@@ -13,7 +13,7 @@ use Rattle.dsv_names.specs.OverflowModes.{overflow_mode_name, overflow_modes}
 use Rattle.dsv_certfile.specs.Keywords.{keyword_text, version_text, unbounded_text, plant_text}
 use Rattle.dsv_certfile.specs.Kinds.{kind_name, kinds, is_kind_of}
 use Rattle.dsv_certfile.specs.Limits.{greatest_depth, greatest_int_bits, greatest_frac_bits}
-use Rattle.dsv_certfile.specs.Limits.{most_gain_depth, most_places}
+use Rattle.dsv_certfile.specs.Limits.{most_gain_depth, most_box_ranges, most_places}
 use Rattle.dsv_template.specs.Limits.{most_inequalities}
 use Rattle.dsv_certfile.specs.Numerals.{samples_of}
 use Rattle.dsv_lines.specs.Pieces.{pieces_of, piece_at}
@@ -122,12 +122,16 @@ kind_places kind.Hints = []
 kind_places kind.Invariant = place.Number (range.UpTo greatest_depth)
     ∷ place.Number (range.UpTo most_inequalities) ∷ []
 kind_places kind.Gain = place.Number (range.UpTo most_gain_depth) ∷ []
+kind_places kind.Error = place.Number (range.UpTo most_gain_depth)
+    ∷ place.Number (range.UpTo most_gain_depth) ∷ place.Number (range.UpTo most_box_ranges) ∷ []
 kind_places kind.Falls = place.Number (range.UpTo most_places) ∷ []
 
 abbrev pub head_with : Kind → List ℤ → KindHead
 head_with kind.Hints numbers = head.Hints
 head_with kind.Invariant numbers = head.Invariant (count_at numbers 0) (count_at numbers 1)
 head_with kind.Gain numbers = head.Gain (count_at numbers 0)
+head_with kind.Error numbers =
+    head.Error (count_at numbers 0) (count_at numbers 1) (count_at numbers 2)
 head_with kind.Falls numbers = head.Falls (count_at numbers 0)
 
 -- the kind, where it belongs to the job

@@ -1,6 +1,6 @@
 -- The certificates that texts spell: all numbers are in the ranges of the text, job and kind belong
 -- together, and the places that the text doesn't write hold 0.
-use Rattle.std.specs.Prelude.{◌≡◌, ℕ, ◌+◌, ◌≤◌, true, List, length, take, ℤ}
+use Rattle.std.specs.Prelude.{◌≡◌, ℕ, ◌+◌, ◌≤◌, true, List, length, take, ℤ, IfSome}
 use Rattle.std.specs.Int.RustNames.{unsigned_abs}
 use Rattle.std.specs.List.{All}
 use Rattle.dsv_cnf.specs.Literal.{Literal}
@@ -10,6 +10,8 @@ use Rattle.dsv_forms.specs.Padded.{corner, form_with, squares_with, offer_alone}
 use Rattle.dsv_forms.specs.declared.offers.Form.{Form}
 use Rattle.dsv_forms.specs.declared.offers.Squares.{Squares}
 use Rattle.dsv_forms.specs.declared.offers.Falls.{Falls}
+use Rattle.dsv_roundoff.specs.declared.offers.RoundoffOffer.{RoundoffOffer}
+use Rattle.dsv_roundoff.specs.declared.offers.WordRange.{WordRange}
 use Rattle.dsv_template.specs.declared.candidate.Candidate.{Candidate}
 use Rattle.dsv_template.specs.declared.candidate.Inequality.{Inequality}
 use Rattle.dsv_template.specs.declared.verdict.ThreeLogs.{ThreeLogs}
@@ -17,7 +19,7 @@ use Rattle.dsv_certfile.specs.Kinds.{is_kind_of}
 use Rattle.dsv_certfile.specs.Limits.{greatest_whole, greatest_entry, greatest_id, greatest_literal}
 use Rattle.dsv_certfile.specs.Limits.{greatest_int_bits, greatest_frac_bits}
 use Rattle.dsv_certfile.specs.Limits.{greatest_depth, most_samples, most_places, most_squares}
-use Rattle.dsv_certfile.specs.Limits.{most_inequality_numbers, most_gain_depth}
+use Rattle.dsv_certfile.specs.Limits.{most_inequality_numbers, most_gain_depth, most_box_ranges}
 use Rattle.dsv_template.specs.Limits.{most_inequalities}
 use Rattle.dsv_certfile.specs.declared.certificate.Certificate.{Certificate}
 use Rattle.dsv_certfile.specs.declared.certificate.Certificate.TheVariants as certificate
@@ -80,6 +82,17 @@ pub record AreLogs (logs : ThreeLogs) : Type 0 where
   pub step : IsLog logs.step
   pub safe : IsLog logs.safe
 
+-- ---- how far outputs are from those of exact runs
+-- the least and the greatest difference of a register, in words
+pub record IsWordRange (w : WordRange) : Type 0 where
+  pub low : IsEntry w.low
+  pub high : IsEntry w.high
+
+pub record IsRoundoffOffer (offer : RoundoffOffer) : Type 0 where
+  pub depth : offer.depth ≤ most_gain_depth
+  pub few : length offer.ranges ≤ most_box_ranges
+  pub ranges : All IsWordRange offer.ranges
+
 -- ---- falls
 abbrev pub IsWhole : ℤ → Type 0
 IsWhole z = unsigned_abs z ≤ greatest_whole
@@ -112,7 +125,8 @@ abbrev pub IsLawful : Certificate → Type 0
 IsLawful (certificate.Hints job log) = IsJobOf kind.Hints job × IsLog log
 IsLawful (certificate.Invariant job candidate logs) =
     IsJobOf kind.Invariant job × IsSet candidate × AreLogs logs
-IsLawful (certificate.Gain job depth) = IsJobOf kind.Gain job × (depth ≤ most_gain_depth)
+IsLawful (certificate.Gain job depth offer) =
+    IsJobOf kind.Gain job × (depth ≤ most_gain_depth) × IfSome offer IsRoundoffOffer
 IsLawful (certificate.Falls job offer) = IsJobOf kind.Falls job × IsOffer offer
 
 -- the certificate with the numbers of its form's places alone, as its text has it
@@ -120,5 +134,5 @@ abbrev pub certificate_alone : Certificate → Certificate
 certificate_alone (certificate.Hints job log) = certificate.Hints job log
 certificate_alone (certificate.Invariant job candidate logs) =
     certificate.Invariant job candidate logs
-certificate_alone (certificate.Gain job depth) = certificate.Gain job depth
+certificate_alone (certificate.Gain job depth offer) = certificate.Gain job depth offer
 certificate_alone (certificate.Falls job offer) = certificate.Falls job (offer_alone offer)

@@ -20,9 +20,14 @@ greatest_literal = 2 ^ 31
 abbrev pub greatest_depth : ℕ
 greatest_depth = 2 ^ 32 - 1
 
--- the greatest depth of a gain: so many samples after any words in the registers
+-- the greatest depth of a gain, and of an offer that shows how far outputs are from those of exact
+-- runs: so many samples after any words in the registers, or any differences in the box
 abbrev pub most_gain_depth : ℕ
 most_gain_depth = 16383
+
+-- the most ranges of the box of such an offer: one for each register
+abbrev pub most_box_ranges : ℕ
+most_box_ranges = 16
 
 -- the most samples of a job; it has one at least
 abbrev pub most_samples : ℕ

@@ -1,9 +1,10 @@
 -- The certificate that a text spells, or why it spells none and at which line.
-use Rattle.std.specs.Prelude.{ℕ, List, Result, Ok}
+use Rattle.std.specs.Prelude.{ℕ, List, Some, None, Result, Ok}
 use Rattle.dsv_text.specs.Stages.{◌>>=◌}
 use Rattle.dsv_lines.specs.Readings.{Reading, reading_of}
 use Rattle.dsv_certfile.specs.Answers.{cert_answer}
 use Rattle.dsv_certfile.specs.Bodies.{line_in, word_in, whole_text, falls_in, invariant_in}
+use Rattle.dsv_certfile.specs.Bodies.{roundoff_in}
 use Rattle.dsv_certfile.specs.Headings.{version_in, line_job, line_format, line_kind}
 use Rattle.dsv_lines.specs.Pieces.{LinesLeft, all_lines}
 use Rattle.dsv_certfile.specs.Steps.{log_in}
@@ -47,7 +48,10 @@ body_in job (head.Invariant depth count) ls =
     Ok (reading_of (certificate.Invariant job i.value.candidate i.value.logs) i.left)
 body_in job (head.Gain depth) ls =
     word_in keyword.End ls >>= λ end.
-    Ok (reading_of (certificate.Gain job depth) end.left)
+    Ok (reading_of (certificate.Gain job depth None) end.left)
+body_in job (head.Error depth error_depth count) ls =
+    roundoff_in error_depth count ls >>= λ offer.
+    Ok (reading_of (certificate.Gain job depth (Some offer.value)) offer.left)
 body_in job (head.Falls d) ls =
     falls_in d ls >>= λ offer.
     Ok (reading_of (certificate.Falls job offer.value) offer.left)

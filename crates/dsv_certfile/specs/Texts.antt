@@ -1,5 +1,6 @@
 -- The text of a certificate: lines, each of pieces joined by one space and ended by a line feed.
 use Rattle.std.specs.Prelude.{ℕ, ◌+◌, List, [], ◌∷◌, ◌++◌, length, map, take, codes, decimal, ℤ}
+use Rattle.std.specs.Prelude.{Option, Some, None}
 use Rattle.std.specs.List.{flat_map}
 use Rattle.std.specs.Fmt.{signed_decimal}
 use Rattle.dsv_lines.specs.Texts.{Line, line_text}
@@ -13,6 +14,8 @@ use Rattle.dsv_hints.specs.declared.step.Step.{Step}
 use Rattle.dsv_hints.specs.declared.step.Step.TheVariants.{Add, Delete}
 use Rattle.dsv_forms.specs.declared.offers.Squares.{Squares}
 use Rattle.dsv_forms.specs.declared.offers.Falls.{Falls}
+use Rattle.dsv_roundoff.specs.declared.offers.RoundoffOffer.{RoundoffOffer}
+use Rattle.dsv_roundoff.specs.declared.offers.WordRange.{WordRange}
 use Rattle.dsv_template.specs.declared.candidate.Inequality.{Inequality}
 use Rattle.dsv_template.specs.declared.candidate.Candidate.{Candidate}
 use Rattle.dsv_template.specs.declared.verdict.ThreeLogs.{ThreeLogs}
@@ -103,6 +106,24 @@ logs_lines logs =
     ++ word_line keyword.Step ∷ log_lines logs.step
     ++ word_line keyword.Safe ∷ log_lines logs.safe
 
+-- ---- how far outputs are from those of exact runs
+-- the least and the greatest difference of a register, in words
+abbrev pub range_line : WordRange → Line
+range_line w = numbers_line keyword.Box (w.low ∷ w.high ∷ [])
+
+-- a line for each range of the box, where there is an offer
+abbrev pub box_lines : Option RoundoffOffer → List Line
+box_lines None = []
+box_lines (Some offer) = map range_line offer.ranges
+
+-- the numbers of the kind line: the gain's depth, the offer's, and how many ranges there are
+abbrev pub roundoff_counts : ℕ → RoundoffOffer → List ℕ
+roundoff_counts depth offer = depth ∷ offer.depth ∷ length offer.ranges ∷ []
+
+abbrev pub gain_line : ℕ → Option RoundoffOffer → Line
+gain_line depth None = kind_line kind.Gain (depth ∷ [])
+gain_line depth (Some offer) = kind_line kind.Error (roundoff_counts depth offer)
+
 -- ---- falls
 -- a line for each of the first d rows, of its first d places
 abbrev pub rows_lines : Keyword → ℕ → List (List ℤ) → List Line
@@ -136,7 +157,7 @@ falls_lines offer = rows_lines keyword.Form offer.form.d offer.form.rows
 abbrev pub job_of : Certificate → CertifiedJob
 job_of (certificate.Hints job log) = job
 job_of (certificate.Invariant job candidate logs) = job
-job_of (certificate.Gain job depth) = job
+job_of (certificate.Gain job depth offer) = job
 job_of (certificate.Falls job offer) = job
 
 -- the numbers of an invariant's kind line: the depth, and how many inequalities there are
@@ -147,7 +168,7 @@ abbrev pub kind_line_of : Certificate → Line
 kind_line_of (certificate.Hints job log) = kind_line kind.Hints []
 kind_line_of (certificate.Invariant job candidate logs) =
     kind_line kind.Invariant (candidate_counts candidate)
-kind_line_of (certificate.Gain job depth) = kind_line kind.Gain (depth ∷ [])
+kind_line_of (certificate.Gain job depth offer) = gain_line depth offer
 kind_line_of (certificate.Falls job offer) = kind_line kind.Falls (offer.form.d ∷ [])
 
 -- the lines between the kind line and the line `end`
@@ -155,7 +176,7 @@ abbrev pub body_lines : Certificate → List Line
 body_lines (certificate.Hints job log) = log_lines log
 body_lines (certificate.Invariant job candidate logs) =
     map inequality_line candidate.inequalities.items ++ logs_lines logs
-body_lines (certificate.Gain job depth) = []
+body_lines (certificate.Gain job depth offer) = box_lines offer
 body_lines (certificate.Falls job offer) = falls_lines offer
 
 abbrev pub certificate_lines : Certificate → List Line

@@ -5,6 +5,7 @@ ghost use Rattle.dsv_certfile.specs.Texts.{job_of};
 use crate::job::CertifiedJob;
 use dsv_forms::Falls;
 use dsv_hints::Log;
+use dsv_roundoff::RoundoffOffer;
 use dsv_template::{Candidate, ThreeLogs};
 
 /// What is claimed of a controller, and what shows it.
@@ -23,10 +24,12 @@ pub enum Certificate {
         logs: ThreeLogs,
     },
     /// How many samples after any words in the registers the ranges of all exact values are words:
-    /// 0 to `MOST_GAIN_DEPTH`.
+    /// 0 to `MOST_GAIN_DEPTH`. Where an offer is there, it shows how far outputs are from those of
+    /// exact runs, too.
     Gain {
         job: CertifiedJob,
         depth: u32,
+        offer: Option<RoundoffOffer>,
     },
     /// A form that falls along each trajectory of the polynomial.
     Falls {

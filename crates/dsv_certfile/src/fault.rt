@@ -63,6 +63,9 @@ pub enum CheckFault {
     /// Some range isn't known to be one of words at a gain's depth, nor before it.
     #[error("a depth at which the ranges aren't ones of words")]
     Gain,
+    /// A box isn't one that differences from exact runs stay in, as the depth of an offer says.
+    #[error("a box that differences from exact runs aren't known to stay in")]
+    Error,
 }
 
 impl CheckFault {
@@ -76,6 +79,7 @@ impl CheckFault {
             CheckFault::Shape => 8,
             CheckFault::Format => 10,
             CheckFault::Gain => 11,
+            CheckFault::Error => 12,
         }
     }
 }

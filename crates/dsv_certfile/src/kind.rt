@@ -3,12 +3,13 @@ ghost use Rattle.std.specs.Prelude.{◌≡◌, IfOk};
 ghost use Rattle.dsv_certfile.specs.Headings.{kind_in, head_in, of_job};
 ghost use Rattle.dsv_certfile.specs.Heads.{IsHead};
 ghost use Rattle.dsv_certfile.specs.Kinds.{is_kind_of};
+ghost use Rattle.dsv_certfile.specs.declared.kind.Kind.TheVariants as kind;
 ghost use Rattle.dsv_lines.specs.Pieces.{pieces_of};
 
 use crate::fault::TextFault;
 use crate::job::{CertifiedJob, Size};
 use crate::keyword::Keyword;
-use crate::limits::MOST_GAIN_DEPTH;
+use crate::limits::{MOST_BOX_RANGES, MOST_GAIN_DEPTH};
 use crate::numbers::NumberRange;
 use crate::pieces::{begin, next_named};
 use crate::places::{Place, read_numbers};
@@ -26,6 +27,8 @@ pub(crate) enum Kind {
     Invariant,
     /// How many samples after any words in the registers all ranges are words.
     Gain,
+    /// The same, and a box that the registers' differences from exact runs stay in.
+    Error,
     /// A form that falls.
     Falls,
 }
@@ -42,12 +45,19 @@ impl Named for Kind {
             Kind::Hints => "hints",
             Kind::Invariant => "invariant",
             Kind::Gain => "gain",
+            Kind::Error => "error",
             Kind::Falls => "falls",
         }
     }
 
     fn all() -> &'static [Kind] {
-        &[Kind::Hints, Kind::Invariant, Kind::Gain, Kind::Falls]
+        &[
+            Kind::Hints,
+            Kind::Invariant,
+            Kind::Gain,
+            Kind::Error,
+            Kind::Falls,
+        ]
     }
 }
 
@@ -60,6 +70,7 @@ impl Kind {
             (Property::OfRuns(_), Size::Samples(_), Kind::Hints) => true,
             (Property::OfRuns(RunProperty::Overflow), Size::Unbounded, Kind::Invariant) => true,
             (Property::OfRuns(RunProperty::Overflow), Size::Unbounded, Kind::Gain) => true,
+            (Property::OfRuns(RunProperty::Overflow), Size::Unbounded, Kind::Error) => true,
             (Property::OfRoots(_), Size::NoSize, Kind::Falls) => true,
             (Property::OfRoots(RootProperty::Stability), Size::OfLoop, Kind::Falls) => true,
             (_, _, _) => false,
@@ -71,9 +82,21 @@ impl Kind {
 #[derive(Clone, Copy, Debug, PartialEq, Eq)]
 pub(crate) enum KindHead {
     Hints,
-    Invariant { depth: u32, count: u32 },
-    Gain { depth: u32 },
-    Falls { places: u32 },
+    Invariant {
+        depth: u32,
+        count: u32,
+    },
+    Gain {
+        depth: u32,
+    },
+    Error {
+        depth: u32,
+        error_depth: u32,
+        count: u32,
+    },
+    Falls {
+        places: u32,
+    },
 }
 
 /// The kind, where it belongs to the job.
@@ -85,6 +108,21 @@ fn of_job(job: &CertifiedJob, kind: Kind) -> Result<Kind, TextFault>
     } else {
         Err(TextFault::Kind)
     }
+}
+
+/// Reads the numbers after the name of a gain with a box.
+fn read_error_head(pieces: Pieces) -> Result<KindHead, TextFault>
+    ensures answer { result ≡ head_in kind.Error pieces.entry }
+    ensures within { IfOk result IsHead }
+{
+    let depth = Place::Number(NumberRange::UpTo(MOST_GAIN_DEPTH));
+    let count = Place::Number(NumberRange::UpTo(MOST_BOX_RANGES));
+    let numbers = read_numbers(&[depth, depth, count], pieces)?;
+    Ok(KindHead::Error {
+        depth: numbers.count_at(0),
+        error_depth: numbers.count_at(1),
+        count: numbers.count_at(2),
+    })
 }
 
 /// Reads the numbers after a kind's name.
@@ -113,6 +151,7 @@ fn read_head(kind: Kind, pieces: Pieces) -> Result<KindHead, TextFault>
                 depth: numbers.count_at(0),
             })
         }
+        Kind::Error => read_error_head(pieces),
         Kind::Falls => {
             let places = Place::Number(NumberRange::UpTo(GREATEST_ORDER as u32));
             let numbers = read_numbers(&[places], pieces)?;

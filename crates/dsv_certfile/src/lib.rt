@@ -1,5 +1,5 @@
-//! Certificates as text: what is claimed of a controller, and the log, the invariant, the gain or
-//! the form that shows it. Texts that offer an ellipsoid, too.
+//! Certificates as text: what is claimed of a controller, and the log, the invariant, the gain with
+//! its box or the form that shows it. Texts that offer an ellipsoid, too.
 #![tactic(auto, using(dsv_algebra::proofs::Casts::casts))]
 
 mod certificate;
@@ -20,6 +20,7 @@ mod output;
 mod pieces;
 mod places;
 mod reader;
+mod roundoff_reader;
 mod steps;
 mod writer;
 
@@ -30,6 +31,8 @@ pub use ellipsoid_writer::write_ellipsoid;
 pub use fault::{CertRefusal, CheckFault, TextFault, TextRefusal};
 pub use job::{CertWords, CertifiedJob, Size};
 pub use law::{certificates_are_read, ellipsoids_are_read};
-pub use limits::{MOST_GAIN_DEPTH, MOST_JOB_SAMPLES, MOST_SQUARES, NARROW_WORD_BITS};
+pub use limits::{
+    MOST_BOX_RANGES, MOST_GAIN_DEPTH, MOST_JOB_SAMPLES, MOST_SQUARES, NARROW_WORD_BITS,
+};
 pub use reader::read;
-pub use writer::{write, write_falls, write_gain, write_hints, write_invariant};
+pub use writer::{write, write_error, write_falls, write_gain, write_hints, write_invariant};

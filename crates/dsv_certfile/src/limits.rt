@@ -2,8 +2,11 @@
 /// The most samples of a job.
 pub const MOST_JOB_SAMPLES: u32 = 64;
 
-/// The greatest depth of a gain.
+/// The greatest depth of a gain, and of an offer that shows how far outputs are from exact ones.
 pub const MOST_GAIN_DEPTH: u32 = 16_383;
+
+/// The most ranges of the box of such an offer: one for each register.
+pub const MOST_BOX_RANGES: u32 = 16;
 
 /// The most bits of words of a controller whose certificates don't say the words' format.
 pub const NARROW_WORD_BITS: u32 = 32;

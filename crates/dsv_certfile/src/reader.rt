@@ -15,6 +15,7 @@ use crate::keyword::Keyword;
 use crate::kind::{KindHead, read_kind};
 use crate::lines::{end, next_line, next_numbers};
 use crate::places::Place;
+use crate::roundoff_reader::read_roundoff;
 use crate::steps::read_log;
 use dsv_lines::Lines;
 use std::alloc::Global;
@@ -75,8 +76,21 @@ fn read_body(alloc: Global, lines: &mut Lines, heading: Heading) -> Result<Certi
         }
         KindHead::Gain { depth } => {
             let _ = next_numbers(lines, &[Place::Word(Keyword::End)])?;
-            Ok(Certificate::Gain { job, depth })
+            Ok(Certificate::Gain {
+                job,
+                depth,
+                offer: None,
+            })
         }
+        KindHead::Error {
+            depth,
+            error_depth,
+            count,
+        } => Ok(Certificate::Gain {
+            job,
+            depth,
+            offer: Some(read_roundoff(alloc, lines, error_depth, count)?),
+        }),
         KindHead::Falls { places } => Ok(Certificate::Falls {
             job,
             offer: read_falls(lines, places)?,

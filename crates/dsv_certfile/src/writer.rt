@@ -1,5 +1,5 @@
 // Writing the text of a certificate.
-ghost use Rattle.std.specs.Prelude.{◌++◌, ◌∷◌, [], map, take, All, OnOk};
+ghost use Rattle.std.specs.Prelude.{◌++◌, ◌∷◌, [], map, take, All, OnOk, Some, None};
 ghost use Rattle.std.specs.Fmt.{signed_decimal};
 ghost use Rattle.std.specs.List.{flat_map};
 ghost use Rattle.dsv_base.specs.Taking.{Writes};
@@ -20,6 +20,7 @@ ghost use Rattle.dsv_names.specs.Realisations.{realisation_name};
 ghost use Rattle.dsv_names.specs.Roundings.{rounding_name};
 ghost use Rattle.dsv_names.specs.OverflowModes.{overflow_mode_name};
 ghost use Rattle.dsv_certfile.specs.Texts.{kind_line, candidate_counts, squares_head};
+ghost use Rattle.dsv_certfile.specs.Texts.{roundoff_counts, range_line};
 ghost use Rattle.dsv_certfile.specs.declared.certificate.Certificate.TheVariants as certificate;
 ghost use Rattle.dsv_certfile.specs.declared.kind.Kind.TheVariants as kind;
 ghost use Rattle.dsv_certfile.specs.declared.keyword.Keyword.TheVariants as keyword;
@@ -31,6 +32,7 @@ use crate::output::{MatrixRow, put_entries, put_entry, put_log, put_name, put_ro
 use dsv_base::{Failed, Sink, put_all, put_line, put_spaced};
 use dsv_forms::{Falls, GREATEST_ORDER, Squares};
 use dsv_hints::Log;
+use dsv_roundoff::{RoundoffOffer, WordRange};
 use dsv_template::{Candidate, Inequality, ThreeLogs};
 
 // ---- the first lines
@@ -140,6 +142,16 @@ fn put_gain_kind<K: Sink>(sink: &mut K, depth: u32) -> Result<(), Failed>
         (line_text (kind_line kind.Gain (depth ∷ []))) }
 {
     put_line(sink, b"kind gain", &[depth])
+}
+
+/// Writes the kind line of a gain of this depth with a box.
+fn put_error_kind<K: Sink>(sink: &mut K, depth: u32, offer: &RoundoffOffer) -> Result<(), Failed>
+    ensures { Writes (K.seen sink.old) (K.seen sink.new) result
+        (line_text (kind_line kind.Error (roundoff_counts depth offer.now))) }
+{
+    let count = offer.ranges.len() as u64;
+    let (depth, error_depth) = (u64::from(depth), u64::from(offer.depth));
+    put_line(sink, b"kind error", &[depth, error_depth, count])
 }
 
 /// Writes the kind line of a form that falls.
@@ -283,6 +295,32 @@ fn put_falls<K: Sink>(sink: &mut K, offer: &Falls) -> Result<(), Failed>
     put_squares(sink, Keyword::Fall, d, &offer.fall)
 }
 
+/// Writes the line of a range.
+fn put_range<K: Sink>(sink: &mut K, range: WordRange) -> Result<(), Failed>
+    ensures { Writes (K.seen sink.old) (K.seen sink.new) result (line_text (range_line range)) }
+{
+    put_line(sink, b"box", &[range.low, range.high])
+}
+
+/// Writes the lines of ranges.
+fn put_each_range<K: Sink>(sink: &mut K, ranges: &[WordRange]) -> Result<(), Failed>
+    ensures { Writes (K.seen sink.old) (K.seen sink.new) result
+        (flat_map (λ range. line_text (range_line range)) ranges.now) }
+{
+    for it in ranges {
+        put_range(sink, *it)?;
+    }
+    Ok(())
+}
+
+/// Writes the box of an offer.
+fn put_box<K: Sink>(sink: &mut K, offer: &RoundoffOffer) -> Result<(), Failed>
+    ensures { Writes (K.seen sink.old) (K.seen sink.new) result
+        (flat_map line_text (map range_line offer.now.ranges)) }
+{
+    put_each_range(sink, offer.ranges.as_slice())
+}
+
 /// Writes an invariant: its inequalities, and its logs.
 fn put_invariant<K: Sink>(
     sink: &mut K,
@@ -333,11 +371,30 @@ pub fn write_invariant<K: Sink>(
 /// Writes the text of a certificate of a gain of this depth, as `write_hints` does.
 pub fn write_gain<K: Sink>(sink: &mut K, job: &CertifiedJob, depth: u32) -> Result<(), Failed>
     ensures text { Writes (K.seen sink.old) (K.seen sink.new) result
-        (certificate_text (certificate.Gain job.now depth)) }
-    ensures typed { OnOk result (IsTypedBody (certificate.Gain job.now depth)) }
+        (certificate_text (certificate.Gain job.now depth None)) }
+    ensures typed { OnOk result (IsTypedBody (certificate.Gain job.now depth None)) }
 {
     put_head(sink, job)?;
     put_gain_kind(sink, depth)?;
+    put_word(sink, Keyword::End)
+}
+
+/// Writes the text of a certificate of a gain of this depth with an offer that shows how far
+/// outputs are from those of exact runs, as `write_hints` does.
+pub fn write_error<K: Sink>(
+    sink: &mut K,
+    job: &CertifiedJob,
+    depth: u32,
+    offer: &RoundoffOffer,
+) -> Result<(), Failed>
+    ensures text { Writes (K.seen sink.old) (K.seen sink.new) result
+        (certificate_text (certificate.Gain job.now depth (Some offer.now))) }
+    ensures typed { OnOk result
+        (IsTypedBody (certificate.Gain job.now depth (Some offer.now))) }
+{
+    put_head(sink, job)?;
+    put_error_kind(sink, depth, offer)?;
+    put_box(sink, offer)?;
     put_word(sink, Keyword::End)
 }
 
@@ -366,7 +423,10 @@ pub fn write<K: Sink>(certificate: &Certificate, sink: &mut K) -> Result<(), Fai
             candidate,
             logs,
         } => write_invariant(sink, job, candidate, logs),
-        Certificate::Gain { job, depth } => write_gain(sink, job, *depth),
+        Certificate::Gain { job, depth, offer } => match offer {
+            Some(offer) => write_error(sink, job, *depth, offer),
+            None => write_gain(sink, job, *depth),
+        },
         Certificate::Falls { job, offer } => write_falls(sink, job, offer),
     }
 }

@@ -1,11 +1,13 @@
 // Texts of certificates, read and written back.
-use dsv_base::MemSink;
+use dsv_base::{Items, MemSink};
 use dsv_certfile::{
-    CertWords, Certificate, CertifiedJob, MOST_GAIN_DEPTH, Size, read, write, write_gain,
+    CertWords, Certificate, CertifiedJob, MOST_GAIN_DEPTH, Size, read, write, write_error,
+    write_gain,
 };
 use dsv_cnf::Lit;
 use dsv_hints::Step;
 use dsv_names::{Design, OverflowMode, Property, Realisation, Rounding, RunProperty};
+use dsv_roundoff::{RoundoffOffer, WordRange};
 use std::alloc::Global;
 
 /// A form of two places that falls, with its squares.
@@ -90,6 +92,30 @@ const TEXTS: &[&str] = &[
     "dsv-certificate 1\n\
     job OVERFLOW DFI FLOOR WRAPAROUND unbounded\n\
     kind gain 16383\n\
+    end\n",
+    "dsv-certificate 1\n\
+    job OVERFLOW DFI FLOOR WRAPAROUND unbounded\n\
+    kind error 0 16383 0\n\
+    end\n",
+    "dsv-certificate 1\n\
+    job OVERFLOW DFI FLOOR WRAPAROUND unbounded\n\
+    kind error 16383 0 16\n\
+    box 0 0\n\
+    box 1 -1\n\
+    box -9223372036854775807 9223372036854775807\n\
+    box -16 12\n\
+    box 0 0\n\
+    box 0 0\n\
+    box 0 0\n\
+    box 0 0\n\
+    box 0 0\n\
+    box 0 0\n\
+    box 0 0\n\
+    box 0 0\n\
+    box 0 0\n\
+    box 0 0\n\
+    box 0 0\n\
+    box 7 7\n\
     end\n",
     "dsv-certificate 1\n\
     job OVERFLOW DFI FLOOR WRAPAROUND unbounded\n\
@@ -212,9 +238,13 @@ fn is_that_job(job: &CertifiedJob, words: CertWords) -> bool {
 
 fn is_gain_read(alloc: Global, text: &str, words: CertWords) -> bool {
     match read(alloc, text.as_bytes()) {
-        Ok(Certificate::Gain { job, depth }) => {
-            is_that_job(&job, words) && depth == 16_383 && depth == MOST_GAIN_DEPTH
-        }
+        Ok(
+            Certificate::Gain {
+                job,
+                depth,
+                offer: None,
+            },
+        ) => is_that_job(&job, words) && depth == 16_383 && depth == MOST_GAIN_DEPTH,
         Ok(_) | Err(_) => false,
     }
 }
@@ -229,10 +259,9 @@ fn the_format_of_words_is_read(rt: HostRuntime) {
     assert!(rt; is_gain_read(rt.alloc(), WIDE_GAIN, WIDE));
 }
 
-/// Whether the text is what is written of the gain with this said of the words.
-fn is_gain_written(alloc: Global, words: CertWords, text: &str) -> Option<bool> {
-    let mut sink = MemSink::new(alloc, 1024).ok()?;
-    let job = CertifiedJob {
+/// The job of the gain with this said of the words.
+fn gain_job(words: CertWords) -> CertifiedJob {
+    CertifiedJob {
         property: Property::OfRuns(RunProperty::Overflow),
         design: Design {
             realisation: Realisation::Tdfii,
@@ -241,8 +270,13 @@ fn is_gain_written(alloc: Global, words: CertWords, text: &str) -> Option<bool> 
         },
         words,
         size: Size::Unbounded,
-    };
-    write_gain(&mut sink, &job, 16_383).ok()?;
+    }
+}
+
+/// Whether the text is what is written of the gain with this said of the words.
+fn is_gain_written(alloc: Global, words: CertWords, text: &str) -> Option<bool> {
+    let mut sink = MemSink::new(alloc, 1024).ok()?;
+    write_gain(&mut sink, &gain_job(words), 16_383).ok()?;
     Some(sink.bytes() == text.as_bytes())
 }
 
@@ -254,6 +288,62 @@ fn the_depth_of_a_gain_is_written(rt: HostRuntime) {
 #[test]
 fn the_format_of_words_is_written(rt: HostRuntime) {
     assert!(rt; is_gain_written(rt.alloc(), WIDE, WIDE_GAIN) == Some(true));
+}
+
+/// A gain with a box of two ranges.
+const BOX: &str = "dsv-certificate 1\n\
+    job OVERFLOW TDFII CEIL SATURATE unbounded\n\
+    kind error 6 11 2\n\
+    box -16 12\n\
+    box 0 3\n\
+    end\n";
+
+/// The offer of that text.
+fn offer_of(alloc: Global) -> Option<RoundoffOffer> {
+    let mut ranges = Items::new(alloc);
+    ranges.push(WordRange { low: -16, high: 12 }).ok()?;
+    ranges.push(WordRange { low: 0, high: 3 }).ok()?;
+    Some(RoundoffOffer { depth: 11, ranges })
+}
+
+fn is_box_read(alloc: Global) -> Option<bool> {
+    let wanted = offer_of(alloc)?;
+    match read(alloc, BOX.as_bytes()) {
+        Ok(
+            Certificate::Gain {
+                job,
+                depth: 6,
+                offer: Some(offer),
+            },
+        ) => Some(
+            is_that_job(&job, CertWords::Unsaid)
+                && offer.depth == wanted.depth
+                && offer.ranges.as_slice() == wanted.ranges.as_slice(),
+        ),
+        Ok(_) | Err(_) => Some(false),
+    }
+}
+
+#[test]
+fn a_box_is_read(rt: HostRuntime) {
+    assert!(rt; is_box_read(rt.alloc()) == Some(true));
+}
+
+fn is_box_written(alloc: Global) -> Option<bool> {
+    let mut sink = MemSink::new(alloc, 1024).ok()?;
+    write_error(
+        &mut sink,
+        &gain_job(CertWords::Unsaid),
+        6,
+        &offer_of(alloc)?,
+    )
+    .ok()?;
+    Some(sink.bytes() == BOX.as_bytes())
+}
+
+#[test]
+fn a_box_is_written(rt: HostRuntime) {
+    assert!(rt; is_box_written(rt.alloc()) == Some(true));
 }
 
 /// Bits before the point and after it, and whether certificates say them.

@@ -66,6 +66,11 @@ const GAIN: &str = "dsv-certificate 1\n\
     job OVERFLOW DFI FLOOR WRAPAROUND unbounded\n\
     kind gain 7\n";
 
+/// The lines up to a box of one range.
+const BOX: &str = "dsv-certificate 1\n\
+    job OVERFLOW DFI FLOOR WRAPAROUND unbounded\n\
+    kind error 7 9 1\n";
+
 /// The lines up to an invariant of no inequalities.
 const EMPTY_SET: &str = "dsv-certificate 1\n\
     job OVERFLOW DFI FLOOR WRAPAROUND unbounded\n\
@@ -321,6 +326,17 @@ const KINDS: &[Refused] = &[
     Refused(UNBOUNDED, "kind gain 7 \n", 3, TextFault::Line),
     Refused(UNBOUNDED, "kind gain 16384 7\n", 3, TextFault::Number),
     Refused(UNBOUNDED, "kind gain 7", 3, TextFault::End),
+    Refused(OVERFLOW, "kind error 7 9 1\n", 3, TextFault::Kind),
+    Refused(STABILITY, "kind error 7 9 1\n", 3, TextFault::Kind),
+    Refused(UNBOUNDED, "kind errors 7 9 1\n", 3, TextFault::Kind),
+    Refused(UNBOUNDED, "kind error 16384 9 1\n", 3, TextFault::Number),
+    Refused(UNBOUNDED, "kind error 7 16384 1\n", 3, TextFault::Number),
+    Refused(UNBOUNDED, "kind error 7 9 17\n", 3, TextFault::Number),
+    Refused(UNBOUNDED, "kind error 7 9 -1\n", 3, TextFault::Number),
+    Refused(UNBOUNDED, "kind error 7 09 1\n", 3, TextFault::Number),
+    Refused(UNBOUNDED, "kind error 7 9\n", 3, TextFault::Line),
+    Refused(UNBOUNDED, "kind error 7 9 1 1\n", 3, TextFault::Line),
+    Refused(UNBOUNDED, "kind error 7 9 1", 3, TextFault::End),
 ];
 
 const GAINS: &[Refused] = &[
@@ -337,6 +353,26 @@ const GAINS: &[Refused] = &[
     Refused(GAIN, "end\nx", 5, TextFault::End),
     Refused(GAIN, "end\n\n", 5, TextFault::End),
     Refused(GAIN, "end\nend\n", 5, TextFault::End),
+    Refused(GAIN, "box 0 0\nend\n", 4, TextFault::Line),
+];
+
+const BOXES: &[Refused] = &[
+    Refused(BOX, "", 4, TextFault::End),
+    Refused(BOX, "box 0 0", 4, TextFault::End),
+    Refused(BOX, "box 0 0\n", 5, TextFault::End),
+    Refused(BOX, "end\n", 4, TextFault::Line),
+    Refused(BOX, "box\n", 4, TextFault::Line),
+    Refused(BOX, "box 0\n", 4, TextFault::Line),
+    Refused(BOX, "box 0 0 0\n", 4, TextFault::Line),
+    Refused(BOX, "boxes 0 0\n", 4, TextFault::Line),
+    Refused(BOX, "boxes 0 x\n", 4, TextFault::Number),
+    Refused(BOX, "box x 0\n", 4, TextFault::Number),
+    Refused(BOX, "box 00 0\n", 4, TextFault::Number),
+    Refused(BOX, "box 0 9223372036854775808\n", 4, TextFault::Number),
+    Refused(BOX, "box -9223372036854775808 0\n", 4, TextFault::Number),
+    Refused(BOX, "box 0 0\nbox 0 0\nend\n", 5, TextFault::Line),
+    Refused(BOX, "box 0 0\nends\n", 5, TextFault::Line),
+    Refused(BOX, "box 0 0\nend\nx", 6, TextFault::End),
 ];
 
 const FORMS: &[Refused] = &[
@@ -447,6 +483,11 @@ fn gains_are_refused(rt: HostRuntime) {
 }
 
 #[test]
+fn boxes_are_refused(rt: HostRuntime) {
+    assert!(rt; are_refused(rt.alloc(), BOXES));
+}
+
+#[test]
 fn forms_logs_and_sets_are_refused(rt: HostRuntime) {
     let forms = are_refused(rt.alloc(), FORMS);
     let logs = are_refused(rt.alloc(), LOGS);
@@ -461,5 +502,5 @@ fn faults_have_their_numbers(rt: HostRuntime) {
 
 #[test]
 fn faults_of_claims_have_their_numbers(rt: HostRuntime) {
-    assert!(rt; CheckFault::Format.code() == 10 && CheckFault::Gain.code() == 11);
+    assert!(rt; CheckFault::Gain.code() == 11 && CheckFault::Error.code() == 12);
 }

@@ -1,5 +1,5 @@
 use Rattle.std.proofs.Common.{◌≡◌, Err, rules}
-use Rattle.dsv_certcheck.proofs.CheckLemmas.{refused_format, refused_words, checked_words, shown_words}
+use Rattle.dsv_certcheck.proofs.CheckLemmas.{refused_format, refused_words, checked_words, shown_words, near_words}
 use Rattle.dsv_certcheck.proofs.checks.check.Goals as goal
 
 pub returns-in_err-check_format-clause-found : goal.returns-in_err-check_format-clause-found
@@ -19,3 +19,7 @@ returns-clause-found c =
 pub returns-clause-shows : goal.returns-clause-shows
 returns-clause-shows c =
     shown_words c.args.controller.now c.args.certificate.now c.job-job.result.now c.in_ok-quantised.quantised c.check_words.result c.job-job.ensures c.in_ok-quantised.ensures c.check_words.ensures.shows
+
+pub returns-clause-near : goal.returns-clause-near
+returns-clause-near c =
+    near_words c.args.controller.now c.args.certificate.now c.job-job.result.now c.in_ok-quantised.quantised c.check_words.result c.job-job.ensures c.in_ok-quantised.ensures c.check_words.ensures.near

@@ -1,0 +1,18 @@
+use Rattle.std.proofs.Common.{sym, subst, OnOk}
+use Rattle.dsv_certcheck.specs.Checks.{Checked}
+use Rattle.dsv_certcheck.specs.Shown.{ShowsNear}
+use Rattle.dsv_certcheck.proofs.Nearness.{near_beside}
+use Rattle.dsv_certcheck.proofs.checks.check_depth.Goals.{in-Safe, in-Leaves}
+use Rattle.dsv_certcheck.proofs.checks.check_depth.Goals as goal
+
+pub returns-clause-near : goal.returns-clause-near
+returns-clause-near c =
+    let q = c.args.quantised.now in
+    let offer = c.args.offer.now in
+    let outlook = c.in_ok-overflow_gain in
+    elim c.match-branch-2.branch [
+      | in-Safe w ↦
+          subst (λ (r : Checked). OnOk r (ShowsNear q offer)) (sym w.result-is)
+          (near_beside c.args.words q outlook.field-0 w.in-Safe.field-0 offer w.check_error.result c.order-order.ensures.quantised w.in-Safe.is outlook.ensures.holds w.check_error.ensures)
+      | in-Leaves w ↦ subst (λ (r : Checked). OnOk r (ShowsNear q offer)) (sym w.result-is) tt
+    ]
