@@ -166,9 +166,9 @@ row_by told old new job c quantised (seeks_set d) e (Err (stop.JobSize size)) b 
 }
 row_by told old new job c quantised (seeks_set d) e (Err stop.NoMemory) b h k = tt
 row_by told old new job c quantised (seeks_set d) e found b h k = absurd k
-row_by told old new job c quantised measures_gain e (Ok (answer.InRanges gain)) b h k = record {
+row_by told old new job c quantised measures_gain e (Ok (answer.InRanges gain error)) b h k = record {
   belongs_to = e;
-  comes_from = along told (λ bytes a. (quantised, record { task = e; accepted = accepted_in job.design bytes c (Ok quantised) b a }, k)) h;
+  comes_from = along told (λ bytes a. (quantised, record { task = e; accepted = accepted_in job.design bytes c (Ok quantised) b a }, k.0, k.1)) h;
   shows = tt;
 }
 row_by told old new job c quantised measures_gain e (Ok (answer.OutOfRange sample value)) b h k = record {

@@ -35,16 +35,19 @@ use Rattle.dsv_certcheck.specs.Checks.{format_check, words_check}
 use Rattle.dsv_certcheck.proofs.Passing.{format_passes, hints_pass, invariant_passes, gain_passes, falls_pass}
 use Rattle.dsv_command.specs.Jobs.{Task, decides, searches, seeks_set, measures_gain, Asked}
 use Rattle.dsv_names.specs.declared.design.Design.{Design}
-use Rattle.dsv_report.specs.Output.{job_with, certificate_for, certificate_of}
+use Rattle.dsv_report.specs.Output.{job_with, certificate_for, certificate_of, offer_in}
 use Rattle.dsv_report.specs.declared.answers.Answer.{Answer}
 use Rattle.dsv_report.specs.declared.answers.Answer.TheVariants as answer
+use Rattle.dsv_report.specs.declared.answers.OutputError.{OutputError}
+use Rattle.dsv_roundoff.specs.declared.offers.RoundoffOffer.{RoundoffOffer}
 use Rattle.dsv_gain.specs.declared.outlook.Gain.{Gain}
 use Rattle.dsv_gain.proofs.Depths.{gains_again, gain_below}
 use Rattle.dsv_realise.specs.Netlists.{net_of}
 use Rattle.dsv_cli.specs.Headline.{HasWords, IsAccepted, IsTested, IsSearch, IsSeeking, IsMeasuring, ShowsFall, IsRow}
-use Rattle.dsv_cli.specs.Gain.{most_gain_samples, IsGainOf}
+use Rattle.dsv_cli.specs.Gain.{most_gain_samples, IsGainOf, IsErrorOf}
 use Rattle.dsv_bounded.specs.RunAnswers.{NeverHappens}
 use Rattle.dsv_cli.specs.Sets.{KeepsTo}
+use Rattle.dsv_cli.proofs.OutputErrors.{offer_passes, offer_lawful}
 use Rattle.dsv_cli.proofs.Told.{of_told}
 
 -- The bytes are the text of a controller, which in the realisation and modes of the certificate's job becomes words for which the certificate passes its check.
@@ -93,18 +96,18 @@ invariant_fits bytes job words conflicts quantised candidate logs s k h t = reco
   job = refl;
 }
 
-abbrev gain_for : Design → CertWords → ℕ → Certificate
-gain_for design words depth = certificate.Gain (job_with design words (OfRuns Overflow) size.Unbounded) depth
+abbrev gain_for : Design → CertWords → ℕ → Option RoundoffOffer → Certificate
+gain_for design words depth offer = certificate.Gain (job_with design words (OfRuns Overflow) size.Unbounded) depth offer
 
-gain_fits : (bytes : List ℕ) (job : Asked) (words : CertWords) (quantised : QuantisedView) (gain : Gain) → IsMeasuring job bytes quantised → IsGainOf quantised gain
-    → HasWords bytes words → IsTyped (gain_for job.design words gain.depth) → IsAcceptable bytes (gain_for job.design words gain.depth)
-gain_fits bytes job words quantised gain s k h t =
+gain_fits : (bytes : List ℕ) (job : Asked) (words : CertWords) (quantised : QuantisedView) (gain : Gain) (found : OutputError) → IsMeasuring job bytes quantised → IsGainOf quantised gain → IsErrorOf quantised found
+    → HasWords bytes words → IsTyped (gain_for job.design words gain.depth (offer_in found)) → IsAcceptable bytes (gain_for job.design words gain.depth (offer_in found))
+gain_fits bytes job words quantised gain found s k e h t =
     let below = gain_below (net_of quantised) quantised.xlo quantised.xhi most_gain_samples gain k.found in
     let again = gains_again (net_of quantised) quantised.xlo quantised.xhi most_gain_samples gain k.found in
     let deep : gain.depth ≤ most_gain_depth = omega (arith, below) in
     record {
-      fits = record { quantised = quantised; accepted = s.accepted; format = format_fits bytes words job.design (Ok quantised) h s.accepted; passes = gain_passes words quantised gain.depth again.0 deep again.1 };
-      lawful = gain_is_lawful (job_with job.design words (OfRuns Overflow) size.Unbounded) gain.depth refl t deep;
+      fits = record { quantised = quantised; accepted = s.accepted; format = format_fits bytes words job.design (Ok quantised) h s.accepted; passes = gain_passes words quantised gain.depth (offer_in found) again.0 deep again.1 (offer_passes words quantised found e) };
+      lawful = gain_is_lawful (job_with job.design words (OfRuns Overflow) size.Unbounded) gain.depth (offer_in found) refl t deep (offer_lawful quantised found e);
       text = refl;
       job = refl;
     }
@@ -149,7 +152,7 @@ of_task job words task found c d t k e =
 abbrev HasCertificate : Answer → Type 0
 HasCertificate (answer.Never log) = Unit {0}
 HasCertificate (answer.Always candidate logs) = Unit {0}
-HasCertificate (answer.InRanges gain) = Unit {0}
+HasCertificate (answer.InRanges gain error) = Unit {0}
 HasCertificate (answer.Falls poly offer fall) = Unit {0}
 HasCertificate other = ⊥
 
@@ -159,7 +162,7 @@ no_certificate c e = cc
 has_certificate : (design : Design) (words : CertWords) (task : Task) (found : Answer) (c : Certificate) → certificate_for design words task found ≡ Some c → HasCertificate found
 has_certificate design words task (answer.Never log) c e = tt
 has_certificate design words task (answer.Always candidate logs) c e = tt
-has_certificate design words task (answer.InRanges gain) c e = tt
+has_certificate design words task (answer.InRanges gain error) c e = tt
 has_certificate design words task (answer.Falls poly offer fall) c e = tt
 has_certificate design words (searches p samples conflicts) found c e = no_certificate c e
 has_certificate design words (seeks_set conflicts) found c e = no_certificate c e
@@ -179,11 +182,11 @@ certificate_fits bytes old new job words (answer.Always candidate logs) c row sa
     let d = invariant_for job.design words candidate logs in
     let is : d ≡ c = of_task job words (seeks_set t.0) (answer.Always candidate logs) c d t.2.task refl e in
     subst (IsAcceptable bytes) is (invariant_fits bytes job words t.0 t.1 candidate logs t.2 t.3 said (subst IsTyped (sym is) known))
-certificate_fits bytes old new job words (answer.InRanges gain) c row said e known =
+certificate_fits bytes old new job words (answer.InRanges gain found) c row said e known =
     let t = of_told _ bytes row.comes_from in
-    let d = gain_for job.design words gain.depth in
-    let is : d ≡ c = of_task job words measures_gain (answer.InRanges gain) c d t.1.task refl e in
-    subst (IsAcceptable bytes) is (gain_fits bytes job words t.0 gain t.1 t.2 said (subst IsTyped (sym is) known))
+    let d = gain_for job.design words gain.depth (offer_in found) in
+    let is : d ≡ c = of_task job words measures_gain (answer.InRanges gain found) c d t.1.task refl e in
+    subst (IsAcceptable bytes) is (gain_fits bytes job words t.0 gain found t.1 t.2 t.3 said (subst IsTyped (sym is) known))
 certificate_fits bytes old new job words (answer.Falls poly offer fall) c row said e known =
     let t = of_told _ bytes row.comes_from in
     let d = falls_for job.design words t.property offer in

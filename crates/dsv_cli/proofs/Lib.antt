@@ -18,6 +18,7 @@ pub mod OfferedSets
 pub mod OneAnswerLemmas
 pub mod OneAnswerStages
 pub mod OneAnswerTasks
+pub mod OutputErrors
 pub mod Pairwise
 pub mod SectionFiles
 pub mod StateRows

@@ -62,9 +62,9 @@ reached_by bytes old new job (Ok (answer.Late report)) s h =
 reached_by bytes old new job (Ok (answer.Never log)) s h =
     let t = h.comes_from.2 in
     along h.comes_from.1 (record { stage = in_words t.4.accepted.controller t.3; reached = (t.4.accepted, refl); gives = rw t.4.task t.5 })
-reached_by bytes old new job (Ok (answer.InRanges gain)) s h =
+reached_by bytes old new job (Ok (answer.InRanges gain error)) s h =
     let t = h.comes_from.2 in
-    along h.comes_from.1 (record { stage = in_words t.1.accepted.controller t.0; reached = (t.1.accepted, refl); gives = rw t.1.task t.2 })
+    along h.comes_from.1 (record { stage = in_words t.1.accepted.controller t.0; reached = (t.1.accepted, refl); gives = rw t.1.task (t.2, t.3) })
 reached_by bytes old new job (Ok (answer.TooDeep depth)) s h =
     let t = h.comes_from.2 in
     along h.comes_from.1 (record { stage = in_words t.1.accepted.controller t.0; reached = (t.1.accepted, refl); gives = rw t.1.task (t.2, t.3) })

@@ -316,20 +316,20 @@ left_or_deep : (found : Outlook) (sample value : ℕ) → found ≡ outlook.Leav
 left_or_deep found sample value e f = cc
 
 one_gain : (quantised : QuantisedView) (a b : Outcome) → IsSettled a → IsSettled b → IsOfGain quantised a → IsOfGain quantised b → SameAnswer a b
-one_gain quantised (Ok (answer.InRanges g)) (Ok (answer.InRanges h)) x y e f = ap (λ it. Ok (answer.InRanges it)) (one_gain_of (outlook_of quantised most_gain_samples) g h e.found f.found)
-one_gain quantised (Ok (answer.InRanges g)) (Ok (answer.Overflow t)) x y e f = absurd (safe_or_left (outlook_of quantised most_gain_samples) g f.sample f.value e.found f.left)
-one_gain quantised (Ok (answer.InRanges g)) (Ok (answer.OutOfRange sample value)) x y e f = absurd y
-one_gain quantised (Ok (answer.InRanges g)) (Ok (answer.TooDeep d)) x y e f = absurd (safe_or_deep (outlook_of quantised most_gain_samples) g e.found f.1)
-one_gain quantised (Ok (answer.InRanges g)) (Err stop.NoMemory) x y e f = absurd y
-one_gain quantised (Ok (answer.InRanges g)) b x y e f = absurd f
+one_gain quantised (Ok (answer.InRanges g b)) (Ok (answer.InRanges h c)) x y e f = one_gain_of (outlook_of quantised most_gain_samples) g h e.0.found f.0.found
+one_gain quantised (Ok (answer.InRanges g b)) (Ok (answer.Overflow t)) x y e f = absurd (safe_or_left (outlook_of quantised most_gain_samples) g f.sample f.value e.0.found f.left)
+one_gain quantised (Ok (answer.InRanges g b)) (Ok (answer.OutOfRange sample value)) x y e f = absurd y
+one_gain quantised (Ok (answer.InRanges g b)) (Ok (answer.TooDeep d)) x y e f = absurd (safe_or_deep (outlook_of quantised most_gain_samples) g e.0.found f.1)
+one_gain quantised (Ok (answer.InRanges g b)) (Err stop.NoMemory) x y e f = absurd y
+one_gain quantised (Ok (answer.InRanges g c)) b x y e f = absurd f
 one_gain quantised (Ok (answer.Overflow t)) (Ok (answer.Overflow u)) x y e f = tt
-one_gain quantised (Ok (answer.Overflow t)) (Ok (answer.InRanges h)) x y e f = absurd (safe_or_left (outlook_of quantised most_gain_samples) h e.sample e.value f.found e.left)
+one_gain quantised (Ok (answer.Overflow t)) (Ok (answer.InRanges h b)) x y e f = absurd (safe_or_left (outlook_of quantised most_gain_samples) h e.sample e.value f.0.found e.left)
 one_gain quantised (Ok (answer.Overflow t)) (Ok (answer.OutOfRange sample value)) x y e f = absurd y
 one_gain quantised (Ok (answer.Overflow t)) (Ok (answer.TooDeep d)) x y e f = absurd (left_or_deep (outlook_of quantised most_gain_samples) e.sample e.value e.left f.1)
 one_gain quantised (Ok (answer.Overflow t)) (Err stop.NoMemory) x y e f = absurd y
 one_gain quantised (Ok (answer.Overflow t)) b x y e f = absurd f
 one_gain quantised (Ok (answer.TooDeep c)) (Ok (answer.TooDeep d)) x y e f = ap (λ it. Ok (answer.TooDeep it)) (e.0 ∙ sym f.0)
-one_gain quantised (Ok (answer.TooDeep c)) (Ok (answer.InRanges h)) x y e f = absurd (safe_or_deep (outlook_of quantised most_gain_samples) h f.found e.1)
+one_gain quantised (Ok (answer.TooDeep c)) (Ok (answer.InRanges h b)) x y e f = absurd (safe_or_deep (outlook_of quantised most_gain_samples) h f.0.found e.1)
 one_gain quantised (Ok (answer.TooDeep c)) (Ok (answer.Overflow u)) x y e f = absurd (left_or_deep (outlook_of quantised most_gain_samples) f.sample f.value f.left e.1)
 one_gain quantised (Ok (answer.TooDeep c)) (Ok (answer.OutOfRange sample value)) x y e f = absurd y
 one_gain quantised (Ok (answer.TooDeep c)) (Err stop.NoMemory) x y e f = absurd y

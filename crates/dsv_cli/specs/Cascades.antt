@@ -30,6 +30,7 @@ use Rattle.dsv_cascade.specs.Verdicts.{CascadeHoldsAlways, CascadeNeverOverflows
 use Rattle.dsv_command.specs.Cascades.{CascadeTask, decides_stability, searches_overflow}
 use Rattle.dsv_command.specs.Cascades.{measures_series, simulates_series, AskedCascade}
 use Rattle.dsv_report.specs.declared.answers.Answer.TheVariants as answer
+use Rattle.dsv_report.specs.declared.answers.OutputError.TheVariants as output_error
 use Rattle.dsv_report.specs.declared.stop.Stop.{Stop}
 use Rattle.dsv_report.specs.declared.stop.Stop.TheVariants as stop
 use Rattle.dsv_report.specs.declared.stop.WhichFile.TheVariants as file
@@ -157,7 +158,8 @@ IsOfSeries (searches_overflow samples conflicts) c (Ok (answer.Spent log)) =
     IsWithinSize c samples × IsSpent (cascade_formula_of c samples) conflicts log
 IsOfSeries (searches_overflow samples conflicts) c (Err (stop.JobSize size)) =
     (size ≡ cascade_job_size_of c samples) × (most_size < size)
-IsOfSeries measures_series c (Ok (answer.InRanges gain)) = IsCascadeGain c gain
+IsOfSeries measures_series c (Ok (answer.InRanges gain error)) =
+    IsCascadeGain c gain × (error ≡ output_error.NotSought)
 IsOfSeries measures_series c (Ok (answer.Overflow trace)) = IsCascadeBreak c trace
 IsOfSeries measures_series c (Ok (answer.OutOfRange sample value)) =
     cascade_outlook_of c most_gain_samples ≡ outlook.Leaves sample value

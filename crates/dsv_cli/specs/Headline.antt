@@ -76,7 +76,7 @@ use Rattle.dsv_bounded.specs.Verdicts.{IsCycle}
 use Rattle.dsv_meaning.specs.Traces.{IsTrace}
 use Rattle.dsv_bounded.specs.RunQuestions.{IsWithin}
 use Rattle.dsv_bounded.specs.RunAnswers.{NeverHappens, GaveUp, IsFormulaOf, IsTooLarge}
-use Rattle.dsv_cli.specs.Gain.{most_gain_samples, IsGainOf, IsBreakOf}
+use Rattle.dsv_cli.specs.Gain.{most_gain_samples, IsGainOf, IsErrorOf, IsBreakOf}
 use Rattle.dsv_cli.specs.Sets.{KeepsTo, NoneIsGood}
 use Rattle.dsv_cli.specs.Simulating.{IsRunOver, IsFirstOutside}
 use Rattle.dsv_cli.specs.Timing.{IsTimingOf, IsOnTime}
@@ -342,9 +342,10 @@ IsRow told old new job (Ok (answer.NoInvariant kept)) =
     (λ bytes. (conflicts : ℕ) × (q : QuantisedView) × IsSeeking job bytes conflicts q
     × NoneIsGood q conflicts kept)
     (Unit {0})
-IsRow told old new job (Ok (answer.InRanges gain)) =
+IsRow told old new job (Ok (answer.InRanges gain error)) =
     TableRow told (job.task ≡ measures_gain)
-    (λ bytes. (q : QuantisedView) × IsMeasuring job bytes q × IsGainOf q gain) (Unit {0})
+    (λ bytes. (q : QuantisedView) × IsMeasuring job bytes q × IsGainOf q gain × IsErrorOf q error)
+    (Unit {0})
 IsRow told old new job (Ok (answer.OutOfRange sample value)) =
     TableRow told (job.task ≡ measures_gain)
     (λ bytes. (q : QuantisedView) × IsMeasuring job bytes q

@@ -17,12 +17,14 @@ pub record SameForm (f g : Form) : Type 0 where
   pub entries : (i j : ℕ) → matrix_of f.rows i j ≡ matrix_of g.rows i j
 
 -- The answers are equal, where rows of a form that is lost in a step count as the matrix that they
--- spell, and logs, traces and cycles, of which there may be many, aren't compared.
+-- spell, and logs, traces, cycles and bounds of how far outputs are from those of exact runs, of
+-- which there may be many, aren't compared.
 abbrev pub SameAnswer : Outcome → Outcome → Type 0
 SameAnswer (Ok (answer.Falls p o f)) (Ok (answer.Falls q u g)) = (p ≡ q) × (o ≡ u) × SameForm f g
 SameAnswer (Ok (answer.KeptAway p o f v)) (Ok (answer.KeptAway q u g w)) =
     (p ≡ q) × (o ≡ u) × SameForm f g × (v ≡ w)
 SameAnswer (Ok (answer.Never log)) (Ok (answer.Never other)) = Unit {0}
+SameAnswer (Ok (answer.InRanges gain error)) (Ok (answer.InRanges other bound)) = gain ≡ other
 SameAnswer (Ok (answer.Overflow trace)) (Ok (answer.Overflow other)) = Unit {0}
 SameAnswer (Ok (answer.Cycles cycle)) (Ok (answer.Cycles other)) = Unit {0}
 SameAnswer a b = a ≡ b

@@ -38,6 +38,7 @@ use Rattle.dsv_certcheck.specs.declared.check_refusal.CheckRefusal.TheVariants a
 use Rattle.dsv_command.specs.States.{StateTask, checks_form, seeks_form, searches_states}
 use Rattle.dsv_command.specs.States.{measures_states, simulates_states, AskedStates}
 use Rattle.dsv_report.specs.declared.answers.Answer.TheVariants as answer
+use Rattle.dsv_report.specs.declared.answers.OutputError.TheVariants as output_error
 use Rattle.dsv_report.specs.declared.stop.CertificateFault.TheVariants as fault
 use Rattle.dsv_report.specs.declared.stop.Stop.{Stop}
 use Rattle.dsv_report.specs.declared.stop.Stop.TheVariants as stop
@@ -126,7 +127,8 @@ pub record IsStateBreak (s : StateView) (trace : Trace) : Type 0 where
 
 -- the answer on runs of any length, by the gain
 abbrev pub IsOfStateGain : StateView → Outcome → Type 0
-IsOfStateGain s (Ok (answer.InRanges gain)) = IsStateGain s gain
+IsOfStateGain s (Ok (answer.InRanges gain error)) =
+    IsStateGain s gain × (error ≡ output_error.NotSought)
 IsOfStateGain s (Ok (answer.Overflow trace)) = IsStateBreak s trace
 IsOfStateGain s (Ok (answer.OutOfRange sample value)) =
     state_outlook_of s most_gain_samples ≡ outlook.Leaves sample value

@@ -23,7 +23,7 @@ use dsv_cascade::{
 };
 use dsv_command::{Budget, CascadeJob, CascadeTask, Samples};
 use dsv_gain::Outlook;
-use dsv_report::{Answer, Stop};
+use dsv_report::{Answer, OutputError, Stop};
 use std::alloc::Global;
 
 /// Whether an overflow happens within so many samples.
@@ -59,7 +59,10 @@ fn gain_answer(alloc: Global, cascade: &Cascade) -> Result<Answer, Stop>
     ensures plain { IsPlain result }
 {
     match cascade_gain(alloc, cascade, MOST_SAMPLES)? {
-        Outlook::Safe(gain) => Ok(Answer::InRanges(gain)),
+        Outlook::Safe(gain) => Ok(Answer::InRanges {
+            gain,
+            error: OutputError::NotSought,
+        }),
         Outlook::Leaves { sample, value } => left_answer(alloc, cascade, sample, value),
         Outlook::Deep => Ok(Answer::TooDeep {
             depth: MOST_SAMPLES,

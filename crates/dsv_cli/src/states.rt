@@ -28,7 +28,7 @@ use dsv_certfile::{CertWords, Certificate};
 use dsv_command::{Budget, RunQuestion, StateJob, StateTask};
 use dsv_gain::Outlook;
 use dsv_names::RunProperty;
-use dsv_report::{Answer, Stop};
+use dsv_report::{Answer, OutputError, Stop};
 use dsv_state_file::StateFile;
 use dsv_state_space::{
     StateSystem, check_state_falls, driven_state, quantise_state, simulate_state, state_cycle,
@@ -80,7 +80,10 @@ fn gain_answer(alloc: Global, system: &StateSystem) -> Result<Answer, Stop>
     ensures plain { IsPlain result }
 {
     match state_gain(alloc, system, MOST_SAMPLES)? {
-        Outlook::Safe(gain) => Ok(Answer::InRanges(gain)),
+        Outlook::Safe(gain) => Ok(Answer::InRanges {
+            gain,
+            error: OutputError::NotSought,
+        }),
         Outlook::Leaves { sample, value } => left_answer(alloc, system, sample, value),
         Outlook::Deep => Ok(Answer::TooDeep {
             depth: MOST_SAMPLES,

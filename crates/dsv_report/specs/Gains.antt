@@ -1,10 +1,14 @@
--- The texts of answers by the gain. Ranges are in words: units of the last bit after the point.
+-- The texts of answers by the gain, and of how far outputs are from those of exact runs. Ranges are
+-- in words: units of the last bit after the point.
 use Rattle.std.specs.Prelude.{ℕ, pos, List, [], ◌∷◌, ◌++◌, codes}
 use Rattle.std.specs.Fmt.{signed_decimal}
 use Rattle.dsv_linear.specs.declared.range.Range.{Range}
 use Rattle.dsv_gain.specs.declared.outlook.Gain.{Gain}
+use Rattle.dsv_gain.specs.declared.roundoff.ErrorBound.{ErrorBound}
 use Rattle.dsv_report.specs.Fragments.{concatenation}
 use Rattle.dsv_report.specs.Lines.{numbered, number_line, numbered_lines}
+use Rattle.dsv_report.specs.declared.answers.OutputError.{OutputError}
+use Rattle.dsv_report.specs.declared.answers.OutputError.TheVariants.{NotSought, Open, Within}
 
 -- the depth, and the sample whose step the ranges are taken from
 abbrev pub depth_text : ℕ → ℕ → List ℕ
@@ -20,6 +24,24 @@ range_text number r =
 -- a line for each exact value of a sample
 abbrev pub gain_text : Gain → List ℕ
 gain_text gain = depth_text gain.depth gain.settled ++ numbered_lines range_text 0 gain.ranges
+
+-- no bound was found
+abbrev pub open_text : List ℕ
+open_text = codes "error open\n"
+
+-- the depth of the offer that shows the bound, and what the output less that of the exact run is at
+-- least and at most, in every sample
+abbrev pub bound_text : ErrorBound → List ℕ
+bound_text bound =
+    concatenation (codes "error depth " ∷ signed_decimal (pos bound.offer.depth)
+    ∷ codes " least " ∷ signed_decimal bound.output.low
+    ∷ codes " greatest " ∷ signed_decimal bound.output.high ∷ codes "\n" ∷ [])
+
+-- how far outputs are from those of exact runs, where it is sought
+abbrev pub error_text : OutputError → List ℕ
+error_text NotSought = []
+error_text Open = open_text
+error_text (Within bound) = bound_text bound
 
 -- the first sample and value whose range isn't known to be one of words
 abbrev pub out_of_range_text : ℕ → ℕ → List ℕ

@@ -4,6 +4,7 @@ use Rattle.std.specs.Prelude.{ℕ, Bool, false, List, Option, Some, None, Ok, Er
 use Rattle.dsv_names.specs.declared.property.Property.{Property}
 use Rattle.dsv_names.specs.declared.property.Property.TheVariants.{OfRuns, OfRoots}
 use Rattle.dsv_names.specs.declared.property.RunProperty.TheVariants.{Overflow}
+use Rattle.dsv_roundoff.specs.declared.offers.RoundoffOffer.{RoundoffOffer}
 use Rattle.dsv_certfile.specs.Texts as certified
 use Rattle.dsv_certfile.specs.declared.certificate.Certificate.{Certificate}
 use Rattle.dsv_certfile.specs.declared.certificate.Certificate.TheVariants as certificate
@@ -25,6 +26,8 @@ use Rattle.dsv_report.specs.Report.{answer_text, stop_text}
 use Rattle.dsv_report.specs.Stops.{Outcome}
 use Rattle.dsv_report.specs.declared.answers.Answer.{Answer}
 use Rattle.dsv_report.specs.declared.answers.Answer.TheVariants as answer
+use Rattle.dsv_report.specs.declared.answers.OutputError.{OutputError}
+use Rattle.dsv_report.specs.declared.answers.OutputError.TheVariants.{NotSought, Open, Within}
 
 -- the job of a certificate for a controller that is realised by a design, and of whose words this
 -- is said
@@ -43,9 +46,16 @@ invariant_of job (answer.Always candidate logs) =
     Some (certificate.Invariant job candidate logs)
 invariant_of job other = None
 
--- the certificate that the ranges of all exact values are words at a depth
+-- the offer that shows a bound of how far outputs are from those of exact runs, where one was found
+abbrev pub offer_in : OutputError → Option RoundoffOffer
+offer_in NotSought = None
+offer_in Open = None
+offer_in (Within bound) = Some bound.offer
+
+-- the certificate that the ranges of all exact values are words at a depth, with that offer
 abbrev pub gain_of : CertifiedJob → Answer → Option Certificate
-gain_of job (answer.InRanges gain) = Some (certificate.Gain job gain.depth)
+gain_of job (answer.InRanges gain error) =
+    Some (certificate.Gain job gain.depth (offer_in error))
 gain_of job other = None
 
 -- the certificate of a form that falls

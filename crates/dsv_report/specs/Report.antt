@@ -36,7 +36,7 @@ use Rattle.dsv_report.specs.EllipsoidTexts.{no_offer_text, offer_fault_text}
 use Rattle.dsv_report.specs.EllipsoidTexts.{ellipsoid_refusal_text}
 use Rattle.dsv_report.specs.Forms.{numbers_line, fall_text, form_text, start_text}
 use Rattle.dsv_report.specs.Fragments.{concatenation}
-use Rattle.dsv_report.specs.Gains.{gain_text, out_of_range_text, too_deep_text}
+use Rattle.dsv_report.specs.Gains.{gain_text, error_text, out_of_range_text, too_deep_text}
 use Rattle.dsv_report.specs.Lines.{property_text, realisation_text, numbered, number_line}
 use Rattle.dsv_report.specs.Lines.{numbered_lines}
 use Rattle.dsv_report.specs.LoopTexts.{loop_job_text, plant_line, loop_refusal_text}
@@ -247,7 +247,8 @@ answer_text job (answer.Never log) = heading successful job
 answer_text job (answer.Always candidate logs) = heading successful job ++ candidate_text candidate
 answer_text job (answer.NoInvariant kept) =
     heading inconclusive job ++ no_invariant_text (length kept) (length (filter is_spent kept))
-answer_text job (answer.InRanges gain) = heading successful job ++ gain_text gain
+answer_text job (answer.InRanges gain error) =
+    heading successful job ++ (gain_text gain ++ error_text error)
 answer_text job (answer.InEllipsoid offer) =
     heading successful job ++ in_ellipsoid_text offer
 answer_text job (answer.FoundEllipsoid offer) = ellipsoid_text offer
@@ -308,7 +309,7 @@ answer_status (answer.Late report) = 10
 answer_status (answer.Never log) = 0
 answer_status (answer.Always candidate logs) = 0
 answer_status (answer.NoInvariant kept) = 20
-answer_status (answer.InRanges gain) = 0
+answer_status (answer.InRanges gain error) = 0
 answer_status (answer.InEllipsoid offer) = 0
 answer_status (answer.FoundEllipsoid offer) = 0
 answer_status answer.NoEllipsoid = 20

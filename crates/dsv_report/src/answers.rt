@@ -3,7 +3,7 @@ use dsv_cascade::CascadeForms;
 use dsv_certfile::{CertifiedJob, Ellipsoid};
 use dsv_cnf::Formula;
 use dsv_forms::{Falls, Form, KeptAway, Poly};
-use dsv_gain::Gain;
+use dsv_gain::{ErrorBound, Gain};
 use dsv_hints::Log;
 use dsv_jury::Jury;
 use dsv_lyapunov::KeptForms;
@@ -12,6 +12,17 @@ use dsv_system::Rows;
 use dsv_tally::Generated;
 use dsv_template::{Candidate, KeptSets, ThreeLogs};
 use dsv_timing::TimingReport;
+
+/// How far outputs are from those of exact runs, for ever.
+#[derive(Drop)]
+pub enum OutputError {
+    /// It isn't sought: the answer is of a cascade or a state-space controller.
+    NotSought,
+    /// No bound was found.
+    Open,
+    /// The bound, with the offer that shows it.
+    Within(ErrorBound),
+}
 
 /// What the command found.
 #[derive(Drop)]
@@ -76,8 +87,11 @@ pub enum Answer {
         kept: KeptSets,
     },
     /// No list of inputs of any length overflows: each exact value of each sample lies in its range
-    /// of the gain.
-    InRanges(Gain),
+    /// of the gain. And how far the outputs are from those of exact runs.
+    InRanges {
+        gain: Gain,
+        error: OutputError,
+    },
     /// No list of inputs of any length overflows: the last outputs stay in this ellipsoid, which
     /// was offered.
     InEllipsoid(Ellipsoid),

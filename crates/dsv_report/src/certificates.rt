@@ -50,6 +50,7 @@ pub(crate) fn fault_name(fault: CertificateFault) -> &'static [u8]
         CertificateFault::TooLong => b" code 9 TOO_LONG\n",
         CertificateFault::Check(CheckFault::Format) => b" code 10 FORMAT\n",
         CertificateFault::Check(CheckFault::Gain) => b" code 11 GAIN\n",
+        CertificateFault::Check(CheckFault::Error) => b" code 12 ERROR\n",
     }
 }
 

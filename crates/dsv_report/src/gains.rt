@@ -1,12 +1,15 @@
-// Writes what the gain shows, with no memory.
+// Writes what the gain shows, and how far outputs are from those of exact runs, with no memory.
+ghost use Rattle.std.specs.Prelude.{◌++◌};
 ghost use Rattle.dsv_base.specs.Taking.{Writes};
 ghost use Rattle.dsv_report.specs.Gains.{depth_text, range_text, gain_text, out_of_range_text};
+ghost use Rattle.dsv_report.specs.Gains.{open_text, bound_text, error_text};
 ghost use Rattle.dsv_report.specs.Lines.{numbered_lines};
 
+use crate::answers::OutputError;
 use crate::fragments::{Fragment, put_fragments};
 use crate::lines::{put_number_line, put_numbered};
-use dsv_base::{Failed, Sink};
-use dsv_gain::Gain;
+use dsv_base::{Failed, Sink, put_all};
+use dsv_gain::{ErrorBound, Gain};
 use dsv_linear::Range;
 
 /// Writes the depth, and the sample whose step the ranges are taken from.
@@ -47,11 +50,60 @@ fn put_ranges<K: Sink>(sink: &mut K, ranges: &[Range]) -> Result<(), Failed>
 }
 
 /// Writes the depth and the ranges.
-pub(crate) fn put_gain<K: Sink>(sink: &mut K, gain: &Gain) -> Result<(), Failed>
+fn put_gain<K: Sink>(sink: &mut K, gain: &Gain) -> Result<(), Failed>
     ensures { Writes (K.seen sink.old) (K.seen sink.new) result (gain_text gain.now) }
 {
     put_depth(sink, gain.depth.into(), gain.settled.into())?;
     put_ranges(sink, gain.ranges.as_slice())
+}
+
+/// Writes that no bound was found.
+fn put_open<K: Sink>(sink: &mut K) -> Result<(), Failed>
+    ensures { Writes (K.seen sink.old) (K.seen sink.new) result open_text }
+{
+    put_all(sink, b"error open\n")
+}
+
+/// Writes the depth of the offer that shows the bound, and the bound.
+fn put_bound<K: Sink>(sink: &mut K, bound: &ErrorBound) -> Result<(), Failed>
+    ensures { Writes (K.seen sink.old) (K.seen sink.new) result (bound_text bound.now) }
+{
+    put_fragments(
+        sink,
+        &[
+            Fragment::Bytes(b"error depth "),
+            Fragment::Number(bound.offer.depth.into()),
+            Fragment::Bytes(b" least "),
+            Fragment::Number(bound.output.low.get()),
+            Fragment::Bytes(b" greatest "),
+            Fragment::Number(bound.output.high.get()),
+            Fragment::Bytes(b"\n"),
+        ],
+    )
+}
+
+/// Writes how far outputs are from those of exact runs, where it is sought.
+fn put_error<K: Sink>(sink: &mut K, error: &OutputError) -> Result<(), Failed>
+    ensures { Writes (K.seen sink.old) (K.seen sink.new) result (error_text error.now) }
+{
+    match error {
+        OutputError::NotSought => Ok(()),
+        OutputError::Open => put_open(sink),
+        OutputError::Within(bound) => put_bound(sink, bound),
+    }
+}
+
+/// Writes what the gain shows, and how far outputs are from those of exact runs.
+pub(crate) fn put_measure<K: Sink>(
+    sink: &mut K,
+    gain: &Gain,
+    error: &OutputError,
+) -> Result<(), Failed>
+    ensures { Writes (K.seen sink.old) (K.seen sink.new) result
+        (gain_text gain.now ++ error_text error.now) }
+{
+    put_gain(sink, gain)?;
+    put_error(sink, error)
 }
 
 /// Writes the first sample and value whose range isn't known to be one of words.

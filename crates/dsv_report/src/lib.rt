@@ -19,7 +19,7 @@ mod stop;
 mod stops;
 mod tallies;
 
-pub use answers::Answer;
+pub use answers::{Answer, OutputError};
 pub use any_job::AnyJob;
 pub use output::put_output;
 pub use report::status_of;

@@ -4,6 +4,7 @@ ghost use Rattle.dsv_base.specs.Taking.{Writes};
 ghost use Rattle.dsv_command.specs.Asking.{asked_of, asked_task, asked_state_task, asked_states};
 ghost use Rattle.dsv_command.specs.Asking.{asked_loop};
 ghost use Rattle.dsv_report.specs.Output.{job_with, hints_of, invariant_of, gain_of, falls_of};
+ghost use Rattle.dsv_report.specs.Output.{offer_in};
 ghost use Rattle.dsv_report.specs.Output.{certificate_for, answer_output, text_or, output_of};
 ghost use Rattle.dsv_report.specs.Output.{answer_certificate, certificate_written};
 ghost use Rattle.dsv_report.specs.Output.{state_job_with, state_falls_of, wants_certificate};
@@ -12,19 +13,22 @@ ghost use Rattle.dsv_report.specs.AnyJobs.{asked_in, of_controller, of_states, o
 ghost use Rattle.dsv_report.specs.Printing.{HasPlaces};
 ghost use Rattle.dsv_report.specs.Report.{answer_text};
 ghost use Rattle.dsv_certfile.specs.Lawful.{IsWords};
-ghost use Rattle.dsv_certfile.specs.Typed.{IsTyped};
+ghost use Rattle.dsv_certfile.specs.Texts.{certificate_text};
+ghost use Rattle.dsv_certfile.specs.Typed.{IsTyped, IsTypedBody};
+ghost use Rattle.dsv_certfile.specs.declared.certificate.Certificate.TheVariants as certificate;
 ghost use Rattle.dsv_certfile.specs.declared.job.Size.TheVariants as size;
 ghost use Rattle.dsv_names.specs.declared.property.Property.TheVariants.{OfRuns, OfRoots};
 ghost use Rattle.dsv_names.specs.declared.property.RunProperty.TheVariants.{Overflow};
 
-use crate::answers::Answer;
+use crate::answers::{Answer, OutputError};
 use crate::any_job::AnyJob;
 use crate::report::put_answer;
 use crate::stop::Stop;
 use crate::stops::put_stop;
 use dsv_base::{Failed, Sink};
 use dsv_certfile::{
-    CertWords, CertifiedJob, Size, write_falls, write_gain, write_hints, write_invariant,
+    CertWords, CertifiedJob, Size, write_error, write_falls, write_gain, write_hints,
+    write_invariant,
 };
 use dsv_command::{Job, LoopJob, RunQuestion, StateJob, StateTask, Task};
 use dsv_names::{Design, Property, Realisation, RootProperty, RunProperty};
@@ -96,6 +100,25 @@ fn put_invariant<K: Sink>(
     }
 }
 
+/// Writes the certificate of a gain of this depth, with the offer that shows how far outputs are
+/// from those of exact runs, where one was found.
+fn put_measure<K: Sink>(
+    sink: &mut K,
+    job: &CertifiedJob,
+    depth: u32,
+    error: &OutputError,
+) -> Result<(), Failed>
+    ensures text { Writes (K.seen sink.old) (K.seen sink.new) result
+        (certificate_text (certificate.Gain job.now depth (offer_in error.now))) }
+    ensures typed { OnOk result
+        (IsTypedBody (certificate.Gain job.now depth (offer_in error.now))) }
+{
+    match error {
+        OutputError::Within(bound) => write_error(sink, job, depth, &bound.offer),
+        OutputError::NotSought | OutputError::Open => write_gain(sink, job, depth),
+    }
+}
+
 /// Writes the certificate of an answer by the gain, or its report where it has none.
 fn put_gain<K: Sink>(
     sink: &mut K,
@@ -113,10 +136,10 @@ fn put_gain<K: Sink>(
         IsTyped) }
 {
     match answer {
-        Answer::InRanges(gain) => {
+        Answer::InRanges { gain, error } => {
             let property = Property::OfRuns(RunProperty::Overflow);
             let certified = job_with(job.design, words, property, Size::Unbounded);
-            write_gain(sink, &certified, gain.depth)
+            put_measure(sink, &certified, gain.depth, error)
         }
         _ => put_answer(sink, Some(AnyJob::OfController(job)), answer),
     }

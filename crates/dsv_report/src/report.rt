@@ -6,7 +6,7 @@ ghost use Rattle.dsv_base.specs.Taking.{Writes};
 ghost use Rattle.dsv_system.specs.RowViews.{row_of};
 ghost use Rattle.dsv_command.specs.Asking.{asked_of, asked_task, asked_cascade, asked_series};
 ghost use Rattle.dsv_command.specs.Cascades.{task_alone};
-ghost use Rattle.dsv_report.specs.Gains.{gain_text, out_of_range_text, too_deep_text};
+ghost use Rattle.dsv_report.specs.Gains.{gain_text, error_text, out_of_range_text, too_deep_text};
 ghost use Rattle.dsv_report.specs.AnyJobs as any;
 ghost use Rattle.dsv_report.specs.AnyJobs.{asked_in, of_controller, of_cascade};
 ghost use Rattle.dsv_report.specs.CascadeTexts.{sections_text, forms_text};
@@ -16,14 +16,14 @@ ghost use Rattle.dsv_report.specs.Report as report;
 ghost use Rattle.dsv_report.specs.EllipsoidTexts.{in_ellipsoid_text, no_offer_text};
 ghost use Rattle.dsv_report.specs.StateTexts.{no_state_form_text};
 
-use crate::answers::Answer;
+use crate::answers::{Answer, OutputError};
 use crate::any_job::AnyJob;
 use crate::cascades::put_forms;
 use crate::certificates::put_checked;
 use crate::ellipsoids::{put_ellipsoid_job, put_in_ellipsoid, put_no_offer_cause};
 use crate::forms::{put_fall, put_form, put_kept_away, put_numbers};
 use crate::fragments::{Fragment, put_fragments};
-use crate::gains::{put_gain, put_out_of_range};
+use crate::gains::{put_measure, put_out_of_range};
 use crate::lines::{put_number_line, put_numbered, put_property, put_realisation};
 use crate::loops::put_loop_job;
 use crate::states::{put_no_form_cause, put_state_job};
@@ -497,14 +497,21 @@ fn put_no_invariant<K: Sink>(
     put_offered_sets(sink, offers, spent)
 }
 
-/// Writes that nothing overflows in runs of any length, by the ranges of the gain.
+/// Writes that nothing overflows in runs of any length, by the ranges of the gain, and how far
+/// outputs are from those of exact runs.
 #[tactic(auto, unfolding(crate::specs::Report::successful))]
-fn put_in_ranges<K: Sink>(sink: &mut K, job: Option<AnyJob>, gain: &Gain) -> Result<(), Failed>
+fn put_in_ranges<K: Sink>(
+    sink: &mut K,
+    job: Option<AnyJob>,
+    gain: &Gain,
+    error: &OutputError,
+) -> Result<(), Failed>
     ensures { Writes (K.seen sink.old) (K.seen sink.new) result
-        (report.heading report.successful (asked_in job.entry) ++ gain_text gain.now) }
+        (report.heading report.successful (asked_in job.entry)
+        ++ (gain_text gain.now ++ error_text error.now)) }
 {
     put_heading(sink, SUCCESSFUL, job)?;
-    put_gain(sink, gain)
+    put_measure(sink, gain, error)
 }
 
 /// Writes where the gain leaves the words though no list overflows.
@@ -702,7 +709,7 @@ fn answer_status(answer: &Answer) -> u8
         | Answer::OnTime(_)
         | Answer::Never { .. }
         | Answer::Always { .. }
-        | Answer::InRanges(_)
+        | Answer::InRanges { .. }
         | Answer::InEllipsoid(_)
         | Answer::FoundEllipsoid(_)
         | Answer::FormulaText(_)
@@ -770,7 +777,7 @@ pub(crate) fn put_answer<K: Sink>(
             let sets = kept.as_slice();
             put_no_invariant(sink, job, sets.len() as u64, spent_in(sets))
         }
-        Answer::InRanges(gain) => put_in_ranges(sink, job, gain),
+        Answer::InRanges { gain, error } => put_in_ranges(sink, job, gain, error),
         Answer::InEllipsoid(offer) => put_kept_in(sink, job, offer),
         Answer::FoundEllipsoid(offer) => write_ellipsoid(sink, offer),
         Answer::NoEllipsoid => put_no_ellipsoid(sink, job),
