@@ -30,8 +30,11 @@ OVERFLOW = [
          "low_pass_in_bytes.dsv --property OVERFLOW --x-size 6"),
     Kind("Successful over lists of any length, by ranges", 0, rf"{S}\nproperty OVERFLOW .* gain\n.*",
          "`--gain`: no list of inputs in range, however long, overflows, and the exact value of each operation is never outside its "
-         "printed range. docs/GUIDE.md says what `depth` and `settled` are.",
-         "where all ranges, the coefficients and the inputs fit in words with one bit less before the point, that bit can go.",
+         "printed range. The output less that of the same equations in exact arithmetic is never outside the range of the line `error`; "
+         "`error open` says that no bound was found, and cascades and state-space controllers have no such line. docs/GUIDE.md says "
+         "what `depth` and `settled` are.",
+         "where all ranges, the coefficients and the inputs fit in words with one bit less before the point, that bit can go; where "
+         "the error is too great, one more bit after the point halves it.",
          "lag.dsv --property OVERFLOW --gain"),
     Kind("Successful over lists of any length, by an invariant", 0, rf"{S}\nproperty OVERFLOW .* unbounded\ndepth .*",
          "`--unbounded`: no list of inputs in range, however long, overflows. The registers never leave the printed set: each "
@@ -317,6 +320,8 @@ CERTIFICATES = [
          "small/order_two.dsv --check small/order_two_with_another_format.cert"),
     Kind("11 `GAIN`", 7, r"CERTIFICATE REFUSED .* code 11 .*", "at this depth, and before it, some range isn't known to be one of words", "",
          "low_pass_in_bytes.dsv --check small/low_pass_in_bytes_too_early.cert"),
+    Kind("12 `ERROR`", 7, r"CERTIFICATE REFUSED .* code 12 .*", "differences from exact runs aren't known to stay in the box", "",
+         "low_pass_in_bytes.dsv --check small/low_pass_in_bytes_narrow_box.cert"),
 ]
 
 ELLIPSOIDS = [

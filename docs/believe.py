@@ -168,7 +168,8 @@ PAGE = (
      "longest_file IsAccepted IsTextOf IsFaultOf ControllerView BecomesWords QuantisedView"),
     ("Overflow, limit cycles, simulation", "What the answers on runs say, over the written equations.",
      "equations_of rows Breaks Cycles IsSearch Happens NeverHappens IsTrace IsCycle GaveUp IsTooLarge IsFormulaOf "
-     "IsSeeking KeepsTo NoneIsGood IsMeasuring IsGainOf outlook_of HoldAlways NeverOverflows IsBreakOf IsRun IsRunOver"),
+     "IsSeeking KeepsTo NoneIsGood IsMeasuring IsGainOf outlook_of HoldAlways NeverOverflows IsErrorOf IsBoundOf AreNear AlwaysNear "
+     "RunsAsWritten error_of IsBreakOf IsRun IsRunOver"),
     ("Cascades", "What the answers on several files in series say.",
      "IsCascadeRow IsCascadeOf HaveControllers IsLaterRow IsNoCascadeRow IsCascade Fits CascadeView cascade_of IsOfSeries "
      "CascadeNever IsCascadeTrace IsCascadeGain cascade_outlook_of IsCascadeBreak IsCascadeRun AreJudged IsStableSection"),
