@@ -3,7 +3,7 @@
 use crate::controllers::Design;
 use dsv_gain::{Outlook, overflow_gain};
 use dsv_linear::Range;
-use dsv_names::{OverflowMode, Realisation, Rounding};
+use dsv_names::{Realisation, Rounding};
 use std::alloc::Global;
 use std::test::Fail;
 
@@ -177,13 +177,7 @@ fn is_wanted(outlook: &Outlook, wanted: &Wanted) -> bool {
 
 /// Whether a row's answer is the one that is wanted.
 fn is_right(alloc: Global, row: &Row) -> Option<bool> {
-    let design = Design {
-        text: row.text,
-        int_bits: row.int_bits,
-        frac_bits: row.frac_bits,
-        rounding: row.rounding,
-        overflow: OverflowMode::Wrap,
-    };
+    let design = Design::of_wrapped_words(row.text, row.int_bits, row.frac_bits, row.rounding);
     let quantised = design.quantised_in(alloc, Realisation::Dfi)?;
     let outlook = overflow_gain(alloc, &quantised, row.limit).ok()?;
     Some(is_wanted(&outlook, &row.wanted))

@@ -26,6 +26,22 @@ pub(crate) struct Design {
 }
 
 impl Design {
+    /// One of words that wrap.
+    pub(crate) fn of_wrapped_words(
+        text: &'static str,
+        int_bits: u32,
+        frac_bits: u32,
+        rounding: Rounding,
+    ) -> Design {
+        Design {
+            text,
+            int_bits,
+            frac_bits,
+            rounding,
+            overflow: OverflowMode::Wrap,
+        }
+    }
+
     /// The quantised controller.
     pub(crate) fn quantised_in(
         &self,

@@ -4,8 +4,8 @@ use crate::controllers::Design;
 use dsv_base::Items;
 use dsv_gain::{controller_error, rounding_error};
 use dsv_linear::Range;
-use dsv_names::{OverflowMode, Realisation, Rounding};
-use dsv_roundoff::{RoundoffOffer, WordRange};
+use dsv_names::{Realisation, Rounding};
+use dsv_roundoff::{RoundoffOffer, WordRange, holds_at};
 use std::alloc::Global;
 use std::test::Fail;
 
@@ -116,13 +116,7 @@ fn is_range(range: &Range, low: i128, high: i128) -> bool {
 
 /// Whether a row's bound is the one that is wanted.
 fn is_right(alloc: Global, row: &Row) -> Option<bool> {
-    let design = Design {
-        text: row.text,
-        int_bits: row.int_bits,
-        frac_bits: row.frac_bits,
-        rounding: row.rounding,
-        overflow: OverflowMode::Wrap,
-    };
+    let design = Design::of_wrapped_words(row.text, row.int_bits, row.frac_bits, row.rounding);
     let quantised = design.quantised_in(alloc, Realisation::Dfi)?;
     let bound = rounding_error(alloc, &quantised, 64).ok()?;
     Some(match (&bound, &row.wanted) {
@@ -180,13 +174,7 @@ const OFFERED: [Offered; 5] = [
 
 /// Whether an offer of depth 0 shows what is wanted.
 fn shows_right(alloc: Global, offered: &Offered) -> Option<bool> {
-    let design = Design {
-        text: HALVES,
-        int_bits: 8,
-        frac_bits: 8,
-        rounding: Rounding::Floor,
-        overflow: OverflowMode::Wrap,
-    };
+    let design = Design::of_wrapped_words(HALVES, 8, 8, Rounding::Floor);
     let quantised = design.quantised_in(alloc, Realisation::Dfi)?;
     let mut ranges = Items::new(alloc);
     for (low, high) in offered.ends {
@@ -214,4 +202,10 @@ fn offers_show_what_they_do_by_hand(rt: HostRuntime) -> Result<(), Fail> {
     }
     assert!(rt; met);
     Ok(())
+}
+
+#[test]
+fn a_value_past_the_last_is_no_multiple(rt: HostRuntime) {
+    let says = [true, false];
+    assert!(rt; holds_at(&says, 0) && !holds_at(&says, 1) && !holds_at(&says, 2));
 }
