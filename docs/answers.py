@@ -49,7 +49,7 @@ OVERFLOW = [
     Kind("Failed", 10, rf"{F}\nproperty OVERFLOW .*\ninputs .*",
          "A counterexample: these inputs overflow, in the last sample. There the exact value of this number is the first that is no word. With `--gain` "
          "the list has up to 4,096 inputs.",
-         "`--simulate` with these inputs shows the value in its place. One more of `int_bits`, a smaller range of inputs, another "
+         "`--simulate` with these inputs, up to 64 of them, shows the value in its place. One more of `int_bits`, a smaller range of inputs, another "
          "realisation; or nothing, where a later operation undoes it and words wrap.",
          "integrator.dsv --property OVERFLOW --gain"),
     Kind("Inconclusive, `cause GAIN`", 20, rf"{I}\nproperty OVERFLOW .* gain\ncause GAIN .*",
@@ -79,11 +79,12 @@ OVERFLOW = [
 
 CYCLES = [
     Kind("Successful", 0, rf"{S}\nproperty LIMIT_CYCLE .*",
-         "Without input no words in the registers come back within 1 to K samples while an output isn't 0.",
+         "Without input the registers never return to the same words within 1 to K samples while an output isn't 0, from any words in the registers that "
+         "feed back. Registers that hold inputs are 0, and so are those of DDFI that add up inputs, though inputs may have left them otherwise.",
          "longer periods may be asked, up to 64.",
          "small/two_taps.dsv --property LIMIT_CYCLE --x-size 3"),
     Kind("Failed", 10, rf"{F}\nproperty LIMIT_CYCLE .*",
-         "A counterexample: without input these words in the registers come back after `period` samples, and no earlier. The start may be one that no "
+         "A counterexample: without input the registers return to these words after `period` samples, and no earlier. The start may be one that no "
          "inputs lead to.",
          "look at the size of `outputs`. More of `frac_bits` make a cycle smaller; another `--rounding` or realisation may take it away. "
          "Of an integrator it is as it should be.",
@@ -107,7 +108,7 @@ ROOTS = [
          "small/no_zeros.dsv --property MINIMUM_PHASE"),
     Kind("Inconclusive, `cause NO_FORM`, `jury not-inside`", 20, rf"{I}\n.*\n.*\ncause NO_FORM .*\njury not-inside .*",
          "No form was found. By Jury's criterion a root isn't inside, which isn't proved; the number is the row that fails.",
-         "`--schur-cohn`, which can show it unless the root is on the circle.",
+         "`--schur-cohn`, which can show it if a root is outside the circle.",
          "small/no_form.dsv --property STABILITY"),
     Kind("Inconclusive, `cause NO_FORM`, `jury inside`", 20, rf"{I}\n.*\n.*\ncause NO_FORM .*\njury inside\n",
          "No form was found, though by Jury's criterion the roots are inside, which isn't proved.",
@@ -146,7 +147,7 @@ SERIES = [
 LOOPS = [
     Kind("Successful", 0, rf"{S}\nproperty STABILITY realization \w+ plant\npolynomial .*",
          "`--plant`: the loop is stable. The roots of the printed polynomial A a + B b are inside the unit circle, where B / A is the "
-         "controller in words and b / a the plant; form and fall are evidence, as of a controller.",
+         "controller in words and b / a the plant; form and fall are evidence, as of a controller. How near to the circle they are isn't said.",
          "nothing.",
          "motor_pi.dsv --property STABILITY --plant motor_plant.dsv"),
     Kind("Failed", 10, rf"{F}\nproperty STABILITY realization \w+ plant\npolynomial .*",
@@ -157,7 +158,8 @@ LOOPS = [
          "small/motor_pi_in_bytes.dsv --property STABILITY --plant motor_plant.dsv"),
     Kind("Inconclusive, `cause WIDE`", 20, rf"{I}\nproperty STABILITY realization \w+ plant\ncause WIDE .*",
          "This number of the loop's polynomial, or one on the way to it, is too large. Where no form is found the cause is as of a controller.",
-         "fewer digits in the plant's file, or fewer bits; in a delta form, a `delta` such as 1/4 in place of a smaller one.",
+         "fewer significant digits in each of the plant's numbers, or fewer bits; in a delta form, a `delta` such as 1/4 in place of a smaller one. "
+         "Fewer digits make another plant: a number that becomes 0 changes the verdict.",
          "small/half_pole.dsv --property STABILITY --plant small/plant_fine.dsv"),
 ]
 
@@ -198,8 +200,9 @@ OTHERS = [
          "keep it with the controller's file; `--check` judges it.",
          "low_pass_in_bytes.dsv --property OVERFLOW --gain --certificate"),
     Kind("An accepted certificate", 0, r"CERTIFICATE ACCEPTED\n(?!.* plant\n).*",
-         "`--check`: the controller of the file has the certificate's property.",
-         "nothing.",
+         "`--check`: the controller of the file has the certificate's property, in the realisation, the rounding and the overflow mode of the certificate's "
+         "second line. Of a certificate of kind `error` a line `error` follows: the range in which the output less that of exact arithmetic stays.",
+         "look at the certificate's second line, since the answer doesn't repeat the rounding and the mode.",
          "small/order_two.dsv --check small/order_two.cert"),
     Kind("An accepted certificate of a loop", 0, r"CERTIFICATE ACCEPTED\n.* plant\n",
          "`--check` with `--plant`: the loop of the controller with the plant is stable.",
@@ -262,6 +265,8 @@ REFUSED = [
          "more bits before the point, or states that are scaled", "--state-space small/twice_the_sum.states --property OVERFLOW --x-size 2"),
     Kind("45 `FRACTION_WIDE`", 2, r"STATE FILE REFUSED 45 .*", "this entry has too many digits", "fewer digits", "--state-space small/wide_entry.states --simulate 0"),
     Kind("46 `RANGE_EMPTY`", 2, r"STATE FILE REFUSED 46 .*", "no word lies in the range", "a wider range", "--state-space small/no_inputs_left.states --simulate 0"),
+    Kind("65 `REALISATION`", 2, r"LOOP REFUSED 65 .*", "the controller is in DDFI, whose registers u_1 .. u_N add up its inputs: they are poles of the loop at 1", "DDFII or TDDFII",
+         "small/late_half.dsv --property STABILITY --plant small/plant_one.dsv --realization DDFI"),
     Kind("61 `SAMPLE_TIME`", 2, r"LOOP REFUSED 61 .*", "the plant's sample time isn't the controller's", "one sample time for both, 1 where a file says none",
          "small/half_pole.dsv --property STABILITY --plant small/plant_slow.dsv"),
     Kind("62 `ALGEBRAIC`", 2, r"LOOP REFUSED 62 .*", "both answer an input in the same sample", "a plant whose `b` begins with 0: it answers a sample later",

@@ -1,15 +1,51 @@
 // Gates: each has a variable of its own, and clauses that hold exactly where the variable is the
 // gate's function.
+ghost use Rattle.std.specs.Prelude.{◌+◌, ◌-◌, ◌^◌, ◌<◌, ◌≤◌, OnOk, OnErr};
+
 use dsv_base::NoMemory;
 use dsv_cnf::{Formula, Lit};
 use std::alloc::Global;
 use std::marker::Model;
 
 /// So many variables a formula has at most.
-pub(crate) const MAX_VARIABLES: u32 = 0x8000_0000;
+const MAX_VARIABLES: u32 = 0x8000_0000;
 
 /// So many clauses a formula has at most.
-pub(crate) const MAX_CLAUSES: u32 = 0xffff_fffe;
+const MAX_CLAUSES: u32 = 0xffff_fffe;
+
+/// Accepts one clause more than so many, if these are fewer than 2^32 - 2.
+fn accept_clause(clauses: u32) -> Result<(), NoMemory>
+    ensures few { OnOk result (clauses < 2 ^ 32 - 2) }
+    ensures many { OnErr result (2 ^ 32 - 2 ≤ clauses) }
+{
+    if clauses >= MAX_CLAUSES {
+        return Err(NoMemory);
+    }
+    Ok(())
+}
+
+/// Accepts so many variables more than those, if together they are fewer than 2^31.
+pub(crate) fn accept_variables(variables: u32, more: u32) -> Result<(), NoMemory>
+    requires { variables ≤ 2 ^ 31 }
+    ensures few { OnOk result (variables + more < 2 ^ 31) }
+    ensures many { OnErr result (2 ^ 31 ≤ variables + more) }
+{
+    if more >= MAX_VARIABLES - variables {
+        return Err(NoMemory);
+    }
+    Ok(())
+}
+
+/// Accepts one variable more than so many, if these are fewer than 2^31.
+fn accept_variable(variables: u32) -> Result<(), NoMemory>
+    ensures few { OnOk result (variables < 2 ^ 31) }
+    ensures many { OnErr result (2 ^ 31 ≤ variables) }
+{
+    if variables >= MAX_VARIABLES {
+        return Err(NoMemory);
+    }
+    Ok(())
+}
 
 /// A formula that grows by gates, and a literal that is true in it.
 #[derive(Drop)]
@@ -76,9 +112,7 @@ impl Circuit {
         requires { IsOver self.old.formula.vars clause.now }
         ensures { OnOk result (self.new ≡ with_clauses self.old (clause.now ∷ [])) }
     {
-        if self.formula.len() >= MAX_CLAUSES {
-            return Err(NoMemory);
-        }
+        accept_clause(self.formula.len())?;
         self.formula.push_clause(clause)?;
         Ok(())
     }
@@ -88,9 +122,7 @@ impl Circuit {
         ensures circuit { OnOk result (self.new ≡ with_variable self.old) }
         ensures bit { IfOk result (λ l. l ≡ positive self.old.formula.vars) }
     {
-        if self.formula.vars() >= MAX_VARIABLES {
-            return Err(NoMemory);
-        }
+        accept_variable(self.formula.vars())?;
         Ok(Lit::new(self.formula.fresh_variable(), true))
     }
 

@@ -8,7 +8,7 @@ ghost use Rattle.dsv_term.specs.Word.{IsWidth};
 ghost use Rattle.dsv_blast.specs.Blast.{run_from, places_from, total, input_places, blast_of};
 ghost use Rattle.dsv_blast.specs.Blast.{first_circuit, cnf_of, IsExact, IsDecisive};
 
-use crate::circuit::{Circuit, MAX_VARIABLES};
+use crate::circuit::{Circuit, accept_variables};
 use crate::places::BitPlaces;
 use crate::term_bits::node_bits;
 use crate::words::Bits;
@@ -54,9 +54,7 @@ fn place_inputs(alloc: Global, widths: &[u32]) -> Result<Placed, NoMemory>
     let mut places = BitPlaces::new(alloc)?;
     let mut vars: u32 = 0;
     for width in widths {
-        if *width >= MAX_VARIABLES - vars {
-            return Err(NoMemory);
-        }
+        accept_variables(vars, *width)?;
         let bits = run(alloc, vars, *width)?;
         places.push(bits.as_slice())?;
         vars += *width;

@@ -1,5 +1,5 @@
 -- What a check that finds nothing shows.
-use Rattle.std.proofs.Common.{◌≡◌, ◌∙◌, List, sym, ap, subst, Result, Ok, Err, OnOk}
+use Rattle.std.proofs.Common.{◌≡◌, ◌∙◌, List, sym, ap, subst, Option, Result, Ok, Err, OnOk, IfOk}
 use Rattle.std.specs.Result.{IsErrAnd}
 use Rattle.dsv_names.specs.declared.property.Property.{Property}
 use Rattle.dsv_names.specs.declared.property.Property.TheVariants.{OfRoots}
@@ -12,12 +12,13 @@ use Rattle.dsv_tested.specs.Tested.{side_of, tested_of}
 use Rattle.dsv_tested.specs.declared.side.Side.{Side}
 use Rattle.dsv_tested.specs.declared.side.Tested.{Tested}
 use Rattle.dsv_tested.specs.declared.side.Tested.TheVariants as tested
+use Rattle.dsv_gain.specs.declared.roundoff.ShownError.{ShownError}
 use Rattle.dsv_certfile.specs.Texts.{job_of}
 use Rattle.dsv_certfile.specs.declared.certificate.Certificate.{Certificate}
 use Rattle.dsv_certfile.specs.declared.job.CertifiedJob.{CertifiedJob}
 use Rattle.dsv_certfile.specs.declared.job.Size.{Size}
 use Rattle.dsv_certfile.specs.declared.job.Size.TheVariants as size
-use Rattle.dsv_certcheck.specs.Checks.{Checked, format_check, BecomesFor, IsFoundFor, IsFoundAfter, IsChecked, Finds, words_check}
+use Rattle.dsv_certcheck.specs.Checks.{Checked, as_checked, format_check, BecomesFor, IsFoundFor, IsFoundAfter, IsChecked, Finds, words_check}
 use Rattle.dsv_certcheck.specs.Shown.{IsFalling, HasFalling, Has, IsShownOf, StaysAsOffered, IsNearOf}
 use Rattle.dsv_certcheck.specs.declared.check_refusal.CheckRefusal.{CheckRefusal}
 use Rattle.dsv_certcheck.specs.declared.check_refusal.CheckRefusal.TheVariants as refusal
@@ -52,6 +53,11 @@ after_format : (c : ControllerView) (cert : Certificate) (job : CertifiedJob) (f
 after_format c cert job found e f = subst (λ r. IsFoundAfter r c cert found) (f ∙ ap (λ (j : CertifiedJob). format_check c j.words) e)
 
 -- ---- the controller's words
+-- of a call that gives something more
+pub checked_err : {A : Type 0} (found : Result A CheckRefusal) (why : QuantRefusal) → IsErrAnd found (λ r. r ≡ refusal.Quant why) → IsErrAnd (as_checked found) (λ r. r ≡ refusal.Quant why)
+checked_err (Ok x) why h = absurd h
+checked_err (Err r) why h = h
+
 pub found_err : (found : Checked) (why : QuantRefusal) → IsErrAnd found (λ r. r ≡ refusal.Quant why) → found ≡ Err (refusal.Quant why)
 found_err (Ok x) why h = absurd h
 found_err (Err r) why h = ap Err h
@@ -72,12 +78,12 @@ pub checked_words : (c : ControllerView) (cert : Certificate) (job : CertifiedJo
     → BecomesFor c job (Ok q) → Finds found (words_check q cert) → IsChecked c cert found
 checked_words c cert job q found e f b h = after_format c cert job found e f (found_by c cert q found (subst (λ j. BecomesFor c j (Ok q)) e b) h)
 
-pub shown_words : (c : ControllerView) (cert : Certificate) (job : CertifiedJob) (q : QuantisedView) (found : Checked) → job ≡ job_of cert → BecomesFor c job (Ok q)
+pub shown_words : {T : Type 0} (c : ControllerView) (cert : Certificate) (job : CertifiedJob) (q : QuantisedView) (found : Result T CheckRefusal) → job ≡ job_of cert → BecomesFor c job (Ok q)
     → OnOk found (Has q (job_of cert).property (job_of cert).size) → OnOk found (IsShownOf c (job_of cert))
 shown_words c cert job q found e b =
     on_ok found (λ has. record { quantised = q; becomes = subst (λ j. BecomesFor c j (Ok q)) e b; has = has })
 
-pub near_words : (c : ControllerView) (cert : Certificate) (job : CertifiedJob) (q : QuantisedView) (found : Checked) → job ≡ job_of cert → BecomesFor c job (Ok q)
-    → OnOk found (StaysAsOffered q cert) → OnOk found (IsNearOf c cert)
-near_words c cert job q found e b =
-    on_ok found (λ near. record { quantised = q; becomes = subst (λ j. BecomesFor c j (Ok q)) e b; near = near })
+pub near_words : (c : ControllerView) (cert : Certificate) (job : CertifiedJob) (q : QuantisedView) (found : Result (Option ShownError) CheckRefusal) → job ≡ job_of cert → BecomesFor c job (Ok q)
+    → IfOk found (StaysAsOffered q cert) → IfOk found (IsNearOf c cert)
+near_words c cert job q (Ok shown) e b near = record { quantised = q; becomes = subst (λ j. BecomesFor c j (Ok q)) e b; near = near }
+near_words c cert job q (Err why) e b near = tt

@@ -1,5 +1,5 @@
 -- No test after the comparison of formats gives the refusal of another format.
-use Rattle.std.proofs.Common.{◌≡◌, ℕ, ◌+◌, Bool, true, false, if◌then◌else◌, List, subst, sym}
+use Rattle.std.proofs.Common.{◌≡◌, ℕ, ◌+◌, Bool, true, false, if◌then◌else◌, List, refl, subst, sym}
 use Rattle.std.specs.Prelude.{Option, Some, None, Result, Ok, Err, suc, length, ◌==◌, nat_le, nat_lt}
 use Rattle.std.proofs.Math.IntN.{ℤ}
 use Rattle.dsv_text.specs.Stages.{◌>>=◌}
@@ -143,7 +143,10 @@ after c cert line (Err why) k = sym k
 after c cert line (Ok u) k = absurd (subst IsOther k.checked (words_other k.quantised cert))
 
 pub formats_are_compared : AreOfFormats
-formats_are_compared c cert line k = after c cert line (format_check c (job_of cert).words) k
+formats_are_compared c cert line = (
+  λ k. after c cert line (format_check c (job_of cert).words) k,
+  λ e. subst (λ (r : Checked). IsFoundAfter r c cert (refused line fault.Format)) (sym e) refl,
+)
 
 -- ---- beside a plant
 polynomial_other : (w : CertWords) (r : Result (List ℤ) LoopRefusal) (offer : Falls) → IsOther (polynomial_check w r offer)
@@ -163,4 +166,7 @@ after_loop c plant cert line (Err why) k = sym k
 after_loop c plant cert line (Ok u) k = absurd (subst IsOther k.checked (loop_words_other k.quantised c.sample_time plant cert))
 
 pub loop_formats_are_compared : AreOfLoopFormats
-loop_formats_are_compared c plant cert line k = after_loop c plant cert line (format_check c (job_of cert).words) k
+loop_formats_are_compared c plant cert line = (
+  λ k. after_loop c plant cert line (format_check c (job_of cert).words) k,
+  λ e. subst (λ (r : Checked). IsLoopFoundAfter r c plant cert (refused line fault.Format)) (sym e) refl,
+)

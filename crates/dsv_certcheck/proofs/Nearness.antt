@@ -1,6 +1,6 @@
--- An offer that passes holds how far outputs are from those of exact runs, where a gain's ranges hold.
-use Rattle.std.proofs.Common.{◌≡◌, List, Option, Some, None, Ok, Err, OnOk}
-use Rattle.dsv_quantiser.specs.QuantisedView.{QuantisedView, IsQuantisedView}
+-- An offer that is accepted holds how far outputs are from those of exact runs, if a gain's ranges hold.
+use Rattle.std.proofs.Common.{◌≡◌, List, Option, Some, None, Result, Ok, Err, OnOk, IfOk, sym, subst, refl}
+use Rattle.dsv_quantiser.specs.QuantisedView.{QuantisedView}
 use Rattle.dsv_linear.specs.declared.range.Range.{Range}
 use Rattle.dsv_roundoff.specs.declared.offers.RoundoffOffer.{RoundoffOffer}
 use Rattle.dsv_gain.specs.Controllers.{HoldAlways}
@@ -8,26 +8,43 @@ use Rattle.dsv_gain.specs.Safe.{IfSafe}
 use Rattle.dsv_gain.specs.declared.outlook.Gain.{Gain}
 use Rattle.dsv_gain.specs.declared.outlook.Outlook.{Outlook}
 use Rattle.dsv_gain.specs.declared.outlook.Outlook.TheVariants as outlook
-use Rattle.dsv_gain.proofs.Near.{controllers_near, always_near}
-use Rattle.dsv_certfile.specs.declared.job.CertWords.{CertWords}
-use Rattle.dsv_certcheck.specs.Checks.{Checked, Finds, error_check}
+use Rattle.dsv_gain.proofs.Near.{always_near}
+use Rattle.dsv_gain.specs.declared.roundoff.ShownError.{ShownError}
+use Rattle.dsv_certcheck.specs.Checks.{Checked, Finds, as_checked}
 use Rattle.dsv_certcheck.specs.Shown.{ShowsNear}
-use Rattle.dsv_certcheck.proofs.Passing.{error_passes}
+use Rattle.dsv_certcheck.specs.ShownErrors.{StaysShown, without_error}
+use Rattle.dsv_certcheck.specs.declared.check_refusal.CheckRefusal.{CheckRefusal}
 
-shows_near : (w : CertWords) (q : QuantisedView) (ranges : List Range) (offer : Option RoundoffOffer) → IsQuantisedView q → HoldAlways q ranges → error_check w q offer ≡ Ok tt → ShowsNear q offer
-shows_near w q ranges None z h e = tt
-shows_near w q ranges (Some offer) z h e =
-    let shown = error_passes w q offer e in
-    (shown.0, shown.1, always_near q ranges shown.0 h (controllers_near q z offer shown.0 shown.1))
+-- ---- beside a gain that was found
+shows_near : (q : QuantisedView) (ranges : List Range) (offer : Option RoundoffOffer) (shown : Option ShownError) → HoldAlways q ranges → StaysShown q offer shown → ShowsNear q offer shown
+shows_near q ranges None None h e = tt
+shows_near q ranges None (Some r) h e = e
+shows_near q ranges (Some offer) None h e = e
+shows_near q ranges (Some offer) (Some r) h e = record { depth = e.depth; shown = e.shown; near = always_near q ranges r.output h e.near }
 
-found_near : (w : CertWords) (q : QuantisedView) (ranges : List Range) (offer : Option RoundoffOffer) (found : Checked) → IsQuantisedView q → HoldAlways q ranges → Finds found (error_check w q offer) → OnOk found (ShowsNear q offer)
-found_near w q ranges offer (Ok x) z h e = shows_near w q ranges offer z h e
-found_near w q ranges offer (Err why) z h e = tt
+found_near : (q : QuantisedView) (ranges : List Range) (offer : Option RoundoffOffer) (found : Result (Option ShownError) CheckRefusal) → HoldAlways q ranges → IfOk found (StaysShown q offer) → IfOk found (ShowsNear q offer)
+found_near q ranges offer (Ok shown) h e = shows_near q ranges offer shown h e
+found_near q ranges offer (Err why) h e = tt
 
 held : (q : QuantisedView) (found : Outlook) (gain : Gain) → found ≡ outlook.Safe gain → IfSafe found (λ g. HoldAlways q g.ranges) → HoldAlways q gain.ranges
 held q found gain e h = rw e at h
 
--- beside a gain that was found
-pub near_beside : (w : CertWords) (q : QuantisedView) (o : Outlook) (gain : Gain) (offer : Option RoundoffOffer) (found : Checked) → IsQuantisedView q → o ≡ outlook.Safe gain
-    → IfSafe o (λ g. HoldAlways q g.ranges) → Finds found (error_check w q offer) → OnOk found (ShowsNear q offer)
-near_beside w q o gain offer found z e h f = found_near w q gain.ranges offer found z (held q o gain e h) f
+pub near_beside : (q : QuantisedView) (o : Outlook) (gain : Gain) (offer : Option RoundoffOffer) (found : Result (Option ShownError) CheckRefusal) → o ≡ outlook.Safe gain
+    → IfSafe o (λ g. HoldAlways q g.ranges) → IfOk found (StaysShown q offer) → IfOk found (ShowsNear q offer)
+near_beside q o gain offer found e h = found_near q gain.ranges offer found (held q o gain e h)
+
+-- ---- checks that show nothing of it
+pub same_found : (found : Checked) → as_checked (without_error found) ≡ found
+same_found (Ok x) = refl
+same_found (Err why) = refl
+
+pub found_without : (found meant : Checked) → Finds found meant → Finds (as_checked (without_error found)) meant
+found_without found meant = subst (λ r. Finds r meant) (sym (same_found found))
+
+pub shown_without : {P : Type 0} (found : Checked) → OnOk found P → OnOk (without_error found) P
+shown_without (Ok x) h = h
+shown_without (Err why) h = tt
+
+pub none_without : (q : QuantisedView) (found : Checked) → IfOk (without_error found) (ShowsNear q None)
+none_without q (Ok x) = tt
+none_without q (Err why) = tt

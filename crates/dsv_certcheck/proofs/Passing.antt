@@ -105,14 +105,6 @@ pub gain_passes : (w : CertWords) (q : QuantisedView) (depth : ℕ) (offer : Opt
 gain_passes w q depth offer gain within e h =
     ap (λ b. if b then depth_check w q depth offer else misfit w) (le-leb depth most_gain_depth within) ∙ ap (outlook_check w (error_check w q offer)) e ∙ h
 
--- what an offer that passes shows of the output
-shown_passes : (w : CertWords) (o : Option Range) → shown_check w o ≡ Ok tt → (r : Range) × (o ≡ Some r)
-shown_passes w (Some r) e = (r, refl)
-shown_passes w None e = absurd (cc)
-
-pub error_passes : (w : CertWords) (q : QuantisedView) (offer : RoundoffOffer) → error_check w q (Some offer) ≡ Ok tt → (r : Range) × (error_of (net_of q) offer ≡ Some r)
-error_passes w q offer e = shown_passes w (error_of (net_of q) offer) e
-
 -- ---- a form that falls
 offer_passes : (w : CertWords) (c : List ℤ) (offer : Falls) → 0 < length c → falls_refusal c offer ≡ None → offer_check w c offer ≡ Ok tt
 offer_passes w c offer some e =

@@ -61,6 +61,11 @@ use Rattle.dsv_certfile.specs.declared.job.Size.TheVariants as size
 abbrev pub Checked : Type 0
 Checked = Result (Unit {0}) CheckRefusal
 
+-- what a call that gives something more comes to
+abbrev pub as_checked : {A : Type 0} → Result A CheckRefusal → Checked
+as_checked (Ok x) = Ok tt
+as_checked (Err why) = Err why
+
 -- the line's claim isn't so
 abbrev pub refused : ℕ → CheckFault → Checked
 refused line why = Err (refusal.Line line why)

@@ -5,5 +5,6 @@ pub mod LoopChecks
 pub mod Misfits
 pub mod Refusals
 pub mod Shown
+pub mod ShownErrors
 pub mod StateChecks
 pub mod FormatRefusals

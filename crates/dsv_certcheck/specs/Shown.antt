@@ -8,12 +8,12 @@ use Rattle.dsv_names.specs.declared.property.RunProperty.TheVariants as run
 use Rattle.dsv_names.specs.declared.property.RootProperty.{RootProperty}
 use Rattle.dsv_reader.specs.Controllers.{ControllerView}
 use Rattle.dsv_quantiser.specs.QuantisedView.{QuantisedView}
-use Rattle.dsv_linear.specs.declared.range.Range.{Range}
 use Rattle.dsv_realise.specs.Netlists.{net_of}
 use Rattle.dsv_roundoff.specs.declared.offers.RoundoffOffer.{RoundoffOffer}
 use Rattle.dsv_gain.specs.Controllers.{NeverOverflows}
 use Rattle.dsv_gain.specs.Errors.{error_of}
 use Rattle.dsv_gain.specs.Near.{AlwaysNear}
+use Rattle.dsv_gain.specs.declared.roundoff.ShownError.{ShownError}
 use Rattle.dsv_bounded.specs.RunQuestions.{Happens}
 use Rattle.dsv_forms.specs.declared.offers.Form.{Form}
 use Rattle.dsv_tested.specs.Tested.{side_of, tested_of}
@@ -52,20 +52,30 @@ pub record IsShownOf (c : ControllerView) (job : CertifiedJob) : Type 0 where
   pub has : Has quantised job.property job.size
 
 -- ---- how far outputs are from those of exact runs
--- The offer, where there is one, shows a range, and in every sample of every run over inputs in
--- range, of any length, the output less that of the exact run of the written equations lies in it.
-abbrev pub ShowsNear : QuantisedView → Option RoundoffOffer → Type 0
-ShowsNear q None = Unit {0}
-ShowsNear q (Some offer) =
-    (r : Range) × (error_of (net_of q) offer ≡ Some r) × AlwaysNear q r
+-- The offer shows this range at its depth, and in every sample of every run over inputs in range,
+-- of any length, the output less that of the exact run of the written equations lies in it.
+pub record ShowsError (q : QuantisedView) (offer : RoundoffOffer) (e : ShownError) : Type 0 where
+  pub depth : e.depth ≡ offer.depth
+  pub shown : error_of (net_of q) offer ≡ Some e.output
+  pub near : AlwaysNear q e.output
 
--- so does the offer of a certificate of a gain
-abbrev pub StaysAsOffered : QuantisedView → Certificate → Type 0
-StaysAsOffered q (certificate.Gain job depth offer) = ShowsNear q offer
-StaysAsOffered q other = Unit {0}
+-- the same where there is an offer; nothing is shown where there is none
+abbrev pub ShowsNear : QuantisedView → Option RoundoffOffer → Option ShownError → Type 0
+ShowsNear q None None = Unit {0}
+ShowsNear q None (Some e) = ⊥
+ShowsNear q (Some offer) None = ⊥
+ShowsNear q (Some offer) (Some e) = ShowsError q offer e
+
+-- so does the offer of a certificate of a gain; others have none
+abbrev pub StaysAsOffered : QuantisedView → Certificate → Option ShownError → Type 0
+StaysAsOffered q (certificate.Gain job depth offer) shown = ShowsNear q offer shown
+StaysAsOffered q (certificate.Hints job log) shown = ShowsNear q None shown
+StaysAsOffered q (certificate.Invariant job candidate logs) shown = ShowsNear q None shown
+StaysAsOffered q (certificate.Falls job offer) shown = ShowsNear q None shown
 
 -- The words that the controller becomes stay as the certificate offers.
-pub record IsNearOf (c : ControllerView) (cert : Certificate) : Type 0 where
+pub record IsNearOf (c : ControllerView) (cert : Certificate) (shown : Option ShownError)
+    : Type 0 where
   pub quantised : QuantisedView
   pub becomes : BecomesFor c (job_of cert) (Ok quantised)
-  pub near : StaysAsOffered quantised cert
+  pub near : StaysAsOffered quantised cert shown

@@ -1,6 +1,6 @@
 -- What the check of a certificate's form finds for a state-space controller: the first line whose
 -- claim isn't so, or nothing. Of the job its property alone counts, and the format isn't compared.
-use Rattle.std.specs.Prelude.{◌≡◌, ◌==◌, Bool, true, false, Result, Ok, Err, if◌then◌else◌}
+use Rattle.std.specs.Prelude.{◌≡◌, ◌==◌, Bool, true, false, Ok, if◌then◌else◌}
 use Rattle.dsv_names.specs.declared.property.Property.{Property}
 use Rattle.dsv_names.specs.declared.property.Property.TheVariants as property
 use Rattle.dsv_names.specs.declared.property.RootProperty.TheVariants as root
@@ -12,8 +12,6 @@ use Rattle.dsv_certfile.specs.declared.fault.CheckFault.TheVariants as fault
 use Rattle.dsv_certfile.specs.declared.job.CertWords.{CertWords}
 use Rattle.dsv_certcheck.specs.Checks.{Checked, refused, misfit, refusal_check}
 use Rattle.dsv_certcheck.specs.LineNumbers.{job_line_number}
-use Rattle.dsv_certcheck.specs.declared.check_refusal.CheckRefusal.{CheckRefusal}
-use Rattle.dsv_certcheck.specs.declared.state_forms.StateForm.{StateForm}
 use Rattle.dsv_state_space.specs.StateForms.{state_falls_refusal}
 use Rattle.dsv_state_space.specs.StateView.{StateView, states}
 
@@ -32,11 +30,6 @@ abbrev pub state_check : StateView → Certificate → Checked
 state_check s (certificate.Falls job offer) = if is_stability job.property
     then state_offer_check job.words s offer else refused job_line_number fault.Shape
 state_check s other = misfit (job_of other).words
-
--- nothing, where a form was accepted, or the refusal
-abbrev pub as_checked : Result StateForm CheckRefusal → Checked
-as_checked (Ok form) = Ok tt
-as_checked (Err why) = Err why
 
 -- this is the certificate's offer
 abbrev pub Offers : Certificate → Falls → Type 0

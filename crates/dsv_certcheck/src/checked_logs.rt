@@ -1,5 +1,5 @@
 // Logs that are checked against formulas.
-ghost use Rattle.std.specs.Prelude.{◌≤◌, ◌<◌, ◌^◌, ◌-◌, length, OnOk};
+ghost use Rattle.std.specs.Prelude.{◌≤◌, ◌<◌, ◌^◌, ◌-◌, length, OnOk, OnErr};
 ghost use Rattle.dsv_cnf.specs.Formula.{IsUnsatisfiable};
 ghost use Rattle.dsv_bounded.specs.RunQuestions.{Happens};
 ghost use Rattle.dsv_invariant.specs.Causes.{Holds, IsShaped};
@@ -26,7 +26,8 @@ use std::alloc::Global;
 
 /// Refuses a log whose steps have no numbers of 32 bits.
 fn accept_length(log: &Log) -> Result<(), NoMemory>
-    ensures { OnOk result (length log.now < 2 ^ 32 - 1) }
+    ensures short { OnOk result (length log.now < 2 ^ 32 - 1) }
+    ensures long { OnErr result (2 ^ 32 - 1 ≤ length log.now) }
 {
     if log.as_slice().len() >= u32::MAX as usize {
         return Err(NoMemory);

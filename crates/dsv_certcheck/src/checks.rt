@@ -1,10 +1,12 @@
 // The check of certificates against controllers.
-ghost use Rattle.std.specs.Prelude.{◌≡◌, ◌≤◌, OnOk};
-ghost use Rattle.dsv_certcheck.specs.Checks.{Finds, IsChecked, format_check, words_check};
+ghost use Rattle.std.specs.Prelude.{◌≡◌, ◌≤◌, OnOk, IfOk};
+ghost use Rattle.dsv_certcheck.specs.Checks.{Finds, IsChecked, as_checked, format_check};
+ghost use Rattle.dsv_certcheck.specs.Checks.{words_check};
 ghost use Rattle.dsv_certcheck.specs.Checks.{hints_check, invariant_check, error_check};
 ghost use Rattle.dsv_certcheck.specs.Checks.{depth_check, gain_check, falls_check, offer_check};
 ghost use Rattle.dsv_certcheck.specs.Shown.{Has, IsShownOf, IsFalling};
 ghost use Rattle.dsv_certcheck.specs.Shown.{ShowsNear, StaysAsOffered, IsNearOf};
+ghost use Rattle.dsv_certcheck.specs.ShownErrors.{StaysShown, without_error};
 ghost use Rattle.dsv_certfile.specs.Limits.{most_gain_depth};
 ghost use Rattle.dsv_certfile.specs.Texts.{job_of};
 ghost use Rattle.dsv_gain.specs.Controllers.{NeverOverflows};
@@ -17,7 +19,7 @@ use dsv_certfile::{
     NARROW_WORD_BITS, Size,
 };
 use dsv_forms::{Falls, Poly, check_falls};
-use dsv_gain::{Outlook, controller_error, overflow_gain};
+use dsv_gain::{Outlook, ShownError, controller_error, overflow_gain};
 use dsv_hints::Log;
 use dsv_names::{Property, RunProperty};
 use dsv_quantiser::{Quantised, quantise_in};
@@ -96,24 +98,28 @@ fn check_invariant(
     }
 }
 
-/// Checks that an offer, where there is one, shows how far the output is from that of exact runs.
+/// What an offer, if there is one, shows of how far the output is from that of exact runs.
 fn check_error(
     alloc: Global,
     quantised: &Quantised,
     words: CertWords,
     offer: &Option<RoundoffOffer>,
-) -> Result<(), CheckRefusal>
-    ensures { Finds result (error_check words quantised.now offer.now) }
+) -> Result<Option<ShownError>, CheckRefusal>
+    ensures found { Finds (as_checked result) (error_check words quantised.now offer.now) }
+    ensures near { IfOk result (StaysShown quantised.now offer.now) }
 {
-    match offer {
-        Some(offer) => match controller_error(alloc, quantised, offer)? {
-            Some(_) => Ok(()),
-            None => Err(CheckRefusal::Line {
-                line: kind_line(words),
-                fault: CheckFault::Error,
-            }),
-        },
-        None => Ok(()),
+    let Some(offer) = offer else {
+        return Ok(None);
+    };
+    match controller_error(alloc, quantised, offer)? {
+        Some(output) => Ok(Some(ShownError {
+            depth: offer.depth,
+            output,
+        })),
+        None => Err(CheckRefusal::Line {
+            line: kind_line(words),
+            fault: CheckFault::Error,
+        }),
     }
 }
 
@@ -125,11 +131,11 @@ fn check_depth(
     words: CertWords,
     depth: u32,
     offer: &Option<RoundoffOffer>,
-) -> Result<(), CheckRefusal>
+) -> Result<Option<ShownError>, CheckRefusal>
     requires { depth ≤ most_gain_depth }
-    ensures found { Finds result (depth_check words quantised.now depth offer.now) }
+    ensures found { Finds (as_checked result) (depth_check words quantised.now depth offer.now) }
     ensures shows { OnOk result (NeverOverflows quantised.now) }
-    ensures near { OnOk result (ShowsNear quantised.now offer.now) }
+    ensures near { IfOk result (ShowsNear quantised.now offer.now) }
 {
     let _order = quantised.order(); // its range, for the proof
     match overflow_gain(alloc, quantised, depth + 1)? {
@@ -148,11 +154,11 @@ fn check_gain(
     job: &CertifiedJob,
     depth: u32,
     offer: &Option<RoundoffOffer>,
-) -> Result<(), CheckRefusal>
-    ensures found { Finds result (gain_check job.now.words quantised.now job.now.property
-        job.now.size depth offer.now) }
+) -> Result<Option<ShownError>, CheckRefusal>
+    ensures found { Finds (as_checked result) (gain_check job.now.words quantised.now
+        job.now.property job.now.size depth offer.now) }
     ensures shows { OnOk result (Has quantised.now job.now.property job.now.size) }
-    ensures near { OnOk result (ShowsNear quantised.now offer.now) }
+    ensures near { IfOk result (ShowsNear quantised.now offer.now) }
 {
     match (job.property, job.size) {
         (Property::OfRuns(RunProperty::Overflow), Size::Unbounded) if depth <= MOST_GAIN_DEPTH => {
@@ -197,28 +203,41 @@ fn check_form(quantised: &Quantised, job: &CertifiedJob, offer: &Falls) -> Resul
     }
 }
 
+/// What is shown by a check that shows nothing of the output's error.
+fn without_error(found: Result<(), CheckRefusal>) -> Result<Option<ShownError>, CheckRefusal>
+    ensures { result ≡ without_error found }
+{
+    match found {
+        Ok(()) => Ok(None),
+        Err(why) => Err(why),
+    }
+}
+
 /// Checks a certificate for a quantised controller.
+#[tactic(auto, using(crate::proofs::Nearness::found_without, crate::proofs::Nearness::shown_without, crate::proofs::Nearness::none_without))]
 fn check_words(
     alloc: Global,
     quantised: &Quantised,
     certificate: &Certificate,
-) -> Result<(), CheckRefusal>
-    ensures found { Finds result (words_check quantised.now certificate.now) }
+) -> Result<Option<ShownError>, CheckRefusal>
+    ensures found { Finds (as_checked result) (words_check quantised.now certificate.now) }
     ensures shows { OnOk result
         (Has quantised.now (job_of certificate.now).property (job_of certificate.now).size) }
-    ensures near { OnOk result (StaysAsOffered quantised.now certificate.now) }
+    ensures near { IfOk result (StaysAsOffered quantised.now certificate.now) }
 {
     match certificate {
-        Certificate::Hints { job, log } => check_hints(alloc, quantised, job, log),
+        Certificate::Hints { job, log } => {
+            without_error(check_hints(alloc, quantised, job, log))
+        }
         Certificate::Invariant {
             job,
             candidate,
             logs,
-        } => check_invariant(alloc, quantised, job, candidate, logs),
+        } => without_error(check_invariant(alloc, quantised, job, candidate, logs)),
         Certificate::Gain { job, depth, offer } => {
             check_gain(alloc, quantised, job, *depth, offer)
         }
-        Certificate::Falls { job, offer } => check_form(quantised, job, offer),
+        Certificate::Falls { job, offer } => without_error(check_form(quantised, job, offer)),
     }
 }
 
@@ -226,17 +245,17 @@ fn check_words(
 /// the certificate says, or where it says none, of at most `NARROW_WORD_BITS` bits; then these
 /// words in the certificate's modes, and from these the formulas of its job, or the polynomial, are
 /// made anew, and nothing else that the certificate says is believed. What passes has the
-/// certificate's property, whatever else is in the certificate; and where a gain has an offer
-/// beside it, this shows how far the output is from that of exact runs. It takes memory for a
-/// formula and a log at a time.
+/// certificate's property, whatever else is in the certificate; and if a gain has an offer beside
+/// it, the answer is how far this shows the output to be from that of exact runs. It takes memory
+/// for a formula and a log at a time.
 pub fn check(
     alloc: Global,
     controller: &Controller,
     certificate: &Certificate,
-) -> Result<(), CheckRefusal>
-    ensures found { IsChecked controller.now certificate.now result }
+) -> Result<Option<ShownError>, CheckRefusal>
+    ensures found { IsChecked controller.now certificate.now (as_checked result) }
     ensures shows { OnOk result (IsShownOf controller.now (job_of certificate.now)) }
-    ensures near { OnOk result (IsNearOf controller.now certificate.now) }
+    ensures near { IfOk result (IsNearOf controller.now certificate.now) }
 {
     let job = certificate.job();
     check_format(controller, job.words)?;

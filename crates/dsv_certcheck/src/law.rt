@@ -2,9 +2,9 @@
 ghost use Rattle.dsv_certcheck.specs.FormatRefusals.{AreOfFormats, AreOfLoopFormats};
 ghost use Rattle.dsv_certcheck.specs.Misfits.{LoopsMisfitAlone, OthersMisfitLoops};
 
-/// The law of the refusal FORMAT, for proofs: [`check`](crate::check) gives it exactly where the
-/// comparison of the certificate's format with the controller's does, at that line; no later test
-/// has it. The call does nothing.
+/// The law of the refusal FORMAT, for proofs: [`check`](crate::check) gives it exactly if the
+/// comparison of the certificate's format with the controller's does, at the same line; no later
+/// test gives it. The call does nothing.
 pub fn formats_are_compared()
     ensures { AreOfFormats }
 {}

@@ -1,7 +1,8 @@
 // The check of a certificate's form against a state-space controller.
 ghost use Rattle.std.specs.Prelude.{◌≡◌, ◌≤◌, IfOk};
 ghost use Rattle.dsv_certcheck.specs.StateChecks.{is_stability, state_offer_check, state_check};
-ghost use Rattle.dsv_certcheck.specs.StateChecks.{as_checked, Offers};
+ghost use Rattle.dsv_certcheck.specs.StateChecks.{Offers};
+ghost use Rattle.dsv_certcheck.specs.Checks.{as_checked};
 ghost use Rattle.dsv_state_space.specs.StateForms.{FallsAlongStates, IsStateLoss};
 
 use crate::check_refusal::CheckRefusal;

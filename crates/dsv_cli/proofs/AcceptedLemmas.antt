@@ -15,6 +15,7 @@ use Rattle.dsv_certfile.specs.declared.fault.CheckFault.{CheckFault}
 use Rattle.dsv_certfile.specs.declared.job.CertifiedJob.{CertifiedJob}
 use Rattle.dsv_certfile.proofs.WrittenCertificates.{written_is_read}
 use Rattle.dsv_certcheck.specs.Checks.{Checked, format_check, words_check, BecomesFor, IsFoundOf, IsFoundFor, IsFoundAfter, IsChecked}
+use Rattle.dsv_certcheck.specs.Shown.{IsNearOf}
 use Rattle.dsv_certcheck.specs.declared.check_refusal.CheckRefusal.{CheckRefusal}
 use Rattle.dsv_certcheck.specs.declared.check_refusal.CheckRefusal.TheVariants as refusal
 use Rattle.dsv_report.specs.declared.answers.Answer.TheVariants as answer
@@ -95,8 +96,8 @@ too_long limit n h k = omega arith
 -- ---- each answer to the check
 check_accepts : (bytes written : List ℕ) (c : Certificate) → Fits bytes c → IsSpelled written c → (old new : FilesSeen) (controller name : List ℕ) (answered : Outcome) → old.held name ≡ Some written
     → IsCheckRow (Some bytes) old new controller name answered → IsAcceptance (job_of c) answered
-check_accepts bytes written c f s old new controller name (Ok (answer.Checked certified)) r row =
-    (of_certificate (λ controller x. (certified ≡ job_of x) × IsChecked controller x (Ok tt)) old name bytes written c r s (of_told _ bytes row.comes_from).1).0
+check_accepts bytes written c f s old new controller name (Ok (answer.Checked certified error)) r row =
+    (of_certificate (λ controller x. (certified ≡ job_of x) × IsChecked controller x (Ok tt) × IsNearOf controller x error) old name bytes written c r s (of_told _ bytes row.comes_from).1).0
 check_accepts bytes written c f s old new controller name (Err (stop.ReadFault which)) r row = tt
 check_accepts bytes written c f s old new controller name (Err stop.NoMemory) r row = tt
 check_accepts bytes written c f s old new controller name (Err (stop.CertificateRefused line (fault.Text why))) r row =

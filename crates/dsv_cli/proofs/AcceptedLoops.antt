@@ -187,7 +187,7 @@ spelled_is : (written : List ℕ) (c : Certificate) (old : FilesSeen) (name : Li
 spelled_is written c old name d held s h = one_spelled (certificate_in written) c d s.spelled (in_file (λ bytes. IsSpelled bytes d) old name written held h).spelled
 
 answer_accepts : (c d : Certificate) (design : ControllerView) (p : PlantView) (found : Answer) → d ≡ c → IsOfLoopCertificate design p d (Ok found) → IsAcceptance (job_of c) (Ok found)
-answer_accepts c d design p (answer.Checked certified) e h = h.0 ∙ ap job_of e
+answer_accepts c d design p (answer.Checked certified error) e h = h.0 ∙ ap job_of e
 answer_accepts c d design p found e h = absurd h
 
 check_accepts : (controller plant written : List ℕ) (c : Certificate) → LoopFits controller plant c → IsSpelled written c → (old new : FilesSeen) (controller_name plant_name name : List ℕ) (answered : Outcome)

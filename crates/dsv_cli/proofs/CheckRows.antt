@@ -78,10 +78,10 @@ spelled_of P old then name certificate e s p =
 pub row_of_certificate : (old then new : FilesSeen) (controller name : List ℕ) (c : ControllerView) (certificate : Certificate) (found : Outcome)
     → CameOf (old.held controller) (λ bytes. IsController bytes c) → then.held ≡ old.held → CameOf (then.held name) (λ written. IsSpelled written certificate)
     → IsOfCertificate c certificate found → IsCheckRow (old.held controller) old new controller name found
-row_of_certificate old then new controller name c certificate (Ok (answer.Checked certified)) h e s k = record {
+row_of_certificate old then new controller name c certificate (Ok (answer.Checked certified error)) h e s k = record {
   belongs_to = tt;
   comes_from = along (old.held controller)
-      (λ bytes a. (record { controller = c; accepted = a; shown = k.1 }, record { controller = c; accepted = a; certificate = spelled_of _ old then name certificate e s (k.0, k.2) })) h;
+      (λ bytes a. (record { controller = c; accepted = a; shown = k.1 }, record { controller = c; accepted = a; certificate = spelled_of _ old then name certificate e s (k.0, k.2, k.3) })) h;
   shows = tt;
 }
 row_of_certificate old then new controller name c certificate (Err (stop.CertificateRefused line (fault.Check why))) h e s k =

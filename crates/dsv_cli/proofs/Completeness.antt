@@ -64,7 +64,7 @@ answer_verdict (answer.Spent log) = inr (inr refl)
 answer_verdict (answer.FormulaText formula) = inl refl
 answer_verdict (answer.Simulated rows) = inl refl
 answer_verdict (answer.Generated found) = inl refl
-answer_verdict (answer.Checked certified) = inl refl
+answer_verdict (answer.Checked certified error) = inl refl
 
 abbrev stopped : Stop → Outcome
 stopped why = Err why

@@ -93,7 +93,7 @@ reached_by bytes old new job (Err (stop.QuantRefused r)) s h =
 reached_by bytes old new job (Err (stop.FileRefused text.NoMemory)) s h = absurd h
 reached_by bytes old new job (Err (stop.FileRefused r)) s h = along h.comes_from.1 (record { stage = faulty r; reached = h.comes_from.2; gives = refl })
 reached_by bytes old new job (Err stop.FileTooLong) s h = along h.comes_from.1 (record { stage = long; reached = h.comes_from.2; gives = refl })
-reached_by bytes old new job (Ok (answer.Checked certified)) s h = absurd h
+reached_by bytes old new job (Ok (answer.Checked certified error)) s h = absurd h
 reached_by bytes old new job (Err (stop.CertificateRefused line why)) s h = absurd h
 reached_by bytes old new job (Ok (answer.Generated found)) s h = absurd h
 reached_by bytes old new job (Ok (answer.OfSections found)) s h = absurd h

@@ -20,7 +20,7 @@ use Rattle.dsv_cli.specs.Loops.{IsLoopRow, SaysLoop}
 -- the answer is that a certificate with this job is accepted, unless a read failed or there was no
 -- memory
 abbrev pub IsAcceptance : CertifiedJob → Outcome → Type 0
-IsAcceptance certified (Ok (answer.Checked found)) = found ≡ certified
+IsAcceptance certified (Ok (answer.Checked found error)) = found ≡ certified
 IsAcceptance certified (Err (stop.ReadFault file)) = Unit {0}
 IsAcceptance certified (Err stop.NoMemory) = Unit {0}
 IsAcceptance certified other = ⊥

@@ -11,7 +11,7 @@ use Rattle.dsv_certfile.specs.declared.fault.CertRefusal.TheVariants as unread
 use Rattle.dsv_certfile.specs.declared.fault.CheckFault.TheVariants as claim
 use Rattle.dsv_certcheck.specs.Checks.{IsChecked}
 use Rattle.dsv_certcheck.specs.LineNumbers.{job_line_number}
-use Rattle.dsv_certcheck.specs.Shown.{IsShownOf}
+use Rattle.dsv_certcheck.specs.Shown.{IsShownOf, IsNearOf}
 use Rattle.dsv_certcheck.specs.declared.check_refusal.CheckRefusal.{CheckRefusal}
 use Rattle.dsv_certcheck.specs.declared.check_refusal.CheckRefusal.TheVariants as refusal
 use Rattle.dsv_loop.specs.declared.refusal.LoopRefusal.TheVariants.{Wide}
@@ -39,8 +39,9 @@ stop_of_check refusal.NoMemory = stop.NoMemory
 
 -- what the check of a certificate against a controller comes to
 abbrev pub IsOfCertificate : ControllerView → Certificate → Outcome → Type 0
-IsOfCertificate controller c (Ok (answer.Checked certified)) =
+IsOfCertificate controller c (Ok (answer.Checked certified error)) =
     (certified ≡ job_of c) × IsShownOf controller certified × IsChecked controller c (Ok tt)
+    × IsNearOf controller c error
 IsOfCertificate controller c (Err (stop.CertificateRefused line (fault.Check why))) =
     IsRefusedAt line why controller c
 IsOfCertificate controller c (Err (stop.QuantRefused r)) =

@@ -44,6 +44,7 @@ use Rattle.dsv_jury.specs.Jury.{jury_of}
 use Rattle.dsv_jury.specs.declared.verdict.Jury.{Jury}
 use Rattle.dsv_gain.specs.Controllers.{outlook_of}
 use Rattle.dsv_gain.specs.declared.outlook.Outlook.TheVariants as outlook
+use Rattle.dsv_gain.specs.declared.roundoff.ShownError.{ShownError}
 use Rattle.dsv_generator.specs.Tallies.{IsGeneratedFrom}
 use Rattle.dsv_lyapunov.specs.Kept.{AreRefused}
 use Rattle.dsv_lyapunov.specs.declared.kept.KeptForm.{KeptForm}
@@ -69,7 +70,7 @@ use Rattle.dsv_certfile.specs.declared.job.CertifiedJob.{CertifiedJob}
 use Rattle.dsv_certfile.specs.declared.job.CertWords.{CertWords}
 use Rattle.dsv_certfile.specs.declared.job.CertWords.TheVariants as words
 use Rattle.dsv_certcheck.specs.Checks.{IsChecked}
-use Rattle.dsv_certcheck.specs.Shown.{IsShownOf}
+use Rattle.dsv_certcheck.specs.Shown.{IsShownOf, IsNearOf}
 use Rattle.dsv_certcheck.specs.LineNumbers.{job_line_number}
 use Rattle.dsv_certcheck.specs.declared.check_refusal.CheckRefusal.TheVariants as refusal
 use Rattle.dsv_bounded.specs.Verdicts.{IsCycle}
@@ -222,10 +223,12 @@ pub record HasShown (bytes : List ℕ) (certified : CertifiedJob) : Type 0 where
   pub accepted : IsController bytes controller
   pub shown : IsShownOf controller certified
 
--- the certificate passes its check, and has this job
-abbrev pub Passes : CertifiedJob → ControllerView → List ℕ → Type 0
-Passes certified controller =
-    Spells (λ c. (certified ≡ job_of c) × IsChecked controller c (Ok tt))
+-- the certificate passes its check, has this job, and its offer for the output's error, if it has
+-- one, shows this, which holds in every sample of every run
+abbrev pub Passes : CertifiedJob → Option ShownError → ControllerView → List ℕ → Type 0
+Passes certified error controller =
+    Spells (λ c. (certified ≡ job_of c) × IsChecked controller c (Ok tt)
+    × IsNearOf controller c error)
 
 -- the claim on a line of the certificate isn't so; that there is no polynomial to claim anything of
 -- counts as a fault of the job's line
@@ -405,9 +408,10 @@ IsRow told old new job (Ok other) = ⊥
 -- The row of each answer to the check of the certificate in the file of this name against the
 -- controller in a file with these bytes, where they are told.
 abbrev pub IsCheckRow : Option (List ℕ) → FilesSeen → FilesSeen → List ℕ → List ℕ → Outcome → Type 0
-IsCheckRow told old new controller name (Ok (answer.Checked certified)) =
+IsCheckRow told old new controller name (Ok (answer.Checked certified error)) =
     TableRow told (Unit {0})
-    (λ bytes. HasShown bytes certified × IsCheckOf old name bytes (Passes certified)) (Unit {0})
+    (λ bytes. HasShown bytes certified × IsCheckOf old name bytes (Passes certified error))
+    (Unit {0})
 IsCheckRow told old new controller name (Err (stop.CertificateRefused line why)) =
     TableRow told (Unit {0}) (λ bytes. IsCheckOf old name bytes (IsFaulty line why))
     (ShowsFault old new why)

@@ -1,5 +1,5 @@
 -- What a run answers to a check of a certificate of a loop: a table of its own.
-use Rattle.std.specs.Prelude.{◌≡◌, ◌⊎◌, ℕ, List, Ok, Err}
+use Rattle.std.specs.Prelude.{◌≡◌, ◌⊎◌, ℕ, List, None, Ok, Err}
 use Rattle.dsv_base.specs.Seen.{FilesSeen}
 use Rattle.dsv_reader.specs.Controllers.{ControllerView}
 use Rattle.dsv_reader.specs.Plants.{PlantView}
@@ -20,9 +20,9 @@ IsCertificateOf old name c = CameOf (old.held name) (λ written. IsSpelled writt
 
 -- what the check of a certificate against a controller and a plant comes to
 abbrev pub IsOfLoopCertificate : ControllerView → PlantView → Certificate → Outcome → Type 0
-IsOfLoopCertificate c p certificate (Ok (answer.Checked certified)) =
+IsOfLoopCertificate c p certificate (Ok (answer.Checked certified error)) =
     (certified ≡ job_of certificate) × IsLoopShownOf c p certified
-    × IsLoopChecked c p certificate (Ok tt)
+    × IsLoopChecked c p certificate (Ok tt) × (error ≡ None)
 IsOfLoopCertificate c p certificate (Ok other) = ⊥
 IsOfLoopCertificate c p certificate (Err why) = (r : CheckRefusal)
     × IsLoopChecked c p certificate (Err r) × (why ≡ stop_of_check r)

@@ -66,7 +66,10 @@ fn certificate_answer(
     ensures plain { IsPlain result }
 {
     match check(alloc, controller, certificate) {
-        Ok(()) => Ok(Answer::Checked(*certificate.job())),
+        Ok(error) => Ok(Answer::Checked {
+            certified: *certificate.job(),
+            error,
+        }),
         Err(refusal) => Err(check_stop(refusal)),
     }
 }

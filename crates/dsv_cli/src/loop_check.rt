@@ -19,7 +19,10 @@ fn loop_certificate_answer(files: &LoopFiles, certificate: &Certificate) -> Resu
     ensures plain { IsPlain result }
 {
     match check_loop(&files.controller, &files.plant, certificate) {
-        Ok(()) => Ok(Answer::Checked(*certificate.job())),
+        Ok(()) => Ok(Answer::Checked {
+            certified: *certificate.job(),
+            error: None,
+        }),
         Err(refusal) => Err(check_stop(refusal)),
     }
 }

@@ -19,7 +19,7 @@ use Rattle.dsv_gain.proofs.Gains.{same_gain, answer_within}
 
 -- ---- how deep
 -- a gain has the depth of the best so far, or one from this sample on
-abbrev DepthFrom : ℕ → Option Gain → Gain → Type 0
+abbrev pub DepthFrom : ℕ → Option Gain → Gain → Type 0
 DepthFrom sample None gain = sample ≤ gain.depth
 DepthFrom sample (Some best) gain = best.depth ≡ gain.depth
 
@@ -52,7 +52,7 @@ run_deep nodes next sample after s (shown.Leaves value) gain rest h = best_deep 
 run_deep nodes next sample after s (shown.Words now) gain rest h =
     step_deep (has_settled nodes (after_pass nodes next s.pass)) sample after (after_pass nodes next s.pass) (hulls_after s.seen now) s.best (pass_ends 0 nodes s.pass) gain rest h
 
-deep_from : (nodes : List Node) (next : List ℕ) (left sample : ℕ) (s : Search) (gain : Gain) → gain_from nodes next left sample s ≡ outlook.Safe gain → DepthFrom sample s.best gain
+pub deep_from : (nodes : List Node) (next : List ℕ) (left sample : ℕ) (s : Search) (gain : Gain) → gain_from nodes next left sample s ≡ outlook.Safe gain → DepthFrom sample s.best gain
 deep_from nodes next zero sample s gain h = best_deep outlook.Deep sample s.best gain (λ q. absurd cc) h
 deep_from nodes next (suc left) sample s gain h =
     run_deep nodes next sample (gain_from nodes next left (suc sample)) s (pass_ends (length next) nodes s.pass) gain (λ l q. deep_from nodes next left (suc sample) l gain q) h
@@ -62,7 +62,7 @@ abbrev IsSafe : Outlook → Type 0
 IsSafe found = (g : Gain) × (found ≡ outlook.Safe g)
 
 -- before anything was found
-abbrev unfound : Pass → Option (List Range) → Search
+abbrev pub unfound : Pass → Option (List Range) → Search
 unfound pass seen = record { pass = pass; seen = seen; best = None }
 
 step_again : (settled : Bool) (sample : ℕ) (next short : Search → Outlook) (pass : Pass) (seen : List Range) (e : Ends) (gain : Gain)
@@ -77,10 +77,10 @@ step_again false sample next short pass seen (shown.Words ranges) gain deep last
     let s = search pass seen (Some new) in
     (new, last s (deep s h))
 
-no_leaving : (sample value : ℕ) (gain : Gain) → outlook.Leaves sample value ≡ outlook.Safe gain → ⊥
+pub no_leaving : (sample value : ℕ) (gain : Gain) → outlook.Leaves sample value ≡ outlook.Safe gain → ⊥
 no_leaving sample value gain h = cc
 
-not_deep : (gain : Gain) → outlook.Deep ≡ outlook.Safe gain → ⊥
+pub not_deep : (gain : Gain) → outlook.Deep ≡ outlook.Safe gain → ⊥
 not_deep gain h = cc
 
 run_again : (nodes : List Node) (next : List ℕ) (sample : ℕ) (after short : Search → Outlook) (pass : Pass) (seen : Option (List Range)) (e : Ends) (gain : Gain)

@@ -29,7 +29,7 @@ use Rattle.dsv_gain.specs.Samples.{after_pass}
 use Rattle.dsv_gain.specs.Gains.{hulls, hulls_after, symbol_of_range}
 use Rattle.dsv_roundoff.specs.declared.offers.WordRange.{WordRange}
 use Rattle.dsv_roundoff.specs.declared.offers.RoundoffOffer.{RoundoffOffer}
-use Rattle.dsv_gain.specs.Near.{HasWords, OffersFit}
+use Rattle.dsv_gain.specs.Near.{HasWords, AreInBox, OffersFit}
 use Rattle.dsv_gain.specs.Errors.{none_range, range_from, error_pass, differences_from, range_of, node_range, difference_range, is_inside, is_known_inside, holds_loaded, is_kept, kept_range, error_of}
 use Rattle.dsv_gain.proofs.Given as given
 use Rattle.dsv_gain.proofs.Given.{AreGiven, fitted_in, RunsGiven}
@@ -255,16 +255,18 @@ record IsRun (net : Net) (d : ℤ) (box : List Range) (samples : List (List ℤ)
   apart : RunsApart net d regs samples
   inside : AreIn d box regs
 
+-- what the registers are loaded with lies in the box again
+next_inside : (net : Net) (d : ℤ) (box ranges : List Range) (values : List ℤ) (samples : List (List ℤ)) → pos 0 ≤ℤ d → is_kept net.format box ranges net.nodes net.next box ≡ true → IsRun net d box (values ∷ samples) → passes.LiesIn net d ranges values
+    → AreIn d box (map (at values) net.next)
+next_inside net d box ranges values samples u k r l =
+    let says = multiples_of net.format net.nodes in
+    let h = differences_given net.format says d r.regs net.nodes [] values r.apart.0 in
+    loaded_in net.format d box ranges net.nodes values net.next box u (λ i s e. range_holds net.format says d box ranges r.regs net.nodes [] values i s r.inside h l e) k
+
 run_next : (net : Net) (d : ℤ) (box ranges : List Range) (values : List ℤ) (samples : List (List ℤ)) → pos 0 ≤ℤ d → is_kept net.format box ranges net.nodes net.next box ≡ true → IsRun net d box (values ∷ samples) → passes.LiesIn net d ranges values
     → IsRun net d box samples
 run_next net d box ranges values samples u k r l =
-    let says = multiples_of net.format net.nodes in
-    let h = differences_given net.format says d r.regs net.nodes [] values r.apart.0 in
-    record {
-      regs = map (at values) net.next;
-      apart = r.apart.1;
-      inside = loaded_in net.format d box ranges net.nodes values net.next box u (λ i s e. range_holds net.format says d box ranges r.regs net.nodes [] values i s r.inside h l e) k;
-    }
+    record { regs = map (at values) net.next; apart = r.apart.1; inside = next_inside net d box ranges values samples u k r l }
 
 -- the output's difference in each sample
 outputs_in : (net : Net) (d : ℤ) (box ranges : List Range) (out : Range) (samples : List (List ℤ)) → pos 0 ≤ℤ d → IsKept net box ranges out → IsRun net d box samples → All (passes.LiesIn net d ranges) samples → All (λ values. IsIn d out (at values net.output)) samples
@@ -284,9 +286,16 @@ kept_long f box ranges ns (i ∷ next) [] e = absurd cc
 kept_long f box ranges ns (i ∷ next) (r ∷ rest) e =
     ap suc (kept_long f box ranges ns next rest (and_right (holds_loaded f box ranges ns i r) (is_kept f box ranges ns next rest) e))
 
-differences_bounded : (net : Net) (box : List Range) (depth : ℕ) (ranges : List Range) (out : Range) (d : ℤ) (samples : List (List ℤ)) → pos 0 <ℤ d → IsPassed net depth (error_pass net box) None ranges → IsKept net box ranges out
-    → RunsApart net d (zeros (length net.next)) samples → All (λ values. IsIn d out (at values net.output)) samples
-differences_bounded net box depth ranges out d samples p it k apart =
+-- a run of differences from registers without any, whose fitted differences lie in these ranges
+record IsHeld (net : Net) (box : List Range) (out : Range) (d : ℤ) (samples : List (List ℤ)) : Type 0 where
+  all : List Range
+  kept : IsKept net box all out
+  run : IsRun net d box samples
+  always : All (passes.LiesIn net d all) samples
+
+differences_held : (net : Net) (box : List Range) (depth : ℕ) (ranges : List Range) (out : Range) (d : ℤ) (samples : List (List ℤ)) → pos 0 <ℤ d → IsPassed net depth (error_pass net box) None ranges → IsKept net box ranges out
+    → RunsApart net d (zeros (length net.next)) samples → IsHeld net box out d samples
+differences_held net box depth ranges out d samples p it k apart =
     let f = net.format in
     let g = quantity.Differences (multiples_of f net.nodes) in
     let up : pos 0 ≤ℤ d = omega (arith, ints, p) in
@@ -312,17 +321,48 @@ differences_bounded net box depth ranges out d samples p it k apart =
     (λ values l. lie_fits g d f all (fitted values) p l) (λ values l. hulls_right d f it.all it.last (fitted values) up long first.words l) it.step_is
     (run_given net d r.regs rest r.apart) (stand 0 net d box r.regs p same r.inside (omega arith) (λ j l. absurd (omega arith))) q)
     samples run (front_part Q depth samples begun) in
-    outputs_in net d box all out samples up kept run always
+    record { all = all; kept = kept; run = run; always = always }
+
+offer_held : (net : Net) (offer : RoundoffOffer) (out : Range) (d : ℤ) (samples : List (List ℤ)) → error_of net offer ≡ Some out → pos 0 <ℤ d → RunsApart net d (zeros (length net.next)) samples
+    → IsHeld net (map range_from offer.ranges) out d samples
+unfolding error_of
+offer_held net offer out d samples e p apart =
+    let box = map range_from offer.ranges in
+    let one = some_of (differences_from net.nodes net.next offer.depth (error_pass net box) None) (kept_range net box) out e in
+    differences_held net box offer.depth one.0 out d samples p (passed net offer.depth (error_pass net box) None one.0 one.1)
+    (kept_cases (is_kept net.format box one.0 net.nodes net.next box) net box one.0 out refl one.2) apart
+
+up_from : (d : ℤ) → pos 0 <ℤ d → pos 0 ≤ℤ d
+up_from d p = omega (arith, ints, p)
 
 -- the range of an offer holds the output's differences
 pub bounded : (net : Net) (offer : RoundoffOffer) (out : Range) (d : ℤ) (samples : List (List ℤ)) → error_of net offer ≡ Some out → pos 0 <ℤ d → RunsApart net d (zeros (length net.next)) samples
     → All (λ values. IsIn d out (at values net.output)) samples
-unfolding error_of
 bounded net offer out d samples e p apart =
-    let box = map range_from offer.ranges in
-    let one = some_of (differences_from net.nodes net.next offer.depth (error_pass net box) None) (kept_range net box) out e in
-    differences_bounded net box offer.depth one.0 out d samples p (passed net offer.depth (error_pass net box) None one.0 one.1)
-    (kept_cases (is_kept net.format box one.0 net.nodes net.next box) net box one.0 out refl one.2) apart
+    let held = offer_held net offer out d samples e p apart in
+    outputs_in net d (map range_from offer.ranges) held.all out samples (up_from d p) held.kept held.run held.always
+
+-- and its box those of the registers
+boxed : (d : ℤ) (box : List WordRange) (values : List ℤ) → AreIn d (map range_from box) values → AreInBox d box values
+boxed d [] [] a = tt
+boxed d [] (v ∷ values) a = absurd a
+boxed d (w ∷ box) [] a = absurd a
+boxed d (w ∷ box) (v ∷ values) a = (a.0, boxed d box values a.1)
+
+registers_in : (net : Net) (d : ℤ) (box : List WordRange) (ranges : List Range) (samples : List (List ℤ)) → pos 0 ≤ℤ d → is_kept net.format (map range_from box) ranges net.nodes net.next (map range_from box) ≡ true → IsRun net d (map range_from box) samples
+    → All (passes.LiesIn net d ranges) samples → All (λ values. AreInBox d box (map (at values) net.next)) samples
+registers_in net d box ranges [] u k r a = All-nil (λ (values : List ℤ). AreInBox d box (map (at values) net.next))
+registers_in net d box ranges (values ∷ samples) u k r a =
+    let here = All-head (passes.LiesIn net d ranges) values samples a in
+    All-cons (λ (values : List ℤ). AreInBox d box (map (at values) net.next)) values samples
+    (boxed d box (map (at values) net.next) (next_inside net d (map range_from box) ranges values samples u k r here))
+    (registers_in net d box ranges samples u k (run_next net d (map range_from box) ranges values samples u k r here) (All-tail (passes.LiesIn net d ranges) values samples a))
+
+pub registers_bounded : (net : Net) (offer : RoundoffOffer) (out : Range) (d : ℤ) (samples : List (List ℤ)) → error_of net offer ≡ Some out → pos 0 <ℤ d → RunsApart net d (zeros (length net.next)) samples
+    → All (λ values. AreInBox d offer.ranges (map (at values) net.next)) samples
+registers_bounded net offer out d samples e p apart =
+    let held = offer_held net offer out d samples e p apart in
+    registers_in net d offer.ranges held.all samples (up_from d p) held.kept.kept held.run held.always
 
 -- ---- an offer that shows a range
 words_cases : (p q : Bool) (f : Format) (w : WordRange) → is_word f w.low ≡ p → is_word f w.high ≡ q → (p && q) ≡ true → HasWords f w

@@ -31,11 +31,11 @@ use Rattle.dsv_gain.specs.Samples.{ranges_in, pass_ends, after_pass}
 use Rattle.dsv_gain.specs.Gains.{hulls, hulls_after, has_settled, best_or, gain_at, search, step_turn, run_turn, turn_outlook, gain_from, word_pass, first_search, gain_of}
 use Rattle.dsv_gain.proofs.Given.{fitted_in, RunsGiven}
 use Rattle.dsv_gain.proofs.WordRuns.{values_over, run_given, rows_lie}
-use Rattle.dsv_gain.specs.Safe.{LieWithin, HoldInRuns, NeverBreaks, IfSafe, IsWithin, GainsAreSafe}
+use Rattle.dsv_gain.specs.Safe.{AreRegisters, LieWithin, HoldInRuns, NeverBreaks, IfSafe, IsWithin, GainsAreSafe}
 use Rattle.dsv_gain.proofs.Values.{lie_words, lie_fits}
 use Rattle.dsv_gain.proofs.Hulls.{pass_words, hulls_left, hulls_right, run_ends, later_words, run_are, after_are}
 use Rattle.dsv_gain.proofs.Passes.{LiesIn, run_lies, next_has, all_have}
-use Rattle.dsv_gain.proofs.Pasts.{AreRegisters, zeros_registers, step_registers}
+use Rattle.dsv_gain.proofs.Pasts.{zeros_registers, step_registers}
 use Rattle.dsv_gain.proofs.Symbols.{words_stand}
 
 -- ---- what the search finds

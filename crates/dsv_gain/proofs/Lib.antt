@@ -19,5 +19,6 @@ mod ErrorLoops
 pub mod Errors
 pub mod Near
 pub mod Depths
+pub mod Forgetting
 mod Loops
 pub mod Equations

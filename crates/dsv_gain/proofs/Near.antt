@@ -27,11 +27,15 @@ use Rattle.dsv_gain.specs.Safe.{LieWithin}
 use Rattle.dsv_roundoff.specs.declared.offers.RoundoffOffer.{RoundoffOffer}
 use Rattle.dsv_gain.specs.declared.roundoff.ErrorBound.{ErrorBound}
 use Rattle.dsv_gain.specs.Errors.{error_of}
-use Rattle.dsv_gain.specs.Near.{OutputsStayNear, StaysNear, AlwaysNear, ControllersStayNear}
+use Rattle.dsv_gain.specs.Near.{RegistersStayNear, OutputsStayNear, StaysNear, AlwaysNear, ControllersStayNear}
 use Rattle.dsv_gain.proofs.Values.{lie_words}
-use Rattle.dsv_gain.proofs.Errors.{IsIn, bounded}
+use Rattle.dsv_gain.proofs.Errors.{IsIn, bounded, registers_bounded}
 
 -- ---- netlists
+pub registers_near : RegistersStayNear
+registers_near net offer r e xs inside d samples p h =
+    registers_bounded net offer r d (run_differences net d (zeros (length net.next)) xs samples) e p (differences_obey net xs inside d samples h)
+
 pub outputs_near : OutputsStayNear
 outputs_near net offer r e xs inside d samples p h =
     let start = zeros (length net.next) in

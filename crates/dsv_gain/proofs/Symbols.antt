@@ -27,12 +27,13 @@ use Rattle.dsv_gain.specs.declared.pass.Pass.{Pass}
 use Rattle.dsv_gain.specs.declared.walk.Walk.{Walk}
 use Rattle.dsv_gain.specs.Samples.{begun}
 use Rattle.dsv_gain.specs.Gains.{symbol_registers, symbol_of_range, words_range, past_range, pasts, register_symbols, first_ranges, sample_symbols, symbol_pass, word_pass}
+use Rattle.dsv_gain.specs.Safe.{AreRegisters}
 use Rattle.dsv_gain.proofs.Given.{IsOver}
 use Rattle.dsv_gain.proofs.Walks.{form_of}
 use Rattle.dsv_gain.proofs.Solutions.{after}
 use Rattle.dsv_gain.proofs.Walking.{symbols_in, AreSummed, AreTaken}
 use Rattle.dsv_gain.proofs.Passes.{pass_after, Stands}
-use Rattle.dsv_gain.proofs.Pasts.{AreRegisters, few_pasts}
+use Rattle.dsv_gain.proofs.Pasts.{few_pasts}
 
 -- ---- a symbol's form
 unit_long : (j : ℕ) → length (unit j) ≡ suc j

@@ -51,7 +51,7 @@ first = record { values = []; exact = [] }
 sample_given : (f : Format) (words : List ℤ) (x : ℤ) (ns : List Node) → AreGiven f quantity.Words (pos 1) words x [] ns (sample_of f words x ns).values
 sample_given f words x ns = subst (λ (vs : List ℤ). AreGiven f quantity.Words (pos 1) words x [] ns vs) (sym (values_are f words x ns first)) (nodes_given f words x ns [])
 
-exact_is : (f : Format) (words : List ℤ) (x : ℤ) (ns : List Node) → fitted_in [] ns (sample_of f words x ns).values ≡ (sample_of f words x ns).exact
+pub exact_is : (f : Format) (words : List ℤ) (x : ℤ) (ns : List Node) → fitted_in [] ns (sample_of f words x ns).values ≡ (sample_of f words x ns).exact
 exact_is f words x ns = ap (fitted_in [] ns) (values_are f words x ns first) ∙ same_fitted f words x ns [] ∙ sym (exact_are f words x ns first)
 
 -- ---- runs

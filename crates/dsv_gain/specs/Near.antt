@@ -1,5 +1,5 @@
 -- What the range of a roundoff offer says.
-use Rattle.std.specs.Prelude.{◌≡◌, List, length, map, Some, ℤ, pos, ◌*ℤ◌, ◌<ℤ◌}
+use Rattle.std.specs.Prelude.{◌≡◌, List, [], ◌∷◌, length, map, Some, ℤ, pos, ◌*ℤ◌, ◌<ℤ◌}
 use Rattle.std.specs.List.{All}
 use Rattle.dsv_quantiser.specs.QuantisedView.{QuantisedView, IsQuantisedView}
 use Rattle.dsv_word.specs.declared.format.Format.{Format}
@@ -8,13 +8,13 @@ use Rattle.dsv_system.specs.Breaks.{IsInside}
 use Rattle.dsv_system.specs.Runs.{SampleRow}
 use Rattle.dsv_system.specs.Systems.{rows, zeros, AreInRange}
 use Rattle.dsv_meaning.specs.Systems.{equations_of, outputs_over}
-use Rattle.dsv_netlist.specs.Nodes.{Net}
+use Rattle.dsv_netlist.specs.Nodes.{Net, at}
 use Rattle.dsv_netlist.specs.Systems.{system_of}
 use Rattle.dsv_linear.specs.Facts.{Between}
 use Rattle.dsv_linear.specs.declared.range.Range.{Range}
 use Rattle.dsv_realise.specs.Netlists.{net_of}
 use Rattle.dsv_roundoff.specs.Exact.{RunsExactly}
-use Rattle.dsv_roundoff.specs.Differences.{differences}
+use Rattle.dsv_roundoff.specs.Differences.{differences, run_differences}
 use Rattle.dsv_roundoff.specs.Laws.{outputs_of}
 use Rattle.dsv_roundoff.specs.Written.{RunsAsWritten}
 use Rattle.dsv_roundoff.specs.declared.offers.WordRange.{WordRange}
@@ -40,6 +40,25 @@ OffersFit = (net : Net) (offer : RoundoffOffer) (r : Range) → error_of net off
 abbrev pub AreNear : Range → ℤ → List ℤ → List ℤ → Type 0
 AreNear r d words exact =
     All (Between (d *ℤ r.low) (d *ℤ r.high)) (differences d words exact)
+
+-- each number over d lies in its range
+abbrev pub AreInBox : ℤ → List WordRange → List ℤ → Type 0
+AreInBox d [] [] = Unit {0}
+AreInBox d [] (v ∷ values) = ⊥
+AreInBox d (w ∷ box) [] = ⊥
+AreInBox d (w ∷ box) (v ∷ values) = Between (d *ℤ w.low) (d *ℤ w.high) v × AreInBox d box values
+
+-- where all exact values of a netlist's run from registers of zeros are words, each register's word
+-- less the number that it has in the exact run, which is over d, lies in its range of the offer
+-- after each sample
+abbrev pub RegistersStayNear : Type 0
+RegistersStayNear = (net : Net) (offer : RoundoffOffer) (r : Range)
+    → error_of net offer ≡ Some r
+    → (xs : List ℤ) → All (IsInside net.format) (rows (system_of net) (zeros (length net.next)) xs)
+    → (d : ℤ) (samples : List (List ℤ)) → pos 0 <ℤ d
+    → RunsExactly net d (zeros (length net.next)) xs samples
+    → All (λ values. AreInBox d offer.ranges (map (at values) net.next))
+    (run_differences net d (zeros (length net.next)) xs samples)
 
 -- where all exact values of a netlist's run from registers of zeros are words, its outputs are near
 -- those of the exact run, which are over d

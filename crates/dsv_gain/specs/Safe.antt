@@ -1,19 +1,19 @@
 -- What the ranges of a gain say.
-use Rattle.std.specs.Prelude.{◌≡◌, ℕ, suc, ◌<◌, ◌≤◌, List, [], ◌∷◌, length, ℤ}
+use Rattle.std.specs.Prelude.{◌≡◌, ℕ, suc, ◌<◌, ◌≤◌, List, [], ◌∷◌, length, take, ℤ}
 use Rattle.std.specs.List.{All}
 use Rattle.dsv_word.specs.declared.format.Format.{Format}
 use Rattle.dsv_word.specs.Words.{IsWord}
-use Rattle.dsv_system.specs.Breaks.{Breaks}
+use Rattle.dsv_system.specs.Breaks.{Breaks, IsInside}
 use Rattle.dsv_system.specs.Systems.{rows, zeros, AreInRange}
-use Rattle.dsv_netlist.specs.Nodes.{Net}
+use Rattle.dsv_netlist.specs.Nodes.{Net, at}
 use Rattle.dsv_netlist.specs.Systems.{system_of}
 use Rattle.dsv_netlist.specs.Conditions.{IsNetlist}
-use Rattle.dsv_linear.specs.Facts.{LiesWithin}
+use Rattle.dsv_linear.specs.Facts.{Between, LiesWithin}
 use Rattle.dsv_linear.specs.declared.range.Range.{Range}
 use Rattle.dsv_gain.specs.declared.outlook.Gain.{Gain}
 use Rattle.dsv_gain.specs.declared.outlook.Outlook.{Outlook}
 use Rattle.dsv_gain.specs.declared.outlook.Outlook.TheVariants as outlook
-use Rattle.dsv_gain.specs.Gains.{gain_of}
+use Rattle.dsv_gain.specs.Gains.{past_range, pasts, gain_of}
 
 -- each value lies in its range, whose ends are words
 abbrev pub LieWithin : Format → List Range → List ℤ → Type 0
@@ -54,3 +54,28 @@ abbrev pub GainsAreFoundAgain : Type 0
 GainsAreFoundAgain = (net : Net) (low high : ℤ) (limit : ℕ) (gain : Gain)
     → gain_of net low high limit ≡ outlook.Safe gain
     → (g : Gain) × (gain_of net low high (suc gain.depth) ≡ outlook.Safe g)
+
+-- ---- what a depth is
+-- a number from the least to the greatest input, or 0
+abbrev pub IsPast : ℤ → ℤ → ℤ → Type 0
+IsPast low high v = Between (past_range low high).low (past_range low high).high v
+
+-- as many words as there are registers; those that hold inputs of earlier samples hold past inputs
+pub record AreRegisters (net : Net) (low high : ℤ) (registers : List ℤ) : Type 0 where
+  pub many : length registers ≡ length net.next
+  pub words : All (IsWord net.format) registers
+  pub past : (k : ℕ) → k < pasts net → IsPast low high (at registers k)
+
+-- the exact values of the first so many samples of a run from these registers are words
+abbrev pub AreInsideFor : Net → List ℤ → List ℤ → ℕ → Type 0
+AreInsideFor net registers xs samples =
+    All (IsInside net.format) (take samples (rows (system_of net) registers xs))
+
+-- The depth of a gain: from any such registers, over inputs in range, the exact values of the
+-- sample after so many are words, if those of all samples before it are.
+abbrev pub DepthsForgetStarts : Type 0
+DepthsForgetStarts = (net : Net) (low high : ℤ) (limit : ℕ) (gain : Gain) → IsNetlist net
+    → IsWord net.format low → IsWord net.format high
+    → gain_of net low high limit ≡ outlook.Safe gain
+    → (registers xs : List ℤ) → AreRegisters net low high registers → AreInRange low high xs
+    → AreInsideFor net registers xs gain.depth → AreInsideFor net registers xs (suc gain.depth)

@@ -5,7 +5,7 @@ ghost use Rattle.dsv_gain.specs.Errors.{error_of};
 
 use crate::ends::{Ends, SampleEnds};
 use crate::error_ranges::{difference_range, error_of, error_pass, is_kept, ranges_of};
-use crate::pass::add_sample;
+use crate::pass::{Pass, add_sample};
 use crate::ranges::{Ranges, hulls, hulls_after};
 use crate::roundoff::ErrorBound;
 use crate::start_parts::has_settled;
@@ -41,6 +41,22 @@ fn are_same(a: &[Range], b: &[Range]) -> bool {
     true
 }
 
+/// The ranges of what is fitted up to one more sample, of runs from registers without differences, if
+/// they are known.
+fn seen_after(
+    alloc: Global,
+    nodes: &[Node],
+    next: &[u32],
+    pass: &mut Pass,
+    seen: Option<Ranges>,
+) -> Result<Option<Ranges>, NoMemory> {
+    let SampleEnds { run, .. } = add_sample(alloc, nodes, next, pass)?;
+    match run {
+        Ends::Words(now) => Ok(Some(hulls_after(alloc, seen, now)?)),
+        Ends::Leaves(_) => Ok(None),
+    }
+}
+
 /// The ranges of the differences of all that is fitted, in runs from registers without differences,
 /// over so many samples that they didn't grow in the later half of them.
 fn grown_ranges(
@@ -58,11 +74,9 @@ fn grown_ranges(
     let mut before = Ranges::new(alloc);
     let mut mark = FIRST_MARK;
     for sample in 0..limit {
-        let SampleEnds { run, .. } = add_sample(alloc, nodes, next, &mut pass)?;
-        let Ends::Words(now) = run else {
+        let Some(all) = seen_after(alloc, nodes, next, &mut pass, seen)? else {
             return Ok(None);
         };
-        let all = hulls_after(alloc, seen, now)?;
         if sample == mark {
             if are_same(all.as_slice(), before.as_slice()) {
                 return Ok(Some(all));
@@ -145,45 +159,117 @@ fn widened_box(
     Ok(list)
 }
 
+/// What a box is tested with: the format and the sample of a netlist, and the box.
+#[derive(Clone, Copy)]
+struct BoxTest<'a> {
+    format: Format,
+    nodes: &'a [Node],
+    next: &'a [u32],
+    ranges: &'a [Range],
+}
+
+/// The search for a depth between two samples.
+#[derive(Drop)]
+struct DepthSearch {
+    /// The pass over differences from the box.
+    pass: Pass,
+    /// The ranges of what is fitted in runs from registers without differences.
+    seen: Option<Ranges>,
+    /// The last sample so far after which differences from the box are in it again.
+    depth: Option<u32>,
+}
+
+/// What a sample comes to.
+#[derive(Drop)]
+enum DepthTurn {
+    Over(Option<u32>),
+    Next(DepthSearch),
+}
+
+impl BoxTest<'_> {
+    /// Whether the box holds what registers are loaded with, where these are the ranges of runs so
+    /// far and of the sample after the box.
+    fn is_kept(&self, alloc: Global, seen: &Ranges, last: &Ranges) -> Result<bool, NoMemory> {
+        let both = hulls(alloc, seen, last)?;
+        Ok(is_kept(
+            &self.format,
+            self.ranges,
+            both.as_slice(),
+            self.nodes,
+            self.next,
+        ))
+    }
+
+    /// One sample.
+    fn turn(&self, alloc: Global, sample: u32, search: DepthSearch) -> Result<DepthTurn, NoMemory> {
+        let DepthSearch {
+            mut pass,
+            seen,
+            depth,
+        } = search;
+        let SampleEnds { run, step } = add_sample(alloc, self.nodes, self.next, &mut pass)?;
+        let now = match run {
+            Ends::Words(now) => now,
+            Ends::Leaves(_) => return Ok(DepthTurn::Over(depth)),
+        };
+        let seen = hulls_after(alloc, seen, now)?;
+        let last = match step {
+            Ends::Words(last) => last,
+            Ends::Leaves(_) => {
+                return Ok(DepthTurn::Next(DepthSearch {
+                    pass,
+                    seen: Some(seen),
+                    depth,
+                }));
+            }
+        };
+        let is_kept = self.is_kept(alloc, &seen, &last)?;
+        let depth = if is_kept { Some(sample) } else { depth };
+        if has_settled(self.nodes, &pass) {
+            return Ok(DepthTurn::Over(depth));
+        }
+        Ok(DepthTurn::Next(DepthSearch {
+            pass,
+            seen: Some(seen),
+            depth,
+        }))
+    }
+
+    /// The last of the samples below the limit after which differences from the box are in it again.
+    fn depth(&self, alloc: Global, pass: Pass, limit: u32) -> Result<Option<u32>, NoMemory> {
+        let mut search = DepthSearch {
+            pass,
+            seen: None,
+            depth: None,
+        };
+        for sample in 0..limit {
+            match self.turn(alloc, sample, search)? {
+                DepthTurn::Over(depth) => return Ok(depth),
+                DepthTurn::Next(later) => search = later,
+            }
+        }
+        Ok(search.depth)
+    }
+}
+
 /// The last sample up to which differences settle that are in the box after it, where there is one.
 fn kept_depth(
     alloc: Global,
     net: &Netlist,
     list: &[WordRange],
     limit: u32,
-) -> Result<Option<u32>, NoMemory>
-    ensures { IfOk result (λ depth. IfSome depth (λ it. it < limit)) }
-{
+) -> Result<Option<u32>, NoMemory> {
     let nodes = nodes_of(alloc, net)?;
     let next = next_of(alloc, net)?;
-    let mut pass = error_pass(alloc, net, &nodes, list)?;
-    let list = ranges_of(alloc, list)?;
-    let mut seen: Option<Ranges> = None;
-    let mut best: Option<u32> = None;
-    for sample in 0..limit {
-        let SampleEnds { run, step } = add_sample(alloc, &nodes, &next, &mut pass)?;
-        let Ends::Words(now) = run else {
-            return Ok(best);
-        };
-        let all = hulls_after(alloc, seen, now)?;
-        if let Ends::Words(last) = step {
-            let both = hulls(alloc, &all, &last)?;
-            if is_kept(
-                &net.format(),
-                list.as_slice(),
-                both.as_slice(),
-                &nodes,
-                &next,
-            ) {
-                best = Some(sample);
-            }
-            if has_settled(&nodes, &pass) {
-                return Ok(best);
-            }
-        }
-        seen = Some(all);
-    }
-    Ok(best)
+    let pass = error_pass(alloc, net, &nodes, list)?;
+    let ranges = ranges_of(alloc, list)?;
+    let test = BoxTest {
+        format: net.format(),
+        nodes: &nodes,
+        next: &next,
+        ranges: ranges.as_slice(),
+    };
+    test.depth(alloc, pass, limit)
 }
 
 /// An offer for a netlist, by the samples below the limit, where one is found.
@@ -200,8 +286,8 @@ fn offer_of(alloc: Global, net: &Netlist, limit: u32) -> Result<Option<RoundoffO
     };
     let ranges = widened_box(alloc, &net.format(), list.as_slice())?;
     match kept_depth(alloc, net, ranges.as_slice(), limit)? {
-        Some(depth) => Ok(Some(RoundoffOffer { depth, ranges })),
-        None => Ok(None),
+        Some(depth) if depth < limit => Ok(Some(RoundoffOffer { depth, ranges })),
+        _ => Ok(None),
     }
 }
 

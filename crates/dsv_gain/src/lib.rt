@@ -24,10 +24,11 @@ pub use controllers::{controller_error, overflow_gain, rounding_error};
 pub use error_ranges::error_of;
 pub use error_search::error_bound;
 pub use law::{
-    controllers_stay_near, gains_are_found_again, gains_are_safe, offers_fit, outputs_stay_near,
+    controllers_stay_near, depths_forget_starts, gains_are_found_again, gains_are_safe, offers_fit,
+    outputs_stay_near, registers_stay_near,
 };
 pub use lists::{MOST_DRIVEN, driven_overflow, driven_trace};
 pub use outlook::{Gain, Outlook};
 pub use ranges::Ranges;
-pub use roundoff::ErrorBound;
+pub use roundoff::{ErrorBound, ShownError};
 pub use search::gain_of;

@@ -10,3 +10,13 @@ pub struct ErrorBound {
     /// of the exact run lies in it, in words.
     pub output: Range,
 }
+
+/// What an offer shows: its depth, and the range.
+#[derive(Clone, Copy, Debug, PartialEq, Eq)]
+pub struct ShownError {
+    /// The depth of the offer.
+    pub depth: u32,
+    /// In every sample of every run in which no exact value leaves the words, the output less that
+    /// of the exact run lies in it, in words.
+    pub output: Range,
+}

@@ -1,5 +1,5 @@
 // The clauses of a derivation, live and deleted.
-ghost use Rattle.std.specs.Prelude.{◌≡◌, ◌<◌, ◌≤◌, ◌-◌, ◌^◌, [], ◌∷◌, ◌++◌};
+ghost use Rattle.std.specs.Prelude.{◌≡◌, ◌<◌, ◌≤◌, ◌+◌, ◌-◌, ◌^◌, [], ◌∷◌, ◌++◌};
 ghost use Rattle.std.specs.Prelude.{None, Some, length, max, nat_le, option_copied, slice_range};
 ghost use Rattle.std.specs.Prelude.{IsTrue, OnOk, OnErr, IfNone, IfSome};
 ghost use Rattle.dsv_cnf.specs.Formula.{IsOver};
@@ -25,6 +25,18 @@ impl Slot {
     {
         self.start <= self.end
     }
+}
+
+/// Accepts so many literals beside those that are held, if together they are fewer than 2^32.
+fn accept_literals(held: usize, literals: usize) -> Result<(), NoMemory>
+    requires { held < 2 ^ 32 }
+    ensures few { OnOk result (held + literals < 2 ^ 32) }
+    ensures many { OnErr result (2 ^ 32 ≤ held + literals) }
+{
+    if literals > u32::MAX as usize - held {
+        return Err(NoMemory);
+    }
+    Ok(())
 }
 
 /// Where the slot of this id is. Ids that have no gap from 1 on are at their place; others are
@@ -108,9 +120,7 @@ impl Store {
     {
         let clauses = self.spare_clauses.max(clauses);
         let literals = self.spare_literals.max(literals);
-        if literals > u32::MAX as usize - self.literals.len() {
-            return Err(NoMemory);
-        }
+        accept_literals(self.literals.len(), literals)?;
         self.slots.reserve(clauses)?;
         self.literals.reserve(literals)?;
         self.spare_clauses = clauses;

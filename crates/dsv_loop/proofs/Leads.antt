@@ -26,7 +26,7 @@ use Rattle.dsv_tested.proofs.Denominators.{expansion_first, z_first}
 use Rattle.dsv_loop.specs.declared.refusal.LoopRefusal.{LoopRefusal}
 use Rattle.dsv_loop.specs.declared.refusal.LoopRefusal.TheVariants as refusal
 use Rattle.dsv_loop.specs.Loops.{TransferView, multiples_from, controller_transfer, plant_transfer, coefficients_from}
-use Rattle.dsv_loop.specs.Loops.{is_same_time, is_algebraic, loop_length, loop_test}
+use Rattle.dsv_loop.specs.Loops.{is_accumulating, is_same_time, is_algebraic, loop_length, loop_test}
 use Rattle.dsv_loop.proofs.Entries.{narrow_same, AreCoefficients, made_of, sum_is}
 use Rattle.dsv_loop.proofs.Convolutions.{nought_left}
 use Rattle.dsv_loop.proofs.Multiples.{first-common}
@@ -86,12 +86,13 @@ z_nought true q ws cs is some h e =
 z_nought false q ws cs is some h e = let same : Ok ws ≡ Ok cs = rw is at e in sym (ap (λ xs. vector_of xs 0) (ap items_of same)) ∙ h
 
 -- ---- the test
-not_algebraic : (same algebraic over : Bool) →
-    ◌≡◌ {A = Result (Unit {0}) LoopRefusal} (if not same then Err refusal.SampleTimes else (if algebraic then Err refusal.Algebraic else (if over then Err refusal.Order else Ok tt))) (Ok tt) →
+not_algebraic : (adds same algebraic over : Bool) →
+    ◌≡◌ {A = Result (Unit {0}) LoopRefusal} (if adds then Err refusal.Realisation else (if not same then Err refusal.SampleTimes else (if algebraic then Err refusal.Algebraic else (if over then Err refusal.Order else Ok tt)))) (Ok tt) →
     algebraic ≡ false
-not_algebraic true false over e = refl
-not_algebraic true true over e = absurd (cc)
-not_algebraic false algebraic over e = absurd (cc)
+not_algebraic false true false over e = refl
+not_algebraic false true true over e = absurd (cc)
+not_algebraic false false algebraic over e = absurd (cc)
+not_algebraic true same algebraic over e = absurd (cc)
 
 one_nought : (x z : Bool) → (not x && not z) ≡ false → (x ≡ true) ⊎ (z ≡ true)
 one_nought true z e = inl refl
@@ -126,7 +127,7 @@ loop_lead q time p c w cs is_q is_p positive passed made_c made_w made =
     let is_w = plant_parts p w made_w in
     let m = made_of c w (loop_length q p) [] cs (λ k r. absurd (omega arith)) made in
     let some : 0 < length cs = omega (arith, m.size, is_q.some, is_p.some) in
-    let alone = numerators_nought q p c w is_q is_c is_w (not_algebraic (is_same_time time p.sample_time) (is_algebraic q p) (nat_lt most_coefficients (loop_length q p)) passed) in
+    let alone = numerators_nought q p c w is_q is_c is_w (not_algebraic (is_accumulating q) (is_same_time time p.sample_time) (is_algebraic q p) (nat_lt most_coefficients (loop_length q p)) passed) in
     let first : 0 < unsigned_abs (first_of c.a) = positive_size (first_of c.a) (z_first q c.a is_q is_c.a) in
     let second : 0 < unsigned_abs (first_of w.a) = whole_lead p.b p.a w.a is_p.some is_p.leading positive is_w.a in
     let lead : first_of cs ≡ first_of c.a *ℤ first_of w.a =

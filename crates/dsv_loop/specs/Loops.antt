@@ -3,7 +3,8 @@
 -- The controller is A u = B e, the plant a y = b u, and e = -y, where A, B, a and b have their
 -- coefficients in powers of z^-1. So (A a + B b) y = 0: these are the coefficients of the loop.
 -- Times a power of z they are a polynomial, the coefficient of its highest power first.
-use Rattle.std.specs.Prelude.{ℕ, zero, suc, ◌+◌, ◌-◌, ◌/◌, ◌==◌, ◌&&◌, not, nat_lt, Bool}
+use Rattle.std.specs.Prelude.{ℕ, zero, suc, ◌+◌, ◌-◌, ◌/◌, ◌==◌, ◌&&◌, not, nat_lt}
+use Rattle.std.specs.Prelude.{Bool, true, false}
 use Rattle.std.specs.Prelude.{if◌then◌else◌, List, [], ◌∷◌, ◌++◌, length, map, slice_index_or}
 use Rattle.std.specs.Prelude.{Option, Some, None, Result, Ok, Err, option_and_then}
 use Rattle.std.specs.Prelude.{ℤ, pos, ◌+ℤ◌, ◌*ℤ◌}
@@ -16,6 +17,8 @@ use Rattle.dsv_algebra.specs.Narrow.{narrow_of}
 use Rattle.dsv_algebra.specs.Vectors.{vector_of}
 use Rattle.dsv_fraction.specs.Ratio.{Ratio}
 use Rattle.dsv_fraction.specs.Ratio as ratio
+use Rattle.dsv_names.specs.declared.realisation.Realisation.{Realisation}
+use Rattle.dsv_names.specs.declared.realisation.Realisation.TheVariants as realisation
 use Rattle.dsv_delta.specs.Deltas.{common}
 use Rattle.dsv_delta.specs.declared.refusal.PolyWide.{PolyWide}
 use Rattle.dsv_forms.specs.Poly.{most_coefficients}
@@ -106,6 +109,20 @@ polynomial_with cs =
     ]
 
 -- ---- the loop
+-- a realisation whose first registers add up its inputs, and that no output feeds back
+abbrev pub adds_up_inputs : Realisation → Bool
+adds_up_inputs realisation.Dfi = false
+adds_up_inputs realisation.Dfii = false
+adds_up_inputs realisation.Tdfii = false
+adds_up_inputs realisation.Ddfi = true
+adds_up_inputs realisation.Ddfii = false
+adds_up_inputs realisation.Tddfii = false
+
+-- The controller has such registers. Each of them is a pole of the loop at 1, which A a + B b
+-- doesn't have.
+abbrev pub is_accumulating : QuantisedView → Bool
+is_accumulating q = adds_up_inputs q.realisation && nat_lt 1 (length q.a)
+
 abbrev pub is_same_time : Ratio → Ratio → Bool
 is_same_time s t = int_eq s.num t.num && s.den == t.den
 
@@ -122,10 +139,11 @@ loop_length q p = length q.a + length p.a - 1
 -- whether the controller, which runs with this sample time, and the plant have a loop
 abbrev pub loop_test : QuantisedView → Ratio → PlantView → Result (Unit {0}) LoopRefusal
 loop_test q time p =
-    if not (is_same_time time p.sample_time) then Err refusal.SampleTimes
+    if is_accumulating q then Err refusal.Realisation
+    else (if not (is_same_time time p.sample_time) then Err refusal.SampleTimes
     else (if is_algebraic q p then Err refusal.Algebraic
     else (if nat_lt most_coefficients (loop_length q p) then Err refusal.Order
-    else Ok tt))
+    else Ok tt)))
 
 -- the polynomial of the loop, or why there is none
 abbrev pub loop_of : QuantisedView → Ratio → PlantView → Result (List ℤ) LoopRefusal

@@ -13,7 +13,8 @@ ghost use Rattle.dsv_algebra.specs.Narrow.{narrow_limit};
 ghost use Rattle.dsv_algebra.specs.Vectors.{vector_of};
 ghost use Rattle.dsv_fraction.specs.Ratio.{zero};
 ghost use Rattle.dsv_forms.specs.Poly.{IsPoly, most_coefficients};
-ghost use Rattle.dsv_loop.specs.Loops.{is_same_time, is_algebraic, loop_length, loop_test};
+ghost use Rattle.dsv_loop.specs.Loops.{adds_up_inputs, is_accumulating, is_same_time};
+ghost use Rattle.dsv_loop.specs.Loops.{is_algebraic, loop_length, loop_test};
 ghost use Rattle.dsv_loop.specs.Loops.{polynomial_with, loop_of};
 ghost use Rattle.dsv_tested.specs.Lead.{lead_size};
 
@@ -23,9 +24,31 @@ use crate::sums::loop_coefficients;
 use crate::transfer::{controller_transfer, plant_transfer};
 use dsv_forms::{MOST_COEFFICIENTS, Poly};
 use dsv_fraction::Frac;
+use dsv_names::Realisation;
 use dsv_quantiser::Quantised;
 use dsv_reader::Plant;
 use dsv_tested::poly_of;
+
+/// Whether a realisation has registers that add up its inputs and that no output feeds back.
+fn adds_up_inputs(realisation: Realisation) -> bool
+    ensures { result ≡ adds_up_inputs realisation }
+{
+    match realisation {
+        Realisation::Ddfi => true,
+        Realisation::Dfi
+        | Realisation::Dfii
+        | Realisation::Tdfii
+        | Realisation::Ddfii
+        | Realisation::Tddfii => false,
+    }
+}
+
+/// Whether the controller has such registers.
+fn is_accumulating(quantised: &Quantised) -> bool
+    ensures { result ≡ is_accumulating quantised.now }
+{
+    adds_up_inputs(quantised.realisation()) && quantised.a().len() > 1
+}
 
 /// Whether both times are the same.
 fn is_same_time(s: &Frac, t: &Frac) -> bool
@@ -74,6 +97,9 @@ fn loop_length(quantised: &Quantised, plant: &Plant) -> usize
 fn loop_test(quantised: &Quantised, sample_time: &Frac, plant: &Plant) -> Result<(), LoopRefusal>
     ensures { result ≡ loop_test quantised.now sample_time.now plant.now }
 {
+    if is_accumulating(quantised) {
+        return Err(LoopRefusal::Realisation);
+    }
     if !is_same_time(sample_time, plant.sample_time()) {
         return Err(LoopRefusal::SampleTimes);
     }
@@ -107,8 +133,10 @@ fn polynomial_with(list: &[i128]) -> Result<Poly, LoopRefusal>
 ///
 /// # Errors
 ///
-/// In this order: where the plant's sample time is another; where both answer an input at once;
-/// where the loop's order is over 8; and where a number on the way is too wide. That is the index
+/// In this order: where the controller has an order of 1 or more and is in delta direct form I, whose
+/// first registers add up its inputs and are poles of the loop at 1; where the plant's sample time is
+/// another; where both answer an input at once; where the loop's order is over 8; and where a number
+/// on the way is too wide. That is the index
 /// of [`z_list`] where the controller's coefficients can't be had in z, those of A first, the index
 /// 0 where the plant's can't be made whole below 2^126, the least index of a loop's coefficient of
 /// which a product or a partial sum passes 2^126, or else the least index of one that is over 2^44

@@ -6,6 +6,10 @@ use thiserror::Error;
 /// which these are tested.
 #[derive(Clone, Copy, Debug, PartialEq, Eq, Error)]
 pub enum LoopRefusal {
+    /// The controller is in delta direct form I and has registers: those that add up its inputs are
+    /// poles of the loop at 1.
+    #[error("the controller's realisation adds up its inputs in registers that nothing feeds back")]
+    Realisation,
     /// The plant's sample time isn't the controller's.
     #[error("the plant's sample time is not the controller's")]
     SampleTimes,

@@ -1,10 +1,10 @@
 -- The texts of answers by the gain, and of how far outputs are from those of exact runs. Ranges are
 -- in words: units of the last bit after the point.
-use Rattle.std.specs.Prelude.{ℕ, pos, List, [], ◌∷◌, ◌++◌, codes}
+use Rattle.std.specs.Prelude.{ℕ, pos, List, [], ◌∷◌, ◌++◌, codes, Option, Some, None}
 use Rattle.std.specs.Fmt.{signed_decimal}
 use Rattle.dsv_linear.specs.declared.range.Range.{Range}
 use Rattle.dsv_gain.specs.declared.outlook.Gain.{Gain}
-use Rattle.dsv_gain.specs.declared.roundoff.ErrorBound.{ErrorBound}
+use Rattle.dsv_gain.specs.declared.roundoff.ShownError.{ShownError}
 use Rattle.dsv_report.specs.Fragments.{concatenation}
 use Rattle.dsv_report.specs.Lines.{numbered, number_line, numbered_lines}
 use Rattle.dsv_report.specs.declared.answers.OutputError.{OutputError}
@@ -31,17 +31,22 @@ open_text = codes "error open\n"
 
 -- the depth of the offer that shows the bound, and what the output less that of the exact run is at
 -- least and at most, in every sample
-abbrev pub bound_text : ErrorBound → List ℕ
-bound_text bound =
-    concatenation (codes "error depth " ∷ signed_decimal (pos bound.offer.depth)
-    ∷ codes " least " ∷ signed_decimal bound.output.low
-    ∷ codes " greatest " ∷ signed_decimal bound.output.high ∷ codes "\n" ∷ [])
+abbrev pub error_line : ℕ → Range → List ℕ
+error_line depth output =
+    concatenation (codes "error depth " ∷ signed_decimal (pos depth)
+    ∷ codes " least " ∷ signed_decimal output.low
+    ∷ codes " greatest " ∷ signed_decimal output.high ∷ codes "\n" ∷ [])
 
 -- how far outputs are from those of exact runs, where it is sought
 abbrev pub error_text : OutputError → List ℕ
 error_text NotSought = []
 error_text Open = open_text
-error_text (Within bound) = bound_text bound
+error_text (Within bound) = error_line bound.offer.depth bound.output
+
+-- what a certificate shows of it, if it has an offer
+abbrev pub shown_text : Option ShownError → List ℕ
+shown_text None = []
+shown_text (Some e) = error_line e.depth e.output
 
 -- the first sample and value whose range isn't known to be one of words
 abbrev pub out_of_range_text : ℕ → ℕ → List ℕ

@@ -19,6 +19,7 @@ plant_line = codes "plant\n"
 
 -- the code and the name of a refusal, and the index of the coefficient where it names one
 abbrev pub loop_refusal_text : LoopRefusal → List ℕ
+loop_refusal_text refusal.Realisation = codes "LOOP REFUSED 65 REALISATION\n"
 loop_refusal_text refusal.SampleTimes = codes "LOOP REFUSED 61 SAMPLE_TIME\n"
 loop_refusal_text refusal.Algebraic = codes "LOOP REFUSED 62 ALGEBRAIC\n"
 loop_refusal_text refusal.Order = codes "LOOP REFUSED 63 ORDER\n"

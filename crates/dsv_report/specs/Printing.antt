@@ -45,4 +45,4 @@ HasPlaces (answer.Spent log) = Unit {0}
 HasPlaces (answer.FormulaText formula) = Unit {0}
 HasPlaces (answer.Simulated found) = Unit {0}
 HasPlaces (answer.Generated found) = Unit {0}
-HasPlaces (answer.Checked job) = Unit {0}
+HasPlaces (answer.Checked job error) = Unit {0}

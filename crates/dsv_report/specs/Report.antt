@@ -262,7 +262,7 @@ answer_text job (answer.Spent log) = heading inconclusive job ++ spent_text (len
 answer_text job (answer.FormulaText formula) = dimacs_text formula
 answer_text job (answer.Simulated rows) = heading simulation job ++ samples_text 0 rows
 answer_text job (answer.Generated found) = tally_text found
-answer_text job (answer.Checked certified) = checked_text certified
+answer_text job (answer.Checked certified error) = checked_text certified error
 
 abbrev pub too_long_text : List ℕ
 too_long_text = codes "FILE REFUSED 12 TOO_LONG at 65536\n"
@@ -321,7 +321,7 @@ answer_status (answer.Spent log) = 20
 answer_status (answer.FormulaText formula) = 0
 answer_status (answer.Simulated rows) = 0
 answer_status (answer.Generated found) = 0
-answer_status (answer.Checked certified) = 0
+answer_status (answer.Checked certified error) = 0
 
 abbrev pub stop_status : Stop → ℕ
 stop_status (stop.JobSize size) = 6

@@ -3,7 +3,7 @@ use dsv_cascade::CascadeForms;
 use dsv_certfile::{CertifiedJob, Ellipsoid};
 use dsv_cnf::Formula;
 use dsv_forms::{Falls, Form, KeptAway, Poly};
-use dsv_gain::{ErrorBound, Gain};
+use dsv_gain::{ErrorBound, Gain, ShownError};
 use dsv_hints::Log;
 use dsv_jury::Jury;
 use dsv_lyapunov::KeptForms;
@@ -124,6 +124,10 @@ pub enum Answer {
     Simulated(Rows),
     /// What is found of generated controllers.
     Generated(Generated),
-    /// The certificate shows its property of the controller.
-    Checked(CertifiedJob),
+    /// The certificate shows its property of the controller, and this of the output's error, if it
+    /// has an offer for that.
+    Checked {
+        certified: CertifiedJob,
+        error: Option<ShownError>,
+    },
 }

@@ -2,14 +2,14 @@
 ghost use Rattle.std.specs.Prelude.{◌++◌};
 ghost use Rattle.dsv_base.specs.Taking.{Writes};
 ghost use Rattle.dsv_report.specs.Gains.{depth_text, range_text, gain_text, out_of_range_text};
-ghost use Rattle.dsv_report.specs.Gains.{open_text, bound_text, error_text};
+ghost use Rattle.dsv_report.specs.Gains.{open_text, error_line, error_text, shown_text};
 ghost use Rattle.dsv_report.specs.Lines.{numbered_lines};
 
 use crate::answers::OutputError;
 use crate::fragments::{Fragment, put_fragments};
 use crate::lines::{put_number_line, put_numbered};
 use dsv_base::{Failed, Sink, put_all};
-use dsv_gain::{ErrorBound, Gain};
+use dsv_gain::{Gain, ShownError};
 use dsv_linear::Range;
 
 /// Writes the depth, and the sample whose step the ranges are taken from.
@@ -65,18 +65,18 @@ fn put_open<K: Sink>(sink: &mut K) -> Result<(), Failed>
 }
 
 /// Writes the depth of the offer that shows the bound, and the bound.
-fn put_bound<K: Sink>(sink: &mut K, bound: &ErrorBound) -> Result<(), Failed>
-    ensures { Writes (K.seen sink.old) (K.seen sink.new) result (bound_text bound.now) }
+fn put_error_line<K: Sink>(sink: &mut K, depth: u64, output: &Range) -> Result<(), Failed>
+    ensures { Writes (K.seen sink.old) (K.seen sink.new) result (error_line depth output.now) }
 {
     put_fragments(
         sink,
         &[
             Fragment::Bytes(b"error depth "),
-            Fragment::Number(bound.offer.depth.into()),
+            Fragment::Number(depth.into()),
             Fragment::Bytes(b" least "),
-            Fragment::Number(bound.output.low.get()),
+            Fragment::Number(output.low.get()),
             Fragment::Bytes(b" greatest "),
-            Fragment::Number(bound.output.high.get()),
+            Fragment::Number(output.high.get()),
             Fragment::Bytes(b"\n"),
         ],
     )
@@ -89,7 +89,22 @@ fn put_error<K: Sink>(sink: &mut K, error: &OutputError) -> Result<(), Failed>
     match error {
         OutputError::NotSought => Ok(()),
         OutputError::Open => put_open(sink),
-        OutputError::Within(bound) => put_bound(sink, bound),
+        OutputError::Within(bound) => {
+            put_error_line(sink, bound.offer.depth.into(), &bound.output)
+        }
+    }
+}
+
+/// Writes what a certificate shows of it, if it has an offer.
+pub(crate) fn put_shown_error<K: Sink>(
+    sink: &mut K,
+    error: Option<ShownError>,
+) -> Result<(), Failed>
+    ensures { Writes (K.seen sink.old) (K.seen sink.new) result (shown_text error) }
+{
+    match error {
+        Some(shown) => put_error_line(sink, shown.depth.into(), &shown.output),
+        None => Ok(()),
     }
 }
 

@@ -31,6 +31,7 @@ pub(crate) fn put_loop_refusal<K: Sink>(sink: &mut K, refusal: LoopRefusal) -> R
     ensures { Writes (K.seen sink.old) (K.seen sink.new) result (loop_refusal_text refusal) }
 {
     match refusal {
+        LoopRefusal::Realisation => put_all(sink, b"LOOP REFUSED 65 REALISATION\n"),
         LoopRefusal::SampleTimes => put_all(sink, b"LOOP REFUSED 61 SAMPLE_TIME\n"),
         LoopRefusal::Algebraic => put_all(sink, b"LOOP REFUSED 62 ALGEBRAIC\n"),
         LoopRefusal::Order => put_all(sink, b"LOOP REFUSED 63 ORDER\n"),

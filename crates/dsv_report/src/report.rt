@@ -715,7 +715,7 @@ fn answer_status(answer: &Answer) -> u8
         | Answer::FormulaText(_)
         | Answer::Simulated(_)
         | Answer::Generated(_)
-        | Answer::Checked(_) => 0,
+        | Answer::Checked { .. } => 0,
         Answer::KeptAway { .. }
         | Answer::NoZeros
         | Answer::Late(_)
@@ -789,6 +789,6 @@ pub(crate) fn put_answer<K: Sink>(
         Answer::FormulaText(formula) => write_dimacs(formula, sink),
         Answer::Simulated(rows) => put_simulation(sink, job, rows),
         Answer::Generated(found) => put_tally(sink, found),
-        Answer::Checked(certified) => put_checked(sink, certified),
+        Answer::Checked { certified, error } => put_checked(sink, certified, *error),
     }
 }

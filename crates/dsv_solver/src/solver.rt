@@ -23,7 +23,8 @@
 //
 // Nothing is deleted, and no learned clause is made shorter after its analysis, so a step of the
 // log is a learned clause with the clauses of its analysis as hints, last first.
-ghost use Rattle.std.specs.Prelude.{◌≡◌, ◌<◌, ◌≤◌, ◌+◌, ◌-◌, ◌^◌, [], IfOk, OnOk, length};
+ghost use Rattle.std.specs.Prelude.{◌≡◌, ◌<◌, ◌≤◌, ◌+◌, ◌-◌, ◌^◌, [], IfOk, OnOk, OnErr};
+ghost use Rattle.std.specs.Prelude.{length};
 ghost use Rattle.dsv_solver.specs.Ending.{AreValuesOf};
 ghost use Rattle.dsv_cnf.specs.Formula.{IsModel};
 ghost use Rattle.dsv_hints.specs.Lessons.{IsRefutation, IsSpent};
@@ -222,6 +223,17 @@ impl Search {
     }
 }
 
+/// Accepts so many clauses and conflicts, if together they are fewer than 2^32 - 2.
+fn accept_count(clauses: u32, conflicts: u32) -> Result<(), NoMemory>
+    ensures few { OnOk result (clauses + conflicts < 2 ^ 32 - 2) }
+    ensures many { OnErr result (2 ^ 32 - 2 ≤ clauses + conflicts) }
+{
+    if u64::from(clauses) + u64::from(conflicts) >= TOO_MANY_CLAUSES {
+        return Err(NoMemory);
+    }
+    Ok(())
+}
+
 /// Searches for values that satisfy the formula, until `conflicts` clauses were learned, 1 to 2^30.
 /// After the last one unit steps at level 0 may still refute. `NoMemory` is answered where there is
 /// none, and where the clauses and the conflicts together are 2^32 - 2 or more.
@@ -247,9 +259,7 @@ pub fn solve(
     ensures refuted { IfOk result (IfNever (IsRefutation formula.now conflicts)) }
     ensures spent { IfOk result (IfSpent (IsSpent formula.now conflicts)) }
 {
-    if u64::from(formula.len()) + u64::from(conflicts) >= TOO_MANY_CLAUSES {
-        return Err(NoMemory);
-    }
+    accept_count(formula.len(), conflicts)?;
     let mut search = Search::new(alloc, formula)?;
     search.answer(alloc, conflicts)
 }

@@ -1,4 +1,6 @@
 // Terms, each made once.
+ghost use Rattle.std.specs.Prelude.{◌-◌, ◌^◌, ◌<◌, ◌≤◌, OnOk, OnErr};
+
 use crate::node::{TermId, TermNode};
 use dsv_base::NoMemory;
 use indexmap::IndexSet;
@@ -6,7 +8,18 @@ use std::alloc::Global;
 use std::marker::Model;
 
 /// So many terms have over 32 GB, which is want of memory.
-pub(crate) const TOO_MANY: usize = 0x7fff_ffff;
+const TOO_MANY: usize = 0x7fff_ffff;
+
+/// Accepts one more than so many terms or inputs, if these are fewer than 2^31 - 1.
+fn accept_more(count: usize) -> Result<(), NoMemory>
+    ensures few { OnOk result (count < 2 ^ 31 - 1) }
+    ensures many { OnErr result (2 ^ 31 - 1 ≤ count) }
+{
+    if count >= TOO_MANY {
+        return Err(NoMemory);
+    }
+    Ok(())
+}
 
 /// Terms in the order in which they were made. A term that is equal to an earlier one is that one.
 #[derive(Drop)]
@@ -108,8 +121,8 @@ impl Terms {
             ≡ node_word self.old.inputs values (words_of self.old values) node) }
         ensures err { OnErr result (self.new ≡ self.old) }
     {
-        if self.nodes.len() >= TOO_MANY && !self.nodes.contains(&node) {
-            return Err(NoMemory);
+        if !self.nodes.contains(&node) {
+            accept_more(self.nodes.len())?;
         }
         self.widths.push(width)?;
         match self.nodes.insert_full(node) {
@@ -136,9 +149,7 @@ impl Terms {
             ≡ record { width = width; number = slice_index values (length self.old.inputs) }) }
         ensures err { OnErr result (self.new ≡ self.old) }
     {
-        if self.inputs.len() >= TOO_MANY {
-            return Err(NoMemory);
-        }
+        accept_more(self.inputs.len())?;
         let number = self.inputs.len() as u32;
         self.inputs.push(width)?;
         match self.make(TermNode::Input(number), width) {

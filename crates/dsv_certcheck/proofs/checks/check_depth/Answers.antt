@@ -1,6 +1,7 @@
-use Rattle.std.proofs.Common.{sym, subst, OnOk}
-use Rattle.dsv_certcheck.specs.Checks.{Checked}
+use Rattle.std.proofs.Common.{sym, subst, Option, Result, IfOk}
+use Rattle.dsv_gain.specs.declared.roundoff.ShownError.{ShownError}
 use Rattle.dsv_certcheck.specs.Shown.{ShowsNear}
+use Rattle.dsv_certcheck.specs.declared.check_refusal.CheckRefusal.{CheckRefusal}
 use Rattle.dsv_certcheck.proofs.Nearness.{near_beside}
 use Rattle.dsv_certcheck.proofs.checks.check_depth.Goals.{in-Safe, in-Leaves}
 use Rattle.dsv_certcheck.proofs.checks.check_depth.Goals as goal
@@ -12,7 +13,7 @@ returns-clause-near c =
     let outlook = c.in_ok-overflow_gain in
     elim c.match-branch-2.branch [
       | in-Safe w ↦
-          subst (λ (r : Checked). OnOk r (ShowsNear q offer)) (sym w.result-is)
-          (near_beside c.args.words q outlook.field-0 w.in-Safe.field-0 offer w.check_error.result c.order-order.ensures.quantised w.in-Safe.is outlook.ensures.holds w.check_error.ensures)
-      | in-Leaves w ↦ subst (λ (r : Checked). OnOk r (ShowsNear q offer)) (sym w.result-is) tt
+          subst (λ (r : Result (Option ShownError) CheckRefusal). IfOk r (ShowsNear q offer)) (sym w.result-is)
+          (near_beside q outlook.field-0 w.in-Safe.field-0 offer w.check_error.result w.in-Safe.is outlook.ensures.holds w.check_error.ensures.near)
+      | in-Leaves w ↦ subst (λ (r : Result (Option ShownError) CheckRefusal). IfOk r (ShowsNear q offer)) (sym w.result-is) tt
     ]

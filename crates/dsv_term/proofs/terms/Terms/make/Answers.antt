@@ -5,7 +5,7 @@ use Rattle.dsv_term.specs.TermsInside.{view_of}
 use Rattle.dsv_term.specs.TermsView.{TermsView}
 use Rattle.dsv_term.proofs.Entries.{entries-push}
 use Rattle.dsv_term.proofs.Made.{IsAdded, made_seen, added, not_both}
-use Rattle.dsv_term.proofs.terms.Terms.make.Goals.{else-len-ge-TOO_MANY-via-then-len-ge-TOO_MANY+else-not-contains, else-len-ge-TOO_MANY-via-else-len-ge-TOO_MANY}
+use Rattle.dsv_term.proofs.terms.Terms.make.Goals.{then-not-contains+in_ok-accept_more, else-not-contains}
 use Rattle.dsv_term.proofs.terms.Terms.make.Goals as goal
 
 pub invariant_of-self-then-added : goal.invariant_of-self-then-added
@@ -14,9 +14,9 @@ invariant_of-self-then-added c =
     let i = c.self.invariant in
     let l : IsLawful t.inputs (widths_of t) c.args.node = rw (← c.self.view_is) at c.requires.lawful in
     let w : c.args.width ≡ node_width t.inputs (widths_of t) c.args.node = rw (← c.self.view_is) at c.requires.width in
-    let few : length t.nodes + 1 < 2 ^ 31 = elim c.else-len-ge-TOO_MANY.branch [
-      | else-len-ge-TOO_MANY-via-then-len-ge-TOO_MANY+else-not-contains b ↦ absurd (not_both b.contains.result c.in-Ok.added c.if-added.true (c.in-Ok.ensures.added ∙ ap not (sym b.contains.ensures)) b.if-not-contains.false)
-      | else-len-ge-TOO_MANY-via-else-len-ge-TOO_MANY b ↦ omega (arith, b.if-len-ge-TOO_MANY.false, c.len.ensures.len)
+    let few : length t.nodes + 1 < 2 ^ 31 = elim c.if-not-contains.branch [
+      | then-not-contains+in_ok-accept_more b ↦ omega (arith, b.in_ok-accept_more.ensures.few, b.len.ensures.len)
+      | else-not-contains b ↦ absurd (not_both c.contains.result c.in-Ok.added c.if-added.true (c.in-Ok.ensures.added ∙ ap not (sym c.contains.ensures)) b.if-not-contains.false)
     ] in
     let a : IsAdded t c.insert_full.new.self.keys c.args.node = added t c.insert_full.new.self.keys c.args.node c.in-Ok.added i.terms l few c.in-Ok.ensures.added c.if-added.true c.in-Ok.ensures.keys in
     record {

@@ -2,7 +2,7 @@ use Rattle.std.proofs.Common.{◌++◌}
 use Rattle.dsv_base.proofs.TakingLemmas.{writes_after, writes_cut}
 use Rattle.dsv_report.specs.Certificates.{size_line, accepted}
 use Rattle.dsv_report.specs.Lines.{property_text, realisation_text}
-use Rattle.dsv_report.proofs.certificates.put_checked.Goals as goal
+use Rattle.dsv_report.proofs.certificates.put_checked_job.Goals as goal
 
 pub returns-in_err-put_all : goal.returns-in_err-put_all
 unfolding accepted

@@ -1,7 +1,7 @@
 use Rattle.std.specs.Int.{w128}
 use Rattle.std.proofs.Common.{rules, SFits}
 use Rattle.std.proofs.lemmas.Int.{to_z-of_z}
-use Rattle.dsv_report.proofs.gains.put_bound.Goals as goal
+use Rattle.dsv_report.proofs.gains.put_error_line.Goals as goal
 
 pub returns : goal.returns
 returns g c =

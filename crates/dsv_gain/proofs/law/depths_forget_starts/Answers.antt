@@ -1,0 +1,5 @@
+use Rattle.dsv_gain.proofs.Forgetting.{depths_forget}
+use Rattle.dsv_gain.proofs.law.depths_forget_starts.Goals as goal
+
+pub returns : goal.returns
+returns c = depths_forget
