@@ -1,10 +1,10 @@
-mod Scaling
+pub mod Scaling
 pub mod Existence
 mod NoErrors
 pub mod Differences
 mod ExactSamples
 mod ExactLines
-mod ExactChains
+pub mod ExactChains
 mod ExactForms
 mod ExactSteps
 pub mod WrittenRuns

@@ -38,7 +38,7 @@ sub_spread s v w = ring (env (s ∷ v ∷ w ∷ [])) (times (var 0) (plus (var 1
 pub power_up : (f : ℕ) → pos 0 <ℤ pos (2 ^ f)
 power_up f = let p = pow_pos f in omega (arith, ints)
 
-divided : (p v w : ℤ) → pos 0 <ℤ p → p *ℤ v ≡ p *ℤ w → v ≡ w
+pub divided : (p v w : ℤ) → pos 0 <ℤ p → p *ℤ v ≡ p *ℤ w → v ≡ w
 divided p v w h e =
     let a = times_back p v w h (omega (arith, ints)) in
     let b = times_back p w v h (omega (arith, ints)) in
