@@ -7,4 +7,5 @@ pub mod Multiples
 pub mod Recursions
 pub mod Scales
 pub mod Sides
+pub mod Solutions
 pub mod Stages

@@ -21,7 +21,7 @@ use Rattle.dsv_loop.proofs.Stages.{unbind}
 use Rattle.dsv_loop.proofs.Entries.{AreCoefficients, made_of, sum_is}
 use Rattle.dsv_loop.proofs.Sides.{controller_parts, controller_long, plant_parts, plant_long}
 use Rattle.dsv_loop.proofs.Convolutions.{product_on, dot_swap, dot_same}
-use Rattle.dsv_loop.proofs.Scales.{factor_nought, positive_nought}
+use Rattle.dsv_loop.proofs.Scales.{nought_of_multiple, multiple_of_nought, factor_multiple, positive_multiple}
 
 -- ---- a signal with its sign changed
 negated : (a : ℤ) → negsuc 0 *ℤ a ≡ neg_ℤ a
@@ -30,7 +30,7 @@ negated a = ring (env (a ∷ [])) (times (num (negsuc 0)) (var 0)) (minus (var 0
 moved_sign : (a b : ℤ) → a *ℤ neg_ℤ b ≡ negsuc 0 *ℤ (a *ℤ b)
 moved_sign a b = ring (env (a ∷ b ∷ [])) (times (var 0) (minus (var 1))) (times (num (negsuc 0)) (times (var 0) (var 1))) refl
 
-filtered_neg : (cs : List ℤ) (y : Vector) (t : ℕ) → filtered cs (λ i. neg_ℤ (y i)) t ≡ neg_ℤ (filtered cs y t)
+pub filtered_neg : (cs : List ℤ) (y : Vector) (t : ℕ) → filtered cs (λ i. neg_ℤ (y i)) t ≡ neg_ℤ (filtered cs y t)
 filtered_neg cs y t =
     sum_same (length cs) (λ k. vector_of cs k *ℤ neg_ℤ (y (t + k))) (λ k. negsuc 0 *ℤ (vector_of cs k *ℤ y (t + k))) (λ k h. moved_sign (vector_of cs k) (y (t + k)))
     ∙ sum_scale (length cs) (negsuc 0) (λ k. vector_of cs k *ℤ y (t + k))
@@ -115,7 +115,7 @@ pub record AreSides (c p : TransferView) (cs : List ℤ) : Type 0 where
   pub whole : length c.a + length p.a ≡ length cs + 1
 
 -- what the list makes of a signal: both products of it
-products_on : (c p : TransferView) (cs : List ℤ) (x : Vector) → AreSides c p cs → AreCoefficients c p cs →
+pub products_on : (c p : TransferView) (cs : List ℤ) (x : Vector) → AreSides c p cs → AreCoefficients c p cs →
     dot (length cs) (vector_of cs) x
     ≡ dot (length c.a) (vector_of c.a) (λ i. dot (length p.a) (vector_of p.a) (λ j. x (i + j))) +ℤ dot (length c.b) (vector_of c.b) (λ i. dot (length p.b) (vector_of p.b) (λ j. x (i + j)))
 products_on c p cs x s all =
@@ -163,7 +163,15 @@ same_list None ds cs e = sym (ap list_of e)
 reduced_obeys : (ls cs : List ℤ) (x : Vector) (t : ℕ) → polynomial_with ls ≡ Ok cs → Obeys ls x t → Obeys cs x t
 reduced_obeys ls cs x t e h =
     let ds = without_common_factor ls in
-    ap (λ xs. filtered xs x t) (same_list (first_over 0 ds) ds cs e) ∙ positive_nought ds x t (factor_nought ls x t h)
+    ap (λ xs. filtered xs x t) (same_list (first_over 0 ds) ds cs e)
+    ∙ nought_of_multiple ds (with_positive_lead ds) x t (positive_multiple ds) (nought_of_multiple ls ds x t (factor_multiple ls) h)
+
+-- and the other way
+pub whole_obeys : (ls cs : List ℤ) (x : Vector) (t : ℕ) → polynomial_with ls ≡ Ok cs → Obeys cs x t → Obeys ls x t
+whole_obeys ls cs x t e h =
+    let ds = without_common_factor ls in
+    multiple_of_nought ls ds x t (factor_multiple ls)
+    (multiple_of_nought ds (with_positive_lead ds) x t (positive_multiple ds) (sym (ap (λ xs. filtered xs x t) (same_list (first_over 0 ds) ds cs e)) ∙ h))
 
 reduced_length : (ls cs : List ℤ) → polynomial_with ls ≡ Ok cs → length cs ≡ length ls
 reduced_length ls cs e =
@@ -184,13 +192,13 @@ abbrev from_test : QuantisedView → PlantView → Unit {0} → Result (List ℤ
 from_test q p u = controller_transfer q >>= from_controller q p
 
 -- both sides in whole numbers, and the list that is reduced
-record Parts (c w : TransferView) (cs : List ℤ) : Type 0 where
+pub record Parts (c w : TransferView) (cs : List ℤ) : Type 0 where
   pub list : List ℤ
   pub sides : AreSides c w list
   pub all : AreCoefficients c w list
   pub reduced : polynomial_with list ≡ Ok cs
 
-parts_of : (q : QuantisedView) (time : Ratio) (p : PlantView) (cs : List ℤ) → IsQuantisedView q → IsPlant p → loop_of q time p ≡ Ok cs →
+pub parts_of : (q : QuantisedView) (time : Ratio) (p : PlantView) (cs : List ℤ) → IsQuantisedView q → IsPlant p → loop_of q time p ≡ Ok cs →
     (c w : TransferView) → controller_transfer q ≡ Ok c → plant_transfer p ≡ Ok w → Parts c w cs
 parts_of q time p cs is_q is_p e c w made_c made_w =
     let tested = unbind (loop_test q time p) (from_test q p) cs e in

@@ -49,18 +49,32 @@ zero_quotient : (c : ℤ) → 0 ∣ unsigned_abs c → pos 1 *ℤ int_div_euclid
 zero_quotient (pos n) h = let e : n ≡ 0 = eq-zero_of_zero-dvd h in rw e refl
 zero_quotient (negsuc n) h = let e : suc n ≡ 0 = eq-zero_of_zero-dvd h in absurd (omega arith)
 
--- a list that makes 0 of a signal, and the list divided by a number that divides all of its numbers
-divided_nought : (g : ℕ) (cs : List ℤ) (x : Vector) (t : ℕ) → ((k : ℕ) → k < length cs → g ∣ unsigned_abs (vector_of cs k)) → filtered cs x t ≡ pos 0
-    → filtered (map (λ c. int_div_euclid c (pos g)) cs) x t ≡ pos 0
-divided_nought zero cs x t all h =
-    let f : ℤ → ℤ = λ c. int_div_euclid c (pos 0) in
-    only_nought 1 (filtered (map f cs) x t) (omega arith) (filtered_map (pos 1) f cs x t (λ k p. zero_quotient (vector_of cs k) (all k p)) ∙ h)
-divided_nought (suc g) cs x t all h =
-    let f : ℤ → ℤ = λ c. int_div_euclid c (pos (suc g)) in
-    only_nought (suc g) (filtered (map f cs) x t) (omega arith) (filtered_map (pos (suc g)) f cs x t (λ k p. exact_quotient (suc g) (vector_of cs k) (all k p)) ∙ h)
+-- ---- two lists that make 0 of the same signals
+-- the one makes of each signal a multiple of what the other makes of it
+pub record IsMultiple (cs ds : List ℤ) : Type 0 where
+  pub by : ℤ
+  pub only : (x : ℤ) → by *ℤ x ≡ pos 0 → x ≡ pos 0
+  pub same : (x : Vector) (t : ℕ) → by *ℤ filtered ds x t ≡ filtered cs x t
 
-pub factor_nought : (cs : List ℤ) (x : Vector) (t : ℕ) → filtered cs x t ≡ pos 0 → filtered (without_common_factor cs) x t ≡ pos 0
-factor_nought cs x t h = let g = factor_with 0 cs in divided_nought g cs x t (divided-at g cs (factor-all 0 cs)) h
+pub nought_of_multiple : (cs ds : List ℤ) (x : Vector) (t : ℕ) → IsMultiple cs ds → filtered cs x t ≡ pos 0 → filtered ds x t ≡ pos 0
+nought_of_multiple cs ds x t m h = m.only (filtered ds x t) (m.same x t ∙ h)
+
+no_multiple : (a : ℤ) → a *ℤ pos 0 ≡ pos 0
+no_multiple a = ring (env (a ∷ [])) (times (var 0) (num (pos 0))) (num (pos 0)) refl
+
+pub multiple_of_nought : (cs ds : List ℤ) (x : Vector) (t : ℕ) → IsMultiple cs ds → filtered ds x t ≡ pos 0 → filtered cs x t ≡ pos 0
+multiple_of_nought cs ds x t m h = sym (m.same x t) ∙ ap (λ z. m.by *ℤ z) h ∙ no_multiple m.by
+
+divided_multiple : (g : ℕ) (cs : List ℤ) → ((k : ℕ) → k < length cs → g ∣ unsigned_abs (vector_of cs k)) → IsMultiple cs (map (λ c. int_div_euclid c (pos g)) cs)
+divided_multiple zero cs all =
+    let f : ℤ → ℤ = λ c. int_div_euclid c (pos 0) in
+    record { by = pos 1; only = λ x. only_nought 1 x (omega arith); same = λ x t. filtered_map (pos 1) f cs x t (λ k p. zero_quotient (vector_of cs k) (all k p)) }
+divided_multiple (suc g) cs all =
+    let f : ℤ → ℤ = λ c. int_div_euclid c (pos (suc g)) in
+    record { by = pos (suc g); only = λ x. only_nought (suc g) x (omega arith); same = λ x t. filtered_map (pos (suc g)) f cs x t (λ k p. exact_quotient (suc g) (vector_of cs k) (all k p)) }
+
+pub factor_multiple : (cs : List ℤ) → IsMultiple cs (without_common_factor cs)
+factor_multiple cs = let g = factor_with 0 cs in divided_multiple g cs (divided-at g cs (factor-all 0 cs))
 
 -- ---- the sign
 twice_turned : (c : ℤ) → negsuc 0 *ℤ neg_ℤ c ≡ c
@@ -69,10 +83,16 @@ twice_turned c = ring (env (c ∷ [])) (times (num (negsuc 0)) (minus (var 0))) 
 turned_nought : (x : ℤ) → negsuc 0 *ℤ x ≡ pos 0 → x ≡ pos 0
 turned_nought x e = omega (arith, ints)
 
-signs_nought : (b : Bool) (cs : List ℤ) (x : Vector) (t : ℕ) → filtered cs x t ≡ pos 0 → filtered (if b then map neg_ℤ cs else cs) x t ≡ pos 0
-signs_nought true cs x t e = turned_nought (filtered (map neg_ℤ cs) x t) (filtered_map (negsuc 0) neg_ℤ cs x t (λ k p. twice_turned (vector_of cs k)) ∙ e)
-signs_nought false cs x t e = e
+own : (x : ℤ) → pos 1 *ℤ x ≡ x
+own x = ring (env (x ∷ [])) (times (num (pos 1)) (var 0)) (var 0) refl
 
-pub positive_nought : (cs : List ℤ) (x : Vector) (t : ℕ) → filtered cs x t ≡ pos 0 → filtered (with_positive_lead cs) x t ≡ pos 0
-positive_nought [] x t e = e
-positive_nought (c ∷ cs) x t e = signs_nought (int_lt c (pos 0)) (c ∷ cs) x t e
+own_multiple : (cs : List ℤ) → IsMultiple cs cs
+own_multiple cs = record { by = pos 1; only = λ x. only_nought 1 x (omega arith); same = λ x t. own (filtered cs x t) }
+
+signs_multiple : (b : Bool) (cs : List ℤ) → IsMultiple cs (if b then map neg_ℤ cs else cs)
+signs_multiple true cs = record { by = negsuc 0; only = turned_nought; same = λ x t. filtered_map (negsuc 0) neg_ℤ cs x t (λ k p. twice_turned (vector_of cs k)) }
+signs_multiple false cs = own_multiple cs
+
+pub positive_multiple : (cs : List ℤ) → IsMultiple cs (with_positive_lead cs)
+positive_multiple [] = own_multiple []
+positive_multiple (c ∷ cs) = signs_multiple (int_lt c (pos 0)) (c ∷ cs)

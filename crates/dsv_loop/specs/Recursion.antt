@@ -23,6 +23,13 @@ pub record AreInLoop (c p : TransferView) (y u : Vector) (n : ℕ) : Type 0 wher
 abbrev pub Obeys : List ℤ → Vector → ℕ → Type 0
 Obeys cs y t = filtered cs y t ≡ pos 0
 
+-- Each solution of the recursion with these coefficients is in the loop: for as many samples as a
+-- signal obeys it, what the plant's numerator makes of the signal is an output, and what its
+-- denominator makes of it the plant's input.
+abbrev pub SolutionsAreInLoop : TransferView → TransferView → List ℤ → Type 0
+SolutionsAreInLoop c p cs = (v : Vector) (n : ℕ) → ((t : ℕ) → t < n → Obeys cs v t)
+    → AreInLoop c p (filtered p.b v) (filtered p.a v) n
+
 -- each whole number is the fraction in its place times l
 abbrev pub AreTimes : ℕ → List Ratio → List ℤ → Type 0
 AreTimes l [] [] = Unit {0}
