@@ -1,4 +1,4 @@
--- The netlist of a cascade: the netlists of its sections, one behind another.
+-- The netlist of a cascade: the netlists of its sections, one after another.
 use Rattle.std.specs.Prelude.{ℕ, zero, suc, ◌+◌, List, [], ◌∷◌, ◌++◌, length, map, drop}
 use Rattle.dsv_word.specs.declared.format.Format.{Format}
 use Rattle.dsv_netlist.specs.declared.node.Node.{Node}
@@ -8,14 +8,14 @@ use Rattle.dsv_netlist.specs.Nodes.{Net}
 use Rattle.dsv_realise.specs.Netlists.{net_of}
 use Rattle.dsv_cascade.specs.Cascades.{CascadeView, sections_of}
 
--- ---- a netlist behind another, whose output is its input
--- the number that a node has behind the first netlist's: node 0, its input, is the output of the
+-- ---- a netlist after another, whose output is its input
+-- the number that a node has after the first netlist's: node 0, its input, is the output of the
 -- first
 abbrev pub moved_place : Net → ℕ → ℕ
 moved_place first zero = first.output
 moved_place first (suc k) = length first.nodes + k
 
--- the node behind them; its registers are behind the first netlist's too
+-- the node after them; its registers are after the first netlist's too
 abbrev pub moved : Net → Node → Node
 moved first Input = Input
 moved first (Reg register) = Reg (length first.next + register)

@@ -20,7 +20,7 @@ pub record IsAlike (first q : QuantisedView) : Type 0 where
   pub realisation : q.realisation ≡ first.realisation
   pub wide : q.wide ≡ first.wide
 
--- a section that may stand behind section 0
+-- a section that may stand after section 0
 pub record Fits (first q : QuantisedView) : Type 0 where
   pub small : order q ≤ most_section_order
   pub alike : IsAlike first q

@@ -67,7 +67,7 @@ fn is_alike(first: &Quantised, section: &Quantised) -> bool
         && section.is_wide() == first.is_wide()
 }
 
-/// Why this section can't stand at this place behind section 0, if it can't.
+/// Why this section can't stand at this place after section 0, if it can't.
 fn section_refusal(first: &Quantised, section: &Quantised, place: u32) -> Option<CascadeRefusal>
     ensures fits { IfNone result (Fits first.now section.now) }
     ensures misfit { IfSome result (IsMisfit first.now section.now) }
@@ -82,7 +82,7 @@ fn section_refusal(first: &Quantised, section: &Quantised, place: u32) -> Option
     }
 }
 
-/// Why these sections can't stand behind section 0, if they can't.
+/// Why these sections can't stand after section 0, if they can't.
 fn later_refusal(first: &Quantised, later: &[Quantised]) -> Option<CascadeRefusal>
     requires few { length later.now < most_sections }
     requires first { Fits first.now first.now }
@@ -98,7 +98,7 @@ fn later_refusal(first: &Quantised, later: &[Quantised]) -> Option<CascadeRefusa
 }
 
 impl Cascade {
-    /// The cascade of section 0 and at most seven sections behind it. It takes no memory.
+    /// The cascade of section 0 and at most seven sections after it. It takes no memory.
     ///
     /// # Errors
     ///
@@ -128,7 +128,7 @@ impl Cascade {
         &self.first
     }
 
-    /// The sections behind section 0.
+    /// The sections after section 0.
     pub fn later_sections(&self) -> &[Quantised]
         ensures same { result.now ≡ self.now.later }
         ensures cascade { IsCascade self.now }

@@ -1,4 +1,4 @@
-//! Cascades: controllers in series, each the section behind the one before it.
+//! Cascades: controllers in series, each the section after the one before it.
 #![tactic(auto)]
 
 mod cascade;

@@ -102,7 +102,7 @@ fn wire_net(alloc: Global, format: Format) -> Result<Netlist, NoMemory>
 }
 
 /// The netlist of a cascade: the input, and then the registers and operations of each section's
-/// netlist, one behind another. From every start its steps give the outputs, the exact values and
+/// netlist, one after another. From every start its steps give the outputs, the exact values and
 /// the registers of the sections' written equations in series.
 pub fn cascade_net(alloc: Global, cascade: &Cascade) -> Result<Netlist, NoMemory>
     ensures net { IfOk result (λ net. net ≡ net_of_cascade cascade.now) }

@@ -47,14 +47,20 @@ use Rattle.dsv_certfile.specs.Lawful.{IsSize}
 use Rattle.dsv_certfile.specs.Limits.{most_samples, most_gain_depth, narrow_word_bits}
 use Rattle.dsv_certfile.specs.Words.{words_for}
 use Rattle.dsv_certfile.specs.declared.fault.CheckFault.TheVariants as fault
+use Rattle.dsv_certfile.specs.declared.certificate.Certificate.TheVariants as certificate
+use Rattle.dsv_certfile.specs.declared.job.CertifiedJob.{CertifiedJob}
 use Rattle.dsv_certfile.specs.declared.job.CertWords.{CertWords}
 use Rattle.dsv_certfile.specs.declared.job.CertWords.TheVariants as words
 use Rattle.dsv_certfile.specs.declared.job.Size.TheVariants as size
 use Rattle.dsv_certcheck.specs.Checks.{Checked, refused, format_check, misfit, size_check, verdict_at, log_check, run_check, is_some_samples, hints_check, sentences_check, shape_check, invariant_check, shown_check, error_check, outlook_check, depth_check, gain_check, refusal_check, offer_check, tested_check, falls_check}
 use Rattle.dsv_certcheck.specs.LoopChecks.{polynomial_check, loop_check}
-use Rattle.dsv_certcheck.specs.LineNumbers.{version_line_number, format_line_number, body_line, log_line}
+use Rattle.dsv_certcheck.specs.LineNumbers.{version_line_number, job_line_number, format_line_number, body_line, log_line}
+use Rattle.dsv_certcheck.specs.StateChecks.{state_offer_check, is_stability, state_check}
 use Rattle.dsv_certcheck.specs.declared.check_refusal.CheckRefusal.TheVariants as refusal
 use Rattle.dsv_tested.proofs.TestedCoefficients.{some_coefficients}
+use Rattle.dsv_state_space.specs.StateForms.{state_falls_refusal}
+use Rattle.dsv_state_space.specs.StateView.{StateView, states}
+use Rattle.dsv_state_space.proofs.StateOffers.{accepted_counted}
 
 -- what certificates of a controller say of its words is so
 format_by : (c : ControllerView) (b : Bool) → nat_le (c.int_bits + c.frac_bits) narrow_word_bits ≡ b
@@ -119,3 +125,10 @@ falls_pass w q p c offer t e = ap (λ (r : Result Tested PolyWide). tested_check
 pub loop_passes : (w : CertWords) (q : QuantisedView) (time : Ratio) (plant : PlantView) (c : List ℤ) (offer : Falls) → IsPoly c → loop_of q time plant ≡ Ok c → falls_refusal c offer ≡ None
     → loop_check w q time plant (property.OfRoots root.Stability) size.OfLoop offer ≡ Ok tt
 loop_passes w q time plant c offer is t e = ap (λ (r : Result (List ℤ) LoopRefusal). polynomial_check w r offer) t ∙ offer_passes w c offer is.some e
+
+-- the form falls along the states of a controller's words
+pub state_form_passes : (job : CertifiedJob) (s : StateView) (offer : Falls) → is_stability job.property ≡ true → state_falls_refusal s offer ≡ None → state_check s (certificate.Falls job offer) ≡ Ok tt
+state_form_passes job s offer stable e =
+    ap (λ b. if b then state_offer_check job.words s offer else refused job_line_number fault.Shape) stable
+    ∙ ap (λ b. if b then refusal_check job.words offer (state_falls_refusal s offer) else misfit job.words) (eq-eqb offer.form.d (states s) (accepted_counted s offer e))
+    ∙ ap (refusal_check job.words offer) e

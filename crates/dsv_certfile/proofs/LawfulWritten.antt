@@ -4,9 +4,8 @@ use Rattle.dsv_cnf.specs.FormulaView.{FormulaView}
 use Rattle.dsv_hints.specs.Lessons.{IsRefutation}
 use Rattle.dsv_hints.specs.declared.step.Step.{Step}
 use Rattle.dsv_hints.proofs.AcceptedIds.{accepted_ids}
-use Rattle.dsv_forms.specs.Refusals.{falls_refusal}
+use Rattle.dsv_forms.specs.OfferLaws.{IsNarrow}
 use Rattle.dsv_forms.specs.declared.offers.Falls.{Falls}
-use Rattle.dsv_forms.proofs.SmallOffers.{accepted_are_narrow}
 use Rattle.dsv_roundoff.specs.declared.offers.RoundoffOffer.{RoundoffOffer}
 use Rattle.dsv_template.specs.Candidates.{is_shaped}
 use Rattle.dsv_template.specs.declared.candidate.Candidate.{Candidate}
@@ -53,10 +52,8 @@ pub gain_is_lawful : (job : CertifiedJob) (depth : ℕ) (offer : Option Roundoff
 gain_is_lawful job depth offer b t h o = (record { size = t.size; words = t.words; belongs = b }, h, o)
 
 -- ---- a form that falls
-pub falls_are_lawful : (c : List ℤ) (job : CertifiedJob) (offer : Falls) → is_kind_of job kind.Falls ≡ true → IsTyped (certificate.Falls job offer) → falls_refusal c offer ≡ None
-    → IsLawful (certificate_alone (certificate.Falls job offer))
-falls_are_lawful c job offer b t e = (record { size = t.size; words = t.words; belongs = b }, offer_is_lawful offer t.body t.places (accepted_are_narrow c offer e))
+pub falls_are_lawful : (job : CertifiedJob) (offer : Falls) → is_kind_of job kind.Falls ≡ true → IsTyped (certificate.Falls job offer) → IsNarrow offer → IsLawful (certificate_alone (certificate.Falls job offer))
+falls_are_lawful job offer b t n = (record { size = t.size; words = t.words; belongs = b }, offer_is_lawful offer t.body t.places n)
 
-pub falls_text : (c : List ℤ) (job : CertifiedJob) (offer : Falls) → IsTyped (certificate.Falls job offer) → falls_refusal c offer ≡ None
-    → certificate_text (certificate_alone (certificate.Falls job offer)) ≡ certificate_text (certificate.Falls job offer)
-falls_text c job offer t e = falls_text_alone job offer t.body t.places (accepted_are_narrow c offer e)
+pub falls_text : (job : CertifiedJob) (offer : Falls) → IsTyped (certificate.Falls job offer) → IsNarrow offer → certificate_text (certificate_alone (certificate.Falls job offer)) ≡ certificate_text (certificate.Falls job offer)
+falls_text job offer t n = falls_text_alone job offer t.body t.places n

@@ -8,6 +8,7 @@ use Rattle.dsv_forms.specs.declared.offers.Form.{Form}
 use Rattle.dsv_forms.specs.Padded.{offer_alone}
 use Rattle.dsv_forms.specs.Poly.{IsPoly}
 use Rattle.dsv_forms.proofs.Alike.{accepted_alone}
+use Rattle.dsv_forms.proofs.SmallOffers.{accepted_are_narrow}
 use Rattle.dsv_loop.specs.Loops.{loop_of}
 use Rattle.dsv_loop.specs.declared.refusal.LoopRefusal.{LoopRefusal}
 use Rattle.dsv_loop.specs.declared.refusal.LoopRefusal.TheVariants.{Wide}
@@ -96,6 +97,7 @@ falls_fit : (controller plant : List ℕ) (asked : AskedLoop) (words : CertWords
     → IsLoopAcceptable controller plant (certificate.Falls (loop_job_with asked words) offer)
 falls_fit controller plant asked words poly offer fall d p q a b h becomes loop s is known =
     let certified = loop_job_with asked words in
+    let narrow = accepted_are_narrow poly offer s.accepted in
     record {
       fits = record {
         design = d;
@@ -107,8 +109,8 @@ falls_fit controller plant asked words poly offer fall d p q a b h becomes loop 
         format = format_fits controller words asked.design (Ok q) h (accepted_of controller d certified (Ok q) a becomes);
         passes = loop_passes words q d.sample_time p poly (offer_alone offer) is loop (accepted_alone poly offer known.places s.accepted);
       };
-      lawful = falls_are_lawful poly certified offer refl known s.accepted;
-      written = falls_text poly certified offer known s.accepted;
+      lawful = falls_are_lawful certified offer refl known narrow;
+      written = falls_text certified offer known narrow;
       job = refl;
     }
 

@@ -19,6 +19,7 @@ use Rattle.dsv_tested.specs.declared.side.Tested.TheVariants as tested
 use Rattle.dsv_bounded.specs.RunQuestions.{question_formula}
 use Rattle.dsv_forms.specs.Padded.{offer_alone}
 use Rattle.dsv_forms.proofs.Alike.{accepted_alone}
+use Rattle.dsv_forms.proofs.SmallOffers.{accepted_are_narrow}
 use Rattle.dsv_meaning.specs.Equations.{order, registers_of}
 use Rattle.dsv_invariant.specs.Formulas.{set_formula_of}
 use Rattle.dsv_template.specs.declared.verdict.SetPart.TheVariants as part
@@ -119,6 +120,7 @@ falls_fit : (bytes : List ℕ) (job : Asked) (words : CertWords) (poly : List �
     → HasWords bytes words → IsTyped (falls_for job.design words t.property offer) → IsAcceptable bytes (falls_for job.design words t.property offer)
 falls_fit bytes job words poly offer fall t s h known =
     let certified = job_with job.design words (OfRoots t.property) size.NoSize in
+    let narrow = accepted_are_narrow poly offer s.accepted in
     record {
       fits = record {
         quantised = t.quantised;
@@ -126,8 +128,8 @@ falls_fit bytes job words poly offer fall t s h known =
         format = format_fits bytes words job.design (Ok t.quantised) h t.accepted;
         passes = falls_pass words t.quantised t.property poly (offer_alone offer) t.tested (accepted_alone poly offer known.places s.accepted);
       };
-      lawful = falls_are_lawful poly certified offer refl known s.accepted;
-      text = falls_text poly certified offer known s.accepted;
+      lawful = falls_are_lawful certified offer refl known narrow;
+      text = falls_text certified offer known narrow;
       job = refl;
     }
 

@@ -1,5 +1,6 @@
 pub mod AcceptedLemmas
 pub mod AcceptedLoops
+pub mod AcceptedStates
 pub mod Answering
 pub mod Asked
 pub mod Blocks

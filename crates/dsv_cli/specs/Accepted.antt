@@ -1,14 +1,17 @@
 -- A certificate that a run wrote is accepted for the same files.
 use Rattle.std.specs.Prelude.{◌≡◌, ℕ, ◌≤◌, List, length, Some, Ok, Err}
 use Rattle.dsv_base.specs.Seen.{FilesSeen}
+use Rattle.dsv_certfile.specs.Lawful.{certificate_alone}
 use Rattle.dsv_certfile.specs.Texts.{job_of, certificate_text}
 use Rattle.dsv_certfile.specs.Typed.{IsTyped}
 use Rattle.dsv_certfile.specs.declared.certificate.Certificate.{Certificate}
 use Rattle.dsv_certfile.specs.declared.job.CertifiedJob.{CertifiedJob}
 use Rattle.dsv_certfile.specs.declared.job.CertWords.{CertWords}
+use Rattle.dsv_certcheck.specs.StateChecks.{Offers}
 use Rattle.dsv_command.specs.Jobs.{Asked}
 use Rattle.dsv_command.specs.Loops.{AskedLoop}
-use Rattle.dsv_report.specs.Output.{certificate_of, loop_certificate_of}
+use Rattle.dsv_command.specs.States.{AskedStates, checks_form}
+use Rattle.dsv_report.specs.Output.{certificate_of, loop_certificate_of, state_certificate_of}
 use Rattle.dsv_report.specs.declared.answers.Answer.{Answer}
 use Rattle.dsv_report.specs.declared.answers.Answer.TheVariants as answer
 use Rattle.dsv_report.specs.declared.stop.Stop.TheVariants as stop
@@ -16,6 +19,7 @@ use Rattle.dsv_report.specs.Stops.{Outcome}
 use Rattle.dsv_cli.specs.Headline.{longest_certificate, HasWords, IsRow, IsCheckRow}
 use Rattle.dsv_cli.specs.LoopChecks.{IsLoopCheckRow}
 use Rattle.dsv_cli.specs.Loops.{IsLoopRow, SaysLoop}
+use Rattle.dsv_cli.specs.States.{IsStateRow}
 
 -- the answer is that a certificate with this job is accepted, unless a read failed or there was no
 -- memory
@@ -55,3 +59,37 @@ WrittenLoopsAreAccepted =
     → then_old.held name ≡ Some (certificate_text c)
     → IsLoopCheckRow then_old then_new controller_name plant_name name answered
     → IsAcceptance (job_of c) answered
+
+-- ---- forms of state-space controllers
+-- the answer is that the certificate's form falls, with the numbers of its places alone, unless a
+-- read failed or there was no memory
+abbrev pub IsFormAcceptance : Certificate → Outcome → Type 0
+IsFormAcceptance c (Ok (answer.StateFalls many offer fall)) = Offers (certificate_alone c) offer
+IsFormAcceptance c (Err (stop.ReadFault file)) = Unit {0}
+IsFormAcceptance c (Err stop.NoMemory) = Unit {0}
+IsFormAcceptance c other = ⊥
+
+-- the job that decides by the form in the file of this name, for the controller of a file, in the
+-- modes of another job
+abbrev pub form_check : AskedStates → List ℕ → List ℕ → AskedStates
+form_check asked file name = record {
+  file = file;
+  task = checks_form name;
+  rounding = asked.rounding;
+  overflow = asked.overflow;
+}
+
+-- Where a job for a state-space controller, of a file with these bytes, has a certificate, of which
+-- is known what is known of each that is written whole, and whose text has at most 64 MiB, each job
+-- in the same modes that is given its text as a form accepts it for a file of the same bytes.
+abbrev pub WrittenStateFormsAreAccepted : Type 0
+WrittenStateFormsAreAccepted =
+    (bytes : List ℕ) (old new : FilesSeen) (asked : AskedStates) (words : CertWords)
+    (found : Answer) (c : Certificate)
+    → old.held asked.file ≡ Some bytes → IsStateRow old new asked (Ok found)
+    → state_certificate_of asked words found ≡ Some c → IsTyped c
+    → length (certificate_text c) ≤ longest_certificate
+    → (then_old then_new : FilesSeen) (file name : List ℕ) (answered : Outcome)
+    → then_old.held file ≡ Some bytes → then_old.held name ≡ Some (certificate_text c)
+    → IsStateRow then_old then_new (form_check asked file name) answered
+    → IsFormAcceptance c answered

@@ -1,11 +1,13 @@
 // What a controller file is answered by, and what its certificate.
 ghost use Rattle.dsv_cli.specs.Accepted.{WrittenAreAccepted, WrittenLoopsAreAccepted};
+ghost use Rattle.dsv_cli.specs.Accepted.{WrittenStateFormsAreAccepted};
 ghost use Rattle.dsv_cli.specs.Completeness.{AreDecided};
 ghost use Rattle.dsv_cli.specs.OneAnswer.{HaveOneAnswer};
 
-/// The law of [`run`](crate::run), for proofs: a job on a file whose bytes are told has one answer,
-/// but for want of memory and faults of reads: two answers that both have a row of the table are
-/// the same. The call does nothing.
+/// The law of [`run`](crate::run), for proofs: a job on one file whose bytes are told has one
+/// verdict, with its numbers. Logs, traces, cycles and the bound of the error aren't compared; want
+/// of memory, faults of reads, searches that gave up, lists that were tried and what proposers had a
+/// part in are left out. The call does nothing.
 pub fn told_files_have_one_answer()
     ensures { HaveOneAnswer }
 {}
@@ -23,6 +25,13 @@ pub fn written_certificates_are_accepted()
 /// nothing.
 pub fn written_loop_certificates_are_accepted()
     ensures { WrittenLoopsAreAccepted }
+{}
+
+/// The same law for state-space controllers, for proofs: each job in the same modes that is given
+/// such a text as its form accepts it for a file of the same bytes, but for want of memory and
+/// faults of reads. The call does nothing.
+pub fn written_state_forms_are_accepted()
+    ensures { WrittenStateFormsAreAccepted }
 {}
 
 /// The law of completeness, for proofs: a job on a file whose bytes are told, to which no refusal

@@ -15,7 +15,7 @@ use dsv_reader::{Controller, FileRefusal, read};
 use dsv_report::{Stop, WhichFile};
 use std::alloc::Global;
 
-/// The controllers of a cascade: that of section 0, and those of the sections behind it.
+/// The controllers of a cascade: that of section 0, and those of the sections after it.
 #[derive(Drop)]
 pub(crate) struct SectionFiles {
     pub first: Controller,

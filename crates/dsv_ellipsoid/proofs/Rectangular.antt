@@ -85,7 +85,7 @@ form_bordered d P m u =
     omega (arith, ints, rows, last, own)
 
 -- ---- the step form
--- a vector with the disturbance behind it
+-- a vector with the disturbance after it
 unfoldable pub with_last : ℕ → Vector → ℤ → Vector
 with_last d v g j = if j == d then g else v j
 

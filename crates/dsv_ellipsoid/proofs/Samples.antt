@@ -66,7 +66,7 @@ line_value d first mid last r a p q u t h k l =
 zip_turned : (exact : List ℤ) (all parts : List Range) → all ≡ parts → AllZip HasInterval exact parts → AllZip HasInterval exact all
 zip_turned exact all parts e h = subst (AllZip HasInterval exact) (sym e) h
 
--- a row's intervals with nothing behind them
+-- a row's intervals with nothing after them
 alone : (f : Format) (v : Range) (us : List (Summand Range)) (passed : List Range) → later_intervals f v (us ++ []) ≡ passed ++ [] → later_intervals f v us ≡ passed
 alone f v us passed e = ap (later_intervals f v) (sym (append-nil us)) ∙ e ∙ append-nil passed
 

@@ -32,7 +32,7 @@ abbrev pub AreAlike : ℕ → ℕ → Matrix → Matrix → Type 0
 AreAlike n d A B = (i j : ℕ) → i < n → j < d → A i j ≡ B i j
 
 -- as many squares of rows of d places, which have the same numbers in their places where there are d of them
-record AreAlikeSquares (d : ℕ) (s t : Squares) : Type 0 where
+pub record AreAlikeSquares (d : ℕ) (s t : Squares) : Type 0 where
   factor : s.m ≡ t.m
   count : s.count ≡ t.count
   weights : s.count ≡ d → (k : ℕ) → k < d → weights_of s k ≡ weights_of t k
@@ -132,7 +132,7 @@ dominance_alike p d s t a =
 counted : (d : ℕ) (s : Squares) → bad_shape d s ≡ false → s.count ≡ d
 counted d s h = same_count s.count d (not_false (s.count == d) (neither_test (bad_rest d s) (not (s.count == d)) h).1)
 
-definite_alike : (p : OfferPart) (d : ℕ) (s t : Squares) (T U : Matrix) (N M : ℕ → ℕ → List ℤ) → AreAlikeSquares d s t → AreAlike d d T U
+pub definite_alike : (p : OfferPart) (d : ℕ) (s t : Squares) (T U : Matrix) (N M : ℕ → ℕ → List ℤ) → AreAlikeSquares d s t → AreAlike d d T U
     → ((i j : ℕ) → i < d → j < d → N i j ≡ M i j) → first_of (definite_tests p d s T N) ≡ first_of (definite_tests p d t U M)
 definite_alike p d s t T U N M a f g =
     definite_parts p d s T N
@@ -182,19 +182,19 @@ fall_entry_alike d c P Q i j a h k = ap (total_from (pos 0)) (fall_terms_alike d
 
 -- ---- offers
 -- offers of d places that have the same numbers in them
-record AreAlikeOffers (d : ℕ) (f g : Falls) : Type 0 where
-  form : AreAlike d d (matrix_of f.form.rows) (matrix_of g.form.rows)
-  positive : AreAlikeSquares d f.positive g.positive
-  fall : AreAlikeSquares d f.fall g.fall
+pub record AreAlikeOffers (d : ℕ) (f g : Falls) : Type 0 where
+  pub form : AreAlike d d (matrix_of f.form.rows) (matrix_of g.form.rows)
+  pub positive : AreAlikeSquares d f.positive g.positive
+  pub fall : AreAlikeSquares d f.fall g.fall
 
-bad_form_alike : (d : ℕ) (f g : Form) → f.d ≡ g.d → (f.d ≡ d → AreAlike d d (matrix_of f.rows) (matrix_of g.rows)) → bad_form d f ≡ bad_form d g
+pub bad_form_alike : (d : ℕ) (f g : Form) → f.d ≡ g.d → (f.d ≡ d → AreAlike d d (matrix_of f.rows) (matrix_of g.rows)) → bad_form d f ≡ bad_form d g
 bad_form_alike d f g e a = by_count (f.d == d) refl
   where
     by_count : (b : Bool) → (f.d == d) ≡ b → bad_form d f ≡ bad_form d g
     by_count true h = rw (e, symmetric_alike d (matrix_of f.rows) (matrix_of g.rows) (a (same_count f.d d h))) refl
     by_count false h = let k : (g.d == d) ≡ false = ap (λ n. n == d) (sym e) ∙ h in rw (h, k) refl
 
-placed : (d : ℕ) (f : Form) → bad_form d f ≡ false → f.d ≡ d
+pub placed : (d : ℕ) (f : Form) → bad_form d f ≡ false → f.d ≡ d
 placed d f h = same_count f.d d (not_false (f.d == d) (neither_test (not (f.d == d)) (not (is_symmetric d (matrix_of f.rows))) h).0)
 
 falls_alike : (d : ℕ) (c : Vector) (f g : Falls) → f.form.d ≡ g.form.d → (f.form.d ≡ d → AreAlikeOffers d f g) → first_of (falls_tests d c f) ≡ first_of (falls_tests d c g)
@@ -245,7 +245,7 @@ squares_alone_alike d e s same few = record {
   rest = λ i j p q. corner_alike e e s.rest (omega (arith, same, few)) (omega (arith, same, few)) i j (omega (arith, same, p)) (omega (arith, same, q));
 }
 
-offer_alone_alike : (d : ℕ) (offer : Falls) → offer.form.d ≡ d → d ≤ greatest_order → AreAlikeOffers d (offer_alone offer) offer
+pub offer_alone_alike : (d : ℕ) (offer : Falls) → offer.form.d ≡ d → d ≤ greatest_order → AreAlikeOffers d (offer_alone offer) offer
 offer_alone_alike d offer e few = record {
   form = λ i j p q. corner_alike offer.form.d offer.form.d offer.form.rows (omega (arith, e, few)) (omega (arith, e, few)) i j (omega (arith, e, p)) (omega (arith, e, q));
   positive = squares_alone_alike d offer.form.d offer.positive e few;

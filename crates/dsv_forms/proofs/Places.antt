@@ -219,6 +219,11 @@ map_same f g zero h = refl
 map_same f g (suc d) h =
     map-append f (places d) (d ∷ []) ∙ rw (map_same f g d (λ k q. h k (omega arith)), h d (omega arith)) refl ∙ sym (map-append g (places d) (d ∷ []))
 
+pub flat_same : {A : Type 0} (f g : ℕ → List A) (d : ℕ) → ((k : ℕ) → k < d → f k ≡ g k) → flat_map f (places d) ≡ flat_map g (places d)
+flat_same f g zero h = refl
+flat_same f g (suc d) h =
+    flat_map-append f (places d) (d ∷ []) ∙ rw (flat_same f g d (λ k q. h k (omega arith)), h d (omega arith)) refl ∙ sym (flat_map-append g (places d) (d ∷ []))
+
 pub all_same : (p q : ℕ → Bool) (d : ℕ) → ((k : ℕ) → k < d → p k ≡ q k) → list_all p (places d) ≡ list_all q (places d)
 all_same p q zero h = refl
 all_same p q (suc d) h = last_all p d ∙ rw (all_same p q d (λ k l. h k (omega arith)), h d (omega arith)) refl ∙ sym (last_all q d)

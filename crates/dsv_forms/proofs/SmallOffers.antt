@@ -74,14 +74,21 @@ form_narrow p d s T form h i j a b = elim (cases_lt j i) [
 squares_at : (d e : ℕ) (s : Squares) → e ≡ d → AreNarrow d s → AreNarrow e s
 squares_at d e s same a = subst (λ n. AreNarrow n s) (sym same) a
 
+-- so they are in an offer whose form and whatever it loses pass the tests of their squares
+pub parts_narrow : (d : ℕ) (offer : Falls) (T : Matrix) (numbers : ℕ → ℕ → List ℤ) → offer.form.d ≡ d → is_symmetric d (matrix_of offer.form.rows) ≡ true
+    → first_of (definite_tests part.Positive d offer.positive (matrix_of offer.form.rows) (λ i j. [])) ≡ None → first_of (definite_tests part.Fall d offer.fall T numbers) ≡ None → IsNarrow offer
+parts_narrow d offer T numbers same form first second =
+    let P = matrix_of offer.form.rows in
+    record {
+      form = λ i j k l. form_narrow part.Positive d offer.positive P form first i j (omega (arith, same, k)) (omega (arith, same, l));
+      positive = squares_at d offer.form.d offer.positive same (squares_narrow part.Positive d offer.positive P (λ i j. []) first);
+      fall = squares_at d offer.form.d offer.fall same (squares_narrow part.Fall d offer.fall T numbers second);
+    }
+
 narrow_at : (d : ℕ) (c : Vector) (offer : Falls) → FallsPass d c offer → IsNarrow offer
 narrow_at d c offer o =
     let P = matrix_of offer.form.rows in
-    record {
-      form = λ i j k l. form_narrow part.Positive d offer.positive P o.symmetric o.positive i j (omega (arith, o.places, k)) (omega (arith, o.places, l));
-      positive = squares_at d offer.form.d offer.positive o.places (squares_narrow part.Positive d offer.positive P (λ i j. []) o.positive);
-      fall = squares_at d offer.form.d offer.fall o.places (squares_narrow part.Fall d offer.fall (fall_entry d c P) (fall_numbers d c P) o.fall);
-    }
+    parts_narrow d offer (fall_entry d c P) (fall_numbers d c P) o.places o.symmetric o.positive o.fall
 
 pub accepted_are_narrow : AcceptedAreNarrow
 accepted_are_narrow c offer h = narrow_at (length c - 1) (vector_of c) offer (falls_passes (length c - 1) (vector_of c) offer h)

@@ -50,7 +50,7 @@ state_code (refusal.Line line) = codes "STATE FILE REFUSED 41 LINE "
 state_code (refusal.Number line place) = codes "STATE FILE REFUSED 42 NUMBER "
 state_code (refusal.Width line) = codes "STATE FILE REFUSED 43 WIDTH "
 
--- its fields behind them
+-- its fields after them
 abbrev pub state_text_after : List ℕ → StateRefusal → List ℕ
 state_text_after code (refusal.Line line) = number_line code line
 state_text_after code (refusal.Number line place) = concatenation
@@ -68,7 +68,7 @@ state_quant_code (quant.FractionWide of row column) =
     codes "STATE FILE REFUSED 45 FRACTION_WIDE "
 state_quant_code (quant.RangeEmpty lo hi) = codes "STATE FILE REFUSED 46 RANGE_EMPTY "
 
--- its fields behind them
+-- its fields after them
 abbrev pub state_quant_text_after : List ℕ → StateQuantRefusal → List ℕ
 state_quant_text_after code (quant.CoefficientRange of row column wanted) = concatenation
     (code ∷ place_name of ∷ codes " " ∷ signed_decimal (pos row) ∷ codes " "

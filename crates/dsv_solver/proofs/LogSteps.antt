@@ -82,7 +82,7 @@ learned f cs log c hints l over plainly some derived loc new =
       is = ap (λ ds. ds ++ c ∷ []) l.is ∙ append_assoc f.clauses l.more (c ∷ []);
     }
 
--- hints that refute behind it: the whole log is accepted
+-- hints that refute after it: the whole log is accepted
 pub ended : (f : FormulaView) (cs : List (List Literal)) (log : List Step) (hints : List ℕ) → IsLogged f cs log → hints_answer (entries_from cs 1) hints none ≡ Ok tt
     → verdict_of f (log ++ Add (length cs + 1) [] hints ∷ []) ≡ Accepted
 ended f cs log hints l derived =

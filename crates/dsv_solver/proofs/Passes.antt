@@ -106,7 +106,7 @@ pub no-superset : (G : Literal → Bool) (C : List Literal) (first : Literal) (e
 no-superset G C first [] l h = tt
 no-superset G C first (e ∷ es) l h = (not_true (has_all C e.clause) (fine-not-all G C e.clause first l h.0), no-superset G C first es l h.1)
 
--- behind a closed level unit steps derive nothing
+-- after a closed level unit steps derive nothing
 pub record IsClosed (live : List Entry) (F : Literal → Bool) : Type 0 where
   pub consistent : (q : Literal) → F q ≡ true → F (negation q) ≡ true → ⊥
   pub fine : (h : ℕ) (c : List Literal) → live_clause live h ≡ Some c → IsFine F c

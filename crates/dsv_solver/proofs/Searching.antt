@@ -82,7 +82,7 @@ refuting-end f t M H w =
       covers = λ q x g. absurd (elim g [ inl a ↦ omega (arith, a) | inr b ↦ b ]);
     })
 
--- ---- from a lesson to the clause that is added behind the way back
+-- ---- from a lesson to the clause that is added after the way back
 pub level-below : (t : TrailView) (high at level : ℕ) → slice_get t.limits (length t.limits - 1) ≡ Some high → at < high → IsLevelOf t.limits at level → level < length t.limits
 level-below t high at level e lt l =
     let some = slice_get_within t.limits (length t.limits - 1) high e in
@@ -214,7 +214,7 @@ false_over n ms q o h = let p = place-is ms q h in let v : p.mark.literal.var �
 pub lesson_over : (f : FormulaView) (t : TrailView) (w : WatchView) (head high : ℕ) (c : List Literal) (h : List ℕ) → IsReady f t w head → IsTrail t → IsLearnable f t high c h → IsOver f.vars c
 lesson_over f t w head high c h r o l = IsOver-from f.vars c (λ q i. let lt = false_over t.vars t.marks q o.marks.over (l.are_false q i) in omega (arith, lt, r.trail_vars))
 
--- ---- a learned clause behind the way back
+-- ---- a learned clause after the way back
 pub ready_back_all : (f : FormulaView) (s : TrailView) (w : WatchView) (head j k : ℕ) → IsReady f s w head → slice_get s.limits j ≡ Some k → IsReady f (back s j k) w (length (take k s.marks))
 ready_back_all f s w head j k r e =
     let n : length (take k s.marks) ≡ k = length-take-le k s.marks (r.justified.limits j k e) in

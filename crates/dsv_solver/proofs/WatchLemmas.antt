@@ -28,7 +28,7 @@ IsAt-new xs y = record { place = length xs; inside = omega (arith, length-append
 pub code-apart : (a b : Literal) → a ≢ b → code_of a ≢ code_of b
 code-apart a b n e = n (sym (literal-code_of a) ∙ (ap literal_of e ∙ literal-code_of b))
 
--- lists behind a push to one and a swap_remove from another
+-- lists after a push to one and a swap_remove from another
 pub record Rewatched (before behind : List (List ℕ)) (a f i j : ℕ) : Type 0 where
   pub middle : List (List ℕ)
   pub pushed : middle ≡ set before a (get_or before a [] ++ i ∷ [])
@@ -73,7 +73,7 @@ kept before behind a f i j x i' r o h =
 pub kept-new : (before behind : List (List ℕ)) (a f i j : ℕ) → Rewatched before behind a f i j → IsAt (get_or behind a []) i
 kept-new before behind a f i j r = rw (behind-a before behind a f i j r) (IsAt-new (get_or before a []) i)
 
--- a pair behind a write
+-- a pair after a write
 pub pair-cases : (ps : List Pair) (i k : ℕ) (p q : Pair) → slice_get (set ps i p) k ≡ Some q → ((k ≡ i) × (q ≡ p)) ⊎ ((k ≢ i) × (slice_get ps k ≡ Some q))
 pair-cases ps i k p q h =
     let lt : k < length ps = omega (arith, slice_get_within (set ps i p) k q h, length-set ps i p) in

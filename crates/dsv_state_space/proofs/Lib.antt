@@ -2,6 +2,7 @@ pub mod LossLemmas
 pub mod StateChains
 pub mod StateLines
 pub mod StateNets
+pub mod StateOffers
 pub mod StateRuns
 pub mod StateVerdicts
 pub mod StateWords

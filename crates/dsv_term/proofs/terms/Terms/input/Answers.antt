@@ -15,7 +15,7 @@ invariant_of-self-2 c =
     record {
       terms = rw pushed more.terms;
       widths = i.widths ∙ rw pushed (sym more.widths);
-      few_inputs = omega (arith, ap length pushed, length_push t.inputs c.args.width);
+      few_inputs = omega (arith, ap length pushed, length_push t.inputs c.args.width, c.in_ok-accept_more.ensures.few, c.len.ensures);
     }
 
 pub invariant_of-self-in-Err : goal.invariant_of-self-in-Err
