@@ -15,6 +15,7 @@ pub mod LawfulWritten
 pub mod LineTexts
 pub mod PlaceLemmas
 pub mod RangeLemmas
+pub mod ReadPlaces
 pub mod SquareLines
 pub mod StepLemmas
 pub mod TypedParts

@@ -83,7 +83,7 @@ after_base base = and_read (log_in keyword.Safe) (after_step base)
 abbrev pub after_start : List ℤ → Reader ThreeLogs
 after_start start = and_read (log_in keyword.Step) after_base
 
-sections : {A : Type 0} (a b c e : A) (xs ys zs : List A)
+pub sections : {A : Type 0} (a b c e : A) (xs ys zs : List A)
     → (a ∷ []) ++ ((xs ++ b ∷ []) ++ ((ys ++ c ∷ []) ++ (zs ++ e ∷ []))) ≡ (((a ∷ xs) ++ (b ∷ ys)) ++ (c ∷ zs)) ++ e ∷ []
 sections a b c e xs ys zs = simp append_assoc
 

@@ -117,7 +117,7 @@ ellipsoid_levels d form levels = and_read (squares_in keyword.Step (d + 1)) (ell
 abbrev pub ellipsoid_form : ℕ → Form → Reader Ellipsoid
 ellipsoid_form d form = and_read levels_in (ellipsoid_levels d form)
 
-body_parts : {A : Type 0} (xs : List A) (l : A) (ss : List A) (f : A) (bs : List A) (e : A)
+pub body_parts : {A : Type 0} (xs : List A) (l : A) (ss : List A) (f : A) (bs : List A) (e : A)
     → xs ++ ((l ∷ []) ++ (ss ++ ((f ∷ bs) ++ e ∷ []))) ≡ (xs ++ l ∷ (ss ++ f ∷ bs)) ++ e ∷ []
 body_parts xs l ss f bs e = simp append_assoc
 

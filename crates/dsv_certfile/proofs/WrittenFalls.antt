@@ -187,7 +187,7 @@ positive_after d form positive = and_read (squares_in keyword.Fall d) (fall_afte
 abbrev pub form_after : ℕ → Form → Reader Falls
 form_after d form = and_read (squares_in keyword.Positive d) (positive_after d form)
 
-four_parts : {A : Type 0} (xs ys zs us : List A) → xs ++ (ys ++ (zs ++ us)) ≡ ((xs ++ ys) ++ zs) ++ us
+pub four_parts : {A : Type 0} (xs ys zs us : List A) → xs ++ (ys ++ (zs ++ us)) ≡ ((xs ++ ys) ++ zs) ++ us
 four_parts xs ys zs us = simp append_assoc
 
 pub takes_falls : (offer : Falls) → IsOffer offer → Takes (falls_in offer.form.d) offer (falls_lines offer ++ word_line keyword.End ∷ [])

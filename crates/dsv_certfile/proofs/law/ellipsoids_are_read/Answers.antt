@@ -1,4 +1,4 @@
-use Rattle.dsv_certfile.proofs.LawfulEllipsoids.{ellipsoid_is_lawful}
+use Rattle.dsv_certfile.proofs.LawfulEllipsoids.{ellipsoid_is_lawful, text_of_ellipsoid}
 use Rattle.dsv_certfile.proofs.WrittenEllipsoids.{written_ellipsoid}
 use Rattle.dsv_certfile.proofs.law.ellipsoids_are_read.Goals as goal
 
@@ -7,3 +7,6 @@ returns-clause-back c = written_ellipsoid
 
 pub returns-clause-lawful : goal.returns-clause-lawful
 returns-clause-lawful c = ellipsoid_is_lawful
+
+pub returns-clause-text : goal.returns-clause-text
+returns-clause-text c = text_of_ellipsoid
