@@ -2,6 +2,7 @@ pub mod Casts
 pub mod CompanionEntries
 pub mod Congruence
 pub mod Definite
+pub mod Dots
 pub mod Falling
 pub mod Floors
 pub mod Gcds

@@ -1,5 +1,5 @@
 -- Numbers scaled by powers, and bounded.
-use Rattle.std.proofs.Common.{◌≡◌, ℕ, zero, suc, ◌+◌, ◌-◌, ◌*◌, ◌/◌, ◌%◌, ◌^◌, ◌<◌, ◌≤◌, ◌==◌, Bool, true, false, List, [], ◌∷◌, length, Some, None, Ok, Err, refl, sym, ap, ◌∙◌, arith, inl, inr, add-one}
+use Rattle.std.proofs.Common.{◌≡◌, ℕ, zero, suc, ◌+◌, ◌-◌, ◌*◌, ◌/◌, ◌%◌, ◌^◌, ◌<◌, ◌≤◌, ◌==◌, Bool, true, false, List, [], ◌∷◌, length, map, Option, Some, None, Ok, Err, refl, sym, ap, ◌∙◌, arith, inl, inr, add-one}
 use Rattle.std.proofs.Math.IntN.{ℤ, pos, ◌*ℤ◌}
 use Rattle.std.proofs.Math.Nat.{pow-suc, pow-zero, pow-le-pow_right}
 use Rattle.std.proofs.lemmas.Nat.{mul-le, pow_pos}
@@ -8,6 +8,7 @@ use Rattle.std.proofs.lemmas.Bool.{cases_lt}
 use Rattle.std.proofs.lemmas.Bool.Decides.{nat_tests}
 use Rattle.std.proofs.lemmas.List.FromFn.{fill_by_all}
 use Rattle.std.specs.Int.RustNames.{unsigned_abs}
+use Rattle.std.specs.List.{range_with_len}
 use Rattle.dsv_algebra.specs.Narrow.{narrow_of}
 use Rattle.dsv_algebra.specs.Vectors.{Vector, vector_of}
 use Rattle.dsv_algebra.proofs.Normaliser.{ring, env, var, num, times}
@@ -113,3 +114,15 @@ pub whole_list : (delta : Dyadic) (words xs : List ℤ) → first_wide (scaled d
 whole_list delta words xs h p =
     let e = scaled delta (length words - 1) (vector_of words) in
     rw (h, expansion) (ap Ok (sym (fill_by_all (z_coefficient (length words - 1) e) xs (length words) (pos 0) p.places p.values)))
+
+list_case : (delta : Dyadic) (words xs : List ℤ) (o : Option ℕ) → first_wide (scaled delta (length words - 1) (vector_of words)) (length words) ≡ o → expansion delta words ≡ Ok xs
+    → xs ≡ map (z_coefficient (length words - 1) (scaled delta (length words - 1) (vector_of words))) (range_with_len 0 (length words))
+list_case delta words xs (Some j) h e = let wide = wide_list delta words j h in cc
+list_case delta words xs None h e =
+    let made : expansion delta words ≡ Ok (map (z_coefficient (length words - 1) (scaled delta (length words - 1) (vector_of words))) (range_with_len 0 (length words))) = rw (h, expansion) refl in
+    cc
+
+-- what an expansion gives
+pub expanded_list : (delta : Dyadic) (words xs : List ℤ) → expansion delta words ≡ Ok xs
+    → xs ≡ map (z_coefficient (length words - 1) (scaled delta (length words - 1) (vector_of words))) (range_with_len 0 (length words))
+expanded_list delta words xs e = list_case delta words xs (first_wide (scaled delta (length words - 1) (vector_of words)) (length words)) refl e

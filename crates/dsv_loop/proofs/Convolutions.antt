@@ -5,7 +5,7 @@ use Rattle.std.proofs.Math.ListN.{get_or-eq_default}
 use Rattle.std.proofs.lemmas.Int.{ints}
 use Rattle.dsv_algebra.specs.Vectors.{Vector, vector_of, sum_to, dot}
 use Rattle.dsv_algebra.proofs.Normaliser.{ring, env, var, num, times}
-use Rattle.dsv_algebra.proofs.Sums.{sum_same, sum_add, sum_scale, sum_none, sum_swap}
+use Rattle.dsv_algebra.proofs.Sums.{sum_same, sum_add, sum_scale, sum_none}
 
 -- ---- sums over a triangle
 -- the terms on the line i + j = n
@@ -96,19 +96,3 @@ product_on fs gs n x few some =
     ∙ triangle n f
     ∙ trim (length fs) n (λ i. sum_to (n - i) (f i)) (omega arith) row
     ∙ sum_same (length fs) (λ i. sum_to (n - i) (f i)) (λ i. F i *ℤ dot (length gs) G (λ j. x (i + j))) inner
-
--- ---- two lists on a signal, in either order
-inside : (m : ℕ) (G : Vector) (c : ℤ) (x : Vector) → c *ℤ dot m G x ≡ sum_to m (λ j. G j *ℤ (c *ℤ x j))
-inside m G c x =
-    sym (sum_scale m c (λ j. G j *ℤ x j)) ∙ sum_same m (λ j. c *ℤ (G j *ℤ x j)) (λ j. G j *ℤ (c *ℤ x j)) (λ j h. swapped c (G j) (x j)) where
-      swapped : (a b e : ℤ) → a *ℤ (b *ℤ e) ≡ b *ℤ (a *ℤ e)
-      swapped a b e = let u = var 0 in let v = var 1 in let w = var 2 in ring (env (a ∷ b ∷ e ∷ [])) (times u (times v w)) (times v (times u w)) refl
-
-pub dot_swap : (n m : ℕ) (F G : Vector) (x : ℕ → ℕ → ℤ) → dot n F (λ i. dot m G (λ j. x i j)) ≡ dot m G (λ j. dot n F (λ i. x i j))
-dot_swap n m F G x =
-    sum_same n (λ i. F i *ℤ dot m G (λ j. x i j)) (λ i. sum_to m (λ j. G j *ℤ (F i *ℤ x i j))) (λ i h. inside m G (F i) (λ j. x i j))
-    ∙ sum_swap n m (λ i j. G j *ℤ (F i *ℤ x i j))
-    ∙ sum_same m (λ j. sum_to n (λ i. G j *ℤ (F i *ℤ x i j))) (λ j. G j *ℤ dot n F (λ i. x i j)) (λ j h. sum_scale n (G j) (λ i. F i *ℤ x i j))
-
-pub dot_same : (n : ℕ) (F x z : Vector) → ((i : ℕ) → i < n → x i ≡ z i) → dot n F x ≡ dot n F z
-dot_same n F x z h = sum_same n (λ i. F i *ℤ x i) (λ i. F i *ℤ z i) (λ i p. ap (λ r. F i *ℤ r) (h i p))

@@ -7,6 +7,7 @@ use Rattle.std.specs.Prelude.{Result, Ok, Err, ◌⊎◌}
 use Rattle.dsv_text.specs.Stages.{◌>>=◌}
 use Rattle.dsv_fraction.specs.Ratio.{Ratio}
 use Rattle.dsv_algebra.specs.Vectors.{Vector, vector_of, sum_to, dot}
+use Rattle.dsv_algebra.proofs.Dots.{dot_same, dot_swap}
 use Rattle.dsv_algebra.proofs.Normaliser.{ring, env, var, num, plus, times, minus}
 use Rattle.dsv_algebra.proofs.Sums.{sum_same, sum_add, sum_scale, sum_none}
 use Rattle.dsv_quantiser.specs.QuantisedView.{QuantisedView, IsQuantisedView}
@@ -20,7 +21,7 @@ use Rattle.dsv_loop.specs.Recursion.{filtered, AreInLoop, Obeys}
 use Rattle.dsv_loop.proofs.Stages.{unbind}
 use Rattle.dsv_loop.proofs.Entries.{AreCoefficients, made_of, sum_is}
 use Rattle.dsv_loop.proofs.Sides.{controller_parts, controller_long, plant_parts, plant_long}
-use Rattle.dsv_loop.proofs.Convolutions.{product_on, dot_swap, dot_same}
+use Rattle.dsv_loop.proofs.Convolutions.{product_on}
 use Rattle.dsv_loop.proofs.Scales.{nought_of_multiple, multiple_of_nought, factor_multiple, positive_multiple}
 
 -- ---- a signal with its sign changed

@@ -1,10 +1,8 @@
 -- Both sides of the loop: what their lists are, and how long.
 use Rattle.std.proofs.Common.{◌≡◌, ℕ, suc, ◌+◌, ◌-◌, ◌/◌, Bool, true, false, List, [], ◌∷◌, ◌++◌, length, map, Option, Some, None, refl, sym, ap, subst, ◌∙◌, arith, length-append}
 use Rattle.std.proofs.Math.IntN.{ℤ, pos, ◌*ℤ◌}
-use Rattle.std.proofs.lemmas.List.{length-map}
-use Rattle.std.proofs.lemmas.List.FromFn.{length-range_with_len}
+use Rattle.std.proofs.lemmas.List.FromFn.{length-map-range_with_len}
 use Rattle.std.specs.Prelude.{Result, Ok, Err, option_and_then}
-use Rattle.std.specs.List.{range_with_len}
 use Rattle.std.specs.Int.RustNames.{unsigned_abs}
 use Rattle.dsv_text.specs.Stages.{◌>>=◌}
 use Rattle.dsv_algebra.specs.Narrow.{narrow_of}
@@ -12,7 +10,8 @@ use Rattle.dsv_algebra.specs.Vectors.{vector_of}
 use Rattle.dsv_fraction.specs.Ratio.{Ratio}
 use Rattle.dsv_names.specs.Realisations.{is_delta}
 use Rattle.dsv_delta.specs.Deltas.{common}
-use Rattle.dsv_delta.specs.ZCoefficients.{Dyadic, dyadic, scaled, first_wide, z_coefficient, expansion}
+use Rattle.dsv_delta.specs.ZCoefficients.{Dyadic, dyadic, scaled, z_coefficient, expansion}
+use Rattle.dsv_delta.proofs.Scaling.{expanded_list}
 use Rattle.dsv_delta.specs.declared.refusal.PolyWide.{PolyWide}
 use Rattle.dsv_quantiser.specs.QuantisedView.{QuantisedView}
 use Rattle.dsv_reader.specs.Plants.{PlantView}
@@ -26,19 +25,15 @@ items_of (Ok xs) = xs
 items_of (Err e) = []
 
 -- ---- in z
-expansion_length : (d : Dyadic) (ws cs : List ℤ) (o : Option ℕ) → first_wide (scaled d (length ws - 1) (vector_of ws)) (length ws) ≡ o → expansion d ws ≡ Ok cs → length cs ≡ length ws
-expansion_length d ws cs (Some j) is e = let wide : expansion d ws ≡ Err (record { index = j }) = rw (is, expansion) refl in cc
-expansion_length d ws cs None is e =
-    let f = z_coefficient (length ws - 1) (scaled d (length ws - 1) (vector_of ws)) in
-    let made : expansion d ws ≡ Ok (map f (range_with_len 0 (length ws))) = rw (is, expansion) refl in
-    let same : cs ≡ map f (range_with_len 0 (length ws)) = ap items_of (sym e ∙ made) in
-    ap length same ∙ length-map (range_with_len 0 (length ws)) f ∙ length-range_with_len 0 (length ws)
+expansion_length : (d : Dyadic) (ws cs : List ℤ) → expansion d ws ≡ Ok cs → length cs ≡ length ws
+expansion_length d ws cs e =
+    ap length (expanded_list d ws cs e) ∙ length-map-range_with_len (z_coefficient (length ws - 1) (scaled d (length ws - 1) (vector_of ws))) 0 (length ws)
 
 z_case : (b : Bool) (q : QuantisedView) (ws cs : List ℤ) → is_delta q.realisation ≡ b → z_list q ws ≡ Ok cs → length cs ≡ length ws
 z_case true q ws cs is e =
     let d = dyadic (unsigned_abs q.delta) q.format.frac_bits in
     let made : expansion d ws ≡ Ok cs = rw is at e in
-    expansion_length d ws cs (first_wide (scaled d (length ws - 1) (vector_of ws)) (length ws)) refl made
+    expansion_length d ws cs made
 z_case false q ws cs is e = let same : Ok ws ≡ Ok cs = rw is at e in sym (ap length (ap items_of same))
 
 z_length : (q : QuantisedView) (ws cs : List ℤ) → z_list q ws ≡ Ok cs → length cs ≡ length ws

@@ -5,11 +5,11 @@ use Rattle.std.proofs.lemmas.Int.{ints}
 use Rattle.std.specs.Prelude.{Ok}
 use Rattle.dsv_fraction.specs.Ratio.{Ratio}
 use Rattle.dsv_algebra.specs.Vectors.{Vector, vector_of, dot}
+use Rattle.dsv_algebra.proofs.Dots.{dot_same, dot_swap}
 use Rattle.dsv_quantiser.specs.QuantisedView.{QuantisedView, IsQuantisedView}
 use Rattle.dsv_reader.specs.Plants.{PlantView, IsPlant}
 use Rattle.dsv_loop.specs.Loops.{TransferView, loop_of, controller_transfer, plant_transfer}
 use Rattle.dsv_loop.specs.Recursion.{filtered, SolutionsAreInLoop}
-use Rattle.dsv_loop.proofs.Convolutions.{dot_swap, dot_same}
 use Rattle.dsv_loop.proofs.Recursions.{filtered_neg, products_on, whole_obeys, parts_of}
 
 -- a list on what another makes of a signal

@@ -1,4 +1,3 @@
-pub mod Dots
 pub mod Readings
 pub mod Expansions
 pub mod Lines

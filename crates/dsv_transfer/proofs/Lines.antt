@@ -11,7 +11,7 @@ use Rattle.dsv_meaning.specs.Lines.{summands, exact_summand, total}
 use Rattle.dsv_meaning.specs.Equations.{ago, feedback, first_alone, forward_summands, feedback_summands, transposed_output}
 use Rattle.dsv_linear.proofs.Numbers.{none_times, times_none}
 use Rattle.dsv_roundoff.specs.Written.{IsLine, AreLines, delta_lines, transposed_lines}
-use Rattle.dsv_transfer.proofs.Dots.{dot_same, dot_first}
+use Rattle.dsv_algebra.proofs.Dots.{dot_same, dot_first}
 
 -- ---- sums of products
 ended : (z : ℤ) → z +ℤ pos 0 ≡ z

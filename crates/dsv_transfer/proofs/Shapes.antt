@@ -6,7 +6,7 @@ use lib.Signed.{◌<ℤ◌}
 use Rattle.dsv_algebra.specs.Vectors.{Vector, dot}
 use Rattle.dsv_linear.proofs.Numbers.{times_none}
 use Rattle.dsv_roundoff.proofs.Scaling.{divided}
-use Rattle.dsv_transfer.proofs.Dots.{dot_same, dot_scale, dot_swap}
+use Rattle.dsv_algebra.proofs.Dots.{dot_same, dot_scale, dot_swap}
 use Rattle.dsv_transfer.proofs.Readings.{IsReading, AreReadings, Follows, AreChain, reading_none, reading_dot, exchanged}
 
 -- the coefficients on the readings of both signals are the same

@@ -1,5 +1,5 @@
 -- The coefficients in z on signals, and the law of the transfer function.
-use Rattle.std.proofs.Common.{◌≡◌, ℕ, suc, ◌+◌, ◌-◌, ◌*◌, ◌^◌, Bool, true, false, List, [], length, map, Option, Some, None, Result, Ok, Err, refl, sym, ap, ◌∙◌, arith}
+use Rattle.std.proofs.Common.{◌≡◌, ℕ, suc, ◌+◌, ◌-◌, ◌*◌, ◌^◌, Bool, true, false, List, [], length, map, Result, Ok, Err, refl, sym, ap, ◌∙◌, arith}
 use Rattle.std.proofs.Math.IntN.{ℤ, pos, ◌*ℤ◌}
 use Rattle.std.proofs.lemmas.List.FromFn.{get_or-map-range_with_len, length-map-range_with_len}
 use Rattle.std.specs.List.{range_with_len}
@@ -8,30 +8,20 @@ use Rattle.dsv_algebra.specs.Vectors.{Vector, vector_of, sum_to, dot}
 use Rattle.dsv_algebra.proofs.Sums.{sum_same}
 use Rattle.dsv_names.specs.Realisations.{is_delta}
 use Rattle.dsv_delta.specs.declared.refusal.PolyWide.{PolyWide}
-use Rattle.dsv_delta.specs.ZCoefficients.{Dyadic, scaled, first_wide, z_coefficient, expansion}
+use Rattle.dsv_delta.specs.ZCoefficients.{Dyadic, scaled, z_coefficient, expansion}
+use Rattle.dsv_delta.proofs.Scaling.{expanded_list}
 use Rattle.dsv_quantiser.specs.QuantisedView.{QuantisedView, IsQuantisedView}
 use Rattle.dsv_meaning.specs.Equations.{order}
 use Rattle.dsv_tested.specs.Tested.{z_list}
 use Rattle.dsv_roundoff.proofs.Scaling.{grouped}
 use Rattle.dsv_transfer.specs.Transfer.{RunsMeetTheTransferFunction}
-use Rattle.dsv_transfer.proofs.Dots.{dot_scale}
+use Rattle.dsv_algebra.proofs.Dots.{dot_scale}
 use Rattle.dsv_transfer.proofs.Expansions.{difference, expansion_on}
 use Rattle.dsv_transfer.proofs.Chains.{difference_at, delta_of}
 use Rattle.dsv_transfer.proofs.Forms.{reading_of, form_meets}
 use Rattle.dsv_transfer.proofs.SeenRuns.{seen}
 
 -- ---- an expansion on a signal
-abbrev items_of : Result (List ℤ) PolyWide → List ℤ
-items_of (Ok xs) = xs
-items_of (Err e) = []
-
-expansion_items : (d : Dyadic) (ws cs : List ℤ) (o : Option ℕ) → first_wide (scaled d (length ws - 1) (vector_of ws)) (length ws) ≡ o → expansion d ws ≡ Ok cs
-    → cs ≡ map (z_coefficient (length ws - 1) (scaled d (length ws - 1) (vector_of ws))) (range_with_len 0 (length ws))
-expansion_items d ws cs (Some j) is e = let wide : expansion d ws ≡ Err (record { index = j }) = rw (is, expansion) refl in cc
-expansion_items d ws cs None is e =
-    let made : expansion d ws ≡ Ok (map (z_coefficient (length ws - 1) (scaled d (length ws - 1) (vector_of ws))) (range_with_len 0 (length ws))) = rw (is, expansion) refl in
-    ap items_of (sym e ∙ made)
-
 -- coefficients that are a function of their place
 made_on : (f : ℕ → ℤ) (n : ℕ) (cs : List ℤ) (v : Vector) → cs ≡ map f (range_with_len 0 n) → dot (length cs) (vector_of cs) v ≡ sum_to n (λ i. f i *ℤ v i)
 made_on f n cs v e =
@@ -54,14 +44,14 @@ z_case true q ws cs v is e many =
     let n = order q in
     let d = delta_of q in
     let made : expansion d ws ≡ Ok cs = rw is at e in
-    let items = expansion_items d ws cs (first_wide (scaled d (length ws - 1) (vector_of ws)) (length ws)) refl made in
     let less : length ws - 1 ≡ n = omega arith in
     let items_n : cs ≡ map (z_coefficient n (scaled d n (vector_of ws))) (range_with_len 0 (suc n)) =
-    items ∙ ap (λ m. map (z_coefficient m (scaled d m (vector_of ws))) (range_with_len 0 (length ws))) less ∙ ap (λ m. map (z_coefficient n (scaled d n (vector_of ws))) (range_with_len 0 m)) many in
+    expanded_list d ws cs made ∙ ap (λ m. map (z_coefficient m (scaled d m (vector_of ws))) (range_with_len 0 (length ws))) less ∙ ap (λ m. map (z_coefficient n (scaled d n (vector_of ws))) (range_with_len 0 m)) many in
     made_on (z_coefficient n (scaled d n (vector_of ws))) (suc n) cs v items_n ∙ scaled_on d n (vector_of ws) v
 z_case false q ws cs v is e many =
-    let same : Ok ws ≡ Ok cs = rw is at e in
-    ap (λ xs. dot (length xs) (vector_of xs) v) (sym (ap items_of same)) ∙ ap (λ m. dot m (vector_of ws) v) many
+    let made : Ok ws ≡ Ok cs = rw is at e in
+    let same : cs ≡ ws = cc in
+    ap (λ xs. dot (length xs) (vector_of xs) v) same ∙ ap (λ m. dot m (vector_of ws) v) many
 
 -- ---- the law
 positive_delta : (q : QuantisedView) → IsQuantisedView q → is_delta q.realisation ≡ true → pos 1 ≤ℤ q.delta
