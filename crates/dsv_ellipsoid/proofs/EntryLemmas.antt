@@ -1,5 +1,5 @@
 -- The entries of both forms as the code sums them.
-use Rattle.std.proofs.Common.{◌≡◌, ℕ, suc, ◌+◌, Bool, true, false, ◌&&◌, ◌==◌, nat_lt, min, max, if◌then◌else◌, List, [], ◌∷◌, map, Option, Some, None, refl, sym, ap, ◌∙◌, arith, add-one}
+use Rattle.std.proofs.Common.{◌≡◌, ℕ, suc, ◌+◌, Bool, true, false, ◌&&◌, ◌==◌, nat_lt, if◌then◌else◌, List, [], ◌∷◌, map, Option, Some, None, refl, sym, ap, ◌∙◌, arith, add-one}
 use Rattle.std.specs.Prelude.{is_none}
 use Rattle.std.specs.List.{list_any}
 use Rattle.std.specs.Option.{option_and_then}
@@ -54,24 +54,15 @@ corner_sum-is o =
     ap (λ z. option_and_then (λ s. narrow_of (s -ℤ form_of o 0 0)) (narrow_of z)) (sym (plus_nothing o.mu))
     ∙ then_same (narrow_of (pos 0 +ℤ o.mu)) _ _ (λ s. sym (then_itself (narrow_of (s -ℤ form_of o 0 0))))
 
-either_same : (b : Bool) (x y z w : Option ℤ) → x ≡ z → y ≡ w → (if b then x else y) ≡ (if b then z else w)
-either_same true x y z w h k = h
-either_same false x y z w h k = k
-
-summed_either : (b : Bool) (xs ys : List Summand) → (if b then sum_from (pos 0) xs else sum_from (pos 0) ys) ≡ sum_from (pos 0) (if b then xs else ys)
-summed_either true xs ys = refl
-summed_either false xs ys = refl
-
 pub step_sum-is : (d : ℕ) (c : Vector) (o : Ellipsoid) (i j : ℕ) → step_sum d c o i j ≡ sum_from (pos 0) (step_summands d c o i j)
-step_sum-is d c o i j =
-    let a = nat_lt j d in
-    let b = nat_lt i d in
-    let side = side_summands d c o i in
-    let corner = corner_summands o in
-    either_same a (inside_sum d c o i j) (if b then side_sum d c o i else corner_sum o) (sum_from (pos 0) (inside_summands d c o i j)) (sum_from (pos 0) (if b then side else corner))
-    (inside_sum-is d c o i j)
-    (either_same b (side_sum d c o i) (corner_sum o) (sum_from (pos 0) side) (sum_from (pos 0) corner) (side_sum-is d c o i) (corner_sum-is o) ∙ summed_either b side corner)
-    ∙ summed_either a (inside_summands d c o i j) (if b then side else corner)
+step_sum-is d c o i j = at_ends (nat_lt i d) (nat_lt j d)
+  where
+    at_ends : (a b : Bool) → (if a then if b then inside_sum d c o i j else side_sum d c o i else if b then side_sum d c o j else corner_sum o)
+        ≡ sum_from (pos 0) (if a then if b then inside_summands d c o i j else side_summands d c o i else if b then side_summands d c o j else corner_summands o)
+    at_ends true true = inside_sum-is d c o i j
+    at_ends true false = side_sum-is d c o i
+    at_ends false true = side_sum-is d c o j
+    at_ends false false = corner_sum-is o
 
 first_where : (b : Bool) (s k : ℤ) → (if b then narrow_of (s -ℤ k) else Some s) ≡ sum_from s (if b then bare (neg_ℤ k) ∷ [] else [])
 first_where true s k = sym (then_itself (narrow_of (s -ℤ k)))
@@ -82,13 +73,13 @@ first_sum-is o i j = then_same (sum_with (pos 0) (scaled o.nu (form_of o i j))) 
 
 -- ---- whether a number on the way is too wide
 pub wide_same : (n : ℕ) (sum : ℕ → ℕ → Option ℤ) (summands : ℕ → ℕ → List Summand) → ((i j : ℕ) → sum i j ≡ sum_from (pos 0) (summands i j))
-    → list_any (λ i. list_any (λ j. is_none (sum (min i j) (max i j))) (places n)) (places n) ≡ has_wide_entry n summands
+    → list_any (λ i. list_any (λ j. is_none (sum i j)) (places n)) (places n) ≡ has_wide_entry n summands
 wide_same n sum summands h =
-    any_same (λ i. list_any (λ j. is_none (sum (min i j) (max i j))) (places n)) (λ i. list_any (λ j. is_none (sum_from (pos 0) (summands (min i j) (max i j)))) (places n)) n
-    (λ i p. any_same (λ j. is_none (sum (min i j) (max i j))) (λ j. is_none (sum_from (pos 0) (summands (min i j) (max i j)))) n (λ j q. ap is_none (h (min i j) (max i j))))
+    any_same (λ i. list_any (λ j. is_none (sum i j)) (places n)) (λ i. list_any (λ j. is_none (sum_from (pos 0) (summands i j))) (places n)) n
+    (λ i p. any_same (λ j. is_none (sum i j)) (λ j. is_none (sum_from (pos 0) (summands i j))) n (λ j q. ap is_none (h i j)))
 
-pub step_is_wide : (d : ℕ) (c : Vector) (o : Ellipsoid) → list_any (λ i. list_any (λ j. is_none (step_sum d c o (min i j) (max i j))) (places (d + 1))) (places (d + 1)) ≡ has_wide_entry (suc d) (step_summands d c o)
+pub step_is_wide : (d : ℕ) (c : Vector) (o : Ellipsoid) → list_any (λ i. list_any (λ j. is_none (step_sum d c o i j)) (places (d + 1))) (places (d + 1)) ≡ has_wide_entry (suc d) (step_summands d c o)
 step_is_wide d c o = wide_same (d + 1) (step_sum d c o) (step_summands d c o) (step_sum-is d c o) ∙ ap (λ n. has_wide_entry n (step_summands d c o)) (add-one d)
 
-pub first_is_wide : (d : ℕ) (o : Ellipsoid) → list_any (λ i. list_any (λ j. is_none (first_sum o (min i j) (max i j))) (places d)) (places d) ≡ has_wide_entry d (first_summands o)
+pub first_is_wide : (d : ℕ) (o : Ellipsoid) → list_any (λ i. list_any (λ j. is_none (first_sum o i j)) (places d)) (places d) ≡ has_wide_entry d (first_summands o)
 first_is_wide d o = wide_same d (first_sum o) (first_summands o) (first_sum-is o)

@@ -1,11 +1,11 @@
 -- Runs of the direct form I stay in the ellipsoid, so nothing breaks.
-use Rattle.std.proofs.Common.{◌≡◌, ℕ, zero, suc, Bool, true, false, ◌+◌, ◌-◌, ◌*◌, ◌<◌, ◌≤◌, List, [], ◌∷◌, ◌++◌, length, take, drop, get_or, refl, sym, ap, subst, ◌∙◌, arith}
-use Rattle.std.specs.Prelude.{replicate}
+use Rattle.std.proofs.Common.{◌≡◌, ℕ, zero, suc, Bool, true, false, ◌+◌, ◌-◌, ◌*◌, ◌<◌, ◌≤◌, List, [], ◌∷◌, ◌++◌, map, length, take, drop, get_or, refl, sym, ap, subst, ◌∙◌, arith, append_assoc}
+use Rattle.std.specs.Prelude.{replicate, reverse}
 use Rattle.std.specs.List.{All, AllZip}
 use Rattle.std.proofs.Math.IntN.{ℤ, pos, ◌+ℤ◌, ◌-ℤ◌, ◌*ℤ◌, neg_ℤ}
 use Rattle.std.proofs.lemmas.Int.{ints}
 use Rattle.std.proofs.lemmas.Nat.{pow_pos}
-use Rattle.std.proofs.lemmas.List.{take-replicate, drop-replicate}
+use Rattle.std.proofs.lemmas.List.{take-replicate, drop-replicate, reverse-append}
 use Rattle.std.proofs.lemmas.List.Elements.{All-nil, All-cons, All-head, All-tail}
 use lib.Signed.{◌<ℤ◌, ◌≤ℤ◌}
 use Rattle.dsv_algebra.proofs.Normaliser.{ring, env, var, num, plus, times, minus}
@@ -17,7 +17,7 @@ use Rattle.dsv_names.specs.declared.realisation.Realisation.TheVariants.{Dfi}
 use Rattle.dsv_word.specs.declared.format.Format.{Format}
 use Rattle.dsv_word.specs.Words.{IsWord}
 use Rattle.dsv_quantiser.specs.QuantisedView.{QuantisedView, IsQuantisedView, unit}
-use Rattle.dsv_system.specs.Runs.{Sampled, SampleRow, row_at, rows_from}
+use Rattle.dsv_system.specs.Runs.{Sampled, SampleRow, row_at, rows_from, past_after}
 use Rattle.dsv_system.specs.Systems.{zeros, AreInRange}
 use Rattle.dsv_system.specs.Breaks.{IsInside}
 use Rattle.dsv_system.proofs.Words.{no_break}
@@ -27,7 +27,7 @@ use Rattle.dsv_linear.specs.declared.range.Range.{Range}
 use Rattle.dsv_ellipsoid.specs.Intervals.{LiesIn, HasInterval, AreWords, line_intervals, input_interval, output_interval, sample_intervals}
 use Rattle.dsv_ellipsoid.specs.Disturbance.{disturbance, greatest_disturbance}
 use Rattle.dsv_certfile.specs.declared.ellipsoid.Ellipsoid.{Ellipsoid}
-use Rattle.dsv_ellipsoid.specs.Good.{form_of, IsGood, IsKept, NeverBreaks, StaysKept}
+use Rattle.dsv_ellipsoid.specs.Good.{form_of, IsGood, IsKeptSample, NeverBreaks, StaysKept}
 use Rattle.dsv_ellipsoid.proofs.Walks.{sum_of_products, lesser_least, greater_most}
 use Rattle.dsv_ellipsoid.proofs.Samples.{Gives, whole_line, sum_lies}
 use Rattle.dsv_ellipsoid.proofs.Rectangular.{into, off_place, at_place}
@@ -193,13 +193,15 @@ form_none d P v h =
 zero_lies : (s : Range) (z : ℤ) → z ≡ pos 0 → s.low ≤ℤ pos 0 → pos 0 ≤ℤ s.high → LiesIn s z
 zero_lies s z e p h = record { least = omega (arith, ints, e, p); most = omega (arith, ints, e, h) }
 
+last_zeros : (n i : ℕ) → ago (drop n (zeros (2 * n))) i ≡ pos 0
+last_zeros n i = ap (λ l. ago l i) (drop-replicate n (2 * n) (pos 0)) ∙ zero_at (2 * n - n) i
+
 start_stays : (q : QuantisedView) (o : Ellipsoid) → IsGood q o → Stays q o (start_as Dfi (order q) (zeros (2 * order q)))
 start_stays q o good =
     let n = order q in
     let front : (i : ℕ) → ago (take n (zeros (2 * n))) i ≡ pos 0 =
     λ i. ap (λ l. ago l i) (take-replicate n (2 * n) (pos 0) (omega arith)) ∙ zero_at n i in
-    let back : (i : ℕ) → ago (drop n (zeros (2 * n))) i ≡ pos 0 =
-    λ i. ap (λ l. ago l i) (drop-replicate n (2 * n) (pos 0)) ∙ zero_at (2 * n - n) i in
+    let back : (i : ℕ) → ago (drop n (zeros (2 * n))) i ≡ pos 0 = last_zeros n in
     let low = (lesser_least q.xlo (pos 0)).1 in
     let high = (greater_most q.xhi (pos 0)).1 in
     let none = form_none n (form_of o) (ago (drop n (zeros (2 * n)))) back in
@@ -216,8 +218,60 @@ run_all R k q o xs each e fixed good range =
     subst (λ (r : Realisation). All R (rows_from (sample_as r q) (start_as r (order q) (zeros (registers_of r (order q)))) xs)) (sym e)
     (rows_all R q o (start_as Dfi (order q) (zeros (2 * order q))) xs each fixed good range (start_stays q o good))
 
+-- ---- the state after a run
+stays_after : (q : QuantisedView) (o : Ellipsoid) (p : Past) (xs : List ℤ) → IsQuantisedView q → IsGood q o → AreInRange q.xlo q.xhi xs → Stays q o p → Stays q o (past_after (sample_as Dfi q) p xs)
+stays_after q o p [] fixed good range h = h
+stays_after q o p (x ∷ xs) fixed good range h =
+    let own = All-head (λ z. (q.xlo ≤ℤ z) × (z ≤ℤ q.xhi)) x xs range in
+    stays_after q o (sample_as Dfi q p x).past xs fixed good (All-tail (λ z. (q.xlo ≤ℤ z) × (z ≤ℤ q.xhi)) x xs range) (kept q o p x fixed good own.0 own.1 h).past
+
+-- the outputs of a run, the newest first
+newest_first : List SampleRow → List ℤ
+newest_first rs = reverse (map (λ (r : SampleRow). r.y) rs)
+
+one_before : (y : ℤ) (ys zs : List ℤ) → reverse ys ++ (y ∷ zs) ≡ reverse (y ∷ ys) ++ zs
+one_before y ys zs = sym (append_assoc (reverse ys) (y ∷ []) zs) ∙ ap (λ (l : List ℤ). l ++ zs) (sym (reverse-append (y ∷ []) ys))
+
+outputs_after : (q : QuantisedView) (p : Past) (xs : List ℤ) → (past_after (sample_as Dfi q) p xs).outputs ≡ newest_first (rows_from (sample_as Dfi q) p xs) ++ p.outputs
+unfolding newest_first
+outputs_after q p [] = refl
+outputs_after q p (x ∷ xs) =
+    let s = sample_as Dfi q p x in
+    outputs_after q s.past xs ∙ one_before s.y (map (λ (r : SampleRow). r.y) (rows_from (sample_as Dfi q) s.past xs)) p.outputs
+
+zeros_after : (ys zs : List ℤ) (i : ℕ) → ((k : ℕ) → ago zs k ≡ pos 0) → ago (ys ++ zs) i ≡ ago ys i
+zeros_after [] zs i h = h i
+zeros_after (y ∷ ys) zs zero h = refl
+zeros_after (y ∷ ys) zs (suc i) h = zeros_after ys zs i h
+
+form_alike : (d : ℕ) (P : Matrix) (v w : Vector) → ((i : ℕ) → v i ≡ w i) → form_at d P v ≡ form_at d P w
+form_alike d P v w h =
+    sum_same d (λ i. sum_to d (λ j. P i j *ℤ v i *ℤ v j)) (λ i. sum_to d (λ j. P i j *ℤ w i *ℤ w j))
+    (λ i p. sum_same d (λ j. P i j *ℤ v i *ℤ v j) (λ j. P i j *ℤ w i *ℤ w j) (λ j r. ap (λ z. P i j *ℤ z *ℤ v j) (h i) ∙ ap (λ z. P i j *ℤ w i *ℤ z) (h j)))
+
+level_after : (q : QuantisedView) (o : Ellipsoid) (xs : List ℤ) → IsQuantisedView q → IsGood q o → AreInRange q.xlo q.xhi xs
+    → form_at (order q) (form_of o) (vector_of (newest_first (rows_from (sample_as Dfi q) (start_as Dfi (order q) (zeros (2 * order q))) xs))) ≤ℤ o.level
+level_after q o xs fixed good range =
+    let n = order q in
+    let p = start_as Dfi n (zeros (2 * n)) in
+    let ys = newest_first (rows_from (sample_as Dfi q) p xs) in
+    let h = stays_after q o p xs fixed good range (start_stays q o good) in
+    let same = form_alike n (form_of o) (vector_of ys) (ago (past_after (sample_as Dfi q) p xs).outputs)
+    (λ i. sym (ap (λ l. ago l i) (outputs_after q p xs) ∙ zeros_after ys p.outputs i (last_zeros n))) in
+    omega (arith, ints, same, h.level)
+
+level_of : (k : Realisation) (q : QuantisedView) (o : Ellipsoid) (xs : List ℤ) → k ≡ Dfi → IsQuantisedView q → IsGood q o → AreInRange q.xlo q.xhi xs
+    → form_at (order q) (form_of o) (vector_of (newest_first (rows_from (sample_as k q) (start_as k (order q) (zeros (registers_of k (order q)))) xs))) ≤ℤ o.level
+level_of k q o xs e fixed good range =
+    subst (λ (r : Realisation). form_at (order q) (form_of o) (vector_of (newest_first (rows_from (sample_as r q) (start_as r (order q) (zeros (registers_of r (order q)))) xs))) ≤ℤ o.level) (sym e)
+    (level_after q o xs fixed good range)
+
 pub keeps : (q : QuantisedView) (o : Ellipsoid) → IsQuantisedView q → IsGood q o → StaysKept q o
-keeps q o fixed good xs range = run_all (IsKept q o) q.realisation q o xs (λ s x k. record { exact = k.lie; output = k.output }) good.direct fixed good range
+unfolding newest_first
+keeps q o fixed good xs range = record {
+  samples = run_all (IsKeptSample q o) q.realisation q o xs (λ s x k. record { exact = k.lie; output = k.output }) good.direct fixed good range;
+  level = level_of q.realisation q o xs good.direct fixed good range;
+}
 
 pub never : (q : QuantisedView) (o : Ellipsoid) → IsQuantisedView q → IsGood q o → NeverBreaks q
 never q o fixed good xs broken =

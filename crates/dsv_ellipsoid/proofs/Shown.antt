@@ -23,7 +23,7 @@ use Rattle.dsv_forms.specs.declared.refusal.OfferPart.TheVariants as part
 use Rattle.dsv_forms.specs.Refusals as forms
 use Rattle.dsv_algebra.proofs.KeptAway.{shown_not_negative}
 use Rattle.dsv_forms.proofs.Places.{neither_test, not_false}
-use Rattle.dsv_forms.proofs.Shown.{less, less_not, shows_not_negative, symmetric_at}
+use Rattle.dsv_forms.proofs.Shown.{less, less_not, shows_not_negative, symmetric_at, symmetric_is}
 use Rattle.dsv_certfile.specs.declared.ellipsoid.Ellipsoid.{Ellipsoid}
 use Rattle.dsv_ellipsoid.specs.declared.refusal.EllipsoidRefusal.{EllipsoidRefusal}
 use Rattle.dsv_ellipsoid.specs.declared.refusal.EllipsoidRefusal.TheVariants as refusal
@@ -36,7 +36,6 @@ use Rattle.dsv_forms.proofs.Places.{neither, first_of-append, first_before, pass
 use Rattle.dsv_ellipsoid.proofs.FirstTests.{test_stops, test_passes, tests_stop, tests_pass}
 use Rattle.dsv_ellipsoid.proofs.Runs.{keeps, never}
 use Rattle.dsv_ellipsoid.proofs.SizeLemmas.{ends_are_words}
-use Rattle.dsv_ellipsoid.proofs.Standing.{symmetric_is}
 use Rattle.dsv_ellipsoid.proofs.StepEntries.{step_turned, first_turned}
 
 -- ---- the shape

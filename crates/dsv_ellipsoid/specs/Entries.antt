@@ -1,5 +1,5 @@
 -- The entries of the step form and of the first form term by term, as a check computes them.
-use Rattle.std.specs.Prelude.{ℕ, suc, Bool, ◌&&◌, ◌==◌, nat_lt, is_none, min, max}
+use Rattle.std.specs.Prelude.{ℕ, suc, Bool, ◌&&◌, ◌==◌, nat_lt, is_none}
 use Rattle.std.specs.Prelude.{List, [], ◌∷◌, map, drop, if◌then◌else◌, ℤ, pos, neg_ℤ, ◌*ℤ◌}
 use Rattle.std.specs.List.{list_any}
 use Rattle.dsv_algebra.specs.Vectors.{Vector, Matrix}
@@ -22,7 +22,7 @@ numbered t = (t.0 ∷ (t.0 *ℤ t.1) ∷ [], t.0 *ℤ t.1)
 abbrev pub bare : ℤ → Summand
 bare z = ([], z)
 
--- ---- the step form, in places i <= j
+-- ---- the step form
 -- the terms of an entry of the form after a step, with the other sign: those of an entry of the
 -- fall form but the first
 abbrev pub image_terms : ℕ → Vector → Matrix → ℕ → ℕ → List (ℤ × ℤ)
@@ -47,8 +47,9 @@ corner_summands o = bare o.mu ∷ bare (neg_ℤ (form_of o 0 0)) ∷ []
 
 abbrev pub step_summands : ℕ → Vector → Ellipsoid → ℕ → ℕ → List Summand
 step_summands d c o i j =
-    if nat_lt j d then inside_summands d c o i j
-    else if nat_lt i d then side_summands d c o i
+    if nat_lt i d
+    then if nat_lt j d then inside_summands d c o i j else side_summands d c o i
+    else if nat_lt j d then side_summands d c o j
     else corner_summands o
 
 -- ---- the first form
@@ -56,8 +57,7 @@ abbrev pub first_summands : Ellipsoid → ℕ → ℕ → List Summand
 first_summands o i j = scaled o.nu (form_of o i j)
     ∷ (if (i == 0) && (j == 0) then bare (neg_ℤ o.kappa) ∷ [] else [])
 
--- a number on the way to one of the entries in the first n places passes 2^126; an entry and its
--- mirror image are one
+-- a number on the way to one of the entries in the first n places passes 2^126
 abbrev pub has_wide_entry : ℕ → (ℕ → ℕ → List Summand) → Bool
 has_wide_entry n summands = list_any (λ i. list_any (λ j.
-    is_none (sum_from (pos 0) (summands (min i j) (max i j)))) (places n)) (places n)
+    is_none (sum_from (pos 0) (summands i j))) (places n)) (places n)

@@ -3,7 +3,7 @@
 -- With v = (y(n-1), .., y(n-N)) and the companion matrix C of the denominator, 2^f times the next
 -- state is C v + (g, 0, .., 0) while nothing is fitted, where g is the disturbance. V is the form
 -- of the offer.
-use Rattle.std.specs.Prelude.{◌≡◌, ℕ, suc, ◌≤◌, ◌==◌, false, if◌then◌else◌, List}
+use Rattle.std.specs.Prelude.{◌≡◌, ℕ, suc, ◌≤◌, ◌==◌, false, if◌then◌else◌, List, reverse}
 use Rattle.std.specs.Prelude.{ℤ, pos, ◌+ℤ◌, ◌-ℤ◌, ◌*ℤ◌, ◌<ℤ◌, ◌≤ℤ◌}
 use Rattle.std.specs.List.{All, AllZip}
 use Rattle.dsv_algebra.specs.Vectors.{Vector, Matrix, form_at, vector_of, matrix_of, congruence}
@@ -15,7 +15,7 @@ use Rattle.dsv_system.specs.Breaks.{Breaks}
 use Rattle.dsv_system.specs.Runs.{SampleRow}
 use Rattle.dsv_system.specs.Systems.{rows, zeros, AreInRange}
 use Rattle.dsv_meaning.specs.Equations.{Past, order}
-use Rattle.dsv_meaning.specs.Systems.{equations_of}
+use Rattle.dsv_meaning.specs.Systems.{equations_of, outputs_over}
 use Rattle.dsv_certfile.specs.declared.ellipsoid.Ellipsoid.{Ellipsoid}
 use Rattle.dsv_ellipsoid.specs.Intervals.{LiesIn, HasInterval, AreWords, output_interval}
 use Rattle.dsv_ellipsoid.specs.Intervals.{sample_intervals}
@@ -68,16 +68,25 @@ pub record IsGood (q : QuantisedView) (o : Ellipsoid) : Type 0 where
   -- while no output passes the bound, each exact value is a word
   pub inside : All (AreWords q.format) (sample_intervals q o.bound)
 
--- each exact value lies in its interval, and the output in the bound
-pub record IsKept (q : QuantisedView) (o : Ellipsoid) (r : SampleRow) : Type 0 where
-  pub exact : AllZip HasInterval r.exact (sample_intervals q o.bound)
-  pub output : LiesIn (output_interval o.bound) r.y
-
 -- no list of inputs in range, of any length, breaks the controller
 abbrev pub NeverBreaks : QuantisedView → Type 0
 NeverBreaks q = (xs : List ℤ) → Breaks Past (equations_of q) q.xlo q.xhi xs → ⊥
 
--- all samples of all runs over inputs in range, from registers of zeros, are kept
+-- each exact value of a sample lies in its interval, and its output in the bound
+pub record IsKeptSample (q : QuantisedView) (o : Ellipsoid) (r : SampleRow) : Type 0 where
+  pub exact : AllZip HasInterval r.exact (sample_intervals q o.bound)
+  pub output : LiesIn (output_interval o.bound) r.y
+
+-- the outputs of a run over these inputs, from registers of zeros, the newest first
+abbrev pub last_outputs : QuantisedView → List ℤ → List ℤ
+last_outputs q xs = reverse (outputs_over q (zeros (equations_of q).many) xs)
+
+-- the run over these inputs, from registers of zeros, is kept
+pub record IsKept (q : QuantisedView) (o : Ellipsoid) (xs : List ℤ) : Type 0 where
+  pub samples : All (IsKeptSample q o) (rows (equations_of q) (zeros (equations_of q).many) xs)
+  -- after it V of the last outputs is at most the level; those before the first are 0
+  pub level : form_at (order q) (form_of o) (vector_of (last_outputs q xs)) ≤ℤ o.level
+
+-- all runs over inputs in range are kept
 abbrev pub StaysKept : QuantisedView → Ellipsoid → Type 0
-StaysKept q o = (xs : List ℤ) → AreInRange q.xlo q.xhi xs
-    → All (IsKept q o) (rows (equations_of q) (zeros (equations_of q).many) xs)
+StaysKept q o = (xs : List ℤ) → AreInRange q.xlo q.xhi xs → IsKept q o xs

@@ -1,5 +1,5 @@
 -- Serves private contracts: the entries of both forms, as the code sums them.
-use Rattle.std.specs.Prelude.{◌≡◌, ℕ, ◌+◌, ◌<◌, ◌≤◌, ◌⊎◌, min, max, ◌&&◌, ◌==◌, nat_lt}
+use Rattle.std.specs.Prelude.{◌≡◌, ℕ, ◌+◌, ◌<◌, ◌≤◌, ◌⊎◌, ◌&&◌, ◌==◌, nat_lt}
 use Rattle.std.specs.Prelude.{if◌then◌else◌, List, length, Option, Some}
 use Rattle.std.specs.Prelude.{slice_index_or}
 use Rattle.std.specs.Prelude.{ℤ, pos, neg_ℤ, ◌-ℤ◌}
@@ -29,8 +29,9 @@ corner_sum o = option_and_then (λ s. narrow_of (s -ℤ form_of o 0 0)) (narrow_
 
 abbrev pub step_sum : ℕ → Vector → Ellipsoid → ℕ → ℕ → Option ℤ
 step_sum d c o i j =
-    if nat_lt j d then inside_sum d c o i j
-    else if nat_lt i d then side_sum d c o i
+    if nat_lt i d
+    then if nat_lt j d then inside_sum d c o i j else side_sum d c o i
+    else if nat_lt j d then side_sum d c o j
     else corner_sum o
 
 abbrev pub first_sum : Ellipsoid → ℕ → ℕ → Option ℤ
@@ -51,12 +52,11 @@ places_of kind.First d = d
 -- a row of the first n entries that these sums give
 pub record IsSummedRow (n : ℕ) (sum : ℕ → ℕ → Option ℤ) (i : ℕ) (row : List ℤ) : Type 0 where
   pub size : length row ≡ greatest_order
-  pub entries : (j : ℕ) → j < n → sum (min i j) (max i j) ≡ Some (slice_index_or row j (pos 0))
+  pub entries : (j : ℕ) → j < n → sum i j ≡ Some (slice_index_or row j (pos 0))
   pub after : (j : ℕ) → n ≤ j → slice_index_or row j (pos 0) ≡ pos 0
 
 -- F has these entries in n places, and 0 elsewhere
 pub record IsSummed (n : ℕ) (sum : ℕ → ℕ → Option ℤ) (F : Form) : Type 0 where
   pub places : F.d ≡ n
-  pub entries : (i j : ℕ) → i < n → j < n
-      → sum (min i j) (max i j) ≡ Some (matrix_of F.rows i j)
+  pub entries : (i j : ℕ) → i < n → j < n → sum i j ≡ Some (matrix_of F.rows i j)
   pub elsewhere : (i j : ℕ) → (n ≤ i) ⊎ (n ≤ j) → matrix_of F.rows i j ≡ pos 0

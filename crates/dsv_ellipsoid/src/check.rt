@@ -190,7 +190,8 @@ pub fn check_ellipsoid(quantised: &Quantised, offer: &Ellipsoid) -> Result<(), E
     ensures good { IfOk result (λ _. IsGood quantised.now offer.now) }
     // No list of inputs in range, of any length, breaks the written equations.
     ensures never { IfOk result (λ _. NeverBreaks quantised.now) }
-    // Each exact value of each sample lies in its interval, and the output within the bound.
+    // Each exact value of each sample lies in its interval, the output within the bound, and the
+    // form of the last outputs is never greater than the level.
     ensures kept { IfOk result (λ _. StaysKept quantised.now offer.now) }
 {
     check_shape(quantised, offer)?;

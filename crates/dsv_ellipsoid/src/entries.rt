@@ -6,7 +6,7 @@
 // way passes 2^126.
 #![tactic(auto, using(dsv_algebra::proofs::Casts::casts))]
 
-ghost use Rattle.std.specs.Prelude.{◌≡◌, ◌<◌, ◌≤◌, ◌+◌, ◌-◌, length, min, max};
+ghost use Rattle.std.specs.Prelude.{◌≡◌, ◌<◌, ◌≤◌, ◌+◌, ◌-◌, length};
 ghost use Rattle.std.specs.Prelude.{suc, true, ◌||◌, is_none, IfSome, IfOk};
 ghost use Rattle.std.specs.List.{list_any};
 ghost use Rattle.dsv_algebra.specs.Vectors.{vector_of};
@@ -83,18 +83,21 @@ fn corner_entry(offer: &Ellipsoid) -> Option<NarrowInteger>
     sum.checked_sub(offer.form.entry(0, 0))
 }
 
-/// An entry of the step form, in the upper half.
+/// An entry of the step form.
 fn step_entry(c: &[i64], offer: &Ellipsoid, i: usize, j: usize) -> Option<NarrowInteger>
-    requires order { i ≤ j }
-    requires column { j < length c.now }
+    requires some { 1 ≤ length c.now }
     requires few { length c.now ≤ 8 }
     ensures { result ≡ step_sum (length c.now - 1) (vector_of c.now) offer.now i j }
 {
     let d = c.len() - 1;
-    if j < d {
-        inside_entry(c, offer, i, j)
-    } else if i < d {
-        side_entry(c, offer, i)
+    if i < d {
+        if j < d {
+            inside_entry(c, offer, i, j)
+        } else {
+            side_entry(c, offer, i)
+        }
+    } else if j < d {
+        side_entry(c, offer, j)
     } else {
         corner_entry(offer)
     }
@@ -126,11 +129,11 @@ fn places_of(kind: FormKind, c: &[i64]) -> usize
     }
 }
 
-/// An entry of the form, in the upper half.
+/// An entry of the form.
 fn entry(kind: FormKind, c: &[i64], offer: &Ellipsoid, i: usize, j: usize) -> Option<NarrowInteger>
     requires some { 1 ≤ length c.now }
     requires few { length c.now ≤ 8 }
-    requires order { i ≤ j }
+    requires row { i < places_of kind (length c.now - 1) }
     requires column { j < places_of kind (length c.now - 1) }
     ensures { result ≡ sum_of kind (length c.now - 1) (vector_of c.now) offer.now i j }
 {
@@ -151,14 +154,13 @@ fn form_row(
     requires few { length c.now ≤ 8 }
     requires row { i < places_of kind (length c.now - 1) }
     ensures wide { is_none result ≡ list_any (λ j. is_none (sum_of kind (length c.now - 1)
-        (vector_of c.now) offer.now (min i j) (max i j)))
-        (places (places_of kind (length c.now - 1))) }
+        (vector_of c.now) offer.now i j)) (places (places_of kind (length c.now - 1))) }
     ensures row { IfSome result (IsSummedRow (places_of kind (length c.now - 1))
         (sum_of kind (length c.now - 1) (vector_of c.now) offer.now) i) }
 {
     let mut row = [0; GREATEST_ORDER];
     for j in 0..places_of(kind, c) {
-        row[j] = entry(kind, c, offer, i.min(j), i.max(j))?.get();
+        row[j] = entry(kind, c, offer, i, j)?.get();
     }
     Some(row)
 }
@@ -168,7 +170,7 @@ pub(crate) fn tested_form(kind: FormKind, c: &[i64], offer: &Ellipsoid) -> Optio
     requires some { 1 ≤ length c.now }
     requires few { length c.now ≤ 8 }
     ensures wide { is_none result ≡ list_any (λ i. list_any (λ j. is_none
-        (sum_of kind (length c.now - 1) (vector_of c.now) offer.now (min i j) (max i j)))
+        (sum_of kind (length c.now - 1) (vector_of c.now) offer.now i j))
         (places (places_of kind (length c.now - 1)))) (places (places_of kind (length c.now - 1))) }
     ensures form { IfSome result (IsSummed (places_of kind (length c.now - 1))
         (sum_of kind (length c.now - 1) (vector_of c.now) offer.now)) }

@@ -1,8 +1,9 @@
 -- The fall form with wide entries in place of those that can't be had.
-use Rattle.std.proofs.Common.{◌≡◌, ◌⊎◌, ℕ, suc, ◌+◌, ◌<◌, ◌≤◌, Bool, true, false, not, ◌&&◌, ◌||◌, nat_lt, int_lt, if◌then◌else◌, List, [], ◌∷◌, ◌++◌, map, drop, min, max, Option, Some, None, refl, sym, ap, ◌∙◌, arith, add-one, append_assoc}
+use Rattle.std.proofs.Common.{◌≡◌, ◌⊎◌, ℕ, suc, ◌+◌, ◌<◌, ◌≤◌, Bool, true, false, not, ◌&&◌, ◌||◌, nat_lt, int_lt, if◌then◌else◌, List, [], ◌∷◌, ◌++◌, map, drop, min, max, Option, Some, None, refl, sym, ap, ◌∙◌, arith, add-one, append_assoc, inl, inr}
 use Rattle.std.proofs.Math.IntN.{ℤ, pos, negsuc, ◌+ℤ◌, ◌*ℤ◌, neg_ℤ}
-use Rattle.std.proofs.lemmas.Bool.Decides.{nat_tests, Decides-int_eq}
-use Rattle.std.specs.List.{flat_map, list_all}
+use Rattle.std.proofs.lemmas.Bool.{cases_lt}
+use Rattle.std.proofs.lemmas.Bool.Decides.{nat_tests}
+use Rattle.std.specs.List.{flat_map}
 use Rattle.std.specs.Option.{option_and_then}
 use Rattle.std.specs.Ordering.{int_eq}
 use Rattle.dsv_algebra.specs.Narrow.{is_narrow, narrow_limit}
@@ -16,7 +17,8 @@ use Rattle.dsv_forms.specs.declared.refusal.FormRefusal.{FormRefusal}
 use Rattle.dsv_forms.specs.declared.refusal.FormRefusal.TheVariants as refusal
 use Rattle.dsv_forms.specs.Refusals.{Test, first_of, places, is_symmetric, any_wide, partial_sums, weights_of, rows_of, square_terms, fall_numbers, right_side, side_numbers, place_tests, row_tests, side_tests}
 use Rattle.dsv_forms.specs.Sums.{Summand, sum_from, sum_with, product, summand_where, image_sum, fall_sum, or_too_wide, IsFallOrWide}
-use Rattle.dsv_forms.proofs.Places.{first_same, from_same, all_true}
+use Rattle.dsv_forms.proofs.Places.{first_same, from_same}
+use Rattle.dsv_forms.proofs.Shown.{symmetric_is}
 use Rattle.dsv_forms.proofs.SumLemmas.{unless, any_wide-append, sum_from-is, numbers, values, total, term, numbers-terms, values-single}
 
 -- ---- an entry
@@ -180,6 +182,17 @@ pub record AreEntriesOrWide (d : ℕ) (T : Matrix) (ways : ℕ → ℕ → List 
   pub entries : (i j : ℕ) → i < d → j < d → matrix_of F.rows i j ≡ or_too_wide (unless (any_wide (ways (min i j) (max i j))) (T (min i j) (max i j)))
   pub elsewhere : (i j : ℕ) → (d ≤ i) ⊎ (d ≤ j) → matrix_of F.rows i j ≡ pos 0
 
+in_order : (T : Matrix) (d i j : ℕ) → ((i j : ℕ) → i < d → j < d → T i j ≡ T j i) → i < d → j < d → T i j ≡ T (min i j) (max i j)
+in_order T d i j turned a b = elim (cases_lt j i) [
+  | inl below ↦ turned i j a b ∙ sym (ap (λ k. T k (max i j)) (min-turned i j ∙ smaller j i (omega arith)) ∙ ap (T j) (max-turned i j ∙ greater j i (omega arith)))
+  | inr from ↦ sym (ap (λ k. T k (max i j)) (smaller i j from) ∙ ap (T i) (greater i j from))
+]
+
+-- the entries of a symmetric form, none of which is given up
+pub entries_of : (d : ℕ) (T : Matrix) (F : Form) → ((i j : ℕ) → i < d → j < d → T i j ≡ T j i) → ((i j : ℕ) → i < d → j < d → matrix_of F.rows i j ≡ T i j)
+    → ((i j : ℕ) → (d ≤ i) ⊎ (d ≤ j) → matrix_of F.rows i j ≡ pos 0) → AreEntriesOrWide d T (λ i j. []) F
+entries_of d T F turned same elsewhere = record { entries = λ i j a b. same i j a b ∙ in_order T d i j turned a b; elsewhere = elsewhere }
+
 -- the fall form of a polynomial
 pub fall_entries : (d : ℕ) (c : Vector) (P F : Form) → IsFallOrWide d c P F → AreEntriesOrWide d (fall_entry d c (matrix_of P.rows)) (fall_numbers d c (matrix_of P.rows)) F
 fall_entries d c P F w = record {
@@ -202,10 +215,7 @@ entries_turned d T ways F w i j a b =
     ∙ sym (w.entries j i b a)
 
 pub entries_symmetric : (d : ℕ) (T : Matrix) (ways : ℕ → ℕ → List ℤ) (F : Form) → AreEntriesOrWide d T ways F → is_symmetric d (matrix_of F.rows) ≡ true
-entries_symmetric d T ways F w =
-    let R = matrix_of F.rows in
-    all_true (λ i. list_all (λ j. int_eq (R i j) (R j i)) (places d)) d
-    (λ i a. all_true (λ j. int_eq (R i j) (R j i)) d (λ j b. (Decides-int_eq (R i j) (R j i)).1 (entries_turned d T ways F w i j a b)))
+entries_symmetric d T ways F w = symmetric_is d (matrix_of F.rows) (entries_turned d T ways F w)
 
 -- the same of the fall form
 abbrev fall_at : ℕ → Vector → Form → Matrix

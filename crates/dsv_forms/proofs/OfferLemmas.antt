@@ -115,23 +115,15 @@ fall_form-from p d n s c P F places form w m h = record {
 }
 
 -- ---- an offer of a form that falls
--- the tests of an offer whose form loses T in a step, with these numbers on the way to its entries
-pub parts_with : (d : ℕ) (offer : Falls) (T : Matrix) (ways : ℕ → ℕ → List ℤ)
-    → first_of ((bad_form d offer.form, refusal.Shape part.Form) ∷ definite_tests part.Positive d offer.positive (matrix_of offer.form.rows) (λ i j. []) ++ definite_tests part.Fall d offer.fall T ways)
-    ≡ or_else (first_of (form_tests d offer.form))
-    (or_else (first_of (definite_tests part.Positive d offer.positive (matrix_of offer.form.rows) (λ i j. [])))
-    (first_of (definite_tests part.Fall d offer.fall T ways)))
-parts_with d offer T ways =
-    let P = matrix_of offer.form.rows in
-    let a = definite_tests part.Positive d offer.positive P (λ i j. []) in
-    let b = definite_tests part.Fall d offer.fall T ways in
-    first_before (bad_form d offer.form) (refusal.Shape part.Form) (a ++ b) ∙ ap (or_else (first_of (form_tests d offer.form))) (first_of-append a b)
-
 pub falls_parts : (d : ℕ) (c : Vector) (offer : Falls) → first_of (falls_tests d c offer)
     ≡ or_else (first_of (form_tests d offer.form))
     (or_else (first_of (definite_tests part.Positive d offer.positive (matrix_of offer.form.rows) (λ i j. [])))
     (first_of (definite_tests part.Fall d offer.fall (fall_entry d c (matrix_of offer.form.rows)) (fall_numbers d c (matrix_of offer.form.rows)))))
-falls_parts d c offer = parts_with d offer (fall_entry d c (matrix_of offer.form.rows)) (fall_numbers d c (matrix_of offer.form.rows))
+falls_parts d c offer =
+    let P = matrix_of offer.form.rows in
+    let a = definite_tests part.Positive d offer.positive P (λ i j. []) in
+    let b = definite_tests part.Fall d offer.fall (fall_entry d c P) (fall_numbers d c P) in
+    first_before (bad_form d offer.form) (refusal.Shape part.Form) (a ++ b) ∙ ap (or_else (first_of (form_tests d offer.form))) (first_of-append a b)
 
 -- what passes in an accepted offer
 pub record FallsPass (d : ℕ) (c : Vector) (offer : Falls) : Type 0 where
@@ -220,12 +212,6 @@ pub fall_form-definite : (p : OfferPart) (d : ℕ) (s : Squares) (c : Vector) (P
 fall_form-definite p d s c P F places form w h =
     let o = definite_passes p d s (matrix_of F.rows) (λ i j. []) h in
     fall_form-from p d d s c P F places form w o.rest.multiple o.sides
-
-pub entries_definite : (p : OfferPart) (d : ℕ) (s : Squares) (T U : Matrix) (ways : ℕ → ℕ → List ℤ) (F : Form) → AreEntriesOrWide d T ways F → ((i j : ℕ) → i < d → U i j ≡ T i j) → ((i j : ℕ) → i < d → j < d → U i j ≡ U j i)
-    → first_of (definite_tests p d s (matrix_of F.rows) (λ i j. [])) ≡ None → (i j : ℕ) → i < d → j < d → matrix_of F.rows i j ≡ U i j
-entries_definite p d s T U ways F w same turn h =
-    let o = definite_passes p d s (matrix_of F.rows) (λ i j. []) h in
-    entries_from p d d s T U ways F w same turn o.rest.multiple o.sides
 
 pub fall_form-semidefinite : (p : OfferPart) (d : ℕ) (s : Squares) (c : Vector) (P F : Form) → F.d ≡ d → is_symmetric d (matrix_of P.rows) ≡ true → IsFallOrWide d c P F
     → first_of (semidefinite_tests p d s (matrix_of F.rows) (λ i j. [])) ≡ None → IsFallForm d c P F

@@ -20,7 +20,7 @@ use Rattle.dsv_forms.specs.declared.refusal.FormRefusal.{FormRefusal}
 use Rattle.dsv_forms.specs.declared.refusal.FormRefusal.TheVariants as refusal
 use Rattle.dsv_forms.specs.Refusals.{first_of, places, any_wide, partial_sums, is_symmetric, weights_of, rows_of, rest_of, bad_rest, bad_shape, square_terms, right_side, side_numbers, place_tests, row_tests, side_tests, sizes_beside, not_dominant, dominance_tests, bad_weight, bad_row, positive_weight_tests, triangle_tests, definite_tests, too_many_rows, negative_weight, weak_weight_tests, semidefinite_tests}
 use Rattle.dsv_forms.proofs.SumLemmas.{any_wide-append}
-use Rattle.dsv_forms.proofs.Places.{or_else, neither, first_of-append, first_before, passes, neither_test, not_false, none_each, from_each, tests_each, all_each, any_each}
+use Rattle.dsv_forms.proofs.Places.{or_else, neither, first_of-append, first_before, passes, neither_test, not_false, none_each, from_each, tests_each, all_true, all_each, any_each}
 
 -- ---- the parts of a check
 pub definite_parts : (p : OfferPart) (d : ℕ) (s : Squares) (T : Matrix) (numbers : ℕ → ℕ → List ℤ) → first_of (definite_tests p d s T numbers)
@@ -119,6 +119,10 @@ sides_pass p d n s T numbers h i j q b =
 pub symmetric_at : (d : ℕ) (R : Matrix) → is_symmetric d R ≡ true → (i j : ℕ) → i < d → j < d → R i j ≡ R j i
 symmetric_at d R h i j a b =
     (Decides-int_eq (R i j) (R j i)).0 (all_each (λ j. int_eq (R i j) (R j i)) d (all_each (λ i. list_all (λ j. int_eq (R i j) (R j i)) (places d)) d h i a) j b)
+
+pub symmetric_is : (d : ℕ) (R : Matrix) → ((i j : ℕ) → i < d → j < d → R i j ≡ R j i) → is_symmetric d R ≡ true
+symmetric_is d R h = all_true (λ i. list_all (λ j. int_eq (R i j) (R j i)) (places d)) d
+    (λ i a. all_true (λ j. int_eq (R i j) (R j i)) d (λ j b. (Decides-int_eq (R i j) (R j i)).1 (h i j a b)))
 
 square-turned : (w : ℤ) (r : Vector) (i j : ℕ) → square w r i j ≡ square w r j i
 square-turned w r i j = ring (env (w ∷ r i ∷ r j ∷ [])) (times (times (var 0) (var 1)) (var 2)) (times (times (var 0) (var 2)) (var 1)) refl

@@ -17,6 +17,14 @@ abbrev pub unless : Bool → ℤ → Option ℤ
 unless true x = None
 unless false x = Some x
 
+pub unless-some : (b : Bool) (t x : ℤ) → unless b t ≡ Some x → (b ≡ false) × (x ≡ t)
+unless-some true t x h = cc
+unless-some false t x h = (refl, cc)
+
+pub unless-none : (b : Bool) (t : ℤ) → unless b t ≡ None → b ≡ true
+unless-none true t h = refl
+unless-none false t h = cc
+
 pub any_wide-append : (xs ys : List ℤ) → any_wide (xs ++ ys) ≡ (any_wide xs || any_wide ys)
 any_wide-append xs ys = list_any-append (λ z. not (is_narrow z)) xs ys
 

@@ -21,4 +21,4 @@ pub use poly::{BadPoly, GREATEST_COEFFICIENT, MOST_COEFFICIENTS, Poly};
 pub use refusal::{FormRefusal, OfferPart};
 pub use squares::{check_definite, check_semidefinite, sum_of_squares};
 pub use start_checks::check_kept_away;
-pub use sums::{negation, number_of, or_too_wide, sum_with_product};
+pub use sums::{negation, number_of, sum_with_product};

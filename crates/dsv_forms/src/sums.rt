@@ -24,7 +24,7 @@ pub fn negation(number: &i64) -> NarrowInteger
 }
 
 /// The sum, or 2^126, which is too wide, where there is none.
-pub fn or_too_wide(sum: Option<NarrowInteger>) -> i128
+pub(crate) fn or_too_wide(sum: Option<NarrowInteger>) -> i128
     ensures { result ≡ or_too_wide sum }
 {
     match sum {

@@ -1,5 +1,5 @@
 -- What a form loses in a step of a controller's states, as the code sums it.
-use Rattle.std.proofs.Common.{◌≡◌, ℕ, ◌<◌, true, List, [], ◌∷◌, ◌++◌, map, min, max, None, refl, sym, ap, ◌∙◌}
+use Rattle.std.proofs.Common.{◌≡◌, ℕ, ◌<◌, true, false, List, [], ◌∷◌, ◌++◌, map, Some, None, refl, sym, ap, ◌∙◌}
 use Rattle.std.proofs.Math.IntN.{ℤ, pos, neg_ℤ, ◌+ℤ◌, ◌-ℤ◌, ◌*ℤ◌, +ℤ_idl}
 use Rattle.std.specs.Prelude.{Option}
 use Rattle.std.specs.List.{flat_map}
@@ -11,18 +11,19 @@ use Rattle.dsv_algebra.specs.Falling.{StrictlyFalls, fall_form}
 use Rattle.dsv_algebra.proofs.Congruence.{congruence-turned}
 use Rattle.dsv_algebra.proofs.Normaliser.{ring, env, var, num, plus, times, minus}
 use Rattle.dsv_algebra.proofs.Sums.{sum_same, sum_scale}
-use Rattle.dsv_forms.specs.Refusals.{first_of, places, any_wide, is_symmetric, form_tests, definite_tests}
-use Rattle.dsv_forms.specs.Sums.{sum_with, sum_from, product, or_too_wide}
+use Rattle.dsv_forms.specs.Refusals.{first_of, places, any_wide, is_symmetric, bad_form, form_tests, definite_tests}
+use Rattle.dsv_forms.specs.Sums.{sum_with, sum_from, product}
 use Rattle.dsv_forms.specs.declared.offers.Falls.{Falls}
 use Rattle.dsv_forms.specs.declared.offers.Form.{Form}
 use Rattle.dsv_forms.specs.declared.refusal.OfferPart.TheVariants as part
-use Rattle.dsv_forms.proofs.OfferLemmas.{parts_with, definite_entries, entries_definite, falls_with}
-use Rattle.dsv_forms.proofs.Places.{or_else}
-use Rattle.dsv_forms.proofs.FallLemmas.{AreEntriesOrWide, entries_symmetric, as_summand, summands, terms_sum, total-terms}
-use Rattle.dsv_forms.proofs.SumLemmas.{unless, total, total-rows, one_summand}
+use Rattle.dsv_forms.specs.declared.refusal.FormRefusal.TheVariants as refusal
+use Rattle.dsv_forms.proofs.OfferLemmas.{definite_entries, falls_with}
+use Rattle.dsv_forms.proofs.Places.{or_else, first_before, first_of-append}
+use Rattle.dsv_forms.proofs.FallLemmas.{AreEntriesOrWide, entries_of, entries_symmetric, as_summand, summands, terms_sum, total-terms}
+use Rattle.dsv_forms.proofs.SumLemmas.{unless, unless-some, unless-none, total, total-rows, one_summand}
 use Rattle.dsv_forms.proofs.Shown.{symmetric_at}
-use Rattle.dsv_state_space.specs.Losses.{row_summands, loss_sum, IsLossOrWide}
-use Rattle.dsv_state_space.specs.StateForms.{loss_terms, loss_entry, loss_numbers, IsLossForm, state_falls_tests}
+use Rattle.dsv_state_space.specs.Losses.{row_summands, loss_sum}
+use Rattle.dsv_state_space.specs.StateForms.{loss_terms, loss_entry, loss_numbers, IsLossForm, loss_tests, state_falls_tests}
 
 -- ---- lists of lists
 flat_twice : {A B C : Type 0} (f : B → List C) (g : A → List B) (ks : List A) → flat_map f (flat_map g ks) ≡ flat_map (λ k. flat_map f (g k)) ks
@@ -52,15 +53,9 @@ later_summands d A P i j =
     ∙ flat_same (λ k. flat_map (λ t. as_summand t ∷ []) (map (λ l. (neg_ℤ (A k i) *ℤ A l j, P k l)) (places d))) (row_summands d A P i j) (places d)
     (λ k. flat_map-map (λ (t : ℤ × ℤ). as_summand t ∷ []) (λ l. (neg_ℤ (A k i) *ℤ A l j, P k l)) (places d))
 
-pub loss_sum-is : (d : ℕ) (q : ℤ) (A P : Matrix) (i j : ℕ) → loss_sum d q A P i j ≡ unless (any_wide (loss_numbers d q A P i j)) (loss_entry d q A P i j)
+loss_sum-is : (d : ℕ) (q : ℤ) (A P : Matrix) (i j : ℕ) → loss_sum d q A P i j ≡ unless (any_wide (loss_numbers d q A P i j)) (loss_entry d q A P i j)
 loss_sum-is d q A P i j =
     ap (λ ts. sum_from (pos 0) (product q q (P i j) ∷ ts)) (sym (later_summands d A P i j)) ∙ terms_sum (loss_terms d q A P i j)
-
-pub loss_entries : (d : ℕ) (q : ℤ) (A : Matrix) (P F : Form) → IsLossOrWide d q A P F → AreEntriesOrWide d (loss_entry d q A (matrix_of P.rows)) (loss_numbers d q A (matrix_of P.rows)) F
-loss_entries d q A P F w = record {
-  entries = λ i j a b. w.entries i j a b ∙ ap or_too_wide (loss_sum-is d q A (matrix_of P.rows) (min i j) (max i j));
-  elsewhere = w.elsewhere;
-}
 
 -- ---- its value
 negated_term : (a b p : ℤ) → neg_ℤ a *ℤ b *ℤ p ≡ neg_ℤ (pos 1) *ℤ (p *ℤ a *ℤ b)
@@ -69,7 +64,7 @@ negated_term a b p = ring (env (a ∷ b ∷ p ∷ [])) (times (times (minus (var
 less_all : (x c : ℤ) → x +ℤ neg_ℤ (pos 1) *ℤ c ≡ x -ℤ c
 less_all x c = ring (env (x ∷ c ∷ [])) (plus (var 0) (times (minus (num (pos 1))) (var 1))) (plus (var 0) (minus (var 1))) refl
 
-pub loss_entry-is : (d : ℕ) (q : ℤ) (A P : Matrix) (i j : ℕ) → fall_form d q A P i j ≡ loss_entry d q A P i j
+loss_entry-is : (d : ℕ) (q : ℤ) (A P : Matrix) (i j : ℕ) → fall_form d q A P i j ≡ loss_entry d q A P i j
 loss_entry-is d q A P i j =
     let first = pos 0 +ℤ q *ℤ q *ℤ P i j in
     let f : ℕ → ℕ → ℤ = λ k l. neg_ℤ (A k i) *ℤ A l j *ℤ P k l in
@@ -81,52 +76,67 @@ loss_entry-is d q A P i j =
     ∙ total-rows first f d d
     ∙ rw (all, +ℤ_idl (q *ℤ q *ℤ P i j)) (less_all (q *ℤ q *ℤ P i j) (congruence d P A i j)))
 
-pub loss_turned : (d : ℕ) (q : ℤ) (A P : Matrix) → is_symmetric d P ≡ true → (i j : ℕ) → i < d → j < d → fall_form d q A P i j ≡ fall_form d q A P j i
+loss_turned : (d : ℕ) (q : ℤ) (A P : Matrix) → is_symmetric d P ≡ true → (i j : ℕ) → i < d → j < d → fall_form d q A P i j ≡ fall_form d q A P j i
 loss_turned d q A P h i j a b = rw (symmetric_at d P h i j a b, congruence-turned d P A i j (symmetric_at d P h)) refl
 
 -- ---- the sum, product by product
 pub product_more : (o : Option ℤ) (sum f g x a b p : ℤ) → f ≡ neg_ℤ a → g ≡ b → x ≡ p → o ≡ sum_with sum (product f g x) → o ≡ sum_from sum (product (neg_ℤ a) b p ∷ [])
 product_more o sum f g x a b p e h k is = one_summand sum (product (neg_ℤ a) b p) o (is ∙ rw (e, h, k) refl)
 
+-- ---- what the tests of an entry say
+-- x is an entry of the loss, and no number on the way to it is too wide
+pub record IsEntry (d : ℕ) (q : ℤ) (A P : Matrix) (i j : ℕ) (x : ℤ) : Type 0 where
+  pub narrow : any_wide (loss_numbers d q A P i j) ≡ false
+  pub is : x ≡ fall_form d q A P i j
+
+pub entry_given : (d : ℕ) (q : ℤ) (A P : Matrix) (i j : ℕ) (x : ℤ) → loss_sum d q A P i j ≡ Some x → IsEntry d q A P i j x
+entry_given d q A P i j x h =
+    let both = unless-some (any_wide (loss_numbers d q A P i j)) (loss_entry d q A P i j) x (sym (loss_sum-is d q A P i j) ∙ h) in
+    record { narrow = both.0; is = both.1 ∙ sym (loss_entry-is d q A P i j) }
+
+pub entry_wide : (d : ℕ) (q : ℤ) (A P : Matrix) (i j : ℕ) → loss_sum d q A P i j ≡ None → any_wide (loss_numbers d q A P i j) ≡ true
+entry_wide d q A P i j h = unless-none (any_wide (loss_numbers d q A P i j)) (loss_entry d q A P i j) (sym (loss_sum-is d q A P i j) ∙ h)
+
+-- ---- the loss of a symmetric form
+loss_entries : (d : ℕ) (q : ℤ) (A : Matrix) (P F : Form) → is_symmetric d (matrix_of P.rows) ≡ true → IsLossForm d q A P F
+    → AreEntriesOrWide d (loss_entry d q A (matrix_of P.rows)) (λ i j. []) F
+loss_entries d q A P F form w =
+    let own = loss_entry-is d q A (matrix_of P.rows) in
+    entries_of d (loss_entry d q A (matrix_of P.rows)) F (λ i j a b. sym (own i j) ∙ loss_turned d q A (matrix_of P.rows) form i j a b ∙ own j i)
+    (λ i j a b. w.entries i j a b ∙ own i j) w.elsewhere
+
+pub loss_symmetric : (d : ℕ) (q : ℤ) (A : Matrix) (P F : Form) → is_symmetric d (matrix_of P.rows) ≡ true → IsLossForm d q A P F → is_symmetric d (matrix_of F.rows) ≡ true
+loss_symmetric d q A P F form w = entries_symmetric d (loss_entry d q A (matrix_of P.rows)) (λ i j. []) F (loss_entries d q A P F form w)
+
 -- ---- an offer
--- what the squares of an offer show of it
-pub record IsAccepted (d : ℕ) (q : ℤ) (A : Matrix) (offer : Falls) (F : Form) : Type 0 where
-  pub form : is_symmetric d (matrix_of offer.form.rows) ≡ true
-  pub places : F.d ≡ d
-  pub loss : IsLossOrWide d q A offer.form F
-  pub shape : first_of (form_tests d offer.form) ≡ None
-  pub first : first_of (definite_tests part.Positive d offer.positive (matrix_of offer.form.rows) (λ i j. [])) ≡ None
-  pub second : first_of (definite_tests part.Fall d offer.fall (matrix_of F.rows) (λ i j. [])) ≡ None
+-- the tests of an offer, joined as the code has them
+pub early_parts : (d : ℕ) (q : ℤ) (A : Matrix) (offer : Falls) → (let P = matrix_of offer.form.rows in first_of (state_falls_tests d q A offer)
+    ≡ or_else (first_of (form_tests d offer.form))
+    (or_else (first_of (definite_tests part.Positive d offer.positive P (λ i j. [])))
+    (or_else (first_of (loss_tests d q A P)) (first_of (definite_tests part.Fall d offer.fall (loss_entry d q A P) (λ i j. []))))))
+early_parts d q A offer =
+    let P = matrix_of offer.form.rows in
+    let a = definite_tests part.Positive d offer.positive P (λ i j. []) in
+    let b = loss_tests d q A P in
+    let c = definite_tests part.Fall d offer.fall (loss_entry d q A P) (λ i j. []) in
+    first_before (bad_form d offer.form) (refusal.Shape part.Form) (a ++ (b ++ c))
+    ∙ ap (or_else (first_of (form_tests d offer.form))) (first_of-append a (b ++ c) ∙ ap (or_else (first_of a)) (first_of-append b c))
 
--- the tests of an offer are those of its squares, and of what the code has for the form's loss
-pub state_parts : (d : ℕ) (q : ℤ) (A : Matrix) (offer : Falls) (F : Form) → IsLossOrWide d q A offer.form F → first_of (state_falls_tests d q A offer)
+-- the same, where F is what the form loses
+pub late_parts : (d : ℕ) (q : ℤ) (A : Matrix) (offer : Falls) (F : Form) → is_symmetric d (matrix_of offer.form.rows) ≡ true → IsLossForm d q A offer.form F
+    → first_of (state_falls_tests d q A offer)
     ≡ or_else (first_of (form_tests d offer.form))
     (or_else (first_of (definite_tests part.Positive d offer.positive (matrix_of offer.form.rows) (λ i j. [])))
-    (first_of (definite_tests part.Fall d offer.fall (matrix_of F.rows) (λ i j. []))))
-state_parts d q A offer F w =
+    (or_else (first_of (loss_tests d q A (matrix_of offer.form.rows))) (first_of (definite_tests part.Fall d offer.fall (matrix_of F.rows) (λ i j. [])))))
+late_parts d q A offer F form w =
     let P = matrix_of offer.form.rows in
-    parts_with d offer (loss_entry d q A P) (loss_numbers d q A P)
-    ∙ ap (λ o. or_else (first_of (form_tests d offer.form)) (or_else (first_of (definite_tests part.Positive d offer.positive P (λ i j. []))) o))
-    (sym (definite_entries part.Fall d offer.fall (loss_entry d q A P) (loss_numbers d q A P) F (loss_entries d q A offer.form F w)))
+    let before = or_else (first_of (definite_tests part.Positive d offer.positive P (λ i j. []))) in
+    early_parts d q A offer
+    ∙ ap (λ o. or_else (first_of (form_tests d offer.form)) (before (or_else (first_of (loss_tests d q A P)) o)))
+    (sym (definite_entries part.Fall d offer.fall (loss_entry d q A P) (λ i j. []) F (loss_entries d q A offer.form F form w)))
 
--- before the form's loss is looked at
-pub early_parts : (d : ℕ) (q : ℤ) (A : Matrix) (offer : Falls) → first_of (state_falls_tests d q A offer)
-    ≡ or_else (first_of (form_tests d offer.form))
-    (or_else (first_of (definite_tests part.Positive d offer.positive (matrix_of offer.form.rows) (λ i j. [])))
-    (first_of (definite_tests part.Fall d offer.fall (loss_entry d q A (matrix_of offer.form.rows)) (loss_numbers d q A (matrix_of offer.form.rows)))))
-early_parts d q A offer = parts_with d offer (loss_entry d q A (matrix_of offer.form.rows)) (loss_numbers d q A (matrix_of offer.form.rows))
-
-pub loss_symmetric : (d : ℕ) (q : ℤ) (A : Matrix) (P F : Form) → IsLossOrWide d q A P F → is_symmetric d (matrix_of F.rows) ≡ true
-loss_symmetric d q A P F w = entries_symmetric d (loss_entry d q A (matrix_of P.rows)) (loss_numbers d q A (matrix_of P.rows)) F (loss_entries d q A P F w)
-
-accepted_entries : (d : ℕ) (q : ℤ) (A : Matrix) (offer : Falls) (F : Form) → IsAccepted d q A offer F → (i j : ℕ) → i < d → j < d → matrix_of F.rows i j ≡ fall_form d q A (matrix_of offer.form.rows) i j
-accepted_entries d q A offer F a =
-    let P = matrix_of offer.form.rows in
-    entries_definite part.Fall d offer.fall (loss_entry d q A P) (fall_form d q A P) (loss_numbers d q A P) F (loss_entries d q A offer.form F a.loss) (λ i j h. loss_entry-is d q A P i j) (loss_turned d q A P a.form) a.second
-
-pub accepted_loss : (d : ℕ) (q : ℤ) (A : Matrix) (offer : Falls) (F : Form) → IsAccepted d q A offer F → IsLossForm d q A offer.form F
-accepted_loss d q A offer F a = record { places = a.places; entries = accepted_entries d q A offer F a; elsewhere = a.loss.elsewhere }
-
-pub accepted_falls : (d : ℕ) (q : ℤ) (A : Matrix) (offer : Falls) (F : Form) → IsAccepted d q A offer F → StrictlyFalls d q A (matrix_of offer.form.rows)
-accepted_falls d q A offer F a =
-    falls_with d q A offer.form F offer.positive offer.fall a.form (loss_symmetric d q A offer.form F a.loss) (accepted_entries d q A offer F a) a.first a.second
+pub loss_falls : (d : ℕ) (q : ℤ) (A : Matrix) (offer : Falls) (F : Form) → is_symmetric d (matrix_of offer.form.rows) ≡ true → IsLossForm d q A offer.form F
+    → first_of (definite_tests part.Positive d offer.positive (matrix_of offer.form.rows) (λ i j. [])) ≡ None → first_of (definite_tests part.Fall d offer.fall (matrix_of F.rows) (λ i j. [])) ≡ None
+    → StrictlyFalls d q A (matrix_of offer.form.rows)
+loss_falls d q A offer F form w first second =
+    falls_with d q A offer.form F offer.positive offer.fall form (loss_symmetric d q A offer.form F form w) w.entries first second

@@ -9,7 +9,7 @@ use Rattle.std.specs.List.{flat_map}
 use Rattle.dsv_algebra.specs.Companion.{total_from}
 use Rattle.dsv_algebra.specs.Falling.{StrictlyFalls, fall_form}
 use Rattle.dsv_algebra.specs.Vectors.{Matrix, matrix_of}
-use Rattle.dsv_forms.specs.Refusals.{Test, first_of, places, partial_sums, bad_form}
+use Rattle.dsv_forms.specs.Refusals.{Test, first_of, places, any_wide, partial_sums, bad_form}
 use Rattle.dsv_forms.specs.Refusals.{definite_tests}
 use Rattle.dsv_forms.specs.declared.offers.Falls.{Falls}
 use Rattle.dsv_forms.specs.declared.offers.Form.{Form}
@@ -56,12 +56,23 @@ abbrev pub IsStateLoss : StateView → Form → Form → Type 0
 IsStateLoss s = IsLossForm (states s) (one_of s) (matrix_of s.a)
 
 -- ---- the tests of an offer, in their order
+-- that no number on the way to an entry in row i of the loss passes 2^126
+abbrev pub loss_row_tests : ℕ → ℤ → Matrix → Matrix → ℕ → List Test
+loss_row_tests d q A P i =
+    map (λ j. (any_wide (loss_numbers d q A P i j), refusal.Wide part.Fall i j)) (places d)
+
+-- that none on the way to any entry does, row by row
+abbrev pub loss_tests : ℕ → ℤ → Matrix → Matrix → List Test
+loss_tests d q A P = flat_map (loss_row_tests d q A P) (places d)
+
+-- the form's shape, its squares, the numbers of its loss, and the squares of the loss
 abbrev pub state_falls_tests : ℕ → ℤ → Matrix → Falls → List Test
 state_falls_tests d q A offer =
     let P = matrix_of offer.form.rows in
     (bad_form d offer.form, refusal.Shape part.Form)
     ∷ definite_tests part.Positive d offer.positive P (λ i j. [])
-    ++ definite_tests part.Fall d offer.fall (loss_entry d q A P) (loss_numbers d q A P)
+    ++ (loss_tests d q A P
+    ++ definite_tests part.Fall d offer.fall (loss_entry d q A P) (λ i j. []))
 
 -- why an offer of a form isn't accepted for the controller
 abbrev pub state_falls_refusal : StateView → Falls → Option FormRefusal

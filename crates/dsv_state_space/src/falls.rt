@@ -2,24 +2,27 @@
 //
 // Lyapunov's direct method for x' = A x in words: with q = 2^frac_bits the step is A divided by q,
 // so that what the form P loses in a step is q^2 P - A^T P A, in whole numbers.
-ghost use Rattle.std.specs.Prelude.{◌≡◌, ◌<◌, ◌≤◌, ◌^◌, ℕ, length, pos, IfOk, OnOk};
-ghost use Rattle.std.specs.Prelude.{slice_index_or, min, max, true};
+ghost use Rattle.std.specs.Prelude.{◌≡◌, ◌<◌, ◌≤◌, ◌^◌, [], ◌∷◌, pos, true, IfOk, OnOk};
+ghost use Rattle.std.specs.List.{flat_map};
+ghost use Rattle.dsv_algebra.specs.Falling.{fall_form};
 ghost use Rattle.dsv_algebra.specs.Vectors.{matrix_of};
 ghost use Rattle.dsv_forms.specs.Poly.{greatest_order};
 ghost use Rattle.dsv_forms.specs.Refusals.{refusal_of, first_of, form_tests, is_symmetric};
-ghost use Rattle.dsv_forms.specs.Refusals.{places};
-ghost use Rattle.std.specs.List.{flat_map};
-ghost use Rattle.dsv_forms.specs.Sums.{sum_with, sum_from, product, or_too_wide};
-ghost use Rattle.dsv_state_space.specs.Losses.{row_summands, loss_sum, IsLossOrWide};
+ghost use Rattle.dsv_forms.specs.Refusals.{places, any_wide};
+ghost use Rattle.dsv_forms.specs.Sums.{sum_with, sum_from, product};
+ghost use Rattle.dsv_forms.specs.declared.refusal.OfferPart.TheVariants as part;
+ghost use Rattle.dsv_forms.specs.declared.refusal.FormRefusal.TheVariants as refusal;
+ghost use Rattle.dsv_state_space.specs.Losses.{row_summands, loss_sum, IsLossRow};
 ghost use Rattle.dsv_state_space.specs.StateForms.{one_of, state_falls_refusal, FallsAlongStates};
-ghost use Rattle.dsv_state_space.specs.StateForms.{IsStateLoss};
+ghost use Rattle.dsv_state_space.specs.StateForms.{IsStateLoss, loss_numbers, loss_row_tests};
+ghost use Rattle.dsv_state_space.specs.StateForms.{loss_tests};
 ghost use Rattle.dsv_state_space.specs.StateView.{states};
 
 use crate::system::StateSystem;
 use dsv_algebra::NarrowInteger;
 use dsv_forms::{
     Falls, Form, FormRefusal, GREATEST_ORDER, OfferPart, check_definite, negation, number_of,
-    or_too_wide, sum_with_product,
+    sum_with_product,
 };
 
 /// A place of a form.
@@ -118,49 +121,59 @@ fn loss_entry(system: &StateSystem, form: &Form, at: Corner) -> Option<NarrowInt
     sum_less_image(sum, system, form, at)
 }
 
-/// An entry of what the form loses in a step, or a number that is too wide where one on the way is.
-fn entry_or_too_wide(system: &StateSystem, form: &Form, at: Corner) -> i128
+/// An entry of what the form loses in a step. It is refused where a number on the way passes 2^126.
+fn tested_entry(system: &StateSystem, form: &Form, at: Corner) -> Result<i128, FormRefusal>
     requires row { at.row < states system.now }
     requires column { at.column < states system.now }
-    ensures { result ≡ or_too_wide (loss_sum (states system.now) (one_of system.now)
-        (matrix_of system.now.a) (matrix_of form.now.rows) at.row at.column) }
+    ensures refusal { refusal_of result ≡ first_of ((any_wide (loss_numbers (states system.now)
+        (one_of system.now) (matrix_of system.now.a) (matrix_of form.now.rows) at.row at.column),
+        refusal.Wide part.Fall at.row at.column) ∷ []) }
+    ensures entry { IfOk result (λ entry. entry ≡ fall_form (states system.now)
+        (one_of system.now) (matrix_of system.now.a) (matrix_of form.now.rows)
+        at.row at.column) }
 {
-    or_too_wide(loss_entry(system, form, at))
+    match loss_entry(system, form, at) {
+        Some(entry) => Ok(entry.get()),
+        None => Err(FormRefusal::Wide {
+            part: OfferPart::Fall,
+            i: at.row as u32,
+            j: at.column as u32,
+        }),
+    }
 }
 
 /// A row of what the form loses in a step.
-fn loss_row(system: &StateSystem, form: &Form, i: usize) -> [i128; GREATEST_ORDER]
+fn loss_row(
+    system: &StateSystem,
+    form: &Form,
+    i: usize,
+) -> Result<[i128; GREATEST_ORDER], FormRefusal>
     requires { i < states system.now }
-    ensures length { length result ≡ greatest_order }
-    ensures entries { (j : ℕ) → j < states system.now → slice_index_or result j (pos 0)
-        ≡ or_too_wide (loss_sum (states system.now) (one_of system.now)
-        (matrix_of system.now.a) (matrix_of form.now.rows) (min i j) (max i j)) }
-    ensures after { (j : ℕ) → states system.now ≤ j → slice_index_or result j (pos 0) ≡ pos 0 }
+    ensures refusal { refusal_of result ≡ first_of (loss_row_tests (states system.now)
+        (one_of system.now) (matrix_of system.now.a) (matrix_of form.now.rows) i) }
+    ensures row { IfOk result (IsLossRow (states system.now) (one_of system.now)
+        (matrix_of system.now.a) (matrix_of form.now.rows) i) }
 {
     let mut row = [0; GREATEST_ORDER];
     for j in 0..system.states() as usize {
-        let at = Corner {
-            row: i.min(j),
-            column: i.max(j),
-        };
-        row[j] = entry_or_too_wide(system, form, at);
+        row[j] = tested_entry(system, form, Corner { row: i, column: j })?;
     }
-    row
+    Ok(row)
 }
 
-/// What the form loses in a step. An entry with a number on the way that passes 2^126 is given as
-/// 2^126.
-pub(crate) fn loss_form(system: &StateSystem, form: &Form) -> Form
-    ensures places { result.d ≡ states system.now }
-    ensures loss { IsLossOrWide (states system.now) (one_of system.now)
-        (matrix_of system.now.a) form.now result }
+/// What the form loses in a step. It is refused at the first entry, row by row, with a number on
+/// the way that passes 2^126.
+pub(crate) fn loss_form(system: &StateSystem, form: &Form) -> Result<Form, FormRefusal>
+    ensures refusal { refusal_of result ≡ first_of (loss_tests (states system.now)
+        (one_of system.now) (matrix_of system.now.a) (matrix_of form.now.rows)) }
+    ensures loss { IfOk result (IsStateLoss system.now form.now) }
 {
     let d = system.states();
     let mut rows = [[0; GREATEST_ORDER]; GREATEST_ORDER];
     for i in 0..d as usize {
-        rows[i] = loss_row(system, form, i);
+        rows[i] = loss_row(system, form, i)?;
     }
-    Form { d, rows }
+    Ok(Form { d, rows })
 }
 
 /// Checks that a form has as many places as there are states, and is symmetric in them.
@@ -184,8 +197,8 @@ fn check_form(system: &StateSystem, form: &Form) -> Result<(), FormRefusal>
 ///
 /// # Errors
 ///
-/// The first test that refuses: the form's shape, the squares of the form itself, and the squares
-/// of what it loses.
+/// The first test that refuses: the form's shape, the squares of the form itself, the numbers on
+/// the way to what it loses, and the squares of that.
 pub fn check_state_falls(system: &StateSystem, offer: &Falls) -> Result<Form, FormRefusal>
     // The offer is accepted exactly where no test refuses.
     ensures refusal { refusal_of result ≡ state_falls_refusal system.now offer.now }
@@ -195,7 +208,7 @@ pub fn check_state_falls(system: &StateSystem, offer: &Falls) -> Result<Form, Fo
 {
     check_form(system, &offer.form)?;
     check_definite(&offer.form, &offer.positive, OfferPart::Positive)?;
-    let loss = loss_form(system, &offer.form);
+    let loss = loss_form(system, &offer.form)?;
     check_definite(&loss, &offer.fall, OfferPart::Fall)?;
     Ok(loss)
 }

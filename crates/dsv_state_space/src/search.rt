@@ -104,7 +104,7 @@ fn offer_with(system: &StateSystem, form: &Form) -> Option<Falls>
         return None;
     }
     let positive = squares_of(form)?;
-    let loss = loss_form(system, form);
+    let loss = loss_form(system, form).ok()?;
     if !loss.is_symmetric() {
         return None;
     }

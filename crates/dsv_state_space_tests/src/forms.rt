@@ -21,6 +21,31 @@ d 0.0
 end
 ";
 
+/// x' = 0.5 x in words of 2.2: A is 2, where 1 is 4.
+const HALF: &str = "dsv-state-space 1
+format 2 2
+range -1.0 1.0
+states 1
+a 0.5
+b 0.0
+c 0.0
+d 0.0
+end
+";
+
+/// x1' = 0.5 x1 - 0.25 x2, x2' = 0.25 x1 + 0.5 x2 in words of 2.2, which are 2, -1, 1 and 2 over 4.
+const TURNED: &str = "dsv-state-space 1
+format 2 2
+range -1.0 1.0
+states 2
+a 0.5 -0.25
+a 0.25 0.5
+b 0.0 0.0
+c 0.0 0.0
+d 0.0
+end
+";
+
 /// A matrix of two places, and 0 elsewhere.
 fn matrix(a: i128, b: i128, c: i128, d: i128) -> [[i128; 8]; 8] {
     [
@@ -73,9 +98,10 @@ fn the_offer_by_hand_is_accepted(rt: HostRuntime) {
     );
 }
 
-/// An offer, and why it is refused.
+/// A controller's file, an offer for it, and why that is refused.
 #[derive(Drop)]
 struct Refused {
+    text: &'static str,
     offer: Falls,
     why: FormRefusal,
 }
@@ -122,10 +148,66 @@ fn great_offer() -> Falls {
     }
 }
 
+/// No squares.
+fn no_squares() -> Squares {
+    Squares {
+        m: 1,
+        count: 0,
+        weights: [0; 8],
+        rows: matrix(0, 0, 0, 0),
+        rest: matrix(0, 0, 0, 0),
+    }
+}
+
+/// 2^123 v^2, which 16 times is 2^127, by its square, and no squares of what it loses in a step.
+fn great_square() -> Falls {
+    Falls {
+        form: Form {
+            d: 1,
+            rows: matrix(1 << 123, 0, 0, 0),
+        },
+        positive: Squares {
+            m: 1,
+            count: 1,
+            weights: [1 << 123, 0, 0, 0, 0, 0, 0, 0],
+            rows: matrix(1, 0, 0, 0),
+            rest: matrix(0, 0, 0, 0),
+        },
+        fall: no_squares(),
+    }
+}
+
+/// 2^122 less 8.
+const GREAT: i128 = (1 << 122) - 8;
+
+/// Seven eighths of it.
+const LESS: i128 = 7 * ((1 << 119) - 1);
+
+/// A form with 2^122 - 8 on the diagonal, times 16 not yet 2^126, and 7/8 of that beside it, by two
+/// squares and a rest. On the way to what it loses at 0, 1 are 14, 16 and 12.5 times 2^122 - 8, and
+/// at 1, 0 are 14, 16 and 16.875 times it: less and more than 2^126.
+fn great_turned() -> Falls {
+    Falls {
+        form: Form {
+            d: 2,
+            rows: matrix(GREAT, LESS, LESS, GREAT),
+        },
+        positive: Squares {
+            m: 1,
+            count: 2,
+            weights: [1, 1, 0, 0, 0, 0, 0, 0],
+            rows: matrix(1, 0, 0, 1),
+            rest: matrix(GREAT - 1, LESS, LESS, GREAT - 1),
+        },
+        fall: no_squares(),
+    }
+}
+
 /// A form of three places, one that isn't symmetric, and one that is twice the offered one.
 fn refused_forms() -> [Refused; 3] {
     [
         Refused {
+            text: UPPER,
             offer: with_form(Form {
                 d: 3,
                 rows: matrix(1, 0, 0, 1),
@@ -135,6 +217,7 @@ fn refused_forms() -> [Refused; 3] {
             },
         },
         Refused {
+            text: UPPER,
             offer: with_form(Form {
                 d: 2,
                 rows: matrix(1, 1, 0, 1),
@@ -144,6 +227,7 @@ fn refused_forms() -> [Refused; 3] {
             },
         },
         Refused {
+            text: UPPER,
             offer: with_form(Form {
                 d: 2,
                 rows: matrix(2, 0, 0, 2),
@@ -161,6 +245,7 @@ fn refused_forms() -> [Refused; 3] {
 fn refused_rests() -> [Refused; 4] {
     [
         Refused {
+            text: UPPER,
             offer: with_rest(matrix(10, -2, -2, 10)),
             why: FormRefusal::Identity {
                 part: OfferPart::Fall,
@@ -169,6 +254,7 @@ fn refused_rests() -> [Refused; 4] {
             },
         },
         Refused {
+            text: UPPER,
             offer: with_rest(matrix(11, -1, -1, 10)),
             why: FormRefusal::Identity {
                 part: OfferPart::Fall,
@@ -177,6 +263,7 @@ fn refused_rests() -> [Refused; 4] {
             },
         },
         Refused {
+            text: UPPER,
             offer: with_rest(matrix(11, -2, -2, 11)),
             why: FormRefusal::Identity {
                 part: OfferPart::Fall,
@@ -185,6 +272,7 @@ fn refused_rests() -> [Refused; 4] {
             },
         },
         Refused {
+            text: UPPER,
             offer: with_rest(matrix(10, -2, -2, 11)),
             why: FormRefusal::Identity {
                 part: OfferPart::Fall,
@@ -195,10 +283,12 @@ fn refused_rests() -> [Refused; 4] {
     ]
 }
 
-/// A weight of 0 after an entry that is wrong, and entries that are too great.
-fn refused_numbers() -> [Refused; 2] {
+/// A weight of 0 after an entry that is wrong, and numbers that are too great before squares that
+/// aren't there: at the first place, and below the diagonal alone.
+fn refused_numbers() -> [Refused; 4] {
     [
         Refused {
+            text: UPPER,
             offer: with_weights([11, 0, 0, 0, 0, 0, 0, 0]),
             why: FormRefusal::Weight {
                 part: OfferPart::Fall,
@@ -206,10 +296,29 @@ fn refused_numbers() -> [Refused; 2] {
             },
         },
         Refused {
+            text: UPPER,
             offer: great_offer(),
             why: FormRefusal::Wide {
                 part: OfferPart::Fall,
                 i: 0,
+                j: 0,
+            },
+        },
+        Refused {
+            text: HALF,
+            offer: great_square(),
+            why: FormRefusal::Wide {
+                part: OfferPart::Fall,
+                i: 0,
+                j: 0,
+            },
+        },
+        Refused {
+            text: TURNED,
+            offer: great_turned(),
+            why: FormRefusal::Wide {
+                part: OfferPart::Fall,
+                i: 1,
                 j: 0,
             },
         },
@@ -218,7 +327,7 @@ fn refused_numbers() -> [Refused; 2] {
 
 /// Whether an offer is refused so.
 fn is_refused(row: &Refused) -> bool {
-    match system_of(UPPER) {
+    match system_of(row.text) {
         Some(system) => match check_state_falls(&system, &row.offer) {
             Ok(_) => false,
             Err(why) => why == row.why,

@@ -1,4 +1,4 @@
-use Rattle.std.proofs.Common.{◌≡◌, ◌≢◌, ℕ, ◌-◌, ◌<◌, Bool, true, ℤ, length, min, max, Some, below_more, get_or-set_other, get_or-set_same, length-set, sym, ap, arith, rules, ◌∙◌}
+use Rattle.std.proofs.Common.{◌≡◌, ◌≢◌, ℕ, ◌-◌, ◌<◌, Bool, true, ℤ, length, Some, below_more, get_or-set_other, get_or-set_same, length-set, sym, ap, arith, rules, ◌∙◌}
 use Rattle.std.specs.Prelude.{is_none}
 use Rattle.std.proofs.lemmas.Int.{to_z-of_z}
 use mir.Syntax.{w128}
@@ -11,11 +11,10 @@ use Rattle.dsv_ellipsoid.proofs.entries.form_row.Goals as goal
 pub returns-in_err-entry-clause-wide : goal.returns-in_err-entry-clause-wide
 returns-in_err-entry-clause-wide c =
     let d = length c.args.c.now - 1 in
-    let wide : ℕ → Bool = λ j. is_none (sum_of c.args.kind d (vector_of c.args.c.now) c.args.offer.now (min c.args.i j) (max c.args.i j)) in
-    let is = rw (c.min.ensures, c.max.ensures) at c.entry.ensures in
+    let wide : ℕ → Bool = λ j. is_none (sum_of c.args.kind d (vector_of c.args.c.now) c.args.offer.now c.args.i j) in
     let gone : is_none c.from_residual.result ≡ true = search rules in
     let inside : c.loop-j.j < places_of c.args.kind d = rw c.places_of-j-end.ensures at c.loop-j-test.true in
-    gone ∙ sym (any_true wide (places_of c.args.kind d) c.loop-j.j inside (ap is_none (sym is ∙ c.in_err-entry.was)))
+    gone ∙ sym (any_true wide (places_of c.args.kind d) c.loop-j.j inside (ap is_none (sym c.entry.ensures ∙ c.in_err-entry.was)))
 
 pub loop-j-preserved : goal.loop-j-preserved
 loop-j-preserved c =
@@ -25,8 +24,7 @@ loop-j-preserved c =
     let long = c.loop-j.invariant.size in
     let few : j < 8 = search rules in
     let inside : j < length c.loop-j.row = omega (arith, long, few) in
-    let is = rw (c.min.ensures, c.max.ensures) at c.entry.ensures in
-    let own = sym is ∙ c.in_ok-entry.was ∙ ap Some (sym c.get.ensures) in
+    let own = sym c.entry.ensures ∙ c.in_ok-entry.was ∙ ap Some (sym c.get.ensures) in
     rw (to_z-of_z w128 x fits) (record {
       size = length-set c.loop-j.row j x ∙ long;
       entries = below_more _ _ (λ k h. let apart : k ≢ j = omega arith in rw get_or-set_other (c.loop-j.invariant.entries k h)) (rw get_or-set_same own);
@@ -36,6 +34,6 @@ loop-j-preserved c =
 pub returns-clause-wide : goal.returns-clause-wide
 returns-clause-wide c =
     let d = length c.args.c.now - 1 in
-    let wide : ℕ → Bool = λ j. is_none (sum_of c.args.kind d (vector_of c.args.c.now) c.args.offer.now (min c.args.i j) (max c.args.i j)) in
+    let wide : ℕ → Bool = λ j. is_none (sum_of c.args.kind d (vector_of c.args.c.now) c.args.offer.now c.args.i j) in
     let n : c.places_of-j-end.result ≡ places_of c.args.kind d = c.places_of-j-end.ensures in
     sym (any_false wide (places_of c.args.kind d) (λ k h. ap is_none (c.loop-j.invariant.entries k (omega (arith, n, h)))))

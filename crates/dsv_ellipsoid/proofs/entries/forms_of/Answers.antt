@@ -11,4 +11,4 @@ returns-clause-step c =
 
 pub returns-clause-first : goal.returns-clause-first
 returns-clause-first c =
-    first_stands (length c.args.c.now - 1) c.args.offer.now c.in_ok-tested_form-2.field-0 c.in_ok-tested_form-2.ensures.form
+    first_stands (length c.args.c.now - 1) c.args.offer.now c.in_ok-tested_form-2.field-0 c.requires.form c.in_ok-tested_form-2.ensures.form
