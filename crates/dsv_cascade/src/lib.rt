@@ -3,6 +3,7 @@
 
 mod cascade;
 mod gain;
+mod law;
 mod netlist;
 mod overflow;
 mod simulation;
@@ -10,6 +11,7 @@ mod stability;
 
 pub use cascade::{Cascade, CascadeRefusal, MOST_SECTIONS};
 pub use gain::{cascade_gain, driven_cascade};
+pub use law::longest_cascade;
 pub use netlist::cascade_net;
 pub use overflow::cascade_overflow;
 pub use simulation::simulate_cascade;

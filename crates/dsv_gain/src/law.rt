@@ -1,7 +1,10 @@
 // What the ranges of a gain say.
+ghost use Rattle.std.specs.Prelude.{◌≡◌};
+ghost use Rattle.dsv_gain.specs.Controllers.{most_driven};
 ghost use Rattle.dsv_gain.specs.Safe.{GainsAreSafe, GainsAreFoundAgain, DepthsForgetStarts};
 ghost use Rattle.dsv_gain.specs.Near.{OutputsStayNear, RegistersStayNear, ControllersStayNear};
 ghost use Rattle.dsv_gain.specs.Near.{OffersFit};
+ghost use Rattle.dsv_gain.specs.declared.lists.TheConstants.{MOST_DRIVEN};
 
 /// In every run of a netlist from registers of zeros, over inputs in range, of any length, each
 /// exact value lies in its range of the gain, whose ends are words.
@@ -41,4 +44,10 @@ pub fn controllers_stay_near()
 /// An offer that shows a range has a range of words for each register.
 pub fn offers_fit()
     ensures { OffersFit }
+{}
+
+/// The law of [`MOST_DRIVEN`](crate::MOST_DRIVEN), for proofs: it is the limit that contracts name.
+/// The call does nothing.
+pub fn longest_list()
+    ensures { MOST_DRIVEN ≡ most_driven }
 {}

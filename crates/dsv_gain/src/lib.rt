@@ -24,8 +24,8 @@ pub use controllers::{controller_error, overflow_gain, rounding_error};
 pub use error_ranges::error_of;
 pub use error_search::error_bound;
 pub use law::{
-    controllers_stay_near, depths_forget_starts, gains_are_found_again, gains_are_safe, offers_fit,
-    outputs_stay_near, registers_stay_near,
+    controllers_stay_near, depths_forget_starts, gains_are_found_again, gains_are_safe,
+    longest_list, offers_fit, outputs_stay_near, registers_stay_near,
 };
 pub use lists::{MOST_DRIVEN, driven_overflow, driven_trace};
 pub use outlook::{Gain, Outlook};

@@ -5,7 +5,8 @@
 // pulse. Rounding seldom does its worst beside them, so a list may have to be longer than the worst
 // case says. At the sample at which the ranges leave the words the lists of all values are tried;
 // at later samples, to keep the time in bounds, those of the two values that are driven farthest.
-ghost use Rattle.std.specs.Prelude.{◌<◌, ◌≤◌, ◌≤ℤ◌, List, ℤ, length, IfOk, IfSome};
+ghost use Rattle.std.specs.Prelude.{◌≡◌, ◌<◌, ◌≤◌, ◌+◌, ◌-◌, ◌*◌, ◌≤ℤ◌, List, ℤ, length};
+ghost use Rattle.std.specs.Prelude.{IfOk, IfSome};
 ghost use Rattle.std.specs.List.{All};
 ghost use Rattle.dsv_system.specs.Systems.{AreInRange};
 ghost use Rattle.dsv_word.specs.Words.{IsWord};
@@ -156,7 +157,9 @@ impl<'a> Driver<'a> {
 
 /// The last sample whose lists are tried.
 fn last_sample(sample: u32) -> u32
-    ensures { result < most_driven }
+    ensures few { result < most_driven }
+    ensures near { sample < 2016 → result ≡ 2 * sample + 64 }
+    ensures far { 2016 ≤ sample → result ≡ most_driven - 1 }
 {
     if sample < (MOST_DRIVEN - 64) / 2 {
         2 * sample + 64

@@ -4,6 +4,7 @@
 mod falls;
 mod gain;
 mod lane;
+mod law;
 mod netlist;
 mod place;
 mod quantisation;
@@ -15,6 +16,7 @@ mod verdicts;
 
 pub use falls::check_state_falls;
 pub use gain::{driven_state, state_gain};
+pub use law::largest_system;
 pub use netlist::state_net;
 pub use place::Place;
 pub use quantisation::quantise_state;
