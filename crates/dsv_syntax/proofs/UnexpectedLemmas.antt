@@ -32,11 +32,11 @@ abbrev next : ℕ → List Token → Parser → Result Syntax FileRefusal
 next end ts q = parsed_from end q ts
 
 -- the tokens are read, and then others
-reads_on : (end : ℕ) (p : Parser) (ts : List Token) (q : Parser) (us : List Token) → Leads p ts q → parsed_from end p (ts ++ us) ≡ parsed_from end q us
+pub reads_on : (end : ℕ) (p : Parser) (ts : List Token) (q : Parser) (us : List Token) → Leads p ts q → parsed_from end p (ts ++ us) ≡ parsed_from end q us
 reads_on end p ts q us (Leads.here p' h) = refl
 reads_on end p ts q us (Leads.step p' m q' t rest e h) = ap (λ x. x >>= next end (rest ++ us)) e ∙ reads_on end m rest q' us h
 
-goes_on : (p : Parser) (ts : List Token) (q : Parser) → Leads p ts q → CanGoOn q.place q.depth
+pub goes_on : (p : Parser) (ts : List Token) (q : Parser) → Leads p ts q → CanGoOn q.place q.depth
 goes_on p ts q (Leads.here p' h) = h
 goes_on p ts q (Leads.step p' m q' t rest e h) = goes_on m rest q' h
 
@@ -73,7 +73,7 @@ one_more : (p : Parser) (t : Token) (ts : List Token) (x : Result Parser FileRef
 one_more p t ts (Ok q) e h s ih = longer p q t ts e (ih q s)
 one_more p t ts (Err r) e h s ih = Ends.refuses p (t ∷ ts) [] p t ts s.0 refl (Leads.here p h) (e ∙ ap Err s.1)
 
-ends : (ts : List Token) (p : Parser) → CanGoOn p.place p.depth → Ends p ts
+pub ends : (ts : List Token) (p : Parser) → CanGoOn p.place p.depth → Ends p ts
 ends [] p h = Ends.all p [] p (Leads.here p h)
 ends (t ∷ ts) p h = one_more p t ts (step_at p.place t.kind t p) refl h (step_leads p.place t.kind t p h) (ends ts)
 
@@ -84,25 +84,25 @@ whole_refuses end (Some s) None es r e = (wanted.Declaration, cc)
 whole_refuses end None i es r e = (wanted.Declaration, cc)
 
 -- a refusal at the end names it
-end_refuses : (pl : Place) (end : ℕ) (p : Parser) (r : FileRefusal) → finish_at pl end p ≡ Err r → (w : Wanted) × (r ≡ refusal.Unexpected end w)
+pub end_refuses : (pl : Place) (end : ℕ) (p : Parser) (r : FileRefusal) → finish_at pl end p ≡ Err r → (w : Wanted) × (r ≡ refusal.Unexpected end w)
 end_refuses place.Declaration end p r e = whole_refuses end p.closed.system p.closed.implementation p.entries r e
 end_refuses pl end p r e = (wanted_at pl, cc)
 
 -- after all tokens the end decides
-all_read : (end : ℕ) (ts : List Token) (q : Parser) → Leads start ts q → syntax_of end ts ≡ finish_at q.place end q
-all_read end ts q h = ap (syntax_of end) (sym (append-nil ts)) ∙ reads_on end start ts q [] h
+pub all_read : (end : ℕ) (first : Parser) (ts : List Token) (q : Parser) → Leads first ts q → parsed_from end first ts ≡ finish_at q.place end q
+all_read end first ts q h = ap (parsed_from end first) (sym (append-nil ts)) ∙ reads_on end first ts q [] h
 
-stops_read : (end : ℕ) (ts before : List Token) (q : Parser) (t : Token) (after : List Token) (w : Wanted) →
-    ts ≡ before ++ t ∷ after → Leads start before q → step_at q.place t.kind t q ≡ Err (refusal.Unexpected t.at w) → syntax_of end ts ≡ Err (refusal.Unexpected t.at w)
-stops_read end ts before q t after w e h i = ap (syntax_of end) e ∙ reads_on end start before q (t ∷ after) h ∙ ap (λ x. x >>= next end after) i
+pub stops_read : (end : ℕ) (first : Parser) (ts before : List Token) (q : Parser) (t : Token) (after : List Token) (w : Wanted) →
+    ts ≡ before ++ t ∷ after → Leads first before q → step_at q.place t.kind t q ≡ Err (refusal.Unexpected t.at w) → parsed_from end first ts ≡ Err (refusal.Unexpected t.at w)
+stops_read end first ts before q t after w e h i = ap (parsed_from end first) e ∙ reads_on end first before q (t ∷ after) h ∙ ap (λ x. x >>= next end after) i
 
 -- ---- the law
 
 refusal_kind : (end : ℕ) (ts : List Token) (r : FileRefusal) → Ends start ts → syntax_of end ts ≡ Err r → (at : ℕ) × (w : Wanted) × (r ≡ refusal.Unexpected at w)
 refusal_kind end ts r (Ends.all p ts' q h) e =
-    let why = end_refuses q.place end q r (sym (all_read end ts q h) ∙ e) in (end, why.0, why.1)
+    let why = end_refuses q.place end q r (sym (all_read end start ts q h) ∙ e) in (end, why.0, why.1)
 refusal_kind end ts r (Ends.refuses p ts' before q t after w f h i) e =
-    let read : syntax_of end ts ≡ Err (refusal.Unexpected t.at w) = stops_read end ts before q t after w f h i in
+    let read : syntax_of end ts ≡ Err (refusal.Unexpected t.at w) = stops_read end start ts before q t after w f h i in
     (t.at, w, cc)
 
 pub each_refusal : (end : ℕ) (ts : List Token) (r : FileRefusal) → syntax_of end ts ≡ Err r → (at : ℕ) × (w : Wanted) × (r ≡ refusal.Unexpected at w)
@@ -110,7 +110,7 @@ each_refusal end ts r e = refusal_kind end ts r (ends ts start tt) e
 
 refused_by : (end : ℕ) (ts : List Token) (at : ℕ) (w : Wanted) → Ends start ts → syntax_of end ts ≡ Err (refusal.Unexpected at w) → IsUnexpectedAt end ts at
 refused_by end ts at w (Ends.all p ts' q h) e =
-    let why = end_refuses q.place end q (refusal.Unexpected at w) (sym (all_read end ts q h) ∙ e) in
+    let why = end_refuses q.place end q (refusal.Unexpected at w) (sym (all_read end start ts q h) ∙ e) in
     let same : refusal.Unexpected at w ≡ refusal.Unexpected end why.0 = why.1 in
     IsUnexpectedAt.early end ts at (record {
       place = cc;
@@ -118,7 +118,7 @@ refused_by end ts at w (Ends.all p ts' q h) e =
       no_file = λ s f. let read : syntax_of end ts ≡ Ok s = file_read end ts s f in cc;
     })
 refused_by end ts at w (Ends.refuses p ts' before q t after v f h i) e =
-    let read : syntax_of end ts ≡ Err (refusal.Unexpected t.at v) = stops_read end ts before q t after v f h i in
+    let read : syntax_of end ts ≡ Err (refusal.Unexpected t.at v) = stops_read end start ts before q t after v f h i in
     IsUnexpectedAt.token end ts at (record {
       before = before;
       token = t;
@@ -152,7 +152,7 @@ leads_by ts (Ends.all p ts' q h) b = record { to = q; leads = h }
 leads_by ts (Ends.refuses p ts' before q t after w f h i) b =
     absurd (begins_none before q t (refusal.Unexpected t.at w) h i (begins_before before t after (subst Begins f b)))
 
-one_longer : (p : Parser) (ts : List Token) (q : Parser) (t : Token) (m : Parser) → Leads p ts q → step_at q.place t.kind t q ≡ Ok m → CanGoOn m.place m.depth → Leads p (ts ++ t ∷ []) m
+pub one_longer : (p : Parser) (ts : List Token) (q : Parser) (t : Token) (m : Parser) → Leads p ts q → step_at q.place t.kind t q ≡ Ok m → CanGoOn m.place m.depth → Leads p (ts ++ t ∷ []) m
 one_longer p ts q t m (Leads.here p' h) e g = Leads.step p m m t [] e (Leads.here m g)
 one_longer p ts q t m (Leads.step p' n q' u rest f h) e g = Leads.step p n m u (rest ++ t ∷ []) f (one_longer n rest q t m h e g)
 
@@ -160,13 +160,13 @@ stopped_by : (end : ℕ) (ts : List Token) (at : ℕ) (s : StopsAt ts at) (q : P
     step_at q.place s.token.kind s.token q ≡ x → IsStep s.token x → (w : Wanted) × (syntax_of end ts ≡ Err (refusal.Unexpected at w))
 stopped_by end ts at s q h (Ok m) e g = absurd (s.none (begins (s.before ++ s.token ∷ []) m (one_longer start s.before q s.token m h e g)))
 stopped_by end ts at s q h (Err r) e g =
-    (g.0, stops_read end ts s.before q s.token s.after g.0 s.whole h (e ∙ ap Err g.1) ∙ ap (λ x. Err (refusal.Unexpected x g.0)) s.place)
+    (g.0, stops_read end start ts s.before q s.token s.after g.0 s.whole h (e ∙ ap Err g.1) ∙ ap (λ x. Err (refusal.Unexpected x g.0)) s.place)
 
 early_by : (end : ℕ) (ts : List Token) (at : ℕ) → EndsEarly end ts at → (q : Parser) → Leads start ts q → (x : Result Syntax FileRefusal) →
     syntax_of end ts ≡ x → (w : Wanted) × (syntax_of end ts ≡ Err (refusal.Unexpected at w))
 early_by end ts at s q h (Ok f) e = absurd (s.no_file f (file_taken end ts f e))
 early_by end ts at s q h (Err r) e =
-    let why = end_refuses q.place end q r (sym (all_read end ts q h) ∙ e) in
+    let why = end_refuses q.place end q r (sym (all_read end start ts q h) ∙ e) in
     (why.0, e ∙ ap Err (why.1) ∙ ap (λ x. Err (refusal.Unexpected x why.0)) s.place)
 
 pub stops_where_refused : (end : ℕ) (ts : List Token) (at : ℕ) → IsUnexpectedAt end ts at → (w : Wanted) × (syntax_of end ts ≡ Err (refusal.Unexpected at w))
