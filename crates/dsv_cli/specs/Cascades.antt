@@ -116,8 +116,7 @@ pub record IsCascadeOf (old : FilesSeen) (asked : AskedCascade) (c : CascadeView
   pub cascade : IsCascade c
 
 -- ---- what the tasks come to
--- The list is so many inputs long at most, and the job over it no larger than what is asked of
--- formulas.
+-- the job over so many samples is no larger than what is asked of formulas
 abbrev pub IsWithinSize : CascadeView → ℕ → Type 0
 IsWithinSize c samples = cascade_job_size_of c samples ≤ most_size
 

@@ -83,6 +83,7 @@ WantsForm other = ⊥
 abbrev pub AsksSchurCohn : Task → Type 0
 AsksSchurCohn task = (property : RootProperty) × (task ≡ decides property true)
 
+-- the request is to decide a polynomial, with the Schur-Cohn form first of all
 abbrev pub WantsSchurCohn : Option Request → Type 0
 WantsSchurCohn (Some (on_file job)) = AsksSchurCohn job.task
 WantsSchurCohn (Some (on_loop asked)) = asked.schur_cohn ≡ true

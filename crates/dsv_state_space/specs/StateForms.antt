@@ -52,6 +52,7 @@ pub record IsLossForm (d : ℕ) (q : ℤ) (A : Matrix) (P F : Form) : Type 0 whe
       → matrix_of F.rows i j ≡ fall_form d q A (matrix_of P.rows) i j
   pub elsewhere : (i j : ℕ) → (d ≤ i) ⊎ (d ≤ j) → matrix_of F.rows i j ≡ pos 0
 
+-- F is what P loses in a step of the controller's states
 abbrev pub IsStateLoss : StateView → Form → Form → Type 0
 IsStateLoss s = IsLossForm (states s) (one_of s) (matrix_of s.a)
 
