@@ -187,15 +187,22 @@ PAGE = (
      "IsTested tested_of ShowsFall StrictlyFallsAlong StrictlyFalls ShowsKeptAway IsKeptAwayAlong IsKeptAway "
      "ShowsNoForm closed_form_of jury_of WantsSchurCohn IsBeyond IsTimed IsTimingOf IsOnTime"),
     ("Certificates, generated controllers", "What a check says, and what a tally says.",
-     "longest_certificate IsCheckOf Passes IsChecked HasShown IsShownOf IsFaulty IsRefusedAt IsOfGeneration "
+     "longest_certificate IsCheckOf Passes IsChecked HasShown IsShownOf IsNearOf ShowsError IsFaulty IsRefusedAt IsOfGeneration "
      "IsGeneratedFrom"),
     ("What is written, and what stays", "The output, the status, and the files afterwards.",
      "IsWritten dsv_report:output_of answer_text stop_text IfWhole IsTyped AreKept"),
     ("Proposers", "What becomes of the lists of objects that offer forms and sets.",
      "IsAsked AreSetsAsked WantsForm WantsSet IfNoForm is_low"),
-    ("Four laws over the table", "What holds of all answers together.",
-     "HaveOneAnswer IsSettled SameAnswer AreDecided IsRefusedByNone IsVerdict WrittenAreAccepted WrittenLoopsAreAccepted IsAcceptance"),
+    ("Five laws over the table", "What holds of all answers together.",
+     "HaveOneAnswer IsSettled SameAnswer AreDecided IsRefusedByNone IsVerdict WrittenAreAccepted WrittenLoopsAreAccepted IsAcceptance "
+     "WrittenStateFormsAreAccepted form_check IsFormAcceptance"),
 )
+# Laws of other crates that say what a definition of the page means.
+LAWS_BESIDE = {
+    "dsv_loop:loop_of": "`loop_is_its_recursion` (`dsv_loop`) says what it is to the signals in the loop, both ways, and "
+                        "`runs_meet_the_transfer_function` (`dsv_transfer`) that exact runs have the coefficients that it is made of.",
+    "tested_of": "`runs_meet_the_transfer_function` (`dsv_transfer`) says that exact runs of the written equations meet its coefficients.",
+}
 
 
 def place_of(key):
@@ -246,7 +253,8 @@ def page(definitions, listed, types):
             key = named(listed, name)
             shown.add(key)
             crate, file = place_of(key)
-            lines.append(wrapped(f"- `{name}` (`{crate}/specs/{file}`): {gloss(definitions[key][0])}"))
+            beside = " ".join(filter(None, (gloss(definitions[key][0]), LAWS_BESIDE.get(name))))
+            lines.append(wrapped(f"- `{name}` (`{crate}/specs/{file}`): {beside}"))
         lines.append("")
     rest = [key[1] for key in listed if key not in shown and is_of_headline(key)]
     lines += [wrapped("The same files also have " + ", ".join(f"`{name}`" for name in rest) + "."), ""]
