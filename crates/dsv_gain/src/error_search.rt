@@ -41,8 +41,8 @@ fn are_same(a: &[Range], b: &[Range]) -> bool {
     true
 }
 
-/// The ranges of what is fitted up to one more sample, of runs from registers without differences, if
-/// they are known.
+/// The ranges of what is fitted up to one more sample, of runs from registers without differences,
+/// if they are known.
 fn seen_after(
     alloc: Global,
     nodes: &[Node],
@@ -235,7 +235,8 @@ impl BoxTest<'_> {
         }))
     }
 
-    /// The last of the samples below the limit after which differences from the box are in it again.
+    /// The last of the samples below the limit after which differences from the box are in it
+    /// again.
     fn depth(&self, alloc: Global, pass: Pass, limit: u32) -> Result<Option<u32>, NoMemory> {
         let mut search = DepthSearch {
             pass,

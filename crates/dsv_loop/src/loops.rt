@@ -133,14 +133,13 @@ fn polynomial_with(list: &[i128]) -> Result<Poly, LoopRefusal>
 ///
 /// # Errors
 ///
-/// In this order: where the controller has an order of 1 or more and is in delta direct form I, whose
-/// first registers add up its inputs and are poles of the loop at 1; where the plant's sample time is
-/// another; where both answer an input at once; where the loop's order is over 8; and where a number
-/// on the way is too wide. That is the index
-/// of [`z_list`] where the controller's coefficients can't be had in z, those of A first, the index
-/// 0 where the plant's can't be made whole below 2^126, the least index of a loop's coefficient of
-/// which a product or a partial sum passes 2^126, or else the least index of one that is over 2^44
-/// in size.
+/// In this order: where the controller has an order of 1 or more and is in delta direct form I,
+/// whose first registers add up its inputs and are poles of the loop at 1; where the plant's sample
+/// time is another; where both answer an input at once; where the loop's order is over 8; and where
+/// a number on the way is too wide. That is the index of [`z_list`] where the controller's
+/// coefficients can't be had in z, those of A first, the index 0 where the plant's can't be made
+/// whole below 2^126, the least index of a loop's coefficient of which a product or a partial sum
+/// passes 2^126, or else the least index of one that is over 2^44 in size.
 ///
 /// [`z_list`]: dsv_tested::z_list
 pub fn loop_polynomial(

@@ -31,8 +31,10 @@ fn fields_of(alloc: Global, (b, a): (&str, &str)) -> Option<String> {
 fn controller_of(alloc: Global, coefficients: (&str, &str)) -> Option<Controller> {
     let fields = fields_of(alloc, coefficients)?;
     let text = format!(in alloc;
-        "digital_system c={{{fields}}};implementation i={{.int_bits=4,.frac_bits=12,.max=1,.min=-1,.delta=0.25}};"
-    ).ok()?;
+        "digital_system c={{{fields}}};\
+         implementation i={{.int_bits=4,.frac_bits=12,.max=1,.min=-1,.delta=0.25}};"
+    )
+    .ok()?;
     read(alloc, text.as_bytes()).ok()
 }
 

@@ -125,9 +125,11 @@ fn loss_entry(system: &StateSystem, form: &Form, at: Corner) -> Option<NarrowInt
 fn tested_entry(system: &StateSystem, form: &Form, at: Corner) -> Result<i128, FormRefusal>
     requires row { at.row < states system.now }
     requires column { at.column < states system.now }
-    ensures refusal { refusal_of result ≡ first_of ((any_wide (loss_numbers (states system.now)
-        (one_of system.now) (matrix_of system.now.a) (matrix_of form.now.rows) at.row at.column),
-        refusal.Wide part.Fall at.row at.column) ∷ []) }
+    ensures refusal { refusal_of result ≡ first_of ((
+      any_wide (loss_numbers (states system.now)
+          (one_of system.now) (matrix_of system.now.a) (matrix_of form.now.rows) at.row at.column),
+      refusal.Wide part.Fall at.row at.column,
+    ) ∷ []) }
     ensures entry { IfOk result (λ entry. entry ≡ fall_form (states system.now)
         (one_of system.now) (matrix_of system.now.a) (matrix_of form.now.rows)
         at.row at.column) }
