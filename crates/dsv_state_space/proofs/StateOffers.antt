@@ -1,5 +1,5 @@
 -- Of an offer of a form that falls along the states the check reads the numbers of its places alone, and where it is accepted they are small.
-use Rattle.std.proofs.Common.{◌≡◌, ◌∙◌, sym, ap, refl, ℕ, ◌<◌, ◌≤◌, true, not, ◌||◌, ◌==◌, List, [], ◌∷◌, ◌++◌, map, None, arith}
+use Rattle.std.proofs.Common.{◌≡◌, ◌∙◌, sym, ap, refl, ℕ, ◌<◌, ◌≤◌, true, not, ◌==◌, List, [], ◌∷◌, ◌++◌, map, None, arith}
 use Rattle.std.proofs.Math.IntN.{ℤ, pos, neg_ℤ, ◌*ℤ◌}
 use Rattle.std.specs.List.{flat_map}
 use Rattle.dsv_algebra.specs.Companion.{total_from}
