@@ -1,5 +1,5 @@
 -- What a form loses in a step of a controller's states, as the code sums it.
-use Rattle.std.proofs.Common.{◌≡◌, ℕ, ◌<◌, true, false, List, [], ◌∷◌, ◌++◌, map, Some, None, refl, sym, ap, ◌∙◌}
+use Rattle.std.proofs.Common.{◌≡◌, ℕ, ◌<◌, Bool, true, false, List, [], ◌∷◌, ◌++◌, map, Some, None, refl, sym, ap, ◌∙◌}
 use Rattle.std.proofs.Math.IntN.{ℤ, pos, neg_ℤ, ◌+ℤ◌, ◌-ℤ◌, ◌*ℤ◌, +ℤ_idl}
 use Rattle.std.specs.Prelude.{Option}
 use Rattle.std.specs.List.{flat_map}
@@ -16,9 +16,10 @@ use Rattle.dsv_forms.specs.Sums.{sum_with, sum_from, product}
 use Rattle.dsv_forms.specs.declared.offers.Falls.{Falls}
 use Rattle.dsv_forms.specs.declared.offers.Form.{Form}
 use Rattle.dsv_forms.specs.declared.refusal.OfferPart.TheVariants as part
+use Rattle.dsv_forms.specs.declared.refusal.FormRefusal.{FormRefusal}
 use Rattle.dsv_forms.specs.declared.refusal.FormRefusal.TheVariants as refusal
 use Rattle.dsv_forms.proofs.OfferLemmas.{definite_entries, falls_with}
-use Rattle.dsv_forms.proofs.Places.{or_else, first_before, first_of-append}
+use Rattle.dsv_forms.proofs.Places.{or_else, first_before, first_of-append, tests_some}
 use Rattle.dsv_forms.proofs.FallLemmas.{AreEntriesOrWide, entries_of, entries_symmetric, as_summand, summands, terms_sum, total-terms}
 use Rattle.dsv_forms.proofs.SumLemmas.{unless, unless-some, unless-none, total, total-rows, one_summand}
 use Rattle.dsv_forms.proofs.Shown.{symmetric_at}
@@ -96,6 +97,15 @@ entry_given d q A P i j x h =
 
 pub entry_wide : (d : ℕ) (q : ℤ) (A P : Matrix) (i j : ℕ) → loss_sum d q A P i j ≡ None → any_wide (loss_numbers d q A P i j) ≡ true
 entry_wide d q A P i j h = unless-none (any_wide (loss_numbers d q A P i j)) (loss_entry d q A P i j) (sym (loss_sum-is d q A P i j) ∙ h)
+
+stopped : {R : Type 0} (b : Bool) (r e : R) → first_of ((b, r) ∷ []) ≡ Some e → (b ≡ true) × (r ≡ e)
+stopped true r e h = (refl, cc)
+stopped false r e h = cc
+
+-- the first entry of a row with such a number
+pub row_stops : (d j : ℕ) (bad : ℕ → Bool) (r : ℕ → FormRefusal) (e : FormRefusal) → j < d → ((k : ℕ) → k < j → bad k ≡ false) → first_of ((bad j, r j) ∷ []) ≡ Some e
+    → first_of (map (λ k. (bad k, r k)) (places d)) ≡ Some e
+row_stops d j bad r e p h at = let both = stopped (bad j) (r j) e at in tests_some bad r d j p h both.0 ∙ ap Some both.1
 
 -- ---- the loss of a symmetric form
 loss_entries : (d : ℕ) (q : ℤ) (A : Matrix) (P F : Form) → is_symmetric d (matrix_of P.rows) ≡ true → IsLossForm d q A P F

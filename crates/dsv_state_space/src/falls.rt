@@ -122,7 +122,7 @@ fn loss_entry(system: &StateSystem, form: &Form, at: Corner) -> Option<NarrowInt
 }
 
 /// An entry of what the form loses in a step. It is refused where a number on the way passes 2^126.
-fn tested_entry(system: &StateSystem, form: &Form, at: Corner) -> Result<i128, FormRefusal>
+fn tested_entry(system: &StateSystem, form: &Form, at: Corner) -> Result<NarrowInteger, FormRefusal>
     requires row { at.row < states system.now }
     requires column { at.column < states system.now }
     ensures refusal { refusal_of result ≡ first_of ((
@@ -134,8 +134,9 @@ fn tested_entry(system: &StateSystem, form: &Form, at: Corner) -> Result<i128, F
         (one_of system.now) (matrix_of system.now.a) (matrix_of form.now.rows)
         at.row at.column) }
 {
+    let _states = system.states(); // their range, for the proof
     match loss_entry(system, form, at) {
-        Some(entry) => Ok(entry.get()),
+        Some(entry) => Ok(entry),
         None => Err(FormRefusal::Wide {
             part: OfferPart::Fall,
             i: at.row as u32,
@@ -158,7 +159,7 @@ fn loss_row(
 {
     let mut row = [0; GREATEST_ORDER];
     for j in 0..system.states() as usize {
-        row[j] = tested_entry(system, form, Corner { row: i, column: j })?;
+        row[j] = tested_entry(system, form, Corner { row: i, column: j })?.get();
     }
     Ok(row)
 }
