@@ -1,0 +1,5 @@
+pub mod Refusals
+pub mod FieldLaws
+pub mod FaultLaws
+pub mod PlantUnexpected
+pub mod PlantFaultLaws

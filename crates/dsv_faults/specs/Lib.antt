@@ -1,0 +1,5 @@
+pub mod FieldFaults
+pub mod FirstFaults
+pub mod PlantBeginnings
+pub mod PlantFaults
+pub mod Types
