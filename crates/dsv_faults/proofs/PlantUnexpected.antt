@@ -1,6 +1,6 @@
 -- Where the reading of a plant's file stops, its grammar does.
 use Rattle.std.proofs.Common.{◌≡◌, ℕ, false, List, [], ◌∷◌, ◌++◌, refl, sym, ap, subst, ◌∙◌, append_assoc}
-use Rattle.std.specs.Prelude.{Ok, Err}
+use Rattle.std.specs.Prelude.{Result, Ok, Err}
 use Rattle.dsv_names.specs.declared.block.Block.{Block}
 use Rattle.dsv_names.specs.declared.block.Block.TheVariants as block
 use Rattle.dsv_names.specs.declared.want.Wanted.{Wanted}
@@ -15,10 +15,11 @@ use Rattle.dsv_syntax.specs.Grammar.{IsBlock, IsPlantFile}
 use Rattle.dsv_syntax.proofs.States.{between}
 use Rattle.dsv_syntax.proofs.TakenLemmas.{declaration_by}
 use Rattle.dsv_syntax.proofs.PlantFiles.{plant_read}
+use Rattle.dsv_syntax.proofs.Steps.{IsStep, step_leads}
 use Rattle.dsv_syntax.proofs.Completions.{completed}
-use Rattle.dsv_syntax.proofs.UnexpectedLemmas.{Leads, Ends, ends, reads_on, goes_on, all_read, stops_read, end_refuses}
+use Rattle.dsv_syntax.proofs.UnexpectedLemmas.{Leads, Ends, ends, reads_on, goes_on, all_read, stops_read, end_refuses, one_longer}
 use Rattle.dsv_faults.specs.Types.{type_of}
-use Rattle.dsv_faults.specs.PlantBeginnings.{PlantBegins, IsPlantUnexpectedAt}
+use Rattle.dsv_faults.specs.PlantBeginnings.{PlantBegins, PlantStopsAt, PlantEndsEarly, IsPlantUnexpectedAt}
 
 -- a state of the reading
 abbrev Parser : Type 0
@@ -116,3 +117,53 @@ stops_by end ts r (Ends.refuses p ts' before q t after w f h i) e =
 
 pub stops_there : (end : ℕ) (ts : List Token) (r : FileRefusal) → plant_syntax_of end ts ≡ Err r → StopsThere end ts r
 stops_there end ts r e = stops_by end ts r (ends ts (plant_start end) tt) e
+
+pub refused_where_it_stops : (end : ℕ) (ts : List Token) (at : ℕ) (w : Wanted) → plant_syntax_of end ts ≡ Err (refusal.Unexpected at w) → IsPlantUnexpectedAt end ts at
+refused_where_it_stops end ts at w e =
+    let k = stops_there end ts (refusal.Unexpected at w) e in
+    let is : refusal.Unexpected at w ≡ refusal.Unexpected k.at k.wanted = k.is in
+    let same : k.at ≡ at = cc in
+    subst (IsPlantUnexpectedAt end ts) same k.place
+
+-- ---- and where the grammar stops, the reading does
+
+-- what begins a plant's file begins it up to each of its tokens
+begins_before : (before : List Token) (t : Token) (after : List Token) → PlantBegins (before ++ t ∷ after) → PlantBegins (before ++ t ∷ [])
+begins_before before t after b = record {
+  others = after ++ b.others;
+  end = b.end;
+  syntax = b.syntax;
+  file = subst (λ xs. IsPlantFile b.end xs b.syntax) (append_assoc before (t ∷ after) b.others ∙ sym (append_assoc before (t ∷ []) (after ++ b.others))) b.file;
+}
+
+-- tokens that begin a plant's file lead somewhere
+record LeadsOn (end : ℕ) (ts : List Token) : Type 0 where
+  pub to : Parser
+  pub leads : Leads (plant_start end) ts to
+
+leads_by : (end : ℕ) (ts : List Token) → Ends (plant_start end) ts → PlantBegins ts → LeadsOn end ts
+leads_by end ts (Ends.all p ts' q h) b = record { to = q; leads = h }
+leads_by end ts (Ends.refuses p ts' before q t after w f h i) b =
+    absurd (begins_none end before q t (refusal.Unexpected t.at w) h i (begins_before before t after (subst PlantBegins f b)))
+
+stopped_by : (end : ℕ) (ts : List Token) (at : ℕ) (s : PlantStopsAt ts at) (q : Parser) → Leads (plant_start end) s.before q → (x : Result Parser FileRefusal) →
+    step_at q.place s.token.kind s.token q ≡ x → IsStep s.token x → (w : Wanted) × (plant_syntax_of end ts ≡ Err (refusal.Unexpected at w))
+stopped_by end ts at s q h (Ok m) e g = absurd (s.none (begins end (s.before ++ s.token ∷ []) m (one_longer (plant_start end) s.before q s.token m h e g)))
+stopped_by end ts at s q h (Err r) e g =
+    (g.0, stops_read end (plant_start end) ts s.before q s.token s.after g.0 s.whole h (e ∙ ap Err g.1) ∙ ap (λ x. Err (refusal.Unexpected x g.0)) s.place)
+
+early_by : (end : ℕ) (ts : List Token) (at : ℕ) → PlantEndsEarly end ts at → (q : Parser) → Leads (plant_start end) ts q → (x : Result Syntax FileRefusal) →
+    plant_syntax_of end ts ≡ x → (w : Wanted) × (plant_syntax_of end ts ≡ Err (refusal.Unexpected at w))
+early_by end ts at s q h (Ok f) e = absurd (s.no_file f (taken_anywhere end end ts f e))
+early_by end ts at s q h (Err r) e =
+    let why = end_refuses q.place end q r (sym (all_read end (plant_start end) ts q h) ∙ e) in
+    (why.0, e ∙ ap Err (why.1) ∙ ap (λ x. Err (refusal.Unexpected x why.0)) s.place)
+
+pub stops_where_refused : (end : ℕ) (ts : List Token) (at : ℕ) → IsPlantUnexpectedAt end ts at → (w : Wanted) × (plant_syntax_of end ts ≡ Err (refusal.Unexpected at w))
+stops_where_refused end ts at (IsPlantUnexpectedAt.token s) =
+    let first = plant_start end in
+    let l = leads_by end s.before (ends s.before first tt) s.begins in
+    let q = l.to in
+    stopped_by end ts at s q l.leads (step_at q.place s.token.kind s.token q) refl (step_leads q.place s.token.kind s.token q (goes_on first s.before q l.leads))
+stops_where_refused end ts at (IsPlantUnexpectedAt.early s) =
+    let l = leads_by end ts (ends ts (plant_start end) tt) s.begins in early_by end ts at s l.to l.leads (plant_syntax_of end ts) refl

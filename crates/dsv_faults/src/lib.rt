@@ -4,4 +4,6 @@
 
 mod law;
 
-pub use law::{first_faults_are_read, first_plant_faults_are_read};
+pub use law::{
+    first_faults_are_read, first_plant_faults_are_read, first_plant_unexpected_is_refused,
+};
