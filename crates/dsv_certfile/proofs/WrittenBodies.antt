@@ -12,6 +12,7 @@ use Rattle.dsv_template.specs.declared.verdict.ThreeLogs.{ThreeLogs}
 use Rattle.dsv_hints.specs.declared.step.Step.{Step}
 use Rattle.dsv_roundoff.specs.declared.offers.RoundoffOffer.{RoundoffOffer}
 use Rattle.dsv_roundoff.specs.declared.offers.WordRange.{WordRange}
+use Rattle.dsv_lines.specs.Texts.{IsPlain}
 use Rattle.dsv_lines.specs.Readings.{reading_of}
 use Rattle.dsv_certfile.specs.Bodies.{lines_from, numbers_of, word_in, inequality_with, inequality_numbers, inequality_in, logs_in, invariant_in, range_places, range_with, range_in, roundoff_in}
 use Rattle.dsv_certfile.specs.Keywords.{keyword_text}
@@ -26,7 +27,7 @@ use Rattle.dsv_certfile.specs.declared.keyword.Keyword.{Keyword}
 use Rattle.dsv_certfile.specs.declared.keyword.Keyword.TheVariants as keyword
 use Rattle.dsv_certfile.specs.declared.numbers.NumberRange.TheVariants as range
 use Rattle.dsv_certfile.specs.declared.places.Place.TheVariants as place
-use Rattle.dsv_lines.proofs.WrittenLines.{IsPlain, IsLine, line_bytes, pieces_of-line_bytes}
+use Rattle.dsv_lines.proofs.WrittenLines.{IsLine, line_bytes, pieces_of-line_bytes}
 use Rattle.dsv_certfile.proofs.WrittenNumbers.{entry_read, entry_plain}
 use Rattle.dsv_certfile.proofs.WrittenParts.{Reader, Takes, and_read, takes_as, takes_both, takes_made, takes_line, takes_lines}
 use Rattle.dsv_certfile.proofs.WrittenPlaces.{row_written, keyword_plain, numbers_line-plain, numbers_of-line_bytes}

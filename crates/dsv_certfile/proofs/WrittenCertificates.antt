@@ -13,7 +13,7 @@ use Rattle.dsv_template.specs.Limits.{most_inequalities}
 use Rattle.dsv_lines.specs.Pieces.{unended, lines_of}
 use Rattle.dsv_certfile.specs.Reading.{words_in, heading_in, body_in, whole_certificate, certificate_in}
 use Rattle.dsv_certfile.specs.Steps.{log_in}
-use Rattle.dsv_lines.specs.Texts.{Line}
+use Rattle.dsv_lines.specs.Texts.{Line, IsPlain, ArePlain}
 use Rattle.dsv_certfile.specs.Texts.{log_lines, falls_lines, version_line, job_line, format_lines, head_lines, word_line, job_of, kind_line_of, body_lines, candidate_counts, certificate_lines, certificate_text, inequality_line, logs_lines, range_line, roundoff_counts}
 use Rattle.dsv_certfile.specs.Words.{with_words}
 use Rattle.dsv_certfile.specs.declared.certificate.Certificate.{Certificate}
@@ -32,7 +32,7 @@ use Rattle.dsv_certfile.proofs.KindLemmas.{one_kind}
 use Rattle.dsv_certfile.proofs.WrittenBodies.{word_plain, takes_word, takes_invariant, invariant_plain, takes_roundoff, box_plain}
 use Rattle.dsv_certfile.proofs.WrittenFalls.{takes_falls, falls_plain}
 use Rattle.dsv_certfile.proofs.WrittenHeadings.{version_of, version_plain, version_back, job_back, job_line-plain, format_lines-plain, takes_words, kind_back, kind_line-plain}
-use Rattle.dsv_lines.proofs.WrittenLines.{IsPlain, ArePlain, IsLine, line_bytes, onto_lines, onto_lines-append, lines-written}
+use Rattle.dsv_lines.proofs.WrittenLines.{IsLine, line_bytes, onto_lines, onto_lines-append, lines-written}
 use Rattle.dsv_lines.proofs.WrittenNumerals.{decimal_plain}
 use Rattle.dsv_certfile.proofs.WrittenNumbers.{count_read}
 use Rattle.dsv_certfile.proofs.WrittenParts.{Reader, Takes, and_read, takes_as, takes_both, takes_made, takes_line, left_at}

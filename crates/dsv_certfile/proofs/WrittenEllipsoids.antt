@@ -6,9 +6,10 @@ use Rattle.std.proofs.lemmas.List.Elements.{All-cons, All-nil, All-append}
 use Rattle.dsv_text.specs.Stages.{◌>>=◌}
 use Rattle.dsv_forms.specs.declared.offers.Form.{Form}
 use Rattle.dsv_forms.specs.declared.offers.Squares.{Squares}
+use Rattle.dsv_lines.specs.Texts.{IsPlain}
 use Rattle.dsv_lines.specs.Pieces.{unended, lines_of}
 use Rattle.dsv_lines.specs.Readings.{Reading, reading_of}
-use Rattle.dsv_lines.proofs.WrittenLines.{IsPlain, IsLine, onto_lines, lines-written}
+use Rattle.dsv_lines.proofs.WrittenLines.{IsLine, onto_lines, lines-written}
 use Rattle.dsv_lines.proofs.WrittenNumerals.{decimal_plain}
 use Rattle.dsv_certfile.specs.Bodies.{line_in, numbers_of, numbers_in, word_in, form_in, squares_of, squares_in, whole_text}
 use Rattle.dsv_certfile.specs.Ellipsoids.{IsLawfulEllipsoid, version_of_ellipsoid, states_places, states_in, levels_places, levels_with, levels_in, first_places, first_with, first_in, ellipsoid_with, ellipsoid_after, ellipsoid_in}

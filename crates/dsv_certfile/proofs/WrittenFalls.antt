@@ -9,6 +9,7 @@ use Rattle.dsv_forms.specs.Padded.{corner, matrix_with, form_with, squares_with}
 use Rattle.dsv_forms.specs.declared.offers.Form.{Form}
 use Rattle.dsv_forms.specs.declared.offers.Squares.{Squares}
 use Rattle.dsv_forms.specs.declared.offers.Falls.{Falls}
+use Rattle.dsv_lines.specs.Texts.{IsPlain}
 use Rattle.dsv_lines.specs.Readings.{reading_of}
 use Rattle.dsv_certfile.specs.Bodies.{numbers_of, numbers_in, rows_in, word_in, form_in, squares_of, squares_in, falls_in}
 use Rattle.dsv_certfile.specs.Headings.{count_at}
@@ -24,7 +25,7 @@ use Rattle.dsv_certfile.specs.declared.numbers.NumberRange.TheVariants as range
 use Rattle.dsv_certfile.specs.declared.places.Place.TheVariants as place
 use Rattle.dsv_certfile.proofs.Corners.{HasPlaces, filled_length, filled_rows}
 use Rattle.dsv_certfile.proofs.WrittenBodies.{takes_word}
-use Rattle.dsv_lines.proofs.WrittenLines.{IsPlain, IsLine, line_bytes}
+use Rattle.dsv_lines.proofs.WrittenLines.{IsLine, line_bytes}
 use Rattle.dsv_lines.proofs.WrittenNumerals.{decimal_plain}
 use Rattle.dsv_certfile.proofs.WrittenNumbers.{whole_read, whole_plain, count_read}
 use Rattle.dsv_certfile.proofs.WrittenParts.{Reader, Takes, and_read, takes_as, takes_value, takes_both, takes_made, takes_line, takes_lines}

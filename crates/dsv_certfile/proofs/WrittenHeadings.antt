@@ -40,7 +40,8 @@ use Rattle.dsv_certfile.specs.declared.keyword.Keyword.TheVariants as keyword
 use Rattle.dsv_certfile.specs.declared.kind.Kind.{Kind}
 use Rattle.dsv_certfile.specs.declared.kind.Kind.TheVariants as kind
 use Rattle.dsv_certfile.proofs.HeadingLemmas.{whole_job}
-use Rattle.dsv_lines.proofs.WrittenLines.{IsPlain, ArePlain, IsLine, line_bytes, pieces_of-line_bytes}
+use Rattle.dsv_lines.specs.Texts.{IsPlain, ArePlain}
+use Rattle.dsv_lines.proofs.WrittenLines.{IsLine, line_bytes, pieces_of-line_bytes}
 use Rattle.dsv_lines.proofs.WrittenNumerals.{decimal_begins, decimal_plain, other_text}
 use Rattle.dsv_certfile.proofs.WrittenNumbers.{samples_read, positive_read, count_read}
 use Rattle.dsv_certfile.proofs.WrittenParts.{Takes, takes_line}

@@ -10,14 +10,14 @@ use Rattle.dsv_certfile.specs.Bodies.{numbers_of}
 use Rattle.dsv_certfile.specs.Keywords.{keyword_text}
 use Rattle.dsv_certfile.specs.Numerals.{number_in}
 use Rattle.dsv_certfile.specs.Places.{has_bad_number, has_words, onto_numbers, numbers_at, line_numbers}
-use Rattle.dsv_lines.specs.Texts.{Line}
+use Rattle.dsv_lines.specs.Texts.{Line, IsPlain}
 use Rattle.dsv_certfile.specs.Texts.{numbers_line}
 use Rattle.dsv_certfile.specs.declared.keyword.Keyword.{Keyword}
 use Rattle.dsv_certfile.specs.declared.keyword.Keyword.TheVariants as keyword
 use Rattle.dsv_certfile.specs.declared.numbers.NumberRange.{NumberRange}
 use Rattle.dsv_certfile.specs.declared.places.Place.{Place}
 use Rattle.dsv_certfile.specs.declared.places.Place.TheVariants as place
-use Rattle.dsv_lines.proofs.WrittenLines.{IsPlain, IsLine, line_bytes, pieces_of-line_bytes}
+use Rattle.dsv_lines.proofs.WrittenLines.{IsLine, line_bytes, pieces_of-line_bytes}
 
 -- each piece is the wanted word, or spells the next of the numbers
 abbrev pub AreWritten : List Place → Line → List ℤ → Type 0

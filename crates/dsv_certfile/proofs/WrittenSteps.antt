@@ -18,12 +18,12 @@ use Rattle.dsv_certfile.specs.Lawful.{IsId, IsLiteral, IsStep, IsLog}
 use Rattle.dsv_certfile.specs.Numerals.{id_of, literal_read}
 use Rattle.dsv_lines.specs.Pieces.{space, TextLines, line, pieces_of}
 use Rattle.dsv_certfile.specs.Steps.{Listed, entries_from, deletion_in, addition_in, says_deletion, step_after, step_in, steps_from, log_in}
-use Rattle.dsv_lines.specs.Texts.{Line}
+use Rattle.dsv_lines.specs.Texts.{Line, IsPlain, ArePlain}
 use Rattle.dsv_certfile.specs.Texts.{literal_piece, list_pieces, step_line, log_lines, word_line}
 use Rattle.dsv_certfile.specs.declared.fault.TextFault.{TextFault}
 use Rattle.dsv_certfile.specs.declared.keyword.Keyword.{Keyword}
 use Rattle.dsv_certfile.specs.declared.keyword.Keyword.TheVariants as keyword
-use Rattle.dsv_lines.proofs.WrittenLines.{IsPlain, ArePlain, IsLine, line_bytes, pieces_of-line_bytes, onto_lines, onto_lines-append}
+use Rattle.dsv_lines.proofs.WrittenLines.{IsLine, line_bytes, pieces_of-line_bytes, onto_lines, onto_lines-append}
 use Rattle.dsv_lines.proofs.WrittenNumerals.{has_byte-append, decimal_is, decimal_begins, other_text}
 use Rattle.dsv_certfile.proofs.WrittenNumbers.{id_read, id_other, id_plain, literal_read-piece, literal_other, literal_adds, literal_plain}
 use Rattle.dsv_certfile.proofs.WrittenParts.{left_at, Takes}

@@ -6,17 +6,9 @@ use Rattle.std.proofs.lemmas.List.{append-nil}
 use Rattle.std.proofs.lemmas.List.Elements.{All-head, All-tail}
 use Rattle.dsv_base.specs.Text.{spaced_text}
 use Rattle.dsv_lines.specs.Pieces.{space, line_feed, onto_first, pieces_of, TextLines, unended, line, onto_text, lines_of}
-use Rattle.dsv_lines.specs.Texts.{Line, piece_text, line_text}
+use Rattle.dsv_lines.specs.Texts.{Line, is_plain, IsPlain, ArePlain, piece_text, line_text}
 
 -- ---- pieces
--- no space and no line feed
-abbrev pub is_plain : List ℕ → Bool
-is_plain [] = true
-is_plain (b ∷ bs) = not (b == space) && (not (b == line_feed) && is_plain bs)
-
-abbrev pub IsPlain : List ℕ → Type 0
-IsPlain bs = is_plain bs ≡ true
-
 plain_step : (a b c : Bool) → not a && (not b && c) ≡ true → (a ≡ false) × (b ≡ false) × (c ≡ true)
 plain_step true b c e = absurd (cc)
 plain_step false true c e = absurd (cc)
@@ -25,7 +17,7 @@ plain_step false false c e = (refl, refl, e)
 plain_parts : (b : ℕ) (bs : List ℕ) → IsPlain (b ∷ bs) → ((b == space) ≡ false) × ((b == line_feed) ≡ false) × IsPlain bs
 plain_parts b bs h = plain_step (b == space) (b == line_feed) (is_plain bs) h
 
-plain_from : (a b c : Bool) → a ≡ false → b ≡ false → c ≡ true → not a && (not b && c) ≡ true
+pub plain_from : (a b c : Bool) → a ≡ false → b ≡ false → c ≡ true → not a && (not b && c) ≡ true
 plain_from a b c e f g = rw (e, f, g) refl
 
 pub plain-append : (p q : List ℕ) → IsPlain p → IsPlain q → IsPlain (p ++ q)
@@ -46,9 +38,6 @@ abbrev pub line_bytes : Line → List ℕ
 line_bytes [] = []
 line_bytes (p ∷ []) = p
 line_bytes (p ∷ q ∷ ps) = p ++ space ∷ line_bytes (q ∷ ps)
-
-abbrev pub ArePlain : Line → Type 0
-ArePlain = All IsPlain
 
 pieces_by : (p : List ℕ) (ps : Line) → ArePlain (p ∷ ps) → pieces_of (line_bytes (p ∷ ps)) ≡ p ∷ ps
 pieces_by p [] h = one_piece p (All-head IsPlain p [] h)
@@ -84,7 +73,7 @@ pub line_bytes-spaced : (p : List ℕ) (ps : Line) → p ++ flat_map (spaced_tex
 line_bytes-spaced p [] = append-nil p
 line_bytes-spaced p (q ∷ qs) = ap (λ t. p ++ space ∷ t) (line_bytes-spaced q qs)
 
-line_before : (l : Line) (rest : List ℕ) → IsLine l → lines_of (line_text l ++ rest) ≡ line (line_bytes l) (lines_of rest)
+pub line_before : (l : Line) (rest : List ℕ) → IsLine l → lines_of (line_text l ++ rest) ≡ line (line_bytes l) (lines_of rest)
 line_before [] rest h = absurd h
 line_before (p ∷ ps) rest h =
     ap (λ t. lines_of ((t ++ line_feed ∷ []) ++ rest)) (line_bytes-spaced p ps)

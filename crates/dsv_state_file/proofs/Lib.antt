@@ -1,5 +1,9 @@
+pub mod BegunFiles
 pub mod Binds
+pub mod FaultLaws
+pub mod FaultStages
 pub mod FileStages
+pub mod LineFaults
 pub mod PlainDecimals
 pub mod ReadFiles
 pub mod ReadParts

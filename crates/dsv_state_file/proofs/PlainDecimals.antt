@@ -8,7 +8,8 @@ use Rattle.dsv_fraction.specs.NumberText.{IsSign, IsBody, IsMark, IsExponent, Is
 use Rattle.dsv_fraction.specs.declared.decimal.DecimalRefusal.{DecimalRefusal}
 use Rattle.dsv_fraction.specs.declared.decimal.DecimalRefusal.TheVariants as refusal
 use Rattle.dsv_fraction.proofs.LongestNumbers.{whole_law}
-use Rattle.dsv_lines.proofs.WrittenLines.{IsPlain, plain-append}
+use Rattle.dsv_lines.specs.Texts.{IsPlain}
+use Rattle.dsv_lines.proofs.WrittenLines.{plain-append}
 use Rattle.dsv_lines.proofs.WrittenNumerals.{digits_plain}
 
 sign_plain : (sign : List ℕ) → IsSign sign → IsPlain sign

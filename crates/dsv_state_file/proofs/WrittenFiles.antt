@@ -11,8 +11,8 @@ use Rattle.dsv_text.specs.Stages.{◌>>=◌}
 use Rattle.dsv_fraction.specs.Ratio.{Ratio}
 use Rattle.dsv_lines.specs.Pieces.{TextLines, unended, line, lines_of, LinesLeft}
 use Rattle.dsv_lines.specs.Readings.{Reading, reading_of}
-use Rattle.dsv_lines.specs.Texts.{Line, line_text}
-use Rattle.dsv_lines.proofs.WrittenLines.{IsPlain, ArePlain, IsLine, line_bytes, pieces_of-line_bytes, onto_lines, onto_lines-append, lines-written}
+use Rattle.dsv_lines.specs.Texts.{Line, line_text, IsPlain, ArePlain}
+use Rattle.dsv_lines.proofs.WrittenLines.{IsLine, line_bytes, pieces_of-line_bytes, onto_lines, onto_lines-append, lines-written}
 use Rattle.dsv_lines.proofs.WrittenNumerals.{numeral_of-decimal, positive_of-decimal, decimal_plain}
 use Rattle.dsv_state_file.specs.Decimals.{bare_decimal}
 use Rattle.dsv_state_file.specs.Limits.{most_states, greatest_int_bits, greatest_frac_bits, least_width, greatest_width}
@@ -30,7 +30,7 @@ use Rattle.dsv_state_file.proofs.ReadParts.{length-decimals}
 use Rattle.dsv_state_file.proofs.Stages as stages
 
 -- ---- decimals
-bare_is : (text : List ℕ) (value : Ratio) → IsDecimal text value → bare_decimal text ≡ Some value
+pub bare_is : (text : List ℕ) (value : Ratio) → IsDecimal text value → bare_decimal text ≡ Some value
 bare_is text value h = rw (h.bare, h.is) refl
 
 decimals_taken : (n : ℕ) (xs : List Ratio) (words : Line) (values : List Ratio) → AreDecimals words values → decimals_from n xs words ≡ Ok (xs ++ values)
@@ -72,7 +72,7 @@ states_taken : (n states : ℕ) → 1 ≤ states → states ≤ most_states → 
 states_taken n states some few = rw (positive_of-decimal most_states states (omega arith) some few) refl
 
 -- ---- lines one after another
-abbrev left_at : TextLines → ℕ → LinesLeft
+abbrev pub left_at : TextLines → ℕ → LinesLeft
 left_at t n = record { lines = t; number = n }
 
 line_taken : {X : Type 0} (read : ℕ → Line → Result X StateRefusal) (n : ℕ) (l : Line) (t : TextLines) (x : X) → IsLine l → read n l ≡ Ok x

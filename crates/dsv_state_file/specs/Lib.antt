@@ -1,4 +1,5 @@
 pub mod Decimals
+pub mod Faults
 pub mod Heads
 pub mod Inside
 pub mod Limits

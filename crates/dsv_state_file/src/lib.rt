@@ -10,7 +10,7 @@ mod state_file;
 mod vectors;
 mod words;
 
-pub use law::state_texts_are_read;
+pub use law::{state_faults_are_told, state_texts_are_read};
 pub use limits::MOST_STATES;
 pub use reader::read_state;
 pub use refusal::StateRefusal;
