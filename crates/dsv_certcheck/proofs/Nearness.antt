@@ -41,9 +41,9 @@ same_found (Err why) = refl
 pub found_without : (found meant : Checked) → Finds found meant → Finds (as_checked (without_error found)) meant
 found_without found meant = subst (λ r. Finds r meant) (sym (same_found found))
 
-pub shown_without : {P : Type 0} (found : Checked) → OnOk found P → OnOk (without_error found) P
-shown_without (Ok x) h = h
-shown_without (Err why) h = tt
+pub shown_without : (P : Type 0) (found : Checked) → OnOk found P → OnOk (without_error found) P
+shown_without P (Ok x) h = h
+shown_without P (Err why) h = tt
 
 pub none_without : (q : QuantisedView) (found : Checked) → IfOk (without_error found) (ShowsNear q None)
 none_without q (Ok x) = tt
