@@ -141,7 +141,7 @@ form_accepts old name written c s found held spelled h = absurd h
 
 -- what keeps the certificate's file from being one's
 text_accepts : (old new : FilesSeen) (name written : List ℕ) (c : Certificate) (line : ℕ) (why : CertificateFault) → old.held name ≡ Some written → IsSpelled written c → IsUnreadCertificate old new name (stop.CertificateRefused line why) → ⊥
-text_accepts old new name written c line fault.TooLong held s h = too_long longest_certificate (length written) s.short (in_file _ old name written held h.1.0)
+text_accepts old new name written c line fault.TooLong held s h = too_long longest_certificate (length written) s.short (in_file _ old name written held h.1)
 text_accepts old new name written c line (fault.Text why) held s h = read_or_refused (certificate_in written) c _ s.spelled (in_file _ old name written held h).1
 text_accepts old new name written c line why held s h = absurd h
 
