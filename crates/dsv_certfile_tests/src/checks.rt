@@ -434,11 +434,14 @@ fn certificate_of(alloc: Global, case: &Case) -> Option<Certificate> {
     read(alloc, text.as_bytes()).ok()
 }
 
-/// What is found of a case.
+/// What is found of a case, apart from what it shows of the output's error.
 fn found_of(alloc: Global, case: &Case) -> Option<Result<(), CheckRefusal>> {
     let controller = controller_of(alloc, case.0)?;
     let certificate = certificate_of(alloc, case)?;
-    Some(check(alloc, &controller, &certificate))
+    match check(alloc, &controller, &certificate) {
+        Ok(_) => Some(Ok(())),
+        Err(why) => Some(Err(why)),
+    }
 }
 
 /// Whether this is found of all cases.
