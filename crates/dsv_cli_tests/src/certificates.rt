@@ -71,7 +71,8 @@ const ROWS: [Row; 6] = [
     Row {
         file: HALF_POLE_OF_33,
         job: &["f", "--property", "OVERFLOW", "--gain", "--certificate"],
-        accepted: b"CERTIFICATE ACCEPTED\nproperty OVERFLOW realization DFI unbounded\n",
+        accepted: b"CERTIFICATE ACCEPTED\nproperty OVERFLOW realization DFI unbounded\n\
+error depth 2 least -1 greatest 3\n",
     },
     Row {
         file: SUM,
