@@ -87,6 +87,7 @@ pub record IsKept (q : QuantisedView) (o : Ellipsoid) (xs : List ℤ) : Type 0 w
   -- after it V of the last outputs is at most the level; those before the first are 0
   pub level : form_at (order q) (form_of o) (vector_of (last_outputs q xs)) ≤ℤ o.level
 
--- all runs over inputs in range are kept
+-- in all runs over inputs in range, from registers of zeros, each sample is kept, and V of the last
+-- outputs is never greater than the level
 abbrev pub StaysKept : QuantisedView → Ellipsoid → Type 0
 StaysKept q o = (xs : List ℤ) → AreInRange q.xlo q.xhi xs → IsKept q o xs
