@@ -24,10 +24,10 @@ use Rattle.dsv_forms.proofs.PassingOffers.{IsDiagonal, same_test, dominance_pass
 use Rattle.dsv_forms.proofs.Places.{all_true}
 use Rattle.dsv_sums.specs.Elimination.{entries_of, rows_of}
 use Rattle.dsv_sums.proofs.Filled.{many}
-use Rattle.dsv_schur_cohn.specs.SchurCohn.{schur_cohn, lost_row}
+use Rattle.dsv_table.specs.SchurCohn.{schur_cohn, lost_row}
 use Rattle.dsv_schur_cohn.specs.Offer.{negative_offer, HasNarrowNumbers, IsNegativeAt}
 use Rattle.dsv_schur_cohn.proofs.Entries.{entry_inside, entry_below, entry_beside, one_row, no_rest}
-use Rattle.dsv_schur_cohn.proofs.Identity.{by_itself, symmetric, none_in_last_row, none_in_last_column, loses_a_square}
+use Rattle.dsv_table.proofs.Identity.{by_itself, symmetric, none_in_last_row, none_in_last_column, loses_a_square}
 
 -- ---- a part with squares and a rest on the diagonal, from the tests of its numbers
 

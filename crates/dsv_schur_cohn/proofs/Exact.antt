@@ -17,7 +17,7 @@ use Rattle.dsv_forms.proofs.OfferLemmas.{kept_away_parts}
 use Rattle.dsv_forms.proofs.Places.{or_else, neither, first_before, passes, none_each, from_each}
 use Rattle.dsv_forms.proofs.Shown.{semidefinite_parts}
 use Rattle.dsv_forms.proofs.Values.{value_negative}
-use Rattle.dsv_schur_cohn.specs.SchurCohn.{schur_cohn}
+use Rattle.dsv_table.specs.SchurCohn.{schur_cohn}
 use Rattle.dsv_schur_cohn.specs.Offer.{negative_offer, HasNarrowNumbers, IsNegativeAt, AreAcceptedWhereNarrow}
 use Rattle.dsv_schur_cohn.proofs.Accepted.{narrow_accepted}
 use Rattle.dsv_schur_cohn.proofs.Entries.{entry_inside}

@@ -1,6 +1,5 @@
 pub mod Accepted
 pub mod Entries
 pub mod Exact
-pub mod Identity
 pub mod Places
 pub mod Sizes

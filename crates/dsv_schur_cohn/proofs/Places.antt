@@ -13,7 +13,7 @@ use Rattle.dsv_algebra.proofs.Sums.{sum_same, sum_none, sum_one}
 use Rattle.dsv_forms.proofs.Passing.{Within}
 use Rattle.dsv_forms.specs.Poly.{most_coefficients}
 use Rattle.dsv_forms.specs.Refusals.{kept_away_refusal}
-use Rattle.dsv_schur_cohn.specs.SchurCohn.{schur_cohn}
+use Rattle.dsv_table.specs.SchurCohn.{schur_cohn}
 use Rattle.dsv_schur_cohn.specs.Offer.{schur_cohn_form, negative_offer, IsSmall}
 use Rattle.dsv_schur_cohn.proofs.Accepted.{narrow_accepted}
 use Rattle.dsv_schur_cohn.proofs.Entries.{entry_inside}

@@ -14,7 +14,7 @@ use Rattle.dsv_forms.specs.Refusals.{weights_of, rows_of as rows_in, side_number
 use Rattle.dsv_forms.proofs.Passing.{Within, within_times, within_plus, within_neg, Narrow, none_wide, narrow_both, fall_numbers_narrow, side_numbers_narrow}
 use Rattle.dsv_forms.proofs.PassingOffers.{value_numbers_narrow}
 use Rattle.dsv_sums.specs.Elimination.{rows_of}
-use Rattle.dsv_schur_cohn.specs.SchurCohn.{difference, schur_cohn, lost_row}
+use Rattle.dsv_table.specs.SchurCohn.{difference, schur_cohn, lost_row}
 use Rattle.dsv_schur_cohn.specs.Offer.{schur_cohn_form, negative_offer, SmallAreNarrow}
 use Rattle.dsv_schur_cohn.proofs.Accepted.{filled_fall}
 use Rattle.dsv_schur_cohn.proofs.Entries.{entry_inside, entry_below, entry_beside, one_row, no_rest}

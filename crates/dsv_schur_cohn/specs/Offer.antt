@@ -12,7 +12,7 @@ use Rattle.dsv_forms.specs.Poly.{most_coefficients}
 use Rattle.dsv_forms.specs.Refusals.{any_wide, side_numbers, fall_numbers, value_numbers}
 use Rattle.dsv_forms.specs.Refusals.{kept_away_refusal}
 use Rattle.dsv_sums.specs.Elimination.{entries_of, rows_of}
-use Rattle.dsv_schur_cohn.specs.SchurCohn.{schur_cohn, lost_row}
+use Rattle.dsv_table.specs.SchurCohn.{schur_cohn, lost_row}
 
 -- the Schur-Cohn form of the polynomial with these coefficients
 abbrev pub schur_cohn_form : List ℤ → Form

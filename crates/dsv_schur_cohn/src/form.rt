@@ -8,7 +8,7 @@ ghost use Rattle.dsv_forms.specs.Padded.{row_of};
 ghost use Rattle.dsv_forms.specs.Poly.{IsPoly, greatest_coefficient};
 ghost use Rattle.dsv_sums.specs.Elimination.{entries_of};
 ghost use Rattle.dsv_schur_cohn.specs.Offer.{schur_cohn_form};
-ghost use Rattle.dsv_schur_cohn.specs.SchurCohn.{difference, schur_cohn, lost_row};
+ghost use Rattle.dsv_table.specs.SchurCohn.{difference, schur_cohn, lost_row};
 
 use dsv_algebra::NarrowInteger;
 use dsv_forms::{Form, GREATEST_ORDER, Poly};

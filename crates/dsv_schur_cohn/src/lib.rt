@@ -13,6 +13,6 @@ mod search;
 mod width;
 
 pub use form::schur_cohn_form;
-pub use law::{schur_cohn_forms_lose_a_square, schur_cohn_offers_are_accepted};
+pub use law::schur_cohn_offers_are_accepted;
 pub use offer::negative_offer;
 pub use search::schur_cohn_offer;

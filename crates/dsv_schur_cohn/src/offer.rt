@@ -6,7 +6,7 @@ ghost use Rattle.dsv_forms.specs.Poly.{IsPoly};
 ghost use Rattle.dsv_forms.specs.Refusals.{kept_away_refusal};
 ghost use Rattle.dsv_sums.specs.Elimination.{entries_of};
 ghost use Rattle.dsv_schur_cohn.specs.Offer.{negative_offer, HasNarrowNumbers, IsNegativeAt};
-ghost use Rattle.dsv_schur_cohn.specs.SchurCohn.{lost_row};
+ghost use Rattle.dsv_table.specs.SchurCohn.{lost_row};
 
 use crate::form::{lost_row, schur_cohn_form};
 use dsv_forms::{GREATEST_ORDER, KeptAway, Poly, Squares};

@@ -1,0 +1,9 @@
+pub mod Findings
+pub mod Rates
+pub mod RootSize
+pub mod Rows
+pub mod SchurCohn
+pub mod Search
+pub mod Systems
+pub mod Table
+pub mod Verdicts
