@@ -147,20 +147,16 @@ SERIES = [
 LOOPS = [
     Kind("Successful", 0, rf"{S}\nproperty STABILITY realization \w+ plant\npolynomial .*",
          "`--plant`: the loop is stable. The roots of the printed polynomial A a + B b are inside the unit circle, where B / A is the "
-         "controller in words and b / a the plant; form and fall are evidence, as of a controller. How near to the circle they are isn't said.",
-         "nothing.",
+         "controller in words and b / a the plant: in Jury's table of it, in exact whole numbers, each row has a positive first number. The "
+         "size of its greatest root is at least the first of the two numbers and below the second; of a polynomial without a root there is no such line.",
+         "the nearer to 1 the greatest root is, the slower the loop settles: a disturbance falls by about this factor in a sample.",
          "motor_pi.dsv --property STABILITY --plant motor_plant.dsv"),
     Kind("Failed", 10, rf"{F}\nproperty STABILITY realization \w+ plant\npolynomial .*",
-         "The loop isn't stable: a root of its polynomial is outside the unit circle or on it. The form is negative at `start` and never rises "
-         "from there.",
+         "The loop isn't stable: a root of its polynomial is outside the unit circle or on it. Row K is the first of the table whose first "
+         "number isn't positive; row 0 is the polynomial itself. The size of the greatest root is as above.",
          "more of `frac_bits`, another `--rounding`, or other coefficients of the controller; look at the sign of the plant, since the "
          "feedback is negative.",
          "small/motor_pi_in_bytes.dsv --property STABILITY --plant motor_plant.dsv"),
-    Kind("Inconclusive, `cause WIDE`", 20, rf"{I}\nproperty STABILITY realization \w+ plant\ncause WIDE .*",
-         "This number of the loop's polynomial, or one on the way to it, is too large. Where no form is found the cause is as of a controller.",
-         "fewer significant digits in each of the plant's numbers, or fewer bits; in a delta form, a `delta` such as 1/4 in place of a smaller one. "
-         "Fewer digits make another plant: a number that becomes 0 changes the verdict.",
-         "small/half_pole.dsv --property STABILITY --plant small/plant_fine.dsv"),
 ]
 
 STATES = [
@@ -271,10 +267,6 @@ REFUSED = [
          "small/half_pole.dsv --property STABILITY --plant small/plant_slow.dsv"),
     Kind("62 `ALGEBRAIC`", 2, r"LOOP REFUSED 62 .*", "both answer an input in the same sample", "a plant whose `b` begins with 0: it answers a sample later",
          "small/half_pole.dsv --property STABILITY --plant small/plant_at_once.dsv"),
-    Kind("63 `ORDER`", 2, r"LOOP REFUSED 63 .*", "the orders of both are together over 8", "a model of the plant of a lower order",
-         "butterworth.dsv --property STABILITY --plant small/plant_order_five.dsv"),
-    Kind("64 `WIDE`", 2, r"LOOP REFUSED 64 .*", "this number of the loop's polynomial is too large", "fewer digits in the plant's file", None,
-         "none: it is never written, since such a loop's verdict is inconclusive, `cause WIDE`"),
     Kind("after a line `plant`", 2, r"plant\nFILE REFUSED .*", "the plant's file is refused", "as above",
          "small/half_pole.dsv --property STABILITY --plant small/two_plants.dsv"),
     Kind("after a line `section I`", 2, r"section [1-7]\nFILE REFUSED .*",
@@ -330,6 +322,8 @@ CERTIFICATES = [
 ]
 
 ELLIPSOIDS = [
+    Kind("13 `TABLE`", 7, r"CERTIFICATE REFUSED .* code 13 .*", "a coefficient isn't the polynomial's, or (line of the kind) a first number of its table isn't positive", "",
+         "small/half_pole.dsv --check small/unstable_loop.cert --plant small/plant_negative.dsv"),
     Kind("1 `VERSION`", 7, r"ELLIPSOID REFUSED line .* code 1 .*", "the first line is another", "",
          "small/resonance.dsv --property OVERFLOW --unbounded --ellipsoid small/resonance_other_version.ellipsoid"),
     Kind("3 `NUMBER`", 7, r"ELLIPSOID REFUSED line .* code 3 .*", "a piece is no number, or out of its range", "",

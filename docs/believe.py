@@ -181,8 +181,9 @@ PAGE = (
      "IsEllipsoidRow IsOffer ellipsoid_in IsUnreadOffer IsOfEllipsoid IsOfOffer IsOfSoughtEllipsoid ShowsEllipsoid dsv_ellipsoid:IsGood "
      "dsv_ellipsoid:NeverBreaks StaysKept ellipsoid_refusal greatest_disturbance step_form dsv_ellipsoid:first_form sample_intervals"),
     ("Loops with their plants", "What the answers on the loop of a controller with its plant say, and what the check of its certificate.",
-     "IsLoopRow HaveLoop IsPlantFileOf IsPlantOf IsPlantText PlantView IsPlantUnread IsOfPlant IsLoopInWords IsOfLoop dsv_loop:loop_of IsLoopCheckRow "
-     "IsLoopCheck IsOfLoopCertificate IsLoopChecked IsLoopShownOf LoopHas SaysLoop"),
+     "IsLoopRow HaveLoop IsPlantFileOf IsPlantOf IsPlantText PlantView IsPlantUnread IsOfPlant IsLoopInWords IsOfLoop dsv_loop:loop_of dsv_table:IsFinding "
+     "dsv_table:verdict_of IsShown HasFallingForm HasKeptAwayForm AreBounds IsRootSize HasFallAtRate HasKeptAwayAtRate IsLoopCheckRow "
+     "IsLoopCheck IsOfLoopCertificate IsLoopChecked IsLoopShownOf LoopHas HasFallingLoop SaysLoop"),
     ("Stability, minimum phase, timing", "What the answers on polynomials and on time say.",
      "IsTested tested_of ShowsFall StrictlyFallsAlong StrictlyFalls ShowsKeptAway IsKeptAwayAlong IsKeptAway "
      "ShowsNoForm closed_form_of jury_of WantsSchurCohn IsBeyond IsTimed IsTimingOf IsOnTime"),

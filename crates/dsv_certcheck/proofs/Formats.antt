@@ -1,6 +1,7 @@
 -- No test after the comparison of formats gives the refusal of another format.
-use Rattle.std.proofs.Common.{◌≡◌, ℕ, ◌+◌, Bool, true, false, if◌then◌else◌, List, refl, subst, sym}
-use Rattle.std.specs.Prelude.{Option, Some, None, Result, Ok, Err, suc, length, ◌==◌, nat_le, nat_lt}
+use Rattle.std.proofs.Common.{◌≡◌, ℕ, ◌+◌, Bool, true, false, if◌then◌else◌, List, [], ◌∷◌, refl, subst, sym}
+use Rattle.std.specs.Prelude.{Option, Some, None, Result, Ok, Err, suc, length, ◌==◌, ◌&&◌, nat_le, nat_lt}
+use Rattle.std.specs.Ordering.{int_eq}
 use Rattle.std.proofs.Math.IntN.{ℤ}
 use Rattle.dsv_text.specs.Stages.{◌>>=◌}
 use Rattle.dsv_names.specs.declared.property.Property.{Property}
@@ -36,7 +37,10 @@ use Rattle.dsv_gain.specs.Controllers.{outlook_of}
 use Rattle.dsv_gain.specs.Errors.{error_of}
 use Rattle.dsv_gain.specs.declared.outlook.Outlook.{Outlook}
 use Rattle.dsv_gain.specs.declared.outlook.Outlook.TheVariants as outlook
-use Rattle.dsv_certfile.specs.Limits.{most_gain_depth}
+use Rattle.dsv_table.specs.Table as tables
+use Rattle.dsv_table.specs.declared.verdict.TableVerdict.{TableVerdict}
+use Rattle.dsv_table.specs.declared.verdict.TableVerdict.TheVariants as table
+use Rattle.dsv_certfile.specs.Limits.{most_gain_depth, most_coefficients}
 use Rattle.dsv_certfile.specs.Texts.{job_of}
 use Rattle.dsv_certfile.specs.declared.certificate.Certificate.{Certificate}
 use Rattle.dsv_certfile.specs.declared.certificate.Certificate.TheVariants as certificate
@@ -45,7 +49,8 @@ use Rattle.dsv_certfile.specs.declared.job.CertWords.{CertWords}
 use Rattle.dsv_certfile.specs.declared.job.Size.{Size}
 use Rattle.dsv_certfile.specs.declared.job.Size.TheVariants as size
 use Rattle.dsv_certcheck.specs.Checks.{Checked, refused, misfit, format_check, size_check, verdict_at, log_check, run_check, is_some_samples, hints_check, shape_check, set_check, invariant_check, shown_check, error_check, outlook_check, depth_check, gain_check, refusal_check, offer_check, tested_check, falls_check, words_check, IsFoundAfter}
-use Rattle.dsv_certcheck.specs.LoopChecks.{polynomial_check, loop_check, words_loop_check, IsLoopFoundAfter}
+use Rattle.dsv_certcheck.specs.LineNumbers.{body_line}
+use Rattle.dsv_certcheck.specs.LoopChecks.{coefficients_check, verdict_check, table_check, polynomial_check, loop_check, words_loop_check, IsLoopFoundAfter}
 use Rattle.dsv_certcheck.specs.FormatRefusals.{AreOfFormats, AreOfLoopFormats}
 use Rattle.dsv_certcheck.specs.declared.check_refusal.CheckRefusal.TheVariants as refusal
 
@@ -137,6 +142,7 @@ words_other q (certificate.Hints job log) = hints_other job.words q job.property
 words_other q (certificate.Invariant job candidate logs) = invariant_other job.words q job.property job.size candidate logs
 words_other q (certificate.Gain job depth offer) = gain_other job.words q job.property job.size depth offer
 words_other q (certificate.Falls job offer) = falls_other job.words q job.property job.size offer
+words_other q (certificate.Table job coefficients) = tt
 
 after : (c : ControllerView) (cert : Certificate) (line : ℕ) (format : Checked) → IsFoundAfter format c cert (refused line fault.Format) → format ≡ refused line fault.Format
 after c cert line (Err why) k = sym k
@@ -149,16 +155,32 @@ formats_are_compared c cert line = (
 )
 
 -- ---- beside a plant
-polynomial_other : (w : CertWords) (r : Result (List ℤ) LoopRefusal) (offer : Falls) → IsOther (polynomial_check w r offer)
-polynomial_other w (Ok c) offer = offer_other w c offer
-polynomial_other w (Err why) offer = tt
+coefficients_other : (line : ℕ) (cs xs : List ℤ) → IsOther (coefficients_check line cs xs)
+coefficients_other line [] xs = tt
+coefficients_other line (c ∷ cs) [] = tt
+coefficients_other line (c ∷ cs) (x ∷ xs) = by_test (int_eq c x) (coefficients_check (suc line) cs xs) (refused line fault.Table) (coefficients_other (suc line) cs xs) tt
 
-loop_other : (w : CertWords) (q : QuantisedView) (time : Ratio) (plant : PlantView) (p : Property) (s : Size) (offer : Falls) → IsOther (loop_check w q time plant p s offer)
-loop_other w q time plant (property.OfRoots root.Stability) size.OfLoop offer = polynomial_other w (loop_of q time plant) offer
+verdict_other : (w : CertWords) (v : TableVerdict) → IsOther (verdict_check w v)
+verdict_other w table.Inside = tt
+verdict_other w (table.NotInside row) = tt
+
+table_other : (w : CertWords) (c coefficients : List ℤ) → IsOther (table_check w c coefficients)
+table_other w c coefficients =
+    let line = body_line w in
+    by_test (length coefficients == length c && nat_le (length coefficients) most_coefficients)
+    (coefficients_check line coefficients c >>= λ x. verdict_check w (tables.verdict_of c)) (misfit w)
+    (by_stage (coefficients_check line coefficients c) (λ x. verdict_check w (tables.verdict_of c)) (coefficients_other line coefficients c) (λ x. verdict_other w (tables.verdict_of c))) tt
+
+polynomial_other : (w : CertWords) (r : Result (List ℤ) LoopRefusal) (coefficients : List ℤ) → IsOther (polynomial_check w r coefficients)
+polynomial_other w (Ok c) coefficients = table_other w c coefficients
+polynomial_other w (Err why) coefficients = tt
+
+loop_other : (w : CertWords) (q : QuantisedView) (time : Ratio) (plant : PlantView) (p : Property) (s : Size) (offer : List ℤ) → IsOther (loop_check w q time plant p s offer)
+loop_other w q time plant (property.OfRoots root.Stability) size.OfLoop offer = polynomial_other w (loop_of (q ∷ []) time plant) offer
 loop_other w q time plant p s offer = tt
 
 loop_words_other : (q : QuantisedView) (time : Ratio) (plant : PlantView) (cert : Certificate) → IsOther (words_loop_check q time plant cert)
-loop_words_other q time plant (certificate.Falls job offer) = loop_other job.words q time plant job.property job.size offer
+loop_words_other q time plant (certificate.Table job coefficients) = loop_other job.words q time plant job.property job.size coefficients
 loop_words_other q time plant other = tt
 
 after_loop : (c : ControllerView) (plant : PlantView) (cert : Certificate) (line : ℕ) (format : Checked) → IsLoopFoundAfter format c plant cert (refused line fault.Format) → format ≡ refused line fault.Format

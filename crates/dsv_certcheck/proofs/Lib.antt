@@ -1,4 +1,5 @@
 pub mod CheckLemmas
+pub mod Coefficients
 pub mod LoopLemmas
 pub mod LoopRefusals
 pub mod Misfits

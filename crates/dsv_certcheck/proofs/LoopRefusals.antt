@@ -135,6 +135,7 @@ of_words q (certificate.Hints job log) = of_hints job.words q job.property job.s
 of_words q (certificate.Invariant job candidate logs) = of_invariant job.words q job.property job.size candidate logs
 of_words q (certificate.Gain job depth offer) = of_gain job.words q job.property job.size depth offer
 of_words q (certificate.Falls job offer) = of_falls job.words q job.property job.size offer
+of_words q (certificate.Table job coefficients) = tt
 
 of_format : (c : ControllerView) (w : CertWords) → IsNoLoop (format_check c w)
 of_format c words.Unsaid = either (nat_le (c.int_bits + c.frac_bits) narrow_word_bits) (Ok tt) (refused version_line_number fault.Format) tt tt

@@ -1,5 +1,5 @@
 -- Each check refuses the certificates that are for the other.
-use Rattle.std.proofs.Common.{◌≡◌, ◌∙◌, ℕ, List, Option, ap, refl}
+use Rattle.std.proofs.Common.{◌≡◌, ◌∙◌, ℕ, List, Option, ℤ, ap, refl}
 use Rattle.dsv_names.specs.declared.property.Property.{Property}
 use Rattle.dsv_names.specs.declared.property.Property.TheVariants as property
 use Rattle.dsv_names.specs.declared.property.RunProperty.TheVariants as run
@@ -44,13 +44,14 @@ loops_misfit_alone q (certificate.Invariant job candidate logs) e =
 loops_misfit_alone q (certificate.Gain job depth offer) e =
     ap (λ s. gain_check job.words q job.property s depth offer) e ∙ gain_of_loop job.words q job.property depth offer
 loops_misfit_alone q (certificate.Falls job offer) e = ap (λ s. falls_check job.words q job.property s offer) e ∙ falls_of_loop job.words q job.property offer
+loops_misfit_alone q (certificate.Table job coefficients) e = refl
 
 -- ---- where one does
-falls_of_none : (w : CertWords) (q : QuantisedView) (time : Ratio) (plant : PlantView) (p : Property) (s : Size) (offer : Falls) → (s ≡ size.OfLoop → ⊥)
-    → loop_check w q time plant p s offer ≡ misfit w
-falls_of_none w q time plant (property.OfRoots root.Stability) size.OfLoop offer h = absurd (h refl)
-falls_of_none w q time plant p s offer h = refl
+table_of_none : (w : CertWords) (q : QuantisedView) (time : Ratio) (plant : PlantView) (p : Property) (s : Size) (coefficients : List ℤ) → (s ≡ size.OfLoop → ⊥)
+    → loop_check w q time plant p s coefficients ≡ misfit w
+table_of_none w q time plant (property.OfRoots root.Stability) size.OfLoop coefficients h = absurd (h refl)
+table_of_none w q time plant p s coefficients h = refl
 
 pub others_misfit_loops : OthersMisfitLoops
-others_misfit_loops q time plant (certificate.Falls job offer) h = falls_of_none job.words q time plant job.property job.size offer h
+others_misfit_loops q time plant (certificate.Table job coefficients) h = table_of_none job.words q time plant job.property job.size coefficients h
 others_misfit_loops q time plant other h = refl

@@ -1,5 +1,5 @@
 -- A claim that is so passes its check, and an offer that passes shows a range.
-use Rattle.std.proofs.Common.{◌≡◌, ◌∙◌, ap, ℕ, suc, ◌+◌, ◌-◌, ◌<◌, ◌≤◌, nat_le, ◌==◌, Bool, true, false, List, length, Option, Some, None, Result, Ok, Err, if◌then◌else◌, refl, arith}
+use Rattle.std.proofs.Common.{◌≡◌, ◌∙◌, ap, ℕ, suc, ◌+◌, ◌-◌, ◌<◌, ◌≤◌, nat_le, ◌==◌, ◌&&◌, Bool, true, false, List, [], ◌∷◌, length, Option, None, Result, Ok, Err, if◌then◌else◌, refl, arith}
 use Rattle.std.proofs.Math.IntN.{ℤ}
 use Rattle.std.proofs.lemmas.Bool.{and_from, le-leb, le-ltb, eq-eqb}
 use Rattle.dsv_algebra.specs.Vectors.{vector_of}
@@ -20,14 +20,16 @@ use Rattle.dsv_hints.specs.declared.step.Verdict.TheVariants as verdict
 use Rattle.dsv_unroll.specs.Goals.{most_size}
 use Rattle.dsv_bounded.specs.Formulas.{job_size_of}
 use Rattle.dsv_bounded.specs.RunQuestions.{question_formula, IsWithin}
-use Rattle.dsv_forms.specs.Poly.{IsPoly}
 use Rattle.dsv_forms.specs.Refusals.{falls_refusal}
 use Rattle.dsv_forms.specs.declared.offers.Falls.{Falls}
 use Rattle.dsv_forms.proofs.OfferLemmas.{falls_passes}
+use Rattle.dsv_forms.proofs.PassingOffers.{same_test}
 use Rattle.dsv_tested.specs.Tested.{side_of, tested_of}
 use Rattle.dsv_tested.specs.declared.side.Tested.{Tested}
 use Rattle.dsv_tested.specs.declared.side.Tested.TheVariants as tested
 use Rattle.dsv_delta.specs.declared.refusal.PolyWide.{PolyWide}
+use Rattle.dsv_table.specs.Table as tables
+use Rattle.dsv_table.specs.declared.verdict.TableVerdict.TheVariants as table
 use Rattle.dsv_loop.specs.Loops.{loop_of}
 use Rattle.dsv_loop.specs.declared.refusal.LoopRefusal.{LoopRefusal}
 use Rattle.dsv_template.specs.declared.candidate.Candidate.{Candidate}
@@ -36,15 +38,12 @@ use Rattle.dsv_template.specs.declared.verdict.ThreeLogs.{ThreeLogs}
 use Rattle.dsv_invariant.specs.Causes.{IsShaped, IsGood}
 use Rattle.dsv_invariant.specs.Formulas.{set_formula_of}
 use Rattle.dsv_invariant.specs.Limits.{unbounded_samples}
-use Rattle.dsv_linear.specs.declared.range.Range.{Range}
-use Rattle.dsv_realise.specs.Netlists.{net_of}
 use Rattle.dsv_roundoff.specs.declared.offers.RoundoffOffer.{RoundoffOffer}
 use Rattle.dsv_gain.specs.Controllers.{outlook_of}
-use Rattle.dsv_gain.specs.Errors.{error_of}
 use Rattle.dsv_gain.specs.declared.outlook.Gain.{Gain}
 use Rattle.dsv_gain.specs.declared.outlook.Outlook.TheVariants as outlook
 use Rattle.dsv_certfile.specs.Lawful.{IsSize}
-use Rattle.dsv_certfile.specs.Limits.{most_samples, most_gain_depth, narrow_word_bits}
+use Rattle.dsv_certfile.specs.Limits.{most_samples, most_gain_depth, narrow_word_bits, most_coefficients}
 use Rattle.dsv_certfile.specs.Words.{words_for}
 use Rattle.dsv_certfile.specs.declared.fault.CheckFault.TheVariants as fault
 use Rattle.dsv_certfile.specs.declared.certificate.Certificate.TheVariants as certificate
@@ -52,8 +51,8 @@ use Rattle.dsv_certfile.specs.declared.job.CertifiedJob.{CertifiedJob}
 use Rattle.dsv_certfile.specs.declared.job.CertWords.{CertWords}
 use Rattle.dsv_certfile.specs.declared.job.CertWords.TheVariants as words
 use Rattle.dsv_certfile.specs.declared.job.Size.TheVariants as size
-use Rattle.dsv_certcheck.specs.Checks.{Checked, refused, format_check, misfit, size_check, verdict_at, log_check, run_check, is_some_samples, hints_check, sentences_check, shape_check, invariant_check, shown_check, error_check, outlook_check, depth_check, gain_check, refusal_check, offer_check, tested_check, falls_check}
-use Rattle.dsv_certcheck.specs.LoopChecks.{polynomial_check, loop_check}
+use Rattle.dsv_certcheck.specs.Checks.{Checked, refused, format_check, misfit, size_check, verdict_at, log_check, run_check, is_some_samples, hints_check, sentences_check, shape_check, invariant_check, error_check, outlook_check, depth_check, gain_check, refusal_check, offer_check, tested_check, falls_check}
+use Rattle.dsv_certcheck.specs.LoopChecks.{coefficients_check, verdict_check, table_check, polynomial_check, loop_check}
 use Rattle.dsv_certcheck.specs.LineNumbers.{version_line_number, job_line_number, format_line_number, body_line, log_line}
 use Rattle.dsv_certcheck.specs.StateChecks.{state_offer_check, is_stability, state_check}
 use Rattle.dsv_certcheck.specs.declared.check_refusal.CheckRefusal.TheVariants as refusal
@@ -121,10 +120,22 @@ pub falls_pass : (w : CertWords) (q : QuantisedView) (p : RootProperty) (c : Lis
     → falls_check w q (property.OfRoots p) size.NoSize offer ≡ Ok tt
 falls_pass w q p c offer t e = ap (λ (r : Result Tested PolyWide). tested_check w r offer) t ∙ offer_passes w c offer (some_coefficients q (side_of p) c t) e
 
--- the form falls along the trajectories of the loop's polynomial
-pub loop_passes : (w : CertWords) (q : QuantisedView) (time : Ratio) (plant : PlantView) (c : List ℤ) (offer : Falls) → IsPoly c → loop_of q time plant ≡ Ok c → falls_refusal c offer ≡ None
-    → loop_check w q time plant (property.OfRoots root.Stability) size.OfLoop offer ≡ Ok tt
-loop_passes w q time plant c offer is t e = ap (λ (r : Result (List ℤ) LoopRefusal). polynomial_check w r offer) t ∙ offer_passes w c offer is.some e
+-- the table of the loop's polynomial has positive first numbers alone
+own_coefficients : (line : ℕ) (c : List ℤ) → coefficients_check line c c ≡ Ok tt
+own_coefficients line [] = refl
+own_coefficients line (x ∷ xs) = ap (λ b. if b then coefficients_check (suc line) xs xs else refused line fault.Table) (same_test x x refl) ∙ own_coefficients (suc line) xs
+
+table_passes : (w : CertWords) (c : List ℤ) → length c ≤ most_coefficients → tables.verdict_of c ≡ table.Inside → table_check w c c ≡ Ok tt
+table_passes w c few inside =
+    let line = body_line w in
+    ap (λ b. if b && nat_le (length c) most_coefficients then (coefficients_check line c c >>= λ x. verdict_check w (tables.verdict_of c)) else misfit w) (eq-eqb (length c) (length c) refl)
+    ∙ ap (λ b. if b then (coefficients_check line c c >>= λ x. verdict_check w (tables.verdict_of c)) else misfit w) (le-leb (length c) most_coefficients few)
+    ∙ ap (λ (r : Checked). r >>= λ x. verdict_check w (tables.verdict_of c)) (own_coefficients line c)
+    ∙ ap (verdict_check w) inside
+
+pub loop_passes : (w : CertWords) (q : QuantisedView) (time : Ratio) (plant : PlantView) (c : List ℤ) → length c ≤ most_coefficients → loop_of (q ∷ []) time plant ≡ Ok c → tables.verdict_of c ≡ table.Inside
+    → loop_check w q time plant (property.OfRoots root.Stability) size.OfLoop c ≡ Ok tt
+loop_passes w q time plant c few t inside = ap (λ (r : Result (List ℤ) LoopRefusal). polynomial_check w r c) t ∙ table_passes w c few inside
 
 -- the form falls along the states of a controller's words
 pub state_form_passes : (job : CertifiedJob) (s : StateView) (offer : Falls) → is_stability job.property ≡ true → state_falls_refusal s offer ≡ None → state_check s (certificate.Falls job offer) ≡ Ok tt

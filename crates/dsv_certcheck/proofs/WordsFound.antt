@@ -48,11 +48,11 @@ HasWords (Err (refusal.Quant why)) = ⊥
 HasWords (Err other) = Unit {0}
 
 -- ---- stages
-has_then : (r : Checked) (f : Unit {0} → Checked) → HasWords r → ((x : Unit {0}) → HasWords (f x)) → HasWords (r >>= f)
+pub has_then : (r : Checked) (f : Unit {0} → Checked) → HasWords r → ((x : Unit {0}) → HasWords (f x)) → HasWords (r >>= f)
 has_then (Ok x) f h g = g x
 has_then (Err e) f h g = h
 
-has_either : (b : Bool) (x y : Checked) → HasWords x → HasWords y → HasWords (if b then x else y)
+pub has_either : (b : Bool) (x y : Checked) → HasWords x → HasWords y → HasWords (if b then x else y)
 has_either true x y h k = h
 has_either false x y h k = k
 
@@ -88,7 +88,7 @@ has_refusal : (w : CertWords) (offer : Falls) (r : Option FormRefusal) → HasWo
 has_refusal w offer None = tt
 has_refusal w offer (Some why) = tt
 
-pub has_offer : (w : CertWords) (c : List ℤ) (offer : Falls) → HasWords (offer_check w c offer)
+has_offer : (w : CertWords) (c : List ℤ) (offer : Falls) → HasWords (offer_check w c offer)
 has_offer w c offer =
     has_either (offer.form.d + 1 == length c) (refusal_check w offer (falls_refusal c offer)) (misfit w) (has_refusal w offer (falls_refusal c offer)) tt
 
@@ -126,3 +126,4 @@ has_words q (certificate.Hints job log) = has_hints job.words q job.property job
 has_words q (certificate.Invariant job candidate logs) = has_invariant job.words q job.property job.size candidate logs
 has_words q (certificate.Gain job depth offer) = has_gain job.words q job.property job.size depth offer
 has_words q (certificate.Falls job offer) = has_falls job.words q job.property job.size offer
+has_words q (certificate.Table job coefficients) = tt

@@ -202,6 +202,7 @@ words_check q (certificate.Invariant job candidate logs) =
 words_check q (certificate.Gain job depth offer) =
     gain_check job.words q job.property job.size depth offer
 words_check q (certificate.Falls job offer) = falls_check job.words q job.property job.size offer
+words_check q (certificate.Table job coefficients) = misfit job.words
 
 -- in the job's realisation and modes the controller becomes these words, or is refused so
 abbrev pub BecomesFor : ControllerView → CertifiedJob → Result QuantisedView QuantRefusal → Type 0

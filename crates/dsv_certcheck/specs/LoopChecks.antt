@@ -1,7 +1,11 @@
 -- What the check of a certificate finds for a controller in a loop with a plant: nothing, or the
 -- first line whose claim isn't so, or why there is nothing to check it against. And what it shows
 -- where it finds nothing.
-use Rattle.std.specs.Prelude.{◌≡◌, List, Result, Ok, Err, ℤ}
+use Rattle.std.specs.Prelude.{◌≡◌, ℕ, suc, ◌-◌, ◌==◌, List, [], ◌∷◌, length, Result, Ok, Err, ℤ}
+use Rattle.std.specs.Prelude.{if◌then◌else◌, ◌&&◌, nat_le}
+use Rattle.std.specs.Ordering.{int_eq}
+use Rattle.dsv_text.specs.Stages.{◌>>=◌}
+use Rattle.dsv_algebra.specs.Vectors.{vector_of}
 use Rattle.dsv_names.specs.declared.property.Property.{Property}
 use Rattle.dsv_names.specs.declared.property.Property.TheVariants as property
 use Rattle.dsv_names.specs.declared.property.RootProperty.TheVariants as root
@@ -9,10 +13,13 @@ use Rattle.dsv_fraction.specs.Ratio.{Ratio}
 use Rattle.dsv_reader.specs.Controllers.{ControllerView}
 use Rattle.dsv_reader.specs.Plants.{PlantView}
 use Rattle.dsv_quantiser.specs.QuantisedView.{QuantisedView}
-use Rattle.dsv_forms.specs.declared.offers.Falls.{Falls}
-use Rattle.dsv_forms.specs.declared.offers.Form.{Form}
+use Rattle.dsv_table.specs.Table.{verdict_of}
+use Rattle.dsv_table.specs.Verdicts.{HasFallingForm}
+use Rattle.dsv_table.specs.declared.verdict.TableVerdict.{TableVerdict}
+use Rattle.dsv_table.specs.declared.verdict.TableVerdict.TheVariants as verdict
 use Rattle.dsv_loop.specs.Loops.{loop_of}
 use Rattle.dsv_loop.specs.declared.refusal.LoopRefusal.{LoopRefusal}
+use Rattle.dsv_certfile.specs.Limits.{most_coefficients}
 use Rattle.dsv_certfile.specs.Texts.{job_of}
 use Rattle.dsv_certfile.specs.declared.certificate.Certificate.{Certificate}
 use Rattle.dsv_certfile.specs.declared.certificate.Certificate.TheVariants as certificate
@@ -20,28 +27,48 @@ use Rattle.dsv_certfile.specs.declared.job.CertWords.{CertWords}
 use Rattle.dsv_certfile.specs.declared.job.CertifiedJob.{CertifiedJob}
 use Rattle.dsv_certfile.specs.declared.job.Size.{Size}
 use Rattle.dsv_certfile.specs.declared.job.Size.TheVariants as size
-use Rattle.dsv_certcheck.specs.Checks.{Checked, misfit, format_check, offer_check, BecomesFor}
-use Rattle.dsv_certcheck.specs.Shown.{IsFalling}
+use Rattle.dsv_certfile.specs.declared.fault.CheckFault.TheVariants as fault
+use Rattle.dsv_certcheck.specs.Checks.{Checked, misfit, refused, format_check, BecomesFor}
+use Rattle.dsv_certcheck.specs.LineNumbers.{kind_line, body_line}
 use Rattle.dsv_certcheck.specs.declared.check_refusal.CheckRefusal.TheVariants as refusal
 
--- ---- a form that falls
--- the form falls along the trajectories of the loop's polynomial, where there is one
-abbrev pub polynomial_check : CertWords → Result (List ℤ) LoopRefusal → Falls → Checked
-polynomial_check w (Ok c) offer = offer_check w c offer
-polynomial_check w (Err why) offer = Err (refusal.Loop why)
+-- ---- a table
+-- the first line whose number isn't the polynomial's in its place, of the lines from this one on
+abbrev pub coefficients_check : ℕ → List ℤ → List ℤ → Checked
+coefficients_check line (c ∷ cs) (x ∷ xs) =
+    if int_eq c x then coefficients_check (suc line) cs xs else refused line fault.Table
+coefficients_check line cs xs = Ok tt
+
+-- the verdict of a polynomial's table: all its first numbers are positive
+abbrev pub verdict_check : CertWords → TableVerdict → Checked
+verdict_check w verdict.Inside = Ok tt
+verdict_check w (verdict.NotInside row) = refused (kind_line w) fault.Table
+
+-- there are as many coefficients, these are the polynomial's, and its table has positive first
+-- numbers alone
+abbrev pub table_check : CertWords → List ℤ → List ℤ → Checked
+table_check w c coefficients =
+    if length coefficients == length c && nat_le (length coefficients) most_coefficients
+    then (coefficients_check (body_line w) coefficients c >>= λ _. verdict_check w (verdict_of c))
+    else misfit w
+
+-- the same of the loop's polynomial, if there is one
+abbrev pub polynomial_check : CertWords → Result (List ℤ) LoopRefusal → List ℤ → Checked
+polynomial_check w (Ok c) coefficients = table_check w c coefficients
+polynomial_check w (Err why) coefficients = Err (refusal.Loop why)
 
 -- of words that run with this sample time; no other property is one of a loop
-abbrev pub loop_check : CertWords → QuantisedView → Ratio → PlantView → Property → Size → Falls
+abbrev pub loop_check : CertWords → QuantisedView → Ratio → PlantView → Property → Size → List ℤ
     → Checked
-loop_check w q time plant (property.OfRoots root.Stability) size.OfLoop offer =
-    polynomial_check w (loop_of q time plant) offer
-loop_check w q time plant p s offer = misfit w
+loop_check w q time plant (property.OfRoots root.Stability) size.OfLoop coefficients =
+    polynomial_check w (loop_of (q ∷ []) time plant) coefficients
+loop_check w q time plant p s coefficients = misfit w
 
 -- ---- certificates
 -- for a quantised controller; no other kind shows a property of a loop
 abbrev pub words_loop_check : QuantisedView → Ratio → PlantView → Certificate → Checked
-words_loop_check q time plant (certificate.Falls job offer) =
-    loop_check job.words q time plant job.property job.size offer
+words_loop_check q time plant (certificate.Table job coefficients) =
+    loop_check job.words q time plant job.property job.size coefficients
 words_loop_check q time plant other = misfit (job_of other).words
 
 -- This is found of the words that the controller becomes.
@@ -53,6 +80,7 @@ pub record IsLoopFoundOf (c : ControllerView) (plant : PlantView) (cert : Certif
 
 -- what is found for a controller whose words have the certificate's format
 abbrev pub IsLoopFoundFor : ControllerView → PlantView → Certificate → Checked → Type 0
+IsLoopFoundFor c plant cert (Err refusal.NoMemory) = Unit {0}
 IsLoopFoundFor c plant cert (Err (refusal.Quant why)) = BecomesFor c (job_of cert) (Err why)
 IsLoopFoundFor c plant cert found = IsLoopFoundOf c plant cert found
 
@@ -66,12 +94,11 @@ abbrev pub IsLoopChecked : ControllerView → PlantView → Certificate → Chec
 IsLoopChecked c plant cert = IsLoopFoundAfter (format_check c (job_of cert).words) c plant cert
 
 -- ---- what is shown
--- The polynomial of the loop has a form that falls.
+-- A form strictly falls along each trajectory of the loop's polynomial.
 pub record HasFallingLoop (q : QuantisedView) (time : Ratio) (plant : PlantView) : Type 0 where
   pub poly : List ℤ
-  pub loop : loop_of q time plant ≡ Ok poly
-  pub form : Form
-  pub falls : IsFalling poly form
+  pub loop : loop_of (q ∷ []) time plant ≡ Ok poly
+  pub falls : HasFallingForm (length poly - 1) (vector_of poly)
 
 -- the loop with the plant has the property, which is stability
 abbrev pub LoopHas : QuantisedView → Ratio → PlantView → Property → Size → Type 0

@@ -72,6 +72,7 @@ StaysAsOffered q (certificate.Gain job depth offer) shown = ShowsNear q offer sh
 StaysAsOffered q (certificate.Hints job log) shown = ShowsNear q None shown
 StaysAsOffered q (certificate.Invariant job candidate logs) shown = ShowsNear q None shown
 StaysAsOffered q (certificate.Falls job offer) shown = ShowsNear q None shown
+StaysAsOffered q (certificate.Table job coefficients) shown = ShowsNear q None shown
 
 -- The words that the controller becomes stay as the certificate offers.
 pub record IsNearOf (c : ControllerView) (cert : Certificate) (shown : Option ShownError)

@@ -1,6 +1,6 @@
 -- What the check of a certificate's form finds for a state-space controller: the first line whose
 -- claim isn't so, or nothing. Of the job its property alone counts, and the format isn't compared.
-use Rattle.std.specs.Prelude.{◌≡◌, ◌==◌, Bool, true, false, Ok, if◌then◌else◌}
+use Rattle.std.specs.Prelude.{◌≡◌, ◌==◌, Bool, true, false, if◌then◌else◌}
 use Rattle.dsv_names.specs.declared.property.Property.{Property}
 use Rattle.dsv_names.specs.declared.property.Property.TheVariants as property
 use Rattle.dsv_names.specs.declared.property.RootProperty.TheVariants as root

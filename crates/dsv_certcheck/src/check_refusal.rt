@@ -4,7 +4,7 @@ use dsv_base::NoMemory;
 use dsv_bounded::{BoundedRefusal, TooLarge};
 use dsv_certfile::{CertWords, CheckFault};
 use dsv_delta::PolyWide;
-use dsv_loop::LoopRefusal;
+use dsv_loop::{LoopRefusal, LoopStop};
 use dsv_quantiser::QuantRefusal;
 use thiserror::Error;
 
@@ -23,7 +23,7 @@ pub enum CheckRefusal {
     /// The numerator's coefficients are all 0.
     #[error("all coefficients of the numerator are 0")]
     NoZeros,
-    /// The controller has no loop with the plant, or one whose polynomial isn't tested.
+    /// The controller has no loop with the plant.
     #[error("{0}")]
     Loop(LoopRefusal),
     /// The question of runs is larger than what is asked of formulas.
@@ -85,14 +85,17 @@ impl From<PolyWide> for CheckRefusal {
     }
 }
 
-impl From<LoopRefusal> for CheckRefusal {
+impl From<LoopStop> for CheckRefusal {
     ghost use Rattle.std.specs.Prelude.{◌≡◌};
-    ghost use Rattle.dsv_certcheck.specs.declared.check_refusal.CheckRefusal.TheVariants as refusal;
+    ghost use Rattle.dsv_certcheck.specs.Refusals.{of_loop_stop};
 
-    ghost from_gives = { λ why r. r ≡ refusal.Loop why };
+    ghost from_gives = { λ why r. r ≡ of_loop_stop why };
 
-    fn from(refusal: LoopRefusal) -> Self {
-        CheckRefusal::Loop(refusal)
+    fn from(stop: LoopStop) -> Self {
+        match stop {
+            LoopStop::Refused(refusal) => CheckRefusal::Loop(refusal),
+            LoopStop::NoMemory => CheckRefusal::NoMemory,
+        }
     }
 }
 

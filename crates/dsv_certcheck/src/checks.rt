@@ -169,7 +169,7 @@ fn check_gain(
 }
 
 /// Checks that a form falls along the trajectories of a polynomial.
-pub(crate) fn check_offer(words: CertWords, poly: &Poly, offer: &Falls) -> Result<(), CheckRefusal>
+fn check_offer(words: CertWords, poly: &Poly, offer: &Falls) -> Result<(), CheckRefusal>
     ensures found { result ≡ offer_check words poly.now offer.now }
     ensures shows { OnOk result (IsFalling poly.now offer.now.form) }
 {
@@ -238,6 +238,7 @@ fn check_words(
             check_gain(alloc, quantised, job, *depth, offer)
         }
         Certificate::Falls { job, offer } => without_error(check_form(quantised, job, offer)),
+        Certificate::Table { job, .. } => Err(CheckRefusal::misfit(job.words)),
     }
 }
 

@@ -1,37 +1,96 @@
 // The check of certificates against controllers in a loop with a plant.
-ghost use Rattle.std.specs.Prelude.{◌≡◌, OnOk};
-ghost use Rattle.dsv_certcheck.specs.LoopChecks.{loop_check, words_loop_check, IsLoopChecked};
-ghost use Rattle.dsv_certcheck.specs.LoopChecks.{LoopHas, IsLoopShownOf};
+ghost use Rattle.std.specs.Prelude.{◌≡◌, ◌≤◌, length, OnOk};
+ghost use Rattle.dsv_table.specs.Table.{verdict_of};
+ghost use Rattle.dsv_table.specs.declared.verdict.TableVerdict.TheVariants.{Inside};
+ghost use Rattle.dsv_certcheck.specs.Checks.{Finds};
+ghost use Rattle.dsv_certcheck.specs.LoopChecks.{coefficients_check, table_check, loop_check};
+ghost use Rattle.dsv_certcheck.specs.LoopChecks.{words_loop_check, IsLoopChecked, LoopHas};
+ghost use Rattle.dsv_certcheck.specs.LoopChecks.{IsLoopShownOf};
+ghost use Rattle.dsv_certfile.specs.Limits.{most_coefficients};
 ghost use Rattle.dsv_certfile.specs.Texts.{job_of};
 
 use crate::check_refusal::CheckRefusal;
-use crate::checks::{check_format, check_offer};
-use dsv_certfile::{Certificate, CertifiedJob, Size};
-use dsv_forms::Falls;
+use crate::checks::check_format;
+use crate::line_numbers::{body_line, kind_line};
+use dsv_certfile::{CertWords, Certificate, CertifiedJob, CheckFault, MOST_COEFFICIENTS, Size};
 use dsv_fraction::Frac;
+use dsv_integer::{Integer, Numeral};
 use dsv_loop::loop_polynomial;
 use dsv_names::{Property, RootProperty};
 use dsv_quantiser::{Quantised, quantise_in};
 use dsv_reader::{Controller, Plant};
+use dsv_table::{TableVerdict, verdict_of};
+use std::alloc::Global;
+use std::slice;
 
-/// Checks that a form shows the property of a job, for words that run with this sample time in a
-/// loop with the plant.
-fn check_loop_form(
-    quantised: &Quantised,
+/// What a controller runs with in its loop: the sample time, and the plant.
+#[derive(Clone, Copy)]
+struct LoopSide<'a> {
     sample_time: Frac,
-    plant: &Plant,
-    job: &CertifiedJob,
-    offer: &Falls,
+    plant: &'a Plant,
+}
+
+/// Checks that these are the polynomial's coefficients, the first of which stands in this line.
+fn check_coefficients(line: u64, numbers: &[Numeral], poly: &[Integer]) -> Result<(), CheckRefusal>
+    requires low { line ≤ 5 }
+    requires few { length numbers.now ≤ most_coefficients }
+    requires many { length poly.now ≡ length numbers.now }
+    ensures { result ≡ coefficients_check line numbers.now poly.now }
+{
+    for i in 0..numbers.len() {
+        if !numbers[i].number().equals(&poly[i]) {
+            return Err(CheckRefusal::Line {
+                line: line + i as u64,
+                fault: CheckFault::Table,
+            });
+        }
+    }
+    Ok(())
+}
+
+/// Checks that these are the polynomial's coefficients, and that its table has positive first
+/// numbers alone.
+fn check_table(
+    alloc: Global,
+    words: CertWords,
+    poly: &[Integer],
+    coefficients: &[Numeral],
 ) -> Result<(), CheckRefusal>
-    ensures found { result ≡ loop_check job.now.words quantised.now sample_time plant.now
-        job.now.property job.now.size offer.now }
-    ensures shows { OnOk result
-        (LoopHas quantised.now sample_time plant.now job.now.property job.now.size) }
+    ensures found { Finds result (table_check words poly.now coefficients.now) }
+    ensures shows { OnOk result (verdict_of poly.now ≡ Inside) }
+{
+    if coefficients.len() != poly.len() || coefficients.len() > MOST_COEFFICIENTS as usize {
+        return Err(CheckRefusal::misfit(words));
+    }
+    check_coefficients(body_line(words), coefficients, poly)?;
+    match verdict_of(poly, alloc)? {
+        TableVerdict::Inside => Ok(()),
+        TableVerdict::NotInside { .. } => Err(CheckRefusal::Line {
+            line: kind_line(words),
+            fault: CheckFault::Table,
+        }),
+    }
+}
+
+/// Checks that a table shows the property of a job, for words that run with this sample time in a
+/// loop with the plant.
+fn check_loop_table(
+    alloc: Global,
+    quantised: &Quantised,
+    run: &LoopSide,
+    job: &CertifiedJob,
+    coefficients: &[Numeral],
+) -> Result<(), CheckRefusal>
+    ensures found { Finds result (loop_check job.now.words quantised.now run.now.sample_time
+        run.now.plant.now job.now.property job.now.size coefficients.now) }
+    ensures shows { OnOk result (LoopHas quantised.now run.now.sample_time run.now.plant.now
+        job.now.property job.now.size) }
 {
     match (job.property, job.size) {
         (Property::OfRoots(RootProperty::Stability), Size::OfLoop) => {
-            let poly = loop_polynomial(quantised, sample_time, plant)?;
-            check_offer(job.words, &poly, offer)
+            let sections = slice::from_ref(quantised);
+            let poly = loop_polynomial(sections, run.sample_time, run.plant, alloc)?;
+            check_table(alloc, job.words, poly.as_slice(), coefficients)
         }
         (_, _) => Err(CheckRefusal::misfit(job.words)),
     }
@@ -39,19 +98,19 @@ fn check_loop_form(
 
 /// Checks a certificate for words that run with this sample time in a loop with the plant.
 fn check_loop_words(
+    alloc: Global,
     quantised: &Quantised,
-    sample_time: Frac,
-    plant: &Plant,
+    run: &LoopSide,
     certificate: &Certificate,
 ) -> Result<(), CheckRefusal>
-    ensures found { result
-        ≡ words_loop_check quantised.now sample_time plant.now certificate.now }
-    ensures shows { OnOk result (LoopHas quantised.now sample_time plant.now
+    ensures found { Finds result (words_loop_check quantised.now run.now.sample_time
+        run.now.plant.now certificate.now) }
+    ensures shows { OnOk result (LoopHas quantised.now run.now.sample_time run.now.plant.now
         (job_of certificate.now).property (job_of certificate.now).size) }
 {
     match certificate {
-        Certificate::Falls { job, offer } => {
-            check_loop_form(quantised, sample_time, plant, job, offer)
+        Certificate::Table { job, coefficients } => {
+            check_loop_table(alloc, quantised, run, job, coefficients.as_slice())
         }
         other => Err(CheckRefusal::misfit(other.job().words)),
     }
@@ -59,19 +118,21 @@ fn check_loop_words(
 
 /// Checks a certificate against a controller in a loop with a plant: as in [`check`] the
 /// controller's words have to be of the format that the certificate says, and are made anew in its
-/// modes; from these and the plant the polynomial of the loop is made anew, and nothing else that
-/// the certificate says is believed. What passes shows that the loop is stable. It takes no memory.
+/// modes; from these and the plant the polynomial of the loop and its table are made anew, and
+/// nothing else that the certificate says is believed. What passes shows that the loop is stable.
 ///
 /// # Errors
 ///
-/// In this order: the format's line, where the words have another; why the controller has no words
-/// in the modes; the kind's line, where the certificate is of another kind or its job isn't the
-/// stability of a loop; why the loop has no polynomial; the kind's line, where the form has another
-/// number of places than the polynomial's order; and the first line of the form that its check
-/// refuses.
+/// In this order: the format's line, if the words have another; why the controller has no words
+/// in the modes; the kind's line, if the certificate is of another kind or its job isn't the
+/// stability of a loop; why there is no loop; the kind's line, if the certificate has another
+/// number of coefficients than the polynomial, or more than [`MOST_COEFFICIENTS`]; the first line
+/// whose number isn't the polynomial's; and the kind's line, if a first number of the polynomial's
+/// table isn't positive. Want of memory comes wherever there is none.
 ///
 /// [`check`]: crate::check
 pub fn check_loop(
+    alloc: Global,
     controller: &Controller,
     plant: &Plant,
     certificate: &Certificate,
@@ -83,5 +144,9 @@ pub fn check_loop(
     let job = certificate.job();
     check_format(controller, job.words)?;
     let quantised = quantise_in(controller, job.design)?;
-    check_loop_words(&quantised, *controller.sample_time(), plant, certificate)
+    let run = LoopSide {
+        sample_time: *controller.sample_time(),
+        plant,
+    };
+    check_loop_words(alloc, &quantised, &run, certificate)
 }

@@ -1,5 +1,5 @@
 -- Lines one after another.
-use Rattle.std.proofs.Common.{◌≡◌, ◌∙◌, ap, ℕ, zero, suc, ◌+◌, ◌≤◌, ◌<◌, List, [], ◌∷◌, ◌++◌, length, map, take, drop, replicate, get_or, Result, Ok, Err, refl, arith, add-one, IfOk}
+use Rattle.std.proofs.Common.{◌≡◌, ◌∙◌, ap, ℕ, zero, suc, ◌+◌, ◌≤◌, ◌<◌, List, [], ◌∷◌, ◌++◌, length, map, take, drop, replicate, get_or, Result, Ok, Err, refl, sym, arith, add-one, IfOk}
 use Rattle.std.proofs.Math.IntN.{ℤ, pos}
 use Rattle.std.specs.Int.RustNames.{unsigned_abs}
 use Rattle.std.proofs.lemmas.List.{take-replicate, length-map}
@@ -10,11 +10,14 @@ use Rattle.dsv_forms.specs.declared.offers.Squares.{Squares}
 use Rattle.dsv_certfile.specs.Bodies.{line_in, lines_from, rows_in, squares_of}
 use Rattle.dsv_certfile.specs.Places.{row_places}
 use Rattle.dsv_certfile.specs.declared.keyword.Keyword.TheVariants as keyword
+use Rattle.dsv_certfile.specs.Answers.{RefusesText, text_refusal}
 use Rattle.dsv_certfile.specs.Candidates.{AreEntries}
 use Rattle.dsv_certfile.specs.Limits.{greatest_entry}
 use Rattle.dsv_lines.specs.Pieces.{LinesLeft}
 use Rattle.dsv_certfile.specs.Ranges.{AreOf}
 use Rattle.dsv_certfile.specs.declared.fault.TextFault.{TextFault}
+use Rattle.dsv_certfile.specs.declared.fault.CertRefusal.{CertRefusal}
+use Rattle.dsv_certfile.specs.declared.fault.CertRefusal.TheVariants as refusal
 use Rattle.dsv_certfile.specs.declared.fault.TextRefusal.{TextRefusal}
 use Rattle.dsv_certfile.specs.declared.keyword.Keyword.{Keyword}
 use Rattle.dsv_certfile.specs.declared.numbers.NumberRange.{NumberRange}
@@ -34,6 +37,16 @@ pub bad_line : {X : Type 0} (read : List ℕ → Result X TextFault) (n m : ℕ)
 bad_line {X = X} read n m xs old why e h =
     ap (λ k. lines_from read k xs old) e
     ∙ ap (λ (r : Result (Reading X) TextRefusal). r >>= λ y. lines_from read m (xs ++ y.value ∷ []) y.left) h
+
+-- a line that isn't read, be it for want of memory
+pub bad_lines : {X : Type 0} (read : List ℕ → Result X TextFault) (n m : ℕ) (xs : List X) (old : LinesLeft) (why : CertRefusal)
+    → n ≡ suc m → RefusesText why (line_in read old) → RefusesText why (lines_from read n xs old)
+bad_lines read n m xs old refusal.NoMemory e h = tt
+bad_lines read n m xs old (refusal.Text k w) e h = bad_line read n m xs old (text_refusal k w) e h
+
+pub refuses_as : {X : Type 0} (why : CertRefusal) (a b : Result X TextRefusal) → a ≡ b → RefusesText why a → RefusesText why b
+refuses_as refusal.NoMemory a b e h = tt
+refuses_as (refusal.Text k w) a b e h = sym e ∙ h
 
 -- ---- places of one range
 pub places_taken : (w : Keyword) (r : NumberRange) (n m : ℕ) → n ≤ m

@@ -1,10 +1,10 @@
 -- A certificate that was read is one that texts spell, and the text is its own.
-use Rattle.std.proofs.Common.{◌≡◌, ◌∙◌, sym, ap, ℕ, List, [], ◌∷◌, ◌++◌, length, map, Some, None, Result, Ok, Err, IfOk, refl, append_assoc}
+use Rattle.std.proofs.Common.{◌≡◌, ◌∙◌, sym, ap, ℕ, List, [], ◌∷◌, ◌++◌, length, map, Some, None, Result, Ok, Err, IfOk, refl, append_assoc, arith}
 use Rattle.std.proofs.lemmas.Result.{IfOk-at_ok}
 use Rattle.dsv_text.specs.Stages.{◌>>=◌}
 use Rattle.dsv_lines.specs.Readings.{Reading}
 use Rattle.dsv_certfile.specs.Answers.{cert_answer}
-use Rattle.dsv_certfile.specs.Bodies.{whole_text, word_in, invariant_in, falls_in, roundoff_in}
+use Rattle.dsv_certfile.specs.Bodies.{whole_text, word_in, invariant_in, falls_in, roundoff_in, table_in}
 use Rattle.dsv_certfile.specs.Lawful.{IsSize, IsWords, IsLawful}
 use Rattle.dsv_lines.specs.Pieces.{all_lines}
 use Rattle.dsv_lines.specs.Texts.{Line}
@@ -23,6 +23,7 @@ use Rattle.dsv_certfile.specs.declared.reader.Heading.{Heading}
 use Rattle.dsv_certfile.proofs.LawfulBodies.{IsOfferOf, yields_roundoff, IsProofOf, yields_invariant}
 use Rattle.dsv_certfile.proofs.KindLemmas.{one_kind}
 use Rattle.dsv_certfile.proofs.LawfulFalls.{IsFallOf, yields_falls}
+use Rattle.dsv_certfile.proofs.Tables.{AreCoefficientsOf, yields_table}
 use Rattle.dsv_certfile.proofs.LawfulHeadings.{IsHeadFor, head_line, IsHeading, yields_heading}
 use Rattle.dsv_certfile.proofs.LawfulParts.{then_has, whole_text_has, Taken, Yields, yields_made, joined, read_lines}
 use Rattle.dsv_certfile.proofs.LawfulSteps.{IsLogOf, yields_log}
@@ -65,6 +66,14 @@ yields_body job (head.Falls d) s w e =
       lawful = (record { size = s; words = w; belongs = e.0 }, o.offer_is);
       job_is = refl;
       kind_is = ap (λ n. kind_line kind.Falls (n ∷ [])) o.places;
+      lines = o.lines;
+    })
+yields_body job (head.Table count) s w e =
+    yields_made (table_in count) (certificate.Table job) (AreCoefficientsOf count) (IsBodyOf job (head.Table count)) (yields_table count)
+    (λ cs ls o. record {
+      lawful = (record { size = s; words = w; belongs = e.0 }, omega (arith, o.many, e.1), omega (arith, o.many, e.2));
+      job_is = refl;
+      kind_is = ap (λ n. kind_line kind.Table (n ∷ [])) o.many;
       lines = o.lines;
     })
 

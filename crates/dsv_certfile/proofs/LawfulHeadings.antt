@@ -22,7 +22,7 @@ use Rattle.dsv_certfile.specs.Bodies.{line_in}
 use Rattle.dsv_certfile.specs.Keywords.{keyword_text, version_text, unbounded_text, plant_text}
 use Rattle.dsv_certfile.specs.Kinds.{kind_name, kinds, is_kind_of}
 use Rattle.dsv_certfile.specs.Lawful.{IsSize, IsWords}
-use Rattle.dsv_certfile.specs.Limits.{most_samples, greatest_depth, most_gain_depth, most_box_ranges, most_places}
+use Rattle.dsv_certfile.specs.Limits.{most_samples, greatest_depth, most_gain_depth, most_box_ranges, most_places, most_coefficients}
 use Rattle.dsv_template.specs.Limits.{most_inequalities}
 use Rattle.dsv_certfile.specs.Numerals.{samples_of}
 use Rattle.dsv_lines.specs.Pieces.{pieces_of, piece_at}
@@ -174,6 +174,7 @@ IsHeadFor job (head.Gain depth) = (is_kind_of job kind.Gain ≡ true) × (depth 
 IsHeadFor job (head.Error depth error_depth count) =
     (is_kind_of job kind.Error ≡ true) × (depth ≤ most_gain_depth) × (error_depth ≤ most_gain_depth) × (count ≤ most_box_ranges)
 IsHeadFor job (head.Falls d) = (is_kind_of job kind.Falls ≡ true) × (d ≤ most_places)
+IsHeadFor job (head.Table count) = (is_kind_of job kind.Table ≡ true) × (1 ≤ count) × (count ≤ most_coefficients)
 
 -- the kind line of these numbers
 abbrev pub head_line : KindHead → Line
@@ -182,6 +183,7 @@ head_line (head.Invariant depth count) = kind_line kind.Invariant (depth ∷ cou
 head_line (head.Gain depth) = kind_line kind.Gain (depth ∷ [])
 head_line (head.Error depth error_depth count) = kind_line kind.Error (depth ∷ error_depth ∷ count ∷ [])
 head_line (head.Falls d) = kind_line kind.Falls (d ∷ [])
+head_line (head.Table count) = kind_line kind.Table (count ∷ [])
 
 abbrev IsHeadLine : CertifiedJob → Line → KindHead → Type 0
 IsHeadLine job pieces h = IsHeadFor job h × (pieces ≡ head_line h)
@@ -205,6 +207,9 @@ head_is job kind.Error (x ∷ y ∷ z ∷ w ∷ zs) e h = absurd (h.1.1.1)
 head_is job kind.Falls [] e h = absurd h
 head_is job kind.Falls (z ∷ []) e h = ((e, h.0.1), rw (signed_decimal-count z h.0.0) refl)
 head_is job kind.Falls (z ∷ y ∷ zs) e h = absurd (h.1)
+head_is job kind.Table [] e h = absurd h
+head_is job kind.Table (z ∷ []) e h = ((e, omega (arith, ints, h.0.0), h.0.1), rw (signed_decimal-count z (omega (arith, ints, h.0.0))) refl)
+head_is job kind.Table (z ∷ y ∷ zs) e h = absurd (h.1)
 
 two_pieces : (pieces : Line) → 0 < length (piece_at pieces 1) → pieces ≡ piece_at pieces 0 ∷ piece_at pieces 1 ∷ drop 2 pieces
 two_pieces [] h = absurd (omega (arith, h))
@@ -217,6 +222,7 @@ kind_is_some kind.Invariant = omega arith
 kind_is_some kind.Gain = omega arith
 kind_is_some kind.Error = omega arith
 kind_is_some kind.Falls = omega arith
+kind_is_some kind.Table = omega arith
 
 head_read : (job : CertifiedJob) (pieces : Line) (k : Kind) (zs : List ℤ) → piece_at pieces 0 ≡ keyword_text keyword.Kind → piece_at pieces 1 ≡ kind_name k → is_kind_of job k ≡ true
     → AreSpelled (kind_places k) (drop 2 pieces) zs → IsHeadLine job pieces (head_with k zs)
@@ -230,6 +236,7 @@ kinds_short kind.Invariant pieces = line_numbers_spelled (kind_places kind.Invar
 kinds_short kind.Gain pieces = line_numbers_spelled (kind_places kind.Gain) pieces refl
 kinds_short kind.Error pieces = line_numbers_spelled (kind_places kind.Error) pieces refl
 kinds_short kind.Falls pieces = line_numbers_spelled (kind_places kind.Falls) pieces refl
+kinds_short kind.Table pieces = line_numbers_spelled (kind_places kind.Table) pieces refl
 
 of_step : (job : CertifiedJob) (k : Kind) (b : Bool) → is_kind_of job k ≡ b → IfOk (if b then Ok k else Err fault.Kind) (λ l. (l ≡ k) × (is_kind_of job k ≡ true))
 of_step job k true e = (refl, e)

@@ -1,5 +1,5 @@
 -- A certificate that was written and is accepted is lawful, with the numbers of its form's places alone, and has the same text.
-use Rattle.std.proofs.Common.{◌≡◌, ◌≤◌, ℕ, true, List, Option, None, IfSome, ℤ}
+use Rattle.std.proofs.Common.{◌≡◌, ◌≤◌, ℕ, true, List, length, Option, IfSome, ℤ}
 use Rattle.dsv_cnf.specs.FormulaView.{FormulaView}
 use Rattle.dsv_hints.specs.Lessons.{IsRefutation}
 use Rattle.dsv_hints.specs.declared.step.Step.{Step}
@@ -12,7 +12,7 @@ use Rattle.dsv_template.specs.declared.candidate.Candidate.{Candidate}
 use Rattle.dsv_template.specs.declared.verdict.ThreeLogs.{ThreeLogs}
 use Rattle.dsv_certfile.specs.Kinds.{is_kind_of}
 use Rattle.dsv_certfile.specs.Lawful.{IsLog, AreLogs, IsRoundoffOffer, IsLawful, certificate_alone}
-use Rattle.dsv_certfile.specs.Limits.{most_gain_depth}
+use Rattle.dsv_certfile.specs.Limits.{most_gain_depth, most_coefficients}
 use Rattle.dsv_certfile.specs.Texts.{certificate_text}
 use Rattle.dsv_certfile.specs.Typed.{IsTypedLog, IsTyped}
 use Rattle.dsv_certfile.specs.declared.certificate.Certificate.TheVariants as certificate
@@ -57,3 +57,8 @@ falls_are_lawful job offer b t n = (record { size = t.size; words = t.words; bel
 
 pub falls_text : (job : CertifiedJob) (offer : Falls) → IsTyped (certificate.Falls job offer) → IsNarrow offer → certificate_text (certificate_alone (certificate.Falls job offer)) ≡ certificate_text (certificate.Falls job offer)
 falls_text job offer t n = falls_text_alone job offer t.body t.places n
+
+-- ---- a table
+pub table_is_lawful : (job : CertifiedJob) (cs : List ℤ) → is_kind_of job kind.Table ≡ true → IsTyped (certificate.Table job cs) → 1 ≤ length cs → length cs ≤ most_coefficients
+    → IsLawful (certificate.Table job cs)
+table_is_lawful job cs b t some few = (record { size = t.size; words = t.words; belongs = b }, some, few)

@@ -18,6 +18,7 @@ pub mod RangeLemmas
 pub mod ReadPlaces
 pub mod SquareLines
 pub mod StepLemmas
+pub mod Tables
 pub mod TypedParts
 pub mod WrittenBodies
 pub mod WrittenCertificates

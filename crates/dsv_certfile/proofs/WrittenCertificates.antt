@@ -5,16 +5,16 @@ use Rattle.std.proofs.lemmas.List.Elements.{All-cons, All-nil, All-append}
 use Rattle.dsv_text.specs.Stages.{◌>>=◌}
 use Rattle.dsv_lines.specs.Readings.{Reading}
 use Rattle.dsv_certfile.specs.Answers.{cert_answer}
-use Rattle.dsv_certfile.specs.Bodies.{line_in, word_in, whole_text, invariant_in, falls_in, roundoff_in}
+use Rattle.dsv_certfile.specs.Bodies.{line_in, word_in, whole_text, invariant_in, falls_in, roundoff_in, table_in}
 use Rattle.dsv_certfile.specs.Headings.{version_in, line_job, line_kind}
 use Rattle.dsv_certfile.specs.Lawful.{IsSize, IsWords, IsLawful}
-use Rattle.dsv_certfile.specs.Limits.{greatest_depth, most_gain_depth, most_box_ranges, most_places}
+use Rattle.dsv_certfile.specs.Limits.{greatest_depth, most_gain_depth, most_box_ranges, most_places, most_coefficients}
 use Rattle.dsv_template.specs.Limits.{most_inequalities}
 use Rattle.dsv_lines.specs.Pieces.{unended, lines_of}
 use Rattle.dsv_certfile.specs.Reading.{words_in, heading_in, body_in, whole_certificate, certificate_in}
 use Rattle.dsv_certfile.specs.Steps.{log_in}
 use Rattle.dsv_lines.specs.Texts.{Line, IsPlain, ArePlain}
-use Rattle.dsv_certfile.specs.Texts.{log_lines, falls_lines, version_line, job_line, format_lines, head_lines, word_line, job_of, kind_line_of, body_lines, candidate_counts, certificate_lines, certificate_text, inequality_line, logs_lines, range_line, roundoff_counts}
+use Rattle.dsv_certfile.specs.Texts.{log_lines, falls_lines, version_line, job_line, format_lines, head_lines, word_line, job_of, kind_line_of, body_lines, candidate_counts, certificate_lines, certificate_text, inequality_line, logs_lines, range_line, roundoff_counts, coefficient_line}
 use Rattle.dsv_certfile.specs.Words.{with_words}
 use Rattle.dsv_certfile.specs.declared.certificate.Certificate.{Certificate}
 use Rattle.dsv_certfile.specs.declared.certificate.Certificate.TheVariants as certificate
@@ -34,7 +34,8 @@ use Rattle.dsv_certfile.proofs.WrittenFalls.{takes_falls, falls_plain}
 use Rattle.dsv_certfile.proofs.WrittenHeadings.{version_of, version_plain, version_back, job_back, job_line-plain, format_lines-plain, takes_words, kind_back, kind_line-plain}
 use Rattle.dsv_lines.proofs.WrittenLines.{IsLine, line_bytes, onto_lines, onto_lines-append, lines-written}
 use Rattle.dsv_lines.proofs.WrittenNumerals.{decimal_plain}
-use Rattle.dsv_certfile.proofs.WrittenNumbers.{count_read}
+use Rattle.dsv_certfile.proofs.WrittenNumbers.{count_read, positive_read}
+use Rattle.dsv_certfile.proofs.Tables.{takes_table, coefficients_plain}
 use Rattle.dsv_certfile.proofs.WrittenParts.{Reader, Takes, and_read, takes_as, takes_both, takes_made, takes_line, left_at}
 use Rattle.dsv_certfile.proofs.WrittenSteps.{takes_log, log_plain}
 
@@ -80,6 +81,7 @@ head_of (certificate.Invariant job candidate logs) = head.Invariant candidate.de
 head_of (certificate.Gain job depth None) = head.Gain depth
 head_of (certificate.Gain job depth (Some offer)) = head.Error depth offer.depth (length offer.ranges)
 head_of (certificate.Falls job offer) = head.Falls offer.form.d
+head_of (certificate.Table job coefficients) = head.Table (length coefficients)
 
 is_read_back : (c : Certificate) → IsLawful c → IsReadBack c (head_of c)
 is_read_back (certificate.Hints job log) h = record {
@@ -149,6 +151,17 @@ is_read_back (certificate.Falls job offer) h =
       kind_plain = kind_line-plain kind.Falls (offer.form.d ∷ []) plain;
       body = takes_made (falls_in offer.form.d) (certificate.Falls job) offer (falls_lines offer ++ word_line keyword.End ∷ []) (takes_falls offer h.1);
       body_plain = falls_plain offer h.1;
+    }
+is_read_back (certificate.Table job coefficients) h =
+    let count = length coefficients in
+    let plain = one_plain count (omega (arith, h.2)) in
+    record {
+      size = h.0.size;
+      words = h.0.words;
+      kind = kind_back job kind.Table (count ∷ []) (pos count ∷ []) h.0.belongs plain (positive_read most_coefficients count (omega arith) h.1 h.2, tt);
+      kind_plain = kind_line-plain kind.Table (count ∷ []) plain;
+      body = takes_made (table_in count) (certificate.Table job) coefficients (map coefficient_line coefficients ++ word_line keyword.End ∷ []) (takes_table coefficients);
+      body_plain = coefficients_plain coefficients;
     }
 
 lines_plain : (c : Certificate) (h : KindHead) → IsReadBack c h → All IsLine (certificate_lines c)

@@ -78,6 +78,7 @@ kind_plain kind.Invariant = refl
 kind_plain kind.Gain = refl
 kind_plain kind.Error = refl
 kind_plain kind.Falls = refl
+kind_plain kind.Table = refl
 
 -- ---- the job line
 size_plain : (s : Size) → IsSize s → ArePlain (size_pieces s)
@@ -161,6 +162,7 @@ kind_found kind.Invariant = refl
 kind_found kind.Gain = refl
 kind_found kind.Error = refl
 kind_found kind.Falls = refl
+kind_found kind.Table = refl
 
 pub kind_line-plain : (k : Kind) (numbers : List ℕ) → ArePlain (map decimal numbers) → IsLine (kind_line k numbers)
 kind_line-plain k numbers h =

@@ -80,6 +80,7 @@ keyword_plain keyword.Base = refl
 keyword_plain keyword.Step = refl
 keyword_plain keyword.Safe = refl
 keyword_plain keyword.Box = refl
+keyword_plain keyword.Coefficient = refl
 keyword_plain keyword.Form = refl
 keyword_plain keyword.Positive = refl
 keyword_plain keyword.Square = refl

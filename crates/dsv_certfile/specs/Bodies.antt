@@ -1,7 +1,10 @@
 -- What follows the kind line of a certificate.
 use Rattle.std.specs.Prelude.{ℕ, zero, suc, ◌+◌, ◌-◌, List, [], ◌∷◌, ◌++◌, length, map, take}
 use Rattle.std.specs.Prelude.{drop, Result, Ok, Err, slice_index_or, ℤ, pos}
+use Rattle.std.specs.Prelude.{if◌then◌else◌}
+use Rattle.std.specs.Str.{bytes_eq}
 use Rattle.dsv_text.specs.Stages.{◌>>=◌}
+use Rattle.dsv_integer.specs.Readings.{integer_read}
 use Rattle.dsv_forms.specs.Padded.{form_with, squares_with}
 use Rattle.dsv_forms.specs.declared.offers.Form.{Form}
 use Rattle.dsv_forms.specs.declared.offers.Squares.{Squares}
@@ -12,10 +15,11 @@ use Rattle.dsv_template.specs.declared.candidate.Inequality.{Inequality}
 use Rattle.dsv_template.specs.declared.verdict.ThreeLogs.{ThreeLogs}
 use Rattle.dsv_lines.specs.Readings.{Reading, reading_of}
 use Rattle.dsv_certfile.specs.Answers.{at_line, text_refusal}
-use Rattle.dsv_certfile.specs.Headings.{count_at}
-use Rattle.dsv_lines.specs.Pieces.{TextLines, unended, line, LinesLeft, pieces_of}
+use Rattle.dsv_certfile.specs.Headings.{count_at, or_number, whole_line}
+use Rattle.dsv_lines.specs.Pieces.{TextLines, unended, line, LinesLeft, pieces_of, piece_at}
 use Rattle.dsv_certfile.specs.Places.{line_numbers, word_places, row_places, squares_places}
 use Rattle.dsv_certfile.specs.Places.{inequality_places}
+use Rattle.dsv_certfile.specs.Keywords.{keyword_text}
 use Rattle.dsv_certfile.specs.Steps.{log_in}
 use Rattle.dsv_certfile.specs.declared.fault.TextFault.{TextFault}
 use Rattle.dsv_certfile.specs.declared.fault.TextFault.TheVariants as fault
@@ -166,3 +170,30 @@ roundoff_in depth count ls =
     lines_from range_in count [] ls >>= λ ranges.
     word_in keyword.End ranges.left >>= λ end.
     Ok (reading_of (record { depth = depth; ranges = ranges.value }) end.left)
+
+-- ---- the coefficients of a polynomial
+-- the number of the piece after a word, of any size
+abbrev pub number_after : List (List ℕ) → Result ℤ TextFault
+number_after [] = Err fault.Line
+number_after (piece ∷ pieces) = or_number (integer_read piece)
+
+-- the piece is this word
+abbrev pub wanted : Keyword → List ℕ → Result (Unit {0}) TextFault
+wanted w piece = if bytes_eq piece (keyword_text w) then Ok tt else Err fault.Line
+
+-- the number of the line `coefficient C`
+abbrev pub coefficient_of : List (List ℕ) → Result ℤ TextFault
+coefficient_of pieces =
+    number_after (drop 1 pieces) >>= λ c.
+    wanted keyword.Coefficient (piece_at pieces 0) >>= λ _.
+    whole_line c (drop 2 pieces)
+
+abbrev pub coefficient_in : List ℕ → Result ℤ TextFault
+coefficient_in bytes = coefficient_of (pieces_of bytes)
+
+-- so many coefficients, and the last line
+abbrev pub table_in : ℕ → LinesLeft → Result (Reading (List ℤ)) TextRefusal
+table_in count ls =
+    lines_from coefficient_in count [] ls >>= λ coefficients.
+    word_in keyword.End coefficients.left >>= λ end.
+    Ok (reading_of coefficients.value end.left)

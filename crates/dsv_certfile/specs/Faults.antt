@@ -19,3 +19,4 @@ check_code_of check.Shape = 8
 check_code_of check.Format = 10
 check_code_of check.Gain = 11
 check_code_of check.Error = 12
+check_code_of check.Table = 13

@@ -14,6 +14,7 @@ use Rattle.dsv_certfile.specs.Keywords.{keyword_text, version_text, unbounded_te
 use Rattle.dsv_certfile.specs.Kinds.{kind_name, kinds, is_kind_of}
 use Rattle.dsv_certfile.specs.Limits.{greatest_depth, greatest_int_bits, greatest_frac_bits}
 use Rattle.dsv_certfile.specs.Limits.{most_gain_depth, most_box_ranges, most_places}
+use Rattle.dsv_certfile.specs.Limits.{most_coefficients}
 use Rattle.dsv_template.specs.Limits.{most_inequalities}
 use Rattle.dsv_certfile.specs.Numerals.{samples_of}
 use Rattle.dsv_lines.specs.Pieces.{pieces_of, piece_at}
@@ -125,6 +126,7 @@ kind_places kind.Gain = place.Number (range.UpTo most_gain_depth) ∷ []
 kind_places kind.Error = place.Number (range.UpTo most_gain_depth)
     ∷ place.Number (range.UpTo most_gain_depth) ∷ place.Number (range.UpTo most_box_ranges) ∷ []
 kind_places kind.Falls = place.Number (range.UpTo most_places) ∷ []
+kind_places kind.Table = place.Number (range.Positive most_coefficients) ∷ []
 
 abbrev pub head_with : Kind → List ℤ → KindHead
 head_with kind.Hints numbers = head.Hints
@@ -133,6 +135,7 @@ head_with kind.Gain numbers = head.Gain (count_at numbers 0)
 head_with kind.Error numbers =
     head.Error (count_at numbers 0) (count_at numbers 1) (count_at numbers 2)
 head_with kind.Falls numbers = head.Falls (count_at numbers 0)
+head_with kind.Table numbers = head.Table (count_at numbers 0)
 
 -- the kind, where it belongs to the job
 abbrev pub of_job : CertifiedJob → Kind → Result Kind TextFault

@@ -16,12 +16,13 @@ kind_name kind.Invariant = codes "invariant"
 kind_name kind.Gain = codes "gain"
 kind_name kind.Error = codes "error"
 kind_name kind.Falls = codes "falls"
+kind_name kind.Table = codes "table"
 
 abbrev pub kinds : List Kind
-kinds = kind.Hints ∷ kind.Invariant ∷ kind.Gain ∷ kind.Error ∷ kind.Falls ∷ []
+kinds = kind.Hints ∷ kind.Invariant ∷ kind.Gain ∷ kind.Error ∷ kind.Falls ∷ kind.Table ∷ []
 
 -- A log shows a property of bounded runs, an invariant or a gain, with a box or without, that no
--- run overflows, a falling form a property of roots, of a loop its stability alone. No kind shows
+-- run overflows, a falling form a property of roots, a table the stability of a loop. No kind shows
 -- that a sample is in time.
 abbrev pub is_kind_for : Property → Size → Kind → Bool
 is_kind_for (property.OfRuns p) (size.Samples k) kind.Hints = true
@@ -29,7 +30,7 @@ is_kind_for (property.OfRuns run.Overflow) size.Unbounded kind.Invariant = true
 is_kind_for (property.OfRuns run.Overflow) size.Unbounded kind.Gain = true
 is_kind_for (property.OfRuns run.Overflow) size.Unbounded kind.Error = true
 is_kind_for (property.OfRoots p) size.NoSize kind.Falls = true
-is_kind_for (property.OfRoots root.Stability) size.OfLoop kind.Falls = true
+is_kind_for (property.OfRoots root.Stability) size.OfLoop kind.Table = true
 is_kind_for p s k = false
 
 -- the kind belongs to the job

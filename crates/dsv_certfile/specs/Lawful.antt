@@ -20,6 +20,7 @@ use Rattle.dsv_certfile.specs.Limits.{greatest_whole, greatest_entry, greatest_i
 use Rattle.dsv_certfile.specs.Limits.{greatest_int_bits, greatest_frac_bits}
 use Rattle.dsv_certfile.specs.Limits.{greatest_depth, most_samples, most_places, most_squares}
 use Rattle.dsv_certfile.specs.Limits.{most_inequality_numbers, most_gain_depth, most_box_ranges}
+use Rattle.dsv_certfile.specs.Limits.{most_coefficients}
 use Rattle.dsv_template.specs.Limits.{most_inequalities}
 use Rattle.dsv_certfile.specs.declared.certificate.Certificate.{Certificate}
 use Rattle.dsv_certfile.specs.declared.certificate.Certificate.TheVariants as certificate
@@ -128,6 +129,8 @@ IsLawful (certificate.Invariant job candidate logs) =
 IsLawful (certificate.Gain job depth offer) =
     IsJobOf kind.Gain job × (depth ≤ most_gain_depth) × IfSome offer IsRoundoffOffer
 IsLawful (certificate.Falls job offer) = IsJobOf kind.Falls job × IsOffer offer
+IsLawful (certificate.Table job coefficients) =
+    IsJobOf kind.Table job × (1 ≤ length coefficients) × (length coefficients ≤ most_coefficients)
 
 -- the certificate with the numbers of its form's places alone, as its text has it
 abbrev pub certificate_alone : Certificate → Certificate
@@ -136,3 +139,4 @@ certificate_alone (certificate.Invariant job candidate logs) =
     certificate.Invariant job candidate logs
 certificate_alone (certificate.Gain job depth offer) = certificate.Gain job depth offer
 certificate_alone (certificate.Falls job offer) = certificate.Falls job (offer_alone offer)
+certificate_alone (certificate.Table job coefficients) = certificate.Table job coefficients

@@ -57,6 +57,10 @@ most_states = 7
 abbrev pub greatest_bound : ℕ
 greatest_bound = 2 ^ 62 - 1
 
+-- the most coefficients of a polynomial: the order of a loop is at most 24
+abbrev pub most_coefficients : ℕ
+most_coefficients = 25
+
 -- the most squares of a form
 abbrev pub most_squares : ℕ
 most_squares = 8

@@ -4,7 +4,7 @@ use Rattle.dsv_text.specs.Stages.{◌>>=◌}
 use Rattle.dsv_lines.specs.Readings.{Reading, reading_of}
 use Rattle.dsv_certfile.specs.Answers.{cert_answer}
 use Rattle.dsv_certfile.specs.Bodies.{line_in, word_in, whole_text, falls_in, invariant_in}
-use Rattle.dsv_certfile.specs.Bodies.{roundoff_in}
+use Rattle.dsv_certfile.specs.Bodies.{roundoff_in, table_in}
 use Rattle.dsv_certfile.specs.Headings.{version_in, line_job, line_format, line_kind}
 use Rattle.dsv_lines.specs.Pieces.{LinesLeft, all_lines}
 use Rattle.dsv_certfile.specs.Steps.{log_in}
@@ -55,6 +55,9 @@ body_in job (head.Error depth error_depth count) ls =
 body_in job (head.Falls d) ls =
     falls_in d ls >>= λ offer.
     Ok (reading_of (certificate.Falls job offer.value) offer.left)
+body_in job (head.Table count) ls =
+    table_in count ls >>= λ coefficients.
+    Ok (reading_of (certificate.Table job coefficients.value) coefficients.left)
 
 -- a whole text
 abbrev pub whole_certificate : List ℕ → Result Certificate TextRefusal

@@ -19,6 +19,7 @@ use Rattle.dsv_roundoff.specs.declared.offers.WordRange.{WordRange}
 use Rattle.dsv_template.specs.declared.candidate.Inequality.{Inequality}
 use Rattle.dsv_template.specs.declared.candidate.Candidate.{Candidate}
 use Rattle.dsv_template.specs.declared.verdict.ThreeLogs.{ThreeLogs}
+use Rattle.dsv_integer.specs.Numerals.{integer_text}
 use Rattle.dsv_certfile.specs.Keywords.{keyword_text, unbounded_text, plant_text}
 use Rattle.dsv_certfile.specs.Keywords.{deletion_text, zero_text}
 use Rattle.dsv_certfile.specs.Kinds.{kind_name}
@@ -153,12 +154,17 @@ falls_lines offer = rows_lines keyword.Form offer.form.d offer.form.rows
     ++ squares_lines keyword.Positive offer.form.d offer.positive
     ++ squares_lines keyword.Fall offer.form.d offer.fall
 
+-- ---- the coefficients of a polynomial, the one of its highest power first
+abbrev pub coefficient_line : ℤ → Line
+coefficient_line c = keyword_text keyword.Coefficient ∷ integer_text c ∷ []
+
 -- ---- certificates
 abbrev pub job_of : Certificate → CertifiedJob
 job_of (certificate.Hints job log) = job
 job_of (certificate.Invariant job candidate logs) = job
 job_of (certificate.Gain job depth offer) = job
 job_of (certificate.Falls job offer) = job
+job_of (certificate.Table job coefficients) = job
 
 -- the numbers of an invariant's kind line: the depth, and how many inequalities there are
 abbrev pub candidate_counts : Candidate → List ℕ
@@ -170,6 +176,7 @@ kind_line_of (certificate.Invariant job candidate logs) =
     kind_line kind.Invariant (candidate_counts candidate)
 kind_line_of (certificate.Gain job depth offer) = gain_line depth offer
 kind_line_of (certificate.Falls job offer) = kind_line kind.Falls (offer.form.d ∷ [])
+kind_line_of (certificate.Table job coefficients) = kind_line kind.Table (length coefficients ∷ [])
 
 -- the lines between the kind line and the line `end`
 abbrev pub body_lines : Certificate → List Line
@@ -178,6 +185,7 @@ body_lines (certificate.Invariant job candidate logs) =
     map inequality_line candidate.inequalities.items ++ logs_lines logs
 body_lines (certificate.Gain job depth offer) = box_lines offer
 body_lines (certificate.Falls job offer) = falls_lines offer
+body_lines (certificate.Table job coefficients) = map coefficient_line coefficients
 
 abbrev pub certificate_lines : Certificate → List Line
 certificate_lines c =

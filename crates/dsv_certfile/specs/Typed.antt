@@ -101,12 +101,14 @@ IsTypedBody (certificate.Hints job log) = IsTypedLog log
 IsTypedBody (certificate.Invariant job candidate logs) = IsTypedSet candidate × AreTypedLogs logs
 IsTypedBody (certificate.Gain job depth offer) = Unit {0}
 IsTypedBody (certificate.Falls job offer) = IsTypedOffer offer
+IsTypedBody (certificate.Table job coefficients) = Unit {0}
 
 abbrev pub HasFewPlaces : Certificate → Type 0
 HasFewPlaces (certificate.Hints job log) = Unit {0}
 HasFewPlaces (certificate.Invariant job candidate logs) = Unit {0}
 HasFewPlaces (certificate.Gain job depth offer) = Unit {0}
 HasFewPlaces (certificate.Falls job offer) = offer.form.d ≤ most_places
+HasFewPlaces (certificate.Table job coefficients) = Unit {0}
 
 -- what is known of each certificate that is written: the limits of its job's samples, of the words'
 -- format and of its form's places, and what its types say

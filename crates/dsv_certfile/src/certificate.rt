@@ -3,8 +3,10 @@ ghost use Rattle.std.specs.Prelude.{◌≡◌};
 ghost use Rattle.dsv_certfile.specs.Texts.{job_of};
 
 use crate::job::CertifiedJob;
+use dsv_base::Items;
 use dsv_forms::Falls;
 use dsv_hints::Log;
+use dsv_integer::Numeral;
 use dsv_roundoff::RoundoffOffer;
 use dsv_template::{Candidate, ThreeLogs};
 
@@ -36,6 +38,12 @@ pub enum Certificate {
         job: CertifiedJob,
         offer: Falls,
     },
+    /// The coefficients of the polynomial whose table shows that all its roots are inside the unit
+    /// circle, the one of its highest power first: 1 to `MOST_COEFFICIENTS`.
+    Table {
+        job: CertifiedJob,
+        coefficients: Items<Numeral>,
+    },
 }
 
 impl Certificate {
@@ -48,6 +56,7 @@ impl Certificate {
             Certificate::Invariant { job, .. } => job,
             Certificate::Gain { job, .. } => job,
             Certificate::Falls { job, .. } => job,
+            Certificate::Table { job, .. } => job,
         }
     }
 }

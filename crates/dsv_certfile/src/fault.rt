@@ -66,6 +66,10 @@ pub enum CheckFault {
     /// A box isn't one that differences from exact runs stay in, as the depth of an offer says.
     #[error("a box that differences from exact runs aren't known to stay in")]
     Error,
+    /// A coefficient isn't the polynomial's, or the first number of a row of its table isn't
+    /// positive.
+    #[error("another polynomial, or one whose table has a first number that isn't positive")]
+    Table,
 }
 
 impl CheckFault {
@@ -80,6 +84,7 @@ impl CheckFault {
             CheckFault::Format => 10,
             CheckFault::Gain => 11,
             CheckFault::Error => 12,
+            CheckFault::Table => 13,
         }
     }
 }

@@ -9,7 +9,7 @@ ghost use Rattle.dsv_lines.specs.Pieces.{pieces_of};
 use crate::fault::TextFault;
 use crate::job::{CertifiedJob, Size};
 use crate::keyword::Keyword;
-use crate::limits::{MOST_BOX_RANGES, MOST_GAIN_DEPTH};
+use crate::limits::{MOST_BOX_RANGES, MOST_COEFFICIENTS, MOST_GAIN_DEPTH};
 use crate::numbers::NumberRange;
 use crate::pieces::{begin, next_named};
 use crate::places::{Place, read_numbers};
@@ -31,6 +31,8 @@ pub(crate) enum Kind {
     Error,
     /// A form that falls.
     Falls,
+    /// The polynomial whose table shows that all its roots are inside the unit circle.
+    Table,
 }
 
 impl Named for Kind {
@@ -47,6 +49,7 @@ impl Named for Kind {
             Kind::Gain => "gain",
             Kind::Error => "error",
             Kind::Falls => "falls",
+            Kind::Table => "table",
         }
     }
 
@@ -57,6 +60,7 @@ impl Named for Kind {
             Kind::Gain,
             Kind::Error,
             Kind::Falls,
+            Kind::Table,
         ]
     }
 }
@@ -72,7 +76,7 @@ impl Kind {
             (Property::OfRuns(RunProperty::Overflow), Size::Unbounded, Kind::Gain) => true,
             (Property::OfRuns(RunProperty::Overflow), Size::Unbounded, Kind::Error) => true,
             (Property::OfRoots(_), Size::NoSize, Kind::Falls) => true,
-            (Property::OfRoots(RootProperty::Stability), Size::OfLoop, Kind::Falls) => true,
+            (Property::OfRoots(RootProperty::Stability), Size::OfLoop, Kind::Table) => true,
             (_, _, _) => false,
         }
     }
@@ -96,6 +100,9 @@ pub(crate) enum KindHead {
     },
     Falls {
         places: u32,
+    },
+    Table {
+        count: u32,
     },
 }
 
@@ -157,6 +164,13 @@ fn read_head(kind: Kind, pieces: Pieces) -> Result<KindHead, TextFault>
             let numbers = read_numbers(&[places], pieces)?;
             Ok(KindHead::Falls {
                 places: numbers.count_at(0),
+            })
+        }
+        Kind::Table => {
+            let count = Place::Number(NumberRange::Positive(MOST_COEFFICIENTS));
+            let numbers = read_numbers(&[count], pieces)?;
+            Ok(KindHead::Table {
+                count: numbers.count_at(0),
             })
         }
     }

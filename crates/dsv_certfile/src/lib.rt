@@ -1,5 +1,5 @@
 //! Certificates as text: what is claimed of a controller, and the log, the invariant, the gain with
-//! its box or the form that shows it. Texts that offer an ellipsoid, too.
+//! its box, the form or the polynomial that shows it. Texts that offer an ellipsoid, too.
 #![tactic(auto, using(dsv_algebra::proofs::Casts::casts))]
 
 mod certificate;
@@ -22,6 +22,7 @@ mod places;
 mod reader;
 mod roundoff_reader;
 mod steps;
+mod table_reader;
 mod writer;
 
 pub use certificate::Certificate;
@@ -32,7 +33,10 @@ pub use fault::{CertRefusal, CheckFault, TextFault, TextRefusal};
 pub use job::{CertWords, CertifiedJob, Size};
 pub use law::{certificates_are_read, ellipsoids_are_read};
 pub use limits::{
-    MOST_BOX_RANGES, MOST_GAIN_DEPTH, MOST_JOB_SAMPLES, MOST_SQUARES, NARROW_WORD_BITS,
+    MOST_BOX_RANGES, MOST_COEFFICIENTS, MOST_GAIN_DEPTH, MOST_JOB_SAMPLES, MOST_SQUARES,
+    NARROW_WORD_BITS,
 };
 pub use reader::read;
-pub use writer::{write, write_error, write_falls, write_gain, write_hints, write_invariant};
+pub use writer::{
+    write, write_error, write_falls, write_gain, write_hints, write_invariant, write_table,
+};

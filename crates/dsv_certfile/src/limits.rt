@@ -20,6 +20,9 @@ pub(crate) const GREATEST_FRAC_BITS: u32 = 47;
 /// The most places of the form of an ellipsoid; the least is 1.
 pub(crate) const MOST_STATES: u32 = 7;
 
+/// The most coefficients of a polynomial: the order of a loop is at most 24.
+pub const MOST_COEFFICIENTS: u32 = 25;
+
 /// The most squares of a form.
 pub const MOST_SQUARES: usize = 8;
 

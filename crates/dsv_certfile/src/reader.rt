@@ -17,6 +17,7 @@ use crate::lines::{end, next_line, next_numbers};
 use crate::places::Place;
 use crate::roundoff_reader::read_roundoff;
 use crate::steps::read_log;
+use crate::table_reader::read_table;
 use dsv_lines::Lines;
 use std::alloc::Global;
 
@@ -94,6 +95,10 @@ fn read_body(alloc: Global, lines: &mut Lines, heading: Heading) -> Result<Certi
         KindHead::Falls { places } => Ok(Certificate::Falls {
             job,
             offer: read_falls(lines, places)?,
+        }),
+        KindHead::Table { count } => Ok(Certificate::Table {
+            job,
+            coefficients: read_table(alloc, lines, count)?,
         }),
     }
 }

@@ -1,5 +1,5 @@
 // Writing the text of a certificate.
-ghost use Rattle.std.specs.Prelude.{◌++◌, ◌∷◌, [], map, take, All, OnOk, Some, None};
+ghost use Rattle.std.specs.Prelude.{◌++◌, ◌∷◌, [], length, map, take, All, OnOk, Some, None};
 ghost use Rattle.std.specs.Fmt.{signed_decimal};
 ghost use Rattle.std.specs.List.{flat_map};
 ghost use Rattle.dsv_base.specs.Taking.{Writes};
@@ -20,7 +20,7 @@ ghost use Rattle.dsv_names.specs.Realisations.{realisation_name};
 ghost use Rattle.dsv_names.specs.Roundings.{rounding_name};
 ghost use Rattle.dsv_names.specs.OverflowModes.{overflow_mode_name};
 ghost use Rattle.dsv_certfile.specs.Texts.{kind_line, candidate_counts, squares_head};
-ghost use Rattle.dsv_certfile.specs.Texts.{roundoff_counts, range_line};
+ghost use Rattle.dsv_certfile.specs.Texts.{roundoff_counts, range_line, coefficient_line};
 ghost use Rattle.dsv_certfile.specs.declared.certificate.Certificate.TheVariants as certificate;
 ghost use Rattle.dsv_certfile.specs.declared.kind.Kind.TheVariants as kind;
 ghost use Rattle.dsv_certfile.specs.declared.keyword.Keyword.TheVariants as keyword;
@@ -28,10 +28,13 @@ ghost use Rattle.dsv_certfile.specs.declared.keyword.Keyword.TheVariants as keyw
 use crate::certificate::Certificate;
 use crate::job::{CertWords, CertifiedJob, Size};
 use crate::keyword::Keyword;
-use crate::output::{MatrixRow, put_entries, put_entry, put_log, put_name, put_rows, put_word};
-use dsv_base::{Failed, Sink, put_all, put_line, put_spaced};
+use crate::output::{
+    MatrixRow, put_entries, put_entry, put_log, put_name, put_piece, put_rows, put_word,
+};
+use dsv_base::{Failed, Items, Sink, put_all, put_line, put_spaced};
 use dsv_forms::{Falls, GREATEST_ORDER, Squares};
 use dsv_hints::Log;
+use dsv_integer::Numeral;
 use dsv_roundoff::{RoundoffOffer, WordRange};
 use dsv_template::{Candidate, Inequality, ThreeLogs};
 
@@ -160,6 +163,14 @@ fn put_form_kind<K: Sink>(sink: &mut K, offer: &Falls) -> Result<(), Failed>
         (line_text (kind_line kind.Falls (offer.now.form.d ∷ []))) }
 {
     put_line(sink, b"kind falls", &[offer.form.d])
+}
+
+/// Writes the kind line of a table.
+fn put_table_kind<K: Sink>(sink: &mut K, coefficients: &Items<Numeral>) -> Result<(), Failed>
+    ensures { Writes (K.seen sink.old) (K.seen sink.new) result
+        (line_text (kind_line kind.Table (length coefficients.now ∷ []))) }
+{
+    put_line(sink, b"kind table", &[coefficients.len() as u64])
 }
 
 // ---- what follows them
@@ -321,6 +332,35 @@ fn put_box<K: Sink>(sink: &mut K, offer: &RoundoffOffer) -> Result<(), Failed>
     put_each_range(sink, offer.ranges.as_slice())
 }
 
+/// Writes the line of a coefficient.
+fn put_coefficient<K: Sink>(sink: &mut K, coefficient: &Numeral) -> Result<(), Failed>
+    ensures { Writes (K.seen sink.old) (K.seen sink.new) result
+        (line_text (coefficient_line coefficient.now)) }
+{
+    put_all(sink, Keyword::Coefficient.text())?;
+    put_piece(sink, coefficient.text())?;
+    put_all(sink, b"\n")
+}
+
+/// Writes the lines of coefficients.
+fn put_each_coefficient<K: Sink>(sink: &mut K, coefficients: &[Numeral]) -> Result<(), Failed>
+    ensures { Writes (K.seen sink.old) (K.seen sink.new) result
+        (flat_map (λ c. line_text (coefficient_line c)) coefficients.now) }
+{
+    for coefficient in coefficients {
+        put_coefficient(sink, coefficient)?;
+    }
+    Ok(())
+}
+
+/// Writes the lines of a polynomial.
+fn put_polynomial<K: Sink>(sink: &mut K, coefficients: &[Numeral]) -> Result<(), Failed>
+    ensures { Writes (K.seen sink.old) (K.seen sink.new) result
+        (flat_map line_text (map coefficient_line coefficients.now)) }
+{
+    put_each_coefficient(sink, coefficients)
+}
+
 /// Writes an invariant: its inequalities, and its logs.
 fn put_invariant<K: Sink>(
     sink: &mut K,
@@ -410,6 +450,23 @@ pub fn write_falls<K: Sink>(sink: &mut K, job: &CertifiedJob, offer: &Falls) -> 
     put_word(sink, Keyword::End)
 }
 
+/// Writes the text of a certificate of a polynomial whose table shows that all its roots are inside
+/// the unit circle, as `write_hints` does.
+pub fn write_table<K: Sink>(
+    sink: &mut K,
+    job: &CertifiedJob,
+    coefficients: &Items<Numeral>,
+) -> Result<(), Failed>
+    ensures text { Writes (K.seen sink.old) (K.seen sink.new) result
+        (certificate_text (certificate.Table job.now coefficients.now)) }
+    ensures typed { OnOk result (IsTypedBody (certificate.Table job.now coefficients.now)) }
+{
+    put_head(sink, job)?;
+    put_table_kind(sink, coefficients)?;
+    put_polynomial(sink, coefficients.as_slice())?;
+    put_word(sink, Keyword::End)
+}
+
 /// Writes the text of the certificate, as `write_hints` does.
 pub fn write<K: Sink>(certificate: &Certificate, sink: &mut K) -> Result<(), Failed>
     ensures text { Writes (K.seen sink.old) (K.seen sink.new) result
@@ -428,5 +485,6 @@ pub fn write<K: Sink>(certificate: &Certificate, sink: &mut K) -> Result<(), Fai
             None => write_gain(sink, job, *depth),
         },
         Certificate::Falls { job, offer } => write_falls(sink, job, offer),
+        Certificate::Table { job, coefficients } => write_table(sink, job, coefficients),
     }
 }

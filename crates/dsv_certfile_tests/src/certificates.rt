@@ -31,9 +31,8 @@ const FALLING_FORM: &str = "dsv-certificate 1\n\
 /// A form of no places, for a loop.
 const LOOP: &str = "dsv-certificate 1\n\
     job STABILITY DFI FLOOR WRAPAROUND plant\n\
-    kind falls 0\n\
-    positive 1 0\n\
-    fall 1 0\n\
+    kind table 1\n\
+    coefficient 1\n\
     end\n";
 
 const TEXTS: &[&str] = &[
@@ -48,14 +47,10 @@ const TEXTS: &[&str] = &[
     "dsv-certificate 2\n\
     job STABILITY TDDFII NEAREST SATURATE plant\n\
     format 2 46\n\
-    kind falls 1\n\
-    form 1\n\
-    positive 1 1\n\
-    square 1 1\n\
-    rest 0\n\
-    fall 1 1\n\
-    square 1 1\n\
-    rest 0\n\
+    kind table 3\n\
+    coefficient 340282366920938463463374607431768211456\n\
+    coefficient 0\n\
+    coefficient -18446744073709551617\n\
     end\n",
     "dsv-certificate 1\n\
     job OVERFLOW DFI FLOOR WRAPAROUND 1\n\

@@ -166,9 +166,9 @@ const FORMS: &[Case] = &[
     ),
     Case(
         GAIN,
-        "dsv-certificate 1\njob STABILITY DFI FLOOR WRAPAROUND plant\nkind falls 0\n",
-        "positive 1 0\n",
-        "fall 1 0\nend\n",
+        "dsv-certificate 1\njob STABILITY DFI FLOOR WRAPAROUND plant\nkind table 1\n",
+        "coefficient 1\n",
+        "end\n",
         Err(CheckRefusal::Line {
             line: 3,
             fault: CheckFault::Shape,

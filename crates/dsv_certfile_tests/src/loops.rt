@@ -14,27 +14,25 @@ const SUM: &str = "digital_system d = { .b = {0.0, 1.0}, .b_size = 2, .a = {1.0,
 const GAIN: &str = "digital_system d = { .b = {0.5}, .b_size = 1, .a = {1.0}, .a_size = 1 }; \
     implementation r = { .int_bits = 2, .frac_bits = 2, .max = 1.0, .min = -1.0 };";
 
-/// The controller 1/2 / (z - 1/2), whose own form falls by 3.
+/// The controller 1/2 / (z - 1/2), whose own polynomial is 2 z - 1.
 const POLE: &str = "digital_system d = { .b = {0.0, 0.5}, .b_size = 2, .a = {1.0, -0.5}, \
     .a_size = 2 }; implementation r = { .int_bits = 2, .frac_bits = 2, .max = 1.0, .min = -1.0 };";
 
 /// The plant 1: with `SUM` the loop has the polynomial z - 1 + 1, with `POLE` z - 1/2 + 1/2.
 const ONE: &str = "digital_system p = { .b = {1}, .b_size = 1, .a = {1}, .a_size = 1 };";
 
-/// The same, sampled twice as fast.
+/// The plant -1: with `SUM` the loop has the polynomial z - 2.
+const MINUS_ONE: &str = "digital_system p = { .b = {-1}, .b_size = 1, .a = {1}, .a_size = 1 };";
+
+/// The plant 1, sampled twice as fast.
 const FAST_ONE: &str = "digital_system p = { .b = {1}, .b_size = 1, .a = {1}, .a_size = 1, \
     .sample_time = 0.5 };";
 
-/// The lines before the form.
-const HEAD: &str = "dsv-certificate 1\njob STABILITY DFI FLOOR WRAPAROUND plant\nkind falls 1\n";
+/// The lines before those of the kind.
+const HEAD: &str = "dsv-certificate 1\njob STABILITY DFI FLOOR WRAPAROUND plant\n";
 
-/// The form x^2, which falls by 1 along z, and not along z - 1/2 or z - 1.
-const FALLS_BY_1: &str = "form 1\npositive 1 1\nsquare 1 1\nrest 0\n\
-    fall 1 1\nsquare 1 1\nrest 0\nend\n";
-
-/// The same form, as it falls along 2 z - 1: by 3.
-const FALLS_BY_3: &str = "form 1\npositive 1 1\nsquare 1 1\nrest 0\n\
-    fall 1 1\nsquare 3 1\nrest 0\nend\n";
+/// The polynomial z.
+const Z: &str = "kind table 2\ncoefficient 1\ncoefficient 0\nend\n";
 
 /// A controller, a plant, the two parts of a certificate, and what is found of it.
 struct Case(
@@ -45,29 +43,62 @@ struct Case(
     Result<(), CheckRefusal>,
 );
 
-/// The certificate is none of the loop's stability, or of another order.
+/// The certificate is none of the loop's stability, or has another number of coefficients.
 const MISFIT: Result<(), CheckRefusal> = Err(CheckRefusal::Line {
     line: 3,
     fault: CheckFault::Shape,
 });
 
-/// The form doesn't fall as it says.
-const NO_FALL: Result<(), CheckRefusal> = Err(CheckRefusal::Line {
-    line: 10,
-    fault: CheckFault::Form,
+/// A first number of the polynomial's table isn't positive.
+const NOT_INSIDE: Result<(), CheckRefusal> = Err(CheckRefusal::Line {
+    line: 3,
+    fault: CheckFault::Table,
+});
+
+/// The first coefficient isn't the polynomial's.
+const OTHER_FIRST: Result<(), CheckRefusal> = Err(CheckRefusal::Line {
+    line: 4,
+    fault: CheckFault::Table,
+});
+
+/// The second coefficient isn't the polynomial's.
+const OTHER_SECOND: Result<(), CheckRefusal> = Err(CheckRefusal::Line {
+    line: 5,
+    fault: CheckFault::Table,
 });
 
 const CASES: &[Case] = &[
-    Case(SUM, ONE, HEAD, FALLS_BY_1, Ok(())),
-    Case(POLE, ONE, HEAD, FALLS_BY_1, Ok(())),
+    Case(SUM, ONE, HEAD, Z, Ok(())),
+    Case(POLE, ONE, HEAD, Z, Ok(())),
     // the controller's own polynomial isn't that of the loop
-    Case(POLE, ONE, HEAD, FALLS_BY_3, NO_FALL),
+    Case(
+        POLE,
+        ONE,
+        HEAD,
+        "kind table 2\ncoefficient 2\ncoefficient -1\nend\n",
+        OTHER_FIRST,
+    ),
+    Case(
+        SUM,
+        ONE,
+        HEAD,
+        "kind table 2\ncoefficient 1\ncoefficient -18446744073709551616\nend\n",
+        OTHER_SECOND,
+    ),
+    // the loop has its root at 2
+    Case(
+        SUM,
+        MINUS_ONE,
+        HEAD,
+        "kind table 2\ncoefficient 1\ncoefficient -2\nend\n",
+        NOT_INSIDE,
+    ),
     // one that isn't of a loop, of another kind, or of another order
     Case(
         SUM,
         ONE,
-        "dsv-certificate 1\njob STABILITY DFI FLOOR WRAPAROUND\nkind falls 1\n",
-        FALLS_BY_1,
+        "dsv-certificate 1\njob STABILITY DFI FLOOR WRAPAROUND\n",
+        "kind falls 0\npositive 1 0\nfall 1 0\nend\n",
         MISFIT,
     ),
     Case(
@@ -77,34 +108,28 @@ const CASES: &[Case] = &[
         "kind gain 0\nend\n",
         MISFIT,
     ),
-    Case(
-        SUM,
-        ONE,
-        "dsv-certificate 1\njob STABILITY DFI FLOOR WRAPAROUND plant\nkind falls 0\n",
-        "positive 1 0\nfall 1 0\nend\n",
-        MISFIT,
-    ),
+    Case(SUM, ONE, HEAD, "kind table 1\ncoefficient 1\nend\n", MISFIT),
     // no loop
     Case(
         SUM,
         FAST_ONE,
         HEAD,
-        FALLS_BY_1,
+        Z,
         Err(CheckRefusal::Loop(LoopRefusal::SampleTimes)),
     ),
     Case(
         GAIN,
         ONE,
         HEAD,
-        FALLS_BY_1,
+        Z,
         Err(CheckRefusal::Loop(LoopRefusal::Algebraic)),
     ),
     // no words, before there is no loop
     Case(
         SUM,
         FAST_ONE,
-        "dsv-certificate 1\njob STABILITY DDFI FLOOR WRAPAROUND plant\nkind falls 1\n",
-        FALLS_BY_1,
+        "dsv-certificate 1\njob STABILITY DDFI FLOOR WRAPAROUND plant\n",
+        Z,
         Err(CheckRefusal::Quant(QuantRefusal::DeltaNotPositive { wanted: 0 })),
     ),
     // another format, before there are no words
@@ -112,7 +137,7 @@ const CASES: &[Case] = &[
         SUM,
         FAST_ONE,
         "dsv-certificate 2\njob STABILITY DDFI FLOOR WRAPAROUND plant\nformat 2 3\n",
-        "kind falls 0\npositive 1 0\nfall 1 0\nend\n",
+        "kind table 1\ncoefficient 1\nend\n",
         Err(CheckRefusal::Line {
             line: 3,
             fault: CheckFault::Format,
@@ -141,7 +166,7 @@ fn found_of(alloc: Global, case: &Case) -> Option<Result<(), CheckRefusal>> {
     let controller = controller_of(alloc, case.0)?;
     let plant = plant_of(alloc, case.1)?;
     let certificate = certificate_of(alloc, case)?;
-    Some(check_loop(&controller, &plant, &certificate))
+    Some(check_loop(alloc, &controller, &plant, &certificate))
 }
 
 #[test]

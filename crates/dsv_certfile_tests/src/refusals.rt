@@ -81,6 +81,14 @@ const ONE_SET: &str = "dsv-certificate 1\n\
     job OVERFLOW DFI FLOOR WRAPAROUND unbounded\n\
     kind invariant 1 1\n";
 
+/// The lines up to a loop's job.
+const LOOP: &str = "dsv-certificate 1\njob STABILITY DFI FLOOR WRAPAROUND plant\n";
+
+/// The lines up to a table of two coefficients.
+const TABLE: &str = "dsv-certificate 1\n\
+    job STABILITY DFI FLOOR WRAPAROUND plant\n\
+    kind table 2\n";
+
 /// A text in two parts, and its refusal: the line, and the fault.
 pub(crate) struct Refused(
     pub(crate) &'static str,
@@ -402,6 +410,39 @@ const FORMS: &[Refused] = &[
     Refused(FALLS_0, "positive 1 9\n", 4, TextFault::Number),
 ];
 
+const TABLES: &[Refused] = &[
+    Refused(STABILITY, "kind table 2\n", 3, TextFault::Kind),
+    Refused(LOOP, "kind falls 0\n", 3, TextFault::Kind),
+    Refused(LOOP, "kind table 0\n", 3, TextFault::Number),
+    Refused(LOOP, "kind table 26\n", 3, TextFault::Number),
+    Refused(LOOP, "kind table 01\n", 3, TextFault::Number),
+    Refused(LOOP, "kind table\n", 3, TextFault::Line),
+    Refused(LOOP, "kind table 2 2\n", 3, TextFault::Line),
+    Refused(LOOP, "kind table 25\ncoefficient 1\n", 5, TextFault::End),
+    Refused(TABLE, "coefficient\n", 4, TextFault::Line),
+    Refused(TABLE, "coefficients 1\n", 4, TextFault::Line),
+    Refused(TABLE, "coefficient 1 \n", 4, TextFault::Line),
+    Refused(TABLE, "coefficient  1\n", 4, TextFault::Number),
+    Refused(TABLE, "coefficient +1\n", 4, TextFault::Number),
+    Refused(TABLE, "coefficient -0\n", 4, TextFault::Number),
+    Refused(TABLE, "coefficient -01\n", 4, TextFault::Number),
+    Refused(TABLE, "coefficient -\n", 4, TextFault::Number),
+    Refused(TABLE, "coefficients 1x\n", 4, TextFault::Number),
+    Refused(TABLE, "coefficient 1\nend\n", 5, TextFault::Line),
+    Refused(
+        TABLE,
+        "coefficient 1\ncoefficient 0\ncoefficient 0\nend\n",
+        6,
+        TextFault::Line,
+    ),
+    Refused(
+        TABLE,
+        "coefficient 1\ncoefficient 0\nend\nx",
+        7,
+        TextFault::End,
+    ),
+];
+
 const LOGS: &[Refused] = &[
     Refused(HINTS, "end\nx", 5, TextFault::End),
     Refused(HINTS, "5\n", 4, TextFault::Line),
@@ -496,11 +537,16 @@ fn forms_logs_and_sets_are_refused(rt: HostRuntime) {
 }
 
 #[test]
+fn tables_are_refused(rt: HostRuntime) {
+    assert!(rt; are_refused(rt.alloc(), TABLES));
+}
+
+#[test]
 fn faults_have_their_numbers(rt: HostRuntime) {
     assert!(rt; TextFault::Version.code() == 1 && TextFault::End.code() == 5);
 }
 
 #[test]
 fn faults_of_claims_have_their_numbers(rt: HostRuntime) {
-    assert!(rt; CheckFault::Gain.code() == 11 && CheckFault::Error.code() == 12);
+    assert!(rt; CheckFault::Error.code() == 12 && CheckFault::Table.code() == 13);
 }

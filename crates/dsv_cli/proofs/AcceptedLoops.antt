@@ -1,17 +1,14 @@
 -- A certificate of a loop that a run wrote is accepted for the same files.
-use Rattle.std.proofs.Common.{◌≡◌, ◌∙◌, inl, inr, sym, ap, subst, refl, ℕ, Bool, true, false, List, length}
+use Rattle.std.proofs.Common.{◌≡◌, ◌∙◌, ◌≤◌, inl, inr, sym, ap, subst, refl, ℕ, Bool, true, false, List, [], ◌∷◌, length}
 use Rattle.std.specs.Prelude.{Option, Some, None, Result, Ok, Err, if◌then◌else◌, ℤ}
 use Rattle.dsv_base.specs.Seen.{FilesSeen}
 use Rattle.dsv_command.specs.Loops.{AskedLoop}
-use Rattle.dsv_forms.specs.declared.offers.Falls.{Falls}
-use Rattle.dsv_forms.specs.declared.offers.Form.{Form}
-use Rattle.dsv_forms.specs.Padded.{offer_alone}
-use Rattle.dsv_forms.specs.Poly.{IsPoly}
-use Rattle.dsv_forms.proofs.Alike.{accepted_alone}
-use Rattle.dsv_forms.proofs.SmallOffers.{accepted_are_narrow}
+use Rattle.dsv_table.specs.Table.{verdict_of}
+use Rattle.dsv_table.specs.declared.finding.TableFinding.{TableFinding}
+use Rattle.dsv_table.specs.declared.verdict.TableVerdict.{TableVerdict}
+use Rattle.dsv_table.specs.declared.verdict.TableVerdict.TheVariants as table
 use Rattle.dsv_loop.specs.Loops.{loop_of}
 use Rattle.dsv_loop.specs.declared.refusal.LoopRefusal.{LoopRefusal}
-use Rattle.dsv_loop.specs.declared.refusal.LoopRefusal.TheVariants.{Wide}
 use Rattle.dsv_quantiser.specs.QuantisedView.{QuantisedView}
 use Rattle.dsv_reader.specs.Controllers.{ControllerView}
 use Rattle.dsv_reader.specs.Plants.{PlantView}
@@ -27,14 +24,17 @@ use Rattle.dsv_certfile.specs.Typed.{IsTyped}
 use Rattle.dsv_certfile.specs.declared.certificate.Certificate.{Certificate}
 use Rattle.dsv_certfile.specs.declared.certificate.Certificate.TheVariants as certificate
 use Rattle.dsv_certfile.specs.declared.job.CertWords.{CertWords}
-use Rattle.dsv_certfile.proofs.LawfulWritten.{falls_are_lawful, falls_text}
+use Rattle.dsv_certfile.specs.Limits.{most_coefficients}
+use Rattle.dsv_certfile.specs.declared.job.CertifiedJob.{CertifiedJob}
+use Rattle.dsv_certfile.proofs.LawfulWritten.{table_is_lawful}
 use Rattle.dsv_certfile.proofs.WrittenCertificates.{written_is_read}
 use Rattle.dsv_certcheck.specs.Checks.{Checked, format_check, BecomesFor}
 use Rattle.dsv_certcheck.specs.LoopChecks.{words_loop_check, IsLoopFoundOf, IsLoopFoundFor, IsLoopFoundAfter, IsLoopChecked}
 use Rattle.dsv_certcheck.specs.declared.check_refusal.CheckRefusal.{CheckRefusal}
 use Rattle.dsv_certcheck.specs.declared.check_refusal.CheckRefusal.TheVariants as refusal
 use Rattle.dsv_certcheck.proofs.Passing.{loop_passes}
-use Rattle.dsv_report.specs.Output.{falls_of, loop_job_with}
+use Rattle.dsv_table.specs.RootSize.{is_inside}
+use Rattle.dsv_report.specs.Output.{table_of, loop_job_with}
 use Rattle.dsv_report.specs.declared.answers.Answer.{Answer}
 use Rattle.dsv_report.specs.declared.answers.Answer.TheVariants as answer
 use Rattle.dsv_report.specs.declared.stop.CertificateFault.TheVariants as fault
@@ -42,8 +42,8 @@ use Rattle.dsv_report.specs.declared.stop.Stop.{Stop}
 use Rattle.dsv_report.specs.declared.stop.Stop.TheVariants as stop
 use Rattle.dsv_report.specs.Stops.{Outcome}
 use Rattle.dsv_cli.specs.Accepted.{IsAcceptance, WrittenLoopsAreAccepted}
-use Rattle.dsv_cli.specs.Checking.{IsUnreadCertificate}
-use Rattle.dsv_cli.specs.Headline.{longest_file, longest_certificate, CameOf, HasWords, IsController, IsSpelled, IsUnread, ShowsFall}
+use Rattle.dsv_cli.specs.Checking.{IsUnreadCertificate, stop_of_check}
+use Rattle.dsv_cli.specs.Headline.{longest_file, longest_certificate, CameOf, HasWords, IsController, IsSpelled, IsUnread}
 use Rattle.dsv_cli.specs.LoopChecks.{IsCertificateOf, IsOfLoopCertificate, IsLoopCheckRow}
 use Rattle.dsv_cli.specs.Loops.{IsPlantOf, IsPlantUnread, IsOfLoop, IsLoopRow, SaysLoop}
 use Rattle.dsv_cli.proofs.AcceptedLemmas.{IsInWords, same_words, accepted_of, one_spelled, read_or_refused, too_long}
@@ -81,23 +81,29 @@ of_wanted : (wanted : Bool) (written : Option Certificate) (c : Certificate) →
 of_wanted true written c e = e
 of_wanted false written c e = absurd (cc)
 
--- the polynomial of a loop for which a form falls
-falling : (came : Result (List ℤ) LoopRefusal) (poly : List ℤ) (offer : Falls) (fall : Form) → IsOfLoop came (Ok (answer.Falls poly offer fall)) → (came ≡ Ok poly) × ShowsFall poly offer fall × IsPoly poly
-falling (Ok cs) poly offer fall h = (ap Ok (sym h.1.0), h.1.1, subst IsPoly (sym h.1.0) h.0)
-falling (Err (Wide index)) poly offer fall h = absurd (cc)
-falling (Err why) poly offer fall h = absurd (cc)
+-- the polynomial of a loop that its table decides
+record IsOfPolynomial (came : Result (List ℤ) LoopRefusal) (poly : List ℤ) (v : TableVerdict) : Type 0 where
+  pub came_is : came ≡ Ok poly
+  pub few : length poly ≤ most_coefficients
+  pub some : 1 ≤ length poly
+  pub verdict_is : verdict_of poly ≡ v
+
+decided : (came : Result (List ℤ) LoopRefusal) (found : TableFinding) → IsOfLoop came (Ok (answer.OfTable found)) → IsOfPolynomial came found.poly found.verdict
+decided (Ok cs) found h =
+    let same : cs ≡ found.poly = sym h.1.poly in
+    subst (λ ps. IsOfPolynomial (Ok cs) ps found.verdict) same (record { came_is = refl; few = h.0; some = h.1.some; verdict_is = sym h.1.verdict })
+decided (Err why) found h = absurd h
 
 -- what is said of the controller's words
 words_said : (old new : FilesSeen) (asked : AskedLoop) (words : CertWords) (found : Answer) (controller : List ℕ) → old.held asked.file ≡ Some controller → SaysLoop old new asked (Ok found) words → HasWords controller words
 words_said old new asked words found controller held (inl h) = in_file (λ bytes. HasWords bytes words) old asked.file controller held h
 words_said old new asked words found controller held (inr h) = absurd (let e = h.2 in cc)
 
-falls_fit : (controller plant : List ℕ) (asked : AskedLoop) (words : CertWords) (poly : List ℤ) (offer : Falls) (fall : Form) (d : ControllerView) (p : PlantView) (q : QuantisedView) → IsController controller d → IsPlantOf plant p
-    → HasWords controller words → BecomesFor d (loop_job_with asked words) (Ok q) → loop_of q d.sample_time p ≡ Ok poly → ShowsFall poly offer fall → IsPoly poly → IsTyped (certificate.Falls (loop_job_with asked words) offer)
-    → IsLoopAcceptable controller plant (certificate.Falls (loop_job_with asked words) offer)
-falls_fit controller plant asked words poly offer fall d p q a b h becomes loop s is known =
+table_fits : (controller plant : List ℕ) (asked : AskedLoop) (words : CertWords) (poly : List ℤ) (d : ControllerView) (p : PlantView) (q : QuantisedView) → IsController controller d → IsPlantOf plant p
+    → HasWords controller words → BecomesFor d (loop_job_with asked words) (Ok q) → IsOfPolynomial (loop_of (q ∷ []) d.sample_time p) poly table.Inside → IsTyped (certificate.Table (loop_job_with asked words) poly)
+    → IsLoopAcceptable controller plant (certificate.Table (loop_job_with asked words) poly)
+table_fits controller plant asked words poly d p q a b h becomes is known =
     let certified = loop_job_with asked words in
-    let narrow = accepted_are_narrow poly offer s.accepted in
     record {
       fits = record {
         design = d;
@@ -107,25 +113,29 @@ falls_fit controller plant asked words poly offer fall d p q a b h becomes loop 
         quantised = q;
         becomes = becomes;
         format = format_fits controller words asked.design (Ok q) h (accepted_of controller d certified (Ok q) a becomes);
-        passes = loop_passes words q d.sample_time p poly (offer_alone offer) is loop (accepted_alone poly offer known.places s.accepted);
+        passes = loop_passes words q d.sample_time p poly is.few is.came_is is.verdict_is;
       };
-      lawful = falls_are_lawful certified offer refl known narrow;
-      written = falls_text certified offer known narrow;
+      lawful = table_is_lawful certified poly refl known is.some is.few;
+      written = refl;
       job = refl;
     }
 
+-- it is wanted of a table whose first numbers are positive alone
+wanted_table : (job : CertifiedJob) (v : TableVerdict) (poly : List ℤ) (c : Certificate) → (if is_inside v then Some (certificate.Table job poly) else None) ≡ Some c → (v ≡ table.Inside) × (certificate.Table job poly ≡ c)
+wanted_table job table.Inside poly c e = (refl, cc)
+wanted_table job (table.NotInside row) poly c e = absurd (cc)
+
 certificate_fits : (controller plant : List ℕ) (old new : FilesSeen) (asked : AskedLoop) (words : CertWords) (found : Answer) (c : Certificate) → old.held asked.file ≡ Some controller → old.held asked.plant ≡ Some plant
-    → IsLoopRow old new asked (Ok found) → HasWords controller words → falls_of (loop_job_with asked words) found ≡ Some c → IsTyped c → IsLoopAcceptable controller plant c
-certificate_fits controller plant old new asked words (answer.Falls poly offer fall) c held plant_held row said e known =
+    → IsLoopRow old new asked (Ok found) → HasWords controller words → table_of (loop_job_with asked words) found ≡ Some c → IsTyped c → IsLoopAcceptable controller plant c
+certificate_fits controller plant old new asked words (answer.OfTable found) c held plant_held row said e known =
     let d = row.0 in
     let p = row.1 in
     let q = row.3.quantised in
-    let made = certificate.Falls (loop_job_with asked words) offer in
-    let is : made ≡ c = cc in
-    let f = falling (loop_of q d.sample_time p) poly offer fall row.3.loop in
-    subst (IsLoopAcceptable controller plant) is
-    (falls_fit controller plant asked words poly offer fall d p q (in_file (λ bytes. IsController bytes d) old asked.file controller held row.2.controller_file)
-    (in_file (λ bytes. IsPlantOf bytes p) old asked.plant plant plant_held row.2.plant_file) said row.3.words f.0 f.1 f.2 (subst IsTyped (sym is) known))
+    let w = wanted_table (loop_job_with asked words) found.verdict found.poly c e in
+    subst (IsLoopAcceptable controller plant) w.1
+    (table_fits controller plant asked words found.poly d p q (in_file (λ bytes. IsController bytes d) old asked.file controller held row.2.controller_file)
+    (in_file (λ bytes. IsPlantOf bytes p) old asked.plant plant plant_held row.2.plant_file) said row.3.words
+    (subst (IsOfPolynomial (loop_of (q ∷ []) d.sample_time p) found.poly) w.0 (decided (loop_of (q ∷ []) d.sample_time p) found row.3.loop)) (subst IsTyped (sym w.1) known))
 certificate_fits controller plant old new asked words found c held plant_held row said e known = absurd (cc)
 
 -- ---- what keeps the files from being a loop's
@@ -171,18 +181,25 @@ never_found controller plant c why f k =
     found_or_refused (words_loop_check k.quantised f.design.sample_time f.p c) why
     (subst (λ q. words_loop_check q f.design.sample_time f.p c ≡ Ok tt) (one_words controller plant c f k.quantised k.becomes) f.passes) k.checked
 
-never_refused : (controller plant : List ℕ) (c : Certificate) (why : CheckRefusal) (f : LoopFits controller plant c) → IsLoopFoundFor f.design f.p c (Err why) → ⊥
-never_refused controller plant c (refusal.Quant why) f k =
+never_refused : (controller plant : List ℕ) (c : Certificate) (why : CheckRefusal) (f : LoopFits controller plant c) → (why ≡ refusal.NoMemory → ⊥) → IsLoopFoundFor f.design f.p c (Err why) → ⊥
+never_refused controller plant c refusal.NoMemory f n k = n refl
+never_refused controller plant c (refusal.Quant why) f n k =
     let one = accepted_of controller f.design (job_of c) (Ok f.quantised) f.accepted f.becomes in
     let other = accepted_of controller f.design (job_of c) (Err why) f.accepted k in
     subst IsInWords (one_stage (job_of c).design controller (in_words f.design f.quantised) (refused why) (one, refl) other) tt
-never_refused controller plant c why f k = never_found controller plant c why f k
+never_refused controller plant c why f n k = never_found controller plant c why f k
 
-never : (controller plant : List ℕ) (c : Certificate) (why : CheckRefusal) (f : LoopFits controller plant c) (d : ControllerView) (p : PlantView) → IsController controller d → IsPlantOf plant p → IsLoopChecked d p c (Err why) → ⊥
-never controller plant c why f d p a b k =
+never : (controller plant : List ℕ) (c : Certificate) (why : CheckRefusal) (f : LoopFits controller plant c) (d : ControllerView) (p : PlantView) → (why ≡ refusal.NoMemory → ⊥) → IsController controller d → IsPlantOf plant p → IsLoopChecked d p c (Err why) → ⊥
+never controller plant c why f d p n a b k =
     let k1 : IsLoopChecked f.design p c (Err why) = subst (λ x. IsLoopChecked x p c (Err why)) (one_design controller d f.design a.text f.accepted.text) k in
     let k2 : IsLoopChecked f.design f.p c (Err why) = subst (λ x. IsLoopChecked f.design x c (Err why)) (same_plant plant p f.p b f.plant_text) k1 in
-    never_refused controller plant c why f (subst (λ r. IsLoopFoundAfter r f.design f.p c (Err why)) f.format k2)
+    never_refused controller plant c why f n (subst (λ r. IsLoopFoundAfter r f.design f.p c (Err why)) f.format k2)
+
+-- a refusal is want of memory
+refused_accepts : (controller plant : List ℕ) (c : Certificate) (r : CheckRefusal) (why : Stop) (f : LoopFits controller plant c) (d : ControllerView) (p : PlantView) → why ≡ stop_of_check r → IsController controller d → IsPlantOf plant p
+    → IsLoopChecked d p c (Err r) → IsAcceptance (job_of c) (Err why)
+refused_accepts controller plant c refusal.NoMemory why f d p e a b k = subst (λ s. IsAcceptance (job_of c) (Err s)) (sym e) tt
+refused_accepts controller plant c r why f d p e a b k = absurd (never controller plant c r f d p (λ same. cc) a b k)
 
 -- ---- each answer to the check
 spelled_is : (written : List ℕ) (c : Certificate) (old : FilesSeen) (name : List ℕ) (d : Certificate) → old.held name ≡ Some written → IsSpelled written c → IsCertificateOf old name d → d ≡ c
@@ -204,14 +221,14 @@ check_accepts controller plant written c f s old new cn pn name (Err why) held p
     certificate_accepts written c old new name why written_held s row.3
 check_accepts controller plant written c f s old new cn pn name (Err why) held plant_held written_held (inr (inr row)) =
     let is = spelled_is written c old name row.certificate written_held s row.spelled in
-    absurd (never controller plant c row.check.0 f row.c row.p
+    refused_accepts controller plant c row.check.0 why f row.c row.p row.check.2
     (in_file (λ bytes. IsController bytes row.c) old cn controller held row.files.controller_file)
     (in_file (λ bytes. IsPlantOf bytes row.p) old pn plant plant_held row.files.plant_file)
-    (subst (λ x. IsLoopChecked row.c row.p x (Err row.check.0)) is row.check.1))
+    (subst (λ x. IsLoopChecked row.c row.p x (Err row.check.0)) is row.check.1)
 
 pub written_loops_are_accepted : WrittenLoopsAreAccepted
 written_loops_are_accepted controller plant old new asked words found c held plant_held row said e known short then_old then_new cn pn name answered h k w then_row =
-    let wanted = of_wanted asked.certified (falls_of (loop_job_with asked words) found) c e in
+    let wanted = of_wanted asked.certified (table_of (loop_job_with asked words) found) c e in
     let a = certificate_fits controller plant old new asked words found c held plant_held row (words_said old new asked words found controller held said) wanted known in
     let alone = certificate_alone c in
     let spelled : certificate_in (certificate_text c) ≡ Ok alone = ap certificate_in (sym a.written) ∙ written_is_read alone a.lawful in

@@ -1,6 +1,6 @@
 -- A form of a state-space controller that a run wrote is accepted for the same file.
-use Rattle.std.proofs.Common.{◌≡◌, ◌∙◌, sym, ap, subst, refl, ℕ, true, false, Bool, List, length}
-use Rattle.std.specs.Prelude.{Option, Some, None, Result, Ok, Err, if◌then◌else◌}
+use Rattle.std.proofs.Common.{◌≡◌, ◌∙◌, sym, ap, subst, refl, ℕ, true, false, List, length}
+use Rattle.std.specs.Prelude.{Some, None, Result, Ok, Err, if◌then◌else◌}
 use Rattle.dsv_base.specs.Seen.{FilesSeen}
 use Rattle.dsv_names.specs.declared.overflow_mode.OverflowMode.{OverflowMode}
 use Rattle.dsv_names.specs.declared.rounding.Rounding.{Rounding}
@@ -31,19 +31,18 @@ use Rattle.dsv_certcheck.specs.StateChecks.{state_check, Offers}
 use Rattle.dsv_certcheck.specs.declared.check_refusal.CheckRefusal.{CheckRefusal}
 use Rattle.dsv_certcheck.specs.declared.check_refusal.CheckRefusal.TheVariants as refusal
 use Rattle.dsv_certcheck.proofs.Passing.{state_form_passes}
-use Rattle.dsv_command.specs.States.{StateTask, checks_form, seeks_form, AskedStates}
+use Rattle.dsv_command.specs.States.{StateTask, seeks_form, AskedStates}
 use Rattle.dsv_report.specs.Output.{state_job_with, state_falls_of, wants_certificate}
 use Rattle.dsv_report.specs.declared.answers.Answer.{Answer}
 use Rattle.dsv_report.specs.declared.answers.Answer.TheVariants as answer
 use Rattle.dsv_report.specs.declared.stop.CertificateFault.{CertificateFault}
 use Rattle.dsv_report.specs.declared.stop.CertificateFault.TheVariants as fault
-use Rattle.dsv_report.specs.declared.stop.Stop.{Stop}
 use Rattle.dsv_report.specs.declared.stop.Stop.TheVariants as stop
 use Rattle.dsv_report.specs.Stops.{Outcome}
 use Rattle.dsv_cli.specs.Accepted.{IsFormAcceptance, form_check, WrittenStateFormsAreAccepted}
 use Rattle.dsv_cli.specs.Checking.{IsUnreadCertificate}
 use Rattle.dsv_cli.specs.Headline.{longest_file, longest_certificate, CameOf, IsSpelled, Spells}
-use Rattle.dsv_cli.specs.States.{IsStateController, IsStatesFileOf, IsOfNamedForm, IsOfStateTask, IsStateRow}
+use Rattle.dsv_cli.specs.States.{IsStateController, IsOfNamedForm, IsOfStateTask, IsStateRow}
 use Rattle.dsv_cli.proofs.AcceptedLemmas.{one_spelled, read_or_refused, too_long}
 use Rattle.dsv_cli.proofs.Told.{of_told}
 

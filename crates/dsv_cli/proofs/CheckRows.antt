@@ -8,7 +8,6 @@ use Rattle.dsv_certcheck.proofs.LoopRefusals.{no_loop_is_refused}
 use Rattle.dsv_certcheck.specs.Checks.{IsChecked}
 use Rattle.dsv_certcheck.specs.declared.check_refusal.CheckRefusal.{CheckRefusal}
 use Rattle.dsv_certcheck.specs.declared.check_refusal.CheckRefusal.TheVariants as refusal
-use Rattle.dsv_loop.specs.declared.refusal.LoopRefusal.TheVariants.{Wide}
 use Rattle.dsv_report.specs.declared.answers.Answer.TheVariants as answer
 use Rattle.dsv_report.specs.declared.stop.CertificateFault.TheVariants as fault
 use Rattle.dsv_report.specs.declared.stop.Stop.{Stop}
@@ -26,7 +25,6 @@ pub of_refusal : (controller : ControllerView) (c : Certificate) (r : CheckRefus
 of_refusal controller c (refusal.Line line why) h = inl h
 of_refusal controller c (refusal.Wide index) h = inr (refl, refl, inl (index, h))
 of_refusal controller c refusal.NoZeros h = inr (refl, refl, inr h)
-of_refusal controller c (refusal.Loop (Wide index)) h = absurd (no_loop_is_refused controller c (Wide index) h)
 of_refusal controller c (refusal.Loop why) h = absurd (no_loop_is_refused controller c why h)
 of_refusal controller c (refusal.Quant r) h = h
 of_refusal controller c (refusal.JobSize size) h = h

@@ -1,5 +1,5 @@
 -- Each outcome is a verdict, a refusal, a fault or want of memory.
-use Rattle.std.proofs.Common.{inl, inr, refl, ℕ, List}
+use Rattle.std.proofs.Common.{inl, inr, refl, ℕ, List, [], ◌∷◌}
 use Rattle.std.specs.Prelude.{◌≡◌, ◌⊎◌, Option, Result, Ok, Err, ℤ}
 use Rattle.dsv_base.specs.Counts.{Rose}
 use Rattle.dsv_base.specs.Seen.{FilesSeen}
@@ -8,7 +8,6 @@ use Rattle.dsv_certcheck.specs.declared.check_refusal.CheckRefusal.{CheckRefusal
 use Rattle.dsv_certcheck.specs.declared.check_refusal.CheckRefusal.TheVariants as refusal
 use Rattle.dsv_loop.specs.Loops.{loop_of}
 use Rattle.dsv_loop.specs.declared.refusal.LoopRefusal.{LoopRefusal}
-use Rattle.dsv_loop.specs.declared.refusal.LoopRefusal.TheVariants.{Wide}
 use Rattle.dsv_report.specs.Stops.{Outcome}
 use Rattle.dsv_report.specs.declared.answers.Answer.TheVariants as answer
 use Rattle.dsv_report.specs.declared.stop.Stop.{Stop}
@@ -21,8 +20,10 @@ use Rattle.dsv_command.specs.Cascades.{AskedCascade}
 use Rattle.dsv_command.specs.Ellipsoids.{EllipsoidSource, offered, sought, AskedEllipsoid}
 use Rattle.dsv_command.specs.Loops.{AskedLoop}
 use Rattle.dsv_command.specs.States.{StateTask, checks_form, seeks_form, searches_states, measures_states, simulates_states, AskedStates}
-use Rattle.dsv_report.specs.Report.{answer_status, forms_status, stop_status}
+use Rattle.dsv_report.specs.Report.{answer_status, forms_status, table_status, stop_status}
 use Rattle.dsv_report.specs.declared.answers.Answer.{Answer}
+use Rattle.dsv_table.specs.declared.verdict.TableVerdict.{TableVerdict}
+use Rattle.dsv_table.specs.declared.verdict.TableVerdict.TheVariants as table
 use Rattle.dsv_cli.specs.Cascades.{IsCascadeRow}
 use Rattle.dsv_cli.specs.Checking.{IsUnreadCertificate, stop_of_check}
 use Rattle.dsv_cli.specs.Completeness.{IsVerdict, IsRefusedByNone, IsDecidedBy, AreDecided}
@@ -38,9 +39,14 @@ forms_verdict (forms.KeptAway section poly offer fall value) = inr (inl refl)
 forms_verdict (forms.Wide section index) = inr (inr refl)
 forms_verdict (forms.NoClosedForm section index) = inr (inr refl)
 
+table_verdict : (v : TableVerdict) → IsVerdict (table_status v)
+table_verdict table.Inside = inl refl
+table_verdict (table.NotInside row) = inr (inl refl)
+
 answer_verdict : (found : Answer) → IsVerdict (answer_status found)
 answer_verdict (answer.Falls poly offer fall) = inl refl
 answer_verdict (answer.KeptAway poly offer fall value) = inr (inl refl)
+answer_verdict (answer.OfTable found) = table_verdict found.verdict
 answer_verdict (answer.OfSections found) = forms_verdict found
 answer_verdict (answer.StateFalls many offer fall) = inl refl
 answer_verdict answer.NoStateForm = inr (inr refl)
@@ -160,13 +166,12 @@ loop_rose old new controller plant (file.Section section) (inr h) = absurd h.2
 
 -- no later stage reads a file
 no_fault : (came : Result (List ℤ) LoopRefusal) (which : WhichFile) → IsOfLoop came (Err (stop.ReadFault which)) → ⊥
-no_fault (Ok poly) which h = h.1
-no_fault (Err (Wide index)) which h = cc
-no_fault (Err why) which h = cc
+no_fault (Ok poly) which h = h
+no_fault (Err why) which h = h
 
 loop_job_rose : (old new : FilesSeen) (asked : AskedLoop) (which : WhichFile) → IsLoopRow old new asked (Err (stop.ReadFault which)) → Rose old.faults new.faults
 loop_job_rose old new asked which (inl h) = loop_rose old new asked.file asked.plant which h
-loop_job_rose old new asked which (inr h) = absurd (no_fault (loop_of h.3.quantised h.0.sample_time h.1) which h.3.loop)
+loop_job_rose old new asked which (inr h) = absurd (no_fault (loop_of (h.3.quantised ∷ []) h.0.sample_time h.1) which h.3.loop)
 
 certificate_rose : (old new : FilesSeen) (name : List ℕ) (which : WhichFile) → IsUnreadCertificate old new name (stop.ReadFault which) → Rose old.faults new.faults
 certificate_rose old new name file.Certificate h = h.0
@@ -179,7 +184,6 @@ no_check_fault : (r : CheckRefusal) (which : WhichFile) → stop.ReadFault which
 no_check_fault (refusal.Line line why) which e = cc
 no_check_fault (refusal.Wide index) which e = cc
 no_check_fault refusal.NoZeros which e = cc
-no_check_fault (refusal.Loop (Wide index)) which e = cc
 no_check_fault (refusal.Loop why) which e = cc
 no_check_fault (refusal.Quant r) which e = cc
 no_check_fault (refusal.JobSize size) which e = cc

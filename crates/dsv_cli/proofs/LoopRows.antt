@@ -1,16 +1,18 @@
 -- The rows of jobs for loops: what each stage gives, and what follows of it.
-use Rattle.std.proofs.Common.{◌≡◌, ◌<◌, ◌≤◌, ◌+◌, ℕ, List, length, false, subst, inl, inr, arith}
+use Rattle.std.proofs.Common.{◌≡◌, ◌<◌, ◌≤◌, ◌+◌, ℕ, List, [], ◌∷◌, length, refl, sym, subst, inl, inr, arith}
 use Rattle.std.specs.Prelude.{Result, Ok, Err, ℤ}
 use Rattle.dsv_base.specs.Seen.{FilesSeen}
 use Rattle.dsv_base.proofs.TakingLemmas.{Rose-earlier}
 use Rattle.dsv_certfile.specs.Words.{words_for}
 use Rattle.dsv_certfile.specs.declared.job.CertWords.{CertWords}
 use Rattle.dsv_command.specs.Loops.{AskedLoop}
-use Rattle.dsv_loop.specs.Loops.{loop_of}
+use Rattle.dsv_loop.specs.Loops.{loop_of, IsLoop}
 use Rattle.dsv_loop.specs.declared.refusal.LoopRefusal.{LoopRefusal}
-use Rattle.dsv_loop.specs.declared.refusal.LoopRefusal.TheVariants.{Wide}
-use Rattle.dsv_jury.specs.declared.verdict.Jury.{Jury}
-use Rattle.dsv_lyapunov.specs.declared.kept.KeptForm.{KeptForm}
+use Rattle.dsv_loop.specs.declared.refusal.LoopStop.{LoopStop}
+use Rattle.dsv_loop.specs.declared.refusal.LoopStop.TheVariants as loop_stop
+use Rattle.dsv_certfile.specs.Limits.{most_coefficients}
+use Rattle.dsv_table.specs.Findings.{IsFinding}
+use Rattle.dsv_table.specs.declared.finding.TableFinding.{TableFinding}
 use Rattle.dsv_names.specs.declared.design.Design.{Design}
 use Rattle.dsv_quantiser.specs.declared.refusal.QuantRefusal.{QuantRefusal}
 use Rattle.dsv_reader.specs.Controllers.{ControllerView}
@@ -21,12 +23,10 @@ use Rattle.dsv_report.specs.declared.answers.Answer.TheVariants as answer
 use Rattle.dsv_report.specs.declared.stop.Stop.{Stop}
 use Rattle.dsv_report.specs.declared.stop.Stop.TheVariants as stop
 use Rattle.dsv_report.specs.declared.stop.WhichFile.TheVariants as file
-use Rattle.dsv_report.specs.Stops.{Outcome}
+use Rattle.dsv_report.specs.Stops.{Outcome, stop_of_loop}
 use Rattle.dsv_cli.specs.Headline.{longest_file, AreKept, CameOf}
 use Rattle.dsv_cli.specs.Loops.{IsPlantOf, IsPlantFileOf, IsPlantUnread, HaveLoop, IsOfLoop, IsLoopInWords, IsOfPlant, IsLoopRow, SaysLoop}
-use Rattle.dsv_cli.specs.Proposers.{IfNoForm, is_low}
 use Rattle.dsv_cli.proofs.Told.{along}
-use Rattle.dsv_cli.proofs.Unasked.{IsNoSet, no_low}
 
 -- ---- the plant's file
 -- from files that were read earlier
@@ -43,14 +43,28 @@ pub plant_file_earlier : (old then : FilesSeen) (name : List ℕ) (p : PlantView
 plant_file_earlier old then name p k h = subst (λ held. CameOf (held name) (λ bytes. IsPlantOf bytes p)) k.held h
 
 -- ---- the loop
+-- its polynomial's table decides
+pub of_table : (came : Result (List ℤ) LoopRefusal) (poly : List ℤ) (found : TableFinding) → came ≡ Ok poly → length poly ≤ 17 → IsFinding poly found → IsOfLoop came (Ok (answer.OfTable found))
+of_table came poly found e few h =
+    let least : length poly ≤ most_coefficients = omega (arith, few) in
+    subst (λ r. IsOfLoop r (Ok (answer.OfTable found))) (sym e) (least, h)
+
+pub of_no_memory : (came : Result (List ℤ) LoopRefusal) → IsOfLoop came (Err stop.NoMemory)
+of_no_memory (Ok poly) = tt
+of_no_memory (Err why) = tt
+
+-- there is none
+pub of_no_loop : (came : Result (List ℤ) LoopRefusal) (why : LoopStop) → IsLoop came (Err why) → IsOfLoop came (Err (stop_of_loop why))
+of_no_loop came (loop_stop.Refused why) h = subst (λ r. IsOfLoop r (Err (stop.LoopRefused why))) (sym h) refl
+of_no_loop came loop_stop.NoMemory h = of_no_memory came
+
 -- words are refused at no later stage
 no_quant : (came : Result (List ℤ) LoopRefusal) (r : QuantRefusal) → IsOfLoop came (Err (stop.QuantRefused r)) → ⊥
-no_quant (Ok poly) r h = h.1
-no_quant (Err (Wide index)) r h = cc
-no_quant (Err why) r h = cc
+no_quant (Ok poly) r h = h
+no_quant (Err why) r h = h
 
 pub of_words : (design : Design) (c : ControllerView) (p : PlantView) (found : Outcome) → IsLoopInWords design c p found → IsOfPlant design c p found
-of_words design c p (Err (stop.QuantRefused r)) h = absurd (no_quant (loop_of h.quantised c.sample_time p) r h.loop)
+of_words design c p (Err (stop.QuantRefused r)) h = absurd (no_quant (loop_of (h.quantised ∷ []) c.sample_time p) r h.loop)
 of_words design c p found h = h
 
 -- ---- rows
@@ -61,29 +75,3 @@ row_of_files old new asked c p (Err why) h k = inr (c, p, h, k)
 pub said_of_files : (old new : FilesSeen) (asked : AskedLoop) (c : ControllerView) (p : PlantView) (found : Outcome) (said : CertWords) → HaveLoop old asked.file asked.plant c p → said ≡ words_for c.int_bits c.frac_bits
     → SaysLoop old new asked found said
 said_of_files old new asked c p found said h e = inl (along (old.held asked.file) (λ bytes a. record { controller = c; accepted = a; words = e }) h.controller_file)
-
--- ---- what a loop comes to: forms may be offered for it, and no sets
-no_set : (came : Result (List ℤ) LoopRefusal) (found : Outcome) → IsOfLoop came found → IsNoSet found
-no_set (Ok poly) (Ok (answer.Always candidate logs)) h = absurd h.1
-no_set (Ok poly) (Ok (answer.NoInvariant kept)) h = absurd h.1
-no_set (Ok poly) found h = tt
-no_set (Err (Wide index)) found h = rw h tt
-no_set (Err why) found h = rw h tt
-
-no_set_of : (design : Design) (c : ControllerView) (p : PlantView) (found : Outcome) → IsOfPlant design c p found → IsNoSet found
-no_set_of design c p (Err why) h = tt
-no_set_of design c p (Ok found) h = no_set (loop_of h.quantised c.sample_time p) (Ok found) h.loop
-
-pub row_without_set : (old new : FilesSeen) (asked : AskedLoop) (found : Outcome) → IsLoopRow old new asked found → IsNoSet found
-row_without_set old new asked (Ok found) h = no_set_of asked.design h.0 h.1 (Ok found) h.3
-row_without_set old new asked (Err why) h = tt
-
--- low orders are decided
-low_found : (came : Result (List ℤ) LoopRefusal) (poly : List ℤ) (kept : List KeptForm) (verdict : Jury) → IsOfLoop came (Ok (answer.NoForm poly kept verdict)) → is_low poly ≡ false
-low_found (Ok cs) poly kept verdict h = no_low poly h.1.1.no_closed_form
-low_found (Err (Wide index)) poly kept verdict h = absurd (cc)
-low_found (Err why) poly kept verdict h = absurd (cc)
-
-pub low_loop_is_decided : (old new : FilesSeen) (asked : AskedLoop) (found : Outcome) → IsLoopRow old new asked found → IfNoForm found (λ poly kept. is_low poly ≡ false)
-low_loop_is_decided old new asked (Ok (answer.NoForm poly kept verdict)) h = low_found (loop_of h.3.quantised h.0.sample_time h.1) poly kept verdict h.3.loop
-low_loop_is_decided old new asked found h = tt

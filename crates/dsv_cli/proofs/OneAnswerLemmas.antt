@@ -96,6 +96,7 @@ reached_by bytes old new job (Err stop.FileTooLong) s h = along h.comes_from.1 (
 reached_by bytes old new job (Ok (answer.Checked certified error)) s h = absurd h
 reached_by bytes old new job (Err (stop.CertificateRefused line why)) s h = absurd h
 reached_by bytes old new job (Ok (answer.Generated found)) s h = absurd h
+reached_by bytes old new job (Ok (answer.OfTable found)) s h = absurd h
 reached_by bytes old new job (Ok (answer.OfSections found)) s h = absurd h
 reached_by bytes old new job (Ok (answer.StateFalls many offer fall)) s h = absurd h
 reached_by bytes old new job (Ok answer.NoStateForm) s h = absurd h

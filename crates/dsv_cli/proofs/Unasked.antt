@@ -122,24 +122,6 @@ sets_unasked_for_roots place last to_come becomes xs property quantised found h 
     none_left (Ok (answer.NoInvariant kept)) P h = absurd h.decision
     none_left found P h = tt
 
--- the answer is neither a set nor that there is none
-abbrev pub IsNoSet : Outcome → Type 0
-IsNoSet (Ok (answer.Always candidate logs)) = ⊥
-IsNoSet (Ok (answer.NoInvariant kept)) = ⊥
-IsNoSet other = Unit {0}
-
-pub sets_unasked_without : {B P : Type 0} (place : B → P) (last : B → Option Candidate) (to_come : B → Shape → Option (List Candidate)) (becomes : QuantisedView → Type 0) (xs : List B) (found : Outcome)
-    → IsNoSet found → AreSetsAsked place last to_come becomes xs xs found
-sets_unasked_without place last to_come becomes xs found h = same_sets place last to_come becomes xs found (λ P. none_kept found P h) (λ P. none_left found P h)
-  where
-    none_kept : (found : Outcome) (P : Candidate → Type 0) → IsNoSet found → IfAlways found P
-    none_kept (Ok (answer.Always candidate logs)) P h = absurd h
-    none_kept found P h = tt
-
-    none_left : (found : Outcome) (P : List KeptSet → Type 0) → IsNoSet found → IfNoInvariant found P
-    none_left (Ok (answer.NoInvariant kept)) P h = absurd h
-    none_left found P h = tt
-
 -- the words are those that the job's file becomes
 pub sets_asked_for : {B P : Type 0} (place : B → P) (last : B → Option Candidate) (to_come : B → Shape → Option (List Candidate)) (R S : QuantisedView → Type 0) (before after : List B) (found : Outcome)
     → ((w : QuantisedView) → R w → S w) → AreSetsAsked place last to_come R before after found → AreSetsAsked place last to_come S before after found
@@ -169,7 +151,7 @@ without : (b : Bool) (offer : FormOffer) → (if b then Some offer else None) �
 without true offer h = absurd (cc)
 without false offer h = refl
 
-pub no_low : (poly : List ℤ) → closed_form_of poly ≡ None → is_low poly ≡ false
+no_low : (poly : List ℤ) → closed_form_of poly ≡ None → is_low poly ≡ false
 no_low [] h = refl
 no_low (c0 ∷ []) h = absurd (cc)
 no_low (c0 ∷ c1 ∷ []) h = absurd (cc)

@@ -14,7 +14,6 @@ use Rattle.dsv_certcheck.specs.LineNumbers.{job_line_number}
 use Rattle.dsv_certcheck.specs.Shown.{IsShownOf, IsNearOf}
 use Rattle.dsv_certcheck.specs.declared.check_refusal.CheckRefusal.{CheckRefusal}
 use Rattle.dsv_certcheck.specs.declared.check_refusal.CheckRefusal.TheVariants as refusal
-use Rattle.dsv_loop.specs.declared.refusal.LoopRefusal.TheVariants.{Wide}
 use Rattle.dsv_report.specs.declared.answers.Answer.TheVariants as answer
 use Rattle.dsv_report.specs.declared.stop.CertificateFault.TheVariants as fault
 use Rattle.dsv_report.specs.declared.stop.Stop.{Stop}
@@ -30,8 +29,6 @@ stop_of_check (refusal.Line line why) = stop.CertificateRefused line (fault.Chec
 stop_of_check (refusal.Wide index) =
     stop.CertificateRefused job_line_number (fault.Check claim.Shape)
 stop_of_check refusal.NoZeros = stop.CertificateRefused job_line_number (fault.Check claim.Shape)
-stop_of_check (refusal.Loop (Wide index)) =
-    stop.CertificateRefused job_line_number (fault.Check claim.Shape)
 stop_of_check (refusal.Loop why) = stop.LoopRefused why
 stop_of_check (refusal.Quant r) = stop.QuantRefused r
 stop_of_check (refusal.JobSize size) = stop.JobSize size

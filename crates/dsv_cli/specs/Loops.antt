@@ -1,15 +1,15 @@
 -- What a run answers to a job for the loop of a controller with its plant: a table of its own, one
 -- row for each answer.
-use Rattle.std.specs.Prelude.{◌≡◌, ◌⊎◌, ℕ, ◌+◌, ◌<◌, ◌≤◌, List, length, Some, Result, Ok, Err, ℤ}
+use Rattle.std.specs.Prelude.{◌≡◌, ◌⊎◌, ℕ, ◌+◌, ◌<◌, ◌≤◌, List, [], ◌∷◌, length}
+use Rattle.std.specs.Prelude.{Some, Result, Ok, Err, ℤ}
 use Rattle.dsv_base.specs.Counts.{Rose}
 use Rattle.dsv_base.specs.Seen.{FilesSeen}
+use Rattle.dsv_certfile.specs.Limits.{most_coefficients}
 use Rattle.dsv_certfile.specs.declared.job.CertWords.{CertWords}
 use Rattle.dsv_certfile.specs.declared.job.CertWords.TheVariants as words
 use Rattle.dsv_command.specs.Loops.{AskedLoop}
-use Rattle.dsv_forms.specs.Poly.{IsPoly}
 use Rattle.dsv_loop.specs.Loops.{loop_of}
 use Rattle.dsv_loop.specs.declared.refusal.LoopRefusal.{LoopRefusal}
-use Rattle.dsv_loop.specs.declared.refusal.LoopRefusal.TheVariants.{Wide}
 use Rattle.dsv_names.specs.declared.design.Design.{Design}
 use Rattle.dsv_quantiser.specs.QuantisedView.{QuantisedView}
 use Rattle.dsv_quantiser.specs.Modes.{BecomesWords}
@@ -17,6 +17,7 @@ use Rattle.dsv_reader.specs.Controllers.{ControllerView}
 use Rattle.dsv_reader.specs.Plants.{PlantView}
 use Rattle.dsv_reader.specs.Reading.{plant_reading}
 use Rattle.dsv_reader.specs.Texts.{IsPlantText}
+use Rattle.dsv_table.specs.Findings.{IsFinding}
 use Rattle.dsv_token.specs.declared.refusal.FileRefusal.TheVariants as text
 use Rattle.dsv_report.specs.declared.answers.Answer.TheVariants as answer
 use Rattle.dsv_report.specs.declared.stop.Stop.{Stop}
@@ -24,7 +25,6 @@ use Rattle.dsv_report.specs.declared.stop.Stop.TheVariants as stop
 use Rattle.dsv_report.specs.declared.stop.WhichFile.TheVariants as file
 use Rattle.dsv_report.specs.Stops.{Outcome}
 use Rattle.dsv_cli.specs.Cascades.{IsFileOf}
-use Rattle.dsv_cli.specs.Causes.{IsDecision}
 use Rattle.dsv_cli.specs.Headline.{longest_file, CameOf, HasWords, IsUnread}
 
 -- ---- the plant's file
@@ -68,19 +68,22 @@ HaveNoLoop old new controller plant why =
     ⊎ HasNoPlant old new controller plant why
 
 -- ---- the loop
--- what the loop comes to, by its polynomial, with at most nine coefficients and a positive lead, or
--- by why it has none: one that is too wide is no fault of a file
+-- what the loop comes to, by its polynomial, with at most 25 coefficients, whose table decides, or
+-- by why there is no loop
 abbrev pub IsOfLoop : Result (List ℤ) LoopRefusal → Outcome → Type 0
-IsOfLoop (Ok poly) found = IsPoly poly × IsDecision poly found
-IsOfLoop (Err (Wide index)) found = found ≡ Ok (answer.Wide index)
-IsOfLoop (Err why) found = found ≡ Err (stop.LoopRefused why)
+IsOfLoop (Ok poly) (Ok (answer.OfTable found)) =
+    (length poly ≤ most_coefficients) × IsFinding poly found
+IsOfLoop (Ok poly) (Err stop.NoMemory) = Unit {0}
+IsOfLoop (Err why) (Err (stop.LoopRefused r)) = r ≡ why
+IsOfLoop (Err why) (Err stop.NoMemory) = Unit {0}
+IsOfLoop came other = ⊥
 
 -- The controller becomes words, for whose loop with the plant this is found.
 pub record IsLoopInWords (design : Design) (c : ControllerView) (p : PlantView) (found : Outcome) :
     Type 0 where
   pub quantised : QuantisedView
   pub words : BecomesWords c design (Ok quantised)
-  pub loop : IsOfLoop (loop_of quantised c.sample_time p) found
+  pub loop : IsOfLoop (loop_of (quantised ∷ []) c.sample_time p) found
 
 -- what a job comes to for the controller and the plant of its files
 abbrev pub IsOfPlant : Design → ControllerView → PlantView → Outcome → Type 0

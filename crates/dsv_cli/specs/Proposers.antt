@@ -7,7 +7,7 @@ use Rattle.dsv_closed_forms.specs.ClosedForm.{closed_form_of, are_within, second
 use Rattle.dsv_cli.specs.Blocks.{AreBlocks}
 use Rattle.dsv_cli.specs.Suffixes.{IsSuffix, IfFirst, HoldsOfNone}
 use Rattle.dsv_command.specs.Jobs.{Task, decides}
-use Rattle.dsv_command.specs.Requests.{Request, on_file, on_loop}
+use Rattle.dsv_command.specs.Requests.{Request, on_file}
 use Rattle.dsv_names.specs.declared.property.RootProperty.{RootProperty}
 use Rattle.dsv_cli.specs.Headline.{Decides, Seeks}
 use Rattle.dsv_lyapunov.specs.declared.kept.KeptForm.{KeptForm}
@@ -73,10 +73,10 @@ pub record IsAsked {B P : Type 0} (place : B → P) (last : B → Option FormOff
   pub blocks : IfNoForm found
       (λ poly kept. AreBlocks 32 (told_of to_come poly before) (offers_in kept))
 
--- the request is to decide a polynomial, for which forms may be wanted
+-- the request is to decide a polynomial, for which forms may be wanted; a loop's is decided by its
+-- table
 abbrev pub WantsForm : Option Request → Type 0
 WantsForm (Some (on_file job)) = Decides job.task
-WantsForm (Some (on_loop asked)) = Unit {0}
 WantsForm other = ⊥
 
 -- the task asks for the Schur-Cohn form before any proposer
@@ -86,7 +86,6 @@ AsksSchurCohn task = (property : RootProperty) × (task ≡ decides property tru
 -- the request is to decide a polynomial, with the Schur-Cohn form first of all
 abbrev pub WantsSchurCohn : Option Request → Type 0
 WantsSchurCohn (Some (on_file job)) = AsksSchurCohn job.task
-WantsSchurCohn (Some (on_loop asked)) = asked.schur_cohn ≡ true
 WantsSchurCohn other = ⊥
 
 -- The polynomial is none that its Schur-Cohn form is known to decide always.

@@ -10,7 +10,6 @@ use dsv_base::Files;
 use dsv_certcheck::{CheckRefusal, check};
 use dsv_certfile::{Certificate, CheckFault};
 use dsv_command::Check;
-use dsv_loop::LoopRefusal;
 use dsv_reader::Controller;
 use dsv_report::{Answer, CertificateFault, Stop, WhichFile};
 use std::alloc::Global;
@@ -43,9 +42,7 @@ pub(crate) fn check_stop(refusal: CheckRefusal) -> Stop
             line,
             fault: CertificateFault::Check(fault),
         },
-        CheckRefusal::Wide { .. }
-        | CheckRefusal::NoZeros
-        | CheckRefusal::Loop(LoopRefusal::Wide { .. }) => Stop::CertificateRefused {
+        CheckRefusal::Wide { .. } | CheckRefusal::NoZeros => Stop::CertificateRefused {
             line: JOB_LINE,
             fault: CertificateFault::Check(CheckFault::Shape),
         },

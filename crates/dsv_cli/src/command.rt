@@ -262,7 +262,7 @@ pub fn run<F: Files, K: Sink>(
         Ok(Some(Request::OnStates(job))) => states_done(alloc, &job, files, sink),
         Ok(Some(Request::OnEllipsoid(job))) => ellipsoid_done(alloc, &job, files, sink),
         Ok(Some(Request::OnLoop(job))) => {
-            let came = loop_outcome(alloc, &job, files, &mut proposers.forms);
+            let came = loop_outcome(alloc, &job, files);
             put_job(sink, AnyJob::OfLoop(&job), came)
         }
         Ok(Some(Request::Check(asked))) => put_outcome(sink, check_answer(alloc, &asked, files)),

@@ -13,12 +13,16 @@ use dsv_report::{Answer, Stop};
 use std::alloc::Global;
 
 /// What the check of a certificate against a controller and a plant comes to.
-fn loop_certificate_answer(files: &LoopFiles, certificate: &Certificate) -> Result<Answer, Stop>
+fn loop_certificate_answer(
+    alloc: Global,
+    files: &LoopFiles,
+    certificate: &Certificate,
+) -> Result<Answer, Stop>
     ensures found { IsOfLoopCertificate files.now.controller files.now.plant certificate.now
         result }
     ensures plain { IsPlain result }
 {
-    match check_loop(&files.controller, &files.plant, certificate) {
+    match check_loop(alloc, &files.controller, &files.plant, certificate) {
         Ok(()) => Ok(Answer::Checked {
             certified: *certificate.job(),
             error: None,
@@ -41,5 +45,5 @@ pub(crate) fn loop_check_answer<F: Files>(
 {
     let found = read_loop(alloc, asked.check.file, asked.plant, files)?;
     let certificate = read_certificate(alloc, asked.check.certificate, files)?;
-    loop_certificate_answer(&found, &certificate)
+    loop_certificate_answer(alloc, &found, &certificate)
 }

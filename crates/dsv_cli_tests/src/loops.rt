@@ -25,9 +25,9 @@ const CERTIFY: [&str; 6] = [
 
 const CHECK: [&str; 5] = ["f", "--check", "c", "--plant", "p"];
 
-/// The form V(x) = x^2 loses (2^2 - 1^2) x^2 in a step.
+/// The table's second row is 2^2 - 1^2, and the root is 1/2.
 const TEXT: &[u8] = b"VERIFICATION SUCCESSFUL\nproperty STABILITY realization DFI plant\n\
-    polynomial 2 -1\nform 1\nfall 3\n";
+    polynomial 2 -1\ntable inside\ngreatest root from 0.50000 to 0.50001\n";
 
 const ACCEPTED: &[u8] = b"CERTIFICATE ACCEPTED\nproperty STABILITY realization DFI plant\n";
 

@@ -1,11 +1,12 @@
-pub mod Coefficients
 pub mod Convolutions
-pub mod Entries
+pub mod Exact
+pub mod Expansions
 pub mod Factors
 pub mod Leads
+pub mod Lengths
 pub mod Multiples
 pub mod Recursions
 pub mod Scales
+pub mod Series
 pub mod Sides
-pub mod Solutions
-pub mod Stages
+pub mod Signals

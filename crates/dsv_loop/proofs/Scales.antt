@@ -1,5 +1,5 @@
 -- Lists that are multiples of one another, on a signal.
-use Rattle.std.proofs.Common.{◌≡◌, ℕ, zero, suc, ◌+◌, ◌*◌, ◌<◌, Bool, true, false, List, [], ◌∷◌, length, map, refl, sym, ap, ◌∙◌, arith}
+use Rattle.std.proofs.Common.{◌≡◌, ℕ, zero, suc, ◌+◌, ◌<◌, Bool, true, false, List, [], ◌∷◌, length, map, refl, sym, ap, ◌∙◌, arith}
 use Rattle.std.proofs.Math.IntN.{ℤ, pos, negsuc, ◌*ℤ◌, neg_ℤ}
 use Rattle.std.proofs.Math.Nat.{eq-zero_of_zero-dvd}
 use Rattle.std.proofs.lemmas.Int.{ints}
@@ -13,17 +13,7 @@ use Rattle.dsv_algebra.proofs.Sums.{sum_same, sum_scale}
 use Rattle.dsv_tested.specs.Tested.{with_positive_lead}
 use Rattle.dsv_loop.specs.Recursion.{filtered}
 use Rattle.dsv_loop.specs.Loops.{factor_with, without_common_factor}
-use Rattle.dsv_loop.proofs.Factors.{DividesAll, factor-all, exact_quotient}
-
--- ---- a product that is 0
-natural_none : (g n : ℕ) → 0 < g → g * suc n ≡ 0 → ⊥
-natural_none zero n p e = absurd (omega arith)
-natural_none (suc g) n p e = absurd (omega arith)
-
-only_nought : (g : ℕ) (x : ℤ) → 0 < g → pos g *ℤ x ≡ pos 0 → x ≡ pos 0
-only_nought g (pos zero) p e = refl
-only_nought g (pos (suc n)) p e = let f : g * suc n ≡ 0 = ap unsigned_abs e in absurd (natural_none g n p f)
-only_nought g (negsuc n) p e = let f : g * suc n ≡ 0 = omega (arith, ints) in absurd (natural_none g n p f)
+use Rattle.dsv_loop.proofs.Factors.{factor-all, exact_quotient, only_nought}
 
 -- ---- a list whose numbers are multiples of another's
 grouped : (s a b : ℤ) → s *ℤ (a *ℤ b) ≡ (s *ℤ a) *ℤ b
@@ -40,11 +30,6 @@ filtered_map s f cs x t h =
     ∙ sum_same (length cs) (λ k. s *ℤ (vector_of (map f cs) k *ℤ z k)) (λ k. vector_of cs k *ℤ z k) each
 
 -- ---- the common factor
-divided-at : (d : ℕ) (cs : List ℤ) → DividesAll d cs → (k : ℕ) → k < length cs → d ∣ unsigned_abs (vector_of cs k)
-divided-at d [] h k p = absurd (omega arith)
-divided-at d (c ∷ cs) h zero p = h.0
-divided-at d (c ∷ cs) h (suc k) p = divided-at d cs h.1 k (omega arith)
-
 zero_quotient : (c : ℤ) → 0 ∣ unsigned_abs c → pos 1 *ℤ int_div_euclid c (pos 0) ≡ c
 zero_quotient (pos n) h = let e : n ≡ 0 = eq-zero_of_zero-dvd h in rw e refl
 zero_quotient (negsuc n) h = let e : suc n ≡ 0 = eq-zero_of_zero-dvd h in absurd (omega arith)
@@ -74,7 +59,7 @@ divided_multiple (suc g) cs all =
     record { by = pos (suc g); only = λ x. only_nought (suc g) x (omega arith); same = λ x t. filtered_map (pos (suc g)) f cs x t (λ k p. exact_quotient (suc g) (vector_of cs k) (all k p)) }
 
 pub factor_multiple : (cs : List ℤ) → IsMultiple cs (without_common_factor cs)
-factor_multiple cs = let g = factor_with 0 cs in divided_multiple g cs (divided-at g cs (factor-all 0 cs))
+factor_multiple cs = let g = factor_with 0 cs in divided_multiple g cs (λ k p. factor-all 0 cs k (pos 0) p)
 
 -- ---- the sign
 twice_turned : (c : ℤ) → negsuc 0 *ℤ neg_ℤ c ≡ c

@@ -2,13 +2,14 @@
 //! stability.
 #![tactic(auto)]
 
-mod factor;
+mod expansion;
 mod law;
 mod loops;
+mod products;
+mod quotients;
 mod refusal;
-mod sums;
 mod transfer;
 
-pub use law::{loop_is_its_recursion, plant_is_made_whole};
+pub use law::{loop_is_its_recursion, plant_is_made_whole, sections_are_in_series};
 pub use loops::loop_polynomial;
-pub use refusal::LoopRefusal;
+pub use refusal::{LoopRefusal, LoopStop};

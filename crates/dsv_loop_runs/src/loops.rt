@@ -1,18 +1,21 @@
 // A loop as a line tells it.
-use crate::sides::side_of;
-use dsv_forms::Poly;
-use dsv_loop::{LoopRefusal, loop_polynomial};
+use crate::sides::{decimal_text, side_of};
+use dsv_base::Items;
+use dsv_integer::Integer;
+use dsv_loop::{LoopRefusal, LoopStop, loop_polynomial};
 use dsv_names::{OverflowMode, Realisation, Rounding, find_named};
 use dsv_quantiser::{Quantised, quantise};
 use dsv_reader::{Controller, Plant, read, read_plant};
 use dsv_word::Format;
 use std::alloc::Global;
+use std::slice;
 
 /// What the first words of a line tell.
 #[derive(Drop)]
 struct Told<'a> {
     realisation: Realisation,
     side: &'a str,
+    count: &'a str,
     frac_bits: u32,
     controller: (&'a str, &'a str),
     plant: (&'a str, &'a str),
@@ -51,41 +54,46 @@ fn words_of(controller: &Controller, told: &Told<'_>) -> Option<Quantised> {
     quantise(controller, format, told.realisation).ok()
 }
 
-/// The polynomial of the loop, or its refusal.
-fn found_loop(alloc: Global, told: &Told<'_>) -> Option<Result<Poly, LoopRefusal>> {
+/// The polynomial of the loop, or its refusal; none if there is no memory for it.
+fn found_loop(alloc: Global, told: &Told<'_>) -> Option<Result<Items<Integer>, LoopRefusal>> {
     let controller = controller_of(alloc, told.controller)?;
     let quantised = words_of(&controller, told)?;
     let plant = plant_of(alloc, told.plant)?;
-    Some(loop_polynomial(&quantised, *controller.sample_time(), &plant))
+    let sections = slice::from_ref(&quantised);
+    match loop_polynomial(sections, *controller.sample_time(), &plant, alloc) {
+        Ok(poly) => Some(Ok(poly)),
+        Err(LoopStop::Refused(refusal)) => Some(Err(refusal)),
+        Err(LoopStop::NoMemory) => None,
+    }
 }
 
 /// The coefficients of a polynomial, each after a space.
-fn coefficients_text(alloc: Global, poly: &Poly) -> Option<String> {
+fn coefficients_text(alloc: Global, poly: &[Integer]) -> Option<String> {
     let mut text = String::new(alloc);
-    for c in poly.coefficients() {
-        text.push_str(format!(in alloc; " {c}").ok()?.as_str())
-            .ok()?;
+    for c in poly {
+        text.push_str(" ").ok()?;
+        text.push_str(decimal_text(alloc, c)?.as_str()).ok()?;
     }
     Some(text)
 }
 
 /// What a line tells at its end of a loop that is refused.
-fn refusal_text(alloc: Global, refusal: LoopRefusal) -> Option<String> {
+fn refusal_text(refusal: LoopRefusal) -> &'static str {
     match refusal {
-        LoopRefusal::Realisation => String::from_str(alloc, " REALISATION").ok(),
-        LoopRefusal::SampleTimes => String::from_str(alloc, " SAMPLE_TIME").ok(),
-        LoopRefusal::Algebraic => String::from_str(alloc, " ALGEBRAIC").ok(),
-        LoopRefusal::Order => String::from_str(alloc, " ORDER").ok(),
-        LoopRefusal::Wide { index } => format!(in alloc; " WIDE {index}").ok(),
+        LoopRefusal::Realisation => " REALISATION",
+        LoopRefusal::SampleTimes => " SAMPLE_TIME",
+        LoopRefusal::Algebraic => " ALGEBRAIC",
     }
 }
 
-/// The side and the end of the line of a loop for which this is found.
-fn found_text(alloc: Global, found: &Result<Poly, LoopRefusal>) -> Option<(&'static str, String)> {
-    match found {
-        Ok(poly) => Some((side_of(poly), coefficients_text(alloc, poly)?)),
-        Err(refusal) => Some(("refused", refusal_text(alloc, *refusal)?)),
-    }
+/// Whether a loop with this polynomial is as told up to the end of the line.
+fn is_found(alloc: Global, told: &Told<'_>, poly: &[Integer], end: &str) -> Option<bool> {
+    let found = side_of(alloc, poly)?;
+    Some(
+        found.side.as_str() == told.side
+            && found.count.as_str() == told.count
+            && coefficients_text(alloc, poly)?.as_str() == end,
+    )
 }
 
 /// Whether the loop that the line tells is found as it tells; none if it tells none.
@@ -94,6 +102,7 @@ pub fn is_as_told(alloc: Global, line: &str) -> Option<bool> {
     let told = Told {
         realisation: find_named(words.next()?.as_bytes())?,
         side: words.next()?,
+        count: words.next()?,
         frac_bits: words.next()?.parse::<u32>().ok()?,
         controller: (words.next()?, words.next()?),
         plant: (words.next()?, words.next()?),
@@ -103,6 +112,8 @@ pub fn is_as_told(alloc: Global, line: &str) -> Option<bool> {
         end.push_str(format!(in alloc; " {word}").ok()?.as_str())
             .ok()?;
     }
-    let (side, text) = found_text(alloc, &found_loop(alloc, &told)?)?;
-    Some(side == told.side && text.as_str() == end.as_str())
+    match found_loop(alloc, &told)? {
+        Ok(poly) => is_found(alloc, &told, poly.as_slice(), end.as_str()),
+        Err(refusal) => Some(told.side == "refused" && refusal_text(refusal) == end.as_str()),
+    }
 }

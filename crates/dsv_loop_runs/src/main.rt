@@ -1,11 +1,13 @@
-//! Makes the polynomial of each loop that its data tell, decides on which side of the unit circle
-//! its roots are, and prints how many are as told, and each one that isn't.
+//! Makes the polynomial of each loop that its data tell, decides by its table on which side of the
+//! unit circle its roots are and how great the greatest is, and prints how many are as told, and
+//! each one that isn't.
 //!
-//! A line that is neither empty nor begins with `#` is a loop: the controller's realisation; the
-//! side, `falls` or `away`, or `refused`; the controller's bits after the point; its numerator and
-//! its denominator, and the plant's, with commas between the coefficients, and after the `;` of a
-//! denominator its sample time, 1 if there is none; and the coefficients of the loop's polynomial,
-//! or of a loop that is refused the refusal's name, and the index of a number that is too wide.
+//! A line that is neither empty nor begins with `#` is a loop: the controller's realisation;
+//! `inside`, or the row that ends the table, as `row2`, or `refused`; how many hundred-thousandths
+//! the size of the greatest root has at least, or `-`; the controller's bits after the point; its
+//! numerator and its denominator, and the plant's, with commas between the coefficients, and after
+//! the `;` of a denominator its sample time, 1 if there is none; and the coefficients of the loop's
+//! polynomial, or of a loop that is refused the refusal's name.
 #![tactic(auto)]
 
 mod loops;
@@ -14,9 +16,9 @@ mod sides;
 use anyhow::Result;
 use std::fs;
 
-/// The files: loops that were worked out by hand, and two runs that `.ci/loops` makes again by
+/// The files: loops that were worked out by hand, and three runs that `.ci/loops` makes again by
 /// their rule.
-const FILES: [&str; 3] = ["worked.txt", "direct.txt", "delta.txt"];
+const FILES: [&str; 4] = ["worked.txt", "direct.txt", "delta.txt", "trade.txt"];
 
 /// Prints how many of the loops of a file are as told, and the lines of the others.
 fn print_file(rt: &HostRuntime, name: &str) -> Result<()> {

@@ -1,25 +1,45 @@
-// The side of the unit circle on which the roots of a polynomial are.
-use dsv_closed_forms::closed_form;
-use dsv_forms::{FormOffer, Poly, check_falls, check_kept_away};
-use dsv_schur_cohn::schur_cohn_offer;
+// What the table of a polynomial says, as a line tells it.
+use dsv_integer::{Integer, Numeral};
+use dsv_table::{TableFinding, TableVerdict, finding_of};
+use std::alloc::Global;
+use std::str;
 
-/// The side that the offer shows, if its check accepts it.
-fn shown_side(poly: &Poly, offer: &FormOffer) -> &'static str {
-    let (side, accepted) = match offer {
-        FormOffer::Falls(offer) => ("falls", check_falls(poly, offer).is_ok()),
-        FormOffer::KeptAway(offer) => ("away", check_kept_away(poly, offer).is_ok()),
-    };
-    if accepted { side } else { "no form" }
+/// What a line tells of a polynomial's roots.
+#[derive(Drop)]
+pub struct Side {
+    /// `inside`, or the row that ends the table.
+    pub side: String,
+    /// How many hundred-thousandths the greatest root has at least; `-` of order 0.
+    pub count: String,
 }
 
-/// The side of a polynomial, by its closed form or its Schur-Cohn form.
-pub fn side_of(poly: &Poly) -> &'static str {
-    let offer = match closed_form(poly) {
-        Some(offer) => Some(offer),
-        None => schur_cohn_offer(poly),
-    };
-    match offer {
-        Some(offer) => shown_side(poly, &offer),
-        None => "no offer",
+/// The decimal text of a number.
+pub fn decimal_text(alloc: Global, number: &Integer) -> Option<String> {
+    let numeral = Numeral::new(number.copy(alloc).ok()?, alloc).ok()?;
+    String::from_str(alloc, str::from_utf8(numeral.text()).ok()?).ok()
+}
+
+/// How many hundred-thousandths the greatest root has at least.
+fn count_of(alloc: Global, found: &TableFinding) -> Option<String> {
+    match &found.root {
+        Some(root) => String::from_str(alloc, str::from_utf8(root.least.text()).ok()?).ok(),
+        None => String::from_str(alloc, "-").ok(),
     }
+}
+
+/// What the table of a polynomial says, which has a positive lead.
+pub fn side_of(alloc: Global, poly: &[Integer]) -> Option<Side> {
+    let lead = poly.first()?;
+    if !lead.is_positive() {
+        return None;
+    }
+    let found = finding_of(poly, alloc).ok()?;
+    let side = match found.verdict {
+        TableVerdict::Inside => String::from_str(alloc, "inside").ok()?,
+        TableVerdict::NotInside { row } => format!(in alloc; "row{row}").ok()?,
+    };
+    Some(Side {
+        side,
+        count: count_of(alloc, &found)?,
+    })
 }

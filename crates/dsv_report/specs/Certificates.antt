@@ -51,6 +51,7 @@ fault_name (fault.Check check.Shape) = codes " code 8 SHAPE\n"
 fault_name (fault.Check check.Format) = codes " code 10 FORMAT\n"
 fault_name (fault.Check check.Gain) = codes " code 11 GAIN\n"
 fault_name (fault.Check check.Error) = codes " code 12 ERROR\n"
+fault_name (fault.Check check.Table) = codes " code 13 TABLE\n"
 fault_name fault.TooLong = codes " code 9 TOO_LONG\n"
 
 abbrev pub certificate_text : ℕ → CertificateFault → List ℕ

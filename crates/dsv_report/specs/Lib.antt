@@ -13,4 +13,5 @@ pub mod Refusals
 pub mod Report
 pub mod StateTexts
 pub mod Stops
+pub mod Tables
 pub mod Tallies

@@ -5,7 +5,7 @@ use Rattle.dsv_names.specs.declared.property.RootProperty.TheVariants.{Stability
 use Rattle.dsv_command.specs.Loops.{AskedLoop}
 use Rattle.dsv_loop.specs.declared.refusal.LoopRefusal.{LoopRefusal}
 use Rattle.dsv_loop.specs.declared.refusal.LoopRefusal.TheVariants as refusal
-use Rattle.dsv_report.specs.Lines.{property_text, realisation_text, number_line}
+use Rattle.dsv_report.specs.Lines.{property_text, realisation_text}
 
 -- what a job asked for: that the loop is stable
 abbrev pub loop_job_text : AskedLoop → List ℕ
@@ -17,10 +17,8 @@ loop_job_text job = property_text (OfRoots Stability)
 abbrev pub plant_line : List ℕ
 plant_line = codes "plant\n"
 
--- the code and the name of a refusal, and the index of the coefficient where it names one
+-- the code and the name of a refusal
 abbrev pub loop_refusal_text : LoopRefusal → List ℕ
 loop_refusal_text refusal.Realisation = codes "LOOP REFUSED 65 REALISATION\n"
 loop_refusal_text refusal.SampleTimes = codes "LOOP REFUSED 61 SAMPLE_TIME\n"
 loop_refusal_text refusal.Algebraic = codes "LOOP REFUSED 62 ALGEBRAIC\n"
-loop_refusal_text refusal.Order = codes "LOOP REFUSED 63 ORDER\n"
-loop_refusal_text (refusal.Wide index) = number_line (codes "LOOP REFUSED 64 WIDE ") index

@@ -1,6 +1,8 @@
 -- What is written for an answer: its certificate, where the job wants one and there is one, and
 -- else its report.
-use Rattle.std.specs.Prelude.{ℕ, Bool, false, List, Option, Some, None, Ok, Err, if◌then◌else◌}
+use Rattle.std.specs.Prelude.{ℕ, Bool, false, List, Option, Some, None, Ok, Err}
+use Rattle.std.specs.Prelude.{if◌then◌else◌}
+use Rattle.dsv_table.specs.RootSize.{is_inside}
 use Rattle.dsv_names.specs.declared.property.Property.{Property}
 use Rattle.dsv_names.specs.declared.property.Property.TheVariants.{OfRuns, OfRoots}
 use Rattle.dsv_names.specs.declared.property.RunProperty.TheVariants.{Overflow}
@@ -63,6 +65,12 @@ abbrev pub falls_of : CertifiedJob → Answer → Option Certificate
 falls_of job (answer.Falls poly offer fall) = Some (certificate.Falls job offer)
 falls_of job other = None
 
+-- the certificate of a table whose first numbers are all positive
+abbrev pub table_of : CertifiedJob → Answer → Option Certificate
+table_of job (answer.OfTable found) =
+    if is_inside found.verdict then Some (certificate.Table job found.poly) else None
+table_of job other = None
+
 -- the certificate of an answer to a task, where it has one
 abbrev pub certificate_for : Design → CertWords → Task → Answer → Option Certificate
 certificate_for design words (searches p samples conflicts) =
@@ -113,7 +121,7 @@ loop_job_with job words = job_with job.design words (OfRoots Stability) size.OfL
 -- the certificate of an answer to a job for a loop, where it wants one
 abbrev pub loop_certificate_of : AskedLoop → CertWords → Answer → Option Certificate
 loop_certificate_of job words found =
-    if job.certified then falls_of (loop_job_with job words) found else None
+    if job.certified then table_of (loop_job_with job words) found else None
 
 -- the certificate of an answer to a job of any kind; one for a cascade or of an ellipsoid wants
 -- none

@@ -22,6 +22,7 @@ FormsHavePlaces (forms.NoClosedForm section index) = Unit {0}
 abbrev pub HasPlaces : Answer → Type 0
 HasPlaces (answer.Falls poly offer fall) = (offer.form.d ≤ 8) × (fall.d ≤ 8)
 HasPlaces (answer.KeptAway poly offer fall value) = (offer.form.d ≤ 8) × (fall.d ≤ 8)
+HasPlaces (answer.OfTable found) = Unit {0}
 HasPlaces (answer.OfSections found) = FormsHavePlaces found
 HasPlaces (answer.StateFalls states offer fall) = (offer.form.d ≤ 8) × (fall.d ≤ 8)
 HasPlaces answer.NoStateForm = Unit {0}

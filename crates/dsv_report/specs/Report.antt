@@ -40,10 +40,13 @@ use Rattle.dsv_report.specs.Gains.{gain_text, error_text, out_of_range_text, too
 use Rattle.dsv_report.specs.Lines.{property_text, realisation_text, numbered, number_line}
 use Rattle.dsv_report.specs.Lines.{numbered_lines}
 use Rattle.dsv_report.specs.LoopTexts.{loop_job_text, plant_line, loop_refusal_text}
+use Rattle.dsv_table.specs.declared.verdict.TableVerdict.{TableVerdict}
+use Rattle.dsv_table.specs.declared.verdict.TableVerdict.TheVariants as table
 use Rattle.dsv_report.specs.Refusals.{file_text, quant_text, input_text}
 use Rattle.dsv_report.specs.StateTexts.{state_job_text, no_state_form_text, state_text}
 use Rattle.dsv_report.specs.StateTexts.{state_quant_text}
 use Rattle.dsv_report.specs.Stops.{Outcome}
+use Rattle.dsv_report.specs.Tables.{table_text}
 use Rattle.dsv_report.specs.Tallies.{tally_text}
 use Rattle.dsv_report.specs.declared.answers.Answer.{Answer}
 use Rattle.dsv_report.specs.declared.answers.Answer.TheVariants as answer
@@ -120,6 +123,16 @@ no_form_text poly offers verdict =
 
 abbrev pub wide_text : ℕ → List ℕ
 wide_text index = number_line (codes "cause WIDE index ") index
+
+-- ---- polynomials that a table decides
+-- the verdict of a table
+abbrev pub table_heading : TableVerdict → List ℕ
+table_heading table.Inside = successful
+table_heading (table.NotInside row) = failed
+
+abbrev pub table_status : TableVerdict → ℕ
+table_status table.Inside = 0
+table_status (table.NotInside row) = 10
 
 -- ---- verdicts on runs
 -- the sample and the number of the first exact value that is no word, and that value
@@ -233,6 +246,8 @@ answer_text job (answer.Falls poly offer fall) =
 answer_text job (answer.KeptAway poly offer fall value) =
     heading failed job ++ form_text poly offer.form fall
     ++ start_text (take offer.form.d offer.start) value
+answer_text job (answer.OfTable found) =
+    heading (table_heading found.verdict) job ++ table_text found
 answer_text job (answer.OfSections found) = heading (forms_verdict found) job ++ forms_text found
 answer_text job (answer.StateFalls states offer fall) =
     heading successful job ++ fall_text offer.form fall
@@ -298,6 +313,7 @@ stop_text stop.NoMemory = codes "NO MEMORY\n"
 abbrev pub answer_status : Answer → ℕ
 answer_status (answer.Falls poly offer fall) = 0
 answer_status (answer.KeptAway poly offer fall value) = 10
+answer_status (answer.OfTable found) = table_status found.verdict
 answer_status (answer.OfSections found) = forms_status found
 answer_status (answer.StateFalls states offer fall) = 0
 answer_status answer.NoStateForm = 20

@@ -2,6 +2,8 @@
 use Rattle.std.specs.Prelude.{Result}
 use Rattle.dsv_certfile.specs.declared.fault.CertRefusal.{CertRefusal}
 use Rattle.dsv_certfile.specs.declared.fault.CertRefusal.TheVariants as certificate
+use Rattle.dsv_loop.specs.declared.refusal.LoopStop.{LoopStop}
+use Rattle.dsv_loop.specs.declared.refusal.LoopStop.TheVariants as loop_stop
 use Rattle.dsv_token.specs.declared.refusal.FileRefusal.{FileRefusal}
 use Rattle.dsv_token.specs.declared.refusal.FileRefusal.TheVariants as file
 use Rattle.dsv_report.specs.declared.answers.Answer.{Answer}
@@ -22,3 +24,8 @@ stop_of_file refusal = stop.FileRefused refusal
 abbrev pub stop_of_text : CertRefusal → Stop
 stop_of_text (certificate.Text line why) = stop.CertificateRefused line (fault.Text why)
 stop_of_text certificate.NoMemory = stop.NoMemory
+
+-- why there is no answer where there is no polynomial of a loop
+abbrev pub stop_of_loop : LoopStop → Stop
+stop_of_loop (loop_stop.Refused why) = stop.LoopRefused why
+stop_of_loop loop_stop.NoMemory = stop.NoMemory

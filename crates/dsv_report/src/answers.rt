@@ -9,6 +9,7 @@ use dsv_jury::Jury;
 use dsv_lyapunov::KeptForms;
 use dsv_meaning::{Cycle, Trace};
 use dsv_system::Rows;
+use dsv_table::TableFinding;
 use dsv_tally::Generated;
 use dsv_template::{Candidate, KeptSets, ThreeLogs};
 use dsv_timing::TimingReport;
@@ -42,6 +43,8 @@ pub enum Answer {
         fall: Form,
         value: i128,
     },
+    /// What the table of a polynomial says of its roots.
+    OfTable(TableFinding),
     /// What closed forms say of the sections of a cascade.
     OfSections(CascadeForms),
     /// The form of the offer strictly falls along the states of a controller with so many of them,

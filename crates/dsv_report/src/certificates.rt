@@ -66,6 +66,7 @@ pub(crate) fn fault_name(fault: CertificateFault) -> &'static [u8]
         CertificateFault::Check(CheckFault::Format) => b" code 10 FORMAT\n",
         CertificateFault::Check(CheckFault::Gain) => b" code 11 GAIN\n",
         CertificateFault::Check(CheckFault::Error) => b" code 12 ERROR\n",
+        CertificateFault::Check(CheckFault::Table) => b" code 13 TABLE\n",
     }
 }
 

@@ -9,6 +9,7 @@ mod ellipsoids;
 mod forms;
 mod fragments;
 mod gains;
+mod headings;
 mod lines;
 mod loops;
 mod output;
@@ -17,6 +18,7 @@ mod report;
 mod states;
 mod stop;
 mod stops;
+mod tables;
 mod tallies;
 
 pub use answers::{Answer, OutputError};

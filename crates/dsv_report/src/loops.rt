@@ -3,7 +3,7 @@ ghost use Rattle.dsv_base.specs.Taking.{Writes};
 ghost use Rattle.dsv_command.specs.Asking.{asked_loop};
 ghost use Rattle.dsv_report.specs.LoopTexts.{loop_job_text, plant_line, loop_refusal_text};
 
-use crate::lines::{put_number_line, put_property, put_realisation};
+use crate::lines::{put_property, put_realisation};
 use dsv_base::{Failed, Sink, put_all};
 use dsv_command::LoopJob;
 use dsv_loop::LoopRefusal;
@@ -26,7 +26,7 @@ pub(crate) fn put_plant<K: Sink>(sink: &mut K) -> Result<(), Failed>
     put_all(sink, b"plant\n")
 }
 
-/// Writes why a controller and a plant have no loop, or one that isn't tested.
+/// Writes why a controller and a plant have no loop.
 pub(crate) fn put_loop_refusal<K: Sink>(sink: &mut K, refusal: LoopRefusal) -> Result<(), Failed>
     ensures { Writes (K.seen sink.old) (K.seen sink.new) result (loop_refusal_text refusal) }
 {
@@ -34,9 +34,5 @@ pub(crate) fn put_loop_refusal<K: Sink>(sink: &mut K, refusal: LoopRefusal) -> R
         LoopRefusal::Realisation => put_all(sink, b"LOOP REFUSED 65 REALISATION\n"),
         LoopRefusal::SampleTimes => put_all(sink, b"LOOP REFUSED 61 SAMPLE_TIME\n"),
         LoopRefusal::Algebraic => put_all(sink, b"LOOP REFUSED 62 ALGEBRAIC\n"),
-        LoopRefusal::Order => put_all(sink, b"LOOP REFUSED 63 ORDER\n"),
-        LoopRefusal::Wide { index } => {
-            put_number_line(sink, b"LOOP REFUSED 64 WIDE ", u64::from(index))
-        }
     }
 }

@@ -8,7 +8,7 @@ ghost use Rattle.dsv_report.specs.Output.{offer_in};
 ghost use Rattle.dsv_report.specs.Output.{certificate_for, answer_output, text_or, output_of};
 ghost use Rattle.dsv_report.specs.Output.{answer_certificate, certificate_written};
 ghost use Rattle.dsv_report.specs.Output.{state_job_with, state_falls_of, wants_certificate};
-ghost use Rattle.dsv_report.specs.Output.{loop_job_with};
+ghost use Rattle.dsv_report.specs.Output.{loop_job_with, table_of};
 ghost use Rattle.dsv_report.specs.AnyJobs.{asked_in, of_controller, of_states, of_loop};
 ghost use Rattle.dsv_report.specs.Printing.{HasPlaces};
 ghost use Rattle.dsv_report.specs.Report.{answer_text};
@@ -28,7 +28,7 @@ use crate::stops::put_stop;
 use dsv_base::{Failed, Sink};
 use dsv_certfile::{
     CertWords, CertifiedJob, Size, write_error, write_falls, write_gain, write_hints,
-    write_invariant,
+    write_invariant, write_table,
 };
 use dsv_command::{Job, LoopJob, RunQuestion, StateJob, StateTask, Task};
 use dsv_names::{Design, Property, Realisation, RootProperty, RunProperty};
@@ -264,13 +264,15 @@ fn put_loop_certificate<K: Sink>(
     requires places { HasPlaces answer.now }
     requires words { IsWords words }
     ensures text { Writes (K.seen sink.old) (K.seen sink.new) result
-        (text_or (falls_of (loop_job_with (asked_loop job.now) words) answer.now)
+        (text_or (table_of (loop_job_with (asked_loop job.now) words) answer.now)
         (answer_text (Some (of_loop (asked_loop job.now))) answer.now)) }
     ensures typed { OnOk result (IfSome
-        (falls_of (loop_job_with (asked_loop job.now) words) answer.now) IsTyped) }
+        (table_of (loop_job_with (asked_loop job.now) words) answer.now) IsTyped) }
 {
     match answer {
-        Answer::Falls { offer, .. } => write_falls(sink, &loop_job_with(job, words), offer),
+        Answer::OfTable(found) if found.verdict.is_inside() => {
+            write_table(sink, &loop_job_with(job, words), &found.poly)
+        }
         _ => put_answer(sink, Some(AnyJob::OfLoop(job)), answer),
     }
 }

@@ -15,6 +15,7 @@ ghost use Rattle.dsv_report.specs.Printing.{HasPlaces, FormsHavePlaces};
 ghost use Rattle.dsv_report.specs.Report as report;
 ghost use Rattle.dsv_report.specs.EllipsoidTexts.{in_ellipsoid_text, no_offer_text};
 ghost use Rattle.dsv_report.specs.StateTexts.{no_state_form_text};
+ghost use Rattle.dsv_report.specs.Tables.{table_text};
 
 use crate::answers::{Answer, OutputError};
 use crate::any_job::AnyJob;
@@ -24,11 +25,15 @@ use crate::ellipsoids::{put_ellipsoid_job, put_in_ellipsoid, put_no_offer_cause}
 use crate::forms::{put_fall, put_form, put_kept_away, put_numbers};
 use crate::fragments::{Fragment, put_fragments};
 use crate::gains::{put_measure, put_out_of_range};
+use crate::headings::{
+    FAILED, INCONCLUSIVE, SUCCESSFUL, forms_status, forms_verdict, table_heading, table_status,
+};
 use crate::lines::{put_number_line, put_numbered, put_property, put_realisation};
 use crate::loops::put_loop_job;
 use crate::states::{put_no_form_cause, put_state_job};
 use crate::stop::Stop;
 use crate::stops::stop_status;
+use crate::tables::put_table;
 use crate::tallies::put_tally;
 use dsv_base::{Failed, Sink, put_all, put_line};
 use dsv_cascade::CascadeForms;
@@ -42,15 +47,10 @@ use dsv_jury::Jury;
 use dsv_meaning::{Cycle, Trace};
 use dsv_names::{Property, RootProperty, RunProperty};
 use dsv_system::{Row, Rows};
+use dsv_table::TableFinding;
 use dsv_template::{Candidate, Inequality, KeptSet, Why};
 use dsv_timing::TimingReport;
 use std::slice;
-
-const SUCCESSFUL: &[u8] = b"VERIFICATION SUCCESSFUL\n";
-
-const FAILED: &[u8] = b"VERIFICATION FAILED\n";
-
-const INCONCLUSIVE: &[u8] = b"VERIFICATION INCONCLUSIVE\n";
 
 const SIMULATION: &[u8] = b"SIMULATION\n";
 
@@ -588,41 +588,6 @@ fn put_simulation<K: Sink>(sink: &mut K, job: Option<AnyJob>, rows: &Rows) -> Re
     put_samples(sink, rows.as_slice())
 }
 
-/// The heading of a success.
-#[tactic(auto, unfolding(crate::specs::Report::successful))]
-fn success_heading() -> &'static [u8]
-    ensures { result.now ≡ report.successful }
-{
-    SUCCESSFUL
-}
-
-/// The heading of a failure.
-#[tactic(auto, unfolding(crate::specs::Report::failed))]
-fn failure_heading() -> &'static [u8]
-    ensures { result.now ≡ report.failed }
-{
-    FAILED
-}
-
-/// The heading of what is undecided.
-#[tactic(auto, unfolding(crate::specs::Report::inconclusive))]
-fn doubt_heading() -> &'static [u8]
-    ensures { result.now ≡ report.inconclusive }
-{
-    INCONCLUSIVE
-}
-
-/// The verdict of what closed forms say of a cascade's sections.
-fn forms_verdict(found: &CascadeForms) -> &'static [u8]
-    ensures { result.now ≡ report.forms_verdict found.now }
-{
-    match found {
-        CascadeForms::Falls(_) => success_heading(),
-        CascadeForms::KeptAway { .. } => failure_heading(),
-        CascadeForms::Wide { .. } | CascadeForms::NoClosedForm { .. } => doubt_heading(),
-    }
-}
-
 /// Writes what closed forms say of a cascade's sections.
 fn put_sections<K: Sink>(
     sink: &mut K,
@@ -636,6 +601,20 @@ fn put_sections<K: Sink>(
 {
     put_heading(sink, forms_verdict(found), job)?;
     put_forms(sink, found)
+}
+
+/// Writes what the table of a polynomial says of its roots.
+fn put_decided<K: Sink>(
+    sink: &mut K,
+    job: Option<AnyJob>,
+    found: &TableFinding,
+) -> Result<(), Failed>
+    ensures { Writes (K.seen sink.old) (K.seen sink.new) result
+        (report.heading (report.table_heading found.now.verdict) (asked_in job.entry)
+        ++ table_text found.now) }
+{
+    put_heading(sink, table_heading(found.verdict), job)?;
+    put_table(sink, found)
 }
 
 /// Writes the text of a form that falls along the states of a controller.
@@ -687,22 +666,12 @@ fn put_no_ellipsoid<K: Sink>(sink: &mut K, job: Option<AnyJob>) -> Result<(), Fa
     put_no_offer_cause(sink)
 }
 
-/// The status of what closed forms say of a cascade's sections.
-fn forms_status(found: &CascadeForms) -> u8
-    ensures { result ≡ report.forms_status found.now }
-{
-    match found {
-        CascadeForms::Falls(_) => 0,
-        CascadeForms::KeptAway { .. } => 10,
-        CascadeForms::Wide { .. } | CascadeForms::NoClosedForm { .. } => 20,
-    }
-}
-
 /// The status of an answer.
 fn answer_status(answer: &Answer) -> u8
     ensures { result ≡ report.answer_status answer.now }
 {
     match answer {
+        Answer::OfTable(found) => table_status(found.verdict),
         Answer::OfSections(found) => forms_status(found),
         Answer::Falls { .. }
         | Answer::StateFalls { .. }
@@ -763,6 +732,7 @@ pub(crate) fn put_answer<K: Sink>(
             put_heading(sink, FAILED, job)?;
             put_kept_away(sink, poly, offer, fall, value)
         }
+        Answer::OfTable(found) => put_decided(sink, job, found),
         Answer::OfSections(found) => put_sections(sink, job, found),
         Answer::StateFalls { offer, fall, .. } => put_state_falls(sink, job, &offer.form, fall),
         Answer::NoStateForm => put_no_state_form(sink, job),

@@ -3,7 +3,7 @@ use dsv_base::NoMemory;
 use dsv_cascade::CascadeRefusal;
 use dsv_certfile::{CertRefusal, CheckFault, TextFault, TextRefusal};
 use dsv_ellipsoid::EllipsoidRefusal;
-use dsv_loop::LoopRefusal;
+use dsv_loop::{LoopRefusal, LoopStop};
 use dsv_quantiser::QuantRefusal;
 use dsv_reader::FileRefusal;
 use dsv_state_file::StateRefusal;
@@ -56,7 +56,7 @@ pub enum Stop {
     PlantRefused(FileRefusal),
     /// The plant's file has over 65,536 bytes.
     PlantTooLong,
-    /// The controller and the plant have no loop, or one whose polynomial isn't tested.
+    /// The controller and the plant have no loop.
     LoopRefused(LoopRefusal),
     /// The first fault of a state-space controller's file.
     StateRefused(StateRefusal),
@@ -126,14 +126,17 @@ impl From<CascadeRefusal> for Stop {
     }
 }
 
-impl From<LoopRefusal> for Stop {
+impl From<LoopStop> for Stop {
     ghost use Rattle.std.specs.Prelude.{◌≡◌};
-    ghost use Rattle.dsv_report.specs.declared.stop.Stop.TheVariants as stop;
+    ghost use Rattle.dsv_report.specs.Stops.{stop_of_loop};
 
-    ghost from_gives = { λ refusal e. e ≡ stop.LoopRefused refusal };
+    ghost from_gives = { λ why e. e ≡ stop_of_loop why };
 
-    fn from(refusal: LoopRefusal) -> Self {
-        Stop::LoopRefused(refusal)
+    fn from(why: LoopStop) -> Self {
+        match why {
+            LoopStop::Refused(refusal) => Stop::LoopRefused(refusal),
+            LoopStop::NoMemory => Stop::NoMemory,
+        }
     }
 }
 

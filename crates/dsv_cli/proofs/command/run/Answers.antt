@@ -1,4 +1,4 @@
-use Rattle.std.proofs.Common.{rules, ◌≡◌, refl, Some, map, string_bytes, subst}
+use Rattle.std.proofs.Common.{false, rules, ◌≡◌, refl, Some, map, string_bytes, subst}
 use Rattle.std.specs.Prelude.{IfSome}
 use Rattle.dsv_certfile.specs.Typed.{IsTyped}
 use Rattle.dsv_command.specs.Asking.{asked_of, asked_loop}
@@ -8,9 +8,8 @@ use Rattle.dsv_report.specs.Output.{output_of, certificate_written, asked_by}
 use Rattle.dsv_report.specs.Report.{status_of}
 use Rattle.dsv_cli.specs.Explained.{IsSaid}
 use Rattle.dsv_cli.specs.Headline.{FileBecomes, IsWritten, IfWhole}
-use Rattle.dsv_cli.specs.Proposers.{AreSetsAsked, IsAsked, WantsForm, WantsSet, WantsSchurCohn, IfNoForm, IsBeyond}
-use Rattle.dsv_cli.proofs.LoopRows.{low_loop_is_decided, row_without_set}
-use Rattle.dsv_cli.proofs.Unasked.{low_is_decided, unasked, sets_unasked, sets_unasked_without, some_form}
+use Rattle.dsv_cli.specs.Proposers.{AreSetsAsked, IsAsked, WantsForm, WantsSet, WantsSchurCohn, IfNoForm, IsBeyond, is_low}
+use Rattle.dsv_cli.proofs.Unasked.{low_is_decided, unasked, sets_unasked, some_form}
 use Rattle.dsv_cli.proofs.command.run.Goals as goal
 
 -- ---- a job on a file
@@ -80,37 +79,28 @@ returns-in-Ok-Some-OnFile-clause-typed g c =
     (λ asked. IfWhole put.result.status (IfSome (certificate_written asked came.result.words came.result.outcome) IsTyped))
     e put.ensures.typed)))
 
--- ---- a job for a loop: it asks no proposer of sets
+-- ---- a job for a loop: it asks no proposer
 pub returns-in-Ok-Some-OnLoop-clause-low_orders : goal.returns-in-Ok-Some-OnLoop-clause-low_orders
 returns-in-Ok-Some-OnLoop-clause-low_orders g c =
     let came = c.loop_outcome-came in
-    rw c.put_job-in-Ok-Some-OnLoop.ensures.outcome (low_loop_is_decided (g.F.Files.seen c.args.files.now) (g.F.Files.seen came.new.files) (asked_loop c.in-Ok-Some-OnLoop.job) came.result.outcome came.ensures.row)
+    rw c.put_job-in-Ok-Some-OnLoop.ensures.outcome (some_form came.result.outcome (λ poly kept. is_low poly ≡ false) came.ensures.plain)
 
 pub returns-in-Ok-Some-OnLoop-clause-sets : goal.returns-in-Ok-Some-OnLoop-clause-sets
 returns-in-Ok-Some-OnLoop-clause-sets g c =
     let came = c.loop_outcome-came in
-    rw c.put_job-in-Ok-Some-OnLoop.ensures.outcome (sets_unasked_without (λ b. b.ptr) (λ b. (goal.InvariantProposer-dyn g (b.vtable, b.value)).last b.value) (λ b shape. (goal.InvariantProposer-dyn g (b.vtable, b.value)).to_come b.value shape)
-    (FileBecomes (g.F.Files.seen c.args.files.now) (job_of (map string_bytes c.args.arguments.now))) c.args.proposers.now.sets.items came.result.outcome
-    (row_without_set (g.F.Files.seen c.args.files.now) (g.F.Files.seen came.new.files) (asked_loop c.in-Ok-Some-OnLoop.job) came.result.outcome came.ensures.row))
-
-pub returns-in-Ok-Some-OnLoop-clause-unneeded_forms : goal.returns-in-Ok-Some-OnLoop-clause-unneeded_forms
-returns-in-Ok-Some-OnLoop-clause-unneeded_forms g c =
-    let e : Some (on_loop (asked_loop c.in-Ok-Some-OnLoop.job)) ≡ request_of (map string_bytes c.args.arguments.now) = search rules in
-    λ no. absurd (no (subst WantsForm e tt))
+    rw c.put_job-in-Ok-Some-OnLoop.ensures.outcome (sets_unasked (λ b. b.ptr) (λ b. (goal.InvariantProposer-dyn g (b.vtable, b.value)).last b.value) (λ b shape. (goal.InvariantProposer-dyn g (b.vtable, b.value)).to_come b.value shape)
+    (FileBecomes (g.F.Files.seen c.args.files.now) (job_of (map string_bytes c.args.arguments.now))) c.args.proposers.now.sets.items came.result.outcome came.ensures.plain)
 
 pub returns-in-Ok-Some-OnLoop-clause-forms : goal.returns-in-Ok-Some-OnLoop-clause-forms
 returns-in-Ok-Some-OnLoop-clause-forms g c =
-    let e : Some (on_loop (asked_loop c.in-Ok-Some-OnLoop.job)) ≡ request_of (map string_bytes c.args.arguments.now) = search rules in
     let came = c.loop_outcome-came in
-    rw c.put_job-in-Ok-Some-OnLoop.ensures.outcome (subst
-    (λ request. IsAsked (λ b. b.ptr) (λ b. (goal.FormProposer-dyn g (b.vtable, b.value)).last b.value) (λ b cs. (goal.FormProposer-dyn g (b.vtable, b.value)).sure b.value cs) (λ b cs. (goal.FormProposer-dyn g (b.vtable, b.value)).to_come b.value cs)
-    (WantsSchurCohn request) c.args.proposers.now.forms.items came.new.forms.items came.result.outcome)
-    e came.ensures.proposers)
+    rw c.put_job-in-Ok-Some-OnLoop.ensures.outcome (unasked (λ b. b.ptr) (λ b. (goal.FormProposer-dyn g (b.vtable, b.value)).last b.value) (λ b cs. (goal.FormProposer-dyn g (b.vtable, b.value)).sure b.value cs) (λ b cs. (goal.FormProposer-dyn g (b.vtable, b.value)).to_come b.value cs)
+    (WantsSchurCohn (request_of (map string_bytes c.args.arguments.now))) c.args.proposers.now.forms.items came.result.outcome came.ensures.plain)
 
 pub returns-in-Ok-Some-OnLoop-clause-schur_cohn : goal.returns-in-Ok-Some-OnLoop-clause-schur_cohn
 returns-in-Ok-Some-OnLoop-clause-schur_cohn g c =
-    let e : Some (on_loop (asked_loop c.in-Ok-Some-OnLoop.job)) ≡ request_of (map string_bytes c.args.arguments.now) = search rules in
-    rw c.put_job-in-Ok-Some-OnLoop.ensures.outcome (subst (λ request. WantsSchurCohn request → IfNoForm c.loop_outcome-came.result.outcome (λ poly kept. IsBeyond poly)) e c.loop_outcome-came.ensures.beyond)
+    let came = c.loop_outcome-came in
+    λ wanted. rw c.put_job-in-Ok-Some-OnLoop.ensures.outcome (some_form came.result.outcome (λ poly kept. IsBeyond poly) came.ensures.plain)
 
 pub returns-in-Ok-Some-OnLoop-clause-said : goal.returns-in-Ok-Some-OnLoop-clause-said
 returns-in-Ok-Some-OnLoop-clause-said g c =

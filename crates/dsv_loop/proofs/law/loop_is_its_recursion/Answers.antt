@@ -1,5 +1,4 @@
-use Rattle.dsv_loop.proofs.Recursions.{loop_obeys}
-use Rattle.dsv_loop.proofs.Solutions.{loop_solves}
+use Rattle.dsv_loop.proofs.Recursions.{loop_obeys, loop_solves}
 use Rattle.dsv_loop.proofs.law.loop_is_its_recursion.Goals as goal
 
 pub returns : goal.returns
