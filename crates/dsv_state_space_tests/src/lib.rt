@@ -1,6 +1,7 @@
 //! Tests of state-space controllers, by public calls: their words, their rows beside those of a
 //! model of the equations, overflow and limit cycles beside all lists and all starts, ranges over
-//! all time, and forms that fall. What is wanted is worked out by hand or by a model.
+//! all time, forms that fall, and the tables of their polynomials. What is wanted is worked out by
+//! hand or by a model.
 #![tactic(auto)]
 
 #[cfg(test)]
@@ -15,5 +16,7 @@ mod refusals;
 mod rows;
 #[cfg(test)]
 mod systems;
+#[cfg(test)]
+mod tables;
 #[cfg(test)]
 mod verdicts;

@@ -11,9 +11,10 @@ use Rattle.dsv_algebra.specs.Vectors.{Vector, Matrix, sum_to, form_at, dot}
 use Rattle.dsv_algebra.specs.Falling.{step, power, trajectory, IsKeptAway}
 use Rattle.dsv_algebra.specs.Companion.{companion}
 use Rattle.dsv_algebra.proofs.Normaliser.{ring, env, var, num, plus, times, minus}
-use Rattle.dsv_algebra.proofs.Signs.{mul_positive, mul_negative, square_positive}
+use Rattle.dsv_algebra.proofs.Signs.{mul_negative, square_positive}
 use Rattle.dsv_algebra.proofs.Sums.{sum_same, sum_first, sum_scale, sum_one}
 use Rattle.dsv_table.specs.Systems.{divided, IsAnnihilated}
+use Rattle.dsv_table.proofs.Dominance.{power_positive}
 use Rattle.dsv_table.proofs.Negative.{form_multiple}
 use Rattle.dsv_table.proofs.Falls.{moved_place, new_value, apart_both, power_apart}
 use Rattle.dsv_table.proofs.Systems.{power_sum, scale_of, form_at_same, lead_of}
@@ -158,10 +159,6 @@ window_start d e q M B w s t h j p =
     (ring (env (power q j ∷ t ∷ power q (e - j) ∷ s j ∷ [])) (times (var 0) (times (var 1) (times (var 2) (var 3)))) (times (times (var 1) (times (var 2) (var 0))) (var 3)) refl)
 
 -- ---- a form that is negative at a start and rises in no step
-pub power_positive : (z : ℤ) (n : ℕ) → pos 0 <ℤ z → pos 0 <ℤ power z n
-power_positive z zero h = omega (arith, ints)
-power_positive z (suc n) h = mul_positive z (power z n) h (power_positive z n h)
-
 below : (a b : ℤ) → a ≤ℤ b → b <ℤ pos 0 → a <ℤ pos 0
 below a b p q = omega (arith, ints, p, q)
 

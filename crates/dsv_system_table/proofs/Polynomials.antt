@@ -1,13 +1,19 @@
 -- Polynomials as lists, and reversals of rows.
-use Rattle.std.proofs.Common.{◌≡◌, ℕ, suc, ◌-◌, ◌<◌, List, length, sym, ap, ◌∙◌, arith}
+use Rattle.std.proofs.Common.{◌≡◌, ℕ, suc, ◌-◌, ◌<◌, List, length, sym, ap, subst, ◌∙◌, arith}
 use Rattle.std.proofs.Math.IntN.{ℤ, pos, ◌*ℤ◌}
-use Rattle.dsv_algebra.specs.Vectors.{Matrix, sum_to, vector_of}
+use lib.Signed.{◌<ℤ◌}
+use Rattle.dsv_algebra.specs.Vectors.{Vector, Matrix, sum_to, vector_of}
 use Rattle.dsv_algebra.specs.Falling.{power}
+use Rattle.dsv_algebra.proofs.Signs.{mul_positive}
 use Rattle.dsv_algebra.proofs.Sums.{sum_same}
+use Rattle.dsv_table.specs.Findings.{IsFinding}
 use Rattle.dsv_table.specs.Systems.{divided}
 use Rattle.dsv_table.specs.Table.{verdict_from, verdict_of}
+use Rattle.dsv_table.specs.declared.finding.TableFinding.{TableFinding}
+use Rattle.dsv_table.proofs.Dominance.{power_positive}
 use Rattle.dsv_table.proofs.Identity.{sum_turned}
 use Rattle.dsv_table.proofs.Verdicts.{verdict_same}
+use Rattle.dsv_system_table.specs.Polynomials.{IsDividedFinding}
 use Rattle.dsv_system_table.specs.Rows.{AreEntries, IsNoneIn, row_sum, reversal, power_products}
 
 -- The reversal of the products of a reversal with powers is the divided row.
@@ -37,6 +43,24 @@ pub divided_table : (row list : List ℤ) (q : ℤ) → 0 < length row → AreEn
 divided_table row list q some a =
     ap (λ n. verdict_from (n - 1) 0 (vector_of list)) a.places
     ∙ verdict_same (length row - 1) 0 (vector_of list) (divided (length row - 1) q (vector_of row)) (λ i b. a.same i (omega arith))
+
+-- The divided polynomial has a positive lead.
+pub lead_positive : (d : ℕ) (q : ℤ) (a : Vector) → pos 0 <ℤ q → pos 0 <ℤ a 0 → pos 0 <ℤ divided d q a 0
+lead_positive d q a h l = mul_positive (a 0) (power q (d - 0)) l (power_positive q (d - 0) h)
+
+pub divided_lead : (row list : List ℤ) (q : ℤ) → 0 < length row → pos 0 <ℤ vector_of row 0 → pos 0 <ℤ q
+    → AreEntries (length row) (divided (length row - 1) q (vector_of row)) list → pos 0 <ℤ vector_of list 0
+divided_lead row list q some l h a = subst (λ z. pos 0 <ℤ z) (sym (a.same 0 some)) (lead_positive (length row - 1) q (vector_of row) h l)
+
+-- What is found of the list is what is found of the divided polynomial.
+pub divided_finding_is : (row list : List ℤ) (q : ℤ) (found : TableFinding) → AreEntries (length row) (divided (length row - 1) q (vector_of row)) list
+    → IsFinding list found → IsDividedFinding q row found
+divided_finding_is row list q found a f =
+    let same = sym f.poly in
+    record {
+      poly = subst (λ cs. AreEntries (length row) (divided (length row - 1) q (vector_of row)) cs) same a;
+      finding = subst (λ cs. IsFinding cs found) same f;
+    }
 
 -- A sum with the numbers from the last one on.
 pub reversal_sum : (row first sums : List ℤ) (K : Matrix) (width l : ℕ) → 0 < length row → AreEntries (length row) (reversal row) first

@@ -1,23 +1,25 @@
 -- What the checks of a polynomial, and of starts, show of a system.
 use Rattle.std.proofs.Common.{◌≡◌, ◌≢◌, ℕ, zero, suc, ◌+◌, ◌-◌, ◌<◌, ◌≤◌, true, false, List, length, sym, ap, subst, ◌∙◌, arith}
 use Rattle.std.proofs.Math.IntN.{ℤ, pos, ◌*ℤ◌}
-use Rattle.std.proofs.lemmas.Int.{ints}
 use lib.Signed.{◌<ℤ◌}
 use Rattle.dsv_algebra.specs.Vectors.{Vector, Matrix, sum_to, vector_of, matrix_of}
-use Rattle.dsv_algebra.specs.Falling.{power, StrictlyFalls, IsKeptAway}
-use Rattle.dsv_algebra.proofs.Signs.{mul_positive}
 use Rattle.dsv_algebra.proofs.Sums.{sum_same}
 use Rattle.dsv_table.specs.RootSize.{is_inside}
 use Rattle.dsv_table.specs.Systems.{divided}
 use Rattle.dsv_table.specs.Table.{verdict_from}
 use Rattle.dsv_table.specs.Verdicts.{IsShown, HasFallingForm, HasKeptAwayForm}
+use Rattle.dsv_table.specs.declared.finding.TableFinding.{TableFinding}
 use Rattle.dsv_table.specs.declared.verdict.TableVerdict.{TableVerdict}
 use Rattle.dsv_table.specs.declared.verdict.TableVerdict.TheVariants as verdict
+use Rattle.dsv_table.proofs.Outside.{apart}
 use Rattle.dsv_table.proofs.Systems.{systems_fall}
 use Rattle.dsv_table.proofs.Verdicts.{decides}
 use Rattle.dsv_system_table.specs.Outputs.{unit, row_power, IsObeyed, IsRightInverse}
+use Rattle.dsv_system_table.specs.Polynomials.{IsAnnihilator, IsDividedFinding}
 use Rattle.dsv_system_table.specs.Rows.{AreRowPowers}
-use Rattle.dsv_system_table.proofs.Outputs.{annihilated, outputs_keep_away, power_positive}
+use Rattle.dsv_system_table.specs.SystemFindings.{SystemFalls, SystemIsKeptAway, IsSystemShown, IsSystemFinding}
+use Rattle.dsv_system_table.proofs.Outputs.{annihilated, outputs_keep_away}
+use Rattle.dsv_system_table.proofs.Polynomials.{divided_table, lead_positive}
 
 -- ---- what was computed of powers is so of the powers
 pub obeyed : (d n : ℕ) (M : Matrix) (w : Vector) (cs : List ℤ) (powers : List (List ℤ)) → AreRowPowers d M w n powers → 0 < length cs → length cs ≤ n
@@ -39,12 +41,6 @@ inverse_of_powers d m n M B w t powers p few h j k a b =
     ∙ h j k a b
 
 -- ---- both sides of a table
-apart : (x : ℤ) → pos 0 <ℤ x → x ≢ pos 0
-apart x p e = absurd (omega (arith, ints, p, e))
-
-lead_positive : (d : ℕ) (q : ℤ) (a : Vector) → pos 0 <ℤ q → pos 0 <ℤ a 0 → pos 0 <ℤ divided d q a 0
-lead_positive d q a h l = mul_positive (a 0) (power q (d - 0)) l (power_positive q (d - 0) h)
-
 shown_inside : (v : TableVerdict) (d : ℕ) (c : Vector) → is_inside v ≡ true → IsShown v d c → HasFallingForm d c
 shown_inside verdict.Inside d c h s = s
 shown_inside (verdict.NotInside row) d c h s = absurd (grind (arith))
@@ -53,9 +49,17 @@ shown_outside : (v : TableVerdict) (d : ℕ) (c : Vector) → is_inside v ≡ fa
 shown_outside verdict.Inside d c h s = absurd (grind (arith))
 shown_outside (verdict.NotInside row) d c h s = s
 
+system_inside : (v : TableVerdict) (d : ℕ) (q : ℤ) (M : Matrix) → is_inside v ≡ true → SystemFalls d q M → IsSystemShown v d q M
+system_inside verdict.Inside d q M h s = s
+system_inside (verdict.NotInside row) d q M h s = absurd (grind (arith))
+
+system_outside : (v : TableVerdict) (d : ℕ) (q : ℤ) (M : Matrix) → is_inside v ≡ false → SystemIsKeptAway d q M → IsSystemShown v d q M
+system_outside verdict.Inside d q M h s = absurd (grind (arith))
+system_outside (verdict.NotInside row) d q M h s = s
+
 -- ---- what the checks show
 falls_at : (d : ℕ) (q : ℤ) (M : Matrix) (a : Vector) → 0 < d → pos 0 <ℤ q → pos 0 <ℤ a 0 → is_inside (verdict_from d 0 (divided d q a)) ≡ true
-    → ((i : ℕ) → i < d → IsObeyed d d M (unit i) a) → (Q : Matrix) × StrictlyFalls d q M Q
+    → ((i : ℕ) → i < d → IsObeyed d d M (unit i) a) → SystemFalls d q M
 falls_at zero q M a some p l t h = absurd (omega arith)
 falls_at (suc e) q M a some p l t h =
     let d = suc e in
@@ -63,20 +67,51 @@ falls_at (suc e) q M a some p l t h =
     systems_fall e q M a (apart q p) (apart (a 0) l) (annihilated d M a h)
     (shown_inside (verdict_from d 0 c) d c t (decides d c (lead_positive d q a p l)))
 
-pub falls_shown : (d : ℕ) (q : ℤ) (M : Matrix) (cs : List ℤ) → 0 < d → pos 0 <ℤ q → length cs ≡ d + 1 → pos 0 <ℤ vector_of cs 0
-    → is_inside (verdict_from (length cs - 1) 0 (divided (length cs - 1) q (vector_of cs))) ≡ true
-    → ((i : ℕ) → i < d → IsObeyed d (length cs - 1) M (unit i) (vector_of cs)) → (Q : Matrix) × StrictlyFalls d q M Q
-falls_shown d q M cs some p n l t h =
-    let e : length cs - 1 ≡ d = omega (arith, n) in
-    let a = vector_of cs in
-    falls_at d q M a some p l (subst (λ m. is_inside (verdict_from m 0 (divided m q a)) ≡ true) e t)
-    (λ i b. subst (λ m. IsObeyed d m M (unit i) a) e (h i b))
-
 pub kept_away_shown : (d m : ℕ) (q : ℤ) (M : Matrix) (w a : Vector) (B : Matrix) (t : ℤ) → 0 < m → pos 0 <ℤ q → pos 0 <ℤ a 0 → t ≢ pos 0
     → is_inside (verdict_from m 0 (divided m q a)) ≡ false → IsObeyed d m M w a → IsRightInverse d m (row_power d M w) B t
-    → (Q : Matrix) × (start : Vector) × IsKeptAway d q M Q start
+    → SystemIsKeptAway d q M
 kept_away_shown d zero q M w a B t some p l n v h inverse = absurd (omega arith)
 kept_away_shown d (suc e) q M w a B t some p l n v h inverse =
     let c = divided (suc e) q a in
     outputs_keep_away d e q M w a B t (apart q p) (apart (a 0) l) h n inverse
     (shown_outside (verdict_from (suc e) 0 c) (suc e) c v (decides (suc e) c (lead_positive (suc e) q a p l)))
+
+-- ---- what is found
+pub annihilator : (d : ℕ) (M : Matrix) (cs : List ℤ) → length cs ≡ d + 1 → pos 0 <ℤ vector_of cs 0
+    → ((i : ℕ) → i < d → IsObeyed d (length cs - 1) M (unit i) (vector_of cs)) → IsAnnihilator d M cs
+annihilator d M cs n l h =
+    let e : length cs - 1 ≡ d = omega (arith, n) in
+    record { order = n; lead = l; obeyed = λ i b. subst (λ m. IsObeyed d m M (unit i) (vector_of cs)) e (h i b) }
+
+system_finding_is : (d : ℕ) (q : ℤ) (M : Matrix) (cs : List ℤ) (found : TableFinding) → IsAnnihilator d M cs → IsDividedFinding q cs found
+    → IsSystemShown found.verdict d q M → IsSystemFinding d q M found
+system_finding_is d q M cs found a f s =
+    let n = a.order in
+    let e : length cs - 1 ≡ d = omega (arith, n) in
+    record {
+      order = f.poly.places ∙ n;
+      finding = f.finding;
+      obeyed = record {
+        a = vector_of cs;
+        obeyed = a.obeyed;
+        coefficients = λ k b. f.poly.same k (omega (arith, n, b)) ∙ ap (λ m. divided m q (vector_of cs) k) e;
+      };
+      shown = s;
+    }
+
+-- A finding inside the unit circle is one of the system,
+pub finding_inside : (d : ℕ) (q : ℤ) (M : Matrix) (cs : List ℤ) (found : TableFinding) → 0 < d → pos 0 <ℤ q → IsAnnihilator d M cs → IsDividedFinding q cs found
+    → is_inside found.verdict ≡ true → IsSystemFinding d q M found
+finding_inside d q M cs found some p a f t =
+    let n = a.order in
+    let v = vector_of cs in
+    let e : length cs - 1 ≡ d = omega (arith, n) in
+    let told : found.verdict ≡ verdict_from d 0 (divided d q v) =
+    f.finding.verdict ∙ divided_table cs found.poly q (omega (arith, n)) f.poly ∙ ap (λ m. verdict_from m 0 (divided m q v)) e in
+    system_finding_is d q M cs found a f
+    (system_inside found.verdict d q M t (falls_at d q M v some p a.lead (subst (λ x. is_inside x ≡ true) told t) a.obeyed))
+
+-- and so is one outside if the system is kept away from 0.
+pub finding_outside : (d : ℕ) (q : ℤ) (M : Matrix) (cs : List ℤ) (found : TableFinding) → IsAnnihilator d M cs → IsDividedFinding q cs found
+    → is_inside found.verdict ≡ false → SystemIsKeptAway d q M → IsSystemFinding d q M found
+finding_outside d q M cs found a f t away = system_finding_is d q M cs found a f (system_outside found.verdict d q M t away)

@@ -1,3 +1,4 @@
 pub mod Outputs
+pub mod Polynomials
 pub mod Rows
-pub mod SystemVerdicts
+pub mod SystemFindings

@@ -1,5 +1,5 @@
-//! Whether a linear system falls or is kept away from 0, in exact whole numbers, with forms that
-//! show it.
+//! Whether a linear system falls or is kept away from 0, by the table of its polynomial in exact
+//! whole numbers, with forms that show it.
 #![tactic(auto)]
 
 mod coefficients;
@@ -8,9 +8,7 @@ mod law;
 mod polynomial;
 mod rows;
 mod system;
-mod verdict;
 
 pub use coefficients::characteristic;
 pub use law::outputs_tell;
-pub use system::system_verdict;
-pub use verdict::SystemVerdict;
+pub use system::system_finding;

@@ -1,14 +1,15 @@
 // Polynomials of systems, a_0 z^m + .. + a_m, as lists of whole numbers from a_0 on.
-ghost use Rattle.std.specs.Prelude.{◌≡◌, ◌-◌, ◌*ℤ◌, ◌<◌, ℕ, length, IfOk, true, pos};
+ghost use Rattle.std.specs.Prelude.{◌≡◌, ◌-◌, ◌*ℤ◌, ◌<◌, ◌<ℤ◌, ℕ, length, IfOk, true, pos};
 ghost use Rattle.dsv_algebra.specs.Vectors.{sum_to, vector_of, matrix_of};
 ghost use Rattle.dsv_table.specs.Systems.{divided};
 ghost use Rattle.dsv_table.specs.Table.{verdict_from};
+ghost use Rattle.dsv_system_table.specs.Polynomials.{IsDividedFinding};
 ghost use Rattle.dsv_system_table.specs.Rows.{AreEntries, IsNoneIn, power_products};
 
 use crate::rows::{reversal_of, row_product};
 use dsv_base::{Items, NoMemory};
 use dsv_integer::Integer;
-use dsv_table::{TableVerdict, verdict_of};
+use dsv_table::{TableFinding, TableVerdict, finding_of, verdict_of};
 use std::alloc::Global;
 
 /// The numbers, each times one more power of `q` than the one before it.
@@ -50,6 +51,22 @@ pub(crate) fn divided_verdict(
 {
     let divided = divided_row(coefficients, q, alloc)?;
     verdict_of(divided.as_slice(), alloc)
+}
+
+/// What is found by the table of the polynomial for steps that are divided by `q`.
+pub(crate) fn divided_finding(
+    coefficients: &[Integer],
+    q: &Integer,
+    alloc: Global,
+) -> Result<TableFinding, NoMemory>
+    requires some { 0 < length coefficients.now }
+    requires lead { pos 0 <ℤ vector_of coefficients.now 0 }
+    requires scale { pos 0 <ℤ q.now }
+    ensures { IfOk result (IsDividedFinding q.now coefficients.now) }
+{
+    let divided = divided_row(coefficients, q, alloc)?;
+    let found = finding_of(divided.as_slice(), alloc)?;
+    Ok(found)
 }
 
 /// Whether each number is 0.

@@ -1,17 +1,19 @@
-// The verdict on a system.
-ghost use Rattle.std.specs.Prelude.{◌≡◌, ◌-◌, ◌<◌, ◌≤◌, ◌<ℤ◌, ℕ, length, IfOk, true, pos, int_lt};
+// What is found of a system.
+ghost use Rattle.std.specs.Prelude.{◌≡◌, ◌-◌, ◌<◌, ◌≤◌, ◌<ℤ◌, ℕ, length, IfOk, IfSome, true, pos};
+ghost use Rattle.std.specs.Prelude.{int_lt};
 ghost use Rattle.dsv_algebra.specs.Vectors.{vector_of, matrix_of};
 ghost use Rattle.dsv_system_table.specs.Outputs.{unit, IsObeyed, IsRightInverse};
+ghost use Rattle.dsv_system_table.specs.Polynomials.{IsAnnihilator};
 ghost use Rattle.dsv_system_table.specs.Rows.{IsOnlyAt};
-ghost use Rattle.dsv_system_table.specs.SystemVerdicts.{IsSystemShown};
+ghost use Rattle.dsv_system_table.specs.SystemFindings.{SystemIsKeptAway, IsSystemFinding};
 
 use crate::coefficients::characteristic;
 use crate::elimination::{Witness, witness_of};
-use crate::polynomial::{divided_verdict, is_obeyed};
+use crate::polynomial::{divided_finding, divided_verdict, is_obeyed};
 use crate::rows::{place_powers, row_product};
-use crate::verdict::SystemVerdict;
 use dsv_base::{Items, NoMemory};
 use dsv_integer::Integer;
+use dsv_table::TableFinding;
 use std::alloc::Global;
 
 /// Whether the first coefficient is positive.
@@ -60,22 +62,17 @@ fn is_annihilated(
     Ok(true)
 }
 
-/// Whether the polynomial with these coefficients shows that the system falls.
-fn is_falling(
+/// Whether the polynomial with these coefficients has a positive lead, as many roots as the matrix
+/// has places, and annihilates it.
+fn is_annihilator(
     coefficients: &[Integer],
     rows: &[Items<Integer>],
-    q: &Integer,
     alloc: Global,
 ) -> Result<bool, NoMemory>
-    requires order { 0 < length rows.now }
-    requires scale { pos 0 <ℤ q.now }
     ensures { IfOk result (λ b. b ≡ true
-        → IsSystemShown SystemVerdict.Falls (length rows.now) q.now (matrix_of rows.now)) }
+        → IsAnnihilator (length rows.now) (matrix_of rows.now) coefficients.now) }
 {
     if coefficients.len() != rows.len() + 1 || !is_lead_positive(coefficients) {
-        return Ok(false);
-    }
-    if !divided_verdict(coefficients, q, alloc)?.is_inside() {
         return Ok(false);
     }
     let annihilated = is_annihilated(coefficients, rows, alloc)?;
@@ -134,7 +131,7 @@ fn is_kept_away(
 ) -> Result<bool, NoMemory>
     requires scale { pos 0 <ℤ q.now }
     ensures { IfOk result (λ b. b ≡ true
-        → IsSystemShown SystemVerdict.KeptAway (length rows.now) q.now (matrix_of rows.now)) }
+        → SystemIsKeptAway (length rows.now) q.now (matrix_of rows.now)) }
 {
     let coefficients = witness.coefficients.as_slice();
     if coefficients.len() < 2 || !is_lead_positive(coefficients) || witness.factor.is_zero() {
@@ -161,7 +158,7 @@ fn is_kept_away_at(
 ) -> Result<bool, NoMemory>
     requires scale { pos 0 <ℤ q.now }
     ensures { IfOk result (λ b. b ≡ true
-        → IsSystemShown SystemVerdict.KeptAway (length rows.now) q.now (matrix_of rows.now)) }
+        → SystemIsKeptAway (length rows.now) q.now (matrix_of rows.now)) }
 {
     let powers = place_powers(place, rows, rows.len().saturating_add(1), alloc)?;
     let Some(witness) = witness_of(powers.as_slice(), rows.len(), alloc)? else {
@@ -170,26 +167,66 @@ fn is_kept_away_at(
     is_kept_away(&witness, rows, q, place, alloc)
 }
 
-/// Whether the system that takes a vector v to M v divided by `q`, for the matrix M with these
-/// rows, falls or is kept away from 0. It fails only for want of memory.
-pub fn system_verdict(
+/// Whether the values of some place show that the system is kept away from 0.
+fn is_kept_away_somewhere(
     rows: &[Items<Integer>],
     q: &Integer,
     alloc: Global,
-) -> Result<SystemVerdict, NoMemory>
-    requires order { 0 < length rows.now }
+) -> Result<bool, NoMemory>
     requires scale { pos 0 <ℤ q.now }
-    ensures { IfOk result (λ v.
-        IsSystemShown v (length rows.now) q.now (matrix_of rows.now)) }
+    ensures { IfOk result (λ b. b ≡ true
+        → SystemIsKeptAway (length rows.now) q.now (matrix_of rows.now)) }
 {
-    let coefficients = characteristic(rows, alloc)?;
-    if is_falling(coefficients.as_slice(), rows, q, alloc)? {
-        return Ok(SystemVerdict::Falls);
-    }
     for place in 0..rows.len() {
         if is_kept_away_at(rows, q, place, alloc)? {
-            return Ok(SystemVerdict::KeptAway);
+            return Ok(true);
         }
     }
-    Ok(SystemVerdict::Open)
+    Ok(false)
+}
+
+/// What is found of the system by the polynomial with these coefficients, if a form shows it.
+fn finding_with(
+    coefficients: &[Integer],
+    rows: &[Items<Integer>],
+    q: &Integer,
+    alloc: Global,
+) -> Result<Option<TableFinding>, NoMemory>
+    requires order { 0 < length rows.now }
+    requires scale { pos 0 <ℤ q.now }
+    requires polynomial { IsAnnihilator (length rows.now) (matrix_of rows.now) coefficients.now }
+    ensures { IfOk result (λ found. IfSome found
+        (IsSystemFinding (length rows.now) q.now (matrix_of rows.now))) }
+{
+    let found = divided_finding(coefficients, q, alloc)?;
+    if found.verdict.is_inside() {
+        return Ok(Some(found));
+    }
+    if is_kept_away_somewhere(rows, q, alloc)? {
+        return Ok(Some(found));
+    }
+    Ok(None)
+}
+
+/// What is found of the system that takes a vector v to M v divided by `q`, for the matrix M with
+/// these rows, by the table of its characteristic polynomial. `None` if that polynomial isn't seen
+/// to annihilate the matrix, or if a root isn't inside the unit circle and no place shows a start
+/// that is kept away from 0; that neither ever comes is not proved. It fails only for want of
+/// memory.
+pub fn system_finding(
+    rows: &[Items<Integer>],
+    q: &Integer,
+    alloc: Global,
+) -> Result<Option<TableFinding>, NoMemory>
+    requires order { 0 < length rows.now }
+    requires scale { pos 0 <ℤ q.now }
+    ensures { IfOk result (λ found. IfSome found
+        (IsSystemFinding (length rows.now) q.now (matrix_of rows.now))) }
+{
+    let list = characteristic(rows, alloc)?;
+    let coefficients = list.as_slice();
+    if !is_annihilator(coefficients, rows, alloc)? {
+        return Ok(None);
+    }
+    finding_with(coefficients, rows, q, alloc)
 }
