@@ -109,14 +109,13 @@ names_found text names h = names_by text names (nat_le (length (pieces text)) mo
 
 -- ---- the job
 series_again : (task : CascadeTask) → series_task (task_alone task) ≡ Some task
-series_again decides_stability = refl
+series_again (decides_stability by_tables) = refl
 series_again (searches_overflow samples conflicts) = refl
 series_again measures_series = refl
 series_again (simulates_series inputs) = refl
 
 alone_again : (task : Task) (found : CascadeTask) → series_task task ≡ Some found → task ≡ task_alone found
-alone_again (decides Stability true) found h = absurd cc
-alone_again (decides Stability false) found h = ap task_alone (let e : decides_stability ≡ found = cc in e)
+alone_again (decides Stability b) found h = ap task_alone (let e : decides_stability b ≡ found = cc in e)
 alone_again (decides MinimumPhase b) found h = absurd cc
 alone_again checks_time found h = absurd cc
 alone_again (writes p samples) found h = absurd cc

@@ -1,4 +1,5 @@
 pub mod CascadeLaws
+pub mod CascadeLoopLaws
 pub mod ClapAgreement
 pub mod ClapFound
 pub mod ClapLooks

@@ -5,17 +5,19 @@ use Rattle.std.proofs.lemmas.Bool.Decides.{nat_tests}
 use Rattle.dsv_text.specs.Digits.{short_number}
 use Rattle.dsv_command.specs.Limits.{most_number_digits, most_controllers, default_controllers}
 use Rattle.dsv_command.specs.Jobs.{Asked, ◌>>=◌, is_given, has_verdict_option, has_design_option, job_of_parts}
+use Rattle.dsv_command.specs.CascadeLoops.{AskedCascadeLoop, cascade_loop_of_parts}
 use Rattle.dsv_command.specs.Cascades.{AskedCascade, cascade_of_parts}
 use Rattle.dsv_command.specs.Ellipsoids.{AskedEllipsoid, has_ellipsoid_option, ellipsoid_of_parts}
 use Rattle.dsv_command.specs.Loops.{AskedLoop, loop_of_parts}
 use Rattle.dsv_command.specs.Options.{command_options}
 use Rattle.dsv_command.specs.Parts.{PartView, file_of, value_of, has_empty}
 use Rattle.dsv_command.specs.Reading.{parts_of}
-use Rattle.dsv_command.specs.Requests.{Request, on_file, on_cascade, on_states, on_ellipsoid, on_loop, checks, checks_loop, generates, seed_of, controllers_of, has_task_option, has_job_option, checked_file, check_request, generation_of, controllers_request, files_request, plant_request, job_request, request_by, request_of_parts, request_of}
+use Rattle.dsv_command.specs.Requests.{Request, on_file, on_cascade, on_states, on_ellipsoid, on_loop, on_cascade_loop, checks, checks_loop, generates, seed_of, controllers_of, has_task_option, has_job_option, checked_file, check_request, generation_of, controllers_request, files_request, loop_request, plant_request, job_request, request_by, request_of_parts, request_of}
 use Rattle.dsv_command.specs.Rules.{IsSeed, HasNoEllipsoidOption, HasNoTaskOption, HasNoFormOption, HasNoJobOption, IsCheckWith, IsGenerationOf, IsRequestOf, IsRequestLine}
 use Rattle.dsv_command.specs.States.{AskedStates, has_form_option, has_state_option, states_of_parts}
 use Rattle.dsv_command.proofs.JobLaws.{Bound, unbind, parts_ask, job_found, number_read, number_found, no_verdict_given, no_design_given, no_verdict_found, no_design_found}
 use Rattle.dsv_command.proofs.CascadeLaws.{cascade_read, cascade_found}
+use Rattle.dsv_command.proofs.CascadeLoopLaws.{cascade_loop_read, cascade_loop_found}
 use Rattle.dsv_command.proofs.EllipsoidLaws.{GivesControllers, no_ellipsoid_given, no_ellipsoid_found, ellipsoid_given, ellipsoid_read, ellipsoid_found}
 use Rattle.dsv_command.proofs.LoopLaws.{GivesPlant, loop_read, loop_found}
 use Rattle.dsv_command.proofs.StateLaws.{GivesStates, no_form_given, no_state_given, no_form_found, no_state_found, states_read, states_found}
@@ -48,7 +50,9 @@ parts_request parts (on_cascade asked) h =
 parts_request parts (on_states asked) h = rw (h.no_seed, h.no_count, h.no_check, h.given) (ap (option_map on_states) (states_read parts asked h))
 parts_request parts (on_ellipsoid asked) h =
     rw (h.no_seed, h.no_count, h.no_check, h.no_states, no_form_given parts h.no_form, h.no_plant, ellipsoid_given parts asked h) (ap (option_map on_ellipsoid) (ellipsoid_read parts asked h))
-parts_request parts (on_loop asked) h = rw (h.no_seed, h.no_count, h.no_check, h.no_states, no_form_given parts h.no_form, h.given) (ap (option_map on_loop) (loop_read parts asked h))
+parts_request parts (on_loop asked) h = rw (h.no_seed, h.no_count, h.no_check, h.no_states, no_form_given parts h.no_form, h.given, h.no_sections) (ap (option_map on_loop) (loop_read parts asked h))
+parts_request parts (on_cascade_loop asked) h =
+    rw (h.no_seed, h.no_count, h.no_check, h.no_states, no_form_given parts h.no_form, h.plant_given, h.given) (ap (option_map on_cascade_loop) (cascade_loop_read parts asked h))
 parts_request parts (checks controller certificate) h =
     rw (h.no_seed, h.no_count, h.given, h.plant_given) (ap (option_map (λ file. checks file certificate)) (file_checked parts controller certificate None h))
 parts_request parts (checks_loop controller certificate plant) h =
@@ -182,18 +186,30 @@ files_by : (parts : List PartView) (request : Request) (ellipsoid : Bool) → Gi
 files_by parts request true g l h = ellipsoid_by parts request (ellipsoid_of_parts parts) g refl h
 files_by parts request false g l h = controllers_by parts request (value_of (codes "sections") parts) g (no_ellipsoid_found parts l) refl h
 
-loop_by : (parts : List PartView) (plant : List ℕ) (request : Request) (job : Option AskedLoop) → GivesPlant parts plant → loop_of_parts parts plant ≡ job
+loop_by : (parts : List PartView) (plant : List ℕ) (request : Request) (job : Option AskedLoop) → GivesPlant parts plant → value_of (codes "sections") parts ≡ None → loop_of_parts parts plant ≡ job
     → option_map on_loop job ≡ Some request → IsRequestOf parts request
-loop_by parts plant request None g e h = absurd (cc)
-loop_by parts plant request (Some asked) g e h =
+loop_by parts plant request None g s e h = absurd (cc)
+loop_by parts plant request (Some asked) g s e h =
     let same : on_loop asked ≡ request = cc in
-    subst (IsRequestOf parts) same (loop_found parts plant asked g e)
+    subst (IsRequestOf parts) same (loop_found parts plant asked g s e)
+
+cascade_loop_by : (parts : List PartView) (plant text : List ℕ) (request : Request) (job : Option AskedCascadeLoop) → GivesPlant parts plant → value_of (codes "sections") parts ≡ Some text
+    → cascade_loop_of_parts parts plant text ≡ job → option_map on_cascade_loop job ≡ Some request → IsRequestOf parts request
+cascade_loop_by parts plant text request None g s e h = absurd (cc)
+cascade_loop_by parts plant text request (Some asked) g s e h =
+    let same : on_cascade_loop asked ≡ request = cc in
+    subst (IsRequestOf parts) same (cascade_loop_found parts plant text asked g s e)
+
+loops_by : (parts : List PartView) (plant : List ℕ) (request : Request) (names : Option (List ℕ)) → GivesPlant parts plant → value_of (codes "sections") parts ≡ names
+    → loop_request parts plant names ≡ Some request → IsRequestOf parts request
+loops_by parts plant request None g s h = loop_by parts plant request (loop_of_parts parts plant) g s refl h
+loops_by parts plant request (Some text) g s h = cascade_loop_by parts plant text request (cascade_loop_of_parts parts plant text) g s refl h
 
 plant_by : (parts : List PartView) (request : Request) (plant : Option (List ℕ)) → value_of (codes "generate") parts ≡ None → value_of (codes "count") parts ≡ None
     → value_of (codes "check") parts ≡ None → value_of (codes "state-space") parts ≡ None → HasNoFormOption parts → value_of (codes "plant") parts ≡ plant
     → plant_request parts plant ≡ Some request → IsRequestOf parts request
 plant_by parts request (Some plant) g c n s f p h =
-    loop_by parts plant request (loop_of_parts parts plant) (record { given = p; no_seed = g; no_count = c; no_check = n; no_states = s; no_form = f }) refl h
+    loops_by parts plant request (value_of (codes "sections") parts) (record { given = p; no_seed = g; no_count = c; no_check = n; no_states = s; no_form = f }) refl h
 plant_by parts request None g c n s f p h =
     files_by parts request (has_ellipsoid_option parts) (record { no_seed = g; no_count = c; no_check = n; no_states = s; no_form = f; no_plant = p }) refl h
 

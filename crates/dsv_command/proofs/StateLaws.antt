@@ -6,7 +6,7 @@ use Rattle.dsv_command.specs.Ellipsoids.{has_ellipsoid_option}
 use Rattle.dsv_command.specs.Jobs.{Task, decides, checks_time, writes, searches, seeks_set, measures_gain, simulates, ◌>>=◌, is_given, is_certified, task_of, rounding_of, overflow_of}
 use Rattle.dsv_command.specs.Parts.{PartView, file_of, value_of, has_empty}
 use Rattle.dsv_command.specs.Rules.{IsTask, HasNoFormOption, HasNoStateOption, HasNoFormOrCertificate, IsStateTask, IsStateJobOf}
-use Rattle.dsv_command.specs.States.{StateTask, checks_form, seeks_form, searches_states, measures_states, simulates_states, AskedStates, has_form_option, has_state_option, form_task, state_task, states_of_parts}
+use Rattle.dsv_command.specs.States.{StateTask, decides_states, checks_form, seeks_form, searches_states, measures_states, simulates_states, AskedStates, has_form_option, has_state_option, form_task, state_task, states_of_parts}
 use Rattle.dsv_command.proofs.EllipsoidLaws.{no_ellipsoid_given, no_ellipsoid_found}
 use Rattle.dsv_command.proofs.JobLaws.{Bound, unbind, task_read, task_found, rounding_read, rounding_found, overflow_read, overflow_found}
 
@@ -17,14 +17,19 @@ no_form_given parts h = rw (h.form, h.lyapunov) refl
 pub no_state_given : (parts : List PartView) → HasNoStateOption parts → has_state_option parts ≡ false
 no_state_given parts h = rw (h.file, no_form_given parts h.form) refl
 
--- neither a form nor a certificate, so that the task is that of the runs
+-- neither a form nor a certificate
 abbrev unless_given : List PartView → Option StateTask → Option StateTask
 unless_given parts found = if has_form_option parts || is_certified parts then None else found
 
-runs_read : (parts : List PartView) (found : Option StateTask) → HasNoFormOrCertificate parts → unless_given parts found ≡ found
-runs_read parts found h = rw (no_form_given parts h.no_form, h.no_certificate) refl
+formless_read : (parts : List PartView) (found : Option StateTask) → HasNoFormOrCertificate parts → unless_given parts found ≡ found
+formless_read parts found h = rw (no_form_given parts h.no_form, h.no_certificate) refl
 
 state_task_read : (parts : List PartView) (t : StateTask) → IsStateTask parts t → Bound (task_of parts) (state_task parts) t
+state_task_read parts t (IsStateTask.tables ps task none) = record {
+  value = decides Stability true;
+  first = task_read ps (decides Stability true) task;
+  second = formless_read ps (Some decides_states) none;
+}
 state_task_read parts t (IsStateTask.named_form ps name task form lyapunov certificate) = record {
   value = decides Stability false;
   first = task_read ps (decides Stability false) task;
@@ -38,17 +43,17 @@ state_task_read parts t (IsStateTask.sought_form ps task form lyapunov) = record
 state_task_read parts t (IsStateTask.search ps p samples conflicts task none) = record {
   value = searches p samples conflicts;
   first = task_read ps (searches p samples conflicts) task;
-  second = runs_read ps (Some (searches_states p samples conflicts)) none;
+  second = formless_read ps (Some (searches_states p samples conflicts)) none;
 }
 state_task_read parts t (IsStateTask.gain ps task none) = record {
   value = measures_gain;
   first = task_read ps measures_gain task;
-  second = runs_read ps (Some measures_states) none;
+  second = formless_read ps (Some measures_states) none;
 }
 state_task_read parts t (IsStateTask.simulation ps inputs task none) = record {
   value = simulates inputs;
   first = task_read ps (simulates inputs) task;
-  second = runs_read ps (Some (simulates_states inputs)) none;
+  second = formless_read ps (Some (simulates_states inputs)) none;
 }
 
 pub states_read : (parts : List PartView) (asked : AskedStates) → IsStateJobOf parts asked → states_of_parts parts asked.file ≡ Some asked
@@ -76,7 +81,7 @@ no_state_by parts false true s f h = absurd (let k : true ≡ false = sym (rw (s
 pub no_state_found : (parts : List PartView) → has_state_option parts ≡ false → HasNoStateOption parts
 no_state_found parts = no_state_by parts (is_given parts (codes "state-space")) (has_form_option parts) refl refl
 
--- the task of stability, which has a form
+-- the task of stability by a form
 form_by : (parts : List PartView) (t : StateTask) (name : Option (List ℕ)) (l c : Bool) → IsTask parts (decides Stability false) → value_of (codes "form") parts ≡ name
     → is_given parts (codes "lyapunov") ≡ l → is_certified parts ≡ c → form_task parts name ≡ Some t → IsStateTask parts t
 form_by parts t (Some name) true c task form lyapunov certificate h = absurd (let k : None ≡ Some t = sym (rw lyapunov refl) ∙ h in cc)
@@ -91,40 +96,43 @@ form_by parts t None true c task form lyapunov certificate h =
     let same : seeks_form (is_certified parts) ≡ t = cc in
     subst (IsStateTask parts) same (IsStateTask.sought_form parts task form lyapunov)
 
--- a task that isn't one of stability: no form and no certificate is there, and what the runs have is its
-record OfRuns (parts : List PartView) (found : Option StateTask) (t : StateTask) : Type 0 where
+-- a task that has no form: none is there and no certificate, and this is what was found
+record IsFormless (parts : List PartView) (found : Option StateTask) (t : StateTask) : Type 0 where
   pub none : HasNoFormOrCertificate parts
   pub same : found ≡ Some t
 
-runs_by : (parts : List PartView) (found : Option StateTask) (t : StateTask) (f c : Bool) → has_form_option parts ≡ f → is_certified parts ≡ c → (if f || c then None else found) ≡ Some t → OfRuns parts found t
-runs_by parts found t true c f e h = absurd cc
-runs_by parts found t false true f c h = absurd cc
-runs_by parts found t false false f c h = record { none = record { no_form = no_form_found parts f; no_certificate = c }; same = h }
+formless_by : (parts : List PartView) (found : Option StateTask) (t : StateTask) (f c : Bool) → has_form_option parts ≡ f → is_certified parts ≡ c → (if f || c then None else found) ≡ Some t → IsFormless parts found t
+formless_by parts found t true c f e h = absurd cc
+formless_by parts found t false true f c h = absurd cc
+formless_by parts found t false false f c h = record { none = record { no_form = no_form_found parts f; no_certificate = c }; same = h }
 
-runs_found : (parts : List PartView) (found : Option StateTask) (t : StateTask) → unless_given parts found ≡ Some t → OfRuns parts found t
-runs_found parts found t = runs_by parts found t (has_form_option parts) (is_certified parts) refl refl
+formless_found : (parts : List PartView) (found : Option StateTask) (t : StateTask) → unless_given parts found ≡ Some t → IsFormless parts found t
+formless_found parts found t = formless_by parts found t (has_form_option parts) (is_certified parts) refl refl
 
 -- state-space controllers don't have this task
-not_of_runs : (parts : List PartView) (t : StateTask) → unless_given parts None ≡ Some t → ⊥
-not_of_runs parts t h = let found = (runs_found parts None t h).same in cc
+no_state_task : (parts : List PartView) (t : StateTask) → unless_given parts None ≡ Some t → ⊥
+no_state_task parts t h = let found = (formless_found parts None t h).same in cc
 
 state_task_found : (parts : List PartView) (task : Task) (t : StateTask) → IsTask parts task → state_task parts task ≡ Some t → IsStateTask parts t
 state_task_found parts (decides Stability false) t task h = form_by parts t (value_of (codes "form") parts) (is_given parts (codes "lyapunov")) (is_certified parts) task refl refl refl h
-state_task_found parts (decides Stability true) t task h = absurd (not_of_runs parts t h)
-state_task_found parts (decides MinimumPhase b) t task h = absurd (not_of_runs parts t h)
-state_task_found parts checks_time t task h = absurd (not_of_runs parts t h)
-state_task_found parts (writes p samples) t task h = absurd (not_of_runs parts t h)
+state_task_found parts (decides Stability true) t task h =
+    let found = formless_found parts (Some decides_states) t h in
+    let same : decides_states ≡ t = let s = found.same in cc in
+    subst (IsStateTask parts) same (IsStateTask.tables parts task found.none)
+state_task_found parts (decides MinimumPhase b) t task h = absurd (no_state_task parts t h)
+state_task_found parts checks_time t task h = absurd (no_state_task parts t h)
+state_task_found parts (writes p samples) t task h = absurd (no_state_task parts t h)
 state_task_found parts (searches p samples conflicts) t task h =
-    let found = runs_found parts (Some (searches_states p samples conflicts)) t h in
+    let found = formless_found parts (Some (searches_states p samples conflicts)) t h in
     let same : searches_states p samples conflicts ≡ t = let s = found.same in cc in
     subst (IsStateTask parts) same (IsStateTask.search parts p samples conflicts task found.none)
-state_task_found parts (seeks_set conflicts) t task h = absurd (not_of_runs parts t h)
+state_task_found parts (seeks_set conflicts) t task h = absurd (no_state_task parts t h)
 state_task_found parts measures_gain t task h =
-    let found = runs_found parts (Some measures_states) t h in
+    let found = formless_found parts (Some measures_states) t h in
     let same : measures_states ≡ t = let s = found.same in cc in
     subst (IsStateTask parts) same (IsStateTask.gain parts task found.none)
 state_task_found parts (simulates inputs) t task h =
-    let found = runs_found parts (Some (simulates_states inputs)) t h in
+    let found = formless_found parts (Some (simulates_states inputs)) t h in
     let same : simulates_states inputs ≡ t = let s = found.same in cc in
     subst (IsStateTask parts) same (IsStateTask.simulation parts inputs task found.none)
 

@@ -1,9 +1,11 @@
 -- What contracts see of a job and of a request.
 use Rattle.std.specs.Prelude.{map}
+use Rattle.dsv_command.specs.CascadeLoops as cascade_loops
 use Rattle.dsv_command.specs.Cascades as cascades
 use Rattle.dsv_command.specs.declared.cascade.CascadeJob.{CascadeJob}
 use Rattle.dsv_command.specs.declared.cascade.CascadeTask.{CascadeTask}
 use Rattle.dsv_command.specs.declared.cascade.CascadeTask.TheVariants as series
+use Rattle.dsv_command.specs.declared.cascade_loops.CascadeLoopJob.{CascadeLoopJob}
 use Rattle.dsv_command.specs.Jobs.{Asked, decides, checks_time, writes, searches, seeks_set}
 use Rattle.dsv_command.specs.Jobs.{measures_gain, simulates}
 use Rattle.dsv_command.specs.Jobs as jobs
@@ -15,7 +17,7 @@ use Rattle.dsv_command.specs.declared.ellipsoid.EllipsoidSource.TheVariants as o
 use Rattle.dsv_command.specs.Loops as loops
 use Rattle.dsv_command.specs.declared.loops.LoopJob.{LoopJob}
 use Rattle.dsv_command.specs.Requests.{on_file, on_cascade, on_states, on_ellipsoid, on_loop}
-use Rattle.dsv_command.specs.Requests.{checks, checks_loop, generates}
+use Rattle.dsv_command.specs.Requests.{on_cascade_loop, checks, checks_loop, generates}
 use Rattle.dsv_command.specs.States as states
 use Rattle.dsv_command.specs.declared.states.StateJob.{StateJob}
 use Rattle.dsv_command.specs.declared.states.StateTask.{StateTask}
@@ -24,8 +26,8 @@ use Rattle.dsv_command.specs.declared.job.Job.{Job}
 use Rattle.dsv_command.specs.declared.request.Request.{Request}
 use Rattle.dsv_command.specs.declared.request.Request.TheVariants.{OnFile, OnCascade}
 use Rattle.dsv_command.specs.declared.request.Request.TheVariants.{OnStates, OnEllipsoid}
-use Rattle.dsv_command.specs.declared.request.Request.TheVariants.{OnLoop, Check, CheckLoop}
-use Rattle.dsv_command.specs.declared.request.Request.TheVariants.{Generate}
+use Rattle.dsv_command.specs.declared.request.Request.TheVariants.{OnLoop, OnCascadeLoop}
+use Rattle.dsv_command.specs.declared.request.Request.TheVariants.{Check, CheckLoop, Generate}
 use Rattle.dsv_command.specs.declared.task.Task.{Task}
 use Rattle.dsv_command.specs.declared.task.Task.TheVariants.{Decide, CheckTime}
 use Rattle.dsv_command.specs.declared.task.Task.TheVariants.{WriteFormula, Search, SeekSet}
@@ -50,7 +52,7 @@ asked_of job = record {
 }
 
 abbrev pub asked_series : CascadeTask → cascades.CascadeTask
-asked_series series.DecideStability = cascades.decides_stability
+asked_series (series.DecideStability by_tables) = cascades.decides_stability by_tables
 asked_series (series.SearchOverflow samples budget) =
     cascades.searches_overflow samples.count budget.conflicts
 asked_series series.MeasureGain = cascades.measures_series
@@ -65,6 +67,7 @@ asked_cascade job = record {
 }
 
 abbrev pub asked_state_task : StateTask → states.StateTask
+asked_state_task of_states.DecideStability = states.decides_states
 asked_state_task (of_states.CheckForm name) = states.checks_form name.now
 asked_state_task (of_states.SeekForm certified) = states.seeks_form certified
 asked_state_task (of_states.Search question budget) =
@@ -100,12 +103,21 @@ asked_loop job = record {
   certified = job.certified;
 }
 
+abbrev pub asked_cascade_loop : CascadeLoopJob → cascade_loops.AskedCascadeLoop
+asked_cascade_loop job = record {
+  file = job.file.now;
+  later = map (λ name. name.now) job.later.items;
+  plant = job.plant.now;
+  design = job.design;
+}
+
 abbrev pub requested_of : Request → requests.Request
 requested_of (OnFile job) = on_file (asked_of job)
 requested_of (OnCascade job) = on_cascade (asked_cascade job)
 requested_of (OnStates job) = on_states (asked_states job)
 requested_of (OnEllipsoid job) = on_ellipsoid (asked_ellipsoid job)
 requested_of (OnLoop job) = on_loop (asked_loop job)
+requested_of (OnCascadeLoop job) = on_cascade_loop (asked_cascade_loop job)
 requested_of (Check check) = checks check.file.now check.certificate.now
 requested_of (CheckLoop found) =
     checks_loop found.check.file.now found.check.certificate.now found.plant.now

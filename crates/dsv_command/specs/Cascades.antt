@@ -1,5 +1,5 @@
 -- The job for a cascade that parts ask for: sections in series, each the controller in a file.
-use Rattle.std.specs.Prelude.{ℕ, ◌==◌, ◌&&◌, not, nat_le, Bool, false, List}
+use Rattle.std.specs.Prelude.{ℕ, ◌==◌, ◌&&◌, not, nat_le, Bool, List}
 use Rattle.std.specs.Prelude.{length, Option, Some, None, if◌then◌else◌, ℤ}
 use Rattle.std.specs.List.{list_any}
 use Rattle.dsv_names.specs.declared.design.Design.{Design}
@@ -12,8 +12,9 @@ use Rattle.dsv_command.specs.Parts.{PartView}
 
 -- what is to be done with a cascade
 pub data CascadeTask : Type 0 where
-  -- it is decided whether the poles of each section fall
-  decides_stability : CascadeTask
+  -- it is decided whether the poles of each section fall, by closed forms, or by tables if the flag
+  -- is set
+  decides_stability : Bool → CascadeTask
   -- it is decided whether some list of so many inputs overflows, by a search with so many conflicts
   searches_overflow : ℕ → ℕ → CascadeTask
   -- it is decided by the gain whether any list of inputs, of any length, overflows
@@ -31,14 +32,14 @@ pub record AskedCascade : Type 0 where
 
 -- the same task for one controller
 abbrev pub task_alone : CascadeTask → Task
-task_alone decides_stability = decides Stability false
+task_alone (decides_stability by_tables) = decides Stability by_tables
 task_alone (searches_overflow samples conflicts) = searches Overflow samples conflicts
 task_alone measures_series = measures_gain
 task_alone (simulates_series inputs) = simulates inputs
 
 -- the task for a cascade, where a controller's is one of these
 abbrev pub series_task : Task → Option CascadeTask
-series_task (decides Stability false) = Some decides_stability
+series_task (decides Stability schur_cohn) = Some (decides_stability schur_cohn)
 series_task (searches Overflow samples conflicts) = Some (searches_overflow samples conflicts)
 series_task measures_gain = Some measures_series
 series_task (simulates inputs) = Some (simulates_series inputs)

@@ -28,7 +28,7 @@ use Rattle.dsv_command.specs.Parts.{PartView, for_option, has_key, file_of, valu
 -- what is to be done with a controller
 pub data Task : Type 0 where
   -- a property of its roots is decided; the flag: the Schur-Cohn form is offered before any
-  -- proposer is asked
+  -- proposer is asked, and tables decide if no form is accepted
   decides : RootProperty → Bool → Task
   -- it is decided whether the work of a sample is done in time
   checks_time : Task

@@ -1,4 +1,5 @@
 pub mod Asking
+pub mod CascadeLoops
 pub mod Cascades
 pub mod ClapCommand
 pub mod ClapRows

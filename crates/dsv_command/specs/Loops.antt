@@ -1,9 +1,9 @@
 -- The job for a loop that parts ask for: the controller in a file with the plant in another.
-use Rattle.std.specs.Prelude.{ℕ, ◌||◌, Bool, List, Option, Some, None, codes, if◌then◌else◌}
+use Rattle.std.specs.Prelude.{ℕ, Bool, List, Option, Some, None, if◌then◌else◌}
 use Rattle.dsv_names.specs.declared.design.Design.{Design}
 use Rattle.dsv_names.specs.declared.property.RootProperty.TheVariants.{Stability}
 use Rattle.dsv_command.specs.Ellipsoids.{has_ellipsoid_option}
-use Rattle.dsv_command.specs.Jobs.{Task, decides, Asked, ◌>>=◌, is_given, job_of_parts}
+use Rattle.dsv_command.specs.Jobs.{Task, decides, Asked, ◌>>=◌, job_of_parts}
 use Rattle.dsv_command.specs.Parts.{PartView}
 
 -- what is asked: it is decided whether the loop is stable that the controller in a file, realised
@@ -32,9 +32,7 @@ loop_of job plant = schur_cohn_of job.task >>= λ schur_cohn. Some (record {
   certified = job.certified;
 })
 
--- the job for the loop with the plant in the file of this name, with which no sections and no
--- ellipsoid go
+-- the job for the loop with the plant in the file of this name, with which no ellipsoid goes
 abbrev pub loop_of_parts : List PartView → List ℕ → Option AskedLoop
 loop_of_parts parts plant = job_of_parts parts >>= λ job.
-    (if is_given parts (codes "sections") || has_ellipsoid_option parts then None
-    else loop_of job plant)
+    (if has_ellipsoid_option parts then None else loop_of job plant)

@@ -2,6 +2,7 @@
 use Rattle.std.specs.Prelude.{ℕ, ◌||◌, nat_lt, ◌^◌, Bool, true, false, List, Option, Some, None}
 use Rattle.std.specs.Prelude.{is_some, option_map, codes, if◌then◌else◌}
 use Rattle.dsv_text.specs.Digits.{short_number}
+use Rattle.dsv_command.specs.CascadeLoops.{AskedCascadeLoop, cascade_loop_of_parts}
 use Rattle.dsv_command.specs.Cascades.{AskedCascade, cascade_of_parts}
 use Rattle.dsv_command.specs.Ellipsoids.{AskedEllipsoid, has_ellipsoid_option}
 use Rattle.dsv_command.specs.Ellipsoids.{ellipsoid_of_parts}
@@ -28,6 +29,8 @@ pub data Request : Type 0 where
   on_ellipsoid : AskedEllipsoid → Request
   -- a job for the loop of the controller in a file with the plant in another
   on_loop : AskedLoop → Request
+  -- a job for the loop of a cascade with the plant in another file
+  on_cascade_loop : AskedCascadeLoop → Request
   -- the certificate in a file is checked against the controller in the file that is named first
   checks : List ℕ → List ℕ → Request
   -- so it is against the loop of that controller with the plant in the file that is named last
@@ -92,9 +95,16 @@ abbrev pub files_request : List PartView → Bool → Option Request
 files_request parts true = option_map on_ellipsoid (ellipsoid_of_parts parts)
 files_request parts false = controllers_request parts (value_of (codes "sections") parts)
 
+-- the job for the loop with the plant in the file of this name: that of a controller, or of a
+-- cascade if later sections are named
+abbrev pub loop_request : List PartView → List ℕ → Option (List ℕ) → Option Request
+loop_request parts plant None = option_map on_loop (loop_of_parts parts plant)
+loop_request parts plant (Some names) =
+    option_map on_cascade_loop (cascade_loop_of_parts parts plant names)
+
 -- the job for a loop where a plant is named, and else for controllers in files alone
 abbrev pub plant_request : List PartView → Option (List ℕ) → Option Request
-plant_request parts (Some plant) = option_map on_loop (loop_of_parts parts plant)
+plant_request parts (Some plant) = loop_request parts plant (value_of (codes "sections") parts)
 plant_request parts None = files_request parts (has_ellipsoid_option parts)
 
 -- the job for a state-space controller where the file of one is named, and else for controllers in
@@ -130,6 +140,7 @@ job_in (Some (on_cascade job)) = None
 job_in (Some (on_states job)) = None
 job_in (Some (on_ellipsoid job)) = None
 job_in (Some (on_loop job)) = None
+job_in (Some (on_cascade_loop job)) = None
 job_in (Some (checks file name)) = None
 job_in (Some (checks_loop file name plant)) = None
 job_in (Some (generates seed count)) = None

@@ -22,6 +22,7 @@ use Rattle.dsv_names.specs.OverflowModes.{overflow_mode_name}
 use Rattle.dsv_names.specs.Properties.{property_name}
 use Rattle.dsv_names.specs.Realisations.{realisation_name}
 use Rattle.dsv_names.specs.Roundings.{rounding_name}
+use Rattle.dsv_command.specs.CascadeLoops.{AskedCascadeLoop}
 use Rattle.dsv_command.specs.Cascades.{AskedCascade, task_alone, most_later}
 use Rattle.dsv_command.specs.Ellipsoids.{EllipsoidSource, offered, sought, AskedEllipsoid}
 use Rattle.dsv_command.specs.Inputs.{most_inputs, most_digits, is_comma}
@@ -35,10 +36,11 @@ use Rattle.dsv_command.specs.Options.{command_options}
 use Rattle.dsv_command.specs.Parts.{PartView, file, flag, choice, key_of}
 use Rattle.dsv_command.specs.Parts.{has_key, file_of, value_of, has_empty}
 use Rattle.dsv_command.specs.Requests.{Request, on_file, on_cascade, on_states, on_ellipsoid}
-use Rattle.dsv_command.specs.Requests.{on_loop, checks, checks_loop, generates}
+use Rattle.dsv_command.specs.Requests.{on_loop, on_cascade_loop, checks, checks_loop, generates}
 use Rattle.dsv_command.specs.Shapes.{dash, is_equals}
-use Rattle.dsv_command.specs.States.{StateTask, checks_form, seeks_form, searches_states}
-use Rattle.dsv_command.specs.States.{measures_states, simulates_states, AskedStates}
+use Rattle.dsv_command.specs.States.{StateTask, decides_states, checks_form, seeks_form}
+use Rattle.dsv_command.specs.States.{searches_states, measures_states, simulates_states}
+use Rattle.dsv_command.specs.States.{AskedStates}
 
 -- ---- arguments and the parts that they give
 
@@ -409,7 +411,33 @@ job_of_loop asked = record {
 pub record IsLoopOf (parts : List PartView) (asked : AskedLoop) : Type 0 where
   pub given : value_of (codes "plant") parts ≡ Some asked.plant
   pub job : IsJobOf parts (job_of_loop asked)
-  pub no_sections : is_given parts (codes "sections") ≡ false
+  pub no_sections : value_of (codes "sections") parts ≡ None
+  pub no_ellipsoid : HasNoEllipsoidOption parts
+  pub no_seed : value_of (codes "generate") parts ≡ None
+  pub no_count : value_of (codes "count") parts ≡ None
+  pub no_check : value_of (codes "check") parts ≡ None
+  pub no_states : value_of (codes "state-space") parts ≡ None
+  pub no_form : HasNoFormOption parts
+
+-- the same job for the first section alone, without a plant
+abbrev pub job_of_cascade_loop : Bool → AskedCascadeLoop → Asked
+job_of_cascade_loop schur_cohn asked = record {
+  file = asked.file;
+  task = decides Stability schur_cohn;
+  design = asked.design;
+  certified = false;
+}
+
+-- The job for the loop of a cascade: it would be one of stability for its first section alone,
+-- which is FILE, whether or not the Schur-Cohn form is to be offered. A plant and the later
+-- sections are named; no ellipsoid is asked for, and no certificate is to be checked or written.
+pub record IsCascadeLoopOf (parts : List PartView) (asked : AskedCascadeLoop) : Type 0 where
+  pub text : List ℕ
+  pub given : value_of (codes "sections") parts ≡ Some text
+  pub names : AreNames text asked.later
+  pub plant_given : value_of (codes "plant") parts ≡ Some asked.plant
+  pub schur_cohn : Bool
+  pub job : IsJobOf parts (job_of_cascade_loop schur_cohn asked)
   pub no_ellipsoid : HasNoEllipsoidOption parts
   pub no_seed : value_of (codes "generate") parts ≡ None
   pub no_count : value_of (codes "count") parts ≡ None
@@ -423,8 +451,11 @@ pub record HasNoFormOrCertificate (parts : List PartView) : Type 0 where
   pub no_certificate : is_given parts (codes "certificate") ≡ false
 
 -- The task for a state-space controller: it would be one for a controller in a file. With stability
--- alone a form is named, or is to be sought, and a certificate goes only with what is sought.
+-- alone a form is named, or is to be sought, and a certificate goes only with what is sought; or
+-- the Schur-Cohn form is to be offered: then tables decide, with no form and no certificate.
 pub data IsStateTask : List PartView → StateTask → Type 0 where
+  tables : (parts : List PartView) → IsTask parts (decides Stability true)
+      → HasNoFormOrCertificate parts → IsStateTask parts decides_states
   named_form : (parts : List PartView) (name : List ℕ) → IsTask parts (decides Stability false)
       → value_of (codes "form") parts ≡ Some name → is_given parts (codes "lyapunov") ≡ false
       → is_given parts (codes "certificate") ≡ false → IsStateTask parts (checks_form name)
@@ -464,6 +495,7 @@ IsRequestOf parts (on_cascade asked) = IsCascadeOf parts asked
 IsRequestOf parts (on_states asked) = IsStateJobOf parts asked
 IsRequestOf parts (on_ellipsoid asked) = IsEllipsoidOf parts asked
 IsRequestOf parts (on_loop asked) = IsLoopOf parts asked
+IsRequestOf parts (on_cascade_loop asked) = IsCascadeLoopOf parts asked
 IsRequestOf parts (checks controller certificate) = IsCheckOf parts controller certificate
 IsRequestOf parts (checks_loop controller certificate plant) =
     IsLoopCheckOf parts controller certificate plant

@@ -1,6 +1,6 @@
 -- The job for a state-space controller that parts ask for: its file stands in place of FILE.
-use Rattle.std.specs.Prelude.{ℕ, ◌||◌, Bool, false, List, Option, Some, None, is_some, codes, ℤ}
-use Rattle.std.specs.Prelude.{if◌then◌else◌}
+use Rattle.std.specs.Prelude.{ℕ, ◌||◌, Bool, true, false, List, Option, Some, None, is_some}
+use Rattle.std.specs.Prelude.{codes, if◌then◌else◌, ℤ}
 use Rattle.dsv_names.specs.declared.overflow_mode.OverflowMode.{OverflowMode}
 use Rattle.dsv_names.specs.declared.property.RunProperty.{RunProperty}
 use Rattle.dsv_names.specs.declared.property.RootProperty.TheVariants.{Stability}
@@ -12,6 +12,8 @@ use Rattle.dsv_command.specs.Parts.{PartView, file_of, value_of, has_empty}
 
 -- what is to be done with a state-space controller
 pub data StateTask : Type 0 where
+  -- it is decided whether its states fall, by tables
+  decides_states : StateTask
   -- it is decided whether its states fall by the form of the certificate in the file of this name
   checks_form : List ℕ → StateTask
   -- so it is by a form that is sought; the flag: of one that is found a certificate is written in
@@ -39,27 +41,29 @@ has_form_option parts = is_given parts (codes "form") || is_given parts (codes "
 abbrev pub has_state_option : List PartView → Bool
 has_state_option parts = is_given parts (codes "state-space") || has_form_option parts
 
--- the task of stability: a form is named, or one is to be sought, of which alone a certificate may
--- be written
+-- the task of stability by a form: one is named, or is to be sought, of which alone a certificate
+-- may be written
 abbrev pub form_task : List PartView → Option (List ℕ) → Option StateTask
 form_task parts (Some name) = if is_given parts (codes "lyapunov") || is_certified parts then None
     else Some (checks_form name)
 form_task parts None = if is_given parts (codes "lyapunov")
     then Some (seeks_form (is_certified parts)) else None
 
--- the same task for the runs of a state-space controller, where it has that
-abbrev pub runs_task : Task → Option StateTask
-runs_task (searches property samples conflicts) =
+-- the same task for a state-space controller, if it has that with no form and no certificate:
+-- stability by tables, or one of its runs
+abbrev pub formless_task : Task → Option StateTask
+formless_task (decides Stability true) = Some decides_states
+formless_task (searches property samples conflicts) =
     Some (searches_states property samples conflicts)
-runs_task measures_gain = Some measures_states
-runs_task (simulates inputs) = Some (simulates_states inputs)
-runs_task _ = None
+formless_task measures_gain = Some measures_states
+formless_task (simulates inputs) = Some (simulates_states inputs)
+formless_task _ = None
 
 -- the task for a state-space controller that a task for a controller in a file is
 abbrev pub state_task : List PartView → Task → Option StateTask
 state_task parts (decides Stability false) = form_task parts (value_of (codes "form") parts)
 state_task parts task = if has_form_option parts || is_certified parts then None
-    else runs_task task
+    else formless_task task
 
 -- something is given that state-space controllers don't have: FILE, a realisation, sections, a
 -- plant, an ellipsoid

@@ -22,8 +22,11 @@ pub type SectionNames<'a> = ArrayVec<&'a str, MOST_LATER>;
 /// What is to be done with a cascade.
 #[derive(Drop)]
 pub enum CascadeTask {
-    /// It is decided whether the poles of each section fall.
-    DecideStability,
+    /// It is decided whether the poles of each section fall, by closed forms or by tables.
+    DecideStability {
+        /// Whether it is by tables.
+        by_tables: bool,
+    },
     /// It is decided by a search whether some list of so many inputs overflows.
     SearchOverflow(Samples, Budget),
     /// It is decided by the gain whether any list of inputs, of any length, overflows.
@@ -58,7 +61,7 @@ fn push_name<'a>(names: &mut SectionNames<'a>, name: &'a str) -> Option<()>
 }
 
 /// The names of 1 to 7 files joined by commas; `None` for any other text.
-fn find_names<'a>(text: &'a str) -> Option<SectionNames<'a>>
+pub(crate) fn find_names<'a>(text: &'a str) -> Option<SectionNames<'a>>
     ensures { option_map (λ names. map (λ name. name.now) names.items) result
         ≡ names_of text.now }
 {
@@ -80,9 +83,11 @@ fn find_series_task(task: Task) -> Option<CascadeTask>
         Task::Decide(
             RootQuestion {
                 property: RootProperty::Stability,
-                schur_cohn: false,
+                schur_cohn,
             },
-        ) => Some(CascadeTask::DecideStability),
+        ) => Some(CascadeTask::DecideStability {
+            by_tables: schur_cohn,
+        }),
         Task::Search(
             RunQuestion {
                 property: RunProperty::Overflow,

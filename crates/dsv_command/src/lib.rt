@@ -3,6 +3,7 @@
 
 mod arguments;
 mod cascade;
+mod cascade_loops;
 mod check;
 mod ellipsoid;
 mod generation;
@@ -18,6 +19,7 @@ mod states;
 mod task;
 
 pub use cascade::{CascadeJob, CascadeTask, MOST_LATER, SectionNames};
+pub use cascade_loops::CascadeLoopJob;
 pub use check::Check;
 pub use ellipsoid::{EllipsoidJob, EllipsoidSource};
 pub use generation::Generation;

@@ -37,7 +37,7 @@ pub struct LoopCheck<'a> {
 }
 
 /// Whether the Schur-Cohn form is to be offered, where the task is stability.
-fn schur_cohn_of(task: &Task) -> Option<bool>
+pub(crate) fn schur_cohn_of(task: &Task) -> Option<bool>
     ensures { result ≡ schur_cohn_of (asked_task task.now) }
 {
     match task {
@@ -65,12 +65,12 @@ fn loop_of<'a>(job: &Job<'a>, plant: &'a str) -> Option<LoopJob<'a>>
     })
 }
 
-/// The job for a loop, with which no sections and no ellipsoid go.
+/// The job for a loop, with which no ellipsoid goes.
 pub(crate) fn find_loop<'a>(arguments: &Arguments<'a>, plant: &'a str) -> Option<LoopJob<'a>>
     ensures { option_map asked_loop result ≡ loop_of_parts arguments.now plant.now }
 {
     let job = find_job(arguments)?;
-    if arguments.is_given("sections") || has_ellipsoid_option(arguments) {
+    if has_ellipsoid_option(arguments) {
         return None;
     }
     loop_of(&job, plant)

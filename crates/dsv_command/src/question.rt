@@ -8,7 +8,8 @@ use dsv_names::{RootProperty, RunProperty};
 #[derive(Clone, Copy)]
 pub struct RootQuestion {
     pub property: RootProperty,
-    /// Whether the Schur-Cohn form is offered before any proposer is asked.
+    /// Whether the Schur-Cohn form is offered before any proposer is asked, and tables decide if no
+    /// form is accepted.
     pub schur_cohn: bool,
 }
 

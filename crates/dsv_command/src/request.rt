@@ -4,11 +4,12 @@ ghost use Rattle.dsv_command.specs.Asking.{requested_of};
 ghost use Rattle.dsv_command.specs.Parts.{value_of};
 ghost use Rattle.dsv_command.specs.Ellipsoids.{has_ellipsoid_option};
 ghost use Rattle.dsv_command.specs.Requests.{check_request, controllers_request, files_request};
-ghost use Rattle.dsv_command.specs.Requests.{plant_request, job_request};
+ghost use Rattle.dsv_command.specs.Requests.{loop_request, plant_request, job_request};
 ghost use Rattle.dsv_command.specs.Requests.{request_of, request_of_parts};
 
 use crate::arguments::{Arguments, read_arguments};
 use crate::cascade::{CascadeJob, find_cascade};
+use crate::cascade_loops::{CascadeLoopJob, find_cascade_loop};
 use crate::check::{Check, find_check};
 use crate::ellipsoid::{EllipsoidJob, find_ellipsoid, has_ellipsoid_option};
 use crate::generation::{Generation, find_generation};
@@ -31,6 +32,8 @@ pub enum Request<'a> {
     OnEllipsoid(EllipsoidJob<'a>),
     /// A job for the loop of the controller in a file with the plant in another.
     OnLoop(LoopJob<'a>),
+    /// A job for the loop of a cascade with the plant in another file.
+    OnCascadeLoop(CascadeLoopJob<'a>),
     /// A certificate is checked against the controller in a file.
     Check(Check<'a>),
     /// A certificate is checked against the loop of the controller in a file with a plant.
@@ -62,13 +65,25 @@ fn find_files_request<'a>(arguments: &Arguments<'a>) -> Option<Request<'a>>
     }
 }
 
+/// The job for the loop with the plant in the file of this name: that of a controller, or of a
+/// cascade if later sections are named.
+fn find_loop_request<'a>(arguments: &Arguments<'a>, plant: &'a str) -> Option<Request<'a>>
+    ensures { option_map requested_of result
+        ≡ loop_request arguments.now plant.now (value_of (codes "sections") arguments.now) }
+{
+    match arguments.value("sections") {
+        Some(names) => Some(Request::OnCascadeLoop(find_cascade_loop(arguments, plant, names)?)),
+        None => Some(Request::OnLoop(find_loop(arguments, plant)?)),
+    }
+}
+
 /// The job for a loop where a plant is named, and else for controllers in files alone.
 fn find_plant_request<'a>(arguments: &Arguments<'a>) -> Option<Request<'a>>
     ensures { option_map requested_of result
         ≡ plant_request arguments.now (value_of (codes "plant") arguments.now) }
 {
     match arguments.value("plant") {
-        Some(plant) => Some(Request::OnLoop(find_loop(arguments, plant)?)),
+        Some(plant) => find_loop_request(arguments, plant),
         None => find_files_request(arguments),
     }
 }

@@ -3,7 +3,7 @@ ghost use Rattle.std.specs.Prelude.{◌≡◌, false, codes, option_map};
 ghost use Rattle.dsv_command.specs.Asking.{asked_state_task, asked_states, asked_task};
 ghost use Rattle.dsv_command.specs.Parts.{has_empty, value_of};
 ghost use Rattle.dsv_command.specs.States.{has_form_option, has_state_option, form_task};
-ghost use Rattle.dsv_command.specs.States.{runs_task, state_task, has_other_option};
+ghost use Rattle.dsv_command.specs.States.{formless_task, state_task, has_other_option};
 ghost use Rattle.dsv_command.specs.States.{states_of_parts};
 
 use crate::arguments::Arguments;
@@ -17,6 +17,8 @@ use dsv_names::{OverflowMode, RootProperty, Rounding};
 /// What is to be done with a state-space controller.
 #[derive(Drop)]
 pub enum StateTask<'a> {
+    /// It is decided whether its states fall, by tables.
+    DecideStability,
     /// It is decided whether its states fall, by the form of the certificate in the file of this
     /// name.
     CheckForm(&'a str),
@@ -57,8 +59,8 @@ pub(crate) fn has_state_option(arguments: &Arguments) -> bool
     arguments.is_given("state-space") || has_form_option(arguments)
 }
 
-/// The task of stability: a form is named, or one is to be sought, of which alone a certificate may
-/// be written.
+/// The task of stability by a form: one is named, or is to be sought, of which alone a certificate
+/// may be written.
 fn form_task<'a>(arguments: &Arguments<'a>) -> Option<StateTask<'a>>
     ensures { option_map asked_state_task result
         ≡ form_task arguments.now (value_of (codes "form") arguments.now) }
@@ -73,11 +75,18 @@ fn form_task<'a>(arguments: &Arguments<'a>) -> Option<StateTask<'a>>
     }
 }
 
-/// The same task for the runs of a state-space controller, where it has that.
-fn runs_task<'a>(task: Task) -> Option<StateTask<'a>>
-    ensures { option_map asked_state_task result ≡ runs_task (asked_task task) }
+/// The same task for a state-space controller, if it has that with no form and no certificate:
+/// stability by tables, or one of its runs.
+fn formless_task<'a>(task: Task) -> Option<StateTask<'a>>
+    ensures { option_map asked_state_task result ≡ formless_task (asked_task task) }
 {
     match task {
+        Task::Decide(
+            RootQuestion {
+                property: RootProperty::Stability,
+                schur_cohn: true,
+            },
+        ) => Some(StateTask::DecideStability),
         Task::Search(question, budget) => Some(StateTask::Search(question, budget)),
         Task::MeasureGain => Some(StateTask::MeasureGain),
         Task::Simulate(inputs) => Some(StateTask::Simulate(inputs)),
@@ -97,7 +106,7 @@ fn state_task<'a>(arguments: &Arguments<'a>, task: Task) -> Option<StateTask<'a>
             },
         ) => form_task(arguments),
         _ if has_form_option(arguments) || is_certified(arguments) => None,
-        task => runs_task(task),
+        task => formless_task(task),
     }
 }
 

@@ -6,6 +6,10 @@
 #[cfg(test)]
 mod arguments;
 #[cfg(test)]
+mod cascade_jobs;
+#[cfg(test)]
+mod cascade_loop_jobs;
+#[cfg(test)]
 mod controllers;
 #[cfg(test)]
 mod ellipsoid_jobs;

@@ -157,7 +157,7 @@ f|--property|STABILITY|--plant|p|--unbounded\n\
 f|--property|STABILITY|--plant|p|--gain\n\
 f|--property|STABILITY|--plant|p|--conflicts|1\n\
 f|--property|STABILITY|--plant|p|--formula\n\
-f|--property|STABILITY|--plant|p|--sections|g\n\
+f|--property|STABILITY|--plant|p|--sections\n\
 f|--property|STABILITY|--plant|p|--state-space|s\n\
 f|--property|STABILITY|--plant|p|--form|c\n\
 f|--property|STABILITY|--plant|p|--lyapunov\n\

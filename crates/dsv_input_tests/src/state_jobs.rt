@@ -8,6 +8,8 @@ use std::alloc::Global;
 
 /// What is to be done.
 enum Wanted {
+    /// Stability by tables.
+    Tables,
     /// Stability by the form of the certificate in the file of this name.
     Form(&'static str),
     /// Stability by a form that is sought, and whether its certificate is written.
@@ -27,6 +29,7 @@ struct Row(&'static str, Wanted, Rounding, OverflowMode);
 /// Whether a task is the one that is wanted.
 fn is_task_wanted(task: &StateTask, wanted: &Wanted) -> bool {
     match (task, wanted) {
+        (StateTask::DecideStability, Wanted::Tables) => true,
         (StateTask::CheckForm(found), Wanted::Form(name)) => found == name,
         (StateTask::SeekForm { certified }, Wanted::SoughtForm(wanted)) => certified == wanted,
         (StateTask::Search(found, budget), Wanted::Search(property, samples, conflicts)) => {
@@ -121,8 +124,26 @@ const OF_RUNS: &[Row] = &[
     ),
 ];
 
-/// Arguments for stability, by a form that is named or sought.
+/// Arguments for stability, by tables or by a form that is named or sought.
 const OF_STABILITY: &[Row] = &[
+    Row(
+        "--state-space|s|--property|STABILITY|--schur-cohn",
+        Wanted::Tables,
+        Rounding::Floor,
+        OverflowMode::Wrap,
+    ),
+    Row(
+        "--schur-cohn|--rounding|CEIL|--state-space=s|--property|STABILITY",
+        Wanted::Tables,
+        Rounding::Ceil,
+        OverflowMode::Wrap,
+    ),
+    Row(
+        "--overflow-mode=SATURATE|--state-space|s|--schur-cohn|--property=STABILITY",
+        Wanted::Tables,
+        Rounding::Floor,
+        OverflowMode::Saturate,
+    ),
     Row(
         "--state-space|s|--property|STABILITY|--form|c",
         Wanted::Form("c"),
@@ -194,6 +215,9 @@ f|--state-space|s|--property|OVERFLOW|--sections|g\n\
 --state-space|s|--property|OVERFLOW|--formula\n\
 --state-space|s|--property|LIMIT_CYCLE|--formula\n\
 --state-space|s|--property|OVERFLOW|--schur-cohn\n\
+--state-space|s|--property|OVERFLOW|--gain|--schur-cohn\n\
+--state-space|s|--property|LIMIT_CYCLE|--schur-cohn\n\
+--state-space|s|--simulate=1|--schur-cohn\n\
 --state-space|s|--property|OVERFLOW|--x-size|65\n\
 --state-space|s|--property|OVERFLOW|--conflicts|0\n\
 --state-space|s|--property|LIMIT_CYCLE|--gain\n\
@@ -204,7 +228,9 @@ f|--state-space|s|--property|OVERFLOW|--sections|g\n\
 --state-space|s|--simulate=1|--certificate\n\
 --state-space|s|--simulate=1|--property|OVERFLOW\n\
 --state-space|s|--property|MINIMUM_PHASE\n\
+--state-space|s|--property|MINIMUM_PHASE|--schur-cohn\n\
 --state-space|s|--property|TIMING\n\
+--state-space|s|--property|TIMING|--schur-cohn\n\
 --state-space|s|--check|c\n\
 --state-space|s|--generate|1\n\
 --state-space|s|--property|OVERFLOW|--check|c\n\
@@ -216,11 +242,23 @@ fn other_arguments_are_no_state_job(rt: HostRuntime) {
     assert!(rt; are_no_jobs(rt.alloc(), NO_STATE_JOBS));
 }
 
-/// Arguments with a form beside what it doesn't go with, and without one where it is needed.
+/// Arguments with a form or tables beside what they don't go with, and with neither.
 const NOT_BY_FORM: &str = "\
 --state-space|s|--property|STABILITY\n\
 --state-space|s|--property|STABILITY|--certificate\n\
---state-space|s|--property|STABILITY|--schur-cohn\n\
+--state-space|s|--schur-cohn\n\
+--state-space|s|--property|STABILITY|--schur-cohn|--schur-cohn\n\
+--state-space|s|--property|STABILITY|--schur-cohn=1\n\
+--state-space|s|--property|STABILITY|--schur-cohn|--certificate\n\
+--state-space|s|--property|STABILITY|--schur-cohn|--form|c|--certificate\n\
+--state-space|s|--property|STABILITY|--schur-cohn|--lyapunov|--certificate\n\
+--state-space|s|--property|STABILITY|--schur-cohn|--x-size|5\n\
+--state-space|s|--property|STABILITY|--schur-cohn|--gain\n\
+--state-space|s|--property|STABILITY|--schur-cohn|--realization|DFI\n\
+--state-space|s|--property|STABILITY|--schur-cohn|--sections|g\n\
+--state-space|s|--property|STABILITY|--schur-cohn|--plant|p\n\
+--state-space|s|--property|STABILITY|--schur-cohn|--check|c\n\
+f|--state-space|s|--property|STABILITY|--schur-cohn\n\
 --state-space|s|--property|STABILITY|--schur-cohn|--form|c\n\
 --state-space|s|--property|STABILITY|--schur-cohn|--lyapunov\n\
 --state-space|s|--property|STABILITY|--form|c|--lyapunov\n\
