@@ -1,29 +1,18 @@
 -- What a check that finds nothing shows.
-use Rattle.std.proofs.Common.{◌≡◌, ◌∙◌, List, sym, ap, subst, Option, Result, Ok, Err, OnOk, IfOk}
+use Rattle.std.proofs.Common.{◌≡◌, ◌∙◌, sym, ap, subst, Option, Result, Ok, Err, OnOk, IfOk}
 use Rattle.std.specs.Result.{IsErrAnd}
-use Rattle.dsv_names.specs.declared.property.Property.{Property}
-use Rattle.dsv_names.specs.declared.property.Property.TheVariants.{OfRoots}
-use Rattle.dsv_names.specs.declared.property.RootProperty.{RootProperty}
 use Rattle.dsv_reader.specs.Controllers.{ControllerView}
 use Rattle.dsv_quantiser.specs.QuantisedView.{QuantisedView}
 use Rattle.dsv_quantiser.specs.declared.refusal.QuantRefusal.{QuantRefusal}
-use Rattle.dsv_forms.specs.declared.offers.Form.{Form}
-use Rattle.dsv_tested.specs.Tested.{side_of, tested_of}
-use Rattle.dsv_tested.specs.declared.side.Side.{Side}
-use Rattle.dsv_tested.specs.declared.side.Tested.{Tested}
-use Rattle.dsv_tested.specs.declared.side.Tested.TheVariants as tested
 use Rattle.dsv_gain.specs.declared.roundoff.ShownError.{ShownError}
 use Rattle.dsv_certfile.specs.Texts.{job_of}
 use Rattle.dsv_certfile.specs.declared.certificate.Certificate.{Certificate}
 use Rattle.dsv_certfile.specs.declared.job.CertifiedJob.{CertifiedJob}
-use Rattle.dsv_certfile.specs.declared.job.Size.{Size}
-use Rattle.dsv_certfile.specs.declared.job.Size.TheVariants as size
 use Rattle.dsv_certcheck.specs.Checks.{Checked, as_checked, format_check, BecomesFor, IsFoundFor, IsFoundAfter, IsChecked, Finds, words_check}
-use Rattle.dsv_certcheck.specs.Shown.{IsFalling, HasFalling, Has, IsShownOf, StaysAsOffered, IsNearOf}
+use Rattle.dsv_certcheck.specs.Shown.{Has, IsShownOf, StaysAsOffered, IsNearOf}
 use Rattle.dsv_certcheck.specs.declared.check_refusal.CheckRefusal.{CheckRefusal}
 use Rattle.dsv_certcheck.specs.declared.check_refusal.CheckRefusal.TheVariants as refusal
 use Rattle.dsv_certcheck.proofs.WordsFound.{HasWords, has_words}
-use Rattle.std.proofs.Math.IntN.{ℤ}
 
 -- ---- what holds where nothing is found
 pub on_ok : {T E P Q : Type 0} (r : Result T E) → (P → Q) → OnOk r P → OnOk r Q
@@ -33,13 +22,6 @@ on_ok (Err e) f h = tt
 pub on_ok_three : {T E A B C D : Type 0} (r : Result T E) → (A → B → C → D) → OnOk r A → OnOk r B → OnOk r C → OnOk r D
 on_ok_three (Ok x) f a b c = f a b c
 on_ok_three (Err e) f a b c = tt
-
--- ---- forms
-pub falling_has : (q : QuantisedView) (p : RootProperty) (of_job : Property) (s : Size) (of_side : Side) (found : Tested) (poly : List ℤ) (form : Form) → of_job ≡ OfRoots p → s ≡ size.NoSize
-    → of_side ≡ side_of p → tested_of q of_side ≡ Ok found → found ≡ tested.Poly poly → IsFalling poly form → Has q of_job s
-falling_has q p of_job s of_side found poly form e f g t u h =
-    let has : HasFalling q p = record { poly = poly; tested = ap (tested_of q) (sym g) ∙ t ∙ ap Ok u; form = form; falls = h } in
-    subst (λ x. Has q x s) (sym e) (subst (λ y. Has q (OfRoots p) y) (sym f) has)
 
 -- ---- the format
 -- the format is refused

@@ -3,8 +3,7 @@ use Rattle.std.proofs.Common.{◌≡◌, ◌∙◌, ap, sym, ℕ, zero, suc, ◌
 use Rattle.std.proofs.Math.IntN.{ℤ, pos}
 use Rattle.std.specs.Ordering.{int_eq}
 use Rattle.dsv_certfile.specs.declared.fault.CheckFault.TheVariants as fault
-use Rattle.dsv_certcheck.specs.Checks.{Checked, refused}
-use Rattle.dsv_certcheck.specs.LoopChecks.{coefficients_check}
+use Rattle.dsv_certcheck.specs.Checks.{Checked, refused, coefficients_check}
 
 -- the check of one place, and then of those after it
 abbrev after_place : ℕ → ℕ → List ℤ → List ℤ → ℤ → ℤ → Checked

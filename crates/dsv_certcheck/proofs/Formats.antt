@@ -48,9 +48,9 @@ use Rattle.dsv_certfile.specs.declared.fault.CheckFault.TheVariants as fault
 use Rattle.dsv_certfile.specs.declared.job.CertWords.{CertWords}
 use Rattle.dsv_certfile.specs.declared.job.Size.{Size}
 use Rattle.dsv_certfile.specs.declared.job.Size.TheVariants as size
-use Rattle.dsv_certcheck.specs.Checks.{Checked, refused, misfit, format_check, size_check, verdict_at, log_check, run_check, is_some_samples, hints_check, shape_check, set_check, invariant_check, shown_check, error_check, outlook_check, depth_check, gain_check, refusal_check, offer_check, tested_check, falls_check, words_check, IsFoundAfter}
+use Rattle.dsv_certcheck.specs.Checks.{Checked, refused, misfit, format_check, size_check, verdict_at, log_check, run_check, is_some_samples, hints_check, shape_check, set_check, invariant_check, shown_check, error_check, outlook_check, depth_check, gain_check, refusal_check, offer_check, tested_check, falls_check, coefficients_check, verdict_check, table_check, tested_table_check, roots_table_check, words_check, IsFoundAfter}
 use Rattle.dsv_certcheck.specs.LineNumbers.{body_line}
-use Rattle.dsv_certcheck.specs.LoopChecks.{coefficients_check, verdict_check, table_check, polynomial_check, loop_check, words_loop_check, IsLoopFoundAfter}
+use Rattle.dsv_certcheck.specs.LoopChecks.{polynomial_check, loop_check, words_loop_check, IsLoopFoundAfter}
 use Rattle.dsv_certcheck.specs.FormatRefusals.{AreOfFormats, AreOfLoopFormats}
 use Rattle.dsv_certcheck.specs.declared.check_refusal.CheckRefusal.TheVariants as refusal
 
@@ -137,24 +137,6 @@ falls_other w q (property.OfRoots p) size.Unbounded offer = tt
 falls_other w q (property.OfRoots p) size.OfLoop offer = tt
 falls_other w q p s offer = tt
 
-words_other : (q : QuantisedView) (cert : Certificate) → IsOther (words_check q cert)
-words_other q (certificate.Hints job log) = hints_other job.words q job.property job.size log
-words_other q (certificate.Invariant job candidate logs) = invariant_other job.words q job.property job.size candidate logs
-words_other q (certificate.Gain job depth offer) = gain_other job.words q job.property job.size depth offer
-words_other q (certificate.Falls job offer) = falls_other job.words q job.property job.size offer
-words_other q (certificate.Table job coefficients) = tt
-
-after : (c : ControllerView) (cert : Certificate) (line : ℕ) (format : Checked) → IsFoundAfter format c cert (refused line fault.Format) → format ≡ refused line fault.Format
-after c cert line (Err why) k = sym k
-after c cert line (Ok u) k = absurd (subst IsOther k.checked (words_other k.quantised cert))
-
-pub formats_are_compared : AreOfFormats
-formats_are_compared c cert line = (
-  λ k. after c cert line (format_check c (job_of cert).words) k,
-  λ e. subst (λ (r : Checked). IsFoundAfter r c cert (refused line fault.Format)) (sym e) refl,
-)
-
--- ---- beside a plant
 coefficients_other : (line : ℕ) (cs xs : List ℤ) → IsOther (coefficients_check line cs xs)
 coefficients_other line [] xs = tt
 coefficients_other line (c ∷ cs) [] = tt
@@ -171,6 +153,36 @@ table_other w c coefficients =
     (coefficients_check line coefficients c >>= λ x. verdict_check w (tables.verdict_of c)) (misfit w)
     (by_stage (coefficients_check line coefficients c) (λ x. verdict_check w (tables.verdict_of c)) (coefficients_other line coefficients c) (λ x. verdict_other w (tables.verdict_of c))) tt
 
+tested_table_other : (w : CertWords) (t : Result Tested PolyWide) (coefficients : List ℤ) → IsOther (tested_table_check w t coefficients)
+tested_table_other w (Ok (tested.Poly c)) coefficients = table_other w c coefficients
+tested_table_other w (Ok tested.NoZeros) coefficients = tt
+tested_table_other w (Err wide) coefficients = tt
+
+roots_table_other : (w : CertWords) (q : QuantisedView) (p : Property) (s : Size) (coefficients : List ℤ) → IsOther (roots_table_check w q p s coefficients)
+roots_table_other w q (property.OfRoots p) size.NoSize coefficients = tested_table_other w (tested_of q (side_of p)) coefficients
+roots_table_other w q (property.OfRoots p) (size.Samples k) coefficients = tt
+roots_table_other w q (property.OfRoots p) size.Unbounded coefficients = tt
+roots_table_other w q (property.OfRoots p) size.OfLoop coefficients = tt
+roots_table_other w q p s coefficients = tt
+
+words_other : (q : QuantisedView) (cert : Certificate) → IsOther (words_check q cert)
+words_other q (certificate.Hints job log) = hints_other job.words q job.property job.size log
+words_other q (certificate.Invariant job candidate logs) = invariant_other job.words q job.property job.size candidate logs
+words_other q (certificate.Gain job depth offer) = gain_other job.words q job.property job.size depth offer
+words_other q (certificate.Falls job offer) = falls_other job.words q job.property job.size offer
+words_other q (certificate.Table job coefficients) = roots_table_other job.words q job.property job.size coefficients
+
+after : (c : ControllerView) (cert : Certificate) (line : ℕ) (format : Checked) → IsFoundAfter format c cert (refused line fault.Format) → format ≡ refused line fault.Format
+after c cert line (Err why) k = sym k
+after c cert line (Ok u) k = absurd (subst IsOther k.checked (words_other k.quantised cert))
+
+pub formats_are_compared : AreOfFormats
+formats_are_compared c cert line = (
+  λ k. after c cert line (format_check c (job_of cert).words) k,
+  λ e. subst (λ (r : Checked). IsFoundAfter r c cert (refused line fault.Format)) (sym e) refl,
+)
+
+-- ---- beside a plant
 polynomial_other : (w : CertWords) (r : Result (List ℤ) LoopRefusal) (coefficients : List ℤ) → IsOther (polynomial_check w r coefficients)
 polynomial_other w (Ok c) coefficients = table_other w c coefficients
 polynomial_other w (Err why) coefficients = tt

@@ -5,5 +5,6 @@ pub mod LoopRefusals
 pub mod Misfits
 pub mod Nearness
 pub mod Passing
+pub mod TableLemmas
 pub mod WordsFound
 pub mod Formats

@@ -1,10 +1,7 @@
 -- What is found of a loop's certificate, and what it shows where nothing is.
-use Rattle.std.proofs.Common.{◌≡◌, ◌∙◌, ℕ, suc, ◌-◌, List, [], ◌∷◌, length, sym, ap, subst, Result, Ok, Err, OnOk}
-use Rattle.std.specs.Prelude.{◌==◌, ◌&&◌, nat_le}
-use Rattle.std.specs.Ordering.{int_eq}
+use Rattle.std.proofs.Common.{◌≡◌, ◌∙◌, List, [], ◌∷◌, sym, ap, subst, Result, Ok, Err, OnOk}
 use lib.Signed.{◌<ℤ◌}
 use Rattle.std.proofs.Math.IntN.{ℤ, pos}
-use Rattle.dsv_text.specs.Stages.{◌>>=◌}
 use Rattle.dsv_algebra.specs.Vectors.{vector_of}
 use Rattle.std.specs.Result.{IsErrAnd}
 use Rattle.dsv_names.specs.declared.property.Property.{Property}
@@ -16,9 +13,6 @@ use Rattle.dsv_reader.specs.Plants.{PlantView}
 use Rattle.dsv_quantiser.specs.QuantisedView.{QuantisedView}
 use Rattle.dsv_quantiser.specs.declared.refusal.QuantRefusal.{QuantRefusal}
 use Rattle.dsv_table.specs.Table.{verdict_of}
-use Rattle.dsv_table.specs.Verdicts.{IsShown}
-use Rattle.dsv_table.proofs.Verdicts.{decides}
-use Rattle.dsv_table.specs.declared.verdict.TableVerdict.{TableVerdict}
 use Rattle.dsv_table.specs.declared.verdict.TableVerdict.TheVariants as verdict
 use Rattle.dsv_loop.specs.Loops.{loop_of}
 use Rattle.dsv_loop.specs.declared.refusal.LoopRefusal.{LoopRefusal}
@@ -29,41 +23,22 @@ use Rattle.dsv_certfile.specs.declared.job.CertWords.{CertWords}
 use Rattle.dsv_certfile.specs.declared.job.CertifiedJob.{CertifiedJob}
 use Rattle.dsv_certfile.specs.declared.job.Size.{Size}
 use Rattle.dsv_certfile.specs.declared.job.Size.TheVariants as size
-use Rattle.dsv_certfile.specs.Limits.{most_coefficients}
-use Rattle.dsv_certfile.specs.declared.fault.CheckFault.TheVariants as fault
-use Rattle.dsv_certcheck.specs.Checks.{Checked, Finds, refused, misfit, format_check, BecomesFor}
-use Rattle.dsv_certcheck.specs.LineNumbers.{body_line}
-use Rattle.dsv_certcheck.specs.LoopChecks.{coefficients_check, verdict_check, table_check, polynomial_check, loop_check, words_loop_check, IsLoopFoundFor, IsLoopFoundAfter, IsLoopChecked, HasFallingLoop, LoopHas, IsLoopShownOf}
+use Rattle.dsv_certcheck.specs.Checks.{Checked, Finds, format_check, BecomesFor}
+use Rattle.dsv_certcheck.specs.LoopChecks.{polynomial_check, loop_check, words_loop_check, IsLoopFoundFor, IsLoopFoundAfter, IsLoopChecked, HasFallingLoop, LoopHas, IsLoopShownOf}
 use Rattle.dsv_certcheck.specs.declared.check_refusal.CheckRefusal.{CheckRefusal}
 use Rattle.dsv_certcheck.specs.declared.check_refusal.CheckRefusal.TheVariants as refusal
 use Rattle.dsv_certcheck.proofs.CheckLemmas.{on_ok, found_err}
-use Rattle.dsv_certcheck.proofs.WordsFound.{HasWords, has_then, has_either}
+use Rattle.dsv_certcheck.proofs.TableLemmas.{inside_falls}
+use Rattle.dsv_certcheck.proofs.WordsFound.{HasWords, has_table}
 
 -- ---- tables
 pub falling_loop : (q : QuantisedView) (time : Ratio) (plant : PlantView) (of_job : Property) (s : Size) (poly : List ℤ)
     → of_job ≡ property.OfRoots root.Stability → s ≡ size.OfLoop → loop_of (q ∷ []) time plant ≡ Ok poly → pos 0 <ℤ vector_of poly 0 → verdict_of poly ≡ verdict.Inside → LoopHas q time plant of_job s
 falling_loop q time plant of_job s poly e f t lead inside =
-    let d = length poly - 1 in
-    let has : HasFallingLoop q time plant = record { poly = poly; loop = t; falls = subst (λ v. IsShown v d (vector_of poly)) inside (decides d (vector_of poly) lead) } in
+    let has : HasFallingLoop q time plant = record { poly = poly; loop = t; falls = inside_falls poly lead inside } in
     subst (λ x. LoopHas q time plant x s) (sym e) (subst (λ y. LoopHas q time plant (property.OfRoots root.Stability) y) (sym f) has)
 
 -- ---- what is found of words isn't that there are none
-has_coefficients : (line : ℕ) (cs xs : List ℤ) → HasWords (coefficients_check line cs xs)
-has_coefficients line [] xs = tt
-has_coefficients line (c ∷ cs) [] = tt
-has_coefficients line (c ∷ cs) (x ∷ xs) = has_either (int_eq c x) (coefficients_check (suc line) cs xs) (refused line fault.Table) (has_coefficients (suc line) cs xs) tt
-
-has_verdict : (w : CertWords) (v : TableVerdict) → HasWords (verdict_check w v)
-has_verdict w verdict.Inside = tt
-has_verdict w (verdict.NotInside row) = tt
-
-has_table : (w : CertWords) (c coefficients : List ℤ) → HasWords (table_check w c coefficients)
-has_table w c coefficients =
-    let line = body_line w in
-    has_either (length coefficients == length c && nat_le (length coefficients) most_coefficients)
-    (coefficients_check line coefficients c >>= λ x. verdict_check w (verdict_of c)) (misfit w)
-    (has_then (coefficients_check line coefficients c) (λ x. verdict_check w (verdict_of c)) (has_coefficients line coefficients c) (λ x. has_verdict w (verdict_of c))) tt
-
 has_polynomial : (w : CertWords) (r : Result (List ℤ) LoopRefusal) (coefficients : List ℤ) → HasWords (polynomial_check w r coefficients)
 has_polynomial w (Ok c) coefficients = has_table w c coefficients
 has_polynomial w (Err why) coefficients = tt

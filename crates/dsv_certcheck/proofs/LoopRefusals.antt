@@ -1,5 +1,7 @@
 -- The check of a certificate against a controller alone refuses no loop.
-use Rattle.std.proofs.Common.{sym, ℕ, suc, ◌+◌, ◌==◌, ◌&&◌, nat_le, nat_lt, Bool, true, false, List, length, Option, Some, None, Result, Ok, Err, if◌then◌else◌, subst}
+use Rattle.std.proofs.Common.{sym, ℕ, suc, ◌+◌, ◌==◌, ◌&&◌, nat_le, nat_lt, Bool, true, false, List, [], ◌∷◌, length, Option, Some, None, Result, Ok, Err, if◌then◌else◌, subst}
+use Rattle.std.proofs.Math.IntN.{ℤ}
+use Rattle.std.specs.Ordering.{int_eq}
 use Rattle.dsv_text.specs.Stages.{◌>>=◌}
 use Rattle.dsv_names.specs.declared.property.Property.{Property}
 use Rattle.dsv_names.specs.declared.property.Property.TheVariants as property
@@ -28,6 +30,9 @@ use Rattle.dsv_forms.specs.declared.refusal.FormRefusal.{FormRefusal}
 use Rattle.dsv_tested.specs.Tested.{side_of, tested_of}
 use Rattle.dsv_tested.specs.declared.side.Tested.{Tested}
 use Rattle.dsv_tested.specs.declared.side.Tested.TheVariants as tested
+use Rattle.dsv_table.specs.Table as tables
+use Rattle.dsv_table.specs.declared.verdict.TableVerdict.{TableVerdict}
+use Rattle.dsv_table.specs.declared.verdict.TableVerdict.TheVariants as table
 use Rattle.dsv_template.specs.declared.candidate.Candidate.{Candidate}
 use Rattle.dsv_template.specs.declared.verdict.ThreeLogs.{ThreeLogs}
 use Rattle.dsv_linear.specs.declared.range.Range.{Range}
@@ -37,7 +42,7 @@ use Rattle.dsv_gain.specs.Controllers.{outlook_of}
 use Rattle.dsv_gain.specs.Errors.{error_of}
 use Rattle.dsv_gain.specs.declared.outlook.Outlook.{Outlook}
 use Rattle.dsv_gain.specs.declared.outlook.Outlook.TheVariants as outlook
-use Rattle.dsv_certfile.specs.Limits.{most_gain_depth, narrow_word_bits}
+use Rattle.dsv_certfile.specs.Limits.{most_gain_depth, most_coefficients, narrow_word_bits}
 use Rattle.dsv_certfile.specs.Texts.{job_of}
 use Rattle.dsv_certfile.specs.declared.fault.CheckFault.TheVariants as fault
 use Rattle.dsv_certfile.specs.declared.certificate.Certificate.{Certificate}
@@ -46,7 +51,7 @@ use Rattle.dsv_certfile.specs.declared.job.CertWords.{CertWords}
 use Rattle.dsv_certfile.specs.declared.job.CertWords.TheVariants as words
 use Rattle.dsv_certfile.specs.declared.job.Size.{Size}
 use Rattle.dsv_certfile.specs.declared.job.Size.TheVariants as size
-use Rattle.dsv_certcheck.specs.Checks.{Checked, refused, format_check, misfit, size_check, log_check, verdict_at, is_some_samples, run_check, hints_check, sentences_check, shape_check, invariant_check, shown_check, error_check, outlook_check, depth_check, gain_check, refusal_check, tested_check, falls_check, words_check, IsFoundAfter, IsChecked}
+use Rattle.dsv_certcheck.specs.Checks.{Checked, refused, format_check, misfit, size_check, log_check, verdict_at, is_some_samples, run_check, hints_check, sentences_check, shape_check, invariant_check, shown_check, error_check, outlook_check, depth_check, gain_check, refusal_check, tested_check, falls_check, coefficients_check, verdict_check, table_check, tested_table_check, roots_table_check, words_check, IsFoundAfter, IsChecked}
 use Rattle.dsv_certcheck.specs.LineNumbers.{version_line_number, format_line_number, body_line, log_line}
 use Rattle.dsv_certcheck.specs.declared.check_refusal.CheckRefusal.TheVariants as refusal
 
@@ -130,12 +135,37 @@ of_falls : (w : CertWords) (q : QuantisedView) (p : Property) (s : Size) (offer 
 of_falls w q (property.OfRoots p) size.NoSize offer = of_tested w (tested_of q (side_of p)) offer
 of_falls w q p s offer = tt
 
+of_coefficients : (line : ℕ) (cs xs : List ℤ) → IsNoLoop (coefficients_check line cs xs)
+of_coefficients line [] xs = tt
+of_coefficients line (c ∷ cs) [] = tt
+of_coefficients line (c ∷ cs) (x ∷ xs) = either (int_eq c x) (coefficients_check (suc line) cs xs) (refused line fault.Table) (of_coefficients (suc line) cs xs) tt
+
+of_table_verdict : (w : CertWords) (v : TableVerdict) → IsNoLoop (verdict_check w v)
+of_table_verdict w table.Inside = tt
+of_table_verdict w (table.NotInside row) = tt
+
+of_table : (w : CertWords) (c coefficients : List ℤ) → IsNoLoop (table_check w c coefficients)
+of_table w c coefficients =
+    let line = body_line w in
+    either (length coefficients == length c && nat_le (length coefficients) most_coefficients)
+    (coefficients_check line coefficients c >>= λ x. verdict_check w (tables.verdict_of c)) (misfit w)
+    (after (coefficients_check line coefficients c) (λ x. verdict_check w (tables.verdict_of c)) (of_coefficients line coefficients c) (of_table_verdict w (tables.verdict_of c))) tt
+
+of_tested_table : (w : CertWords) (t : Result Tested PolyWide) (coefficients : List ℤ) → IsNoLoop (tested_table_check w t coefficients)
+of_tested_table w (Ok (tested.Poly c)) coefficients = of_table w c coefficients
+of_tested_table w (Ok tested.NoZeros) coefficients = tt
+of_tested_table w (Err wide) coefficients = tt
+
+of_roots_table : (w : CertWords) (q : QuantisedView) (p : Property) (s : Size) (coefficients : List ℤ) → IsNoLoop (roots_table_check w q p s coefficients)
+of_roots_table w q (property.OfRoots p) size.NoSize coefficients = of_tested_table w (tested_of q (side_of p)) coefficients
+of_roots_table w q p s coefficients = tt
+
 of_words : (q : QuantisedView) (cert : Certificate) → IsNoLoop (words_check q cert)
 of_words q (certificate.Hints job log) = of_hints job.words q job.property job.size log
 of_words q (certificate.Invariant job candidate logs) = of_invariant job.words q job.property job.size candidate logs
 of_words q (certificate.Gain job depth offer) = of_gain job.words q job.property job.size depth offer
 of_words q (certificate.Falls job offer) = of_falls job.words q job.property job.size offer
-of_words q (certificate.Table job coefficients) = tt
+of_words q (certificate.Table job coefficients) = of_roots_table job.words q job.property job.size coefficients
 
 of_format : (c : ControllerView) (w : CertWords) → IsNoLoop (format_check c w)
 of_format c words.Unsaid = either (nat_le (c.int_bits + c.frac_bits) narrow_word_bits) (Ok tt) (refused version_line_number fault.Format) tt tt

@@ -16,7 +16,7 @@ use Rattle.dsv_certfile.specs.declared.certificate.Certificate.TheVariants as ce
 use Rattle.dsv_certfile.specs.declared.job.CertWords.{CertWords}
 use Rattle.dsv_certfile.specs.declared.job.Size.{Size}
 use Rattle.dsv_certfile.specs.declared.job.Size.TheVariants as size
-use Rattle.dsv_certcheck.specs.Checks.{misfit, hints_check, invariant_check, gain_check, falls_check}
+use Rattle.dsv_certcheck.specs.Checks.{misfit, hints_check, invariant_check, gain_check, falls_check, roots_table_check}
 use Rattle.dsv_certcheck.specs.LoopChecks.{loop_check}
 use Rattle.dsv_certcheck.specs.Misfits.{LoopsMisfitAlone, OthersMisfitLoops}
 
@@ -37,6 +37,10 @@ falls_of_loop : (w : CertWords) (q : QuantisedView) (p : Property) (offer : Fall
 falls_of_loop w q (property.OfRoots p) offer = refl
 falls_of_loop w q p offer = refl
 
+roots_table_of_loop : (w : CertWords) (q : QuantisedView) (p : Property) (coefficients : List ℤ) → roots_table_check w q p size.OfLoop coefficients ≡ misfit w
+roots_table_of_loop w q (property.OfRoots p) coefficients = refl
+roots_table_of_loop w q p coefficients = refl
+
 pub loops_misfit_alone : LoopsMisfitAlone
 loops_misfit_alone q (certificate.Hints job log) e = ap (λ s. hints_check job.words q job.property s log) e ∙ hints_of_loop job.words q job.property log
 loops_misfit_alone q (certificate.Invariant job candidate logs) e =
@@ -44,7 +48,8 @@ loops_misfit_alone q (certificate.Invariant job candidate logs) e =
 loops_misfit_alone q (certificate.Gain job depth offer) e =
     ap (λ s. gain_check job.words q job.property s depth offer) e ∙ gain_of_loop job.words q job.property depth offer
 loops_misfit_alone q (certificate.Falls job offer) e = ap (λ s. falls_check job.words q job.property s offer) e ∙ falls_of_loop job.words q job.property offer
-loops_misfit_alone q (certificate.Table job coefficients) e = refl
+loops_misfit_alone q (certificate.Table job coefficients) e =
+    ap (λ s. roots_table_check job.words q job.property s coefficients) e ∙ roots_table_of_loop job.words q job.property coefficients
 
 -- ---- where one does
 table_of_none : (w : CertWords) (q : QuantisedView) (time : Ratio) (plant : PlantView) (p : Property) (s : Size) (coefficients : List ℤ) → (s ≡ size.OfLoop → ⊥)

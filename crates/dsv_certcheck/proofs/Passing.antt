@@ -51,8 +51,8 @@ use Rattle.dsv_certfile.specs.declared.job.CertifiedJob.{CertifiedJob}
 use Rattle.dsv_certfile.specs.declared.job.CertWords.{CertWords}
 use Rattle.dsv_certfile.specs.declared.job.CertWords.TheVariants as words
 use Rattle.dsv_certfile.specs.declared.job.Size.TheVariants as size
-use Rattle.dsv_certcheck.specs.Checks.{Checked, refused, format_check, misfit, size_check, verdict_at, log_check, run_check, is_some_samples, hints_check, sentences_check, shape_check, invariant_check, error_check, outlook_check, depth_check, gain_check, refusal_check, offer_check, tested_check, falls_check}
-use Rattle.dsv_certcheck.specs.LoopChecks.{coefficients_check, verdict_check, table_check, polynomial_check, loop_check}
+use Rattle.dsv_certcheck.specs.Checks.{Checked, refused, format_check, misfit, size_check, verdict_at, log_check, run_check, is_some_samples, hints_check, sentences_check, shape_check, invariant_check, error_check, outlook_check, depth_check, gain_check, refusal_check, offer_check, tested_check, falls_check, coefficients_check, verdict_check, table_check, tested_table_check, roots_table_check}
+use Rattle.dsv_certcheck.specs.LoopChecks.{polynomial_check, loop_check}
 use Rattle.dsv_certcheck.specs.LineNumbers.{version_line_number, job_line_number, format_line_number, body_line, log_line}
 use Rattle.dsv_certcheck.specs.StateChecks.{state_offer_check, is_stability, state_check}
 use Rattle.dsv_certcheck.specs.declared.check_refusal.CheckRefusal.TheVariants as refusal
@@ -120,7 +120,7 @@ pub falls_pass : (w : CertWords) (q : QuantisedView) (p : RootProperty) (c : Lis
     → falls_check w q (property.OfRoots p) size.NoSize offer ≡ Ok tt
 falls_pass w q p c offer t e = ap (λ (r : Result Tested PolyWide). tested_check w r offer) t ∙ offer_passes w c offer (some_coefficients q (side_of p) c t) e
 
--- the table of the loop's polynomial has positive first numbers alone
+-- ---- a table
 own_coefficients : (line : ℕ) (c : List ℤ) → coefficients_check line c c ≡ Ok tt
 own_coefficients line [] = refl
 own_coefficients line (x ∷ xs) = ap (λ b. if b then coefficients_check (suc line) xs xs else refused line fault.Table) (same_test x x refl) ∙ own_coefficients (suc line) xs
@@ -133,6 +133,12 @@ table_passes w c few inside =
     ∙ ap (λ (r : Checked). r >>= λ x. verdict_check w (tables.verdict_of c)) (own_coefficients line c)
     ∙ ap (verdict_check w) inside
 
+-- the table of the tested polynomial has positive first numbers alone
+pub roots_table_passes : (w : CertWords) (q : QuantisedView) (p : RootProperty) (c : List ℤ) → length c ≤ most_coefficients → tested_of q (side_of p) ≡ Ok (tested.Poly c) → tables.verdict_of c ≡ table.Inside
+    → roots_table_check w q (property.OfRoots p) size.NoSize c ≡ Ok tt
+roots_table_passes w q p c few t inside = ap (λ (r : Result Tested PolyWide). tested_table_check w r c) t ∙ table_passes w c few inside
+
+-- so has that of the loop's polynomial
 pub loop_passes : (w : CertWords) (q : QuantisedView) (time : Ratio) (plant : PlantView) (c : List ℤ) → length c ≤ most_coefficients → loop_of (q ∷ []) time plant ≡ Ok c → tables.verdict_of c ≡ table.Inside
     → loop_check w q time plant (property.OfRoots root.Stability) size.OfLoop c ≡ Ok tt
 loop_passes w q time plant c few t inside = ap (λ (r : Result (List ℤ) LoopRefusal). polynomial_check w r c) t ∙ table_passes w c few inside

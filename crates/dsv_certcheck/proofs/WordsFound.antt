@@ -1,6 +1,7 @@
 -- What is found of words isn't that there are none.
-use Rattle.std.proofs.Common.{ℕ, Bool, true, false, List, Option, Some, None, Result, Ok, Err}
-use Rattle.std.specs.Prelude.{if◌then◌else◌, suc, nat_le, nat_lt, ◌+◌, ◌==◌, length}
+use Rattle.std.proofs.Common.{ℕ, Bool, true, false, List, [], ◌∷◌, Option, Some, None, Result, Ok, Err}
+use Rattle.std.specs.Prelude.{if◌then◌else◌, suc, nat_le, nat_lt, ◌+◌, ◌==◌, ◌&&◌, length}
+use Rattle.std.specs.Ordering.{int_eq}
 use Rattle.std.proofs.Math.IntN.{ℤ}
 use Rattle.dsv_text.specs.Stages.{◌>>=◌}
 use Rattle.dsv_names.specs.declared.property.Property.{Property}
@@ -22,6 +23,9 @@ use Rattle.dsv_forms.specs.declared.refusal.FormRefusal.{FormRefusal}
 use Rattle.dsv_tested.specs.Tested.{side_of, tested_of}
 use Rattle.dsv_tested.specs.declared.side.Tested.{Tested}
 use Rattle.dsv_tested.specs.declared.side.Tested.TheVariants as tested
+use Rattle.dsv_table.specs.Table as tables
+use Rattle.dsv_table.specs.declared.verdict.TableVerdict.{TableVerdict}
+use Rattle.dsv_table.specs.declared.verdict.TableVerdict.TheVariants as table
 use Rattle.dsv_template.specs.Candidates.{is_shaped}
 use Rattle.dsv_template.specs.declared.candidate.Candidate.{Candidate}
 use Rattle.dsv_template.specs.declared.verdict.ThreeLogs.{ThreeLogs}
@@ -32,13 +36,15 @@ use Rattle.dsv_gain.specs.Controllers.{outlook_of}
 use Rattle.dsv_gain.specs.Errors.{error_of}
 use Rattle.dsv_gain.specs.declared.outlook.Outlook.{Outlook}
 use Rattle.dsv_gain.specs.declared.outlook.Outlook.TheVariants as outlook
-use Rattle.dsv_certfile.specs.Limits.{most_gain_depth}
+use Rattle.dsv_certfile.specs.Limits.{most_gain_depth, most_coefficients}
 use Rattle.dsv_certfile.specs.declared.certificate.Certificate.{Certificate}
 use Rattle.dsv_certfile.specs.declared.certificate.Certificate.TheVariants as certificate
+use Rattle.dsv_certfile.specs.declared.fault.CheckFault.TheVariants as fault
 use Rattle.dsv_certfile.specs.declared.job.CertWords.{CertWords}
 use Rattle.dsv_certfile.specs.declared.job.Size.{Size}
 use Rattle.dsv_certfile.specs.declared.job.Size.TheVariants as size
-use Rattle.dsv_certcheck.specs.Checks.{Checked, misfit, size_check, verdict_at, log_check, run_check, is_some_samples, hints_check, sentences_check, shape_check, set_check, invariant_check, shown_check, error_check, outlook_check, depth_check, gain_check, refusal_check, offer_check, tested_check, falls_check, words_check}
+use Rattle.dsv_certcheck.specs.Checks.{Checked, refused, misfit, size_check, verdict_at, log_check, run_check, is_some_samples, hints_check, sentences_check, shape_check, set_check, invariant_check, shown_check, error_check, outlook_check, depth_check, gain_check, refusal_check, offer_check, tested_check, falls_check, coefficients_check, verdict_check, table_check, tested_table_check, roots_table_check, words_check}
+use Rattle.dsv_certcheck.specs.LineNumbers.{body_line}
 use Rattle.dsv_certcheck.specs.declared.check_refusal.CheckRefusal.TheVariants as refusal
 
 -- it isn't found that there are no words
@@ -120,10 +126,35 @@ has_gain w q (property.OfRuns run.Overflow) size.Unbounded depth offer =
     (has_outlook w (error_check w q offer) (outlook_of q (suc depth)) (has_error w q offer)) tt
 has_gain w q p s depth offer = tt
 
+has_coefficients : (line : ℕ) (cs xs : List ℤ) → HasWords (coefficients_check line cs xs)
+has_coefficients line [] xs = tt
+has_coefficients line (c ∷ cs) [] = tt
+has_coefficients line (c ∷ cs) (x ∷ xs) = has_either (int_eq c x) (coefficients_check (suc line) cs xs) (refused line fault.Table) (has_coefficients (suc line) cs xs) tt
+
+has_table_verdict : (w : CertWords) (v : TableVerdict) → HasWords (verdict_check w v)
+has_table_verdict w table.Inside = tt
+has_table_verdict w (table.NotInside row) = tt
+
+pub has_table : (w : CertWords) (c coefficients : List ℤ) → HasWords (table_check w c coefficients)
+has_table w c coefficients =
+    let line = body_line w in
+    has_either (length coefficients == length c && nat_le (length coefficients) most_coefficients)
+    (coefficients_check line coefficients c >>= λ x. verdict_check w (tables.verdict_of c)) (misfit w)
+    (has_then (coefficients_check line coefficients c) (λ x. verdict_check w (tables.verdict_of c)) (has_coefficients line coefficients c) (λ x. has_table_verdict w (tables.verdict_of c))) tt
+
+has_tested_table : (w : CertWords) (r : Result Tested PolyWide) (coefficients : List ℤ) → HasWords (tested_table_check w r coefficients)
+has_tested_table w (Ok (tested.Poly c)) coefficients = has_table w c coefficients
+has_tested_table w (Ok tested.NoZeros) coefficients = tt
+has_tested_table w (Err wide) coefficients = tt
+
+has_roots_table : (w : CertWords) (q : QuantisedView) (p : Property) (s : Size) (coefficients : List ℤ) → HasWords (roots_table_check w q p s coefficients)
+has_roots_table w q (property.OfRoots p) size.NoSize coefficients = has_tested_table w (tested_of q (side_of p)) coefficients
+has_roots_table w q p s coefficients = tt
+
 -- ---- certificates
 pub has_words : (q : QuantisedView) (c : Certificate) → HasWords (words_check q c)
 has_words q (certificate.Hints job log) = has_hints job.words q job.property job.size log
 has_words q (certificate.Invariant job candidate logs) = has_invariant job.words q job.property job.size candidate logs
 has_words q (certificate.Gain job depth offer) = has_gain job.words q job.property job.size depth offer
 has_words q (certificate.Falls job offer) = has_falls job.words q job.property job.size offer
-has_words q (certificate.Table job coefficients) = tt
+has_words q (certificate.Table job coefficients) = has_roots_table job.words q job.property job.size coefficients

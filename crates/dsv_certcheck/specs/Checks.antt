@@ -1,7 +1,8 @@
 -- What the check of a certificate finds for a controller: nothing, or the first line whose claim
 -- isn't so, or why there is nothing to check it against.
-use Rattle.std.specs.Prelude.{◌≡◌, ℕ, suc, ◌+◌, ◌==◌, ◌&&◌, nat_le, nat_lt, Bool, List, length}
-use Rattle.std.specs.Prelude.{Option, Some, None, Result, Ok, Err, if◌then◌else◌, ℤ}
+use Rattle.std.specs.Prelude.{◌≡◌, ℕ, suc, ◌+◌, ◌==◌, ◌&&◌, nat_le, nat_lt, Bool, List, ◌∷◌}
+use Rattle.std.specs.Prelude.{length, Option, Some, None, Result, Ok, Err, if◌then◌else◌, ℤ}
+use Rattle.std.specs.Ordering.{int_eq}
 use Rattle.dsv_text.specs.Stages.{◌>>=◌}
 use Rattle.dsv_names.specs.declared.property.Property.{Property}
 use Rattle.dsv_names.specs.declared.property.Property.TheVariants as property
@@ -27,6 +28,9 @@ use Rattle.dsv_forms.specs.declared.refusal.FormRefusal.{FormRefusal}
 use Rattle.dsv_tested.specs.Tested.{side_of, tested_of}
 use Rattle.dsv_tested.specs.declared.side.Tested.{Tested}
 use Rattle.dsv_tested.specs.declared.side.Tested.TheVariants as tested
+use Rattle.dsv_table.specs.Table as tables
+use Rattle.dsv_table.specs.declared.verdict.TableVerdict.{TableVerdict}
+use Rattle.dsv_table.specs.declared.verdict.TableVerdict.TheVariants as table
 use Rattle.dsv_template.specs.Candidates.{is_shaped}
 use Rattle.dsv_template.specs.declared.candidate.Candidate.{Candidate}
 use Rattle.dsv_template.specs.declared.verdict.SetPart.TheVariants as part
@@ -43,7 +47,8 @@ use Rattle.dsv_gain.specs.declared.outlook.Outlook.TheVariants as outlook
 use Rattle.dsv_certcheck.specs.FormLines.{form_line}
 use Rattle.dsv_certcheck.specs.LineNumbers.{version_line_number, format_line_number}
 use Rattle.dsv_certcheck.specs.LineNumbers.{kind_line, body_line, log_line}
-use Rattle.dsv_certfile.specs.Limits.{most_samples, most_gain_depth, narrow_word_bits}
+use Rattle.dsv_certfile.specs.Limits.{most_samples, most_gain_depth, most_coefficients}
+use Rattle.dsv_certfile.specs.Limits.{narrow_word_bits}
 use Rattle.dsv_certfile.specs.Texts.{job_of}
 use Rattle.dsv_certfile.specs.declared.certificate.Certificate.{Certificate}
 use Rattle.dsv_certfile.specs.declared.certificate.Certificate.TheVariants as certificate
@@ -193,6 +198,38 @@ falls_check w q (property.OfRoots p) size.NoSize offer =
     tested_check w (tested_of q (side_of p)) offer
 falls_check w q p s offer = misfit w
 
+-- ---- a table
+-- the first line whose number isn't the polynomial's in its place, of the lines from this one on
+abbrev pub coefficients_check : ℕ → List ℤ → List ℤ → Checked
+coefficients_check line (c ∷ cs) (x ∷ xs) =
+    if int_eq c x then coefficients_check (suc line) cs xs else refused line fault.Table
+coefficients_check line cs xs = Ok tt
+
+-- the verdict of a polynomial's table: all its first numbers are positive
+abbrev pub verdict_check : CertWords → TableVerdict → Checked
+verdict_check w table.Inside = Ok tt
+verdict_check w (table.NotInside row) = refused (kind_line w) fault.Table
+
+-- there are as many coefficients, these are the polynomial's, and its table has positive first
+-- numbers alone
+abbrev pub table_check : CertWords → List ℤ → List ℤ → Checked
+table_check w c coefficients =
+    if length coefficients == length c && nat_le (length coefficients) most_coefficients
+    then (coefficients_check (body_line w) coefficients c >>= λ _.
+    verdict_check w (tables.verdict_of c))
+    else misfit w
+
+-- the same for what is tested of a controller
+abbrev pub tested_table_check : CertWords → Result Tested PolyWide → List ℤ → Checked
+tested_table_check w (Ok (tested.Poly c)) coefficients = table_check w c coefficients
+tested_table_check w (Ok tested.NoZeros) coefficients = Err refusal.NoZeros
+tested_table_check w (Err wide) coefficients = Err (refusal.Wide wide.index)
+
+abbrev pub roots_table_check : CertWords → QuantisedView → Property → Size → List ℤ → Checked
+roots_table_check w q (property.OfRoots p) size.NoSize coefficients =
+    tested_table_check w (tested_of q (side_of p)) coefficients
+roots_table_check w q p s coefficients = misfit w
+
 -- ---- certificates
 -- for a quantised controller
 abbrev pub words_check : QuantisedView → Certificate → Checked
@@ -202,7 +239,8 @@ words_check q (certificate.Invariant job candidate logs) =
 words_check q (certificate.Gain job depth offer) =
     gain_check job.words q job.property job.size depth offer
 words_check q (certificate.Falls job offer) = falls_check job.words q job.property job.size offer
-words_check q (certificate.Table job coefficients) = misfit job.words
+words_check q (certificate.Table job coefficients) =
+    roots_table_check job.words q job.property job.size coefficients
 
 -- in the job's realisation and modes the controller becomes these words, or is refused so
 abbrev pub BecomesFor : ControllerView → CertifiedJob → Result QuantisedView QuantRefusal → Type 0

@@ -1,10 +1,7 @@
 -- What the check of a certificate finds for a controller in a loop with a plant: nothing, or the
 -- first line whose claim isn't so, or why there is nothing to check it against. And what it shows
 -- where it finds nothing.
-use Rattle.std.specs.Prelude.{◌≡◌, ℕ, suc, ◌-◌, ◌==◌, List, [], ◌∷◌, length, Result, Ok, Err, ℤ}
-use Rattle.std.specs.Prelude.{if◌then◌else◌, ◌&&◌, nat_le}
-use Rattle.std.specs.Ordering.{int_eq}
-use Rattle.dsv_text.specs.Stages.{◌>>=◌}
+use Rattle.std.specs.Prelude.{◌≡◌, ◌-◌, List, [], ◌∷◌, length, Result, Ok, Err, ℤ}
 use Rattle.dsv_algebra.specs.Vectors.{vector_of}
 use Rattle.dsv_names.specs.declared.property.Property.{Property}
 use Rattle.dsv_names.specs.declared.property.Property.TheVariants as property
@@ -13,13 +10,9 @@ use Rattle.dsv_fraction.specs.Ratio.{Ratio}
 use Rattle.dsv_reader.specs.Controllers.{ControllerView}
 use Rattle.dsv_reader.specs.Plants.{PlantView}
 use Rattle.dsv_quantiser.specs.QuantisedView.{QuantisedView}
-use Rattle.dsv_table.specs.Table.{verdict_of}
 use Rattle.dsv_table.specs.Verdicts.{HasFallingForm}
-use Rattle.dsv_table.specs.declared.verdict.TableVerdict.{TableVerdict}
-use Rattle.dsv_table.specs.declared.verdict.TableVerdict.TheVariants as verdict
 use Rattle.dsv_loop.specs.Loops.{loop_of}
 use Rattle.dsv_loop.specs.declared.refusal.LoopRefusal.{LoopRefusal}
-use Rattle.dsv_certfile.specs.Limits.{most_coefficients}
 use Rattle.dsv_certfile.specs.Texts.{job_of}
 use Rattle.dsv_certfile.specs.declared.certificate.Certificate.{Certificate}
 use Rattle.dsv_certfile.specs.declared.certificate.Certificate.TheVariants as certificate
@@ -27,32 +20,11 @@ use Rattle.dsv_certfile.specs.declared.job.CertWords.{CertWords}
 use Rattle.dsv_certfile.specs.declared.job.CertifiedJob.{CertifiedJob}
 use Rattle.dsv_certfile.specs.declared.job.Size.{Size}
 use Rattle.dsv_certfile.specs.declared.job.Size.TheVariants as size
-use Rattle.dsv_certfile.specs.declared.fault.CheckFault.TheVariants as fault
-use Rattle.dsv_certcheck.specs.Checks.{Checked, misfit, refused, format_check, BecomesFor}
-use Rattle.dsv_certcheck.specs.LineNumbers.{kind_line, body_line}
+use Rattle.dsv_certcheck.specs.Checks.{Checked, misfit, format_check, table_check, BecomesFor}
 use Rattle.dsv_certcheck.specs.declared.check_refusal.CheckRefusal.TheVariants as refusal
 
 -- ---- a table
--- the first line whose number isn't the polynomial's in its place, of the lines from this one on
-abbrev pub coefficients_check : ℕ → List ℤ → List ℤ → Checked
-coefficients_check line (c ∷ cs) (x ∷ xs) =
-    if int_eq c x then coefficients_check (suc line) cs xs else refused line fault.Table
-coefficients_check line cs xs = Ok tt
-
--- the verdict of a polynomial's table: all its first numbers are positive
-abbrev pub verdict_check : CertWords → TableVerdict → Checked
-verdict_check w verdict.Inside = Ok tt
-verdict_check w (verdict.NotInside row) = refused (kind_line w) fault.Table
-
--- there are as many coefficients, these are the polynomial's, and its table has positive first
--- numbers alone
-abbrev pub table_check : CertWords → List ℤ → List ℤ → Checked
-table_check w c coefficients =
-    if length coefficients == length c && nat_le (length coefficients) most_coefficients
-    then (coefficients_check (body_line w) coefficients c >>= λ _. verdict_check w (verdict_of c))
-    else misfit w
-
--- the same of the loop's polynomial, if there is one
+-- what the check of a table finds for the loop's polynomial, if there is one
 abbrev pub polynomial_check : CertWords → Result (List ℤ) LoopRefusal → List ℤ → Checked
 polynomial_check w (Ok c) coefficients = table_check w c coefficients
 polynomial_check w (Err why) coefficients = Err (refusal.Loop why)

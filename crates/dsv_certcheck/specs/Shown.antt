@@ -1,7 +1,6 @@
 -- What a certificate that passes its check shows of a controller.
 use Rattle.std.specs.Prelude.{◌≡◌, ◌-◌, List, length, Option, Some, None, Ok, ℤ}
-use Rattle.dsv_algebra.specs.Companion.{StrictlyFallsAlong}
-use Rattle.dsv_algebra.specs.Vectors.{vector_of, matrix_of}
+use Rattle.dsv_algebra.specs.Vectors.{vector_of}
 use Rattle.dsv_names.specs.declared.property.Property.{Property}
 use Rattle.dsv_names.specs.declared.property.Property.TheVariants as property
 use Rattle.dsv_names.specs.declared.property.RunProperty.TheVariants as run
@@ -15,7 +14,7 @@ use Rattle.dsv_gain.specs.Errors.{error_of}
 use Rattle.dsv_gain.specs.Near.{AlwaysNear}
 use Rattle.dsv_gain.specs.declared.roundoff.ShownError.{ShownError}
 use Rattle.dsv_bounded.specs.RunQuestions.{Happens}
-use Rattle.dsv_forms.specs.declared.offers.Form.{Form}
+use Rattle.dsv_table.specs.Verdicts.{HasFallingForm}
 use Rattle.dsv_tested.specs.Tested.{side_of, tested_of}
 use Rattle.dsv_tested.specs.declared.side.Tested.TheVariants as tested
 use Rattle.dsv_certcheck.specs.Checks.{BecomesFor}
@@ -26,17 +25,11 @@ use Rattle.dsv_certfile.specs.declared.job.CertifiedJob.{CertifiedJob}
 use Rattle.dsv_certfile.specs.declared.job.Size.{Size}
 use Rattle.dsv_certfile.specs.declared.job.Size.TheVariants as size
 
--- The form is positive and strictly falls along every nonzero trajectory of the polynomial.
-abbrev pub IsFalling : List ℤ → Form → Type 0
-IsFalling poly form =
-    StrictlyFallsAlong (length poly - 1) (vector_of poly) (matrix_of form.rows)
-
--- The polynomial of the side that the property tests has a form that falls.
+-- A form strictly falls along each trajectory of the polynomial that the property tests.
 pub record HasFalling (q : QuantisedView) (p : RootProperty) : Type 0 where
   pub poly : List ℤ
   pub tested : tested_of q (side_of p) ≡ Ok (tested.Poly poly)
-  pub form : Form
-  pub falls : IsFalling poly form
+  pub falls : HasFallingForm (length poly - 1) (vector_of poly)
 
 -- the controller has the property, over so many samples where it is one of runs
 abbrev pub Has : QuantisedView → Property → Size → Type 0

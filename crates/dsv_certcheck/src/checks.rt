@@ -1,19 +1,23 @@
 // The check of certificates against controllers.
-ghost use Rattle.std.specs.Prelude.{◌≡◌, ◌≤◌, OnOk, IfOk};
+ghost use Rattle.std.specs.Prelude.{◌≡◌, ◌-◌, ◌≤◌, length, OnOk, IfOk};
+ghost use Rattle.dsv_algebra.specs.Vectors.{vector_of};
 ghost use Rattle.dsv_certcheck.specs.Checks.{Finds, IsChecked, as_checked, format_check};
 ghost use Rattle.dsv_certcheck.specs.Checks.{words_check};
 ghost use Rattle.dsv_certcheck.specs.Checks.{hints_check, invariant_check, error_check};
 ghost use Rattle.dsv_certcheck.specs.Checks.{depth_check, gain_check, falls_check, offer_check};
-ghost use Rattle.dsv_certcheck.specs.Shown.{Has, IsShownOf, IsFalling};
+ghost use Rattle.dsv_certcheck.specs.Checks.{roots_table_check};
+ghost use Rattle.dsv_certcheck.specs.Shown.{Has, IsShownOf};
 ghost use Rattle.dsv_certcheck.specs.Shown.{ShowsNear, StaysAsOffered, IsNearOf};
 ghost use Rattle.dsv_certcheck.specs.ShownErrors.{StaysShown, without_error};
 ghost use Rattle.dsv_certfile.specs.Limits.{most_gain_depth};
 ghost use Rattle.dsv_certfile.specs.Texts.{job_of};
 ghost use Rattle.dsv_gain.specs.Controllers.{NeverOverflows};
+ghost use Rattle.dsv_table.specs.Verdicts.{HasFallingForm};
 
 use crate::check_refusal::CheckRefusal;
 use crate::checked_logs::{RunQuestion, check_run, check_set};
 use crate::line_numbers::{FORMAT_LINE, VERSION_LINE, form_line, kind_line};
+use crate::tables::check_poly_table;
 use dsv_certfile::{
     CertWords, Certificate, CertifiedJob, CheckFault, MOST_GAIN_DEPTH, MOST_JOB_SAMPLES,
     NARROW_WORD_BITS, Size,
@@ -21,6 +25,7 @@ use dsv_certfile::{
 use dsv_forms::{Falls, Poly, check_falls};
 use dsv_gain::{Outlook, ShownError, controller_error, overflow_gain};
 use dsv_hints::Log;
+use dsv_integer::Numeral;
 use dsv_names::{Property, RunProperty};
 use dsv_quantiser::{Quantised, quantise_in};
 use dsv_reader::Controller;
@@ -171,7 +176,7 @@ fn check_gain(
 /// Checks that a form falls along the trajectories of a polynomial.
 fn check_offer(words: CertWords, poly: &Poly, offer: &Falls) -> Result<(), CheckRefusal>
     ensures found { result ≡ offer_check words poly.now offer.now }
-    ensures shows { OnOk result (IsFalling poly.now offer.now.form) }
+    ensures shows { OnOk result (HasFallingForm (length poly.now - 1) (vector_of poly.now)) }
 {
     if offer.form.d as usize != poly.order() {
         return Err(CheckRefusal::misfit(words));
@@ -197,6 +202,29 @@ fn check_form(quantised: &Quantised, job: &CertifiedJob, offer: &Falls) -> Resul
             side_of(property),
         )? {
             Tested::Poly(poly) => check_offer(job.words, &poly, offer),
+            Tested::NoZeros => Err(CheckRefusal::NoZeros),
+        },
+        (_, _) => Err(CheckRefusal::misfit(job.words)),
+    }
+}
+
+/// Checks that a table shows the property of a job.
+fn check_roots_table(
+    alloc: Global,
+    quantised: &Quantised,
+    job: &CertifiedJob,
+    coefficients: &[Numeral],
+) -> Result<(), CheckRefusal>
+    ensures found { Finds result (roots_table_check job.now.words quantised.now job.now.property
+        job.now.size coefficients.now) }
+    ensures shows { OnOk result (Has quantised.now job.now.property job.now.size) }
+{
+    match (job.property, job.size) {
+        (Property::OfRoots(property), Size::NoSize) => match polynomial_of(
+            quantised,
+            side_of(property),
+        )? {
+            Tested::Poly(poly) => check_poly_table(alloc, job.words, &poly, coefficients),
             Tested::NoZeros => Err(CheckRefusal::NoZeros),
         },
         (_, _) => Err(CheckRefusal::misfit(job.words)),
@@ -238,17 +266,35 @@ fn check_words(
             check_gain(alloc, quantised, job, *depth, offer)
         }
         Certificate::Falls { job, offer } => without_error(check_form(quantised, job, offer)),
-        Certificate::Table { job, .. } => Err(CheckRefusal::misfit(job.words)),
+        Certificate::Table { job, coefficients } => without_error(check_roots_table(
+            alloc,
+            quantised,
+            job,
+            coefficients.as_slice(),
+        )),
     }
 }
 
 /// Checks a certificate against a controller: the controller's words have to be of the format that
 /// the certificate says, or where it says none, of at most `NARROW_WORD_BITS` bits; then these
-/// words in the certificate's modes, and from these the formulas of its job, or the polynomial, are
-/// made anew, and nothing else that the certificate says is believed. What passes has the
-/// certificate's property, whatever else is in the certificate; and if a gain has an offer beside
-/// it, the answer is how far this shows the output to be from that of exact runs. It takes memory
-/// for a formula and a log at a time.
+/// words in the certificate's modes, and from these the formulas of its job, or the polynomial and
+/// its table, are made anew, and nothing else that the certificate says is believed. What passes
+/// has the certificate's property, whatever else is in the certificate; and if a gain has an offer
+/// beside it, the answer is how far this shows the output to be from that of exact runs. It takes
+/// memory for a formula and a log at a time, or for rows of a table.
+///
+/// # Errors
+///
+/// In this order: the format's line, if the words have another; why the controller has no words
+/// in the modes; and then what the kind is refused for. For a table this is, in this order: the
+/// kind's line, if its job isn't a property of the controller's roots; at which index a number is
+/// too wide on the way to the polynomial, or that all coefficients of the numerator are 0; the
+/// kind's line, if the certificate has another number of coefficients than the polynomial, or more
+/// than [`MOST_COEFFICIENTS`]; the first line whose number isn't the polynomial's; and the kind's
+/// line, if a first number of the polynomial's table isn't positive. Want of memory comes wherever
+/// there is none.
+///
+/// [`MOST_COEFFICIENTS`]: dsv_certfile::MOST_COEFFICIENTS
 pub fn check(
     alloc: Global,
     controller: &Controller,

@@ -11,6 +11,7 @@ mod law;
 mod line_numbers;
 mod loops;
 mod state_forms;
+mod tables;
 
 pub use check_refusal::CheckRefusal;
 pub use checks::check;

@@ -1,25 +1,20 @@
 // The check of certificates against controllers in a loop with a plant.
-ghost use Rattle.std.specs.Prelude.{◌≡◌, ◌≤◌, length, OnOk};
-ghost use Rattle.dsv_table.specs.Table.{verdict_of};
-ghost use Rattle.dsv_table.specs.declared.verdict.TableVerdict.TheVariants.{Inside};
+ghost use Rattle.std.specs.Prelude.{OnOk};
 ghost use Rattle.dsv_certcheck.specs.Checks.{Finds};
-ghost use Rattle.dsv_certcheck.specs.LoopChecks.{coefficients_check, table_check, loop_check};
-ghost use Rattle.dsv_certcheck.specs.LoopChecks.{words_loop_check, IsLoopChecked, LoopHas};
-ghost use Rattle.dsv_certcheck.specs.LoopChecks.{IsLoopShownOf};
-ghost use Rattle.dsv_certfile.specs.Limits.{most_coefficients};
+ghost use Rattle.dsv_certcheck.specs.LoopChecks.{loop_check, words_loop_check};
+ghost use Rattle.dsv_certcheck.specs.LoopChecks.{IsLoopChecked, LoopHas, IsLoopShownOf};
 ghost use Rattle.dsv_certfile.specs.Texts.{job_of};
 
 use crate::check_refusal::CheckRefusal;
 use crate::checks::check_format;
-use crate::line_numbers::{body_line, kind_line};
-use dsv_certfile::{CertWords, Certificate, CertifiedJob, CheckFault, MOST_COEFFICIENTS, Size};
+use crate::tables::check_table;
+use dsv_certfile::{Certificate, CertifiedJob, Size};
 use dsv_fraction::Frac;
-use dsv_integer::{Integer, Numeral};
+use dsv_integer::Numeral;
 use dsv_loop::loop_polynomial;
 use dsv_names::{Property, RootProperty};
 use dsv_quantiser::{Quantised, quantise_in};
 use dsv_reader::{Controller, Plant};
-use dsv_table::{TableVerdict, verdict_of};
 use std::alloc::Global;
 use std::slice;
 
@@ -28,48 +23,6 @@ use std::slice;
 struct LoopSide<'a> {
     sample_time: Frac,
     plant: &'a Plant,
-}
-
-/// Checks that these are the polynomial's coefficients, the first of which stands in this line.
-fn check_coefficients(line: u64, numbers: &[Numeral], poly: &[Integer]) -> Result<(), CheckRefusal>
-    requires low { line ≤ 5 }
-    requires few { length numbers.now ≤ most_coefficients }
-    requires many { length poly.now ≡ length numbers.now }
-    ensures { result ≡ coefficients_check line numbers.now poly.now }
-{
-    for i in 0..numbers.len() {
-        if !numbers[i].number().equals(&poly[i]) {
-            return Err(CheckRefusal::Line {
-                line: line + i as u64,
-                fault: CheckFault::Table,
-            });
-        }
-    }
-    Ok(())
-}
-
-/// Checks that these are the polynomial's coefficients, and that its table has positive first
-/// numbers alone.
-fn check_table(
-    alloc: Global,
-    words: CertWords,
-    poly: &[Integer],
-    coefficients: &[Numeral],
-) -> Result<(), CheckRefusal>
-    ensures found { Finds result (table_check words poly.now coefficients.now) }
-    ensures shows { OnOk result (verdict_of poly.now ≡ Inside) }
-{
-    if coefficients.len() != poly.len() || coefficients.len() > MOST_COEFFICIENTS as usize {
-        return Err(CheckRefusal::misfit(words));
-    }
-    check_coefficients(body_line(words), coefficients, poly)?;
-    match verdict_of(poly, alloc)? {
-        TableVerdict::Inside => Ok(()),
-        TableVerdict::NotInside { .. } => Err(CheckRefusal::Line {
-            line: kind_line(words),
-            fault: CheckFault::Table,
-        }),
-    }
 }
 
 /// Checks that a table shows the property of a job, for words that run with this sample time in a
@@ -131,6 +84,7 @@ fn check_loop_words(
 /// table isn't positive. Want of memory comes wherever there is none.
 ///
 /// [`check`]: crate::check
+/// [`MOST_COEFFICIENTS`]: dsv_certfile::MOST_COEFFICIENTS
 pub fn check_loop(
     alloc: Global,
     controller: &Controller,

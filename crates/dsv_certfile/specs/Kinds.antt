@@ -22,14 +22,15 @@ abbrev pub kinds : List Kind
 kinds = kind.Hints ∷ kind.Invariant ∷ kind.Gain ∷ kind.Error ∷ kind.Falls ∷ kind.Table ∷ []
 
 -- A log shows a property of bounded runs, an invariant or a gain, with a box or without, that no
--- run overflows, a falling form a property of roots, a table the stability of a loop. No kind shows
--- that a sample is in time.
+-- run overflows, a falling form or a table a property of roots, a table the stability of a loop. No
+-- kind shows that a sample is in time.
 abbrev pub is_kind_for : Property → Size → Kind → Bool
 is_kind_for (property.OfRuns p) (size.Samples k) kind.Hints = true
 is_kind_for (property.OfRuns run.Overflow) size.Unbounded kind.Invariant = true
 is_kind_for (property.OfRuns run.Overflow) size.Unbounded kind.Gain = true
 is_kind_for (property.OfRuns run.Overflow) size.Unbounded kind.Error = true
 is_kind_for (property.OfRoots p) size.NoSize kind.Falls = true
+is_kind_for (property.OfRoots p) size.NoSize kind.Table = true
 is_kind_for (property.OfRoots root.Stability) size.OfLoop kind.Table = true
 is_kind_for p s k = false
 

@@ -76,6 +76,7 @@ impl Kind {
             (Property::OfRuns(RunProperty::Overflow), Size::Unbounded, Kind::Gain) => true,
             (Property::OfRuns(RunProperty::Overflow), Size::Unbounded, Kind::Error) => true,
             (Property::OfRoots(_), Size::NoSize, Kind::Falls) => true,
+            (Property::OfRoots(_), Size::NoSize, Kind::Table) => true,
             (Property::OfRoots(RootProperty::Stability), Size::OfLoop, Kind::Table) => true,
             (_, _, _) => false,
         }

@@ -28,7 +28,7 @@ const FALLING_FORM: &str = "dsv-certificate 1\n\
     rest 0 0\n\
     end\n";
 
-/// A form of no places, for a loop.
+/// A table of one coefficient, for a loop.
 const LOOP: &str = "dsv-certificate 1\n\
     job STABILITY DFI FLOOR WRAPAROUND plant\n\
     kind table 1\n\
@@ -44,6 +44,18 @@ const TEXTS: &[&str] = &[
     fall 1 0\n\
     end\n",
     LOOP,
+    "dsv-certificate 1\n\
+    job STABILITY DFI FLOOR WRAPAROUND\n\
+    kind table 3\n\
+    coefficient 2\n\
+    coefficient -2\n\
+    coefficient 1\n\
+    end\n",
+    "dsv-certificate 1\n\
+    job MINIMUM_PHASE DDFI NEAREST SATURATE\n\
+    kind table 1\n\
+    coefficient 170141183460469231731687303715884105728\n\
+    end\n",
     "dsv-certificate 2\n\
     job STABILITY TDDFII NEAREST SATURATE plant\n\
     format 2 46\n\

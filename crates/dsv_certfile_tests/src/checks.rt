@@ -21,6 +21,26 @@ const GAIN: &str = "digital_system d = { .b = {0.5}, .b_size = 1, .a = {1.0}, .a
 const SUM: &str = "digital_system d = { .b = {1.0}, .b_size = 1, .a = {1.0, -0.9}, .a_size = 2 }; \
     implementation r = { .int_bits = 2, .frac_bits = 2, .max = 1.0, .min = -1.0 };";
 
+/// A zero at -0.5, and a pole at 0.5.
+const ONE_ZERO: &str = "digital_system d = { .b = {1.0, 0.5}, .b_size = 2, .a = {1.0, -0.5}, \
+    .a_size = 2 }; implementation r = { .int_bits = 2, .frac_bits = 2, .max = 1.0, .min = -1.0 };";
+
+/// A zero at -1, and a pole at 0.5.
+const ZERO_ON_CIRCLE: &str = "digital_system d = { .b = {1.0, 1.0}, .b_size = 2, \
+    .a = {1.0, -0.5}, .a_size = 2 }; implementation r = { .int_bits = 2, .frac_bits = 2, \
+    .max = 1.0, .min = -1.0 };";
+
+/// A pole at 0.5; in the delta operator the words 4 and 4 with 1/2.
+const DELTA_POLE: &str = "digital_system d = { .b = {0.0, 0.5}, .b_size = 2, .a = {1.0, -0.5}, \
+    .a_size = 2 }; implementation r = { .int_bits = 2, .frac_bits = 2, .max = 1.0, .min = -1.0, \
+    .delta = 0.5 };";
+
+/// A pole at 0.5; in the delta operator its first coefficient in z is 2^52, and its second one no
+/// multiple of 2^7.
+const WIDE_POLE: &str = "digital_system d = { .b = {0.0, 0.5}, .b_size = 2, .a = {1.0, -0.5}, \
+    .a_size = 2 }; implementation r = { .int_bits = 3, .frac_bits = 26, .max = 1.0, .min = -1.0, \
+    .delta = 0.3 };";
+
 /// Five products in words of 32 bits.
 const LARGE: &str = "digital_system d = { .b = {1.0}, .b_size = 1, .a = {1.0, 0.0, 0.5}, \
     .a_size = 3 }; implementation r = { .int_bits = 16, .frac_bits = 16, .max = 1.0, \
@@ -180,6 +200,179 @@ const FORMS: &[Case] = &[
         "positive 1 0\n",
         "fall 1 0\nend\n",
         Err(CheckRefusal::NoZeros),
+    ),
+];
+
+/// Tables of polynomials, and what is wrong with some: 2 z^2 - 2 z + 1 has the rows (2, -2, 1), (3,
+/// -2) and (5), z - 1 has (1, -1) and (0), z + 1 has (1, 1) and (0), and 2 z - 1 and 2 z + 1 have
+/// a second row of 3.
+const TABLES: &[Case] = &[
+    Case(
+        TWO_POLES,
+        UNSAID,
+        "kind table 3\n",
+        "coefficient 2\ncoefficient -2\ncoefficient 1\nend\n",
+        Ok(()),
+    ),
+    Case(
+        ONE_ZERO,
+        "dsv-certificate 1\njob MINIMUM_PHASE DFI FLOOR WRAPAROUND\n",
+        "kind table 2\n",
+        "coefficient 2\ncoefficient 1\nend\n",
+        Ok(()),
+    ),
+    Case(
+        GAIN,
+        UNSAID,
+        "kind table 1\n",
+        "coefficient 1\nend\n",
+        Ok(()),
+    ),
+    Case(
+        DELTA_POLE,
+        "dsv-certificate 1\njob STABILITY DDFII NEAREST SATURATE\n",
+        "kind table 2\n",
+        "coefficient 2\ncoefficient -1\nend\n",
+        Ok(()),
+    ),
+    // the words, with their common power of two
+    Case(
+        TWO_POLES,
+        UNSAID,
+        "kind table 3\n",
+        "coefficient 4\ncoefficient -4\ncoefficient 2\nend\n",
+        Err(CheckRefusal::Line {
+            line: 4,
+            fault: CheckFault::Table,
+        }),
+    ),
+    Case(
+        TWO_POLES,
+        UNSAID,
+        "kind table 3\n",
+        "coefficient 2\ncoefficient -18446744073709551618\ncoefficient 1\nend\n",
+        Err(CheckRefusal::Line {
+            line: 5,
+            fault: CheckFault::Table,
+        }),
+    ),
+    Case(
+        TWO_POLES,
+        UNSAID,
+        "kind table 3\n",
+        "coefficient 2\ncoefficient -2\ncoefficient 0\nend\n",
+        Err(CheckRefusal::Line {
+            line: 6,
+            fault: CheckFault::Table,
+        }),
+    ),
+    // the denominator, when the numerator is tested
+    Case(
+        ONE_ZERO,
+        "dsv-certificate 1\njob MINIMUM_PHASE DFI FLOOR WRAPAROUND\n",
+        "kind table 2\n",
+        "coefficient 2\ncoefficient -1\nend\n",
+        Err(CheckRefusal::Line {
+            line: 5,
+            fault: CheckFault::Table,
+        }),
+    ),
+    // a root on the circle
+    Case(
+        SUM,
+        UNSAID,
+        "kind table 2\n",
+        "coefficient 1\ncoefficient -1\nend\n",
+        Err(CheckRefusal::Line {
+            line: 3,
+            fault: CheckFault::Table,
+        }),
+    ),
+    Case(
+        ZERO_ON_CIRCLE,
+        "dsv-certificate 1\njob MINIMUM_PHASE DFI FLOOR WRAPAROUND\n",
+        "kind table 2\n",
+        "coefficient 1\ncoefficient 1\nend\n",
+        Err(CheckRefusal::Line {
+            line: 3,
+            fault: CheckFault::Table,
+        }),
+    ),
+    // a wrong coefficient, before the root on the circle
+    Case(
+        SUM,
+        UNSAID,
+        "kind table 2\n",
+        "coefficient 1\ncoefficient 0\nend\n",
+        Err(CheckRefusal::Line {
+            line: 5,
+            fault: CheckFault::Table,
+        }),
+    ),
+    // a coefficient too many, and one too few, before a wrong one
+    Case(
+        TWO_POLES,
+        UNSAID,
+        "kind table 4\n",
+        "coefficient 1\ncoefficient -2\ncoefficient 1\ncoefficient 0\nend\n",
+        Err(CheckRefusal::Line {
+            line: 3,
+            fault: CheckFault::Shape,
+        }),
+    ),
+    Case(
+        TWO_POLES,
+        UNSAID,
+        "kind table 2\n",
+        "coefficient 1\ncoefficient -2\nend\n",
+        Err(CheckRefusal::Line {
+            line: 3,
+            fault: CheckFault::Shape,
+        }),
+    ),
+    // no polynomial, before another number of coefficients
+    Case(
+        ONE_POLE,
+        "dsv-certificate 1\njob MINIMUM_PHASE DFI FLOOR WRAPAROUND\n",
+        "kind table 1\n",
+        "coefficient 0\nend\n",
+        Err(CheckRefusal::NoZeros),
+    ),
+    Case(
+        WIDE_POLE,
+        "dsv-certificate 1\njob STABILITY DDFI FLOOR WRAPAROUND\n",
+        "kind table 1\n",
+        "coefficient 1\nend\n",
+        Err(CheckRefusal::Wide { index: 0 }),
+    ),
+    // no words, before the wrong number of coefficients
+    Case(
+        SUM,
+        "dsv-certificate 1\njob STABILITY DDFI FLOOR WRAPAROUND\n",
+        "kind table 1\n",
+        "coefficient 1\nend\n",
+        Err(CheckRefusal::Quant(QuantRefusal::DeltaNotPositive { wanted: 0 })),
+    ),
+    // a line further down, after a format
+    Case(
+        TWO_POLES,
+        SAID,
+        "format 2 2\nkind table 3\n",
+        "coefficient 2\ncoefficient 2\ncoefficient 1\nend\n",
+        Err(CheckRefusal::Line {
+            line: 6,
+            fault: CheckFault::Table,
+        }),
+    ),
+    Case(
+        SUM,
+        SAID,
+        "format 2 2\nkind table 2\n",
+        "coefficient 1\ncoefficient -1\nend\n",
+        Err(CheckRefusal::Line {
+            line: 4,
+            fault: CheckFault::Table,
+        }),
     ),
 ];
 
@@ -454,6 +647,11 @@ fn are_found(alloc: Global, cases: &[Case]) -> bool {
 #[test]
 fn a_form_is_refused_at_the_line_of_its_fault(rt: HostRuntime) {
     assert!(rt; are_found(rt.alloc(), FORMS));
+}
+
+#[test]
+fn a_table_is_refused_at_the_line_of_its_fault(rt: HostRuntime) {
+    assert!(rt; are_found(rt.alloc(), TABLES));
 }
 
 #[test]

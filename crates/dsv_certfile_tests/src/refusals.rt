@@ -411,7 +411,9 @@ const FORMS: &[Refused] = &[
 ];
 
 const TABLES: &[Refused] = &[
-    Refused(STABILITY, "kind table 2\n", 3, TextFault::Kind),
+    Refused(OVERFLOW, "kind table 2\n", 3, TextFault::Kind),
+    Refused(UNBOUNDED, "kind table 2\n", 3, TextFault::Kind),
+    Refused(STABILITY, "kind table 26\n", 3, TextFault::Number),
     Refused(LOOP, "kind falls 0\n", 3, TextFault::Kind),
     Refused(LOOP, "kind table 0\n", 3, TextFault::Number),
     Refused(LOOP, "kind table 26\n", 3, TextFault::Number),
