@@ -4,7 +4,9 @@ ghost use Rattle.std.specs.Prelude.{IfOk, IfErr, IfSome, IfNone};
 ghost use Rattle.std.specs.List.{All};
 ghost use Rattle.dsv_cascade.specs.Sections.{most_sections, place_of, IsAlike, Fits, IsCascade};
 ghost use Rattle.dsv_cascade.specs.Sections.{IsMisfit, IsRefused};
+ghost use Rattle.dsv_cascade.specs.Cascades.{sections_of};
 
+use dsv_base::NoMemory;
 use dsv_names::Realisation;
 use dsv_quantiser::Quantised;
 use dsv_word::Format;
@@ -118,6 +120,16 @@ impl Cascade {
             return Err(refusal);
         }
         Ok(Cascade { first, later })
+    }
+
+    /// The sections in one list, section 0 first. It takes memory for one section, and fails only
+    /// for want of that.
+    pub fn into_sections(self) -> Result<Vec<Quantised>, NoMemory>
+        ensures { IfOk result (λ sections. sections.items ≡ sections_of self) }
+    {
+        let mut sections = self.later;
+        sections.insert(0, self.first)?;
+        Ok(sections)
     }
 
     /// Section 0, whose format is the cascade's and whose inputs are its inputs.

@@ -25,7 +25,6 @@ use Rattle.dsv_certfile.specs.declared.certificate.Certificate.{Certificate}
 use Rattle.dsv_certfile.specs.declared.certificate.Certificate.TheVariants as certificate
 use Rattle.dsv_certfile.specs.declared.job.CertWords.{CertWords}
 use Rattle.dsv_certfile.specs.Limits.{most_coefficients}
-use Rattle.dsv_certfile.specs.declared.job.CertifiedJob.{CertifiedJob}
 use Rattle.dsv_certfile.proofs.LawfulWritten.{table_is_lawful}
 use Rattle.dsv_certfile.proofs.WrittenCertificates.{written_is_read}
 use Rattle.dsv_certcheck.specs.Checks.{Checked, format_check, BecomesFor}
@@ -33,7 +32,6 @@ use Rattle.dsv_certcheck.specs.LoopChecks.{words_loop_check, IsLoopFoundOf, IsLo
 use Rattle.dsv_certcheck.specs.declared.check_refusal.CheckRefusal.{CheckRefusal}
 use Rattle.dsv_certcheck.specs.declared.check_refusal.CheckRefusal.TheVariants as refusal
 use Rattle.dsv_certcheck.proofs.Passing.{loop_passes}
-use Rattle.dsv_table.specs.RootSize.{is_inside}
 use Rattle.dsv_report.specs.Output.{table_of, loop_job_with}
 use Rattle.dsv_report.specs.declared.answers.Answer.{Answer}
 use Rattle.dsv_report.specs.declared.answers.Answer.TheVariants as answer
@@ -47,7 +45,7 @@ use Rattle.dsv_cli.specs.Headline.{longest_file, longest_certificate, CameOf, Ha
 use Rattle.dsv_cli.specs.LoopChecks.{IsCertificateOf, IsOfLoopCertificate, IsLoopCheckRow}
 use Rattle.dsv_cli.specs.Loops.{IsPlantOf, IsPlantUnread, IsOfLoop, IsLoopRow, SaysLoop}
 use Rattle.dsv_cli.proofs.AcceptedLemmas.{IsInWords, same_words, accepted_of, one_spelled, read_or_refused, too_long}
-use Rattle.dsv_cli.proofs.CertifiedWords.{format_fits}
+use Rattle.dsv_cli.proofs.CertifiedWords.{format_fits, wanted_table}
 use Rattle.dsv_cli.proofs.OneAnswerStages.{refused, in_words, one_stage}
 use Rattle.dsv_cli.proofs.Told.{of_told}
 
@@ -88,11 +86,12 @@ record IsOfPolynomial (came : Result (List ℤ) LoopRefusal) (poly : List ℤ) (
   pub some : 1 ≤ length poly
   pub verdict_is : verdict_of poly ≡ v
 
-decided : (came : Result (List ℤ) LoopRefusal) (found : TableFinding) → IsOfLoop came (Ok (answer.OfTable found)) → IsOfPolynomial came found.poly found.verdict
-decided (Ok cs) found h =
-    let same : cs ≡ found.poly = sym h.1.poly in
-    subst (λ ps. IsOfPolynomial (Ok cs) ps found.verdict) same (record { came_is = refl; few = h.0; some = h.1.some; verdict_is = sym h.1.verdict })
-decided (Err why) found h = absurd h
+decided : (came : Result (List ℤ) LoopRefusal) (found : TableFinding) → IsOfLoop came (Ok (answer.OfTable found)) → length found.poly ≤ most_coefficients → IsOfPolynomial came found.poly found.verdict
+decided (Ok cs) found h few =
+    let same : cs ≡ found.poly = sym h.poly in
+    let short : length cs ≤ most_coefficients = rw h.poly at few in
+    subst (λ ps. IsOfPolynomial (Ok cs) ps found.verdict) same (record { came_is = refl; few = short; some = h.some; verdict_is = sym h.verdict })
+decided (Err why) found h few = absurd h
 
 -- what is said of the controller's words
 words_said : (old new : FilesSeen) (asked : AskedLoop) (words : CertWords) (found : Answer) (controller : List ℕ) → old.held asked.file ≡ Some controller → SaysLoop old new asked (Ok found) words → HasWords controller words
@@ -120,11 +119,6 @@ table_fits controller plant asked words poly d p q a b h becomes is known =
       job = refl;
     }
 
--- it is wanted of a table whose first numbers are positive alone
-wanted_table : (job : CertifiedJob) (v : TableVerdict) (poly : List ℤ) (c : Certificate) → (if is_inside v then Some (certificate.Table job poly) else None) ≡ Some c → (v ≡ table.Inside) × (certificate.Table job poly ≡ c)
-wanted_table job table.Inside poly c e = (refl, cc)
-wanted_table job (table.NotInside row) poly c e = absurd (cc)
-
 certificate_fits : (controller plant : List ℕ) (old new : FilesSeen) (asked : AskedLoop) (words : CertWords) (found : Answer) (c : Certificate) → old.held asked.file ≡ Some controller → old.held asked.plant ≡ Some plant
     → IsLoopRow old new asked (Ok found) → HasWords controller words → table_of (loop_job_with asked words) found ≡ Some c → IsTyped c → IsLoopAcceptable controller plant c
 certificate_fits controller plant old new asked words (answer.OfTable found) c held plant_held row said e known =
@@ -135,7 +129,7 @@ certificate_fits controller plant old new asked words (answer.OfTable found) c h
     subst (IsLoopAcceptable controller plant) w.1
     (table_fits controller plant asked words found.poly d p q (in_file (λ bytes. IsController bytes d) old asked.file controller held row.2.controller_file)
     (in_file (λ bytes. IsPlantOf bytes p) old asked.plant plant plant_held row.2.plant_file) said row.3.words
-    (subst (IsOfPolynomial (loop_of (q ∷ []) d.sample_time p) found.poly) w.0 (decided (loop_of (q ∷ []) d.sample_time p) found row.3.loop)) (subst IsTyped (sym w.1) known))
+    (subst (IsOfPolynomial (loop_of (q ∷ []) d.sample_time p) found.poly) w.0 (decided (loop_of (q ∷ []) d.sample_time p) found row.3.loop row.3.few)) (subst IsTyped (sym w.1) known))
 certificate_fits controller plant old new asked words found c held plant_held row said e known = absurd (cc)
 
 -- ---- what keeps the files from being a loop's

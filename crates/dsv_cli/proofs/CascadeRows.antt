@@ -1,6 +1,6 @@
 -- The rows of jobs for cascades: what each stage gives, and what follows of it.
 use Rattle.std.proofs.Common.{◌≡◌, ◌<◌, ◌≤◌, ◌+◌, ℕ, suc, List, [], ◌∷◌, length, take, get_or, refl, arith}
-use Rattle.std.specs.Prelude.{Ok, Err, ℤ}
+use Rattle.std.specs.Prelude.{true, false, Ok, Err, ℤ}
 use Rattle.std.specs.List.{All}
 use Rattle.std.proofs.lemmas.List.Elements.{All-nil, All-cons}
 use Rattle.std.proofs.lemmas.Option.{slice_get_read}
@@ -46,8 +46,10 @@ IsTaskStop stop.NoMemory = Unit {0}
 IsTaskStop other = ⊥
 
 task_stop : (task : CascadeTask) (c : CascadeView) (why : Stop) → IsOfSeries task c (Err why) → IsTaskStop why
-task_stop decides_stability c stop.NoMemory h = tt
-task_stop decides_stability c why h = absurd h
+task_stop (decides_stability false) c stop.NoMemory h = tt
+task_stop (decides_stability false) c why h = absurd h
+task_stop (decides_stability true) c stop.NoMemory h = tt
+task_stop (decides_stability true) c why h = absurd h
 task_stop (searches_overflow samples conflicts) c (stop.JobSize size) h = tt
 task_stop (searches_overflow samples conflicts) c stop.NoMemory h = tt
 task_stop (searches_overflow samples conflicts) c why h = absurd h
@@ -57,13 +59,13 @@ task_stop (simulates_series inputs) c (stop.InputRange index value) h = tt
 task_stop (simulates_series inputs) c stop.NoMemory h = tt
 task_stop (simulates_series inputs) c why h = absurd h
 
-stop_row : (old new : FilesSeen) (asked : AskedCascade) (c : CascadeView) (why : Stop) → IsCascadeOf old asked c → IsOfSeries asked.task c (Err why) → IsTaskStop why → IsCascadeRow old new asked (Err why)
+stop_row : (old new : FilesSeen) (asked : AskedCascade) (c : CascadeView) (why : Stop) → IsCascadeOf old asked.file asked.later asked.design c → IsOfSeries asked.task c (Err why) → IsTaskStop why → IsCascadeRow old new asked (Err why)
 stop_row old new asked c (stop.InputRange index value) k h t = (c, k, h)
 stop_row old new asked c (stop.JobSize size) k h t = (c, k, h)
 stop_row old new asked c stop.NoMemory k h t = tt
 stop_row old new asked c why k h t = absurd t
 
-pub row_of_task : (old new : FilesSeen) (asked : AskedCascade) (c : CascadeView) (found : Outcome) → IsCascadeOf old asked c → IsOfSeries asked.task c found → IsCascadeRow old new asked found
+pub row_of_task : (old new : FilesSeen) (asked : AskedCascade) (c : CascadeView) (found : Outcome) → IsCascadeOf old asked.file asked.later asked.design c → IsOfSeries asked.task c found → IsCascadeRow old new asked found
 row_of_task old new asked c (Ok found) k h = (c, k, h)
 row_of_task old new asked c (Err why) k h = stop_row old new asked c why k h (task_stop asked.task c why h)
 

@@ -45,19 +45,19 @@ row_of_refused told old new job c r h b = record {
 
 -- ---- from the words on
 -- what a tested polynomial comes to is what its property does
-pub property_of : (p : RootProperty) (quantised : QuantisedView) (poly : List ℤ) (found : Outcome) → tested_of quantised (side_of p) ≡ Ok (tested.Poly poly) → IsDecision poly found → IsOfProperty p quantised found
-property_of p quantised poly (Ok answer.NoZeros) e h = absurd h
-property_of p quantised poly (Ok (answer.Wide index)) e h = absurd h
-property_of p quantised poly found e h = record { poly = poly; tested = e; decision = h }
+pub property_of : (p : RootProperty) (sc : Bool) (quantised : QuantisedView) (poly : List ℤ) (found : Outcome) → tested_of quantised (side_of p) ≡ Ok (tested.Poly poly) → IsDecision sc poly found → IsOfProperty p sc quantised found
+property_of p sc quantised poly (Ok answer.NoZeros) e h = absurd h
+property_of p sc quantised poly (Ok (answer.Wide index)) e h = absurd h
+property_of p sc quantised poly found e h = record { poly = poly; tested = e; decision = h }
 
 -- the words that the file's controller becomes
 pub accepted_words : (told : Option (List ℕ)) (job : Asked) (c : ControllerView) (quantised : QuantisedView) → CameOf told (λ bytes. IsController bytes c) → BecomesWords c job.design (Ok quantised)
     → CameOf told (λ bytes. IsAccepted job.design bytes (Ok quantised))
 accepted_words told job c quantised h b = along told (λ bytes a. accepted_in job.design bytes c (Ok quantised) b a) h
 
-tested_poly : (p : RootProperty) (quantised : QuantisedView) (job : Asked) (found : Outcome) (q : List ℤ) (k : IsOfPolynomial p quantised found) → (sc : Bool) → job.task ≡ decides p sc → q ≡ k.poly
+tested_poly : (p : RootProperty) (quantised : QuantisedView) (job : Asked) (found : Outcome) (q : List ℤ) (sc : Bool) (k : IsOfPolynomial p sc quantised found) → job.task ≡ decides p sc → q ≡ k.poly
     → (bytes : List ℕ) → IsAccepted job.design bytes (Ok quantised) → IsTested job bytes (Ok (tested.Poly q))
-tested_poly p quantised job found q k sc e same bytes a = record {
+tested_poly p quantised job found q sc k e same bytes a = record {
   property = p;
   schur_cohn = sc;
   task = e;
@@ -81,18 +81,23 @@ row_by told old new job c quantised (decides p sc) e (Ok (answer.Wide index)) b 
 }
 row_by told old new job c quantised (decides p sc) e (Ok (answer.Falls q offer fall)) b h k = record {
   belongs_to = (p, (sc, e));
-  comes_from = along told (λ bytes a. tested_poly p quantised job (Ok (answer.Falls q offer fall)) q k sc e k.decision.0 bytes (accepted_in job.design bytes c (Ok quantised) b a)) h;
+  comes_from = along told (λ bytes a. tested_poly p quantised job (Ok (answer.Falls q offer fall)) q sc k e k.decision.0 bytes (accepted_in job.design bytes c (Ok quantised) b a)) h;
   shows = k.decision.1;
 }
 row_by told old new job c quantised (decides p sc) e (Ok (answer.KeptAway q offer fall value)) b h k = record {
   belongs_to = (p, (sc, e));
-  comes_from = along told (λ bytes a. tested_poly p quantised job (Ok (answer.KeptAway q offer fall value)) q k sc e k.decision.0 bytes (accepted_in job.design bytes c (Ok quantised) b a)) h;
+  comes_from = along told (λ bytes a. tested_poly p quantised job (Ok (answer.KeptAway q offer fall value)) q sc k e k.decision.0 bytes (accepted_in job.design bytes c (Ok quantised) b a)) h;
   shows = k.decision.1;
 }
+row_by told old new job c quantised (decides p sc) e (Ok (answer.OfTable found)) b h k = record {
+  belongs_to = (p, subst (λ s. job.task ≡ decides p s) k.decision.1 e);
+  comes_from = along told (λ bytes a. tested_poly p quantised job (Ok (answer.OfTable found)) found.poly sc k e k.decision.0 bytes (accepted_in job.design bytes c (Ok quantised) b a)) h;
+  shows = k.decision.2;
+}
 row_by told old new job c quantised (decides p sc) e (Ok (answer.NoForm q kept verdict)) b h k = record {
-  belongs_to = (p, (sc, e));
-  comes_from = along told (λ bytes a. tested_poly p quantised job (Ok (answer.NoForm q kept verdict)) q k sc e k.decision.0 bytes (accepted_in job.design bytes c (Ok quantised) b a)) h;
-  shows = k.decision.1;
+  belongs_to = (p, subst (λ s. job.task ≡ decides p s) k.decision.1 e);
+  comes_from = along told (λ bytes a. tested_poly p quantised job (Ok (answer.NoForm q kept verdict)) q sc k e k.decision.0 bytes (accepted_in job.design bytes c (Ok quantised) b a)) h;
+  shows = k.decision.2;
 }
 row_by told old new job c quantised (decides p sc) e (Err stop.NoMemory) b h k = tt
 row_by told old new job c quantised (decides p sc) e found b h k = absurd k.decision

@@ -1,5 +1,5 @@
 -- The certificate of an answer passes its check for the words that the job's controller becomes.
-use Rattle.std.proofs.Common.{◌≡◌, ◌∙◌, sym, ap, subst, refl, ℕ, ◌≤◌, Bool, true, false, List, if◌then◌else◌, arith}
+use Rattle.std.proofs.Common.{◌≡◌, ◌∙◌, sym, ap, subst, refl, ℕ, ◌≤◌, Bool, true, false, List, length, if◌then◌else◌, arith}
 use Rattle.std.specs.Prelude.{Option, Some, None, Result, Ok}
 use Rattle.std.proofs.Math.IntN.{ℤ}
 use Rattle.dsv_base.specs.Seen.{FilesSeen}
@@ -30,10 +30,15 @@ use Rattle.dsv_certfile.specs.declared.certificate.Certificate.{Certificate}
 use Rattle.dsv_certfile.specs.declared.certificate.Certificate.TheVariants as certificate
 use Rattle.dsv_certfile.specs.declared.job.CertWords.{CertWords}
 use Rattle.dsv_certfile.specs.declared.job.Size.TheVariants as size
-use Rattle.dsv_certfile.proofs.LawfulWritten.{hints_are_lawful, invariant_is_lawful, gain_is_lawful, falls_are_lawful, falls_text}
-use Rattle.dsv_certfile.specs.Limits.{most_gain_depth}
+use Rattle.dsv_certfile.proofs.LawfulWritten.{hints_are_lawful, invariant_is_lawful, gain_is_lawful, falls_are_lawful, falls_text, table_is_lawful}
+use Rattle.dsv_certfile.specs.Limits.{most_gain_depth, most_coefficients}
+use Rattle.dsv_certfile.specs.declared.job.CertifiedJob.{CertifiedJob}
+use Rattle.dsv_table.specs.RootSize.{is_inside}
+use Rattle.dsv_table.specs.declared.finding.TableFinding.{TableFinding}
+use Rattle.dsv_table.specs.declared.verdict.TableVerdict.{TableVerdict}
+use Rattle.dsv_table.specs.declared.verdict.TableVerdict.TheVariants as table
 use Rattle.dsv_certcheck.specs.Checks.{format_check, words_check}
-use Rattle.dsv_certcheck.proofs.Passing.{format_passes, hints_pass, invariant_passes, gain_passes, falls_pass}
+use Rattle.dsv_certcheck.proofs.Passing.{format_passes, hints_pass, invariant_passes, gain_passes, falls_pass, roots_table_passes}
 use Rattle.dsv_command.specs.Jobs.{Task, decides, searches, seeks_set, measures_gain, Asked}
 use Rattle.dsv_names.specs.declared.design.Design.{Design}
 use Rattle.dsv_report.specs.Output.{job_with, certificate_for, certificate_of, offer_in}
@@ -44,7 +49,7 @@ use Rattle.dsv_roundoff.specs.declared.offers.RoundoffOffer.{RoundoffOffer}
 use Rattle.dsv_gain.specs.declared.outlook.Gain.{Gain}
 use Rattle.dsv_gain.proofs.Depths.{gains_again, gain_below}
 use Rattle.dsv_realise.specs.Netlists.{net_of}
-use Rattle.dsv_cli.specs.Headline.{HasWords, IsAccepted, IsTested, IsSearch, IsSeeking, IsMeasuring, ShowsFall, IsRow}
+use Rattle.dsv_cli.specs.Headline.{HasWords, IsAccepted, IsTested, IsSearch, IsSeeking, IsMeasuring, ShowsFall, ShowsTable, IsRow}
 use Rattle.dsv_cli.specs.Gain.{most_gain_samples, IsGainOf, IsErrorOf}
 use Rattle.dsv_bounded.specs.RunAnswers.{NeverHappens}
 use Rattle.dsv_cli.specs.Sets.{KeepsTo}
@@ -133,7 +138,32 @@ falls_fit bytes job words poly offer fall t s h known =
       job = refl;
     }
 
+abbrev table_for : Design → CertWords → RootProperty → List ℤ → Certificate
+table_for design words p poly = certificate.Table (job_with design words (OfRoots p) size.NoSize) poly
+
+table_fits : (bytes : List ℕ) (job : Asked) (words : CertWords) (found : TableFinding) (t : IsTested job bytes (Ok (tested.Poly found.poly))) → ShowsTable found → found.verdict ≡ table.Inside
+    → HasWords bytes words → IsTyped (table_for job.design words t.property found.poly) → IsAcceptable bytes (table_for job.design words t.property found.poly)
+table_fits bytes job words found t s inside h known =
+    let certified = job_with job.design words (OfRoots t.property) size.NoSize in
+    let few : length found.poly ≤ most_coefficients = omega (arith, s.few) in
+    record {
+      fits = record {
+        quantised = t.quantised;
+        accepted = t.accepted;
+        format = format_fits bytes words job.design (Ok t.quantised) h t.accepted;
+        passes = roots_table_passes words t.quantised t.property found.poly few t.tested (sym s.finding.verdict ∙ inside);
+      };
+      lawful = table_is_lawful certified found.poly refl known s.finding.some few;
+      text = refl;
+      job = refl;
+    }
+
 -- ---- from an answer's row
+-- a certificate is wanted of a table whose first numbers are positive alone
+pub wanted_table : (job : CertifiedJob) (v : TableVerdict) (poly : List ℤ) (c : Certificate) → (if is_inside v then Some (certificate.Table job poly) else None) ≡ Some c → (v ≡ table.Inside) × (certificate.Table job poly ≡ c)
+wanted_table job table.Inside poly c e = (refl, cc)
+wanted_table job (table.NotInside row) poly c e = absurd (cc)
+
 -- a job that wants no certificate has none
 some_if_wanted : (b : Bool) (o : Option Certificate) (c : Certificate) → (if b then o else None) ≡ Some c → o ≡ Some c
 some_if_wanted true o c e = e
@@ -156,6 +186,7 @@ HasCertificate (answer.Never log) = Unit {0}
 HasCertificate (answer.Always candidate logs) = Unit {0}
 HasCertificate (answer.InRanges gain error) = Unit {0}
 HasCertificate (answer.Falls poly offer fall) = Unit {0}
+HasCertificate (answer.OfTable found) = Unit {0}
 HasCertificate other = ⊥
 
 no_certificate : (c : Certificate) → None ≡ Some c → ⊥
@@ -166,6 +197,7 @@ has_certificate design words task (answer.Never log) c e = tt
 has_certificate design words task (answer.Always candidate logs) c e = tt
 has_certificate design words task (answer.InRanges gain error) c e = tt
 has_certificate design words task (answer.Falls poly offer fall) c e = tt
+has_certificate design words task (answer.OfTable found) c e = tt
 has_certificate design words (searches p samples conflicts) found c e = no_certificate c e
 has_certificate design words (seeks_set conflicts) found c e = no_certificate c e
 has_certificate design words measures_gain found c e = no_certificate c e
@@ -194,4 +226,9 @@ certificate_fits bytes old new job words (answer.Falls poly offer fall) c row sa
     let d = falls_for job.design words t.property offer in
     let is : d ≡ c = of_task job words (decides t.property t.schur_cohn) (answer.Falls poly offer fall) c d t.task refl e in
     subst (IsAcceptable bytes) is (falls_fit bytes job words poly offer fall t row.shows said (subst IsTyped (sym is) known))
+certificate_fits bytes old new job words (answer.OfTable found) c row said e known =
+    let t = of_told _ bytes row.comes_from in
+    let written = ap (λ x. certificate_for job.design words x (answer.OfTable found)) (sym t.task) ∙ certificate_of_task job words (answer.OfTable found) c e in
+    let w = wanted_table (job_with job.design words (OfRoots t.property) size.NoSize) found.verdict found.poly c written in
+    subst (IsAcceptable bytes) w.1 (table_fits bytes job words found t row.shows w.0 said (subst IsTyped (sym w.1) known))
 certificate_fits bytes old new job words found c row said e known = absurd (has_certificate job.design words job.task found c (certificate_of_task job words found c e))

@@ -18,9 +18,13 @@ use Rattle.dsv_cascade.specs.declared.stability.CascadeForms.{CascadeForms}
 use Rattle.dsv_cascade.specs.declared.stability.CascadeForms.TheVariants as forms
 use Rattle.dsv_command.specs.Cascades.{AskedCascade}
 use Rattle.dsv_command.specs.Ellipsoids.{EllipsoidSource, offered, sought, AskedEllipsoid}
+use Rattle.dsv_command.specs.CascadeLoops.{AskedCascadeLoop}
 use Rattle.dsv_command.specs.Loops.{AskedLoop}
-use Rattle.dsv_command.specs.States.{StateTask, checks_form, seeks_form, searches_states, measures_states, simulates_states, AskedStates}
-use Rattle.dsv_report.specs.Report.{answer_status, forms_status, table_status, stop_status}
+use Rattle.dsv_poly_table.specs.declared.sections.SectionTables.{SectionTables}
+use Rattle.dsv_poly_table.specs.declared.sections.SectionTables.TheVariants as section_tables
+use Rattle.dsv_cli.specs.CascadeLoops.{IsCascadeLoopRow}
+use Rattle.dsv_command.specs.States.{StateTask, decides_states, checks_form, seeks_form, searches_states, measures_states, simulates_states, AskedStates}
+use Rattle.dsv_report.specs.Report.{answer_status, forms_status, section_tables_status, table_status, stop_status}
 use Rattle.dsv_report.specs.declared.answers.Answer.{Answer}
 use Rattle.dsv_table.specs.declared.verdict.TableVerdict.{TableVerdict}
 use Rattle.dsv_table.specs.declared.verdict.TableVerdict.TheVariants as table
@@ -39,6 +43,11 @@ forms_verdict (forms.KeptAway section poly offer fall value) = inr (inl refl)
 forms_verdict (forms.Wide section index) = inr (inr refl)
 forms_verdict (forms.NoClosedForm section index) = inr (inr refl)
 
+section_tables_verdict : (found : SectionTables) → IsVerdict (section_tables_status found)
+section_tables_verdict (section_tables.Inside findings) = inl refl
+section_tables_verdict (section_tables.NotInside section found) = inr (inl refl)
+section_tables_verdict (section_tables.Wide section index) = inr (inr refl)
+
 table_verdict : (v : TableVerdict) → IsVerdict (table_status v)
 table_verdict table.Inside = inl refl
 table_verdict (table.NotInside row) = inr (inl refl)
@@ -48,6 +57,7 @@ answer_verdict (answer.Falls poly offer fall) = inl refl
 answer_verdict (answer.KeptAway poly offer fall value) = inr (inl refl)
 answer_verdict (answer.OfTable found) = table_verdict found.verdict
 answer_verdict (answer.OfSections found) = forms_verdict found
+answer_verdict (answer.OfSectionTables found) = section_tables_verdict found
 answer_verdict (answer.StateFalls many offer fall) = inl refl
 answer_verdict answer.NoStateForm = inr (inr refl)
 answer_verdict (answer.InEllipsoid offer) = inl refl
@@ -132,6 +142,7 @@ fault_rose old new (checks_form name) file.Controller h = absurd h
 fault_rose old new (checks_form name) (file.Section section) h = absurd h
 fault_rose old new (checks_form name) file.Plant h = absurd h
 fault_rose old new (seeks_form certified) which h = absurd h
+fault_rose old new decides_states which h = absurd h
 fault_rose old new (searches_states p samples conflicts) which h = absurd h
 fault_rose old new measures_states which h = absurd h
 fault_rose old new (simulates_states inputs) which h = absurd h
@@ -173,6 +184,12 @@ loop_job_rose : (old new : FilesSeen) (asked : AskedLoop) (which : WhichFile) �
 loop_job_rose old new asked which (inl h) = loop_rose old new asked.file asked.plant which h
 loop_job_rose old new asked which (inr h) = absurd (no_fault (loop_of (h.3.quantised ∷ []) h.0.sample_time h.1) which h.3.loop)
 
+cascade_loop_rose : (old new : FilesSeen) (asked : AskedCascadeLoop) (which : WhichFile) → IsCascadeLoopRow old new asked (Err (stop.ReadFault which)) → Rose old.faults new.faults
+cascade_loop_rose old new asked file.Controller h = h.shows.0
+cascade_loop_rose old new asked file.Certificate h = absurd h
+cascade_loop_rose old new asked (file.Section section) h = h.2.5.1
+cascade_loop_rose old new asked file.Plant h = h.3.0
+
 certificate_rose : (old new : FilesSeen) (name : List ℕ) (which : WhichFile) → IsUnreadCertificate old new name (stop.ReadFault which) → Rose old.faults new.faults
 certificate_rose old new name file.Certificate h = h.0
 certificate_rose old new name file.Controller h = absurd h
@@ -201,6 +218,7 @@ are_decided = record {
   states = λ old new asked. decided old new (IsStateRow old new asked) (state_rose old new asked);
   ellipsoids = λ old new asked. decided old new (IsEllipsoidRow old new asked) (ellipsoid_rose old new asked);
   loops = λ old new asked. decided old new (IsLoopRow old new asked) (loop_job_rose old new asked);
+  cascade_loops = λ old new asked. decided old new (IsCascadeLoopRow old new asked) (cascade_loop_rose old new asked);
   checks = λ told old new controller name. decided old new (IsCheckRow told old new controller name) (check_rose told old new controller name);
   loop_checks = λ old new controller plant name. decided old new (IsLoopCheckRow old new controller plant name) (loop_check_rose old new controller plant name);
 }

@@ -5,11 +5,13 @@ pub mod Answering
 pub mod Asked
 pub mod Blocks
 pub mod BuiltIn
+pub mod CascadeLoopRows
 pub mod CascadeRows
 pub mod Causes
 pub mod CertifiedWords
 pub mod CheckRows
 pub mod Completeness
+pub mod Decisions
 pub mod EllipsoidRows
 pub mod FileBytes
 pub mod Inputs

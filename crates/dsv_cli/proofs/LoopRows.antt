@@ -1,5 +1,5 @@
 -- The rows of jobs for loops: what each stage gives, and what follows of it.
-use Rattle.std.proofs.Common.{◌≡◌, ◌<◌, ◌≤◌, ◌+◌, ℕ, List, [], ◌∷◌, length, refl, sym, subst, inl, inr, arith}
+use Rattle.std.proofs.Common.{◌≡◌, ◌<◌, ◌≤◌, ◌+◌, ◌*◌, ℕ, List, [], ◌∷◌, length, refl, sym, ap, subst, inl, inr, arith}
 use Rattle.std.specs.Prelude.{Result, Ok, Err, ℤ}
 use Rattle.dsv_base.specs.Seen.{FilesSeen}
 use Rattle.dsv_base.proofs.TakingLemmas.{Rose-earlier}
@@ -44,10 +44,12 @@ plant_file_earlier old then name p k h = subst (λ held. CameOf (held name) (λ 
 
 -- ---- the loop
 -- its polynomial's table decides
-pub of_table : (came : Result (List ℤ) LoopRefusal) (poly : List ℤ) (found : TableFinding) → came ≡ Ok poly → length poly ≤ 17 → IsFinding poly found → IsOfLoop came (Ok (answer.OfTable found))
-of_table came poly found e few h =
-    let least : length poly ≤ most_coefficients = omega (arith, few) in
-    subst (λ r. IsOfLoop r (Ok (answer.OfTable found))) (sym e) (least, h)
+pub of_table : (came : Result (List ℤ) LoopRefusal) (poly : List ℤ) (found : TableFinding) → came ≡ Ok poly → IsFinding poly found → IsOfLoop came (Ok (answer.OfTable found))
+of_table came poly found e h = subst (λ r. IsOfLoop r (Ok (answer.OfTable found))) (sym e) h
+
+-- that of one controller has few coefficients
+pub few_of_table : (many : ℕ) (poly : List ℤ) (found : TableFinding) → many ≡ 1 → length poly ≤ 8 * many + 9 → IsFinding poly found → length found.poly ≤ most_coefficients
+few_of_table many poly found one few h = let same = ap length h.poly in omega (arith, one, few, same)
 
 pub of_no_memory : (came : Result (List ℤ) LoopRefusal) → IsOfLoop came (Err stop.NoMemory)
 of_no_memory (Ok poly) = tt

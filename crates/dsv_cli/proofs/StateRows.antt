@@ -8,7 +8,7 @@ use Rattle.dsv_certfile.specs.declared.certificate.Certificate.{Certificate}
 use Rattle.dsv_state_file.specs.StateFiles.{StateFileView}
 use Rattle.dsv_state_space.specs.Quantising.{BecomesStates}
 use Rattle.dsv_state_space.specs.StateView.{StateView}
-use Rattle.dsv_command.specs.States.{StateTask, checks_form, seeks_form, searches_states, measures_states, simulates_states, AskedStates}
+use Rattle.dsv_command.specs.States.{StateTask, decides_states, checks_form, seeks_form, searches_states, measures_states, simulates_states, AskedStates}
 use Rattle.dsv_report.specs.declared.answers.Answer.TheVariants as answer
 use Rattle.dsv_report.specs.declared.stop.CertificateFault.TheVariants as fault
 use Rattle.dsv_report.specs.declared.stop.Stop.{Stop}
@@ -47,6 +47,8 @@ IsOwnStop other = ⊥
 own_stop : (old : FilesSeen) (task : StateTask) (s : StateView) (why : Stop) → IsOwn task → IsOfStateTask old task s (Err why) → IsOwnStop why
 own_stop old (checks_form name) s why own h = absurd own
 own_stop old (seeks_form certified) s why own h = absurd h
+own_stop old decides_states s stop.NoMemory own h = tt
+own_stop old decides_states s why own h = absurd h
 own_stop old (searches_states p samples conflicts) s (stop.JobSize size) own h = tt
 own_stop old (searches_states p samples conflicts) s stop.NoMemory own h = tt
 own_stop old (searches_states p samples conflicts) s why own h = absurd h
@@ -85,6 +87,7 @@ row_of_form old new asked c s name certificate found e came b h = absurd h
 names_earlier : (old between new : FilesSeen) (task : StateTask) (why : Stop) → between.held ≡ old.held → old.faults ≤ between.faults → old.came ≤ between.came → NamesUnread between new task why → NamesUnread old new task why
 names_earlier old between new (checks_form name) why e m l h = unread_earlier old between new name why e m l h
 names_earlier old between new (seeks_form certified) why e m l h = absurd h
+names_earlier old between new decides_states why e m l h = absurd h
 names_earlier old between new (searches_states p samples conflicts) why e m l h = absurd h
 names_earlier old between new measures_states why e m l h = absurd h
 names_earlier old between new (simulates_states inputs) why e m l h = absurd h
@@ -92,6 +95,7 @@ names_earlier old between new (simulates_states inputs) why e m l h = absurd h
 spelled_earlier : (old between : FilesSeen) (task : StateTask) → between.held ≡ old.held → NamesCertificate between task → NamesCertificate old task
 spelled_earlier old between (checks_form name) e h = subst (λ held. CameOf (held name) (Spells (λ c. Unit {0}))) e h
 spelled_earlier old between (seeks_form certified) e h = tt
+spelled_earlier old between decides_states e h = tt
 spelled_earlier old between (searches_states p samples conflicts) e h = tt
 spelled_earlier old between measures_states e h = tt
 spelled_earlier old between (simulates_states inputs) e h = tt
@@ -104,6 +108,7 @@ form_earlier old between name s found e h = absurd h
 task_earlier : (old between : FilesSeen) (task : StateTask) (s : StateView) (found : Outcome) → between.held ≡ old.held → IsOfStateTask between task s found → IsOfStateTask old task s found
 task_earlier old between (checks_form name) s found e h = form_earlier old between name s found e h
 task_earlier old between (seeks_form certified) s found e h = h
+task_earlier old between decides_states s found e h = h
 task_earlier old between (searches_states p samples conflicts) s found e h = h
 task_earlier old between measures_states s found e h = h
 task_earlier old between (simulates_states inputs) s found e h = h
@@ -131,6 +136,8 @@ task_stop : (old : FilesSeen) (task : StateTask) (s : StateView) (why : Stop) �
 task_stop old (checks_form name) s (stop.CertificateRefused line (fault.Check why)) h = tt
 task_stop old (checks_form name) s why h = absurd h
 task_stop old (seeks_form certified) s why h = absurd h
+task_stop old decides_states s stop.NoMemory h = tt
+task_stop old decides_states s why h = absurd h
 task_stop old (searches_states p samples conflicts) s (stop.JobSize size) h = tt
 task_stop old (searches_states p samples conflicts) s stop.NoMemory h = tt
 task_stop old (searches_states p samples conflicts) s why h = absurd h
@@ -144,6 +151,7 @@ task_stop old (simulates_states inputs) s why h = absurd h
 no_fault : (old new : FilesSeen) (task : StateTask) → NamesUnread old new task (stop.ReadFault file.Controller) → ⊥
 no_fault old new (checks_form name) h = absurd h
 no_fault old new (seeks_form certified) h = absurd h
+no_fault old new decides_states h = absurd h
 no_fault old new (searches_states p samples conflicts) h = absurd h
 no_fault old new measures_states h = absurd h
 no_fault old new (simulates_states inputs) h = absurd h

@@ -7,7 +7,7 @@ use Rattle.dsv_forms.specs.declared.offers.FormOffer.TheVariants as offered
 use Rattle.dsv_closed_forms.specs.ClosedForm.{closed_form_of, are_within, second_limit}
 use Rattle.dsv_cli.specs.Suffixes.{IsSuffix}
 use Rattle.dsv_lyapunov.specs.declared.kept.KeptForm.{KeptForm}
-use Rattle.dsv_command.specs.Jobs.{decides, Asked}
+use Rattle.dsv_command.specs.Jobs.{Task, decides, Asked}
 use Rattle.dsv_names.specs.declared.property.RootProperty.{RootProperty}
 use Rattle.dsv_report.specs.Printing.{HasPlaces}
 use Rattle.dsv_report.specs.declared.answers.Answer.TheVariants as answer
@@ -18,7 +18,7 @@ use Rattle.dsv_template.specs.declared.candidate.Candidate.{Candidate}
 use Rattle.dsv_template.specs.declared.kept.KeptSet.{KeptSet}
 use Rattle.dsv_template.specs.declared.shape.Shape.{Shape}
 use Rattle.dsv_cli.specs.Causes.{IsPlain, IsOfProperty, IsOfSets}
-use Rattle.dsv_cli.specs.Headline.{IsRow}
+use Rattle.dsv_cli.specs.Headline.{AsksSchurCohn, AsksNoTable, IsRow}
 use Rattle.dsv_cli.specs.Proposers.{IsAsked, IfOffered, IfNoForm, AreSetsAsked, IfAlways, IfNoInvariant, is_low}
 
 -- ---- nobody is asked
@@ -84,9 +84,6 @@ own_for place last sure to_come R S before after found f h = record {
     either (inl k) = inl (f k.0, k.1)
     either (inr k) = inr k
 
-pub schur_cohn_wanted : (p q : RootProperty) (sc : Bool) → decides p sc ≡ decides q true → sc ≡ true
-schur_cohn_wanted p q sc e = cc
-
 -- no proposer of sets is asked
 same_sets : {B P : Type 0} (place : B → P) (last : B → Option Candidate) (to_come : B → Shape → Option (List Candidate)) (becomes : QuantisedView → Type 0) (xs : List B) (found : Outcome)
     → ((P : Candidate → Type 0) → IfAlways found P) → ((P : List KeptSet → Type 0) → IfNoInvariant found P) → AreSetsAsked place last to_come becomes xs xs found
@@ -110,15 +107,15 @@ sets_unasked place last to_come becomes xs found h = same_sets place last to_com
     none_left (Ok (answer.NoInvariant kept)) P h = absurd h
     none_left found P h = tt
 
-pub sets_unasked_for_roots : {B P : Type 0} (place : B → P) (last : B → Option Candidate) (to_come : B → Shape → Option (List Candidate)) (becomes : QuantisedView → Type 0) (xs : List B) (property : RootProperty) (quantised : QuantisedView)
-    (found : Outcome) → IsOfProperty property quantised found → AreSetsAsked place last to_come becomes xs xs found
-sets_unasked_for_roots place last to_come becomes xs property quantised found h = same_sets place last to_come becomes xs found (λ P. none_kept found P h) (λ P. none_left found P h)
+pub sets_unasked_for_roots : {B P : Type 0} (place : B → P) (last : B → Option Candidate) (to_come : B → Shape → Option (List Candidate)) (becomes : QuantisedView → Type 0) (xs : List B) (property : RootProperty) (sc : Bool)
+    (quantised : QuantisedView) (found : Outcome) → IsOfProperty property sc quantised found → AreSetsAsked place last to_come becomes xs xs found
+sets_unasked_for_roots place last to_come becomes xs property sc quantised found h = same_sets place last to_come becomes xs found (λ P. none_kept found P h) (λ P. none_left found P h)
   where
-    none_kept : (found : Outcome) (P : Candidate → Type 0) → IsOfProperty property quantised found → IfAlways found P
+    none_kept : (found : Outcome) (P : Candidate → Type 0) → IsOfProperty property sc quantised found → IfAlways found P
     none_kept (Ok (answer.Always candidate logs)) P h = absurd h.decision
     none_kept found P h = tt
 
-    none_left : (found : Outcome) (P : List KeptSet → Type 0) → IsOfProperty property quantised found → IfNoInvariant found P
+    none_left : (found : Outcome) (P : List KeptSet → Type 0) → IsOfProperty property sc quantised found → IfNoInvariant found P
     none_left (Ok (answer.NoInvariant kept)) P h = absurd h.decision
     none_left found P h = tt
 
@@ -161,3 +158,12 @@ no_low (c0 ∷ c1 ∷ c2 ∷ c3 ∷ cs) h = refl
 pub low_is_decided : (told : Option (List ℕ)) (old new : FilesSeen) (job : Asked) (found : Outcome) → IsRow told old new job found → IfNoForm found (λ poly kept. is_low poly ≡ false)
 low_is_decided told old new job (Ok (answer.NoForm poly kept verdict)) h = no_low poly h.shows.no_closed_form
 low_is_decided told old new job found h = tt
+
+-- ---- with the Schur-Cohn form
+both_ways : (task : Task) → AsksSchurCohn task → AsksNoTable task → ⊥
+both_ways task h k = let e = h.1 in let f = k.1 in cc
+
+-- a table decides at last
+pub table_decides : (told : Option (List ℕ)) (old new : FilesSeen) (job : Asked) (found : Outcome) → IsRow told old new job found → AsksSchurCohn job.task → IfNoForm found (λ poly kept. ⊥)
+table_decides told old new job (Ok (answer.NoForm poly kept verdict)) h asks = absurd (both_ways job.task asks h.belongs_to)
+table_decides told old new job found h asks = tt

@@ -1,6 +1,6 @@
 -- What a run answers to a job for a cascade: a table of its own, one row for each answer.
 use Rattle.std.specs.Prelude.{◌≡◌, ◌<◌, ◌≤◌, ◌+◌, ℕ, suc, List, [], ◌∷◌, length, take, slice_get}
-use Rattle.std.specs.Prelude.{Some, Ok, Err, ℤ}
+use Rattle.std.specs.Prelude.{true, false, Some, Ok, Err, ℤ}
 use Rattle.std.specs.List.{All}
 use Rattle.dsv_base.specs.Counts.{Rose}
 use Rattle.dsv_base.specs.Seen.{FilesSeen}
@@ -29,6 +29,7 @@ use Rattle.dsv_cascade.specs.Verdicts.{cascade_formula_of, cascade_outlook_of}
 use Rattle.dsv_cascade.specs.Verdicts.{CascadeHoldsAlways, CascadeNeverOverflows}
 use Rattle.dsv_command.specs.Cascades.{CascadeTask, decides_stability, searches_overflow}
 use Rattle.dsv_command.specs.Cascades.{measures_series, simulates_series, AskedCascade}
+use Rattle.dsv_poly_table.specs.Sections.{AreTabled}
 use Rattle.dsv_report.specs.declared.answers.Answer.TheVariants as answer
 use Rattle.dsv_report.specs.declared.answers.OutputError.TheVariants as output_error
 use Rattle.dsv_report.specs.declared.stop.Stop.{Stop}
@@ -55,10 +56,10 @@ abbrev pub AreControllers : FilesSeen → List (List ℕ) → List ControllerVie
 AreControllers old = Pairwise (IsFileOf old)
 
 -- The files have the texts of these controllers, section 0's and those of the later sections.
-pub record HaveControllers (old : FilesSeen) (asked : AskedCascade) (first : ControllerView)
-    (later : List ControllerView) : Type 0 where
-  pub first_file : IsFileOf old asked.file first
-  pub later_files : AreControllers old asked.later later
+pub record HaveControllers (old : FilesSeen) (file : List ℕ) (names : List (List ℕ))
+    (first : ControllerView) (later : List ControllerView) : Type 0 where
+  pub first_file : IsFileOf old file first
+  pub later_files : AreControllers old names later
 
 -- what keeps the file of this name from being the controller of this section, 1 or more: the files
 -- were `old` and are `new`
@@ -106,13 +107,15 @@ IsNoCascade design first later (stop.CascadeRefused r) = (q : QuantisedView)
 IsNoCascade design first later why = (q : QuantisedView) × BecomesWords first design (Ok q)
     × IsLaterRefused design later why
 
--- The files' controllers become the sections of this cascade.
-pub record IsCascadeOf (old : FilesSeen) (asked : AskedCascade) (c : CascadeView) : Type 0 where
+-- The controllers of these files, the first section's and the later ones', become the sections of
+-- this cascade in the design.
+pub record IsCascadeOf (old : FilesSeen) (file : List ℕ) (names : List (List ℕ))
+    (design : Design) (c : CascadeView) : Type 0 where
   pub first : ControllerView
   pub later : List ControllerView
-  pub controllers : HaveControllers old asked first later
-  pub first_words : BecomesWords first asked.design (Ok c.first)
-  pub later_words : BecomeWords asked.design later c.later
+  pub controllers : HaveControllers old file names first later
+  pub first_words : BecomesWords first design (Ok c.first)
+  pub later_words : BecomeWords design later c.later
   pub cascade : IsCascade c
 
 -- ---- what the tasks come to
@@ -148,7 +151,10 @@ pub record IsCascadeRun (c : CascadeView) (inputs : List ℤ) (found : List Samp
 
 -- what a task comes to for a cascade
 abbrev pub IsOfSeries : CascadeTask → CascadeView → Outcome → Type 0
-IsOfSeries decides_stability c (Ok (answer.OfSections found)) = AreJudged (sections_of c) found
+IsOfSeries (decides_stability false) c (Ok (answer.OfSections found)) =
+    AreJudged (sections_of c) found
+IsOfSeries (decides_stability true) c (Ok (answer.OfSectionTables found)) =
+    AreTabled (sections_of c) found
 IsOfSeries (searches_overflow samples conflicts) c (Ok (answer.Never log)) =
     CascadeNever c samples conflicts log
 IsOfSeries (searches_overflow samples conflicts) c (Ok (answer.Overflow trace)) =
@@ -173,18 +179,19 @@ IsOfSeries task c other = ⊥
 -- ---- the table
 -- the task of a job came to this for the cascade of its files
 abbrev pub IsTaskRow : FilesSeen → AskedCascade → Outcome → Type 0
-IsTaskRow old asked found = (c : CascadeView) × IsCascadeOf old asked c
-    × IsOfSeries asked.task c found
+IsTaskRow old asked found = (c : CascadeView)
+    × IsCascadeOf old asked.file asked.later asked.design c × IsOfSeries asked.task c found
 
 -- the files have the texts of controllers that become no cascade
-abbrev pub IsNoCascadeRow : FilesSeen → AskedCascade → Stop → Type 0
-IsNoCascadeRow old asked why = (first : ControllerView) × (later : List ControllerView)
-    × HaveControllers old asked first later × IsNoCascade asked.design first later why
+abbrev pub IsNoCascadeRow : FilesSeen → List ℕ → List (List ℕ) → Design → Stop → Type 0
+IsNoCascadeRow old file names design why = (first : ControllerView)
+    × (later : List ControllerView) × HaveControllers old file names first later
+    × IsNoCascade design first later why
 
 -- the first file has the text of a controller, and a later one hasn't
-abbrev pub IsLaterRow : FilesSeen → FilesSeen → AskedCascade → Stop → Type 0
-IsLaterRow old new asked why = (first : ControllerView) × IsFileOf old asked.file first
-    × IsLaterUnread old new asked.later why
+abbrev pub IsLaterRow : FilesSeen → FilesSeen → List ℕ → List (List ℕ) → Stop → Type 0
+IsLaterRow old new file names why = (first : ControllerView) × IsFileOf old file first
+    × IsLaterUnread old new names why
 
 -- The row of each answer to a job for a cascade, where the files were `old` and are `new`. Only
 -- NoMemory has no stated cause.
@@ -195,15 +202,15 @@ IsCascadeRow old new asked (Err (stop.InputRange index value)) =
     IsTaskRow old asked (Err (stop.InputRange index value))
 IsCascadeRow old new asked (Err (stop.JobSize size)) = IsTaskRow old asked (Err (stop.JobSize size))
 IsCascadeRow old new asked (Err (stop.QuantRefused r)) =
-    IsNoCascadeRow old asked (stop.QuantRefused r)
+    IsNoCascadeRow old asked.file asked.later asked.design (stop.QuantRefused r)
 IsCascadeRow old new asked (Err (stop.SectionQuant section r)) =
-    IsNoCascadeRow old asked (stop.SectionQuant section r)
+    IsNoCascadeRow old asked.file asked.later asked.design (stop.SectionQuant section r)
 IsCascadeRow old new asked (Err (stop.CascadeRefused r)) =
-    IsNoCascadeRow old asked (stop.CascadeRefused r)
+    IsNoCascadeRow old asked.file asked.later asked.design (stop.CascadeRefused r)
 IsCascadeRow old new asked (Err (stop.SectionRefused section r)) =
-    IsLaterRow old new asked (stop.SectionRefused section r)
+    IsLaterRow old new asked.file asked.later (stop.SectionRefused section r)
 IsCascadeRow old new asked (Err (stop.SectionTooLong section)) =
-    IsLaterRow old new asked (stop.SectionTooLong section)
+    IsLaterRow old new asked.file asked.later (stop.SectionTooLong section)
 IsCascadeRow old new asked (Err (stop.ReadFault (file.Section section))) =
-    IsLaterRow old new asked (stop.ReadFault (file.Section section))
+    IsLaterRow old new asked.file asked.later (stop.ReadFault (file.Section section))
 IsCascadeRow old new asked (Err why) = IsUnread (old.held asked.file) old new asked.file why

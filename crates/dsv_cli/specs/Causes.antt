@@ -1,6 +1,6 @@
 -- The stages of a run and what each gives; private contracts alone cite it. `Headline` has the
 -- table that they lead to.
-use Rattle.std.specs.Prelude.{◌≡◌, ◌≤◌, ℕ, List, Ok, Err, ℤ}
+use Rattle.std.specs.Prelude.{◌≡◌, ◌≤◌, ℕ, Bool, true, false, List, Ok, Err, ℤ}
 use Rattle.dsv_names.specs.declared.property.RunProperty.{RunProperty}
 use Rattle.dsv_names.specs.declared.property.RunProperty.TheVariants as run
 use Rattle.dsv_names.specs.declared.property.RootProperty.{RootProperty}
@@ -15,7 +15,7 @@ use Rattle.dsv_report.specs.declared.answers.Answer.TheVariants as answer
 use Rattle.dsv_report.specs.declared.stop.Stop.TheVariants as stop
 use Rattle.dsv_report.specs.Printing.{FormsHavePlaces}
 use Rattle.dsv_report.specs.Stops.{Outcome}
-use Rattle.dsv_cli.specs.Headline.{ShowsFall, ShowsKeptAway, ShowsNoForm}
+use Rattle.dsv_cli.specs.Headline.{ShowsFall, ShowsKeptAway, ShowsNoForm, ShowsTable}
 use Rattle.dsv_bounded.specs.Verdicts.{IsCycle}
 use Rattle.dsv_meaning.specs.Traces.{IsTrace}
 use Rattle.dsv_bounded.specs.RunQuestions.{IsWithin}
@@ -26,31 +26,34 @@ use Rattle.dsv_cli.specs.Sets.{KeepsTo, NoneIsGood}
 use Rattle.dsv_cli.specs.Simulating.{IsRunOver, IsFirstOutside}
 use Rattle.dsv_cli.specs.Timing.{IsTimingOf, IsOnTime}
 
--- the answer that decides a polynomial
-abbrev pub IsDecision : List ℤ → Outcome → Type 0
-IsDecision poly (Ok (answer.Falls found offer fall)) = (found ≡ poly) × ShowsFall found offer fall
-IsDecision poly (Ok (answer.KeptAway found offer fall value)) =
+-- the answer that decides a polynomial, by its table at last if the flag is set
+abbrev pub IsDecision : Bool → List ℤ → Outcome → Type 0
+IsDecision schur_cohn poly (Ok (answer.Falls found offer fall)) =
+    (found ≡ poly) × ShowsFall found offer fall
+IsDecision schur_cohn poly (Ok (answer.KeptAway found offer fall value)) =
     (found ≡ poly) × ShowsKeptAway found offer fall value
-IsDecision poly (Ok (answer.NoForm found kept verdict)) =
-    (found ≡ poly) × ShowsNoForm found kept verdict
-IsDecision poly (Err stop.NoMemory) = Unit {0}
-IsDecision poly other = ⊥
+IsDecision schur_cohn poly (Ok (answer.NoForm found kept verdict)) =
+    (found ≡ poly) × (schur_cohn ≡ false) × ShowsNoForm found kept verdict
+IsDecision schur_cohn poly (Ok (answer.OfTable found)) =
+    (found.poly ≡ poly) × (schur_cohn ≡ true) × ShowsTable found
+IsDecision schur_cohn poly (Err stop.NoMemory) = Unit {0}
+IsDecision schur_cohn poly other = ⊥
 
 -- The property tests this polynomial, which comes to this.
-pub record IsOfPolynomial (of_property : RootProperty) (q : QuantisedView) (found : Outcome) :
-    Type 0 where
+pub record IsOfPolynomial (of_property : RootProperty) (schur_cohn : Bool) (q : QuantisedView)
+    (found : Outcome) : Type 0 where
   pub poly : List ℤ
   pub tested : tested_of q (side_of of_property) ≡ Ok (tested.Poly poly)
-  pub decision : IsDecision poly found
+  pub decision : IsDecision schur_cohn poly found
 
 -- what the polynomial that a property tests comes to, or the answer where there is none
-abbrev pub IsOfProperty : RootProperty → QuantisedView → Outcome → Type 0
-IsOfProperty of_property q (Ok answer.NoZeros) =
+abbrev pub IsOfProperty : RootProperty → Bool → QuantisedView → Outcome → Type 0
+IsOfProperty of_property schur_cohn q (Ok answer.NoZeros) =
     (of_property ≡ property.MinimumPhase)
     × (tested_of q (side_of of_property) ≡ Ok tested.NoZeros)
-IsOfProperty of_property q (Ok (answer.Wide index)) =
+IsOfProperty of_property schur_cohn q (Ok (answer.Wide index)) =
     tested_of q (side_of of_property) ≡ Err (record { index = index })
-IsOfProperty of_property q found = IsOfPolynomial of_property q found
+IsOfProperty of_property schur_cohn q found = IsOfPolynomial of_property schur_cohn q found
 
 -- the controller's run over these inputs, or the first of them that is no word
 abbrev pub IsOfRun : QuantisedView → List ℤ → Outcome → Type 0
@@ -101,7 +104,7 @@ IsOfTiming c q other = ⊥
 
 -- what a task comes to for a controller that becomes these words
 abbrev pub IsOfTask : ControllerView → Task → QuantisedView → Outcome → Type 0
-IsOfTask c (decides of_property schur_cohn) q found = IsOfProperty of_property q found
+IsOfTask c (decides of_property schur_cohn) q found = IsOfProperty of_property schur_cohn q found
 IsOfTask c checks_time q found = IsOfTiming c q found
 IsOfTask c (writes of_property samples) q found = IsOfFormula of_property samples q found
 IsOfTask c (searches of_property samples conflicts) q found =

@@ -6,11 +6,13 @@ use Rattle.dsv_base.specs.Seen.{FilesSeen}
 use Rattle.dsv_command.specs.Cascades.{AskedCascade}
 use Rattle.dsv_command.specs.Ellipsoids.{AskedEllipsoid}
 use Rattle.dsv_command.specs.Jobs.{Asked}
+use Rattle.dsv_command.specs.CascadeLoops.{AskedCascadeLoop}
 use Rattle.dsv_command.specs.Loops.{AskedLoop}
 use Rattle.dsv_command.specs.States.{AskedStates}
 use Rattle.dsv_report.specs.Report.{status_of}
 use Rattle.dsv_report.specs.declared.stop.Stop.TheVariants as stop
 use Rattle.dsv_report.specs.Stops.{Outcome}
+use Rattle.dsv_cli.specs.CascadeLoops.{IsCascadeLoopRow}
 use Rattle.dsv_cli.specs.Cascades.{IsCascadeRow}
 use Rattle.dsv_cli.specs.Ellipsoids.{IsEllipsoidRow}
 use Rattle.dsv_cli.specs.Headline.{IsRow, IsCheckRow}
@@ -50,6 +52,8 @@ pub record AreDecided : Type 0 where
       → IsDecidedBy old new (IsEllipsoidRow old new asked)
   pub loops : (old new : FilesSeen) (asked : AskedLoop)
       → IsDecidedBy old new (IsLoopRow old new asked)
+  pub cascade_loops : (old new : FilesSeen) (asked : AskedCascadeLoop)
+      → IsDecidedBy old new (IsCascadeLoopRow old new asked)
   pub checks : (told : Option (List ℕ)) (old new : FilesSeen) (controller name : List ℕ)
       → IsDecidedBy old new (IsCheckRow told old new controller name)
   pub loop_checks : (old new : FilesSeen) (controller plant name : List ℕ)

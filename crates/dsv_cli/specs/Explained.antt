@@ -4,9 +4,10 @@ use Rattle.dsv_base.specs.Seen.{FilesSeen}
 use Rattle.dsv_certfile.specs.declared.job.CertWords.{CertWords}
 use Rattle.dsv_certfile.specs.declared.job.CertWords.TheVariants as words
 use Rattle.dsv_command.specs.Requests.{Request, on_file, on_cascade, on_states, on_ellipsoid}
-use Rattle.dsv_command.specs.Requests.{on_loop, checks, checks_loop, generates}
+use Rattle.dsv_command.specs.Requests.{on_loop, on_cascade_loop, checks, checks_loop, generates}
 use Rattle.dsv_report.specs.declared.stop.Stop.TheVariants as stop
 use Rattle.dsv_report.specs.Stops.{Outcome}
+use Rattle.dsv_cli.specs.CascadeLoops.{IsCascadeLoopRow}
 use Rattle.dsv_cli.specs.Cascades.{IsCascadeRow}
 use Rattle.dsv_cli.specs.Ellipsoids.{IsEllipsoidRow}
 use Rattle.dsv_cli.specs.Headline.{IsRow, IsCheckRow, IsOfGeneration, SaysWords}
@@ -25,6 +26,7 @@ IsExplained old new (Some (on_cascade asked)) found = IsCascadeRow old new asked
 IsExplained old new (Some (on_states asked)) found = IsStateRow old new asked found
 IsExplained old new (Some (on_ellipsoid asked)) found = IsEllipsoidRow old new asked found
 IsExplained old new (Some (on_loop asked)) found = IsLoopRow old new asked found
+IsExplained old new (Some (on_cascade_loop asked)) found = IsCascadeLoopRow old new asked found
 IsExplained old new (Some (checks controller name)) found =
     IsCheckRow (old.held controller) old new controller name found
 IsExplained old new (Some (checks_loop controller name plant)) found =

@@ -3,6 +3,8 @@ use Rattle.std.specs.Prelude.{◌≡◌, ◌≢◌, ◌⊎◌, ℕ, ◌+◌, ◌
 use Rattle.std.specs.Prelude.{
   ◌≤◌,
   Bool,
+  true,
+  false,
   List,
   length,
   Option,
@@ -34,6 +36,7 @@ use Rattle.dsv_forms.specs.declared.offers.Falls.{Falls}
 use Rattle.dsv_forms.specs.declared.offers.KeptAway.{KeptAway}
 use Rattle.dsv_forms.specs.declared.offers.FormOffer.TheVariants as offered
 use Rattle.dsv_forms.specs.FallForm.{IsFallForm}
+use Rattle.dsv_forms.specs.Poly.{most_coefficients}
 use Rattle.dsv_forms.specs.Refusals.{falls_refusal, kept_away_refusal}
 use Rattle.dsv_delta.specs.declared.refusal.PolyWide.{PolyWide}
 use Rattle.dsv_tested.specs.Tested.{side_of, tested_of}
@@ -42,6 +45,9 @@ use Rattle.dsv_tested.specs.declared.side.Tested.TheVariants as tested
 use Rattle.dsv_closed_forms.specs.ClosedForm.{closed_form_of}
 use Rattle.dsv_jury.specs.Jury.{jury_of}
 use Rattle.dsv_jury.specs.declared.verdict.Jury.{Jury}
+use Rattle.dsv_poly_table.specs.Recursion.{IsJuryShown}
+use Rattle.dsv_table.specs.Findings.{IsFinding}
+use Rattle.dsv_table.specs.declared.finding.TableFinding.{TableFinding}
 use Rattle.dsv_gain.specs.Controllers.{outlook_of}
 use Rattle.dsv_gain.specs.declared.outlook.Outlook.TheVariants as outlook
 use Rattle.dsv_gain.specs.declared.roundoff.ShownError.{ShownError}
@@ -109,6 +115,14 @@ DecidesFor task property = (schur_cohn : Bool) × (task ≡ decides property sch
 -- the task decides a property of roots
 abbrev pub Decides : Task → Type 0
 Decides task = (property : RootProperty) × DecidesFor task property
+
+-- the task decides a property of roots; the Schur-Cohn form comes before any proposer, and a table
+-- decides at last, or neither
+abbrev pub AsksSchurCohn : Task → Type 0
+AsksSchurCohn task = (property : RootProperty) × (task ≡ decides property true)
+
+abbrev pub AsksNoTable : Task → Type 0
+AsksNoTable task = (property : RootProperty) × (task ≡ decides property false)
 
 -- The polynomial of the side that the job's property tests, or why there is none.
 pub record IsTested (job : Asked) (bytes : List ℕ) (outcome : Result Tested PolyWide) : Type 0 where
@@ -277,11 +291,20 @@ pub record ShowsKeptAway (poly : List ℤ) (offer : KeptAway) (fall : Form) (val
   pub value_at : value ≡ form_at (degree poly) (matrix_of offer.form.rows) (vector_of offer.start)
 
 -- The polynomial has no closed form, each offer that was kept is refused for its reason, and the
--- verdict is that of Jury's recursion.
+-- verdict is that of Jury's recursion, with a form that shows what it says, unless a number was too
+-- wide for it.
 pub record ShowsNoForm (poly : List ℤ) (kept : List KeptForm) (verdict : Jury) : Type 0 where
   pub no_closed_form : closed_form_of poly ≡ None
   pub refused : AreRefused poly kept
   pub jury : verdict ≡ jury_of poly
+  pub meant : IsJuryShown verdict poly
+
+-- The polynomial, of order 8 at most, has no closed form, and this is found of it by its table,
+-- with a form that shows the verdict.
+pub record ShowsTable (found : TableFinding) : Type 0 where
+  pub no_closed_form : closed_form_of found.poly ≡ None
+  pub finding : IsFinding found.poly found
+  pub few : length found.poly ≤ most_coefficients
 
 -- ---- the table
 -- A row of the table, for a file whose bytes are told or not: the jobs that the answer belongs to;
@@ -320,8 +343,11 @@ IsRow told old new job (Ok answer.NoZeros) =
     TableRow told (DecidesFor job.task property.MinimumPhase)
     (λ bytes. IsTested job bytes (Ok tested.NoZeros)) (Unit {0})
 IsRow told old new job (Ok (answer.NoForm poly kept verdict)) =
-    TableRow told (Decides job.task) (λ bytes. IsTested job bytes (Ok (tested.Poly poly)))
+    TableRow told (AsksNoTable job.task) (λ bytes. IsTested job bytes (Ok (tested.Poly poly)))
     (ShowsNoForm poly kept verdict)
+IsRow told old new job (Ok (answer.OfTable found)) =
+    TableRow told (AsksSchurCohn job.task)
+    (λ bytes. IsTested job bytes (Ok (tested.Poly found.poly))) (ShowsTable found)
 IsRow told old new job (Ok (answer.Wide index)) =
     TableRow told (Decides job.task) (λ bytes. IsTested job bytes (Err (record { index = index })))
     (Unit {0})

@@ -2,6 +2,7 @@ pub mod Accepted
 pub mod Answering
 pub mod Asking
 pub mod Blocks
+pub mod CascadeLoops
 pub mod Cascades
 pub mod Causes
 pub mod Checking

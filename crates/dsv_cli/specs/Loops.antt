@@ -68,15 +68,18 @@ HaveNoLoop old new controller plant why =
     ⊎ HasNoPlant old new controller plant why
 
 -- ---- the loop
--- what the loop comes to, by its polynomial, with at most 25 coefficients, whose table decides, or
--- by why there is no loop
+-- what the loop comes to, by its polynomial, whose table decides, or by why there is no loop
 abbrev pub IsOfLoop : Result (List ℤ) LoopRefusal → Outcome → Type 0
-IsOfLoop (Ok poly) (Ok (answer.OfTable found)) =
-    (length poly ≤ most_coefficients) × IsFinding poly found
+IsOfLoop (Ok poly) (Ok (answer.OfTable found)) = IsFinding poly found
 IsOfLoop (Ok poly) (Err stop.NoMemory) = Unit {0}
 IsOfLoop (Err why) (Err (stop.LoopRefused r)) = r ≡ why
 IsOfLoop (Err why) (Err stop.NoMemory) = Unit {0}
 IsOfLoop came other = ⊥
+
+-- the polynomial has at most 25 coefficients, if there is one
+abbrev pub HasFewCoefficients : Outcome → Type 0
+HasFewCoefficients (Ok (answer.OfTable found)) = length found.poly ≤ most_coefficients
+HasFewCoefficients other = Unit {0}
 
 -- The controller becomes words, for whose loop with the plant this is found.
 pub record IsLoopInWords (design : Design) (c : ControllerView) (p : PlantView) (found : Outcome) :
@@ -84,6 +87,7 @@ pub record IsLoopInWords (design : Design) (c : ControllerView) (p : PlantView) 
   pub quantised : QuantisedView
   pub words : BecomesWords c design (Ok quantised)
   pub loop : IsOfLoop (loop_of (quantised ∷ []) c.sample_time p) found
+  pub few : HasFewCoefficients found
 
 -- what a job comes to for the controller and the plant of its files
 abbrev pub IsOfPlant : Design → ControllerView → PlantView → Outcome → Type 0

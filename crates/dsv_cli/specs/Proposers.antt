@@ -6,10 +6,8 @@ use Rattle.dsv_forms.specs.declared.offers.FormOffer.TheVariants as offered
 use Rattle.dsv_closed_forms.specs.ClosedForm.{closed_form_of, are_within, second_limit}
 use Rattle.dsv_cli.specs.Blocks.{AreBlocks}
 use Rattle.dsv_cli.specs.Suffixes.{IsSuffix, IfFirst, HoldsOfNone}
-use Rattle.dsv_command.specs.Jobs.{Task, decides}
 use Rattle.dsv_command.specs.Requests.{Request, on_file}
-use Rattle.dsv_names.specs.declared.property.RootProperty.{RootProperty}
-use Rattle.dsv_cli.specs.Headline.{Decides, Seeks}
+use Rattle.dsv_cli.specs.Headline.{Decides, Seeks, AsksSchurCohn}
 use Rattle.dsv_lyapunov.specs.declared.kept.KeptForm.{KeptForm}
 use Rattle.dsv_quantiser.specs.QuantisedView.{QuantisedView}
 use Rattle.dsv_schur_cohn.specs.Offer.{IsSmall, HasNegativePlace}
@@ -29,6 +27,7 @@ abbrev pub NeedsNone : Outcome → Type 0
 NeedsNone (Ok (answer.Falls poly offer fall)) = HasClosedForm poly
 NeedsNone (Ok (answer.KeptAway poly offer fall value)) = HasClosedForm poly
 NeedsNone (Ok (answer.NoForm poly kept verdict)) = ⊥
+NeedsNone (Ok (answer.OfTable found)) = ⊥
 NeedsNone (Err stop.NoMemory) = ⊥
 NeedsNone other = Unit {0}
 
@@ -79,11 +78,7 @@ abbrev pub WantsForm : Option Request → Type 0
 WantsForm (Some (on_file job)) = Decides job.task
 WantsForm other = ⊥
 
--- the task asks for the Schur-Cohn form before any proposer
-abbrev pub AsksSchurCohn : Task → Type 0
-AsksSchurCohn task = (property : RootProperty) × (task ≡ decides property true)
-
--- the request is to decide a polynomial, with the Schur-Cohn form first of all
+-- the request is to decide a polynomial, with the Schur-Cohn form first of all, and the table last
 abbrev pub WantsSchurCohn : Option Request → Type 0
 WantsSchurCohn (Some (on_file job)) = AsksSchurCohn job.task
 WantsSchurCohn other = ⊥

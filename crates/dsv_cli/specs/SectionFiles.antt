@@ -1,7 +1,6 @@
 -- Serves private contracts: why the files of a cascade aren't those of controllers.
-use Rattle.std.specs.Prelude.{◌⊎◌, ℕ}
+use Rattle.std.specs.Prelude.{◌⊎◌, ℕ, List}
 use Rattle.dsv_base.specs.Seen.{FilesSeen}
-use Rattle.dsv_command.specs.Cascades.{AskedCascade}
 use Rattle.dsv_token.specs.declared.refusal.FileRefusal.{FileRefusal}
 use Rattle.dsv_token.specs.declared.refusal.FileRefusal.TheVariants as text
 use Rattle.dsv_report.specs.declared.stop.Stop.{Stop}
@@ -16,6 +15,6 @@ stop_of_section section text.NoMemory = stop.NoMemory
 stop_of_section section refusal = stop.SectionRefused section refusal
 
 -- the first file isn't a controller's, or a later one isn't
-abbrev pub IsFilesUnread : FilesSeen → FilesSeen → AskedCascade → Stop → Type 0
-IsFilesUnread old new asked why =
-    IsUnread (old.held asked.file) old new asked.file why ⊎ IsLaterRow old new asked why
+abbrev pub IsFilesUnread : FilesSeen → FilesSeen → List ℕ → List (List ℕ) → Stop → Type 0
+IsFilesUnread old new file names why =
+    IsUnread (old.held file) old new file why ⊎ IsLaterRow old new file names why

@@ -36,7 +36,9 @@ use Rattle.dsv_certfile.specs.declared.job.CertWords.TheVariants as words
 use Rattle.dsv_certcheck.specs.StateChecks.{state_check, Offers}
 use Rattle.dsv_certcheck.specs.declared.check_refusal.CheckRefusal.TheVariants as refusal
 use Rattle.dsv_command.specs.States.{StateTask, checks_form, seeks_form, searches_states}
-use Rattle.dsv_command.specs.States.{measures_states, simulates_states, AskedStates}
+use Rattle.dsv_command.specs.States.{decides_states, measures_states, simulates_states}
+use Rattle.dsv_command.specs.States.{AskedStates}
+use Rattle.dsv_state_table.specs.StateFindings.{IsStateFinding}
 use Rattle.dsv_report.specs.declared.answers.Answer.TheVariants as answer
 use Rattle.dsv_report.specs.declared.answers.OutputError.TheVariants as output_error
 use Rattle.dsv_report.specs.declared.stop.CertificateFault.TheVariants as fault
@@ -165,6 +167,13 @@ IsOfSoughtForm s (Ok (answer.StateFalls many offer fall)) = ShowsStateFall s man
 IsOfSoughtForm s (Ok answer.NoStateForm) = Unit {0}
 IsOfSoughtForm s other = ⊥
 
+-- the table of the characteristic polynomial; that none shows a form says nothing of the controller
+abbrev pub IsOfStateTable : StateView → Outcome → Type 0
+IsOfStateTable s (Ok (answer.OfTable found)) = IsStateFinding s found
+IsOfStateTable s (Ok answer.NoStateForm) = Unit {0}
+IsOfStateTable s (Err stop.NoMemory) = Unit {0}
+IsOfStateTable s other = ⊥
+
 -- the form of the certificate in a file with these bytes, where they are told
 abbrev pub IsOfNamedForm : FilesSeen → List ℕ → StateView → Outcome → Type 0
 IsOfNamedForm old name s (Ok (answer.StateFalls many offer fall)) =
@@ -179,6 +188,7 @@ IsOfNamedForm old name s other = ⊥
 abbrev pub IsOfStateTask : FilesSeen → StateTask → StateView → Outcome → Type 0
 IsOfStateTask old (checks_form name) s found = IsOfNamedForm old name s found
 IsOfStateTask old (seeks_form certified) s found = IsOfSoughtForm s found
+IsOfStateTask old decides_states s found = IsOfStateTable s found
 IsOfStateTask old (searches_states p samples conflicts) s found =
     IsOfStateSearch p samples conflicts s found
 IsOfStateTask old measures_states s found = IsOfStateGain s found

@@ -3,21 +3,24 @@ ghost use Rattle.std.specs.Prelude.{◌≡◌, false, Some, None, IfOk, IfSome, 
 ghost use Rattle.dsv_certfile.specs.Lawful.{IsWords};
 ghost use Rattle.dsv_certfile.specs.Typed.{IsTyped};
 ghost use Rattle.dsv_certfile.specs.declared.job.CertWords.TheVariants as words_said;
-ghost use Rattle.dsv_command.specs.Asking.{asked_ellipsoid, asked_states};
+ghost use Rattle.dsv_command.specs.Asking.{asked_cascade_loop, asked_ellipsoid, asked_states};
 ghost use Rattle.dsv_command.specs.Requests.{request_of, job_of};
-ghost use Rattle.dsv_report.specs.AnyJobs.{asked_in, asked_of, of_ellipsoid, of_states};
+ghost use Rattle.dsv_report.specs.AnyJobs.{asked_in, asked_of, of_cascade_loop, of_ellipsoid};
+ghost use Rattle.dsv_report.specs.AnyJobs.{of_states};
 ghost use Rattle.dsv_report.specs.Printing.{HasPlaces};
 ghost use Rattle.dsv_report.specs.Output.{output_of, certificate_written, asked_by};
 ghost use Rattle.dsv_report.specs.Report.{status_of};
 ghost use Rattle.dsv_cli.specs.Explained.{IsExplained, IsSaid};
 ghost use Rattle.dsv_cli.specs.Headline.{IsOfGeneration, FileBecomes};
 ghost use Rattle.dsv_cli.specs.Headline.{AreKept, IsWritten, IfWhole};
+ghost use Rattle.dsv_cli.specs.CascadeLoops.{IsCascadeLoopRow};
 ghost use Rattle.dsv_cli.specs.Causes.{IsPlain};
 ghost use Rattle.dsv_cli.specs.Ellipsoids.{IsEllipsoidRow};
 ghost use Rattle.dsv_cli.specs.States.{IsStateRow, SaysStates};
 ghost use Rattle.dsv_cli.specs.Proposers.{IsAsked, AreSetsAsked, IfNoForm, is_low};
-ghost use Rattle.dsv_cli.specs.Proposers.{WantsForm, WantsSet, WantsSchurCohn, IsBeyond};
+ghost use Rattle.dsv_cli.specs.Proposers.{WantsForm, WantsSet, WantsSchurCohn};
 
+use crate::cascade_loops::cascade_loop_outcome;
 use crate::check::check_answer;
 use crate::ellipsoids::ellipsoid_outcome;
 use crate::job::{JobOutcome, job_outcome};
@@ -28,7 +31,7 @@ use crate::series::cascade_outcome;
 use crate::states::{StateOutcome, state_outcome};
 use dsv_base::{Files, Sink};
 use dsv_certfile::CertWords;
-use dsv_command::{EllipsoidJob, Generation, Request, StateJob, read_request};
+use dsv_command::{CascadeLoopJob, EllipsoidJob, Generation, Request, StateJob, read_request};
 use dsv_generator::generate;
 use dsv_lyapunov::FormProposer;
 use dsv_report::{Answer, AnyJob, Stop, put_output, status_of};
@@ -188,11 +191,43 @@ fn ellipsoid_done<F: Files, K: Sink>(
     }
 }
 
+/// Runs a job for the loop of a cascade, and writes what it came to.
+fn cascade_loop_done<F: Files, K: Sink>(
+    alloc: Global,
+    job: &CascadeLoopJob,
+    files: &mut F,
+    sink: &mut K,
+) -> Done
+    ensures row { IsCascadeLoopRow (F.seen files.old) (F.seen files.new)
+        (asked_cascade_loop job.now) result.outcome }
+    ensures words { result.words ≡ words_said.Unsaid }
+    ensures states { result.states ≡ 0 }
+    ensures kept { AreKept (F.seen files.old) (F.seen files.new) }
+    ensures plain { IsPlain result.outcome }
+    ensures written { IsWritten (K.seen sink.old) (K.seen sink.new) result.status
+        (status_of result.outcome)
+        (output_of (Some (of_cascade_loop (asked_cascade_loop job.now))) result.words
+        result.outcome) }
+    ensures typed { IfWhole result.status (IfSome
+        (certificate_written (Some (of_cascade_loop (asked_cascade_loop job.now))) result.words
+        result.outcome) IsTyped) }
+{
+    let outcome = cascade_loop_outcome(alloc, job, files);
+    let words = CertWords::Unsaid;
+    let status = written_status(sink, Some(AnyJob::OfCascadeLoop(job)), words, &outcome);
+    Done {
+        status,
+        outcome,
+        words,
+        states: 0,
+    }
+}
+
 /// Runs the command: finds the answer for the arguments after the program's name, and writes its
 /// text to the sink. The writing takes no memory; where the sink fails, a prefix of the text was
 /// written and the status is 4. A polynomial without a closed form is decided by what the proposers
-/// of forms offer, and runs of any length by what those of sets offer; they are asked in their
-/// order and need no trust.
+/// of forms offer, or at last by its table, and runs of any length by what those of sets offer;
+/// they are asked in their order and need no trust.
 pub fn run<F: Files, K: Sink>(
     alloc: Global,
     arguments: &[String],
@@ -222,9 +257,9 @@ pub fn run<F: Files, K: Sink>(
         → proposers.new.forms.items ≡ proposers.old.forms.items }
     // A polynomial of order 0 or 1, or 2 with small coefficients, is always decided.
     ensures low_orders { IfNoForm result.outcome (λ poly kept. is_low poly ≡ false) }
-    // Where the Schur-Cohn form is asked for, so is one for which it is known to be accepted.
+    // If the Schur-Cohn form is asked for, so is each: by its table at last.
     ensures schur_cohn { WantsSchurCohn (request_of (map string_bytes arguments.now))
-        → IfNoForm result.outcome (λ poly kept. IsBeyond poly) }
+        → IfNoForm result.outcome (λ poly kept. ⊥) }
     // What a certificate says of the words is what the file's controller has, and so is how many
     // states the report of a state-space controller says.
     ensures said { IsSaid (F.seen files.old) (F.seen files.new)
@@ -261,6 +296,7 @@ pub fn run<F: Files, K: Sink>(
         }
         Ok(Some(Request::OnStates(job))) => states_done(alloc, &job, files, sink),
         Ok(Some(Request::OnEllipsoid(job))) => ellipsoid_done(alloc, &job, files, sink),
+        Ok(Some(Request::OnCascadeLoop(job))) => cascade_loop_done(alloc, &job, files, sink),
         Ok(Some(Request::OnLoop(job))) => {
             let came = loop_outcome(alloc, &job, files);
             put_job(sink, AnyJob::OfLoop(&job), came)

@@ -8,9 +8,8 @@ ghost use Rattle.dsv_certfile.specs.Lawful.{IsWords};
 ghost use Rattle.dsv_certfile.specs.Words.{words_for};
 ghost use Rattle.dsv_quantiser.specs.Modes.{BecomesWords};
 ghost use Rattle.dsv_cli.specs.Headline.{AreKept, CameOf, IsController, Decides, Seeks};
-ghost use Rattle.dsv_cli.specs.Headline.{FileBecomes, IsRow, SaysWords};
-ghost use Rattle.dsv_cli.specs.Proposers.{IsAsked, AreSetsAsked, IfNoForm};
-ghost use Rattle.dsv_cli.specs.Proposers.{AsksSchurCohn, IsBeyond};
+ghost use Rattle.dsv_cli.specs.Headline.{FileBecomes, IsRow, SaysWords, AsksSchurCohn};
+ghost use Rattle.dsv_cli.specs.Proposers.{IsAsked, AreSetsAsked};
 
 use crate::controller_file::read_controller;
 use crate::gain::gain_answer;
@@ -54,8 +53,6 @@ fn task_answer(
         → proposers.new.sets.items ≡ proposers.old.sets.items }
     ensures unneeded_forms { (Decides (asked_task task.now) → ⊥)
         → proposers.new.forms.items ≡ proposers.old.forms.items }
-    ensures beyond { AsksSchurCohn (asked_task task.now)
-        → IfNoForm result (λ poly kept. IsBeyond poly) }
 {
     match task {
         Task::Decide(question) => { roots_answer(alloc, quantised, question, &mut proposers.forms) }
@@ -111,8 +108,6 @@ fn controller_answer(
         → proposers.new.sets.items ≡ proposers.old.sets.items }
     ensures unneeded_forms { (Decides (asked_of job.now).task → ⊥)
         → proposers.new.forms.items ≡ proposers.old.forms.items }
-    ensures beyond { AsksSchurCohn (asked_of job.now).task
-        → IfNoForm result (λ poly kept. IsBeyond poly) }
 {
     let quantised = quantise_in(controller, job.design)?;
     task_answer(alloc, controller, &quantised, &job.task, proposers)
@@ -147,8 +142,6 @@ pub(crate) fn job_outcome<F: Files>(
         → proposers.new.sets.items ≡ proposers.old.sets.items }
     ensures unneeded_forms { (Decides (asked_of job.now).task → ⊥)
         → proposers.new.forms.items ≡ proposers.old.forms.items }
-    ensures beyond { AsksSchurCohn (asked_of job.now).task
-        → IfNoForm result.outcome (λ poly kept. IsBeyond poly) }
 {
     match read_controller(alloc, job.file, files) {
         Ok(controller) => JobOutcome {

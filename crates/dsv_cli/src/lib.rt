@@ -2,6 +2,7 @@
 //! text.
 #![tactic(auto)]
 
+mod cascade_loops;
 mod check;
 mod command;
 mod controller_file;

@@ -29,7 +29,11 @@ fn plant_stop(refusal: FileRefusal) -> Stop
 }
 
 /// The plant in the file of this name.
-fn read_plant_file<F: Files>(alloc: Global, name: &str, files: &mut F) -> Result<Plant, Stop>
+pub(crate) fn read_plant_file<F: Files>(
+    alloc: Global,
+    name: &str,
+    files: &mut F,
+) -> Result<Plant, Stop>
     ensures plant { IfOk result (IsPlantFileOf (F.seen files.old) name.now) }
     ensures unread { IfErr result (IsPlantUnread (F.seen files.old) (F.seen files.new) name.now) }
     ensures kept { AreKept (F.seen files.old) (F.seen files.new) }

@@ -1,35 +1,41 @@
 // The answer to a job for a loop: its controller and its plant, the controller's words, and then
 // the loop's polynomial and its table.
-ghost use Rattle.std.specs.Prelude.{◌≡◌, ◌∷◌, [], IfOk};
+ghost use Rattle.std.specs.Prelude.{◌≡◌, length};
 ghost use Rattle.dsv_certfile.specs.Lawful.{IsWords};
 ghost use Rattle.dsv_command.specs.Asking.{asked_loop};
 ghost use Rattle.dsv_loop.specs.Loops.{loop_of};
 ghost use Rattle.dsv_cli.specs.Causes.{IsPlain};
 ghost use Rattle.dsv_cli.specs.Headline.{AreKept};
 ghost use Rattle.dsv_cli.specs.Loops.{IsLoopRow, IsOfLoop, IsOfPlant, SaysLoop};
+ghost use Rattle.dsv_cli.specs.Loops.{HasFewCoefficients};
 
 use crate::job::{JobOutcome, words_of};
 use crate::loop_files::{LoopFiles, read_loop};
 use dsv_base::Files;
 use dsv_certfile::CertWords;
 use dsv_command::LoopJob;
+use dsv_fraction::Frac;
 use dsv_loop::loop_polynomial;
 use dsv_quantiser::{Quantised, quantise_in};
-use dsv_reader::{Controller, Plant};
+use dsv_reader::Plant;
 use dsv_report::{Answer, Stop};
 use dsv_table::finding_of;
 use std::alloc::Global;
 use std::slice;
 
-/// The answer for the loop of a controller, which becomes these words, with a plant.
-fn loop_answer(alloc: Global, quantised: &Quantised, files: &LoopFiles) -> Result<Answer, Stop>
-    ensures found { IsOfLoop (loop_of (quantised.now ∷ []) files.now.controller.sample_time
-        files.now.plant) result }
+/// The answer for the loop of the controller with these sections in series, which runs with this
+/// sample time, with a plant.
+pub(crate) fn loop_answer(
+    alloc: Global,
+    sections: &[Quantised],
+    sample_time: Frac,
+    plant: &Plant,
+) -> Result<Answer, Stop>
+    ensures found { IsOfLoop (loop_of sections.now sample_time plant.now) result }
+    ensures few { length sections.now ≡ 1 → HasFewCoefficients result }
     ensures plain { IsPlain result }
 {
-    let sections = slice::from_ref(quantised);
-    let sample_time = *files.controller.sample_time();
-    let poly = loop_polynomial(sections, sample_time, &files.plant, alloc)?;
+    let poly = loop_polynomial(sections, sample_time, plant, alloc)?;
     Ok(Answer::OfTable(finding_of(poly.as_slice(), alloc)?))
 }
 
@@ -39,7 +45,13 @@ fn files_answer(alloc: Global, job: &LoopJob, files: &LoopFiles) -> Result<Answe
     ensures plain { IsPlain result }
 {
     let quantised = quantise_in(&files.controller, job.design)?;
-    loop_answer(alloc, &quantised, files)
+    let sample_time = *files.controller.sample_time();
+    loop_answer(
+        alloc,
+        slice::from_ref(&quantised),
+        sample_time,
+        &files.plant,
+    )
 }
 
 /// What a job for a loop comes to.

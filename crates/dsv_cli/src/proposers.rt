@@ -10,13 +10,7 @@ ghost use Rattle.dsv_template.specs.Boxes.{boxes};
 ghost use Rattle.dsv_cli.specs.Explained.{IsExplained, IsSaid};
 ghost use Rattle.dsv_cli.specs.Headline.{FileBecomes};
 ghost use Rattle.dsv_cli.specs.Headline.{AreKept, IsWritten, IfWhole};
-ghost use Rattle.dsv_cli.specs.Proposers.{
-  IfNoForm,
-  IfNoInvariant,
-  WantsSchurCohn,
-  IsBeyond,
-  is_low,
-};
+ghost use Rattle.dsv_cli.specs.Proposers.{IfNoForm, IfNoInvariant, WantsSchurCohn, is_low};
 ghost use Rattle.dsv_cli.specs.Sets.{AreOfJob};
 
 use crate::command::{Done, put_outcome, run};
@@ -56,7 +50,7 @@ fn run_with<F: Files, K: Sink>(
         (λ q. Some (boxes (shape_of q)) ∷ [])) }
     ensures low_orders { IfNoForm result.outcome (λ poly kept. is_low poly ≡ false) }
     ensures schur_cohn { WantsSchurCohn (request_of (map string_bytes arguments.now))
-        → IfNoForm result.outcome (λ poly kept. IsBeyond poly) }
+        → IfNoForm result.outcome (λ poly kept. ⊥) }
     ensures said { IsSaid (F.seen files.old) (F.seen files.new)
         (request_of (map string_bytes arguments.now)) result.outcome result.states result.words }
     ensures kept { AreKept (F.seen files.old) (F.seen files.new) }
@@ -98,7 +92,7 @@ pub fn run_with_built_in<F: Files, K: Sink>(
         (λ q. Some (boxes (shape_of q)) ∷ [])) }
     ensures low_orders { IfNoForm result.outcome (λ poly kept. is_low poly ≡ false) }
     ensures schur_cohn { WantsSchurCohn (request_of (map string_bytes arguments.now))
-        → IfNoForm result.outcome (λ poly kept. IsBeyond poly) }
+        → IfNoForm result.outcome (λ poly kept. ⊥) }
     ensures said { IsSaid (F.seen files.old) (F.seen files.new)
         (request_of (map string_bytes arguments.now)) result.outcome result.states result.words }
     ensures kept { AreKept (F.seen files.old) (F.seen files.new) }

@@ -1,6 +1,5 @@
 // The controllers in the files of a cascade's sections.
 ghost use Rattle.std.specs.Prelude.{◌≡◌, ◌≤◌, [], ◌∷◌, ◌++◌, length, map, IfOk, IfErr};
-ghost use Rattle.dsv_command.specs.Asking.{asked_cascade};
 ghost use Rattle.dsv_command.specs.Cascades.{most_later};
 ghost use Rattle.dsv_cli.specs.Cascades.{AreControllers, HaveControllers};
 ghost use Rattle.dsv_cli.specs.Cascades.{IsSectionUnread, IsLaterUnread};
@@ -10,7 +9,7 @@ ghost use Rattle.dsv_cli.specs.SectionFiles.{stop_of_section, IsFilesUnread};
 use crate::controller_file::read_controller;
 use crate::file_bytes::read_bytes;
 use dsv_base::{Files, NoMemory};
-use dsv_command::CascadeJob;
+use dsv_command::SectionNames;
 use dsv_reader::{Controller, FileRefusal, read};
 use dsv_report::{Stop, WhichFile};
 use std::alloc::Global;
@@ -73,6 +72,7 @@ fn read_later<F: Files>(
     ensures unread { IfErr result (IsLaterUnread (F.seen files.old) (F.seen files.new)
         (map (λ name. name.now) names.now)) }
     ensures kept { AreKept (F.seen files.old) (F.seen files.new) }
+    ensures came { IfOk result (λ cs. (F.seen files.old).came ≤ (F.seen files.new).came) }
 {
     let mut controllers = Vec::new(alloc);
     for (i, name) in names.iter().enumerate() {
@@ -82,20 +82,26 @@ fn read_later<F: Files>(
     Ok(controllers)
 }
 
-/// The controllers in the files of a cascade, which are read in their order.
+/// The controllers in the files of a cascade, of section 0 and of the later ones, which are read in
+/// their order.
 pub(crate) fn read_sections<F: Files>(
     alloc: Global,
-    job: &CascadeJob,
+    first: &str,
+    later: &SectionNames,
     files: &mut F,
 ) -> Result<SectionFiles, Stop>
-    ensures controllers { IfOk result (λ found. HaveControllers (F.seen files.old)
-        (asked_cascade job.now) found.first found.later.items) }
-    ensures unread { IfErr result (IsFilesUnread (F.seen files.old) (F.seen files.new)
-        (asked_cascade job.now)) }
+    ensures controllers { IfOk result (λ found. HaveControllers (F.seen files.old) first.now
+        (map (λ name. name.now) later.now.items) found.first found.later.items) }
+    ensures unread { IfErr result (IsFilesUnread (F.seen files.old) (F.seen files.new) first.now
+        (map (λ name. name.now) later.now.items)) }
     ensures few { IfOk result (λ found. length found.later.items ≤ most_later) }
     ensures kept { AreKept (F.seen files.old) (F.seen files.new) }
+    ensures came { IfOk result (λ found. (F.seen files.old).came ≤ (F.seen files.new).came) }
 {
-    let first = read_controller(alloc, job.file, files)?;
-    let later = read_later(alloc, job.later.as_slice(), files)?;
-    Ok(SectionFiles { first, later })
+    let controller = read_controller(alloc, first, files)?;
+    let later = read_later(alloc, later.as_slice(), files)?;
+    Ok(SectionFiles {
+        first: controller,
+        later,
+    })
 }

@@ -1,12 +1,11 @@
 // The answer to a job for a cascade: its files' controllers, their words in series, and then the
 // task.
-ghost use Rattle.std.specs.Prelude.{◌≡◌, ◌≤◌, length, IfOk};
+ghost use Rattle.std.specs.Prelude.{◌≡◌, ◌≤◌, true, false, length};
 ghost use Rattle.dsv_cascade.specs.Verdicts.{cascade_outlook_of};
 ghost use Rattle.dsv_command.specs.Asking.{asked_cascade, asked_series};
 ghost use Rattle.dsv_command.specs.Cascades.{decides_stability, searches_overflow};
 ghost use Rattle.dsv_command.specs.Cascades.{measures_series, simulates_series};
 ghost use Rattle.dsv_gain.specs.declared.outlook.Outlook.TheVariants as outlook;
-ghost use Rattle.dsv_cli.specs.Answering.{overflow_outcome};
 ghost use Rattle.dsv_cli.specs.Cascades.{IsOfSeries, IsCascadeRow};
 ghost use Rattle.dsv_cli.specs.Causes.{IsPlain};
 ghost use Rattle.dsv_cli.specs.Gain.{most_gain_samples};
@@ -23,6 +22,7 @@ use dsv_cascade::{
 };
 use dsv_command::{Budget, CascadeJob, CascadeTask, Samples};
 use dsv_gain::Outlook;
+use dsv_poly_table::section_tables;
 use dsv_report::{Answer, OutputError, Stop};
 use std::alloc::Global;
 
@@ -82,26 +82,36 @@ fn simulation_answer(alloc: Global, cascade: &Cascade, inputs: &[i64]) -> Result
     Ok(Answer::Simulated(simulate_cascade(alloc, cascade, inputs)?))
 }
 
-/// Whether the poles of each section fall.
+/// Whether the poles of each section fall, by tables.
+fn tables_answer(alloc: Global, cascade: Cascade) -> Result<Answer, Stop>
+    ensures judged { IsOfSeries (decides_stability true) cascade result }
+    ensures plain { IsPlain result }
+{
+    let sections = cascade.into_sections()?;
+    Ok(Answer::OfSectionTables(section_tables(sections.as_slice(), alloc)?))
+}
+
+/// Whether the poles of each section fall, by closed forms.
 fn stability_answer(cascade: &Cascade) -> Result<Answer, Stop>
-    ensures judged { IsOfSeries decides_stability cascade.now result }
+    ensures judged { IsOfSeries (decides_stability false) cascade.now result }
     ensures plain { IsPlain result }
 {
     Ok(Answer::OfSections(cascade_stability(cascade)))
 }
 
 /// The answer to a task for a cascade.
-fn series_answer(alloc: Global, cascade: &Cascade, task: &CascadeTask) -> Result<Answer, Stop>
-    ensures task { IsOfSeries (asked_series task.now) cascade.now result }
+fn series_answer(alloc: Global, cascade: Cascade, task: &CascadeTask) -> Result<Answer, Stop>
+    ensures task { IsOfSeries (asked_series task.now) cascade result }
     ensures plain { IsPlain result }
 {
     match task {
-        CascadeTask::DecideStability => stability_answer(cascade),
+        CascadeTask::DecideStability { by_tables: true } => tables_answer(alloc, cascade),
+        CascadeTask::DecideStability { by_tables: false } => stability_answer(&cascade),
         CascadeTask::SearchOverflow(samples, budget) => {
-            overflow_answer(alloc, cascade, *samples, *budget)
+            overflow_answer(alloc, &cascade, *samples, *budget)
         }
-        CascadeTask::MeasureGain => gain_answer(alloc, cascade),
-        CascadeTask::Simulate(inputs) => simulation_answer(alloc, cascade, inputs.as_slice()),
+        CascadeTask::MeasureGain => gain_answer(alloc, &cascade),
+        CascadeTask::Simulate(inputs) => simulation_answer(alloc, &cascade, inputs.as_slice()),
     }
 }
 
@@ -116,7 +126,7 @@ pub(crate) fn cascade_outcome<F: Files>(
     ensures kept { AreKept (F.seen files.old) (F.seen files.new) }
     ensures plain { IsPlain result }
 {
-    let controllers = read_sections(alloc, job, files)?;
+    let controllers = read_sections(alloc, job.file, &job.later, files)?;
     let cascade = cascade_of(alloc, &controllers, job.design)?;
-    series_answer(alloc, &cascade, &job.task)
+    series_answer(alloc, cascade, &job.task)
 }

@@ -15,7 +15,8 @@ ghost use Rattle.dsv_cli.specs.Gain.{most_gain_samples};
 ghost use Rattle.dsv_cli.specs.Headline.{AreKept};
 ghost use Rattle.dsv_cli.specs.StateStages.{IsOfForm};
 ghost use Rattle.dsv_cli.specs.States.{IsOfStateSearch, IsOfStateGain, IsOfStateRun};
-ghost use Rattle.dsv_cli.specs.States.{IsOfSoughtForm, IsOfStates, IsStateRow, SaysStates};
+ghost use Rattle.dsv_cli.specs.States.{IsOfSoughtForm, IsOfStateTable, IsOfStates, IsStateRow};
+ghost use Rattle.dsv_cli.specs.States.{SaysStates};
 
 use crate::check::{check_stop, read_certificate};
 use crate::gain::MOST_SAMPLES;
@@ -34,6 +35,7 @@ use dsv_state_space::{
     StateSystem, check_state_falls, driven_state, quantise_state, simulate_state, state_cycle,
     state_gain, state_offer, state_overflow,
 };
+use dsv_state_table::state_finding;
 use std::alloc::Global;
 
 // ---- runs
@@ -123,6 +125,17 @@ fn sought_form_answer(system: &StateSystem) -> Result<Answer, Stop>
     }
 }
 
+/// Whether the states fall, by the table of their polynomial.
+fn table_answer(alloc: Global, system: &StateSystem) -> Result<Answer, Stop>
+    ensures table { IsOfStateTable system.now result }
+    ensures plain { IsPlain result }
+{
+    match state_finding(system, alloc)? {
+        Some(found) => Ok(Answer::OfTable(found)),
+        None => Ok(Answer::NoStateForm),
+    }
+}
+
 /// The answer to a certificate's form.
 fn form_answer(system: &StateSystem, certificate: &Certificate) -> Result<Answer, Stop>
     ensures form { IsOfForm system.now certificate.now result }
@@ -186,6 +199,7 @@ fn states_answer<F: Files>(
     match &job.task {
         StateTask::CheckForm(name) => named_form_answer(alloc, job, controller, name, files),
         StateTask::SeekForm { .. } => sought_form_answer(&words_of(job, controller)?),
+        StateTask::DecideStability => table_answer(alloc, &words_of(job, controller)?),
         StateTask::Search(question, budget) => {
             search_answer(alloc, &words_of(job, controller)?, question, budget)
         }

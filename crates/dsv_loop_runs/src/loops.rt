@@ -31,7 +31,7 @@ fn fields_of(alloc: Global, (b, a): (&str, &str)) -> Option<String> {
 }
 
 /// The controller with these coefficients, and delta 1/4.
-fn controller_of(alloc: Global, coefficients: (&str, &str)) -> Option<Controller> {
+pub fn controller_of(alloc: Global, coefficients: (&str, &str)) -> Option<Controller> {
     let fields = fields_of(alloc, coefficients)?;
     let text = format!(in alloc;
         "digital_system c={{{fields}}};\
@@ -42,7 +42,7 @@ fn controller_of(alloc: Global, coefficients: (&str, &str)) -> Option<Controller
 }
 
 /// The plant with these coefficients.
-fn plant_of(alloc: Global, coefficients: (&str, &str)) -> Option<Plant> {
+pub fn plant_of(alloc: Global, coefficients: (&str, &str)) -> Option<Plant> {
     let fields = fields_of(alloc, coefficients)?;
     let text = format!(in alloc; "digital_system p={{{fields}}};").ok()?;
     read_plant(alloc, text.as_bytes()).ok()
@@ -68,7 +68,7 @@ fn found_loop(alloc: Global, told: &Told<'_>) -> Option<Result<Items<Integer>, L
 }
 
 /// The coefficients of a polynomial, each after a space.
-fn coefficients_text(alloc: Global, poly: &[Integer]) -> Option<String> {
+pub fn coefficients_text(alloc: Global, poly: &[Integer]) -> Option<String> {
     let mut text = String::new(alloc);
     for c in poly {
         text.push_str(" ").ok()?;

@@ -27,19 +27,29 @@ fn count_of(alloc: Global, found: &TableFinding) -> Option<String> {
     }
 }
 
-/// What the table of a polynomial says, which has a positive lead.
-pub fn side_of(alloc: Global, poly: &[Integer]) -> Option<Side> {
-    let lead = poly.first()?;
-    if !lead.is_positive() {
-        return None;
-    }
-    let found = finding_of(poly, alloc).ok()?;
+/// What is found, as a line tells it.
+pub fn side_in(alloc: Global, found: &TableFinding) -> Option<Side> {
     let side = match found.verdict {
         TableVerdict::Inside => String::from_str(alloc, "inside").ok()?,
         TableVerdict::NotInside { row } => format!(in alloc; "row{row}").ok()?,
     };
     Some(Side {
         side,
-        count: count_of(alloc, &found)?,
+        count: count_of(alloc, found)?,
     })
+}
+
+/// What the table of a polynomial says, which has a positive lead.
+pub fn side_of(alloc: Global, poly: &[Integer]) -> Option<Side> {
+    let lead = poly.first()?;
+    if !lead.is_positive() {
+        return None;
+    }
+    side_in(alloc, &finding_of(poly, alloc).ok()?)
+}
+
+/// The number that a decimal text is.
+pub fn number_of(alloc: Global, text: &str) -> Option<Integer> {
+    let numeral = Numeral::read(text.as_bytes(), alloc).ok()??;
+    numeral.number().copy(alloc).ok()
 }

@@ -6,13 +6,16 @@ use Rattle.dsv_cascade.specs.declared.stability.CascadeForms.{CascadeForms}
 use Rattle.dsv_cascade.specs.declared.stability.CascadeForms.TheVariants as forms
 use Rattle.dsv_cascade.specs.declared.stability.SectionOffer.{SectionOffer}
 use Rattle.dsv_cascade.specs.Sections.{place_of}
-use Rattle.dsv_command.specs.Cascades.{AskedCascade}
+use Rattle.dsv_poly_table.specs.declared.sections.SectionTables.{SectionTables}
+use Rattle.dsv_poly_table.specs.declared.sections.SectionTables.TheVariants as tables
+use Rattle.dsv_table.specs.declared.finding.TableFinding.{TableFinding}
 use Rattle.dsv_report.specs.Forms.{form_text, start_text}
 use Rattle.dsv_report.specs.Lines.{numbered, number_line, numbered_lines}
+use Rattle.dsv_report.specs.Tables.{table_text}
 
--- how many sections there are, in the line of the realisation
-abbrev pub sections_text : AskedCascade → List ℕ
-sections_text job = numbered (codes " sections ") (length job.later + 1)
+-- how many sections there are, in the line of the realisation: one before these later ones
+abbrev pub sections_text : List (List ℕ) → List ℕ
+sections_text later = numbered (codes " sections ") (length later + 1)
 
 -- the section that what follows is said of
 abbrev pub section_line : ℕ → List ℕ
@@ -39,6 +42,16 @@ forms_text (forms.KeptAway section poly offer fall value) = section_line section
     ++ (form_text poly offer.form fall ++ start_text (take offer.form.d offer.start) value)
 forms_text (forms.Wide section index) = wide_text section index
 forms_text (forms.NoClosedForm section index) = no_closed_form_text section index
+
+-- what the table of a section says
+abbrev pub section_table_text : ℕ → TableFinding → List ℕ
+section_table_text section found = section_line section ++ table_text found
+
+-- what tables say of the sections, after the heading
+abbrev pub section_tables_text : SectionTables → List ℕ
+section_tables_text (tables.Inside findings) = numbered_lines section_table_text 0 findings
+section_tables_text (tables.NotInside section found) = section_table_text section found
+section_tables_text (tables.Wide section index) = wide_text section index
 
 -- the code and the name of a refusal
 unfoldable pub cascade_code : CascadeRefusal → List ℕ

@@ -17,13 +17,13 @@ use Rattle.dsv_certfile.specs.declared.job.Size.TheVariants as size
 use Rattle.dsv_command.specs.Jobs.{Task, decides, searches, seeks_set, measures_gain, Asked}
 use Rattle.dsv_command.specs.Loops.{AskedLoop}
 use Rattle.dsv_command.specs.Requests.{Request, on_file, on_cascade, on_states, on_ellipsoid}
-use Rattle.dsv_command.specs.Requests.{on_loop, checks, checks_loop, generates}
+use Rattle.dsv_command.specs.Requests.{on_loop, on_cascade_loop, checks, checks_loop, generates}
 use Rattle.dsv_command.specs.States.{StateTask, seeks_form, AskedStates}
 use Rattle.dsv_names.specs.declared.design.Design.{Design}
 use Rattle.dsv_names.specs.declared.property.RootProperty.TheVariants.{Stability}
 use Rattle.dsv_names.specs.declared.realisation.Realisation.TheVariants.{Dfi}
 use Rattle.dsv_report.specs.AnyJobs.{AskedJob, of_controller, of_cascade, of_states}
-use Rattle.dsv_report.specs.AnyJobs.{of_ellipsoid, of_loop}
+use Rattle.dsv_report.specs.AnyJobs.{of_ellipsoid, of_loop, of_cascade_loop}
 use Rattle.dsv_report.specs.Report.{answer_text, stop_text}
 use Rattle.dsv_report.specs.Stops.{Outcome}
 use Rattle.dsv_report.specs.declared.answers.Answer.{Answer}
@@ -60,16 +60,17 @@ gain_of job (answer.InRanges gain error) =
     Some (certificate.Gain job gain.depth (offer_in error))
 gain_of job other = None
 
--- the certificate of a form that falls
-abbrev pub falls_of : CertifiedJob → Answer → Option Certificate
-falls_of job (answer.Falls poly offer fall) = Some (certificate.Falls job offer)
-falls_of job other = None
-
 -- the certificate of a table whose first numbers are all positive
 abbrev pub table_of : CertifiedJob → Answer → Option Certificate
 table_of job (answer.OfTable found) =
     if is_inside found.verdict then Some (certificate.Table job found.poly) else None
 table_of job other = None
+
+-- the certificate of a form that falls, or of such a table
+abbrev pub roots_of : CertifiedJob → Answer → Option Certificate
+roots_of job (answer.Falls poly offer fall) = Some (certificate.Falls job offer)
+roots_of job (answer.OfTable found) = table_of job (answer.OfTable found)
+roots_of job other = None
 
 -- the certificate of an answer to a task, where it has one
 abbrev pub certificate_for : Design → CertWords → Task → Answer → Option Certificate
@@ -80,7 +81,7 @@ certificate_for design words (seeks_set conflicts) =
 certificate_for design words measures_gain =
     gain_of (job_with design words (OfRuns Overflow) size.Unbounded)
 certificate_for design words (decides p schur_cohn) =
-    falls_of (job_with design words (OfRoots p) size.NoSize)
+    roots_of (job_with design words (OfRoots p) size.NoSize)
 certificate_for design words other = λ _. None
 
 -- the certificate of an answer to a job, where the job wants one
@@ -131,6 +132,7 @@ any_certificate_of (of_cascade job) words found = None
 any_certificate_of (of_states job states) words found = state_certificate_of job words found
 any_certificate_of (of_ellipsoid job) words found = None
 any_certificate_of (of_loop job) words found = loop_certificate_of job words found
+any_certificate_of (of_cascade_loop job) words found = None
 
 -- what is written for an answer to a job, or to what is no job
 abbrev pub answer_output : Option AskedJob → CertWords → Answer → List ℕ
@@ -161,6 +163,7 @@ asked_by states (Some (on_cascade job)) = Some (of_cascade job)
 asked_by states (Some (on_states job)) = Some (of_states job states)
 asked_by states (Some (on_ellipsoid job)) = Some (of_ellipsoid job)
 asked_by states (Some (on_loop job)) = Some (of_loop job)
+asked_by states (Some (on_cascade_loop job)) = Some (of_cascade_loop job)
 asked_by states (Some (checks file name)) = None
 asked_by states (Some (checks_loop file name plant)) = None
 asked_by states (Some (generates seed count)) = None

@@ -24,6 +24,7 @@ HasPlaces (answer.Falls poly offer fall) = (offer.form.d ≤ 8) × (fall.d ≤ 8
 HasPlaces (answer.KeptAway poly offer fall value) = (offer.form.d ≤ 8) × (fall.d ≤ 8)
 HasPlaces (answer.OfTable found) = Unit {0}
 HasPlaces (answer.OfSections found) = FormsHavePlaces found
+HasPlaces (answer.OfSectionTables found) = Unit {0}
 HasPlaces (answer.StateFalls states offer fall) = (offer.form.d ≤ 8) × (fall.d ≤ 8)
 HasPlaces answer.NoStateForm = Unit {0}
 HasPlaces answer.NoZeros = Unit {0}

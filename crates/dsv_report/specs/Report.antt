@@ -27,9 +27,9 @@ use Rattle.dsv_command.specs.Jobs.{measures_gain, simulates}
 use Rattle.dsv_command.specs.Cascades.{task_alone}
 use Rattle.dsv_report.specs.Certificates.{checked_text, certificate_text}
 use Rattle.dsv_report.specs.AnyJobs.{AskedJob, of_controller, of_cascade, of_states}
-use Rattle.dsv_report.specs.AnyJobs.{of_ellipsoid, of_loop}
+use Rattle.dsv_report.specs.AnyJobs.{of_ellipsoid, of_loop, of_cascade_loop}
 use Rattle.dsv_report.specs.CascadeTexts.{sections_text, section_line, forms_text}
-use Rattle.dsv_report.specs.CascadeTexts.{cascade_refusal_text}
+use Rattle.dsv_report.specs.CascadeTexts.{section_tables_text, cascade_refusal_text}
 use Rattle.dsv_certfile.specs.Ellipsoids.{ellipsoid_text}
 use Rattle.dsv_report.specs.EllipsoidTexts.{ellipsoid_job_text, in_ellipsoid_text}
 use Rattle.dsv_report.specs.EllipsoidTexts.{no_offer_text, offer_fault_text}
@@ -39,7 +39,10 @@ use Rattle.dsv_report.specs.Fragments.{concatenation}
 use Rattle.dsv_report.specs.Gains.{gain_text, error_text, out_of_range_text, too_deep_text}
 use Rattle.dsv_report.specs.Lines.{property_text, realisation_text, numbered, number_line}
 use Rattle.dsv_report.specs.Lines.{numbered_lines}
-use Rattle.dsv_report.specs.LoopTexts.{loop_job_text, plant_line, loop_refusal_text}
+use Rattle.dsv_report.specs.LoopTexts.{loop_job_text, cascade_loop_job_text, plant_line}
+use Rattle.dsv_report.specs.LoopTexts.{loop_refusal_text}
+use Rattle.dsv_poly_table.specs.declared.sections.SectionTables.{SectionTables}
+use Rattle.dsv_poly_table.specs.declared.sections.SectionTables.TheVariants as section_tables
 use Rattle.dsv_table.specs.declared.verdict.TableVerdict.{TableVerdict}
 use Rattle.dsv_table.specs.declared.verdict.TableVerdict.TheVariants as table
 use Rattle.dsv_report.specs.Refusals.{file_text, quant_text, input_text}
@@ -94,10 +97,11 @@ job_text (of_controller job) = task_text job.task
     ++ (realisation_text job.design.realisation ++ extent_text job.task)
 job_text (of_cascade job) = task_text (task_alone job.task)
     ++ (realisation_text job.design.realisation
-    ++ (sections_text job ++ extent_text (task_alone job.task)))
+    ++ (sections_text job.later ++ extent_text (task_alone job.task)))
 job_text (of_states job states) = state_job_text job states
 job_text (of_ellipsoid job) = ellipsoid_job_text job
 job_text (of_loop job) = loop_job_text job
+job_text (of_cascade_loop job) = cascade_loop_job_text job
 
 -- the verdict and what the job asked for; without a job there is none
 abbrev pub heading : List ℕ → Option AskedJob → List ℕ
@@ -239,6 +243,17 @@ forms_status (forms.KeptAway section poly offer fall value) = 10
 forms_status (forms.Wide section index) = 20
 forms_status (forms.NoClosedForm section index) = 20
 
+-- and of what tables say of them
+abbrev pub section_tables_verdict : SectionTables → List ℕ
+section_tables_verdict (section_tables.Inside findings) = successful
+section_tables_verdict (section_tables.NotInside section found) = failed
+section_tables_verdict (section_tables.Wide section index) = inconclusive
+
+abbrev pub section_tables_status : SectionTables → ℕ
+section_tables_status (section_tables.Inside findings) = 0
+section_tables_status (section_tables.NotInside section found) = 10
+section_tables_status (section_tables.Wide section index) = 20
+
 -- the text of an answer to a job, or to a check or a generation, which are no jobs
 abbrev pub answer_text : Option AskedJob → Answer → List ℕ
 answer_text job (answer.Falls poly offer fall) =
@@ -249,6 +264,8 @@ answer_text job (answer.KeptAway poly offer fall value) =
 answer_text job (answer.OfTable found) =
     heading (table_heading found.verdict) job ++ table_text found
 answer_text job (answer.OfSections found) = heading (forms_verdict found) job ++ forms_text found
+answer_text job (answer.OfSectionTables found) =
+    heading (section_tables_verdict found) job ++ section_tables_text found
 answer_text job (answer.StateFalls states offer fall) =
     heading successful job ++ fall_text offer.form fall
 answer_text job answer.NoStateForm = heading inconclusive job ++ no_state_form_text
@@ -315,6 +332,7 @@ answer_status (answer.Falls poly offer fall) = 0
 answer_status (answer.KeptAway poly offer fall value) = 10
 answer_status (answer.OfTable found) = table_status found.verdict
 answer_status (answer.OfSections found) = forms_status found
+answer_status (answer.OfSectionTables found) = section_tables_status found
 answer_status (answer.StateFalls states offer fall) = 0
 answer_status answer.NoStateForm = 20
 answer_status answer.NoZeros = 10

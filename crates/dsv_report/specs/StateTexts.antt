@@ -10,7 +10,7 @@ use Rattle.dsv_state_space.specs.Places.{place_name}
 use Rattle.dsv_state_space.specs.declared.refusal.StateQuantRefusal.{StateQuantRefusal}
 use Rattle.dsv_state_space.specs.declared.refusal.StateQuantRefusal.TheVariants as quant
 use Rattle.dsv_command.specs.States.{StateTask, checks_form, seeks_form, searches_states}
-use Rattle.dsv_command.specs.States.{measures_states, simulates_states, AskedStates}
+use Rattle.dsv_command.specs.States.{decides_states, measures_states, simulates_states, AskedStates}
 use Rattle.dsv_report.specs.Fragments.{concatenation}
 use Rattle.dsv_report.specs.Lines.{property_text, numbered, number_line}
 
@@ -19,6 +19,7 @@ use Rattle.dsv_report.specs.Lines.{property_text, numbered, number_line}
 abbrev pub state_task_text : StateTask → List ℕ
 state_task_text (checks_form name) = property_text (OfRoots Stability)
 state_task_text (seeks_form certified) = property_text (OfRoots Stability)
+state_task_text decides_states = property_text (OfRoots Stability)
 state_task_text (searches_states property samples conflicts) = property_text (OfRuns property)
 state_task_text measures_states = property_text (OfRuns Overflow)
 state_task_text (simulates_states inputs) = []
@@ -28,6 +29,7 @@ state_task_text (simulates_states inputs) = []
 abbrev pub state_extent_text : StateTask → List ℕ
 state_extent_text (checks_form name) = codes "\n"
 state_extent_text (seeks_form certified) = codes "\n"
+state_extent_text decides_states = codes "\n"
 state_extent_text (searches_states property samples conflicts) =
     number_line (codes " samples ") samples
 state_extent_text measures_states = codes " gain\n"

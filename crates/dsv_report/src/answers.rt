@@ -8,6 +8,7 @@ use dsv_hints::Log;
 use dsv_jury::Jury;
 use dsv_lyapunov::KeptForms;
 use dsv_meaning::{Cycle, Trace};
+use dsv_poly_table::SectionTables;
 use dsv_system::Rows;
 use dsv_table::TableFinding;
 use dsv_tally::Generated;
@@ -47,6 +48,8 @@ pub enum Answer {
     OfTable(TableFinding),
     /// What closed forms say of the sections of a cascade.
     OfSections(CascadeForms),
+    /// What tables say of the sections of a cascade.
+    OfSectionTables(SectionTables),
     /// The form of the offer strictly falls along the states of a controller with so many of them,
     /// without input, by the form `fall` in a step.
     StateFalls {
@@ -54,7 +57,8 @@ pub enum Answer {
         offer: Falls,
         fall: Form,
     },
-    /// No form was found that falls along the states: the search for one ended.
+    /// No form was found that falls along the states: the search for one ended, or no table shows
+    /// one.
     NoStateForm,
     /// All coefficients of the numerator are 0, so that there are no zeros to test.
     NoZeros,

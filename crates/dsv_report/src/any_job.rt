@@ -1,8 +1,8 @@
 // The jobs that a report is headed by.
-use dsv_command::{CascadeJob, EllipsoidJob, Job, LoopJob, StateJob};
+use dsv_command::{CascadeJob, CascadeLoopJob, EllipsoidJob, Job, LoopJob, StateJob};
 
-/// A job for a controller, for a cascade, for a state-space controller, of an ellipsoid, or for a
-/// controller's loop with a plant.
+/// A job for a controller, for a cascade, for a state-space controller, of an ellipsoid, or for the
+/// loop of a controller or a cascade with a plant.
 #[derive(Clone, Copy)]
 pub enum AnyJob<'a> {
     OfController(&'a Job<'a>),
@@ -14,4 +14,5 @@ pub enum AnyJob<'a> {
     },
     OfEllipsoid(&'a EllipsoidJob<'a>),
     OfLoop(&'a LoopJob<'a>),
+    OfCascadeLoop(&'a CascadeLoopJob<'a>),
 }

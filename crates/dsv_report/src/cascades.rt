@@ -1,18 +1,32 @@
 // Writes what is found of a cascade's sections, with no memory.
-ghost use Rattle.std.specs.Prelude.{◌≡◌};
+ghost use Rattle.std.specs.Prelude.{◌≡◌, map};
 ghost use Rattle.std.specs.List.{All};
 ghost use Rattle.dsv_base.specs.Taking.{Writes};
 ghost use Rattle.dsv_cascade.specs.Sections.{place_of};
 ghost use Rattle.dsv_report.specs.CascadeTexts.{section_line, section_text, cause_text};
 ghost use Rattle.dsv_report.specs.CascadeTexts.{wide_text, no_closed_form_text, forms_text};
 ghost use Rattle.dsv_report.specs.CascadeTexts.{cascade_code, cascade_refusal_text};
+ghost use Rattle.dsv_report.specs.CascadeTexts.{sections_text, section_table_text};
+ghost use Rattle.dsv_report.specs.CascadeTexts.{section_tables_text};
 ghost use Rattle.dsv_report.specs.Lines.{numbered_lines};
 ghost use Rattle.dsv_report.specs.Printing.{SectionHasPlaces, FormsHavePlaces};
 
 use crate::forms::{put_form, put_kept_away};
 use crate::lines::{put_number_line, put_numbered};
+use crate::tables::put_table;
 use dsv_base::{Failed, Sink};
 use dsv_cascade::{CascadeForms, CascadeRefusal, SectionOffer};
+use dsv_command::SectionNames;
+use dsv_poly_table::SectionTables;
+use dsv_table::TableFinding;
+
+/// Writes how many sections there are: one before these later ones.
+pub(crate) fn put_section_count<K: Sink>(sink: &mut K, later: &SectionNames) -> Result<(), Failed>
+    ensures { Writes (K.seen sink.old) (K.seen sink.new) result
+        (sections_text (map (λ name. name.now) later.now.items)) }
+{
+    put_numbered(sink, b" sections ", later.len() as u64 + 1)
+}
 
 /// Writes the section that what follows is said of.
 pub(crate) fn put_section<K: Sink>(sink: &mut K, section: u64) -> Result<(), Failed>
@@ -95,6 +109,45 @@ pub(crate) fn put_forms<K: Sink>(sink: &mut K, found: &CascadeForms) -> Result<(
         }
         CascadeForms::NoClosedForm { section, index } => {
             put_no_closed_form(sink, u64::from(*section), u64::from(*index))
+        }
+    }
+}
+
+/// Writes what the table of a section says.
+fn put_section_table<K: Sink>(
+    sink: &mut K,
+    section: u64,
+    found: &TableFinding,
+) -> Result<(), Failed>
+    ensures { Writes (K.seen sink.old) (K.seen sink.new) result
+        (section_table_text section found.now) }
+{
+    put_section(sink, section)?;
+    put_table(sink, found)
+}
+
+/// Writes what the table of each section says.
+fn put_findings<K: Sink>(sink: &mut K, findings: &[TableFinding]) -> Result<(), Failed>
+    ensures { Writes (K.seen sink.old) (K.seen sink.new) result
+        (numbered_lines section_table_text 0 findings.now) }
+{
+    for (section, found) in findings.iter().enumerate() {
+        put_section_table(sink, section as u64, found)?;
+    }
+    Ok(())
+}
+
+/// Writes what tables say of a cascade's sections.
+pub(crate) fn put_section_tables<K: Sink>(sink: &mut K, found: &SectionTables) -> Result<(), Failed>
+    ensures { Writes (K.seen sink.old) (K.seen sink.new) result (section_tables_text found.now) }
+{
+    match found {
+        SectionTables::Inside(findings) => put_findings(sink, findings.as_slice()),
+        SectionTables::NotInside { section, found } => {
+            put_section_table(sink, *section as u64, found)
+        }
+        SectionTables::Wide { section, index } => {
+            put_wide(sink, *section as u64, u64::from(*index))
         }
     }
 }

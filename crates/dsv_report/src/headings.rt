@@ -3,6 +3,7 @@ ghost use Rattle.std.specs.Prelude.{◌≡◌};
 ghost use Rattle.dsv_report.specs.Report as report;
 
 use dsv_cascade::CascadeForms;
+use dsv_poly_table::SectionTables;
 use dsv_table::TableVerdict;
 
 /// The first line of a success.
@@ -49,6 +50,17 @@ pub(crate) fn forms_verdict(found: &CascadeForms) -> &'static [u8]
     }
 }
 
+/// The verdict of what tables say of a cascade's sections.
+pub(crate) fn section_tables_verdict(found: &SectionTables) -> &'static [u8]
+    ensures { result.now ≡ report.section_tables_verdict found.now }
+{
+    match found {
+        SectionTables::Inside(_) => success_heading(),
+        SectionTables::NotInside { .. } => failure_heading(),
+        SectionTables::Wide { .. } => doubt_heading(),
+    }
+}
+
 /// The verdict of what a table says.
 pub(crate) fn table_heading(verdict: TableVerdict) -> &'static [u8]
     ensures { result.now ≡ report.table_heading verdict }
@@ -67,6 +79,17 @@ pub(crate) fn forms_status(found: &CascadeForms) -> u8
         CascadeForms::Falls(_) => 0,
         CascadeForms::KeptAway { .. } => 10,
         CascadeForms::Wide { .. } | CascadeForms::NoClosedForm { .. } => 20,
+    }
+}
+
+/// The status of what tables say of a cascade's sections.
+pub(crate) fn section_tables_status(found: &SectionTables) -> u8
+    ensures { result ≡ report.section_tables_status found.now }
+{
+    match found {
+        SectionTables::Inside(_) => 0,
+        SectionTables::NotInside { .. } => 10,
+        SectionTables::Wide { .. } => 20,
     }
 }
 

@@ -1,11 +1,13 @@
 // Writes what a job for a loop asked for, and why there is no loop, with no memory.
 ghost use Rattle.dsv_base.specs.Taking.{Writes};
-ghost use Rattle.dsv_command.specs.Asking.{asked_loop};
+ghost use Rattle.dsv_command.specs.Asking.{asked_loop, asked_cascade_loop};
 ghost use Rattle.dsv_report.specs.LoopTexts.{loop_job_text, plant_line, loop_refusal_text};
+ghost use Rattle.dsv_report.specs.LoopTexts.{cascade_loop_job_text};
 
+use crate::cascades::put_section_count;
 use crate::lines::{put_property, put_realisation};
 use dsv_base::{Failed, Sink, put_all};
-use dsv_command::LoopJob;
+use dsv_command::{CascadeLoopJob, LoopJob};
 use dsv_loop::LoopRefusal;
 use dsv_names::{Property, RootProperty};
 
@@ -16,6 +18,20 @@ pub(crate) fn put_loop_job<K: Sink>(sink: &mut K, job: &LoopJob) -> Result<(), F
 {
     put_property(sink, Property::OfRoots(RootProperty::Stability))?;
     put_realisation(sink, job.design.realisation)?;
+    put_all(sink, b" plant\n")
+}
+
+/// Writes what a job for the loop of a cascade asked for.
+pub(crate) fn put_cascade_loop_job<K: Sink>(
+    sink: &mut K,
+    job: &CascadeLoopJob,
+) -> Result<(), Failed>
+    ensures { Writes (K.seen sink.old) (K.seen sink.new) result
+        (cascade_loop_job_text (asked_cascade_loop job.now)) }
+{
+    put_property(sink, Property::OfRoots(RootProperty::Stability))?;
+    put_realisation(sink, job.design.realisation)?;
+    put_section_count(sink, &job.later)?;
     put_all(sink, b" plant\n")
 }
 

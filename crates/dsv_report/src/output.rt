@@ -3,7 +3,7 @@ ghost use Rattle.std.specs.Prelude.{◌≡◌, Some, IfSome, IfOk, OnOk};
 ghost use Rattle.dsv_base.specs.Taking.{Writes};
 ghost use Rattle.dsv_command.specs.Asking.{asked_of, asked_task, asked_state_task, asked_states};
 ghost use Rattle.dsv_command.specs.Asking.{asked_loop};
-ghost use Rattle.dsv_report.specs.Output.{job_with, hints_of, invariant_of, gain_of, falls_of};
+ghost use Rattle.dsv_report.specs.Output.{job_with, hints_of, invariant_of, gain_of, roots_of};
 ghost use Rattle.dsv_report.specs.Output.{offer_in};
 ghost use Rattle.dsv_report.specs.Output.{certificate_for, answer_output, text_or, output_of};
 ghost use Rattle.dsv_report.specs.Output.{answer_certificate, certificate_written};
@@ -146,7 +146,7 @@ fn put_gain<K: Sink>(
 }
 
 /// Writes the certificate of an answer on roots, or its report where it has none.
-fn put_falls<K: Sink>(
+fn put_roots<K: Sink>(
     sink: &mut K,
     job: &Job,
     words: CertWords,
@@ -156,17 +156,18 @@ fn put_falls<K: Sink>(
     requires places { HasPlaces answer.now }
     requires words { IsWords words }
     ensures text { Writes (K.seen sink.old) (K.seen sink.new) result
-        (text_or (falls_of (job_with job.now.design words (OfRoots property) size.NoSize)
+        (text_or (roots_of (job_with job.now.design words (OfRoots property) size.NoSize)
         answer.now)
         (answer_text (Some (of_controller (asked_of job.now))) answer.now)) }
     ensures typed { OnOk result (IfSome
-        (falls_of (job_with job.now.design words (OfRoots property) size.NoSize) answer.now)
+        (roots_of (job_with job.now.design words (OfRoots property) size.NoSize) answer.now)
         IsTyped) }
 {
+    let certified = job_with(job.design, words, Property::OfRoots(property), Size::NoSize);
     match answer {
-        Answer::Falls { offer, .. } => {
-            let certified = job_with(job.design, words, Property::OfRoots(property), Size::NoSize);
-            write_falls(sink, &certified, offer)
+        Answer::Falls { offer, .. } => write_falls(sink, &certified, offer),
+        Answer::OfTable(found) if found.verdict.is_inside() => {
+            write_table(sink, &certified, &found.poly)
         }
         _ => put_answer(sink, Some(AnyJob::OfController(job)), answer),
     }
@@ -191,7 +192,7 @@ fn put_certificate<K: Sink>(
         Task::Search(question, _) => put_hints(sink, job, words, question, answer),
         Task::SeekSet(_) => put_invariant(sink, job, words, answer),
         Task::MeasureGain => put_gain(sink, job, words, answer),
-        Task::Decide(question) => put_falls(sink, job, words, question.property, answer),
+        Task::Decide(question) => put_roots(sink, job, words, question.property, answer),
         Task::CheckTime | Task::WriteFormula(_) | Task::Simulate(_) => {
             put_answer(sink, Some(AnyJob::OfController(job)), answer)
         }

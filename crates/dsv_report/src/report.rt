@@ -9,7 +9,7 @@ ghost use Rattle.dsv_command.specs.Cascades.{task_alone};
 ghost use Rattle.dsv_report.specs.Gains.{gain_text, error_text, out_of_range_text, too_deep_text};
 ghost use Rattle.dsv_report.specs.AnyJobs as any;
 ghost use Rattle.dsv_report.specs.AnyJobs.{asked_in, of_controller, of_cascade};
-ghost use Rattle.dsv_report.specs.CascadeTexts.{sections_text, forms_text};
+ghost use Rattle.dsv_report.specs.CascadeTexts.{forms_text, section_tables_text};
 ghost use Rattle.dsv_report.specs.Forms as forms;
 ghost use Rattle.dsv_report.specs.Printing.{HasPlaces, FormsHavePlaces};
 ghost use Rattle.dsv_report.specs.Report as report;
@@ -19,17 +19,18 @@ ghost use Rattle.dsv_report.specs.Tables.{table_text};
 
 use crate::answers::{Answer, OutputError};
 use crate::any_job::AnyJob;
-use crate::cascades::put_forms;
+use crate::cascades::{put_forms, put_section_count, put_section_tables};
 use crate::certificates::put_checked;
 use crate::ellipsoids::{put_ellipsoid_job, put_in_ellipsoid, put_no_offer_cause};
 use crate::forms::{put_fall, put_form, put_kept_away, put_numbers};
 use crate::fragments::{Fragment, put_fragments};
 use crate::gains::{put_measure, put_out_of_range};
 use crate::headings::{
-    FAILED, INCONCLUSIVE, SUCCESSFUL, forms_status, forms_verdict, table_heading, table_status,
+    FAILED, INCONCLUSIVE, SUCCESSFUL, forms_status, forms_verdict, section_tables_status,
+    section_tables_verdict, table_heading, table_status,
 };
 use crate::lines::{put_number_line, put_numbered, put_property, put_realisation};
-use crate::loops::put_loop_job;
+use crate::loops::{put_cascade_loop_job, put_loop_job};
 use crate::states::{put_no_form_cause, put_state_job};
 use crate::stop::Stop;
 use crate::stops::stop_status;
@@ -46,6 +47,7 @@ use dsv_gain::Gain;
 use dsv_jury::Jury;
 use dsv_meaning::{Cycle, Trace};
 use dsv_names::{Property, RootProperty, RunProperty};
+use dsv_poly_table::SectionTables;
 use dsv_system::{Row, Rows};
 use dsv_table::TableFinding;
 use dsv_template::{Candidate, Inequality, KeptSet, Why};
@@ -104,7 +106,7 @@ fn put_series_task<K: Sink>(sink: &mut K, task: &CascadeTask) -> Result<(), Fail
         (report.task_text (task_alone (asked_series task.now))) }
 {
     match task {
-        CascadeTask::DecideStability => {
+        CascadeTask::DecideStability { .. } => {
             put_property(sink, Property::OfRoots(RootProperty::Stability))
         }
         CascadeTask::SearchOverflow(_, _) | CascadeTask::MeasureGain => {
@@ -124,16 +126,8 @@ fn put_series_extent<K: Sink>(sink: &mut K, task: &CascadeTask) -> Result<(), Fa
             put_number_line(sink, b" samples ", samples.count.into())
         }
         CascadeTask::MeasureGain => put_all(sink, b" gain\n"),
-        CascadeTask::DecideStability | CascadeTask::Simulate(_) => put_all(sink, b"\n"),
+        CascadeTask::DecideStability { .. } | CascadeTask::Simulate(_) => put_all(sink, b"\n"),
     }
-}
-
-/// Writes how many sections there are.
-fn put_section_count<K: Sink>(sink: &mut K, job: &CascadeJob) -> Result<(), Failed>
-    ensures { Writes (K.seen sink.old) (K.seen sink.new) result
-        (sections_text (asked_cascade job.now)) }
-{
-    put_numbered(sink, b" sections ", job.later.len() as u64 + 1)
 }
 
 /// Writes what a job for a cascade asked for.
@@ -143,7 +137,7 @@ fn put_cascade_job<K: Sink>(sink: &mut K, job: &CascadeJob) -> Result<(), Failed
 {
     put_series_task(sink, &job.task)?;
     put_realisation(sink, job.design.realisation)?;
-    put_section_count(sink, job)?;
+    put_section_count(sink, &job.later)?;
     put_series_extent(sink, &job.task)
 }
 
@@ -158,6 +152,7 @@ fn put_job<K: Sink>(sink: &mut K, job: AnyJob) -> Result<(), Failed>
         AnyJob::OfStates { job, states } => put_state_job(sink, job, u64::from(states)),
         AnyJob::OfEllipsoid(job) => put_ellipsoid_job(sink, job),
         AnyJob::OfLoop(job) => put_loop_job(sink, job),
+        AnyJob::OfCascadeLoop(job) => put_cascade_loop_job(sink, job),
     }
 }
 
@@ -486,15 +481,15 @@ fn put_offered_sets<K: Sink>(sink: &mut K, offers: u64, spent: u64) -> Result<()
 fn put_no_invariant<K: Sink>(
     sink: &mut K,
     job: Option<AnyJob>,
-    offers: u64,
-    spent: u64,
+    kept: &[KeptSet],
 ) -> Result<(), Failed>
     ensures { Writes (K.seen sink.old) (K.seen sink.new) result
         (report.heading report.inconclusive (asked_in job.entry)
-        ++ report.no_invariant_text offers spent) }
+        ++ report.no_invariant_text (length kept.now)
+        (length (filter report.is_spent kept.now))) }
 {
     put_heading(sink, INCONCLUSIVE, job)?;
-    put_offered_sets(sink, offers, spent)
+    put_offered_sets(sink, kept.len() as u64, spent_in(kept))
 }
 
 /// Writes that nothing overflows in runs of any length, by the ranges of the gain, and how far
@@ -603,6 +598,20 @@ fn put_sections<K: Sink>(
     put_forms(sink, found)
 }
 
+/// Writes what tables say of a cascade's sections.
+fn put_tabled_sections<K: Sink>(
+    sink: &mut K,
+    job: Option<AnyJob>,
+    found: &SectionTables,
+) -> Result<(), Failed>
+    ensures { Writes (K.seen sink.old) (K.seen sink.new) result
+        (report.heading (report.section_tables_verdict found.now) (asked_in job.entry)
+        ++ section_tables_text found.now) }
+{
+    put_heading(sink, section_tables_verdict(found), job)?;
+    put_section_tables(sink, found)
+}
+
 /// Writes what the table of a polynomial says of its roots.
 fn put_decided<K: Sink>(
     sink: &mut K,
@@ -673,6 +682,7 @@ fn answer_status(answer: &Answer) -> u8
     match answer {
         Answer::OfTable(found) => table_status(found.verdict),
         Answer::OfSections(found) => forms_status(found),
+        Answer::OfSectionTables(found) => section_tables_status(found),
         Answer::Falls { .. }
         | Answer::StateFalls { .. }
         | Answer::OnTime(_)
@@ -734,6 +744,7 @@ pub(crate) fn put_answer<K: Sink>(
         }
         Answer::OfTable(found) => put_decided(sink, job, found),
         Answer::OfSections(found) => put_sections(sink, job, found),
+        Answer::OfSectionTables(found) => put_tabled_sections(sink, job, found),
         Answer::StateFalls { offer, fall, .. } => put_state_falls(sink, job, &offer.form, fall),
         Answer::NoStateForm => put_no_state_form(sink, job),
         Answer::NoZeros => put_no_zeros(sink, job),
@@ -743,10 +754,7 @@ pub(crate) fn put_answer<K: Sink>(
         Answer::Late(found) => put_late(sink, job, found),
         Answer::Never { .. } => put_never(sink, job),
         Answer::Always { candidate, .. } => put_always(sink, job, candidate),
-        Answer::NoInvariant { kept } => {
-            let sets = kept.as_slice();
-            put_no_invariant(sink, job, sets.len() as u64, spent_in(sets))
-        }
+        Answer::NoInvariant { kept } => put_no_invariant(sink, job, kept.as_slice()),
         Answer::InRanges { gain, error } => put_in_ranges(sink, job, gain, error),
         Answer::InEllipsoid(offer) => put_kept_in(sink, job, offer),
         Answer::FoundEllipsoid(offer) => write_ellipsoid(sink, offer),

@@ -23,7 +23,7 @@ fn put_state_task<K: Sink>(sink: &mut K, task: &StateTask) -> Result<(), Failed>
         (state_task_text (asked_state_task task.now)) }
 {
     match task {
-        StateTask::CheckForm(_) | StateTask::SeekForm { .. } => {
+        StateTask::CheckForm(_) | StateTask::SeekForm { .. } | StateTask::DecideStability => {
             put_property(sink, Property::OfRoots(RootProperty::Stability))
         }
         StateTask::Search(question, _) => put_property(sink, Property::OfRuns(question.property)),
@@ -43,9 +43,10 @@ fn put_state_extent<K: Sink>(sink: &mut K, task: &StateTask) -> Result<(), Faile
             put_number_line(sink, b" samples ", question.samples.into())
         }
         StateTask::MeasureGain => put_all(sink, b" gain\n"),
-        StateTask::CheckForm(_) | StateTask::SeekForm { .. } | StateTask::Simulate(_) => {
-            put_all(sink, b"\n")
-        }
+        StateTask::CheckForm(_)
+        | StateTask::SeekForm { .. }
+        | StateTask::DecideStability
+        | StateTask::Simulate(_) => put_all(sink, b"\n"),
     }
 }
 

@@ -8,8 +8,8 @@ use Rattle.dsv_report.specs.Output.{output_of, certificate_written, asked_by}
 use Rattle.dsv_report.specs.Report.{status_of}
 use Rattle.dsv_cli.specs.Explained.{IsSaid}
 use Rattle.dsv_cli.specs.Headline.{FileBecomes, IsWritten, IfWhole}
-use Rattle.dsv_cli.specs.Proposers.{AreSetsAsked, IsAsked, WantsForm, WantsSet, WantsSchurCohn, IfNoForm, IsBeyond, is_low}
-use Rattle.dsv_cli.proofs.Unasked.{low_is_decided, unasked, sets_unasked, some_form}
+use Rattle.dsv_cli.specs.Proposers.{AreSetsAsked, IsAsked, WantsForm, WantsSet, WantsSchurCohn, IfNoForm, is_low}
+use Rattle.dsv_cli.proofs.Unasked.{low_is_decided, table_decides, unasked, sets_unasked, some_form}
 use Rattle.dsv_cli.proofs.command.run.Goals as goal
 
 -- ---- a job on a file
@@ -50,7 +50,10 @@ returns-in-Ok-Some-OnFile-clause-forms g c =
 pub returns-in-Ok-Some-OnFile-clause-schur_cohn : goal.returns-in-Ok-Some-OnFile-clause-schur_cohn
 returns-in-Ok-Some-OnFile-clause-schur_cohn g c =
     let e : Some (on_file (asked_of c.in-Ok-Some-OnFile.job)) ≡ request_of (map string_bytes c.args.arguments.now) = search rules in
-    rw c.put_job.ensures.outcome (subst (λ request. WantsSchurCohn request → IfNoForm c.job_outcome-came.result.outcome (λ poly kept. IsBeyond poly)) e c.job_outcome-came.ensures.beyond)
+    let old = g.F.Files.seen c.args.files.now in
+    let came = c.job_outcome-came in
+    rw c.put_job.ensures.outcome (subst (λ request. WantsSchurCohn request → IfNoForm came.result.outcome (λ poly kept. ⊥)) e
+    (table_decides (old.held (asked_of c.in-Ok-Some-OnFile.job).file) old (g.F.Files.seen came.new.files) (asked_of c.in-Ok-Some-OnFile.job) came.result.outcome came.ensures.row))
 
 pub returns-in-Ok-Some-OnFile-clause-said : goal.returns-in-Ok-Some-OnFile-clause-said
 returns-in-Ok-Some-OnFile-clause-said g c =
@@ -100,7 +103,7 @@ returns-in-Ok-Some-OnLoop-clause-forms g c =
 pub returns-in-Ok-Some-OnLoop-clause-schur_cohn : goal.returns-in-Ok-Some-OnLoop-clause-schur_cohn
 returns-in-Ok-Some-OnLoop-clause-schur_cohn g c =
     let came = c.loop_outcome-came in
-    λ wanted. rw c.put_job-in-Ok-Some-OnLoop.ensures.outcome (some_form came.result.outcome (λ poly kept. IsBeyond poly) came.ensures.plain)
+    λ wanted. rw c.put_job-in-Ok-Some-OnLoop.ensures.outcome (some_form came.result.outcome (λ poly kept. ⊥) came.ensures.plain)
 
 pub returns-in-Ok-Some-OnLoop-clause-said : goal.returns-in-Ok-Some-OnLoop-clause-said
 returns-in-Ok-Some-OnLoop-clause-said g c =
@@ -174,7 +177,7 @@ returns-in-Ok-Some-Check-clause-forms g c =
     (WantsSchurCohn (request_of (map string_bytes c.args.arguments.now))) c.args.proposers.now.forms.items c.check_answer.result c.check_answer.ensures.plain)
 
 pub returns-in-Ok-Some-Check-clause-schur_cohn : goal.returns-in-Ok-Some-Check-clause-schur_cohn
-returns-in-Ok-Some-Check-clause-schur_cohn g c = λ wanted. rw c.put_outcome.ensures.outcome (some_form c.check_answer.result (λ poly kept. IsBeyond poly) c.check_answer.ensures.plain)
+returns-in-Ok-Some-Check-clause-schur_cohn g c = λ wanted. rw c.put_outcome.ensures.outcome (some_form c.check_answer.result (λ poly kept. ⊥) c.check_answer.ensures.plain)
 
 -- ---- a check of a certificate of a loop
 pub returns-in-Ok-Some-CheckLoop-clause-sets : goal.returns-in-Ok-Some-CheckLoop-clause-sets
@@ -188,4 +191,15 @@ returns-in-Ok-Some-CheckLoop-clause-forms g c =
     (WantsSchurCohn (request_of (map string_bytes c.args.arguments.now))) c.args.proposers.now.forms.items c.loop_check_answer.result c.loop_check_answer.ensures.plain)
 
 pub returns-in-Ok-Some-CheckLoop-clause-schur_cohn : goal.returns-in-Ok-Some-CheckLoop-clause-schur_cohn
-returns-in-Ok-Some-CheckLoop-clause-schur_cohn g c = λ wanted. rw c.put_outcome-in-Ok-Some-CheckLoop.ensures.outcome (some_form c.loop_check_answer.result (λ poly kept. IsBeyond poly) c.loop_check_answer.ensures.plain)
+returns-in-Ok-Some-CheckLoop-clause-schur_cohn g c = λ wanted. rw c.put_outcome-in-Ok-Some-CheckLoop.ensures.outcome (some_form c.loop_check_answer.result (λ poly kept. ⊥) c.loop_check_answer.ensures.plain)
+
+-- ---- a job for the loop of a cascade: it asks no proposer
+pub returns-in-Ok-Some-OnCascadeLoop-clause-sets : goal.returns-in-Ok-Some-OnCascadeLoop-clause-sets
+returns-in-Ok-Some-OnCascadeLoop-clause-sets g c =
+    sets_unasked (λ b. b.ptr) (λ b. (goal.InvariantProposer-dyn g (b.vtable, b.value)).last b.value) (λ b shape. (goal.InvariantProposer-dyn g (b.vtable, b.value)).to_come b.value shape)
+    (FileBecomes (g.F.Files.seen c.args.files.now) (job_of (map string_bytes c.args.arguments.now))) c.args.proposers.now.sets.items c.cascade_loop_done.result.outcome c.cascade_loop_done.ensures.plain
+
+pub returns-in-Ok-Some-OnCascadeLoop-clause-forms : goal.returns-in-Ok-Some-OnCascadeLoop-clause-forms
+returns-in-Ok-Some-OnCascadeLoop-clause-forms g c =
+    unasked (λ b. b.ptr) (λ b. (goal.FormProposer-dyn g (b.vtable, b.value)).last b.value) (λ b cs. (goal.FormProposer-dyn g (b.vtable, b.value)).sure b.value cs) (λ b cs. (goal.FormProposer-dyn g (b.vtable, b.value)).to_come b.value cs)
+    (WantsSchurCohn (request_of (map string_bytes c.args.arguments.now))) c.args.proposers.now.forms.items c.cascade_loop_done.result.outcome c.cascade_loop_done.ensures.plain

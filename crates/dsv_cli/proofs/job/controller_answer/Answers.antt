@@ -5,7 +5,7 @@ use Rattle.dsv_quantiser.specs.Modes.{BecomesWords}
 use Rattle.dsv_quantiser.specs.QuantisedView.{QuantisedView}
 use Rattle.dsv_report.specs.declared.stop.Stop.TheVariants as stop
 use Rattle.dsv_cli.proofs.Causes.{row_of_refused, row_of_task}
-use Rattle.dsv_cli.specs.Proposers.{AsksSchurCohn}
+use Rattle.dsv_cli.specs.Headline.{AsksSchurCohn}
 use Rattle.dsv_cli.proofs.Unasked.{unasked, sets_unasked, sets_asked_for}
 use Rattle.dsv_cli.proofs.job.controller_answer.Goals as goal
 

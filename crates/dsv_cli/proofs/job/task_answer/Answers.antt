@@ -1,8 +1,8 @@
-use Rattle.std.proofs.Common.{◌≡◌, ◌∙◌, ap, sym, true}
+use Rattle.std.proofs.Common.{◌≡◌, ◌∙◌, ap, true}
 use Rattle.dsv_command.specs.Jobs.{decides}
 use Rattle.dsv_command.specs.Asking.{asked_task}
-use Rattle.dsv_cli.specs.Proposers.{AsksSchurCohn}
-use Rattle.dsv_cli.proofs.Unasked.{unasked, unasked_for_sets, own_for, schur_cohn_wanted, sets_unasked, sets_unasked_for_roots, plain_places}
+use Rattle.dsv_cli.specs.Headline.{AsksSchurCohn}
+use Rattle.dsv_cli.proofs.Unasked.{unasked, unasked_for_sets, own_for, sets_unasked, sets_unasked_for_roots, plain_places}
 use Rattle.dsv_cli.proofs.job.task_answer.Goals as goal
 
 -- ---- tasks that need no proposer
@@ -78,13 +78,10 @@ returns-in-Decide-clause-forms g c =
     (c.in-Decide.question.schur_cohn ≡ true) (AsksSchurCohn (asked_task c.args.task.now)) c.args.proposers.now.forms.items c.roots_answer.new.forms.items c.roots_answer.result
     (λ e. (c.in-Decide.question.property, ap asked_task c.in-Decide.is ∙ ap (decides c.in-Decide.question.property) e)) c.roots_answer.ensures.proposers
 
-pub returns-in-Decide-clause-beyond : goal.returns-in-Decide-clause-beyond
-returns-in-Decide-clause-beyond g c = λ asks. c.roots_answer.ensures.beyond (schur_cohn_wanted (c.in-Decide.question.property) asks.0 c.in-Decide.question.schur_cohn (sym (ap asked_task c.in-Decide.is) ∙ asks.1))
-
 pub returns-in-Decide-clause-sets : goal.returns-in-Decide-clause-sets
 returns-in-Decide-clause-sets g c =
     sets_unasked_for_roots (λ b. b.ptr) (λ b. (goal.InvariantProposer-dyn g (b.vtable, b.value)).last b.value) (λ b shape. (goal.InvariantProposer-dyn g (b.vtable, b.value)).to_come b.value shape)
-    (λ w. w ≡ c.args.quantised.now) c.args.proposers.now.sets.items c.in-Decide.question.property c.args.quantised.now c.roots_answer.result c.roots_answer.ensures.property
+    (λ w. w ≡ c.args.quantised.now) c.args.proposers.now.sets.items c.in-Decide.question.property c.in-Decide.question.schur_cohn c.args.quantised.now c.roots_answer.result c.roots_answer.ensures.property
 
 pub returns-in-Decide-clause-unneeded_forms : goal.returns-in-Decide-clause-unneeded_forms
 returns-in-Decide-clause-unneeded_forms g c = λ no. absurd (no (c.in-Decide.question.property, (c.in-Decide.question.schur_cohn, ap asked_task c.in-Decide.is)))

@@ -10,7 +10,7 @@ use Rattle.dsv_cli.proofs.roots.roots_answer.Goals as goal
 pub returns-in-Ok-Poly-clause-property : goal.returns-in-Ok-Poly-clause-property
 returns-in-Ok-Poly-clause-property g c =
     let is : tested_of c.args.quantised.now (side_of c.args.question.now.property) ≡ Ok (tested.Poly c.in-Ok-Poly.poly) = search rules in
-    property_of c.args.question.now.property c.args.quantised.now c.in-Ok-Poly.poly c.polynomial_answer.result is c.polynomial_answer.ensures.decision
+    property_of c.args.question.now.property c.args.question.now.schur_cohn c.args.quantised.now c.in-Ok-Poly.poly c.polynomial_answer.result is c.polynomial_answer.ensures.decision
 
 pub returns-in-Ok-NoZeros-clause-proposers : goal.returns-in-Ok-NoZeros-clause-proposers
 returns-in-Ok-NoZeros-clause-proposers g c =

@@ -15,18 +15,18 @@ returns-in_err-later-clause-unread g c =
     let then = g.F.Files.seen c.read_controller.new.files in
     let new = g.F.Files.seen c.read_later.new.files in
     let why = c.in_err-later.field-0.0 in
-    let names = texts c.args.job.now.later.items in
+    let names = texts c.args.later.now.items in
     let is : c.from_residual-in_err-later.result ≡ Err why = search rules in
     let unread : IsLaterUnread then new names why = rw c.as_slice.ensures.value at c.in_err-later.ensures.unread in
-    rw is (inr (c.in_ok-first.first, c.in_ok-first.ensures.controller, later_earlier old then new names why c.read_controller.ensures.kept c.in_ok-first.ensures.came unread))
+    rw is (inr (c.in_ok-controller.controller, c.in_ok-controller.ensures.controller, later_earlier old then new names why c.read_controller.ensures.kept c.in_ok-controller.ensures.came unread))
 
 pub returns-clause-controllers : goal.returns-clause-controllers
 returns-clause-controllers g c =
     let old = g.F.Files.seen c.args.files.now in
     let then = g.F.Files.seen c.read_controller.new.files in
-    let names = texts c.args.job.now.later.items in
+    let names = texts c.args.later.now.items in
     let later : AreControllers then names c.in_ok-later.later.items = rw c.as_slice.ensures.value at c.in_ok-later.ensures.controllers in
-    record { first_file = c.in_ok-first.ensures.controller; later_files = files_earlier old then names c.in_ok-later.later.items c.read_controller.ensures.kept later }
+    record { first_file = c.in_ok-controller.ensures.controller; later_files = files_earlier old then names c.in_ok-later.later.items c.read_controller.ensures.kept later }
 
 pub returns-clause-few : goal.returns-clause-few
 returns-clause-few g c =

@@ -10,7 +10,7 @@ pub returns-in_err-put_realisation : goal.returns-in_err-put_realisation
 returns-in_err-put_realisation g c =
     let job = asked_cascade c.args.job.now in
     writes_after c.in_ok-put_series_task.ensures.whole
-    (writes_cut (sections_text job ++ extent_text (task_alone job.task)) c.from_residual-in_err-put_realisation.ensures.0 c.in_err-put_realisation.ensures.cut)
+    (writes_cut (sections_text job.later ++ extent_text (task_alone job.task)) c.from_residual-in_err-put_realisation.ensures.0 c.in_err-put_realisation.ensures.cut)
 
 pub returns-in_err-put_section_count : goal.returns-in_err-put_section_count
 returns-in_err-put_section_count g c =
