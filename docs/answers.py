@@ -92,31 +92,42 @@ CYCLES = [
 ]
 
 ROOTS = [
-    Kind("Successful", 0, rf"{S}\nproperty (?:STABILITY|MINIMUM_PHASE) realization \w+\npolynomial .*",
+    Kind("Successful", 0, rf"{S}\nproperty (?:STABILITY|MINIMUM_PHASE) realization \w+\npolynomial [-\d ]+\n(?!table ).*",
          "The roots of the printed polynomial, the denominator or the numerator in words, are inside the unit circle: the form is "
          "positive and strictly falls along each trajectory, by `fall` in a step. Form and fall are evidence.",
          "nothing.",
          "lag.dsv --property STABILITY"),
-    Kind("Failed", 10, rf"{F}\nproperty (?:STABILITY|MINIMUM_PHASE) realization \w+\npolynomial .*",
+    Kind("Failed", 10, rf"{F}\nproperty (?:STABILITY|MINIMUM_PHASE) realization \w+\npolynomial [-\d ]+\n(?!table ).*",
          "Unstable, or of no minimum phase: a root is outside the unit circle or on it. The form is negative at `start` and never rises from there, so that the "
          "trajectory from the start doesn't tend to 0.",
          "more of `frac_bits`, another `--rounding`, or a delta form. Of a PI or PID controller a pole at 1 is meant.",
          "lag_in_bytes.dsv --property STABILITY"),
+    Kind("Successful, by the table", 0, rf"{S}\nproperty (?:STABILITY|MINIMUM_PHASE) realization \w+\npolynomial .*\ntable inside\n.*",
+         "`--schur-cohn`, if no form is accepted: the roots of the printed polynomial are inside the unit circle. In Jury's table of it, "
+         "in exact whole numbers, each row has a positive first number, and a form that strictly falls exists. The size of its greatest "
+         "root is at least the first of the two numbers and below the second.",
+         "nothing.",
+         "small/slow_order_eight.dsv --property STABILITY --schur-cohn"),
+    Kind("Failed, by the table", 10, rf"{F}\nproperty (?:STABILITY|MINIMUM_PHASE) realization \w+\npolynomial .*\ntable row .*",
+         "`--schur-cohn`, if no form is accepted: a root is outside the unit circle or on it. Row K is the first of the table whose first "
+         "number isn't positive; a form exists that keeps a trajectory away from 0. The size of the greatest root is as above.",
+         "as after the other failure.",
+         "butterworth.dsv --property MINIMUM_PHASE --schur-cohn"),
     Kind("Failed, `no zeros to test`", 10, rf"{F}\nproperty MINIMUM_PHASE .*\nno zeros to test\n",
          "All words of the numerator are 0.",
          "more of `frac_bits`, or a larger numerator.",
          "small/no_zeros.dsv --property MINIMUM_PHASE"),
     Kind("Inconclusive, `cause NO_FORM`, `jury not-inside`", 20, rf"{I}\n.*\n.*\ncause NO_FORM .*\njury not-inside .*",
-         "No form was found. By Jury's criterion a root isn't inside, which isn't proved; the number is the row that fails.",
-         "`--schur-cohn`, which can show it if a root is outside the circle.",
+         "No form was found, though one exists: by Jury's criterion a root isn't inside; the number is the row that fails.",
+         "`--schur-cohn`, with which the verdict is FAILED.",
          "small/no_form.dsv --property STABILITY"),
     Kind("Inconclusive, `cause NO_FORM`, `jury inside`", 20, rf"{I}\n.*\n.*\ncause NO_FORM .*\njury inside\n",
-         "No form was found, though by Jury's criterion the roots are inside, which isn't proved.",
-         "`--schur-cohn`; other words; sections of order 2, with `--sections`, which are decided with small words.",
+         "No form was found, though one exists: by Jury's criterion the roots are inside.",
+         "`--schur-cohn`, with which the verdict is SUCCESSFUL.",
          "small/no_form_inside.dsv --property STABILITY"),
     Kind("Inconclusive, `cause NO_FORM`, `jury wide`", 20, rf"{I}\n.*\n.*\ncause NO_FORM .*\njury wide .*",
          "No form was found, and the numbers of Jury's criterion are too large in this row.",
-         "as after `jury inside`.",
+         "`--schur-cohn`, with which the verdict is the one or the other.",
          "small/slow_order_six.dsv --property STABILITY"),
     Kind("Inconclusive, `cause WIDE`", 20, rf"{I}\nproperty (?:STABILITY|MINIMUM_PHASE) realization \w+\ncause WIDE .*",
          "This number of the polynomial, or one on the way to it, is too large.",
@@ -125,33 +136,41 @@ ROOTS = [
 ]
 
 SERIES = [
-    Kind("Successful", 0, rf"{S}\nproperty STABILITY realization \w+ sections \d\n.*",
+    Kind("Successful", 0, rf"{S}\nproperty STABILITY realization \w+ sections \d\n(?!.*table inside).*",
          "All sections are stable: after each one's number, from 0 on, stand its polynomial, and form and fall as of a single controller.",
          "nothing.",
          "low_pass_section_1.dsv --sections low_pass_section_2.dsv,low_pass_section_3.dsv --property STABILITY"),
-    Kind("Failed", 10, rf"{F}\nproperty STABILITY realization \w+ sections \d\n.*",
+    Kind("Failed", 10, rf"{F}\nproperty STABILITY realization \w+ sections \d\n(?!.*table row).*",
          "This section is the first that isn't stable; what follows is as of a single controller.",
          "as of a single controller, for this section's file.",
          "small/half_pole.dsv --sections small/pole_at_one.dsv --property STABILITY"),
     Kind("Inconclusive, `cause NO_CLOSED_FORM`", 20, rf"{I}\nproperty STABILITY .*\ncause NO_CLOSED_FORM .*",
          "This section is the first that isn't known to be stable: its polynomial has order 2, and the number at this index is over "
          "2^23 in size.",
-         "ask for this section's file alone, where a form is searched for, or with `--schur-cohn`; or fewer bits.",
+         "`--schur-cohn`, with which tables decide all sections.",
          "small/fine_gain.dsv --sections small/fine_pair.dsv --property STABILITY"),
     Kind("Inconclusive, `cause WIDE`", 20, rf"{I}\nproperty STABILITY .*\ncause WIDE section .*",
          "Of this section a number of the polynomial, or one on the way to it, is too large.",
          "as of a single controller, for this section's file.",
          "small/fine_gain.dsv --sections small/fine_pair.dsv --property STABILITY --realization DDFI"),
+    Kind("Successful, by tables", 0, rf"{S}\nproperty STABILITY realization \w+ sections \d\n.*table inside.*",
+         "`--schur-cohn`: all sections are stable; after each one's number stand its polynomial, its table and the size of its greatest root.",
+         "nothing.",
+         "low_pass_section_1.dsv --sections low_pass_section_2.dsv,low_pass_section_3.dsv --property STABILITY --schur-cohn"),
+    Kind("Failed, by a table", 10, rf"{F}\nproperty STABILITY realization \w+ sections \d\n.*table row.*",
+         "`--schur-cohn`: this section is the first that isn't stable, by its table.",
+         "as of a single controller, for this section's file.",
+         "small/half_pole.dsv --sections small/pole_at_one.dsv --property STABILITY --schur-cohn"),
 ]
 
 LOOPS = [
-    Kind("Successful", 0, rf"{S}\nproperty STABILITY realization \w+ plant\npolynomial .*",
+    Kind("Successful", 0, rf"{S}\nproperty STABILITY realization \w+(?: sections \d)? plant\npolynomial .*",
          "`--plant`: the loop is stable. The roots of the printed polynomial A a + B b are inside the unit circle, where B / A is the "
-         "controller in words and b / a the plant: in Jury's table of it, in exact whole numbers, each row has a positive first number. The "
+         "controller in words, with `--sections` the product of the sections, and b / a the plant: in Jury's table of it, in exact whole numbers, each row has a positive first number. The "
          "size of its greatest root is at least the first of the two numbers and below the second; of a polynomial without a root there is no such line.",
          "the nearer to 1 the greatest root is, the slower the loop settles: a disturbance falls by about this factor in a sample.",
          "motor_pi.dsv --property STABILITY --plant motor_plant.dsv"),
-    Kind("Failed", 10, rf"{F}\nproperty STABILITY realization \w+ plant\npolynomial .*",
+    Kind("Failed", 10, rf"{F}\nproperty STABILITY realization \w+(?: sections \d)? plant\npolynomial .*",
          "The loop isn't stable: a root of its polynomial is outside the unit circle or on it. Row K is the first of the table whose first "
          "number isn't positive; row 0 is the polynomial itself. The size of the greatest root is as above.",
          "more of `frac_bits`, another `--rounding`, or other coefficients of the controller; look at the sign of the plant, since the "
@@ -166,9 +185,20 @@ STATES = [
          "nothing.",
          "--state-space small/two_states.states --property STABILITY --form small/two_states.cert"),
     Kind("Inconclusive, `cause NO_FORM`", 20, rf"{I}\nproperty STABILITY state-space \d\ncause NO_FORM\n",
-         "`--lyapunov`: the search for a form found none. That says nothing of the controller, but of most that are stable one is found.",
-         "fewer bits after the point; a form of one's own, with `--form`.",
+         "`--lyapunov`: the search for a form found none. That says nothing of the controller, but of most that are stable one is found. "
+         "With `--schur-cohn`: the table shows no form; that this never comes isn't proved, and no controller that was tried comes to it.",
+         "`--schur-cohn`; fewer bits after the point; a form of one's own, with `--form`.",
          "--state-space small/unstable.states --property STABILITY --lyapunov"),
+    Kind("Successful, by the table", 0, rf"{S}\nproperty STABILITY state-space \d\npolynomial .*\ntable inside\n.*",
+         "`--schur-cohn`: the states fall to 0 without input: a form exists that strictly falls in each step. The printed polynomial is the "
+         "characteristic one of A in words, each coefficient times a power of q = 2^frac_bits, so that a step is A divided by q; the size "
+         "of its greatest root is as of a loop.",
+         "nothing.",
+         "--state-space observer.states --property STABILITY --schur-cohn"),
+    Kind("Failed, by the table", 10, rf"{F}\nproperty STABILITY state-space \d\npolynomial .*\ntable row .*",
+         "`--schur-cohn`: from some start the states are kept away from 0: a form exists that shows it.",
+         "more bits after the point, or another `--rounding`. An integrator's pole at 1 is meant.",
+         "--state-space small/unstable.states --property STABILITY --schur-cohn"),
 ]
 
 TIMES = [

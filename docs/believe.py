@@ -172,21 +172,21 @@ PAGE = (
      "RunsAsWritten error_of IsBreakOf IsRun IsRunOver"),
     ("Cascades", "What the answers on several files in series say.",
      "IsCascadeRow IsCascadeOf HaveControllers IsLaterRow IsNoCascadeRow IsCascade Fits CascadeView cascade_of IsOfSeries "
-     "CascadeNever IsCascadeTrace IsCascadeGain cascade_outlook_of IsCascadeBreak IsCascadeRun AreJudged IsStableSection"),
+     "CascadeNever IsCascadeTrace IsCascadeGain cascade_outlook_of IsCascadeBreak IsCascadeRun AreJudged IsStableSection AreTabled IsOfPoles"),
     ("State-space controllers", "What the answers on a state-space controller say.",
      "IsStateRow IsStatesFileOf IsStateController StateFileView IsStateText IsStatesUnread IsOfStates BecomesStates StateView "
      "state_space_of IsOfStateTask IsOfStateSearch StatesNever IsStateTrace IsStateCycle IsOfStateGain IsStateGain "
-     "state_outlook_of IsStateBreak IsStateRun ShowsStateFall FallsAlongStates IsStateLoss IsOfNamedForm state_check IsSaid SaysStates"),
+     "state_outlook_of IsStateBreak IsStateRun ShowsStateFall FallsAlongStates IsStateLoss IsOfNamedForm state_check IsStateFinding IsSystemFinding IsSystemPolynomial IsSystemShown IsSaid SaysStates"),
     ("Ellipsoids", "What the answers on ellipsoids say.",
      "IsEllipsoidRow IsOffer ellipsoid_in IsUnreadOffer IsOfEllipsoid IsOfOffer IsOfSoughtEllipsoid ShowsEllipsoid dsv_ellipsoid:IsGood "
      "dsv_ellipsoid:NeverBreaks StaysKept ellipsoid_refusal greatest_disturbance step_form dsv_ellipsoid:first_form sample_intervals"),
     ("Loops with their plants", "What the answers on the loop of a controller with its plant say, and what the check of its certificate.",
      "IsLoopRow HaveLoop IsPlantFileOf IsPlantOf IsPlantText PlantView IsPlantUnread IsOfPlant IsLoopInWords IsOfLoop dsv_loop:loop_of dsv_table:IsFinding "
      "dsv_table:verdict_of IsShown HasFallingForm HasKeptAwayForm AreBounds IsRootSize HasFallAtRate HasKeptAwayAtRate IsLoopCheckRow "
-     "IsLoopCheck IsOfLoopCertificate IsLoopChecked IsLoopShownOf LoopHas HasFallingLoop SaysLoop"),
+     "IsLoopCheck IsOfLoopCertificate IsLoopChecked IsLoopShownOf LoopHas HasFallingLoop SaysLoop IsCascadeLoopRow IsOfCascadeLoop"),
     ("Stability, minimum phase, timing", "What the answers on polynomials and on time say.",
      "IsTested tested_of ShowsFall StrictlyFallsAlong StrictlyFalls ShowsKeptAway IsKeptAwayAlong IsKeptAway "
-     "ShowsNoForm closed_form_of jury_of WantsSchurCohn IsBeyond IsTimed IsTimingOf IsOnTime"),
+     "ShowsNoForm closed_form_of jury_of IsJuryShown ShowsTable WantsSchurCohn IsTimed IsTimingOf IsOnTime"),
     ("Certificates, generated controllers", "What a check says, and what a tally says.",
      "longest_certificate IsCheckOf Passes IsChecked HasShown IsShownOf IsNearOf ShowsError IsFaulty IsRefusedAt IsOfGeneration "
      "IsGeneratedFrom"),
