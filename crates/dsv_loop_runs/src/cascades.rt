@@ -8,6 +8,7 @@ use dsv_names::{OverflowMode, Realisation, Rounding, find_named};
 use dsv_quantiser::{Quantised, quantise};
 use dsv_word::Format;
 use std::alloc::Global;
+use std::str::Split;
 
 /// The words of a section, 4 bits before the point, rounded to the nearest.
 fn section_of(
@@ -23,10 +24,7 @@ fn section_of(
 
 /// The polynomial of the loop that these words of a line tell: the realisation, the bits after the
 /// point, how many sections there are, and each one's numerator and denominator; and the plant's.
-fn found_loop<'a, I: Iterator<Item = &'a str>>(
-    alloc: Global,
-    words: &mut I,
-) -> Option<Items<Integer>> {
+fn found_loop(alloc: Global, words: &mut Split<'_, char>) -> Option<Items<Integer>> {
     let realisation = find_named(words.next()?.as_bytes())?;
     let frac_bits = words.next()?.parse::<u32>().ok()?;
     let count = words.next()?.parse::<u32>().ok()?;

@@ -1,9 +1,10 @@
 // A polynomial, or the matrix of a linear system, as a line tells it.
-use crate::sides::{decimal_text, number_of, side_in, side_of};
+use crate::sides::{number_of, side_in, side_of};
 use dsv_base::Items;
-use dsv_integer::Integer;
+use dsv_integer::{Integer, Numeral};
 use dsv_system_table::system_finding;
 use std::alloc::Global;
+use std::str;
 
 /// The numbers of a text, with commas between them.
 fn numbers_of(alloc: Global, text: &str) -> Option<Items<Integer>> {
@@ -33,16 +34,13 @@ pub fn is_polynomial_as_told(alloc: Global, line: &str) -> Option<bool> {
 }
 
 /// The coefficients, with commas between them.
-fn list_text<'a, I: Iterator<Item = &'a Integer>>(
-    alloc: Global,
-    coefficients: I,
-) -> Option<String> {
+fn list_text(alloc: Global, coefficients: &[Numeral]) -> Option<String> {
     let mut text = String::new(alloc);
     for c in coefficients {
         if !text.is_empty() {
             text.push_str(",").ok()?;
         }
-        text.push_str(decimal_text(alloc, c)?.as_str()).ok()?;
+        text.push_str(str::from_utf8(c.text()).ok()?).ok()?;
     }
     Some(text)
 }
@@ -59,7 +57,7 @@ pub fn is_system_as_told(alloc: Global, line: &str) -> Option<bool> {
     }
     let found = system_finding(rows.as_slice(), &one, alloc).ok()??;
     let told = side_in(alloc, &found)?;
-    let coefficients = list_text(alloc, found.poly.as_slice().iter().map(|c| c.number()))?;
+    let coefficients = list_text(alloc, found.poly.as_slice())?;
     Some(
         told.side.as_str() == side && told.count.as_str() == count && coefficients.as_str() == poly,
     )
