@@ -159,24 +159,24 @@ def first_sentence(note):
 
 # ---- the page
 
-HEADLINE = ("Explained", "Headline", "Cascades", "States", "Loops", "LoopChecks", "Proposers", "OneAnswer", "Completeness", "Accepted")
+HEADLINE = ("Explained", "Headline", "Searching", "Gain", "Simulating", "Cascades", "States", "Loops", "LoopChecks", "Proposers", "OneAnswer", "Completeness", "Accepted")
 LONG = 30
 PAGE = (
     ("The call", "What `run` says of an answer, whatever the arguments, the files and the sink.",
      "request_of Request IsExplained Outcome IsRow IsCheckRow IsUnread TableRow CameOf FilesSeen"),
     ("The file", "What it means that a file's bytes are a controller, and what the controller is in words.",
      "longest_file IsAccepted IsTextOf IsFaultOf ControllerView BecomesWords QuantisedView"),
-    ("Overflow, limit cycles, simulation", "What the answers on runs say, over the written equations.",
-     "equations_of rows Breaks Cycles IsSearch Happens NeverHappens IsTrace IsCycle GaveUp IsTooLarge IsFormulaOf "
-     "IsSeeking KeepsTo NoneIsGood IsMeasuring IsGainOf outlook_of HoldAlways NeverOverflows IsErrorOf IsBoundOf AreNear AlwaysNear "
-     "RunsAsWritten error_of IsBreakOf IsRun IsRunOver"),
+    ("Overflow, limit cycles, simulation", "What the answers on runs say, of a subject: a controller, a cascade or a state-space "
+     "controller.",
+     "SubjectView Behaviour behaviour_of of_controller equations_of dsv_system:rows Breaks Cycles IsSearch Happens NeverHappens IsTrace IsCycle GaveUp IsTooLarge IsFormulaOf "
+     "IsSeeking KeepsTo NoneIsGood IsMeasuring IsGainOf outlook_of HoldsAlways NeverOverflows IsErrorOf IsBoundOf AreNear AlwaysNear "
+     "RunsAsWritten error_of IsBreakOf IsRun IsRunOver IsOfSearch IsOfGain IsOfRun"),
     ("Cascades", "What the answers on several files in series say.",
-     "IsCascadeRow IsCascadeOf HaveControllers IsLaterRow IsNoCascadeRow IsCascade Fits CascadeView cascade_of IsOfSeries "
-     "CascadeNever IsCascadeTrace IsCascadeGain cascade_outlook_of IsCascadeBreak IsCascadeRun AreJudged IsStableSection AreTabled IsOfPoles"),
+     "IsCascadeRow IsCascadeOf HaveControllers IsLaterRow IsNoCascadeRow IsCascade Fits CascadeView cascade_of IsOfSeries of_cascade "
+     "AreJudged IsStableSection AreTabled IsOfPoles"),
     ("State-space controllers", "What the answers on a state-space controller say.",
      "IsStateRow IsStatesFileOf IsStateController StateFileView IsStateText IsStatesUnread IsOfStates BecomesStates StateView "
-     "state_space_of IsOfStateTask IsOfStateSearch StatesNever IsStateTrace IsStateCycle IsOfStateGain IsStateGain "
-     "state_outlook_of IsStateBreak IsStateRun ShowsStateFall FallsAlongStates IsStateLoss IsOfNamedForm state_check IsStateFinding IsSystemFinding IsSystemPolynomial IsSystemShown IsSaid SaysStates"),
+     "state_space_of of_states IsOfStateTask ShowsStateFall FallsAlongStates IsStateLoss IsOfNamedForm state_check IsStateFinding IsSystemFinding IsSystemPolynomial IsSystemShown IsSaid SaysStates"),
     ("Ellipsoids", "What the answers on ellipsoids say.",
      "IsEllipsoidRow IsOffer ellipsoid_in IsUnreadOffer IsOfEllipsoid IsOfOffer IsOfSoughtEllipsoid ShowsEllipsoid dsv_ellipsoid:IsGood "
      "dsv_ellipsoid:NeverBreaks StaysKept ellipsoid_refusal greatest_disturbance step_form dsv_ellipsoid:first_form sample_intervals"),
@@ -255,7 +255,7 @@ def page(definitions, listed, types):
             shown.add(key)
             crate, file = place_of(key)
             beside = " ".join(filter(None, (gloss(definitions[key][0]), LAWS_BESIDE.get(name))))
-            lines.append(wrapped(f"- `{name}` (`{crate}/specs/{file}`): {beside}"))
+            lines.append(wrapped(f"- `{key[1]}` (`{crate}/specs/{file}`): {beside}"))
         lines.append("")
     rest = [key[1] for key in listed if key not in shown and is_of_headline(key)]
     lines += [wrapped("The same files also have " + ", ".join(f"`{name}`" for name in rest) + "."), ""]
@@ -315,8 +315,9 @@ def main():
     listed = [(module, name) for module in reached for name in order[module] if (module, name) in seen]
     types = all_types(others)
     if sys.argv[1:] == ["--page"]:
+        text = "\n".join(page(definitions, listed, types)) + "\n"
         with open("docs/BELIEVE.md", "w", encoding="utf-8") as out:
-            out.write("\n".join(page(definitions, listed, types)) + "\n")
+            out.write(text)
     else:
         print("\n".join(whole(definitions, order, reached, set(listed), types)))
 

@@ -5,15 +5,15 @@ use Rattle.dsv_algebra.proofs.Normaliser.{ring, env, var, times}
 use Rattle.dsv_algebra.specs.Vectors.{Vector, Matrix, sum_to, form_at, dot, congruence}
 use Rattle.dsv_algebra.proofs.Sums.{sum_same, sum_scale, sum_swap, form_add, form_nought}
 
-scale_left : (d : ℕ) (f : ℕ → ℤ) (a : ℤ) → a *ℤ sum_to d f ≡ sum_to d (λ k. a *ℤ f k)
+pub scale_left : (d : ℕ) (f : ℕ → ℤ) (a : ℤ) → a *ℤ sum_to d f ≡ sum_to d (λ k. a *ℤ f k)
 scale_left d f a = sym (sum_scale d a f)
 
-term_out : (d : ℕ) (p x : ℤ) (g : ℕ → ℤ) (v : Vector) → p *ℤ x *ℤ dot d g v ≡ sum_to d (λ l. p *ℤ x *ℤ g l *ℤ v l)
+pub term_out : (d : ℕ) (p x : ℤ) (g : ℕ → ℤ) (v : Vector) → p *ℤ x *ℤ dot d g v ≡ sum_to d (λ l. p *ℤ x *ℤ g l *ℤ v l)
 term_out d p x g v = scale_left d (λ l. g l *ℤ v l) (p *ℤ x) ∙ sum_same d (λ l. p *ℤ x *ℤ (g l *ℤ v l)) (λ l. p *ℤ x *ℤ g l *ℤ v l)
     (λ l q. ring (env (p ∷ x ∷ g l ∷ v l ∷ [])) (times (times (var 0) (var 1)) (times (var 2) (var 3))) (times (times (times (var 0) (var 1)) (var 2)) (var 3)) refl)
 
 -- one entry's part, over all pairs of places
-entry_out : (d : ℕ) (p : ℤ) (f g : ℕ → ℤ) (v : Vector) → p *ℤ dot d f v *ℤ dot d g v ≡ form_at d (λ k l. p *ℤ f k *ℤ g l) v
+pub entry_out : (d : ℕ) (p : ℤ) (f g : ℕ → ℤ) (v : Vector) → p *ℤ dot d f v *ℤ dot d g v ≡ form_at d (λ k l. p *ℤ f k *ℤ g l) v
 entry_out d p f g v =
     term_out d p (dot d f v) g v
     ∙ sum_same d (λ l. p *ℤ dot d f v *ℤ g l *ℤ v l) (λ l. sum_to d (λ k. p *ℤ f k *ℤ g l *ℤ v k *ℤ v l))
@@ -27,7 +27,7 @@ entry_out d p f g v =
         ∙ sum_same d (λ k. p *ℤ b *ℤ y *ℤ (f k *ℤ v k)) (λ k. p *ℤ f k *ℤ b *ℤ v k *ℤ y)
         (λ k q. ring (env (p ∷ b ∷ y ∷ f k ∷ v k ∷ [])) (times (times (times (var 0) (var 1)) (var 2)) (times (var 3) (var 4))) (times (times (times (times (var 0) (var 3)) (var 1)) (var 4)) (var 2)) refl)
 
-form_sum : (d n : ℕ) (A : ℕ → Matrix) (v : Vector) → sum_to n (λ k. form_at d (A k) v) ≡ form_at d (λ i j. sum_to n (λ k. A k i j)) v
+pub form_sum : (d n : ℕ) (A : ℕ → Matrix) (v : Vector) → sum_to n (λ k. form_at d (A k) v) ≡ form_at d (λ i j. sum_to n (λ k. A k i j)) v
 form_sum d zero A v = sym (form_nought d v)
 form_sum d (suc n) A v = rw (form_sum d n A v) (sym (form_add d (λ i j. sum_to n (λ k. A k i j)) (A n) v))
 

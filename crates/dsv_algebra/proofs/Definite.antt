@@ -20,11 +20,11 @@ none_times a = ring (env (a ∷ [])) (times (num (pos 0)) (var 0)) (num (pos 0))
 grouped : (w x : ℤ) → w *ℤ x *ℤ x ≡ w *ℤ (x *ℤ x)
 grouped w x = ring (env (w ∷ x ∷ [])) (times (times (var 0) (var 1)) (var 1)) (times (var 0) (times (var 1) (var 1))) refl
 
-square_not_negative : (x : ℤ) → pos 0 ≤ℤ (x *ℤ x)
+pub square_not_negative : (x : ℤ) → pos 0 ≤ℤ (x *ℤ x)
 square_not_negative (pos n) = omega (arith, ints)
 square_not_negative (negsuc n) = omega (arith, ints)
 
-weakly : (a : ℤ) → pos 0 <ℤ a → pos 0 ≤ℤ a
+pub weakly : (a : ℤ) → pos 0 <ℤ a → pos 0 ≤ℤ a
 weakly a h = omega (arith, ints)
 
 product_apart : (a b : ℤ) → a ≢ pos 0 → b ≢ pos 0 → (a *ℤ b) ≢ pos 0

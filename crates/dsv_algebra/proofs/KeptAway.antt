@@ -9,7 +9,7 @@ use Rattle.dsv_algebra.proofs.Signs.{mul_positive, square_positive, mul_negative
 use Rattle.dsv_algebra.specs.Vectors.{Vector, Matrix, form_at}
 use Rattle.dsv_algebra.specs.Falling.{step, fall_form, power, trajectory, IsKeptAway}
 use Rattle.dsv_algebra.specs.Squares.{squares, IsDominant}
-use Rattle.dsv_algebra.proofs.Definite.{semidefinite_not_negative}
+use Rattle.dsv_algebra.proofs.Definite.{semidefinite_not_negative, weakly}
 use Rattle.dsv_algebra.proofs.Falling.{loss-fall_form}
 
 -- Weighted squares of rows and a dominant rest, that are m times a form; the weights are 0 or more.
@@ -42,9 +42,6 @@ scaled m a b p h =
 at_most_through : (a b c : ℤ) → a ≤ℤ b → b ≤ℤ c → a ≤ℤ c
 at_most_through a b c p q = omega (arith, ints)
 
-weakly : (a : ℤ) → pos 0 <ℤ a → pos 0 ≤ℤ a
-weakly a h = omega (arith, ints)
-
 one_times : (a : ℤ) → pos 1 *ℤ a ≡ a
 one_times a = ring (env (a ∷ [])) (times (num (pos 1)) (var 0)) (var 0) refl
 
@@ -54,7 +51,7 @@ same_at_most a b e = omega (arith, ints)
 negative_below : (a b : ℤ) → a ≤ℤ b → b <ℤ pos 0 → a <ℤ pos 0
 negative_below a b p q = omega (arith, ints)
 
-power_positive : (z : ℤ) (n : ℕ) → pos 0 <ℤ z → pos 0 <ℤ power z n
+pub power_positive : (z : ℤ) (n : ℕ) → pos 0 <ℤ z → pos 0 <ℤ power z n
 power_positive z zero h = omega (arith, ints)
 power_positive z (suc n) h = mul_positive z (power z n) h (power_positive z n h)
 

@@ -1,3 +1,4 @@
+pub mod Booleans
 pub mod Casts
 pub mod CompanionEntries
 pub mod Congruence

@@ -4,7 +4,7 @@
 -- values to the next one by its companion matrix. Times c_0, so that all entries are whole, this
 -- matrix has the first row -c_1, .., -c_d and c_0 below the diagonal. So a polynomial is the system
 -- with this matrix and the scale c_0.
-use Rattle.std.specs.Prelude.{Bool, true, false, ◌&&◌, List, [], ◌∷◌}
+use Rattle.std.specs.Prelude.{Bool, true, false, ◌&&◌, List, [], ◌∷◌, drop}
 use Rattle.std.specs.Prelude.{◌++◌, neg_ℤ, ℕ, zero, suc, ◌==◌, nat_lt}
 use Rattle.std.specs.Prelude.{if◌then◌else◌, ℤ, pos, ◌+ℤ◌, ◌-ℤ◌, ◌*ℤ◌}
 use Rattle.dsv_algebra.specs.Vectors.{Vector, Matrix}
@@ -53,3 +53,7 @@ total_from sum (term ∷ terms) = total_from (sum +ℤ term.0 *ℤ term.1) terms
 -- an entry of the fall form of a polynomial
 abbrev pub fall_entry : ℕ → Vector → Matrix → ℕ → ℕ → ℤ
 fall_entry d c P i j = total_from (pos 0) (fall_terms d c P i j)
+
+-- the terms of an entry of C^T P C, with the other sign: what the fall form takes from c_0^2 P
+abbrev pub image_terms : ℕ → Vector → Matrix → ℕ → ℕ → List (ℤ × ℤ)
+image_terms d c P i j = drop 1 (fall_terms d c P i j)

@@ -7,11 +7,13 @@ use lib.Signed.{◌<ℤ◌, ◌≤ℤ◌}
 use Rattle.dsv_algebra.specs.Vectors.{Vector, Matrix, dot, form_at}
 use Rattle.dsv_algebra.specs.Falling.{trajectory, power, fall_form, StrictlyFalls}
 use Rattle.dsv_algebra.proofs.Normaliser.{ring, env, var, num, plus, times, minus}
-use Rattle.dsv_algebra.proofs.Signs.{mul_positive, mul_not_negative, mul_negative}
+use Rattle.dsv_algebra.proofs.Signs.{mul_not_negative, mul_negative}
 use Rattle.dsv_algebra.proofs.Sums.{form_neg}
 use Rattle.dsv_algebra.proofs.Falling.{loss-fall_form}
+use Rattle.dsv_algebra.proofs.Definite.{square_not_negative}
+use Rattle.dsv_algebra.proofs.KeptAway.{power_positive}
 use Rattle.dsv_apart.specs.Apart.{NothingIsBoth}
-use Rattle.dsv_apart.proofs.Bounds.{bounded_through, bound_not_negative, form_bounded, square_not_negative, squares_not_negative, times_at_most}
+use Rattle.dsv_apart.proofs.Bounds.{bounded_through, bound_not_negative, form_bounded, squares_not_negative, times_at_most}
 use Rattle.dsv_apart.proofs.LastPlace.{IsPositive, squares_bounded}
 
 -- ---- sequences that lose in each step
@@ -21,10 +23,6 @@ positive_of (pos zero) x p h =
     absurd (omega (arith, ints))
 positive_of (pos (suc n)) x p h = omega (arith, ints)
 positive_of (negsuc n) x p h = absurd (omega (arith, ints))
-
-power_positive : (z : ℤ) (n : ℕ) → pos 0 <ℤ z → pos 0 <ℤ power z n
-power_positive z zero h = omega (arith, ints)
-power_positive z (suc n) h = mul_positive z (power z n) h (power_positive z n h)
 
 at_start : (a w : ℤ) → a ≡ pos 1 *ℤ (a +ℤ pos 0 *ℤ w)
 at_start a w = ring (env (a ∷ w ∷ [])) (var 0) (times (num (pos 1)) (plus (var 0) (times (num (pos 0)) (var 1)))) refl

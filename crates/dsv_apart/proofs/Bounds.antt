@@ -1,6 +1,6 @@
 -- Functions of a vector that are at most a multiple of another.
 use Rattle.std.proofs.Common.{◌≡◌, inl, inr, ℕ, zero, suc, ◌<◌, [], ◌∷◌, refl, arith}
-use Rattle.std.proofs.Math.IntN.{ℤ, pos, negsuc, ◌+ℤ◌, ◌-ℤ◌, ◌*ℤ◌}
+use Rattle.std.proofs.Math.IntN.{ℤ, pos, ◌+ℤ◌, ◌-ℤ◌, ◌*ℤ◌}
 use Rattle.std.proofs.lemmas.Int.{ints}
 use Rattle.std.proofs.lemmas.Bool.{cases_lt}
 use lib.Signed.{◌<ℤ◌, ◌≤ℤ◌}
@@ -9,10 +9,7 @@ use Rattle.dsv_algebra.proofs.Normaliser.{ring, env, var, num, plus, times, minu
 use Rattle.dsv_algebra.proofs.Signs.{mul_positive, mul_not_negative, not_negative_factor}
 use Rattle.dsv_algebra.proofs.Ring.{assoc}
 use Rattle.dsv_algebra.proofs.Sums.{sum_not_negative}
-
-pub square_not_negative : (x : ℤ) → pos 0 ≤ℤ (x *ℤ x)
-square_not_negative (pos n) = omega (arith, ints)
-square_not_negative (negsuc n) = omega (arith, ints)
+use Rattle.dsv_algebra.proofs.Definite.{square_not_negative}
 
 -- both sides times a number that isn't negative
 pub times_at_most : (m a b : ℤ) → pos 0 ≤ℤ m → a ≤ℤ b → (m *ℤ a) ≤ℤ (m *ℤ b)

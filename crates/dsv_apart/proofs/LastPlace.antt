@@ -12,7 +12,8 @@ use Rattle.dsv_algebra.proofs.Signs.{mul_positive, mul_not_negative, square_posi
 use Rattle.dsv_algebra.proofs.Ring.{assoc}
 use Rattle.dsv_algebra.proofs.Sums.{sum_same, sum_add, sum_scale, form_add, form_scale, form_neg, form_square}
 use Rattle.dsv_algebra.proofs.Dots.{dot_same, dot_scale}
-use Rattle.dsv_apart.proofs.Bounds.{IsBounded, bounded_through, bounded_add, bound_not_negative, form_bounded, square_not_negative, squares_not_negative}
+use Rattle.dsv_algebra.proofs.Definite.{square_not_negative}
+use Rattle.dsv_apart.proofs.Bounds.{IsBounded, bounded_through, bounded_add, bound_not_negative, form_bounded, squares_not_negative}
 
 -- the form is positive at each integer vector other than 0
 abbrev pub IsPositive : ℕ → Matrix → Type 0

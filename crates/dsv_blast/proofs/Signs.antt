@@ -1,17 +1,16 @@
 -- What bits have to do with numbers in two's complement.
-use Rattle.std.proofs.Common.{◌≡◌, ℕ, zero, suc, ◌+◌, ◌-◌, ◌*◌, ◌/◌, ◌%◌, ◌^◌, ◌<◌, ◌≤◌, Bool, true, false, not, cond, List, ◌++◌, refl, arith, ap, sym, ◌∙◌, length, map, take, drop, replicate, get_or, inl, inr, ◌⊎◌, ℤ, pos, negsuc, neg_ℤ, ◌+ℤ◌, ◌-ℤ◌, ◌*ℤ◌, unsigned_abs}
+use Rattle.std.proofs.Common.{◌≡◌, ℕ, zero, suc, ◌+◌, ◌-◌, ◌*◌, ◌/◌, ◌%◌, ◌^◌, ◌<◌, ◌≤◌, Bool, true, false, not, cond, List, ◌++◌, refl, arith, ap, sym, ◌∙◌, length, map, take, drop, replicate, get_or, inl, inr, ◌⊎◌, ℤ, pos, negsuc, neg_ℤ, ◌+ℤ◌, ◌-ℤ◌, ◌*ℤ◌}
 use Rattle.std.specs.Prelude.{nat_lt, int_lt, int_le}
 use Rattle.std.proofs.lemmas.Nat.{pow_pos, pow-add, mod_below, mod-mul-add, div-add-mod', mul-mod_first}
-use Rattle.std.proofs.lemmas.Int.{int_rem_euclid_is, ints}
+use Rattle.std.proofs.lemmas.Int.{ints}
 use Rattle.std.proofs.lemmas.Bool.Decides.{nat_tests}
 use Rattle.std.proofs.Math.Nat.{mod-eq_of_lt}
 use Rattle.dsv_term.specs.declared.word.Word.{Word}
 use Rattle.dsv_term.specs.Word.{residue, signed_of}
+use Rattle.dsv_term.proofs.Wrapping.{residue_is}
+use Rattle.dsv_term.proofs.Complement.{test_false, test_true}
 use Rattle.dsv_blast.specs.Words.{bit, number_of}
 use Rattle.dsv_blast.proofs.Bits.{number-append, number-top, number-difference, add_bits, carry_bits, number-zeros, number-ones}
-
-residue_is : (w : ℕ) (z : ℤ) (k m : ℕ) → z +ℤ pos (k * 2 ^ w) ≡ pos m → residue w z ≡ m % 2 ^ w
-residue_is w z k m e = ap unsigned_abs (int_rem_euclid_is z (pos (2 ^ w)) (2 ^ w) k m (pow_pos w) refl e)
 
 -- a number below the power that differs from it by it
 cut : (c : Bool) (n w : ℕ) → n < w → (n + w * bit c) % w ≡ n
@@ -34,12 +33,6 @@ number-negate xs ys e z =
     sym (residue_negation (length xs) (number_of ys) (number_of (add_bits xs (map not ys) true)) (carry_bits xs (map not ys) true) d.below (omega (arith, d.whole, z)))
 
 -- ---- reading
-
-test_true : (m h : ℕ) → m < h → nat_lt m h ≡ true
-test_true m h l = grind (arith, nat_tests)
-
-test_false : (m h : ℕ) → h ≤ m → nat_lt m h ≡ false
-test_false m h l = grind (arith, nat_tests)
 
 pub two_halves : (n : ℕ) → 2 ^ (n + 1) ≡ 2 * 2 ^ n
 two_halves n = pow-add 2 n 1 ∙ omega arith

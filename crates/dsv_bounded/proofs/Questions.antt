@@ -11,9 +11,8 @@ use Rattle.dsv_word.specs.Words.{width, IsWord}
 use Rattle.dsv_quantiser.specs.QuantisedView.{QuantisedView, IsQuantisedView}
 use Rattle.dsv_system.specs.Breaks.{Breaks}
 use Rattle.dsv_system.specs.Cycles.{Cycles}
-use Rattle.dsv_system.specs.Systems.{System, RunAlike, zeros, AreInRange}
+use Rattle.dsv_system.specs.Systems.{zeros, AreInRange}
 use Rattle.dsv_netlist.specs.Nodes.{Net}
-use Rattle.dsv_netlist.specs.Systems.{system_of}
 use Rattle.dsv_term.specs.declared.node.TermId.{TermId}
 use Rattle.dsv_term.specs.declared.word.Word.{Word}
 use Rattle.dsv_term.specs.Terms.{AreTerms, AreValues, word_of, words_of, width_of}
@@ -27,9 +26,10 @@ use Rattle.dsv_hints.specs.Searches.{IfNever}
 use Rattle.dsv_hints.specs.declared.search.Searched.{Searched}
 use Rattle.dsv_hints.specs.declared.search.Searched.TheVariants.{Never, Happens, Spent}
 use Rattle.dsv_bounded.specs.Questions.{Asks, NoneHave, SomeHave, input_widths, DoBreak, free_registers, DoCycle}
-use Rattle.dsv_bounded.specs.Verdicts.{BreaksWithinOf, CyclesWithinOf}
-use Rattle.dsv_system.proofs.Alike.{alike_back, breaks_alike, cycles_alike}
+use Rattle.dsv_bounded.proofs.Agreeing.{breaks_within_agree, cycles_within_agree}
 use Rattle.dsv_bounded.proofs.WordValues.{values_for, words_of_values, values_fit, count_of_words}
+use Rattle.dsv_netlist.specs.Systems.{runs_of}
+use Rattle.dsv_bounded.specs.Verdicts.{BreaksWithinBy, CyclesWithinBy}
 
 -- ---- goals
 -- a term's word is as wide as the term
@@ -104,21 +104,15 @@ words_in_range q zs f h =
     range_words q.format q.xlo q.xhi zs (record { low = low; high = omega (arith, ints) }) (record { low = omega (arith, ints); high = high }) h
 
 pub breaks_mean : (net : Net) (low high : ℤ) (samples : ℕ) → IsWord net.format low → IsWord net.format high
-    → Means (input_widths net samples) (DoBreak net low high) (BreaksWithinOf (List ℤ) (system_of net) low high samples)
+    → Means (input_widths net samples) (DoBreak net low high) (BreaksWithinBy (runs_of net) low high samples)
 breaks_mean net low high samples l k = record {
   given = λ values a b. (spelled_words net.format values, count_of_words net.format values samples a, b);
   found = λ h.
       let zs = h.0 in
       let b = h.2 in
       let e = words_of_values net.format zs (range_words net.format low high zs l k b.in_range) in
-      (values_for net.format zs, values_fit net.format zs samples h.1, subst (λ (xs : List ℤ). Breaks (List ℤ) (system_of net) low high xs) (sym e) b);
+      (values_for net.format zs, values_fit net.format zs samples h.1, subst (λ (xs : List ℤ). Breaks (runs_of net) low high xs) (sym e) b);
 }
-
-pub breaks_same : (P Q : Type 0) (m : System P) (n : System Q) (low high : ℤ) (samples : ℕ) → RunAlike P Q m n → BreaksWithinOf P m low high samples ↔ BreaksWithinOf Q n low high samples
-breaks_same P Q m n low high samples a = (
-  (λ b. (b.0, b.1, breaks_alike P Q m n low high b.0 a b.2)),
-  (λ b. (b.0, b.1, breaks_alike Q P n m low high b.0 (alike_back P Q m n a) b.2)),
-)
 
 -- ---- cycles
 all_zeros : (zs : List ℤ) → All (λ (w : ℤ). w ≡ pos 0) zs → zs ≡ zeros (length zs)
@@ -133,7 +127,7 @@ start-split k zs l h =
     let z : take k zs ≡ zeros k = all_zeros (take k zs) h ∙ ap zeros e in
     ap (λ (ys : List ℤ). ys ++ drop k zs) (sym z) ∙ take-append-drop k zs
 
-pub cycles_mean : (net : Net) (periods : ℕ) → net.feed_forward ≤ length net.next → Means (input_widths net (free_registers net)) (DoCycle net periods) (CyclesWithinOf (List ℤ) (system_of net) periods)
+pub cycles_mean : (net : Net) (periods : ℕ) → net.feed_forward ≤ length net.next → Means (input_widths net (free_registers net)) (DoCycle net periods) (CyclesWithinBy (runs_of net) periods)
 cycles_mean net periods below = record {
   given = λ values a h. (cycle_start net values, h.0, h.1, h.2, h.3);
   found = λ h.
@@ -146,12 +140,6 @@ cycles_mean net periods below = record {
       let e : cycle_start net (values_for net.format free) ≡ zs = ap (λ (ys : List ℤ). zeros k ++ ys) (words_of_values net.format free words) ∙ start-split k zs l c.quiet in (
         values_for net.format free,
         values_fit net.format free (free_registers net) (omega (arith, length-drop k zs, c.many)),
-        (h.1, h.2, h.3, subst (λ (ys : List ℤ). Cycles (List ℤ) (system_of net) ys h.1) (sym e) c),
+        (h.1, h.2, h.3, subst (λ (ys : List ℤ). Cycles (runs_of net) ys h.1) (sym e) c),
       );
 }
-
-pub cycles_same : (P Q : Type 0) (m : System P) (n : System Q) (periods : ℕ) → RunAlike P Q m n → CyclesWithinOf P m periods ↔ CyclesWithinOf Q n periods
-cycles_same P Q m n periods a = (
-  (λ h. (h.0, h.1, h.2, h.3, cycles_alike P Q m n h.0 h.1 a h.4)),
-  (λ h. (h.0, h.1, h.2, h.3, cycles_alike Q P n m h.0 h.1 (alike_back P Q m n a) h.4)),
-)

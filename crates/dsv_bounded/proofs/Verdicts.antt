@@ -1,21 +1,18 @@
--- A trace shows that a list of inputs breaks the controller, and a cycle that a start cycles.
+-- A trace shows that a list of inputs breaks a system, and a cycle that a start cycles.
 use Rattle.std.proofs.Common.{◌≡◌, ◌∙◌, sym, ap, subst, ℕ, ◌+◌, ◌-◌, ◌≤◌, List, [], ◌∷◌, ◌++◌, length, arith}
 use Rattle.std.specs.Prelude.{Some, slice_get, replicate, ℤ, ◌≤ℤ◌}
 use Rattle.std.specs.List.{Contains}
 use Rattle.std.proofs.lemmas.List.{length-append, length-replicate}
 use Rattle.std.proofs.lemmas.List.Elements.{All-append, All-replicate, All-head, Contains-append_left}
 use Rattle.std.proofs.lemmas.Option.{get_or_from_slice_get, slice_get_within}
-use Rattle.dsv_quantiser.specs.QuantisedView.{QuantisedView}
 use Rattle.dsv_system.specs.Breaks.{Breaks, IsOutside, IsFirstBreak}
 use Rattle.dsv_system.specs.Runs.{SampleRow, rows_from, past_after}
-use Rattle.dsv_system.specs.Systems.{System, rows, zeros, AreInRange}
+use Rattle.dsv_system.specs.Systems.{System, Behaviour, behaviour_of, rows, zeros, AreInRange}
 use Rattle.dsv_system.proofs.RunLemmas.{rows-append}
-use Rattle.dsv_meaning.specs.Equations.{Past}
-use Rattle.dsv_meaning.specs.Systems.{equations_of}
 use Rattle.dsv_meaning.specs.declared.replays.Cycle.{Cycle}
 use Rattle.dsv_meaning.specs.declared.replays.Trace.{Trace}
-use Rattle.dsv_bounded.specs.Verdicts.{BreaksWithin, CyclesWithin, IsCycle}
-use Rattle.dsv_meaning.specs.Traces.{IsTrace}
+use Rattle.dsv_bounded.specs.Verdicts.{BreaksWithinBy, CyclesWithinBy, IsCycleBy}
+use Rattle.dsv_meaning.specs.Traces.{IsTraceBy}
 
 at_contains : {X : Type 0} (xs : List X) (i : ℕ) (x : X) → slice_get xs i ≡ Some x → Contains xs x
 at_contains xs i x e = (i, slice_get_within xs i x e, get_or_from_slice_get xs i x x e)
@@ -25,7 +22,7 @@ outside : (P : Type 0) (m : System P) (rs : List SampleRow) (sample value : ℕ)
 outside P m rs sample value exact h = (h.row, at_contains rs sample h.row h.here, (exact, at_contains h.row.exact value exact h.first, h.outside))
 
 -- inputs that break still break with more of them in range
-more_break : (P : Type 0) (m : System P) (low high : ℤ) (xs ys : List ℤ) → Breaks P m low high xs → AreInRange low high ys → Breaks P m low high (xs ++ ys)
+more_break : (P : Type 0) (m : System P) (low high : ℤ) (xs ys : List ℤ) → Breaks (behaviour_of m) low high xs → AreInRange low high ys → Breaks (behaviour_of m) low high (xs ++ ys)
 more_break P m low high xs ys h r =
     let start = m.start (zeros m.many) in
     record {
@@ -39,8 +36,8 @@ more_break P m low high xs ys h r =
     }
 
 -- inputs that break, one at least, with the first of them so often more that they are so many
-so_many : (P : Type 0) (m : System P) (low high : ℤ) (samples : ℕ) (xs : List ℤ) → 1 ≤ length xs → length xs ≤ samples → Breaks P m low high xs
-    → (ys : List ℤ) × (length ys ≡ samples) × Breaks P m low high ys
+so_many : (P : Type 0) (m : System P) (low high : ℤ) (samples : ℕ) (xs : List ℤ) → 1 ≤ length xs → length xs ≤ samples → Breaks (behaviour_of m) low high xs
+    → (ys : List ℤ) × (length ys ≡ samples) × Breaks (behaviour_of m) low high ys
 so_many P m low high samples [] some few h = absurd (omega arith)
 so_many P m low high samples (x ∷ xs) some few h =
     let more = replicate (samples - length (x ∷ xs)) x in (
@@ -49,12 +46,11 @@ so_many P m low high samples (x ∷ xs) some few h =
       more_break P m low high (x ∷ xs) more h (All-replicate (λ z. (low ≤ℤ z) × (z ≤ℤ high)) (samples - length (x ∷ xs)) x (All-head (λ z. (low ≤ℤ z) × (z ≤ℤ high)) x xs h.in_range)),
     )
 
-pub trace_breaks : (q : QuantisedView) (samples : ℕ) (t : Trace) → IsTrace q samples t → BreaksWithin q samples
-trace_breaks q samples t h =
-    let m = equations_of q in
+pub trace_breaks : (P : Type 0) (m : System P) (low high : ℤ) (samples : ℕ) (t : Trace) → IsTraceBy (behaviour_of m) low high samples t → BreaksWithinBy (behaviour_of m) low high samples
+trace_breaks P m low high samples t h =
     let r = h.replays in
-    so_many Past m q.xlo q.xhi samples t.inputs (omega (arith, r.many)) (omega (arith, r.many, h.within))
-    (record { in_range = r.in_range; broken = outside Past m (rows m (zeros m.many) t.inputs) t.sample t.value t.exact r.breaks })
+    so_many P m low high samples t.inputs (omega (arith, r.many)) (omega (arith, r.many, h.within))
+    (record { in_range = r.in_range; broken = outside P m (rows m (zeros m.many) t.inputs) t.sample t.value t.exact r.breaks })
 
-pub cycle_cycles : (q : QuantisedView) (periods : ℕ) (z : Cycle) → IsCycle q periods z → CyclesWithin q periods
-cycle_cycles q periods z h = (z.start, z.period, h.cycles.returns.some, h.within, h.cycles)
+pub cycle_cycles : (b : Behaviour) (periods : ℕ) (z : Cycle) → IsCycleBy b periods z → CyclesWithinBy b periods
+cycle_cycles b periods z h = (z.start, z.period, h.cycles.returns.some, h.within, h.cycles)

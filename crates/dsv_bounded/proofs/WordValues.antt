@@ -9,13 +9,13 @@ use Rattle.std.proofs.lemmas.List.{length-map, length-replicate, get_or-map, get
 use Rattle.std.proofs.lemmas.List.Elements.{All-head, All-tail, All-replicate}
 use Rattle.dsv_word.specs.declared.format.Format.{Format}
 use Rattle.dsv_word.specs.Words.{width, IsWord}
+use Rattle.dsv_word.proofs.Meanings.{zero_word}
 use Rattle.dsv_system.specs.Systems.{zeros}
 use Rattle.dsv_term.specs.Terms.{AreValues}
 use Rattle.dsv_term.specs.Word.{residue}
 use Rattle.dsv_term.proofs.Complement.{IsSpelled, signed-spelled}
 use Rattle.dsv_term.proofs.Words.{residue_fits}
 use Rattle.dsv_unroll.specs.Words.{spelled_words}
-use Rattle.dsv_unroll.proofs.CycleRuns.{zero_word}
 use Rattle.dsv_unroll.proofs.NodeTerms.{width_some}
 
 -- ---- sizes

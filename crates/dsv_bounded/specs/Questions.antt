@@ -1,19 +1,14 @@
 -- Serves private contracts: what a goal asks of the values of its inputs, and starts.
 use Rattle.std.specs.Prelude.{◌≡◌, ℕ, ◌-◌, List, ℤ, pos, replicate, length, take}
 use Rattle.std.specs.List.{All}
-use Rattle.dsv_meaning.specs.Equations.{Past}
-use Rattle.dsv_meaning.specs.Systems.{equations_of}
 use Rattle.dsv_netlist.specs.Nodes.{Net}
-use Rattle.dsv_netlist.specs.Systems.{system_of}
-use Rattle.dsv_quantiser.specs.QuantisedView.{QuantisedView, IsQuantisedView}
-use Rattle.dsv_realise.specs.Netlists.{net_of}
 use Rattle.dsv_system.specs.Breaks.{Breaks}
-use Rattle.dsv_system.specs.Systems.{RunAlike}
 use Rattle.dsv_term.specs.declared.node.TermId.{TermId}
 use Rattle.dsv_term.specs.Terms.{AreValues, word_of}
 use Rattle.dsv_term.specs.TermsView.{TermsView}
 use Rattle.dsv_unroll.specs.Words.{HasCycle, cycle_start, spelled_words}
 use Rattle.dsv_word.specs.Words.{width, IsWord}
+use Rattle.dsv_netlist.specs.Systems.{runs_of}
 
 -- The inputs have these widths, and the root is 1 exactly at the values that have the fact.
 pub record Asks (t : TermsView) (root : TermId) (widths : List ℕ) (P : List ℕ → Type 0) : Type 0
@@ -32,20 +27,10 @@ SomeHave widths P = (values : List ℕ) × AreValues widths values × P values
 abbrev pub NoneHave : List ℕ → (List ℕ → Type 0) → Type 0
 NoneHave widths P = (values : List ℕ) → AreValues widths values → P values → ⊥
 
--- The netlist is the controller's, and runs as its written equations do.
-pub record Realises (q : QuantisedView) (net : Net) : Type 0 where
-  pub same : net ≡ net_of q
-  pub runs : RunAlike (List ℤ) Past (system_of net) (equations_of q)
-  pub quantised : IsQuantisedView q
-
--- so many words of the controller's format
-abbrev pub word_widths : QuantisedView → ℕ → List ℕ
-word_widths q n = replicate n (width q.format)
-
 -- the inputs that the values spell break the netlist, over inputs from `low` to `high`
 abbrev pub DoBreak : Net → ℤ → ℤ → List ℕ → Type 0
 DoBreak net low high values =
-    Breaks (List ℤ) (system_of net) low high (spelled_words net.format values)
+    Breaks (runs_of net) low high (spelled_words net.format values)
 
 -- so many words of the netlist's format
 abbrev pub input_widths : Net → ℕ → List ℕ

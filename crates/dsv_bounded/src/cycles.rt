@@ -1,26 +1,22 @@
 // Limit cycles of all periods up to so many samples, from all starts: of netlists, and of quantised
 // controllers by theirs.
-ghost use Rattle.std.specs.Prelude.{◌≡◌, ◌≤◌, ◌↔◌, ◌^◌, List, ℤ, IfOk};
+ghost use Rattle.std.specs.Prelude.{◌≡◌, ◌≤◌, ◌↔◌, ◌^◌, IfOk};
 ghost use Rattle.dsv_cnf.specs.Formula.{IsSatisfiable};
 ghost use Rattle.dsv_hints.specs.Lessons.{IsRefutation, IsSpent};
 ghost use Rattle.dsv_hints.specs.Searches.{IfHappens, IfNever, IfSpent};
-ghost use Rattle.dsv_netlist.specs.Systems.{system_of};
 ghost use Rattle.dsv_unroll.specs.CycleGoals.{cycle_of};
-ghost use Rattle.dsv_bounded.specs.Formulas.{net_cycle_formula_of, cycle_formula_of, job_size_of};
+ghost use Rattle.dsv_bounded.specs.Formulas.{net_cycle_formula_of};
 ghost use Rattle.dsv_bounded.specs.Questions.{DoCycle, free_registers, input_widths};
-ghost use Rattle.dsv_bounded.specs.Refusals.{IsSized};
-ghost use Rattle.dsv_bounded.specs.Verdicts.{CyclesWithin, CyclesWithinOf, IsCycle, IsCycleOf};
+ghost use Rattle.dsv_netlist.specs.Systems.{runs_of};
+ghost use Rattle.dsv_bounded.specs.Verdicts.{CyclesWithinBy, IsCycleBy};
 
-use crate::netlists::netlist_of;
 use crate::question::{Question, answer, formula};
-use crate::refusals::{BoundedRefusal, accept};
 use crate::replayed_cycles::replayed_cycle;
 use crate::words::{words_after, zero_words};
 use dsv_base::NoMemory;
 use dsv_cnf::Formula;
 use dsv_hints::Searched;
 use dsv_meaning::Cycle;
-use dsv_quantiser::Quantised;
 use dsv_realise::RangedNetlist;
 use dsv_term::Goal;
 use dsv_unroll::cycle_goal;
@@ -43,7 +39,7 @@ impl<'a> Question for CycleQuestion<'a> {
 
     ghost made = { λ s. cycle_of s.subject.now.net.now s.periods };
 
-    ghost shown = { λ s. IsCycleOf (List ℤ) (system_of s.subject.now.net.now) s.periods };
+    ghost shown = { λ s. IsCycleBy (runs_of s.subject.now.net.now) s.periods };
 
     fn offer(&self, alloc: Global) -> Result<Option<Cycle>, NoMemory> {
         self.offered_cycle(alloc)
@@ -66,30 +62,24 @@ impl<'a> Question for CycleQuestion<'a> {
     }
 }
 
-/// The formula of a limit cycle of a period from 1 to `periods`, which is 1 to 64.
-#[tactic(auto, unfolding(crate::specs::Formulas::cycle_formula_of, crate::specs::Formulas::net_cycle_formula_of))]
-pub fn cycle_formula(
+/// The formula of a limit cycle of a netlist of a period from 1 to `periods`, which is 1 to 64. How
+/// large the question may be is the caller's to test.
+#[tactic(auto, unfolding(crate::specs::Formulas::net_cycle_formula_of))]
+pub fn netlist_cycle_formula(
     alloc: Global,
-    quantised: &Quantised,
+    subject: &RangedNetlist,
     periods: u32,
-) -> Result<Formula, BoundedRefusal>
+) -> Result<Formula, NoMemory>
     requires some { 1 ≤ periods }
     requires few { periods ≤ 64 }
-    ensures sized { IsSized (job_size_of quantised.now periods) result }
-    ensures formula { IfOk result (λ f. f ≡ cycle_formula_of quantised.now periods) }
-    // Some assignment satisfies it exactly where some start has such a cycle in the written
-    // equations.
-    ensures told { IfOk result (λ f. IsSatisfiable f.clauses ↔ CyclesWithin quantised.now periods) }
+    ensures formula { IfOk result (λ f. f ≡ net_cycle_formula_of subject.now.net.now periods) }
+    // Some assignment satisfies it exactly where some start has such a cycle in the netlist.
+    ensures told { IfOk result (λ f. IsSatisfiable f.clauses
+        ↔ CyclesWithinBy (runs_of subject.now.net.now) periods) }
 {
-    accept(quantised, periods)?;
-    let net = netlist_of(alloc, quantised)?;
-    let _count = net.len(); // its clause on the netlist, for the proof
-    let subject = RangedNetlist::of_controller(quantised, &net);
-    let question = CycleQuestion {
-        subject: &subject,
-        periods,
-    };
-    Ok(formula(alloc, &question)?)
+    let _count = subject.net.len(); // its clause on the netlist, for the proof
+    let question = CycleQuestion { subject, periods };
+    formula(alloc, &question)
 }
 
 /// Whether a start of a netlist has a limit cycle of a period from 1 to `periods`, which is 1 to
@@ -108,47 +98,16 @@ pub fn netlist_cycle(
     requires allowed { 1 ≤ conflicts }
     requires limited { conflicts ≤ 2 ^ 30 }
     // No start has a cycle of such a period in the netlist.
-    ensures never { IfOk result (IfNever (λ log. CyclesWithinOf (List ℤ)
-        (system_of subject.now.net.now) periods → ⊥)) }
+    ensures never { IfOk result
+        (IfNever (λ log. CyclesWithinBy (runs_of subject.now.net.now) periods → ⊥)) }
     // The log is a derivation of the empty clause from the question's formula.
     ensures refuted { IfOk result (IfNever (IsRefutation (net_cycle_formula_of
         subject.now.net.now periods) conflicts)) }
-    ensures cycle { IfOk result (IfHappens (IsCycleOf (List ℤ)
-        (system_of subject.now.net.now) periods)) }
+    ensures cycle { IfOk result (IfHappens (IsCycleBy (runs_of subject.now.net.now) periods)) }
     ensures spent { IfOk result (IfSpent (IsSpent (net_cycle_formula_of
         subject.now.net.now periods) conflicts)) }
 {
     let _count = subject.net.len(); // its clause on the netlist, for the proof
     let question = CycleQuestion { subject, periods };
     answer(alloc, &question, conflicts)
-}
-
-/// Whether a start has a limit cycle of a period from 1 to `periods`, which is 1 to 64: first some
-/// starts are tried, and then there is a search that learns at most so many clauses. A cycle that
-/// is found replays.
-#[tactic(auto, unfolding(crate::specs::Formulas::cycle_formula_of))]
-pub fn limit_cycle(
-    alloc: Global,
-    quantised: &Quantised,
-    periods: u32,
-    conflicts: u32,
-) -> Result<Searched<Cycle>, BoundedRefusal>
-    requires some { 1 ≤ periods }
-    requires few { periods ≤ 64 }
-    requires allowed { 1 ≤ conflicts }
-    requires limited { conflicts ≤ 2 ^ 30 }
-    ensures sized { IsSized (job_size_of quantised.now periods) result }
-    // No start has a cycle of such a period in the written equations.
-    ensures never { IfOk result (IfNever (λ log. CyclesWithin quantised.now periods → ⊥)) }
-    // The log is a derivation of the empty clause from the job's formula.
-    ensures refuted { IfOk result
-        (IfNever (IsRefutation (cycle_formula_of quantised.now periods) conflicts)) }
-    ensures cycle { IfOk result (IfHappens (IsCycle quantised.now periods)) }
-    ensures spent { IfOk result
-        (IfSpent (IsSpent (cycle_formula_of quantised.now periods) conflicts)) }
-{
-    accept(quantised, periods)?;
-    let net = netlist_of(alloc, quantised)?;
-    let subject = RangedNetlist::of_controller(quantised, &net);
-    Ok(netlist_cycle(alloc, &subject, periods, conflicts)?)
 }

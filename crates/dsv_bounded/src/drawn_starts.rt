@@ -2,11 +2,11 @@
 // controllers come to a limit cycle from few starts, and after many samples.
 #![tactic(auto, using(dsv_algebra::proofs::Casts::casts))]
 
-ghost use Rattle.std.specs.Prelude.{◌≤◌, List, ℤ, IfOk, IfSome};
-ghost use Rattle.dsv_netlist.specs.Systems.{system_of};
+ghost use Rattle.std.specs.Prelude.{◌≤◌, IfOk, IfSome};
 ghost use Rattle.dsv_word.specs.Words.{IsWord};
 ghost use Rattle.dsv_bounded.specs.Questions.{AreRegisters};
-ghost use Rattle.dsv_bounded.specs.Verdicts.{IsCycleOf};
+ghost use Rattle.dsv_netlist.specs.Systems.{runs_of};
+ghost use Rattle.dsv_bounded.specs.Verdicts.{IsCycleBy};
 
 use crate::cycles::CycleQuestion;
 use crate::transients::level_registers;
@@ -91,7 +91,7 @@ impl<'a> CycleQuestion<'a> {
     /// The limit cycle that comes of the first of so many drawn starts that leads to one.
     pub(crate) fn drawn_cycle(&self, alloc: Global) -> Result<Option<Cycle>, NoMemory>
         ensures { IfOk result (λ cycle. IfSome cycle
-            (IsCycleOf (List ℤ) (system_of self.now.subject.now.net.now) self.now.periods)) }
+            (IsCycleBy (runs_of self.now.subject.now.net.now) self.now.periods)) }
     {
         let mut generator = Generator { state: SEED };
         for turn in 0..STARTS {

@@ -1,11 +1,12 @@
 // The sizes of bounded jobs, and why one has no answer.
-ghost use Rattle.std.specs.Prelude.{◌≡◌, ◌≤◌};
-ghost use Rattle.dsv_bounded.specs.Formulas.{job_size_of};
+ghost use Rattle.std.specs.Prelude.{◌≡◌, ◌≤◌, ◌*◌, ◌^◌};
 ghost use Rattle.dsv_bounded.specs.Refusals.{IsWeighed};
+ghost use Rattle.dsv_bounded.specs.RunQuestions.{job_size_of};
+ghost use Rattle.dsv_word.specs.Words.{width};
 
 use dsv_base::NoMemory;
-use dsv_meaning::products;
-use dsv_quantiser::Quantised;
+use dsv_realise::{Asking, Subject};
+use dsv_word::Format;
 
 /// The greatest job that is taken.
 pub const MOST_SIZE: u64 = 250_000;
@@ -46,25 +47,32 @@ impl From<TooLarge> for BoundedRefusal {
     }
 }
 
-/// How great a job over so many samples is: samples times products times the square of a word's
-/// bits.
-pub(crate) fn job_size(quantised: &Quantised, samples: u32) -> u64
+/// How great a job over so many samples is, of so many products a sample in words of this format:
+/// samples times products times the square of a word's bits.
+fn job_size(products: u32, format: &Format, samples: u32) -> u64
     requires { samples ≤ 64 }
-    ensures { result ≡ job_size_of quantised.now samples }
+    ensures { result ≡ samples * products * width format.now ^ 2 }
 {
-    let width = u64::from(quantised.format().width());
-    let products = products(quantised.realisation(), quantised.order() as u32);
+    let width = u64::from(format.width());
     u64::from(samples) * u64::from(products) * (width * width)
 }
 
-/// Refuses a job over so many samples that is too large. It takes no memory.
-pub fn accept(quantised: &Quantised, samples: u32) -> Result<(), TooLarge>
+/// Refuses such a job that is too large. It takes no memory.
+pub fn accept(products: u32, format: &Format, samples: u32) -> Result<(), TooLarge>
     requires { samples ≤ 64 }
-    ensures { IsWeighed (job_size_of quantised.now samples) result }
+    ensures { IsWeighed (samples * products * width format.now ^ 2) result }
 {
-    let size = job_size(quantised, samples);
+    let size = job_size(products, format, samples);
     if size > MOST_SIZE {
         return Err(TooLarge { size });
     }
     Ok(())
+}
+
+/// Refuses a job over so many of a subject's samples that is too large.
+pub(crate) fn accept_size<S: Subject>(asking: &Asking<S>, samples: u32) -> Result<(), TooLarge>
+    requires { samples ≤ 64 }
+    ensures { IsWeighed (job_size_of (S.view asking.now.subject.now) samples) result }
+{
+    accept(asking.net.counts().products, &asking.net.format(), samples)
 }

@@ -1,9 +1,9 @@
 // Limit cycles of starts that are replayed.
-ghost use Rattle.std.specs.Prelude.{◌≤◌, ℕ, List, ℤ, IfOk, IfSome, IfNone};
-ghost use Rattle.dsv_netlist.specs.Systems.{system_of};
+ghost use Rattle.std.specs.Prelude.{◌≤◌, ℕ, IfOk, IfSome, IfNone};
 ghost use Rattle.dsv_system.specs.Cycles.{Cycles};
 ghost use Rattle.dsv_bounded.specs.Questions.{IsStart};
-ghost use Rattle.dsv_bounded.specs.Verdicts.{IsCycleOf};
+ghost use Rattle.dsv_netlist.specs.Systems.{runs_of};
+ghost use Rattle.dsv_bounded.specs.Verdicts.{IsCycleBy};
 
 use dsv_base::{NoMemory, WordList};
 use dsv_meaning::{Cycle, CycleReplay};
@@ -20,9 +20,9 @@ pub(crate) fn replayed_cycle(
 ) -> Result<Option<Cycle>, NoMemory>
     requires { IsStart net.now start }
     ensures cycle { IfOk result (λ cycle. IfSome cycle
-        (IsCycleOf (List ℤ) (system_of net.now) periods)) }
+        (IsCycleBy (runs_of net.now) periods)) }
     ensures none { IfOk result (λ cycle. IfNone cycle ((p : ℕ) → p ≤ periods →
-        Cycles (List ℤ) (system_of net.now) start p → ⊥)) }
+        Cycles (runs_of net.now) start p → ⊥)) }
 {
     let mut outputs = vec![in alloc; 0i64; periods as usize]?;
     let replay = replay_cycle(

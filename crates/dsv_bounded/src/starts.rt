@@ -9,12 +9,12 @@
 // as inputs.
 #![tactic(auto, using(dsv_algebra::proofs::Casts::casts))]
 
-ghost use Rattle.std.specs.Prelude.{◌<◌, List, ℤ, IfOk, IfSome};
-ghost use Rattle.dsv_netlist.specs.Systems.{system_of};
+ghost use Rattle.std.specs.Prelude.{◌<◌, IfOk, IfSome};
 ghost use Rattle.dsv_word.specs.Words.{IsWord};
 ghost use Rattle.dsv_bounded.specs.Questions.{AreRegisters};
-ghost use Rattle.dsv_bounded.specs.Verdicts.{IsCycleOf};
 ghost use Rattle.dsv_bounded.specs.declared.starts.TheConstants.{OFFERED_NUMBERS};
+ghost use Rattle.dsv_netlist.specs.Systems.{runs_of};
+ghost use Rattle.dsv_bounded.specs.Verdicts.{IsCycleBy};
 
 use crate::cycles::CycleQuestion;
 use crate::transients::{drive, level_registers};
@@ -101,7 +101,7 @@ impl<'a> CycleQuestion<'a> {
         place: Place,
     ) -> Result<Option<Cycle>, NoMemory>
         ensures { IfOk result (λ cycle. IfSome cycle
-            (IsCycleOf (List ℤ) (system_of self.now.subject.now.net.now) self.now.periods)) }
+            (IsCycleBy (runs_of self.now.subject.now.net.now) self.now.periods)) }
     {
         if !self.subject.net.format().fits(i128::from(number)) {
             return Ok(None);
@@ -113,7 +113,7 @@ impl<'a> CycleQuestion<'a> {
     /// The first limit cycle that comes of a word in one register: a small one, or an end.
     fn register_cycle(&self, alloc: Global, register: u32) -> Result<Option<Cycle>, NoMemory>
         ensures { IfOk result (λ cycle. IfSome cycle
-            (IsCycleOf (List ℤ) (system_of self.now.subject.now.net.now) self.now.periods)) }
+            (IsCycleBy (runs_of self.now.subject.now.net.now) self.now.periods)) }
     {
         for i in 0..OFFERED_NUMBERS {
             let number = offered_number(&self.subject.net.format(), i);
@@ -128,7 +128,7 @@ impl<'a> CycleQuestion<'a> {
     /// all registers.
     fn end_cycle(&self, alloc: Global, number: i64) -> Result<Option<Cycle>, NoMemory>
         ensures { IfOk result (λ cycle. IfSome cycle
-            (IsCycleOf (List ℤ) (system_of self.now.subject.now.net.now) self.now.periods)) }
+            (IsCycleBy (runs_of self.now.subject.now.net.now) self.now.periods)) }
     {
         for place in [Place::Input(1), Place::Input(LONG_INPUT), Place::Everywhere] {
             if let Some(cycle) = self.number_cycle(alloc, number, place)? {
@@ -142,7 +142,7 @@ impl<'a> CycleQuestion<'a> {
     /// fixed rules.
     pub(crate) fn offered_cycle(&self, alloc: Global) -> Result<Option<Cycle>, NoMemory>
         ensures { IfOk result (λ cycle. IfSome cycle
-            (IsCycleOf (List ℤ) (system_of self.now.subject.now.net.now) self.now.periods)) }
+            (IsCycleBy (runs_of self.now.subject.now.net.now) self.now.periods)) }
     {
         let net = self.subject.net;
         let format = net.format();

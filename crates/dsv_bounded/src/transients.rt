@@ -5,11 +5,11 @@
 // start that is replayed, since a cycle without input has them so.
 #![tactic(auto, using(dsv_algebra::proofs::Casts::casts))]
 
-ghost use Rattle.std.specs.Prelude.{List, ℤ, IfOk, IfSome};
-ghost use Rattle.dsv_netlist.specs.Systems.{system_of};
+ghost use Rattle.std.specs.Prelude.{IfOk, IfSome};
 ghost use Rattle.dsv_word.specs.Words.{IsWord};
 ghost use Rattle.dsv_bounded.specs.Questions.{IsStart, AreRegisters};
-ghost use Rattle.dsv_bounded.specs.Verdicts.{IsCycleOf};
+ghost use Rattle.dsv_netlist.specs.Systems.{runs_of};
+ghost use Rattle.dsv_bounded.specs.Verdicts.{IsCycleBy};
 
 use crate::cycles::CycleQuestion;
 use crate::replayed_cycles::replayed_cycle;
@@ -72,7 +72,7 @@ impl<'a> CycleQuestion<'a> {
     ) -> Result<Option<Cycle>, NoMemory>
         requires { AreRegisters self.now.subject.now.net.now registers.old }
         ensures { IfOk result (λ cycle. IfSome cycle
-            (IsCycleOf (List ℤ) (system_of self.now.subject.now.net.now) self.now.periods)) }
+            (IsCycleBy (runs_of self.now.subject.now.net.now) self.now.periods)) }
     {
         for samples in settling {
             drive(self.subject.net, registers, 0, *samples);

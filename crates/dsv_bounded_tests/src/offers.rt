@@ -1,9 +1,9 @@
 // Jobs that are decided before a search, which gives up on them after one learned clause.
-use dsv_bounded::{decide, limit_cycle, overflow};
+use dsv_bounded::{cycle_within, decide, overflow_within};
 use dsv_hints::Searched;
 use dsv_names::{OverflowMode, Realisation, Rounding};
 use dsv_quantiser::Quantised;
-use dsv_realise::realise;
+use dsv_realise::{Asking, realise};
 use dsv_term::Goal;
 use dsv_test_setup::quantised_of;
 use dsv_unroll::{cycle_goal, overflow_goal};
@@ -83,7 +83,8 @@ fn is_overflow_found(alloc: Global, job: &Case) -> Option<bool> {
     if samples < 1 || samples > 64 {
         return None;
     }
-    match overflow(alloc, &quantised, samples, 1).ok()? {
+    let asking = Asking::of(alloc, &quantised).ok()?;
+    match overflow_within(alloc, &asking, samples, 1).ok()? {
         Searched::Happens(trace) => {
             Some(trace.sample < samples && !quantised.format().fits(trace.exact))
         }
@@ -98,7 +99,8 @@ fn is_cycle_found(alloc: Global, job: &Case) -> Option<bool> {
     if periods < 1 || periods > 64 {
         return None;
     }
-    match limit_cycle(alloc, &quantised, periods, 1).ok()? {
+    let asking = Asking::of(alloc, &quantised).ok()?;
+    match cycle_within(alloc, &asking, periods, 1).ok()? {
         Searched::Happens(cycle) => {
             Some(cycle.period <= periods && cycle.outputs.len() == cycle.period as usize)
         }

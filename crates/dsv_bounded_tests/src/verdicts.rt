@@ -2,10 +2,11 @@
 ghost use Rattle.std.specs.Prelude.{◌<◌, ◌≤◌};
 
 use crate::designs::{REALISATIONS, quantised_in};
-use dsv_bounded::{limit_cycle, overflow};
+use dsv_bounded::{cycle_within, overflow_within};
 use dsv_hints::Searched;
 use dsv_names::{OverflowMode, Rounding};
 use dsv_quantiser::Quantised;
+use dsv_realise::Asking;
 use std::alloc::Global;
 
 const CONFLICTS: u32 = 50_000;
@@ -66,7 +67,8 @@ fn overflows(alloc: Global, quantised: &Quantised, samples: u32) -> Option<bool>
     requires some { 1 ≤ samples }
     requires few { samples ≤ 64 }
 {
-    match overflow(alloc, quantised, samples, CONFLICTS) {
+    let asking = Asking::of(alloc, quantised).ok()?;
+    match overflow_within(alloc, &asking, samples, CONFLICTS) {
         Ok(Searched::Never(_)) => Some(false),
         Ok(Searched::Happens(_)) => Some(true),
         _ => None,
@@ -91,7 +93,8 @@ fn cycles(alloc: Global, quantised: &Quantised, periods: u32) -> Option<bool>
     requires some { 1 ≤ periods }
     requires few { periods ≤ 64 }
 {
-    match limit_cycle(alloc, quantised, periods, CONFLICTS) {
+    let asking = Asking::of(alloc, quantised).ok()?;
+    match cycle_within(alloc, &asking, periods, CONFLICTS) {
         Ok(Searched::Never(_)) => Some(false),
         Ok(Searched::Happens(_)) => Some(true),
         _ => None,

@@ -8,14 +8,13 @@ use Rattle.dsv_word.specs.declared.format.Format.{Format}
 use Rattle.dsv_names.specs.declared.realisation.Realisation.{Realisation}
 use Rattle.dsv_names.specs.declared.realisation.Realisation.TheVariants.{Dfi}
 use Rattle.dsv_quantiser.specs.QuantisedView.{QuantisedView}
-use Rattle.dsv_system.specs.Systems.{RunAlike}
 use Rattle.dsv_netlist.specs.declared.node.Node.{Node}
 use Rattle.dsv_netlist.specs.declared.node.Node.TheVariants.{Input}
 use Rattle.dsv_netlist.specs.declared.netlist.OpCounts.{OpCounts}
 use Rattle.dsv_netlist.specs.Limits.{bound_limit}
 use Rattle.dsv_netlist.specs.Nodes.{Net, at, sample_of}
 use Rattle.dsv_netlist.specs.Bounds.{word_bound}
-use Rattle.dsv_netlist.specs.Systems.{system_of}
+use Rattle.dsv_netlist.specs.Systems.{system_of, runs_of}
 use Rattle.dsv_netlist.specs.Conditions.{ReadsBelow, names_word, is_fit, IsNetlist}
 use Rattle.dsv_netlist.specs.Counts.{is_product, counts_of}
 use Rattle.dsv_meaning.specs.Equations.{Past, order, registers_of, products_of, sums_of}
@@ -23,7 +22,7 @@ use Rattle.dsv_meaning.specs.Systems.{equations_of}
 use Rattle.dsv_realise.specs.Netlists.{net_of}
 use Rattle.dsv_realise.specs.Running.{counts_as}
 use Rattle.dsv_realise.proofs.Growing.{word_small}
-use Rattle.dsv_system.proofs.Alike.{alike_back}
+use Rattle.dsv_system.proofs.Agreeing.{agree_back}
 use Rattle.dsv_cascade.specs.Cascades.{CascadeView, sections_of}
 use Rattle.dsv_cascade.specs.Netlists.{moved, joined, joined_all, wire}
 use Rattle.dsv_cascade.specs.Sections.{Fits, IsCascade}
@@ -35,6 +34,7 @@ use Rattle.dsv_cascade.proofs.Series.{series, series_alike, maps_alike, alike_th
 use Rattle.dsv_cascade.proofs.SectionNodes.{AreBuilt, net_built}
 use Rattle.dsv_cascade.proofs.SectionProducts.{sections_products-push}
 use Rattle.dsv_cascade.proofs.SectionSystems.{sections_system, sections_push}
+use Rattle.dsv_system.specs.Systems.{behaviour_of, Agree}
 
 -- ---- no section
 wire_netlist : (f : Format) → IsNetlist (wire f)
@@ -50,7 +50,7 @@ wire_netlist f = record {
   bounded = All-cons (λ bound. bound < bound_limit) (word_bound f) [] (omega (arith, word_small f)) (All-nil (λ bound. bound < bound_limit));
 }
 
-wire_alike : (f : Format) → RunAlike (List ℤ) (List Past) (system_of (wire f)) (sections_system f [])
+wire_alike : (f : Format) → Agree (runs_of (wire f)) (behaviour_of (sections_system f []))
 wire_alike f = maps_alike (List ℤ) (List Past) (system_of (wire f)) (sections_system f []) (λ words. []) (λ words. words ≡ []) (record {
   many = refl;
   forward = refl;
@@ -63,10 +63,10 @@ wire_alike f = maps_alike (List ℤ) (List Past) (system_of (wire f)) (sections_
 })
 
 -- ---- two netlists
-joined_alike : (a b : Net) → IsNetlist a → b.format ≡ a.format → HasOneInput b.nodes → RunAlike (List ℤ) (List ℤ × List ℤ) (system_of (joined a b)) (series (system_of a) (system_of b))
+joined_alike : (a b : Net) → IsNetlist a → b.format ≡ a.format → HasOneInput b.nodes → Agree (runs_of (joined a b)) (behaviour_of (series (system_of a) (system_of b)))
 joined_alike a b h e o =
     let both = series (system_of a) (system_of b) in
-    alike_back (List ℤ × List ℤ) (List ℤ) both (system_of (joined a b))
+    agree_back (behaviour_of both) (runs_of (joined a b))
     (maps_alike (List ℤ × List ℤ) (List ℤ) both (system_of (joined a b)) (λ p. p.0 ++ p.1) (λ p. length p.0 ≡ length a.next) (record {
       many = sym (length-joined_next a b);
       forward = refl;
@@ -84,7 +84,7 @@ pub record IsSectionNet (q : QuantisedView) (net : Net) : Type 0 where
   pub made : net ≡ net_of q
   pub netlist : IsNetlist net
   pub counts : counts_of net ≡ counts_as q.realisation (order q)
-  pub runs : RunAlike (List ℤ) Past (system_of net) (equations_of q)
+  pub runs : Agree (runs_of net) (behaviour_of (equations_of q))
 
 -- how great a section is
 record IsShort (net : Net) : Type 0 where
@@ -121,7 +121,7 @@ pub record IsSeriesNet (f : Format) (qs : List QuantisedView) (net : Net) : Type
   pub registers : length net.next ≤ 4 * length qs
   pub exact : count_by is_fit net.nodes ≤ 17 * length qs
   pub products : count_by is_product net.nodes ≡ sections_products qs
-  pub runs : RunAlike (List ℤ) (List Past) (system_of net) (sections_system f qs)
+  pub runs : Agree (runs_of net) (behaviour_of (sections_system f qs))
 
 wire_series : (f : Format) → IsSeriesNet f [] (wire f)
 wire_series f = record {

@@ -4,7 +4,7 @@ use Rattle.std.proofs.Math.IntN.{ℤ}
 use Rattle.std.proofs.lemmas.List.{append-nil, take-take, take_all, drop-drop, drop-take}
 use Rattle.dsv_word.specs.declared.format.Format.{Format}
 use Rattle.dsv_quantiser.specs.QuantisedView.{QuantisedView}
-use Rattle.dsv_system.specs.Systems.{System, RunAlike}
+use Rattle.dsv_system.specs.Systems.{System, behaviour_of, Agree}
 use Rattle.dsv_meaning.specs.Equations.{Past}
 use Rattle.dsv_meaning.specs.Systems.{equations_of}
 use Rattle.dsv_cascade.specs.Cascades.{section_then, sections_sample, sections_registers, sections_start, sections_many}
@@ -71,7 +71,7 @@ sections_registers-push (o ∷ qs) q (p ∷ ps) past l =
     let r = (equations_of o).registers p in
     ap (λ (w : List ℤ). r ++ w) (sections_registers-push qs q ps past (omega arith)) ∙ sym (append_assoc r (sections_registers qs ps) ((equations_of q).registers past))
 
-pub sections_push : (f : Format) (qs : List QuantisedView) (q : QuantisedView) → RunAlike (List Past × Past) (List Past) (series (sections_system f qs) (equations_of q)) (sections_system f (qs ++ q ∷ []))
+pub sections_push : (f : Format) (qs : List QuantisedView) (q : QuantisedView) → Agree (behaviour_of (series (sections_system f qs) (equations_of q))) (behaviour_of (sections_system f (qs ++ q ∷ [])))
 sections_push f qs q =
     maps_alike (List Past × Past) (List Past) (series (sections_system f qs) (equations_of q)) (sections_system f (qs ++ q ∷ [])) with_past (λ p. length p.0 ≡ length qs) (record {
       many = sym (sections_many-push qs q);

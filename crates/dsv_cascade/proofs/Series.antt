@@ -3,7 +3,7 @@ use Rattle.std.proofs.Common.{◌≡◌, ◌+◌, List, [], ◌∷◌, ◌++◌,
 use Rattle.std.proofs.Math.IntN.{ℤ}
 use Rattle.std.proofs.lemmas.List.{length-take-le}
 use Rattle.dsv_system.specs.Runs.{Sampled, SampleRow, row_at, rows_from, past_after}
-use Rattle.dsv_system.specs.Systems.{System, rows, registers_after, RunAlike}
+use Rattle.dsv_system.specs.Systems.{System, rows, registers_after, behaviour_of, Agree}
 
 abbrev pub series_sample : {P Q : Type 0} → (P → ℤ → Sampled P) → (Q → ℤ → Sampled Q) → P × Q → ℤ → Sampled (P × Q)
 series_sample m n past x = let s = m past.0 x in let t = n past.1 s.y in
@@ -48,7 +48,7 @@ registers_after-series : (P Q : Type 0) (m : System P) (n : System Q) (start xs 
 registers_after-series P Q m n start xs = ap (series m n).registers (past_after-series P Q m.sample n.sample (m.start (take m.many start)) (n.start (drop m.many start)) xs)
 
 -- ---- series of systems that run alike do so
-pub series_alike : (P Q R S : Type 0) (m : System P) (n : System Q) (o : System R) (r : System S) → RunAlike P Q m n → RunAlike R S o r → RunAlike (P × R) (Q × S) (series m o) (series n r)
+pub series_alike : (P Q R S : Type 0) (m : System P) (n : System Q) (o : System R) (r : System S) → Agree (behaviour_of m) (behaviour_of n) → Agree (behaviour_of o) (behaviour_of r) → Agree (behaviour_of (series m o)) (behaviour_of (series n r))
 series_alike P Q R S m n o r h g = record {
   many = rw (h.many, g.many) refl;
   forward = refl;
@@ -96,7 +96,7 @@ registers-mapped P Q m n g IsGood p [] h i = h.registers p i
 registers-mapped P Q m n g IsGood p (x ∷ xs) h i =
     ap (λ (s : Sampled Q). n.registers (past_after n.sample s.past xs)) (h.sample p x i) ∙ registers-mapped P Q m n g IsGood (m.sample p x).past xs h (h.stays p x i)
 
-pub maps_alike : (P Q : Type 0) (m : System P) (n : System Q) (g : P → Q) (IsGood : P → Type 0) → MapsTo P Q m n g IsGood → RunAlike P Q m n
+pub maps_alike : (P Q : Type 0) (m : System P) (n : System Q) (g : P → Q) (IsGood : P → Type 0) → MapsTo P Q m n g IsGood → Agree (behaviour_of m) (behaviour_of n)
 maps_alike P Q m n g IsGood h = record {
   many = h.many;
   forward = h.forward;
@@ -105,7 +105,7 @@ maps_alike P Q m n g IsGood h = record {
   registers = λ start xs l. sym (ap (λ (q : Q). n.registers (past_after n.sample q xs)) (h.start start l) ∙ registers-mapped P Q m n g IsGood (m.start start) xs h (h.begins start l));
 }
 
-pub alike_through : (P Q R : Type 0) (m : System P) (n : System Q) (o : System R) → RunAlike P Q m n → RunAlike Q R n o → RunAlike P R m o
+pub alike_through : (P Q R : Type 0) (m : System P) (n : System Q) (o : System R) → Agree (behaviour_of m) (behaviour_of n) → Agree (behaviour_of n) (behaviour_of o) → Agree (behaviour_of m) (behaviour_of o)
 alike_through P Q R m n o h g = record {
   many = h.many ∙ g.many;
   forward = h.forward ∙ g.forward;

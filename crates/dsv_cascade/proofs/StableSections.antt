@@ -8,10 +8,9 @@ use Rattle.std.proofs.lemmas.List.Elements.{All-nil, All-cons}
 use Rattle.std.proofs.lemmas.Option.{slice_get_read}
 use Rattle.dsv_quantiser.specs.QuantisedView.{QuantisedView}
 use Rattle.dsv_cascade.specs.declared.stability.SectionOffer.{SectionOffer}
-use Rattle.dsv_cascade.specs.declared.stability.UnstableSection.{UnstableSection}
-use Rattle.dsv_cascade.specs.declared.stability.UnstableSection.TheVariants as unstable
-use Rattle.dsv_cascade.specs.Stability.{IsStableSection, IsStableAlone, AreStable, IsFirstUnstable, AreJudged}
-use Rattle.dsv_cascade.specs.UnstableSections.{forms_of, IsUnstableAlone}
+use Rattle.dsv_cascade.specs.declared.stability.SectionFault.{SectionFault}
+use Rattle.dsv_cascade.specs.declared.stability.CascadeForms.TheVariants as forms
+use Rattle.dsv_cascade.specs.Stability.{IsStableSection, IsStableAlone, AreStable, HasFault, AreJudged}
 
 -- ---- sections that are stable so far
 pub length-stable : (qs : List QuantisedView) (offers : List SectionOffer) → AreStable qs offers → length offers ≡ length qs
@@ -40,25 +39,23 @@ later_stable first q later offers s i h l e k =
     subst (λ (qs : List QuantisedView). AreStable (first ∷ qs) (offers ++ s ∷ [])) (sym more) (with_stable (first ∷ take i later) offers q s h k)
 
 -- ---- the first section that isn't
-first_unstable : (sections : List QuantisedView) (section place : ℕ) (q : QuantisedView) → section ≡ place → slice_get sections place ≡ Some q → All IsStableAlone (take place sections)
-    → IsFirstUnstable sections section q
-first_unstable sections section place q e here before = record {
-  here = ap (slice_get sections) e ∙ here;
-  before = subst (λ (k : ℕ). All IsStableAlone (take k sections)) (sym e) before;
-}
+judged : (sections : List QuantisedView) (place section : ℕ) (q : QuantisedView) (found : SectionFault) → section ≡ place → slice_get sections place ≡ Some q → All IsStableAlone (take place sections)
+    → HasFault q found → AreJudged sections (forms.NotAll section found)
+judged sections place section q found e here before u = (
+  q,
+  record {
+    here = ap (slice_get sections) e ∙ here;
+    before = subst (λ (k : ℕ). All IsStableAlone (take k sections)) (sym e) before;
+  },
+  u,
+)
 
-judged : (sections : List QuantisedView) (place : ℕ) (q : QuantisedView) (found : UnstableSection) → slice_get sections place ≡ Some q → All IsStableAlone (take place sections)
-    → IsUnstableAlone place q found → AreJudged sections (forms_of found)
-judged sections place q (unstable.KeptAway section poly offer fall value) here before u = (q, first_unstable sections section place q u.0 here before, u.1, u.2, u.3)
-judged sections place q (unstable.Wide section index) here before u = (q, first_unstable sections section place q u.0 here before, u.1)
-judged sections place q (unstable.NoClosedForm section index) here before u = (q, first_unstable sections section place q u.0 here before, u.1)
+pub first_judged : (first : QuantisedView) (later : List QuantisedView) (section : ℕ) (found : SectionFault) → section ≡ 0 → HasFault first found → AreJudged (first ∷ later) (forms.NotAll section found)
+first_judged first later section found e u = judged (first ∷ later) 0 section first found e refl (All-nil IsStableAlone) u
 
-pub first_judged : (first : QuantisedView) (later : List QuantisedView) (found : UnstableSection) → IsUnstableAlone 0 first found → AreJudged (first ∷ later) (forms_of found)
-first_judged first later found u = judged (first ∷ later) 0 first found refl (All-nil IsStableAlone) u
-
-pub later_judged : (first q : QuantisedView) (later : List QuantisedView) (offers : List SectionOffer) (i : ℕ) (found : UnstableSection) → AreStable (first ∷ take i later) offers → i < length later → q ≡ get_or later i q
-    → IsUnstableAlone (length offers) q found → AreJudged (first ∷ later) (forms_of found)
-later_judged first q later offers i found h l e u =
-    let place : length offers ≡ suc i = omega (arith, length-stable (first ∷ take i later) offers h, length-take i later) in
+pub later_judged : (first q : QuantisedView) (later : List QuantisedView) (offers : List SectionOffer) (i section : ℕ) (found : SectionFault) → AreStable (first ∷ take i later) offers → i < length later → q ≡ get_or later i q
+    → section ≡ length offers → HasFault q found → AreJudged (first ∷ later) (forms.NotAll section found)
+later_judged first q later offers i section found h l e n u =
+    let place : section ≡ suc i = omega (arith, n, length-stable (first ∷ take i later) offers h, length-take i later) in
     let here = slice_get_read later (length later) i q refl l e in
-    judged (first ∷ later) (suc i) q found here (stable_alone (first ∷ take i later) offers h) (subst (λ (n : ℕ). IsUnstableAlone n q found) place u)
+    judged (first ∷ later) (suc i) section q found place here (stable_alone (first ∷ take i later) offers h) u

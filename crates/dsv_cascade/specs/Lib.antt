@@ -3,5 +3,4 @@ pub mod Netlists
 pub mod Sections
 pub mod Sizes
 pub mod Stability
-pub mod UnstableSections
-pub mod Verdicts
+pub mod Subjects

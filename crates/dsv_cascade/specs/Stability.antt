@@ -13,6 +13,8 @@ use Rattle.dsv_tested.specs.declared.side.Tested.TheVariants as tested
 use Rattle.dsv_cascade.specs.declared.stability.SectionOffer.{SectionOffer}
 use Rattle.dsv_cascade.specs.declared.stability.CascadeForms.{CascadeForms}
 use Rattle.dsv_cascade.specs.declared.stability.CascadeForms.TheVariants as forms
+use Rattle.dsv_cascade.specs.declared.stability.SectionFault.{SectionFault}
+use Rattle.dsv_cascade.specs.declared.stability.SectionFault.TheVariants as fault
 
 -- this is the polynomial whose roots are the section's poles
 abbrev pub HasPoly : QuantisedView → List ℤ → Type 0
@@ -51,16 +53,18 @@ abbrev pub HasNoClosedForm : QuantisedView → ℕ → Type 0
 HasNoClosedForm q index = (poly : List ℤ) × HasPoly q poly × (closed_form_of poly ≡ None)
     × IsFirstOver poly index
 
--- What is found of the sections, judged in their order: all are stable, or the first that isn't
--- shown to be has a closed form that is kept away from 0, is too wide, or has no closed form.
-abbrev pub AreJudged : List QuantisedView → CascadeForms → Type 0
-AreJudged sections (forms.Falls offers) = AreStable sections offers
-AreJudged sections (forms.KeptAway section poly offer fall value) = (q : QuantisedView)
-    × IsFirstUnstable sections section q × HasPoly q poly
+-- why the section isn't shown to be stable: its closed form is kept away from 0, a number on the
+-- way to its polynomial is too wide, or it has no closed form
+abbrev pub HasFault : QuantisedView → SectionFault → Type 0
+HasFault q (fault.KeptAway poly offer fall value) = HasPoly q poly
     × (closed_form_of poly ≡ Some (offered.KeptAway offer))
     × IsKeptAwayFrom poly offer.form offer.start fall value
-AreJudged sections (forms.Wide section index) = (q : QuantisedView)
-    × IsFirstUnstable sections section q
-    × (tested_of q side.Denominator ≡ Err (record { index = index }))
-AreJudged sections (forms.NoClosedForm section index) = (q : QuantisedView)
-    × IsFirstUnstable sections section q × HasNoClosedForm q index
+HasFault q (fault.Wide index) = tested_of q side.Denominator ≡ Err (record { index = index })
+HasFault q (fault.NoClosedForm index) = HasNoClosedForm q index
+
+-- What is found of the sections, judged in their order: all are stable, or this is the first that
+-- isn't shown to be, and why.
+abbrev pub AreJudged : List QuantisedView → CascadeForms → Type 0
+AreJudged sections (forms.Falls offers) = AreStable sections offers
+AreJudged sections (forms.NotAll section fault) = (q : QuantisedView)
+    × IsFirstUnstable sections section q × HasFault q fault

@@ -2,17 +2,12 @@
 #![tactic(auto)]
 
 mod cascade;
-mod gain;
 mod law;
 mod netlist;
-mod overflow;
-mod simulation;
 mod stability;
+mod subject;
 
 pub use cascade::{Cascade, CascadeRefusal, MOST_SECTIONS};
-pub use gain::{cascade_gain, driven_cascade};
 pub use law::longest_cascade;
 pub use netlist::cascade_net;
-pub use overflow::cascade_overflow;
-pub use simulation::simulate_cascade;
-pub use stability::{CascadeForms, SectionOffer, SectionOffers, cascade_stability};
+pub use stability::{CascadeForms, SectionFault, SectionOffer, SectionOffers, cascade_stability};

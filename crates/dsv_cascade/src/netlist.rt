@@ -1,20 +1,18 @@
 // The netlist of a cascade.
-ghost use Rattle.std.specs.Prelude.{◌≡◌, ◌<◌, ◌≤◌, List, length, ℤ, IfOk};
-ghost use Rattle.dsv_meaning.specs.Equations.{Past};
+ghost use Rattle.std.specs.Prelude.{◌≡◌, ◌<◌, ◌≤◌, length, IfOk};
 ghost use Rattle.dsv_netlist.specs.Conditions.{IsNetlist, NamesBelow, ReadsBelow};
 ghost use Rattle.dsv_netlist.specs.Counts.{counts_of};
 ghost use Rattle.dsv_netlist.specs.Limits.{most_nodes, most_registers};
-ghost use Rattle.dsv_netlist.specs.Systems.{system_of};
-ghost use Rattle.dsv_system.specs.Systems.{RunAlike};
 ghost use Rattle.dsv_cascade.specs.Cascades.{sections_of, cascade_of};
 ghost use Rattle.dsv_cascade.specs.Netlists.{moved_place, moved, joined, wire, net_of_cascade};
 ghost use Rattle.dsv_cascade.specs.Sizes.{sections_products};
+ghost use Rattle.dsv_system.specs.Systems.{behaviour_of, Agree};
+ghost use Rattle.dsv_netlist.specs.Systems.{runs_of};
 
 use crate::cascade::Cascade;
 use dsv_base::NoMemory;
-use dsv_linear::{next_of, nodes_of};
 use dsv_netlist::{Netlist, Node};
-use dsv_realise::{RangedNetlist, realise};
+use dsv_realise::realise;
 use dsv_word::Format;
 use std::alloc::Global;
 
@@ -57,7 +55,7 @@ fn series_nodes(alloc: Global, first: &Netlist, second: &Netlist) -> Result<Vec<
     requires few { length first.now.next ≤ most_registers }
     ensures { IfOk result (λ nodes. nodes.items ≡ (joined first.now second.now).nodes) }
 {
-    let mut nodes = nodes_of(alloc, first)?;
+    let mut nodes = first.nodes().to_vec(alloc)?;
     for i in 1..second.len() {
         let node = second.node(i);
         nodes.push(node_after(first, node))?;
@@ -70,7 +68,7 @@ fn series_next(alloc: Global, first: &Netlist, second: &Netlist) -> Result<Vec<u
     requires second { IsNetlist second.now }
     ensures { IfOk result (λ next. next.items ≡ (joined first.now second.now).next) }
 {
-    let mut next = next_of(alloc, first)?;
+    let mut next = first.next_nodes().to_vec(alloc)?;
     for k in 0..second.registers() {
         let place = second.next(k);
         next.push(place_after(first, place))?;
@@ -107,7 +105,7 @@ fn wire_net(alloc: Global, format: Format) -> Result<Netlist, NoMemory>
 pub fn cascade_net(alloc: Global, cascade: &Cascade) -> Result<Netlist, NoMemory>
     ensures net { IfOk result (λ net. net ≡ net_of_cascade cascade.now) }
     ensures runs { IfOk result
-        (λ net. RunAlike (List ℤ) (List Past) (system_of net) (cascade_of cascade.now)) }
+        (λ net. Agree (runs_of net) (behaviour_of (cascade_of cascade.now))) }
     ensures products { IfOk result
         (λ net. (counts_of net).products ≡ sections_products (sections_of cascade.now)) }
 {
@@ -120,14 +118,4 @@ pub fn cascade_net(alloc: Global, cascade: &Cascade) -> Result<Netlist, NoMemory
         net = series_net(alloc, &net, &section)?;
     }
     Ok(net)
-}
-
-/// The netlist of a cascade with the range of its inputs, which is section 0's.
-pub(crate) fn ranged_netlist<'a>(cascade: &Cascade, net: &'a Netlist) -> RangedNetlist<'a>
-    requires { net.now.format ≡ cascade.now.first.format }
-    ensures net { result.net.now ≡ net.now }
-    ensures low { result.low ≡ cascade.now.first.xlo }
-    ensures high { result.high ≡ cascade.now.first.xhi }
-{
-    RangedNetlist::of_controller(cascade.first_section(), net)
 }

@@ -11,9 +11,8 @@ ghost use Rattle.dsv_tested.specs.Tested.{tested_of};
 ghost use Rattle.dsv_tested.specs.declared.side.Side.TheVariants.{Denominator};
 ghost use Rattle.dsv_cascade.specs.Cascades.{sections_of};
 ghost use Rattle.dsv_cascade.specs.Sections.{most_section_order};
-ghost use Rattle.dsv_cascade.specs.Stability.{HasPoly, IsStableSection, AreStable};
+ghost use Rattle.dsv_cascade.specs.Stability.{HasPoly, HasFault, IsStableSection};
 ghost use Rattle.dsv_cascade.specs.Stability.{IsFirstOver, AreJudged};
-ghost use Rattle.dsv_cascade.specs.UnstableSections.{forms_of, IsUnstableAlone};
 
 use crate::cascade::{Cascade, MOST_SECTIONS};
 use arrayvec::ArrayVec;
@@ -68,84 +67,34 @@ impl SectionOffers {
     }
 }
 
-/// What closed forms say of a cascade's sections, the first of which that isn't shown to be stable
-/// is named. Sections count from 0.
+/// Why closed forms don't show a section to be stable.
+#[derive(Drop)]
+pub enum SectionFault {
+    /// It isn't stable: the form has a negative value at the start, and rises in no step.
+    KeptAway {
+        poly: Poly,
+        offer: KeptAway,
+        fall: Form,
+        value: i128,
+    },
+    /// A number on the way to its polynomial is too wide, at this index.
+    Wide {
+        index: u32,
+    },
+    /// Its polynomial has no closed form: its number at this index is the first that is over 2^23
+    /// in size.
+    NoClosedForm {
+        index: u32,
+    },
+}
+
+/// What closed forms say of a cascade's sections, which are judged in their order.
 #[derive(Drop)]
 pub enum CascadeForms {
     /// All sections are stable.
     Falls(SectionOffers),
-    /// This section isn't: the form has a negative value at the start, and rises in no step.
-    KeptAway {
-        section: u32,
-        poly: Poly,
-        offer: KeptAway,
-        fall: Form,
-        value: i128,
-    },
-    /// A number on the way to this section's polynomial is too wide, at this index.
-    Wide {
-        section: u32,
-        index: u32,
-    },
-    /// This section's polynomial has no closed form: its number at this index is the first that is
-    /// over 2^23 in size.
-    NoClosedForm {
-        section: u32,
-        index: u32,
-    },
-}
-
-/// What closed forms say of the first section that isn't shown to be stable.
-#[derive(Drop)]
-pub enum UnstableSection {
-    /// This section isn't stable: the form has a negative value at the start, and rises in no step.
-    KeptAway {
-        section: u32,
-        poly: Poly,
-        offer: KeptAway,
-        fall: Form,
-        value: i128,
-    },
-    /// A number on the way to this section's polynomial is too wide, at this index.
-    Wide {
-        section: u32,
-        index: u32,
-    },
-    /// This section's polynomial has no closed form: its number at this index is the first that is
-    /// over 2^23 in size.
-    NoClosedForm {
-        section: u32,
-        index: u32,
-    },
-}
-
-impl From<UnstableSection> for CascadeForms {
-    ghost use Rattle.std.specs.Prelude.{◌≡◌};
-    ghost use Rattle.dsv_cascade.specs.UnstableSections.{forms_of};
-
-    ghost from_gives = { λ found forms. forms ≡ forms_of found };
-
-    fn from(found: UnstableSection) -> Self {
-        match found {
-            UnstableSection::KeptAway {
-                section,
-                poly,
-                offer,
-                fall,
-                value,
-            } => CascadeForms::KeptAway {
-                section,
-                poly,
-                offer,
-                fall,
-                value,
-            },
-            UnstableSection::Wide { section, index } => CascadeForms::Wide { section, index },
-            UnstableSection::NoClosedForm { section, index } => {
-                CascadeForms::NoClosedForm { section, index }
-            }
-        }
-    }
+    /// The section of this number, from 0 on, is the first that isn't shown to be stable.
+    NotAll { section: u32, fault: SectionFault },
 }
 
 /// The closed form of a polynomial, checked, where it has one.
@@ -217,50 +166,28 @@ fn section_poly(section: &Quantised) -> Result<Poly, PolyWide>
     }
 }
 
-/// What shows the section of this number to be stable; or else what closed forms say of it.
-fn section_offer(section: &Quantised, place: u32) -> Result<SectionOffer, UnstableSection>
+/// What shows a section to be stable, or why nothing does.
+fn section_offer(section: &Quantised) -> Result<SectionOffer, SectionFault>
     requires { order section.now ≤ most_section_order }
     ensures stable { IfOk result (IsStableSection section.now) }
-    ensures unstable { IfErr result (IsUnstableAlone place section.now) }
+    ensures fault { IfErr result (HasFault section.now) }
 {
     let poly = match section_poly(section) {
         Ok(poly) => poly,
-        Err(PolyWide { index }) => {
-            return Err(UnstableSection::Wide {
-                section: place,
-                index,
-            });
-        }
+        Err(PolyWide { index }) => return Err(SectionFault::Wide { index }),
     };
     match checked_form(&poly) {
         Some(CheckedForm::Falls { offer, fall }) => Ok(SectionOffer { poly, offer, fall }),
-        Some(CheckedForm::KeptAway { offer, fall, value }) => Err(UnstableSection::KeptAway {
-            section: place,
+        Some(CheckedForm::KeptAway { offer, fall, value }) => Err(SectionFault::KeptAway {
             poly,
             offer,
             fall,
             value,
         }),
-        None => Err(UnstableSection::NoClosedForm {
-            section: place,
+        None => Err(SectionFault::NoClosedForm {
             index: first_over(poly.coefficients()),
         }),
     }
-}
-
-/// What shows each section to be stable; or else what closed forms say of the first that isn't
-/// shown to be.
-fn section_offers(cascade: &Cascade) -> Result<SectionOffers, UnstableSection>
-    ensures stable { IfOk result (AreStable (sections_of cascade.now)) }
-    ensures unstable { IfErr result
-        (λ found. AreJudged (sections_of cascade.now) (forms_of found)) }
-{
-    let mut items = ArrayVec::new();
-    items.push(section_offer(cascade.first_section(), 0)?);
-    for section in cascade.later_sections() {
-        items.push(section_offer(section, items.len() as u32)?);
-    }
-    Ok(SectionOffers { items })
 }
 
 /// Whether the sections of a cascade are stable, by the closed forms of the polynomials whose roots
@@ -269,8 +196,19 @@ fn section_offers(cascade: &Cascade) -> Result<SectionOffers, UnstableSection>
 pub fn cascade_stability(cascade: &Cascade) -> CascadeForms
     ensures { AreJudged (sections_of cascade.now) result }
 {
-    match section_offers(cascade) {
-        Ok(offers) => CascadeForms::Falls(offers),
-        Err(found) => found.into(),
+    let mut items = ArrayVec::new();
+    match section_offer(cascade.first_section()) {
+        Ok(offer) => items.push(offer),
+        Err(fault) => return CascadeForms::NotAll { section: 0, fault },
     }
+    for section in cascade.later_sections() {
+        match section_offer(section) {
+            Ok(offer) => items.push(offer),
+            Err(fault) => {
+                let section = items.len() as u32;
+                return CascadeForms::NotAll { section, fault };
+            }
+        }
+    }
+    CascadeForms::Falls(SectionOffers { items })
 }

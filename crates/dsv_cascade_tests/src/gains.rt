@@ -1,11 +1,11 @@
 // What is found of runs of cascades of any length: ranges beside those of a model that sums the
 // forms of the operations of both sections, and lists that break, by hand.
 use crate::sections::{GAIN, HALF, PAIR, Section, WIDE_HALF, cascade_of};
-use dsv_cascade::{cascade_gain, driven_cascade};
-use dsv_gain::Outlook;
+use dsv_gain::{Outlook, driven, gain};
 use dsv_linear::Range;
 use dsv_meaning::Trace;
 use dsv_names::{OverflowMode, Realisation, Rounding};
+use dsv_realise::Asking;
 use std::alloc::Global;
 
 /// The answer that is wanted.
@@ -155,7 +155,8 @@ fn is_wanted(outlook: &Outlook, wanted: &Wanted) -> bool {
 /// Whether a row's answer is the one that is wanted.
 fn is_right(alloc: Global, row: &Outlooked) -> Option<bool> {
     let cascade = cascade_of(alloc, row.sections)?.ok()?;
-    let outlook = cascade_gain(alloc, &cascade, row.limit).ok()?;
+    let asking = Asking::of(alloc, &cascade).ok()?;
+    let outlook = gain(alloc, &asking, row.limit).ok()?;
     Some(is_wanted(&outlook, &row.wanted))
 }
 
@@ -185,8 +186,9 @@ implementation i = { .int_bits = 4, .frac_bits = 2, .max = 0.25, .min = 0.0 };",
 /// The trace that is found where the ranges leave the words.
 fn trace_of(alloc: Global, sections: &[Section]) -> Option<Trace> {
     let cascade = cascade_of(alloc, sections)?.ok()?;
-    match cascade_gain(alloc, &cascade, 64).ok()? {
-        Outlook::Leaves { sample, .. } => driven_cascade(alloc, &cascade, sample).ok()?,
+    let asking = Asking::of(alloc, &cascade).ok()?;
+    match gain(alloc, &asking, 64).ok()? {
+        Outlook::Leaves { sample, .. } => driven(alloc, &asking, sample).ok()?,
         _ => None,
     }
 }
@@ -249,7 +251,8 @@ fn a_sum_is_driven_out_of_its_words(rt: HostRuntime) {
 /// What is found in lists that don't break.
 fn quiet_trace(alloc: Global) -> Option<Option<Trace>> {
     let cascade = cascade_of(alloc, &[HALF_6, PAIR_6])?.ok()?;
-    driven_cascade(alloc, &cascade, 0).ok()
+    let asking = Asking::of(alloc, &cascade).ok()?;
+    driven(alloc, &asking, 0).ok()
 }
 
 #[test]

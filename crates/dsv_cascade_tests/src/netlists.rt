@@ -1,7 +1,6 @@
 // The netlist of two sections in series, by hand.
 use crate::sections::{WIDE_HALF, cascade_of};
 use dsv_cascade::cascade_net;
-use dsv_linear::{next_of, nodes_of};
 use dsv_netlist::{Netlist, Node};
 use std::alloc::Global;
 
@@ -41,11 +40,9 @@ fn net_of(alloc: Global) -> Option<Netlist> {
 /// Whether it is the one by hand, with no register that is feed-forward.
 fn is_joined(alloc: Global) -> Option<bool> {
     let net = net_of(alloc)?;
-    let nodes = nodes_of(alloc, &net).ok()?;
-    let next = next_of(alloc, &net).ok()?;
     Some(
-        nodes.as_slice() == NODES.as_slice()
-            && next.as_slice() == NEXT.as_slice()
+        net.nodes() == NODES.as_slice()
+            && net.next_nodes() == NEXT.as_slice()
             && net.output() == 18
             && net.feed_forward() == 0,
     )

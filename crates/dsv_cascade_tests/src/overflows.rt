@@ -1,11 +1,11 @@
 // Overflow of cascades: an answer by hand, answers beside all lists of inputs, and sizes of jobs.
 use crate::runs::{MODES, Made, SECOND, SERIES, made_in, series_rows};
 use crate::sections::{GAIN, HALF, PAIR, REALISATIONS, Section, cascade_of};
-use dsv_bounded::BoundedRefusal;
-use dsv_cascade::cascade_overflow;
+use dsv_bounded::{BoundedRefusal, overflow_within};
 use dsv_hints::Searched;
 use dsv_meaning::Trace;
 use dsv_names::{OverflowMode, Realisation};
+use dsv_realise::Asking;
 use dsv_system::Rows;
 use dsv_word::Format;
 use std::alloc::Global;
@@ -28,7 +28,8 @@ implementation i = { .int_bits = 2, .frac_bits = 2, .max = 1.0, .min = 1.0 };",
 /// The answer within one sample.
 fn answer_of(alloc: Global, sections: &[Section]) -> Option<Searched<Trace>> {
     let cascade = cascade_of(alloc, sections)?.ok()?;
-    cascade_overflow(alloc, &cascade, 1, 1_000).ok()
+    let asking = Asking::of(alloc, &cascade).ok()?;
+    overflow_within(alloc, &asking, 1, 1_000).ok()
 }
 
 /// Whether the second steep section breaks: 4, 7, and 49 fourths, which is 12 and wraps to -4.
@@ -107,7 +108,8 @@ fn some_list_breaks(alloc: Global, made: &Made) -> Option<bool> {
 /// too: that it happens, by inputs that break, or that it never does.
 fn right_answer(alloc: Global, made: &Made) -> Option<bool> {
     let breaks = some_list_breaks(alloc, made)?;
-    let is_right = match cascade_overflow(alloc, &made.cascade, 2, 50_000).ok()? {
+    let asking = Asking::of(alloc, &made.cascade).ok()?;
+    let is_right = match overflow_within(alloc, &asking, 2, 50_000).ok()? {
         Searched::Happens(trace) => breaks && do_break(alloc, made, trace.inputs.as_slice())?,
         Searched::Never(_) => !breaks,
         Searched::Spent(_) => false,
@@ -222,7 +224,8 @@ fn is_too_large(alloc: Global, row: &Sized) -> Option<bool> {
         return None;
     }
     let cascade = cascade_of(alloc, row.sections)?.ok()?;
-    match cascade_overflow(alloc, &cascade, samples, 1) {
+    let asking = Asking::of(alloc, &cascade).ok()?;
+    match overflow_within(alloc, &asking, samples, 1) {
         Err(BoundedRefusal::JobSize { size }) => Some(size == row.size),
         _ => Some(false),
     }
@@ -239,7 +242,8 @@ fn a_job_over_the_greatest_size_is_refused(rt: HostRuntime) {
 /// breaks in sample 0.
 fn is_taken(alloc: Global) -> Option<bool> {
     let cascade = cascade_of(alloc, &[STEEP_25; 8])?.ok()?;
-    match cascade_overflow(alloc, &cascade, 50, 1).ok()? {
+    let asking = Asking::of(alloc, &cascade).ok()?;
+    match overflow_within(alloc, &asking, 50, 1).ok()? {
         Searched::Happens(trace) => Some(trace.sample == 0 && trace.value == 1),
         _ => Some(false),
     }

@@ -7,10 +7,10 @@ ghost use Rattle.std.specs.Prelude.{IsTrue};
 ghost use Rattle.std.specs.List.{All};
 
 use crate::sections::{GAIN, HALF, PAIR, REALISATIONS, Section, cascade_of, quantised_in};
-use dsv_cascade::{Cascade, simulate_cascade};
+use dsv_cascade::Cascade;
 use dsv_names::{OverflowMode, Realisation, Rounding};
 use dsv_quantiser::Quantised;
-use dsv_realise::simulate;
+use dsv_realise::Asking;
 use dsv_system::{Row, Rows};
 use dsv_word::Format;
 use std::alloc::Global;
@@ -133,7 +133,7 @@ pub(crate) fn section_rows(alloc: Global, section: &Quantised, inputs: &[i64]) -
     if !are_words(&section.format(), inputs) {
         return None;
     }
-    simulate(alloc, section, inputs).ok()
+    Asking::of(alloc, section).ok()?.rows(alloc, inputs).ok()
 }
 
 /// The rows of a cascade over these inputs.
@@ -141,7 +141,7 @@ pub(crate) fn cascade_rows(alloc: Global, cascade: &Cascade, inputs: &[i64]) -> 
     if !are_words(&cascade.first_section().format(), inputs) {
         return None;
     }
-    simulate_cascade(alloc, cascade, inputs).ok()
+    Asking::of(alloc, cascade).ok()?.rows(alloc, inputs).ok()
 }
 
 /// The outputs of a run.

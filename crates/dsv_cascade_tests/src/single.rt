@@ -3,10 +3,10 @@ ghost use Rattle.std.specs.Prelude.{◌≤◌};
 
 use crate::runs::{MODES, Made, SECOND, WIDE_SECOND, cascade_rows, made_in, section_rows};
 use crate::sections::{REALISATIONS, Section};
-use dsv_bounded::overflow;
-use dsv_cascade::cascade_overflow;
+use dsv_bounded::overflow_within;
 use dsv_hints::Searched;
 use dsv_meaning::Trace;
+use dsv_realise::Asking;
 use dsv_system::Rows;
 use std::alloc::Global;
 
@@ -55,8 +55,10 @@ fn answers_alone(alloc: Global, made: &Made) -> Option<(u32, u32)> {
     let mut happens: u32 = 0;
     let mut never: u32 = 0;
     for samples in 1..4 {
-        let found = cascade_overflow(alloc, &made.cascade, samples, 50_000).ok()?;
-        let alone = overflow(alloc, section, samples, 50_000).ok()?;
+        let asking = Asking::of(alloc, &made.cascade).ok()?;
+        let found = overflow_within(alloc, &asking, samples, 50_000).ok()?;
+        let of_section = Asking::of(alloc, section).ok()?;
+        let alone = overflow_within(alloc, &of_section, samples, 50_000).ok()?;
         if !is_one_answer(&found, &alone) {
             return None;
         }

@@ -4,7 +4,7 @@
 // a step, or else -1, which loses c_1^2 - c_0^2. The form of 4 z^2 - 2 z + 1 solves Lyapunov's
 // equation for (4 - 1) ((4 + 1)^2 - 2^2) = 63, and loses 16 times that.
 use crate::sections::{GAIN, HALF, INTEGRATOR, PAIR, Section, cascade_of};
-use dsv_cascade::{CascadeForms, SectionOffer, cascade_stability};
+use dsv_cascade::{CascadeForms, SectionFault, SectionOffer, cascade_stability};
 use dsv_forms::{Form, GREATEST_ORDER};
 use dsv_names::Realisation;
 use std::alloc::Global;
@@ -127,6 +127,14 @@ fn the_polynomial_of_a_delta_form_is_in_z(rt: HostRuntime) {
     assert!(rt; are_stable(rt.alloc(), &DELTA));
 }
 
+/// The first of these sections that isn't shown to be stable, and why.
+fn fault_of(alloc: Global, sections: &[Section]) -> Option<(u32, SectionFault)> {
+    match forms_of(alloc, sections)? {
+        CascadeForms::Falls(_) => None,
+        CascadeForms::NotAll { section, fault } => Some((section, fault)),
+    }
+}
+
 /// Sections, of which this one is an integrator.
 struct Kept {
     sections: &'static [Section],
@@ -135,15 +143,17 @@ struct Kept {
 
 /// Whether that section is the first that isn't stable: the form -1 stays at -1.
 fn is_kept_away(alloc: Global, row: &Kept) -> bool {
-    match forms_of(alloc, row.sections) {
+    match fault_of(alloc, row.sections) {
         Some(
-            CascadeForms::KeptAway {
+            (
                 section,
-                poly,
-                offer,
-                fall,
-                value,
-            },
+                SectionFault::KeptAway {
+                    poly,
+                    offer,
+                    fall,
+                    value,
+                },
+            ),
         ) => {
             section == row.section
                 && poly.coefficients() == [1, -1].as_slice()
@@ -199,8 +209,8 @@ struct TooGreat {
 
 /// Whether that number is the first over 2^23 of a polynomial that has no closed form.
 fn has_no_form(alloc: Global, row: &TooGreat) -> bool {
-    match forms_of(alloc, row.sections) {
-        Some(CascadeForms::NoClosedForm { section, index }) => {
+    match fault_of(alloc, row.sections) {
+        Some((section, SectionFault::NoClosedForm { index })) => {
             section == row.section && index == row.index
         }
         _ => false,
@@ -349,8 +359,8 @@ fn the_first_number_over_2_to_the_23_is_named(rt: HostRuntime) {
 
 /// Whether that number is the first that is too wide.
 fn is_wide(alloc: Global, row: &TooGreat) -> bool {
-    match forms_of(alloc, row.sections) {
-        Some(CascadeForms::Wide { section, index }) => {
+    match fault_of(alloc, row.sections) {
+        Some((section, SectionFault::Wide { index })) => {
             section == row.section && index == row.index
         }
         _ => false,

@@ -29,11 +29,9 @@ use Rattle.dsv_loop.specs.declared.refusal.LoopRefusal.{LoopRefusal}
 use Rattle.dsv_template.specs.declared.candidate.Candidate.{Candidate}
 use Rattle.dsv_template.specs.declared.verdict.ThreeLogs.{ThreeLogs}
 use Rattle.dsv_unroll.specs.Goals.{most_size}
-use Rattle.dsv_bounded.specs.Formulas.{job_size_of}
 use Rattle.dsv_linear.specs.declared.range.Range.{Range}
 use Rattle.dsv_realise.specs.Netlists.{net_of}
 use Rattle.dsv_roundoff.specs.declared.offers.RoundoffOffer.{RoundoffOffer}
-use Rattle.dsv_gain.specs.Controllers.{outlook_of}
 use Rattle.dsv_gain.specs.Errors.{error_of}
 use Rattle.dsv_gain.specs.declared.outlook.Outlook.{Outlook}
 use Rattle.dsv_gain.specs.declared.outlook.Outlook.TheVariants as outlook
@@ -52,6 +50,9 @@ use Rattle.dsv_certcheck.specs.Checks.{Checked, refused, misfit, format_check, s
 use Rattle.dsv_certcheck.specs.LineNumbers.{body_line}
 use Rattle.dsv_certcheck.specs.LoopChecks.{polynomial_check, loop_check, words_loop_check, IsLoopFoundAfter}
 use Rattle.dsv_certcheck.specs.FormatRefusals.{AreOfFormats, AreOfLoopFormats}
+use Rattle.dsv_bounded.specs.RunQuestions.{job_size_of}
+use Rattle.dsv_gain.specs.Subjects.{outlook_of}
+use Rattle.dsv_realise.specs.Controllers.{of_controller}
 use Rattle.dsv_certcheck.specs.declared.check_refusal.CheckRefusal.TheVariants as refusal
 
 -- not the refusal of another format
@@ -75,7 +76,7 @@ by_log formula line log = at (verdict_of formula log)
     at (verdict.Refused step why) = tt
 
 by_size : (q : QuantisedView) (samples : ℕ) → IsOther (size_check q samples)
-by_size q samples = by_test (nat_lt most_size (job_size_of q samples)) (Err (refusal.JobSize (job_size_of q samples))) (Ok tt) tt tt
+by_size q samples = by_test (nat_lt most_size (job_size_of (of_controller q) samples)) (Err (refusal.JobSize (job_size_of (of_controller q) samples))) (Ok tt) tt tt
 
 hints_other : (w : CertWords) (q : QuantisedView) (p : Property) (s : Size) (log : List Step) → IsOther (hints_check w q p s log)
 hints_other w q (property.OfRuns p) (size.Samples k) log = by_test (is_some_samples k) (run_check w q p k log) (misfit w) (by_stage (size_check q k) _ (by_size q k) (λ u. by_log _ _ log)) tt
@@ -112,7 +113,7 @@ outlook_other w rest other h = tt
 gain_other : (w : CertWords) (q : QuantisedView) (p : Property) (s : Size) (depth : ℕ) (offer : Option RoundoffOffer) → IsOther (gain_check w q p s depth offer)
 gain_other w q (property.OfRuns run.Overflow) size.Unbounded depth offer =
     by_test (nat_le depth most_gain_depth) (depth_check w q depth offer) (misfit w)
-    (outlook_other w (error_check w q offer) (outlook_of q (suc depth)) (error_other w q offer)) tt
+    (outlook_other w (error_check w q offer) (outlook_of (of_controller q) (suc depth)) (error_other w q offer)) tt
 gain_other w q (property.OfRuns run.Overflow) size.NoSize depth offer = tt
 gain_other w q (property.OfRuns run.Overflow) (size.Samples k) depth offer = tt
 gain_other w q (property.OfRuns run.Overflow) size.OfLoop depth offer = tt

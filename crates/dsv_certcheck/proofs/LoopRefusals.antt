@@ -11,8 +11,7 @@ use Rattle.dsv_reader.specs.Controllers.{ControllerView}
 use Rattle.dsv_quantiser.specs.QuantisedView.{QuantisedView}
 use Rattle.dsv_meaning.specs.Equations.{order, registers_of}
 use Rattle.dsv_unroll.specs.Goals.{most_size}
-use Rattle.dsv_bounded.specs.Formulas.{job_size_of}
-use Rattle.dsv_bounded.specs.RunQuestions.{question_formula}
+use Rattle.dsv_bounded.specs.RunQuestions.{question_formula, job_size_of}
 use Rattle.dsv_invariant.specs.Formulas.{set_formula_of}
 use Rattle.dsv_invariant.specs.Limits.{unbounded_samples}
 use Rattle.dsv_template.specs.Candidates.{is_shaped}
@@ -38,7 +37,6 @@ use Rattle.dsv_template.specs.declared.verdict.ThreeLogs.{ThreeLogs}
 use Rattle.dsv_linear.specs.declared.range.Range.{Range}
 use Rattle.dsv_realise.specs.Netlists.{net_of}
 use Rattle.dsv_roundoff.specs.declared.offers.RoundoffOffer.{RoundoffOffer}
-use Rattle.dsv_gain.specs.Controllers.{outlook_of}
 use Rattle.dsv_gain.specs.Errors.{error_of}
 use Rattle.dsv_gain.specs.declared.outlook.Outlook.{Outlook}
 use Rattle.dsv_gain.specs.declared.outlook.Outlook.TheVariants as outlook
@@ -53,6 +51,8 @@ use Rattle.dsv_certfile.specs.declared.job.Size.{Size}
 use Rattle.dsv_certfile.specs.declared.job.Size.TheVariants as size
 use Rattle.dsv_certcheck.specs.Checks.{Checked, refused, format_check, misfit, size_check, log_check, verdict_at, is_some_samples, run_check, hints_check, sentences_check, shape_check, invariant_check, shown_check, error_check, outlook_check, depth_check, gain_check, refusal_check, tested_check, falls_check, coefficients_check, verdict_check, table_check, tested_table_check, roots_table_check, words_check, IsFoundAfter, IsChecked}
 use Rattle.dsv_certcheck.specs.LineNumbers.{version_line_number, format_line_number, body_line, log_line}
+use Rattle.dsv_gain.specs.Subjects.{outlook_of}
+use Rattle.dsv_realise.specs.Controllers.{of_controller}
 use Rattle.dsv_certcheck.specs.declared.check_refusal.CheckRefusal.TheVariants as refusal
 
 abbrev IsNoLoop : Checked → Type 0
@@ -99,10 +99,10 @@ of_outlook w rest outlook.Deep h = tt
 
 -- ---- kinds
 of_size : (q : QuantisedView) (samples : ℕ) → IsNoLoop (size_check q samples)
-of_size q samples = either (nat_lt most_size (job_size_of q samples)) (Err (refusal.JobSize (job_size_of q samples))) (Ok tt) tt tt
+of_size q samples = either (nat_lt most_size (job_size_of (of_controller q) samples)) (Err (refusal.JobSize (job_size_of (of_controller q) samples))) (Ok tt) tt tt
 
 of_run : (w : CertWords) (q : QuantisedView) (p : RunProperty) (k : ℕ) (log : List Step) → IsNoLoop (run_check w q p k log)
-of_run w q p k log = after (size_check q k) (λ x. log_check (question_formula p q k) (body_line w) log) (of_size q k) (of_log (question_formula p q k) (body_line w) log)
+of_run w q p k log = after (size_check q k) (λ x. log_check (question_formula p (of_controller q) k) (body_line w) log) (of_size q k) (of_log (question_formula p (of_controller q) k) (body_line w) log)
 
 of_hints : (w : CertWords) (q : QuantisedView) (p : Property) (s : Size) (log : List Step) → IsNoLoop (hints_check w q p s log)
 of_hints w q (property.OfRuns p) (size.Samples k) log = either (is_some_samples k) (run_check w q p k log) (misfit w) (of_run w q p k log) tt
@@ -128,7 +128,7 @@ of_invariant w q p s candidate logs = tt
 of_gain : (w : CertWords) (q : QuantisedView) (p : Property) (s : Size) (depth : ℕ) (offer : Option RoundoffOffer) → IsNoLoop (gain_check w q p s depth offer)
 of_gain w q (property.OfRuns run.Overflow) size.Unbounded depth offer =
     either (nat_le depth most_gain_depth) (depth_check w q depth offer) (misfit w)
-    (of_outlook w (error_check w q offer) (outlook_of q (suc depth)) (of_error w q offer)) tt
+    (of_outlook w (error_check w q offer) (outlook_of (of_controller q) (suc depth)) (of_error w q offer)) tt
 of_gain w q p s depth offer = tt
 
 of_falls : (w : CertWords) (q : QuantisedView) (p : Property) (s : Size) (offer : Falls) → IsNoLoop (falls_check w q p s offer)

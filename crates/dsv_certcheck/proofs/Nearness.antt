@@ -3,7 +3,6 @@ use Rattle.std.proofs.Common.{◌≡◌, List, Option, Some, None, Result, Ok, E
 use Rattle.dsv_quantiser.specs.QuantisedView.{QuantisedView}
 use Rattle.dsv_linear.specs.declared.range.Range.{Range}
 use Rattle.dsv_roundoff.specs.declared.offers.RoundoffOffer.{RoundoffOffer}
-use Rattle.dsv_gain.specs.Controllers.{HoldAlways}
 use Rattle.dsv_gain.specs.Safe.{IfSafe}
 use Rattle.dsv_gain.specs.declared.outlook.Gain.{Gain}
 use Rattle.dsv_gain.specs.declared.outlook.Outlook.{Outlook}
@@ -14,23 +13,25 @@ use Rattle.dsv_certcheck.specs.Checks.{Checked, Finds, as_checked}
 use Rattle.dsv_certcheck.specs.Shown.{ShowsNear}
 use Rattle.dsv_certcheck.specs.ShownErrors.{StaysShown, without_error}
 use Rattle.dsv_certcheck.specs.declared.check_refusal.CheckRefusal.{CheckRefusal}
+use Rattle.dsv_gain.specs.Subjects.{HoldsAlways}
+use Rattle.dsv_realise.specs.Controllers.{of_controller}
 
 -- ---- beside a gain that was found
-shows_near : (q : QuantisedView) (ranges : List Range) (offer : Option RoundoffOffer) (shown : Option ShownError) → HoldAlways q ranges → StaysShown q offer shown → ShowsNear q offer shown
+shows_near : (q : QuantisedView) (ranges : List Range) (offer : Option RoundoffOffer) (shown : Option ShownError) → HoldsAlways (of_controller q) ranges → StaysShown q offer shown → ShowsNear q offer shown
 shows_near q ranges None None h e = tt
 shows_near q ranges None (Some r) h e = e
 shows_near q ranges (Some offer) None h e = e
 shows_near q ranges (Some offer) (Some r) h e = record { depth = e.depth; shown = e.shown; near = always_near q ranges r.output h e.near }
 
-found_near : (q : QuantisedView) (ranges : List Range) (offer : Option RoundoffOffer) (found : Result (Option ShownError) CheckRefusal) → HoldAlways q ranges → IfOk found (StaysShown q offer) → IfOk found (ShowsNear q offer)
+found_near : (q : QuantisedView) (ranges : List Range) (offer : Option RoundoffOffer) (found : Result (Option ShownError) CheckRefusal) → HoldsAlways (of_controller q) ranges → IfOk found (StaysShown q offer) → IfOk found (ShowsNear q offer)
 found_near q ranges offer (Ok shown) h e = shows_near q ranges offer shown h e
 found_near q ranges offer (Err why) h e = tt
 
-held : (q : QuantisedView) (found : Outlook) (gain : Gain) → found ≡ outlook.Safe gain → IfSafe found (λ g. HoldAlways q g.ranges) → HoldAlways q gain.ranges
+held : (q : QuantisedView) (found : Outlook) (gain : Gain) → found ≡ outlook.Safe gain → IfSafe found (λ g. HoldsAlways (of_controller q) g.ranges) → HoldsAlways (of_controller q) gain.ranges
 held q found gain e h = rw e at h
 
 pub near_beside : (q : QuantisedView) (o : Outlook) (gain : Gain) (offer : Option RoundoffOffer) (found : Result (Option ShownError) CheckRefusal) → o ≡ outlook.Safe gain
-    → IfSafe o (λ g. HoldAlways q g.ranges) → IfOk found (StaysShown q offer) → IfOk found (ShowsNear q offer)
+    → IfSafe o (λ g. HoldsAlways (of_controller q) g.ranges) → IfOk found (StaysShown q offer) → IfOk found (ShowsNear q offer)
 near_beside q o gain offer found e h = found_near q gain.ranges offer found (held q o gain e h)
 
 -- ---- checks that show nothing of it

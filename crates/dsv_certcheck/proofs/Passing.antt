@@ -18,8 +18,7 @@ use Rattle.dsv_hints.specs.Derivation.{verdict_of}
 use Rattle.dsv_hints.specs.declared.step.Step.{Step}
 use Rattle.dsv_hints.specs.declared.step.Verdict.TheVariants as verdict
 use Rattle.dsv_unroll.specs.Goals.{most_size}
-use Rattle.dsv_bounded.specs.Formulas.{job_size_of}
-use Rattle.dsv_bounded.specs.RunQuestions.{question_formula, IsWithin}
+use Rattle.dsv_bounded.specs.RunQuestions.{question_formula, IsWithin, job_size_of}
 use Rattle.dsv_forms.specs.Refusals.{falls_refusal}
 use Rattle.dsv_forms.specs.declared.offers.Falls.{Falls}
 use Rattle.dsv_forms.proofs.OfferLemmas.{falls_passes}
@@ -39,7 +38,6 @@ use Rattle.dsv_invariant.specs.Causes.{IsShaped, IsGood}
 use Rattle.dsv_invariant.specs.Formulas.{set_formula_of}
 use Rattle.dsv_invariant.specs.Limits.{unbounded_samples}
 use Rattle.dsv_roundoff.specs.declared.offers.RoundoffOffer.{RoundoffOffer}
-use Rattle.dsv_gain.specs.Controllers.{outlook_of}
 use Rattle.dsv_gain.specs.declared.outlook.Gain.{Gain}
 use Rattle.dsv_gain.specs.declared.outlook.Outlook.TheVariants as outlook
 use Rattle.dsv_certfile.specs.Lawful.{IsSize}
@@ -60,6 +58,8 @@ use Rattle.dsv_tested.proofs.TestedCoefficients.{some_coefficients}
 use Rattle.dsv_state_space.specs.StateForms.{state_falls_refusal}
 use Rattle.dsv_state_space.specs.StateView.{StateView, states}
 use Rattle.dsv_state_space.proofs.StateOffers.{accepted_counted}
+use Rattle.dsv_gain.specs.Subjects.{outlook_of}
+use Rattle.dsv_realise.specs.Controllers.{of_controller}
 
 -- what certificates of a controller say of its words is so
 format_by : (c : ControllerView) (b : Bool) → nat_le (c.int_bits + c.frac_bits) narrow_word_bits ≡ b
@@ -73,9 +73,9 @@ pub format_passes : (c : ControllerView) → format_check c (words_for c.int_bit
 format_passes c = format_by c (nat_le (c.int_bits + c.frac_bits) narrow_word_bits) refl
 
 -- a question that is no larger than what is asked of formulas
-size_passes : (q : QuantisedView) (samples : ℕ) → IsWithin q samples → size_check q samples ≡ Ok tt
+size_passes : (q : QuantisedView) (samples : ℕ) → IsWithin (of_controller q) samples → size_check q samples ≡ Ok tt
 size_passes q samples w =
-    ap (λ b. if b then Err (refusal.JobSize (job_size_of q samples)) else Ok tt) (le-ltb most_size (job_size_of q samples) w)
+    ap (λ b. if b then Err (refusal.JobSize (job_size_of (of_controller q) samples)) else Ok tt) (le-ltb most_size (job_size_of (of_controller q) samples) w)
 
 -- ---- logs
 log_passes : (formula : FormulaView) (line : ℕ) (log : List Step) → verdict_of formula log ≡ verdict.Accepted → log_check formula line log ≡ Ok tt
@@ -84,15 +84,15 @@ log_passes formula line log e = ap (verdict_at line) e
 some_samples : (k : ℕ) → IsSize (size.Samples k) → is_some_samples k ≡ true
 some_samples k s = and_from (nat_le 1 k) (nat_le k most_samples) (le-leb 1 k s.0) (le-leb k most_samples s.1)
 
-pub hints_pass : (w : CertWords) (q : QuantisedView) (p : RunProperty) (k : ℕ) (log : List Step) → IsSize (size.Samples k) → IsWithin q k → verdict_of (question_formula p q k) log ≡ verdict.Accepted
+pub hints_pass : (w : CertWords) (q : QuantisedView) (p : RunProperty) (k : ℕ) (log : List Step) → IsSize (size.Samples k) → IsWithin (of_controller q) k → verdict_of (question_formula p (of_controller q) k) log ≡ verdict.Accepted
     → hints_check w q (property.OfRuns p) (size.Samples k) log ≡ Ok tt
 hints_pass w q p k log s within e =
     ap (λ b. if b then run_check w q p k log else misfit w) (some_samples k s)
-    ∙ ap (λ (r : Checked). r >>= λ x. log_check (question_formula p q k) (body_line w) log) (size_passes q k within)
-    ∙ log_passes (question_formula p q k) (body_line w) log e
+    ∙ ap (λ (r : Checked). r >>= λ x. log_check (question_formula p (of_controller q) k) (body_line w) log) (size_passes q k within)
+    ∙ log_passes (question_formula p (of_controller q) k) (body_line w) log e
 
 -- ---- an invariant
-pub invariant_passes : (w : CertWords) (q : QuantisedView) (conflicts : ℕ) (candidate : Candidate) (logs : ThreeLogs) → IsWithin q unbounded_samples → IsShaped q candidate → IsGood q conflicts candidate logs
+pub invariant_passes : (w : CertWords) (q : QuantisedView) (conflicts : ℕ) (candidate : Candidate) (logs : ThreeLogs) → IsWithin (of_controller q) unbounded_samples → IsShaped q candidate → IsGood q conflicts candidate logs
     → invariant_check w q (property.OfRuns run.Overflow) size.Unbounded candidate logs ≡ Ok tt
 invariant_passes w q conflicts candidate logs within shaped good =
     let safe = log_check (set_formula_of q candidate part.Safe) (log_line w part.Safe candidate logs) logs.safe in
@@ -105,7 +105,7 @@ invariant_passes w q conflicts candidate logs within shaped good =
 
 -- ---- a gain
 -- with an offer beside it that passes, or with none
-pub gain_passes : (w : CertWords) (q : QuantisedView) (depth : ℕ) (offer : Option RoundoffOffer) (gain : Gain) → depth ≤ most_gain_depth → outlook_of q (suc depth) ≡ outlook.Safe gain
+pub gain_passes : (w : CertWords) (q : QuantisedView) (depth : ℕ) (offer : Option RoundoffOffer) (gain : Gain) → depth ≤ most_gain_depth → outlook_of (of_controller q) (suc depth) ≡ outlook.Safe gain
     → error_check w q offer ≡ Ok tt → gain_check w q (property.OfRuns run.Overflow) size.Unbounded depth offer ≡ Ok tt
 gain_passes w q depth offer gain within e h =
     ap (λ b. if b then depth_check w q depth offer else misfit w) (le-leb depth most_gain_depth within) ∙ ap (outlook_check w (error_check w q offer)) e ∙ h

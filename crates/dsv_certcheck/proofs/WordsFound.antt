@@ -15,7 +15,6 @@ use Rattle.dsv_hints.specs.declared.step.Step.{Step}
 use Rattle.dsv_hints.specs.declared.step.Verdict.{Verdict}
 use Rattle.dsv_hints.specs.declared.step.Verdict.TheVariants as verdict
 use Rattle.dsv_unroll.specs.Goals.{most_size}
-use Rattle.dsv_bounded.specs.Formulas.{job_size_of}
 use Rattle.dsv_delta.specs.declared.refusal.PolyWide.{PolyWide}
 use Rattle.dsv_forms.specs.Refusals.{falls_refusal}
 use Rattle.dsv_forms.specs.declared.offers.Falls.{Falls}
@@ -32,7 +31,6 @@ use Rattle.dsv_template.specs.declared.verdict.ThreeLogs.{ThreeLogs}
 use Rattle.dsv_linear.specs.declared.range.Range.{Range}
 use Rattle.dsv_realise.specs.Netlists.{net_of}
 use Rattle.dsv_roundoff.specs.declared.offers.RoundoffOffer.{RoundoffOffer}
-use Rattle.dsv_gain.specs.Controllers.{outlook_of}
 use Rattle.dsv_gain.specs.Errors.{error_of}
 use Rattle.dsv_gain.specs.declared.outlook.Outlook.{Outlook}
 use Rattle.dsv_gain.specs.declared.outlook.Outlook.TheVariants as outlook
@@ -45,6 +43,9 @@ use Rattle.dsv_certfile.specs.declared.job.Size.{Size}
 use Rattle.dsv_certfile.specs.declared.job.Size.TheVariants as size
 use Rattle.dsv_certcheck.specs.Checks.{Checked, refused, misfit, size_check, verdict_at, log_check, run_check, is_some_samples, hints_check, sentences_check, shape_check, set_check, invariant_check, shown_check, error_check, outlook_check, depth_check, gain_check, refusal_check, offer_check, tested_check, falls_check, coefficients_check, verdict_check, table_check, tested_table_check, roots_table_check, words_check}
 use Rattle.dsv_certcheck.specs.LineNumbers.{body_line}
+use Rattle.dsv_bounded.specs.RunQuestions.{job_size_of}
+use Rattle.dsv_gain.specs.Subjects.{outlook_of}
+use Rattle.dsv_realise.specs.Controllers.{of_controller}
 use Rattle.dsv_certcheck.specs.declared.check_refusal.CheckRefusal.TheVariants as refusal
 
 -- it isn't found that there are no words
@@ -63,7 +64,7 @@ has_either true x y h k = h
 has_either false x y h k = k
 
 has_size : (q : QuantisedView) (samples : ℕ) → HasWords (size_check q samples)
-has_size q samples = has_either (nat_lt most_size (job_size_of q samples)) (Err (refusal.JobSize (job_size_of q samples))) (Ok tt) tt tt
+has_size q samples = has_either (nat_lt most_size (job_size_of (of_controller q) samples)) (Err (refusal.JobSize (job_size_of (of_controller q) samples))) (Ok tt) tt tt
 
 has_verdict : (line : ℕ) (v : Verdict) → HasWords (verdict_at line v)
 has_verdict line verdict.Accepted = tt
@@ -123,7 +124,7 @@ has_outlook w rest outlook.Deep h = tt
 has_gain : (w : CertWords) (q : QuantisedView) (p : Property) (s : Size) (depth : ℕ) (offer : Option RoundoffOffer) → HasWords (gain_check w q p s depth offer)
 has_gain w q (property.OfRuns run.Overflow) size.Unbounded depth offer =
     has_either (nat_le depth most_gain_depth) (depth_check w q depth offer) (misfit w)
-    (has_outlook w (error_check w q offer) (outlook_of q (suc depth)) (has_error w q offer)) tt
+    (has_outlook w (error_check w q offer) (outlook_of (of_controller q) (suc depth)) (has_error w q offer)) tt
 has_gain w q p s depth offer = tt
 
 has_coefficients : (line : ℕ) (cs xs : List ℤ) → HasWords (coefficients_check line cs xs)

@@ -19,8 +19,7 @@ use Rattle.dsv_hints.specs.declared.step.Step.{Step}
 use Rattle.dsv_hints.specs.declared.step.Verdict.{Verdict}
 use Rattle.dsv_hints.specs.declared.step.Verdict.TheVariants as verdict
 use Rattle.dsv_unroll.specs.Goals.{most_size}
-use Rattle.dsv_bounded.specs.Formulas.{job_size_of}
-use Rattle.dsv_bounded.specs.RunQuestions.{question_formula}
+use Rattle.dsv_bounded.specs.RunQuestions.{question_formula, job_size_of}
 use Rattle.dsv_delta.specs.declared.refusal.PolyWide.{PolyWide}
 use Rattle.dsv_forms.specs.Refusals.{falls_refusal}
 use Rattle.dsv_forms.specs.declared.offers.Falls.{Falls}
@@ -40,7 +39,6 @@ use Rattle.dsv_invariant.specs.Limits.{unbounded_samples}
 use Rattle.dsv_linear.specs.declared.range.Range.{Range}
 use Rattle.dsv_realise.specs.Netlists.{net_of}
 use Rattle.dsv_roundoff.specs.declared.offers.RoundoffOffer.{RoundoffOffer}
-use Rattle.dsv_gain.specs.Controllers.{outlook_of}
 use Rattle.dsv_gain.specs.Errors.{error_of}
 use Rattle.dsv_gain.specs.declared.outlook.Outlook.{Outlook}
 use Rattle.dsv_gain.specs.declared.outlook.Outlook.TheVariants as outlook
@@ -60,6 +58,8 @@ use Rattle.dsv_certfile.specs.declared.job.CertWords.{CertWords}
 use Rattle.dsv_certfile.specs.declared.job.CertWords.TheVariants as words
 use Rattle.dsv_certfile.specs.declared.job.CertifiedJob.{CertifiedJob}
 use Rattle.dsv_certfile.specs.declared.job.Size.{Size}
+use Rattle.dsv_gain.specs.Subjects.{outlook_of}
+use Rattle.dsv_realise.specs.Controllers.{of_controller}
 use Rattle.dsv_certfile.specs.declared.job.Size.TheVariants as size
 
 -- nothing, or a refusal
@@ -92,8 +92,8 @@ misfit w = refused (kind_line w) fault.Shape
 
 -- a question about runs over so many samples is larger than what is asked of formulas
 abbrev pub size_check : QuantisedView → ℕ → Checked
-size_check q samples = if nat_lt most_size (job_size_of q samples)
-    then Err (refusal.JobSize (job_size_of q samples)) else Ok tt
+size_check q samples = if nat_lt most_size (job_size_of (of_controller q) samples)
+    then Err (refusal.JobSize (job_size_of (of_controller q) samples)) else Ok tt
 
 -- ---- logs
 -- what the verdict on a log says of its lines, the first of which has this number
@@ -110,7 +110,7 @@ log_check formula line log = verdict_at line (verdict_of formula log)
 -- the log refutes that a property of runs happens within so many samples
 abbrev pub run_check : CertWords → QuantisedView → RunProperty → ℕ → List Step → Checked
 run_check w q p samples log = size_check q samples >>= λ _.
-    log_check (question_formula p q samples) (body_line w) log
+    log_check (question_formula p (of_controller q) samples) (body_line w) log
 
 abbrev pub is_some_samples : ℕ → Bool
 is_some_samples samples = nat_le 1 samples && nat_le samples most_samples
@@ -168,7 +168,7 @@ outlook_check w rest other = refused (kind_line w) fault.Gain
 -- in the registers; and then the offer
 abbrev pub depth_check : CertWords → QuantisedView → ℕ → Option RoundoffOffer → Checked
 depth_check w q depth offer =
-    outlook_check w (error_check w q offer) (outlook_of q (suc depth))
+    outlook_check w (error_check w q offer) (outlook_of (of_controller q) (suc depth))
 
 abbrev pub gain_check : CertWords → QuantisedView → Property → Size → ℕ → Option RoundoffOffer
     → Checked

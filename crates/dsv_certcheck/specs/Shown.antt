@@ -9,7 +9,6 @@ use Rattle.dsv_reader.specs.Controllers.{ControllerView}
 use Rattle.dsv_quantiser.specs.QuantisedView.{QuantisedView}
 use Rattle.dsv_realise.specs.Netlists.{net_of}
 use Rattle.dsv_roundoff.specs.declared.offers.RoundoffOffer.{RoundoffOffer}
-use Rattle.dsv_gain.specs.Controllers.{NeverOverflows}
 use Rattle.dsv_gain.specs.Errors.{error_of}
 use Rattle.dsv_gain.specs.Near.{AlwaysNear}
 use Rattle.dsv_gain.specs.declared.roundoff.ShownError.{ShownError}
@@ -23,6 +22,8 @@ use Rattle.dsv_certfile.specs.declared.certificate.Certificate.{Certificate}
 use Rattle.dsv_certfile.specs.declared.certificate.Certificate.TheVariants as certificate
 use Rattle.dsv_certfile.specs.declared.job.CertifiedJob.{CertifiedJob}
 use Rattle.dsv_certfile.specs.declared.job.Size.{Size}
+use Rattle.dsv_gain.specs.Subjects.{NeverOverflows}
+use Rattle.dsv_realise.specs.Controllers.{of_controller}
 use Rattle.dsv_certfile.specs.declared.job.Size.TheVariants as size
 
 -- A form strictly falls along each trajectory of the polynomial that the property tests.
@@ -33,8 +34,8 @@ pub record HasFalling (q : QuantisedView) (p : RootProperty) : Type 0 where
 
 -- the controller has the property, over so many samples where it is one of runs
 abbrev pub Has : QuantisedView → Property → Size → Type 0
-Has q (property.OfRuns p) (size.Samples k) = Happens p q k → ⊥
-Has q (property.OfRuns run.Overflow) size.Unbounded = NeverOverflows q
+Has q (property.OfRuns p) (size.Samples k) = Happens p (of_controller q) k → ⊥
+Has q (property.OfRuns run.Overflow) size.Unbounded = NeverOverflows (of_controller q)
 Has q (property.OfRoots p) size.NoSize = HasFalling q p
 Has q p s = ⊥
 

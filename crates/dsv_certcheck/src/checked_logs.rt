@@ -8,12 +8,13 @@ ghost use Rattle.dsv_template.specs.declared.verdict.SetPart.TheVariants as part
 ghost use Rattle.dsv_certcheck.specs.Checks.{Finds, log_check, run_check, sentences_check};
 ghost use Rattle.dsv_certcheck.specs.Checks.{set_check};
 ghost use Rattle.dsv_certcheck.specs.LineNumbers.{log_line};
-ghost use Rattle.dsv_gain.specs.Controllers.{NeverOverflows};
+ghost use Rattle.dsv_gain.specs.Subjects.{NeverOverflows};
+ghost use Rattle.dsv_realise.specs.Controllers.{of_controller};
 
 use crate::check_refusal::CheckRefusal;
 use crate::line_numbers::{body_line, log_line};
 use dsv_base::NoMemory;
-use dsv_bounded::question_formula;
+use dsv_bounded::formula;
 use dsv_certfile::{CertWords, CheckFault};
 use dsv_cnf::Formula;
 use dsv_hints::{Log, Verdict, check};
@@ -21,6 +22,7 @@ use dsv_invariant::{accept_unbounded, set_formula};
 use dsv_meaning::registers;
 use dsv_names::RunProperty;
 use dsv_quantiser::Quantised;
+use dsv_realise::Asking;
 use dsv_template::{Candidate, SetPart, ThreeLogs};
 use std::alloc::Global;
 
@@ -70,9 +72,11 @@ pub(crate) fn check_run(
     requires few { question.samples ≤ 64 }
     ensures found { Finds result (run_check question.words quantised.now question.property
         question.samples log.now) }
-    ensures shows { OnOk result (Happens question.property quantised.now question.samples → ⊥) }
+    ensures shows { OnOk result
+        (Happens question.property (of_controller quantised.now) question.samples → ⊥) }
 {
-    let formula = question_formula(alloc, quantised, question.property, question.samples)?;
+    let asking = Asking::of(alloc, quantised)?;
+    let formula = formula(alloc, &asking, question.property, question.samples)?;
     accept_length(log)?;
     check_log(alloc, &formula, body_line(question.words), log)
 }
@@ -148,7 +152,7 @@ pub(crate) fn check_set(
     logs: &ThreeLogs,
 ) -> Result<(), CheckRefusal>
     ensures found { Finds result (set_check words quantised.now candidate.now logs.now) }
-    ensures shows { OnOk result (NeverOverflows quantised.now) }
+    ensures shows { OnOk result (NeverOverflows (of_controller quantised.now)) }
 {
     accept_unbounded(quantised)?;
     let registers = registers(quantised.realisation(), quantised.order() as u32);

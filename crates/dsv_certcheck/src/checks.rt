@@ -11,24 +11,28 @@ ghost use Rattle.dsv_certcheck.specs.Shown.{ShowsNear, StaysAsOffered, IsNearOf}
 ghost use Rattle.dsv_certcheck.specs.ShownErrors.{StaysShown, without_error};
 ghost use Rattle.dsv_certfile.specs.Limits.{most_gain_depth};
 ghost use Rattle.dsv_certfile.specs.Texts.{job_of};
-ghost use Rattle.dsv_gain.specs.Controllers.{NeverOverflows};
 ghost use Rattle.dsv_table.specs.Verdicts.{HasFallingForm};
+ghost use Rattle.dsv_gain.specs.Safe.{IfSafe};
+ghost use Rattle.dsv_gain.specs.Subjects.{outlook_of, HoldsAlways, NeverOverflows};
+ghost use Rattle.dsv_realise.specs.Controllers.{of_controller};
 
 use crate::check_refusal::CheckRefusal;
 use crate::checked_logs::{RunQuestion, check_run, check_set};
 use crate::line_numbers::{FORMAT_LINE, VERSION_LINE, form_line, kind_line};
 use crate::tables::check_poly_table;
+use dsv_base::NoMemory;
 use dsv_certfile::{
     CertWords, Certificate, CertifiedJob, CheckFault, MOST_GAIN_DEPTH, MOST_JOB_SAMPLES,
     NARROW_WORD_BITS, Size,
 };
 use dsv_forms::{Falls, Poly, check_falls};
-use dsv_gain::{Outlook, ShownError, controller_error, overflow_gain};
+use dsv_gain::{Outlook, ShownError, controller_error, gain};
 use dsv_hints::Log;
 use dsv_integer::Numeral;
 use dsv_names::{Property, RunProperty};
 use dsv_quantiser::{Quantised, quantise_in};
 use dsv_reader::Controller;
+use dsv_realise::Asking;
 use dsv_roundoff::RoundoffOffer;
 use dsv_template::{Candidate, ThreeLogs};
 use dsv_tested::{Tested, polynomial_of, side_of};
@@ -128,6 +132,18 @@ fn check_error(
     }
 }
 
+/// What the gain says of a controller's runs, by the samples below the limit.
+fn controller_outlook(alloc: Global, quantised: &Quantised, limit: u32) -> Result<Outlook, NoMemory>
+    ensures made { IfOk result (λ gain. gain ≡ outlook_of (of_controller quantised.now) limit) }
+    ensures holds { IfOk result (λ gain. IfSafe gain
+        (λ g. HoldsAlways (of_controller quantised.now) g.ranges)) }
+    ensures safe { IfOk result (λ gain. IfSafe gain
+        (λ g. NeverOverflows (of_controller quantised.now))) }
+{
+    let asking = Asking::of(alloc, quantised)?;
+    gain(alloc, &asking, limit)
+}
+
 /// Checks that the ranges of all exact values are ones of words at a depth or before it, and then
 /// the offer.
 fn check_depth(
@@ -139,11 +155,11 @@ fn check_depth(
 ) -> Result<Option<ShownError>, CheckRefusal>
     requires { depth ≤ most_gain_depth }
     ensures found { Finds (as_checked result) (depth_check words quantised.now depth offer.now) }
-    ensures shows { OnOk result (NeverOverflows quantised.now) }
+    ensures shows { OnOk result (NeverOverflows (of_controller quantised.now)) }
     ensures near { IfOk result (ShowsNear quantised.now offer.now) }
 {
     let _order = quantised.order(); // its range, for the proof
-    match overflow_gain(alloc, quantised, depth + 1)? {
+    match controller_outlook(alloc, quantised, depth + 1)? {
         Outlook::Safe(_) => check_error(alloc, quantised, words, offer),
         Outlook::Leaves { .. } | Outlook::Deep => Err(CheckRefusal::Line {
             line: kind_line(words),

@@ -5,11 +5,7 @@ use Rattle.std.proofs.lemmas.List.{length-take, get_or-take, get_or-drop, length
 use Rattle.std.proofs.lemmas.List.FromFn.{fill_by_all}
 use Rattle.dsv_forms.specs.Poly.{greatest_order}
 use Rattle.dsv_forms.specs.Padded.{row_of}
-
-repeated : {A : Type 0} (n i : ℕ) (z : A) → get_or (replicate n z) i z ≡ z
-repeated zero i z = refl
-repeated (suc n) zero z = refl
-repeated (suc n) (suc i) z = repeated n i z
+use Rattle.dsv_forms.proofs.Padded.{repeated}
 
 padded : {A : Type 0} (xs : List A) (n i : ℕ) (z : A) → get_or (xs ++ replicate n z) i z ≡ get_or xs i z
 padded [] n i z = repeated n i z

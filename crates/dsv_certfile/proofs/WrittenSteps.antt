@@ -8,6 +8,7 @@ use Rattle.dsv_base.proofs.TextLemmas.{end_nil}
 use Rattle.dsv_text.specs.Stages.{◌>>=◌}
 use Rattle.dsv_text.specs.Bytes.{is_digit, has_byte}
 use Rattle.dsv_cnf.specs.Literal.{Literal}
+use Rattle.dsv_cnf.specs.Texts.{literal_piece}
 use Rattle.dsv_hints.specs.declared.step.Step.{Step}
 use Rattle.dsv_hints.specs.declared.step.Step.TheVariants.{Add, Delete}
 use Rattle.dsv_lines.specs.Readings.{reading_of}
@@ -19,7 +20,7 @@ use Rattle.dsv_certfile.specs.Numerals.{id_of, literal_read}
 use Rattle.dsv_lines.specs.Pieces.{space, TextLines, line, pieces_of}
 use Rattle.dsv_certfile.specs.Steps.{Listed, entries_from, deletion_in, addition_in, says_deletion, step_after, step_in, steps_from, log_in}
 use Rattle.dsv_lines.specs.Texts.{Line, IsPlain, ArePlain}
-use Rattle.dsv_certfile.specs.Texts.{literal_piece, list_pieces, step_line, log_lines, word_line}
+use Rattle.dsv_certfile.specs.Texts.{list_pieces, step_line, log_lines, word_line}
 use Rattle.dsv_certfile.specs.declared.fault.TextFault.{TextFault}
 use Rattle.dsv_certfile.specs.declared.keyword.Keyword.{Keyword}
 use Rattle.dsv_certfile.specs.declared.keyword.Keyword.TheVariants as keyword

@@ -8,8 +8,7 @@ use Rattle.dsv_names.specs.Properties.{property_name}
 use Rattle.dsv_names.specs.Realisations.{realisation_name}
 use Rattle.dsv_names.specs.Roundings.{rounding_name}
 use Rattle.dsv_names.specs.OverflowModes.{overflow_mode_name}
-use Rattle.dsv_cnf.specs.Literal.{Literal}
-use Rattle.dsv_cnf.specs.Dimacs.{sign_text}
+use Rattle.dsv_cnf.specs.Texts.{literal_piece}
 use Rattle.dsv_hints.specs.declared.step.Step.{Step}
 use Rattle.dsv_hints.specs.declared.step.Step.TheVariants.{Add, Delete}
 use Rattle.dsv_forms.specs.declared.offers.Squares.{Squares}
@@ -80,9 +79,6 @@ abbrev pub kind_line : Kind → List ℕ → Line
 kind_line k numbers = keyword_text keyword.Kind ∷ kind_name k ∷ map decimal numbers
 
 -- ---- logs
--- a variable, numbered from 1, after `-` where it is negated
-abbrev pub literal_piece : Literal → List ℕ
-literal_piece l = sign_text l ++ decimal (l.var + 1)
 
 -- the entries of a list of a step, and the 0 that ends it
 abbrev pub list_pieces : {X : Type 0} → (X → List ℕ) → List X → Line

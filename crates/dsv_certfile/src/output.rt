@@ -4,13 +4,14 @@ ghost use Rattle.std.specs.List.{flat_map};
 ghost use Rattle.dsv_base.specs.Taking.{Writes};
 ghost use Rattle.dsv_base.specs.Text.{spaced_text};
 ghost use Rattle.dsv_lines.specs.Texts.{line_text, piece_text};
-ghost use Rattle.dsv_certfile.specs.Texts.{literal_piece, list_pieces};
+ghost use Rattle.dsv_certfile.specs.Texts.{list_pieces};
 ghost use Rattle.dsv_certfile.specs.Texts.{numbers_line, word_line, step_line, log_lines};
 ghost use Rattle.dsv_certfile.specs.Texts.{rows_lines};
 ghost use Rattle.dsv_certfile.specs.Lawful.{IsLiteral};
 ghost use Rattle.dsv_certfile.specs.Typed.{IsShortId, IsTypedStep, IsTypedLog};
 ghost use Rattle.dsv_certfile.specs.Typed.{IsTypedRow, IsTypedMatrix};
 ghost use Rattle.dsv_cnf.specs.Dimacs.{sign_text};
+ghost use Rattle.dsv_cnf.specs.Texts.{literal_piece};
 ghost use Rattle.dsv_hints.specs.declared.step.Step.TheVariants.{Add, Delete};
 
 use crate::keyword::Keyword;

@@ -79,7 +79,7 @@ of_bytes P old name bytes written held k = of_told (P k.controller) written (sub
 pub one_spelled : (read : Result Certificate CertRefusal) (c d : Certificate) → read ≡ Ok c → read ≡ Ok d → d ≡ c
 one_spelled read c d h k = cc
 
-of_spelled : (P : Certificate → Type 0) (written : List ℕ) (c : Certificate) → IsSpelled written c → Spells P written → P c
+pub of_spelled : (P : Certificate → Type 0) (written : List ℕ) (c : Certificate) → IsSpelled written c → Spells P written → P c
 of_spelled P written c s t = subst P (one_spelled (certificate_in written) c t.0 s.spelled t.1.spelled) t.2
 
 -- what a check says of the certificate that the bytes spell

@@ -71,7 +71,7 @@ record IsLoopAcceptable (controller plant : List ℕ) (c : Certificate) : Type 0
 same_plant : (bytes : List ℕ) (p q : PlantView) → IsPlantOf bytes p → IsPlantOf bytes q → p ≡ q
 same_plant bytes p q h k = let e = plant_text_read bytes p h.text in let f = plant_text_read bytes q k.text in cc
 
-in_file : (P : List ℕ → Type 0) (old : FilesSeen) (name bytes : List ℕ) → old.held name ≡ Some bytes → CameOf (old.held name) P → P bytes
+pub in_file : (P : List ℕ → Type 0) (old : FilesSeen) (name bytes : List ℕ) → old.held name ≡ Some bytes → CameOf (old.held name) P → P bytes
 in_file P old name bytes held h = of_told P bytes (subst (λ told. CameOf told P) held h)
 
 -- ---- the certificate that is written
@@ -167,7 +167,7 @@ one_words controller plant c f q b =
     let other = accepted_of controller f.design (job_of c) (Ok q) f.accepted b in
     same_words f.design f.design f.quantised q (one_stage (job_of c).design controller (in_words f.design f.quantised) (in_words f.design q) (one, refl) (other, refl))
 
-found_or_refused : (found : Checked) (why : CheckRefusal) → found ≡ Ok tt → found ≡ Err why → ⊥
+pub found_or_refused : (found : Checked) (why : CheckRefusal) → found ≡ Ok tt → found ≡ Err why → ⊥
 found_or_refused found why h k = cc
 
 never_found : (controller plant : List ℕ) (c : Certificate) (why : CheckRefusal) (f : LoopFits controller plant c) → IsLoopFoundOf f.design f.p c (Err why) → ⊥

@@ -26,9 +26,7 @@ use Rattle.dsv_certfile.specs.declared.job.CertWords.{CertWords}
 use Rattle.dsv_certfile.specs.declared.job.CertifiedJob.{CertifiedJob}
 use Rattle.dsv_certfile.proofs.LawfulWritten.{falls_are_lawful, falls_text}
 use Rattle.dsv_certfile.proofs.WrittenCertificates.{written_is_read}
-use Rattle.dsv_certcheck.specs.Checks.{Checked}
 use Rattle.dsv_certcheck.specs.StateChecks.{state_check, Offers}
-use Rattle.dsv_certcheck.specs.declared.check_refusal.CheckRefusal.{CheckRefusal}
 use Rattle.dsv_certcheck.specs.declared.check_refusal.CheckRefusal.TheVariants as refusal
 use Rattle.dsv_certcheck.proofs.Passing.{state_form_passes}
 use Rattle.dsv_command.specs.States.{StateTask, seeks_form, AskedStates}
@@ -41,10 +39,10 @@ use Rattle.dsv_report.specs.declared.stop.Stop.TheVariants as stop
 use Rattle.dsv_report.specs.Stops.{Outcome}
 use Rattle.dsv_cli.specs.Accepted.{IsFormAcceptance, form_check, WrittenStateFormsAreAccepted}
 use Rattle.dsv_cli.specs.Checking.{IsUnreadCertificate}
-use Rattle.dsv_cli.specs.Headline.{longest_file, longest_certificate, CameOf, IsSpelled, Spells}
+use Rattle.dsv_cli.specs.Headline.{longest_file, longest_certificate, IsSpelled}
 use Rattle.dsv_cli.specs.States.{IsStateController, IsOfNamedForm, IsOfStateTask, IsStateRow}
-use Rattle.dsv_cli.proofs.AcceptedLemmas.{one_spelled, read_or_refused, too_long}
-use Rattle.dsv_cli.proofs.Told.{of_told}
+use Rattle.dsv_cli.proofs.AcceptedLemmas.{read_or_refused, too_long, of_spelled}
+use Rattle.dsv_cli.proofs.AcceptedLoops.{found_or_refused, in_file}
 
 -- The certificate passes its check for the words that the controller with this text becomes in these modes, and is read back from its text.
 record StateFits (bytes : List ℕ) (rounding : Rounding) (overflow : OverflowMode) (c : Certificate) : Type 0 where
@@ -60,8 +58,6 @@ record IsStateAcceptable (bytes : List ℕ) (rounding : Rounding) (overflow : Ov
   pub written : certificate_text (certificate_alone c) ≡ certificate_text c
 
 -- ---- one file, one controller, one list of words
-in_file : (P : List ℕ → Type 0) (old : FilesSeen) (name bytes : List ℕ) → old.held name ≡ Some bytes → CameOf (old.held name) P → P bytes
-in_file P old name bytes held h = of_told P bytes (subst (λ told. CameOf told P) held h)
 
 one_controller : (bytes : List ℕ) (c d : StateFileView) → IsStateController bytes c → IsStateController bytes d → c ≡ d
 one_controller bytes c d h k = let e = state_taken bytes c h.text in let f = state_taken bytes d k.text in cc
@@ -111,8 +107,6 @@ form_fits bytes asked words file s offer a b e known =
     }
 
 -- ---- what is found of the same file
-found_or_refused : (found : Checked) (why : CheckRefusal) → found ≡ Ok tt → found ≡ Err why → ⊥
-found_or_refused found why h k = cc
 
 -- the words of the same file in the same modes are those that the certificate passes for
 passes_there : (bytes : List ℕ) (rounding : Rounding) (overflow : OverflowMode) (c : Certificate) (f : StateFits bytes rounding overflow c) (file : StateFileView) (s : StateView) → IsStateController bytes file
@@ -127,10 +121,6 @@ never_quantised : (bytes : List ℕ) (rounding : Rounding) (overflow : OverflowM
 never_quantised bytes rounding overflow c f file r a b =
     let same = one_controller bytes file f.file a f.controller in
     never_words f.words r (becomes_one f.file rounding overflow (Ok f.words) (Err r) f.becomes (subst (λ x. BecomesStates x rounding overflow (Err r)) same b))
-
--- what is said of the certificate that the bytes spell
-of_spelled : (P : Certificate → Type 0) (written : List ℕ) (c : Certificate) → IsSpelled written c → Spells P written → P c
-of_spelled P written c s t = subst P (one_spelled (certificate_in written) c t.0 s.spelled t.1.spelled) t.2
 
 form_accepts : (old : FilesSeen) (name written : List ℕ) (c : Certificate) (s : StateView) (found : Answer) → old.held name ≡ Some written → IsSpelled written (certificate_alone c) → IsOfNamedForm old name s (Ok found)
     → IsFormAcceptance c (Ok found)

@@ -16,6 +16,7 @@ use Rattle.dsv_cascade.specs.Cascades.{CascadeView}
 use Rattle.dsv_cascade.specs.Stability.{AreStable, AreJudged}
 use Rattle.dsv_cascade.specs.declared.stability.CascadeForms.{CascadeForms}
 use Rattle.dsv_cascade.specs.declared.stability.CascadeForms.TheVariants as forms
+use Rattle.dsv_cascade.specs.declared.stability.SectionFault.TheVariants as fault
 use Rattle.dsv_cascade.specs.declared.stability.SectionOffer.{SectionOffer}
 use Rattle.dsv_command.specs.Cascades.{CascadeTask, decides_stability, searches_overflow, measures_series, simulates_series, AskedCascade}
 use Rattle.dsv_report.specs.Printing.{SectionHasPlaces, FormsHavePlaces}
@@ -88,6 +89,6 @@ offers_places (q ∷ qs) (s ∷ ss) h = All-cons SectionHasPlaces s ss (stable_p
 
 pub judged_places : (sections : List QuantisedView) (found : CascadeForms) → AreJudged sections found → FormsHavePlaces found
 judged_places sections (forms.Falls offers) h = offers_places sections offers h
-judged_places sections (forms.KeptAway section poly offer fall value) h = away_places poly offer.form offer.start fall value h.4
-judged_places sections (forms.Wide section index) h = tt
-judged_places sections (forms.NoClosedForm section index) h = tt
+judged_places sections (forms.NotAll section (fault.KeptAway poly offer fall value)) h = away_places poly offer.form offer.start fall value h.2.2
+judged_places sections (forms.NotAll section (fault.Wide index)) h = tt
+judged_places sections (forms.NotAll section (fault.NoClosedForm index)) h = tt

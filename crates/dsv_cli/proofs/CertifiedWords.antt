@@ -55,6 +55,7 @@ use Rattle.dsv_bounded.specs.RunAnswers.{NeverHappens}
 use Rattle.dsv_cli.specs.Sets.{KeepsTo}
 use Rattle.dsv_cli.proofs.OutputErrors.{offer_passes, offer_lawful}
 use Rattle.dsv_cli.proofs.Told.{of_told}
+use Rattle.dsv_realise.specs.Controllers.{of_controller}
 
 -- The bytes are the text of a controller, which in the realisation and modes of the certificate's job becomes words for which the certificate passes its check.
 pub record Fits (bytes : List ℕ) (c : Certificate) : Type 0 where
@@ -81,10 +82,10 @@ abbrev hints_for : Design → CertWords → RunProperty → ℕ → List Step �
 hints_for design words p samples log = certificate.Hints (job_with design words (OfRuns p) (size.Samples samples)) log
 
 hints_fit : (bytes : List ℕ) (job : Asked) (words : CertWords) (p : RunProperty) (samples conflicts : ℕ) (quantised : QuantisedView) (log : List Step) → IsSearch job bytes p samples conflicts quantised
-    → NeverHappens p samples conflicts quantised log → HasWords bytes words → IsTyped (hints_for job.design words p samples log) → IsAcceptable bytes (hints_for job.design words p samples log)
+    → NeverHappens p samples conflicts (of_controller quantised) log → HasWords bytes words → IsTyped (hints_for job.design words p samples log) → IsAcceptable bytes (hints_for job.design words p samples log)
 hints_fit bytes job words p samples conflicts quantised log s n h t = record {
   fits = record { quantised = quantised; accepted = s.accepted; format = format_fits bytes words job.design (Ok quantised) h s.accepted; passes = hints_pass words quantised p samples log t.size n.within n.refuted.accepted };
-  lawful = hints_are_lawful (question_formula p quantised samples) conflicts (job_with job.design words (OfRuns p) (size.Samples samples)) log refl t n.refuted;
+  lawful = hints_are_lawful (question_formula p (of_controller quantised) samples) conflicts (job_with job.design words (OfRuns p) (size.Samples samples)) log refl t n.refuted;
   text = refl;
   job = refl;
 }
@@ -105,7 +106,7 @@ invariant_fits bytes job words conflicts quantised candidate logs s k h t = reco
 abbrev gain_for : Design → CertWords → ℕ → Option RoundoffOffer → Certificate
 gain_for design words depth offer = certificate.Gain (job_with design words (OfRuns Overflow) size.Unbounded) depth offer
 
-gain_fits : (bytes : List ℕ) (job : Asked) (words : CertWords) (quantised : QuantisedView) (gain : Gain) (found : OutputError) → IsMeasuring job bytes quantised → IsGainOf quantised gain → IsErrorOf quantised found
+gain_fits : (bytes : List ℕ) (job : Asked) (words : CertWords) (quantised : QuantisedView) (gain : Gain) (found : OutputError) → IsMeasuring job bytes quantised → IsGainOf (of_controller quantised) gain → IsErrorOf quantised found
     → HasWords bytes words → IsTyped (gain_for job.design words gain.depth (offer_in found)) → IsAcceptable bytes (gain_for job.design words gain.depth (offer_in found))
 gain_fits bytes job words quantised gain found s k e h t =
     let below = gain_below (net_of quantised) quantised.xlo quantised.xhi most_gain_samples gain k.found in

@@ -16,6 +16,7 @@ use Rattle.dsv_report.specs.declared.stop.WhichFile.{WhichFile}
 use Rattle.dsv_report.specs.declared.stop.WhichFile.TheVariants as file
 use Rattle.dsv_cascade.specs.declared.stability.CascadeForms.{CascadeForms}
 use Rattle.dsv_cascade.specs.declared.stability.CascadeForms.TheVariants as forms
+use Rattle.dsv_cascade.specs.declared.stability.SectionFault.TheVariants as fault
 use Rattle.dsv_command.specs.Cascades.{AskedCascade}
 use Rattle.dsv_command.specs.Ellipsoids.{EllipsoidSource, offered, sought, AskedEllipsoid}
 use Rattle.dsv_command.specs.CascadeLoops.{AskedCascadeLoop}
@@ -39,9 +40,9 @@ use Rattle.dsv_cli.specs.States.{NamesUnread, IsStateRow}
 
 forms_verdict : (found : CascadeForms) → IsVerdict (forms_status found)
 forms_verdict (forms.Falls offers) = inl refl
-forms_verdict (forms.KeptAway section poly offer fall value) = inr (inl refl)
-forms_verdict (forms.Wide section index) = inr (inr refl)
-forms_verdict (forms.NoClosedForm section index) = inr (inr refl)
+forms_verdict (forms.NotAll section (fault.KeptAway poly offer fall value)) = inr (inl refl)
+forms_verdict (forms.NotAll section (fault.Wide index)) = inr (inr refl)
+forms_verdict (forms.NotAll section (fault.NoClosedForm index)) = inr (inr refl)
 
 section_tables_verdict : (found : SectionTables) → IsVerdict (section_tables_status found)
 section_tables_verdict (section_tables.Inside findings) = inl refl

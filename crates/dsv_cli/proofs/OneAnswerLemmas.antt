@@ -13,6 +13,7 @@ use Rattle.dsv_token.specs.declared.refusal.FileRefusal.TheVariants as text
 use Rattle.dsv_cli.specs.OneAnswer.{SameAnswer, IsSettled, HaveOneAnswer}
 use Rattle.dsv_cli.proofs.OneAnswerStages.{Stage, long, faulty, refused, in_words, IsStage, one_stage}
 use Rattle.dsv_cli.proofs.OneAnswerTasks.{IsAnswerTo, one_task}
+use Rattle.dsv_realise.specs.Controllers.{of_controller}
 
 -- the answer that a stage gives to a task
 abbrev IsOfStage : Task → Stage → Outcome → Type 0
@@ -27,12 +28,12 @@ record Reaches (job : Asked) (bytes : List ℕ) (found : Outcome) : Type 0 where
   gives : IsOfStage job.task stage found
 
 -- so does a question that is too large, by a search or for its formula
-large_asked : (bytes : List ℕ) (job : Asked) (size k : ℕ) (quantised : QuantisedView) → AsksOver job bytes k quantised → IsTooLarge k quantised size → Reaches job bytes (Err (stop.JobSize size))
+large_asked : (bytes : List ℕ) (job : Asked) (size k : ℕ) (quantised : QuantisedView) → AsksOver job bytes k quantised → IsTooLarge k (of_controller quantised) size → Reaches job bytes (Err (stop.JobSize size))
 large_asked bytes job size k quantised (inl t) h = record { stage = in_words t.2.accepted.controller quantised; reached = (t.2.accepted, refl); gives = rw t.2.task h }
-large_asked bytes job size k quantised (inr (inr t)) h = record { stage = in_words t.1.accepted.controller quantised; reached = (t.1.accepted, refl); gives = rw t.1.task (subst (λ n. IsTooLarge n quantised size) t.2 h) }
+large_asked bytes job size k quantised (inr (inr t)) h = record { stage = in_words t.1.accepted.controller quantised; reached = (t.1.accepted, refl); gives = rw t.1.task (subst (λ n. IsTooLarge n (of_controller quantised) size) t.2 h) }
 large_asked bytes job size k quantised (inr (inl t)) h = record { stage = in_words t.1.accepted.controller quantised; reached = (t.1.accepted, refl); gives = rw t.1.task h }
 
-large_by : (bytes : List ℕ) (job : Asked) (size : ℕ) → ((n : ℕ) × (w : QuantisedView) × AsksOver job bytes n w × IsTooLarge n w size) → Reaches job bytes (Err (stop.JobSize size))
+large_by : (bytes : List ℕ) (job : Asked) (size : ℕ) → ((n : ℕ) × (w : QuantisedView) × AsksOver job bytes n w × IsTooLarge n (of_controller w) size) → Reaches job bytes (Err (stop.JobSize size))
 large_by bytes job size t = large_asked bytes job size t.0 t.1 t.2 t.3
 
 -- the bytes that came are those of the file

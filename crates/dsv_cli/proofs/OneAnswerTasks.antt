@@ -25,27 +25,27 @@ use Rattle.dsv_command.specs.Jobs.{Task, decides, checks_time, writes, searches,
 use Rattle.dsv_report.specs.declared.answers.Answer.TheVariants as answer
 use Rattle.dsv_report.specs.declared.stop.Stop.TheVariants as stop
 use Rattle.dsv_report.specs.Stops.{Outcome}
-use Rattle.dsv_cli.specs.Headline.{degree, ShowsFall, ShowsKeptAway}
+use Rattle.dsv_cli.specs.Headline.{ShowsFall, ShowsKeptAway}
 use Rattle.dsv_cli.specs.Proposers.{HasClosedForm}
-use Rattle.dsv_cli.specs.Simulating.{IsFirstOutside}
+use Rattle.dsv_cli.specs.Simulating.{IsFirstOutside, IsOfRun}
+use Rattle.dsv_cli.specs.Searching.{IsOfFormula, IsOfSearch}
+use Rattle.dsv_meaning.specs.Equations.{Past}
+use Rattle.dsv_meaning.specs.Systems.{equations_of}
+use Rattle.dsv_system.specs.Systems.{behaviour_of}
 use Rattle.dsv_names.specs.declared.property.RunProperty.{RunProperty}
 use Rattle.dsv_names.specs.declared.property.RunProperty.TheVariants as run
 use Rattle.dsv_meaning.specs.declared.replays.Cycle.{Cycle}
 use Rattle.dsv_meaning.specs.declared.replays.Trace.{Trace}
 use Rattle.dsv_unroll.specs.Goals.{most_size}
-use Rattle.dsv_bounded.specs.Formulas.{job_size_of}
-use Rattle.dsv_bounded.specs.Verdicts.{IsCycle}
-use Rattle.dsv_gain.specs.Controllers.{outlook_of}
 use Rattle.dsv_gain.specs.declared.outlook.Gain.{Gain}
 use Rattle.dsv_gain.specs.declared.outlook.Outlook.{Outlook}
 use Rattle.dsv_gain.specs.declared.outlook.Outlook.TheVariants as outlook
-use Rattle.dsv_cli.specs.Gain.{most_gain_samples, IsOfGain}
-use Rattle.dsv_meaning.specs.Traces.{IsTrace}
-use Rattle.dsv_bounded.specs.RunQuestions.{Happens}
+use Rattle.dsv_cli.specs.Gain.{most_gain_samples, IsErrorOf, IsOfGain}
+use Rattle.dsv_bounded.specs.RunQuestions.{Happens, job_size_of, IsCycle}
 use Rattle.dsv_bounded.specs.RunAnswers.{IsTooLarge}
 use Rattle.dsv_bounded.proofs.Verdicts.{trace_breaks, cycle_cycles}
 use Rattle.dsv_invariant.specs.Limits.{unbounded_samples}
-use Rattle.dsv_cli.specs.Causes.{IsOfRun, IsOfTiming, IsOfFormula, IsOfSearch, IsOfSets}
+use Rattle.dsv_cli.specs.Causes.{IsOfTiming, IsOfSets}
 use Rattle.dsv_cli.specs.Timing.{IsTimingOf, IsOnTime}
 use Rattle.dsv_reader.specs.Controllers.{ControllerView}
 use Rattle.dsv_timing.specs.Cycles.{cycles_of}
@@ -53,6 +53,10 @@ use Rattle.dsv_timing.specs.declared.work.TimingReport.{TimingReport}
 use Rattle.dsv_netlist.specs.declared.netlist.OpCounts.{OpCounts}
 use Rattle.dsv_fraction.specs.Ratio.{Ratio}
 use Rattle.dsv_cli.specs.OneAnswer.{SameForm, SameAnswer, IsSettled}
+use Rattle.dsv_gain.specs.Subjects.{outlook_of}
+use Rattle.dsv_realise.specs.Runs.{IsTrace}
+use Rattle.dsv_realise.specs.Controllers.{of_controller}
+use Rattle.dsv_generator.specs.Findings.{degree}
 
 -- ---- forms
 both_or_out : (d i j : ℕ) → (i < d) ⊎ (d ≤ i) → (j < d) ⊎ (d ≤ j) → ((i < d) × (j < d)) ⊎ ((d ≤ i) ⊎ (d ≤ j))
@@ -186,7 +190,7 @@ one_outside format inputs i j v w h k (inl e) =
 one_outside format inputs i j v w h k (inr (inl l)) = absurd (h.outside (before_place (IsWord format) inputs i j v h.there l k.before))
 one_outside format inputs i j v w h k (inr (inr l)) = absurd (k.outside (before_place (IsWord format) inputs j i w k.there l h.before))
 
-one_run : (quantised : QuantisedView) (inputs : List ℤ) (a b : Outcome) → IsSettled a → IsSettled b → IsOfRun quantised inputs a → IsOfRun quantised inputs b → SameAnswer a b
+one_run : (quantised : QuantisedView) (inputs : List ℤ) (a b : Outcome) → IsSettled a → IsSettled b → IsOfRun (of_controller quantised) inputs a → IsOfRun (of_controller quantised) inputs b → SameAnswer a b
 one_run quantised inputs (Ok (answer.Simulated r)) (Ok (answer.Simulated s)) x y h k = ap (λ it. Ok (answer.Simulated it)) (h.rows ∙ sym k.rows)
 one_run quantised inputs (Ok (answer.Simulated r)) (Err (stop.InputRange j w)) x y h k = absurd (k.outside (at_place (IsWord quantised.format) inputs j w k.there h.inputs_are_words))
 one_run quantised inputs (Ok (answer.Simulated r)) (Err stop.NoMemory) x y h k = absurd y
@@ -202,57 +206,57 @@ one_run quantised inputs a b x y h k = absurd h
 within_or_large : (size given limit : ℕ) → size ≤ limit → given ≡ size → limit < given → ⊥
 within_or_large size given limit h e k = omega (arith, h, e, k)
 
-one_size : (samples : ℕ) (quantised : QuantisedView) (m n : ℕ) → IsTooLarge samples quantised m → IsTooLarge samples quantised n → SameAnswer (Err (stop.JobSize m)) (Err (stop.JobSize n))
+one_size : (samples : ℕ) (quantised : QuantisedView) (m n : ℕ) → IsTooLarge samples (of_controller quantised) m → IsTooLarge samples (of_controller quantised) n → SameAnswer (Err (stop.JobSize m)) (Err (stop.JobSize n))
 one_size samples quantised m n h k = ap (λ it. Err (stop.JobSize it)) (h.size_of ∙ sym k.size_of)
 
-one_formula : (p : RunProperty) (samples : ℕ) (quantised : QuantisedView) (a b : Outcome) → IsSettled a → IsSettled b → IsOfFormula p samples quantised a → IsOfFormula p samples quantised b → SameAnswer a b
+one_formula : (p : RunProperty) (samples : ℕ) (quantised : QuantisedView) (a b : Outcome) → IsSettled a → IsSettled b → IsOfFormula p samples (of_controller quantised) a → IsOfFormula p samples (of_controller quantised) b → SameAnswer a b
 one_formula p samples quantised (Ok (answer.FormulaText f)) (Ok (answer.FormulaText g)) x y h k = ap (λ it. Ok (answer.FormulaText it)) (h.formula_of ∙ sym k.formula_of)
-one_formula p samples quantised (Ok (answer.FormulaText f)) (Err (stop.JobSize n)) x y h k = absurd (within_or_large (job_size_of quantised samples) n most_size h.within k.size_of k.large)
+one_formula p samples quantised (Ok (answer.FormulaText f)) (Err (stop.JobSize n)) x y h k = absurd (within_or_large (job_size_of (of_controller quantised) samples) n most_size h.within k.size_of k.large)
 one_formula p samples quantised (Ok (answer.FormulaText f)) (Err stop.NoMemory) x y h k = absurd y
 one_formula p samples quantised (Ok (answer.FormulaText f)) b x y h k = absurd k
 one_formula p samples quantised (Err (stop.JobSize m)) (Err (stop.JobSize n)) x y h k = one_size samples quantised m n h k
-one_formula p samples quantised (Err (stop.JobSize m)) (Ok (answer.FormulaText g)) x y h k = absurd (within_or_large (job_size_of quantised samples) m most_size k.within h.size_of h.large)
+one_formula p samples quantised (Err (stop.JobSize m)) (Ok (answer.FormulaText g)) x y h k = absurd (within_or_large (job_size_of (of_controller quantised) samples) m most_size k.within h.size_of h.large)
 one_formula p samples quantised (Err (stop.JobSize m)) (Err stop.NoMemory) x y h k = absurd y
 one_formula p samples quantised (Err (stop.JobSize m)) b x y h k = absurd k
 one_formula p samples quantised (Err stop.NoMemory) b x y h k = absurd x
 one_formula p samples quantised a b x y h k = absurd h
 
 -- a trace or a cycle shows that it happens
-broken_by : (p : RunProperty) (samples : ℕ) (quantised : QuantisedView) (trace : Trace) → p ≡ run.Overflow → IsTrace quantised samples trace → (Happens p quantised samples → ⊥) → ⊥
-broken_by p samples quantised trace e h never = subst (λ q. (Happens q quantised samples → ⊥) → ⊥) (sym e) (λ n. n (trace_breaks quantised samples trace h)) never
+broken_by : (p : RunProperty) (samples : ℕ) (quantised : QuantisedView) (trace : Trace) → p ≡ run.Overflow → IsTrace (of_controller quantised) samples trace → (Happens p (of_controller quantised) samples → ⊥) → ⊥
+broken_by p samples quantised trace e h never = subst (λ q. (Happens q (of_controller quantised) samples → ⊥) → ⊥) (sym e) (λ n. n (trace_breaks Past (equations_of quantised) quantised.xlo quantised.xhi samples trace h)) never
 
-cycled_by : (p : RunProperty) (samples : ℕ) (quantised : QuantisedView) (cycle : Cycle) → p ≡ run.LimitCycle → IsCycle quantised samples cycle → (Happens p quantised samples → ⊥) → ⊥
-cycled_by p samples quantised cycle e h never = subst (λ q. (Happens q quantised samples → ⊥) → ⊥) (sym e) (λ n. n (cycle_cycles quantised samples cycle h)) never
+cycled_by : (p : RunProperty) (samples : ℕ) (quantised : QuantisedView) (cycle : Cycle) → p ≡ run.LimitCycle → IsCycle (of_controller quantised) samples cycle → (Happens p (of_controller quantised) samples → ⊥) → ⊥
+cycled_by p samples quantised cycle e h never = subst (λ q. (Happens q (of_controller quantised) samples → ⊥) → ⊥) (sym e) (λ n. n (cycle_cycles (behaviour_of (equations_of quantised)) samples cycle h)) never
 
 two_properties : (p : RunProperty) → p ≡ run.Overflow → p ≡ run.LimitCycle → ⊥
 two_properties p e f = cc
 
-one_search : (p : RunProperty) (samples conflicts : ℕ) (quantised : QuantisedView) (a b : Outcome) → IsSettled a → IsSettled b → IsOfSearch p samples conflicts quantised a → IsOfSearch p samples conflicts quantised b → SameAnswer a b
+one_search : (p : RunProperty) (samples conflicts : ℕ) (quantised : QuantisedView) (a b : Outcome) → IsSettled a → IsSettled b → IsOfSearch p samples conflicts (of_controller quantised) a → IsOfSearch p samples conflicts (of_controller quantised) b → SameAnswer a b
 one_search p n c quantised (Ok (answer.Never l)) (Ok (answer.Never m)) x y h k = tt
 one_search p n c quantised (Ok (answer.Never l)) (Ok (answer.Overflow t)) x y h k = absurd (broken_by p n quantised t k.0 k.2 h.never)
 one_search p n c quantised (Ok (answer.Never l)) (Ok (answer.Cycles z)) x y h k = absurd (cycled_by p n quantised z k.0 k.2 h.never)
-one_search p n c quantised (Ok (answer.Never l)) (Err (stop.JobSize s)) x y h k = absurd (within_or_large (job_size_of quantised n) s most_size h.within k.size_of k.large)
+one_search p n c quantised (Ok (answer.Never l)) (Err (stop.JobSize s)) x y h k = absurd (within_or_large (job_size_of (of_controller quantised) n) s most_size h.within k.size_of k.large)
 one_search p n c quantised (Ok (answer.Never l)) (Err stop.NoMemory) x y h k = absurd y
 one_search p n c quantised (Ok (answer.Never l)) (Ok (answer.Spent m)) x y h k = absurd y
 one_search p n c quantised (Ok (answer.Never l)) b x y h k = absurd k
 one_search p n c quantised (Ok (answer.Overflow t)) (Ok (answer.Overflow u)) x y h k = tt
 one_search p n c quantised (Ok (answer.Overflow t)) (Ok (answer.Never m)) x y h k = absurd (broken_by p n quantised t h.0 h.2 k.never)
 one_search p n c quantised (Ok (answer.Overflow t)) (Ok (answer.Cycles z)) x y h k = absurd (two_properties p h.0 k.0)
-one_search p n c quantised (Ok (answer.Overflow t)) (Err (stop.JobSize s)) x y h k = absurd (within_or_large (job_size_of quantised n) s most_size h.1 k.size_of k.large)
+one_search p n c quantised (Ok (answer.Overflow t)) (Err (stop.JobSize s)) x y h k = absurd (within_or_large (job_size_of (of_controller quantised) n) s most_size h.1 k.size_of k.large)
 one_search p n c quantised (Ok (answer.Overflow t)) (Err stop.NoMemory) x y h k = absurd y
 one_search p n c quantised (Ok (answer.Overflow t)) (Ok (answer.Spent m)) x y h k = absurd y
 one_search p n c quantised (Ok (answer.Overflow t)) b x y h k = absurd k
 one_search p n c quantised (Ok (answer.Cycles z)) (Ok (answer.Cycles w)) x y h k = tt
 one_search p n c quantised (Ok (answer.Cycles z)) (Ok (answer.Never m)) x y h k = absurd (cycled_by p n quantised z h.0 h.2 k.never)
 one_search p n c quantised (Ok (answer.Cycles z)) (Ok (answer.Overflow t)) x y h k = absurd (two_properties p k.0 h.0)
-one_search p n c quantised (Ok (answer.Cycles z)) (Err (stop.JobSize s)) x y h k = absurd (within_or_large (job_size_of quantised n) s most_size h.1 k.size_of k.large)
+one_search p n c quantised (Ok (answer.Cycles z)) (Err (stop.JobSize s)) x y h k = absurd (within_or_large (job_size_of (of_controller quantised) n) s most_size h.1 k.size_of k.large)
 one_search p n c quantised (Ok (answer.Cycles z)) (Err stop.NoMemory) x y h k = absurd y
 one_search p n c quantised (Ok (answer.Cycles z)) (Ok (answer.Spent m)) x y h k = absurd y
 one_search p n c quantised (Ok (answer.Cycles z)) b x y h k = absurd k
 one_search p n c quantised (Err (stop.JobSize s)) (Err (stop.JobSize t)) x y h k = one_size n quantised s t h k
-one_search p n c quantised (Err (stop.JobSize s)) (Ok (answer.Never m)) x y h k = absurd (within_or_large (job_size_of quantised n) s most_size k.within h.size_of h.large)
-one_search p n c quantised (Err (stop.JobSize s)) (Ok (answer.Overflow t)) x y h k = absurd (within_or_large (job_size_of quantised n) s most_size k.1 h.size_of h.large)
-one_search p n c quantised (Err (stop.JobSize s)) (Ok (answer.Cycles z)) x y h k = absurd (within_or_large (job_size_of quantised n) s most_size k.1 h.size_of h.large)
+one_search p n c quantised (Err (stop.JobSize s)) (Ok (answer.Never m)) x y h k = absurd (within_or_large (job_size_of (of_controller quantised) n) s most_size k.within h.size_of h.large)
+one_search p n c quantised (Err (stop.JobSize s)) (Ok (answer.Overflow t)) x y h k = absurd (within_or_large (job_size_of (of_controller quantised) n) s most_size k.1 h.size_of h.large)
+one_search p n c quantised (Err (stop.JobSize s)) (Ok (answer.Cycles z)) x y h k = absurd (within_or_large (job_size_of (of_controller quantised) n) s most_size k.1 h.size_of h.large)
 one_search p n c quantised (Err (stop.JobSize s)) (Err stop.NoMemory) x y h k = absurd y
 one_search p n c quantised (Err (stop.JobSize s)) (Ok (answer.Spent m)) x y h k = absurd y
 one_search p n c quantised (Err (stop.JobSize s)) b x y h k = absurd k
@@ -315,22 +319,22 @@ safe_or_deep found g e f = cc
 left_or_deep : (found : Outlook) (sample value : ℕ) → found ≡ outlook.Leaves sample value → found ≡ outlook.Deep → ⊥
 left_or_deep found sample value e f = cc
 
-one_gain : (quantised : QuantisedView) (a b : Outcome) → IsSettled a → IsSettled b → IsOfGain quantised a → IsOfGain quantised b → SameAnswer a b
-one_gain quantised (Ok (answer.InRanges g b)) (Ok (answer.InRanges h c)) x y e f = one_gain_of (outlook_of quantised most_gain_samples) g h e.0.found f.0.found
-one_gain quantised (Ok (answer.InRanges g b)) (Ok (answer.Overflow t)) x y e f = absurd (safe_or_left (outlook_of quantised most_gain_samples) g f.sample f.value e.0.found f.left)
+one_gain : (quantised : QuantisedView) (a b : Outcome) → IsSettled a → IsSettled b → IsOfGain (IsErrorOf quantised) (of_controller quantised) a → IsOfGain (IsErrorOf quantised) (of_controller quantised) b → SameAnswer a b
+one_gain quantised (Ok (answer.InRanges g b)) (Ok (answer.InRanges h c)) x y e f = one_gain_of (outlook_of (of_controller quantised) most_gain_samples) g h e.0.found f.0.found
+one_gain quantised (Ok (answer.InRanges g b)) (Ok (answer.Overflow t)) x y e f = absurd (safe_or_left (outlook_of (of_controller quantised) most_gain_samples) g f.sample f.value e.0.found f.left)
 one_gain quantised (Ok (answer.InRanges g b)) (Ok (answer.OutOfRange sample value)) x y e f = absurd y
-one_gain quantised (Ok (answer.InRanges g b)) (Ok (answer.TooDeep d)) x y e f = absurd (safe_or_deep (outlook_of quantised most_gain_samples) g e.0.found f.1)
+one_gain quantised (Ok (answer.InRanges g b)) (Ok (answer.TooDeep d)) x y e f = absurd (safe_or_deep (outlook_of (of_controller quantised) most_gain_samples) g e.0.found f.1)
 one_gain quantised (Ok (answer.InRanges g b)) (Err stop.NoMemory) x y e f = absurd y
 one_gain quantised (Ok (answer.InRanges g c)) b x y e f = absurd f
 one_gain quantised (Ok (answer.Overflow t)) (Ok (answer.Overflow u)) x y e f = tt
-one_gain quantised (Ok (answer.Overflow t)) (Ok (answer.InRanges h b)) x y e f = absurd (safe_or_left (outlook_of quantised most_gain_samples) h e.sample e.value f.0.found e.left)
+one_gain quantised (Ok (answer.Overflow t)) (Ok (answer.InRanges h b)) x y e f = absurd (safe_or_left (outlook_of (of_controller quantised) most_gain_samples) h e.sample e.value f.0.found e.left)
 one_gain quantised (Ok (answer.Overflow t)) (Ok (answer.OutOfRange sample value)) x y e f = absurd y
-one_gain quantised (Ok (answer.Overflow t)) (Ok (answer.TooDeep d)) x y e f = absurd (left_or_deep (outlook_of quantised most_gain_samples) e.sample e.value e.left f.1)
+one_gain quantised (Ok (answer.Overflow t)) (Ok (answer.TooDeep d)) x y e f = absurd (left_or_deep (outlook_of (of_controller quantised) most_gain_samples) e.sample e.value e.left f.1)
 one_gain quantised (Ok (answer.Overflow t)) (Err stop.NoMemory) x y e f = absurd y
 one_gain quantised (Ok (answer.Overflow t)) b x y e f = absurd f
 one_gain quantised (Ok (answer.TooDeep c)) (Ok (answer.TooDeep d)) x y e f = ap (λ it. Ok (answer.TooDeep it)) (e.0 ∙ sym f.0)
-one_gain quantised (Ok (answer.TooDeep c)) (Ok (answer.InRanges h b)) x y e f = absurd (safe_or_deep (outlook_of quantised most_gain_samples) h f.0.found e.1)
-one_gain quantised (Ok (answer.TooDeep c)) (Ok (answer.Overflow u)) x y e f = absurd (left_or_deep (outlook_of quantised most_gain_samples) f.sample f.value f.left e.1)
+one_gain quantised (Ok (answer.TooDeep c)) (Ok (answer.InRanges h b)) x y e f = absurd (safe_or_deep (outlook_of (of_controller quantised) most_gain_samples) h f.0.found e.1)
+one_gain quantised (Ok (answer.TooDeep c)) (Ok (answer.Overflow u)) x y e f = absurd (left_or_deep (outlook_of (of_controller quantised) most_gain_samples) f.sample f.value f.left e.1)
 one_gain quantised (Ok (answer.TooDeep c)) (Ok (answer.OutOfRange sample value)) x y e f = absurd y
 one_gain quantised (Ok (answer.TooDeep c)) (Err stop.NoMemory) x y e f = absurd y
 one_gain quantised (Ok (answer.TooDeep c)) b x y e f = absurd f
@@ -342,11 +346,11 @@ one_gain quantised a b x y e f = absurd e
 abbrev pub IsAnswerTo : ControllerView → Task → QuantisedView → Outcome → Type 0
 IsAnswerTo c (decides p sc) quantised found = Leads (tested_of quantised (side_of p)) found
 IsAnswerTo c checks_time quantised found = IsOfTiming c quantised found
-IsAnswerTo c (writes p samples) quantised found = IsOfFormula p samples quantised found
-IsAnswerTo c (searches p samples conflicts) quantised found = IsOfSearch p samples conflicts quantised found
+IsAnswerTo c (writes p samples) quantised found = IsOfFormula p samples (of_controller quantised) found
+IsAnswerTo c (searches p samples conflicts) quantised found = IsOfSearch p samples conflicts (of_controller quantised) found
 IsAnswerTo c (seeks_set conflicts) quantised found = IsOfSets conflicts quantised found
-IsAnswerTo c measures_gain quantised found = IsOfGain quantised found
-IsAnswerTo c (simulates inputs) quantised found = IsOfRun quantised inputs found
+IsAnswerTo c measures_gain quantised found = IsOfGain (IsErrorOf quantised) (of_controller quantised) found
+IsAnswerTo c (simulates inputs) quantised found = IsOfRun (of_controller quantised) inputs found
 
 pub one_task : (c : ControllerView) (task : Task) (quantised : QuantisedView) (a b : Outcome) → IsSettled a → IsSettled b → IsAnswerTo c task quantised a → IsAnswerTo c task quantised b → SameAnswer a b
 one_task e (decides p sc) quantised a b x y h k = one_decision (tested_of quantised (side_of p)) a b x y h k

@@ -14,7 +14,6 @@ use Rattle.dsv_realise.specs.Netlists.{net_of}
 use Rattle.dsv_realise.proofs.Runs.{runs_alike}
 use Rattle.dsv_roundoff.specs.declared.offers.RoundoffOffer.{RoundoffOffer}
 use Rattle.dsv_roundoff.specs.declared.offers.WordRange.{WordRange}
-use Rattle.dsv_gain.specs.Controllers.{HoldAlways}
 use Rattle.dsv_gain.specs.Errors.{error_of}
 use Rattle.dsv_gain.specs.Near.{HasWords, StaysNear}
 use Rattle.dsv_gain.specs.declared.roundoff.ErrorBound.{ErrorBound}
@@ -28,6 +27,8 @@ use Rattle.dsv_report.specs.Output.{offer_in}
 use Rattle.dsv_report.specs.declared.answers.OutputError.{OutputError}
 use Rattle.dsv_report.specs.declared.answers.OutputError.TheVariants as error
 use Rattle.dsv_cli.specs.Gain.{most_gain_samples, IsBoundOf, IsErrorOf}
+use Rattle.dsv_gain.specs.Subjects.{HoldsAlways}
+use Rattle.dsv_realise.specs.Controllers.{of_controller}
 
 -- ---- an offer's numbers
 entry_of : (f : Format) (z : ℤ) → IsWord f z → IsEntry z
@@ -57,7 +58,7 @@ offer_is q offer r z e l =
     }
 
 -- ---- what is found
-bound_is : (q : QuantisedView) (ranges : List Range) (bound : ErrorBound) → IsQuantisedView q → HoldAlways q ranges → error_of (net_of q) bound.offer ≡ Some bound.output
+bound_is : (q : QuantisedView) (ranges : List Range) (bound : ErrorBound) → IsQuantisedView q → HoldsAlways (of_controller q) ranges → error_of (net_of q) bound.offer ≡ Some bound.output
     → StaysNear q bound.output → bound.offer.depth < most_gain_samples → IsBoundOf q bound
 bound_is q ranges bound z h e n l = record {
   shown = e;
@@ -66,7 +67,7 @@ bound_is q ranges bound z h e n l = record {
 }
 
 -- the same of what may be found
-pub bound_by : (q : QuantisedView) (ranges : List Range) (found : Option ErrorBound) (bound : ErrorBound) → found ≡ Some bound → IsQuantisedView q → HoldAlways q ranges
+pub bound_by : (q : QuantisedView) (ranges : List Range) (found : Option ErrorBound) (bound : ErrorBound) → found ≡ Some bound → IsQuantisedView q → HoldsAlways (of_controller q) ranges
     → IfSome found (λ it. error_of (net_of q) it.offer ≡ Some it.output) → IfSome found (λ it. StaysNear q it.output) → IfSome found (λ it. it.offer.depth < most_gain_samples) → IsBoundOf q bound
 bound_by q ranges found bound e z h shown near within = bound_is q ranges bound z h (rw e at shown) (rw e at near) (rw e at within)
 

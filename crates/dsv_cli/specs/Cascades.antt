@@ -1,7 +1,6 @@
 -- What a run answers to a job for a cascade: a table of its own, one row for each answer.
 use Rattle.std.specs.Prelude.{◌≡◌, ◌<◌, ◌≤◌, ◌+◌, ℕ, suc, List, [], ◌∷◌, length, take, slice_get}
-use Rattle.std.specs.Prelude.{true, false, Some, Ok, Err, ℤ}
-use Rattle.std.specs.List.{All}
+use Rattle.std.specs.Prelude.{true, false, Some, Ok, Err}
 use Rattle.dsv_base.specs.Counts.{Rose}
 use Rattle.dsv_base.specs.Seen.{FilesSeen}
 use Rattle.dsv_names.specs.declared.design.Design.{Design}
@@ -10,35 +9,23 @@ use Rattle.dsv_reader.specs.Texts.{IsFaultOf}
 use Rattle.dsv_token.specs.declared.refusal.FileRefusal.TheVariants as text
 use Rattle.dsv_quantiser.specs.QuantisedView.{QuantisedView}
 use Rattle.dsv_quantiser.specs.Modes.{BecomesWords}
-use Rattle.dsv_word.specs.Words.{IsWord}
-use Rattle.dsv_system.specs.Runs.{SampleRow}
-use Rattle.dsv_system.specs.Systems.{rows, zeros}
-use Rattle.dsv_hints.specs.Lessons.{IsRefutation, IsSpent}
-use Rattle.dsv_hints.specs.declared.step.Step.{Step}
-use Rattle.dsv_unroll.specs.Goals.{most_size}
-use Rattle.dsv_gain.specs.Controllers.{most_driven}
-use Rattle.dsv_gain.specs.declared.outlook.Gain.{Gain}
-use Rattle.dsv_gain.specs.declared.outlook.Outlook.TheVariants as outlook
-use Rattle.dsv_meaning.specs.declared.replays.Trace.{Trace}
-use Rattle.dsv_cascade.specs.Cascades.{CascadeView, sections_of, cascade_of}
+use Rattle.dsv_cascade.specs.Cascades.{CascadeView, sections_of}
 use Rattle.dsv_cascade.specs.Sections.{IsCascade, IsRefused}
-use Rattle.dsv_cascade.specs.Sizes.{cascade_job_size_of}
 use Rattle.dsv_cascade.specs.Stability.{AreJudged}
-use Rattle.dsv_cascade.specs.Verdicts.{CascadeBreaksWithin, IsCascadeTrace}
-use Rattle.dsv_cascade.specs.Verdicts.{cascade_formula_of, cascade_outlook_of}
-use Rattle.dsv_cascade.specs.Verdicts.{CascadeHoldsAlways, CascadeNeverOverflows}
 use Rattle.dsv_command.specs.Cascades.{CascadeTask, decides_stability, searches_overflow}
 use Rattle.dsv_command.specs.Cascades.{measures_series, simulates_series, AskedCascade}
 use Rattle.dsv_poly_table.specs.Sections.{AreTabled}
 use Rattle.dsv_report.specs.declared.answers.Answer.TheVariants as answer
-use Rattle.dsv_report.specs.declared.answers.OutputError.TheVariants as output_error
 use Rattle.dsv_report.specs.declared.stop.Stop.{Stop}
 use Rattle.dsv_report.specs.declared.stop.Stop.TheVariants as stop
 use Rattle.dsv_report.specs.declared.stop.WhichFile.TheVariants as file
 use Rattle.dsv_report.specs.Stops.{Outcome}
-use Rattle.dsv_cli.specs.Gain.{most_gain_samples}
 use Rattle.dsv_cli.specs.Headline.{longest_file, CameOf, IsController, IsUnread}
-use Rattle.dsv_cli.specs.Simulating.{IsFirstOutside}
+use Rattle.dsv_cascade.specs.Subjects.{of_cascade}
+use Rattle.dsv_names.specs.declared.property.RunProperty.TheVariants as run
+use Rattle.dsv_cli.specs.Gain.{IsNotSought, IsOfGain}
+use Rattle.dsv_cli.specs.Searching.{IsOfSearch}
+use Rattle.dsv_cli.specs.Simulating.{IsOfRun}
 
 -- each of one list stands so to that at its place in the other, and they are as long
 abbrev pub Pairwise : {A B : Type 0} → (A → B → Type 0) → List A → List B → Type 0
@@ -119,62 +106,18 @@ pub record IsCascadeOf (old : FilesSeen) (file : List ℕ) (names : List (List �
   pub cascade : IsCascade c
 
 -- ---- what the tasks come to
--- the job over so many samples is no larger than what is asked of formulas
-abbrev pub IsWithinSize : CascadeView → ℕ → Type 0
-IsWithinSize c samples = cascade_job_size_of c samples ≤ most_size
-
--- No list of so many inputs breaks the cascade, and the log derives the empty clause from the
--- question's formula.
-pub record CascadeNever (c : CascadeView) (samples conflicts : ℕ) (log : List Step) : Type 0 where
-  pub within : IsWithinSize c samples
-  pub never : CascadeBreaksWithin c samples → ⊥
-  pub refuted : IsRefutation (cascade_formula_of c samples) conflicts log
-
--- The gain is what is found of the most samples that are looked at: in every run each exact value
--- lies in its range, whose ends are words.
-pub record IsCascadeGain (c : CascadeView) (gain : Gain) : Type 0 where
-  pub found : cascade_outlook_of c most_gain_samples ≡ outlook.Safe gain
-  pub holds : CascadeHoldsAlways c gain.ranges
-  pub never : CascadeNeverOverflows c
-
--- Some range leaves the words, and the trace replays in the cascade.
-pub record IsCascadeBreak (c : CascadeView) (trace : Trace) : Type 0 where
-  pub sample : ℕ
-  pub value : ℕ
-  pub left : cascade_outlook_of c most_gain_samples ≡ outlook.Leaves sample value
-  pub replays : IsCascadeTrace c most_driven trace
-
--- All inputs are words, and these are the cascade's rows over them, from registers of zeros.
-pub record IsCascadeRun (c : CascadeView) (inputs : List ℤ) (found : List SampleRow) : Type 0 where
-  pub inputs_are_words : All (IsWord c.first.format) inputs
-  pub rows : found ≡ rows (cascade_of c) (zeros (cascade_of c).many) inputs
-
 -- what a task comes to for a cascade
 abbrev pub IsOfSeries : CascadeTask → CascadeView → Outcome → Type 0
 IsOfSeries (decides_stability false) c (Ok (answer.OfSections found)) =
     AreJudged (sections_of c) found
 IsOfSeries (decides_stability true) c (Ok (answer.OfSectionTables found)) =
     AreTabled (sections_of c) found
-IsOfSeries (searches_overflow samples conflicts) c (Ok (answer.Never log)) =
-    CascadeNever c samples conflicts log
-IsOfSeries (searches_overflow samples conflicts) c (Ok (answer.Overflow trace)) =
-    IsWithinSize c samples × IsCascadeTrace c samples trace
-IsOfSeries (searches_overflow samples conflicts) c (Ok (answer.Spent log)) =
-    IsWithinSize c samples × IsSpent (cascade_formula_of c samples) conflicts log
-IsOfSeries (searches_overflow samples conflicts) c (Err (stop.JobSize size)) =
-    (size ≡ cascade_job_size_of c samples) × (most_size < size)
-IsOfSeries measures_series c (Ok (answer.InRanges gain error)) =
-    IsCascadeGain c gain × (error ≡ output_error.NotSought)
-IsOfSeries measures_series c (Ok (answer.Overflow trace)) = IsCascadeBreak c trace
-IsOfSeries measures_series c (Ok (answer.OutOfRange sample value)) =
-    cascade_outlook_of c most_gain_samples ≡ outlook.Leaves sample value
-IsOfSeries measures_series c (Ok (answer.TooDeep depth)) = (depth ≡ most_gain_samples)
-    × (cascade_outlook_of c most_gain_samples ≡ outlook.Deep)
-IsOfSeries (simulates_series inputs) c (Ok (answer.Simulated found)) = IsCascadeRun c inputs found
-IsOfSeries (simulates_series inputs) c (Err (stop.InputRange index value)) =
-    IsFirstOutside c.first.format inputs index value
-IsOfSeries task c (Err stop.NoMemory) = Unit {0}
-IsOfSeries task c other = ⊥
+IsOfSeries (decides_stability by_tables) c (Err stop.NoMemory) = Unit {0}
+IsOfSeries (decides_stability by_tables) c other = ⊥
+IsOfSeries (searches_overflow samples conflicts) c found =
+    IsOfSearch run.Overflow samples conflicts (of_cascade c) found
+IsOfSeries measures_series c found = IsOfGain IsNotSought (of_cascade c) found
+IsOfSeries (simulates_series inputs) c found = IsOfRun (of_cascade c) inputs found
 
 -- ---- the table
 -- the task of a job came to this for the cascade of its files

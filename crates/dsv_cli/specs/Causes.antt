@@ -1,8 +1,6 @@
 -- The stages of a run and what each gives; private contracts alone cite it. `Headline` has the
 -- table that they lead to.
 use Rattle.std.specs.Prelude.{◌≡◌, ◌≤◌, ℕ, Bool, true, false, List, Ok, Err, ℤ}
-use Rattle.dsv_names.specs.declared.property.RunProperty.{RunProperty}
-use Rattle.dsv_names.specs.declared.property.RunProperty.TheVariants as run
 use Rattle.dsv_names.specs.declared.property.RootProperty.{RootProperty}
 use Rattle.dsv_names.specs.declared.property.RootProperty.TheVariants as property
 use Rattle.dsv_reader.specs.Controllers.{ControllerView}
@@ -16,15 +14,17 @@ use Rattle.dsv_report.specs.declared.stop.Stop.TheVariants as stop
 use Rattle.dsv_report.specs.Printing.{FormsHavePlaces}
 use Rattle.dsv_report.specs.Stops.{Outcome}
 use Rattle.dsv_cli.specs.Headline.{ShowsFall, ShowsKeptAway, ShowsNoForm, ShowsTable}
-use Rattle.dsv_bounded.specs.Verdicts.{IsCycle}
-use Rattle.dsv_meaning.specs.Traces.{IsTrace}
-use Rattle.dsv_bounded.specs.RunQuestions.{IsWithin}
-use Rattle.dsv_bounded.specs.RunAnswers.{NeverHappens, GaveUp, IsFormulaOf, IsTooLarge}
+use Rattle.dsv_bounded.specs.RunAnswers.{IsTooLarge}
 use Rattle.dsv_invariant.specs.Limits.{unbounded_samples}
-use Rattle.dsv_cli.specs.Gain.{IsOfGain}
+use Rattle.dsv_cli.specs.Gain.{IsBreakOf, IsErrorOf, IsOfGain, most_gain_samples}
+use Rattle.dsv_gain.specs.Subjects.{outlook_of}
+use Rattle.dsv_gain.specs.declared.outlook.Outlook.TheVariants as outlook
+use Rattle.dsv_realise.specs.SubjectView.{SubjectView}
+use Rattle.dsv_cli.specs.Searching.{IsOfFormula, IsOfSearch}
 use Rattle.dsv_cli.specs.Sets.{KeepsTo, NoneIsGood}
-use Rattle.dsv_cli.specs.Simulating.{IsRunOver, IsFirstOutside}
+use Rattle.dsv_cli.specs.Simulating.{IsOfRun}
 use Rattle.dsv_cli.specs.Timing.{IsTimingOf, IsOnTime}
+use Rattle.dsv_realise.specs.Controllers.{of_controller}
 
 -- the answer that decides a polynomial, by its table at last if the flag is set
 abbrev pub IsDecision : Bool → List ℤ → Outcome → Type 0
@@ -55,43 +55,20 @@ IsOfProperty of_property schur_cohn q (Ok (answer.Wide index)) =
     tested_of q (side_of of_property) ≡ Err (record { index = index })
 IsOfProperty of_property schur_cohn q found = IsOfPolynomial of_property schur_cohn q found
 
--- the controller's run over these inputs, or the first of them that is no word
-abbrev pub IsOfRun : QuantisedView → List ℤ → Outcome → Type 0
-IsOfRun q inputs (Ok (answer.Simulated found)) = IsRunOver q inputs found
-IsOfRun q inputs (Err (stop.InputRange index value)) =
-    IsFirstOutside q.format inputs index value
-IsOfRun q inputs (Err stop.NoMemory) = Unit {0}
-IsOfRun q inputs other = ⊥
-
--- the formula of a question about runs
-abbrev pub IsOfFormula : RunProperty → ℕ → QuantisedView → Outcome → Type 0
-IsOfFormula of_property samples q (Ok (answer.FormulaText formula)) =
-    IsFormulaOf of_property samples q formula
-IsOfFormula of_property samples q (Err (stop.JobSize size)) = IsTooLarge samples q size
-IsOfFormula of_property samples q (Err stop.NoMemory) = Unit {0}
-IsOfFormula of_property samples q other = ⊥
-
--- the answer to a question about runs, by a search
-abbrev pub IsOfSearch : RunProperty → ℕ → ℕ → QuantisedView → Outcome → Type 0
-IsOfSearch of_property samples conflicts q (Ok (answer.Never log)) =
-    NeverHappens of_property samples conflicts q log
-IsOfSearch of_property samples conflicts q (Ok (answer.Overflow trace)) =
-    (of_property ≡ run.Overflow) × IsWithin q samples × IsTrace q samples trace
-IsOfSearch of_property samples conflicts q (Ok (answer.Cycles cycle)) =
-    (of_property ≡ run.LimitCycle) × IsWithin q samples × IsCycle q samples cycle
-IsOfSearch of_property samples conflicts q (Ok (answer.Spent log)) =
-    GaveUp of_property samples conflicts q log
-IsOfSearch of_property samples conflicts q (Err (stop.JobSize size)) =
-    IsTooLarge samples q size
-IsOfSearch of_property samples conflicts q (Err stop.NoMemory) = Unit {0}
-IsOfSearch of_property samples conflicts q other = ⊥
+-- some range leaves the words: a trace breaks the subject, or none that was tried does
+abbrev pub IsOfLeft : SubjectView → Outcome → Type 0
+IsOfLeft s (Ok (answer.Overflow trace)) = IsBreakOf s trace
+IsOfLeft s (Ok (answer.OutOfRange sample value)) =
+    outlook_of s most_gain_samples ≡ outlook.Leaves sample value
+IsOfLeft s (Err stop.NoMemory) = Unit {0}
+IsOfLeft s other = ⊥
 
 -- the answer on runs of any length, by what proposers offer
 abbrev pub IsOfSets : ℕ → QuantisedView → Outcome → Type 0
 IsOfSets conflicts q (Ok (answer.Always candidate logs)) =
     KeepsTo q conflicts candidate logs
 IsOfSets conflicts q (Ok (answer.NoInvariant kept)) = NoneIsGood q conflicts kept
-IsOfSets conflicts q (Err (stop.JobSize size)) = IsTooLarge unbounded_samples q size
+IsOfSets conflicts q (Err (stop.JobSize size)) = IsTooLarge unbounded_samples (of_controller q) size
 IsOfSets conflicts q (Err stop.NoMemory) = Unit {0}
 IsOfSets conflicts q other = ⊥
 
@@ -106,12 +83,13 @@ IsOfTiming c q other = ⊥
 abbrev pub IsOfTask : ControllerView → Task → QuantisedView → Outcome → Type 0
 IsOfTask c (decides of_property schur_cohn) q found = IsOfProperty of_property schur_cohn q found
 IsOfTask c checks_time q found = IsOfTiming c q found
-IsOfTask c (writes of_property samples) q found = IsOfFormula of_property samples q found
+IsOfTask c (writes of_property samples) q found =
+    IsOfFormula of_property samples (of_controller q) found
 IsOfTask c (searches of_property samples conflicts) q found =
-    IsOfSearch of_property samples conflicts q found
+    IsOfSearch of_property samples conflicts (of_controller q) found
 IsOfTask c (seeks_set conflicts) q found = IsOfSets conflicts q found
-IsOfTask c measures_gain q found = IsOfGain q found
-IsOfTask c (simulates inputs) q found = IsOfRun q inputs found
+IsOfTask c measures_gain q found = IsOfGain (IsErrorOf q) (of_controller q) found
+IsOfTask c (simulates inputs) q found = IsOfRun (of_controller q) inputs found
 
 -- the answer needs no proposer, and the forms in it have at most eight places
 abbrev pub IsPlain : Outcome → Type 0

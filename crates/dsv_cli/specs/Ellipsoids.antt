@@ -21,6 +21,7 @@ use Rattle.dsv_report.specs.declared.stop.WhichFile.TheVariants as file
 use Rattle.dsv_report.specs.Stops.{Outcome}
 use Rattle.dsv_cli.specs.Cascades.{IsFileOf}
 use Rattle.dsv_cli.specs.Headline.{longest_certificate, CameOf, IsUnread}
+use Rattle.dsv_realise.specs.Controllers.{of_controller}
 
 -- ---- the offer
 -- The bytes spell this ellipsoid.
@@ -57,18 +58,19 @@ pub record ShowsEllipsoid (q : QuantisedView) (offer : Ellipsoid) : Type 0 where
 -- the answer for an ellipsoid that is offered
 abbrev pub IsOfOffer : Ellipsoid → QuantisedView → Outcome → Type 0
 IsOfOffer offer q (Ok (answer.InEllipsoid found)) =
-    (found ≡ offer) × IsWithin q unbounded_samples × ShowsEllipsoid q offer
+    (found ≡ offer) × IsWithin (of_controller q) unbounded_samples × ShowsEllipsoid q offer
 IsOfOffer offer q (Err (stop.EllipsoidRefused r)) =
-    IsWithin q unbounded_samples × (ellipsoid_refusal q offer ≡ Some r)
-IsOfOffer offer q (Err (stop.JobSize size)) = IsTooLarge unbounded_samples q size
+    IsWithin (of_controller q) unbounded_samples × (ellipsoid_refusal q offer ≡ Some r)
+IsOfOffer offer q (Err (stop.JobSize size)) = IsTooLarge unbounded_samples (of_controller q) size
 IsOfOffer offer q other = ⊥
 
 -- the answer where one is to be found; that none was found says nothing of the controller
 abbrev pub IsOfSoughtEllipsoid : QuantisedView → Outcome → Type 0
 IsOfSoughtEllipsoid q (Ok (answer.FoundEllipsoid offer)) =
-    IsWithin q unbounded_samples × ShowsEllipsoid q offer
-IsOfSoughtEllipsoid q (Ok answer.NoEllipsoid) = IsWithin q unbounded_samples
-IsOfSoughtEllipsoid q (Err (stop.JobSize size)) = IsTooLarge unbounded_samples q size
+    IsWithin (of_controller q) unbounded_samples × ShowsEllipsoid q offer
+IsOfSoughtEllipsoid q (Ok answer.NoEllipsoid) = IsWithin (of_controller q) unbounded_samples
+IsOfSoughtEllipsoid q (Err (stop.JobSize size)) =
+    IsTooLarge unbounded_samples (of_controller q) size
 IsOfSoughtEllipsoid q other = ⊥
 
 -- ---- the stages of a job

@@ -1,5 +1,5 @@
 -- What a run answers: a table, one row for each answer.
-use Rattle.std.specs.Prelude.{◌≡◌, ◌≢◌, ◌⊎◌, ℕ, ◌+◌, ◌-◌, ◌^◌, ◌<◌}
+use Rattle.std.specs.Prelude.{◌≡◌, ◌≢◌, ◌⊎◌, ℕ, ◌+◌, ◌^◌, ◌<◌}
 use Rattle.std.specs.Prelude.{
   ◌≤◌,
   Bool,
@@ -48,10 +48,10 @@ use Rattle.dsv_jury.specs.declared.verdict.Jury.{Jury}
 use Rattle.dsv_poly_table.specs.Recursion.{IsJuryShown}
 use Rattle.dsv_table.specs.Findings.{IsFinding}
 use Rattle.dsv_table.specs.declared.finding.TableFinding.{TableFinding}
-use Rattle.dsv_gain.specs.Controllers.{outlook_of}
 use Rattle.dsv_gain.specs.declared.outlook.Outlook.TheVariants as outlook
 use Rattle.dsv_gain.specs.declared.roundoff.ShownError.{ShownError}
 use Rattle.dsv_generator.specs.Tallies.{IsGeneratedFrom}
+use Rattle.dsv_generator.specs.Findings.{degree}
 use Rattle.dsv_lyapunov.specs.Kept.{AreRefused}
 use Rattle.dsv_lyapunov.specs.declared.kept.KeptForm.{KeptForm}
 use Rattle.dsv_command.specs.Jobs.{Task, decides, checks_time, writes, searches}
@@ -79,9 +79,7 @@ use Rattle.dsv_certcheck.specs.Checks.{IsChecked}
 use Rattle.dsv_certcheck.specs.Shown.{IsShownOf, IsNearOf}
 use Rattle.dsv_certcheck.specs.LineNumbers.{job_line_number}
 use Rattle.dsv_certcheck.specs.declared.check_refusal.CheckRefusal.TheVariants as refusal
-use Rattle.dsv_bounded.specs.Verdicts.{IsCycle}
-use Rattle.dsv_meaning.specs.Traces.{IsTrace}
-use Rattle.dsv_bounded.specs.RunQuestions.{IsWithin}
+use Rattle.dsv_bounded.specs.RunQuestions.{IsWithin, IsCycle}
 use Rattle.dsv_bounded.specs.RunAnswers.{NeverHappens, GaveUp, IsFormulaOf, IsTooLarge}
 use Rattle.dsv_cli.specs.Gain.{most_gain_samples, IsGainOf, IsErrorOf, IsBreakOf}
 use Rattle.dsv_cli.specs.Sets.{KeepsTo, NoneIsGood}
@@ -89,6 +87,9 @@ use Rattle.dsv_cli.specs.Simulating.{IsRunOver, IsFirstOutside}
 use Rattle.dsv_cli.specs.Timing.{IsTimingOf, IsOnTime}
 use Rattle.dsv_invariant.specs.Limits.{unbounded_samples}
 use Rattle.dsv_timing.specs.declared.work.TimingReport.{TimingReport}
+use Rattle.dsv_gain.specs.Subjects.{outlook_of}
+use Rattle.dsv_realise.specs.Runs.{IsTrace}
+use Rattle.dsv_realise.specs.Controllers.{of_controller}
 
 -- ---- the accepted job
 -- the most bytes that a controller file has
@@ -139,9 +140,6 @@ pub record IsTimed (job : Asked) (bytes : List ℕ) (report : TimingReport) : Ty
   pub quantised : QuantisedView
   pub accepted : IsAccepted job.design bytes (Ok quantised)
   pub timing : IsTimingOf accepted.controller quantised report
-
-abbrev pub degree : List ℤ → ℕ
-degree poly = length poly - 1
 
 -- the task runs the controller over these inputs
 abbrev pub Simulates : Task → List ℤ → Type 0
@@ -359,7 +357,7 @@ IsRow told old new job (Ok (answer.Never log)) =
     TableRow told (Searches job.task)
     (λ bytes. (property : RunProperty) × (samples : ℕ) × (conflicts : ℕ) × (q : QuantisedView)
     × IsSearch job bytes property samples conflicts q
-    × NeverHappens property samples conflicts q log)
+    × NeverHappens property samples conflicts (of_controller q) log)
     (Unit {0})
 IsRow told old new job (Ok (answer.Always candidate logs)) =
     TableRow told (Seeks job.task)
@@ -373,53 +371,55 @@ IsRow told old new job (Ok (answer.NoInvariant kept)) =
     (Unit {0})
 IsRow told old new job (Ok (answer.InRanges gain error)) =
     TableRow told (job.task ≡ measures_gain)
-    (λ bytes. (q : QuantisedView) × IsMeasuring job bytes q × IsGainOf q gain × IsErrorOf q error)
+    (λ bytes. (q : QuantisedView) × IsMeasuring job bytes q
+    × IsGainOf (of_controller q) gain × IsErrorOf q error)
     (Unit {0})
 IsRow told old new job (Ok (answer.OutOfRange sample value)) =
     TableRow told (job.task ≡ measures_gain)
     (λ bytes. (q : QuantisedView) × IsMeasuring job bytes q
-    × (outlook_of q most_gain_samples ≡ outlook.Leaves sample value))
+    × (outlook_of (of_controller q) most_gain_samples ≡ outlook.Leaves sample value))
     (Unit {0})
 IsRow told old new job (Ok (answer.TooDeep depth)) =
     TableRow told (job.task ≡ measures_gain)
     (λ bytes. (q : QuantisedView) × IsMeasuring job bytes q × (depth ≡ most_gain_samples)
-    × (outlook_of q most_gain_samples ≡ outlook.Deep))
+    × (outlook_of (of_controller q) most_gain_samples ≡ outlook.Deep))
     (Unit {0})
 IsRow told old new job (Ok (answer.Overflow trace)) =
     TableRow told (SearchesFor job.task run.Overflow)
     (λ bytes. (samples : ℕ) × (conflicts : ℕ) × (q : QuantisedView)
     × IsSearch job bytes run.Overflow samples conflicts q
-    × IsWithin q samples × IsTrace q samples trace)
+    × IsWithin (of_controller q) samples × IsTrace (of_controller q) samples trace)
     (Unit {0})
     ⊎ TableRow told (job.task ≡ measures_gain)
-    (λ bytes. (q : QuantisedView) × IsMeasuring job bytes q × IsBreakOf q trace) (Unit {0})
+    (λ bytes. (q : QuantisedView) × IsMeasuring job bytes q
+    × IsBreakOf (of_controller q) trace) (Unit {0})
 IsRow told old new job (Ok (answer.Cycles cycle)) =
     TableRow told (SearchesFor job.task run.LimitCycle)
     (λ bytes. (samples : ℕ) × (conflicts : ℕ) × (q : QuantisedView)
     × IsSearch job bytes run.LimitCycle samples conflicts q
-    × IsWithin q samples × IsCycle q samples cycle)
+    × IsWithin (of_controller q) samples × IsCycle (of_controller q) samples cycle)
     (Unit {0})
 IsRow told old new job (Ok (answer.Spent log)) =
     TableRow told (Searches job.task)
     (λ bytes. (property : RunProperty) × (samples : ℕ) × (conflicts : ℕ) × (q : QuantisedView)
     × IsSearch job bytes property samples conflicts q
-    × GaveUp property samples conflicts q log)
+    × GaveUp property samples conflicts (of_controller q) log)
     (Unit {0})
 IsRow told old new job (Ok (answer.FormulaText formula)) =
     TableRow told (Writes job.task)
     (λ bytes. (property : RunProperty) × (samples : ℕ) × (q : QuantisedView)
     × IsWriting job bytes property samples q
-    × IsFormulaOf property samples q formula)
+    × IsFormulaOf property samples (of_controller q) formula)
     (Unit {0})
 IsRow told old new job (Ok (answer.Simulated found)) =
     TableRow told ((inputs : List ℤ) × Simulates job.task inputs)
     (λ bytes. (inputs : List ℤ) × (q : QuantisedView) × IsRun job bytes inputs q
-    × IsRunOver q inputs found)
+    × IsRunOver (of_controller q) inputs found)
     (Unit {0})
 IsRow told old new job (Err (stop.JobSize size)) =
     TableRow told (Searches job.task ⊎ (Writes job.task ⊎ Seeks job.task))
     (λ bytes. (samples : ℕ) × (q : QuantisedView) × AsksOver job bytes samples q
-    × IsTooLarge samples q size)
+    × IsTooLarge samples (of_controller q) size)
     (Unit {0})
 IsRow told old new job (Err (stop.InputRange index value)) =
     TableRow told ((inputs : List ℤ) × Simulates job.task inputs)

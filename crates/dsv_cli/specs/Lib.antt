@@ -17,6 +17,8 @@ pub mod LoopStages
 pub mod Loops
 pub mod OneAnswer
 pub mod Proposers
+pub mod RunTasks
+pub mod Searching
 pub mod SectionFiles
 pub mod SetAsking
 pub mod Sets

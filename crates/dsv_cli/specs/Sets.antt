@@ -16,12 +16,13 @@ use Rattle.dsv_invariant.specs.Shapes.{shape_of}
 use Rattle.dsv_invariant.specs.Limits.{unbounded_samples}
 use Rattle.dsv_cli.specs.Blocks.{AreBlocks}
 use Rattle.dsv_bounded.specs.RunQuestions.{IsWithin}
+use Rattle.dsv_realise.specs.Controllers.{of_controller}
 
 -- The controller is no larger than what is asked of formulas, and the candidate is good for it,
 -- which three logs show, each of a search with at most so many conflicts.
 pub record KeepsTo (q : QuantisedView) (conflicts : ℕ) (candidate : Candidate) (logs : ThreeLogs) :
     Type 0 where
-  pub within : IsWithin q unbounded_samples
+  pub within : IsWithin (of_controller q) unbounded_samples
   pub good : IsCause q conflicts candidate (why.Good logs)
 
 -- ---- where no set was found
@@ -37,7 +38,7 @@ pub record IsNotGood (q : QuantisedView) (conflicts : ℕ) (kept : KeptSet) : Ty
 -- The controller is no larger than what is asked of formulas, and each of these candidates has its
 -- cause, and none is good.
 pub record NoneIsGood (q : QuantisedView) (conflicts : ℕ) (kept : List KeptSet) : Type 0 where
-  pub within : IsWithin q unbounded_samples
+  pub within : IsWithin (of_controller q) unbounded_samples
   pub causes : All (IsNotGood q conflicts) kept
 
 -- ---- what proposers had to offer

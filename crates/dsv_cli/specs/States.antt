@@ -1,35 +1,16 @@
 -- What a run answers to a job for a state-space controller: a table of its own, one row for each
 -- answer.
-use Rattle.std.specs.Prelude.{◌≡◌, ◌⊎◌, ◌<◌, ◌≤◌, ◌+◌, ℕ, List, length, Some, None, Ok, Err, ℤ}
-use Rattle.std.specs.List.{All}
+use Rattle.std.specs.Prelude.{◌≡◌, ◌⊎◌, ◌<◌, ◌≤◌, ◌+◌, ℕ, List, length, Some, None, Ok, Err}
 use Rattle.dsv_base.specs.Counts.{Rose}
 use Rattle.dsv_base.specs.Seen.{FilesSeen}
-use Rattle.dsv_names.specs.declared.property.RunProperty.{RunProperty}
-use Rattle.dsv_names.specs.declared.property.RunProperty.TheVariants as run
-use Rattle.dsv_word.specs.Words.{IsWord}
-use Rattle.dsv_system.specs.Runs.{SampleRow}
-use Rattle.dsv_system.specs.Systems.{rows, zeros}
-use Rattle.dsv_cnf.specs.FormulaView.{FormulaView}
-use Rattle.dsv_hints.specs.Lessons.{IsRefutation, IsSpent}
-use Rattle.dsv_hints.specs.declared.step.Step.{Step}
-use Rattle.dsv_unroll.specs.Goals.{most_size}
 use Rattle.dsv_forms.specs.declared.offers.Falls.{Falls}
 use Rattle.dsv_forms.specs.declared.offers.Form.{Form}
-use Rattle.dsv_gain.specs.Controllers.{most_driven}
-use Rattle.dsv_gain.specs.declared.outlook.Gain.{Gain}
-use Rattle.dsv_gain.specs.declared.outlook.Outlook.TheVariants as outlook
-use Rattle.dsv_meaning.specs.declared.replays.Trace.{Trace}
 use Rattle.dsv_state_file.specs.Reading.{state_of}
 use Rattle.dsv_state_file.specs.StateFiles.{StateFileView}
 use Rattle.dsv_state_file.specs.StateTexts.{IsStateText}
-use Rattle.dsv_state_space.specs.Equations.{state_space_of, state_job_size_of}
 use Rattle.dsv_state_space.specs.Quantising.{BecomesStates}
 use Rattle.dsv_state_space.specs.StateForms.{FallsAlongStates, IsStateLoss, state_falls_refusal}
 use Rattle.dsv_state_space.specs.StateView.{StateView, states}
-use Rattle.dsv_state_space.specs.Verdicts.{StateBreaksWithin, IsStateTrace, state_formula_of}
-use Rattle.dsv_state_space.specs.Verdicts.{StateCyclesWithin, IsStateCycle}
-use Rattle.dsv_state_space.specs.Verdicts.{state_cycle_formula_of, state_outlook_of}
-use Rattle.dsv_state_space.specs.Verdicts.{StateHoldsAlways, StateNeverOverflows}
 use Rattle.dsv_certfile.specs.Words.{words_for}
 use Rattle.dsv_certfile.specs.declared.job.CertWords.{CertWords}
 use Rattle.dsv_certfile.specs.declared.job.CertWords.TheVariants as words
@@ -40,16 +21,17 @@ use Rattle.dsv_command.specs.States.{decides_states, measures_states, simulates_
 use Rattle.dsv_command.specs.States.{AskedStates}
 use Rattle.dsv_state_table.specs.StateFindings.{IsStateFinding}
 use Rattle.dsv_report.specs.declared.answers.Answer.TheVariants as answer
-use Rattle.dsv_report.specs.declared.answers.OutputError.TheVariants as output_error
 use Rattle.dsv_report.specs.declared.stop.CertificateFault.TheVariants as fault
 use Rattle.dsv_report.specs.declared.stop.Stop.{Stop}
 use Rattle.dsv_report.specs.declared.stop.Stop.TheVariants as stop
 use Rattle.dsv_report.specs.declared.stop.WhichFile.TheVariants as file
 use Rattle.dsv_report.specs.Stops.{Outcome}
 use Rattle.dsv_cli.specs.Checking.{IsUnreadCertificate}
-use Rattle.dsv_cli.specs.Gain.{most_gain_samples}
 use Rattle.dsv_cli.specs.Headline.{longest_file, CameOf, Spells}
-use Rattle.dsv_cli.specs.Simulating.{IsFirstOutside}
+use Rattle.dsv_state_space.specs.Subjects.{of_states}
+use Rattle.dsv_cli.specs.Gain.{IsNotSought, IsOfGain}
+use Rattle.dsv_cli.specs.Searching.{IsOfSearch}
+use Rattle.dsv_cli.specs.Simulating.{IsOfRun}
 
 -- ---- the file
 -- The bytes are the text of this state-space controller.
@@ -73,84 +55,6 @@ IsStatesUnread old new name (stop.ReadFault file.Controller) =
     Rose old.faults new.faults × (new.blamed ≡ Some name)
 IsStatesUnread old new name stop.NoMemory = Unit {0}
 IsStatesUnread old new name other = ⊥
-
--- ---- questions about runs
--- the property happens within so many samples
-abbrev pub StatesHappen : RunProperty → StateView → ℕ → Type 0
-StatesHappen run.Overflow = StateBreaksWithin
-StatesHappen run.LimitCycle = StateCyclesWithin
-
--- the question's formula
-abbrev pub states_formula : RunProperty → StateView → ℕ → FormulaView
-states_formula run.Overflow = state_formula_of
-states_formula run.LimitCycle = state_cycle_formula_of
-
--- the job over so many samples is no larger than what is asked of formulas
-abbrev pub AreWithinSize : StateView → ℕ → Type 0
-AreWithinSize s samples = state_job_size_of s samples ≤ most_size
-
--- The property happens within no so many samples, and the log derives the empty clause from the
--- question's formula.
-pub record StatesNever (p : RunProperty) (samples conflicts : ℕ) (s : StateView)
-    (log : List Step) : Type 0 where
-  pub within : AreWithinSize s samples
-  pub never : StatesHappen p s samples → ⊥
-  pub refuted : IsRefutation (states_formula p s samples) conflicts log
-
--- the answer to a question about runs, by a search
-abbrev pub IsOfStateSearch : RunProperty → ℕ → ℕ → StateView → Outcome → Type 0
-IsOfStateSearch p samples conflicts s (Ok (answer.Never log)) =
-    StatesNever p samples conflicts s log
-IsOfStateSearch p samples conflicts s (Ok (answer.Overflow trace)) =
-    (p ≡ run.Overflow) × AreWithinSize s samples × IsStateTrace s samples trace
-IsOfStateSearch p samples conflicts s (Ok (answer.Cycles cycle)) =
-    (p ≡ run.LimitCycle) × AreWithinSize s samples × IsStateCycle s samples cycle
-IsOfStateSearch p samples conflicts s (Ok (answer.Spent log)) =
-    AreWithinSize s samples × IsSpent (states_formula p s samples) conflicts log
-IsOfStateSearch p samples conflicts s (Err (stop.JobSize size)) =
-    (size ≡ state_job_size_of s samples) × (most_size < size)
-IsOfStateSearch p samples conflicts s (Err stop.NoMemory) = Unit {0}
-IsOfStateSearch p samples conflicts s other = ⊥
-
--- ---- runs of any length, and runs over inputs
--- The gain is what is found of the most samples that are looked at: in every run each exact value
--- lies in its range, whose ends are words.
-pub record IsStateGain (s : StateView) (gain : Gain) : Type 0 where
-  pub found : state_outlook_of s most_gain_samples ≡ outlook.Safe gain
-  pub holds : StateHoldsAlways s gain.ranges
-  pub never : StateNeverOverflows s
-
--- Some range leaves the words, and the trace replays in the equations.
-pub record IsStateBreak (s : StateView) (trace : Trace) : Type 0 where
-  pub sample : ℕ
-  pub value : ℕ
-  pub left : state_outlook_of s most_gain_samples ≡ outlook.Leaves sample value
-  pub replays : IsStateTrace s most_driven trace
-
--- the answer on runs of any length, by the gain
-abbrev pub IsOfStateGain : StateView → Outcome → Type 0
-IsOfStateGain s (Ok (answer.InRanges gain error)) =
-    IsStateGain s gain × (error ≡ output_error.NotSought)
-IsOfStateGain s (Ok (answer.Overflow trace)) = IsStateBreak s trace
-IsOfStateGain s (Ok (answer.OutOfRange sample value)) =
-    state_outlook_of s most_gain_samples ≡ outlook.Leaves sample value
-IsOfStateGain s (Ok (answer.TooDeep depth)) =
-    (depth ≡ most_gain_samples) × (state_outlook_of s most_gain_samples ≡ outlook.Deep)
-IsOfStateGain s (Err stop.NoMemory) = Unit {0}
-IsOfStateGain s other = ⊥
-
--- All inputs are words, and these are the rows of the equations over them, from states of zeros.
-pub record IsStateRun (s : StateView) (inputs : List ℤ) (found : List SampleRow) : Type 0 where
-  pub inputs_are_words : All (IsWord s.format) inputs
-  pub rows : found ≡ rows (state_space_of s) (zeros (states s)) inputs
-
--- the run over these inputs, or the first of them that is no word
-abbrev pub IsOfStateRun : StateView → List ℤ → Outcome → Type 0
-IsOfStateRun s inputs (Ok (answer.Simulated found)) = IsStateRun s inputs found
-IsOfStateRun s inputs (Err (stop.InputRange index value)) =
-    IsFirstOutside s.format inputs index value
-IsOfStateRun s inputs (Err stop.NoMemory) = Unit {0}
-IsOfStateRun s inputs other = ⊥
 
 -- ---- forms
 -- The form is positive at every vector of integers but 0, and less after a step; its check accepts
@@ -190,9 +94,9 @@ IsOfStateTask old (checks_form name) s found = IsOfNamedForm old name s found
 IsOfStateTask old (seeks_form certified) s found = IsOfSoughtForm s found
 IsOfStateTask old decides_states s found = IsOfStateTable s found
 IsOfStateTask old (searches_states p samples conflicts) s found =
-    IsOfStateSearch p samples conflicts s found
-IsOfStateTask old measures_states s found = IsOfStateGain s found
-IsOfStateTask old (simulates_states inputs) s found = IsOfStateRun s inputs found
+    IsOfSearch p samples conflicts (of_states s) found
+IsOfStateTask old measures_states s found = IsOfGain IsNotSought (of_states s) found
+IsOfStateTask old (simulates_states inputs) s found = IsOfRun (of_states s) inputs found
 
 -- where the task names a certificate, its file spells one
 abbrev pub NamesCertificate : FilesSeen → StateTask → Type 0

@@ -8,7 +8,7 @@ ghost use Rattle.dsv_cli.specs.Headline.{AreKept};
 use crate::loop_files::read_plant_file;
 use crate::loops::loop_answer;
 use crate::section_files::read_sections;
-use crate::sections::cascade_of;
+use crate::sections::quantised_cascade;
 use dsv_base::Files;
 use dsv_command::CascadeLoopJob;
 use dsv_report::{Answer, Stop};
@@ -27,7 +27,7 @@ pub(crate) fn cascade_loop_outcome<F: Files>(
 {
     let controllers = read_sections(alloc, job.file, &job.later, files)?;
     let plant = read_plant_file(alloc, job.plant, files)?;
-    let cascade = cascade_of(alloc, &controllers, job.design)?;
+    let cascade = quantised_cascade(alloc, &controllers, job.design)?;
     let sections = cascade.into_sections()?;
     let sample_time = *controllers.first.sample_time();
     loop_answer(alloc, sections.as_slice(), sample_time, &plant)

@@ -11,6 +11,7 @@ ghost use Rattle.dsv_cli.specs.Causes.{IsPlain};
 ghost use Rattle.dsv_cli.specs.Ellipsoids.{IsOfferOf, IsUnreadOffer, IsOfOffer};
 ghost use Rattle.dsv_cli.specs.Ellipsoids.{IsOfSoughtEllipsoid, IsOfEllipsoid, IsEllipsoidRow};
 ghost use Rattle.dsv_cli.specs.Headline.{AreKept};
+ghost use Rattle.dsv_realise.specs.Controllers.{of_controller};
 
 use crate::controller_file::read_controller;
 use crate::file_bytes::read_bytes;
@@ -37,9 +38,9 @@ fn read_offer<F: Files>(alloc: Global, name: &str, files: &mut F) -> Result<Elli
 
 /// Refuses a controller whose job over runs of any length is too large.
 fn accept_size(quantised: &Quantised) -> Result<(), Stop>
-    ensures within { IfOk result (λ _. IsWithin quantised.now unbounded_samples) }
+    ensures within { IfOk result (λ _. IsWithin (of_controller quantised.now) unbounded_samples) }
     ensures refused { IfErr result (λ why. (size : ℕ) × (why ≡ stop.JobSize size)
-        × IsTooLarge unbounded_samples quantised.now size) }
+        × IsTooLarge unbounded_samples (of_controller quantised.now) size) }
 {
     match accept_unbounded(quantised) {
         Ok(()) => Ok(()),

@@ -12,12 +12,13 @@ ghost use Rattle.dsv_cli.specs.Headline.{FileBecomes, IsRow, SaysWords, AsksSchu
 ghost use Rattle.dsv_cli.specs.Proposers.{IsAsked, AreSetsAsked};
 
 use crate::controller_file::read_controller;
-use crate::gain::gain_answer;
+use crate::gain::controller_gain_answer;
 use crate::proposers::Proposers;
-use crate::questions::{formula_answer, search_answer};
+use crate::questions::formula_answer;
 use crate::roots::roots_answer;
+use crate::run_task::RunTask;
+use crate::run_tasks::run_answer;
 use crate::sets::sets_answer;
-use crate::simulation::simulation_answer;
 use crate::timing::timing_answer;
 use dsv_base::Files;
 use dsv_certfile::CertWords;
@@ -58,10 +59,14 @@ fn task_answer(
         Task::Decide(question) => { roots_answer(alloc, quantised, question, &mut proposers.forms) }
         Task::CheckTime => timing_answer(alloc, controller, quantised),
         Task::WriteFormula(question) => formula_answer(alloc, quantised, question),
-        Task::Search(question, budget) => search_answer(alloc, quantised, question, budget),
+        Task::Search(question, budget) => {
+            run_answer(alloc, quantised, RunTask::Search(question, budget))
+        }
         Task::SeekSet(budget) => sets_answer(alloc, quantised, budget, &mut proposers.sets),
-        Task::MeasureGain => gain_answer(alloc, quantised),
-        Task::Simulate(inputs) => simulation_answer(alloc, quantised, inputs.as_slice()),
+        Task::MeasureGain => controller_gain_answer(alloc, quantised),
+        Task::Simulate(inputs) => {
+            run_answer(alloc, quantised, RunTask::Simulate(inputs.as_slice()))
+        }
     }
 }
 
@@ -74,7 +79,7 @@ pub(crate) struct JobOutcome {
 }
 
 /// What certificates of a controller say of the format of its words.
-pub(crate) fn words_of(controller: &Controller) -> CertWords
+pub(crate) fn said_of(controller: &Controller) -> CertWords
     ensures words { result ≡ words_for controller.now.int_bits controller.now.frac_bits }
     ensures lawful { IsWords result }
 {
@@ -146,7 +151,7 @@ pub(crate) fn job_outcome<F: Files>(
     match read_controller(alloc, job.file, files) {
         Ok(controller) => JobOutcome {
             outcome: controller_answer(alloc, &controller, job, proposers),
-            words: words_of(&controller),
+            words: said_of(&controller),
         },
         Err(stop) => JobOutcome {
             outcome: Err(stop),

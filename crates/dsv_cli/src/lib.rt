@@ -18,6 +18,8 @@ mod loops;
 mod proposers;
 mod questions;
 mod roots;
+mod run_task;
+mod run_tasks;
 mod section_files;
 mod sections;
 mod series;

@@ -9,7 +9,7 @@ ghost use Rattle.dsv_cli.specs.Headline.{AreKept};
 ghost use Rattle.dsv_cli.specs.Loops.{IsLoopRow, IsOfLoop, IsOfPlant, SaysLoop};
 ghost use Rattle.dsv_cli.specs.Loops.{HasFewCoefficients};
 
-use crate::job::{JobOutcome, words_of};
+use crate::job::{JobOutcome, said_of};
 use crate::loop_files::{LoopFiles, read_loop};
 use dsv_base::Files;
 use dsv_certfile::CertWords;
@@ -67,7 +67,7 @@ pub(crate) fn loop_outcome<F: Files>(alloc: Global, job: &LoopJob, files: &mut F
     match read_loop(alloc, job.file, job.plant, files) {
         Ok(found) => JobOutcome {
             outcome: files_answer(alloc, job, &found),
-            words: words_of(&found.controller),
+            words: said_of(&found.controller),
         },
         Err(stop) => JobOutcome {
             outcome: Err(stop),

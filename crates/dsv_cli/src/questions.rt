@@ -1,18 +1,17 @@
-// Answers questions about runs of a quantised controller.
-ghost use Rattle.std.specs.Prelude.{◌≡◌, ◌≤◌};
-ghost use Rattle.dsv_command.specs.Limits.{most_samples};
-ghost use Rattle.dsv_names.specs.declared.property.RunProperty.TheVariants as run;
+// Answers questions about a subject's runs.
+ghost use Rattle.std.specs.Prelude.{◌≡◌};
 ghost use Rattle.dsv_cli.specs.Answering.{stop_of_question, formula_outcome, overflow_outcome};
 ghost use Rattle.dsv_cli.specs.Answering.{cycle_outcome};
-ghost use Rattle.dsv_cli.specs.Causes.{IsOfFormula, IsOfSearch, IsPlain};
+ghost use Rattle.dsv_cli.specs.Causes.{IsPlain};
+ghost use Rattle.dsv_cli.specs.Searching.{IsOfFormula, IsOfSearch};
 
-use dsv_bounded::{BoundedRefusal, limit_cycle, overflow, question_formula};
+use dsv_bounded::{BoundedRefusal, cycle_within, formula, overflow_within};
 use dsv_cnf::Formula;
 use dsv_command::{Budget, RunQuestion};
 use dsv_hints::Searched;
 use dsv_meaning::{Cycle, Trace};
 use dsv_names::RunProperty;
-use dsv_quantiser::Quantised;
+use dsv_realise::{Asking, Subject};
 use dsv_report::{Answer, Stop};
 use std::alloc::Global;
 
@@ -37,7 +36,7 @@ fn formula_found(found: Result<Formula, BoundedRefusal>) -> Result<Answer, Stop>
 }
 
 /// The answer that a search for an overflow gives, or why there is none.
-pub(crate) fn overflow_found(found: Result<Searched<Trace>, BoundedRefusal>) -> Result<Answer, Stop>
+fn overflow_found(found: Result<Searched<Trace>, BoundedRefusal>) -> Result<Answer, Stop>
     ensures { result ≡ overflow_outcome found }
 {
     match found {
@@ -49,7 +48,7 @@ pub(crate) fn overflow_found(found: Result<Searched<Trace>, BoundedRefusal>) -> 
 }
 
 /// The answer that a search for a limit cycle gives, or why there is none.
-pub(crate) fn cycle_found(found: Result<Searched<Cycle>, BoundedRefusal>) -> Result<Answer, Stop>
+fn cycle_found(found: Result<Searched<Cycle>, BoundedRefusal>) -> Result<Answer, Stop>
     ensures { result ≡ cycle_outcome found }
 {
     match found {
@@ -60,61 +59,34 @@ pub(crate) fn cycle_found(found: Result<Searched<Cycle>, BoundedRefusal>) -> Res
     }
 }
 
-/// Whether an overflow happens.
-fn overflow_answer(
+/// The formula of a question about a subject.
+pub(crate) fn formula_answer<S: Subject>(
     alloc: Global,
-    quantised: &Quantised,
-    samples: u32,
-    budget: &Budget,
-) -> Result<Answer, Stop>
-    requires some { 1 ≤ samples }
-    requires few { samples ≤ most_samples }
-    ensures search { IsOfSearch run.Overflow samples budget.now.conflicts quantised.now result }
-    ensures plain { IsPlain result }
-{
-    overflow_found(overflow(alloc, quantised, samples, budget.conflicts))
-}
-
-/// Whether a limit cycle happens.
-fn cycle_answer(
-    alloc: Global,
-    quantised: &Quantised,
-    samples: u32,
-    budget: &Budget,
-) -> Result<Answer, Stop>
-    requires some { 1 ≤ samples }
-    requires few { samples ≤ most_samples }
-    ensures search { IsOfSearch run.LimitCycle samples budget.now.conflicts quantised.now result }
-    ensures plain { IsPlain result }
-{
-    cycle_found(limit_cycle(alloc, quantised, samples, budget.conflicts))
-}
-
-/// The formula of a question.
-pub(crate) fn formula_answer(
-    alloc: Global,
-    quantised: &Quantised,
+    subject: &S,
     question: &RunQuestion,
 ) -> Result<Answer, Stop>
-    ensures formula { IsOfFormula question.now.property question.now.samples quantised.now result }
+    ensures formula { IsOfFormula question.now.property question.now.samples
+        (S.view subject.now) result }
     ensures plain { IsPlain result }
 {
-    formula_found(question_formula(alloc, quantised, question.property, question.samples))
+    let asking = Asking::of(alloc, subject)?;
+    formula_found(formula(alloc, &asking, question.property, question.samples))
 }
 
 /// The answer to a question, by a search.
-pub(crate) fn search_answer(
+pub(crate) fn search_answer<S: Subject>(
     alloc: Global,
-    quantised: &Quantised,
+    asking: &Asking<S>,
     question: &RunQuestion,
     budget: &Budget,
 ) -> Result<Answer, Stop>
     ensures search { IsOfSearch question.now.property question.now.samples budget.now.conflicts
-        quantised.now result }
+        (S.view asking.now.subject.now) result }
     ensures plain { IsPlain result }
 {
+    let (samples, conflicts) = (question.samples, budget.conflicts);
     match question.property {
-        RunProperty::Overflow => overflow_answer(alloc, quantised, question.samples, budget),
-        RunProperty::LimitCycle => cycle_answer(alloc, quantised, question.samples, budget),
+        RunProperty::Overflow => overflow_found(overflow_within(alloc, asking, samples, conflicts)),
+        RunProperty::LimitCycle => cycle_found(cycle_within(alloc, asking, samples, conflicts)),
     }
 }

@@ -52,7 +52,7 @@ fn quantise_later(
 
 /// The cascade that controllers become in a design: they become words in their order, and then the
 /// sections' words are joined.
-pub(crate) fn cascade_of(
+pub(crate) fn quantised_cascade(
     alloc: Global,
     controllers: &SectionFiles,
     design: Design,

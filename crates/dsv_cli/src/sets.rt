@@ -1,14 +1,13 @@
 // Seeks a set that a controller never leaves among those that are offered.
 ghost use Rattle.std.specs.Prelude.{◌≡◌, ◌<◌, [], Some, IfOk, IfSome};
 ghost use Rattle.dsv_bounded.specs.Refusals.{IsSized};
-ghost use Rattle.dsv_bounded.specs.Formulas.{job_size_of};
 ghost use Rattle.dsv_invariant.specs.Shapes.{shape_of};
 ghost use Rattle.dsv_invariant.specs.Limits.{unbounded_samples};
 ghost use Rattle.dsv_template.specs.Shapes.{IsLawful};
 ghost use Rattle.dsv_cli.specs.Blocks.{AreBlocks, IsTurn};
 ghost use Rattle.dsv_cli.specs.Causes.{IsOfSets};
 ghost use Rattle.dsv_cli.specs.Proposers.{AreSetsAsked};
-ghost use Rattle.dsv_bounded.specs.RunQuestions.{IsWithin};
+ghost use Rattle.dsv_bounded.specs.RunQuestions.{IsWithin, job_size_of};
 ghost use Rattle.dsv_cli.specs.SetAsking.{turn_of, candidate_of, found_of, IsJudgedSet};
 ghost use Rattle.dsv_cli.specs.SetAsking.{IfKept, IfNoSet};
 ghost use Rattle.dsv_cli.specs.Sets.{KeepsTo, NoneIsGood, candidates, told_for};
@@ -16,6 +15,7 @@ ghost use Rattle.dsv_cli.specs.Suffixes.{IsSuffix, IfFirst};
 ghost use Rattle.dsv_report.specs.Printing.{HasPlaces};
 ghost use Rattle.dsv_template.specs.declared.verdict.Why.TheVariants as why;
 ghost use Rattle.dsv_unroll.specs.Goals.{most_size};
+ghost use Rattle.dsv_realise.specs.Controllers.{of_controller};
 
 use crate::questions::question_stop;
 use crate::turns::{Turn, first_accepted};
@@ -64,7 +64,7 @@ fn asked_sets(
     budget: &Budget,
     sets: &mut Vec<Box<dyn InvariantProposer>>,
 ) -> Result<SetAnswer, NoMemory>
-    requires { IsWithin quantised.now unbounded_samples }
+    requires { IsWithin (of_controller quantised.now) unbounded_samples }
     ensures suffix { IsSuffix (λ b. b.ptr) sets.old.items sets.new.items }
     ensures good { IfOk result (λ a. IfKept a (KeepsTo quantised.now budget.now.conflicts)) }
     ensures last { IfOk result (λ a. IfKept a (λ candidate logs.
@@ -115,8 +115,8 @@ pub fn seek_set(
 ) -> Result<SetAnswer, BoundedRefusal>
     // The job is refused exactly where it is too large, want of memory aside, and nobody is asked
     // then.
-    ensures sized { IsSized (job_size_of quantised.now unbounded_samples) result }
-    ensures unasked { most_size < job_size_of quantised.now unbounded_samples
+    ensures sized { IsSized (job_size_of (of_controller quantised.now) unbounded_samples) result }
+    ensures unasked { most_size < job_size_of (of_controller quantised.now) unbounded_samples
         → sets.new.items ≡ sets.old.items }
     // What is left of the proposers: the last of them, and only the first was asked.
     ensures suffix { IsSuffix (λ b. b.ptr) sets.old.items sets.new.items }

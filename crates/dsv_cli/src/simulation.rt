@@ -1,15 +1,14 @@
-// Answers simulations of a quantised controller.
+// Answers simulations of a subject.
 #![tactic(auto, using(dsv_algebra::proofs::Casts::casts))]
 
 ghost use Rattle.std.specs.Prelude.{◌≡◌, ◌≤◌, ℕ, ℤ, length, IfSome, IfNone, MatchOption};
 ghost use Rattle.dsv_report.specs.declared.stop.Stop.TheVariants as stop;
 ghost use Rattle.std.specs.List.{All};
 ghost use Rattle.dsv_word.specs.Words.{IsWord};
-ghost use Rattle.dsv_cli.specs.Causes.{IsOfRun, IsPlain};
-ghost use Rattle.dsv_cli.specs.Simulating.{IsFirstOutside};
+ghost use Rattle.dsv_cli.specs.Causes.{IsPlain};
+ghost use Rattle.dsv_cli.specs.Simulating.{IsFirstOutside, IsOfRun};
 
-use dsv_quantiser::Quantised;
-use dsv_realise::simulate;
+use dsv_realise::{Asking, Subject};
 use dsv_report::{Answer, Stop};
 use dsv_word::Format;
 use std::alloc::Global;
@@ -38,7 +37,7 @@ fn find_outside(format: &Format, inputs: &[i64]) -> Option<Numbered>
 }
 
 /// Why there is no answer where an input is no word of the format.
-pub(crate) fn outside_stop(format: &Format, inputs: &[i64]) -> Option<Stop>
+fn outside_stop(format: &Format, inputs: &[i64]) -> Option<Stop>
     requires { length inputs.now ≤ 64 }
     ensures none { IfNone result (All (IsWord format.now) inputs.now) }
     ensures first { IfSome result (λ why. (index : ℕ) × (value : ℤ)
@@ -53,17 +52,17 @@ pub(crate) fn outside_stop(format: &Format, inputs: &[i64]) -> Option<Stop>
 }
 
 /// The answer to a simulation over these inputs.
-pub(crate) fn simulation_answer(
+pub(crate) fn simulation_answer<S: Subject>(
     alloc: Global,
-    quantised: &Quantised,
+    asking: &Asking<S>,
     inputs: &[i64],
 ) -> Result<Answer, Stop>
     requires { length inputs.now ≤ 64 }
-    ensures run { IsOfRun quantised.now inputs.now result }
+    ensures run { IsOfRun (S.view asking.now.subject.now) inputs.now result }
     ensures plain { IsPlain result }
 {
-    if let Some(stop) = outside_stop(&quantised.format(), inputs) {
+    if let Some(stop) = outside_stop(&asking.net.format(), inputs) {
         return Err(stop);
     }
-    Ok(Answer::Simulated(simulate(alloc, quantised, inputs)?))
+    Ok(Answer::Simulated(asking.rows(alloc, inputs)?))
 }

@@ -51,7 +51,7 @@ alone_off x (suc i) j e = refl
 pub no_entry : (i j : ℕ) → matrix_of (matrix_with []) i j ≡ pos 0
 no_entry i j = matrix_entry [] i j (omega arith) (λ k. omega arith)
 
-positive_test : (w : ℤ) → pos 0 <ℤ w → not (int_lt (pos 0) w) ≡ false
+pub positive_test : (w : ℤ) → pos 0 <ℤ w → not (int_lt (pos 0) w) ≡ false
 positive_test w h = grind (arith, ints)
 
 unit_square : (w : ℤ) → w *ℤ pos 1 *ℤ pos 1 ≡ w
@@ -121,7 +121,7 @@ first_falls c0 c1 apart small =
     (one_square w (fall_entry 1 c P) (fall_numbers 1 c P) (fall_is c0 c1) more (loss_within c0 c1 small less)
     (λ i j a b. fall_numbers_narrow (2 ^ 44) 1 1 c P i j (two_within (2 ^ 44) c0 c1 small less) (λ i j. one_within 1 (pos 1) i j (omega arith)) (omega arith) (omega arith)))
 
-plain : (w : ℤ) → pos 1 *ℤ w ≡ pos 0 +ℤ w
+pub plain : (w : ℤ) → pos 1 *ℤ w ≡ pos 0 +ℤ w
 plain w = ring (env (w ∷ [])) (times (num (pos 1)) (var 0)) (plus (num (pos 0)) (var 0)) refl
 
 unit_within : (i : ℕ) → Within 1 (vector_of (row_of (pos 1 ∷ [])) i)

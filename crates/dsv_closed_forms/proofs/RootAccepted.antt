@@ -151,7 +151,7 @@ row_none : (d : ℕ) (P : Matrix) (v : Vector) (i : ℕ) → ((k : ℕ) → v (s
 row_none d P v zero h n = absurd (n refl)
 row_none d P v (suc i) h n = sum_same d (λ j. P (suc i) j *ℤ v (suc i) *ℤ v j) (λ j. pos 0) (λ j l. rw (h i, *ℤ-zero (P (suc i) j)) (zero-*ℤ (v j))) ∙ sum_none d
 
-by_one : (x : ℤ) → x *ℤ pos 1 *ℤ pos 1 ≡ x
+pub by_one : (x : ℤ) → x *ℤ pos 1 *ℤ pos 1 ≡ x
 by_one x = ring (env (x ∷ [])) (times (times (var 0) (num (pos 1))) (num (pos 1))) (var 0) refl
 
 first_alone : (d : ℕ) (P : Matrix) → form_at (suc d) P (vector_of (row_of (pos 1 ∷ []))) ≡ P 0 0
@@ -161,7 +161,7 @@ first_alone d P =
     ∙ sum_one (suc d) (λ j. P 0 j *ℤ v 0 *ℤ v j) 0 (omega arith) (λ j l n. entry_none (P 0 j *ℤ v 0) v j unit_start n)
     ∙ by_one (P 0 0)
 
-wider : (m n : ℕ) (z : ℤ) → Within m z → m ≤ n → Within n z
+pub wider : (m n : ℕ) (z : ℤ) → Within m z → m ≤ n → Within n z
 wider m n z h k = omega (arith, h, k)
 
 coefficient_within : (n : ℕ) (c0 : ℤ) (cs : List ℤ) → Within n c0 → ((i : ℕ) → Within n (vector_of cs i)) → (k : ℕ) → Within n (vector_of (c0 ∷ cs) k)
@@ -172,7 +172,7 @@ by_place_of : (t c0 : ℤ) (cs : List ℤ) → 1 ≤ length cs → value_from t 
 by_place_of t c0 cs some root zero = sym (first_of_quotient t c0 cs some)
 by_place_of t c0 cs some root (suc k) = by_quotient t c0 cs k root
 
-places_same : (m n : ℕ) → m ≡ n → (m == n) ≡ true
+pub places_same : (m n : ℕ) → m ≡ n → (m == n) ≡ true
 places_same m n e = grind (e, nat_tests, arith)
 
 zero_rest : (i j : ℕ) → matrix_of (matrix_with []) i j ≡ pos 0

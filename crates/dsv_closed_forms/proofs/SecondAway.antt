@@ -1,5 +1,5 @@
 -- The closed forms of unstable polynomials of order 2 are accepted.
-use Rattle.std.proofs.Common.{◌≡◌, ℕ, zero, suc, ◌^◌, ◌≤◌, Bool, true, false, int_lt, List, [], ◌∷◌, ◌⊎◌, inl, inr, length, get_or, None, refl, ap, ◌∙◌, arith}
+use Rattle.std.proofs.Common.{◌≡◌, ℕ, zero, suc, ◌^◌, ◌≤◌, Bool, true, false, int_lt, List, [], ◌∷◌, ◌⊎◌, inl, inr, length, None, refl, ap, ◌∙◌, arith}
 use Rattle.std.proofs.Math.IntN.{ℤ, pos, neg_ℤ, ◌+ℤ◌, ◌*ℤ◌}
 use Rattle.std.proofs.Math.Path.{fun_ext}
 use Rattle.std.specs.Prelude.{if◌then◌else◌}
@@ -17,8 +17,9 @@ use Rattle.dsv_forms.specs.Padded.{row_of, matrix_with, form_with, squares_with}
 use Rattle.dsv_closed_forms.specs.ClosedForm.{fall_scale, second_rows, negated_rows, diagonal, negative_start, second_kept_away, equal_ends}
 use Rattle.dsv_closed_forms.specs.SmallCoefficients.{AreSmall}
 use Rattle.dsv_forms.proofs.Padded.{row_entry, matrix_entry}
-use Rattle.dsv_closed_forms.proofs.SecondForm.{at_two, two_within, off_diagonal, c0-e, c1-e, c2-e, sum-e, r-e, p-e, s-e, Loses, loses, loses_negated, coefficient_within, sizes, rows_within, negated_within}
-use Rattle.dsv_closed_forms.proofs.SecondStarts.{left_value, right_value, last_value, SomeNegative, SomePositive}
+use Rattle.dsv_closed_forms.proofs.SecondForm.{at_two, two_within, off_diagonal, c0-e, c1-e, c2-e, sum-e, r-e, p-e, s-e, Loses, loses, loses_negated, coefficient_within, sizes, rows_within, negated_within, short_rows, two}
+use Rattle.dsv_closed_forms.proofs.SecondStarts.{left_value, right_value, last_value, SomeNegative, SomePositive, minus_above, minus_below}
+use Rattle.dsv_closed_forms.proofs.FirstAccepted.{plain}
 
 -- ---- the form's values at the starts
 
@@ -104,14 +105,6 @@ of_chosen Q rows (start ∷ starts) last h k = one_or (int_lt (form_at 2 (matrix
 
 -- ---- entries
 
-abbrev two : ℤ → ℤ → ℤ → ℤ → List (List ℤ)
-two a b c d = (a ∷ b ∷ []) ∷ (c ∷ d ∷ []) ∷ []
-
-short_rows : (a b c d : ℤ) (k : ℕ) → length (get_or (two a b c d) k []) ≤ 8
-short_rows a b c d zero = omega arith
-short_rows a b c d (suc zero) = omega arith
-short_rows a b c d (suc (suc k)) = omega arith
-
 -- a form's value at a start, both filled up with 0
 filled_value : (a b c d : ℤ) (start : List ℤ) → length start ≤ 8 → form_at 2 (matrix_of (matrix_with (two a b c d))) (vector_of (row_of start)) ≡ form_at 2 (matrix_of (two a b c d)) (vector_of start)
 filled_value a b c d start few =
@@ -122,9 +115,6 @@ pair_within : (n : ℕ) (x y : ℤ) → Within n x → Within n y → (k : ℕ) 
 pair_within n x y h k zero = h
 pair_within n x y h k (suc zero) = k
 pair_within n x y h k (suc (suc i)) = rw (row_entry (x ∷ y ∷ []) (suc (suc i)) (omega arith)) (omega arith)
-
-plain : (w : ℤ) → pos 1 *ℤ w ≡ pos 0 +ℤ w
-plain w = ring (env (w ∷ [])) (times (num (pos 1)) (var 0)) (plus (num (pos 0)) (var 0)) refl
 
 -- what is asked of a form of two places with equal entries beside the diagonal that loses w on the diagonal
 record IsAwayForm (c0 c1 c2 a b d w : ℤ) (start : List ℤ) : Type 0 where
@@ -174,9 +164,6 @@ twice_negative x h = omega (arith, ints)
 twice_positive : (x : ℤ) → pos 0 <ℤ x → pos 0 <ℤ (pos 2 *ℤ x)
 twice_positive x h = omega (arith, ints)
 
-minus_above : (z : ℤ) → pos 0 <ℤ z → neg_ℤ z <ℤ pos 0
-minus_above z h = omega (arith, ints)
-
 abbrev starts_of : ℤ → ℤ → List (List ℤ)
 starts_of c0 c2 = (pos 1 ∷ pos 0 ∷ []) ∷ (neg_ℤ c2 ∷ c0 ∷ []) ∷ (c2 ∷ c0 ∷ []) ∷ []
 
@@ -206,9 +193,6 @@ starts_short c0 c1 c2 rows h =
 
 at_most : (z : ℤ) → pos 0 <ℤ z → pos 0 ≤ℤ z
 at_most z h = omega (arith, ints)
-
-minus_below : (z : ℤ) → z <ℤ pos 0 → pos 0 <ℤ neg_ℤ z
-minus_below z h = omega (arith, ints)
 
 pub away_above : (c0 c1 c2 : ℤ) → AreSmall c0 c1 c2 → pos 0 <ℤ c0 → pos 0 <ℤ fall_scale c0 c1 c2 → SomeNegative c0 c1 c2
     → kept_away_refusal (c0 ∷ c1 ∷ c2 ∷ []) (second_kept_away c0 c1 c2 (second_rows c0 c1 c2) (c0 *ℤ c0 *ℤ fall_scale c0 c1 c2)) ≡ None

@@ -1,5 +1,5 @@
 -- The closed form of a stable polynomial of order 2 is accepted.
-use Rattle.std.proofs.Common.{◌≡◌, ℕ, zero, suc, ◌*◌, ◌^◌, ◌<◌, ◌≤◌, Bool, true, false, not, int_lt, List, [], ◌∷◌, None, refl, arith}
+use Rattle.std.proofs.Common.{◌≡◌, ℕ, zero, suc, ◌*◌, ◌^◌, ◌<◌, ◌≤◌, Bool, true, false, int_lt, List, [], ◌∷◌, None, refl, arith}
 use Rattle.std.proofs.Math.IntN.{ℤ, pos, negsuc, ◌+ℤ◌, ◌-ℤ◌, ◌*ℤ◌}
 use Rattle.std.specs.Ordering.{int_eq}
 use Rattle.std.proofs.lemmas.Int.{ints}
@@ -17,17 +17,15 @@ use Rattle.dsv_forms.proofs.PassingOffers.{IsDefinitePart, IsDiagonal, same_test
 use Rattle.dsv_forms.specs.Padded.{matrix_with, squares_with}
 use Rattle.dsv_closed_forms.specs.ClosedForm.{gap, fall_scale, second_rows, diagonal, second_that_falls}
 use Rattle.dsv_closed_forms.specs.SmallCoefficients.{AreSmall}
-use Rattle.dsv_closed_forms.proofs.FirstAccepted.{no_entry}
+use Rattle.dsv_closed_forms.proofs.FirstAccepted.{no_entry, positive_test}
 use Rattle.dsv_closed_forms.proofs.SecondForm.{at_two, c0-e, c1-e, c2-e, sum-e, gap-e, r-e, p-e, s-e, loses, coefficient_within, sizes, rows_within}
+use Rattle.dsv_closed_forms.proofs.RootAccepted.{wider}
 
 -- what holds at both places holds at each
 both : (Q : ℕ → Type 0) → Q 0 → Q 1 → (k : ℕ) → k < 2 → Q k
 both Q a b zero l = a
 both Q a b (suc zero) l = b
 both Q a b (suc (suc k)) l = absurd (omega arith)
-
-pub positive_test : (w : ℤ) → pos 0 <ℤ w → not (int_lt (pos 0) w) ≡ false
-positive_test w h = grind (arith, ints)
 
 least_test : (w : ℤ) → pos 0 <ℤ w → int_lt w (pos 1) ≡ false
 least_test w h = grind (arith, ints)
@@ -110,9 +108,6 @@ own_same c0 c1 c2 = at_two (λ i j. (c0 +ℤ c2) *ℤ matrix_of (matrix_with (se
     (ring (env (c0 ∷ c1 ∷ c2 ∷ [])) (times sum-e p-e) (side-e (times sum-e c0-e) (times c1-e c2-e) (num (pos 0)) (num (pos 1))) refl)
     (ring (env (c0 ∷ c1 ∷ c2 ∷ [])) (times sum-e p-e) (side-e (times c1-e c2-e) (times sum-e c0-e) (num (pos 1)) (num (pos 0))) refl)
     (ring (env (c0 ∷ c1 ∷ c2 ∷ [])) (times sum-e s-e) (side-e (times c1-e c2-e) (times c1-e c2-e) (num (pos 1)) (num (pos 1))) refl)
-
-wider : (m n : ℕ) (z : ℤ) → Within m z → m ≤ n → Within n z
-wider m n z h k = omega (arith, h, k)
 
 pub record OwnSizes (c0 c1 c2 : ℤ) : Type 0 where
   pub left : Within (2 ^ 47) ((c0 +ℤ c2) *ℤ c0)

@@ -8,6 +8,7 @@ use Rattle.dsv_forms.proofs.Passing.{Within, within_times, within_plus, within_n
 use Rattle.dsv_forms.specs.Padded.{matrix_with}
 use Rattle.dsv_closed_forms.specs.SmallCoefficients.{AreSmall}
 use Rattle.dsv_closed_forms.specs.ClosedForm.{gap, fall_scale, second_rows, negated_rows, diagonal}
+use Rattle.dsv_closed_forms.proofs.RootAccepted.{wider}
 use Rattle.dsv_forms.proofs.Padded.{matrix_entry}
 
 -- what holds at the four places holds at each
@@ -22,10 +23,10 @@ at_two Q a b c d (suc (suc i)) j x y = absurd (omega arith)
 
 -- ---- entries of matrices of two places
 
-abbrev two : ℤ → ℤ → ℤ → ℤ → List (List ℤ)
+abbrev pub two : ℤ → ℤ → ℤ → ℤ → List (List ℤ)
 two a b c d = (a ∷ b ∷ []) ∷ (c ∷ d ∷ []) ∷ []
 
-short_rows : (a b c d : ℤ) (k : ℕ) → length (get_or (two a b c d) k []) ≤ 8
+pub short_rows : (a b c d : ℤ) (k : ℕ) → length (get_or (two a b c d) k []) ≤ 8
 short_rows a b c d zero = omega arith
 short_rows a b c d (suc zero) = omega arith
 short_rows a b c d (suc (suc k)) = omega arith
@@ -139,9 +140,6 @@ pub record Sizes (c0 c1 c2 : ℤ) : Type 0 where
   pub r : Within (2 ^ 71) (pos 2 *ℤ (c0 +ℤ c2) *ℤ (c0 *ℤ c0))
   pub p : Within (2 ^ 70) (pos 2 *ℤ c0 *ℤ (c1 *ℤ c2))
   pub s : Within (2 ^ 74) (pos 2 *ℤ (c0 +ℤ c2) *ℤ (c2 *ℤ c2) +ℤ fall_scale c0 c1 c2)
-
-wider : (m n : ℕ) (z : ℤ) → Within m z → m ≤ n → Within n z
-wider m n z h k = omega (arith, h, k)
 
 pub sizes : (c0 c1 c2 : ℤ) → AreSmall c0 c1 c2 → Sizes c0 c1 c2
 sizes c0 c1 c2 h =

@@ -138,10 +138,10 @@ by_none k s x h = rw h (ring (env (k ∷ x ∷ [])) (plus (var 0) (times (num (p
 last_at_none : (c0 c1 c2 : ℤ) → (c0 +ℤ c2) ≡ pos 0 → last_value c0 c1 c2 ≡ neg_ℤ (fall_scale c0 c1 c2)
 last_at_none c0 c1 c2 h = last_by_scale c0 c1 c2 ∙ by_none (neg_ℤ (fall_scale c0 c1 c2)) (c0 +ℤ c2) (pos 2 *ℤ ((c0 -ℤ c2) *ℤ (c0 +ℤ c2)) +ℤ pos 2 *ℤ (c2 *ℤ c2)) h
 
-minus_above : (z : ℤ) → pos 0 <ℤ z → neg_ℤ z <ℤ pos 0
+pub minus_above : (z : ℤ) → pos 0 <ℤ z → neg_ℤ z <ℤ pos 0
 minus_above z h = omega (arith, ints)
 
-minus_below : (z : ℤ) → z <ℤ pos 0 → pos 0 <ℤ neg_ℤ z
+pub minus_below : (z : ℤ) → z <ℤ pos 0 → pos 0 <ℤ neg_ℤ z
 minus_below z h = omega (arith, ints)
 
 -- both numbers by the other sign of c1

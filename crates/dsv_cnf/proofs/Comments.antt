@@ -4,7 +4,7 @@ use Rattle.std.specs.List.{flat_map, list_all}
 use Rattle.std.proofs.lemmas.Bool.{and_parts, eqb-true}
 use Rattle.dsv_cnf.specs.Reading.{comments_end}
 use Rattle.dsv_cnf.specs.Texts.{in_line, IsInLine, AreInLines, comment_line}
-use Rattle.dsv_cnf.proofs.LiteralLemmas.{not_true}
+use Rattle.dsv_algebra.proofs.Booleans.{not_true}
 
 -- the text has no byte, or another than a `c` first
 abbrev pub BeginsOther : List ℕ → Type 0

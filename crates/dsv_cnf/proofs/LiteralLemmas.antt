@@ -1,16 +1,9 @@
 -- Literals and their tests.
-use Rattle.std.proofs.Common.{◌≡◌, ℕ, ◌+◌, ◌*◌, ◌<◌, Bool, true, false, not, ◌||◌, ◌&&◌, ◌==◌, ◌⊎◌, cond, refl, arith, ap, sym, ◌∙◌, inl, inr}
+use Rattle.std.proofs.Common.{◌≡◌, ℕ, ◌+◌, ◌*◌, ◌<◌, Bool, true, false, not, ◌||◌, ◌==◌, ◌⊎◌, cond, refl, arith, ap, sym, ◌∙◌, inl, inr}
 use Rattle.std.proofs.lemmas.Bool.{eqb-true, eq-eqb}
 use Rattle.dsv_cnf.specs.Literal.{Literal, literal_eq, literal_value, bool_eq, code_of, negation}
 use Rattle.dsv_cnf.specs.LiteralCode.{literal_of, code-literal_of, literal-code_of}
-
-pub and_left : (a b : Bool) → (a && b) ≡ true → a ≡ true
-and_left true b h = refl
-and_left false b h = h
-
-pub and_right : (a b : Bool) → (a && b) ≡ true → b ≡ true
-and_right true b h = h
-and_right false b h = cc
+use Rattle.dsv_algebra.proofs.Booleans.{and_left, and_right, not_true}
 
 pub or_cases : (a b : Bool) → (a || b) ≡ true → (a ≡ true) ⊎ (b ≡ true)
 or_cases true b h = inl refl
@@ -36,7 +29,7 @@ same_literal a b h =
     (eqb-true a.var b.var (and_left (a.var == b.var) (bool_eq a.positive b.positive) h))
     (same_sign a.positive b.positive (and_right (a.var == b.var) (bool_eq a.positive b.positive) h))
 
-bool_eq-same : (p : Bool) → bool_eq p p ≡ true
+pub bool_eq-same : (p : Bool) → bool_eq p p ≡ true
 bool_eq-same true = refl
 bool_eq-same false = refl
 
@@ -52,10 +45,6 @@ literal_eq-code a b =
 
 pub code-below : (l : Literal) (vars : ℕ) → l.var < vars → code_of l < 2 * vars
 code-below l vars h = elim l.positive as (λ b. 2 * l.var + cond b 0 1 < 2 * vars) [ true ↦ omega arith | false ↦ omega arith ]
-
-pub not_true : (b : Bool) → not b ≡ true → b ≡ false
-not_true true h = cc
-not_true false h = refl
 
 not_value : (v : ℕ → Bool) (x : ℕ) (p : Bool) → cond p (v x) (not (v x)) ≡ true → cond (not p) (v x) (not (v x)) ≡ false
 not_value v x true h = ap not h

@@ -22,10 +22,10 @@ use Rattle.dsv_cnf.proofs.BrokenHeaders.{head-read, header-refused}
 use Rattle.dsv_cnf.proofs.Digits.{AreDigits, spells-decimal, digit-no_blank}
 use Rattle.dsv_cnf.proofs.HeaderFaults.{header-fault}
 use Rattle.dsv_cnf.proofs.Heads.{HeadRead, SaidHead, said_head, head-taken}
-use Rattle.dsv_cnf.proofs.LiteralLemmas.{and_left, and_right, not_true}
 use Rattle.dsv_cnf.proofs.PiecePlaces.{located, placed-between}
 use Rattle.dsv_cnf.proofs.PieceTexts.{Leads, BreaksAt, SaidPieces, said_pieces, read-clauses, read-breaks, items-whole, so_far}
 use Rattle.dsv_cnf.proofs.Spacing.{Placed, texts, placed, read_pieces, clauses_from-placed, placed-spaced, placed-pieces, spaced-placed, ArePieces}
+use Rattle.dsv_algebra.proofs.Booleans.{and_left, and_right, not_true}
 
 -- ---- a formula's text is read to it
 

@@ -12,7 +12,7 @@ use Rattle.dsv_command.specs.Inputs.{is_comma, comma, onto_first, pieces}
 use Rattle.dsv_command.specs.Jobs.{Task, decides, checks_time, writes, searches, seeks_set, measures_gain, simulates, Asked, job_of_parts, ◌>>=◌}
 use Rattle.dsv_command.specs.Parts.{PartView}
 use Rattle.dsv_command.specs.Rules.{with_commas, IsName, AreNames, job_alone, IsJobOf}
-use Rattle.dsv_command.proofs.InputLaws.{joined_pieces, one_piece, some_piece, same_byte}
+use Rattle.dsv_command.proofs.InputLaws.{joined_pieces, one_piece, some_piece, same_byte, NoneFirst}
 use Rattle.dsv_command.proofs.JobLaws.{unbind, parts_ask, job_found}
 
 -- ---- from names to the pieces of their text
@@ -68,10 +68,6 @@ whole_by b false (p ∷ ps) e h = All-cons HasNoComma (b ∷ p) ps (no_or (is_co
 whole : (text : List ℕ) → All HasNoComma (pieces text)
 whole [] = All-cons HasNoComma [] [] refl (All-nil HasNoComma)
 whole (b ∷ bs) = whole_by b (is_comma b) (pieces bs) refl (whole bs)
-
-record NoneFirst (a b : Bool) : Type 0 where
-  pub first : a ≡ false
-  pub others : b ≡ false
 
 none_of : (a b : Bool) → (a || b) ≡ false → NoneFirst a b
 none_of false b h = record { first = refl; others = h }

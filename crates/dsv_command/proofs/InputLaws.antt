@@ -45,7 +45,7 @@ no_minus : (text : List ℕ) → AllDigits text → has_byte minus text ≡ fals
 no_minus [] h = refl
 no_minus (b ∷ bs) h = no_minus_first b (digit_first b bs h).first
 
-no_or : (a b : Bool) → a ≡ false → b ≡ false → (a || b) ≡ false
+pub no_or : (a b : Bool) → a ≡ false → b ≡ false → (a || b) ≡ false
 no_or false false e f = refl
 no_or true b e f = absurd (cc)
 no_or false true e f = absurd (cc)
@@ -81,7 +81,7 @@ input_has_no_comma text n (IsInput.positive t m h) = no_comma t (short_digits t 
 input_has_no_comma text n (IsInput.negative t digits m e h) = ap (list_any is_comma) e ∙ no_comma digits (short_digits digits m h)
 
 -- ---- pieces
-record NoneFirst (a b : Bool) : Type 0 where
+pub record NoneFirst (a b : Bool) : Type 0 where
   pub first : a ≡ false
   pub others : b ≡ false
 

@@ -4,7 +4,7 @@ use Rattle.std.specs.Prelude.{codes, if◌then◌else◌}
 use Rattle.dsv_names.specs.declared.property.RootProperty.TheVariants.{Stability}
 use Rattle.dsv_command.specs.Ellipsoids.{has_ellipsoid_option}
 use Rattle.dsv_command.specs.Jobs.{Task, decides, Asked, job_of_parts}
-use Rattle.dsv_command.specs.Loops.{AskedLoop, schur_cohn_of, loop_of, loop_of_parts}
+use Rattle.dsv_command.specs.Loops.{AskedLoop, schur_cohn_of, loop_job_of, loop_of_parts}
 use Rattle.dsv_command.specs.Parts.{PartView, value_of}
 use Rattle.dsv_command.specs.Rules.{IsJobOf, HasNoFormOption, IsLoopOf, job_of_loop}
 use Rattle.dsv_command.proofs.EllipsoidLaws.{no_ellipsoid_given, no_ellipsoid_found}
@@ -36,7 +36,7 @@ without_plant job plant schur_cohn h =
     ap (λ (task : Task). record { file = job.file; task = task; design = job.design; certified = job.certified }) (stability_by job.task schur_cohn h)
 
 loop_by : (parts : List PartView) (plant : List ℕ) (job : Asked) (asked : AskedLoop) (ellipsoid : Bool) → GivesPlant parts plant → value_of (codes "sections") parts ≡ None → job_of_parts parts ≡ Some job
-    → has_ellipsoid_option parts ≡ ellipsoid → (if ellipsoid then None else loop_of job plant) ≡ Some asked → IsLoopOf parts asked
+    → has_ellipsoid_option parts ≡ ellipsoid → (if ellipsoid then None else loop_job_of job plant) ≡ Some asked → IsLoopOf parts asked
 loop_by parts plant job asked true g n f e h = absurd cc
 loop_by parts plant job asked false g n f e h =
     let a = unbind (schur_cohn_of job.task) _ asked h in

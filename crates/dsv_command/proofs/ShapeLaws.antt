@@ -1,15 +1,12 @@
 -- What an argument is by its looks, and the rules that say so.
 use Rattle.std.proofs.Common.{◌≡◌, ℕ, suc, ◌+◌, Bool, true, false, not, ◌||◌, cond, List, [], ◌∷◌, ◌++◌, length, take, drop, Some, None, refl, ap, ◌∙◌, inl, inr, arith}
-use Rattle.std.specs.Prelude.{◌==◌, if◌then◌else◌}
-use Rattle.std.proofs.lemmas.Bool.Decides.{nat_tests}
+use Rattle.std.specs.Prelude.{if◌then◌else◌}
 use Rattle.std.specs.List.{list_any, position_or_len, before_first, after_first}
 use Rattle.std.proofs.Math.Seq.{take-append_seam, drop-append-add}
 use Rattle.std.proofs.lemmas.List.Folds.{list_any-append}
 use Rattle.dsv_command.specs.Shapes.{ShapeView, plain, stop, long, dashed, dash, equals_sign, is_dash, is_equals, shape_of, shape_after_dash, shape_after_dashes}
 use Rattle.dsv_command.specs.Rules.{IsPlain, IsStop, IsOption, IsOptionWithValue}
-
-same_byte : (a b : ℕ) → (a == b) ≡ true → a ≡ b
-same_byte a b h = grind (arith, nat_tests)
+use Rattle.dsv_command.proofs.InputLaws.{no_or, same_byte}
 
 -- ---- the first `=` of a text
 
@@ -17,11 +14,6 @@ same_byte a b h = grind (arith, nat_tests)
 pub record IsSplit (p : ℕ → Bool) (text before after : List ℕ) (c : ℕ) : Type 0 where
   pub same : text ≡ before ++ c ∷ after
   pub none : list_any p before ≡ false
-
-no_or : (a b : Bool) → a ≡ false → b ≡ false → (a || b) ≡ false
-no_or false false e f = refl
-no_or true b e f = absurd (cc)
-no_or false true e f = absurd (cc)
 
 split_longer : (b : ℕ) (bs : List ℕ) (p n : ℕ) → n ≡ suc p → is_equals b ≡ false → IsSplit is_equals bs (take p bs) (drop (p + 1) bs) equals_sign →
     IsSplit is_equals (b ∷ bs) (take n (b ∷ bs)) (drop (n + 1) (b ∷ bs)) equals_sign

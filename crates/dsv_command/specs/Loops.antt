@@ -23,8 +23,8 @@ schur_cohn_of (decides Stability schur_cohn) = Some schur_cohn
 schur_cohn_of _ = None
 
 -- the same job with a plant, where its task is stability
-abbrev pub loop_of : Asked → List ℕ → Option AskedLoop
-loop_of job plant = schur_cohn_of job.task >>= λ schur_cohn. Some (record {
+abbrev pub loop_job_of : Asked → List ℕ → Option AskedLoop
+loop_job_of job plant = schur_cohn_of job.task >>= λ schur_cohn. Some (record {
   file = job.file;
   plant = plant;
   design = job.design;
@@ -35,4 +35,4 @@ loop_of job plant = schur_cohn_of job.task >>= λ schur_cohn. Some (record {
 -- the job for the loop with the plant in the file of this name, with which no ellipsoid goes
 abbrev pub loop_of_parts : List PartView → List ℕ → Option AskedLoop
 loop_of_parts parts plant = job_of_parts parts >>= λ job.
-    (if has_ellipsoid_option parts then None else loop_of job plant)
+    (if has_ellipsoid_option parts then None else loop_job_of job plant)

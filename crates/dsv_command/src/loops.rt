@@ -1,7 +1,7 @@
 // A job for a loop: the controller in a file with the plant in another.
 ghost use Rattle.std.specs.Prelude.{◌≡◌, option_map};
 ghost use Rattle.dsv_command.specs.Asking.{asked_loop, asked_of, asked_task};
-ghost use Rattle.dsv_command.specs.Loops.{loop_of, loop_of_parts, schur_cohn_of};
+ghost use Rattle.dsv_command.specs.Loops.{loop_job_of, loop_of_parts, schur_cohn_of};
 ghost use Rattle.dsv_command.specs.Requests.{checks_loop, loop_check_of};
 
 use crate::arguments::Arguments;
@@ -52,8 +52,8 @@ pub(crate) fn schur_cohn_of(task: &Task) -> Option<bool>
 }
 
 /// The same job with the plant in the file of this name, where its task is stability.
-fn loop_of<'a>(job: &Job<'a>, plant: &'a str) -> Option<LoopJob<'a>>
-    ensures { option_map asked_loop result ≡ loop_of (asked_of job.now) plant.now }
+fn loop_job_of<'a>(job: &Job<'a>, plant: &'a str) -> Option<LoopJob<'a>>
+    ensures { option_map asked_loop result ≡ loop_job_of (asked_of job.now) plant.now }
 {
     let schur_cohn = schur_cohn_of(&job.task)?;
     Some(LoopJob {
@@ -73,7 +73,7 @@ pub(crate) fn find_loop<'a>(arguments: &Arguments<'a>, plant: &'a str) -> Option
     if has_ellipsoid_option(arguments) {
         return None;
     }
-    loop_of(&job, plant)
+    loop_job_of(&job, plant)
 }
 
 /// The check of the certificate in the file of this name, of the loop with the plant in another.

@@ -34,7 +34,7 @@ choose_over n zero h = absurd (omega arith)
 choose_over zero (suc k) h = refl
 choose_over (suc n) (suc k) h = omega (arith, choose_over n k (omega arith), choose_over n (suc k) (omega arith))
 
-choose_all : (n : ℕ) → choose n n ≡ 1
+pub choose_all : (n : ℕ) → choose n n ≡ 1
 choose_all zero = refl
 choose_all (suc n) = omega (arith, choose_all n, choose_over n (suc n) (omega arith))
 

@@ -6,7 +6,7 @@ use Rattle.std.specs.Option.{option_and_then}
 use Rattle.std.proofs.Math.IntN.{ℤ, pos, neg_ℤ, ◌+ℤ◌, ◌-ℤ◌}
 use Rattle.std.proofs.lemmas.Int.{ints}
 use Rattle.std.proofs.lemmas.List.Concat.{flat_map_single}
-use Rattle.dsv_algebra.specs.Companion.{only}
+use Rattle.dsv_algebra.specs.Companion.{only, image_terms}
 use Rattle.dsv_algebra.specs.Narrow.{narrow_of}
 use Rattle.dsv_algebra.specs.Vectors.{Vector, Matrix}
 use Rattle.dsv_forms.specs.Refusals.{places}
@@ -15,7 +15,7 @@ use Rattle.dsv_forms.proofs.FallLemmas.{image_sum-terms}
 use Rattle.dsv_forms.proofs.Places.{any_same}
 use Rattle.dsv_certfile.specs.declared.ellipsoid.Ellipsoid.{Ellipsoid}
 use Rattle.dsv_ellipsoid.specs.Good.{form_of}
-use Rattle.dsv_ellipsoid.specs.Entries.{scaled, numbered, bare, image_terms, inside_summands, side_summands, corner_summands, step_summands, first_summands, has_wide_entry}
+use Rattle.dsv_ellipsoid.specs.Entries.{scaled, numbered, bare, inside_summands, side_summands, corner_summands, step_summands, first_summands, has_wide_entry}
 use Rattle.dsv_ellipsoid.specs.Sums.{inside_sum, side_sum, corner_sum, step_sum, first_sum}
 
 -- ---- the sums of the code, as sums of summands

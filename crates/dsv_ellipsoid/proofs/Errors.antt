@@ -1,6 +1,6 @@
 -- The errors of rounded products.
 use Rattle.std.proofs.Common.{◌≡◌, ℕ, zero, suc, ◌^◌, ◌==◌, ◌-◌, Bool, true, false, not, [], ◌∷◌, refl, ap, ◌∙◌, arith, rules}
-use Rattle.std.proofs.Math.IntN.{ℤ, pos, negsuc, ◌-ℤ◌, ◌*ℤ◌, neg_ℤ}
+use Rattle.std.proofs.Math.IntN.{ℤ, pos, ◌-ℤ◌, ◌*ℤ◌, neg_ℤ}
 use Rattle.std.proofs.Math.Nat.{pow-suc}
 use Rattle.std.proofs.lemmas.Nat.{pow_pos}
 use Rattle.std.proofs.lemmas.Int.{ints}
@@ -17,6 +17,7 @@ use Rattle.dsv_linear.specs.Facts.{Between}
 use Rattle.dsv_linear.specs.Known.{error_range}
 use Rattle.dsv_linear.proofs.Words.{errors_lie}
 use Rattle.dsv_ellipsoid.specs.Disturbance.{is_rough, one_if}
+use Rattle.dsv_roundoff.proofs.NoErrors.{none_between}
 
 -- both ends are less than 2^f in size
 record AreSmall (d first last : ℤ) : Type 0 where
@@ -38,12 +39,6 @@ errors_small : (r : Rounding) (f : ℕ) → AreSmall (pos (2 ^ f)) (error_range 
 errors_small rounding.Floor f = let p = pow_pos f in record { low = omega (arith, ints); high = omega (arith, ints); order = omega (arith, ints); above = omega (arith, ints) }
 errors_small rounding.Ceil f = let p = pow_pos f in record { low = omega (arith, ints); high = omega (arith, ints); order = omega (arith, ints); above = omega (arith, ints) }
 errors_small rounding.Nearest f = near_small f
-
--- a multiple of d that is less than d in size is 0
-none_between : (d : ℕ) (t : ℤ) → neg_ℤ (pos d) <ℤ (pos d *ℤ t) → (pos d *ℤ t) <ℤ pos d → pos d *ℤ t ≡ pos 0
-none_between d (pos zero) p q = omega (arith, ints)
-none_between d (pos (suc t)) p q = absurd (omega (arith, ints))
-none_between d (negsuc t) p q = absurd (omega (arith, ints))
 
 -- the error of a product by a multiple of 2^f is 0
 whole_error : (r : Rounding) (f : ℕ) (c k w : ℤ) → c ≡ k *ℤ pos (2 ^ f) → pos (2 ^ f) *ℤ whole_shift r f (c *ℤ w) -ℤ c *ℤ w ≡ pos 0

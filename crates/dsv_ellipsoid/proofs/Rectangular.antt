@@ -5,32 +5,13 @@ use Rattle.std.proofs.lemmas.Int.{ints}
 use Rattle.std.proofs.lemmas.Bool.Decides.{nat_tests}
 use Rattle.dsv_algebra.proofs.Normaliser.{ring, env, var, num, times}
 use Rattle.dsv_algebra.specs.Vectors.{Vector, Matrix, sum_to, form_at, dot, congruence}
-use Rattle.dsv_algebra.proofs.Sums.{sum_same, sum_scale, sum_swap, sum_none, sum_one, form_add, form_nought, form_scale, form_neg}
+use Rattle.dsv_algebra.proofs.Sums.{sum_same, sum_none, sum_one, form_add, form_nought, form_scale, form_neg}
 use Rattle.dsv_algebra.specs.Companion.{companion}
+use Rattle.dsv_algebra.proofs.Congruence.{entry_out}
 use Rattle.dsv_certfile.specs.declared.ellipsoid.Ellipsoid.{Ellipsoid}
 use Rattle.dsv_ellipsoid.specs.Good.{form_of, disturbed, bordered, step_form, first_form}
 
 -- ---- these are those of dsv_algebra's Congruence, for n columns in place of d
-scale_left : (d : ℕ) (f : ℕ → ℤ) (a : ℤ) → a *ℤ sum_to d f ≡ sum_to d (λ k. a *ℤ f k)
-scale_left d f a = sym (sum_scale d a f)
-
-term_out : (d : ℕ) (p x : ℤ) (g : ℕ → ℤ) (v : Vector) → p *ℤ x *ℤ dot d g v ≡ sum_to d (λ l. p *ℤ x *ℤ g l *ℤ v l)
-term_out d p x g v = scale_left d (λ l. g l *ℤ v l) (p *ℤ x) ∙ sum_same d (λ l. p *ℤ x *ℤ (g l *ℤ v l)) (λ l. p *ℤ x *ℤ g l *ℤ v l)
-    (λ l q. ring (env (p ∷ x ∷ g l ∷ v l ∷ [])) (times (times (var 0) (var 1)) (times (var 2) (var 3))) (times (times (times (var 0) (var 1)) (var 2)) (var 3)) refl)
-
-entry_out : (d : ℕ) (p : ℤ) (f g : ℕ → ℤ) (v : Vector) → p *ℤ dot d f v *ℤ dot d g v ≡ form_at d (λ k l. p *ℤ f k *ℤ g l) v
-entry_out d p f g v =
-    term_out d p (dot d f v) g v
-    ∙ sum_same d (λ l. p *ℤ dot d f v *ℤ g l *ℤ v l) (λ l. sum_to d (λ k. p *ℤ f k *ℤ g l *ℤ v k *ℤ v l))
-    (λ l q. first (p) (g l) (v l))
-    ∙ sum_swap d d (λ l k. p *ℤ f k *ℤ g l *ℤ v k *ℤ v l)
-  where
-    first : (p b y : ℤ) → p *ℤ dot d f v *ℤ b *ℤ y ≡ sum_to d (λ k. p *ℤ f k *ℤ b *ℤ v k *ℤ y)
-    first p b y =
-        ring (env (p ∷ dot d f v ∷ b ∷ y ∷ [])) (times (times (times (var 0) (var 1)) (var 2)) (var 3)) (times (times (times (var 0) (var 2)) (var 3)) (var 1)) refl
-        ∙ scale_left d (λ k. f k *ℤ v k) (p *ℤ b *ℤ y)
-        ∙ sum_same d (λ k. p *ℤ b *ℤ y *ℤ (f k *ℤ v k)) (λ k. p *ℤ f k *ℤ b *ℤ v k *ℤ y)
-        (λ k q. ring (env (p ∷ b ∷ y ∷ f k ∷ v k ∷ [])) (times (times (times (var 0) (var 1)) (var 2)) (times (var 3) (var 4))) (times (times (times (times (var 0) (var 3)) (var 1)) (var 4)) (var 2)) refl)
 
 form_sum : (d n : ℕ) (A : ℕ → Matrix) (v : Vector) → sum_to n (λ k. form_at d (A k) v) ≡ form_at d (λ i j. sum_to n (λ k. A k i j)) v
 form_sum d zero A v = sym (form_nought d v)

@@ -4,7 +4,7 @@ use Rattle.std.proofs.Math.IntN.{ℤ, pos, neg_ℤ, ◌+ℤ◌, ◌-ℤ◌, ◌*
 use Rattle.std.proofs.lemmas.Bool.{cases_lt}
 use Rattle.std.proofs.lemmas.Bool.Decides.{nat_tests}
 use Rattle.std.proofs.lemmas.Int.{ints}
-use Rattle.dsv_algebra.specs.Companion.{total_from}
+use Rattle.dsv_algebra.specs.Companion.{total_from, image_terms}
 use Rattle.dsv_algebra.specs.Vectors.{Vector, Matrix, matrix_of}
 use Rattle.dsv_forms.specs.declared.offers.Form.{Form}
 use Rattle.dsv_forms.specs.declared.refusal.OfferPart.TheVariants as part
@@ -16,7 +16,7 @@ use Rattle.dsv_forms.proofs.Shown.{symmetric_at}
 use Rattle.dsv_forms.proofs.SumLemmas.{unless-some, sum_from-is, values, total}
 use Rattle.dsv_certfile.specs.declared.ellipsoid.Ellipsoid.{Ellipsoid}
 use Rattle.dsv_ellipsoid.specs.Good.{form_of, step_form, first_form}
-use Rattle.dsv_ellipsoid.specs.Entries.{numbered, scaled, bare, image_terms, inside_summands, side_terms, side_summands, corner_summands, step_summands, first_summands}
+use Rattle.dsv_ellipsoid.specs.Entries.{numbered, scaled, bare, inside_summands, side_terms, side_summands, corner_summands, step_summands, first_summands}
 use Rattle.dsv_ellipsoid.specs.Stages.{StandsFor}
 use Rattle.dsv_ellipsoid.specs.Sums.{IsSummed, step_sum, first_sum}
 use Rattle.dsv_ellipsoid.proofs.EntryLemmas.{step_sum-is, first_sum-is, step_is_wide, first_is_wide}

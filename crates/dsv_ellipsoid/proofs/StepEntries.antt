@@ -7,13 +7,13 @@ use Rattle.std.proofs.lemmas.Bool.{cases_lt}
 use Rattle.std.proofs.Common.{inl, inr}
 use Rattle.dsv_algebra.proofs.Normaliser.{ring, env, var, num, plus, times, minus}
 use Rattle.dsv_algebra.specs.Vectors.{Vector, Matrix, sum_to, congruence}
-use Rattle.dsv_algebra.specs.Companion.{companion, only, total_from, fall_entry}
+use Rattle.dsv_algebra.specs.Companion.{companion, only, total_from, fall_entry, image_terms}
 use Rattle.dsv_algebra.proofs.CompanionEntries.{companion_fall_form-is}
 use Rattle.dsv_algebra.proofs.Congruence.{congruence-turned}
 use Rattle.dsv_algebra.proofs.Sums.{sum_same, sum_first, sum_none, sum_one}
 use Rattle.dsv_certfile.specs.declared.ellipsoid.Ellipsoid.{Ellipsoid}
 use Rattle.dsv_ellipsoid.specs.Good.{form_of, disturbed, bordered, step_form, first_form}
-use Rattle.dsv_ellipsoid.specs.Entries.{image_terms, side_terms}
+use Rattle.dsv_ellipsoid.specs.Entries.{side_terms}
 use Rattle.dsv_ellipsoid.proofs.Rectangular.{at_place, off_place, inner, beside_row, below_column, corner, not_last}
 
 total_after : (s : ℤ) (ts : List (ℤ × ℤ)) → total_from s ts ≡ s +ℤ total_from (pos 0) ts

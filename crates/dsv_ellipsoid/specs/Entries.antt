@@ -1,9 +1,9 @@
 -- The entries of the step form and of the first form term by term, as a check computes them.
 use Rattle.std.specs.Prelude.{ℕ, suc, Bool, ◌&&◌, ◌==◌, nat_lt, is_none}
-use Rattle.std.specs.Prelude.{List, [], ◌∷◌, map, drop, if◌then◌else◌, ℤ, pos, neg_ℤ, ◌*ℤ◌}
+use Rattle.std.specs.Prelude.{List, [], ◌∷◌, map, if◌then◌else◌, ℤ, pos, neg_ℤ, ◌*ℤ◌}
 use Rattle.std.specs.List.{list_any}
-use Rattle.dsv_algebra.specs.Vectors.{Vector, Matrix}
-use Rattle.dsv_algebra.specs.Companion.{only, fall_terms}
+use Rattle.dsv_algebra.specs.Vectors.{Vector}
+use Rattle.dsv_algebra.specs.Companion.{only, image_terms}
 use Rattle.dsv_forms.specs.Refusals.{places}
 use Rattle.dsv_forms.specs.Sums.{Summand, sum_from}
 use Rattle.dsv_certfile.specs.declared.ellipsoid.Ellipsoid.{Ellipsoid}
@@ -23,10 +23,6 @@ abbrev pub bare : ℤ → Summand
 bare z = ([], z)
 
 -- ---- the step form
--- the terms of an entry of the form after a step, with the other sign: those of an entry of the
--- fall form but the first
-abbrev pub image_terms : ℕ → Vector → Matrix → ℕ → ℕ → List (ℤ × ℤ)
-image_terms d c P i j = drop 1 (fall_terms d c P i j)
 
 -- for v_i and v_j
 abbrev pub inside_summands : ℕ → Vector → Ellipsoid → ℕ → ℕ → List Summand

@@ -13,8 +13,8 @@ use Rattle.dsv_word.specs.Words.{width, hi}
 use Rattle.dsv_quantiser.specs.QuantisedView.{QuantisedView, unit}
 use Rattle.dsv_system.specs.Breaks.{Breaks}
 use Rattle.dsv_system.specs.Runs.{SampleRow}
-use Rattle.dsv_system.specs.Systems.{rows, zeros, AreInRange}
-use Rattle.dsv_meaning.specs.Equations.{Past, order}
+use Rattle.dsv_system.specs.Systems.{rows, zeros, AreInRange, behaviour_of}
+use Rattle.dsv_meaning.specs.Equations.{order}
 use Rattle.dsv_meaning.specs.Systems.{equations_of, outputs_over}
 use Rattle.dsv_certfile.specs.declared.ellipsoid.Ellipsoid.{Ellipsoid}
 use Rattle.dsv_ellipsoid.specs.Intervals.{LiesIn, HasInterval, AreWords, output_interval}
@@ -70,7 +70,7 @@ pub record IsGood (q : QuantisedView) (o : Ellipsoid) : Type 0 where
 
 -- no list of inputs in range, of any length, breaks the controller
 abbrev pub NeverBreaks : QuantisedView → Type 0
-NeverBreaks q = (xs : List ℤ) → Breaks Past (equations_of q) q.xlo q.xhi xs → ⊥
+NeverBreaks q = (xs : List ℤ) → Breaks (behaviour_of (equations_of q)) q.xlo q.xhi xs → ⊥
 
 -- each exact value of a sample lies in its interval, and its output in the bound
 pub record IsKeptSample (q : QuantisedView) (o : Ellipsoid) (r : SampleRow) : Type 0 where

@@ -1,6 +1,6 @@
 -- A controller's file is refused for its first fault.
 use Rattle.std.proofs.Common.{◌≡◌, ℕ, List, length, inl, inr, sym, ap, ◌∙◌, subst}
-use Rattle.std.specs.Prelude.{◌⊎◌, true, Result, Ok, Err}
+use Rattle.std.specs.Prelude.{◌⊎◌, true, Ok, Err}
 use Rattle.dsv_token.specs.Lexing.{tokens_of}
 use Rattle.dsv_token.specs.Pieces.{IsCut, StopsAt}
 use Rattle.dsv_token.specs.Text.{utf8_test}
@@ -15,28 +15,15 @@ use Rattle.dsv_syntax.specs.declared.parsing.Syntax.{Syntax}
 use Rattle.dsv_syntax.proofs.ReadLemmas.{file_read}
 use Rattle.dsv_syntax.proofs.TakenLemmas.{file_taken}
 use Rattle.dsv_syntax.proofs.UnexpectedLemmas.{each_refusal, refused_where_it_stops}
-use Rattle.dsv_reader.specs.Controllers.{ControllerView}
 use Rattle.dsv_reader.specs.Fields.{values_of}
 use Rattle.dsv_reader.specs.Values.{AreValuesOf}
 use Rattle.dsv_reader.specs.Reading.{blocks_of, controller_from, reading}
 use Rattle.dsv_reader.proofs.ValueLaws.{values_taken, values_read}
+use Rattle.dsv_reader.proofs.TextLaws.{from_syntax, from_text, from_tokens, from_values}
 use Rattle.dsv_faults.specs.Types.{Values}
 use Rattle.dsv_faults.specs.FirstFaults.{AreTokensOf, IsFirstFault, FirstFaultsAreRead}
 use Rattle.dsv_faults.proofs.Refusals.{refused}
 use Rattle.dsv_faults.proofs.FieldLaws.{fields_taken, fields_read}
-
--- what the passes after a pass say
-abbrev from_values : Syntax → Values → Result ControllerView FileRefusal
-from_values x v = blocks_of x v >>= λ b. controller_from b
-
-abbrev from_syntax : List ℕ → Syntax → Result ControllerView FileRefusal
-from_syntax bytes x = values_of bytes x.entries >>= λ v. from_values x v
-
-abbrev from_tokens : List ℕ → List Token → Result ControllerView FileRefusal
-from_tokens bytes ts = syntax_of (length bytes) ts >>= λ x. from_syntax bytes x
-
-abbrev from_text : List ℕ → Unit {0} → Result ControllerView FileRefusal
-from_text bytes u = tokens_of bytes >>= λ ts. from_tokens bytes ts
 
 -- ---- where no token is, the text is stuck
 stuck_by : (bytes : List ℕ) (r : FileRefusal) → ((ts : List Token) × IsCut true 0 bytes ts) ⊎ ((place : ℕ) × StopsAt true 0 bytes place) →

@@ -17,6 +17,7 @@ use Rattle.dsv_reader.specs.Fields.{values_of}
 use Rattle.dsv_reader.specs.Values.{AreValuesOf}
 use Rattle.dsv_reader.specs.Reading.{system_of, plant_from, plant_reading}
 use Rattle.dsv_reader.proofs.ValueLaws.{values_taken, values_read}
+use Rattle.dsv_reader.proofs.PlantTexts.{from_syntax, from_text, from_tokens}
 use Rattle.dsv_faults.specs.Types.{Values}
 use Rattle.dsv_faults.specs.FirstFaults.{AreTokensOf}
 use Rattle.dsv_faults.specs.PlantFaults.{IsPlantFault, FirstPlantFaultsAreRead}
@@ -28,15 +29,6 @@ use Rattle.dsv_faults.proofs.PlantUnexpected.{stops_there}
 -- what the passes after a pass say
 abbrev from_values : Syntax → Values → Result PlantView FileRefusal
 from_values x v = system_of x.system v.system >>= λ b. plant_from b
-
-abbrev from_syntax : List ℕ → Syntax → Result PlantView FileRefusal
-from_syntax bytes x = values_of bytes x.entries >>= λ v. from_values x v
-
-abbrev from_tokens : List ℕ → List Token → Result PlantView FileRefusal
-from_tokens bytes ts = plant_syntax_of (length bytes) ts >>= λ x. from_syntax bytes x
-
-abbrev from_text : List ℕ → Unit {0} → Result PlantView FileRefusal
-from_text bytes u = tokens_of bytes >>= λ ts. from_tokens bytes ts
 
 -- ---- what is refused has a first fault
 by_values : (bytes : List ℕ) (ts : List Token) (s : Syntax) (v : Values) (r : FileRefusal) → AreTokensOf bytes ts → IsPlantFile (length bytes) ts s → AreValuesOf bytes s.entries v →

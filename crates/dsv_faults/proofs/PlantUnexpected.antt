@@ -14,7 +14,7 @@ use Rattle.dsv_syntax.specs.Parsing.{is_closed, with_close, plant_closed, step_a
 use Rattle.dsv_syntax.specs.Grammar.{IsBlock, IsPlantFile}
 use Rattle.dsv_syntax.proofs.States.{between}
 use Rattle.dsv_syntax.proofs.TakenLemmas.{declaration_by}
-use Rattle.dsv_syntax.proofs.PlantFiles.{plant_read}
+use Rattle.dsv_syntax.proofs.PlantFiles.{plant_read, no_more}
 use Rattle.dsv_syntax.proofs.Steps.{IsStep, step_leads}
 use Rattle.dsv_syntax.proofs.Completions.{completed}
 use Rattle.dsv_syntax.proofs.UnexpectedLemmas.{Leads, Ends, ends, reads_on, goes_on, all_read, stops_read, end_refuses, one_longer}
@@ -26,10 +26,6 @@ abbrev Parser : Type 0
 Parser = type_of start
 
 -- ---- a plant's file, whose other blocks are closed at the offset `end`, read to whatever end
-no_more : (end at : ℕ) (b : Block) → is_closed b (with_close block.System at (plant_closed end)) ≡ false → ⊥
-no_more end at block.System e = absurd (cc)
-no_more end at block.Implementation e = absurd (cc)
-no_more end at block.Hardware e = absurd (cc)
 
 -- after its block
 after_block : (i end at : ℕ) (ts : List Token) (fs : List Entry) (rest : List Token) (out : Syntax) → IsBlock block.System ts fs at rest →

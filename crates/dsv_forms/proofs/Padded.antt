@@ -8,7 +8,7 @@ use Rattle.dsv_forms.specs.Poly.{greatest_order}
 use Rattle.dsv_forms.specs.Padded.{row_of, matrix_with}
 
 -- a list that is filled up with the value after its end has the same entries
-repeated : {A : Type 0} (n i : ℕ) (z : A) → get_or (replicate n z) i z ≡ z
+pub repeated : {A : Type 0} (n i : ℕ) (z : A) → get_or (replicate n z) i z ≡ z
 repeated zero i z = refl
 repeated (suc n) zero z = refl
 repeated (suc n) (suc i) z = repeated n i z

@@ -148,7 +148,7 @@ value_numbers_narrow d p v P x h k a b some =
     (narrow_both products terms (all_narrow (p * v) products first a) (all_narrow (p * v * v) terms all (omega (arith, one, b))))
     (sums_narrow (p * v * v) 0 (pos 0) terms (omega arith) all (rw count (omega (arith, b))))
 
-below_zero : (z : ℤ) → z <ℤ pos 0 → int_lt z (pos 0) ≡ true
+pub below_zero : (z : ℤ) → z <ℤ pos 0 → int_lt z (pos 0) ≡ true
 below_zero z h = grind (arith, ints)
 
 pub kept_away_accepted : (c : List ℤ) (offer : KeptAway) (d f : ℕ) → length c - 1 ≡ d → bad_form d offer.form ≡ false

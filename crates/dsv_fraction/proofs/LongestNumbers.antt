@@ -10,7 +10,7 @@ use Rattle.dsv_text.specs.Digits.{digits_len}
 use Rattle.dsv_text.proofs.DigitLemmas.{digits_append}
 use Rattle.dsv_fraction.specs.Number.{sign_len, point_len, suffix_len, whole_len, has_mark, exponent_len, number_len, is_number}
 use Rattle.dsv_fraction.specs.NumberText.{AreDigits, IsSign, IsBody, IsMark, IsExponent, IsSuffix, IsNumberText, IsLongestNumber}
-use Rattle.dsv_fraction.proofs.NumberFronts.{number_prefix, number_within}
+use Rattle.dsv_fraction.proofs.NumberFronts.{number_prefix, number_within, by_point}
 
 not_none : (n : ℕ) → 0 < n → (n == 0) ≡ false
 not_none n h = ne_eqb n 0 (λ e. omega (arith, h, e))
@@ -126,12 +126,6 @@ tail_long exponent suffix rest (IsExponent.power mark sign ds m s h k) x = power
 -- no digit and no point is first
 abbrev EndsBody : List ℕ → Type 0
 EndsBody rest = (digits_len rest ≡ 0) × (point_len rest ≡ 0)
-
--- a body's length by its digits and its point
-abbrev by_point : List ℕ → ℕ → ℕ → ℕ
-by_point text n p =
-    let m = cond (p == 0) 0 (digits_len (drop (n + p) text)) in
-    cond (n + m == 0) 0 (n + p + m)
 
 by_point_least : (text : List ℕ) (n p : ℕ) → 0 < n → n ≤ by_point text n p
 by_point_least text n p h =

@@ -45,7 +45,7 @@ suffix_prefix (b ∷ bs) = suffix_at b bs (b == 102) (b == 70) (b == 108) (b == 
 -- ---- the body
 
 -- a body's length by its digits and its point
-abbrev by_point : List ℕ → ℕ → ℕ → ℕ
+abbrev pub by_point : List ℕ → ℕ → ℕ → ℕ
 by_point text n p =
     let m = cond (p == 0) 0 (digits_len (drop (n + p) text)) in
     cond (n + m == 0) 0 (n + p + m)

@@ -15,7 +15,7 @@ use Rattle.dsv_linear.specs.Forms.{◌>>=◌, scale, range_scale, range_at, lowe
 use Rattle.dsv_linear.specs.Meaning.{LiesIn}
 use Rattle.dsv_linear.proofs.Numbers.{some_of, narrow_is, times_up, times_down, times_back, sum_le}
 use Rattle.dsv_linear.proofs.Meanings.{total_is}
-use Rattle.dsv_linear.proofs.Roundings.{both_are, lower_is, upper_is, full_scale_positive, full_scale_is, not_above, not_below}
+use Rattle.dsv_linear.proofs.Roundings.{both_are, lower_is, upper_is, full_scale_positive, full_scale_is, not_above, not_below, rescaled}
 use Rattle.dsv_gain.specs.declared.weights.Part.TheVariants.{Positive, Negative}
 use Rattle.dsv_gain.specs.declared.weights.End.{End}
 use Rattle.dsv_gain.specs.declared.weights.End.TheVariants.{Low, High}
@@ -35,7 +35,7 @@ pub record Spans (k : ℤ) (r : Range) (p n v : ℤ) : Type 0 where
   pub least : (k *ℤ (p *ℤ r.low +ℤ n *ℤ r.high)) ≤ℤ (pos range_scale *ℤ v)
   pub most : (pos range_scale *ℤ v) ≤ℤ (k *ℤ (p *ℤ r.high +ℤ n *ℤ r.low))
 
-turned : (c s v : ℤ) → s *ℤ (c *ℤ v) ≡ c *ℤ (s *ℤ v)
+pub turned : (c s v : ℤ) → s *ℤ (c *ℤ v) ≡ c *ℤ (s *ℤ v)
 turned c s v = ring (env (c ∷ s ∷ v ∷ [])) (times (var 1) (times (var 0) (var 2))) (times (var 0) (times (var 1) (var 2))) refl
 
 first_alone : (k c x y : ℤ) → k *ℤ (c *ℤ x +ℤ pos 0 *ℤ y) ≡ c *ℤ (k *ℤ x)
@@ -131,9 +131,6 @@ sums_bound k off ranges w v sums h e =
     }
 
 -- ---- a value
--- t (s k v) is k times the value at both scales
-rescaled : (s t k v : ℤ) → t *ℤ (s *ℤ k *ℤ v) ≡ k *ℤ (v *ℤ (s *ℤ t))
-rescaled s t k v = ring (env (s ∷ t ∷ k ∷ v ∷ [])) (times (var 1) (times (times (var 0) (var 2)) (var 3))) (times (var 2) (times (var 3) (times (var 0) (var 1)))) refl
 
 -- a value whose multiple is between both sums lies in their range
 pub value_between : (k : ℤ) (sums ends : Range) (v all : ℤ) → pos 0 <ℤ k → AreSums k sums all → pos scale *ℤ k *ℤ v ≡ all → whole_range sums ≡ Some ends → Between ends.low ends.high v

@@ -39,6 +39,7 @@ use Rattle.dsv_gain.proofs.Passes.{Stands, run_lies, next_has, all_have}
 use Rattle.dsv_gain.proofs.Passes as passes
 use Rattle.dsv_gain.proofs.Gains.{front_part}
 use Rattle.dsv_gain.proofs.Symbols.{symbol_lies, registers_stand}
+use Rattle.dsv_algebra.proofs.Booleans.{and_left, and_right}
 
 -- ---- differences are given by a step without input
 differences_given : (f : Format) (says : List Bool) (d : ℤ) (regs : List ℤ) (ns : List Node) (before values : List ℤ) → AreDifferences f says d regs before ns values → AreGiven f (quantity.Differences says) d regs (pos 0) before ns values
@@ -146,13 +147,6 @@ range_holds f says d box ranges regs (n ∷ ns) before (w ∷ values) (suc i) r 
     range_holds f says d box (if is_fit n then drop 1 ranges else ranges) regs ns (before ++ w ∷ []) values i r a h.1 (later_in d f ranges n before (fitted_in (before ++ w ∷ []) ns values) l) e
 
 -- ---- a box that is kept
-and_left : (p q : Bool) → (p && q) ≡ true → p ≡ true
-and_left true q e = refl
-and_left false q e = e
-
-and_right : (p q : Bool) → (p && q) ≡ true → q ≡ true
-and_right true q e = e
-and_right false q e = absurd cc
 
 inside_cases : (p q : Bool) (d : ℤ) (r s : Range) (v : ℤ) → pos 0 ≤ℤ d → int_lt r.low s.low ≡ p → int_lt s.high r.high ≡ q → (not p && not q) ≡ true → IsIn d r v → IsIn d s v
 inside_cases true q d r s v u a b e i = absurd cc

@@ -235,12 +235,6 @@ within_from nodes next (suc left) sample n s gain e b h =
     run_within nodes next sample n (gain_from nodes next left (suc sample)) s (pass_ends (length next) nodes s.pass) gain (omega arith) b (λ l c q. within_from nodes next left (suc sample) n l gain (omega arith) c q) h
 
 -- ---- what the code gives
-pub gain_made : (net : Net) (low high l h : ℤ) (limit : ℕ) (nodes : List Node) (next : List ℕ) (pass : Pass) (o : Result Outlook NoMemory) → nodes ≡ net.nodes → next ≡ net.next
-    → pass ≡ word_pass net l h → l ≡ low → h ≡ high → IfOk o (λ g. g ≡ gain_from nodes next limit 0 (record { pass = pass; seen = None; best = None })) → IfOk o (λ g. g ≡ gain_of net low high limit)
-unfolding gain_of
-gain_made net low high l h limit nodes next pass (Err e) n m w a b f = f
-gain_made net low high l h limit nodes next pass (Ok g) n m w a b f = f ∙ rw (n, m, w, a, b) refl
-
 gain_holds : (net : Net) (low high : ℤ) (limit : ℕ) (g : Outlook) → IsNetlist net → IsWord net.format low → IsWord net.format high → g ≡ gain_of net low high limit → IfSafe g (λ gain. HoldInRuns net low high gain.ranges)
 gain_holds net low high limit (outlook.Leaves sample value) n l h e = tt
 gain_holds net low high limit outlook.Deep n l h e = tt

@@ -1,13 +1,15 @@
 -- Sums over symbols and samples of coefficients, each times its symbol.
-use Rattle.std.proofs.Common.{◌≡◌, ℕ, suc, ◌<◌, Bool, true, false, if◌then◌else◌, [], ◌∷◌, refl, ap, ◌∙◌, arith, rules}
+use Rattle.std.proofs.Common.{◌≡◌, ℕ, suc, ◌<◌, Bool, true, false, if◌then◌else◌, [], ◌∷◌, refl, ap, ◌∙◌, arith}
 use Rattle.std.specs.Prelude.{◌&&◌, ◌==◌}
 use Rattle.std.proofs.Math.IntN.{ℤ, pos, ◌+ℤ◌, ◌*ℤ◌}
-use Rattle.std.proofs.lemmas.Int.{ints}
 use Rattle.std.proofs.lemmas.Bool.{eqb-true}
 use Rattle.dsv_algebra.proofs.Normaliser.{ring, env, var, num, plus, times}
 use Rattle.dsv_algebra.proofs.Sums.{sum_same, sum_add, sum_scale, sum_none, sum_one, sum_first}
 use Rattle.dsv_algebra.specs.Vectors.{sum_to}
+use Rattle.dsv_algebra.proofs.Booleans.{and_left, and_right}
 use Rattle.dsv_linear.proofs.Numbers.{none_times}
+use Rattle.dsv_linear.proofs.ZeroTerms.{added}
+use Rattle.dsv_linear.proofs.Meanings.{same_place}
 
 -- ---- sums over m places and n ages
 abbrev pub grid : ℕ → ℕ → (ℕ → ℕ → ℤ) → ℤ
@@ -31,9 +33,6 @@ grid_none m n t h =
     sum_same m (λ j. sum_to n (λ a. t a j)) (λ j. pos 0) (λ j p. sum_same n (λ a. t a j) (λ a. pos 0) (λ a q. h a j q p) ∙ sum_none n)
     ∙ sum_none m
 
-added : (x y : ℤ) → x ≡ pos 0 → x +ℤ y ≡ y
-added x y e = omega (arith, ints)
-
 -- the newest age is 0
 pub grid_shift : (m n : ℕ) (t : ℕ → ℕ → ℤ) → ((j : ℕ) → j < m → t 0 j ≡ pos 0) → grid m (suc n) t ≡ grid m n (λ a j. t (suc a) j)
 grid_shift m n t h = sum_same m (λ j. sum_to (suc n) (λ a. t a j)) (λ j. sum_to n (λ a. t (suc a) j)) (λ j p. sum_first n (λ a. t a j) ∙ added (t 0 j) (sum_to n (λ a. t (suc a) j)) (h j p))
@@ -41,14 +40,6 @@ grid_shift m n t h = sum_same m (λ j. sum_to (suc n) (λ a. t a j)) (λ j. sum_
 -- ---- one place of the newest age
 abbrev pub is_here : ℕ → ℕ → ℕ → Bool
 is_here own a j = (a == 0) && (j == own)
-
-and_left : (p q : Bool) → (p && q) ≡ true → p ≡ true
-and_left true q e = refl
-and_left false q e = e
-
-and_right : (p q : Bool) → (p && q) ≡ true → q ≡ true
-and_right true q e = e
-and_right false q e = absurd cc
 
 pub here_age : (own a j : ℕ) → is_here own a j ≡ true → a ≡ 0
 here_age own a j e = eqb-true a 0 (and_left (a == 0) (j == own) e)
@@ -59,9 +50,6 @@ here_place own a j e = eqb-true j own (and_right (a == 0) (j == own) e)
 not_there : (b : Bool) (own a j : ℕ) (x : ℤ) → is_here own a j ≡ b → (a ≡ 0 → j ≡ own → ⊥) → (if b then x else pos 0) ≡ pos 0
 not_there true own a j x e h = absurd (h (here_age own a j e) (here_place own a j e))
 not_there false own a j x e h = refl
-
-pub same_place : (n : ℕ) → (n == n) ≡ true
-same_place n = search rules
 
 pub grid_here : (m n own : ℕ) (x : ℤ) → own < m → grid m (suc n) (λ a j. if is_here own a j then x else pos 0) ≡ x
 grid_here m n own x p =

@@ -22,7 +22,6 @@ use Rattle.dsv_roundoff.specs.Differences.{run_differences}
 use Rattle.dsv_roundoff.specs.Laws.{scaled, outputs_of}
 use Rattle.dsv_roundoff.proofs.Differences.{differences_obey, outputs_differ}
 use Rattle.dsv_roundoff.proofs.Controllers.{controllers_apart}
-use Rattle.dsv_gain.specs.Controllers.{HoldAlways}
 use Rattle.dsv_gain.specs.Safe.{LieWithin}
 use Rattle.dsv_roundoff.specs.declared.offers.RoundoffOffer.{RoundoffOffer}
 use Rattle.dsv_gain.specs.declared.roundoff.ErrorBound.{ErrorBound}
@@ -30,6 +29,8 @@ use Rattle.dsv_gain.specs.Errors.{error_of}
 use Rattle.dsv_gain.specs.Near.{RegistersStayNear, OutputsStayNear, StaysNear, AlwaysNear, ControllersStayNear}
 use Rattle.dsv_gain.proofs.Values.{lie_words}
 use Rattle.dsv_gain.proofs.Errors.{IsIn, bounded, registers_bounded}
+use Rattle.dsv_gain.specs.Subjects.{HoldsAlways}
+use Rattle.dsv_realise.specs.Controllers.{of_controller}
 
 -- ---- netlists
 pub registers_near : RegistersStayNear
@@ -73,7 +74,7 @@ controllers_near q z offer r e xs inside d ys p h =
     rescaled r d gives.scale (outputs_of net gives.samples) (roundoff.differences d (outputs_over q (zeros (equations_of q).many) xs) ys) p gives.positive gives.outputs outs
 
 -- where a gain's ranges hold, all of them are
-pub always_near : (q : QuantisedView) (ranges : List Range) (r : Range) → HoldAlways q ranges → StaysNear q r → AlwaysNear q r
+pub always_near : (q : QuantisedView) (ranges : List Range) (r : Range) → HoldsAlways (of_controller q) ranges → StaysNear q r → AlwaysNear q r
 always_near q ranges r h n xs a d ys p w =
     n xs (All-weaker (λ (row : SampleRow). LieWithin q.format ranges row.exact) (IsInside q.format) (λ row l. lie_words q.format ranges row.exact l) (rows (equations_of q) (zeros (equations_of q).many) xs) (h xs a)) d ys p w
 

@@ -15,12 +15,12 @@ use Rattle.dsv_linear.specs.declared.range.Range.{Range}
 use Rattle.dsv_linear.specs.Forms.{range_at}
 use Rattle.dsv_linear.specs.Meaning.{LiesIn}
 use Rattle.dsv_linear.proofs.Numbers.{times_none}
-use Rattle.dsv_linear.proofs.Meanings.{lies_grown}
+use Rattle.dsv_linear.proofs.Meanings.{lies_grown, same_place}
 use Rattle.dsv_gain.specs.declared.pass.Quantity.{Quantity}
 use Rattle.dsv_gain.specs.declared.pass.Pass.{Pass}
 use Rattle.dsv_gain.specs.declared.walk.Walk.{Walk}
 use Rattle.dsv_gain.specs.Samples.{own_after, after_node}
-use Rattle.dsv_gain.proofs.Masses.{is_here, here_place, same_place, placed}
+use Rattle.dsv_gain.proofs.Masses.{is_here, here_place, placed}
 use Rattle.dsv_gain.proofs.Walks.{form_of, IsStep, step_is, walk_or, coefficients, Means, means_same, means_grown}
 use Rattle.dsv_gain.proofs.Widening.{IsWider, lies_wider}
 

@@ -11,12 +11,13 @@ use Rattle.dsv_netlist.specs.declared.node.Node.{Node}
 use Rattle.dsv_linear.specs.declared.range.Range.{Range}
 use Rattle.dsv_linear.specs.Forms.{◌>>=◌, scale, sums, differences, products, longer}
 use Rattle.dsv_linear.proofs.Numbers.{some_of, times_none}
-use Rattle.dsv_linear.proofs.Meanings.{entries_are, entry_at, past, longer_left, longer_right}
+use Rattle.dsv_linear.proofs.Meanings.{entries_are, entry_at, past, longer_left, longer_right, stretched}
 use Rattle.dsv_gain.specs.declared.weights.Weights.{Weights}
 use Rattle.dsv_gain.specs.declared.pass.Pass.{Pass}
 use Rattle.dsv_gain.specs.declared.walk.Walk.{Walk}
 use Rattle.dsv_gain.specs.Samples.{form_at, node_form, node_weights, node_ranges, own_after, walk_with, after_node}
 use Rattle.dsv_gain.proofs.Masses.{mass, mass_same, mass_add, mass_scale, placed, placed_before}
+use Rattle.dsv_gain.proofs.Bounds.{turned}
 
 -- the form of this number, that of 0 where there is none
 abbrev pub form_of : List (List ℤ) → ℕ → List ℤ
@@ -104,9 +105,6 @@ means_add m t k us c d h v w e p q = means_same m t k us (λ a j. c a j +ℤ d a
 sub_spread : (x y : ℤ) → x -ℤ y ≡ x +ℤ negsuc 0 *ℤ y
 sub_spread x y = omega (arith, ints)
 
-turned : (c s v : ℤ) → s *ℤ (c *ℤ v) ≡ c *ℤ (s *ℤ v)
-turned c s v = ring (env (c ∷ s ∷ v ∷ [])) (times (var 1) (times (var 0) (var 2))) (times (var 0) (times (var 1) (var 2))) refl
-
 pub means_times : (m t : ℕ) (k : ℤ) (us : ℕ → ℕ → ℤ) (x : ℤ) (c h : ℕ → ℕ → ℤ) (v : ℤ) → ((a j : ℕ) → a < suc t → j < m → h a j ≡ x *ℤ c a j) → Means m t k us c v → Means m t k us h (x *ℤ v)
 means_times m t k us x c h v e p = means_same m t k us (λ a j. x *ℤ c a j) h (x *ℤ v) e (turned x (pos scale *ℤ k) v ∙ ap (λ y. x *ℤ y) p ∙ sym (mass_scale m (suc t) x c us))
 
@@ -114,9 +112,6 @@ pub means_sub : (m t : ℕ) (k : ℤ) (us c d h : ℕ → ℕ → ℤ) (v w : �
 means_sub m t k us c d h v w e p q =
     rw (sub_spread v w) (means_add m t k us c (λ a j. negsuc 0 *ℤ d a j) h v (negsuc 0 *ℤ w) (λ a j l r. e a j l r ∙ sub_spread (c a j) (d a j)) p
     (means_times m t k us (negsuc 0) d (λ a j. negsuc 0 *ℤ d a j) w (λ a j l r. refl) q))
-
-stretched : (c k s v : ℤ) → c *ℤ (k *ℤ s) *ℤ v ≡ s *ℤ (c *ℤ k *ℤ v)
-stretched c k s v = ring (env (c ∷ k ∷ s ∷ v ∷ [])) (times (times (var 0) (times (var 1) (var 2))) (var 3)) (times (var 2) (times (times (var 0) (var 1)) (var 3))) refl
 
 -- a symbol more, of which it has none
 pub means_grown : (m t own : ℕ) (k s u : ℤ) (us c : ℕ → ℕ → ℤ) (v : ℤ) → c 0 own ≡ pos 0 → Means m t k us c v → Means m t (k *ℤ s) (placed s own us u) c v

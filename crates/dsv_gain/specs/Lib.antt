@@ -3,4 +3,4 @@ pub mod Samples
 pub mod Safe
 pub mod Errors
 pub mod Near
-pub mod Controllers
+pub mod Subjects

@@ -4,9 +4,9 @@ use Rattle.std.specs.List.{All}
 use Rattle.dsv_word.specs.declared.format.Format.{Format}
 use Rattle.dsv_word.specs.Words.{IsWord}
 use Rattle.dsv_system.specs.Breaks.{Breaks, IsInside}
-use Rattle.dsv_system.specs.Systems.{rows, zeros, AreInRange}
+use Rattle.dsv_system.specs.Systems.{Behaviour, rows, zeros, AreInRange}
 use Rattle.dsv_netlist.specs.Nodes.{Net, at}
-use Rattle.dsv_netlist.specs.Systems.{system_of}
+use Rattle.dsv_netlist.specs.Systems.{system_of, runs_of}
 use Rattle.dsv_netlist.specs.Conditions.{IsNetlist}
 use Rattle.dsv_linear.specs.Facts.{Between, LiesWithin}
 use Rattle.dsv_linear.specs.declared.range.Range.{Range}
@@ -23,15 +23,22 @@ LieWithin format (r ∷ ranges) [] = ⊥
 LieWithin format (r ∷ ranges) (v ∷ values) =
     LiesWithin format r.low r.high v × LieWithin format ranges values
 
--- in each run from registers of zeros, over inputs in range, each exact value lies in its range
-abbrev pub HoldInRuns : Net → ℤ → ℤ → List Range → Type 0
-HoldInRuns net low high ranges = (xs : List ℤ) → AreInRange low high xs
-    → All (λ r. LieWithin net.format ranges r.exact)
-    (rows (system_of net) (zeros (length net.next)) xs)
+-- in each run from registers of zeros, over inputs in range, of any length, each exact value of
+-- each sample lies in its range, whose ends are words
+abbrev pub HoldsBy : Behaviour → ℤ → ℤ → List Range → Type 0
+HoldsBy b low high ranges = (xs : List ℤ) → AreInRange low high xs
+    → All (λ r. LieWithin b.format ranges r.exact) (b.rows (zeros b.many) xs)
 
--- no list of inputs in range breaks the netlist's run from registers of zeros
+-- no list of inputs in range breaks, however long
+abbrev pub NeverBy : Behaviour → ℤ → ℤ → Type 0
+NeverBy b low high = (xs : List ℤ) → Breaks b low high xs → ⊥
+
+-- the same of a netlist
+abbrev pub HoldInRuns : Net → ℤ → ℤ → List Range → Type 0
+HoldInRuns net low high ranges = HoldsBy (runs_of net) low high ranges
+
 abbrev pub NeverBreaks : Net → ℤ → ℤ → Type 0
-NeverBreaks net low high = (xs : List ℤ) → Breaks (List ℤ) (system_of net) low high xs → ⊥
+NeverBreaks net low high = NeverBy (runs_of net) low high
 
 -- what is said of the gain, where a search found one
 abbrev pub IfSafe : Outlook → (Gain → Type 0) → Type 0

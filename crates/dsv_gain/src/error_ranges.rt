@@ -14,7 +14,7 @@ use crate::pass::{Pass, Quantity, add_sample};
 use crate::ranges::{Ranges, hulls, hulls_after, symbol_of};
 use crate::starts::symbol_pass;
 use dsv_base::NoMemory;
-use dsv_linear::{Range, are_words, next_of, nodes_of};
+use dsv_linear::{Range, are_words};
 use dsv_netlist::{Netlist, Node};
 use dsv_roundoff::{RoundoffOffer, WordRange, multiples_of};
 use dsv_word::Format;
@@ -241,13 +241,12 @@ pub fn error_of(
 ) -> Result<Option<Range>, NoMemory>
     ensures { IfOk result (λ range. range ≡ error_of net.now offer.now) }
 {
-    let nodes = nodes_of(alloc, net)?;
-    let next = next_of(alloc, net)?;
-    let pass = error_pass(alloc, net, &nodes, offer.ranges.as_slice())?;
-    let Some(ranges) = differences_from(alloc, &nodes, &next, offer.depth, pass)? else {
+    let (nodes, next) = (net.nodes(), net.next_nodes());
+    let pass = error_pass(alloc, net, nodes, offer.ranges.as_slice())?;
+    let Some(ranges) = differences_from(alloc, nodes, next, offer.depth, pass)? else {
         return Ok(None);
     };
     let list = ranges_of(alloc, offer.ranges.as_slice())?;
     let (list, ranges) = (list.as_slice(), ranges.as_slice());
-    Ok(kept_range(net, list, ranges, &nodes, &next))
+    Ok(kept_range(net, list, ranges, nodes, next))
 }

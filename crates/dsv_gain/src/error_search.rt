@@ -10,7 +10,7 @@ use crate::ranges::{Ranges, hulls, hulls_after};
 use crate::roundoff::ErrorBound;
 use crate::start_parts::has_settled;
 use dsv_base::{Items, NoMemory};
-use dsv_linear::{Range, next_of, nodes_of};
+use dsv_linear::Range;
 use dsv_netlist::{Netlist, Node};
 use dsv_roundoff::{RoundoffOffer, WordRange};
 use dsv_word::Format;
@@ -260,14 +260,13 @@ fn kept_depth(
     list: &[WordRange],
     limit: u32,
 ) -> Result<Option<u32>, NoMemory> {
-    let nodes = nodes_of(alloc, net)?;
-    let next = next_of(alloc, net)?;
-    let pass = error_pass(alloc, net, &nodes, list)?;
+    let (nodes, next) = (net.nodes(), net.next_nodes());
+    let pass = error_pass(alloc, net, nodes, list)?;
     let ranges = ranges_of(alloc, list)?;
     let test = BoxTest {
         format: net.format(),
-        nodes: &nodes,
-        next: &next,
+        nodes,
+        next,
         ranges: ranges.as_slice(),
     };
     test.depth(alloc, pass, limit)
@@ -277,12 +276,11 @@ fn kept_depth(
 fn offer_of(alloc: Global, net: &Netlist, limit: u32) -> Result<Option<RoundoffOffer>, NoMemory>
     ensures { IfOk result (λ offer. IfSome offer (λ it. it.depth < limit)) }
 {
-    let nodes = nodes_of(alloc, net)?;
-    let next = next_of(alloc, net)?;
-    let Some(grown) = grown_ranges(alloc, net, &nodes, &next, limit)? else {
+    let (nodes, next) = (net.nodes(), net.next_nodes());
+    let Some(grown) = grown_ranges(alloc, net, nodes, next, limit)? else {
         return Ok(None);
     };
-    let Some(list) = register_ranges(alloc, grown.as_slice(), &nodes, &next)? else {
+    let Some(list) = register_ranges(alloc, grown.as_slice(), nodes, next)? else {
         return Ok(None);
     };
     let ranges = widened_box(alloc, &net.format(), list.as_slice())?;

@@ -1,10 +1,10 @@
 // What the ranges of a gain say.
 ghost use Rattle.std.specs.Prelude.{◌≡◌};
-ghost use Rattle.dsv_gain.specs.Controllers.{most_driven};
 ghost use Rattle.dsv_gain.specs.Safe.{GainsAreSafe, GainsAreFoundAgain, DepthsForgetStarts};
 ghost use Rattle.dsv_gain.specs.Near.{OutputsStayNear, RegistersStayNear, ControllersStayNear};
 ghost use Rattle.dsv_gain.specs.Near.{OffersFit};
 ghost use Rattle.dsv_gain.specs.declared.lists.TheConstants.{MOST_DRIVEN};
+ghost use Rattle.dsv_gain.specs.Subjects.{most_driven};
 
 /// In every run of a netlist from registers of zeros, over inputs in range, of any length, each
 /// exact value lies in its range of the gain, whose ends are words.

@@ -11,6 +11,7 @@ mod law;
 mod lists;
 mod outlook;
 mod pass;
+mod questions;
 mod ranges;
 mod reaches;
 mod roundoff;
@@ -20,15 +21,16 @@ mod starts;
 mod walk;
 mod weights;
 
-pub use controllers::{controller_error, overflow_gain, rounding_error};
+pub use controllers::{controller_error, rounding_error};
 pub use error_ranges::error_of;
 pub use error_search::error_bound;
 pub use law::{
     controllers_stay_near, depths_forget_starts, gains_are_found_again, gains_are_safe,
     longest_list, offers_fit, outputs_stay_near, registers_stay_near,
 };
-pub use lists::{MOST_DRIVEN, driven_overflow, driven_trace};
+pub use lists::{MOST_DRIVEN, driven_trace};
 pub use outlook::{Gain, Outlook};
+pub use questions::{driven, gain};
 pub use ranges::Ranges;
 pub use roundoff::{ErrorBound, ShownError};
 pub use search::gain_of;

@@ -5,22 +5,21 @@
 // pulse. Rounding seldom does its worst beside them, so a list may have to be longer than the worst
 // case says. At the sample at which the ranges leave the words the lists of all values are tried;
 // at later samples, to keep the time in bounds, those of the two values that are driven farthest.
-ghost use Rattle.std.specs.Prelude.{◌≡◌, ◌<◌, ◌≤◌, ◌+◌, ◌-◌, ◌*◌, ◌≤ℤ◌, List, ℤ, length};
+ghost use Rattle.std.specs.Prelude.{◌≡◌, ◌<◌, ◌≤◌, ◌+◌, ◌-◌, ◌*◌, ◌≤ℤ◌, ℤ, length};
 ghost use Rattle.std.specs.Prelude.{IfOk, IfSome};
 ghost use Rattle.std.specs.List.{All};
 ghost use Rattle.dsv_system.specs.Systems.{AreInRange};
 ghost use Rattle.dsv_word.specs.Words.{IsWord};
-ghost use Rattle.dsv_netlist.specs.Systems.{system_of};
-ghost use Rattle.dsv_meaning.specs.Traces.{IsTrace, IsTraceOf};
 ghost use Rattle.dsv_realise.specs.RangedNetlists.{IsTraceIn};
-ghost use Rattle.dsv_gain.specs.Controllers.{most_driven};
+ghost use Rattle.dsv_netlist.specs.Systems.{runs_of};
+ghost use Rattle.dsv_meaning.specs.Traces.{IsTraceBy};
+ghost use Rattle.dsv_gain.specs.Subjects.{most_driven};
 
 use crate::reaches::{Reach, Side, candidates, more_reaches, no_reaches};
 use dsv_base::{NoMemory, WordList};
 use dsv_meaning::Trace;
 use dsv_netlist::{Responses, pulse_responses};
-use dsv_quantiser::Quantised;
-use dsv_realise::{RangedNetlist, realise, replayed_trace};
+use dsv_realise::{RangedNetlist, replayed_trace};
 use std::alloc::Global;
 
 /// The most inputs of a list.
@@ -176,8 +175,8 @@ pub fn driven_trace(
     subject: &RangedNetlist,
     sample: u32,
 ) -> Result<Option<Trace>, NoMemory>
-    ensures trace { IfOk result (λ trace. IfSome trace (IsTraceOf (List ℤ)
-        (system_of subject.now.net.now) subject.now.low subject.now.high most_driven)) }
+    ensures trace { IfOk result (λ trace. IfSome trace (IsTraceBy
+        (runs_of subject.now.net.now) subject.now.low subject.now.high most_driven)) }
 {
     let last = last_sample(sample);
     let responses = pulse_responses(alloc, subject.net, last + 1)?;
@@ -186,19 +185,4 @@ pub fn driven_trace(
         responses: &responses,
     };
     driver.first_trace(alloc, sample, last)
-}
-
-/// A trace that breaks the controller, found among the lists that `driven_trace` tries in its
-/// netlist.
-pub fn driven_overflow(
-    alloc: Global,
-    quantised: &Quantised,
-    sample: u32,
-) -> Result<Option<Trace>, NoMemory>
-    ensures trace { IfOk result (λ trace. IfSome trace (IsTrace quantised.now most_driven)) }
-{
-    let _order = quantised.order(); // its range, for the proof
-    let net = realise(alloc, quantised)?;
-    let subject = RangedNetlist::of_controller(quantised, &net);
-    driven_trace(alloc, &subject, sample)
 }

@@ -1,6 +1,5 @@
 // The search for a depth, and the settling of its ranges.
 ghost use Rattle.std.specs.Prelude.{◌≡◌, ◌<◌, IfOk, None};
-ghost use Rattle.dsv_word.specs.Words.{IsWord};
 ghost use Rattle.dsv_gain.specs.Gains.{best_or, gain_at, gain_turn, sample_turn};
 ghost use Rattle.dsv_gain.specs.Gains.{gain_from, gain_of};
 ghost use Rattle.dsv_gain.specs.Safe.{HoldInRuns, NeverBreaks, IfSafe, IsWithin};
@@ -12,8 +11,8 @@ use crate::ranges::{Ranges, hulls, hulls_after};
 use crate::start_parts::has_settled;
 use crate::starts::word_pass;
 use dsv_base::NoMemory;
-use dsv_linear::{next_of, nodes_of};
-use dsv_netlist::{Netlist, Node};
+use dsv_netlist::Node;
+use dsv_realise::RangedNetlist;
 use std::alloc::Global;
 
 /// What is known between two samples.
@@ -134,37 +133,23 @@ fn gain_from(
     Ok(best_or(Outlook::Deep, search.best))
 }
 
-/// What is found of the runs of a netlist from registers of zeros, over inputs from `low` to
-/// `high`, of any length, by a pass over the samples below the limit, from registers that are any
-/// words.
-pub fn gain_of(
-    alloc: Global,
-    net: &Netlist,
-    low: i64,
-    high: i64,
-    limit: u32,
-) -> Result<Outlook, NoMemory>
-    requires low { IsWord net.now.format low }
-    requires high { IsWord net.now.format high }
-    ensures made { IfOk result (λ gain. gain ≡ gain_of net.now low high limit) }
-    ensures holds { IfOk result (λ gain. IfSafe gain
-        (λ g. HoldInRuns net.now low high g.ranges)) }
-    ensures safe { IfOk result (λ gain. IfSafe gain (λ g. NeverBreaks net.now low high)) }
+/// What is found of the runs of a netlist from registers of zeros, over inputs in its range, of any
+/// length, by a pass over the samples below the limit, from registers that are any words.
+pub fn gain_of(alloc: Global, subject: &RangedNetlist, limit: u32) -> Result<Outlook, NoMemory>
+    ensures made { IfOk result (λ gain. gain
+        ≡ gain_of subject.now.net.now subject.now.low subject.now.high limit) }
+    ensures holds { IfOk result (λ gain. IfSafe gain (λ g. HoldInRuns
+        subject.now.net.now subject.now.low subject.now.high g.ranges)) }
+    ensures safe { IfOk result (λ gain. IfSafe gain (λ g. NeverBreaks
+        subject.now.net.now subject.now.low subject.now.high)) }
     ensures within { IfOk result (λ gain. IfSafe gain (IsWithin limit)) }
 {
+    let net = subject.net;
     let _count = net.len(); // its range, for the proof
-    let nodes = nodes_of(alloc, net)?;
-    let next = next_of(alloc, net)?;
-    let pass = word_pass(alloc, net, low, high)?;
-    gain_from(
-        alloc,
-        &nodes,
-        &next,
-        limit,
-        Search {
-            pass,
-            seen: None,
-            best: None,
-        },
-    )
+    let search = Search {
+        pass: word_pass(alloc, net, subject.low, subject.high)?,
+        seen: None,
+        best: None,
+    };
+    gain_from(alloc, net.nodes(), net.next_nodes(), limit, search)
 }

@@ -7,7 +7,7 @@ ghost use Rattle.dsv_gain.specs.Gains.{sample_symbols, symbol_pass, word_pass};
 use crate::pass::{Pass, Quantity};
 use crate::ranges::{Ranges, past_symbol, push_copies, symbol_of};
 use dsv_base::{Items, NoMemory};
-use dsv_linear::{Form, Range, next_of, nodes_of, unit};
+use dsv_linear::{Form, Range, unit};
 use dsv_netlist::{Netlist, Node};
 use std::alloc::Global;
 
@@ -42,19 +42,17 @@ fn hold_inputs(forward: u32, nodes: &[Node], next: &[u32]) -> bool
 }
 
 /// How many of the first registers hold inputs of samples before, or 0.
-fn pasts(alloc: Global, net: &Netlist) -> Result<u32, NoMemory>
-    ensures value { IfOk result (λ count. count ≡ pasts net.now) }
-    ensures few { IfOk result (λ count. count ≤ length net.now.next) }
+fn pasts(net: &Netlist) -> u32
+    ensures value { result ≡ pasts net.now }
+    ensures few { result ≤ length net.now.next }
 {
     let _count = net.len(); // its range, for the proof
-    let nodes = nodes_of(alloc, net)?;
-    let next = next_of(alloc, net)?;
     let forward = net.feed_forward();
-    Ok(if hold_inputs(forward, &nodes, &next) {
+    if hold_inputs(forward, net.nodes(), net.next_nodes()) {
         forward
     } else {
         0
-    })
+    }
 }
 
 /// What is known of so many registers that are symbols of their own.
@@ -124,9 +122,8 @@ pub(crate) fn symbol_pass(
 ) -> Result<Pass, NoMemory>
     ensures { IfOk result (λ pass. pass ≡ symbol_pass net.now quantity symbols input.now) }
 {
-    let nodes = nodes_of(alloc, net)?;
     let mut ranges = symbols;
-    push_sample_symbols(&mut ranges, input, &nodes)?;
+    push_sample_symbols(&mut ranges, input, net.nodes())?;
     Ok(Pass {
         format: net.format(),
         quantity,
@@ -143,7 +140,7 @@ pub(crate) fn symbol_pass(
 pub(crate) fn word_pass(alloc: Global, net: &Netlist, low: i64, high: i64) -> Result<Pass, NoMemory>
     ensures { IfOk result (λ pass. pass ≡ word_pass net.now low high) }
 {
-    let count = pasts(alloc, net)?;
+    let count = pasts(net);
     let symbols = register_symbols(alloc, net, count, low, high)?;
     symbol_pass(alloc, net, Quantity::Words, symbols, &symbol_of(low, high))
 }

@@ -1,9 +1,10 @@
 // Answers that are worked out by hand, in direct form I. A sample of order 1 has five exact values:
 // b_0 x, b_1 x_1, their sum, a_1 y_1, and y.
 use crate::controllers::Design;
-use dsv_gain::{Outlook, overflow_gain};
+use dsv_gain::{Outlook, gain};
 use dsv_linear::Range;
 use dsv_names::{Realisation, Rounding};
+use dsv_realise::Asking;
 use std::alloc::Global;
 use std::test::Fail;
 
@@ -179,7 +180,8 @@ fn is_wanted(outlook: &Outlook, wanted: &Wanted) -> bool {
 fn is_right(alloc: Global, row: &Row) -> Option<bool> {
     let design = Design::of_wrapped_words(row.text, row.int_bits, row.frac_bits, row.rounding);
     let quantised = design.quantised_in(alloc, Realisation::Dfi)?;
-    let outlook = overflow_gain(alloc, &quantised, row.limit).ok()?;
+    let asking = Asking::of(alloc, &quantised).ok()?;
+    let outlook = gain(alloc, &asking, row.limit).ok()?;
     Some(is_wanted(&outlook, &row.wanted))
 }
 

@@ -1,8 +1,9 @@
 // Lists that break a controller, beside the least ones by hand.
 use crate::controllers::{Design, REALISATIONS};
-use dsv_gain::{Outlook, driven_overflow, overflow_gain};
+use dsv_gain::{Outlook, driven, gain};
 use dsv_meaning::Trace;
 use dsv_names::{OverflowMode, Realisation, Rounding};
+use dsv_realise::Asking;
 use std::alloc::Global;
 use std::test::Fail;
 
@@ -35,8 +36,9 @@ fn design(text: &'static str, int_bits: u32) -> Design {
 /// The trace that is found where the ranges leave the words.
 fn trace_of(alloc: Global, design: &Design, realisation: Realisation) -> Option<Trace> {
     let quantised = design.quantised_in(alloc, realisation)?;
-    match overflow_gain(alloc, &quantised, 64).ok()? {
-        Outlook::Leaves { sample, .. } => driven_overflow(alloc, &quantised, sample).ok()?,
+    let asking = Asking::of(alloc, &quantised).ok()?;
+    match gain(alloc, &asking, 64).ok()? {
+        Outlook::Leaves { sample, .. } => driven(alloc, &asking, sample).ok()?,
         _ => None,
     }
 }
@@ -109,7 +111,8 @@ fn integrator_breaks_in_each_realisation(rt: HostRuntime) -> Result<(), Fail> {
 /// What is found in lists that don't break.
 fn quiet_trace(alloc: Global) -> Option<Option<Trace>> {
     let quantised = design(HALF, 2).quantised_in(alloc, Realisation::Dfi)?;
-    driven_overflow(alloc, &quantised, 0).ok()
+    let asking = Asking::of(alloc, &quantised).ok()?;
+    driven(alloc, &asking, 0).ok()
 }
 
 #[test]

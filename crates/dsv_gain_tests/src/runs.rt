@@ -8,11 +8,11 @@ ghost use Rattle.std.specs.Prelude.{IsTrue};
 ghost use Rattle.std.specs.List.{All};
 
 use crate::controllers::{Design, REALISATIONS};
-use dsv_gain::{Gain, Outlook, overflow_gain};
+use dsv_gain::{Gain, Outlook, gain};
 use dsv_linear::Range;
 use dsv_names::{OverflowMode, Realisation, Rounding};
 use dsv_netlist::Netlist;
-use dsv_realise::realise;
+use dsv_realise::{Asking, realise};
 use dsv_system::ExactList;
 use dsv_word::Format;
 use std::alloc::Global;
@@ -159,7 +159,8 @@ impl Claim {
 fn claim_of(alloc: Global, design: &Design, realisation: Realisation) -> Option<Claim> {
     let quantised = design.quantised_in(alloc, realisation)?;
     let net = realise(alloc, &quantised).ok()?;
-    match overflow_gain(alloc, &quantised, 16).ok()? {
+    let asking = Asking::of(alloc, &quantised).ok()?;
+    match gain(alloc, &asking, 16).ok()? {
         Outlook::Safe(gain) => Some(Claim {
             net,
             low: quantised.xlo(),

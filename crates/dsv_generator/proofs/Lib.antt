@@ -2,3 +2,4 @@ pub mod Words
 pub mod Polynomials
 pub mod Sums
 pub mod Turns
+pub mod Runs

@@ -13,9 +13,7 @@ use Rattle.dsv_fraction.specs.Arithmetic.{is_bounded, bounded_ratio, too_wide}
 use Rattle.dsv_fraction.specs.declared.fraction.TooWide.{TooWide}
 use Rattle.dsv_names.specs.declared.list_name.ListName.{ListName}
 use Rattle.dsv_names.specs.declared.list_name.ListName.TheVariants as list
-use Rattle.dsv_names.specs.declared.overflow_mode.OverflowMode.TheVariants.{Wrap}
 use Rattle.dsv_names.specs.declared.realisation.Realisation.TheVariants.{Dfi}
-use Rattle.dsv_names.specs.declared.rounding.Rounding.TheVariants.{Floor}
 use Rattle.dsv_text.specs.Stages.{◌>>=◌}
 use Rattle.dsv_word.specs.Quotients.{word_of as quotient_of}
 use Rattle.dsv_word.specs.declared.format.Format.{Format}
@@ -27,10 +25,7 @@ use Rattle.dsv_generator.specs.Controllers.{IsGeneratedFormat, number_with, cont
 use Rattle.dsv_generator.specs.Draws.{number_of, word_of}
 use Rattle.dsv_generator.specs.Small.{IsSmall, greatest_size}
 use Rattle.dsv_quantiser.proofs.Formats.{one_format}
-
--- words from -64 to 63
-abbrev format_3_4 : Format
-format_3_4 = record { int_bits = 3; frac_bits = 4; rounding = Floor; overflow = Wrap; lawful = (omega arith, omega arith, omega arith) }
+use Rattle.dsv_meaning.proofs.WorkedControllers.{format_3_4}
 
 -- ---- all words
 abbrev centred : ℕ → ℤ

@@ -17,11 +17,12 @@ use Rattle.dsv_bounded.specs.RunAnswers.{NeverHappens, GaveUp}
 use Rattle.dsv_hints.specs.declared.search.Searched.{Searched}
 use Rattle.dsv_hints.specs.declared.search.Searched.TheVariants as searched
 use Rattle.dsv_meaning.specs.declared.replays.Trace.{Trace}
-use Rattle.dsv_meaning.specs.Traces.{IsTrace}
 use Rattle.dsv_generator.specs.declared.finding.Finding.{Finding}
 use Rattle.dsv_generator.specs.declared.finding.RootFinding.{RootFinding}
 use Rattle.dsv_generator.specs.declared.finding.RootFinding.TheVariants as root
 use Rattle.dsv_generator.specs.Limits.{generated_samples, generated_conflicts}
+use Rattle.dsv_realise.specs.Runs.{IsTrace}
+use Rattle.dsv_realise.specs.Controllers.{of_controller}
 
 abbrev pub degree : List ℤ → ℕ
 degree poly = length poly - 1
@@ -60,10 +61,10 @@ IsOfRoots q of_side f =
 -- what is found of the overflow of runs
 abbrev pub IsOfRuns : QuantisedView → Searched Trace → Type 0
 IsOfRuns q (searched.Never log) =
-    NeverHappens run.Overflow generated_samples generated_conflicts q log
-IsOfRuns q (searched.Happens trace) = IsTrace q generated_samples trace
+    NeverHappens run.Overflow generated_samples generated_conflicts (of_controller q) log
+IsOfRuns q (searched.Happens trace) = IsTrace (of_controller q) generated_samples trace
 IsOfRuns q (searched.Spent log) =
-    GaveUp run.Overflow generated_samples generated_conflicts q log
+    GaveUp run.Overflow generated_samples generated_conflicts (of_controller q) log
 
 -- All that is found is so of the quantised controller.
 pub record IsFinding (q : QuantisedView) (finding : Finding) : Type 0 where

@@ -7,13 +7,14 @@ ghost use Rattle.dsv_generator.specs.Tallies.{does_fall};
 
 use crate::generator::{CONFLICTS, SAMPLES};
 use dsv_base::NoMemory;
-use dsv_bounded::{BoundedRefusal, overflow};
+use dsv_bounded::{BoundedRefusal, overflow_within};
 use dsv_closed_forms::closed_form;
 use dsv_forms::Poly;
 use dsv_hints::Searched;
 use dsv_lyapunov::{CheckedForm, check_offer};
 use dsv_meaning::Trace;
 use dsv_quantiser::Quantised;
+use dsv_realise::Asking;
 use dsv_tested::{Side, Tested, polynomial_of};
 use std::alloc::Global;
 
@@ -80,7 +81,8 @@ fn run_finding(alloc: Global, quantised: &Quantised) -> Result<Searched<Trace>, 
     requires { IsSmall quantised.now }
     ensures { IfOk result (IsOfRuns quantised.now) }
 {
-    match overflow(alloc, quantised, SAMPLES, CONFLICTS) {
+    let asking = Asking::of(alloc, quantised)?;
+    match overflow_within(alloc, &asking, SAMPLES, CONFLICTS) {
         Ok(found) => Ok(found),
         Err(BoundedRefusal::JobSize { .. }) => unreachable!(),
         Err(BoundedRefusal::NoMemory) => Err(NoMemory),

@@ -2,11 +2,12 @@
 use Rattle.std.proofs.Common.{◌≡◌, ◌≢◌, Bool, true, false, ◌&&◌, List, [], ◌∷◌, cond, refl, ap, sym, ◌∙◌, inl, inr, ◌⊎◌}
 use Rattle.dsv_cnf.specs.Literal.{Literal, literal_eq, negation}
 use Rattle.dsv_cnf.specs.Formula.{contains}
-use Rattle.dsv_cnf.proofs.LiteralLemmas.{and_left, and_right, or_cases, literal_eq-same, same_literal}
+use Rattle.dsv_cnf.proofs.LiteralLemmas.{or_cases, literal_eq-same, same_literal}
 use Rattle.dsv_cnf.proofs.ClauseLemmas.{or_true, no_both, contains-head, contains-tail, contains-cases}
 use Rattle.dsv_hints.specs.LiteralSet.{with, with_all, outside, only}
 use Rattle.dsv_hints.specs.declared.hints.Move.TheVariants.{Ends, Makes, Stuck}
 use Rattle.dsv_hints.specs.Derivation.{move_of}
+use Rattle.dsv_algebra.proofs.Booleans.{and_left, and_right}
 
 pub with-head : (l : Literal) (A : Literal → Bool) → with l A l ≡ true
 with-head l A = or_true _ _ (inl (literal_eq-same l))

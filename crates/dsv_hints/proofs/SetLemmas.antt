@@ -7,8 +7,9 @@ use Rattle.std.proofs.lemmas.Bool.{cases_eq, eq-eqb}
 use Rattle.std.proofs.lemmas.Bool.Decides.{eqb_tells, nat_tests}
 use Rattle.dsv_cnf.specs.Literal.{Literal, literal_eq, code_of}
 use Rattle.dsv_cnf.specs.Formula.{IsOver}
-use Rattle.dsv_cnf.proofs.LiteralLemmas.{literal_eq-code, and_left, and_right}
+use Rattle.dsv_cnf.proofs.LiteralLemmas.{literal_eq-code}
 use Rattle.dsv_hints.specs.LiteralSet.{with, is_over}
+use Rattle.dsv_algebra.proofs.Booleans.{and_left, and_right}
 
 pub eqb-other : (a b : ℕ) → (a ≡ b → ⊥) → (a == b) ≡ false
 eqb-other a b n = elim (eqb_tells a b) [ inl p ↦ absurd (n p.1) | inr p ↦ p.0 ]

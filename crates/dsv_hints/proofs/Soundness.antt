@@ -3,7 +3,7 @@ use Rattle.std.proofs.Common.{◌≡◌, ℕ, ◌+◌, Bool, true, false, not, �
 use Rattle.dsv_cnf.specs.Literal.{Literal, literal_eq, negation, literal_value}
 use Rattle.dsv_cnf.specs.Formula.{clause_value, Satisfies}
 use Rattle.dsv_cnf.specs.FormulaView.{FormulaView}
-use Rattle.dsv_cnf.proofs.LiteralLemmas.{and_left, and_right, or_cases, same_literal, literal_eq-same, value-negation}
+use Rattle.dsv_cnf.proofs.LiteralLemmas.{or_cases, same_literal, literal_eq-same, value-negation}
 use Rattle.dsv_hints.specs.LiteralSet.{none, with, with_all, outside, only, is_over, is_tautology}
 use Rattle.dsv_hints.specs.Derivation.{Entry, Carried, live_clause, without, without_all, is_after, move_of, after_move, after_clause, hints_answer, refused_if, is_empty, entries_from, start_of}
 use Rattle.dsv_hints.specs.Follows.{clauses_of, Follows}
@@ -12,6 +12,7 @@ use Rattle.dsv_hints.specs.CheckerView.{CheckerView}
 use Rattle.dsv_hints.specs.declared.hints.Move.TheVariants.{Makes, Stuck}
 use Rattle.dsv_hints.specs.declared.step.StepRefusal.{StepRefusal}
 use Rattle.dsv_hints.specs.declared.step.StepRefusal.TheVariants.{IdOrder, Tautology, Literal as OtherVariable}
+use Rattle.dsv_algebra.proofs.Booleans.{and_left, and_right}
 
 -- ---- false literals
 

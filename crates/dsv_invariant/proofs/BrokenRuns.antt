@@ -15,11 +15,11 @@ use Rattle.dsv_meaning.specs.Equations.{Past}
 use Rattle.dsv_system.specs.OutsideValues.{IsFirstOutside}
 use Rattle.dsv_meaning.specs.Systems.{equations_of}
 use Rattle.dsv_netlist.specs.Nodes.{Net, at, sample_of, step_of}
-use Rattle.dsv_netlist.specs.Systems.{system_of}
+use Rattle.dsv_netlist.specs.Systems.{system_of, runs_of}
 use Rattle.dsv_quantiser.specs.QuantisedView.{QuantisedView, IsQuantisedView}
 use Rattle.dsv_system.specs.Breaks.{IsInside}
 use Rattle.dsv_system.specs.Runs.{SampleRow, row_at}
-use Rattle.dsv_system.specs.Systems.{RunAlike, rows, registers_after, zeros, AreInRange}
+use Rattle.dsv_system.specs.Systems.{rows, registers_after, zeros, AreInRange, behaviour_of, Agree}
 use Rattle.dsv_system.proofs.Words.{no_break}
 use Rattle.dsv_template.specs.declared.candidate.Candidate.{Candidate}
 use Rattle.dsv_template.specs.declared.verdict.SetPart.TheVariants as part
@@ -75,13 +75,13 @@ way_leaves net c inputs h inside =
     h.1 (subst (λ (xs : List ℤ). IsInSet c (registers_after (system_of net) (zeros (length net.next)) xs)) (take_min n inputs) (inside (min n (length inputs)) (omega arith)))
 
 -- ---- too early
-pub early_leaves : (q : QuantisedView) (net : Net) (c : Candidate) (inputs : List ℤ) → RunAlike (List ℤ) Past (system_of net) (equations_of q) → DoBreak q c part.Base inputs → (n : ℕ) × DoLeave net c (take n inputs)
+pub early_leaves : (q : QuantisedView) (net : Net) (c : Candidate) (inputs : List ℤ) → Agree (runs_of net) (behaviour_of (equations_of q)) → DoBreak q c part.Base inputs → (n : ℕ) × DoLeave net c (take n inputs)
 early_leaves q net c inputs run b =
     let m = system_of net in
     let n = b.1.0 in
     (n, λ h. b.1.1.outside (subst (IsInSet c) (zero_registers (List ℤ) Past m (equations_of q) (take n inputs) run) h))
 
-pub early_stands : (q : QuantisedView) (net : Net) (c : Candidate) (inputs until : List ℤ) → RunAlike (List ℤ) Past (system_of net) (equations_of q) → DoBreak q c part.Base inputs → length inputs < c.depth
+pub early_stands : (q : QuantisedView) (net : Net) (c : Candidate) (inputs until : List ℤ) → Agree (runs_of net) (behaviour_of (equations_of q)) → DoBreak q c part.Base inputs → length inputs < c.depth
     → (n : ℕ) × (until ≡ take n inputs) → DoLeave net c until → LeavesEarly Past (equations_of q) q.xlo q.xhi c until
 early_stands q net c inputs until run b few first leaves =
     let m = system_of net in
@@ -99,7 +99,7 @@ pub record IsBrokenStart (q : QuantisedView) (net : Net) (c : Candidate) (start 
   pub word : IsWord net.format input
   pub breaks : BreaksFrom Past (equations_of q) q.xlo q.xhi c start input
 
-pub broken_start : (q : QuantisedView) (net : Net) (c : Candidate) (words : List ℤ) (k : ℕ) → RunAlike (List ℤ) Past (system_of net) (equations_of q) → IsQuantisedView q → DoBreak q c part.Safe words
+pub broken_start : (q : QuantisedView) (net : Net) (c : Candidate) (words : List ℤ) (k : ℕ) → Agree (runs_of net) (behaviour_of (equations_of q)) → IsQuantisedView q → DoBreak q c part.Safe words
     → k ≡ length net.next → IsBrokenStart q net c (take k words) (get_or words k (pos 0))
 broken_start q net c words k run f b e =
     let m = equations_of q in
@@ -120,7 +120,7 @@ broken_start q net c words k run f b e =
       breaks = from;
     }
 
-pub unsafe_stands : (q : QuantisedView) (net : Net) (c : Candidate) (start : List ℤ) (input : ℤ) (value : ℕ) (exact : ℤ) → RunAlike (List ℤ) Past (system_of net) (equations_of q) → IsBrokenStart q net c start input
+pub unsafe_stands : (q : QuantisedView) (net : Net) (c : Candidate) (start : List ℤ) (input : ℤ) (value : ℕ) (exact : ℤ) → Agree (runs_of net) (behaviour_of (equations_of q)) → IsBrokenStart q net c start input
     → IsFirstOutside net.format (step_of net start input).exact value exact → IsUnsafe q c start input value exact
 unsafe_stands q net c start input value exact run b o =
     let from = b.breaks in
@@ -139,7 +139,7 @@ unsafe_stands q net c start input value exact run b o =
       };
     }
 
-pub unsafe_found : (q : QuantisedView) (net : Net) (c : Candidate) (start : List ℤ) (input : ℤ) (conflicts : ℕ) (found : Why) → RunAlike (List ℤ) Past (system_of net) (equations_of q) → IsBrokenStart q net c start input
+pub unsafe_found : (q : QuantisedView) (net : Net) (c : Candidate) (start : List ℤ) (input : ℤ) (conflicts : ℕ) (found : Why) → Agree (runs_of net) (behaviour_of (equations_of q)) → IsBrokenStart q net c start input
     → IsUnsafeSample net start input found → IsFoundAt q conflicts c part.Safe found
 unsafe_found q net c start input conflicts (why.Unsafe given x value exact) run b u = λ before.
     let stands = unsafe_stands q net c start input value exact run b u.2 in
@@ -151,7 +151,7 @@ unsafe_found q net c start input conflicts (why.Spent part log) run b u = absurd
 unsafe_found q net c start input conflicts why.BadShape run b u = absurd u
 
 -- some exact value of the sample is no word
-pub not_safe : (q : QuantisedView) (net : Net) (c : Candidate) (start : List ℤ) (input : ℤ) → RunAlike (List ℤ) Past (system_of net) (equations_of q) → IsBrokenStart q net c start input
+pub not_safe : (q : QuantisedView) (net : Net) (c : Candidate) (start : List ℤ) (input : ℤ) → Agree (runs_of net) (behaviour_of (equations_of q)) → IsBrokenStart q net c start input
     → All (IsWord net.format) (step_of net start input).exact → ⊥
 not_safe q net c start input run b words =
     let e = equations_of q in

@@ -2,7 +2,7 @@
 use Rattle.std.proofs.Common.{ℕ, List, sym, subst}
 use Rattle.std.specs.Prelude.{◌≤ℤ◌}
 use Rattle.std.proofs.Math.IntN.{ℤ}
-use Rattle.dsv_system.proofs.Alike.{alike_back}
+use Rattle.dsv_system.proofs.Agreeing.{agree_back}
 use Rattle.dsv_hints.specs.declared.step.Step.{Step}
 use Rattle.dsv_hints.specs.Lessons.{IsRefutation}
 use Rattle.dsv_meaning.specs.Equations.{Past, order, registers_of}
@@ -25,6 +25,7 @@ use Rattle.dsv_word.specs.Words.{width, lo, hi}
 use Rattle.dsv_invariant.specs.Causes.{Holds, IsGood, IsFinding, IsShaped, IsCause}
 use Rattle.dsv_invariant.specs.Formulas.{set_formula_of}
 use Rattle.dsv_invariant.proofs.Stepwise.{net_stepwise, stepwise_alike}
+use Rattle.dsv_system.specs.Systems.{behaviour_of}
 
 -- the written equations go on from their registers alone
 equations_stepwise : (q : QuantisedView) → IsQuantisedView q → IsStepwise Past (equations_of q) q.xlo q.xhi
@@ -35,14 +36,14 @@ equations_stepwise q f =
     let run = runs_alike q f in
     let low = subst (λ (h : Format). lo (width h) ≤ℤ q.xlo) (sym run.format) f.low in
     let high = subst (λ (h : Format). q.xhi ≤ℤ hi (width h)) (sym run.format) f.high in
-    stepwise_alike (List ℤ) Past m e q.xlo q.xhi run (alike_back (List ℤ) Past m e run) (net_stepwise net q.xlo q.xhi (net_realised q f).netlist low high)
+    stepwise_alike (List ℤ) Past m e q.xlo q.xhi run (agree_back (behaviour_of m) (behaviour_of e) run) (net_stepwise net q.xlo q.xhi (net_realised q f).netlist low high)
 
 kept_by : (q : QuantisedView) (c : Candidate) → IsShaped q c → Holds q c part.Base → Holds q c part.Step → Holds q c part.Safe → IsKept Past (equations_of q) q.xlo q.xhi c
 kept_by q c shaped begins stays safely = record { deep = (shaped_parts (registers_of q.realisation (order q)) c shaped).deep; begins = begins; stays = stays; safe = safely }
 
 -- where the three sentences hold, no list of inputs breaks the controller
 pub never_breaks : (q : QuantisedView) (c : Candidate) → IsQuantisedView q → IsShaped q c → Holds q c part.Base → Holds q c part.Step → Holds q c part.Safe
-    → (inputs : List ℤ) → Breaks Past (equations_of q) q.xlo q.xhi inputs → ⊥
+    → (inputs : List ℤ) → Breaks (behaviour_of (equations_of q)) q.xlo q.xhi inputs → ⊥
 never_breaks q c f shaped begins stays safely =
     kept_never_breaks Past (equations_of q) q.xlo q.xhi c (equations_stepwise q f) (kept_by q c shaped begins stays safely)
 

@@ -8,18 +8,19 @@ use Rattle.std.proofs.lemmas.List.{length-append, length-replicate, take_at, dro
 use Rattle.std.proofs.lemmas.List.Elements.{All-nil, All-cons, All-append, All-replicate, Contains-append_right}
 use Rattle.dsv_word.specs.declared.format.Format.{Format}
 use Rattle.dsv_word.specs.Words.{width, lo, hi, IsWord}
-use Rattle.dsv_bounded.specs.Questions.{Asks, word_widths}
-use Rattle.dsv_system.proofs.Alike.{alike_back}
+use Rattle.dsv_bounded.specs.Questions.{Asks}
+use Rattle.dsv_invariant.specs.Netlists.{word_widths}
+use Rattle.dsv_system.proofs.Agreeing.{agree_back}
 use Rattle.dsv_bounded.proofs.Questions.{asks_from, words_in_range}
 use Rattle.dsv_bounded.proofs.WordValues.{values_for, words_of_values, values_fit}
 use Rattle.dsv_meaning.specs.Equations.{Past, order, registers_of}
 use Rattle.dsv_meaning.specs.Systems.{equations_of}
 use Rattle.dsv_netlist.specs.Nodes.{Net}
-use Rattle.dsv_netlist.specs.Systems.{system_of}
+use Rattle.dsv_netlist.specs.Systems.{system_of, runs_of}
 use Rattle.dsv_quantiser.specs.QuantisedView.{QuantisedView, IsQuantisedView}
 use Rattle.dsv_system.specs.Breaks.{IsInside}
 use Rattle.dsv_system.specs.Runs.{row_at}
-use Rattle.dsv_system.specs.Systems.{RunAlike, registers_after, zeros, AreInRange}
+use Rattle.dsv_system.specs.Systems.{registers_after, zeros, AreInRange, behaviour_of, Agree}
 use Rattle.dsv_template.specs.declared.candidate.Candidate.{Candidate}
 use Rattle.dsv_template.specs.declared.verdict.SetPart.{SetPart}
 use Rattle.dsv_template.specs.declared.verdict.SetPart.TheVariants as part
@@ -35,7 +36,7 @@ use Rattle.dsv_invariant.specs.Causes.{Holds}
 use Rattle.dsv_invariant.proofs.Alike.{break_alike, given_break, wanted_break}
 
 -- ---- what a part's goal asks
-pub part_asks : (q : QuantisedView) (net : Net) (c : Candidate) (p : SetPart) (t : TermsView) (root : TermId) → RunAlike (List ℤ) Past (system_of net) (equations_of q) → AreTerms t → root.0 < length t.nodes → width_of t root ≡ 1
+pub part_asks : (q : QuantisedView) (net : Net) (c : Candidate) (p : SetPart) (t : TermsView) (root : TermId) → Agree (runs_of net) (behaviour_of (equations_of q)) → AreTerms t → root.0 < length t.nodes → width_of t root ≡ 1
     → t.inputs ≡ replicate (set_inputs net c p) (width net.format) → ((values : List ℕ) → AreValues t.inputs values → Tells (word_of t values root) (BreaksPart net q.xlo q.xhi c p (spelled_words net.format values)))
     → Asks t root (word_widths q (set_inputs net c p)) (λ values. DoBreak q c p (spelled_words q.format values))
 part_asks q net c p t root run terms stands one inputs tells =
@@ -49,7 +50,7 @@ part_asks q net c p t root run terms stands one inputs tells =
     (break_alike (List ℤ) Past m e q.xlo q.xhi c p (spelled_words net.format values) run (given_break net q.xlo q.xhi c p (spelled_words net.format values) b)))
     (λ values b.
     wanted_break net q.xlo q.xhi c p (spelled_words net.format values)
-    (break_alike Past (List ℤ) e m q.xlo q.xhi c p (spelled_words net.format values) (alike_back (List ℤ) Past m e run)
+    (break_alike Past (List ℤ) e m q.xlo q.xhi c p (spelled_words net.format values) (agree_back (behaviour_of m) (behaviour_of e) run)
     (subst (λ (f : Format). DoBreak q c p (spelled_words f values)) (sym run.format) b)))
 
 -- no words of so many break the sentence
@@ -137,7 +138,7 @@ holds q net c part.Base e f none = base_holds q c f none
 holds q net c part.Step e f none = step_holds q c (length net.next) e f none
 holds q net c part.Safe e f none = safe_holds q c (length net.next) e f none
 
-pub never_holds : (q : QuantisedView) (net : Net) (c : Candidate) (p : SetPart) (t : TermsView) (root : TermId) → RunAlike (List ℤ) Past (system_of net) (equations_of q) → IsQuantisedView q
+pub never_holds : (q : QuantisedView) (net : Net) (c : Candidate) (p : SetPart) (t : TermsView) (root : TermId) → Agree (runs_of net) (behaviour_of (equations_of q)) → IsQuantisedView q
     → Asks t root (word_widths q (set_inputs net c p)) (λ values. DoBreak q c p (spelled_words q.format values)) → ((values : List ℕ) → AreValues t.inputs values → (word_of t values root).number ≢ 1) → Holds q c p
 never_holds q net c p t root run f a never =
     let n = set_inputs net c p in

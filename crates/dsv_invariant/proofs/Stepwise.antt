@@ -11,7 +11,7 @@ use Rattle.dsv_netlist.specs.Conditions.{IsNetlist}
 use Rattle.dsv_netlist.specs.Nodes.{Net, at, sample_of, step_of}
 use Rattle.dsv_netlist.specs.Systems.{system_of}
 use Rattle.dsv_system.specs.Runs.{SampleRow}
-use Rattle.dsv_system.specs.Systems.{System, RunAlike, rows, registers_after, zeros, AreInRange}
+use Rattle.dsv_system.specs.Systems.{System, rows, registers_after, zeros, AreInRange, behaviour_of, Agree}
 use Rattle.dsv_system.proofs.RunLemmas.{past-append, rows-append}
 use Rattle.dsv_template.specs.Kept.{IsState, IsStepwise}
 use Rattle.dsv_unroll.proofs.Runs.{registers_words}
@@ -45,7 +45,7 @@ net_stepwise net low high n l h = record {
 }
 
 -- ---- systems that run alike
-pub stepwise_alike : (P Q : Type 0) (m : System P) (n : System Q) (low high : ℤ) → RunAlike P Q m n → RunAlike Q P n m → IsStepwise P m low high → IsStepwise Q n low high
+pub stepwise_alike : (P Q : Type 0) (m : System P) (n : System Q) (low high : ℤ) → Agree (behaviour_of m) (behaviour_of n) → Agree (behaviour_of n) (behaviour_of m) → IsStepwise P m low high → IsStepwise Q n low high
 stepwise_alike P Q m n low high a b s =
     let start_of : (start : List ℤ) → IsState Q n start → IsState P m start = λ start t. state_alike Q P n m start b t in
     let after : (start xs : List ℤ) → IsState Q n start → registers_after n start xs ≡ registers_after m start xs = λ start xs t. b.registers start xs (t.many ∙ b.many) in

@@ -6,7 +6,7 @@ use Rattle.dsv_meaning.specs.Equations.{Past, order, registers_of}
 use Rattle.dsv_meaning.specs.Systems.{equations_of}
 use Rattle.dsv_quantiser.specs.QuantisedView.{QuantisedView}
 use Rattle.dsv_system.specs.Breaks.{Breaks, IsFirstBreak}
-use Rattle.dsv_system.specs.Systems.{rows}
+use Rattle.dsv_system.specs.Systems.{rows, behaviour_of}
 use Rattle.dsv_template.specs.declared.candidate.Candidate.{Candidate}
 use Rattle.dsv_template.specs.declared.verdict.SetPart.{SetPart}
 use Rattle.dsv_template.specs.declared.verdict.SetPart.TheVariants as part
@@ -38,7 +38,7 @@ HoldBefore q candidate part.Safe = Holds q candidate part.Base × Holds q candid
 pub record IsGood (q : QuantisedView) (conflicts : ℕ) (candidate : Candidate) (logs : ThreeLogs) :
     Type 0 where
   pub kept : IsKept Past (equations_of q) q.xlo q.xhi candidate
-  pub never : (inputs : List ℤ) → Breaks Past (equations_of q) q.xlo q.xhi inputs → ⊥
+  pub never : (inputs : List ℤ) → Breaks (behaviour_of (equations_of q)) q.xlo q.xhi inputs → ⊥
   pub base : IsRefutation (set_formula_of q candidate part.Base) conflicts logs.base
   pub step : IsRefutation (set_formula_of q candidate part.Step) conflicts logs.step
   pub safe : IsRefutation (set_formula_of q candidate part.Safe) conflicts logs.safe

@@ -2,5 +2,6 @@ pub mod Breaking
 pub mod Causes
 pub mod Formulas
 pub mod Limits
+pub mod Netlists
 pub mod Obstacles
 pub mod Shapes

@@ -1,13 +1,13 @@
 // Candidates checked for a quantised controller.
 ghost use Rattle.std.proofs.Props.{props};
 ghost use Rattle.std.specs.Prelude.{◌≤◌, ◌^◌, IfOk, IfErr};
-ghost use Rattle.dsv_bounded.specs.Questions.{Realises};
+ghost use Rattle.dsv_invariant.specs.Netlists.{Realises};
 ghost use Rattle.dsv_invariant.specs.Causes.{IsGood, IsFinding, IsShaped, IsCause};
 ghost use Rattle.dsv_invariant.specs.Obstacles.{IfFound};
 
+use crate::netlists::netlist_of;
 use crate::parts::Obstacle;
 use dsv_base::NoMemory;
-use dsv_bounded::netlist_of;
 use dsv_meaning::registers;
 use dsv_netlist::Netlist;
 use dsv_quantiser::Quantised;

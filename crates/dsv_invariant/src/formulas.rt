@@ -4,9 +4,10 @@ ghost use Rattle.dsv_cnf.specs.Formula.{IsUnsatisfiable};
 ghost use Rattle.dsv_invariant.specs.Causes.{Holds, IsShaped};
 ghost use Rattle.dsv_invariant.specs.Formulas.{set_formula_of};
 
+use crate::netlists::netlist_of;
 use crate::parts::part_goal;
 use dsv_base::NoMemory;
-use dsv_bounded::{goal_formula, netlist_of};
+use dsv_bounded::goal_formula;
 use dsv_cnf::Formula;
 use dsv_quantiser::Quantised;
 use dsv_template::{Candidate, SetPart};

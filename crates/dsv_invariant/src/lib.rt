@@ -6,6 +6,7 @@ mod breaks;
 mod check;
 mod exits;
 mod formulas;
+mod netlists;
 mod outside;
 mod parts;
 mod shape;

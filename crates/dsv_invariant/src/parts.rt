@@ -1,6 +1,7 @@
 // One sentence of a candidate asked of a search.
 ghost use Rattle.std.specs.Prelude.{◌≡◌, IfOk, IfErr};
-ghost use Rattle.dsv_bounded.specs.Questions.{Asks, Realises, word_widths};
+ghost use Rattle.dsv_bounded.specs.Questions.{Asks};
+ghost use Rattle.dsv_invariant.specs.Netlists.{Realises, word_widths};
 ghost use Rattle.dsv_hints.specs.Lessons.{IsRefutation};
 ghost use Rattle.dsv_realise.specs.Netlists.{net_of};
 ghost use Rattle.dsv_term.specs.Building.{built_of};

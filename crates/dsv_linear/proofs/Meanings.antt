@@ -116,7 +116,7 @@ differences_mean n k us left right h v w e m l =
       exact = sub_grouped (pos scale *ℤ k) v w ∙ rw (m.exact, l.exact) (sym s);
     }
 
-turned : (c s v : ℤ) → s *ℤ (c *ℤ v) ≡ c *ℤ (s *ℤ v)
+pub turned : (c s v : ℤ) → s *ℤ (c *ℤ v) ≡ c *ℤ (s *ℤ v)
 turned c s v = let p = var 0 in let q = var 1 in let x = var 2 in ring (env (c ∷ s ∷ v ∷ [])) (times q (times p x)) (times p (times q x)) refl
 
 regrouped : (c a u : ℤ) → (c *ℤ a) *ℤ u ≡ c *ℤ (a *ℤ u)
@@ -132,7 +132,7 @@ products_mean n k us c form h v e m =
     record { short = omega (arith, a.long, m.short); exact = turned c (pos scale *ℤ k) v ∙ ap (λ t. c *ℤ t) m.exact ∙ sym s }
 
 -- ---- a symbol more
-same_place : (n : ℕ) → (n == n) ≡ true
+pub same_place : (n : ℕ) → (n == n) ≡ true
 same_place n = search rules
 
 other_place : (n j : ℕ) → j < n → (j == n) ≡ false
@@ -153,7 +153,7 @@ sum_before s n us u form =
     sum_same n (λ j. at form j *ℤ grown s n us u j) (λ j. s *ℤ (at form j *ℤ us j)) (λ j p. ap (λ t. at form j *ℤ t) (grown_before s n us u j p) ∙ turned s (at form j) (us j))
     ∙ sum_scale n s (λ j. at form j *ℤ us j)
 
-stretched : (c k s v : ℤ) → c *ℤ (k *ℤ s) *ℤ v ≡ s *ℤ (c *ℤ k *ℤ v)
+pub stretched : (c k s v : ℤ) → c *ℤ (k *ℤ s) *ℤ v ≡ s *ℤ (c *ℤ k *ℤ v)
 stretched c k s v = ring (env (c ∷ k ∷ s ∷ v ∷ [])) (times (times (var 0) (times (var 1) (var 2))) (var 3)) (times (var 2) (times (times (var 0) (var 1)) (var 3))) refl
 
 pub means_grown : (n : ℕ) (k : ℤ) (us : ℕ → ℤ) (s u : ℤ) (form : List ℤ) (v : ℤ) → Means n k us form v → Means (suc n) (k *ℤ s) (grown s n us u) form v

@@ -1,6 +1,5 @@
 -- Loops over nodes, registers and samples.
 use Rattle.std.proofs.Common.{◌≡◌, ℕ, zero, suc, ◌+◌, ◌-◌, ◌<◌, List, [], ◌∷◌, ◌++◌, length, get_or, take, map, replicate, refl, sym, ap, ◌∙◌, arith, add-one}
-use Rattle.std.specs.Prelude.{Some, slice_get}
 use Rattle.std.proofs.lemmas.List.{take_more, map-append}
 use Rattle.dsv_netlist.specs.declared.node.Node.{Node}
 use Rattle.dsv_netlist.specs.Nodes.{Net}
@@ -9,19 +8,11 @@ use Rattle.dsv_linear.specs.declared.point.Start.{Start}
 use Rattle.dsv_linear.specs.declared.point.Point.{Point}
 use Rattle.dsv_linear.specs.Known.{point_from, after_node, after_sample, loaded, facts_from}
 
-get_some : {X : Type 0} (xs : List X) (i : ℕ) (d x : X) → slice_get xs i ≡ Some x → get_or xs i d ≡ x
-get_some [] i d x e = absurd cc
-get_some (y ∷ ys) zero d x e = cc
-get_some (y ∷ ys) (suc i) d x e = get_some ys i d x e
-
 -- an item that is there, whatever stands for one that isn't
 pub other_default : {X : Type 0} (xs : List X) (i : ℕ) (d e : X) → i < length xs → get_or xs i d ≡ get_or xs i e
 other_default [] i d e h = absurd (omega arith)
 other_default (x ∷ xs) zero d e h = refl
 other_default (x ∷ xs) (suc i) d e h = other_default xs i d e (omega arith)
-
-pub taken_more : {X : Type 0} (xs got now : List X) (i : ℕ) (x : X) → i < length xs → got ≡ take i xs → slice_get xs i ≡ Some x → now ≡ got ++ x ∷ [] → now ≡ take (i + 1) xs
-taken_more xs got now i x l g e p = p ∙ ap (λ ys. ys ++ x ∷ []) g ∙ ap (λ y. take i xs ++ y ∷ []) (sym (get_some xs i x x e)) ∙ sym (take_more xs i x l)
 
 -- one item more of a list that is mapped
 pub mapped_more : {X Y : Type 0} (f : X → Y) (xs : List X) (got now : List Y) (i : ℕ) (d : X) (y : Y) → i < length xs → got ≡ map f (take i xs)

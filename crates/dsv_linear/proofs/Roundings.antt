@@ -21,11 +21,9 @@ use Rattle.dsv_linear.specs.declared.point.Entry.{Entry}
 use Rattle.dsv_linear.specs.Forms.{◌>>=◌, scale, range_scale, range, range_at, both, lower, upper, least_term, greatest_term, least, greatest, quotients, rests, loss_range, scaled_range, sums_range, symbol_range, with_symbol, rounded, form_range}
 use Rattle.dsv_linear.specs.Meaning.{sum_at, Means, LiesIn, AreSymbols, grown}
 use Rattle.dsv_linear.proofs.Numbers.{some_of, narrow_is, times_up, times_down, times_back, sum_le}
-use Rattle.dsv_linear.proofs.Meanings.{AreEntries, entries_are, total_is, grown_last, sum_before}
+use Rattle.dsv_linear.proofs.Meanings.{AreEntries, entries_are, total_is, grown_last, sum_before, turned}
 
 -- ---- sums of worst cases
-turned : (c s v : ℤ) → s *ℤ (c *ℤ v) ≡ c *ℤ (s *ℤ v)
-turned c s v = let p = var 0 in let q = var 1 in let x = var 2 in ring (env (c ∷ s ∷ v ∷ [])) (times q (times p x)) (times p (times q x)) refl
 
 pub least_le : (b : Bool) (k t c low high u : ℤ) → int_lt c (pos 0) ≡ b → (k *ℤ low) ≤ℤ (t *ℤ u) → (t *ℤ u) ≤ℤ (k *ℤ high)
     → (k *ℤ (c *ℤ (if b then high else low))) ≤ℤ (t *ℤ (c *ℤ u))

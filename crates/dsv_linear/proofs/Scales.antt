@@ -1,9 +1,9 @@
 -- The scales as numbers.
-use Rattle.std.proofs.Common.{◌≡◌, ℕ, ◌*◌, ◌^◌, ◌<◌, refl}
-use Rattle.std.proofs.lemmas.Nat.{pow_pos}
+use Rattle.std.proofs.Common.{◌≡◌, ◌*◌, refl}
 use Rattle.std.proofs.Math.IntN.{pos}
 use Rattle.dsv_word.proofs.Powers.{power_small}
 use Rattle.dsv_linear.specs.Forms.{scale, range_scale}
+use Rattle.dsv_netlist.proofs.Scaling.{power_positive}
 
 pub scale_is : 9007199254740992 ≡ scale
 unfolding scale
@@ -26,8 +26,5 @@ unfolding range_scale
 range_scale_is-integer = refl
 
 pub ruleset scales = (scale_is, range_scale_is, scale_is-integer, range_scale_is-integer, full_scale_is)
-
-pub power_positive : (n : ℕ) → 0 < 2 ^ n
-power_positive n = pow_pos n
 
 pub ruleset powers = (power_small, power_positive)

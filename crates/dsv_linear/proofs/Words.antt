@@ -2,7 +2,7 @@
 use Rattle.std.proofs.Common.{◌≡◌, ℕ, zero, suc, ◌+◌, ◌*◌, ◌/◌, ◌<◌, ◌≤◌, ◌-◌, ◌^◌, ◌==◌, Bool, true, false, ◌&&◌, not, if◌then◌else◌, [], ◌∷◌, refl, sym, ap, ◌∙◌, arith, rules}
 use Rattle.std.specs.Prelude.{MatchBool, Option, Some, None, int_lt}
 use Rattle.std.proofs.Math.IntN.{ℤ, pos, negsuc, ◌+ℤ◌, ◌-ℤ◌, ◌*ℤ◌, neg_ℤ}
-use Rattle.std.proofs.Math.Nat.{pow-suc, mul-div_cancel_left}
+use Rattle.std.proofs.Math.Nat.{mul-div_cancel_left}
 use Rattle.std.proofs.lemmas.Nat.{pow_pos, pow-add}
 use Rattle.std.proofs.lemmas.Int.{ints}
 use lib.Signed.{◌<ℤ◌, ◌≤ℤ◌}
@@ -15,7 +15,7 @@ use Rattle.dsv_names.specs.declared.overflow_mode.OverflowMode.TheVariants as ov
 use Rattle.dsv_word.specs.declared.format.Format.{Format}
 use Rattle.dsv_word.specs.Words.{width, lo, hi, fit, IsWord}
 use Rattle.dsv_word.specs.Quotients.{whole_shift}
-use Rattle.dsv_word.proofs.Meanings.{wrapped_is, saturated_is, shifted_is}
+use Rattle.dsv_word.proofs.Meanings.{wrapped_is, saturated_is, shifted_is, halves}
 use Rattle.dsv_linear.specs.Facts.{Between, HoldsOf}
 use Rattle.dsv_linear.specs.declared.fact.Fact.TheVariants as fact
 use Rattle.dsv_linear.specs.declared.range.Range.{Range}
@@ -23,9 +23,6 @@ use Rattle.dsv_linear.specs.Forms.{scale, range}
 use Rattle.dsv_linear.specs.Known.{error_range, is_word, are_words, inside_fact, fact_of}
 
 -- ---- a word stays the same
-halves : (n : ℕ) → 1 ≤ n → 2 ^ n ≡ 2 * 2 ^ (n - 1)
-halves zero h = absurd (omega arith)
-halves (suc n) h = let e : suc n - 1 ≡ n = omega arith in rw (pow-suc 2 n, e) (omega arith)
 
 no_turn : (h t : ℕ) (v w k : ℤ) → t ≡ 2 * h → neg_ℤ (pos h) ≤ℤ v → v <ℤ pos h → neg_ℤ (pos h) ≤ℤ w → w <ℤ pos h → v ≡ w +ℤ k *ℤ pos t → w ≡ v
 no_turn h t v w (pos zero) e a b c d s = let z : pos zero *ℤ pos t ≡ pos 0 = ring (env (pos t ∷ [])) (times (num (pos 0)) (var 0)) (num (pos 0)) refl in omega (arith, ints)

@@ -6,7 +6,7 @@ use Rattle.dsv_algebra.proofs.Sums.{sum_same, sum_none}
 use Rattle.dsv_algebra.specs.Vectors.{sum_to}
 use Rattle.dsv_linear.proofs.SmallSums.{summed_further}
 
-added : (x y : ℤ) → x ≡ pos 0 → x +ℤ y ≡ y
+pub added : (x y : ℤ) → x ≡ pos 0 → x +ℤ y ≡ y
 added x y e = omega (arith, ints)
 
 pub sum_after : (f : ℕ → ℤ) (m n : ℕ) → ((j : ℕ) → j < m → f j ≡ pos 0) → sum_to (m + n) f ≡ sum_to n (λ i. f (m + i))

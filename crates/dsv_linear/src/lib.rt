@@ -26,7 +26,7 @@ pub use point::{Entry, Estimate, Point, Start};
 pub use powers::{one, power};
 pub use range::Range;
 pub use rounding::{error_range, step, symbol_range};
-pub use run::{Facts, facts_of, next_of, no_point, nodes_of, zero_start};
+pub use run::{Facts, facts_of, no_point, zero_start};
 
 /// What coefficients are multiplied by.
 pub const SCALE: u64 = 1 << 53;

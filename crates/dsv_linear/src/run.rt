@@ -18,32 +18,6 @@ use dsv_base::{Items, NoMemory};
 use dsv_netlist::{Netlist, Node};
 use std::alloc::Global;
 
-/// The nodes of a netlist.
-pub fn nodes_of(alloc: Global, net: &Netlist) -> Result<Vec<Node>, NoMemory>
-    ensures { IfOk result (λ nodes. nodes.items ≡ net.now.nodes) }
-{
-    let count = net.len();
-    let mut nodes = Vec::new(alloc);
-    for i in 0..count {
-        let node = net.node(i);
-        nodes.push(node)?;
-    }
-    Ok(nodes)
-}
-
-/// The nodes that the registers are loaded from.
-pub fn next_of(alloc: Global, net: &Netlist) -> Result<Vec<u32>, NoMemory>
-    ensures { IfOk result (λ next. next.items ≡ net.now.next) }
-{
-    let count = net.registers();
-    let mut next = Vec::new(alloc);
-    for i in 0..count {
-        let id = net.next(i);
-        next.push(id)?;
-    }
-    Ok(next)
-}
-
 /// What is known of a value, copied.
 fn copy_of(alloc: Global, estimate: &Estimate) -> Result<Estimate, NoMemory>
     ensures { IfOk result (λ copy. copy ≡ estimate.now) }
@@ -180,10 +154,9 @@ fn add_samples(
     ensures { IfOk result
         (λ u. point.new.facts ≡ facts_from net.now samples start.old point.old) }
 {
-    let nodes = nodes_of(alloc, net)?;
-    let next = next_of(alloc, net)?;
+    let (nodes, next) = (net.nodes(), net.next_nodes());
     for _ in 0..samples {
-        add_sample(alloc, &nodes, &next, start, point)?;
+        add_sample(alloc, nodes, next, start, point)?;
     }
     Ok(())
 }

@@ -6,9 +6,10 @@ use Rattle.dsv_quantiser.specs.QuantisedView.{QuantisedView, IsQuantisedView}
 use Rattle.dsv_reader.specs.Plants.{PlantView, IsPlant}
 use Rattle.dsv_tested.specs.Tested.{with_positive_lead}
 use Rattle.dsv_delta.specs.Deltas.{common}
+use Rattle.dsv_delta.proofs.Heavy.{length-numerators}
 use Rattle.dsv_loop.specs.Loops.{section_transfer, controller_transfer, plant_transfer, loop_coefficients, without_common_factor}
 use Rattle.dsv_loop.proofs.Recursions.{length-coefficients, length-polynomial}
-use Rattle.dsv_loop.proofs.Sides.{length-in_z, length-numerators}
+use Rattle.dsv_loop.proofs.Sides.{length-in_z}
 use Rattle.dsv_loop.proofs.Signals.{length-product}
 
 -- a section has nine coefficients at most

@@ -1,14 +1,14 @@
 -- Both sides of the loop: how long their lists are.
-use Rattle.std.proofs.Common.{◌≡◌, ℕ, suc, ◌-◌, ◌≤◌, Bool, true, false, List, [], ◌∷◌, ◌++◌, length, refl, ap, arith, All}
+use Rattle.std.proofs.Common.{◌≡◌, suc, ◌-◌, ◌≤◌, Bool, true, false, List, [], ◌∷◌, ◌++◌, length, refl, arith, All}
 use Rattle.std.proofs.Math.IntN.{ℤ}
 use Rattle.std.proofs.lemmas.List.FromFn.{length-map-range_with_len}
 use Rattle.std.specs.Prelude.{if◌then◌else◌}
 use Rattle.std.specs.Int.RustNames.{unsigned_abs}
 use Rattle.dsv_algebra.specs.Vectors.{vector_of}
-use Rattle.dsv_fraction.specs.Ratio.{Ratio}
 use Rattle.dsv_names.specs.Realisations.{is_delta}
-use Rattle.dsv_delta.specs.Deltas.{common, numerators}
+use Rattle.dsv_delta.specs.Deltas.{common}
 use Rattle.dsv_delta.specs.ZCoefficients.{Dyadic, dyadic, scaled, z_coefficient}
+use Rattle.dsv_delta.proofs.Heavy.{length-numerators}
 use Rattle.dsv_quantiser.specs.QuantisedView.{QuantisedView, IsQuantisedView}
 use Rattle.dsv_reader.specs.Plants.{PlantView, IsPlant}
 use Rattle.dsv_loop.specs.Loops.{TransferView, expanded, in_z, section_transfer, in_series, controller_transfer, plant_transfer}
@@ -52,9 +52,6 @@ controller_proper (q ∷ qs) all =
     series_proper (section_transfer q) (controller_transfer qs) (section_proper q (all 0 q (omega arith))) (controller_proper qs (λ k d h. all (suc k) d (omega arith)))
 
 -- ---- the plant
-pub length-numerators : (l : ℕ) (qs : List Ratio) → length (numerators l qs) ≡ length qs
-length-numerators l [] = refl
-length-numerators l (q ∷ qs) = ap suc (length-numerators l qs)
 
 pub plant_proper : (p : PlantView) → IsPlant p → IsProper (plant_transfer p)
 plant_proper p h =

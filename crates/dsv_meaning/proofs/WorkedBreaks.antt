@@ -7,10 +7,9 @@ use Rattle.std.specs.List.{All}
 use lib.Signed.{◌≤ℤ◌}
 use Rattle.dsv_word.specs.Words.{IsWord}
 use Rattle.dsv_system.specs.Runs.{SampleRow}
-use Rattle.dsv_system.specs.Systems.{AreInRange}
+use Rattle.dsv_system.specs.Systems.{AreInRange, behaviour_of}
 use Rattle.dsv_system.specs.Breaks.{IsInside, Breaks, Replays}
 use Rattle.dsv_system.proofs.Words.{no_break}
-use Rattle.dsv_meaning.specs.Equations.{Past}
 use Rattle.dsv_meaning.specs.Systems.{equations_of}
 use Rattle.dsv_meaning.proofs.WorkedControllers.{format_2_2, slow_pole}
 
@@ -49,20 +48,20 @@ first_inside =
     (more (pos 0) (pos 4 ∷ []) (omega (arith, ints)) (omega (arith, ints))
     (more (pos 4) [] (omega (arith, ints)) (omega (arith, ints)) none))))
 
-two_break : Breaks Past (equations_of slow_pole) (negsuc 3) (pos 4) (pos 4 ∷ pos 4 ∷ [])
+two_break : Breaks (behaviour_of (equations_of slow_pole)) (negsuc 3) (pos 4) (pos 4 ∷ pos 4 ∷ [])
 unfolding second_row
 two_break = record {
   in_range = in_range;
   broken = (second_row, (1, omega arith, refl), (pos 8, (4, omega arith, refl), not_word));
 }
 
-one_alone : Breaks Past (equations_of slow_pole) (negsuc 3) (pos 4) (pos 4 ∷ []) → ⊥
+one_alone : Breaks (behaviour_of (equations_of slow_pole)) (negsuc 3) (pos 4) (pos 4 ∷ []) → ⊥
 unfolding first_row
 one_alone b =
     no_break format_2_2 (first_row ∷ []) (All-cons (IsInside format_2_2) first_row [] first_inside (All-nil (IsInside format_2_2))) b.broken
 
 -- in sample 1 the exact value of number 4 is 8
-two_replay : Replays Past (equations_of slow_pole) (negsuc 3) (pos 4) (pos 4 ∷ pos 4 ∷ []) (pos 4 ∷ negsuc 7 ∷ []) 1 4 (pos 8)
+two_replay : Replays (behaviour_of (equations_of slow_pole)) (negsuc 3) (pos 4) (pos 4 ∷ pos 4 ∷ []) (pos 4 ∷ negsuc 7 ∷ []) 1 4 (pos 8)
 unfolding first_row second_row
 two_replay = record {
   in_range = in_range;

@@ -8,9 +8,9 @@ use Rattle.std.specs.Prelude.{◌≢◌}
 use Rattle.dsv_word.specs.Words.{IsWord}
 use Rattle.dsv_system.specs.Runs.{SampleRow}
 use Rattle.dsv_system.specs.Cycles.{Returns, IsLeastPeriod, Cycles}
-use Rattle.dsv_meaning.specs.Equations.{Past}
 use Rattle.dsv_meaning.specs.Systems.{equations_of}
 use Rattle.dsv_meaning.proofs.WorkedControllers.{format_2_2, half_pole}
+use Rattle.dsv_system.specs.Systems.{behaviour_of}
 
 -- the past input is 0 and the past output 1
 start : List ℤ
@@ -23,14 +23,14 @@ only_row = record { x = pos 0; y = pos 1; exact = pos 0 ∷ pos 0 ∷ pos 0 ∷ 
 one_not_zero : pos 1 ≢ pos 0
 one_not_zero e = omega (arith, ints, e)
 
-returns_at_once : Returns Past (equations_of half_pole) start 1
+returns_at_once : Returns (behaviour_of (equations_of half_pole)) start 1
 unfolding start
 returns_at_once = record { some = omega arith; back = refl }
 
-least : IsLeastPeriod Past (equations_of half_pole) start 1
+least : IsLeastPeriod (behaviour_of (equations_of half_pole)) start 1
 least = record { returns = returns_at_once; least = λ n less back. let some = back.some in omega (arith, less, some) }
 
-half_cycles : Cycles Past (equations_of half_pole) start 1
+half_cycles : Cycles (behaviour_of (equations_of half_pole)) start 1
 unfolding start only_row
 half_cycles = record {
   many = refl;

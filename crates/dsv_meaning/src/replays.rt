@@ -7,8 +7,8 @@ ghost use Rattle.std.specs.List.{All};
 ghost use Rattle.dsv_word.specs.Words.{IsWord};
 ghost use Rattle.dsv_system.specs.Breaks.{IsInside, IsFirstBreak};
 ghost use Rattle.dsv_system.specs.Cycles.{Returns, IsLeastPeriod, IsSounding};
-ghost use Rattle.dsv_system.specs.Systems.{rows, zeros};
-ghost use Rattle.dsv_meaning.specs.Equations.{Past, order, registers_of};
+ghost use Rattle.dsv_system.specs.Systems.{rows, zeros, behaviour_of};
+ghost use Rattle.dsv_meaning.specs.Equations.{order, registers_of};
 ghost use Rattle.dsv_meaning.specs.Systems.{equations_of, outputs_over};
 ghost use Rattle.dsv_meaning.specs.Replays.{IfBreaks, IfUnbroken, IfReturns, IfGone};
 
@@ -121,15 +121,15 @@ pub fn replay_cycle(
     requires words { All (IsWord quantised.now.format) start.now }
     requires room { length outputs.old ≡ limit }
     ensures least { IfReturns result (λ period sounding.
-        IsLeastPeriod Past (equations_of quantised.now) start.now period) }
+        IsLeastPeriod (behaviour_of (equations_of quantised.now)) start.now period) }
     ensures few { IfReturns result (λ period sounding. period ≤ limit) }
     ensures sounding { IfReturns result (λ period sounding. sounding ≡ true →
-        IsSounding Past (equations_of quantised.now) start.now period) }
+        IsSounding (behaviour_of (equations_of quantised.now)) start.now period) }
     // An output that isn't 0 at any later time is heard in the first period already.
     ensures lasting { IfReturns result (λ period sounding. (n : ℕ) →
-        IsSounding Past (equations_of quantised.now) start.now n → sounding ≡ true) }
+        IsSounding (behaviour_of (equations_of quantised.now)) start.now n → sounding ≡ true) }
     ensures gone { IfGone result ((p : ℕ) → p ≤ limit →
-        Returns Past (equations_of quantised.now) start.now p → ⊥) }
+        Returns (behaviour_of (equations_of quantised.now)) start.now p → ⊥) }
     ensures outputs { IfReturns result (λ period sounding. take period outputs.new
         ≡ outputs_over quantised.now start.now (zeros period)) }
     ensures room { length outputs.new ≡ limit }

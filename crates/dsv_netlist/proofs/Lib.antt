@@ -4,3 +4,4 @@ pub mod Naming
 pub mod BoundLemmas
 pub mod RunTurns
 pub mod Runs
+pub mod NodePlaces

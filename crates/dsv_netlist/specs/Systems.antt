@@ -1,6 +1,6 @@
 -- Netlists as systems that run in words.
 use Rattle.std.specs.Prelude.{List, length, ℤ}
-use Rattle.dsv_system.specs.Systems.{System}
+use Rattle.dsv_system.specs.Systems.{System, Behaviour, behaviour_of}
 use Rattle.dsv_netlist.specs.Nodes.{Net, step_of}
 
 -- a netlist's past is the words in its registers
@@ -13,3 +13,7 @@ system_of net = record {
   forward = net.feed_forward;
   format = net.format;
 }
+
+-- what it does from words in its registers
+abbrev pub runs_of : Net → Behaviour
+runs_of net = behaviour_of (system_of net)

@@ -98,6 +98,20 @@ impl Netlist {
         self.nodes[i as usize]
     }
 
+    /// The nodes, in their order.
+    pub fn nodes(&self) -> &[Node]
+        ensures { result.now ≡ self.now.nodes }
+    {
+        self.nodes.as_slice()
+    }
+
+    /// The numbers of the nodes that the registers are loaded from, in their order.
+    pub fn next_nodes(&self) -> &[u32]
+        ensures { result.now ≡ self.now.next }
+    {
+        self.next.as_slice()
+    }
+
     /// How many nodes there are.
     pub fn len(&self) -> u32
         ensures value { result ≡ length self.now.nodes }

@@ -15,10 +15,11 @@ use Rattle.dsv_fraction.specs.Arithmetic.{in_lowest_terms, bounded_ratio}
 use Rattle.dsv_fraction.proofs.Powers.{lowest_same}
 use Rattle.dsv_names.specs.declared.list_name.ListName.{ListName}
 use Rattle.dsv_names.specs.declared.list_name.ListName.TheVariants as list
-use Rattle.dsv_delta.specs.Binomials.{choose, binomial_sum, weight}
+use Rattle.dsv_delta.specs.Binomials.{binomial_sum, weight}
 use Rattle.dsv_delta.specs.Deltas.{Lists, lcm, common, common_from, numerators, over_power, bounded_over_power, or_wide, coefficients_from, delta_list}
 use Rattle.dsv_delta.specs.declared.refusal.DeltaWide.{DeltaWide}
 use Rattle.dsv_delta.proofs.Multiples.{lcm_grows}
+use Rattle.dsv_delta.proofs.Table.{choose_all}
 use Rattle.dsv_quantiser.specs.Leading.{ConvertedLeadingIsOne}
 
 abbrev items_of : Result (List Ratio) DeltaWide → List Ratio
@@ -43,14 +44,6 @@ begins name delta l sums (suc n) out rs some e =
     next (Err x) more e = absurd cc
 
 -- ---- the first coefficient
-choose_over : (n k : ℕ) → n < k → choose n k ≡ 0
-choose_over n zero h = absurd (omega arith)
-choose_over zero (suc k) h = refl
-choose_over (suc n) (suc k) h = omega (arith, choose_over n k (omega arith), choose_over n (suc k) (omega arith))
-
-choose_all : (n : ℕ) → choose n n ≡ 1
-choose_all zero = refl
-choose_all (suc n) = omega (arith, choose_all n, choose_over n (suc n) (omega arith))
 
 one_reduced : in_lowest_terms (pos 1) 1 ≡ one
 unfolding gcd

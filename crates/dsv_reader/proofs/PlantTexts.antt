@@ -23,13 +23,13 @@ use Rattle.dsv_reader.proofs.ValueLaws.{values_taken, values_read}
 abbrev from_values : Syntax → Values → Result PlantView FileRefusal
 from_values x v = system_of x.system v.system >>= λ s. plant_from s
 
-abbrev from_syntax : List ℕ → Syntax → Result PlantView FileRefusal
+abbrev pub from_syntax : List ℕ → Syntax → Result PlantView FileRefusal
 from_syntax bytes x = values_of bytes x.entries >>= λ v. from_values x v
 
-abbrev from_tokens : List ℕ → List Token → Result PlantView FileRefusal
+abbrev pub from_tokens : List ℕ → List Token → Result PlantView FileRefusal
 from_tokens bytes ts = plant_syntax_of (length bytes) ts >>= λ x. from_syntax bytes x
 
-abbrev from_text : List ℕ → Unit {0} → Result PlantView FileRefusal
+abbrev pub from_text : List ℕ → Unit {0} → Result PlantView FileRefusal
 from_text bytes u = tokens_of bytes >>= λ ts. from_tokens bytes ts
 
 -- what is read is a text

@@ -21,16 +21,16 @@ use Rattle.dsv_reader.specs.Texts.{IsTextOf, IsFaultOf}
 use Rattle.dsv_reader.proofs.ValueLaws.{values_taken, values_read}
 
 -- what the passes after a pass say
-abbrev from_values : Syntax → Values → Result ControllerView FileRefusal
+abbrev pub from_values : Syntax → Values → Result ControllerView FileRefusal
 from_values x v = blocks_of x v >>= λ b. controller_from b
 
-abbrev from_syntax : List ℕ → Syntax → Result ControllerView FileRefusal
+abbrev pub from_syntax : List ℕ → Syntax → Result ControllerView FileRefusal
 from_syntax bytes x = values_of bytes x.entries >>= λ v. from_values x v
 
-abbrev from_tokens : List ℕ → List Token → Result ControllerView FileRefusal
+abbrev pub from_tokens : List ℕ → List Token → Result ControllerView FileRefusal
 from_tokens bytes ts = syntax_of (length bytes) ts >>= λ x. from_syntax bytes x
 
-abbrev from_text : List ℕ → Unit {0} → Result ControllerView FileRefusal
+abbrev pub from_text : List ℕ → Unit {0} → Result ControllerView FileRefusal
 from_text bytes u = tokens_of bytes >>= λ ts. from_tokens bytes ts
 
 -- what is read is a text

@@ -99,7 +99,7 @@ named_shift : (ns : List Node) (i k n : ℕ) → names_word ns i ≡ true → ((
 named_shift ns i k zero h g = tt
 named_shift ns i k (suc n) h g = (h, g n (omega arith))
 
-count-length : (k n : ℕ) → length (count k n) ≡ n
+pub count-length : (k n : ℕ) → length (count k n) ≡ n
 count-length k zero = refl
 count-length k (suc n) = ap suc (count-length (k + 1) n)
 

@@ -10,12 +10,12 @@ use Rattle.dsv_system.specs.OutsideValues.{IsFirstOutside}
 use Rattle.dsv_system.specs.Runs.{SampleRow, row_at}
 use Rattle.dsv_system.specs.Systems.{System, rows, registers_after, zeros, AreInRange}
 use Rattle.dsv_netlist.specs.Nodes.{Net, step_of}
-use Rattle.dsv_netlist.specs.Systems.{system_of}
-use Rattle.dsv_meaning.specs.Traces.{IsTraceOf}
+use Rattle.dsv_netlist.specs.Systems.{system_of, runs_of}
 use Rattle.dsv_system.proofs.QuietRuns.{Moves}
 use Rattle.dsv_system.proofs.RunLemmas.{take-rows}
 use Rattle.dsv_meaning.proofs.ReplayLemmas.{at_length}
 use Rattle.dsv_realise.proofs.Rows.{next_rows, run_more}
+use Rattle.dsv_meaning.specs.Traces.{IsTraceBy}
 
 -- the first inputs, so many, have led to these registers and gave these outputs, and none of their rows breaks
 pub record IsUnbroken (net : Net) (inputs r ys : List ℤ) (sample : ℕ) : Type 0 where
@@ -53,7 +53,7 @@ unbroken_all {net} {inputs} {r} {ys} {sample} l u =
 
 pub trace_here : {net : Net} {inputs until r ys zs : List ℤ} {row : SampleRow} {sample value : ℕ} {exact low high : ℤ} → sample < length inputs → AreInRange low high inputs → row ≡ next_row_of net r inputs sample
     → until ≡ take (sample + 1) inputs → zs ≡ ys ++ row.y ∷ [] → IsUnbroken net inputs r ys sample → IsFirstOutside net.format row.exact value exact
-    → IsTraceOf (List ℤ) (system_of net) low high (length inputs) (record { inputs = until; outputs = zs; sample = sample; value = value; exact = exact })
+    → IsTraceBy (runs_of net) low high (length inputs) (record { inputs = until; outputs = zs; sample = sample; value = value; exact = exact })
 trace_here {net} {inputs} {until} {r} {ys} {zs} {row} {sample} {value} {exact} {low} {high} l range e h z u o =
     let m : System (List ℤ) = system_of net in
     let start = zeros (length net.next) in

@@ -6,8 +6,8 @@ use Rattle.dsv_names.specs.declared.realisation.Realisation.{Realisation}
 use Rattle.dsv_names.specs.declared.realisation.Realisation.TheVariants.{Dfi, Dfii, Tdfii, Ddfi, Ddfii, Tddfii}
 use Rattle.dsv_quantiser.specs.QuantisedView.{QuantisedView, IsQuantisedView}
 use Rattle.dsv_system.specs.Runs.{rows_from, past_after}
-use Rattle.dsv_system.specs.Systems.{RunAlike, rows, registers_after}
-use Rattle.dsv_netlist.specs.Systems.{system_of}
+use Rattle.dsv_system.specs.Systems.{rows, registers_after, behaviour_of, Agree}
+use Rattle.dsv_netlist.specs.Systems.{system_of, runs_of}
 use Rattle.dsv_meaning.specs.Systems.{equations_of}
 use Rattle.dsv_netlist.specs.declared.netlist.OpCounts.{OpCounts}
 use Rattle.dsv_meaning.specs.Equations.{order, Past, sample_as, registers_as, start_as, registers_of, forward_registers_of}
@@ -41,7 +41,7 @@ start_registers Ddfi n start l = take-append-drop n start
 start_registers Ddfii n start l = refl
 start_registers Tddfii n start l = refl
 
-start_has : (k : Realisation) (n : ℕ) (start : List ℤ) → length start ≡ registers_of k n → HasRegisters k n (start_as k n start)
+pub start_has : (k : Realisation) (n : ℕ) (start : List ℤ) → length start ≡ registers_of k n → HasRegisters k n (start_as k n start)
 start_has Dfi n start l = (omega (arith, length-take n start), omega (arith, length-drop n start))
 start_has Dfii n start l = omega arith
 start_has Tdfii n start l = l
@@ -78,7 +78,7 @@ format_of Ddfi q = refl
 format_of Ddfii q = refl
 format_of Tddfii q = refl
 
-pub runs_alike : (q : QuantisedView) → IsQuantisedView q → RunAlike (List ℤ) Past (system_of (net_of q)) (equations_of q)
+pub runs_alike : (q : QuantisedView) → IsQuantisedView q → Agree (runs_of (net_of q)) (behaviour_of (equations_of q))
 runs_alike q h = record {
   many = ap (λ (c : OpCounts). c.moves) (net_realised q h).counts;
   forward = forward_of q.realisation q;

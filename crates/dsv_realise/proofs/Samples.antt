@@ -9,6 +9,7 @@ use Rattle.dsv_word.specs.Quotients.{whole_shift}
 use Rattle.dsv_netlist.specs.declared.node.Node.{Node}
 use Rattle.dsv_netlist.specs.declared.node.Node.TheVariants.{MulConst, Round, Fit}
 use Rattle.dsv_netlist.specs.Nodes.{at, Sample, node_value, node_exact, after_node, sample_from, sample_of}
+use Rattle.dsv_netlist.proofs.Runs.{from-length}
 use Rattle.dsv_meaning.specs.Lines.{Sum, product, joined_value}
 use Rattle.dsv_realise.specs.Making.{Made, put, with_product, sum_node, with_sum}
 
@@ -24,10 +25,6 @@ from_push f rs x (m ∷ ms) n s = from_push f rs x ms n (after_node f rs x s m)
 
 pub of_push : (f : Format) (rs : List ℤ) (x : ℤ) (ns : List Node) (n : Node) → sample_of f rs x (put ns n) ≡ after_node f rs x (sample_of f rs x ns) n
 of_push f rs x ns n = from_push f rs x ns n (record { values = []; exact = [] })
-
-from-length : (f : Format) (rs : List ℤ) (x : ℤ) (ns : List Node) (s : Sample) → length (sample_from f rs x ns s).values ≡ length s.values + length ns
-from-length f rs x [] s = omega arith
-from-length f rs x (n ∷ ns) s = omega (arith, from-length f rs x ns (after_node f rs x s n), length_push s.values (node_value f rs x s.values n))
 
 pub of-length : (f : Format) (rs : List ℤ) (x : ℤ) (ns : List Node) → length (sample_of f rs x ns).values ≡ length ns
 of-length f rs x ns = omega (arith, from-length f rs x ns (record { values = []; exact = [] }))

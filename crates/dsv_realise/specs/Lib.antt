@@ -1,5 +1,9 @@
+pub mod SubjectView
+pub mod Controllers
+pub mod SubjectNetlists
 pub mod Making
 pub mod Netlists
 pub mod Parts
 pub mod RangedNetlists
 pub mod Running
+pub mod Runs

@@ -1,13 +1,13 @@
 // Quantised controllers made netlists.
-ghost use Rattle.std.specs.Prelude.{◌≡◌, List, ℤ, IfOk};
-ghost use Rattle.dsv_system.specs.Systems.{RunAlike};
-ghost use Rattle.dsv_meaning.specs.Equations.{Past, order, forward_registers_of};
+ghost use Rattle.std.specs.Prelude.{◌≡◌, IfOk};
+ghost use Rattle.dsv_meaning.specs.Equations.{order, forward_registers_of};
 ghost use Rattle.dsv_meaning.specs.Systems.{equations_of};
 ghost use Rattle.dsv_netlist.specs.Counts.{counts_of};
-ghost use Rattle.dsv_netlist.specs.Systems.{system_of};
 ghost use Rattle.dsv_realise.specs.Netlists.{net_of};
 ghost use Rattle.dsv_realise.specs.Running.{counts_as};
 ghost use Rattle.dsv_realise.specs.Parts.{parts_as};
+ghost use Rattle.dsv_system.specs.Systems.{behaviour_of, Agree};
+ghost use Rattle.dsv_netlist.specs.Systems.{runs_of};
 
 use crate::parts::Parts;
 use crate::realisations::{
@@ -42,7 +42,7 @@ fn parts(alloc: Global, quantised: &Quantised) -> Result<Parts, NoMemory>
 pub fn realise(alloc: Global, quantised: &Quantised) -> Result<Netlist, NoMemory>
     ensures net { IfOk result (λ net. net ≡ net_of quantised.now) }
     ensures runs { IfOk result
-        (λ net. RunAlike (List ℤ) Past (system_of net) (equations_of quantised.now)) }
+        (λ net. Agree (runs_of net) (behaviour_of (equations_of quantised.now))) }
     ensures counts { IfOk result (λ net. counts_of net
         ≡ counts_as quantised.now.realisation (order quantised.now)) }
     ensures forward { IfOk result (λ net. net.feed_forward

@@ -1,5 +1,5 @@
 // Traces of inputs, and limit cycles of starts, that are replayed in a netlist.
-ghost use Rattle.std.specs.Prelude.{◌≡◌, ◌<◌, ◌≤◌, ◌^◌, ℕ, List, ℤ, true, length, map, take};
+ghost use Rattle.std.specs.Prelude.{◌≡◌, ◌<◌, ◌≤◌, ◌^◌, ℕ, true, length, map, take};
 ghost use Rattle.std.specs.Prelude.{IfOk, IfSome, IfNone};
 ghost use Rattle.std.specs.List.{All};
 ghost use Rattle.dsv_word.specs.Words.{IsWord};
@@ -7,10 +7,10 @@ ghost use Rattle.dsv_system.specs.Breaks.{IsInside};
 ghost use Rattle.dsv_system.specs.Cycles.{Returns, IsLeastPeriod, IsSounding};
 ghost use Rattle.dsv_system.specs.Runs.{SampleRow};
 ghost use Rattle.dsv_system.specs.Systems.{rows, zeros, AreInRange};
-ghost use Rattle.dsv_netlist.specs.Systems.{system_of};
+ghost use Rattle.dsv_netlist.specs.Systems.{system_of, runs_of};
 ghost use Rattle.dsv_meaning.specs.Replays.{IfReturns, IfGone};
-ghost use Rattle.dsv_meaning.specs.Traces.{IsTraceOf};
 ghost use Rattle.dsv_realise.specs.RangedNetlists.{IsTraceIn};
+ghost use Rattle.dsv_meaning.specs.Traces.{IsTraceBy};
 
 use crate::ranged_netlist::RangedNetlist;
 use crate::simulation::{next_row, zero_registers};
@@ -66,8 +66,8 @@ pub fn replayed_trace(
     requires range { AreInRange subject.now.low subject.now.high inputs.now }
     requires words { All (IsWord subject.now.net.now.format) inputs.now }
     requires few { length inputs.now < 2 ^ 32 }
-    ensures trace { IfOk result (λ trace. IfSome trace (IsTraceOf (List ℤ)
-        (system_of subject.now.net.now) subject.now.low subject.now.high (length inputs.now))) }
+    ensures trace { IfOk result (λ trace. IfSome trace (IsTraceBy
+        (runs_of subject.now.net.now) subject.now.low subject.now.high (length inputs.now))) }
     ensures none { IfOk result (λ trace. IfNone trace (All (IsInside subject.now.net.now.format)
         (rows (system_of subject.now.net.now) (zeros (length subject.now.net.now.next))
         inputs.now))) }
@@ -89,14 +89,14 @@ fn stepped_cycle(
     requires words { All (IsWord net.now.format) start.now }
     requires room { length outputs.old ≡ limit }
     ensures least { IfReturns result (λ period sounding.
-        IsLeastPeriod (List ℤ) (system_of net.now) start.now period) }
+        IsLeastPeriod (runs_of net.now) start.now period) }
     ensures few { IfReturns result (λ period sounding. period ≤ limit) }
     ensures sounding { IfReturns result (λ period sounding. sounding ≡ true →
-        IsSounding (List ℤ) (system_of net.now) start.now period) }
+        IsSounding (runs_of net.now) start.now period) }
     ensures lasting { IfReturns result (λ period sounding. (n : ℕ) →
-        IsSounding (List ℤ) (system_of net.now) start.now n → sounding ≡ true) }
+        IsSounding (runs_of net.now) start.now n → sounding ≡ true) }
     ensures gone { IfGone result ((p : ℕ) → p ≤ limit →
-        Returns (List ℤ) (system_of net.now) start.now p → ⊥) }
+        Returns (runs_of net.now) start.now p → ⊥) }
     ensures outputs { IfReturns result (λ period sounding. take period outputs.new
         ≡ map (λ (r : SampleRow). r.y) (rows (system_of net.now) start.now (zeros period))) }
     ensures room { length outputs.new ≡ limit }
@@ -130,15 +130,15 @@ pub fn replay_cycle(
     requires words { All (IsWord net.now.format) start.now }
     requires room { length outputs.old ≡ limit }
     ensures least { IfOk result (λ replay. IfReturns replay (λ period sounding.
-        IsLeastPeriod (List ℤ) (system_of net.now) start.now period)) }
+        IsLeastPeriod (runs_of net.now) start.now period)) }
     ensures few { IfOk result (λ replay. IfReturns replay (λ period sounding. period ≤ limit)) }
     ensures sounding { IfOk result (λ replay. IfReturns replay (λ period sounding.
-        sounding ≡ true → IsSounding (List ℤ) (system_of net.now) start.now period)) }
+        sounding ≡ true → IsSounding (runs_of net.now) start.now period)) }
     // An output that isn't 0 at any later time is heard in the first period already.
     ensures lasting { IfOk result (λ replay. IfReturns replay (λ period sounding. (n : ℕ) →
-        IsSounding (List ℤ) (system_of net.now) start.now n → sounding ≡ true)) }
+        IsSounding (runs_of net.now) start.now n → sounding ≡ true)) }
     ensures gone { IfOk result (λ replay. IfGone replay ((p : ℕ) → p ≤ limit →
-        Returns (List ℤ) (system_of net.now) start.now p → ⊥)) }
+        Returns (runs_of net.now) start.now p → ⊥)) }
     ensures outputs { IfOk result (λ replay. IfReturns replay (λ period sounding.
         take period outputs.new ≡ map (λ (r : SampleRow). r.y)
         (rows (system_of net.now) start.now (zeros period)))) }

@@ -2,18 +2,14 @@
 ghost use Rattle.std.specs.Prelude.{◌≡◌, length, IfOk};
 ghost use Rattle.std.specs.List.{All};
 ghost use Rattle.dsv_word.specs.Words.{IsWord};
-ghost use Rattle.dsv_meaning.specs.Equations.{order, registers_of};
-ghost use Rattle.dsv_meaning.specs.Systems.{equations_of};
 ghost use Rattle.dsv_system.specs.Systems.{rows, zeros};
 ghost use Rattle.dsv_system.specs.RowViews.{row_of};
 ghost use Rattle.dsv_system.specs.Runs.{row_at};
 ghost use Rattle.dsv_netlist.specs.Nodes.{step_of};
 ghost use Rattle.dsv_netlist.specs.Systems.{system_of};
 
-use crate::netlist::realise;
 use dsv_base::NoMemory;
 use dsv_netlist::Netlist;
-use dsv_quantiser::Quantised;
 use dsv_system::{ExactList, Row, Rows};
 use std::alloc::Global;
 
@@ -68,18 +64,4 @@ pub fn simulate_netlist(alloc: Global, net: &Netlist, inputs: &[i64]) -> Result<
 {
     let mut registers = zero_registers(alloc, net)?;
     rows_of(alloc, net, registers.as_mut_slice(), inputs)
-}
-
-/// The rows of a controller's netlist over these inputs, from registers of zeros: they are those of
-/// the written equations.
-pub fn simulate(alloc: Global, quantised: &Quantised, inputs: &[i64]) -> Result<Rows, NoMemory>
-    requires { All (IsWord quantised.now.format) inputs.now }
-    ensures { IfOk result (λ found. found
-        ≡ rows (equations_of quantised.now)
-        (zeros (registers_of quantised.now.realisation (order quantised.now))) inputs.now) }
-{
-    // its range, for the proof
-    let _order = quantised.order();
-    let net = realise(alloc, quantised)?;
-    simulate_netlist(alloc, &net, inputs)
 }

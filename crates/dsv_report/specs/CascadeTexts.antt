@@ -4,6 +4,8 @@ use Rattle.dsv_cascade.specs.declared.cascade.CascadeRefusal.{CascadeRefusal}
 use Rattle.dsv_cascade.specs.declared.cascade.CascadeRefusal.TheVariants as refusal
 use Rattle.dsv_cascade.specs.declared.stability.CascadeForms.{CascadeForms}
 use Rattle.dsv_cascade.specs.declared.stability.CascadeForms.TheVariants as forms
+use Rattle.dsv_cascade.specs.declared.stability.SectionFault.{SectionFault}
+use Rattle.dsv_cascade.specs.declared.stability.SectionFault.TheVariants as fault
 use Rattle.dsv_cascade.specs.declared.stability.SectionOffer.{SectionOffer}
 use Rattle.dsv_cascade.specs.Sections.{place_of}
 use Rattle.dsv_poly_table.specs.declared.sections.SectionTables.{SectionTables}
@@ -35,13 +37,17 @@ wide_text = cause_text (codes "cause WIDE section ")
 abbrev pub no_closed_form_text : ℕ → ℕ → List ℕ
 no_closed_form_text = cause_text (codes "cause NO_CLOSED_FORM section ")
 
+-- why closed forms don't show the section of this number to be stable
+abbrev pub fault_text : ℕ → SectionFault → List ℕ
+fault_text section (fault.KeptAway poly offer fall value) = section_line section
+    ++ (form_text poly offer.form fall ++ start_text (take offer.form.d offer.start) value)
+fault_text section (fault.Wide index) = wide_text section index
+fault_text section (fault.NoClosedForm index) = no_closed_form_text section index
+
 -- what closed forms say of the sections, after the heading
 abbrev pub forms_text : CascadeForms → List ℕ
 forms_text (forms.Falls offers) = numbered_lines section_text 0 offers
-forms_text (forms.KeptAway section poly offer fall value) = section_line section
-    ++ (form_text poly offer.form fall ++ start_text (take offer.form.d offer.start) value)
-forms_text (forms.Wide section index) = wide_text section index
-forms_text (forms.NoClosedForm section index) = no_closed_form_text section index
+forms_text (forms.NotAll section found) = fault_text section found
 
 -- what the table of a section says
 abbrev pub section_table_text : ℕ → TableFinding → List ℕ

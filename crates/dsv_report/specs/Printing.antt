@@ -3,6 +3,8 @@ use Rattle.std.specs.Prelude.{◌≤◌}
 use Rattle.std.specs.List.{All}
 use Rattle.dsv_cascade.specs.declared.stability.CascadeForms.{CascadeForms}
 use Rattle.dsv_cascade.specs.declared.stability.CascadeForms.TheVariants as forms
+use Rattle.dsv_cascade.specs.declared.stability.SectionFault.{SectionFault}
+use Rattle.dsv_cascade.specs.declared.stability.SectionFault.TheVariants as fault
 use Rattle.dsv_cascade.specs.declared.stability.SectionOffer.{SectionOffer}
 use Rattle.dsv_report.specs.declared.answers.Answer.{Answer}
 use Rattle.dsv_report.specs.declared.answers.Answer.TheVariants as answer
@@ -11,12 +13,14 @@ use Rattle.dsv_report.specs.declared.answers.Answer.TheVariants as answer
 abbrev pub SectionHasPlaces : SectionOffer → Type 0
 SectionHasPlaces s = (s.offer.form.d ≤ 8) × (s.fall.d ≤ 8)
 
+abbrev pub FaultHasPlaces : SectionFault → Type 0
+FaultHasPlaces (fault.KeptAway poly offer fall value) = (offer.form.d ≤ 8) × (fall.d ≤ 8)
+FaultHasPlaces (fault.Wide index) = Unit {0}
+FaultHasPlaces (fault.NoClosedForm index) = Unit {0}
+
 abbrev pub FormsHavePlaces : CascadeForms → Type 0
 FormsHavePlaces (forms.Falls offers) = All SectionHasPlaces offers
-FormsHavePlaces (forms.KeptAway section poly offer fall value) =
-    (offer.form.d ≤ 8) × (fall.d ≤ 8)
-FormsHavePlaces (forms.Wide section index) = Unit {0}
-FormsHavePlaces (forms.NoClosedForm section index) = Unit {0}
+FormsHavePlaces (forms.NotAll section found) = FaultHasPlaces found
 
 -- the forms of an answer have at most eight places
 abbrev pub HasPlaces : Answer → Type 0

@@ -9,6 +9,7 @@ use Rattle.dsv_names.specs.declared.property.RunProperty.TheVariants.{Overflow}
 use Rattle.dsv_base.specs.Text.{spaced_text}
 use Rattle.dsv_cascade.specs.declared.stability.CascadeForms.{CascadeForms}
 use Rattle.dsv_cascade.specs.declared.stability.CascadeForms.TheVariants as forms
+use Rattle.dsv_cascade.specs.declared.stability.SectionFault.TheVariants as fault
 use Rattle.dsv_jury.specs.declared.verdict.Jury.{Jury}
 use Rattle.dsv_jury.specs.declared.verdict.Jury.TheVariants as jury
 use Rattle.dsv_system.specs.Runs.{SampleRow}
@@ -233,15 +234,15 @@ samples_text = numbered_lines sample_text
 -- the verdict of what closed forms say of a cascade's sections
 abbrev pub forms_verdict : CascadeForms → List ℕ
 forms_verdict (forms.Falls offers) = successful
-forms_verdict (forms.KeptAway section poly offer fall value) = failed
-forms_verdict (forms.Wide section index) = inconclusive
-forms_verdict (forms.NoClosedForm section index) = inconclusive
+forms_verdict (forms.NotAll section (fault.KeptAway poly offer fall value)) = failed
+forms_verdict (forms.NotAll section (fault.Wide index)) = inconclusive
+forms_verdict (forms.NotAll section (fault.NoClosedForm index)) = inconclusive
 
 abbrev pub forms_status : CascadeForms → ℕ
 forms_status (forms.Falls offers) = 0
-forms_status (forms.KeptAway section poly offer fall value) = 10
-forms_status (forms.Wide section index) = 20
-forms_status (forms.NoClosedForm section index) = 20
+forms_status (forms.NotAll section (fault.KeptAway poly offer fall value)) = 10
+forms_status (forms.NotAll section (fault.Wide index)) = 20
+forms_status (forms.NotAll section (fault.NoClosedForm index)) = 20
 
 -- and of what tables say of them
 abbrev pub section_tables_verdict : SectionTables → List ℕ

@@ -4,18 +4,19 @@ ghost use Rattle.std.specs.List.{All};
 ghost use Rattle.dsv_base.specs.Taking.{Writes};
 ghost use Rattle.dsv_cascade.specs.Sections.{place_of};
 ghost use Rattle.dsv_report.specs.CascadeTexts.{section_line, section_text, cause_text};
-ghost use Rattle.dsv_report.specs.CascadeTexts.{wide_text, no_closed_form_text, forms_text};
+ghost use Rattle.dsv_report.specs.CascadeTexts.{wide_text, no_closed_form_text, fault_text};
+ghost use Rattle.dsv_report.specs.CascadeTexts.{forms_text};
 ghost use Rattle.dsv_report.specs.CascadeTexts.{cascade_code, cascade_refusal_text};
 ghost use Rattle.dsv_report.specs.CascadeTexts.{sections_text, section_table_text};
 ghost use Rattle.dsv_report.specs.CascadeTexts.{section_tables_text};
 ghost use Rattle.dsv_report.specs.Lines.{numbered_lines};
-ghost use Rattle.dsv_report.specs.Printing.{SectionHasPlaces, FormsHavePlaces};
+ghost use Rattle.dsv_report.specs.Printing.{SectionHasPlaces, FaultHasPlaces, FormsHavePlaces};
 
 use crate::forms::{put_form, put_kept_away};
 use crate::lines::{put_number_line, put_numbered};
 use crate::tables::put_table;
 use dsv_base::{Failed, Sink};
-use dsv_cascade::{CascadeForms, CascadeRefusal, SectionOffer};
+use dsv_cascade::{CascadeForms, CascadeRefusal, SectionFault, SectionOffer};
 use dsv_command::SectionNames;
 use dsv_poly_table::SectionTables;
 use dsv_table::TableFinding;
@@ -87,6 +88,28 @@ fn put_no_closed_form<K: Sink>(sink: &mut K, section: u64, index: u64) -> Result
     put_undecided(sink, b"cause NO_CLOSED_FORM section ", section, index)
 }
 
+/// Writes why closed forms don't show the section of this number to be stable.
+fn put_fault<K: Sink>(sink: &mut K, section: u32, fault: &SectionFault) -> Result<(), Failed>
+    requires { FaultHasPlaces fault.now }
+    ensures { Writes (K.seen sink.old) (K.seen sink.new) result (fault_text section fault.now) }
+{
+    match fault {
+        SectionFault::KeptAway {
+            poly,
+            offer,
+            fall,
+            value,
+        } => {
+            put_section_of(sink, section)?;
+            put_kept_away(sink, poly, offer, fall, value)
+        }
+        SectionFault::Wide { index } => put_wide(sink, u64::from(section), u64::from(*index)),
+        SectionFault::NoClosedForm { index } => {
+            put_no_closed_form(sink, u64::from(section), u64::from(*index))
+        }
+    }
+}
+
 /// Writes what closed forms say of a cascade's sections.
 pub(crate) fn put_forms<K: Sink>(sink: &mut K, found: &CascadeForms) -> Result<(), Failed>
     requires { FormsHavePlaces found.now }
@@ -94,22 +117,7 @@ pub(crate) fn put_forms<K: Sink>(sink: &mut K, found: &CascadeForms) -> Result<(
 {
     match found {
         CascadeForms::Falls(offers) => put_offers(sink, offers.as_slice()),
-        CascadeForms::KeptAway {
-            section,
-            poly,
-            offer,
-            fall,
-            value,
-        } => {
-            put_section_of(sink, *section)?;
-            put_kept_away(sink, poly, offer, fall, value)
-        }
-        CascadeForms::Wide { section, index } => {
-            put_wide(sink, u64::from(*section), u64::from(*index))
-        }
-        CascadeForms::NoClosedForm { section, index } => {
-            put_no_closed_form(sink, u64::from(*section), u64::from(*index))
-        }
+        CascadeForms::NotAll { section, fault } => put_fault(sink, *section, fault),
     }
 }
 

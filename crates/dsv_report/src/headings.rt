@@ -2,7 +2,7 @@
 ghost use Rattle.std.specs.Prelude.{◌≡◌};
 ghost use Rattle.dsv_report.specs.Report as report;
 
-use dsv_cascade::CascadeForms;
+use dsv_cascade::{CascadeForms, SectionFault};
 use dsv_poly_table::SectionTables;
 use dsv_table::TableVerdict;
 
@@ -45,8 +45,11 @@ pub(crate) fn forms_verdict(found: &CascadeForms) -> &'static [u8]
 {
     match found {
         CascadeForms::Falls(_) => success_heading(),
-        CascadeForms::KeptAway { .. } => failure_heading(),
-        CascadeForms::Wide { .. } | CascadeForms::NoClosedForm { .. } => doubt_heading(),
+        CascadeForms::NotAll {
+            fault: SectionFault::KeptAway { .. },
+            ..
+        } => failure_heading(),
+        CascadeForms::NotAll { .. } => doubt_heading(),
     }
 }
 
@@ -77,8 +80,11 @@ pub(crate) fn forms_status(found: &CascadeForms) -> u8
 {
     match found {
         CascadeForms::Falls(_) => 0,
-        CascadeForms::KeptAway { .. } => 10,
-        CascadeForms::Wide { .. } | CascadeForms::NoClosedForm { .. } => 20,
+        CascadeForms::NotAll {
+            fault: SectionFault::KeptAway { .. },
+            ..
+        } => 10,
+        CascadeForms::NotAll { .. } => 20,
     }
 }
 

@@ -11,7 +11,7 @@ use Rattle.dsv_term.specs.declared.node.TermId.{TermId}
 use Rattle.dsv_term.specs.declared.word.Word.{Word}
 use Rattle.dsv_term.specs.Building.{Built, built_of}
 use Rattle.dsv_term.specs.Growth.{AreSound, Adds}
-use Rattle.dsv_term.specs.Terms.{AreValues, KeepsTerms, width_of, word_of}
+use Rattle.dsv_term.specs.Terms.{AreValues, KeepsTerms, width_of, word_of, HasBits}
 use Rattle.dsv_term.specs.TermsView.{TermsView}
 use Rattle.dsv_term.specs.Word.{IsWord, residue, sum_of, difference_of, joined_of, extended_of, extract_of}
 use Rattle.dsv_term.proofs.Building.{later, stands-width, Adds-built}
@@ -23,7 +23,7 @@ use Rattle.dsv_rewrite.specs.Constants.{constant_term}
 use Rattle.dsv_rewrite.specs.Digits.{shifted_term, Copies, none, sum, negated_sum, Multiple, with_added, with_taken}
 use Rattle.dsv_rewrite.specs.Pairs.{joined_term, sum_term, difference_term}
 use Rattle.dsv_rewrite.specs.Parts.{part_term}
-use Rattle.dsv_rewrite.specs.Ready.{HasBits, AreCopies}
+use Rattle.dsv_rewrite.specs.Ready.{AreCopies}
 use Rattle.dsv_rewrite.specs.Simple.{AreSimple}
 use Rattle.dsv_rewrite.proofs.Extracts.{extended-same}
 use Rattle.dsv_rewrite.proofs.Laws.{word_eq}

@@ -9,10 +9,7 @@ use Rattle.dsv_algebra.specs.Floor.{floor_of}
 use Rattle.dsv_term.specs.declared.word.Word.{Word}
 use Rattle.dsv_term.specs.Word.{IsWord, signed_of, joined_of, extended_of, extract_of}
 use Rattle.dsv_term.proofs.Complement.{IsSpelled, spelled, signed_reads, wider_spelled, extended-spelled, low-spelled, shift-spelled, floor_spelled}
-use Rattle.dsv_rewrite.proofs.Laws.{word_eq}
-
-small : (n m : ℕ) → n < m → n % m ≡ n
-small n m h = grind (arith, h)
+use Rattle.dsv_rewrite.proofs.Laws.{word_eq, small}
 
 -- ---- the bits of the lowest bits
 row : (q a b c r w : ℕ) → w ≡ a * (b * c) → q * w + r ≡ q * c * b * a + r

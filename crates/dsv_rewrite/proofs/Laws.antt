@@ -21,7 +21,7 @@ zero_is x e = eqb-true x.number 0 e
 pub full_is : (x : Word) → is_full x ≡ true → x.number ≡ 2 ^ x.width - 1
 full_is x e = eqb-true x.number (2 ^ x.width - 1) e
 
-small : (n m : ℕ) → n < m → n % m ≡ n
+pub small : (n m : ℕ) → n < m → n % m ≡ n
 small n m h = grind (arith, h)
 
 pub zero-sum : (x b : Word) → x.number ≡ 0 → x.width ≡ b.width → IsWord b → b ≡ sum_of x b

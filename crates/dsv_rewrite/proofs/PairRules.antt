@@ -14,8 +14,7 @@ use Rattle.dsv_term.specs.TermNode.{AreAlike}
 use Rattle.dsv_term.specs.Terms.{AreValues, widths_of, width_of, word_of}
 use Rattle.dsv_term.specs.TermsView.{TermsView}
 use Rattle.dsv_term.specs.Word.{IsWord, bit_of, sum_of, difference_of, negation_of, signed_less_of, signed_at_most_of, less_of, same_of, and_of, or_of, complement_of, joined_of, choice_of}
-use Rattle.dsv_term.proofs.Building.{stands-width}
-use Rattle.dsv_term.proofs.Made.{widths_count}
+use Rattle.dsv_term.proofs.Building.{stands-width, listed}
 use Rattle.dsv_rewrite.specs.Constants.{constant_at, constant_term, is_zero, is_full}
 use Rattle.dsv_rewrite.specs.Pairs.{by_constants, kept_or, constant_or, is_same_term, zero_like, sum_term, difference_term, signed_less_term, signed_at_most_term, less_term, same_term, known_or, end_term, and_term, or_term, joined_term, of_constant, negation_term, complement_term, choice_by, choice_term, comparison_term}
 use Rattle.dsv_rewrite.specs.Simple.{IsOpen}
@@ -59,9 +58,6 @@ folded : (t : TermsView) (a b : TermId) (x y : Word) (op : Word → Word → Wor
 folded t a b x y op bits s p q h w =
     rewrites_as t (constant_term t (op x y)) (op x y).width bits (λ values. op x y) (λ values. op (word_of t values a) (word_of t values b)) (constant_rewrites t (op x y) s h) w
     (λ values v. ap (λ (i : Word). op i y) (sym (p.word values)) ∙ ap (op (word_of t values a)) (sym (q.word values)))
-
-listed : (t : TermsView) (id : TermId) → id.0 < length t.nodes → id.0 < length (widths_of t)
-listed t id h = omega (arith, widths_count t)
 
 alike : (t : TermsView) (a b : TermId) → ArePair t a b → AreAlike (widths_of t) a b
 alike t a b p = record { first = listed t a p.first; second = listed t b p.second; same = p.alike }

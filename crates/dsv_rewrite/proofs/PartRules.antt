@@ -10,11 +10,10 @@ use Rattle.dsv_term.specs.declared.node.TermNode.TheVariants.{Concat, Sext, Extr
 use Rattle.dsv_term.specs.declared.word.Word.{Word}
 use Rattle.dsv_term.specs.Building.{Built, built_of, with_node}
 use Rattle.dsv_term.specs.Growth.{AreSound}
-use Rattle.dsv_term.specs.Terms.{AreValues, widths_of, width_of, word_of}
+use Rattle.dsv_term.specs.Terms.{AreValues, width_of, word_of}
 use Rattle.dsv_term.specs.TermsView.{TermsView}
 use Rattle.dsv_term.specs.Word.{extended_of, extract_of}
-use Rattle.dsv_term.proofs.Building.{stands-width}
-use Rattle.dsv_term.proofs.Made.{widths_count}
+use Rattle.dsv_term.proofs.Building.{stands-width, listed}
 use Rattle.dsv_rewrite.specs.declared.part.Part.{Part}
 use Rattle.dsv_rewrite.specs.Constants.{node_at, constant_of, constant_at, constant_term}
 use Rattle.dsv_rewrite.specs.Parts.{inside_extract, inside_extension, inner_part, or_inside, innermost_part, bits_term, extended_bits, part_of_constant, part_term}
@@ -141,8 +140,6 @@ innermost_part_same zero t p s h = part_itself t p h
 innermost_part_same (suc n) t p s h = inside_by t p (λ q. innermost_part n t q) (inner_part t (node_at t p.of) p) s h refl (λ q k. innermost_part_same n t q s k)
 
 -- ---- the term of bits
-listed : (t : TermsView) (id : TermId) → id.0 < length t.nodes → id.0 < length (widths_of t)
-listed t id h = omega (arith, widths_count t)
 
 -- bits of a term that is no constant, which are none either
 pub record BitsRewrite (t : TermsView) (q : Part) (b : Built) : Type 0 where

@@ -11,10 +11,10 @@ use Rattle.dsv_term.specs.declared.node.TermNode.TheVariants.{Input}
 use Rattle.dsv_term.specs.Building.{built_of, with_new_input}
 use Rattle.dsv_term.specs.Growth.{AreSound}
 use Rattle.dsv_term.specs.Terms.{KeepsTerms, AreTerms, width_of, word_of}
-use Rattle.dsv_term.specs.TermsView.{TermsView}
+use Rattle.dsv_term.specs.TermsView.{TermsView, no_terms}
 use Rattle.dsv_term.specs.Word.{IsWidth}
 use Rattle.dsv_term.proofs.Building.{new_input_gives}
-use Rattle.dsv_rewrite.specs.Rules.{term_of, Rewritten, rewritten_from, inputs_from, no_terms, simple_of}
+use Rattle.dsv_rewrite.specs.Rules.{term_of, Rewritten, rewritten_from, inputs_from, simple_of}
 use Rattle.dsv_rewrite.specs.Simple.{AreSimple, IsSimple}
 use Rattle.dsv_rewrite.proofs.PassRules.{IsInputTerm, IsNextPass, IsSame}
 use Rattle.dsv_rewrite.proofs.Standing.{old_simple}

@@ -7,7 +7,7 @@ use Rattle.dsv_term.specs.declared.node.TermNode.TheVariants.{Input, Constant, A
 use Rattle.dsv_term.specs.declared.node.TermNode.TheVariants.{Sle, Ult, Eq, And, Or, Concat, Neg}
 use Rattle.dsv_term.specs.declared.node.TermNode.TheVariants.{Not, MulConst, Sext, Extract, Ite}
 use Rattle.dsv_term.specs.TermNode.{IsConstant}
-use Rattle.dsv_term.specs.Terms.{width_of}
+use Rattle.dsv_term.specs.Terms.{width_of, HasBits}
 use Rattle.dsv_term.specs.TermsView.{TermsView}
 use Rattle.dsv_rewrite.specs.declared.digits.Copies as code
 use Rattle.dsv_rewrite.specs.declared.digits.Copies.TheVariants as code_copies
@@ -29,11 +29,6 @@ copies_of (code_copies.NegatedSum a) = negated_sum a
 
 abbrev pub multiple_of : TermsView → Copies → Multiple
 multiple_of t copies = record { terms = t; copies = copies }
-
--- A term that stands, of so many bits.
-pub record HasBits (t : TermsView) (id : TermId) (bits : ℕ) : Type 0 where
-  pub stands : id.0 < length t.nodes
-  pub width : width_of t id ≡ bits
 
 -- The sum of the copies so far, if there is one, has so many bits.
 abbrev pub AreCopies : TermsView → Copies → ℕ → Type 0

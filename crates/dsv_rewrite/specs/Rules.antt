@@ -10,7 +10,7 @@ use Rattle.dsv_term.specs.declared.node.TermNode.TheVariants.{Not, MulConst, Sex
 use Rattle.dsv_term.specs.declared.word.Word.{Word}
 use Rattle.dsv_term.specs.Building.{Built, built_of, with_node, with_new_input}
 use Rattle.dsv_term.specs.Terms.{width_of}
-use Rattle.dsv_term.specs.TermsView.{TermsView}
+use Rattle.dsv_term.specs.TermsView.{TermsView, no_terms}
 use Rattle.dsv_term.specs.Word.{product_of}
 use Rattle.dsv_rewrite.specs.Constants.{constant_at, constant_term}
 use Rattle.dsv_rewrite.specs.Digits.{multiple_term}
@@ -74,9 +74,6 @@ rewritten_from (node ∷ nodes) r =
 abbrev pub inputs_from : List ℕ → TermsView → TermsView
 inputs_from [] t = t
 inputs_from (width ∷ widths) t = inputs_from widths (with_new_input t width).terms
-
-abbrev pub no_terms : TermsView
-no_terms = record { inputs = []; nodes = [] }
 
 -- the goal of these terms and this root, rewritten
 unfoldable pub simple_of : TermsView → TermId → Built

@@ -1,5 +1,5 @@
 -- A sample of the exact run of a realisation's netlist is one of its written equations.
-use Rattle.std.proofs.Common.{◌≡◌, ℕ, zero, suc, ◌+◌, List, ◌∷◌, ◌++◌, length, take, drop, map, refl, sym, ap, subst, ◌∙◌, arith, length-drop}
+use Rattle.std.proofs.Common.{◌≡◌, suc, ◌+◌, List, ◌∷◌, ◌++◌, length, take, drop, map, refl, sym, ap, subst, ◌∙◌, arith, length-drop}
 use Rattle.std.proofs.Math.IntN.{ℤ, ◌*ℤ◌}
 use Rattle.std.proofs.lemmas.List.{map-append, take_all}
 use Rattle.dsv_netlist.specs.Nodes.{at}
@@ -12,6 +12,7 @@ use Rattle.dsv_realise.specs.Netlists.{count, shift, first_form, second_form_sta
 use Rattle.dsv_realise.proofs.Sources.{IsSized, counted_all, shifted_words}
 use Rattle.dsv_realise.proofs.FirstForm.{pair}
 use Rattle.dsv_realise.proofs.Steps.{HasRegisters}
+use Rattle.dsv_realise.proofs.Conditions.{count-length}
 use Rattle.dsv_roundoff.specs.Written.{AreLines, delta_lines, transposed_lines, IsSampleAs}
 use Rattle.dsv_roundoff.proofs.ExactSamples.{ExactSample, value_of, AllHold, sample_with}
 use Rattle.dsv_roundoff.proofs.ExactChains.{values_at, transposed_holds, delta_holds, transposed_delta_holds, lines-length, delta_lines-length, transposed_lines-length}
@@ -27,10 +28,6 @@ pub record IsWrittenAs (k : Realisation) (q : QuantisedView) (d : ℤ) (p : Past
   pub sample : IsSampleAs k q p (d *ℤ x) (at vs (net_as k q).output) next
   pub after : map (at vs) (net_as k q).next ≡ registers_as k (order q) next
   pub good : HasRegisters k (order q) next
-
-count-length : (k n : ℕ) → length (count k n) ≡ n
-count-length k zero = refl
-count-length k (suc n) = ap suc (count-length (k + 1) n)
 
 abbrev WritesAs : Realisation → Type 0
 WritesAs k = (q : QuantisedView) (d : ℤ) (p : Past) (x : ℤ) (vs : List ℤ) → IsSized q → HasRegisters k (order q) p → AllHold (sample_after k q d p x vs) 0 (net_as k q).nodes → IsWrittenAs k q d p x vs

@@ -1,6 +1,6 @@
 pub mod Scaling
 pub mod Existence
-mod NoErrors
+pub mod NoErrors
 pub mod Differences
 mod ExactSamples
 mod ExactLines

@@ -1,6 +1,5 @@
 -- Multiples of 2^frac_bits are rounded without an error.
 use Rattle.std.proofs.Common.{◌≡◌, ℕ, zero, suc, ◌^◌, ◌==◌, ◌+◌, ◌-◌, ◌<◌, ◌≤◌, inl, inr, Bool, true, false, if◌then◌else◌, List, [], ◌∷◌, ◌++◌, length, get_or, take, refl, sym, subst, ap, ◌∙◌, arith, rules}
-use Rattle.std.specs.Prelude.{◌&&◌}
 use Rattle.std.proofs.Math.IntN.{ℤ, pos, negsuc, ◌+ℤ◌, ◌-ℤ◌, ◌*ℤ◌, neg_ℤ}
 use Rattle.std.proofs.Math.Nat.{pow-suc}
 use Rattle.std.proofs.lemmas.Nat.{pow_pos}
@@ -12,6 +11,7 @@ use Rattle.std.specs.Ordering.{int_eq}
 use lib.Signed.{◌<ℤ◌}
 use Rattle.dsv_algebra.specs.Floor.{floor_of}
 use Rattle.dsv_algebra.proofs.Normaliser.{ring, env, var, num, plus, times, minus}
+use Rattle.dsv_algebra.proofs.Booleans.{and_left, and_right}
 use Rattle.dsv_names.specs.declared.rounding.Rounding.{Rounding}
 use Rattle.dsv_names.specs.declared.rounding.Rounding.TheVariants as rounding
 use Rattle.dsv_word.specs.declared.format.Format.{Format}
@@ -47,7 +47,7 @@ errors_small rounding.Ceil f = let p = pow_pos f in record { low = omega (arith,
 errors_small rounding.Nearest f = near_small f
 
 -- a multiple of d that is less than d in size is 0
-none_between : (d : ℕ) (t : ℤ) → neg_ℤ (pos d) <ℤ (pos d *ℤ t) → (pos d *ℤ t) <ℤ pos d → pos d *ℤ t ≡ pos 0
+pub none_between : (d : ℕ) (t : ℤ) → neg_ℤ (pos d) <ℤ (pos d *ℤ t) → (pos d *ℤ t) <ℤ pos d → pos d *ℤ t ≡ pos 0
 none_between d (pos zero) p q = omega (arith, ints)
 none_between d (pos (suc t)) p q = absurd (omega (arith, ints))
 none_between d (negsuc t) p q = absurd (omega (arith, ints))
@@ -71,14 +71,6 @@ IsMultiple f v = (q : ℤ) × (v ≡ pos (2 ^ f.frac_bits) *ℤ q)
 -- each value of which it is said is one
 abbrev pub AreMultiples : Format → List Bool → List ℤ → Type 0
 AreMultiples f says vs = (i : ℕ) → holds_at says i ≡ true → IsMultiple f (at vs i)
-
-and_left : (p q : Bool) → (p && q) ≡ true → p ≡ true
-and_left true q e = refl
-and_left false q e = e
-
-and_right : (p q : Bool) → (p && q) ≡ true → q ≡ true
-and_right true q e = e
-and_right false q e = absurd cc
 
 is_zero : (z : ℤ) → int_eq z (pos 0) ≡ true → z ≡ pos 0
 is_zero z e = search rules

@@ -1,18 +1,16 @@
 -- The exact run of a controller's netlist is that of the written equations.
-use Rattle.std.proofs.Common.{◌≡◌, ℕ, List, [], ◌∷◌, length, map, subst, arith, length-take, length-drop}
+use Rattle.std.proofs.Common.{◌≡◌, ℕ, List, [], ◌∷◌, length, map, subst}
 use Rattle.std.proofs.Math.IntN.{ℤ, pos}
-use Rattle.std.proofs.lemmas.List.{length-take-le, length-replicate}
+use Rattle.std.proofs.lemmas.List.{length-replicate}
 use Rattle.dsv_word.specs.declared.format.Format.{Format}
-use Rattle.dsv_names.specs.declared.realisation.Realisation.{Realisation}
-use Rattle.dsv_names.specs.declared.realisation.Realisation.TheVariants.{Dfi, Dfii, Tdfii, Ddfi, Ddfii, Tddfii}
 use Rattle.dsv_quantiser.specs.QuantisedView.{QuantisedView, IsQuantisedView}
 use Rattle.dsv_system.specs.Systems.{zeros}
 use Rattle.dsv_netlist.specs.Nodes.{at}
-use Rattle.dsv_meaning.specs.Equations.{order, Past, registers_as, start_as, registers_of}
+use Rattle.dsv_meaning.specs.Equations.{order, Past, registers_as}
 use Rattle.dsv_meaning.specs.Systems.{equations_of}
 use Rattle.dsv_realise.specs.Netlists.{net_of}
 use Rattle.dsv_realise.proofs.Conditions.{net_realised}
-use Rattle.dsv_realise.proofs.Runs.{runs_alike}
+use Rattle.dsv_realise.proofs.Runs.{runs_alike, start_has}
 use Rattle.dsv_realise.proofs.Sources.{sized}
 use Rattle.dsv_realise.proofs.Steps.{HasRegisters}
 use Rattle.dsv_roundoff.specs.Exact.{AreExactly, RunsExactly}
@@ -39,13 +37,6 @@ run_written q d p rs (x ∷ xs) (vs ∷ samples) z h e a =
     (g.next, g.sample, run_written q d g.next (map (at vs) (net_of q).next) xs samples z g.good g.after a.1)
 
 -- ---- the start
-start_has : (k : Realisation) (n : ℕ) (start : List ℤ) → length start ≡ registers_of k n → HasRegisters k n (start_as k n start)
-start_has Dfi n start l = (omega (arith, length-take n start), omega (arith, length-drop n start))
-start_has Dfii n start l = omega arith
-start_has Tdfii n start l = l
-start_has Ddfi n start l = (length-take-le n start (omega arith), omega (arith, length-drop n start))
-start_has Ddfii n start l = l
-start_has Tddfii n start l = l
 
 pub exact_runs_written : ExactRunsAreWritten
 exact_runs_written q z xs d samples a =

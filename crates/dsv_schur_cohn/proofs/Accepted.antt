@@ -1,5 +1,5 @@
 -- The offer of a Schur-Cohn form is accepted where its numbers are narrow.
-use Rattle.std.proofs.Common.{◌≡◌, ℕ, zero, suc, ◌-◌, ◌^◌, ◌<◌, ◌≤◌, true, false, ◌==◌, nat_le, nat_lt, int_lt, List, [], ◌∷◌, ◌++◌, length, filter, inl, inr, None, refl, sym, ap, ◌∙◌, arith}
+use Rattle.std.proofs.Common.{◌≡◌, ℕ, zero, suc, ◌-◌, ◌^◌, ◌<◌, ◌≤◌, true, false, nat_le, nat_lt, List, [], ◌∷◌, ◌++◌, length, filter, inl, inr, None, refl, sym, ap, ◌∙◌, arith}
 use Rattle.std.proofs.Math.IntN.{ℤ, pos, ◌*ℤ◌}
 use Rattle.std.specs.List.{All, flat_map, list_all}
 use Rattle.std.specs.Ordering.{int_eq}
@@ -20,7 +20,7 @@ use Rattle.dsv_forms.specs.Padded.{matrix_with}
 use Rattle.dsv_forms.specs.Poly.{greatest_order, most_coefficients}
 use Rattle.dsv_forms.specs.Refusals.{Test, places, places_from, any_wide, is_symmetric, rest_of, right_side, side_numbers, place_tests, side_tests, dominance_tests, too_many_rows, negative_weight, weak_weight_tests, semidefinite_tests, bad_form, fall_numbers, value_numbers, start_tests, kept_away_refusal}
 use Rattle.dsv_forms.proofs.Passing.{Passed, none_refuses, passed_both, places_below, passed_map, passed_flat}
-use Rattle.dsv_forms.proofs.PassingOffers.{IsDiagonal, same_test, dominance_passes}
+use Rattle.dsv_forms.proofs.PassingOffers.{IsDiagonal, same_test, dominance_passes, below_zero}
 use Rattle.dsv_forms.proofs.Places.{all_true}
 use Rattle.dsv_sums.specs.Elimination.{entries_of, rows_of}
 use Rattle.dsv_sums.proofs.Filled.{many}
@@ -28,6 +28,7 @@ use Rattle.dsv_table.specs.SchurCohn.{schur_cohn, lost_row}
 use Rattle.dsv_schur_cohn.specs.Offer.{negative_offer, HasNarrowNumbers, IsNegativeAt}
 use Rattle.dsv_schur_cohn.proofs.Entries.{entry_inside, entry_below, entry_beside, one_row, no_rest}
 use Rattle.dsv_table.proofs.Identity.{by_itself, symmetric, none_in_last_row, none_in_last_column, loses_a_square}
+use Rattle.dsv_closed_forms.proofs.RootAccepted.{places_same}
 
 -- ---- a part with squares and a rest on the diagonal, from the tests of its numbers
 
@@ -62,9 +63,6 @@ weak_passes p d e s T numbers h =
       passed_both (weak_weight_tests p s ++ side_tests p d s.count s T numbers) (dominance_tests p d s)
           (passed_both (weak_weight_tests p s) (side_tests p d s.count s T numbers) weights sides) (dominance_passes p d e s h.rest h.small),
     )
-
-below_zero : (z : ℤ) → z <ℤ pos 0 → int_lt z (pos 0) ≡ true
-below_zero z h = grind (arith, ints)
 
 pub kept_away_by : (cs : List ℤ) (offer : KeptAway) (d e : ℕ) → length cs - 1 ≡ d → bad_form d offer.form ≡ false
     → IsWeakPart d e offer.fall (fall_entry d (vector_of cs) (matrix_of offer.form.rows)) (fall_numbers d (vector_of cs) (matrix_of offer.form.rows))
@@ -108,9 +106,6 @@ filled_fall d c i j few h k =
 
 symmetric_in : (d : ℕ) (R : Matrix) → ((i j : ℕ) → i < d → j < d → R i j ≡ R j i) → is_symmetric d R ≡ true
 symmetric_in d R h = all_true (λ i. list_all (λ j. int_eq (R i j) (R j i)) (places d)) d (λ i a. all_true (λ j. int_eq (R i j) (R j i)) d (λ j b. same_test (R i j) (R j i) (h i j a b)))
-
-places_same : (m n : ℕ) → m ≡ n → (m == n) ≡ true
-places_same m n e = grind (e, nat_tests, arith)
 
 few_rows : (d : ℕ) → 1 ≤ d → nat_lt d 1 ≡ false
 few_rows d h = grind (nat_tests, arith)

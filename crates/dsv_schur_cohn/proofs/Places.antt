@@ -1,5 +1,5 @@
 -- The offer from a place of the diagonal at which the form is negative.
-use Rattle.std.proofs.Common.{◌≡◌, ◌≢◌, ℕ, ◌-◌, ◌^◌, ◌<◌, ◌≤◌, ◌==◌, if◌then◌else◌, true, false, int_lt, List, [], ◌∷◌, length, None, inl, inr, refl, ◌∙◌, arith}
+use Rattle.std.proofs.Common.{◌≡◌, ◌≢◌, ℕ, ◌-◌, ◌^◌, ◌<◌, ◌≤◌, ◌==◌, if◌then◌else◌, true, false, int_lt, List, [], length, None, inl, inr, ◌∙◌, arith}
 use Rattle.std.proofs.Math.IntN.{ℤ, pos, ◌*ℤ◌, *ℤ-zero, zero-*ℤ}
 use Rattle.std.specs.Int.RustNames.{unsigned_abs}
 use Rattle.std.proofs.lemmas.Bool.{cases_lt}
@@ -8,7 +8,6 @@ use Rattle.std.proofs.lemmas.Int.{ints}
 use Rattle.std.proofs.lemmas.List.{get_or_past}
 use Rattle.std.proofs.lemmas.List.Elements.{All-get_or}
 use Rattle.dsv_algebra.specs.Vectors.{Vector, Matrix, sum_to, form_at, vector_of, matrix_of}
-use Rattle.dsv_algebra.proofs.Normaliser.{ring, env, var, num, times}
 use Rattle.dsv_algebra.proofs.Sums.{sum_same, sum_none, sum_one}
 use Rattle.dsv_forms.proofs.Passing.{Within}
 use Rattle.dsv_forms.specs.Poly.{most_coefficients}
@@ -18,6 +17,7 @@ use Rattle.dsv_schur_cohn.specs.Offer.{schur_cohn_form, negative_offer, IsSmall}
 use Rattle.dsv_schur_cohn.proofs.Accepted.{narrow_accepted}
 use Rattle.dsv_schur_cohn.proofs.Entries.{entry_inside}
 use Rattle.dsv_schur_cohn.proofs.Sizes.{small_narrow}
+use Rattle.dsv_closed_forms.proofs.RootAccepted.{by_one}
 use lib.Signed.{◌<ℤ◌}
 
 -- ---- a vector with 1 at one place, and 0 elsewhere
@@ -33,9 +33,6 @@ elsewhere i j n = grind (arith, nat_tests)
 
 unit_within : (i j : ℕ) → Within 1 (unit i j)
 unit_within i j = grind (arith, nat_tests)
-
-by_one : (x : ℤ) → x *ℤ pos 1 *ℤ pos 1 ≡ x
-by_one x = ring (env (x ∷ [])) (times (times (var 0) (num (pos 1))) (num (pos 1))) (var 0) refl
 
 -- a form at it is its entry there
 form_at_unit : (d : ℕ) (P : Matrix) (v : Vector) (i : ℕ) → i < d → ((j : ℕ) → v j ≡ unit i j) → form_at d P v ≡ P i i

@@ -1,15 +1,12 @@
 -- How great the numbers of the offer of a Schur-Cohn form are.
 use Rattle.std.proofs.Common.{◌≡◌, ℕ, zero, suc, ◌-◌, ◌*◌, ◌^◌, ◌<◌, ◌≤◌, List, ◌++◌, length, inl, inr, refl, arith}
 use Rattle.std.proofs.Math.IntN.{ℤ, pos, neg_ℤ, ◌-ℤ◌, ◌*ℤ◌}
-use Rattle.std.specs.Int.RustNames.{unsigned_abs}
 use Rattle.std.proofs.lemmas.Bool.{cases_lt}
-use Rattle.std.proofs.lemmas.List.{get_or_past}
-use Rattle.std.proofs.lemmas.List.Elements.{All-get_or}
 use Rattle.std.proofs.lemmas.Nat.{mul-le}
 use Rattle.dsv_algebra.specs.Vectors.{Vector, vector_of, matrix_of}
 use Rattle.dsv_algebra.specs.Companion.{fall_entry}
 use Rattle.dsv_forms.specs.Padded.{matrix_with}
-use Rattle.dsv_forms.specs.Poly.{IsPoly, greatest_order, greatest_coefficient}
+use Rattle.dsv_forms.specs.Poly.{greatest_order}
 use Rattle.dsv_forms.specs.Refusals.{weights_of, rows_of as rows_in, side_numbers, fall_numbers, value_numbers}
 use Rattle.dsv_forms.proofs.Passing.{Within, within_times, within_plus, within_neg, Narrow, none_wide, narrow_both, fall_numbers_narrow, side_numbers_narrow}
 use Rattle.dsv_forms.proofs.PassingOffers.{value_numbers_narrow}
@@ -18,12 +15,6 @@ use Rattle.dsv_table.specs.SchurCohn.{difference, schur_cohn, lost_row}
 use Rattle.dsv_schur_cohn.specs.Offer.{schur_cohn_form, negative_offer, SmallAreNarrow}
 use Rattle.dsv_schur_cohn.proofs.Accepted.{filled_fall}
 use Rattle.dsv_schur_cohn.proofs.Entries.{entry_inside, entry_below, entry_beside, one_row, no_rest}
-
-pub coefficient_within : (cs : List ℤ) → IsPoly cs → (k : ℕ) → Within greatest_coefficient (vector_of cs k)
-coefficient_within cs h k = elim (cases_lt k (length cs)) [
-  | inl l ↦ All-get_or (λ z. unsigned_abs z ≤ greatest_coefficient) cs k (pos 0) l h.small
-  | inr g ↦ rw (get_or_past cs k (pos 0) g) (omega arith)
-]
 
 -- the difference of two products of numbers within m
 products_within : (m : ℕ) (a b u v : ℤ) → Within m a → Within m b → Within m u → Within m v → Within (2 * (m * m)) (a *ℤ b -ℤ u *ℤ v)

@@ -1,6 +1,5 @@
 use Rattle.std.proofs.Common.{◌≡◌, ℕ, Bool, true, false, not, ◌&&◌, List, [], ◌∷◌, Option, Some, None, Result, Ok, cond, refl, ap, sym, ◌∙◌, inl, inr, ◌⊎◌}
 use Rattle.dsv_cnf.specs.Literal.{Literal, negation}
-use Rattle.dsv_cnf.proofs.LiteralLemmas.{and_left, and_right}
 use Rattle.dsv_hints.specs.LiteralSet.{none, with, with_all, outside, only}
 use Rattle.dsv_hints.specs.declared.hints.Move.{Move}
 use Rattle.dsv_hints.specs.declared.hints.Move.TheVariants.{Ends, Makes, Stuck}
@@ -14,6 +13,7 @@ use Rattle.dsv_solver.specs.Fine.{HasTwo, IsFine, AreFine}
 use Rattle.dsv_cnf.proofs.ClauseLemmas.{contains-cases, not_true, no_both}
 use Rattle.dsv_hints.proofs.MoveLemmas.{with-head, with-tail, with-cases, with_all-cases, move-makes, move-stuck, member-outside, only-same}
 use Rattle.dsv_solver.proofs.Resolution.{IsMore}
+use Rattle.dsv_algebra.proofs.Booleans.{and_left, and_right}
 
 not-below : (G : Literal → Bool) (A : Literal → Bool) (x : Literal) → ((a : Literal) → A a ≡ true → G a ≡ true) → G x ≡ false → A x ≡ false
 not-below G A x h n = not_true (A x) (λ i. no_both (G x) (h x i) n)

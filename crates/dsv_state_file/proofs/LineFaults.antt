@@ -17,12 +17,11 @@ use Rattle.dsv_lines.proofs.WrittenNumerals.{numeral_of-decimal, positive_of-dec
 use Rattle.dsv_state_file.specs.Decimals.{bare_decimal}
 use Rattle.dsv_state_file.specs.Faults.{WantedNumber, IsWanted, AreWanted, IsFirstOther, Meaning, HasWidth, Means, WantedLine, want_of, vector_line, version_line, format_line, states_line, end_line}
 use Rattle.dsv_state_file.specs.Limits.{most_states, greatest_int_bits, greatest_frac_bits, least_width, greatest_width}
-use Rattle.dsv_state_file.specs.Reading.{words_after, or_number, version_in, is_width, format_in, decimals_from, vector_in, range_in, states_in, entry_at}
-use Rattle.dsv_state_file.specs.declared.reader.Range.{Range}
+use Rattle.dsv_state_file.specs.Reading.{words_after, or_number, version_in, is_width, format_in, decimals_from, vector_in, range_in, states_in}
 use Rattle.dsv_state_file.specs.declared.words.Format.{Format}
 use Rattle.dsv_state_file.specs.declared.refusal.StateRefusal.{StateRefusal}
 use Rattle.dsv_state_file.specs.declared.refusal.StateRefusal.TheVariants as refusal
-use Rattle.dsv_state_file.proofs.ReadParts.{decimal_read}
+use Rattle.dsv_state_file.proofs.ReadParts.{decimal_read, range_of}
 use Rattle.dsv_state_file.proofs.WrittenFiles.{bare_is}
 
 -- the line is the form's word and as many words as numbers are wanted
@@ -229,9 +228,6 @@ vector_judged word count n l =
 made : {X Y : Type 0} (want : WantedLine) (n : ℕ) (l : Line) (r : Result X StateRefusal) (h : X → Y) → Judges want Anything n l r → Judges want Anything n l (r >>= λ x. Ok (h x))
 made want n l (Ok x) h k = record { words = k.words; formed = k.formed; numbers = k.numbers; means = λ states t. k.means states t }
 made want n l (Err why) h k = k
-
-abbrev range_of : List Ratio → Range
-range_of xs = record { min = entry_at xs 0; max = entry_at xs 1 }
 
 pub range_judged : (n : ℕ) (l : Line) → Judges (vector_line (codes "range") 2) Anything n l (range_in n l)
 range_judged n l = made (vector_line (codes "range") 2) n l (vector_in (codes "range") 2 n l) range_of (vector_judged (codes "range") 2 n l)

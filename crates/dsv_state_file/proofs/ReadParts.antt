@@ -189,7 +189,7 @@ pub record IsRange (l : Line) (range : Range) : Type 0 where
   pub is_min : IsDecimal min range.min
   pub is_max : IsDecimal max range.max
 
-abbrev range_of : List Ratio → Range
+abbrev pub range_of : List Ratio → Range
 range_of xs = record { min = entry_at xs 0; max = entry_at xs 1 }
 
 range_step : (l words : Line) (xs : List Ratio) → l ≡ codes "range" ∷ words → length xs ≡ 2 → AreDecimals words xs → IsRange l (range_of xs)

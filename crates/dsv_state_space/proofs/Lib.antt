@@ -4,6 +4,5 @@ pub mod StateLines
 pub mod StateNets
 pub mod StateOffers
 pub mod StateRuns
-pub mod StateVerdicts
 pub mod StateWords
 pub mod WorkedStates

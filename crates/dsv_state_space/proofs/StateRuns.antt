@@ -4,7 +4,6 @@ use Rattle.std.specs.List.{All}
 use Rattle.std.proofs.Math.IntN.{ℤ}
 use Rattle.std.proofs.lemmas.List.Elements.{All-weaker}
 use Rattle.dsv_netlist.specs.Nodes.{at}
-use Rattle.dsv_netlist.specs.Systems.{system_of}
 use Rattle.dsv_meaning.specs.Lines.{narrow_line}
 use Rattle.dsv_meaning.specs.Equations.{ago, no_words}
 use Rattle.dsv_realise.proofs.Samples.{Gives, keeps_self}
@@ -12,12 +11,13 @@ use Rattle.dsv_realise.proofs.Sources.{sources_give}
 use Rattle.dsv_realise.proofs.DeltaChains.{chain_start}
 use Rattle.dsv_realise.proofs.Follow.{Follows, same_rows, same_registers}
 use Rattle.dsv_realise.specs.Netlists.{sources}
-use Rattle.dsv_system.specs.Systems.{RunAlike}
 use Rattle.dsv_state_space.specs.StateView.{StateView, AreWords, IsStateView, states}
 use Rattle.dsv_state_space.specs.Equations.{state_summands, state_chain, state_sample, state_space_of}
 use Rattle.dsv_state_space.specs.Netlists.{output_of, states_of, net_of_state}
 use Rattle.dsv_state_space.proofs.StateLines.{HasPlaces, line_gives, states_give, state_chain-length}
 use Rattle.dsv_state_space.proofs.StateNets.{net_built}
+use Rattle.dsv_system.specs.Systems.{behaviour_of, Agree}
+use Rattle.dsv_netlist.specs.Systems.{runs_of}
 
 -- as many words as there are states
 abbrev HasStates : StateView → List ℤ → Type 0
@@ -45,7 +45,7 @@ follows s x u h l =
       good = omega (arith, state_chain-length f u x s.b s.a (no_words y.exact) h.rows);
     }
 
-pub runs_alike : (s : StateView) → IsStateView s → RunAlike (List ℤ) (List ℤ) (system_of (net_of_state s)) (state_space_of s)
+pub runs_alike : (s : StateView) → IsStateView s → Agree (runs_of (net_of_state s)) (behaviour_of (state_space_of s))
 runs_alike s h = record {
   many = (net_built s h).many;
   forward = refl;

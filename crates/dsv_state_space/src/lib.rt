@@ -2,7 +2,6 @@
 #![tactic(auto, using(dsv_algebra::proofs::Casts::casts))]
 
 mod falls;
-mod gain;
 mod lane;
 mod law;
 mod netlist;
@@ -10,18 +9,14 @@ mod place;
 mod quantisation;
 mod refusal;
 mod search;
-mod simulation;
+mod subject;
 mod system;
-mod verdicts;
 
 pub use falls::check_state_falls;
-pub use gain::{driven_state, state_gain};
 pub use law::largest_system;
 pub use netlist::state_net;
 pub use place::Place;
 pub use quantisation::quantise_state;
 pub use refusal::StateQuantRefusal;
 pub use search::state_offer;
-pub use simulation::simulate_state;
 pub use system::{MOST_STATES, StateSystem, WordRow, WordRows};
-pub use verdicts::{state_cycle, state_overflow};

@@ -1,20 +1,20 @@
 // The netlist of a state-space controller.
-ghost use Rattle.std.specs.Prelude.{◌≡◌, ◌<◌, ◌≤◌, ◌+◌, ◌*◌, ◌^◌, List, ℤ, length, IfOk};
+ghost use Rattle.std.specs.Prelude.{◌≡◌, ◌<◌, ◌≤◌, ◌+◌, ◌*◌, ◌^◌, length, IfOk};
 ghost use Rattle.dsv_netlist.specs.Counts.{counts_of};
-ghost use Rattle.dsv_netlist.specs.Systems.{system_of};
 ghost use Rattle.dsv_realise.specs.Making.{made_at, chained_at, no_places};
 ghost use Rattle.dsv_realise.specs.Netlists.{sources};
-ghost use Rattle.dsv_system.specs.Systems.{RunAlike};
 ghost use Rattle.dsv_state_space.specs.Equations.{state_summands, state_space_of, state_products};
 ghost use Rattle.dsv_state_space.specs.Netlists.{with_state_line, with_states, output_of};
 ghost use Rattle.dsv_state_space.specs.Netlists.{net_of_state};
 ghost use Rattle.dsv_state_space.specs.StateView.{most_states};
+ghost use Rattle.dsv_system.specs.Systems.{behaviour_of, Agree};
+ghost use Rattle.dsv_netlist.specs.Systems.{runs_of};
 
 use crate::system::StateSystem;
 use dsv_base::NoMemory;
 use dsv_meaning::Summand;
 use dsv_netlist::{Netlist, Node};
-use dsv_realise::{RangedNetlist, Summands, narrow_line, push_products, source_nodes};
+use dsv_realise::{Summands, narrow_line, push_products, source_nodes};
 use std::alloc::Global;
 
 /// The summands of a line over the nodes of the input and of the states.
@@ -82,7 +82,7 @@ fn new_states(
 pub fn state_net(alloc: Global, system: &StateSystem) -> Result<Netlist, NoMemory>
     ensures net { IfOk result (λ net. net ≡ net_of_state system.now) }
     ensures runs { IfOk result
-        (λ net. RunAlike (List ℤ) (List ℤ) (system_of net) (state_space_of system.now)) }
+        (λ net. Agree (runs_of net) (behaviour_of (state_space_of system.now))) }
     ensures products { IfOk result
         (λ net. (counts_of net).products ≡ state_products system.now) }
 {
@@ -91,14 +91,4 @@ pub fn state_net(alloc: Global, system: &StateSystem) -> Result<Netlist, NoMemor
     let next = new_states(alloc, &mut nodes, system)?;
     let net = Netlist::new(nodes, next, output, 0, system.format());
     Ok(net.unwrap())
-}
-
-/// The netlist of a controller with the range of its inputs.
-pub(crate) fn ranged_netlist<'a>(system: &StateSystem, net: &'a Netlist) -> RangedNetlist<'a>
-    requires { net.now.format ≡ system.now.format }
-    ensures net { result.net.now ≡ net.now }
-    ensures low { result.low ≡ system.now.xlo }
-    ensures high { result.high ≡ system.now.xhi }
-{
-    RangedNetlist::new(net, system.xlo(), system.xhi())
 }

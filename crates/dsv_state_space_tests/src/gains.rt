@@ -1,11 +1,11 @@
 // What is found of runs of any length: ranges of a model that sums the forms of the operations in
 // exact fractions, and a list that breaks, by hand.
 use crate::systems::{system_of, words_of};
-use dsv_gain::Outlook;
+use dsv_gain::{Outlook, driven, gain};
 use dsv_linear::Range;
 use dsv_meaning::Trace;
 use dsv_names::{OverflowMode, Rounding};
-use dsv_state_space::{driven_state, state_gain};
+use dsv_realise::Asking;
 use std::alloc::Global;
 
 /// x' = 0.95 x turned by 23 degrees, with inputs up to 0.25.
@@ -326,7 +326,8 @@ fn is_wanted(outlook: &Outlook, wanted: &Wanted) -> bool {
 fn is_right(alloc: Global, row: &Outlooked) -> Option<bool> {
     let mode = (row.rounding, OverflowMode::Wrap);
     let system = words_of(row.text.as_bytes(), mode)?.ok()?;
-    let outlook = state_gain(alloc, &system, row.limit).ok()?;
+    let asking = Asking::of(alloc, &system).ok()?;
+    let outlook = gain(alloc, &asking, row.limit).ok()?;
     Some(is_wanted(&outlook, &row.wanted))
 }
 
@@ -346,25 +347,24 @@ fn is_ramp(trace: &Trace) -> bool {
         && trace.exact == 32
 }
 
+/// What drives the states of a file out of their words, from this sample on.
+fn driven_states(alloc: Global, text: &str, sample: u32) -> Option<Option<Trace>> {
+    let system = system_of(text)?;
+    let asking = Asking::of(alloc, &system).ok()?;
+    driven(alloc, &asking, sample).ok()
+}
+
 #[test]
 fn a_sum_is_driven_out_of_its_words(rt: HostRuntime) {
     assert!(rt;
-        match system_of(SUM) {
-            Some(system) => match driven_state(rt.alloc(), &system, 17) {
-                Ok(Some(trace)) => is_ramp(&trace),
-                _ => false,
-            },
-            None => false,
+        match driven_states(rt.alloc(), SUM, 17) {
+            Some(Some(trace)) => is_ramp(&trace),
+            _ => false,
         }
     );
 }
 
 #[test]
 fn none_is_found_where_none_breaks(rt: HostRuntime) {
-    assert!(rt;
-        match system_of(PLAIN) {
-            Some(system) => matches!(driven_state(rt.alloc(), &system, 0), Ok(None)),
-            None => false,
-        }
-    );
+    assert!(rt; matches!(driven_states(rt.alloc(), PLAIN, 0), Some(None)));
 }

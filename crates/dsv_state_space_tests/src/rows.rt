@@ -9,7 +9,8 @@ use crate::models::{Model, Sample};
 use crate::systems::{MODES, words_of};
 use dsv_names::{OverflowMode, Rounding};
 use dsv_netlist::Netlist;
-use dsv_state_space::{simulate_state, state_net};
+use dsv_realise::Asking;
+use dsv_state_space::state_net;
 use dsv_system::ExactList;
 use dsv_word::Format;
 use std::alloc::Global;
@@ -166,7 +167,7 @@ fn are_rows(alloc: Global, model: &Model) -> Option<bool> {
     if !are_words(&system.format(), &INPUTS) {
         return None;
     }
-    let rows = simulate_state(alloc, &system, &INPUTS).ok()?;
+    let rows = Asking::of(alloc, &system).ok()?.rows(alloc, &INPUTS).ok()?;
     let mut states = [0, 0];
     let mut met = rows.len() == INPUTS.len();
     for (row, u) in rows.as_slice().iter().zip(&INPUTS) {

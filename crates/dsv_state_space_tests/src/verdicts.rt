@@ -3,10 +3,11 @@
 use crate::models::Model;
 use crate::rows::two_states;
 use crate::systems::{MODES, system_of, words_of};
-use dsv_bounded::BoundedRefusal;
+use dsv_bounded::{BoundedRefusal, cycle_within, overflow_within};
 use dsv_hints::Searched;
 use dsv_meaning::{Cycle, Trace};
-use dsv_state_space::{StateSystem, state_cycle, state_overflow};
+use dsv_realise::Asking;
+use dsv_state_space::StateSystem;
 use std::alloc::Global;
 
 /// x' = x + u, y = x at the input 1, in words of 2.2.
@@ -33,7 +34,8 @@ fn is_by_hand(trace: &Trace) -> bool {
 /// Whether the integrator breaks within two samples, by that trace.
 fn breaks_by_hand(alloc: Global) -> Option<bool> {
     let system = system_of(INTEGRATOR)?;
-    match state_overflow(alloc, &system, 2, 1_000).ok()? {
+    let asking = Asking::of(alloc, &system).ok()?;
+    match overflow_within(alloc, &asking, 2, 1_000).ok()? {
         Searched::Happens(trace) => Some(is_by_hand(&trace)),
         _ => Some(false),
     }
@@ -44,17 +46,19 @@ fn an_integrator_breaks_at_its_second_input(rt: HostRuntime) {
     assert!(rt; breaks_by_hand(rt.alloc()) == Some(true));
 }
 
+/// Whether no input breaks the integrator in one sample.
+fn has_room(alloc: Global) -> Option<bool> {
+    let system = system_of(INTEGRATOR)?;
+    let asking = Asking::of(alloc, &system).ok()?;
+    Some(matches!(
+        overflow_within(alloc, &asking, 1, 1_000),
+        Ok(Searched::Never(_))
+    ))
+}
+
 #[test]
 fn an_integrator_has_room_for_one_input(rt: HostRuntime) {
-    assert!(rt;
-        match system_of(INTEGRATOR) {
-            Some(system) => matches!(
-                state_overflow(rt.alloc(), &system, 1, 1_000),
-                Ok(Searched::Never(_))
-            ),
-            None => false,
-        }
-    );
+    assert!(rt; has_room(rt.alloc()) == Some(true));
 }
 
 /// Whether two inputs break the model from states of zeros.
@@ -86,7 +90,8 @@ fn made_of(alloc: Global, model: &Model) -> Option<StateSystem> {
 fn right_overflow(alloc: Global, model: &Model) -> Option<bool> {
     let system = made_of(alloc, model)?;
     let breaks = some_break(alloc, model)?;
-    let is_right = match state_overflow(alloc, &system, 2, 50_000).ok()? {
+    let asking = Asking::of(alloc, &system).ok()?;
+    let is_right = match overflow_within(alloc, &asking, 2, 50_000).ok()? {
         Searched::Happens(trace) => breaks && trace.sample < 2,
         Searched::Never(_) => !breaks,
         Searched::Spent(_) => false,
@@ -141,7 +146,8 @@ fn is_cycle(alloc: Global, model: &Model, cycle: &Cycle) -> Option<bool> {
 fn right_cycle(alloc: Global, model: &Model) -> Option<bool> {
     let system = made_of(alloc, model)?;
     let cycles = some_cycle(alloc, model)?;
-    let is_right = match state_cycle(alloc, &system, 3, 50_000).ok()? {
+    let asking = Asking::of(alloc, &system).ok()?;
+    let is_right = match cycle_within(alloc, &asking, 3, 50_000).ok()? {
         Searched::Happens(cycle) => cycles && is_cycle(alloc, model, &cycle)?,
         Searched::Never(_) => !cycles,
         Searched::Spent(_) => false,
@@ -177,24 +183,27 @@ d 1
 end
 ";
 
+/// Whether a job over eight states is refused for its size, and told it.
+fn is_too_large(alloc: Global) -> Option<bool> {
+    let system = system_of(EIGHT)?;
+    let asking = Asking::of(alloc, &system).ok()?;
+    Some(matches!(
+        cycle_within(alloc, &asking, 2, 1),
+        Err(BoundedRefusal::JobSize { size: 373_248 })
+    ))
+}
+
 #[test]
 fn a_job_over_the_greatest_size_is_refused(rt: HostRuntime) {
-    assert!(rt;
-        match system_of(EIGHT) {
-            Some(system) => matches!(
-                state_cycle(rt.alloc(), &system, 2, 1),
-                Err(BoundedRefusal::JobSize { size: 373_248 })
-            ),
-            None => false,
-        }
-    );
+    assert!(rt; is_too_large(rt.alloc()) == Some(true));
 }
 
 /// Whether eight states break in sample 0 at the input's first product: 2 times 8,000,000 is no
 /// word, as the greatest is less than 2^23.
 fn break_at_once(alloc: Global) -> Option<bool> {
     let system = system_of(EIGHT)?;
-    match state_overflow(alloc, &system, 1, 1).ok()? {
+    let asking = Asking::of(alloc, &system).ok()?;
+    match overflow_within(alloc, &asking, 1, 1).ok()? {
         Searched::Happens(trace) => Some(trace.sample == 0 && trace.value == 17),
         _ => Some(false),
     }

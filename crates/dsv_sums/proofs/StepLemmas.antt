@@ -10,7 +10,7 @@ use Rattle.std.proofs.lemmas.List.{get_or_past}
 use Rattle.std.proofs.lemmas.List.Elements.{All-get_or}
 use Rattle.dsv_algebra.specs.Narrow.{is_narrow, narrow_of}
 use Rattle.dsv_algebra.specs.Vectors.{Vector, Matrix, vector_of, matrix_of}
-use Rattle.dsv_algebra.specs.Companion.{only, total_from}
+use Rattle.dsv_algebra.specs.Companion.{only, total_from, image_terms}
 use Rattle.dsv_forms.specs.Poly.{IsPoly, greatest_coefficient}
 use Rattle.dsv_forms.specs.declared.offers.Form.{Form}
 use Rattle.dsv_forms.specs.Padded.{matrix_with, form_with}
@@ -23,11 +23,11 @@ use Rattle.dsv_forms.proofs.Passing.{Within, within_times, within_neg, narrow}
 use Rattle.dsv_forms.proofs.SumLemmas.{unless, any_wide-append}
 use Rattle.dsv_sums.specs.Elimination.{entries_of, rows_of}
 use Rattle.dsv_sums.specs.Partial.{small_of, small_entry, is_row_too_great}
-use Rattle.dsv_sums.specs.SumForms.{image_terms, image_numbers, is_too_great, base_entry, next_entry, next_form, entry_limit}
+use Rattle.dsv_sums.specs.SumForms.{image_numbers, is_too_great, base_entry, next_entry, next_form, entry_limit}
 use Rattle.dsv_sums.proofs.Filled.{many}
 
 -- ---- the products of two coefficients are narrow
-coefficient_within : (cs : List ℤ) → IsPoly cs → (k : ℕ) → Within greatest_coefficient (vector_of cs k)
+pub coefficient_within : (cs : List ℤ) → IsPoly cs → (k : ℕ) → Within greatest_coefficient (vector_of cs k)
 coefficient_within cs h k = elim (cases_lt k (length cs)) [
   | inl l ↦ All-get_or (λ z. unsigned_abs z ≤ greatest_coefficient) cs k (pos 0) l h.small
   | inr g ↦ rw (get_or_past cs k (pos 0) g) (omega arith)

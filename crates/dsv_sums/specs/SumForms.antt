@@ -4,14 +4,14 @@
 -- With the companion matrix C, P_0 is 2^20 on the diagonal, and P_(t+1) is 2^20 on the diagonal
 -- plus C^T P_t C / c_0^2, each entry rounded down.
 use Rattle.std.specs.Prelude.{ℕ, zero, suc, ◌-◌, ◌+◌, ◌^◌, ◌==◌, Bool, nat_le, ◌||◌}
-use Rattle.std.specs.Prelude.{if◌then◌else◌, List, ◌++◌, length, map, drop}
+use Rattle.std.specs.Prelude.{if◌then◌else◌, List, ◌++◌, length, map}
 use Rattle.std.specs.Prelude.{Option, Some, None, ℤ, pos, neg_ℤ, ◌+ℤ◌, ◌*ℤ◌}
 use Rattle.std.specs.List.{list_any}
 use Rattle.std.specs.Option.{option_and_then}
 use Rattle.std.specs.Int.{int_div_euclid}
 use Rattle.std.specs.Int.RustNames.{unsigned_abs}
 use Rattle.dsv_algebra.specs.Vectors.{Vector, Matrix, vector_of, matrix_of}
-use Rattle.dsv_algebra.specs.Companion.{fall_terms, fall_entry, total_from}
+use Rattle.dsv_algebra.specs.Companion.{fall_entry, total_from, image_terms}
 use Rattle.dsv_forms.specs.declared.offers.Form.{Form}
 use Rattle.dsv_forms.specs.declared.offers.Falls.{Falls}
 use Rattle.dsv_forms.specs.Padded.{form_with}
@@ -20,9 +20,6 @@ use Rattle.dsv_sums.specs.Elimination.{rows_of, elimination}
 use Rattle.dsv_sums.specs.declared.search.SumOffer.{SumOffer}
 
 -- ---- the next form
--- The terms of an entry of C^T P C, with the other sign: what the fall form takes from c_0^2 P.
-abbrev pub image_terms : ℕ → Vector → Matrix → ℕ → ℕ → List (ℤ × ℤ)
-image_terms d c P i j = drop 1 (fall_terms d c P i j)
 
 -- an entry of C^T P C
 abbrev pub image_entry : ℕ → Vector → Matrix → ℕ → ℕ → ℤ

@@ -19,7 +19,7 @@ plant_read end ts s h =
     ∙ ap (λ x. Ok (record { entries = s.entries; system = s.system; implementation = x })) (sym h.place)
 
 -- after the block of a plant's file all blocks stood
-no_more : (end at : ℕ) (b : Block) → is_closed b (with_close block.System at (plant_closed end)) ≡ false → ⊥
+pub no_more : (end at : ℕ) (b : Block) → is_closed b (with_close block.System at (plant_closed end)) ≡ false → ⊥
 no_more end at block.System e = absurd (cc)
 no_more end at block.Implementation e = absurd (cc)
 no_more end at block.Hardware e = absurd (cc)

@@ -25,7 +25,7 @@ use Rattle.dsv_syntax.proofs.States.{entry, between, within, after_field}
 use Rattle.dsv_syntax.proofs.ReadLemmas.{group_left}
 
 -- what is read after the first token
-abbrev next : ℕ → List Token → Parser → Result Syntax FileRefusal
+abbrev pub next : ℕ → List Token → Parser → Result Syntax FileRefusal
 next end ts q = parsed_from end q ts
 
 -- ---- lists

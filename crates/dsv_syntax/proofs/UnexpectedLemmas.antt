@@ -16,7 +16,7 @@ use Rattle.dsv_syntax.specs.Parsing.{step_at, wanted_at, whole_of, finish_at, pa
 use Rattle.dsv_syntax.specs.Grammar.{IsFile}
 use Rattle.dsv_syntax.specs.Beginnings.{Begins, StopsAt, EndsEarly, IsUnexpectedAt}
 use Rattle.dsv_syntax.proofs.ReadLemmas.{file_read}
-use Rattle.dsv_syntax.proofs.TakenLemmas.{file_taken}
+use Rattle.dsv_syntax.proofs.TakenLemmas.{file_taken, next}
 use Rattle.dsv_syntax.proofs.Steps.{CanGoOn, IsStep, step_leads}
 use Rattle.dsv_syntax.proofs.Completions.{completed}
 
@@ -26,10 +26,6 @@ use Rattle.dsv_syntax.proofs.Completions.{completed}
 pub data Leads : Parser → List Token → Parser → Type 0 where
   here : (p : Parser) → CanGoOn p.place p.depth → Leads p [] p
   step : (p q r : Parser) (t : Token) (ts : List Token) → step_at p.place t.kind t p ≡ Ok q → Leads q ts r → Leads p (t ∷ ts) r
-
--- what is read after the first token
-abbrev next : ℕ → List Token → Parser → Result Syntax FileRefusal
-next end ts q = parsed_from end q ts
 
 -- the tokens are read, and then others
 pub reads_on : (end : ℕ) (p : Parser) (ts : List Token) (q : Parser) (us : List Token) → Leads p ts q → parsed_from end p (ts ++ us) ≡ parsed_from end q us

@@ -1,4 +1,4 @@
-pub mod Alike
+pub mod Agreeing
 pub mod QuietRuns
 pub mod RunLemmas
 pub mod Words

@@ -6,7 +6,7 @@ use Rattle.std.specs.List.{All}
 use Rattle.std.proofs.lemmas.List.{append-nil, map-append, take_more_set, take_at, length-set, length-replicate, replicate-append-replicate, replicate_more}
 use Rattle.std.proofs.lemmas.List.Elements.{All-nil, All-append, All-take}
 use Rattle.dsv_system.specs.Runs.{SampleRow}
-use Rattle.dsv_system.specs.Systems.{System, rows, registers_after, zeros}
+use Rattle.dsv_system.specs.Systems.{System, rows, registers_after, zeros, behaviour_of}
 use Rattle.dsv_system.specs.Cycles.{Returns, IsLeastPeriod, IsSounding}
 use Rattle.dsv_system.specs.Sounds.{Hears}
 use Rattle.dsv_system.proofs.RunLemmas.{take-rows}
@@ -65,7 +65,7 @@ quiet_always m start p some g quiet (suc n) =
 
 -- so a sound at any time is heard before the start comes back
 sounds_by_then : {P : Type 0} (m : System P) (start : List ℤ) (p n : ℕ) (sounding : Bool) → 1 ≤ p → GoesOn P m start (zeros p) start → Hears (rows m start (zeros p)) sounding
-    → IsSounding P m start n → sounding ≡ true
+    → IsSounding (behaviour_of m) start n → sounding ≡ true
 sounds_by_then m start p n true some g h sound = refl
 sounds_by_then m start p n false some g h sound =
     let row = sound.0 in
@@ -78,7 +78,7 @@ pub record IsAway (P : Type 0) (m : System P) (start r : List ℤ) (done limit :
   pub many : length r ≡ m.many
   pub goes : GoesOn P m start (zeros done) r
   pub hears : Hears (rows m start (zeros done)) sounding
-  pub gone : (p : ℕ) → p < limit → Returns P m start p → ⊥
+  pub gone : (p : ℕ) → p < limit → Returns (behaviour_of m) start p → ⊥
 
 -- one sample more, at whose end the start may be back
 pub next_away : {P : Type 0} {m : System P} {start r new : List ℤ} {row : SampleRow} {done : ℕ} {before after : Bool} → length new ≡ length r → Moves P m r new (pos 0) row
@@ -120,7 +120,7 @@ still_away {P} {m} {start} {new} {done} held other a = record {
   gone = λ p h back. gone_at p h back (cases_lt p done);
 }
   where
-    gone_at : (p : ℕ) → p < done + 1 → Returns P m start p → (p < done) ⊎ (done ≤ p) → ⊥
+    gone_at : (p : ℕ) → p < done + 1 → Returns (behaviour_of m) start p → (p < done) ⊎ (done ≤ p) → ⊥
     gone_at p h back (inl less) = a.gone p less back
     gone_at p h back (inr more) =
         let is : p ≡ done = omega arith in
@@ -128,9 +128,9 @@ still_away {P} {m} {start} {new} {done} held other a = record {
 
 -- the start is back
 pub record IsBack (P : Type 0) (m : System P) (start : List ℤ) (period : ℕ) (sounding : Bool) : Type 0 where
-  pub least : IsLeastPeriod P m start period
-  pub loud : sounding ≡ true → IsSounding P m start period
-  pub lasting : (n : ℕ) → IsSounding P m start n → sounding ≡ true
+  pub least : IsLeastPeriod (behaviour_of m) start period
+  pub loud : sounding ≡ true → IsSounding (behaviour_of m) start period
+  pub lasting : (n : ℕ) → IsSounding (behaviour_of m) start n → sounding ≡ true
 
 pub back_now : {P : Type 0} {m : System P} {start new : List ℤ} {period : ℕ} {sounding : Bool} → IsHeld P m new → 1 ≤ period → new ≡ start → IsAway P m start new period period sounding → IsBack P m start period sounding
 back_now {P} {m} {start} {new} {period} {sounding} held some e a = record {

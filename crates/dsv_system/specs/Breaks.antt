@@ -4,7 +4,7 @@ use Rattle.std.specs.List.{All, Contains}
 use Rattle.dsv_word.specs.declared.format.Format.{Format}
 use Rattle.dsv_word.specs.Words.{IsWord}
 use Rattle.dsv_system.specs.Runs.{SampleRow}
-use Rattle.dsv_system.specs.Systems.{System, rows, zeros, AreInRange}
+use Rattle.dsv_system.specs.Systems.{Behaviour, zeros, AreInRange}
 
 -- the row has an exact value that is no word
 abbrev pub IsOutside : Format → SampleRow → Type 0
@@ -16,9 +16,9 @@ IsInside f r = All (IsWord f) r.exact
 
 -- Overflow: these inputs are in range, and from registers of zeros some sample has an exact value
 -- that is no word.
-pub record Breaks (P : Type 0) (m : System P) (low high : ℤ) (xs : List ℤ) : Type 0 where
+pub record Breaks (b : Behaviour) (low high : ℤ) (xs : List ℤ) : Type 0 where
   pub in_range : AreInRange low high xs
-  pub broken : (r : SampleRow) × Contains (rows m (zeros m.many) xs) r × IsOutside m.format r
+  pub broken : (r : SampleRow) × Contains (b.rows (zeros b.many) xs) r × IsOutside b.format r
 
 -- The first break in these rows: no earlier sample than this one has an exact value that is no
 -- word, and in this sample the first such value has the number `value` and is `exact`. Samples and
@@ -34,9 +34,9 @@ pub record IsFirstBreak (format : Format) (rows : List SampleRow) (sample value 
 
 -- Replayed trace: the inputs are in range and one more than the number of the sample; these are the
 -- outputs from registers of zeros, and this is their first break.
-pub record Replays (P : Type 0) (m : System P) (low high : ℤ) (inputs outputs : List ℤ)
-    (sample value : ℕ) (exact : ℤ) : Type 0 where
+pub record Replays (b : Behaviour) (low high : ℤ) (inputs outputs : List ℤ) (sample value : ℕ)
+    (exact : ℤ) : Type 0 where
   pub in_range : AreInRange low high inputs
   pub many : length inputs ≡ sample + 1
-  pub gives : map (λ (r : SampleRow). r.y) (rows m (zeros m.many) inputs) ≡ outputs
-  pub breaks : IsFirstBreak m.format (rows m (zeros m.many) inputs) sample value exact
+  pub gives : map (λ (r : SampleRow). r.y) (b.rows (zeros b.many) inputs) ≡ outputs
+  pub breaks : IsFirstBreak b.format (b.rows (zeros b.many) inputs) sample value exact

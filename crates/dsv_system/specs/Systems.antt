@@ -28,13 +28,33 @@ zeros n = replicate n (pos 0)
 abbrev pub AreInRange : ℤ → ℤ → List ℤ → Type 0
 AreInRange low high xs = All (λ x. (low ≤ℤ x) × (x ≤ℤ high)) xs
 
--- Two systems that nothing tells apart: they have as many registers, as many of them are
--- feed-forward, the format is the same, and from every start with so many words and over all inputs
--- their rows and their registers are the same.
-pub record RunAlike (P Q : Type 0) (m : System P) (n : System Q) : Type 0 where
-  pub many : m.many ≡ n.many
-  pub forward : m.forward ≡ n.forward
-  pub format : m.format ≡ n.format
-  pub rows : (start xs : List ℤ) → length start ≡ n.many → rows m start xs ≡ rows n start xs
-  pub registers : (start xs : List ℤ) → length start ≡ n.many
-      → registers_after m start xs ≡ registers_after n start xs
+-- ---- what a system does from words in its registers, whatever pasts it keeps
+-- the rows of a run from words in the registers over inputs, the registers after it, how many there
+-- are and how many of the first ones are feed-forward, and the format
+pub record Behaviour : Type 0 where
+  pub rows : List ℤ → List ℤ → List SampleRow
+  pub registers : List ℤ → List ℤ → List ℤ
+  pub many : ℕ
+  pub forward : ℕ
+  pub format : Format
+
+-- what a system does, whatever pasts it keeps
+abbrev pub behaviour_of : {P : Type 0} → System P → Behaviour
+behaviour_of m = record {
+  rows = rows m;
+  registers = registers_after m;
+  many = m.many;
+  forward = m.forward;
+  format = m.format;
+}
+
+-- Two behaviours that nothing tells apart: as many registers, as many of them feed-forward, the
+-- same format, and from every start with so many words and over all inputs the same rows and the
+-- same registers.
+pub record Agree (b c : Behaviour) : Type 0 where
+  pub many : b.many ≡ c.many
+  pub forward : b.forward ≡ c.forward
+  pub format : b.format ≡ c.format
+  pub rows : (start xs : List ℤ) → length start ≡ c.many → b.rows start xs ≡ c.rows start xs
+  pub registers : (start xs : List ℤ) → length start ≡ c.many
+      → b.registers start xs ≡ c.registers start xs

@@ -1,9 +1,10 @@
 -- Rows times the images of vectors, and forms at images, for matrices that aren't square.
-use Rattle.std.proofs.Common.{◌≡◌, ℕ, zero, suc, ◌<◌, [], ◌∷◌, refl, sym, ◌∙◌}
+use Rattle.std.proofs.Common.{◌≡◌, ℕ, ◌<◌, [], ◌∷◌, refl, sym, ◌∙◌}
 use Rattle.std.proofs.Math.IntN.{ℤ, pos, ◌*ℤ◌, *ℤ_comm}
 use Rattle.dsv_algebra.specs.Vectors.{Vector, Matrix, sum_to, form_at, dot}
 use Rattle.dsv_algebra.proofs.Normaliser.{ring, env, var, num, times}
-use Rattle.dsv_algebra.proofs.Sums.{sum_same, sum_scale, sum_swap, sum_none, form_add, form_nought}
+use Rattle.dsv_algebra.proofs.Sums.{sum_same, sum_scale, sum_swap, sum_none}
+use Rattle.dsv_algebra.proofs.Congruence.{form_sum}
 
 -- the product of a matrix and a vector of m places
 abbrev pub image : ℕ → Matrix → Vector → Vector
@@ -46,10 +47,6 @@ entry_out d p f g v =
     term_out d p (dot d f v) g v
     ∙ sum_same d (λ l. p *ℤ dot d f v *ℤ g l *ℤ v l) (λ l. sum_to d (λ k. p *ℤ f k *ℤ g l *ℤ v k *ℤ v l)) (λ l q. row_out d p (g l) (v l) f v)
     ∙ sum_swap d d (λ l k. p *ℤ f k *ℤ g l *ℤ v k *ℤ v l)
-
-form_sum : (d n : ℕ) (A : ℕ → Matrix) (v : Vector) → sum_to n (λ k. form_at d (A k) v) ≡ form_at d (λ i j. sum_to n (λ k. A k i j)) v
-form_sum d zero A v = sym (form_nought d v)
-form_sum d (suc n) A v = rw (form_sum d n A v) (sym (form_add d (λ i j. sum_to n (λ k. A k i j)) (A n) v))
 
 -- the form on d places that is the form P of m places at m rows times the vector
 abbrev pub image_form : ℕ → Matrix → Matrix → Matrix

@@ -4,21 +4,18 @@
 -- matrix takes the window to a multiple of the next one.
 use Rattle.std.proofs.Common.{◌≡◌, ◌≢◌, ℕ, zero, suc, ◌-◌, ◌<◌, ◌==◌, if◌then◌else◌, [], ◌∷◌, refl, sym, ap, subst, ◌∙◌, arith}
 use Rattle.std.proofs.Math.IntN.{ℤ, pos, ◌+ℤ◌, ◌-ℤ◌, ◌*ℤ◌}
-use Rattle.std.proofs.lemmas.Int.{ints}
-use Rattle.std.proofs.lemmas.Bool.Decides.{nat_tests}
-use lib.Signed.{◌<ℤ◌, ◌≤ℤ◌}
+use lib.Signed.{◌≤ℤ◌}
 use Rattle.dsv_algebra.specs.Vectors.{Vector, Matrix, sum_to, form_at, dot}
 use Rattle.dsv_algebra.specs.Falling.{step, power, trajectory, IsKeptAway}
 use Rattle.dsv_algebra.specs.Companion.{companion}
-use Rattle.dsv_algebra.proofs.Normaliser.{ring, env, var, num, plus, times, minus}
+use Rattle.dsv_algebra.proofs.Normaliser.{ring, env, var, num, times}
 use Rattle.dsv_algebra.proofs.Signs.{mul_negative, square_positive}
 use Rattle.dsv_algebra.proofs.Sums.{sum_same, sum_first, sum_scale, sum_one}
 use Rattle.dsv_table.specs.Systems.{divided, IsAnnihilated}
-use Rattle.dsv_table.proofs.Dominance.{power_positive}
 use Rattle.dsv_table.proofs.Negative.{form_multiple}
 use Rattle.dsv_table.proofs.Falls.{moved_place, new_value, apart_both, power_apart}
-use Rattle.dsv_table.proofs.Systems.{power_sum, scale_of, form_at_same, lead_of}
-use Rattle.dsv_table.proofs.SystemsAway.{along, divided_out_weakly}
+use Rattle.dsv_table.proofs.Systems.{power_sum, scale_of, form_at_same, lead_of, from_sum, trajectory_later, window_term}
+use Rattle.dsv_table.proofs.SystemsAway.{divided_out_weakly, kept_by, other_place, own_place}
 use Rattle.dsv_system_table.specs.Outputs.{unit, row_power, IsObeyed, IsRightInverse, OutputsKeepAway}
 use Rattle.dsv_system_table.proofs.Images.{image, row_image, none_times, image_form, form_image}
 
@@ -51,18 +48,6 @@ window_row d e q M w v j =
     (λ l p. ring (env (power q j ∷ r l ∷ v l ∷ [])) (times (var 0) (times (var 1) (var 2))) (times (times (var 0) (var 1)) (var 2)) refl)
 
 -- ---- the companion matrix takes a window to a multiple of the next one
-window_term : (e : ℕ) (q : ℤ) (a T : Vector) (j : ℕ) → j < suc e
-    → divided (suc e) q a (suc j) *ℤ (power q j *ℤ T (e - j)) ≡ power q e *ℤ (a (suc j) *ℤ T (suc e - suc j))
-window_term e q a T j b =
-    let t : suc e - suc j ≡ e - j = omega arith in
-    rw (t, ← power_sum q (e - j) j e (omega arith))
-    (ring (env (a (suc j) ∷ power q (e - j) ∷ power q j ∷ T (e - j) ∷ []))
-    (times (times (var 0) (var 1)) (times (var 2) (var 3))) (times (times (var 1) (var 2)) (times (var 0) (var 3))) refl)
-
-from_sum : (p x s t : ℤ) → x *ℤ t +ℤ s ≡ pos 0 → pos 0 -ℤ p *ℤ s ≡ (x *ℤ p) *ℤ (pos 1 *ℤ t)
-from_sum p x s t h =
-    let e : s ≡ pos 0 -ℤ x *ℤ t = omega (arith, ints, h) in
-    rw e (ring (env (p ∷ x ∷ t ∷ [])) (plus (num (pos 0)) (minus (times (var 0) (plus (num (pos 0)) (minus (times (var 1) (var 2))))))) (times (times (var 1) (var 0)) (times (num (pos 1)) (var 2))) refl)
 
 step_window : (d e : ℕ) (q : ℤ) (M : Matrix) (w a v : Vector) → IsObeyed d (suc e) M w a → (j : ℕ) → j < suc e
     → step (suc e) (companion (divided (suc e) q a)) (window d e q M w v) j ≡ scale_of e q a *ℤ window d e q M w (step d M v) j
@@ -119,13 +104,6 @@ never_rises d e q M P w a start v n m h f =
     (subst (λ z. (k *ℤ k *ℤ y) ≤ℤ (z *ℤ z *ℤ x)) (lead_of e q a) less)
 
 -- ---- the start
-own_place : (j : ℕ) (t y : ℤ) → (if j == j then t else pos 0) *ℤ y ≡ t *ℤ y
-own_place j t y = ap (λ z. z *ℤ y) (grind (arith, nat_tests))
-
-other_place : (j k : ℕ) (t y : ℤ) → j ≢ k → (if j == k then t else pos 0) *ℤ y ≡ pos 0
-other_place j k t y n =
-    let e : (if j == k then t else pos 0) ≡ pos 0 = grind (arith, nat_tests) in
-    rw e (ring (env (y ∷ [])) (times (num (pos 0)) (var 0)) (num (pos 0)) refl)
 
 -- a row of t times the unit matrix, times a vector
 chosen : (m : ℕ) (t : ℤ) (s : Vector) (j : ℕ) → j < m → sum_to m (λ k. (if j == k then t else pos 0) *ℤ s k) ≡ t *ℤ s j
@@ -159,18 +137,6 @@ window_start d e q M B w s t h j p =
     (ring (env (power q j ∷ t ∷ power q (e - j) ∷ s j ∷ [])) (times (var 0) (times (var 1) (times (var 2) (var 3)))) (times (times (var 1) (times (var 2) (var 0))) (var 3)) refl)
 
 -- ---- a form that is negative at a start and rises in no step
-below : (a b : ℤ) → a ≤ℤ b → b <ℤ pos 0 → a <ℤ pos 0
-below a b p q = omega (arith, ints, p, q)
-
-kept_by : (d : ℕ) (q : ℤ) (M Q : Matrix) (start : Vector) → q ≢ pos 0 → form_at d Q start <ℤ pos 0
-    → ((v : Vector) → form_at d Q (step d M v) ≤ℤ (q *ℤ q *ℤ form_at d Q v)) → IsKeptAway d q M Q start
-kept_by d q M Q start h negative holds = record {
-  negative = negative;
-  holds = holds;
-  along = along d q M Q start holds;
-  stays = λ n. below (form_at d Q (trajectory d M start n)) (power (q *ℤ q) n *ℤ form_at d Q start) (along d q M Q start holds n)
-      (mul_negative (power (q *ℤ q) n) (form_at d Q start) (power_positive (q *ℤ q) n (square_positive q h)) negative);
-}
 
 pub outputs_keep_away : OutputsKeepAway
 outputs_keep_away d e q M w a B t n m h apart inverse (P, s, f) =
@@ -189,10 +155,6 @@ outputs_keep_away d e q M w a B t n m h apart inverse (P, s, f) =
     )
 
 -- ---- the outputs that are the places themselves
-trajectory_later : (d : ℕ) (M : Matrix) (v : Vector) (k i : ℕ) → trajectory d M (step d M v) k i ≡ trajectory d M v (suc k) i
-trajectory_later d M v zero i = refl
-trajectory_later d M v (suc k) i =
-    sum_same d (λ m. M i m *ℤ trajectory d M (step d M v) k m) (λ m. M i m *ℤ trajectory d M v (suc k) m) (λ m p. ap (λ z. M i m *ℤ z) (trajectory_later d M v k m))
 
 place_output : (d : ℕ) (M : Matrix) (i : ℕ) (v : Vector) (k : ℕ) → i < d → output d M (unit i) v k ≡ trajectory d M v k i
 place_output d M i v zero b = chosen d (pos 1) v i b ∙ ring (env (v i ∷ [])) (times (num (pos 1)) (var 0)) (var 0) refl

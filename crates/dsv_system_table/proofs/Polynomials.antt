@@ -6,11 +6,11 @@ use Rattle.dsv_algebra.specs.Vectors.{Vector, Matrix, sum_to, vector_of}
 use Rattle.dsv_algebra.specs.Falling.{power}
 use Rattle.dsv_algebra.proofs.Signs.{mul_positive}
 use Rattle.dsv_algebra.proofs.Sums.{sum_same}
+use Rattle.dsv_algebra.proofs.KeptAway.{power_positive}
 use Rattle.dsv_table.specs.Findings.{IsFinding}
 use Rattle.dsv_table.specs.Systems.{divided}
 use Rattle.dsv_table.specs.Table.{verdict_from, verdict_of}
 use Rattle.dsv_table.specs.declared.finding.TableFinding.{TableFinding}
-use Rattle.dsv_table.proofs.Dominance.{power_positive}
 use Rattle.dsv_table.proofs.Identity.{sum_turned}
 use Rattle.dsv_table.proofs.Verdicts.{verdict_same}
 use Rattle.dsv_system_table.specs.Polynomials.{IsDividedFinding}

@@ -7,13 +7,13 @@ use Rattle.dsv_algebra.proofs.Sums.{sum_same}
 use Rattle.dsv_table.specs.RootSize.{is_inside}
 use Rattle.dsv_table.specs.Systems.{divided}
 use Rattle.dsv_table.specs.Table.{verdict_from}
-use Rattle.dsv_table.specs.Verdicts.{IsShown, HasFallingForm, HasKeptAwayForm}
 use Rattle.dsv_table.specs.declared.finding.TableFinding.{TableFinding}
 use Rattle.dsv_table.specs.declared.verdict.TableVerdict.{TableVerdict}
 use Rattle.dsv_table.specs.declared.verdict.TableVerdict.TheVariants as verdict
-use Rattle.dsv_table.proofs.Outside.{apart}
 use Rattle.dsv_table.proofs.Systems.{systems_fall}
 use Rattle.dsv_table.proofs.Verdicts.{decides}
+use Rattle.dsv_table.proofs.RootSizes.{shown_inside, shown_outside}
+use Rattle.dsv_table.proofs.Circle.{apart}
 use Rattle.dsv_system_table.specs.Outputs.{unit, row_power, IsObeyed, IsRightInverse}
 use Rattle.dsv_system_table.specs.Polynomials.{IsAnnihilator, IsDividedFinding}
 use Rattle.dsv_system_table.specs.Rows.{AreRowPowers}
@@ -41,13 +41,6 @@ inverse_of_powers d m n M B w t powers p few h j k a b =
     ∙ h j k a b
 
 -- ---- both sides of a table
-shown_inside : (v : TableVerdict) (d : ℕ) (c : Vector) → is_inside v ≡ true → IsShown v d c → HasFallingForm d c
-shown_inside verdict.Inside d c h s = s
-shown_inside (verdict.NotInside row) d c h s = absurd (grind (arith))
-
-shown_outside : (v : TableVerdict) (d : ℕ) (c : Vector) → is_inside v ≡ false → IsShown v d c → HasKeptAwayForm d c
-shown_outside verdict.Inside d c h s = absurd (grind (arith))
-shown_outside (verdict.NotInside row) d c h s = s
 
 system_inside : (v : TableVerdict) (d : ℕ) (q : ℤ) (M : Matrix) → is_inside v ≡ true → SystemFalls d q M → IsSystemShown v d q M
 system_inside verdict.Inside d q M h s = s

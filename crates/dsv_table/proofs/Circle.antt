@@ -128,7 +128,7 @@ is_negative x y p q =
     let b = mul_positive y x q p in
     omega (arith, ints, a, b)
 
-apart : (x : ℤ) → pos 0 <ℤ x → x ≢ pos 0
+pub apart : (x : ℤ) → pos 0 <ℤ x → x ≢ pos 0
 apart x p e = absurd (omega (arith, ints, p, e))
 
 pub turned_is_kept_away : (e : ℕ) (c r : Vector) → pos 0 <ℤ c 0 → IsTurned (suc e) c r → HasKeptAwayForm (suc e) c

@@ -3,13 +3,14 @@
 use Rattle.std.proofs.Common.{◌≡◌, ℕ, zero, suc, ◌+◌, ◌-◌, ◌<◌, [], ◌∷◌, refl, sym, ap, subst, ◌∙◌, arith}
 use Rattle.std.proofs.Math.IntN.{ℤ, pos, ◌+ℤ◌, ◌-ℤ◌, ◌*ℤ◌, *ℤ_comm}
 use Rattle.std.proofs.lemmas.Int.{ints}
-use Rattle.std.specs.Int.RustNames.{unsigned_abs}
 use lib.Signed.{◌<ℤ◌, ◌≤ℤ◌}
 use Rattle.dsv_algebra.specs.Vectors.{Vector, sum_to}
 use Rattle.dsv_algebra.specs.Falling.{power}
 use Rattle.dsv_algebra.proofs.Normaliser.{ring, env, var, num, plus, times, minus}
 use Rattle.dsv_algebra.proofs.Signs.{mul_positive, mul_not_negative}
 use Rattle.dsv_algebra.proofs.Sums.{sum_same, sum_add, sum_scale, sum_not_negative}
+use Rattle.dsv_algebra.proofs.KeptAway.{power_positive}
+use Rattle.dsv_algebra.specs.Squares.{size}
 use Rattle.dsv_apart.proofs.Bounds.{times_at_most}
 use Rattle.dsv_table.specs.Table.{row_after, verdict_from}
 use Rattle.dsv_table.specs.Rates.{scaled}
@@ -65,9 +66,6 @@ within_less a x b y w v =
 
 within_self : (x : ℤ) → pos 0 ≤ℤ x → IsWithin x x
 within_self x h = record { low = omega (arith, ints); high = omega (arith, ints) }
-
-abbrev size : ℤ → ℤ
-size z = pos (unsigned_abs z)
 
 within_size : (z : ℤ) → IsWithin (size z) z
 within_size z = record { low = omega (arith, ints); high = omega (arith, ints) }
@@ -138,10 +136,6 @@ led_inside (suc d) number l B w h =
 power_not_negative : (z : ℤ) (n : ℕ) → pos 0 ≤ℤ z → pos 0 ≤ℤ power z n
 power_not_negative z zero h = omega (arith, ints)
 power_not_negative z (suc n) h = mul_not_negative z (power z n) h (power_not_negative z n h)
-
-pub power_positive : (z : ℤ) (n : ℕ) → pos 0 <ℤ z → pos 0 <ℤ power z n
-power_positive z zero h = omega (arith, ints)
-power_positive z (suc n) h = mul_positive z (power z n) h (power_positive z n h)
 
 power_at_most : (s p : ℤ) (n : ℕ) → pos 0 ≤ℤ s → s ≤ℤ p → power s n ≤ℤ power p n
 power_at_most s p zero h b = omega (arith, ints)

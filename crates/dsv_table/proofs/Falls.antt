@@ -15,11 +15,13 @@ use Rattle.dsv_algebra.proofs.Signs.{mul_positive, mul_not_negative, square_posi
 use Rattle.dsv_algebra.proofs.Sums.{sum_same, sum_first, sum_none, sum_scale, sum_one, form_same, form_add, form_scale, form_square, form_nought}
 use Rattle.dsv_algebra.proofs.Congruence.{form_congruence}
 use Rattle.dsv_algebra.proofs.Falling.{loss-fall_form}
+use Rattle.dsv_algebra.proofs.Definite.{square_not_negative, weakly}
+use Rattle.dsv_algebra.proofs.KeptAway.{power_positive}
 use Rattle.dsv_table.specs.SchurCohn.{schur_cohn, lost_row}
 use Rattle.dsv_table.specs.Verdicts.{HasFallingForm}
 use Rattle.dsv_table.proofs.Sides.{IsInside}
 use Rattle.dsv_table.proofs.Identity.{loses, sum_turned, sum_less}
-use Rattle.dsv_table.proofs.Positive.{form_positive, form_none, square_not_negative}
+use Rattle.dsv_table.proofs.Positive.{form_positive, form_none}
 use Rattle.dsv_table.proofs.Observed.{down, up, from, AreSilent, silent_is_none}
 
 -- the sum of the form after each of n steps
@@ -67,10 +69,6 @@ loss_step n d c v =
     rw (steps_value n d c v, steps_value n d c w) (
     regrouped (c 0 *ℤ c 0) (power (c 0 *ℤ c 0) n) (form_at d H v) (form_at d S w) (form_at d H w) (form_at d S (image d c w))
     ∙ ap (λ x. power (c 0 *ℤ c 0) n *ℤ x +ℤ loss n d c w) (lost d c v))
-
-power_positive : (z : ℤ) (n : ℕ) → pos 0 <ℤ z → pos 0 <ℤ power z n
-power_positive z zero h = omega (arith, ints)
-power_positive z (suc n) h = mul_positive z (power z n) h (power_positive z n h)
 
 -- At each of n steps the row is 0.
 abbrev pub IsSilent : ℕ → ℕ → Vector → Vector → Type 0
@@ -283,9 +281,6 @@ none_or_some (suc d) v = elim (ℤ_discrete (v d) (pos 0)) [
   | no n ↦ inl (d, omega arith, n)
 ]
 
-weakly : (a : ℤ) → pos 0 <ℤ a → pos 0 ≤ℤ a
-weakly a h = omega (arith, ints)
-
 equals_none : (a : ℤ) → a ≡ pos 0 → pos 0 ≤ℤ a
 equals_none a h = omega (arith, ints, h)
 
@@ -320,7 +315,7 @@ steps_positive (suc e) c v h inside some =
     (strict_sum (power (c 0 *ℤ c 0) e) (form_at d (schur_cohn d c) v) (form_at d (steps_form e d c) (image d c v))
     (power_positive (c 0 *ℤ c 0) e (square_positive (c 0) h)) (form_positive d c v inside some) (steps_not_negative e d c (image d c v) h inside))
 
-less_by : (a b : ℤ) → pos 0 <ℤ (b -ℤ a) → a <ℤ b
+pub less_by : (a b : ℤ) → pos 0 <ℤ (b -ℤ a) → a <ℤ b
 less_by a b h = omega (arith, ints, h)
 
 pub inside_falls : (d : ℕ) (c : Vector) → c 0 ≢ pos 0 → IsInside d c → HasFallingForm d c

@@ -13,11 +13,11 @@ use Rattle.dsv_table.specs.SchurCohn.{schur_cohn}
 use Rattle.dsv_table.specs.Table.{row_after}
 use Rattle.dsv_table.specs.Verdicts.{HasKeptAwayForm}
 use Rattle.dsv_table.proofs.Sides.{IsOutside}
-use Rattle.dsv_table.proofs.Identity.{sum_turned, sum_less, keeps_away}
+use Rattle.dsv_table.proofs.Identity.{sum_turned, sum_less, keeps_away, less_itself}
 use Rattle.dsv_table.proofs.Observed.{last_none, no_factor}
 use Rattle.dsv_table.proofs.Falls.{none_or_some}
 use Rattle.dsv_table.proofs.Negative.{negative_before, negative_first, negative_other}
-use Rattle.dsv_table.proofs.Circle.{pair, turn_sum, IsTurned, pair_turns, turned_is_kept_away}
+use Rattle.dsv_table.proofs.Circle.{pair, turn_sum, IsTurned, pair_turns, turned_is_kept_away, apart}
 
 -- the first numbers, and 0 after them
 abbrev cut : ℕ → Vector → Vector
@@ -136,9 +136,6 @@ four_sums n a b t f g h k p q r s =
     ∙ rw (sum_less n (λ i. a *ℤ f i) (λ i. b *ℤ g i), sum_scale n a f, sum_scale n b g, sum_scale n t (λ i. h i +ℤ k i), sum_add n h k, p, q, r, s)
     (ring (env (a ∷ b ∷ t ∷ [])) (plus (plus (times (var 0) (num (pos 0))) (minus (times (var 1) (num (pos 0))))) (minus (times (var 2) (plus (num (pos 0)) (num (pos 0)))))) (num (pos 0)) refl)
 
-less_itself : (z : ℤ) → z -ℤ z ≡ pos 0
-less_itself z = omega (arith, ints)
-
 -- a sum of differences of products that are turned
 sum_crossed : (m : ℕ) (f g : Vector) → ((k : ℕ) → k < suc m → g k ≡ f (m - k)) → sum_to (suc m) (λ k. f k -ℤ g k) ≡ pos 0
 sum_crossed m f g h =
@@ -255,9 +252,6 @@ shown (suc e) c p (inr (q, h)) = elim (shown e (row_after (suc e) c) q h) [
   | inl v ↦ inl (negative_before e c v.0 q v.1)
   | inr r ↦ inr (before (suc e) c r.0, before_is_turned e c r.0 p q r.1)
 ]
-
-pub apart : (x : ℤ) → pos 0 <ℤ x → x ≢ pos 0
-apart x p e = absurd (omega (arith, ints, p, e))
 
 pub outside_is_kept_away : (d : ℕ) (c : Vector) → pos 0 <ℤ c 0 → IsOutside d c → HasKeptAwayForm d c
 outside_is_kept_away zero c p h = absurd h

@@ -1,20 +1,17 @@
 -- A polynomial whose table has positive first numbers has a positive Schur-Cohn form.
 use Rattle.std.proofs.Common.{◌≡◌, ◌≢◌, ℕ, zero, suc, ◌<◌, [], ◌∷◌, refl, ◌∙◌, arith}
-use Rattle.std.proofs.Math.IntN.{ℤ, pos, negsuc, ◌+ℤ◌, ◌*ℤ◌, +ℤ_idr}
+use Rattle.std.proofs.Math.IntN.{ℤ, pos, ◌+ℤ◌, ◌*ℤ◌, +ℤ_idr}
 use Rattle.std.proofs.lemmas.Int.{ints}
-use lib.Signed.{◌<ℤ◌, ◌≤ℤ◌}
+use lib.Signed.{◌<ℤ◌}
 use Rattle.dsv_algebra.specs.Vectors.{Vector, Matrix, sum_to, form_at, dot, IsNotZero}
 use Rattle.dsv_algebra.proofs.Normaliser.{ring, env, var, num, times}
 use Rattle.dsv_algebra.proofs.Signs.{mul_positive, square_positive, positive_factor}
 use Rattle.dsv_algebra.proofs.Sums.{sum_same, sum_first, sum_none, last_of}
+use Rattle.dsv_algebra.proofs.Definite.{square_not_negative}
 use Rattle.dsv_table.specs.SchurCohn.{schur_cohn}
 use Rattle.dsv_table.specs.Table.{row_after}
 use Rattle.dsv_table.proofs.Sides.{IsInside}
 use Rattle.dsv_table.proofs.Steps.{form_step}
-
-pub square_not_negative : (x : ℤ) → pos 0 ≤ℤ (x *ℤ x)
-square_not_negative (pos n) = omega (arith, ints)
-square_not_negative (negsuc n) = omega (arith, ints)
 
 times_none : (a b : ℤ) → b ≡ pos 0 → a *ℤ b ≡ pos 0
 times_none a b e = rw e (ring (env (a ∷ [])) (times (var 0) (num (pos 0))) (num (pos 0)) refl)

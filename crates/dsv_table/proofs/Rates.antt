@@ -9,8 +9,8 @@ use Rattle.dsv_algebra.proofs.Normaliser.{ring, env, var, num, plus, times, minu
 use Rattle.dsv_algebra.proofs.Sums.{sum_same, sum_scale}
 use Rattle.dsv_table.specs.Rates.{scaled, FallsAtRate}
 use Rattle.dsv_table.proofs.Negative.{form_multiple}
-use Rattle.dsv_table.proofs.Falls.{moved_place, new_value, apart_both, power_apart}
-use Rattle.dsv_table.proofs.Systems.{power_sum, divided_out, form_at_same, less_by}
+use Rattle.dsv_table.proofs.Falls.{moved_place, new_value, apart_both, power_apart, less_by}
+use Rattle.dsv_table.proofs.Systems.{power_sum, divided_out, form_at_same}
 
 -- each place of a vector times its powers
 abbrev pub weight : ℕ → ℤ → ℤ → ℕ → ℤ

@@ -1,5 +1,5 @@
 -- What the bounds of a root size mean, that they are the only ones, and that the search for them ends.
-use Rattle.std.proofs.Common.{◌≡◌, ◌≢◌, ℕ, zero, suc, ◌+◌, ◌-◌, ◌<◌, ◌⊎◌, Bool, true, false, List, [], ◌∷◌, ◌++◌, length, length-append, inl, inr, refl, sym, ap, subst, ◌∙◌, arith}
+use Rattle.std.proofs.Common.{◌≡◌, ℕ, zero, suc, ◌+◌, ◌-◌, ◌<◌, ◌⊎◌, Bool, true, false, List, [], ◌∷◌, ◌++◌, length, length-append, inl, inr, refl, sym, ap, subst, ◌∙◌, arith}
 use Rattle.std.proofs.Math.IntN.{ℤ, pos, negsuc, ◌+ℤ◌, ◌-ℤ◌, ◌*ℤ◌}
 use Rattle.std.proofs.lemmas.Int.{ints}
 use Rattle.std.proofs.Math.ListN.{get_or-append}
@@ -10,6 +10,7 @@ use Rattle.dsv_algebra.specs.Falling.{power, step, StrictlyFalls}
 use Rattle.dsv_algebra.specs.Companion.{companion}
 use Rattle.dsv_algebra.proofs.Normaliser.{ring, env, var, num, plus, times}
 use Rattle.dsv_algebra.proofs.Signs.{mul_positive}
+use Rattle.dsv_algebra.proofs.KeptAway.{power_positive}
 use Rattle.dsv_apart.proofs.Bounds.{times_at_most}
 use Rattle.dsv_apart.proofs.Apart.{nothing_both}
 use Rattle.dsv_table.specs.Table.{verdict_from, verdict_of}
@@ -24,7 +25,8 @@ use Rattle.dsv_table.proofs.Lists.{entries_more}
 use Rattle.dsv_table.proofs.Verdicts.{decides, verdict_same}
 use Rattle.dsv_table.proofs.Rates.{lead_of, falls_at_rate}
 use Rattle.dsv_table.proofs.RatesAway.{kept_away_at_rate}
-use Rattle.dsv_table.proofs.Dominance.{root_bound, far_inside, power_positive}
+use Rattle.dsv_table.proofs.Dominance.{root_bound, far_inside}
+use Rattle.dsv_table.proofs.Circle.{apart}
 
 -- ---- one table
 true_false : true ≡ false → ⊥
@@ -34,14 +36,11 @@ pub parts_positive : pos 0 <ℤ parts
 unfolding parts
 parts_positive = omega (arith, ints)
 
-apart : (x : ℤ) → pos 0 <ℤ x → x ≢ pos 0
-apart x p e = absurd (omega (arith, ints, p, e))
-
-shown_inside : (v : TableVerdict) (d : ℕ) (c : Vector) → is_inside v ≡ true → IsShown v d c → HasFallingForm d c
+pub shown_inside : (v : TableVerdict) (d : ℕ) (c : Vector) → is_inside v ≡ true → IsShown v d c → HasFallingForm d c
 shown_inside verdict.Inside d c h s = s
 shown_inside (verdict.NotInside row) d c h s = absurd (grind (arith))
 
-shown_outside : (v : TableVerdict) (d : ℕ) (c : Vector) → is_inside v ≡ false → IsShown v d c → HasKeptAwayForm d c
+pub shown_outside : (v : TableVerdict) (d : ℕ) (c : Vector) → is_inside v ≡ false → IsShown v d c → HasKeptAwayForm d c
 shown_outside verdict.Inside d c h s = absurd (grind (arith))
 shown_outside (verdict.NotInside row) d c h s = s
 

@@ -13,13 +13,14 @@ use Rattle.dsv_algebra.specs.Falling.{step, power, trajectory, StrictlyFalls}
 use Rattle.dsv_algebra.specs.Companion.{companion}
 use Rattle.dsv_algebra.proofs.Normaliser.{ring, env, var, num, plus, times, minus}
 use Rattle.dsv_algebra.proofs.Signs.{square_positive, positive_factor}
-use Rattle.dsv_algebra.proofs.Sums.{sum_same, sum_first, sum_scale, sum_swap, sum_one, sum_positive, form_add, form_nought}
-use Rattle.dsv_algebra.proofs.Congruence.{form_congruence}
+use Rattle.dsv_algebra.proofs.Sums.{sum_same, sum_first, sum_scale, sum_swap, sum_one, sum_positive}
+use Rattle.dsv_algebra.proofs.Congruence.{form_congruence, form_sum}
+use Rattle.dsv_algebra.proofs.Definite.{weakly}
 use Rattle.dsv_table.specs.Systems.{IsAnnihilated, divided, SystemsFall, matrix_power, window_matrix}
 use Rattle.dsv_table.proofs.Identity.{sum_less}
 use Rattle.dsv_table.proofs.Positive.{form_none, none_from}
 use Rattle.dsv_table.proofs.Negative.{form_multiple}
-use Rattle.dsv_table.proofs.Falls.{none_or_some, moved_place, new_value, apart_both, power_apart}
+use Rattle.dsv_table.proofs.Falls.{none_or_some, moved_place, new_value, apart_both, power_apart, less_by}
 
 -- ---- powers of the matrix
 own_place : (i : ℕ) (y : ℤ) → (if i == i then pos 1 else pos 0) *ℤ y ≡ y
@@ -53,7 +54,7 @@ trajectory_power d M v (suc k) i b =
     ∙ sum_scale d (v l) (λ m. M i m *ℤ matrix_power d M k m l) ∙ *ℤ_comm (v l) (sum_to d (λ m. M i m *ℤ matrix_power d M k m l)))
 
 -- a step first and then the others
-trajectory_later : (d : ℕ) (M : Matrix) (v : Vector) (k i : ℕ) → trajectory d M (step d M v) k i ≡ trajectory d M v (suc k) i
+pub trajectory_later : (d : ℕ) (M : Matrix) (v : Vector) (k i : ℕ) → trajectory d M (step d M v) k i ≡ trajectory d M v (suc k) i
 trajectory_later d M v zero i = refl
 trajectory_later d M v (suc k) i = sum_same d (λ m. M i m *ℤ trajectory d M (step d M v) k m) (λ m. M i m *ℤ trajectory d M v (suc k) m) (λ m p. ap (λ z. M i m *ℤ z) (trajectory_later d M v k m))
 
@@ -81,7 +82,7 @@ power_sum q (suc n) k m h =
 abbrev pub scale_of : ℕ → ℤ → Vector → ℤ
 scale_of e q a = a 0 *ℤ power q e
 
-window_term : (e : ℕ) (q : ℤ) (a T : Vector) (j : ℕ) → j < suc e
+pub window_term : (e : ℕ) (q : ℤ) (a T : Vector) (j : ℕ) → j < suc e
     → divided (suc e) q a (suc j) *ℤ (power q j *ℤ T (e - j)) ≡ power q e *ℤ (a (suc j) *ℤ T (suc e - suc j))
 window_term e q a T j b =
     let t : suc e - suc j ≡ e - j = omega arith in
@@ -89,7 +90,7 @@ window_term e q a T j b =
     (ring (env (a (suc j) ∷ power q (e - j) ∷ power q j ∷ T (e - j) ∷ []))
     (times (times (var 0) (var 1)) (times (var 2) (var 3))) (times (times (var 1) (var 2)) (times (var 0) (var 3))) refl)
 
-from_sum : (p x s t : ℤ) → x *ℤ t +ℤ s ≡ pos 0 → pos 0 -ℤ p *ℤ s ≡ (x *ℤ p) *ℤ (pos 1 *ℤ t)
+pub from_sum : (p x s t : ℤ) → x *ℤ t +ℤ s ≡ pos 0 → pos 0 -ℤ p *ℤ s ≡ (x *ℤ p) *ℤ (pos 1 *ℤ t)
 from_sum p x s t h =
     let e : s ≡ pos 0 -ℤ x *ℤ t = omega (arith, ints, h) in
     rw e (ring (env (p ∷ x ∷ t ∷ [])) (plus (num (pos 0)) (minus (times (var 0) (plus (num (pos 0)) (minus (times (var 1) (var 2))))))) (times (times (var 1) (var 0)) (times (num (pos 1)) (var 2))) refl)
@@ -172,9 +173,6 @@ both_none q x y h k =
     let e : q *ℤ q *ℤ x ≡ pos 0 = rw h (ring (env (q ∷ [])) (times (times (var 0) (var 0)) (num (pos 0))) (num (pos 0)) refl) in
     omega (arith, ints, e, k)
 
-weakly : (a : ℤ) → pos 0 <ℤ a → pos 0 ≤ℤ a
-weakly a h = omega (arith, ints)
-
 gain_not_negative : (e : ℕ) (q : ℤ) (M P : Matrix) (a v : Vector) (i : ℕ) → q ≢ pos 0 → a 0 ≢ pos 0 → IsAnnihilated (suc e) M a → i < suc e
     → StrictlyFalls (suc e) (divided (suc e) q a 0) (companion (divided (suc e) q a)) P → pos 0 ≤ℤ gain e q M P v i
 gain_not_negative e q M P a v i n m h b f =
@@ -194,10 +192,6 @@ gain_not_negative e q M P a v i n m h b f =
 -- ---- the sum over all places
 abbrev window_form : ℕ → ℤ → Matrix → Matrix → Matrix
 window_form e q M P k l = sum_to (suc e) (λ i. congruence (suc e) P (window_matrix e q M i) k l)
-
-form_sum : (d n : ℕ) (A : ℕ → Matrix) (v : Vector) → sum_to n (λ k. form_at d (A k) v) ≡ form_at d (λ i j. sum_to n (λ k. A k i j)) v
-form_sum d zero A v = sym (form_nought d v)
-form_sum d (suc n) A v = rw (form_sum d n A v) (sym (form_add d (λ i j. sum_to n (λ k. A k i j)) (A n) v))
 
 window_value : (e : ℕ) (q : ℤ) (M P : Matrix) (v : Vector) → form_at (suc e) (window_form e q M P) v ≡ sum_to (suc e) (λ i. form_at (suc e) P (window e q M i v))
 window_value e q M P v =
@@ -225,9 +219,6 @@ window_not_negative e q c M C P v i f = elim (none_or_some (suc e) (window e q M
   | inl some ↦ weakly (form_at (suc e) P (window e q M i v)) (f.positive (window e q M i v) some)
   | inr none ↦ (let z = form_none (suc e) P (window e q M i v) none in omega (arith, ints, z))
 ]
-
-pub less_by : (a b : ℤ) → pos 0 <ℤ (b -ℤ a) → a <ℤ b
-less_by a b h = omega (arith, ints, h)
 
 pub systems_fall : SystemsFall
 systems_fall e q M a n m h (P, f) =

@@ -9,10 +9,11 @@ use Rattle.dsv_algebra.specs.Falling.{step, power, trajectory, IsKeptAway}
 use Rattle.dsv_algebra.specs.Companion.{companion}
 use Rattle.dsv_algebra.proofs.Normaliser.{ring, env, var, num, plus, times, minus}
 use Rattle.dsv_algebra.proofs.Ring.{assoc}
-use Rattle.dsv_algebra.proofs.Signs.{mul_positive, mul_negative, mul_not_negative, square_positive, not_negative_factor}
+use Rattle.dsv_algebra.proofs.Signs.{mul_negative, mul_not_negative, square_positive, not_negative_factor}
 use Rattle.dsv_algebra.proofs.Sums.{sum_same, sum_scale, sum_swap, sum_one}
 use Rattle.dsv_algebra.proofs.Congruence.{form_congruence}
-use Rattle.dsv_apart.proofs.Bounds.{square_not_negative}
+use Rattle.dsv_algebra.proofs.Definite.{square_not_negative}
+use Rattle.dsv_algebra.proofs.KeptAway.{power_positive}
 use Rattle.dsv_table.specs.Systems.{IsAnnihilated, divided, window_matrix, IsInverse, SystemsAreKeptAway}
 use Rattle.dsv_table.proofs.Negative.{form_multiple}
 use Rattle.dsv_table.proofs.Falls.{apart_both, power_apart}
@@ -35,10 +36,6 @@ through a b c p q = omega (arith, ints, p, q)
 same_at_most : (a b : ℤ) → b ≡ a → a ≤ℤ b
 same_at_most a b e = omega (arith, ints, e)
 
-power_positive : (z : ℤ) (n : ℕ) → pos 0 <ℤ z → pos 0 <ℤ power z n
-power_positive z zero h = omega (arith, ints)
-power_positive z (suc n) h = mul_positive z (power z n) h (power_positive z n h)
-
 pub along : (d : ℕ) (q : ℤ) (M Q : Matrix) (start : Vector)
     → ((v : Vector) → form_at d Q (step d M v) ≤ℤ (q *ℤ q *ℤ form_at d Q v))
     → (n : ℕ) → form_at d Q (trajectory d M start n) ≤ℤ (power (q *ℤ q) n *ℤ form_at d Q start)
@@ -50,10 +47,10 @@ along d q M Q start holds (suc n) =
     (through (form_at d Q (step d M u)) (z *ℤ form_at d Q u) (z *ℤ (power z n *ℤ form_at d Q start)) (holds u)
     (times_at_most z (form_at d Q u) (power z n *ℤ form_at d Q start) (square_not_negative q) (along d q M Q start holds n)))
 
-below : (a b : ℤ) → a ≤ℤ b → b <ℤ pos 0 → a <ℤ pos 0
+pub below : (a b : ℤ) → a ≤ℤ b → b <ℤ pos 0 → a <ℤ pos 0
 below a b p q = omega (arith, ints, p, q)
 
-kept_by : (d : ℕ) (q : ℤ) (M Q : Matrix) (start : Vector) → q ≢ pos 0 → form_at d Q start <ℤ pos 0
+pub kept_by : (d : ℕ) (q : ℤ) (M Q : Matrix) (start : Vector) → q ≢ pos 0 → form_at d Q start <ℤ pos 0
     → ((v : Vector) → form_at d Q (step d M v) ≤ℤ (q *ℤ q *ℤ form_at d Q v)) → IsKeptAway d q M Q start
 kept_by d q M Q start h negative holds = record {
   negative = negative;
@@ -103,10 +100,10 @@ product_row d r s B =
     (λ k b. sum_same d (λ l. r l *ℤ B l k *ℤ s k) (λ l. s k *ℤ (r l *ℤ B l k)) (λ l p. *ℤ_comm (r l *ℤ B l k) (s k))
     ∙ sum_scale d (s k) (λ l. r l *ℤ B l k) ∙ *ℤ_comm (s k) (sum_to d (λ l. r l *ℤ B l k)))
 
-own_place : (j : ℕ) (t y : ℤ) → (if j == j then t else pos 0) *ℤ y ≡ t *ℤ y
+pub own_place : (j : ℕ) (t y : ℤ) → (if j == j then t else pos 0) *ℤ y ≡ t *ℤ y
 own_place j t y = ap (λ z. z *ℤ y) (grind (arith, nat_tests))
 
-other_place : (j k : ℕ) (t y : ℤ) → j ≢ k → (if j == k then t else pos 0) *ℤ y ≡ pos 0
+pub other_place : (j k : ℕ) (t y : ℤ) → j ≢ k → (if j == k then t else pos 0) *ℤ y ≡ pos 0
 other_place j k t y n =
     let e : (if j == k then t else pos 0) ≡ pos 0 = grind (arith, nat_tests) in
     rw e (ring (env (y ∷ [])) (times (num (pos 0)) (var 0)) (num (pos 0)) refl)

@@ -10,7 +10,8 @@ use Rattle.dsv_table.specs.Table.{row_after, verdict_from}
 use Rattle.dsv_table.specs.Verdicts.{Decides, FactorsDoNotCount}
 use Rattle.dsv_table.proofs.Sides.{reads, positive, either}
 use Rattle.dsv_table.proofs.Falls.{inside_falls}
-use Rattle.dsv_table.proofs.Outside.{outside_is_kept_away, apart}
+use Rattle.dsv_table.proofs.Outside.{outside_is_kept_away}
+use Rattle.dsv_table.proofs.Circle.{apart}
 
 pub decides : Decides
 decides d c p = elim (reads d 0 c) [

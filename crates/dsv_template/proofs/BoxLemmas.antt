@@ -25,7 +25,7 @@ size_of_greatest (suc b) h =
     let f : unsigned_abs (pos (suc b) -ℤ pos 1) ≡ b = ap unsigned_abs e in
     omega arith
 
-powers : (i j : ℕ) → i ≤ j → 2 ^ i ≤ 2 ^ j
+pub powers : (i j : ℕ) → i ≤ j → 2 ^ i ≤ 2 ^ j
 powers i j h = pow-le-pow_right (omega arith) h
 
 -- a number one below a power of two takes as many bits

@@ -1,4 +1,4 @@
-mod BoxLemmas
+pub mod BoxLemmas
 pub mod KeptSets
 mod Lengths
 pub mod Membership

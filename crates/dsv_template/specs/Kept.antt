@@ -4,7 +4,7 @@ use Rattle.std.specs.List.{All, Contains}
 use Rattle.dsv_word.specs.Words.{IsWord}
 use Rattle.dsv_system.specs.Breaks.{IsInside, IsOutside, Breaks}
 use Rattle.dsv_system.specs.Runs.{SampleRow}
-use Rattle.dsv_system.specs.Systems.{System, rows, registers_after, zeros, AreInRange}
+use Rattle.dsv_system.specs.Systems.{System, rows, registers_after, zeros, AreInRange, behaviour_of}
 use Rattle.dsv_template.specs.declared.candidate.Candidate.{Candidate}
 use Rattle.dsv_template.specs.Candidates.{IsInSet}
 
@@ -86,4 +86,4 @@ pub record IsStepwise (P : Type 0) (m : System P) (low high : ℤ) : Type 0 wher
 abbrev pub KeptNeverBreaks : Type 0 → Type 0
 KeptNeverBreaks P = (m : System P) (low high : ℤ) (candidate : Candidate)
     → IsStepwise P m low high → IsKept P m low high candidate
-    → (xs : List ℤ) → Breaks P m low high xs → ⊥
+    → (xs : List ℤ) → Breaks (behaviour_of m) low high xs → ⊥

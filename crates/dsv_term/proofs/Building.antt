@@ -84,7 +84,7 @@ pub later : (old new : TermsView) (id : TermId) → KeepsTerms old new → id.0 
 later old new id k h = record { stands = k.longer id h; width = k.widths id h; word = λ values. k.words values id h }
 
 -- ---- by kind
-listed : (t : TermsView) (id : TermId) → id.0 < length t.nodes → id.0 < length (widths_of t)
+pub listed : (t : TermsView) (id : TermId) → id.0 < length t.nodes → id.0 < length (widths_of t)
 listed t id h = omega (arith, widths_count t)
 
 alike : (t : TermsView) (a b : TermId) → a.0 < length t.nodes → b.0 < length t.nodes → width_of t a ≡ width_of t b → AreAlike (widths_of t) a b

@@ -25,10 +25,10 @@ spelled w z = record { width = w; number = residue w z }
 pub two_halves : (w : ℕ) → 1 ≤ w → 2 ^ w ≡ 2 * 2 ^ (w - 1)
 two_halves w h = let e : w ≡ 1 + (w - 1) = omega arith in ap (λ (k : ℕ). 2 ^ k) e ∙ pow-add 2 1 (w - 1)
 
-test_true : (m h : ℕ) → m < h → nat_lt m h ≡ true
+pub test_true : (m h : ℕ) → m < h → nat_lt m h ≡ true
 test_true m h l = grind (arith, nat_tests)
 
-test_false : (m h : ℕ) → h ≤ m → nat_lt m h ≡ false
+pub test_false : (m h : ℕ) → h ≤ m → nat_lt m h ≡ false
 test_false m h l = grind (arith, nat_tests)
 
 small_mod : (n m : ℕ) → n < m → n % m ≡ n

@@ -21,6 +21,7 @@ use Rattle.dsv_term.proofs.Entries.{length-entries}
 use Rattle.dsv_term.proofs.Lawful.{AreLawful-push, prefix-keeps, word-at, width-at}
 use Rattle.dsv_term.proofs.Nodes.{node_word-same, node_width-same}
 use Rattle.dsv_term.proofs.Same.{eq-is_same, same-node, same_self}
+use Rattle.dsv_algebra.proofs.Booleans.{not_true}
 
 -- ---- the first node that passes a test
 record IsFound (p : TermNode → Bool) (ns : List TermNode) : Type 0 where
@@ -176,10 +177,6 @@ pub record IsAdded (t : TermsView) (keys : List TermNode) (node : TermNode) : Ty
 absent_cond : (b : Bool) (xs ys : List TermNode) → not b ≡ true → cond b xs ys ≡ ys
 absent_cond true xs ys h = cc
 absent_cond false xs ys h = refl
-
-not_true : (b : Bool) → not b ≡ true → b ≡ false
-not_true true h = cc
-not_true false h = refl
 
 pub added : (t : TermsView) (keys : List TermNode) (node : TermNode) (new : Bool) → AreTerms t → IsLawful t.inputs (widths_of t) node → length t.nodes + 1 < 2 ^ 31
     → new ≡ not (list_any (eq-value.it node) t.nodes) → new ≡ true → keys ≡ insert_key eq-value.it t.nodes node → IsAdded t keys node

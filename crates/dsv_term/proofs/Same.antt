@@ -1,5 +1,5 @@
 -- The derived test of nodes is the definitions' one, and it tells whether they are equal.
-use Rattle.std.proofs.Common.{◌≡◌, refl, Bool, true, false, ◌&&◌, ap, ◌∙◌, ℕ, ℤ, rules, arith}
+use Rattle.std.proofs.Common.{◌≡◌, refl, Bool, true, ◌&&◌, ap, ◌∙◌, ℕ, ℤ, rules, arith}
 use Rattle.std.proofs.lemmas.Bool.{eqb-true}
 use Rattle.std.proofs.lemmas.Bool.Decides.{nat_tests}
 use Rattle.std.specs.Prelude.{◌==◌}
@@ -9,6 +9,7 @@ use Rattle.dsv_term.specs.declared.node.TermNode.{TermNode}
 use Rattle.dsv_term.specs.declared.node.TermNode.TheVariants.{Input, Constant, Add, Sub, Slt, Sle, Ult, Eq, And, Or, Concat, Neg, Not, MulConst, Sext, Extract, Ite}
 use Rattle.dsv_term.specs.Making.{same_node}
 use Rattle.dsv_term.specs.contracts.node.TermNodePartialEq.TheImpl.{eq-value}
+use Rattle.dsv_algebra.proofs.Booleans.{and_left, and_right}
 
 eq-same : (a b : TermNode) → eq-value.it a b ≡ same_node a b
 eq-same (Input k) (Input j) = refl
@@ -33,14 +34,6 @@ eq-same a b = refl
 -- the derived `==` is the test of the definitions
 pub eq-is_same : eq-value.it ≡ same_node
 eq-is_same = λ i a b. eq-same a b i
-
-and_left : (a b : Bool) → (a && b) ≡ true → a ≡ true
-and_left true b h = refl
-and_left false b h = h
-
-and_right : (a b : Bool) → (a && b) ≡ true → b ≡ true
-and_right true b h = h
-and_right false b h = cc
 
 same_id : (a b : TermId) → (a.0 == b.0) ≡ true → a ≡ b
 same_id a b h = let e = eqb-true a.0 b.0 h in ap (λ n. record { 0 = n }) e

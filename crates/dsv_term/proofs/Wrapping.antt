@@ -26,7 +26,7 @@ pow_split : (top w : ℕ) → w ≤ top → 2 ^ (top - w) * 2 ^ w ≡ 2 ^ top
 pow_split top w h = sym (pow-add 2 (top - w) w) ∙ ap (λ k. 2 ^ k) (omega arith)
 
 -- a number that differs by a multiple of 2 to the width
-residue_is : (w : ℕ) (z : ℤ) (k m : ℕ) → z +ℤ pos (k * 2 ^ w) ≡ pos m → residue w z ≡ m % 2 ^ w
+pub residue_is : (w : ℕ) (z : ℤ) (k m : ℕ) → z +ℤ pos (k * 2 ^ w) ≡ pos m → residue w z ≡ m % 2 ^ w
 residue_is w z k m e = ap unsigned_abs (int_rem_euclid_is z (pos (2 ^ w)) (2 ^ w) k m (pow_pos w) refl e)
 
 pub difference_wraps : (top w a b : ℕ) → w ≤ top → b < 2 ^ top → (a + (2 ^ top - b)) % 2 ^ top % 2 ^ w ≡ residue w (pos a -ℤ pos b)

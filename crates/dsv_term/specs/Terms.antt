@@ -18,6 +18,11 @@ widths_of t = widths_from t.inputs t.nodes []
 abbrev pub width_of : TermsView → TermId → ℕ
 width_of t id = slice_index (widths_of t) id.0
 
+-- A term that stands, of so many bits.
+pub record HasBits (t : TermsView) (id : TermId) (bits : ℕ) : Type 0 where
+  pub stands : id.0 < length t.nodes
+  pub width : width_of t id ≡ bits
+
 -- the word of each term, where the inputs have these values
 abbrev pub words_of : TermsView → List ℕ → List Word
 words_of t values = words_from t.inputs values t.nodes []

@@ -14,9 +14,9 @@ use Rattle.dsv_algebra.proofs.Signs.{mul_positive}
 use Rattle.dsv_names.specs.Realisations.{is_delta}
 use Rattle.dsv_quantiser.specs.QuantisedView.{QuantisedView, IsQuantisedView}
 use Rattle.dsv_delta.specs.declared.refusal.PolyWide.{PolyWide}
-use Rattle.dsv_delta.specs.Binomials.{choose}
 use Rattle.dsv_delta.specs.ZCoefficients.{Dyadic, dyadic, scaled, first_wide, z_coefficient, expansion}
 use Rattle.dsv_delta.proofs.Scaling.{power_positive, dyadic_positive}
+use Rattle.dsv_delta.proofs.Table.{choose_none}
 use Rattle.dsv_tested.specs.declared.side.Side.{Side}
 use Rattle.dsv_tested.specs.declared.side.Side.TheVariants as side
 use Rattle.dsv_tested.specs.declared.side.Tested.{Tested}
@@ -42,9 +42,6 @@ positive_has (c ∷ cs) h e =
     never_none (first_over 0 xs) xs refl (sym (ap tested_list kept) ∙ e)
 
 -- ---- the first coefficient in z of a denominator
-choose_none : (n : ℕ) → choose n 0 ≡ 1
-choose_none zero = refl
-choose_none (suc n) = refl
 
 first_sum : (e : ℤ) → pos 0 +ℤ e *ℤ pos 1 ≡ e
 first_sum e = ring (env (e ∷ [])) (plus (num (pos 0)) (times (var 0) (num (pos 1)))) (var 0) refl

@@ -8,7 +8,7 @@ use Rattle.std.proofs.lemmas.Map.Made.{IsDistinct-from_AllPairs}
 use Rattle.std.proofs.lemmas.Map.Steps.{length-le_from_distinct_below}
 use Rattle.std.proofs.lemmas.Option.{slice_get_within, slice_get-get_or}
 use Rattle.dsv_cnf.specs.Literal.{Literal, bool_eq, negation}
-use Rattle.dsv_cnf.proofs.LiteralLemmas.{or_cases}
+use Rattle.dsv_cnf.proofs.LiteralLemmas.{or_cases, bool_eq-same}
 use Rattle.dsv_trail.proofs.Elements.{some-inside, push-cases, push-left, push-new}
 use Rattle.dsv_trail.specs.Marks.{literal_at, literal_in, mark_of, sign_of, value_by, value_of, AreMarks, IsOpen, IsSet}
 use Rattle.dsv_trail.specs.MarkListInside.{IsMarkList}
@@ -186,10 +186,6 @@ other_sign true true h = absurd cc
 other_sign true false h = refl
 other_sign false true h = refl
 other_sign false false h = absurd cc
-
-bool_eq-same : (p : Bool) → bool_eq p p ≡ true
-bool_eq-same true = refl
-bool_eq-same false = refl
 
 bool_eq-not : (p : Bool) → bool_eq p (not p) ≡ false
 bool_eq-not true = refl

@@ -17,21 +17,20 @@ use Rattle.dsv_linear.specs.Facts.{exact_values, Hold, AreFacts}
 use Rattle.dsv_linear.specs.Known.{facts_of}
 use Rattle.dsv_netlist.specs.Nodes.{Net, at, step_of}
 use Rattle.dsv_netlist.specs.Conditions.{IsNetlist}
-use Rattle.dsv_netlist.specs.Systems.{system_of}
 use Rattle.dsv_term.specs.declared.node.TermId.{TermId}
 use Rattle.dsv_term.specs.declared.node.TermNode.TheVariants.{Constant}
 use Rattle.dsv_term.specs.declared.word.Word.{Word}
 use Rattle.dsv_term.specs.Building.{Built, built_of, with_node}
 use Rattle.dsv_term.specs.Growth.{AreSound}
-use Rattle.dsv_term.specs.Terms.{KeepsTerms, AreValues, width_of, word_of}
-use Rattle.dsv_term.specs.TermsView.{TermsView}
+use Rattle.dsv_term.specs.Terms.{KeepsTerms, AreValues, width_of, word_of, HasBits}
+use Rattle.dsv_term.specs.TermsView.{TermsView, no_terms}
 use Rattle.dsv_term.specs.Word.{IsWidth, bit_of}
 use Rattle.dsv_term.proofs.Made.{KeepsTerms-both}
 use Rattle.dsv_term.proofs.Building.{KeepsTerms-self, constant_gives}
 use Rattle.dsv_term.proofs.Complement.{IsSpelled, wider_spelled}
 use Rattle.dsv_unroll.specs.FactTests.{FactTerms, facts_from, is_long}
-use Rattle.dsv_unroll.specs.Goals.{InputTerms, inputs_from, RunTerms, run_from, run_tests, no_terms, conjunction_from, overflow_with, overflow_of}
-use Rattle.dsv_unroll.specs.Ready.{IsValue, HasBits, AreBits, AreRunReady, AreTested, AreKnown}
+use Rattle.dsv_unroll.specs.Goals.{InputTerms, inputs_from, RunTerms, run_from, run_tests, conjunction_from, overflow_with, overflow_of}
+use Rattle.dsv_unroll.specs.Ready.{IsValue, AreBits, AreRunReady, AreTested, AreKnown}
 use Rattle.dsv_unroll.specs.Rules.{term_at}
 use Rattle.dsv_unroll.specs.Words.{spelled_word, spelled_words, Tells}
 use Rattle.dsv_unroll.proofs.RuleTerms.{Spells}
@@ -44,6 +43,7 @@ use Rattle.dsv_unroll.proofs.FactTerms.{word_inside, inside_word, facts_hold, fi
 use Rattle.dsv_unroll.proofs.SampleSteps.{bits_later}
 use Rattle.dsv_unroll.proofs.InputTests.{bits_kept, bit_added, no_bits_mean, TestsMean, tests_later, joined-split, InputsStand, inputs_stand, words_at, with_range, all_in_range, Joins, conjunction_joins, conjunction_keeps, conjunction_from-both}
 use Rattle.dsv_unroll.proofs.ValueTerms.{value_of, value_right}
+use Rattle.dsv_netlist.specs.Systems.{runs_of}
 
 -- ---- a break
 outside_no_word : (f : Format) (e : ℤ) → is_outside (width f) e ≡ true → IsWord f e → ⊥
@@ -183,12 +183,12 @@ pub tells_by : (w : Word) (P : Type 0) (q : Bool) → w ≡ bit_of q → (q ≡ 
 tells_by w P true e f g = record { one = λ p. e; zero = λ n. absurd (n (f refl)); only = λ k. f refl }
 tells_by w P false e f g = record { one = λ p. e ∙ ap bit_of (g p); zero = λ n. e; only = λ k. f (bit_number false (sym e ∙ k)) }
 
-truth_breaks : (net : Net) (low high : ℤ) (zs : List ℤ) → (breaks_from net false (zeros (length net.next)) zs && all_in_range low high true zs) ≡ true → Breaks (List ℤ) (system_of net) low high zs
+truth_breaks : (net : Net) (low high : ℤ) (zs : List ℤ) → (breaks_from net false (zeros (length net.next)) zs && all_in_range low high true zs) ≡ true → Breaks (runs_of net) low high zs
 truth_breaks net low high zs h =
     let b = both_true (breaks_from net false (zeros (length net.next)) zs) (all_in_range low high true zs) h in
     record { in_range = all_range low high true zs b.1; broken = breaks_row net (zeros (length net.next)) zs b.0 }
 
-breaks_truth : (net : Net) (low high : ℤ) (zs : List ℤ) → Breaks (List ℤ) (system_of net) low high zs → (breaks_from net false (zeros (length net.next)) zs && all_in_range low high true zs) ≡ true
+breaks_truth : (net : Net) (low high : ℤ) (zs : List ℤ) → Breaks (runs_of net) low high zs → (breaks_from net false (zeros (length net.next)) zs && all_in_range low high true zs) ≡ true
 breaks_truth net low high zs h = rw (row_breaks net (zeros (length net.next)) zs h.broken, range_all low high zs h.in_range) refl
 
 -- ---- the goal
@@ -391,7 +391,7 @@ goal_stands net low high samples facts values net_ l h a f =
     })
 
 pub overflow_tells : (net : Net) (low high : ℤ) (samples : ℕ) (facts : List Fact) (values : List ℕ) → IsNetlist net → low ≤ℤ hi (width net.format) → lo (width net.format) ≤ℤ high → AreFacts net low high samples facts
-    → let g = overflow_with net low high samples facts in AreValues g.terms.inputs values → Tells (word_of g.terms values g.id) (Breaks (List ℤ) (system_of net) low high (spelled_words net.format values))
+    → let g = overflow_with net low high samples facts in AreValues g.terms.inputs values → Tells (word_of g.terms values g.id) (Breaks (runs_of net) low high (spelled_words net.format values))
 overflow_tells net low high samples facts values net_ l h a v =
     let o = overflow_with net low high samples facts in
     let none = goal_stands net low high samples facts [] net_ l h a (λ j p. pow_pos (width net.format)) in
@@ -400,8 +400,8 @@ overflow_tells net low high samples facts values net_ l h a v =
     let g = goal_stands net low high samples facts values net_ l h a f in
     let e : words_at (width net.format) values 0 samples ≡ spelled_words net.format values = ap (words_at (width net.format) values 0) (sym c) ∙ words_map net.format values values 0 (λ i p. ap (slice_index values) (let z : i ≡ 0 + i = omega arith in z)) in
     let zs = words_at (width net.format) values 0 samples in
-    subst (λ (ys : List ℤ). Tells (word_of o.terms values o.id) (Breaks (List ℤ) (system_of net) low high ys)) e
-    (tells_by (word_of o.terms values o.id) (Breaks (List ℤ) (system_of net) low high zs) (breaks_from net false (zeros (length net.next)) zs && all_in_range low high true zs) g.word (truth_breaks net low high zs) (breaks_truth net low high zs))
+    subst (λ (ys : List ℤ). Tells (word_of o.terms values o.id) (Breaks (runs_of net) low high ys)) e
+    (tells_by (word_of o.terms values o.id) (Breaks (runs_of net) low high zs) (breaks_from net false (zeros (length net.next)) zs && all_in_range low high true zs) g.word (truth_breaks net low high zs) (breaks_truth net low high zs))
 
 -- a list of one number is known by its length
 pub same_items : (n : ℕ) (xs : List ℕ) (k : ℕ) → length xs ≡ k → ((j : ℕ) → j < length xs → slice_index xs j ≡ n) → xs ≡ replicate k n
@@ -447,11 +447,11 @@ started_from net low high samples k f none registers i t zero_bit l h e z g b r 
     started net low high samples registers i t zero_bit l h (e ∙ (ap (λ (n : TermsView). from n f) z ∙ ap (from no_terms) g)) b (r ∙ ap (λ (j : ℕ). replicate j zero_bit) c)
 
 pub made_tells : (net : Net) (low high : ℤ) (samples : ℕ) (t : TermsView) (root : TermId) (values : List ℕ) → built_of t root ≡ overflow_of net low high samples → IsNetlist net → low ≤ℤ hi (width net.format) → lo (width net.format) ≤ℤ high
-    → AreFacts net low high samples (facts_of net low high samples) → AreValues t.inputs values → Tells (word_of t values root) (Breaks (List ℤ) (system_of net) low high (spelled_words net.format values))
+    → AreFacts net low high samples (facts_of net low high samples) → AreValues t.inputs values → Tells (word_of t values root) (Breaks (runs_of net) low high (spelled_words net.format values))
 unfolding overflow_of
 made_tells net low high samples t root values e n l h a v =
     let w = subst (λ (g : Built). AreValues g.terms.inputs values) e v in
-    subst (λ (g : Built). Tells (word_of g.terms values g.id) (Breaks (List ℤ) (system_of net) low high (spelled_words net.format values))) (sym e) (overflow_tells net low high samples (facts_of net low high samples) values n l h a w)
+    subst (λ (g : Built). Tells (word_of g.terms values g.id) (Breaks (runs_of net) low high (spelled_words net.format values))) (sym e) (overflow_tells net low high samples (facts_of net low high samples) values n l h a w)
 
 pub made_inputs : (net : Net) (low high : ℤ) (samples : ℕ) (t : TermsView) (root : TermId) → built_of t root ≡ overflow_of net low high samples → IsNetlist net → low ≤ℤ hi (width net.format) → lo (width net.format) ≤ℤ high
     → AreFacts net low high samples (facts_of net low high samples) → t.inputs ≡ replicate samples (width net.format)

@@ -11,6 +11,7 @@ use Rattle.std.proofs.lemmas.List.Elements.{All-replicate, All-push}
 use Rattle.std.proofs.lemmas.List.Folds.{list_any_at}
 use Rattle.dsv_word.specs.declared.format.Format.{Format}
 use Rattle.dsv_word.specs.Words.{width, IsWord}
+use Rattle.dsv_word.proofs.Meanings.{zero_word}
 use Rattle.dsv_system.specs.Runs.{SampleRow, rows_from}
 use Rattle.dsv_system.specs.Systems.{zeros}
 use Rattle.dsv_netlist.specs.Nodes.{Net, at, step_of}
@@ -19,15 +20,14 @@ use Rattle.dsv_term.specs.declared.node.TermId.{TermId}
 use Rattle.dsv_term.specs.declared.node.TermNode.TheVariants.{Constant}
 use Rattle.dsv_term.specs.Building.{Built, built_of, with_node, with_new_input}
 use Rattle.dsv_term.specs.Growth.{AreSound}
-use Rattle.dsv_term.specs.Terms.{KeepsTerms, AreValues, word_of}
-use Rattle.dsv_term.specs.TermsView.{TermsView}
+use Rattle.dsv_term.specs.Terms.{KeepsTerms, AreValues, word_of, HasBits}
+use Rattle.dsv_term.specs.TermsView.{TermsView, no_terms}
 use Rattle.dsv_term.specs.Word.{bit_of}
 use Rattle.dsv_term.proofs.Made.{KeepsTerms-both}
 use Rattle.dsv_term.proofs.Building.{KeepsTerms-self, new_input_gives, constant_gives}
 use Rattle.dsv_term.proofs.Complement.{spelled, signed_reads}
-use Rattle.dsv_unroll.specs.Goals.{no_terms}
 use Rattle.dsv_unroll.specs.CycleGoals.{CycleTerms, StartTerms, starts_from, cycle_of}
-use Rattle.dsv_unroll.specs.Ready.{IsValue, HasBits, AreAllValues, AreCycleReady}
+use Rattle.dsv_unroll.specs.Ready.{IsValue, AreAllValues, AreCycleReady}
 use Rattle.dsv_unroll.specs.Rules.{term_at}
 use Rattle.dsv_unroll.specs.Words.{cycle_start, Tells, HasCycle}
 use Rattle.dsv_unroll.proofs.RuleTerms.{Spells, value_later}
@@ -37,7 +37,7 @@ use Rattle.dsv_unroll.proofs.InputTests.{bits_kept, word_at, words_at}
 use Rattle.dsv_unroll.proofs.Breaking.{none_sound, word_width, word_spelled, words_map, words_at-length, zero_bit_spelled, tells_by, same_items}
 use Rattle.dsv_unroll.proofs.CycleTerms.{AllMean, mean_later, equal_true, equal_from}
 use Rattle.dsv_unroll.proofs.Cycling.{finds_from, is_sound, IsFound, found_is, is_found}
-use Rattle.dsv_unroll.proofs.CycleRuns.{CycleStands, cycles_stand, zero_word}
+use Rattle.dsv_unroll.proofs.CycleRuns.{CycleStands, cycles_stand}
 
 -- ---- the start words
 pub record StartsStand (f : Format) (values : List ℕ) (first : TermsView) (s : StartTerms) (zs : List ℤ) : Type 0 where

@@ -4,10 +4,8 @@ use Rattle.std.specs.Prelude.{nat_lt, if◌then◌else◌}
 use Rattle.std.specs.List.{All}
 use Rattle.std.specs.Ordering.{int_eq}
 use Rattle.std.proofs.Math.IntN.{ℤ, pos}
-use Rattle.std.proofs.lemmas.Int.{ints}
-use Rattle.std.proofs.lemmas.Nat.{pow_pos}
-use Rattle.dsv_word.specs.declared.format.Format.{Format}
 use Rattle.dsv_word.specs.Words.{width, IsWord}
+use Rattle.dsv_word.proofs.Meanings.{zero_word}
 use Rattle.dsv_netlist.specs.Nodes.{Net, step_of}
 use Rattle.dsv_netlist.specs.Conditions.{IsNetlist}
 use Rattle.dsv_netlist.specs.Law.{AreWords}
@@ -17,7 +15,7 @@ use Rattle.dsv_term.specs.declared.node.TermNode.TheVariants.{Or}
 use Rattle.dsv_term.specs.declared.word.Word.{Word}
 use Rattle.dsv_term.specs.Building.{built_of, with_node}
 use Rattle.dsv_term.specs.Growth.{AreSound}
-use Rattle.dsv_term.specs.Terms.{word_of}
+use Rattle.dsv_term.specs.Terms.{word_of, HasBits}
 use Rattle.dsv_term.specs.Word.{bit_of, or_of}
 use Rattle.dsv_term.proofs.Made.{KeepsTerms-both}
 use Rattle.dsv_term.proofs.Building.{or_gives}
@@ -25,7 +23,7 @@ use Rattle.dsv_term.proofs.Complement.{or-bits}
 use Rattle.dsv_unroll.specs.declared.rules.FitRule.TheVariants as fit_rule
 use Rattle.dsv_unroll.specs.Goals.{sample_terms}
 use Rattle.dsv_unroll.specs.CycleGoals.{CycleTerms, returned_from, sounding_term, with_found, with_quiet_sample, cycles_from}
-use Rattle.dsv_unroll.specs.Ready.{HasBits, AreAllValues}
+use Rattle.dsv_unroll.specs.Ready.{AreAllValues}
 use Rattle.dsv_unroll.specs.Rules.{term_at}
 use Rattle.dsv_unroll.proofs.Follows.{Means, means_later}
 use Rattle.dsv_unroll.proofs.InputTests.{bits_kept, bit_value}
@@ -50,9 +48,6 @@ pub record CycleStands (base : List ℕ) (net : Net) (values : List ℕ) (starts
   pub found_word : word_of r.terms values r.found ≡ bit_of f
   pub count : length rs ≡ length net.next
   pub words : All (IsWord net.format) rs
-
-pub zero_word : (f : Format) → IsWord f (pos 0)
-zero_word f = let p = pow_pos (width f - 1) in record { low = omega (arith, ints); high = omega (arith, ints) }
 
 pub quiet_stands : (base : List ℕ) (net : Net) (values : List ℕ) (starts : List TermId) (ss : List ℤ) (zero_bit : TermId) (r : CycleTerms) (rs : List ℤ) (loud f : Bool) → IsNetlist net → CycleStands base net values starts ss zero_bit r rs loud f
     → CycleStands base net values starts ss zero_bit (with_quiet_sample net zero_bit r) (step_of net rs (pos 0)).past (loud || not (int_eq (step_of net rs (pos 0)).y (pos 0))) f

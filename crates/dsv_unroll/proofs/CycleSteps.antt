@@ -8,13 +8,13 @@ use Rattle.dsv_netlist.proofs.Naming.{names_word-below}
 use Rattle.dsv_term.specs.declared.node.TermId.{TermId}
 use Rattle.dsv_term.specs.Building.{Built, built_of, with_new_input}
 use Rattle.dsv_term.specs.Growth.{AreSound, Adds}
-use Rattle.dsv_term.specs.Terms.{KeepsTerms}
+use Rattle.dsv_term.specs.Terms.{KeepsTerms, HasBits}
 use Rattle.dsv_term.specs.TermsView.{TermsView}
 use Rattle.dsv_term.proofs.Made.{KeepsTerms-both}
 use Rattle.dsv_unroll.specs.declared.rules.FitRule.TheVariants as fit_rule
 use Rattle.dsv_unroll.specs.Goals.{SampleTerms, sample_terms}
 use Rattle.dsv_unroll.specs.CycleGoals.{CycleTerms, StartTerms, sounding_term, with_quiet_sample, with_asked, cycles_from, starts_from}
-use Rattle.dsv_unroll.specs.Ready.{HasBits, AreReady, AreAllValues, AreCycleReady}
+use Rattle.dsv_unroll.specs.Ready.{AreReady, AreAllValues, AreCycleReady}
 use Rattle.dsv_unroll.specs.Rules.{term_at}
 use Rattle.dsv_unroll.proofs.Runs.{loaded_stand}
 use Rattle.dsv_unroll.proofs.InputTests.{bits_kept}

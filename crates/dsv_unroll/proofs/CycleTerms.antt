@@ -12,14 +12,14 @@ use Rattle.dsv_term.specs.declared.node.TermNode.TheVariants.{Eq, And, Or, Not}
 use Rattle.dsv_term.specs.declared.word.Word.{Word}
 use Rattle.dsv_term.specs.Building.{Built, built_of, with_node}
 use Rattle.dsv_term.specs.Growth.{AreSound, Adds}
-use Rattle.dsv_term.specs.Terms.{KeepsTerms, width_of, word_of}
+use Rattle.dsv_term.specs.Terms.{KeepsTerms, width_of, word_of, HasBits}
 use Rattle.dsv_term.specs.TermsView.{TermsView}
 use Rattle.dsv_term.specs.Word.{bit_of, same_of, and_of, or_of, complement_of}
 use Rattle.dsv_term.proofs.Made.{KeepsTerms-both}
 use Rattle.dsv_term.proofs.Building.{Adds-both, Adds-built, KeepsTerms-self, later, stands-width, same_gives, and_gives, or_gives, complement_gives}
 use Rattle.dsv_term.proofs.Complement.{IsSpelled, spelled, same-spelled, apart-spelled, or-bits, and-bits, complement-bit}
 use Rattle.dsv_unroll.specs.CycleGoals.{same_term, returned_from, sounding_term}
-use Rattle.dsv_unroll.specs.Ready.{IsValue, HasBits, AreAllValues}
+use Rattle.dsv_unroll.specs.Ready.{IsValue, AreAllValues}
 use Rattle.dsv_unroll.specs.Rules.{widened_term, term_at}
 use Rattle.dsv_unroll.proofs.RuleTerms.{both_widened, max_narrow, value_later}
 use Rattle.dsv_unroll.proofs.Follows.{Means, means_later}

@@ -17,7 +17,7 @@ use Rattle.dsv_term.specs.declared.node.TermNode.TheVariants.{Constant, Sle, And
 use Rattle.dsv_term.specs.declared.word.Word.{Word}
 use Rattle.dsv_term.specs.Building.{Built, built_of, with_node}
 use Rattle.dsv_term.specs.Growth.{AreSound, Adds}
-use Rattle.dsv_term.specs.Terms.{KeepsTerms, width_of, word_of}
+use Rattle.dsv_term.specs.Terms.{KeepsTerms, width_of, word_of, HasBits}
 use Rattle.dsv_term.specs.TermsView.{TermsView}
 use Rattle.dsv_term.specs.Word.{residue, signed_of, bit_of, and_of, or_of, signed_at_most_of}
 use Rattle.dsv_term.proofs.Words.{residue_fits}
@@ -26,7 +26,7 @@ use Rattle.dsv_term.proofs.Building.{KeepsTerms-self, Adds-built, later, stands-
 use Rattle.dsv_term.proofs.Complement.{IsSpelled, spelled, wider_spelled, signed_at_most-spelled, and-bits, or-bits}
 use Rattle.dsv_unroll.specs.declared.fitting.TestedTerm.{TestedTerm}
 use Rattle.dsv_unroll.specs.FactTests.{FactTerms, within_test, with_test, with_word, with_fact, with_entry, facts_from}
-use Rattle.dsv_unroll.specs.Ready.{IsValue, HasBits, AreBits, IsTruth, IsTest, IsEntry, AreTested, AreKnown}
+use Rattle.dsv_unroll.specs.Ready.{IsValue, AreBits, IsTruth, IsTest, IsEntry, AreTested, AreKnown}
 use Rattle.dsv_unroll.specs.Rules.{term_at}
 use Rattle.dsv_unroll.proofs.FitTerms.{is_outside, inside_spelled, spelled_inside}
 use Rattle.dsv_unroll.proofs.Follows.{Means}

@@ -13,12 +13,12 @@ use Rattle.dsv_netlist.specs.Law.{AreWords}
 use Rattle.dsv_netlist.proofs.Runs.{from-length}
 use Rattle.dsv_term.specs.declared.node.TermId.{TermId}
 use Rattle.dsv_term.specs.Growth.{AreSound}
-use Rattle.dsv_term.specs.Terms.{KeepsTerms, word_of}
+use Rattle.dsv_term.specs.Terms.{KeepsTerms, word_of, HasBits}
 use Rattle.dsv_term.specs.TermsView.{TermsView}
 use Rattle.dsv_term.specs.Word.{bit_of}
 use Rattle.dsv_unroll.specs.declared.rules.FitRule.TheVariants as fit_rule
 use Rattle.dsv_unroll.specs.Goals.{SampleTerms, sample_terms}
-use Rattle.dsv_unroll.specs.Ready.{IsValue, HasBits, AreReady, AreAllValues}
+use Rattle.dsv_unroll.specs.Ready.{IsValue, AreReady, AreAllValues}
 use Rattle.dsv_unroll.specs.Rules.{term_at}
 use Rattle.dsv_unroll.proofs.Follows.{Means, node_overflow}
 use Rattle.dsv_unroll.proofs.Samples.{overflow_from, sample_follows}

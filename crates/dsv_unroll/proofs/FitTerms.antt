@@ -10,14 +10,14 @@ use Rattle.dsv_term.specs.declared.node.TermNode.TheVariants.{Eq, Or, Not, Sext,
 use Rattle.dsv_term.specs.declared.word.Word.{Word}
 use Rattle.dsv_term.specs.Building.{built_of, with_node}
 use Rattle.dsv_term.specs.Growth.{AreSound, Adds}
-use Rattle.dsv_term.specs.Terms.{KeepsTerms, width_of, word_of}
+use Rattle.dsv_term.specs.Terms.{KeepsTerms, width_of, word_of, HasBits}
 use Rattle.dsv_term.specs.TermsView.{TermsView}
 use Rattle.dsv_term.specs.Word.{residue, signed_of, bit_of, same_of, or_of, complement_of, extended_of, extract_of}
 use Rattle.dsv_term.proofs.Words.{residue_fits}
 use Rattle.dsv_term.proofs.Made.{KeepsTerms-both}
 use Rattle.dsv_term.proofs.Building.{Adds-none, later, extension_gives, same_gives, complement_gives, or_gives, extract_gives}
 use Rattle.dsv_term.proofs.Complement.{IsSpelled, spelled, wider_spelled, signed-spelled, signed_reads, low-spelled, same-spelled, apart-spelled, or-bits, complement-bit}
-use Rattle.dsv_unroll.specs.Ready.{IsValue, HasBits}
+use Rattle.dsv_unroll.specs.Ready.{IsValue}
 use Rattle.dsv_unroll.specs.Rules.{CutTerms, cut_terms, Unrolled, unrolled_of, cut_term}
 use Rattle.dsv_unroll.proofs.RuleTerms.{Spells}
 
@@ -29,7 +29,7 @@ or_false : (a b : Bool) → (a || b) ≡ false → (a ≡ false) × (b ≡ false
 or_false true b e = absurd cc
 or_false false b e = (refl, e)
 
-not_less : (a b : ℤ) → int_lt a b ≡ false → b ≤ℤ a
+pub not_less : (a b : ℤ) → int_lt a b ≡ false → b ≤ℤ a
 not_less a b e = grind (arith, ints)
 
 at_least : (a b : ℤ) → b ≤ℤ a → int_lt a b ≡ false

@@ -1,7 +1,7 @@
 -- The inputs of a goal spell words, and the tests say whether these are in range.
 use Rattle.std.proofs.Common.{◌≡◌, ℕ, zero, suc, ◌+◌, ◌^◌, ◌<◌, ◌≤◌, Bool, true, false, ◌&&◌, inl, inr, List, [], ◌∷◌, ◌++◌, refl, arith, ap, sym, subst, ◌∙◌, length, get_or}
 use Rattle.std.specs.Int.Bits.{and_zero_l}
-use Rattle.std.specs.Prelude.{int_lt, int_le, if◌then◌else◌, slice_index, ◌<ℤ◌, ◌≤ℤ◌}
+use Rattle.std.specs.Prelude.{int_lt, int_le, if◌then◌else◌, slice_index, ◌≤ℤ◌}
 use Rattle.std.proofs.Math.IntN.{ℤ, pos}
 use Rattle.std.proofs.lemmas.Int.{ints}
 use Rattle.std.proofs.lemmas.Bool.{cases_lt}
@@ -13,7 +13,7 @@ use Rattle.dsv_term.specs.declared.node.TermNode.TheVariants.{Constant, Sle, And
 use Rattle.dsv_term.specs.declared.word.Word.{Word}
 use Rattle.dsv_term.specs.Building.{Built, built_of, with_node, with_new_input}
 use Rattle.dsv_term.specs.Growth.{AreSound, Adds}
-use Rattle.dsv_term.specs.Terms.{KeepsTerms, width_of, word_of}
+use Rattle.dsv_term.specs.Terms.{KeepsTerms, width_of, word_of, HasBits}
 use Rattle.dsv_term.specs.TermsView.{TermsView}
 use Rattle.dsv_term.specs.Word.{IsWidth, residue, signed_of, bit_of, signed_at_most_of, and_of}
 use Rattle.dsv_term.proofs.Words.{residue_fits}
@@ -21,12 +21,13 @@ use Rattle.dsv_term.proofs.Made.{KeepsTerms-both}
 use Rattle.dsv_term.proofs.Building.{Adds-both, Adds-none, Adds-width, KeepsTerms-self, later, new_input_gives, constant_gives, signed_at_most_gives, and_gives}
 use Rattle.dsv_term.proofs.Complement.{IsSpelled, spelled, signed_reads, signed_at_most-spelled, and-bits}
 use Rattle.dsv_unroll.specs.Goals.{TestTerms, with_low_test, with_high_test, value_term, InputTerms, with_input, inputs_from, conjunction_from}
-use Rattle.dsv_unroll.specs.Ready.{IsValue, HasBits, AreBits}
+use Rattle.dsv_unroll.specs.Ready.{IsValue, AreBits}
 use Rattle.dsv_unroll.specs.Rules.{term_at}
 use Rattle.dsv_unroll.proofs.Follows.{Means, means_later}
 use Rattle.dsv_unroll.proofs.NodeTerms.{all_more}
 use Rattle.dsv_unroll.proofs.SampleSteps.{bits_later}
-use Rattle.dsv_unroll.proofs.ValueTerms.{value_of, value_stands}
+use Rattle.dsv_unroll.proofs.ValueTerms.{value_of, value_stands, less}
+use Rattle.dsv_unroll.proofs.FitTerms.{not_less}
 
 pub bits_kept : (t u : TermsView) (id : TermId) (bits : ℕ) → KeepsTerms t u → HasBits t id bits → HasBits u id bits
 bits_kept t u id bits k h = record { stands = k.longer id h.stands; width = k.widths id h.stands ∙ h.width }
@@ -107,12 +108,6 @@ bits_push t tests id b h = record { stand = all_more (λ (j : TermId). HasBits t
 
 pub at_most : (a b : ℤ) → a ≤ℤ b → int_le a b ≡ true
 at_most a b h = grind (arith, ints)
-
-not_less : (a b : ℤ) → int_lt a b ≡ false → b ≤ℤ a
-not_less a b e = grind (arith, ints)
-
-less : (a b : ℤ) → int_lt a b ≡ true → a <ℤ b
-less a b e = grind (arith, ints)
 
 low_by : (values : List ℕ) (t : TermsView) (n : ℕ) (low z : ℤ) (x : TermId) (tests : List TermId) (q p : Bool) → int_lt (lo n) low ≡ p → low ≤ℤ hi n → IsWidth n → AreSound t → HasBits t x n → word_of t values x ≡ spelled n z → IsSpelled n z
     → AreBits t tests → TestsMean t values tests q

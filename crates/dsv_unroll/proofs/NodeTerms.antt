@@ -1,12 +1,11 @@
 -- What the term of a node adds.
-use Rattle.std.proofs.Common.{◌≡◌, ℕ, zero, suc, ◌+◌, ◌-◌, ◌^◌, ◌<◌, ◌≤◌, Bool, true, false, inl, inr, List, [], ◌∷◌, ◌++◌, refl, arith, subst, ◌∙◌, length}
-use Rattle.std.specs.Prelude.{◌==◌, nat_lt, if◌then◌else◌, Some, slice_get, slice_index_or}
-use Rattle.std.specs.List.{All}
+use Rattle.std.proofs.Common.{◌≡◌, ℕ, ◌+◌, ◌-◌, ◌^◌, ◌<◌, ◌≤◌, Bool, true, false, inl, inr, List, [], ◌∷◌, ◌++◌, refl, arith, ◌∙◌, length}
+use Rattle.std.specs.Prelude.{◌==◌, nat_lt, if◌then◌else◌, slice_index_or}
 use Rattle.std.proofs.Math.Nat.{pow-le-pow_right}
 use Rattle.std.proofs.lemmas.Bool.{cases_lt}
 use Rattle.std.proofs.lemmas.Bool.Decides.{nat_tests}
 use Rattle.std.proofs.lemmas.List.{get_or_append_left, get_or_push, length_push}
-use Rattle.std.proofs.lemmas.List.Elements.{All-get_or, All-head, All-tail}
+use Rattle.std.proofs.lemmas.List.Elements.{All-get_or}
 use Rattle.std.proofs.lemmas.Nat.{pow_pos}
 use Rattle.dsv_names.specs.declared.rounding.Rounding.{Rounding}
 use Rattle.dsv_names.specs.declared.rounding.Rounding.TheVariants as rounding
@@ -17,7 +16,7 @@ use Rattle.dsv_netlist.specs.declared.node.Node.TheVariants as node
 use Rattle.dsv_netlist.specs.Limits.{bound_limit}
 use Rattle.dsv_netlist.specs.Nodes.{Net}
 use Rattle.dsv_netlist.specs.Bounds.{bounds_of}
-use Rattle.dsv_netlist.specs.Conditions.{IsNetlist, NamesBelow, AllNameBack, ReadsBelow}
+use Rattle.dsv_netlist.specs.Conditions.{IsNetlist, NamesBelow, ReadsBelow}
 use Rattle.dsv_netlist.proofs.BoundLemmas.{from-length}
 use Rattle.dsv_term.specs.declared.node.TermId.{TermId}
 use Rattle.dsv_term.specs.Building.{Built, built_of}
@@ -61,17 +60,6 @@ pub addend_small : (net : Net) (of : ℕ) → addend_at net of ≤ 2 ^ net.forma
 addend_small net of =
     if_small (is_whole net.format.frac_bits (slice_index_or net.nodes of node.Input)) (addend_of net.format.rounding net.format.frac_bits) (2 ^ net.format.frac_bits)
     (addend_is_small net.format.rounding net.format.frac_bits)
-
--- a node names those before it
-pub names-at : (m : ℕ) (nodes : List Node) (i : ℕ) (n : Node) → AllNameBack m nodes → slice_get nodes i ≡ Some n → NamesBelow (m + i) n
-names-at m [] i n h e = absurd cc
-names-at m (d ∷ ds) zero n h e = let k : d ≡ n = cc in let z : m + 0 ≡ m = omega arith in rw z (subst (NamesBelow m) k h.0)
-names-at m (d ∷ ds) (suc i) n h e = let z : m + 1 + i ≡ m + suc i = omega arith in subst (λ (j : ℕ). NamesBelow j n) z (names-at (m + 1) ds i n h.1 e)
-
-pub reads-at : (m : ℕ) (nodes : List Node) (i : ℕ) (n : Node) → All (ReadsBelow m) nodes → slice_get nodes i ≡ Some n → ReadsBelow m n
-reads-at m [] i n h e = absurd cc
-reads-at m (d ∷ ds) zero n h e = let k : d ≡ n = cc in subst (ReadsBelow m) k (All-head (ReadsBelow m) d ds h)
-reads-at m (d ∷ ds) (suc i) n h e = reads-at m ds i n (All-tail (ReadsBelow m) d ds h) e
 
 -- ---- what is added
 pub record NodeAdds (t : TermsView) (u : Unrolled) : Type 0 where

@@ -8,10 +8,10 @@ use Rattle.dsv_netlist.specs.Nodes.{Net}
 use Rattle.dsv_term.specs.declared.node.TermId.{TermId}
 use Rattle.dsv_term.specs.declared.node.TermNode.TheVariants.{Constant}
 use Rattle.dsv_term.specs.Building.{Built, built_of, with_node}
-use Rattle.dsv_term.specs.TermsView.{TermsView}
+use Rattle.dsv_term.specs.TermsView.{TermsView, no_terms}
 use Rattle.dsv_unroll.specs.declared.fitting.TestedTerm.{TestedTerm}
 use Rattle.dsv_unroll.specs.FactTests.{FactTerms, facts_from, is_long}
-use Rattle.dsv_unroll.specs.Goals.{RunTerms, run_from, run_tests, no_terms, conjunction_from, first_inputs, overflow_with}
+use Rattle.dsv_unroll.specs.Goals.{RunTerms, run_from, run_tests, conjunction_from, first_inputs, overflow_with}
 use Rattle.dsv_unroll.proofs.Breaking.{AreStarted, started_from}
 
 pub zero_started : (net : Net) (low high : ℤ) (samples : ℕ) (none t : TermsView) (zero_bit : TermId) (registers : List TermId) → none ≡ no_terms → low ≤ℤ hi (width net.format) → lo (width net.format) ≤ℤ high

@@ -14,7 +14,8 @@ use Rattle.dsv_term.specs.declared.node.TermNode.TheVariants.{Constant}
 use Rattle.dsv_term.specs.Building.{with_node}
 use Rattle.dsv_term.specs.Terms.{AreValues}
 use Rattle.dsv_term.specs.Word.{bit_of}
-use Rattle.dsv_unroll.specs.Goals.{no_terms, first_inputs, zero_run, overflow_of, plain_overflow_of}
+use Rattle.dsv_term.specs.TermsView.{no_terms}
+use Rattle.dsv_unroll.specs.Goals.{first_inputs, zero_run, overflow_of, plain_overflow_of}
 use Rattle.dsv_unroll.specs.Law.{FactsKeepRoot}
 use Rattle.dsv_unroll.proofs.Runs.{breaks_from}
 use Rattle.dsv_unroll.proofs.InputTests.{words_at}

@@ -10,6 +10,7 @@ use Rattle.dsv_netlist.specs.declared.node.Node.TheVariants as node
 use Rattle.dsv_netlist.specs.Nodes.{Net}
 use Rattle.dsv_netlist.specs.Conditions.{IsNetlist, NamesBelow, ReadsBelow, names_word}
 use Rattle.dsv_netlist.proofs.Naming.{names_word-below}
+use Rattle.dsv_netlist.proofs.NodePlaces.{names-at, reads-at}
 use Rattle.dsv_term.specs.declared.node.TermId.{TermId}
 use Rattle.dsv_term.specs.Terms.{KeepsTerms}
 use Rattle.dsv_term.specs.TermsView.{TermsView}
@@ -23,7 +24,7 @@ use Rattle.dsv_unroll.specs.declared.rules.FitRule.TheVariants as fit_rule
 use Rattle.dsv_unroll.specs.Ready.{IsValue, AreReady, AreRunReady, AreBits, fit_tests}
 use Rattle.dsv_unroll.proofs.RuleTerms.{value_later}
 use Rattle.dsv_unroll.specs.Rules.{Unrolled, node_term, node_tests, term_at}
-use Rattle.dsv_unroll.proofs.NodeTerms.{names-at, reads-at, NodeAdds, node_adds, ready_with}
+use Rattle.dsv_unroll.proofs.NodeTerms.{NodeAdds, node_adds, ready_with}
 
 pub got : {A : Type 0} (xs : List A) (i : ℕ) (d a : A) → slice_get xs i ≡ Some a → get_or xs i d ≡ a
 got [] i d a e = absurd cc

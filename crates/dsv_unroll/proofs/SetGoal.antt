@@ -12,11 +12,11 @@ use Rattle.dsv_template.specs.declared.verdict.SetPart.TheVariants as set_part
 use Rattle.dsv_template.specs.Candidates.{is_shaped}
 use Rattle.dsv_term.specs.declared.node.TermId.{TermId}
 use Rattle.dsv_term.specs.Building.{Built, built_of}
-use Rattle.dsv_term.specs.Terms.{AreValues, word_of}
+use Rattle.dsv_term.specs.Terms.{AreValues, word_of, HasBits}
 use Rattle.dsv_term.specs.TermsView.{TermsView}
 use Rattle.dsv_term.specs.Word.{bit_of}
 use Rattle.dsv_term.proofs.Building.{Adds-built}
-use Rattle.dsv_unroll.specs.Ready.{HasBits, AreBits}
+use Rattle.dsv_unroll.specs.Ready.{AreBits}
 use Rattle.dsv_unroll.specs.SetGoals.{SetStart, set_start, break_of, samples_of, set_inputs, set_of}
 use Rattle.dsv_unroll.specs.Words.{spelled_words, Tells, BreaksPart}
 use Rattle.dsv_unroll.proofs.SampleSteps.{bits_later}

@@ -6,6 +6,7 @@ use Rattle.std.proofs.lemmas.Nat.{pow_pos}
 use Rattle.std.proofs.lemmas.List.{length-map, length-replicate}
 use Rattle.std.proofs.lemmas.List.Elements.{All-replicate}
 use Rattle.dsv_word.specs.Words.{width, lo, hi, IsWord}
+use Rattle.dsv_word.proofs.Meanings.{zero_word}
 use Rattle.dsv_system.specs.Systems.{zeros}
 use Rattle.dsv_netlist.specs.Nodes.{Net}
 use Rattle.dsv_template.specs.declared.verdict.SetPart.{SetPart}
@@ -13,20 +14,19 @@ use Rattle.dsv_template.specs.declared.verdict.SetPart.TheVariants as set_part
 use Rattle.dsv_term.specs.declared.node.TermId.{TermId}
 use Rattle.dsv_term.specs.declared.node.TermNode.TheVariants.{Constant}
 use Rattle.dsv_term.specs.Building.{with_node}
-use Rattle.dsv_term.specs.Terms.{word_of}
-use Rattle.dsv_term.specs.TermsView.{TermsView}
+use Rattle.dsv_term.specs.Terms.{word_of, HasBits}
+use Rattle.dsv_term.specs.TermsView.{TermsView, no_terms}
 use Rattle.dsv_term.specs.Word.{bit_of}
 use Rattle.dsv_term.proofs.Building.{KeepsTerms-self, constant_gives}
 use Rattle.dsv_unroll.specs.CycleGoals.{StartTerms, starts_from}
-use Rattle.dsv_unroll.specs.Goals.{InputTerms, inputs_from, no_terms}
-use Rattle.dsv_unroll.specs.Ready.{HasBits, IsStartReady}
+use Rattle.dsv_unroll.specs.Goals.{InputTerms, inputs_from}
+use Rattle.dsv_unroll.specs.Ready.{IsStartReady}
 use Rattle.dsv_unroll.specs.SetGoals.{SetStart, registers_of, set_start}
 use Rattle.dsv_unroll.proofs.NodeTerms.{width_small}
 use Rattle.dsv_unroll.proofs.Follows.{Means, means_later, means_added}
 use Rattle.dsv_unroll.proofs.InputTests.{bits_kept, bit_added, no_bits_mean, InputsStand, inputs_stand, words_at, all_in_range}
 use Rattle.dsv_unroll.proofs.ValueTerms.{value_of}
 use Rattle.dsv_unroll.proofs.CycleTerms.{all_later, mean_later}
-use Rattle.dsv_unroll.proofs.CycleRuns.{zero_word}
 use Rattle.dsv_unroll.proofs.CycleGoal.{StartsDone, starts_stand, zero_bit_starts}
 use Rattle.dsv_unroll.proofs.Breaking.{none_sound, none_stand, inputs_mean, zero_bit_spelled, word_width, words_at-length, same_items}
 use Rattle.dsv_unroll.proofs.SetBreaks.{SetStands}

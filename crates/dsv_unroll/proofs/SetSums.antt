@@ -4,7 +4,6 @@ use Rattle.std.specs.Prelude.{if◌then◌else◌}
 use Rattle.std.specs.List.{All, list_all}
 use Rattle.std.specs.Int.RustNames.{unsigned_abs}
 use Rattle.std.proofs.Math.IntN.{ℤ, pos, negsuc, ◌+ℤ◌, ◌*ℤ◌}
-use Rattle.std.proofs.Math.Nat.{pow-le-pow_right}
 use Rattle.std.proofs.lemmas.Int.{ints, unsigned_abs-mul}
 use Rattle.std.proofs.lemmas.Nat.{mul-le}
 use Rattle.std.proofs.lemmas.Bool.{and_parts, eqb-true, leb-true}
@@ -19,6 +18,7 @@ use Rattle.dsv_netlist.specs.Nodes.{at}
 use Rattle.dsv_netlist.proofs.Sizes.{size_within, within_size, word_size}
 use Rattle.dsv_template.specs.Limits.{most_coefficient}
 use Rattle.dsv_template.specs.Candidates.{combination, is_small}
+use Rattle.dsv_template.proofs.BoxLemmas.{powers}
 use Rattle.dsv_term.specs.declared.node.TermId.{TermId}
 use Rattle.dsv_term.specs.Building.{Built, built_of}
 use Rattle.dsv_term.specs.Growth.{AreSound}
@@ -36,8 +36,6 @@ use Rattle.dsv_unroll.proofs.InputTests.{bit_value}
 use Rattle.dsv_unroll.proofs.CycleTerms.{all_later, tail_values, AllMean, mean_later, tail_mean}
 
 -- ---- sizes
-powers : (i j : ℕ) → i ≤ j → 2 ^ i ≤ 2 ^ j
-powers i j h = pow-le-pow_right (omega arith) h
 
 -- a coefficient times a word takes at most 71 bits
 pub entry_bound-small : (f : Format) (c : ℤ) → is_small c ≡ true → entry_bound (width f) c ≤ 2 ^ 71

@@ -12,17 +12,18 @@ use Rattle.dsv_term.specs.declared.node.TermId.{TermId}
 use Rattle.dsv_term.specs.declared.node.TermNode.TheVariants.{Constant, Extract}
 use Rattle.dsv_term.specs.Building.{Built, built_of, with_node}
 use Rattle.dsv_term.specs.Growth.{AreSound}
-use Rattle.dsv_term.specs.Terms.{KeepsTerms, width_of, word_of}
+use Rattle.dsv_term.specs.Terms.{KeepsTerms, width_of, word_of, HasBits}
 use Rattle.dsv_term.specs.TermsView.{TermsView}
 use Rattle.dsv_term.specs.Word.{IsWidth, residue, signed_of, extract_of}
 use Rattle.dsv_term.proofs.Words.{residue_fits}
 use Rattle.dsv_term.proofs.Building.{KeepsTerms-self, constant_gives, extract_gives}
 use Rattle.dsv_term.proofs.Complement.{IsSpelled, spelled, signed-spelled, signed_reads, low-spelled}
 use Rattle.dsv_unroll.specs.Goals.{magnitude, range_width, value_term}
-use Rattle.dsv_unroll.specs.Ready.{HasBits, IsLeastWidth}
+use Rattle.dsv_unroll.specs.Ready.{IsLeastWidth}
 use Rattle.dsv_unroll.specs.Rules.{width_for}
 use Rattle.dsv_unroll.proofs.RuleTerms.{room_wider, width_for-least}
 use Rattle.dsv_unroll.proofs.Follows.{Means, means_added}
+use Rattle.dsv_unroll.proofs.FitTerms.{not_less}
 
 -- ---- the width of a range
 -- a number of more than k binary digits has no zeros above the lowest k
@@ -96,11 +97,8 @@ value_of n low high z =
     if int_lt low high then (if nat_lt (range_width low high) n then signed_of (spelled (range_width low high) z) else z)
     else low
 
-less : (a b : ℤ) → int_lt a b ≡ true → a <ℤ b
+pub less : (a b : ℤ) → int_lt a b ≡ true → a <ℤ b
 less a b e = grind (arith, ints)
-
-not_less : (a b : ℤ) → int_lt a b ≡ false → b ≤ℤ a
-not_less a b e = grind (arith, ints)
 
 narrower : (a b : ℕ) → nat_lt a b ≡ true → a < b
 narrower a b e = grind (arith, nat_tests)

@@ -8,10 +8,10 @@ use Rattle.dsv_term.specs.declared.node.TermId.{TermId}
 use Rattle.dsv_term.specs.declared.node.TermNode.TheVariants.{Constant, Eq, And, Or, Not}
 use Rattle.dsv_term.specs.Building.{Built, built_of, with_node, with_new_input}
 use Rattle.dsv_term.specs.Terms.{width_of}
-use Rattle.dsv_term.specs.TermsView.{TermsView}
+use Rattle.dsv_term.specs.TermsView.{TermsView, no_terms}
 use Rattle.dsv_unroll.specs.declared.rules.FitRule.TheVariants.{Faithful}
 use Rattle.dsv_unroll.specs.Rules.{widened_term, term_at}
-use Rattle.dsv_unroll.specs.Goals.{sample_terms, no_terms}
+use Rattle.dsv_unroll.specs.Goals.{sample_terms}
 
 -- whether two terms spell one number
 abbrev pub same_term : TermsView → TermId → TermId → Built

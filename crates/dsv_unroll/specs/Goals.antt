@@ -11,7 +11,7 @@ use Rattle.dsv_linear.specs.Known.{facts_of}
 use Rattle.dsv_term.specs.declared.node.TermId.{TermId}
 use Rattle.dsv_term.specs.declared.node.TermNode.TheVariants.{Constant, Sle, And, Extract}
 use Rattle.dsv_term.specs.Building.{Built, built_of, with_node, with_new_input}
-use Rattle.dsv_term.specs.TermsView.{TermsView}
+use Rattle.dsv_term.specs.TermsView.{TermsView, no_terms}
 use Rattle.dsv_term.specs.Word.{residue}
 use Rattle.dsv_unroll.specs.declared.fitting.TestedTerm.{TestedTerm}
 use Rattle.dsv_unroll.specs.declared.rules.FitRule.{FitRule}
@@ -154,9 +154,6 @@ inputs_from n low high (suc k) s = inputs_from n low high k (with_input n low hi
 abbrev pub conjunction_from : Built → List TermId → Built
 conjunction_from b [] = b
 conjunction_from b (test ∷ tests) = conjunction_from (with_node b.terms (And b.id test)) tests
-
-abbrev pub no_terms : TermsView
-no_terms = record { inputs = []; nodes = [] }
 
 -- so many inputs after these terms, and the tests that they are in range
 abbrev pub first_inputs : Net → TermsView → ℤ → ℤ → ℕ → InputTerms

@@ -9,7 +9,7 @@ use Rattle.dsv_netlist.specs.Limits.{most_registers}
 use Rattle.dsv_netlist.specs.Nodes.{Net}
 use Rattle.dsv_term.specs.declared.node.TermId.{TermId}
 use Rattle.dsv_term.specs.Growth.{AreSound}
-use Rattle.dsv_term.specs.Terms.{width_of, word_of}
+use Rattle.dsv_term.specs.Terms.{width_of, word_of, HasBits}
 use Rattle.dsv_term.specs.TermsView.{TermsView}
 use Rattle.dsv_term.specs.Word.{bit_of}
 use Rattle.dsv_unroll.specs.declared.fitting.TestedTerm.{TestedTerm}
@@ -20,11 +20,6 @@ use Rattle.dsv_unroll.specs.SetGoals.{SetStart}
 pub record IsValue (t : TermsView) (id : TermId) : Type 0 where
   pub stands : id.0 < length t.nodes
   pub narrow : width_of t id ≤ 127
-
--- a term that stands and has so many bits
-pub record HasBits (t : TermsView) (id : TermId) (bits : ℕ) : Type 0 where
-  pub stands : id.0 < length t.nodes
-  pub width : width_of t id ≡ bits
 
 -- the terms of the registers, the input and the nodes so far, and the bit that says a break
 pub record AreReady (net : Net) (registers : List TermId) (x : TermId) (t : TermsView)

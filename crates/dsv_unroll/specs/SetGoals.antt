@@ -12,12 +12,11 @@ use Rattle.dsv_term.specs.declared.node.TermId.{TermId}
 use Rattle.dsv_term.specs.declared.node.TermNode.TheVariants.{Constant, Sle, And, Not}
 use Rattle.dsv_term.specs.Building.{Built, with_node}
 use Rattle.dsv_term.specs.Terms.{width_of}
-use Rattle.dsv_term.specs.TermsView.{TermsView}
+use Rattle.dsv_term.specs.TermsView.{TermsView, no_terms}
 use Rattle.dsv_term.specs.Word.{residue}
 use Rattle.dsv_unroll.specs.declared.rules.FitRule.TheVariants.{Faithful}
 use Rattle.dsv_unroll.specs.Rules.{width_for, widened_term, product_term, sum_term, term_at}
 use Rattle.dsv_unroll.specs.Goals.{sample_terms, run_from, inputs_from, conjunction_from}
-use Rattle.dsv_unroll.specs.Goals.{no_terms}
 use Rattle.dsv_unroll.specs.CycleGoals.{StartTerms, starts_from}
 
 -- ---- a set

@@ -6,7 +6,7 @@ use Rattle.dsv_word.specs.Words.{width}
 use Rattle.dsv_system.specs.Systems.{zeros, AreInRange}
 use Rattle.dsv_system.specs.Cycles.{Cycles}
 use Rattle.dsv_netlist.specs.Nodes.{Net}
-use Rattle.dsv_netlist.specs.Systems.{system_of}
+use Rattle.dsv_netlist.specs.Systems.{system_of, runs_of}
 use Rattle.dsv_template.specs.declared.candidate.Candidate.{Candidate}
 use Rattle.dsv_template.specs.declared.verdict.SetPart.{SetPart}
 use Rattle.dsv_template.specs.declared.verdict.SetPart.TheVariants as part
@@ -29,7 +29,7 @@ cycle_start net values = zeros net.feed_forward ++ spelled_words net.format valu
 -- the start has a cycle of a period up to this one
 abbrev pub HasCycle : Net → List ℤ → ℕ → Type 0
 HasCycle net start periods = (p : ℕ) × (1 ≤ p) × (p ≤ periods)
-    × Cycles (List ℤ) (system_of net) start p
+    × Cycles (runs_of net) start p
 
 -- The bit is 1 exactly where this holds, and else 0.
 pub record Tells (bit : Word) (holds : Type 0) : Type 0 where

@@ -12,14 +12,14 @@ ghost use Rattle.std.specs.Prelude.{IfOk, nat_lt, ◌*◌, ◌+◌, ℕ, List};
 ghost use Rattle.dsv_netlist.specs.Conditions.{IsNetlist};
 ghost use Rattle.dsv_term.specs.Building.{built_of};
 ghost use Rattle.dsv_term.specs.Growth.{AreSound, Adds};
-ghost use Rattle.dsv_term.specs.Terms.{KeepsTerms, AreValues, word_of};
-ghost use Rattle.dsv_unroll.specs.Goals.{no_terms};
+ghost use Rattle.dsv_term.specs.Terms.{KeepsTerms, AreValues, word_of, HasBits};
+ghost use Rattle.dsv_term.specs.TermsView.{no_terms};
 ghost use Rattle.dsv_unroll.specs.CycleGoals.{same_term, sounding_term, returned_from};
 ghost use Rattle.dsv_unroll.specs.CycleGoals.{with_quiet_sample, with_asked, cycles_from};
 ghost use Rattle.dsv_unroll.specs.CycleGoals.{starts_from, found_of, cycle_of};
 ghost use Rattle.dsv_unroll.specs.Words.{cycle_start, HasCycle, Tells};
 ghost use Rattle.dsv_unroll.specs.Beside.{cycle_with};
-ghost use Rattle.dsv_unroll.specs.Ready.{IsValue, HasBits, AreAllValues, AreCycleReady};
+ghost use Rattle.dsv_unroll.specs.Ready.{IsValue, AreAllValues, AreCycleReady};
 
 use crate::inputs::start_inputs;
 use crate::lists::repeated_term;

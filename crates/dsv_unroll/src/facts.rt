@@ -9,10 +9,10 @@
 ghost use Rattle.std.specs.Prelude.{◌≡◌, IfOk, slice_index_or};
 ghost use Rattle.dsv_linear.specs.declared.fact.Fact.TheVariants.{Open};
 ghost use Rattle.dsv_term.specs.Building.{built_of};
-ghost use Rattle.dsv_term.specs.Terms.{KeepsTerms};
+ghost use Rattle.dsv_term.specs.Terms.{KeepsTerms, HasBits};
 ghost use Rattle.dsv_unroll.specs.FactTests.{within_test, with_test, with_word, with_fact};
 ghost use Rattle.dsv_unroll.specs.FactTests.{with_entry, facts_from};
-ghost use Rattle.dsv_unroll.specs.Ready.{IsValue, HasBits, AreBits, IsTest, IsEntry};
+ghost use Rattle.dsv_unroll.specs.Ready.{IsValue, AreBits, IsTest, IsEntry};
 ghost use Rattle.dsv_unroll.specs.Ready.{AreTested, AreKnown};
 ghost use Rattle.dsv_unroll.specs.Beside.{known_with};
 

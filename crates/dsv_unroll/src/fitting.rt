@@ -6,13 +6,13 @@
 ghost use Rattle.std.specs.Prelude.{◌≡◌, ◌<◌, ◌≤◌, ◌-◌, ◌^◌, length, IfOk, Some};
 ghost use Rattle.dsv_word.specs.Words.{width, lo, hi};
 ghost use Rattle.dsv_term.specs.Building.{built_of};
-ghost use Rattle.dsv_term.specs.Terms.{width_of};
+ghost use Rattle.dsv_term.specs.Terms.{width_of, HasBits};
 ghost use Rattle.dsv_term.specs.Word.{IsWidth};
 ghost use Rattle.dsv_unroll.specs.Rules.{cut_terms, cut_term, saturated_term, word_term};
 ghost use Rattle.dsv_unroll.specs.Rules.{fitted_term, tested_term};
 ghost use Rattle.dsv_unroll.specs.Rules.{end_terms, clamped_term};
 ghost use Rattle.dsv_unroll.specs.Beside.{node_with, ends_with};
-ghost use Rattle.dsv_unroll.specs.Ready.{IsValue, HasBits};
+ghost use Rattle.dsv_unroll.specs.Ready.{IsValue};
 
 use crate::rules::FitRule;
 use dsv_base::NoMemory;

@@ -8,11 +8,12 @@ ghost use Rattle.std.specs.Prelude.{◌≡◌, ◌<◌, []};
 ghost use Rattle.std.specs.Prelude.{IfOk, ◌≤ℤ◌};
 ghost use Rattle.dsv_term.specs.Building.{built_of};
 ghost use Rattle.dsv_term.specs.Word.{IsWidth};
+ghost use Rattle.dsv_term.specs.Terms.{HasBits};
 ghost use Rattle.dsv_unroll.specs.Goals.{with_low_test, with_high_test, with_input, inputs_from};
 ghost use Rattle.dsv_unroll.specs.Goals.{magnitude, range_width, value_term};
 ghost use Rattle.dsv_unroll.specs.CycleGoals.{starts_from};
 ghost use Rattle.dsv_unroll.specs.Beside.{inputs_with};
-ghost use Rattle.dsv_unroll.specs.Ready.{HasBits, IsLeastWidth};
+ghost use Rattle.dsv_unroll.specs.Ready.{IsLeastWidth};
 
 use crate::rules::width_for;
 use dsv_base::NoMemory;

@@ -1,8 +1,9 @@
 // Lists of terms.
 ghost use Rattle.std.specs.Prelude.{◌≡◌, replicate, IfOk};
 ghost use Rattle.dsv_term.specs.Building.{built_of};
+ghost use Rattle.dsv_term.specs.Terms.{HasBits};
 ghost use Rattle.dsv_unroll.specs.Goals.{conjunction_from};
-ghost use Rattle.dsv_unroll.specs.Ready.{HasBits, AreBits};
+ghost use Rattle.dsv_unroll.specs.Ready.{AreBits};
 
 use dsv_base::NoMemory;
 use dsv_term::{TermId, Terms};

@@ -8,16 +8,16 @@
 ghost use Rattle.dsv_word.specs.Words.{width, lo, hi};
 ghost use Rattle.std.specs.Prelude.{◌≡◌, ◌≤ℤ◌, ℤ, ℕ, List, length, replicate, IfOk};
 ghost use Rattle.dsv_netlist.specs.Conditions.{IsNetlist};
-ghost use Rattle.dsv_netlist.specs.Systems.{system_of};
 ghost use Rattle.dsv_system.specs.Breaks.{Breaks};
 ghost use Rattle.dsv_linear.specs.Facts.{AreFacts};
 ghost use Rattle.dsv_linear.specs.Known.{facts_of};
 ghost use Rattle.dsv_term.specs.declared.node.TermNode.TheVariants as TermNode;
 ghost use Rattle.dsv_term.specs.Building.{built_of, with_node};
-ghost use Rattle.dsv_term.specs.Terms.{AreValues, word_of};
-ghost use Rattle.dsv_unroll.specs.Goals.{no_terms, first_inputs, overflow_of};
-ghost use Rattle.dsv_unroll.specs.Ready.{HasBits};
+ghost use Rattle.dsv_term.specs.Terms.{AreValues, word_of, HasBits};
+ghost use Rattle.dsv_term.specs.TermsView.{no_terms};
+ghost use Rattle.dsv_unroll.specs.Goals.{first_inputs, overflow_of};
 ghost use Rattle.dsv_unroll.specs.Words.{spelled_words, Tells};
+ghost use Rattle.dsv_netlist.specs.Systems.{runs_of};
 
 use crate::facts::{KnownTests, fact_tests};
 use crate::inputs::{InputRange, input_terms};
@@ -129,7 +129,7 @@ pub fn overflow_goal(
         (λ goal. goal.terms.inputs ≡ replicate samples (width net.now.format)) }
     ensures exact { IfOk result (λ goal. (values : List ℕ) → AreValues goal.terms.inputs values
         → Tells (word_of goal.terms values goal.root)
-        (Breaks (List ℤ) (system_of net.now) low high (spelled_words net.now.format values))) }
+        (Breaks (runs_of net.now) low high (spelled_words net.now.format values))) }
 {
     let range = InputRange { low, high };
     let mut terms = Terms::new(alloc);

@@ -8,9 +8,9 @@
 ghost use Rattle.std.specs.Prelude.{◌≡◌, IfOk};
 ghost use Rattle.dsv_netlist.specs.Conditions.{IsNetlist};
 ghost use Rattle.dsv_unroll.specs.Goals.{run_from, run_tests};
-ghost use Rattle.dsv_term.specs.Terms.{KeepsTerms};
+ghost use Rattle.dsv_term.specs.Terms.{KeepsTerms, HasBits};
 ghost use Rattle.dsv_unroll.specs.Beside.{run_with};
-ghost use Rattle.dsv_unroll.specs.Ready.{AreRunReady, HasBits};
+ghost use Rattle.dsv_unroll.specs.Ready.{AreRunReady};
 
 use crate::fitting::TestedTerm;
 use crate::nodes::Sample;

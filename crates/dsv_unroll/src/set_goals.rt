@@ -11,13 +11,13 @@ ghost use Rattle.dsv_netlist.specs.Conditions.{IsNetlist};
 ghost use Rattle.dsv_template.specs.Candidates.{is_shaped};
 ghost use Rattle.dsv_term.specs.declared.node.TermNode.TheVariants as TermNode;
 ghost use Rattle.dsv_term.specs.Building.{built_of, with_node};
-ghost use Rattle.dsv_term.specs.Terms.{AreValues, word_of};
-ghost use Rattle.dsv_unroll.specs.Goals.{no_terms};
+ghost use Rattle.dsv_term.specs.Terms.{AreValues, word_of, HasBits};
+ghost use Rattle.dsv_term.specs.TermsView.{no_terms};
 ghost use Rattle.dsv_unroll.specs.SetGoals.{registers_of, set_start, states_of};
 ghost use Rattle.dsv_unroll.specs.SetGoals.{base_break, step_break};
 ghost use Rattle.dsv_unroll.specs.SetGoals.{safe_break, break_of, samples_of, set_inputs, set_of};
 ghost use Rattle.dsv_unroll.specs.Beside.{states_with, start_with};
-ghost use Rattle.dsv_unroll.specs.Ready.{HasBits, AreStatesReady, IsStartReady};
+ghost use Rattle.dsv_unroll.specs.Ready.{AreStatesReady, IsStartReady};
 ghost use Rattle.dsv_unroll.specs.Words.{spelled_words, Tells, BreaksPart};
 
 use crate::inputs::{InputRange, input_terms, start_inputs};

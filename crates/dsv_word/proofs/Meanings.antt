@@ -18,11 +18,12 @@ use Rattle.dsv_names.specs.declared.rounding.Rounding.{Rounding}
 use Rattle.dsv_names.specs.declared.rounding.Rounding.TheVariants as rounding
 use Rattle.dsv_names.specs.declared.overflow_mode.OverflowMode.{OverflowMode}
 use Rattle.dsv_names.specs.declared.overflow_mode.OverflowMode.TheVariants as overflow_mode
-use Rattle.dsv_word.specs.Words.{lo, hi, wrapped_word, saturated_word, IsWrapped, IsNearest, IsFitted}
+use Rattle.dsv_word.specs.Words.{lo, hi, wrapped_word, saturated_word, IsWrapped, IsNearest, IsFitted, IsWord, width}
 use Rattle.dsv_algebra.specs.Floor.{floor_of, IsFloor}
 use Rattle.dsv_word.specs.Quotients.{ceiling_of, whole_shift, rounded_quotient, word_of, IsCeiling, IsShifted, IsRounded}
 use Rattle.dsv_algebra.proofs.Floors.{floored_is}
 use Rattle.dsv_word.proofs.Floors.{parted, rest_within}
+use Rattle.dsv_word.specs.declared.format.Format.{Format}
 
 -- ---- rounding
 double_negative : (z : ℤ) → neg_ℤ (neg_ℤ z) ≡ z
@@ -81,7 +82,7 @@ pub rounded_meant : (r : Rounding) (f : ℕ) (q : Ratio) (o : Result ℤ TooWide
 rounded_meant r f q o p = within_word (rounded_quotient r) f q (IsRounded r (q.num *ℤ pos (2 ^ f)) q.den) o (rounded_is r (q.num *ℤ pos (2 ^ f)) q.den p)
 
 -- ---- wrapping
-halves : (n : ℕ) → 1 ≤ n → 2 ^ n ≡ 2 * 2 ^ (n - 1)
+pub halves : (n : ℕ) → 1 ≤ n → 2 ^ n ≡ 2 * 2 ^ (n - 1)
 halves zero h = absurd (omega arith)
 halves (suc n) h = let e : suc n - 1 ≡ n = omega arith in rw (pow-suc 2 n, e) (omega arith)
 
@@ -145,3 +146,7 @@ saturated_is n v = by_lt_z v (lo n)
 pub saturated_meant : (o : OverflowMode) (n m : ℕ) (v w a b : ℤ) → o ≡ overflow_mode.Saturate → m ≡ n → a ≡ lo m → b ≡ hi m
     → w ≡ (if int_lt v a then a else if int_lt b v then b else v) → IsFitted o n v w
 saturated_meant o n m v w a b e f x y g = rw (e, ← f, g, x, y) (saturated_is m v)
+
+-- ---- words
+pub zero_word : (f : Format) → IsWord f (pos 0)
+zero_word f = let p = pow_pos (width f - 1) in record { low = omega (arith, ints); high = omega (arith, ints) }

@@ -1,13 +1,11 @@
-use Rattle.std.proofs.Common.{List}
-use Rattle.std.proofs.Math.IntN.{ℤ}
 use Rattle.std.proofs.lemmas.Result.{IfOk-weaker}
-use Rattle.dsv_netlist.specs.Systems.{system_of}
 use Rattle.dsv_hints.specs.Searches.{IfNever}
 use Rattle.dsv_hints.specs.declared.search.Searched.{Searched}
 use Rattle.dsv_meaning.specs.declared.replays.Trace.{Trace}
 use Rattle.dsv_bounded.specs.Questions.{NoneHave, input_widths, DoBreak}
-use Rattle.dsv_bounded.specs.Verdicts.{BreaksWithinOf}
 use Rattle.dsv_bounded.proofs.Questions.{breaks_mean, never_as}
+use Rattle.dsv_netlist.specs.Systems.{runs_of}
+use Rattle.dsv_bounded.specs.Verdicts.{BreaksWithinBy}
 use Rattle.dsv_bounded.proofs.overflows.netlist_overflow.Goals as goal
 
 pub returns-clause-never : goal.returns-clause-never
@@ -17,6 +15,6 @@ returns-clause-never c =
     let samples = c.args.samples in
     let widths = input_widths net samples in
     let P = DoBreak net s.low s.high in
-    let W : Type 0 = BreaksWithinOf (List ℤ) (system_of net) s.low s.high samples in
+    let W : Type 0 = BreaksWithinBy (runs_of net) s.low s.high samples in
     IfOk-weaker c.answer.result (IfNever (λ log. NoneHave widths P)) (IfNever (λ log. W → ⊥))
     (λ (r : Searched Trace). never_as W widths P r (breaks_mean net s.low s.high samples s.low_word s.high_word)) c.answer.ensures.never

@@ -1,7 +1,7 @@
 use Rattle.std.proofs.Common.{◌≡◌, ◌+◌, length, [], ◌∷◌, ◌++◌, arith}
 use Rattle.std.proofs.lemmas.Grind.{common_steps}
 use Rattle.dsv_netlist.specs.Limits.{most_nodes, most_registers}
-use Rattle.dsv_unroll.proofs.NodeTerms.{names-at, reads-at}
+use Rattle.dsv_netlist.proofs.NodePlaces.{names-at, reads-at}
 use Rattle.dsv_cascade.specs.Netlists.{moved}
 use Rattle.dsv_cascade.proofs.JoinedNets.{names_more, reads_more}
 use Rattle.dsv_cascade.proofs.SeriesLists.{mapped_after}

@@ -10,7 +10,7 @@ pub returns-clause-near : goal.returns-clause-near
 returns-clause-near c =
     let q = c.args.quantised.now in
     let offer = c.args.offer.now in
-    let outlook = c.in_ok-overflow_gain in
+    let outlook = c.in_ok-controller_outlook in
     elim c.match-branch-2.branch [
       | in-Safe w ↦
           subst (λ (r : Result (Option ShownError) CheckRefusal). IfOk r (ShowsNear q offer)) (sym w.result-is)

@@ -1,8 +1,9 @@
 use Rattle.std.proofs.Common.{[], ◌∷◌, ◌++◌, decimal}
 use Rattle.dsv_base.proofs.TakingLemmas.{writes_after, writes_cut}
-use Rattle.dsv_certfile.specs.Texts.{literal_piece, list_pieces}
+use Rattle.dsv_certfile.specs.Texts.{list_pieces}
 use Rattle.dsv_certfile.proofs.LineTexts.{spaced, writes_as, lists-text}
 use Rattle.dsv_certfile.proofs.output.put_addition.Goals as goal
+use Rattle.dsv_cnf.specs.Texts.{literal_piece}
 
 pub returns-in_err-put_number-clause-text : goal.returns-in_err-put_number-clause-text
 returns-in_err-put_number-clause-text g c =

@@ -2,10 +2,10 @@ use Rattle.std.proofs.Common.{[], arith}
 use Rattle.dsv_base.specs.Text.{spaced_text}
 use Rattle.dsv_base.proofs.TakingLemmas.{writes_err}
 use Rattle.dsv_base.proofs.ListWrites.{wrote_item, cut_item}
-use Rattle.dsv_certfile.specs.Texts.{literal_piece}
 use Rattle.std.proofs.lemmas.List.Elements.{All-more}
 use Rattle.dsv_certfile.specs.Lawful.{IsLiteral}
 use Rattle.dsv_certfile.proofs.output.put_clause.Goals as goal
+use Rattle.dsv_cnf.specs.Texts.{literal_piece}
 
 pub returns-in_err-put_literal-clause-text : goal.returns-in_err-put_literal-clause-text
 returns-in_err-put_literal-clause-text g c =

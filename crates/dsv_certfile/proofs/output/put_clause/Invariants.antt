@@ -2,9 +2,9 @@ use Rattle.std.proofs.Common.{take}
 use Rattle.std.specs.List.{All, flat_map}
 use Rattle.dsv_base.specs.Taking.{Wrote}
 use Rattle.dsv_base.specs.Text.{spaced_text}
-use Rattle.dsv_certfile.specs.Texts.{literal_piece}
 use Rattle.dsv_certfile.specs.Lawful.{IsLiteral}
 use Rattle.dsv_certfile.proofs.output.put_clause.Given as goal
+use Rattle.dsv_cnf.specs.Texts.{literal_piece}
 
 abbrev pub invariant-loop-literal : goal.invariant-loop-literal
 invariant-loop-literal g l =

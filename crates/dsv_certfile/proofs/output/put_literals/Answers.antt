@@ -1,8 +1,8 @@
 use Rattle.std.proofs.Common.{codes}
 use Rattle.dsv_base.proofs.TakingLemmas.{writes_after, writes_cut}
-use Rattle.dsv_certfile.specs.Texts.{literal_piece}
 use Rattle.dsv_certfile.proofs.LineTexts.{writes_as, list-text}
 use Rattle.dsv_certfile.proofs.output.put_literals.Goals as goal
+use Rattle.dsv_cnf.specs.Texts.{literal_piece}
 
 pub returns-in_err-put_clause-clause-text : goal.returns-in_err-put_clause-clause-text
 returns-in_err-put_clause-clause-text g c =

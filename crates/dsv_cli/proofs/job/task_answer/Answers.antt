@@ -33,43 +33,43 @@ returns-in-WriteFormula-clause-forms g c =
     c.args.proposers.now.forms.items c.formula_answer.result c.formula_answer.ensures.plain
 
 pub returns-in-Search-clause-places : goal.returns-in-Search-clause-places
-returns-in-Search-clause-places g c = plain_places c.search_answer.result c.search_answer.ensures.plain
+returns-in-Search-clause-places g c = plain_places c.run_answer.result c.run_answer.ensures.plain
 
 pub returns-in-Search-clause-sets : goal.returns-in-Search-clause-sets
 returns-in-Search-clause-sets g c =
     sets_unasked (λ b. b.ptr) (λ b. (goal.InvariantProposer-dyn g (b.vtable, b.value)).last b.value) (λ b shape. (goal.InvariantProposer-dyn g (b.vtable, b.value)).to_come b.value shape)
-    (λ w. w ≡ c.args.quantised.now) c.args.proposers.now.sets.items c.search_answer.result c.search_answer.ensures.plain
+    (λ w. w ≡ c.args.quantised.now) c.args.proposers.now.sets.items c.run_answer.result c.run_answer.ensures.plain
 
 pub returns-in-Search-clause-forms : goal.returns-in-Search-clause-forms
 returns-in-Search-clause-forms g c =
     unasked (λ b. b.ptr) (λ b. (goal.FormProposer-dyn g (b.vtable, b.value)).last b.value) (λ b cs. (goal.FormProposer-dyn g (b.vtable, b.value)).sure b.value cs) (λ b cs. (goal.FormProposer-dyn g (b.vtable, b.value)).to_come b.value cs) (AsksSchurCohn (asked_task c.args.task.now))
-    c.args.proposers.now.forms.items c.search_answer.result c.search_answer.ensures.plain
+    c.args.proposers.now.forms.items c.run_answer.result c.run_answer.ensures.plain
 
 pub returns-in-Simulate-clause-places : goal.returns-in-Simulate-clause-places
-returns-in-Simulate-clause-places g c = plain_places c.simulation_answer.result c.simulation_answer.ensures.plain
+returns-in-Simulate-clause-places g c = plain_places c.run_answer-in-Simulate.result c.run_answer-in-Simulate.ensures.plain
 
 pub returns-in-Simulate-clause-sets : goal.returns-in-Simulate-clause-sets
 returns-in-Simulate-clause-sets g c =
     sets_unasked (λ b. b.ptr) (λ b. (goal.InvariantProposer-dyn g (b.vtable, b.value)).last b.value) (λ b shape. (goal.InvariantProposer-dyn g (b.vtable, b.value)).to_come b.value shape)
-    (λ w. w ≡ c.args.quantised.now) c.args.proposers.now.sets.items c.simulation_answer.result c.simulation_answer.ensures.plain
+    (λ w. w ≡ c.args.quantised.now) c.args.proposers.now.sets.items c.run_answer-in-Simulate.result c.run_answer-in-Simulate.ensures.plain
 
 pub returns-in-Simulate-clause-forms : goal.returns-in-Simulate-clause-forms
 returns-in-Simulate-clause-forms g c =
     unasked (λ b. b.ptr) (λ b. (goal.FormProposer-dyn g (b.vtable, b.value)).last b.value) (λ b cs. (goal.FormProposer-dyn g (b.vtable, b.value)).sure b.value cs) (λ b cs. (goal.FormProposer-dyn g (b.vtable, b.value)).to_come b.value cs) (AsksSchurCohn (asked_task c.args.task.now))
-    c.args.proposers.now.forms.items c.simulation_answer.result c.simulation_answer.ensures.plain
+    c.args.proposers.now.forms.items c.run_answer-in-Simulate.result c.run_answer-in-Simulate.ensures.plain
 
 pub returns-in-MeasureGain-clause-places : goal.returns-in-MeasureGain-clause-places
-returns-in-MeasureGain-clause-places g c = plain_places c.gain_answer.result c.gain_answer.ensures.plain
+returns-in-MeasureGain-clause-places g c = plain_places c.controller_gain_answer.result c.controller_gain_answer.ensures.plain
 
 pub returns-in-MeasureGain-clause-sets : goal.returns-in-MeasureGain-clause-sets
 returns-in-MeasureGain-clause-sets g c =
     sets_unasked (λ b. b.ptr) (λ b. (goal.InvariantProposer-dyn g (b.vtable, b.value)).last b.value) (λ b shape. (goal.InvariantProposer-dyn g (b.vtable, b.value)).to_come b.value shape)
-    (λ w. w ≡ c.args.quantised.now) c.args.proposers.now.sets.items c.gain_answer.result c.gain_answer.ensures.plain
+    (λ w. w ≡ c.args.quantised.now) c.args.proposers.now.sets.items c.controller_gain_answer.result c.controller_gain_answer.ensures.plain
 
 pub returns-in-MeasureGain-clause-forms : goal.returns-in-MeasureGain-clause-forms
 returns-in-MeasureGain-clause-forms g c =
     unasked (λ b. b.ptr) (λ b. (goal.FormProposer-dyn g (b.vtable, b.value)).last b.value) (λ b cs. (goal.FormProposer-dyn g (b.vtable, b.value)).sure b.value cs) (λ b cs. (goal.FormProposer-dyn g (b.vtable, b.value)).to_come b.value cs) (AsksSchurCohn (asked_task c.args.task.now))
-    c.args.proposers.now.forms.items c.gain_answer.result c.gain_answer.ensures.plain
+    c.args.proposers.now.forms.items c.controller_gain_answer.result c.controller_gain_answer.ensures.plain
 
 -- ---- properties of roots
 pub returns-in-Decide-clause-forms : goal.returns-in-Decide-clause-forms

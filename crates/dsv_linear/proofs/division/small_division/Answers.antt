@@ -4,13 +4,13 @@ use Rattle.std.proofs.Math.IntN.{pos, ◌*ℤ◌}
 use Rattle.dsv_algebra.specs.Floor.{floor_of}
 use Rattle.dsv_word.proofs.Powers.{power_small}
 use Rattle.dsv_netlist.specs.Nodes.{at}
+use Rattle.dsv_netlist.proofs.Scaling.{power_positive}
 use Rattle.dsv_linear.specs.declared.range.Range.{Range}
 use Rattle.dsv_linear.specs.Forms.{range, range_at}
 use Rattle.dsv_linear.specs.SmallNumbers.{IsSmall}
 use Rattle.dsv_linear.proofs.Passes.{other_default}
 use Rattle.dsv_linear.proofs.SmallSums.{entries_more, product_size, sum_room, sum_more, sum_same_on, times_same}
 use Rattle.dsv_linear.proofs.Divisions.{low_term, high_term, floor_none, rest_none, division_made}
-use Rattle.dsv_linear.proofs.Scales.{power_positive}
 use Rattle.dsv_linear.proofs.division.small_division.Goals as goal
 
 pub loop-j-preserved : goal.loop-j-preserved

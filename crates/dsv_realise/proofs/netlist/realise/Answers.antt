@@ -1,15 +1,13 @@
-use Rattle.std.proofs.Common.{List, ap, sym, subst, ◌∙◌}
-use Rattle.std.proofs.Math.IntN.{ℤ}
-use Rattle.dsv_system.specs.Systems.{RunAlike}
-use Rattle.dsv_meaning.specs.Equations.{Past}
+use Rattle.std.proofs.Common.{ap, sym, subst, ◌∙◌}
 use Rattle.dsv_meaning.specs.Systems.{equations_of}
 use Rattle.dsv_netlist.specs.Nodes.{Net}
-use Rattle.dsv_netlist.specs.Systems.{system_of}
 use Rattle.dsv_netlist.specs.Conditions.{IsNetlist}
 use Rattle.dsv_netlist.specs.Counts.{counts_of}
 use Rattle.dsv_realise.proofs.Runs.{runs_alike}
 use Rattle.dsv_realise.proofs.Conditions.{net_realised}
 use Rattle.dsv_realise.proofs.Whole.{net_made}
+use Rattle.dsv_system.specs.Systems.{behaviour_of, Agree}
+use Rattle.dsv_netlist.specs.Systems.{runs_of}
 use Rattle.dsv_realise.proofs.netlist.realise.Goals as goal
 
 pub unwrap-requires : goal.unwrap-requires
@@ -27,7 +25,7 @@ returns-clause-net c =
 
 pub returns-clause-runs : goal.returns-clause-runs
 returns-clause-runs c =
-    let P : Net → Type 0 = λ net. RunAlike (List ℤ) Past (system_of net) (equations_of c.args.quantised.now) in
+    let P : Net → Type 0 = λ net. Agree (runs_of net) (behaviour_of (equations_of c.args.quantised.now)) in
     subst P (sym (returns-clause-net c)) (runs_alike c.args.quantised.now c.order.ensures.quantised)
 
 pub returns-clause-counts : goal.returns-clause-counts

@@ -4,9 +4,9 @@ use Rattle.std.proofs.lemmas.Option.{slice_get-get_or}
 use Rattle.dsv_term.specs.declared.node.TermId.{TermId}
 use Rattle.dsv_term.specs.declared.node.TermNode.{TermNode}
 use Rattle.dsv_term.specs.declared.node.TermNode.TheVariants.{Input}
-use Rattle.dsv_term.specs.TermsView.{TermsView}
+use Rattle.dsv_term.specs.TermsView.{TermsView, no_terms}
 use Rattle.dsv_rewrite.specs.Ready.{IsReady}
-use Rattle.dsv_rewrite.specs.Rules.{term_of, rewritten_from, inputs_from, no_terms}
+use Rattle.dsv_rewrite.specs.Rules.{term_of, rewritten_from, inputs_from}
 use Rattle.dsv_rewrite.proofs.PassRules.{node_ready, pass_step}
 use Rattle.dsv_rewrite.proofs.Starts.{IsRewritten, first_terms, pass_start, pass_end}
 use Rattle.dsv_rewrite.proofs.rewriting.simplify.Goals as goal

@@ -1,14 +1,13 @@
-use Rattle.std.proofs.Common.{List, refl, ap, sym, subst, ◌∙◌}
-use Rattle.std.proofs.Math.IntN.{ℤ}
-use Rattle.dsv_system.specs.Systems.{RunAlike}
+use Rattle.std.proofs.Common.{refl, ap, sym, subst, ◌∙◌}
 use Rattle.dsv_netlist.specs.Nodes.{Net}
-use Rattle.dsv_netlist.specs.Systems.{system_of}
 use Rattle.dsv_netlist.specs.Conditions.{IsNetlist}
 use Rattle.dsv_netlist.specs.Counts.{counts_of}
 use Rattle.dsv_state_space.specs.Equations.{state_space_of}
 use Rattle.dsv_state_space.proofs.StateChains.{state_net_made}
 use Rattle.dsv_state_space.proofs.StateNets.{net_built}
 use Rattle.dsv_state_space.proofs.StateRuns.{runs_alike}
+use Rattle.dsv_system.specs.Systems.{behaviour_of, Agree}
+use Rattle.dsv_netlist.specs.Systems.{runs_of}
 use Rattle.dsv_state_space.proofs.netlist.state_net.Goals as goal
 
 pub unwrap-requires : goal.unwrap-requires
@@ -25,7 +24,7 @@ returns-clause-net c =
 
 pub returns-clause-runs : goal.returns-clause-runs
 returns-clause-runs c =
-    let P : Net → Type 0 = λ net. RunAlike (List ℤ) (List ℤ) (system_of net) (state_space_of c.args.system.now) in
+    let P : Net → Type 0 = λ net. Agree (runs_of net) (behaviour_of (state_space_of c.args.system.now)) in
     subst P (sym (returns-clause-net c)) (runs_alike c.args.system.now c.states.ensures.lawful)
 
 pub returns-clause-products : goal.returns-clause-products

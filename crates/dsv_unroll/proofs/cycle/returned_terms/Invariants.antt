@@ -1,9 +1,9 @@
 use Rattle.std.proofs.Common.{◌≡◌, drop}
 use Rattle.dsv_term.specs.Building.{built_of}
 use Rattle.dsv_term.specs.Growth.{AreSound}
-use Rattle.dsv_term.specs.Terms.{KeepsTerms}
+use Rattle.dsv_term.specs.Terms.{KeepsTerms, HasBits}
 use Rattle.dsv_unroll.specs.CycleGoals.{returned_from}
-use Rattle.dsv_unroll.specs.Ready.{HasBits, AreAllValues}
+use Rattle.dsv_unroll.specs.Ready.{AreAllValues}
 use Rattle.dsv_unroll.proofs.cycle.returned_terms.Given as goal
 
 abbrev pub invariant-loop-k : goal.invariant-loop-k

@@ -1,7 +1,8 @@
 use Rattle.std.proofs.Common.{◌≡◌, drop}
 use Rattle.dsv_term.specs.Building.{built_of}
+use Rattle.dsv_term.specs.Terms.{HasBits}
 use Rattle.dsv_unroll.specs.Goals.{conjunction_from}
-use Rattle.dsv_unroll.specs.Ready.{HasBits, AreBits}
+use Rattle.dsv_unroll.specs.Ready.{AreBits}
 use Rattle.dsv_unroll.proofs.lists.conjunction.Given as goal
 
 abbrev pub invariant-loop-test : goal.invariant-loop-test

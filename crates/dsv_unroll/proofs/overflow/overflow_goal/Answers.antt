@@ -1,9 +1,7 @@
 use Rattle.std.proofs.Common.{◌≡◌, ℕ, List, replicate, w64}
-use Rattle.std.proofs.Math.IntN.{ℤ}
 use Rattle.std.proofs.lemmas.Int.{to_z-of_z}
 use Rattle.dsv_word.specs.Words.{width}
 use Rattle.dsv_system.specs.Breaks.{Breaks}
-use Rattle.dsv_netlist.specs.Systems.{system_of}
 use Rattle.dsv_term.specs.declared.node.TermId.{TermId}
 use Rattle.dsv_term.specs.Building.{built_of}
 use Rattle.dsv_term.specs.Terms.{AreValues, word_of}
@@ -12,6 +10,7 @@ use Rattle.dsv_unroll.specs.Goals.{overflow_of}
 use Rattle.dsv_unroll.specs.Words.{spelled_words, Tells}
 use Rattle.dsv_unroll.proofs.Breaking.{made_tells, made_inputs}
 use Rattle.dsv_unroll.proofs.MadeGoals.{goal_made}
+use Rattle.dsv_netlist.specs.Systems.{runs_of}
 use Rattle.dsv_unroll.proofs.overflow.overflow_goal.Goals as goal
 
 pub returns-clause-made : goal.returns-clause-made
@@ -42,5 +41,5 @@ returns-clause-exact c =
     let built = rw (to_z-of_z w64 low c.ranges.low, to_z-of_z w64 high c.ranges.high) at e.built in
     let facts = rw (to_z-of_z w64 low c.ranges.low, to_z-of_z w64 high c.ranges.high) at e.facts in
     goal_made c.new.result (λ g. g.terms) (λ g. g.root)
-    (λ (u : TermsView) (id : TermId). (values : List ℕ) → AreValues u.inputs values → Tells (word_of u values id) (Breaks (List ℤ) (system_of net) low high (spelled_words net.format values))) t root
+    (λ (u : TermsView) (id : TermId). (values : List ℕ) → AreValues u.inputs values → Tells (word_of u values id) (Breaks (runs_of net) low high (spelled_words net.format values))) t root
     (λ values v. made_tells net low high c.args.samples t root values built e.netlist c.requires.low c.requires.high facts v) c.new.ensures.terms c.new.ensures.root

@@ -1,11 +1,11 @@
 use Rattle.std.proofs.Common.{◌≡◌, ◌∙◌, ◌++◌, ap, sym, subst, List}
 use Rattle.std.proofs.Math.IntN.{ℤ}
 use Rattle.dsv_word.specs.declared.format.Format.{Format}
-use Rattle.dsv_netlist.specs.Systems.{system_of}
 use Rattle.dsv_system.specs.Cycles.{Cycles}
 use Rattle.dsv_system.specs.Systems.{zeros}
 use Rattle.dsv_unroll.specs.Words.{cycle_start, spelled_words}
 use Rattle.dsv_bounded.proofs.CycleLemmas.{is_start}
+use Rattle.dsv_netlist.specs.Systems.{runs_of}
 use Rattle.dsv_bounded.proofs.cycles.CycleQuestionQuestion.replay.Goals as goal
 
 pub replayed_cycle-requires : goal.replayed_cycle-requires
@@ -17,4 +17,4 @@ replayed_cycle-requires c =
     let s : start ≡ cycle_start net values = c.in_ok-start.ensures ∙ (ap (λ (xs : List ℤ). xs ++ spelled_words c.format.result values) quiet
     ∙ ap (λ (f : Format). zeros net.feed_forward ++ spelled_words f values) c.format.ensures) in
     let given = c.requires.are in
-    is_start net start given.0 (subst (λ (xs : List ℤ). Cycles (List ℤ) (system_of net) xs given.0) (sym s) given.3)
+    is_start net start given.0 (subst (λ (xs : List ℤ). Cycles (runs_of net) xs given.0) (sym s) given.3)

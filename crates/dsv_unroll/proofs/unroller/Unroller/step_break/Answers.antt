@@ -1,7 +1,7 @@
 use Rattle.std.proofs.Common.{◌∙◌, sym, subst, arith}
 use Rattle.std.proofs.lemmas.List.{get_or_read}
 use Rattle.dsv_term.specs.declared.node.TermId.{TermId}
-use Rattle.dsv_unroll.specs.Ready.{HasBits}
+use Rattle.dsv_term.specs.Terms.{HasBits}
 use Rattle.dsv_unroll.proofs.unroller.Unroller.step_break.Goals as goal
 
 pub not-requires : goal.not-requires

@@ -1,0 +1,24 @@
+-- What a gain says of a subject's runs, of any length.
+use Rattle.std.specs.Prelude.{ℕ, List}
+use Rattle.dsv_gain.specs.Gains.{gain_of}
+use Rattle.dsv_gain.specs.Safe.{HoldsBy, NeverBy}
+use Rattle.dsv_gain.specs.declared.outlook.Outlook.{Outlook}
+use Rattle.dsv_linear.specs.declared.range.Range.{Range}
+use Rattle.dsv_realise.specs.SubjectView.{SubjectView}
+
+-- what so many samples show
+abbrev pub outlook_of : SubjectView → ℕ → Outlook
+outlook_of s limit = gain_of s.net s.low s.high limit
+
+-- in each run from registers of zeros, over inputs in range, of any length, each exact value of
+-- each sample lies in its range, whose ends are words
+abbrev pub HoldsAlways : SubjectView → List Range → Type 0
+HoldsAlways s ranges = HoldsBy s.runs s.low s.high ranges
+
+-- no list of inputs in range breaks it, however long
+abbrev pub NeverOverflows : SubjectView → Type 0
+NeverOverflows s = NeverBy s.runs s.low s.high
+
+-- the most inputs of a list that is tried
+abbrev pub most_driven : ℕ
+most_driven = 4096
