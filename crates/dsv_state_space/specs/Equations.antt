@@ -1,7 +1,6 @@
 -- The equations of a state-space controller in words: y = c x + d u, and then x' = A x + b u.
-use Rattle.std.specs.Prelude.{ℕ, ◌+◌, ◌*◌, ◌^◌, false, List, [], ◌∷◌, ℤ}
+use Rattle.std.specs.Prelude.{ℕ, ◌+◌, ◌*◌, false, List, [], ◌∷◌, ℤ}
 use Rattle.dsv_word.specs.declared.format.Format.{Format}
-use Rattle.dsv_word.specs.Words.{width}
 use Rattle.dsv_meaning.specs.declared.summands.Summand.{Summand}
 use Rattle.dsv_meaning.specs.declared.summands.Summand.TheVariants.{Times}
 use Rattle.dsv_meaning.specs.Equations.{ago, Chain, no_words, chain_with}
@@ -45,7 +44,3 @@ state_space_of s = record {
 -- how many products a sample takes
 abbrev pub state_products : StateView → ℕ
 state_products s = (states s + 1) * (states s + 1)
-
--- how great a job over so many samples is: samples times products times the square of a word's bits
-abbrev pub state_job_size_of : StateView → ℕ → ℕ
-state_job_size_of s samples = samples * state_products s * width s.format ^ 2
