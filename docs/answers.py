@@ -1,13 +1,13 @@
 #!/usr/bin/env python3
-"""Writes docs/ANSWERS.md: every answer of the command, with an example from the stored runs of the examples.
+"""Writes docs/ANSWERS.md: every answer of the command, with an example from the stored cases.
 
     python3 docs/answers.py            writes docs/ANSWERS.md
     python3 docs/answers.py --check    fails where the page is another
 
 The kinds of answers stand in the tables below: of each its status, a pattern of its text, what it means, what to do, and the
-case of crates/dsv_examples/data/cases.txt that is its example, whose text is taken from crates/dsv_examples/stdout. The script
-fails where a case has another status than its kind, where the text of a case has no kind or several, and where a kind is said
-to have no example and a case has its text. Run it at the top of the repository."""
+case of cases/cases.txt that is its example, whose text is taken from cases/answers.txt. The script fails where a case has
+another status than its kind, where the text of a case has no kind or several, and where a kind is said to have no example and a
+case has its text. Run it at the top of the repository."""
 import os
 import re
 import sys
@@ -15,10 +15,10 @@ import textwrap
 from collections import namedtuple
 
 PAGE = "docs/ANSWERS.md"
-CASES = "crates/dsv_examples/data/cases.txt"
-STORED = "crates/dsv_examples/stdout"
+CASES = "cases/cases.txt"
+STORED = "cases/answers.txt"
 
-# `case` is None where the examples have none, and `why` says so.
+# `case` is None where the stored cases have none, and `why` says so.
 Kind = namedtuple("Kind", "title status pattern means next case why", defaults=(None,))
 
 S, F, I = "VERIFICATION SUCCESSFUL", "VERIFICATION FAILED", "VERIFICATION INCONCLUSIVE"
@@ -388,7 +388,7 @@ ELLIPSOIDS = [
 HEAD = """\
 # What the command answers
 
-Every answer, with an example from the stored runs of `crates/dsv_examples`, where one stands there. docs/answers.py writes this
+Every answer, with an example from the stored runs of `cases/`, where one stands there. docs/answers.py writes this
 page. Numbers of inputs, outputs, registers and exact values are words: w stands for w / 2^frac_bits. The program writes
 nothing to standard error; the launcher `./dsv` says there what it does as long as the program isn't proved and built, and
 what helps after a refusal.
@@ -447,9 +447,9 @@ def faults_of(runs, kinds):
 
 
 def place_of(argument):
-    """Where a file of the examples stands in the repository."""
+    """Where a file of a case stands in the repository."""
     place = f"examples/{argument}"
-    return place if os.path.exists(place) else f"crates/dsv_examples/data/{argument}"
+    return place if os.path.exists(place) else f"cases/files/{argument}"
 
 
 def command_of(case):

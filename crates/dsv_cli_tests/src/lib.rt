@@ -1,6 +1,6 @@
 //! Tests of the command's calls over files and sinks in memory, and of the real files and output.
-//! What the command answers to arguments and files stands in `dsv_examples`, which runs it on a
-//! list of cases.
+//! What the command answers to arguments and files stands in `cases/answers.txt`, with which
+//! `.ci/cases` compares what the program writes.
 #![tactic(auto)]
 
 #[cfg(test)]

@@ -1,6 +1,6 @@
 //! Tests of the crates of forms, by their public calls: closed forms, sums of steps, Schur-Cohn
 //! forms, Jury's recursion and offers that are refused. The tested polynomial is tested by the
-//! cases of `dsv_examples`.
+//! stored cases.
 #![tactic(auto)]
 
 #[cfg(test)]
