@@ -76,12 +76,6 @@ pub IsOver-push : (n : ℕ) (ls : List Literal) (l : Literal) → IsOver n ls �
 IsOver-push n [] l h v = All-cons (λ (m : Literal). m.var < n) l [] v (All-nil (λ (m : Literal). m.var < n))
 IsOver-push n (m ∷ ms) l h v = let P : Literal → Type 0 = λ q. q.var < n in All-cons P m (ms ++ l ∷ []) (All-head P m ms h) (IsOver-push n ms l (All-tail P m ms h) v)
 
-pub IsOver-pop : (n : ℕ) (ls : List Literal) (l : Literal) → IsOver n (ls ++ l ∷ []) → IsOver n ls × (l.var < n)
-IsOver-pop n [] l h = let P : Literal → Type 0 = λ q. q.var < n in (All-nil P, All-head P l [] h)
-IsOver-pop n (m ∷ ms) l h =
-    let P : Literal → Type 0 = λ q. q.var < n in
-    let r = IsOver-pop n ms l (All-tail P m (ms ++ l ∷ []) h) in (All-cons P m ms (All-head P m (ms ++ l ∷ []) h) r.0, r.1)
-
 -- ---- values
 
 -- a clause with a true literal is true

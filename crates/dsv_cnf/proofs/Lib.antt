@@ -15,5 +15,6 @@ pub mod PiecePlaces
 pub mod PieceTexts
 pub mod ReadingLemmas
 pub mod RoundTrip
+pub mod SetLemmas
 pub mod Spacing
 pub mod TextLaws

@@ -2,7 +2,7 @@
 use Rattle.std.proofs.Common.{◌≡◌, ℕ, ◌+◌, ◌*◌, ◌<◌, Bool, true, false, not, ◌||◌, ◌==◌, ◌⊎◌, cond, refl, arith, ap, sym, ◌∙◌, inl, inr}
 use Rattle.std.proofs.lemmas.Bool.{eqb-true, eq-eqb}
 use Rattle.dsv_cnf.specs.Literal.{Literal, literal_eq, literal_value, bool_eq, code_of, negation}
-use Rattle.dsv_cnf.specs.LiteralCode.{literal_of, code-literal_of, literal-code_of}
+use Rattle.dsv_cnf.specs.LiteralCode.{literal_of, literal-code_of}
 use Rattle.dsv_algebra.proofs.Booleans.{and_left, and_right, not_true}
 
 pub or_cases : (a b : Bool) → (a || b) ≡ true → (a ≡ true) ⊎ (b ≡ true)
@@ -56,7 +56,3 @@ value-negation v l h = not_value v l.var l.positive h
 
 pub negation-twice : (l : Literal) → negation (negation l) ≡ l
 negation-twice l = elim l.positive as (λ b. negation (negation (record { var = l.var; positive = b })) ≡ record { var = l.var; positive = b }) [ true ↦ refl | false ↦ refl ]
-
--- a literal is the one of a number where it has that number
-pub eq-literal_of : (l : Literal) (k : ℕ) → literal_eq l (literal_of k) ≡ (code_of l == k)
-eq-literal_of l k = literal_eq-code l (literal_of k) ∙ ap (λ n. code_of l == n) (code-literal_of k)

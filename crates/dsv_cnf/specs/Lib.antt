@@ -5,9 +5,11 @@ pub mod FormulaView
 pub mod LitInside
 pub mod Literal
 pub mod LiteralCode
+pub mod LiteralSet
 pub mod Pieces
 pub mod Reading
 pub mod ReadingInside
 pub mod ReadingView
+pub mod SetInside
 pub mod TextFaults
 pub mod Texts

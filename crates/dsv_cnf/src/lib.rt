@@ -1,5 +1,5 @@
-//! Formulas in conjunctive normal form: literals, clauses in one list, truth assignments, and the
-//! DIMACS text.
+//! Formulas in conjunctive normal form: literals, sets of literals, clauses in one list, truth
+//! assignments, and the DIMACS text.
 #![tactic(auto)]
 
 mod assignment;
@@ -7,6 +7,7 @@ mod dimacs;
 mod formula;
 mod law;
 mod literal;
+mod literal_set;
 mod reader;
 
 pub use assignment::{Assignment, holds};
@@ -14,4 +15,5 @@ pub use dimacs::write_dimacs;
 pub use formula::Formula;
 pub use law::texts_are_read;
 pub use literal::Lit;
+pub use literal_set::LiteralSet;
 pub use reader::{CnfRefusal, read_dimacs};

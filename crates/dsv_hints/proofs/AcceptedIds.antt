@@ -5,7 +5,9 @@ use Rattle.std.proofs.lemmas.Bool.Decides.{nat_tests}
 use Rattle.std.proofs.lemmas.List.Elements.{All-nil, All-cons, All-head, All-tail, All-push}
 use Rattle.dsv_cnf.specs.Literal.{Literal, negation}
 use Rattle.dsv_cnf.specs.FormulaView.{FormulaView}
-use Rattle.dsv_hints.specs.LiteralSet.{none, with, with_all, outside, is_over, is_tautology}
+use Rattle.dsv_cnf.specs.LiteralSet.{none, with}
+use Rattle.dsv_cnf.proofs.SetLemmas.{eqb-other}
+use Rattle.dsv_hints.specs.Clauses.{with_all, outside, is_over, is_tautology}
 use Rattle.dsv_hints.specs.Derivation.{Entry, Carried, live_clause, is_after, move_of, after_move, after_clause, hints_answer, refused_if, step_answer, after, entries_from, last_of, start_of, verdict_by, verdict_from, verdict_of}
 use Rattle.dsv_hints.specs.Lessons.{AllSteps, IsAddition}
 use Rattle.dsv_hints.specs.declared.hints.Move.{Move}
@@ -16,7 +18,6 @@ use Rattle.dsv_hints.specs.declared.step.StepRefusal.{StepRefusal}
 use Rattle.dsv_hints.specs.declared.step.StepRefusal.TheVariants.{NotEmpty, IdOrder, Tautology, Literal as OtherVariable}
 use Rattle.dsv_hints.specs.declared.step.Verdict.{Verdict}
 use Rattle.dsv_hints.specs.declared.step.Verdict.TheVariants.{Accepted}
-use Rattle.dsv_hints.proofs.SetLemmas.{eqb-other}
 use Rattle.dsv_hints.proofs.Soundness.{passed}
 
 abbrev pub IsPositive : ℕ → Type 0

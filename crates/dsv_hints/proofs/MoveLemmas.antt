@@ -2,21 +2,14 @@
 use Rattle.std.proofs.Common.{◌≡◌, ◌≢◌, Bool, true, false, ◌&&◌, List, [], ◌∷◌, cond, refl, ap, sym, ◌∙◌, inl, inr, ◌⊎◌}
 use Rattle.dsv_cnf.specs.Literal.{Literal, literal_eq, negation}
 use Rattle.dsv_cnf.specs.Formula.{contains}
-use Rattle.dsv_cnf.proofs.LiteralLemmas.{or_cases, literal_eq-same, same_literal}
-use Rattle.dsv_cnf.proofs.ClauseLemmas.{or_true, no_both, contains-head, contains-tail, contains-cases}
-use Rattle.dsv_hints.specs.LiteralSet.{with, with_all, outside, only}
+use Rattle.dsv_cnf.specs.LiteralSet.{with}
+use Rattle.dsv_cnf.proofs.LiteralLemmas.{literal_eq-same, same_literal}
+use Rattle.dsv_cnf.proofs.ClauseLemmas.{no_both, contains-head, contains-tail, contains-cases}
+use Rattle.dsv_cnf.proofs.SetLemmas.{with-head, with-tail, with-cases}
+use Rattle.dsv_hints.specs.Clauses.{with_all, outside, only}
 use Rattle.dsv_hints.specs.declared.hints.Move.TheVariants.{Ends, Makes, Stuck}
 use Rattle.dsv_hints.specs.Derivation.{move_of}
 use Rattle.dsv_algebra.proofs.Booleans.{and_left, and_right}
-
-pub with-head : (l : Literal) (A : Literal → Bool) → with l A l ≡ true
-with-head l A = or_true _ _ (inl (literal_eq-same l))
-
-pub with-tail : (l : Literal) (A : Literal → Bool) (q : Literal) → A q ≡ true → with l A q ≡ true
-with-tail l A q h = or_true (literal_eq l q) (A q) (inr h)
-
-pub with-cases : (l : Literal) (A : Literal → Bool) (q : Literal) → with l A q ≡ true → (q ≡ l) ⊎ (A q ≡ true)
-with-cases l A q h = elim (or_cases (literal_eq l q) (A q) h) [ inl p ↦ inl (sym (same_literal l q p)) | inr r ↦ inr r ]
 
 pub with_all-cases : (c : List Literal) (A : Literal → Bool) (q : Literal) → with_all c A q ≡ true → (contains c q ≡ true) ⊎ (A q ≡ true)
 with_all-cases [] A q h = inr h

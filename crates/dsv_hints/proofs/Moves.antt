@@ -1,7 +1,7 @@
 -- What a clause does, where part of it was read.
 use Rattle.std.proofs.Common.{Bool, Option, Some, None, List, ◌∷◌}
 use Rattle.dsv_cnf.specs.Literal.{Literal}
-use Rattle.dsv_hints.specs.LiteralSet.{outside}
+use Rattle.dsv_hints.specs.Clauses.{outside}
 use Rattle.dsv_hints.specs.declared.hints.Move.{Move}
 use Rattle.dsv_hints.specs.Derivation.{move_of}
 

@@ -10,10 +10,10 @@ use Rattle.std.proofs.lemmas.Bool.{cases_lt, eq-eqb}
 use Rattle.std.proofs.lemmas.Bool.Decides.{nat_tests}
 use Rattle.dsv_cnf.specs.Literal.{Literal}
 use Rattle.dsv_cnf.proofs.PieceLemmas.{range-append, range-last}
+use Rattle.dsv_cnf.proofs.SetLemmas.{eqb-other}
 use Rattle.dsv_hints.specs.Derivation.{Entry, live_clause, without}
 use Rattle.dsv_hints.specs.Slots.{is_kept, entry_of, live_of, IsRising, HasId, AllOther, IsWithin}
 use Rattle.dsv_hints.specs.declared.store.Slot.{Slot}
-use Rattle.dsv_hints.proofs.SetLemmas.{eqb-other}
 
 rising-tail : (s : Slot) (ss : List Slot) → IsRising (s ∷ ss) → IsRising ss
 rising-tail s ss p = λ i j d lt h. p (suc i) (suc j) d (omega arith) (omega arith)

@@ -4,7 +4,8 @@ use Rattle.dsv_cnf.specs.Literal.{Literal, literal_eq, negation, literal_value}
 use Rattle.dsv_cnf.specs.Formula.{clause_value, Satisfies}
 use Rattle.dsv_cnf.specs.FormulaView.{FormulaView}
 use Rattle.dsv_cnf.proofs.LiteralLemmas.{or_cases, same_literal, literal_eq-same, value-negation}
-use Rattle.dsv_hints.specs.LiteralSet.{none, with, with_all, outside, only, is_over, is_tautology}
+use Rattle.dsv_cnf.specs.LiteralSet.{none, with}
+use Rattle.dsv_hints.specs.Clauses.{with_all, outside, only, is_over, is_tautology}
 use Rattle.dsv_hints.specs.Derivation.{Entry, Carried, live_clause, without, without_all, is_after, move_of, after_move, after_clause, hints_answer, refused_if, is_empty, entries_from, start_of}
 use Rattle.dsv_hints.specs.Follows.{clauses_of, Follows}
 use Rattle.dsv_hints.specs.Taken.{clause_answer_of, after_add, after_delete}

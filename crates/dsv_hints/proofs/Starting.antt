@@ -2,9 +2,9 @@
 use Rattle.std.proofs.Common.{◌≡◌, ℕ, ◌+◌, ◌-◌, List, [], ◌∷◌, ◌++◌, Some, zero, suc, arith, refl, ap, sym, ◌∙◌, length, drop, slice_get, append_assoc, add-one, max, ◌==◌, false}
 use Rattle.dsv_cnf.specs.Literal.{Literal}
 use Rattle.dsv_cnf.specs.FormulaView.{FormulaView}
+use Rattle.dsv_cnf.proofs.SetLemmas.{eqb-other}
 use Rattle.dsv_hints.specs.Derivation.{Entry, entries_from, last_of}
 use Rattle.dsv_hints.specs.StoreView.{StoreView}
-use Rattle.dsv_hints.proofs.SetLemmas.{eqb-other}
 
 -- The first i clauses are stored, and there is no room for more.
 pub record IsStored (f : FormulaView) (i : ℕ) (s : StoreView) : Type 0 where

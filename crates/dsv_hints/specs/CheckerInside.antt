@@ -1,6 +1,6 @@
 -- How a checker is kept: its set of literals is empty between steps.
 use Rattle.std.specs.Prelude.{◌≡◌}
-use Rattle.dsv_hints.specs.LiteralSet.{empty_set}
+use Rattle.dsv_cnf.specs.LiteralSet.{empty_set}
 use Rattle.dsv_hints.specs.CheckerView.{CheckerView}
 use Rattle.dsv_hints.specs.declared.checker.Checker.TheInside.{Inside}
 

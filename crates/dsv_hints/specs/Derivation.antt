@@ -5,7 +5,8 @@ use Rattle.std.specs.Prelude.{None, Result, Ok, Err, is_some, ◌==◌, length}
 use Rattle.std.specs.List.{filter}
 use Rattle.dsv_cnf.specs.Literal.{Literal, negation}
 use Rattle.dsv_cnf.specs.FormulaView.{FormulaView}
-use Rattle.dsv_hints.specs.LiteralSet.{none, with, with_all, outside, only, is_tautology, is_over}
+use Rattle.dsv_cnf.specs.LiteralSet.{none, with}
+use Rattle.dsv_hints.specs.Clauses.{with_all, outside, only, is_tautology, is_over}
 use Rattle.dsv_hints.specs.declared.step.Step.{Step}
 use Rattle.dsv_hints.specs.declared.step.Step.TheVariants.{Add, Delete}
 use Rattle.dsv_hints.specs.declared.step.StepRefusal.{StepRefusal}

@@ -1,7 +1,7 @@
 -- The logs that a clause-learning solver writes.
 use Rattle.std.specs.Prelude.{◌≡◌, ℕ, ◌+◌, ◌≤◌, false, List, [], ◌∷◌, length, Ok}
 use Rattle.dsv_cnf.specs.FormulaView.{FormulaView}
-use Rattle.dsv_hints.specs.LiteralSet.{none}
+use Rattle.dsv_cnf.specs.LiteralSet.{none}
 use Rattle.dsv_hints.specs.Derivation.{Carried, Entry, step_answer, after, start_of}
 use Rattle.dsv_hints.specs.Derivation.{hints_answer, is_empty, verdict_of}
 use Rattle.dsv_hints.specs.Local.{IsLocal, IsNoSuperset}

@@ -1,13 +1,12 @@
 pub mod CheckerInside
 pub mod CheckerView
+pub mod Clauses
 pub mod Derivation
 pub mod Follows
 pub mod Lessons
-pub mod LiteralSet
 pub mod Local
 pub mod MoveOver
 pub mod Searches
-pub mod SetInside
 pub mod Slots
 pub mod StoreInside
 pub mod StoreView

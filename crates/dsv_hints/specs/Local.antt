@@ -5,7 +5,8 @@ use Rattle.std.specs.Prelude.{◌&&◌, List, [], ◌∷◌, Option}
 use Rattle.std.specs.Prelude.{Some, None}
 use Rattle.dsv_cnf.specs.Literal.{Literal, negation}
 use Rattle.dsv_cnf.specs.Formula.{contains}
-use Rattle.dsv_hints.specs.LiteralSet.{none, with, with_all, outside}
+use Rattle.dsv_cnf.specs.LiteralSet.{none, with}
+use Rattle.dsv_hints.specs.Clauses.{with_all, outside}
 use Rattle.dsv_hints.specs.Derivation.{Entry, live_clause, move_of}
 use Rattle.dsv_hints.specs.declared.hints.Move.{Move}
 use Rattle.dsv_hints.specs.declared.hints.Move.TheVariants.{Ends, Makes, Stuck}

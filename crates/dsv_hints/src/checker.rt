@@ -10,11 +10,10 @@ ghost use Rattle.dsv_hints.specs.Taken.{after_add, after_delete, clause_answer_o
 ghost use Rattle.dsv_hints.specs.Taken.{delete_answer_of, start_store};
 
 use crate::hints::test_clause;
-use crate::literal_set::LiteralSet;
 use crate::step::{Log, Step, StepRefusal, Verdict};
 use crate::store::Store;
 use dsv_base::NoMemory;
-use dsv_cnf::{Formula, Lit};
+use dsv_cnf::{Formula, Lit, LiteralSet};
 use std::alloc::Global;
 use std::marker::Model;
 

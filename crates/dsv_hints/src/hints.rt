@@ -1,15 +1,14 @@
 // Hints: one clause after another makes one more literal true, up to a clause that is false.
 ghost use Rattle.std.specs.Prelude.{◌≡◌, ◌<◌, OnOk};
 ghost use Rattle.dsv_cnf.specs.Formula.{IsOver};
+ghost use Rattle.dsv_cnf.specs.LiteralSet.{none, set_of};
+ghost use Rattle.dsv_hints.specs.Clauses.{has_negation, is_over, outside, with_all};
 ghost use Rattle.dsv_hints.specs.Derivation.{clause_answer, hints_answer, move_of};
-ghost use Rattle.dsv_hints.specs.LiteralSet.{has_negation, is_over, none};
-ghost use Rattle.dsv_hints.specs.LiteralSet.{outside, set_of, with_all};
 ghost use Rattle.dsv_hints.specs.MoveOver.{IsMoveOver};
 
-use crate::literal_set::LiteralSet;
 use crate::step::StepRefusal;
 use crate::store::Store;
-use dsv_cnf::Lit;
+use dsv_cnf::{Lit, LiteralSet};
 
 /// What a hinted clause does, where some literals are false.
 #[derive(Clone, Copy)]

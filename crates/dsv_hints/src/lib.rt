@@ -4,7 +4,6 @@
 
 mod checker;
 mod hints;
-mod literal_set;
 mod search;
 mod step;
 mod store;

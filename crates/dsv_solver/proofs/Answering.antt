@@ -5,7 +5,7 @@ use Rattle.std.specs.Prelude.{slice_index_or}
 use Rattle.dsv_cnf.specs.Literal.{Literal, negation, literal_value}
 use Rattle.dsv_cnf.specs.Formula.{AreOver, IsModel, Satisfies, assignment_of}
 use Rattle.dsv_cnf.specs.FormulaView.{FormulaView}
-use Rattle.dsv_hints.specs.LiteralSet.{none}
+use Rattle.dsv_cnf.specs.LiteralSet.{none}
 use Rattle.dsv_hints.specs.declared.step.Step.{Step}
 use Rattle.dsv_hints.specs.declared.step.Step.TheVariants.{Add}
 use Rattle.dsv_hints.specs.Derivation.{Carried, hints_answer, start_of}

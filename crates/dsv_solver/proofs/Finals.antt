@@ -2,7 +2,8 @@ use Rattle.std.proofs.Common.{◌≡◌, ℕ, ◌+◌, Bool, true, false, cond, 
 use Rattle.dsv_cnf.specs.Literal.{Literal}
 use Rattle.dsv_cnf.specs.FormulaView.{FormulaView}
 use Rattle.dsv_hints.specs.Derivation.{live_clause, entries_from, hints_answer}
-use Rattle.dsv_hints.specs.LiteralSet.{none, is_tautology}
+use Rattle.dsv_cnf.specs.LiteralSet.{none}
+use Rattle.dsv_hints.specs.Clauses.{is_tautology}
 use Rattle.dsv_hints.specs.Follows.{clauses_of}
 use Rattle.dsv_solver.proofs.LogSteps.{plain}
 use Rattle.dsv_trail.specs.TrailView.{TrailView}

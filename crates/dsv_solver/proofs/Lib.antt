@@ -5,7 +5,6 @@ pub mod Empty
 pub mod Ends
 pub mod Finals
 pub mod Levels
-pub mod Literals
 pub mod Loads
 pub mod LogSteps
 pub mod Marking

@@ -6,12 +6,13 @@ use Rattle.std.proofs.lemmas.Bool.Decides.{nat_tests}
 use Rattle.dsv_cnf.specs.Literal.{Literal, negation}
 use Rattle.dsv_cnf.specs.Formula.{IsOver, contains}
 use Rattle.dsv_cnf.specs.FormulaView.{FormulaView}
-use Rattle.dsv_hints.specs.LiteralSet.{none, with_all, is_tautology, has_negation, is_over}
+use Rattle.dsv_cnf.specs.LiteralSet.{none}
+use Rattle.dsv_hints.specs.Clauses.{with_all, is_tautology, has_negation, is_over}
 use Rattle.dsv_hints.specs.declared.step.Step.{Step}
 use Rattle.dsv_hints.specs.declared.step.Step.TheVariants.{Add}
 use Rattle.dsv_hints.specs.declared.step.Verdict.TheVariants.{Accepted}
 use Rattle.dsv_hints.specs.Derivation.{step_answer, after, start_of, entries_from, last_of, is_after, is_empty, hints_answer, verdict_of}
-use Rattle.dsv_hints.proofs.SetLemmas.{eqb-other}
+use Rattle.dsv_cnf.proofs.SetLemmas.{eqb-other}
 use Rattle.dsv_cnf.proofs.LiteralLemmas.{or_cases}
 use Rattle.dsv_hints.specs.Local.{IsLocal, IsNoSuperset}
 use Rattle.dsv_solver.specs.Logged.{carried_of, IsLogged}

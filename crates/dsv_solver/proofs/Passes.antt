@@ -1,6 +1,7 @@
 use Rattle.std.proofs.Common.{◌≡◌, ℕ, Bool, true, false, not, ◌&&◌, List, [], ◌∷◌, Option, Some, None, Result, Ok, cond, refl, ap, sym, ◌∙◌, inl, inr, ◌⊎◌}
 use Rattle.dsv_cnf.specs.Literal.{Literal, negation}
-use Rattle.dsv_hints.specs.LiteralSet.{none, with, with_all, outside, only}
+use Rattle.dsv_cnf.specs.LiteralSet.{none, with}
+use Rattle.dsv_hints.specs.Clauses.{with_all, outside, only}
 use Rattle.dsv_hints.specs.declared.hints.Move.{Move}
 use Rattle.dsv_hints.specs.declared.hints.Move.TheVariants.{Ends, Makes, Stuck}
 use Rattle.dsv_hints.specs.declared.step.StepRefusal.{StepRefusal}
@@ -11,7 +12,8 @@ use Rattle.dsv_solver.specs.Walking.{Between, Passes, LearnedAt}
 use Rattle.dsv_cnf.specs.Formula.{contains}
 use Rattle.dsv_solver.specs.Fine.{HasTwo, IsFine, AreFine}
 use Rattle.dsv_cnf.proofs.ClauseLemmas.{contains-cases, not_true, no_both}
-use Rattle.dsv_hints.proofs.MoveLemmas.{with-head, with-tail, with-cases, with_all-cases, move-makes, move-stuck, member-outside, only-same}
+use Rattle.dsv_cnf.proofs.SetLemmas.{with-head, with-tail, with-cases}
+use Rattle.dsv_hints.proofs.MoveLemmas.{with_all-cases, move-makes, move-stuck, member-outside, only-same}
 use Rattle.dsv_solver.proofs.Resolution.{IsMore}
 use Rattle.dsv_algebra.proofs.Booleans.{and_left, and_right}
 

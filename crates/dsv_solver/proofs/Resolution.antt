@@ -1,13 +1,15 @@
 use Rattle.std.proofs.Common.{◌≡◌, ℕ, Bool, true, false, List, [], ◌∷◌, Some, refl, inl, inr, ◌⊎◌, Ok}
 use Rattle.dsv_cnf.specs.Literal.{Literal, negation}
-use Rattle.dsv_hints.specs.LiteralSet.{with, outside}
+use Rattle.dsv_cnf.specs.LiteralSet.{with}
+use Rattle.dsv_hints.specs.Clauses.{outside}
 use Rattle.dsv_hints.specs.declared.hints.Move.TheVariants.{Makes}
 use Rattle.dsv_hints.specs.Derivation.{Entry, live_clause, move_of, hints_answer}
 use Rattle.dsv_hints.specs.Local.{hinted_contains, AreHinted, AreUsedLater}
 use Rattle.dsv_solver.specs.Walking.{Starts, Derives, Met}
 use Rattle.dsv_cnf.specs.Formula.{contains}
 use Rattle.dsv_cnf.proofs.ClauseLemmas.{contains-head, contains-tail, not_true, no_both, or_true}
-use Rattle.dsv_hints.proofs.MoveLemmas.{with-head, with-tail, with-cases, move-makes, move-ends}
+use Rattle.dsv_cnf.proofs.SetLemmas.{with-head, with-tail, with-cases}
+use Rattle.dsv_hints.proofs.MoveLemmas.{move-makes, move-ends}
 
 pub record IsMore (M N : Literal → Bool) : Type 0 where
   pub more : (q : Literal) → M q ≡ true → N q ≡ true

@@ -12,7 +12,7 @@ use Rattle.dsv_hints.specs.declared.step.Step.{Step}
 use Rattle.dsv_hints.specs.declared.step.Step.TheVariants.{Add}
 use Rattle.dsv_solver.proofs.Finals.{lesson-plain, lesson-new}
 use Rattle.dsv_cnf.specs.Formula.{Satisfies, IsOver, AreOver, contains}
-use Rattle.dsv_hints.specs.LiteralSet.{none}
+use Rattle.dsv_cnf.specs.LiteralSet.{none}
 use Rattle.dsv_hints.specs.Derivation.{hints_answer}
 use Rattle.dsv_solver.specs.Fine.{IsFine, AreFine}
 use Rattle.dsv_trail.specs.TrailView.{TrailView}

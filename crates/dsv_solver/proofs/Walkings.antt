@@ -1,6 +1,6 @@
 use Rattle.std.proofs.Common.{◌≡◌, ℕ, ◌+◌, ◌<◌, ◌≤◌, true, false, List, [], ◌∷◌, refl, arith, ap, sym, ◌∙◌, inl, inr, length, take, slice_get, Some, zero, suc, eqb}
 use Rattle.std.proofs.lemmas.Option.{slice_get_within}
-use Rattle.dsv_hints.proofs.SetLemmas.{eqb-other}
+use Rattle.dsv_cnf.proofs.SetLemmas.{eqb-other}
 use Rattle.std.proofs.lemmas.Bool.{eq-eqb, cases_eq, cases_lt}
 use Rattle.dsv_cnf.specs.Literal.{Literal, negation}
 use Rattle.dsv_cnf.specs.FormulaView.{FormulaView}

@@ -7,7 +7,8 @@ use Rattle.dsv_cnf.specs.Formula.{IsOver}
 use Rattle.dsv_cnf.specs.FormulaView.{FormulaView}
 use Rattle.dsv_trail.specs.TrailView.{TrailView}
 use Rattle.dsv_trail.specs.Places.{falsifies, place_of}
-use Rattle.dsv_hints.specs.LiteralSet.{none, with_all, is_tautology}
+use Rattle.dsv_cnf.specs.LiteralSet.{none}
+use Rattle.dsv_hints.specs.Clauses.{with_all, is_tautology}
 use Rattle.dsv_hints.specs.Derivation.{hints_answer, is_empty}
 use Rattle.dsv_hints.specs.declared.step.Step.{Step}
 use Rattle.dsv_hints.specs.declared.step.Step.TheVariants.{Add}

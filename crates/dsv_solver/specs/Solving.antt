@@ -4,7 +4,7 @@ use Rattle.std.specs.Prelude.{take, length, Ok}
 use Rattle.dsv_cnf.specs.Literal.{Literal}
 use Rattle.dsv_cnf.specs.Formula.{contains}
 use Rattle.dsv_cnf.specs.FormulaView.{FormulaView}
-use Rattle.dsv_hints.specs.LiteralSet.{none}
+use Rattle.dsv_cnf.specs.LiteralSet.{none}
 use Rattle.dsv_hints.specs.Derivation.{hints_answer}
 use Rattle.dsv_hints.specs.declared.step.Step.{Step}
 use Rattle.dsv_hints.specs.declared.step.Step.TheVariants.{Add}

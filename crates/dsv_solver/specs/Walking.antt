@@ -4,7 +4,8 @@ use Rattle.std.specs.Prelude.{true, false, List, ◌∷◌, length}
 use Rattle.std.specs.Prelude.{slice_get, Some, take, ◌⊎◌, Ok}
 use Rattle.dsv_cnf.specs.Literal.{Literal, negation}
 use Rattle.dsv_cnf.specs.FormulaView.{FormulaView}
-use Rattle.dsv_hints.specs.LiteralSet.{none, with_all}
+use Rattle.dsv_cnf.specs.LiteralSet.{none}
+use Rattle.dsv_hints.specs.Clauses.{with_all}
 use Rattle.dsv_hints.specs.Derivation.{Entry, live_clause, hints_answer, entries_from}
 use Rattle.dsv_trail.specs.TrailView.{TrailView}
 use Rattle.dsv_trail.specs.Places.{falsifies, place_of}

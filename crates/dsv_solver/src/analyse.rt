@@ -21,7 +21,7 @@ ghost use Rattle.dsv_solver.specs.Propagation.{IsJustified};
 ghost use Rattle.dsv_solver.specs.Step.{IsStep};
 ghost use Rattle.dsv_solver.specs.Walking.{IsWalking, IsEnding, IsLearnable, Fines, live_of};
 ghost use Rattle.dsv_solver.specs.Search.{IsRefuting};
-ghost use Rattle.dsv_hints.specs.LiteralSet.{none};
+ghost use Rattle.dsv_cnf.specs.LiteralSet.{none};
 ghost use Rattle.dsv_hints.specs.Derivation.{hints_answer};
 ghost use Rattle.dsv_trail.specs.declared.marks.Mark.{Mark};
 

@@ -5,15 +5,16 @@ ghost use Rattle.dsv_cnf.specs.Formula.{contains};
 ghost use Rattle.dsv_cnf.specs.Formula.{IsOver};
 
 use dsv_base::NoMemory;
-use dsv_cnf::Lit;
+use dsv_cnf::{Lit, LiteralSet};
 use std::alloc::Global;
 use std::marker::Model;
 
-/// A set of literals.
+/// A set of literals that knows in which order they came.
 #[derive(Drop)]
 pub struct Seen {
-    vars: u32,
-    marks: Vec<bool>,
+    /// The literals, to be asked whether one was met.
+    set: LiteralSet,
+    /// The same literals, in the order in which they came.
     inserted: Vec<Lit>,
 }
 
@@ -36,17 +37,9 @@ impl Seen {
         ensures { IfOk result (λ s. s ≡ record { vars = vars; literals = [] }) }
     {
         Ok(Seen {
-            vars,
-            marks: vec![in alloc; false; 2 * vars as usize]?,
+            set: LiteralSet::new(alloc, vars)?,
             inserted: Vec::new(alloc),
         })
-    }
-
-    /// How many variables there are; they are numbered from 0.
-    pub fn vars(&self) -> u32
-        ensures { result ≡ self.now.vars }
-    {
-        self.vars
     }
 
     /// The literals, in the order in which they came.
@@ -62,7 +55,7 @@ impl Seen {
         requires { literal.var < self.now.vars }
         ensures { result ≡ contains self.now.literals literal }
     {
-        self.marks[literal.code() as usize]
+        self.set.contains(literal)
     }
 
     /// Adds a literal, of one of the set's variables; where there is no memory for it, the set
@@ -74,16 +67,15 @@ impl Seen {
         ensures err { OnErr result (self.new ≡ self.old) }
     {
         self.inserted.push(literal)?;
-        self.marks[literal.code() as usize] = true;
+        self.set.insert(literal);
         Ok(())
     }
 
-    /// Takes all literals out, in time in proportion to their number.
+    /// Takes all literals out. The marks are written anew only once in 2^32 - 1 rounds.
     pub fn clear(&mut self)
         ensures { self.new ≡ record self.old { literals = [] } }
     {
-        while let Some(literal) = self.inserted.pop() {
-            self.marks[literal.code() as usize] = false;
-        }
+        self.set.clear();
+        self.inserted.clear();
     }
 }

@@ -1,5 +1,6 @@
 use Rattle.std.proofs.Common.{◌≡◌, drop}
-use Rattle.dsv_hints.specs.LiteralSet.{set_of, has_negation}
+use Rattle.dsv_cnf.specs.LiteralSet.{set_of}
+use Rattle.dsv_hints.specs.Clauses.{has_negation}
 use Rattle.dsv_hints.proofs.hints.has_negation.Given as goal
 
 abbrev pub invariant-loop-literal : goal.invariant-loop-literal

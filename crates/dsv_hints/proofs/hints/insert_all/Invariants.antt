@@ -1,5 +1,6 @@
 use Rattle.std.proofs.Common.{◌≡◌, drop}
-use Rattle.dsv_hints.specs.LiteralSet.{set_of, with_all}
+use Rattle.dsv_cnf.specs.LiteralSet.{set_of}
+use Rattle.dsv_hints.specs.Clauses.{with_all}
 use Rattle.dsv_hints.proofs.hints.insert_all.Given as goal
 
 abbrev pub invariant-loop-literal : goal.invariant-loop-literal

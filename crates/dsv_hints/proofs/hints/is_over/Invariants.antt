@@ -1,5 +1,5 @@
 use Rattle.std.proofs.Common.{◌≡◌, drop}
-use Rattle.dsv_hints.specs.LiteralSet.{is_over}
+use Rattle.dsv_hints.specs.Clauses.{is_over}
 use Rattle.dsv_hints.proofs.hints.is_over.Given as goal
 
 abbrev pub invariant-loop-literal : goal.invariant-loop-literal

@@ -1,5 +1,6 @@
 use Rattle.std.proofs.Common.{◌≡◌, ◌<◌, drop, IfSome}
-use Rattle.dsv_hints.specs.LiteralSet.{set_of, outside}
+use Rattle.dsv_cnf.specs.LiteralSet.{set_of}
+use Rattle.dsv_hints.specs.Clauses.{outside}
 use Rattle.dsv_hints.specs.Derivation.{move_of}
 use Rattle.dsv_hints.proofs.Moves.{move_from}
 use Rattle.dsv_hints.proofs.hints.move_by.Given as goal

@@ -1,5 +1,5 @@
 use Rattle.std.proofs.Common.{◌≡◌, drop}
-use Rattle.dsv_hints.specs.LiteralSet.{set_of}
+use Rattle.dsv_cnf.specs.LiteralSet.{set_of}
 use Rattle.dsv_hints.specs.Derivation.{hints_answer}
 use Rattle.dsv_hints.proofs.hints.take_hints.Given as goal
 

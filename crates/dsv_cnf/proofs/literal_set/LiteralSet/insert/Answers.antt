@@ -1,9 +1,9 @@
 use Rattle.std.proofs.Common.{arith, ap, ◌<◌, length, ◌∙◌, refl}
 use Rattle.dsv_cnf.proofs.LiteralLemmas.{code-below}
 use Rattle.dsv_cnf.specs.Literal.{code_of}
-use Rattle.dsv_hints.specs.LiteralSet.{SetView, set_of, with}
-use Rattle.dsv_hints.proofs.SetLemmas.{set-insert}
-use Rattle.dsv_hints.proofs.literal_set.LiteralSet.insert.Goals as goal
+use Rattle.dsv_cnf.specs.LiteralSet.{SetView, set_of, with}
+use Rattle.dsv_cnf.proofs.SetLemmas.{set-insert}
+use Rattle.dsv_cnf.proofs.literal_set.LiteralSet.insert.Goals as goal
 
 pub returns-clause-set : goal.returns-clause-set
 returns-clause-set c =

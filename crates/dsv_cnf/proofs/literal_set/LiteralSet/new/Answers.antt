@@ -1,7 +1,7 @@
 use Rattle.std.proofs.Common.{List, Bool, ◌*◌, ap}
-use Rattle.dsv_hints.specs.LiteralSet.{SetView}
-use Rattle.dsv_hints.proofs.SetLemmas.{set-fresh}
-use Rattle.dsv_hints.proofs.literal_set.LiteralSet.new.Goals as goal
+use Rattle.dsv_cnf.specs.LiteralSet.{SetView}
+use Rattle.dsv_cnf.proofs.SetLemmas.{set-fresh}
+use Rattle.dsv_cnf.proofs.literal_set.LiteralSet.new.Goals as goal
 
 pub returns : goal.returns
 returns c =

@@ -1,8 +1,8 @@
 -- How a set of literals is kept.
 use Rattle.std.specs.Prelude.{◌≡◌, ◌*◌, ◌≤◌, ◌^◌, ◌==◌, length, map}
 use Rattle.std.specs.List.{All}
-use Rattle.dsv_hints.specs.LiteralSet.{SetView}
-use Rattle.dsv_hints.specs.declared.literal_set.LiteralSet.TheInside.{Inside}
+use Rattle.dsv_cnf.specs.LiteralSet.{SetView}
+use Rattle.dsv_cnf.specs.declared.literal_set.LiteralSet.TheInside.{Inside}
 
 abbrev pub view_of : Inside → SetView
 view_of s = record { vars = s.vars; marks = map (λ m. m == s.round) s.marks.items }

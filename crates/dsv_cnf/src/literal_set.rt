@@ -1,27 +1,27 @@
 // A set of literals that is emptied at once.
 ghost use Rattle.std.specs.Prelude.{◌≡◌, ◌<◌, ◌≤◌, ◌^◌, IfOk};
-ghost use Rattle.dsv_hints.specs.LiteralSet.{empty_set, set_of, with};
+ghost use Rattle.dsv_cnf.specs.LiteralSet.{empty_set, set_of, with};
 
+use crate::Lit;
 use dsv_base::NoMemory;
-use dsv_cnf::Lit;
 use std::alloc::Global;
 use std::marker::Model;
 
 /// A set of literals: those whose mark is the number of the current round. A new round empties the
 /// set.
 #[derive(Drop)]
-pub(crate) struct LiteralSet {
+pub struct LiteralSet {
     vars: u32,
     round: u32,
     marks: Vec<u32>,
 }
 
 impl Model for LiteralSet {
-    ghost use Rattle.dsv_hints.specs.LiteralSet.{SetView};
+    ghost use Rattle.dsv_cnf.specs.LiteralSet.{SetView};
 
     ghost Value = { SetView };
 
-    ghost use Rattle.dsv_hints.specs.SetInside.{view_of, IsSet};
+    ghost use Rattle.dsv_cnf.specs.SetInside.{view_of, IsSet};
 
     ghost view = { view_of };
 

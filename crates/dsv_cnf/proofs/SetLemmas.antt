@@ -1,15 +1,14 @@
 -- A set of literals and its marks.
-use Rattle.std.proofs.Common.{◌≡◌, ℕ, ◌+◌, ◌<◌, ◌≤◌, ◌==◌, Bool, true, false, ◌||◌, List, [], ◌∷◌, zero, suc, map, refl, arith, ap, sym, ◌∙◌, inl, inr, length, get_or, set, get_or-set_other, get_or-set_same, nat_lt}
+use Rattle.std.proofs.Common.{◌≡◌, ℕ, ◌+◌, ◌<◌, ◌≤◌, ◌==◌, Bool, true, false, ◌||◌, ◌⊎◌, List, [], ◌∷◌, zero, suc, map, refl, arith, ap, sym, ◌∙◌, inl, inr, length, get_or, set, get_or-set_other, get_or-set_same}
 use Rattle.std.specs.Prelude.{replicate}
 use Rattle.std.specs.List.{All}
-use Rattle.std.proofs.lemmas.List.Elements.{All-head, All-tail, All-nil, All-cons}
+use Rattle.std.proofs.lemmas.List.Elements.{All-head, All-tail}
 use Rattle.std.proofs.lemmas.Bool.{cases_eq, eq-eqb}
-use Rattle.std.proofs.lemmas.Bool.Decides.{eqb_tells, nat_tests}
+use Rattle.std.proofs.lemmas.Bool.Decides.{eqb_tells}
 use Rattle.dsv_cnf.specs.Literal.{Literal, literal_eq, code_of}
-use Rattle.dsv_cnf.specs.Formula.{IsOver}
-use Rattle.dsv_cnf.proofs.LiteralLemmas.{literal_eq-code}
-use Rattle.dsv_hints.specs.LiteralSet.{with, is_over}
-use Rattle.dsv_algebra.proofs.Booleans.{and_left, and_right}
+use Rattle.dsv_cnf.specs.LiteralSet.{with}
+use Rattle.dsv_cnf.proofs.LiteralLemmas.{or_cases, literal_eq-code, literal_eq-same, same_literal}
+use Rattle.dsv_cnf.proofs.ClauseLemmas.{or_true}
 
 pub eqb-other : (a b : ℕ) → (a ≡ b → ⊥) → (a == b) ≡ false
 eqb-other a b n = elim (eqb_tells a b) [ inl p ↦ absurd (n p.1) | inr p ↦ p.0 ]
@@ -18,9 +17,6 @@ mark-at : (marks : List ℕ) (round i : ℕ) → 1 ≤ round → get_or (map (λ
 mark-at [] round i h = sym (eqb-other 0 round (λ e. omega arith))
 mark-at (m ∷ ms) round zero h = refl
 mark-at (m ∷ ms) round (suc i) h = mark-at ms round i h
-
-or_true : (a b : Bool) → a ≡ true → (a || b) ≡ true
-or_true a b h = rw h refl
 
 or_false : (a b : Bool) → a ≡ false → (a || b) ≡ b
 or_false a b h = rw h refl
@@ -32,7 +28,7 @@ set-mark marks l m round h lt =
     ∙ (elim (cases_eq (code_of m) (code_of l)) [
       | inl same ↦
           let now : get_or (set marks (code_of l) round) (code_of m) 0 ≡ round = rw same (get_or-set_same marks (code_of l) round 0 lt) in
-          rw now (eq-eqb round round refl) ∙ sym (or_true (literal_eq l m) _ (literal_eq-code l m ∙ eq-eqb (code_of l) (code_of m) (sym same)))
+          rw now (eq-eqb round round refl) ∙ sym (or_true (literal_eq l m) _ (inl (literal_eq-code l m ∙ eq-eqb (code_of l) (code_of m) (sym same))))
       | inr other ↦
           ap (λ k. k == round) (get_or-set_other marks (code_of l) (code_of m) round 0 other)
           ∙ sym (mark-at marks round (code_of m) h)
@@ -60,8 +56,13 @@ fresh (suc n) = ap (λ ms. false ∷ ms) (fresh n)
 pub set-fresh : (marks : List ℕ) (n : ℕ) → marks ≡ replicate n 0 → map (λ m. m == 1) marks ≡ replicate n false
 set-fresh marks n e = rw e (fresh n)
 
-pub over-from : (vars : ℕ) (c : List Literal) → is_over vars c ≡ true → IsOver vars c
-over-from vars [] h = All-nil (λ (l : Literal). l.var < vars)
-over-from vars (l ∷ ls) h =
-    All-cons (λ (m : Literal). m.var < vars) l ls (let t = and_left (nat_lt l.var vars) (is_over vars ls) h in grind (arith, nat_tests))
-    (over-from vars ls (and_right (nat_lt l.var vars) (is_over vars ls) h))
+-- ---- one literal more
+
+pub with-head : (l : Literal) (A : Literal → Bool) → with l A l ≡ true
+with-head l A = or_true _ _ (inl (literal_eq-same l))
+
+pub with-tail : (l : Literal) (A : Literal → Bool) (q : Literal) → A q ≡ true → with l A q ≡ true
+with-tail l A q h = or_true (literal_eq l q) (A q) (inr h)
+
+pub with-cases : (l : Literal) (A : Literal → Bool) (q : Literal) → with l A q ≡ true → (q ≡ l) ⊎ (A q ≡ true)
+with-cases l A q h = elim (or_cases (literal_eq l q) (A q) h) [ inl p ↦ inl (sym (same_literal l q p)) | inr r ↦ inr r ]

@@ -1,8 +1,8 @@
 use Rattle.std.proofs.Common.{List, Bool, ℕ, false, ◌*◌, ap, ◌∙◌, ◌≡◌, vec_len, arith}
 use Rattle.std.specs.Prelude.{replicate}
-use Rattle.dsv_hints.specs.LiteralSet.{SetView, empty_set}
-use Rattle.dsv_hints.proofs.SetLemmas.{set-fresh, set-clear}
-use Rattle.dsv_hints.proofs.literal_set.LiteralSet.clear.Goals as goal
+use Rattle.dsv_cnf.specs.LiteralSet.{SetView, empty_set}
+use Rattle.dsv_cnf.proofs.SetLemmas.{set-fresh, set-clear}
+use Rattle.dsv_cnf.proofs.literal_set.LiteralSet.clear.Goals as goal
 
 pub returns-then-self : goal.returns-then-self
 returns-then-self c =
