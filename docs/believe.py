@@ -163,7 +163,7 @@ HEADLINE = ("Explained", "Headline", "Searching", "Gain", "Simulating", "Cascade
 LONG = 30
 PAGE = (
     ("The call", "What `run` says of an answer, whatever the arguments, the files and the sink.",
-     "request_of Request IsExplained Outcome IsRow IsCheckRow IsUnread TableRow CameOf FilesSeen"),
+     "IsDone request_of Request IsExplained Outcome IsRow IsCheckRow IsUnread TableRow CameOf FilesSeen"),
     ("The file", "What it means that a file's bytes are a controller, and what the controller is in words.",
      "longest_file IsAccepted IsTextOf IsFaultOf ControllerView BecomesWords QuantisedView"),
     ("Overflow, limit cycles, simulation", "What the answers on runs say, of a subject: a controller, a cascade or a state-space "

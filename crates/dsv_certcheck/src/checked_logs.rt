@@ -92,25 +92,60 @@ struct LoggedSentence {
 /// Checks that a log refutes that the sentence of a candidate is broken.
 fn check_sentence(
     alloc: Global,
-    quantised: &Quantised,
+    asking: &Asking<Quantised>,
     candidate: &Candidate,
     sentence: LoggedSentence,
     log: &Log,
 ) -> Result<(), CheckRefusal>
-    requires shaped { IsShaped quantised.now candidate.now }
+    requires shaped { IsShaped asking.now.subject.now candidate.now }
     requires low { sentence.line < 2 ^ 40 }
     requires short { length log.now < 2 ^ 32 - 1 }
     ensures found { Finds result
-        (log_check (set_formula_of quantised.now candidate.now sentence.part) sentence.line
+        (log_check (set_formula_of asking.now.subject.now candidate.now sentence.part) sentence.line
         log.now) }
-    ensures shows { OnOk result (Holds quantised.now candidate.now sentence.part) }
+    ensures shows { OnOk result (Holds asking.now.subject.now candidate.now sentence.part) }
 {
-    let formula = set_formula(alloc, quantised, candidate, sentence.part)?;
+    let formula = set_formula(alloc, asking, candidate, sentence.part)?;
     check_log(alloc, &formula, sentence.line, log)
 }
 
 /// Checks the logs of a candidate's sentences.
 fn check_sentences(
+    alloc: Global,
+    asking: &Asking<Quantised>,
+    words: CertWords,
+    candidate: &Candidate,
+    logs: &ThreeLogs,
+) -> Result<(), CheckRefusal>
+    requires shaped { IsShaped asking.now.subject.now candidate.now }
+    ensures found { Finds result
+        (sentences_check words asking.now.subject.now candidate.now logs.now) }
+    ensures base { OnOk result (Holds asking.now.subject.now candidate.now part.Base) }
+    ensures step { OnOk result (Holds asking.now.subject.now candidate.now part.Step) }
+    ensures safe { OnOk result (Holds asking.now.subject.now candidate.now part.Safe) }
+{
+    accept_length(&logs.base)?;
+    accept_length(&logs.step)?;
+    accept_length(&logs.safe)?;
+    let base = LoggedSentence {
+        part: SetPart::Base,
+        line: log_line(words, SetPart::Base, candidate, logs),
+    };
+    check_sentence(alloc, asking, candidate, base, &logs.base)?;
+    let step = LoggedSentence {
+        part: SetPart::Step,
+        line: log_line(words, SetPart::Step, candidate, logs),
+    };
+    check_sentence(alloc, asking, candidate, step, &logs.step)?;
+    let safe = LoggedSentence {
+        part: SetPart::Safe,
+        line: log_line(words, SetPart::Safe, candidate, logs),
+    };
+    check_sentence(alloc, asking, candidate, safe, &logs.safe)
+}
+
+/// Checks the logs of the sentences of a candidate for a controller.
+fn check_logs(
     alloc: Global,
     quantised: &Quantised,
     words: CertWords,
@@ -123,24 +158,8 @@ fn check_sentences(
     ensures step { OnOk result (Holds quantised.now candidate.now part.Step) }
     ensures safe { OnOk result (Holds quantised.now candidate.now part.Safe) }
 {
-    accept_length(&logs.base)?;
-    accept_length(&logs.step)?;
-    accept_length(&logs.safe)?;
-    let base = LoggedSentence {
-        part: SetPart::Base,
-        line: log_line(words, SetPart::Base, candidate, logs),
-    };
-    check_sentence(alloc, quantised, candidate, base, &logs.base)?;
-    let step = LoggedSentence {
-        part: SetPart::Step,
-        line: log_line(words, SetPart::Step, candidate, logs),
-    };
-    check_sentence(alloc, quantised, candidate, step, &logs.step)?;
-    let safe = LoggedSentence {
-        part: SetPart::Safe,
-        line: log_line(words, SetPart::Safe, candidate, logs),
-    };
-    check_sentence(alloc, quantised, candidate, safe, &logs.safe)
+    let asking = Asking::of(alloc, quantised)?;
+    check_sentences(alloc, &asking, words, candidate, logs)
 }
 
 /// Checks that a controller never leaves a candidate's set and never overflows in it.
@@ -159,5 +178,5 @@ pub(crate) fn check_set(
     if !candidate.is_shaped(registers) {
         return Err(CheckRefusal::misfit(words));
     }
-    check_sentences(alloc, quantised, words, candidate, logs)
+    check_logs(alloc, quantised, words, candidate, logs)
 }

@@ -110,17 +110,18 @@ fn check_invariant(
 /// What an offer, if there is one, shows of how far the output is from that of exact runs.
 fn check_error(
     alloc: Global,
-    quantised: &Quantised,
+    asking: &Asking<Quantised>,
     words: CertWords,
     offer: &Option<RoundoffOffer>,
 ) -> Result<Option<ShownError>, CheckRefusal>
-    ensures found { Finds (as_checked result) (error_check words quantised.now offer.now) }
-    ensures near { IfOk result (StaysShown quantised.now offer.now) }
+    ensures found { Finds (as_checked result)
+        (error_check words asking.now.subject.now offer.now) }
+    ensures near { IfOk result (StaysShown asking.now.subject.now offer.now) }
 {
     let Some(offer) = offer else {
         return Ok(None);
     };
-    match controller_error(alloc, quantised, offer)? {
+    match controller_error(alloc, asking, offer)? {
         Some(output) => Ok(Some(ShownError {
             depth: offer.depth,
             output,
@@ -132,20 +133,32 @@ fn check_error(
     }
 }
 
-/// What the gain says of a controller's runs, by the samples below the limit.
-fn controller_outlook(alloc: Global, quantised: &Quantised, limit: u32) -> Result<Outlook, NoMemory>
-    ensures made { IfOk result (λ gain. gain ≡ outlook_of (of_controller quantised.now) limit) }
-    ensures holds { IfOk result (λ gain. IfSafe gain
-        (λ g. HoldsAlways (of_controller quantised.now) g.ranges)) }
-    ensures safe { IfOk result (λ gain. IfSafe gain
-        (λ g. NeverOverflows (of_controller quantised.now))) }
-{
-    let asking = Asking::of(alloc, quantised)?;
-    gain(alloc, &asking, limit)
-}
-
 /// Checks that the ranges of all exact values are ones of words at a depth or before it, and then
 /// the offer.
+fn check_depth_of(
+    alloc: Global,
+    asking: &Asking<Quantised>,
+    words: CertWords,
+    depth: u32,
+    offer: &Option<RoundoffOffer>,
+) -> Result<Option<ShownError>, CheckRefusal>
+    requires { depth ≤ most_gain_depth }
+    ensures found { Finds (as_checked result)
+        (depth_check words asking.now.subject.now depth offer.now) }
+    ensures shows { OnOk result (NeverOverflows (of_controller asking.now.subject.now)) }
+    ensures near { IfOk result (ShowsNear asking.now.subject.now offer.now) }
+{
+    let _order = asking.subject.order(); // its range, for the proof
+    match gain(alloc, asking, depth + 1)? {
+        Outlook::Safe(_) => check_error(alloc, asking, words, offer),
+        Outlook::Leaves { .. } | Outlook::Deep => Err(CheckRefusal::Line {
+            line: kind_line(words),
+            fault: CheckFault::Gain,
+        }),
+    }
+}
+
+/// The same of a controller.
 fn check_depth(
     alloc: Global,
     quantised: &Quantised,
@@ -158,14 +171,8 @@ fn check_depth(
     ensures shows { OnOk result (NeverOverflows (of_controller quantised.now)) }
     ensures near { IfOk result (ShowsNear quantised.now offer.now) }
 {
-    let _order = quantised.order(); // its range, for the proof
-    match controller_outlook(alloc, quantised, depth + 1)? {
-        Outlook::Safe(_) => check_error(alloc, quantised, words, offer),
-        Outlook::Leaves { .. } | Outlook::Deep => Err(CheckRefusal::Line {
-            line: kind_line(words),
-            fault: CheckFault::Gain,
-        }),
-    }
+    let asking = Asking::of(alloc, quantised)?;
+    check_depth_of(alloc, &asking, words, depth, offer)
 }
 
 /// Checks that a depth shows the property of a job, and then the offer beside it.
@@ -190,7 +197,7 @@ fn check_gain(
 }
 
 /// Checks that a form falls along the trajectories of a polynomial.
-fn check_offer(words: CertWords, poly: &Poly, offer: &Falls) -> Result<(), CheckRefusal>
+fn check_falling_offer(words: CertWords, poly: &Poly, offer: &Falls) -> Result<(), CheckRefusal>
     ensures found { result ≡ offer_check words poly.now offer.now }
     ensures shows { OnOk result (HasFallingForm (length poly.now - 1) (vector_of poly.now)) }
 {
@@ -217,7 +224,7 @@ fn check_form(quantised: &Quantised, job: &CertifiedJob, offer: &Falls) -> Resul
             quantised,
             side_of(property),
         )? {
-            Tested::Poly(poly) => check_offer(job.words, &poly, offer),
+            Tested::Poly(poly) => check_falling_offer(job.words, &poly, offer),
             Tested::NoZeros => Err(CheckRefusal::NoZeros),
         },
         (_, _) => Err(CheckRefusal::misfit(job.words)),

@@ -33,7 +33,7 @@ fn is_stability(property: Property) -> bool
 }
 
 /// Checks that a form falls along the states of the controller without input.
-fn check_offer(
+fn check_state_offer(
     system: &StateSystem,
     words: CertWords,
     offer: &Falls,
@@ -80,7 +80,7 @@ pub fn check_state_form(
 {
     match certificate {
         Certificate::Falls { job, offer } if is_stability(job.property) => {
-            check_offer(system, job.words, offer)
+            check_state_offer(system, job.words, offer)
         }
         Certificate::Falls { .. } => Err(CheckRefusal::Line {
             line: JOB_LINE,

@@ -18,7 +18,7 @@ use Rattle.dsv_certfile.specs.Ellipsoids.{ellipsoid_version_line, states_line, l
 use Rattle.dsv_certfile.specs.Headings.{count_at}
 use Rattle.dsv_certfile.specs.Keywords.{keyword_text, ellipsoid_version}
 use Rattle.dsv_certfile.specs.Lawful.{IsWhole, AreSquares}
-use Rattle.dsv_certfile.specs.Limits.{most_places, most_states, most_squares}
+use Rattle.dsv_certfile.specs.Limits.{most_places, most_ellipsoid_states, most_squares}
 use Rattle.dsv_certfile.specs.Ranges.{AreOf}
 use Rattle.dsv_certfile.specs.Texts.{word_line, rows_lines, squares_body, squares_lines}
 use Rattle.dsv_certfile.specs.declared.ellipsoid.Ellipsoid.{Ellipsoid}
@@ -35,7 +35,7 @@ use Rattle.dsv_certfile.proofs.WrittenEllipsoids.{version_after, first_after, el
 -- ---- the number of states
 -- there are so many states, vs these lines say
 abbrev pub AreStates : ℕ → List Line → Type 0
-AreStates d ls = (1 ≤ d) × (d ≤ most_states) × (ls ≡ ellipsoid_version_line ∷ states_line d ∷ [])
+AreStates d ls = (1 ≤ d) × (d ≤ most_ellipsoid_states) × (ls ≡ ellipsoid_version_line ∷ states_line d ∷ [])
 
 version_step : (bytes : List ℕ) (b : Bool) → bytes_eq bytes ellipsoid_version ≡ b
     → IfOk {T = Unit {0}} {E = TextFault} (if b then Ok tt else Err fault.Version) (λ _. pieces_of bytes ∷ [] ≡ ellipsoid_version_line ∷ [])
@@ -43,7 +43,7 @@ version_step bytes true e = ap (λ t. pieces_of t ∷ []) ((bytes_eq-Decides byt
 version_step bytes false e = tt
 
 states_are : (zs : List ℤ) → AreOf states_places zs
-    → (1 ≤ count_at zs 0) × (count_at zs 0 ≤ most_states) × (spelled_line states_places zs ∷ [] ≡ states_line (count_at zs 0) ∷ [])
+    → (1 ≤ count_at zs 0) × (count_at zs 0 ≤ most_ellipsoid_states) × (spelled_line states_places zs ∷ [] ≡ states_line (count_at zs 0) ∷ [])
 states_are [] h = absurd h
 states_are (z ∷ []) h =
     (omega (arith, ints, h.0.0), h.0.1, ap (λ p. (keyword_text keyword.States ∷ p ∷ []) ∷ []) (signed_decimal-count z (omega (arith, ints, h.0.0))))
@@ -54,8 +54,8 @@ yields_states =
     yields_both (line_in version_of_ellipsoid) version_after (λ _ ls. ls ≡ ellipsoid_version_line ∷ []) AreStates
     (yields_line version_of_ellipsoid (λ _ ls. ls ≡ ellipsoid_version_line ∷ []) (λ bytes. version_step bytes (bytes_eq bytes ellipsoid_version) refl))
     (λ _ vs a. yields_made (numbers_in states_places) (λ zs. count_at zs 0)
-    (λ zs ls. (1 ≤ count_at zs 0) × (count_at zs 0 ≤ most_states) × (ls ≡ states_line (count_at zs 0) ∷ [])) (λ d ls. AreStates d (vs ++ ls))
-    (yields_numbers states_places (λ zs ls. (1 ≤ count_at zs 0) × (count_at zs 0 ≤ most_states) × (ls ≡ states_line (count_at zs 0) ∷ [])) refl states_are)
+    (λ zs ls. (1 ≤ count_at zs 0) × (count_at zs 0 ≤ most_ellipsoid_states) × (ls ≡ states_line (count_at zs 0) ∷ [])) (λ d ls. AreStates d (vs ++ ls))
+    (yields_numbers states_places (λ zs ls. (1 ≤ count_at zs 0) × (count_at zs 0 ≤ most_ellipsoid_states) × (ls ≡ states_line (count_at zs 0) ∷ [])) refl states_are)
     (λ zs ls h. (h.0, h.1, joined a h.2)))
 
 -- ---- the level
@@ -133,7 +133,7 @@ record IsEllipsoidOf (d : ℕ) (offer : Ellipsoid) (ls : List Line) : Type 0 whe
   lawful : IsLawfulEllipsoid offer
   lines : ls ≡ ellipsoid_body offer ++ word_line keyword.End ∷ []
 
-ellipsoid_has : (d : ℕ) (form : Form) (levels : Levels) (step : Squares) (first : First) (vs bs cs ds es : List Line) → 1 ≤ d → d ≤ most_states
+ellipsoid_has : (d : ℕ) (form : Form) (levels : Levels) (step : Squares) (first : First) (vs bs cs ds es : List Line) → 1 ≤ d → d ≤ most_ellipsoid_states
     → IsFormOf d form vs → AreLevels levels bs → AreSquaresAfter keyword.Step (d + 1) step cs → IsFirst d first ds → es ≡ word_line keyword.End ∷ []
     → IsEllipsoidOf d (ellipsoid_with form levels step first) (vs ++ (bs ++ (cs ++ (ds ++ es))))
 ellipsoid_has d form levels step first vs bs cs ds es some few f l s i e =
@@ -160,7 +160,7 @@ ellipsoid_has d form levels step first vs bs cs ds es some few f l s i e =
           ∙ body_parts (rows_lines keyword.Form n form.rows) (levels_line offer) (squares_lines keyword.Step (n + 1) step) (first_line offer) (squares_body n first.squares) (word_line keyword.End);
     }
 
-yields_after : (d : ℕ) → 1 ≤ d → d ≤ most_states → Yields (ellipsoid_after d) (IsEllipsoidOf d)
+yields_after : (d : ℕ) → 1 ≤ d → d ≤ most_ellipsoid_states → Yields (ellipsoid_after d) (IsEllipsoidOf d)
 yields_after d some h =
     let few : d ≤ most_places = omega (arith, h) in
     let more : d + 1 ≤ most_places = omega (arith, h) in

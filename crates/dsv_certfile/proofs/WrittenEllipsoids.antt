@@ -16,7 +16,7 @@ use Rattle.dsv_certfile.specs.Ellipsoids.{IsLawfulEllipsoid, version_of_ellipsoi
 use Rattle.dsv_certfile.specs.Ellipsoids.{ellipsoid_version_line, states_line, levels_line, first_line, ellipsoid_body, ellipsoid_lines, ellipsoid_text}
 use Rattle.dsv_certfile.specs.Headings.{count_at}
 use Rattle.dsv_certfile.specs.Keywords.{keyword_text}
-use Rattle.dsv_certfile.specs.Limits.{most_states, most_squares}
+use Rattle.dsv_certfile.specs.Limits.{most_ellipsoid_states, most_squares}
 use Rattle.dsv_certfile.specs.Texts.{word_line, rows_lines, squares_lines, squares_body}
 use Rattle.dsv_certfile.specs.declared.ellipsoid.Ellipsoid.{Ellipsoid}
 use Rattle.dsv_certfile.specs.declared.ellipsoid_reader.First.{First}
@@ -36,16 +36,16 @@ version_after _ ls = numbers_in states_places ls >>= λ states. Ok (reading_of (
 version_plain : IsLine ellipsoid_version_line
 version_plain = All-cons IsPlain (codes "dsv-ellipsoid") (codes "1" ∷ []) refl (All-cons IsPlain (codes "1") [] refl (All-nil IsPlain))
 
-states_plain : (d : ℕ) → d ≤ most_states → IsLine (states_line d)
+states_plain : (d : ℕ) → d ≤ most_ellipsoid_states → IsLine (states_line d)
 states_plain d h =
     All-cons IsPlain (keyword_text keyword.States) (decimal d ∷ []) refl (All-cons IsPlain (decimal d) [] (decimal_plain d (omega (arith, h))) (All-nil IsPlain))
 
-takes_states : (d : ℕ) → 1 ≤ d → d ≤ most_states → Takes states_in d (ellipsoid_version_line ∷ states_line d ∷ [])
+takes_states : (d : ℕ) → 1 ≤ d → d ≤ most_ellipsoid_states → Takes states_in d (ellipsoid_version_line ∷ states_line d ∷ [])
 takes_states d some h =
     takes_both (line_in version_of_ellipsoid) version_after tt d (ellipsoid_version_line ∷ []) (states_line d ∷ []) (takes_line version_of_ellipsoid ellipsoid_version_line tt refl)
     (takes_made (numbers_in states_places) (λ zs. count_at zs 0) (pos d ∷ []) (states_line d ∷ [])
     (takes_line (numbers_of states_places) (states_line d) (pos d ∷ [])
-    (numbers_of-line_bytes states_places (states_line d) (pos d ∷ []) (states_plain d h) (refl, (positive_read most_states d (omega arith) some h, tt)))))
+    (numbers_of-line_bytes states_places (states_line d) (pos d ∷ []) (states_plain d h) (refl, (positive_read most_ellipsoid_states d (omega arith) some h, tt)))))
 
 -- ---- the level
 abbrev levels_of : Ellipsoid → Levels

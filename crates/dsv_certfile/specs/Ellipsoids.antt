@@ -17,7 +17,7 @@ use Rattle.dsv_certfile.specs.Bodies.{whole_text}
 use Rattle.dsv_certfile.specs.Headings.{count_at}
 use Rattle.dsv_certfile.specs.Keywords.{keyword_text, ellipsoid_version}
 use Rattle.dsv_certfile.specs.Lawful.{IsWhole, IsForm, AreSquares}
-use Rattle.dsv_certfile.specs.Limits.{most_states, most_squares, greatest_bound}
+use Rattle.dsv_certfile.specs.Limits.{most_ellipsoid_states, most_squares, greatest_bound}
 use Rattle.dsv_certfile.specs.Texts.{word_line, rows_lines, squares_lines, squares_body}
 use Rattle.dsv_certfile.specs.declared.ellipsoid.Ellipsoid.{Ellipsoid}
 use Rattle.dsv_certfile.specs.declared.ellipsoid_reader.First.{First}
@@ -38,7 +38,7 @@ IsBound z = unsigned_abs z ≤ greatest_bound
 -- All numbers are in the ranges of the text, and the places that it doesn't write hold 0.
 pub record IsLawfulEllipsoid (offer : Ellipsoid) : Type 0 where
   pub some : 1 ≤ offer.form.d
-  pub few : offer.form.d ≤ most_states
+  pub few : offer.form.d ≤ most_ellipsoid_states
   pub form : IsForm offer.form
   pub level : IsWhole offer.level
   pub lambda : IsWhole offer.lambda
@@ -57,7 +57,7 @@ version_of_ellipsoid bytes =
 
 -- the line `states N`
 abbrev pub states_places : List Place
-states_places = place.Word keyword.States ∷ place.Number (range.Positive most_states) ∷ []
+states_places = place.Word keyword.States ∷ place.Number (range.Positive most_ellipsoid_states) ∷ []
 
 -- the version, and how many states there are
 abbrev pub states_in : LinesLeft → Result (Reading ℕ) TextRefusal

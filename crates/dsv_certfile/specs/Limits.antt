@@ -50,8 +50,8 @@ abbrev pub most_places : ℕ
 most_places = 8
 
 -- the most places of the form of an ellipsoid; it has one at least
-abbrev pub most_states : ℕ
-most_states = 7
+abbrev pub most_ellipsoid_states : ℕ
+most_ellipsoid_states = 7
 
 -- the greatest size of the number that bounds the outputs in an ellipsoid
 abbrev pub greatest_bound : ℕ

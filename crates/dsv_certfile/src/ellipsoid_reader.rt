@@ -4,7 +4,7 @@ ghost use Rattle.dsv_lines.specs.Readings.{Reads};
 ghost use Rattle.dsv_certfile.specs.Ellipsoids.{IsLawfulEllipsoid, version_of_ellipsoid};
 ghost use Rattle.dsv_certfile.specs.Ellipsoids.{states_in, levels_in, first_in};
 ghost use Rattle.dsv_certfile.specs.Ellipsoids.{ellipsoid_after, ellipsoid_in};
-ghost use Rattle.dsv_certfile.specs.Limits.{most_places, most_states};
+ghost use Rattle.dsv_certfile.specs.Limits.{most_places, most_ellipsoid_states};
 
 use crate::ellipsoid::Ellipsoid;
 use crate::falls::{read_form, read_squares, read_squares_of};
@@ -48,7 +48,7 @@ fn read_version(line: &[u8]) -> Result<(), TextFault>
 /// Reads the lines up to that of the states, and answers how many there are.
 fn read_states(lines: &mut Lines) -> Result<u32, TextRefusal>
     ensures answer { Reads result lines.new (states_in lines.old) }
-    ensures few { IfOk result (λ states. states ≤ most_states) }
+    ensures few { IfOk result (λ states. states ≤ most_ellipsoid_states) }
 {
     let line = next_line(lines)?;
     at_line(line.number, read_version(line.text))?;
@@ -96,7 +96,7 @@ fn read_first(lines: &mut Lines, d: u32) -> Result<First, TextRefusal>
 
 /// Reads what follows the line of the states, of which there are d, up to the last line.
 fn read_after(lines: &mut Lines, d: u32) -> Result<Ellipsoid, TextRefusal>
-    requires { d ≤ most_states }
+    requires { d ≤ most_ellipsoid_states }
     ensures { Reads result lines.new (ellipsoid_after d lines.old) }
 {
     let form = read_form(lines, d)?;

@@ -25,46 +25,46 @@ use Rattle.dsv_report.specs.Stops.{Outcome}
 use Rattle.dsv_cli.specs.Accepted.{IsAcceptance, WrittenAreAccepted}
 use Rattle.dsv_token.specs.declared.refusal.FileRefusal.TheVariants as text
 use Rattle.dsv_cli.proofs.Told.{of_told}
-use Rattle.dsv_cli.specs.Headline.{longest_certificate, CameOf, IsAccepted, IsController, IsCheckOf, IsSpelled, Spells, IsRefusedAt, IsCheckRow}
+use Rattle.dsv_cli.specs.Headline.{longest_certificate, CameOf, IsAccepted, IsControllerOf, IsCheckOf, IsSpelled, Spells, IsRefusedAt, IsCheckRow}
 use Rattle.dsv_cli.proofs.CertifiedWords.{Fits, certificate_fits}
 use Rattle.dsv_cli.proofs.OneAnswerStages.{Stage, long, faulty, refused, in_words, IsStage, one_stage}
 
 -- ---- the words of the certificate's job
-abbrev pub accepted_of : (bytes : List ℕ) (controller : ControllerView) (job : CertifiedJob) (o : Result QuantisedView QuantRefusal) → IsController bytes controller → BecomesFor controller job o
+abbrev pub accepted_of : (bytes : List ℕ) (controller : ControllerView) (job : CertifiedJob) (o : Result QuantisedView QuantRefusal) → IsControllerOf bytes controller → BecomesFor controller job o
     → IsAccepted job.design bytes o
 accepted_of bytes controller job o a b = record { short = a.short; controller = controller; text = a.text; becomes = b }
 
 pub same_words : (a b : ControllerView) (v w : QuantisedView) → in_words a v ≡ in_words b w → v ≡ w
 same_words a b v w e = cc
 
-abbrev pub IsInWords : Stage → Type 0
-IsInWords (in_words a quantised) = Unit {0}
-IsInWords other = ⊥
+abbrev pub IsStageInWords : Stage → Type 0
+IsStageInWords (in_words a quantised) = Unit {0}
+IsStageInWords other = ⊥
 
 -- the file comes to words in the realisation and modes of the certificate's job, whatever else is said of it
-comes_to_words : (bytes : List ℕ) (c : Certificate) (s : Stage) → Fits bytes c → IsStage (job_of c).design bytes s → IsInWords s
+comes_to_words : (bytes : List ℕ) (c : Certificate) (s : Stage) → Fits bytes c → IsStage (job_of c).design bytes s → IsStageInWords s
 comes_to_words bytes c s f h =
-    subst IsInWords (one_stage (job_of c).design bytes (in_words f.accepted.controller f.quantised) s (f.accepted, refl) h) tt
+    subst IsStageInWords (one_stage (job_of c).design bytes (in_words f.accepted.controller f.quantised) s (f.accepted, refl) h) tt
 
 -- ---- the format of the words
 -- the certificate has the format of the controller's words, so that the check goes on
-after_format : (bytes : List ℕ) (c : Certificate) (controller : ControllerView) (found : Checked) → Fits bytes c → IsController bytes controller → IsChecked controller c found → IsFoundFor controller c found
+after_format : (bytes : List ℕ) (c : Certificate) (controller : ControllerView) (found : Checked) → Fits bytes c → IsControllerOf bytes controller → IsChecked controller c found → IsFoundFor controller c found
 after_format bytes c controller found f a k =
     let same : f.accepted.controller ≡ controller = one_design bytes f.accepted.controller controller f.accepted.text a.text in
     let passes : format_check controller (job_of c).words ≡ Ok tt = subst (λ x. format_check x (job_of c).words ≡ Ok tt) same f.format in
     subst (λ r. IsFoundAfter r controller c found) passes k
 
 -- ---- what the check finds
-finds_nothing : (bytes : List ℕ) (c : Certificate) (controller : ControllerView) (found : Checked) → Fits bytes c → IsController bytes controller → IsFoundOf controller c found → Ok tt ≡ found
+finds_nothing : (bytes : List ℕ) (c : Certificate) (controller : ControllerView) (found : Checked) → Fits bytes c → IsControllerOf bytes controller → IsFoundOf controller c found → Ok tt ≡ found
 finds_nothing bytes c controller found f a k =
     let b = accepted_of bytes controller (job_of c) (Ok k.quantised) a k.becomes in
     let stage = one_stage (job_of c).design bytes (in_words f.accepted.controller f.quantised) (in_words b.controller k.quantised) (f.accepted, refl) (b, refl) in
     sym f.passes ∙ ap (λ q. words_check q c) (same_words f.accepted.controller b.controller f.quantised k.quantised stage) ∙ k.checked
 
-never_refused : (bytes : List ℕ) (c : Certificate) (controller : ControllerView) (why : CheckRefusal) → Fits bytes c → IsController bytes controller → IsFoundOf controller c (Err why) → ⊥
+never_refused : (bytes : List ℕ) (c : Certificate) (controller : ControllerView) (why : CheckRefusal) → Fits bytes c → IsControllerOf bytes controller → IsFoundOf controller c (Err why) → ⊥
 never_refused bytes c controller why f a k = let e : Ok tt ≡ Err why = finds_nothing bytes c controller (Err why) f a k in cc
 
-never_refused_at : (bytes : List ℕ) (c : Certificate) (controller : ControllerView) (line : ℕ) (why : CheckFault) → Fits bytes c → IsController bytes controller → IsRefusedAt line why controller c → ⊥
+never_refused_at : (bytes : List ℕ) (c : Certificate) (controller : ControllerView) (line : ℕ) (why : CheckFault) → Fits bytes c → IsControllerOf bytes controller → IsRefusedAt line why controller c → ⊥
 never_refused_at bytes c controller line why f a (inl k) = never_refused bytes c controller (refusal.Line line why) f a (after_format bytes c controller (Err (refusal.Line line why)) f a k)
 never_refused_at bytes c controller line why f a (inr k) =
     elim k.2 [

@@ -41,10 +41,10 @@ use Rattle.dsv_report.specs.declared.stop.Stop.TheVariants as stop
 use Rattle.dsv_report.specs.Stops.{Outcome}
 use Rattle.dsv_cli.specs.Accepted.{IsAcceptance, WrittenLoopsAreAccepted}
 use Rattle.dsv_cli.specs.Checking.{IsUnreadCertificate, stop_of_check}
-use Rattle.dsv_cli.specs.Headline.{longest_file, longest_certificate, CameOf, HasWords, IsController, IsSpelled, IsUnread}
+use Rattle.dsv_cli.specs.Headline.{longest_file, longest_certificate, CameOf, HasWords, IsControllerOf, IsSpelled, IsUnread}
 use Rattle.dsv_cli.specs.LoopChecks.{IsCertificateOf, IsOfLoopCertificate, IsLoopCheckRow}
 use Rattle.dsv_cli.specs.Loops.{IsPlantOf, IsPlantUnread, IsOfLoop, IsLoopRow, SaysLoop}
-use Rattle.dsv_cli.proofs.AcceptedLemmas.{IsInWords, same_words, accepted_of, one_spelled, read_or_refused, too_long}
+use Rattle.dsv_cli.proofs.AcceptedLemmas.{IsStageInWords, same_words, accepted_of, one_spelled, read_or_refused, too_long}
 use Rattle.dsv_cli.proofs.CertifiedWords.{format_fits, wanted_table}
 use Rattle.dsv_cli.proofs.OneAnswerStages.{refused, in_words, one_stage}
 use Rattle.dsv_cli.proofs.Told.{of_told}
@@ -52,7 +52,7 @@ use Rattle.dsv_cli.proofs.Told.{of_told}
 -- The certificate passes its check against the loop of the files with these bytes.
 record LoopFits (controller plant : List ℕ) (c : Certificate) : Type 0 where
   pub design : ControllerView
-  pub accepted : IsController controller design
+  pub accepted : IsControllerOf controller design
   pub p : PlantView
   pub plant_text : IsPlantOf plant p
   pub quantised : QuantisedView
@@ -98,7 +98,7 @@ words_said : (old new : FilesSeen) (asked : AskedLoop) (words : CertWords) (foun
 words_said old new asked words found controller held (inl h) = in_file (λ bytes. HasWords bytes words) old asked.file controller held h
 words_said old new asked words found controller held (inr h) = absurd (let e = h.2 in cc)
 
-table_fits : (controller plant : List ℕ) (asked : AskedLoop) (words : CertWords) (poly : List ℤ) (d : ControllerView) (p : PlantView) (q : QuantisedView) → IsController controller d → IsPlantOf plant p
+table_fits : (controller plant : List ℕ) (asked : AskedLoop) (words : CertWords) (poly : List ℤ) (d : ControllerView) (p : PlantView) (q : QuantisedView) → IsControllerOf controller d → IsPlantOf plant p
     → HasWords controller words → BecomesFor d (loop_job_with asked words) (Ok q) → IsOfPolynomial (loop_of (q ∷ []) d.sample_time p) poly table.Inside → IsTyped (certificate.Table (loop_job_with asked words) poly)
     → IsLoopAcceptable controller plant (certificate.Table (loop_job_with asked words) poly)
 table_fits controller plant asked words poly d p q a b h becomes is known =
@@ -127,13 +127,13 @@ certificate_fits controller plant old new asked words (answer.OfTable found) c h
     let q = row.3.quantised in
     let w = wanted_table (loop_job_with asked words) found.verdict found.poly c e in
     subst (IsLoopAcceptable controller plant) w.1
-    (table_fits controller plant asked words found.poly d p q (in_file (λ bytes. IsController bytes d) old asked.file controller held row.2.controller_file)
+    (table_fits controller plant asked words found.poly d p q (in_file (λ bytes. IsControllerOf bytes d) old asked.file controller held row.2.controller_file)
     (in_file (λ bytes. IsPlantOf bytes p) old asked.plant plant plant_held row.2.plant_file) said row.3.words
     (subst (IsOfPolynomial (loop_of (q ∷ []) d.sample_time p) found.poly) w.0 (decided (loop_of (q ∷ []) d.sample_time p) found row.3.loop row.3.few)) (subst IsTyped (sym w.1) known))
 certificate_fits controller plant old new asked words found c held plant_held row said e known = absurd (cc)
 
 -- ---- what keeps the files from being a loop's
-unread_accepts : (bytes : List ℕ) (d : ControllerView) (c : Certificate) (old new : FilesSeen) (name : List ℕ) (why : Stop) → IsController bytes d → IsUnread (Some bytes) old new name why → IsAcceptance (job_of c) (Err why)
+unread_accepts : (bytes : List ℕ) (d : ControllerView) (c : Certificate) (old new : FilesSeen) (name : List ℕ) (why : Stop) → IsControllerOf bytes d → IsUnread (Some bytes) old new name why → IsAcceptance (job_of c) (Err why)
 unread_accepts bytes d c old new name (stop.FileRefused text.NoMemory) a h = absurd h
 unread_accepts bytes d c old new name (stop.FileRefused r) a h = absurd (answers_apart bytes d r a.text (of_told _ bytes h.comes_from).1)
 unread_accepts bytes d c old new name stop.FileTooLong a h = absurd (too_long longest_file (length bytes) a.short (of_told _ bytes h.comes_from))
@@ -180,17 +180,17 @@ never_refused controller plant c refusal.NoMemory f n k = n refl
 never_refused controller plant c (refusal.Quant why) f n k =
     let one = accepted_of controller f.design (job_of c) (Ok f.quantised) f.accepted f.becomes in
     let other = accepted_of controller f.design (job_of c) (Err why) f.accepted k in
-    subst IsInWords (one_stage (job_of c).design controller (in_words f.design f.quantised) (refused why) (one, refl) other) tt
+    subst IsStageInWords (one_stage (job_of c).design controller (in_words f.design f.quantised) (refused why) (one, refl) other) tt
 never_refused controller plant c why f n k = never_found controller plant c why f k
 
-never : (controller plant : List ℕ) (c : Certificate) (why : CheckRefusal) (f : LoopFits controller plant c) (d : ControllerView) (p : PlantView) → (why ≡ refusal.NoMemory → ⊥) → IsController controller d → IsPlantOf plant p → IsLoopChecked d p c (Err why) → ⊥
+never : (controller plant : List ℕ) (c : Certificate) (why : CheckRefusal) (f : LoopFits controller plant c) (d : ControllerView) (p : PlantView) → (why ≡ refusal.NoMemory → ⊥) → IsControllerOf controller d → IsPlantOf plant p → IsLoopChecked d p c (Err why) → ⊥
 never controller plant c why f d p n a b k =
     let k1 : IsLoopChecked f.design p c (Err why) = subst (λ x. IsLoopChecked x p c (Err why)) (one_design controller d f.design a.text f.accepted.text) k in
     let k2 : IsLoopChecked f.design f.p c (Err why) = subst (λ x. IsLoopChecked f.design x c (Err why)) (same_plant plant p f.p b f.plant_text) k1 in
     never_refused controller plant c why f n (subst (λ r. IsLoopFoundAfter r f.design f.p c (Err why)) f.format k2)
 
 -- a refusal is want of memory
-refused_accepts : (controller plant : List ℕ) (c : Certificate) (r : CheckRefusal) (why : Stop) (f : LoopFits controller plant c) (d : ControllerView) (p : PlantView) → why ≡ stop_of_check r → IsController controller d → IsPlantOf plant p
+refused_accepts : (controller plant : List ℕ) (c : Certificate) (r : CheckRefusal) (why : Stop) (f : LoopFits controller plant c) (d : ControllerView) (p : PlantView) → why ≡ stop_of_check r → IsControllerOf controller d → IsPlantOf plant p
     → IsLoopChecked d p c (Err r) → IsAcceptance (job_of c) (Err why)
 refused_accepts controller plant c refusal.NoMemory why f d p e a b k = subst (λ s. IsAcceptance (job_of c) (Err s)) (sym e) tt
 refused_accepts controller plant c r why f d p e a b k = absurd (never controller plant c r f d p (λ same. cc) a b k)
@@ -216,7 +216,7 @@ check_accepts controller plant written c f s old new cn pn name (Err why) held p
 check_accepts controller plant written c f s old new cn pn name (Err why) held plant_held written_held (inr (inr row)) =
     let is = spelled_is written c old name row.certificate written_held s row.spelled in
     refused_accepts controller plant c row.check.0 why f row.c row.p row.check.2
-    (in_file (λ bytes. IsController bytes row.c) old cn controller held row.files.controller_file)
+    (in_file (λ bytes. IsControllerOf bytes row.c) old cn controller held row.files.controller_file)
     (in_file (λ bytes. IsPlantOf bytes row.p) old pn plant plant_held row.files.plant_file)
     (subst (λ x. IsLoopChecked row.c row.p x (Err row.check.0)) is row.check.1)
 

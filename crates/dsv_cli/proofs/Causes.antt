@@ -17,7 +17,7 @@ use Rattle.dsv_tested.specs.declared.side.Tested.TheVariants as tested
 use Rattle.dsv_base.specs.Seen.{FilesSeen}
 use Rattle.dsv_invariant.specs.Limits.{unbounded_samples}
 use Rattle.dsv_token.specs.declared.refusal.FileRefusal.TheVariants as text
-use Rattle.dsv_cli.specs.Headline.{CameOf, IsController, IsAccepted, IsTested, IsUnread, IsRow}
+use Rattle.dsv_cli.specs.Headline.{CameOf, IsControllerOf, IsAccepted, IsTested, IsUnread, IsRow}
 use Rattle.dsv_cli.specs.Causes.{IsDecision, IsOfPolynomial, IsOfProperty, IsOfTask}
 use Rattle.dsv_cli.proofs.Told.{along}
 
@@ -31,11 +31,11 @@ row_of_unread told old new job (stop.ReadFault which) h = h
 row_of_unread told old new job stop.NoMemory h = h
 row_of_unread told old new job why h = absurd h
 
-abbrev accepted_in : (design : Design) (bytes : List ℕ) (c : ControllerView) (o : Result QuantisedView QuantRefusal) → BecomesWords c design o → IsController bytes c → IsAccepted design bytes o
+abbrev accepted_in : (design : Design) (bytes : List ℕ) (c : ControllerView) (o : Result QuantisedView QuantRefusal) → BecomesWords c design o → IsControllerOf bytes c → IsAccepted design bytes o
 accepted_in design bytes c o b a = record { short = a.short; controller = c; text = a.text; becomes = b }
 
 -- a controller that is refused in words
-pub row_of_refused : (told : Option (List ℕ)) (old new : FilesSeen) (job : Asked) (c : ControllerView) (r : QuantRefusal) → CameOf told (λ bytes. IsController bytes c) → BecomesWords c job.design (Err r)
+pub row_of_refused : (told : Option (List ℕ)) (old new : FilesSeen) (job : Asked) (c : ControllerView) (r : QuantRefusal) → CameOf told (λ bytes. IsControllerOf bytes c) → BecomesWords c job.design (Err r)
     → IsRow told old new job (Err (stop.QuantRefused r))
 row_of_refused told old new job c r h b = record {
   belongs_to = tt;
@@ -51,7 +51,7 @@ property_of p sc quantised poly (Ok (answer.Wide index)) e h = absurd h
 property_of p sc quantised poly found e h = record { poly = poly; tested = e; decision = h }
 
 -- the words that the file's controller becomes
-pub accepted_words : (told : Option (List ℕ)) (job : Asked) (c : ControllerView) (quantised : QuantisedView) → CameOf told (λ bytes. IsController bytes c) → BecomesWords c job.design (Ok quantised)
+pub accepted_words : (told : Option (List ℕ)) (job : Asked) (c : ControllerView) (quantised : QuantisedView) → CameOf told (λ bytes. IsControllerOf bytes c) → BecomesWords c job.design (Ok quantised)
     → CameOf told (λ bytes. IsAccepted job.design bytes (Ok quantised))
 accepted_words told job c quantised h b = along told (λ bytes a. accepted_in job.design bytes c (Ok quantised) b a) h
 
@@ -68,7 +68,7 @@ tested_poly p quantised job found q sc k e same bytes a = record {
 
 -- what a task comes to, for words that the file's controller becomes
 row_by : (told : Option (List ℕ)) (old new : FilesSeen) (job : Asked) (c : ControllerView) (quantised : QuantisedView) (task : Task) → job.task ≡ task → (found : Outcome)
-    → BecomesWords c job.design (Ok quantised) → CameOf told (λ bytes. IsController bytes c) → IsOfTask c task quantised found → IsRow told old new job found
+    → BecomesWords c job.design (Ok quantised) → CameOf told (λ bytes. IsControllerOf bytes c) → IsOfTask c task quantised found → IsRow told old new job found
 row_by told old new job c quantised (decides p sc) e (Ok answer.NoZeros) b h k = record {
   belongs_to = (sc, subst (λ q. job.task ≡ decides q sc) k.0 e);
   comes_from = along told (λ bytes a. record { property = p; schur_cohn = sc; task = e; quantised = quantised; accepted = accepted_in job.design bytes c (Ok quantised) b a; tested = k.1 }) h;
@@ -206,6 +206,6 @@ row_by told old new job c quantised (simulates inputs) e (Err (stop.InputRange i
 row_by told old new job c quantised (simulates inputs) e (Err stop.NoMemory) b h k = tt
 row_by told old new job c quantised (simulates inputs) e found b h k = absurd k
 
-pub row_of_task : (told : Option (List ℕ)) (old new : FilesSeen) (job : Asked) (c : ControllerView) (quantised : QuantisedView) (found : Outcome) → CameOf told (λ bytes. IsController bytes c)
+pub row_of_task : (told : Option (List ℕ)) (old new : FilesSeen) (job : Asked) (c : ControllerView) (quantised : QuantisedView) (found : Outcome) → CameOf told (λ bytes. IsControllerOf bytes c)
     → BecomesWords c job.design (Ok quantised) → IsOfTask c job.task quantised found → IsRow told old new job found
 row_of_task told old new job c quantised found h b k = row_by told old new job c quantised job.task refl found b h k

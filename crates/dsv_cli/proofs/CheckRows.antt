@@ -16,7 +16,7 @@ use Rattle.dsv_report.specs.declared.stop.WhichFile.TheVariants as file
 use Rattle.dsv_report.specs.Stops.{Outcome}
 use Rattle.dsv_token.specs.declared.refusal.FileRefusal.TheVariants as text
 use Rattle.dsv_cli.specs.Checking.{IsOfCertificate, IsUnreadCertificate, stop_of_check}
-use Rattle.dsv_cli.specs.Headline.{CameOf, IsController, IsCheckOf, IsSpelled, Spells, IsUnread, IsCheckRow}
+use Rattle.dsv_cli.specs.Headline.{CameOf, IsControllerOf, IsCheckOf, IsSpelled, Spells, IsUnread, IsCheckRow}
 use Rattle.dsv_cli.proofs.FileBytes.{unread_earlier}
 use Rattle.dsv_cli.proofs.Told.{along, some_came}
 
@@ -41,12 +41,12 @@ row_of_no_controller old new controller name stop.NoMemory h = h
 row_of_no_controller old new controller name why h = absurd h
 
 -- what is known of the controller and of the certificate's file
-check_of : (P : ControllerView → List ℕ → Type 0) (old : FilesSeen) (controller name : List ℕ) (c : ControllerView) → CameOf (old.held controller) (λ bytes. IsController bytes c)
+check_of : (P : ControllerView → List ℕ → Type 0) (old : FilesSeen) (controller name : List ℕ) (c : ControllerView) → CameOf (old.held controller) (λ bytes. IsControllerOf bytes c)
     → CameOf (old.held name) (P c) → CameOf (old.held controller) (λ bytes. IsCheckOf old name bytes P)
 check_of P old controller name c h k = along (old.held controller) (λ bytes a. record { controller = c; accepted = a; certificate = k }) h
 
 -- a file that is no certificate's, after the controller's was read
-no_certificate : (old new : FilesSeen) (controller name : List ℕ) (c : ControllerView) (why : Stop) → CameOf (old.held controller) (λ bytes. IsController bytes c)
+no_certificate : (old new : FilesSeen) (controller name : List ℕ) (c : ControllerView) (why : Stop) → CameOf (old.held controller) (λ bytes. IsControllerOf bytes c)
     → IsUnreadCertificate old new name why → IsCheckRow (old.held controller) old new controller name (Err why)
 no_certificate old new controller name c (stop.ReadFault file.Certificate) h k = record {
   belongs_to = tt;
@@ -63,7 +63,7 @@ no_certificate old new controller name c (stop.CertificateRefused line (fault.Te
 no_certificate old new controller name c stop.NoMemory h k = tt
 no_certificate old new controller name c why h k = absurd k
 
-pub row_of_no_certificate : (old then new : FilesSeen) (controller name : List ℕ) (c : ControllerView) (why : Stop) → CameOf (old.held controller) (λ bytes. IsController bytes c)
+pub row_of_no_certificate : (old then new : FilesSeen) (controller name : List ℕ) (c : ControllerView) (why : Stop) → CameOf (old.held controller) (λ bytes. IsControllerOf bytes c)
     → then.held ≡ old.held → old.faults ≤ then.faults → old.came ≤ then.came → IsUnreadCertificate then new name why → IsCheckRow (old.held controller) old new controller name (Err why)
 row_of_no_certificate old then new controller name c why h e m l k = no_certificate old new controller name c why h (unread_earlier old then new name why e m l k)
 
@@ -74,7 +74,7 @@ spelled_of P old then name certificate e s p =
     along (old.held name) (λ written is. (certificate, is, p)) (subst (λ held. CameOf (held name) (λ written. IsSpelled written certificate)) e s)
 
 pub row_of_certificate : (old then new : FilesSeen) (controller name : List ℕ) (c : ControllerView) (certificate : Certificate) (found : Outcome)
-    → CameOf (old.held controller) (λ bytes. IsController bytes c) → then.held ≡ old.held → CameOf (then.held name) (λ written. IsSpelled written certificate)
+    → CameOf (old.held controller) (λ bytes. IsControllerOf bytes c) → then.held ≡ old.held → CameOf (then.held name) (λ written. IsSpelled written certificate)
     → IsOfCertificate c certificate found → IsCheckRow (old.held controller) old new controller name found
 row_of_certificate old then new controller name c certificate (Ok (answer.Checked certified error)) h e s k = record {
   belongs_to = tt;

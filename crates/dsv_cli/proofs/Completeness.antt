@@ -9,26 +9,19 @@ use Rattle.dsv_certcheck.specs.declared.check_refusal.CheckRefusal.TheVariants a
 use Rattle.dsv_loop.specs.Loops.{loop_of}
 use Rattle.dsv_loop.specs.declared.refusal.LoopRefusal.{LoopRefusal}
 use Rattle.dsv_report.specs.Stops.{Outcome}
-use Rattle.dsv_report.specs.declared.answers.Answer.TheVariants as answer
 use Rattle.dsv_report.specs.declared.stop.Stop.{Stop}
 use Rattle.dsv_report.specs.declared.stop.Stop.TheVariants as stop
 use Rattle.dsv_report.specs.declared.stop.WhichFile.{WhichFile}
 use Rattle.dsv_report.specs.declared.stop.WhichFile.TheVariants as file
-use Rattle.dsv_cascade.specs.declared.stability.CascadeForms.{CascadeForms}
-use Rattle.dsv_cascade.specs.declared.stability.CascadeForms.TheVariants as forms
-use Rattle.dsv_cascade.specs.declared.stability.SectionFault.TheVariants as fault
 use Rattle.dsv_command.specs.Cascades.{AskedCascade}
 use Rattle.dsv_command.specs.Ellipsoids.{EllipsoidSource, offered, sought, AskedEllipsoid}
 use Rattle.dsv_command.specs.CascadeLoops.{AskedCascadeLoop}
 use Rattle.dsv_command.specs.Loops.{AskedLoop}
-use Rattle.dsv_poly_table.specs.declared.sections.SectionTables.{SectionTables}
-use Rattle.dsv_poly_table.specs.declared.sections.SectionTables.TheVariants as section_tables
 use Rattle.dsv_cli.specs.CascadeLoops.{IsCascadeLoopRow}
 use Rattle.dsv_command.specs.States.{StateTask, decides_states, checks_form, seeks_form, searches_states, measures_states, simulates_states, AskedStates}
-use Rattle.dsv_report.specs.Report.{answer_status, forms_status, section_tables_status, table_status, stop_status}
-use Rattle.dsv_report.specs.declared.answers.Answer.{Answer}
-use Rattle.dsv_table.specs.declared.verdict.TableVerdict.{TableVerdict}
-use Rattle.dsv_table.specs.declared.verdict.TableVerdict.TheVariants as table
+use Rattle.dsv_report.specs.Report.{verdict_of, verdict_status, stop_status}
+use Rattle.dsv_report.specs.declared.verdict.Verdict.{Verdict}
+use Rattle.dsv_report.specs.declared.verdict.Verdict.TheVariants.{Successful, Failed, Inconclusive, Simulation, Plain}
 use Rattle.dsv_cli.specs.Cascades.{IsCascadeRow}
 use Rattle.dsv_cli.specs.Checking.{IsUnreadCertificate, stop_of_check}
 use Rattle.dsv_cli.specs.Completeness.{IsVerdict, IsRefusedByNone, IsDecidedBy, AreDecided}
@@ -38,50 +31,12 @@ use Rattle.dsv_cli.specs.LoopChecks.{IsLoopCheckRow}
 use Rattle.dsv_cli.specs.Loops.{HaveNoLoop, IsOfLoop, IsLoopRow}
 use Rattle.dsv_cli.specs.States.{NamesUnread, IsStateRow}
 
-forms_verdict : (found : CascadeForms) → IsVerdict (forms_status found)
-forms_verdict (forms.Falls offers) = inl refl
-forms_verdict (forms.NotAll section (fault.KeptAway poly offer fall value)) = inr (inl refl)
-forms_verdict (forms.NotAll section (fault.Wide index)) = inr (inr refl)
-forms_verdict (forms.NotAll section (fault.NoClosedForm index)) = inr (inr refl)
-
-section_tables_verdict : (found : SectionTables) → IsVerdict (section_tables_status found)
-section_tables_verdict (section_tables.Inside findings) = inl refl
-section_tables_verdict (section_tables.NotInside section found) = inr (inl refl)
-section_tables_verdict (section_tables.Wide section index) = inr (inr refl)
-
-table_verdict : (v : TableVerdict) → IsVerdict (table_status v)
-table_verdict table.Inside = inl refl
-table_verdict (table.NotInside row) = inr (inl refl)
-
-answer_verdict : (found : Answer) → IsVerdict (answer_status found)
-answer_verdict (answer.Falls poly offer fall) = inl refl
-answer_verdict (answer.KeptAway poly offer fall value) = inr (inl refl)
-answer_verdict (answer.OfTable found) = table_verdict found.verdict
-answer_verdict (answer.OfSections found) = forms_verdict found
-answer_verdict (answer.OfSectionTables found) = section_tables_verdict found
-answer_verdict (answer.StateFalls many offer fall) = inl refl
-answer_verdict answer.NoStateForm = inr (inr refl)
-answer_verdict (answer.InEllipsoid offer) = inl refl
-answer_verdict (answer.FoundEllipsoid offer) = inl refl
-answer_verdict answer.NoEllipsoid = inr (inr refl)
-answer_verdict answer.NoZeros = inr (inl refl)
-answer_verdict (answer.NoForm poly kept verdict) = inr (inr refl)
-answer_verdict (answer.Wide index) = inr (inr refl)
-answer_verdict (answer.OnTime report) = inl refl
-answer_verdict (answer.Late report) = inr (inl refl)
-answer_verdict (answer.Never log) = inl refl
-answer_verdict (answer.Always candidate logs) = inl refl
-answer_verdict (answer.NoInvariant kept) = inr (inr refl)
-answer_verdict (answer.InRanges gain error) = inl refl
-answer_verdict (answer.OutOfRange sample value) = inr (inr refl)
-answer_verdict (answer.TooDeep depth) = inr (inr refl)
-answer_verdict (answer.Overflow trace) = inr (inl refl)
-answer_verdict (answer.Cycles cycle) = inr (inl refl)
-answer_verdict (answer.Spent log) = inr (inr refl)
-answer_verdict (answer.FormulaText formula) = inl refl
-answer_verdict (answer.Simulated rows) = inl refl
-answer_verdict (answer.Generated found) = inl refl
-answer_verdict (answer.Checked certified error) = inl refl
+answer_verdict : (v : Verdict) → IsVerdict (verdict_status v)
+answer_verdict Successful = inl refl
+answer_verdict Failed = inr (inl refl)
+answer_verdict Inconclusive = inr (inr refl)
+answer_verdict Simulation = inl refl
+answer_verdict Plain = inl refl
 
 abbrev stopped : Stop → Outcome
 stopped why = Err why
@@ -111,7 +66,7 @@ stop_decided old new HasRow rose (stop.ReadFault which) row none calm = absurd (
 stop_decided old new HasRow rose stop.NoMemory row none calm = inr refl
 
 decided : (old new : FilesSeen) (HasRow : Outcome → Type 0) → ((which : WhichFile) → HasRow (Err (stop.ReadFault which)) → Rose old.faults new.faults) → IsDecidedBy old new HasRow
-decided old new HasRow rose (Ok found) row none calm = inl (answer_verdict found)
+decided old new HasRow rose (Ok found) row none calm = inl (answer_verdict (verdict_of found))
 decided old new HasRow rose (Err why) row none calm = stop_decided old new HasRow rose why row none calm
 
 -- ---- faults of reads

@@ -17,7 +17,7 @@ use Rattle.dsv_report.specs.declared.stop.WhichFile.TheVariants as file
 use Rattle.dsv_report.specs.Stops.{Outcome}
 use Rattle.dsv_token.specs.declared.refusal.FileRefusal.TheVariants as text
 use Rattle.dsv_cli.specs.Cascades.{IsFileOf}
-use Rattle.dsv_cli.specs.Ellipsoids.{IsOffer, IsOfferOf, IsUnreadOffer, IsOfOffer, IsOfSoughtEllipsoid, IsOfSource, NamesOffer, NamesNoOffer, IsInWords, IsOfEllipsoid, IsEllipsoidRow}
+use Rattle.dsv_cli.specs.Ellipsoids.{IsOffer, IsOfferOf, IsUnreadOffer, IsOfOffer, IsOfSoughtEllipsoid, IsOfSource, NamesOffer, NamesNoOffer, IsFoundInWords, IsOfEllipsoid, IsEllipsoidRow}
 use Rattle.dsv_cli.specs.FileBytes.{IsUnreadFile}
 use Rattle.dsv_cli.specs.Headline.{longest_certificate, CameOf, IsUnread}
 
@@ -112,7 +112,7 @@ source_earlier : (old between : FilesSeen) (source : EllipsoidSource) (q : Quant
 source_earlier old between (offered name) q found e h = (h.0, came_earlier old between name h.0 e h.1, h.2)
 source_earlier old between sought q found e h = h
 
-words_earlier : (old between : FilesSeen) (asked : AskedEllipsoid) (c : ControllerView) (found : Outcome) → between.held ≡ old.held → IsInWords between asked c found → IsInWords old asked c found
+words_earlier : (old between : FilesSeen) (asked : AskedEllipsoid) (c : ControllerView) (found : Outcome) → between.held ≡ old.held → IsFoundInWords between asked c found → IsFoundInWords old asked c found
 words_earlier old between asked c found e h = (h.0, h.1, source_earlier old between asked.source h.0 found e h.2)
 
 pub ellipsoid_earlier : (old between new : FilesSeen) (asked : AskedEllipsoid) (c : ControllerView) (found : Outcome) → between.held ≡ old.held → old.faults ≤ between.faults → old.came ≤ between.came

@@ -10,7 +10,7 @@ use Rattle.dsv_report.specs.declared.stop.Stop.{Stop}
 use Rattle.dsv_report.specs.declared.stop.Stop.TheVariants as stop
 use Rattle.dsv_report.specs.declared.stop.WhichFile.TheVariants as file
 use Rattle.dsv_cli.specs.Cascades.{IsFileOf, AreControllers, IsSectionUnread, IsLaterUnread}
-use Rattle.dsv_cli.specs.Headline.{longest_file, CameOf, IsController, AreKept}
+use Rattle.dsv_cli.specs.Headline.{longest_file, CameOf, IsControllerOf, AreKept}
 use Rattle.dsv_cli.proofs.Pairwise.{pairs_weaker}
 
 -- ---- one file
@@ -27,7 +27,7 @@ section_earlier old then new name section stop.NoMemory k l h = tt
 section_earlier old then new name section why k l h = absurd h
 
 pub file_earlier : (old then : FilesSeen) (name : List ℕ) (c : ControllerView) → AreKept old then → IsFileOf then name c → IsFileOf old name c
-file_earlier old then name c k h = subst (λ held. CameOf (held name) (λ bytes. IsController bytes c)) k.held h
+file_earlier old then name c k h = subst (λ held. CameOf (held name) (λ bytes. IsControllerOf bytes c)) k.held h
 
 pub files_earlier : (old then : FilesSeen) (names : List (List ℕ)) (cs : List ControllerView) → AreKept old then → AreControllers then names cs → AreControllers old names cs
 files_earlier old then names cs k h = pairs_weaker (IsFileOf then) (IsFileOf old) names cs (λ name c f. file_earlier old then name c k f) h

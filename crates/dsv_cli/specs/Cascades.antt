@@ -20,7 +20,7 @@ use Rattle.dsv_report.specs.declared.stop.Stop.{Stop}
 use Rattle.dsv_report.specs.declared.stop.Stop.TheVariants as stop
 use Rattle.dsv_report.specs.declared.stop.WhichFile.TheVariants as file
 use Rattle.dsv_report.specs.Stops.{Outcome}
-use Rattle.dsv_cli.specs.Headline.{longest_file, CameOf, IsController, IsUnread}
+use Rattle.dsv_cli.specs.Headline.{longest_file, CameOf, IsControllerOf, IsUnread}
 use Rattle.dsv_cascade.specs.Subjects.{of_cascade}
 use Rattle.dsv_names.specs.declared.property.RunProperty.TheVariants as run
 use Rattle.dsv_cli.specs.Gain.{IsNotSought, IsOfGain}
@@ -36,7 +36,7 @@ Pairwise R _ _ = ⊥
 -- ---- the files of the sections
 -- the file of this name has the text of this controller
 abbrev pub IsFileOf : FilesSeen → List ℕ → ControllerView → Type 0
-IsFileOf old name c = CameOf (old.held name) (λ bytes. IsController bytes c)
+IsFileOf old name c = CameOf (old.held name) (λ bytes. IsControllerOf bytes c)
 
 -- so have the files of these names
 abbrev pub AreControllers : FilesSeen → List (List ℕ) → List ControllerView → Type 0

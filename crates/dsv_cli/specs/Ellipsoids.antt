@@ -91,8 +91,8 @@ NamesNoOffer old new (offered name) why = IsUnreadOffer old new name why
 NamesNoOffer old new sought why = ⊥
 
 -- the controller becomes words for which the job comes to this
-abbrev pub IsInWords : FilesSeen → AskedEllipsoid → ControllerView → Outcome → Type 0
-IsInWords old asked c found = (q : QuantisedView) × BecomesWords c asked.design (Ok q)
+abbrev pub IsFoundInWords : FilesSeen → AskedEllipsoid → ControllerView → Outcome → Type 0
+IsFoundInWords old asked c found = (q : QuantisedView) × BecomesWords c asked.design (Ok q)
     × IsOfSource old asked.source q found
 
 -- What a job comes to for the controller of its file: first the ellipsoid that is offered is read,
@@ -109,7 +109,7 @@ IsOfEllipsoid old new asked c (Err (stop.EllipsoidText r)) =
     NamesNoOffer old new asked.source (stop.EllipsoidText r)
 IsOfEllipsoid old new asked c (Err (stop.QuantRefused r)) =
     NamesOffer old asked.source × BecomesWords c asked.design (Err r)
-IsOfEllipsoid old new asked c found = IsInWords old asked c found
+IsOfEllipsoid old new asked c found = IsFoundInWords old asked c found
 
 -- ---- the table
 -- the file has the text of a controller, for which the job comes to this

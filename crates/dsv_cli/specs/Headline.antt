@@ -204,7 +204,7 @@ AsksOver job bytes samples q =
 
 -- ---- checks of certificates
 -- The bytes are the text of a controller.
-pub record IsController (bytes : List ℕ) (c : ControllerView) : Type 0 where
+pub record IsControllerOf (bytes : List ℕ) (c : ControllerView) : Type 0 where
   pub short : length bytes ≤ longest_file
   pub text : IsTextOf bytes c
 
@@ -217,7 +217,7 @@ CameOf told holds = (bytes : List ℕ) × IfSome told (λ file. bytes ≡ file) 
 pub record IsCheckOf (old : FilesSeen) (name : List ℕ) (bytes : List ℕ)
     (P : ControllerView → List ℕ → Type 0) : Type 0 where
   pub controller : ControllerView
-  pub accepted : IsController bytes controller
+  pub accepted : IsControllerOf bytes controller
   pub certificate : CameOf (old.held name) (P controller)
 
 -- The bytes spell a certificate.
@@ -232,7 +232,7 @@ Spells P written = (c : Certificate) × IsSpelled written c × P c
 -- The bytes are the text of a controller that has the property of a certificate's job.
 pub record HasShown (bytes : List ℕ) (certified : CertifiedJob) : Type 0 where
   pub controller : ControllerView
-  pub accepted : IsController bytes controller
+  pub accepted : IsControllerOf bytes controller
   pub shown : IsShownOf controller certified
 
 -- the certificate passes its check, has this job, and its offer for the output's error, if it has
@@ -471,7 +471,7 @@ FileBecomes old (Some job) q =
 -- before the point and after it, where these are over 32 together.
 pub record HasWords (bytes : List ℕ) (said : CertWords) : Type 0 where
   pub controller : ControllerView
-  pub accepted : IsController bytes controller
+  pub accepted : IsControllerOf bytes controller
   pub words : said ≡ words_for controller.int_bits controller.frac_bits
 
 -- what keeps the file of this name from being a controller's was found

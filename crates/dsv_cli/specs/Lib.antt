@@ -18,6 +18,7 @@ pub mod Loops
 pub mod OneAnswer
 pub mod Proposers
 pub mod RunTasks
+pub mod Runs
 pub mod Searching
 pub mod SectionFiles
 pub mod SetAsking

@@ -5,10 +5,10 @@ ghost use Rattle.dsv_cli.specs.CascadeLoops.{IsCascadeLoopRow};
 ghost use Rattle.dsv_cli.specs.Causes.{IsPlain};
 ghost use Rattle.dsv_cli.specs.Headline.{AreKept};
 
+use crate::cascade_words::quantised_cascade;
 use crate::loop_files::read_plant_file;
 use crate::loops::loop_answer;
 use crate::section_files::read_sections;
-use crate::sections::quantised_cascade;
 use dsv_base::Files;
 use dsv_command::CascadeLoopJob;
 use dsv_report::{Answer, Stop};

@@ -1,6 +1,6 @@
 // The controller in a file.
 ghost use Rattle.std.specs.Prelude.{◌≤◌, IfOk, IfErr};
-ghost use Rattle.dsv_cli.specs.Headline.{AreKept, CameOf, IsController, IsUnread};
+ghost use Rattle.dsv_cli.specs.Headline.{AreKept, CameOf, IsControllerOf, IsUnread};
 
 use crate::file_bytes::read_bytes;
 use dsv_base::Files;
@@ -15,7 +15,7 @@ pub(crate) fn read_controller<F: Files>(
     files: &mut F,
 ) -> Result<Controller, Stop>
     ensures controller { IfOk result (λ c. CameOf ((F.seen files.old).held name.now)
-        (λ bytes. IsController bytes c)) }
+        (λ bytes. IsControllerOf bytes c)) }
     ensures unread { IfErr result (IsUnread ((F.seen files.old).held name.now) (F.seen files.old)
         (F.seen files.new) name.now) }
     ensures kept { AreKept (F.seen files.old) (F.seen files.new) }

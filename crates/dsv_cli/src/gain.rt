@@ -55,12 +55,16 @@ pub(crate) fn gain_answer<S: Subject>(alloc: Global, asking: &Asking<S>) -> Resu
 }
 
 /// How far a controller's outputs are from those of exact runs, where a bound is found.
-fn outputs_error(alloc: Global, quantised: &Quantised, gain: &Gain) -> Result<OutputError, NoMemory>
-    requires { HoldsAlways (of_controller quantised.now) gain.now.ranges }
-    ensures { IfOk result (IsErrorOf quantised.now) }
+fn outputs_error(
+    alloc: Global,
+    asking: &Asking<Quantised>,
+    gain: &Gain,
+) -> Result<OutputError, NoMemory>
+    requires { HoldsAlways (of_controller asking.now.subject.now) gain.now.ranges }
+    ensures { IfOk result (IsErrorOf asking.now.subject.now) }
 {
-    let _order = quantised.order(); // its range, for the proof
-    match rounding_error(alloc, quantised, MOST_SAMPLES)? {
+    let _order = asking.subject.order(); // its range, for the proof
+    match rounding_error(alloc, asking, MOST_SAMPLES)? {
         Some(bound) => Ok(OutputError::Within(bound)),
         None => Ok(OutputError::Open),
     }
@@ -75,7 +79,7 @@ pub(crate) fn controller_gain_answer(alloc: Global, quantised: &Quantised) -> Re
     let asking = Asking::of(alloc, quantised)?;
     match gain(alloc, &asking, MOST_SAMPLES)? {
         Outlook::Safe(gain) => {
-            let error = outputs_error(alloc, quantised, &gain)?;
+            let error = outputs_error(alloc, &asking, &gain)?;
             Ok(Answer::InRanges { gain, error })
         }
         Outlook::Leaves { sample, value } => left_answer(alloc, &asking, sample, value),

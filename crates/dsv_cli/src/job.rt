@@ -7,11 +7,12 @@ ghost use Rattle.dsv_base.specs.Seen.{FilesSeen};
 ghost use Rattle.dsv_certfile.specs.Lawful.{IsWords};
 ghost use Rattle.dsv_certfile.specs.Words.{words_for};
 ghost use Rattle.dsv_quantiser.specs.Modes.{BecomesWords};
-ghost use Rattle.dsv_cli.specs.Headline.{AreKept, CameOf, IsController, Decides, Seeks};
+ghost use Rattle.dsv_cli.specs.Headline.{AreKept, CameOf, IsControllerOf, Decides, Seeks};
 ghost use Rattle.dsv_cli.specs.Headline.{FileBecomes, IsRow, SaysWords, AsksSchurCohn};
 ghost use Rattle.dsv_cli.specs.Proposers.{IsAsked, AreSetsAsked};
 
 use crate::controller_file::read_controller;
+use crate::found::Found;
 use crate::gain::controller_gain_answer;
 use crate::proposers::Proposers;
 use crate::questions::formula_answer;
@@ -70,14 +71,6 @@ fn task_answer(
     }
 }
 
-/// What a job on a file comes to.
-#[derive(Drop)]
-pub(crate) struct JobOutcome {
-    pub outcome: Result<Answer, Stop>,
-    /// What a certificate of it says of the format of the controller's words.
-    pub words: CertWords,
-}
-
 /// What certificates of a controller say of the format of its words.
 pub(crate) fn said_of(controller: &Controller) -> CertWords
     ensures words { result ≡ words_for controller.now.int_bits controller.now.frac_bits }
@@ -95,7 +88,7 @@ fn controller_answer(
 ) -> Result<Answer, Stop>
     // Whatever file the controller came from.
     ensures row { (told : Option (List ℕ)) (old new : FilesSeen)
-        → CameOf told (λ bytes. IsController bytes controller.now)
+        → CameOf told (λ bytes. IsControllerOf bytes controller.now)
         → IsRow told old new (asked_of job.now) result }
     ensures places { IfOk result HasPlaces }
     ensures sets { AreSetsAsked (λ b. b.ptr)
@@ -124,12 +117,13 @@ pub(crate) fn job_outcome<F: Files>(
     job: &Job,
     files: &mut F,
     proposers: &mut Proposers,
-) -> JobOutcome
+) -> Found
     ensures row { IsRow ((F.seen files.old).held (asked_of job.now).file) (F.seen files.old)
         (F.seen files.new) (asked_of job.now) result.outcome }
     ensures words { SaysWords (F.seen files.old) (F.seen files.new) (asked_of job.now)
         result.outcome result.words }
     ensures lawful { IsWords result.words }
+    ensures states { result.states ≡ 0 }
     ensures kept { AreKept (F.seen files.old) (F.seen files.new) }
     ensures places { IfOk result.outcome HasPlaces }
     ensures sets { AreSetsAsked (λ b. b.ptr)
@@ -149,13 +143,11 @@ pub(crate) fn job_outcome<F: Files>(
         → proposers.new.forms.items ≡ proposers.old.forms.items }
 {
     match read_controller(alloc, job.file, files) {
-        Ok(controller) => JobOutcome {
+        Ok(controller) => Found {
             outcome: controller_answer(alloc, &controller, job, proposers),
             words: said_of(&controller),
+            states: 0,
         },
-        Err(stop) => JobOutcome {
-            outcome: Err(stop),
-            words: CertWords::Unsaid,
-        },
+        Err(stop) => Found::unsaid(Err(stop)),
     }
 }

@@ -3,31 +3,33 @@
 #![tactic(auto)]
 
 mod cascade_loops;
+mod cascade_words;
+mod cascades;
 mod check;
 mod command;
 mod controller_file;
 mod ellipsoids;
 mod file_bytes;
 mod forms;
+mod found;
 mod gain;
 mod job;
 mod law;
 mod loop_check;
 mod loop_files;
 mod loops;
+mod os_files;
 mod proposers;
 mod questions;
+mod requests;
 mod roots;
 mod run_task;
 mod run_tasks;
 mod section_files;
-mod sections;
-mod series;
 mod sets;
 mod simulation;
 mod state_file;
 mod states;
-mod system_files;
 mod timing;
 mod turns;
 
@@ -40,6 +42,6 @@ pub use law::{
     jobs_are_decided, told_files_have_one_answer, written_certificates_are_accepted,
     written_loop_certificates_are_accepted,
 };
+pub use os_files::{OsFiles, OsOut};
 pub use proposers::{Proposers, run_with_built_in};
 pub use sets::{SetAnswer, seek_set};
-pub use system_files::{OsFiles, OsOut};

@@ -9,10 +9,10 @@ ghost use Rattle.dsv_cli.specs.Headline.{AreKept};
 ghost use Rattle.dsv_cli.specs.Loops.{IsLoopRow, IsOfLoop, IsOfPlant, SaysLoop};
 ghost use Rattle.dsv_cli.specs.Loops.{HasFewCoefficients};
 
-use crate::job::{JobOutcome, said_of};
+use crate::found::Found;
+use crate::job::said_of;
 use crate::loop_files::{LoopFiles, read_loop};
 use dsv_base::Files;
-use dsv_certfile::CertWords;
 use dsv_command::LoopJob;
 use dsv_fraction::Frac;
 use dsv_loop::loop_polynomial;
@@ -55,23 +55,22 @@ fn files_answer(alloc: Global, job: &LoopJob, files: &LoopFiles) -> Result<Answe
 }
 
 /// What a job for a loop comes to.
-pub(crate) fn loop_outcome<F: Files>(alloc: Global, job: &LoopJob, files: &mut F) -> JobOutcome
+pub(crate) fn loop_outcome<F: Files>(alloc: Global, job: &LoopJob, files: &mut F) -> Found
     ensures row { IsLoopRow (F.seen files.old) (F.seen files.new) (asked_loop job.now)
         result.outcome }
     ensures words { SaysLoop (F.seen files.old) (F.seen files.new) (asked_loop job.now)
         result.outcome result.words }
     ensures lawful { IsWords result.words }
+    ensures states { result.states ≡ 0 }
     ensures kept { AreKept (F.seen files.old) (F.seen files.new) }
     ensures plain { IsPlain result.outcome }
 {
     match read_loop(alloc, job.file, job.plant, files) {
-        Ok(found) => JobOutcome {
+        Ok(found) => Found {
             outcome: files_answer(alloc, job, &found),
             words: said_of(&found.controller),
+            states: 0,
         },
-        Err(stop) => JobOutcome {
-            outcome: Err(stop),
-            words: CertWords::Unsaid,
-        },
+        Err(stop) => Found::unsaid(Err(stop)),
     }
 }

@@ -1,19 +1,15 @@
 // The proposers that a run may ask, and the command with those that are built in.
-ghost use Rattle.std.specs.Prelude.{◌≡◌, [], ◌∷◌, false, Some, IfSome, map, string_bytes};
-ghost use Rattle.dsv_certfile.specs.Typed.{IsTyped};
-ghost use Rattle.dsv_command.specs.Requests.{request_of, job_of};
-ghost use Rattle.dsv_report.specs.Output.{output_of, certificate_written, asked_by};
-ghost use Rattle.dsv_report.specs.Report.{status_of};
+ghost use Rattle.std.specs.Prelude.{◌≡◌, [], ◌∷◌, Some, map, string_bytes};
+ghost use Rattle.dsv_command.specs.Requests.{request_of, job_in};
 ghost use Rattle.dsv_invariant.specs.Shapes.{shape_of};
 ghost use Rattle.dsv_template.specs.declared.shape.Shape.{Shape};
 ghost use Rattle.dsv_template.specs.Boxes.{boxes};
-ghost use Rattle.dsv_cli.specs.Explained.{IsExplained, IsSaid};
 ghost use Rattle.dsv_cli.specs.Headline.{FileBecomes};
-ghost use Rattle.dsv_cli.specs.Headline.{AreKept, IsWritten, IfWhole};
-ghost use Rattle.dsv_cli.specs.Proposers.{IfNoForm, IfNoInvariant, WantsSchurCohn, is_low};
+ghost use Rattle.dsv_cli.specs.Proposers.{IfNoInvariant};
+ghost use Rattle.dsv_cli.specs.Runs.{IsDone};
 ghost use Rattle.dsv_cli.specs.Sets.{AreOfJob};
 
-use crate::command::{Done, put_outcome, run};
+use crate::command::{Done, put_refusal, run};
 use dsv_base::{Files, Sink};
 use dsv_lyapunov::{FormProposer, SumProposer};
 use dsv_report::Stop;
@@ -41,35 +37,21 @@ fn run_with<F: Files, K: Sink>(
     requires boxes { (shape : Shape)
         → (⟦<dyn InvariantProposer as InvariantProposer>⟧ first.vtable).to_come first.value shape
         ≡ Some (boxes shape) }
-    ensures explained { IsExplained (F.seen files.old) (F.seen files.new)
-        (request_of (map string_bytes arguments.now)) result.outcome }
+    ensures run { IsDone (F.seen files.old) (F.seen files.new) (K.seen sink.old) (K.seen sink.new)
+        (request_of (map string_bytes arguments.now)) result }
     // No set: each of the first 32 boxes was judged, and one that is good has a search that gave
     // up.
     ensures boxes { IfNoInvariant result.outcome (AreOfJob
-        (FileBecomes (F.seen files.old) (job_of (map string_bytes arguments.now)))
+        (FileBecomes (F.seen files.old) (job_in (request_of (map string_bytes arguments.now))))
         (λ q. Some (boxes (shape_of q)) ∷ [])) }
-    ensures low_orders { IfNoForm result.outcome (λ poly kept. is_low poly ≡ false) }
-    ensures schur_cohn { WantsSchurCohn (request_of (map string_bytes arguments.now))
-        → IfNoForm result.outcome (λ poly kept. ⊥) }
-    ensures said { IsSaid (F.seen files.old) (F.seen files.new)
-        (request_of (map string_bytes arguments.now)) result.outcome result.states result.words }
-    ensures kept { AreKept (F.seen files.old) (F.seen files.new) }
-    ensures written { IsWritten (K.seen sink.old) (K.seen sink.new) result.status
-        (status_of result.outcome)
-        (output_of (asked_by result.states (request_of (map string_bytes arguments.now)))
-        result.words result.outcome) }
-    ensures typed { IfWhole result.status (IfSome
-        (certificate_written
-        (asked_by result.states (request_of (map string_bytes arguments.now))) result.words
-        result.outcome) IsTyped) }
 {
     let Ok(second) = Box::new(alloc, SumProposer::new()) else {
-        return put_outcome(sink, Err(Stop::NoMemory));
+        return put_refusal(sink, Stop::NoMemory);
     };
     let mut sets: Vec<Box<dyn InvariantProposer>> = Vec::new(alloc);
     let mut forms: Vec<Box<dyn FormProposer>> = Vec::new(alloc);
     if sets.push(first).is_err() || forms.push(second).is_err() {
-        return put_outcome(sink, Err(Stop::NoMemory));
+        return put_refusal(sink, Stop::NoMemory);
     }
     let mut proposers = Proposers { sets, forms };
     run(alloc, arguments, files, sink, &mut proposers)
@@ -83,30 +65,16 @@ pub fn run_with_built_in<F: Files, K: Sink>(
     files: &mut F,
     sink: &mut K,
 ) -> Done
-    ensures explained { IsExplained (F.seen files.old) (F.seen files.new)
-        (request_of (map string_bytes arguments.now)) result.outcome }
+    ensures run { IsDone (F.seen files.old) (F.seen files.new) (K.seen sink.old) (K.seen sink.new)
+        (request_of (map string_bytes arguments.now)) result }
     // No set: each of the first 32 boxes was judged, and one that is good has a search that gave
     // up.
     ensures boxes { IfNoInvariant result.outcome (AreOfJob
-        (FileBecomes (F.seen files.old) (job_of (map string_bytes arguments.now)))
+        (FileBecomes (F.seen files.old) (job_in (request_of (map string_bytes arguments.now))))
         (λ q. Some (boxes (shape_of q)) ∷ [])) }
-    ensures low_orders { IfNoForm result.outcome (λ poly kept. is_low poly ≡ false) }
-    ensures schur_cohn { WantsSchurCohn (request_of (map string_bytes arguments.now))
-        → IfNoForm result.outcome (λ poly kept. ⊥) }
-    ensures said { IsSaid (F.seen files.old) (F.seen files.new)
-        (request_of (map string_bytes arguments.now)) result.outcome result.states result.words }
-    ensures kept { AreKept (F.seen files.old) (F.seen files.new) }
-    ensures written { IsWritten (K.seen sink.old) (K.seen sink.new) result.status
-        (status_of result.outcome)
-        (output_of (asked_by result.states (request_of (map string_bytes arguments.now)))
-        result.words result.outcome) }
-    ensures typed { IfWhole result.status (IfSome
-        (certificate_written
-        (asked_by result.states (request_of (map string_bytes arguments.now))) result.words
-        result.outcome) IsTyped) }
 {
     let Ok(first) = Box::new(alloc, BoxProposer::new()) else {
-        return put_outcome(sink, Err(Stop::NoMemory));
+        return put_refusal(sink, Stop::NoMemory);
     };
     run_with(alloc, arguments, files, sink, first)
 }

@@ -3,7 +3,7 @@ ghost use Rattle.std.specs.Prelude.{◌≡◌, ◌≤◌, [], ◌∷◌, ◌++�
 ghost use Rattle.dsv_command.specs.Cascades.{most_later};
 ghost use Rattle.dsv_cli.specs.Cascades.{AreControllers, HaveControllers};
 ghost use Rattle.dsv_cli.specs.Cascades.{IsSectionUnread, IsLaterUnread};
-ghost use Rattle.dsv_cli.specs.Headline.{AreKept, CameOf, IsController};
+ghost use Rattle.dsv_cli.specs.Headline.{AreKept, CameOf, IsControllerOf};
 ghost use Rattle.dsv_cli.specs.SectionFiles.{stop_of_section, IsFilesUnread};
 
 use crate::controller_file::read_controller;
@@ -47,7 +47,7 @@ fn read_section<F: Files>(
     files: &mut F,
 ) -> Result<Controller, Stop>
     ensures controller { IfOk result (λ c. CameOf ((F.seen files.old).held name.now)
-        (λ bytes. IsController bytes c)) }
+        (λ bytes. IsControllerOf bytes c)) }
     ensures unread { IfErr result
         (IsSectionUnread (F.seen files.old) (F.seen files.new) name.now section) }
     ensures kept { AreKept (F.seen files.old) (F.seen files.new) }

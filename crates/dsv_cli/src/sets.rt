@@ -24,6 +24,7 @@ use dsv_bounded::BoundedRefusal;
 use dsv_command::Budget;
 use dsv_invariant::{accept_unbounded, check_candidate, shape_of};
 use dsv_quantiser::Quantised;
+use dsv_realise::Asking;
 use dsv_report::{Answer, Stop};
 use dsv_template::{Candidate, InvariantProposer, KeptSet, KeptSets, ThreeLogs, Why};
 use std::alloc::Global;
@@ -60,28 +61,32 @@ pub enum SetAnswer {
 /// What comes of asking the proposers in their order ([`first_accepted`]).
 fn asked_sets(
     alloc: Global,
-    quantised: &Quantised,
+    asking: &Asking<Quantised>,
     budget: &Budget,
     sets: &mut Vec<Box<dyn InvariantProposer>>,
 ) -> Result<SetAnswer, NoMemory>
-    requires { IsWithin (of_controller quantised.now) unbounded_samples }
+    requires { IsWithin (of_controller asking.now.subject.now) unbounded_samples }
     ensures suffix { IsSuffix (λ b. b.ptr) sets.old.items sets.new.items }
-    ensures good { IfOk result (λ a. IfKept a (KeepsTo quantised.now budget.now.conflicts)) }
+    ensures good { IfOk result
+        (λ a. IfKept a (KeepsTo asking.now.subject.now budget.now.conflicts)) }
     ensures last { IfOk result (λ a. IfKept a (λ candidate logs.
         IfFirst sets.new.items (λ b. last b ≡ Some candidate))) }
     ensures heard { IfOk result (λ a. IfKept a (λ candidate logs.
         IfFirst sets.new.items (λ b. heard b (why.Good logs)))) }
     ensures none_left { IfOk result (λ a. IfNoSet a (λ kept. sets.new.items ≡ [])) }
-    ensures causes { IfOk result (λ a. IfNoSet a (NoneIsGood quantised.now budget.now.conflicts)) }
+    ensures causes { IfOk result
+        (λ a. IfNoSet a (NoneIsGood asking.now.subject.now budget.now.conflicts)) }
     ensures blocks { IfOk result (λ a. IfNoSet a (λ kept. AreBlocks 32
-        (told_for (λ b shape. to_come b shape) quantised.now sets.old.items) (candidates kept))) }
+        (told_for (λ b shape. to_come b shape) asking.now.subject.now sets.old.items)
+        (candidates kept))) }
 {
-    let shape = shape_of(quantised);
+    let shape = shape_of(asking.subject);
     // Asks a proposer once, and tells it what was found of its offer.
     let ask = |first: &mut Box<dyn InvariantProposer>| -> Result<SetTurn, NoMemory>
         requires lawful { IsLawful shape }
         ensures same { first.new.ptr ≡ first.old.ptr }
-        ensures judged { IfOk result (IsJudgedSet quantised.entry.now budget.entry.now.conflicts) }
+        ensures judged { IfOk result
+            (IsJudgedSet asking.entry.now.subject.now budget.entry.now.conflicts) }
         ensures last { IfOk result (λ came. IfSome (candidate_of came) (λ c.
             last first.new ≡ Some c)) }
         ensures turn { IfOk result (λ came. IsTurn (to_come first.old shape)
@@ -92,7 +97,7 @@ fn asked_sets(
         let Some(candidate) = first.propose(alloc, &shape)? else {
             return Ok(Turn::Nothing);
         };
-        let why = check_candidate(alloc, quantised, &candidate, budget.conflicts)?;
+        let why = check_candidate(alloc, asking, &candidate, budget.conflicts)?;
         first.tell(&why);
         Ok(turn_of(candidate, why))
     };
@@ -133,7 +138,8 @@ pub fn seek_set(
         (told_for (λ b shape. to_come b shape) quantised.now sets.old.items) (candidates kept))) }
 {
     accept_unbounded(quantised)?;
-    Ok(asked_sets(alloc, quantised, budget, sets)?)
+    let asking = Asking::of(alloc, quantised)?;
+    Ok(asked_sets(alloc, &asking, budget, sets)?)
 }
 
 /// The answer on runs of any length, by what the proposers of sets offer.

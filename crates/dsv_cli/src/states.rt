@@ -15,6 +15,7 @@ ghost use Rattle.dsv_cli.specs.States.{IsOfSoughtForm, IsOfStateTable, IsOfState
 ghost use Rattle.dsv_cli.specs.States.{SaysStates};
 
 use crate::check::{check_stop, read_certificate};
+use crate::found::Found;
 use crate::run_task::RunTask;
 use crate::run_tasks::run_answer;
 use crate::state_file::read_state_file;
@@ -137,16 +138,6 @@ fn states_answer<F: Files>(
     }
 }
 
-/// What a job for a state-space controller comes to.
-#[derive(Drop)]
-pub(crate) struct StateOutcome {
-    pub outcome: Result<Answer, Stop>,
-    /// How many states the file's controller has, and 0 where the file is none's.
-    pub states: u32,
-    /// What a certificate of it says of the format of the controller's words.
-    pub words: CertWords,
-}
-
 /// What certificates of a controller say of the format of its words.
 fn said_of(controller: &StateFile) -> CertWords
     ensures words { result ≡ words_for controller.now.int_bits controller.now.frac_bits }
@@ -156,7 +147,7 @@ fn said_of(controller: &StateFile) -> CertWords
 }
 
 /// What a job for a state-space controller comes to.
-pub(crate) fn state_outcome<F: Files>(alloc: Global, job: &StateJob, files: &mut F) -> StateOutcome
+pub(crate) fn state_outcome<F: Files>(alloc: Global, job: &StateJob, files: &mut F) -> Found
     ensures row { IsStateRow (F.seen files.old) (F.seen files.new) (asked_states job.now)
         result.outcome }
     ensures said { SaysStates (F.seen files.old) (F.seen files.new) (asked_states job.now)
@@ -166,15 +157,11 @@ pub(crate) fn state_outcome<F: Files>(alloc: Global, job: &StateJob, files: &mut
     ensures plain { IsPlain result.outcome }
 {
     match read_state_file(alloc, job.file, files) {
-        Ok(controller) => StateOutcome {
+        Ok(controller) => Found {
             outcome: states_answer(alloc, job, &controller, files),
-            states: controller.states(),
             words: said_of(&controller),
+            states: controller.states(),
         },
-        Err(stop) => StateOutcome {
-            outcome: Err(stop),
-            states: 0,
-            words: CertWords::Unsaid,
-        },
+        Err(stop) => Found::unsaid(Err(stop)),
     }
 }

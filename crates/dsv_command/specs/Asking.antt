@@ -2,18 +2,18 @@
 use Rattle.std.specs.Prelude.{map}
 use Rattle.dsv_command.specs.CascadeLoops as cascade_loops
 use Rattle.dsv_command.specs.Cascades as cascades
-use Rattle.dsv_command.specs.declared.cascade.CascadeJob.{CascadeJob}
-use Rattle.dsv_command.specs.declared.cascade.CascadeTask.{CascadeTask}
-use Rattle.dsv_command.specs.declared.cascade.CascadeTask.TheVariants as series
+use Rattle.dsv_command.specs.declared.cascades.CascadeJob.{CascadeJob}
+use Rattle.dsv_command.specs.declared.cascades.CascadeTask.{CascadeTask}
+use Rattle.dsv_command.specs.declared.cascades.CascadeTask.TheVariants as series
 use Rattle.dsv_command.specs.declared.cascade_loops.CascadeLoopJob.{CascadeLoopJob}
 use Rattle.dsv_command.specs.Jobs.{Asked, decides, checks_time, writes, searches, seeks_set}
 use Rattle.dsv_command.specs.Jobs.{measures_gain, simulates}
 use Rattle.dsv_command.specs.Jobs as jobs
 use Rattle.dsv_command.specs.Requests as requests
 use Rattle.dsv_command.specs.Ellipsoids as ellipsoids
-use Rattle.dsv_command.specs.declared.ellipsoid.EllipsoidJob.{EllipsoidJob}
-use Rattle.dsv_command.specs.declared.ellipsoid.EllipsoidSource.{EllipsoidSource}
-use Rattle.dsv_command.specs.declared.ellipsoid.EllipsoidSource.TheVariants as of_ellipsoid
+use Rattle.dsv_command.specs.declared.ellipsoids.EllipsoidJob.{EllipsoidJob}
+use Rattle.dsv_command.specs.declared.ellipsoids.EllipsoidSource.{EllipsoidSource}
+use Rattle.dsv_command.specs.declared.ellipsoids.EllipsoidSource.TheVariants as of_ellipsoid
 use Rattle.dsv_command.specs.Loops as loops
 use Rattle.dsv_command.specs.declared.loops.LoopJob.{LoopJob}
 use Rattle.dsv_command.specs.Requests.{on_file, on_cascade, on_states, on_ellipsoid, on_loop}

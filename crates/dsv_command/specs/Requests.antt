@@ -144,7 +144,3 @@ job_in (Some (on_cascade_loop job)) = None
 job_in (Some (checks file name)) = None
 job_in (Some (checks_loop file name plant)) = None
 job_in (Some (generates seed count)) = None
-
--- the job for a file that a list of arguments asks for
-abbrev pub job_of : List (List ℕ) → Option Asked
-job_of arguments = job_in (request_of arguments)

@@ -5,8 +5,8 @@ ghost use Rattle.dsv_command.specs.Asking.{asked_cascade_loop};
 ghost use Rattle.dsv_command.specs.CascadeLoops.{cascade_loop_of_parts};
 
 use crate::arguments::Arguments;
-use crate::cascade::{SectionNames, find_names};
-use crate::ellipsoid::has_ellipsoid_option;
+use crate::cascades::{SectionNames, find_names};
+use crate::ellipsoids::has_ellipsoid_option;
 use crate::job::find_job;
 use crate::loops::schur_cohn_of;
 use dsv_names::Design;

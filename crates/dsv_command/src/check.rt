@@ -3,7 +3,7 @@ ghost use Rattle.std.specs.Prelude.{◌≡◌, option_map};
 ghost use Rattle.dsv_command.specs.Requests.{has_task_option, checked_file, check_of, checks};
 
 use crate::arguments::Arguments;
-use crate::ellipsoid::has_ellipsoid_option;
+use crate::ellipsoids::has_ellipsoid_option;
 use crate::states::has_state_option;
 use crate::task::{has_design_option, has_verdict_option};
 

@@ -2,10 +2,10 @@
 #![tactic(auto)]
 
 mod arguments;
-mod cascade;
 mod cascade_loops;
+mod cascades;
 mod check;
-mod ellipsoid;
+mod ellipsoids;
 mod generation;
 mod inputs;
 mod job;
@@ -18,10 +18,10 @@ mod request;
 mod states;
 mod task;
 
-pub use cascade::{CascadeJob, CascadeTask, MOST_LATER, SectionNames};
 pub use cascade_loops::CascadeLoopJob;
+pub use cascades::{CascadeJob, CascadeTask, MOST_LATER, SectionNames};
 pub use check::Check;
-pub use ellipsoid::{EllipsoidJob, EllipsoidSource};
+pub use ellipsoids::{EllipsoidJob, EllipsoidSource};
 pub use generation::Generation;
 pub use inputs::{Inputs, MOST_INPUTS};
 pub use job::Job;

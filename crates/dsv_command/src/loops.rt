@@ -6,7 +6,7 @@ ghost use Rattle.dsv_command.specs.Requests.{checks_loop, loop_check_of};
 
 use crate::arguments::Arguments;
 use crate::check::{Check, checked_file};
-use crate::ellipsoid::has_ellipsoid_option;
+use crate::ellipsoids::has_ellipsoid_option;
 use crate::job::{Job, find_job};
 use crate::question::RootQuestion;
 use crate::task::Task;

@@ -8,10 +8,10 @@ ghost use Rattle.dsv_command.specs.Requests.{loop_request, plant_request, job_re
 ghost use Rattle.dsv_command.specs.Requests.{request_of, request_of_parts};
 
 use crate::arguments::{Arguments, read_arguments};
-use crate::cascade::{CascadeJob, find_cascade};
 use crate::cascade_loops::{CascadeLoopJob, find_cascade_loop};
+use crate::cascades::{CascadeJob, find_cascade};
 use crate::check::{Check, find_check};
-use crate::ellipsoid::{EllipsoidJob, find_ellipsoid, has_ellipsoid_option};
+use crate::ellipsoids::{EllipsoidJob, find_ellipsoid, has_ellipsoid_option};
 use crate::generation::{Generation, find_generation};
 use crate::job::{Job, find_job};
 use crate::loops::{LoopCheck, LoopJob, find_loop, find_loop_check};

@@ -7,7 +7,7 @@ ghost use Rattle.dsv_command.specs.States.{formless_task, state_task, has_other_
 ghost use Rattle.dsv_command.specs.States.{states_of_parts};
 
 use crate::arguments::Arguments;
-use crate::ellipsoid::has_ellipsoid_option;
+use crate::ellipsoids::has_ellipsoid_option;
 use crate::inputs::Inputs;
 use crate::job::{find_overflow_mode, find_rounding};
 use crate::question::{Budget, RootQuestion, RunQuestion};

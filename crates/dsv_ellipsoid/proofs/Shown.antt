@@ -30,7 +30,7 @@ use Rattle.dsv_ellipsoid.specs.declared.refusal.EllipsoidRefusal.TheVariants as 
 use Rattle.dsv_ellipsoid.specs.Intervals.{AreWords, sample_intervals}
 use Rattle.dsv_ellipsoid.specs.Good.{form_of, step_form, first_form, IsGood, NeverBreaks, StaysKept}
 use Rattle.dsv_forms.specs.Refusals.{first_of, refusal_of}
-use Rattle.dsv_ellipsoid.specs.Refusals.{Test, most_states, is_direct, bad_shape, sign_tests, level_after, level_before, square_past, size_tests, entry_tests, step_tests, first_tests, interval_tests, claim_tests, ellipsoid_refusal}
+use Rattle.dsv_ellipsoid.specs.Refusals.{Test, most_ellipsoid_states, is_direct, bad_shape, sign_tests, level_after, level_before, square_past, size_tests, entry_tests, step_tests, first_tests, interval_tests, claim_tests, ellipsoid_refusal}
 use Rattle.dsv_ellipsoid.specs.Stages.{IsShaped, HasBound, StandsFor}
 use Rattle.dsv_forms.proofs.Places.{neither, first_of-append, first_before, passes}
 use Rattle.dsv_ellipsoid.proofs.FirstTests.{test_stops, test_passes, tests_stop, tests_pass}
@@ -50,14 +50,14 @@ direct_is realisation.Tddfii h = cc
 not_none : (n : ℕ) → (n == 0) ≡ false → 1 ≤ n
 not_none n h = grind (arith, nat_tests)
 
-not_many : (n : ℕ) → nat_lt most_states n ≡ false → n ≤ most_states
+not_many : (n : ℕ) → nat_lt most_ellipsoid_states n ≡ false → n ≤ most_ellipsoid_states
 not_many n h = grind (arith, nat_tests)
 
 pub shaped : (q : QuantisedView) (o : Ellipsoid) → bad_shape q o ≡ false → IsShaped q o
 shaped q o h =
     let d = order q in
-    let a = neither_test (not (is_direct q.realisation) || q.wide || d == 0 || nat_lt most_states d) (forms.bad_form d o.form) h in
-    let b = neither_test (not (is_direct q.realisation) || q.wide || d == 0) (nat_lt most_states d) a.0 in
+    let a = neither_test (not (is_direct q.realisation) || q.wide || d == 0 || nat_lt most_ellipsoid_states d) (forms.bad_form d o.form) h in
+    let b = neither_test (not (is_direct q.realisation) || q.wide || d == 0) (nat_lt most_ellipsoid_states d) a.0 in
     let c = neither_test (not (is_direct q.realisation) || q.wide) (d == 0) b.0 in
     let e = neither_test (not (is_direct q.realisation)) q.wide c.0 in
     let f = neither_test (not (o.form.d == d)) (not (forms.is_symmetric d (form_of o))) a.1 in

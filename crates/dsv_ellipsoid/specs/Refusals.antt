@@ -29,8 +29,8 @@ Test = Bool × EllipsoidRefusal
 
 -- ---- the shape
 -- the greatest order: the step form has one place more, and a form has at most eight
-abbrev pub most_states : ℕ
-most_states = 7
+abbrev pub most_ellipsoid_states : ℕ
+most_ellipsoid_states = 7
 
 abbrev pub is_direct : Realisation → Bool
 is_direct realisation.Dfi = true
@@ -42,7 +42,7 @@ is_direct realisation.Tddfii = false
 
 abbrev pub bad_shape : QuantisedView → Ellipsoid → Bool
 bad_shape q o = not (is_direct q.realisation) || q.wide || order q == 0
-    || nat_lt most_states (order q) || forms.bad_form (order q) o.form
+    || nat_lt most_ellipsoid_states (order q) || forms.bad_form (order q) o.form
 
 -- ---- signs
 abbrev pub sign_tests : QuantisedView → Ellipsoid → List Test

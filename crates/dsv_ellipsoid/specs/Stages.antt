@@ -12,14 +12,14 @@ use Rattle.dsv_forms.specs.Refusals as forms
 use Rattle.dsv_certfile.specs.declared.ellipsoid.Ellipsoid.{Ellipsoid}
 use Rattle.dsv_ellipsoid.specs.declared.refusal.EllipsoidRefusal.TheVariants as refusal
 use Rattle.dsv_ellipsoid.specs.Good.{form_of}
-use Rattle.dsv_ellipsoid.specs.Refusals.{Test, most_states}
+use Rattle.dsv_ellipsoid.specs.Refusals.{Test, most_ellipsoid_states}
 
 -- the controller and the form pass the first test
 pub record IsShaped (q : QuantisedView) (o : Ellipsoid) : Type 0 where
   pub direct : q.realisation ≡ Dfi
   pub narrow : q.wide ≡ false
   pub some : 1 ≤ order q
-  pub few : order q ≤ most_states
+  pub few : order q ≤ most_ellipsoid_states
   pub symmetric : forms.is_symmetric (order q) (form_of o) ≡ true
 
 -- F stands for the form T of n places: squares show of F what they show of T

@@ -11,17 +11,17 @@ use Rattle.dsv_algebra.specs.Vectors.{sum_to}
 use Rattle.dsv_netlist.specs.Nodes.{at}
 use Rattle.dsv_linear.specs.Facts.{Between}
 use Rattle.dsv_linear.specs.declared.range.Range.{Range}
-use Rattle.dsv_linear.specs.Forms.{◌>>=◌, scale, range_scale, range_at, lower, upper}
+use Rattle.dsv_linear.specs.Forms.{◌>>=◌, scale, range_scale, range_at, lower, upper, factor_term, factor_sum}
 use Rattle.dsv_linear.specs.Meaning.{LiesIn}
 use Rattle.dsv_linear.proofs.Numbers.{some_of, narrow_is, times_up, times_down, times_back, sum_le}
 use Rattle.dsv_linear.proofs.Meanings.{total_is}
 use Rattle.dsv_linear.proofs.Roundings.{both_are, lower_is, upper_is, full_scale_positive, full_scale_is, not_above, not_below, rescaled}
 use Rattle.dsv_gain.specs.declared.weights.Part.TheVariants.{Positive, Negative}
-use Rattle.dsv_gain.specs.declared.weights.End.{End}
-use Rattle.dsv_gain.specs.declared.weights.End.TheVariants.{Low, High}
+use Rattle.dsv_linear.specs.declared.range.Factor.{Factor}
+use Rattle.dsv_linear.specs.declared.range.Factor.TheVariants.{Low, High}
 use Rattle.dsv_gain.specs.declared.weights.Weights.{Weights}
-use Rattle.dsv_gain.specs.Samples.{part_of, weighted, weighted_term, least_sum, greatest_sum, weight_sums, after_first, whole_range, outer_range}
-use Rattle.dsv_gain.proofs.Weighing.{weighted-drop}
+use Rattle.dsv_gain.specs.Samples.{part_of, least_sum, greatest_sum, weight_sums, after_first, whole_range, outer_range}
+use Rattle.dsv_linear.proofs.Rests.{factor_sum-drop}
 
 abbrev pub positive_part : ℤ → ℤ
 positive_part v = part_of Positive 0 v
@@ -96,9 +96,9 @@ spans_all zero k r p q v h = record { least = rw (no_weight k r.low r.high, no_v
 spans_all (suc n) k r p q v h = spans_add k r (sum_to n p) (sum_to n q) (sum_to n v) (p n) (q n) (v n) (spans_all n k r p q v (λ a l. h a (omega arith))) (h n (omega arith))
 
 -- ---- all symbols
-weighted_is : (end : End) (off : ℕ) (ranges : List Range) (form : List ℤ) (z : ℤ) → weighted end (drop off ranges) (drop off form) ≡ Some z
-    → z ≡ sum_to (length ranges - off) (λ i. weighted_term end ranges form (off + i))
-weighted_is end off ranges form z e = total_is (length ranges - off) (λ i. weighted_term end ranges form (off + i)) z (sym (weighted-drop end off ranges form) ∙ e)
+factor_sum_is : (f : Factor) (off : ℕ) (ranges : List Range) (form : List ℤ) (z : ℤ) → factor_sum f (drop off ranges) (drop off form) ≡ Some z
+    → z ≡ sum_to (length ranges - off) (λ i. factor_term f ranges form (off + i))
+factor_sum_is f off ranges form z e = total_is (length ranges - off) (λ i. factor_term f ranges form (off + i)) z (sym (factor_sum-drop f off ranges form) ∙ e)
 
 -- the value of each symbol lies between its weights
 abbrev pub AreSpanned : ℤ → ℕ → List Range → Weights → (ℕ → ℤ) → Type 0
@@ -117,14 +117,14 @@ pub sums_bound : (k : ℤ) (off : ℕ) (ranges : List Range) (w : Weights) (v : 
 sums_bound k off ranges w v sums h e =
     let n = length ranges - off in
     let t = pos range_scale in
-    let term : End → List ℤ → ℕ → ℤ = λ end form i. weighted_term end ranges form (off + i) in
+    let term : Factor → List ℤ → ℕ → ℤ = λ f form i. factor_term f ranges form (off + i) in
     let b = both_are (least_sum (drop off ranges) (after_first off w)) (greatest_sum (drop off ranges) (after_first off w)) sums e in
-    let one = some_of (weighted Low (drop off ranges) (drop off w.positive)) (λ x. weighted High (drop off ranges) (drop off w.negative) >>= λ y. narrow_of (x +ℤ y)) sums.low b.low_is in
-    let two = some_of (weighted High (drop off ranges) (drop off w.negative)) (λ y. narrow_of (one.0 +ℤ y)) sums.low one.2 in
-    let three = some_of (weighted High (drop off ranges) (drop off w.positive)) (λ x. weighted Low (drop off ranges) (drop off w.negative) >>= λ y. narrow_of (x +ℤ y)) sums.high b.high_is in
-    let four = some_of (weighted Low (drop off ranges) (drop off w.negative)) (λ y. narrow_of (three.0 +ℤ y)) sums.high three.2 in
-    let low = both_sums n k (term Low w.positive) (term High w.negative) one.0 two.0 sums.low (weighted_is Low off ranges w.positive one.0 one.1) (weighted_is High off ranges w.negative two.0 two.1) (narrow_is (one.0 +ℤ two.0) sums.low two.2) in
-    let high = both_sums n k (term High w.positive) (term Low w.negative) three.0 four.0 sums.high (weighted_is High off ranges w.positive three.0 three.1) (weighted_is Low off ranges w.negative four.0 four.1) (narrow_is (three.0 +ℤ four.0) sums.high four.2) in
+    let one = some_of (factor_sum Low (drop off ranges) (drop off w.positive)) (λ x. factor_sum High (drop off ranges) (drop off w.negative) >>= λ y. narrow_of (x +ℤ y)) sums.low b.low_is in
+    let two = some_of (factor_sum High (drop off ranges) (drop off w.negative)) (λ y. narrow_of (one.0 +ℤ y)) sums.low one.2 in
+    let three = some_of (factor_sum High (drop off ranges) (drop off w.positive)) (λ x. factor_sum Low (drop off ranges) (drop off w.negative) >>= λ y. narrow_of (x +ℤ y)) sums.high b.high_is in
+    let four = some_of (factor_sum Low (drop off ranges) (drop off w.negative)) (λ y. narrow_of (three.0 +ℤ y)) sums.high three.2 in
+    let low = both_sums n k (term Low w.positive) (term High w.negative) one.0 two.0 sums.low (factor_sum_is Low off ranges w.positive one.0 one.1) (factor_sum_is High off ranges w.negative two.0 two.1) (narrow_is (one.0 +ℤ two.0) sums.low two.2) in
+    let high = both_sums n k (term High w.positive) (term Low w.negative) three.0 four.0 sums.high (factor_sum_is High off ranges w.positive three.0 three.1) (factor_sum_is Low off ranges w.negative four.0 four.1) (narrow_is (three.0 +ℤ four.0) sums.high four.2) in
     record {
       least = rw (low, ← sum_scale n t v) (sum_le n (λ i. k *ℤ (term Low w.positive i +ℤ term High w.negative i)) (λ i. t *ℤ v i) (λ i p. (h i p).least));
       most = rw (high, ← sum_scale n t v) (sum_le n (λ i. t *ℤ v i) (λ i. k *ℤ (term High w.positive i +ℤ term Low w.negative i)) (λ i p. (h i p).most));

@@ -1,6 +1,5 @@
 mod Given
 mod Values
-mod Weighing
 mod Masses
 mod Bounds
 mod Widening

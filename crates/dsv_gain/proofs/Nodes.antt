@@ -24,7 +24,7 @@ use Rattle.dsv_netlist.specs.declared.node.Node.TheVariants.{Input, Reg, MulCons
 use Rattle.dsv_linear.specs.Facts.{Between}
 use Rattle.dsv_linear.specs.declared.range.Range.{Range}
 use Rattle.dsv_linear.specs.Divisions.{symbol_by}
-use Rattle.dsv_linear.specs.Forms.{◌>>=◌, scale, range_scale, range_at, sums, differences, products, unit}
+use Rattle.dsv_linear.specs.Forms.{◌>>=◌, scale, range_scale, range_at, sums, differences, products, product_of, unit}
 use Rattle.dsv_linear.specs.Meaning.{LiesIn}
 use Rattle.dsv_linear.proofs.Numbers.{some_of, times_up, times_none}
 use Rattle.dsv_linear.proofs.Meanings.{entries_are, replicated}
@@ -37,7 +37,7 @@ use Rattle.dsv_gain.specs.declared.pass.Quantity.{Quantity}
 use Rattle.dsv_gain.specs.declared.pass.Quantity.TheVariants as quantity
 use Rattle.dsv_gain.specs.declared.pass.Pass.{Pass}
 use Rattle.dsv_gain.specs.declared.walk.Walk.{Walk}
-use Rattle.dsv_gain.specs.Samples.{form_at, owned, input_form, quotient_form, product_at, node_form, node_ranges, step_of, added, fitted, left_over, old_weights, weight_sums, after_first, errors_of, rounded_range, value_range, widened, error_symbol, own_after}
+use Rattle.dsv_gain.specs.Samples.{form_at, owned, input_form, quotient_form, node_form, node_ranges, step_of, added, fitted, left_over, old_weights, weight_sums, after_first, errors_of, rounded_range, value_range, widened, error_symbol, own_after}
 use Rattle.dsv_gain.proofs.Bounds.{positive_part, negative_part, AreSums, sums_bound, value_between, fraction_between}
 use Rattle.dsv_gain.proofs.Given.{IsOver, Fits, IsGiven}
 use Rattle.dsv_roundoff.specs.Differences.{HasError}
@@ -149,7 +149,7 @@ reg_more {silent} {n} {m} {t} {own} {f} {g} {over} {low} {high} ps ws words vs x
     (λ j l. b.ages.none r j (omega (arith, few, l))) (b.solution.loaded r (omega (arith, inside, many))) tt
 
 times_more : {silent n m t own : ℕ} {f : Format} {g : Quantity} {over low high : ℤ} (ps : ℕ → Pass) (ws : ℕ → Walk) (words vs : List ℤ) (x c : ℤ) (i : ℕ) (node : Node) (b : Before silent n m t own f g over low high ps ws words vs x node)
-    → own_after own node ≡ own → node_ranges (ps t) (ws t).ranges (ws t).own (new_weights ps ws node b.made) node ≡ Some (ws t).ranges → ((a : ℕ) → a ≤ t → node_form (ps a) (ws a) node ≡ product_at c (ws a).forms i)
+    → own_after own node ≡ own → node_ranges (ps t) (ws t).ranges (ws t).own (new_weights ps ws node b.made) node ≡ Some (ws t).ranges → ((a : ℕ) → a ≤ t → node_form (ps a) (ws a) node ≡ product_of c (form_at (ws a).forms i))
     → NodeSums n m (suc t) (2 ^ f.frac_bits) ws (new_weights ps ws node b.made) node → Next silent n m t own f over ps ws words vs (c *ℤ at vs i) node (new_weights ps ws node b.made)
 times_more {silent} {n} {m} {t} {own} {f} {g} {over} {low} {high} ps ws words vs x c i node b o r e sums =
     let parts : (a : ℕ) (l : a ≤ t) → (i < length vs) × ((j : ℕ) → at (step_at b a l).form j ≡ c *ℤ before_at ws i a j) = λ a l.
@@ -477,7 +477,7 @@ node_more {silent} {n} {m} {t} {own} {f} {g} {over} ps ws words vs x (Fit i) w b
     subst (λ (v : ℤ). Next silent n m t own f over ps ws words vs v (Fit i) (new_weights ps ws (Fit i) b.made)) (sym (h (All-head (Fits f g) (at vs i) [] e))) (fit_more ps ws words vs x i b)
 node_more {silent} {n} {m} {t} {own} {f} {g} {over} ps ws words vs x (Scale i) w b h e =
     subst (λ (v : ℤ). Next silent n m t own f over ps ws words vs v (Scale i) (new_weights ps ws (Scale i) b.made)) (sym h)
-    (times_more ps ws words vs x (pos (2 ^ f.frac_bits)) i (Scale i) b refl refl (λ a l. ap (λ (h : Format). product_at (pos (2 ^ h.frac_bits)) (ws a).forms i) (b.ages.format a l)) tt)
+    (times_more ps ws words vs x (pos (2 ^ f.frac_bits)) i (Scale i) b refl refl (λ a l. ap (λ (h : Format). product_of (pos (2 ^ h.frac_bits)) (form_at (ws a).forms i)) (b.ages.format a l)) tt)
 
 alone : (k : ℤ) → k *ℤ pos 1 ≡ k
 alone k = ring (env (k ∷ [])) (times (var 0) (num (pos 1))) (var 0) refl

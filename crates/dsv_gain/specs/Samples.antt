@@ -18,9 +18,10 @@ use Rattle.dsv_netlist.specs.declared.node.Node.{Node}
 use Rattle.dsv_netlist.specs.declared.node.Node.TheVariants.{Input, Reg, MulConst}
 use Rattle.dsv_netlist.specs.declared.node.Node.TheVariants.{Round, Add, Sub, Fit, Scale}
 use Rattle.dsv_linear.specs.declared.range.Range.{Range}
+use Rattle.dsv_linear.specs.declared.range.Factor.TheVariants.{Low, High}
 use Rattle.dsv_linear.specs.Divisions.{symbol_by}
 use Rattle.dsv_linear.specs.Forms.{◌>>=◌, scale, range_scale, range, range_at, both, lower, upper}
-use Rattle.dsv_linear.specs.Forms.{entries, total, sums, differences, products, unit}
+use Rattle.dsv_linear.specs.Forms.{entries, factor_sum, sum_of, difference_of, product_of, unit}
 use Rattle.dsv_linear.specs.Known.{are_words, error_range}
 use Rattle.dsv_roundoff.specs.Differences.{errors_at}
 use Rattle.dsv_gain.specs.declared.ends.Ends.{Ends}
@@ -28,8 +29,6 @@ use Rattle.dsv_gain.specs.declared.ends.Ends.TheVariants as ends
 use Rattle.dsv_gain.specs.declared.weights.Part.{Part}
 use Rattle.dsv_gain.specs.declared.weights.Part.TheVariants.{Positive, Negative, Rest}
 use Rattle.dsv_gain.specs.declared.weights.Weights.{Weights}
-use Rattle.dsv_gain.specs.declared.weights.End.{End}
-use Rattle.dsv_gain.specs.declared.weights.End.TheVariants.{Low, High}
 use Rattle.dsv_gain.specs.declared.pass.Quantity.{Quantity}
 use Rattle.dsv_gain.specs.declared.pass.Quantity.TheVariants as quantity
 use Rattle.dsv_gain.specs.declared.pass.Pass.{Pass}
@@ -55,16 +54,6 @@ quotient_form first n own d form =
 abbrev pub step_of : Pass → ℕ
 step_of pass = 2 ^ pass.format.frac_bits
 
-abbrev pub product_at : ℤ → List (List ℤ) → ℕ → Option (List ℤ)
-product_at c forms of = form_at forms of >>= products c
-
-abbrev pub sum_at : List (List ℤ) → ℕ → ℕ → Option (List ℤ)
-sum_at forms left right = form_at forms left >>= λ first. form_at forms right >>= sums first
-
-abbrev pub difference_at : List (List ℤ) → ℕ → ℕ → Option (List ℤ)
-difference_at forms left right = form_at forms left >>= λ first.
-    form_at forms right >>= differences first
-
 abbrev pub rounded_at : Pass → Walk → ℕ → Option (List ℤ)
 rounded_at pass walk of = form_at walk.forms of
     >>= quotient_form pass.is_first (length pass.ranges) walk.own (step_of pass)
@@ -72,13 +61,15 @@ rounded_at pass walk of = form_at walk.forms of
 abbrev pub node_form : Pass → Walk → Node → Option (List ℤ)
 node_form pass walk Input = Some (input_form pass.is_first walk.own)
 node_form pass walk (Reg register) = form_at pass.registers register
-node_form pass walk (MulConst coeff of) = product_at coeff walk.forms of
+node_form pass walk (MulConst coeff of) = product_of coeff (form_at walk.forms of)
 node_form pass walk (Round of) = rounded_at pass walk of
-node_form pass walk (Add left right) = sum_at walk.forms left right
-node_form pass walk (Sub left right) = difference_at walk.forms left right
+node_form pass walk (Add left right) =
+    sum_of (form_at walk.forms left) (form_at walk.forms right)
+node_form pass walk (Sub left right) =
+    difference_of (form_at walk.forms left) (form_at walk.forms right)
 -- up to the first break nothing wraps
 node_form pass walk (Fit of) = form_at walk.forms of
-node_form pass walk (Scale of) = product_at (pos (step_of pass)) walk.forms of
+node_form pass walk (Scale of) = product_of (pos (step_of pass)) (form_at walk.forms of)
 
 -- ---- what coefficients come to over all samples so far
 -- the part of a coefficient that is added up
@@ -134,27 +125,14 @@ node_weights pass walk (Sub left right) = Some no_weights
 node_weights pass walk (Fit of) = fitted_at pass walk of
 node_weights pass walk (Scale of) = Some no_weights
 
--- an end of a range
-abbrev pub end_of : End → Range → ℤ
-end_of Low r = r.low
-end_of High r = r.high
-
--- a coefficient times this end of its symbol's range
-abbrev pub weighted_term : End → List Range → List ℤ → ℕ → ℤ
-weighted_term end ranges form j = at form j *ℤ end_of end (range_at ranges j)
-
--- the sum of all of them
-abbrev pub weighted : End → List Range → List ℤ → Option ℤ
-weighted end ranges form = total (length ranges) (weighted_term end ranges form)
-
 -- the least and the greatest sum of weights, each times a number in its symbol's range
 abbrev pub least_sum : List Range → Weights → Option ℤ
-least_sum ranges w = weighted Low ranges w.positive >>= λ a.
-    weighted High ranges w.negative >>= λ b. narrow_of (a +ℤ b)
+least_sum ranges w = factor_sum Low ranges w.positive >>= λ a.
+    factor_sum High ranges w.negative >>= λ b. narrow_of (a +ℤ b)
 
 abbrev pub greatest_sum : List Range → Weights → Option ℤ
-greatest_sum ranges w = weighted High ranges w.positive >>= λ a.
-    weighted Low ranges w.negative >>= λ b. narrow_of (a +ℤ b)
+greatest_sum ranges w = factor_sum High ranges w.positive >>= λ a.
+    factor_sum Low ranges w.negative >>= λ b. narrow_of (a +ℤ b)
 
 abbrev pub weight_sums : List Range → Weights → Option Range
 weight_sums ranges w = both (least_sum ranges w) (greatest_sum ranges w)

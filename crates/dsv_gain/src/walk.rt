@@ -1,10 +1,10 @@
 // A sample node by node: forms, weights, and the ranges of symbols.
-ghost use Rattle.std.specs.Prelude.{◌≡◌, ◌<◌, ◌/◌, length, pos, MatchOption, None, Some, IfOk};
+ghost use Rattle.std.specs.Prelude.{◌≡◌, ◌<◌, ◌/◌, length, pos, MatchOption, IfOk, option_map};
 ghost use Rattle.dsv_algebra.specs.Floor.{floor_of};
 ghost use Rattle.dsv_netlist.specs.Nodes.{at};
 ghost use Rattle.dsv_linear.specs.Forms.{scale};
-ghost use Rattle.dsv_gain.specs.Samples.{form_at, owned, input_form, quotient_form, product_at};
-ghost use Rattle.dsv_gain.specs.Samples.{sum_at, difference_at, rounded_at, node_form};
+ghost use Rattle.dsv_gain.specs.Samples.{form_at, owned, input_form, quotient_form};
+ghost use Rattle.dsv_gain.specs.Samples.{rounded_at, node_form};
 ghost use Rattle.dsv_gain.specs.Samples.{no_weights, old_weights, fitted_at, left_over_at};
 ghost use Rattle.dsv_gain.specs.Samples.{node_weights, widened, errors_of, error_symbol};
 ghost use Rattle.dsv_gain.specs.Samples.{node_ranges};
@@ -16,7 +16,8 @@ use crate::weights::Weights;
 use dsv_algebra::NarrowInteger;
 use dsv_base::{Items, NoMemory};
 use dsv_linear::{
-    Form, Range, difference, error_range, one, power, product, step, sum, symbol_range, unit,
+    Form, Range, copy_of, difference_of, error_range, one, power, product_of, step, sum_of,
+    symbol_range, unit,
 };
 use dsv_netlist::Node;
 use dsv_roundoff::holds_at;
@@ -34,69 +35,13 @@ pub(crate) struct Walk {
 
 /// The form of this number, where there is one.
 pub(crate) fn form_at(forms: &Items<Form>, i: u32) -> Option<&Form>
-    ensures { MatchOption result (form_at forms.now i ≡ None)
-        (λ form. form_at forms.now i ≡ Some form.now) }
+    ensures { option_map (λ form. form.now) result ≡ form_at forms.now i }
 {
     let forms = forms.as_slice();
     if (i as usize) < forms.len() {
         Some(&forms[i as usize])
     } else {
         None
-    }
-}
-
-/// The same, copied.
-fn copy_at(alloc: Global, forms: &Items<Form>, i: u32) -> Result<Option<Form>, NoMemory>
-    ensures { IfOk result (λ form. form ≡ form_at forms.now i) }
-{
-    match form_at(forms, i) {
-        Some(form) => Ok(Some(form.copy(alloc)?)),
-        None => Ok(None),
-    }
-}
-
-/// The form of a product with the value of this number.
-fn product_at(
-    alloc: Global,
-    c: NarrowInteger,
-    forms: &Items<Form>,
-    i: u32,
-) -> Result<Option<Form>, NoMemory>
-    ensures { IfOk result (λ form. form ≡ product_at c forms.now i) }
-{
-    match form_at(forms, i) {
-        Some(form) => product(alloc, c, form),
-        None => Ok(None),
-    }
-}
-
-/// The form of the sum of the values of these numbers.
-fn sum_at(
-    alloc: Global,
-    forms: &Items<Form>,
-    left: u32,
-    right: u32,
-) -> Result<Option<Form>, NoMemory>
-    ensures { IfOk result (λ form. form ≡ sum_at forms.now left right) }
-{
-    match (form_at(forms, left), form_at(forms, right)) {
-        (Some(first), Some(second)) => sum(alloc, first, second),
-        _ => Ok(None),
-    }
-}
-
-/// The form of the difference of the values of these numbers.
-fn difference_at(
-    alloc: Global,
-    forms: &Items<Form>,
-    left: u32,
-    right: u32,
-) -> Result<Option<Form>, NoMemory>
-    ensures { IfOk result (λ form. form ≡ difference_at forms.now left right) }
-{
-    match (form_at(forms, left), form_at(forms, right)) {
-        (Some(first), Some(second)) => difference(alloc, first, second),
-        _ => Ok(None),
     }
 }
 
@@ -244,15 +189,17 @@ impl Walk {
         let forms = &self.forms;
         match node {
             Node::Input => Ok(Some(input_form(alloc, pass.is_first, self.own)?)),
-            Node::Reg(register) => copy_at(alloc, &pass.registers, *register),
+            Node::Reg(register) => copy_of(alloc, form_at(&pass.registers, *register)),
             Node::MulConst { coeff, of } => {
-                product_at(alloc, NarrowInteger::from(*coeff), forms, *of)
+                product_of(alloc, NarrowInteger::from(*coeff), form_at(forms, *of))
             }
             Node::Round(of) => self.rounded_at(alloc, pass, *of),
-            Node::Add(left, right) => sum_at(alloc, forms, *left, *right),
-            Node::Sub(left, right) => difference_at(alloc, forms, *left, *right),
-            Node::Fit(of) => copy_at(alloc, forms, *of),
-            Node::Scale(of) => product_at(alloc, one(&pass.format), forms, *of),
+            Node::Add(left, right) => sum_of(alloc, form_at(forms, *left), form_at(forms, *right)),
+            Node::Sub(left, right) => {
+                difference_of(alloc, form_at(forms, *left), form_at(forms, *right))
+            }
+            Node::Fit(of) => copy_of(alloc, form_at(forms, *of)),
+            Node::Scale(of) => product_of(alloc, one(&pass.format), form_at(forms, *of)),
         }
     }
 

@@ -1,14 +1,13 @@
 // What the coefficients of values come to over all samples so far.
-ghost use Rattle.std.specs.Prelude.{◌≡◌, ◌<◌, length, drop, IfOk};
-ghost use Rattle.dsv_algebra.specs.Narrow.{narrow_of};
+ghost use Rattle.std.specs.Prelude.{◌≡◌, ◌<◌, drop, IfOk};
 ghost use Rattle.dsv_gain.specs.Samples.{part_of, kept, added, no_weights, fitted, left_over};
-ghost use Rattle.dsv_gain.specs.Samples.{end_of, weighted_term, weighted, least_sum, greatest_sum};
-ghost use Rattle.dsv_gain.specs.Samples.{weight_sums, after_first, value_range};
+ghost use Rattle.dsv_gain.specs.Samples.{least_sum, greatest_sum, weight_sums};
+ghost use Rattle.dsv_gain.specs.Samples.{after_first, value_range};
 
 use crate::pass::{Pass, Quantity};
 use dsv_algebra::NarrowInteger;
 use dsv_base::{Items, NoMemory};
-use dsv_linear::{Form, Range, outer_range, power, whole_range};
+use dsv_linear::{Factor, Form, Range, factor_sum, outer_range, power, whole_range};
 use std::alloc::Global;
 
 /// What the coefficients of a value come to over all samples so far, for each symbol: the sums of
@@ -29,13 +28,6 @@ pub(crate) enum Part {
     Rest,
 }
 
-/// An end of a range.
-#[derive(Clone, Copy)]
-pub(crate) enum End {
-    Low,
-    High,
-}
-
 impl Part {
     /// This part of a coefficient, where a rounding divides by `d`.
     fn of(self, d: u64, v: NarrowInteger) -> NarrowInteger
@@ -47,18 +39,6 @@ impl Part {
             Part::Positive => { if v.get() < 0 { zero } else { v } }
             Part::Negative => { if v.get() < 0 { v } else { zero } }
             Part::Rest => NarrowInteger::from(v.get().rem_euclid(i128::from(d))),
-        }
-    }
-}
-
-impl End {
-    /// This end of a range.
-    fn of(self, range: &Range) -> NarrowInteger
-        ensures { result ≡ end_of self range.now }
-    {
-        match self {
-            End::Low => range.low,
-            End::High => range.high,
         }
     }
 }
@@ -94,26 +74,6 @@ fn added_parts(
         list.push(sum)?;
     }
     Ok(Some(Form::from_wide(alloc, list)))
-}
-
-/// The coefficient of a symbol times this end of its range.
-fn term(end: End, ranges: &[Range], form: &Form, j: usize) -> Option<NarrowInteger>
-    requires { j < length ranges.now }
-    ensures { result ≡ narrow_of (weighted_term end ranges.now form.now j) }
-{
-    form.coefficient(j).checked_mul(end.of(&ranges[j]))
-}
-
-/// The sum of coefficients from a place on, each times this end of its symbol's range.
-fn weighted_sum(end: End, ranges: &[Range], form: &Form, from: usize) -> Option<NarrowInteger>
-    ensures { result ≡ weighted end (drop from ranges.now) (drop from form.now) }
-{
-    let mut sum = NarrowInteger::from(0i64);
-    for j in from..ranges.len() {
-        let term = term(end, ranges, form, j)?;
-        sum = sum.checked_add(term)?;
-    }
-    Some(sum)
 }
 
 impl Weights {
@@ -167,8 +127,8 @@ impl Weights {
     fn least_sum(&self, ranges: &[Range], from: usize) -> Option<NarrowInteger>
         ensures { result ≡ least_sum (drop from ranges.now) (after_first from self.now) }
     {
-        let positive = weighted_sum(End::Low, ranges, &self.positive, from)?;
-        let negative = weighted_sum(End::High, ranges, &self.negative, from)?;
+        let positive = factor_sum(Factor::Low, ranges, &self.positive, from)?;
+        let negative = factor_sum(Factor::High, ranges, &self.negative, from)?;
         positive.checked_add(negative)
     }
 
@@ -176,8 +136,8 @@ impl Weights {
     fn greatest_sum(&self, ranges: &[Range], from: usize) -> Option<NarrowInteger>
         ensures { result ≡ greatest_sum (drop from ranges.now) (after_first from self.now) }
     {
-        let positive = weighted_sum(End::High, ranges, &self.positive, from)?;
-        let negative = weighted_sum(End::Low, ranges, &self.negative, from)?;
+        let positive = factor_sum(Factor::High, ranges, &self.positive, from)?;
+        let negative = factor_sum(Factor::Low, ranges, &self.negative, from)?;
         positive.checked_add(negative)
     }
 

@@ -5,6 +5,7 @@ use dsv_base::Items;
 use dsv_gain::{controller_error, rounding_error};
 use dsv_linear::Range;
 use dsv_names::{Realisation, Rounding};
+use dsv_realise::Asking;
 use dsv_roundoff::{RoundoffOffer, WordRange, holds_at};
 use std::alloc::Global;
 use std::test::Fail;
@@ -118,7 +119,8 @@ fn is_range(range: &Range, low: i128, high: i128) -> bool {
 fn is_right(alloc: Global, row: &Row) -> Option<bool> {
     let design = Design::of_wrapped_words(row.text, row.int_bits, row.frac_bits, row.rounding);
     let quantised = design.quantised_in(alloc, Realisation::Dfi)?;
-    let bound = rounding_error(alloc, &quantised, 64).ok()?;
+    let asking = Asking::of(alloc, &quantised).ok()?;
+    let bound = rounding_error(alloc, &asking, 64).ok()?;
     Some(match (&bound, &row.wanted) {
         (Some(bound), Some((depth, low, high))) => {
             bound.offer.depth == *depth && is_range(&bound.output, *low, *high)
@@ -185,7 +187,8 @@ fn shows_right(alloc: Global, offered: &Offered) -> Option<bool> {
         ranges.push(range).ok()?;
     }
     let offer = RoundoffOffer { depth: 0, ranges };
-    let shown = controller_error(alloc, &quantised, &offer).ok()?;
+    let asking = Asking::of(alloc, &quantised).ok()?;
+    let shown = controller_error(alloc, &asking, &offer).ok()?;
     Some(match (&shown, &offered.wanted) {
         (Some(range), Some((low, high))) => is_range(range, *low, *high),
         (None, None) => true,

@@ -11,6 +11,7 @@ use dsv_base::NoMemory;
 use dsv_meaning::registers;
 use dsv_netlist::Netlist;
 use dsv_quantiser::Quantised;
+use dsv_realise::Asking;
 use dsv_template::{Candidate, SetPart, ThreeLogs, Why};
 use std::alloc::Global;
 
@@ -49,21 +50,21 @@ impl<'a> Check<'a> {
 /// answer, and each break replays. The job's size isn't looked at: `accept_unbounded` tests it.
 pub fn check_candidate(
     alloc: Global,
-    quantised: &Quantised,
+    asking: &Asking<Quantised>,
     candidate: &Candidate,
     conflicts: u32,
 ) -> Result<Why, NoMemory>
     requires allowed { 1 ≤ conflicts }
     requires limited { conflicts ≤ 2 ^ 30 }
-    ensures cause { IfOk result (IsCause quantised.now conflicts candidate.now) }
+    ensures cause { IfOk result (IsCause asking.now.subject.now conflicts candidate.now) }
 {
+    let quantised = asking.subject;
     if !candidate.is_shaped(registers(quantised.realisation(), quantised.order() as u32)) {
         return Ok(Why::BadShape);
     }
-    let net = netlist_of(alloc, quantised)?;
     let check = Check {
         quantised,
-        net: &net,
+        net: netlist_of(asking),
         candidate,
         conflicts,
     };

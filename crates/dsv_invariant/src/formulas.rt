@@ -10,6 +10,7 @@ use dsv_base::NoMemory;
 use dsv_bounded::goal_formula;
 use dsv_cnf::Formula;
 use dsv_quantiser::Quantised;
+use dsv_realise::Asking;
 use dsv_template::{Candidate, SetPart};
 use std::alloc::Global;
 
@@ -17,18 +18,19 @@ use std::alloc::Global;
 #[tactic(auto, unfolding(crate::specs::Formulas::set_formula_of))]
 pub fn set_formula(
     alloc: Global,
-    quantised: &Quantised,
+    asking: &Asking<Quantised>,
     candidate: &Candidate,
     part: SetPart,
 ) -> Result<Formula, NoMemory>
-    requires shaped { IsShaped quantised.now candidate.now }
-    ensures formula { IfOk result (λ f. f ≡ set_formula_of quantised.now candidate.now part) }
+    requires shaped { IsShaped asking.now.subject.now candidate.now }
+    ensures formula { IfOk result
+        (λ f. f ≡ set_formula_of asking.now.subject.now candidate.now part) }
     // Where no assignment satisfies it, the sentence holds in the written equations.
     ensures holds { IfOk result
-        (λ f. IsUnsatisfiable f.clauses → Holds quantised.now candidate.now part) }
+        (λ f. IsUnsatisfiable f.clauses → Holds asking.now.subject.now candidate.now part) }
 {
-    let net = netlist_of(alloc, quantised)?;
-    let goal = part_goal(alloc, quantised, &net, candidate, part)?;
+    let net = netlist_of(asking);
+    let goal = part_goal(alloc, asking.subject, net, candidate, part)?;
     let blasted = goal_formula(alloc, goal)?;
     Ok(blasted.formula)
 }

@@ -6,6 +6,7 @@ use crate::designs::{ALTERNATING, Bound, Design, HALVES, Offer, SUMS, candidate_
 use dsv_invariant::{accept_unbounded, check_candidate};
 use dsv_names::{OverflowMode, Realisation};
 use dsv_quantiser::Quantised;
+use dsv_realise::Asking;
 use dsv_template::{SetPart, Why};
 use std::alloc::Global;
 
@@ -100,7 +101,8 @@ fn finding(alloc: Global, quantised: &Quantised, offer: &Offer, conflicts: u32) 
 {
     let candidate = candidate_of(offer)?;
     accept_unbounded(quantised).ok()?;
-    check_candidate(alloc, quantised, &candidate, conflicts).ok()
+    let asking = Asking::of(alloc, quantised).ok()?;
+    check_candidate(alloc, &asking, &candidate, conflicts).ok()
 }
 
 /// The letter of what is found of an offer.

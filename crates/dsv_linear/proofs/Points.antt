@@ -25,8 +25,8 @@ use Rattle.dsv_linear.specs.declared.point.Entry.{Entry}
 use Rattle.dsv_linear.specs.declared.point.Estimate.{Estimate}
 use Rattle.dsv_linear.specs.declared.point.Start.{Start}
 use Rattle.dsv_linear.specs.declared.point.Point.{Point}
-use Rattle.dsv_linear.specs.Forms.{◌>>=◌, range_scale, scaled_range, sums, differences, products, unit, form_range, with_symbol, without_symbol}
-use Rattle.dsv_linear.specs.Known.{unknown, form_at, input_entry, product_at, sum_at, difference_at, rounded_in, rounded_at, ends_at, error_range, node_entry, node_interval, node_fact, fact_of, form_of, symbol_of, after_node}
+use Rattle.dsv_linear.specs.Forms.{◌>>=◌, range_scale, scaled_range, sums, differences, products, sum_of, difference_of, product_of, unit, form_range, with_symbol, without_symbol}
+use Rattle.dsv_linear.specs.Known.{unknown, form_at, input_entry, rounded_in, rounded_at, ends_at, error_range, node_entry, node_interval, node_fact, fact_of, form_of, symbol_of, after_node}
 use Rattle.dsv_linear.specs.Meaning.{Means, AreSymbols, Knows, Stand, grown}
 use Rattle.dsv_linear.proofs.Numbers.{some_of, narrow_is, times_none}
 use Rattle.dsv_linear.proofs.Meanings.{sums_mean, differences_mean, products_mean, means_grown, grown_before, symbols_grown, unit_means, input_lies}
@@ -135,7 +135,7 @@ gives start words x point values Input s b a =
 gives start words x point values (Reg r) s b a =
     stays s.k s.us point.ranges (form_at start.registers r) (at words r) (λ f h. stand_at (length point.ranges) s.k s.us start.registers words r f h s.loaded)
 gives start words x point values (MulConst c i) s b a =
-    stays s.k s.us point.ranges (product_at c point.estimates i) (c *ℤ at values i) (λ f h.
+    stays s.k s.us point.ranges (product_of c (form_at point.estimates i)) (c *ℤ at values i) (λ f h.
     let o = some_of (form_at point.estimates i) (λ form. products c form) f h in
     products_mean (length point.ranges) s.k s.us c o.0 f (at values i) o.2 (stand_at (length point.ranges) s.k s.us point.estimates values i o.0 o.1 s.stand))
 gives start words x point values (Round i) s b a =
@@ -147,13 +147,13 @@ gives start words x point values (Round i) s b a =
     rounded_enters (2 ^ f) (error_range r f) s.k s.us point.ranges o.0 e v (whole_shift r f v) (pow_pos f) (steps_are f (few_bits start.format)) (step_positive f (few_bits start.format))
     o.2 s.symbols (stand_at (length point.ranges) s.k s.us point.estimates values i o.0 o.1 s.stand) (errors_lie r f v))
 gives start words x point values (Add i j) s b a =
-    stays s.k s.us point.ranges (sum_at point.estimates i j) (at values i +ℤ at values j) (λ f h.
+    stays s.k s.us point.ranges (sum_of (form_at point.estimates i) (form_at point.estimates j)) (at values i +ℤ at values j) (λ f h.
     let o = some_of (form_at point.estimates i) (λ first. form_at point.estimates j >>= λ second. sums first second) f h in
     let p = some_of (form_at point.estimates j) (λ second. sums o.0 second) f o.2 in
     sums_mean (length point.ranges) s.k s.us o.0 p.0 f (at values i) (at values j) p.2
     (stand_at (length point.ranges) s.k s.us point.estimates values i o.0 o.1 s.stand) (stand_at (length point.ranges) s.k s.us point.estimates values j p.0 p.1 s.stand))
 gives start words x point values (Sub i j) s b a =
-    stays s.k s.us point.ranges (difference_at point.estimates i j) (at values i -ℤ at values j) (λ f h.
+    stays s.k s.us point.ranges (difference_of (form_at point.estimates i) (form_at point.estimates j)) (at values i -ℤ at values j) (λ f h.
     let o = some_of (form_at point.estimates i) (λ first. form_at point.estimates j >>= λ second. differences first second) f h in
     let p = some_of (form_at point.estimates j) (λ second. differences o.0 second) f o.2 in
     differences_mean (length point.ranges) s.k s.us o.0 p.0 f (at values i) (at values j) p.2
@@ -163,7 +163,7 @@ gives start words x point values (Fit i) s b a =
     (stays s.k s.us point.ranges (form_at point.estimates i) (at values i) (λ f h. stand_at (length point.ranges) s.k s.us point.estimates values i f h s.stand))
 gives start words x point values (Scale i) s b a =
     let c = pos (2 ^ start.format.frac_bits) in
-    stays s.k s.us point.ranges (product_at c point.estimates i) (c *ℤ at values i) (λ f h.
+    stays s.k s.us point.ranges (product_of c (form_at point.estimates i)) (c *ℤ at values i) (λ f h.
     let o = some_of (form_at point.estimates i) (λ form. products c form) f h in
     products_mean (length point.ranges) s.k s.us c o.0 f (at values i) o.2 (stand_at (length point.ranges) s.k s.us point.estimates values i o.0 o.1 s.stand))
 

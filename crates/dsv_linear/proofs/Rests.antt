@@ -4,7 +4,8 @@ use Rattle.std.specs.Prelude.{Option, Some, None, IfSome}
 use Rattle.std.proofs.Math.IntN.{ℤ, pos}
 use Rattle.std.proofs.lemmas.List.{get_or-drop, length-drop}
 use Rattle.dsv_linear.specs.declared.range.Range.{Range}
-use Rattle.dsv_linear.specs.Forms.{total, range, least, greatest, least_term, greatest_term}
+use Rattle.dsv_linear.specs.declared.range.Factor.{Factor}
+use Rattle.dsv_linear.specs.Forms.{total, range, least_term, greatest_term, factor_term, factor_sum}
 use Rattle.dsv_linear.specs.Divisions.{extremes}
 use Rattle.dsv_linear.specs.SmallNumbers.{most_terms}
 use Rattle.dsv_linear.specs.SmallSums.{IsSum, AreSums}
@@ -18,21 +19,13 @@ pub total_none : (f : ℕ → ℤ) (n : ℕ) (sum : ℤ) → n ≡ 0 → sum ≡
 total_none f n sum e h = ap (λ k. total k f) e ∙ ap (λ z. Some z) (sym h)
 
 -- ---- the terms after the first k
-pub least_term-drop : (k : ℕ) (ranges : List Range) (form : List ℤ) (i : ℕ) → least_term (drop k ranges) (drop k form) i ≡ least_term ranges form (k + i)
-least_term-drop k ranges form i = rw (get_or-drop k ranges i (range (pos 0) (pos 0)), get_or-drop k form i (pos 0)) refl
+pub factor_term-drop : (f : Factor) (k : ℕ) (ranges : List Range) (form : List ℤ) (i : ℕ) → factor_term f (drop k ranges) (drop k form) i ≡ factor_term f ranges form (k + i)
+factor_term-drop f k ranges form i = rw (get_or-drop k ranges i (range (pos 0) (pos 0)), get_or-drop k form i (pos 0)) refl
 
-pub greatest_term-drop : (k : ℕ) (ranges : List Range) (form : List ℤ) (i : ℕ) → greatest_term (drop k ranges) (drop k form) i ≡ greatest_term ranges form (k + i)
-greatest_term-drop k ranges form i = rw (get_or-drop k ranges i (range (pos 0) (pos 0)), get_or-drop k form i (pos 0)) refl
-
-pub least-drop : (k : ℕ) (ranges : List Range) (form : List ℤ) → least (drop k ranges) (drop k form) ≡ total (length ranges - k) (λ i. least_term ranges form (k + i))
-least-drop k ranges form =
-    ap (λ n. total n (least_term (drop k ranges) (drop k form))) (length-drop k ranges)
-    ∙ total_same (length ranges - k) (least_term (drop k ranges) (drop k form)) (λ i. least_term ranges form (k + i)) (λ j p. least_term-drop k ranges form j)
-
-pub greatest-drop : (k : ℕ) (ranges : List Range) (form : List ℤ) → greatest (drop k ranges) (drop k form) ≡ total (length ranges - k) (λ i. greatest_term ranges form (k + i))
-greatest-drop k ranges form =
-    ap (λ n. total n (greatest_term (drop k ranges) (drop k form))) (length-drop k ranges)
-    ∙ total_same (length ranges - k) (greatest_term (drop k ranges) (drop k form)) (λ i. greatest_term ranges form (k + i)) (λ j p. greatest_term-drop k ranges form j)
+pub factor_sum-drop : (f : Factor) (k : ℕ) (ranges : List Range) (form : List ℤ) → factor_sum f (drop k ranges) (drop k form) ≡ total (length ranges - k) (λ i. factor_term f ranges form (k + i))
+factor_sum-drop f k ranges form =
+    ap (λ n. total n (factor_term f (drop k ranges) (drop k form))) (length-drop k ranges)
+    ∙ total_same (length ranges - k) (factor_term f (drop k ranges) (drop k form)) (λ i. factor_term f ranges form (k + i)) (λ j p. factor_term-drop f k ranges form j)
 
 -- ---- sums from the first place on
 first_place : (t : ℕ → ℤ) (n : ℕ) (sum : ℤ) → IsSum (λ i. t (0 + i)) (n - 0) sum → IsSum t n sum

@@ -14,6 +14,8 @@ use Rattle.dsv_algebra.specs.Narrow.{narrow_of}
 use Rattle.dsv_system.specs.Systems.{zeros}
 use Rattle.dsv_netlist.specs.Nodes.{at}
 use Rattle.dsv_linear.specs.declared.range.Range.{Range}
+use Rattle.dsv_linear.specs.declared.range.Factor.{Factor}
+use Rattle.dsv_linear.specs.declared.range.Factor.TheVariants.{Low, High, Least, Greatest}
 use Rattle.dsv_linear.specs.declared.point.Entry.{Entry}
 
 infixl 10 ◌>>=◌
@@ -67,6 +69,13 @@ least_factor c r = if int_lt c (pos 0) then r.high else r.low
 abbrev pub greatest_factor : ℤ → Range → ℤ
 greatest_factor c r = if int_lt c (pos 0) then r.low else r.high
 
+-- what a coefficient is multiplied by
+abbrev pub factor : Factor → ℤ → Range → ℤ
+factor Low c r = r.low
+factor High c r = r.high
+factor Least c r = least_factor c r
+factor Greatest c r = greatest_factor c r
+
 -- the range of products with a number in the range
 abbrev pub products_range : ℤ → Range → Option Range
 products_range c r = both (narrow_of (c *ℤ least_factor c r)) (narrow_of (c *ℤ greatest_factor c r))
@@ -90,6 +99,16 @@ differences left right =
 
 abbrev pub products : ℤ → List ℤ → Option (List ℤ)
 products c form = entries (length form) (λ j. c *ℤ at form j)
+
+-- the same of forms that are known, or not
+abbrev pub sum_of : Option (List ℤ) → Option (List ℤ) → Option (List ℤ)
+sum_of left right = left >>= λ first. right >>= λ second. sums first second
+
+abbrev pub difference_of : Option (List ℤ) → Option (List ℤ) → Option (List ℤ)
+difference_of left right = left >>= λ first. right >>= λ second. differences first second
+
+abbrev pub product_of : ℤ → Option (List ℤ) → Option (List ℤ)
+product_of c form = form >>= λ f. products c f
 
 -- the form of a new symbol, after n others
 abbrev pub unit : ℕ → List ℤ
@@ -116,6 +135,13 @@ least ranges form = total (length ranges) (least_term ranges form)
 
 abbrev pub greatest : List Range → List ℤ → Option ℤ
 greatest ranges form = total (length ranges) (greatest_term ranges form)
+
+-- a coefficient times such a number in its symbol's range, and the sum of all of them
+abbrev pub factor_term : Factor → List Range → List ℤ → ℕ → ℤ
+factor_term f ranges form j = at form j *ℤ factor f (at form j) (range_at ranges j)
+
+abbrev pub factor_sum : Factor → List Range → List ℤ → Option ℤ
+factor_sum f ranges form = total (length ranges) (factor_term f ranges form)
 
 -- the range of a form's value, which is whole
 abbrev pub form_range : List Range → List ℤ → Option Range

@@ -22,8 +22,9 @@ use Rattle.dsv_linear.specs.declared.point.Estimate.{Estimate}
 use Rattle.dsv_linear.specs.declared.point.Start.{Start}
 use Rattle.dsv_linear.specs.declared.point.Point.{Point}
 use Rattle.dsv_linear.specs.Forms.{◌>>=◌, range, both, products_range, sums_range}
-use Rattle.dsv_linear.specs.Forms.{differences_range, scaled_range, sums, differences, products}
-use Rattle.dsv_linear.specs.Forms.{unit, form_range, with_symbol, without_symbol, rounded}
+use Rattle.dsv_linear.specs.Forms.{differences_range, scaled_range}
+use Rattle.dsv_linear.specs.Forms.{sum_of, difference_of, product_of, unit, form_range}
+use Rattle.dsv_linear.specs.Forms.{with_symbol, without_symbol, rounded}
 
 -- of a value nothing is known
 abbrev pub unknown : Estimate
@@ -55,17 +56,6 @@ rounded_in format ranges form = rounded (2 ^ format.frac_bits)
 abbrev pub input_entry : Range → ℕ → Option Entry
 input_entry input count = scaled_range input >>= λ symbol. with_symbol (unit count) symbol
 
-abbrev pub product_at : ℤ → List Estimate → ℕ → Option (List ℤ)
-product_at c estimates of = form_at estimates of >>= λ form. products c form
-
-abbrev pub sum_at : List Estimate → ℕ → ℕ → Option (List ℤ)
-sum_at estimates left right = form_at estimates left >>= λ first.
-    form_at estimates right >>= λ second. sums first second
-
-abbrev pub difference_at : List Estimate → ℕ → ℕ → Option (List ℤ)
-difference_at estimates left right = form_at estimates left >>= λ first.
-    form_at estimates right >>= λ second. differences first second
-
 abbrev pub rounded_at : Format → Point → ℕ → Option Entry
 rounded_at format point of = form_at point.estimates of >>= λ form.
     rounded_in format point.ranges form
@@ -73,14 +63,17 @@ rounded_at format point of = form_at point.estimates of >>= λ form.
 abbrev pub node_entry : Start → Point → Node → Option Entry
 node_entry start point Input = input_entry start.input (length point.ranges)
 node_entry start point (Reg register) = without_symbol (form_at start.registers register)
-node_entry start point (MulConst coeff of) = without_symbol (product_at coeff point.estimates of)
+node_entry start point (MulConst coeff of) =
+    without_symbol (product_of coeff (form_at point.estimates of))
 node_entry start point (Round of) = rounded_at start.format point of
-node_entry start point (Add left right) = without_symbol (sum_at point.estimates left right)
-node_entry start point (Sub left right) = without_symbol (difference_at point.estimates left right)
+node_entry start point (Add left right) = without_symbol
+    (sum_of (form_at point.estimates left) (form_at point.estimates right))
+node_entry start point (Sub left right) = without_symbol
+    (difference_of (form_at point.estimates left) (form_at point.estimates right))
 -- up to the first break nothing wraps
 node_entry start point (Fit of) = without_symbol (form_at point.estimates of)
 node_entry start point (Scale of) =
-    without_symbol (product_at (pos (2 ^ start.format.frac_bits)) point.estimates of)
+    without_symbol (product_of (pos (2 ^ start.format.frac_bits)) (form_at point.estimates of))
 
 -- ---- the plain interval of a node's value
 -- a number as the format rounds it

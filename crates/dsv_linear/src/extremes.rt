@@ -1,14 +1,14 @@
 // The least and the greatest values of forms, as sums of the worst cases of their terms.
 ghost use Rattle.std.specs.Prelude.{◌≡◌, ◌<◌, ◌≤◌, ◌-◌, ◌*◌, length, drop, IfSome, Some};
 ghost use Rattle.dsv_algebra.specs.Narrow.{narrow_of};
-ghost use Rattle.dsv_linear.specs.Forms.{least, greatest, least_term, greatest_term};
+ghost use Rattle.dsv_linear.specs.Forms.{least, greatest, factor_term, factor_sum};
 ghost use Rattle.dsv_linear.specs.Forms.{both, upper, lower, scale, range_scale, form_range};
 ghost use Rattle.dsv_linear.specs.Divisions.{extremes};
 ghost use Rattle.dsv_linear.specs.SmallNumbers.{most_terms};
 ghost use Rattle.dsv_linear.specs.SmallSums.{AreSums};
 
 use crate::form::Form;
-use crate::range::{Range, greatest_factor, least_factor, lower_quotient, upper_quotient};
+use crate::range::{Factor, Range, lower_quotient, upper_quotient};
 use crate::small::{
     MOST_TERMS, are_products_small, is_medium, light_factors, small_factors, with_medium_product,
     with_product,
@@ -16,45 +16,27 @@ use crate::small::{
 use crate::{RANGE_SCALE, SCALE};
 use dsv_algebra::NarrowInteger;
 
-/// The least product of a form's coefficient with a number in its symbol's range.
-fn least_term(ranges: &[Range], form: &Form, j: usize) -> Option<NarrowInteger>
+/// A form's coefficient times a number in its symbol's range.
+fn factor_term(factor: Factor, ranges: &[Range], form: &Form, j: usize) -> Option<NarrowInteger>
     requires { j < length ranges.now }
-    ensures { result ≡ narrow_of (least_term ranges.now form.now j) }
+    ensures { result ≡ narrow_of (factor_term factor ranges.now form.now j) }
 {
     let c = form.coefficient(j);
-    c.checked_mul(least_factor(c, &ranges[j]))
+    c.checked_mul(factor.of(c, &ranges[j]))
 }
 
-/// The least sum of a form's coefficients from one place on, each times a number in its symbol's
-/// range.
-fn least_sum(ranges: &[Range], form: &Form, from: usize) -> Option<NarrowInteger>
-    ensures { result ≡ least (drop from ranges.now) (drop from form.now) }
+/// The sum of a form's coefficients from one place on, each times a number in its symbol's range.
+pub fn factor_sum(
+    factor: Factor,
+    ranges: &[Range],
+    form: &Form,
+    from: usize,
+) -> Option<NarrowInteger>
+    ensures { result ≡ factor_sum factor (drop from ranges.now) (drop from form.now) }
 {
     let mut sum = NarrowInteger::from(0i64);
     for j in from..ranges.len() {
-        let term = least_term(ranges, form, j)?;
-        sum = sum.checked_add(term)?;
-    }
-    Some(sum)
-}
-
-/// The greatest product of a form's coefficient with a number in its symbol's range.
-fn greatest_term(ranges: &[Range], form: &Form, j: usize) -> Option<NarrowInteger>
-    requires { j < length ranges.now }
-    ensures { result ≡ narrow_of (greatest_term ranges.now form.now j) }
-{
-    let c = form.coefficient(j);
-    c.checked_mul(greatest_factor(c, &ranges[j]))
-}
-
-/// The greatest sum of a form's coefficients from one place on, each times a number in its symbol's
-/// range.
-fn greatest_sum(ranges: &[Range], form: &Form, from: usize) -> Option<NarrowInteger>
-    ensures { result ≡ greatest (drop from ranges.now) (drop from form.now) }
-{
-    let mut sum = NarrowInteger::from(0i64);
-    for j in from..ranges.len() {
-        let term = greatest_term(ranges, form, j)?;
+        let term = factor_term(factor, ranges, form, j)?;
         sum = sum.checked_add(term)?;
     }
     Some(sum)
@@ -139,8 +121,8 @@ fn wide_extremes(ranges: &[Range], form: &Form, from: usize) -> Option<Range>
     ensures { result ≡ extremes (drop from ranges.now) (drop from form.now) }
 {
     Some(Range {
-        low: least_sum(ranges, form, from)?,
-        high: greatest_sum(ranges, form, from)?,
+        low: factor_sum(Factor::Least, ranges, form, from)?,
+        high: factor_sum(Factor::Greatest, ranges, form, from)?,
     })
 }
 

@@ -10,6 +10,7 @@ mod fact;
 mod form;
 mod intervals;
 mod nodes;
+mod options;
 mod point;
 mod powers;
 mod range;
@@ -17,14 +18,15 @@ mod rounding;
 mod run;
 mod small;
 
-pub use arithmetic::{difference, product, sum, unit};
-pub use extremes::{extreme_sums, outer_range, whole_range};
+pub use arithmetic::unit;
+pub use extremes::{extreme_sums, factor_sum, outer_range, whole_range};
 pub use fact::Fact;
 pub use form::Form;
 pub use intervals::are_words;
+pub use options::{copy_of, difference_of, product_of, sum_of};
 pub use point::{Entry, Estimate, Point, Start};
 pub use powers::{one, power};
-pub use range::Range;
+pub use range::{Factor, Range};
 pub use rounding::{error_range, step, symbol_range};
 pub use run::{Facts, facts_of, no_point, zero_start};
 

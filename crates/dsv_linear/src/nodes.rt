@@ -2,14 +2,14 @@
 ghost use Rattle.std.specs.Prelude.{◌≡◌, ◌++◌, IfOk};
 ghost use Rattle.std.specs.Prelude.{option_to_list, None};
 ghost use Rattle.dsv_linear.specs.Forms.{without_symbol};
-ghost use Rattle.dsv_linear.specs.Known.{form_at, product_at, sum_at, difference_at, rounded_at};
-ghost use Rattle.dsv_linear.specs.Known.{input_entry, form_of, symbol_of};
+ghost use Rattle.dsv_linear.specs.Known.{rounded_at, input_entry, form_of, symbol_of};
 ghost use Rattle.dsv_linear.specs.Known.{node_entry, after_node, advanced};
 
-use crate::arithmetic::{difference, product, sum, unit};
+use crate::arithmetic::unit;
 use crate::fact::Fact;
 use crate::form::Form;
 use crate::intervals::{node_fact, node_interval};
+use crate::options::{copy_of, difference_of, product_of, sum_of};
 use crate::point::{Entry, Estimate, Point, Start, form_at};
 use crate::powers::one;
 use crate::range::Range;
@@ -18,61 +18,6 @@ use dsv_algebra::NarrowInteger;
 use dsv_base::{Items, NoMemory};
 use dsv_netlist::Node;
 use std::alloc::Global;
-
-/// The form of the value of this number, copied.
-fn copy_at(alloc: Global, estimates: &Items<Estimate>, i: u32) -> Result<Option<Form>, NoMemory>
-    ensures { IfOk result (λ form. form ≡ form_at estimates.now i) }
-{
-    match form_at(estimates, i) {
-        Some(form) => Ok(Some(form.copy(alloc)?)),
-        None => Ok(None),
-    }
-}
-
-/// The form of a product with the value of this number.
-fn product_at(
-    alloc: Global,
-    c: NarrowInteger,
-    estimates: &Items<Estimate>,
-    i: u32,
-) -> Result<Option<Form>, NoMemory>
-    ensures { IfOk result (λ form. form ≡ product_at c estimates.now i) }
-{
-    match form_at(estimates, i) {
-        Some(form) => product(alloc, c, form),
-        None => Ok(None),
-    }
-}
-
-/// The form of the sum of the values of these numbers.
-fn sum_at(
-    alloc: Global,
-    estimates: &Items<Estimate>,
-    left: u32,
-    right: u32,
-) -> Result<Option<Form>, NoMemory>
-    ensures { IfOk result (λ form. form ≡ sum_at estimates.now left right) }
-{
-    match (form_at(estimates, left), form_at(estimates, right)) {
-        (Some(first), Some(second)) => sum(alloc, first, second),
-        _ => Ok(None),
-    }
-}
-
-/// The form of the difference of the values of these numbers.
-fn difference_at(
-    alloc: Global,
-    estimates: &Items<Estimate>,
-    left: u32,
-    right: u32,
-) -> Result<Option<Form>, NoMemory>
-    ensures { IfOk result (λ form. form ≡ difference_at estimates.now left right) }
-{
-    match (form_at(estimates, left), form_at(estimates, right)) {
-        (Some(first), Some(second)) => difference(alloc, first, second),
-        _ => Ok(None),
-    }
-}
 
 /// The form of the value of this number, rounded, with its symbol.
 fn rounded_at(
@@ -121,18 +66,20 @@ fn node_entry(
 ) -> Result<Option<Entry>, NoMemory>
     ensures { IfOk result (λ entry. entry ≡ node_entry start.now point.now node.now) }
 {
+    let known = &point.estimates;
     let form = match node {
         Node::Input => return input_entry(alloc, &start.input, point.ranges.len()),
         Node::Round(of) => return rounded_at(alloc, start, point, *of),
-        Node::Reg(register) => copy_at(alloc, &start.registers, *register)?,
+        Node::Reg(register) => copy_of(alloc, form_at(&start.registers, *register))?,
         Node::MulConst { coeff, of } => {
-            let factor = NarrowInteger::from(*coeff);
-            product_at(alloc, factor, &point.estimates, *of)?
+            product_of(alloc, NarrowInteger::from(*coeff), form_at(known, *of))?
         }
-        Node::Add(left, right) => sum_at(alloc, &point.estimates, *left, *right)?,
-        Node::Sub(left, right) => difference_at(alloc, &point.estimates, *left, *right)?,
-        Node::Fit(of) => copy_at(alloc, &point.estimates, *of)?,
-        Node::Scale(of) => product_at(alloc, one(&start.format), &point.estimates, *of)?,
+        Node::Add(left, right) => sum_of(alloc, form_at(known, *left), form_at(known, *right))?,
+        Node::Sub(left, right) => {
+            difference_of(alloc, form_at(known, *left), form_at(known, *right))?
+        }
+        Node::Fit(of) => copy_of(alloc, form_at(known, *of))?,
+        Node::Scale(of) => product_of(alloc, one(&start.format), form_at(known, *of))?,
     };
     Ok(without_symbol(form))
 }

@@ -1,5 +1,5 @@
 // What is known in the course of a sample.
-ghost use Rattle.std.specs.Prelude.{◌≡◌, MatchOption, Some, None};
+ghost use Rattle.std.specs.Prelude.{◌≡◌, option_map};
 ghost use Rattle.dsv_linear.specs.Known.{form_at};
 
 use crate::fact::Fact;
@@ -42,8 +42,7 @@ pub struct Point {
 
 /// The form of the value of this number.
 pub fn form_at(estimates: &Items<Estimate>, i: u32) -> Option<&Form>
-    ensures { MatchOption result (form_at estimates.now i ≡ None)
-        (λ form. form_at estimates.now i ≡ Some form.now) }
+    ensures { option_map (λ form. form.now) result ≡ form_at estimates.now i }
 {
     estimates.as_slice().get(i as usize)?.form.as_ref()
 }

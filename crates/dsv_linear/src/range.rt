@@ -2,7 +2,7 @@
 ghost use Rattle.std.specs.Prelude.{◌≡◌, ◌<◌};
 ghost use Rattle.dsv_linear.specs.Forms.{lower, upper, both, least_factor, greatest_factor};
 ghost use Rattle.dsv_linear.specs.Forms.{range, scaled_range, products_range, sums_range};
-ghost use Rattle.dsv_linear.specs.Forms.{differences_range};
+ghost use Rattle.dsv_linear.specs.Forms.{differences_range, factor};
 
 use crate::RANGE_SCALE;
 use dsv_algebra::NarrowInteger;
@@ -53,6 +53,33 @@ pub(crate) fn greatest_factor(c: NarrowInteger, range: &Range) -> NarrowInteger
     ensures { result ≡ greatest_factor c range.now }
 {
     if c.get() < 0 { range.low } else { range.high }
+}
+
+/// Which number of its symbol's range a coefficient is multiplied by.
+#[derive(Clone, Copy)]
+pub enum Factor {
+    /// The least number.
+    Low,
+    /// The greatest number.
+    High,
+    /// The end that gives the least product.
+    Least,
+    /// The end that gives the greatest product.
+    Greatest,
+}
+
+impl Factor {
+    /// This number of a range, for a coefficient.
+    pub(crate) fn of(self, c: NarrowInteger, range: &Range) -> NarrowInteger
+        ensures { result ≡ factor self c range.now }
+    {
+        match self {
+            Factor::Low => range.low,
+            Factor::High => range.high,
+            Factor::Least => least_factor(c, range),
+            Factor::Greatest => greatest_factor(c, range),
+        }
+    }
 }
 
 impl Range {

@@ -55,10 +55,10 @@ offer_in Open = None
 offer_in (Within bound) = Some bound.offer
 
 -- the certificate that the ranges of all exact values are words at a depth, with that offer
-abbrev pub gain_of : CertifiedJob → Answer → Option Certificate
-gain_of job (answer.InRanges gain error) =
+abbrev pub gain_certificate : CertifiedJob → Answer → Option Certificate
+gain_certificate job (answer.InRanges gain error) =
     Some (certificate.Gain job gain.depth (offer_in error))
-gain_of job other = None
+gain_certificate job other = None
 
 -- the certificate of a table whose first numbers are all positive
 abbrev pub table_of : CertifiedJob → Answer → Option Certificate
@@ -79,7 +79,7 @@ certificate_for design words (searches p samples conflicts) =
 certificate_for design words (seeks_set conflicts) =
     invariant_of (job_with design words (OfRuns Overflow) size.Unbounded)
 certificate_for design words measures_gain =
-    gain_of (job_with design words (OfRuns Overflow) size.Unbounded)
+    gain_certificate (job_with design words (OfRuns Overflow) size.Unbounded)
 certificate_for design words (decides p schur_cohn) =
     roots_of (job_with design words (OfRoots p) size.NoSize)
 certificate_for design words other = λ _. None

@@ -1,7 +1,7 @@
 -- The text of an answer to a job, and its status.
 use Rattle.std.specs.Prelude.{ℕ, pos, List, [], ◌∷◌, ◌++◌}
 use Rattle.std.specs.Prelude.{length, take, filter, codes, Option, Some, None, Ok, Err, ℤ}
-use Rattle.std.specs.Prelude.{Bool, true, false}
+use Rattle.std.specs.Prelude.{Bool, true, false, if◌then◌else◌}
 use Rattle.std.specs.List.{flat_map}
 use Rattle.std.specs.Fmt.{signed_decimal}
 use Rattle.dsv_names.specs.declared.property.Property.TheVariants.{OfRuns, OfRoots, Timing}
@@ -57,6 +57,9 @@ use Rattle.dsv_report.specs.declared.answers.Answer.TheVariants as answer
 use Rattle.dsv_report.specs.declared.stop.Stop.{Stop}
 use Rattle.dsv_report.specs.declared.stop.Stop.TheVariants as stop
 use Rattle.dsv_report.specs.declared.stop.WhichFile.TheVariants as file
+use Rattle.dsv_report.specs.declared.verdict.Verdict.{Verdict}
+use Rattle.dsv_report.specs.declared.verdict.Verdict.TheVariants.{Successful, Failed, Inconclusive}
+use Rattle.dsv_report.specs.declared.verdict.Verdict.TheVariants.{Simulation, Plain}
 
 -- ---- headings
 unfoldable pub successful : List ℕ
@@ -104,10 +107,31 @@ job_text (of_ellipsoid job) = ellipsoid_job_text job
 job_text (of_loop job) = loop_job_text job
 job_text (of_cascade_loop job) = cascade_loop_job_text job
 
--- the verdict and what the job asked for; without a job there is none
-abbrev pub heading : List ℕ → Option AskedJob → List ℕ
+-- ---- verdicts
+-- the line of a verdict; a plain text has none
+abbrev pub verdict_text : Verdict → List ℕ
+verdict_text Successful = successful
+verdict_text Failed = failed
+verdict_text Inconclusive = inconclusive
+verdict_text Simulation = simulation
+verdict_text Plain = []
+
+abbrev pub verdict_status : Verdict → ℕ
+verdict_status Successful = 0
+verdict_status Failed = 10
+verdict_status Inconclusive = 20
+verdict_status Simulation = 0
+verdict_status Plain = 0
+
+abbrev pub has_heading : Verdict → Bool
+has_heading Plain = false
+has_heading _ = true
+
+-- the verdict and what the job asked for; a plain text has none, and without a job there is none
+abbrev pub heading : Verdict → Option AskedJob → List ℕ
 heading verdict None = []
-heading verdict (Some job) = verdict ++ job_text job
+heading verdict (Some job) =
+    if has_heading verdict then verdict_text verdict ++ job_text job else []
 
 -- ---- polynomials that no form decides
 abbrev pub no_zeros_text : List ℕ
@@ -128,16 +152,6 @@ no_form_text poly offers verdict =
 
 abbrev pub wide_text : ℕ → List ℕ
 wide_text index = number_line (codes "cause WIDE index ") index
-
--- ---- polynomials that a table decides
--- the verdict of a table
-abbrev pub table_heading : TableVerdict → List ℕ
-table_heading table.Inside = successful
-table_heading (table.NotInside row) = failed
-
-abbrev pub table_status : TableVerdict → ℕ
-table_status table.Inside = 0
-table_status (table.NotInside row) = 10
 
 -- ---- verdicts on runs
 -- the sample and the number of the first exact value that is no word, and that value
@@ -231,71 +245,91 @@ abbrev pub samples_text : ℕ → List SampleRow → List ℕ
 samples_text = numbered_lines sample_text
 
 -- ---- answers
--- the verdict of what closed forms say of a cascade's sections
-abbrev pub forms_verdict : CascadeForms → List ℕ
-forms_verdict (forms.Falls offers) = successful
-forms_verdict (forms.NotAll section (fault.KeptAway poly offer fall value)) = failed
-forms_verdict (forms.NotAll section (fault.Wide index)) = inconclusive
-forms_verdict (forms.NotAll section (fault.NoClosedForm index)) = inconclusive
+-- the verdict of what the table of a polynomial says
+abbrev pub table_verdict : TableVerdict → Verdict
+table_verdict table.Inside = Successful
+table_verdict (table.NotInside row) = Failed
 
-abbrev pub forms_status : CascadeForms → ℕ
-forms_status (forms.Falls offers) = 0
-forms_status (forms.NotAll section (fault.KeptAway poly offer fall value)) = 10
-forms_status (forms.NotAll section (fault.Wide index)) = 20
-forms_status (forms.NotAll section (fault.NoClosedForm index)) = 20
+-- of what closed forms say of a cascade's sections
+abbrev pub forms_verdict : CascadeForms → Verdict
+forms_verdict (forms.Falls offers) = Successful
+forms_verdict (forms.NotAll section (fault.KeptAway poly offer fall value)) = Failed
+forms_verdict (forms.NotAll section (fault.Wide index)) = Inconclusive
+forms_verdict (forms.NotAll section (fault.NoClosedForm index)) = Inconclusive
 
 -- and of what tables say of them
-abbrev pub section_tables_verdict : SectionTables → List ℕ
-section_tables_verdict (section_tables.Inside findings) = successful
-section_tables_verdict (section_tables.NotInside section found) = failed
-section_tables_verdict (section_tables.Wide section index) = inconclusive
+abbrev pub section_tables_verdict : SectionTables → Verdict
+section_tables_verdict (section_tables.Inside findings) = Successful
+section_tables_verdict (section_tables.NotInside section found) = Failed
+section_tables_verdict (section_tables.Wide section index) = Inconclusive
 
-abbrev pub section_tables_status : SectionTables → ℕ
-section_tables_status (section_tables.Inside findings) = 0
-section_tables_status (section_tables.NotInside section found) = 10
-section_tables_status (section_tables.Wide section index) = 20
+-- the verdict of an answer
+abbrev pub verdict_of : Answer → Verdict
+verdict_of (answer.Falls poly offer fall) = Successful
+verdict_of (answer.KeptAway poly offer fall value) = Failed
+verdict_of (answer.OfTable found) = table_verdict found.verdict
+verdict_of (answer.OfSections found) = forms_verdict found
+verdict_of (answer.OfSectionTables found) = section_tables_verdict found
+verdict_of (answer.StateFalls states offer fall) = Successful
+verdict_of answer.NoStateForm = Inconclusive
+verdict_of answer.NoZeros = Failed
+verdict_of (answer.NoForm poly kept verdict) = Inconclusive
+verdict_of (answer.Wide index) = Inconclusive
+verdict_of (answer.OnTime report) = Successful
+verdict_of (answer.Late report) = Failed
+verdict_of (answer.Never log) = Successful
+verdict_of (answer.Always candidate logs) = Successful
+verdict_of (answer.NoInvariant kept) = Inconclusive
+verdict_of (answer.InRanges gain error) = Successful
+verdict_of (answer.InEllipsoid offer) = Successful
+verdict_of (answer.FoundEllipsoid offer) = Plain
+verdict_of answer.NoEllipsoid = Inconclusive
+verdict_of (answer.OutOfRange sample value) = Inconclusive
+verdict_of (answer.TooDeep depth) = Inconclusive
+verdict_of (answer.Overflow trace) = Failed
+verdict_of (answer.Cycles cycle) = Failed
+verdict_of (answer.Spent log) = Inconclusive
+verdict_of (answer.FormulaText formula) = Plain
+verdict_of (answer.Simulated rows) = Simulation
+verdict_of (answer.Generated found) = Plain
+verdict_of (answer.Checked certified error) = Plain
+
+-- what stands after the heading
+abbrev pub body_text : Answer → List ℕ
+body_text (answer.Falls poly offer fall) = form_text poly offer.form fall
+body_text (answer.KeptAway poly offer fall value) =
+    form_text poly offer.form fall ++ start_text (take offer.form.d offer.start) value
+body_text (answer.OfTable found) = table_text found
+body_text (answer.OfSections found) = forms_text found
+body_text (answer.OfSectionTables found) = section_tables_text found
+body_text (answer.StateFalls states offer fall) = fall_text offer.form fall
+body_text answer.NoStateForm = no_state_form_text
+body_text answer.NoZeros = no_zeros_text
+body_text (answer.NoForm poly kept verdict) = no_form_text poly (length kept) verdict
+body_text (answer.Wide index) = wide_text index
+body_text (answer.OnTime report) = timing_text report
+body_text (answer.Late report) = timing_text report
+body_text (answer.Never log) = []
+body_text (answer.Always candidate logs) = candidate_text candidate
+body_text (answer.NoInvariant kept) =
+    no_invariant_text (length kept) (length (filter is_spent kept))
+body_text (answer.InRanges gain error) = gain_text gain ++ error_text error
+body_text (answer.InEllipsoid offer) = in_ellipsoid_text offer
+body_text (answer.FoundEllipsoid offer) = ellipsoid_text offer
+body_text answer.NoEllipsoid = no_offer_text
+body_text (answer.OutOfRange sample value) = out_of_range_text sample value
+body_text (answer.TooDeep depth) = too_deep_text depth
+body_text (answer.Overflow trace) = trace_text trace
+body_text (answer.Cycles cycle) = cycle_text cycle
+body_text (answer.Spent log) = spent_text (length log)
+body_text (answer.FormulaText formula) = dimacs_text formula
+body_text (answer.Simulated rows) = samples_text 0 rows
+body_text (answer.Generated found) = tally_text found
+body_text (answer.Checked certified error) = checked_text certified error
 
 -- the text of an answer to a job, or to a check or a generation, which are no jobs
 abbrev pub answer_text : Option AskedJob → Answer → List ℕ
-answer_text job (answer.Falls poly offer fall) =
-    heading successful job ++ form_text poly offer.form fall
-answer_text job (answer.KeptAway poly offer fall value) =
-    heading failed job ++ form_text poly offer.form fall
-    ++ start_text (take offer.form.d offer.start) value
-answer_text job (answer.OfTable found) =
-    heading (table_heading found.verdict) job ++ table_text found
-answer_text job (answer.OfSections found) = heading (forms_verdict found) job ++ forms_text found
-answer_text job (answer.OfSectionTables found) =
-    heading (section_tables_verdict found) job ++ section_tables_text found
-answer_text job (answer.StateFalls states offer fall) =
-    heading successful job ++ fall_text offer.form fall
-answer_text job answer.NoStateForm = heading inconclusive job ++ no_state_form_text
-answer_text job answer.NoZeros = heading failed job ++ no_zeros_text
-answer_text job (answer.NoForm poly kept verdict) =
-    heading inconclusive job ++ no_form_text poly (length kept) verdict
-answer_text job (answer.Wide index) = heading inconclusive job ++ wide_text index
-answer_text job (answer.OnTime report) = heading successful job ++ timing_text report
-answer_text job (answer.Late report) = heading failed job ++ timing_text report
-answer_text job (answer.Never log) = heading successful job
-answer_text job (answer.Always candidate logs) = heading successful job ++ candidate_text candidate
-answer_text job (answer.NoInvariant kept) =
-    heading inconclusive job ++ no_invariant_text (length kept) (length (filter is_spent kept))
-answer_text job (answer.InRanges gain error) =
-    heading successful job ++ (gain_text gain ++ error_text error)
-answer_text job (answer.InEllipsoid offer) =
-    heading successful job ++ in_ellipsoid_text offer
-answer_text job (answer.FoundEllipsoid offer) = ellipsoid_text offer
-answer_text job answer.NoEllipsoid = heading inconclusive job ++ no_offer_text
-answer_text job (answer.OutOfRange sample value) =
-    heading inconclusive job ++ out_of_range_text sample value
-answer_text job (answer.TooDeep depth) = heading inconclusive job ++ too_deep_text depth
-answer_text job (answer.Overflow trace) = heading failed job ++ trace_text trace
-answer_text job (answer.Cycles cycle) = heading failed job ++ cycle_text cycle
-answer_text job (answer.Spent log) = heading inconclusive job ++ spent_text (length log)
-answer_text job (answer.FormulaText formula) = dimacs_text formula
-answer_text job (answer.Simulated rows) = heading simulation job ++ samples_text 0 rows
-answer_text job (answer.Generated found) = tally_text found
-answer_text job (answer.Checked certified error) = checked_text certified error
+answer_text job found = heading (verdict_of found) job ++ body_text found
 
 abbrev pub too_long_text : List ℕ
 too_long_text = codes "FILE REFUSED 12 TOO_LONG at 65536\n"
@@ -329,34 +363,7 @@ stop_text stop.NoMemory = codes "NO MEMORY\n"
 
 -- ---- statuses
 abbrev pub answer_status : Answer → ℕ
-answer_status (answer.Falls poly offer fall) = 0
-answer_status (answer.KeptAway poly offer fall value) = 10
-answer_status (answer.OfTable found) = table_status found.verdict
-answer_status (answer.OfSections found) = forms_status found
-answer_status (answer.OfSectionTables found) = section_tables_status found
-answer_status (answer.StateFalls states offer fall) = 0
-answer_status answer.NoStateForm = 20
-answer_status answer.NoZeros = 10
-answer_status (answer.NoForm poly kept verdict) = 20
-answer_status (answer.Wide index) = 20
-answer_status (answer.OnTime report) = 0
-answer_status (answer.Late report) = 10
-answer_status (answer.Never log) = 0
-answer_status (answer.Always candidate logs) = 0
-answer_status (answer.NoInvariant kept) = 20
-answer_status (answer.InRanges gain error) = 0
-answer_status (answer.InEllipsoid offer) = 0
-answer_status (answer.FoundEllipsoid offer) = 0
-answer_status answer.NoEllipsoid = 20
-answer_status (answer.OutOfRange sample value) = 20
-answer_status (answer.TooDeep depth) = 20
-answer_status (answer.Overflow trace) = 10
-answer_status (answer.Cycles cycle) = 10
-answer_status (answer.Spent log) = 20
-answer_status (answer.FormulaText formula) = 0
-answer_status (answer.Simulated rows) = 0
-answer_status (answer.Generated found) = 0
-answer_status (answer.Checked certified error) = 0
+answer_status found = verdict_status (verdict_of found)
 
 abbrev pub stop_status : Stop → ℕ
 stop_status (stop.JobSize size) = 6

@@ -74,7 +74,7 @@ fn put_undecided<K: Sink>(sink: &mut K, word: &[u8], section: u64, index: u64) -
 }
 
 /// Writes that a number on the way to a section's polynomial is too wide.
-fn put_wide<K: Sink>(sink: &mut K, section: u64, index: u64) -> Result<(), Failed>
+fn put_wide_section<K: Sink>(sink: &mut K, section: u64, index: u64) -> Result<(), Failed>
     ensures { Writes (K.seen sink.old) (K.seen sink.new) result (wide_text section index) }
 {
     put_undecided(sink, b"cause WIDE section ", section, index)
@@ -103,7 +103,11 @@ fn put_fault<K: Sink>(sink: &mut K, section: u32, fault: &SectionFault) -> Resul
             put_section_of(sink, section)?;
             put_kept_away(sink, poly, offer, fall, value)
         }
-        SectionFault::Wide { index } => put_wide(sink, u64::from(section), u64::from(*index)),
+        SectionFault::Wide { index } => put_wide_section(
+            sink,
+            u64::from(section),
+            u64::from(*index),
+        ),
         SectionFault::NoClosedForm { index } => {
             put_no_closed_form(sink, u64::from(section), u64::from(*index))
         }
@@ -155,7 +159,7 @@ pub(crate) fn put_section_tables<K: Sink>(sink: &mut K, found: &SectionTables) -
             put_section_table(sink, *section as u64, found)
         }
         SectionTables::Wide { section, index } => {
-            put_wide(sink, *section as u64, u64::from(*index))
+            put_wide_section(sink, *section as u64, u64::from(*index))
         }
     }
 }

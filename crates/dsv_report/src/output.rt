@@ -3,8 +3,8 @@ ghost use Rattle.std.specs.Prelude.{◌≡◌, Some, IfSome, IfOk, OnOk};
 ghost use Rattle.dsv_base.specs.Taking.{Writes};
 ghost use Rattle.dsv_command.specs.Asking.{asked_of, asked_task, asked_state_task, asked_states};
 ghost use Rattle.dsv_command.specs.Asking.{asked_loop};
-ghost use Rattle.dsv_report.specs.Output.{job_with, hints_of, invariant_of, gain_of, roots_of};
-ghost use Rattle.dsv_report.specs.Output.{offer_in};
+ghost use Rattle.dsv_report.specs.Output.{job_with, hints_of, invariant_of, gain_certificate};
+ghost use Rattle.dsv_report.specs.Output.{roots_of, offer_in};
 ghost use Rattle.dsv_report.specs.Output.{certificate_for, answer_output, text_or, output_of};
 ghost use Rattle.dsv_report.specs.Output.{answer_certificate, certificate_written};
 ghost use Rattle.dsv_report.specs.Output.{state_job_with, state_falls_of, wants_certificate};
@@ -102,7 +102,7 @@ fn put_invariant<K: Sink>(
 
 /// Writes the certificate of a gain of this depth, with the offer that shows how far outputs are
 /// from those of exact runs, where one was found.
-fn put_measure<K: Sink>(
+fn put_gain_certificate<K: Sink>(
     sink: &mut K,
     job: &CertifiedJob,
     depth: u32,
@@ -120,7 +120,7 @@ fn put_measure<K: Sink>(
 }
 
 /// Writes the certificate of an answer by the gain, or its report where it has none.
-fn put_gain<K: Sink>(
+fn put_gain_or_answer<K: Sink>(
     sink: &mut K,
     job: &Job,
     words: CertWords,
@@ -129,17 +129,17 @@ fn put_gain<K: Sink>(
     requires places { HasPlaces answer.now }
     requires words { IsWords words }
     ensures text { Writes (K.seen sink.old) (K.seen sink.new) result
-        (text_or (gain_of (job_with job.now.design words (OfRuns Overflow) size.Unbounded)
+        (text_or (gain_certificate (job_with job.now.design words (OfRuns Overflow) size.Unbounded)
         answer.now) (answer_text (Some (of_controller (asked_of job.now))) answer.now)) }
     ensures typed { OnOk result (IfSome
-        (gain_of (job_with job.now.design words (OfRuns Overflow) size.Unbounded) answer.now)
-        IsTyped) }
+        (gain_certificate (job_with job.now.design words (OfRuns Overflow) size.Unbounded)
+        answer.now) IsTyped) }
 {
     match answer {
         Answer::InRanges { gain, error } => {
             let property = Property::OfRuns(RunProperty::Overflow);
             let certified = job_with(job.design, words, property, Size::Unbounded);
-            put_measure(sink, &certified, gain.depth, error)
+            put_gain_certificate(sink, &certified, gain.depth, error)
         }
         _ => put_answer(sink, Some(AnyJob::OfController(job)), answer),
     }
@@ -191,7 +191,7 @@ fn put_certificate<K: Sink>(
     match &job.task {
         Task::Search(question, _) => put_hints(sink, job, words, question, answer),
         Task::SeekSet(_) => put_invariant(sink, job, words, answer),
-        Task::MeasureGain => put_gain(sink, job, words, answer),
+        Task::MeasureGain => put_gain_or_answer(sink, job, words, answer),
         Task::Decide(question) => put_roots(sink, job, words, question.property, answer),
         Task::CheckTime | Task::WriteFormula(_) | Task::Simulate(_) => {
             put_answer(sink, Some(AnyJob::OfController(job)), answer)

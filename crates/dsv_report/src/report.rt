@@ -1,23 +1,18 @@
 // Writes the text of an answer, with no memory.
 #![tactic(auto, using(dsv_algebra::proofs::Casts::casts))]
 
-ghost use Rattle.std.specs.Prelude.{◌≡◌, ◌≤◌, ◌++◌, cond, length, map, filter, Some};
+ghost use Rattle.std.specs.Prelude.{◌≡◌, ◌++◌, cond, length, map, filter};
 ghost use Rattle.dsv_base.specs.Taking.{Writes};
 ghost use Rattle.dsv_system.specs.RowViews.{row_of};
 ghost use Rattle.dsv_command.specs.Asking.{asked_of, asked_task, asked_cascade, asked_series};
 ghost use Rattle.dsv_command.specs.Cascades.{task_alone};
-ghost use Rattle.dsv_report.specs.Gains.{gain_text, error_text, out_of_range_text, too_deep_text};
 ghost use Rattle.dsv_report.specs.AnyJobs as any;
 ghost use Rattle.dsv_report.specs.AnyJobs.{asked_in, of_controller, of_cascade};
-ghost use Rattle.dsv_report.specs.CascadeTexts.{forms_text, section_tables_text};
-ghost use Rattle.dsv_report.specs.Forms as forms;
-ghost use Rattle.dsv_report.specs.Printing.{HasPlaces, FormsHavePlaces};
+ghost use Rattle.dsv_report.specs.Gains.{too_deep_text};
+ghost use Rattle.dsv_report.specs.Printing.{HasPlaces};
 ghost use Rattle.dsv_report.specs.Report as report;
-ghost use Rattle.dsv_report.specs.EllipsoidTexts.{in_ellipsoid_text, no_offer_text};
-ghost use Rattle.dsv_report.specs.StateTexts.{no_state_form_text};
-ghost use Rattle.dsv_report.specs.Tables.{table_text};
 
-use crate::answers::{Answer, OutputError};
+use crate::answers::Answer;
 use crate::any_job::AnyJob;
 use crate::cascades::{put_forms, put_section_count, put_section_tables};
 use crate::certificates::put_checked;
@@ -25,10 +20,6 @@ use crate::ellipsoids::{put_ellipsoid_job, put_in_ellipsoid, put_no_offer_cause}
 use crate::forms::{put_fall, put_form, put_kept_away, put_numbers};
 use crate::fragments::{Fragment, put_fragments};
 use crate::gains::{put_measure, put_out_of_range};
-use crate::headings::{
-    FAILED, INCONCLUSIVE, SUCCESSFUL, forms_status, forms_verdict, section_tables_status,
-    section_tables_verdict, table_heading, table_status,
-};
 use crate::lines::{put_number_line, put_numbered, put_property, put_realisation};
 use crate::loops::{put_cascade_loop_job, put_loop_job};
 use crate::states::{put_no_form_cause, put_state_job};
@@ -36,25 +27,20 @@ use crate::stop::Stop;
 use crate::stops::stop_status;
 use crate::tables::put_table;
 use crate::tallies::put_tally;
+use crate::verdict::{Verdict, verdict_of};
 use dsv_base::{Failed, Sink, put_all, put_line};
-use dsv_cascade::CascadeForms;
-use dsv_certfile::{Ellipsoid, write_ellipsoid};
+use dsv_certfile::write_ellipsoid;
 use dsv_cnf::write_dimacs;
 use dsv_command::{CascadeJob, CascadeTask, Job, Task};
-use dsv_forms::{Form, Poly};
+use dsv_forms::Poly;
 use dsv_fraction::Frac;
-use dsv_gain::Gain;
 use dsv_jury::Jury;
 use dsv_meaning::{Cycle, Trace};
 use dsv_names::{Property, RootProperty, RunProperty};
-use dsv_poly_table::SectionTables;
-use dsv_system::{Row, Rows};
-use dsv_table::TableFinding;
+use dsv_system::Row;
 use dsv_template::{Candidate, Inequality, KeptSet, Why};
 use dsv_timing::TimingReport;
 use std::slice;
-
-const SIMULATION: &[u8] = b"SIMULATION\n";
 
 /// Writes what is asked of the controller.
 fn put_task<K: Sink>(sink: &mut K, task: &Task) -> Result<(), Failed>
@@ -156,55 +142,6 @@ fn put_job<K: Sink>(sink: &mut K, job: AnyJob) -> Result<(), Failed>
     }
 }
 
-/// Writes the verdict and what the job asked for.
-fn put_job_heading<K: Sink>(sink: &mut K, verdict: &[u8], job: AnyJob) -> Result<(), Failed>
-    ensures { Writes (K.seen sink.old) (K.seen sink.new) result
-        (report.heading verdict.now (Some (any.asked_of job.entry))) }
-{
-    put_all(sink, verdict)?;
-    put_job(sink, job)
-}
-
-/// Writes the heading of a verdict on a job; nothing without a job.
-fn put_heading<K: Sink>(sink: &mut K, verdict: &[u8], job: Option<AnyJob>) -> Result<(), Failed>
-    ensures { Writes (K.seen sink.old) (K.seen sink.new) result
-        (report.heading verdict.now (asked_in job.entry)) }
-{
-    match job {
-        Some(job) => put_job_heading(sink, verdict, job),
-        None => put_all(sink, b""),
-    }
-}
-
-/// Writes the text of a form that falls.
-#[tactic(auto, unfolding(crate::specs::Report::successful))]
-fn put_falls<K: Sink>(
-    sink: &mut K,
-    job: Option<AnyJob>,
-    poly: &Poly,
-    form: &Form,
-    fall: &Form,
-) -> Result<(), Failed>
-    requires form { form.now.d ≤ 8 }
-    requires fall { fall.now.d ≤ 8 }
-    ensures { Writes (K.seen sink.old) (K.seen sink.new) result
-        (report.heading report.successful (asked_in job.entry)
-        ++ forms.form_text poly.now form.now fall.now) }
-{
-    put_heading(sink, SUCCESSFUL, job)?;
-    put_form(sink, poly, form, fall)
-}
-
-/// Writes that a numerator has no zeros.
-#[tactic(auto, unfolding(crate::specs::Report::failed))]
-fn put_no_zeros<K: Sink>(sink: &mut K, job: Option<AnyJob>) -> Result<(), Failed>
-    ensures { Writes (K.seen sink.old) (K.seen sink.new) result
-        (report.heading report.failed (asked_in job.entry) ++ report.no_zeros_text) }
-{
-    put_heading(sink, FAILED, job)?;
-    put_all(sink, b"no zeros to test\n")
-}
-
 /// Writes what Jury's recursion says.
 fn put_jury<K: Sink>(sink: &mut K, jury: Jury) -> Result<(), Failed>
     ensures { Writes (K.seen sink.old) (K.seen sink.new) result (report.jury_text jury) }
@@ -224,33 +161,6 @@ fn put_cause<K: Sink>(sink: &mut K, poly: &Poly, offers: u64, jury: Jury) -> Res
     put_line(sink, b"polynomial", poly.coefficients())?;
     put_number_line(sink, b"cause NO_FORM offers ", offers)?;
     put_jury(sink, jury)
-}
-
-/// Writes the text of a polynomial for which no form was found.
-#[tactic(auto, unfolding(crate::specs::Report::inconclusive))]
-fn put_no_form<K: Sink>(
-    sink: &mut K,
-    job: Option<AnyJob>,
-    poly: &Poly,
-    offers: usize,
-    jury: Jury,
-) -> Result<(), Failed>
-    ensures { Writes (K.seen sink.old) (K.seen sink.new) result
-        (report.heading report.inconclusive (asked_in job.entry)
-        ++ report.no_form_text poly.now offers jury) }
-{
-    put_heading(sink, INCONCLUSIVE, job)?;
-    put_cause(sink, poly, offers as u64, jury)
-}
-
-/// Writes that a number is too wide for a polynomial.
-#[tactic(auto, unfolding(crate::specs::Report::inconclusive))]
-fn put_wide<K: Sink>(sink: &mut K, job: Option<AnyJob>, index: u64) -> Result<(), Failed>
-    ensures { Writes (K.seen sink.old) (K.seen sink.new) result
-        (report.heading report.inconclusive (asked_in job.entry) ++ report.wide_text index) }
-{
-    put_heading(sink, INCONCLUSIVE, job)?;
-    put_number_line(sink, b"cause WIDE index ", index)
 }
 
 /// Writes where a value is no word.
@@ -305,39 +215,6 @@ fn put_timing<K: Sink>(sink: &mut K, found: &TimingReport) -> Result<(), Failed>
     put_time(sink, &found.sample_time)
 }
 
-/// Writes that a sample is done in time.
-#[tactic(auto, unfolding(crate::specs::Report::successful))]
-fn put_on_time<K: Sink>(
-    sink: &mut K,
-    job: Option<AnyJob>,
-    found: &TimingReport,
-) -> Result<(), Failed>
-    ensures { Writes (K.seen sink.old) (K.seen sink.new) result
-        (report.heading report.successful (asked_in job.entry) ++ report.timing_text found.now) }
-{
-    put_heading(sink, SUCCESSFUL, job)?;
-    put_timing(sink, found)
-}
-
-/// Writes that a sample isn't done in time.
-#[tactic(auto, unfolding(crate::specs::Report::failed))]
-fn put_late<K: Sink>(sink: &mut K, job: Option<AnyJob>, found: &TimingReport) -> Result<(), Failed>
-    ensures { Writes (K.seen sink.old) (K.seen sink.new) result
-        (report.heading report.failed (asked_in job.entry) ++ report.timing_text found.now) }
-{
-    put_heading(sink, FAILED, job)?;
-    put_timing(sink, found)
-}
-
-/// Writes that nothing happens in any run.
-#[tactic(auto, unfolding(crate::specs::Report::successful))]
-fn put_never<K: Sink>(sink: &mut K, job: Option<AnyJob>) -> Result<(), Failed>
-    ensures { Writes (K.seen sink.old) (K.seen sink.new) result
-        (report.heading report.successful (asked_in job.entry)) }
-{
-    put_heading(sink, SUCCESSFUL, job)
-}
-
 /// Writes the text of a trace.
 fn put_trace<K: Sink>(sink: &mut K, trace: &Trace) -> Result<(), Failed>
     ensures { Writes (K.seen sink.old) (K.seen sink.new) result (report.trace_text trace.now) }
@@ -347,16 +224,6 @@ fn put_trace<K: Sink>(sink: &mut K, trace: &Trace) -> Result<(), Failed>
     put_break(sink, trace.sample.into(), trace.value.into(), &trace.exact)
 }
 
-/// Writes the text of an overflow.
-#[tactic(auto, unfolding(crate::specs::Report::failed))]
-fn put_overflow<K: Sink>(sink: &mut K, job: Option<AnyJob>, trace: &Trace) -> Result<(), Failed>
-    ensures { Writes (K.seen sink.old) (K.seen sink.new) result
-        (report.heading report.failed (asked_in job.entry) ++ report.trace_text trace.now) }
-{
-    put_heading(sink, FAILED, job)?;
-    put_trace(sink, trace)
-}
-
 /// Writes the text of a start with its period.
 fn put_cycle<K: Sink>(sink: &mut K, cycle: &Cycle) -> Result<(), Failed>
     ensures { Writes (K.seen sink.old) (K.seen sink.new) result (report.cycle_text cycle.now) }
@@ -364,27 +231,6 @@ fn put_cycle<K: Sink>(sink: &mut K, cycle: &Cycle) -> Result<(), Failed>
     put_line(sink, b"start", cycle.start.as_slice())?;
     put_number_line(sink, b"period ", cycle.period.into())?;
     put_line(sink, b"outputs", cycle.outputs.as_slice())
-}
-
-/// Writes the text of a limit cycle.
-#[tactic(auto, unfolding(crate::specs::Report::failed))]
-fn put_limit_cycle<K: Sink>(sink: &mut K, job: Option<AnyJob>, cycle: &Cycle) -> Result<(), Failed>
-    ensures { Writes (K.seen sink.old) (K.seen sink.new) result
-        (report.heading report.failed (asked_in job.entry) ++ report.cycle_text cycle.now) }
-{
-    put_heading(sink, FAILED, job)?;
-    put_cycle(sink, cycle)
-}
-
-/// Writes that a search gave up.
-#[tactic(auto, unfolding(crate::specs::Report::inconclusive))]
-fn put_spent<K: Sink>(sink: &mut K, job: Option<AnyJob>, conflicts: u64) -> Result<(), Failed>
-    ensures { Writes (K.seen sink.old) (K.seen sink.new) result
-        (report.heading report.inconclusive (asked_in job.entry)
-        ++ report.spent_text conflicts) }
-{
-    put_heading(sink, INCONCLUSIVE, job)?;
-    put_number_line(sink, b"cause SPENT conflicts ", conflicts)
 }
 
 /// Writes the bound of an inequality.
@@ -431,21 +277,6 @@ fn put_candidate<K: Sink>(sink: &mut K, candidate: &Candidate) -> Result<(), Fai
     put_inequalities(sink, &candidate.inequalities)
 }
 
-/// Writes that nothing overflows in runs of any length, by the candidate's set.
-#[tactic(auto, unfolding(crate::specs::Report::successful))]
-fn put_always<K: Sink>(
-    sink: &mut K,
-    job: Option<AnyJob>,
-    candidate: &Candidate,
-) -> Result<(), Failed>
-    ensures { Writes (K.seen sink.old) (K.seen sink.new) result
-        (report.heading report.successful (asked_in job.entry)
-        ++ report.candidate_text candidate.now) }
-{
-    put_heading(sink, SUCCESSFUL, job)?;
-    put_candidate(sink, candidate)
-}
-
 /// Counts a set for which a search for what is wrong with it gave up.
 fn spent_of(set: &KeptSet) -> u64
     ensures { result ≡ cond (report.is_spent set.now) 1 0 }
@@ -468,71 +299,12 @@ fn spent_in(kept: &[KeptSet]) -> u64
 }
 
 /// Writes how many sets were offered, and for how many of them a search gave up.
-fn put_offered_sets<K: Sink>(sink: &mut K, offers: u64, spent: u64) -> Result<(), Failed>
+fn put_offered_sets<K: Sink>(sink: &mut K, kept: &[KeptSet]) -> Result<(), Failed>
     ensures { Writes (K.seen sink.old) (K.seen sink.new) result
-        (report.no_invariant_text offers spent) }
+        (report.no_invariant_text (length kept.now) (length (filter report.is_spent kept.now))) }
 {
-    put_numbered(sink, b"cause NO_INVARIANT offers ", offers)?;
-    put_number_line(sink, b" spent ", spent)
-}
-
-/// Writes that no set was found that the controller never leaves.
-#[tactic(auto, unfolding(crate::specs::Report::inconclusive))]
-fn put_no_invariant<K: Sink>(
-    sink: &mut K,
-    job: Option<AnyJob>,
-    kept: &[KeptSet],
-) -> Result<(), Failed>
-    ensures { Writes (K.seen sink.old) (K.seen sink.new) result
-        (report.heading report.inconclusive (asked_in job.entry)
-        ++ report.no_invariant_text (length kept.now)
-        (length (filter report.is_spent kept.now))) }
-{
-    put_heading(sink, INCONCLUSIVE, job)?;
-    put_offered_sets(sink, kept.len() as u64, spent_in(kept))
-}
-
-/// Writes that nothing overflows in runs of any length, by the ranges of the gain, and how far
-/// outputs are from those of exact runs.
-#[tactic(auto, unfolding(crate::specs::Report::successful))]
-fn put_in_ranges<K: Sink>(
-    sink: &mut K,
-    job: Option<AnyJob>,
-    gain: &Gain,
-    error: &OutputError,
-) -> Result<(), Failed>
-    ensures { Writes (K.seen sink.old) (K.seen sink.new) result
-        (report.heading report.successful (asked_in job.entry)
-        ++ (gain_text gain.now ++ error_text error.now)) }
-{
-    put_heading(sink, SUCCESSFUL, job)?;
-    put_measure(sink, gain, error)
-}
-
-/// Writes where the gain leaves the words though no list overflows.
-#[tactic(auto, unfolding(crate::specs::Report::inconclusive))]
-fn put_left<K: Sink>(
-    sink: &mut K,
-    job: Option<AnyJob>,
-    sample: u64,
-    value: usize,
-) -> Result<(), Failed>
-    ensures { Writes (K.seen sink.old) (K.seen sink.new) result
-        (report.heading report.inconclusive (asked_in job.entry)
-        ++ out_of_range_text sample value) }
-{
-    put_heading(sink, INCONCLUSIVE, job)?;
-    put_out_of_range(sink, sample, value as u64)
-}
-
-/// Writes that no depth below the limit is enough.
-#[tactic(auto, unfolding(crate::specs::Report::inconclusive))]
-fn put_too_deep<K: Sink>(sink: &mut K, job: Option<AnyJob>, depth: u64) -> Result<(), Failed>
-    ensures { Writes (K.seen sink.old) (K.seen sink.new) result
-        (report.heading report.inconclusive (asked_in job.entry) ++ too_deep_text depth) }
-{
-    put_heading(sink, INCONCLUSIVE, job)?;
-    put_number_line(sink, b"cause DEPTH ", depth)
+    put_numbered(sink, b"cause NO_INVARIANT offers ", kept.len() as u64)?;
+    put_number_line(sink, b" spent ", spent_in(kept))
 }
 
 /// Writes a sample's number, its input and its output.
@@ -573,151 +345,80 @@ fn put_samples<K: Sink>(sink: &mut K, rows: &[Row]) -> Result<(), Failed>
     Ok(())
 }
 
-/// Writes the text of a simulation.
-#[tactic(auto, unfolding(crate::specs::Report::simulation))]
-fn put_simulation<K: Sink>(sink: &mut K, job: Option<AnyJob>, rows: &Rows) -> Result<(), Failed>
+/// Writes a verdict and what the job asked for.
+fn put_job_heading<K: Sink>(sink: &mut K, verdict: Verdict, job: AnyJob) -> Result<(), Failed>
     ensures { Writes (K.seen sink.old) (K.seen sink.new) result
-        (report.heading report.simulation (asked_in job.entry) ++ report.samples_text 0 rows.now) }
+        (report.verdict_text verdict ++ report.job_text (any.asked_of job.entry)) }
 {
-    put_heading(sink, SIMULATION, job)?;
-    put_samples(sink, rows.as_slice())
+    put_all(sink, verdict.text())?;
+    put_job(sink, job)
 }
 
-/// Writes what closed forms say of a cascade's sections.
-fn put_sections<K: Sink>(
-    sink: &mut K,
-    job: Option<AnyJob>,
-    found: &CascadeForms,
-) -> Result<(), Failed>
-    requires { FormsHavePlaces found.now }
+/// Writes the heading of a verdict on a job; nothing without a job, or before a plain text.
+fn put_heading<K: Sink>(sink: &mut K, verdict: Verdict, job: Option<AnyJob>) -> Result<(), Failed>
     ensures { Writes (K.seen sink.old) (K.seen sink.new) result
-        (report.heading (report.forms_verdict found.now) (asked_in job.entry)
-        ++ forms_text found.now) }
+        (report.heading verdict (asked_in job.entry)) }
 {
-    put_heading(sink, forms_verdict(found), job)?;
-    put_forms(sink, found)
-}
-
-/// Writes what tables say of a cascade's sections.
-fn put_tabled_sections<K: Sink>(
-    sink: &mut K,
-    job: Option<AnyJob>,
-    found: &SectionTables,
-) -> Result<(), Failed>
-    ensures { Writes (K.seen sink.old) (K.seen sink.new) result
-        (report.heading (report.section_tables_verdict found.now) (asked_in job.entry)
-        ++ section_tables_text found.now) }
-{
-    put_heading(sink, section_tables_verdict(found), job)?;
-    put_section_tables(sink, found)
-}
-
-/// Writes what the table of a polynomial says of its roots.
-fn put_decided<K: Sink>(
-    sink: &mut K,
-    job: Option<AnyJob>,
-    found: &TableFinding,
-) -> Result<(), Failed>
-    ensures { Writes (K.seen sink.old) (K.seen sink.new) result
-        (report.heading (report.table_heading found.now.verdict) (asked_in job.entry)
-        ++ table_text found.now) }
-{
-    put_heading(sink, table_heading(found.verdict), job)?;
-    put_table(sink, found)
-}
-
-/// Writes the text of a form that falls along the states of a controller.
-#[tactic(auto, unfolding(crate::specs::Report::successful))]
-fn put_state_falls<K: Sink>(
-    sink: &mut K,
-    job: Option<AnyJob>,
-    form: &Form,
-    fall: &Form,
-) -> Result<(), Failed>
-    requires form { form.now.d ≤ 8 }
-    requires fall { fall.now.d ≤ 8 }
-    ensures { Writes (K.seen sink.old) (K.seen sink.new) result
-        (report.heading report.successful (asked_in job.entry)
-        ++ forms.fall_text form.now fall.now) }
-{
-    put_heading(sink, SUCCESSFUL, job)?;
-    put_fall(sink, form, fall)
-}
-
-/// Writes the text of a controller for whose states no form was found.
-#[tactic(auto, unfolding(crate::specs::Report::inconclusive))]
-fn put_no_state_form<K: Sink>(sink: &mut K, job: Option<AnyJob>) -> Result<(), Failed>
-    ensures { Writes (K.seen sink.old) (K.seen sink.new) result
-        (report.heading report.inconclusive (asked_in job.entry) ++ no_state_form_text) }
-{
-    put_heading(sink, INCONCLUSIVE, job)?;
-    put_no_form_cause(sink)
-}
-
-/// Writes the text of an ellipsoid that the last outputs stay in.
-#[tactic(auto, unfolding(crate::specs::Report::successful))]
-fn put_kept_in<K: Sink>(sink: &mut K, job: Option<AnyJob>, offer: &Ellipsoid) -> Result<(), Failed>
-    requires { offer.now.form.d ≤ 8 }
-    ensures { Writes (K.seen sink.old) (K.seen sink.new) result
-        (report.heading report.successful (asked_in job.entry) ++ in_ellipsoid_text offer.now) }
-{
-    put_heading(sink, SUCCESSFUL, job)?;
-    put_in_ellipsoid(sink, offer)
-}
-
-/// Writes the text of a controller for which no ellipsoid was found.
-#[tactic(auto, unfolding(crate::specs::Report::inconclusive))]
-fn put_no_ellipsoid<K: Sink>(sink: &mut K, job: Option<AnyJob>) -> Result<(), Failed>
-    ensures { Writes (K.seen sink.old) (K.seen sink.new) result
-        (report.heading report.inconclusive (asked_in job.entry) ++ no_offer_text) }
-{
-    put_heading(sink, INCONCLUSIVE, job)?;
-    put_no_offer_cause(sink)
-}
-
-/// The status of an answer.
-fn answer_status(answer: &Answer) -> u8
-    ensures { result ≡ report.answer_status answer.now }
-{
-    match answer {
-        Answer::OfTable(found) => table_status(found.verdict),
-        Answer::OfSections(found) => forms_status(found),
-        Answer::OfSectionTables(found) => section_tables_status(found),
-        Answer::Falls { .. }
-        | Answer::StateFalls { .. }
-        | Answer::OnTime(_)
-        | Answer::Never { .. }
-        | Answer::Always { .. }
-        | Answer::InRanges { .. }
-        | Answer::InEllipsoid(_)
-        | Answer::FoundEllipsoid(_)
-        | Answer::FormulaText(_)
-        | Answer::Simulated(_)
-        | Answer::Generated(_)
-        | Answer::Checked { .. } => 0,
-        Answer::KeptAway { .. }
-        | Answer::NoZeros
-        | Answer::Late(_)
-        | Answer::Overflow(_)
-        | Answer::Cycles(_) => 10,
-        Answer::NoForm { .. }
-        | Answer::NoStateForm
-        | Answer::NoEllipsoid
-        | Answer::Wide { .. }
-        | Answer::Spent { .. }
-        | Answer::NoInvariant { .. }
-        | Answer::OutOfRange { .. }
-        | Answer::TooDeep { .. } => 20,
+    match job {
+        Some(job) if verdict.has_heading() => put_job_heading(sink, verdict, job),
+        _ => put_all(sink, b""),
     }
 }
 
-/// The status of an answer that was written, or of what was written where there is none.
-pub fn status_of(outcome: &Result<Answer, Stop>) -> u8
-    ensures { result ≡ report.status_of outcome.now }
+/// Writes that a search gave up.
+fn put_spent<K: Sink>(sink: &mut K, conflicts: u64) -> Result<(), Failed>
+    ensures { Writes (K.seen sink.old) (K.seen sink.new) result (report.spent_text conflicts) }
 {
-    match outcome {
-        Ok(answer) => answer_status(answer),
-        Err(stop) => stop_status(stop),
+    put_number_line(sink, b"cause SPENT conflicts ", conflicts)
+}
+
+/// Writes that no depth below the limit is enough.
+fn put_too_deep<K: Sink>(sink: &mut K, depth: u64) -> Result<(), Failed>
+    ensures { Writes (K.seen sink.old) (K.seen sink.new) result (too_deep_text depth) }
+{
+    put_number_line(sink, b"cause DEPTH ", depth)
+}
+
+/// Writes what stands after an answer's heading.
+fn put_body<K: Sink>(sink: &mut K, answer: &Answer) -> Result<(), Failed>
+    requires { HasPlaces answer.now }
+    ensures { Writes (K.seen sink.old) (K.seen sink.new) result (report.body_text answer.now) }
+{
+    match answer {
+        Answer::Falls { poly, offer, fall } => put_form(sink, poly, &offer.form, fall),
+        Answer::KeptAway {
+            poly,
+            offer,
+            fall,
+            value,
+        } => put_kept_away(sink, poly, offer, fall, value),
+        Answer::OfTable(found) => put_table(sink, found),
+        Answer::OfSections(found) => put_forms(sink, found),
+        Answer::OfSectionTables(found) => put_section_tables(sink, found),
+        Answer::StateFalls { offer, fall, .. } => put_fall(sink, &offer.form, fall),
+        Answer::NoStateForm => put_no_form_cause(sink),
+        Answer::NoZeros => put_all(sink, b"no zeros to test\n"),
+        Answer::NoForm { poly, kept, jury } => put_cause(sink, poly, kept.len() as u64, *jury),
+        Answer::Wide { index } => put_number_line(sink, b"cause WIDE index ", (*index).into()),
+        Answer::OnTime(found) | Answer::Late(found) => put_timing(sink, found),
+        Answer::Never { .. } => put_all(sink, b""),
+        Answer::Always { candidate, .. } => put_candidate(sink, candidate),
+        Answer::NoInvariant { kept } => put_offered_sets(sink, kept.as_slice()),
+        Answer::InRanges { gain, error } => put_measure(sink, gain, error),
+        Answer::InEllipsoid(offer) => put_in_ellipsoid(sink, offer),
+        Answer::FoundEllipsoid(offer) => write_ellipsoid(sink, offer),
+        Answer::NoEllipsoid => put_no_offer_cause(sink),
+        Answer::OutOfRange { sample, value } => {
+            put_out_of_range(sink, (*sample).into(), *value as u64)
+        }
+        Answer::TooDeep { depth } => put_too_deep(sink, (*depth).into()),
+        Answer::Overflow(trace) => put_trace(sink, trace),
+        Answer::Cycles(cycle) => put_cycle(sink, cycle),
+        Answer::Spent { log } => put_spent(sink, log.len() as u64),
+        Answer::FormulaText(formula) => write_dimacs(formula, sink),
+        Answer::Simulated(rows) => put_samples(sink, rows.as_slice()),
+        Answer::Generated(found) => put_tally(sink, found),
+        Answer::Checked { certified, error } => put_checked(sink, certified, *error),
     }
 }
 
@@ -731,42 +432,16 @@ pub(crate) fn put_answer<K: Sink>(
     ensures { Writes (K.seen sink.old) (K.seen sink.new) result
         (report.answer_text (asked_in job.entry) answer.now) }
 {
-    match answer {
-        Answer::Falls { poly, offer, fall } => put_falls(sink, job, poly, &offer.form, fall),
-        Answer::KeptAway {
-            poly,
-            offer,
-            fall,
-            value,
-        } => {
-            put_heading(sink, FAILED, job)?;
-            put_kept_away(sink, poly, offer, fall, value)
-        }
-        Answer::OfTable(found) => put_decided(sink, job, found),
-        Answer::OfSections(found) => put_sections(sink, job, found),
-        Answer::OfSectionTables(found) => put_tabled_sections(sink, job, found),
-        Answer::StateFalls { offer, fall, .. } => put_state_falls(sink, job, &offer.form, fall),
-        Answer::NoStateForm => put_no_state_form(sink, job),
-        Answer::NoZeros => put_no_zeros(sink, job),
-        Answer::NoForm { poly, kept, jury } => put_no_form(sink, job, poly, kept.len(), *jury),
-        Answer::Wide { index } => put_wide(sink, job, u64::from(*index)),
-        Answer::OnTime(found) => put_on_time(sink, job, found),
-        Answer::Late(found) => put_late(sink, job, found),
-        Answer::Never { .. } => put_never(sink, job),
-        Answer::Always { candidate, .. } => put_always(sink, job, candidate),
-        Answer::NoInvariant { kept } => put_no_invariant(sink, job, kept.as_slice()),
-        Answer::InRanges { gain, error } => put_in_ranges(sink, job, gain, error),
-        Answer::InEllipsoid(offer) => put_kept_in(sink, job, offer),
-        Answer::FoundEllipsoid(offer) => write_ellipsoid(sink, offer),
-        Answer::NoEllipsoid => put_no_ellipsoid(sink, job),
-        Answer::OutOfRange { sample, value } => put_left(sink, job, u64::from(*sample), *value),
-        Answer::TooDeep { depth } => put_too_deep(sink, job, u64::from(*depth)),
-        Answer::Overflow(trace) => put_overflow(sink, job, trace),
-        Answer::Cycles(cycle) => put_limit_cycle(sink, job, cycle),
-        Answer::Spent { log } => put_spent(sink, job, log.len() as u64),
-        Answer::FormulaText(formula) => write_dimacs(formula, sink),
-        Answer::Simulated(rows) => put_simulation(sink, job, rows),
-        Answer::Generated(found) => put_tally(sink, found),
-        Answer::Checked { certified, error } => put_checked(sink, certified, *error),
+    put_heading(sink, verdict_of(answer), job)?;
+    put_body(sink, answer)
+}
+
+/// The status of an answer that was written, or of what was written where there is none.
+pub fn status_of(outcome: &Result<Answer, Stop>) -> u8
+    ensures { result ≡ report.status_of outcome.now }
+{
+    match outcome {
+        Ok(answer) => verdict_of(answer).status(),
+        Err(stop) => stop_status(stop),
     }
 }

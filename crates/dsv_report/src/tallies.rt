@@ -24,7 +24,12 @@ fn put_decided<K: Sink>(sink: &mut K, name: &[u8], shown: u64, refuted: u64) -> 
 }
 
 /// Writes how many controllers never overflow, how many do, and for how many the search gave up.
-fn put_overflow<K: Sink>(sink: &mut K, safe: u64, overflow: u64, spent: u64) -> Result<(), Failed>
+fn put_overflow_counts<K: Sink>(
+    sink: &mut K,
+    safe: u64,
+    overflow: u64,
+    spent: u64,
+) -> Result<(), Failed>
     ensures { Writes (K.seen sink.old) (K.seen sink.new) result
         (overflow_line safe overflow spent) }
 {
@@ -53,7 +58,7 @@ pub(crate) fn put_tally<K: Sink>(sink: &mut K, found: &Generated) -> Result<(), 
         minimum,
         u64::from(tally.nonminimum),
     )?;
-    put_overflow(
+    put_overflow_counts(
         sink,
         u64::from(tally.safe),
         u64::from(tally.overflow),

@@ -9,5 +9,5 @@ returns-clause-shows c =
     let q = c.args.quantised.now in
     let candidate = c.args.candidate.now in
     let shaped : IsShaped q candidate = search rules in
-    let e = c.check_sentences.ensures in
-    on_ok_three c.check_sentences.result (λ base step safe. never_breaks q candidate c.order.ensures.quantised shaped base step safe) e.base e.step e.safe
+    let e = c.check_logs.ensures in
+    on_ok_three c.check_logs.result (λ base step safe. never_breaks q candidate c.order.ensures.quantised shaped base step safe) e.base e.step e.safe

@@ -1,19 +1,10 @@
-use Rattle.std.proofs.Common.{sym, subst, Option, Result, IfOk}
-use Rattle.dsv_gain.specs.declared.roundoff.ShownError.{ShownError}
-use Rattle.dsv_certcheck.specs.Shown.{ShowsNear}
-use Rattle.dsv_certcheck.specs.declared.check_refusal.CheckRefusal.{CheckRefusal}
-use Rattle.dsv_certcheck.proofs.Nearness.{near_beside}
-use Rattle.dsv_certcheck.proofs.checks.check_depth.Goals.{in-Safe, in-Leaves}
 use Rattle.dsv_certcheck.proofs.checks.check_depth.Goals as goal
 
+pub returns-clause-found : goal.returns-clause-found
+returns-clause-found c = rw c.in_ok-asking.ensures at c.check_depth_of.ensures.found
+
+pub returns-clause-shows : goal.returns-clause-shows
+returns-clause-shows c = rw c.in_ok-asking.ensures at c.check_depth_of.ensures.shows
+
 pub returns-clause-near : goal.returns-clause-near
-returns-clause-near c =
-    let q = c.args.quantised.now in
-    let offer = c.args.offer.now in
-    let outlook = c.in_ok-controller_outlook in
-    elim c.match-branch-2.branch [
-      | in-Safe w ↦
-          subst (λ (r : Result (Option ShownError) CheckRefusal). IfOk r (ShowsNear q offer)) (sym w.result-is)
-          (near_beside q outlook.field-0 w.in-Safe.field-0 offer w.check_error.result w.in-Safe.is outlook.ensures.holds w.check_error.ensures.near)
-      | in-Leaves w ↦ subst (λ (r : Result (Option ShownError) CheckRefusal). IfOk r (ShowsNear q offer)) (sym w.result-is) tt
-    ]
+returns-clause-near c = rw c.in_ok-asking.ensures at c.check_depth_of.ensures.near

@@ -10,6 +10,6 @@ returns-in-Falls-clause-found c =
     let f = c.in-Falls in
     let s = c.args.system.now in
     let stable : is_stability f.job.property ≡ true = search rules in
-    c.check_offer.ensures.found
+    c.check_state_offer.ensures.found
     ∙ ap (λ b. if b then state_offer_check f.job.words s f.offer else refused job_line_number fault.Shape) (sym stable)
     ∙ ap (state_check s) (sym f.is)

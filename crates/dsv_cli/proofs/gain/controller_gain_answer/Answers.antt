@@ -12,4 +12,4 @@ pub returns-in-Safe-clause-gain : goal.returns-in-Safe-clause-gain
 returns-in-Safe-clause-gain c =
     let found = c.in_ok-gain in
     let e = rw c.in_ok-asking.ensures at found.ensures in
-    (safe_is (of_controller c.args.quantised.now) found.field-0 c.in-Safe.gain c.in-Safe.is e.made e.holds e.safe, c.in_ok-error-in-Safe.ensures)
+    (safe_is (of_controller c.args.quantised.now) found.field-0 c.in-Safe.gain c.in-Safe.is e.made e.holds e.safe, rw c.in_ok-asking.ensures at c.in_ok-error-in-Safe.ensures)

@@ -12,7 +12,7 @@ returns-in-Some-clause-suffix g c = suffix (λ b. b.ptr) (λ b a r h. search (ru
 pub returns-in-None-clause-causes : goal.returns-in-None-clause-causes
 returns-in-None-clause-causes g c =
     let came = rw c.in-None.is at c.in_ok-candidate.ensures in
-    record { within = c.requires; causes = causes (IsNotGood c.args.quantised.now c.args.budget.now.conflicts) (λ b a k h. search (rules, of_calls)) came.0 }
+    record { within = c.requires; causes = causes (IsNotGood c.args.asking.now.subject.now c.args.budget.now.conflicts) (λ b a k h. search (rules, of_calls)) came.0 }
 
 pub returns-in-None-clause-blocks : goal.returns-in-None-clause-blocks
 returns-in-None-clause-blocks g c =

@@ -1,5 +1,6 @@
-use Rattle.std.proofs.Common.{inl, inr, refl}
+use Rattle.std.proofs.Common.{inl, inr, sym, subst}
 use Rattle.dsv_command.specs.Asking.{asked_states}
+use Rattle.dsv_cli.specs.States.{IsStateRow, FoundStatesUnread}
 use Rattle.dsv_cli.proofs.StateRows.{states_earlier, row_of_states, row_of_no_states}
 use Rattle.dsv_cli.proofs.Told.{along}
 use Rattle.dsv_cli.proofs.states.state_outcome.Goals as goal
@@ -26,7 +27,14 @@ returns-in-Ok-clause-said g c =
 
 pub returns-in-Err-clause-row : goal.returns-in-Err-clause-row
 returns-in-Err-clause-row g c =
-    row_of_no_states (g.F.Files.seen c.args.files.now) (g.F.Files.seen c.read_state_file.new.files) (asked_states c.args.job.now) c.in-Err.stop c.in-Err.ensures.unread
+    let old = g.F.Files.seen c.args.files.now in
+    let new = g.F.Files.seen c.read_state_file.new.files in
+    let asked = asked_states c.args.job.now in
+    subst (IsStateRow old new asked) (sym c.unsaid.ensures.outcome) (row_of_no_states old new asked c.in-Err.stop c.in-Err.ensures.unread)
 
 pub returns-in-Err-clause-said : goal.returns-in-Err-clause-said
-returns-in-Err-clause-said g c = inr (refl, refl, c.in-Err.ensures.unread)
+returns-in-Err-clause-said g c =
+    let old = g.F.Files.seen c.args.files.now in
+    let new = g.F.Files.seen c.read_state_file.new.files in
+    let unread = subst (FoundStatesUnread old new c.args.job.now.file.now) (sym c.unsaid.ensures.outcome) c.in-Err.ensures.unread in
+    inr (c.unsaid.ensures.states, c.unsaid.ensures.words, unread)

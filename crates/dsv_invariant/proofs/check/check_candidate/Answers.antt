@@ -5,7 +5,7 @@ use Rattle.dsv_invariant.proofs.check.check_candidate.Goals as goal
 
 pub returns-in-Err-Found : goal.returns-in-Err-Found
 returns-in-Err-Found c =
-    let q = c.args.quantised.now in
+    let q = c.args.asking.now.subject.now in
     let candidate = c.args.candidate.now in
     let shaped : IsShaped q candidate = search rules in
     record { cause = cause_by q c.args.conflicts candidate c.in-Err-Found.why shaped (rw c.in-Err-Found.field-0-is at c.in-Err-Found.ensures.found) }

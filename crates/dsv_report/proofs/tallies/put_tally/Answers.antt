@@ -31,4 +31,4 @@ returns g c =
     writes_after (rw (c.from.ensures, c.from-2.ensures) at c.in_ok-put_seed.ensures.whole)
     (writes_after (rw (c.from-stable.ensures, c.from-3.ensures) at c.in_ok-put_decided.ensures.whole)
     (writes_after (rw (c.from-minimum.ensures, c.from-4.ensures) at c.in_ok-put_decided-2.ensures.whole)
-    (rw (c.from-5.ensures, c.from-6.ensures, c.from-7.ensures) at c.put_overflow.ensures)))
+    (rw (c.from-5.ensures, c.from-6.ensures, c.from-7.ensures) at c.put_overflow_counts.ensures)))

@@ -1,6 +1,0 @@
-use Rattle.std.proofs.Common.{take}
-use Rattle.dsv_cli.specs.Cascades.{BecomeWords}
-use Rattle.dsv_cli.proofs.sections.quantise_later.Given as goal
-
-abbrev pub invariant-loop-i : goal.invariant-loop-i
-invariant-loop-i l = BecomeWords l.design (take l.i l.controllers) l.sections.items

@@ -1,5 +1,0 @@
-use Rattle.dsv_base.proofs.TakingLemmas.{writes_after}
-use Rattle.dsv_report.proofs.report.put_decided.Goals as goal
-
-pub returns : goal.returns
-returns g c = writes_after (rw c.table_heading.ensures at c.in_ok-put_heading.ensures.whole) c.put_table.ensures
