@@ -144,7 +144,8 @@ fn check_sentences(
     check_sentence(alloc, asking, candidate, safe, &logs.safe)
 }
 
-/// Checks the logs of the sentences of a candidate for a controller.
+/// Checks the logs of a candidate's sentences for a controller, whose netlist is made here once for
+/// all three.
 fn check_logs(
     alloc: Global,
     quantised: &Quantised,

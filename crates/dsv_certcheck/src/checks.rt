@@ -12,8 +12,7 @@ ghost use Rattle.dsv_certcheck.specs.ShownErrors.{StaysShown, without_error};
 ghost use Rattle.dsv_certfile.specs.Limits.{most_gain_depth};
 ghost use Rattle.dsv_certfile.specs.Texts.{job_of};
 ghost use Rattle.dsv_table.specs.Verdicts.{HasFallingForm};
-ghost use Rattle.dsv_gain.specs.Safe.{IfSafe};
-ghost use Rattle.dsv_gain.specs.Subjects.{outlook_of, HoldsAlways, NeverOverflows};
+ghost use Rattle.dsv_gain.specs.Subjects.{NeverOverflows};
 ghost use Rattle.dsv_realise.specs.Controllers.{of_controller};
 
 use crate::check_refusal::CheckRefusal;
@@ -158,7 +157,7 @@ fn check_depth_of(
     }
 }
 
-/// The same of a controller.
+/// The same check of a controller, whose netlist is made here.
 fn check_depth(
     alloc: Global,
     quantised: &Quantised,

@@ -8,7 +8,7 @@
 -- the samples, and each symbol has one range for all samples.
 use Rattle.std.specs.Prelude.{ℕ, zero, suc, ◌+◌, ◌-◌, ◌*◌, ◌/◌, ◌^◌, ◌==◌, Bool, false, ◌&&◌}
 use Rattle.std.specs.Prelude.{nat_lt, if◌then◌else◌, List, [], ◌∷◌, ◌++◌, length, drop, map}
-use Rattle.std.specs.Prelude.{slice_index_or, Option, Some, None, ℤ, pos, ◌+ℤ◌, ◌*ℤ◌, int_lt}
+use Rattle.std.specs.Prelude.{slice_index_or, Option, Some, None, ℤ, pos, ◌+ℤ◌, int_lt}
 use Rattle.std.specs.Int.{int_rem_euclid}
 use Rattle.dsv_algebra.specs.Floor.{floor_of}
 use Rattle.dsv_algebra.specs.Narrow.{narrow_of}
@@ -20,7 +20,7 @@ use Rattle.dsv_netlist.specs.declared.node.Node.TheVariants.{Round, Add, Sub, Fi
 use Rattle.dsv_linear.specs.declared.range.Range.{Range}
 use Rattle.dsv_linear.specs.declared.range.Factor.TheVariants.{Low, High}
 use Rattle.dsv_linear.specs.Divisions.{symbol_by}
-use Rattle.dsv_linear.specs.Forms.{◌>>=◌, scale, range_scale, range, range_at, both, lower, upper}
+use Rattle.dsv_linear.specs.Forms.{◌>>=◌, scale, range_scale, range, both, lower, upper}
 use Rattle.dsv_linear.specs.Forms.{entries, factor_sum, sum_of, difference_of, product_of, unit}
 use Rattle.dsv_linear.specs.Known.{are_words, error_range}
 use Rattle.dsv_roundoff.specs.Differences.{errors_at}

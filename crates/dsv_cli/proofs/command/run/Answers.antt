@@ -2,8 +2,7 @@ use Rattle.std.proofs.Common.{rules, ◌≡◌, Some, map, string_bytes, subst}
 use Rattle.std.specs.Prelude.{IfSome}
 use Rattle.dsv_certfile.specs.Typed.{IsTyped}
 use Rattle.dsv_command.specs.Asking.{requested_of}
-use Rattle.dsv_command.specs.Requests.{Request, request_of, job_in}
-use Rattle.dsv_report.specs.AnyJobs.{AskedJob, asked_in}
+use Rattle.dsv_command.specs.Requests.{request_of, job_in}
 use Rattle.dsv_report.specs.Output.{output_of, certificate_written}
 use Rattle.dsv_report.specs.Report.{status_of}
 use Rattle.dsv_cli.specs.Headline.{FileBecomes, IsWritten, IfWhole}
