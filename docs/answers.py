@@ -305,8 +305,10 @@ REFUSED = [
 ]
 
 STOPPED = [
-    Kind("The command line", 1, r"USAGE\n", "it is not valid", "`./dsv --help`; names are in capitals, `--x-size` is 1 to 64",
+    Kind("The command line", 1, r"USAGE\n", "it is not valid", "standard error says why; `./dsv --help`",
          "small/modes.dsv --property stability"),
+    Kind("A line after `--why`", 1, r"(?!USAGE\n)[^\n]+\n", "why the line is not valid: the first reason", "what the reason names",
+         "--why small/modes.dsv --property OVERFLOW --x-size 65"),
     Kind("The controller's file", 3, r"READ FAULT CONTROLLER\n", "it can't be read", "look at its name and rights",
          "small/none.dsv --property STABILITY"),
     Kind("The plant's file", 3, r"READ FAULT PLANT\n", "it can't be read", "look at its name and rights",

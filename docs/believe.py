@@ -163,7 +163,7 @@ HEADLINE = ("Explained", "Headline", "Searching", "Gain", "Simulating", "Cascade
 LONG = 30
 PAGE = (
     ("The call", "What `run` says of an answer, whatever the arguments, the files and the sink.",
-     "IsDone request_of Request IsExplained Outcome IsRow IsCheckRow IsUnread TableRow CameOf FilesSeen"),
+     "IsDone request_of dsv_command/Requests:Request IsExplained Outcome IsRow IsCheckRow IsUnread TableRow CameOf FilesSeen"),
     ("The file", "What it means that a file's bytes are a controller, and what the controller is in words.",
      "longest_file IsAccepted IsTextOf IsFaultOf ControllerView BecomesWords QuantisedView"),
     ("Overflow, limit cycles, simulation", "What the answers on runs say, of a subject: a controller, a cascade or a state-space "
@@ -227,10 +227,10 @@ def wrapped(text):
 
 
 def named(listed, name):
-    """The one definition of the list with this name, which may stand after its crate and a colon; where several have it, that of
-    the headline's own files."""
+    """The one definition of the list with this name, which may stand after its crate, or its crate, `/` and its module, and a
+    colon; where several have it, that of the headline's own files."""
     crate, _, word = name.rpartition(":")
-    keys = [key for key in listed if key[1] == word and crate in ("", place_of(key)[0])]
+    keys = [key for key in listed if key[1] == word and crate in ("", place_of(key)[0], "/".join(place_of(key)))]
     own = [key for key in keys if is_of_headline(key)]
     if len(own or keys) != 1:
         sys.exit(f"believe.py: {len(keys)} definitions of the list are named {name}")

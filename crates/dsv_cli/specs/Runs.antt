@@ -2,18 +2,19 @@
 use Rattle.std.specs.Prelude.{◌≡◌, false, Option, IfSome}
 use Rattle.dsv_base.specs.Seen.{FilesSeen, SinkSeen}
 use Rattle.dsv_certfile.specs.Typed.{IsTyped}
+use Rattle.dsv_command.specs.Reasons.{Reason}
 use Rattle.dsv_command.specs.Requests.{Request}
-use Rattle.dsv_report.specs.Output.{output_of, certificate_written, asked_by}
+use Rattle.dsv_report.specs.Output.{run_text, certificate_written, asked_by}
 use Rattle.dsv_report.specs.Report.{status_of}
 use Rattle.dsv_cli.specs.declared.command.Done.{Done}
 use Rattle.dsv_cli.specs.Explained.{IsExplained, IsSaid}
 use Rattle.dsv_cli.specs.Headline.{AreKept, IsWritten, IfWhole}
 use Rattle.dsv_cli.specs.Proposers.{IfNoForm, WantsSchurCohn, is_low}
 
--- A run for a request, or for arguments that ask for nothing: the files before and after it, the
--- sink before and after it, and how it is done.
+-- A run for a request, or for arguments that ask for nothing, and the reason that they ask for, if
+-- they do: the files before and after it, the sink before and after it, and how it is done.
 pub record IsDone (old new : FilesSeen) (from to : SinkSeen) (request : Option Request)
-    (done : Done) : Type 0 where
+    (reason : Option Reason) (done : Done) : Type 0 where
   -- the outcome's row in the table holds
   pub explained : IsExplained old new request done.outcome
   -- a polynomial of order 0 or 1, or 2 with small coefficients, is always decided
@@ -25,10 +26,10 @@ pub record IsDone (old new : FilesSeen) (from to : SinkSeen) (request : Option R
   pub said : IsSaid old new request done.outcome done.states done.words
   -- what the files hold is as before
   pub kept : AreKept old new
-  -- the certificate that the job wants, or else the outcome's text, was written and the status is
-  -- the outcome's, or the status is 4 and the sink failed
+  -- the certificate that the job wants, or the reason that is asked for, or else the outcome's
+  -- text, was written and the status is the outcome's, or the status is 4 and the sink failed
   pub written : IsWritten from to done.status (status_of done.outcome)
-      (output_of (asked_by done.states request) done.words done.outcome)
+      (run_text reason (asked_by done.states request) done.words done.outcome)
   -- of a certificate that was written whole its types are known
   pub typed : IfWhole done.status
       (IfSome (certificate_written (asked_by done.states request) done.words done.outcome) IsTyped)

@@ -4,11 +4,14 @@ ghost use Rattle.dsv_certfile.specs.Lawful.{IsWords};
 ghost use Rattle.dsv_certfile.specs.Typed.{IsTyped};
 ghost use Rattle.dsv_certfile.specs.declared.job.CertWords.TheVariants as words_said;
 ghost use Rattle.dsv_command.specs.Asking.{requested_of};
-ghost use Rattle.dsv_command.specs.Requests.{request_of, job_in};
+ghost use Rattle.dsv_command.specs.Requests.{job_in, reason_of, request_of};
+ghost use Rattle.dsv_command.specs.Views.{reason_view};
 ghost use Rattle.dsv_report.specs.AnyJobs.{asked_in};
 ghost use Rattle.dsv_report.specs.Printing.{HasPlaces};
 ghost use Rattle.dsv_report.specs.Output.{output_of, certificate_written, asked_by};
+ghost use Rattle.dsv_report.specs.Reasons.{reason_text};
 ghost use Rattle.dsv_report.specs.Report.{status_of};
+ghost use Rattle.dsv_report.specs.declared.stop.Stop.TheVariants as stop;
 ghost use Rattle.dsv_cli.specs.Headline.{FileBecomes, IsWritten, IfWhole};
 ghost use Rattle.dsv_cli.specs.Proposers.{IsAsked, AreSetsAsked};
 ghost use Rattle.dsv_cli.specs.Proposers.{WantsForm, WantsSet, WantsSchurCohn};
@@ -19,9 +22,9 @@ use crate::proposers::Proposers;
 use crate::requests::request_outcome;
 use dsv_base::{Files, Sink};
 use dsv_certfile::CertWords;
-use dsv_command::{Request, read_request};
+use dsv_command::{Line, Reason, Request, read_line};
 use dsv_lyapunov::FormProposer;
-use dsv_report::{Answer, AnyJob, Stop, put_output, status_of};
+use dsv_report::{Answer, AnyJob, Stop, put_output, put_reason, status_of};
 use dsv_template::InvariantProposer;
 use std::alloc::Global;
 
@@ -97,6 +100,27 @@ pub(crate) fn put_refusal<K: Sink>(sink: &mut K, stop: Stop) -> Done
     put_found(sink, None, Found::unsaid(Err(stop)))
 }
 
+/// Writes why a line asks for nothing.
+fn put_explained<K: Sink>(sink: &mut K, reason: Reason<'_>) -> Done
+    ensures outcome { result.outcome ≡ Err stop.Usage }
+    ensures words { result.words ≡ words_said.Unsaid }
+    ensures states { result.states ≡ 0 }
+    ensures written { IsWritten (K.seen sink.old) (K.seen sink.new) result.status
+        (status_of (Err stop.Usage)) (reason_text (reason_view reason.entry)) }
+{
+    let outcome = Err(Stop::Usage);
+    let status = match put_reason(sink, reason) {
+        Ok(()) => status_of(&outcome),
+        Err(_) => WRITE_FAULT,
+    };
+    Done {
+        status,
+        outcome,
+        words: CertWords::Unsaid,
+        states: 0,
+    }
+}
+
 /// Runs the command: finds the answer for the arguments after the program's name, and writes its
 /// text to the sink. The writing takes no memory; where the sink fails, a prefix of the text was
 /// written and the status is 4. A polynomial without a closed form is decided by what the proposers
@@ -110,7 +134,8 @@ pub fn run<F: Files, K: Sink>(
     proposers: &mut Proposers,
 ) -> Done
     ensures run { IsDone (F.seen files.old) (F.seen files.new) (K.seen sink.old) (K.seen sink.new)
-        (request_of (map string_bytes arguments.now)) result }
+        (request_of (map string_bytes arguments.now)) (reason_of (map string_bytes arguments.now))
+        result }
     // What becomes of the proposers: a list that the answer doesn't need stays as it was.
     ensures sets { AreSetsAsked (λ b. b.ptr)
         (λ b. (⟦<dyn InvariantProposer as InvariantProposer>⟧ b.vtable).last b.value)
@@ -129,13 +154,14 @@ pub fn run<F: Files, K: Sink>(
     ensures unneeded_forms { (WantsForm (request_of (map string_bytes arguments.now)) → ⊥)
         → proposers.new.forms.items ≡ proposers.old.forms.items }
 {
-    match read_request(alloc, arguments) {
-        Ok(Some(request)) => {
+    match read_line(alloc, arguments) {
+        Ok(Line::Asks(request)) => {
             let found = request_outcome(alloc, &request, files, proposers);
             let heading = heading_of(&request, found.states);
             put_found(sink, heading, found)
         }
-        Ok(None) => put_refusal(sink, Stop::Usage),
+        Ok(Line::Explains(reason)) => put_explained(sink, reason),
+        Ok(Line::AsksNothing) => put_refusal(sink, Stop::Usage),
         Err(_) => put_refusal(sink, Stop::NoMemory),
     }
 }

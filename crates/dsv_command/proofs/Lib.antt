@@ -1,5 +1,3 @@
-pub mod CascadeLaws
-pub mod CascadeLoopLaws
 pub mod ClapAgreement
 pub mod ClapFound
 pub mod ClapLooks
@@ -9,13 +7,17 @@ pub mod ClapTurns
 pub mod ClapUses
 pub mod ClapWalk
 pub mod CommandLemmas
-pub mod EllipsoidLaws
+pub mod FamilyLaws
+pub mod FaultLaws
+pub mod FileLaws
 pub mod InputLaws
 pub mod InputLemmas
-pub mod JobLaws
-pub mod LoopLaws
+pub mod MarkLemmas
 pub mod NameLemmas
+pub mod OnlyLaws
 pub mod PartLaws
 pub mod RequestLaws
+pub mod SectionNameLaws
 pub mod ShapeLaws
-pub mod StateLaws
+pub mod TaskLaws
+pub mod ValueLaws

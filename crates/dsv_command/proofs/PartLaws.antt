@@ -11,15 +11,15 @@ use Rattle.dsv_command.proofs.ShapeLaws.{IsShape, shape_is, plain_shape, stop_sh
 
 -- ---- states of the reading
 -- these parts were given
-abbrev after : List PartView → Reading
+abbrev pub after : List PartView → Reading
 after ps = record { parts = ps; waits = None; ended = false }
 
 -- the option waits for its value
-abbrev waiting : List PartView → List ℕ → Reading
+abbrev pub waiting : List PartView → List ℕ → Reading
 waiting ps name = record { parts = ps; waits = Some name; ended = false }
 
 -- `--` was met
-abbrev stopped : List PartView → Reading
+abbrev pub stopped : List PartView → Reading
 stopped ps = record { parts = ps; waits = None; ended = true }
 
 -- what is read once the next argument is met
@@ -27,12 +27,12 @@ abbrev next : List (List ℕ × Bool) → List (List ℕ) → Reading → Option
 next options arguments r = read_from options r arguments
 
 -- ---- from the rules to the reading
-if_new : {A : Type 0} (b : Bool) (x : A) → b ≡ false → (if b then None else Some x) ≡ Some x
+pub if_new : {A : Type 0} (b : Bool) (x : A) → b ≡ false → (if b then None else Some x) ≡ Some x
 if_new true x e = absurd (cc)
 if_new false x e = refl
 
 -- one more argument that is met
-met : (options : List (List ℕ × Bool)) (r q : Reading) (argument : List ℕ) (rest : List (List ℕ)) → meet options r argument ≡ Some q → read_from options r (argument ∷ rest) ≡ read_from options q rest
+pub met : (options : List (List ℕ × Bool)) (r q : Reading) (argument : List ℕ) (rest : List (List ℕ)) → meet options r argument ≡ Some q → read_from options r (argument ∷ rest) ≡ read_from options q rest
 met options r q argument rest e = ap (option_and_then (next options rest)) e
 
 longer : (ps : List PartView) (p : PartView) (qs : List PartView) → (ps ++ p ∷ []) ++ qs ≡ ps ++ p ∷ qs
@@ -46,7 +46,7 @@ files_read options (a ∷ rest) ps h =
     ∙ ap Some (longer ps (file a) (map file rest))
 
 -- an argument of a known shape
-by_shape : (options : List (List ℕ × Bool)) (ps : List PartView) (q : Reading) (argument : List ℕ) (s : ShapeView) → shape_of argument ≡ s → meet_shape options s None argument (after ps) ≡ Some q → meet options (after ps) argument ≡ Some q
+pub by_shape : (options : List (List ℕ × Bool)) (ps : List PartView) (q : Reading) (argument : List ℕ) (s : ShapeView) → shape_of argument ≡ s → meet_shape options s None argument (after ps) ≡ Some q → meet options (after ps) argument ≡ Some q
 by_shape options ps q argument s e h = ap (λ x. meet_shape options x None argument (after ps)) e ∙ h
 
 pub parts_read : (options : List (List ℕ × Bool)) (arguments : List (List ℕ)) (parts : List PartView) → AreParts options arguments parts → (ps : List PartView) → AreNew ps parts → read_from options (after ps) arguments ≡ Some (ps ++ parts)

@@ -1,278 +1,318 @@
 -- What parts ask for, by the rules and as it is found.
-use Rattle.std.proofs.Common.{◌≡◌, ℕ, ◌^◌, Bool, true, false, List, Option, Some, None, refl, sym, ap, subst, ◌∙◌, arith}
-use Rattle.std.specs.Prelude.{codes, if◌then◌else◌, ◌||◌, nat_lt, is_some, option_map}
-use Rattle.std.proofs.lemmas.Bool.Decides.{nat_tests}
-use Rattle.dsv_text.specs.Digits.{short_number}
-use Rattle.dsv_command.specs.Limits.{most_number_digits, most_controllers, default_controllers}
-use Rattle.dsv_command.specs.Jobs.{Asked, ◌>>=◌, is_given, has_verdict_option, has_design_option, job_of_parts}
-use Rattle.dsv_command.specs.CascadeLoops.{AskedCascadeLoop, cascade_loop_of_parts}
-use Rattle.dsv_command.specs.Cascades.{AskedCascade, cascade_of_parts}
-use Rattle.dsv_command.specs.Ellipsoids.{AskedEllipsoid, has_ellipsoid_option, ellipsoid_of_parts}
-use Rattle.dsv_command.specs.Loops.{AskedLoop, loop_of_parts}
+use Rattle.std.proofs.Common.{◌≡◌, ℕ, Bool, true, false, not, ◌&&◌, List, [], ◌∷◌, Option, Some, None, Ok, Err, refl, sym, ap, subst, ◌∙◌}
+use Rattle.std.specs.Prelude.{Result, codes, if◌then◌else◌, unwrap_or, option_and_then}
+use Rattle.dsv_names.specs.declared.property.RootProperty.TheVariants.{Stability}
+use Rattle.dsv_command.specs.declared.kind.Kind.{Kind}
+use Rattle.dsv_command.specs.declared.kind.Kind.TheVariants as of_kind
+use Rattle.dsv_command.specs.ClapCommand.{filled}
+use Rattle.dsv_command.specs.Finding.{unless_given, unless_file, first_other, task_in, task_part, kind_in, check_states, is_incomplete, check_cell, certificate_part, check_certificate, check_realisation, check_cell_whole, check_whole, files_in, check_job, job_in, all_job_options, checked_files, check_in, generation_in, done, request_by, asked_by, asked_of}
+use Rattle.dsv_command.specs.Limits.{default_controllers}
 use Rattle.dsv_command.specs.Options.{command_options}
-use Rattle.dsv_command.specs.Parts.{PartView, file_of, value_of, has_empty}
+use Rattle.dsv_command.specs.Parts.{PartView, flag, is_given, file_of, value_of, has_empty}
 use Rattle.dsv_command.specs.Reading.{parts_of}
-use Rattle.dsv_command.specs.Requests.{Request, on_file, on_cascade, on_states, on_ellipsoid, on_loop, on_cascade_loop, checks, checks_loop, generates, seed_of, controllers_of, has_task_option, has_job_option, checked_file, check_request, generation_of, controllers_request, files_request, loop_request, plant_request, job_request, request_by, request_of_parts, request_of}
-use Rattle.dsv_command.specs.Rules.{IsSeed, HasNoEllipsoidOption, HasNoTaskOption, HasNoFormOption, HasNoJobOption, IsCheckWith, IsGenerationOf, IsRequestOf, IsRequestLine}
-use Rattle.dsv_command.specs.States.{AskedStates, has_form_option, has_state_option, states_of_parts}
-use Rattle.dsv_command.proofs.JobLaws.{Bound, unbind, parts_ask, job_found, number_read, number_found, no_verdict_given, no_design_given, no_verdict_found, no_design_found}
-use Rattle.dsv_command.proofs.CascadeLaws.{cascade_read, cascade_found}
-use Rattle.dsv_command.proofs.CascadeLoopLaws.{cascade_loop_read, cascade_loop_found}
-use Rattle.dsv_command.proofs.EllipsoidLaws.{GivesControllers, no_ellipsoid_given, no_ellipsoid_found, ellipsoid_given, ellipsoid_read, ellipsoid_found}
-use Rattle.dsv_command.proofs.LoopLaws.{GivesPlant, loop_read, loop_found}
-use Rattle.dsv_command.proofs.StateLaws.{GivesStates, no_form_given, no_state_given, no_form_found, no_state_found, states_read, states_found}
+use Rattle.dsv_command.specs.Reasons.{Reason, apart, fault_of, marks_of}
+use Rattle.dsv_command.specs.Rules.{IsSeed, AreValues, HasOnly, AreFiles, IsTask, IsJobOf, IsCheckOf, IsGenerationOf, IsRequestOf, IsRequestLine}
+use Rattle.dsv_command.specs.Table.{JobFiles, controller, plant_loop, Task, decides, checks_form, seeks_form, Job, Request, does, checks, generates, kind_of, has_cell, may_certify, is_checked, task_options, all_task_options, file_options, all_file_options, all_design_options}
+use Rattle.dsv_command.specs.Values.{Values, values_in}
+use Rattle.dsv_command.proofs.FileLaws.{files_read, kind_checked, files_found, no_file, none_given}
+use Rattle.dsv_command.proofs.OnlyLaws.{off, unless, only_append, only_before, only_after, no_value, first_by_only, only_by_first, AreTyped, parts_typed, unvalued}
 use Rattle.dsv_command.proofs.PartLaws.{given_is_read, read_is_given}
+use Rattle.dsv_command.proofs.TaskLaws.{no_text, none_as, task_read, IsWhole, task_found}
+use Rattle.dsv_command.proofs.ValueLaws.{passed, values_read, values_found}
+
+-- ---- what goes together
+abbrev fine : Result (Unit {0}) Reason
+fine = Ok tt
+
+-- no task of a kind is incomplete
+whole_cell : (kind : Kind) (t : Task) → has_cell kind t ≡ true → check_cell_whole kind t ≡ Ok tt
+whole_cell of_kind.States (decides Stability false) h = absurd (cc)
+whole_cell of_kind.Controller (checks_form name) h = absurd (cc)
+whole_cell of_kind.Controller seeks_form h = absurd (cc)
+whole_cell kind t h = refl
+
+whole_task : (parts : List PartView) (v : Values) (kind : Kind) (t : Task) → IsTask parts v t → has_cell kind t ≡ true → check_whole parts kind t ≡ Ok tt
+whole_task parts v kind t (IsTask.roots ps w p e) h = whole_cell kind t h
+whole_task parts v kind t (IsTask.timing ps w e) h = whole_cell kind t h
+whole_task parts v kind t (IsTask.formula ps w p e f) h = whole_cell kind t h
+whole_task parts v kind t (IsTask.search ps w p e) h = whole_cell kind t h
+whole_task parts v kind t (IsTask.unbounded ps w e u) h = whole_cell kind t h
+whole_task parts v kind t (IsTask.gain ps w e g) h = whole_cell kind t h
+whole_task parts v kind t (IsTask.simulation ps w xs e) h = whole_cell kind t h
+whole_task parts v kind t (IsTask.named_form ps w name e f) h = whole_cell kind t h
+whole_task parts v kind t (IsTask.sought_form ps w e l) h = whole_cell kind t h
+whole_task parts v kind t (IsTask.named_ellipsoid ps w name e u l) h = rw u refl
+whole_task parts v kind t (IsTask.sought_ellipsoid ps w e f r) h = whole_cell kind t h
+
+realised_task : (parts : List PartView) (v : Values) (t : Task) → IsTask parts v t → check_realisation t v.design.realisation ≡ Ok tt
+realised_task parts v t (IsTask.roots ps w p e) = refl
+realised_task parts v t (IsTask.timing ps w e) = refl
+realised_task parts v t (IsTask.formula ps w p e f) = refl
+realised_task parts v t (IsTask.search ps w p e) = refl
+realised_task parts v t (IsTask.unbounded ps w e u) = refl
+realised_task parts v t (IsTask.gain ps w e g) = refl
+realised_task parts v t (IsTask.simulation ps w xs e) = refl
+realised_task parts v t (IsTask.named_form ps w name e f) = refl
+realised_task parts v t (IsTask.sought_form ps w e l) = refl
+realised_task parts v t (IsTask.named_ellipsoid ps w name e u l) = refl
+realised_task parts v t (IsTask.sought_ellipsoid ps w e f r) = rw r refl
+
+certified_by : (g m : Bool) (reason : Reason) → (g ≡ true → m ≡ true) → (if g && not m then Err reason else fine) ≡ fine
+certified_by true true reason h = refl
+certified_by true false reason h = absurd (let k = h refl in cc)
+certified_by false m reason h = refl
 
 -- ---- from the rules to the request
-no_task_given : (parts : List PartView) → HasNoTaskOption parts → has_task_option parts ≡ false
-no_task_given parts h = rw (h.property, h.inputs, h.sections, no_state_given parts h.states, no_ellipsoid_given parts h.ellipsoid, no_verdict_given parts h.verdict, no_design_given parts h.design) refl
+job_checked : (parts : List PartView) (v : Values) (job : Job) → IsJobOf parts v job → kind_in parts ≡ kind_of job.files → check_job parts job.task v.design.realisation ≡ Ok tt
+job_checked parts v job h kind =
+    let only = first_by_only parts (task_options job.task) all_task_options h.task_options in
+    let certified = certified_by (is_given parts (codes "certificate")) (may_certify (kind_of job.files) job.task) (apart (certificate_part (kind_of job.files) job.task) (flag (codes "certificate")))
+    (λ g. h.certificate (h.certified ∙ g)) in
+    rw (only, kind)
+    (rw (kind_checked parts v job.files h.files h.file_options h.design_options, h.cell, certified, realised_task parts v job.task h.task, whole_task parts v (kind_of job.files) job.task h.task h.cell) refl)
 
-no_job_given : (parts : List PartView) → HasNoJobOption parts → has_job_option parts ≡ false
-no_job_given parts h = rw (h.check, h.plant, no_task_given parts h.tasks) refl
+job_read : (parts : List PartView) (v : Values) (job : Job) → AreValues parts v → IsJobOf parts v job → job_in parts v ≡ Ok job
+job_read parts v job values h =
+    let f = files_read parts v job.files values h.files h.file_options in
+    rw (task_read parts v job.task values h.task h.task_options, job_checked parts v job h f.kind, f.read) (rw (sym h.design, sym h.certified) refl)
 
-seed_read : (text : List ℕ) (seed : ℕ) → IsSeed text seed → seed_of text ≡ Some seed
-seed_read text seed h =
-    let small : nat_lt seed (2 ^ 32) ≡ true = let s = h.small in grind (arith, nat_tests) in
-    ap (λ x. x >>= λ n. (if nat_lt n (2 ^ 32) then Some n else None)) h.number ∙ ap (λ (b : Bool). if b then Some seed else None) small
+no_seed : (parts : List PartView) (v : Values) → AreValues parts v → is_given parts (codes "generate") ≡ false → v.seed ≡ None
+no_seed parts v h e = none_as IsSeed (value_of (codes "generate") parts) v.seed h.seed (no_value parts (codes "generate") e)
 
-generation_read : (parts : List PartView) (seed count : ℕ) (h : IsGenerationOf parts seed count) → generation_of parts h.text ≡ Some (generates seed count)
-generation_read parts seed count h =
-    rw (h.filled, h.no_file, no_job_given parts h.no_option)
-    (rw (seed_read h.text seed h.is_seed) (rw (number_read most_controllers default_controllers count (value_of (codes "count") parts) h.is_count) refl))
+no_count : (parts : List PartView) (v : Values) → AreValues parts v → is_given parts (codes "count") ≡ false → v.controllers ≡ None
+no_count parts v h e = none_as _ (value_of (codes "count") parts) v.controllers h.controllers (no_value parts (codes "count") e)
 
-file_checked : (parts : List PartView) (controller certificate : List ℕ) (plant : Option (List ℕ)) → IsCheckWith parts controller certificate plant → checked_file parts ≡ Some controller
-file_checked parts controller certificate plant h = rw (h.filled, h.file) (rw (no_task_given parts h.no_option) refl)
+checked_read : (parts : List PartView) (v : Values) (found : JobFiles) → AreFiles parts v found → is_checked (kind_of found) ≡ true → HasOnly parts (file_options found) all_file_options
+    → checked_files (value_of (codes "plant") parts) (file_of parts) ≡ Ok found
+checked_read parts v found (AreFiles.controllers ps w name f) c only = rw (f, no_value ps (codes "plant") (off ps [] (codes "plant") only.1.1.0 refl)) refl
+checked_read parts v found (AreFiles.cascades ps w name later f e) c only = absurd (cc)
+checked_read parts v found (AreFiles.state_spaces ps w name f s) c only = absurd (cc)
+checked_read parts v found (AreFiles.loops ps w name plant f p) c only = rw (f, p) refl
+checked_read parts v found (AreFiles.cascade_loops ps w name later plant f e p) c only = absurd (cc)
 
-parts_request : (parts : List PartView) (request : Request) → IsRequestOf parts request → request_of_parts parts ≡ Some request
-parts_request parts (on_file asked) h = rw (h.no_seed, h.no_count, h.no_check, h.no_states, no_form_given parts h.no_form, h.no_plant, no_ellipsoid_given parts h.no_ellipsoid, h.no_sections) (ap (option_map on_file) (parts_ask parts asked h.job))
-parts_request parts (on_cascade asked) h =
-    rw (h.no_seed, h.no_count, h.no_check, h.no_states, no_form_given parts h.no_form, h.no_plant, no_ellipsoid_given parts h.no_ellipsoid, h.given) (ap (option_map on_cascade) (cascade_read parts h.text asked h.names h.job))
-parts_request parts (on_states asked) h = rw (h.no_seed, h.no_count, h.no_check, h.given) (ap (option_map on_states) (states_read parts asked h))
-parts_request parts (on_ellipsoid asked) h =
-    rw (h.no_seed, h.no_count, h.no_check, h.no_states, no_form_given parts h.no_form, h.no_plant, ellipsoid_given parts asked h) (ap (option_map on_ellipsoid) (ellipsoid_read parts asked h))
-parts_request parts (on_loop asked) h = rw (h.no_seed, h.no_count, h.no_check, h.no_states, no_form_given parts h.no_form, h.given, h.no_sections) (ap (option_map on_loop) (loop_read parts asked h))
-parts_request parts (on_cascade_loop asked) h =
-    rw (h.no_seed, h.no_count, h.no_check, h.no_states, no_form_given parts h.no_form, h.plant_given, h.given) (ap (option_map on_cascade_loop) (cascade_loop_read parts asked h))
-parts_request parts (checks controller certificate) h =
-    rw (h.no_seed, h.no_count, h.given, h.plant_given) (ap (option_map (λ file. checks file certificate)) (file_checked parts controller certificate None h))
-parts_request parts (checks_loop controller certificate plant) h =
-    rw (h.no_seed, h.no_count, h.given, h.plant_given) (ap (option_map (λ file. checks_loop file certificate plant)) (file_checked parts controller certificate (Some plant) h))
-parts_request parts (generates seed count) h = rw h.given (generation_read parts seed count h)
+-- no option of jobs is given, in the order in which a check looks at them
+check_only : (parts : List PartView) (v : Values) (found : JobFiles) → AreFiles parts v found → is_checked (kind_of found) ≡ true → HasOnly parts (file_options found) all_file_options
+    → (is_given parts (codes "state-space") ≡ false) × (is_given parts (codes "sections") ≡ false)
+check_only parts v found (AreFiles.controllers ps w name f) c only = (off ps [] (codes "state-space") only.0 refl, off ps [] (codes "sections") only.1.0 refl)
+check_only parts v found (AreFiles.cascades ps w name later f e) c only = absurd (cc)
+check_only parts v found (AreFiles.state_spaces ps w name f s) c only = absurd (cc)
+check_only parts v found (AreFiles.loops ps w name plant f p) c only = (off ps (codes "plant" ∷ []) (codes "state-space") only.0 refl, off ps (codes "plant" ∷ []) (codes "sections") only.1.0 refl)
+check_only parts v found (AreFiles.cascade_loops ps w name later plant f e p) c only = absurd (cc)
 
-pub rules_ask : (arguments : List (List ℕ)) (request : Request) → IsRequestLine arguments request → request_of arguments ≡ Some request
-unfolding request_of
-rules_ask arguments request h = rw (given_is_read command_options arguments h.parts h.give) (parts_request h.parts request h.request_of_parts)
+check_read : (parts : List PartView) (v : Values) (found : JobFiles) (name : List ℕ) → IsCheckOf parts v found name → check_in parts name ≡ Ok (checks found name)
+check_read parts v found name h =
+    let files = check_only parts v found h.are_files h.checked h.file_options in
+    let only : HasOnly parts [] all_job_options = (
+      unless parts (codes "state-space") false files.0,
+      (
+        unless parts (codes "sections") false files.1,
+        only_append parts [] all_task_options (codes "certificate" ∷ all_design_options) h.no_task (unless parts (codes "certificate") false h.no_certificate, h.no_design),
+      ),
+    ) in
+    rw (first_by_only parts [] all_job_options only, checked_read parts v found h.are_files h.checked h.file_options) refl
+
+generation_read : (parts : List PartView) (v : Values) (seed count : ℕ) → IsGenerationOf parts v seed count → generation_in parts v.controllers seed ≡ Ok (generates seed count)
+generation_read parts v seed count h =
+    let files = h.no_files in
+    let before : HasOnly parts [] (codes "check" ∷ codes "plant" ∷ []) = (unless parts (codes "check") false h.no_check, (files.1.1.0, tt)) in
+    let only : HasOnly parts [] all_job_options = (
+      files.0,
+      (
+        files.1.0,
+        only_append parts [] all_task_options (codes "certificate" ∷ all_design_options) h.no_task (unless parts (codes "certificate") false h.no_certificate, h.no_design),
+      ),
+    ) in
+    rw (h.no_file, first_by_only parts [] (codes "check" ∷ codes "plant" ∷ []) before, first_by_only parts [] all_job_options only) (rw (sym h.number) refl)
+
+parts_read : (parts : List PartView) (v : Values) (request : Request) → AreValues parts v → IsRequestOf parts v request → request_by parts v v.seed v.controllers (value_of (codes "check") parts) ≡ Ok request
+parts_read parts v (does job) values h =
+    rw (no_seed parts v values h.no_seed, no_count parts v values h.no_count, no_value parts (codes "check") h.no_check) (ap done (job_read parts v job values h))
+parts_read parts v (checks found name) values h = rw (no_seed parts v values h.no_seed, no_count parts v values h.no_count, h.given) (check_read parts v found name h)
+parts_read parts v (generates seed count) values h = rw h.given (generation_read parts v seed count h)
+
+pub line_read : (arguments : List (List ℕ)) (request : Request) → IsRequestLine arguments request → asked_of arguments ≡ Ok request
+unfolding asked_of
+line_read arguments request h =
+    rw (given_is_read command_options arguments h.parts h.give) (rw h.filled (rw (values_read h.parts h.values h.are_values) (parts_read h.parts h.values request h.are_values h.request_of_parts)))
 
 -- ---- from the request to the rules
-seed_by : (text : List ℕ) (n seed : ℕ) (b : Bool) → nat_lt n (2 ^ 32) ≡ b → short_number most_number_digits text ≡ Some n → (if b then Some n else None) ≡ Some seed → IsSeed text seed
-seed_by text n seed true e h k =
-    let same : n ≡ seed = cc in
-    subst (IsSeed text) same (record { number = h; small = grind (arith, nat_tests) })
-seed_by text n seed false e h k = absurd (cc)
 
-seed_found : (text : List ℕ) (seed : ℕ) → seed_of text ≡ Some seed → IsSeed text seed
-seed_found text seed h =
-    let b = unbind (short_number most_number_digits text) (λ n. (if nat_lt n (2 ^ 32) then Some n else None)) seed h in
-    seed_by text b.value seed (nat_lt b.value (2 ^ 32)) refl b.first b.second
+lacks : (parts : List PartView) (kind : Kind) (t : Task) → check_whole parts kind t ≡ Ok tt → is_incomplete kind t ≡ true → ⊥
+lacks parts of_kind.States (decides Stability false) w h = cc
+lacks parts of_kind.Controller (checks_form name) w h = cc
+lacks parts of_kind.Controller seeks_form w h = cc
+lacks parts kind t w h = cc
 
--- none of seven is given where none of them makes a task
-no_task_by : (parts : List PartView) (p s n t l v d : Bool) → is_given parts (codes "property") ≡ p → is_given parts (codes "simulate") ≡ s → is_given parts (codes "sections") ≡ n
-    → has_state_option parts ≡ t → has_ellipsoid_option parts ≡ l → has_verdict_option parts ≡ v → has_design_option parts ≡ d → has_task_option parts ≡ false → HasNoTaskOption parts
-no_task_by parts false false false false false false false p s n t l v d h = record {
-  property = p;
-  inputs = s;
-  sections = n;
-  states = no_state_found parts t;
-  ellipsoid = no_ellipsoid_found parts l;
-  verdict = no_verdict_found parts v;
-  design = no_design_found parts d;
+cell_by : (cell incomplete : Bool) (reason : Reason) → (if cell then fine else if incomplete then fine else Err reason) ≡ fine → (incomplete ≡ true → ⊥) → cell ≡ true
+cell_by true incomplete reason h n = refl
+cell_by false true reason h n = absurd (n refl)
+cell_by false false reason h n = absurd (cc)
+
+certificate_by : (g m : Bool) (reason : Reason) → (if g && not m then Err reason else fine) ≡ fine → g ≡ true → m ≡ true
+certificate_by true true reason h e = refl
+certificate_by true false reason h e = absurd (cc)
+certificate_by false m reason h e = absurd (cc)
+
+record JobChecked (parts : List PartView) (v : Values) (t : Task) : Type 0 where
+  pub only : HasOnly parts (task_options t) all_task_options
+  pub states : check_states parts (kind_in parts) ≡ Ok tt
+  pub cell : has_cell (kind_in parts) t ≡ true
+  pub certificate : is_given parts (codes "certificate") ≡ true → may_certify (kind_in parts) t ≡ true
+  pub whole : IsWhole parts v (kind_in parts) t
+
+job_checks : (parts : List PartView) (v : Values) (t : Task) → check_job parts t v.design.realisation ≡ Ok tt → JobChecked parts v t
+job_checks parts v t h =
+    let other = first_other parts (task_options t) all_task_options in
+    let a = passed (unless_given (task_part t) other) _ tt h in
+    let b = passed (check_states parts (kind_in parts)) _ tt a.second in
+    let c = passed (check_cell (kind_in parts) t) _ tt b.second in
+    let d = passed (check_certificate (is_given parts (codes "certificate")) (kind_in parts) t) _ tt c.second in
+    let e = passed (check_realisation t v.design.realisation) _ tt d.second in
+    record {
+      only = only_by_first parts (task_options t) all_task_options (none_given (task_part t) other a.first);
+      states = b.first;
+      cell = cell_by (has_cell (kind_in parts) t) (is_incomplete (kind_in parts) t) _ c.first (lacks parts (kind_in parts) t e.second);
+      certificate = certificate_by (is_given parts (codes "certificate")) (may_certify (kind_in parts) t) _ d.first;
+      whole = record { realisation = e.first; whole = e.second };
+    }
+
+-- a job is found of these parts, and neither a check nor a generation
+record IsAlone (parts : List PartView) : Type 0 where
+  pub no_check : is_given parts (codes "check") ≡ false
+  pub no_seed : is_given parts (codes "generate") ≡ false
+  pub no_count : is_given parts (codes "count") ≡ false
+
+job_found : (parts : List PartView) (v : Values) (job : Job) → AreTyped command_options parts → AreValues parts v → IsAlone parts → job_in parts v ≡ Ok job → IsJobOf parts v job
+job_found parts v job typed values alone h =
+    let a = passed (task_in parts v) _ job h in
+    let b = passed (check_job parts a.value v.design.realisation) _ job a.second in
+    let c = passed (files_in parts v) _ job b.second in
+    let k = job_checks parts v a.value b.first in
+    let f = files_found parts v c.value typed values k.states c.first in
+    let same : record { files = c.value; task = a.value; design = v.design; certified = is_given parts (codes "certificate") } ≡ job = let e = c.second in cc in
+    subst (IsJobOf parts v) same (record {
+      files = f.files;
+      task = task_found parts v a.value (kind_in parts) k.whole a.first;
+      cell = subst (λ (x : Kind). has_cell x a.value ≡ true) f.kind k.cell;
+      design = refl;
+      certified = refl;
+      certificate = subst (λ (x : Kind). is_given parts (codes "certificate") ≡ true → may_certify x a.value ≡ true) f.kind k.certificate;
+      file_options = f.file_only;
+      task_options = k.only;
+      design_options = f.design_only;
+      no_check = alone.no_check;
+      no_seed = alone.no_seed;
+      no_count = alone.no_count;
+    })
+
+alone_by : (parts : List PartView) (v : Values) → AreTyped command_options parts → AreValues parts v → v.seed ≡ None → v.controllers ≡ None → value_of (codes "check") parts ≡ None → IsAlone parts
+alone_by parts v typed values s c k = record {
+  no_check = unvalued command_options parts (codes "check") typed refl k;
+  no_seed = unvalued command_options parts (codes "generate") typed refl (no_text IsSeed (value_of (codes "generate") parts) v.seed values.seed s);
+  no_count = unvalued command_options parts (codes "count") typed refl (no_text _ (value_of (codes "count") parts) v.controllers values.controllers c);
 }
-no_task_by parts true s n t o v d e f g i j k l h = absurd (let m : true ≡ false = sym (rw e refl) ∙ h in cc)
-no_task_by parts false true n t o v d e f g i j k l h = absurd (let m : true ≡ false = sym (rw (e, f) refl) ∙ h in cc)
-no_task_by parts false false true t o v d e f g i j k l h = absurd (let m : true ≡ false = sym (rw (e, f, g) refl) ∙ h in cc)
-no_task_by parts false false false true o v d e f g i j k l h = absurd (let m : true ≡ false = sym (rw (e, f, g, i) refl) ∙ h in cc)
-no_task_by parts false false false false true v d e f g i j k l h = absurd (let m : true ≡ false = sym (rw (e, f, g, i, j) refl) ∙ h in cc)
-no_task_by parts false false false false false true d e f g i j k l h = absurd (let m : true ≡ false = sym (rw (e, f, g, i, j, k) refl) ∙ h in cc)
-no_task_by parts false false false false false false true e f g i j k l h = absurd (let m : true ≡ false = sym (rw (e, f, g, i, j, k, l) refl) ∙ h in cc)
 
-no_task_found : (parts : List PartView) → has_task_option parts ≡ false → HasNoTaskOption parts
-no_task_found parts =
-    no_task_by parts (is_given parts (codes "property")) (is_given parts (codes "simulate")) (is_given parts (codes "sections")) (has_state_option parts) (has_ellipsoid_option parts) (has_verdict_option parts) (has_design_option parts) refl refl refl refl refl refl refl
+-- the files of a check
+record CheckFound (parts : List PartView) (v : Values) (found : JobFiles) : Type 0 where
+  pub are_files : AreFiles parts v found
+  pub checked : is_checked (kind_of found) ≡ true
+  pub only : HasOnly parts (file_options found) all_file_options
 
-no_job_by : (parts : List PartView) (c p t : Bool) → is_given parts (codes "check") ≡ c → is_given parts (codes "plant") ≡ p → has_task_option parts ≡ t → has_job_option parts ≡ false
-    → HasNoJobOption parts
-no_job_by parts false false false c p t h = record { check = c; plant = p; tasks = no_task_found parts t }
-no_job_by parts true p t e f g h = absurd (let k : true ≡ false = sym (rw e refl) ∙ h in cc)
-no_job_by parts false true t e f g h = absurd (let k : true ≡ false = sym (rw (e, f) refl) ∙ h in cc)
-no_job_by parts false false true e f g h = absurd (let k : true ≡ false = sym (rw (e, f, g) refl) ∙ h in cc)
-
-no_job_found : (parts : List PartView) → has_job_option parts ≡ false → HasNoJobOption parts
-no_job_found parts = no_job_by parts (is_given parts (codes "check")) (is_given parts (codes "plant")) (has_task_option parts) refl refl refl
-
-abbrev numbers_of : List PartView → List ℕ → Option Request
-numbers_of parts text = seed_of text >>= λ seed. controllers_of parts >>= λ count. Some (generates seed count)
-
-generation_by : (parts : List PartView) (text : List ℕ) (request : Request) (file : Option (List ℕ)) (empty other : Bool) → value_of (codes "generate") parts ≡ Some text
-    → has_empty parts ≡ empty → file_of parts ≡ file → has_job_option parts ≡ other → (if empty then None else if is_some file || other then None else numbers_of parts text) ≡ Some request
-    → IsRequestOf parts request
-generation_by parts text request file true other g e f o h = absurd (cc)
-generation_by parts text request (Some name) false other g e f o h = absurd (cc)
-generation_by parts text request None false true g e f o h = absurd (cc)
-generation_by parts text request None false false g e f o h =
-    let a = unbind (seed_of text) (λ seed. controllers_of parts >>= λ count. Some (generates seed count)) request h in
-    let b = unbind (controllers_of parts) (λ count. Some (generates a.value count)) request a.second in
-    let same : generates a.value b.value ≡ request = let s = b.second in cc in
-    subst (IsRequestOf parts) same (record {
-      text = text;
-      given = g;
-      filled = e;
-      is_seed = seed_found text a.value a.first;
-      is_count = number_found most_controllers default_controllers b.value (value_of (codes "count") parts) b.first;
-      no_file = f;
-      no_option = no_job_found parts o;
+checked_by : (parts : List PartView) (v : Values) (found : JobFiles) (plant file : Option (List ℕ)) → AreTyped command_options parts
+    → is_given parts (codes "state-space") ≡ false → is_given parts (codes "sections") ≡ false → value_of (codes "plant") parts ≡ plant → file_of parts ≡ file
+    → checked_files plant file ≡ Ok found → CheckFound parts v found
+checked_by parts v found plant None t s n p f h = absurd (cc)
+checked_by parts v found None (Some name) t s n p f h =
+    let same : controller name ≡ found = cc in
+    subst (CheckFound parts v) same (record {
+      are_files = AreFiles.controllers parts v name f;
+      checked = refl;
+      only = (unless parts (codes "state-space") _ s, (unless parts (codes "sections") _ n, (unless parts (codes "plant") _ (unvalued command_options parts (codes "plant") t refl p), tt)));
+    })
+checked_by parts v found (Some plant) (Some name) t s n p f h =
+    let same : plant_loop name plant ≡ found = cc in
+    subst (CheckFound parts v) same (record {
+      are_files = AreFiles.loops parts v name plant f p;
+      checked = refl;
+      only = (unless parts (codes "state-space") _ s, (unless parts (codes "sections") _ n, ((λ g. refl), tt)));
     })
 
-job_by : (parts : List PartView) (request : Request) (job : Option Asked) → GivesControllers parts → HasNoEllipsoidOption parts → value_of (codes "sections") parts ≡ None
-    → job_of_parts parts ≡ job → option_map on_file job ≡ Some request → IsRequestOf parts request
-job_by parts request None g l s e h = absurd (cc)
-job_by parts request (Some asked) g l s e h =
-    let same : on_file asked ≡ request = cc in
-    subst (IsRequestOf parts) same (record {
-      job = job_found parts asked e;
-      no_seed = g.no_seed;
-      no_count = g.no_count;
-      no_check = g.no_check;
-      no_states = g.no_states;
-      no_form = g.no_form;
-      no_plant = g.no_plant;
-      no_ellipsoid = l;
-      no_sections = s;
+check_found : (parts : List PartView) (v : Values) (name : List ℕ) (request : Request) → AreTyped command_options parts → AreValues parts v → v.seed ≡ None → v.controllers ≡ None
+    → value_of (codes "check") parts ≡ Some name → check_in parts name ≡ Ok request → IsRequestOf parts v request
+check_found parts v name request typed values s c k h =
+    let a = passed (unless_given (flag (codes "check")) (first_other parts [] all_job_options)) _ request h in
+    let b = passed (checked_files (value_of (codes "plant") parts) (file_of parts)) (λ files. Ok (checks files name)) request a.second in
+    let only = only_by_first parts [] all_job_options (none_given (flag (codes "check")) (first_other parts [] all_job_options) a.first) in
+    let rest = only_after parts [] all_task_options (codes "certificate" ∷ all_design_options) only.1.1 in
+    let f = checked_by parts v b.value (value_of (codes "plant") parts) (file_of parts) typed (off parts [] (codes "state-space") only.0 refl) (off parts [] (codes "sections") only.1.0 refl) refl refl b.first in
+    let same : checks b.value name ≡ request = let e = b.second in cc in
+    subst (IsRequestOf parts v) same (record {
+      given = k;
+      are_files = f.are_files;
+      checked = f.checked;
+      file_options = f.only;
+      no_task = only_before parts [] all_task_options (codes "certificate" ∷ all_design_options) only.1.1;
+      no_design = rest.1;
+      no_certificate = off parts [] (codes "certificate") rest.0 refl;
+      no_seed = unvalued command_options parts (codes "generate") typed refl (no_text IsSeed (value_of (codes "generate") parts) v.seed values.seed s);
+      no_count = unvalued command_options parts (codes "count") typed refl (no_text _ (value_of (codes "count") parts) v.controllers values.controllers c);
     })
 
-cascade_by : (parts : List PartView) (text : List ℕ) (request : Request) (job : Option AskedCascade) → GivesControllers parts → HasNoEllipsoidOption parts → value_of (codes "sections") parts ≡ Some text
-    → cascade_of_parts parts text ≡ job → option_map on_cascade job ≡ Some request → IsRequestOf parts request
-cascade_by parts text request None g l s e h = absurd (cc)
-cascade_by parts text request (Some asked) g l s e h =
-    let same : on_cascade asked ≡ request = cc in
-    let found = cascade_found parts text asked e in
-    subst (IsRequestOf parts) same (record {
-      text = text;
+generation_found : (parts : List PartView) (v : Values) (seed : ℕ) (request : Request) → v.seed ≡ Some seed → generation_in parts v.controllers seed ≡ Ok request → IsRequestOf parts v request
+generation_found parts v seed request s h =
+    let a = passed (unless_file (flag (codes "generate")) (file_of parts)) _ request h in
+    let b = passed (unless_given (flag (codes "generate")) (first_other parts [] (codes "check" ∷ codes "plant" ∷ []))) _ request a.second in
+    let c = passed (unless_given (flag (codes "generate")) (first_other parts [] all_job_options)) _ request b.second in
+    let before = only_by_first parts [] (codes "check" ∷ codes "plant" ∷ []) (none_given (flag (codes "generate")) (first_other parts [] (codes "check" ∷ codes "plant" ∷ [])) b.first) in
+    let only = only_by_first parts [] all_job_options (none_given (flag (codes "generate")) (first_other parts [] all_job_options) c.first) in
+    let rest = only_after parts [] all_task_options (codes "certificate" ∷ all_design_options) only.1.1 in
+    let same : generates seed (unwrap_or v.controllers default_controllers) ≡ request = let e = c.second in cc in
+    subst (IsRequestOf parts v) same (record {
       given = s;
-      names = found.names;
-      job = found.job;
-      no_seed = g.no_seed;
-      no_count = g.no_count;
-      no_check = g.no_check;
-      no_states = g.no_states;
-      no_form = g.no_form;
-      no_plant = g.no_plant;
-      no_ellipsoid = l;
+      number = refl;
+      no_file = no_file (flag (codes "generate")) (file_of parts) a.first;
+      no_check = off parts [] (codes "check") before.0 refl;
+      no_certificate = off parts [] (codes "certificate") rest.0 refl;
+      no_files = (only.0, (only.1.0, (before.1.0, tt)));
+      no_task = only_before parts [] all_task_options (codes "certificate" ∷ all_design_options) only.1.1;
+      no_design = rest.1;
     })
 
-controllers_by : (parts : List PartView) (request : Request) (names : Option (List ℕ)) → GivesControllers parts → HasNoEllipsoidOption parts → value_of (codes "sections") parts ≡ names
-    → controllers_request parts names ≡ Some request → IsRequestOf parts request
-controllers_by parts request None g l s h = job_by parts request (job_of_parts parts) g l s refl h
-controllers_by parts request (Some text) g l s h = cascade_by parts text request (cascade_of_parts parts text) g l s refl h
+job_done : (parts : List PartView) (v : Values) (request : Request) (r : Result Job Reason) → ((job : Job) → r ≡ Ok job → IsJobOf parts v job) → done r ≡ Ok request → IsRequestOf parts v request
+job_done parts v request (Ok job) f h = let same : does job ≡ request = cc in subst (IsRequestOf parts v) same (f job refl)
+job_done parts v request (Err reason) f h = absurd (cc)
 
-ellipsoid_by : (parts : List PartView) (request : Request) (job : Option AskedEllipsoid) → GivesControllers parts → ellipsoid_of_parts parts ≡ job
-    → option_map on_ellipsoid job ≡ Some request → IsRequestOf parts request
-ellipsoid_by parts request None g e h = absurd (cc)
-ellipsoid_by parts request (Some asked) g e h =
-    let same : on_ellipsoid asked ≡ request = cc in
-    subst (IsRequestOf parts) same (ellipsoid_found parts asked g e)
+request_found : (parts : List PartView) (v : Values) (request : Request) (seed controllers : Option ℕ) (check : Option (List ℕ)) → AreTyped command_options parts → AreValues parts v → v.seed ≡ seed
+    → v.controllers ≡ controllers → value_of (codes "check") parts ≡ check → request_by parts v seed controllers check ≡ Ok request → IsRequestOf parts v request
+request_found parts v request (Some seed) controllers check t values s c k h = generation_found parts v seed request s (rw c h)
+request_found parts v request None (Some count) check t values s c k h = absurd (cc)
+request_found parts v request None None (Some name) t values s c k h = check_found parts v name request t values s c k h
+request_found parts v request None None None t values s c k h =
+    job_done parts v request (job_in parts v) (λ job e. job_found parts v job t values (alone_by parts v t values s c k) e) h
 
-files_by : (parts : List PartView) (request : Request) (ellipsoid : Bool) → GivesControllers parts → has_ellipsoid_option parts ≡ ellipsoid
-    → files_request parts ellipsoid ≡ Some request → IsRequestOf parts request
-files_by parts request true g l h = ellipsoid_by parts request (ellipsoid_of_parts parts) g refl h
-files_by parts request false g l h = controllers_by parts request (value_of (codes "sections") parts) g (no_ellipsoid_found parts l) refl h
+line_by : (arguments : List (List ℕ)) (request : Request) (parts : List PartView) (empty : Bool) → has_empty parts ≡ empty → parts_of command_options arguments ≡ Some parts
+    → (fault : Option Reason) → asked_by (if empty then None else Some parts) fault ≡ Ok request → IsRequestLine arguments request
+line_by arguments request parts true e p None h = absurd (cc)
+line_by arguments request parts true e p (Some reason) h = absurd (cc)
+line_by arguments request parts false e p fault h =
+    let give = read_is_given command_options arguments parts p in
+    let a = passed (values_in parts) _ request h in
+    let values = values_found parts a.value a.first in
+    record {
+      parts = parts;
+      give = give;
+      filled = e;
+      values = a.value;
+      are_values = values;
+      request_of_parts = request_found parts a.value request a.value.seed a.value.controllers (value_of (codes "check") parts) (parts_typed command_options arguments parts give.given) values refl refl refl a.second;
+    }
 
-loop_by : (parts : List PartView) (plant : List ℕ) (request : Request) (job : Option AskedLoop) → GivesPlant parts plant → value_of (codes "sections") parts ≡ None → loop_of_parts parts plant ≡ job
-    → option_map on_loop job ≡ Some request → IsRequestOf parts request
-loop_by parts plant request None g s e h = absurd (cc)
-loop_by parts plant request (Some asked) g s e h =
-    let same : on_loop asked ≡ request = cc in
-    subst (IsRequestOf parts) same (loop_found parts plant asked g s e)
+read_by : (arguments : List (List ℕ)) (request : Request) (found : Option (List PartView)) → parts_of command_options arguments ≡ found
+    → (fault : Option Reason) → asked_by (option_and_then filled found) fault ≡ Ok request → IsRequestLine arguments request
+read_by arguments request None e None h = absurd (cc)
+read_by arguments request None e (Some reason) h = absurd (cc)
+read_by arguments request (Some parts) e fault h = line_by arguments request parts (has_empty parts) refl e fault h
 
-cascade_loop_by : (parts : List PartView) (plant text : List ℕ) (request : Request) (job : Option AskedCascadeLoop) → GivesPlant parts plant → value_of (codes "sections") parts ≡ Some text
-    → cascade_loop_of_parts parts plant text ≡ job → option_map on_cascade_loop job ≡ Some request → IsRequestOf parts request
-cascade_loop_by parts plant text request None g s e h = absurd (cc)
-cascade_loop_by parts plant text request (Some asked) g s e h =
-    let same : on_cascade_loop asked ≡ request = cc in
-    subst (IsRequestOf parts) same (cascade_loop_found parts plant text asked g s e)
-
-loops_by : (parts : List PartView) (plant : List ℕ) (request : Request) (names : Option (List ℕ)) → GivesPlant parts plant → value_of (codes "sections") parts ≡ names
-    → loop_request parts plant names ≡ Some request → IsRequestOf parts request
-loops_by parts plant request None g s h = loop_by parts plant request (loop_of_parts parts plant) g s refl h
-loops_by parts plant request (Some text) g s h = cascade_loop_by parts plant text request (cascade_loop_of_parts parts plant text) g s refl h
-
-plant_by : (parts : List PartView) (request : Request) (plant : Option (List ℕ)) → value_of (codes "generate") parts ≡ None → value_of (codes "count") parts ≡ None
-    → value_of (codes "check") parts ≡ None → value_of (codes "state-space") parts ≡ None → HasNoFormOption parts → value_of (codes "plant") parts ≡ plant
-    → plant_request parts plant ≡ Some request → IsRequestOf parts request
-plant_by parts request (Some plant) g c n s f p h =
-    loops_by parts plant request (value_of (codes "sections") parts) (record { given = p; no_seed = g; no_count = c; no_check = n; no_states = s; no_form = f }) refl h
-plant_by parts request None g c n s f p h =
-    files_by parts request (has_ellipsoid_option parts) (record { no_seed = g; no_count = c; no_check = n; no_states = s; no_form = f; no_plant = p }) refl h
-
-states_by : (parts : List PartView) (file : List ℕ) (request : Request) (job : Option AskedStates) → GivesStates parts file → states_of_parts parts file ≡ job
-    → option_map on_states job ≡ Some request → IsRequestOf parts request
-states_by parts file request None g e h = absurd (cc)
-states_by parts file request (Some asked) g e h =
-    let same : on_states asked ≡ request = cc in
-    subst (IsRequestOf parts) same (states_found parts file asked g e)
-
-job_request_by : (parts : List PartView) (request : Request) (file : Option (List ℕ)) (form : Bool) → value_of (codes "generate") parts ≡ None → value_of (codes "count") parts ≡ None
-    → value_of (codes "check") parts ≡ None → value_of (codes "state-space") parts ≡ file → has_form_option parts ≡ form → job_request parts file ≡ Some request → IsRequestOf parts request
-job_request_by parts request (Some file) form g c n s f h = states_by parts file request (states_of_parts parts file) (record { given = s; no_seed = g; no_count = c; no_check = n }) refl h
-job_request_by parts request None true g c n s f h = absurd (let k : None ≡ Some request = sym (rw f refl) ∙ h in cc)
-job_request_by parts request None false g c n s f h =
-    let k : plant_request parts (value_of (codes "plant") parts) ≡ Some request = sym (rw f refl) ∙ h in
-    plant_by parts request (value_of (codes "plant") parts) g c n s (no_form_found parts f) refl k
-
--- the controller's file of a check, with nothing else that is done
-record OfCheck (parts : List PartView) (controller : List ℕ) : Type 0 where
-  pub file : file_of parts ≡ Some controller
-  pub filled : has_empty parts ≡ false
-  pub no_option : HasNoTaskOption parts
-
-checked_by : (parts : List PartView) (controller : List ℕ) (file : Option (List ℕ)) (empty other : Bool) → has_empty parts ≡ empty → file_of parts ≡ file → has_task_option parts ≡ other
-    → (if empty then None else (file >>= λ name. (if other then None else Some name))) ≡ Some controller → OfCheck parts controller
-checked_by parts controller file true other e f o h = absurd (cc)
-checked_by parts controller None false other e f o h = absurd (cc)
-checked_by parts controller (Some name) false true e f o h = absurd (cc)
-checked_by parts controller (Some name) false false e f o h = record { file = f ∙ h; filled = e; no_option = no_task_found parts o }
-
-checked_found : (parts : List PartView) (controller : List ℕ) → checked_file parts ≡ Some controller → OfCheck parts controller
-checked_found parts controller h = checked_by parts controller (file_of parts) (has_empty parts) (has_task_option parts) refl refl refl h
-
-check_by : (parts : List PartView) (name : List ℕ) (request : Request) (plant file : Option (List ℕ)) → value_of (codes "generate") parts ≡ None → value_of (codes "count") parts ≡ None
-    → value_of (codes "check") parts ≡ Some name → value_of (codes "plant") parts ≡ plant → checked_file parts ≡ file → check_request parts name plant ≡ Some request → IsRequestOf parts request
-check_by parts name request None None g c n p f h = absurd (let k : None ≡ Some request = sym (rw f refl) ∙ h in cc)
-check_by parts name request (Some plant) None g c n p f h = absurd (let k : None ≡ Some request = sym (rw f refl) ∙ h in cc)
-check_by parts name request None (Some controller) g c n p f h =
-    let found = checked_found parts controller f in
-    let k : Some (checks controller name) ≡ Some request = sym (rw f refl) ∙ h in
-    let same : checks controller name ≡ request = cc in
-    subst (IsRequestOf parts) same (record { given = n; plant_given = p; file = found.file; filled = found.filled; no_option = found.no_option; no_seed = g; no_count = c })
-check_by parts name request (Some plant) (Some controller) g c n p f h =
-    let found = checked_found parts controller f in
-    let k : Some (checks_loop controller name plant) ≡ Some request = sym (rw f refl) ∙ h in
-    let same : checks_loop controller name plant ≡ request = cc in
-    subst (IsRequestOf parts) same (record { given = n; plant_given = p; file = found.file; filled = found.filled; no_option = found.no_option; no_seed = g; no_count = c })
-
-request_found : (parts : List PartView) (request : Request) (seed count name : Option (List ℕ)) → value_of (codes "generate") parts ≡ seed → value_of (codes "count") parts ≡ count
-    → value_of (codes "check") parts ≡ name → request_by parts seed count name ≡ Some request → IsRequestOf parts request
-request_found parts request (Some text) count name g c n h = generation_by parts text request (file_of parts) (has_empty parts) (has_job_option parts) g refl refl refl h
-request_found parts request None (Some text) name g c n h = absurd (cc)
-request_found parts request None None (Some name) g c n h = check_by parts name request (value_of (codes "plant") parts) (checked_file parts) g c n refl refl h
-request_found parts request None None None g c n h = job_request_by parts request (value_of (codes "state-space") parts) (has_form_option parts) g c n refl refl h
-
-line_by : (arguments : List (List ℕ)) (request : Request) → Bound (parts_of command_options arguments) request_of_parts request → IsRequestLine arguments request
-line_by arguments request b = record {
-  parts = b.value;
-  give = read_is_given command_options arguments b.value b.first;
-  request_of_parts = request_found b.value request (value_of (codes "generate") b.value) (value_of (codes "count") b.value) (value_of (codes "check") b.value) refl refl refl b.second;
-}
-
-pub asked_by_rules : (arguments : List (List ℕ)) (request : Request) → request_of arguments ≡ Some request → IsRequestLine arguments request
-unfolding request_of
-asked_by_rules arguments request h = line_by arguments request (unbind (parts_of command_options arguments) request_of_parts request h)
+pub line_found : (arguments : List (List ℕ)) (request : Request) → asked_of arguments ≡ Ok request → IsRequestLine arguments request
+unfolding asked_of
+line_found arguments request h = read_by arguments request (parts_of command_options arguments) refl (fault_of (marks_of command_options arguments)) h

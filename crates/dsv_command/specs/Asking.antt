@@ -1,5 +1,5 @@
 -- What contracts see of a job and of a request.
-use Rattle.std.specs.Prelude.{map}
+use Rattle.std.specs.Prelude.{Option, Some, None, map}
 use Rattle.dsv_command.specs.CascadeLoops as cascade_loops
 use Rattle.dsv_command.specs.Cascades as cascades
 use Rattle.dsv_command.specs.declared.cascades.CascadeJob.{CascadeJob}
@@ -18,6 +18,8 @@ use Rattle.dsv_command.specs.Loops as loops
 use Rattle.dsv_command.specs.declared.loops.LoopJob.{LoopJob}
 use Rattle.dsv_command.specs.Requests.{on_file, on_cascade, on_states, on_ellipsoid, on_loop}
 use Rattle.dsv_command.specs.Requests.{on_cascade_loop, checks, checks_loop, generates}
+use Rattle.dsv_command.specs.Reasons as reasons
+use Rattle.dsv_command.specs.Views.{reason_view}
 use Rattle.dsv_command.specs.States as states
 use Rattle.dsv_command.specs.declared.states.StateJob.{StateJob}
 use Rattle.dsv_command.specs.declared.states.StateTask.{StateTask}
@@ -28,6 +30,8 @@ use Rattle.dsv_command.specs.declared.request.Request.TheVariants.{OnFile, OnCas
 use Rattle.dsv_command.specs.declared.request.Request.TheVariants.{OnStates, OnEllipsoid}
 use Rattle.dsv_command.specs.declared.request.Request.TheVariants.{OnLoop, OnCascadeLoop}
 use Rattle.dsv_command.specs.declared.request.Request.TheVariants.{Check, CheckLoop, Generate}
+use Rattle.dsv_command.specs.declared.request.Line.{Line}
+use Rattle.dsv_command.specs.declared.request.Line.TheVariants.{Asks, Explains, AsksNothing}
 use Rattle.dsv_command.specs.declared.task.Task.{Task}
 use Rattle.dsv_command.specs.declared.task.Task.TheVariants.{Decide, CheckTime}
 use Rattle.dsv_command.specs.declared.task.Task.TheVariants.{WriteFormula, Search, SeekSet}
@@ -122,3 +126,13 @@ requested_of (Check check) = checks check.file.now check.certificate.now
 requested_of (CheckLoop found) =
     checks_loop found.check.file.now found.check.certificate.now found.plant.now
 requested_of (Generate g) = generates g.seed g.count
+
+abbrev pub requested_in : Line → Option requests.Request
+requested_in (Asks request) = Some (requested_of request)
+requested_in (Explains reason) = None
+requested_in AsksNothing = None
+
+abbrev pub explained_in : Line → Option reasons.Reason
+explained_in (Asks request) = None
+explained_in (Explains reason) = Some (reason_view reason)
+explained_in AsksNothing = None

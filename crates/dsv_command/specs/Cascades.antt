@@ -1,14 +1,12 @@
--- The job for a cascade that parts ask for: sections in series, each the controller in a file.
-use Rattle.std.specs.Prelude.{ℕ, ◌==◌, ◌&&◌, not, nat_le, Bool, List}
-use Rattle.std.specs.Prelude.{length, Option, Some, None, if◌then◌else◌, ℤ}
+-- A job for a cascade: sections in series, each the controller in a file.
+use Rattle.std.specs.Prelude.{ℕ, ℤ, ◌==◌, ◌&&◌, not, nat_le, Bool, List, length, Option, Some, None}
+use Rattle.std.specs.Prelude.{if◌then◌else◌}
 use Rattle.std.specs.List.{list_any}
 use Rattle.dsv_names.specs.declared.design.Design.{Design}
 use Rattle.dsv_names.specs.declared.property.RunProperty.TheVariants.{Overflow}
 use Rattle.dsv_names.specs.declared.property.RootProperty.TheVariants.{Stability}
 use Rattle.dsv_command.specs.Inputs.{pieces}
-use Rattle.dsv_command.specs.Jobs.{Task, decides, searches}
-use Rattle.dsv_command.specs.Jobs.{measures_gain, simulates, Asked, job_of_parts, ◌>>=◌}
-use Rattle.dsv_command.specs.Parts.{PartView}
+use Rattle.dsv_command.specs.Jobs.{Task, decides, searches, measures_gain, simulates}
 
 -- what is to be done with a cascade
 pub data CascadeTask : Type 0 where
@@ -37,14 +35,6 @@ task_alone (searches_overflow samples conflicts) = searches Overflow samples con
 task_alone measures_series = measures_gain
 task_alone (simulates_series inputs) = simulates inputs
 
--- the task for a cascade, where a controller's is one of these
-abbrev pub series_task : Task → Option CascadeTask
-series_task (decides Stability schur_cohn) = Some (decides_stability schur_cohn)
-series_task (searches Overflow samples conflicts) = Some (searches_overflow samples conflicts)
-series_task measures_gain = Some measures_series
-series_task (simulates inputs) = Some (simulates_series inputs)
-series_task _ = None
-
 -- the most sections after the first
 abbrev pub most_later : ℕ
 most_later = 7
@@ -57,14 +47,3 @@ abbrev pub names_of : List ℕ → Option (List (List ℕ))
 names_of text =
     if nat_le (length (pieces text)) most_later && not (list_any is_nameless (pieces text))
     then Some (pieces text) else None
-
--- the job for a cascade, where that for its first section alone is one that cascades have, and no
--- certificate is asked for
-abbrev pub series_of : Asked → List (List ℕ) → Option AskedCascade
-series_of asked later = if asked.certified then None else (series_task asked.task >>= λ task.
-    Some (record { file = asked.file; later = later; task = task; design = asked.design }))
-
--- where this is the text of the later sections' names
-abbrev pub cascade_of_parts : List PartView → List ℕ → Option AskedCascade
-cascade_of_parts parts text =
-    job_of_parts parts >>= λ asked. names_of text >>= λ later. series_of asked later

@@ -4,6 +4,7 @@ pub mod Cascades
 pub mod ClapCommand
 pub mod ClapRows
 pub mod Ellipsoids
+pub mod Finding
 pub mod Inputs
 pub mod Jobs
 pub mod Limits
@@ -11,8 +12,11 @@ pub mod Loops
 pub mod Options
 pub mod Parts
 pub mod Reading
+pub mod Reasons
 pub mod Requests
 pub mod Rules
 pub mod Shapes
 pub mod States
+pub mod Table
+pub mod Values
 pub mod Views

@@ -61,3 +61,7 @@ is_empty_part (choice name value) = length value == 0
 
 abbrev pub has_empty : List PartView → Bool
 has_empty parts = list_any is_empty_part parts
+
+-- an option of this name is given
+abbrev pub is_given : List PartView → List ℕ → Bool
+is_given parts name = has_key (for_option name) parts

@@ -1,21 +1,22 @@
--- What the arguments ask for.
-use Rattle.std.specs.Prelude.{ℕ, ◌||◌, nat_lt, ◌^◌, Bool, true, false, List, Option, Some, None}
-use Rattle.std.specs.Prelude.{is_some, option_map, codes, if◌then◌else◌}
-use Rattle.dsv_text.specs.Digits.{short_number}
-use Rattle.dsv_command.specs.CascadeLoops.{AskedCascadeLoop, cascade_loop_of_parts}
-use Rattle.dsv_command.specs.Cascades.{AskedCascade, cascade_of_parts}
-use Rattle.dsv_command.specs.Ellipsoids.{AskedEllipsoid, has_ellipsoid_option}
-use Rattle.dsv_command.specs.Ellipsoids.{ellipsoid_of_parts}
-use Rattle.dsv_command.specs.Limits.{most_number_digits, most_controllers}
-use Rattle.dsv_command.specs.Limits.{default_controllers}
-use Rattle.dsv_command.specs.Loops.{AskedLoop, loop_of_parts}
-use Rattle.dsv_command.specs.Jobs.{Asked, ◌>>=◌, choice_or, is_given, has_verdict_option}
-use Rattle.dsv_command.specs.Jobs.{has_design_option, number_up_to, job_of_parts}
-use Rattle.dsv_command.specs.Options.{command_options}
-use Rattle.dsv_command.specs.Parts.{PartView, file_of, value_of, has_empty}
-use Rattle.dsv_command.specs.Reading.{parts_of}
-use Rattle.dsv_command.specs.States.{AskedStates, has_form_option, has_state_option}
-use Rattle.dsv_command.specs.States.{states_of_parts}
+-- What the command is asked for, by families.
+use Rattle.std.specs.Prelude.{ℕ, Bool, true, List, [], ◌∷◌, Option, Some, None, option_map}
+use Rattle.std.specs.Prelude.{Result, Ok, Err, codes, if◌then◌else◌}
+use Rattle.std.specs.Str.{bytes_eq}
+use Rattle.dsv_names.specs.declared.design.Design.{Design}
+use Rattle.dsv_names.specs.declared.property.RunProperty.TheVariants.{Overflow}
+use Rattle.dsv_names.specs.declared.property.RootProperty.TheVariants.{Stability}
+use Rattle.dsv_command.specs.CascadeLoops.{AskedCascadeLoop}
+use Rattle.dsv_command.specs.Cascades.{AskedCascade}
+use Rattle.dsv_command.specs.Cascades as cascades
+use Rattle.dsv_command.specs.Ellipsoids.{EllipsoidSource, AskedEllipsoid, offered, sought}
+use Rattle.dsv_command.specs.Finding.{asked_of}
+use Rattle.dsv_command.specs.Jobs.{Asked}
+use Rattle.dsv_command.specs.Jobs as jobs
+use Rattle.dsv_command.specs.Loops.{AskedLoop}
+use Rattle.dsv_command.specs.Reasons.{Reason}
+use Rattle.dsv_command.specs.States.{AskedStates}
+use Rattle.dsv_command.specs.States as states
+use Rattle.dsv_command.specs.Table as table
 
 -- what the command is asked for
 pub data Request : Type 0 where
@@ -38,99 +39,145 @@ pub data Request : Type 0 where
   -- controllers of a seed are generated, so many, and what is found of them is counted
   generates : ℕ → ℕ → Request
 
--- the seed that a text of 1 to 10 digits is, below 2^32
-abbrev pub seed_of : List ℕ → Option ℕ
-seed_of text = short_number most_number_digits text >>= λ n.
-    (if nat_lt n (2 ^ 32) then Some n else None)
+-- ---- the families of the table's jobs
 
--- how many controllers are asked for
-abbrev pub controllers_of : List PartView → Option ℕ
-controllers_of parts = choice_or (number_up_to most_controllers) default_controllers
-    (value_of (codes "count") parts)
+abbrev pub controller_job : List ℕ → Design → Bool → jobs.Task → Option Request
+controller_job file design certified task = Some (on_file (record {
+  file = file;
+  task = task;
+  design = design;
+  certified = certified;
+}))
 
--- an option is given that says what is done with a controller, other than that a certificate is
--- checked, or that there is a plant
-abbrev pub has_task_option : List PartView → Bool
-has_task_option parts = is_given parts (codes "property") || (is_given parts (codes "simulate")
-    || (is_given parts (codes "sections") || (has_state_option parts
-    || (has_ellipsoid_option parts
-    || (has_verdict_option parts || has_design_option parts)))))
+abbrev pub ellipsoid_job : List ℕ → Design → EllipsoidSource → Option Request
+ellipsoid_job file design source = Some (on_ellipsoid (record {
+  file = file;
+  source = source;
+  design = design;
+}))
 
--- something is given that belongs to a controller in a file
-abbrev pub has_job_option : List PartView → Bool
-has_job_option parts = is_given parts (codes "check")
-    || (is_given parts (codes "plant") || has_task_option parts)
+abbrev pub controller_family : List ℕ → Design → Bool → table.Task → Option Request
+controller_family file design certified (table.decides property schur_cohn) =
+    controller_job file design certified (jobs.decides property schur_cohn)
+controller_family file design certified table.checks_time =
+    controller_job file design certified jobs.checks_time
+controller_family file design certified (table.writes property samples) =
+    controller_job file design certified (jobs.writes property samples)
+controller_family file design certified (table.searches property samples conflicts) =
+    controller_job file design certified (jobs.searches property samples conflicts)
+controller_family file design certified (table.seeks_set conflicts) =
+    controller_job file design certified (jobs.seeks_set conflicts)
+controller_family file design certified table.measures_gain =
+    controller_job file design certified jobs.measures_gain
+controller_family file design certified (table.simulates inputs) =
+    controller_job file design certified (jobs.simulates inputs)
+controller_family file design certified (table.checks_ellipsoid name) =
+    ellipsoid_job file design (offered name)
+controller_family file design certified table.seeks_ellipsoid = ellipsoid_job file design sought
+controller_family file design certified _ = None
 
--- the controller's file of a check, with which no option goes that says what else is done with it
-abbrev pub checked_file : List PartView → Option (List ℕ)
-checked_file parts = if has_empty parts then None
-    else (file_of parts >>= λ file. (if has_task_option parts then None else Some file))
+-- the task of a cascade
+abbrev pub series_task : table.Task → Option cascades.CascadeTask
+series_task (table.decides Stability schur_cohn) = Some (cascades.decides_stability schur_cohn)
+series_task (table.searches Overflow samples conflicts) =
+    Some (cascades.searches_overflow samples conflicts)
+series_task table.measures_gain = Some cascades.measures_series
+series_task (table.simulates inputs) = Some (cascades.simulates_series inputs)
+series_task _ = None
 
--- the check of the certificate in the file of this name, of the controller or of its loop
-abbrev pub check_of : List PartView → List ℕ → Option Request
-check_of parts name = option_map (λ file. checks file name) (checked_file parts)
+abbrev pub cascade_family : List ℕ → List (List ℕ) → Design → table.Task → Option Request
+cascade_family file later design task = option_map (λ found. on_cascade (record {
+  file = file;
+  later = later;
+  task = found;
+  design = design;
+})) (series_task task)
 
-abbrev pub loop_check_of : List PartView → List ℕ → List ℕ → Option Request
-loop_check_of parts name plant =
-    option_map (λ file. checks_loop file name plant) (checked_file parts)
+-- the task of a state-space controller
+abbrev pub state_task : Bool → table.Task → Option states.StateTask
+state_task certified (table.decides Stability true) = Some states.decides_states
+state_task certified (table.checks_form name) = Some (states.checks_form name)
+state_task certified table.seeks_form = Some (states.seeks_form certified)
+state_task certified (table.searches property samples conflicts) =
+    Some (states.searches_states property samples conflicts)
+state_task certified table.measures_gain = Some states.measures_states
+state_task certified (table.simulates inputs) = Some (states.simulates_states inputs)
+state_task certified _ = None
 
--- the check of a certificate: of the loop where a plant is named
-abbrev pub check_request : List PartView → List ℕ → Option (List ℕ) → Option Request
-check_request parts name None = check_of parts name
-check_request parts name (Some plant) = loop_check_of parts name plant
+abbrev pub states_family : List ℕ → Design → Bool → table.Task → Option Request
+states_family file design certified task = option_map (λ found. on_states (record {
+  file = file;
+  task = found;
+  rounding = design.rounding;
+  overflow = design.overflow;
+})) (state_task certified task)
 
--- what is generated, where this is the text of the seed and no text is empty
-abbrev pub generation_of : List PartView → List ℕ → Option Request
-generation_of parts text = if has_empty parts then None
-    else if is_some (file_of parts) || has_job_option parts then None
-    else (seed_of text >>= λ seed. controllers_of parts >>= λ count. Some (generates seed count))
+-- whether the Schur-Cohn form is to be offered, where the task is stability
+abbrev pub schur_cohn_of : table.Task → Option Bool
+schur_cohn_of (table.decides Stability schur_cohn) = Some schur_cohn
+schur_cohn_of _ = None
 
--- the job for a controller, or for a cascade where later sections are named
-abbrev pub controllers_request : List PartView → Option (List ℕ) → Option Request
-controllers_request parts None = option_map on_file (job_of_parts parts)
-controllers_request parts (Some names) = option_map on_cascade (cascade_of_parts parts names)
+abbrev pub loop_family : List ℕ → List ℕ → Design → Bool → table.Task → Option Request
+loop_family file plant design certified task = option_map (λ schur_cohn. on_loop (record {
+  file = file;
+  plant = plant;
+  design = design;
+  schur_cohn = schur_cohn;
+  certified = certified;
+})) (schur_cohn_of task)
 
--- the job of an ellipsoid where one is asked for, and else that for a controller or a cascade
-abbrev pub files_request : List PartView → Bool → Option Request
-files_request parts true = option_map on_ellipsoid (ellipsoid_of_parts parts)
-files_request parts false = controllers_request parts (value_of (codes "sections") parts)
-
--- the job for the loop with the plant in the file of this name: that of a controller, or of a
--- cascade if later sections are named
-abbrev pub loop_request : List PartView → List ℕ → Option (List ℕ) → Option Request
-loop_request parts plant None = option_map on_loop (loop_of_parts parts plant)
-loop_request parts plant (Some names) =
-    option_map on_cascade_loop (cascade_loop_of_parts parts plant names)
-
--- the job for a loop where a plant is named, and else for controllers in files alone
-abbrev pub plant_request : List PartView → Option (List ℕ) → Option Request
-plant_request parts (Some plant) = loop_request parts plant (value_of (codes "sections") parts)
-plant_request parts None = files_request parts (has_ellipsoid_option parts)
-
--- the job for a state-space controller where the file of one is named, and else for controllers in
--- files, with which no form goes
-abbrev pub job_request : List PartView → Option (List ℕ) → Option Request
-job_request parts (Some file) = option_map on_states (states_of_parts parts file)
-job_request parts None = if has_form_option parts then None
-    else plant_request parts (value_of (codes "plant") parts)
-
--- a seed makes it a generation, and else there is no number of controllers: a certificate's name
--- makes it a check, and else it is a job
-abbrev pub request_by : List PartView → Option (List ℕ) → Option (List ℕ) → Option (List ℕ)
+abbrev pub cascade_loop_family : List ℕ → List (List ℕ) → List ℕ → Design → table.Task
     → Option Request
-request_by parts (Some seed) count certificate = generation_of parts seed
-request_by parts None (Some count) certificate = None
-request_by parts None None (Some name) =
-    check_request parts name (value_of (codes "plant") parts)
-request_by parts None None None = job_request parts (value_of (codes "state-space") parts)
+cascade_loop_family file later plant design task =
+    option_map (λ schur_cohn. on_cascade_loop (record {
+      file = file;
+      later = later;
+      plant = plant;
+      design = design;
+    })) (schur_cohn_of task)
 
-abbrev pub request_of_parts : List PartView → Option Request
-request_of_parts parts = request_by parts (value_of (codes "generate") parts)
-    (value_of (codes "count") parts) (value_of (codes "check") parts)
+abbrev pub job_family : table.JobFiles → Design → Bool → table.Task → Option Request
+job_family (table.controller file) design certified task =
+    controller_family file design certified task
+job_family (table.cascade file later) design certified task = cascade_family file later design task
+job_family (table.states file) design certified task = states_family file design certified task
+job_family (table.plant_loop file plant) design certified task =
+    loop_family file plant design certified task
+job_family (table.cascade_loop file later plant) design certified task =
+    cascade_loop_family file later plant design task
+
+abbrev pub check_request : List ℕ → table.JobFiles → Option Request
+check_request name (table.controller file) = Some (checks file name)
+check_request name (table.plant_loop file plant) = Some (checks_loop file name plant)
+check_request name _ = None
+
+abbrev pub family_of : table.Request → Option Request
+family_of (table.does job) = job_family job.files job.design job.certified job.task
+family_of (table.checks files name) = check_request name files
+family_of (table.generates seed count) = Some (generates seed count)
+
+abbrev pub found_family : Result table.Request Reason → Option Request
+found_family (Ok request) = family_of request
+found_family (Err reason) = None
+
+-- `--why` before the rest of a line asks why the rest asks for nothing
+abbrev pub why_word : List ℕ
+why_word = codes "--why"
 
 -- the request of a list of arguments, or none
 unfoldable pub request_of : List (List ℕ) → Option Request
-request_of arguments = parts_of command_options arguments >>= request_of_parts
+request_of [] = found_family (asked_of [])
+request_of (first ∷ rest) = if bytes_eq first why_word then None
+    else found_family (asked_of (first ∷ rest))
+
+abbrev pub reason_in : Result table.Request Reason → Option Reason
+reason_in (Ok request) = None
+reason_in (Err reason) = Some reason
+
+-- the reason that a list of arguments asks for, if it asks for one and there is one
+unfoldable pub reason_of : List (List ℕ) → Option Reason
+reason_of [] = None
+reason_of (first ∷ rest) = if bytes_eq first why_word then reason_in (asked_of rest) else None
 
 -- the job of a request, where it is one
 abbrev pub job_in : Option Request → Option Asked

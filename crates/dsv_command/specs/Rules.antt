@@ -1,6 +1,7 @@
 -- The rules of the command, on whole lists of arguments, apart from how they are read.
 use Rattle.std.specs.Prelude.{◌≡◌, ◌⊎◌, ℕ, Bool, true, false, List, [], ◌∷◌, ◌++◌}
 use Rattle.std.specs.Prelude.{length, Option, Some, None, map, codes, ◌≤◌, ◌<◌, ◌^◌, ℤ, pos}
+use Rattle.std.specs.Prelude.{unwrap_or}
 use Rattle.std.specs.List.{All, list_any}
 use Rattle.std.specs.Map.{lookup}
 use Rattle.std.specs.Str.{bytes_eq}
@@ -8,7 +9,6 @@ use Rattle.dsv_text.specs.Bytes.{has_byte}
 use Rattle.dsv_text.specs.Digits.{short_number}
 use Rattle.dsv_fraction.specs.Arithmetic.{with_sign}
 use Rattle.dsv_names.specs.declared.design.Design.{Design}
-use Rattle.dsv_names.specs.declared.realisation.Realisation.{Realisation}
 use Rattle.dsv_names.specs.declared.realisation.Realisation.TheVariants.{Dfi}
 use Rattle.dsv_names.specs.declared.rounding.Rounding.TheVariants.{Floor}
 use Rattle.dsv_names.specs.declared.overflow_mode.OverflowMode.TheVariants.{Wrap}
@@ -22,25 +22,23 @@ use Rattle.dsv_names.specs.OverflowModes.{overflow_mode_name}
 use Rattle.dsv_names.specs.Properties.{property_name}
 use Rattle.dsv_names.specs.Realisations.{realisation_name}
 use Rattle.dsv_names.specs.Roundings.{rounding_name}
-use Rattle.dsv_command.specs.CascadeLoops.{AskedCascadeLoop}
-use Rattle.dsv_command.specs.Cascades.{AskedCascade, task_alone, most_later}
-use Rattle.dsv_command.specs.Ellipsoids.{EllipsoidSource, offered, sought, AskedEllipsoid}
 use Rattle.dsv_command.specs.Inputs.{most_inputs, most_digits, is_comma}
-use Rattle.dsv_command.specs.Jobs.{Task, decides, checks_time, writes, searches, simulates}
-use Rattle.dsv_command.specs.Jobs.{seeks_set, measures_gain, Asked, is_given}
+use Rattle.dsv_command.specs.Cascades.{most_later}
 use Rattle.dsv_command.specs.Limits.{most_number_digits, most_samples, default_samples}
-use Rattle.dsv_command.specs.Limits.{most_conflicts, default_conflicts}
-use Rattle.dsv_command.specs.Limits.{most_controllers, default_controllers}
-use Rattle.dsv_command.specs.Loops.{AskedLoop}
+use Rattle.dsv_command.specs.Limits.{most_conflicts, default_conflicts, most_controllers}
+use Rattle.dsv_command.specs.Limits.{default_controllers}
 use Rattle.dsv_command.specs.Options.{command_options}
-use Rattle.dsv_command.specs.Parts.{PartView, file, flag, choice, key_of}
-use Rattle.dsv_command.specs.Parts.{has_key, file_of, value_of, has_empty}
-use Rattle.dsv_command.specs.Requests.{Request, on_file, on_cascade, on_states, on_ellipsoid}
-use Rattle.dsv_command.specs.Requests.{on_loop, on_cascade_loop, checks, checks_loop, generates}
+use Rattle.dsv_command.specs.Parts.{PartView, file, flag, choice, key_of, has_key, is_given}
+use Rattle.dsv_command.specs.Parts.{file_of, value_of, has_empty}
 use Rattle.dsv_command.specs.Shapes.{dash, is_equals}
-use Rattle.dsv_command.specs.States.{StateTask, decides_states, checks_form, seeks_form}
-use Rattle.dsv_command.specs.States.{searches_states, measures_states, simulates_states}
-use Rattle.dsv_command.specs.States.{AskedStates}
+use Rattle.dsv_command.specs.Table.{JobFiles, controller, cascade, states, plant_loop}
+use Rattle.dsv_command.specs.Table.{cascade_loop, Task, decides, checks_time, writes, searches}
+use Rattle.dsv_command.specs.Table.{seeks_set, measures_gain, simulates, checks_form, seeks_form}
+use Rattle.dsv_command.specs.Table.{checks_ellipsoid, seeks_ellipsoid, Job, Request, does, checks}
+use Rattle.dsv_command.specs.Table.{generates, kind_of, has_cell, may_certify, is_checked}
+use Rattle.dsv_command.specs.Table.{task_options, all_task_options, file_options}
+use Rattle.dsv_command.specs.Table.{all_file_options, design_options, all_design_options}
+use Rattle.dsv_command.specs.Values.{Values}
 
 -- ---- arguments and the parts that they give
 
@@ -106,7 +104,7 @@ pub record Give (options : List (List ℕ × Bool)) (arguments : List (List ℕ)
   pub given : AreParts options arguments parts
   pub once : AreNew [] parts
 
--- ---- what is asked
+-- ---- values of options
 
 -- a number of 1 to 15 digits, which may stand after `-`
 pub data IsInput : List ℕ → ℤ → Type 0 where
@@ -125,42 +123,6 @@ pub record AreInputs (text : List ℕ) (inputs : List ℤ) : Type 0 where
   pub numbers : AreNumbers text inputs
   pub few : length inputs ≤ most_inputs
 
--- a property is given, and no inputs
-pub record GivesProperty (parts : List PartView) (property : Property) : Type 0 where
-  pub name : value_of (codes "property") parts ≡ Some (property_name property)
-  pub no_inputs : value_of (codes "simulate") parts ≡ None
-
--- none of the options of a search over runs is given, and none of a formula
-pub record HasNoSearchOption (parts : List PartView) : Type 0 where
-  pub samples : is_given parts (codes "x-size") ≡ false
-  pub unbounded : is_given parts (codes "unbounded") ≡ false
-  pub conflicts : is_given parts (codes "conflicts") ≡ false
-  pub formula : is_given parts (codes "formula") ≡ false
-
--- none of the options of properties of runs is given
-pub record HasNoRunOption (parts : List PartView) : Type 0 where
-  pub gain : is_given parts (codes "gain") ≡ false
-  pub searches : HasNoSearchOption parts
-
--- nor is the Schur-Cohn form to be offered, or a certificate to be written
-pub record HasNoVerdictOption (parts : List PartView) : Type 0 where
-  pub runs : HasNoRunOption parts
-  pub schur_cohn : is_given parts (codes "schur-cohn") ≡ false
-  pub certificate : is_given parts (codes "certificate") ≡ false
-
--- a property of runs is given, and no form of roots is to be offered; the gain is asked for or not
-pub record GivesRuns (parts : List PartView) (property : RunProperty) (by_gain : Bool)
-    : Type 0 where
-  pub given : GivesProperty parts (OfRuns property)
-  pub no_form : is_given parts (codes "schur-cohn") ≡ false
-  pub gain : is_given parts (codes "gain") ≡ by_gain
-
--- none of the options of how a controller is realised is given
-pub record HasNoDesignOption (parts : List PartView) : Type 0 where
-  pub realisation : is_given parts (codes "realization") ≡ false
-  pub rounding : is_given parts (codes "rounding") ≡ false
-  pub overflow : is_given parts (codes "overflow-mode") ≡ false
-
 -- a number of 1 to 10 digits from 1 to a limit
 pub record IsNumberUpTo (limit : ℕ) (text : List ℕ) (n : ℕ) : Type 0 where
   pub number : short_number most_number_digits text ≡ Some n
@@ -171,44 +133,6 @@ pub record IsNumberUpTo (limit : ℕ) (text : List ℕ) (n : ℕ) : Type 0 where
 abbrev pub IsNumber : ℕ → ℕ → Option (List ℕ) → ℕ → Type 0
 IsNumber limit default None n = n ≡ default
 IsNumber limit default (Some text) n = IsNumberUpTo limit text n
-
--- the numbers of samples, 1 to 64 or 10 by default, and of conflicts, 1 to 200000 or 50000
-abbrev pub AreSamples : List PartView → ℕ → Type 0
-AreSamples parts n = IsNumber most_samples default_samples (value_of (codes "x-size") parts) n
-
-abbrev pub AreConflicts : List PartView → ℕ → Type 0
-AreConflicts parts n =
-    IsNumber most_conflicts default_conflicts (value_of (codes "conflicts") parts) n
-
--- Either a property or inputs are given. With a property of runs alone there are samples; and
--- either conflicts, or that the formula is written. Overflow over runs of any length has no samples
--- and no formula, and where the gain decides it, no conflicts either. That the Schur-Cohn form is
--- offered goes with a property of roots alone. That a certificate is written goes with no timing,
--- no inputs and no formula.
-pub data IsTask : List PartView → Task → Type 0 where
-  roots : (parts : List PartView) (p : RootProperty) → GivesProperty parts (OfRoots p)
-      → HasNoRunOption parts → IsTask parts (decides p (is_given parts (codes "schur-cohn")))
-  timing : (parts : List PartView) → GivesProperty parts Timing → HasNoVerdictOption parts
-      → IsTask parts checks_time
-  formula : (parts : List PartView) (p : RunProperty) (samples : ℕ)
-      → GivesRuns parts p false → is_given parts (codes "unbounded") ≡ false
-      → AreSamples parts samples
-      → is_given parts (codes "formula") ≡ true → is_given parts (codes "conflicts") ≡ false
-      → is_given parts (codes "certificate") ≡ false → IsTask parts (writes p samples)
-  search : (parts : List PartView) (p : RunProperty) (samples conflicts : ℕ)
-      → GivesRuns parts p false → is_given parts (codes "unbounded") ≡ false
-      → AreSamples parts samples → AreConflicts parts conflicts
-      → is_given parts (codes "formula") ≡ false → IsTask parts (searches p samples conflicts)
-  unbounded : (parts : List PartView) (conflicts : ℕ)
-      → GivesRuns parts Overflow false → is_given parts (codes "unbounded") ≡ true
-      → is_given parts (codes "x-size") ≡ false → is_given parts (codes "formula") ≡ false
-      → AreConflicts parts conflicts → IsTask parts (seeks_set conflicts)
-  gain : (parts : List PartView) → GivesRuns parts Overflow true → HasNoSearchOption parts
-      → IsTask parts measures_gain
-  simulation : (parts : List PartView) (text : List ℕ) (inputs : List ℤ)
-      → value_of (codes "simulate") parts ≡ Some text → AreInputs text inputs →
-      value_of (codes "property") parts ≡ None → HasNoVerdictOption parts
-      → IsTask parts (simulates inputs)
 
 -- the value is the chosen one's name, or none is given and the default is chosen
 abbrev pub IsChosen : {A : Type 0} → (A → List ℕ) → A → Option (List ℕ) → A → Type 0
@@ -223,100 +147,10 @@ pub record IsDesign (parts : List PartView) (design : Design) : Type 0 where
   pub overflow : IsChosen overflow_mode_name Wrap (value_of (codes "overflow-mode") parts)
       design.overflow
 
--- the job of these parts: FILE is one of them, and no text is empty
-pub record IsJobOf (parts : List PartView) (asked : Asked) : Type 0 where
-  pub file : file_of parts ≡ Some asked.file
-  pub filled : has_empty parts ≡ false
-  pub task : IsTask parts asked.task
-  pub design : IsDesign parts asked.design
-  pub certified : asked.certified ≡ is_given parts (codes "certificate")
-
--- ---- requests
-
 -- a seed of 1 to 10 digits, below 2^32
 pub record IsSeed (text : List ℕ) (seed : ℕ) : Type 0 where
   pub number : short_number most_number_digits text ≡ Some seed
   pub small : seed < 2 ^ 32
-
--- the number of controllers, 1 to 1000 or 40
-abbrev pub IsCount : List PartView → ℕ → Type 0
-IsCount parts n =
-    IsNumber most_controllers default_controllers (value_of (codes "count") parts) n
-
--- it isn't said where the form of a state-space controller comes from
-pub record HasNoFormOption (parts : List PartView) : Type 0 where
-  pub form : is_given parts (codes "form") ≡ false
-  pub lyapunov : is_given parts (codes "lyapunov") ≡ false
-
--- no ellipsoid is asked for
-pub record HasNoEllipsoidOption (parts : List PartView) : Type 0 where
-  pub named : is_given parts (codes "ellipsoid") ≡ false
-  pub sought : is_given parts (codes "offer-ellipsoid") ≡ false
-
--- none of the options is given that go with state-space controllers alone
-pub record HasNoStateOption (parts : List PartView) : Type 0 where
-  pub file : is_given parts (codes "state-space") ≡ false
-  pub form : HasNoFormOption parts
-
--- none of the options is given that say what is done with a controller, but that a certificate may
--- be checked, and that there may be a plant
-pub record HasNoTaskOption (parts : List PartView) : Type 0 where
-  pub property : is_given parts (codes "property") ≡ false
-  pub inputs : is_given parts (codes "simulate") ≡ false
-  pub sections : is_given parts (codes "sections") ≡ false
-  pub states : HasNoStateOption parts
-  pub ellipsoid : HasNoEllipsoidOption parts
-  pub verdict : HasNoVerdictOption parts
-  pub design : HasNoDesignOption parts
-
--- none of the options of a controller in a file is given
-pub record HasNoJobOption (parts : List PartView) : Type 0 where
-  pub check : is_given parts (codes "check") ≡ false
-  pub plant : is_given parts (codes "plant") ≡ false
-  pub tasks : HasNoTaskOption parts
-
--- FILE and the name of a certificate are given, and no other option but the name of a plant or
--- none.
-pub record IsCheckWith (parts : List PartView) (controller certificate : List ℕ)
-    (plant : Option (List ℕ)) : Type 0 where
-  pub given : value_of (codes "check") parts ≡ Some certificate
-  pub plant_given : value_of (codes "plant") parts ≡ plant
-  pub file : file_of parts ≡ Some controller
-  pub filled : has_empty parts ≡ false
-  pub no_option : HasNoTaskOption parts
-  pub no_seed : value_of (codes "generate") parts ≡ None
-  pub no_count : value_of (codes "count") parts ≡ None
-
--- the check of a controller's certificate, and that of a loop's
-abbrev pub IsCheckOf : List PartView → List ℕ → List ℕ → Type 0
-IsCheckOf parts controller certificate = IsCheckWith parts controller certificate None
-
-abbrev pub IsLoopCheckOf : List PartView → List ℕ → List ℕ → List ℕ → Type 0
-IsLoopCheckOf parts controller certificate plant =
-    IsCheckWith parts controller certificate (Some plant)
-
--- A seed is given, and a number of controllers or none, and nothing else: no FILE, and no option of
--- jobs.
-pub record IsGenerationOf (parts : List PartView) (seed count : ℕ) : Type 0 where
-  pub text : List ℕ
-  pub given : value_of (codes "generate") parts ≡ Some text
-  pub filled : has_empty parts ≡ false
-  pub is_seed : IsSeed text seed
-  pub is_count : IsCount parts count
-  pub no_file : file_of parts ≡ None
-  pub no_option : HasNoJobOption parts
-
--- The job of these parts, with no certificate to check, no seed and no number of controllers.
-pub record IsJobAlone (parts : List PartView) (asked : Asked) : Type 0 where
-  pub job : IsJobOf parts asked
-  pub no_seed : value_of (codes "generate") parts ≡ None
-  pub no_count : value_of (codes "count") parts ≡ None
-  pub no_check : value_of (codes "check") parts ≡ None
-  pub no_states : value_of (codes "state-space") parts ≡ None
-  pub no_form : HasNoFormOption parts
-  pub no_plant : value_of (codes "plant") parts ≡ None
-  pub no_ellipsoid : HasNoEllipsoidOption parts
-  pub no_sections : value_of (codes "sections") parts ≡ None
 
 -- the text of names, with a comma between each and the next
 abbrev pub with_commas : List (List ℕ) → List ℕ
@@ -336,173 +170,144 @@ pub record AreNames (text : List ℕ) (names : List (List ℕ)) : Type 0 where
   pub some : 1 ≤ length names
   pub few : length names ≤ most_later
 
--- the same job for the first section alone
-abbrev pub job_alone : AskedCascade → Asked
-job_alone asked = record {
-  file = asked.file;
-  task = task_alone asked.task;
-  design = asked.design;
-  certified = false;
-}
+-- a value that is given is read so, and none is if none is given
+abbrev pub IsGivenAs : {A : Type 0} → (List ℕ → A → Type 0) → Option (List ℕ) → Option A → Type 0
+IsGivenAs Is None None = Unit {0}
+IsGivenAs Is (Some text) (Some value) = Is text value
+IsGivenAs Is _ _ = ⊥
 
--- The job for a cascade: it would be one for its first section alone, which is FILE; the later
--- sections are named, and no certificate is to be checked or written.
-pub record IsCascadeOf (parts : List PartView) (asked : AskedCascade) : Type 0 where
-  pub text : List ℕ
-  pub given : value_of (codes "sections") parts ≡ Some text
-  pub names : AreNames text asked.later
-  pub job : IsJobOf parts (job_alone asked)
-  pub no_seed : value_of (codes "generate") parts ≡ None
-  pub no_count : value_of (codes "count") parts ≡ None
-  pub no_check : value_of (codes "check") parts ≡ None
-  pub no_states : value_of (codes "state-space") parts ≡ None
-  pub no_form : HasNoFormOption parts
-  pub no_plant : value_of (codes "plant") parts ≡ None
-  pub no_ellipsoid : HasNoEllipsoidOption parts
+abbrev pub IsPropertyName : List ℕ → Property → Type 0
+IsPropertyName text property = text ≡ property_name property
 
--- Where the ellipsoid comes from: a file that is named, with overflow over runs of any length; or
--- it is to be found, with overflow of direct form I and neither samples nor runs of any length.
-pub data IsEllipsoidSource : List PartView → Realisation → Task → EllipsoidSource → Type 0 where
-  from_file : (parts : List PartView) (realisation : Realisation) (conflicts : ℕ) (name : List ℕ)
+-- The values in parts: each that is given is one of its option's, whether or not a task has the
+-- option. There are 1 to 64 samples or 10, 1 to 200000 conflicts or 50000, 1 to 1000 controllers.
+pub record AreValues (parts : List PartView) (values : Values) : Type 0 where
+  pub property : IsGivenAs IsPropertyName (value_of (codes "property") parts) values.property
+  pub inputs : IsGivenAs AreInputs (value_of (codes "simulate") parts) values.inputs
+  pub samples : IsNumber most_samples default_samples (value_of (codes "x-size") parts)
+      values.numbers.samples
+  pub conflicts : IsNumber most_conflicts default_conflicts (value_of (codes "conflicts") parts)
+      values.numbers.conflicts
+  pub later : IsGivenAs AreNames (value_of (codes "sections") parts) values.later
+  pub design : IsDesign parts values.design
+  pub seed : IsGivenAs IsSeed (value_of (codes "generate") parts) values.seed
+  pub controllers : IsGivenAs (IsNumberUpTo most_controllers) (value_of (codes "count") parts)
+      values.controllers
+
+-- ---- what is asked
+
+-- each of these options that is given is one of its own
+abbrev pub HasOnly : List PartView → List (List ℕ) → List (List ℕ) → Type 0
+HasOnly parts own [] = Unit {0}
+HasOnly parts own (name ∷ names) = (is_given parts name ≡ true
+    → list_any (bytes_eq name) own ≡ true) × HasOnly parts own names
+
+-- FILE is the controller's, or the first section's; the file of a state-space controller is named
+-- in its place.
+pub data AreFiles : List PartView → Values → JobFiles → Type 0 where
+  controllers : (parts : List PartView) (values : Values) (name : List ℕ)
+      → file_of parts ≡ Some name → AreFiles parts values (controller name)
+  cascades : (parts : List PartView) (values : Values) (name : List ℕ) (later : List (List ℕ))
+      → file_of parts ≡ Some name → values.later ≡ Some later
+      → AreFiles parts values (cascade name later)
+  state_spaces : (parts : List PartView) (values : Values) (name : List ℕ) → file_of parts ≡ None
+      → value_of (codes "state-space") parts ≡ Some name → AreFiles parts values (states name)
+  loops : (parts : List PartView) (values : Values) (name plant : List ℕ)
+      → file_of parts ≡ Some name → value_of (codes "plant") parts ≡ Some plant
+      → AreFiles parts values (plant_loop name plant)
+  cascade_loops : (parts : List PartView) (values : Values) (name : List ℕ)
+      (later : List (List ℕ)) (plant : List ℕ) → file_of parts ≡ Some name
+      → values.later ≡ Some later → value_of (codes "plant") parts ≡ Some plant
+      → AreFiles parts values (cascade_loop name later plant)
+
+-- What is given for a task.
+pub data IsTask : List PartView → Values → Task → Type 0 where
+  roots : (parts : List PartView) (values : Values) (p : RootProperty)
+      → values.property ≡ Some (OfRoots p)
+      → IsTask parts values (decides p (is_given parts (codes "schur-cohn")))
+  timing : (parts : List PartView) (values : Values) → values.property ≡ Some Timing
+      → IsTask parts values checks_time
+  formula : (parts : List PartView) (values : Values) (p : RunProperty)
+      → values.property ≡ Some (OfRuns p) → is_given parts (codes "formula") ≡ true
+      → IsTask parts values (writes p values.numbers.samples)
+  search : (parts : List PartView) (values : Values) (p : RunProperty)
+      → values.property ≡ Some (OfRuns p)
+      → IsTask parts values (searches p values.numbers.samples values.numbers.conflicts)
+  unbounded : (parts : List PartView) (values : Values)
+      → values.property ≡ Some (OfRuns Overflow) → is_given parts (codes "unbounded") ≡ true
+      → IsTask parts values (seeks_set values.numbers.conflicts)
+  gain : (parts : List PartView) (values : Values) → values.property ≡ Some (OfRuns Overflow)
+      → is_given parts (codes "gain") ≡ true → IsTask parts values measures_gain
+  simulation : (parts : List PartView) (values : Values) (inputs : List ℤ)
+      → values.inputs ≡ Some inputs → IsTask parts values (simulates inputs)
+  named_form : (parts : List PartView) (values : Values) (name : List ℕ)
+      → values.property ≡ Some (OfRoots Stability) → value_of (codes "form") parts ≡ Some name
+      → IsTask parts values (checks_form name)
+  sought_form : (parts : List PartView) (values : Values)
+      → values.property ≡ Some (OfRoots Stability) → is_given parts (codes "lyapunov") ≡ true
+      → IsTask parts values seeks_form
+  named_ellipsoid : (parts : List PartView) (values : Values) (name : List ℕ)
+      → values.property ≡ Some (OfRuns Overflow) → is_given parts (codes "unbounded") ≡ true
       → value_of (codes "ellipsoid") parts ≡ Some name
-      → is_given parts (codes "offer-ellipsoid") ≡ false
-      → IsEllipsoidSource parts realisation (seeks_set conflicts) (offered name)
-  to_find : (parts : List PartView) (samples conflicts : ℕ)
-      → value_of (codes "ellipsoid") parts ≡ None
-      → is_given parts (codes "offer-ellipsoid") ≡ true
-      → is_given parts (codes "x-size") ≡ false
-      → IsEllipsoidSource parts Dfi (searches Overflow samples conflicts) sought
+      → IsTask parts values (checks_ellipsoid name)
+  sought_ellipsoid : (parts : List PartView) (values : Values)
+      → values.property ≡ Some (OfRuns Overflow)
+      → is_given parts (codes "offer-ellipsoid") ≡ true → values.design.realisation ≡ Dfi
+      → IsTask parts values seeks_ellipsoid
 
--- the same job without an ellipsoid
-abbrev pub job_without : Task → AskedEllipsoid → Asked
-job_without task asked = record {
-  file = asked.file;
-  task = task;
-  design = asked.design;
-  certified = false;
-}
+-- The job of these parts: there is such a task of what is asked about; no option is given that
+-- either doesn't have; and a certificate is to be written only where one may be.
+pub record IsJobOf (parts : List PartView) (values : Values) (job : Job) : Type 0 where
+  pub files : AreFiles parts values job.files
+  pub task : IsTask parts values job.task
+  pub cell : has_cell (kind_of job.files) job.task ≡ true
+  pub design : job.design ≡ values.design
+  pub certified : job.certified ≡ is_given parts (codes "certificate")
+  pub certificate : job.certified ≡ true → may_certify (kind_of job.files) job.task ≡ true
+  pub file_options : HasOnly parts (file_options job.files) all_file_options
+  pub task_options : HasOnly parts (task_options job.task) all_task_options
+  pub design_options : HasOnly parts (design_options (kind_of job.files)) all_design_options
+  pub no_check : is_given parts (codes "check") ≡ false
+  pub no_seed : is_given parts (codes "generate") ≡ false
+  pub no_count : is_given parts (codes "count") ≡ false
 
--- The job of an ellipsoid: it would be one for the controller in FILE, with no number of conflicts
--- and no certificate.
-pub record IsEllipsoidOf (parts : List PartView) (asked : AskedEllipsoid) : Type 0 where
-  pub task : Task
-  pub job : IsJobOf parts (job_without task asked)
-  pub source : IsEllipsoidSource parts asked.design.realisation task asked.source
-  pub no_conflicts : is_given parts (codes "conflicts") ≡ false
-  pub no_sections : is_given parts (codes "sections") ≡ false
-  pub no_seed : value_of (codes "generate") parts ≡ None
-  pub no_count : value_of (codes "count") parts ≡ None
-  pub no_check : value_of (codes "check") parts ≡ None
-  pub no_states : value_of (codes "state-space") parts ≡ None
-  pub no_form : HasNoFormOption parts
-  pub no_plant : value_of (codes "plant") parts ≡ None
-
--- the same job without a plant
-abbrev pub job_of_loop : AskedLoop → Asked
-job_of_loop asked = record {
-  file = asked.file;
-  task = decides Stability asked.schur_cohn;
-  design = asked.design;
-  certified = asked.certified;
-}
-
--- The job for a loop: it would be one of stability for the controller in FILE; a plant is named,
--- and no sections and no ellipsoid.
-pub record IsLoopOf (parts : List PartView) (asked : AskedLoop) : Type 0 where
-  pub given : value_of (codes "plant") parts ≡ Some asked.plant
-  pub job : IsJobOf parts (job_of_loop asked)
-  pub no_sections : value_of (codes "sections") parts ≡ None
-  pub no_ellipsoid : HasNoEllipsoidOption parts
-  pub no_seed : value_of (codes "generate") parts ≡ None
-  pub no_count : value_of (codes "count") parts ≡ None
-  pub no_check : value_of (codes "check") parts ≡ None
-  pub no_states : value_of (codes "state-space") parts ≡ None
-  pub no_form : HasNoFormOption parts
-
--- the same job for the first section alone, without a plant
-abbrev pub job_of_cascade_loop : Bool → AskedCascadeLoop → Asked
-job_of_cascade_loop schur_cohn asked = record {
-  file = asked.file;
-  task = decides Stability schur_cohn;
-  design = asked.design;
-  certified = false;
-}
-
--- The job for the loop of a cascade: it would be one of stability for its first section alone,
--- which is FILE, whether or not the Schur-Cohn form is to be offered. A plant and the later
--- sections are named; no ellipsoid is asked for, and no certificate is to be checked or written.
-pub record IsCascadeLoopOf (parts : List PartView) (asked : AskedCascadeLoop) : Type 0 where
-  pub text : List ℕ
-  pub given : value_of (codes "sections") parts ≡ Some text
-  pub names : AreNames text asked.later
-  pub plant_given : value_of (codes "plant") parts ≡ Some asked.plant
-  pub schur_cohn : Bool
-  pub job : IsJobOf parts (job_of_cascade_loop schur_cohn asked)
-  pub no_ellipsoid : HasNoEllipsoidOption parts
-  pub no_seed : value_of (codes "generate") parts ≡ None
-  pub no_count : value_of (codes "count") parts ≡ None
-  pub no_check : value_of (codes "check") parts ≡ None
-  pub no_states : value_of (codes "state-space") parts ≡ None
-  pub no_form : HasNoFormOption parts
-
--- neither is said where a form comes from, nor that a certificate is written
-pub record HasNoFormOrCertificate (parts : List PartView) : Type 0 where
-  pub no_form : HasNoFormOption parts
+-- The check of a certificate of a controller, or of its loop with a plant.
+pub record IsCheckOf (parts : List PartView) (values : Values) (files : JobFiles)
+    (certificate : List ℕ) : Type 0 where
+  pub given : value_of (codes "check") parts ≡ Some certificate
+  pub are_files : AreFiles parts values files
+  pub checked : is_checked (kind_of files) ≡ true
+  pub file_options : HasOnly parts (file_options files) all_file_options
+  pub no_task : HasOnly parts [] all_task_options
+  pub no_design : HasOnly parts [] all_design_options
   pub no_certificate : is_given parts (codes "certificate") ≡ false
+  pub no_seed : is_given parts (codes "generate") ≡ false
+  pub no_count : is_given parts (codes "count") ≡ false
 
--- The task for a state-space controller: it would be one for a controller in a file. With stability
--- alone a form is named, or is to be sought, and a certificate goes only with what is sought; or
--- the Schur-Cohn form is to be offered: then tables decide, with no form and no certificate.
-pub data IsStateTask : List PartView → StateTask → Type 0 where
-  tables : (parts : List PartView) → IsTask parts (decides Stability true)
-      → HasNoFormOrCertificate parts → IsStateTask parts decides_states
-  named_form : (parts : List PartView) (name : List ℕ) → IsTask parts (decides Stability false)
-      → value_of (codes "form") parts ≡ Some name → is_given parts (codes "lyapunov") ≡ false
-      → is_given parts (codes "certificate") ≡ false → IsStateTask parts (checks_form name)
-  sought_form : (parts : List PartView) → IsTask parts (decides Stability false)
-      → value_of (codes "form") parts ≡ None → is_given parts (codes "lyapunov") ≡ true
-      → IsStateTask parts (seeks_form (is_given parts (codes "certificate")))
-  search : (parts : List PartView) (p : RunProperty) (samples conflicts : ℕ)
-      → IsTask parts (searches p samples conflicts) → HasNoFormOrCertificate parts
-      → IsStateTask parts (searches_states p samples conflicts)
-  gain : (parts : List PartView) → IsTask parts measures_gain → HasNoFormOrCertificate parts
-      → IsStateTask parts measures_states
-  simulation : (parts : List PartView) (inputs : List ℤ) → IsTask parts (simulates inputs)
-      → HasNoFormOrCertificate parts → IsStateTask parts (simulates_states inputs)
-
--- The job for a state-space controller: its file is named in place of FILE. It has no realisation,
--- no sections, no plant and no ellipsoid; no text is empty, and no certificate is to be checked.
-pub record IsStateJobOf (parts : List PartView) (asked : AskedStates) : Type 0 where
-  pub given : value_of (codes "state-space") parts ≡ Some asked.file
-  pub filled : has_empty parts ≡ false
+-- So many controllers of a seed, or 40: a seed is given, and a number of controllers or none, and
+-- nothing else.
+pub record IsGenerationOf (parts : List PartView) (values : Values) (seed count : ℕ)
+    : Type 0 where
+  pub given : values.seed ≡ Some seed
+  pub number : count ≡ unwrap_or values.controllers default_controllers
   pub no_file : file_of parts ≡ None
-  pub no_realisation : is_given parts (codes "realization") ≡ false
-  pub no_sections : is_given parts (codes "sections") ≡ false
-  pub no_plant : is_given parts (codes "plant") ≡ false
-  pub no_ellipsoid : HasNoEllipsoidOption parts
-  pub task : IsStateTask parts asked.task
-  pub rounding : IsChosen rounding_name Floor (value_of (codes "rounding") parts) asked.rounding
-  pub overflow : IsChosen overflow_mode_name Wrap (value_of (codes "overflow-mode") parts)
-      asked.overflow
-  pub no_seed : value_of (codes "generate") parts ≡ None
-  pub no_count : value_of (codes "count") parts ≡ None
-  pub no_check : value_of (codes "check") parts ≡ None
+  pub no_check : is_given parts (codes "check") ≡ false
+  pub no_certificate : is_given parts (codes "certificate") ≡ false
+  pub no_files : HasOnly parts [] all_file_options
+  pub no_task : HasOnly parts [] all_task_options
+  pub no_design : HasOnly parts [] all_design_options
 
 -- what these parts ask for
-abbrev pub IsRequestOf : List PartView → Request → Type 0
-IsRequestOf parts (on_file asked) = IsJobAlone parts asked
-IsRequestOf parts (on_cascade asked) = IsCascadeOf parts asked
-IsRequestOf parts (on_states asked) = IsStateJobOf parts asked
-IsRequestOf parts (on_ellipsoid asked) = IsEllipsoidOf parts asked
-IsRequestOf parts (on_loop asked) = IsLoopOf parts asked
-IsRequestOf parts (on_cascade_loop asked) = IsCascadeLoopOf parts asked
-IsRequestOf parts (checks controller certificate) = IsCheckOf parts controller certificate
-IsRequestOf parts (checks_loop controller certificate plant) =
-    IsLoopCheckOf parts controller certificate plant
-IsRequestOf parts (generates seed count) = IsGenerationOf parts seed count
+abbrev pub IsRequestOf : List PartView → Values → Request → Type 0
+IsRequestOf parts values (does job) = IsJobOf parts values job
+IsRequestOf parts values (checks files certificate) = IsCheckOf parts values files certificate
+IsRequestOf parts values (generates seed count) = IsGenerationOf parts values seed count
 
--- what a command line asks for
+-- what a command line asks for; no text in it is empty
 pub record IsRequestLine (arguments : List (List ℕ)) (request : Request) : Type 0 where
   pub parts : List PartView
   pub give : Give command_options arguments parts
-  pub request_of_parts : IsRequestOf parts request
+  pub filled : has_empty parts ≡ false
+  pub values : Values
+  pub are_values : AreValues parts values
+  pub request_of_parts : IsRequestOf parts values request

@@ -1,17 +1,12 @@
 // A job for a cascade: the controllers in several files in series.
 ghost use Rattle.std.specs.Prelude.{◌≡◌, ◌⊎◌, ◌<◌, ◌≤◌, true, false, [], ◌∷◌, ◌++◌, length, map};
 ghost use Rattle.std.specs.Prelude.{option_map, IfSome, IfNone};
-ghost use Rattle.dsv_command.specs.Asking.{asked_cascade, asked_series, asked_task};
-ghost use Rattle.dsv_command.specs.Cascades.{cascade_of_parts, names_of, series_task};
-ghost use Rattle.dsv_command.specs.Cascades.{is_nameless, most_later};
+ghost use Rattle.dsv_command.specs.Cascades.{is_nameless, most_later, names_of};
 
-use crate::arguments::Arguments;
 use crate::inputs::Inputs;
-use crate::job::find_job;
-use crate::question::{Budget, RootQuestion, RunQuestion, Samples};
-use crate::task::Task;
+use crate::question::{Budget, Samples};
 use arrayvec::ArrayVec;
-use dsv_names::{Design, RootProperty, RunProperty};
+use dsv_names::Design;
 
 /// The most sections after the first.
 pub const MOST_LATER: usize = 7;
@@ -73,48 +68,4 @@ pub(crate) fn find_names<'a>(text: &'a str) -> Option<SectionNames<'a>>
     }
     push_name(&mut names, rest)?;
     Some(names)
-}
-
-/// The task for a cascade that a task for one controller is, where it is one of those.
-fn find_series_task(task: Task) -> Option<CascadeTask>
-    ensures { option_map asked_series result ≡ series_task (asked_task task) }
-{
-    match task {
-        Task::Decide(
-            RootQuestion {
-                property: RootProperty::Stability,
-                schur_cohn,
-            },
-        ) => Some(CascadeTask::DecideStability {
-            by_tables: schur_cohn,
-        }),
-        Task::Search(
-            RunQuestion {
-                property: RunProperty::Overflow,
-                samples,
-            },
-            budget,
-        ) => Some(CascadeTask::SearchOverflow(Samples { count: samples }, budget)),
-        Task::MeasureGain => Some(CascadeTask::MeasureGain),
-        Task::Simulate(inputs) => Some(CascadeTask::Simulate(inputs)),
-        _ => None,
-    }
-}
-
-/// The job for a cascade of what is given, where this is the text of the later sections' names.
-pub(crate) fn find_cascade<'a>(arguments: &Arguments<'a>, names: &'a str) -> Option<CascadeJob<'a>>
-    ensures { option_map asked_cascade result ≡ cascade_of_parts arguments.now names.now }
-{
-    let job = find_job(arguments)?;
-    let later = find_names(names)?;
-    if job.certified {
-        return None;
-    }
-    let task = find_series_task(job.task)?;
-    Some(CascadeJob {
-        file: job.file,
-        later,
-        task,
-        design: job.design,
-    })
 }

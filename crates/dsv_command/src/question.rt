@@ -1,6 +1,6 @@
 // Questions about roots and runs, and how long a search for their answer may take.
 ghost use Rattle.std.specs.Prelude.{◌≤◌};
-ghost use Rattle.dsv_command.specs.Limits.{most_samples, most_conflicts};
+ghost use Rattle.dsv_command.specs.Limits.{most_conflicts, most_controllers, most_samples};
 
 use dsv_names::{RootProperty, RunProperty};
 
@@ -36,4 +36,12 @@ pub struct Budget {
     pub conflicts: u32,
     ghost some: { 1 ≤ conflicts },
     ghost few: { conflicts ≤ most_conflicts },
+}
+
+/// How many controllers are generated: 1 to 1,000.
+#[derive(Clone, Copy)]
+pub(crate) struct Controllers {
+    pub count: u32,
+    ghost some: { 1 ≤ count },
+    ghost few: { count ≤ most_controllers },
 }

@@ -1,3 +1,4 @@
+pub mod AllowedViews
 pub mod AnyJobs
 pub mod CascadeTexts
 pub mod Certificates
@@ -9,6 +10,7 @@ pub mod Lines
 pub mod LoopTexts
 pub mod Output
 pub mod Printing
+pub mod Reasons
 pub mod Refusals
 pub mod Report
 pub mod StateTexts

@@ -16,6 +16,7 @@ use Rattle.dsv_certfile.specs.declared.job.Size.{Size}
 use Rattle.dsv_certfile.specs.declared.job.Size.TheVariants as size
 use Rattle.dsv_command.specs.Jobs.{Task, decides, searches, seeks_set, measures_gain, Asked}
 use Rattle.dsv_command.specs.Loops.{AskedLoop}
+use Rattle.dsv_command.specs.Reasons.{Reason}
 use Rattle.dsv_command.specs.Requests.{Request, on_file, on_cascade, on_states, on_ellipsoid}
 use Rattle.dsv_command.specs.Requests.{on_loop, on_cascade_loop, checks, checks_loop, generates}
 use Rattle.dsv_command.specs.States.{StateTask, seeks_form, AskedStates}
@@ -24,6 +25,8 @@ use Rattle.dsv_names.specs.declared.property.RootProperty.TheVariants.{Stability
 use Rattle.dsv_names.specs.declared.realisation.Realisation.TheVariants.{Dfi}
 use Rattle.dsv_report.specs.AnyJobs.{AskedJob, of_controller, of_cascade, of_states}
 use Rattle.dsv_report.specs.AnyJobs.{of_ellipsoid, of_loop, of_cascade_loop}
+use Rattle.dsv_report.specs.declared.stop.Stop.TheVariants as stop
+use Rattle.dsv_report.specs.Reasons.{reason_text}
 use Rattle.dsv_report.specs.Report.{answer_text, stop_text}
 use Rattle.dsv_report.specs.Stops.{Outcome}
 use Rattle.dsv_report.specs.declared.answers.Answer.{Answer}
@@ -167,3 +170,9 @@ asked_by states (Some (on_cascade_loop job)) = Some (of_cascade_loop job)
 asked_by states (Some (checks file name)) = None
 asked_by states (Some (checks_loop file name plant)) = None
 asked_by states (Some (generates seed count)) = None
+
+-- what a run writes: if the line asks for a reason and there is one, that stands in place of USAGE
+abbrev pub run_text : Option Reason → Option AskedJob → CertWords → Outcome → List ℕ
+run_text None job words found = output_of job words found
+run_text (Some reason) job words (Err stop.Usage) = reason_text reason
+run_text (Some reason) job words found = output_of job words found

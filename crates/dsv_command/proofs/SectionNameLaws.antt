@@ -1,19 +1,14 @@
--- The job for a cascade, by the rules and as it is found.
+-- The names of a cascade's later sections, by the rules and as they are found.
 use Rattle.std.proofs.Common.{◌≡◌, ℕ, ◌≤◌, Bool, true, false, not, ◌&&◌, ◌||◌, List, [], ◌∷◌, length, Some, None, refl, sym, ap, subst, ◌∙◌, arith}
 use Rattle.std.specs.Prelude.{nat_le, if◌then◌else◌}
 use Rattle.std.specs.List.{All, list_any}
 use Rattle.std.proofs.lemmas.Bool.{leb-true, le-leb}
 use Rattle.std.proofs.lemmas.Bool.Decides.{nat_tests}
 use Rattle.std.proofs.lemmas.List.Elements.{All-nil, All-cons, All-head, All-tail}
-use Rattle.dsv_names.specs.declared.property.RunProperty.TheVariants.{Overflow, LimitCycle}
-use Rattle.dsv_names.specs.declared.property.RootProperty.TheVariants.{Stability, MinimumPhase}
-use Rattle.dsv_command.specs.Cascades.{CascadeTask, decides_stability, searches_overflow, measures_series, simulates_series, AskedCascade, task_alone, series_task, most_later, is_nameless, names_of, series_of, cascade_of_parts}
+use Rattle.dsv_command.specs.Cascades.{most_later, is_nameless, names_of}
 use Rattle.dsv_command.specs.Inputs.{is_comma, comma, onto_first, pieces}
-use Rattle.dsv_command.specs.Jobs.{Task, decides, checks_time, writes, searches, seeks_set, measures_gain, simulates, Asked, job_of_parts, ◌>>=◌}
-use Rattle.dsv_command.specs.Parts.{PartView}
-use Rattle.dsv_command.specs.Rules.{with_commas, IsName, AreNames, job_alone, IsJobOf}
+use Rattle.dsv_command.specs.Rules.{with_commas, IsName, AreNames}
 use Rattle.dsv_command.proofs.InputLaws.{joined_pieces, one_piece, some_piece, same_byte, NoneFirst}
-use Rattle.dsv_command.proofs.JobLaws.{unbind, parts_ask, job_found}
 
 -- ---- from names to the pieces of their text
 pieces_of_names : (name : List ℕ) (names : List (List ℕ)) → All IsName (name ∷ names) → pieces (with_commas (name ∷ names)) ≡ name ∷ names
@@ -102,52 +97,3 @@ names_by text names true false e f h =
 
 pub names_found : (text : List ℕ) (names : List (List ℕ)) → names_of text ≡ Some names → AreNames text names
 names_found text names h = names_by text names (nat_le (length (pieces text)) most_later) (list_any is_nameless (pieces text)) refl refl h
-
--- ---- the job
-series_again : (task : CascadeTask) → series_task (task_alone task) ≡ Some task
-series_again (decides_stability by_tables) = refl
-series_again (searches_overflow samples conflicts) = refl
-series_again measures_series = refl
-series_again (simulates_series inputs) = refl
-
-alone_again : (task : Task) (found : CascadeTask) → series_task task ≡ Some found → task ≡ task_alone found
-alone_again (decides Stability b) found h = ap task_alone (let e : decides_stability b ≡ found = cc in e)
-alone_again (decides MinimumPhase b) found h = absurd cc
-alone_again checks_time found h = absurd cc
-alone_again (writes p samples) found h = absurd cc
-alone_again (searches Overflow samples conflicts) found h = ap task_alone (let e : searches_overflow samples conflicts ≡ found = cc in e)
-alone_again (searches LimitCycle samples conflicts) found h = absurd cc
-alone_again (seeks_set conflicts) found h = absurd cc
-alone_again measures_gain found h = ap task_alone (let e : measures_series ≡ found = cc in e)
-alone_again (simulates inputs) found h = ap task_alone (let e : simulates_series inputs ≡ found = cc in e)
-
-pub cascade_read : (parts : List PartView) (text : List ℕ) (asked : AskedCascade) → AreNames text asked.later → IsJobOf parts (job_alone asked) → cascade_of_parts parts text ≡ Some asked
-cascade_read parts text asked names job = rw (parts_ask parts (job_alone asked) job, names_read text asked.later names) (rw (series_again asked.task) refl)
-
--- the job for the first section alone, and the names of the others
-pub record CascadeFound (parts : List PartView) (text : List ℕ) (asked : AskedCascade) : Type 0 where
-  pub names : AreNames text asked.later
-  pub job : IsJobOf parts (job_alone asked)
-
-series_by : (asked : Asked) (later : List (List ℕ)) (found : AskedCascade) (certified : Bool) → asked.certified ≡ certified
-    → (if certified then None else (series_task asked.task >>= λ task. Some (record { file = asked.file; later = later; task = task; design = asked.design }))) ≡ Some found
-    → (asked ≡ job_alone found) × (later ≡ found.later)
-series_by asked later found true e h = absurd cc
-series_by asked later found false e h =
-    let b = unbind (series_task asked.task) (λ task. Some (record { file = asked.file; later = later; task = task; design = asked.design })) found h in
-    let made : record { file = asked.file; later = later; task = b.value; design = asked.design } ≡ found = let s = b.second in cc in
-    let task : asked ≡ record { file = asked.file; task = task_alone b.value; design = asked.design; certified = asked.certified } =
-    ap (λ (t : Task). record { file = asked.file; task = t; design = asked.design; certified = asked.certified }) (alone_again asked.task b.value b.first) in
-    let alone : asked ≡ job_alone (record { file = asked.file; later = later; task = b.value; design = asked.design }) =
-    task ∙ ap (λ (c : Bool). record { file = asked.file; task = task_alone b.value; design = asked.design; certified = c }) e in
-    (alone ∙ ap job_alone made, ap (λ (a : AskedCascade). a.later) made)
-
-pub cascade_found : (parts : List PartView) (text : List ℕ) (asked : AskedCascade) → cascade_of_parts parts text ≡ Some asked → CascadeFound parts text asked
-cascade_found parts text asked h =
-    let a = unbind (job_of_parts parts) (λ job. names_of text >>= λ later. series_of job later) asked h in
-    let b = unbind (names_of text) (λ later. series_of a.value later) asked a.second in
-    let s = series_by a.value b.value asked a.value.certified refl b.second in
-    record {
-      names = subst (AreNames text) s.1 (names_found text b.value b.first);
-      job = subst (IsJobOf parts) s.0 (job_found parts a.value a.first);
-    }
