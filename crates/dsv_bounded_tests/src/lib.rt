@@ -1,15 +1,6 @@
-//! Tests of bounded verdicts and of the formulas of their questions, by public calls. Expected
-//! values were found by going through all lists of inputs and all starts in a model of the written
-//! equations, or by hand.
+//! Tests of the limit cycles that are found of netlists, by public calls. Expected values were
+//! found by hand. What is found of controllers stands beside a model (`.ci/equations`).
 #![tactic(auto)]
 
 #[cfg(test)]
-mod designs;
-#[cfg(test)]
-mod formulas;
-#[cfg(test)]
 mod netlist_cycles;
-#[cfg(test)]
-mod offers;
-#[cfg(test)]
-mod verdicts;

@@ -1,23 +1,11 @@
-//! Tests of quantised controllers, of their written equations and of their netlists, by public
-//! calls. Expected values are worked out by hand from the definitions, or are those of published
-//! worked examples.
+//! Tests of netlists and of the written equations, by public calls. Expected values are worked out
+//! by hand from the definitions. What the program shows of runs stands beside a model
+//! (`.ci/equations`).
 #![tactic(auto)]
 
 #[cfg(test)]
 mod netlists;
 #[cfg(test)]
-mod quantisation;
-#[cfg(test)]
 mod replays;
 #[cfg(test)]
 mod runs;
-#[cfg(test)]
-mod sizes;
-#[cfg(test)]
-mod steps;
-#[cfg(test)]
-mod traces;
-#[cfg(test)]
-mod wide;
-#[cfg(test)]
-mod widest;

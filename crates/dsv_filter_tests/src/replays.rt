@@ -8,7 +8,6 @@ use dsv_quantiser::Quantised;
 use dsv_test_setup::quantised_of;
 use dsv_word::Format;
 use std::alloc::Global;
-use std::test::Fail;
 
 /// 1 / (1 - 0.9 z^-1), whose words in 2.2 are 4, 0 and 4, -4.
 const SLOW: &str = "digital_system d = { .b = {1.0}, .b_size = 1, .a = {1.0, -0.9}, .a_size = 2 };
@@ -24,487 +23,125 @@ const ALTERNATING: &str =
     "digital_system d = { .b = {1.0}, .b_size = 1, .a = {1.0, 1.0}, .a_size = 2 };
 implementation r = { .int_bits = 2, .frac_bits = 2, .max = 1.0, .min = -1.0 };";
 
-/// 1 / (1 - z^-2), whose words in 2.2 are 4, 0, 0 and 4, 0, -4.
-const REPEATING: &str =
-    "digital_system d = { .b = {1.0}, .b_size = 1, .a = {1.0, 0.0, -1.0}, .a_size = 3 };
-implementation r = { .int_bits = 2, .frac_bits = 2, .max = 1.0, .min = -1.0 };";
+/// A realisation of the first controller, a run of it from registers of zeros, and what breaks
+/// first in it.
+struct Run(Realisation, &'static [i64], OverflowReplay);
 
-/// 0.5, whose word in 2.2 is 2.
-const CONSTANT: &str = "digital_system d = { .b = {0.5}, .b_size = 1, .a = {1.0}, .a_size = 1 };
-implementation r = { .int_bits = 2, .frac_bits = 2, .max = 1.0, .min = -1.0 };";
-
-/// z^-1 / (1 - 0.5 z^-1) with delta 0.5, whose words in 3.4 are 0, 32 and 16, 16, and 8 of delta.
-const DELTA: &str =
-    "digital_system d = { .b = {0.0, 1.0}, .b_size = 2, .a = {1.0, -0.5}, .a_size = 2 };
-implementation r = { .int_bits = 3, .frac_bits = 4, .max = 1.0, .min = -1.0, .delta = 0.5 };";
-
-/// A quantised controller that wrap.
-struct Controller {
-    file: &'static str,
-    int_bits: u32,
-    frac_bits: u32,
-    rounding: Rounding,
-    realisation: Realisation,
-}
-
-/// A run from registers of zeros, and what breaks first in it.
-struct Run {
-    controller: Controller,
-    inputs: &'static [i64],
-    replay: OverflowReplay,
-}
-
-/// A start without input, and whether it comes back.
-struct Start {
-    controller: Controller,
-    registers: &'static [i64],
-    limit: u32,
-    replay: CycleReplay,
-}
-
-const RUNS: [Run; 9] = [
-    Run {
-        controller: Controller {
-            file: SLOW,
-            int_bits: 2,
-            frac_bits: 2,
-            rounding: Rounding::Floor,
-            realisation: Realisation::Dfi,
-        },
-        inputs: &[4],
-        replay: OverflowReplay::Clean,
-    },
+const RUNS: [Run; 4] = [
     // 4; 0: 4; less -4: 8.
-    Run {
-        controller: Controller {
-            file: SLOW,
-            int_bits: 2,
-            frac_bits: 2,
-            rounding: Rounding::Floor,
-            realisation: Realisation::Dfi,
-        },
-        inputs: &[4, 4],
-        replay: OverflowReplay::Breaks {
+    Run(
+        Realisation::Dfi,
+        &[4, 4],
+        OverflowReplay::Breaks {
             sample: 1,
             value: 4,
             exact: 8,
         },
-    },
+    ),
     // 3; 0: 3; less -4: 7, the greatest word.
-    Run {
-        controller: Controller {
-            file: SLOW,
-            int_bits: 2,
-            frac_bits: 2,
-            rounding: Rounding::Floor,
-            realisation: Realisation::Dfi,
-        },
-        inputs: &[4, 3],
-        replay: OverflowReplay::Clean,
-    },
-    // -4; 0: -4; less 4: -8, the least word.
-    Run {
-        controller: Controller {
-            file: SLOW,
-            int_bits: 2,
-            frac_bits: 2,
-            rounding: Rounding::Floor,
-            realisation: Realisation::Dfi,
-        },
-        inputs: &[-4, -4],
-        replay: OverflowReplay::Clean,
-    },
+    Run(Realisation::Dfi, &[4, 3], OverflowReplay::Clean),
     // After -8: -1; 0: -1; less -4 times -8 over 4, which is 8.
-    Run {
-        controller: Controller {
-            file: SLOW,
-            int_bits: 2,
-            frac_bits: 2,
-            rounding: Rounding::Floor,
-            realisation: Realisation::Dfi,
-        },
-        inputs: &[-4, -4, -1],
-        replay: OverflowReplay::Breaks {
+    Run(
+        Realisation::Dfi,
+        &[-4, -4, -1],
+        OverflowReplay::Breaks {
             sample: 2,
             value: 3,
             exact: 8,
         },
-    },
+    ),
     // 4 less -4: w = 8.
-    Run {
-        controller: Controller {
-            file: SLOW,
-            int_bits: 2,
-            frac_bits: 2,
-            rounding: Rounding::Floor,
-            realisation: Realisation::Dfii,
-        },
-        inputs: &[4, 4],
-        replay: OverflowReplay::Breaks {
+    Run(
+        Realisation::Dfii,
+        &[4, 4],
+        OverflowReplay::Breaks {
             sample: 1,
             value: 1,
             exact: 8,
         },
-    },
-    // 4, and 4 of the first sample: 8.
-    Run {
-        controller: Controller {
-            file: SLOW,
-            int_bits: 2,
-            frac_bits: 2,
-            rounding: Rounding::Floor,
-            realisation: Realisation::Tdfii,
-        },
-        inputs: &[4, 4],
-        replay: OverflowReplay::Breaks {
-            sample: 1,
-            value: 1,
-            exact: 8,
-        },
-    },
-    // 0: w_0 = 63; y = 0; 31: w = 31. 31: w_0 = 32; y = 62; 16: w = 47.
-    Run {
-        controller: Controller {
-            file: DELTA,
-            int_bits: 3,
-            frac_bits: 4,
-            rounding: Rounding::Floor,
-            realisation: Realisation::Ddfii,
-        },
-        inputs: &[63, 63],
-        replay: OverflowReplay::Clean,
-    },
-    // 47: w_0 = 16; 0; 94.
-    Run {
-        controller: Controller {
-            file: DELTA,
-            int_bits: 3,
-            frac_bits: 4,
-            rounding: Rounding::Floor,
-            realisation: Realisation::Ddfii,
-        },
-        inputs: &[63, 63, 63],
-        replay: OverflowReplay::Breaks {
-            sample: 2,
-            value: 3,
-            exact: 94,
-        },
-    },
+    ),
 ];
 
-const STARTS: [Start; 17] = [
+/// A controller with its rounding, a start without input, how many samples there are, and the
+/// period with which it comes back and whether an output isn't 0, if it does.
+struct Start(
+    &'static str,
+    Rounding,
+    &'static [i64],
+    u32,
+    Option<(u32, bool)>,
+);
+
+const STARTS: [Start; 7] = [
     // -2/4 is -1: y = 1.
-    Start {
-        controller: Controller {
-            file: HALVING,
-            int_bits: 2,
-            frac_bits: 2,
-            rounding: Rounding::Floor,
-            realisation: Realisation::Dfi,
-        },
-        registers: &[0, 1],
-        limit: 8,
-        replay: CycleReplay::Returns {
-            period: 1,
-            sounding: true,
-        },
-    },
+    Start(HALVING, Rounding::Floor, &[0, 1], 8, Some((1, true))),
     // 2/4 is 1: y = -1.
-    Start {
-        controller: Controller {
-            file: HALVING,
-            int_bits: 2,
-            frac_bits: 2,
-            rounding: Rounding::Nearest,
-            realisation: Realisation::Dfi,
-        },
-        registers: &[0, -1],
-        limit: 8,
-        replay: CycleReplay::Returns {
-            period: 1,
-            sounding: true,
-        },
-    },
-    Start {
-        controller: Controller {
-            file: HALVING,
-            int_bits: 2,
-            frac_bits: 2,
-            rounding: Rounding::Floor,
-            realisation: Realisation::Dfi,
-        },
-        registers: &[0, 0],
-        limit: 8,
-        replay: CycleReplay::Returns {
-            period: 1,
-            sounding: false,
-        },
-    },
-    Start {
-        controller: Controller {
-            file: HALVING,
-            int_bits: 2,
-            frac_bits: 2,
-            rounding: Rounding::Floor,
-            realisation: Realisation::Dfi,
-        },
-        registers: &[0, 1],
-        limit: 0,
-        replay: CycleReplay::Clean,
-    },
-    // The outputs are 2, 1, 1, ..
-    Start {
-        controller: Controller {
-            file: HALVING,
-            int_bits: 2,
-            frac_bits: 2,
-            rounding: Rounding::Floor,
-            realisation: Realisation::Dfi,
-        },
-        registers: &[0, 4],
-        limit: 8,
-        replay: CycleReplay::Clean,
-    },
+    Start(HALVING, Rounding::Nearest, &[0, -1], 8, Some((1, true))),
+    Start(HALVING, Rounding::Floor, &[0, 0], 8, Some((1, false))),
+    Start(HALVING, Rounding::Floor, &[0, 1], 0, None),
     // The input is 0 from then on.
-    Start {
-        controller: Controller {
-            file: HALVING,
-            int_bits: 2,
-            frac_bits: 2,
-            rounding: Rounding::Floor,
-            realisation: Realisation::Dfi,
-        },
-        registers: &[1, 1],
-        limit: 8,
-        replay: CycleReplay::Clean,
-    },
+    Start(HALVING, Rounding::Floor, &[1, 1], 8, None),
     // The outputs are -1, 1.
-    Start {
-        controller: Controller {
-            file: ALTERNATING,
-            int_bits: 2,
-            frac_bits: 2,
-            rounding: Rounding::Floor,
-            realisation: Realisation::Dfi,
-        },
-        registers: &[0, 1],
-        limit: 2,
-        replay: CycleReplay::Returns {
-            period: 2,
-            sounding: true,
-        },
-    },
-    Start {
-        controller: Controller {
-            file: ALTERNATING,
-            int_bits: 2,
-            frac_bits: 2,
-            rounding: Rounding::Floor,
-            realisation: Realisation::Dfi,
-        },
-        registers: &[0, 1],
-        limit: 1,
-        replay: CycleReplay::Clean,
-    },
-    // The outputs are 1, 0.
-    Start {
-        controller: Controller {
-            file: REPEATING,
-            int_bits: 2,
-            frac_bits: 2,
-            rounding: Rounding::Floor,
-            realisation: Realisation::Dfi,
-        },
-        registers: &[0, 0, 0, 1],
-        limit: 8,
-        replay: CycleReplay::Returns {
-            period: 2,
-            sounding: true,
-        },
-    },
-    Start {
-        controller: Controller {
-            file: CONSTANT,
-            int_bits: 2,
-            frac_bits: 2,
-            rounding: Rounding::Floor,
-            realisation: Realisation::Dfi,
-        },
-        registers: &[],
-        limit: 1,
-        replay: CycleReplay::Returns {
-            period: 1,
-            sounding: false,
-        },
-    },
-    Start {
-        controller: Controller {
-            file: CONSTANT,
-            int_bits: 2,
-            frac_bits: 2,
-            rounding: Rounding::Floor,
-            realisation: Realisation::Dfi,
-        },
-        registers: &[],
-        limit: 0,
-        replay: CycleReplay::Clean,
-    },
-    // -2/4 is -1: w = 1, and y = 1.
-    Start {
-        controller: Controller {
-            file: HALVING,
-            int_bits: 2,
-            frac_bits: 2,
-            rounding: Rounding::Floor,
-            realisation: Realisation::Dfii,
-        },
-        registers: &[1],
-        limit: 8,
-        replay: CycleReplay::Returns {
-            period: 1,
-            sounding: true,
-        },
-    },
-    // y = 1; -2/4 is -1: s = 1.
-    Start {
-        controller: Controller {
-            file: HALVING,
-            int_bits: 2,
-            frac_bits: 2,
-            rounding: Rounding::Floor,
-            realisation: Realisation::Tdfii,
-        },
-        registers: &[1],
-        limit: 8,
-        replay: CycleReplay::Returns {
-            period: 1,
-            sounding: true,
-        },
-    },
-    // 2 less 1: y = 1. 8/16 is 0: v = 1.
-    Start {
-        controller: Controller {
-            file: DELTA,
-            int_bits: 3,
-            frac_bits: 4,
-            rounding: Rounding::Floor,
-            realisation: Realisation::Ddfi,
-        },
-        registers: &[1, 1],
-        limit: 8,
-        replay: CycleReplay::Returns {
-            period: 1,
-            sounding: true,
-        },
-    },
-    // w_0 = 1; y = -2; 8/16 is 0: w = -1.
-    Start {
-        controller: Controller {
-            file: DELTA,
-            int_bits: 3,
-            frac_bits: 4,
-            rounding: Rounding::Floor,
-            realisation: Realisation::Ddfii,
-        },
-        registers: &[-1],
-        limit: 8,
-        replay: CycleReplay::Returns {
-            period: 1,
-            sounding: true,
-        },
-    },
-    // w_0 = -1; -8/16 is -1: w = 0, and so it stays.
-    Start {
-        controller: Controller {
-            file: DELTA,
-            int_bits: 3,
-            frac_bits: 4,
-            rounding: Rounding::Floor,
-            realisation: Realisation::Ddfii,
-        },
-        registers: &[1],
-        limit: 8,
-        replay: CycleReplay::Clean,
-    },
-    // y = -1; 0 less -1: 1; 8/16 is 0: s = -1.
-    Start {
-        controller: Controller {
-            file: DELTA,
-            int_bits: 3,
-            frac_bits: 4,
-            rounding: Rounding::Floor,
-            realisation: Realisation::Tddfii,
-        },
-        registers: &[-1],
-        limit: 8,
-        replay: CycleReplay::Returns {
-            period: 1,
-            sounding: true,
-        },
-    },
+    Start(ALTERNATING, Rounding::Floor, &[0, 1], 2, Some((2, true))),
+    Start(ALTERNATING, Rounding::Floor, &[0, 1], 1, None),
 ];
 
-/// The quantised controller.
-fn quantised_controller(alloc: Global, controller: &Controller) -> Option<Quantised> {
-    let format = Format::new(
-        controller.int_bits,
-        controller.frac_bits,
-        controller.rounding,
-        OverflowMode::Wrap,
-    )
-    .ok()?;
-    quantised_of(alloc, controller.file, format, controller.realisation)
+/// A controller in words of 2.2 that wrap.
+fn words_of(
+    alloc: Global,
+    text: &str,
+    rounding: Rounding,
+    realisation: Realisation,
+) -> Option<Quantised> {
+    let format = Format::new(2, 2, rounding, OverflowMode::Wrap).ok()?;
+    quantised_of(alloc, text, format, realisation)
 }
 
 /// What breaks first in the run, where its inputs are words.
 fn overflow_of(alloc: Global, run: &Run) -> Option<OverflowReplay> {
-    let quantised = quantised_controller(alloc, &run.controller)?;
+    let Run(realisation, inputs, _) = run;
+    let quantised = words_of(alloc, SLOW, Rounding::Floor, *realisation)?;
     let format = quantised.format();
-    if run.inputs.len() >= 1000 || !are_words(&format, run.inputs) {
+    if inputs.len() >= 1000 || !are_words(&format, inputs) {
         return None;
     }
-    let mut outputs = vec![in alloc; 0i64; run.inputs.len()].ok()?;
-    Some(replay_overflow(&quantised, run.inputs, outputs.as_mut_slice()))
+    let mut outputs = vec![in alloc; 0i64; inputs.len()].ok()?;
+    Some(replay_overflow(&quantised, inputs, outputs.as_mut_slice()))
 }
 
 /// Whether the start comes back, where its registers are as many as the realisation has and all
 /// are words.
 fn cycle_of(alloc: Global, start: &Start) -> Option<CycleReplay> {
-    let quantised = quantised_controller(alloc, &start.controller)?;
+    let Start(text, rounding, words, limit, _) = start;
+    let quantised = words_of(alloc, text, *rounding, Realisation::Dfi)?;
     let format = quantised.format();
-    if start.registers.len()
-        != registers(quantised.realisation(), quantised.order() as u32) as usize
-        || !are_words(&format, start.registers)
+    if words.len() != registers(quantised.realisation(), quantised.order() as u32) as usize
+        || !are_words(&format, words)
     {
         return None;
     }
-    let mut outputs = vec![in alloc; 0i64; start.limit as usize].ok()?;
-    Some(replay_cycle(
-        &quantised,
-        start.registers,
-        start.limit,
-        outputs.as_mut_slice(),
-    ))
+    let mut outputs = vec![in alloc; 0i64; *limit as usize].ok()?;
+    Some(replay_cycle(&quantised, words, *limit, outputs.as_mut_slice()))
+}
+
+/// The replay that a start has.
+fn wanted_of(start: &Start) -> CycleReplay {
+    match start.4 {
+        Some((period, sounding)) => CycleReplay::Returns { period, sounding },
+        None => CycleReplay::Clean,
+    }
 }
 
 #[test]
-fn runs_break_where_a_value_is_no_word(rt: HostRuntime) -> Result<(), Fail> {
-    let alloc = rt.alloc();
-    let mut met = true;
+fn runs_break_where_a_value_is_no_word(rt: HostRuntime) {
     for run in &RUNS {
-        met = met && overflow_of(alloc, run) == Some(run.replay);
+        assert!(rt; overflow_of(rt.alloc(), run) == Some(run.2));
     }
-    assert!(rt; met);
-    Ok(())
 }
 
 #[test]
-fn starts_come_back_after_their_periods(rt: HostRuntime) -> Result<(), Fail> {
-    let alloc = rt.alloc();
-    let mut met = true;
+fn starts_come_back_after_their_periods(rt: HostRuntime) {
     for start in &STARTS {
-        met = met && cycle_of(alloc, start) == Some(start.replay);
+        assert!(rt; cycle_of(rt.alloc(), start) == Some(wanted_of(start)));
     }
-    assert!(rt; met);
-    Ok(())
 }

@@ -1,18 +1,11 @@
-// Goals of a netlist that adds its products exactly and rounds their sum once, in words of three
-// bits: from all starts and at all inputs they are 1 where a run of the netlist has what they seek.
-#![tactic(auto, using(dsv_algebra::proofs::Casts::casts))]
-
-ghost use Rattle.dsv_word.specs.Words.{IsWord};
-ghost use Rattle.std.specs.Prelude.{IsTrue};
-ghost use Rattle.std.specs.List.{All};
-
+// The goal of one sample of a netlist that adds its products exactly and rounds their sum once, in
+// words of three bits: from all starts and at all inputs it is 1 where the sample breaks.
 use crate::goals::{is_one, overflow_of};
 use dsv_names::{OverflowMode, Rounding};
 use dsv_netlist::{Netlist, Node};
-use dsv_system::ExactList;
 use dsv_template::{Candidate, InequalityList, SetPart};
 use dsv_term::{Goal, TermId};
-use dsv_unroll::{InputRange, cycle_goal, set_goal};
+use dsv_unroll::{InputRange, set_goal};
 use dsv_word::Format;
 use std::alloc::Global;
 
@@ -60,12 +53,7 @@ const LOW: i64 = -4;
 
 const HIGH: i64 = 3;
 
-/// The most samples of a run.
-const SAMPLES: u32 = 3;
-
-/// How many lists of two words there are, and how many of three.
-const PAIRS: u32 = 64;
-
+/// How many lists of three words there are.
 const TRIPLES: u32 = 512;
 
 /// The netlist of these nodes, whose output is the first entry of `next`.
@@ -104,55 +92,6 @@ fn exact_of(rounding: Rounding, last: i64, before: i64, x: i64) -> i64 {
     }
 }
 
-fn are_words(format: &Format, words: &[i64]) -> bool
-    ensures { IsTrue result → All (IsWord format.now) words.now }
-{
-    words.iter().all(|word| format.fits(i128::from(*word)))
-}
-
-/// The exact value of a sample of the netlist, where it has this one alone and the equation gives
-/// the same.
-fn step_value(net: &Netlist, registers: &mut [i64], x: i64) -> Option<i128> {
-    let format = net.format();
-    if registers.len() != net.registers() as usize
-        || !are_words(&format, registers)
-        || !format.fits(i128::from(x))
-    {
-        return None;
-    }
-    let last = *registers.first()?;
-    let before = *registers.get(1)?;
-    let value = i128::from(exact_of(format.rounding, last, before, x));
-    let mut exact = ExactList::new();
-    net.step(registers, x, &mut exact);
-    (exact.as_slice() == [value].as_slice()).then_some(value)
-}
-
-/// Whether an exact value of the run over these inputs is no word.
-fn breaks(net: &Netlist, start: [i64; 2], inputs: &[i64]) -> Option<bool> {
-    let format = net.format();
-    let mut registers = start;
-    let mut broken = false;
-    for x in inputs {
-        let value = step_value(net, &mut registers, *x)?;
-        broken = broken || !format.fits(value);
-    }
-    Some(broken)
-}
-
-/// Whether some number of inputs 0 brings the start back, after an output that isn't 0.
-fn cycles(net: &Netlist, start: [i64; 2]) -> Option<bool> {
-    let mut registers = start;
-    let mut sounding = false;
-    let mut found = false;
-    for _ in 0..SAMPLES {
-        step_value(net, &mut registers, 0)?;
-        sounding = sounding || registers[0] != 0;
-        found = found || sounding && registers == start;
-    }
-    Some(found)
-}
-
 /// The goal that one sample breaks, from any registers.
 fn sample_goal(alloc: Global, net: &Netlist) -> Option<Goal> {
     let format = net.format();
@@ -176,34 +115,10 @@ fn samples_agree(alloc: Global, modes: Modes) -> Option<bool> {
     let goal = sample_goal(alloc, &net)?;
     let mut agree = true;
     for number in 0..TRIPLES {
-        let [first, second, x] = words_of(number);
-        let broken = breaks(&net, [first, second], &[x])?;
+        let [last, before, x] = words_of(number);
+        let exact = exact_of(net.format().rounding, last, before, x);
+        let broken = !net.format().fits(i128::from(exact));
         agree = agree && is_one(alloc, &goal, 3, number) == Some(broken);
-    }
-    Some(agree)
-}
-
-/// Whether the goal of three samples from zeros is 1 exactly where one breaks.
-fn runs_agree(alloc: Global, modes: Modes) -> Option<bool> {
-    let net = netlist(alloc, modes)?;
-    let goal = overflow_of(alloc, &net, LOW, HIGH, SAMPLES)?;
-    let mut agree = true;
-    for number in 0..TRIPLES {
-        let broken = breaks(&net, [0, 0], &words_of(number))?;
-        agree = agree && is_one(alloc, &goal, 3, number) == Some(broken);
-    }
-    Some(agree)
-}
-
-/// Whether the goal of cycles is 1 exactly at the starts that have one.
-fn cycles_agree(alloc: Global, modes: Modes) -> Option<bool> {
-    let net = netlist(alloc, modes)?;
-    let goal = cycle_goal(alloc, &net, SAMPLES).ok()?;
-    let mut agree = true;
-    for number in 0..PAIRS {
-        let [first, second, _] = words_of(number);
-        let found = cycles(&net, [first, second])?;
-        agree = agree && is_one(alloc, &goal, 3, number) == Some(found);
     }
     Some(agree)
 }
@@ -232,23 +147,9 @@ fn short_width(alloc: Global, modes: Modes) -> Option<u32> {
 }
 
 #[test]
-fn goals_of_samples_agree_with_runs(rt: HostRuntime) {
+fn goals_of_samples_agree_with_the_equation(rt: HostRuntime) {
     for modes in &MODES {
         assert!(rt; samples_agree(rt.alloc(), *modes) == Some(true));
-    }
-}
-
-#[test]
-fn overflow_goals_agree_with_runs(rt: HostRuntime) {
-    for modes in &MODES {
-        assert!(rt; runs_agree(rt.alloc(), *modes) == Some(true));
-    }
-}
-
-#[test]
-fn cycle_goals_agree_with_runs(rt: HostRuntime) {
-    for modes in &MODES {
-        assert!(rt; cycles_agree(rt.alloc(), *modes) == Some(true));
     }
 }
 

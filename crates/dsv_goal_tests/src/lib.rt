@@ -6,12 +6,8 @@
 #[cfg(test)]
 mod accumulators;
 #[cfg(test)]
-mod controllers;
-#[cfg(test)]
 mod goals;
 #[cfg(test)]
 mod netlists;
 #[cfg(test)]
 mod sets;
-#[cfg(test)]
-mod widest;

@@ -1,12 +1,13 @@
 // The goals of candidate sets, at all values of their inputs.
-use crate::controllers::quantised_in;
 use crate::goals::count_of;
-use dsv_names::OverflowMode;
+use dsv_names::{OverflowMode, Realisation, Rounding};
 use dsv_netlist::Netlist;
 use dsv_realise::realise;
 use dsv_template::{Candidate, CoefficientList, Inequality, InequalityList, SetPart};
 use dsv_term::Goal;
+use dsv_test_setup::quantised_of;
 use dsv_unroll::{InputRange, set_goal};
+use dsv_word::Format;
 use std::alloc::Global;
 
 /// y(n) = x(n) + 0.5 y(n-1), where half of y(n-1) is made whole by the ceiling.
@@ -89,7 +90,8 @@ fn candidate_of(lines: &[Line], depth: u32) -> Option<Candidate> {
 
 /// The netlist of the controller.
 fn netlist(alloc: Global, overflow: OverflowMode) -> Option<Netlist> {
-    let quantised = quantised_in(alloc, FIRST, 2, overflow)?;
+    let format = Format::new(2, 1, Rounding::Floor, overflow).ok()?;
+    let quantised = quantised_of(alloc, FIRST, format, Realisation::Dfi)?;
     realise(alloc, &quantised).ok()
 }
 

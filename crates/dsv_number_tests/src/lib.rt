@@ -1,5 +1,5 @@
-//! Tests of the crates of numbers, by their public calls: digits and classes of bytes, fractions,
-//! decimals, words, coefficients in the delta operator and forms with squares.
+//! Tests of the crates of numbers, by their public calls: fractions, decimals, words, coefficients
+//! in the delta operator and forms with squares.
 #![tactic(auto)]
 
 #[cfg(test)]
@@ -10,7 +10,5 @@ mod deltas;
 mod forms;
 #[cfg(test)]
 mod fractions;
-#[cfg(test)]
-mod texts;
 #[cfg(test)]
 mod words;

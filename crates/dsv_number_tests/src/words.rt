@@ -79,63 +79,36 @@ fn lawful_widths(rt: HostRuntime) {
     }
 }
 
-/// A number, and the word of 4 bits that it becomes in each mode.
-struct Fitted {
-    number: i128,
-    wrapped: i64,
-    saturated: i64,
-}
+// The least word of 48 bits, and the greatest.
+const LOW: i64 = -140_737_488_355_328;
 
-const FITTED: [Fitted; 9] = [
-    Fitted {
-        number: 7,
-        wrapped: 7,
-        saturated: 7,
-    },
-    Fitted {
-        number: 8,
-        wrapped: -8,
-        saturated: 7,
-    },
-    Fitted {
-        number: 24,
-        wrapped: -8,
-        saturated: 7,
-    },
-    Fitted {
-        number: 23,
-        wrapped: 7,
-        saturated: 7,
-    },
-    Fitted {
-        number: -8,
-        wrapped: -8,
-        saturated: -8,
-    },
-    Fitted {
-        number: -9,
-        wrapped: 7,
-        saturated: -8,
-    },
-    Fitted {
-        number: -24,
-        wrapped: -8,
-        saturated: -8,
-    },
-    Fitted {
-        number: i128::MAX,
-        wrapped: -1,
-        saturated: 7,
-    },
-    Fitted {
-        number: i128::MIN,
-        wrapped: 0,
-        saturated: -8,
-    },
+const HIGH: i64 = 140_737_488_355_327;
+
+/// The bits before and after the point, a number, and the word that it becomes where words wrap and
+/// where they saturate.
+struct Fitted(u32, u32, i128, i64, i64);
+
+const FITTED: [Fitted; 15] = [
+    Fitted(2, 2, 7, 7, 7),
+    Fitted(2, 2, 8, -8, 7),
+    Fitted(2, 2, 24, -8, 7),
+    Fitted(2, 2, 23, 7, 7),
+    Fitted(2, 2, -8, -8, -8),
+    Fitted(2, 2, -9, 7, -8),
+    Fitted(2, 2, -24, -8, -8),
+    Fitted(2, 2, i128::MAX, -1, 7),
+    Fitted(2, 2, i128::MIN, 0, -8),
+    Fitted(1, 47, 140_737_488_355_327, HIGH, HIGH),
+    Fitted(1, 47, 140_737_488_355_328, LOW, HIGH),
+    Fitted(1, 47, -140_737_488_355_328, LOW, LOW),
+    Fitted(1, 47, -140_737_488_355_329, HIGH, LOW),
+    Fitted(1, 47, i128::MAX, -1, HIGH),
+    Fitted(1, 47, i128::MIN, 0, LOW),
 ];
 
-fn fits_in(overflow: OverflowMode, number: i128, word: i64) -> bool {
-    match Format::new(2, 2, Rounding::Floor, overflow) {
+fn fits_in(row: &Fitted, overflow: OverflowMode, word: i64) -> bool {
+    let Fitted(int_bits, frac_bits, number, _, _) = *row;
+    match Format::new(int_bits, frac_bits, Rounding::Floor, overflow) {
         Ok(format) => {
             format.fit(number) == word
                 && format.fits(number) == (i128::from(format.fit(number)) == number)
@@ -147,79 +120,80 @@ fn fits_in(overflow: OverflowMode, number: i128, word: i64) -> bool {
 #[test]
 fn both_modes_at_both_ends(rt: HostRuntime) {
     for row in &FITTED {
-        let wraps = fits_in(OverflowMode::Wrap, row.number, row.wrapped);
-        let saturates = fits_in(OverflowMode::Saturate, row.number, row.saturated);
+        let wraps = fits_in(row, OverflowMode::Wrap, row.3);
+        let saturates = fits_in(row, OverflowMode::Saturate, row.4);
         assert!(rt; wraps && saturates);
     }
 }
 
-fn has_ends(format: &Format) -> bool {
-    format.width() == 4 && format.lo() == -8 && format.hi() == 7
+/// The bits before and after the point, the bits of a word, the least word and the greatest.
+struct Extent(u32, u32, u32, i64, i64);
+
+const EXTENTS: [Extent; 4] = [
+    Extent(2, 2, 4, -8, 7),
+    Extent(1, 47, 48, LOW, HIGH),
+    Extent(8, 40, 48, LOW, HIGH),
+    Extent(48, 0, 48, LOW, HIGH),
+];
+
+fn has_ends(row: &Extent) -> bool {
+    match Format::new(row.0, row.1, Rounding::Floor, OverflowMode::Wrap) {
+        Ok(format) => format.width() == row.2 && format.lo() == row.3 && format.hi() == row.4,
+        Err(_) => false,
+    }
 }
 
 #[test]
 fn ends(rt: HostRuntime) {
-    let format = Format::new(2, 2, Rounding::Floor, OverflowMode::Wrap);
-    assert!(rt; format.is_ok_and(|format| has_ends(&format)));
+    for row in &EXTENTS {
+        assert!(rt; has_ends(row));
+    }
 }
 
-/// A number, and its quarter made whole in each rounding.
-struct Quarter {
-    number: i128,
-    floor: i128,
-    ceil: i128,
-    nearest: i128,
-}
+/// The bits after the point, a number, and what it becomes that is divided by 2 to that power and
+/// made whole: by the floor, by the ceiling and to the nearest.
+struct Shifted(u32, i128, i128, i128, i128);
 
-const QUARTERS: [Quarter; 8] = [
-    Quarter {
-        number: -6,
-        floor: -2,
-        ceil: -1,
-        nearest: -1,
-    },
-    Quarter {
-        number: -3,
-        floor: -1,
-        ceil: 0,
-        nearest: -1,
-    },
-    Quarter {
-        number: -2,
-        floor: -1,
-        ceil: 0,
-        nearest: 0,
-    },
-    Quarter {
-        number: -1,
-        floor: -1,
-        ceil: 0,
-        nearest: 0,
-    },
-    Quarter {
-        number: 2,
-        floor: 0,
-        ceil: 1,
-        nearest: 1,
-    },
-    Quarter {
-        number: 5,
-        floor: 1,
-        ceil: 2,
-        nearest: 1,
-    },
-    Quarter {
-        number: 6,
-        floor: 1,
-        ceil: 2,
-        nearest: 2,
-    },
-    Quarter {
-        number: 8,
-        floor: 2,
-        ceil: 2,
-        nearest: 2,
-    },
+// The square of the least word of 48 bits is 2^94, and half of 2^47 is 2^46.
+const SHIFTED: [Shifted; 14] = [
+    Shifted(0, -3, -3, -3, -3),
+    Shifted(2, -6, -2, -1, -1),
+    Shifted(2, -3, -1, 0, -1),
+    Shifted(2, -2, -1, 0, 0),
+    Shifted(2, -1, -1, 0, 0),
+    Shifted(2, 2, 0, 1, 1),
+    Shifted(2, 5, 1, 2, 1),
+    Shifted(2, 6, 1, 2, 2),
+    Shifted(2, 8, 2, 2, 2),
+    Shifted(47, 1 << 94, 1 << 47, 1 << 47, 1 << 47),
+    Shifted(
+        47,
+        (1 << 94) + (1 << 46),
+        1 << 47,
+        (1 << 47) + 1,
+        (1 << 47) + 1,
+    ),
+    Shifted(
+        47,
+        (1 << 94) + (1 << 46) - 1,
+        1 << 47,
+        (1 << 47) + 1,
+        1 << 47,
+    ),
+    Shifted(
+        47,
+        -(1 << 94) - (1 << 46),
+        -(1 << 47) - 1,
+        -(1 << 47),
+        -(1 << 47),
+    ),
+    Shifted(
+        47,
+        -(1 << 94) - (1 << 46) - 1,
+        -(1 << 47) - 1,
+        -(1 << 47),
+        -(1 << 47) - 1,
+    ),
 ];
 
 const LEAST_NUMBER: i128 = -(1 << 126);
@@ -228,22 +202,23 @@ fn shift(frac_bits: u32, rounding: Rounding, number: i128) -> Option<i128> {
     if number <= LEAST_NUMBER || number >= -LEAST_NUMBER {
         return None;
     }
-    match Format::new(2, frac_bits, rounding, OverflowMode::Wrap) {
+    let int_bits = 48u32.saturating_sub(frac_bits);
+    match Format::new(int_bits, frac_bits, rounding, OverflowMode::Wrap) {
         Ok(format) => Some(format.round_shift(number)),
         Err(_) => None,
     }
 }
 
-fn is_shifted(row: &Quarter) -> bool {
-    shift(2, Rounding::Floor, row.number) == Some(row.floor)
-        && shift(2, Rounding::Ceil, row.number) == Some(row.ceil)
-        && shift(2, Rounding::Nearest, row.number) == Some(row.nearest)
-        && shift(0, Rounding::Nearest, row.number) == Some(row.number)
+fn is_shifted(row: &Shifted) -> bool {
+    let Shifted(frac_bits, number, floor, ceil, nearest) = *row;
+    shift(frac_bits, Rounding::Floor, number) == Some(floor)
+        && shift(frac_bits, Rounding::Ceil, number) == Some(ceil)
+        && shift(frac_bits, Rounding::Nearest, number) == Some(nearest)
 }
 
 #[test]
 fn shifts_in_all_roundings(rt: HostRuntime) {
-    for row in &QUARTERS {
+    for row in &SHIFTED {
         assert!(rt; is_shifted(row));
     }
 }
@@ -414,140 +389,5 @@ fn is_rounded(row: &Rounded) -> bool {
 fn fractions_in_all_roundings(rt: HostRuntime) {
     for row in &ROUNDED {
         assert!(rt; is_rounded(row));
-    }
-}
-
-// ---- words of 48 bits
-
-const LOW: i64 = -140_737_488_355_328;
-
-const HIGH: i64 = 140_737_488_355_327;
-
-const WIDE_FITTED: [Fitted; 6] = [
-    Fitted {
-        number: 140_737_488_355_327,
-        wrapped: HIGH,
-        saturated: HIGH,
-    },
-    Fitted {
-        number: 140_737_488_355_328,
-        wrapped: LOW,
-        saturated: HIGH,
-    },
-    Fitted {
-        number: -140_737_488_355_328,
-        wrapped: LOW,
-        saturated: LOW,
-    },
-    Fitted {
-        number: -140_737_488_355_329,
-        wrapped: HIGH,
-        saturated: LOW,
-    },
-    Fitted {
-        number: i128::MAX,
-        wrapped: -1,
-        saturated: HIGH,
-    },
-    Fitted {
-        number: i128::MIN,
-        wrapped: 0,
-        saturated: LOW,
-    },
-];
-
-fn fits_wide(overflow: OverflowMode, number: i128, word: i64) -> bool {
-    match Format::new(1, 47, Rounding::Floor, overflow) {
-        Ok(format) => {
-            format.fit(number) == word
-                && format.fits(number) == (i128::from(format.fit(number)) == number)
-        }
-        Err(_) => false,
-    }
-}
-
-#[test]
-fn both_modes_at_both_ends_of_48_bits(rt: HostRuntime) {
-    for row in &WIDE_FITTED {
-        let wraps = fits_wide(OverflowMode::Wrap, row.number, row.wrapped);
-        let saturates = fits_wide(OverflowMode::Saturate, row.number, row.saturated);
-        assert!(rt; wraps && saturates);
-    }
-}
-
-fn has_wide_ends(format: &Format) -> bool {
-    format.width() == 48 && format.lo() == LOW && format.hi() == HIGH
-}
-
-#[test]
-fn ends_of_48_bits(rt: HostRuntime) {
-    for int_bits in [1, 8, 48] {
-        let format = Format::new(int_bits, 48 - int_bits, Rounding::Floor, OverflowMode::Wrap);
-        assert!(rt; format.is_ok_and(|format| has_wide_ends(&format)));
-    }
-}
-
-/// A number, and what it becomes that is divided by 2^47 and made whole in each rounding.
-struct Shifted {
-    number: i128,
-    floor: i128,
-    ceil: i128,
-    nearest: i128,
-}
-
-// The square of the least word is 2^94, and half of 2^47 is 2^46.
-const SHIFTED: [Shifted; 5] = [
-    Shifted {
-        number: 1 << 94,
-        floor: 1 << 47,
-        ceil: 1 << 47,
-        nearest: 1 << 47,
-    },
-    Shifted {
-        number: (1 << 94) + (1 << 46),
-        floor: 1 << 47,
-        ceil: (1 << 47) + 1,
-        nearest: (1 << 47) + 1,
-    },
-    Shifted {
-        number: (1 << 94) + (1 << 46) - 1,
-        floor: 1 << 47,
-        ceil: (1 << 47) + 1,
-        nearest: 1 << 47,
-    },
-    Shifted {
-        number: -(1 << 94) - (1 << 46),
-        floor: -(1 << 47) - 1,
-        ceil: -(1 << 47),
-        nearest: -(1 << 47),
-    },
-    Shifted {
-        number: -(1 << 94) - (1 << 46) - 1,
-        floor: -(1 << 47) - 1,
-        ceil: -(1 << 47),
-        nearest: -(1 << 47) - 1,
-    },
-];
-
-fn shift_far(rounding: Rounding, number: i128) -> Option<i128> {
-    if number <= LEAST_NUMBER || number >= -LEAST_NUMBER {
-        return None;
-    }
-    match Format::new(1, 47, rounding, OverflowMode::Wrap) {
-        Ok(format) => Some(format.round_shift(number)),
-        Err(_) => None,
-    }
-}
-
-fn is_shifted_far(row: &Shifted) -> bool {
-    shift_far(Rounding::Floor, row.number) == Some(row.floor)
-        && shift_far(Rounding::Ceil, row.number) == Some(row.ceil)
-        && shift_far(Rounding::Nearest, row.number) == Some(row.nearest)
-}
-
-#[test]
-fn shifts_by_47_bits(rt: HostRuntime) {
-    for row in &SHIFTED {
-        assert!(rt; is_shifted_far(row));
     }
 }
