@@ -159,36 +159,37 @@ def first_sentence(note):
 
 # ---- the page
 
-HEADLINE = ("Explained", "Headline", "Searching", "Gain", "Simulating", "Cascades", "States", "Loops", "LoopChecks", "Proposers", "OneAnswer", "Completeness", "Accepted")
+HEADLINE = ("JobRows", "Explained", "Headline", "Searching", "Gain", "Simulating", "Cascades", "States", "Loops", "LoopChecks", "Proposers", "OneAnswer", "Completeness", "Accepted")
 LONG = 30
 PAGE = (
     ("The call", "What `run` says of an answer, whatever the arguments, the files and the sink.",
-     "IsDone request_of dsv_command/Requests:Request IsExplained Outcome IsRow IsCheckRow IsUnread TableRow CameOf FilesSeen"),
+     "IsDone requested dsv_command/Table:Request IsAnswered Outcome IsJobRow IsDoneBy HaveTexts AreUnread HasEvidence BecomeJobWords AreWordless IsTaskDone "
+     "IsOfDecision IsUnread CameOf FilesSeen"),
     ("The file", "What it means that a file's bytes are a controller, and what the controller is in words.",
      "longest_file IsAccepted IsTextOf IsFaultOf ControllerView BecomesWords QuantisedView"),
     ("Overflow, limit cycles, simulation", "What the answers on runs say, of a subject: a controller, a cascade or a state-space "
      "controller.",
-     "SubjectView Behaviour behaviour_of of_controller equations_of dsv_system:rows Breaks Cycles IsSearch Happens NeverHappens IsTrace IsCycle GaveUp IsTooLarge IsFormulaOf "
-     "IsSeeking KeepsTo NoneIsGood IsMeasuring IsGainOf outlook_of HoldsAlways NeverOverflows IsErrorOf IsBoundOf AreNear AlwaysNear "
-     "RunsAsWritten error_of IsBreakOf IsRun IsRunOver IsOfSearch IsOfGain IsOfRun"),
+     "SubjectView Behaviour behaviour_of of_controller equations_of dsv_system:rows Breaks Cycles Happens NeverHappens IsTrace IsCycle GaveUp IsTooLarge IsFormulaOf "
+     "KeepsTo NoneIsGood IsGainOf outlook_of HoldsAlways NeverOverflows IsErrorOf IsBoundOf AreNear AlwaysNear "
+     "RunsAsWritten error_of IsBreakOf IsRunOver IsOfSearch IsOfGain IsOfRun"),
     ("Cascades", "What the answers on several files in series say.",
-     "IsCascadeRow IsCascadeOf HaveControllers IsLaterRow IsNoCascadeRow IsCascade Fits CascadeView cascade_of IsOfSeries of_cascade "
+     "IsCascade Fits CascadeView cascade_of of_cascade "
      "AreJudged IsStableSection AreTabled IsOfPoles"),
     ("State-space controllers", "What the answers on a state-space controller say.",
-     "IsStateRow IsStatesFileOf IsStateController StateFileView IsStateText IsStatesUnread IsOfStates BecomesStates StateView "
-     "state_space_of of_states IsOfStateTask ShowsStateFall FallsAlongStates IsStateLoss IsOfNamedForm state_check IsStateFinding IsSystemFinding IsSystemPolynomial IsSystemShown IsSaid SaysStates"),
+     "IsStatesFileOf IsStateController StateFileView IsStateText IsStatesUnread BecomesStates StateView "
+     "state_space_of of_states ShowsStateFall FallsAlongStates IsStateLoss state_check IsStateFinding IsSystemFinding IsSystemPolynomial IsSystemShown IsSaid SaysStates"),
     ("Ellipsoids", "What the answers on ellipsoids say.",
-     "IsEllipsoidRow IsOffer ellipsoid_in IsUnreadOffer IsOfEllipsoid IsOfOffer IsOfSoughtEllipsoid ShowsEllipsoid dsv_ellipsoid:IsGood "
+     "IsOffer ellipsoid_in IsUnreadOffer IsOfOffer IsOfSoughtEllipsoid ShowsEllipsoid dsv_ellipsoid:IsGood "
      "dsv_ellipsoid:NeverBreaks StaysKept ellipsoid_refusal greatest_disturbance step_form dsv_ellipsoid:first_form sample_intervals"),
     ("Loops with their plants", "What the answers on the loop of a controller with its plant say, and what the check of its certificate.",
-     "IsLoopRow HaveLoop IsPlantFileOf IsPlantOf IsPlantText PlantView IsPlantUnread IsOfPlant IsLoopInWords IsOfLoop dsv_loop:loop_of dsv_table:IsFinding "
-     "dsv_table:verdict_of IsShown HasFallingForm HasKeptAwayForm AreBounds IsRootSize HasFallAtRate HasKeptAwayAtRate IsLoopCheckRow "
-     "IsLoopCheck IsOfLoopCertificate IsLoopChecked IsLoopShownOf LoopHas HasFallingLoop SaysLoop IsCascadeLoopRow IsOfCascadeLoop"),
+     "IsPlantFileOf IsPlantOf IsPlantText PlantView IsPlantUnread IsOfLoop dsv_loop:loop_of dsv_table:IsFinding "
+     "dsv_table:verdict_of IsShown HasFallingForm HasKeptAwayForm AreBounds IsRootSize HasFallAtRate HasKeptAwayAtRate "
+     "IsOfLoopCertificate IsLoopChecked IsLoopShownOf LoopHas HasFallingLoop SaysLoop "),
     ("Stability, minimum phase, timing", "What the answers on polynomials and on time say.",
-     "IsTested tested_of ShowsFall StrictlyFallsAlong StrictlyFalls ShowsKeptAway IsKeptAwayAlong IsKeptAway "
-     "ShowsNoForm closed_form_of jury_of IsJuryShown ShowsTable WantsSchurCohn IsTimed IsTimingOf IsOnTime"),
+     "tested_of ShowsFall StrictlyFallsAlong StrictlyFalls ShowsKeptAway IsKeptAwayAlong IsKeptAway "
+     "ShowsNoForm closed_form_of jury_of IsJuryShown ShowsTable WantsSchurCohn IsTimingOf IsOnTime"),
     ("Certificates, generated controllers", "What a check says, and what a tally says.",
-     "longest_certificate IsCheckOf Passes IsChecked HasShown IsShownOf IsNearOf ShowsError IsFaulty IsRefusedAt IsOfGeneration "
+     "longest_certificate IsCheckOfRow IsCheckedBy IsOfCheck IsChecked IsShownOf IsNearOf ShowsError IsRefusedAt IsOfGeneration "
      "IsGeneratedFrom"),
     ("What is written, and what stays", "The output, the status, and the files afterwards.",
      "IsWritten dsv_report:output_of answer_text stop_text IfWhole IsTyped AreKept"),

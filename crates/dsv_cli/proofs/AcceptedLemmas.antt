@@ -22,7 +22,8 @@ use Rattle.dsv_report.specs.declared.answers.Answer.TheVariants as answer
 use Rattle.dsv_report.specs.declared.stop.CertificateFault.TheVariants as fault
 use Rattle.dsv_report.specs.declared.stop.Stop.TheVariants as stop
 use Rattle.dsv_report.specs.Stops.{Outcome}
-use Rattle.dsv_cli.specs.Accepted.{IsAcceptance, WrittenAreAccepted}
+use Rattle.dsv_cli.specs.FamilyLaws.{FileCertificatesAreAccepted}
+use Rattle.dsv_cli.specs.Accepted.{IsAcceptance}
 use Rattle.dsv_token.specs.declared.refusal.FileRefusal.TheVariants as text
 use Rattle.dsv_cli.proofs.Told.{of_told}
 use Rattle.dsv_cli.specs.Headline.{longest_certificate, CameOf, IsAccepted, IsControllerOf, IsCheckOf, IsSpelled, Spells, IsRefusedAt, IsCheckRow}
@@ -121,7 +122,7 @@ check_accepts bytes written c f s old new controller name (Err (stop.FileRefused
 check_accepts bytes written c f s old new controller name (Err stop.FileTooLong) r row = absurd (comes_to_words bytes c long f (of_told _ bytes row.comes_from))
 check_accepts bytes written c f s old new controller name answered r row = absurd row
 
-pub written_are_accepted : WrittenAreAccepted
+pub written_are_accepted : FileCertificatesAreAccepted
 written_are_accepted bytes old new job words found c row said e known short then_old then_new controller name answered held then_row =
     let a = certificate_fits bytes old new job words found c row said e known in
     let alone = certificate_alone c in

@@ -39,7 +39,8 @@ use Rattle.dsv_report.specs.declared.stop.CertificateFault.TheVariants as fault
 use Rattle.dsv_report.specs.declared.stop.Stop.{Stop}
 use Rattle.dsv_report.specs.declared.stop.Stop.TheVariants as stop
 use Rattle.dsv_report.specs.Stops.{Outcome}
-use Rattle.dsv_cli.specs.Accepted.{IsAcceptance, WrittenLoopsAreAccepted}
+use Rattle.dsv_cli.specs.FamilyLaws.{LoopCertificatesAreAccepted}
+use Rattle.dsv_cli.specs.Accepted.{IsAcceptance}
 use Rattle.dsv_cli.specs.Checking.{IsUnreadCertificate, stop_of_check}
 use Rattle.dsv_cli.specs.Headline.{longest_file, longest_certificate, CameOf, HasWords, IsControllerOf, IsSpelled, IsUnread}
 use Rattle.dsv_cli.specs.LoopChecks.{IsCertificateOf, IsOfLoopCertificate, IsLoopCheckRow}
@@ -220,7 +221,7 @@ check_accepts controller plant written c f s old new cn pn name (Err why) held p
     (in_file (λ bytes. IsPlantOf bytes row.p) old pn plant plant_held row.files.plant_file)
     (subst (λ x. IsLoopChecked row.c row.p x (Err row.check.0)) is row.check.1)
 
-pub written_loops_are_accepted : WrittenLoopsAreAccepted
+pub written_loops_are_accepted : LoopCertificatesAreAccepted
 written_loops_are_accepted controller plant old new asked words found c held plant_held row said e known short then_old then_new cn pn name answered h k w then_row =
     let wanted = of_wanted asked.certified (table_of (loop_job_with asked words) found) c e in
     let a = certificate_fits controller plant old new asked words found c held plant_held row (words_said old new asked words found controller held said) wanted known in

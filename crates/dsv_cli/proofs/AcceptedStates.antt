@@ -37,7 +37,8 @@ use Rattle.dsv_report.specs.declared.stop.CertificateFault.{CertificateFault}
 use Rattle.dsv_report.specs.declared.stop.CertificateFault.TheVariants as fault
 use Rattle.dsv_report.specs.declared.stop.Stop.TheVariants as stop
 use Rattle.dsv_report.specs.Stops.{Outcome}
-use Rattle.dsv_cli.specs.Accepted.{IsFormAcceptance, form_check, WrittenStateFormsAreAccepted}
+use Rattle.dsv_cli.specs.FamilyLaws.{StateFormsAreAccepted}
+use Rattle.dsv_cli.specs.Accepted.{IsFormAcceptance, form_check}
 use Rattle.dsv_cli.specs.Checking.{IsUnreadCertificate}
 use Rattle.dsv_cli.specs.Headline.{longest_file, longest_certificate, IsSpelled}
 use Rattle.dsv_cli.specs.States.{IsStateController, IsOfNamedForm, IsOfStateTask, IsStateRow}
@@ -157,7 +158,7 @@ answers bytes written asked c f spelled old new file name (Err (stop.Certificate
     absurd (text_accepts old new name written (certificate_alone c) line fault.TooLong k spelled row.2)
 answers bytes written asked c f spelled old new file name (Err why) held k row = absurd row.2.2
 
-pub written_states_are_accepted : WrittenStateFormsAreAccepted
+pub written_states_are_accepted : StateFormsAreAccepted
 written_states_are_accepted bytes old new asked words found c held row e known short then_old then_new file name answered h k then_row =
     let s = row.2.0 in
     let shown = task_shows old asked.task s (state_job_with asked words) found c row.2.2 e in

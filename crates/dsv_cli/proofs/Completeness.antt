@@ -17,6 +17,7 @@ use Rattle.dsv_command.specs.Cascades.{AskedCascade}
 use Rattle.dsv_command.specs.Ellipsoids.{EllipsoidSource, offered, sought, AskedEllipsoid}
 use Rattle.dsv_command.specs.CascadeLoops.{AskedCascadeLoop}
 use Rattle.dsv_command.specs.Loops.{AskedLoop}
+use Rattle.dsv_cli.specs.FamilyLaws.{FamiliesAreDecided}
 use Rattle.dsv_cli.specs.CascadeLoops.{IsCascadeLoopRow}
 use Rattle.dsv_command.specs.States.{StateTask, decides_states, checks_form, seeks_form, searches_states, measures_states, simulates_states, AskedStates}
 use Rattle.dsv_report.specs.Report.{verdict_of, verdict_status, stop_status}
@@ -24,7 +25,7 @@ use Rattle.dsv_report.specs.declared.verdict.Verdict.{Verdict}
 use Rattle.dsv_report.specs.declared.verdict.Verdict.TheVariants.{Successful, Failed, Inconclusive, Simulation, Plain}
 use Rattle.dsv_cli.specs.Cascades.{IsCascadeRow}
 use Rattle.dsv_cli.specs.Checking.{IsUnreadCertificate, stop_of_check}
-use Rattle.dsv_cli.specs.Completeness.{IsVerdict, IsRefusedByNone, IsDecidedBy, AreDecided}
+use Rattle.dsv_cli.specs.Completeness.{IsVerdict, IsRefusedByNone, IsDecidedBy}
 use Rattle.dsv_cli.specs.Ellipsoids.{NamesNoOffer, IsEllipsoidRow}
 use Rattle.dsv_cli.specs.Headline.{IsUnread, IsRow, IsCheckRow}
 use Rattle.dsv_cli.specs.LoopChecks.{IsLoopCheckRow}
@@ -167,7 +168,7 @@ loop_check_rose old new controller plant name which (inl h) = loop_rose old new 
 loop_check_rose old new controller plant name which (inr (inl h)) = certificate_rose old new name which h.3
 loop_check_rose old new controller plant name which (inr (inr h)) = absurd (no_check_fault h.check.0 which h.check.2)
 
-pub are_decided : AreDecided
+pub are_decided : FamiliesAreDecided
 are_decided = record {
   jobs = λ told old new job. decided old new (IsRow told old new job) (job_rose told old new job);
   cascades = λ old new asked. decided old new (IsCascadeRow old new asked) (cascade_rose old new asked);

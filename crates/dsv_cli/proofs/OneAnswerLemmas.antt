@@ -7,10 +7,11 @@ use Rattle.dsv_report.specs.declared.answers.Answer.TheVariants as answer
 use Rattle.dsv_report.specs.declared.stop.Stop.TheVariants as stop
 use Rattle.dsv_report.specs.Stops.{Outcome}
 use Rattle.dsv_quantiser.specs.QuantisedView.{QuantisedView}
+use Rattle.dsv_cli.specs.FamilyLaws.{FilesHaveOneAnswer}
 use Rattle.dsv_cli.specs.Headline.{IsRow, AsksOver}
 use Rattle.dsv_bounded.specs.RunAnswers.{IsTooLarge}
 use Rattle.dsv_token.specs.declared.refusal.FileRefusal.TheVariants as text
-use Rattle.dsv_cli.specs.OneAnswer.{SameAnswer, IsSettled, HaveOneAnswer}
+use Rattle.dsv_cli.specs.OneAnswer.{SameAnswer, IsSettled}
 use Rattle.dsv_cli.proofs.OneAnswerStages.{Stage, long, faulty, refused, in_words, IsStage, one_stage}
 use Rattle.dsv_cli.proofs.OneAnswerTasks.{IsAnswerTo, one_task}
 use Rattle.dsv_realise.specs.Controllers.{of_controller}
@@ -126,7 +127,7 @@ one_of_stage task (faulty r) a b x y h k = rw (h, k) refl
 one_of_stage task (refused r) a b x y h k = rw (h, k) refl
 one_of_stage task (in_words c quantised) a b x y h k = one_task c task quantised a b x y h k
 
-pub one_answer : HaveOneAnswer
+pub one_answer : FilesHaveOneAnswer
 one_answer bytes old new then_old then_new job a b x y h k =
     let r = reached_by bytes old new job a x h in
     let s = reached_by bytes then_old then_new job b y k in

@@ -7,7 +7,7 @@ use Rattle.dsv_forms.specs.declared.offers.FormOffer.TheVariants as offered
 use Rattle.dsv_closed_forms.specs.ClosedForm.{closed_form_of, are_within, second_limit}
 use Rattle.dsv_cli.specs.Suffixes.{IsSuffix}
 use Rattle.dsv_lyapunov.specs.declared.kept.KeptForm.{KeptForm}
-use Rattle.dsv_command.specs.Jobs.{Task, decides, Asked}
+use Rattle.dsv_command.specs.Jobs.{Task, Asked}
 use Rattle.dsv_names.specs.declared.property.RootProperty.{RootProperty}
 use Rattle.dsv_report.specs.Printing.{HasPlaces}
 use Rattle.dsv_report.specs.declared.answers.Answer.TheVariants as answer

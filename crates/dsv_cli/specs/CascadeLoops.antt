@@ -38,8 +38,8 @@ HasNoSeriesPlant old new asked why = (first : ControllerView) × (later : List C
     × HaveControllers old asked.file asked.later first later
     × IsPlantUnread old new asked.plant why
 
--- The row of each answer to a job for the loop of a cascade, where the files were `old` and are
--- `new`. Only NoMemory has no stated cause.
+-- For private contracts: the row of each answer to a job for the loop of a cascade, where the files
+-- were `old` and are `new`.
 abbrev pub IsCascadeLoopRow : FilesSeen → FilesSeen → AskedCascadeLoop → Outcome → Type 0
 IsCascadeLoopRow old new asked (Ok found) = IsOfCascadeLoop old asked (Ok found)
 IsCascadeLoopRow old new asked (Err stop.NoMemory) = Unit {0}

@@ -1,4 +1,4 @@
--- What a run answers to a job for a cascade: a table of its own, one row for each answer.
+-- What the files of a cascade have, what its sections come to, and the rows of its answers.
 use Rattle.std.specs.Prelude.{◌≡◌, ◌<◌, ◌≤◌, ◌+◌, ℕ, suc, List, [], ◌∷◌, length, take, slice_get}
 use Rattle.std.specs.Prelude.{true, false, Some, Ok, Err}
 use Rattle.dsv_base.specs.Counts.{Rose}
@@ -119,7 +119,7 @@ IsOfSeries (searches_overflow samples conflicts) c found =
 IsOfSeries measures_series c found = IsOfGain IsNotSought (of_cascade c) found
 IsOfSeries (simulates_series inputs) c found = IsOfRun (of_cascade c) inputs found
 
--- ---- the table
+-- ---- the rows, for private contracts
 -- the task of a job came to this for the cascade of its files
 abbrev pub IsTaskRow : FilesSeen → AskedCascade → Outcome → Type 0
 IsTaskRow old asked found = (c : CascadeView)

@@ -1,5 +1,5 @@
--- The stages of a run and what each gives; private contracts alone cite it. `Headline` has the
--- table that they lead to.
+-- The stages of a run and what each gives. The table (`JobRows`) cites what properties, sets and
+-- timing come to; the rest is for private contracts.
 use Rattle.std.specs.Prelude.{◌≡◌, ◌≤◌, ℕ, Bool, true, false, List, Ok, Err, ℤ}
 use Rattle.dsv_names.specs.declared.property.RootProperty.{RootProperty}
 use Rattle.dsv_names.specs.declared.property.RootProperty.TheVariants as property

@@ -1,5 +1,5 @@
--- The stages of a check of a certificate and what each gives: of them `States` cites
--- `IsUnreadCertificate`, and else private contracts alone do.
+-- The stages of a check of a certificate and what each gives: of them the table (`JobRows`) cites
+-- `IsUnreadCertificate` and `IsOfCertificate`, and private contracts the others.
 use Rattle.std.specs.Prelude.{◌≡◌, ℕ, ◌+◌, ◌<◌, ◌≤◌, List, length, Some, Ok, Err}
 use Rattle.dsv_base.specs.Counts.{Rose}
 use Rattle.dsv_base.specs.Seen.{FilesSeen}

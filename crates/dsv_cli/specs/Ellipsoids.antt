@@ -117,8 +117,8 @@ abbrev pub IsOfEllipsoidFile : FilesSeen → FilesSeen → AskedEllipsoid → Ou
 IsOfEllipsoidFile old new asked found = (c : ControllerView) × IsFileOf old asked.file c
     × IsOfEllipsoid old new asked c found
 
--- The row of each answer to a job of an ellipsoid, where the files were `old` and are `new`. Only
--- NoMemory has no stated cause.
+-- For private contracts: the row of each answer to a job of an ellipsoid, where the files were
+-- `old` and are `new`.
 abbrev pub IsEllipsoidRow : FilesSeen → FilesSeen → AskedEllipsoid → Outcome → Type 0
 IsEllipsoidRow old new asked (Err stop.NoMemory) = Unit {0}
 IsEllipsoidRow old new asked (Err (stop.FileRefused r)) =

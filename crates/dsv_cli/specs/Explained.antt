@@ -1,4 +1,4 @@
--- What a run answers to a list of arguments.
+-- What a run says of the words, and, for private contracts, its rows by the families of jobs.
 use Rattle.std.specs.Prelude.{◌≡◌, ◌⊎◌, ℕ, Option, Some, None, Err}
 use Rattle.dsv_base.specs.Seen.{FilesSeen}
 use Rattle.dsv_certfile.specs.declared.job.CertWords.{CertWords}
@@ -15,9 +15,7 @@ use Rattle.dsv_cli.specs.LoopChecks.{IsLoopCheckRow}
 use Rattle.dsv_cli.specs.Loops.{IsLoopRow, SaysLoop}
 use Rattle.dsv_cli.specs.States.{IsStateRow, SaysStates}
 
--- Arguments that ask for nothing come to Usage, and a job or a check to what has its row. Generated
--- controllers are answered by their tally, with the files untouched. Only NoMemory has no stated
--- cause.
+-- For private contracts: the table's rows (`JobRows`, `IsAnswered`), by the families of jobs.
 abbrev pub IsExplained : FilesSeen → FilesSeen → Option Request → Outcome → Type 0
 IsExplained old new None found =
     (found ≡ Err stop.NoMemory) ⊎ ((found ≡ Err stop.Usage) × (new ≡ old))

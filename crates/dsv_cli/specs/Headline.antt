@@ -1,4 +1,5 @@
--- What a run answers: a table, one row for each answer.
+-- What the rows of a run's answers say of files and of what is written; and, for private contracts,
+-- the rows of jobs on one file and of checks, from which those of the table (`JobRows`) follow.
 use Rattle.std.specs.Prelude.{◌≡◌, ◌≢◌, ◌⊎◌, ℕ, ◌+◌, ◌^◌, ◌<◌}
 use Rattle.std.specs.Prelude.{
   ◌≤◌,
@@ -329,7 +330,8 @@ IsUnread told old new name (stop.ReadFault file.Controller) =
 IsUnread told old new name stop.NoMemory = Unit {0}
 IsUnread told old new name other = ⊥
 
--- The row of each answer to a job on a file with these bytes, where they are told.
+-- For private contracts: the row of each answer to a job on a file with these bytes, where they are
+-- told.
 abbrev pub IsRow : Option (List ℕ) → FilesSeen → FilesSeen → Asked → Outcome → Type 0
 IsRow told old new job (Ok (answer.Falls poly offer fall)) =
     TableRow told (Decides job.task) (λ bytes. IsTested job bytes (Ok (tested.Poly poly)))
@@ -431,8 +433,8 @@ IsRow told old new job (Err (stop.QuantRefused r)) =
 IsRow told old new job (Err why) = IsUnread told old new job.file why
 IsRow told old new job (Ok other) = ⊥
 
--- The row of each answer to the check of the certificate in the file of this name against the
--- controller in a file with these bytes, where they are told.
+-- For private contracts: the row of each answer to the check of the certificate in the file of this
+-- name against the controller in a file with these bytes, where they are told.
 abbrev pub IsCheckRow : Option (List ℕ) → FilesSeen → FilesSeen → List ℕ → List ℕ → Outcome → Type 0
 IsCheckRow told old new controller name (Ok (answer.Checked certified error)) =
     TableRow told (Unit {0})

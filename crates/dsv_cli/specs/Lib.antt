@@ -9,9 +9,11 @@ pub mod Checking
 pub mod Completeness
 pub mod Ellipsoids
 pub mod Explained
+pub mod FamilyLaws
 pub mod FileBytes
 pub mod Gain
 pub mod Headline
+pub mod JobRows
 pub mod LoopChecks
 pub mod LoopStages
 pub mod Loops

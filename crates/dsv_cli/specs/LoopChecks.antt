@@ -42,9 +42,9 @@ abbrev pub HasNoCertificate : FilesSeen → FilesSeen → List ℕ → List ℕ 
 HasNoCertificate old new controller plant name why = (c : ControllerView) × (p : PlantView)
     × HaveLoop old controller plant c p × IsUnreadCertificate old new name why
 
--- The row of each answer to the check of the certificate in the file of this name against the
--- controller and the plant in two others; the files are read in this order: the controller's, the
--- plant's, the certificate's. Only NoMemory has no stated cause.
+-- For private contracts: the row of each answer to the check of the certificate in the file of this
+-- name against the controller and the plant in two others; the files are read in this order: the
+-- controller's, the plant's, the certificate's.
 abbrev pub IsLoopCheckRow : FilesSeen → FilesSeen → List ℕ → List ℕ → List ℕ → Outcome → Type 0
 IsLoopCheckRow old new controller plant name (Ok found) =
     IsLoopCheck old controller plant name (Ok found)

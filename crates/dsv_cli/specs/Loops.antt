@@ -100,8 +100,8 @@ abbrev pub IsOfLoopFiles : FilesSeen → AskedLoop → Outcome → Type 0
 IsOfLoopFiles old asked found = (c : ControllerView) × (p : PlantView)
     × HaveLoop old asked.file asked.plant c p × IsOfPlant asked.design c p found
 
--- The row of each answer to a job for a loop, where the files were `old` and are `new`. Only
--- NoMemory has no stated cause.
+-- For private contracts: the row of each answer to a job for a loop, where the files were `old` and
+-- are `new`.
 abbrev pub IsLoopRow : FilesSeen → FilesSeen → AskedLoop → Outcome → Type 0
 IsLoopRow old new asked (Ok found) = IsOfLoopFiles old asked (Ok found)
 IsLoopRow old new asked (Err why) = HaveNoLoop old new asked.file asked.plant why

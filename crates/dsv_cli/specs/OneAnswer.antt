@@ -5,10 +5,12 @@ use Rattle.dsv_algebra.specs.Vectors.{matrix_of}
 use Rattle.dsv_base.specs.Seen.{FilesSeen}
 use Rattle.dsv_forms.specs.declared.offers.Form.{Form}
 use Rattle.dsv_command.specs.Jobs.{Asked}
+use Rattle.dsv_command.specs.Requests.{on_file, family_of}
+use Rattle.dsv_command.specs.Table.{Request}
 use Rattle.dsv_report.specs.declared.answers.Answer.TheVariants as answer
 use Rattle.dsv_report.specs.declared.stop.Stop.TheVariants as stop
 use Rattle.dsv_report.specs.Stops.{Outcome}
-use Rattle.dsv_cli.specs.Headline.{IsRow}
+use Rattle.dsv_cli.specs.JobRows.{IsAnswered, IsInTable}
 use Rattle.dsv_cli.specs.Proposers.{NeedsNone}
 
 -- The forms have the same places and the same entries.
@@ -40,10 +42,12 @@ IsSettled (Ok (answer.Always candidate logs)) = ⊥
 IsSettled (Ok (answer.NoInvariant kept)) = ⊥
 IsSettled found = NeedsNone found
 
--- Whatever else was read before, two settled answers to one job on a file of these bytes are the
--- same.
+-- Whatever else was read before, two settled answers to one request for the controller in a file,
+-- which has these bytes, are the same; ellipsoids are left out.
 abbrev pub HaveOneAnswer : Type 0
 HaveOneAnswer =
-    (bytes : List ℕ) (old new then_old then_new : FilesSeen) (job : Asked) (a b : Outcome)
-    → IsSettled a → IsSettled b
-    → IsRow (Some bytes) old new job a → IsRow (Some bytes) then_old then_new job b → SameAnswer a b
+    (bytes : List ℕ) (old new then_old then_new : FilesSeen) (request : Request) (job : Asked)
+    (a b : Outcome) → IsInTable request → family_of request ≡ Some (on_file job)
+    → old.held job.file ≡ Some bytes → then_old.held job.file ≡ Some bytes
+    → IsSettled a → IsSettled b → IsAnswered old new (Some request) a
+    → IsAnswered then_old then_new (Some request) b → SameAnswer a b

@@ -1,35 +1,36 @@
 -- What a run of the command is.
-use Rattle.std.specs.Prelude.{◌≡◌, false, Option, IfSome}
+use Rattle.std.specs.Prelude.{◌≡◌, ℕ, false, List, IfSome}
 use Rattle.dsv_base.specs.Seen.{FilesSeen, SinkSeen}
 use Rattle.dsv_certfile.specs.Typed.{IsTyped}
-use Rattle.dsv_command.specs.Reasons.{Reason}
-use Rattle.dsv_command.specs.Requests.{Request}
+use Rattle.dsv_command.specs.Requests.{reason_of, request_of}
 use Rattle.dsv_report.specs.Output.{run_text, certificate_written, asked_by}
 use Rattle.dsv_report.specs.Report.{status_of}
 use Rattle.dsv_cli.specs.declared.command.Done.{Done}
-use Rattle.dsv_cli.specs.Explained.{IsExplained, IsSaid}
+use Rattle.dsv_cli.specs.Explained.{IsSaid}
+use Rattle.dsv_cli.specs.JobRows.{IsAnswered, requested}
 use Rattle.dsv_cli.specs.Headline.{AreKept, IsWritten, IfWhole}
 use Rattle.dsv_cli.specs.Proposers.{IfNoForm, WantsSchurCohn, is_low}
 
--- A run for a request, or for arguments that ask for nothing, and the reason that they ask for, if
--- they do: the files before and after it, the sink before and after it, and how it is done.
-pub record IsDone (old new : FilesSeen) (from to : SinkSeen) (request : Option Request)
-    (reason : Option Reason) (done : Done) : Type 0 where
+-- A run for these arguments: the files before and after it, the sink before and after it, and how
+-- it is done.
+pub record IsDone (old new : FilesSeen) (from to : SinkSeen) (arguments : List (List ℕ))
+    (done : Done) : Type 0 where
   -- the outcome's row in the table holds
-  pub explained : IsExplained old new request done.outcome
+  pub explained : IsAnswered old new (requested arguments) done.outcome
   -- a polynomial of order 0 or 1, or 2 with small coefficients, is always decided
   pub low_orders : IfNoForm done.outcome (λ poly kept. is_low poly ≡ false)
   -- if the Schur-Cohn form is asked for, so is each: by its table at last
-  pub schur_cohn : WantsSchurCohn request → IfNoForm done.outcome (λ poly kept. ⊥)
+  pub schur_cohn : WantsSchurCohn (request_of arguments) → IfNoForm done.outcome (λ poly kept. ⊥)
   -- what a certificate says of the words is what the file's controller has, and so is how many
   -- states the report of a state-space controller says
-  pub said : IsSaid old new request done.outcome done.states done.words
+  pub said : IsSaid old new (request_of arguments) done.outcome done.states done.words
   -- what the files hold is as before
   pub kept : AreKept old new
   -- the certificate that the job wants, or the reason that is asked for, or else the outcome's
   -- text, was written and the status is the outcome's, or the status is 4 and the sink failed
   pub written : IsWritten from to done.status (status_of done.outcome)
-      (run_text reason (asked_by done.states request) done.words done.outcome)
+      (run_text (reason_of arguments) (asked_by done.states (request_of arguments)) done.words
+      done.outcome)
   -- of a certificate that was written whole its types are known
-  pub typed : IfWhole done.status
-      (IfSome (certificate_written (asked_by done.states request) done.words done.outcome) IsTyped)
+  pub typed : IfWhole done.status (IfSome (certificate_written
+      (asked_by done.states (request_of arguments)) done.words done.outcome) IsTyped)

@@ -1,5 +1,4 @@
--- Serves private contracts: what the check of a certificate's form comes to for a state-space
--- controller.
+-- What the check of a certificate's form comes to for a state-space controller.
 use Rattle.std.specs.Prelude.{◌≡◌, Ok, Err}
 use Rattle.dsv_certcheck.specs.StateChecks.{state_check, Offers}
 use Rattle.dsv_certcheck.specs.declared.check_refusal.CheckRefusal.TheVariants as refusal

@@ -134,8 +134,8 @@ abbrev pub IsOfStatesFile : FilesSeen → FilesSeen → AskedStates → Outcome 
 IsOfStatesFile old new asked found = (c : StateFileView) × IsStatesFileOf old asked.file c
     × IsOfStates old new asked c found
 
--- The row of each answer to a job for a state-space controller, where the files were `old` and are
--- `new`. Only NoMemory has no stated cause.
+-- For private contracts: the row of each answer to a job for a state-space controller, where the
+-- files were `old` and are `new`.
 abbrev pub IsStateRow : FilesSeen → FilesSeen → AskedStates → Outcome → Type 0
 IsStateRow old new asked (Err stop.NoMemory) = Unit {0}
 IsStateRow old new asked (Err (stop.StateRefused r)) =

@@ -4,7 +4,7 @@ ghost use Rattle.dsv_certfile.specs.Lawful.{IsWords};
 ghost use Rattle.dsv_certfile.specs.Typed.{IsTyped};
 ghost use Rattle.dsv_certfile.specs.declared.job.CertWords.TheVariants as words_said;
 ghost use Rattle.dsv_command.specs.Asking.{requested_of};
-ghost use Rattle.dsv_command.specs.Requests.{job_in, reason_of, request_of};
+ghost use Rattle.dsv_command.specs.Requests.{job_in, request_of};
 ghost use Rattle.dsv_command.specs.Views.{reason_view};
 ghost use Rattle.dsv_report.specs.AnyJobs.{asked_in};
 ghost use Rattle.dsv_report.specs.Printing.{HasPlaces};
@@ -134,8 +134,7 @@ pub fn run<F: Files, K: Sink>(
     proposers: &mut Proposers,
 ) -> Done
     ensures run { IsDone (F.seen files.old) (F.seen files.new) (K.seen sink.old) (K.seen sink.new)
-        (request_of (map string_bytes arguments.now)) (reason_of (map string_bytes arguments.now))
-        result }
+        (map string_bytes arguments.now) result }
     // What becomes of the proposers: a list that the answer doesn't need stays as it was.
     ensures sets { AreSetsAsked (λ b. b.ptr)
         (λ b. (⟦<dyn InvariantProposer as InvariantProposer>⟧ b.vtable).last b.value)

@@ -34,9 +34,9 @@ pub fn written_state_forms_are_accepted()
     ensures { WrittenStateFormsAreAccepted }
 {}
 
-/// The law of completeness, for proofs: a job on a file whose bytes are told, to which no refusal
-/// of the table applies, is decided or inconclusive (its status is 0, 10 or 20), unless a fault of
-/// a read rose or there was no memory. The call does nothing.
+/// The law of completeness, for proofs: a request about files whose bytes are told, to which no
+/// refusal of the table applies, is decided or inconclusive (its status is 0, 10 or 20), unless a
+/// fault of a read rose or there was no memory. The call does nothing.
 pub fn jobs_are_decided()
     ensures { AreDecided }
 {}

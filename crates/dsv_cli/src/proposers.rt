@@ -1,6 +1,6 @@
 // The proposers that a run may ask, and the command with those that are built in.
 ghost use Rattle.std.specs.Prelude.{◌≡◌, [], ◌∷◌, Some, map, string_bytes};
-ghost use Rattle.dsv_command.specs.Requests.{job_in, reason_of, request_of};
+ghost use Rattle.dsv_command.specs.Requests.{job_in, request_of};
 ghost use Rattle.dsv_invariant.specs.Shapes.{shape_of};
 ghost use Rattle.dsv_template.specs.declared.shape.Shape.{Shape};
 ghost use Rattle.dsv_template.specs.Boxes.{boxes};
@@ -38,8 +38,7 @@ fn run_with<F: Files, K: Sink>(
         → (⟦<dyn InvariantProposer as InvariantProposer>⟧ first.vtable).to_come first.value shape
         ≡ Some (boxes shape) }
     ensures run { IsDone (F.seen files.old) (F.seen files.new) (K.seen sink.old) (K.seen sink.new)
-        (request_of (map string_bytes arguments.now)) (reason_of (map string_bytes arguments.now))
-        result }
+        (map string_bytes arguments.now) result }
     // No set: each of the first 32 boxes was judged, and one that is good has a search that gave
     // up.
     ensures boxes { IfNoInvariant result.outcome (AreOfJob
@@ -67,8 +66,7 @@ pub fn run_with_built_in<F: Files, K: Sink>(
     sink: &mut K,
 ) -> Done
     ensures run { IsDone (F.seen files.old) (F.seen files.new) (K.seen sink.old) (K.seen sink.new)
-        (request_of (map string_bytes arguments.now)) (reason_of (map string_bytes arguments.now))
-        result }
+        (map string_bytes arguments.now) result }
     // No set: each of the first 32 boxes was judged, and one that is good has a search that gave
     // up.
     ensures boxes { IfNoInvariant result.outcome (AreOfJob

@@ -10,7 +10,7 @@ use Rattle.dsv_command.specs.Parts.{PartView}
 use Rattle.dsv_command.specs.Values.{Values}
 use Rattle.dsv_command.specs.Table.{JobFiles, controller, cascade, states, plant_loop, cascade_loop, Task, decides, searches, measures_gain, simulates, checks_form, seeks_form, Request, does, checks, generates, kind_of, has_cell, is_checked}
 
-job_known : (files : JobFiles) (design : Design) (certified : Bool) (task : Task) → has_cell (kind_of files) task ≡ true → IsSome (job_family files design certified task)
+pub job_known : (files : JobFiles) (design : Design) (certified : Bool) (task : Task) → has_cell (kind_of files) task ≡ true → IsSome (job_family files design certified task)
 job_known (controller file) design certified (checks_form name) h = absurd (cc)
 job_known (controller file) design certified seeks_form h = absurd (cc)
 job_known (controller file) design certified task h = refl
@@ -31,7 +31,7 @@ job_known (plant_loop file plant) design certified task h = absurd (cc)
 job_known (cascade_loop file later plant) design certified (decides Stability schur_cohn) h = refl
 job_known (cascade_loop file later plant) design certified task h = absurd (cc)
 
-check_known : (name : List ℕ) (files : JobFiles) → is_checked (kind_of files) ≡ true → IsSome (check_request name files)
+pub check_known : (name : List ℕ) (files : JobFiles) → is_checked (kind_of files) ≡ true → IsSome (check_request name files)
 check_known name (controller file) h = refl
 check_known name (plant_loop file plant) h = refl
 check_known name files h = absurd (cc)

@@ -57,6 +57,7 @@ pub record Job : Type 0 where
   pub design : Design
   pub certified : Bool
 
+-- what a list of arguments asks for
 pub data Request : Type 0 where
   does : Job → Request
   -- the certificate in the file that is named last is checked against what is in these files

@@ -2,18 +2,21 @@ use Rattle.std.proofs.Common.{rules, ◌≡◌, Some, None, map, string_bytes, s
 use Rattle.std.specs.Prelude.{IfSome}
 use Rattle.dsv_certfile.specs.Typed.{IsTyped}
 use Rattle.dsv_command.specs.Asking.{requested_of}
+use Rattle.dsv_command.specs.Views.{reason_view}
 use Rattle.dsv_command.specs.Requests.{job_in, reason_of, request_of}
 use Rattle.dsv_report.specs.Output.{output_of, certificate_written}
 use Rattle.dsv_report.specs.Report.{status_of}
 use Rattle.dsv_cli.specs.Headline.{FileBecomes, IsWritten, IfWhole}
 use Rattle.dsv_cli.specs.Proposers.{AreSetsAsked, IsAsked, WantsForm, WantsSet, WantsSchurCohn}
-use Rattle.dsv_cli.specs.Runs.{IsDone}
+use Rattle.dsv_cli.specs.Explained.{IsExplained}
+use Rattle.dsv_cli.proofs.RunRows.{done_by, asks_why, asks_nothing}
 use Rattle.dsv_cli.proofs.command.run.Goals as goal
 
 pub returns-in-Ok-Asks-clause-run : goal.returns-in-Ok-Asks-clause-run
 returns-in-Ok-Asks-clause-run g c =
-    let e : Some (requested_of c.in-Ok-Asks.request) ≡ request_of (map string_bytes c.args.arguments.now) = search rules in
-    let none : None ≡ reason_of (map string_bytes c.args.arguments.now) = search rules in
+    let arguments = map string_bytes c.args.arguments.now in
+    let e : Some (requested_of c.in-Ok-Asks.request) ≡ request_of arguments = search rules in
+    let none : None ≡ reason_of arguments = search rules in
     let found = c.request_outcome-found in
     let f = found.ensures in
     let put = c.put_found in
@@ -21,18 +24,20 @@ returns-in-Ok-Asks-clause-run g c =
     let heading = c.heading_of-heading.ensures in
     let from = g.K.Sink.seen c.args.sink.now in
     let to = g.K.Sink.seen put.new.sink in
+    let before = g.F.Files.seen c.args.files.now in
+    let after = g.F.Files.seen found.new.files in
     let written = subst (λ asked. IsWritten from to put.result.status (status_of found.result.outcome) (output_of asked found.result.words found.result.outcome)) heading p.written in
     let typed = subst (λ asked. IfWhole put.result.status (IfSome (certificate_written asked found.result.words found.result.outcome) IsTyped)) heading p.typed in
-    subst (λ request. IsDone (g.F.Files.seen c.args.files.now) (g.F.Files.seen found.new.files) from to request (reason_of (map string_bytes c.args.arguments.now)) put.result) e (
-    subst (λ reason. IsDone (g.F.Files.seen c.args.files.now) (g.F.Files.seen found.new.files) from to (Some (requested_of c.in-Ok-Asks.request)) reason put.result) none (record {
-      explained = rw p.outcome f.explained;
+    let row : IsExplained before after (request_of arguments) put.result.outcome = subst (λ request. IsExplained before after request put.result.outcome) e (rw p.outcome f.explained) in
+    let asked = done_by before after from to arguments (Some (requested_of c.in-Ok-Asks.request)) None put.result e none row in
+    asked (record {
       low_orders = rw p.outcome f.low_orders;
       schur_cohn = rw p.outcome f.schur_cohn;
       said = rw p.outcome (rw p.states (rw p.words f.said));
       kept = f.kept;
       written = rw p.outcome (rw p.words (rw p.states written));
       typed = rw p.outcome (rw p.words (rw p.states typed));
-    }))
+    })
 
 pub returns-in-Ok-Asks-clause-sets : goal.returns-in-Ok-Asks-clause-sets
 returns-in-Ok-Asks-clause-sets g c =
@@ -63,3 +68,19 @@ returns-in-Ok-Asks-clause-unneeded_forms g c =
     let e : Some (requested_of c.in-Ok-Asks.request) ≡ request_of (map string_bytes c.args.arguments.now) = search rules in
     let found = c.request_outcome-found in
     subst (λ request. (WantsForm request → ⊥) → found.new.proposers.forms.items ≡ c.args.proposers.now.forms.items) e found.ensures.unneeded_forms
+
+pub returns-in-Ok-Explains-clause-run : goal.returns-in-Ok-Explains-clause-run
+returns-in-Ok-Explains-clause-run g c =
+    let arguments = map string_bytes c.args.arguments.now in
+    let e : None ≡ request_of arguments = search rules in
+    let n : Some (reason_view c.in-Ok-Explains.reason) ≡ reason_of arguments = search rules in
+    let p = c.put_explained.ensures in
+    asks_why (g.F.Files.seen c.args.files.now) (g.K.Sink.seen c.args.sink.now) (g.K.Sink.seen c.put_explained.new.sink) arguments (reason_view c.in-Ok-Explains.reason) c.put_explained.result e n p.outcome p.words p.states p.written
+
+pub returns-in-Ok-AsksNothing-clause-run : goal.returns-in-Ok-AsksNothing-clause-run
+returns-in-Ok-AsksNothing-clause-run g c =
+    let arguments = map string_bytes c.args.arguments.now in
+    let e : None ≡ request_of arguments = search rules in
+    let n : None ≡ reason_of arguments = search rules in
+    let p = c.put_refusal.ensures in
+    asks_nothing (g.F.Files.seen c.args.files.now) (g.K.Sink.seen c.args.sink.now) (g.K.Sink.seen c.put_refusal.new.sink) arguments c.put_refusal.result e n p.outcome p.words p.states p.written

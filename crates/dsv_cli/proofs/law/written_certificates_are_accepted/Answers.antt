@@ -1,5 +1,5 @@
-use Rattle.dsv_cli.proofs.AcceptedLemmas.{written_are_accepted}
+use Rattle.dsv_cli.proofs.TableLaws.{written_accepted}
 use Rattle.dsv_cli.proofs.law.written_certificates_are_accepted.Goals as goal
 
 pub returns : goal.returns
-returns c = written_are_accepted
+returns c = written_accepted

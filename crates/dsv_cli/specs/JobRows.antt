@@ -1,0 +1,292 @@
+-- What a run answers to a job, stage by stage: its files in their order, the evidence that the task
+-- names, the words, and at last the task.
+use Rattle.std.specs.Prelude.{◌≡◌, ◌⊎◌, ℕ, Bool, List, [], ◌∷◌, true, false, Ok, Err}
+use Rattle.std.specs.Prelude.{Option, Some, None, if◌then◌else◌}
+use Rattle.std.specs.Result.{result_ok}
+use Rattle.std.specs.Str.{bytes_eq}
+use Rattle.dsv_base.specs.Seen.{FilesSeen}
+use Rattle.dsv_names.specs.declared.design.Design.{Design}
+use Rattle.dsv_names.specs.declared.property.RootProperty.TheVariants.{Stability}
+use Rattle.dsv_reader.specs.Controllers.{ControllerView}
+use Rattle.dsv_reader.specs.Plants.{PlantView}
+use Rattle.dsv_quantiser.specs.Modes.{BecomesWords}
+use Rattle.dsv_quantiser.specs.QuantisedView.{QuantisedView}
+use Rattle.dsv_realise.specs.Controllers.{of_controller}
+use Rattle.dsv_realise.specs.SubjectView.{SubjectView}
+use Rattle.dsv_cascade.specs.Cascades.{CascadeView, sections_of}
+use Rattle.dsv_cascade.specs.Sections.{IsCascade}
+use Rattle.dsv_cascade.specs.Subjects.{of_cascade}
+use Rattle.dsv_cascade.specs.Stability.{AreJudged}
+use Rattle.dsv_poly_table.specs.Sections.{AreTabled}
+use Rattle.dsv_state_file.specs.StateFiles.{StateFileView}
+use Rattle.dsv_state_space.specs.Quantising.{BecomesStates}
+use Rattle.dsv_state_space.specs.StateView.{StateView}
+use Rattle.dsv_state_space.specs.Subjects.{of_states}
+use Rattle.dsv_loop.specs.Loops.{loop_of}
+use Rattle.dsv_certfile.specs.declared.certificate.Certificate.{Certificate}
+use Rattle.dsv_certfile.specs.declared.ellipsoid.Ellipsoid.{Ellipsoid}
+use Rattle.dsv_command.specs.Table.{JobFiles, controller, cascade, states, plant_loop}
+use Rattle.dsv_command.specs.Table.{cascade_loop, Task, decides, checks_time, writes, searches}
+use Rattle.dsv_command.specs.Table.{seeks_set, measures_gain, simulates, checks_form, seeks_form}
+use Rattle.dsv_command.specs.Table.{checks_ellipsoid, seeks_ellipsoid, Request, does, checks}
+use Rattle.dsv_command.specs.Table.{generates, kind_of, has_cell, is_checked}
+use Rattle.dsv_command.specs.Finding.{asked_of}
+use Rattle.dsv_command.specs.Requests.{why_word}
+use Rattle.dsv_report.specs.declared.answers.Answer.TheVariants as answer
+use Rattle.dsv_report.specs.declared.answers.OutputError.{OutputError}
+use Rattle.dsv_report.specs.declared.stop.Stop.{Stop}
+use Rattle.dsv_report.specs.declared.stop.Stop.TheVariants as stop
+use Rattle.dsv_report.specs.Stops.{Outcome}
+use Rattle.dsv_cli.specs.Cascades.{IsFileOf, AreControllers, BecomeWords, IsNoCascade}
+use Rattle.dsv_cli.specs.Cascades.{IsLaterUnread}
+use Rattle.dsv_cli.specs.Causes.{IsOfProperty, IsOfSets, IsOfTiming}
+use Rattle.dsv_cli.specs.Checking.{IsUnreadCertificate, IsOfCertificate}
+use Rattle.dsv_cli.specs.Ellipsoids.{IsOfferOf, IsUnreadOffer, IsOfOffer, IsOfSoughtEllipsoid}
+use Rattle.dsv_cli.specs.Gain.{IsErrorOf, IsNotSought, IsOfGain}
+use Rattle.dsv_cli.specs.Headline.{IsUnread, IsOfGeneration}
+use Rattle.dsv_cli.specs.LoopChecks.{IsCertificateOf, IsOfLoopCertificate}
+use Rattle.dsv_cli.specs.Loops.{IsPlantFileOf, IsPlantUnread, IsOfLoop, HasFewCoefficients}
+use Rattle.dsv_cli.specs.Searching.{IsOfFormula, IsOfSearch}
+use Rattle.dsv_cli.specs.Simulating.{IsOfRun}
+use Rattle.dsv_cli.specs.StateStages.{IsOfForm}
+use Rattle.dsv_cli.specs.States.{IsStatesFileOf, IsStatesUnread, IsOfSoughtForm, IsOfStateTable}
+
+-- ---- the files
+-- what the files of a job have the texts of
+pub data JobTexts : Type 0 where
+  of_one : ControllerView → JobTexts
+  -- the first section and the later ones
+  of_sections : ControllerView → List ControllerView → JobTexts
+  of_state_file : StateFileView → JobTexts
+  with_plant : ControllerView → PlantView → JobTexts
+  sections_with_plant : ControllerView → List ControllerView → PlantView → JobTexts
+
+-- the files have these texts
+abbrev pub HaveTexts : FilesSeen → JobFiles → JobTexts → Type 0
+HaveTexts old (controller name) (of_one c) = IsFileOf old name c
+HaveTexts old (cascade name later) (of_sections c cs) =
+    IsFileOf old name c × AreControllers old later cs
+HaveTexts old (states name) (of_state_file c) = IsStatesFileOf old name c
+HaveTexts old (plant_loop name plant) (with_plant c p) =
+    IsFileOf old name c × IsPlantFileOf old plant p
+HaveTexts old (cascade_loop name later plant) (sections_with_plant c cs p) =
+    IsFileOf old name c × AreControllers old later cs × IsPlantFileOf old plant p
+HaveTexts old files texts = ⊥
+
+-- what keeps the first file from being the one that it has to be, or a later one, where those
+-- before it are
+abbrev pub AreUnread : FilesSeen → FilesSeen → JobFiles → Stop → Type 0
+AreUnread old new (controller name) why = IsUnread (old.held name) old new name why
+AreUnread old new (cascade name later) why = IsUnread (old.held name) old new name why
+    ⊎ ((c : ControllerView) × IsFileOf old name c × IsLaterUnread old new later why)
+AreUnread old new (states name) why = IsStatesUnread old new name why
+AreUnread old new (plant_loop name plant) why = IsUnread (old.held name) old new name why
+    ⊎ ((c : ControllerView) × IsFileOf old name c × IsPlantUnread old new plant why)
+AreUnread old new (cascade_loop name later plant) why = IsUnread (old.held name) old new name why
+    ⊎ (((c : ControllerView) × IsFileOf old name c × IsLaterUnread old new later why)
+    ⊎ ((c : ControllerView) × (cs : List ControllerView) × IsFileOf old name c
+    × AreControllers old later cs × IsPlantUnread old new plant why))
+
+-- ---- what a task names
+pub data Evidence : Type 0 where
+  none : Evidence
+  certificate : Certificate → Evidence
+  ellipsoid : Ellipsoid → Evidence
+
+-- the file that the task names, if it does, has this
+abbrev pub HasEvidence : FilesSeen → Task → Evidence → Type 0
+HasEvidence old (checks_form name) (certificate c) = IsCertificateOf old name c
+HasEvidence old (checks_form name) other = ⊥
+HasEvidence old (checks_ellipsoid name) (ellipsoid offer) = IsOfferOf old name offer
+HasEvidence old (checks_ellipsoid name) other = ⊥
+HasEvidence old task none = Unit {0}
+HasEvidence old task other = ⊥
+
+-- what keeps the file that the task names from having it
+abbrev pub IsEvidenceUnread : FilesSeen → FilesSeen → Task → Stop → Type 0
+IsEvidenceUnread old new (checks_form name) why = IsUnreadCertificate old new name why
+IsEvidenceUnread old new (checks_ellipsoid name) why = IsUnreadOffer old new name why
+IsEvidenceUnread old new task why = ⊥
+
+-- ---- the words
+pub data JobWords : Type 0 where
+  of_words : QuantisedView → JobWords
+  of_series : CascadeView → JobWords
+  of_state_words : StateView → JobWords
+
+-- what the files have becomes these words
+abbrev pub BecomeJobWords : Design → JobTexts → JobWords → Type 0
+BecomeJobWords design (of_one c) (of_words q) = BecomesWords c design (Ok q)
+BecomeJobWords design (with_plant c p) (of_words q) = BecomesWords c design (Ok q)
+BecomeJobWords design (of_sections c cs) (of_series s) =
+    BecomesWords c design (Ok s.first) × BecomeWords design cs s.later × IsCascade s
+BecomeJobWords design (sections_with_plant c cs p) (of_series s) =
+    BecomesWords c design (Ok s.first) × BecomeWords design cs s.later × IsCascade s
+BecomeJobWords design (of_state_file c) (of_state_words s) =
+    BecomesStates c design.rounding design.overflow (Ok s)
+BecomeJobWords design texts words = ⊥
+
+-- why a controller becomes no words
+abbrev pub IsWordless : Design → ControllerView → Stop → Type 0
+IsWordless design c (stop.QuantRefused r) = BecomesWords c design (Err r)
+IsWordless design c other = ⊥
+
+-- why it becomes none
+abbrev pub AreWordless : Design → JobTexts → Stop → Type 0
+AreWordless design (of_one c) why = IsWordless design c why
+AreWordless design (with_plant c p) why = IsWordless design c why
+AreWordless design (of_sections c cs) why = IsNoCascade design c cs why
+AreWordless design (sections_with_plant c cs p) why = IsNoCascade design c cs why
+AreWordless design (of_state_file c) (stop.StateQuantRefused r) =
+    BecomesStates c design.rounding design.overflow (Err r)
+AreWordless design (of_state_file c) other = ⊥
+
+-- ---- the task
+-- what runs in words
+abbrev pub subject_of : JobWords → SubjectView
+subject_of (of_words q) = of_controller q
+subject_of (of_series s) = of_cascade s
+subject_of (of_state_words s) = of_states s
+
+-- what is said of how far outputs are from those of exact runs: of controllers alone
+abbrev pub ErrorIs : JobWords → OutputError → Type 0
+ErrorIs (of_words q) error = IsErrorOf q error
+ErrorIs other error = IsNotSought error
+
+-- the closed forms or the tables of a cascade's sections
+abbrev pub IsOfSections : Bool → CascadeView → Outcome → Type 0
+IsOfSections false s (Ok (answer.OfSections found)) = AreJudged (sections_of s) found
+IsOfSections true s (Ok (answer.OfSectionTables found)) = AreTabled (sections_of s) found
+IsOfSections schur_cohn s (Err stop.NoMemory) = Unit {0}
+IsOfSections schur_cohn s other = ⊥
+
+-- what deciding a property of roots comes to: of a controller's polynomial, of each section's, of
+-- the states', or of a loop's
+abbrev pub IsOfDecision : Task → JobTexts → JobWords → Outcome → Type 0
+IsOfDecision (decides property schur_cohn) (of_one c) (of_words q) found =
+    IsOfProperty property schur_cohn q found
+IsOfDecision (decides Stability schur_cohn) (of_sections c cs) (of_series s) found =
+    IsOfSections schur_cohn s found
+IsOfDecision (decides Stability true) (of_state_file c) (of_state_words s) found =
+    IsOfStateTable s found
+IsOfDecision (decides Stability schur_cohn) (with_plant c p) (of_words q) found =
+    IsOfLoop (loop_of (q ∷ []) c.sample_time p) found × HasFewCoefficients found
+IsOfDecision (decides Stability schur_cohn) (sections_with_plant c cs p) (of_series s) found =
+    IsOfLoop (loop_of (sections_of s) c.sample_time p) found
+IsOfDecision task texts words found = ⊥
+
+-- what a task comes to that a controller alone has
+abbrev pub IsOfOne : Task → Evidence → ControllerView → QuantisedView → Outcome → Type 0
+IsOfOne checks_time evidence c q found = IsOfTiming c q found
+IsOfOne (writes property samples) evidence c q found =
+    IsOfFormula property samples (of_controller q) found
+IsOfOne (seeks_set conflicts) evidence c q found = IsOfSets conflicts q found
+IsOfOne (checks_ellipsoid name) (ellipsoid offer) c q found = IsOfOffer offer q found
+IsOfOne seeks_ellipsoid evidence c q found = IsOfSoughtEllipsoid q found
+IsOfOne task evidence c q found = ⊥
+
+-- or a state-space controller alone
+abbrev pub IsOfStatesAlone : Task → Evidence → StateView → Outcome → Type 0
+IsOfStatesAlone (checks_form name) (certificate c) s found = IsOfForm s c found
+IsOfStatesAlone seeks_form evidence s found = IsOfSoughtForm s found
+IsOfStatesAlone task evidence s found = ⊥
+
+abbrev pub IsOfKind : Task → Evidence → JobTexts → JobWords → Outcome → Type 0
+IsOfKind task evidence (of_one c) (of_words q) found = IsOfOne task evidence c q found
+IsOfKind task evidence (of_state_file c) (of_state_words s) found =
+    IsOfStatesAlone task evidence s found
+IsOfKind task evidence texts words found = ⊥
+
+-- what a task comes to
+abbrev pub IsTaskDone : Task → Evidence → JobTexts → JobWords → Outcome → Type 0
+IsTaskDone (searches property samples conflicts) evidence texts words found =
+    IsOfSearch property samples conflicts (subject_of words) found
+IsTaskDone measures_gain evidence texts words found =
+    IsOfGain (ErrorIs words) (subject_of words) found
+IsTaskDone (simulates inputs) evidence texts words found =
+    IsOfRun (subject_of words) inputs found
+IsTaskDone (decides property schur_cohn) evidence texts words found =
+    IsOfDecision (decides property schur_cohn) texts words found
+IsTaskDone task evidence texts words found = IsOfKind task evidence texts words found
+
+-- ---- the row
+-- The files have these texts, the task's evidence is this, and they become these words, for which
+-- the task comes to this.
+pub record IsDoneBy (old : FilesSeen) (files : JobFiles) (task : Task) (design : Design)
+    (found : Outcome) : Type 0 where
+  pub texts : JobTexts
+  pub have_texts : HaveTexts old files texts
+  pub evidence : Evidence
+  pub has_evidence : HasEvidence old task evidence
+  pub words : JobWords
+  pub become_words : BecomeJobWords design texts words
+  pub done : IsTaskDone task evidence texts words found
+
+-- the files have texts, and the task's evidence is none
+abbrev pub LacksEvidence : FilesSeen → FilesSeen → JobFiles → Task → Stop → Type 0
+LacksEvidence old new files task why = (texts : JobTexts) × HaveTexts old files texts
+    × IsEvidenceUnread old new task why
+
+-- and has it, but they become no words
+abbrev pub LacksWords : FilesSeen → JobFiles → Task → Design → Stop → Type 0
+LacksWords old files task design why = (texts : JobTexts) × (evidence : Evidence)
+    × HaveTexts old files texts × HasEvidence old task evidence × AreWordless design texts why
+
+-- The row of each answer to a job, where the files were `old` and are `new`. Only NoMemory has no
+-- stated cause.
+abbrev pub IsJobRow : FilesSeen → FilesSeen → JobFiles → Task → Design → Outcome → Type 0
+IsJobRow old new files task design (Ok found) = IsDoneBy old files task design (Ok found)
+IsJobRow old new files task design (Err stop.NoMemory) = Unit {0}
+IsJobRow old new files task design (Err why) = AreUnread old new files why
+    ⊎ (LacksEvidence old new files task why
+    ⊎ (LacksWords old files task design why ⊎ IsDoneBy old files task design (Err why)))
+
+-- ---- checks of certificates
+-- what the check of a certificate comes to, of a controller or of its loop
+abbrev pub IsOfCheck : JobTexts → Certificate → Outcome → Type 0
+IsOfCheck (of_one c) written found = IsOfCertificate c written found
+IsOfCheck (with_plant c p) written found = IsOfLoopCertificate c p written found
+IsOfCheck texts written found = ⊥
+
+-- The files have these texts, the certificate's file spells this, and its check comes to this.
+pub record IsCheckedBy (old : FilesSeen) (files : JobFiles) (name : List ℕ) (found : Outcome)
+    : Type 0 where
+  pub texts : JobTexts
+  pub have_texts : HaveTexts old files texts
+  pub written : Certificate
+  pub spelled : IsCertificateOf old name written
+  pub check : IsOfCheck texts written found
+
+-- The row of each answer to the check of the certificate in the file of this name, where the files
+-- were `old` and are `new`. Only NoMemory has no stated cause.
+abbrev pub IsCheckOfRow : FilesSeen → FilesSeen → JobFiles → List ℕ → Outcome → Type 0
+IsCheckOfRow old new files name (Ok found) = IsCheckedBy old files name (Ok found)
+IsCheckOfRow old new files name (Err stop.NoMemory) = Unit {0}
+IsCheckOfRow old new files name (Err why) = AreUnread old new files why
+    ⊎ (((texts : JobTexts) × HaveTexts old files texts × IsUnreadCertificate old new name why)
+    ⊎ IsCheckedBy old files name (Err why))
+
+-- ---- all requests
+-- the table has such a request: a task of what is asked about, or the check of its certificate
+abbrev pub IsInTable : Request → Type 0
+IsInTable (does job) = has_cell (kind_of job.files) job.task ≡ true
+IsInTable (checks files name) = is_checked (kind_of files) ≡ true
+IsInTable (generates seed count) = Unit {0}
+
+-- Arguments that ask for nothing come to Usage, a job or a check to what has its row, and generated
+-- controllers are answered by their tally, with the files untouched. Only NoMemory has no stated
+-- cause.
+abbrev pub IsAnswered : FilesSeen → FilesSeen → Option Request → Outcome → Type 0
+IsAnswered old new None found =
+    (found ≡ Err stop.NoMemory) ⊎ ((found ≡ Err stop.Usage) × (new ≡ old))
+IsAnswered old new (Some (does job)) found =
+    IsJobRow old new job.files job.task job.design found
+IsAnswered old new (Some (checks files name)) found = IsCheckOfRow old new files name found
+IsAnswered old new (Some (generates seed count)) found =
+    IsOfGeneration seed count found × (new ≡ old)
+
+-- the request of a list of arguments, by the table, or none
+unfoldable pub requested : List (List ℕ) → Option Request
+requested [] = result_ok (asked_of [])
+requested (first ∷ rest) = if bytes_eq first why_word then None
+    else result_ok (asked_of (first ∷ rest))
