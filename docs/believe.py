@@ -195,9 +195,9 @@ PAGE = (
      "IsWritten dsv_report:output_of answer_text stop_text IfWhole IsTyped AreKept"),
     ("Proposers", "What becomes of the lists of objects that offer forms and sets.",
      "IsAsked AreSetsAsked WantsForm WantsSet IfNoForm is_low"),
-    ("Five laws over the table", "What holds of all answers together.",
-     "HaveOneAnswer IsSettled SameAnswer AreDecided IsRefusedByNone IsVerdict WrittenAreAccepted WrittenLoopsAreAccepted IsAcceptance "
-     "WrittenStateFormsAreAccepted form_check IsFormAcceptance"),
+    ("Three laws over the table", "What holds of all answers together.",
+     "HaveOneAnswer IsSettled SameAnswer AreDecided IsRefusedByNone IsVerdict WrittenAreAccepted check_of HoldTheSame Accepts "
+     "IsAcceptance IsFormAcceptance"),
 )
 # Laws of other crates that say what a definition of the page means.
 LAWS_BESIDE = {

@@ -37,8 +37,8 @@ use Rattle.dsv_report.specs.declared.stop.CertificateFault.{CertificateFault}
 use Rattle.dsv_report.specs.declared.stop.CertificateFault.TheVariants as fault
 use Rattle.dsv_report.specs.declared.stop.Stop.TheVariants as stop
 use Rattle.dsv_report.specs.Stops.{Outcome}
-use Rattle.dsv_cli.specs.FamilyLaws.{StateFormsAreAccepted}
-use Rattle.dsv_cli.specs.Accepted.{IsFormAcceptance, form_check}
+use Rattle.dsv_cli.specs.FamilyLaws.{StateFormsAreAccepted, form_check}
+use Rattle.dsv_cli.specs.Accepted.{IsFormAcceptance}
 use Rattle.dsv_cli.specs.Checking.{IsUnreadCertificate}
 use Rattle.dsv_cli.specs.Headline.{longest_file, longest_certificate, IsSpelled}
 use Rattle.dsv_cli.specs.States.{IsStateController, IsOfNamedForm, IsOfStateTask, IsStateRow}

@@ -1,26 +1,25 @@
 -- A certificate that a run wrote is accepted for the same files.
-use Rattle.std.specs.Prelude.{◌≡◌, ℕ, ◌≤◌, List, length, Some, Ok, Err}
+use Rattle.std.specs.Prelude.{◌≡◌, ℕ, ◌≤◌, false, List, length, Some, Ok, Err}
 use Rattle.dsv_base.specs.Seen.{FilesSeen}
+use Rattle.dsv_names.specs.declared.design.Design.{Design}
 use Rattle.dsv_certfile.specs.Lawful.{certificate_alone}
 use Rattle.dsv_certfile.specs.Texts.{job_of, certificate_text}
 use Rattle.dsv_certfile.specs.Typed.{IsTyped}
 use Rattle.dsv_certfile.specs.declared.certificate.Certificate.{Certificate}
-use Rattle.dsv_certfile.specs.declared.job.CertifiedJob.{CertifiedJob}
 use Rattle.dsv_certfile.specs.declared.job.CertWords.{CertWords}
+use Rattle.dsv_certfile.specs.declared.job.CertifiedJob.{CertifiedJob}
 use Rattle.dsv_certcheck.specs.StateChecks.{Offers}
-use Rattle.dsv_command.specs.Jobs.{Asked}
-use Rattle.dsv_command.specs.Loops.{AskedLoop}
-use Rattle.dsv_command.specs.Requests.{on_file, on_loop, on_states, family_of}
-use Rattle.dsv_command.specs.States.{AskedStates, checks_form}
-use Rattle.dsv_command.specs.Table.{Request, checks, controller, plant_loop}
-use Rattle.dsv_report.specs.Output.{certificate_of, loop_certificate_of, state_certificate_of}
+use Rattle.dsv_command.specs.Requests.{family_of}
+use Rattle.dsv_command.specs.Table.{JobFiles, controller, states, plant_loop, checks_form}
+use Rattle.dsv_command.specs.Table.{Job, Request, does, checks}
+use Rattle.dsv_report.specs.Output.{asked_by, certificate_written}
 use Rattle.dsv_report.specs.declared.answers.Answer.{Answer}
 use Rattle.dsv_report.specs.declared.answers.Answer.TheVariants as answer
 use Rattle.dsv_report.specs.declared.stop.Stop.TheVariants as stop
 use Rattle.dsv_report.specs.Stops.{Outcome}
-use Rattle.dsv_cli.specs.Headline.{longest_certificate, HasWords}
+use Rattle.dsv_cli.specs.Explained.{IsSaid}
+use Rattle.dsv_cli.specs.Headline.{longest_certificate}
 use Rattle.dsv_cli.specs.JobRows.{IsAnswered, IsInTable}
-use Rattle.dsv_cli.specs.Loops.{SaysLoop}
 
 -- the answer is that a certificate with this job is accepted, unless a read failed or there was no
 -- memory
@@ -30,40 +29,6 @@ IsAcceptance certified (Err (stop.ReadFault file)) = Unit {0}
 IsAcceptance certified (Err stop.NoMemory) = Unit {0}
 IsAcceptance certified other = ⊥
 
--- If a job for the controller in a file of these bytes has a certificate, which says of the words
--- what the file's controller has, of which is known what is known of each that is written whole,
--- and whose text has at most 64 MiB, then each check of that text against a file of the same bytes
--- accepts it.
-abbrev pub WrittenAreAccepted : Type 0
-WrittenAreAccepted =
-    (bytes : List ℕ) (old new : FilesSeen) (request : Request) (job : Asked) (words : CertWords)
-    (found : Answer) (c : Certificate) → IsInTable request → family_of request ≡ Some (on_file job)
-    → old.held job.file ≡ Some bytes → IsAnswered old new (Some request) (Ok found)
-    → HasWords bytes words → certificate_of job words found ≡ Some c → IsTyped c
-    → length (certificate_text c) ≤ longest_certificate
-    → (then_old then_new : FilesSeen) (file name : List ℕ) (answered : Outcome)
-    → then_old.held file ≡ Some bytes → then_old.held name ≡ Some (certificate_text c)
-    → IsAnswered then_old then_new (Some (checks (controller file) name)) answered
-    → IsAcceptance (job_of c) answered
-
--- So it is for loops: where a job for a loop, of files with these bytes, has such a certificate,
--- each check of its text against a controller's file and a plant's of the same bytes accepts it.
-abbrev pub WrittenLoopsAreAccepted : Type 0
-WrittenLoopsAreAccepted =
-    (bytes plant : List ℕ) (old new : FilesSeen) (request : Request) (asked : AskedLoop)
-    (words : CertWords) (found : Answer) (c : Certificate)
-    → IsInTable request → family_of request ≡ Some (on_loop asked)
-    → old.held asked.file ≡ Some bytes → old.held asked.plant ≡ Some plant
-    → IsAnswered old new (Some request) (Ok found) → SaysLoop old new asked (Ok found) words
-    → loop_certificate_of asked words found ≡ Some c → IsTyped c
-    → length (certificate_text c) ≤ longest_certificate
-    → (then_old then_new : FilesSeen) (file plant_name name : List ℕ) (answered : Outcome)
-    → then_old.held file ≡ Some bytes → then_old.held plant_name ≡ Some plant
-    → then_old.held name ≡ Some (certificate_text c)
-    → IsAnswered then_old then_new (Some (checks (plant_loop file plant_name) name)) answered
-    → IsAcceptance (job_of c) answered
-
--- ---- forms of state-space controllers
 -- the answer is that the certificate's form falls, with the numbers of its places alone, unless a
 -- read failed or there was no memory
 abbrev pub IsFormAcceptance : Certificate → Outcome → Type 0
@@ -72,28 +37,48 @@ IsFormAcceptance c (Err (stop.ReadFault file)) = Unit {0}
 IsFormAcceptance c (Err stop.NoMemory) = Unit {0}
 IsFormAcceptance c other = ⊥
 
--- the job that decides by the form in the file of this name, for the controller of a file, in the
--- modes of another job
-abbrev pub form_check : AskedStates → List ℕ → List ℕ → AskedStates
-form_check asked file name = record {
-  file = file;
+-- what checks the certificate in the file of this name for what is in these files: of a state-space
+-- controller a job that takes it as a form, in a job's design
+abbrev pub check_of : Design → JobFiles → List ℕ → Request
+check_of design (states file) name = does (record {
+  files = states file;
   task = checks_form name;
-  rounding = asked.rounding;
-  overflow = asked.overflow;
-}
+  design = design;
+  certified = false;
+})
+check_of design files name = checks files name
 
--- Where a job for a state-space controller, of a file with these bytes, has a certificate, of which
--- is known what is known of each that is written whole, and whose text has at most 64 MiB, each job
--- in the same modes that is given its text as a form accepts it for a file of the same bytes.
-abbrev pub WrittenStateFormsAreAccepted : Type 0
-WrittenStateFormsAreAccepted =
-    (bytes : List ℕ) (old new : FilesSeen) (request : Request) (asked : AskedStates)
-    (words : CertWords) (found : Answer) (c : Certificate)
-    → IsInTable request → family_of request ≡ Some (on_states asked)
-    → old.held asked.file ≡ Some bytes → IsAnswered old new (Some request) (Ok found)
-    → state_certificate_of asked words found ≡ Some c → IsTyped c
-    → length (certificate_text c) ≤ longest_certificate
-    → (then_old then_new : FilesSeen) (file name : List ℕ) (other : Request) (answered : Outcome)
-    → then_old.held file ≡ Some bytes → then_old.held name ≡ Some (certificate_text c)
-    → IsInTable other → family_of other ≡ Some (on_states (form_check asked file name))
-    → IsAnswered then_old then_new (Some other) answered → IsFormAcceptance c answered
+-- it accepts the certificate
+abbrev pub Accepts : JobFiles → Certificate → Outcome → Type 0
+Accepts (states file) c answered = IsFormAcceptance c answered
+Accepts files c answered = IsAcceptance (job_of c) answered
+
+-- two files have the same bytes, which are told
+abbrev pub HoldsTheSame : FilesSeen → List ℕ → FilesSeen → List ℕ → Type 0
+HoldsTheSame old name then_old other = (bytes : List ℕ) × (old.held name ≡ Some bytes)
+    × (then_old.held other ≡ Some bytes)
+
+-- so have the files that two jobs are about, of the kinds of which certificates are written
+abbrev pub HoldTheSame : FilesSeen → JobFiles → FilesSeen → JobFiles → Type 0
+HoldTheSame old (controller name) then_old (controller other) =
+    HoldsTheSame old name then_old other
+HoldTheSame old (states name) then_old (states other) = HoldsTheSame old name then_old other
+HoldTheSame old (plant_loop name plant) then_old (plant_loop other other_plant) =
+    HoldsTheSame old name then_old other × HoldsTheSame old plant then_old other_plant
+HoldTheSame old files then_old other = ⊥
+
+-- If an answer to a job has a certificate, with what a run says of the words, of which is known
+-- what is known of each that a run wrote whole, and whose text has at most 64 MiB, then what checks
+-- that text for files of the same bytes accepts it.
+abbrev pub WrittenAreAccepted : Type 0
+WrittenAreAccepted =
+    (old new : FilesSeen) (job : Job) (many : ℕ) (words : CertWords) (found : Answer)
+    (c : Certificate) → IsInTable (does job) → IsAnswered old new (Some (does job)) (Ok found)
+    → IsSaid old new (family_of (does job)) (Ok found) many words
+    → certificate_written (asked_by many (family_of (does job))) words (Ok found) ≡ Some c
+    → IsTyped c → length (certificate_text c) ≤ longest_certificate
+    → (then_old then_new : FilesSeen) (files : JobFiles) (name : List ℕ) (answered : Outcome)
+    → HoldTheSame old job.files then_old files
+    → then_old.held name ≡ Some (certificate_text c)
+    → IsAnswered then_old then_new (Some (check_of job.design files name)) answered
+    → Accepts files c answered

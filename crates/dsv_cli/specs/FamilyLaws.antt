@@ -10,11 +10,11 @@ use Rattle.dsv_command.specs.Cascades.{AskedCascade}
 use Rattle.dsv_command.specs.Ellipsoids.{AskedEllipsoid}
 use Rattle.dsv_command.specs.Jobs.{Asked}
 use Rattle.dsv_command.specs.Loops.{AskedLoop}
-use Rattle.dsv_command.specs.States.{AskedStates}
+use Rattle.dsv_command.specs.States.{AskedStates, checks_form}
 use Rattle.dsv_report.specs.Output.{certificate_of, loop_certificate_of, state_certificate_of}
 use Rattle.dsv_report.specs.declared.answers.Answer.{Answer}
 use Rattle.dsv_report.specs.Stops.{Outcome}
-use Rattle.dsv_cli.specs.Accepted.{IsAcceptance, IsFormAcceptance, form_check}
+use Rattle.dsv_cli.specs.Accepted.{IsAcceptance, IsFormAcceptance}
 use Rattle.dsv_cli.specs.CascadeLoops.{IsCascadeLoopRow}
 use Rattle.dsv_cli.specs.Cascades.{IsCascadeRow}
 use Rattle.dsv_cli.specs.Completeness.{IsDecidedBy}
@@ -82,6 +82,16 @@ LoopCertificatesAreAccepted =
     → then_old.held name ≡ Some (certificate_text c)
     → IsLoopCheckRow then_old then_new controller_name plant_name name answered
     → IsAcceptance (job_of c) answered
+
+-- the job that decides by the form in the file of this name, for the controller of a file, in the
+-- modes of another job
+abbrev pub form_check : AskedStates → List ℕ → List ℕ → AskedStates
+form_check asked file name = record {
+  file = file;
+  task = checks_form name;
+  rounding = asked.rounding;
+  overflow = asked.overflow;
+}
 
 -- Where a job for a state-space controller, of a file with these bytes, has a certificate, of which
 -- is known what is known of each that is written whole, and whose text has at most 64 MiB, each job

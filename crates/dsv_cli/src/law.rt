@@ -1,6 +1,5 @@
 // What a controller file is answered by, and what its certificate.
-ghost use Rattle.dsv_cli.specs.Accepted.{WrittenAreAccepted, WrittenLoopsAreAccepted};
-ghost use Rattle.dsv_cli.specs.Accepted.{WrittenStateFormsAreAccepted};
+ghost use Rattle.dsv_cli.specs.Accepted.{WrittenAreAccepted};
 ghost use Rattle.dsv_cli.specs.Completeness.{AreDecided};
 ghost use Rattle.dsv_cli.specs.OneAnswer.{HaveOneAnswer};
 
@@ -12,26 +11,13 @@ pub fn told_files_have_one_answer()
     ensures { HaveOneAnswer }
 {}
 
-/// The law of certificates, for proofs: where the answer to a job on a file has a certificate, of
+/// The law of certificates, for proofs: if an answer to a job of any kind has a certificate, of
 /// which is known what [`run`](crate::run) says of each that it wrote whole, and whose text has at
-/// most 64 MiB, each check of that text against a file of the same bytes accepts it, but for want
-/// of memory and faults of reads. The call does nothing.
+/// most 64 MiB, then each check of that text against files of the same bytes accepts it, but for
+/// want of memory and faults of reads. What checks the form of a state-space controller is a job
+/// that takes it as its form. The call does nothing.
 pub fn written_certificates_are_accepted()
     ensures { WrittenAreAccepted }
-{}
-
-/// The same law for loops, for proofs: each check of such a text against a controller's file and a
-/// plant's of the same bytes accepts it, but for want of memory and faults of reads. The call does
-/// nothing.
-pub fn written_loop_certificates_are_accepted()
-    ensures { WrittenLoopsAreAccepted }
-{}
-
-/// The same law for state-space controllers, for proofs: each job in the same modes that is given
-/// such a text as its form accepts it for a file of the same bytes, but for want of memory and
-/// faults of reads. The call does nothing.
-pub fn written_state_forms_are_accepted()
-    ensures { WrittenStateFormsAreAccepted }
 {}
 
 /// The law of completeness, for proofs: a request about files whose bytes are told, to which no
