@@ -13,6 +13,7 @@ pub mod CheckRows
 pub mod Completeness
 pub mod Decisions
 pub mod EllipsoidRows
+pub mod Exact
 pub mod FileBytes
 pub mod Gains
 pub mod Inputs

@@ -8,6 +8,7 @@ pub mod Causes
 pub mod Checking
 pub mod Completeness
 pub mod Ellipsoids
+pub mod Exact
 pub mod Explained
 pub mod FamilyLaws
 pub mod FileBytes

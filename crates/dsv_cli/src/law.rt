@@ -1,6 +1,7 @@
 // What a controller file is answered by, and what its certificate.
 ghost use Rattle.dsv_cli.specs.Accepted.{WrittenAreAccepted};
 ghost use Rattle.dsv_cli.specs.Completeness.{AreDecided};
+ghost use Rattle.dsv_cli.specs.Exact.{RefusalsComeExactly};
 ghost use Rattle.dsv_cli.specs.OneAnswer.{HaveOneAnswer};
 
 /// The law of [`run`](crate::run), for proofs: a job on one file whose bytes are told has one
@@ -25,4 +26,12 @@ pub fn written_certificates_are_accepted()
 /// fault of a read rose or there was no memory. The call does nothing.
 pub fn jobs_are_decided()
     ensures { AreDecided }
+{}
+
+/// The law of refusals, for proofs: if a request about a controller, a state-space controller, or a
+/// loop of a controller with a plant, whose files' bytes are told, may end with a refusal of a file,
+/// of what its task names, or of what becomes no words, then it ends with just this one, unless a
+/// read failed or there was no memory. The call does nothing.
+pub fn refusals_come_exactly()
+    ensures { RefusalsComeExactly }
 {}

@@ -38,7 +38,10 @@ pub use dsv_lyapunov::{FormProposer, SumProposer};
 pub use dsv_report::{Answer, CertificateFault, Stop, WhichFile};
 pub use dsv_template::{BoxProposer, InvariantProposer};
 pub use forms::{FormAnswer, decide};
-pub use law::{jobs_are_decided, told_files_have_one_answer, written_certificates_are_accepted};
+pub use law::{
+    jobs_are_decided, refusals_come_exactly, told_files_have_one_answer,
+    written_certificates_are_accepted,
+};
 pub use os_files::{OsFiles, OsOut};
 pub use proposers::{Proposers, run_with_built_in};
 pub use sets::{SetAnswer, seek_set};
