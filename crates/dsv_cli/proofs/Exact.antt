@@ -1,9 +1,10 @@
 -- A refusal of files, of what a task names, or of words, comes exactly where it is stated.
-use Rattle.std.proofs.Common.{◌≡◌, ◌∙◌, ◌⊎◌, inl, inr, sym, ap, subst, refl, ℕ, ◌<◌, ◌≤◌, List, length, arith, Option, Some, Ok, Err}
-use Rattle.std.specs.Prelude.{Result}
+use Rattle.std.proofs.Common.{◌≡◌, ◌∙◌, ◌⊎◌, inl, inr, sym, ap, subst, refl, ℕ, zero, suc, ◌<◌, ◌≤◌, List, [], ◌∷◌, length, take, arith, Option, Some, Ok, Err}
+use Rattle.std.specs.Prelude.{Result, slice_get}
+use Rattle.std.specs.List.{All}
+use Rattle.std.proofs.lemmas.Bool.{cases_order}
 use Rattle.dsv_base.specs.Seen.{FilesSeen}
 use Rattle.dsv_names.specs.declared.design.Design.{Design}
-use Rattle.dsv_token.specs.declared.refusal.FileRefusal.{FileRefusal}
 use Rattle.dsv_token.specs.declared.refusal.FileRefusal.TheVariants as text
 use Rattle.dsv_reader.specs.Controllers.{ControllerView}
 use Rattle.dsv_reader.specs.Plants.{PlantView}
@@ -16,6 +17,11 @@ use Rattle.dsv_quantiser.specs.QuantisedView.{QuantisedView}
 use Rattle.dsv_quantiser.specs.declared.refusal.QuantRefusal.{QuantRefusal}
 use Rattle.dsv_quantiser.proofs.Formats.{one_format}
 use Rattle.dsv_quantiser.proofs.Modes.{become_one}
+use Rattle.dsv_meaning.specs.Equations.{order}
+use Rattle.dsv_cascade.specs.Cascades.{CascadeView, sections_of}
+use Rattle.dsv_cascade.specs.Sections.{most_section_order, Fits, IsCascade, place_of, IsMisfit, IsRefused}
+use Rattle.dsv_cascade.specs.declared.cascade.CascadeRefusal.{CascadeRefusal}
+use Rattle.dsv_cascade.specs.declared.cascade.CascadeRefusal.TheVariants as misfit
 use Rattle.dsv_state_file.specs.Reading.{state_of}
 use Rattle.dsv_state_file.specs.StateFiles.{StateFileView}
 use Rattle.dsv_state_file.proofs.WrittenFiles.{state_taken}
@@ -28,23 +34,24 @@ use Rattle.dsv_certfile.specs.declared.certificate.Certificate.{Certificate}
 use Rattle.dsv_certfile.specs.declared.ellipsoid.Ellipsoid.{Ellipsoid}
 use Rattle.dsv_certfile.specs.declared.fault.CertRefusal.{CertRefusal}
 use Rattle.dsv_certfile.specs.declared.fault.CertRefusal.TheVariants as unread
-use Rattle.dsv_command.specs.Table.{JobFiles, controller, plant_loop, Job, Task, checks_form, checks_ellipsoid, Request, does, checks, generates}
+use Rattle.dsv_command.specs.Table.{JobFiles, controller, cascade, plant_loop, cascade_loop, Job, Task, checks_form, checks_ellipsoid, does, checks, generates}
 use Rattle.dsv_command.specs.Table.{states as table_states}
 use Rattle.dsv_report.specs.declared.stop.CertificateFault.TheVariants as fault
 use Rattle.dsv_report.specs.declared.stop.Stop.{Stop}
 use Rattle.dsv_report.specs.declared.stop.Stop.TheVariants as stop
-use Rattle.dsv_report.specs.declared.stop.WhichFile.TheVariants as file
 use Rattle.dsv_report.specs.Stops.{Outcome}
-use Rattle.dsv_cli.specs.Accepted.{HoldsTheSame, HoldTheSame}
-use Rattle.dsv_cli.specs.Cascades.{IsFileOf}
+use Rattle.dsv_cli.specs.Accepted.{HoldsTheSame, AreTheSame, HoldTheSame}
+use Rattle.dsv_cli.specs.Cascades.{IsFileOf, AreControllers, IsSectionUnread, IsLaterUnread, BecomeWords, IsNoCascade}
 use Rattle.dsv_cli.specs.Checking.{IsUnreadCertificate}
 use Rattle.dsv_cli.specs.Ellipsoids.{IsOffer, IsOfferOf, IsUnreadOffer}
-use Rattle.dsv_cli.specs.Exact.{NamesTheSame, IsToldTheSame, IsBarred, IsLost, RefusalsComeExactly}
+use Rattle.dsv_cli.specs.Exact.{NamesTheSame, IsBarred, IsLost, RefusalsComeExactly}
 use Rattle.dsv_cli.specs.Headline.{longest_file, longest_certificate, CameOf, IsControllerOf, IsSpelled, IsUnread}
-use Rattle.dsv_cli.specs.JobRows.{JobTexts, of_one, of_state_file, with_plant, HaveTexts, AreUnread, Evidence, none, certificate, ellipsoid, HasEvidence, IsEvidenceUnread, JobWords, of_words, of_state_words, BecomeJobWords, IsWordless, AreWordless, LacksEvidence, LacksWords, IsDoneBy, IsCheckedBy, IsAnswered, IsInTable}
+use Rattle.dsv_cli.specs.JobRows.{JobTexts, of_one, of_sections, of_state_file, with_plant, sections_with_plant, HaveTexts, AreUnread, Evidence, certificate, ellipsoid, HasEvidence, IsEvidenceUnread, JobWords, of_words, of_series, of_state_words, BecomeJobWords, IsWordless, AreWordless, LacksEvidence, LacksWords, IsDoneBy, IsCheckedBy, IsAnswered}
 use Rattle.dsv_cli.specs.LoopChecks.{IsCertificateOf}
 use Rattle.dsv_cli.specs.Loops.{IsPlantOf, IsPlantFileOf, IsPlantUnread}
 use Rattle.dsv_cli.specs.States.{IsStateController, IsStatesFileOf, IsStatesUnread}
+use Rattle.dsv_cli.proofs.OneAnswerTasks.{at_place, before_place}
+use Rattle.dsv_cli.proofs.Pairwise.{pair_at, pair_before}
 
 -- ---- what the bytes of a file come to
 -- they are over a limit, or their reading refuses them, or they are read
@@ -195,11 +202,18 @@ one_if_stopped limit read long refusal bytes v w (inr h) k = inr (inl h)
 one_if_stopped limit read long refusal bytes v w h (inr k) = inr (inr k)
 
 -- ---- files
+names_same_back : (old then_old : FilesSeen) (names others : List (List ℕ)) → AreTheSame old names then_old others → AreTheSame then_old others old names
+names_same_back old then_old [] [] same = tt
+names_same_back old then_old [] (m ∷ others) same = absurd same
+names_same_back old then_old (n ∷ names) [] same = absurd same
+names_same_back old then_old (n ∷ names) (m ∷ others) same = ((same.0.0, same.0.2, same.0.1), names_same_back old then_old names others same.1)
+
 same_back : (old then_old : FilesSeen) (files : JobFiles) → HoldTheSame old files then_old files → HoldTheSame then_old files old files
 same_back old then_old (controller name) same = (same.0, same.2, same.1)
 same_back old then_old (table_states name) same = (same.0, same.2, same.1)
 same_back old then_old (plant_loop name plant) same = ((same.0.0, same.0.2, same.0.1), (same.1.0, same.1.2, same.1.1))
-same_back old then_old files same = absurd same
+same_back old then_old (cascade name later) same = ((same.0.0, same.0.2, same.0.1), names_same_back old then_old later later same.1)
+same_back old then_old (cascade_loop name later plant) same = ((same.0.0, same.0.2, same.0.1), names_same_back old then_old later later same.1, (same.2.0, same.2.2, same.2.1))
 
 one_controller : (old then_old : FilesSeen) (name : List ℕ) (c d : ControllerView) → HoldsTheSame old name then_old name → IsFileOf old name c → IsFileOf then_old name d → c ≡ d
 one_controller old then_old name c d same h k = read_once (reading same.0) c d (controller_read old name same.0 c same.1 h).1 (controller_read then_old name same.0 d same.2 k).1
@@ -209,6 +223,87 @@ one_plant old then_old name p q same h k = read_once (plant_reading same.0) p q 
 
 one_states : (old then_old : FilesSeen) (name : List ℕ) (c d : StateFileView) → HoldsTheSame old name then_old name → IsStatesFileOf old name c → IsStatesFileOf then_old name d → c ≡ d
 one_states old then_old name c d same h k = read_once (state_of same.0) c d (states_read old name same.0 c same.1 h).1 (states_read then_old name same.0 d same.2 k).1
+
+-- ---- files of later sections
+abbrev SectionComes : ℕ → List ℕ → Result ControllerView Stop → Type 0
+SectionComes n = Comes longest_file reading (stop.SectionTooLong n) (stop.SectionRefused n)
+
+section_stopped : (old new : FilesSeen) (name bytes : List ℕ) (n : ℕ) (why : Stop) → old.held name ≡ Some bytes → IsSectionUnread old new name n why → SectionComes n bytes (Err why) ⊎ IsLost (Err why)
+section_stopped old new name bytes n (stop.SectionRefused m text.NoMemory) e h = absurd h
+section_stopped old new name bytes n (stop.SectionRefused m r) e h =
+    let k = told (λ came. (length came ≤ longest_file) × IsFaultOf came r) bytes (old.held name) e h.1 in
+    inl (inr (r, k.0, k.1, ap (λ x. stop.SectionRefused x r) h.0))
+section_stopped old new name bytes n (stop.SectionTooLong m) e h = inl (inl (told (λ came. longest_file < length came) bytes (old.held name) e h.1, ap stop.SectionTooLong h.0))
+section_stopped old new name bytes n (stop.ReadFault which) e h = inr tt
+section_stopped old new name bytes n stop.NoMemory e h = inr tt
+section_stopped old new name bytes n why e h = absurd h
+
+section_lost : (old then_old then_new : FilesSeen) (name : List ℕ) (n : ℕ) (c : ControllerView) (why : Stop) → HoldsTheSame old name then_old name → IsFileOf old name c → IsSectionUnread then_old then_new name n why → IsLost (Err why)
+section_lost old then_old then_new name n c why same h k =
+    lost_if_read longest_file reading (stop.SectionTooLong n) (stop.SectionRefused n) same.0 c why (controller_read old name same.0 c same.1 h) (section_stopped then_old then_new name same.0 n why same.2 k)
+
+section_one : (old new then_old then_new : FilesSeen) (name : List ℕ) (n : ℕ) (v w : Stop) → HoldsTheSame old name then_old name → IsSectionUnread old new name n v → IsSectionUnread then_old then_new name n w → AreOne v w
+section_one old new then_old then_new name n v w same h k =
+    one_if_stopped longest_file reading (stop.SectionTooLong n) (stop.SectionRefused n) same.0 v w (section_stopped old new name same.0 n v same.1 h) (section_stopped then_old then_new name same.0 n w same.2 k)
+
+name_once : {A : Type 0} → (a b : A) → Some a ≡ Some b → a ≡ b
+name_once a b e = cc
+
+same_at : (old then_old : FilesSeen) (names : List (List ℕ)) (i : ℕ) (name : List ℕ) → slice_get names i ≡ Some name → AreTheSame old names then_old names → HoldsTheSame old name then_old name
+same_at old then_old [] i name e same = absurd (cc)
+same_at old then_old (n ∷ names) zero name e same = subst (λ m. HoldsTheSame old m then_old m) (name_once n name e) same.0
+same_at old then_old (n ∷ names) (suc i) name e same = same_at old then_old names i name e same.1
+
+sections_once : (old then_old : FilesSeen) (names : List (List ℕ)) (cs ds : List ControllerView) → AreTheSame old names then_old names → AreControllers old names cs → AreControllers then_old names ds → cs ≡ ds
+sections_once old then_old [] [] [] same h k = refl
+sections_once old then_old [] (c ∷ cs) ds same h k = absurd h
+sections_once old then_old [] [] (d ∷ ds) same h k = absurd k
+sections_once old then_old (n ∷ names) [] ds same h k = absurd h
+sections_once old then_old (n ∷ names) (c ∷ cs) [] same h k = absurd k
+sections_once old then_old (n ∷ names) (c ∷ cs) (d ∷ ds) same h k =
+    ap (λ x. x ∷ cs) (one_controller old then_old n c d same.0 h.0 k.0) ∙ ap (λ xs. d ∷ xs) (sections_once old then_old names cs ds same.1 h.1 k.1)
+
+-- a later file that is no controller's, and those before it are
+abbrev LaterStop : FilesSeen → FilesSeen → List (List ℕ) → Stop → Type 0
+LaterStop old new names why = (i : ℕ) × (name : List ℕ) × (slice_get names i ≡ Some name) × (before : List ControllerView) × AreControllers old (take i names) before × IsSectionUnread old new name (suc i) why
+
+later_stopped : (old new : FilesSeen) (names : List (List ℕ)) (why : Stop) → IsLaterUnread old new names why → LaterStop old new names why ⊎ IsLost (Err why)
+later_stopped old new names stop.NoMemory h = inr tt
+later_stopped old new names why h = inl h
+
+stop_lost : (old then_old then_new : FilesSeen) (names : List (List ℕ)) (cs : List ControllerView) (why : Stop) → AreTheSame old names then_old names → AreControllers old names cs → LaterStop then_old then_new names why ⊎ IsLost (Err why)
+    → IsLost (Err why)
+stop_lost old then_old then_new names cs why same h (inr k) = k
+stop_lost old then_old then_new names cs why same h (inl (i, name, at, before, controllers, k)) =
+    let p = pair_at (IsFileOf old) names cs i name at h in
+    section_lost old then_old then_new name (suc i) p.0 why (same_at old then_old names i name at same) p.1 k
+
+later_lost : (old then_old then_new : FilesSeen) (names : List (List ℕ)) (cs : List ControllerView) (why : Stop) → AreTheSame old names then_old names → AreControllers old names cs → IsLaterUnread then_old then_new names why → IsLost (Err why)
+later_lost old then_old then_new names cs why same h k = stop_lost old then_old then_new names cs why same h (later_stopped then_old then_new names why k)
+
+stops_one : (old new then_old then_new : FilesSeen) (names : List (List ℕ)) (v w : Stop) (i j : ℕ) (m n : List ℕ) (bs ds : List ControllerView) → AreTheSame old names then_old names
+    → slice_get names i ≡ Some m → AreControllers old (take i names) bs → IsSectionUnread old new m (suc i) v
+    → slice_get names j ≡ Some n → AreControllers then_old (take j names) ds → IsSectionUnread then_old then_new n (suc j) w → (i ≡ j) ⊎ ((i < j) ⊎ (j < i)) → AreOne v w
+stops_one old new then_old then_new names v w i j m n bs ds same at before h there then_before k (inl e) =
+    let there_i : slice_get names i ≡ Some n = rw e there in
+    let one : m ≡ n = name_once m n (sym at ∙ there_i) in
+    section_one old new then_old then_new n (suc i) v w (same_at old then_old names i n there_i same) (subst (λ x. IsSectionUnread old new x (suc i) v) one h) (subst (λ x. IsSectionUnread then_old then_new n (suc x) w) (sym e) k)
+stops_one old new then_old then_new names v w i j m n bs ds same at before h there then_before k (inr (inl l)) =
+    let p = pair_before (IsFileOf then_old) names ds i j m at l then_before in
+    let s = same_at old then_old names i m at same in
+    inr (inl (section_lost then_old old new m (suc i) p.0 v (s.0, s.2, s.1) p.1 h))
+stops_one old new then_old then_new names v w i j m n bs ds same at before h there then_before k (inr (inr l)) =
+    let p = pair_before (IsFileOf old) names bs j i n there l before in
+    inr (inr (section_lost old then_old then_new n (suc j) p.0 w (same_at old then_old names j n there same) p.1 k))
+
+stop_once : (old new then_old then_new : FilesSeen) (names : List (List ℕ)) (v w : Stop) → AreTheSame old names then_old names → LaterStop old new names v ⊎ IsLost (Err v) → LaterStop then_old then_new names w ⊎ IsLost (Err w) → AreOne v w
+stop_once old new then_old then_new names v w same (inr h) k = inr (inl h)
+stop_once old new then_old then_new names v w same h (inr k) = inr (inr k)
+stop_once old new then_old then_new names v w same (inl (i, m, at, bs, before, h)) (inl (j, n, there, ds, then_before, k)) =
+    stops_one old new then_old then_new names v w i j m n bs ds same at before h there then_before k (cases_order i j)
+
+later_once : (old new then_old then_new : FilesSeen) (names : List (List ℕ)) (v w : Stop) → AreTheSame old names then_old names → IsLaterUnread old new names v → IsLaterUnread then_old then_new names w → AreOne v w
+later_once old new then_old then_new names v w same h k = stop_once old new then_old then_new names v w same (later_stopped old new names v h) (later_stopped then_old then_new names w k)
 
 texts_once : (old then_old : FilesSeen) (files : JobFiles) (t u : JobTexts) → HoldTheSame old files then_old files → HaveTexts old files t → HaveTexts then_old files u → t ≡ u
 texts_once old then_old (controller name) (of_one c) (of_one d) same h k = ap of_one (one_controller old then_old name c d same h k)
@@ -221,7 +316,15 @@ texts_once old then_old (plant_loop name plant) (with_plant c p) (with_plant d q
     ap (λ x. with_plant x p) (one_controller old then_old name c d same.0 h.0 k.0) ∙ ap (with_plant d) (one_plant old then_old plant p q same.1 h.1 k.1)
 texts_once old then_old (plant_loop name plant) (with_plant c p) u same h k = absurd k
 texts_once old then_old (plant_loop name plant) t u same h k = absurd h
-texts_once old then_old files t u same h k = absurd same
+texts_once old then_old (cascade name later) (of_sections c cs) (of_sections d ds) same h k =
+    ap (λ x. of_sections x cs) (one_controller old then_old name c d same.0 h.0 k.0) ∙ ap (of_sections d) (sections_once old then_old later cs ds same.1 h.1 k.1)
+texts_once old then_old (cascade name later) (of_sections c cs) u same h k = absurd k
+texts_once old then_old (cascade name later) t u same h k = absurd h
+texts_once old then_old (cascade_loop name later plant) (sections_with_plant c cs p) (sections_with_plant d ds q) same h k =
+    ap (λ x. sections_with_plant x cs p) (one_controller old then_old name c d same.0 h.0 k.0) ∙ ap (λ xs. sections_with_plant d xs p) (sections_once old then_old later cs ds same.1 h.1 k.1)
+    ∙ ap (sections_with_plant d ds) (one_plant old then_old plant p q same.2 h.2 k.2)
+texts_once old then_old (cascade_loop name later plant) (sections_with_plant c cs p) u same h k = absurd k
+texts_once old then_old (cascade_loop name later plant) t u same h k = absurd h
 
 controller_lost : (old then_old then_new : FilesSeen) (name : List ℕ) (c : ControllerView) (why : Stop) → HoldsTheSame old name then_old name → IsFileOf old name c → IsUnread (then_old.held name) then_old then_new name why → IsLost (Err why)
 controller_lost old then_old then_new name c why same h k =
@@ -244,7 +347,13 @@ texts_lost old then_old then_new (table_states name) t why same h k = absurd h
 texts_lost old then_old then_new (plant_loop name plant) (with_plant c p) why same h (inl k) = controller_lost old then_old then_new name c why same.0 h.0 k
 texts_lost old then_old then_new (plant_loop name plant) (with_plant c p) why same h (inr k) = plant_lost old then_old then_new plant p why same.1 h.1 k.2
 texts_lost old then_old then_new (plant_loop name plant) t why same h k = absurd h
-texts_lost old then_old then_new files t why same h k = absurd same
+texts_lost old then_old then_new (cascade name later) (of_sections c cs) why same h (inl k) = controller_lost old then_old then_new name c why same.0 h.0 k
+texts_lost old then_old then_new (cascade name later) (of_sections c cs) why same h (inr k) = later_lost old then_old then_new later cs why same.1 h.1 k.2
+texts_lost old then_old then_new (cascade name later) t why same h k = absurd h
+texts_lost old then_old then_new (cascade_loop name later plant) (sections_with_plant c cs p) why same h (inl k) = controller_lost old then_old then_new name c why same.0 h.0 k
+texts_lost old then_old then_new (cascade_loop name later plant) (sections_with_plant c cs p) why same h (inr (inl k)) = later_lost old then_old then_new later cs why same.1 h.1 k.2
+texts_lost old then_old then_new (cascade_loop name later plant) (sections_with_plant c cs p) why same h (inr (inr k)) = plant_lost old then_old then_new plant p why same.2 h.2 k.4
+texts_lost old then_old then_new (cascade_loop name later plant) t why same h k = absurd h
 
 controller_one : (old new then_old then_new : FilesSeen) (name : List ℕ) (v w : Stop) → HoldsTheSame old name then_old name → IsUnread (old.held name) old new name v → IsUnread (then_old.held name) then_old then_new name w → AreOne v w
 controller_one old new then_old then_new name v w same h k =
@@ -266,7 +375,20 @@ unread_once old new then_old then_new (plant_loop name plant) v w same (inl h) (
     inr (inl (controller_lost then_old old new name k.0 v (same.0.0, same.0.2, same.0.1) k.1 h))
 unread_once old new then_old then_new (plant_loop name plant) v w same (inr h) (inl k) = inr (inr (controller_lost old then_old then_new name h.0 w same.0 h.1 k))
 unread_once old new then_old then_new (plant_loop name plant) v w same (inr h) (inr k) = plant_one old new then_old then_new plant v w same.1 h.2 k.2
-unread_once old new then_old then_new files v w same h k = absurd same
+unread_once old new then_old then_new (cascade name later) v w same (inl h) (inl k) = controller_one old new then_old then_new name v w same.0 h k
+unread_once old new then_old then_new (cascade name later) v w same (inl h) (inr k) = inr (inl (controller_lost then_old old new name k.0 v (same.0.0, same.0.2, same.0.1) k.1 h))
+unread_once old new then_old then_new (cascade name later) v w same (inr h) (inl k) = inr (inr (controller_lost old then_old then_new name h.0 w same.0 h.1 k))
+unread_once old new then_old then_new (cascade name later) v w same (inr h) (inr k) = later_once old new then_old then_new later v w same.1 h.2 k.2
+unread_once old new then_old then_new (cascade_loop name later plant) v w same (inl h) (inl k) = controller_one old new then_old then_new name v w same.0 h k
+unread_once old new then_old then_new (cascade_loop name later plant) v w same (inl h) (inr (inl k)) = inr (inl (controller_lost then_old old new name k.0 v (same.0.0, same.0.2, same.0.1) k.1 h))
+unread_once old new then_old then_new (cascade_loop name later plant) v w same (inl h) (inr (inr k)) = inr (inl (controller_lost then_old old new name k.0 v (same.0.0, same.0.2, same.0.1) k.2 h))
+unread_once old new then_old then_new (cascade_loop name later plant) v w same (inr (inl h)) (inl k) = inr (inr (controller_lost old then_old then_new name h.0 w same.0 h.1 k))
+unread_once old new then_old then_new (cascade_loop name later plant) v w same (inr (inr h)) (inl k) = inr (inr (controller_lost old then_old then_new name h.0 w same.0 h.2 k))
+unread_once old new then_old then_new (cascade_loop name later plant) v w same (inr (inl h)) (inr (inl k)) = later_once old new then_old then_new later v w same.1 h.2 k.2
+unread_once old new then_old then_new (cascade_loop name later plant) v w same (inr (inl h)) (inr (inr k)) =
+    inr (inl (later_lost then_old old new later k.1 v (names_same_back old then_old later later same.1) k.3 h.2))
+unread_once old new then_old then_new (cascade_loop name later plant) v w same (inr (inr h)) (inr (inl k)) = inr (inr (later_lost old then_old then_new later h.1 w same.1 h.3 k.2))
+unread_once old new then_old then_new (cascade_loop name later plant) v w same (inr (inr h)) (inr (inr k)) = plant_one old new then_old then_new plant v w same.2 h.4 k.4
 
 -- ---- what a task names
 certificate_lost : (old then_old then_new : FilesSeen) (name : List ℕ) (c : Certificate) (why : Stop) → HoldsTheSame old name then_old name → IsCertificateOf old name c → IsUnreadCertificate then_old then_new name why → IsLost (Err why)
@@ -317,30 +439,128 @@ states_become c design o p h k =
     let f = one_format h.format k.format (h.int_bits ∙ sym k.int_bits) (h.frac_bits ∙ sym k.frac_bits) (h.rounding_of ∙ sym k.rounding_of) (h.overflow_of ∙ sym k.overflow_of) in
     sym h.becomes ∙ ap (λ x. state_words_of c x) f ∙ k.becomes
 
-words_apart : (old then_old : FilesSeen) (files : JobFiles) (design : Design) (t : JobTexts) (words : JobWords) (why : Stop) → HoldTheSame old files then_old files → HaveTexts old files t → BecomeJobWords design t words → AreWordless design t why → ⊥
-words_apart old then_old (controller name) design (of_one c) (of_words q) why same has h k = no_refusal design c q why h k
-words_apart old then_old (controller name) design (of_one c) words why same has h k = absurd h
-words_apart old then_old (controller name) design t words why same has h k = absurd has
-words_apart old then_old (plant_loop name plant) design (with_plant c p) (of_words q) why same has h k = no_refusal design c q why h k
-words_apart old then_old (plant_loop name plant) design (with_plant c p) words why same has h k = absurd h
-words_apart old then_old (plant_loop name plant) design t words why same has h k = absurd has
-words_apart old then_old (table_states name) design (of_state_file c) (of_state_words s) (stop.StateQuantRefused r) same has h k = read_or_refused (Ok s) s r refl (states_become c design (Ok s) (Err r) h k)
-words_apart old then_old (table_states name) design (of_state_file c) (of_state_words s) why same has h k = absurd k
-words_apart old then_old (table_states name) design (of_state_file c) words why same has h k = absurd h
-words_apart old then_old (table_states name) design t words why same has h k = absurd has
-words_apart old then_old files design t words why same has h k = absurd same
+-- ---- the words of sections
+one_word : (design : Design) (c : ControllerView) (q r : QuantisedView) → BecomesWords c design (Ok q) → BecomesWords c design (Ok r) → q ≡ r
+one_word design c q r h k = read_once (Ok q) q r refl (become_one c c design (Ok q) (Ok r) refl h k)
 
-wordless_once : (old then_old : FilesSeen) (files : JobFiles) (design : Design) (t : JobTexts) (v w : Stop) → HoldTheSame old files then_old files → HaveTexts old files t → AreWordless design t v → AreWordless design t w → v ≡ w
-wordless_once old then_old (controller name) design (of_one c) v w same has h k = one_refusal design c v w h k
-wordless_once old then_old (controller name) design t v w same has h k = absurd has
-wordless_once old then_old (plant_loop name plant) design (with_plant c p) v w same has h k = one_refusal design c v w h k
-wordless_once old then_old (plant_loop name plant) design t v w same has h k = absurd has
-wordless_once old then_old (table_states name) design (of_state_file c) (stop.StateQuantRefused r) (stop.StateQuantRefused s) same has h k =
-    ap stop.StateQuantRefused (refused_once (Err r) r s refl (states_become c design (Err r) (Err s) h k))
-wordless_once old then_old (table_states name) design (of_state_file c) (stop.StateQuantRefused r) w same has h k = absurd k
-wordless_once old then_old (table_states name) design (of_state_file c) v w same has h k = absurd h
-wordless_once old then_old (table_states name) design t v w same has h k = absurd has
-wordless_once old then_old files design t v w same has h k = absurd same
+words_once : (design : Design) (cs : List ControllerView) (qs rs : List QuantisedView) → BecomeWords design cs qs → BecomeWords design cs rs → qs ≡ rs
+words_once design [] [] [] h k = refl
+words_once design [] (q ∷ qs) rs h k = absurd h
+words_once design [] [] (r ∷ rs) h k = absurd k
+words_once design (c ∷ cs) [] rs h k = absurd h
+words_once design (c ∷ cs) (q ∷ qs) [] h k = absurd k
+words_once design (c ∷ cs) (q ∷ qs) (r ∷ rs) h k =
+    ap (λ x. x ∷ qs) (one_word design c q r h.0 k.0) ∙ ap (λ xs. r ∷ xs) (words_once design cs qs rs h.1 k.1)
+
+word_or_not : (design : Design) (c : ControllerView) (q : QuantisedView) (r : QuantRefusal) → BecomesWords c design (Ok q) → BecomesWords c design (Err r) → ⊥
+word_or_not design c q r h k = read_or_refused (Ok q) q r refl (become_one c c design (Ok q) (Err r) refl h k)
+
+one_quant : (design : Design) (c : ControllerView) (r s : QuantRefusal) → BecomesWords c design (Err r) → BecomesWords c design (Err s) → r ≡ s
+one_quant design c r s h k = refused_once (Err r) r s refl (become_one c c design (Err r) (Err s) refl h k)
+
+no_misfit : (first q : QuantisedView) (why : CascadeRefusal) → Fits first q → IsMisfit first q why → ⊥
+no_misfit first q (misfit.Order n) h k = not_both (order q) most_section_order h.small k
+no_misfit first q (misfit.Mixed n) h k = k.1 h.alike
+
+fit_or_not : (first : QuantisedView) (sections : List QuantisedView) (why : CascadeRefusal) → All (Fits first) sections → IsRefused first sections why → ⊥
+fit_or_not first sections why h k = no_misfit first k.section why (at_place (Fits first) sections (place_of why) k.section k.here h) k.misfit
+
+one_misfit : (first q : QuantisedView) (v w : CascadeRefusal) → place_of v ≡ place_of w → IsMisfit first q v → IsMisfit first q w → v ≡ w
+one_misfit first q (misfit.Order n) (misfit.Order m) e h k = ap misfit.Order e
+one_misfit first q (misfit.Order n) (misfit.Mixed m) e h k = absurd (not_both (order q) most_section_order k.0 h)
+one_misfit first q (misfit.Mixed n) (misfit.Order m) e h k = absurd (not_both (order q) most_section_order h.0 k)
+one_misfit first q (misfit.Mixed n) (misfit.Mixed m) e h k = ap misfit.Mixed e
+
+one_by_place : (first : QuantisedView) (sections : List QuantisedView) (v w : CascadeRefusal) → IsRefused first sections v → IsRefused first sections w → (place_of v ≡ place_of w) ⊎ ((place_of v < place_of w) ⊎ (place_of w < place_of v)) → v ≡ w
+one_by_place first sections v w h k (inl e) =
+    let one : h.section ≡ k.section = name_once h.section k.section (sym h.here ∙ ap (slice_get sections) e ∙ k.here) in
+    one_misfit first k.section v w e (subst (λ x. IsMisfit first x v) one h.misfit) k.misfit
+one_by_place first sections v w h k (inr (inl l)) = absurd (no_misfit first h.section v (before_place (Fits first) sections (place_of v) (place_of w) h.section h.here l k.before) h.misfit)
+one_by_place first sections v w h k (inr (inr l)) = absurd (no_misfit first k.section w (before_place (Fits first) sections (place_of w) (place_of v) k.section k.here l h.before) k.misfit)
+
+-- the words that came of sections are those of a cascade
+abbrev RefusedSections : Design → ControllerView → List ControllerView → CascadeRefusal → Type 0
+RefusedSections design first later r = (q : QuantisedView) × (qs : List QuantisedView) × BecomesWords first design (Ok q) × BecomeWords design later qs × IsRefused q (q ∷ qs) r
+
+refused_as : (design : Design) (first : ControllerView) (later : List ControllerView) (p q : QuantisedView) (ps qs : List QuantisedView) (r : CascadeRefusal) → BecomesWords first design (Ok p) → BecomeWords design later ps
+    → BecomesWords first design (Ok q) → BecomeWords design later qs → IsRefused q (q ∷ qs) r → IsRefused p (p ∷ ps) r
+refused_as design first later p q ps qs r hp hps hq hqs h =
+    let one = one_word design first q p hq hp in
+    let all = words_once design later qs ps hqs hps in
+    subst (λ xs. IsRefused p (p ∷ xs) r) all (subst (λ x. IsRefused x (x ∷ qs) r) one h)
+
+refusals_once : (design : Design) (first : ControllerView) (later : List ControllerView) (v w : CascadeRefusal) → RefusedSections design first later v → RefusedSections design first later w → v ≡ w
+refusals_once design first later v w (p, ps, hp, hps, h) (q, qs, hq, hqs, k) =
+    one_by_place p (p ∷ ps) v w h (refused_as design first later p q ps qs w hp hps hq hqs k) (cases_order (place_of v) (place_of w))
+
+-- a later section that becomes no words
+abbrev LaterQuant : Design → List ControllerView → ℕ → QuantRefusal → Type 0
+LaterQuant design cs section r = (i : ℕ) × (c : ControllerView) × (section ≡ suc i) × (slice_get cs i ≡ Some c) × (before : List QuantisedView) × BecomeWords design (take i cs) before × BecomesWords c design (Err r)
+
+all_or_later : (design : Design) (cs : List ControllerView) (qs : List QuantisedView) (section : ℕ) (r : QuantRefusal) → BecomeWords design cs qs → LaterQuant design cs section r → ⊥
+all_or_later design cs qs section r h (i, c, e, at, before, words, k) =
+    let p = pair_at (λ x q. BecomesWords x design (Ok q)) cs qs i c at h in
+    word_or_not design c p.0 r p.1 k
+
+quants_by : (design : Design) (cs : List ControllerView) (i j : ℕ) (c d : ControllerView) (r s : QuantRefusal) (bs ds : List QuantisedView) → slice_get cs i ≡ Some c → BecomeWords design (take i cs) bs → BecomesWords c design (Err r)
+    → slice_get cs j ≡ Some d → BecomeWords design (take j cs) ds → BecomesWords d design (Err s) → (i ≡ j) ⊎ ((i < j) ⊎ (j < i)) → stop.SectionQuant (suc i) r ≡ stop.SectionQuant (suc j) s
+quants_by design cs i j c d r s bs ds at before h there then_before k (inl e) =
+    let one : c ≡ d = name_once c d (sym at ∙ ap (slice_get cs) e ∙ there) in
+    ap (λ x. stop.SectionQuant (suc x) r) e ∙ ap (stop.SectionQuant (suc j)) (one_quant design d r s (subst (λ x. BecomesWords x design (Err r)) one h) k)
+quants_by design cs i j c d r s bs ds at before h there then_before k (inr (inl l)) =
+    let p = pair_before (λ x q. BecomesWords x design (Ok q)) cs ds i j c at l then_before in
+    absurd (word_or_not design c p.0 r p.1 h)
+quants_by design cs i j c d r s bs ds at before h there then_before k (inr (inr l)) =
+    let p = pair_before (λ x q. BecomesWords x design (Ok q)) cs bs j i d there l before in
+    absurd (word_or_not design d p.0 s p.1 k)
+
+quants_once : (design : Design) (cs : List ControllerView) (m n : ℕ) (r s : QuantRefusal) → LaterQuant design cs m r → LaterQuant design cs n s → stop.SectionQuant m r ≡ stop.SectionQuant n s
+quants_once design cs m n r s (i, c, e, at, bs, before, h) (j, d, f, there, ds, then_before, k) =
+    ap (λ x. stop.SectionQuant x r) e ∙ quants_by design cs i j c d r s bs ds at before h there then_before k (cases_order i j) ∙ ap (λ x. stop.SectionQuant x s) (sym f)
+
+cascade_lost : (design : Design) (c : ControllerView) (cs : List ControllerView) (s : CascadeView) (why : Stop) → BecomesWords c design (Ok s.first) → BecomeWords design cs s.later → IsCascade s → IsNoCascade design c cs why → IsLost (Err why)
+cascade_lost design c cs s (stop.QuantRefused r) h hs k n = absurd (word_or_not design c s.first r h n)
+cascade_lost design c cs s (stop.CascadeRefused r) h hs k n =
+    absurd (fit_or_not s.first (sections_of s) r k.fit (refused_as design c cs s.first n.0 s.later n.1 r h hs n.2 n.3 n.4))
+cascade_lost design c cs s (stop.SectionQuant m r) h hs k n = absurd (all_or_later design cs s.later m r hs n.2)
+cascade_lost design c cs s stop.NoMemory h hs k n = tt
+cascade_lost design c cs s why h hs k n = absurd n.2
+
+cascade_once : (design : Design) (c : ControllerView) (cs : List ControllerView) (v w : Stop) → IsNoCascade design c cs v → IsNoCascade design c cs w → AreOne v w
+cascade_once design c cs (stop.QuantRefused r) (stop.QuantRefused s) h k = inl (ap stop.QuantRefused (one_quant design c r s h k))
+cascade_once design c cs (stop.QuantRefused r) (stop.CascadeRefused s) h k = absurd (word_or_not design c k.0 r k.2 h)
+cascade_once design c cs (stop.QuantRefused r) w h k = absurd (word_or_not design c k.0 r k.1 h)
+cascade_once design c cs (stop.CascadeRefused r) (stop.QuantRefused s) h k = absurd (word_or_not design c h.0 s h.2 k)
+cascade_once design c cs (stop.CascadeRefused r) (stop.CascadeRefused s) h k = inl (ap stop.CascadeRefused (refusals_once design c cs r s h k))
+cascade_once design c cs (stop.CascadeRefused r) (stop.SectionQuant n s) h k = absurd (all_or_later design cs h.1 n s h.3 k.2)
+cascade_once design c cs (stop.CascadeRefused r) stop.NoMemory h k = inr (inr tt)
+cascade_once design c cs (stop.CascadeRefused r) w h k = absurd k.2
+cascade_once design c cs (stop.SectionQuant m r) (stop.QuantRefused s) h k = absurd (word_or_not design c h.0 s h.1 k)
+cascade_once design c cs (stop.SectionQuant m r) (stop.CascadeRefused s) h k = absurd (all_or_later design cs k.1 m r k.3 h.2)
+cascade_once design c cs (stop.SectionQuant m r) (stop.SectionQuant n s) h k = inl (quants_once design cs m n r s h.2 k.2)
+cascade_once design c cs (stop.SectionQuant m r) stop.NoMemory h k = inr (inr tt)
+cascade_once design c cs (stop.SectionQuant m r) w h k = absurd k.2
+cascade_once design c cs stop.NoMemory w h k = inr (inl tt)
+cascade_once design c cs v w h k = absurd h.2
+
+-- ---- the words of texts
+words_lost : (design : Design) (t : JobTexts) (words : JobWords) (why : Stop) → BecomeJobWords design t words → AreWordless design t why → IsLost (Err why)
+words_lost design (of_one c) (of_words q) why h k = absurd (no_refusal design c q why h k)
+words_lost design (with_plant c p) (of_words q) why h k = absurd (no_refusal design c q why h k)
+words_lost design (of_sections c cs) (of_series s) why h k = cascade_lost design c cs s why h.0 h.1 h.2 k
+words_lost design (sections_with_plant c cs p) (of_series s) why h k = cascade_lost design c cs s why h.0 h.1 h.2 k
+words_lost design (of_state_file c) (of_state_words s) (stop.StateQuantRefused r) h k = absurd (read_or_refused (Ok s) s r refl (states_become c design (Ok s) (Err r) h k))
+words_lost design (of_state_file c) (of_state_words s) why h k = absurd k
+words_lost design t words why h k = absurd h
+
+wordless_once : (design : Design) (t : JobTexts) (v w : Stop) → AreWordless design t v → AreWordless design t w → AreOne v w
+wordless_once design (of_one c) v w h k = inl (one_refusal design c v w h k)
+wordless_once design (with_plant c p) v w h k = inl (one_refusal design c v w h k)
+wordless_once design (of_sections c cs) v w h k = cascade_once design c cs v w h k
+wordless_once design (sections_with_plant c cs p) v w h k = cascade_once design c cs v w h k
+wordless_once design (of_state_file c) (stop.StateQuantRefused r) (stop.StateQuantRefused s) h k = inl (ap stop.StateQuantRefused (refused_once (Err r) r s refl (states_become c design (Err r) (Err s) h k)))
+wordless_once design (of_state_file c) (stop.StateQuantRefused r) w h k = absurd k
+wordless_once design (of_state_file c) v w h k = absurd h
 
 -- ---- two runs
 -- what ends a job before its task
@@ -354,7 +574,7 @@ done_lost old new then_old files task design why found same names (inl h) d = te
 done_lost old new then_old files task design why found same names (inr (inl (t, has, h))) d = evidence_lost then_old old new task d.evidence why (names_back old then_old task names) d.has_evidence h
 done_lost old new then_old files task design why found same names (inr (inr (t, e, has, named, h))) d =
     let one = texts_once old then_old files t d.texts same has d.have_texts in
-    absurd (words_apart then_old old files design d.texts d.words why (same_back old then_old files same) d.have_texts d.become_words (subst (λ x. AreWordless design x why) one h))
+    words_lost design d.texts d.words why d.become_words (subst (λ x. AreWordless design x why) one h)
 
 barred_once : (old new then_old then_new : FilesSeen) (files : JobFiles) (task : Task) (design : Design) (v w : Stop) → HoldTheSame old files then_old files → NamesTheSame old then_old task → Barred old new files task design v
     → Barred then_old then_new files task design w → AreOne v w
@@ -369,7 +589,7 @@ barred_once old new then_old then_new files task design v w same names (inr (inr
 barred_once old new then_old then_new files task design v w same names (inr (inr (t, e, had, named, h))) (inr (inl (u, has, k))) = inr (inr (evidence_lost old then_old then_new task e w names named k))
 barred_once old new then_old then_new files task design v w same names (inr (inr (t, e, had, named, h))) (inr (inr (u, f, has, told, k))) =
     let one = texts_once old then_old files t u same had has in
-    inl (wordless_once then_old old files design u v w (same_back old then_old files same) has (subst (λ x. AreWordless design x v) one h) k)
+    wordless_once design u v w (subst (λ x. AreWordless design x v) one h) k
 
 -- what each answer is
 abbrev stopped_by : Stop → Outcome

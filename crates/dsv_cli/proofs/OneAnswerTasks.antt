@@ -171,10 +171,10 @@ one_decision r a b x y h k = absurd h
 
 -- ---- runs
 -- what holds of each number of a list, or of each before a place, holds of the one at a place, or before it
-at_place : (P : ℤ → Type 0) (xs : List ℤ) (i : ℕ) (v : ℤ) → slice_get xs i ≡ Some v → All P xs → P v
+pub at_place : {A : Type 0} → (P : A → Type 0) (xs : List A) (i : ℕ) (v : A) → slice_get xs i ≡ Some v → All P xs → P v
 at_place P xs i v e h = subst P (get_or_from_slice_get xs i v v e) (h i v (slice_get_within xs i v e))
 
-before_place : (P : ℤ → Type 0) (xs : List ℤ) (i j : ℕ) (v : ℤ) → slice_get xs i ≡ Some v → i < j → All P (take j xs) → P v
+pub before_place : {A : Type 0} → (P : A → Type 0) (xs : List A) (i j : ℕ) (v : A) → slice_get xs i ≡ Some v → i < j → All P (take j xs) → P v
 before_place P xs i j v e l h =
     let within = slice_get_within xs i v e in
     let long = length-take j xs in

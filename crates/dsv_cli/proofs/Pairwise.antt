@@ -1,4 +1,5 @@
 -- Lists that stand so to one another, place by place.
+use Rattle.std.specs.Prelude.{slice_get, Some}
 use Rattle.std.proofs.Common.{◌≡◌, ◌<◌, ◌+◌, ℕ, zero, suc, List, [], ◌∷◌, ◌++◌, length, take, get_or, subst, ap, refl, arith}
 use Rattle.dsv_cli.specs.Cascades.{Pairwise}
 
@@ -27,3 +28,21 @@ pairs_weaker R S [] [] f h = tt
 pairs_weaker R S [] (y ∷ ys) f h = absurd h
 pairs_weaker R S (x ∷ xs) [] f h = absurd h
 pairs_weaker R S (x ∷ xs) (y ∷ ys) f h = (f x y h.0, pairs_weaker R S xs ys f h.1)
+
+some_once : {A : Type 0} → (a x : A) → Some a ≡ Some x → a ≡ x
+some_once a x e = cc
+
+-- what stands so to the one at a place
+pub pair_at : {A B : Type 0} (R : A → B → Type 0) (xs : List A) (ys : List B) (i : ℕ) (x : A) → slice_get xs i ≡ Some x → Pairwise R xs ys → (y : B) × R x y
+pair_at R [] ys i x e h = absurd (cc)
+pair_at R (a ∷ xs) [] i x e h = absurd h
+pair_at R (a ∷ xs) (y ∷ ys) zero x e h = (y, subst (λ z. R z y) (some_once a x e) h.0)
+pair_at R (a ∷ xs) (y ∷ ys) (suc i) x e h = pair_at R xs ys i x e h.1
+
+-- and to one before a place
+pub pair_before : {A B : Type 0} (R : A → B → Type 0) (xs : List A) (ys : List B) (i j : ℕ) (x : A) → slice_get xs i ≡ Some x → i < j → Pairwise R (take j xs) ys → (y : B) × R x y
+pair_before R xs ys i zero x e l h = absurd (omega arith)
+pair_before R [] ys i (suc j) x e l h = absurd (cc)
+pair_before R (a ∷ xs) [] i (suc j) x e l h = absurd h
+pair_before R (a ∷ xs) (y ∷ ys) zero (suc j) x e l h = (y, subst (λ z. R z y) (some_once a x e) h.0)
+pair_before R (a ∷ xs) (y ∷ ys) (suc i) (suc j) x e l h = pair_before R xs ys i j x e (omega (arith, l)) h.1

@@ -10,13 +10,14 @@ use Rattle.dsv_certfile.specs.declared.job.CertWords.{CertWords}
 use Rattle.dsv_certfile.specs.declared.job.CertifiedJob.{CertifiedJob}
 use Rattle.dsv_certcheck.specs.StateChecks.{Offers}
 use Rattle.dsv_command.specs.Requests.{family_of}
-use Rattle.dsv_command.specs.Table.{JobFiles, controller, states, plant_loop, checks_form}
-use Rattle.dsv_command.specs.Table.{Job, Request, does, checks}
+use Rattle.dsv_command.specs.Table.{JobFiles, controller, cascade, states, plant_loop}
+use Rattle.dsv_command.specs.Table.{cascade_loop, checks_form, Job, Request, does, checks}
 use Rattle.dsv_report.specs.Output.{asked_by, certificate_written}
 use Rattle.dsv_report.specs.declared.answers.Answer.{Answer}
 use Rattle.dsv_report.specs.declared.answers.Answer.TheVariants as answer
 use Rattle.dsv_report.specs.declared.stop.Stop.TheVariants as stop
 use Rattle.dsv_report.specs.Stops.{Outcome}
+use Rattle.dsv_cli.specs.Cascades.{Pairwise}
 use Rattle.dsv_cli.specs.Explained.{IsSaid}
 use Rattle.dsv_cli.specs.Headline.{longest_certificate}
 use Rattle.dsv_cli.specs.JobRows.{IsAnswered, IsInTable}
@@ -58,13 +59,23 @@ abbrev pub HoldsTheSame : FilesSeen → List ℕ → FilesSeen → List ℕ → 
 HoldsTheSame old name then_old other = (bytes : List ℕ) × (old.held name ≡ Some bytes)
     × (then_old.held other ≡ Some bytes)
 
--- so have the files that two jobs are about, of the kinds of which certificates are written
+-- so has each of a list the one at its place in another
+abbrev pub AreTheSame : FilesSeen → List (List ℕ) → FilesSeen → List (List ℕ) → Type 0
+AreTheSame old names then_old others =
+    Pairwise (λ name other. HoldsTheSame old name then_old other) names others
+
+-- so have the files that two jobs are about, each the one at its place
 abbrev pub HoldTheSame : FilesSeen → JobFiles → FilesSeen → JobFiles → Type 0
 HoldTheSame old (controller name) then_old (controller other) =
     HoldsTheSame old name then_old other
 HoldTheSame old (states name) then_old (states other) = HoldsTheSame old name then_old other
 HoldTheSame old (plant_loop name plant) then_old (plant_loop other other_plant) =
     HoldsTheSame old name then_old other × HoldsTheSame old plant then_old other_plant
+HoldTheSame old (cascade name later) then_old (cascade other others) =
+    HoldsTheSame old name then_old other × AreTheSame old later then_old others
+HoldTheSame old (cascade_loop name later plant) then_old (cascade_loop other others other_plant) =
+    HoldsTheSame old name then_old other × AreTheSame old later then_old others
+    × HoldsTheSame old plant then_old other_plant
 HoldTheSame old files then_old other = ⊥
 
 -- If an answer to a job has a certificate, with what a run says of the words, of which is known

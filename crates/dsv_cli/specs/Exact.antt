@@ -1,7 +1,7 @@
 -- A refusal of files, of what a task names, or of words, comes exactly where it is stated.
-use Rattle.std.specs.Prelude.{◌≡◌, ◌⊎◌, ℕ, List, Some, Err}
+use Rattle.std.specs.Prelude.{◌≡◌, ◌⊎◌, Some, Err}
 use Rattle.dsv_base.specs.Seen.{FilesSeen}
-use Rattle.dsv_command.specs.Table.{JobFiles, Task, checks_form, checks_ellipsoid, Request}
+use Rattle.dsv_command.specs.Table.{Task, checks_form, checks_ellipsoid, Request}
 use Rattle.dsv_command.specs.Table.{does, checks, generates}
 use Rattle.dsv_report.specs.declared.stop.Stop.{Stop}
 use Rattle.dsv_report.specs.declared.stop.Stop.TheVariants as stop
@@ -29,7 +29,8 @@ IsToldTheSame old then_old (generates seed count) = Unit {0}
 -- isn't, or the files' texts become no words
 abbrev pub IsBarred : FilesSeen → FilesSeen → Request → Stop → Type 0
 IsBarred old new (does job) why = AreUnread old new job.files why
-    ⊎ (LacksEvidence old new job.files job.task why ⊎ LacksWords old job.files job.task job.design why)
+    ⊎ (LacksEvidence old new job.files job.task why
+    ⊎ LacksWords old job.files job.task job.design why)
 IsBarred old new (checks files name) why = AreUnread old new files why
     ⊎ ((texts : JobTexts) × HaveTexts old files texts × IsUnreadCertificate old new name why)
 IsBarred old new (generates seed count) why = ⊥
@@ -40,9 +41,8 @@ IsLost (Err (stop.ReadFault file)) = Unit {0}
 IsLost (Err stop.NoMemory) = Unit {0}
 IsLost other = ⊥
 
--- If a request about a controller, a state-space controller, or a loop of a controller with a plant
--- may end before its task with a refusal, then it is what each answer to the request is while files
--- have the same bytes, but for faults of reads and want of memory.
+-- If a request may end before its task with a refusal, then it is what each answer to the request
+-- is while files have the same bytes, but for faults of reads and want of memory.
 abbrev pub RefusalsComeExactly : Type 0
 RefusalsComeExactly =
     (old new then_old then_new : FilesSeen) (request : Request) (why : Stop) (found : Outcome)
