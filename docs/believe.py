@@ -159,7 +159,7 @@ def first_sentence(note):
 
 # ---- the page
 
-HEADLINE = ("JobRows", "Explained", "Headline", "Searching", "Gain", "Simulating", "Cascades", "States", "Loops", "LoopChecks", "Proposers", "OneAnswer", "Completeness", "Accepted")
+HEADLINE = ("JobRows", "Explained", "Headline", "Searching", "Gain", "Simulating", "Cascades", "States", "Loops", "LoopChecks", "Proposers", "OneAnswer", "Completeness", "Accepted", "Exact")
 LONG = 30
 PAGE = (
     ("The call", "What `run` says of an answer, whatever the arguments, the files and the sink.",
@@ -195,8 +195,8 @@ PAGE = (
      "IsWritten dsv_report:output_of answer_text stop_text IfWhole IsTyped AreKept"),
     ("Proposers", "What becomes of the lists of objects that offer forms and sets.",
      "IsAsked AreSetsAsked WantsForm WantsSet IfNoForm is_low"),
-    ("Three laws over the table", "What holds of all answers together.",
-     "HaveOneAnswer IsSettled SameAnswer AreDecided IsRefusedByNone IsVerdict WrittenAreAccepted check_of HoldTheSame Accepts "
+    ("Four laws over the table", "What holds of all answers together.",
+     "RefusalsComeExactly IsToldTheSame IsLost HaveOneAnswer IsSettled SameAnswer AreDecided IsRefusedByNone IsVerdict WrittenAreAccepted check_of HoldTheSame Accepts "
      "IsAcceptance IsFormAcceptance"),
 )
 # Laws of other crates that say what a definition of the page means.

@@ -1,4 +1,4 @@
--- A refusal of files, of what a task names, or of words, comes exactly where it is stated.
+-- A refusal comes exactly where it is stated: what holds of files, of what tasks name, and of words.
 use Rattle.std.proofs.Common.{◌≡◌, ◌∙◌, ◌⊎◌, inl, inr, sym, ap, subst, refl, ℕ, zero, suc, ◌<◌, ◌≤◌, List, [], ◌∷◌, length, take, arith, Option, Some, Ok, Err}
 use Rattle.std.specs.Prelude.{Result, slice_get}
 use Rattle.std.specs.List.{All}
@@ -44,12 +44,13 @@ use Rattle.dsv_cli.specs.Accepted.{HoldsTheSame, AreTheSame, HoldTheSame}
 use Rattle.dsv_cli.specs.Cascades.{IsFileOf, AreControllers, IsSectionUnread, IsLaterUnread, BecomeWords, IsNoCascade}
 use Rattle.dsv_cli.specs.Checking.{IsUnreadCertificate}
 use Rattle.dsv_cli.specs.Ellipsoids.{IsOffer, IsOfferOf, IsUnreadOffer}
-use Rattle.dsv_cli.specs.Exact.{NamesTheSame, IsBarred, IsLost, RefusalsComeExactly}
-use Rattle.dsv_cli.specs.Headline.{longest_file, longest_certificate, CameOf, IsControllerOf, IsSpelled, IsUnread}
-use Rattle.dsv_cli.specs.JobRows.{JobTexts, of_one, of_sections, of_state_file, with_plant, sections_with_plant, HaveTexts, AreUnread, Evidence, certificate, ellipsoid, HasEvidence, IsEvidenceUnread, JobWords, of_words, of_series, of_state_words, BecomeJobWords, IsWordless, AreWordless, LacksEvidence, LacksWords, IsDoneBy, IsCheckedBy, IsAnswered}
+use Rattle.dsv_cli.specs.Exact.{NamesTheSame, IsLost, RefusalsComeExactly}
+use Rattle.dsv_cli.specs.Headline.{longest_file, longest_certificate, CameOf, IsControllerOf, IsSpelled, IsUnread, IsOfGeneration}
+use Rattle.dsv_cli.specs.JobRows.{JobTexts, of_one, of_sections, of_state_file, with_plant, sections_with_plant, HaveTexts, AreUnread, Evidence, none, certificate, ellipsoid, HasEvidence, IsEvidenceUnread, JobWords, of_words, of_series, of_state_words, BecomeJobWords, IsWordless, AreWordless, LacksEvidence, LacksWords, IsTaskDone, IsDoneBy, IsOfCheck, IsCheckedBy, IsAnswered}
 use Rattle.dsv_cli.specs.LoopChecks.{IsCertificateOf}
 use Rattle.dsv_cli.specs.Loops.{IsPlantOf, IsPlantFileOf, IsPlantUnread}
 use Rattle.dsv_cli.specs.States.{IsStateController, IsStatesFileOf, IsStatesUnread}
+use Rattle.dsv_cli.proofs.ExactTasks.{stopped_by, IsThis, task_exact, check_exact}
 use Rattle.dsv_cli.proofs.OneAnswerTasks.{at_place, before_place}
 use Rattle.dsv_cli.proofs.Pairwise.{pair_at, pair_before}
 
@@ -458,6 +459,13 @@ word_or_not design c q r h k = read_or_refused (Ok q) q r refl (become_one c c d
 one_quant : (design : Design) (c : ControllerView) (r s : QuantRefusal) → BecomesWords c design (Err r) → BecomesWords c design (Err s) → r ≡ s
 one_quant design c r s h k = refused_once (Err r) r s refl (become_one c c design (Err r) (Err s) refl h k)
 
+abbrev series_of : QuantisedView → List QuantisedView → CascadeView
+series_of first later = record { first = first; later = later }
+
+one_series : (design : Design) (c : ControllerView) (cs : List ControllerView) (s u : CascadeView) → BecomesWords c design (Ok s.first) → BecomeWords design cs s.later → BecomesWords c design (Ok u.first) → BecomeWords design cs u.later → s ≡ u
+one_series design c cs s u h hs k ks =
+    ap (λ q. series_of q s.later) (one_word design c s.first u.first h k) ∙ ap (series_of u.first) (words_once design cs s.later u.later hs ks)
+
 no_misfit : (first q : QuantisedView) (why : CascadeRefusal) → Fits first q → IsMisfit first q why → ⊥
 no_misfit first q (misfit.Order n) h k = not_both (order q) most_section_order h.small k
 no_misfit first q (misfit.Mixed n) h k = k.1 h.alike
@@ -562,6 +570,33 @@ wordless_once design (of_state_file c) (stop.StateQuantRefused r) (stop.StateQua
 wordless_once design (of_state_file c) (stop.StateQuantRefused r) w h k = absurd k
 wordless_once design (of_state_file c) v w h k = absurd h
 
+-- ---- evidence and words once
+evidence_same : (old then_old : FilesSeen) (task : Task) (e f : Evidence) → NamesTheSame old then_old task → HasEvidence old task e → HasEvidence then_old task f → e ≡ f
+evidence_same old then_old (checks_form name) (certificate c) (certificate d) same h k =
+    ap certificate (read_once (certificate_in same.0) c d (certificate_read old name same.0 c same.1 h).1 (certificate_read then_old name same.0 d same.2 k).1)
+evidence_same old then_old (checks_form name) (certificate c) f same h k = absurd k
+evidence_same old then_old (checks_form name) e f same h k = absurd h
+evidence_same old then_old (checks_ellipsoid name) (ellipsoid o) (ellipsoid p) same h k =
+    ap ellipsoid (read_once (ellipsoid_in same.0) o p (offer_read old name same.0 o same.1 h).1 (offer_read then_old name same.0 p same.2 k).1)
+evidence_same old then_old (checks_ellipsoid name) (ellipsoid o) f same h k = absurd k
+evidence_same old then_old (checks_ellipsoid name) e f same h k = absurd h
+evidence_same old then_old task none none same h k = refl
+evidence_same old then_old task none f same h k = absurd k
+evidence_same old then_old task e f same h k = absurd h
+
+job_words_once : (design : Design) (t : JobTexts) (x y : JobWords) → BecomeJobWords design t x → BecomeJobWords design t y → x ≡ y
+job_words_once design (of_one c) (of_words q) (of_words r) h k = ap of_words (one_word design c q r h k)
+job_words_once design (of_one c) (of_words q) y h k = absurd k
+job_words_once design (with_plant c p) (of_words q) (of_words r) h k = ap of_words (one_word design c q r h k)
+job_words_once design (with_plant c p) (of_words q) y h k = absurd k
+job_words_once design (of_sections c cs) (of_series s) (of_series u) h k = ap of_series (one_series design c cs s u h.0 h.1 k.0 k.1)
+job_words_once design (of_sections c cs) (of_series s) y h k = absurd k
+job_words_once design (sections_with_plant c cs p) (of_series s) (of_series u) h k = ap of_series (one_series design c cs s u h.0 h.1 k.0 k.1)
+job_words_once design (sections_with_plant c cs p) (of_series s) y h k = absurd k
+job_words_once design (of_state_file c) (of_state_words s) (of_state_words u) h k = ap of_state_words (read_once (Ok s) s u refl (states_become c design (Ok s) (Ok u) h k))
+job_words_once design (of_state_file c) (of_state_words s) y h k = absurd k
+job_words_once design t x y h k = absurd h
+
 -- ---- two runs
 -- what ends a job before its task
 abbrev Barred : FilesSeen → FilesSeen → JobFiles → Task → Design → Stop → Type 0
@@ -592,22 +627,51 @@ barred_once old new then_old then_new files task design v w same names (inr (inr
     wordless_once design u v w (subst (λ x. AreWordless design x v) one h) k
 
 -- what each answer is
-abbrev stopped_by : Stop → Outcome
-stopped_by why = Err why
-
-kept_or_lost : (v w : Stop) → (IsLost (Err v) → ⊥) → AreOne v w → (stopped_by w ≡ stopped_by v) ⊎ IsLost (Err w)
+kept_or_lost : (v w : Stop) → (IsLost (Err v) → ⊥) → AreOne v w → IsThis v (Err w)
 kept_or_lost v w kept (inl e) = inl (ap stopped_by (sym e))
 kept_or_lost v w kept (inr (inl h)) = absurd (kept h)
 kept_or_lost v w kept (inr (inr h)) = inr h
 
-job_exact : (old new then_old then_new : FilesSeen) (job : Job) (why : Stop) (found : Outcome) → HoldTheSame old job.files then_old job.files → NamesTheSame old then_old job.task → IsBarred old new (does job) why → (IsLost (Err why) → ⊥)
-    → IsAnswered then_old then_new (Some (does job)) found → (found ≡ Err why) ⊎ IsLost found
-job_exact old new then_old then_new job why (Ok found) same names h kept d = absurd (kept (done_lost old new then_old job.files job.task job.design why (Ok found) same names h d))
-job_exact old new then_old then_new job why (Err stop.NoMemory) same names h kept d = inr tt
-job_exact old new then_old then_new job why (Err w) same names h kept (inl k) = kept_or_lost why w kept (barred_once old new then_old then_new job.files job.task job.design why w same names h (inl k))
-job_exact old new then_old then_new job why (Err w) same names h kept (inr (inl k)) = kept_or_lost why w kept (barred_once old new then_old then_new job.files job.task job.design why w same names h (inr (inl k)))
-job_exact old new then_old then_new job why (Err w) same names h kept (inr (inr (inl k))) = kept_or_lost why w kept (barred_once old new then_old then_new job.files job.task job.design why w same names h (inr (inr k)))
-job_exact old new then_old then_new job why (Err w) same names h kept (inr (inr (inr d))) = absurd (kept (done_lost old new then_old job.files job.task job.design why (Err w) same names h d))
+done_exact : (old then_old : FilesSeen) (files : JobFiles) (task : Task) (design : Design) (why : Stop) (found : Outcome) → HoldTheSame old files then_old files → NamesTheSame old then_old task → (IsLost (Err why) → ⊥)
+    → IsDoneBy old files task design (Err why) → IsDoneBy then_old files task design found → IsThis why found
+done_exact old then_old files task design why found same names kept h k =
+    let texts = texts_once old then_old files h.texts k.texts same h.have_texts k.have_texts in
+    let evidence = evidence_same old then_old task h.evidence k.evidence names h.has_evidence k.has_evidence in
+    let words = job_words_once design k.texts h.words k.words (subst (λ t. BecomeJobWords design t h.words) texts h.become_words) k.become_words in
+    let by_texts = subst (λ t. IsTaskDone task h.evidence t h.words (Err why)) texts h.done in
+    let by_evidence = subst (λ e. IsTaskDone task e k.texts h.words (Err why)) evidence by_texts in
+    task_exact task k.evidence k.texts k.words why found (subst (λ w. IsTaskDone task k.evidence k.texts w (Err why)) words by_evidence) kept k.done
+
+-- how a job is refused: before its task, or by it
+abbrev Refused : FilesSeen → FilesSeen → JobFiles → Task → Design → Stop → Type 0
+Refused old new files task design why = Barred old new files task design why ⊎ IsDoneBy old files task design (Err why)
+
+refused_by : (old new : FilesSeen) (job : Job) (why : Stop) → IsAnswered old new (Some (does job)) (Err why) → Refused old new job.files job.task job.design why ⊎ IsLost (Err why)
+refused_by old new job stop.NoMemory h = inr tt
+refused_by old new job why (inl h) = inl (inl (inl h))
+refused_by old new job why (inr (inl h)) = inl (inl (inr (inl h)))
+refused_by old new job why (inr (inr (inl h))) = inl (inl (inr (inr h)))
+refused_by old new job why (inr (inr (inr d))) = inl (inr d)
+
+answer_exact : (old new then_old : FilesSeen) (files : JobFiles) (task : Task) (design : Design) (why : Stop) (found : Outcome) → HoldTheSame old files then_old files → NamesTheSame old then_old task → (IsLost (Err why) → ⊥)
+    → Refused old new files task design why → IsDoneBy then_old files task design found → IsThis why found
+answer_exact old new then_old files task design why found same names kept (inl h) d = absurd (kept (done_lost old new then_old files task design why found same names h d))
+answer_exact old new then_old files task design why found same names kept (inr h) d = done_exact old then_old files task design why found same names kept h d
+
+refusal_exact : (old new then_old then_new : FilesSeen) (files : JobFiles) (task : Task) (design : Design) (why w : Stop) → HoldTheSame old files then_old files → NamesTheSame old then_old task → (IsLost (Err why) → ⊥)
+    → Refused old new files task design why → Refused then_old then_new files task design w ⊎ IsLost (Err w) → IsThis why (Err w)
+refusal_exact old new then_old then_new files task design why w same names kept h (inr k) = inr k
+refusal_exact old new then_old then_new files task design why w same names kept h (inl (inr d)) = answer_exact old new then_old files task design why (Err w) same names kept h d
+refusal_exact old new then_old then_new files task design why w same names kept (inl h) (inl (inl k)) = kept_or_lost why w kept (barred_once old new then_old then_new files task design why w same names h k)
+refusal_exact old new then_old then_new files task design why w same names kept (inr d) (inl (inl k)) =
+    inr (done_lost then_old then_new old files task design w (Err why) (same_back old then_old files same) (names_back old then_old task names) k d)
+
+job_exact : (old new then_old then_new : FilesSeen) (job : Job) (why : Stop) (found : Outcome) → HoldTheSame old job.files then_old job.files → NamesTheSame old then_old job.task → (IsLost (Err why) → ⊥)
+    → Refused old new job.files job.task job.design why ⊎ IsLost (Err why) → IsAnswered then_old then_new (Some (does job)) found → IsThis why found
+job_exact old new then_old then_new job why found same names kept (inr h) k = absurd (kept h)
+job_exact old new then_old then_new job why (Ok found) same names kept (inl h) d = answer_exact old new then_old job.files job.task job.design why (Ok found) same names kept h d
+job_exact old new then_old then_new job why (Err w) same names kept (inl h) k =
+    refusal_exact old new then_old then_new job.files job.task job.design why w same names kept h (refused_by then_old then_new job w k)
 
 -- ---- checks of certificates
 abbrev Unchecked : FilesSeen → FilesSeen → JobFiles → List ℕ → Stop → Type 0
@@ -625,15 +689,48 @@ unchecked_once old new then_old then_new files name v w same named (inl h) (inr 
 unchecked_once old new then_old then_new files name v w same named (inr h) (inl k) = inr (inr (texts_lost old then_old then_new files h.0 w same h.1 k))
 unchecked_once old new then_old then_new files name v w same named (inr h) (inr k) = certificate_one old new then_old then_new name v w named h.2 k.2
 
-check_exact : (old new then_old then_new : FilesSeen) (files : JobFiles) (name : List ℕ) (why : Stop) (found : Outcome) → HoldTheSame old files then_old files → HoldsTheSame old name then_old name → Unchecked old new files name why
-    → (IsLost (Err why) → ⊥) → IsAnswered then_old then_new (Some (checks files name)) found → (found ≡ Err why) ⊎ IsLost found
-check_exact old new then_old then_new files name why (Ok found) same named h kept d = absurd (kept (checked_lost old new then_old files name why (Ok found) same named h d))
-check_exact old new then_old then_new files name why (Err stop.NoMemory) same named h kept d = inr tt
-check_exact old new then_old then_new files name why (Err w) same named h kept (inl k) = kept_or_lost why w kept (unchecked_once old new then_old then_new files name why w same named h (inl k))
-check_exact old new then_old then_new files name why (Err w) same named h kept (inr (inl k)) = kept_or_lost why w kept (unchecked_once old new then_old then_new files name why w same named h (inr k))
-check_exact old new then_old then_new files name why (Err w) same named h kept (inr (inr d)) = absurd (kept (checked_lost old new then_old files name why (Err w) same named h d))
+checked_exact : (old then_old : FilesSeen) (files : JobFiles) (name : List ℕ) (why : Stop) (found : Outcome) → HoldTheSame old files then_old files → HoldsTheSame old name then_old name → (IsLost (Err why) → ⊥)
+    → IsCheckedBy old files name (Err why) → IsCheckedBy then_old files name found → IsThis why found
+checked_exact old then_old files name why found same named kept h k =
+    let texts = texts_once old then_old files h.texts k.texts same h.have_texts k.have_texts in
+    let written = read_once (certificate_in named.0) h.written k.written (certificate_read old name named.0 h.written named.1 h.spelled).1 (certificate_read then_old name named.0 k.written named.2 k.spelled).1 in
+    let by_texts = subst (λ t. IsOfCheck t h.written (Err why)) texts h.check in
+    check_exact k.texts k.written why found (subst (λ c. IsOfCheck k.texts c (Err why)) written by_texts) kept k.check
+
+abbrev RefusedCheck : FilesSeen → FilesSeen → JobFiles → List ℕ → Stop → Type 0
+RefusedCheck old new files name why = Unchecked old new files name why ⊎ IsCheckedBy old files name (Err why)
+
+check_refused_by : (old new : FilesSeen) (files : JobFiles) (name : List ℕ) (why : Stop) → IsAnswered old new (Some (checks files name)) (Err why) → RefusedCheck old new files name why ⊎ IsLost (Err why)
+check_refused_by old new files name stop.NoMemory h = inr tt
+check_refused_by old new files name why (inl h) = inl (inl (inl h))
+check_refused_by old new files name why (inr (inl h)) = inl (inl (inr h))
+check_refused_by old new files name why (inr (inr d)) = inl (inr d)
+
+check_answer : (old new then_old : FilesSeen) (files : JobFiles) (name : List ℕ) (why : Stop) (found : Outcome) → HoldTheSame old files then_old files → HoldsTheSame old name then_old name → (IsLost (Err why) → ⊥)
+    → RefusedCheck old new files name why → IsCheckedBy then_old files name found → IsThis why found
+check_answer old new then_old files name why found same named kept (inl h) d = absurd (kept (checked_lost old new then_old files name why found same named h d))
+check_answer old new then_old files name why found same named kept (inr h) d = checked_exact old then_old files name why found same named kept h d
+
+check_refusal : (old new then_old then_new : FilesSeen) (files : JobFiles) (name : List ℕ) (why w : Stop) → HoldTheSame old files then_old files → HoldsTheSame old name then_old name → (IsLost (Err why) → ⊥)
+    → RefusedCheck old new files name why → RefusedCheck then_old then_new files name w ⊎ IsLost (Err w) → IsThis why (Err w)
+check_refusal old new then_old then_new files name why w same named kept h (inr k) = inr k
+check_refusal old new then_old then_new files name why w same named kept h (inl (inr d)) = check_answer old new then_old files name why (Err w) same named kept h d
+check_refusal old new then_old then_new files name why w same named kept (inl h) (inl (inl k)) = kept_or_lost why w kept (unchecked_once old new then_old then_new files name why w same named h k)
+check_refusal old new then_old then_new files name why w same named kept (inr d) (inl (inl k)) =
+    inr (checked_lost then_old then_new old files name w (Err why) (same_back old then_old files same) (named.0, named.2, named.1) k d)
+
+checks_exact : (old new then_old then_new : FilesSeen) (files : JobFiles) (name : List ℕ) (why : Stop) (found : Outcome) → HoldTheSame old files then_old files → HoldsTheSame old name then_old name → (IsLost (Err why) → ⊥)
+    → RefusedCheck old new files name why ⊎ IsLost (Err why) → IsAnswered then_old then_new (Some (checks files name)) found → IsThis why found
+checks_exact old new then_old then_new files name why found same named kept (inr h) k = absurd (kept h)
+checks_exact old new then_old then_new files name why (Ok found) same named kept (inl h) d = check_answer old new then_old files name why (Ok found) same named kept h d
+checks_exact old new then_old then_new files name why (Err w) same named kept (inl h) k =
+    check_refusal old new then_old then_new files name why w same named kept h (check_refused_by then_old then_new files name w k)
+
+generation_lost : (seed count : ℕ) (why : Stop) → IsOfGeneration seed count (Err why) → IsLost (Err why)
+generation_lost seed count stop.NoMemory h = tt
+generation_lost seed count why h = absurd h
 
 pub come_exactly : RefusalsComeExactly
-come_exactly old new then_old then_new (does job) why found k same h kept answered = job_exact old new then_old then_new job why found same.0 same.1 h kept answered
-come_exactly old new then_old then_new (checks files name) why found k same h kept answered = check_exact old new then_old then_new files name why found same.0 same.1 h kept answered
-come_exactly old new then_old then_new (generates seed count) why found k same h kept answered = absurd h
+come_exactly old new then_old then_new (does job) why found same kept h answered = job_exact old new then_old then_new job why found same.0 same.1 kept (refused_by old new job why h) answered
+come_exactly old new then_old then_new (checks files name) why found same kept h answered = checks_exact old new then_old then_new files name why found same.0 same.1 kept (check_refused_by old new files name why h) answered
+come_exactly old new then_old then_new (generates seed count) why found same kept h answered = absurd (kept (generation_lost seed count why h.0))

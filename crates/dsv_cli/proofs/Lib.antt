@@ -14,6 +14,7 @@ pub mod Completeness
 pub mod Decisions
 pub mod EllipsoidRows
 pub mod Exact
+pub mod ExactTasks
 pub mod FileBytes
 pub mod Gains
 pub mod Inputs

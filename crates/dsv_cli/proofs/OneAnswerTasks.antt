@@ -180,7 +180,7 @@ before_place P xs i j v e l h =
     let long = length-take j xs in
     subst P (get_or-take j xs i v l ∙ get_or_from_slice_get xs i v v e) (h i v (omega arith))
 
-one_outside : (format : Format) (inputs : List ℤ) (i j : ℕ) (v w : ℤ) → IsFirstOutside format inputs i v → IsFirstOutside format inputs j w
+pub one_outside : (format : Format) (inputs : List ℤ) (i j : ℕ) (v w : ℤ) → IsFirstOutside format inputs i v → IsFirstOutside format inputs j w
     → (i ≡ j) ⊎ ((i < j) ⊎ (j < i)) → SameAnswer (Err (stop.InputRange i v)) (Err (stop.InputRange j w))
 one_outside format inputs i j v w h k (inl e) =
     let at = h.there in
@@ -203,7 +203,7 @@ one_run quantised inputs (Err stop.NoMemory) b x y h k = absurd x
 one_run quantised inputs a b x y h k = absurd h
 
 -- ---- questions about runs
-within_or_large : (size given limit : ℕ) → size ≤ limit → given ≡ size → limit < given → ⊥
+pub within_or_large : (size given limit : ℕ) → size ≤ limit → given ≡ size → limit < given → ⊥
 within_or_large size given limit h e k = omega (arith, h, e, k)
 
 one_size : (samples : ℕ) (quantised : QuantisedView) (m n : ℕ) → IsTooLarge samples (of_controller quantised) m → IsTooLarge samples (of_controller quantised) n → SameAnswer (Err (stop.JobSize m)) (Err (stop.JobSize n))

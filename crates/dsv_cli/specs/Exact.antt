@@ -1,4 +1,4 @@
--- A refusal of files, of what a task names, or of words, comes exactly where it is stated.
+-- A refusal comes exactly where it is stated.
 use Rattle.std.specs.Prelude.{◌≡◌, ◌⊎◌, Some, Err}
 use Rattle.dsv_base.specs.Seen.{FilesSeen}
 use Rattle.dsv_command.specs.Table.{Task, checks_form, checks_ellipsoid, Request}
@@ -7,9 +7,7 @@ use Rattle.dsv_report.specs.declared.stop.Stop.{Stop}
 use Rattle.dsv_report.specs.declared.stop.Stop.TheVariants as stop
 use Rattle.dsv_report.specs.Stops.{Outcome}
 use Rattle.dsv_cli.specs.Accepted.{HoldsTheSame, HoldTheSame}
-use Rattle.dsv_cli.specs.Checking.{IsUnreadCertificate}
-use Rattle.dsv_cli.specs.JobRows.{AreUnread, HaveTexts, IsAnswered, IsInTable, JobTexts}
-use Rattle.dsv_cli.specs.JobRows.{LacksEvidence, LacksWords}
+use Rattle.dsv_cli.specs.JobRows.{IsAnswered}
 
 -- what a task names has the same bytes, which are told
 abbrev pub NamesTheSame : FilesSeen → FilesSeen → Task → Type 0
@@ -25,27 +23,17 @@ IsToldTheSame old then_old (checks files name) =
     HoldTheSame old files then_old files × HoldsTheSame old name then_old name
 IsToldTheSame old then_old (generates seed count) = Unit {0}
 
--- before its task a request ends with this: a file isn't what it has to be, what a task names
--- isn't, or the files' texts become no words
-abbrev pub IsBarred : FilesSeen → FilesSeen → Request → Stop → Type 0
-IsBarred old new (does job) why = AreUnread old new job.files why
-    ⊎ (LacksEvidence old new job.files job.task why
-    ⊎ LacksWords old job.files job.task job.design why)
-IsBarred old new (checks files name) why = AreUnread old new files why
-    ⊎ ((texts : JobTexts) × HaveTexts old files texts × IsUnreadCertificate old new name why)
-IsBarred old new (generates seed count) why = ⊥
-
 -- the outcome is a fault of a read, or that there was no memory
 abbrev pub IsLost : Outcome → Type 0
 IsLost (Err (stop.ReadFault file)) = Unit {0}
 IsLost (Err stop.NoMemory) = Unit {0}
 IsLost other = ⊥
 
--- If a request may end before its task with a refusal, then it is what each answer to the request
--- is while files have the same bytes, but for faults of reads and want of memory.
+-- If a request may end with a refusal, then this is what each answer to the request is while its
+-- files have the same bytes, but for faults of reads and want of memory.
 abbrev pub RefusalsComeExactly : Type 0
 RefusalsComeExactly =
     (old new then_old then_new : FilesSeen) (request : Request) (why : Stop) (found : Outcome)
-    → IsInTable request → IsToldTheSame old then_old request → IsBarred old new request why
-    → (IsLost (Err why) → ⊥) → IsAnswered then_old then_new (Some request) found
-    → (found ≡ Err why) ⊎ IsLost found
+    → IsToldTheSame old then_old request → (IsLost (Err why) → ⊥)
+    → IsAnswered old new (Some request) (Err why)
+    → IsAnswered then_old then_new (Some request) found → (found ≡ Err why) ⊎ IsLost found

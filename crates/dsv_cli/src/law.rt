@@ -28,9 +28,9 @@ pub fn jobs_are_decided()
     ensures { AreDecided }
 {}
 
-/// The law of refusals, for proofs: if a request about files whose bytes are told may end with a
-/// refusal of a file, of what its task names, or of what becomes no words, then it ends with just
-/// this one, unless a read failed or there was no memory. The call does nothing.
+/// The law of refusals, for proofs: if a request, of any kind, about files whose bytes are told may
+/// end with a refusal, then it ends with just this one, unless a read failed or there was no
+/// memory. So each refusal comes exactly where its row states it. The call does nothing.
 pub fn refusals_come_exactly()
     ensures { RefusalsComeExactly }
 {}
