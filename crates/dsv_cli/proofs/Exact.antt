@@ -34,7 +34,7 @@ use Rattle.dsv_certfile.specs.declared.certificate.Certificate.{Certificate}
 use Rattle.dsv_certfile.specs.declared.ellipsoid.Ellipsoid.{Ellipsoid}
 use Rattle.dsv_certfile.specs.declared.fault.CertRefusal.{CertRefusal}
 use Rattle.dsv_certfile.specs.declared.fault.CertRefusal.TheVariants as unread
-use Rattle.dsv_command.specs.Table.{JobFiles, controller, cascade, plant_loop, cascade_loop, Job, Task, checks_form, checks_ellipsoid, does, checks, generates}
+use Rattle.dsv_command.specs.Table.{Request, JobFiles, controller, cascade, plant_loop, cascade_loop, Job, Task, checks_form, checks_ellipsoid, does, checks, generates}
 use Rattle.dsv_command.specs.Table.{states as table_states}
 use Rattle.dsv_report.specs.declared.stop.CertificateFault.TheVariants as fault
 use Rattle.dsv_report.specs.declared.stop.Stop.{Stop}
@@ -44,7 +44,7 @@ use Rattle.dsv_cli.specs.Accepted.{HoldsTheSame, AreTheSame, HoldTheSame}
 use Rattle.dsv_cli.specs.Cascades.{IsFileOf, AreControllers, IsSectionUnread, IsLaterUnread, BecomeWords, IsNoCascade}
 use Rattle.dsv_cli.specs.Checking.{IsUnreadCertificate}
 use Rattle.dsv_cli.specs.Ellipsoids.{IsOffer, IsOfferOf, IsUnreadOffer}
-use Rattle.dsv_cli.specs.Exact.{NamesTheSame, IsLost, RefusalsComeExactly}
+use Rattle.dsv_cli.specs.Exact.{NamesTheSame, IsToldTheSame, IsLost, RefusalsComeExactly}
 use Rattle.dsv_cli.specs.Headline.{longest_file, longest_certificate, CameOf, IsControllerOf, IsSpelled, IsUnread, IsOfGeneration}
 use Rattle.dsv_cli.specs.JobRows.{JobTexts, of_one, of_sections, of_state_file, with_plant, sections_with_plant, HaveTexts, AreUnread, Evidence, none, certificate, ellipsoid, HasEvidence, IsEvidenceUnread, JobWords, of_words, of_series, of_state_words, BecomeJobWords, IsWordless, AreWordless, LacksEvidence, LacksWords, IsTaskDone, IsDoneBy, IsOfCheck, IsCheckedBy, IsAnswered}
 use Rattle.dsv_cli.specs.LoopChecks.{IsCertificateOf}
@@ -306,7 +306,7 @@ stop_once old new then_old then_new names v w same (inl (i, m, at, bs, before, h
 later_once : (old new then_old then_new : FilesSeen) (names : List (List ℕ)) (v w : Stop) → AreTheSame old names then_old names → IsLaterUnread old new names v → IsLaterUnread then_old then_new names w → AreOne v w
 later_once old new then_old then_new names v w same h k = stop_once old new then_old then_new names v w same (later_stopped old new names v h) (later_stopped then_old then_new names w k)
 
-texts_once : (old then_old : FilesSeen) (files : JobFiles) (t u : JobTexts) → HoldTheSame old files then_old files → HaveTexts old files t → HaveTexts then_old files u → t ≡ u
+pub texts_once : (old then_old : FilesSeen) (files : JobFiles) (t u : JobTexts) → HoldTheSame old files then_old files → HaveTexts old files t → HaveTexts then_old files u → t ≡ u
 texts_once old then_old (controller name) (of_one c) (of_one d) same h k = ap of_one (one_controller old then_old name c d same h k)
 texts_once old then_old (controller name) (of_one c) u same h k = absurd k
 texts_once old then_old (controller name) t u same h k = absurd h
@@ -571,7 +571,7 @@ wordless_once design (of_state_file c) (stop.StateQuantRefused r) w h k = absurd
 wordless_once design (of_state_file c) v w h k = absurd h
 
 -- ---- evidence and words once
-evidence_same : (old then_old : FilesSeen) (task : Task) (e f : Evidence) → NamesTheSame old then_old task → HasEvidence old task e → HasEvidence then_old task f → e ≡ f
+pub evidence_same : (old then_old : FilesSeen) (task : Task) (e f : Evidence) → NamesTheSame old then_old task → HasEvidence old task e → HasEvidence then_old task f → e ≡ f
 evidence_same old then_old (checks_form name) (certificate c) (certificate d) same h k =
     ap certificate (read_once (certificate_in same.0) c d (certificate_read old name same.0 c same.1 h).1 (certificate_read then_old name same.0 d same.2 k).1)
 evidence_same old then_old (checks_form name) (certificate c) f same h k = absurd k
@@ -584,7 +584,7 @@ evidence_same old then_old task none none same h k = refl
 evidence_same old then_old task none f same h k = absurd k
 evidence_same old then_old task e f same h k = absurd h
 
-job_words_once : (design : Design) (t : JobTexts) (x y : JobWords) → BecomeJobWords design t x → BecomeJobWords design t y → x ≡ y
+pub job_words_once : (design : Design) (t : JobTexts) (x y : JobWords) → BecomeJobWords design t x → BecomeJobWords design t y → x ≡ y
 job_words_once design (of_one c) (of_words q) (of_words r) h k = ap of_words (one_word design c q r h k)
 job_words_once design (of_one c) (of_words q) y h k = absurd k
 job_words_once design (with_plant c p) (of_words q) (of_words r) h k = ap of_words (one_word design c q r h k)
@@ -689,11 +689,14 @@ unchecked_once old new then_old then_new files name v w same named (inl h) (inr 
 unchecked_once old new then_old then_new files name v w same named (inr h) (inl k) = inr (inr (texts_lost old then_old then_new files h.0 w same h.1 k))
 unchecked_once old new then_old then_new files name v w same named (inr h) (inr k) = certificate_one old new then_old then_new name v w named h.2 k.2
 
+pub one_written : (old then_old : FilesSeen) (name : List ℕ) (c d : Certificate) → HoldsTheSame old name then_old name → IsCertificateOf old name c → IsCertificateOf then_old name d → c ≡ d
+one_written old then_old name c d same h k = read_once (certificate_in same.0) c d (certificate_read old name same.0 c same.1 h).1 (certificate_read then_old name same.0 d same.2 k).1
+
 checked_exact : (old then_old : FilesSeen) (files : JobFiles) (name : List ℕ) (why : Stop) (found : Outcome) → HoldTheSame old files then_old files → HoldsTheSame old name then_old name → (IsLost (Err why) → ⊥)
     → IsCheckedBy old files name (Err why) → IsCheckedBy then_old files name found → IsThis why found
 checked_exact old then_old files name why found same named kept h k =
     let texts = texts_once old then_old files h.texts k.texts same h.have_texts k.have_texts in
-    let written = read_once (certificate_in named.0) h.written k.written (certificate_read old name named.0 h.written named.1 h.spelled).1 (certificate_read then_old name named.0 k.written named.2 k.spelled).1 in
+    let written = one_written old then_old name h.written k.written named h.spelled k.spelled in
     let by_texts = subst (λ t. IsOfCheck t h.written (Err why)) texts h.check in
     check_exact k.texts k.written why found (subst (λ c. IsOfCheck k.texts c (Err why)) written by_texts) kept k.check
 
@@ -734,3 +737,8 @@ pub come_exactly : RefusalsComeExactly
 come_exactly old new then_old then_new (does job) why found same kept h answered = job_exact old new then_old then_new job why found same.0 same.1 kept (refused_by old new job why h) answered
 come_exactly old new then_old then_new (checks files name) why found same kept h answered = checks_exact old new then_old then_new files name why found same.0 same.1 kept (check_refused_by old new files name why h) answered
 come_exactly old new then_old then_new (generates seed count) why found same kept h answered = absurd (kept (generation_lost seed count why h.0))
+
+pub told_back : (old then_old : FilesSeen) (request : Request) → IsToldTheSame old then_old request → IsToldTheSame then_old old request
+told_back old then_old (does job) same = (same_back old then_old job.files same.0, names_back old then_old job.task same.1)
+told_back old then_old (checks files name) same = (same_back old then_old files same.0, (same.1.0, same.1.2, same.1.1))
+told_back old then_old (generates seed count) same = tt

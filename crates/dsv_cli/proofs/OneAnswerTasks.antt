@@ -1,9 +1,9 @@
 -- A task for a quantised controller has one answer.
-use Rattle.std.proofs.Common.{◌≡◌, ◌∙◌, ◌⊎◌, inl, inr, sym, ap, subst, refl, ℕ, ◌<◌, ◌≤◌, List, Some, take, arith}
+use Rattle.std.proofs.Common.{◌≡◌, ◌∙◌, ◌⊎◌, inl, inr, sym, ap, subst, refl, ℕ, ◌<◌, ◌≤◌, Bool, true, false, List, [], ◌∷◌, Some, take, arith}
 use Rattle.std.specs.Prelude.{IfSome, Result, Ok, Err, Some, slice_get}
 use Rattle.std.specs.List.{All}
 use Rattle.std.proofs.Math.IntN.{ℤ}
-use Rattle.std.proofs.lemmas.Bool.{cases_lt, cases_order}
+use Rattle.std.proofs.lemmas.Bool.{cases_lt}
 use Rattle.std.proofs.lemmas.List.{get_or-take, length-take}
 use Rattle.std.proofs.lemmas.Option.{get_or_from_slice_get, slice_get_within}
 use Rattle.dsv_algebra.specs.Vectors.{Vector, vector_of, matrix_of, form_at}
@@ -21,7 +21,20 @@ use Rattle.dsv_delta.specs.declared.refusal.PolyWide.{PolyWide}
 use Rattle.dsv_tested.specs.Tested.{side_of, tested_of}
 use Rattle.dsv_tested.specs.declared.side.Tested.{Tested}
 use Rattle.dsv_tested.specs.declared.side.Tested.TheVariants as tested
-use Rattle.dsv_command.specs.Jobs.{Task, decides, checks_time, writes, searches, seeks_set, measures_gain, simulates}
+use Rattle.dsv_names.specs.declared.property.RootProperty.{RootProperty}
+use Rattle.dsv_names.specs.declared.property.RootProperty.TheVariants.{Stability}
+use Rattle.dsv_reader.specs.Plants.{PlantView}
+use Rattle.dsv_realise.specs.SubjectView.{SubjectView}
+use Rattle.dsv_cascade.specs.Cascades.{CascadeView, sections_of, cascade_of}
+use Rattle.dsv_state_space.specs.Equations.{state_space_of}
+use Rattle.dsv_state_space.specs.StateView.{StateView}
+use Rattle.dsv_loop.specs.Loops.{loop_of}
+use Rattle.dsv_loop.specs.declared.refusal.LoopRefusal.{LoopRefusal}
+use Rattle.dsv_certfile.specs.declared.certificate.Certificate.{Certificate}
+use Rattle.dsv_certfile.specs.declared.ellipsoid.Ellipsoid.{Ellipsoid}
+use Rattle.dsv_command.specs.Table.{Task, decides, checks_time, writes, searches, seeks_set, measures_gain, simulates, checks_form, seeks_form, checks_ellipsoid, seeks_ellipsoid}
+use Rattle.dsv_report.specs.declared.answers.Answer.{Answer}
+use Rattle.dsv_report.specs.declared.answers.OutputError.{OutputError}
 use Rattle.dsv_report.specs.declared.answers.Answer.TheVariants as answer
 use Rattle.dsv_report.specs.declared.stop.Stop.TheVariants as stop
 use Rattle.dsv_report.specs.Stops.{Outcome}
@@ -31,21 +44,24 @@ use Rattle.dsv_cli.specs.Simulating.{IsFirstOutside, IsOfRun}
 use Rattle.dsv_cli.specs.Searching.{IsOfFormula, IsOfSearch}
 use Rattle.dsv_meaning.specs.Equations.{Past}
 use Rattle.dsv_meaning.specs.Systems.{equations_of}
-use Rattle.dsv_system.specs.Systems.{behaviour_of}
 use Rattle.dsv_names.specs.declared.property.RunProperty.{RunProperty}
 use Rattle.dsv_names.specs.declared.property.RunProperty.TheVariants as run
 use Rattle.dsv_meaning.specs.declared.replays.Cycle.{Cycle}
 use Rattle.dsv_meaning.specs.declared.replays.Trace.{Trace}
-use Rattle.dsv_unroll.specs.Goals.{most_size}
 use Rattle.dsv_gain.specs.declared.outlook.Gain.{Gain}
 use Rattle.dsv_gain.specs.declared.outlook.Outlook.{Outlook}
 use Rattle.dsv_gain.specs.declared.outlook.Outlook.TheVariants as outlook
-use Rattle.dsv_cli.specs.Gain.{most_gain_samples, IsErrorOf, IsOfGain}
-use Rattle.dsv_bounded.specs.RunQuestions.{Happens, job_size_of, IsCycle}
-use Rattle.dsv_bounded.specs.RunAnswers.{IsTooLarge}
+use Rattle.dsv_cli.specs.Gain.{most_gain_samples, IsOfGain}
+use Rattle.dsv_bounded.specs.RunQuestions.{Happens, IsCycle}
 use Rattle.dsv_bounded.proofs.Verdicts.{trace_breaks, cycle_cycles}
-use Rattle.dsv_invariant.specs.Limits.{unbounded_samples}
-use Rattle.dsv_cli.specs.Causes.{IsOfTiming, IsOfSets}
+use Rattle.dsv_cli.specs.Causes.{IsDecision, IsOfProperty, IsOfTiming, IsOfSets}
+use Rattle.dsv_cli.specs.Checking.{IsOfCertificate}
+use Rattle.dsv_cli.specs.Ellipsoids.{IsOfOffer, IsOfSoughtEllipsoid}
+use Rattle.dsv_cli.specs.JobRows.{JobTexts, of_one, of_sections, of_state_file, with_plant, sections_with_plant, Evidence, certificate, ellipsoid, JobWords, of_words, of_series, of_state_words, subject_of, ErrorIs, IsOfSections, IsOfDecision, IsOfOne, IsOfStatesAlone, IsOfKind, IsTaskDone, IsOfCheck}
+use Rattle.dsv_cli.specs.LoopChecks.{IsOfLoopCertificate}
+use Rattle.dsv_cli.specs.Loops.{IsOfLoop}
+use Rattle.dsv_cli.specs.StateStages.{IsOfForm}
+use Rattle.dsv_cli.specs.States.{IsOfSoughtForm, IsOfStateTable}
 use Rattle.dsv_cli.specs.Timing.{IsTimingOf, IsOnTime}
 use Rattle.dsv_reader.specs.Controllers.{ControllerView}
 use Rattle.dsv_timing.specs.Cycles.{cycles_of}
@@ -190,79 +206,57 @@ one_outside format inputs i j v w h k (inl e) =
 one_outside format inputs i j v w h k (inr (inl l)) = absurd (h.outside (before_place (IsWord format) inputs i j v h.there l k.before))
 one_outside format inputs i j v w h k (inr (inr l)) = absurd (k.outside (before_place (IsWord format) inputs j i w k.there l h.before))
 
-one_run : (quantised : QuantisedView) (inputs : List ℤ) (a b : Outcome) → IsSettled a → IsSettled b → IsOfRun (of_controller quantised) inputs a → IsOfRun (of_controller quantised) inputs b → SameAnswer a b
-one_run quantised inputs (Ok (answer.Simulated r)) (Ok (answer.Simulated s)) x y h k = ap (λ it. Ok (answer.Simulated it)) (h.rows ∙ sym k.rows)
-one_run quantised inputs (Ok (answer.Simulated r)) (Err (stop.InputRange j w)) x y h k = absurd (k.outside (at_place (IsWord quantised.format) inputs j w k.there h.inputs_are_words))
-one_run quantised inputs (Ok (answer.Simulated r)) (Err stop.NoMemory) x y h k = absurd y
-one_run quantised inputs (Ok (answer.Simulated r)) b x y h k = absurd k
-one_run quantised inputs (Err (stop.InputRange i v)) (Err (stop.InputRange j w)) x y h k = one_outside quantised.format inputs i j v w h k (cases_order i j)
-one_run quantised inputs (Err (stop.InputRange i v)) (Ok (answer.Simulated s)) x y h k = absurd (h.outside (at_place (IsWord quantised.format) inputs i v h.there k.inputs_are_words))
-one_run quantised inputs (Err (stop.InputRange i v)) (Err stop.NoMemory) x y h k = absurd y
-one_run quantised inputs (Err (stop.InputRange i v)) b x y h k = absurd k
-one_run quantised inputs (Err stop.NoMemory) b x y h k = absurd x
-one_run quantised inputs a b x y h k = absurd h
+-- two answers that are settled are one
+abbrev pub HasOne : (Outcome → Type 0) → Type 0
+HasOne HasRow = (a b : Answer) → IsSettled (Ok a) → IsSettled (Ok b) → HasRow (Ok a) → HasRow (Ok b) → SameAnswer (Ok a) (Ok b)
+
+one_run : (s : SubjectView) (inputs : List ℤ) → HasOne (IsOfRun s inputs)
+one_run s inputs (answer.Simulated r) (answer.Simulated t) x y h k = ap (λ it. Ok (answer.Simulated it)) (h.rows ∙ sym k.rows)
+one_run s inputs (answer.Simulated r) b x y h k = absurd k
+one_run s inputs a b x y h k = absurd h
 
 -- ---- questions about runs
 pub within_or_large : (size given limit : ℕ) → size ≤ limit → given ≡ size → limit < given → ⊥
 within_or_large size given limit h e k = omega (arith, h, e, k)
 
-one_size : (samples : ℕ) (quantised : QuantisedView) (m n : ℕ) → IsTooLarge samples (of_controller quantised) m → IsTooLarge samples (of_controller quantised) n → SameAnswer (Err (stop.JobSize m)) (Err (stop.JobSize n))
-one_size samples quantised m n h k = ap (λ it. Err (stop.JobSize it)) (h.size_of ∙ sym k.size_of)
-
-one_formula : (p : RunProperty) (samples : ℕ) (quantised : QuantisedView) (a b : Outcome) → IsSettled a → IsSettled b → IsOfFormula p samples (of_controller quantised) a → IsOfFormula p samples (of_controller quantised) b → SameAnswer a b
-one_formula p samples quantised (Ok (answer.FormulaText f)) (Ok (answer.FormulaText g)) x y h k = ap (λ it. Ok (answer.FormulaText it)) (h.formula_of ∙ sym k.formula_of)
-one_formula p samples quantised (Ok (answer.FormulaText f)) (Err (stop.JobSize n)) x y h k = absurd (within_or_large (job_size_of (of_controller quantised) samples) n most_size h.within k.size_of k.large)
-one_formula p samples quantised (Ok (answer.FormulaText f)) (Err stop.NoMemory) x y h k = absurd y
-one_formula p samples quantised (Ok (answer.FormulaText f)) b x y h k = absurd k
-one_formula p samples quantised (Err (stop.JobSize m)) (Err (stop.JobSize n)) x y h k = one_size samples quantised m n h k
-one_formula p samples quantised (Err (stop.JobSize m)) (Ok (answer.FormulaText g)) x y h k = absurd (within_or_large (job_size_of (of_controller quantised) samples) m most_size k.within h.size_of h.large)
-one_formula p samples quantised (Err (stop.JobSize m)) (Err stop.NoMemory) x y h k = absurd y
-one_formula p samples quantised (Err (stop.JobSize m)) b x y h k = absurd k
-one_formula p samples quantised (Err stop.NoMemory) b x y h k = absurd x
-one_formula p samples quantised a b x y h k = absurd h
+one_formula : (p : RunProperty) (n : ℕ) (s : SubjectView) → HasOne (IsOfFormula p n s)
+one_formula p n s (answer.FormulaText f) (answer.FormulaText g) x y h k = ap (λ it. Ok (answer.FormulaText it)) (h.formula_of ∙ sym k.formula_of)
+one_formula p n s (answer.FormulaText f) b x y h k = absurd k
+one_formula p n s a b x y h k = absurd h
 
 -- a trace or a cycle shows that it happens
-broken_by : (p : RunProperty) (samples : ℕ) (quantised : QuantisedView) (trace : Trace) → p ≡ run.Overflow → IsTrace (of_controller quantised) samples trace → (Happens p (of_controller quantised) samples → ⊥) → ⊥
-broken_by p samples quantised trace e h never = subst (λ q. (Happens q (of_controller quantised) samples → ⊥) → ⊥) (sym e) (λ n. n (trace_breaks Past (equations_of quantised) quantised.xlo quantised.xhi samples trace h)) never
+breaks_in : (words : JobWords) (n : ℕ) (trace : Trace) → IsTrace (subject_of words) n trace → Happens run.Overflow (subject_of words) n
+breaks_in (of_words q) n trace h = trace_breaks Past (equations_of q) q.xlo q.xhi n trace h
+breaks_in (of_series s) n trace h = trace_breaks (List Past) (cascade_of s) s.first.xlo s.first.xhi n trace h
+breaks_in (of_state_words s) n trace h = trace_breaks (List ℤ) (state_space_of s) s.xlo s.xhi n trace h
 
-cycled_by : (p : RunProperty) (samples : ℕ) (quantised : QuantisedView) (cycle : Cycle) → p ≡ run.LimitCycle → IsCycle (of_controller quantised) samples cycle → (Happens p (of_controller quantised) samples → ⊥) → ⊥
-cycled_by p samples quantised cycle e h never = subst (λ q. (Happens q (of_controller quantised) samples → ⊥) → ⊥) (sym e) (λ n. n (cycle_cycles (behaviour_of (equations_of quantised)) samples cycle h)) never
+broken_by : (p : RunProperty) (n : ℕ) (words : JobWords) (trace : Trace) → p ≡ run.Overflow → IsTrace (subject_of words) n trace → (Happens p (subject_of words) n → ⊥) → ⊥
+broken_by p n words trace e h never = never (subst (λ q. Happens q (subject_of words) n) (sym e) (breaks_in words n trace h))
+
+cycled_by : (p : RunProperty) (n : ℕ) (s : SubjectView) (cycle : Cycle) → p ≡ run.LimitCycle → IsCycle s n cycle → (Happens p s n → ⊥) → ⊥
+cycled_by p n s cycle e h never = never (subst (λ q. Happens q s n) (sym e) (cycle_cycles s.runs n cycle h))
 
 two_properties : (p : RunProperty) → p ≡ run.Overflow → p ≡ run.LimitCycle → ⊥
 two_properties p e f = cc
 
-one_search : (p : RunProperty) (samples conflicts : ℕ) (quantised : QuantisedView) (a b : Outcome) → IsSettled a → IsSettled b → IsOfSearch p samples conflicts (of_controller quantised) a → IsOfSearch p samples conflicts (of_controller quantised) b → SameAnswer a b
-one_search p n c quantised (Ok (answer.Never l)) (Ok (answer.Never m)) x y h k = tt
-one_search p n c quantised (Ok (answer.Never l)) (Ok (answer.Overflow t)) x y h k = absurd (broken_by p n quantised t k.0 k.2 h.never)
-one_search p n c quantised (Ok (answer.Never l)) (Ok (answer.Cycles z)) x y h k = absurd (cycled_by p n quantised z k.0 k.2 h.never)
-one_search p n c quantised (Ok (answer.Never l)) (Err (stop.JobSize s)) x y h k = absurd (within_or_large (job_size_of (of_controller quantised) n) s most_size h.within k.size_of k.large)
-one_search p n c quantised (Ok (answer.Never l)) (Err stop.NoMemory) x y h k = absurd y
-one_search p n c quantised (Ok (answer.Never l)) (Ok (answer.Spent m)) x y h k = absurd y
-one_search p n c quantised (Ok (answer.Never l)) b x y h k = absurd k
-one_search p n c quantised (Ok (answer.Overflow t)) (Ok (answer.Overflow u)) x y h k = tt
-one_search p n c quantised (Ok (answer.Overflow t)) (Ok (answer.Never m)) x y h k = absurd (broken_by p n quantised t h.0 h.2 k.never)
-one_search p n c quantised (Ok (answer.Overflow t)) (Ok (answer.Cycles z)) x y h k = absurd (two_properties p h.0 k.0)
-one_search p n c quantised (Ok (answer.Overflow t)) (Err (stop.JobSize s)) x y h k = absurd (within_or_large (job_size_of (of_controller quantised) n) s most_size h.1 k.size_of k.large)
-one_search p n c quantised (Ok (answer.Overflow t)) (Err stop.NoMemory) x y h k = absurd y
-one_search p n c quantised (Ok (answer.Overflow t)) (Ok (answer.Spent m)) x y h k = absurd y
-one_search p n c quantised (Ok (answer.Overflow t)) b x y h k = absurd k
-one_search p n c quantised (Ok (answer.Cycles z)) (Ok (answer.Cycles w)) x y h k = tt
-one_search p n c quantised (Ok (answer.Cycles z)) (Ok (answer.Never m)) x y h k = absurd (cycled_by p n quantised z h.0 h.2 k.never)
-one_search p n c quantised (Ok (answer.Cycles z)) (Ok (answer.Overflow t)) x y h k = absurd (two_properties p k.0 h.0)
-one_search p n c quantised (Ok (answer.Cycles z)) (Err (stop.JobSize s)) x y h k = absurd (within_or_large (job_size_of (of_controller quantised) n) s most_size h.1 k.size_of k.large)
-one_search p n c quantised (Ok (answer.Cycles z)) (Err stop.NoMemory) x y h k = absurd y
-one_search p n c quantised (Ok (answer.Cycles z)) (Ok (answer.Spent m)) x y h k = absurd y
-one_search p n c quantised (Ok (answer.Cycles z)) b x y h k = absurd k
-one_search p n c quantised (Err (stop.JobSize s)) (Err (stop.JobSize t)) x y h k = one_size n quantised s t h k
-one_search p n c quantised (Err (stop.JobSize s)) (Ok (answer.Never m)) x y h k = absurd (within_or_large (job_size_of (of_controller quantised) n) s most_size k.within h.size_of h.large)
-one_search p n c quantised (Err (stop.JobSize s)) (Ok (answer.Overflow t)) x y h k = absurd (within_or_large (job_size_of (of_controller quantised) n) s most_size k.1 h.size_of h.large)
-one_search p n c quantised (Err (stop.JobSize s)) (Ok (answer.Cycles z)) x y h k = absurd (within_or_large (job_size_of (of_controller quantised) n) s most_size k.1 h.size_of h.large)
-one_search p n c quantised (Err (stop.JobSize s)) (Err stop.NoMemory) x y h k = absurd y
-one_search p n c quantised (Err (stop.JobSize s)) (Ok (answer.Spent m)) x y h k = absurd y
-one_search p n c quantised (Err (stop.JobSize s)) b x y h k = absurd k
-one_search p n c quantised (Err stop.NoMemory) b x y h k = absurd x
-one_search p n c quantised (Ok (answer.Spent l)) b x y h k = absurd x
-one_search p n c quantised a b x y h k = absurd h
+one_search : (p : RunProperty) (n conflicts : ℕ) (words : JobWords) → HasOne (IsOfSearch p n conflicts (subject_of words))
+one_search p n c words (answer.Never l) (answer.Never m) x y h k = tt
+one_search p n c words (answer.Never l) (answer.Overflow t) x y h k = absurd (broken_by p n words t k.0 k.2 h.never)
+one_search p n c words (answer.Never l) (answer.Cycles z) x y h k = absurd (cycled_by p n (subject_of words) z k.0 k.2 h.never)
+one_search p n c words (answer.Never l) (answer.Spent m) x y h k = absurd y
+one_search p n c words (answer.Never l) b x y h k = absurd k
+one_search p n c words (answer.Overflow t) (answer.Overflow u) x y h k = tt
+one_search p n c words (answer.Overflow t) (answer.Never m) x y h k = absurd (broken_by p n words t h.0 h.2 k.never)
+one_search p n c words (answer.Overflow t) (answer.Cycles z) x y h k = absurd (two_properties p h.0 k.0)
+one_search p n c words (answer.Overflow t) (answer.Spent m) x y h k = absurd y
+one_search p n c words (answer.Overflow t) b x y h k = absurd k
+one_search p n c words (answer.Cycles z) (answer.Cycles w) x y h k = tt
+one_search p n c words (answer.Cycles z) (answer.Never m) x y h k = absurd (cycled_by p n (subject_of words) z h.0 h.2 k.never)
+one_search p n c words (answer.Cycles z) (answer.Overflow t) x y h k = absurd (two_properties p k.0 h.0)
+one_search p n c words (answer.Cycles z) (answer.Spent m) x y h k = absurd y
+one_search p n c words (answer.Cycles z) b x y h k = absurd k
+one_search p n c words (answer.Spent l) b x y h k = absurd x
+one_search p n c words a b x y h k = absurd h
 
 -- ---- timing
 abbrev made : OpCounts → ℕ → ℕ → Ratio → TimingReport
@@ -282,29 +276,14 @@ one_timing c quantised r s h k =
 on_time_or_late : (c : ControllerView) (quantised : QuantisedView) (r s : TimingReport) → IsTimingOf c quantised r → IsTimingOf c quantised s → IsOnTime r → (IsOnTime s → ⊥) → ⊥
 on_time_or_late c quantised r s h k on late = late (subst IsOnTime (one_timing c quantised r s h k) on)
 
-one_time : (c : ControllerView) (quantised : QuantisedView) (a b : Outcome) → IsSettled a → IsSettled b → IsOfTiming c quantised a → IsOfTiming c quantised b → SameAnswer a b
-one_time c quantised (Ok (answer.OnTime r)) (Ok (answer.OnTime s)) x y h k = ap (λ it. Ok (answer.OnTime it)) (one_timing c quantised r s h.0 k.0)
-one_time c quantised (Ok (answer.OnTime r)) (Ok (answer.Late s)) x y h k = absurd (on_time_or_late c quantised r s h.0 k.0 h.1 k.1)
-one_time c quantised (Ok (answer.OnTime r)) (Err stop.NoMemory) x y h k = absurd y
-one_time c quantised (Ok (answer.OnTime r)) b x y h k = absurd k
-one_time c quantised (Ok (answer.Late r)) (Ok (answer.Late s)) x y h k = ap (λ it. Ok (answer.Late it)) (one_timing c quantised r s h.0 k.0)
-one_time c quantised (Ok (answer.Late r)) (Ok (answer.OnTime s)) x y h k = absurd (on_time_or_late c quantised s r k.0 h.0 k.1 h.1)
-one_time c quantised (Ok (answer.Late r)) (Err stop.NoMemory) x y h k = absurd y
-one_time c quantised (Ok (answer.Late r)) b x y h k = absurd k
-one_time c quantised (Err stop.NoMemory) b x y h k = absurd x
+one_time : (c : ControllerView) (quantised : QuantisedView) → HasOne (IsOfTiming c quantised)
+one_time c quantised (answer.OnTime r) (answer.OnTime s) x y h k = ap (λ it. Ok (answer.OnTime it)) (one_timing c quantised r s h.0 k.0)
+one_time c quantised (answer.OnTime r) (answer.Late s) x y h k = absurd (on_time_or_late c quantised r s h.0 k.0 h.1 k.1)
+one_time c quantised (answer.OnTime r) b x y h k = absurd k
+one_time c quantised (answer.Late r) (answer.Late s) x y h k = ap (λ it. Ok (answer.Late it)) (one_timing c quantised r s h.0 k.0)
+one_time c quantised (answer.Late r) (answer.OnTime s) x y h k = absurd (on_time_or_late c quantised s r k.0 h.0 k.1 h.1)
+one_time c quantised (answer.Late r) b x y h k = absurd k
 one_time c quantised a b x y h k = absurd h
-
--- ---- runs of any length
-one_set : (conflicts : ℕ) (quantised : QuantisedView) (a b : Outcome) → IsSettled a → IsSettled b → IsOfSets conflicts quantised a → IsOfSets conflicts quantised b → SameAnswer a b
-one_set c quantised (Err (stop.JobSize s)) (Err (stop.JobSize t)) x y h k = one_size unbounded_samples quantised s t h k
-one_set c quantised (Err (stop.JobSize s)) (Ok (answer.Always candidate logs)) x y h k = absurd y
-one_set c quantised (Err (stop.JobSize s)) (Ok (answer.NoInvariant kept)) x y h k = absurd y
-one_set c quantised (Err (stop.JobSize s)) (Err stop.NoMemory) x y h k = absurd y
-one_set c quantised (Err (stop.JobSize s)) b x y h k = absurd k
-one_set c quantised (Ok (answer.Always candidate logs)) b x y h k = absurd x
-one_set c quantised (Ok (answer.NoInvariant kept)) b x y h k = absurd x
-one_set c quantised (Err stop.NoMemory) b x y h k = absurd x
-one_set c quantised a b x y h k = absurd h
 
 -- ---- the gain
 one_gain_of : (found : Outlook) (g h : Gain) → found ≡ outlook.Safe g → found ≡ outlook.Safe h → g ≡ h
@@ -319,44 +298,127 @@ safe_or_deep found g e f = cc
 left_or_deep : (found : Outlook) (sample value : ℕ) → found ≡ outlook.Leaves sample value → found ≡ outlook.Deep → ⊥
 left_or_deep found sample value e f = cc
 
-one_gain : (quantised : QuantisedView) (a b : Outcome) → IsSettled a → IsSettled b → IsOfGain (IsErrorOf quantised) (of_controller quantised) a → IsOfGain (IsErrorOf quantised) (of_controller quantised) b → SameAnswer a b
-one_gain quantised (Ok (answer.InRanges g b)) (Ok (answer.InRanges h c)) x y e f = one_gain_of (outlook_of (of_controller quantised) most_gain_samples) g h e.0.found f.0.found
-one_gain quantised (Ok (answer.InRanges g b)) (Ok (answer.Overflow t)) x y e f = absurd (safe_or_left (outlook_of (of_controller quantised) most_gain_samples) g f.sample f.value e.0.found f.left)
-one_gain quantised (Ok (answer.InRanges g b)) (Ok (answer.OutOfRange sample value)) x y e f = absurd y
-one_gain quantised (Ok (answer.InRanges g b)) (Ok (answer.TooDeep d)) x y e f = absurd (safe_or_deep (outlook_of (of_controller quantised) most_gain_samples) g e.0.found f.1)
-one_gain quantised (Ok (answer.InRanges g b)) (Err stop.NoMemory) x y e f = absurd y
-one_gain quantised (Ok (answer.InRanges g c)) b x y e f = absurd f
-one_gain quantised (Ok (answer.Overflow t)) (Ok (answer.Overflow u)) x y e f = tt
-one_gain quantised (Ok (answer.Overflow t)) (Ok (answer.InRanges h b)) x y e f = absurd (safe_or_left (outlook_of (of_controller quantised) most_gain_samples) h e.sample e.value f.0.found e.left)
-one_gain quantised (Ok (answer.Overflow t)) (Ok (answer.OutOfRange sample value)) x y e f = absurd y
-one_gain quantised (Ok (answer.Overflow t)) (Ok (answer.TooDeep d)) x y e f = absurd (left_or_deep (outlook_of (of_controller quantised) most_gain_samples) e.sample e.value e.left f.1)
-one_gain quantised (Ok (answer.Overflow t)) (Err stop.NoMemory) x y e f = absurd y
-one_gain quantised (Ok (answer.Overflow t)) b x y e f = absurd f
-one_gain quantised (Ok (answer.TooDeep c)) (Ok (answer.TooDeep d)) x y e f = ap (λ it. Ok (answer.TooDeep it)) (e.0 ∙ sym f.0)
-one_gain quantised (Ok (answer.TooDeep c)) (Ok (answer.InRanges h b)) x y e f = absurd (safe_or_deep (outlook_of (of_controller quantised) most_gain_samples) h f.0.found e.1)
-one_gain quantised (Ok (answer.TooDeep c)) (Ok (answer.Overflow u)) x y e f = absurd (left_or_deep (outlook_of (of_controller quantised) most_gain_samples) f.sample f.value f.left e.1)
-one_gain quantised (Ok (answer.TooDeep c)) (Ok (answer.OutOfRange sample value)) x y e f = absurd y
-one_gain quantised (Ok (answer.TooDeep c)) (Err stop.NoMemory) x y e f = absurd y
-one_gain quantised (Ok (answer.TooDeep c)) b x y e f = absurd f
-one_gain quantised (Ok (answer.OutOfRange sample value)) b x y e f = absurd x
-one_gain quantised (Err stop.NoMemory) b x y e f = absurd x
-one_gain quantised a b x y e f = absurd e
+one_gain : (HasError : OutputError → Type 0) (s : SubjectView) → HasOne (IsOfGain HasError s)
+one_gain HasError s (answer.InRanges g b) (answer.InRanges h c) x y e f = one_gain_of (outlook_of s most_gain_samples) g h e.0.found f.0.found
+one_gain HasError s (answer.InRanges g b) (answer.Overflow t) x y e f = absurd (safe_or_left (outlook_of s most_gain_samples) g f.sample f.value e.0.found f.left)
+one_gain HasError s (answer.InRanges g b) (answer.OutOfRange sample value) x y e f = absurd y
+one_gain HasError s (answer.InRanges g b) (answer.TooDeep d) x y e f = absurd (safe_or_deep (outlook_of s most_gain_samples) g e.0.found f.1)
+one_gain HasError s (answer.InRanges g c) b x y e f = absurd f
+one_gain HasError s (answer.Overflow t) (answer.Overflow u) x y e f = tt
+one_gain HasError s (answer.Overflow t) (answer.InRanges h b) x y e f = absurd (safe_or_left (outlook_of s most_gain_samples) h e.sample e.value f.0.found e.left)
+one_gain HasError s (answer.Overflow t) (answer.OutOfRange sample value) x y e f = absurd y
+one_gain HasError s (answer.Overflow t) (answer.TooDeep d) x y e f = absurd (left_or_deep (outlook_of s most_gain_samples) e.sample e.value e.left f.1)
+one_gain HasError s (answer.Overflow t) b x y e f = absurd f
+one_gain HasError s (answer.TooDeep c) (answer.TooDeep d) x y e f = ap (λ it. Ok (answer.TooDeep it)) (e.0 ∙ sym f.0)
+one_gain HasError s (answer.TooDeep c) (answer.InRanges h b) x y e f = absurd (safe_or_deep (outlook_of s most_gain_samples) h f.0.found e.1)
+one_gain HasError s (answer.TooDeep c) (answer.Overflow u) x y e f = absurd (left_or_deep (outlook_of s most_gain_samples) f.sample f.value f.left e.1)
+one_gain HasError s (answer.TooDeep c) (answer.OutOfRange sample value) x y e f = absurd y
+one_gain HasError s (answer.TooDeep c) b x y e f = absurd f
+one_gain HasError s (answer.OutOfRange sample value) b x y e f = absurd x
+one_gain HasError s a b x y e f = absurd e
 
--- what a task leads to for a quantised controller
-abbrev pub IsAnswerTo : ControllerView → Task → QuantisedView → Outcome → Type 0
-IsAnswerTo c (decides p sc) quantised found = Leads (tested_of quantised (side_of p)) found
-IsAnswerTo c checks_time quantised found = IsOfTiming c quantised found
-IsAnswerTo c (writes p samples) quantised found = IsOfFormula p samples (of_controller quantised) found
-IsAnswerTo c (searches p samples conflicts) quantised found = IsOfSearch p samples conflicts (of_controller quantised) found
-IsAnswerTo c (seeks_set conflicts) quantised found = IsOfSets conflicts quantised found
-IsAnswerTo c measures_gain quantised found = IsOfGain (IsErrorOf quantised) (of_controller quantised) found
-IsAnswerTo c (simulates inputs) quantised found = IsOfRun (of_controller quantised) inputs found
+-- ---- properties of roots
+poly_leads : (p : RootProperty) (sc : Bool) (q : QuantisedView) (poly : List ℤ) (a : Answer) → IsSettled (Ok a) → tested_of q (side_of p) ≡ Ok (tested.Poly poly) → IsDecision sc poly (Ok a) → Leads (tested_of q (side_of p)) (Ok a)
+poly_leads p sc q poly (answer.Falls found o f) x e h = (e ∙ ap (λ it. Ok (tested.Poly it)) (sym h.0), h.1)
+poly_leads p sc q poly (answer.KeptAway found o f v) x e h = (e ∙ ap (λ it. Ok (tested.Poly it)) (sym h.0), h.1)
+poly_leads p sc q poly (answer.NoForm found kept verdict) x e h = absurd x
+poly_leads p sc q poly (answer.OfTable found) x e h = absurd x
+poly_leads p sc q poly a x e h = absurd h
 
-pub one_task : (c : ControllerView) (task : Task) (quantised : QuantisedView) (a b : Outcome) → IsSettled a → IsSettled b → IsAnswerTo c task quantised a → IsAnswerTo c task quantised b → SameAnswer a b
-one_task e (decides p sc) quantised a b x y h k = one_decision (tested_of quantised (side_of p)) a b x y h k
-one_task e checks_time quantised a b x y h k = one_time e quantised a b x y h k
-one_task e (writes p samples) quantised a b x y h k = one_formula p samples quantised a b x y h k
-one_task e (searches p samples conflicts) quantised a b x y h k = one_search p samples conflicts quantised a b x y h k
-one_task e (seeks_set conflicts) quantised a b x y h k = one_set conflicts quantised a b x y h k
-one_task e measures_gain quantised a b x y h k = one_gain quantised a b x y h k
-one_task e (simulates inputs) quantised a b x y h k = one_run quantised inputs a b x y h k
+leads : (p : RootProperty) (sc : Bool) (q : QuantisedView) (a : Answer) → IsSettled (Ok a) → IsOfProperty p sc q (Ok a) → Leads (tested_of q (side_of p)) (Ok a)
+leads p sc q answer.NoZeros x h = h.1
+leads p sc q (answer.Wide index) x h = h
+leads p sc q a x h = poly_leads p sc q h.poly a x h.tested h.decision
+
+one_property : (p : RootProperty) (sc : Bool) (q : QuantisedView) → HasOne (IsOfProperty p sc q)
+one_property p sc q a b x y h k = one_decision (tested_of q (side_of p)) (Ok a) (Ok b) x y (leads p sc q a x h) (leads p sc q b y k)
+
+-- what is left out
+sections_open : (sc : Bool) (s : CascadeView) (a : Answer) → IsOfSections sc s (Ok a) → IsSettled (Ok a) → ⊥
+sections_open false s (answer.OfSections found) h x = x
+sections_open true s (answer.OfSectionTables found) h x = x
+sections_open sc s a h x = absurd h
+
+states_open : (s : StateView) (a : Answer) → IsOfStateTable s (Ok a) → IsSettled (Ok a) → ⊥
+states_open s (answer.OfTable found) h x = x
+states_open s answer.NoStateForm h x = x
+states_open s a h x = absurd h
+
+loop_open : (came : Result (List ℤ) LoopRefusal) (a : Answer) → IsOfLoop came (Ok a) → IsSettled (Ok a) → ⊥
+loop_open (Ok poly) (answer.OfTable found) h x = x
+loop_open came a h x = absurd h
+
+one_decided : (p : RootProperty) (sc : Bool) (texts : JobTexts) (words : JobWords) → HasOne (IsOfDecision (decides p sc) texts words)
+one_decided p sc (of_one c) (of_words q) a b x y h k = one_property p sc q a b x y h k
+one_decided Stability sc (of_sections c cs) (of_series s) a b x y h k = absurd (sections_open sc s a h x)
+one_decided Stability true (of_state_file c) (of_state_words s) a b x y h k = absurd (states_open s a h x)
+one_decided Stability sc (with_plant c p) (of_words q) a b x y h k = absurd (loop_open (loop_of (q ∷ []) c.sample_time p) a h.0 x)
+one_decided Stability sc (sections_with_plant c cs p) (of_series s) a b x y h k = absurd (loop_open (loop_of (sections_of s) c.sample_time p) a h x)
+one_decided p sc texts words a b x y h k = absurd h
+
+-- ---- ellipsoids, sets and forms
+one_offer : (offer : Ellipsoid) (q : QuantisedView) → HasOne (IsOfOffer offer q)
+one_offer offer q (answer.InEllipsoid f) (answer.InEllipsoid g) x y h k = ap (λ it. Ok (answer.InEllipsoid it)) (h.0 ∙ sym k.0)
+one_offer offer q (answer.InEllipsoid f) b x y h k = absurd k
+one_offer offer q a b x y h k = absurd h
+
+sets_open : (conflicts : ℕ) (q : QuantisedView) (a : Answer) → IsOfSets conflicts q (Ok a) → IsSettled (Ok a) → ⊥
+sets_open conflicts q (answer.Always candidate logs) h x = x
+sets_open conflicts q (answer.NoInvariant kept) h x = x
+sets_open conflicts q a h x = absurd h
+
+sought_open : (q : QuantisedView) (a : Answer) → IsOfSoughtEllipsoid q (Ok a) → IsSettled (Ok a) → ⊥
+sought_open q (answer.FoundEllipsoid offer) h x = x
+sought_open q answer.NoEllipsoid h x = x
+sought_open q a h x = absurd h
+
+form_open : (s : StateView) (c : Certificate) (a : Answer) → IsOfForm s c (Ok a) → IsSettled (Ok a) → ⊥
+form_open s c (answer.StateFalls many offer fall) h x = x
+form_open s c a h x = absurd h
+
+sought_form_open : (s : StateView) (a : Answer) → IsOfSoughtForm s (Ok a) → IsSettled (Ok a) → ⊥
+sought_form_open s (answer.StateFalls many offer fall) h x = x
+sought_form_open s answer.NoStateForm h x = x
+sought_form_open s a h x = absurd h
+
+-- ---- all tasks
+one_of_one : (task : Task) (e : Evidence) (c : ControllerView) (q : QuantisedView) → HasOne (IsOfOne task e c q)
+one_of_one checks_time e c q a b x y h k = one_time c q a b x y h k
+one_of_one (writes p n) e c q a b x y h k = one_formula p n (of_controller q) a b x y h k
+one_of_one (seeks_set conflicts) e c q a b x y h k = absurd (sets_open conflicts q a h x)
+one_of_one (checks_ellipsoid name) (ellipsoid offer) c q a b x y h k = one_offer offer q a b x y h k
+one_of_one seeks_ellipsoid e c q a b x y h k = absurd (sought_open q a h x)
+one_of_one task e c q a b x y h k = absurd h
+
+one_alone : (task : Task) (e : Evidence) (s : StateView) → HasOne (IsOfStatesAlone task e s)
+one_alone (checks_form name) (certificate c) s a b x y h k = absurd (form_open s c a h x)
+one_alone seeks_form e s a b x y h k = absurd (sought_form_open s a h x)
+one_alone task e s a b x y h k = absurd h
+
+one_kind : (task : Task) (e : Evidence) (texts : JobTexts) (words : JobWords) → HasOne (IsOfKind task e texts words)
+one_kind task e (of_one c) (of_words q) a b x y h k = one_of_one task e c q a b x y h k
+one_kind task e (of_state_file c) (of_state_words s) a b x y h k = one_alone task e s a b x y h k
+one_kind task e texts words a b x y h k = absurd h
+
+pub one_task : (task : Task) (e : Evidence) (texts : JobTexts) (words : JobWords) → HasOne (IsTaskDone task e texts words)
+one_task (searches p n conflicts) e texts words a b x y h k = one_search p n conflicts words a b x y h k
+one_task measures_gain e texts words a b x y h k = one_gain (ErrorIs words) (subject_of words) a b x y h k
+one_task (simulates inputs) e texts words a b x y h k = one_run (subject_of words) inputs a b x y h k
+one_task (decides p sc) e texts words a b x y h k = one_decided p sc texts words a b x y h k
+one_task task e texts words a b x y h k = one_kind task e texts words a b x y h k
+
+-- ---- checks of certificates
+one_certificate : (c : ControllerView) (cert : Certificate) → HasOne (IsOfCertificate c cert)
+one_certificate c cert (answer.Checked f e) (answer.Checked g d) x y h k = h.0 ∙ sym k.0
+one_certificate c cert (answer.Checked f e) b x y h k = absurd k
+one_certificate c cert a b x y h k = absurd h
+
+one_loop_certificate : (c : ControllerView) (p : PlantView) (cert : Certificate) → HasOne (IsOfLoopCertificate c p cert)
+one_loop_certificate c p cert (answer.Checked f e) (answer.Checked g d) x y h k = h.0 ∙ sym k.0
+one_loop_certificate c p cert (answer.Checked f e) b x y h k = absurd k
+one_loop_certificate c p cert a b x y h k = absurd h
+
+pub one_check : (texts : JobTexts) (cert : Certificate) → HasOne (IsOfCheck texts cert)
+one_check (of_one c) cert a b x y h k = one_certificate c cert a b x y h k
+one_check (with_plant c p) cert a b x y h k = one_loop_certificate c p cert a b x y h k
+one_check texts cert a b x y h k = absurd h

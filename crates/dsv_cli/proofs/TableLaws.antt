@@ -29,25 +29,17 @@ use Rattle.dsv_cli.specs.FamilyLaws.{form_check}
 use Rattle.dsv_cli.specs.Headline.{longest_certificate, CameOf, HasWords, SaysWords, IsRow, IsCheckRow, IsOfGeneration}
 use Rattle.dsv_cli.specs.JobRows.{IsAnswered, IsInTable}
 use Rattle.dsv_cli.specs.Loops.{SaysLoop}
-use Rattle.dsv_cli.specs.OneAnswer.{HaveOneAnswer}
 use Rattle.dsv_cli.proofs.AcceptedLemmas.{written_are_accepted}
 use Rattle.dsv_cli.proofs.AcceptedLoops.{written_loops_are_accepted}
 use Rattle.dsv_cli.proofs.AcceptedStates.{written_states_are_accepted}
 use Rattle.dsv_cli.proofs.Completeness.{are_decided}
 use Rattle.dsv_cli.proofs.NewRows.{answered}
 use Rattle.dsv_cli.proofs.OldRows.{explained}
-use Rattle.dsv_cli.proofs.OneAnswerLemmas.{one_answer}
 
 -- what is answered, by the row of its family
 of_family : (old new : FilesSeen) (request : Request) (family : families.Request) (found : Outcome) → IsInTable request → family_of request ≡ Some family → IsAnswered old new (Some request) found
     → IsExplained old new (Some family) found
 of_family old new request family found k e h = subst (λ r. IsExplained old new r found) e (explained old new request found k h)
-
-pub one_answer_each : HaveOneAnswer
-one_answer_each bytes old new then_old then_new request job a b k e has then_has x y h g =
-    one_answer bytes old new then_old then_new job a b x y
-    (subst (λ told. IsRow told old new job a) has (of_family old new request (on_file job) a k e h))
-    (subst (λ told. IsRow told then_old then_new job b) then_has (of_family then_old then_new request (on_file job) b k e g))
 
 -- ---- each request is decided
 generated : (seed count : ℕ) (found : Outcome) → IsOfGeneration seed count found → IsVerdict (status_of found) ⊎ (found ≡ Err stop.NoMemory)

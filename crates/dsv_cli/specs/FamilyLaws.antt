@@ -22,18 +22,9 @@ use Rattle.dsv_cli.specs.Ellipsoids.{IsEllipsoidRow}
 use Rattle.dsv_cli.specs.Headline.{longest_certificate, HasWords, IsRow, IsCheckRow}
 use Rattle.dsv_cli.specs.LoopChecks.{IsLoopCheckRow}
 use Rattle.dsv_cli.specs.Loops.{IsLoopRow, SaysLoop}
-use Rattle.dsv_cli.specs.OneAnswer.{SameAnswer, IsSettled}
 use Rattle.dsv_cli.specs.States.{IsStateRow}
 
--- Whatever else was read before, two settled answers to one job on a file of these bytes are the
--- same.
-abbrev pub FilesHaveOneAnswer : Type 0
-FilesHaveOneAnswer =
-    (bytes : List ℕ) (old new then_old then_new : FilesSeen) (job : Asked) (a b : Outcome)
-    → IsSettled a → IsSettled b
-    → IsRow (Some bytes) old new job a → IsRow (Some bytes) then_old then_new job b → SameAnswer a b
-
--- So it is for jobs and for checks of certificates.
+-- What jobs and checks of certificates come to is decided.
 pub record FamiliesAreDecided : Type 0 where
   pub jobs : (told : Option (List ℕ)) (old new : FilesSeen) (job : Asked)
       → IsDecidedBy old new (IsRow told old new job)

@@ -1,16 +1,15 @@
--- A file whose bytes are told has one answer, but for want of memory, read faults and what is left
--- to proposers.
-use Rattle.std.specs.Prelude.{◌≡◌, ℕ, List, Some, Ok, Err}
+-- A request about files whose bytes are told has one answer, but for want of memory, read faults
+-- and what is left to proposers.
+use Rattle.std.specs.Prelude.{◌≡◌, ℕ, Some, Ok, Err}
 use Rattle.dsv_algebra.specs.Vectors.{matrix_of}
 use Rattle.dsv_base.specs.Seen.{FilesSeen}
 use Rattle.dsv_forms.specs.declared.offers.Form.{Form}
-use Rattle.dsv_command.specs.Jobs.{Asked}
-use Rattle.dsv_command.specs.Requests.{on_file, family_of}
 use Rattle.dsv_command.specs.Table.{Request}
 use Rattle.dsv_report.specs.declared.answers.Answer.TheVariants as answer
 use Rattle.dsv_report.specs.declared.stop.Stop.TheVariants as stop
 use Rattle.dsv_report.specs.Stops.{Outcome}
-use Rattle.dsv_cli.specs.JobRows.{IsAnswered, IsInTable}
+use Rattle.dsv_cli.specs.Exact.{IsToldTheSame}
+use Rattle.dsv_cli.specs.JobRows.{IsAnswered}
 use Rattle.dsv_cli.specs.Proposers.{NeedsNone}
 
 -- The forms have the same places and the same entries.
@@ -29,25 +28,33 @@ SameAnswer (Ok (answer.Never log)) (Ok (answer.Never other)) = Unit {0}
 SameAnswer (Ok (answer.InRanges gain error)) (Ok (answer.InRanges other bound)) = gain ≡ other
 SameAnswer (Ok (answer.Overflow trace)) (Ok (answer.Overflow other)) = Unit {0}
 SameAnswer (Ok (answer.Cycles cycle)) (Ok (answer.Cycles other)) = Unit {0}
+SameAnswer (Ok (answer.Checked found error)) (Ok (answer.Checked other bound)) = found ≡ other
 SameAnswer a b = a ≡ b
 
 -- The answer is settled by the bytes: it is neither want of memory nor a fault of a read, proposers
 -- had no part in it, no search gave up, and what is beyond the gain's ranges isn't left to the
--- lists that were tried.
+-- lists that were tried. Forms of sections and of states, tables, ellipsoids that were sought and
+-- tallies are left out.
 abbrev pub IsSettled : Outcome → Type 0
 IsSettled (Err (stop.ReadFault file)) = ⊥
 IsSettled (Ok (answer.Spent log)) = ⊥
 IsSettled (Ok (answer.OutOfRange sample value)) = ⊥
 IsSettled (Ok (answer.Always candidate logs)) = ⊥
 IsSettled (Ok (answer.NoInvariant kept)) = ⊥
+IsSettled (Ok (answer.OfSections found)) = ⊥
+IsSettled (Ok (answer.OfSectionTables found)) = ⊥
+IsSettled (Ok (answer.StateFalls many offer fall)) = ⊥
+IsSettled (Ok answer.NoStateForm) = ⊥
+IsSettled (Ok (answer.FoundEllipsoid offer)) = ⊥
+IsSettled (Ok answer.NoEllipsoid) = ⊥
+IsSettled (Ok (answer.Generated found)) = ⊥
 IsSettled found = NeedsNone found
 
--- Whatever else was read before, two settled answers to one request for the controller in a file,
--- which has these bytes, are the same; ellipsoids are left out.
+-- Whatever else was read before, two settled answers to one request are the same while its files
+-- have the same bytes, which are told.
 abbrev pub HaveOneAnswer : Type 0
 HaveOneAnswer =
-    (bytes : List ℕ) (old new then_old then_new : FilesSeen) (request : Request) (job : Asked)
-    (a b : Outcome) → IsInTable request → family_of request ≡ Some (on_file job)
-    → old.held job.file ≡ Some bytes → then_old.held job.file ≡ Some bytes
-    → IsSettled a → IsSettled b → IsAnswered old new (Some request) a
-    → IsAnswered then_old then_new (Some request) b → SameAnswer a b
+    (old new then_old then_new : FilesSeen) (request : Request) (a b : Outcome)
+    → IsToldTheSame old then_old request → IsSettled a → IsSettled b
+    → IsAnswered old new (Some request) a → IsAnswered then_old then_new (Some request) b
+    → SameAnswer a b

@@ -4,10 +4,11 @@ ghost use Rattle.dsv_cli.specs.Completeness.{AreDecided};
 ghost use Rattle.dsv_cli.specs.Exact.{RefusalsComeExactly};
 ghost use Rattle.dsv_cli.specs.OneAnswer.{HaveOneAnswer};
 
-/// The law of [`run`](crate::run), for proofs: a job on one file whose bytes are told has one
-/// verdict, with its numbers. Logs, traces, cycles and the bound of the error aren't compared; want
-/// of memory, faults of reads, searches that gave up, lists that were tried and what proposers had
-/// a part in are left out. The call does nothing.
+/// The law of [`run`](crate::run), for proofs: a request, of any kind, about files whose bytes are
+/// told has one verdict, with its numbers. Logs, traces, cycles and the bound of the error aren't
+/// compared; want of memory, faults of reads, searches that gave up, lists that were tried, what
+/// proposers had a part in, forms of sections and of states, tables, ellipsoids that were sought
+/// and tallies are left out. The call does nothing.
 pub fn told_files_have_one_answer()
     ensures { HaveOneAnswer }
 {}
