@@ -38,8 +38,8 @@ IsFormAcceptance c (Err (stop.ReadFault file)) = Unit {0}
 IsFormAcceptance c (Err stop.NoMemory) = Unit {0}
 IsFormAcceptance c other = ⊥
 
--- what checks the certificate in the file of this name for what is in these files: of a state-space
--- controller a job that takes it as a form, in a job's design
+-- the request that checks the certificate in the file of this name for what is in these files; a
+-- state-space controller's is a job in this design that takes it as a form
 abbrev pub check_of : Design → JobFiles → List ℕ → Request
 check_of design (states file) name = does (record {
   files = states file;
@@ -49,22 +49,23 @@ check_of design (states file) name = does (record {
 })
 check_of design files name = checks files name
 
--- it accepts the certificate
+-- this answer to it accepts the certificate
 abbrev pub Accepts : JobFiles → Certificate → Outcome → Type 0
 Accepts (states file) c answered = IsFormAcceptance c answered
 Accepts files c answered = IsAcceptance (job_of c) answered
 
--- two files have the same bytes, which are told
+-- two files hold the same bytes, which are told
 abbrev pub HoldsTheSame : FilesSeen → List ℕ → FilesSeen → List ℕ → Type 0
 HoldsTheSame old name then_old other = (bytes : List ℕ) × (old.held name ≡ Some bytes)
     × (then_old.held other ≡ Some bytes)
 
--- so has each of a list the one at its place in another
+-- the files of two lists do, each and the one at its place
 abbrev pub AreTheSame : FilesSeen → List (List ℕ) → FilesSeen → List (List ℕ) → Type 0
 AreTheSame old names then_old others =
     Pairwise (λ name other. HoldsTheSame old name then_old other) names others
 
--- so have the files that two jobs are about, each the one at its place
+-- what two jobs are about is of one kind, and its files hold the same bytes, each and the one at
+-- its place
 abbrev pub HoldTheSame : FilesSeen → JobFiles → FilesSeen → JobFiles → Type 0
 HoldTheSame old (controller name) then_old (controller other) =
     HoldsTheSame old name then_old other

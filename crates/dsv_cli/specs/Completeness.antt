@@ -29,7 +29,7 @@ IsDecidedBy old new HasRow = (found : Outcome) → HasRow found → IsRefusedByN
     → (Rose old.faults new.faults → ⊥)
     → IsVerdict (status_of found) ⊎ (found ≡ Err stop.NoMemory)
 
--- So it is for all requests of the table.
+-- Each request of the table is decided so.
 abbrev pub AreDecided : Type 0
 AreDecided = (old new : FilesSeen) (request : Request) → IsInTable request
     → IsDecidedBy old new (IsAnswered old new (Some request))

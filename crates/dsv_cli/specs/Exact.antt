@@ -9,13 +9,13 @@ use Rattle.dsv_report.specs.Stops.{Outcome}
 use Rattle.dsv_cli.specs.Accepted.{HoldsTheSame, HoldTheSame}
 use Rattle.dsv_cli.specs.JobRows.{IsAnswered}
 
--- what a task names has the same bytes, which are told
+-- the file that a task names, if it names one, holds the same bytes, which are told
 abbrev pub NamesTheSame : FilesSeen → FilesSeen → Task → Type 0
 NamesTheSame old then_old (checks_form name) = HoldsTheSame old name then_old name
 NamesTheSame old then_old (checks_ellipsoid name) = HoldsTheSame old name then_old name
 NamesTheSame old then_old task = Unit {0}
 
--- so has all that a request names
+-- all files that a request names hold the same bytes, which are told
 abbrev pub IsToldTheSame : FilesSeen → FilesSeen → Request → Type 0
 IsToldTheSame old then_old (does job) =
     HoldTheSame old job.files then_old job.files × NamesTheSame old then_old job.task
